@@ -1,0 +1,6 @@
+pub mod Machine
+pub mod Places
+pub mod Entered
+pub mod Booking
+pub mod Trading
+pub mod Moving

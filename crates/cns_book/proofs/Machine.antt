@@ -1,0 +1,41 @@
+-- The machine's reply and step, by whether a command is refused.
+use Rattle.std.proofs.Common.{◌≡◌, ◌∙◌, sym, ap, subst, refl, cond, false, List, [], ◌∷◌, Some, None, Ok}
+use Rattle.std.specs.Prelude.{find, option_map, is_none, Result, Err, IsErr}
+use Rattle.std.specs.List.{AllByRecursion}
+use Rattle.std.specs.Option.{option_map_or}
+use Rattle.cns_terms.specs.declared.command.Activity.{Activity}
+use Rattle.cns_terms.specs.declared.command.Command.{Command}
+use Rattle.cns_terms.specs.declared.command.Command.TheVariants as command
+use Rattle.cns_terms.specs.declared.fault.NoMemory.{NoMemory}
+use Rattle.cns_terms.specs.declared.refusal.Refusal.{Refusal}
+use Rattle.cns_terms.specs.declared.reply.Reply.{Reply}
+use Rattle.cns_terms.specs.declared.reply.Reply.TheVariants as reply
+use Rattle.cns_terms.specs.Entries.{journal}
+use Rattle.cns_terms.specs.Machine.{activity_reply}
+use Rattle.cns_terms.specs.Refusals.{Rule, first_refusal, refusal}
+use Rattle.cns_book.specs.Contents.{Contents}
+use Rattle.cns_book.specs.Follows.{Follows, Steps}
+
+-- an accepted activity
+pub accepted : {s : Contents} (L : List Activity) (x : Activity) (r : Reply) → refusal s.opening (journal s.opening L) (command.Activity x) ≡ None → r ≡ activity_reply s.opening (journal s.opening L) x → Follows (x ∷ L) s → Steps L (command.Activity x) (Ok r) s
+accepted {s} L x r none same f = (
+  same ∙ sym (ap (λ o. option_map_or reply.Refused o (activity_reply s.opening (journal s.opening L) x)) none),
+  subst (λ K. Follows K s) (sym (ap (λ o. cond (is_none o) (x ∷ L) L) none)) f,
+)
+
+-- a refused one
+pub refused : {s : Contents} (L : List Activity) (x : Activity) (r : Refusal) → refusal s.opening (journal s.opening L) (command.Activity x) ≡ Some r → Follows L s → Steps L (command.Activity x) (Ok (reply.Refused r)) s
+refused {s} L x r some f = (
+  sym (ap (λ o. option_map_or reply.Refused o (activity_reply s.opening (journal s.opening L) x)) some),
+  subst (λ K. Follows K s) (sym (ap (λ o. cond (is_none o) (x ∷ L) L) some)) f,
+)
+
+-- no rule's condition holds, so nothing is refused
+pub no_refusal : (rules : List Rule) → AllByRecursion (λ r. r.1 ≡ false) rules → first_refusal rules ≡ None
+no_refusal [] h = refl
+no_refusal (r ∷ rules) h = ap (λ b. option_map (λ (r : Rule). r.0) (cond b (Some r) (find (λ r. r.1) rules))) h.0 ∙ no_refusal rules h.1
+
+-- without memory nothing that is shown has changed
+pub stopped : {s : Contents} (L : List Activity) (cmd : Command) (r : Result Reply NoMemory) → IsErr r → Follows L s → Steps L cmd r s
+stopped L cmd (Ok r) e f = cc
+stopped L cmd (Err r) e f = f

@@ -1,0 +1,195 @@
+-- A trade: what it is refused for, and what it leaves.
+use Rattle.std.proofs.Common.{◌≡◌, ◌∙◌, sym, ap, subst, refl, ℕ, ◌+◌, ◌*◌, ◌^◌, ◌≤◌, ℤ, pos, ◌+ℤ◌, neg_ℤ, Bool, true, false, not, ◌&&◌, ◌||◌, cond, eqb, List, [], ◌∷◌, length, Option, Some, None, arith}
+use Rattle.std.specs.Prelude.{bytes_eq, find, is_some, nat_lt, option_map, Result, Ok, Err, unsigned_abs, unwrap_or}
+use Rattle.std.specs.List.{AllByRecursion}
+use Rattle.std.specs.Option.{option_map_or}
+use Rattle.std.specs.Ordering.{is_eq}
+use Rattle.std.proofs.lemmas.Cmp.{tied_itself, nat_list_cmp_total}
+use Rattle.std.proofs.lemmas.Map.Text.{is_eq-slice_cmp}
+use Rattle.std.proofs.lemmas.Int.{ints}
+use Rattle.std.proofs.lemmas.Bool.Decides.{nat_tests}
+use Rattle.cns_units.specs.declared.day.Day.{Day}
+use Rattle.cns_terms.specs.declared.command.Activity.{Activity}
+use Rattle.cns_terms.specs.declared.command.Activity.TheVariants as activity
+use Rattle.cns_terms.specs.declared.command.Command.TheVariants as command
+use Rattle.cns_terms.specs.declared.command.Trade.{Trade}
+use Rattle.cns_terms.specs.declared.holding.Entry.{Entry}
+use Rattle.cns_terms.specs.declared.holding.Holding.{Holding}
+use Rattle.cns_terms.specs.declared.holding.Key.{Key}
+use Rattle.cns_terms.specs.declared.refusal.Refusal.{Refusal}
+use Rattle.cns_terms.specs.declared.refusal.Refusal.TheVariants.{NoSuchMember, NoSuchIssue, Retired, SameParty, WrongDay, SeenReference, TooLarge}
+use Rattle.cns_terms.specs.Days.{date, is_same_day}
+use Rattle.cns_terms.specs.Entries.{corporation, buyer_entry, seller_entry, journal, posting}
+use Rattle.cns_terms.specs.Listings.{is_member, is_listed, is_retired, is_seen}
+use Rattle.cns_terms.specs.Positions.{position, shares_for}
+use Rattle.cns_terms.specs.Postings.{Journal}
+use Rattle.cns_terms.specs.Refusals.{Rule, first_refusal, refusal, rules, is_beyond, is_too_large}
+use Rattle.cns_positions.specs.Rows.{Rows, holding_at, booked}
+use Rattle.cns_trades.specs.Checks.{IsSmallEntry, trade_rules}
+use Rattle.cns_trades.specs.declared.facts.TradeFacts.{TradeFacts}
+use Rattle.cns_trades.specs.References.{has}
+use Rattle.cns_book.specs.Contents.{Contents}
+use Rattle.cns_book.specs.Follows.{AreSmall, AreTradeFacts, Follows}
+use Rattle.cns_book.proofs.Booking.{AreBooked, here, still_small}
+
+-- what an answer says of the refusal
+pub answer_err : (o : Option Refusal) (es : Entry × Entry) (r : Refusal) → Err r ≡ option_map_or Err o (Ok es) → o ≡ Some r
+answer_err None es r e = cc
+answer_err (Some q) es r e = cc
+
+pub answer_ok : (o : Option Refusal) (es fs : Entry × Entry) → Ok fs ≡ option_map_or Err o (Ok es) → (o ≡ None) × (fs ≡ es)
+answer_ok None es fs e = (refl, cc)
+answer_ok (Some q) es fs e = cc
+
+-- a member's position, or none
+abbrev pub at_member : Bool → ℤ → Option ℤ
+at_member b q = cond b (Some q) None
+
+-- the rules over the journal and over the facts, where the last ones agree once the parties are members and differ
+same_rules : (m n l o s d r x y : Bool) → (m ≡ true → n ≡ true → s ≡ false → x ≡ y) →
+    first_refusal ((NoSuchMember, not (m && n)) ∷ (NoSuchIssue, not l) ∷ (Retired, o) ∷ (SameParty, s) ∷ (WrongDay, not d) ∷ (SeenReference, r) ∷ (TooLarge, x) ∷ [])
+    ≡ first_refusal ((NoSuchMember, not (m && n)) ∷ (NoSuchIssue, not l) ∷ (Retired, o) ∷ (SameParty, s) ∷ (WrongDay, not d) ∷ (SeenReference, r) ∷ (TooLarge, y) ∷ [])
+same_rules false n l o s d r x y h = refl
+same_rules true false l o s d r x y h = refl
+same_rules true true l o true d r x y h = refl
+same_rules true true l o false d r x y h = ap (λ z. first_refusal ((NoSuchMember, false) ∷ (NoSuchIssue, not l) ∷ (Retired, o) ∷ (SameParty, false) ∷ (WrongDay, not d) ∷ (SeenReference, r) ∷ (TooLarge, z) ∷ [])) (h refl refl refl)
+
+pub eqb_refl : (a : ℕ) → eqb a a ≡ true
+eqb_refl a = grind (arith, nat_tests)
+
+eqb_apart : (a b : ℕ) → eqb a b ≡ false → eqb b a ≡ false
+eqb_apart a b h = grind (arith, nat_tests)
+
+pub bytes_refl : (c : List ℕ) → bytes_eq c c ≡ true
+bytes_refl c = sym (is_eq-slice_cmp c c) ∙ ap is_eq (tied_itself nat_list_cmp_total c)
+
+-- an entry at its own key, and at another account's
+pub shares_own : (e : Entry) → shares_for e.account e.issue e ≡ e.shares
+shares_own e i = cond (eqb_refl e.account i && bytes_refl e.issue i) e.shares (pos 0)
+
+pub shares_other : (a : ℕ) (c : List ℕ) (e : Entry) → eqb e.account a ≡ false → shares_for a c e ≡ pos 0
+shares_other a c e h = ap (λ b. cond (b && bytes_eq e.issue c) e.shares (pos 0)) h
+
+pub first_part : (a b q : ℤ) → b ≡ pos 0 → (a +ℤ (b +ℤ pos 0)) +ℤ q ≡ q +ℤ a
+first_part a b q h = omega (arith, ints, h)
+
+second_part : (a b q : ℤ) → a ≡ pos 0 → (a +ℤ (b +ℤ pos 0)) +ℤ q ≡ q +ℤ b
+second_part a b q h = omega (arith, ints, h)
+
+-- the parties' positions after a trade
+buyer_after : (opening : Day) (J : Journal) (t : Trade) → eqb t.buyer t.seller ≡ false → position (posting opening J (activity.Trade t) ∷ J) t.buyer t.issue ≡ position J t.buyer t.issue +ℤ pos t.shares
+buyer_after opening J t h = first_part _ _ (position J t.buyer t.issue) (shares_other t.buyer t.issue (seller_entry t) (eqb_apart t.buyer t.seller h)) ∙ ap (λ n. position J t.buyer t.issue +ℤ n) (shares_own (buyer_entry t))
+
+seller_after : (opening : Day) (J : Journal) (t : Trade) → eqb t.buyer t.seller ≡ false → position (posting opening J (activity.Trade t) ∷ J) t.seller t.issue ≡ position J t.seller t.issue +ℤ neg_ℤ (pos t.shares)
+seller_after opening J t h = second_part _ _ (position J t.seller t.issue) (shares_other t.seller t.issue (buyer_entry t) h) ∙ ap (λ n. position J t.seller t.issue +ℤ n) (shares_own (seller_entry t))
+
+above_zero : (a : ℕ) → 1 ≤ a → nat_lt 0 a ≡ true
+above_zero a h = grind (arith, nat_tests)
+
+or_false : (b : Bool) → (b || false) ≡ b
+or_false true = refl
+or_false false = refl
+
+too_large : (opening : Day) (J : Journal) (t : Trade) → 1 ≤ t.buyer → 1 ≤ t.seller → eqb t.buyer t.seller ≡ false → is_too_large opening J (activity.Trade t) ≡ (is_beyond (position J t.buyer t.issue +ℤ pos t.shares) || is_beyond (position J t.seller t.issue +ℤ neg_ℤ (pos t.shares)))
+too_large opening J t p q h = λ i. (above_zero t.buyer p i && is_beyond (buyer_after opening J t h i)) || (or_false (above_zero t.seller q i && is_beyond (seller_after opening J t h i)) i)
+
+pub some_member : (m : Bool) (q : ℤ) (o : Option ℤ) → o ≡ at_member m q → is_some o ≡ m
+some_member true q o e = ap is_some e
+some_member false q o e = ap is_some e
+
+pub at_true : (m : Bool) (q : ℤ) (o : Option ℤ) → o ≡ at_member m q → m ≡ true → unwrap_or o (pos 0) ≡ q
+at_true true q o e h = ap (λ o. unwrap_or o (pos 0)) e
+at_true false q o e h = cc
+
+-- what a trade is refused for, over the facts
+pub trade_refusal : (L : List Activity) (opening : Day) (t : Trade) (facts : TradeFacts) (seen : Bool) → AreTradeFacts L opening t facts → seen ≡ is_seen (journal opening L) t.reference → refusal opening (journal opening L) (command.Activity (activity.Trade t)) ≡ first_refusal (trade_rules facts seen t)
+trade_refusal L opening t facts seen a e =
+    let J = journal opening L in
+    let over : Bool = is_beyond (unwrap_or facts.buyer (pos 0) +ℤ pos t.shares) || is_beyond (unwrap_or facts.seller (pos 0) +ℤ neg_ℤ (pos t.shares)) in
+    same_rules (is_member J t.buyer) (is_member J t.seller) (is_listed J t.issue) (is_retired J t.issue) (eqb t.buyer t.seller) (is_same_day t.date (date opening J)) (is_seen J t.reference) (is_too_large opening J (activity.Trade t)) over
+    (λ m n s. too_large opening J t a.members.0 a.members.1 s ∙ sym (λ i. is_beyond (at_true _ _ _ a.buyer m i +ℤ pos t.shares) || is_beyond (at_true _ _ _ a.seller n i +ℤ neg_ℤ (pos t.shares))))
+    ∙ sym (λ i. first_refusal (
+      (NoSuchMember, not (some_member (is_member J t.buyer) _ _ a.buyer i && some_member (is_member J t.seller) _ _ a.seller i))
+      ∷ (NoSuchIssue, not (a.listed i)) ∷ (Retired, a.retired i) ∷ (SameParty, eqb t.buyer t.seller)
+      ∷ (WrongDay, not (is_same_day t.date (a.today i))) ∷ (SeenReference, e i) ∷ (TooLarge, over) ∷ []))
+
+-- rows that show the same are as small
+same_small : (n : ℕ) (old new : Rows) → AreSmall n old → ((k : Key) → holding_at new k ≡ holding_at old k) → AreSmall n new
+same_small n old new s h = record {
+  members = λ k m. subst (λ (x : Holding). unsigned_abs x.now ≤ 10 ^ 10) (sym (h k)) (s.members k m);
+  shares = λ k. subst (λ (x : Holding). unsigned_abs x.now ≤ 10 ^ 9 * n) (sym (h k)) (s.shares k);
+  cents = λ k. subst (λ (x : Holding). unsigned_abs x.contract ≤ 10 ^ 18 * n) (sym (h k)) (s.cents k);
+}
+
+-- rows that show the same at each key
+pub same_rows : (L : List Activity) (s : Contents) (new : Rows) → Follows L s → ((k : Key) → holding_at new k ≡ holding_at s.rows k) → Follows L (record s { rows = new })
+same_rows L s new f h = record {
+  today = f.today;
+  closes = f.closes;
+  members = f.members;
+  prices = f.prices;
+  retired = f.retired;
+  references = f.references;
+  rows = λ k. h k ∙ f.rows k;
+  small = same_small (length L) s.rows new f.small h;
+}
+
+-- where nothing refuses, no rule's condition holds
+none_true : (b : Bool) (r : Refusal) (o : Option Rule) → option_map (λ (q : Rule). q.0) (cond b (Some (r, b)) o) ≡ None → (b ≡ false) × (option_map (λ (q : Rule). q.0) o ≡ None)
+none_true true r o e = cc
+none_true false r o e = (refl, e)
+
+pub no_rule : (rs : List Rule) → first_refusal rs ≡ None → AllByRecursion (λ r. r.1 ≡ false) rs
+no_rule [] e = tt
+no_rule (r ∷ rs) e = let h = none_true r.1 r.0 (find (λ r. r.1) rs) e in (h.0, no_rule rs h.1)
+
+pub and_false : (a b : Bool) → a ≡ true → (a && b) ≡ false → b ≡ false
+and_false true b e h = h
+and_false false b e h = cc
+
+not_beyond : (q : ℤ) → is_beyond q ≡ false → unsigned_abs q ≤ 10 ^ 10
+not_beyond q h = grind (arith, nat_tests)
+
+left_false : (a b : Bool) → (a || b) ≡ false → a ≡ false
+left_false false b e = refl
+left_false true b e = e
+
+right_false : (a b : Bool) → (a || b) ≡ false → b ≡ false
+right_false false b e = e
+right_false true b e = cc
+
+pub neg_twice : (n : ℤ) → n ≡ neg_ℤ (neg_ℤ n)
+neg_twice n = omega (arith, ints)
+
+-- an accepted trade
+pub trade_accepted : (L : List Activity) (s : Contents) (t : Trade) (references : List ℕ) (rows : Rows) → Follows L s → refusal s.opening (journal s.opening L) (command.Activity (activity.Trade t)) ≡ None → (1 ≤ t.buyer) × (1 ≤ t.seller)
+    → ((r : ℕ) → has references r ≡ (eqb t.reference r || has s.references r))
+    → ((k : Key) → holding_at rows k ≡ booked (seller_entry t) k (booked (buyer_entry t) k (holding_at s.rows k)))
+    → IsSmallEntry (buyer_entry t)
+    → Follows (activity.Trade t ∷ L) (record s { references = references; rows = rows })
+trade_accepted L s t references rows f none m r b e =
+    let J = journal s.opening L in
+    let p = posting s.opening J (activity.Trade t) in
+    let bought : ℤ = position (p ∷ J) t.buyer t.issue in
+    let sold : ℤ = position (p ∷ J) t.seller t.issue in
+    let large = (no_rule (rules s.opening J (activity.Trade t)) none).1.1.1.1.1.1.0 in
+    let done : AreBooked J p (buyer_entry t) (seller_entry t) s.rows rows = record {
+      still = refl;
+      entries = refl;
+      booked_both = b;
+      small = e;
+      shares = refl;
+      cents = neg_twice (pos t.money);
+      first = λ _. not_beyond bought (and_false _ _ (above_zero t.buyer m.0) (left_false _ _ large));
+      second = λ _. not_beyond sold (and_false (nat_lt corporation t.seller) (is_beyond sold) (above_zero t.seller m.1) (left_false _ false (right_false (nat_lt corporation t.buyer && is_beyond bought) _ large)));
+    } in
+    record {
+      today = f.today;
+      closes = f.closes;
+      members = f.members;
+      prices = f.prices;
+      retired = f.retired;
+      references = λ q. r q ∙ ap (λ b. eqb t.reference q || b) (f.references q);
+      rows = here J p (buyer_entry t) (seller_entry t) s.rows rows done f.rows;
+      small = still_small J p (buyer_entry t) (seller_entry t) s.rows rows L done f.rows f.small;
+    }

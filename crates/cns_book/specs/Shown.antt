@@ -1,0 +1,26 @@
+-- What the reading calls of a book show.
+use Rattle.std.specs.Prelude.{ℕ, suc, zero, List, Option, Some, None, is_none, slice_get, reverse, if◌then◌else◌}
+use Rattle.cns_units.specs.declared.day.Day.{Day}
+use Rattle.cns_terms.specs.declared.command.Activity.{Activity}
+use Rattle.cns_terms.specs.declared.command.Command.TheVariants as command
+use Rattle.cns_terms.specs.declared.history.Taken.{Taken}
+use Rattle.cns_terms.specs.declared.holding.Holding.{Holding}
+use Rattle.cns_terms.specs.declared.holding.Key.{Key}
+use Rattle.cns_terms.specs.Entries.{journal}
+use Rattle.cns_terms.specs.Machine.{State, holding}
+use Rattle.cns_terms.specs.Refusals.{refusal}
+
+-- what a POSITION shows, where it is not refused
+abbrev pub holding_shown : Day → List Activity → Key → Option Holding
+holding_shown opening L k =
+    let J = journal opening L in
+    if is_none (refusal opening J (command.Position k)) then Some (holding J k.account k.issue) else None
+
+-- the same of a state
+abbrev pub shown : State → Key → Option Holding
+shown S k = holding_shown S.opening S.accepted k
+
+-- the entry at a place from 1, of a history whose newest entry is the first
+abbrev pub entry_at : List Taken → ℕ → Option Taken
+entry_at H zero = None
+entry_at H (suc k) = slice_get (reverse H) k

@@ -1,0 +1,153 @@
+// What the accepted activities amount to, part by part.
+ghost use Rattle.std.specs.Prelude.{◌≡◌, List, Option, Some, None, if◌then◌else◌, ◌≤◌, ◌^◌, unsigned_abs, IfOk, [], length, ◌<◌, ◌+◌};
+ghost use Rattle.std.specs.Option.{ForSome};
+ghost use Rattle.cns_terms.specs.Refusals.{refusal};
+ghost use Rattle.cns_terms.specs.Positions.{position};
+ghost use Rattle.cns_terms.specs.Days.{date, day};
+ghost use Rattle.cns_terms.specs.declared.command.Activity.{Activity};
+ghost use Rattle.cns_terms.specs.declared.command.Command.TheVariants as command;
+ghost use Rattle.cns_terms.specs.Listings.{is_account, is_listed, is_member, is_retired};
+ghost use Rattle.cns_terms.specs.Entries.{journal};
+ghost use Rattle.cns_terms.specs.Machine.{answer_to, holding};
+ghost use Rattle.cns_positions.specs.Rows.{holding_at};
+ghost use Rattle.cns_book.specs.Shown.{holding_shown};
+ghost use Rattle.cns_book.specs.Follows.{Follows, Steps, AreSmall, HasRoom};
+
+use crate::members::Members;
+use cns_positions::Positions;
+use cns_prices::Prices;
+use cns_terms::{Activity, Command, Holding, Key, NoMemory, Refusal, Reply};
+use cns_trades::Trades;
+use cns_units::{Account, Cusip, Day, Member};
+use std::alloc::Allocator;
+use std::marker::Model;
+
+mod listing;
+mod trading;
+
+/// The parts of a book: each a map, a set or a number that shows what the definitions say of the accepted activities.
+///
+/// Each command is one method here. Its clause says, for every list of activities that the parts follow, that the
+/// answer is the machine's and that the parts follow what comes next; so nothing above names a part.
+#[derive(Drop)]
+pub struct Parts<P: Positions<A>, A: Allocator + Drop> {
+    opening: Day,
+    today: Day,
+    closes: u32,
+    members: Members<A>,
+    prices: Prices<A>,
+    trades: Trades<A>,
+    positions: P,
+}
+
+impl<P: Positions<A>, A: Allocator + Drop> Model for Parts<P, A> {
+    ghost use Rattle.cns_book.specs.Contents.{Contents};
+
+    ghost Value = { Contents };
+
+    ghost view = { λ a. record {
+      opening = a.opening;
+      today = a.today;
+      closes = a.closes;
+      members = a.members;
+      prices = a.prices;
+      references = a.trades;
+      rows = P.rows a.positions;
+    } };
+}
+
+impl<P: Positions<A>, A: Allocator + Drop + Clone> Parts<P, A> {
+    /// The parts before anything was accepted.
+    pub fn new(alloc: A, opening: Day) -> Result<Self, NoMemory>
+        ensures opening { IfOk result (λ s. s.opening ≡ opening) }
+        ensures follows { IfOk result (λ s. Follows [] s) }
+    {
+        Ok(Parts {
+            opening,
+            today: opening,
+            closes: 0,
+            members: Members::new(alloc.clone()?),
+            prices: Prices::new(alloc.clone()?),
+            trades: Trades::new(alloc.clone()?),
+            positions: P::new(alloc),
+        })
+    }
+
+    /// The open day's date.
+    pub fn today(&self) -> Day
+        ensures { (L : List Activity) → Follows L self.now → result ≡ date self.now.opening (journal self.now.opening L) }
+    {
+        self.today
+    }
+
+    // Whether the account is there: the corporation's always is.
+    fn is_account(&self, account: Account) -> bool
+        ensures { (L : List Activity) → Follows L self.now → result ≡ is_account (journal self.now.opening L) account }
+    {
+        account == Account::CORPORATION || self.members.contains(account)
+    }
+
+    // Whether the issue is listed.
+    fn is_listed(&self, issue: Cusip) -> bool
+        ensures { (L : List Activity) → Follows L self.now → result ≡ is_listed (journal self.now.opening L) issue }
+    {
+        self.prices.price(issue).is_some()
+    }
+
+    // What stands at a key.
+    fn standing(&self, key: Key) -> Holding
+        ensures now { result ≡ holding_at self.now.rows key }
+        ensures value { (L : List Activity) → Follows L self.now → result ≡ holding (journal self.now.opening L) key.account key.issue }
+    {
+        self.positions.get(key)
+    }
+
+    // A member's position, None where it is no member.
+    fn position_of(&self, member: Member, issue: Cusip) -> Option<i64>
+        ensures value { (L : List Activity) → Follows L self.now → result ≡ (if is_member (journal self.now.opening L) member then Some (position (journal self.now.opening L) member issue) else None) }
+        ensures member { 1 ≤ member }
+        ensures small { AreSmall (2 ^ 32) self.now.rows → ForSome result (λ q. unsigned_abs q ≤ 10 ^ 10) }
+    {
+        let account = member.account();
+        if self.members.contains(account) {
+            Some(self.standing(Key { account, issue }).now)
+        } else {
+            None
+        }
+    }
+
+    // Why a POSITION is refused.
+    fn position_refusal(&self, key: Key) -> Option<Refusal>
+        ensures { (L : List Activity) → Follows L self.now → result ≡ refusal self.now.opening (journal self.now.opening L) (command.Position key) }
+    {
+        if !self.is_account(key.account) {
+            return Some(Refusal::NoSuchMember);
+        }
+        if !self.is_listed(key.issue) {
+            return Some(Refusal::NoSuchIssue);
+        }
+        None
+    }
+
+    /// What a POSITION would show, None where it would be refused.
+    pub fn shown(&self, key: Key) -> Option<Holding>
+        ensures { (L : List Activity) → Follows L self.now → result ≡ holding_shown self.now.opening L key }
+    {
+        let key = &key;
+        match self.position_refusal(*key) {
+            Some(_) => None,
+            None => Some(self.standing(*key)),
+        }
+    }
+
+    /// POSITION.
+    pub fn position(&self, key: Key) -> Reply
+        ensures { (L : List Activity) → Follows L self.now → result ≡ answer_to self.now.opening L (command.Position key) }
+    {
+        let key = &key;
+        match self.position_refusal(*key) {
+            Some(refusal) => Reply::Refused(refusal),
+            None => Reply::Held(*key, self.standing(*key)),
+        }
+    }
+}

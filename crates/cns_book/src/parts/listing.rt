@@ -1,0 +1,54 @@
+// Members, issues and prices.
+ghost use Rattle.std.specs.Prelude.{◌≡◌, List, Ok};
+ghost use Rattle.cns_terms.specs.declared.command.Activity.{Activity};
+ghost use Rattle.cns_terms.specs.declared.command.Activity.TheVariants as activity;
+ghost use Rattle.cns_terms.specs.declared.command.Command.TheVariants as command;
+ghost use Rattle.cns_book.specs.Follows.{Follows, Steps};
+
+use crate::parts::Parts;
+use cns_positions::Positions;
+use cns_terms::{Listing, NoMemory, Refusal, Reply};
+use cns_units::Member;
+use std::alloc::Allocator;
+
+impl<P: Positions<A>, A: Allocator + Drop + Clone> Parts<P, A> {
+    /// MEMBER.
+    pub fn add_member(&mut self, member: Member) -> Result<Reply, NoMemory>
+        ensures opening { self.new.opening ≡ self.old.opening }
+        ensures step { (L : List Activity) → Follows L self.old → Steps L (command.Activity (activity.Member member)) result self.new }
+    {
+        let account = member.account();
+        if self.members.contains(account) {
+            return Ok(Reply::Refused(Refusal::MemberExists));
+        }
+        self.members.insert(account)?;
+        Ok(Reply::Accepted)
+    }
+
+    /// ISSUE.
+    pub fn list_issue(&mut self, listing: Listing) -> Result<Reply, NoMemory>
+        ensures opening { self.new.opening ≡ self.old.opening }
+        ensures step { (L : List Activity) → Follows L self.old → Steps L (command.Activity (activity.Issue listing)) result self.new }
+    {
+        if self.prices.price(listing.issue).is_some() {
+            return Ok(Reply::Refused(Refusal::IssueExists));
+        }
+        self.prices.list(listing.issue, listing.price)?;
+        Ok(Reply::Accepted)
+    }
+
+    /// PRICE.
+    pub fn set_price(&mut self, listing: Listing) -> Reply
+        ensures opening { self.new.opening ≡ self.old.opening }
+        ensures step { (L : List Activity) → Follows L self.old → Steps L (command.Activity (activity.Price listing)) (Ok result) self.new }
+    {
+        if self.prices.price(listing.issue).is_none() {
+            return Reply::Refused(Refusal::NoSuchIssue);
+        }
+        if self.prices.is_retired(listing.issue) {
+            return Reply::Refused(Refusal::Retired);
+        }
+        self.prices.set(listing.issue, listing.price);
+        Reply::Accepted
+    }
+}

@@ -1,0 +1,33 @@
+-- The order of keys.
+use Rattle.std.proofs.Common.{◌≡◌, ℕ, ◌&&◌, eqb, List, Ordering, refl, ap, ◌∙◌}
+use Rattle.std.specs.Prelude.{bytes_eq}
+use Rattle.std.specs.declared.cmp.Ordering.TheVariants.{Less, Equal, Greater}
+use Rattle.std.specs.Cmp.{IsTotalOrder}
+use Rattle.std.specs.Cmp.Lexicographic.{slice_cmp}
+use Rattle.std.specs.Ordering.{nat_cmp, ordering_then, is_eq}
+use Rattle.std.proofs.lemmas.Cmp.{on_total, then_total, nat_cmp_total, nat_list_cmp_total}
+use Rattle.std.proofs.lemmas.Map.Lookups.{CmpEqualImpliesEq, exact_pairs, exact_unsigned, exact_bytes}
+use Rattle.std.proofs.lemmas.Map.Text.{is_eq-slice_cmp}
+use Rattle.std.proofs.lemmas.Bool.Decides.{nat_tests}
+use Rattle.std.proofs.Common.{arith}
+use Rattle.cns_terms.specs.declared.holding.Key.{Key}
+use Rattle.cns_positions.specs.Rows.{key_cmp}
+
+pub keys_total : IsTotalOrder key_cmp
+keys_total = then_total (on_total (λ k. k.account) nat_cmp_total) (on_total (λ k. k.issue) nat_list_cmp_total)
+
+-- keys that compare alike are one
+pub exact_keys : CmpEqualImpliesEq key_cmp
+exact_keys a b h = ap (λ (p : ℕ × List ℕ). record { account = p.0; issue = p.1 }) (exact_pairs nat_cmp (slice_cmp nat_cmp) exact_unsigned exact_bytes (a.account, a.issue) (b.account, b.issue) h)
+
+then_eq : (p q : Ordering) → is_eq (ordering_then p q) ≡ (is_eq p && is_eq q)
+then_eq Less q = refl
+then_eq Equal q = refl
+then_eq Greater q = refl
+
+nat_eq_test : (a b : ℕ) → is_eq (nat_cmp a b) ≡ eqb a b
+nat_eq_test a b = grind (arith, nat_tests)
+
+-- what tells keys apart, in the words of the definitions
+pub same_key : (a b : Key) → is_eq (key_cmp a b) ≡ (eqb a.account b.account && bytes_eq a.issue b.issue)
+same_key a b = then_eq (nat_cmp a.account b.account) (slice_cmp nat_cmp a.issue b.issue) ∙ (λ i. nat_eq_test a.account b.account i && is_eq-slice_cmp a.issue b.issue i)

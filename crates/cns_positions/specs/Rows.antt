@@ -1,0 +1,57 @@
+use Rattle.std.specs.Prelude.{◌≡◌, ◌+◌, ◌-◌, ◌^◌, ℤ, pos, ◌+ℤ◌, int_lt, Bool, true, ◌&&◌, not, ◌==◌, min, List, filter, Option, Some, None, unwrap_or, Contains, ◌⊎◌, if◌then◌else◌}
+use Rattle.std.specs.declared.cmp.Ordering.{Ordering}
+use Rattle.std.specs.Ordering.{nat_cmp, int_eq, ordering_then, is_lt}
+use Rattle.std.specs.Cmp.Lexicographic.{slice_cmp}
+use Rattle.std.specs.FinMap.{find}
+use Rattle.cns_terms.specs.declared.holding.Key.{Key}
+use Rattle.cns_terms.specs.declared.holding.Holding.{Holding}
+use Rattle.cns_terms.specs.declared.holding.Entry.{Entry}
+use Rattle.cns_terms.specs.Entries.{entry}
+use Rattle.cns_terms.specs.Positions.{shares_for, cents_for}
+
+-- by account, and then by issue
+abbrev pub key_cmp : Key → Key → Ordering
+key_cmp a b = ordering_then (nat_cmp a.account b.account) (slice_cmp nat_cmp a.issue b.issue)
+
+abbrev pub Rows : Type 0
+Rows = List (Key × Holding)
+
+abbrev pub zeros : Holding
+zeros = record { now = pos 0; opening = pos 0; contract = pos 0; run = 0 }
+
+-- what stands at a key; zeros where it has no row
+abbrev pub holding_at : Rows → Key → Holding
+holding_at rows k = unwrap_or (find key_cmp k rows) zeros
+
+-- whether anything but zeros stands there
+abbrev pub is_held : Holding → Bool
+is_held h = not (int_eq h.now (pos 0) && int_eq h.opening (pos 0) && int_eq h.contract (pos 0) && (h.run == 0))
+
+-- the key may be added to without memory
+abbrev pub IsThere : Rows → List Key → Key → Type 0
+IsThere rows prepared k = (is_held (holding_at rows k) ≡ true) ⊎ Contains prepared k
+
+abbrev pub entry_of : Key → ℤ → ℤ → Entry
+entry_of k shares cents = entry k.account k.issue shares cents
+
+-- what an entry makes of what stands at a key
+abbrev pub booked : Entry → Key → Holding → Holding
+booked e k h = record h { now = h.now +ℤ shares_for k.account k.issue e; contract = h.contract +ℤ cents_for k.account k.issue e }
+
+-- what a close makes of it
+abbrev pub rolled : Holding → Holding
+rolled h = record {
+  now = h.now;
+  opening = h.now;
+  contract = pos 0;
+  run = if int_lt h.now (pos 0) then min (h.run + 1) (2 ^ 32 - 1) else 0;
+}
+
+-- whether the key is above the other, if there is one
+abbrev pub is_above : Option Key → Key → Bool
+is_above None k = true
+is_above (Some low) k = is_lt (key_cmp low k)
+
+-- the rows above a key that aren't zeros
+abbrev pub held_above : Rows → Option Key → Rows
+held_above rows after = filter (λ r. is_above after r.0 && is_held r.1) rows

@@ -1,0 +1,216 @@
+// Positions in a sorted vector.
+ghost use Rattle.std.specs.Prelude.{◌≡◌, ℕ, ◌≤◌, ◌<◌, ◌+◌, ◌-◌, ◌+ℤ◌, List, [], ◌∷◌, length, OnOk, OnErr, IfOk, IfErr, MatchOption, FitsSigned, vec_len, vec_capacity, is_some, true, Some};
+ghost use Rattle.cns_positions.specs.Rows.{holding_at, key_cmp, booked, entry_of, rolled, held_above, is_above, is_held};
+ghost use Rattle.cns_positions.specs.Placed.{has_row, closed_rows};
+ghost use Rattle.cns_terms.specs.declared.holding.Key.{Key};
+ghost use Rattle.std.specs.Int.{w64, w128};
+ghost use Rattle.std.specs.FinMap.{is_sorted};
+ghost use Rattle.std.specs.List.{HoldsAt};
+ghost use Rattle.std.specs.List.Sorted.{IsSearchInRange, IsPartitionPoint};
+ghost use Rattle.std.specs.declared.cmp.Ordering.{Ordering};
+
+use crate::positions::{Positions, Row};
+use arrayvec::ArrayVec;
+use cns_terms::{Holding, Key, NoMemory};
+use std::alloc::Allocator;
+use std::marker::Model;
+
+/// Positions in a vector of rows in the order of their keys. Each prepared key has a row.
+#[derive(Drop)]
+pub struct FlatPositions<A: Allocator + Drop> {
+    rows: Vec<Row, A>,
+    prepared: ArrayVec<Option<Key>, 4>,
+}
+
+impl<A: Allocator + Drop> Model for FlatPositions<A> {
+    ghost use Rattle.cns_positions.specs.Flat.{Contents, IsFlat, keys_of};
+
+    ghost Value = { Contents };
+
+    ghost view = { λ a. record { rows = a.rows.items; prepared = keys_of a.prepared.items } };
+
+    ghost invariant = { λ a. IsFlat a.rows.items a.prepared.items };
+}
+
+// Where the key's row is, or where it would go.
+fn place(rows: &[Row], key: Key) -> Result<usize, usize>
+    requires { is_sorted key_cmp rows.now ≡ true }
+    ensures bound { IsSearchInRange result (length rows.now) }
+    ensures found { IfOk result (HoldsAt (λ r. key_cmp r.0 key ≡ Ordering.Equal) rows.now) }
+    ensures absent { IfErr result (IsPartitionPoint (λ r. key_cmp r.0 key ≡ Ordering.Less) (λ r. key_cmp r.0 key ≡ Ordering.Greater) rows.now) }
+{
+    rows.binary_search_by_key(&key, |row| row.0)
+}
+
+// What stands at a key.
+fn standing(rows: &[Row], key: Key) -> Holding
+    requires { is_sorted key_cmp rows.now ≡ true }
+    ensures { result ≡ holding_at rows.now key }
+{
+    match place(rows, key) {
+        Ok(at) => rows[at].1,
+        Err(_) => ZEROS,
+    }
+}
+
+// Gives the key a row of zeros where it has none, in room that is there.
+fn enter<A: Allocator + Drop>(rows: &mut Vec<Row, A>, key: Key)
+    requires sorted { is_sorted key_cmp rows.old.items ≡ true }
+    requires room { vec_len rows.old < vec_capacity rows.old }
+    ensures sorted { is_sorted key_cmp rows.new.items ≡ true }
+    ensures there { has_row rows.new.items key ≡ true }
+    ensures others { (k : Key) → has_row rows.old.items k ≡ true → has_row rows.new.items k ≡ true }
+    ensures same { (k : Key) → holding_at rows.new.items k ≡ holding_at rows.old.items k }
+    ensures len { vec_len rows.new ≤ vec_len rows.old + 1 }
+    ensures capacity { vec_capacity rows.old ≤ vec_capacity rows.new }
+{
+    let row = (key, ZEROS);
+    match place(rows.as_slice(), row.0) {
+        Ok(_) => {}
+        Err(at) => {
+            let _ = rows.insert(at, row);
+        }
+    }
+}
+
+// A holding with shares and cents booked.
+fn with(holding: Holding, shares: i64, cents: i128) -> Holding
+    requires shares_fit { FitsSigned w64 (holding.now +ℤ shares) }
+    requires cents_fit { FitsSigned w128 (holding.contract +ℤ cents) }
+    ensures { result ≡ record holding { now = holding.now +ℤ shares; contract = holding.contract +ℤ cents } }
+{
+    Holding {
+        now: holding.now + shares,
+        opening: holding.opening,
+        contract: holding.contract + cents,
+        run: holding.run,
+    }
+}
+
+// Books shares and cents in the key's row.
+fn book<A: Allocator + Drop>(rows: &mut Vec<Row, A>, key: Key, shares: i64, cents: i128)
+    requires sorted { is_sorted key_cmp rows.old.items ≡ true }
+    requires there { has_row rows.old.items key ≡ true }
+    requires shares_fit { FitsSigned w64 ((holding_at rows.old.items key).now +ℤ shares) }
+    requires cents_fit { FitsSigned w128 ((holding_at rows.old.items key).contract +ℤ cents) }
+    ensures sorted { is_sorted key_cmp rows.new.items ≡ true }
+    ensures others { (k : Key) → has_row rows.old.items k ≡ true → has_row rows.new.items k ≡ true }
+    ensures booked { (k : Key) → holding_at rows.new.items k ≡ booked (entry_of key shares cents) k (holding_at rows.old.items k) }
+{
+    match place(rows.as_slice(), key) {
+        Ok(at) => {
+            let row = rows[at];
+            rows[at] = (row.0, with(row.1, shares, cents));
+        }
+        Err(_) => {}
+    }
+}
+
+const ZEROS: Holding = Holding {
+    now: 0,
+    opening: 0,
+    contract: 0,
+    run: 0,
+};
+
+const LONGEST_RUN: u32 = 4_294_967_295;
+
+// What a close makes of a holding.
+fn close(holding: Holding) -> Holding
+    ensures { result ≡ rolled holding }
+{
+    Holding {
+        now: holding.now,
+        opening: holding.now,
+        contract: 0,
+        run: if holding.now < 0 {
+            if holding.run < LONGEST_RUN {
+                holding.run + 1
+            } else {
+                LONGEST_RUN
+            }
+        } else {
+            0
+        },
+    }
+}
+
+// What a close makes of each row.
+fn close_all<A: Allocator + Drop>(rows: &mut Vec<Row, A>)
+    ensures { rows.new.items ≡ closed_rows rows.old.items }
+{
+    for i in 0..rows.len() {
+        let row = rows[i];
+        rows[i] = (row.0, close(row.1));
+    }
+}
+
+// Whether the key is above the other, if there is one.
+fn is_above(after: Option<Key>, key: Key) -> bool
+    ensures { result ≡ is_above after key }
+{
+    match after {
+        Some(low) => low.cmp(&key).is_lt(),
+        None => true,
+    }
+}
+
+// Whether anything but zeros stands there.
+fn is_held(holding: Holding) -> bool
+    ensures { result ≡ is_held holding }
+{
+    holding.now != 0 || holding.opening != 0 || holding.contract != 0 || holding.run != 0
+}
+
+// The first row above a key that isn't zeros.
+fn first_held(rows: &[Row], after: Option<Key>) -> Option<Row>
+    requires { is_sorted key_cmp rows.now ≡ true }
+    ensures { MatchOption result (held_above rows.now after ≡ []) (λ r. held_above rows.now after ≡ r ∷ held_above rows.now (Some r.0)) }
+{
+    let after = &after;
+    for row in rows {
+        if is_above(*after, row.0) && is_held(row.1) {
+            return Some(*row);
+        }
+    }
+    None
+}
+
+impl<A: Allocator + Drop> Positions<A> for FlatPositions<A> {
+    ghost rows = { λ p. p.rows };
+
+    ghost prepared = { λ p. p.prepared };
+
+    fn new(alloc: A) -> Self {
+        FlatPositions {
+            rows: Vec::new(alloc),
+            prepared: ArrayVec::new(),
+        }
+    }
+
+    fn get(&self, key: Key) -> Holding {
+        standing(self.rows.as_slice(), key)
+    }
+
+    fn prepare(&mut self, keys: &[Key]) -> Result<(), NoMemory> {
+        self.rows.reserve(keys.len())?;
+        self.prepared.clear();
+        for key in keys {
+            enter(&mut self.rows, *key);
+            self.prepared.push(Some(*key));
+        }
+        Ok(())
+    }
+
+    fn add(&mut self, key: Key, shares: i64, cents: i128) {
+        book(&mut self.rows, key, shares, cents);
+    }
+
+    fn roll(&mut self) {
+        close_all(&mut self.rows);
+    }
+
+    fn next_row(&self, after: Option<Key>) -> Option<Row> {
+        first_held(self.rows.as_slice(), after)
+    }
+}

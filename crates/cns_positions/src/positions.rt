@@ -1,0 +1,53 @@
+// The contract of every form of positions.
+ghost use Rattle.std.specs.Prelude.{◌≡◌, ℕ, ◌≤◌, ◌+ℤ◌, List, [], ◌∷◌, Some, length, OnOk, OnErr, MatchOption, FitsSigned, Contains, ◌⊎◌};
+ghost use Rattle.std.specs.Int.{w64, w128};
+ghost use Rattle.cns_terms.specs.declared.holding.Key.{Key};
+ghost use Rattle.cns_terms.specs.declared.holding.Holding.{Holding};
+ghost use Rattle.cns_positions.specs.Rows.{holding_at, booked, entry_of, rolled, IsThere, held_above};
+
+use cns_terms::{Holding, Key, NoMemory};
+
+/// A key and what stands at it.
+pub type Row = (Key, Holding);
+
+/// What stands at each key, where an absent key counts as zeros.
+pub trait Positions<A>: Drop {
+    /// The rows, in the order of their keys.
+    ghost rows: { Self → List (Key × Holding) };
+
+    /// The prepared keys.
+    ghost prepared: { Self → List Key };
+
+    /// Nothing stands anywhere.
+    fn new(alloc: A) -> Self
+        ensures rows { rows result ≡ [] }
+        ensures prepared { prepared result ≡ [] };
+
+    /// What stands at a key.
+    fn get(&self, key: Key) -> Holding
+        ensures { result ≡ holding_at (rows self.now) key };
+
+    /// Makes room for the keys, so that `add` takes no memory at them.
+    fn prepare(&mut self, keys: &[Key]) -> Result<(), NoMemory>
+        requires { length keys.now ≤ 4 }
+        ensures same { (k : Key) → holding_at (rows self.new) k ≡ holding_at (rows self.old) k }
+        ensures ok { OnOk result (prepared self.new ≡ keys.now) }
+        ensures err { OnErr result (prepared self.new ≡ prepared self.old) };
+
+    /// Books shares and cents at a key that is there or prepared.
+    fn add(&mut self, key: Key, shares: i64, cents: i128)
+        requires there { IsThere (rows self.old) (prepared self.old) key }
+        requires shares_fit { FitsSigned w64 ((holding_at (rows self.old) key).now +ℤ shares) }
+        requires cents_fit { FitsSigned w128 ((holding_at (rows self.old) key).contract +ℤ cents) }
+        ensures booked { (k : Key) → holding_at (rows self.new) k ≡ booked (entry_of key shares cents) k (holding_at (rows self.old) k) }
+        ensures prepared { prepared self.new ≡ prepared self.old };
+
+    /// What a close does to every holding.
+    fn roll(&mut self)
+        ensures rolled { (k : Key) → holding_at (rows self.new) k ≡ rolled (holding_at (rows self.old) k) }
+        ensures prepared { prepared self.new ≡ prepared self.old };
+
+    /// The first row that isn't zeros, or the first such row above a key.
+    fn next_row(&self, after: Option<Key>) -> Option<Row>
+        ensures { MatchOption result (held_above (rows self.now) after ≡ []) (λ r. held_above (rows self.now) after ≡ r ∷ held_above (rows self.now) (Some r.0)) };
+}

@@ -1,0 +1,68 @@
+-- One quote more, or another.
+use Rattle.std.proofs.Common.{◌≡◌, ◌∙◌, sym, ap, subst, refl, Bool, true, false, cond, Option, Some, None}
+use Rattle.std.specs.Prelude.{bytes_eq, option_map, ◌||◌}
+use Rattle.std.specs.Option.{option_map_or, IsSome}
+use Rattle.std.specs.Ordering.{nat_cmp, is_eq}
+use Rattle.std.specs.Cmp.Lexicographic.{slice_cmp}
+use Rattle.std.proofs.lemmas.Map.Text.{is_eq-slice_cmp}
+use Rattle.std.proofs.lemmas.Slice.Eq.{bytes_eq-Decides}
+use Rattle.cns_units.specs.declared.cusip.Cusip.{Cusip}
+use Rattle.cns_prices.specs.declared.prices.Quote.{Quote}
+use Rattle.cns_prices.specs.Listed.{Listed, Quotes, quote_in, price_in, retired_in}
+
+price_branch : (b : Bool) (q : Quote) (o : Option Quote) → option_map (λ (q : Quote). q.price) (cond b (Some q) o) ≡ cond b (Some q.price) (option_map (λ q. q.price) o)
+price_branch true q o = refl
+price_branch false q o = refl
+
+retired_branch : (b : Bool) (q : Quote) (o : Option Quote) → option_map_or (λ (q : Quote). q.retired) (cond b (Some q) o) false ≡ cond b q.retired (option_map_or (λ q. q.retired) o false)
+retired_branch true q o = refl
+retired_branch false q o = refl
+
+-- the prices after one quote
+pub priced : (old new : Listed) (k : Cusip) (q : Quote) → Quotes old new k q → (c : Cusip) → price_in new c ≡ cond (bytes_eq k c) (Some q.price) (price_in old c)
+priced old new k q h c = ap (option_map (λ q. q.price)) (h c) ∙ price_branch (is_eq (slice_cmp nat_cmp k c)) q (quote_in old c) ∙ ap (λ b. cond b (Some q.price) (price_in old c)) (is_eq-slice_cmp k c)
+
+-- the retired issues after one quote
+pub marked : (old new : Listed) (k : Cusip) (q : Quote) → Quotes old new k q → (c : Cusip) → retired_in new c ≡ cond (bytes_eq k c) q.retired (retired_in old c)
+marked old new k q h c = ap (λ o. option_map_or (λ (q : Quote). q.retired) o false) (h c) ∙ retired_branch (is_eq (slice_cmp nat_cmp k c)) q (quote_in old c) ∙ ap (λ b. cond b q.retired (retired_in old c)) (is_eq-slice_cmp k c)
+
+same_branch : (b r s : Bool) → (b ≡ true → r ≡ s) → cond b r s ≡ s
+same_branch true r s h = h refl
+same_branch false r s h = refl
+
+-- a quote that leaves the issue retired or not as it was
+pub unmarked : (old new : Listed) (k : Cusip) (q : Quote) → Quotes old new k q → q.retired ≡ retired_in old k → (c : Cusip) → retired_in new c ≡ retired_in old c
+unmarked old new k q h same c = marked old new k q h c ∙ same_branch (bytes_eq k c) q.retired (retired_in old c) (λ e. same ∙ ap (retired_in old) ((bytes_eq-Decides k c).0 e))
+
+-- an issue without a quote is not retired
+pub unlisted : (o : Option Quote) → option_map (λ (q : Quote). q.price) o ≡ None → false ≡ option_map_or (λ (q : Quote). q.retired) o false
+unlisted None h = refl
+unlisted (Some q) h = cc
+
+-- an issue with a price has a quote
+pub has_quote : (o : Option Quote) → IsSome (option_map (λ (q : Quote). q.price) o) → IsSome o
+has_quote None h = h
+has_quote (Some q) h = h
+
+-- a quote that is there is not missing
+pub not_missing : (o : Option Quote) → IsSome o → o ≡ None → ⊥
+not_missing None h e = cc
+not_missing (Some q) h e = cc
+
+price_stays : (b : Bool) (o o' : Option Quote) (q : Quote) → (b ≡ true → o ≡ o') → o' ≡ Some q → cond b (Some q.price) (option_map (λ (q : Quote). q.price) o) ≡ option_map (λ q. q.price) o
+price_stays true o o' q h e = sym (ap (option_map (λ q. q.price)) (h refl ∙ e))
+price_stays false o o' q h e = refl
+
+-- a quote with the price that the issue has
+pub repriced : (old new : Listed) (k : Cusip) (q q' : Quote) → Quotes old new k q → quote_in old k ≡ Some q' → q.price ≡ q'.price → (c : Cusip) → price_in new c ≡ price_in old c
+repriced old new k q q' h is same c =
+    priced old new k q h c ∙ ap (λ p. cond (bytes_eq k c) (Some p) (price_in old c)) same
+    ∙ price_stays (bytes_eq k c) (quote_in old c) (quote_in old k) q' (λ e. ap (quote_in old) (sym ((bytes_eq-Decides k c).0 e))) is
+
+retired_or : (b r : Bool) → cond b true r ≡ (b || r)
+retired_or true r = refl
+retired_or false r = refl
+
+-- a quote that retires the issue
+pub retires : (old new : Listed) (k : Cusip) (q : Quote) → Quotes old new k q → q.retired ≡ true → (c : Cusip) → retired_in new c ≡ (bytes_eq k c || retired_in old c)
+retires old new k q h is c = marked old new k q h c ∙ ap (λ r. cond (bytes_eq k c) r (retired_in old c)) is ∙ retired_or (bytes_eq k c) (retired_in old c)

@@ -1,0 +1,132 @@
+// The map of issues.
+ghost use Rattle.std.specs.Prelude.{◌≡◌, ◌||◌, OnOk, OnErr, Option, Some, None, bytes_eq, if◌then◌else◌, false, MatchOption, [], ◌∷◌, IsSome};
+ghost use Rattle.cns_units.specs.declared.cusip.Cusip.{Cusip};
+ghost use Rattle.cns_prices.specs.Listed.{price_in, retired_in, quote_in, listed_above, Quotes};
+
+use cns_terms::NoMemory;
+use cns_units::{Cusip, Price};
+use std::alloc::Allocator;
+use std::collections::BTreeMap;
+use std::marker::Model;
+
+/// What is known of a listed issue.
+#[derive(Clone, Copy, Debug, PartialEq, Eq)]
+pub struct Quote {
+    /// The price last set, in cents.
+    pub price: Price,
+    /// Whether the issue is retired for good.
+    pub retired: bool,
+}
+
+/// The listed issues with their prices, in the order of the bytes of their CUSIPs.
+#[derive(Drop)]
+pub struct Prices<A: Allocator + Drop> {
+    issues: BTreeMap<Cusip, Quote, A>,
+}
+
+impl<A: Allocator + Drop> Model for Prices<A> {
+    ghost use Rattle.cns_prices.specs.Listed.{Listed};
+
+    ghost Value = { Listed };
+
+    ghost view = { λ p. p.issues.entries };
+}
+
+impl<A: Allocator + Drop> Prices<A> {
+    /// No issue is listed yet.
+    pub fn new(alloc: A) -> Self
+        ensures price { (c : Cusip) → price_in result c ≡ None }
+        ensures retired { (c : Cusip) → retired_in result c ≡ false }
+    {
+        Prices {
+            issues: BTreeMap::new(alloc),
+        }
+    }
+
+    /// The price of an issue in cents; None where it is not listed.
+    pub fn price(&self, cusip: Cusip) -> Option<Price>
+        ensures { result ≡ price_in self.now cusip }
+    {
+        self.issues.get(&cusip).map(|quote| quote.price)
+    }
+
+    /// Whether the issue is retired.
+    pub fn is_retired(&self, cusip: Cusip) -> bool
+        ensures { result ≡ retired_in self.now cusip }
+    {
+        match self.issues.get(&cusip) {
+            Some(quote) => quote.retired,
+            None => false,
+        }
+    }
+
+    /// Lists an issue with its first price. Where memory is refused the issues stay as they were.
+    pub fn list(&mut self, cusip: Cusip, price: Price) -> Result<(), NoMemory>
+    where
+        A: Clone,
+        requires { price_in self.old cusip ≡ None }
+        ensures price { OnOk result ((c : Cusip) → price_in self.new c ≡ (if bytes_eq cusip c then Some price else price_in self.old c)) }
+        ensures retired { OnOk result ((c : Cusip) → retired_in self.new c ≡ retired_in self.old c) }
+        ensures err { OnErr result (self.new ≡ self.old) }
+    {
+        let quote = Quote {
+            price,
+            retired: false,
+        };
+        let Ok(_) = self.issues.insert(cusip, quote) else {
+            return Err(NoMemory);
+        };
+        Ok(())
+    }
+
+    // Puts another quote at an issue that is listed: a key that is there keeps its place, so no memory is asked for.
+    fn requote(&mut self, cusip: Cusip, quote: Quote)
+    where
+        A: Clone,
+        requires { IsSome (quote_in self.old cusip) }
+        ensures { Quotes self.old self.new cusip quote }
+    {
+        let Ok(_) = self.issues.insert(cusip, quote) else {
+            return;
+        };
+    }
+
+    /// Sets the price of an issue that is listed and not retired. It takes no memory.
+    pub fn set(&mut self, cusip: Cusip, price: Price)
+    where
+        A: Clone,
+        requires listed { IsSome (price_in self.old cusip) }
+        requires current { retired_in self.old cusip ≡ false }
+        ensures price { (c : Cusip) → price_in self.new c ≡ (if bytes_eq cusip c then Some price else price_in self.old c) }
+        ensures retired { (c : Cusip) → retired_in self.new c ≡ retired_in self.old c }
+    {
+        self.requote(
+            cusip,
+            Quote {
+                price,
+                retired: false,
+            },
+        );
+    }
+
+    /// Retires an issue that is listed and not retired, for good; its price stays. It takes no memory.
+    pub fn retire(&mut self, cusip: Cusip)
+    where
+        A: Clone,
+        requires listed { IsSome (price_in self.old cusip) }
+        requires current { retired_in self.old cusip ≡ false }
+        ensures price { (c : Cusip) → price_in self.new c ≡ price_in self.old c }
+        ensures retired { (c : Cusip) → retired_in self.new c ≡ (bytes_eq cusip c || retired_in self.old c) }
+    {
+        if let Some(quote) = self.issues.get(&cusip) {
+            let price = quote.price;
+            self.requote(
+                cusip,
+                Quote {
+                    price,
+                    retired: true,
+                },
+            );
+        }
+    }
+}

@@ -1,0 +1,15 @@
+pub mod Sums
+pub mod Postings
+pub mod Days
+pub mod Positions
+pub mod Ages
+pub mod Listings
+pub mod Entries
+pub mod Refusals
+pub mod Marks
+pub mod Dividends
+pub mod Sheets
+pub mod Machine
+pub mod History
+pub mod Laws
+pub mod Numbers

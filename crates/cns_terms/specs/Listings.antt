@@ -1,0 +1,77 @@
+-- Members, issues, prices and references.
+use Rattle.std.specs.Prelude.{◌∷◌, ℕ, Bool, false, ◌==◌, nat_lt, List, Option, Some, None, find, filter_map, map}
+use Rattle.std.specs.List.{list_any}
+use Rattle.std.specs.Option.{option_map_or}
+use Rattle.std.specs.Ordering.{nat_cmp, is_lt}
+use Rattle.std.specs.Cmp.Lexicographic.{slice_cmp}
+use Rattle.cns_units.specs.declared.account.Account.{Account}
+use Rattle.cns_units.specs.declared.account.Member.{Member}
+use Rattle.cns_units.specs.declared.cusip.Cusip.{Cusip}
+use Rattle.cns_units.specs.declared.price.Price.{Price}
+use Rattle.cns_terms.specs.declared.command.Activity.{Activity}
+use Rattle.cns_terms.specs.declared.command.Activity.TheVariants as activity
+use Rattle.cns_terms.specs.declared.command.Listing.{Listing}
+use Rattle.cns_terms.specs.declared.command.Trade.{Trade}
+use Rattle.cns_terms.specs.Sums.{same_issue, in_order}
+use Rattle.cns_terms.specs.Postings.{Journal, activities}
+
+-- the member that an activity adds
+abbrev pub added : Activity → Option Member
+added (activity.Member m) = Some m
+added _ = None
+
+-- the listing that an activity makes
+abbrev pub listed : Activity → Option Listing
+listed (activity.Issue l) = Some l
+listed _ = None
+
+-- the listing by which an activity sets a price
+abbrev pub priced : Activity → Option Listing
+priced (activity.Issue l) = Some l
+priced (activity.Price l) = Some l
+priced _ = None
+
+-- the trade that an activity is
+abbrev pub traded : Activity → Option Trade
+traded (activity.Trade t) = Some t
+traded _ = None
+
+-- the order of CUSIPs, by their bytes
+abbrev pub issue_lt : Cusip → Cusip → Bool
+issue_lt c d = is_lt (slice_cmp nat_cmp c d)
+
+-- the members, by number
+abbrev pub members : Journal → List Member
+members J = in_order nat_lt (filter_map added (activities J))
+
+-- the listed issues, by their bytes, retired ones too
+abbrev pub issues : Journal → List Cusip
+issues J = in_order issue_lt (map (λ l. l.issue) (filter_map listed (activities J)))
+
+-- the accounts: the corporation's and the members'
+abbrev pub accounts : Journal → List Account
+accounts J = 0 ∷ members J
+
+-- whether the number is a member's
+abbrev pub is_member : Journal → Member → Bool
+is_member J a = list_any (λ b. a == b) (members J)
+
+-- whether the account is there: the corporation's always is
+abbrev pub is_account : Journal → Account → Bool
+is_account J a = list_any (λ b. a == b) (accounts J)
+
+-- whether the issue is listed
+abbrev pub is_listed : Journal → Cusip → Bool
+is_listed J c = list_any (λ d. same_issue d c) (issues J)
+
+-- the price last set, by a listing or a PRICE; 0 before the issue is listed
+abbrev pub price : Journal → Cusip → Price
+price J c = option_map_or (λ l. l.price) (find (λ l. same_issue l.issue c) (filter_map priced (activities J))) 0
+
+-- whether the issue is retired for good; no command retires one yet
+abbrev pub is_retired : Journal → Cusip → Bool
+is_retired J c = false
+
+-- whether an accepted trade has the reference
+abbrev pub is_seen : Journal → ℕ → Bool
+is_seen J r = list_any (λ t. t.reference == r) (filter_map traded (activities J))

@@ -1,0 +1,77 @@
+-- The machine that keeps only the accepted activities and recomputes.
+use Rattle.std.specs.Prelude.{List, [], ◌∷◌, length, is_none, if◌then◌else◌}
+use Rattle.std.specs.Option.{option_map_or}
+use Rattle.cns_units.specs.declared.account.Account.{Account}
+use Rattle.cns_units.specs.declared.cusip.Cusip.{Cusip}
+use Rattle.cns_units.specs.declared.day.Day.{Day}
+use Rattle.cns_terms.specs.declared.command.Activity.{Activity}
+use Rattle.cns_terms.specs.declared.command.Activity.TheVariants as activity
+use Rattle.cns_terms.specs.declared.command.Command.{Command}
+use Rattle.cns_terms.specs.declared.command.Command.TheVariants as command
+use Rattle.cns_terms.specs.declared.holding.Holding.{Holding}
+use Rattle.cns_terms.specs.declared.reply.Reply.{Reply}
+use Rattle.cns_terms.specs.declared.reply.Reply.TheVariants as reply
+use Rattle.cns_terms.specs.Postings.{Journal}
+use Rattle.cns_terms.specs.Days.{day, date, last_close}
+use Rattle.cns_terms.specs.Positions.{position, money}
+use Rattle.cns_terms.specs.Ages.{age}
+use Rattle.cns_terms.specs.Entries.{journal}
+use Rattle.cns_terms.specs.Refusals.{refusal}
+use Rattle.cns_terms.specs.Sheets.{sheet_rows, statement, closed_on}
+
+-- the state: the opening date, and the accepted activities, the newest first
+pub record State : Type 0 where
+  pub opening : Day
+  pub accepted : List Activity
+
+-- a state in which nothing is accepted yet
+abbrev pub opened : Day → State
+opened d = record { opening = d; accepted = [] }
+
+-- what stands at a key
+abbrev pub holding : Journal → Account → Cusip → Holding
+holding J a c = record { now = position J a c; opening = position (last_close J) a c; contract = money J a c; run = age J a c }
+
+-- the reply to an activity that is not refused
+abbrev pub activity_reply : Day → Journal → Activity → Reply
+activity_reply opening J (activity.Close d) = reply.Closed (record {
+  day = day J;
+  date = date opening J;
+  rows = length (sheet_rows opening J);
+  liable = 0;
+})
+activity_reply opening J _ = reply.Accepted
+
+-- the reply to a command that is not refused
+abbrev pub command_reply : Day → Journal → Command → Reply
+command_reply opening J (command.Activity x) = activity_reply opening J x
+command_reply opening J (command.Position k) = reply.Held k (holding J k.account k.issue)
+command_reply opening J (command.Statement s) = reply.Stated (statement opening (closed_on opening J s.date) s.account)
+
+-- the reply to a command over accepted activities
+abbrev pub answer_to : Day → List Activity → Command → Reply
+answer_to opening L cmd = let J = journal opening L in option_map_or reply.Refused (refusal opening J cmd) (command_reply opening J cmd)
+
+-- the accepted activities after a command: a refused command and a query change nothing
+abbrev pub accepted_after : Day → List Activity → Command → List Activity
+accepted_after opening L (command.Activity x) = if is_none (refusal opening (journal opening L) (command.Activity x)) then x ∷ L else L
+accepted_after opening L (command.Position k) = L
+accepted_after opening L (command.Statement s) = L
+
+-- the reply to a command
+abbrev pub answer : State → Command → Reply
+answer S cmd = answer_to S.opening S.accepted cmd
+
+-- the state after a command
+abbrev pub next : State → Command → State
+next S cmd = record { opening = S.opening; accepted = accepted_after S.opening S.accepted cmd }
+
+-- the replies to commands, in order
+abbrev pub replies : State → List Command → List Reply
+replies S [] = []
+replies S (cmd ∷ cmds) = answer S cmd ∷ replies (next S cmd) cmds
+
+-- the state after commands, in order
+abbrev pub after : State → List Command → State
+after S [] = S
+after S (cmd ∷ cmds) = after (next S cmd) cmds

@@ -1,0 +1,66 @@
+-- The sheet of a closed day, and the statements cut from it.
+use Rattle.std.specs.Prelude.{ℕ, pos, Bool, not, ◌&&◌, List, [], map, filter, flat_map, find, unwrap_or, length}
+use Rattle.std.specs.Ordering.{int_eq}
+use Rattle.cns_units.specs.declared.account.Account.{Account}
+use Rattle.cns_units.specs.declared.cusip.Cusip.{Cusip}
+use Rattle.cns_units.specs.declared.day.Day.{Day}
+use Rattle.cns_units.specs.declared.price.Price.{Price}
+use Rattle.cns_terms.specs.declared.sheet.Row.{Row}
+use Rattle.cns_terms.specs.declared.reply.Stated.{Stated}
+use Rattle.cns_terms.specs.Sums.{total}
+use Rattle.cns_terms.specs.Postings.{Journal}
+use Rattle.cns_terms.specs.Days.{closings, last_close, at_close, date, is_same_day}
+use Rattle.cns_terms.specs.Positions.{position, money}
+use Rattle.cns_terms.specs.Listings.{accounts, issues, price}
+use Rattle.cns_terms.specs.Marks.{mark}
+use Rattle.cns_terms.specs.Dividends.{dividend}
+
+-- an account's row in an issue, at the close that found the journal so
+abbrev pub row : Day → Journal → Account → Cusip → Row
+row opening K a c = record {
+  account = a;
+  issue = c;
+  opening = position (last_close K) a c;
+  closing = position K a c;
+  opening_price = price (last_close K) c;
+  price = price K c;
+  money = money K a c;
+  mark = mark K a c;
+  dividend = dividend opening K a c;
+}
+
+-- whether a row says nothing
+abbrev pub is_idle : Row → Bool
+is_idle r = int_eq r.opening (pos 0) && int_eq r.closing (pos 0) && int_eq r.money (pos 0) && int_eq r.dividend (pos 0)
+
+-- the rows of an account, by issue
+abbrev pub rows_of : Day → Journal → Account → List Row
+rows_of opening K a = filter (λ r. not (is_idle r)) (map (row opening K a) (issues K))
+
+-- the rows of the sheet, by account and then by issue
+abbrev pub sheet_rows : Day → Journal → List Row
+sheet_rows opening K = flat_map (rows_of opening K) (accounts K)
+
+-- the price of each listed issue at a close, by the issue's bytes
+abbrev pub sheet_prices : Journal → List (Cusip × Price)
+sheet_prices K = map (λ c. (c, price K c)) (issues K)
+
+-- the statement of an account at a close: the count of its rows, and the sums of their marks and dividends
+abbrev pub statement : Day → Journal → Account → Stated
+statement opening K a =
+    let rs = rows_of opening K a in
+    record {
+      account = a;
+      date = date opening K;
+      rows = length rs;
+      mark = total (λ r. r.mark) rs;
+      dividend = total (λ r. r.dividend) rs;
+    }
+
+-- the statement of an account on a closed day
+abbrev pub statement_of : Day → Journal → ℕ → Account → Stated
+statement_of opening J i a = statement opening (at_close J i) a
+
+-- the journal as the close of the day with that date found it
+abbrev pub closed_on : Day → Journal → Day → Journal
+closed_on opening J d = unwrap_or (find (λ K. is_same_day (date opening K) d) (closings J)) []

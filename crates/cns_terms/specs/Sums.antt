@@ -1,0 +1,27 @@
+-- Sums, and lists in order.
+use Rattle.std.specs.Prelude.{ℕ, suc, ℤ, pos, negsuc, ◌+ℤ◌, Bool, List, [], ◌∷◌, bytes_eq, if◌then◌else◌}
+use Rattle.cns_units.specs.declared.cusip.Cusip.{Cusip}
+
+-- f of each, added up
+abbrev pub total : {X : Type 0} → (X → ℤ) → List X → ℤ
+total f [] = pos 0
+total f (x ∷ xs) = f x +ℤ total f xs
+
+-- how much a position is below 0
+abbrev pub short : ℤ → ℕ
+short (pos n) = 0
+short (negsuc n) = suc n
+
+-- whether two identifiers are the same
+abbrev pub same_issue : Cusip → Cusip → Bool
+same_issue = bytes_eq
+
+-- x put in its place among others that are in order
+abbrev pub put : {X : Type 0} → (X → X → Bool) → X → List X → List X
+put before x [] = x ∷ []
+put before x (y ∷ ys) = if before x y then x ∷ y ∷ ys else y ∷ put before x ys
+
+-- a list in order
+abbrev pub in_order : {X : Type 0} → (X → X → Bool) → List X → List X
+in_order before [] = []
+in_order before (x ∷ xs) = put before x (in_order before xs)

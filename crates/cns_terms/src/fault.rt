@@ -1,0 +1,15 @@
+// Want of memory.
+use std::alloc::AllocError;
+use std::convert::From;
+use thiserror::Error;
+
+/// A growth was refused, and nothing has changed.
+#[derive(Clone, Copy, Debug, PartialEq, Eq, Error)]
+#[error("out of memory")]
+pub struct NoMemory;
+
+impl From<AllocError> for NoMemory {
+    fn from(_refused: AllocError) -> NoMemory {
+        NoMemory
+    }
+}

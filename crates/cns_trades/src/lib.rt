@@ -1,0 +1,16 @@
+//! Trades and movements: what refuses one, what it books, and the references of trades.
+//!
+//! The checks look at plain facts that the book hands in, so each answers by the rules alone: the first refusal by
+//! number, or the two entries, whose shares and cents add up to zero. The references that accepted trades used are a
+//! set. Start with `Trades`.
+#![tactic(auto)]
+
+mod entries;
+mod facts;
+mod trades;
+
+pub use facts::{MoveFacts, TradeFacts};
+pub use trades::Trades;
+
+#[cfg(test)]
+mod tests;

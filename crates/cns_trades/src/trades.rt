@@ -1,0 +1,200 @@
+// The checks, and the references.
+ghost use Rattle.std.specs.Prelude.{◌≡◌, ℕ, ◌≤◌, ◌^◌, ◌||◌, ◌==◌, ◌+ℤ◌, OnOk, OnErr, IfOk, unsigned_abs, false, nat_lt, int_lt, neg_ℤ, pos};
+ghost use Rattle.std.specs.Option.{ForSome};
+ghost use Rattle.cns_terms.specs.Refusals.{is_beyond, is_exceeded};
+ghost use Rattle.cns_terms.specs.Sums.{short};
+ghost use Rattle.cns_trades.specs.References.{has};
+ghost use Rattle.cns_trades.specs.Checks.{delivery_answer, receipt_answer, trade_answer, AreSmallEntries};
+
+use crate::entries::{buyer_entry, moved_in, moved_out, seller_entry};
+use crate::facts::{MoveFacts, TradeFacts};
+use cns_terms::{Entry, Movement, NoMemory, Refusal, Trade};
+use cns_units::{Account, Shares};
+use std::alloc::Allocator;
+use std::collections::BTreeSet;
+use std::marker::Model;
+
+/// The references that accepted trades used, and the checks of trades and movements.
+#[derive(Drop)]
+pub struct Trades<A: Allocator + Drop> {
+    references: BTreeSet<u64, A>,
+}
+
+impl<A: Allocator + Drop> Model for Trades<A> {
+    ghost use Rattle.std.specs.Prelude.{List, ℕ};
+
+    ghost Value = { List ℕ };
+
+    ghost view = { λ t. t.references.keys };
+}
+
+const LARGEST: i64 = 10_000_000_000;
+
+// Whether a member's position is out of its limits.
+fn is_beyond(position: i64) -> bool
+    ensures { result ≡ is_beyond position }
+{
+    position > LARGEST || position < -LARGEST
+}
+
+// A position after the shares came in.
+fn moved(position: i64, shares: i64) -> i64
+    requires position_small { unsigned_abs position ≤ 10 ^ 10 }
+    requires shares_small { unsigned_abs shares ≤ 10 ^ 10 }
+    ensures { result ≡ position +ℤ shares }
+{
+    position + shares
+}
+
+// Whether a delivery is of more shares than the member is short.
+fn is_over_delivered(position: i64, shares: Shares) -> bool
+    ensures { result ≡ nat_lt (short position) shares }
+{
+    position > -(shares.value() as i64)
+}
+
+// Whether a receipt is of more shares than a long position has.
+fn is_exceeded(position: i64, shares: Shares) -> bool
+    ensures { result ≡ is_exceeded position shares }
+{
+    position > 0 && position < shares.value() as i64
+}
+
+// Whether fewer shares were delivered to the corporation than a receipt takes.
+fn is_not_on_hand(corporation: i64, shares: Shares) -> bool
+    ensures { result ≡ int_lt (neg_ℤ (pos shares)) corporation }
+{
+    corporation > -(shares.value() as i64)
+}
+
+impl<A: Allocator + Drop> Trades<A> {
+    /// No reference was used yet.
+    pub fn new(alloc: A) -> Self
+        ensures { (r : ℕ) → has result r ≡ false }
+    {
+        Trades {
+            references: BTreeSet::new(alloc),
+        }
+    }
+
+    /// Whether an accepted trade used the reference.
+    pub fn seen(&self, reference: u64) -> bool
+        ensures { result ≡ has self.now reference }
+    {
+        self.references.contains(&reference)
+    }
+
+    /// Uses a reference. Where memory is refused the references stay as they were.
+    pub fn note_reference(&mut self, reference: u64) -> Result<(), NoMemory>
+    where
+        A: Clone,
+        ensures ok { OnOk result ((r : ℕ) → has self.new r ≡ ((reference == r) || has self.old r)) }
+        ensures err { OnErr result (self.new ≡ self.old) }
+    {
+        let Ok(_) = self.references.insert(reference) else {
+            return Err(NoMemory);
+        };
+        Ok(())
+    }
+
+    /// The first refusal of a trade by number, or what it books for its buyer and its seller (NSCC Procedure VII: the
+    /// obligations of a trade net into the parties' positions). It takes no memory and uses no reference.
+    pub fn check_trade(&self, facts: &TradeFacts, trade: &Trade) -> Result<(Entry, Entry), Refusal>
+        requires buyer { ForSome facts.now.buyer (λ q. unsigned_abs q ≤ 10 ^ 10) }
+        requires seller { ForSome facts.now.seller (λ q. unsigned_abs q ≤ 10 ^ 10) }
+        ensures answer { result ≡ trade_answer facts.now (has self.now trade.now.reference) trade.now }
+        ensures small { IfOk result AreSmallEntries }
+    {
+        let (Some(buyer), Some(seller)) = (facts.buyer, facts.seller) else {
+            return Err(Refusal::NoSuchMember);
+        };
+        if !facts.listed {
+            return Err(Refusal::NoSuchIssue);
+        }
+        if facts.retired {
+            return Err(Refusal::Retired);
+        }
+        if trade.buyer == trade.seller {
+            return Err(Refusal::SameParty);
+        }
+        if trade.date != facts.today {
+            return Err(Refusal::WrongDay);
+        }
+        if self.seen(trade.reference) {
+            return Err(Refusal::SeenReference);
+        }
+        let bought = buyer_entry(trade);
+        let sold = seller_entry(trade);
+        if is_beyond(moved(buyer, bought.shares)) {
+            return Err(Refusal::TooLarge);
+        }
+        if is_beyond(moved(seller, sold.shares)) {
+            return Err(Refusal::TooLarge);
+        }
+        Ok((bought, sold))
+    }
+
+    /// The first refusal of a delivery by number, or what it books for the member and the corporation: the shares come
+    /// off the member's short, and the corporation owes them on (NSCC Rule 11). It takes no memory.
+    pub fn check_delivery(
+        &self,
+        facts: &MoveFacts,
+        movement: &Movement,
+    ) -> Result<(Entry, Entry), Refusal>
+        ensures answer { result ≡ delivery_answer facts.now movement.now }
+        ensures small { IfOk result AreSmallEntries }
+    {
+        let Some(position) = facts.member else {
+            return Err(Refusal::NoSuchMember);
+        };
+        if !facts.listed {
+            return Err(Refusal::NoSuchIssue);
+        }
+        if facts.retired {
+            return Err(Refusal::Retired);
+        }
+        if is_over_delivered(position, movement.shares) {
+            return Err(Refusal::ExceedsPosition);
+        }
+        let member = movement.member.account();
+        Ok((
+            moved_in(member, movement),
+            moved_out(Account::CORPORATION, movement),
+        ))
+    }
+
+    /// The first refusal of a receipt by number, or what it books for the member and the corporation: the shares come
+    /// off the member's long, out of those that were delivered to the corporation (NSCC Rule 11). It takes no memory.
+    pub fn check_receipt(
+        &self,
+        facts: &MoveFacts,
+        movement: &Movement,
+    ) -> Result<(Entry, Entry), Refusal>
+        ensures answer { result ≡ receipt_answer facts.now movement.now }
+        ensures small { IfOk result AreSmallEntries }
+    {
+        let Some(position) = facts.member else {
+            return Err(Refusal::NoSuchMember);
+        };
+        if !facts.listed {
+            return Err(Refusal::NoSuchIssue);
+        }
+        if facts.retired {
+            return Err(Refusal::Retired);
+        }
+        if is_exceeded(position, movement.shares) {
+            return Err(Refusal::ExceedsPosition);
+        }
+        if is_not_on_hand(facts.corporation, movement.shares) {
+            return Err(Refusal::NotOnHand);
+        }
+        if position <= 0 {
+            return Err(Refusal::NotLong);
+        }
+        let member = movement.member.account();
+        Ok((
+            moved_out(member, movement),
+            moved_in(Account::CORPORATION, movement),
+        ))
+    }
+}

@@ -1,0 +1,42 @@
+-- No two days have the same number.
+use Rattle.std.proofs.Common.{◌≡◌, ℕ, ◌≤◌, ℤ, pos, Bool, true, false, ◌&&◌, nat_le, nat_eq, unsigned_abs, refl, sym, ap, ◌∙◌, arith}
+use Rattle.std.proofs.lemmas.Bool.{eqb-true, eq-eqb}
+use Rattle.std.proofs.lemmas.Bool.Decides.{nat_tests, Decides-int_eq}
+use Rattle.std.proofs.lemmas.Int.{ints}
+use Rattle.std.specs.Ordering.{int_eq}
+use Rattle.jiff_core.specs.declared.civil.date.Date.{Date}
+use Rattle.jiff_core.specs.Calendar.{days_in_month}
+use Rattle.jiff_core.proofs.DateLemmas.{epoch_day_injective}
+use Rattle.cns_units.specs.Day.{CalendarDay, day_number, is_calendar_day}
+
+-- the bounds that make up a day of the calendar
+valid_parts : (y m d n : ℕ) → (nat_le 1 y && nat_le y 9999 && nat_le 1 m && nat_le m 12 && nat_le 1 d && nat_le d n) ≡ true → (1 ≤ y) × (y ≤ 9999) × (1 ≤ m) × (m ≤ 12) × (1 ≤ d) × (d ≤ n)
+valid_parts y m d n h = grind (arith, nat_tests, h)
+
+-- the library's date of a day
+date_of : (c : CalendarDay) → is_calendar_day c.year c.month c.day ≡ true → Date
+date_of c h =
+    let p = valid_parts c.year c.month c.day (days_in_month (pos c.year) c.month) h in
+    record { year = pos c.year; month = c.month; day = c.day; year_in = (omega (arith, ints), omega (arith, ints)); month_in = (p.2, p.3); day_in = (p.4, p.5) }
+
+-- the test of two numbers, where the numbers differ
+apart : (x y : ℤ) → (x ≡ y → ⊥) → (b : Bool) → int_eq x y ≡ b → false ≡ b
+apart x y h true e = absurd (h ((Decides-int_eq x y).0 e))
+apart x y h false e = refl
+
+-- days whose parts differ have different numbers
+pub differ : (a b : CalendarDay) → is_calendar_day a.year a.month a.day ≡ true → is_calendar_day b.year b.month b.day ≡ true
+    → ((a.year ≡ b.year) × (a.month ≡ b.month) × (a.day ≡ b.day) → ⊥) → false ≡ int_eq (day_number a) (day_number b)
+unfolding date_of
+differ a b p q h = apart (day_number a) (day_number b) (λ e. let same = epoch_day_injective (date_of a p) (date_of b q) e in h (ap unsigned_abs same.0, same.1, same.2)) _ refl
+
+-- the test of two years, where the other parts agree
+years_of : (b : Bool) (x y m d m' d' : ℕ) → nat_eq x y ≡ b → is_calendar_day x m d ≡ true → is_calendar_day y m' d' ≡ true → m ≡ m' → d ≡ d' → b ≡ int_eq (day_number (record { year = x; month = m; day = d })) (day_number (record { year = y; month = m'; day = d' }))
+years_of true x y m d m' d' e p q em ed =
+    let z : ℤ = day_number (record { year = x; month = m; day = d }) in
+    rw (← eqb-true x y e, ← em, ← ed) (sym ((Decides-int_eq z z).1 refl))
+years_of false x y m d m' d' e p q em ed = differ (record { year = x; month = m; day = d }) (record { year = y; month = m'; day = d' }) p q (λ same. absurd (cc (e, eq-eqb x y same.0)))
+
+pub years_test : (a b : CalendarDay) → is_calendar_day a.year a.month a.day ≡ true → is_calendar_day b.year b.month b.day ≡ true
+    → a.month ≡ b.month → a.day ≡ b.day → nat_eq a.year b.year ≡ int_eq (day_number a) (day_number b)
+years_test a b p q m d = years_of _ a.year b.year a.month a.day b.month b.day refl p q m d

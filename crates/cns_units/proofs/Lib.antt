@@ -1,0 +1,4 @@
+pub mod OutputLemmas
+pub mod CusipLemmas
+pub mod CentsLemmas
+pub mod DayLemmas

@@ -1,0 +1,51 @@
+-- One text after another, written to one writer.
+use Rattle.std.proofs.Common.{◌<◌, get_or, add-one, drop-cons, ◌≡◌, ℕ, ◌+◌, ◌-◌, ◌≤◌, List, [], ◌∷◌, ◌++◌, Option, Some, None, Result, Ok, Err, refl, sym, ap, ◌∙◌, append_assoc, append-nil, arith, length, take, drop, take-append-drop, length-drop}
+use Rattle.std.proofs.Math.Seq.{take-add, take-length}
+use Rattle.std.proofs.lemmas.List.{drop_all}
+use Rattle.std.specs.List.{flat_map}
+use Rattle.std.specs.Io.KnownBytes.{Appends, Keeps}
+use Rattle.std.proofs.KnownBytes.{Appends-trans}
+use Rattle.cns_units.specs.Output.{AppendsFront, Writes}
+
+pub front_longer : (old new : Option (List ℕ)) (a b : List ℕ) → AppendsFront old new a → AppendsFront old new (a ++ b)
+front_longer old new a b w = record { front = w.front; rest = w.rest ++ b; whole = ap (λ l. l ++ b) w.whole ∙ append_assoc w.front w.rest b; appended = w.appended }
+
+pub front_later : (old mid new : Option (List ℕ)) (a b : List ℕ) → Appends old mid a → AppendsFront mid new b → AppendsFront old new (a ++ b)
+front_later old mid new a b first w = record { front = a ++ w.front; rest = w.rest; whole = ap (λ l. a ++ l) w.whole ∙ sym (append_assoc a w.front w.rest); appended = Appends-trans old mid new a w.front first w.appended }
+
+-- a text that was written, and then what the last call did
+pub writes_then : {T E : Type 0} (old mid new : Option (List ℕ)) (a b : List ℕ) (r : Result T E) → Appends old mid a → Writes mid new b r → Writes old new (a ++ b) r
+writes_then old mid new a b (Ok x) first last = Appends-trans old mid new a b first last
+writes_then old mid new a b (Err e) first last = front_later old mid new a b first last
+
+-- the first bytes of a text, which a writer took
+pub appends_front : (old new : Option (List ℕ)) (n : ℕ) (text : List ℕ) → Appends old new (take n text) → AppendsFront old new text
+appends_front old new n text h = record { front = take n text; rest = drop n text; whole = sym (take-append-drop n text); appended = h }
+
+appends_kept : (old mid new : Option (List ℕ)) (a : List ℕ) → Appends old mid a → Keeps mid new → Appends old new a
+appends_kept None mid new a p q = tt
+appends_kept (Some x) None new a p q = absurd p
+appends_kept (Some x) (Some y) None a p q = absurd q
+appends_kept (Some x) (Some y) (Some z) a p q = q ∙ p
+
+-- the part of the text from a place on
+rest_is : (bs : List ℕ) (at : ℕ) → take (length bs - at) (drop at bs) ≡ drop at bs
+rest_is bs at = ap (λ k. take k (drop at bs)) (sym (length-drop at bs)) ∙ take-length (drop at bs)
+
+-- one more call of `write`
+pub took_more : (old mid new : Option (List ℕ)) (bs : List ℕ) (at n : ℕ) → at ≤ length bs → n ≤ length (take (length bs - at) (drop at bs))
+    → Appends old mid (take at bs) → Appends mid new (take n (take (length bs - at) (drop at bs))) → (at + n ≤ length bs) × Appends old new (take (at + n) bs)
+took_more old mid new bs at n le bound a b =
+    let bound' : n ≤ length (drop at bs) = rw rest_is at bound in
+    let b' : Appends mid new (take n (drop at bs)) = rw rest_is at b in
+    (omega (arith, length-drop at bs), rw (take-add at n bs) (Appends-trans old mid new (take at bs) (take n (drop at bs)) a b'))
+
+take_none : (xs : List ℕ) → take 0 xs ≡ []
+take_none [] = refl
+take_none (x ∷ xs) = refl
+
+pub took_none : (old mid new : Option (List ℕ)) (bs xs : List ℕ) (at n : ℕ) → n ≡ 0 → Appends old mid (take at bs) → Appends mid new (take n xs) → AppendsFront old new bs
+took_none old mid new bs xs at n zero a b = appends_front old new at bs (rw append-nil at (Appends-trans old mid new (take at bs) [] a (rw (zero, take_none) at b)))
+
+pub took_failed : (old mid new : Option (List ℕ)) (bs : List ℕ) (at : ℕ) → Appends old mid (take at bs) → Keeps mid new → AppendsFront old new bs
+took_failed old mid new bs at a b = appends_front old new at bs (appends_kept old mid new (take at bs) a b)

@@ -1,0 +1,5 @@
+pub mod Ranges
+pub mod Cents
+pub mod Cusip
+pub mod Day
+pub mod Output

@@ -1,0 +1,91 @@
+ghost use Rattle.std.specs.Prelude.{◌≡◌, ℕ, ◌+◌, ◌≤◌, ◌*◌, List, length, Bool, Option};
+ghost use Rattle.cns_units.specs.Cusip.{character_value, weight, sum_of, cusip_of, IsCusip};
+
+use crate::fault::UnitFault;
+use std::marker::Model;
+
+/// The number of a security, with its check digit.
+#[derive(Clone, Copy, Debug, PartialEq, Eq, PartialOrd, Ord)]
+pub struct Cusip {
+    text: [u8; 9],
+}
+
+impl Model for Cusip {
+    ghost Value = { List ℕ };
+
+    ghost view = { λ c. c.text };
+
+    ghost invariant = { λ c. IsCusip c.text };
+
+    ghost inverse = { λ bytes. record { text = bytes } };
+}
+
+fn value_of(character: u8) -> Option<u8>
+    ensures { result ≡ character_value character }
+{
+    match character {
+        b'0'..=b'9' => Some(character - b'0'),
+        b'A'..=b'Z' => Some(character - b'A' + 10),
+        b'*' => Some(36),
+        b'@' => Some(37),
+        b'#' => Some(38),
+        _ => None,
+    }
+}
+
+fn weight_of(is_doubled: bool, value: u8) -> u32
+    requires { value ≤ 38 }
+    ensures exact { result ≡ weight is_doubled value }
+    ensures small { result ≤ 20 }
+{
+    let shown = if is_doubled {
+        u32::from(value) * 2
+    } else {
+        u32::from(value)
+    };
+    shown / 10 + shown % 10
+}
+
+// The sum over the first eight characters.
+fn body_sum(body: &[u8]) -> Option<u32>
+    requires { length body.now ≤ 8 }
+    ensures { result ≡ sum_of Bool.false body.now }
+{
+    let mut sum = 0;
+    let mut is_doubled = false;
+    for character in body {
+        let value = value_of(*character)?;
+        sum += weight_of(is_doubled, value);
+        is_doubled = !is_doubled;
+    }
+    Some(sum)
+}
+
+impl Cusip {
+    /// Reads a CUSIP. The faults come in the order length, character, check digit.
+    pub fn parse(bytes: &[u8]) -> Result<Cusip, UnitFault>
+        ensures { result ≡ cusip_of bytes.now }
+    {
+        let Ok(text) = <[u8; 9]>::try_from(bytes) else {
+            return Err(UnitFault::Length);
+        };
+        let Some(sum) = body_sum(&text[..8]) else {
+            return Err(UnitFault::Character);
+        };
+        if !text[8].is_ascii_digit() {
+            return Err(UnitFault::Character);
+        }
+        if u32::from(text[8] - b'0') != (10 - sum % 10) % 10 {
+            return Err(UnitFault::CheckDigit);
+        }
+        Ok(Cusip { text })
+    }
+
+    /// The nine characters.
+    pub fn bytes(&self) -> &[u8]
+        ensures text { result.now ≡ self.now }
+        ensures valid { IsCusip self.now }
+    {
+        &self.text
+    }
+}

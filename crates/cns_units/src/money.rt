@@ -1,0 +1,113 @@
+// Amounts of money, in whole cents.
+ghost use Rattle.std.specs.Prelude.{◌≡◌, ◌^◌, ◌≤◌, Ok};
+ghost use Rattle.cns_units.specs.Ranges.{within};
+ghost use Rattle.cns_units.specs.Output.{Writes};
+ghost use Rattle.cns_units.specs.Cents.{amount_text, cents_text};
+
+use crate::fault::{UnitFault, WriteFault};
+use crate::output::write_bytes;
+use itoa::Buffer;
+use std::io::Write;
+use std::marker::Model;
+
+const MOST: u64 = 1_000_000_000_000_000_000;
+
+/// The money of one command, in whole cents from 0 to 10^18 (this project's profile).
+#[derive(Clone, Copy, Debug, PartialEq, Eq, PartialOrd, Ord)]
+pub struct Money {
+    cents: u64,
+}
+
+impl Model for Money {
+    ghost use Rattle.std.specs.Prelude.{ℕ, ◌≤◌, ◌^◌};
+
+    ghost Value = { ℕ };
+
+    ghost view = { λ m. m.cents };
+
+    ghost invariant = { λ m. m.cents ≤ 10 ^ 18 };
+
+    ghost inverse = { λ n. record { cents = n } };
+}
+
+impl Money {
+    /// That many cents. `OutOfRange` above 10^18.
+    pub fn new(cents: u64) -> Result<Money, UnitFault>
+        ensures { result ≡ within 0 (10 ^ 18) cents }
+    {
+        if cents > MOST {
+            return Err(UnitFault::OutOfRange);
+        }
+        Ok(Money { cents })
+    }
+
+    /// The amount in cents.
+    pub fn value(self) -> u64
+        ensures value { result ≡ self }
+        ensures range { self ≤ 10 ^ 18 }
+    {
+        self.cents
+    }
+}
+
+/// An amount of whole cents that the book has reckoned, of either sign.
+#[derive(Clone, Copy, Debug, PartialEq, Eq, PartialOrd, Ord)]
+pub struct Cents {
+    amount: i128,
+}
+
+impl Model for Cents {
+    ghost use Rattle.std.specs.Prelude.{ℤ};
+
+    ghost Value = { ℤ };
+
+    ghost view = { λ c. c.amount };
+
+    ghost inverse = { λ n. record { amount = n } };
+}
+
+impl Cents {
+    /// That many cents. Each amount is accepted.
+    pub fn new(amount: i128) -> Result<Cents, UnitFault>
+        ensures { result ≡ Ok amount }
+    {
+        Ok(Cents { amount })
+    }
+
+    /// The amount in cents.
+    pub fn value(self) -> i128
+        ensures { result ≡ self }
+    {
+        self.amount
+    }
+}
+
+// Dollars, a point and two digits.
+fn write_amount<W: Write>(cents: u128, writer: &mut W) -> Result<(), WriteFault>
+    ensures { Writes (W.contents writer.old) (W.contents writer.new) (amount_text cents) result }
+{
+    let mut dollars = Buffer::new();
+    write_bytes(dollars.format(cents / 100).as_bytes(), writer)?;
+    let tens = b'0' + (cents % 100 / 10) as u8;
+    let units = b'0' + (cents % 10) as u8;
+    write_bytes(&[b'.', tens, units], writer)
+}
+
+// The same after a minus sign, where the amount is negative.
+fn write_signed<W: Write>(cents: i128, writer: &mut W) -> Result<(), WriteFault>
+    ensures { Writes (W.contents writer.old) (W.contents writer.new) (cents_text cents) result }
+{
+    if cents < 0 {
+        write_bytes(b"-", writer)?;
+    }
+    write_amount(cents.unsigned_abs(), writer)
+}
+
+/// Writes an amount of cents as a minus sign where it is negative, the dollars, a point and two digits, as `-0.01`.
+///
+/// Where the writer fails or takes no byte it answers `WriteFault`, and a front of that text was written.
+pub fn write_cents<W: Write>(cents: Cents, writer: &mut W) -> Result<(), WriteFault>
+    ensures { Writes (W.contents writer.old) (W.contents writer.new) (cents_text cents) result }
+{
+    write_signed(cents.amount, writer)
+}

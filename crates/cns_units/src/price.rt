@@ -1,0 +1,48 @@
+// Prices.
+ghost use Rattle.std.specs.Prelude.{◌≡◌, ◌^◌, ◌≤◌};
+ghost use Rattle.cns_units.specs.Ranges.{within};
+
+use crate::fault::UnitFault;
+use std::marker::Model;
+
+const MOST: u64 = 1_000_000_000;
+
+/// The price of one share, in whole cents from 0 to 1,000,000,000 (this project's profile).
+#[derive(Clone, Copy, Debug, PartialEq, Eq, PartialOrd, Ord)]
+pub struct Price {
+    cents: u32,
+}
+
+impl Model for Price {
+    ghost use Rattle.std.specs.Prelude.{ℕ, ◌≤◌, ◌^◌};
+
+    ghost Value = { ℕ };
+
+    ghost view = { λ p. p.cents };
+
+    ghost invariant = { λ p. p.cents ≤ 10 ^ 9 };
+
+    ghost inverse = { λ n. record { cents = n } };
+}
+
+impl Price {
+    /// A price of that many cents. `OutOfRange` above 1,000,000,000.
+    pub fn new(cents: u64) -> Result<Price, UnitFault>
+        ensures { result ≡ within 0 (10 ^ 9) cents }
+    {
+        if cents > MOST {
+            return Err(UnitFault::OutOfRange);
+        }
+        Ok(Price {
+            cents: cents as u32,
+        })
+    }
+
+    /// The price in cents.
+    pub fn value(self) -> u64
+        ensures value { result ≡ self }
+        ensures range { self ≤ 10 ^ 9 }
+    {
+        u64::from(self.cents)
+    }
+}
