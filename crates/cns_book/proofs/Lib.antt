@@ -4,3 +4,4 @@ pub mod Entered
 pub mod Booking
 pub mod Trading
 pub mod Moving
+pub mod Taking

@@ -1,3 +1,5 @@
 pub mod Contents
 pub mod Follows
+pub mod Legal
+pub mod Log
 pub mod Shown

@@ -8,9 +8,11 @@
 #![tactic(auto)]
 
 
+mod book;
 mod members;
 mod parts;
 mod receipt;
 
 
+pub use book::Book;
 pub use receipt::{Receipt, TakeFault};

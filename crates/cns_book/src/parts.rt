@@ -80,6 +80,13 @@ impl<P: Positions<A>, A: Allocator + Drop + Clone> Parts<P, A> {
         self.today
     }
 
+    /// The open day's number, from 1.
+    pub fn day(&self) -> u64
+        ensures { (L : List Activity) → Follows L self.now → result ≡ day (journal self.now.opening L) }
+    {
+        u64::from(self.closes) + 1
+    }
+
     // Whether the account is there: the corporation's always is.
     fn is_account(&self, account: Account) -> bool
         ensures { (L : List Activity) → Follows L self.now → result ≡ is_account (journal self.now.opening L) account }
@@ -148,6 +155,36 @@ impl<P: Positions<A>, A: Allocator + Drop + Clone> Parts<P, A> {
         match self.position_refusal(*key) {
             Some(refusal) => Reply::Refused(refusal),
             None => Reply::Held(*key, self.standing(*key)),
+        }
+    }
+
+    // An activity, refused or accepted.
+    fn act(&mut self, activity: &Activity) -> Result<Reply, NoMemory>
+        requires { HasRoom self.old }
+        ensures opening { self.new.opening ≡ self.old.opening }
+        ensures step { (L : List Activity) → Follows L self.old → length L + 1 < 2 ^ 32 → Steps L (command.Activity activity.now) result self.new }
+    {
+        match activity {
+            Activity::Member(member) => self.add_member(*member),
+            Activity::Issue(listing) => self.list_issue(*listing),
+            Activity::Trade(trade) => self.book_trade(trade),
+            Activity::Price(listing) => Ok(self.set_price(*listing)),
+            Activity::Deliver(movement) => self.deliver(movement),
+            Activity::Receive(movement) => self.receive(movement),
+            Activity::Close(_) => Err(NoMemory),
+        }
+    }
+
+    /// The reply to a command, and what it does.
+    pub fn answer(&mut self, command: &Command) -> Result<Reply, NoMemory>
+        requires { HasRoom self.old }
+        ensures opening { self.new.opening ≡ self.old.opening }
+        ensures step { (L : List Activity) → Follows L self.old → length L + 1 < 2 ^ 32 → Steps L command.now result self.new }
+    {
+        match command {
+            Command::Activity(activity) => self.act(activity),
+            Command::Position(key) => Ok(self.position(*key)),
+            Command::Statement(_) => Err(NoMemory),
         }
     }
 }

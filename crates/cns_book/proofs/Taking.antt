@@ -1,0 +1,111 @@
+-- One command more in the history.
+use Rattle.std.proofs.Common.{◌≡◌, ◌∙◌, sym, ap, subst, refl, ℕ, suc, ◌+◌, ◌-◌, ◌*◌, ◌^◌, ◌≤◌, ◌<◌, Bool, true, false, cond, eqb, List, [], ◌∷◌, ◌++◌, length, set, get_or, reverse, Ok, arith}
+use Rattle.std.proofs.lemmas.List.{reverse-append, get_or-set_other}
+use Rattle.std.proofs.lemmas.List.Sums.{sum_by-cons}
+use Rattle.std.proofs.lemmas.Grind.{get_or-set_at}
+use Rattle.std.proofs.lemmas.Bool.Decides.{nat_tests}
+use Rattle.cns_units.specs.declared.day.Day.{Day}
+use Rattle.cns_terms.specs.declared.command.Activity.{Activity}
+use Rattle.cns_terms.specs.declared.command.Command.{Command}
+use Rattle.cns_terms.specs.declared.command.Command.TheVariants as command
+use Rattle.cns_terms.specs.declared.reply.Reply.{Reply}
+use Rattle.cns_terms.specs.declared.history.Taken.{Taken}
+use Rattle.cns_terms.specs.declared.worker.Worker.{Worker}
+use Rattle.cns_terms.specs.Postings.{Journal}
+use Rattle.cns_terms.specs.Days.{closes, closings, is_close}
+use Rattle.cns_terms.specs.Entries.{journal}
+use Rattle.cns_terms.specs.History.{accepted, count, IsLegal}
+use Rattle.cns_terms.specs.Machine.{accepted_after, answer_to}
+use Rattle.cns_book.specs.Contents.{Contents}
+use Rattle.cns_book.specs.Follows.{Follows, Steps, HasRoom}
+use Rattle.cns_book.specs.Legal.{IsBook}
+
+one_more : (b : Bool) (x : Activity) (L : List Activity) (n : ℕ) → length L ≤ n → length (cond b (x ∷ L) L) ≤ suc n
+one_more true x L n h = omega (arith, h)
+one_more false x L n h = omega (arith, h)
+
+next_le : (opening : Day) (L : List Activity) (cmd : Command) (n : ℕ) → length L ≤ n → length (accepted_after opening L cmd) ≤ suc n
+next_le opening L (command.Activity x) n h = one_more _ x L n h
+next_le opening L (command.Position k) n h = omega (arith, h)
+next_le opening L (command.Statement s) n h = omega (arith, h)
+
+-- no more activities than commands
+pub accepted_le : (opening : Day) (H : List Taken) → length (accepted opening H) ≤ length H
+accepted_le opening [] = omega arith
+accepted_le opening (t ∷ H) = next_le opening (accepted opening H) t.command (length H) (accepted_le opening H)
+
+prefix_le : (b : Bool) (J : Journal) → length (closings J) ≤ length J → length (cond b (J ∷ closings J) (closings J)) ≤ suc (length J)
+prefix_le true J h = omega (arith, h)
+prefix_le false J h = omega (arith, h)
+
+-- no more closes than postings
+pub closes_le : (J : Journal) → closes J ≤ length J
+closes_le [] = omega arith
+closes_le (p ∷ J) = prefix_le (is_close p.activity) J (closes_le J)
+
+-- a posting for each activity
+pub journal_len : (opening : Day) (L : List Activity) → length (journal opening L) ≡ length L
+journal_len opening [] = refl
+journal_len opening (x ∷ L) = ap suc (journal_len opening L)
+
+closes_few : (opening : Day) (L : List Activity) (closes n limit : ℕ) → closes ≤ length (journal opening L) → length L ≤ n → n < limit → limit < 2 ^ 32 → closes + 1 < 2 ^ 32
+closes_few opening L closes n limit a b c d = omega (arith, a, b, c, d, journal_len opening L)
+
+more_shares : (a n m : ℕ) → a ≤ 10 ^ 9 * n → n ≤ m → m < 2 ^ 32 → a ≤ 10 ^ 9 * 2 ^ 32
+more_shares a n m p q r = omega (arith, p, q, r)
+
+more_cents : (a n m : ℕ) → a ≤ 10 ^ 18 * n → n ≤ m → m < 2 ^ 32 → a ≤ 10 ^ 18 * 2 ^ 32
+more_cents a n m p q r = omega (arith, p, q, r)
+
+-- below its limit a book has room for one command more
+pub has_room : (limit : ℕ) (H : List Taken) (counts : List ℕ) (s : Contents) → IsBook limit H counts s → length H < limit → HasRoom s
+has_room limit H counts s b few =
+    let L = accepted s.opening H in
+    let f = b.follows in
+    let m = accepted_le s.opening H in
+    record {
+      closes = closes_few s.opening L s.closes (length H) limit (subst (λ n. n ≤ length (journal s.opening L)) (sym f.closes) (closes_le (journal s.opening L))) m few b.limited;
+      rows = record {
+        members = f.small.members;
+        shares = λ k. more_shares _ (length L) (length H) (f.small.shares k) m (omega (arith, few, b.limited));
+        cents = λ k. more_cents _ (length L) (length H) (f.small.cents k) m (omega (arith, few, b.limited));
+      };
+    }
+
+-- a command that found no memory
+pub book_stays : (limit : ℕ) (H : List Taken) (counts : List ℕ) (s s' : Contents) → IsBook limit H counts s → s'.opening ≡ s.opening → Follows (accepted s.opening H) s' → IsBook limit H counts s'
+book_stays limit H counts s s' b same f = record {
+  few = b.few;
+  limited = b.limited;
+  legal = subst (λ o. IsLegal o H) (sym same) b.legal;
+  counted = b.counted;
+  follows = subst (λ o. Follows (accepted o H) s') (sym same) f;
+}
+
+counted_one : (w v : Worker) (counts : List ℕ) (n : ℕ) (b : Bool) → eqb w v ≡ b → 1 ≤ w → 1 ≤ v → w ≤ length counts → get_or counts (v - 1) 0 ≡ n → get_or counts (w - 1) 0 + 1 ≡ suc (get_or counts (w - 1) 0) → get_or (set counts (w - 1) (get_or counts (w - 1) 0 + 1)) (v - 1) 0 ≡ cond b 1 0 + n
+counted_one w v counts n true e p q r is _ =
+    let same : w ≡ v = grind (arith, nat_tests) in
+    get_or-set_at counts (w - 1) (v - 1) (get_or counts (w - 1) 0 + 1) 0 (omega arith) (omega arith) ∙ ap (λ k. get_or counts (k - 1) 0 + 1) same ∙ ap (λ k. k + 1) is ∙ (omega arith)
+counted_one w v counts n false e p q r is _ =
+    get_or-set_other counts (w - 1) (v - 1) (get_or counts (w - 1) 0 + 1) 0 (λ same. apart (omega arith)) ∙ is ∙ (omega arith)
+  where
+    apart : w ≡ v → ⊥
+    apart h = grind (arith, nat_tests)
+
+-- a command that was taken
+pub book_grows : (limit : ℕ) (H : List Taken) (counts : List ℕ) (s s' : Contents) (w : Worker) (cmd : Command) (r : Reply) → IsBook limit H counts s → length H < limit → 1 ≤ w → w ≤ 64 → length counts ≡ 64 → s'.opening ≡ s.opening → Steps (accepted s.opening H) cmd (Ok r) s'
+    → IsBook limit (record { worker = w; seq = get_or counts (w - 1) 0 + 1; command = cmd; reply = r } ∷ H) (set counts (w - 1) (get_or counts (w - 1) 0 + 1)) s'
+book_grows limit H counts s s' w cmd r b few low high len same step = record {
+  few = omega (arith, few);
+  limited = b.limited;
+  legal = subst (λ o. (r ≡ answer_to s'.opening (accepted o H) cmd) × (get_or counts (w - 1) 0 + 1 ≡ (count H w + 1)) × IsLegal o H) (sym same) (step.0, ap (λ n. n + 1) (b.counted w low high), b.legal);
+  counted = λ v p q. counted_one w v counts (count H v) (eqb w v) refl low p (omega arith) (b.counted v p q) (omega arith) ∙ sym (sum_by-cons (λ (t : Taken). cond (eqb t.worker v) 1 0) (record { worker = w; seq = get_or counts (w - 1) 0 + 1; command = cmd; reply = r }) H);
+  follows = subst (λ o. Follows (accepted_after s'.opening (accepted o H) cmd) s') (sym same) step.1;
+}
+
+-- the history's newest entry is the vector's last
+pub reverse_push : {X : Type 0} (xs : List X) (x : X) → reverse (xs ++ x ∷ []) ≡ x ∷ reverse xs
+reverse_push xs x = reverse-append xs (x ∷ [])
+
+pub room_below : (opening : Day) (H : List Taken) (limit : ℕ) → length H < limit → limit < 2 ^ 32 → length (accepted opening H) + 1 < 2 ^ 32
+room_below opening H limit a b = omega (arith, accepted_le opening H, a, b)

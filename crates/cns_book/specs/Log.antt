@@ -1,0 +1,34 @@
+-- What contracts see of a book, and what a command does to it.
+use Rattle.std.specs.Prelude.{◌≡◌, ℕ, ◌+◌, List, [], ◌∷◌, length}
+use Rattle.cns_units.specs.declared.day.Day.{Day}
+use Rattle.cns_terms.specs.declared.command.Command.{Command}
+use Rattle.cns_terms.specs.declared.history.Taken.{Taken}
+use Rattle.cns_terms.specs.declared.worker.Worker.{Worker}
+use Rattle.cns_terms.specs.History.{count, state}
+use Rattle.cns_terms.specs.Machine.{State, answer}
+use Rattle.cns_book.specs.declared.receipt.Receipt.{Receipt}
+
+-- a book: its opening date, the most commands that it takes, and its history, the newest first
+pub record Log : Type 0 where
+  pub opening : Day
+  pub limit : ℕ
+  pub history : List Taken
+
+-- a book that has taken nothing yet
+abbrev pub empty_log : Day → ℕ → Log
+empty_log opening limit = record { opening = opening; limit = limit; history = [] }
+
+-- the state of the machine after a book's history
+abbrev pub state_of : Log → State
+state_of b = state b.opening b.history
+
+-- a book with one entry more
+abbrev pub with_taken : Log → Taken → Log
+with_taken b t = record { opening = b.opening; limit = b.limit; history = t ∷ b.history }
+
+-- a command was taken: the reply is the machine's, and the history has that entry more
+pub record TakesStep (old new : Log) (worker : Worker) (command : Command) (receipt : Receipt) : Type 0 where
+  pub index : receipt.index ≡ length old.history + 1
+  pub seq : receipt.seq ≡ count old.history worker + 1
+  pub reply : receipt.reply ≡ answer (state_of old) command
+  pub after : new ≡ with_taken old (record { worker = worker; seq = receipt.seq; command = command; reply = receipt.reply })

@@ -1,0 +1,151 @@
+// The book over its history.
+ghost use Rattle.std.specs.Prelude.{◌≡◌, ◌-◌, ◌^◌, ◌↔◌, length, IfOk, OnErr, Err, replicate};
+ghost use Rattle.cns_terms.specs.Days.{date, day};
+ghost use Rattle.cns_terms.specs.History.{count};
+ghost use Rattle.cns_terms.specs.Laws.{journal_of};
+ghost use Rattle.cns_book.specs.Shown.{entry_at, shown};
+ghost use Rattle.cns_book.specs.Log.{TakesStep, empty_log, state_of};
+
+use crate::parts::Parts;
+use crate::receipt::{Receipt, TakeFault};
+use cns_positions::Positions;
+use cns_terms::{Command, Holding, Key, NoMemory, Taken, Worker};
+use cns_units::{Account, Cusip, Day};
+use std::alloc::Allocator;
+use std::marker::Model;
+
+/// A book over any form of positions. Contracts see its opening date, its limit and its history, the newest first.
+///
+/// The type keeps that the history is legal, that each reply in it is the machine's, and that every part shows what
+/// the definitions say of the accepted activities.
+#[derive(Drop)]
+pub struct Book<P: Positions<A>, A: Allocator + Drop> {
+    limit: u32,
+    history: Vec<Taken, A>,
+    counts: [u32; 64],
+    parts: Parts<P, A>,
+}
+
+impl<P: Positions<A>, A: Allocator + Drop> Model for Book<P, A> {
+    ghost use Rattle.std.specs.Prelude.{reverse};
+    ghost use Rattle.cns_book.specs.Legal.{IsBook};
+    ghost use Rattle.cns_book.specs.Log.{Log};
+
+    ghost Value = { Log };
+
+    ghost view = { λ b. record { opening = b.parts.opening; limit = b.limit; history = reverse b.history.items } };
+
+    ghost invariant = { λ b. IsBook b.limit (reverse b.history.items) b.counts b.parts };
+}
+
+impl<P: Positions<A>, A: Allocator + Drop + Clone> Book<P, A> {
+    /// A book that has taken nothing, opened on the date, for as many commands as a history may have: 4,294,967,295.
+    /// `NoMemory` where the allocator could not be copied.
+    pub fn new(alloc: A, date: Day) -> Result<Self, NoMemory>
+        ensures { IfOk result (λ b. b ≡ empty_log date (2 ^ 32 - 1)) }
+    {
+        Book::with_limit(alloc, date, u32::MAX)
+    }
+
+    /// A book that has taken nothing, opened on the date, for at most that many commands.
+    pub fn with_limit(alloc: A, date: Day, limit: u32) -> Result<Self, NoMemory>
+        ensures { IfOk result (λ b. b ≡ empty_log date limit) }
+    {
+        Ok(Book {
+            limit,
+            history: Vec::new(alloc.clone()?),
+            counts: no_counts(),
+            parts: Parts::new(alloc, date)?,
+        })
+    }
+
+    /// The open day's date: what the last close named, or the opening date.
+    pub fn today(&self) -> Day
+        ensures { result ≡ date self.now.opening (journal_of (state_of self.now)) }
+    {
+        self.parts.today()
+    }
+
+    /// The open day's number, from 1; one more than the days that were closed.
+    pub fn day(&self) -> u64
+        ensures { result ≡ day (journal_of (state_of self.now)) }
+    {
+        self.parts.day()
+    }
+
+    /// What stands at an account's place in an issue, as a POSITION shows it; None where a POSITION would be refused.
+    pub fn position(&self, account: Account, cusip: Cusip) -> Option<Holding>
+        ensures { result ≡ shown (state_of self.now) (record { account = account; issue = cusip }) }
+    {
+        self.parts.shown(Key {
+            account,
+            issue: cusip,
+        })
+    }
+
+    /// The entry at a place of the history, from 1; None past its end.
+    pub fn entry(&self, place: u32) -> Option<Taken>
+        ensures { result ≡ entry_at self.now.history place }
+    {
+        if place == 0 {
+            return None;
+        }
+        self.history.as_slice().get(place as usize - 1).copied()
+    }
+
+    /// How many commands were taken.
+    pub fn history_len(&self) -> usize
+        ensures { result ≡ length self.now.history }
+    {
+        self.history.len()
+    }
+
+    /// How many commands of the worker were taken.
+    pub fn count(&self, worker: Worker) -> u32
+        ensures { result ≡ count self.now.history worker }
+    {
+        self.counts[worker.value() as usize - 1]
+    }
+
+    /// Takes a command: answers it as the machine does, and enters it and its reply into the history.
+    ///
+    /// `Full` exactly where the history is at its limit, before anything else is looked at; `NoMemory` where a growth
+    /// was refused. After either the book is as it was. A command that the machine refuses is taken, and stands in
+    /// the history with its refusal.
+    pub fn take(&mut self, worker: Worker, command: Command) -> Result<Receipt, TakeFault>
+        ensures full { (result ≡ Err TakeFault.Full) ↔ (length self.old.history ≡ self.old.limit) }
+        ensures ok { IfOk result (λ r. TakesStep self.old self.new worker command r) }
+        ensures err { OnErr result (self.new ≡ self.old) }
+    {
+        if self.history.len() >= self.limit as usize {
+            return Err(TakeFault::Full);
+        }
+        let worker = &worker;
+        let command = &command;
+        self.history.reserve(1)?;
+        let reply = self.parts.answer(command)?;
+        let reply = &reply;
+        let place = worker.value() as usize - 1;
+        let seq = self.counts[place] + 1;
+        self.counts[place] = seq;
+        let taken = Taken {
+            worker: *worker,
+            seq,
+            command: *command,
+            reply: *reply,
+        };
+        let _ = self.history.push(taken);
+        Ok(Receipt {
+            index: self.history.len() as u32,
+            seq,
+            reply: *reply,
+        })
+    }
+}
+
+// No worker has taken anything.
+fn no_counts() -> [u32; 64]
+    ensures { result ≡ replicate 64 0 }
+{
+    [0; 64]
+}
