@@ -1,5 +1,5 @@
 -- The rows that aren't zeros, above a key.
-use Rattle.std.proofs.Common.{◌≡◌, ◌∙◌, sym, ap, refl, ℕ, zero, suc, ◌<◌, Bool, true, false, ◌&&◌, cond, [], ◌∷◌, length, get_or, take, Option, Some, None, arith}
+use Rattle.std.proofs.Common.{◌≡◌, ◌∙◌, sym, ap, refl, ℕ, zero, suc, ◌<◌, Bool, true, false, ◌&&◌, cond, [], ◌∷◌, ◌++◌, ◌+◌, ◌≤◌, inl, inr, length, get_or, take, Option, Some, None, arith}
 use Rattle.std.specs.Ordering.{is_lt, ordering_reverse}
 use Rattle.std.specs.declared.cmp.Ordering.{Ordering}
 use Rattle.std.specs.declared.cmp.Ordering.TheVariants.{Less, Equal, Greater}
@@ -8,9 +8,12 @@ use Rattle.std.specs.FinMap.Entries.{below_all}
 use Rattle.std.proofs.lemmas.Cmp.{tied_itself}
 use Rattle.cns_terms.specs.declared.holding.Key.{Key}
 use Rattle.cns_terms.specs.declared.holding.Holding.{Holding}
-use Rattle.cns_positions.specs.Rows.{Rows, key_cmp, held_above, is_above, is_held}
-use Rattle.cns_positions.proofs.Keys.{keys_total}
-use Rattle.cns_positions.proofs.Puts.{and_left, and_right, below_each}
+use Rattle.cns_positions.specs.Rows.{Rows, held_above, is_above, is_held}
+use Rattle.cns_terms.specs.Keys.{key_cmp}
+use Rattle.cns_terms.proofs.Keys.{keys_total}
+use Rattle.std.proofs.lemmas.Bool.{cases_lt}
+use Rattle.std.proofs.lemmas.List.Elements.{filter_more}
+use Rattle.cns_positions.proofs.Puts.{and_left, and_right, below_each, below_later}
 
 less : (o : Ordering) → is_lt o ≡ true → o ≡ Less
 less Less e = refl
@@ -54,3 +57,47 @@ first_held (e ∷ es) after (suc i) d s lt none passes =
     ap (λ b. cond b (e ∷ held_above es after) (held_above es after)) no.0
     ∙ first_held es after i d (and_right _ _ s) (omega arith) no.1 passes
     ∙ ap (λ xs. get_or es i d ∷ xs) (sym (ap (λ o. cond (is_lt o && is_held e.1) (e ∷ held_above es (Some k)) (held_above es (Some k))) g))
+
+-- rows none of which is above a key
+pub none_above : (es : Rows) (after : Option Key) (n : ℕ) → ((i : ℕ) → i < n → i < length es → (d : Key × Holding) → is_above after (get_or es i d).0 ≡ false) → held_above (take n es) after ≡ []
+none_above [] after zero h = refl
+none_above [] after (suc n) h = refl
+none_above (e ∷ es) after zero h = refl
+none_above (e ∷ es) after (suc n) h =
+    ap (λ b. cond (b && is_held e.1) (e ∷ held_above (take n es) after) (held_above (take n es) after)) (h 0 (omega arith) (omega arith) e)
+    ∙ none_above es after n (λ i p q d. h (suc i) (omega arith) (omega arith) d)
+
+-- how the key at or before which a search ended compares with a row's
+pub not_above : (low q : Key) → key_cmp q low ≡ Less → is_above (Some low) q ≡ false
+not_above low q e = ap is_lt (keys_total.antisymm low q ∙ ap ordering_reverse e)
+
+pub not_above_tied : (low q : Key) → key_cmp q low ≡ Equal → is_above (Some low) q ≡ false
+not_above_tied low q e = ap is_lt (keys_total.antisymm low q ∙ ap ordering_reverse e)
+
+pub is_above_greater : (low q : Key) → key_cmp q low ≡ Greater → is_above (Some low) q ≡ true
+is_above_greater low q e = ap is_lt (keys_total.antisymm low q ∙ ap ordering_reverse e)
+
+-- around a row that ties with the key
+pub before_tied : (es : Rows) (low : Key) (at i : ℕ) (d : Key × Holding) → is_sorted key_cmp es ≡ true → at < length es → key_cmp (get_or es at d).0 low ≡ Equal → i < at + 1 → is_above (Some low) (get_or es i d).0 ≡ false
+before_tied es low at i d s lt tied p =
+    elim (cases_lt i at) [
+      | inl q ↦
+          let k = (get_or es i d).0 in
+          let there = (get_or es at d).0 in
+          ap is_lt (sym (keys_total.congr there low k tied) ∙ keys_total.antisymm there k ∙ ap ordering_reverse (below_later keys_total es i at d s q lt))
+      | inr q ↦ let same : i ≡ at = omega arith in not_above_tied low (get_or es i d).0 (ap (λ k. key_cmp (get_or es k d).0 low) same ∙ tied)
+    ]
+
+pub after_tied : (es : Rows) (low : Key) (at k : ℕ) (d : Key × Holding) → is_sorted key_cmp es ≡ true → k < length es → key_cmp (get_or es at d).0 low ≡ Equal → at + 1 ≤ k → is_above (Some low) (get_or es k d).0 ≡ true
+after_tied es low at k d s lt tied p = ap is_lt (sym (keys_total.congr (get_or es at d).0 low (get_or es k d).0 tied) ∙ below_later keys_total es at k d s (omega arith) lt)
+
+-- one more row that is not held
+pub still_none : (es : Rows) (after : Option Key) (i : ℕ) (d : Key × Holding) → i < length es → is_held (get_or es i d).1 ≡ false → held_above (take i es) after ≡ [] → held_above (take (i + 1) es) after ≡ []
+still_none es after i d lt idle none =
+    filter_more (test after) es i d lt
+    ∙ (λ j. none j ++ cond (is_above after (get_or es i d).0 && idle j) (get_or es i d ∷ []) [])
+    ∙ ap (λ b. [] ++ cond b (get_or es i d ∷ []) []) (never (is_above after (get_or es i d).0))
+  where
+    never : (b : Bool) → (b && false) ≡ false
+    never true = refl
+    never false = refl

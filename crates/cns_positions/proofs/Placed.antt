@@ -14,9 +14,10 @@ use Rattle.std.specs.declared.cmp.Ordering.{Ordering}
 use Rattle.std.specs.declared.cmp.Ordering.TheVariants.{Less, Equal, Greater}
 use Rattle.cns_terms.specs.declared.holding.Key.{Key}
 use Rattle.cns_terms.specs.declared.holding.Holding.{Holding}
-use Rattle.cns_positions.specs.Rows.{Rows, key_cmp, holding_at, zeros, booked, entry_of, rolled, is_held}
+use Rattle.cns_positions.specs.Rows.{Rows, holding_at, zeros, booked, entry_of, rolled, is_held}
+use Rattle.cns_terms.specs.Keys.{key_cmp}
 use Rattle.cns_positions.specs.Placed.{has_row, closed_rows}
-use Rattle.cns_positions.proofs.Keys.{keys_total, exact_keys, same_key}
+use Rattle.cns_terms.proofs.Keys.{keys_total, exact_keys, same_key}
 
 -- the two spellings of a true test
 as_T : (b : Bool) → b ≡ true → T b

@@ -3,7 +3,8 @@ use Rattle.std.specs.List.{filter_map}
 use Rattle.std.specs.FinMap.{is_sorted}
 use Rattle.cns_terms.specs.declared.holding.Key.{Key}
 use Rattle.cns_terms.specs.declared.holding.Holding.{Holding}
-use Rattle.cns_positions.specs.Rows.{Rows, key_cmp}
+use Rattle.cns_positions.specs.Rows.{Rows}
+use Rattle.cns_terms.specs.Keys.{key_cmp}
 use Rattle.cns_positions.specs.Placed.{has_row}
 
 -- what contracts see

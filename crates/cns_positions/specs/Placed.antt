@@ -1,7 +1,8 @@
 use Rattle.std.specs.Prelude.{Bool, is_some, map}
 use Rattle.std.specs.FinMap.{find}
 use Rattle.cns_terms.specs.declared.holding.Key.{Key}
-use Rattle.cns_positions.specs.Rows.{Rows, key_cmp, rolled}
+use Rattle.cns_positions.specs.Rows.{Rows, rolled}
+use Rattle.cns_terms.specs.Keys.{key_cmp}
 
 -- whether the key has a row, be it of zeros
 abbrev pub has_row : Rows → Key → Bool

@@ -1,17 +1,13 @@
+-- Rows of positions: what stands at each key, in the order of keys.
 use Rattle.std.specs.Prelude.{◌≡◌, ◌+◌, ◌-◌, ◌^◌, ℤ, pos, ◌+ℤ◌, int_lt, Bool, true, ◌&&◌, not, ◌==◌, min, List, filter, Option, Some, None, unwrap_or, Contains, ◌⊎◌, if◌then◌else◌}
-use Rattle.std.specs.declared.cmp.Ordering.{Ordering}
-use Rattle.std.specs.Ordering.{nat_cmp, int_eq, ordering_then, is_lt}
-use Rattle.std.specs.Cmp.Lexicographic.{slice_cmp}
+use Rattle.std.specs.Ordering.{int_eq, is_lt}
 use Rattle.std.specs.FinMap.{find}
 use Rattle.cns_terms.specs.declared.holding.Key.{Key}
 use Rattle.cns_terms.specs.declared.holding.Holding.{Holding}
 use Rattle.cns_terms.specs.declared.holding.Entry.{Entry}
 use Rattle.cns_terms.specs.Entries.{entry}
+use Rattle.cns_terms.specs.Keys.{key_cmp}
 use Rattle.cns_terms.specs.Positions.{shares_for, cents_for}
-
--- by account, and then by issue
-abbrev pub key_cmp : Key → Key → Ordering
-key_cmp a b = ordering_then (nat_cmp a.account b.account) (slice_cmp nat_cmp a.issue b.issue)
 
 abbrev pub Rows : Type 0
 Rows = List (Key × Holding)

@@ -1,7 +1,9 @@
 // Positions in a sorted vector.
-ghost use Rattle.std.specs.Prelude.{◌≡◌, ℕ, ◌≤◌, ◌<◌, ◌+◌, ◌-◌, ◌+ℤ◌, List, [], ◌∷◌, length, OnOk, OnErr, IfOk, IfErr, MatchOption, FitsSigned, vec_len, vec_capacity, is_some, true, Some};
-ghost use Rattle.cns_positions.specs.Rows.{holding_at, key_cmp, booked, entry_of, rolled, held_above, is_above, is_held};
+ghost use Rattle.std.specs.Prelude.{◌≡◌, ℕ, ◌≤◌, ◌<◌, ◌+◌, ◌-◌, ◌+ℤ◌, List, [], ◌∷◌, length, OnOk, OnErr, IfOk, IfErr, MatchOption, FitsSigned, vec_len, vec_capacity, is_some, true, Some, slice_index_or, take};
+ghost use Rattle.cns_positions.specs.Rows.{holding_at, booked, entry_of, rolled, held_above, is_above, is_held};
+ghost use Rattle.cns_terms.specs.Keys.{key_cmp};
 ghost use Rattle.cns_positions.specs.Placed.{has_row, closed_rows};
+ghost use Rattle.cns_terms.specs.declared.holding.Holding.{Holding};
 ghost use Rattle.cns_terms.specs.declared.holding.Key.{Key};
 ghost use Rattle.std.specs.Int.{w64, w128};
 ghost use Rattle.std.specs.FinMap.{is_sorted};
@@ -145,16 +147,6 @@ fn close_all<A: Allocator + Drop>(rows: &mut Vec<Row, A>)
     }
 }
 
-// Whether the key is above the other, if there is one.
-fn is_above(after: Option<Key>, key: Key) -> bool
-    ensures { result ≡ is_above after key }
-{
-    match after {
-        Some(low) => low.cmp(&key).is_lt(),
-        None => true,
-    }
-}
-
 // Whether anything but zeros stands there.
 fn is_held(holding: Holding) -> bool
     ensures { result ≡ is_held holding }
@@ -162,15 +154,33 @@ fn is_held(holding: Holding) -> bool
     holding.now != 0 || holding.opening != 0 || holding.contract != 0 || holding.run != 0
 }
 
-// The first row above a key that isn't zeros.
+// Where the rows above a key begin; at the first row where there is none to be above.
+fn past(rows: &[Row], after: Option<Key>) -> usize
+    requires { is_sorted key_cmp rows.now ≡ true }
+    ensures bound { result ≤ length rows.now }
+    ensures none { held_above (take result rows.now) after ≡ [] }
+    ensures above { (k : ℕ) → result ≤ k → k < length rows.now → (d : Key × Holding) → is_above after (slice_index_or rows.now k d).0 ≡ true }
+{
+    let Some(key) = after else {
+        return 0;
+    };
+    match place(rows, key) {
+        Ok(at) => at + 1,
+        Err(at) => at,
+    }
+}
+
+// The first row above a key that is not zeros.
 fn first_held(rows: &[Row], after: Option<Key>) -> Option<Row>
     requires { is_sorted key_cmp rows.now ≡ true }
     ensures { MatchOption result (held_above rows.now after ≡ []) (λ r. held_above rows.now after ≡ r ∷ held_above rows.now (Some r.0)) }
 {
     let after = &after;
-    for row in rows {
-        if is_above(*after, row.0) && is_held(row.1) {
-            return Some(*row);
+    let start = past(rows, *after);
+    for place in start..rows.len() {
+        let row = rows[place];
+        if is_held(row.1) {
+            return Some(row);
         }
     }
     None

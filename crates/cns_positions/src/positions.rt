@@ -1,6 +1,8 @@
 // The contract of every form of positions.
-ghost use Rattle.std.specs.Prelude.{◌≡◌, ℕ, ◌≤◌, ◌+ℤ◌, List, [], ◌∷◌, Some, length, OnOk, OnErr, MatchOption, FitsSigned, Contains, ◌⊎◌};
+ghost use Rattle.std.specs.Prelude.{◌≡◌, ℕ, ◌≤◌, ◌+ℤ◌, List, [], ◌∷◌, Some, length, OnOk, OnErr, MatchOption, FitsSigned, true};
+ghost use Rattle.std.specs.FinMap.{is_sorted};
 ghost use Rattle.std.specs.Int.{w64, w128};
+ghost use Rattle.cns_terms.specs.Keys.{key_cmp};
 ghost use Rattle.cns_terms.specs.declared.holding.Key.{Key};
 ghost use Rattle.cns_terms.specs.declared.holding.Holding.{Holding};
 ghost use Rattle.cns_positions.specs.Rows.{holding_at, booked, entry_of, rolled, IsThere, held_above};
@@ -31,6 +33,7 @@ pub trait Positions<A>: Drop {
     fn prepare(&mut self, keys: &[Key]) -> Result<(), NoMemory>
         requires { length keys.now ≤ 4 }
         ensures same { (k : Key) → holding_at (rows self.new) k ≡ holding_at (rows self.old) k }
+        ensures order { is_sorted key_cmp (rows self.new) ≡ true }
         ensures ok { OnOk result (prepared self.new ≡ keys.now) }
         ensures err { OnErr result (prepared self.new ≡ prepared self.old) };
 
@@ -40,11 +43,13 @@ pub trait Positions<A>: Drop {
         requires shares_fit { FitsSigned w64 ((holding_at (rows self.old) key).now +ℤ shares) }
         requires cents_fit { FitsSigned w128 ((holding_at (rows self.old) key).contract +ℤ cents) }
         ensures booked { (k : Key) → holding_at (rows self.new) k ≡ booked (entry_of key shares cents) k (holding_at (rows self.old) k) }
+        ensures order { is_sorted key_cmp (rows self.new) ≡ true }
         ensures prepared { prepared self.new ≡ prepared self.old };
 
     /// What a close does to every holding.
     fn roll(&mut self)
         ensures rolled { (k : Key) → holding_at (rows self.new) k ≡ rolled (holding_at (rows self.old) k) }
+        ensures order { is_sorted key_cmp (rows self.new) ≡ true }
         ensures prepared { prepared self.new ≡ prepared self.old };
 
     /// The first row that isn't zeros, or the first such row above a key.

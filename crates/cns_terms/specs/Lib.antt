@@ -1,5 +1,6 @@
 pub mod Sums
 pub mod Postings
+pub mod Keys
 pub mod Days
 pub mod Positions
 pub mod Ages

@@ -5,9 +5,10 @@ use Rattle.std.specs.List.Sorted.{IsBinarySearchResult, IsPartitionPoint}
 use Rattle.std.specs.FinMap.{is_sorted}
 use Rattle.std.proofs.lemmas.List.Sorted.{answers_always}
 use Rattle.cns_terms.specs.declared.holding.Key.{Key}
-use Rattle.cns_positions.specs.Rows.{Rows, key_cmp, zeros}
+use Rattle.cns_positions.specs.Rows.{Rows, zeros}
+use Rattle.cns_terms.specs.Keys.{key_cmp}
 use Rattle.cns_positions.proofs.Puts.{comparisons_rise}
-use Rattle.cns_positions.proofs.Keys.{keys_total}
+use Rattle.cns_terms.proofs.Keys.{keys_total}
 use Rattle.cns_positions.proofs.flat.place.Goals as goal
 
 found : (rows : Rows) (k : Key) (r : Result ℕ ℕ) → IsBinarySearchResult (λ e. key_cmp e.0 k) rows r → IfOk r (HoldsAt (λ e. key_cmp e.0 k ≡ Equal) rows)

@@ -11,7 +11,7 @@ use Rattle.std.proofs.lemmas.Map.Text.{is_eq-slice_cmp}
 use Rattle.std.proofs.lemmas.Bool.Decides.{nat_tests}
 use Rattle.std.proofs.Common.{arith}
 use Rattle.cns_terms.specs.declared.holding.Key.{Key}
-use Rattle.cns_positions.specs.Rows.{key_cmp}
+use Rattle.cns_terms.specs.Keys.{key_cmp}
 
 pub keys_total : IsTotalOrder key_cmp
 keys_total = then_total (on_total (λ k. k.account) nat_cmp_total) (on_total (λ k. k.issue) nat_list_cmp_total)
