@@ -9,6 +9,7 @@
 
 
 mod book;
+pub mod laws;
 mod members;
 mod parts;
 mod receipt;

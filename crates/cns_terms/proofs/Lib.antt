@@ -1,1 +1,12 @@
 pub mod Keys
+pub mod Finds
+pub mod Rising
+pub mod Cells
+pub mod Totals
+pub mod Accounts
+pub mod Everywhere
+pub mod ClosedDays
+pub mod EntrySums
+pub mod ZeroSums
+pub mod Sound
+pub mod SheetSums

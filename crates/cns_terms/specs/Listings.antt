@@ -1,5 +1,5 @@
 -- Members, issues, prices and references.
-use Rattle.std.specs.Prelude.{◌∷◌, ℕ, Bool, false, ◌==◌, nat_lt, List, Option, Some, None, find, filter_map, map}
+use Rattle.std.specs.Prelude.{◌∷◌, ℕ, Bool, false, ◌==◌, List, Option, Some, None, find, filter_map, map}
 use Rattle.std.specs.List.{list_any}
 use Rattle.std.specs.Option.{option_map_or}
 use Rattle.std.specs.Ordering.{nat_cmp, is_lt}
@@ -36,13 +36,17 @@ abbrev pub traded : Activity → Option Trade
 traded (activity.Trade t) = Some t
 traded _ = None
 
+-- the order of accounts, by their numbers
+abbrev pub account_lt : Account → Account → Bool
+account_lt a b = is_lt (nat_cmp a b)
+
 -- the order of CUSIPs, by their bytes
 abbrev pub issue_lt : Cusip → Cusip → Bool
 issue_lt c d = is_lt (slice_cmp nat_cmp c d)
 
 -- the members, by number
 abbrev pub members : Journal → List Member
-members J = in_order nat_lt (filter_map added (activities J))
+members J = in_order account_lt (filter_map added (activities J))
 
 -- the listed issues, by their bytes, retired ones too
 abbrev pub issues : Journal → List Cusip

@@ -34,7 +34,7 @@ is_exceeded q shares = int_lt (pos 0) q && int_lt q (pos shares)
 
 -- the rules of an activity, by the refusal's number
 abbrev pub rules : Day → Journal → Activity → List Rule
-rules opening J (activity.Member m) = (MemberExists, is_member J m) ∷ []
+rules opening J (activity.Member m) = (MemberExists, is_account J m) ∷ []
 rules opening J (activity.Issue l) = (IssueExists, is_listed J l.issue) ∷ []
 rules opening J (activity.Trade t) =
     (NoSuchMember, not (is_member J t.buyer && is_member J t.seller))

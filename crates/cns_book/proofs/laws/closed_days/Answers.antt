@@ -1,0 +1,5 @@
+use Rattle.cns_terms.proofs.ClosedDays.{closed_days}
+use Rattle.cns_book.proofs.laws.closed_days.Goals as goal
+
+pub returns : goal.returns
+returns c = closed_days

@@ -1,0 +1,5 @@
+use Rattle.cns_terms.proofs.SheetSums.{zero_sums}
+use Rattle.cns_book.proofs.laws.zero_sums.Goals as goal
+
+pub returns : goal.returns
+returns c = zero_sums

@@ -1,0 +1,18 @@
+//! The laws of the definitions, over any list of commands. Each is the contract of a call that does nothing.
+ghost use Rattle.cns_terms.specs.Laws.{ClosedDays, Positions, ZeroSums};
+
+/// The marks of a closed day's sheet add up to zero cents over all accounts, the corporation's included, and so do
+/// its dividends.
+pub fn zero_sums()
+    ensures { ZeroSums }
+{}
+
+/// A statement of a closed day stays as it was, whatever is taken later.
+pub fn closed_days()
+    ensures { ClosedDays }
+{}
+
+/// In each issue the positions of all accounts add up to zero shares, and so do the cents of the open day.
+pub fn positions()
+    ensures { Positions }
+{}

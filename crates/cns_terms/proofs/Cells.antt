@@ -1,0 +1,116 @@
+-- All places of some accounts in some issues, in the order of keys.
+use Rattle.std.proofs.Common.{◌≡◌, ◌∙◌, sym, ap, refl, ℕ, Bool, true, false, ◌&&◌, ◌||◌, cond, eqb, List, [], ◌∷◌, ◌++◌, map, flat_map, Option, Some, None, arith}
+use Rattle.std.specs.Prelude.{bytes_eq}
+use Rattle.std.specs.FinMap.{find, is_sorted}
+use Rattle.std.specs.FinMap.Entries.{below_all}
+use Rattle.std.specs.List.{list_any}
+use Rattle.std.specs.Cmp.Lexicographic.{slice_cmp}
+use Rattle.std.specs.Ordering.{is_eq, is_lt, nat_cmp, ordering_then}
+use Rattle.std.specs.declared.cmp.Ordering.{Ordering}
+use Rattle.std.specs.declared.cmp.Ordering.TheVariants.{Less, Equal, Greater}
+use Rattle.std.proofs.lemmas.Bool.{eqb-true}
+use Rattle.std.proofs.lemmas.Cmp.{nat_cmp_total, tied_itself}
+use Rattle.std.proofs.lemmas.Slice.Eq.{bytes_eq-Decides}
+use Rattle.cns_units.specs.declared.account.Account.{Account}
+use Rattle.cns_units.specs.declared.cusip.Cusip.{Cusip}
+use Rattle.cns_terms.specs.declared.holding.Key.{Key}
+use Rattle.cns_terms.specs.Keys.{key_cmp}
+use Rattle.cns_terms.proofs.Finds.{and_left, and_right, both_true, less}
+use Rattle.cns_terms.proofs.Keys.{same_key}
+use Rattle.cns_terms.proofs.Rising.{above_all, is_rising}
+
+-- an account's place in an issue
+abbrev pub key : Account → Cusip → Key
+key a c = record { account = a; issue = c }
+
+-- an account's places
+abbrev pub cells_of : {X : Type 0} → (Key → X) → Account → List Cusip → List (Key × X)
+cells_of f a cs = map (λ c. (key a c, f (key a c))) cs
+
+-- the places of all
+abbrev pub cells : {X : Type 0} → (Key → X) → List Account → List Cusip → List (Key × X)
+cells f bs cs = flat_map (λ a. cells_of f a cs) bs
+
+same_account : (a : Account) (c d : Cusip) → key_cmp (key a c) (key a d) ≡ slice_cmp nat_cmp c d
+same_account a c d = ap (λ r. ordering_then r (slice_cmp nat_cmp c d)) (tied_itself nat_cmp_total a)
+
+module _ {X : Type 0} (f : Key → X) where
+  below_row : (a : Account) (c : Cusip) (cs : List Cusip) → above_all (slice_cmp nat_cmp) c cs ≡ true → below_all key_cmp (key a c) (cells_of f a cs) ≡ true
+  below_row a c [] h = refl
+  below_row a c (d ∷ cs) h = both_true _ _ (ap is_lt (same_account a c d) ∙ and_left _ _ h) (below_row a c cs (and_right _ _ h))
+
+  sorted_row : (a : Account) (cs : List Cusip) → is_rising (slice_cmp nat_cmp) cs ≡ true → is_sorted key_cmp (cells_of f a cs) ≡ true
+  sorted_row a [] h = refl
+  sorted_row a (c ∷ cs) h = both_true _ _ (below_row a c cs (and_left _ _ h)) (sorted_row a cs (and_right _ _ h))
+
+  below_append : (k : Key) (es fs : List (Key × X)) → below_all key_cmp k es ≡ true → below_all key_cmp k fs ≡ true → below_all key_cmp k (es ++ fs) ≡ true
+  below_append k [] fs p q = q
+  below_append k (e ∷ es) fs p q = both_true _ _ (and_left _ _ p) (below_append k es fs (and_right _ _ p) q)
+
+  below_other : (a b : Account) (c : Cusip) (cs : List Cusip) → nat_cmp a b ≡ Less → below_all key_cmp (key a c) (cells_of f b cs) ≡ true
+  below_other a b c [] l = refl
+  below_other a b c (d ∷ cs) l = both_true _ _ (ap (λ r. is_lt (ordering_then r (slice_cmp nat_cmp c d))) l) (below_other a b c cs l)
+
+  below_cells : (a : Account) (c : Cusip) (bs : List Account) (cs : List Cusip) → above_all nat_cmp a bs ≡ true → below_all key_cmp (key a c) (cells f bs cs) ≡ true
+  below_cells a c [] cs h = refl
+  below_cells a c (b ∷ bs) cs h = below_append (key a c) (cells_of f b cs) (cells f bs cs) (below_other a b c cs (less _ (and_left _ _ h))) (below_cells a c bs cs (and_right _ _ h))
+
+  sorted_append : (a : Account) (ds : List Cusip) (bs : List Account) (cs : List Cusip) → above_all nat_cmp a bs ≡ true → is_sorted key_cmp (cells_of f a ds) ≡ true → is_sorted key_cmp (cells f bs cs) ≡ true → is_sorted key_cmp (cells_of f a ds ++ cells f bs cs) ≡ true
+  sorted_append a [] bs cs h p q = q
+  sorted_append a (d ∷ ds) bs cs h p q =
+      both_true _ _ (below_append (key a d) (cells_of f a ds) (cells f bs cs) (and_left _ _ p) (below_cells a d bs cs h)) (sorted_append a ds bs cs h (and_right _ _ p) q)
+
+  -- the places are in order
+  pub sorted_cells : (bs : List Account) (cs : List Cusip) → is_rising nat_cmp bs ≡ true → is_rising (slice_cmp nat_cmp) cs ≡ true → is_sorted key_cmp (cells f bs cs) ≡ true
+  sorted_cells [] cs p q = refl
+  sorted_cells (a ∷ bs) cs p q = sorted_append a cs bs cs (and_left _ _ p) (sorted_row a cs q) (sorted_cells bs cs (and_right _ _ p) q)
+
+  find_in : (b x y : Bool) (k k' : Key) → (b ≡ true → k' ≡ k) → b ≡ (x && y) → (rest : Bool) → cond b (Some (f k')) (cond (x && rest) (Some (f k)) None) ≡ cond (x && (y || rest)) (Some (f k)) None
+  find_in true true true k k' h e rest = ap (λ q. Some (f q)) (h refl)
+  find_in false true false k k' h e rest = refl
+  find_in false false y k k' h e rest = refl
+  find_in true true false k k' h e rest = cc
+  find_in true false y k k' h e rest = cc
+  find_in false true true k k' h e rest = cc
+
+  tied : (k : Key) (a : Account) (c : Cusip) → is_eq (key_cmp k (key a c)) ≡ true → key a c ≡ k
+  tied k a c h =
+      let e = sym (same_key k (key a c)) ∙ h in
+      sym (λ i. key (eqb-true k.account a (and_left _ _ e) i) ((bytes_eq-Decides k.issue c).0 (and_right _ _ e) i))
+
+  find_row : (k : Key) (a : Account) (cs : List Cusip) → find key_cmp k (cells_of f a cs) ≡ cond (eqb k.account a && list_any (λ c. bytes_eq k.issue c) cs) (Some (f k)) None
+  find_row k a [] = none (eqb k.account a)
+    where
+      none : (b : Bool) → None ≡ cond (b && false) (Some (f k)) None
+      none true = refl
+      none false = refl
+  find_row k a (c ∷ cs) =
+      ap (cond (is_eq (key_cmp k (key a c))) (Some (f (key a c)))) (find_row k a cs)
+      ∙ find_in (is_eq (key_cmp k (key a c))) (eqb k.account a) (bytes_eq k.issue c) k (key a c) (tied k a c) (same_key k (key a c)) (list_any (λ c. bytes_eq k.issue c) cs)
+
+  first_found : (b d : Bool) (k : Key) (x : X) → Some x ≡ cond b (Some (f k)) None → Some x ≡ cond (b || d) (Some (f k)) None
+  first_found true d k x p = p
+  first_found false d k x p = cc
+
+  first_step : (t b d : Bool) (k : Key) (x : X) (o o' : Option X) → (o ≡ cond b (Some (f k)) None → o' ≡ cond (b || d) (Some (f k)) None) → cond t (Some x) o ≡ cond b (Some (f k)) None → cond t (Some x) o' ≡ cond (b || d) (Some (f k)) None
+  first_step true b d k x o o' rest p = first_found b d k x p
+  first_step false b d k x o o' rest p = rest p
+
+  find_first : (k : Key) (es fs : List (Key × X)) (b d : Bool) → find key_cmp k es ≡ cond b (Some (f k)) None → find key_cmp k fs ≡ cond d (Some (f k)) None → find key_cmp k (es ++ fs) ≡ cond (b || d) (Some (f k)) None
+  find_first k [] fs true d p q = cc
+  find_first k [] fs false d p q = q
+  find_first k (e ∷ es) fs b d p q = first_step (is_eq (key_cmp k e.0)) b d k e.1 (find key_cmp k es) (find key_cmp k (es ++ fs)) (λ h. find_first k es fs b d h q) p
+
+  either : (x y z : Bool) → ((x && z) || (y && z)) ≡ ((x || y) && z)
+  either true true true = refl
+  either true true false = refl
+  either true false true = refl
+  either true false false = refl
+  either false y z = refl
+
+  -- the value at a place, where the account and the issue are among those
+  pub find_cells : (k : Key) (bs : List Account) (cs : List Cusip) → find key_cmp k (cells f bs cs) ≡ cond (list_any (λ a. eqb k.account a) bs && list_any (λ c. bytes_eq k.issue c) cs) (Some (f k)) None
+  find_cells k [] cs = refl
+  find_cells k (a ∷ bs) cs =
+      find_first k (cells_of f a cs) (cells f bs cs) _ _ (find_row k a cs) (find_cells k bs cs)
+      ∙ ap (λ b. cond b (Some (f k)) None) (either (eqb k.account a) (list_any (λ a. eqb k.account a) bs) (list_any (λ c. bytes_eq k.issue c) cs))

@@ -1,0 +1,58 @@
+-- What holds of each element of a list.
+use Rattle.std.proofs.Common.{ℕ, ◌≤◌, Bool, true, false, cond, List, [], ◌∷◌, ◌++◌, map, filter, find, unwrap_or, Option, Some, refl, arith}
+use Rattle.std.specs.List.{AllByRecursion}
+use Rattle.std.proofs.lemmas.Bool.{eq-eqb}
+use Rattle.cns_terms.specs.Sums.{put, in_order}
+use Rattle.cns_terms.proofs.Accounts.{occurs}
+
+pub each_weaker : {X : Type 0} (P Q : X → Type 0) (xs : List X) → ((x : X) → P x → Q x) → AllByRecursion P xs → AllByRecursion Q xs
+each_weaker P Q [] h a = tt
+each_weaker P Q (x ∷ xs) h a = (h x a.0, each_weaker P Q xs h a.1)
+
+pub each_map : {X Y : Type 0} (P : Y → Type 0) (f : X → Y) (xs : List X) → AllByRecursion (λ x. P (f x)) xs → AllByRecursion P (map f xs)
+each_map P f [] a = tt
+each_map P f (x ∷ xs) a = (a.0, each_map P f xs a.1)
+
+pub each_append : {X : Type 0} (P : X → Type 0) (xs ys : List X) → AllByRecursion P xs → AllByRecursion P ys → AllByRecursion P (xs ++ ys)
+each_append P [] ys a b = b
+each_append P (x ∷ xs) ys a b = (a.0, each_append P xs ys a.1 b)
+
+kept : {X : Type 0} (P : X → Type 0) (b : Bool) (x : X) (xs : List X) → P x → AllByRecursion P xs → AllByRecursion P (cond b (x ∷ xs) xs)
+kept P true x xs p a = (p, a)
+kept P false x xs p a = a
+
+pub each_filter : {X : Type 0} (P : X → Type 0) (t : X → Bool) (xs : List X) → AllByRecursion P xs → AllByRecursion P (filter t xs)
+each_filter P t [] a = tt
+each_filter P t (x ∷ xs) a = kept P (t x) x (filter t xs) a.0 (each_filter P t xs a.1)
+
+either_order : {X : Type 0} (P : X → Type 0) (b : Bool) (x y : X) (ys zs : List X) → P x → P y → AllByRecursion P ys → AllByRecursion P zs → AllByRecursion P (cond b (x ∷ y ∷ ys) (y ∷ zs))
+either_order P true x y ys zs p q a c = (p, (q, a))
+either_order P false x y ys zs p q a c = (q, c)
+
+each_put : {X : Type 0} (P : X → Type 0) (before : X → X → Bool) (x : X) (xs : List X) → P x → AllByRecursion P xs → AllByRecursion P (put before x xs)
+each_put P before x [] p a = (p, tt)
+each_put P before x (y ∷ ys) p a = either_order P (before x y) x y ys (put before x ys) p a.0 a.1 (each_put P before x ys p a.1)
+
+pub each_in_order : {X : Type 0} (P : X → Type 0) (before : X → X → Bool) (xs : List X) → AllByRecursion P xs → AllByRecursion P (in_order before xs)
+each_in_order P before [] a = tt
+each_in_order P before (x ∷ xs) a = each_put P before x (in_order before xs) a.0 (each_in_order P before xs a.1)
+
+found_or_after : {X : Type 0} (P : X → Type 0) (b : Bool) (d x : X) (o : Option X) → P x → P (unwrap_or o d) → P (unwrap_or (cond b (Some x) o) d)
+found_or_after P true d x o p a = p
+found_or_after P false d x o p a = a
+
+-- what is found, or what stands in its place
+pub each_found : {X : Type 0} (P : X → Type 0) (t : X → Bool) (d : X) (xs : List X) → P d → AllByRecursion P xs → P (unwrap_or (find t xs) d)
+each_found P t d [] p a = p
+each_found P t d (x ∷ xs) p a = found_or_after P (t x) d x (find t xs) a.0 (each_found P t d xs p a.1)
+
+-- each number of a list stands in it
+stands_after : (n : ℕ) (bs : List ℕ) (cs : List ℕ) → AllByRecursion (λ a. 1 ≤ occurs a cs) bs → AllByRecursion (λ a. 1 ≤ occurs a (n ∷ cs)) bs
+stands_after n bs cs h = each_weaker (λ a. 1 ≤ occurs a cs) (λ a. 1 ≤ occurs a (n ∷ cs)) bs (λ a p. omega arith) h
+
+stands_first : (n : ℕ) (cs : List ℕ) → 1 ≤ occurs n (n ∷ cs)
+stands_first n cs = rw (eq-eqb n n refl) (omega arith)
+
+pub each_stands : (bs : List ℕ) → AllByRecursion (λ a. 1 ≤ occurs a bs) bs
+each_stands [] = tt
+each_stands (b ∷ bs) = (stands_first b bs, stands_after b bs bs (each_stands bs))

@@ -1,0 +1,88 @@
+-- Searches in lists whose keys strictly rise.
+use Rattle.std.proofs.Common.{◌≡◌, ◌∙◌, sym, ap, refl, Bool, true, false, ◌&&◌, cond, List, [], ◌∷◌, ◌++◌, map, filter, Option, Some, None}
+use Rattle.std.specs.Prelude.{option_map}
+use Rattle.std.specs.Cmp.{IsTotalOrder}
+use Rattle.std.specs.FinMap.{FinMap, entries, entries-from_sorted, find, from_sorted, get, get-from_sorted, is_sorted, same_map, IsAntisymmetric}
+use Rattle.std.specs.FinMap.Entries.{below_all}
+use Rattle.std.specs.Ordering.{is_eq, is_lt, ordering_reverse}
+use Rattle.std.specs.declared.cmp.Ordering.{Ordering}
+use Rattle.std.specs.declared.cmp.Ordering.TheVariants.{Less, Equal, Greater}
+use lib.Dec.{T}
+
+pub and_left : (a b : Bool) → (a && b) ≡ true → a ≡ true
+and_left true b e = refl
+and_left false b e = e
+
+pub and_right : (a b : Bool) → (a && b) ≡ true → b ≡ true
+and_right true b e = e
+and_right false b e = cc
+
+pub both_true : (a b : Bool) → a ≡ true → b ≡ true → (a && b) ≡ true
+both_true true b p q = q
+both_true false b p q = p
+
+-- an option kept where its value passes a test
+abbrev pub kept_if : {X : Type 0} → (X → Bool) → Option X → Option X
+kept_if p None = None
+kept_if p (Some x) = cond (p x) (Some x) None
+
+pub less : (r : Ordering) → is_lt r ≡ true → r ≡ Less
+less Less e = refl
+less Equal e = cc
+less Greater e = cc
+
+pub as_T : (b : Bool) → b ≡ true → T b
+as_T true e = tt
+as_T false e = cc
+
+module _ {K X : Type 0} {R : K → K → Ordering} (o : IsTotalOrder R) where
+  -- what lies above a key does not have it
+  find_below : (k : K) (es : List (K × X)) → below_all R k es ≡ true → find R k es ≡ None
+  find_below k [] b = refl
+  find_below k (e ∷ es) b =
+      ap (λ r. cond (is_eq r) (Some e.1) (find R k es)) (less _ (and_left _ _ b)) ∙ find_below k es (and_right _ _ b)
+
+  below_kept : (p : X → Bool) (k : K) (b : Bool) (e : K × X) (es : List (K × X)) → is_lt (R k e.0) ≡ true → below_all R k es ≡ true → below_all R k (cond b (e ∷ es) es) ≡ true
+  below_kept p k true e es l h = both_true _ _ l h
+  below_kept p k false e es l h = h
+
+  below_filter : (p : X → Bool) (k : K) (es : List (K × X)) → below_all R k es ≡ true → below_all R k (filter (λ e. p e.1) es) ≡ true
+  below_filter p k [] b = refl
+  below_filter p k (e ∷ es) b = below_kept p k (p e.1) e (filter (λ e. p e.1) es) (and_left _ _ b) (below_filter p k es (and_right _ _ b))
+
+  sorted_kept : (b : Bool) (e : K × X) (es : List (K × X)) → below_all R e.0 es ≡ true → is_sorted R es ≡ true → is_sorted R (cond b (e ∷ es) es) ≡ true
+  sorted_kept true e es b s = both_true _ _ b s
+  sorted_kept false e es b s = s
+
+  -- a filter keeps the order
+  pub sorted_filter : (p : X → Bool) (es : List (K × X)) → is_sorted R es ≡ true → is_sorted R (filter (λ e. p e.1) es) ≡ true
+  sorted_filter p [] s = refl
+  sorted_filter p (e ∷ es) s = sorted_kept (p e.1) e (filter (λ e. p e.1) es) (below_filter p e.0 es (and_left _ _ s)) (sorted_filter p es (and_right _ _ s))
+
+  tied_below : (q k : K) (es : List (K × X)) → R q k ≡ Equal → below_all R k es ≡ true → below_all R q es ≡ true
+  tied_below q k [] t b = refl
+  tied_below q k (e ∷ es) t b = both_true _ _ (ap is_lt (o.congr q k e.0 t) ∙ and_left _ _ b) (tied_below q k es t (and_right _ _ b))
+
+  find_kept : (p : X → Bool) (q : K) (b : Bool) (e : K × X) (es : List (K × X)) (r : Ordering) → R q e.0 ≡ r → p e.1 ≡ b → below_all R e.0 es ≡ true → find R q (filter (λ e. p e.1) es) ≡ kept_if p (find R q es)
+      → find R q (cond b (e ∷ filter (λ e. p e.1) es) (filter (λ e. p e.1) es)) ≡ kept_if p (cond (is_eq r) (Some e.1) (find R q es))
+  find_kept p q true e es Less t b below h = ap (λ r. cond (is_eq r) (Some e.1) (find R q (filter (λ e. p e.1) es))) t ∙ h
+  find_kept p q true e es Greater t b below h = ap (λ r. cond (is_eq r) (Some e.1) (find R q (filter (λ e. p e.1) es))) t ∙ h
+  find_kept p q true e es Equal t b below h = ap (λ r. cond (is_eq r) (Some e.1) (find R q (filter (λ e. p e.1) es))) t ∙ sym (ap (λ c. cond c (Some e.1) None) b)
+  find_kept p q false e es Less t b below h = h
+  find_kept p q false e es Greater t b below h = h
+  find_kept p q false e es Equal t b below h =
+      find_below q (filter (λ e. p e.1) es) (below_filter p q es (tied_below q e.0 es t below)) ∙ sym (ap (λ c. cond c (Some e.1) None) b)
+
+  -- a search in what a filter keeps
+  pub find_filter : (p : X → Bool) (q : K) (es : List (K × X)) → is_sorted R es ≡ true → find R q (filter (λ e. p e.1) es) ≡ kept_if p (find R q es)
+  find_filter p q [] s = refl
+  find_filter p q (e ∷ es) s = find_kept p q (p e.1) e es (R q e.0) refl refl (and_left _ _ s) (find_filter p q es (and_right _ _ s))
+
+  -- two lists in order that answer alike are the same
+  pub same_lists : IsAntisymmetric R → (es fs : List (K × X)) → is_sorted R es ≡ true → is_sorted R fs ≡ true → ((q : K) → find R q es ≡ find R q fs) → es ≡ fs
+  same_lists a es fs s t h =
+      let m : FinMap R X = from_sorted es in
+      let n : FinMap R X = from_sorted fs in
+      sym (entries-from_sorted R es (as_T _ s))
+      ∙ ap entries (same_map o a m n (λ q. get-from_sorted R es q (as_T _ s) ∙ h q ∙ sym (get-from_sorted R fs q (as_T _ t))))
+      ∙ entries-from_sorted R fs (as_T _ t)

@@ -1,0 +1,115 @@
+-- The sheets of closed days add up to zero.
+use Rattle.std.proofs.Common.{◌≡◌, ℕ, ◌≤◌, ℤ, pos, ◌+ℤ◌, neg_ℤ, Bool, true, false, not, cond, ◌&&◌, ◌==◌, slice_get, unwrap_or, List, [], ◌∷◌, map, filter, flat_map, refl, ◌∙◌, ap, arith, int_eq}
+use Rattle.std.specs.Cmp.{signed_Decides}
+use Rattle.std.proofs.lemmas.Int.{ints}
+use Rattle.std.proofs.lemmas.Bool.{and_parts, eqb-true, not-false}
+use lib.IntN.{zero-*ℤ}
+use Rattle.cns_units.specs.declared.account.Account.{Account}
+use Rattle.cns_units.specs.declared.cusip.Cusip.{Cusip}
+use Rattle.cns_units.specs.declared.day.Day.{Day}
+use Rattle.cns_terms.specs.declared.sheet.Row.{Row}
+use Rattle.cns_terms.specs.Sums.{total}
+use Rattle.cns_terms.specs.Postings.{Journal}
+use Rattle.cns_terms.specs.Days.{closings, last_close, at_close, day, is_close, open_day}
+use Rattle.cns_terms.specs.Listings.{accounts, members, issues, price}
+use Rattle.cns_terms.specs.Marks.{mark}
+use Rattle.cns_terms.specs.Dividends.{dividend}
+use Rattle.cns_terms.specs.Machine.{opened}
+use Rattle.cns_terms.specs.Sheets.{row, is_idle, rows_of}
+use Rattle.cns_terms.specs.Laws.{AddsUpToZero, Positions, ZeroSums, journal_after}
+use Rattle.cns_terms.proofs.Totals.{total-append, total-zero, total-swap}
+use Rattle.cns_terms.proofs.Everywhere.{each_found}
+use Rattle.cns_terms.proofs.ZeroSums.{AreSound, cents_zero, marks_zero, positions_zero, sound_open_day}
+use Rattle.cns_terms.proofs.Sound.{IsSound, IsWhole, sound_nil, whole-after, whole_nil}
+
+total-flat_map : {X Y : Type 0} (f : Y → ℤ) (g : X → List Y) (xs : List X) → total f (flat_map g xs) ≡ total (λ x. total f (g x)) xs
+total-flat_map f g [] = refl
+total-flat_map f g (x ∷ xs) = total-append f (g x) (flat_map g xs) ∙ ap (λ n. total f (g x) +ℤ n) (total-flat_map f g xs)
+
+total-same : {X : Type 0} (f g : X → ℤ) (xs : List X) → ((x : X) → f x ≡ g x) → total f xs ≡ total g xs
+total-same f g [] h = refl
+total-same f g (x ∷ xs) h = rw (h x, total-same f g xs h) refl
+
+is_zero : (z : ℤ) → int_eq z (pos 0) ≡ true → z ≡ pos 0
+is_zero z h = (signed_Decides z (pos 0)).0 h
+
+kept_or_not : {X : Type 0} (f : X → ℤ) (b : Bool) (x : X) (xs : List X) → (b ≡ false → f x ≡ pos 0) → total f (cond b (x ∷ xs) xs) ≡ f x +ℤ total f xs
+kept_or_not f true x xs h = refl
+kept_or_not f false x xs h = let e = h refl in omega (arith, ints)
+
+-- an idle row has no mark and no dividend
+idle_parts : (r : Row) → not (is_idle r) ≡ false → (r.opening ≡ pos 0) × (r.closing ≡ pos 0) × (r.money ≡ pos 0) × (r.dividend ≡ pos 0)
+idle_parts r h =
+    let all = not-false (is_idle r) h in
+    let three = and_parts (int_eq r.opening (pos 0) && int_eq r.closing (pos 0) && int_eq r.money (pos 0)) (int_eq r.dividend (pos 0)) all in
+    let two = and_parts (int_eq r.opening (pos 0) && int_eq r.closing (pos 0)) (int_eq r.money (pos 0)) three.0 in
+    let one = and_parts (int_eq r.opening (pos 0)) (int_eq r.closing (pos 0)) two.0 in
+    (is_zero r.opening one.0, is_zero r.closing one.1, is_zero r.money two.1, is_zero r.dividend three.1)
+
+no_mark : (opening : Day) (K : Journal) (a : Account) (c : Cusip) → not (is_idle (row opening K a c)) ≡ false → mark K a c ≡ pos 0
+no_mark opening K a c h =
+    let p = idle_parts (row opening K a c) h in
+    rw (p.0, p.1, p.2, zero-*ℤ (pos (price K c)), zero-*ℤ (pos (price (last_close K) c))) refl
+
+no_dividend : (opening : Day) (K : Journal) (a : Account) (c : Cusip) → not (is_idle (row opening K a c)) ≡ false → dividend opening K a c ≡ pos 0
+no_dividend opening K a c h = (idle_parts (row opening K a c) h).3
+
+marks_of_rows : (opening : Day) (K : Journal) (a : Account) (cs : List Cusip) → total (λ r. r.mark) (filter (λ r. not (is_idle r)) (map (row opening K a) cs)) ≡ total (λ c. mark K a c) cs
+marks_of_rows opening K a [] = refl
+marks_of_rows opening K a (c ∷ cs) =
+    kept_or_not (λ (r : Row). r.mark) (not (is_idle (row opening K a c))) (row opening K a c) (filter (λ r. not (is_idle r)) (map (row opening K a) cs)) (no_mark opening K a c)
+    ∙ ap (λ n. mark K a c +ℤ n) (marks_of_rows opening K a cs)
+
+dividends_of_rows : (opening : Day) (K : Journal) (a : Account) (cs : List Cusip) → total (λ r. r.dividend) (filter (λ r. not (is_idle r)) (map (row opening K a) cs)) ≡ total (λ c. dividend opening K a c) cs
+dividends_of_rows opening K a [] = refl
+dividends_of_rows opening K a (c ∷ cs) =
+    kept_or_not (λ (r : Row). r.dividend) (not (is_idle (row opening K a c))) (row opening K a c) (filter (λ r. not (is_idle r)) (map (row opening K a) cs)) (no_dividend opening K a c)
+    ∙ ap (λ n. dividend opening K a c +ℤ n) (dividends_of_rows opening K a cs)
+
+-- ---- the journal before a sound one is sound
+
+before_or_earlier : (bs : List Account) (b : Bool) (K : Journal) → AreSound bs K → AreSound bs (last_close K) → AreSound bs (unwrap_or (slice_get (cond b (K ∷ closings K) (closings K)) 0) [])
+before_or_earlier bs true K h e = h
+before_or_earlier bs false K h e = e
+
+sound_before : (bs : List Account) (K : Journal) → AreSound bs K → AreSound bs (last_close K)
+sound_before bs [] h = tt
+sound_before bs (p ∷ K) h = before_or_earlier bs (is_close p.activity) K h.1 (sound_before bs K h.1)
+
+dividends_zero : (bs : List Account) → total (λ a. pos 0) bs ≡ pos 0
+dividends_zero bs = total-zero bs
+
+-- ---- the sheet
+
+sheet_zero : (opening : Day) (K : Journal) → IsSound K → AddsUpToZero opening K
+sheet_zero opening K s = record {
+  marks =
+      total-flat_map (λ (r : Row). r.mark) (rows_of opening K) (accounts K)
+      ∙ total-same _ _ (accounts K) (λ a. marks_of_rows opening K a (issues K))
+      ∙ total-swap (λ a c. mark K a c) (accounts K) (issues K)
+      ∙ total-same _ _ (issues K) (λ c. marks_zero (accounts K) c K s.sound (sound_before (accounts K) K s.sound))
+      ∙ total-zero (issues K);
+  dividends =
+      total-flat_map (λ (r : Row). r.dividend) (rows_of opening K) (accounts K)
+      ∙ total-same _ _ (accounts K) (λ a. dividends_of_rows opening K a (issues K))
+      ∙ total-swap (λ a c. dividend opening K a c) (accounts K) (issues K)
+      ∙ total-same _ _ (issues K) (λ c. dividends_zero (accounts K))
+      ∙ total-zero (issues K);
+}
+
+-- after any commands the sheet of each closed day adds up to zero
+pub zero_sums : ZeroSums
+zero_sums opening cmds i =
+    let J : Journal = journal_after opening cmds in
+    let w : IsWhole J = whole-after (opened opening) cmds whole_nil in
+    sheet_zero opening (at_close J i) (each_found IsSound (λ K. day K == i) [] (closings J) sound_nil w.past)
+
+-- and the positions of all accounts in each issue do, with the open day's cents
+pub positions_balanced : Positions
+positions_balanced opening cmds c =
+    let J : Journal = journal_after opening cmds in
+    let w : IsWhole J = whole-after (opened opening) cmds whole_nil in
+    record {
+      shares = positions_zero (accounts J) c J w.now.sound;
+      cents = cents_zero (accounts J) c (open_day J) (sound_open_day (accounts J) J w.now.sound);
+    }

@@ -1,0 +1,180 @@
+-- What accepted commands keep true of the journal.
+use Rattle.std.proofs.Common.{◌≡◌, ℕ, ◌+◌, ◌≤◌, Bool, true, false, not, cond, ◌&&◌, ◌||◌, ◌==◌, List, [], ◌∷◌, find, Option, Some, None, option_map, is_none, refl, ◌∙◌, ap, arith}
+use Rattle.std.specs.List.{AllByRecursion, list_any}
+use Rattle.std.proofs.lemmas.Bool.{eqb-true}
+use Rattle.cns_units.specs.declared.cusip.Cusip.{Cusip}
+use Rattle.cns_units.specs.declared.day.Day.{Day}
+use Rattle.cns_terms.specs.declared.command.Activity.{Activity}
+use Rattle.cns_terms.specs.declared.command.Activity.TheVariants as activity
+use Rattle.cns_terms.specs.declared.command.Command.{Command}
+use Rattle.cns_terms.specs.declared.command.Command.TheVariants as command
+use Rattle.cns_terms.specs.declared.holding.Entry.{Entry}
+use Rattle.cns_terms.specs.Days.{closings}
+use Rattle.cns_terms.specs.Entries.{corporation, entries, journal, posting}
+use Rattle.cns_terms.specs.Laws.{journal_of}
+use Rattle.cns_terms.specs.Listings.{accounts, is_listed, is_member, issues, members}
+use Rattle.cns_terms.specs.Machine.{State, next, after}
+use Rattle.cns_terms.specs.Postings.{Posting, Journal}
+use Rattle.cns_terms.specs.Refusals.{Rule, first_refusal, refusal, rules}
+use Rattle.cns_terms.proofs.Accounts.{occurs, occurs-put, occurs_found, occurs_missing}
+use Rattle.cns_terms.proofs.EntrySums.{entries_balanced}
+use Rattle.cns_terms.proofs.Everywhere.{each_weaker}
+use Rattle.cns_terms.proofs.ZeroSums.{AreOf, IsSoundPosting, AreSound}
+
+-- a number is one of the accounts
+abbrev pub IsIn : Journal → ℕ → Type 0
+IsIn J a = 1 ≤ occurs a (accounts J)
+
+-- the accounts are distinct, and each posting adds up to zero and books for them alone
+pub record IsSound (J : Journal) : Type 0 where
+  pub distinct : (a : ℕ) → occurs a (accounts J) ≤ 1
+  pub sound : AreSound (accounts J) J
+
+-- a journal that is sound, as it was at each close
+pub record IsWhole (J : Journal) : Type 0 where
+  pub now : IsSound J
+  pub past : AllByRecursion IsSound (closings J)
+
+-- ---- the start
+
+one_account : (b : Bool) → cond b 1 0 + 0 ≤ 1
+one_account true = omega arith
+one_account false = omega arith
+
+pub sound_nil : IsSound []
+sound_nil = record { distinct = λ a. one_account (a == 0); sound = tt }
+
+-- ---- what a command that is not refused has met
+
+abbrev pub NoneHolds : List Rule → Type 0
+NoneHolds rs = is_none (first_refusal rs) ≡ true
+
+first_fails : (r : Rule) (rs : List Rule) → NoneHolds (r ∷ rs) → (r.1 ≡ false) × NoneHolds rs
+first_fails (f, true) rs h = cc
+first_fails (f, false) rs h = (refl, h)
+
+-- of an activity that is not refused, no rule's condition holds
+pub all_fail : (rs : List Rule) → NoneHolds rs → AllByRecursion (λ (r : Rule). r.1 ≡ false) rs
+all_fail [] h = tt
+all_fail (r ∷ rs) h = let e = first_fails r rs h in (e.0, all_fail rs e.1)
+
+pub both_hold : (x y : Bool) → not (x && y) ≡ false → (x ≡ true) × (y ≡ true)
+both_hold true true h = (refl, refl)
+both_hold true false h = cc
+both_hold false y h = cc
+
+pub holds : (x : Bool) → not x ≡ false → x ≡ true
+holds true h = refl
+holds false h = cc
+
+member_in : (J : Journal) (a : ℕ) → is_member J a ≡ true → IsIn J a
+member_in J a h = let e = occurs_found a (members J) h in omega arith
+
+zero_in : (J : Journal) → IsIn J corporation
+zero_in J = omega arith
+
+-- ---- the accounts that activities book for
+
+abbrev AreIn : Journal → List Entry → Type 0
+AreIn J es = AllByRecursion (λ e. IsIn J e.account) es
+
+entries_in : (opening : Day) (J : Journal) (x : Activity) → NoneHolds (rules opening J x) → AreIn J (entries opening J x)
+entries_in opening J (activity.Member m) h = tt
+entries_in opening J (activity.Issue l) h = tt
+entries_in opening J (activity.Trade t) h =
+    let fails = all_fail (rules opening J (activity.Trade t)) h in
+    let both = both_hold (is_member J t.buyer) (is_member J t.seller) fails.0 in
+    (member_in J t.buyer both.0, (member_in J t.seller both.1, tt))
+entries_in opening J (activity.Price l) h = tt
+entries_in opening J (activity.Deliver m) h =
+    let fails = all_fail (rules opening J (activity.Deliver m)) h in
+    (member_in J m.member (holds (is_member J m.member) fails.0), (zero_in J, tt))
+entries_in opening J (activity.Receive m) h =
+    let fails = all_fail (rules opening J (activity.Receive m)) h in
+    (member_in J m.member (holds (is_member J m.member) fails.0), (zero_in J, tt))
+entries_in opening J (activity.Close d) h = tt
+
+-- ---- one more activity
+
+weaker_in : (J J' : Journal) (es : List Entry) → ((a : ℕ) → occurs a (accounts J) ≤ occurs a (accounts J')) → AreIn J es → AreIn J' es
+weaker_in J J' es grown h = each_weaker (λ (e : Entry). IsIn J e.account) (λ e. IsIn J' e.account) es (λ e p. let g = grown e.account in omega arith) h
+
+-- where accounts are distinct, an account that stands there stands once
+once_in : (J : Journal) (es : List Entry) → ((a : ℕ) → occurs a (accounts J) ≤ 1) → AreIn J es → AreOf (accounts J) es
+once_in J es distinct h = each_weaker (λ (e : Entry). IsIn J e.account) (λ e. occurs e.account (accounts J) ≡ 1) es (λ e p. let d = distinct e.account in omega arith) h
+
+held_in : (J : Journal) (es : List Entry) → AreOf (accounts J) es → AreIn J es
+held_in J es h = each_weaker (λ (e : Entry). occurs e.account (accounts J) ≡ 1) (λ e. IsIn J e.account) es (λ e p. omega arith) h
+
+grown-post : (p : Posting) (J : Journal) (a : ℕ) → occurs a (accounts J) ≤ occurs a (accounts (p ∷ J))
+grown-post p J a = by p.activity where
+  by : (x : Activity) → occurs a (accounts J) ≤ occurs a (accounts (record { activity = x; entries = p.entries } ∷ J))
+  by (activity.Member m) = rw (occurs-put a m (members J)) (omega arith)
+  by (activity.Issue l) = omega arith
+  by (activity.Trade t) = omega arith
+  by (activity.Price l) = omega arith
+  by (activity.Deliver m) = omega arith
+  by (activity.Receive m) = omega arith
+  by (activity.Close d) = omega arith
+
+added_once : (b : Bool) (n k : ℕ) → n + k ≤ 1 → (b ≡ true → n + k ≡ 0) → n + (cond b 1 0 + k) ≤ 1
+added_once true n k d e = let z = e refl in omega arith
+added_once false n k d e = omega arith
+
+distinct-post : (opening : Day) (J : Journal) (x : Activity) → IsSound J → NoneHolds (rules opening J x) → (a : ℕ) → occurs a (accounts (posting opening J x ∷ J)) ≤ 1
+distinct-post opening J (activity.Member m) s h a =
+    let fails = all_fail (rules opening J (activity.Member m)) h in
+    let missing : occurs m (accounts J) ≡ 0 = occurs_missing m (accounts J) fails.0 in
+    let d = s.distinct a in
+    rw (occurs-put a m (members J)) (added_once (a == m) (cond (a == 0) 1 0) (occurs a (members J)) d (λ e. ap (λ k. occurs k (accounts J)) (eqb-true a m e) ∙ missing))
+distinct-post opening J (activity.Issue l) s h a = s.distinct a
+distinct-post opening J (activity.Trade t) s h a = s.distinct a
+distinct-post opening J (activity.Price l) s h a = s.distinct a
+distinct-post opening J (activity.Deliver m) s h a = s.distinct a
+distinct-post opening J (activity.Receive m) s h a = s.distinct a
+distinct-post opening J (activity.Close d) s h a = s.distinct a
+
+past-post : (opening : Day) (J : Journal) (x : Activity) → IsWhole J → AllByRecursion IsSound (closings (posting opening J x ∷ J))
+past-post opening J (activity.Member m) w = w.past
+past-post opening J (activity.Issue l) w = w.past
+past-post opening J (activity.Trade t) w = w.past
+past-post opening J (activity.Price l) w = w.past
+past-post opening J (activity.Deliver m) w = w.past
+past-post opening J (activity.Receive m) w = w.past
+past-post opening J (activity.Close d) w = (w.now, w.past)
+
+-- one accepted activity keeps the journal sound
+whole-post : (opening : Day) (J : Journal) (x : Activity) → IsWhole J → NoneHolds (rules opening J x) → IsWhole (posting opening J x ∷ J)
+whole-post opening J x w h =
+    let J' : Journal = posting opening J x ∷ J in
+    let grown : (a : ℕ) → occurs a (accounts J) ≤ occurs a (accounts J') = grown-post (posting opening J x) J in
+    let distinct : (a : ℕ) → occurs a (accounts J') ≤ 1 = distinct-post opening J x w.now h in
+    let mine : IsSoundPosting (accounts J') (posting opening J x) = record {
+      balanced = entries_balanced opening J x;
+      known = once_in J' (entries opening J x) distinct (weaker_in J J' (entries opening J x) grown (entries_in opening J x h));
+    } in
+    let others : AreSound (accounts J') J = each_weaker (IsSoundPosting (accounts J)) (IsSoundPosting (accounts J')) J (λ p s. record {
+      balanced = s.balanced;
+      known = once_in J' p.entries distinct (weaker_in J J' p.entries grown (held_in J p.entries s.known));
+    }) w.now.sound in
+    record {
+      now = record { distinct = distinct; sound = (mine, others) };
+      past = past-post opening J x w;
+    }
+
+whole_if : (opening : Day) (L : List Activity) (x : Activity) → IsWhole (journal opening L) → (b : Bool) → is_none (refusal opening (journal opening L) (command.Activity x)) ≡ b → IsWhole (journal opening (cond b (x ∷ L) L))
+whole_if opening L x w true h = whole-post opening (journal opening L) x w h
+whole_if opening L x w false h = w
+
+whole-next : (S : State) (cmd : Command) → IsWhole (journal_of S) → IsWhole (journal_of (next S cmd))
+whole-next S (command.Activity x) w = whole_if S.opening S.accepted x w _ refl
+whole-next S (command.Position k) w = w
+whole-next S (command.Statement s) w = w
+
+-- whatever commands are taken, the journal is sound
+pub whole-after : (S : State) (cmds : List Command) → IsWhole (journal_of S) → IsWhole (journal_of (after S cmds))
+whole-after S [] w = w
+whole-after S (cmd ∷ cmds) w = whole-after (next S cmd) cmds (whole-next S cmd w)
+
+pub whole_nil : IsWhole []
+whole_nil = record { now = sound_nil; past = tt }
