@@ -1,5 +1,8 @@
 // The map of issues.
-ghost use Rattle.std.specs.Prelude.{◌≡◌, ◌||◌, OnOk, OnErr, Option, Some, None, bytes_eq, if◌then◌else◌, false, MatchOption, [], ◌∷◌, IsSome};
+ghost use Rattle.std.specs.Prelude.{◌≡◌, ◌||◌, OnOk, OnErr, Option, Some, None, bytes_eq, if◌then◌else◌, false, MatchOption, [], ◌∷◌, IsSome, true};
+ghost use Rattle.std.specs.FinMap.{is_sorted};
+ghost use Rattle.std.specs.Ordering.{nat_cmp};
+ghost use Rattle.std.specs.Cmp.Lexicographic.{slice_cmp};
 ghost use Rattle.cns_units.specs.declared.cusip.Cusip.{Cusip};
 ghost use Rattle.cns_prices.specs.Listed.{price_in, retired_in, quote_in, listed_above, Quotes};
 
@@ -8,6 +11,7 @@ use cns_units::{Cusip, Price};
 use std::alloc::Allocator;
 use std::collections::BTreeMap;
 use std::marker::Model;
+use std::ops::Bound;
 
 /// What is known of a listed issue.
 #[derive(Clone, Copy, Debug, PartialEq, Eq)]
@@ -128,5 +132,18 @@ impl<A: Allocator + Drop> Prices<A> {
                 },
             );
         }
+    }
+
+    /// The first listed issue above another, or the first of all, with its price; retired ones too.
+    pub fn next_listed(&self, after: Option<Cusip>) -> Option<(Cusip, Price)>
+        ensures next { MatchOption result (listed_above self.now after ≡ []) (λ e. listed_above self.now after ≡ e ∷ listed_above self.now (Some e.0)) }
+        ensures order { is_sorted (slice_cmp nat_cmp) self.now ≡ true }
+    {
+        let start = match after {
+            Some(low) => Bound::Excluded(low),
+            None => Bound::Unbounded,
+        };
+        let (cusip, quote) = self.issues.range((start, Bound::Unbounded)).next()?;
+        Some((*cusip, quote.price))
     }
 }

@@ -1,6 +1,6 @@
 -- What holds of each element of a list.
-use Rattle.std.proofs.Common.{ℕ, ◌≤◌, Bool, true, false, cond, List, [], ◌∷◌, ◌++◌, map, filter, find, unwrap_or, Option, Some, refl, arith}
-use Rattle.std.specs.List.{AllByRecursion}
+use Rattle.std.proofs.Common.{ℕ, ◌≤◌, Bool, true, false, cond, ◌≡◌, ◌∙◌, ap, ◌||◌, List, [], ◌∷◌, ◌++◌, map, filter, find, unwrap_or, Option, Some, refl, arith}
+use Rattle.std.specs.List.{AllByRecursion, list_any}
 use Rattle.std.proofs.lemmas.Bool.{eq-eqb}
 use Rattle.cns_terms.specs.Sums.{put, in_order}
 use Rattle.cns_terms.proofs.Accounts.{occurs}
@@ -56,3 +56,17 @@ stands_first n cs = rw (eq-eqb n n refl) (omega arith)
 pub each_stands : (bs : List ℕ) → AllByRecursion (λ a. 1 ≤ occurs a bs) bs
 each_stands [] = tt
 each_stands (b ∷ bs) = (stands_first b bs, stands_after b bs bs (each_stands bs))
+
+or_swap : (a b c : Bool) → (a || (b || c)) ≡ (b || (a || c))
+or_swap true true c = refl
+or_swap true false c = refl
+or_swap false b c = refl
+
+put_branch : {X : Type 0} (p : X → Bool) (b : Bool) (x y : X) (ys zs : List X) → list_any p zs ≡ (p x || list_any p ys) → list_any p (cond b (x ∷ y ∷ ys) (y ∷ zs)) ≡ (p x || (p y || list_any p ys))
+put_branch p true x y ys zs e = refl
+put_branch p false x y ys zs e = ap (λ b. p y || b) e ∙ or_swap (p y) (p x) (list_any p ys)
+
+-- some element of a list, with one more put in its place
+pub any_put : {X : Type 0} (p : X → Bool) (before : X → X → Bool) (x : X) (ys : List X) → list_any p (put before x ys) ≡ (p x || list_any p ys)
+any_put p before x [] = refl
+any_put p before x (y ∷ ys) = put_branch p (before x y) x y ys (put before x ys) (any_put p before x ys)

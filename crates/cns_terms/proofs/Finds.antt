@@ -4,7 +4,10 @@ use Rattle.std.specs.Prelude.{option_map}
 use Rattle.std.specs.Cmp.{IsTotalOrder}
 use Rattle.std.specs.FinMap.{FinMap, entries, entries-from_sorted, find, from_sorted, get, get-from_sorted, is_sorted, same_map, IsAntisymmetric}
 use Rattle.std.specs.FinMap.Entries.{below_all}
+use Rattle.std.specs.List.{AllByRecursion}
+use Rattle.std.specs.List.Sorted.{IsStrictlySortedBy}
 use Rattle.std.specs.Ordering.{is_eq, is_lt, ordering_reverse}
+use Rattle.std.proofs.lemmas.Cmp.{tied_itself}
 use Rattle.std.specs.declared.cmp.Ordering.{Ordering}
 use Rattle.std.specs.declared.cmp.Ordering.TheVariants.{Less, Equal, Greater}
 use lib.Dec.{T}
@@ -34,6 +37,9 @@ less Greater e = cc
 pub as_T : (b : Bool) → b ≡ true → T b
 as_T true e = tt
 as_T false e = cc
+
+not_itself : {K : Type 0} {R : K → K → Ordering} (o : IsTotalOrder R) (k : K) → is_lt (R k k) ≡ false
+not_itself o k = ap is_lt (tied_itself o k)
 
 module _ {K X : Type 0} {R : K → K → Ordering} (o : IsTotalOrder R) where
   -- what lies above a key does not have it
@@ -86,3 +92,56 @@ module _ {K X : Type 0} {R : K → K → Ordering} (o : IsTotalOrder R) where
       sym (entries-from_sorted R es (as_T _ s))
       ∙ ap entries (same_map o a m n (λ q. get-from_sorted R es q (as_T _ s) ∙ h q ∙ sym (get-from_sorted R fs q (as_T _ t))))
       ∙ entries-from_sorted R fs (as_T _ t)
+
+  less_above : (k : K) (b : Bool) (x : K × X) (xs es : List (K × X)) (e : K × X) (rest : List (K × X)) → R k x.0 ≡ Less → ((e : K × X) (rest : List (K × X)) → es ≡ e ∷ rest → R k e.0 ≡ Less) → cond b (x ∷ es) es ≡ e ∷ rest → R k e.0 ≡ Less
+  less_above k true x xs es e rest l more h = sym (ap (λ q. R k q.0) (head h)) ∙ l
+    where
+      head : x ∷ es ≡ e ∷ rest → x ≡ e
+      head h = cc
+  less_above k false x xs es e rest l more h = more e rest h
+
+  -- what a filter keeps first lies above what lies below all
+  first_above : (t : K → Bool) (k : K) (xs : List (K × X)) (e : K × X) (rest : List (K × X)) → below_all R k xs ≡ true → filter (λ x. t x.0) xs ≡ e ∷ rest → R k e.0 ≡ Less
+  first_above t k [] e rest b h = cc
+  first_above t k (x ∷ xs) e rest b h = less_above k (t x.0) x xs (filter (λ x. t x.0) xs) e rest (less _ (and_left _ _ b)) (λ e rest h. first_above t k xs e rest (and_right _ _ b) h) h
+
+  all_above : (t : K → Bool) (k : K) (xs : List (K × X)) → ((q : K) → R k q ≡ Less → t q ≡ true) → below_all R k xs ≡ true → filter (λ x. t x.0) xs ≡ xs
+  all_above t k [] later b = refl
+  all_above t k (x ∷ xs) later b = ap (λ c. cond c (x ∷ filter (λ x. t x.0) xs) (filter (λ x. t x.0) xs)) (later x.0 (less _ (and_left _ _ b))) ∙ ap (λ ys. x ∷ ys) (all_above t k xs later (and_right _ _ b))
+
+  next_branch : (t : K → Bool) (b : Bool) (x : K × X) (xs : List (K × X)) (e : K × X) (rest : List (K × X)) → t x.0 ≡ b → ((k q : K) → t k ≡ true → R k q ≡ Less → t q ≡ true) → below_all R x.0 xs ≡ true
+      → (filter (λ y. t y.0) xs ≡ e ∷ rest → filter (λ y. is_lt (R e.0 y.0)) xs ≡ rest)
+      → cond b (x ∷ filter (λ y. t y.0) xs) (filter (λ y. t y.0) xs) ≡ e ∷ rest
+      → cond (is_lt (R e.0 x.0)) (x ∷ filter (λ y. is_lt (R e.0 y.0)) xs) (filter (λ y. is_lt (R e.0 y.0)) xs) ≡ rest
+  next_branch t true x xs e rest p up b more h =
+      let same : x ≡ e = head h in
+      let tail_is : filter (λ y. t y.0) xs ≡ rest = tail h in
+      let here : is_lt (R e.0 x.0) ≡ false = ap (λ q. is_lt (R e.0 q.0)) same ∙ not_itself o e.0 in
+      ap (λ c. cond c (x ∷ filter (λ y. is_lt (R e.0 y.0)) xs) (filter (λ y. is_lt (R e.0 y.0)) xs)) here
+      ∙ ap (λ q. filter (λ y. is_lt (R q.0 y.0)) xs) (sym same)
+      ∙ all_above (λ q. is_lt (R x.0 q)) x.0 xs (λ q l. ap is_lt l) b
+      ∙ sym (all_above t x.0 xs (λ q l. up x.0 q p l) b)
+      ∙ tail_is
+    where
+      head : x ∷ filter (λ y. t y.0) xs ≡ e ∷ rest → x ≡ e
+      head h = cc
+      tail : x ∷ filter (λ y. t y.0) xs ≡ e ∷ rest → filter (λ y. t y.0) xs ≡ rest
+      tail h = cc
+  next_branch t false x xs e rest p up b more h =
+      ap (λ c. cond c (x ∷ filter (λ y. is_lt (R e.0 y.0)) xs) (filter (λ y. is_lt (R e.0 y.0)) xs)) (ap is_lt (o.antisymm e.0 x.0 ∙ ap ordering_reverse (first_above t x.0 xs e rest b h)))
+      ∙ more h
+
+  -- past the first that a rising test keeps, the rest are those above it
+  pub next_above : (t : K → Bool) (xs : List (K × X)) (e : K × X) (rest : List (K × X)) → ((k q : K) → t k ≡ true → R k q ≡ Less → t q ≡ true) → is_sorted R xs ≡ true → filter (λ y. t y.0) xs ≡ e ∷ rest → filter (λ y. is_lt (R e.0 y.0)) xs ≡ rest
+  next_above t [] e rest up s h = cc
+  next_above t (x ∷ xs) e rest up s h = next_branch t (t x.0) x xs e rest refl up (and_left _ _ s) (next_above t xs e rest up (and_right _ _ s)) h
+
+  below_from : (k : K) (es : List (K × X)) → AllByRecursion (λ q. R k q ≡ Less) (map (λ e. e.0) es) → below_all R k es ≡ true
+  below_from k [] h = refl
+  below_from k (e ∷ es) h = both_true _ _ (ap is_lt h.0) (below_from k es h.1)
+
+  -- the two words for keys that strictly rise
+  pub sorted_from : (es : List (K × X)) → IsStrictlySortedBy R (map (λ e. e.0) es) → is_sorted R es ≡ true
+  unfolding IsStrictlySortedBy
+  sorted_from [] h = refl
+  sorted_from (e ∷ es) h = both_true _ _ (below_from e.0 es h.0) (sorted_from es h.1)

@@ -10,3 +10,5 @@ pub mod EntrySums
 pub mod ZeroSums
 pub mod Sound
 pub mod SheetSums
+pub mod Elsewhere
+pub mod SheetRows

@@ -1,7 +1,13 @@
 -- What accepted commands keep true of the journal.
 use Rattle.std.proofs.Common.{◌≡◌, ℕ, ◌+◌, ◌≤◌, Bool, true, false, not, cond, ◌&&◌, ◌||◌, ◌==◌, List, [], ◌∷◌, find, Option, Some, None, option_map, is_none, refl, ◌∙◌, ap, arith}
 use Rattle.std.specs.List.{AllByRecursion, list_any}
+use Rattle.std.specs.Prelude.{bytes_eq}
+use Rattle.std.specs.Cmp.Lexicographic.{slice_cmp}
+use Rattle.std.specs.Ordering.{is_eq, is_lt, nat_cmp}
 use Rattle.std.proofs.lemmas.Bool.{eqb-true}
+use Rattle.std.proofs.lemmas.Bool.Decides.{nat_tests}
+use Rattle.std.proofs.lemmas.Cmp.{nat_cmp_total, nat_list_cmp_total, nat_list_eq_equiv}
+use Rattle.std.proofs.lemmas.Map.Text.{is_eq-slice_cmp}
 use Rattle.cns_units.specs.declared.cusip.Cusip.{Cusip}
 use Rattle.cns_units.specs.declared.day.Day.{Day}
 use Rattle.cns_terms.specs.declared.command.Activity.{Activity}
@@ -12,23 +18,32 @@ use Rattle.cns_terms.specs.declared.holding.Entry.{Entry}
 use Rattle.cns_terms.specs.Days.{closings}
 use Rattle.cns_terms.specs.Entries.{corporation, entries, journal, posting}
 use Rattle.cns_terms.specs.Laws.{journal_of}
-use Rattle.cns_terms.specs.Listings.{accounts, is_listed, is_member, issues, members}
+use Rattle.cns_terms.specs.Listings.{accounts, is_listed, issue_lt, is_member, issues, members}
 use Rattle.cns_terms.specs.Machine.{State, next, after}
 use Rattle.cns_terms.specs.Postings.{Posting, Journal}
 use Rattle.cns_terms.specs.Refusals.{Rule, first_refusal, refusal, rules}
 use Rattle.cns_terms.proofs.Accounts.{occurs, occurs-put, occurs_found, occurs_missing}
 use Rattle.cns_terms.proofs.EntrySums.{entries_balanced}
-use Rattle.cns_terms.proofs.Everywhere.{each_weaker}
+use Rattle.cns_terms.proofs.Everywhere.{any_put, each_weaker}
+use Rattle.cns_terms.proofs.Finds.{and_left, and_right, both_true}
+use Rattle.cns_terms.proofs.Rising.{above_put, is_rising, rising_put}
 use Rattle.cns_terms.proofs.ZeroSums.{AreOf, IsSoundPosting, AreSound}
 
 -- a number is one of the accounts
 abbrev pub IsIn : Journal → ℕ → Type 0
 IsIn J a = 1 ≤ occurs a (accounts J)
 
--- the accounts are distinct, and each posting adds up to zero and books for them alone
+-- each entry is of a listed issue
+abbrev pub AreOfListed : Journal → List Entry → Type 0
+AreOfListed J es = AllByRecursion (λ e. is_listed J e.issue ≡ true) es
+
+-- accounts and issues are distinct and in order, and each posting adds up to zero and books for them alone
 pub record IsSound (J : Journal) : Type 0 where
   pub distinct : (a : ℕ) → occurs a (accounts J) ≤ 1
   pub sound : AreSound (accounts J) J
+  pub accounts_rise : is_rising nat_cmp (accounts J) ≡ true
+  pub issues_rise : is_rising (slice_cmp nat_cmp) (issues J) ≡ true
+  pub issued : AllByRecursion (λ p. AreOfListed J p.entries) J
 
 -- a journal that is sound, as it was at each close
 pub record IsWhole (J : Journal) : Type 0 where
@@ -42,7 +57,7 @@ one_account true = omega arith
 one_account false = omega arith
 
 pub sound_nil : IsSound []
-sound_nil = record { distinct = λ a. one_account (a == 0); sound = tt }
+sound_nil = record { distinct = λ a. one_account (a == 0); sound = tt; accounts_rise = refl; issues_rise = refl; issued = tt }
 
 -- ---- what a command that is not refused has met
 
@@ -134,6 +149,78 @@ distinct-post opening J (activity.Deliver m) s h a = s.distinct a
 distinct-post opening J (activity.Receive m) s h a = s.distinct a
 distinct-post opening J (activity.Close d) s h a = s.distinct a
 
+-- ---- one more activity: the order, and listed issues
+
+nat_eq_test : (a b : ℕ) → is_eq (nat_cmp a b) ≡ (a == b)
+nat_eq_test a b = grind (arith, nat_tests)
+
+first_account : (m : ℕ) → (m == 0) ≡ false → is_lt (nat_cmp 0 m) ≡ true
+first_account m h = grind (arith, nat_tests)
+
+neither : (a b : Bool) → (a || b) ≡ false → (a ≡ false) × (b ≡ false)
+neither true b e = cc
+neither false b e = (refl, e)
+
+accounts-post : (opening : Day) (J : Journal) (x : Activity) → IsSound J → NoneHolds (rules opening J x) → is_rising nat_cmp (accounts (posting opening J x ∷ J)) ≡ true
+accounts-post opening J (activity.Member m) s h =
+    let fails = all_fail (rules opening J (activity.Member m)) h in
+    let apart = neither (m == 0) (list_any (λ b. m == b) (members J)) fails.0 in
+    both_true _ _
+    (above_put nat_cmp_total corporation m (members J) (first_account m apart.0) (and_left _ _ s.accounts_rise))
+    (rising_put nat_cmp_total m (members J) (and_right _ _ s.accounts_rise) ((λ i. list_any (λ b. nat_eq_test m b i) (members J)) ∙ apart.1))
+accounts-post opening J (activity.Issue l) s h = s.accounts_rise
+accounts-post opening J (activity.Trade t) s h = s.accounts_rise
+accounts-post opening J (activity.Price l) s h = s.accounts_rise
+accounts-post opening J (activity.Deliver m) s h = s.accounts_rise
+accounts-post opening J (activity.Receive m) s h = s.accounts_rise
+accounts-post opening J (activity.Close d) s h = s.accounts_rise
+
+same_test : (c d : Cusip) → is_eq (slice_cmp nat_cmp c d) ≡ bytes_eq d c
+same_test c d = is_eq-slice_cmp c d ∙ nat_list_eq_equiv.symm c d
+
+issues-post : (opening : Day) (J : Journal) (x : Activity) → IsSound J → NoneHolds (rules opening J x) → is_rising (slice_cmp nat_cmp) (issues (posting opening J x ∷ J)) ≡ true
+issues-post opening J (activity.Issue l) s h =
+    let fails = all_fail (rules opening J (activity.Issue l)) h in
+    rising_put nat_list_cmp_total l.issue (issues J) s.issues_rise ((λ i. list_any (λ d. same_test l.issue d i) (issues J)) ∙ fails.0)
+issues-post opening J (activity.Member m) s h = s.issues_rise
+issues-post opening J (activity.Trade t) s h = s.issues_rise
+issues-post opening J (activity.Price l) s h = s.issues_rise
+issues-post opening J (activity.Deliver m) s h = s.issues_rise
+issues-post opening J (activity.Receive m) s h = s.issues_rise
+issues-post opening J (activity.Close d) s h = s.issues_rise
+
+or_right : (a b : Bool) → b ≡ true → (a || b) ≡ true
+or_right true b h = refl
+or_right false b h = h
+
+-- an issue stays listed
+pub listed-post : (opening : Day) (J : Journal) (x : Activity) (c : Cusip) → is_listed J c ≡ true → is_listed (posting opening J x ∷ J) c ≡ true
+listed-post opening J (activity.Issue l) c h = any_put (λ d. bytes_eq d c) issue_lt l.issue (issues J) ∙ or_right (bytes_eq l.issue c) (is_listed J c) h
+listed-post opening J (activity.Member m) c h = h
+listed-post opening J (activity.Trade t) c h = h
+listed-post opening J (activity.Price l) c h = h
+listed-post opening J (activity.Deliver m) c h = h
+listed-post opening J (activity.Receive m) c h = h
+listed-post opening J (activity.Close d) c h = h
+
+entries_listed : (opening : Day) (J : Journal) (x : Activity) → NoneHolds (rules opening J x) → AreOfListed J (entries opening J x)
+entries_listed opening J (activity.Member m) h = tt
+entries_listed opening J (activity.Issue l) h = tt
+entries_listed opening J (activity.Trade t) h =
+    let listed = holds (is_listed J t.issue) (all_fail (rules opening J (activity.Trade t)) h).1.0 in
+    (listed, (listed, tt))
+entries_listed opening J (activity.Price l) h = tt
+entries_listed opening J (activity.Deliver m) h =
+    let listed = holds (is_listed J m.issue) (all_fail (rules opening J (activity.Deliver m)) h).1.0 in
+    (listed, (listed, tt))
+entries_listed opening J (activity.Receive m) h =
+    let listed = holds (is_listed J m.issue) (all_fail (rules opening J (activity.Receive m)) h).1.0 in
+    (listed, (listed, tt))
+entries_listed opening J (activity.Close d) h = tt
+
+still_listed : (opening : Day) (J : Journal) (x : Activity) (es : List Entry) → AreOfListed J es → AreOfListed (posting opening J x ∷ J) es
+still_listed opening J x es h = each_weaker (λ (e : Entry). is_listed J e.issue ≡ true) (λ e. is_listed (posting opening J x ∷ J) e.issue ≡ true) es (λ e p. listed-post opening J x e.issue p) h
+
 past-post : (opening : Day) (J : Journal) (x : Activity) → IsWhole J → AllByRecursion IsSound (closings (posting opening J x ∷ J))
 past-post opening J (activity.Member m) w = w.past
 past-post opening J (activity.Issue l) w = w.past
@@ -158,7 +245,16 @@ whole-post opening J x w h =
       known = once_in J' p.entries distinct (weaker_in J J' p.entries grown (held_in J p.entries s.known));
     }) w.now.sound in
     record {
-      now = record { distinct = distinct; sound = (mine, others) };
+      now = record {
+        distinct = distinct;
+        sound = (mine, others);
+        accounts_rise = accounts-post opening J x w.now h;
+        issues_rise = issues-post opening J x w.now h;
+        issued = (
+          still_listed opening J x (entries opening J x) (entries_listed opening J x h),
+          each_weaker (λ p. AreOfListed J p.entries) (λ p. AreOfListed J' p.entries) J (λ p l. still_listed opening J x p.entries l) w.now.issued,
+        );
+      };
       past = past-post opening J x w;
     }
 

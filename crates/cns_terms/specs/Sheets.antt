@@ -45,6 +45,16 @@ sheet_rows opening K = flat_map (rows_of opening K) (accounts K)
 abbrev pub sheet_prices : Journal → List (Cusip × Price)
 sheet_prices K = map (λ c. (c, price K c)) (issues K)
 
+-- a closed day: its date, the price of each listed issue, and its rows
+pub record DaySheet : Type 0 where
+  pub date : Day
+  pub prices : List (Cusip × Price)
+  pub rows : List Row
+
+-- the sheet that a close cuts from the journal as it finds it
+abbrev pub day_sheet : Day → Journal → DaySheet
+day_sheet opening K = record { date = date opening K; prices = sheet_prices K; rows = sheet_rows opening K }
+
 -- the statement of an account at a close: the count of its rows, and the sums of their marks and dividends
 abbrev pub statement : Day → Journal → Account → Stated
 statement opening K a =

@@ -1,0 +1,43 @@
+-- The first listed issue above another.
+use Rattle.std.proofs.Common.{◌≡◌, ◌∙◌, sym, ap, refl, Bool, true, false, ◌&&◌, not, [], ◌∷◌, List, map, filter, Option, Some, None}
+use Rattle.std.specs.BTreeMap.Range.{range_contains}
+use Rattle.std.specs.Cmp.Lexicographic.{slice_cmp}
+use Rattle.std.specs.FinMap.{is_sorted}
+use Rattle.std.specs.Ordering.{is_lt, nat_cmp}
+use Rattle.std.specs.declared.cmp.Ordering.TheVariants.{Less}
+use Rattle.std.specs.declared.ops.Bound.{Bound}
+use Rattle.std.specs.declared.ops.Bound.TheVariants.{Excluded, Unbounded}
+use Rattle.std.proofs.lemmas.Cmp.{nat_list_cmp_total}
+use Rattle.cns_units.specs.declared.cusip.Cusip.{Cusip}
+use Rattle.cns_terms.proofs.Finds.{less, next_above}
+use Rattle.cns_prices.specs.declared.prices.Quote.{Quote}
+use Rattle.cns_prices.specs.Listed.{Listed, is_after, listed_above}
+
+-- where a search above an issue starts
+abbrev pub start_of : Option Cusip → Bound Cusip
+start_of None = Unbounded
+start_of (Some low) = Excluded low
+
+and_true : (b : Bool) → (b && true) ≡ b
+and_true true = refl
+and_true false = refl
+
+is_within : (after : Option Cusip) (c : Cusip) → range_contains (slice_cmp nat_cmp) (start_of after) Unbounded c ≡ is_after after c
+is_within None c = refl
+is_within (Some low) c = and_true (is_lt (slice_cmp nat_cmp low c))
+
+-- the same entries by the two tests
+same_entries : (after : Option Cusip) (es : Listed) → filter (λ e. range_contains (slice_cmp nat_cmp) (start_of after) Unbounded e.0) es ≡ filter (λ e. is_after after e.0) es
+same_entries after es i = filter (λ e. is_within after e.0 i) es
+
+later : (after : Option Cusip) (c d : Cusip) → is_after after c ≡ true → slice_cmp nat_cmp c d ≡ Less → is_after after d ≡ true
+later None c d p l = refl
+later (Some low) c d p l = ap is_lt (nat_list_cmp_total.trans low c d (less _ p) l)
+
+-- the first, and the rest above it
+pub next_listed : (es r rest : Listed) (after : Option Cusip) (c : Cusip) (q : Quote) → is_sorted (slice_cmp nat_cmp) es ≡ true → r ≡ filter (λ e. range_contains (slice_cmp nat_cmp) (start_of after) Unbounded e.0) es
+    → r ≡ (c, q) ∷ rest → listed_above es after ≡ (c, q.price) ∷ listed_above es (Some c)
+next_listed es r rest after c q s is h =
+    let whole : filter (λ e. is_after after e.0) es ≡ (c, q) ∷ rest = sym (same_entries after es) ∙ sym is ∙ h in
+    let more : filter (λ e. is_after (Some c) e.0) es ≡ rest = next_above nat_list_cmp_total (is_after after) es (c, q) rest (later after) s whole in
+    ap (map (λ e. (e.0, e.1.price))) whole ∙ ap (λ (xs : Listed). (c, q.price) ∷ map (λ e. (e.0, e.1.price)) xs) (sym more)

@@ -1,0 +1,13 @@
+//! The sheet of a closed day: a row for each account and issue with something to say, and the prices of the day.
+//!
+//! A sheet is built once, from positions and prices, and never changes. Its type keeps that its rows are in the order
+//! of accounts and then of the bytes of the issues, that each row's mark follows from its other columns, that in each
+//! issue the closing positions of all accounts add up to zero, and that all marks, and all dividends, add up to zero
+//! cents. Start with `Sheet`.
+#![tactic(auto)]
+
+mod prices;
+
+
+#[cfg(test)]
+mod tests;

@@ -1,0 +1,99 @@
+-- A place at which nothing was booked has no row.
+use Rattle.std.proofs.Common.{◌≡◌, ◌∙◌, ap, refl, ℕ, ◌≤◌, ℤ, pos, ◌+ℤ◌, Bool, true, false, not, cond, ◌&&◌, ◌==◌, List, [], ◌∷◌, slice_get, unwrap_or, arith}
+use Rattle.std.specs.Prelude.{bytes_eq}
+use Rattle.std.specs.List.{AllByRecursion, list_any}
+use Rattle.std.specs.Ordering.{int_eq}
+use Rattle.std.proofs.lemmas.Bool.{eqb-true}
+use Rattle.std.proofs.lemmas.Cmp.{nat_list_eq_equiv}
+use Rattle.std.proofs.lemmas.Int.{ints}
+use Rattle.std.proofs.lemmas.Slice.Eq.{bytes_eq-Decides}
+use Rattle.cns_units.specs.declared.account.Account.{Account}
+use Rattle.cns_units.specs.declared.cusip.Cusip.{Cusip}
+use Rattle.cns_units.specs.declared.day.Day.{Day}
+use Rattle.cns_terms.specs.declared.holding.Entry.{Entry}
+use Rattle.cns_terms.specs.declared.holding.Key.{Key}
+use Rattle.cns_terms.specs.Days.{closings, is_close, last_close, open_day}
+use Rattle.cns_terms.specs.Listings.{accounts, is_account, is_listed, issues}
+use Rattle.cns_terms.specs.Positions.{cents_for, money, position, shares_for}
+use Rattle.cns_terms.specs.Postings.{Journal, Posting}
+use Rattle.cns_terms.specs.Sheets.{is_idle, row}
+use Rattle.cns_terms.specs.Sums.{total, same_issue}
+use Rattle.cns_terms.proofs.Accounts.{occurs, occurs_missing}
+use Rattle.cns_terms.proofs.Sound.{AreOfListed, IsSound}
+use Rattle.cns_terms.proofs.ZeroSums.{AreOf, AreSound}
+
+-- whether an entry is booked at a place
+abbrev is_at : Account → Cusip → Entry → Bool
+is_at a c e = (e.account == a) && same_issue e.issue c
+
+-- none of the entries is booked at the place
+abbrev AreElsewhere : Account → Cusip → Journal → Type 0
+AreElsewhere a c J = AllByRecursion (λ p. AllByRecursion (λ e. is_at a c e ≡ false) p.entries) J
+
+no_shares : (a : Account) (c : Cusip) (es : List Entry) → AllByRecursion (λ e. is_at a c e ≡ false) es → total (shares_for a c) es ≡ pos 0
+no_shares a c [] h = refl
+no_shares a c (e ∷ es) h = (λ i. cond (h.0 i) e.shares (pos 0) +ℤ no_shares a c es h.1 i)
+
+no_cents : (a : Account) (c : Cusip) (es : List Entry) → AllByRecursion (λ e. is_at a c e ≡ false) es → total (cents_for a c) es ≡ pos 0
+no_cents a c [] h = refl
+no_cents a c (e ∷ es) h = (λ i. cond (h.0 i) e.cents (pos 0) +ℤ no_cents a c es h.1 i)
+
+no_position : (a : Account) (c : Cusip) (J : Journal) → AreElsewhere a c J → position J a c ≡ pos 0
+no_position a c [] h = refl
+no_position a c (p ∷ J) h = (λ i. no_shares a c p.entries h.0 i +ℤ no_position a c J h.1 i)
+
+open_branch : (b : Bool) (a : Account) (c : Cusip) (J : Journal) → total (λ p. total (cents_for a c) p.entries) (open_day J) ≡ pos 0 → total (λ p. total (cents_for a c) p.entries) (cond b [] (open_day J)) ≡ pos 0
+open_branch true a c J h = refl
+open_branch false a c J h = h
+
+no_money : (a : Account) (c : Cusip) (J : Journal) → AreElsewhere a c J → money J a c ≡ pos 0
+no_money a c [] h = refl
+no_money a c (p ∷ J) h = (λ i. no_cents a c p.entries h.0 i +ℤ open_branch (is_close p.activity) a c J (no_money a c J h.1) i)
+
+before_branch : (b : Bool) (a : Account) (c : Cusip) (K : Journal) → AreElsewhere a c K → AreElsewhere a c (last_close K) → AreElsewhere a c (unwrap_or (slice_get (cond b (K ∷ closings K) (closings K)) 0) [])
+before_branch true a c K h e = h
+before_branch false a c K h e = e
+
+elsewhere_before : (a : Account) (c : Cusip) (K : Journal) → AreElsewhere a c K → AreElsewhere a c (last_close K)
+elsewhere_before a c [] h = tt
+elsewhere_before a c (p ∷ K) h = before_branch (is_close p.activity) a c K h.1 (elsewhere_before a c K h.1)
+
+idle : (o q m : ℤ) → o ≡ pos 0 → q ≡ pos 0 → m ≡ pos 0 → (int_eq o (pos 0) && int_eq q (pos 0) && int_eq m (pos 0) && int_eq (pos 0) (pos 0)) ≡ true
+idle o q m x y z = λ i. int_eq (x i) (pos 0) && int_eq (y i) (pos 0) && int_eq (z i) (pos 0) && true
+
+idle_elsewhere : (opening : Day) (J : Journal) (a : Account) (c : Cusip) → AreElsewhere a c J → not (is_idle (row opening J a c)) ≡ false
+idle_elsewhere opening J a c h = ap not (idle (position (last_close J) a c) (position J a c) (money J a c) (no_position a c (last_close J) (elsewhere_before a c J h)) (no_position a c J h) (no_money a c J h))
+
+-- ---- an account that is not there, and an issue that is not listed
+
+apart_account : (b d : Bool) (a a' : ℕ) (bs : List ℕ) → (b ≡ true → a' ≡ a) → occurs a' bs ≡ 1 → occurs a bs ≡ 0 → (b && d) ≡ false
+apart_account false d a a' bs h one none = refl
+apart_account true d a a' bs h one none = absurd (omega (arith, one, ap (λ x. occurs x bs) (h refl), none))
+
+account_elsewhere : (a : Account) (c : Cusip) (bs : List ℕ) (es : List Entry) → occurs a bs ≡ 0 → AreOf bs es → AllByRecursion (λ e. is_at a c e ≡ false) es
+account_elsewhere a c bs [] none h = tt
+account_elsewhere a c bs (e ∷ es) none h = (apart_account (e.account == a) (same_issue e.issue c) a e.account bs (eqb-true e.account a) h.0 none, account_elsewhere a c bs es none h.1)
+
+apart_issue : (b d x y : Bool) → (d ≡ true → x ≡ y) → x ≡ true → y ≡ false → (b && d) ≡ false
+apart_issue b true x y h p q = absurd (cc (h refl, p, q))
+apart_issue true false x y h p q = refl
+apart_issue false false x y h p q = refl
+
+issue_elsewhere : (a : Account) (c : Cusip) (J : Journal) (es : List Entry) → is_listed J c ≡ false → AreOfListed J es → AllByRecursion (λ e. is_at a c e ≡ false) es
+issue_elsewhere a c J [] none h = tt
+issue_elsewhere a c J (e ∷ es) none h =
+    (apart_issue (e.account == a) (same_issue e.issue c) (is_listed J e.issue) (is_listed J c) (λ s. ap (is_listed J) ((bytes_eq-Decides e.issue c).0 s)) h.0 none, issue_elsewhere a c J es none h.1)
+
+elsewhere_all : (a : Account) (c : Cusip) (J K : Journal) → ((p : Posting) → AreOf (accounts J) p.entries → AreOfListed J p.entries → AllByRecursion (λ e. is_at a c e ≡ false) p.entries) → AreSound (accounts J) K → AllByRecursion (λ p. AreOfListed J p.entries) K → AreElsewhere a c K
+elsewhere_all a c J [] h s l = tt
+elsewhere_all a c J (p ∷ K) h s l = (h p s.0.known l.0, elsewhere_all a c J K h s.1 l.1)
+
+by_place : (opening : Day) (J : Journal) (k : Key) (x y : Bool) → IsSound J → is_account J k.account ≡ x → is_listed J k.issue ≡ y → (x && y) ≡ false → not (is_idle (row opening J k.account k.issue)) ≡ false
+by_place opening J k false y s a l h = idle_elsewhere opening J k.account k.issue (elsewhere_all k.account k.issue J J (λ p known listed. account_elsewhere k.account k.issue (accounts J) p.entries (occurs_missing k.account (accounts J) a) known) s.sound s.issued)
+by_place opening J k true false s a l h = idle_elsewhere opening J k.account k.issue (elsewhere_all k.account k.issue J J (λ p known listed. issue_elsewhere k.account k.issue J p.entries l listed) s.sound s.issued)
+by_place opening J k true true s a l h = cc
+
+-- a place of no account or of no listed issue has no row
+pub idle_at : (opening : Day) (J : Journal) (k : Key) → IsSound J → (is_account J k.account && list_any (λ c. bytes_eq k.issue c) (issues J)) ≡ false → not (is_idle (row opening J k.account k.issue)) ≡ false
+idle_at opening J k s h =
+    by_place opening J k _ _ s refl refl ((λ i. is_account J k.account && list_any (λ c. nat_list_eq_equiv.symm c k.issue i) (issues J)) ∙ h)
