@@ -1,0 +1,2 @@
+pub mod HeldRows
+pub mod Kept

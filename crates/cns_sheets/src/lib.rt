@@ -7,6 +7,10 @@
 #![tactic(auto)]
 
 mod prices;
+mod rows;
+mod sheet;
+
+pub use sheet::Sheet;
 
 
 #[cfg(test)]

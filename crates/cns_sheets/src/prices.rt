@@ -1,5 +1,5 @@
 // The prices of a day.
-ghost use Rattle.std.specs.Prelude.{◌≡◌, IfErr, IfOk, IfOk, length, true, OnOk, None};
+ghost use Rattle.std.specs.Prelude.{◌≡◌, IfErr, IfOk, length, true, OnOk, None};
 ghost use Rattle.std.specs.Cmp.Lexicographic.{slice_cmp};
 ghost use Rattle.std.specs.FinMap.{is_sorted};
 ghost use Rattle.std.specs.List.{HoldsAt};
@@ -45,9 +45,12 @@ pub fn listed<A: Allocator + Drop>(
 {
     let mut list = Vec::new(alloc);
     let mut after = None;
-    while let Some(entry) = prices.next_listed(after) {
-        list.push(entry)?;
-        after = Some(entry.0);
+    while let Some((issue, price)) = prices.next_listed(after) {
+        let issue = &issue;
+        let Ok(()) = list.push((*issue, price)) else {
+            return Err(NoMemory);
+        };
+        after = Some(*issue);
     }
     Ok(list)
 }

@@ -27,11 +27,11 @@ use Rattle.cns_terms.proofs.Keys.{exact_keys, keys_total, same_key}
 use Rattle.cns_terms.proofs.Sound.{IsSound}
 
 -- rows with the keys at which they stand
-abbrev Keyed : Type 0
+abbrev pub Keyed : Type 0
 Keyed = List (Key × Row)
 
 -- a row that says something
-abbrev says : Row → Bool
+abbrev pub says : Row → Bool
 says r = not (is_idle r)
 
 -- ---- the rows of the definitions, with their keys
@@ -57,7 +57,8 @@ all_rows opening J (a ∷ bs) cs =
 -- ---- the rows of positions, with their keys
 
 module _ (f : Key × Holding → Row) where
-  abbrev keyed : List (Key × Holding) → Keyed
+  -- the row of each
+  abbrev pub keyed : List (Key × Holding) → Keyed
   keyed R = map (λ e. (e.0, f e)) R
 
   drop_keys : (R : List (Key × Holding)) → map (λ e. e.1) (filter (λ e. says e.1) (keyed R)) ≡ filter says (map f R)
@@ -68,7 +69,8 @@ module _ (f : Key × Holding → Row) where
   below_keyed k [] h = refl
   below_keyed k (e ∷ R) h = both_true _ _ (and_left _ _ h) (below_keyed k R (and_right _ _ h))
 
-  sorted_keyed : (R : List (Key × Holding)) → is_sorted key_cmp R ≡ true → is_sorted key_cmp (keyed R) ≡ true
+  -- the keys keep their order
+  pub sorted_keyed : (R : List (Key × Holding)) → is_sorted key_cmp R ≡ true → is_sorted key_cmp (keyed R) ≡ true
   sorted_keyed [] h = refl
   sorted_keyed (e ∷ R) h = both_true _ _ (below_keyed e.0 R (and_left _ _ h)) (sorted_keyed R (and_right _ _ h))
 

@@ -67,6 +67,16 @@ impl Model for Cents {
 }
 
 impl Cents {
+    /// No cents.
+    pub const ZERO: Cents = Cents { amount: 0 };
+
+    /// That many cents, where the amount is known to be one.
+    pub fn of(amount: i128) -> Cents
+        ensures { result ≡ amount }
+    {
+        Cents { amount }
+    }
+
     /// That many cents. Each amount is accepted.
     pub fn new(amount: i128) -> Result<Cents, UnitFault>
         ensures { result ≡ Ok amount }

@@ -26,6 +26,9 @@ impl Model for Price {
 }
 
 impl Price {
+    /// A price of no cents.
+    pub const ZERO: Price = Price { cents: 0 };
+
     /// A price of that many cents. `OutOfRange` above 1,000,000,000.
     pub fn new(cents: u64) -> Result<Price, UnitFault>
         ensures { result ≡ within 0 (10 ^ 9) cents }

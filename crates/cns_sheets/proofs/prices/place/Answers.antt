@@ -1,0 +1,27 @@
+use Rattle.std.proofs.Common.{rules, ◌≡◌, ℕ, Result, Ok, Err, IfOk, IfErr, true}
+use Rattle.std.specs.Cmp.Lexicographic.{slice_cmp}
+use Rattle.std.specs.declared.cmp.Ordering.TheVariants.{Less, Equal, Greater}
+use Rattle.std.specs.FinMap.{is_sorted}
+use Rattle.std.specs.List.{HoldsAt}
+use Rattle.std.specs.List.Sorted.{IsBinarySearchResult, IsPartitionPoint}
+use Rattle.std.specs.Ordering.{nat_cmp}
+use Rattle.std.proofs.lemmas.Cmp.{nat_list_cmp_total}
+use Rattle.std.proofs.lemmas.List.Sorted.{answers_always}
+use Rattle.cns_units.specs.declared.cusip.Cusip.{Cusip}
+use Rattle.cns_positions.proofs.Puts.{comparisons_rise}
+use Rattle.cns_sheets.specs.Build.{PriceList}
+use Rattle.cns_sheets.proofs.prices.place.Goals as goal
+
+found : (es : PriceList) (c : Cusip) (r : Result ℕ ℕ) → IsBinarySearchResult (λ e. slice_cmp nat_cmp e.0 c) es r → IfOk r (HoldsAt (λ e. slice_cmp nat_cmp e.0 c ≡ Equal) es)
+found es c (Ok i) h = h
+found es c (Err i) h = tt
+
+absent : (es : PriceList) (c : Cusip) (r : Result ℕ ℕ) → is_sorted (slice_cmp nat_cmp) es ≡ true → IsBinarySearchResult (λ e. slice_cmp nat_cmp e.0 c) es r → IfErr r (IsPartitionPoint (λ e. slice_cmp nat_cmp e.0 c ≡ Less) (λ e. slice_cmp nat_cmp e.0 c ≡ Greater) es)
+absent es c (Ok i) s h = tt
+absent es c (Err i) s h = h (comparisons_rise nat_list_cmp_total es c (c, 0) s)
+
+pub returns-clause-found : goal.returns-clause-found
+returns-clause-found c = found c.args.prices.now c.args.issue _ (c.binary_search_by_key.ensures.position (λ e. e.0) (answers_always _ _ _ (λ f a r g called. search rules)))
+
+pub returns-clause-absent : goal.returns-clause-absent
+returns-clause-absent c = absent c.args.prices.now c.args.issue _ c.requires (c.binary_search_by_key.ensures.position (λ e. e.0) (answers_always _ _ _ (λ f a r g called. search rules)))

@@ -1,0 +1,10 @@
+use Rattle.std.proofs.Common.{sym}
+use Rattle.std.proofs.lemmas.Cmp.{nat_list_cmp_total}
+use Rattle.cns_positions.proofs.Puts.{find_at, find_gap}
+use Rattle.cns_sheets.proofs.prices.price_on.Goals as goal
+
+pub returns-in-Ok : goal.returns-in-Ok
+returns-in-Ok c = sym (find_at nat_list_cmp_total _ _ _ c.index-prices-at.result c.requires c.in-Ok.ensures.bound (c.in-Ok.ensures.found c.index-prices-at.result))
+
+pub returns-in-Err : goal.returns-in-Err
+returns-in-Err c = sym (find_gap nat_list_cmp_total _ _ _ c.in-Err.ensures.absent.0 c.in-Err.ensures.absent.1)
