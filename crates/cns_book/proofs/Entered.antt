@@ -11,32 +11,18 @@ use Rattle.std.proofs.lemmas.Bool.Decides.{nat_tests}
 use Rattle.cns_terms.specs.declared.command.Activity.{Activity}
 use Rattle.cns_terms.specs.declared.command.Activity.TheVariants as activity
 use Rattle.cns_terms.specs.declared.command.Listing.{Listing}
-use Rattle.cns_terms.specs.Sums.{put}
+use Rattle.cns_terms.proofs.Everywhere.{any_put}
 use Rattle.cns_terms.specs.Entries.{entries, journal, posting}
 use Rattle.cns_terms.specs.declared.holding.Key.{Key}
 use Rattle.cns_terms.specs.Days.{is_close}
 use Rattle.cns_terms.specs.Machine.{holding}
 use Rattle.cns_positions.specs.Rows.{Rows, holding_at}
-use Rattle.cns_terms.specs.Listings.{members, is_listed, issues, price, issue_lt}
+use Rattle.cns_terms.specs.Listings.{account_lt, members, is_listed, issues, price, issue_lt}
 use Rattle.cns_trades.specs.References.{has}
 use Rattle.cns_prices.specs.Listed.{Listed, price_in, retired_in}
 use Rattle.cns_book.specs.Contents.{Contents}
 use Rattle.cns_book.specs.Follows.{AreSmall, Follows}
 use Rattle.cns_book.proofs.Places.{books, holding-post, books_none}
-
-or_swap : (a b c : Bool) → (a || (b || c)) ≡ (b || (a || c))
-or_swap true true c = refl
-or_swap true false c = refl
-or_swap false b c = refl
-
-put_branch : {X : Type 0} (p : X → Bool) (b : Bool) (x y : X) (ys zs : List X) → list_any p zs ≡ (p x || list_any p ys) → list_any p (cond b (x ∷ y ∷ ys) (y ∷ zs)) ≡ (p x || (p y || list_any p ys))
-put_branch p true x y ys zs e = refl
-put_branch p false x y ys zs e = ap (λ b. p y || b) e ∙ or_swap (p y) (p x) (list_any p ys)
-
--- some element of a list, with one more put in its place
-pub any_put : {X : Type 0} (p : X → Bool) (before : X → X → Bool) (x : X) (ys : List X) → list_any p (put before x ys) ≡ (p x || list_any p ys)
-any_put p before x [] = refl
-any_put p before x (y ∷ ys) = put_branch p (before x y) x y ys (put before x ys) (any_put p before x ys)
 
 eqb_sym : (a b : ℕ) → eqb a b ≡ eqb b a
 eqb_sym a b = grind (arith, nat_tests)
@@ -59,10 +45,12 @@ pub member_added : (L : List Activity) (s : Contents) (m : ℕ) (new : List ℕ)
 member_added L s m new f h = record {
   today = f.today;
   closes = f.closes;
-  members = λ a. h a ∙ (λ i. eqb_sym m a i || f.members a i) ∙ sym (any_put (λ b. eqb a b) nat_lt m (members (journal s.opening L)));
+  members = λ a. h a ∙ (λ i. eqb_sym m a i || f.members a i) ∙ sym (any_put (λ b. eqb a b) account_lt m (members (journal s.opening L)));
   prices = f.prices;
   retired = f.retired;
   references = f.references;
+  order = f.order;
+  sheets = f.sheets;
   rows = rows_stay L s (activity.Member m) f refl refl;
   small = small_more (activity.Member m) L s.rows f.small;
 }
@@ -89,6 +77,8 @@ issue_listed L s l new f h r = record {
       ∙ sym (λ i. cond (any_put (λ d. bytes_eq d c) issue_lt l.issue (issues J) i) (Some (price_branch (bytes_eq l.issue c) l (find (λ l. bytes_eq l.issue c) (filter_map priced (activities J))) i)) None);
   retired = λ c. r c ∙ f.retired c;
   references = f.references;
+  order = f.order;
+  sheets = f.sheets;
   rows = rows_stay L s (activity.Issue l) f refl refl;
   small = small_more (activity.Issue l) L s.rows f.small;
 }
@@ -121,6 +111,8 @@ price_set L s l new f there h r = record {
       ∙ sym (ap (λ p. cond (is_listed J c) (Some p) None) (price_branch (bytes_eq l.issue c) l (find (λ l. bytes_eq l.issue c) (filter_map priced (activities J)))));
   retired = λ c. r c ∙ f.retired c;
   references = f.references;
+  order = f.order;
+  sheets = f.sheets;
   rows = rows_stay L s (activity.Price l) f refl refl;
   small = small_more (activity.Price l) L s.rows f.small;
 }

@@ -1,7 +1,10 @@
 pub mod Machine
 pub mod Places
+pub mod Lengths
 pub mod Entered
 pub mod Booking
 pub mod Trading
 pub mod Moving
+pub mod SheetCut
+pub mod Closing
 pub mod Taking

@@ -12,6 +12,8 @@ use Rattle.cns_terms.specs.declared.holding.Key.{Key}
 use Rattle.cns_terms.specs.declared.refusal.Refusal.TheVariants.{NoSuchMember, NoSuchIssue, Retired, ExceedsPosition, NotOnHand, NotLong}
 use Rattle.cns_terms.specs.Entries.{corporation, moved_in, moved_out, journal, posting}
 use Rattle.cns_terms.specs.Listings.{is_member, is_listed, is_retired}
+use Rattle.std.specs.FinMap.{is_sorted}
+use Rattle.cns_terms.specs.Keys.{key_cmp}
 use Rattle.cns_terms.specs.Positions.{position}
 use Rattle.cns_terms.specs.Postings.{Journal}
 use Rattle.cns_terms.specs.Refusals.{first_refusal, refusal, rules, is_exceeded}
@@ -86,9 +88,9 @@ off_long (negsuc k) n h l le = absurd (cc)
 -- an accepted delivery
 pub delivered : (L : List Activity) (s : Contents) (m : Movement) (rows : Rows) → Follows L s → refusal s.opening (journal s.opening L) (command.Activity (activity.Deliver m)) ≡ None → 1 ≤ m.member
     → ((k : Key) → holding_at rows k ≡ booked (moved_out corporation m) k (booked (moved_in m.member m) k (holding_at s.rows k)))
-    → IsSmallEntry (moved_in m.member m)
+    → IsSmallEntry (moved_in m.member m) → is_sorted key_cmp rows ≡ true
     → Follows (activity.Deliver m ∷ L) (record s { rows = rows })
-delivered L s m rows f none number b e =
+delivered L s m rows f none number b e order =
     let J = journal s.opening L in
     let p = posting s.opening J (activity.Deliver m) in
     let rule = (no_rule (rules s.opening J (activity.Deliver m)) none).1.1.1.0 in
@@ -111,6 +113,8 @@ delivered L s m rows f none number b e =
       prices = f.prices;
       retired = f.retired;
       references = f.references;
+      order = order;
+      sheets = f.sheets;
       rows = here J p _ _ s.rows rows done f.rows;
       small = still_small J p _ _ s.rows rows L done f.rows f.small;
     }
@@ -118,9 +122,9 @@ delivered L s m rows f none number b e =
 -- an accepted receipt
 pub received : (L : List Activity) (s : Contents) (m : Movement) (rows : Rows) → Follows L s → refusal s.opening (journal s.opening L) (command.Activity (activity.Receive m)) ≡ None → 1 ≤ m.member
     → ((k : Key) → holding_at rows k ≡ booked (moved_in corporation m) k (booked (moved_out m.member m) k (holding_at s.rows k)))
-    → IsSmallEntry (moved_out m.member m)
+    → IsSmallEntry (moved_out m.member m) → is_sorted key_cmp rows ≡ true
     → Follows (activity.Receive m ∷ L) (record s { rows = rows })
-received L s m rows f none number b e =
+received L s m rows f none number b e order =
     let J = journal s.opening L in
     let p = posting s.opening J (activity.Receive m) in
     let fails = (no_rule (rules s.opening J (activity.Receive m)) none).1.1.1 in
@@ -143,6 +147,8 @@ received L s m rows f none number b e =
       prices = f.prices;
       retired = f.retired;
       references = f.references;
+      order = order;
+      sheets = f.sheets;
       rows = here J p _ _ s.rows rows done f.rows;
       small = still_small J p _ _ s.rows rows L done f.rows f.small;
     }

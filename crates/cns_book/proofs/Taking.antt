@@ -14,6 +14,9 @@ use Rattle.cns_terms.specs.declared.worker.Worker.{Worker}
 use Rattle.cns_terms.specs.Postings.{Journal}
 use Rattle.cns_terms.specs.Days.{closes, closings, is_close}
 use Rattle.cns_terms.specs.Entries.{journal}
+use Rattle.cns_book.proofs.Closing.{reached_by, whole_reached}
+use Rattle.cns_book.proofs.Lengths.{closes_le, journal_len}
+use Rattle.cns_book.proofs.SheetCut.{rows_are_few, rows_balanced, rows_small}
 use Rattle.cns_terms.specs.History.{accepted, count, IsLegal}
 use Rattle.cns_terms.specs.Machine.{accepted_after, answer_to}
 use Rattle.cns_book.specs.Contents.{Contents}
@@ -34,20 +37,6 @@ pub accepted_le : (opening : Day) (H : List Taken) → length (accepted opening 
 accepted_le opening [] = omega arith
 accepted_le opening (t ∷ H) = next_le opening (accepted opening H) t.command (length H) (accepted_le opening H)
 
-prefix_le : (b : Bool) (J : Journal) → length (closings J) ≤ length J → length (cond b (J ∷ closings J) (closings J)) ≤ suc (length J)
-prefix_le true J h = omega (arith, h)
-prefix_le false J h = omega (arith, h)
-
--- no more closes than postings
-pub closes_le : (J : Journal) → closes J ≤ length J
-closes_le [] = omega arith
-closes_le (p ∷ J) = prefix_le (is_close p.activity) J (closes_le J)
-
--- a posting for each activity
-pub journal_len : (opening : Day) (L : List Activity) → length (journal opening L) ≡ length L
-journal_len opening [] = refl
-journal_len opening (x ∷ L) = ap suc (journal_len opening L)
-
 closes_few : (opening : Day) (L : List Activity) (closes n limit : ℕ) → closes ≤ length (journal opening L) → length L ≤ n → n < limit → limit < 2 ^ 32 → closes + 1 < 2 ^ 32
 closes_few opening L closes n limit a b c d = omega (arith, a, b, c, d, journal_len opening L)
 
@@ -63,6 +52,7 @@ has_room limit H counts s b few =
     let L = accepted s.opening H in
     let f = b.follows in
     let m = accepted_le s.opening H in
+    let w = whole_reached s.opening L (reached_by s.opening H) in
     record {
       closes = closes_few s.opening L s.closes (length H) limit (subst (λ n. n ≤ length (journal s.opening L)) (sym f.closes) (closes_le (journal s.opening L))) m few b.limited;
       rows = record {
@@ -70,6 +60,10 @@ has_room limit H counts s b few =
         shares = λ k. more_shares _ (length L) (length H) (f.small.shares k) m (omega (arith, few, b.limited));
         cents = λ k. more_cents _ (length L) (length H) (f.small.cents k) m (omega (arith, few, b.limited));
       };
+      order = f.order;
+      marked = rows_small (length L) s.rows (omega (arith, m, few, b.limited)) f.order f.small;
+      balanced = rows_balanced L s f w;
+      few = rows_are_few L s f w (omega (arith, m, few, b.limited));
     }
 
 -- a command that found no memory

@@ -21,6 +21,8 @@ use Rattle.cns_terms.specs.declared.refusal.Refusal.TheVariants.{NoSuchMember, N
 use Rattle.cns_terms.specs.Days.{date, is_same_day}
 use Rattle.cns_terms.specs.Entries.{corporation, buyer_entry, seller_entry, journal, posting}
 use Rattle.cns_terms.specs.Listings.{is_member, is_listed, is_retired, is_seen}
+use Rattle.std.specs.FinMap.{is_sorted}
+use Rattle.cns_terms.specs.Keys.{key_cmp}
 use Rattle.cns_terms.specs.Positions.{position, shares_for}
 use Rattle.cns_terms.specs.Postings.{Journal}
 use Rattle.cns_terms.specs.Refusals.{Rule, first_refusal, refusal, rules, is_beyond, is_too_large}
@@ -122,8 +124,10 @@ same_small n old new s h = record {
 }
 
 -- rows that show the same at each key
-pub same_rows : (L : List Activity) (s : Contents) (new : Rows) → Follows L s → ((k : Key) → holding_at new k ≡ holding_at s.rows k) → Follows L (record s { rows = new })
-same_rows L s new f h = record {
+pub same_rows : (L : List Activity) (s : Contents) (new : Rows) → Follows L s → ((k : Key) → holding_at new k ≡ holding_at s.rows k) → is_sorted key_cmp new ≡ true → Follows L (record s { rows = new })
+same_rows L s new f h order = record {
+  order = order;
+  sheets = f.sheets;
   today = f.today;
   closes = f.closes;
   members = f.members;
@@ -165,9 +169,9 @@ neg_twice n = omega (arith, ints)
 pub trade_accepted : (L : List Activity) (s : Contents) (t : Trade) (references : List ℕ) (rows : Rows) → Follows L s → refusal s.opening (journal s.opening L) (command.Activity (activity.Trade t)) ≡ None → (1 ≤ t.buyer) × (1 ≤ t.seller)
     → ((r : ℕ) → has references r ≡ (eqb t.reference r || has s.references r))
     → ((k : Key) → holding_at rows k ≡ booked (seller_entry t) k (booked (buyer_entry t) k (holding_at s.rows k)))
-    → IsSmallEntry (buyer_entry t)
+    → IsSmallEntry (buyer_entry t) → is_sorted key_cmp rows ≡ true
     → Follows (activity.Trade t ∷ L) (record s { references = references; rows = rows })
-trade_accepted L s t references rows f none m r b e =
+trade_accepted L s t references rows f none m r b e order =
     let J = journal s.opening L in
     let p = posting s.opening J (activity.Trade t) in
     let bought : ℤ = position (p ∷ J) t.buyer t.issue in
@@ -190,6 +194,8 @@ trade_accepted L s t references rows f none m r b e =
       prices = f.prices;
       retired = f.retired;
       references = λ q. r q ∙ ap (λ b. eqb t.reference q || b) (f.references q);
+      order = order;
+      sheets = f.sheets;
       rows = here J p (buyer_entry t) (seller_entry t) s.rows rows done f.rows;
       small = still_small J p (buyer_entry t) (seller_entry t) s.rows rows L done f.rows f.small;
     }

@@ -3,6 +3,7 @@ use Rattle.std.specs.Prelude.{ℕ, List}
 use Rattle.cns_units.specs.declared.day.Day.{Day}
 use Rattle.cns_terms.specs.declared.holding.Holding.{Holding}
 use Rattle.cns_terms.specs.declared.holding.Key.{Key}
+use Rattle.cns_terms.specs.Sheets.{DaySheet}
 use Rattle.cns_prices.specs.Listed.{Listed}
 
 -- the opening date, the open day, and the maps and sets of the book
@@ -14,3 +15,4 @@ pub record Contents : Type 0 where
   pub prices : Listed
   pub references : List ℕ
   pub rows : List (Key × Holding)
+  pub sheets : List DaySheet

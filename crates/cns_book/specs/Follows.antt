@@ -1,5 +1,7 @@
 -- What ties the parts of a book to the accepted activities.
-use Rattle.std.specs.Prelude.{◌≡◌, ℕ, ◌+◌, ◌*◌, ◌^◌, ◌≤◌, ◌<◌, unsigned_abs, List, length, Some, None, Result, Ok, Err, if◌then◌else◌}
+use Rattle.std.specs.Prelude.{◌≡◌, ℕ, ◌+◌, ◌*◌, ◌^◌, ◌≤◌, ◌<◌, true, slice_get, unsigned_abs, List, map, length, Some, None, Result, Ok, Err, if◌then◌else◌}
+use Rattle.std.specs.FinMap.{is_sorted}
+use Rattle.std.specs.List.{AllByRecursion}
 use Rattle.cns_units.specs.declared.cusip.Cusip.{Cusip}
 use Rattle.cns_units.specs.declared.day.Day.{Day}
 use Rattle.cns_terms.specs.declared.command.Activity.{Activity}
@@ -10,12 +12,16 @@ use Rattle.cns_terms.specs.declared.fault.NoMemory.{NoMemory}
 use Rattle.cns_terms.specs.declared.holding.Entry.{Entry}
 use Rattle.cns_terms.specs.declared.holding.Key.{Key}
 use Rattle.cns_terms.specs.declared.reply.Reply.{Reply}
-use Rattle.cns_terms.specs.Days.{date, closes}
+use Rattle.cns_terms.specs.declared.sheet.Row.{Row}
+use Rattle.cns_terms.specs.Days.{date, closes, closings}
 use Rattle.cns_terms.specs.Listings.{is_member, is_listed, is_retired, is_seen, price}
 use Rattle.cns_terms.specs.Entries.{corporation, journal}
-use Rattle.cns_terms.specs.Machine.{holding, answer_to, accepted_after}
+use Rattle.cns_terms.specs.Machine.{accepted_after, after, answer_to, holding, opened}
+use Rattle.cns_terms.specs.Keys.{key_cmp}
 use Rattle.cns_terms.specs.Positions.{position}
+use Rattle.cns_terms.specs.Sheets.{day_sheet}
 use Rattle.cns_positions.specs.Rows.{holding_at, Rows}
+use Rattle.cns_sheets.specs.Build.{AreBalanced, AreFew, HasSmallCents, prices_of, rows_from}
 use Rattle.cns_prices.specs.Listed.{price_in, retired_in}
 use Rattle.cns_trades.specs.declared.facts.MoveFacts.{MoveFacts}
 use Rattle.cns_trades.specs.declared.facts.TradeFacts.{TradeFacts}
@@ -29,10 +35,18 @@ pub record AreSmall (n : ℕ) (rows : Rows) : Type 0 where
   pub shares : (k : Key) → unsigned_abs (holding_at rows k).now ≤ 10 ^ 9 * n
   pub cents : (k : Key) → unsigned_abs (holding_at rows k).contract ≤ 10 ^ 18 * n
 
--- room for one more activity
+-- the rows that a close would cut now
+abbrev pub rows_now : Contents → List Row
+rows_now s = rows_from (prices_of (slice_get s.sheets 0)) s.prices s.rows
+
+-- room for one more activity, a close among them
 pub record HasRoom (s : Contents) : Type 0 where
   pub closes : s.closes + 1 < 2 ^ 32
   pub rows : AreSmall (2 ^ 32) s.rows
+  pub order : is_sorted key_cmp s.rows ≡ true
+  pub marked : AllByRecursion HasSmallCents s.rows
+  pub balanced : AreBalanced (rows_now s)
+  pub few : AreFew (rows_now s)
 
 -- each part shows what the definitions say of the accepted activities
 pub record Follows (L : List Activity) (s : Contents) : Type 0 where
@@ -43,7 +57,14 @@ pub record Follows (L : List Activity) (s : Contents) : Type 0 where
   pub retired : (c : Cusip) → retired_in s.prices c ≡ is_retired (journal s.opening L) c
   pub references : (r : ℕ) → has s.references r ≡ is_seen (journal s.opening L) r
   pub rows : (k : Key) → holding_at s.rows k ≡ holding (journal s.opening L) k.account k.issue
+  pub order : is_sorted key_cmp s.rows ≡ true
   pub small : AreSmall (length L) s.rows
+  pub sheets : s.sheets ≡ map (day_sheet s.opening) (closings (journal s.opening L))
+
+-- the machine comes to the activities by some commands
+pub record IsReached (opening : Day) (L : List Activity) : Type 0 where
+  pub commands : List Command
+  pub reached : L ≡ (after (opened opening) commands).accepted
 
 -- a command gave the machine's reply and took the machine's step; without memory it changed nothing that is shown
 abbrev pub Steps : List Activity → Command → Result Reply NoMemory → Contents → Type 0

@@ -19,14 +19,14 @@ use std::marker::Model;
 /// The type keeps that the history is legal, that each reply in it is the machine's, and that every part shows what
 /// the definitions say of the accepted activities.
 #[derive(Drop)]
-pub struct Book<P: Positions<A>, A: Allocator + Drop> {
+pub struct Book<P: Positions<A>, A: Allocator + Drop + Clone> {
     limit: u32,
     history: Vec<Taken, A>,
     counts: [u32; 64],
     parts: Parts<P, A>,
 }
 
-impl<P: Positions<A>, A: Allocator + Drop> Model for Book<P, A> {
+impl<P: Positions<A>, A: Allocator + Drop + Clone> Model for Book<P, A> {
     ghost use Rattle.std.specs.Prelude.{reverse};
     ghost use Rattle.cns_book.specs.Legal.{IsBook};
     ghost use Rattle.cns_book.specs.Log.{Log};

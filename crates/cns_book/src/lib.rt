@@ -9,6 +9,7 @@
 
 
 mod book;
+mod closed_days;
 pub mod laws;
 mod members;
 mod parts;

@@ -11,8 +11,9 @@ ghost use Rattle.cns_terms.specs.Entries.{journal};
 ghost use Rattle.cns_terms.specs.Machine.{answer_to, holding};
 ghost use Rattle.cns_positions.specs.Rows.{holding_at};
 ghost use Rattle.cns_book.specs.Shown.{holding_shown};
-ghost use Rattle.cns_book.specs.Follows.{Follows, Steps, AreSmall, HasRoom};
+ghost use Rattle.cns_book.specs.Follows.{AreSmall, Follows, HasRoom, IsReached, Steps};
 
+use crate::closed_days::ClosedDays;
 use crate::members::Members;
 use cns_positions::Positions;
 use cns_prices::Prices;
@@ -22,6 +23,7 @@ use cns_units::{Account, Cusip, Day, Member};
 use std::alloc::Allocator;
 use std::marker::Model;
 
+mod closing;
 mod listing;
 mod trading;
 
@@ -30,7 +32,7 @@ mod trading;
 /// Each command is one method here. Its clause says, for every list of activities that the parts follow, that the
 /// answer is the machine's and that the parts follow what comes next; so nothing above names a part.
 #[derive(Drop)]
-pub struct Parts<P: Positions<A>, A: Allocator + Drop> {
+pub struct Parts<P: Positions<A>, A: Allocator + Drop + Clone> {
     opening: Day,
     today: Day,
     closes: u32,
@@ -38,9 +40,10 @@ pub struct Parts<P: Positions<A>, A: Allocator + Drop> {
     prices: Prices<A>,
     trades: Trades<A>,
     positions: P,
+    closed: ClosedDays<A>,
 }
 
-impl<P: Positions<A>, A: Allocator + Drop> Model for Parts<P, A> {
+impl<P: Positions<A>, A: Allocator + Drop + Clone> Model for Parts<P, A> {
     ghost use Rattle.cns_book.specs.Contents.{Contents};
 
     ghost Value = { Contents };
@@ -53,6 +56,7 @@ impl<P: Positions<A>, A: Allocator + Drop> Model for Parts<P, A> {
       prices = a.prices;
       references = a.trades;
       rows = P.rows a.positions;
+      sheets = a.closed;
     } };
 }
 
@@ -69,6 +73,7 @@ impl<P: Positions<A>, A: Allocator + Drop + Clone> Parts<P, A> {
             members: Members::new(alloc.clone()?),
             prices: Prices::new(alloc.clone()?),
             trades: Trades::new(alloc.clone()?),
+            closed: ClosedDays::new(alloc.clone()?)?,
             positions: P::new(alloc),
         })
     }
@@ -162,7 +167,7 @@ impl<P: Positions<A>, A: Allocator + Drop + Clone> Parts<P, A> {
     fn act(&mut self, activity: &Activity) -> Result<Reply, NoMemory>
         requires { HasRoom self.old }
         ensures opening { self.new.opening ≡ self.old.opening }
-        ensures step { (L : List Activity) → Follows L self.old → length L + 1 < 2 ^ 32 → Steps L (command.Activity activity.now) result self.new }
+        ensures step { (L : List Activity) → Follows L self.old → IsReached self.old.opening L → length L + 1 < 2 ^ 32 → Steps L (command.Activity activity.now) result self.new }
     {
         match activity {
             Activity::Member(member) => self.add_member(*member),
@@ -171,7 +176,7 @@ impl<P: Positions<A>, A: Allocator + Drop + Clone> Parts<P, A> {
             Activity::Price(listing) => Ok(self.set_price(*listing)),
             Activity::Deliver(movement) => self.deliver(movement),
             Activity::Receive(movement) => self.receive(movement),
-            Activity::Close(_) => Err(NoMemory),
+            Activity::Close(next) => self.close_day(*next),
         }
     }
 
@@ -179,7 +184,7 @@ impl<P: Positions<A>, A: Allocator + Drop + Clone> Parts<P, A> {
     pub fn answer(&mut self, command: &Command) -> Result<Reply, NoMemory>
         requires { HasRoom self.old }
         ensures opening { self.new.opening ≡ self.old.opening }
-        ensures step { (L : List Activity) → Follows L self.old → length L + 1 < 2 ^ 32 → Steps L command.now result self.new }
+        ensures step { (L : List Activity) → Follows L self.old → IsReached self.old.opening L → length L + 1 < 2 ^ 32 → Steps L command.now result self.new }
     {
         match command {
             Command::Activity(activity) => self.act(activity),

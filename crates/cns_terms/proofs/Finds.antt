@@ -38,12 +38,18 @@ pub as_T : (b : Bool) → b ≡ true → T b
 as_T true e = tt
 as_T false e = cc
 
+-- the tests of a comparison
+pub equal : (r : Ordering) → is_eq r ≡ true → r ≡ Equal
+equal Less e = cc
+equal Equal e = refl
+equal Greater e = cc
+
 not_itself : {K : Type 0} {R : K → K → Ordering} (o : IsTotalOrder R) (k : K) → is_lt (R k k) ≡ false
 not_itself o k = ap is_lt (tied_itself o k)
 
 module _ {K X : Type 0} {R : K → K → Ordering} (o : IsTotalOrder R) where
   -- what lies above a key does not have it
-  find_below : (k : K) (es : List (K × X)) → below_all R k es ≡ true → find R k es ≡ None
+  pub find_below : (k : K) (es : List (K × X)) → below_all R k es ≡ true → find R k es ≡ None
   find_below k [] b = refl
   find_below k (e ∷ es) b =
       ap (λ r. cond (is_eq r) (Some e.1) (find R k es)) (less _ (and_left _ _ b)) ∙ find_below k es (and_right _ _ b)
@@ -65,7 +71,8 @@ module _ {K X : Type 0} {R : K → K → Ordering} (o : IsTotalOrder R) where
   sorted_filter p [] s = refl
   sorted_filter p (e ∷ es) s = sorted_kept (p e.1) e (filter (λ e. p e.1) es) (below_filter p e.0 es (and_left _ _ s)) (sorted_filter p es (and_right _ _ s))
 
-  tied_below : (q k : K) (es : List (K × X)) → R q k ≡ Equal → below_all R k es ≡ true → below_all R q es ≡ true
+  -- what ties with a key below all is below all
+  pub tied_below : (q k : K) (es : List (K × X)) → R q k ≡ Equal → below_all R k es ≡ true → below_all R q es ≡ true
   tied_below q k [] t b = refl
   tied_below q k (e ∷ es) t b = both_true _ _ (ap is_lt (o.congr q k e.0 t) ∙ and_left _ _ b) (tied_below q k es t (and_right _ _ b))
 

@@ -12,3 +12,5 @@ pub mod Sound
 pub mod SheetSums
 pub mod Elsewhere
 pub mod SheetRows
+pub mod PriceLists
+pub mod SheetBounds

@@ -22,23 +22,23 @@ use Rattle.cns_terms.proofs.Everywhere.{each_found}
 use Rattle.cns_terms.proofs.ZeroSums.{AreSound, cents_zero, marks_zero, positions_zero, sound_open_day}
 use Rattle.cns_terms.proofs.Sound.{IsSound, IsWhole, sound_nil, whole-after, whole_nil}
 
-total-flat_map : {X Y : Type 0} (f : Y → ℤ) (g : X → List Y) (xs : List X) → total f (flat_map g xs) ≡ total (λ x. total f (g x)) xs
+pub total-flat_map : {X Y : Type 0} (f : Y → ℤ) (g : X → List Y) (xs : List X) → total f (flat_map g xs) ≡ total (λ x. total f (g x)) xs
 total-flat_map f g [] = refl
 total-flat_map f g (x ∷ xs) = total-append f (g x) (flat_map g xs) ∙ ap (λ n. total f (g x) +ℤ n) (total-flat_map f g xs)
 
-total-same : {X : Type 0} (f g : X → ℤ) (xs : List X) → ((x : X) → f x ≡ g x) → total f xs ≡ total g xs
+pub total-same : {X : Type 0} (f g : X → ℤ) (xs : List X) → ((x : X) → f x ≡ g x) → total f xs ≡ total g xs
 total-same f g [] h = refl
 total-same f g (x ∷ xs) h = rw (h x, total-same f g xs h) refl
 
 is_zero : (z : ℤ) → int_eq z (pos 0) ≡ true → z ≡ pos 0
 is_zero z h = (signed_Decides z (pos 0)).0 h
 
-kept_or_not : {X : Type 0} (f : X → ℤ) (b : Bool) (x : X) (xs : List X) → (b ≡ false → f x ≡ pos 0) → total f (cond b (x ∷ xs) xs) ≡ f x +ℤ total f xs
+pub kept_or_not : {X : Type 0} (f : X → ℤ) (b : Bool) (x : X) (xs : List X) → (b ≡ false → f x ≡ pos 0) → total f (cond b (x ∷ xs) xs) ≡ f x +ℤ total f xs
 kept_or_not f true x xs h = refl
 kept_or_not f false x xs h = let e = h refl in omega (arith, ints)
 
 -- an idle row has no mark and no dividend
-idle_parts : (r : Row) → not (is_idle r) ≡ false → (r.opening ≡ pos 0) × (r.closing ≡ pos 0) × (r.money ≡ pos 0) × (r.dividend ≡ pos 0)
+pub idle_parts : (r : Row) → not (is_idle r) ≡ false → (r.opening ≡ pos 0) × (r.closing ≡ pos 0) × (r.money ≡ pos 0) × (r.dividend ≡ pos 0)
 idle_parts r h =
     let all = not-false (is_idle r) h in
     let three = and_parts (int_eq r.opening (pos 0) && int_eq r.closing (pos 0) && int_eq r.money (pos 0)) (int_eq r.dividend (pos 0)) all in
@@ -81,7 +81,7 @@ dividends_zero bs = total-zero bs
 
 -- ---- the sheet
 
-sheet_zero : (opening : Day) (K : Journal) → IsSound K → AddsUpToZero opening K
+pub sheet_zero : (opening : Day) (K : Journal) → IsSound K → AddsUpToZero opening K
 sheet_zero opening K s = record {
   marks =
       total-flat_map (λ (r : Row). r.mark) (rows_of opening K) (accounts K)

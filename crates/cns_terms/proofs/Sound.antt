@@ -1,11 +1,13 @@
 -- What accepted commands keep true of the journal.
-use Rattle.std.proofs.Common.{◌≡◌, ℕ, ◌+◌, ◌≤◌, Bool, true, false, not, cond, ◌&&◌, ◌||◌, ◌==◌, List, [], ◌∷◌, find, Option, Some, None, option_map, is_none, refl, ◌∙◌, ap, arith}
+use Rattle.std.proofs.Common.{◌≡◌, ℕ, ◌+◌, ◌≤◌, Bool, true, false, not, cond, ◌&&◌, ◌||◌, ◌==◌, List, [], ◌∷◌, find, Option, Some, None, option_map, is_none, slice_get, unwrap_or, refl, sym, ◌∙◌, ap, arith}
 use Rattle.std.specs.List.{AllByRecursion, list_any}
-use Rattle.std.specs.Prelude.{bytes_eq}
+use Rattle.std.specs.Prelude.{bytes_eq, filter_map}
 use Rattle.std.specs.Cmp.Lexicographic.{slice_cmp}
 use Rattle.std.specs.Ordering.{is_eq, is_lt, nat_cmp}
 use Rattle.std.proofs.lemmas.Bool.{eqb-true}
+use Rattle.std.specs.Option.{option_map_or}
 use Rattle.std.proofs.lemmas.Bool.Decides.{nat_tests}
+use Rattle.std.proofs.lemmas.Slice.Eq.{bytes_eq-Decides}
 use Rattle.std.proofs.lemmas.Cmp.{nat_cmp_total, nat_list_cmp_total, nat_list_eq_equiv}
 use Rattle.std.proofs.lemmas.Map.Text.{is_eq-slice_cmp}
 use Rattle.cns_units.specs.declared.cusip.Cusip.{Cusip}
@@ -13,14 +15,15 @@ use Rattle.cns_units.specs.declared.day.Day.{Day}
 use Rattle.cns_terms.specs.declared.command.Activity.{Activity}
 use Rattle.cns_terms.specs.declared.command.Activity.TheVariants as activity
 use Rattle.cns_terms.specs.declared.command.Command.{Command}
+use Rattle.cns_terms.specs.declared.command.Listing.{Listing}
 use Rattle.cns_terms.specs.declared.command.Command.TheVariants as command
 use Rattle.cns_terms.specs.declared.holding.Entry.{Entry}
-use Rattle.cns_terms.specs.Days.{closings}
+use Rattle.cns_terms.specs.Days.{closings, last_close}
 use Rattle.cns_terms.specs.Entries.{corporation, entries, journal, posting}
 use Rattle.cns_terms.specs.Laws.{journal_of}
-use Rattle.cns_terms.specs.Listings.{accounts, is_listed, issue_lt, is_member, issues, members}
+use Rattle.cns_terms.specs.Listings.{accounts, is_listed, issue_lt, is_member, issues, members, price, priced}
 use Rattle.cns_terms.specs.Machine.{State, next, after}
-use Rattle.cns_terms.specs.Postings.{Posting, Journal}
+use Rattle.cns_terms.specs.Postings.{Posting, Journal, activities}
 use Rattle.cns_terms.specs.Refusals.{Rule, first_refusal, refusal, rules}
 use Rattle.cns_terms.proofs.Accounts.{occurs, occurs-put, occurs_found, occurs_missing}
 use Rattle.cns_terms.proofs.EntrySums.{entries_balanced}
@@ -44,6 +47,7 @@ pub record IsSound (J : Journal) : Type 0 where
   pub accounts_rise : is_rising nat_cmp (accounts J) ≡ true
   pub issues_rise : is_rising (slice_cmp nat_cmp) (issues J) ≡ true
   pub issued : AllByRecursion (λ p. AreOfListed J p.entries) J
+  pub unpriced : (c : Cusip) → is_listed J c ≡ false → price J c ≡ 0
 
 -- a journal that is sound, as it was at each close
 pub record IsWhole (J : Journal) : Type 0 where
@@ -57,7 +61,7 @@ one_account true = omega arith
 one_account false = omega arith
 
 pub sound_nil : IsSound []
-sound_nil = record { distinct = λ a. one_account (a == 0); sound = tt; accounts_rise = refl; issues_rise = refl; issued = tt }
+sound_nil = record { distinct = λ a. one_account (a == 0); sound = tt; accounts_rise = refl; issues_rise = refl; issued = tt; unpriced = λ c h. refl }
 
 -- ---- what a command that is not refused has met
 
@@ -221,6 +225,29 @@ entries_listed opening J (activity.Close d) h = tt
 still_listed : (opening : Day) (J : Journal) (x : Activity) (es : List Entry) → AreOfListed J es → AreOfListed (posting opening J x ∷ J) es
 still_listed opening J x es h = each_weaker (λ (e : Entry). is_listed J e.issue ≡ true) (λ e. is_listed (posting opening J x ∷ J) e.issue ≡ true) es (λ e p. listed-post opening J x e.issue p) h
 
+price_branch : (t : Bool) (l : Listing) (o : Option Listing) → option_map_or (λ (l : Listing). l.price) (cond t (Some l) o) 0 ≡ cond t l.price (option_map_or (λ l. l.price) o 0)
+price_branch true l o = refl
+price_branch false l o = refl
+
+unpriced_if : (t b : Bool) (p q : ℕ) → (t ≡ true → b ≡ true) → b ≡ false → (b ≡ false → q ≡ 0) → cond t p q ≡ 0
+unpriced_if true b p q there none rest = absurd (cc (there refl, none))
+unpriced_if false b p q there none rest = rest none
+
+unpriced-post : (opening : Day) (J : Journal) (x : Activity) → IsSound J → NoneHolds (rules opening J x) → (c : Cusip) → is_listed (posting opening J x ∷ J) c ≡ false → price (posting opening J x ∷ J) c ≡ 0
+unpriced-post opening J (activity.Issue l) s h c none =
+    let apart = neither (bytes_eq l.issue c) (is_listed J c) (sym (any_put (λ d. bytes_eq d c) issue_lt l.issue (issues J)) ∙ none) in
+    price_branch (bytes_eq l.issue c) l (find (λ l. bytes_eq l.issue c) (filter_map priced (activities J)))
+    ∙ ap (λ b. cond b l.price (price J c)) apart.0 ∙ s.unpriced c apart.1
+unpriced-post opening J (activity.Price l) s h c none =
+    let listed = holds (is_listed J l.issue) (all_fail (rules opening J (activity.Price l)) h).0 in
+    price_branch (bytes_eq l.issue c) l (find (λ l. bytes_eq l.issue c) (filter_map priced (activities J)))
+    ∙ unpriced_if (bytes_eq l.issue c) (is_listed J c) l.price (price J c) (λ e. ap (is_listed J) (sym ((bytes_eq-Decides l.issue c).0 e)) ∙ listed) none (s.unpriced c)
+unpriced-post opening J (activity.Member m) s h c none = s.unpriced c none
+unpriced-post opening J (activity.Trade t) s h c none = s.unpriced c none
+unpriced-post opening J (activity.Deliver m) s h c none = s.unpriced c none
+unpriced-post opening J (activity.Receive m) s h c none = s.unpriced c none
+unpriced-post opening J (activity.Close d) s h c none = s.unpriced c none
+
 past-post : (opening : Day) (J : Journal) (x : Activity) → IsWhole J → AllByRecursion IsSound (closings (posting opening J x ∷ J))
 past-post opening J (activity.Member m) w = w.past
 past-post opening J (activity.Issue l) w = w.past
@@ -254,6 +281,7 @@ whole-post opening J x w h =
           still_listed opening J x (entries opening J x) (entries_listed opening J x h),
           each_weaker (λ p. AreOfListed J p.entries) (λ p. AreOfListed J' p.entries) J (λ p l. still_listed opening J x p.entries l) w.now.issued,
         );
+        unpriced = unpriced-post opening J x w.now h;
       };
       past = past-post opening J x w;
     }
@@ -274,3 +302,11 @@ whole-after S (cmd ∷ cmds) w = whole-after (next S cmd) cmds (whole-next S cmd
 
 pub whole_nil : IsWhole []
 whole_nil = record { now = sound_nil; past = tt }
+
+-- the journal as the last close found it is sound
+pub sound_last : (J : Journal) → IsWhole J → IsSound (last_close J)
+sound_last J w = first (closings J) w.past
+  where
+    first : (Ks : List Journal) → AllByRecursion IsSound Ks → IsSound (unwrap_or (slice_get Ks 0) [])
+    first [] h = sound_nil
+    first (K ∷ Ks) h = h.0

@@ -18,7 +18,7 @@ impl<P: Positions<A>, A: Allocator + Drop + Clone> Parts<P, A> {
         ensures step { (L : List Activity) → Follows L self.old → Steps L (command.Activity (activity.Member member)) result self.new }
     {
         let account = member.account();
-        if self.members.contains(account) {
+        if self.is_account(account) {
             return Ok(Reply::Refused(Refusal::MemberExists));
         }
         self.members.insert(account)?;

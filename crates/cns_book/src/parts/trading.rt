@@ -1,10 +1,12 @@
 // Trades, deliveries and receipts.
-ghost use Rattle.std.specs.Prelude.{◌≡◌, List, [], ◌∷◌, ◌≤◌, ◌^◌, unsigned_abs, OnOk, Contains};
+ghost use Rattle.std.specs.Prelude.{◌≡◌, List, [], ◌∷◌, ◌≤◌, ◌^◌, unsigned_abs, OnOk, Contains, true};
+ghost use Rattle.std.specs.FinMap.{is_sorted};
 ghost use Rattle.std.specs.Option.{ForSome};
 ghost use Rattle.cns_terms.specs.declared.command.Activity.{Activity};
 ghost use Rattle.cns_terms.specs.declared.command.Activity.TheVariants as activity;
 ghost use Rattle.cns_terms.specs.declared.command.Command.TheVariants as command;
 ghost use Rattle.cns_terms.specs.declared.holding.Key.{Key};
+ghost use Rattle.cns_terms.specs.Keys.{key_cmp};
 ghost use Rattle.cns_positions.specs.Rows.{booked, holding_at};
 ghost use Rattle.cns_trades.specs.Checks.{IsSmallEntry};
 ghost use Rattle.cns_book.specs.Follows.{AreMoveFacts, AreSmall, AreTradeFacts, Follows, Steps, place_of};
@@ -106,6 +108,7 @@ fn prepare_both<P: Positions<A>, A>(
     second: &Entry,
 ) -> Result<(), NoMemory>
     ensures same { (k : Key) → holding_at (P.rows positions.new) k ≡ holding_at (P.rows positions.old) k }
+    ensures order { is_sorted key_cmp (P.rows positions.new) ≡ true }
     ensures ok { OnOk result (P.prepared positions.new ≡ place_of first.now ∷ place_of second.now ∷ []) }
 {
     let keys = [key_of(first), key_of(second)];
@@ -120,6 +123,7 @@ fn add_both<P: Positions<A>, A>(positions: &mut P, first: &Entry, second: &Entry
     requires second { IsSmallEntry second.now }
     requires small { AreSmall (2 ^ 32) (P.rows positions.old) }
     ensures booked { (k : Key) → holding_at (P.rows positions.new) k ≡ booked second.now k (booked first.now k (holding_at (P.rows positions.old) k)) }
+    ensures order { is_sorted key_cmp (P.rows positions.new) ≡ true }
 {
     add(positions, first);
     add(positions, second);
@@ -132,6 +136,7 @@ fn add<P: Positions<A>, A>(positions: &mut P, entry: &Entry)
     requires shares { unsigned_abs (holding_at (P.rows positions.old) (place_of entry.now)).now ≤ 2 ^ 62 }
     requires cents { unsigned_abs (holding_at (P.rows positions.old) (place_of entry.now)).contract ≤ 2 ^ 126 }
     ensures booked { (k : Key) → holding_at (P.rows positions.new) k ≡ booked entry.now k (holding_at (P.rows positions.old) k) }
+    ensures order { is_sorted key_cmp (P.rows positions.new) ≡ true }
     ensures prepared { P.prepared positions.new ≡ P.prepared positions.old }
 {
     positions.add(key_of(entry), entry.shares, entry.cents);

@@ -2,8 +2,9 @@ use Rattle.std.proofs.Common.{◌∙◌, sym, ap, subst, refl}
 use Rattle.cns_terms.specs.declared.command.Activity.TheVariants as activity
 use Rattle.cns_terms.specs.declared.reply.Reply.TheVariants as reply
 use Rattle.cns_terms.specs.Entries.{journal}
-use Rattle.cns_terms.specs.Listings.{is_member}
+use Rattle.cns_terms.specs.Listings.{is_account}
 use Rattle.cns_terms.specs.Refusals.{rules}
+use Rattle.cns_book.specs.Contents.{Contents}
 use Rattle.cns_book.specs.Follows.{Follows}
 use Rattle.cns_book.proofs.Machine.{accepted, no_refusal}
 use Rattle.cns_book.proofs.Entered.{member_added}
@@ -13,7 +14,7 @@ pub returns-clause-step : goal.returns-clause-step
 returns-clause-step g c L f =
     let f' = subst (Follows L) (sym c.self.view_is) f in
     let J = journal c.self.inside.opening L in
-    let absent = ap (is_member J) (sym c.account-account.ensures.value) ∙ sym (f'.members c.account-account.result) ∙ sym c.contains.ensures ∙ c.if-contains.false in
+    let absent = ap (is_account J) (sym c.account-account.ensures.value) ∙ ap (λ (s : Contents). is_account (journal s.opening L) c.account-account.result) c.self.view_is ∙ sym (c.is_account.ensures L f) ∙ c.if-is_account.false in
     accepted L (activity.Member c.args.member) reply.Accepted
     (no_refusal (rules c.self.inside.opening J (activity.Member c.args.member)) (absent, tt))
     refl

@@ -25,12 +25,12 @@ returns-in-Err-clause-step g c L f =
 
 pub returns-in_err-prepare_both-clause-step : goal.returns-in_err-prepare_both-clause-step
 returns-in_err-prepare_both-clause-step g c L f =
-    stopped L (command.Activity (activity.Trade c.args.trade.now)) c.from_residual.result c.from_residual.ensures.0 (same_rows L _ _ (subst (Follows L) (sym c.self.view_is) f) c.in_err-prepare_both.ensures.same)
+    stopped L (command.Activity (activity.Trade c.args.trade.now)) c.from_residual.result c.from_residual.ensures.0 (same_rows L _ _ (subst (Follows L) (sym c.self.view_is) f) c.in_err-prepare_both.ensures.same c.in_err-prepare_both.ensures.order)
 
 pub returns-in_err-note_reference-clause-step : goal.returns-in_err-note_reference-clause-step
 returns-in_err-note_reference-clause-step g c L f =
     stopped L (command.Activity (activity.Trade c.args.trade.now)) c.from_residual-in_err-note_reference.result c.from_residual-in_err-note_reference.ensures.0
-    (rw c.in_err-note_reference.ensures.err (same_rows L _ _ (subst (Follows L) (sym c.self.view_is) f) c.in_ok-prepare_both.ensures.same))
+    (rw c.in_err-note_reference.ensures.err (same_rows L _ _ (subst (Follows L) (sym c.self.view_is) f) c.in_ok-prepare_both.ensures.same c.in_ok-prepare_both.ensures.order))
 
 pub returns-clause-step : goal.returns-clause-step
 returns-clause-step g c L f =
@@ -44,4 +44,4 @@ returns-clause-step g c L f =
     accepted L (activity.Trade t) reply.Accepted none refl
     (trade_accepted L _ t c.note_reference.new.self (g.P.Positions.rows c.add_both.new.positions) f' none are.members c.in_ok-note_reference.ensures.ok
     (λ k. c.add_both.ensures.booked k ∙ (λ i. booked (done.1 i).1 k (booked (done.1 i).0 k (c.in_ok-prepare_both.ensures.same k i))))
-    (subst (λ (es : Entry × Entry). IsSmallEntry es.0) done.1 c.in-Ok.ensures.small.0))
+    (subst (λ (es : Entry × Entry). IsSmallEntry es.0) done.1 c.in-Ok.ensures.small.0) c.add_both.ensures.order)

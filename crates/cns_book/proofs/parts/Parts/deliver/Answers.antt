@@ -24,7 +24,7 @@ returns-in-Err-clause-step g c L f =
 
 pub returns-in_err-prepare_both-clause-step : goal.returns-in_err-prepare_both-clause-step
 returns-in_err-prepare_both-clause-step g c L f =
-    stopped L (command.Activity (activity.Deliver c.args.movement.now)) c.from_residual.result c.from_residual.ensures.0 (same_rows L _ _ (subst (Follows L) (sym c.self.view_is) f) c.in_err-prepare_both.ensures.same)
+    stopped L (command.Activity (activity.Deliver c.args.movement.now)) c.from_residual.result c.from_residual.ensures.0 (same_rows L _ _ (subst (Follows L) (sym c.self.view_is) f) c.in_err-prepare_both.ensures.same c.in_err-prepare_both.ensures.order)
 
 pub returns-clause-step : goal.returns-clause-step
 returns-clause-step g c L f =
@@ -37,4 +37,4 @@ returns-clause-step g c L f =
     accepted L (activity.Deliver m) reply.Accepted none refl
     (delivered L _ m (g.P.Positions.rows c.add_both.new.positions) f' none are.number
     (λ k. c.add_both.ensures.booked k ∙ (λ i. booked (done.1 i).1 k (booked (done.1 i).0 k (c.in_ok-prepare_both.ensures.same k i))))
-    (subst (λ (es : Entry × Entry). IsSmallEntry es.0) done.1 c.in-Ok.ensures.small.0))
+    (subst (λ (es : Entry × Entry). IsSmallEntry es.0) done.1 c.in-Ok.ensures.small.0) c.add_both.ensures.order)

@@ -1,0 +1,88 @@
+// The sheets of the closed days.
+ghost use Rattle.std.specs.Prelude.{◌≡◌, [], ◌∷◌, IfOk, OnErr, OnOk, slice_get, true};
+ghost use Rattle.std.specs.Cmp.Lexicographic.{slice_cmp};
+ghost use Rattle.std.specs.FinMap.{is_sorted};
+ghost use Rattle.std.specs.List.{AllByRecursion};
+ghost use Rattle.std.specs.Option.{option_copied};
+ghost use Rattle.std.specs.Ordering.{nat_cmp};
+ghost use Rattle.cns_terms.specs.Keys.{key_cmp};
+ghost use Rattle.cns_sheets.specs.Build.{AreBalanced, AreFew, HasSmallCents, prices_of, rows_from, sheet_from};
+
+use cns_positions::Positions;
+use cns_prices::Prices;
+use cns_sheets::Sheet;
+use cns_terms::NoMemory;
+use cns_units::Day;
+use std::alloc::Allocator;
+use std::marker::Model;
+use std::sync::Arc;
+
+/// The sheets of the closed days, each shared and never changed. Contracts see them from the newest back.
+#[derive(Drop)]
+pub struct ClosedDays<A: Allocator + Drop + Clone> {
+    alloc: A,
+    sheets: Vec<Arc<Sheet<A>, A>, A>,
+}
+
+impl<A: Allocator + Drop + Clone> Model for ClosedDays<A> {
+    ghost use Rattle.std.specs.Prelude.{List, map, reverse};
+    ghost use Rattle.std.specs.Arc.{arc_value};
+    ghost use Rattle.cns_terms.specs.Sheets.{DaySheet};
+
+    ghost Value = { List DaySheet };
+
+    ghost view = { λ d. reverse (map arc_value d.sheets.items) };
+}
+
+impl<A: Allocator + Drop + Clone> ClosedDays<A> {
+    /// No day is closed yet. `NoMemory` where the allocator could not be copied.
+    pub fn new(alloc: A) -> Result<Self, NoMemory>
+        ensures { IfOk result (λ d. d ≡ []) }
+    {
+        Ok(ClosedDays {
+            sheets: Vec::new(alloc.clone()?),
+            alloc,
+        })
+    }
+
+    // The sheet of the day that was closed last.
+    fn last(&self) -> Option<&Sheet<A>>
+        ensures { option_copied result ≡ slice_get self.now 0 }
+    {
+        match self.sheets.as_slice().last() {
+            Some(sheet) => Some(&**sheet),
+            None => None,
+        }
+    }
+
+    /// The sheet that a close cuts now. Where memory is refused nothing has changed.
+    pub fn cut<P: Positions<B>, B>(
+        &self,
+        positions: &P,
+        prices: &Prices<A>,
+        date: Day,
+    ) -> Result<Sheet<A>, NoMemory>
+        requires order { is_sorted key_cmp (P.rows positions.now) ≡ true }
+        requires small { AllByRecursion HasSmallCents (P.rows positions.now) }
+        requires balanced { AreBalanced (rows_from (prices_of (slice_get self.now 0)) prices.now (P.rows positions.now)) }
+        requires few { AreFew (rows_from (prices_of (slice_get self.now 0)) prices.now (P.rows positions.now)) }
+        ensures sheet { IfOk result (λ s. s ≡ sheet_from date (prices_of (slice_get self.now 0)) prices.now (P.rows positions.now)) }
+        ensures order { OnOk result (is_sorted (slice_cmp nat_cmp) prices.now ≡ true) }
+    {
+        Sheet::build(self.alloc.clone()?, positions, prices, self.last(), date)
+    }
+
+    /// Keeps the sheet of a day that is closed. Where memory is refused the days stay as they were.
+    pub fn keep(&mut self, sheet: Sheet<A>) -> Result<(), NoMemory>
+        ensures ok { OnOk result (self.new ≡ sheet ∷ self.old) }
+        ensures err { OnErr result (self.new ≡ self.old) }
+    {
+        let Ok(shared) = Arc::new(self.alloc.clone()?, sheet) else {
+            return Err(NoMemory);
+        };
+        let Ok(()) = self.sheets.push(shared) else {
+            return Err(NoMemory);
+        };
+        Ok(())
+    }
+}

@@ -1,0 +1,39 @@
+// The close of a day.
+ghost use Rattle.std.specs.Prelude.{◌≡◌, ◌+◌, ◌<◌, ◌^◌, List, length};
+ghost use Rattle.cns_terms.specs.declared.command.Activity.{Activity};
+ghost use Rattle.cns_terms.specs.declared.command.Activity.TheVariants as activity;
+ghost use Rattle.cns_terms.specs.declared.command.Command.TheVariants as command;
+ghost use Rattle.cns_book.specs.Follows.{Follows, HasRoom, IsReached, Steps};
+
+use crate::parts::Parts;
+use cns_positions::Positions;
+use cns_terms::{Closed, NoMemory, Refusal, Reply};
+use cns_units::Day;
+use std::alloc::Allocator;
+
+impl<P: Positions<A>, A: Allocator + Drop + Clone> Parts<P, A> {
+    /// CLOSE. The sheet is made and kept before anything else changes.
+    pub fn close_day(&mut self, next: Day) -> Result<Reply, NoMemory>
+        requires { HasRoom self.old }
+        ensures opening { self.new.opening ≡ self.old.opening }
+        ensures step { (L : List Activity) → Follows L self.old → IsReached self.old.opening L → length L + 1 < 2 ^ 32 → Steps L (command.Activity (activity.Close next)) result self.new }
+    {
+        if next <= self.today {
+            return Ok(Reply::Refused(Refusal::WrongDay));
+        }
+        let sheet = self
+            .closed
+            .cut(&self.positions, &self.prices, self.today)?;
+        let closed = Closed {
+            day: self.closes + 1,
+            date: self.today,
+            rows: sheet.len() as u64,
+            liable: 0,
+        };
+        self.closed.keep(sheet)?;
+        self.positions.roll();
+        self.closes += 1;
+        self.today = next;
+        Ok(Reply::Closed(closed))
+    }
+}

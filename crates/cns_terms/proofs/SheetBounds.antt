@@ -1,0 +1,130 @@
+-- Sums and counts over the rows of a sheet.
+use Rattle.std.proofs.Common.{◌≡◌, ◌∙◌, sym, ap, refl, ℕ, ◌+◌, ◌*◌, ◌≤◌, ℤ, pos, ◌+ℤ◌, Bool, true, false, not, cond, ◌==◌, suc, zero, List, [], ◌∷◌, ◌++◌, length, map, filter, flat_map, arith, int_eq}
+use Rattle.std.specs.Cmp.{signed_Decides}
+use Rattle.std.proofs.lemmas.Bool.Decides.{nat_tests}
+use Rattle.std.proofs.lemmas.Int.{ints}
+use Rattle.std.proofs.lemmas.List.{length-append}
+use Rattle.std.proofs.lemmas.List.Elements.{filter-append}
+use Rattle.cns_units.specs.declared.account.Account.{Account}
+use Rattle.cns_units.specs.declared.cusip.Cusip.{Cusip}
+use Rattle.cns_units.specs.declared.day.Day.{Day}
+use Rattle.cns_terms.specs.declared.command.Activity.{Activity}
+use Rattle.cns_terms.specs.declared.command.Activity.TheVariants as activity
+use Rattle.cns_terms.specs.declared.holding.Entry.{Entry}
+use Rattle.cns_terms.specs.declared.sheet.Row.{Row}
+use Rattle.cns_terms.specs.Listings.{accounts, issue_lt, issues}
+use Rattle.cns_terms.specs.Positions.{position}
+use Rattle.cns_terms.specs.Postings.{Journal}
+use Rattle.cns_terms.specs.Sheets.{is_idle, row, rows_of, sheet_rows}
+use Rattle.cns_terms.specs.Sums.{put, same_issue, total}
+use Rattle.cns_terms.proofs.Accounts.{occurs}
+use Rattle.cns_terms.proofs.SheetSums.{idle_parts, kept_or_not, total-flat_map, total-same}
+use Rattle.cns_terms.proofs.Sound.{IsSound}
+use Rattle.cns_terms.proofs.Totals.{total-swap, total-zero}
+use Rattle.cns_terms.proofs.ZeroSums.{positions_zero}
+
+-- ---- closings
+
+-- a row's closing position, if it is in the issue
+abbrev pub closing_of : Cusip → Row → ℤ
+closing_of c r = cond (same_issue r.issue c) r.closing (pos 0)
+
+no_closing : (b : Bool) (q : ℤ) → q ≡ pos 0 → cond b q (pos 0) ≡ pos 0
+no_closing true q h = h
+no_closing false q h = refl
+
+closings_of_rows : (opening : Day) (K : Journal) (c : Cusip) (a : Account) (cs : List Cusip) → total (closing_of c) (filter (λ r. not (is_idle r)) (map (row opening K a) cs)) ≡ total (λ d. cond (same_issue d c) (position K a d) (pos 0)) cs
+closings_of_rows opening K c a [] = refl
+closings_of_rows opening K c a (d ∷ cs) =
+    kept_or_not (closing_of c) (not (is_idle (row opening K a d))) (row opening K a d) (filter (λ r. not (is_idle r)) (map (row opening K a) cs)) (λ h. no_closing (same_issue d c) (position K a d) (idle_parts (row opening K a d) h).1)
+    ∙ ap (λ n. cond (same_issue d c) (position K a d) (pos 0) +ℤ n) (closings_of_rows opening K c a cs)
+
+one_issue : (b : Bool) (K : Journal) (d : Cusip) (bs : List Account) → total (λ a. position K a d) bs ≡ pos 0 → total (λ a. cond b (position K a d) (pos 0)) bs ≡ pos 0
+one_issue true K d bs h = h
+one_issue false K d bs h = total-zero bs
+
+-- the closings of a sheet's rows add up to zero in each issue
+pub closings_zero : (opening : Day) (K : Journal) (c : Cusip) → IsSound K → total (closing_of c) (sheet_rows opening K) ≡ pos 0
+closings_zero opening K c s =
+    total-flat_map (closing_of c) (rows_of opening K) (accounts K)
+    ∙ total-same _ _ (accounts K) (λ a. closings_of_rows opening K c a (issues K))
+    ∙ total-swap (λ a d. cond (same_issue d c) (position K a d) (pos 0)) (accounts K) (issues K)
+    ∙ total-same _ _ (issues K) (λ d. one_issue (same_issue d c) K d (accounts K) (positions_zero (accounts K) d K s.sound))
+    ∙ total-zero (issues K)
+
+-- ---- how many rows an account has
+
+one_more : (b : Bool) (x : Row) (xs : List Row) (n : ℕ) → length xs ≤ n → length (cond b (x ∷ xs) xs) ≤ n + 1
+one_more true x xs n h = omega (arith, h)
+one_more false x xs n h = omega (arith, h)
+
+few_rows : (p : Row → Bool) (rs : List Row) → length (filter p rs) ≤ length rs
+few_rows p [] = omega arith
+few_rows p (r ∷ rs) = omega (arith, one_more (p r) r (filter p rs) (length rs) (few_rows p rs))
+
+map_len : (f : Cusip → Row) (cs : List Cusip) → length (map f cs) ≡ length cs
+map_len f [] = refl
+map_len f (c ∷ cs) = omega (arith, map_len f cs)
+
+eqb_sym : (a b : ℕ) → (a == b) ≡ (b == a)
+eqb_sym a b = grind (arith, nat_tests)
+
+-- another account's rows
+others : (opening : Day) (K : Journal) (a b : Account) (cs : List Cusip) → (b == a) ≡ false → filter (λ r. r.account == a) (filter (λ r. not (is_idle r)) (map (row opening K b) cs)) ≡ []
+others opening K a b [] h = refl
+others opening K a b (c ∷ cs) h = dropped (not (is_idle (row opening K b c))) (others opening K a b cs h)
+  where
+    dropped : (t : Bool) → filter (λ r. r.account == a) (filter (λ r. not (is_idle r)) (map (row opening K b) cs)) ≡ []
+        → filter (λ r. r.account == a) (cond t (row opening K b c ∷ filter (λ r. not (is_idle r)) (map (row opening K b) cs)) (filter (λ r. not (is_idle r)) (map (row opening K b) cs))) ≡ []
+    dropped true e = ap (λ t. cond t (row opening K b c ∷ filter (λ r. r.account == a) (filter (λ r. not (is_idle r)) (map (row opening K b) cs))) (filter (λ r. r.account == a) (filter (λ r. not (is_idle r)) (map (row opening K b) cs)))) h ∙ e
+    dropped false e = e
+
+-- an account's rows in some issues
+abbrev rows_in : Day → Journal → Account → List Cusip → List Row
+rows_in opening K b cs = filter (λ r. not (is_idle r)) (map (row opening K b) cs)
+
+of_one : (opening : Day) (K : Journal) (a b : Account) (cs : List Cusip) (t : Bool) → (b == a) ≡ t → length (filter (λ r. r.account == a) (rows_in opening K b cs)) ≤ cond t 1 0 * length cs
+of_one opening K a b cs true h = omega (arith, few_rows (λ r. r.account == a) (rows_in opening K b cs), few_rows (λ r. not (is_idle r)) (map (row opening K b) cs), map_len (row opening K b) cs)
+of_one opening K a b cs false h = rw (others opening K a b cs h) (omega arith)
+
+summed : (t : Bool) (n m o k : ℕ) → n ≤ cond t 1 0 * k → m ≤ o * k → n + m ≤ (cond t 1 0 + o) * k
+summed true n m o k p q = omega (arith, p, q)
+summed false n m o k p q = omega (arith, p, q)
+
+of_accounts : (opening : Day) (K : Journal) (a : Account) (bs : List Account) (cs : List Cusip) → length (filter (λ r. r.account == a) (flat_map (λ b. rows_in opening K b cs) bs)) ≤ occurs a bs * length cs
+of_accounts opening K a [] cs = omega arith
+of_accounts opening K a (b ∷ bs) cs =
+    let rest = flat_map (λ b. rows_in opening K b cs) bs in
+    rw (filter-append (λ r. r.account == a) (rows_in opening K b cs) rest, length-append (filter (λ r. r.account == a) (rows_in opening K b cs)) (filter (λ r. r.account == a) rest))
+    (summed (a == b) _ _ (occurs a bs) (length cs) (of_one opening K a b cs (a == b) (eqb_sym b a)) (of_accounts opening K a bs cs))
+
+at_most_one : (o n : ℕ) → o ≤ 1 → o * n ≤ n
+at_most_one zero n h = omega arith
+at_most_one (suc zero) n h = omega arith
+at_most_one (suc (suc o)) n h = absurd (omega (arith, h))
+
+-- no account has more rows than there are issues
+pub rows_few : (opening : Day) (K : Journal) (a : Account) → IsSound K → length (filter (λ r. r.account == a) (sheet_rows opening K)) ≤ length (issues K)
+rows_few opening K a s = omega (arith, of_accounts opening K a (accounts K) (issues K), at_most_one (occurs a (accounts K)) (length (issues K)) (s.distinct a))
+
+put_branch : (b : Bool) (c d : Cusip) (cs ds : List Cusip) → length ds ≡ length cs + 1 → length (cond b (c ∷ d ∷ cs) (d ∷ ds)) ≡ length (d ∷ cs) + 1
+put_branch true c d cs ds h = omega arith
+put_branch false c d cs ds h = omega (arith, h)
+
+put_len : (c : Cusip) (cs : List Cusip) → length (put issue_lt c cs) ≡ length cs + 1
+put_len c [] = refl
+put_len c (d ∷ cs) = put_branch (issue_lt c d) c d cs (put issue_lt c cs) (put_len c cs)
+
+issues-post : (x : Activity) (es : List Entry) (K : Journal) → length (issues K) ≤ length K → length (issues (record { activity = x; entries = es } ∷ K)) ≤ length K + 1
+issues-post (activity.Issue l) es K h = omega (arith, put_len l.issue (issues K), h)
+issues-post (activity.Member m) es K h = omega (arith, h)
+issues-post (activity.Trade t) es K h = omega (arith, h)
+issues-post (activity.Price l) es K h = omega (arith, h)
+issues-post (activity.Deliver m) es K h = omega (arith, h)
+issues-post (activity.Receive m) es K h = omega (arith, h)
+issues-post (activity.Close d) es K h = omega (arith, h)
+
+-- no more issues than postings
+pub issues_few : (K : Journal) → length (issues K) ≤ length K
+issues_few [] = omega arith
+issues_few (p ∷ K) = omega (arith, issues-post p.activity p.entries K (issues_few K))
