@@ -30,7 +30,6 @@ one_more false x L n h = omega (arith, h)
 next_le : (opening : Day) (L : List Activity) (cmd : Command) (n : ℕ) → length L ≤ n → length (accepted_after opening L cmd) ≤ suc n
 next_le opening L (command.Activity x) n h = one_more _ x L n h
 next_le opening L (command.Position k) n h = omega (arith, h)
-next_le opening L (command.Statement s) n h = omega (arith, h)
 
 -- no more activities than commands
 pub accepted_le : (opening : Day) (H : List Taken) → length (accepted opening H) ≤ length H

@@ -1,12 +1,16 @@
 -- What the reading calls of a book show.
 use Rattle.std.specs.Prelude.{ℕ, suc, zero, List, Option, Some, None, is_none, slice_get, reverse, if◌then◌else◌}
+use Rattle.cns_units.specs.declared.cusip.Cusip.{Cusip}
 use Rattle.cns_units.specs.declared.day.Day.{Day}
+use Rattle.cns_units.specs.declared.price.Price.{Price}
 use Rattle.cns_terms.specs.declared.command.Activity.{Activity}
 use Rattle.cns_terms.specs.declared.command.Command.TheVariants as command
 use Rattle.cns_terms.specs.declared.history.Taken.{Taken}
 use Rattle.cns_terms.specs.declared.holding.Holding.{Holding}
 use Rattle.cns_terms.specs.declared.holding.Key.{Key}
 use Rattle.cns_terms.specs.Entries.{journal}
+use Rattle.cns_terms.specs.Listings.{is_listed, price}
+use Rattle.cns_terms.specs.Postings.{Journal}
 use Rattle.cns_terms.specs.Machine.{State, holding}
 use Rattle.cns_terms.specs.Refusals.{refusal}
 
@@ -19,6 +23,14 @@ holding_shown opening L k =
 -- the same of a state
 abbrev pub shown : State → Key → Option Holding
 shown S k = holding_shown S.opening S.accepted k
+
+-- the price of an issue, where it is listed
+abbrev pub price_listed : Journal → Cusip → Option Price
+price_listed J c = if is_listed J c then Some (price J c) else None
+
+-- the same of a state
+abbrev pub price_shown : State → Cusip → Option Price
+price_shown S c = price_listed (journal S.opening S.accepted) c
 
 -- the entry at a place from 1, of a history whose newest entry is the first
 abbrev pub entry_at : List Taken → ℕ → Option Taken

@@ -1,16 +1,16 @@
 // The book over its history.
-ghost use Rattle.std.specs.Prelude.{◌≡◌, ◌-◌, ◌^◌, ◌↔◌, length, IfOk, OnErr, Err, replicate};
+ghost use Rattle.std.specs.Prelude.{◌≡◌, ◌-◌, ◌^◌, ◌↔◌, length, IfOk, OnErr, Err, replicate, reverse};
 ghost use Rattle.cns_terms.specs.Days.{date, day};
 ghost use Rattle.cns_terms.specs.History.{count};
 ghost use Rattle.cns_terms.specs.Laws.{journal_of};
-ghost use Rattle.cns_book.specs.Shown.{entry_at, shown};
+ghost use Rattle.cns_book.specs.Shown.{entry_at, price_shown, shown};
 ghost use Rattle.cns_book.specs.Log.{TakesStep, empty_log, state_of};
 
 use crate::parts::Parts;
 use crate::receipt::{Receipt, TakeFault};
 use cns_positions::Positions;
 use cns_terms::{Command, Holding, Key, NoMemory, Taken, Worker};
-use cns_units::{Account, Cusip, Day};
+use cns_units::{Account, Cusip, Day, Price};
 use std::alloc::Allocator;
 use std::marker::Model;
 
@@ -83,6 +83,13 @@ impl<P: Positions<A>, A: Allocator + Drop + Clone> Book<P, A> {
         })
     }
 
+    /// The price of an issue in cents, the last that was set; None where the issue is not listed.
+    pub fn price(&self, cusip: Cusip) -> Option<Price>
+        ensures { result ≡ price_shown (state_of self.now) cusip }
+    {
+        self.parts.price(cusip)
+    }
+
     /// The entry at a place of the history, from 1; None past its end.
     pub fn entry(&self, place: u32) -> Option<Taken>
         ensures { result ≡ entry_at self.now.history place }
@@ -91,6 +98,15 @@ impl<P: Positions<A>, A: Allocator + Drop + Clone> Book<P, A> {
             return None;
         }
         self.history.as_slice().get(place as usize - 1).copied()
+    }
+
+    /// A copy of the history, the oldest entry first. `NoMemory` where a growth was refused.
+    pub fn copy_history(&self) -> Result<Vec<Taken, A>, NoMemory>
+        ensures { IfOk result (λ v. v.items ≡ reverse self.now.history) }
+    {
+        let mut copy = Vec::new(self.history.allocator().clone()?);
+        copy.extend_from_slice(self.history.as_slice())?;
+        Ok(copy)
     }
 
     /// How many commands were taken.

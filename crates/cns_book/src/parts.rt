@@ -10,7 +10,7 @@ ghost use Rattle.cns_terms.specs.Listings.{is_account, is_listed, is_member, is_
 ghost use Rattle.cns_terms.specs.Entries.{journal};
 ghost use Rattle.cns_terms.specs.Machine.{answer_to, holding};
 ghost use Rattle.cns_positions.specs.Rows.{holding_at};
-ghost use Rattle.cns_book.specs.Shown.{holding_shown};
+ghost use Rattle.cns_book.specs.Shown.{holding_shown, price_listed};
 ghost use Rattle.cns_book.specs.Follows.{AreSmall, Follows, HasRoom, IsReached, Steps};
 
 use crate::closed_days::ClosedDays;
@@ -19,7 +19,7 @@ use cns_positions::Positions;
 use cns_prices::Prices;
 use cns_terms::{Activity, Command, Holding, Key, NoMemory, Refusal, Reply};
 use cns_trades::Trades;
-use cns_units::{Account, Cusip, Day, Member};
+use cns_units::{Account, Cusip, Day, Member, Price};
 use std::alloc::Allocator;
 use std::marker::Model;
 
@@ -90,6 +90,13 @@ impl<P: Positions<A>, A: Allocator + Drop + Clone> Parts<P, A> {
         ensures { (L : List Activity) → Follows L self.now → result ≡ day (journal self.now.opening L) }
     {
         u64::from(self.closes) + 1
+    }
+
+    /// The price of an issue, None where it is not listed.
+    pub fn price(&self, issue: Cusip) -> Option<Price>
+        ensures { (L : List Activity) → Follows L self.now → result ≡ price_listed (journal self.now.opening L) issue }
+    {
+        self.prices.price(issue)
     }
 
     // Whether the account is there: the corporation's always is.
@@ -189,7 +196,6 @@ impl<P: Positions<A>, A: Allocator + Drop + Clone> Parts<P, A> {
         match command {
             Command::Activity(activity) => self.act(activity),
             Command::Position(key) => Ok(self.position(*key)),
-            Command::Statement(_) => Err(NoMemory),
         }
     }
 }

@@ -17,7 +17,7 @@ use Rattle.cns_terms.specs.Positions.{position, money}
 use Rattle.cns_terms.specs.Ages.{age}
 use Rattle.cns_terms.specs.Entries.{journal}
 use Rattle.cns_terms.specs.Refusals.{refusal}
-use Rattle.cns_terms.specs.Sheets.{sheet_rows, statement, closed_on}
+use Rattle.cns_terms.specs.Sheets.{sheet_rows}
 
 -- the state: the opening date, and the accepted activities, the newest first
 pub record State : Type 0 where
@@ -46,7 +46,6 @@ activity_reply opening J _ = reply.Accepted
 abbrev pub command_reply : Day → Journal → Command → Reply
 command_reply opening J (command.Activity x) = activity_reply opening J x
 command_reply opening J (command.Position k) = reply.Held k (holding J k.account k.issue)
-command_reply opening J (command.Statement s) = reply.Stated (statement opening (closed_on opening J s.date) s.account)
 
 -- the reply to a command over accepted activities
 abbrev pub answer_to : Day → List Activity → Command → Reply
@@ -56,7 +55,6 @@ answer_to opening L cmd = let J = journal opening L in option_map_or reply.Refus
 abbrev pub accepted_after : Day → List Activity → Command → List Activity
 accepted_after opening L (command.Activity x) = if is_none (refusal opening (journal opening L) (command.Activity x)) then x ∷ L else L
 accepted_after opening L (command.Position k) = L
-accepted_after opening L (command.Statement s) = L
 
 -- the reply to a command
 abbrev pub answer : State → Command → Reply

@@ -1,5 +1,5 @@
 -- The sheet of a closed day, and the statements cut from it.
-use Rattle.std.specs.Prelude.{ℕ, pos, Bool, not, ◌&&◌, List, [], map, filter, flat_map, find, unwrap_or, length}
+use Rattle.std.specs.Prelude.{ℕ, pos, Bool, not, ◌&&◌, List, [], map, filter, flat_map, length}
 use Rattle.std.specs.Ordering.{int_eq}
 use Rattle.cns_units.specs.declared.account.Account.{Account}
 use Rattle.cns_units.specs.declared.cusip.Cusip.{Cusip}
@@ -9,7 +9,7 @@ use Rattle.cns_terms.specs.declared.sheet.Row.{Row}
 use Rattle.cns_terms.specs.declared.reply.Stated.{Stated}
 use Rattle.cns_terms.specs.Sums.{total}
 use Rattle.cns_terms.specs.Postings.{Journal}
-use Rattle.cns_terms.specs.Days.{closings, last_close, at_close, date, is_same_day}
+use Rattle.cns_terms.specs.Days.{last_close, at_close, date}
 use Rattle.cns_terms.specs.Positions.{position, money}
 use Rattle.cns_terms.specs.Listings.{accounts, issues, price}
 use Rattle.cns_terms.specs.Marks.{mark}
@@ -70,7 +70,3 @@ statement opening K a =
 -- the statement of an account on a closed day
 abbrev pub statement_of : Day → Journal → ℕ → Account → Stated
 statement_of opening J i a = statement opening (at_close J i) a
-
--- the journal as the close of the day with that date found it
-abbrev pub closed_on : Day → Journal → Day → Journal
-closed_on opening J d = unwrap_or (find (λ K. is_same_day (date opening K) d) (closings J)) []

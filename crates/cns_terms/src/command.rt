@@ -1,6 +1,6 @@
 // Commands, and the activities among them.
 use crate::holding::Key;
-use cns_units::{Account, Cusip, Day, Member, Money, Price, Shares};
+use cns_units::{Cusip, Day, Member, Money, Price, Shares};
 
 /// An issue with a price: as it is listed, or as it is priced anew.
 #[derive(Clone, Copy, Debug, PartialEq, Eq)]
@@ -34,13 +34,6 @@ pub struct Movement {
     pub shares: Shares,
 }
 
-/// An account on a day.
-#[derive(Clone, Copy, Debug, PartialEq, Eq)]
-pub struct AccountDay {
-    pub account: Account,
-    pub date: Day,
-}
-
 /// What may be accepted into the book.
 #[derive(Clone, Copy, Debug, PartialEq, Eq)]
 pub enum Activity {
@@ -60,12 +53,10 @@ pub enum Activity {
     Close(Day),
 }
 
-/// What the book is asked: to accept an activity, or one of two queries, which change nothing.
+/// What the book is asked: to accept an activity, or what stands at a key, which changes nothing.
 #[derive(Clone, Copy, Debug, PartialEq, Eq)]
 pub enum Command {
     Activity(Activity),
     /// What stands at a key now.
     Position(Key),
-    /// The statement of an account for a closed day.
-    Statement(AccountDay),
 }

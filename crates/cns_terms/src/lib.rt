@@ -15,7 +15,7 @@ mod reply;
 mod sheet;
 mod worker;
 
-pub use command::{AccountDay, Activity, Command, Listing, Movement, Trade};
+pub use command::{Activity, Command, Listing, Movement, Trade};
 pub use fault::NoMemory;
 pub use history::Taken;
 pub use holding::{Entry, Holding, Key};

@@ -38,6 +38,5 @@ pub enum Reply {
     Closed(Closed),
     /// What stands at the key.
     Held(Key, Holding),
-    Stated(Stated),
     Refused(Refusal),
 }
