@@ -186,7 +186,7 @@ fn first_held(rows: &[Row], after: Option<Key>) -> Option<Row>
     None
 }
 
-impl<A: Allocator + Drop> Positions<A> for FlatPositions<A> {
+impl<A: Allocator + Drop + Clone> Positions<A> for FlatPositions<A> {
     ghost rows = { λ p. p.rows };
 
     ghost prepared = { λ p. p.prepared };
@@ -222,5 +222,14 @@ impl<A: Allocator + Drop> Positions<A> for FlatPositions<A> {
 
     fn next_row(&self, after: Option<Key>) -> Option<Row> {
         first_held(self.rows.as_slice(), after)
+    }
+
+    fn rebuilt(&self, given: &[Row]) -> Result<Self, NoMemory> {
+        let mut rows = Vec::new(self.rows.allocator().clone()?);
+        rows.extend_from_slice(given)?;
+        Ok(FlatPositions {
+            rows,
+            prepared: ArrayVec::new(),
+        })
     }
 }

@@ -1,5 +1,5 @@
-// The contract of every form of positions.
-ghost use Rattle.std.specs.Prelude.{◌≡◌, ℕ, ◌≤◌, ◌+ℤ◌, List, [], ◌∷◌, Some, length, OnOk, OnErr, MatchOption, FitsSigned, true};
+// The contract that every form of positions keeps.
+ghost use Rattle.std.specs.Prelude.{◌≡◌, ℕ, ◌≤◌, ◌+ℤ◌, List, [], ◌∷◌, Some, length, IfOk, OnOk, OnErr, MatchOption, FitsSigned, true};
 ghost use Rattle.std.specs.FinMap.{is_sorted};
 ghost use Rattle.std.specs.Int.{w64, w128};
 ghost use Rattle.cns_terms.specs.Keys.{key_cmp};
@@ -12,7 +12,10 @@ use cns_terms::{Holding, Key, NoMemory};
 /// A key and what stands at it.
 pub type Row = (Key, Holding);
 
-/// What stands at each key, where an absent key counts as zeros.
+/// What stands at each key: a finite map in which an absent key counts as zeros.
+///
+/// Contracts see its rows, in the order of keys, and the prepared keys beside them. The clauses speak of what stands
+/// at each key, so that a form may keep rows of zeros where that serves it.
 pub trait Positions<A>: Drop {
     /// The rows, in the order of their keys.
     ghost rows: { Self → List (Key × Holding) };
@@ -55,4 +58,11 @@ pub trait Positions<A>: Drop {
     /// The first row that isn't zeros, or the first such row above a key.
     fn next_row(&self, after: Option<Key>) -> Option<Row>
         ensures { MatchOption result (held_above (rows self.now) after ≡ []) (λ r. held_above (rows self.now) after ≡ r ∷ held_above (rows self.now) (Some r.0)) };
+
+    /// The map of the given rows, on the allocator of this one. Where memory is refused nothing has changed.
+    fn rebuilt(&self, given: &[Row]) -> Result<Self, NoMemory>
+        requires { is_sorted key_cmp given.now ≡ true }
+        ensures rows { IfOk result (λ p. (k : Key) → holding_at (rows p) k ≡ holding_at given.now k) }
+        ensures order { IfOk result (λ p. is_sorted key_cmp (rows p) ≡ true) }
+        ensures prepared { IfOk result (λ p. prepared p ≡ []) };
 }
