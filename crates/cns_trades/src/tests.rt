@@ -1,1 +1,114 @@
+use crate::{MoveFacts, TradeFacts, Trades};
+use cns_terms::{Movement, Refusal, Trade};
+use cns_units::{Cusip, Day, Member, Money, Shares};
+use std::test::Fail;
 
+fn trade() -> Result<Trade, Fail> {
+    Ok(Trade {
+        reference: 7,
+        money: Money::new(975)?,
+        shares: Shares::new(5)?,
+        buyer: Member::new(101)?,
+        seller: Member::new(202)?,
+        date: Day::parse(b"2024-06-03".as_slice())?,
+        issue: Cusip::parse(b"037833100".as_slice())?,
+    })
+}
+
+fn facts() -> Result<TradeFacts, Fail> {
+    Ok(TradeFacts {
+        buyer: Some(0),
+        seller: Some(0),
+        listed: true,
+        retired: false,
+        today: Day::parse(b"2024-06-03".as_slice())?,
+    })
+}
+
+#[test]
+fn a_trade_is_refused_by_the_least_number(rt: HostRuntime) -> Result<(), Fail> {
+    let trades = Trades::new(rt.alloc());
+    let fine = facts()?;
+    let late = Day::parse(b"2024-06-05".as_slice())?;
+    let full = Some(10_000_000_000);
+    let cases = [
+        (TradeFacts { buyer: None, listed: false, ..fine }, Refusal::NoSuchMember),
+        (TradeFacts { seller: None, ..fine }, Refusal::NoSuchMember),
+        (TradeFacts { listed: false, retired: true, ..fine }, Refusal::NoSuchIssue),
+        (TradeFacts { retired: true, today: late, ..fine }, Refusal::Retired),
+        (TradeFacts { today: late, buyer: full, ..fine }, Refusal::WrongDay),
+        (TradeFacts { buyer: full, ..fine }, Refusal::TooLarge),
+        (TradeFacts { seller: Some(-10_000_000_000), ..fine }, Refusal::TooLarge),
+    ];
+    let trade = trade()?;
+    for (facts, refusal) in cases {
+        assert_eq!(rt; trades.check_trade(&facts, &trade), Err(refusal));
+    }
+    let same = Trade { seller: trade.buyer, ..trade };
+    assert_eq!(rt; trades.check_trade(&fine, &same), Err(Refusal::SameParty));
+    Ok(())
+}
+
+#[test]
+fn a_reference_is_used_once_and_only_when_it_is_noted(rt: HostRuntime) -> Result<(), Fail> {
+    let mut trades = Trades::new(rt.alloc());
+    let facts = facts()?;
+    let trade = trade()?;
+    assert!(rt; trades.check_trade(&facts, &trade).is_ok());
+    assert!(rt; !trades.seen(7));
+    trades.note_reference(7)?;
+    assert!(rt; trades.seen(7));
+    assert_eq!(rt; trades.check_trade(&facts, &trade), Err(Refusal::SeenReference));
+    Ok(())
+}
+
+#[test]
+fn a_trade_books_opposite_entries(rt: HostRuntime) -> Result<(), Fail> {
+    let trades = Trades::new(rt.alloc());
+    let answer = trades.check_trade(&facts()?, &trade()?);
+    assert!(rt; answer.is_ok());
+    if let Ok((buyer, seller)) = answer {
+        assert_eq!(rt; (buyer.account.value(), buyer.shares, buyer.cents), (101, 5, -975));
+        assert_eq!(rt; (seller.account.value(), seller.shares, seller.cents), (202, -5, 975));
+    }
+    Ok(())
+}
+
+#[test]
+fn movements_are_refused_by_the_least_number(rt: HostRuntime) -> Result<(), Fail> {
+    let trades = Trades::new(rt.alloc());
+    let movement = Movement {
+        member: Member::new(101)?,
+        issue: Cusip::parse(b"037833100".as_slice())?,
+        shares: Shares::new(100)?,
+    };
+    let at = |member, corporation| MoveFacts {
+        member,
+        corporation,
+        listed: true,
+        retired: false,
+    };
+    let deliveries = [
+        (at(None, 0), Some(Refusal::NoSuchMember)),
+        (at(Some(-99), 0), Some(Refusal::ExceedsPosition)),
+        (at(Some(0), 0), Some(Refusal::ExceedsPosition)),
+        (at(Some(5), 0), Some(Refusal::ExceedsPosition)),
+        (at(Some(-100), 0), None),
+    ];
+    for (facts, refusal) in deliveries {
+        assert_eq!(rt; trades.check_delivery(&facts, &movement).err(), refusal);
+    }
+    let receipts = [
+        (at(None, 0), Some(Refusal::NoSuchMember)),
+        (at(Some(99), -50), Some(Refusal::ExceedsPosition)),
+        (at(Some(100), -99), Some(Refusal::NotOnHand)),
+        (at(Some(0), -99), Some(Refusal::NotOnHand)),
+        (at(Some(0), -100), Some(Refusal::NotLong)),
+        (at(Some(-3), -100), Some(Refusal::NotLong)),
+        (at(Some(100), -100), None),
+    ];
+    for (facts, refusal) in receipts {
+        assert_eq!(rt; trades.check_receipt(&facts, &movement).err(), refusal);
+    }
+    Ok(())
+}

@@ -1,0 +1,5 @@
+pub mod DigitLemmas
+pub mod RecordLemmas
+pub mod TextLemmas
+pub mod FeedLemmas
+pub mod PlayLemmas

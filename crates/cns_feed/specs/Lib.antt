@@ -1,0 +1,5 @@
+pub mod Digits
+pub mod Line
+pub mod Text
+pub mod Output
+pub mod Replay

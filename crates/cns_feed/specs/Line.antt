@@ -1,0 +1,166 @@
+-- The command that a record is, or its first fault.
+use Rattle.std.specs.Prelude.{ℕ, ◌^◌, ◌==◌, if◌then◌else◌, List, [], length, codes, unwrap_or, Result, Ok, Err}
+use Rattle.std.specs.Str.{bytes_eq}
+use Rattle.csv.specs.Records.{field_at}
+use Rattle.cns_units.specs.Cusip.{cusip_of}
+use Rattle.cns_units.specs.Day.{day_of}
+use Rattle.cns_units.specs.declared.account.Account.{Account}
+use Rattle.cns_units.specs.declared.account.Member.{Member}
+use Rattle.cns_units.specs.declared.cusip.Cusip.{Cusip}
+use Rattle.cns_units.specs.declared.day.Day.{Day}
+use Rattle.cns_units.specs.declared.fault.UnitFault.{UnitFault}
+use Rattle.cns_units.specs.declared.money.Money.{Money}
+use Rattle.cns_units.specs.declared.price.Price.{Price}
+use Rattle.cns_units.specs.declared.shares.Shares.{Shares}
+use Rattle.cns_terms.specs.declared.command.Activity.TheVariants as activity
+use Rattle.cns_terms.specs.declared.command.Command.{Command}
+use Rattle.cns_terms.specs.declared.command.Command.TheVariants as command
+use Rattle.cns_terms.specs.declared.command.Listing.{Listing}
+use Rattle.cns_terms.specs.declared.command.Movement.{Movement}
+use Rattle.cns_feed.specs.Digits.{number_in}
+use Rattle.cns_feed.specs.declared.fault.LineFault.{LineFault}
+use Rattle.cns_feed.specs.declared.fault.LineFault.TheVariants as fault
+
+-- a record: its fields, each a list of bytes
+abbrev pub Record : Type 0
+Record = List (List ℕ)
+
+infixl 10 ◌>>=◌
+-- a field and then what is read after it; the first fault decides
+abbrev pub ◌>>=◌ : {A B : Type 0} → Result A LineFault → (A → Result B LineFault) → Result B LineFault
+(Ok x) >>= f = f x
+(Err e) >>= f = Err e
+
+-- the field at a place, the kind being at 0
+abbrev pub field : Record → ℕ → List ℕ
+field fields i = unwrap_or (field_at fields i) []
+
+-- the member, 1 to 9999
+abbrev pub member_at : Record → ℕ → Result Member LineFault
+member_at fields i = number_in 1 9999 (field fields i)
+
+-- the account, 0 to 9999
+abbrev pub account_at : Record → ℕ → Result Account LineFault
+account_at fields i = number_in 0 9999 (field fields i)
+
+-- the reference of a trade, 1 to 10^18
+abbrev pub reference_at : Record → ℕ → Result ℕ LineFault
+reference_at fields i = number_in 1 (10 ^ 18) (field fields i)
+
+-- the shares, 1 to 10^9
+abbrev pub shares_at : Record → ℕ → Result Shares LineFault
+shares_at fields i = number_in 1 (10 ^ 9) (field fields i)
+
+-- the money in cents, 0 to 10^18
+abbrev pub money_at : Record → ℕ → Result Money LineFault
+money_at fields i = number_in 0 (10 ^ 18) (field fields i)
+
+-- the price in cents, 0 to 10^9
+abbrev pub price_at : Record → ℕ → Result Price LineFault
+price_at fields i = number_in 0 (10 ^ 9) (field fields i)
+
+-- a text that is no CUSIP is a fault of its own
+abbrev pub or_cusip_fault : Result Cusip UnitFault → Result Cusip LineFault
+or_cusip_fault (Ok c) = Ok c
+or_cusip_fault (Err e) = Err fault.Cusip
+
+-- the CUSIP
+abbrev pub cusip_at : Record → ℕ → Result Cusip LineFault
+cusip_at fields i = or_cusip_fault (cusip_of (field fields i))
+
+-- a text that is no date is a fault of its own
+abbrev pub or_date_fault : Result Day UnitFault → Result Day LineFault
+or_date_fault (Ok d) = Ok d
+or_date_fault (Err e) = Err fault.Date
+
+-- the date
+abbrev pub date_at : Record → ℕ → Result Day LineFault
+date_at fields i = or_date_fault (day_of (field fields i))
+
+-- what is read of a record with so many fields, the kind among them
+abbrev pub counted : {A : Type 0} → ℕ → Record → Result A LineFault → Result A LineFault
+counted n fields read = if length fields == n then read else Err fault.Count
+
+-- MEMBER: a member
+unfoldable pub member_line : Record → Result Command LineFault
+member_line fields = counted 2 fields (do
+  member ← member_at fields 1
+  Ok (command.Activity (activity.Member member)))
+
+-- an issue and a price
+unfoldable pub listing_at : Record → Result Listing LineFault
+listing_at fields = counted 3 fields (do
+  issue ← cusip_at fields 1
+  price ← price_at fields 2
+  Ok (record { issue = issue; price = price }))
+
+-- ISSUE: an issue and its first price
+unfoldable pub issue_line : Record → Result Command LineFault
+issue_line fields = do
+  listing ← listing_at fields
+  Ok (command.Activity (activity.Issue listing))
+
+-- PRICE: an issue and its new price
+unfoldable pub price_line : Record → Result Command LineFault
+price_line fields = do
+  listing ← listing_at fields
+  Ok (command.Activity (activity.Price listing))
+
+-- TRADE: the reference, the buyer, the seller, the issue, the shares, the money and the settlement date
+unfoldable pub trade_line : Record → Result Command LineFault
+trade_line fields = counted 8 fields (do
+  reference ← reference_at fields 1
+  buyer ← member_at fields 2
+  seller ← member_at fields 3
+  issue ← cusip_at fields 4
+  shares ← shares_at fields 5
+  money ← money_at fields 6
+  date ← date_at fields 7
+  Ok (command.Activity (activity.Trade (record { reference = reference; money = money; shares = shares; buyer = buyer; seller = seller; date = date; issue = issue }))))
+
+-- a member, an issue and the shares that move
+unfoldable pub movement_at : Record → Result Movement LineFault
+movement_at fields = counted 4 fields (do
+  member ← member_at fields 1
+  issue ← cusip_at fields 2
+  shares ← shares_at fields 3
+  Ok (record { member = member; issue = issue; shares = shares }))
+
+-- DELIVER: what a member delivers
+unfoldable pub deliver_line : Record → Result Command LineFault
+deliver_line fields = do
+  movement ← movement_at fields
+  Ok (command.Activity (activity.Deliver movement))
+
+-- RECEIVE: what a member receives
+unfoldable pub receive_line : Record → Result Command LineFault
+receive_line fields = do
+  movement ← movement_at fields
+  Ok (command.Activity (activity.Receive movement))
+
+-- CLOSE: the next date
+unfoldable pub close_line : Record → Result Command LineFault
+close_line fields = counted 2 fields (do
+  date ← date_at fields 1
+  Ok (command.Activity (activity.Close date)))
+
+-- POSITION: an account and an issue
+unfoldable pub position_line : Record → Result Command LineFault
+position_line fields = counted 3 fields (do
+  account ← account_at fields 1
+  issue ← cusip_at fields 2
+  Ok (command.Position (record { account = account; issue = issue })))
+
+-- the command of a record by its kind, or the first fault: the kind, the count of fields, the fields from left to right
+unfoldable pub line_of : Record → Result Command LineFault
+line_of fields =
+    let kind = field fields 0 in
+    if bytes_eq kind (codes "MEMBER") then member_line fields
+    else if bytes_eq kind (codes "ISSUE") then issue_line fields
+    else if bytes_eq kind (codes "TRADE") then trade_line fields
+    else if bytes_eq kind (codes "PRICE") then price_line fields
+    else if bytes_eq kind (codes "DELIVER") then deliver_line fields
+    else if bytes_eq kind (codes "RECEIVE") then receive_line fields
+    else if bytes_eq kind (codes "CLOSE") then close_line fields
+    else if bytes_eq kind (codes "POSITION") then position_line fields
+    else Err fault.Kind

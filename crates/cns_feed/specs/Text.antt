@@ -1,0 +1,78 @@
+-- The texts of replies and of records at fault.
+use Rattle.std.specs.Prelude.{ℕ, ◌∷◌, ◌++◌, [], List, codes}
+use Rattle.std.specs.Fmt.{decimal, signed_decimal}
+use Rattle.std.specs.List.{flat_map}
+use Rattle.cns_units.specs.Cents.{cents_text}
+use Rattle.cns_units.specs.Day.{day_text}
+use Rattle.cns_terms.specs.Numbers.{refusal_number}
+use Rattle.cns_terms.specs.declared.holding.Holding.{Holding}
+use Rattle.cns_terms.specs.declared.holding.Key.{Key}
+use Rattle.cns_terms.specs.declared.refusal.Refusal.{Refusal}
+use Rattle.cns_terms.specs.declared.refusal.Refusal.TheVariants as refusal
+use Rattle.cns_terms.specs.declared.reply.Closed.{Closed}
+use Rattle.cns_terms.specs.declared.reply.Reply.{Reply}
+use Rattle.cns_terms.specs.declared.reply.Reply.TheVariants as reply
+use Rattle.cns_feed.specs.declared.fault.LineFault.{LineFault}
+use Rattle.cns_feed.specs.declared.fault.LineFault.TheVariants as fault
+use Rattle.cns_feed.specs.declared.text.Word.{Word}
+use Rattle.cns_feed.specs.declared.text.Word.TheVariants as word
+
+-- the text of a word: plain decimal, cents with a point, dates as `YYYY-MM-DD`
+abbrev pub word_text : Word → List ℕ
+word_text (word.Text t) = t.now
+word_text (word.Number n) = decimal n
+word_text (word.Signed z) = signed_decimal z
+word_text (word.Amount z) = cents_text z
+word_text (word.Date d) = day_text d
+
+-- words, each after a space
+abbrev pub words_text : List Word → List ℕ
+words_text words = flat_map (λ w. 32 ∷ word_text w) words
+
+-- a first word and words, each after a space, and a line feed
+abbrev pub words_line : List ℕ → List Word → List ℕ
+words_line first others = first ++ (words_text others ++ 10 ∷ [])
+
+-- the same of the words' texts
+abbrev pub text_line : List ℕ → List (List ℕ) → List ℕ
+text_line first others = first ++ (flat_map (λ w. 32 ∷ w) others ++ 10 ∷ [])
+
+-- `closed DAY DATE ROWS LIABLE`
+abbrev pub closed_line : Closed → List ℕ
+closed_line c = text_line (codes "closed") (decimal c.day ∷ day_text c.date ∷ decimal c.rows ∷ decimal c.liable ∷ [])
+
+-- `position ACCOUNT CUSIP NOW OPENING CONTRACT RUN`
+abbrev pub held_line : Key → Holding → List ℕ
+held_line k h =
+    text_line (codes "position") (decimal k.account ∷ k.issue ∷ signed_decimal h.now ∷ signed_decimal h.opening ∷ cents_text h.contract ∷ decimal h.run ∷ [])
+
+-- what is written after a refusal's number: the live notice's number, or the room
+abbrev pub refusal_detail : Refusal → List (List ℕ)
+refusal_detail (refusal.AlreadyNoticed notice) = decimal notice ∷ []
+refusal_detail (refusal.NotLiable room) = decimal room ∷ []
+refusal_detail _ = []
+
+-- `refused NUMBER`, and the detail where there is one
+abbrev pub refused_line : Refusal → List ℕ
+refused_line r = text_line (codes "refused") (decimal (refusal_number r) ∷ refusal_detail r)
+
+-- the first line of a reply
+abbrev pub reply_line : Reply → List ℕ
+reply_line reply.Accepted = text_line (codes "ok") []
+reply_line (reply.Closed c) = closed_line c
+reply_line (reply.Held k h) = held_line k h
+reply_line (reply.Refused r) = refused_line r
+
+-- the name of a line fault
+abbrev pub fault_name : LineFault → List ℕ
+fault_name fault.Kind = codes "Kind"
+fault_name fault.Count = codes "Count"
+fault_name fault.Number = codes "Number"
+fault_name fault.Date = codes "Date"
+fault_name fault.Cusip = codes "Cusip"
+fault_name fault.Range = codes "Range"
+fault_name fault.NoMemory = codes "NoMemory"
+
+-- `line KIND` of a record at fault
+abbrev pub fault_line : LineFault → List ℕ
+fault_line f = text_line (codes "line") (fault_name f ∷ [])

@@ -1,0 +1,47 @@
+// Why a record is no command, and why a replay ends early.
+use thiserror::Error;
+
+/// Why a record is no command.
+///
+/// Of several faults the first counts, in this order: the kind, the count of fields, the fields from left to right.
+#[derive(Clone, Copy, Debug, PartialEq, Eq, Error)]
+pub enum LineFault {
+    /// The first field is no kind; kinds are upper case and exact.
+    #[error("Kind")]
+    Kind,
+    /// The number of fields is not the kind's.
+    #[error("Count")]
+    Count,
+    /// A field that must be one or more digits has none, or something else.
+    #[error("Number")]
+    Number,
+    /// A field that must be a date is none.
+    #[error("Date")]
+    Date,
+    /// A field that must be a CUSIP is none.
+    #[error("Cusip")]
+    Cusip,
+    /// The number of a field, however long, is outside its range.
+    #[error("Range")]
+    Range,
+    /// A growth was refused while a field was read. No field of today's records takes memory, so it does not come.
+    #[error("NoMemory")]
+    NoMemory,
+}
+
+/// Why a replay or a load ended before its input did.
+#[derive(Clone, Copy, Debug, PartialEq, Eq, Error)]
+pub enum ReplayFault {
+    /// The reader failed, or there were more than 4,294,967,295 records.
+    #[error("Read")]
+    Read,
+    /// The writer failed or took no byte.
+    #[error("Write")]
+    Write,
+    /// A growth was refused.
+    #[error("NoMemory")]
+    NoMemory,
+    /// The book's history is at its limit.
+    #[error("Full")]
+    Full,
+}

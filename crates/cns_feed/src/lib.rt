@@ -1,0 +1,30 @@
+//! The feed: records of comma-separated fields in, replies as lines of text out.
+//!
+//! `command_of` says of each record which command it is, or its first fault; `replay` takes the commands of a reader on
+//! a new book and writes each reply, `load` takes them without writing, and `reply_text` writes the first line of a
+//! reply. Over a reader and a writer that tell their bytes, a replay that answers Ok has written `output` of all of the
+//! input and nothing else; after a fault the text is that of the records before it, and of the next what the fault
+//! leaves. What a record is stands in `specs/Line.antt`, the texts in `specs/Text.antt`, and what a whole input comes to
+//! in `specs/Output.antt`, where to start reading.
+#![tactic(auto)]
+
+mod digits;
+mod fault;
+mod line;
+mod loader;
+mod outcome;
+mod player;
+mod rows;
+mod summary;
+mod text;
+
+pub use fault::{LineFault, ReplayFault};
+pub use line::command_of;
+pub use loader::load;
+pub use outcome::ReplayBook;
+pub use player::replay;
+pub use summary::Summary;
+pub use text::reply_text;
+
+#[cfg(test)]
+mod tests;

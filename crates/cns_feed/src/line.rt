@@ -1,0 +1,248 @@
+// Records, and the commands that they are.
+ghost use Rattle.std.specs.Prelude.{◌≡◌};
+ghost use Rattle.csv.specs.Records.{fields_of};
+ghost use Rattle.cns_feed.specs.Digits.{in_range};
+ghost use Rattle.cns_feed.specs.Line.{field, member_at, account_at, reference_at, shares_at, money_at, price_at, cusip_at, date_at};
+ghost use Rattle.cns_feed.specs.Line.{member_line, listing_at, issue_line, price_line, trade_line, movement_at, deliver_line, receive_line, close_line, position_line, line_of};
+
+use crate::digits::{number_of, short_number_of};
+use crate::fault::LineFault;
+use cns_terms::{Activity, Command, Key, Listing, Movement, Trade};
+use cns_units::{Account, Cusip, Day, Member, Money, Price, Shares, UnitFault};
+use csv::ByteRecord;
+
+const MOST_REFERENCE: u64 = 1_000_000_000_000_000_000;
+
+// The field at a place, the kind being at 0.
+fn field(row: &ByteRecord, place: usize) -> &[u8]
+    ensures { result.now ≡ field (fields_of row.now) place }
+{
+    row.get(place).unwrap_or(&[])
+}
+
+// A unit that a number was to be.
+fn ranged<T>(unit: Result<T, UnitFault>) -> Result<T, LineFault>
+    ensures { result ≡ in_range unit }
+{
+    match unit {
+        Ok(unit) => Ok(unit),
+        Err(_) => Err(LineFault::Range),
+    }
+}
+
+fn member(row: &ByteRecord, place: usize) -> Result<Member, LineFault>
+    ensures { result ≡ member_at (fields_of row.now) place }
+{
+    let number = short_number_of(field(row, place))?;
+    ranged(Member::new(number))
+}
+
+fn account(row: &ByteRecord, place: usize) -> Result<Account, LineFault>
+    ensures { result ≡ account_at (fields_of row.now) place }
+{
+    let number = short_number_of(field(row, place))?;
+    ranged(Account::new(number))
+}
+
+fn reference(row: &ByteRecord, place: usize) -> Result<u64, LineFault>
+    ensures { result ≡ reference_at (fields_of row.now) place }
+{
+    let number = number_of(field(row, place))?;
+    if number < 1 {
+        return Err(LineFault::Range);
+    }
+    if number > MOST_REFERENCE {
+        return Err(LineFault::Range);
+    }
+    Ok(number)
+}
+
+fn shares(row: &ByteRecord, place: usize) -> Result<Shares, LineFault>
+    ensures { result ≡ shares_at (fields_of row.now) place }
+{
+    let number = number_of(field(row, place))?;
+    ranged(Shares::new(number))
+}
+
+fn money(row: &ByteRecord, place: usize) -> Result<Money, LineFault>
+    ensures { result ≡ money_at (fields_of row.now) place }
+{
+    let number = number_of(field(row, place))?;
+    ranged(Money::new(number))
+}
+
+fn price(row: &ByteRecord, place: usize) -> Result<Price, LineFault>
+    ensures { result ≡ price_at (fields_of row.now) place }
+{
+    let number = number_of(field(row, place))?;
+    ranged(Price::new(number))
+}
+
+fn cusip(row: &ByteRecord, place: usize) -> Result<Cusip, LineFault>
+    ensures { result ≡ cusip_at (fields_of row.now) place }
+{
+    match Cusip::parse(field(row, place)) {
+        Ok(cusip) => Ok(cusip),
+        Err(_) => Err(LineFault::Cusip),
+    }
+}
+
+fn date(row: &ByteRecord, place: usize) -> Result<Day, LineFault>
+    ensures { result ≡ date_at (fields_of row.now) place }
+{
+    match Day::parse(field(row, place)) {
+        Ok(day) => Ok(day),
+        Err(_) => Err(LineFault::Date),
+    }
+}
+
+#[tactic(auto, unfolding(crate::specs::Line::member_line))]
+fn member_of(row: &ByteRecord) -> Result<Command, LineFault>
+    ensures { result ≡ member_line (fields_of row.now) }
+{
+    if row.len() != 2 {
+        return Err(LineFault::Count);
+    }
+    let member = member(row, 1)?;
+    Ok(Command::Activity(Activity::Member(member)))
+}
+
+// An issue and a price.
+#[tactic(auto, unfolding(crate::specs::Line::listing_at))]
+fn listing(row: &ByteRecord) -> Result<Listing, LineFault>
+    ensures { result ≡ listing_at (fields_of row.now) }
+{
+    if row.len() != 3 {
+        return Err(LineFault::Count);
+    }
+    let issue = cusip(row, 1)?;
+    let price = price(row, 2)?;
+    Ok(Listing { issue, price })
+}
+
+#[tactic(auto, unfolding(crate::specs::Line::issue_line))]
+fn issue_of(row: &ByteRecord) -> Result<Command, LineFault>
+    ensures { result ≡ issue_line (fields_of row.now) }
+{
+    let listing = listing(row)?;
+    Ok(Command::Activity(Activity::Issue(listing)))
+}
+
+#[tactic(auto, unfolding(crate::specs::Line::price_line))]
+fn price_of(row: &ByteRecord) -> Result<Command, LineFault>
+    ensures { result ≡ price_line (fields_of row.now) }
+{
+    let listing = listing(row)?;
+    Ok(Command::Activity(Activity::Price(listing)))
+}
+
+#[tactic(auto, unfolding(crate::specs::Line::trade_line))]
+fn trade_of(row: &ByteRecord) -> Result<Command, LineFault>
+    ensures { result ≡ trade_line (fields_of row.now) }
+{
+    if row.len() != 8 {
+        return Err(LineFault::Count);
+    }
+    let reference = reference(row, 1)?;
+    let buyer = member(row, 2)?;
+    let seller = member(row, 3)?;
+    let issue = cusip(row, 4)?;
+    let shares = shares(row, 5)?;
+    let money = money(row, 6)?;
+    let date = date(row, 7)?;
+    Ok(Command::Activity(Activity::Trade(Trade {
+        reference,
+        money,
+        shares,
+        buyer,
+        seller,
+        date,
+        issue,
+    })))
+}
+
+// A member, an issue and the shares that move.
+#[tactic(auto, unfolding(crate::specs::Line::movement_at))]
+fn movement(row: &ByteRecord) -> Result<Movement, LineFault>
+    ensures { result ≡ movement_at (fields_of row.now) }
+{
+    if row.len() != 4 {
+        return Err(LineFault::Count);
+    }
+    let member = member(row, 1)?;
+    let issue = cusip(row, 2)?;
+    let shares = shares(row, 3)?;
+    Ok(Movement {
+        member,
+        issue,
+        shares,
+    })
+}
+
+#[tactic(auto, unfolding(crate::specs::Line::deliver_line))]
+fn deliver_of(row: &ByteRecord) -> Result<Command, LineFault>
+    ensures { result ≡ deliver_line (fields_of row.now) }
+{
+    let movement = movement(row)?;
+    Ok(Command::Activity(Activity::Deliver(movement)))
+}
+
+#[tactic(auto, unfolding(crate::specs::Line::receive_line))]
+fn receive_of(row: &ByteRecord) -> Result<Command, LineFault>
+    ensures { result ≡ receive_line (fields_of row.now) }
+{
+    let movement = movement(row)?;
+    Ok(Command::Activity(Activity::Receive(movement)))
+}
+
+#[tactic(auto, unfolding(crate::specs::Line::close_line))]
+fn close_of(row: &ByteRecord) -> Result<Command, LineFault>
+    ensures { result ≡ close_line (fields_of row.now) }
+{
+    if row.len() != 2 {
+        return Err(LineFault::Count);
+    }
+    let date = date(row, 1)?;
+    Ok(Command::Activity(Activity::Close(date)))
+}
+
+#[tactic(auto, unfolding(crate::specs::Line::position_line))]
+fn position_of(row: &ByteRecord) -> Result<Command, LineFault>
+    ensures { result ≡ position_line (fields_of row.now) }
+{
+    if row.len() != 3 {
+        return Err(LineFault::Count);
+    }
+    let account = account(row, 1)?;
+    let issue = cusip(row, 2)?;
+    Ok(Command::Position(Key { account, issue }))
+}
+
+/// The command of a record, or its first fault: the kind, the count of fields, and then the fields from left to right.
+///
+/// The first field is the kind. No field takes memory to read, so `NoMemory` never comes.
+#[tactic(auto, unfolding(crate::specs::Line::line_of))]
+pub fn command_of(row: &ByteRecord) -> Result<Command, LineFault>
+    ensures { result ≡ line_of (fields_of row.now) }
+{
+    let kind = field(row, 0);
+    if kind == b"MEMBER".as_slice() {
+        member_of(row)
+    } else if kind == b"ISSUE".as_slice() {
+        issue_of(row)
+    } else if kind == b"TRADE".as_slice() {
+        trade_of(row)
+    } else if kind == b"PRICE".as_slice() {
+        price_of(row)
+    } else if kind == b"DELIVER".as_slice() {
+        deliver_of(row)
+    } else if kind == b"RECEIVE".as_slice() {
+        receive_of(row)
+    } else if kind == b"CLOSE".as_slice() {
+        close_of(row)
+    } else if kind == b"POSITION".as_slice() {
+        position_of(row)
+    } else {
+        Err(LineFault::Kind)
+    }
+}

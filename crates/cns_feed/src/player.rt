@@ -1,0 +1,97 @@
+// Replays.
+ghost use Rattle.std.specs.Prelude.{◌≡◌, OnOk, IfOk, IfErr, IfSome};
+ghost use Rattle.std.specs.Io.KnownBytes.{Appends};
+ghost use Rattle.csv.specs.Records.{fields_of};
+ghost use Rattle.csv.specs.Reading.{default_config, reader_state, records, source_of, strip_bom};
+ghost use Rattle.csv.specs.declared.parser.State.TheVariants as st;
+ghost use Rattle.cns_terms.specs.Machine.{opened};
+ghost use Rattle.cns_book.specs.Log.{state_of};
+ghost use Rattle.cns_feed.specs.Output.{Counts, outcomes, output, records_of, step_outcome, step_text, texts};
+ghost use Rattle.cns_feed.specs.Replay.{Leaves, Setup, Stops, step_log};
+
+use crate::fault::ReplayFault;
+use crate::outcome::{Outcome, ReplayBook, take_record, write_outcome};
+use crate::rows::{MOST_RECORDS, read_row, rows_of};
+use crate::summary::Summary;
+use cns_book::Book;
+use cns_units::Day;
+use csv::{ByteRecord, Reader};
+use std::alloc::Global;
+use std::io::{Read, Write};
+
+// Takes the command of a record, if it is one, and writes what it came to.
+fn play<W: Write>(
+    book: &mut ReplayBook,
+    row: &ByteRecord,
+    writer: &mut W,
+) -> Result<Outcome, ReplayFault>
+    ensures outcome { IfOk result (λ o. o ≡ step_outcome (state_of book.old) (fields_of row.now)) }
+    ensures after { OnOk result (book.new ≡ step_log book.old (fields_of row.now)) }
+    ensures text { OnOk result (Appends (W.contents writer.old) (W.contents writer.new) (step_text (state_of book.old) (fields_of row.now))) }
+    ensures err { IfErr result (λ e. Leaves e (W.contents writer.old) (W.contents writer.new) (step_text (state_of book.old) (fields_of row.now))) }
+{
+    let outcome = take_record(book, row)?;
+    match write_outcome(&outcome, writer) {
+        Ok(()) => Ok(outcome),
+        Err(_) => Err(ReplayFault::Write),
+    }
+}
+
+// Each record that the reader gives.
+fn play_all<R: Read, W: Write>(
+    rows: &mut Reader<R>,
+    book: &mut ReplayBook,
+    writer: &mut W,
+    row: &mut ByteRecord,
+) -> Result<Summary, ReplayFault>
+    requires setup { Setup rows.old }
+    requires start { reader_state rows.old ≡ st.StartRecord }
+    ensures all { OnOk result (IfSome (source_of R.remaining rows.old)
+        (λ bytes. Appends (W.contents writer.old) (W.contents writer.new) (texts (state_of book.old) (records default_config bytes)))) }
+    ensures counts { IfOk result (λ s. IfSome (source_of R.remaining rows.old)
+        (λ bytes. Counts s (outcomes (state_of book.old) (records default_config bytes)))) }
+    ensures fault { IfErr result (λ e. IfSome (source_of R.remaining rows.old)
+        (λ bytes. Stops e (W.contents writer.old) (W.contents writer.new) (state_of book.old) bytes)) }
+{
+    let mut summary = Summary::new();
+    for _turn in 0..MOST_RECORDS {
+        let found = read_row(rows, row)?;
+        if !found {
+            return Ok(summary);
+        }
+        let outcome = play(book, row, writer)?;
+        summary.add(&outcome);
+    }
+    Err(ReplayFault::Read)
+}
+
+/// Takes the command of each record of the reader, in order, on a new book that opens on that date, and writes the
+/// first line of each reply; a record at fault is written as `line` and its fault, and the replay goes on.
+///
+/// `Read` where the reader fails, or gives more than 4,294,967,295 records; `NoMemory` where a growth was refused;
+/// `Full` where the book's history is at its limit, which has room for as many commands. After these the text of the
+/// records before was written. `Write` where the writer fails or takes no byte: a front of the text was written, up to
+/// and with that of the record whose reply failed. After a fault neither the reader nor the writer is called again.
+/// The writer is not flushed. A buffer on the reader's side is not needed: blocks of 8 KiB are read.
+pub fn replay<R: Read + Drop, W: Write>(
+    alloc: Global,
+    opening: Day,
+    reader: R,
+    writer: &mut W,
+) -> Result<Summary, ReplayFault>
+    // All of the input is answered, and nothing else is written.
+    ensures output { OnOk result (IfSome (R.remaining reader)
+        (λ input. Appends (W.contents writer.old) (W.contents writer.new) (output opening input))) }
+    ensures counts { IfOk result (λ s. IfSome (R.remaining reader)
+        (λ input. Counts s (outcomes (opened opening) (records_of input)))) }
+    // The records before the fault are answered, and of the next what the fault leaves.
+    ensures fault { IfErr result (λ e. IfSome (R.remaining reader)
+        (λ input. Stops e (W.contents writer.old) (W.contents writer.new) (opened opening) (strip_bom input))) }
+{
+    let Ok(mut book) = Book::new(alloc, opening) else {
+        return Err(ReplayFault::NoMemory);
+    };
+    let mut rows = rows_of(alloc, reader);
+    let mut row = ByteRecord::new(alloc);
+    play_all(&mut rows, &mut book, writer, &mut row)
+}

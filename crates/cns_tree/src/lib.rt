@@ -1,0 +1,27 @@
+//! A map from keys (an account and an issue) to small values, kept as a height-balanced tree of boxes over any
+//! allocator. It holds the book's positions and the sheets of closed days.
+//!
+//! Contracts see a [`Tree`] as the list of its rows, whose keys strictly rise: by account, and then by the bytes of
+//! the issue. At every node the heights of the two sides are the same or differ by one, so `get` and `put` go down
+//! one short path. A `put` takes no memory: the box for a new row comes out of a [`Spare`] that [`Tree::spare`]
+//! filled before. What does take memory (`spare`, `copied`, `from_sorted`) makes something new, so a refused growth
+//! leaves every tree as it was.
+//!
+//! Start at [`Tree`] in `tree.rt`; `specs/Search.antt` and `specs/Order.antt` have the words of its contracts, and
+//! `node.rt` has the nodes.
+#![tactic(auto)]
+
+mod build;
+mod node;
+mod put;
+mod rotate;
+mod spare;
+mod tree;
+mod walk;
+
+pub use spare::Spare;
+pub use tree::Tree;
+pub use walk::Walk;
+
+#[cfg(test)]
+mod tests;

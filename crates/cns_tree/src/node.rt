@@ -1,0 +1,191 @@
+// The nodes of a tree.
+ghost use Rattle.std.specs.Prelude.{◌≡◌, [], ◌∷◌, ◌++◌, ◌+◌, max, true, None, MatchOption};
+ghost use Rattle.std.specs.FinMap.{find, is_sorted};
+ghost use Rattle.cns_tree.specs.Apart.{IsApart};
+ghost use Rattle.cns_tree.specs.Order.{key_cmp};
+ghost use Rattle.cns_tree.specs.Search.{is_at_or_after, is_above, is_after};
+ghost use Rattle.cns_tree.specs.Shape.{IsLean};
+ghost use Rattle.std.specs.List.{find as first};
+
+use cns_terms::Key;
+use std::alloc::Allocator;
+use std::cmp::Ordering;
+use std::marker::Model;
+use std::mem;
+
+/// Which side of a node is higher, if one is: by one level.
+#[derive(Clone, Copy)]
+pub enum Lean {
+    Left,
+    Even,
+    Right,
+}
+
+/// A part of a tree. Contracts see its rows in the order of their keys, and its height.
+#[cycle(tree)]
+#[derive(Drop)]
+pub struct Subtree<V: Copy, A: Allocator> {
+    pub(crate) top: Option<Box<Node<V, A>, A>>,
+}
+
+/// A row with what is below and above it.
+#[cycle(tree)]
+#[derive(Drop)]
+pub struct Node<V: Copy, A: Allocator> {
+    pub(crate) key: Key,
+    pub(crate) value: V,
+    pub(crate) lean: Lean,
+    pub(crate) left: Subtree<V, A>,
+    pub(crate) right: Subtree<V, A>,
+}
+
+impl<V: Copy, A: Allocator> Model for Subtree<V, A> {
+    ghost use Rattle.std.specs.Prelude.{ℕ, List, length};
+    ghost use Rattle.cns_terms.specs.declared.Key.{Key};
+
+    ghost Value = { List (Key × V) × ℕ };
+
+    ghost use Rattle.cns_tree.specs.Shape.{rows_and_height, IsBalanced};
+
+    ghost view = { λ a. rows_and_height a.top };
+
+    ghost invariant = { λ a. IsBalanced a.top };
+
+    ghost size = { λ d. length d.0 };
+
+    ghost use Rattle.std.proofs.Common.{arith, length-append};
+
+    ghost size_decreases = { λ a h. Prim.grind (arith, length-append) };
+}
+
+/// A node's box without its sides, and what it was put together of.
+#[derive(Drop)]
+pub(crate) struct Parts<V: Copy, A: Allocator> {
+    pub(crate) left: Subtree<V, A>,
+    pub(crate) node: Box<Node<V, A>, A>,
+    pub(crate) lean: Lean,
+    pub(crate) right: Subtree<V, A>,
+}
+
+impl<V: Copy, A: Allocator> Subtree<V, A> {
+    /// No rows.
+    pub(crate) fn empty() -> Self
+        ensures { result ≡ ([], 0) }
+    {
+        Subtree { top: None }
+    }
+
+    /// Takes the top apart, if there is one.
+    pub(crate) fn open(self) -> Option<Parts<V, A>>
+        ensures { MatchOption result (self ≡ ([], 0)) (λ parts. IsApart self parts) }
+    {
+        let mut node = self.top?;
+        let left = mem::replace(&mut node.left, Subtree::empty());
+        let right = mem::replace(&mut node.right, Subtree::empty());
+        let lean = node.lean;
+        Some(Parts {
+            left,
+            node,
+            lean,
+            right,
+        })
+    }
+
+    /// The value at a key.
+    pub fn get(&self, key: Key) -> Option<V>
+        ensures { result ≡ find key_cmp key self.now.0 }
+    {
+        let mut side = self;
+        while let Some(node) = &side.top {
+            let node: &Node<V, A> = node;
+            side = match key.cmp(&node.key) {
+                Ordering::Less => &node.left,
+                Ordering::Equal => return Some(node.value),
+                Ordering::Greater => &node.right,
+            };
+        }
+        None
+    }
+
+    /// The nodes on the longest way down, counted one by one.
+    #[cfg(test)]
+    pub(crate) fn height(&self) -> u32 {
+        match &self.top {
+            None => 0,
+            Some(node) => {
+                let node: &Node<V, A> = node;
+                node.left
+                    .height()
+                    .max(node.right.height())
+                    .saturating_add(1)
+            }
+        }
+    }
+
+    /// The first row.
+    pub(crate) fn first(&self) -> Option<(Key, V)>
+        ensures { result ≡ first (is_after None) self.now.0 }
+    {
+        let mut side = self;
+        let mut best = None;
+        while let Some(node) = &side.top {
+            let node: &Node<V, A> = node;
+            best = Some((node.key, node.value));
+            side = &node.left;
+        }
+        best
+    }
+
+    /// The first row whose key is the key or above it.
+    pub(crate) fn first_at_or_after(&self, key: Key) -> Option<(Key, V)>
+        ensures { result ≡ first (is_at_or_after key) self.now.0 }
+    {
+        let mut side = self;
+        let mut best = None;
+        while let Some(node) = &side.top {
+            let node: &Node<V, A> = node;
+            if node.key.cmp(&key).is_lt() {
+                side = &node.right;
+            } else {
+                best = Some((node.key, node.value));
+                side = &node.left;
+            }
+        }
+        best
+    }
+
+    /// The first row whose key is above the key.
+    pub(crate) fn first_above(&self, key: Key) -> Option<(Key, V)>
+        ensures { result ≡ first (is_above key) self.now.0 }
+    {
+        let mut side = self;
+        let mut best = None;
+        while let Some(node) = &side.top {
+            let node: &Node<V, A> = node;
+            if key.cmp(&node.key).is_lt() {
+                best = Some((node.key, node.value));
+                side = &node.left;
+            } else {
+                side = &node.right;
+            }
+        }
+        best
+    }
+}
+
+/// Puts a node together.
+pub(crate) fn join<V: Copy, A: Allocator>(
+    left: Subtree<V, A>,
+    mut node: Box<Node<V, A>, A>,
+    lean: Lean,
+    right: Subtree<V, A>,
+) -> Subtree<V, A>
+    requires rises { is_sorted key_cmp (left.0 ++ (node.value.key, node.value.value) ∷ right.0) ≡ true }
+    requires leans { IsLean lean left.1 right.1 }
+    ensures { result ≡ (left.0 ++ (node.value.key, node.value.value) ∷ right.0, max left.1 right.1 + 1) }
+{
+    node.left = left;
+    node.lean = lean;
+    node.right = right;
+    Subtree { top: Some(node) }
+}

@@ -1,0 +1,67 @@
+// The way down to a key's place, and back.
+ghost use Rattle.std.specs.Prelude.{◌≡◌, ◌+◌, ◌<◌, ◌⊎◌, [], ◌∷◌, is_some, true, if◌then◌else◌};
+ghost use Rattle.std.specs.FinMap.{find};
+ghost use Rattle.std.specs.FinMap as rows;
+ghost use Rattle.cns_tree.specs.Order.{key_cmp};
+ghost use Rattle.cns_tree.specs.Shape.{rise};
+
+use crate::node::{Lean, Node, Parts, Subtree, join};
+use crate::rotate::{Changed, join_left, join_right};
+use crate::spare::Spare;
+use cns_terms::Key;
+use std::alloc::Allocator;
+use std::cmp::Ordering;
+
+// A node with no sides, in a box that is there.
+fn leaf<V: Copy, A: Allocator>(mut node: Box<Node<V, A>, A>, key: Key, value: V) -> Subtree<V, A>
+    ensures { result ≡ ((key, value) ∷ [], 1) }
+{
+    node.key = key;
+    node.value = value;
+    join(Subtree::empty(), node, Lean::Even, Subtree::empty())
+}
+
+impl<V: Copy, A: Allocator> Subtree<V, A> {
+    /// Puts a value at a key, which takes a spare box where the key isn't there.
+    pub(crate) fn put(self, key: Key, value: V, spare: &mut Spare<V, A>) -> Changed<V, A>
+        requires { (is_some (find key_cmp key self.0) ≡ true) ⊎ (0 < spare.old) }
+        ensures rows { result.side.0 ≡ rows.put key_cmp key value self.0 }
+        ensures height { result.side.1 ≡ self.1 + rise result.is_higher }
+        ensures spare { spare.new + (if is_some (find key_cmp key self.0) then 0 else 1) ≡ spare.old }
+    {
+        let Some(
+            Parts {
+                left,
+                mut node,
+                lean,
+                right,
+            },
+        ) = self.open()
+        else {
+            let Some(node) = spare.take() else {
+                unreachable!()
+            };
+            return Changed {
+                side: leaf(node, key, value),
+                is_higher: true,
+            };
+        };
+        match key.cmp(&node.key) {
+            Ordering::Less => {
+                let left = left.put(key, value, spare);
+                join_left(left, node, lean, right)
+            }
+            Ordering::Equal => {
+                node.value = value;
+                Changed {
+                    side: join(left, node, lean, right),
+                    is_higher: false,
+                }
+            }
+            Ordering::Greater => {
+                let right = right.put(key, value, spare);
+                join_right(left, node, lean, right)
+            }
+        }
+    }
+}

@@ -1,0 +1,347 @@
+ghost use Rattle.std.specs.Prelude.{◌≡◌, IfOk, true};
+ghost use Rattle.std.specs.FinMap.{is_sorted};
+ghost use Rattle.cns_tree.specs.Order.{key_cmp};
+
+use crate::Tree;
+use cns_terms::{Key, NoMemory};
+use cns_units::{Account, Cusip};
+use linked_list_allocator::LocalHeap;
+use std::alloc::{AllocError, Allocator, Global};
+use std::process::Abort;
+use std::test::Fail;
+
+// A key of the issue 037833100.
+fn key(rt: &impl Abort, number: u16) -> Key {
+    let Ok(account) = Account::new(number) else {
+        panic!(rt; "no account has the number {number}");
+    };
+    let Ok(issue) = Cusip::parse(b"037833100") else {
+        panic!(rt; "no issue");
+    };
+    Key { account, issue }
+}
+
+// Puts the keys 1 to `count`, each with its number as value.
+fn fill<A: Allocator + Clone>(
+    rt: &impl Abort,
+    tree: &mut Tree<u64, A>,
+    count: u16,
+) -> Result<(), NoMemory> {
+    for number in 1..=count {
+        let mut spare = tree.spare(1, 0)?;
+        tree.put(key(rt, number), u64::from(number), &mut spare);
+        assert_eq!(rt; spare.len(), 0);
+    }
+    Ok(())
+}
+
+fn rows_of<A: Allocator + Clone>(
+    tree: &Tree<u64, A>,
+    alloc: Global,
+) -> Result<Vec<(Key, u64)>, AllocError>
+    ensures { IfOk result (λ rows. rows.items ≡ tree.now) }
+{
+    tree.walk().collect(alloc)
+}
+
+// Whether a walk gives the keys 1 to `count`, each with its number as value.
+fn counts_to<A: Allocator + Clone>(rt: &impl Abort, tree: &Tree<u64, A>, count: u16) -> bool {
+    let mut number = 0u16;
+    for row in tree.walk() {
+        number = number.saturating_add(1);
+        if row != (key(rt, number), u64::from(number)) {
+            return false;
+        }
+    }
+    number == count
+}
+
+fn filled<A: Allocator + Clone>(rt: &impl Abort, alloc: A) -> Result<Tree<u64, A>, NoMemory> {
+    let mut tree = Tree::new(alloc);
+    fill(rt, &mut tree, 1000)?;
+    assert_eq!(rt; tree.len(), 1000);
+    assert!(rt; counts_to(rt, &tree, 1000));
+    Ok(tree)
+}
+
+fn look_ups<A: Allocator + Clone>(rt: &impl Abort, tree: &Tree<u64, A>) {
+    assert!(rt; tree.get(key(rt, 500)) == Some(500));
+    assert!(rt; tree.get(key(rt, 1001)).is_none());
+    assert!(rt; tree.first_at_or_after(key(rt, 500)) == Some((key(rt, 500), 500)));
+    assert!(rt; tree.first_at_or_after(key(rt, 1001)).is_none());
+    assert!(rt; tree.first_above(key(rt, 500)) == Some((key(rt, 501), 501)));
+    assert!(rt; tree.first_above(key(rt, 1000)).is_none());
+}
+
+fn four_boxes<A: Allocator + Clone>(rt: &impl Abort, tree: &Tree<u64, A>) -> Result<(), NoMemory> {
+    let spare = tree.spare(4, 0)?;
+    assert_eq!(rt; spare.len(), 4);
+    Ok(())
+}
+
+fn copies<A: Allocator + Clone>(rt: &impl Abort, tree: &Tree<u64, A>) -> Result<(), NoMemory> {
+    let copy = tree.copied()?;
+    assert_eq!(rt; copy.len(), 1000);
+    assert!(rt; counts_to(rt, &copy, 1000));
+    Ok(())
+}
+
+fn rebuilt<A: Allocator + Clone>(
+    rt: &impl Abort,
+    alloc: A,
+    rows: &[(Key, u64)],
+) -> Result<(), NoMemory>
+    requires { is_sorted key_cmp rows.now ≡ true }
+{
+    let built = Tree::from_sorted(alloc, rows)?;
+    assert_eq!(rt; built.len(), 1000);
+    assert!(rt; counts_to(rt, &built, 1000));
+    Ok(())
+}
+
+fn rebuilt_of<A: Allocator + Clone>(
+    rt: &impl Abort,
+    alloc: A,
+    tree: &Tree<u64, A>,
+    global: Global,
+) -> Result<(), NoMemory> {
+    assert_eq!(rt; tree.len(), 1000);
+    let rows = rows_of(tree, global)?;
+    rebuilt(rt, alloc, rows.as_slice())
+}
+
+// Gives the key 500 the value 7 with an empty spare.
+fn change<A: Allocator + Clone>(rt: &impl Abort, tree: &mut Tree<u64, A>) -> Result<(), NoMemory> {
+    let mut empty = tree.spare(0, 0)?;
+    let changed = &key(rt, 500);
+    if tree.get(*changed).is_some() {
+        tree.put(*changed, 7, &mut empty);
+    }
+    Ok(())
+}
+
+// Whether the change shows in that value alone.
+fn is_changed<A: Allocator + Clone>(rt: &impl Abort, tree: &Tree<u64, A>) -> bool {
+    let mut number = 0u16;
+    for row in tree.walk() {
+        number = number.saturating_add(1);
+        let value = if number == 500 { 7 } else { u64::from(number) };
+        if row != (key(rt, number), value) {
+            return false;
+        }
+    }
+    number == 1000
+}
+
+fn thousand_rows<A: Allocator + Clone>(
+    rt: &impl Abort,
+    alloc: A,
+    global: Global,
+) -> Result<(), NoMemory> {
+    let mut tree = filled(rt, alloc.clone()?)?;
+    look_ups(rt, &tree);
+    four_boxes(rt, &tree)?;
+    copies(rt, &tree)?;
+    rebuilt_of(rt, alloc, &tree, global)?;
+    change(rt, &mut tree)?;
+    assert!(rt; is_changed(rt, &tree));
+    Ok(())
+}
+
+#[test]
+fn a_thousand_rows_on_the_global_allocator(rt: HostRuntime) -> Result<(), Fail> {
+    assert!(rt; thousand_rows(&rt, rt.alloc(), rt.alloc()).is_ok());
+    Ok(())
+}
+
+#[test]
+fn a_thousand_rows_on_a_heap(rt: HostRuntime) -> Result<(), Fail> {
+    let heap = LocalHeap::new(rt.alloc(), 1_048_576)?;
+    assert!(rt; thousand_rows(&rt, &heap, rt.alloc()).is_ok());
+    assert_eq!(rt; heap.used(), 0);
+    Ok(())
+}
+
+#[test]
+fn a_dropped_tree_gives_its_memory_back(rt: HostRuntime) -> Result<(), Fail> {
+    let heap = LocalHeap::new(rt.alloc(), 65536)?;
+    for _ in 0..100 {
+        let mut tree = Tree::new(&heap);
+        assert!(rt; fill(&rt, &mut tree, 100).is_ok());
+        assert_eq!(rt; tree.len(), 100);
+        drop(tree);
+        assert_eq!(rt; heap.used(), 0);
+    }
+    Ok(())
+}
+
+// The calls that take memory.
+#[derive(Clone, Copy, Debug)]
+enum Growth {
+    Spare,
+    FromSorted,
+    Copied,
+}
+
+// Whether a call finds its memory on the heap.
+fn grows(
+    rt: &impl Abort,
+    growth: Growth,
+    tree: &Tree<u64, &LocalHeap>,
+    heap: &LocalHeap,
+    rows: &[(Key, u64)],
+) -> bool
+    requires { is_sorted key_cmp rows.now ≡ true }
+{
+    match growth {
+        Growth::Spare => match tree.spare(4, 0) {
+            Ok(spare) => {
+                assert_eq!(rt; spare.len(), 4);
+                true
+            }
+            Err(NoMemory) => false,
+        },
+        Growth::FromSorted => match Tree::from_sorted(heap, rows) {
+            Ok(built) => {
+                assert!(rt; counts_to(rt, &built, 20));
+                true
+            }
+            Err(NoMemory) => false,
+        },
+        Growth::Copied => match tree.copied() {
+            Ok(copy) => {
+                assert!(rt; counts_to(rt, &copy, 20));
+                true
+            }
+            Err(NoMemory) => false,
+        },
+    }
+}
+
+// Takes all of a heap but so many bytes.
+fn ballast(heap: &LocalHeap, left: usize) -> Result<Vec<u8, &LocalHeap>, NoMemory> {
+    let free = heap.free();
+    if free > left {
+        Ok(Vec::with_capacity(heap, free - left)?)
+    } else {
+        Ok(Vec::new(heap))
+    }
+}
+
+// Whether a call finds its memory where the heap has so many bytes left. If not, the same call does with more.
+fn grows_within(
+    rt: &impl Abort,
+    growth: Growth,
+    alloc: Global,
+    left: usize,
+) -> Result<bool, NoMemory> {
+    let heap = LocalHeap::new(alloc, 16384)?;
+    let mut tree = Tree::new(&heap);
+    fill(rt, &mut tree, 20)?;
+    assert_eq!(rt; tree.len(), 20);
+    let rows = rows_of(&tree, alloc)?;
+    let kept = ballast(&heap, left)?;
+    let used = heap.used();
+    let is_grown = grows(rt, growth, &tree, &heap, rows.as_slice());
+    assert_eq!(rt; heap.used(), used);
+    assert!(rt; counts_to(rt, &tree, 20));
+    drop(kept);
+    assert!(rt; grows(rt, growth, &tree, &heap, rows.as_slice()));
+    Ok(is_grown)
+}
+
+// How many times a growth is refused as the heap has more and more bytes left.
+fn refusals(rt: &impl Abort, alloc: Global, growth: Growth) -> Result<u32, NoMemory> {
+    let mut refused = 0u32;
+    for step in 0..200usize {
+        if grows_within(rt, growth, alloc, step * 16)? {
+            return Ok(refused);
+        }
+        refused = refused.saturating_add(1);
+    }
+    Err(NoMemory)
+}
+
+#[test]
+fn a_refused_growth_leaves_the_tree_as_it_was(rt: HostRuntime) -> Result<(), Fail> {
+    for (growth, boxes) in [
+        (Growth::Spare, 4),
+        (Growth::FromSorted, 20),
+        (Growth::Copied, 20),
+    ] {
+        let refused = refusals(&rt, rt.alloc(), growth);
+        let Ok(refused) = refused else {
+            panic!(rt; "{growth:?} never found its memory");
+        };
+        assert!(rt; refused >= boxes, "{growth:?}: {refused}");
+    }
+    Ok(())
+}
+
+// How the keys of a large tree come.
+#[derive(Clone, Copy, Debug)]
+enum Order {
+    Rising,
+    Falling,
+    Scattered,
+}
+
+const ROWS: u32 = 100_000;
+
+// The key that comes at a place: a hundred issues for each account.
+fn large_key(rt: &impl Abort, order: Order, place: u32) -> Key {
+    let number = match order {
+        Order::Rising => place,
+        Order::Falling => ROWS - 1 - place % ROWS,
+        // 70,001 has no divisor in common with the number of rows
+        Order::Scattered => (u64::from(place) * 70_001 % u64::from(ROWS)) as u32,
+    };
+    let Ok(account) = Account::new((number / 100 % 10_000) as u16) else {
+        panic!(rt; "no account at {number}");
+    };
+    let mut text = *b"037833000";
+    text[6] = b'0' + (number / 10 % 10) as u8;
+    text[7] = b'0' + (number % 10) as u8;
+    // the check digit is the one that is taken
+    for digit in b'0'..=b'9' {
+        text[8] = digit;
+        if let Ok(issue) = Cusip::parse(&text) {
+            return Key { account, issue };
+        }
+    }
+    panic!(rt; "no issue at {number}");
+}
+
+fn large_tree(rt: &impl Abort, alloc: Global, order: Order) -> Result<Tree<u32, Global>, NoMemory> {
+    let mut tree = Tree::new(alloc);
+    for place in 0..ROWS {
+        let mut spare = tree.spare(1, 0)?;
+        tree.put(large_key(rt, order, place), place, &mut spare);
+    }
+    Ok(tree)
+}
+
+// The height is at most 1.45 times the binary digits of the count, here 17.
+#[test]
+fn a_hundred_thousand_rows_stay_low(rt: HostRuntime) -> Result<(), Fail> {
+    for order in [Order::Rising, Order::Falling, Order::Scattered] {
+        let Ok(tree) = large_tree(&rt, rt.alloc(), order) else {
+            panic!(rt; "no memory");
+        };
+        assert_eq!(rt; tree.len(), 100_000);
+        let digits = 17;
+        let height = tree.height();
+        println!(rt; "{order:?}: {height} levels")?;
+        assert!(rt;
+            u64::from(height) * 100 <= 145 * digits,
+            "{order:?}: {height}"
+        );
+        let mut walked = 0u32;
+        for (_, value) in tree.walk() {
+            walked = walked.wrapping_add(value);
+        }
+        assert_eq!(rt; walked, 704982704);
+        drop(tree);
+    }
+    Ok(())
+}

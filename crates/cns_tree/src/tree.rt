@@ -1,0 +1,183 @@
+// The tree and its public calls.
+ghost use Rattle.std.specs.Prelude.{◌≡◌, ◌+◌, ◌<◌, ◌≤◌, ◌⊎◌, [], true, is_some, length, min, IfOk, if◌then◌else◌};
+ghost use Rattle.std.specs.FinMap.{find, is_sorted};
+ghost use Rattle.std.specs.FinMap as rows;
+ghost use Rattle.std.specs.List.{find as first};
+ghost use Rattle.cns_tree.specs.Order.{key_cmp};
+ghost use Rattle.cns_tree.specs.Search.{is_at_or_after, is_above, is_after};
+ghost use Rattle.cns_tree.specs.Walk.{rows_left};
+
+use crate::build::{boxed, build};
+use crate::node::Subtree;
+use crate::spare::Spare;
+use crate::walk::Walk;
+use cns_terms::{Key, NoMemory};
+use cns_units::{Account, Cusip};
+use std::alloc::Allocator;
+use std::marker::Model;
+use std::mem;
+
+/// A map from keys to values, as a tree of one box a row. Contracts see its rows as a list in the order of their keys.
+///
+/// The tree keeps an allocator. Its calls take no memory, but for `spare`, `from_sorted` and `copied`.
+#[derive(Drop)]
+pub struct Tree<V: Copy, A: Allocator + Clone> {
+    root: Subtree<V, A>,
+    count: usize,
+    alloc: A,
+}
+
+impl<V: Copy, A: Allocator + Clone> Model for Tree<V, A> {
+    ghost use Rattle.std.specs.Prelude.{List};
+    ghost use Rattle.cns_terms.specs.declared.Key.{Key};
+    ghost use Rattle.cns_tree.specs.Counted.{IsCounted};
+
+    ghost Value = { List (Key × V) };
+
+    ghost view = { λ t. t.root.0 };
+
+    ghost invariant = { λ t. IsCounted t.root.0 t.count };
+}
+
+impl<V: Copy, A: Allocator + Clone> Tree<V, A> {
+    /// A tree with no rows.
+    pub fn new(alloc: A) -> Self
+        ensures { result ≡ [] }
+    {
+        Tree {
+            root: Subtree::empty(),
+            count: 0,
+            alloc,
+        }
+    }
+
+    /// A tree of rows whose keys strictly rise. It takes time in proportion to their number.
+    ///
+    /// `NoMemory` where a box was refused; those that it had are given back.
+    pub fn from_sorted(alloc: A, rows: &[(Key, V)]) -> Result<Self, NoMemory>
+        requires { is_sorted key_cmp rows.now ≡ true }
+        ensures { IfOk result (λ tree. tree ≡ rows.now) }
+    {
+        let built = build(&alloc, rows)?;
+        Ok(Tree {
+            root: built.side,
+            count: rows.len(),
+            alloc,
+        })
+    }
+
+    /// A tree with the same rows, in boxes of its own from the same allocator.
+    ///
+    /// `NoMemory` where a box, or a clone of the allocator, was refused; the boxes that it had are given back.
+    pub fn copied(&self) -> Result<Self, NoMemory>
+        ensures { IfOk result (λ tree. tree ≡ self.now) }
+    {
+        let alloc = self.alloc.clone()?;
+        Ok(Tree {
+            root: self.root.copied(&self.alloc)?,
+            count: self.count,
+            alloc,
+        })
+    }
+
+    /// A spare of so many boxes, at most four. The value fills them until a put uses them; no call gives it back.
+    ///
+    /// `NoMemory` where a box was refused; those that it had are given back.
+    pub fn spare(&self, count: usize, value: V) -> Result<Spare<V, A>, NoMemory>
+        requires { count ≤ 4 }
+        ensures { IfOk result (λ spare. spare ≡ count) }
+    {
+        let mut spare = Spare::empty();
+        for _held in 0..count {
+            spare.add(boxed(&self.alloc, unused_key(), value)?);
+        }
+        Ok(spare)
+    }
+
+    /// How many rows there are; past `usize::MAX`, which no memory holds, that number.
+    pub fn len(&self) -> usize
+        ensures count { result ≡ min (length self.now) usize.MAX }
+        ensures rises { is_sorted key_cmp self.now ≡ true }
+    {
+        self.count
+    }
+
+    /// The value at a key, if the key has a row.
+    pub fn get(&self, key: Key) -> Option<V>
+        ensures value { result ≡ find key_cmp key self.now }
+        ensures rises { is_sorted key_cmp self.now ≡ true }
+    {
+        self.root.get(key)
+    }
+
+    /// Gives a key the value. Where the key has no row, that takes one box out of the spare; all other rows stay.
+    pub fn put(&mut self, key: Key, value: V, spare: &mut Spare<V, A>)
+        requires { (is_some (find key_cmp key self.old) ≡ true) ⊎ (0 < spare.old) }
+        ensures rows { self.new ≡ rows.put key_cmp key value self.old }
+        ensures rises { is_sorted key_cmp self.new ≡ true }
+        ensures spare { spare.new + (if is_some (find key_cmp key self.old) then 0 else 1) ≡ spare.old }
+    {
+        let held = spare.len();
+        let root = mem::replace(&mut self.root, Subtree::empty());
+        self.root = root.put(key, value, spare).side;
+        if spare.len() < held {
+            self.count = self.count.saturating_add(1);
+        }
+    }
+
+    /// The first row whose key is the key or above it.
+    pub fn first_at_or_after(&self, key: Key) -> Option<(Key, V)>
+        ensures row { result ≡ first (is_at_or_after key) self.now }
+        ensures rises { is_sorted key_cmp self.now ≡ true }
+    {
+        self.root.first_at_or_after(key)
+    }
+
+    /// The first row whose key is above the key.
+    pub fn first_above(&self, key: Key) -> Option<(Key, V)>
+        ensures row { result ≡ first (is_above key) self.now }
+        ensures rises { is_sorted key_cmp self.now ≡ true }
+    {
+        self.root.first_above(key)
+    }
+
+    /// The rows in the order of their keys. Each costs one way down the tree.
+    pub fn walk(&self) -> Walk<V, A>
+        ensures rows { rows_left result ≡ self.now }
+        ensures rises { is_sorted key_cmp self.now ≡ true }
+    {
+        let _ = &self.root;
+        Walk {
+            tree: self,
+            last: None,
+        }
+    }
+
+    /// The nodes on the longest way down, counted one by one.
+    #[cfg(test)]
+    pub(crate) fn height(&self) -> u32 {
+        self.root.height()
+    }
+
+    // The first row above the last one of a walk, or the first of all.
+    pub(crate) fn first_after(&self, last: Option<Key>) -> Option<(Key, V)>
+        ensures row { result ≡ first (is_after last) self.now }
+        ensures rises { is_sorted key_cmp self.now ≡ true }
+    {
+        match last {
+            None => self.root.first(),
+            Some(key) => self.root.first_above(key),
+        }
+    }
+}
+
+// The key in a box that no put has used yet. No call gives it back.
+fn unused_key() -> Key {
+    let Ok(issue) = Cusip::parse(b"000000000") else {
+        unreachable!()
+    };
+    Key {
+        account: Account::CORPORATION,
+        issue,
+    }
+}
