@@ -19,4 +19,3 @@ closes_le (p ∷ J) = prefix_le (is_close p.activity) J (closes_le J)
 pub journal_len : (opening : Day) (L : List Activity) → length (journal opening L) ≡ length L
 journal_len opening [] = refl
 journal_len opening (x ∷ L) = ap suc (journal_len opening L)
-

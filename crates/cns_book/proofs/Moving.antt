@@ -61,8 +61,8 @@ receipt_refusal L opening m facts a =
     (int_le (position J m.member m.issue) (pos 0)) (int_le q (pos 0))
     (λ there. (sym (ap (λ z. is_exceeded z m.shares) (at_true _ _ _ a.member there)), sym (ap (λ z. int_le z (pos 0)) (at_true _ _ _ a.member there))))
     ∙ sym (λ i. first_refusal (
-      (NoSuchMember, not (some_member (is_member J m.member) _ _ a.member i)) ∷ (NoSuchIssue, not (a.listed i)) ∷ (Retired, a.retired i)
-      ∷ (ExceedsPosition, is_exceeded q m.shares) ∷ (NotOnHand, int_lt (neg_ℤ (pos m.shares)) (a.corporation i)) ∷ (NotLong, int_le q (pos 0)) ∷ []))
+    (NoSuchMember, not (some_member (is_member J m.member) _ _ a.member i)) ∷ (NoSuchIssue, not (a.listed i)) ∷ (Retired, a.retired i)
+    ∷ (ExceedsPosition, is_exceeded q m.shares) ∷ (NotOnHand, int_lt (neg_ℤ (pos m.shares)) (a.corporation i)) ∷ (NotLong, int_le q (pos 0)) ∷ []))
 
 -- a member's account is not the corporation's
 apart : (a : ℕ) → 1 ≤ a → eqb corporation a ≡ false

@@ -111,9 +111,9 @@ trade_refusal L opening t facts seen a e =
     same_rules (is_member J t.buyer) (is_member J t.seller) (is_listed J t.issue) (is_retired J t.issue) (eqb t.buyer t.seller) (is_same_day t.date (date opening J)) (is_seen J t.reference) (is_too_large opening J (activity.Trade t)) over
     (λ m n s. too_large opening J t a.members.0 a.members.1 s ∙ sym (λ i. is_beyond (at_true _ _ _ a.buyer m i +ℤ pos t.shares) || is_beyond (at_true _ _ _ a.seller n i +ℤ neg_ℤ (pos t.shares))))
     ∙ sym (λ i. first_refusal (
-      (NoSuchMember, not (some_member (is_member J t.buyer) _ _ a.buyer i && some_member (is_member J t.seller) _ _ a.seller i))
-      ∷ (NoSuchIssue, not (a.listed i)) ∷ (Retired, a.retired i) ∷ (SameParty, eqb t.buyer t.seller)
-      ∷ (WrongDay, not (is_same_day t.date (a.today i))) ∷ (SeenReference, e i) ∷ (TooLarge, over) ∷ []))
+    (NoSuchMember, not (some_member (is_member J t.buyer) _ _ a.buyer i && some_member (is_member J t.seller) _ _ a.seller i))
+    ∷ (NoSuchIssue, not (a.listed i)) ∷ (Retired, a.retired i) ∷ (SameParty, eqb t.buyer t.seller)
+    ∷ (WrongDay, not (is_same_day t.date (a.today i))) ∷ (SeenReference, e i) ∷ (TooLarge, over) ∷ []))
 
 -- rows that show the same are as small
 same_small : (n : ℕ) (old new : Rows) → AreSmall n old → ((k : Key) → holding_at new k ≡ holding_at old k) → AreSmall n new

@@ -7,7 +7,6 @@
 //! parts that make its answers fast, and what ties each to the history, are in `parts.rt`.
 #![tactic(auto)]
 
-
 mod book;
 mod closed_days;
 pub mod laws;
@@ -15,6 +14,8 @@ mod members;
 mod parts;
 mod receipt;
 
-
 pub use book::Book;
 pub use receipt::{Receipt, TakeFault};
+
+#[cfg(test)]
+mod tests;

@@ -32,7 +32,7 @@ pub enum LineFault {
 /// Why a replay or a load ended before its input did.
 #[derive(Clone, Copy, Debug, PartialEq, Eq, Error)]
 pub enum ReplayFault {
-    /// The reader failed, or there were more than 4,294,967,295 records.
+    /// The reader failed, or 4,294,967,295 records were read, also where the input ends there.
     #[error("Read")]
     Read,
     /// The writer failed or took no byte.

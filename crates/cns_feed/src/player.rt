@@ -68,7 +68,7 @@ fn play_all<R: Read, W: Write>(
 /// Takes the command of each record of the reader, in order, on a new book that opens on that date, and writes the
 /// first line of each reply; a record at fault is written as `line` and its fault, and the replay goes on.
 ///
-/// `Read` where the reader fails, or gives more than 4,294,967,295 records; `NoMemory` where a growth was refused;
+/// `Read` where the reader fails, or has given 4,294,967,295 records; `NoMemory` where a growth was refused;
 /// `Full` where the book's history is at its limit, which has room for as many commands. After these the text of the
 /// records before was written. `Write` where the writer fails or takes no byte: a front of the text was written, up to
 /// and with that of the record whose reply failed. After a fault neither the reader nor the writer is called again.

@@ -15,11 +15,7 @@ pub enum Step {
     /// Asks what stands at a key.
     Get(Key),
     /// Books shares and cents at a key.
-    Add {
-        key: Key,
-        shares: i64,
-        cents: i128,
-    },
+    Add { key: Key, shares: i64, cents: i128 },
     /// Closes a day.
     Roll,
 }

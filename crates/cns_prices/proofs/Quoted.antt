@@ -1,5 +1,5 @@
 -- One quote more, or another.
-use Rattle.std.proofs.Common.{◌≡◌, ◌∙◌, sym, ap, subst, refl, Bool, true, false, cond, Option, Some, None}
+use Rattle.std.proofs.Common.{◌≡◌, ◌∙◌, sym, ap, refl, Bool, true, false, cond, Option, Some, None}
 use Rattle.std.specs.Prelude.{bytes_eq, option_map, ◌||◌}
 use Rattle.std.specs.Option.{option_map_or, IsSome}
 use Rattle.std.specs.Ordering.{nat_cmp, is_eq}

@@ -1,30 +1,76 @@
 use crate::Prices;
 use cns_units::{Cusip, Price};
+use std::alloc::Global;
 use std::test::Fail;
 
+fn issue(text: &str) -> Result<Cusip, Fail> {
+    Ok(Cusip::parse(text.as_bytes())?)
+}
+
+// Lists an issue, or sets its price where it is listed.
+fn give(prices: &mut Prices<Global>, issue: Cusip, price: u64) -> Result<(), Fail> {
+    let price = Price::new(price)?;
+    if prices.price(issue).is_none() {
+        prices.list(issue, price)?;
+    } else if !prices.is_retired(issue) {
+        prices.set(issue, price);
+    }
+    Ok(())
+}
+
+fn retire(prices: &mut Prices<Global>, issue: Cusip) {
+    if prices.price(issue).is_some() && !prices.is_retired(issue) {
+        prices.retire(issue);
+    }
+}
+
 #[test]
-fn prices_hold_until_they_are_set_and_issues_come_in_order(rt: HostRuntime) -> Result<(), Fail> {
-    let apple = Cusip::parse(b"037833100".as_slice())?;
-    let cisco = Cusip::parse(b"17275R102".as_slice())?;
-    let microsoft = Cusip::parse(b"594918104".as_slice())?;
+fn a_price_holds_until_it_is_set_again(rt: HostRuntime) -> Result<(), Fail> {
+    let (apple, cisco) = (issue("037833100")?, issue("17275R102")?);
     let mut prices = Prices::new(rt.alloc());
     assert_eq!(rt; prices.price(apple), None);
-    prices.list(microsoft, Price::new(40_000)?)?;
-    prices.list(apple, Price::new(19_500)?)?;
-    prices.list(cisco, Price::new(4_600)?)?;
-    prices.set(apple, Price::new(19_600)?);
+    give(&mut prices, apple, 19_500)?;
+    give(&mut prices, cisco, 4_600)?;
+    assert_eq!(rt; prices.price(apple), Some(Price::new(19_500)?));
+    give(&mut prices, apple, 19_600)?;
     assert_eq!(rt; prices.price(apple), Some(Price::new(19_600)?));
     assert_eq!(rt; prices.price(cisco), Some(Price::new(4_600)?));
+    Ok(())
+}
+
+#[test]
+fn an_issue_is_retired_alone_and_keeps_its_price(rt: HostRuntime) -> Result<(), Fail> {
+    let (apple, cisco) = (issue("037833100")?, issue("17275R102")?);
+    let mut prices = Prices::new(rt.alloc());
+    give(&mut prices, apple, 19_500)?;
+    give(&mut prices, cisco, 4_600)?;
     assert!(rt; !prices.is_retired(cisco));
-    prices.retire(cisco);
+    retire(&mut prices, cisco);
     assert!(rt; prices.is_retired(cisco));
     assert!(rt; !prices.is_retired(apple));
     assert_eq!(rt; prices.price(cisco), Some(Price::new(4_600)?));
-    let order = [None, Some(apple), Some(cisco), Some(microsoft)];
-    let next = [Some(apple), Some(cisco), Some(microsoft), None];
-    for place in 0..4 {
-        let found = prices.next_listed(order[place]);
-        assert_eq!(rt; found.map(|entry| entry.0), next[place]);
+    Ok(())
+}
+
+#[test]
+fn issues_come_in_the_order_of_their_bytes(rt: HostRuntime) -> Result<(), Fail> {
+    let (apple, cisco, microsoft) = (
+        issue("037833100")?,
+        issue("17275R102")?,
+        issue("594918104")?,
+    );
+    let mut prices = Prices::new(rt.alloc());
+    give(&mut prices, microsoft, 40_000)?;
+    give(&mut prices, apple, 19_500)?;
+    give(&mut prices, cisco, 4_600)?;
+    let cases = [
+        (None, Some(apple)),
+        (Some(apple), Some(cisco)),
+        (Some(cisco), Some(microsoft)),
+        (Some(microsoft), None),
+    ];
+    for (after, next) in cases {
+        assert_eq!(rt; prices.next_listed(after).map(|entry| entry.0), next);
     }
     Ok(())
 }

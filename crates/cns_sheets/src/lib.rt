@@ -12,6 +12,5 @@ mod sheet;
 
 pub use sheet::Sheet;
 
-
 #[cfg(test)]
 mod tests;

@@ -24,13 +24,7 @@ fn worth(shares: i64, price: Price) -> i128
 }
 
 // The mark of a day: what a position is worth now, less what it was worth at the close before, and the cents booked.
-fn marked(
-    opening: i64,
-    closing: i64,
-    opening_price: Price,
-    price: Price,
-    money: i128,
-) -> i128
+fn marked(opening: i64, closing: i64, opening_price: Price, price: Price, money: i128) -> i128
     requires { unsigned_abs money ≤ 10 ^ 18 * 2 ^ 32 }
     ensures exact { result ≡ marked opening closing opening_price price money }
     ensures small { unsigned_abs result ≤ 23 * 10 ^ 27 }

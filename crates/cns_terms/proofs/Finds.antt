@@ -1,8 +1,7 @@
 -- Searches in lists whose keys strictly rise.
-use Rattle.std.proofs.Common.{◌≡◌, ◌∙◌, sym, ap, refl, Bool, true, false, ◌&&◌, cond, List, [], ◌∷◌, ◌++◌, map, filter, Option, Some, None}
-use Rattle.std.specs.Prelude.{option_map}
+use Rattle.std.proofs.Common.{◌≡◌, ◌∙◌, sym, ap, refl, Bool, true, false, ◌&&◌, cond, List, [], ◌∷◌, map, filter, Option, Some, None}
 use Rattle.std.specs.Cmp.{IsTotalOrder}
-use Rattle.std.specs.FinMap.{FinMap, entries, entries-from_sorted, find, from_sorted, get, get-from_sorted, is_sorted, same_map, IsAntisymmetric}
+use Rattle.std.specs.FinMap.{FinMap, entries, entries-from_sorted, find, from_sorted, get-from_sorted, is_sorted, same_map, IsAntisymmetric}
 use Rattle.std.specs.FinMap.Entries.{below_all}
 use Rattle.std.specs.List.{AllByRecursion}
 use Rattle.std.specs.List.Sorted.{IsStrictlySortedBy}
@@ -132,6 +131,7 @@ module _ {K X : Type 0} {R : K → K → Ordering} (o : IsTotalOrder R) where
     where
       head : x ∷ filter (λ y. t y.0) xs ≡ e ∷ rest → x ≡ e
       head h = cc
+
       tail : x ∷ filter (λ y. t y.0) xs ≡ e ∷ rest → filter (λ y. t y.0) xs ≡ rest
       tail h = cc
   next_branch t false x xs e rest p up b more h =

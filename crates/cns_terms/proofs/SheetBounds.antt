@@ -1,8 +1,6 @@
 -- Sums and counts over the rows of a sheet.
-use Rattle.std.proofs.Common.{◌≡◌, ◌∙◌, sym, ap, refl, ℕ, ◌+◌, ◌*◌, ◌≤◌, ℤ, pos, ◌+ℤ◌, Bool, true, false, not, cond, ◌==◌, suc, zero, List, [], ◌∷◌, ◌++◌, length, map, filter, flat_map, arith, int_eq}
-use Rattle.std.specs.Cmp.{signed_Decides}
+use Rattle.std.proofs.Common.{◌≡◌, ◌∙◌, ap, refl, ℕ, ◌+◌, ◌*◌, ◌≤◌, ℤ, pos, ◌+ℤ◌, Bool, true, false, not, cond, ◌==◌, suc, zero, List, [], ◌∷◌, length, map, filter, flat_map, arith}
 use Rattle.std.proofs.lemmas.Bool.Decides.{nat_tests}
-use Rattle.std.proofs.lemmas.Int.{ints}
 use Rattle.std.proofs.lemmas.List.{length-append}
 use Rattle.std.proofs.lemmas.List.Elements.{filter-append}
 use Rattle.cns_units.specs.declared.account.Account.{Account}

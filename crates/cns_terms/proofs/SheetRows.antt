@@ -1,10 +1,10 @@
 -- The rows that positions give are those of the sheet.
-use Rattle.std.proofs.Common.{◌≡◌, ◌∙◌, sym, ap, refl, ℤ, pos, Bool, true, false, not, ◌&&◌, cond, eqb, List, [], ◌∷◌, ◌++◌, map, filter, flat_map, Option, Some, None, unwrap_or}
+use Rattle.std.proofs.Common.{◌≡◌, ◌∙◌, sym, ap, refl, Bool, true, false, not, ◌&&◌, cond, List, [], ◌∷◌, ◌++◌, map, filter, flat_map, Option, Some, None, unwrap_or}
 use Rattle.std.specs.Prelude.{bytes_eq, option_map}
 use Rattle.std.specs.FinMap.{find, is_sorted}
 use Rattle.std.specs.FinMap.Entries.{below_all}
 use Rattle.std.specs.List.{list_any}
-use Rattle.std.specs.Ordering.{int_eq, is_eq}
+use Rattle.std.specs.Ordering.{is_eq}
 use Rattle.std.proofs.lemmas.Bool.{eqb-true}
 use Rattle.std.proofs.lemmas.List.{map-append}
 use Rattle.std.proofs.lemmas.List.Elements.{filter-append}
@@ -16,10 +16,10 @@ use Rattle.cns_terms.specs.declared.holding.Holding.{Holding}
 use Rattle.cns_terms.specs.declared.holding.Key.{Key}
 use Rattle.cns_terms.specs.declared.sheet.Row.{Row}
 use Rattle.cns_terms.specs.Keys.{key_cmp}
-use Rattle.cns_terms.specs.Listings.{accounts, is_account, is_listed, issues}
+use Rattle.cns_terms.specs.Listings.{accounts, is_account, issues}
 use Rattle.cns_terms.specs.Machine.{holding}
 use Rattle.cns_terms.specs.Postings.{Journal}
-use Rattle.cns_terms.specs.Sheets.{is_idle, row, rows_of, sheet_rows}
+use Rattle.cns_terms.specs.Sheets.{is_idle, row, sheet_rows}
 use Rattle.cns_terms.proofs.Cells.{cells, cells_of, find_cells, key, sorted_cells}
 use Rattle.cns_terms.proofs.Elsewhere.{idle_at}
 use Rattle.cns_terms.proofs.Finds.{and_left, and_right, both_true, find_filter, kept_if, same_lists, sorted_filter}
@@ -103,11 +103,11 @@ module _ (f : Key × Holding → Row) where
       let all : Keyed = cells g (accounts J) (issues J) in
       let found : (k : Key) → f (k, unwrap_or (find key_cmp k R) z) ≡ g k = λ k. ap (λ h. f (k, h)) (stands k) ∙ is k in
       let answers : (k : Key) → find key_cmp k (filter (λ e. says e.1) (keyed R)) ≡ find key_cmp k (filter (λ e. says e.1) all) = λ k.
-          find_filter keys_total says k (keyed R) (sorted_keyed R sorted)
-          ∙ ap (kept_if says) (find_keyed k R)
-          ∙ same_kept k (g k) (find key_cmp k R) z (is_account J k.account && list_any (λ c. bytes_eq k.issue c) (issues J)) (found k) (idle_at opening J k s)
-            (λ e. sym (ap says (sym (ap (λ o. f (k, unwrap_or o z)) e) ∙ found k)) ∙ none k)
-          ∙ sym (find_filter keys_total says k all (sorted_cells g (accounts J) (issues J) s.accounts_rise s.issues_rise) ∙ ap (kept_if says) (find_cells g k (accounts J) (issues J))) in
+      find_filter keys_total says k (keyed R) (sorted_keyed R sorted)
+      ∙ ap (kept_if says) (find_keyed k R)
+      ∙ same_kept k (g k) (find key_cmp k R) z (is_account J k.account && list_any (λ c. bytes_eq k.issue c) (issues J)) (found k) (idle_at opening J k s)
+      (λ e. sym (ap says (sym (ap (λ o. f (k, unwrap_or o z)) e) ∙ found k)) ∙ none k)
+      ∙ sym (find_filter keys_total says k all (sorted_cells g (accounts J) (issues J) s.accounts_rise s.issues_rise) ∙ ap (kept_if says) (find_cells g k (accounts J) (issues J))) in
       sym (drop_keys R)
       ∙ ap (map (λ e. e.1)) (same_lists keys_total exact_keys _ _ (sorted_filter keys_total says (keyed R) (sorted_keyed R sorted)) (sorted_filter keys_total says all (sorted_cells g (accounts J) (issues J) s.accounts_rise s.issues_rise)) answers)
       ∙ all_rows opening J (accounts J) (issues J)

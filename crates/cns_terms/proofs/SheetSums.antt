@@ -1,8 +1,8 @@
 -- The sheets of closed days add up to zero.
-use Rattle.std.proofs.Common.{◌≡◌, ℕ, ◌≤◌, ℤ, pos, ◌+ℤ◌, neg_ℤ, Bool, true, false, not, cond, ◌&&◌, ◌==◌, slice_get, unwrap_or, List, [], ◌∷◌, map, filter, flat_map, refl, ◌∙◌, ap, arith, int_eq}
+use Rattle.std.proofs.Common.{◌≡◌, ℤ, pos, ◌+ℤ◌, Bool, true, false, not, cond, ◌&&◌, ◌==◌, slice_get, unwrap_or, List, [], ◌∷◌, map, filter, flat_map, refl, ◌∙◌, ap, arith, int_eq}
 use Rattle.std.specs.Cmp.{signed_Decides}
 use Rattle.std.proofs.lemmas.Int.{ints}
-use Rattle.std.proofs.lemmas.Bool.{and_parts, eqb-true, not-false}
+use Rattle.std.proofs.lemmas.Bool.{and_parts, not-false}
 use lib.IntN.{zero-*ℤ}
 use Rattle.cns_units.specs.declared.account.Account.{Account}
 use Rattle.cns_units.specs.declared.cusip.Cusip.{Cusip}
@@ -11,7 +11,7 @@ use Rattle.cns_terms.specs.declared.sheet.Row.{Row}
 use Rattle.cns_terms.specs.Sums.{total}
 use Rattle.cns_terms.specs.Postings.{Journal}
 use Rattle.cns_terms.specs.Days.{closings, last_close, at_close, day, is_close, open_day}
-use Rattle.cns_terms.specs.Listings.{accounts, members, issues, price}
+use Rattle.cns_terms.specs.Listings.{accounts, issues, price}
 use Rattle.cns_terms.specs.Marks.{mark}
 use Rattle.cns_terms.specs.Dividends.{dividend}
 use Rattle.cns_terms.specs.Machine.{opened}

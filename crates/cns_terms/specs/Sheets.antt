@@ -1,5 +1,5 @@
 -- The sheet of a closed day, and the statements cut from it.
-use Rattle.std.specs.Prelude.{ℕ, pos, Bool, not, ◌&&◌, List, [], map, filter, flat_map, length}
+use Rattle.std.specs.Prelude.{ℕ, pos, Bool, not, ◌&&◌, List, map, filter, flat_map, length}
 use Rattle.std.specs.Ordering.{int_eq}
 use Rattle.cns_units.specs.declared.account.Account.{Account}
 use Rattle.cns_units.specs.declared.cusip.Cusip.{Cusip}

@@ -32,19 +32,68 @@ fn a_trade_is_refused_by_the_least_number(rt: HostRuntime) -> Result<(), Fail> {
     let late = Day::parse(b"2024-06-05".as_slice())?;
     let full = Some(10_000_000_000);
     let cases = [
-        (TradeFacts { buyer: None, listed: false, ..fine }, Refusal::NoSuchMember),
-        (TradeFacts { seller: None, ..fine }, Refusal::NoSuchMember),
-        (TradeFacts { listed: false, retired: true, ..fine }, Refusal::NoSuchIssue),
-        (TradeFacts { retired: true, today: late, ..fine }, Refusal::Retired),
-        (TradeFacts { today: late, buyer: full, ..fine }, Refusal::WrongDay),
-        (TradeFacts { buyer: full, ..fine }, Refusal::TooLarge),
-        (TradeFacts { seller: Some(-10_000_000_000), ..fine }, Refusal::TooLarge),
+        (
+            TradeFacts {
+                buyer: None,
+                listed: false,
+                ..fine
+            },
+            Refusal::NoSuchMember,
+        ),
+        (
+            TradeFacts {
+                seller: None,
+                ..fine
+            },
+            Refusal::NoSuchMember,
+        ),
+        (
+            TradeFacts {
+                listed: false,
+                retired: true,
+                ..fine
+            },
+            Refusal::NoSuchIssue,
+        ),
+        (
+            TradeFacts {
+                retired: true,
+                today: late,
+                ..fine
+            },
+            Refusal::Retired,
+        ),
+        (
+            TradeFacts {
+                today: late,
+                buyer: full,
+                ..fine
+            },
+            Refusal::WrongDay,
+        ),
+        (
+            TradeFacts {
+                buyer: full,
+                ..fine
+            },
+            Refusal::TooLarge,
+        ),
+        (
+            TradeFacts {
+                seller: Some(-10_000_000_000),
+                ..fine
+            },
+            Refusal::TooLarge,
+        ),
     ];
     let trade = trade()?;
     for (facts, refusal) in cases {
         assert_eq!(rt; trades.check_trade(&facts, &trade), Err(refusal));
     }
-    let same = Trade { seller: trade.buyer, ..trade };
+    let same = Trade {
+        seller: trade.buyer,
+        ..trade
+    };
     assert_eq!(rt; trades.check_trade(&fine, &same), Err(Refusal::SameParty));
     Ok(())
 }
@@ -58,7 +107,10 @@ fn a_reference_is_used_once_and_only_when_it_is_noted(rt: HostRuntime) -> Result
     assert!(rt; !trades.seen(7));
     trades.note_reference(7)?;
     assert!(rt; trades.seen(7));
-    assert_eq!(rt; trades.check_trade(&facts, &trade), Err(Refusal::SeenReference));
+    assert_eq!(rt;
+        trades.check_trade(&facts, &trade),
+        Err(Refusal::SeenReference)
+    );
     Ok(())
 }
 
@@ -68,8 +120,14 @@ fn a_trade_books_opposite_entries(rt: HostRuntime) -> Result<(), Fail> {
     let answer = trades.check_trade(&facts()?, &trade()?);
     assert!(rt; answer.is_ok());
     if let Ok((buyer, seller)) = answer {
-        assert_eq!(rt; (buyer.account.value(), buyer.shares, buyer.cents), (101, 5, -975));
-        assert_eq!(rt; (seller.account.value(), seller.shares, seller.cents), (202, -5, 975));
+        assert_eq!(rt;
+            (buyer.account.value(), buyer.shares, buyer.cents),
+            (101, 5, -975)
+        );
+        assert_eq!(rt;
+            (seller.account.value(), seller.shares, seller.cents),
+            (202, -5, 975)
+        );
     }
     Ok(())
 }

@@ -5,10 +5,10 @@ use Rattle.std.specs.Ordering.{is_lt}
 use Rattle.std.specs.Option.{option_or}
 use Rattle.std.specs.List.{find as first}
 use Rattle.std.specs.FinMap.{is_sorted}
-use Rattle.cns_terms.specs.declared.Key.{Key}
-use Rattle.cns_tree.specs.Order.{key_cmp}
+use Rattle.cns_terms.specs.declared.holding.Key.{Key}
+use Rattle.cns_terms.specs.Keys.{key_cmp}
 use Rattle.cns_tree.specs.Search.{is_above, is_at_or_after}
-use Rattle.cns_tree.proofs.Keys.{keys_total}
+use Rattle.cns_terms.proofs.Keys.{keys_total}
 use Rattle.cns_tree.proofs.Rows.{first_left, first_right, after, less}
 
 -- a row that was found stands before an older one

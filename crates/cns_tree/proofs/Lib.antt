@@ -1,7 +1,6 @@
 pub mod Counts
 pub mod Firsts
 pub mod Heights
-pub mod Keys
 pub mod Nodes
 pub mod Rows
 pub mod Walks

@@ -1,6 +1,6 @@
 -- What is known of a subtree d once its top is a node.
 use Rattle.std.proofs.Common.{◌≡◌, ℕ, List, Box, Option, Some, sym, ap, ◌∙◌, subst}
-use Rattle.cns_terms.specs.declared.Key.{Key}
+use Rattle.cns_terms.specs.declared.holding.Key.{Key}
 use Rattle.cns_tree.specs.Shape.{rows, height, rows_and_height, IsBalanced, IsBalancedNode}
 use Rattle.cns_tree.specs.declared.node.Node.{Node}
 

@@ -7,10 +7,10 @@ use Rattle.std.specs.Cmp.{tied_itself}
 use Rattle.std.specs.List.{filter, find as first}
 use Rattle.std.specs.FinMap.{is_sorted}
 use Rattle.std.specs.FinMap.Entries.{below_all}
-use Rattle.cns_terms.specs.declared.Key.{Key}
-use Rattle.cns_tree.specs.Order.{key_cmp}
+use Rattle.cns_terms.specs.declared.holding.Key.{Key}
+use Rattle.cns_terms.specs.Keys.{key_cmp}
 use Rattle.cns_tree.specs.Search.{is_above, is_after}
-use Rattle.cns_tree.proofs.Keys.{keys_total}
+use Rattle.cns_terms.proofs.Keys.{keys_total}
 use Rattle.cns_tree.proofs.Rows.{and_left, and_right, less}
 
 -- a filter that passes what is above y keeps all of a list above y

@@ -1,8 +1,8 @@
 -- A node's box, with what the node was put together of.
 use Rattle.std.specs.Prelude.{◌≡◌, ℕ, ◌+◌, max, List, ◌∷◌, ◌++◌, true}
 use Rattle.std.specs.FinMap.{is_sorted}
-use Rattle.cns_terms.specs.declared.Key.{Key}
-use Rattle.cns_tree.specs.Order.{key_cmp}
+use Rattle.cns_terms.specs.declared.holding.Key.{Key}
+use Rattle.cns_terms.specs.Keys.{key_cmp}
 use Rattle.cns_tree.specs.Shape.{IsLean}
 use Rattle.cns_tree.specs.declared.node.Parts.{Parts}
 

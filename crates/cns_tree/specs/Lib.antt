@@ -1,7 +1,6 @@
 pub mod Apart
 pub mod Boxes
 pub mod Counted
-pub mod Order
 pub mod Search
 pub mod Shape
 pub mod Walk

@@ -1,8 +1,8 @@
 -- The rows from a key on.
 use Rattle.std.specs.Prelude.{Bool, true, not, Option, Some, None}
 use Rattle.std.specs.Ordering.{is_lt}
-use Rattle.cns_terms.specs.declared.Key.{Key}
-use Rattle.cns_tree.specs.Order.{key_cmp}
+use Rattle.cns_terms.specs.declared.holding.Key.{Key}
+use Rattle.cns_terms.specs.Keys.{key_cmp}
 
 -- whether a row's key is the key or above it
 abbrev pub is_at_or_after : {V : Type 0} → Key → Key × V → Bool

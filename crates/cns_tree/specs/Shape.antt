@@ -1,8 +1,8 @@
 -- What a node is seen as, and what holds of it.
 use Rattle.std.specs.Prelude.{◌≡◌, ℕ, Box, ◌+◌, max, List, [], ◌∷◌, ◌++◌, Option, Some, None, Bool, true, if◌then◌else◌}
 use Rattle.std.specs.FinMap.{is_sorted}
-use Rattle.cns_terms.specs.declared.Key.{Key}
-use Rattle.cns_tree.specs.Order.{key_cmp}
+use Rattle.cns_terms.specs.declared.holding.Key.{Key}
+use Rattle.cns_terms.specs.Keys.{key_cmp}
 use Rattle.cns_tree.specs.declared.node.Node.{Node}
 use Rattle.cns_tree.specs.declared.node.Lean.{Lean}
 use Rattle.cns_tree.specs.declared.node.Lean.TheVariants.{Left, Even, Right}

@@ -1,7 +1,7 @@
 -- What a walk has left.
 use Rattle.std.specs.Prelude.{List}
 use Rattle.std.specs.List.{filter}
-use Rattle.cns_terms.specs.declared.Key.{Key}
+use Rattle.cns_terms.specs.declared.holding.Key.{Key}
 use Rattle.cns_tree.specs.declared.walk.Walk.{Walk}
 use Rattle.cns_tree.specs.Search.{is_after}
 

@@ -1,7 +1,7 @@
 // Trees that are made whole.
 ghost use Rattle.std.specs.Prelude.{◌≡◌, ◌+◌, ◌*◌, ◌^◌, ◌<◌, ◌≤◌, max, true, [], ◌∷◌, ◌++◌, length, IfOk, IfSome, None};
 ghost use Rattle.std.specs.FinMap.{is_sorted};
-ghost use Rattle.cns_tree.specs.Order.{key_cmp};
+ghost use Rattle.cns_terms.specs.Keys.{key_cmp};
 
 use crate::node::{Lean, Node, Subtree, join};
 use cns_terms::{Key, NoMemory};

@@ -1,5 +1,5 @@
 //! A map from keys (an account and an issue) to small values, kept as a height-balanced tree of boxes over any
-//! allocator. It holds the book's positions and the sheets of closed days.
+//! allocator. It is made for the book's positions and the sheets of closed days; nothing stands on it yet.
 //!
 //! Contracts see a [`Tree`] as the list of its rows, whose keys strictly rise: by account, and then by the bytes of
 //! the issue. At every node the heights of the two sides are the same or differ by one, so `get` and `put` go down
@@ -7,8 +7,7 @@
 //! filled before. What does take memory (`spare`, `copied`, `from_sorted`) makes something new, so a refused growth
 //! leaves every tree as it was.
 //!
-//! Start at [`Tree`] in `tree.rt`; `specs/Search.antt` and `specs/Order.antt` have the words of its contracts, and
-//! `node.rt` has the nodes.
+//! Start at [`Tree`] in `tree.rt`; `specs/Search.antt` has the words of its contracts, and `node.rt` has the nodes.
 #![tactic(auto)]
 
 mod build;

@@ -2,7 +2,7 @@
 ghost use Rattle.std.specs.Prelude.{◌≡◌, [], ◌∷◌, ◌++◌, ◌+◌, max, true, None, MatchOption};
 ghost use Rattle.std.specs.FinMap.{find, is_sorted};
 ghost use Rattle.cns_tree.specs.Apart.{IsApart};
-ghost use Rattle.cns_tree.specs.Order.{key_cmp};
+ghost use Rattle.cns_terms.specs.Keys.{key_cmp};
 ghost use Rattle.cns_tree.specs.Search.{is_at_or_after, is_above, is_after};
 ghost use Rattle.cns_tree.specs.Shape.{IsLean};
 ghost use Rattle.std.specs.List.{find as first};
@@ -41,7 +41,7 @@ pub struct Node<V: Copy, A: Allocator> {
 
 impl<V: Copy, A: Allocator> Model for Subtree<V, A> {
     ghost use Rattle.std.specs.Prelude.{ℕ, List, length};
-    ghost use Rattle.cns_terms.specs.declared.Key.{Key};
+    ghost use Rattle.cns_terms.specs.declared.holding.Key.{Key};
 
     ghost Value = { List (Key × V) × ℕ };
 

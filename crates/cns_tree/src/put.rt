@@ -2,7 +2,7 @@
 ghost use Rattle.std.specs.Prelude.{◌≡◌, ◌+◌, ◌<◌, ◌⊎◌, [], ◌∷◌, is_some, true, if◌then◌else◌};
 ghost use Rattle.std.specs.FinMap.{find};
 ghost use Rattle.std.specs.FinMap as rows;
-ghost use Rattle.cns_tree.specs.Order.{key_cmp};
+ghost use Rattle.cns_terms.specs.Keys.{key_cmp};
 ghost use Rattle.cns_tree.specs.Shape.{rise};
 
 use crate::node::{Lean, Node, Parts, Subtree, join};

@@ -1,6 +1,6 @@
 ghost use Rattle.std.specs.Prelude.{◌≡◌, IfOk, true};
 ghost use Rattle.std.specs.FinMap.{is_sorted};
-ghost use Rattle.cns_tree.specs.Order.{key_cmp};
+ghost use Rattle.cns_terms.specs.Keys.{key_cmp};
 
 use crate::Tree;
 use cns_terms::{Key, NoMemory};

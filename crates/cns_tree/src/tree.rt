@@ -3,7 +3,7 @@ ghost use Rattle.std.specs.Prelude.{◌≡◌, ◌+◌, ◌<◌, ◌≤◌, ◌�
 ghost use Rattle.std.specs.FinMap.{find, is_sorted};
 ghost use Rattle.std.specs.FinMap as rows;
 ghost use Rattle.std.specs.List.{find as first};
-ghost use Rattle.cns_tree.specs.Order.{key_cmp};
+ghost use Rattle.cns_terms.specs.Keys.{key_cmp};
 ghost use Rattle.cns_tree.specs.Search.{is_at_or_after, is_above, is_after};
 ghost use Rattle.cns_tree.specs.Walk.{rows_left};
 
@@ -29,7 +29,7 @@ pub struct Tree<V: Copy, A: Allocator + Clone> {
 
 impl<V: Copy, A: Allocator + Clone> Model for Tree<V, A> {
     ghost use Rattle.std.specs.Prelude.{List};
-    ghost use Rattle.cns_terms.specs.declared.Key.{Key};
+    ghost use Rattle.cns_terms.specs.declared.holding.Key.{Key};
     ghost use Rattle.cns_tree.specs.Counted.{IsCounted};
 
     ghost Value = { List (Key × V) };

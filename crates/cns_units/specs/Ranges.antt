@@ -1,5 +1,5 @@
 -- Values that must lie in a range.
-use Rattle.std.specs.Prelude.{ℕ, Bool, ◌&&◌, nat_le, if◌then◌else◌, Result, Ok, Err}
+use Rattle.std.specs.Prelude.{ℕ, ◌&&◌, nat_le, if◌then◌else◌, Result, Ok, Err}
 use Rattle.cns_units.specs.declared.fault.UnitFault.{UnitFault}
 use Rattle.cns_units.specs.declared.fault.UnitFault.TheVariants as fault
 

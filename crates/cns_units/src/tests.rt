@@ -1,4 +1,6 @@
-use crate::{Account, Cents, Cusip, Day, Member, Money, Price, Shares, UnitFault, write_cents, write_day};
+use crate::{
+    Account, Cents, Cusip, Day, Member, Money, Price, Shares, UnitFault, write_cents, write_day,
+};
 use std::test::Fail;
 
 #[test]
@@ -43,7 +45,13 @@ fn a_day_is_read_only_as_year_month_and_day(rt: HostRuntime) -> Result<(), Fail>
 
 #[test]
 fn later_days_are_greater(rt: HostRuntime) -> Result<(), Fail> {
-    let days = ["2023-12-31", "2024-01-01", "2024-01-31", "2024-02-01", "2024-02-29"];
+    let days = [
+        "2023-12-31",
+        "2024-01-01",
+        "2024-01-31",
+        "2024-02-01",
+        "2024-02-29",
+    ];
     for earlier in 0..days.len() {
         for later in 0..days.len() {
             let a = Day::parse(days[earlier].as_bytes())?;

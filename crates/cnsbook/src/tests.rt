@@ -85,7 +85,7 @@ fn a_refused_line_gets_the_usage(rt: HostRuntime) -> Result<(), Fail> {
 }
 
 #[test]
-fn a_replay_writes_the_replies(rt: HostRuntime) -> Result<(), Fail> {
+fn a_replay_opens_on_its_date_and_writes_the_replies(rt: HostRuntime) -> Result<(), Fail> {
     let lines: [&[&str]; 2] = [
         &["cnsbook", "replay", "--open", "2024-06-03"],
         &["cnsbook", "replay", "--open=2024-06-03"],
@@ -96,12 +96,13 @@ fn a_replay_writes_the_replies(rt: HostRuntime) -> Result<(), Fail> {
         let status = program(
             &rt,
             words,
-            b"MEMBER,1\nCLOSE\n".as_slice(),
+            b"MEMBER,1\nCLOSE\nCLOSE,2024-06-04\n".as_slice(),
             &mut output,
             &mut errors,
         );
         assert_eq!(rt; status, 0);
-        assert_eq!(rt; output.as_slice(), b"ok\nline Count\n".as_slice());
+        let replies = b"ok\nline Count\nclosed 1 2024-06-03 0 0\n";
+        assert_eq!(rt; output.as_slice(), replies.as_slice());
         assert!(rt; errors.is_empty());
     }
     Ok(())

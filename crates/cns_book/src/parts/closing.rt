@@ -21,9 +21,7 @@ impl<P: Positions<A>, A: Allocator + Drop + Clone> Parts<P, A> {
         if next <= self.today {
             return Ok(Reply::Refused(Refusal::WrongDay));
         }
-        let sheet = self
-            .closed
-            .cut(&self.positions, &self.prices, self.today)?;
+        let sheet = self.closed.cut(&self.positions, &self.prices, self.today)?;
         let closed = Closed {
             day: self.closes + 1,
             date: self.today,

@@ -1,5 +1,4 @@
 use Rattle.std.proofs.Common.{Some, arith}
-
 use Rattle.cns_positions.proofs.Held.{after_tied, before_tied, is_above_greater, none_above, not_above}
 use Rattle.cns_positions.proofs.flat.past.Goals as goal
 

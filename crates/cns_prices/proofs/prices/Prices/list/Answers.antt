@@ -8,4 +8,4 @@ returns-clause-price g c = rw (sym c.self.view_is) (priced c.self.inside.issues.
 
 pub returns-clause-retired : goal.returns-clause-retired
 returns-clause-retired g c = rw (sym c.self.view_is) (unmarked c.self.inside.issues.entries c.insert.new.self.entries c.args.cusip _ c.in-Ok.ensures.updates.0
-  (unlisted (quote_in c.self.inside.issues.entries c.args.cusip) (rw c.self.view_is c.requires)))
+    (unlisted (quote_in c.self.inside.issues.entries c.args.cusip) (rw c.self.view_is c.requires)))

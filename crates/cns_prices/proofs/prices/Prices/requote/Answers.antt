@@ -1,5 +1,5 @@
 use Rattle.std.proofs.Common.{sym}
-use Rattle.cns_prices.specs.Listed.{Quotes, quote_in}
+use Rattle.cns_prices.specs.Listed.{quote_in}
 use Rattle.cns_prices.proofs.Quoted.{not_missing}
 use Rattle.cns_prices.proofs.prices.Prices.requote.Goals as goal
 

@@ -1,8 +1,8 @@
 use Rattle.std.proofs.Common.{◌≡◌, ◌<◌, ◌⊎◌, true, is_some, sym, ap, ◌∙◌, subst, rules, arith}
 use Rattle.std.specs.FinMap.{find}
 use Rattle.std.specs.declared.cmp.Ordering.TheVariants.{Less, Equal, Greater}
-use Rattle.cns_tree.specs.Order.{key_cmp}
-use Rattle.cns_tree.proofs.Keys.{keys_total}
+use Rattle.cns_terms.specs.Keys.{key_cmp}
+use Rattle.cns_terms.proofs.Keys.{keys_total}
 use Rattle.cns_tree.proofs.Rows.{puts_left, puts_middle, puts_right, sides_shorter}
 use Rattle.cns_tree.proofs.node.Subtree.+put.Goals as goal
 

@@ -1,10 +1,10 @@
 use Rattle.std.proofs.Common.{None, refl, ap, ◌∙◌}
 use Rattle.std.specs.Option.{option_or}
 use Rattle.std.specs.List.{find as first}
-use Rattle.cns_tree.specs.Order.{key_cmp}
+use Rattle.cns_terms.specs.Keys.{key_cmp}
 use Rattle.cns_tree.specs.Search.{is_after}
 use Rattle.cns_tree.proofs.Nodes.{at_node}
-use Rattle.cns_tree.proofs.Keys.{keys_total}
+use Rattle.cns_terms.proofs.Keys.{keys_total}
 use Rattle.cns_tree.proofs.Rows.{first_left}
 use Rattle.cns_tree.proofs.Firsts.{option_or-Some}
 use Rattle.cns_tree.proofs.node.Subtree.first.Goals as goal

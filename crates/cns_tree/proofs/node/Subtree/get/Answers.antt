@@ -1,8 +1,8 @@
 use Rattle.std.proofs.Common.{sym, ap, ◌∙◌}
 use Rattle.std.specs.FinMap.{find}
-use Rattle.cns_tree.specs.Order.{key_cmp}
+use Rattle.cns_terms.specs.Keys.{key_cmp}
 use Rattle.cns_tree.proofs.Nodes.{at_node}
-use Rattle.cns_tree.proofs.Keys.{keys_total}
+use Rattle.cns_terms.proofs.Keys.{keys_total}
 use Rattle.cns_tree.proofs.Rows.{find_left, find_middle, find_right}
 use Rattle.cns_tree.proofs.node.Subtree.get.Goals as goal
 

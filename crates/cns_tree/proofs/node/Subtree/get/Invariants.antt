@@ -1,6 +1,6 @@
 use Rattle.std.proofs.Common.{◌≡◌, length}
 use Rattle.std.specs.FinMap.{find}
-use Rattle.cns_tree.specs.Order.{key_cmp}
+use Rattle.cns_terms.specs.Keys.{key_cmp}
 use Rattle.cns_tree.proofs.node.Subtree.get.Given as goal
 
 abbrev pub invariant-loop-side : goal.invariant-loop-side

@@ -1,4 +1,3 @@
-use Rattle.std.proofs.Common.{sym, ◌∙◌}
 use Rattle.cns_units.proofs.DayLemmas.{differ, years_test}
 use Rattle.cns_units.proofs.day.DayPartialEq.eq.Goals as goal
 
