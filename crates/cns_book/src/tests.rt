@@ -2,7 +2,8 @@
 use crate::{Book, TakeFault};
 use cns_positions::FlatPositions;
 use cns_terms::{
-    Activity, Command, Holding, Key, Listing, Movement, Refusal, Reply, Taken, Trade, Worker,
+    Activity, Closed, Command, Holding, Key, Listing, Movement, Refusal, Reply, Taken, Trade,
+    Worker,
 };
 use cns_units::{Account, Cusip, Day, Member, Money, Price, Shares};
 use linked_list_allocator::LocalHeap;
@@ -116,7 +117,9 @@ fn each_worker_has_its_own_numbers(rt: HostRuntime) -> Result<(), Fail> {
 }
 
 #[test]
-fn a_member_holds_ten_thousand_million_shares_and_no_more(rt: HostRuntime) -> Result<(), Fail> {
+fn a_member_holds_ten_thousand_million_shares_and_closes_with_them(
+    rt: HostRuntime,
+) -> Result<(), Fail> {
     let mut book = begun(rt.alloc(), 1_000_000_000)?;
     for reference in 1..=10 {
         let reply = take(
@@ -135,6 +138,15 @@ fn a_member_holds_ten_thousand_million_shares_and_no_more(rt: HostRuntime) -> Re
         run: 0,
     };
     assert_eq!(rt; held, Some(short));
+    let tomorrow = Day::parse(b"2024-06-04".as_slice())?;
+    let reply = take(&mut book, Command::Activity(Activity::Close(tomorrow)));
+    let closed = Closed {
+        day: 1,
+        date: opening()?,
+        rows: 2,
+        liable: 0,
+    };
+    assert_eq!(rt; reply, Ok(Reply::Closed(closed)));
     Ok(())
 }
 

@@ -104,13 +104,11 @@ impl<A: Allocator + Drop> Prices<A> {
         ensures price { (c : Cusip) → price_in self.new c ≡ (if bytes_eq cusip c then Some price else price_in self.old c) }
         ensures retired { (c : Cusip) → retired_in self.new c ≡ retired_in self.old c }
     {
-        self.requote(
-            cusip,
-            Quote {
-                price,
-                retired: false,
-            },
-        );
+        let current = Quote {
+            price,
+            retired: false,
+        };
+        self.requote(cusip, current);
     }
 
     /// Retires an issue that is listed and not retired, for good; its price stays. It takes no memory.
