@@ -14,3 +14,4 @@ pub mod Elsewhere
 pub mod SheetRows
 pub mod PriceLists
 pub mod SheetBounds
+pub mod Bounds

@@ -1,9 +1,12 @@
 -- The laws of the definitions, over any list of commands.
-use Rattle.std.specs.Prelude.{ℕ, ◌≡◌, ◌≤◌, pos, List}
+use Rattle.std.specs.Prelude.{ℕ, ◌≡◌, ◌≤◌, ◌^◌, pos, unsigned_abs, List, ⊤}
+use Rattle.std.specs.List.{AllByRecursion}
 use Rattle.cns_units.specs.declared.account.Account.{Account}
 use Rattle.cns_units.specs.declared.cusip.Cusip.{Cusip}
 use Rattle.cns_units.specs.declared.day.Day.{Day}
+use Rattle.cns_terms.specs.declared.command.Activity.TheVariants as activity
 use Rattle.cns_terms.specs.declared.command.Command.{Command}
+use Rattle.cns_terms.specs.declared.command.Command.TheVariants as command
 use Rattle.cns_terms.specs.Sums.{total}
 use Rattle.cns_terms.specs.Postings.{Journal}
 use Rattle.cns_terms.specs.Days.{closes, at_close}
@@ -42,3 +45,16 @@ Positions = (opening : Day) (cmds : List Command) (c : Cusip) → IsBalancedIn (
 abbrev pub ClosedDays : Type 0
 ClosedDays = (opening : Day) (cmds more : List Command) (i : ℕ) (a : Account) → let S = after (opened opening) cmds in
     i ≤ closes (journal_of S) → statement_of opening (journal_of (after S more)) i a ≡ statement_of opening (journal_of S) i a
+
+-- a command whose members have numbers up to 9,999, as every command has that comes in
+abbrev pub IsNumbered : Command → Type 0
+IsNumbered (command.Activity (activity.Member m)) = m ≤ 9999
+IsNumbered _ = ⊤
+
+-- after any commands, in each issue a member's position stays within 10^10 shares, and the corporation's within 10^14
+pub record IsBounded (J : Journal) (c : Cusip) : Type 0 where
+  pub members : (a : Account) → 1 ≤ a → unsigned_abs (position J a c) ≤ 10 ^ 10
+  pub corporation : unsigned_abs (position J 0 c) ≤ 10 ^ 14
+
+abbrev pub Bounds : Type 0
+Bounds = (opening : Day) (cmds : List Command) (c : Cusip) → AllByRecursion IsNumbered cmds → IsBounded (journal_after opening cmds) c

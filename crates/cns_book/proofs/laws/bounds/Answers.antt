@@ -1,0 +1,5 @@
+use Rattle.cns_terms.proofs.Bounds.{bounds}
+use Rattle.cns_book.proofs.laws.bounds.Goals as goal
+
+pub returns : goal.returns
+returns c = bounds
