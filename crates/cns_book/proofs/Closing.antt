@@ -1,11 +1,10 @@
 -- The close of a day.
-use Rattle.std.proofs.Common.{◌≡◌, ◌∙◌, sym, ap, subst, refl, ℕ, suc, ◌+◌, ◌-◌, ◌*◌, ◌^◌, ◌≤◌, ◌<◌, min, ℤ, pos, ◌+ℤ◌, Bool, true, false, cond, List, [], ◌∷◌, ◌++◌, length, map, arith}
+use Rattle.std.proofs.Common.{◌≡◌, ◌∙◌, sym, ap, subst, refl, ℕ, suc, ◌+◌, ◌-◌, ◌*◌, ◌^◌, ◌≤◌, ◌<◌, min, ℤ, pos, ◌+ℤ◌, Bool, true, false, cond, List, [], ◌∷◌, ◌++◌, length, arith}
 use Rattle.std.specs.Prelude.{int_le, int_lt, unsigned_abs}
 use Rattle.std.specs.FinMap.{is_sorted}
 use Rattle.std.specs.List.{prefix_len}
 use Rattle.std.specs.Ordering.{int_cmp, is_le}
 use Rattle.std.proofs.lemmas.Int.{ints}
-use Rattle.cns_units.specs.Day.{day_number}
 use Rattle.cns_units.specs.declared.day.Day.{Day}
 use Rattle.cns_terms.specs.declared.command.Activity.{Activity}
 use Rattle.cns_terms.specs.declared.command.Activity.TheVariants as activity
@@ -13,7 +12,7 @@ use Rattle.cns_terms.specs.declared.command.Command.{Command}
 use Rattle.cns_terms.specs.declared.history.Taken.{Taken}
 use Rattle.cns_terms.specs.declared.holding.Holding.{Holding}
 use Rattle.cns_terms.specs.declared.holding.Key.{Key}
-use Rattle.cns_terms.specs.Days.{closings, closes, is_close}
+use Rattle.cns_terms.specs.Days.{closings}
 use Rattle.cns_terms.specs.Entries.{journal, posting}
 use Rattle.cns_terms.specs.History.{accepted}
 use Rattle.cns_terms.specs.Keys.{key_cmp}
@@ -25,7 +24,7 @@ use Rattle.cns_terms.specs.Sheets.{DaySheet, day_sheet}
 use Rattle.cns_terms.proofs.Sound.{IsWhole, whole-after, whole_nil}
 use Rattle.cns_positions.specs.Rows.{Rows, holding_at, rolled}
 use Rattle.cns_book.specs.Contents.{Contents}
-use Rattle.cns_book.specs.Follows.{AreSmall, Follows, IsReached}
+use Rattle.cns_book.specs.Follows.{Follows, IsReached}
 use Rattle.cns_book.proofs.Entered.{small_more}
 use Rattle.cns_book.proofs.Lengths.{closes_le, journal_len}
 

@@ -1,11 +1,10 @@
 -- A member, an issue or a price more: each leaves all parts but its own.
 use Rattle.std.proofs.Common.{◌≡◌, ◌∙◌, sym, ap, ℕ, ◌≤◌, ◌*◌, ◌^◌, Bool, true, false, ◌||◌, cond, eqb, List, [], ◌∷◌, length, refl, arith}
-use Rattle.std.specs.Prelude.{bytes_eq, nat_lt, is_some, Option, Some, None, find, filter_map}
+use Rattle.std.specs.Prelude.{bytes_eq, is_some, Option, Some, None, find, filter_map}
 use Rattle.std.specs.Option.{option_map_or}
 use Rattle.cns_units.specs.declared.cusip.Cusip.{Cusip}
 use Rattle.cns_terms.specs.Postings.{activities}
 use Rattle.cns_terms.specs.Listings.{priced}
-use Rattle.std.specs.List.{list_any}
 use Rattle.std.proofs.lemmas.Slice.Eq.{bytes_eq-Decides}
 use Rattle.std.proofs.lemmas.Bool.Decides.{nat_tests}
 use Rattle.cns_terms.specs.declared.command.Activity.{Activity}

@@ -1,27 +1,24 @@
 -- The sheet that a close cuts is the one of the definitions.
-use Rattle.std.proofs.Common.{◌≡◌, ◌∙◌, sym, ap, subst, refl, ℕ, ◌+◌, ◌*◌, ◌^◌, ◌≤◌, ◌<◌, pos, Bool, true, false, not, cond, List, [], ◌∷◌, length, map, filter, Option, Some, None, unwrap_or, arith}
+use Rattle.std.proofs.Common.{◌≡◌, ◌∙◌, sym, ap, subst, refl, ℕ, ◌+◌, ◌*◌, ◌^◌, ◌≤◌, ◌<◌, Bool, true, false, cond, List, [], ◌∷◌, length, map, Option, Some, None, unwrap_or, arith}
 use Rattle.std.specs.Prelude.{option_map, slice_get, unsigned_abs}
 use Rattle.std.specs.Cmp.Lexicographic.{slice_cmp}
 use Rattle.std.specs.FinMap.{find, is_sorted}
-use Rattle.std.specs.FinMap.Entries.{below_all}
 use Rattle.std.specs.List.{AllByRecursion}
 use Rattle.std.specs.Ordering.{is_eq, nat_cmp}
 use Rattle.std.proofs.lemmas.Cmp.{nat_list_cmp_total, tied_itself}
 use Rattle.std.proofs.lemmas.Map.Lookups.{exact_bytes}
-use Rattle.cns_units.specs.declared.account.Account.{Account}
 use Rattle.cns_units.specs.declared.cusip.Cusip.{Cusip}
 use Rattle.cns_units.specs.declared.day.Day.{Day}
 use Rattle.cns_terms.specs.declared.command.Activity.{Activity}
 use Rattle.cns_terms.specs.declared.holding.Holding.{Holding}
 use Rattle.cns_terms.specs.declared.holding.Key.{Key}
-use Rattle.cns_terms.specs.declared.sheet.Row.{Row}
 use Rattle.cns_terms.specs.Days.{closings, last_close}
 use Rattle.cns_terms.specs.Entries.{journal}
 use Rattle.cns_terms.specs.Keys.{key_cmp}
 use Rattle.cns_terms.specs.Listings.{is_listed, issues, price}
 use Rattle.cns_terms.specs.Machine.{holding}
 use Rattle.cns_terms.specs.Postings.{Journal}
-use Rattle.cns_terms.specs.Sheets.{DaySheet, day_sheet, is_idle, row, sheet_prices, sheet_rows}
+use Rattle.cns_terms.specs.Sheets.{day_sheet, row, sheet_prices, sheet_rows}
 use Rattle.cns_terms.proofs.Finds.{and_left, and_right, equal, find_below, same_lists, tied_below}
 use Rattle.cns_terms.proofs.Keys.{keys_total}
 use Rattle.cns_terms.proofs.PriceLists.{find_price, price_or_zero, sheet_price, sorted_prices}
@@ -31,7 +28,7 @@ use Rattle.cns_terms.proofs.SheetSums.{sheet_zero}
 use Rattle.cns_terms.proofs.Sound.{IsSound, IsWhole, sound_last}
 use Rattle.cns_positions.specs.Rows.{Rows, holding_at, zeros}
 use Rattle.cns_prices.specs.Listed.{Listed, listed_above, price_in, quote_in}
-use Rattle.cns_sheets.specs.Build.{AreBalanced, AreFew, HasSmallCents, PriceList, prices_of, row_from, rows_from, sheet_from}
+use Rattle.cns_sheets.specs.Build.{AreBalanced, AreFew, HasSmallCents, prices_of, row_from, rows_from, sheet_from}
 use Rattle.cns_sheets.proofs.Kept.{prices_rise}
 use Rattle.cns_book.specs.Contents.{Contents}
 use Rattle.cns_book.specs.Follows.{AreSmall, Follows}

@@ -11,8 +11,7 @@ use Rattle.cns_terms.specs.declared.command.Command.TheVariants as command
 use Rattle.cns_terms.specs.declared.reply.Reply.{Reply}
 use Rattle.cns_terms.specs.declared.history.Taken.{Taken}
 use Rattle.cns_terms.specs.declared.worker.Worker.{Worker}
-use Rattle.cns_terms.specs.Postings.{Journal}
-use Rattle.cns_terms.specs.Days.{closes, closings, is_close}
+use Rattle.cns_terms.specs.Days.{closes}
 use Rattle.cns_terms.specs.Entries.{journal}
 use Rattle.cns_book.proofs.Closing.{reached_by, whole_reached}
 use Rattle.cns_book.proofs.Lengths.{closes_le, journal_len}

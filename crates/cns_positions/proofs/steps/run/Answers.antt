@@ -2,7 +2,7 @@ use Rattle.std.proofs.Common.{◌∙◌, ◌++◌, append-nil, sym, ap, subst}
 use Rattle.std.proofs.lemmas.List.{drop_all}
 use Rattle.cns_positions.specs.Rows.{holding_at}
 use Rattle.cns_positions.specs.Steps.{IsSmallStep, replies}
-use Rattle.cns_positions.proofs.Stepping.{replies-step, small-step, small_below, small_none, step_at}
+use Rattle.cns_positions.proofs.Stepping.{replies-step, small-step, step_at}
 use Rattle.cns_positions.proofs.steps.run.Goals as goal
 
 pub loop-step-preserved : goal.loop-step-preserved
