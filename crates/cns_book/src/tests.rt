@@ -1,206 +1,243 @@
-// The limit, want of memory, the bounds of members' positions, and the reading calls.
-use crate::{Book, TakeFault};
+// The limit, each worker's numbers, want of memory, and the bounds of members' positions.
+use crate::{Book, Receipt, TakeFault};
 use cns_positions::FlatPositions;
 use cns_terms::{
-    Activity, Closed, Command, Holding, Key, Listing, Movement, Refusal, Reply, Taken, Trade,
-    Worker,
+    Activity, Closed, Command, Holding, Key, Listing, NoMemory, Refusal, Reply, Trade, Worker,
 };
 use cns_units::{Account, Cusip, Day, Member, Money, Price, Shares};
 use linked_list_allocator::LocalHeap;
 use std::alloc::{Allocator, Global};
+use std::process::Abort;
 use std::test::Fail;
 
 type FlatBook<A> = Book<FlatPositions<A>, A>;
 
-fn opening() -> Result<Day, Fail> {
-    Ok(Day::parse(b"2024-06-03".as_slice())?)
+fn date(rt: &impl Abort, text: &[u8]) -> Day {
+    let Ok(day) = Day::parse(text) else {
+        panic!(rt; "no date");
+    };
+    day
 }
 
-fn issue() -> Result<Cusip, Fail> {
-    Ok(Cusip::parse(b"037833100".as_slice())?)
+fn opening(rt: &impl Abort) -> Day {
+    date(rt, b"2024-06-03")
 }
 
-fn member(number: u16) -> Result<Command, Fail> {
-    Ok(Command::Activity(Activity::Member(Member::new(number)?)))
+fn issue(rt: &impl Abort) -> Cusip {
+    let Ok(issue) = Cusip::parse(b"037833100") else {
+        panic!(rt; "no issue");
+    };
+    issue
 }
 
-fn listing(price: u64) -> Result<Command, Fail> {
-    Ok(Command::Activity(Activity::Issue(Listing {
-        issue: issue()?,
-        price: Price::new(price)?,
-    })))
+fn party(rt: &impl Abort, number: u16) -> Member {
+    let Ok(member) = Member::new(number) else {
+        panic!(rt; "no member has the number {number}");
+    };
+    member
 }
 
-fn trade(reference: u64, shares: u64, money: u64) -> Result<Command, Fail> {
-    Ok(Command::Activity(Activity::Trade(Trade {
-        reference,
-        money: Money::new(money)?,
-        shares: Shares::new(shares)?,
-        buyer: Member::new(1)?,
-        seller: Member::new(2)?,
-        date: opening()?,
-        issue: issue()?,
-    })))
+fn member(rt: &impl Abort, number: u16) -> Command {
+    Command::Activity(Activity::Member(party(rt, number)))
 }
 
-fn position(account: u16) -> Result<Command, Fail> {
-    Ok(Command::Position(Key {
-        account: Account::new(account)?,
-        issue: issue()?,
+fn listing(rt: &impl Abort, price: u64) -> Command {
+    let Ok(price) = Price::new(price) else {
+        panic!(rt; "no price");
+    };
+    Command::Activity(Activity::Issue(Listing {
+        issue: issue(rt),
+        price,
     }))
 }
 
-fn take<A: Allocator + Drop + Clone>(
-    book: &mut FlatBook<A>,
-    command: Command,
-) -> Result<Reply, TakeFault> {
-    Ok(book.take(Worker::FIRST, command)?.reply)
+// Member 1 buys from member 2.
+fn trade(rt: &impl Abort, reference: u64, shares: u64, money: u64) -> Command {
+    let (Ok(shares), Ok(money)) = (Shares::new(shares), Money::new(money)) else {
+        panic!(rt; "no trade");
+    };
+    Command::Activity(Activity::Trade(Trade {
+        reference,
+        money,
+        shares,
+        buyer: party(rt, 1),
+        seller: party(rt, 2),
+        date: opening(rt),
+        issue: issue(rt),
+    }))
 }
 
-// A book with members 1 and 2 and one issue.
-fn begun<A: Allocator + Drop + Clone>(alloc: A, price: u64) -> Result<FlatBook<A>, Fail> {
-    let mut book = Book::new(alloc, opening()?)?;
-    take(&mut book, member(1)?)?;
-    take(&mut book, member(2)?)?;
-    take(&mut book, listing(price)?)?;
-    Ok(book)
+fn key(rt: &impl Abort, account: u16) -> Key {
+    let Ok(account) = Account::new(account) else {
+        panic!(rt; "no account has the number {account}");
+    };
+    Key {
+        account,
+        issue: issue(rt),
+    }
 }
+
+fn holding(now: i64, opening: i64, contract: i128, run: u32) -> Holding {
+    Holding {
+        now,
+        opening,
+        contract,
+        run,
+    }
+}
+
+// What a book answers to commands, each with its worker.
+fn answers<A: Allocator + Drop + Clone>(
+    book: &mut FlatBook<A>,
+    commands: &[(Worker, Command)],
+    alloc: Global,
+) -> Result<Vec<Result<Receipt, TakeFault>>, NoMemory> {
+    let mut answers = Vec::new(alloc);
+    for (worker, command) in commands {
+        let Ok(()) = answers.push(book.take(*worker, *command)) else {
+            return Err(NoMemory);
+        };
+    }
+    Ok(answers)
+}
+
+fn first(command: Command) -> (Worker, Command) {
+    (Worker::FIRST, command)
+}
+
+fn receipt(index: u32, seq: u32, reply: Reply) -> Result<Receipt, TakeFault> {
+    Ok(Receipt { index, seq, reply })
+}
+
+const TAKEN_BEFORE: Reply = Reply::Refused(Refusal::MemberExists);
 
 #[test]
 fn a_book_at_its_limit_takes_nothing_more(rt: HostRuntime) -> Result<(), Fail> {
-    let mut book: FlatBook<Global> = Book::with_limit(rt.alloc(), opening()?, 2)?;
-    let first = book.take(Worker::FIRST, member(1)?)?;
-    assert_eq!(rt;
-        (first.index, first.seq, first.reply),
-        (1, 1, Reply::Accepted)
-    );
-    let second = book.take(Worker::FIRST, member(1)?)?;
-    let refused = Reply::Refused(Refusal::MemberExists);
-    assert_eq!(rt; (second.index, second.seq, second.reply), (2, 2, refused));
-    assert_eq!(rt; take(&mut book, position(1)?), Err(TakeFault::Full));
+    let commands = [
+        first(member(&rt, 1)),
+        first(member(&rt, 1)),
+        first(Command::Position(key(&rt, 1))),
+    ];
+    let expected = [
+        receipt(1, 1, Reply::Accepted),
+        receipt(2, 2, TAKEN_BEFORE),
+        Err(TakeFault::Full),
+    ];
+    let mut book: FlatBook<Global> = Book::with_limit(rt.alloc(), opening(&rt), 2)?;
+    let answered = answers(&mut book, commands.as_slice(), rt.alloc())?;
+    assert_eq!(rt; answered.as_slice(), expected.as_slice());
     assert_eq!(rt; book.history_len(), 2);
-    let copy = book.copy_history()?;
-    assert_eq!(rt; copy.len(), 2);
+    assert_eq!(rt; book.copy_history()?.len(), 2);
     Ok(())
 }
 
 #[test]
 fn a_book_with_the_limit_zero_is_full_at_once(rt: HostRuntime) -> Result<(), Fail> {
-    let mut book: FlatBook<Global> = Book::with_limit(rt.alloc(), opening()?, 0)?;
-    assert_eq!(rt; take(&mut book, member(1)?), Err(TakeFault::Full));
+    let mut book: FlatBook<Global> = Book::with_limit(rt.alloc(), opening(&rt), 0)?;
+    let answer = book.take(Worker::FIRST, member(&rt, 1));
+    assert_eq!(rt; answer, Err(TakeFault::Full));
     assert_eq!(rt; book.history_len(), 0);
     Ok(())
 }
 
 #[test]
 fn each_worker_has_its_own_numbers(rt: HostRuntime) -> Result<(), Fail> {
-    let mut book: FlatBook<Global> = Book::new(rt.alloc(), opening()?)?;
     let second = Worker::new(2)?;
-    let cases = [
-        (Worker::FIRST, 1),
-        (second, 1),
-        (Worker::FIRST, 2),
-        (second, 2),
+    let commands = [
+        first(member(&rt, 1)),
+        (second, member(&rt, 1)),
+        first(member(&rt, 1)),
+        (second, member(&rt, 1)),
     ];
-    for (place, (worker, seq)) in cases.iter().enumerate() {
-        let receipt = book.take(*worker, member(1)?)?;
-        assert_eq!(rt; (receipt.index as usize, receipt.seq), (place + 1, *seq));
-        assert_eq!(rt; book.count(*worker), *seq);
-    }
-    let Some(entry) = book.entry(2) else {
-        panic!(rt; "the second entry is there");
-    };
-    assert_eq!(rt; (entry.worker, entry.seq), (second, 1));
+    let expected = [
+        receipt(1, 1, Reply::Accepted),
+        receipt(2, 1, TAKEN_BEFORE),
+        receipt(3, 2, TAKEN_BEFORE),
+        receipt(4, 2, TAKEN_BEFORE),
+    ];
+    let mut book: FlatBook<Global> = Book::new(rt.alloc(), opening(&rt))?;
+    let answered = answers(&mut book, commands.as_slice(), rt.alloc())?;
+    assert_eq!(rt; answered.as_slice(), expected.as_slice());
+    assert_eq!(rt; book.count(second), 2);
     assert_eq!(rt; book.entry(0), None);
     assert_eq!(rt; book.entry(5), None);
     Ok(())
 }
 
+const MOST_SHARES: u64 = 1_000_000_000;
+
+const MOST_CENTS: u64 = 1_000_000_000_000_000_000;
+
 #[test]
-fn a_member_holds_ten_thousand_million_shares_and_closes_with_them(
+fn the_largest_positions_are_closed_and_no_larger_ones_are_taken(
     rt: HostRuntime,
 ) -> Result<(), Fail> {
-    let mut book = begun(rt.alloc(), 1_000_000_000)?;
+    let mut book: FlatBook<Global> = Book::new(rt.alloc(), opening(&rt))?;
+    let begin = [
+        first(member(&rt, 1)),
+        first(member(&rt, 2)),
+        first(listing(&rt, 1_000_000_000)),
+    ];
+    answers(&mut book, begin.as_slice(), rt.alloc())?;
     for reference in 1..=10 {
-        let reply = take(
-            &mut book,
-            trade(reference, 1_000_000_000, 1_000_000_000_000_000_000)?,
+        let taken = book.take(
+            Worker::FIRST,
+            trade(&rt, reference, MOST_SHARES, MOST_CENTS),
         );
-        assert_eq!(rt; reply, Ok(Reply::Accepted));
+        assert!(rt; taken.is_ok_and(|receipt| receipt.reply == Reply::Accepted));
     }
-    let reply = take(&mut book, trade(11, 1, 0)?);
-    assert_eq!(rt; reply, Ok(Reply::Refused(Refusal::TooLarge)));
-    let held = book.position(Account::new(2)?, issue()?);
-    let short = Holding {
-        now: -10_000_000_000,
-        opening: 0,
-        contract: 10_000_000_000_000_000_000,
-        run: 0,
-    };
-    assert_eq!(rt; held, Some(short));
-    let tomorrow = Day::parse(b"2024-06-04".as_slice())?;
-    let reply = take(&mut book, Command::Activity(Activity::Close(tomorrow)));
+    let end = [
+        first(trade(&rt, 11, 1, 0)),
+        first(Command::Position(key(&rt, 2))),
+        first(Command::Activity(Activity::Close(date(&rt, b"2024-06-04")))),
+        first(Command::Position(key(&rt, 2))),
+    ];
+    let short = holding(-10_000_000_000, 0, 10_000_000_000_000_000_000, 0);
     let closed = Closed {
         day: 1,
-        date: opening()?,
+        date: opening(&rt),
         rows: 2,
         liable: 0,
     };
-    assert_eq!(rt; reply, Ok(Reply::Closed(closed)));
-    Ok(())
-}
-
-#[test]
-fn the_day_moves_on_at_a_close(rt: HostRuntime) -> Result<(), Fail> {
-    let mut book = begun(rt.alloc(), 19_500)?;
-    assert_eq!(rt; (book.day(), book.today()), (1, opening()?));
-    assert_eq!(rt; book.price(issue()?), Some(Price::new(19_500)?));
-    take(&mut book, trade(1, 100, 1_950_000)?)?;
-    let tomorrow = Day::parse(b"2024-06-04".as_slice())?;
-    take(&mut book, Command::Activity(Activity::Close(tomorrow)))?;
-    assert_eq!(rt; (book.day(), book.today()), (2, tomorrow));
-    let delivery = Movement {
-        member: Member::new(2)?,
-        issue: issue()?,
-        shares: Shares::new(100)?,
-    };
-    take(&mut book, Command::Activity(Activity::Deliver(delivery)))?;
-    let on_hand = Holding {
-        now: -100,
-        opening: 0,
-        contract: 0,
-        run: 0,
-    };
-    assert_eq!(rt; book.position(Account::new(0)?, issue()?), Some(on_hand));
-    assert_eq!(rt; book.position(Account::new(3)?, issue()?), None);
+    let later = holding(-10_000_000_000, -10_000_000_000, 0, 1);
+    let expected = [
+        receipt(14, 14, Reply::Refused(Refusal::TooLarge)),
+        receipt(15, 15, Reply::Held(key(&rt, 2), short)),
+        receipt(16, 16, Reply::Closed(closed)),
+        receipt(17, 17, Reply::Held(key(&rt, 2), later)),
+    ];
+    let answered = answers(&mut book, end.as_slice(), rt.alloc())?;
+    assert_eq!(rt; answered.as_slice(), expected.as_slice());
     Ok(())
 }
 
 // Takes trades of one share until one finds no memory, at most ten thousand; answers how many were taken.
-fn fill<A: Allocator + Drop + Clone>(book: &mut FlatBook<A>) -> Result<u64, Fail> {
+fn fill<A: Allocator + Drop + Clone>(rt: &impl Abort, book: &mut FlatBook<A>) -> u64 {
     for reference in 1..=10_000 {
-        if take(book, trade(reference, 1, 0)?).is_err() {
-            return Ok(reference - 1);
+        if book
+            .take(Worker::FIRST, trade(rt, reference, 1, 0))
+            .is_err()
+        {
+            return reference - 1;
         }
     }
-    Ok(10_000)
+    10_000
 }
 
 #[test]
 fn a_book_without_memory_is_as_it_was(rt: HostRuntime) -> Result<(), Fail> {
     let heap = LocalHeap::new(rt.alloc(), 65_536)?;
-    let mut book = begun(&heap, 19_500)?;
-    let taken = fill(&mut book)?;
+    let mut book: FlatBook<&LocalHeap> = Book::new(&heap, opening(&rt))?;
+    let begin = [
+        first(member(&rt, 1)),
+        first(member(&rt, 2)),
+        first(listing(&rt, 19_500)),
+    ];
+    answers(&mut book, begin.as_slice(), rt.alloc())?;
+    let taken = fill(&rt, &mut book);
     assert!(rt; taken < 10_000);
     assert_eq!(rt; book.history_len() as u64, taken + 3);
-    let long = Holding {
-        now: taken as i64,
-        opening: 0,
-        contract: 0,
-        run: 0,
-    };
-    assert_eq!(rt; book.position(Account::new(1)?, issue()?), Some(long));
-    let last: Option<Taken> = book.entry(book.history_len() as u32);
-    assert_eq!(rt; last.map(|entry| entry.reply), Some(Reply::Accepted));
+    let held = book.position(key(&rt, 1).account, issue(&rt));
+    assert_eq!(rt; held, Some(holding(taken as i64, 0, 0, 0)));
     Ok(())
 }
