@@ -179,15 +179,14 @@ fn the_largest_positions_are_closed_and_no_larger_ones_are_taken(
         first(listing(&rt, 1_000_000_000)),
     ];
     answers(&mut book, begin.as_slice(), rt.alloc())?;
-    for reference in 1..=10 {
-        let taken = book.take(
-            Worker::FIRST,
-            trade(&rt, reference, MOST_SHARES, MOST_CENTS),
-        );
-        assert!(rt; taken.is_ok_and(|receipt| receipt.reply == Reply::Accepted));
+    for place in 4..=13u32 {
+        let bought = [first(trade(&rt, u64::from(place), MOST_SHARES, MOST_CENTS))];
+        let expected = [receipt(place, place, Reply::Accepted)];
+        let answered = answers(&mut book, bought.as_slice(), rt.alloc())?;
+        assert_eq!(rt; answered.as_slice(), expected.as_slice());
     }
     let end = [
-        first(trade(&rt, 11, 1, 0)),
+        first(trade(&rt, 1, 1, 0)),
         first(Command::Position(key(&rt, 2))),
         first(Command::Activity(Activity::Close(date(&rt, b"2024-06-04")))),
         first(Command::Position(key(&rt, 2))),
