@@ -5,6 +5,7 @@ use Rattle.std.specs.FinMap.{is_sorted}
 use Rattle.std.specs.List.{prefix_len}
 use Rattle.std.specs.Ordering.{int_cmp, is_le}
 use Rattle.std.proofs.lemmas.Int.{ints}
+use Rattle.cns_units.specs.Day.{day_number}
 use Rattle.cns_units.specs.declared.day.Day.{Day}
 use Rattle.cns_terms.specs.declared.command.Activity.{Activity}
 use Rattle.cns_terms.specs.declared.command.Activity.TheVariants as activity
@@ -12,7 +13,7 @@ use Rattle.cns_terms.specs.declared.command.Command.{Command}
 use Rattle.cns_terms.specs.declared.history.Taken.{Taken}
 use Rattle.cns_terms.specs.declared.holding.Holding.{Holding}
 use Rattle.cns_terms.specs.declared.holding.Key.{Key}
-use Rattle.cns_terms.specs.Days.{closings}
+use Rattle.cns_terms.specs.Days.{closings, date}
 use Rattle.cns_terms.specs.Entries.{journal, posting}
 use Rattle.cns_terms.specs.History.{accepted}
 use Rattle.cns_terms.specs.Keys.{key_cmp}
@@ -80,10 +81,14 @@ holding_close opening J d k h =
     let few : prefix_len short (closings J) + 1 < 2 ^ 32 = omega (arith, prefix_le short (closings J), closes_le J, h) in
     rw (aged (short J) (prefix_len short (closings J)) few, zero_add (position J k.account k.issue)) refl
 
+-- a day that is not at or before another is after it
+later : (a b : ℤ) → int_le a b ≡ false → int_lt b a ≡ true
+later a b h = grind (arith, ints)
+
 -- a close that is not refused
-pub day_closed : (L : List Activity) (s : Contents) (d : Day) (rows : Rows) (sheet : DaySheet) → Follows L s → length L + 1 < 2 ^ 32 → ((k : Key) → holding_at rows k ≡ rolled (holding_at s.rows k)) → is_sorted key_cmp rows ≡ true → sheet ≡ day_sheet s.opening (journal s.opening L)
+pub day_closed : (L : List Activity) (s : Contents) (d : Day) (rows : Rows) (sheet : DaySheet) → Follows L s → length L + 1 < 2 ^ 32 → ((k : Key) → holding_at rows k ≡ rolled (holding_at s.rows k)) → is_sorted key_cmp rows ≡ true → sheet ≡ day_sheet s.opening (journal s.opening L) → int_le (day_number d) (day_number (date s.opening (journal s.opening L))) ≡ false
     → Follows (activity.Close d ∷ L) (record s { today = d; closes = s.closes + 1; rows = rows; sheets = sheet ∷ s.sheets })
-day_closed L s d rows sheet f few h order is =
+day_closed L s d rows sheet f few h order is late =
     let J = journal s.opening L in
     record {
       today = refl;
@@ -100,6 +105,7 @@ day_closed L s d rows sheet f few h order is =
         cents = λ k. subst (λ (x : Holding). unsigned_abs x.contract ≤ 10 ^ 18 * length (activity.Close d ∷ L)) (sym (h k)) (omega arith);
       };
       sheets = λ i. is i ∷ f.sheets i;
+      dated = ap (λ (s : DaySheet). int_lt (day_number s.date) (day_number d)) is ∙ later (day_number d) (day_number (date s.opening J)) late;
     }
 
 -- a comparison in the words of the definitions

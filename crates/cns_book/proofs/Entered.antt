@@ -17,10 +17,10 @@ use Rattle.cns_terms.specs.Days.{is_close}
 use Rattle.cns_terms.specs.Machine.{holding}
 use Rattle.cns_positions.specs.Rows.{Rows, holding_at}
 use Rattle.cns_terms.specs.Listings.{account_lt, members, is_listed, issues, price, issue_lt}
-use Rattle.cns_trades.specs.References.{has}
 use Rattle.cns_prices.specs.Listed.{Listed, price_in, retired_in}
 use Rattle.cns_book.specs.Contents.{Contents}
 use Rattle.cns_book.specs.Follows.{AreSmall, Follows}
+use Rattle.cns_book.specs.Marks.{is_marked}
 use Rattle.cns_book.proofs.Places.{books, holding-post, books_none}
 
 eqb_sym : (a b : ℕ) → eqb a b ≡ eqb b a
@@ -40,7 +40,7 @@ rows_stay L s x f still none k =
     f.rows k ∙ sym (holding-post (posting s.opening J x) J k still ∙ ap (λ es. books es k (holding J k.account k.issue)) none ∙ books_none k (holding J k.account k.issue))
 
 -- a member more
-pub member_added : (L : List Activity) (s : Contents) (m : ℕ) (new : List ℕ) → Follows L s → ((a : ℕ) → has new a ≡ (eqb m a || has s.members a)) → Follows (activity.Member m ∷ L) (record s { members = new })
+pub member_added : (L : List Activity) (s : Contents) (m : ℕ) (new : List Bool) → Follows L s → ((a : ℕ) → is_marked new a ≡ (eqb m a || is_marked s.members a)) → Follows (activity.Member m ∷ L) (record s { members = new })
 member_added L s m new f h = record {
   today = f.today;
   closes = f.closes;
@@ -50,6 +50,7 @@ member_added L s m new f h = record {
   references = f.references;
   order = f.order;
   sheets = f.sheets;
+  dated = f.dated;
   rows = rows_stay L s (activity.Member m) f refl refl;
   small = small_more (activity.Member m) L s.rows f.small;
 }
@@ -78,6 +79,7 @@ issue_listed L s l new f h r = record {
   references = f.references;
   order = f.order;
   sheets = f.sheets;
+  dated = f.dated;
   rows = rows_stay L s (activity.Issue l) f refl refl;
   small = small_more (activity.Issue l) L s.rows f.small;
 }
@@ -112,6 +114,7 @@ price_set L s l new f there h r = record {
   references = f.references;
   order = f.order;
   sheets = f.sheets;
+  dated = f.dated;
   rows = rows_stay L s (activity.Price l) f refl refl;
   small = small_more (activity.Price l) L s.rows f.small;
 }

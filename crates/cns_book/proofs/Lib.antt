@@ -7,4 +7,5 @@ pub mod Trading
 pub mod Moving
 pub mod SheetCut
 pub mod Closing
+pub mod Dated
 pub mod Taking

@@ -115,6 +115,7 @@ delivered L s m rows f none number b e order =
       references = f.references;
       order = order;
       sheets = f.sheets;
+      dated = f.dated;
       rows = here J p _ _ s.rows rows done f.rows;
       small = still_small J p _ _ s.rows rows L done f.rows f.small;
     }
@@ -149,6 +150,7 @@ received L s m rows f none number b e order =
       references = f.references;
       order = order;
       sheets = f.sheets;
+      dated = f.dated;
       rows = here J p _ _ s.rows rows done f.rows;
       small = still_small J p _ _ s.rows rows L done f.rows f.small;
     }

@@ -29,6 +29,7 @@ one_more false x L n h = omega (arith, h)
 next_le : (opening : Day) (L : List Activity) (cmd : Command) (n : ℕ) → length L ≤ n → length (accepted_after opening L cmd) ≤ suc n
 next_le opening L (command.Activity x) n h = one_more _ x L n h
 next_le opening L (command.Position k) n h = omega (arith, h)
+next_le opening L (command.Statement a d) n h = omega (arith, h)
 
 -- no more activities than commands
 pub accepted_le : (opening : Day) (H : List Taken) → length (accepted opening H) ≤ length H
@@ -62,6 +63,7 @@ has_room limit H counts s b few =
       marked = rows_small (length L) s.rows (omega (arith, m, few, b.limited)) f.order f.small;
       balanced = rows_balanced L s f w;
       few = rows_are_few L s f w (omega (arith, m, few, b.limited));
+      dated = f.dated;
     }
 
 -- a command that found no memory

@@ -29,7 +29,7 @@ use Rattle.cns_terms.specs.Refusals.{Rule, first_refusal, refusal, rules, is_bey
 use Rattle.cns_positions.specs.Rows.{Rows, holding_at, booked}
 use Rattle.cns_trades.specs.Checks.{IsSmallEntry, trade_rules}
 use Rattle.cns_trades.specs.declared.facts.TradeFacts.{TradeFacts}
-use Rattle.cns_trades.specs.References.{has}
+use Rattle.cns_trades.specs.Used.{Used, is_used}
 use Rattle.cns_book.specs.Contents.{Contents}
 use Rattle.cns_book.specs.Follows.{AreSmall, AreTradeFacts, Follows}
 use Rattle.cns_book.proofs.Booking.{AreBooked, here, still_small}
@@ -128,6 +128,7 @@ pub same_rows : (L : List Activity) (s : Contents) (new : Rows) → Follows L s 
 same_rows L s new f h order = record {
   order = order;
   sheets = f.sheets;
+  dated = f.dated;
   today = f.today;
   closes = f.closes;
   members = f.members;
@@ -166,8 +167,8 @@ pub neg_twice : (n : ℤ) → n ≡ neg_ℤ (neg_ℤ n)
 neg_twice n = omega (arith, ints)
 
 -- an accepted trade
-pub trade_accepted : (L : List Activity) (s : Contents) (t : Trade) (references : List ℕ) (rows : Rows) → Follows L s → refusal s.opening (journal s.opening L) (command.Activity (activity.Trade t)) ≡ None → (1 ≤ t.buyer) × (1 ≤ t.seller)
-    → ((r : ℕ) → has references r ≡ (eqb t.reference r || has s.references r))
+pub trade_accepted : (L : List Activity) (s : Contents) (t : Trade) (references : Used) (rows : Rows) → Follows L s → refusal s.opening (journal s.opening L) (command.Activity (activity.Trade t)) ≡ None → (1 ≤ t.buyer) × (1 ≤ t.seller)
+    → ((r : ℕ) → is_used references r ≡ (eqb t.reference r || is_used s.references r))
     → ((k : Key) → holding_at rows k ≡ booked (seller_entry t) k (booked (buyer_entry t) k (holding_at s.rows k)))
     → IsSmallEntry (buyer_entry t) → is_sorted key_cmp rows ≡ true
     → Follows (activity.Trade t ∷ L) (record s { references = references; rows = rows })
@@ -196,6 +197,7 @@ trade_accepted L s t references rows f none m r b e order =
       references = λ q. r q ∙ ap (λ b. eqb t.reference q || b) (f.references q);
       order = order;
       sheets = f.sheets;
+      dated = f.dated;
       rows = here J p (buyer_entry t) (seller_entry t) s.rows rows done f.rows;
       small = still_small J p (buyer_entry t) (seller_entry t) s.rows rows L done f.rows f.small;
     }

@@ -1,18 +1,19 @@
 -- What each part of a book shows.
-use Rattle.std.specs.Prelude.{ℕ, List}
+use Rattle.std.specs.Prelude.{ℕ, Bool, List}
 use Rattle.cns_units.specs.declared.day.Day.{Day}
 use Rattle.cns_terms.specs.declared.holding.Holding.{Holding}
 use Rattle.cns_terms.specs.declared.holding.Key.{Key}
 use Rattle.cns_terms.specs.Sheets.{DaySheet}
 use Rattle.cns_prices.specs.Listed.{Listed}
+use Rattle.cns_trades.specs.Used.{Used}
 
 -- the opening date, the open day, and the maps and sets of the book
 pub record Contents : Type 0 where
   pub opening : Day
   pub today : Day
   pub closes : ℕ
-  pub members : List ℕ
+  pub members : List Bool
   pub prices : Listed
-  pub references : List ℕ
+  pub references : Used
   pub rows : List (Key × Holding)
   pub sheets : List DaySheet

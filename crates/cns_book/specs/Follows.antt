@@ -25,8 +25,10 @@ use Rattle.cns_sheets.specs.Build.{AreBalanced, AreFew, HasSmallCents, prices_of
 use Rattle.cns_prices.specs.Listed.{price_in, retired_in}
 use Rattle.cns_trades.specs.declared.facts.MoveFacts.{MoveFacts}
 use Rattle.cns_trades.specs.declared.facts.TradeFacts.{TradeFacts}
-use Rattle.cns_trades.specs.References.{has}
+use Rattle.cns_trades.specs.Used.{is_used}
 use Rattle.cns_book.specs.Contents.{Contents}
+use Rattle.cns_book.specs.Dated.{IsAfter}
+use Rattle.cns_book.specs.Marks.{is_marked}
 
 -- the numbers that stand in rows after so many activities are small: a member's position by the limit of positions,
 -- and each other number by what one activity can add to it
@@ -47,19 +49,21 @@ pub record HasRoom (s : Contents) : Type 0 where
   pub marked : AllByRecursion HasSmallCents s.rows
   pub balanced : AreBalanced (rows_now s)
   pub few : AreFew (rows_now s)
+  pub dated : IsAfter s.today s.sheets
 
 -- each part shows what the definitions say of the accepted activities
 pub record Follows (L : List Activity) (s : Contents) : Type 0 where
   pub today : s.today ≡ date s.opening (journal s.opening L)
   pub closes : s.closes ≡ closes (journal s.opening L)
-  pub members : (m : ℕ) → has s.members m ≡ is_member (journal s.opening L) m
+  pub members : (m : ℕ) → is_marked s.members m ≡ is_member (journal s.opening L) m
   pub prices : (c : Cusip) → price_in s.prices c ≡ (if is_listed (journal s.opening L) c then Some (price (journal s.opening L) c) else None)
   pub retired : (c : Cusip) → retired_in s.prices c ≡ is_retired (journal s.opening L) c
-  pub references : (r : ℕ) → has s.references r ≡ is_seen (journal s.opening L) r
+  pub references : (r : ℕ) → is_used s.references r ≡ is_seen (journal s.opening L) r
   pub rows : (k : Key) → holding_at s.rows k ≡ holding (journal s.opening L) k.account k.issue
   pub order : is_sorted key_cmp s.rows ≡ true
   pub small : AreSmall (length L) s.rows
   pub sheets : s.sheets ≡ map (day_sheet s.opening) (closings (journal s.opening L))
+  pub dated : IsAfter s.today s.sheets
 
 -- the machine comes to the activities by some commands
 pub record IsReached (opening : Day) (L : List Activity) : Type 0 where

@@ -1,18 +1,22 @@
 // The book over its history.
-ghost use Rattle.std.specs.Prelude.{◌≡◌, ◌-◌, ◌^◌, ◌↔◌, length, IfOk, OnErr, Err, replicate, reverse};
+ghost use Rattle.std.specs.Arc.{arc_value};
+ghost use Rattle.std.specs.Option.{option_copied};
+ghost use Rattle.std.specs.Prelude.{◌≡◌, ◌-◌, ◌^◌, ◌↔◌, option_map, length, IfOk, OnErr, Err, replicate, reverse};
 ghost use Rattle.cns_terms.specs.Days.{date, day};
 ghost use Rattle.cns_terms.specs.History.{count};
 ghost use Rattle.cns_terms.specs.Laws.{journal_of};
-ghost use Rattle.cns_book.specs.Shown.{entry_at, price_shown, shown};
+ghost use Rattle.cns_book.specs.Shown.{entry_at, price_shown, sheet_shown, shown};
 ghost use Rattle.cns_book.specs.Log.{TakesStep, empty_log, state_of};
 
 use crate::parts::Parts;
 use crate::receipt::{Receipt, TakeFault};
 use cns_positions::Positions;
+use cns_sheets::Sheet;
 use cns_terms::{Command, Holding, Key, NoMemory, Taken, Worker};
 use cns_units::{Account, Cusip, Day, Price};
 use std::alloc::Allocator;
 use std::marker::Model;
+use std::sync::Arc;
 
 /// A book over any form of positions. Contracts see its opening date, its limit and its history, the newest first.
 ///
@@ -88,6 +92,14 @@ impl<P: Positions<A>, A: Allocator + Drop + Clone> Book<P, A> {
         ensures { result ≡ price_shown (state_of self.now) cusip }
     {
         self.parts.price(cusip)
+    }
+
+    /// The sheet of the closed day with the date, which never changes; None where no closed day has it. It may be
+    /// shared by a copy of its `Arc`.
+    pub fn sheet(&self, date: Day) -> Option<&Arc<Sheet<A>, A>>
+        ensures { option_map arc_value (option_copied result) ≡ sheet_shown self.now.opening (journal_of (state_of self.now)) date }
+    {
+        self.parts.sheet(date)
     }
 
     /// The entry at a place of the history, from 1; None past its end.

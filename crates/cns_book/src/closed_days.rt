@@ -1,12 +1,15 @@
 // The sheets of the closed days.
-ghost use Rattle.std.specs.Prelude.{◌≡◌, [], ◌∷◌, IfOk, OnErr, OnOk, slice_get, true};
+ghost use Rattle.std.specs.Prelude.{◌≡◌, [], ◌∷◌, IfErr, IfOk, OnErr, OnOk, length, map, option_map, reverse, slice_get, false, true};
+ghost use Rattle.std.specs.Arc.{arc_value};
 ghost use Rattle.std.specs.Cmp.Lexicographic.{slice_cmp};
 ghost use Rattle.std.specs.FinMap.{is_sorted};
-ghost use Rattle.std.specs.List.{AllByRecursion};
+ghost use Rattle.std.specs.List.{AllByRecursion, AllWithin, HoldsAt};
+ghost use Rattle.std.specs.List.Sorted.{IsSearchInRange};
 ghost use Rattle.std.specs.Option.{option_copied};
 ghost use Rattle.std.specs.Ordering.{nat_cmp};
 ghost use Rattle.cns_terms.specs.Keys.{key_cmp};
 ghost use Rattle.cns_sheets.specs.Build.{AreBalanced, AreFew, HasSmallCents, prices_of, rows_from, sheet_from};
+ghost use Rattle.cns_book.specs.Dated.{AreFalling, IsAfter, is_dated, sheet_on};
 
 use cns_positions::Positions;
 use cns_prices::Prices;
@@ -17,7 +20,8 @@ use std::alloc::Allocator;
 use std::marker::Model;
 use std::sync::Arc;
 
-/// The sheets of the closed days, each shared and never changed. Contracts see them from the newest back.
+/// The sheets of the closed days, each shared and never changed, in the order of their dates. Contracts see them from
+/// the newest back.
 #[derive(Drop)]
 pub struct ClosedDays<A: Allocator + Drop + Clone> {
     alloc: A,
@@ -28,10 +32,26 @@ impl<A: Allocator + Drop + Clone> Model for ClosedDays<A> {
     ghost use Rattle.std.specs.Prelude.{List, map, reverse};
     ghost use Rattle.std.specs.Arc.{arc_value};
     ghost use Rattle.cns_terms.specs.Sheets.{DaySheet};
+    ghost use Rattle.cns_book.specs.Dated.{AreFalling};
 
     ghost Value = { List DaySheet };
 
     ghost view = { λ d. reverse (map arc_value d.sheets.items) };
+
+    ghost invariant = { λ d. AreFalling (reverse (map arc_value d.sheets.items)) };
+}
+
+// Where the sheet of the day with the date stands.
+fn place<A: Allocator + Drop + Clone>(
+    sheets: &[Arc<Sheet<A>, A>],
+    date: Day,
+) -> Result<usize, usize>
+    requires { AreFalling (reverse (map arc_value sheets.now)) }
+    ensures bound { IsSearchInRange result (length sheets.now) }
+    ensures found { IfOk result (HoldsAt (λ a. is_dated date (arc_value a) ≡ true) sheets.now) }
+    ensures absent { IfErr result (λ _. AllWithin (λ a. is_dated date (arc_value a) ≡ false) sheets.now 0 (length sheets.now)) }
+{
+    sheets.binary_search_by_key(&date, |sheet| sheet.date())
 }
 
 impl<A: Allocator + Drop + Clone> ClosedDays<A> {
@@ -55,6 +75,16 @@ impl<A: Allocator + Drop + Clone> ClosedDays<A> {
         }
     }
 
+    /// The sheet of the closed day with the date; None where no closed day has it.
+    pub fn find(&self, date: Day) -> Option<&Arc<Sheet<A>, A>>
+        ensures { option_map arc_value (option_copied result) ≡ sheet_on self.now date }
+    {
+        match place(self.sheets.as_slice(), date) {
+            Ok(at) => Some(&self.sheets[at]),
+            Err(_) => None,
+        }
+    }
+
     /// The sheet that a close cuts now. Where memory is refused nothing has changed.
     pub fn cut<P: Positions<B>, B>(
         &self,
@@ -74,6 +104,7 @@ impl<A: Allocator + Drop + Clone> ClosedDays<A> {
 
     /// Keeps the sheet of a day that is closed. Where memory is refused the days stay as they were.
     pub fn keep(&mut self, sheet: Sheet<A>) -> Result<(), NoMemory>
+        requires { IsAfter sheet.date self.old }
         ensures ok { OnOk result (self.new ≡ sheet ∷ self.old) }
         ensures err { OnErr result (self.new ≡ self.old) }
     {

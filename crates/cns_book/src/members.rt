@@ -1,54 +1,60 @@
 // The members.
 ghost use Rattle.std.specs.Prelude.{◌≡◌, ℕ, ◌||◌, ◌==◌, OnOk, OnErr, false};
-ghost use Rattle.cns_trades.specs.References.{has};
+ghost use Rattle.cns_book.specs.Marks.{is_marked};
 
 use cns_terms::NoMemory;
 use cns_units::Account;
 use std::alloc::Allocator;
-use std::collections::BTreeSet;
 use std::marker::Model;
 
-/// The accounts of the members.
+/// The accounts of the members: a mark at each account's number, up to the highest member's.
+///
+/// Every trade asks for two members, and there are at most 9,999.
 #[derive(Drop)]
 pub struct Members<A: Allocator + Drop> {
-    accounts: BTreeSet<Account, A>,
+    marks: Vec<bool, A>,
 }
 
 impl<A: Allocator + Drop> Model for Members<A> {
-    ghost use Rattle.std.specs.Prelude.{List, ℕ};
+    ghost use Rattle.std.specs.Prelude.{List, Bool};
 
-    ghost Value = { List ℕ };
+    ghost Value = { List Bool };
 
-    ghost view = { λ m. m.accounts.keys };
+    ghost view = { λ m. m.marks.items };
 }
 
 impl<A: Allocator + Drop> Members<A> {
     /// There is no member yet.
     pub fn new(alloc: A) -> Self
-        ensures { (m : ℕ) → has result m ≡ false }
+        ensures { (m : ℕ) → is_marked result m ≡ false }
     {
         Members {
-            accounts: BTreeSet::new(alloc),
+            marks: Vec::new(alloc),
         }
     }
 
     /// Whether the account is a member's.
     pub fn contains(&self, account: Account) -> bool
-        ensures { result ≡ has self.now account }
+        ensures { result ≡ is_marked self.now account }
     {
-        self.accounts.contains(&account)
+        match self.marks.as_slice().get(account.value() as usize) {
+            Some(is_member) => *is_member,
+            None => false,
+        }
     }
 
     /// Adds a member's account. Where memory is refused the members stay as they were.
     pub fn insert(&mut self, account: Account) -> Result<(), NoMemory>
-    where
-        A: Clone,
-        ensures ok { OnOk result ((m : ℕ) → has self.new m ≡ ((account == m) || has self.old m)) }
+        ensures ok { OnOk result ((m : ℕ) → is_marked self.new m ≡ ((account == m) || is_marked self.old m)) }
         ensures err { OnErr result (self.new ≡ self.old) }
     {
-        let Ok(_) = self.accounts.insert(account) else {
-            return Err(NoMemory);
-        };
+        let place = account.value() as usize;
+        if self.marks.len() <= place {
+            let Ok(()) = self.marks.resize(place + 1, false) else {
+                return Err(NoMemory);
+            };
+        }
+        self.marks[place] = true;
         Ok(())
     }
 }

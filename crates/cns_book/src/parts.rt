@@ -1,6 +1,7 @@
 // What the accepted activities amount to, part by part.
-ghost use Rattle.std.specs.Prelude.{◌≡◌, List, Option, Some, None, if◌then◌else◌, ◌≤◌, ◌^◌, unsigned_abs, IfOk, [], length, ◌<◌, ◌+◌};
-ghost use Rattle.std.specs.Option.{ForSome};
+ghost use Rattle.std.specs.Prelude.{◌≡◌, List, Option, Some, None, option_map, if◌then◌else◌, ◌≤◌, ◌^◌, unsigned_abs, IfOk, [], length, ◌<◌, ◌+◌};
+ghost use Rattle.std.specs.Arc.{arc_value};
+ghost use Rattle.std.specs.Option.{ForSome, option_copied};
 ghost use Rattle.cns_terms.specs.Refusals.{refusal};
 ghost use Rattle.cns_terms.specs.Positions.{position};
 ghost use Rattle.cns_terms.specs.Days.{date, day};
@@ -10,18 +11,21 @@ ghost use Rattle.cns_terms.specs.Listings.{is_account, is_listed, is_member, is_
 ghost use Rattle.cns_terms.specs.Entries.{journal};
 ghost use Rattle.cns_terms.specs.Machine.{answer_to, holding};
 ghost use Rattle.cns_positions.specs.Rows.{holding_at};
-ghost use Rattle.cns_book.specs.Shown.{holding_shown, price_listed};
+ghost use Rattle.cns_book.specs.Dated.{sheet_on};
+ghost use Rattle.cns_book.specs.Shown.{holding_shown, price_listed, sheet_shown};
 ghost use Rattle.cns_book.specs.Follows.{AreSmall, Follows, HasRoom, IsReached, Steps};
 
 use crate::closed_days::ClosedDays;
 use crate::members::Members;
 use cns_positions::Positions;
 use cns_prices::Prices;
+use cns_sheets::Sheet;
 use cns_terms::{Activity, Command, Holding, Key, NoMemory, Refusal, Reply};
 use cns_trades::Trades;
 use cns_units::{Account, Cusip, Day, Member, Price};
 use std::alloc::Allocator;
 use std::marker::Model;
+use std::sync::Arc;
 
 mod closing;
 mod listing;
@@ -170,6 +174,27 @@ impl<P: Positions<A>, A: Allocator + Drop + Clone> Parts<P, A> {
         }
     }
 
+    /// The sheet of the closed day with the date; None where no closed day has it.
+    pub fn sheet(&self, date: Day) -> Option<&Arc<Sheet<A>, A>>
+        ensures now { option_map arc_value (option_copied result) ≡ sheet_on self.now.sheets date }
+        ensures value { (L : List Activity) → Follows L self.now → option_map arc_value (option_copied result) ≡ sheet_shown self.now.opening (journal self.now.opening L) date }
+    {
+        self.closed.find(date)
+    }
+
+    /// STATEMENT.
+    pub fn statement(&self, account: Account, date: Day) -> Reply
+        ensures { (L : List Activity) → Follows L self.now → IsReached self.now.opening L → result ≡ answer_to self.now.opening L (command.Statement account date) }
+    {
+        if !self.is_account(account) {
+            return Reply::Refused(Refusal::NoSuchMember);
+        }
+        match self.sheet(date) {
+            Some(sheet) => Reply::Stated(sheet.stated(account)),
+            None => Reply::Refused(Refusal::NoSuchDay),
+        }
+    }
+
     // An activity, refused or accepted.
     fn act(&mut self, activity: &Activity) -> Result<Reply, NoMemory>
         requires { HasRoom self.old }
@@ -196,6 +221,7 @@ impl<P: Positions<A>, A: Allocator + Drop + Clone> Parts<P, A> {
         match command {
             Command::Activity(activity) => self.act(activity),
             Command::Position(key) => Ok(self.position(*key)),
+            Command::Statement { account, date } => Ok(self.statement(*account, *date)),
         }
     }
 }

@@ -1,5 +1,4 @@
 pub mod DigitLemmas
 pub mod RecordLemmas
-pub mod TextLemmas
 pub mod FeedLemmas
 pub mod PlayLemmas

@@ -151,6 +151,13 @@ position_line fields = counted 3 fields (do
   issue ← cusip_at fields 2
   Ok (command.Position (record { account = account; issue = issue })))
 
+-- STATEMENT: an account and a closed day's date
+unfoldable pub statement_line : Record → Result Command LineFault
+statement_line fields = counted 3 fields (do
+  account ← account_at fields 1
+  date ← date_at fields 2
+  Ok (command.Statement account date))
+
 -- the command of a record by its kind, or the first fault: the kind, the count of fields, the fields from left to right
 unfoldable pub line_of : Record → Result Command LineFault
 line_of fields =
@@ -163,4 +170,5 @@ line_of fields =
     else if bytes_eq kind (codes "RECEIVE") then receive_line fields
     else if bytes_eq kind (codes "CLOSE") then close_line fields
     else if bytes_eq kind (codes "POSITION") then position_line fields
+    else if bytes_eq kind (codes "STATEMENT") then statement_line fields
     else Err fault.Kind

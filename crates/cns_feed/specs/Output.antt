@@ -1,11 +1,17 @@
 -- What a replay makes of records: their outcomes and the text that is written.
-use Rattle.std.specs.Prelude.{◌≡◌, ℕ, Bool, true, false, count_by, List, [], ◌∷◌, ◌++◌, Result, Ok, Err}
+use Rattle.std.specs.Prelude.{◌≡◌, ℕ, Bool, true, false, count_by, List, [], ◌∷◌, ◌++◌, Result, Ok, Err, unwrap_or}
 use Rattle.csv.specs.Reading.{records, default_config, strip_bom}
 use Rattle.cns_units.specs.declared.day.Day.{Day}
 use Rattle.cns_terms.specs.declared.command.Command.{Command}
 use Rattle.cns_terms.specs.declared.reply.Reply.{Reply}
 use Rattle.cns_terms.specs.declared.reply.Reply.TheVariants as reply
+use Rattle.cns_terms.specs.declared.sheet.Row.{Row}
+use Rattle.cns_terms.specs.Days.{closed_on}
+use Rattle.cns_terms.specs.Laws.{journal_of}
 use Rattle.cns_terms.specs.Machine.{State, opened, answer, next}
+use Rattle.cns_terms.specs.Sheets.{sheet_rows}
+use Rattle.cns_sheets.specs.Build.{rows_for}
+use Rattle.cns_statements.specs.Texts.{rows_text}
 use Rattle.cns_feed.specs.Line.{Record, line_of}
 use Rattle.cns_feed.specs.Text.{reply_line, fault_line}
 use Rattle.cns_feed.specs.declared.fault.LineFault.{LineFault}
@@ -31,14 +37,19 @@ state_after_line S (Err f) = S
 abbrev pub step_state : State → Record → State
 step_state S fields = state_after_line S (line_of fields)
 
--- what is written for an outcome
-abbrev pub outcome_text : Outcome → List ℕ
-outcome_text (outcome.Replied r) = reply_line r
-outcome_text (outcome.AtFault f) = fault_line f
+-- the rows of the statement that a reply tells of: the account's, on the sheet of the closed day with the date
+abbrev pub rows_told : State → Reply → List Row
+rows_told S (reply.Stated s) = rows_for (sheet_rows S.opening (unwrap_or (closed_on S.opening (journal_of S) s.date) [])) s.account
+rows_told S _ = []
+
+-- what is written for an outcome, in the state after it: a statement's rows follow its first line
+abbrev pub outcome_text : State → Outcome → List ℕ
+outcome_text S (outcome.Replied r) = reply_line r ++ rows_text (rows_told S r)
+outcome_text S (outcome.AtFault f) = fault_line f
 
 -- what is written for a record in a state
 abbrev pub step_text : State → Record → List ℕ
-step_text S fields = outcome_text (step_outcome S fields)
+step_text S fields = outcome_text (step_state S fields) (step_outcome S fields)
 
 -- the state after records, in order
 unfoldable pub state_after : State → List Record → State

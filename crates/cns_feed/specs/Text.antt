@@ -1,7 +1,6 @@
 -- The texts of replies and of records at fault.
 use Rattle.std.specs.Prelude.{ℕ, ◌∷◌, ◌++◌, [], List, codes}
 use Rattle.std.specs.Fmt.{decimal, signed_decimal}
-use Rattle.std.specs.List.{flat_map}
 use Rattle.cns_units.specs.Cents.{cents_text}
 use Rattle.cns_units.specs.Day.{day_text}
 use Rattle.cns_terms.specs.Numbers.{refusal_number}
@@ -12,30 +11,10 @@ use Rattle.cns_terms.specs.declared.refusal.Refusal.TheVariants as refusal
 use Rattle.cns_terms.specs.declared.reply.Closed.{Closed}
 use Rattle.cns_terms.specs.declared.reply.Reply.{Reply}
 use Rattle.cns_terms.specs.declared.reply.Reply.TheVariants as reply
+use Rattle.cns_statements.specs.Texts.{stated_line}
+use Rattle.cns_statements.specs.Words.{text_line}
 use Rattle.cns_feed.specs.declared.fault.LineFault.{LineFault}
 use Rattle.cns_feed.specs.declared.fault.LineFault.TheVariants as fault
-use Rattle.cns_feed.specs.declared.text.Word.{Word}
-use Rattle.cns_feed.specs.declared.text.Word.TheVariants as word
-
--- the text of a word: plain decimal, cents with a point, dates as `YYYY-MM-DD`
-abbrev pub word_text : Word → List ℕ
-word_text (word.Text t) = t.now
-word_text (word.Number n) = decimal n
-word_text (word.Signed z) = signed_decimal z
-word_text (word.Amount z) = cents_text z
-word_text (word.Date d) = day_text d
-
--- words, each after a space
-abbrev pub words_text : List Word → List ℕ
-words_text words = flat_map (λ w. 32 ∷ word_text w) words
-
--- a first word and words, each after a space, and a line feed
-abbrev pub words_line : List ℕ → List Word → List ℕ
-words_line first others = first ++ (words_text others ++ 10 ∷ [])
-
--- the same of the words' texts
-abbrev pub text_line : List ℕ → List (List ℕ) → List ℕ
-text_line first others = first ++ (flat_map (λ w. 32 ∷ w) others ++ 10 ∷ [])
 
 -- `closed DAY DATE ROWS LIABLE`
 abbrev pub closed_line : Closed → List ℕ
@@ -61,6 +40,7 @@ abbrev pub reply_line : Reply → List ℕ
 reply_line reply.Accepted = text_line (codes "ok") []
 reply_line (reply.Closed c) = closed_line c
 reply_line (reply.Held k h) = held_line k h
+reply_line (reply.Stated s) = stated_line s
 reply_line (reply.Refused r) = refused_line r
 
 -- the name of a line fault

@@ -3,7 +3,7 @@ ghost use Rattle.std.specs.Prelude.{◌≡◌};
 ghost use Rattle.csv.specs.Records.{fields_of};
 ghost use Rattle.cns_feed.specs.Digits.{in_range};
 ghost use Rattle.cns_feed.specs.Line.{field, member_at, account_at, reference_at, shares_at, money_at, price_at, cusip_at, date_at};
-ghost use Rattle.cns_feed.specs.Line.{member_line, listing_at, issue_line, price_line, trade_line, movement_at, deliver_line, receive_line, close_line, position_line, line_of};
+ghost use Rattle.cns_feed.specs.Line.{member_line, listing_at, issue_line, price_line, trade_line, movement_at, deliver_line, receive_line, close_line, position_line, statement_line, line_of};
 
 use crate::digits::{number_of, short_number_of};
 use crate::fault::LineFault;
@@ -218,6 +218,18 @@ fn position_of(row: &ByteRecord) -> Result<Command, LineFault>
     Ok(Command::Position(Key { account, issue }))
 }
 
+#[tactic(auto, unfolding(crate::specs::Line::statement_line))]
+fn statement_of(row: &ByteRecord) -> Result<Command, LineFault>
+    ensures { result ≡ statement_line (fields_of row.now) }
+{
+    if row.len() != 3 {
+        return Err(LineFault::Count);
+    }
+    let account = account(row, 1)?;
+    let date = date(row, 2)?;
+    Ok(Command::Statement { account, date })
+}
+
 /// The command of a record, or its first fault: the kind, the count of fields, and then the fields from left to right.
 ///
 /// The first field is the kind. No field takes memory to read, so `NoMemory` never comes.
@@ -242,6 +254,8 @@ pub fn command_of(row: &ByteRecord) -> Result<Command, LineFault>
         close_of(row)
     } else if kind == b"POSITION".as_slice() {
         position_of(row)
+    } else if kind == b"STATEMENT".as_slice() {
+        statement_of(row)
     } else {
         Err(LineFault::Kind)
     }

@@ -1,9 +1,9 @@
 // What a record comes to.
-ghost use Rattle.std.specs.Prelude.{◌≡◌, ◌++◌, IfOk, IfErr, OnOk};
+ghost use Rattle.std.specs.Prelude.{◌≡◌, IfOk, IfErr, OnOk};
 ghost use Rattle.csv.specs.Records.{fields_of};
 ghost use Rattle.cns_units.specs.Output.{Writes};
 ghost use Rattle.cns_book.specs.Log.{state_of};
-ghost use Rattle.cns_feed.specs.Output.{step_outcome, outcome_text};
+ghost use Rattle.cns_feed.specs.Output.{step_outcome, outcome_text, rows_told};
 ghost use Rattle.cns_feed.specs.Replay.{IsSilent, step_log};
 
 use crate::fault::{LineFault, ReplayFault};
@@ -11,7 +11,8 @@ use crate::line::command_of;
 use crate::text::{reply_text, write_fault};
 use cns_book::{Book, TakeFault};
 use cns_positions::FlatPositions;
-use cns_terms::{Reply, Worker};
+use cns_statements::write_rows;
+use cns_terms::{Reply, Row, Worker};
 use cns_units::WriteFault;
 use csv::ByteRecord;
 use std::alloc::Global;
@@ -45,12 +46,32 @@ pub(crate) fn take_record(book: &mut ReplayBook, row: &ByteRecord) -> Result<Out
     }
 }
 
-// Writes the text of an outcome.
-pub(crate) fn write_outcome<W: Write>(outcome: &Outcome, writer: &mut W) -> Result<(), WriteFault>
-    ensures { Writes (W.contents writer.old) (W.contents writer.new) (outcome_text outcome.now) result }
+// The rows of the statement that a reply tells of; none of another reply.
+fn rows_told<'a>(book: &'a ReplayBook, reply: &Reply) -> &'a [Row]
+    ensures { result.now ≡ rows_told (state_of book.now) reply.now }
+{
+    let Reply::Stated(stated) = reply else {
+        return &[];
+    };
+    match book.sheet(stated.date) {
+        Some(sheet) => sheet.rows_of(stated.account),
+        None => &[],
+    }
+}
+
+// Writes the text of an outcome, with the book as it was left.
+pub(crate) fn write_outcome<W: Write>(
+    book: &ReplayBook,
+    outcome: &Outcome,
+    writer: &mut W,
+) -> Result<(), WriteFault>
+    ensures { Writes (W.contents writer.old) (W.contents writer.new) (outcome_text (state_of book.now) outcome.now) result }
 {
     match outcome {
-        Outcome::Replied(reply) => reply_text(reply, writer),
+        Outcome::Replied(reply) => {
+            reply_text(reply, writer)?;
+            write_rows(rows_told(book, reply), writer)
+        }
         Outcome::AtFault(fault) => write_fault(*fault, writer),
     }
 }

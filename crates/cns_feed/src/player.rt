@@ -31,7 +31,7 @@ fn play<W: Write>(
     ensures err { IfErr result (λ e. Leaves e (W.contents writer.old) (W.contents writer.new) (step_text (state_of book.old) (fields_of row.now))) }
 {
     let outcome = take_record(book, row)?;
-    match write_outcome(&outcome, writer) {
+    match write_outcome(book, &outcome, writer) {
         Ok(()) => Ok(outcome),
         Err(_) => Err(ReplayFault::Write),
     }

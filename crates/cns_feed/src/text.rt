@@ -3,63 +3,13 @@ ghost use Rattle.std.specs.Prelude.{◌≡◌, ◌∷◌, []};
 ghost use Rattle.std.specs.Fmt.{decimal};
 ghost use Rattle.std.specs.Option.{option_map_or};
 ghost use Rattle.cns_units.specs.Output.{Writes};
-ghost use Rattle.cns_feed.specs.Text.{word_text, words_text, words_line, closed_line, held_line, refusal_detail, refused_line, reply_line, fault_name, fault_line};
+ghost use Rattle.cns_feed.specs.Text.{closed_line, held_line, refusal_detail, refused_line, reply_line, fault_name, fault_line};
 
 use crate::fault::LineFault;
+use cns_statements::{Word, write_line, write_stated};
 use cns_terms::{Closed, Holding, Key, Refusal, Reply};
-use cns_units::{Cents, Day, WriteFault, write_bytes, write_cents, write_day};
-use itoa::Buffer;
+use cns_units::{Cents, WriteFault, write_bytes};
 use std::io::Write;
-
-// A word of a line.
-#[derive(Clone, Copy)]
-pub(crate) enum Word<'a> {
-    Text(&'a [u8]),
-    Number(u64),
-    Signed(i64),
-    Amount(Cents),
-    Date(Day),
-}
-
-fn write_word<W: Write>(word: &Word<'_>, writer: &mut W) -> Result<(), WriteFault>
-    ensures { Writes (W.contents writer.old) (W.contents writer.new) (word_text word.now) result }
-{
-    let mut buffer = Buffer::new();
-    match word {
-        Word::Text(text) => write_bytes(text, writer),
-        Word::Number(number) => write_bytes(buffer.format(*number).as_bytes(), writer),
-        Word::Signed(number) => write_bytes(buffer.format(*number).as_bytes(), writer),
-        Word::Amount(cents) => write_cents(*cents, writer),
-        Word::Date(day) => write_day(*day, writer),
-    }
-}
-
-// A space and a word.
-fn write_next<W: Write>(word: &Word<'_>, writer: &mut W) -> Result<(), WriteFault>
-    ensures { Writes (W.contents writer.old) (W.contents writer.new) (32 ∷ word_text word.now) result }
-{
-    write_bytes(b" ", writer)?;
-    write_word(word, writer)
-}
-
-// Each word after a space.
-fn write_words<W: Write>(words: &[Word<'_>], writer: &mut W) -> Result<(), WriteFault>
-    ensures { Writes (W.contents writer.old) (W.contents writer.new) (words_text words.now) result }
-{
-    for word in words {
-        write_next(word, writer)?;
-    }
-    Ok(())
-}
-
-// A line: words with a space between, and a line feed.
-fn write_line<W: Write>(first: &[u8], others: &[Word<'_>], writer: &mut W) -> Result<(), WriteFault>
-    ensures { Writes (W.contents writer.old) (W.contents writer.new) (words_line first.now others.now) result }
-{
-    write_bytes(first, writer)?;
-    write_words(others, writer)?;
-    write_bytes(b"\n", writer)
-}
 
 fn write_closed<W: Write>(closed: &Closed, writer: &mut W) -> Result<(), WriteFault>
     ensures { Writes (W.contents writer.old) (W.contents writer.new) (closed_line closed.now) result }
@@ -81,7 +31,7 @@ fn write_held<W: Write>(key: &Key, holding: &Holding, writer: &mut W) -> Result<
         Word::Text(key.issue.bytes()),
         Word::Signed(holding.now),
         Word::Signed(holding.opening),
-        Word::Amount(Cents::new(holding.contract).unwrap()),
+        Word::Amount(Cents::of(holding.contract)),
         Word::Number(u64::from(holding.run)),
     ];
     write_line(b"position", &words, writer)
@@ -118,6 +68,7 @@ pub fn reply_text<W: Write>(reply: &Reply, writer: &mut W) -> Result<(), WriteFa
         Reply::Accepted => write_bytes(b"ok\n", writer),
         Reply::Closed(closed) => write_closed(closed, writer),
         Reply::Held(key, holding) => write_held(key, holding, writer),
+        Reply::Stated(stated) => write_stated(stated, writer),
         Reply::Refused(refusal) => write_refused(*refusal, writer),
     }
 }

@@ -32,7 +32,7 @@ kept : (b : Bool) (x : Key × Holding) (xs ys : Rows) → xs ≡ ys → cond b (
 kept b x xs ys e = ap (λ zs. cond b (x ∷ zs) zs) e
 
 -- past a row that was given, it makes no odds from where one began
-same_past : (after : Option Key) (k : Key) (es : Rows) → is_above after k ≡ true → below_all key_cmp k es ≡ true → held_above es after ≡ held_above es (Some k)
+pub same_past : (after : Option Key) (k : Key) (es : Rows) → is_above after k ≡ true → below_all key_cmp k es ≡ true → held_above es after ≡ held_above es (Some k)
 same_past after k [] a b = refl
 same_past after k (e ∷ es) a b =
     let l : key_cmp k e.0 ≡ Less = less _ (and_left _ _ b) in

@@ -64,7 +64,8 @@ at_tied false es k q v t e = refl
 pub entered : (es : Rows) (k : Key) → find key_cmp k es ≡ None → (q : Key) → holding_at (put key_cmp k zeros es) q ≡ holding_at es q
 entered es k none q = holding_put es k zeros q ∙ at_tied _ es k q zeros refl (ap (λ o. unwrap_or o zeros) none)
 
-add_zero : (n : ℤ) → n +ℤ pos 0 ≡ n
+-- nothing added
+pub add_zero : (n : ℤ) → n +ℤ pos 0 ≡ n
 add_zero n = omega (arith, ints)
 
 -- shares and cents booked in a holding

@@ -1,6 +1,7 @@
-use Rattle.std.specs.Prelude.{◌≡◌, true, List, Option, Contains}
-use Rattle.std.specs.List.{filter_map}
+use Rattle.std.specs.Prelude.{◌≡◌, ℕ, true, List, [], Option, Contains, filter_map, flat_map, map, slice_index_or}
+use Rattle.std.specs.List.{AllByRecursion}
 use Rattle.std.specs.FinMap.{is_sorted}
+use Rattle.std.specs.declared.vec.Vec.{Vec}
 use Rattle.cns_terms.specs.declared.holding.Key.{Key}
 use Rattle.cns_terms.specs.declared.holding.Holding.{Holding}
 use Rattle.cns_positions.specs.Rows.{Rows}
@@ -16,7 +17,28 @@ pub record Contents : Type 0 where
 abbrev pub keys_of : List (Option Key) → List Key
 keys_of ks = filter_map (λ k. k) ks
 
--- the keys rise, and each prepared key has a row
-pub record IsFlat (rows : Rows) (prepared : List (Option Key)) : Type 0 where
+-- each account's rows, at the account's number
+abbrev pub lists_of : {Z : Type 0} → List (Vec (Key × Holding) Z) → List Rows
+lists_of accounts = map (λ v. v.items) accounts
+
+-- the rows of the accounts, one account's after another's
+abbrev pub joined : List Rows → Rows
+joined lists = flat_map (λ rows. rows) lists
+
+-- each row is the account's
+abbrev pub AreOf : ℕ → Rows → Type 0
+AreOf account rows = AllByRecursion (λ (r : Key × Holding). r.0.account ≡ account) rows
+
+-- the account's rows, in the order of their keys
+pub record IsAccount (account : ℕ) (rows : Rows) : Type 0 where
   pub sorted : is_sorted key_cmp rows ≡ true
-  pub entered : (k : Key) → Contains (keys_of prepared) k → has_row rows k ≡ true
+  pub own : AreOf account rows
+
+-- each list has the rows of the account that it stands at
+abbrev pub AreAccounts : List Rows → Type 0
+AreAccounts lists = (n : ℕ) → IsAccount n (slice_index_or lists n [])
+
+-- each list has its account's rows, and each prepared key has a row
+pub record IsFlat (lists : List Rows) (prepared : List (Option Key)) : Type 0 where
+  pub accounts : AreAccounts lists
+  pub entered : (k : Key) → Contains (keys_of prepared) k → has_row (joined lists) k ≡ true

@@ -1,189 +1,182 @@
-// Positions in a sorted vector.
-ghost use Rattle.std.specs.Prelude.{◌≡◌, ℕ, ◌≤◌, ◌<◌, ◌+◌, ◌-◌, ◌+ℤ◌, List, [], ◌∷◌, length, OnOk, OnErr, IfOk, IfErr, MatchOption, FitsSigned, vec_len, vec_capacity, is_some, true, Some, slice_index_or, take};
-ghost use Rattle.cns_positions.specs.Rows.{holding_at, booked, entry_of, rolled, held_above, is_above, is_held};
-ghost use Rattle.cns_terms.specs.Keys.{key_cmp};
-ghost use Rattle.cns_positions.specs.Placed.{has_row, closed_rows};
-ghost use Rattle.cns_terms.specs.declared.holding.Holding.{Holding};
-ghost use Rattle.cns_terms.specs.declared.holding.Key.{Key};
+// Positions in a sorted list of rows for each account.
+ghost use Rattle.std.specs.Prelude.{◌≡◌, ℕ, ◌≤◌, ◌<◌, ◌+◌, ◌+ℤ◌, List, [], ◌∷◌, ◌++◌, length, map, max, OnOk, IfOk, MatchOption, FitsSigned, vec_len, true, slice_index_or, Contains};
 ghost use Rattle.std.specs.Int.{w64, w128};
 ghost use Rattle.std.specs.FinMap.{is_sorted};
-ghost use Rattle.std.specs.List.{HoldsAt};
-ghost use Rattle.std.specs.List.Sorted.{IsSearchInRange, IsPartitionPoint};
-ghost use Rattle.std.specs.declared.cmp.Ordering.{Ordering};
+ghost use Rattle.cns_terms.specs.Keys.{key_cmp};
+ghost use Rattle.cns_terms.specs.declared.holding.Holding.{Holding};
+ghost use Rattle.cns_terms.specs.declared.holding.Key.{Key};
+ghost use Rattle.cns_positions.specs.Rows.{holding_at, booked, entry_of};
+ghost use Rattle.cns_positions.specs.Placed.{has_row, closed_rows};
+ghost use Rattle.cns_positions.specs.Flat.{AreAccounts, joined, keys_of, lists_of};
 
+use crate::account::{book, close_all, enter, first_held, standing};
 use crate::positions::{Positions, Row};
 use arrayvec::ArrayVec;
 use cns_terms::{Holding, Key, NoMemory};
+use cns_units::Account;
 use std::alloc::Allocator;
 use std::marker::Model;
 
-/// Positions in a vector of rows in the order of their keys. Each prepared key has a row.
+/// Positions in a list of rows for each account, which stands at the account's number.
+///
+/// A list is in the order of its keys. The lists end at the highest account that has had a row, and each prepared key
+/// has a row.
 #[derive(Drop)]
 pub struct FlatPositions<A: Allocator + Drop> {
-    rows: Vec<Row, A>,
+    accounts: Vec<Vec<Row, A>, A>,
     prepared: ArrayVec<Option<Key>, 4>,
 }
 
 impl<A: Allocator + Drop> Model for FlatPositions<A> {
-    ghost use Rattle.cns_positions.specs.Flat.{Contents, IsFlat, keys_of};
+    ghost use Rattle.cns_positions.specs.Flat.{Contents, IsFlat, joined, keys_of, lists_of};
 
     ghost Value = { Contents };
 
-    ghost view = { λ a. record { rows = a.rows.items; prepared = keys_of a.prepared.items } };
+    ghost view = { λ a. record { rows = joined (lists_of a.accounts.items); prepared = keys_of a.prepared.items } };
 
-    ghost invariant = { λ a. IsFlat a.rows.items a.prepared.items };
+    ghost invariant = { λ a. IsFlat (lists_of a.accounts.items) a.prepared.items };
 }
 
-// Where the key's row is, or where it would go.
-fn place(rows: &[Row], key: Key) -> Result<usize, usize>
-    requires { is_sorted key_cmp rows.now ≡ true }
-    ensures bound { IsSearchInRange result (length rows.now) }
-    ensures found { IfOk result (HoldsAt (λ r. key_cmp r.0 key ≡ Ordering.Equal) rows.now) }
-    ensures absent { IfErr result (IsPartitionPoint (λ r. key_cmp r.0 key ≡ Ordering.Less) (λ r. key_cmp r.0 key ≡ Ordering.Greater) rows.now) }
+// The place of the account's rows.
+fn place_of(account: Account) -> usize
+    ensures { result ≡ account }
 {
-    rows.binary_search_by_key(&key, |row| row.0)
+    usize::from(account.value())
 }
 
-// What stands at a key.
-fn standing(rows: &[Row], key: Key) -> Holding
-    requires { is_sorted key_cmp rows.now ≡ true }
-    ensures { result ≡ holding_at rows.now key }
+// The first place of rows above a key; the very first where there is none to be above.
+fn first_place(after: Option<Key>) -> usize
+    ensures { MatchOption after (result ≡ 0) (λ k. result ≡ k.account) }
 {
-    match place(rows, key) {
-        Ok(at) => rows[at].1,
-        Err(_) => ZEROS,
+    match after {
+        Some(key) => place_of(key.account),
+        None => 0,
     }
 }
 
-// Gives the key a row of zeros where it has none, in room that is there.
-fn enter<A: Allocator + Drop>(rows: &mut Vec<Row, A>, key: Key)
-    requires sorted { is_sorted key_cmp rows.old.items ≡ true }
-    requires room { vec_len rows.old < vec_capacity rows.old }
-    ensures sorted { is_sorted key_cmp rows.new.items ≡ true }
-    ensures there { has_row rows.new.items key ≡ true }
-    ensures others { (k : Key) → has_row rows.old.items k ≡ true → has_row rows.new.items k ≡ true }
-    ensures same { (k : Key) → holding_at rows.new.items k ≡ holding_at rows.old.items k }
-    ensures len { vec_len rows.new ≤ vec_len rows.old + 1 }
-    ensures capacity { vec_capacity rows.old ≤ vec_capacity rows.new }
+// The rows at a place; none past the last.
+fn rows_at<A: Allocator + Drop>(accounts: &[Vec<Row, A>], place: usize) -> &[Row]
+    ensures { result.now ≡ slice_index_or (lists_of accounts.now) place [] }
 {
-    let row = (key, ZEROS);
-    match place(rows.as_slice(), row.0) {
-        Ok(_) => {}
-        Err(at) => {
-            let _ = rows.insert(at, row);
-        }
+    if place < accounts.len() {
+        accounts[place].as_slice()
+    } else {
+        &[]
     }
 }
 
-// A holding with shares and cents booked.
-fn with(holding: Holding, shares: i64, cents: i128) -> Holding
-    requires shares_fit { FitsSigned w64 (holding.now +ℤ shares) }
-    requires cents_fit { FitsSigned w128 (holding.contract +ℤ cents) }
-    ensures { result ≡ record holding { now = holding.now +ℤ shares; contract = holding.contract +ℤ cents } }
+// Makes empty lists up to a place, where there are none yet.
+fn open<A: Allocator + Drop + Clone>(
+    accounts: &mut Vec<Vec<Row, A>, A>,
+    place: usize,
+) -> Result<(), NoMemory>
+    requires { AreAccounts (lists_of accounts.old.items) }
+    ensures accounts { AreAccounts (lists_of accounts.new.items) }
+    ensures joined { joined (lists_of accounts.new.items) ≡ joined (lists_of accounts.old.items) }
+    ensures len { OnOk result (vec_len accounts.new ≡ max (vec_len accounts.old) (place + 1)) }
 {
-    Holding {
-        now: holding.now + shares,
-        opening: holding.opening,
-        contract: holding.contract + cents,
-        run: holding.run,
+    while accounts.len() <= place {
+        let rows = Vec::new(accounts.allocator().clone()?);
+        let Ok(()) = accounts.push(rows) else {
+            return Err(NoMemory);
+        };
+    }
+    Ok(())
+}
+
+// Gives the key a row of zeros where it has none.
+fn enter_key<A: Allocator + Drop + Clone>(
+    accounts: &mut Vec<Vec<Row, A>, A>,
+    key: Key,
+) -> Result<(), NoMemory>
+    requires { AreAccounts (lists_of accounts.old.items) }
+    ensures accounts { AreAccounts (lists_of accounts.new.items) }
+    ensures there { OnOk result (has_row (joined (lists_of accounts.new.items)) key ≡ true) }
+    ensures others { (k : Key) → has_row (joined (lists_of accounts.old.items)) k ≡ true → has_row (joined (lists_of accounts.new.items)) k ≡ true }
+    ensures same { (k : Key) → holding_at (joined (lists_of accounts.new.items)) k ≡ holding_at (joined (lists_of accounts.old.items)) k }
+{
+    let place = place_of(key.account);
+    open(accounts, place)?;
+    enter(&mut accounts[place], key)
+}
+
+// Gives each key a row of zeros where it has none.
+fn enter_all<A: Allocator + Drop + Clone>(
+    accounts: &mut Vec<Vec<Row, A>, A>,
+    keys: &[Key],
+) -> Result<(), NoMemory>
+    requires { AreAccounts (lists_of accounts.old.items) }
+    ensures accounts { AreAccounts (lists_of accounts.new.items) }
+    ensures there { OnOk result ((k : Key) → Contains keys.now k → has_row (joined (lists_of accounts.new.items)) k ≡ true) }
+    ensures others { (k : Key) → has_row (joined (lists_of accounts.old.items)) k ≡ true → has_row (joined (lists_of accounts.new.items)) k ≡ true }
+    ensures same { (k : Key) → holding_at (joined (lists_of accounts.new.items)) k ≡ holding_at (joined (lists_of accounts.old.items)) k }
+{
+    for key in keys {
+        enter_key(accounts, *key)?;
+    }
+    Ok(())
+}
+
+// The keys, as they are kept.
+fn kept(keys: &[Key]) -> ArrayVec<Option<Key>, 4>
+    requires { length keys.now ≤ 4 }
+    ensures { keys_of result.items ≡ keys.now }
+{
+    let mut kept = ArrayVec::new();
+    for key in keys {
+        kept.push(Some(*key));
+    }
+    kept
+}
+
+// Closes each account's rows.
+fn close_each<A: Allocator + Drop>(accounts: &mut Vec<Vec<Row, A>, A>)
+    ensures { lists_of accounts.new.items ≡ map closed_rows (lists_of accounts.old.items) }
+{
+    for place in 0..accounts.len() {
+        close_all(&mut accounts[place]);
     }
 }
 
 // Books shares and cents in the key's row.
-fn book<A: Allocator + Drop>(rows: &mut Vec<Row, A>, key: Key, shares: i64, cents: i128)
-    requires sorted { is_sorted key_cmp rows.old.items ≡ true }
-    requires there { has_row rows.old.items key ≡ true }
-    requires shares_fit { FitsSigned w64 ((holding_at rows.old.items key).now +ℤ shares) }
-    requires cents_fit { FitsSigned w128 ((holding_at rows.old.items key).contract +ℤ cents) }
-    ensures sorted { is_sorted key_cmp rows.new.items ≡ true }
-    ensures others { (k : Key) → has_row rows.old.items k ≡ true → has_row rows.new.items k ≡ true }
-    ensures booked { (k : Key) → holding_at rows.new.items k ≡ booked (entry_of key shares cents) k (holding_at rows.old.items k) }
+fn book_key<A: Allocator + Drop>(
+    accounts: &mut Vec<Vec<Row, A>, A>,
+    key: Key,
+    shares: i64,
+    cents: i128,
+)
+    requires accounts { AreAccounts (lists_of accounts.old.items) }
+    requires there { has_row (joined (lists_of accounts.old.items)) key ≡ true }
+    requires shares_fit { FitsSigned w64 ((holding_at (joined (lists_of accounts.old.items)) key).now +ℤ shares) }
+    requires cents_fit { FitsSigned w128 ((holding_at (joined (lists_of accounts.old.items)) key).contract +ℤ cents) }
+    ensures accounts { AreAccounts (lists_of accounts.new.items) }
+    ensures others { (k : Key) → has_row (joined (lists_of accounts.old.items)) k ≡ true → has_row (joined (lists_of accounts.new.items)) k ≡ true }
+    ensures booked { (k : Key) → holding_at (joined (lists_of accounts.new.items)) k ≡ booked (entry_of key shares cents) k (holding_at (joined (lists_of accounts.old.items)) k) }
 {
-    match place(rows.as_slice(), key) {
-        Ok(at) => {
-            let row = rows[at];
-            rows[at] = (row.0, with(row.1, shares, cents));
-        }
-        Err(_) => {}
+    let place = place_of(key.account);
+    if place < accounts.len() {
+        book(&mut accounts[place], key, shares, cents);
     }
 }
 
-const ZEROS: Holding = Holding {
-    now: 0,
-    opening: 0,
-    contract: 0,
-    run: 0,
-};
-
-const LONGEST_RUN: u32 = 4_294_967_295;
-
-// What a close makes of a holding.
-fn close(holding: Holding) -> Holding
-    ensures { result ≡ rolled holding }
+// Puts a row after all others.
+fn append<A: Allocator + Drop + Clone>(
+    accounts: &mut Vec<Vec<Row, A>, A>,
+    row: &Row,
+) -> Result<(), NoMemory>
+    requires accounts { AreAccounts (lists_of accounts.old.items) }
+    requires last { vec_len accounts.old ≤ row.now.0.account + 1 }
+    requires sorted { is_sorted key_cmp (joined (lists_of accounts.old.items) ++ row.now ∷ []) ≡ true }
+    ensures accounts { OnOk result (AreAccounts (lists_of accounts.new.items)) }
+    ensures joined { OnOk result (joined (lists_of accounts.new.items) ≡ joined (lists_of accounts.old.items) ++ row.now ∷ []) }
+    ensures len { OnOk result (vec_len accounts.new ≡ row.now.0.account + 1) }
 {
-    Holding {
-        now: holding.now,
-        opening: holding.now,
-        contract: 0,
-        run: if holding.now < 0 {
-            if holding.run < LONGEST_RUN {
-                holding.run + 1
-            } else {
-                LONGEST_RUN
-            }
-        } else {
-            0
-        },
-    }
-}
-
-// What a close makes of each row.
-fn close_all<A: Allocator + Drop>(rows: &mut Vec<Row, A>)
-    ensures { rows.new.items ≡ closed_rows rows.old.items }
-{
-    for i in 0..rows.len() {
-        let row = rows[i];
-        rows[i] = (row.0, close(row.1));
-    }
-}
-
-// Whether anything but zeros stands there.
-fn is_held(holding: Holding) -> bool
-    ensures { result ≡ is_held holding }
-{
-    holding.now != 0 || holding.opening != 0 || holding.contract != 0 || holding.run != 0
-}
-
-// Where the rows above a key begin; at the first row where there is none to be above.
-fn past(rows: &[Row], after: Option<Key>) -> usize
-    requires { is_sorted key_cmp rows.now ≡ true }
-    ensures bound { result ≤ length rows.now }
-    ensures none { held_above (take result rows.now) after ≡ [] }
-    ensures above { (k : ℕ) → result ≤ k → k < length rows.now → (d : Key × Holding) → is_above after (slice_index_or rows.now k d).0 ≡ true }
-{
-    let Some(key) = after else {
-        return 0;
+    let place = place_of(row.0.account);
+    open(accounts, place)?;
+    let Ok(()) = accounts[place].push(*row) else {
+        return Err(NoMemory);
     };
-    match place(rows, key) {
-        Ok(at) => at + 1,
-        Err(at) => at,
-    }
-}
-
-// The first row above a key that is not zeros.
-fn first_held(rows: &[Row], after: Option<Key>) -> Option<Row>
-    requires { is_sorted key_cmp rows.now ≡ true }
-    ensures { MatchOption result (held_above rows.now after ≡ []) (λ r. held_above rows.now after ≡ r ∷ held_above rows.now (Some r.0)) }
-{
-    let after = &after;
-    let start = past(rows, *after);
-    for place in start..rows.len() {
-        let row = rows[place];
-        if is_held(row.1) {
-            return Some(row);
-        }
-    }
-    None
+    Ok(())
 }
 
 impl<A: Allocator + Drop + Clone> Positions<A> for FlatPositions<A> {
@@ -193,42 +186,47 @@ impl<A: Allocator + Drop + Clone> Positions<A> for FlatPositions<A> {
 
     fn new(alloc: A) -> Self {
         FlatPositions {
-            rows: Vec::new(alloc),
+            accounts: Vec::new(alloc),
             prepared: ArrayVec::new(),
         }
     }
 
     fn get(&self, key: Key) -> Holding {
-        standing(self.rows.as_slice(), key)
+        let rows = rows_at(self.accounts.as_slice(), place_of(key.account));
+        standing(rows, key)
     }
 
     fn prepare(&mut self, keys: &[Key]) -> Result<(), NoMemory> {
-        self.rows.reserve(keys.len())?;
-        self.prepared.clear();
-        for key in keys {
-            enter(&mut self.rows, *key);
-            self.prepared.push(Some(*key));
-        }
+        enter_all(&mut self.accounts, keys)?;
+        self.prepared = kept(keys);
         Ok(())
     }
 
     fn add(&mut self, key: Key, shares: i64, cents: i128) {
-        book(&mut self.rows, key, shares, cents);
+        book_key(&mut self.accounts, key, shares, cents);
     }
 
     fn roll(&mut self) {
-        close_all(&mut self.rows);
+        close_each(&mut self.accounts);
     }
 
     fn next_row(&self, after: Option<Key>) -> Option<Row> {
-        first_held(self.rows.as_slice(), after)
+        let after = &after;
+        for place in first_place(*after)..self.accounts.len() {
+            if let Some(row) = first_held(self.accounts[place].as_slice(), *after) {
+                return Some(row);
+            }
+        }
+        None
     }
 
     fn rebuilt(&self, given: &[Row]) -> Result<Self, NoMemory> {
-        let mut rows = Vec::new(self.rows.allocator().clone()?);
-        rows.extend_from_slice(given)?;
+        let mut accounts = Vec::new(self.accounts.allocator().clone()?);
+        for row in given {
+            append(&mut accounts, row)?;
+        }
         Ok(FlatPositions {
-            rows,
+            accounts,
             prepared: ArrayVec::new(),
         })
     }

@@ -7,6 +7,7 @@
 //! `Positions`; `run` shows every form at work.
 #![tactic(auto)]
 
+mod account;
 mod flat;
 mod positions;
 mod steps;

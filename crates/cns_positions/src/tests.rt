@@ -71,12 +71,12 @@ fn steps_reply_what_stands_at_each_key(rt: HostRuntime) -> Result<(), Fail> {
     Ok(())
 }
 
-// Prepares a key, and books shares there where nothing stands yet.
-fn book(positions: &mut Flat, key: &Key, shares: i32) -> Result<(), Fail> {
+// Prepares a key, and books shares and cents there where nothing stands yet.
+fn book(positions: &mut Flat, key: &Key, shares: i32, cents: i32) -> Result<(), Fail> {
     positions.prepare(&[*key])?;
     let held = positions.get(*key);
     if held.now == 0 && held.contract == 0 {
-        positions.add(*key, i64::from(shares), 0);
+        positions.add(*key, i64::from(shares), i128::from(cents));
     }
     Ok(())
 }
@@ -86,7 +86,7 @@ fn rows_come_in_the_order_of_keys(rt: HostRuntime) -> Result<(), Fail> {
     let mut positions = Flat::new(rt.alloc());
     for account in [7, 3, 9, 1] {
         positions.prepare(&[key(5)?])?;
-        book(&mut positions, &key(account)?, 10)?;
+        book(&mut positions, &key(account)?, 10, 0)?;
     }
     let cases = [
         (None, Some(1)),
@@ -103,5 +103,37 @@ fn rows_come_in_the_order_of_keys(rt: HostRuntime) -> Result<(), Fail> {
         let found = positions.next_row(after);
         assert_eq!(rt; found.map(|row| row.0.account.value()), next);
     }
+    Ok(())
+}
+
+#[test]
+fn a_booking_stands_is_closed_and_is_rebuilt(rt: HostRuntime) -> Result<(), Fail> {
+    let mut positions = Flat::new(rt.alloc());
+    book(&mut positions, &key(1)?, 5, -10)?;
+    assert_eq!(rt; positions.get(key(1)?), holding(5, 0, -10, 0));
+    positions.roll();
+    assert_eq!(rt; positions.get(key(1)?), holding(5, 5, 0, 0));
+    let row = (key(1)?, holding(5, 5, 0, 0));
+    assert_eq!(rt; positions.next_row(None), Some(row));
+    let rebuilt = positions.rebuilt(&[row])?;
+    assert_eq!(rt; rebuilt.next_row(None), Some(row));
+    assert_eq!(rt; rebuilt.next_row(Some(key(1)?)), None);
+    Ok(())
+}
+
+#[test]
+fn a_thousand_accounts_come_in_order(rt: HostRuntime) -> Result<(), Fail> {
+    let mut positions = Flat::new(rt.alloc());
+    for below in 0..1000 {
+        book(&mut positions, &key(1000 - below)?, 1, 0)?;
+    }
+    let mut after = None;
+    for account in 1..=1000 {
+        let next = positions.next_row(after).map(|row| row.0);
+        assert_eq!(rt; next, Some(key(account)?));
+        after = next;
+    }
+    assert_eq!(rt; positions.next_row(after), None);
+    assert_eq!(rt; positions.get(key(500)?), holding(1, 0, 0, 0));
     Ok(())
 }

@@ -1,5 +1,5 @@
 -- Holdings of zeros make no rows.
-use Rattle.std.proofs.Common.{◌≡◌, ◌∙◌, sym, ap, refl, Bool, true, false, ◌&&◌, not, cond, List, [], ◌∷◌, map, filter, None, Option, pos, ◌==◌}
+use Rattle.std.proofs.Common.{◌≡◌, ◌∙◌, ap, refl, Bool, true, false, ◌&&◌, not, cond, [], ◌∷◌, map, filter, None, Option, pos, ◌==◌}
 use Rattle.std.specs.Ordering.{int_eq}
 use Rattle.std.specs.List.{AllByRecursion}
 use Rattle.cns_terms.specs.declared.holding.Holding.{Holding}
@@ -11,6 +11,7 @@ use Rattle.cns_positions.specs.Rows.{Rows, held_above, is_above, is_held}
 use Rattle.cns_prices.specs.Listed.{Listed}
 use Rattle.cns_sheets.specs.Build.{HasSmallCents, PriceList, row_from, rows_from}
 
+-- a holding of zeros makes a row that says nothing
 idle_bools : (now opening contract run : Bool) → not (now && opening && contract && run) ≡ false → not (opening && now && contract && true) ≡ false
 idle_bools true true true true h = refl
 idle_bools true true true false h = cc
@@ -18,6 +19,7 @@ idle_bools true true false run h = cc
 idle_bools true false contract run h = cc
 idle_bools false opening contract run h = cc
 
+-- one holding more, of zeros or not
 kept : (b : Bool) (f : Key × Holding → Row) (e : Key × Holding) (R H : Rows) → (b ≡ false → not (is_idle (f e)) ≡ false) → filter (λ r. not (is_idle r)) (map f R) ≡ filter (λ r. not (is_idle r)) (map f H)
     → filter (λ r. not (is_idle r)) (map f (e ∷ R)) ≡ filter (λ r. not (is_idle r)) (map f (cond b (e ∷ H) H))
 kept true f e R H idle h = ap (λ rs. cond (not (is_idle (f e))) (f e ∷ rs) rs) h

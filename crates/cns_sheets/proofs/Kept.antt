@@ -1,13 +1,11 @@
 -- What a sheet keeps of the rows that it is built from.
-use Rattle.std.proofs.Common.{◌≡◌, ◌∙◌, sym, ap, refl, Bool, true, false, not, cond, List, [], ◌∷◌, map, filter}
+use Rattle.std.proofs.Common.{◌≡◌, ◌∙◌, ap, refl, Bool, true, false, cond, List, [], ◌∷◌, map, filter}
 use Rattle.std.proofs.Common.{None}
 use Rattle.std.specs.Cmp.Lexicographic.{slice_cmp}
 use Rattle.std.specs.FinMap.{is_sorted}
 use Rattle.std.specs.FinMap.Entries.{below_all}
 use Rattle.std.specs.Ordering.{nat_cmp}
 use Rattle.cns_units.specs.declared.cusip.Cusip.{Cusip}
-use Rattle.cns_terms.specs.declared.holding.Holding.{Holding}
-use Rattle.cns_terms.specs.declared.holding.Key.{Key}
 use Rattle.cns_terms.specs.declared.sheet.Row.{Row}
 use Rattle.cns_terms.specs.Keys.{key_cmp}
 use Rattle.cns_terms.proofs.Finds.{and_left, and_right, both_true, sorted_filter}
@@ -17,10 +15,12 @@ use Rattle.cns_positions.specs.Rows.{Rows}
 use Rattle.cns_prices.specs.Listed.{Listed, listed_above}
 use Rattle.cns_sheets.specs.Build.{PriceList, key_of, row_from, rows_from}
 
+-- one row more, or not, with its key
 with_key : (b : Bool) (r : Row) (rs : List Row) (es : Keyed) → map (λ r. (key_of r, r)) rs ≡ es → map (λ r. (key_of r, r)) (cond b (r ∷ rs) rs) ≡ cond b ((key_of r, r) ∷ es) es
 with_key true r rs es h = ap (λ xs. (key_of r, r) ∷ xs) h
 with_key false r rs es h = h
 
+-- the rows made of holdings, with their keys
 with_keys : (before : PriceList) (prices : Listed) (R : Rows) → map (λ r. (key_of r, r)) (rows_from before prices R) ≡ filter (λ e. says e.1) (keyed (row_from before prices) R)
 with_keys before prices [] = refl
 with_keys before prices (e ∷ R) = with_key (says (row_from before prices e)) (row_from before prices e) (rows_from before prices R) _ (with_keys before prices R)
@@ -30,6 +30,7 @@ pub rows_rise : (before : PriceList) (prices : Listed) (R : Rows) → is_sorted 
 rows_rise before prices R h =
     ap (is_sorted key_cmp) (with_keys before prices R) ∙ sorted_filter keys_total says (keyed (row_from before prices) R) (sorted_keyed (row_from before prices) R h)
 
+-- an issue below all is below the listed ones
 below_listed : (c : Cusip) (es : Listed) → below_all (slice_cmp nat_cmp) c es ≡ true → below_all (slice_cmp nat_cmp) c (listed_above es None) ≡ true
 below_listed c [] h = refl
 below_listed c (e ∷ es) h = both_true _ _ (and_left _ _ h) (below_listed c es (and_right _ _ h))

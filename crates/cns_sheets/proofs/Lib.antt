@@ -1,2 +1,4 @@
 pub mod HeldRows
 pub mod Kept
+pub mod Searched
+pub mod RowSums

@@ -1,5 +1,5 @@
 -- The rows of a sheet from positions and prices, and what a sheet keeps.
-use Rattle.std.specs.Prelude.{◌≡◌, ℕ, ◌*◌, ◌^◌, ◌≤◌, ℤ, pos, ◌+ℤ◌, ◌-ℤ◌, ◌*ℤ◌, Bool, true, not, ◌==◌, List, [], length, map, filter, Option, Some, None, unwrap_or, unsigned_abs, if◌then◌else◌}
+use Rattle.std.specs.Prelude.{◌≡◌, ◌*◌, ◌^◌, ◌≤◌, ℤ, pos, ◌+ℤ◌, ◌-ℤ◌, ◌*ℤ◌, true, not, ◌==◌, List, [], length, map, filter, Option, Some, None, unwrap_or, unsigned_abs, if◌then◌else◌}
 use Rattle.std.specs.Cmp.Lexicographic.{slice_cmp}
 use Rattle.std.specs.FinMap.{find, is_sorted}
 use Rattle.std.specs.List.{AllByRecursion}
@@ -67,6 +67,10 @@ sheet_from date before prices positions = record { date = date; prices = listed_
 abbrev pub key_of : Row → Key
 key_of r = record { account = r.account; issue = r.issue }
 
+-- rows with their keys
+abbrev pub by_key : List Row → List (Key × Row)
+by_key rows = map (λ r. (key_of r, r)) rows
+
 -- the rows of an account
 abbrev pub rows_for : List Row → Account → List Row
 rows_for rows a = filter (λ r. r.account == a) rows
@@ -94,7 +98,7 @@ AreFew rows = (a : Account) → length (rows_for rows a) ≤ 2 ^ 32
 -- what a sheet keeps: rows and prices in order, each row marked by the rule, and all of them balanced
 pub record IsSheet (prices : PriceList) (rows : List Row) : Type 0 where
   pub prices_rise : is_sorted (slice_cmp nat_cmp) prices ≡ true
-  pub rows_rise : is_sorted key_cmp (map (λ r. (key_of r, r)) rows) ≡ true
+  pub rows_rise : is_sorted key_cmp (by_key rows) ≡ true
   pub rows_marked : AllByRecursion IsMarked rows
   pub balanced : AreBalanced rows
   pub few : AreFew rows

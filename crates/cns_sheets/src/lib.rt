@@ -3,12 +3,14 @@
 //! A sheet is built once, from positions and prices, and never changes. Its type keeps that its rows are in the order
 //! of accounts and then of the bytes of the issues, that each row's mark follows from its other columns, that in each
 //! issue the closing positions of all accounts add up to zero, and that all marks, and all dividends, add up to zero
-//! cents. Start with `Sheet`.
+//! cents. A row, the rows of an account and a price are found by halving. Start with `Sheet`.
 #![tactic(auto)]
 
 mod prices;
 mod rows;
+mod search;
 mod sheet;
+mod sums;
 
 pub use sheet::Sheet;
 

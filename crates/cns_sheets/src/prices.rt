@@ -14,8 +14,8 @@ use cns_terms::NoMemory;
 use cns_units::{Cusip, Price};
 use std::alloc::Allocator;
 
-// Where an issue stands, or where it would.
-fn place(prices: &[(Cusip, Price)], issue: Cusip) -> Result<usize, usize>
+/// Where an issue stands, or where it would.
+pub fn place(prices: &[(Cusip, Price)], issue: Cusip) -> Result<usize, usize>
     requires { is_sorted (slice_cmp nat_cmp) prices.now ≡ true }
     ensures bound { IsSearchInRange result (length prices.now) }
     ensures found { IfOk result (HoldsAt (λ e. slice_cmp nat_cmp e.0 issue ≡ Ordering.Equal) prices.now) }

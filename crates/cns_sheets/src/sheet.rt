@@ -1,5 +1,5 @@
 // A closed day.
-ghost use Rattle.std.specs.Prelude.{◌≡◌, IfOk, length, pos, true, OnOk};
+ghost use Rattle.std.specs.Prelude.{◌≡◌, ◌∷◌, [], IfOk, length, MatchOption, OnOk, pos, Some, true};
 ghost use Rattle.std.specs.Cmp.Lexicographic.{slice_cmp};
 ghost use Rattle.std.specs.FinMap.{is_sorted};
 ghost use Rattle.std.specs.List.{AllByRecursion};
@@ -7,14 +7,17 @@ ghost use Rattle.std.specs.Ordering.{nat_cmp};
 ghost use Rattle.cns_terms.specs.Keys.{key_cmp};
 ghost use Rattle.std.specs.Option.{option_copied};
 ghost use Rattle.cns_terms.specs.Sums.{total};
-ghost use Rattle.cns_sheets.specs.Build.{AreBalanced, AreFew, HasSmallCents, price_on, prices_of, rows_from, sheet_from};
+ghost use Rattle.cns_sheets.specs.Build.{AreBalanced, AreFew, HasSmallCents, price_on, prices_of, rows_for, rows_from, sheet_from};
+ghost use Rattle.cns_sheets.specs.Search.{prices_above, row_at, stated_from};
 
 use crate::prices::{listed, price_on};
 use crate::rows::collect;
+use crate::search::{next_price, row_at, rows_for};
+use crate::sums::sums;
 use cns_positions::Positions;
 use cns_prices::Prices;
-use cns_terms::{NoMemory, Row};
-use cns_units::{Cents, Cusip, Day, Price};
+use cns_terms::{Key, NoMemory, Row, Stated};
+use cns_units::{Account, Cents, Cusip, Day, Price};
 use std::alloc::Allocator;
 use std::marker::Model;
 
@@ -98,6 +101,20 @@ impl<A: Allocator + Drop> Sheet<A> {
         self.rows.as_slice()
     }
 
+    /// The row of an account in an issue; None where the sheet has none, since it would say nothing.
+    pub fn row(&self, key: Key) -> Option<Row>
+        ensures { result ≡ row_at self.now.rows key }
+    {
+        row_at(self.rows.as_slice(), key)
+    }
+
+    /// The rows of an account, in the order of the bytes of their issues.
+    pub fn rows_of(&self, account: Account) -> &[Row]
+        ensures { result.now ≡ rows_for self.now.rows account }
+    {
+        rows_for(self.rows.as_slice(), account)
+    }
+
     /// The price of an issue at the close, in cents; None where it was not listed then.
     pub fn price(&self, cusip: Cusip) -> Option<Price>
         ensures { result ≡ price_on self.now.prices cusip }
@@ -105,11 +122,35 @@ impl<A: Allocator + Drop> Sheet<A> {
         price_on(self.prices.as_slice(), cusip)
     }
 
+    /// The first of the sheet's issues above another, or the first of all, with its price in cents; None past the last.
+    pub fn next_price(&self, after: Option<Cusip>) -> Option<(Cusip, Price)>
+        ensures { MatchOption result (prices_above self.now.prices after ≡ []) (λ e. prices_above self.now.prices after ≡ e ∷ prices_above self.now.prices (Some e.0)) }
+    {
+        next_price(self.prices.as_slice(), after)
+    }
+
+    /// The first line of an account's statement: how many rows the account has, and the sums of their marks and of
+    /// their dividends, in cents.
+    pub fn stated(&self, account: Account) -> Stated
+        ensures { result ≡ stated_from self.now account }
+    {
+        let rows = rows_for(self.rows.as_slice(), account);
+        let (mark, dividend) = sums(rows);
+        Stated {
+            account,
+            date: self.date,
+            rows: rows.len() as u64,
+            mark,
+            dividend,
+        }
+    }
+
     /// The sum of all marks, in cents. It is zero, and so is not added up.
     pub fn total_marks(&self) -> Cents
         ensures sum { result ≡ total (λ r. r.mark) self.now.rows }
         ensures zero { result ≡ pos 0 }
     {
+        // The read of a field lets the proof use what the type keeps: that the sum is zero.
         let _ = &self.date;
         Cents::ZERO
     }
@@ -119,6 +160,7 @@ impl<A: Allocator + Drop> Sheet<A> {
         ensures sum { result ≡ total (λ r. r.dividend) self.now.rows }
         ensures zero { result ≡ pos 0 }
     {
+        // The read of a field lets the proof use what the type keeps: that the sum is zero.
         let _ = &self.date;
         Cents::ZERO
     }

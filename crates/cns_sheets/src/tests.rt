@@ -1,7 +1,8 @@
 use crate::Sheet;
 use cns_positions::{FlatPositions, Positions};
 use cns_prices::Prices;
-use cns_units::{Cents, Cusip, Day, Price};
+use cns_terms::{Key, Stated};
+use cns_units::{Account, Cents, Cusip, Day, Price};
 use std::alloc::Global;
 use std::test::Fail;
 
@@ -20,6 +21,19 @@ fn a_day_without_positions_has_its_prices_and_no_rows(rt: HostRuntime) -> Result
     assert_eq!(rt; sheet.date(), date);
     assert_eq!(rt; sheet.len(), 0);
     assert_eq!(rt; sheet.price(issue), Some(price));
+    assert_eq!(rt; sheet.next_price(None), Some((issue, price)));
+    assert_eq!(rt; sheet.next_price(Some(issue)), None);
+    let account = Account::CORPORATION;
+    assert_eq!(rt; sheet.row(Key { account, issue }), None);
+    assert_eq!(rt; sheet.rows_of(account).len(), 0);
+    let stated = Stated {
+        account,
+        date,
+        rows: 0,
+        mark: Cents::ZERO,
+        dividend: Cents::ZERO,
+    };
+    assert_eq!(rt; sheet.stated(account), stated);
     assert_eq!(rt; sheet.total_marks(), Cents::ZERO);
     assert_eq!(rt; sheet.total_dividends(), Cents::ZERO);
     Ok(())

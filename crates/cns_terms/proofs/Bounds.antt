@@ -182,6 +182,7 @@ limited_if opening L x n s false h = s
 limited-next : (S : State) (cmd : Command) → IsNumbered cmd → IsLimited (journal_of S) → IsLimited (journal_of (next S cmd))
 limited-next S (command.Activity x) n s = limited_if S.opening S.accepted x n s _ refl
 limited-next S (command.Position k) n s = s
+limited-next S (command.Statement a d) n s = s
 
 -- whatever commands are taken, the journal is so
 limited-after : (S : State) (cmds : List Command) → AllByRecursion IsNumbered cmds → IsLimited (journal_of S) → IsLimited (journal_of (after S cmds))

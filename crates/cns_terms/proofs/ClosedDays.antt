@@ -43,6 +43,7 @@ keeps_if false x opening L = record { more = omega arith; same = λ i h. refl }
 pub keeps-next : (S : State) (cmd : Command) → Keeps (journal_of S) (journal_of (next S cmd))
 keeps-next S (command.Activity x) = keeps_if _ x S.opening S.accepted
 keeps-next S (command.Position k) = record { more = omega arith; same = λ i h. refl }
+keeps-next S (command.Statement a d) = record { more = omega arith; same = λ i h. refl }
 
 -- whatever is taken later, a closed day's journal stays
 pub at_close-after : (S : State) (cmds : List Command) (i : ℕ) → i ≤ closes (journal_of S) → at_close (journal_of (after S cmds)) i ≡ at_close (journal_of S) i

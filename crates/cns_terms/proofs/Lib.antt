@@ -10,6 +10,7 @@ pub mod EntrySums
 pub mod ZeroSums
 pub mod Sound
 pub mod SheetSums
+pub mod Statements
 pub mod Elsewhere
 pub mod SheetRows
 pub mod PriceLists

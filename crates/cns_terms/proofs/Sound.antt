@@ -293,6 +293,7 @@ whole_if opening L x w false h = w
 whole-next : (S : State) (cmd : Command) → IsWhole (journal_of S) → IsWhole (journal_of (next S cmd))
 whole-next S (command.Activity x) w = whole_if S.opening S.accepted x w _ refl
 whole-next S (command.Position k) w = w
+whole-next S (command.Statement a d) w = w
 
 -- whatever commands are taken, the journal is sound
 pub whole-after : (S : State) (cmds : List Command) → IsWhole (journal_of S) → IsWhole (journal_of (after S cmds))

@@ -46,6 +46,10 @@ date opening (p ∷ J) = unwrap_or (next_date p.activity) (date opening J)
 abbrev pub at_close : Journal → ℕ → Journal
 at_close J i = unwrap_or (find (λ K. day K == i) (closings J)) []
 
+-- the journal as the close of the day with the date found it, if such a day is closed
+abbrev pub closed_on : Day → Journal → Day → Option Journal
+closed_on opening J d = find (λ K. is_same_day (date opening K) d) (closings J)
+
 -- the journal as the last close found it
 abbrev pub last_close : Journal → Journal
 last_close J = unwrap_or (slice_get (closings J) 0) []

@@ -1,5 +1,5 @@
 -- What is refused, and why.
-use Rattle.std.specs.Prelude.{ℕ, ℤ, pos, neg_ℤ, int_lt, int_le, unsigned_abs, Bool, not, ◌&&◌, ◌==◌, nat_lt, ◌^◌, List, [], ◌∷◌, Option, option_map, find}
+use Rattle.std.specs.Prelude.{ℕ, is_none, ℤ, pos, neg_ℤ, int_lt, int_le, unsigned_abs, Bool, not, ◌&&◌, ◌==◌, nat_lt, ◌^◌, List, [], ◌∷◌, Option, option_map, find}
 use Rattle.std.specs.List.{list_any}
 use Rattle.cns_units.specs.declared.day.Day.{Day}
 use Rattle.cns_terms.specs.declared.command.Activity.{Activity}
@@ -7,10 +7,10 @@ use Rattle.cns_terms.specs.declared.command.Activity.TheVariants as activity
 use Rattle.cns_terms.specs.declared.command.Command.{Command}
 use Rattle.cns_terms.specs.declared.command.Command.TheVariants as command
 use Rattle.cns_terms.specs.declared.refusal.Refusal.{Refusal}
-use Rattle.cns_terms.specs.declared.refusal.Refusal.TheVariants.{MemberExists, NoSuchMember, IssueExists, NoSuchIssue, Retired, SameParty, WrongDay, SeenReference, ExceedsPosition, NotOnHand, NotLong, TooLarge}
+use Rattle.cns_terms.specs.declared.refusal.Refusal.TheVariants.{MemberExists, NoSuchMember, IssueExists, NoSuchIssue, Retired, SameParty, WrongDay, SeenReference, ExceedsPosition, NotOnHand, NotLong, TooLarge, NoSuchDay}
 use Rattle.cns_terms.specs.Sums.{short}
 use Rattle.cns_terms.specs.Postings.{Journal}
-use Rattle.cns_terms.specs.Days.{date, is_same_day, is_not_after}
+use Rattle.cns_terms.specs.Days.{closed_on, date, is_same_day, is_not_after}
 use Rattle.cns_terms.specs.Positions.{position}
 use Rattle.cns_terms.specs.Listings.{is_member, is_account, is_listed, is_retired, is_seen}
 use Rattle.cns_terms.specs.Entries.{corporation, entries, posting}
@@ -64,6 +64,8 @@ abbrev pub rules_of : Day → Journal → Command → List Rule
 rules_of opening J (command.Activity x) = rules opening J x
 rules_of opening J (command.Position k) =
     (NoSuchMember, not (is_account J k.account)) ∷ (NoSuchIssue, not (is_listed J k.issue)) ∷ []
+rules_of opening J (command.Statement a d) =
+    (NoSuchMember, not (is_account J a)) ∷ (NoSuchDay, is_none (closed_on opening J d)) ∷ []
 
 -- the first refusal of a list of rules whose condition holds
 abbrev pub first_refusal : List Rule → Option Refusal

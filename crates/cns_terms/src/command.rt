@@ -1,6 +1,6 @@
 // Commands, and the activities among them.
 use crate::holding::Key;
-use cns_units::{Cusip, Day, Member, Money, Price, Shares};
+use cns_units::{Account, Cusip, Day, Member, Money, Price, Shares};
 
 /// An issue with a price: as it is listed, or as it is priced anew.
 #[derive(Clone, Copy, Debug, PartialEq, Eq)]
@@ -53,10 +53,12 @@ pub enum Activity {
     Close(Day),
 }
 
-/// What the book is asked: to accept an activity, or what stands at a key, which changes nothing.
+/// What the book is asked: to accept an activity, or one of two questions, which change nothing.
 #[derive(Clone, Copy, Debug, PartialEq, Eq)]
 pub enum Command {
     Activity(Activity),
     /// What stands at a key now.
     Position(Key),
+    /// The statement of an account on a closed day.
+    Statement { account: Account, date: Day },
 }

@@ -38,5 +38,7 @@ pub enum Reply {
     Closed(Closed),
     /// What stands at the key.
     Held(Key, Holding),
+    /// The first line of a statement; its rows are on the day's sheet.
+    Stated(Stated),
     Refused(Refusal),
 }

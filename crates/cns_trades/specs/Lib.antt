@@ -1,2 +1,2 @@
-pub mod References
+pub mod Used
 pub mod Checks

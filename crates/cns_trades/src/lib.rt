@@ -7,6 +7,7 @@
 
 mod entries;
 mod facts;
+mod references;
 mod trades;
 
 pub use facts::{MoveFacts, TradeFacts};

@@ -3,29 +3,29 @@ ghost use Rattle.std.specs.Prelude.{◌≡◌, ℕ, ◌≤◌, ◌^◌, ◌||◌
 ghost use Rattle.std.specs.Option.{ForSome};
 ghost use Rattle.cns_terms.specs.Refusals.{is_beyond, is_exceeded};
 ghost use Rattle.cns_terms.specs.Sums.{short};
-ghost use Rattle.cns_trades.specs.References.{has};
 ghost use Rattle.cns_trades.specs.Checks.{delivery_answer, receipt_answer, trade_answer, AreSmallEntries};
+ghost use Rattle.cns_trades.specs.Used.{is_used};
 
 use crate::entries::{buyer_entry, moved_in, moved_out, seller_entry};
 use crate::facts::{MoveFacts, TradeFacts};
+use crate::references::References;
 use cns_terms::{Entry, Movement, NoMemory, Refusal, Trade};
 use cns_units::{Account, Shares};
 use std::alloc::Allocator;
-use std::collections::BTreeSet;
 use std::marker::Model;
 
 /// The references that accepted trades used, and the checks of trades and movements.
 #[derive(Drop)]
 pub struct Trades<A: Allocator + Drop> {
-    references: BTreeSet<u64, A>,
+    references: References<A>,
 }
 
 impl<A: Allocator + Drop> Model for Trades<A> {
-    ghost use Rattle.std.specs.Prelude.{List, ℕ};
+    ghost use Rattle.cns_trades.specs.Used.{Used};
 
-    ghost Value = { List ℕ };
+    ghost Value = { Used };
 
-    ghost view = { λ t. t.references.keys };
+    ghost view = { λ t. t.references };
 }
 
 const LARGEST: i64 = 10_000_000_000;
@@ -70,31 +70,28 @@ fn is_not_on_hand(corporation: i64, shares: Shares) -> bool
 impl<A: Allocator + Drop> Trades<A> {
     /// No reference was used yet.
     pub fn new(alloc: A) -> Self
-        ensures { (r : ℕ) → has result r ≡ false }
+        ensures { (r : ℕ) → is_used result r ≡ false }
     {
         Trades {
-            references: BTreeSet::new(alloc),
+            references: References::new(alloc),
         }
     }
 
     /// Whether an accepted trade used the reference.
     pub fn seen(&self, reference: u64) -> bool
-        ensures { result ≡ has self.now reference }
+        ensures { result ≡ is_used self.now reference }
     {
-        self.references.contains(&reference)
+        self.references.contains(reference)
     }
 
     /// Uses a reference. Where memory is refused the references stay as they were.
     pub fn note_reference(&mut self, reference: u64) -> Result<(), NoMemory>
     where
         A: Clone,
-        ensures ok { OnOk result ((r : ℕ) → has self.new r ≡ ((reference == r) || has self.old r)) }
+        ensures ok { OnOk result ((r : ℕ) → is_used self.new r ≡ ((reference == r) || is_used self.old r)) }
         ensures err { OnErr result (self.new ≡ self.old) }
     {
-        let Ok(_) = self.references.insert(reference) else {
-            return Err(NoMemory);
-        };
-        Ok(())
+        self.references.insert(reference)
     }
 
     /// The first refusal of a trade by number, or what it books for its buyer and its seller (NSCC Procedure VII: the
@@ -102,10 +99,13 @@ impl<A: Allocator + Drop> Trades<A> {
     pub fn check_trade(&self, facts: &TradeFacts, trade: &Trade) -> Result<(Entry, Entry), Refusal>
         requires buyer { ForSome facts.now.buyer (λ q. unsigned_abs q ≤ 10 ^ 10) }
         requires seller { ForSome facts.now.seller (λ q. unsigned_abs q ≤ 10 ^ 10) }
-        ensures answer { result ≡ trade_answer facts.now (has self.now trade.now.reference) trade.now }
+        ensures answer { result ≡ trade_answer facts.now (is_used self.now trade.now.reference) trade.now }
         ensures small { IfOk result AreSmallEntries }
     {
-        let (Some(buyer), Some(seller)) = (facts.buyer, facts.seller) else {
+        let Some(buyer) = facts.buyer else {
+            return Err(Refusal::NoSuchMember);
+        };
+        let Some(seller) = facts.seller else {
             return Err(Refusal::NoSuchMember);
         };
         if !facts.listed {

@@ -1,4 +1,4 @@
-use Rattle.std.proofs.Common.{◌≡◌, ◌++◌, None, length}
+use Rattle.std.proofs.Common.{◌≡◌, ◌++◌, length}
 use Rattle.std.specs.List.{AllByRecursion}
 use Rattle.cns_positions.specs.Rows.{held_above}
 use Rattle.cns_sheets.specs.Build.{IsMarked, rows_from}

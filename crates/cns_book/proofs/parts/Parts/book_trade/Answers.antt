@@ -7,7 +7,7 @@ use Rattle.cns_terms.specs.Entries.{buyer_entry, seller_entry}
 use Rattle.cns_terms.specs.Refusals.{first_refusal}
 use Rattle.cns_positions.specs.Rows.{booked}
 use Rattle.cns_trades.specs.Checks.{trade_rules, IsSmallEntry}
-use Rattle.cns_trades.specs.References.{has}
+use Rattle.cns_trades.specs.Used.{is_used}
 use Rattle.cns_book.specs.Follows.{Follows}
 use Rattle.cns_book.proofs.Machine.{accepted, refused, stopped}
 use Rattle.cns_book.proofs.Trading.{answer_err, answer_ok, trade_refusal, same_rows, trade_accepted}
@@ -19,8 +19,8 @@ returns-in-Err-clause-step g c L f =
     let t = c.args.trade.now in
     let facts = c.trade_facts-facts.result in
     refused {s = s} L (activity.Trade t) c.in-Err.refusal
-    (trade_refusal L s.opening t facts (has s.references t.reference) (c.trade_facts-facts.ensures.facts L f) (f.references t.reference)
-    ∙ answer_err (first_refusal (trade_rules facts (has s.references t.reference) t)) (buyer_entry t, seller_entry t) c.in-Err.refusal (rw (← c.self.view_is) c.in-Err.ensures.answer))
+    (trade_refusal L s.opening t facts (is_used s.references t.reference) (c.trade_facts-facts.ensures.facts L f) (f.references t.reference)
+    ∙ answer_err (first_refusal (trade_rules facts (is_used s.references t.reference) t)) (buyer_entry t, seller_entry t) c.in-Err.refusal (rw (← c.self.view_is) c.in-Err.ensures.answer))
     f
 
 pub returns-in_err-prepare_both-clause-step : goal.returns-in_err-prepare_both-clause-step
@@ -38,7 +38,7 @@ returns-clause-step g c L f =
     let t = c.args.trade.now in
     let facts = c.trade_facts-facts.result in
     let are = rw (← c.self.view_is) at (c.trade_facts-facts.ensures.facts L f) in
-    let seen = has c.self.inside.trades t.reference in
+    let seen = is_used c.self.inside.trades t.reference in
     let done = answer_ok (first_refusal (trade_rules facts seen t)) (buyer_entry t, seller_entry t) c.in-Ok.entries c.in-Ok.ensures.answer in
     let none = trade_refusal L c.self.inside.opening t facts seen are (f'.references t.reference) ∙ done.0 in
     accepted L (activity.Trade t) reply.Accepted none refl

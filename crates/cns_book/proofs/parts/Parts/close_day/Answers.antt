@@ -26,4 +26,4 @@ returns-clause-step g c L f reached few =
     accepted L (activity.Close c.args.next) (reply.Closed (record { day = c.self.inside.closes + 1; date = c.self.inside.today; rows = c.len.result; liable = 0 }))
     (no_refusal (rules o J (activity.Close c.args.next)) (late, tt))
     (λ i. reply.Closed (record { day = f'.closes i + 1; date = f'.today i; rows = count i; liable = 0 }))
-    (rw c.in_ok-keep.ensures.ok (day_closed L _ c.args.next (g.P.Positions.rows c.roll.new.self) c.in_ok-sheet.sheet f' few c.roll.ensures.rolled c.roll.ensures.order is))
+    (rw c.in_ok-keep.ensures.ok (day_closed L _ c.args.next (g.P.Positions.rows c.roll.new.self) c.in_ok-sheet.sheet f' few c.roll.ensures.rolled c.roll.ensures.order is late))

@@ -1,0 +1,199 @@
+-- Searches for a closed day by its date.
+use Rattle.std.proofs.Common.{◌≡◌, ◌∙◌, sym, ap, subst, refl, ℕ, zero, suc, ◌+◌, ◌-◌, ◌<◌, ◌≤◌, ℤ, Bool, true, false, cond, List, [], ◌∷◌, length, get_or, map, reverse, find, Option, Some, None, Result, Ok, Err, IfOk, IfErr, inl, inr, arith}
+use Rattle.std.specs.Prelude.{int_lt, not, option_map}
+use Rattle.std.specs.List.{AllWithin, HoldsAt}
+use Rattle.std.specs.List.Sorted.{IsBinarySearchResult, IsNonDecreasingBy, IsPartitionPoint}
+use Rattle.std.specs.Ordering.{int_cmp, int_eq, ordering_index}
+use Rattle.std.specs.declared.cmp.Ordering.{Ordering}
+use Rattle.std.specs.declared.cmp.Ordering.TheVariants.{Less, Equal, Greater}
+use Rattle.std.proofs.lemmas.Bool.{cases_lt}
+use Rattle.std.proofs.lemmas.Int.{ints}
+use Rattle.std.proofs.lemmas.List.{get_or-map, get_or-reverse, length-map, length-reverse}
+use Rattle.std.proofs.lemmas.List.Sorted.{IsNonDecreasingBy-from_default}
+use Rattle.cns_units.specs.Day.{day_number}
+use Rattle.cns_units.specs.declared.day.Day.{Day}
+use Rattle.std.specs.Prelude.{is_none, unwrap_or}
+use Rattle.std.specs.Option.{option_map_or}
+use Rattle.cns_units.specs.declared.account.Account.{Account}
+use Rattle.cns_terms.specs.declared.command.Activity.{Activity}
+use Rattle.cns_terms.specs.declared.refusal.Refusal.TheVariants.{NoSuchMember, NoSuchDay}
+use Rattle.cns_terms.specs.declared.reply.Reply.TheVariants as reply
+use Rattle.cns_terms.specs.declared.sheet.Row.{Row}
+use Rattle.cns_terms.specs.Days.{closed_on, closings, date, is_same_day}
+use Rattle.cns_terms.specs.Entries.{journal}
+use Rattle.cns_terms.specs.Refusals.{first_refusal}
+use Rattle.cns_terms.specs.Sums.{total}
+use Rattle.cns_terms.proofs.Statements.{rows_stated}
+use Rattle.cns_terms.proofs.Sound.{IsSound, IsWhole, whole_nil}
+use Rattle.cns_terms.proofs.Everywhere.{each_found}
+use Rattle.cns_sheets.specs.Search.{stated_from}
+use Rattle.cns_terms.specs.Postings.{Journal}
+use Rattle.cns_terms.specs.Sheets.{DaySheet, day_sheet, statement}
+use Rattle.cns_book.specs.Contents.{Contents}
+use Rattle.cns_book.specs.Dated.{AreFalling, IsAfter, is_dated, sheet_on}
+use Rattle.cns_book.specs.Follows.{Follows}
+use Rattle.cns_book.specs.Shown.{sheet_shown}
+
+-- the number of a sheet's day
+abbrev pub number : DaySheet → ℤ
+number s = day_number s.date
+
+less_less : (a b c : ℤ) → int_lt a b ≡ true → int_lt b c ≡ true → int_lt a c ≡ true
+less_less a b c p q = grind (arith, ints)
+
+-- a day is after all that were closed before it
+after_each : (d : Day) (ss : List DaySheet) (j : ℕ) (e : DaySheet) → IsAfter d ss → AreFalling ss → j < length ss → int_lt (number (get_or ss j e)) (day_number d) ≡ true
+after_each d [] j e a f lt = absurd (omega arith)
+after_each d (s ∷ ss) zero e a f lt = a
+after_each d (s ∷ ss) (suc j) e a f lt = less_less _ (number s) _ (after_each s.date ss j e f.0 f.1 (omega arith)) a
+
+-- days further back are earlier
+falls : (ss : List DaySheet) (i j : ℕ) (e : DaySheet) → AreFalling ss → i < j → j < length ss → int_lt (number (get_or ss j e)) (number (get_or ss i e)) ≡ true
+falls [] i j e f p q = absurd (omega arith)
+falls (s ∷ ss) i zero e f p q = absurd (omega arith)
+falls (s ∷ ss) zero (suc j) e f p q = after_each s.date ss j e f.0 f.1 (omega arith)
+falls (s ∷ ss) (suc i) (suc j) e f p q = falls ss i j e f.1 (omega arith) (omega arith)
+
+apart : (a b c : ℤ) → int_lt a b ≡ true → int_eq a c ≡ true → int_eq b c ≡ false
+apart a b c p q = grind (arith, ints)
+
+skip : (b : Bool) (s : DaySheet) (o : Option DaySheet) → b ≡ false → cond b (Some s) o ≡ o
+skip true s o h = cc
+skip false s o h = refl
+
+take : (b : Bool) (s : DaySheet) (o : Option DaySheet) → b ≡ true → cond b (Some s) o ≡ Some s
+take true s o h = refl
+take false s o h = cc
+
+-- a day with the date is the one that a look from the newest back finds
+find_here : (ss : List DaySheet) (d : Day) (j : ℕ) (e : DaySheet) → AreFalling ss → j < length ss → is_same_day (get_or ss j e).date d ≡ true → sheet_on ss d ≡ Some (get_or ss j e)
+find_here [] d j e f lt h = absurd (omega arith)
+find_here (s ∷ ss) d zero e f lt h = take _ s (sheet_on ss d) h
+find_here (s ∷ ss) d (suc j) e f lt h =
+    skip (is_same_day s.date d) s (sheet_on ss d) (apart (number (get_or ss j e)) (number s) (day_number d) (after_each s.date ss j e f.0 f.1 (omega arith)) h)
+    ∙ find_here ss d j e f.1 (omega arith) h
+
+find_none : (ss : List DaySheet) (d : Day) (e : DaySheet) → ((j : ℕ) → j < length ss → is_same_day (get_or ss j e).date d ≡ false) → sheet_on ss d ≡ None
+find_none [] d e h = refl
+find_none (s ∷ ss) d e h = skip _ s (sheet_on ss d) (h 0 (omega arith)) ∙ find_none ss d e (λ j lt. h (suc j) (omega arith))
+
+rising_index : (a b c : ℤ) → int_lt a b ≡ true → ordering_index (int_cmp a c) ≤ ordering_index (int_cmp b c)
+rising_index a b c h = grind (arith, ints)
+
+back : (n i : ℕ) → i < n → n - 1 - (n - 1 - i) ≡ i
+back n i h = omega (arith, h)
+
+-- a day from the oldest on, among those from the newest back
+mirrored : (xs : List DaySheet) (i : ℕ) (e : DaySheet) → i < length xs → get_or (reverse xs) (length xs - 1 - i) e ≡ get_or xs i e
+mirrored xs i e h = get_or-reverse xs (length xs - 1 - i) e (omega (arith, h)) ∙ ap (λ k. get_or xs k e) (back (length xs) i h)
+
+rises : (xs : List DaySheet) (d : Day) (e : DaySheet) (i j : ℕ) → AreFalling (reverse xs) → i ≤ j → j < length xs → ordering_index (int_cmp (number (get_or xs i e)) (day_number d)) ≤ ordering_index (int_cmp (number (get_or xs j e)) (day_number d))
+rises xs d e i j f le lt = elim (cases_lt i j) [
+    | inl p ↦
+        let earlier = falls (reverse xs) (length xs - 1 - j) (length xs - 1 - i) e f (omega (arith, p, lt)) (rw (length-reverse xs) (omega (arith, p, lt))) in
+        rising_index _ _ (day_number d) (sym (λ k. int_lt (number (mirrored xs i e (omega (arith, p, lt)) k)) (number (mirrored xs j e lt k))) ∙ earlier)
+    | inr p ↦ let same : i ≡ j = omega (arith, p, le) in rw same (omega arith)
+  ]
+
+-- ---- a search among what stands for sheets
+
+module _ {X : Type 0} (f : X → DaySheet) (d : Day) where
+  abbrev pub compared : X → Ordering
+  compared x = int_cmp (number (f x)) (day_number d)
+
+  shown : (xs : List X) (i : ℕ) (e : X) → i < length xs → get_or (map f xs) i (f e) ≡ f (get_or xs i e)
+  shown xs i e h = get_or-map f xs i e (f e) h
+
+  -- from the oldest on, the comparisons rise
+  compared_rise : (xs : List X) (e : X) → AreFalling (reverse (map f xs)) → IsNonDecreasingBy (λ x. ordering_index (compared x)) xs
+  compared_rise xs e falling = IsNonDecreasingBy-from_default (λ x. ordering_index (compared x)) xs e (λ i j le lt.
+      let in_range : j < length (map f xs) = subst (λ n. j < n) (sym (length-map xs f)) lt in
+      rw (← shown xs i e (omega (arith, le, lt)), ← shown xs j e lt) (rises (map f xs) d (f e) i j falling le in_range))
+
+  tied : (a b : ℤ) → int_cmp a b ≡ Equal → int_eq a b ≡ true
+  tied a b h = grind (arith, ints)
+
+  not_less : (a b : ℤ) → int_cmp a b ≡ Less → int_eq a b ≡ false
+  not_less a b h = grind (arith, ints)
+
+  not_greater : (a b : ℤ) → int_cmp a b ≡ Greater → int_eq a b ≡ false
+  not_greater a b h = grind (arith, ints)
+
+  pub found_at : (xs : List X) (r : Result ℕ ℕ) → IsBinarySearchResult compared xs r → IfOk r (HoldsAt (λ x. is_dated d (f x) ≡ true) xs)
+  found_at xs (Ok i) h = λ e. tied (number (f (get_or xs i e))) (day_number d) (h e)
+  found_at xs (Err i) h = tt
+
+  apart_within : (xs : List X) (i : ℕ) → IsPartitionPoint (λ x. compared x ≡ Less) (λ x. compared x ≡ Greater) xs i → AllWithin (λ x. is_dated d (f x) ≡ false) xs 0 (length xs)
+  apart_within xs i h = λ j e p q. elim (cases_lt j i) [ | inl l ↦ not_less (number (f (get_or xs j e))) (day_number d) (h.0 j e p l) | inr l ↦ not_greater (number (f (get_or xs j e))) (day_number d) (h.1 j e l q) ]
+
+  nowhere : (xs : List X) (e : X) (r : Result ℕ ℕ) → AreFalling (reverse (map f xs)) → IsBinarySearchResult compared xs r → IfErr r (λ _. AllWithin (λ x. is_dated d (f x) ≡ false) xs 0 (length xs))
+  nowhere xs e (Ok i) falling h = tt
+  nowhere xs e (Err i) falling h = apart_within xs i (h (compared_rise xs e falling))
+
+  pub found_nowhere : (xs : List X) (r : Result ℕ ℕ) → AreFalling (reverse (map f xs)) → IsBinarySearchResult compared xs r → IfErr r (λ _. AllWithin (λ x. is_dated d (f x) ≡ false) xs 0 (length xs))
+  found_nowhere [] (Ok i) falling h = tt
+  found_nowhere [] (Err i) falling h = λ j e p q. absurd (omega (arith, q))
+  found_nowhere (x ∷ xs) r falling h = nowhere (x ∷ xs) x r falling h
+
+  -- what stands at the place is what a look from the newest back finds
+  pub sheet_at : (xs : List X) (i : ℕ) (e : X) → AreFalling (reverse (map f xs)) → i < length xs → is_dated d (f (get_or xs i e)) ≡ true → Some (f (get_or xs i e)) ≡ sheet_on (reverse (map f xs)) d
+  sheet_at xs i e falling lt h =
+      let ys = map f xs in
+      let in_range : i < length ys = subst (λ n. i < n) (sym (length-map xs f)) lt in
+      let same : get_or (reverse ys) (length ys - 1 - i) (f e) ≡ f (get_or xs i e) = mirrored ys i (f e) in_range ∙ shown xs i e lt in
+      ap Some (sym same)
+      ∙ sym (find_here (reverse ys) d (length ys - 1 - i) (f e) falling (rw (length-reverse ys) (omega (arith, in_range))) (ap (λ s. is_dated d s) same ∙ h))
+
+  none_shown : (xs : List X) (e : X) → AllWithin (λ x. is_dated d (f x) ≡ false) xs 0 (length xs) → None ≡ sheet_on (reverse (map f xs)) d
+  none_shown xs e h =
+      let ys = map f xs in
+      sym (find_none (reverse ys) d (f e) (λ j lt.
+          let in_range : j < length ys = subst (λ n. j < n) (length-reverse ys) lt in
+          let k : ℕ = length ys - 1 - j in
+          let mirror : k < length xs = subst (λ n. k < n) (length-map xs f) (omega (arith, in_range)) in
+          ap (λ s. is_dated d s) (get_or-reverse ys j (f e) in_range ∙ shown xs k e mirror) ∙ h k e (omega arith) mirror))
+
+  pub sheet_nowhere : (xs : List X) → AllWithin (λ x. is_dated d (f x) ≡ false) xs 0 (length xs) → None ≡ sheet_on (reverse (map f xs)) d
+  sheet_nowhere [] h = refl
+  sheet_nowhere (x ∷ xs) h = none_shown (x ∷ xs) x h
+
+-- ---- the sheets of the definitions
+
+found_branch : (b : Bool) (opening : Day) (K : Journal) (o : Option DaySheet) (p : Option Journal) → o ≡ option_map (day_sheet opening) p → cond b (Some (day_sheet opening K)) o ≡ option_map (day_sheet opening) (cond b (Some K) p)
+found_branch true opening K o p h = refl
+found_branch false opening K o p h = h
+
+sheet_kept : (opening : Day) (Ks : List Journal) (d : Day) → sheet_on (map (day_sheet opening) Ks) d ≡ option_map (day_sheet opening) (find (λ K. is_same_day (date opening K) d) Ks)
+sheet_kept opening [] d = refl
+sheet_kept opening (K ∷ Ks) d = found_branch (is_same_day (date opening K) d) opening K _ _ (sheet_kept opening Ks d)
+
+-- the sheet of the day with a date
+pub sheet_found : (L : List Activity) (s : Contents) (d : Day) → Follows L s → sheet_on s.sheets d ≡ sheet_shown s.opening (journal s.opening L) d
+sheet_found L s d f = ap (λ ss. sheet_on ss d) f.sheets ∙ sheet_kept s.opening (closings (journal s.opening L)) d
+
+-- the journal as the close of the day found it is sound
+pub sound_on : (opening : Day) (J : Journal) (d : Day) → IsWhole J → IsSound (unwrap_or (closed_on opening J d) [])
+sound_on opening J d w = each_found IsSound (λ K. is_same_day (date opening K) d) [] (closings J) whole_nil.now w.past
+
+-- what a sheet states is the statement
+stated_same : (opening : Day) (K : Journal) (a : Account) → IsSound K → stated_from (day_sheet opening K) a ≡ statement opening K a
+stated_same opening K a s =
+    ap (λ (rs : List Row). record { account = a; date = date opening K; rows = length rs; mark = total (λ r. r.mark) rs; dividend = total (λ r. r.dividend) rs }) (rows_stated opening K a s)
+
+-- the answer to a STATEMENT, by whether the account is there and the day is closed
+pub answer_stated : (opening : Day) (is : Bool) (o : Option Journal) (a : Account) (sheet : DaySheet) → is ≡ true → option_map (day_sheet opening) o ≡ Some sheet → IsSound (unwrap_or o [])
+    → reply.Stated (stated_from sheet a) ≡ option_map_or reply.Refused (first_refusal ((NoSuchMember, not is) ∷ (NoSuchDay, is_none o) ∷ [])) (reply.Stated (statement opening (unwrap_or o []) a))
+answer_stated opening false o a sheet i e s = cc
+answer_stated opening true None a sheet i e s = cc
+answer_stated opening true (Some K) a sheet i e s = ap reply.Stated (sym (ap (λ o. stated_from (unwrap_or o sheet) a) e) ∙ stated_same opening K a s)
+
+pub answer_no_account : (opening : Day) (is : Bool) (o : Option Journal) (a : Account) → is ≡ false
+    → reply.Refused NoSuchMember ≡ option_map_or reply.Refused (first_refusal ((NoSuchMember, not is) ∷ (NoSuchDay, is_none o) ∷ [])) (reply.Stated (statement opening (unwrap_or o []) a))
+answer_no_account opening false o a i = refl
+answer_no_account opening true o a i = cc
+
+pub answer_no_day : (opening : Day) (is : Bool) (o : Option Journal) (a : Account) → is ≡ true → option_map (day_sheet opening) o ≡ None
+    → reply.Refused NoSuchDay ≡ option_map_or reply.Refused (first_refusal ((NoSuchMember, not is) ∷ (NoSuchDay, is_none o) ∷ [])) (reply.Stated (statement opening (unwrap_or o []) a))
+answer_no_day opening false o a i e = cc
+answer_no_day opening true None a i e = refl
+answer_no_day opening true (Some K) a i e = cc

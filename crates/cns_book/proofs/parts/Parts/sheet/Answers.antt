@@ -1,0 +1,7 @@
+use Rattle.std.proofs.Common.{◌∙◌, sym, subst}
+use Rattle.cns_book.specs.Follows.{Follows}
+use Rattle.cns_book.proofs.Dated.{sheet_found}
+use Rattle.cns_book.proofs.parts.Parts.sheet.Goals as goal
+
+pub returns-clause-value : goal.returns-clause-value
+returns-clause-value g c L f = rw (← c.self.view_is) (c.find.ensures ∙ sheet_found L _ c.args.date (subst (Follows L) (sym c.self.view_is) f))

@@ -1,0 +1,10 @@
+use Rattle.std.proofs.Common.{◌≡◌, take, drop, map, ◌++◌, length}
+use Rattle.cns_positions.specs.Placed.{closed_rows}
+use Rattle.cns_positions.specs.Flat.{lists_of}
+use Rattle.cns_positions.proofs.flat.close_each.Given as goal
+
+abbrev pub invariant-loop-place : goal.invariant-loop-place
+invariant-loop-place g l = record {
+  lists : lists_of l.accounts.items ≡ map closed_rows (take l.place (lists_of l.initial.accounts.items)) ++ drop l.place (lists_of l.initial.accounts.items);
+  len : length l.accounts.items ≡ length l.initial.accounts.items;
+}

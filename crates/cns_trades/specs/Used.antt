@@ -1,0 +1,27 @@
+-- The references of trades.
+use Rattle.std.specs.Prelude.{ℕ, ◌/◌, ◌%◌, Bool, ◌==◌, List, unwrap_or, if◌then◌else◌}
+use Rattle.std.specs.Int.{bit_at}
+use Rattle.std.specs.Map.{lookup}
+use Rattle.std.specs.Ordering.{nat_cmp, is_eq}
+
+-- the references that were used, by pages of 64 bits: the page that was written last, and the others by their numbers
+pub record Used : Type 0 where
+  pub page : ℕ
+  pub bits : ℕ
+  pub others : List (ℕ × ℕ)
+
+-- whether a page has the bit at a place
+abbrev pub has_bit : ℕ → ℕ → Bool
+has_bit bits k = bit_at bits k == 1
+
+-- the bits of a page among others, none where it is not there
+abbrev pub page_among : List (ℕ × ℕ) → ℕ → ℕ
+page_among others p = unwrap_or (lookup (λ q. is_eq (nat_cmp p q)) others) 0
+
+-- the bits of a page
+abbrev pub bits_in : Used → ℕ → ℕ
+bits_in u p = if p == u.page then u.bits else page_among u.others p
+
+-- whether the number was used
+unfoldable pub is_used : Used → ℕ → Bool
+is_used u n = has_bit (bits_in u (n / 64)) (n % 64)
