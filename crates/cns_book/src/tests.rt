@@ -1,10 +1,12 @@
 // The limit, each worker's numbers, want of memory, and the bounds of members' positions.
 use crate::{Book, Receipt, TakeFault};
 use cns_positions::FlatPositions;
+use cns_sheets::Sheet;
 use cns_terms::{
-    Activity, Closed, Command, Holding, Key, Listing, NoMemory, Refusal, Reply, Trade, Worker,
+    Activity, Closed, Command, Holding, Key, Listing, NoMemory, Refusal, Reply, Row, Stated, Trade,
+    Worker,
 };
-use cns_units::{Account, Cusip, Day, Member, Money, Price, Shares};
+use cns_units::{Account, Cents, Cusip, Day, Member, Money, Price, Shares};
 use linked_list_allocator::LocalHeap;
 use std::alloc::{Allocator, Global};
 use std::process::Abort;
@@ -41,14 +43,22 @@ fn member(rt: &impl Abort, number: u16) -> Command {
     Command::Activity(Activity::Member(party(rt, number)))
 }
 
-fn listing(rt: &impl Abort, price: u64) -> Command {
-    let Ok(price) = Price::new(price) else {
+fn price(rt: &impl Abort, cents: u64) -> Price {
+    let Ok(price) = Price::new(cents) else {
         panic!(rt; "no price");
     };
-    Command::Activity(Activity::Issue(Listing {
+    price
+}
+
+fn listed(rt: &impl Abort, cents: u64) -> Listing {
+    Listing {
         issue: issue(rt),
-        price,
-    }))
+        price: price(rt, cents),
+    }
+}
+
+fn listing(rt: &impl Abort, cents: u64) -> Command {
+    Command::Activity(Activity::Issue(listed(rt, cents)))
 }
 
 // Member 1 buys from member 2.
@@ -238,5 +248,101 @@ fn a_book_without_memory_is_as_it_was(rt: HostRuntime) -> Result<(), Fail> {
     assert_eq!(rt; book.history_len() as u64, taken + 3);
     let held = book.position(key(&rt, 1).account, issue(&rt));
     assert_eq!(rt; held, Some(holding(taken as i64, 0, 0, 0)));
+    Ok(())
+}
+
+// The first day of a book: member 1 buys 100 shares from member 2, and the price goes from 195.00 to 196.00.
+fn first_day(rt: &impl Abort) -> [(Worker, Command); 6] {
+    [
+        first(member(rt, 1)),
+        first(member(rt, 2)),
+        first(listing(rt, 19_500)),
+        first(trade(rt, 1, 100, 1_950_000)),
+        first(Command::Activity(Activity::Price(listed(rt, 19_600)))),
+        first(Command::Activity(Activity::Close(date(rt, b"2024-06-04")))),
+    ]
+}
+
+// A row of the first day, of a position that was opened on it.
+fn row(rt: &impl Abort, account: u16, closing: i64, money: i128, mark: i128) -> Row {
+    let key = key(rt, account);
+    Row {
+        account: key.account,
+        issue: key.issue,
+        opening: 0,
+        closing,
+        opening_price: Price::ZERO,
+        price: price(rt, 19_600),
+        money: Cents::of(money),
+        mark: Cents::of(mark),
+        dividend: Cents::ZERO,
+    }
+}
+
+// Looks at the sheet of the first day.
+fn look(rt: &impl Abort, sheet: &Sheet<Global>) {
+    let bought = row(rt, 1, 100, -1_950_000, 10_000);
+    let sold = row(rt, 2, -100, 1_950_000, -10_000);
+    assert!(rt; sheet.rows().get(0).copied() == Some(bought));
+    assert!(rt; sheet.rows().get(1).copied() == Some(sold));
+    assert!(rt; sheet.rows().len() == 2);
+    let own = sheet.rows_of(key(rt, 2).account);
+    assert!(rt; own.get(0).copied() == Some(sold) && own.len() == 1);
+    assert!(rt; sheet.row(key(rt, 1)) == Some(bought));
+    assert!(rt; sheet.row(key(rt, 0)) == None);
+    assert!(rt; sheet.next_price(None) == Some((issue(rt), price(rt, 19_600))));
+    assert!(rt; sheet.next_price(Some(issue(rt))) == None);
+}
+
+#[test]
+fn a_closed_day_has_its_sheet(rt: HostRuntime) -> Result<(), Fail> {
+    let mut book: FlatBook<Global> = Book::new(rt.alloc(), opening(&rt))?;
+    answers(&mut book, first_day(&rt).as_slice(), rt.alloc())?;
+    let Some(sheet) = book.sheet(opening(&rt)) else {
+        return Err(Fail::new("no sheet"));
+    };
+    look(&rt, &**sheet);
+    assert_eq!(rt; sheet.total_marks(), Cents::ZERO);
+    assert_eq!(rt; sheet.total_dividends(), Cents::ZERO);
+    assert!(rt; book.sheet(date(&rt, b"2024-06-04")).is_none());
+    Ok(())
+}
+
+#[test]
+fn a_statement_tells_its_rows_and_their_sums(rt: HostRuntime) -> Result<(), Fail> {
+    let mut book: FlatBook<Global> = Book::new(rt.alloc(), opening(&rt))?;
+    answers(&mut book, first_day(&rt).as_slice(), rt.alloc())?;
+    for (number, mark) in [(1, 10_000), (2, -10_000)] {
+        let account = key(&rt, number).account;
+        let date = opening(&rt);
+        let stated = Stated {
+            account,
+            date,
+            rows: 1,
+            mark: Cents::of(mark),
+            dividend: Cents::ZERO,
+        };
+        let Ok(receipt) = book.take(Worker::FIRST, Command::Statement { account, date }) else {
+            return Err(Fail::new("not taken"));
+        };
+        assert_eq!(rt; receipt.reply, Reply::Stated(stated));
+    }
+    Ok(())
+}
+
+#[test]
+fn reading_calls_tell_the_open_day(rt: HostRuntime) -> Result<(), Fail> {
+    let mut book: FlatBook<Global> = Book::new(rt.alloc(), opening(&rt))?;
+    assert_eq!(rt; book.day(), 1);
+    assert_eq!(rt; book.price(issue(&rt)), None);
+    answers(&mut book, first_day(&rt).as_slice(), rt.alloc())?;
+    assert_eq!(rt; book.day(), 2);
+    assert_eq!(rt; book.today(), date(&rt, b"2024-06-04"));
+    assert_eq!(rt; book.price(issue(&rt)), Some(price(&rt, 19_600)));
+    let Some(taken) = book.entry(4) else {
+        return Err(Fail::new("no entry"));
+    };
+    assert_eq!(rt; taken.reply, Reply::Accepted);
+    assert_eq!(rt; taken.seq, 4);
     Ok(())
 }

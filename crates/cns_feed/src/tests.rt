@@ -2,7 +2,7 @@
 mod scripts;
 
 use crate::{ReplayFault, Summary, load, replay, reply_text};
-use cns_terms::{Closed, Holding, Key, Refusal, Reply, Worker};
+use cns_terms::{Closed, Holding, Key, Refusal, Reply, Stated, Worker};
 use cns_units::{Account, Cents, Cusip, Day};
 use scripts::SCRIPTS;
 use std::io;
@@ -260,7 +260,12 @@ fn the_first_fault_of_a_record_decides(rt: HostRuntime) -> Result<(), Fail> {
         ("CLOSE", "line Count"),
         ("POSITION,10000,037833100", "line Range"),
         ("POSITION,0,037833100", "position 0 037833100 0 0 0.00 0"),
-        ("STATEMENT,0,2024-06-03", "line Kind"),
+        ("STATEMENT,0,2024-06-03", "refused 19"),
+        ("STATEMENT,1,2024-06-03", "refused 2"),
+        ("STATEMENT,0", "line Count"),
+        ("STATEMENT,x,2024-6-3", "line Number"),
+        ("STATEMENT,10000,2024-06-03", "line Range"),
+        ("STATEMENT,0,2024-6-3", "line Date"),
         ("DIVIDEND,1", "line Kind"),
     ];
     let mut input = String::new(rt.alloc());
@@ -310,6 +315,16 @@ fn each_reply_has_its_text(rt: HostRuntime) -> Result<(), Fail> {
                 },
             ),
             "position 0 17275R102 -10000000000 7 -0.01 4\n",
+        ),
+        (
+            Reply::Stated(Stated {
+                account: account(101)?,
+                date: day("2024-06-03")?,
+                rows: 1,
+                mark: Cents::of(-1),
+                dividend: Cents::of(12_345),
+            }),
+            "statement 101 2024-06-03 1 -0.01 123.45\n",
         ),
         (Reply::Refused(Refusal::MemberExists), "refused 1\n"),
         (Reply::Refused(Refusal::PendingTrades), "refused 20\n"),
