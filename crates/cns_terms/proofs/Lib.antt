@@ -16,3 +16,4 @@ pub mod SheetRows
 pub mod PriceLists
 pub mod SheetBounds
 pub mod Bounds
+pub mod Examples
