@@ -1,7 +1,7 @@
 use Rattle.std.proofs.Common.{◌≡◌, ◌^◌, ◌-◌, min, take, drop}
 use Rattle.std.specs.Str.{all_ascii_digits}
 use Rattle.std.specs.Str.Parse.{digits_value}
-use Rattle.cns_feed.proofs.digits.saturated.Given as goal
+use Rattle.cns_feed.proofs.digits.capped.Given as goal
 
 abbrev pub invariant-loop-byte : goal.invariant-loop-byte
 invariant-loop-byte l = (all_ascii_digits (drop l.byte-index l.bytes) ≡ all_ascii_digits l.bytes) × (l.value ≡ min (digits_value 10 (take l.byte-index l.bytes)) (2 ^ 64 - 1))

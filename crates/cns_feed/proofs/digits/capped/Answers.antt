@@ -1,7 +1,7 @@
 use Rattle.std.proofs.Common.{◌≡◌, ◌∙◌, sym, rules, refl, false}
 use Rattle.std.specs.Str.{all_ascii_digits}
 use Rattle.cns_feed.proofs.DigitLemmas.{digits-step, digits-stop, saturated-step}
-use Rattle.cns_feed.proofs.digits.saturated.Goals as goal
+use Rattle.cns_feed.proofs.digits.capped.Goals as goal
 
 pub returns-then-not-is_ascii_digit : goal.returns-then-not-is_ascii_digit
 returns-then-not-is_ascii_digit c =
