@@ -117,6 +117,17 @@ impl<P: Positions<A>, A: Allocator + Drop + Clone> Parts<P, A> {
         self.prices.price(issue).is_some()
     }
 
+    // Whether the issue is listed, and whether it is retired.
+    fn is_listed_or_retired(&self, issue: Cusip) -> (bool, bool)
+        ensures listed { (L : List Activity) → Follows L self.now → result.0 ≡ is_listed (journal self.now.opening L) issue }
+        ensures retired { (L : List Activity) → Follows L self.now → result.1 ≡ is_retired (journal self.now.opening L) issue }
+    {
+        match self.prices.quote(issue) {
+            Some(quote) => (true, quote.retired),
+            None => (false, false),
+        }
+    }
+
     // What stands at a key.
     fn standing(&self, key: Key) -> Holding
         ensures now { result ≡ holding_at self.now.rows key }

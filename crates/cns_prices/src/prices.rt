@@ -47,18 +47,25 @@ impl<A: Allocator + Drop> Prices<A> {
         }
     }
 
+    /// What is known of an issue; None where it is not listed.
+    pub fn quote(&self, cusip: Cusip) -> Option<Quote>
+        ensures { result ≡ quote_in self.now cusip }
+    {
+        self.issues.get(&cusip).copied()
+    }
+
     /// The price of an issue in cents; None where it is not listed.
     pub fn price(&self, cusip: Cusip) -> Option<Price>
         ensures { result ≡ price_in self.now cusip }
     {
-        self.issues.get(&cusip).map(|quote| quote.price)
+        self.quote(cusip).map(|quote| quote.price)
     }
 
     /// Whether the issue is retired.
     pub fn is_retired(&self, cusip: Cusip) -> bool
         ensures { result ≡ retired_in self.now cusip }
     {
-        match self.issues.get(&cusip) {
+        match self.quote(cusip) {
             Some(quote) => quote.retired,
             None => false,
         }

@@ -26,11 +26,12 @@ impl<P: Positions<A>, A: Allocator + Drop + Clone> Parts<P, A> {
         ensures buyer { ForSome result.buyer (λ q. unsigned_abs q ≤ 10 ^ 10) }
         ensures seller { ForSome result.seller (λ q. unsigned_abs q ≤ 10 ^ 10) }
     {
+        let (listed, retired) = self.is_listed_or_retired(trade.issue);
         TradeFacts {
             buyer: self.position_of(trade.buyer, trade.issue),
             seller: self.position_of(trade.seller, trade.issue),
-            listed: self.is_listed(trade.issue),
-            retired: self.prices.is_retired(trade.issue),
+            listed,
+            retired,
             today: self.today,
         }
     }
@@ -43,11 +44,12 @@ impl<P: Positions<A>, A: Allocator + Drop + Clone> Parts<P, A> {
             account: Account::CORPORATION,
             issue: movement.issue,
         };
+        let (listed, retired) = self.is_listed_or_retired(movement.issue);
         MoveFacts {
             member: self.position_of(movement.member, movement.issue),
             corporation: self.standing(corporation).now,
-            listed: self.is_listed(movement.issue),
-            retired: self.prices.is_retired(movement.issue),
+            listed,
+            retired,
         }
     }
 
