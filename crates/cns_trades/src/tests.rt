@@ -197,3 +197,47 @@ fn movements_are_refused_by_the_least_number(rt: HostRuntime) -> Result<(), Fail
     }
     Ok(())
 }
+
+#[test]
+fn references_are_seen_once_they_are_noted(rt: HostRuntime) -> Result<(), Fail> {
+    let mut trades = Trades::new(rt.alloc());
+    // Up within a page and into the next, far away and back, the least number and the greatest.
+    let noted = [
+        1,
+        2,
+        62,
+        63,
+        64,
+        65,
+        1_000,
+        3,
+        66,
+        1_000_000_000_000_000_000,
+        127,
+        128,
+        0,
+        u64::MAX,
+        129,
+    ];
+    for reference in noted {
+        assert!(rt; !trades.seen(reference), "{reference}");
+        trades.note_reference(reference)?;
+    }
+    for reference in noted {
+        assert!(rt; trades.seen(reference), "{reference}");
+    }
+    for reference in [
+        4,
+        61,
+        67,
+        126,
+        130,
+        999,
+        1_001,
+        999_999_999_999_999_999,
+        u64::MAX - 1,
+    ] {
+        assert!(rt; !trades.seen(reference), "{reference}");
+    }
+    Ok(())
+}
