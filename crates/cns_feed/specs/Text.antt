@@ -1,5 +1,5 @@
 -- The texts of replies and of records at fault.
-use Rattle.std.specs.Prelude.{ℕ, ◌∷◌, ◌++◌, [], List, codes}
+use Rattle.std.specs.Prelude.{ℕ, ◌∷◌, [], List, codes}
 use Rattle.std.specs.Fmt.{decimal, signed_decimal}
 use Rattle.cns_units.specs.Cents.{cents_text}
 use Rattle.cns_units.specs.Day.{day_text}

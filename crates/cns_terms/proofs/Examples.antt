@@ -9,7 +9,6 @@ use Rattle.cns_terms.specs.declared.command.Activity.TheVariants as activity
 use Rattle.cns_terms.specs.declared.command.Command.{Command}
 use Rattle.cns_terms.specs.declared.command.Command.TheVariants as command
 use Rattle.cns_terms.specs.declared.refusal.Refusal.TheVariants.{MemberExists, NoSuchMember, IssueExists, NoSuchIssue, SameParty, WrongDay, SeenReference, ExceedsPosition, NotOnHand, NotLong, TooLarge, NoSuchDay}
-use Rattle.cns_terms.specs.declared.refusal.Refusal.{Refusal}
 use Rattle.cns_terms.specs.declared.reply.Reply.{Reply}
 use Rattle.cns_terms.specs.declared.reply.Reply.TheVariants as reply
 use Rattle.cns_terms.specs.Days.{is_not_after, is_same_day}

@@ -1,5 +1,5 @@
 -- The rows of an account on a sheet are those of its statement.
-use Rattle.std.proofs.Common.{◌≡◌, ◌∙◌, sym, ap, refl, ℕ, ◌+◌, ◌≤◌, Bool, true, false, not, ◌&&◌, cond, eqb, List, [], ◌∷◌, ◌++◌, map, filter, flat_map, arith}
+use Rattle.std.proofs.Common.{◌≡◌, ◌∙◌, sym, ap, refl, ℕ, ◌+◌, Bool, true, false, ◌&&◌, cond, eqb, List, [], ◌∷◌, ◌++◌, map, filter, flat_map, arith}
 use Rattle.std.specs.Prelude.{bytes_eq}
 use Rattle.std.specs.List.{list_any}
 use Rattle.std.proofs.lemmas.Bool.{eqb-true}
@@ -11,7 +11,7 @@ use Rattle.cns_units.specs.declared.day.Day.{Day}
 use Rattle.cns_terms.specs.declared.sheet.Row.{Row}
 use Rattle.cns_terms.specs.Listings.{accounts, is_account, issues}
 use Rattle.cns_terms.specs.Postings.{Journal}
-use Rattle.cns_terms.specs.Sheets.{is_idle, row, rows_of, sheet_rows}
+use Rattle.cns_terms.specs.Sheets.{row, rows_of, sheet_rows}
 use Rattle.cns_terms.proofs.Accounts.{occurs, occurs_found, occurs_missing}
 use Rattle.cns_terms.proofs.Cells.{key}
 use Rattle.cns_terms.proofs.Elsewhere.{idle_at}

@@ -1,9 +1,8 @@
-use Rattle.std.proofs.Common.{sym, ap}
 use Rattle.std.proofs.lemmas.Result.{err_from_is_err_and}
 use Rattle.cns_units.proofs.OutputLemmas.{front_longer, writes_then}
 use Rattle.cns_book.specs.Log.{state_of}
 use Rattle.cns_statements.specs.Texts.{rows_text}
-use Rattle.cns_feed.specs.Output.{outcome_text, rows_told}
+use Rattle.cns_feed.specs.Output.{rows_told}
 use Rattle.cns_feed.specs.Text.{reply_line}
 use Rattle.cns_feed.proofs.outcome.write_outcome.Goals as goal
 

@@ -1,4 +1,4 @@
-use Rattle.std.proofs.Common.{◌≡◌, ◌∙◌, ◌<◌, ap, length, true, Some}
+use Rattle.std.proofs.Common.{◌∙◌, ◌<◌, ap, length, Some}
 use Rattle.std.specs.Arc.{arc_value}
 use Rattle.cns_book.proofs.Dated.{sheet_at, sheet_nowhere}
 use Rattle.cns_book.proofs.closed_days.ClosedDays.find.Goals as goal
