@@ -89,11 +89,11 @@ mirrored xs i e h = get_or-reverse xs (length xs - 1 - i) e (omega (arith, h)) �
 
 rises : (xs : List DaySheet) (d : Day) (e : DaySheet) (i j : ℕ) → AreFalling (reverse xs) → i ≤ j → j < length xs → ordering_index (int_cmp (number (get_or xs i e)) (day_number d)) ≤ ordering_index (int_cmp (number (get_or xs j e)) (day_number d))
 rises xs d e i j f le lt = elim (cases_lt i j) [
-    | inl p ↦
-        let earlier = falls (reverse xs) (length xs - 1 - j) (length xs - 1 - i) e f (omega (arith, p, lt)) (rw (length-reverse xs) (omega (arith, p, lt))) in
-        rising_index _ _ (day_number d) (sym (λ k. int_lt (number (mirrored xs i e (omega (arith, p, lt)) k)) (number (mirrored xs j e lt k))) ∙ earlier)
-    | inr p ↦ let same : i ≡ j = omega (arith, p, le) in rw same (omega arith)
-  ]
+  | inl p ↦
+      let earlier = falls (reverse xs) (length xs - 1 - j) (length xs - 1 - i) e f (omega (arith, p, lt)) (rw (length-reverse xs) (omega (arith, p, lt))) in
+      rising_index _ _ (day_number d) (sym (λ k. int_lt (number (mirrored xs i e (omega (arith, p, lt)) k)) (number (mirrored xs j e lt k))) ∙ earlier)
+  | inr p ↦ let same : i ≡ j = omega (arith, p, le) in rw same (omega arith)
+]
 
 -- ---- a search among what stands for sheets
 
@@ -124,7 +124,7 @@ module _ {X : Type 0} (f : X → DaySheet) (d : Day) where
   found_at xs (Err i) h = tt
 
   apart_within : (xs : List X) (i : ℕ) → IsPartitionPoint (λ x. compared x ≡ Less) (λ x. compared x ≡ Greater) xs i → AllWithin (λ x. is_dated d (f x) ≡ false) xs 0 (length xs)
-  apart_within xs i h = λ j e p q. elim (cases_lt j i) [ | inl l ↦ not_less (number (f (get_or xs j e))) (day_number d) (h.0 j e p l) | inr l ↦ not_greater (number (f (get_or xs j e))) (day_number d) (h.1 j e l q) ]
+  apart_within xs i h = λ j e p q. elim (cases_lt j i) [ inl l ↦ not_less (number (f (get_or xs j e))) (day_number d) (h.0 j e p l) | inr l ↦ not_greater (number (f (get_or xs j e))) (day_number d) (h.1 j e l q) ]
 
   nowhere : (xs : List X) (e : X) (r : Result ℕ ℕ) → AreFalling (reverse (map f xs)) → IsBinarySearchResult compared xs r → IfErr r (λ _. AllWithin (λ x. is_dated d (f x) ≡ false) xs 0 (length xs))
   nowhere xs e (Ok i) falling h = tt
@@ -148,10 +148,10 @@ module _ {X : Type 0} (f : X → DaySheet) (d : Day) where
   none_shown xs e h =
       let ys = map f xs in
       sym (find_none (reverse ys) d (f e) (λ j lt.
-          let in_range : j < length ys = subst (λ n. j < n) (length-reverse ys) lt in
-          let k : ℕ = length ys - 1 - j in
-          let mirror : k < length xs = subst (λ n. k < n) (length-map xs f) (omega (arith, in_range)) in
-          ap (λ s. is_dated d s) (get_or-reverse ys j (f e) in_range ∙ shown xs k e mirror) ∙ h k e (omega arith) mirror))
+      let in_range : j < length ys = subst (λ n. j < n) (length-reverse ys) lt in
+      let k : ℕ = length ys - 1 - j in
+      let mirror : k < length xs = subst (λ n. k < n) (length-map xs f) (omega (arith, in_range)) in
+      ap (λ s. is_dated d s) (get_or-reverse ys j (f e) in_range ∙ shown xs k e mirror) ∙ h k e (omega arith) mirror))
 
   pub sheet_nowhere : (xs : List X) → AllWithin (λ x. is_dated d (f x) ≡ false) xs 0 (length xs) → None ≡ sheet_on (reverse (map f xs)) d
   sheet_nowhere [] h = refl

@@ -248,6 +248,10 @@ fn a_book_without_memory_is_as_it_was(rt: HostRuntime) -> Result<(), Fail> {
     assert_eq!(rt; book.history_len() as u64, taken + 3);
     let held = book.position(key(&rt, 1).account, issue(&rt));
     assert_eq!(rt; held, Some(holding(taken as i64, 0, 0, 0)));
+    let close = Command::Activity(Activity::Close(date(&rt, b"2024-06-04")));
+    assert_eq!(rt; book.take(Worker::FIRST, close), Err(TakeFault::NoMemory));
+    assert_eq!(rt; book.day(), 1);
+    assert!(rt; book.sheet(opening(&rt)).is_none());
     Ok(())
 }
 
@@ -305,6 +309,21 @@ fn a_closed_day_has_its_sheet(rt: HostRuntime) -> Result<(), Fail> {
     assert_eq!(rt; sheet.total_marks(), Cents::ZERO);
     assert_eq!(rt; sheet.total_dividends(), Cents::ZERO);
     assert!(rt; book.sheet(date(&rt, b"2024-06-04")).is_none());
+    Ok(())
+}
+
+#[test]
+fn a_day_without_activities_has_a_sheet_without_rows(rt: HostRuntime) -> Result<(), Fail> {
+    let mut book: FlatBook<Global> = Book::new(rt.alloc(), opening(&rt))?;
+    let close = [first(Command::Activity(Activity::Close(date(&rt, b"2024-06-04"))))];
+    answers(&mut book, close.as_slice(), rt.alloc())?;
+    let Some(sheet) = book.sheet(opening(&rt)) else {
+        return Err(Fail::new("no sheet"));
+    };
+    assert_eq!(rt; sheet.len(), 0);
+    assert_eq!(rt; sheet.date(), opening(&rt));
+    assert_eq!(rt; sheet.total_marks(), Cents::ZERO);
+    assert_eq!(rt; sheet.total_dividends(), Cents::ZERO);
     Ok(())
 }
 
