@@ -1,6 +1,6 @@
 -- The sheet that a close cuts is the one of the definitions.
 use Rattle.std.proofs.Common.{◌≡◌, ◌∙◌, sym, ap, subst, refl, ℕ, ◌+◌, ◌*◌, ◌^◌, ◌≤◌, ◌<◌, Bool, true, false, cond, List, [], ◌∷◌, length, map, Option, Some, None, unwrap_or, arith}
-use Rattle.std.specs.Prelude.{option_map, slice_get, unsigned_abs}
+use Rattle.std.specs.Prelude.{slice_get, unsigned_abs}
 use Rattle.std.specs.Cmp.Lexicographic.{slice_cmp}
 use Rattle.std.specs.FinMap.{find, is_sorted}
 use Rattle.std.specs.List.{AllByRecursion}
@@ -27,9 +27,9 @@ use Rattle.cns_terms.proofs.SheetRows.{rows_are_sheet}
 use Rattle.cns_terms.proofs.SheetSums.{sheet_zero}
 use Rattle.cns_terms.proofs.Sound.{IsSound, IsWhole, sound_last}
 use Rattle.cns_positions.specs.Rows.{Rows, holding_at, zeros}
-use Rattle.cns_prices.specs.Listed.{Listed, listed_above, price_in, quote_in}
+use Rattle.cns_prices.specs.Listed.{Listed, listed_above, price_in}
 use Rattle.cns_sheets.specs.Build.{AreBalanced, AreFew, HasSmallCents, prices_of, row_from, rows_from, sheet_from}
-use Rattle.cns_sheets.proofs.Kept.{prices_rise}
+use Rattle.cns_sheets.proofs.Kept.{listed_found, prices_rise}
 use Rattle.cns_book.specs.Contents.{Contents}
 use Rattle.cns_book.specs.Follows.{AreSmall, Follows}
 use Rattle.cns_book.proofs.Lengths.{journal_len}
@@ -43,14 +43,6 @@ before_is opening (K ∷ Ks) = refl
 
 quote_branch : (b : Bool) (p : ℕ) (o o' : Option ℕ) → o ≡ o' → cond b (Some p) o ≡ cond b (Some p) o'
 quote_branch b p o o' h = ap (cond b (Some p)) h
-
-listed_found : (c : Cusip) (es : Listed) → find (slice_cmp nat_cmp) c (listed_above es None) ≡ price_in es c
-listed_found c [] = refl
-listed_found c (e ∷ es) = found (is_eq (slice_cmp nat_cmp c e.0)) (listed_found c es)
-  where
-    found : (b : Bool) → find (slice_cmp nat_cmp) c (listed_above es None) ≡ price_in es c → cond b (Some e.1.price) (find (slice_cmp nat_cmp) c (listed_above es None)) ≡ option_map (λ q. q.price) (cond b (Some e.1) (quote_in es c))
-    found true h = refl
-    found false h = h
 
 -- the list of prices is that of the definitions
 prices_are : (J : Journal) (es : Listed) → IsSound J → is_sorted (slice_cmp nat_cmp) es ≡ true → ((c : Cusip) → price_in es c ≡ cond (is_listed J c) (Some (price J c)) None) → listed_above es None ≡ sheet_prices J

@@ -38,26 +38,35 @@ worth q p = q *ℤ pos p
 abbrev pub marked : ℤ → ℤ → Price → Price → ℤ → ℤ
 marked opening closing opening_price price money = (worth closing price -ℤ worth opening opening_price) +ℤ money
 
+-- the row that a holding makes, by its issue's price at the close before and at this one
+abbrev pub priced_row : Price → Price → Key × Holding → Row
+priced_row opening_price price e = record {
+  account = e.0.account;
+  issue = e.0.issue;
+  opening = e.1.opening;
+  closing = e.1.now;
+  opening_price = opening_price;
+  price = price;
+  money = e.1.contract;
+  mark = marked e.1.opening e.1.now opening_price price e.1.contract;
+  dividend = pos 0;
+}
+
 -- the row that a holding makes, by the prices of the close before and of this one
 abbrev pub row_from : PriceList → Listed → Key × Holding → Row
-row_from before prices e =
-    let opening_price = unwrap_or (price_on before e.0.issue) 0 in
-    let price = unwrap_or (price_in prices e.0.issue) 0 in
-    record {
-      account = e.0.account;
-      issue = e.0.issue;
-      opening = e.1.opening;
-      closing = e.1.now;
-      opening_price = opening_price;
-      price = price;
-      money = e.1.contract;
-      mark = marked e.1.opening e.1.now opening_price price e.1.contract;
-      dividend = pos 0;
-    }
+row_from before prices e = priced_row (unwrap_or (price_on before e.0.issue) 0) (unwrap_or (price_in prices e.0.issue) 0) e
+
+-- the same, by two lists of prices
+abbrev pub listed_row : PriceList → PriceList → Key × Holding → Row
+listed_row before now e = priced_row (unwrap_or (price_on before e.0.issue) 0) (unwrap_or (price_on now e.0.issue) 0) e
 
 -- the rows that say something, in the order of their keys
 abbrev pub rows_from : PriceList → Listed → Rows → List Row
 rows_from before prices positions = filter (λ r. not (is_idle r)) (map (row_from before prices) positions)
+
+-- the same, by two lists of prices
+abbrev pub listed_rows : PriceList → PriceList → Rows → List Row
+listed_rows before now positions = filter (λ r. not (is_idle r)) (map (listed_row before now) positions)
 
 -- the sheet of a day
 abbrev pub sheet_from : Day → PriceList → Listed → Rows → DaySheet

@@ -7,6 +7,7 @@
 #![tactic(auto)]
 
 mod prices;
+mod quotes;
 mod rows;
 mod search;
 mod sheet;

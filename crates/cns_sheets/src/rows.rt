@@ -4,13 +4,13 @@ ghost use Rattle.std.specs.Cmp.Lexicographic.{slice_cmp};
 ghost use Rattle.std.specs.FinMap.{is_sorted};
 ghost use Rattle.std.specs.List.{AllByRecursion};
 ghost use Rattle.std.specs.Ordering.{nat_cmp};
+ghost use Rattle.cns_terms.specs.declared.holding.Key.{Key};
 ghost use Rattle.cns_terms.specs.Sheets.{is_idle};
-ghost use Rattle.cns_prices.specs.Listed.{price_in};
-ghost use Rattle.cns_sheets.specs.Build.{HasSmallCents, IsMarked, price_on, row_from, rows_from, worth, marked};
+ghost use Rattle.cns_units.specs.declared.price.Price.{Price};
+ghost use Rattle.cns_sheets.specs.Build.{HasSmallCents, IsMarked, priced_row, listed_rows, worth, marked};
 
-use crate::prices::price_on;
+use crate::quotes::Quotes;
 use cns_positions::Positions;
-use cns_prices::Prices;
 use cns_terms::{Holding, Key, NoMemory, Row};
 use cns_units::{Cents, Cusip, Price};
 use std::alloc::Allocator;
@@ -60,20 +60,12 @@ fn or_zero(price: Option<Price>) -> Price
     price.unwrap_or(Price::ZERO)
 }
 
-// The row that a holding makes.
-fn row_of<A: Allocator + Drop>(
-    before: &[(Cusip, Price)],
-    prices: &Prices<A>,
-    key: &Key,
-    holding: &Holding,
-) -> Row
-    requires order { is_sorted (slice_cmp nat_cmp) before.now ≡ true }
-    requires small { HasSmallCents (key.now, holding.now) }
-    ensures row { result ≡ row_from before.now prices.now (key.now, holding.entry.now) }
+// The row that a holding makes, by its issue's price at the close before and at this one.
+fn row_of(key: &Key, holding: &Holding, opening_price: Price, price: Price) -> Row
+    requires { HasSmallCents (key.now, holding.now) }
+    ensures row { result ≡ priced_row opening_price price (key.now, holding.entry.now) }
     ensures marked { IsMarked result }
 {
-    let opening_price = or_zero(price_on(before, key.issue));
-    let price = or_zero(prices.price(key.issue));
     let mark = marked(
         holding.opening,
         holding.now,
@@ -94,32 +86,39 @@ fn row_of<A: Allocator + Drop>(
     }
 }
 
-// Whether a row says nothing. A holding that is no more than an age makes such a row.
-fn is_idle(row: &Row) -> bool
-    ensures { result ≡ is_idle row.now }
+// Whether the row of a holding says nothing, whatever the prices. A holding that is no more than an age makes such a row.
+fn is_silent(holding: &Holding) -> bool
+    ensures { (k : Key) (before : Price) (now : Price) → result ≡ is_idle (priced_row before now (k, holding.entry.now)) }
 {
-    row.opening == 0 && row.closing == 0 && row.money == Cents::ZERO && row.dividend == Cents::ZERO
+    holding.opening == 0 && holding.now == 0 && holding.contract == 0
 }
 
-/// The rows of a day, in the order of keys. Where memory is refused nothing has changed.
+/// The rows of a day, in the order of keys, of which `room` are expected, by the prices of the close before and of this
+/// one. Where memory is refused nothing has changed.
 pub fn collect<P: Positions<B>, B, A: Allocator + Drop>(
     alloc: A,
+    room: usize,
     positions: &P,
-    prices: &Prices<A>,
     before: &[(Cusip, Price)],
+    now: &[(Cusip, Price)],
 ) -> Result<Vec<Row, A>, NoMemory>
-    requires order { is_sorted (slice_cmp nat_cmp) before.now ≡ true }
+    requires before_rise { is_sorted (slice_cmp nat_cmp) before.now ≡ true }
+    requires now_rise { is_sorted (slice_cmp nat_cmp) now.now ≡ true }
     requires small { AllByRecursion HasSmallCents (P.rows positions.now) }
-    ensures rows { IfOk result (λ v. v.items ≡ rows_from before.now prices.now (P.rows positions.now)) }
+    ensures rows { IfOk result (λ v. v.items ≡ listed_rows before.now now.now (P.rows positions.now)) }
     ensures marked { IfOk result (λ v. AllByRecursion IsMarked v.items) }
 {
-    let mut rows = Vec::new(alloc);
+    let mut rows = Vec::with_capacity(alloc, room)?;
+    let mut earlier = Quotes::new(before);
+    let mut current = Quotes::new(now);
     let mut after = None;
     while let Some((key, holding)) = positions.next_row(after) {
         let key = &key;
-        let row = row_of(before, prices, key, &holding);
-        if !is_idle(&row) {
-            let Ok(()) = rows.push(row) else {
+        let holding = &holding;
+        if !is_silent(holding) {
+            let opening_price = or_zero(earlier.price(&key.issue, 0));
+            let price = or_zero(current.price(&key.issue, earlier.passed()));
+            let Ok(()) = rows.push(row_of(key, holding, opening_price, price)) else {
                 return Err(NoMemory);
             };
         }

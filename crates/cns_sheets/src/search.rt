@@ -65,7 +65,7 @@ fn past(prices: &[(Cusip, Price)], after: Option<Cusip>) -> usize
     let Some(issue) = after else {
         return 0;
     };
-    match prices::place(prices, issue) {
+    match prices::place(prices, &issue) {
         Ok(at) => at + 1,
         Err(at) => at,
     }

@@ -59,12 +59,10 @@ impl<A: Allocator + Drop + Clone> Sheet<A> {
         ensures order { OnOk result (is_sorted (slice_cmp nat_cmp) prices.now ≡ true) }
     {
         let earlier = prices_before(before);
-        let rows = collect(alloc.clone()?, positions, prices, earlier)?;
-        Ok(Sheet {
-            date,
-            prices: listed(alloc, prices)?,
-            rows,
-        })
+        let prices = listed(alloc.clone()?, earlier.len(), prices)?;
+        let room = before.map_or(0, |sheet| sheet.len());
+        let rows = collect(alloc, room, positions, earlier, prices.as_slice())?;
+        Ok(Sheet { date, prices, rows })
     }
 }
 
@@ -119,7 +117,7 @@ impl<A: Allocator + Drop> Sheet<A> {
     pub fn price(&self, cusip: Cusip) -> Option<Price>
         ensures { result ≡ price_on self.now.prices cusip }
     {
-        price_on(self.prices.as_slice(), cusip)
+        price_on(self.prices.as_slice(), &cusip)
     }
 
     /// The first of the sheet's issues above another, or the first of all, with its price in cents; None past the last.

@@ -1,4 +1,5 @@
 pub mod OutputLemmas
 pub mod CusipLemmas
+pub mod CusipValues
 pub mod CentsLemmas
 pub mod DayLemmas

@@ -6,7 +6,7 @@ use Rattle.std.specs.List.{HoldsAt}
 use Rattle.std.specs.List.Sorted.{IsBinarySearchResult, IsPartitionPoint}
 use Rattle.std.specs.Ordering.{nat_cmp}
 use Rattle.std.proofs.lemmas.Cmp.{nat_list_cmp_total}
-use Rattle.std.proofs.lemmas.List.Sorted.{answers_always}
+use Rattle.std.proofs.lemmas.Fn.{always_returns_same}
 use Rattle.cns_units.specs.declared.cusip.Cusip.{Cusip}
 use Rattle.cns_positions.proofs.Puts.{comparisons_rise}
 use Rattle.cns_sheets.specs.Build.{PriceList}
@@ -21,7 +21,7 @@ absent es c (Ok i) s h = tt
 absent es c (Err i) s h = h (comparisons_rise nat_list_cmp_total es c (c, 0) s)
 
 pub returns-clause-found : goal.returns-clause-found
-returns-clause-found c = found c.args.prices.now c.args.issue _ (c.binary_search_by_key.ensures.position (λ e. e.0) (answers_always _ _ _ (λ f a r g called. search rules)))
+returns-clause-found c = found c.args.prices.now c.args.issue.now _ (c.binary_search_by.ensures.position (λ e. slice_cmp nat_cmp e.0 c.args.issue.now) (always_returns_same _ _ _ (λ a r g called. search rules)))
 
 pub returns-clause-absent : goal.returns-clause-absent
-returns-clause-absent c = absent c.args.prices.now c.args.issue _ c.requires (c.binary_search_by_key.ensures.position (λ e. e.0) (answers_always _ _ _ (λ f a r g called. search rules)))
+returns-clause-absent c = absent c.args.prices.now c.args.issue.now _ c.requires (c.binary_search_by.ensures.position (λ e. slice_cmp nat_cmp e.0 c.args.issue.now) (always_returns_same _ _ _ (λ a r g called. search rules)))

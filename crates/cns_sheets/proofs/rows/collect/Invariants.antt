@@ -1,13 +1,15 @@
 use Rattle.std.proofs.Common.{◌≡◌, ◌++◌, length}
 use Rattle.std.specs.List.{AllByRecursion}
 use Rattle.cns_positions.specs.Rows.{held_above}
-use Rattle.cns_sheets.specs.Build.{IsMarked, rows_from}
+use Rattle.cns_sheets.specs.Build.{IsMarked, listed_rows}
 use Rattle.cns_sheets.proofs.rows.collect.Given as goal
 
 abbrev pub invariant-loop-key : goal.invariant-loop-key
 invariant-loop-key g l = record {
-  done : rows_from l.before l.prices (g.P.Positions.rows l.positions) ≡ l.rows.items ++ rows_from l.before l.prices (held_above (g.P.Positions.rows l.positions) l.after);
+  done : listed_rows l.before l.now (g.P.Positions.rows l.positions) ≡ l.rows.items ++ listed_rows l.before l.now (held_above (g.P.Positions.rows l.positions) l.after);
   marked : AllByRecursion IsMarked l.rows.items;
+  earlier : l.earlier ≡ l.before;
+  current : l.current ≡ l.now;
 }
 
 abbrev pub decreases-loop-key : goal.decreases-loop-key
