@@ -1,13 +1,11 @@
 -- The rows above a key in the accounts' lists.
-use Rattle.std.proofs.Common.{◌≡◌, ◌∙◌, sym, ap, subst, refl, ℕ, zero, suc, ◌<◌, ◌≤◌, ◌+◌, Bool, true, false, ◌&&◌, cond, List, [], ◌∷◌, ◌++◌, length, get_or, take, filter, Option, Some, None, MatchOption, arith}
-use Rattle.std.specs.List.{flat_map}
+use Rattle.std.proofs.Common.{◌≡◌, ◌∙◌, sym, ap, refl, ℕ, zero, suc, ◌<◌, ◌≤◌, ◌+◌, Bool, true, false, ◌&&◌, cond, List, [], ◌∷◌, ◌++◌, length, get_or, take, Option, Some, None, MatchOption, arith}
 use Rattle.std.specs.Ordering.{is_lt}
 use Rattle.std.proofs.lemmas.List.{take_more, take_all, append-nil}
 use Rattle.std.proofs.lemmas.List.Elements.{filter-append}
 use Rattle.std.proofs.lemmas.Grind.{flat_map-append}
 use Rattle.cns_terms.specs.declared.holding.Key.{Key}
 use Rattle.cns_terms.specs.declared.holding.Holding.{Holding}
-use Rattle.cns_terms.specs.Keys.{key_cmp}
 use Rattle.cns_positions.specs.Rows.{Rows, held_above, is_above, is_held}
 use Rattle.cns_positions.specs.Flat.{AreOf, AreAccounts, joined}
 use Rattle.cns_positions.proofs.Puts.{and_left}
@@ -22,9 +20,11 @@ none_other k m (e ∷ es) own lt =
     ap (λ o. cond (is_lt o && is_held e.1) (e ∷ held_above es (Some k)) (held_above es (Some k))) (above_account k e.0 over)
     ∙ none_other k m es own.1 lt
 
+-- what is above a key in two lists, one after the other
 apart : (after : Option Key) (es fs : Rows) → held_above (es ++ fs) after ≡ held_above es after ++ held_above fs after
 apart after es fs = filter-append (test after) es fs
 
+-- the lists before an account have no row above its keys
 none_from : (k : Key) (m : ℕ) (ess : List Rows) (n : ℕ) → AreFrom m ess → m + n ≤ k.account → held_above (joined (take n ess)) (Some k) ≡ []
 none_from k m [] zero h le = refl
 none_from k m [] (suc n) h le = refl
@@ -64,14 +64,17 @@ passing m after (x ∷ es) fs r own e = by (test after x) refl (passing m after 
         (ap (λ (y : Key × Holding). y.0.account) (sym same) ∙ own.0, ap (λ (y : Key × Holding). is_above after y.0) (sym same) ∙ and_left (is_above after x.0) (is_held x.1) t)
     by false t later q = later q
 
+-- where nothing is in two lists, nothing is in the first
 no_left : (es fs : Rows) → es ++ fs ≡ [] → es ≡ []
 no_left [] fs e = refl
 no_left (x ∷ es) fs e = cc
 
+-- and nothing in the second
 no_right : (es fs : Rows) → es ++ fs ≡ [] → fs ≡ []
 no_right [] fs e = e
 no_right (x ∷ es) fs e = cc
 
+-- the first row above a key, in the lists from an account on
 held_from : (m : ℕ) (ess : List Rows) (after : Option Key) (n : ℕ) (r : Key × Holding) → AreFrom m ess → held_above (joined (take n ess)) after ≡ [] → held_above (get_or ess n []) after ≡ r ∷ held_above (get_or ess n []) (Some r.0) → (held_above (joined ess) after ≡ r ∷ held_above (joined ess) (Some r.0)) × (m + n ≡ r.0.account)
 held_from m [] after n r h none at = cc
 held_from m (es ∷ ess) after zero r h none at =
@@ -81,12 +84,14 @@ held_from m (es ∷ ess) after zero r h none at =
 held_from m (es ∷ ess) after (suc n) r h none at =
     let split = sym (apart after es (joined (take n ess))) ∙ none in
     let later = held_from (m + 1) ess after n r (rest_of m es ess h) (no_right (held_above es after) _ split) at in
-    let before : held_above es (Some r.0) ≡ [] = none_other r.0 m es (first_of m es ess h).own (omega (arith, later.1)) in
-    (apart after es (joined ess)
-    ∙ ap (λ fs. fs ++ held_above (joined ess) after) (no_left _ (held_above (joined (take n ess)) after) split)
-    ∙ later.0
-    ∙ ap (λ fs. r ∷ (fs ++ held_above (joined ess) (Some r.0))) (sym before)
-    ∙ ap (λ fs. r ∷ fs) (sym (apart (Some r.0) es (joined ess))), omega (arith, later.1))
+    let before : held_above es (Some r.0) ≡ [] = none_other r.0 m es (first_of m es ess h).own (omega (arith, later.1)) in (
+      apart after es (joined ess)
+          ∙ ap (λ fs. fs ++ held_above (joined ess) after) (no_left _ (held_above (joined (take n ess)) after) split)
+          ∙ later.0
+          ∙ ap (λ fs. r ∷ (fs ++ held_above (joined ess) (Some r.0))) (sym before)
+          ∙ ap (λ fs. r ∷ fs) (sym (apart (Some r.0) es (joined ess))),
+      omega (arith, later.1),
+    )
 
 -- the first row above a key in a list, where the lists before have none
 pub held_joined : (ess : List Rows) (after : Option Key) (n : ℕ) (r : Key × Holding) → AreAccounts ess → held_above (joined (take n ess)) after ≡ [] → held_above (get_or ess n []) after ≡ r ∷ held_above (get_or ess n []) (Some r.0) → held_above (joined ess) after ≡ r ∷ held_above (joined ess) (Some r.0)

@@ -51,7 +51,8 @@ row_stays es k v q e = ap is_some (find-put key_cmp keys_total q k v es) ∙ eit
 pub row_put : (es : Rows) (k : Key) (v : Holding) → has_row (put key_cmp k v es) k ≡ true
 row_put es k v = ap is_some (find-put key_cmp keys_total k k v es ∙ ap (λ b. cond b (Some v) (find key_cmp k es)) ((eq_by_cmp_equiv keys_total).refl k))
 
-equal : (r : Ordering) → is_eq r ≡ true → r ≡ Equal
+-- a tie, as a test answers it
+pub equal : (r : Ordering) → is_eq r ≡ true → r ≡ Equal
 equal Less e = cc
 equal Equal e = refl
 equal Greater e = cc

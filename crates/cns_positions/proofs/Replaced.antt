@@ -1,5 +1,5 @@
 -- One account's vector of rows, replaced by another.
-use Rattle.std.proofs.Common.{◌≡◌, ◌≢◌, ◌∙◌, sym, ap, subst, refl, ℕ, ◌<◌, ◌≤◌, ◌+◌, true, false, List, [], ◌∷◌, ◌++◌, length, get_or, set, take, drop, map, Option, Some, arith}
+use Rattle.std.proofs.Common.{◌≡◌, ◌≢◌, ◌∙◌, sym, ap, subst, ℕ, ◌<◌, ◌≤◌, ◌+◌, true, false, List, [], ◌∷◌, ◌++◌, length, get_or, set, take, drop, map, Option, Some}
 use Rattle.std.specs.declared.vec.Vec.{Vec}
 use Rattle.std.proofs.lemmas.List.{get_or-map, get_or_past, map-set, length-map}
 use Rattle.std.proofs.lemmas.List.Edits.{map_over_more}
@@ -11,16 +11,19 @@ use Rattle.cns_positions.specs.Rows.{Rows, holding_at, held_above}
 use Rattle.cns_positions.specs.Placed.{has_row, closed_rows}
 use Rattle.cns_positions.specs.Flat.{AreAccounts, IsAccount, joined, lists_of}
 use Rattle.cns_positions.proofs.Above.{held_joined, none_more}
-use Rattle.cns_positions.proofs.Lists.{holding_joined, row_joined, set_accounts, set_holding, set_rows, set_row, account_more, joined_more}
+use Rattle.cns_positions.proofs.Appended.{account_more, joined_more}
+use Rattle.cns_positions.proofs.Lists.{holding_joined, row_joined, set_accounts, set_holding, set_rows, set_row}
 
 module _ {Z : Type 0} (vs : List (Vec (Key × Holding) Z)) (i : ℕ) (v w : Vec (Key × Holding) Z) (lt : i < length vs) (at : v ≡ get_or vs i v) where
   -- the list at an index
   pub list_at : (d : Rows) → get_or (lists_of vs) i d ≡ v.items
   list_at d = get_or-map (λ u. u.items) vs i v d lt ∙ ap (λ u. u.items) (sym at)
 
+  -- the index is one of the lists too
   in_lists : i < length (lists_of vs)
   in_lists = subst (λ n. i < n) (sym (length-map vs (λ u. u.items))) lt
 
+  -- the lists with the other vector
   put_there : lists_of (set vs i w) ≡ set (lists_of vs) i w.items
   put_there = map-set (λ u. u.items) vs i w
 
@@ -45,8 +48,8 @@ module _ {Z : Type 0} (vs : List (Vec (Key × Holding) Z)) (i : ℕ) (v w : Vec 
   holding_replaced n f same h new change other k =
       ap (λ ess. holding_at (joined ess) k) put_there
       ∙ set_holding (lists_of vs) i w.items f in_lists h (subst (λ m. IsAccount m w.items) (sym same) new)
-        (λ q. change q ∙ ap (λ es. f q (holding_at es q)) (sym (list_at [])))
-        (λ q x ne. other q x (λ e. ne (e ∙ sym same))) k
+      (λ q. change q ∙ ap (λ es. f q (holding_at es q)) (sym (list_at [])))
+      (λ q x ne. other q x (λ e. ne (e ∙ sym same))) k
 
   -- which keys have rows then
   pub rows_replaced : (n : ℕ) → i ≡ n → AreAccounts (lists_of vs) → IsAccount n w.items → ((k : Key) → has_row v.items k ≡ true → has_row w.items k ≡ true) → (k : Key) → has_row (joined (lists_of vs)) k ≡ true → has_row (joined (lists_of (set vs i w))) k ≡ true
@@ -64,6 +67,7 @@ module _ {Z : Type 0} (vs : List (Vec (Key × Holding) Z)) (i : ℕ) (v w : Vec 
   pub closed_more : (ess : List Rows) → i < length ess → lists_of vs ≡ map closed_rows (take i ess) ++ drop i ess → w.items ≡ closed_rows v.items → lists_of (set vs i w) ≡ map closed_rows (take (i + 1) ess) ++ drop (i + 1) ess
   closed_more ess in_all done closed = put_there ∙ ap (set (lists_of vs) i) closed ∙ map_over_more closed_rows ess (lists_of vs) i v.items in_all done (sym (list_at v.items))
 
+  -- there is a list for each vector
   all_lists : (n : ℕ) → length vs ≡ n → length (lists_of vs) ≡ n
   all_lists n len = length-map vs (λ u. u.items) ∙ len
 

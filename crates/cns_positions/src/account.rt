@@ -12,77 +12,107 @@ ghost use Rattle.std.specs.List.{HoldsAt};
 ghost use Rattle.std.specs.List.Sorted.{IsSearchInRange, IsPartitionPoint};
 ghost use Rattle.std.specs.declared.cmp.Ordering.{Ordering};
 
+use crate::hints::Hints;
 use crate::positions::Row;
 use cns_terms::{Holding, Key, NoMemory};
 use std::alloc::Allocator;
 
 // Where the key's row is, or where it would go.
-fn place(rows: &[Row], key: Key) -> Result<usize, usize>
+fn place(rows: &[Row], key: &Key) -> Result<usize, usize>
     requires { is_sorted key_cmp rows.now ≡ true }
     ensures bound { IsSearchInRange result (length rows.now) }
-    ensures found { IfOk result (HoldsAt (λ r. key_cmp r.0 key ≡ Ordering.Equal) rows.now) }
-    ensures absent { IfErr result (IsPartitionPoint (λ r. key_cmp r.0 key ≡ Ordering.Less) (λ r. key_cmp r.0 key ≡ Ordering.Greater) rows.now) }
+    ensures found { IfOk result (HoldsAt (λ r. key_cmp r.0 key.now ≡ Ordering.Equal) rows.now) }
+    ensures absent { IfErr result (IsPartitionPoint (λ r. key_cmp r.0 key.now ≡ Ordering.Less) (λ r. key_cmp r.0 key.now ≡ Ordering.Greater) rows.now) }
 {
-    rows.binary_search_by(|row| row.0.cmp(&key))
+    rows.binary_search_by(|row| row.0.cmp(key))
+}
+
+// Where the key's row is, or where it would go; quick where the key's hint is right. A wrong hint is corrected.
+fn place_near<A: Allocator + Drop>(
+    rows: &[Row],
+    hints: &Hints<A>,
+    key: &Key,
+) -> Result<usize, usize>
+    requires { is_sorted key_cmp rows.now ≡ true }
+    ensures bound { IsSearchInRange result (length rows.now) }
+    ensures found { IfOk result (HoldsAt (λ r. key_cmp r.0 key.now ≡ Ordering.Equal) rows.now) }
+    ensures absent { IfErr result (IsPartitionPoint (λ r. key_cmp r.0 key.now ≡ Ordering.Less) (λ r. key_cmp r.0 key.now ≡ Ordering.Greater) rows.now) }
+{
+    let guess = hints.guess(key);
+    if guess < rows.len() && rows[guess].0.cmp(key).is_eq() {
+        return Ok(guess);
+    }
+    let found = place(rows, key);
+    if let Ok(at) = found {
+        hints.note(key, at);
+    }
+    found
 }
 
 // What stands at a key.
-pub(crate) fn standing(rows: &[Row], key: Key) -> Holding
+pub(crate) fn standing<A: Allocator + Drop>(rows: &[Row], hints: &Hints<A>, key: &Key) -> Holding
     requires { is_sorted key_cmp rows.now ≡ true }
-    ensures { result ≡ holding_at rows.now key }
+    ensures { result ≡ holding_at rows.now key.now }
 {
-    match place(rows, key) {
+    match place_near(rows, hints, key) {
         Ok(at) => rows[at].1,
         Err(_) => ZEROS,
     }
 }
 
-// Gives the key a row of zeros where it has none.
-pub(crate) fn enter<A: Allocator + Drop>(rows: &mut Vec<Row, A>, key: Key) -> Result<(), NoMemory>
-    requires { IsAccount key.account rows.old.items }
-    ensures account { IsAccount key.account rows.new.items }
-    ensures there { OnOk result (has_row rows.new.items key ≡ true) }
+// Gives the key a row of zeros where it has none, and remembers where its row is.
+pub(crate) fn enter<A: Allocator + Drop + Clone>(
+    rows: &mut Vec<Row, A>,
+    hints: &mut Hints<A>,
+    key: &Key,
+) -> Result<(), NoMemory>
+    requires { IsAccount key.now.account rows.old.items }
+    ensures account { IsAccount key.now.account rows.new.items }
+    ensures there { OnOk result (has_row rows.new.items key.now ≡ true) }
     ensures others { (k : Key) → has_row rows.old.items k ≡ true → has_row rows.new.items k ≡ true }
     ensures same { (k : Key) → holding_at rows.new.items k ≡ holding_at rows.old.items k }
 {
-    let row = (key, ZEROS);
-    if let Err(at) = place(rows.as_slice(), row.0) {
-        let Ok(()) = rows.insert(at, row) else {
-            return Err(NoMemory);
-        };
-    }
-    Ok(())
-}
-
-// A holding with shares and cents booked.
-fn with(holding: Holding, shares: i64, cents: i128) -> Holding
-    requires shares_fit { FitsSigned w64 (holding.now +ℤ shares) }
-    requires cents_fit { FitsSigned w128 (holding.contract +ℤ cents) }
-    ensures { result ≡ record holding { now = holding.now +ℤ shares; contract = holding.contract +ℤ cents } }
-{
-    Holding {
-        now: holding.now + shares,
-        opening: holding.opening,
-        contract: holding.contract + cents,
-        run: holding.run,
-    }
-}
-
-// Books shares and cents in the key's row.
-pub(crate) fn book<A: Allocator + Drop>(rows: &mut Vec<Row, A>, key: Key, shares: i64, cents: i128)
-    requires account { IsAccount key.account rows.old.items }
-    requires there { has_row rows.old.items key ≡ true }
-    requires shares_fit { FitsSigned w64 ((holding_at rows.old.items key).now +ℤ shares) }
-    requires cents_fit { FitsSigned w128 ((holding_at rows.old.items key).contract +ℤ cents) }
-    ensures account { IsAccount key.account rows.new.items }
-    ensures others { (k : Key) → has_row rows.old.items k ≡ true → has_row rows.new.items k ≡ true }
-    ensures booked { (k : Key) → holding_at rows.new.items k ≡ booked (entry_of key shares cents) k (holding_at rows.old.items k) }
-{
-    match place(rows.as_slice(), key) {
-        Ok(at) => {
-            let row = rows[at];
-            rows[at] = (row.0, with(row.1, shares, cents));
+    hints.make_room(rows.allocator(), key, rows.len());
+    match place_near(rows.as_slice(), hints, key) {
+        Ok(_) => Ok(()),
+        Err(at) => {
+            let Ok(()) = rows.insert(at, (*key, ZEROS)) else {
+                return Err(NoMemory);
+            };
+            hints.note(key, at);
+            Ok(())
         }
+    }
+}
+
+// Books shares and cents in a holding.
+fn add_to(holding: &mut Holding, shares: i64, cents: i128)
+    requires shares_fit { FitsSigned w64 (holding.old.now +ℤ shares) }
+    requires cents_fit { FitsSigned w128 (holding.old.contract +ℤ cents) }
+    ensures { holding.new ≡ record holding.old { now = holding.old.now +ℤ shares; contract = holding.old.contract +ℤ cents } }
+{
+    holding.now += shares;
+    holding.contract += cents;
+}
+
+// Books shares and cents in the key's row, which is quickly found where its hint is right.
+pub(crate) fn book<A: Allocator + Drop>(
+    rows: &mut Vec<Row, A>,
+    hints: &Hints<A>,
+    key: &Key,
+    shares: i64,
+    cents: i128,
+)
+    requires account { IsAccount key.now.account rows.old.items }
+    requires there { has_row rows.old.items key.now ≡ true }
+    requires shares_fit { FitsSigned w64 ((holding_at rows.old.items key.now).now +ℤ shares) }
+    requires cents_fit { FitsSigned w128 ((holding_at rows.old.items key.now).contract +ℤ cents) }
+    ensures account { IsAccount key.now.account rows.new.items }
+    ensures others { (k : Key) → has_row rows.old.items k ≡ true → has_row rows.new.items k ≡ true }
+    ensures booked { (k : Key) → holding_at rows.new.items k ≡ booked (entry_of key.now shares cents) k (holding_at rows.old.items k) }
+{
+    match place_near(rows.as_slice(), hints, key) {
+        Ok(at) => add_to(&mut rows[at].1, shares, cents),
         Err(_) => {}
     }
 }
@@ -121,8 +151,8 @@ pub(crate) fn close_all<A: Allocator + Drop>(rows: &mut Vec<Row, A>)
     ensures { rows.new.items ≡ closed_rows rows.old.items }
 {
     for i in 0..rows.len() {
-        let row = rows[i];
-        rows[i] = (row.0, close(row.1));
+        let holding = &mut rows[i].1;
+        *holding = close(*holding);
     }
 }
 
@@ -133,33 +163,47 @@ fn is_held(holding: Holding) -> bool
     holding.now != 0 || holding.opening != 0 || holding.contract != 0 || holding.run != 0
 }
 
-// Where the rows above a key begin; at the first row where there is none to be above.
-fn past(rows: &[Row], after: Option<Key>) -> usize
-    requires { is_sorted key_cmp rows.now ≡ true }
+// Where in that account's list the rows above a key begin; at the first row where there is none to be above.
+fn past<A: Allocator + Drop>(
+    rows: &[Row],
+    hints: &Hints<A>,
+    number: usize,
+    after: &Option<Key>,
+) -> usize
+    requires account { IsAccount number rows.now }
+    requires reached { MatchOption after.now (Unit {0}) (λ k. k.account ≤ number) }
     ensures bound { result ≤ length rows.now }
-    ensures none { held_above (take result rows.now) after ≡ [] }
-    ensures above { (k : ℕ) → result ≤ k → k < length rows.now → (d : Key × Holding) → is_above after (slice_index_or rows.now k d).0 ≡ true }
+    ensures none { held_above (take result rows.now) after.now ≡ [] }
+    ensures above { (k : ℕ) → result ≤ k → k < length rows.now → (d : Key × Holding) → is_above after.now (slice_index_or rows.now k d).0 ≡ true }
 {
     let Some(key) = after else {
         return 0;
     };
-    match place(rows, key) {
+    if usize::from(key.account.value()) < number {
+        return 0;
+    }
+    match place_near(rows, hints, key) {
         Ok(at) => at + 1,
         Err(at) => at,
     }
 }
 
-// The first row above a key that is not zeros.
-pub(crate) fn first_held(rows: &[Row], after: Option<Key>) -> Option<Row>
-    requires { is_sorted key_cmp rows.now ≡ true }
-    ensures { MatchOption result (held_above rows.now after ≡ []) (λ r. held_above rows.now after ≡ r ∷ held_above rows.now (Some r.0)) }
+// The first row of that account above a key that is not zeros.
+pub(crate) fn first_held<A: Allocator + Drop>(
+    rows: &[Row],
+    hints: &Hints<A>,
+    number: usize,
+    after: &Option<Key>,
+) -> Option<Row>
+    requires account { IsAccount number rows.now }
+    requires reached { MatchOption after.now (Unit {0}) (λ k. k.account ≤ number) }
+    ensures { MatchOption result (held_above rows.now after.now ≡ []) (λ r. held_above rows.now after.now ≡ r ∷ held_above rows.now (Some r.0)) }
 {
-    let after = &after;
-    let start = past(rows, *after);
+    let start = past(rows, hints, number, after);
     for place in start..rows.len() {
-        let row = rows[place];
+        let row = &rows[place];
         if is_held(row.1) {
-            return Some(row);
+            return Some(*row);
         }
     }
     None

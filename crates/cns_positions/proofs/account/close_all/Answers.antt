@@ -9,6 +9,6 @@ pub loop-i-preserved : goal.loop-i-preserved
 loop-i-preserved g c =
     let f : Key × Holding → Key × Holding = λ r. (r.0, rolled r.1) in
     record {
-      items = rw c.close.ensures (map_over_more f c.args.rows.now.items c.loop-i.rows.items c.loop-i.i c.index-row.result.now (omega arith) c.loop-i.invariant.items c.index-row.ensures);
-      len = length-set c.loop-i.rows.items c.loop-i.i (c.index-row.result.now.0, c.close.result) ∙ c.loop-i.invariant.len;
+      items = rw c.close.ensures (map_over_more f c.args.rows.now.items c.loop-i.rows.items c.loop-i.i c.index_mut.result.now (omega arith) c.loop-i.invariant.items c.index_mut.ensures.value);
+      len = length-set c.loop-i.rows.items c.loop-i.i (c.index_mut.result.now.0, c.close.result) ∙ c.loop-i.invariant.len;
     }

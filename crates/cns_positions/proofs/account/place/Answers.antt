@@ -20,7 +20,7 @@ absent rows k (Ok i) s h = tt
 absent rows k (Err i) s h = h (comparisons_rise keys_total rows k (k, zeros) s)
 
 pub returns-clause-found : goal.returns-clause-found
-returns-clause-found c = found c.args.rows.now c.args.key _ (c.binary_search_by.ensures.position (λ e. key_cmp e.0 c.args.key) (always_returns_same _ _ _ (λ a r g called. search rules)))
+returns-clause-found c = found c.args.rows.now c.args.key.now _ (c.binary_search_by.ensures.position (λ e. key_cmp e.0 c.args.key.now) (always_returns_same _ _ _ (λ a r g called. search rules)))
 
 pub returns-clause-absent : goal.returns-clause-absent
-returns-clause-absent c = absent c.args.rows.now c.args.key _ c.requires (c.binary_search_by.ensures.position (λ e. key_cmp e.0 c.args.key) (always_returns_same _ _ _ (λ a r g called. search rules)))
+returns-clause-absent c = absent c.args.rows.now c.args.key.now _ c.requires (c.binary_search_by.ensures.position (λ e. key_cmp e.0 c.args.key.now) (always_returns_same _ _ _ (λ a r g called. search rules)))

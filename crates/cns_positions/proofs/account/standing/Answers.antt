@@ -5,7 +5,7 @@ use Rattle.cns_terms.proofs.Keys.{keys_total}
 use Rattle.cns_positions.proofs.account.standing.Goals as goal
 
 pub returns-in-Ok : goal.returns-in-Ok
-returns-in-Ok c = sym (ap (λ o. unwrap_or o zeros) (find_at keys_total _ _ _ c.index-rows-at.result c.requires c.in-Ok.ensures.bound (c.in-Ok.ensures.found c.index-rows-at.result)))
+returns-in-Ok g c = sym (ap (λ o. unwrap_or o zeros) (find_at keys_total _ _ _ c.index-rows-at.result c.requires c.in-Ok.ensures.bound (c.in-Ok.ensures.found c.index-rows-at.result)))
 
 pub returns-in-Err : goal.returns-in-Err
-returns-in-Err c = sym (ap (λ o. unwrap_or o zeros) (find_gap keys_total _ _ _ c.in-Err.ensures.absent.0 c.in-Err.ensures.absent.1))
+returns-in-Err g c = sym (ap (λ o. unwrap_or o zeros) (find_gap keys_total _ _ _ c.in-Err.ensures.absent.0 c.in-Err.ensures.absent.1))

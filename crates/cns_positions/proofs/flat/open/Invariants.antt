@@ -6,9 +6,9 @@ abbrev pub invariant-loop-accounts : goal.invariant-loop-accounts
 invariant-loop-accounts g l = record {
   accounts : AreAccounts (lists_of l.accounts.items);
   joined : joined (lists_of l.accounts.items) ≡ joined (lists_of l.fn.accounts.items);
-  len : vec_len l.accounts ≤ max (vec_len l.fn.accounts) (l.place + 1);
+  len : vec_len l.accounts ≤ max (vec_len l.fn.accounts) (l.number + 1);
   more : vec_len l.fn.accounts ≤ vec_len l.accounts;
 }
 
 abbrev pub decreases-loop-accounts : goal.decreases-loop-accounts
-decreases-loop-accounts g l = (l.place + 1) - vec_len l.accounts
+decreases-loop-accounts g l = (l.number + 1) - vec_len l.accounts

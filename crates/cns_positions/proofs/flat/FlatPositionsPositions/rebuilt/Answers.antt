@@ -1,4 +1,4 @@
-use Rattle.std.proofs.Common.{◌≡◌, ◌∙◌, sym, ap, ◌+◌, ◌<◌, ◌≤◌, ℕ, List, [], ◌∷◌, ◌++◌, length, get_or, take, true, arith}
+use Rattle.std.proofs.Common.{◌≡◌, ◌∙◌, sym, ap, ◌+◌, ◌<◌, ◌≤◌, ℕ, [], ◌∷◌, ◌++◌, length, get_or, take, true, arith}
 use Rattle.std.specs.FinMap.{is_sorted}
 use Rattle.std.proofs.lemmas.List.{get_or_default, take_more}
 use Rattle.cns_terms.specs.declared.holding.Key.{Key}
@@ -8,7 +8,8 @@ use Rattle.cns_terms.proofs.Keys.{keys_total}
 use Rattle.cns_positions.specs.Rows.{Rows}
 use Rattle.cns_positions.specs.Flat.{joined, lists_of}
 use Rattle.cns_positions.proofs.Puts.{below_later}
-use Rattle.cns_positions.proofs.Lists.{accounts_rise, sorted_take}
+use Rattle.cns_positions.proofs.Appended.{sorted_take}
+use Rattle.cns_positions.proofs.Lists.{accounts_rise}
 use Rattle.cns_positions.proofs.flat.FlatPositionsPositions.rebuilt.Goals as goal
 
 -- one row more is given
