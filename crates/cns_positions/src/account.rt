@@ -27,7 +27,30 @@ fn place(rows: &[Row], key: &Key) -> Result<usize, usize>
     rows.binary_search_by(|row| row.0.cmp(key))
 }
 
-// Where the key's row is, or where it would go; quick where the key's hint is right. A wrong hint is corrected.
+// Where the key's row is, or where it would go; quick where a guess is right. Where it is not, the key's hint is
+// corrected.
+fn place_from<A: Allocator + Drop>(
+    rows: &[Row],
+    hints: &Hints<A>,
+    guess: usize,
+    key: &Key,
+) -> Result<usize, usize>
+    requires { is_sorted key_cmp rows.now ≡ true }
+    ensures bound { IsSearchInRange result (length rows.now) }
+    ensures found { IfOk result (HoldsAt (λ r. key_cmp r.0 key.now ≡ Ordering.Equal) rows.now) }
+    ensures absent { IfErr result (IsPartitionPoint (λ r. key_cmp r.0 key.now ≡ Ordering.Less) (λ r. key_cmp r.0 key.now ≡ Ordering.Greater) rows.now) }
+{
+    if guess < rows.len() && rows[guess].0.cmp(key).is_eq() {
+        return Ok(guess);
+    }
+    let found = place(rows, key);
+    if let Ok(at) = found {
+        hints.note(key, at);
+    }
+    found
+}
+
+// The same with the key's hint for a guess.
 fn place_near<A: Allocator + Drop>(
     rows: &[Row],
     hints: &Hints<A>,
@@ -38,15 +61,7 @@ fn place_near<A: Allocator + Drop>(
     ensures found { IfOk result (HoldsAt (λ r. key_cmp r.0 key.now ≡ Ordering.Equal) rows.now) }
     ensures absent { IfErr result (IsPartitionPoint (λ r. key_cmp r.0 key.now ≡ Ordering.Less) (λ r. key_cmp r.0 key.now ≡ Ordering.Greater) rows.now) }
 {
-    let guess = hints.guess(key);
-    if guess < rows.len() && rows[guess].0.cmp(key).is_eq() {
-        return Ok(guess);
-    }
-    let found = place(rows, key);
-    if let Ok(at) = found {
-        hints.note(key, at);
-    }
-    found
+    place_from(rows, hints, hints.guess(key), key)
 }
 
 // What stands at a key.
@@ -182,7 +197,7 @@ fn past<A: Allocator + Drop>(
     if usize::from(key.account.value()) < number {
         return 0;
     }
-    match place_near(rows, hints, key) {
+    match place_from(rows, hints, hints.walked(), key) {
         Ok(at) => at + 1,
         Err(at) => at,
     }
@@ -203,6 +218,7 @@ pub(crate) fn first_held<A: Allocator + Drop>(
     for place in start..rows.len() {
         let row = &rows[place];
         if is_held(row.1) {
+            hints.walk_to(place);
             return Some(*row);
         }
     }

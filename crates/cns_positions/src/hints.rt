@@ -20,6 +20,8 @@ pub(crate) struct Hints<A: Allocator + Drop> {
     // An account's table stands at the account's number, so that those who go over an account's rows stay in a small
     // table. Each has a length that is a power of two, or 0. There are none until a key is prepared.
     tables: Option<Vec<Vec<Cell<u32>, A>, A>>,
+    // Where in its account's list the row stands that a walk over the rows gave last: the next step begins there.
+    walked: Cell<usize>,
 }
 
 // The number of the key's account, at which its table stands.
@@ -68,7 +70,10 @@ fn fit<A: Allocator + Drop + Clone>(
 impl<A: Allocator + Drop> Hints<A> {
     /// No hints yet. It takes no memory.
     pub(crate) fn new() -> Hints<A> {
-        Hints { tables: None }
+        Hints {
+            tables: None,
+            walked: Cell::new(0),
+        }
     }
 
     // The key's hint, if its account has a table.
@@ -83,6 +88,16 @@ impl<A: Allocator + Drop> Hints<A> {
             Some(hint) => hint.get() as usize,
             None => 0,
         }
+    }
+
+    /// A place at which the row may stand that a walk gave last.
+    pub(crate) fn walked(&self) -> usize {
+        self.walked.get()
+    }
+
+    /// Remembers the place of the row that a walk gives.
+    pub(crate) fn walk_to(&self, place: usize) {
+        self.walked.set(place);
     }
 
     /// Remembers the place of a key's row, if there is room for it.
