@@ -13,7 +13,8 @@ overflow_add-value c =
 
 pub loop-byte-preserved : goal.loop-byte-preserved
 loop-byte-preserved c =
-    let digit : c.from.result ≤ 9 = search rules in
-    (digits-step c.args.bytes.now c.loop-byte.byte-index c.loop-byte-test.true c.loop-byte.invariant.0 (sym c.is_ascii_digit.ensures.value ∙ c.if-not-is_ascii_digit.false),
+    let digit : c.from.result ≤ 9 = search rules in (
+      digits-step c.args.bytes.now c.loop-byte.byte-index c.loop-byte-test.true c.loop-byte.invariant.0 (sym c.is_ascii_digit.ensures.value ∙ c.if-not-is_ascii_digit.false),
       exact-step c.args.bytes.now c.loop-byte.byte-index c.loop-byte.value c.from.result c.loop-byte-test.true c.loop-byte.invariant.1 (search rules) c.from.ensures,
-      longer c.loop-byte.byte-index c.loop-byte.value c.from.result c.loop-byte.invariant.2 digit)
+      longer c.loop-byte.byte-index c.loop-byte.value c.from.result c.loop-byte.invariant.2 digit,
+    )
