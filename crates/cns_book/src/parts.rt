@@ -118,7 +118,7 @@ impl<P: Positions<A>, A: Allocator + Drop + Clone> Parts<P, A> {
     }
 
     // Whether the issue is listed, and whether it is retired.
-    fn is_listed_or_retired(&self, issue: Cusip) -> (bool, bool)
+    fn listed_and_retired(&self, issue: Cusip) -> (bool, bool)
         ensures listed { (L : List Activity) → Follows L self.now → result.0 ≡ is_listed (journal self.now.opening L) issue }
         ensures retired { (L : List Activity) → Follows L self.now → result.1 ≡ is_retired (journal self.now.opening L) issue }
     {

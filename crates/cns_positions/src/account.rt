@@ -1,5 +1,5 @@
 // The rows of one account, in the order of their keys.
-ghost use Rattle.std.specs.Prelude.{◌≡◌, ℕ, ◌≤◌, ◌<◌, ◌+◌, ◌-◌, ◌+ℤ◌, List, [], ◌∷◌, length, OnOk, OnErr, IfOk, IfErr, MatchOption, FitsSigned, vec_len, vec_capacity, is_some, true, Some, slice_index_or, take};
+ghost use Rattle.std.specs.Prelude.{◌≡◌, ℕ, ◌≤◌, ◌<◌, ◌+◌, ◌-◌, ◌+ℤ◌, [], ◌∷◌, length, OnOk, IfOk, IfErr, MatchOption, FitsSigned, true, Some, slice_index_or, take};
 ghost use Rattle.cns_positions.specs.Rows.{holding_at, booked, entry_of, rolled, held_above, is_above, is_held};
 ghost use Rattle.cns_terms.specs.Keys.{key_cmp};
 ghost use Rattle.cns_positions.specs.Placed.{has_row, closed_rows};

@@ -1,5 +1,5 @@
 // Positions in a sorted list of rows for each account.
-ghost use Rattle.std.specs.Prelude.{◌≡◌, ℕ, ◌≤◌, ◌<◌, ◌+◌, ◌+ℤ◌, List, [], ◌∷◌, ◌++◌, length, map, max, OnOk, IfOk, MatchOption, FitsSigned, vec_len, true, slice_index_or, Contains};
+ghost use Rattle.std.specs.Prelude.{◌≡◌, ◌≤◌, ◌<◌, ◌+◌, ◌+ℤ◌, [], ◌∷◌, ◌++◌, length, map, max, OnOk, MatchOption, FitsSigned, vec_len, true, slice_index_or, Contains};
 ghost use Rattle.std.specs.Int.{w64, w128};
 ghost use Rattle.std.specs.FinMap.{is_sorted};
 ghost use Rattle.cns_terms.specs.Keys.{key_cmp};

@@ -1,5 +1,5 @@
 // The contract that every form of positions keeps.
-ghost use Rattle.std.specs.Prelude.{◌≡◌, ℕ, ◌≤◌, ◌+ℤ◌, List, [], ◌∷◌, Some, length, IfOk, OnOk, OnErr, MatchOption, FitsSigned, true};
+ghost use Rattle.std.specs.Prelude.{◌≡◌, ◌≤◌, ◌+ℤ◌, List, [], ◌∷◌, Some, length, IfOk, OnOk, OnErr, MatchOption, FitsSigned, true};
 ghost use Rattle.std.specs.FinMap.{is_sorted};
 ghost use Rattle.std.specs.Int.{w64, w128};
 ghost use Rattle.cns_terms.specs.Keys.{key_cmp};

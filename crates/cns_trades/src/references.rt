@@ -1,5 +1,5 @@
 // The references that accepted trades used.
-ghost use Rattle.std.specs.Prelude.{◌≡◌, ℕ, ◌||◌, ◌==◌, ◌<◌, OnOk, OnErr, false, unwrap_or};
+ghost use Rattle.std.specs.Prelude.{◌≡◌, ℕ, ◌||◌, ◌==◌, ◌<◌, OnOk, OnErr, false};
 ghost use Rattle.cns_trades.specs.Used.{bits_in, has_bit, is_used};
 
 use cns_terms::NoMemory;

@@ -26,7 +26,7 @@ impl<P: Positions<A>, A: Allocator + Drop + Clone> Parts<P, A> {
         ensures buyer { ForSome result.buyer (λ q. unsigned_abs q ≤ 10 ^ 10) }
         ensures seller { ForSome result.seller (λ q. unsigned_abs q ≤ 10 ^ 10) }
     {
-        let (listed, retired) = self.is_listed_or_retired(trade.issue);
+        let (listed, retired) = self.listed_and_retired(trade.issue);
         TradeFacts {
             buyer: self.position_of(trade.buyer, trade.issue),
             seller: self.position_of(trade.seller, trade.issue),
@@ -44,7 +44,7 @@ impl<P: Positions<A>, A: Allocator + Drop + Clone> Parts<P, A> {
             account: Account::CORPORATION,
             issue: movement.issue,
         };
-        let (listed, retired) = self.is_listed_or_retired(movement.issue);
+        let (listed, retired) = self.listed_and_retired(movement.issue);
         MoveFacts {
             member: self.position_of(movement.member, movement.issue),
             corporation: self.standing(corporation).now,

@@ -2,7 +2,7 @@ use Rattle.std.proofs.Common.{◌∙◌, ap, sym, subst, false}
 use Rattle.std.specs.Option.{option_map_or}
 use Rattle.cns_prices.specs.declared.prices.Quote.{Quote}
 use Rattle.cns_book.specs.Follows.{Follows}
-use Rattle.cns_book.proofs.parts.Parts.is_listed_or_retired.Goals as goal
+use Rattle.cns_book.proofs.parts.Parts.listed_and_retired.Goals as goal
 
 pub returns-in-Some-clause-retired : goal.returns-in-Some-clause-retired
 returns-in-Some-clause-retired g c L f =
