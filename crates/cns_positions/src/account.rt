@@ -87,13 +87,13 @@ pub(crate) fn enter<A: Allocator + Drop + Clone>(
     ensures others { (k : Key) → has_row rows.old.items k ≡ true → has_row rows.new.items k ≡ true }
     ensures same { (k : Key) → holding_at rows.new.items k ≡ holding_at rows.old.items k }
 {
-    hints.make_room(rows.allocator(), key, rows.len());
     match place_near(rows.as_slice(), hints, key) {
         Ok(_) => Ok(()),
         Err(at) => {
             let Ok(()) = rows.insert(at, (*key, ZEROS)) else {
                 return Err(NoMemory);
             };
+            hints.make_room(rows.allocator(), key, rows.len());
             hints.note(key, at);
             Ok(())
         }

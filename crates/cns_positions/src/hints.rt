@@ -18,7 +18,7 @@ const SPARE: usize = 2;
 #[derive(Drop)]
 pub(crate) struct Hints<A: Allocator + Drop> {
     // An account's table stands at the account's number, so that those who go over an account's rows stay in a small
-    // table. Each has a length that is a power of two, or 0. There are none until a key is prepared.
+    // table. Each has a length that is a power of two, or 0, which it has until a row enters the account's list.
     tables: Option<Vec<Vec<Cell<u32>, A>, A>>,
     // Where in its account's list the row stands that a walk over the rows gave last: the next step begins there.
     walked: Cell<usize>,
