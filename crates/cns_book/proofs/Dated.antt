@@ -186,14 +186,3 @@ pub answer_stated : (opening : Day) (is : Bool) (o : Option Journal) (a : Accoun
 answer_stated opening false o a sheet i e s = cc
 answer_stated opening true None a sheet i e s = cc
 answer_stated opening true (Some K) a sheet i e s = ap reply.Stated (sym (ap (λ o. stated_from (unwrap_or o sheet) a) e) ∙ stated_same opening K a s)
-
-pub answer_no_account : (opening : Day) (is : Bool) (o : Option Journal) (a : Account) → is ≡ false
-    → reply.Refused NoSuchMember ≡ option_map_or reply.Refused (first_refusal ((NoSuchMember, not is) ∷ (NoSuchDay, is_none o) ∷ [])) (reply.Stated (statement opening (unwrap_or o []) a))
-answer_no_account opening false o a i = refl
-answer_no_account opening true o a i = cc
-
-pub answer_no_day : (opening : Day) (is : Bool) (o : Option Journal) (a : Account) → is ≡ true → option_map (day_sheet opening) o ≡ None
-    → reply.Refused NoSuchDay ≡ option_map_or reply.Refused (first_refusal ((NoSuchMember, not is) ∷ (NoSuchDay, is_none o) ∷ [])) (reply.Stated (statement opening (unwrap_or o []) a))
-answer_no_day opening false o a i e = cc
-answer_no_day opening true None a i e = refl
-answer_no_day opening true (Some K) a i e = cc

@@ -1,7 +1,6 @@
-use Rattle.std.specs.Prelude.{◌≡◌, ℕ, true, List, [], Option, Contains, filter_map, flat_map, map, slice_index_or}
+use Rattle.std.specs.Prelude.{◌≡◌, ℕ, true, List, [], Option, Contains, filter_map, flat_map, slice_index_or}
 use Rattle.std.specs.List.{AllByRecursion}
 use Rattle.std.specs.FinMap.{is_sorted}
-use Rattle.std.specs.declared.vec.Vec.{Vec}
 use Rattle.cns_terms.specs.declared.holding.Key.{Key}
 use Rattle.cns_terms.specs.declared.holding.Holding.{Holding}
 use Rattle.cns_positions.specs.Rows.{Rows}
@@ -16,10 +15,6 @@ pub record Contents : Type 0 where
 -- the keys that are there
 abbrev pub keys_of : List (Option Key) → List Key
 keys_of ks = filter_map (λ k. k) ks
-
--- each account's rows, at the account's number
-abbrev pub lists_of : {Z : Type 0} → List (Vec (Key × Holding) Z) → List Rows
-lists_of accounts = map (λ v. v.items) accounts
 
 -- the rows of the accounts, one account's after another's
 abbrev pub joined : List Rows → Rows

@@ -1,195 +1,161 @@
-// The rows of one account, in the order of their keys.
-ghost use Rattle.std.specs.Prelude.{◌≡◌, ℕ, ◌≤◌, ◌<◌, ◌+◌, ◌-◌, ◌+ℤ◌, [], ◌∷◌, length, OnOk, IfOk, IfErr, MatchOption, FitsSigned, true, Some, slice_index_or, take};
-ghost use Rattle.cns_positions.specs.Rows.{holding_at, booked, entry_of, rolled, held_above, is_above, is_held};
-ghost use Rattle.cns_terms.specs.Keys.{key_cmp};
-ghost use Rattle.cns_positions.specs.Placed.{has_row, closed_rows};
-ghost use Rattle.cns_positions.specs.Flat.{IsAccount};
-ghost use Rattle.cns_terms.specs.declared.holding.Holding.{Holding};
-ghost use Rattle.cns_terms.specs.declared.holding.Key.{Key};
+// The rows of one account.
+ghost use Rattle.std.specs.Prelude.{◌≡◌, ℕ, ◌≤◌, ◌<◌, ◌+ℤ◌, [], ◌∷◌, ◌++◌, length, OnOk, OnErr, IfOk, IfErr, IfSome, MatchOption, FitsSigned, true, Some, slice_index_or, take};
 ghost use Rattle.std.specs.Int.{w64, w128};
 ghost use Rattle.std.specs.FinMap.{is_sorted};
-ghost use Rattle.std.specs.List.{HoldsAt};
+ghost use Rattle.std.specs.List.{HoldsAt, insert};
 ghost use Rattle.std.specs.List.Sorted.{IsSearchInRange, IsPartitionPoint};
+ghost use Rattle.std.specs.Ordering.{is_eq};
 ghost use Rattle.std.specs.declared.cmp.Ordering.{Ordering};
+ghost use Rattle.cns_terms.specs.Keys.{key_cmp};
+ghost use Rattle.cns_terms.specs.declared.holding.Holding.{Holding};
+ghost use Rattle.cns_terms.specs.declared.holding.Key.{Key};
+ghost use Rattle.cns_positions.specs.Rows.{holding_at, booked, entry_of, held_above, is_above};
+ghost use Rattle.cns_positions.specs.Placed.{has_row, closed_rows};
+ghost use Rattle.cns_positions.specs.Ordered.{compared_at, in_order, IsOrder, IsRowOf};
+ghost use Rattle.cns_positions.specs.Flat.{IsAccount};
 
-use crate::hints::Hints;
+use crate::hints::{Hints, STEPS};
+use crate::holding::{ZEROS, add_to, close, is_held};
 use crate::positions::Row;
 use cns_terms::{Holding, Key, NoMemory};
 use std::alloc::Allocator;
+use std::cell::Cell;
+use std::cmp::Ordering;
+use std::marker::Model;
 
-// Where the key's row is, or where it would go.
-fn place(rows: &[Row], key: &Key) -> Result<usize, usize>
-    requires { is_sorted key_cmp rows.now ≡ true }
-    ensures bound { IsSearchInRange result (length rows.now) }
-    ensures found { IfOk result (HoldsAt (λ r. key_cmp r.0 key.now ≡ Ordering.Equal) rows.now) }
-    ensures absent { IfErr result (IsPartitionPoint (λ r. key_cmp r.0 key.now ≡ Ordering.Less) (λ r. key_cmp r.0 key.now ≡ Ordering.Greater) rows.now) }
-{
-    rows.binary_search_by(|row| row.0.cmp(key))
+/// The rows of one account; contracts see them in the order of their keys.
+///
+/// A row stays at the place at which it entered, so that what is remembered of places stays right. Beside the rows
+/// stands the order of their places, which a first booking moves in the rows' stead.
+#[derive(Drop)]
+pub(crate) struct AccountRows<A: Allocator + Drop> {
+    rows: Vec<Row, A>,
+    // The places of the rows, in the order of the rows' keys.
+    order: Vec<usize, A>,
+    // Where the rows of keys probably stand: each search looks there first.
+    hints: Hints<A>,
+    // Where the row stands that was entered last: a booking mostly goes there.
+    entered: usize,
 }
 
-// Where the key's row is, or where it would go; quick where a guess is right. Where it is not, the key's hint is
-// corrected.
-fn place_from<A: Allocator + Drop>(
+impl<A: Allocator + Drop> Model for AccountRows<A> {
+    ghost use Rattle.std.specs.Prelude.{length};
+    ghost use Rattle.cns_positions.specs.Rows.{Rows};
+    ghost use Rattle.cns_positions.specs.Ordered.{in_order, IsOrder};
+
+    ghost Value = { Rows };
+
+    ghost view = { λ a. in_order a.rows.items a.order.items };
+
+    ghost invariant = { λ a. IsOrder (length a.rows.items) a.order.items };
+}
+
+// Whether the row is the key's.
+fn is_of(row: &Row, key: &Key) -> bool
+    ensures { result ≡ is_eq (key_cmp row.now.0 key.now) }
+{
+    row.0.cmp(key).is_eq()
+}
+
+// How the key of the row at a place compares with a key; it counts as above where there is no row.
+fn compared(rows: &[Row], place: usize, key: &Key) -> Ordering
+    ensures { result ≡ compared_at rows.now key.now place }
+{
+    match rows.get(place) {
+        Some(row) => row.0.cmp(key),
+        None => Ordering::Greater,
+    }
+}
+
+// Where in the order the key's row is, or where it would go.
+fn rank(rows: &[Row], order: &[usize], key: &Key) -> Result<usize, usize>
+    requires order { IsOrder (length rows.now) order.now }
+    requires sorted { is_sorted key_cmp (in_order rows.now order.now) ≡ true }
+    ensures bound { IsSearchInRange result (length order.now) }
+    ensures found { IfOk result (HoldsAt (λ r. key_cmp r.0 key.now ≡ Ordering.Equal) (in_order rows.now order.now)) }
+    ensures absent { IfErr result (IsPartitionPoint (λ r. key_cmp r.0 key.now ≡ Ordering.Less) (λ r. key_cmp r.0 key.now ≡ Ordering.Greater) (in_order rows.now order.now)) }
+{
+    order.binary_search_by(|place| compared(rows, *place, key))
+}
+
+// The same, quick where a guess is right.
+fn rank_from(rows: &[Row], order: &[usize], guess: usize, key: &Key) -> Result<usize, usize>
+    requires order { IsOrder (length rows.now) order.now }
+    requires sorted { is_sorted key_cmp (in_order rows.now order.now) ≡ true }
+    ensures bound { IsSearchInRange result (length order.now) }
+    ensures found { IfOk result (HoldsAt (λ r. key_cmp r.0 key.now ≡ Ordering.Equal) (in_order rows.now order.now)) }
+    ensures absent { IfErr result (IsPartitionPoint (λ r. key_cmp r.0 key.now ≡ Ordering.Less) (λ r. key_cmp r.0 key.now ≡ Ordering.Greater) (in_order rows.now order.now)) }
+{
+    if guess < order.len() && is_of(&rows[order[guess]], key) {
+        return Ok(guess);
+    }
+    rank(rows, order, key)
+}
+
+// Where the key's row stands, if that is remembered.
+fn remembered<A: Allocator + Drop>(rows: &[Row], hints: &Hints<A>, key: &Key) -> Option<usize>
+    ensures { IfSome result (IsRowOf rows.now key.now) }
+{
+    let own = hints.slot(key);
+    for step in 0..STEPS {
+        let place = hints.guess(own, step)?;
+        if place < rows.len() && is_of(&rows[place], key) {
+            return Some(place);
+        }
+    }
+    None
+}
+
+// Where the key's row stands, or where in the order it would go.
+fn find<A: Allocator + Drop>(
     rows: &[Row],
+    order: &[usize],
+    hints: &Hints<A>,
+    key: &Key,
+) -> Result<usize, usize>
+    requires order { IsOrder (length rows.now) order.now }
+    requires sorted { is_sorted key_cmp (in_order rows.now order.now) ≡ true }
+    ensures found { IfOk result (IsRowOf rows.now key.now) }
+    ensures bound { IfErr result (λ i. i ≤ length order.now) }
+    ensures absent { IfErr result (IsPartitionPoint (λ r. key_cmp r.0 key.now ≡ Ordering.Less) (λ r. key_cmp r.0 key.now ≡ Ordering.Greater) (in_order rows.now order.now)) }
+{
+    if let Some(place) = remembered(rows, hints, key) {
+        return Ok(place);
+    }
+    match rank(rows, order, key) {
+        Ok(at) => Ok(order[at]),
+        Err(at) => Err(at),
+    }
+}
+
+// The same, quick where a guess of the place is right.
+fn find_from<A: Allocator + Drop>(
+    rows: &[Row],
+    order: &[usize],
     hints: &Hints<A>,
     guess: usize,
     key: &Key,
 ) -> Result<usize, usize>
-    requires { is_sorted key_cmp rows.now ≡ true }
-    ensures bound { IsSearchInRange result (length rows.now) }
-    ensures found { IfOk result (HoldsAt (λ r. key_cmp r.0 key.now ≡ Ordering.Equal) rows.now) }
-    ensures absent { IfErr result (IsPartitionPoint (λ r. key_cmp r.0 key.now ≡ Ordering.Less) (λ r. key_cmp r.0 key.now ≡ Ordering.Greater) rows.now) }
+    requires order { IsOrder (length rows.now) order.now }
+    requires sorted { is_sorted key_cmp (in_order rows.now order.now) ≡ true }
+    ensures found { IfOk result (IsRowOf rows.now key.now) }
+    ensures bound { IfErr result (λ i. i ≤ length order.now) }
+    ensures absent { IfErr result (IsPartitionPoint (λ r. key_cmp r.0 key.now ≡ Ordering.Less) (λ r. key_cmp r.0 key.now ≡ Ordering.Greater) (in_order rows.now order.now)) }
 {
-    if guess < rows.len() && rows[guess].0.cmp(key).is_eq() {
+    if guess < rows.len() && is_of(&rows[guess], key) {
         return Ok(guess);
     }
-    let found = place(rows, key);
-    if let Ok(at) = found {
-        hints.note(key, at);
-    }
-    found
+    find(rows, order, hints, key)
 }
 
-// The same with the key's hint for a guess.
-fn place_near<A: Allocator + Drop>(
-    rows: &[Row],
-    hints: &Hints<A>,
-    key: &Key,
-) -> Result<usize, usize>
-    requires { is_sorted key_cmp rows.now ≡ true }
-    ensures bound { IsSearchInRange result (length rows.now) }
-    ensures found { IfOk result (HoldsAt (λ r. key_cmp r.0 key.now ≡ Ordering.Equal) rows.now) }
-    ensures absent { IfErr result (IsPartitionPoint (λ r. key_cmp r.0 key.now ≡ Ordering.Less) (λ r. key_cmp r.0 key.now ≡ Ordering.Greater) rows.now) }
-{
-    place_from(rows, hints, hints.guess(key), key)
-}
-
-// What stands at a key.
-pub(crate) fn standing<A: Allocator + Drop>(rows: &[Row], hints: &Hints<A>, key: &Key) -> Holding
-    requires { is_sorted key_cmp rows.now ≡ true }
-    ensures { result ≡ holding_at rows.now key.now }
-{
-    match place_near(rows, hints, key) {
-        Ok(at) => rows[at].1,
-        Err(_) => ZEROS,
-    }
-}
-
-// Gives the key a row of zeros where it has none, and remembers where its row is.
-pub(crate) fn enter<A: Allocator + Drop + Clone>(
-    rows: &mut Vec<Row, A>,
-    hints: &mut Hints<A>,
-    key: &Key,
-) -> Result<(), NoMemory>
-    requires { IsAccount key.now.account rows.old.items }
-    ensures account { IsAccount key.now.account rows.new.items }
-    ensures there { OnOk result (has_row rows.new.items key.now ≡ true) }
-    ensures others { (k : Key) → has_row rows.old.items k ≡ true → has_row rows.new.items k ≡ true }
-    ensures same { (k : Key) → holding_at rows.new.items k ≡ holding_at rows.old.items k }
-{
-    match place_near(rows.as_slice(), hints, key) {
-        Ok(_) => Ok(()),
-        Err(at) => {
-            let Ok(()) = rows.insert(at, (*key, ZEROS)) else {
-                return Err(NoMemory);
-            };
-            hints.make_room(rows.allocator(), key, rows.len());
-            hints.note(key, at);
-            Ok(())
-        }
-    }
-}
-
-// Books shares and cents in a holding.
-fn add_to(holding: &mut Holding, shares: i64, cents: i128)
-    requires shares_fit { FitsSigned w64 (holding.old.now +ℤ shares) }
-    requires cents_fit { FitsSigned w128 (holding.old.contract +ℤ cents) }
-    ensures { holding.new ≡ record holding.old { now = holding.old.now +ℤ shares; contract = holding.old.contract +ℤ cents } }
-{
-    holding.now += shares;
-    holding.contract += cents;
-}
-
-// Books shares and cents in the key's row, which is quickly found where its hint is right.
-pub(crate) fn book<A: Allocator + Drop>(
-    rows: &mut Vec<Row, A>,
-    hints: &Hints<A>,
-    key: &Key,
-    shares: i64,
-    cents: i128,
-)
-    requires account { IsAccount key.now.account rows.old.items }
-    requires there { has_row rows.old.items key.now ≡ true }
-    requires shares_fit { FitsSigned w64 ((holding_at rows.old.items key.now).now +ℤ shares) }
-    requires cents_fit { FitsSigned w128 ((holding_at rows.old.items key.now).contract +ℤ cents) }
-    ensures account { IsAccount key.now.account rows.new.items }
-    ensures others { (k : Key) → has_row rows.old.items k ≡ true → has_row rows.new.items k ≡ true }
-    ensures booked { (k : Key) → holding_at rows.new.items k ≡ booked (entry_of key.now shares cents) k (holding_at rows.old.items k) }
-{
-    match place_near(rows.as_slice(), hints, key) {
-        Ok(at) => add_to(&mut rows[at].1, shares, cents),
-        Err(_) => {}
-    }
-}
-
-const ZEROS: Holding = Holding {
-    now: 0,
-    opening: 0,
-    contract: 0,
-    run: 0,
-};
-
-const LONGEST_RUN: u32 = 4_294_967_295;
-
-// What a close makes of a holding.
-fn close(holding: Holding) -> Holding
-    ensures { result ≡ rolled holding }
-{
-    Holding {
-        now: holding.now,
-        opening: holding.now,
-        contract: 0,
-        run: if holding.now < 0 {
-            if holding.run < LONGEST_RUN {
-                holding.run + 1
-            } else {
-                LONGEST_RUN
-            }
-        } else {
-            0
-        },
-    }
-}
-
-// What a close makes of each row.
-pub(crate) fn close_all<A: Allocator + Drop>(rows: &mut Vec<Row, A>)
-    ensures { rows.new.items ≡ closed_rows rows.old.items }
-{
-    for i in 0..rows.len() {
-        let holding = &mut rows[i].1;
-        *holding = close(*holding);
-    }
-}
-
-// Whether anything but zeros stands there.
-fn is_held(holding: Holding) -> bool
-    ensures { result ≡ is_held holding }
-{
-    holding.now != 0 || holding.opening != 0 || holding.contract != 0 || holding.run != 0
-}
-
-// Where in that account's list the rows above a key begin; at the first row where there is none to be above.
-fn past<A: Allocator + Drop>(
-    rows: &[Row],
-    hints: &Hints<A>,
-    number: usize,
-    after: &Option<Key>,
-) -> usize
-    requires account { IsAccount number rows.now }
+// Where in that account's order the rows above a key begin; at the first row where there is none to be above.
+fn past(rows: &[Row], order: &[usize], guess: usize, number: usize, after: &Option<Key>) -> usize
+    requires order { IsOrder (length rows.now) order.now }
+    requires account { IsAccount number (in_order rows.now order.now) }
     requires reached { MatchOption after.now (Unit {0}) (λ k. k.account ≤ number) }
-    ensures bound { result ≤ length rows.now }
-    ensures none { held_above (take result rows.now) after.now ≡ [] }
-    ensures above { (k : ℕ) → result ≤ k → k < length rows.now → (d : Key × Holding) → is_above after.now (slice_index_or rows.now k d).0 ≡ true }
+    ensures bound { result ≤ length order.now }
+    ensures none { held_above (take result (in_order rows.now order.now)) after.now ≡ [] }
+    ensures above { (k : ℕ) → result ≤ k → k < length order.now → (d : Key × Holding) → is_above after.now (slice_index_or (in_order rows.now order.now) k d).0 ≡ true }
 {
     let Some(key) = after else {
         return 0;
@@ -197,30 +163,137 @@ fn past<A: Allocator + Drop>(
     if usize::from(key.account.value()) < number {
         return 0;
     }
-    match place_from(rows, hints, hints.walked(), key) {
+    match rank_from(rows, order, guess, key) {
         Ok(at) => at + 1,
         Err(at) => at,
     }
 }
 
-// The first row of that account above a key that is not zeros.
-pub(crate) fn first_held<A: Allocator + Drop>(
-    rows: &[Row],
-    hints: &Hints<A>,
-    number: usize,
-    after: &Option<Key>,
-) -> Option<Row>
-    requires account { IsAccount number rows.now }
-    requires reached { MatchOption after.now (Unit {0}) (λ k. k.account ≤ number) }
-    ensures { MatchOption result (held_above rows.now after.now ≡ []) (λ r. held_above rows.now after.now ≡ r ∷ held_above rows.now (Some r.0)) }
-{
-    let start = past(rows, hints, number, after);
-    for place in start..rows.len() {
-        let row = &rows[place];
-        if is_held(row.1) {
-            hints.walk_to(place);
-            return Some(*row);
+impl<A: Allocator + Drop> AccountRows<A> {
+    /// What stands at a key.
+    pub(crate) fn get(&self, key: &Key) -> Holding
+        requires { is_sorted key_cmp self.now ≡ true }
+        ensures { result ≡ holding_at self.now key.now }
+    {
+        let rows = self.rows.as_slice();
+        match find(rows, self.order.as_slice(), &self.hints, key) {
+            Ok(place) => rows[place].1,
+            Err(_) => ZEROS,
         }
     }
-    None
+
+    /// Books shares and cents in the key's row.
+    pub(crate) fn book(&mut self, key: &Key, shares: i64, cents: i128)
+        requires account { IsAccount key.now.account self.old }
+        requires there { has_row self.old key.now ≡ true }
+        requires shares_fit { FitsSigned w64 ((holding_at self.old key.now).now +ℤ shares) }
+        requires cents_fit { FitsSigned w128 ((holding_at self.old key.now).contract +ℤ cents) }
+        ensures account { IsAccount key.now.account self.new }
+        ensures others { (k : Key) → has_row self.old k ≡ true → has_row self.new k ≡ true }
+        ensures booked { (k : Key) → holding_at self.new k ≡ booked (entry_of key.now shares cents) k (holding_at self.old k) }
+    {
+        let rows = self.rows.as_slice();
+        match find_from(rows, self.order.as_slice(), &self.hints, self.entered, key) {
+            Ok(place) => add_to(&mut self.rows[place].1, shares, cents),
+            Err(_) => {}
+        }
+    }
+
+    /// What a close makes of each row.
+    pub(crate) fn close(&mut self)
+        ensures { self.new ≡ closed_rows self.old }
+    {
+        for place in 0..self.rows.len() {
+            let holding = &mut self.rows[place].1;
+            *holding = close(*holding);
+        }
+    }
+
+    /// The first row above a key that is not zeros, of the account with that number. A walk over the rows remembers
+    /// where it stood, so that its next step begins there.
+    pub(crate) fn first_held(
+        &self,
+        walked: &Cell<usize>,
+        number: usize,
+        after: &Option<Key>,
+    ) -> Option<Row>
+        requires account { IsAccount number self.now }
+        requires reached { MatchOption after.now (Unit {0}) (λ k. k.account ≤ number) }
+        ensures { MatchOption result (held_above self.now after.now ≡ []) (λ r. held_above self.now after.now ≡ r ∷ held_above self.now (Some r.0)) }
+    {
+        let rows = self.rows.as_slice();
+        let order = self.order.as_slice();
+        let start = past(rows, order, walked.get(), number, after);
+        for at in start..order.len() {
+            let row = &rows[order[at]];
+            if is_held(row.1) {
+                walked.set(at);
+                return Some(*row);
+            }
+        }
+        None
+    }
+}
+
+impl<A: Allocator + Drop + Clone> AccountRows<A> {
+    /// No rows.
+    pub(crate) fn new(alloc: &A) -> Result<Self, NoMemory>
+        ensures { IfOk result (λ rows. rows ≡ []) }
+    {
+        Ok(AccountRows {
+            rows: Vec::new(alloc.clone()?),
+            order: Vec::new(alloc.clone()?),
+            hints: Hints::new(alloc.clone()?),
+            entered: 0,
+        })
+    }
+
+    /// Gives the key a row of zeros where it has none.
+    pub(crate) fn enter(&mut self, key: &Key) -> Result<(), NoMemory>
+        requires { IsAccount key.now.account self.old }
+        ensures account { IsAccount key.now.account self.new }
+        ensures there { OnOk result (has_row self.new key.now ≡ true) }
+        ensures others { (k : Key) → has_row self.old k ≡ true → has_row self.new k ≡ true }
+        ensures same { (k : Key) → holding_at self.new k ≡ holding_at self.old k }
+    {
+        match find(
+            self.rows.as_slice(),
+            self.order.as_slice(),
+            &self.hints,
+            key,
+        ) {
+            Ok(place) => {
+                self.entered = place;
+                Ok(())
+            }
+            Err(at) => self.insert(at, &(*key, ZEROS)),
+        }
+    }
+
+    /// Puts a row after all others.
+    pub(crate) fn append(&mut self, row: &Row) -> Result<(), NoMemory>
+        ensures { OnOk result (self.new ≡ self.old ++ row.now ∷ []) }
+    {
+        let last = self.order.len();
+        self.insert(last, row)
+    }
+
+    // Puts a row at that place of the order.
+    fn insert(&mut self, at: usize, row: &Row) -> Result<(), NoMemory>
+        requires { at ≤ length self.old }
+        ensures ok { OnOk result (self.new ≡ insert self.old at row.now) }
+        ensures err { OnErr result (self.new ≡ self.old) }
+    {
+        let place = self.rows.len();
+        let Ok(()) = self.rows.push(*row) else {
+            return Err(NoMemory);
+        };
+        let Ok(()) = self.order.insert(at, place) else {
+            self.rows.pop();
+            return Err(NoMemory);
+        };
+        self.hints.note_last(self.rows.as_slice());
+        self.entered = place;
+        Ok(())
+    }
 }

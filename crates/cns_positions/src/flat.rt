@@ -7,37 +7,37 @@ ghost use Rattle.cns_terms.specs.declared.holding.Holding.{Holding};
 ghost use Rattle.cns_terms.specs.declared.holding.Key.{Key};
 ghost use Rattle.cns_positions.specs.Rows.{holding_at, booked, entry_of};
 ghost use Rattle.cns_positions.specs.Placed.{has_row, closed_rows};
-ghost use Rattle.cns_positions.specs.Flat.{AreAccounts, joined, keys_of, lists_of};
+ghost use Rattle.cns_positions.specs.Flat.{AreAccounts, joined, keys_of};
 
-use crate::account::{book, close_all, enter, first_held, standing};
-use crate::hints::Hints;
+use crate::account::AccountRows;
+use crate::holding::ZEROS;
 use crate::positions::{Positions, Row};
 use arrayvec::ArrayVec;
 use cns_terms::{Holding, Key, NoMemory};
 use cns_units::Account;
 use std::alloc::Allocator;
+use std::cell::Cell;
 use std::marker::Model;
 
 /// Positions in a list of rows for each account, which stands at the account's number.
 ///
-/// A list is in the order of its keys. The lists end at the highest account that has had a row, and each prepared key
-/// has a row. The hints save most searches of the lists, and nothing is said of them.
+/// The lists end at the highest account that has had a row, and each prepared key has a row.
 #[derive(Drop)]
 pub struct FlatPositions<A: Allocator + Drop> {
-    accounts: Vec<Vec<Row, A>, A>,
+    accounts: Vec<AccountRows<A>, A>,
     prepared: ArrayVec<Option<Key>, 4>,
-    // Where in their lists the rows probably stand: each search looks there first.
-    hints: Hints<A>,
+    // Where in its account's order the row stands that a walk over the rows gave last: the next step begins there.
+    walked: Cell<usize>,
 }
 
 impl<A: Allocator + Drop> Model for FlatPositions<A> {
-    ghost use Rattle.cns_positions.specs.Flat.{Contents, IsFlat, joined, keys_of, lists_of};
+    ghost use Rattle.cns_positions.specs.Flat.{Contents, IsFlat, joined, keys_of};
 
     ghost Value = { Contents };
 
-    ghost view = { λ a. record { rows = joined (lists_of a.accounts.items); prepared = keys_of a.prepared.items } };
+    ghost view = { λ a. record { rows = joined a.accounts.items; prepared = keys_of a.prepared.items } };
 
-    ghost invariant = { λ a. IsFlat (lists_of a.accounts.items) a.prepared.items };
+    ghost invariant = { λ a. IsFlat a.accounts.items a.prepared.items };
 }
 
 // The number of an account, at which its list of rows stands.
@@ -57,29 +57,18 @@ fn first_number(after: Option<Key>) -> usize
     }
 }
 
-// The rows of the account with that number; none past the last list.
-fn rows_at<A: Allocator + Drop>(accounts: &[Vec<Row, A>], number: usize) -> &[Row]
-    ensures { result.now ≡ slice_index_or (lists_of accounts.now) number [] }
-{
-    if number < accounts.len() {
-        accounts[number].as_slice()
-    } else {
-        &[]
-    }
-}
-
 // Gives each account up to that number an empty list where it has none yet.
 fn open<A: Allocator + Drop + Clone>(
-    accounts: &mut Vec<Vec<Row, A>, A>,
+    accounts: &mut Vec<AccountRows<A>, A>,
     number: usize,
 ) -> Result<(), NoMemory>
-    requires { AreAccounts (lists_of accounts.old.items) }
-    ensures accounts { AreAccounts (lists_of accounts.new.items) }
-    ensures joined { joined (lists_of accounts.new.items) ≡ joined (lists_of accounts.old.items) }
+    requires { AreAccounts accounts.old.items }
+    ensures accounts { AreAccounts accounts.new.items }
+    ensures joined { joined accounts.new.items ≡ joined accounts.old.items }
     ensures len { OnOk result (vec_len accounts.new ≡ max (vec_len accounts.old) (number + 1)) }
 {
     while accounts.len() <= number {
-        let rows = Vec::new(accounts.allocator().clone()?);
+        let rows = AccountRows::new(accounts.allocator())?;
         let Ok(()) = accounts.push(rows) else {
             return Err(NoMemory);
         };
@@ -89,35 +78,33 @@ fn open<A: Allocator + Drop + Clone>(
 
 // Gives the key a row of zeros where it has none, and remembers where its row is.
 fn enter_key<A: Allocator + Drop + Clone>(
-    accounts: &mut Vec<Vec<Row, A>, A>,
-    hints: &mut Hints<A>,
+    accounts: &mut Vec<AccountRows<A>, A>,
     key: &Key,
 ) -> Result<(), NoMemory>
-    requires { AreAccounts (lists_of accounts.old.items) }
-    ensures accounts { AreAccounts (lists_of accounts.new.items) }
-    ensures there { OnOk result (has_row (joined (lists_of accounts.new.items)) key.now ≡ true) }
-    ensures others { (k : Key) → has_row (joined (lists_of accounts.old.items)) k ≡ true → has_row (joined (lists_of accounts.new.items)) k ≡ true }
-    ensures same { (k : Key) → holding_at (joined (lists_of accounts.new.items)) k ≡ holding_at (joined (lists_of accounts.old.items)) k }
+    requires { AreAccounts accounts.old.items }
+    ensures accounts { AreAccounts accounts.new.items }
+    ensures there { OnOk result (has_row (joined accounts.new.items) key.now ≡ true) }
+    ensures others { (k : Key) → has_row (joined accounts.old.items) k ≡ true → has_row (joined accounts.new.items) k ≡ true }
+    ensures same { (k : Key) → holding_at (joined accounts.new.items) k ≡ holding_at (joined accounts.old.items) k }
 {
     let number = number_of(key.account);
     open(accounts, number)?;
-    enter(&mut accounts[number], hints, key)
+    accounts[number].enter(key)
 }
 
 // Gives each key a row of zeros where it has none, and remembers where the rows are.
 fn enter_all<A: Allocator + Drop + Clone>(
-    accounts: &mut Vec<Vec<Row, A>, A>,
-    hints: &mut Hints<A>,
+    accounts: &mut Vec<AccountRows<A>, A>,
     keys: &[Key],
 ) -> Result<(), NoMemory>
-    requires { AreAccounts (lists_of accounts.old.items) }
-    ensures accounts { AreAccounts (lists_of accounts.new.items) }
-    ensures there { OnOk result ((k : Key) → Contains keys.now k → has_row (joined (lists_of accounts.new.items)) k ≡ true) }
-    ensures others { (k : Key) → has_row (joined (lists_of accounts.old.items)) k ≡ true → has_row (joined (lists_of accounts.new.items)) k ≡ true }
-    ensures same { (k : Key) → holding_at (joined (lists_of accounts.new.items)) k ≡ holding_at (joined (lists_of accounts.old.items)) k }
+    requires { AreAccounts accounts.old.items }
+    ensures accounts { AreAccounts accounts.new.items }
+    ensures there { OnOk result ((k : Key) → Contains keys.now k → has_row (joined accounts.new.items) k ≡ true) }
+    ensures others { (k : Key) → has_row (joined accounts.old.items) k ≡ true → has_row (joined accounts.new.items) k ≡ true }
+    ensures same { (k : Key) → holding_at (joined accounts.new.items) k ≡ holding_at (joined accounts.old.items) k }
 {
     for key in keys {
-        enter_key(accounts, hints, key)?;
+        enter_key(accounts, key)?;
     }
     Ok(())
 }
@@ -135,54 +122,50 @@ fn kept(keys: &[Key]) -> ArrayVec<Option<Key>, 4>
 }
 
 // Closes each account's rows.
-fn close_each<A: Allocator + Drop>(accounts: &mut Vec<Vec<Row, A>, A>)
-    ensures { lists_of accounts.new.items ≡ map closed_rows (lists_of accounts.old.items) }
+fn close_each<A: Allocator + Drop>(accounts: &mut Vec<AccountRows<A>, A>)
+    ensures { accounts.new.items ≡ map closed_rows accounts.old.items }
 {
     for number in 0..accounts.len() {
-        close_all(&mut accounts[number]);
+        accounts[number].close();
     }
 }
 
 // Books shares and cents in the key's row, which is quickly found where its hint is right.
 fn book_key<A: Allocator + Drop>(
-    accounts: &mut Vec<Vec<Row, A>, A>,
-    hints: &Hints<A>,
+    accounts: &mut Vec<AccountRows<A>, A>,
     key: &Key,
     shares: i64,
     cents: i128,
 )
-    requires accounts { AreAccounts (lists_of accounts.old.items) }
-    requires there { has_row (joined (lists_of accounts.old.items)) key.now ≡ true }
-    requires shares_fit { FitsSigned w64 ((holding_at (joined (lists_of accounts.old.items)) key.now).now +ℤ shares) }
-    requires cents_fit { FitsSigned w128 ((holding_at (joined (lists_of accounts.old.items)) key.now).contract +ℤ cents) }
-    ensures accounts { AreAccounts (lists_of accounts.new.items) }
-    ensures others { (k : Key) → has_row (joined (lists_of accounts.old.items)) k ≡ true → has_row (joined (lists_of accounts.new.items)) k ≡ true }
-    ensures booked { (k : Key) → holding_at (joined (lists_of accounts.new.items)) k ≡ booked (entry_of key.now shares cents) k (holding_at (joined (lists_of accounts.old.items)) k) }
+    requires accounts { AreAccounts accounts.old.items }
+    requires there { has_row (joined accounts.old.items) key.now ≡ true }
+    requires shares_fit { FitsSigned w64 ((holding_at (joined accounts.old.items) key.now).now +ℤ shares) }
+    requires cents_fit { FitsSigned w128 ((holding_at (joined accounts.old.items) key.now).contract +ℤ cents) }
+    ensures accounts { AreAccounts accounts.new.items }
+    ensures others { (k : Key) → has_row (joined accounts.old.items) k ≡ true → has_row (joined accounts.new.items) k ≡ true }
+    ensures booked { (k : Key) → holding_at (joined accounts.new.items) k ≡ booked (entry_of key.now shares cents) k (holding_at (joined accounts.old.items) k) }
 {
     let number = number_of(key.account);
     if number < accounts.len() {
-        book(&mut accounts[number], hints, key, shares, cents);
+        accounts[number].book(key, shares, cents);
     }
 }
 
 // Puts a row after all others.
 fn append<A: Allocator + Drop + Clone>(
-    accounts: &mut Vec<Vec<Row, A>, A>,
+    accounts: &mut Vec<AccountRows<A>, A>,
     row: &Row,
 ) -> Result<(), NoMemory>
-    requires accounts { AreAccounts (lists_of accounts.old.items) }
+    requires accounts { AreAccounts accounts.old.items }
     requires last { vec_len accounts.old ≤ row.now.0.account + 1 }
-    requires sorted { is_sorted key_cmp (joined (lists_of accounts.old.items) ++ row.now ∷ []) ≡ true }
-    ensures accounts { OnOk result (AreAccounts (lists_of accounts.new.items)) }
-    ensures joined { OnOk result (joined (lists_of accounts.new.items) ≡ joined (lists_of accounts.old.items) ++ row.now ∷ []) }
+    requires sorted { is_sorted key_cmp (joined accounts.old.items ++ row.now ∷ []) ≡ true }
+    ensures accounts { OnOk result (AreAccounts accounts.new.items) }
+    ensures joined { OnOk result (joined accounts.new.items ≡ joined accounts.old.items ++ row.now ∷ []) }
     ensures len { OnOk result (vec_len accounts.new ≡ row.now.0.account + 1) }
 {
     let number = number_of(row.0.account);
     open(accounts, number)?;
-    let Ok(()) = accounts[number].push(*row) else {
-        return Err(NoMemory);
-    };
-    Ok(())
+    accounts[number].append(row)
 }
 
 impl<A: Allocator + Drop + Clone> Positions<A> for FlatPositions<A> {
@@ -194,25 +177,27 @@ impl<A: Allocator + Drop + Clone> Positions<A> for FlatPositions<A> {
         FlatPositions {
             accounts: Vec::new(alloc),
             prepared: ArrayVec::new(),
-            hints: Hints::new(),
+            walked: Cell::new(0),
         }
     }
 
     fn get(&self, key: Key) -> Holding {
-        let key = &key;
-        let rows = rows_at(self.accounts.as_slice(), number_of(key.account));
-        standing(rows, &self.hints, key)
+        let number = number_of(key.account);
+        if number < self.accounts.len() {
+            self.accounts[number].get(&key)
+        } else {
+            ZEROS
+        }
     }
 
     fn prepare(&mut self, keys: &[Key]) -> Result<(), NoMemory> {
-        enter_all(&mut self.accounts, &mut self.hints, keys)?;
+        enter_all(&mut self.accounts, keys)?;
         self.prepared = kept(keys);
         Ok(())
     }
 
     fn add(&mut self, key: Key, shares: i64, cents: i128) {
-        let key = &key;
-        book_key(&mut self.accounts, &self.hints, key, shares, cents);
+        book_key(&mut self.accounts, &key, shares, cents);
     }
 
     fn roll(&mut self) {
@@ -222,8 +207,8 @@ impl<A: Allocator + Drop + Clone> Positions<A> for FlatPositions<A> {
     fn next_row(&self, after: Option<Key>) -> Option<Row> {
         let after = &after;
         for number in first_number(*after)..self.accounts.len() {
-            let rows = self.accounts[number].as_slice();
-            if let Some(row) = first_held(rows, &self.hints, number, after) {
+            let rows = &self.accounts[number];
+            if let Some(row) = rows.first_held(&self.walked, number, after) {
                 return Some(row);
             }
         }
@@ -238,7 +223,7 @@ impl<A: Allocator + Drop + Clone> Positions<A> for FlatPositions<A> {
         Ok(FlatPositions {
             accounts,
             prepared: ArrayVec::new(),
-            hints: Hints::new(),
+            walked: Cell::new(0),
         })
     }
 }

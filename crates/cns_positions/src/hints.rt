@@ -1,137 +1,111 @@
-// Where in the accounts' lists the rows of keys probably stand.
+// Where the rows of an account's keys stand, as far as it is remembered.
+use crate::positions::Row;
 use cns_terms::Key;
 use std::alloc::{AllocError, Allocator};
-use std::cell::Cell;
 use std::hash::{FoldHasher, Hasher};
 
-// How many hints an account's first table has.
+// How many slots an account's first table has.
 const FIRST: usize = 16;
 
-// How many hints an account has for each of its rows, at least, so that few rows share one.
+// How many slots there are for each row, at least, so that few keys have to share one.
 const SPARE: usize = 2;
 
-/// For each key a guess where in its account's list its row stands.
+/// In how many slots a key's place is looked for before it counts as forgotten.
+pub(crate) const STEPS: usize = 16;
+
+// What a slot has in which no place is kept.
+const FREE: u16 = u16::MAX;
+
+/// For each key of an account a guess where its row stands.
 ///
-/// A guess may be wrong: keys share hints, and rows move up where others enter below them. So whoever takes a guess
-/// looks first whose row stands there, and no clause says what is guessed. Hints stand in cells, so that whoever had to
-/// search corrects them, also where positions are only read.
+/// No clause says what is guessed: whoever takes a guess looks whose row stands there. Since rows never move, a guess
+/// that was right stays right, and a key that has no guess hardly ever has a row. Slots are small, so that those of a
+/// book stay near the processor; rows past the first 65,535 of an account are not remembered, and are searched for.
 #[derive(Drop)]
 pub(crate) struct Hints<A: Allocator + Drop> {
-    // An account's table stands at the account's number, so that those who go over an account's rows stay in a small
-    // table. Each has a length that is a power of two, or 0, which it has until a row enters the account's list.
-    tables: Option<Vec<Vec<Cell<u32>, A>, A>>,
-    // Where in its account's list the row stands that a walk over the rows gave last: the next step begins there.
-    walked: Cell<usize>,
+    // The place of a key's row stands in the key's own slot, or in one of the next where others came first. There is a
+    // power of two of slots, or none before the first row.
+    slots: Vec<u16, A>,
 }
 
-// The number of the key's account, at which its table stands.
-fn number_of(key: &Key) -> usize {
-    usize::from(key.account.value())
-}
-
-// Where in a table of that length the key's hint stands.
-fn slot(len: usize, key: &Key) -> usize {
+// The first slot that may have a key's place, where there are so many.
+fn own_slot(len: usize, key: &Key) -> usize {
     let mut hasher = FoldHasher::default();
     // The ninth character is the check digit of these.
     hasher.write(&key.issue.bytes()[..8]);
     hasher.finish() as usize & len.wrapping_sub(1)
 }
 
-// A table of twice the length. A key's new slot is its old one, in the first half or in the second, so each hint
-// stands in both.
-fn doubled<A: Allocator + Drop + Clone>(
-    places: &Vec<Cell<u32>, A>,
-) -> Result<Vec<Cell<u32>, A>, AllocError> {
-    let len = places.len().saturating_mul(2);
-    let mut doubled = Vec::with_capacity(places.allocator().clone()?, len)?;
-    for _half in 0..2 {
-        for place in places {
-            doubled.push(Cell::new(place.get()))?;
-        }
-    }
-    Ok(doubled)
+// A table of free slots, at least so many.
+fn free_slots<A: Allocator + Drop>(alloc: A, wanted: usize) -> Result<Vec<u16, A>, AllocError> {
+    let len = wanted.checked_next_power_of_two().unwrap_or(FIRST);
+    let mut slots = Vec::with_capacity(alloc, len)?;
+    slots.resize(len, FREE)?;
+    Ok(slots)
 }
 
-// Makes an account's table large enough for so many rows.
-fn fit<A: Allocator + Drop + Clone>(
-    places: &mut Vec<Cell<u32>, A>,
-    rows: usize,
-) -> Result<(), AllocError> {
-    let wanted = rows.saturating_mul(SPARE).max(FIRST);
-    if places.len() == 0 {
-        let len = wanted.checked_next_power_of_two().unwrap_or(FIRST);
-        places.resize_with(len, || Cell::new(0))?;
-    } else if places.len() < wanted {
-        *places = doubled(places)?;
+// Puts the place of a key's row into the first free slot, if there is one near.
+fn note(slots: &mut [u16], key: &Key, place: usize) {
+    let Ok(place) = u16::try_from(place) else {
+        return;
+    };
+    let own = own_slot(slots.len(), key);
+    for step in 0..STEPS {
+        let slot = own.wrapping_add(step) & slots.len().wrapping_sub(1);
+        if let Some(kept) = slots.get_mut(slot) {
+            if *kept == FREE {
+                *kept = place;
+                return;
+            }
+        }
     }
-    Ok(())
 }
 
 impl<A: Allocator + Drop> Hints<A> {
     /// No hints yet. It takes no memory.
-    pub(crate) fn new() -> Hints<A> {
+    pub(crate) fn new(alloc: A) -> Hints<A> {
         Hints {
-            tables: None,
-            walked: Cell::new(0),
+            slots: Vec::new(alloc),
         }
     }
 
-    // The key's hint, if its account has a table.
-    fn hint(&self, key: &Key) -> Option<&Cell<u32>> {
-        let places = self.tables.as_ref()?.as_slice().get(number_of(key))?;
-        places.as_slice().get(slot(places.len(), key))
+    /// The first slot that may have the key's place.
+    pub(crate) fn slot(&self, key: &Key) -> usize {
+        own_slot(self.slots.len(), key)
     }
 
-    /// A place at which the key's row may stand.
-    pub(crate) fn guess(&self, key: &Key) -> usize {
-        match self.hint(key) {
-            Some(hint) => hint.get() as usize,
-            None => 0,
-        }
-    }
-
-    /// A place at which the row may stand that a walk gave last.
-    pub(crate) fn walked(&self) -> usize {
-        self.walked.get()
-    }
-
-    /// Remembers the place of the row that a walk gives.
-    pub(crate) fn walk_to(&self, place: usize) {
-        self.walked.set(place);
-    }
-
-    /// Remembers the place of a key's row, if there is room for it.
-    pub(crate) fn note(&self, key: &Key, place: usize) {
-        if let (Some(hint), Ok(place)) = (self.hint(key), u32::try_from(place)) {
-            hint.set(place);
+    /// The place that stands so many slots after a key's first; none where the key has none there, nor further on.
+    pub(crate) fn guess(&self, own: usize, step: usize) -> Option<usize> {
+        let slot = own.wrapping_add(step) & self.slots.len().wrapping_sub(1);
+        match self.slots.as_slice().get(slot) {
+            Some(&place) if place != FREE => Some(usize::from(place)),
+            _ => None,
         }
     }
 }
 
 impl<A: Allocator + Drop + Clone> Hints<A> {
-    /// Makes room for the hints of the key's account, which has so many rows. Where memory is refused there is less
-    /// room, which costs no more than time.
-    pub(crate) fn make_room(&mut self, alloc: &A, key: &Key, rows: usize) {
-        let _refused = self.open(alloc, number_of(key));
-        let Some(tables) = &mut self.tables else {
-            return;
-        };
-        if let Some(places) = tables.as_mut_slice().get_mut(number_of(key)) {
-            let _refused = fit(places, rows);
+    /// Remembers where the last of the rows stands. Where memory is refused some key is not remembered, which costs no
+    /// more than time.
+    pub(crate) fn note_last(&mut self, rows: &[Row]) {
+        let wanted = rows.len().saturating_mul(SPARE).max(FIRST);
+        if self.slots.len() < wanted {
+            if let Ok(()) = self.renew(rows, wanted) {
+                return;
+            }
+        }
+        if let Some(row) = rows.last() {
+            note(self.slots.as_mut_slice(), &row.0, rows.len() - 1);
         }
     }
 
-    // Gives each account up to that number an empty table where it has none yet.
-    fn open(&mut self, alloc: &A, number: usize) -> Result<(), AllocError> {
-        if self.tables.is_none() {
-            self.tables = Some(Vec::new(alloc.clone()?));
+    // Takes a table of at least so many slots, and remembers in it where each row stands.
+    fn renew(&mut self, rows: &[Row], wanted: usize) -> Result<(), AllocError> {
+        let mut slots = free_slots(self.slots.allocator().clone()?, wanted)?;
+        for (place, row) in rows.iter().enumerate() {
+            note(slots.as_mut_slice(), &row.0, place);
         }
-        let Some(tables) = &mut self.tables else {
-            return Ok(());
-        };
-        for _ in tables.len()..number.saturating_add(1) {
-            tables.push(Vec::new(alloc.clone()?))?;
-        }
+        self.slots = slots;
         Ok(())
     }
 }

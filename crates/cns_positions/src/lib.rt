@@ -1,17 +1,17 @@
 //! Positions: what stands at each account's place in each issue.
 //!
 //! The trait `Positions` is a finite map from keys to holdings that counts an absent key as zeros; its clauses say all
-//! that the layers above use, so one form can take another's place without a change there. `FlatPositions` keeps one
-//! sorted list of rows for each account, and hints that save most searches: for each key a guess where in the list its
-//! row stands. It finds a key at the account's number and then mostly where the hint says; a hint is looked at before
-//! it is used, and where it is wrong the account's list is halved and the hint corrected. The first booking of an issue
-//! moves only the account's rows above it. All memory is taken by `prepare` and `rebuilt`; `add` and `roll` only write.
-//! Start with `Positions`; `run` shows every form at work.
+//! that the layers above use, so one form can take another's place without a change there. `FlatPositions` keeps rows
+//! for each account, at the account's number. A row never moves; beside an account's rows stand their places in the
+//! order of the keys, and hints that save most searches: where the row of a key stands, as far as it is remembered. A
+//! hint is looked at before it is used, and where there is none the order is halved. All memory is taken by `prepare`
+//! and `rebuilt`; `add` and `roll` only write. Start with `Positions`; `run` shows every form at work.
 #![tactic(auto)]
 
 mod account;
 mod flat;
 mod hints;
+mod holding;
 mod positions;
 mod steps;
 

@@ -3,3 +3,4 @@ pub mod CusipLemmas
 pub mod CusipValues
 pub mod CentsLemmas
 pub mod DayLemmas
+pub mod CusipOrder

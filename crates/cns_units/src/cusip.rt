@@ -1,11 +1,18 @@
-ghost use Rattle.std.specs.Prelude.{◌≡◌, ℕ, ◌+◌, ◌≤◌, ◌*◌, List, length, Bool, Option};
+ghost use Rattle.std.specs.Prelude.{◌≡◌, ℕ, ◌+◌, ◌≤◌, ◌*◌, List, length, take, Bool, Option};
+ghost use Rattle.std.proofs.Common.{rules};
+ghost use Rattle.std.specs.Cmp.{partial_order_from_own_ties};
+ghost use Rattle.std.specs.Cmp.Lexicographic.{slice_cmp};
+ghost use Rattle.std.specs.Cmp.Rules.{comparing};
+ghost use Rattle.std.specs.Int.{w64, from_be_bytes};
+ghost use Rattle.std.specs.Ordering.{nat_cmp, as_partial_cmp};
 ghost use Rattle.cns_units.specs.Cusip.{character_value, weight, sum_of, cusip_of, IsCusip};
 
 use crate::fault::UnitFault;
+use std::cmp::Ordering;
 use std::marker::Model;
 
-/// The number of a security, with its check digit.
-#[derive(Clone, Copy, Debug, PartialEq, Eq, PartialOrd, Ord)]
+/// The number of a security, with its check digit. CUSIPs are in the order of their bytes.
+#[derive(Clone, Copy, Debug, PartialEq, Eq)]
 pub struct Cusip {
     text: [u8; 9],
 }
@@ -99,5 +106,42 @@ impl Cusip {
         ensures valid { IsCusip self.now }
     {
         &self.text
+    }
+}
+
+impl Cusip {
+    // The characters before the check digit, as one number that orders as they do.
+    fn body(&self) -> u64
+        ensures exact { result ≡ from_be_bytes w64 (take 8 self.now) }
+        ensures valid { IsCusip self.now }
+    {
+        let [a, b, c, d, e, f, g, h, _check] = self.text;
+        u64::from_be_bytes([a, b, c, d, e, f, g, h])
+    }
+}
+
+impl Ord for Cusip {
+    ghost cmp = { slice_cmp nat_cmp };
+
+    ghost total = { Prim.search (comparing, rules) };
+
+    ghost matches_partial_cmp = { Prim.search (comparing, rules) };
+
+    ghost matches_eq = { Prim.search (comparing, rules) };
+
+    // The check digit follows from the characters before it, so those decide.
+    fn cmp(&self, other: &Cusip) -> Ordering {
+        self.body().cmp(&other.body())
+    }
+}
+
+impl PartialOrd for Cusip {
+    ghost partial_cmp = { as_partial_cmp (slice_cmp nat_cmp) };
+
+    ghost laws = { partial_order_from_own_ties (Prim.search (comparing, rules))
+        (Prim.search (comparing, rules)) };
+
+    fn partial_cmp(&self, other: &Cusip) -> Option<Ordering> {
+        Some(self.cmp(other))
     }
 }

@@ -1,4 +1,4 @@
-use Rattle.std.proofs.Common.{◌<◌, arith}
+use Rattle.std.proofs.Common.{◌<◌}
 use Rattle.cns_units.proofs.CusipValues.{no_value, some_value}
 use Rattle.cns_units.proofs.cusip.value_of.Goals as goal
 

@@ -1,17 +1,16 @@
 use Rattle.std.proofs.Common.{arith}
-use Rattle.cns_positions.specs.Flat.{lists_of}
 use Rattle.cns_positions.proofs.Above.{none_before}
 use Rattle.cns_positions.proofs.Replaced.{account_at, held_there, none_there}
 use Rattle.cns_positions.proofs.flat.FlatPositionsPositions.next_row.Goals as goal
 
 pub loop-number-init : goal.loop-number-init
-loop-number-init g c = none_before (lists_of c.self.inside.accounts.items) c.args.after c.first_number-number.result c.self.invariant.accounts c.first_number-number.ensures
+loop-number-init g c = none_before c.self.inside.accounts.items c.args.after c.first_number-number.result c.self.invariant.accounts c.first_number-number.ensures
 
 pub first_held-requires-clause-account : goal.first_held-requires-clause-account
-first_held-requires-clause-account g c = rw c.as_slice-rows.ensures.value (account_at c.self.inside.accounts.items c.loop-number.number c.index.result.now c.index.result.now (omega arith) c.index.ensures c.loop-number.number (λ i. c.loop-number.number) c.self.invariant.accounts)
+first_held-requires-clause-account g c = (account_at c.self.inside.accounts.items c.loop-number.number c.index-rows.result.now c.index-rows.result.now (omega arith) c.index-rows.ensures c.loop-number.number (λ i. c.loop-number.number) c.self.invariant.accounts)
 
 pub returns-in-Some : goal.returns-in-Some
-returns-in-Some g c = rw (← c.self.view_is) (held_there c.self.inside.accounts.items c.loop-number.number c.index.result.now c.index.result.now (omega arith) c.index.ensures c.args.after c.in-Some.row c.self.invariant.accounts c.loop-number.invariant (rw c.as_slice-rows.ensures.value at c.in-Some.ensures))
+returns-in-Some g c = rw (← c.self.view_is) (held_there c.self.inside.accounts.items c.loop-number.number c.index-rows.result.now c.index-rows.result.now (omega arith) c.index-rows.ensures c.args.after c.in-Some.row c.self.invariant.accounts c.loop-number.invariant c.in-Some.ensures)
 
 pub loop-number-preserved : goal.loop-number-preserved
-loop-number-preserved g c = none_there c.self.inside.accounts.items c.loop-number.number c.index.result.now c.index.result.now (omega arith) c.index.ensures c.args.after c.loop-number.invariant (rw c.as_slice-rows.ensures.value at c.in_default.ensures)
+loop-number-preserved g c = none_there c.self.inside.accounts.items c.loop-number.number c.index-rows.result.now c.index-rows.result.now (omega arith) c.index-rows.ensures c.args.after c.loop-number.invariant c.in_default.ensures

@@ -6,7 +6,7 @@ use Rattle.cns_terms.specs.declared.holding.Holding.{Holding}
 use Rattle.cns_terms.specs.Keys.{key_cmp}
 use Rattle.cns_terms.proofs.Keys.{keys_total}
 use Rattle.cns_positions.specs.Rows.{Rows}
-use Rattle.cns_positions.specs.Flat.{joined, lists_of}
+use Rattle.cns_positions.specs.Flat.{joined}
 use Rattle.cns_positions.proofs.Puts.{below_later}
 use Rattle.cns_positions.proofs.Appended.{sorted_take}
 use Rattle.cns_positions.proofs.Lists.{accounts_rise}
@@ -25,12 +25,12 @@ rising given i r d s is lt =
 
 pub append-requires-clause-sorted : goal.append-requires-clause-sorted
 append-requires-clause-sorted g c =
-    ap (is_sorted key_cmp) (more (joined (lists_of c.loop-row.accounts.items)) c.args.given.now c.loop-row.row-index c.row-item.result c.loop-row.invariant.joined c.loop-row-test.true c.row-item.is)
+    ap (is_sorted key_cmp) (more (joined c.loop-row.accounts.items) c.args.given.now c.loop-row.row-index c.row-item.result c.loop-row.invariant.joined c.loop-row-test.true c.row-item.is)
     ∙ sorted_take c.args.given.now (c.loop-row.row-index + 1) c.requires
 
 pub loop-row-preserved : goal.loop-row-preserved
 loop-row-preserved g c = record {
   accounts = c.in_ok-append.ensures.accounts;
-  joined = c.in_ok-append.ensures.joined ∙ more (joined (lists_of c.loop-row.accounts.items)) c.args.given.now c.loop-row.row-index c.row-item.result c.loop-row.invariant.joined c.loop-row-test.true c.row-item.is;
+  joined = c.in_ok-append.ensures.joined ∙ more (joined c.loop-row.accounts.items) c.args.given.now c.loop-row.row-index c.row-item.result c.loop-row.invariant.joined c.loop-row-test.true c.row-item.is;
   last = λ d lt. omega (arith, c.in_ok-append.ensures.len, rising c.args.given.now c.loop-row.row-index c.row-item.result d c.requires c.row-item.is lt);
 }

@@ -1,0 +1,53 @@
+// What bookings and closes make of a holding.
+ghost use Rattle.std.specs.Prelude.{◌≡◌, ◌+ℤ◌, FitsSigned};
+ghost use Rattle.std.specs.Int.{w64, w128};
+ghost use Rattle.cns_positions.specs.Rows.{rolled, is_held};
+
+use cns_terms::Holding;
+
+/// What stands where nothing was ever booked.
+pub(crate) const ZEROS: Holding = Holding {
+    now: 0,
+    opening: 0,
+    contract: 0,
+    run: 0,
+};
+
+const LONGEST_RUN: u32 = 4_294_967_295;
+
+/// What a close makes of a holding.
+pub(crate) fn close(holding: Holding) -> Holding
+    ensures { result ≡ rolled holding }
+{
+    Holding {
+        now: holding.now,
+        opening: holding.now,
+        contract: 0,
+        run: if holding.now < 0 {
+            if holding.run < LONGEST_RUN {
+                holding.run + 1
+            } else {
+                LONGEST_RUN
+            }
+        } else {
+            0
+        },
+    }
+}
+
+/// Books shares and cents in a holding.
+pub(crate) fn add_to(holding: &mut Holding, shares: i64, cents: i128)
+    requires shares_fit { FitsSigned w64 (holding.old.now +ℤ shares) }
+    requires cents_fit { FitsSigned w128 (holding.old.contract +ℤ cents) }
+    ensures { holding.new ≡ record holding.old { now = holding.old.now +ℤ shares; contract = holding.old.contract +ℤ cents } }
+{
+    holding.now += shares;
+    holding.contract += cents;
+}
+
+/// Whether anything but zeros stands there.
+pub(crate) fn is_held(holding: Holding) -> bool
+    ensures { result ≡ is_held holding }
+{
+    holding.now != 0 || holding.opening != 0 || holding.contract != 0 || holding.run != 0
+}
