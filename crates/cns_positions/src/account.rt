@@ -96,9 +96,9 @@ fn rank_from(rows: &[Row], order: &[usize], guess: usize, key: &Key) -> Result<u
 fn remembered<A: Allocator + Drop>(rows: &[Row], hints: &Hints<A>, key: &Key) -> Option<usize>
     ensures { IfSome result (IsRowOf rows.now key.now) }
 {
-    let own = hints.slot(key);
-    for step in 0..STEPS {
-        let place = hints.guess(own, step)?;
+    let mut guesses = hints.guesses(key);
+    for _ in 0..STEPS {
+        let place = guesses.next()?;
         if place < rows.len() && is_of(&rows[place], key) {
             return Some(place);
         }
