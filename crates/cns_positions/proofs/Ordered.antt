@@ -127,14 +127,6 @@ closed_ordered rows order h =
     same_reading (row_at (closed_rows rows)) (λ p. f (row_at rows p)) order (λ i lt. get_or-map f rows (get_or order i 0) no_row no_row (h.within i lt))
     ∙ changed_each f (row_at rows) order
 
--- and the order is one still
-pub closed_order : (rows : Rows) (order : List ℕ) → IsOrder (length rows) order → IsOrder (length (closed_rows rows)) order
-closed_order rows order h = subst (λ n. IsOrder n order) (sym (length-map rows (λ (r : Key × Holding). (r.0, rolled r.1)))) h
-
--- a row written over leaves the order
-pub set_order : (rows : Rows) (p : ℕ) (x : Key × Holding) (order : List ℕ) → IsOrder (length rows) order → IsOrder (length (set rows p x)) order
-set_order rows p x order h = subst (λ n. IsOrder n order) (sym (length-set rows p x)) h
-
 module _ (rows : Rows) (order : List ℕ) (h : IsOrder (length rows) order) (at : ℕ) (le : at ≤ length order) (x : Key × Holding) where
   -- a row more, put at a rank
   pub inserted_ordered : in_order (rows ++ x ∷ []) (insert order at (length rows)) ≡ insert (in_order rows order) at x

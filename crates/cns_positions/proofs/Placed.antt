@@ -87,9 +87,6 @@ booked_put es k s c q =
 pub found_here : (es : Rows) (i : ℕ) (k : Key) (item : Key × Holding) → is_sorted key_cmp es ≡ true → i < length es → HoldsAt (λ e. key_cmp e.0 k ≡ Equal) es i → item ≡ get_or es i item → holding_at es k ≡ item.1
 found_here es i k item s lt at is = ap (λ o. unwrap_or o zeros) (find_at keys_total es i k item s lt (at item)) ∙ ap (λ e. e.1) (sym is)
 
-pub row_here : (es : Rows) (i : ℕ) (k : Key) → is_sorted key_cmp es ≡ true → i < length es → HoldsAt (λ e. key_cmp e.0 k ≡ Equal) es i → has_row es k ≡ true
-row_here es i k s lt at = ap is_some (find_at keys_total es i k (k, zeros) s lt (at (k, zeros)))
-
 -- what isn't zeros has a row
 held_some : (o : Option Holding) → is_held (unwrap_or o zeros) ≡ true → is_some o ≡ true
 held_some None h = cc

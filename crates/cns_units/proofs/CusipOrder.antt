@@ -1,5 +1,5 @@
 -- The characters before the check digit order CUSIPs as all nine do.
-use Rattle.std.proofs.Common.{◌≡◌, ◌∙◌, sym, ap, refl, ℕ, ◌+◌, ◌-◌, ◌*◌, ◌^◌, ◌<◌, ◌≤◌, ◌==◌, nat_le, Bool, true, false, ◌&&◌, not, List, [], ◌∷◌, ◌++◌, length, take, Option, Some, None, inl, inr, arith}
+use Rattle.std.proofs.Common.{◌≡◌, ◌∙◌, sym, ap, refl, ℕ, ◌+◌, ◌-◌, ◌*◌, ◌^◌, ◌<◌, ◌≤◌, ◌==◌, nat_le, Bool, true, false, not, List, [], ◌∷◌, ◌++◌, length, take, Option, Some, None, inl, inr, arith}
 use Rattle.std.specs.Int.{w64, from_be_bytes}
 use Rattle.std.specs.Ordering.{nat_cmp, ordering_then}
 use Rattle.std.specs.declared.cmp.Ordering.{Ordering}
@@ -12,13 +12,15 @@ use Rattle.cns_units.specs.declared.fault.UnitFault.TheVariants as fault
 use Rattle.std.proofs.lemmas.Grind.{common_steps}
 use Rattle.std.specs.Prelude.{if◌then◌else◌, slice_index}
 use Rattle.cns_units.specs.Cusip.{IsCusip, after_value, character_value, check_digit, is_digit, last_fault, sum_of}
+use Rattle.cns_units.proofs.CusipValues.{and_left}
 
--- a test and then another
+-- a comparison, and then one that ties
 then_end : (o : Ordering) → ordering_then o Equal ≡ o
 then_end Less = refl
 then_end Equal = refl
 then_end Greater = refl
 
+-- of three comparisons the first that does not tie decides
 then_then : (o p q : Ordering) → ordering_then (ordering_then o p) q ≡ ordering_then o (ordering_then p q)
 then_then Less p q = refl
 then_then Equal p q = refl
@@ -92,10 +94,6 @@ are_bytes doubled (x ∷ xs) sum e = by (character_value x) (sum_of (not doubled
     by None rest v r q more = cc
     by (Some n) None v r q more = cc
     by (Some n) (Some m) v r q more = (is_byte x n v, more m r)
-
-and_left : (a b : Bool) → (a && b) ≡ true → a ≡ true
-and_left true b e = refl
-and_left false b e = e
 
 -- of two characters after one sum both are its check digit
 same_check : (sum : Option ℕ) (c d : ℕ) → last_fault sum c ≡ None → last_fault sum d ≡ None → c ≡ d

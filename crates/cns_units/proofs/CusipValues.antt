@@ -23,7 +23,8 @@ same-true None (Some b) h = cc
 same-true (Some a) None h = cc
 same-true (Some a) (Some b) h = ap Some (eqb-true a b h)
 
-and_left : (a b : Bool) → (a && b) ≡ true → a ≡ true
+-- the first of two tests that hold together
+pub and_left : (a b : Bool) → (a && b) ≡ true → a ≡ true
 and_left true b h = refl
 and_left false b h = h
 

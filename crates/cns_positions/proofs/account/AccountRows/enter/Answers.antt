@@ -16,6 +16,7 @@ use Rattle.cns_positions.proofs.Puts.{insert_is_put, find_gap}
 use Rattle.cns_positions.proofs.Placed.{row_put, row_stays, entered}
 use Rattle.cns_positions.proofs.Lists.{account_put}
 use Rattle.cns_positions.proofs.Ordered.{found_ordered, ordered_count}
+use Rattle.cns_positions.proofs.Replaced.{on_ok}
 use Rattle.cns_positions.proofs.account.AccountRows.enter.Goals as goal
 use Rattle.cns_positions.proofs.account.AccountRows.enter.Goals.{After-insert}
 
@@ -23,11 +24,6 @@ use Rattle.cns_positions.proofs.account.AccountRows.enter.Goals.{After-insert}
 either : {X E : Type 0} (P : Rows → Type 0) (r : Result X E) (old with new : Rows) → OnOk r (new ≡ with) → OnErr r (new ≡ old) → P old → P with → P new
 either P (Ok x) old with new ok err was is = subst P (sym ok) is
 either P (Err e) old with new ok err was is = subst P (sym err) was
-
--- and what is true of them with the row is true after one that went well
-when_ok : {X E : Type 0} (P : Rows → Type 0) (r : Result X E) (with new : Rows) → OnOk r (new ≡ with) → P with → OnOk r (P new)
-when_ok P (Ok x) with new ok is = subst P (sym ok) is
-when_ok P (Err e) with new ok is = tt
 
 -- the insert is a put
 inserted : (g : _) (c : After-insert g) → insert c.args.self.now c.in-Err.at (c.args.key.now, zeros) ≡ put key_cmp c.args.key.now zeros c.args.self.now
@@ -55,7 +51,7 @@ pub returns-in-Err-clause-account : goal.returns-in-Err-clause-account
 returns-in-Err-clause-account g c = either (IsAccount c.args.key.now.account) c.insert.result c.args.self.now _ c.insert.new.self c.insert.ensures.ok c.insert.ensures.err c.requires (subst (IsAccount c.args.key.now.account) (sym (inserted g c)) (account_put c.args.key.now zeros c.args.self.now c.requires))
 
 pub returns-in-Err-clause-there : goal.returns-in-Err-clause-there
-returns-in-Err-clause-there g c = when_ok (λ es. has_row es c.args.key.now ≡ true) c.insert.result _ c.insert.new.self c.insert.ensures.ok (ap (λ es. has_row es c.args.key.now) (inserted g c) ∙ row_put c.args.self.now c.args.key.now zeros)
+returns-in-Err-clause-there g c = on_ok c.insert.result (λ new. ap (λ es. has_row es c.args.key.now) (new ∙ inserted g c) ∙ row_put c.args.self.now c.args.key.now zeros) c.insert.ensures.ok
 
 pub returns-in-Err-clause-others : goal.returns-in-Err-clause-others
 returns-in-Err-clause-others g c k was = either (λ es. has_row es k ≡ true) c.insert.result c.args.self.now _ c.insert.new.self c.insert.ensures.ok c.insert.ensures.err was (ap (λ es. has_row es k) (inserted g c) ∙ row_stays c.args.self.now c.args.key.now zeros k was)
