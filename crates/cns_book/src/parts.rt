@@ -75,7 +75,7 @@ impl<P: Positions<A>, A: Allocator + Drop + Clone> Parts<P, A> {
             today: opening,
             closes: 0,
             members: Members::new(alloc.clone()?),
-            prices: Prices::new(alloc.clone()?),
+            prices: Prices::new(alloc.clone()?)?,
             trades: Trades::new(alloc.clone()?),
             closed: ClosedDays::new(alloc.clone()?)?,
             positions: P::new(alloc),

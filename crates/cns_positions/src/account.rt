@@ -34,8 +34,8 @@ pub(crate) struct AccountRows<A: Allocator + Drop> {
     order: Vec<usize, A>,
     // Where the rows of keys probably stand: each search looks there first.
     hints: Hints<A>,
-    // Where the row stands that was entered last: a booking mostly goes there.
-    entered: usize,
+    // Where the row stands that was asked for last: what comes next mostly asks for it again.
+    last: Cell<usize>,
 }
 
 impl<A: Allocator + Drop> Model for AccountRows<A> {
@@ -177,7 +177,10 @@ impl<A: Allocator + Drop> AccountRows<A> {
     {
         let rows = self.rows.as_slice();
         match find(rows, self.order.as_slice(), &self.hints, key) {
-            Ok(place) => rows[place].1,
+            Ok(place) => {
+                self.last.set(place);
+                rows[place].1
+            }
             Err(_) => ZEROS,
         }
     }
@@ -193,7 +196,7 @@ impl<A: Allocator + Drop> AccountRows<A> {
         ensures booked { (k : Key) → holding_at self.new k ≡ booked (entry_of key.now shares cents) k (holding_at self.old k) }
     {
         let rows = self.rows.as_slice();
-        match find_from(rows, self.order.as_slice(), &self.hints, self.entered, key) {
+        match find_from(rows, self.order.as_slice(), &self.hints, self.last.get(), key) {
             Ok(place) => add_to(&mut self.rows[place].1, shares, cents),
             Err(_) => {}
         }
@@ -244,7 +247,7 @@ impl<A: Allocator + Drop + Clone> AccountRows<A> {
             rows: Vec::new(alloc.clone()?),
             order: Vec::new(alloc.clone()?),
             hints: Hints::new(alloc.clone()?),
-            entered: 0,
+            last: Cell::new(0),
         })
     }
 
@@ -256,14 +259,15 @@ impl<A: Allocator + Drop + Clone> AccountRows<A> {
         ensures others { (k : Key) → has_row self.old k ≡ true → has_row self.new k ≡ true }
         ensures same { (k : Key) → holding_at self.new k ≡ holding_at self.old k }
     {
-        match find(
+        match find_from(
             self.rows.as_slice(),
             self.order.as_slice(),
             &self.hints,
+            self.last.get(),
             key,
         ) {
             Ok(place) => {
-                self.entered = place;
+                self.last.set(place);
                 Ok(())
             }
             Err(at) => self.insert(at, &(*key, ZEROS)),
@@ -293,7 +297,7 @@ impl<A: Allocator + Drop + Clone> AccountRows<A> {
             return Err(NoMemory);
         };
         self.hints.note_last(self.rows.as_slice());
-        self.entered = place;
+        self.last.set(place);
         Ok(())
     }
 }

@@ -1,5 +1,5 @@
 // The map of issues.
-ghost use Rattle.std.specs.Prelude.{◌≡◌, ◌||◌, OnOk, OnErr, Option, Some, None, bytes_eq, if◌then◌else◌, false, MatchOption, [], ◌∷◌, IsSome, true};
+ghost use Rattle.std.specs.Prelude.{◌≡◌, ◌||◌, IfOk, OnOk, OnErr, Option, Some, None, bytes_eq, if◌then◌else◌, false, MatchOption, [], ◌∷◌, IsSome, true};
 ghost use Rattle.std.specs.FinMap.{is_sorted};
 ghost use Rattle.std.specs.Ordering.{nat_cmp};
 ghost use Rattle.std.specs.Cmp.Lexicographic.{slice_cmp};
@@ -9,7 +9,8 @@ ghost use Rattle.cns_prices.specs.Listed.{price_in, retired_in, quote_in, listed
 use cns_terms::NoMemory;
 use cns_units::{Cusip, Price};
 use std::alloc::Allocator;
-use std::collections::BTreeMap;
+use std::collections::{BTreeMap, HashMap};
+use std::hash::{BuildHasherDefault, FoldHasher};
 use std::marker::Model;
 use std::ops::Bound;
 
@@ -23,35 +24,44 @@ pub struct Quote {
 }
 
 /// The listed issues with their prices, in the order of the bytes of their CUSIPs.
+///
+/// Every trade asks for an issue, so what is known of each stands in a table by hash, too.
 #[derive(Drop)]
 pub struct Prices<A: Allocator + Drop> {
     issues: BTreeMap<Cusip, Quote, A>,
+    // The same quotes, for look-ups.
+    quotes: HashMap<Cusip, Quote, BuildHasherDefault<FoldHasher>, A>,
 }
 
 impl<A: Allocator + Drop> Model for Prices<A> {
-    ghost use Rattle.cns_prices.specs.Listed.{Listed};
+    ghost use Rattle.cns_prices.specs.Listed.{Listed, IsIndex};
 
     ghost Value = { Listed };
 
     ghost view = { λ p. p.issues.entries };
+
+    ghost invariant = { λ p. IsIndex p.quotes.entries p.issues.entries };
 }
 
 impl<A: Allocator + Drop> Prices<A> {
-    /// No issue is listed yet.
-    pub fn new(alloc: A) -> Self
-        ensures price { (c : Cusip) → price_in result c ≡ None }
-        ensures retired { (c : Cusip) → retired_in result c ≡ false }
+    /// No issue is listed yet. `NoMemory` where the allocator could not be copied.
+    pub fn new(alloc: A) -> Result<Self, NoMemory>
+    where
+        A: Clone,
+        ensures price { IfOk result (λ p. (c : Cusip) → price_in p c ≡ None) }
+        ensures retired { IfOk result (λ p. (c : Cusip) → retired_in p c ≡ false) }
     {
-        Prices {
-            issues: BTreeMap::new(alloc),
-        }
+        Ok(Prices {
+            issues: BTreeMap::new(alloc.clone()?),
+            quotes: HashMap::new(alloc),
+        })
     }
 
     /// What is known of an issue; None where it is not listed.
     pub fn quote(&self, cusip: Cusip) -> Option<Quote>
         ensures { result ≡ quote_in self.now cusip }
     {
-        self.issues.get(&cusip).copied()
+        self.quotes.get(&cusip).copied()
     }
 
     /// The price of an issue in cents; None where it is not listed.
@@ -80,13 +90,18 @@ impl<A: Allocator + Drop> Prices<A> {
         ensures retired { OnOk result ((c : Cusip) → retired_in self.new c ≡ retired_in self.old c) }
         ensures err { OnErr result (self.new ≡ self.old) }
     {
-        let quote = Quote {
+        let cusip = &cusip;
+        let quote = &Quote {
             price,
             retired: false,
         };
-        let Ok(_) = self.issues.insert(cusip, quote) else {
+        let Ok(()) = self.quotes.reserve(1) else {
             return Err(NoMemory);
         };
+        let Ok(_) = self.issues.insert(*cusip, *quote) else {
+            return Err(NoMemory);
+        };
+        let _ = self.quotes.insert(*cusip, *quote);
         Ok(())
     }
 
@@ -97,9 +112,10 @@ impl<A: Allocator + Drop> Prices<A> {
         requires { IsSome (quote_in self.old cusip) }
         ensures { Quotes self.old self.new cusip quote }
     {
-        let Ok(_) = self.issues.insert(cusip, quote) else {
-            return;
-        };
+        let cusip = &cusip;
+        let quote = &quote;
+        let _ = self.issues.insert(*cusip, *quote);
+        let _ = self.quotes.insert(*cusip, *quote);
     }
 
     /// Sets the price of an issue that is listed and not retired. It takes no memory.
@@ -127,7 +143,7 @@ impl<A: Allocator + Drop> Prices<A> {
         ensures price { (c : Cusip) → price_in self.new c ≡ price_in self.old c }
         ensures retired { (c : Cusip) → retired_in self.new c ≡ (bytes_eq cusip c || retired_in self.old c) }
     {
-        if let Some(quote) = self.issues.get(&cusip) {
+        if let Some(quote) = self.quote(cusip) {
             let price = quote.price;
             self.requote(
                 cusip,

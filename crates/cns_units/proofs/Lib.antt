@@ -4,3 +4,4 @@ pub mod CusipValues
 pub mod CentsLemmas
 pub mod DayLemmas
 pub mod CusipOrder
+pub mod CusipWeights

@@ -4,15 +4,17 @@ ghost use Rattle.std.specs.Cmp.{partial_order_from_own_ties};
 ghost use Rattle.std.specs.Cmp.Lexicographic.{slice_cmp};
 ghost use Rattle.std.specs.Cmp.Rules.{comparing};
 ghost use Rattle.std.specs.Int.{w64, from_be_bytes};
-ghost use Rattle.std.specs.Ordering.{nat_cmp, as_partial_cmp};
+ghost use Rattle.std.specs.Ordering.{nat_cmp, as_partial_cmp, is_eq};
+ghost use Rattle.cns_units.specs.CusipHash.{hash_input, hashes_alike};
 ghost use Rattle.cns_units.specs.Cusip.{character_value, weight, sum_of, cusip_of, IsCusip};
 
 use crate::fault::UnitFault;
 use std::cmp::Ordering;
+use std::hash::{Hash, Hasher};
 use std::marker::Model;
 
 /// The number of a security, with its check digit. CUSIPs are in the order of their bytes.
-#[derive(Clone, Copy, Debug, PartialEq, Eq)]
+#[derive(Clone, Copy, Debug)]
 pub struct Cusip {
     text: [u8; 9],
 }
@@ -52,17 +54,34 @@ fn value_of(character: u8) -> Option<u8>
     if value == NONE { None } else { Some(value) }
 }
 
+// What each value adds to the sum: its digits, and its digits where it is doubled.
+#[rattlefmt::skip]
+const PLAIN: [u8; 39] = [
+    0, 1, 2, 3, 4, 5, 6, 7, 8, 9,
+    1, 2, 3, 4, 5, 6, 7, 8, 9, 10,
+    2, 3, 4, 5, 6, 7, 8, 9, 10, 11,
+    3, 4, 5, 6, 7, 8, 9, 10, 11,
+];
+
+#[rattlefmt::skip]
+const DOUBLED: [u8; 39] = [
+    0, 2, 4, 6, 8, 1, 3, 5, 7, 9,
+    2, 4, 6, 8, 10, 3, 5, 7, 9, 11,
+    4, 6, 8, 10, 12, 5, 7, 9, 11, 13,
+    6, 8, 10, 12, 14, 7, 9, 11, 13,
+];
+
 fn weight_of(is_doubled: bool, value: u8) -> u32
     requires { value ≤ 38 }
     ensures exact { result ≡ weight is_doubled value }
     ensures small { result ≤ 20 }
 {
-    let shown = if is_doubled {
-        u32::from(value) * 2
+    let place = usize::from(value);
+    if is_doubled {
+        u32::from(DOUBLED[place])
     } else {
-        u32::from(value)
-    };
-    shown / 10 + shown % 10
+        u32::from(PLAIN[place])
+    }
 }
 
 // The sum over the first eight characters.
@@ -117,6 +136,30 @@ impl Cusip {
     {
         let [a, b, c, d, e, f, g, h, _check] = self.text;
         u64::from_be_bytes([a, b, c, d, e, f, g, h])
+    }
+}
+
+impl PartialEq for Cusip {
+    ghost eq = { λ x y. is_eq (slice_cmp nat_cmp x y) };
+
+    ghost laws = { Prim.search (comparing, rules) };
+
+    fn eq(&self, other: &Cusip) -> bool {
+        self.cmp(other).is_eq()
+    }
+}
+
+impl Eq for Cusip {
+    ghost laws = { Prim.search (comparing, rules) };
+}
+
+impl Hash for Cusip {
+    ghost hash_input = { hash_input };
+
+    ghost respects_eq = { hashes_alike };
+
+    fn hash<H: Hasher>(&self, state: &mut H) {
+        state.write_u64(self.body());
     }
 }
 

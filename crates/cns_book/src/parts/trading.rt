@@ -26,10 +26,13 @@ impl<P: Positions<A>, A: Allocator + Drop + Clone> Parts<P, A> {
         ensures buyer { ForSome result.buyer (λ q. unsigned_abs q ≤ 10 ^ 10) }
         ensures seller { ForSome result.seller (λ q. unsigned_abs q ≤ 10 ^ 10) }
     {
+        // The positions first: their rows may be far away, and what follows needn't wait for them.
+        let buyer = self.position_of(trade.buyer, trade.issue);
+        let seller = self.position_of(trade.seller, trade.issue);
         let (listed, retired) = self.listed_and_retired(trade.issue);
         TradeFacts {
-            buyer: self.position_of(trade.buyer, trade.issue),
-            seller: self.position_of(trade.seller, trade.issue),
+            buyer,
+            seller,
             listed,
             retired,
             today: self.today,
@@ -44,10 +47,12 @@ impl<P: Positions<A>, A: Allocator + Drop + Clone> Parts<P, A> {
             account: Account::CORPORATION,
             issue: movement.issue,
         };
+        let member = self.position_of(movement.member, movement.issue);
+        let corporation = self.standing(corporation).now;
         let (listed, retired) = self.listed_and_retired(movement.issue);
         MoveFacts {
-            member: self.position_of(movement.member, movement.issue),
-            corporation: self.standing(corporation).now,
+            member,
+            corporation,
             listed,
             retired,
         }

@@ -45,7 +45,7 @@ pub returns-in-Ok-clause-there : goal.returns-in-Ok-clause-there
 returns-in-Ok-clause-there g c =
     let rows = c.self.inside.rows.items in
     let of : IsRowOf rows c.args.key.now c.in-Ok.place = rw c.as_slice.ensures.value at c.in-Ok.ensures.found in
-    ap is_some (found_ordered rows c.self.inside.order.items c.self.invariant c.args.key.now c.in-Ok.place (rw (← c.self.view_is) at c.requires.sorted) of)
+    rw (← c.self.view_is) (ap is_some (found_ordered rows c.self.inside.order.items c.self.invariant c.args.key.now c.in-Ok.place (rw (← c.self.view_is) at c.requires.sorted) of))
 
 pub returns-in-Err-clause-account : goal.returns-in-Err-clause-account
 returns-in-Err-clause-account g c = either (IsAccount c.args.key.now.account) c.insert.result c.args.self.now _ c.insert.new.self c.insert.ensures.ok c.insert.ensures.err c.requires (subst (IsAccount c.args.key.now.account) (sym (inserted g c)) (account_put c.args.key.now zeros c.args.self.now c.requires))

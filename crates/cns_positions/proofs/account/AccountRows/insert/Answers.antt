@@ -5,11 +5,11 @@ use Rattle.cns_positions.proofs.Ordered.{inserted_order, inserted_ordered, order
 use Rattle.cns_positions.proofs.account.AccountRows.insert.Goals as goal
 
 -- the rank is one of the order's, or just past them
-within : (g : _) (c : goal.After-self-1 g) → c.args.at ≤ length c.self.inside.order.items
+within : (g : _) (c : goal.After-set g) → c.args.at ≤ length c.self.inside.order.items
 within g c = subst (λ n. c.args.at ≤ n) (ordered_count c.self.inside.rows.items c.self.inside.order.items) (rw (← c.self.view_is) at c.requires)
 
 -- the order with the new place
-placed : (g : _) (c : goal.After-self-1 g) → c.insert.new.self.items ≡ insert c.self.inside.order.items c.args.at (length c.self.inside.rows.items)
+placed : (g : _) (c : goal.After-set g) → c.insert.new.self.items ≡ insert c.self.inside.order.items c.args.at (length c.self.inside.rows.items)
 placed g c =
     let count : c.len-place.result ≡ length c.self.inside.rows.items = omega arith in
     c.in-Ok-insert.ensures.items ∙ ap (insert c.self.inside.order.items c.args.at) count
