@@ -14,8 +14,8 @@ ghost use Rattle.cns_positions.specs.Placed.{has_row, closed_rows};
 ghost use Rattle.cns_positions.specs.Ordered.{compared_at, in_order, IsOrder, IsRowOf};
 ghost use Rattle.cns_positions.specs.Flat.{IsAccount};
 
-use crate::hints::{Hints, STEPS};
 use crate::holding::{ZEROS, add_to, close, is_held};
+use crate::places::Places;
 use crate::positions::Row;
 use cns_terms::{Holding, Key, NoMemory};
 use std::alloc::Allocator;
@@ -32,8 +32,8 @@ pub(crate) struct AccountRows<A: Allocator + Drop> {
     rows: Vec<Row, A>,
     // The places of the rows, in the order of the rows' keys.
     order: Vec<usize, A>,
-    // Where the rows of keys probably stand: each search looks there first.
-    hints: Hints<A>,
+    // Where the rows of issues probably stand: a search looks there first.
+    places: Places<A>,
     // Where the row stands that was asked for last: what comes next mostly asks for it again.
     last: Cell<usize>,
 }
@@ -92,50 +92,8 @@ fn rank_from(rows: &[Row], order: &[usize], guess: usize, key: &Key) -> Result<u
     rank(rows, order, key)
 }
 
-// Where the key's row stands, if that is remembered.
-fn remembered<A: Allocator + Drop>(rows: &[Row], hints: &Hints<A>, key: &Key) -> Option<usize>
-    ensures { IfSome result (IsRowOf rows.now key.now) }
-{
-    let mut guesses = hints.guesses(key);
-    for _ in 0..STEPS {
-        let place = guesses.next()?;
-        if place < rows.len() && is_of(&rows[place], key) {
-            return Some(place);
-        }
-    }
-    None
-}
-
-// Where the key's row stands, or where in the order it would go.
-fn find<A: Allocator + Drop>(
-    rows: &[Row],
-    order: &[usize],
-    hints: &Hints<A>,
-    key: &Key,
-) -> Result<usize, usize>
-    requires order { IsOrder (length rows.now) order.now }
-    requires sorted { is_sorted key_cmp (in_order rows.now order.now) ≡ true }
-    ensures found { IfOk result (IsRowOf rows.now key.now) }
-    ensures bound { IfErr result (λ i. i ≤ length order.now) }
-    ensures absent { IfErr result (IsPartitionPoint (λ r. key_cmp r.0 key.now ≡ Ordering.Less) (λ r. key_cmp r.0 key.now ≡ Ordering.Greater) (in_order rows.now order.now)) }
-{
-    if let Some(place) = remembered(rows, hints, key) {
-        return Ok(place);
-    }
-    match rank(rows, order, key) {
-        Ok(at) => Ok(order[at]),
-        Err(at) => Err(at),
-    }
-}
-
-// The same, quick where a guess of the place is right.
-fn find_from<A: Allocator + Drop>(
-    rows: &[Row],
-    order: &[usize],
-    hints: &Hints<A>,
-    guess: usize,
-    key: &Key,
-) -> Result<usize, usize>
+// Where the key's row stands, or where in the order it would go; quick where a guess of the place is right.
+fn find(rows: &[Row], order: &[usize], guess: usize, key: &Key) -> Result<usize, usize>
     requires order { IsOrder (length rows.now) order.now }
     requires sorted { is_sorted key_cmp (in_order rows.now order.now) ≡ true }
     ensures found { IfOk result (IsRowOf rows.now key.now) }
@@ -145,7 +103,10 @@ fn find_from<A: Allocator + Drop>(
     if guess < rows.len() && is_of(&rows[guess], key) {
         return Ok(guess);
     }
-    find(rows, order, hints, key)
+    match rank(rows, order, key) {
+        Ok(at) => Ok(order[at]),
+        Err(at) => Err(at),
+    }
 }
 
 // Where in that account's order the rows above a key begin; at the first row where there is none to be above.
@@ -170,13 +131,13 @@ fn past(rows: &[Row], order: &[usize], guess: usize, number: usize, after: &Opti
 }
 
 impl<A: Allocator + Drop> AccountRows<A> {
-    /// What stands at a key.
-    pub(crate) fn get(&self, key: &Key) -> Holding
+    /// What stands at a key, whose issue has that number where it has one.
+    pub(crate) fn get(&self, key: &Key, issue: Option<usize>) -> Holding
         requires { is_sorted key_cmp self.now ≡ true }
         ensures { result ≡ holding_at self.now key.now }
     {
         let rows = self.rows.as_slice();
-        match find(rows, self.order.as_slice(), &self.hints, key) {
+        match find(rows, self.order.as_slice(), self.places.guess(issue), key) {
             Ok(place) => {
                 self.last.set(place);
                 rows[place].1
@@ -196,7 +157,7 @@ impl<A: Allocator + Drop> AccountRows<A> {
         ensures booked { (k : Key) → holding_at self.new k ≡ booked (entry_of key.now shares cents) k (holding_at self.old k) }
     {
         let rows = self.rows.as_slice();
-        match find_from(rows, self.order.as_slice(), &self.hints, self.last.get(), key) {
+        match find(rows, self.order.as_slice(), self.last.get(), key) {
             Ok(place) => add_to(&mut self.rows[place].1, shares, cents),
             Err(_) => {}
         }
@@ -246,23 +207,22 @@ impl<A: Allocator + Drop + Clone> AccountRows<A> {
         Ok(AccountRows {
             rows: Vec::new(alloc.clone()?),
             order: Vec::new(alloc.clone()?),
-            hints: Hints::new(alloc.clone()?),
+            places: Places::new(alloc.clone()?),
             last: Cell::new(0),
         })
     }
 
-    /// Gives the key a row of zeros where it has none.
-    pub(crate) fn enter(&mut self, key: &Key) -> Result<(), NoMemory>
+    /// Gives the key, whose issue has that number if any, a row of zeros where it has none.
+    pub(crate) fn enter(&mut self, key: &Key, issue: Option<usize>) -> Result<(), NoMemory>
         requires { IsAccount key.now.account self.old }
         ensures account { IsAccount key.now.account self.new }
         ensures there { OnOk result (has_row self.new key.now ≡ true) }
         ensures others { (k : Key) → has_row self.old k ≡ true → has_row self.new k ≡ true }
         ensures same { (k : Key) → holding_at self.new k ≡ holding_at self.old k }
     {
-        match find_from(
+        match find(
             self.rows.as_slice(),
             self.order.as_slice(),
-            &self.hints,
             self.last.get(),
             key,
         ) {
@@ -270,20 +230,20 @@ impl<A: Allocator + Drop + Clone> AccountRows<A> {
                 self.last.set(place);
                 Ok(())
             }
-            Err(at) => self.insert(at, &(*key, ZEROS)),
+            Err(at) => self.insert(at, &(*key, ZEROS), issue),
         }
     }
 
-    /// Puts a row after all others.
-    pub(crate) fn append(&mut self, row: &Row) -> Result<(), NoMemory>
+    /// Puts a row after all others; its issue has that number, if any.
+    pub(crate) fn append(&mut self, row: &Row, issue: Option<usize>) -> Result<(), NoMemory>
         ensures { OnOk result (self.new ≡ self.old ++ row.now ∷ []) }
     {
         let last = self.order.len();
-        self.insert(last, row)
+        self.insert(last, row, issue)
     }
 
     // Puts a row at that place of the order.
-    fn insert(&mut self, at: usize, row: &Row) -> Result<(), NoMemory>
+    fn insert(&mut self, at: usize, row: &Row, issue: Option<usize>) -> Result<(), NoMemory>
         requires { at ≤ length self.old }
         ensures ok { OnOk result (self.new ≡ insert self.old at row.now) }
         ensures err { OnErr result (self.new ≡ self.old) }
@@ -296,7 +256,7 @@ impl<A: Allocator + Drop + Clone> AccountRows<A> {
             self.rows.pop();
             return Err(NoMemory);
         };
-        self.hints.note_last(self.rows.as_slice());
+        self.places.note(issue, place);
         self.last.set(place);
         Ok(())
     }

@@ -11,10 +11,11 @@ ghost use Rattle.cns_positions.specs.Flat.{AreAccounts, joined, keys_of};
 
 use crate::account::AccountRows;
 use crate::holding::ZEROS;
+use crate::issues::Issues;
 use crate::positions::{Positions, Row};
 use arrayvec::ArrayVec;
 use cns_terms::{Holding, Key, NoMemory};
-use cns_units::Account;
+use cns_units::{Account, Cusip};
 use std::alloc::Allocator;
 use std::cell::Cell;
 use std::marker::Model;
@@ -26,6 +27,8 @@ use std::marker::Model;
 pub struct FlatPositions<A: Allocator + Drop> {
     accounts: Vec<AccountRows<A>, A>,
     prepared: ArrayVec<Option<Key>, 4>,
+    // The issues' numbers, from the first booking on.
+    issues: Option<Issues<A>>,
     // Where in its account's order the row stands that a walk over the rows gave last: the next step begins there.
     walked: Cell<usize>,
 }
@@ -76,9 +79,33 @@ fn open<A: Allocator + Drop + Clone>(
     Ok(())
 }
 
+// The issue's number, if it has one.
+fn number_in<A: Allocator + Drop>(issues: &Option<Issues<A>>, issue: &Cusip) -> Option<usize> {
+    match issues {
+        Some(issues) => issues.number(issue),
+        None => None,
+    }
+}
+
+// The issue's number, a new one where it has none yet; none where memory is refused.
+fn entered_in<A: Allocator + Drop + Clone>(
+    issues: &mut Option<Issues<A>>,
+    alloc: &A,
+    issue: &Cusip,
+) -> Option<usize> {
+    if issues.is_none() {
+        *issues = Some(Issues::new(alloc.clone().ok()?));
+    }
+    match issues {
+        Some(issues) => issues.enter(issue),
+        None => None,
+    }
+}
+
 // Gives the key a row of zeros where it has none, and remembers where its row is.
 fn enter_key<A: Allocator + Drop + Clone>(
     accounts: &mut Vec<AccountRows<A>, A>,
+    issues: &mut Option<Issues<A>>,
     key: &Key,
 ) -> Result<(), NoMemory>
     requires { AreAccounts accounts.old.items }
@@ -89,12 +116,14 @@ fn enter_key<A: Allocator + Drop + Clone>(
 {
     let number = number_of(key.account);
     open(accounts, number)?;
-    accounts[number].enter(key)
+    let issue = entered_in(issues, accounts.allocator(), &key.issue);
+    accounts[number].enter(key, issue)
 }
 
 // Gives each key a row of zeros where it has none, and remembers where the rows are.
 fn enter_all<A: Allocator + Drop + Clone>(
     accounts: &mut Vec<AccountRows<A>, A>,
+    issues: &mut Option<Issues<A>>,
     keys: &[Key],
 ) -> Result<(), NoMemory>
     requires { AreAccounts accounts.old.items }
@@ -104,7 +133,7 @@ fn enter_all<A: Allocator + Drop + Clone>(
     ensures same { (k : Key) → holding_at (joined accounts.new.items) k ≡ holding_at (joined accounts.old.items) k }
 {
     for key in keys {
-        enter_key(accounts, key)?;
+        enter_key(accounts, issues, key)?;
     }
     Ok(())
 }
@@ -130,7 +159,7 @@ fn close_each<A: Allocator + Drop>(accounts: &mut Vec<AccountRows<A>, A>)
     }
 }
 
-// Books shares and cents in the key's row, which is quickly found where its hint is right.
+// Books shares and cents in the key's row, which is quickly found where it was asked for before.
 fn book_key<A: Allocator + Drop>(
     accounts: &mut Vec<AccountRows<A>, A>,
     key: &Key,
@@ -154,6 +183,7 @@ fn book_key<A: Allocator + Drop>(
 // Puts a row after all others.
 fn append<A: Allocator + Drop + Clone>(
     accounts: &mut Vec<AccountRows<A>, A>,
+    issues: &mut Option<Issues<A>>,
     row: &Row,
 ) -> Result<(), NoMemory>
     requires accounts { AreAccounts accounts.old.items }
@@ -165,7 +195,8 @@ fn append<A: Allocator + Drop + Clone>(
 {
     let number = number_of(row.0.account);
     open(accounts, number)?;
-    accounts[number].append(row)
+    let issue = entered_in(issues, accounts.allocator(), &row.0.issue);
+    accounts[number].append(row, issue)
 }
 
 impl<A: Allocator + Drop + Clone> Positions<A> for FlatPositions<A> {
@@ -177,6 +208,7 @@ impl<A: Allocator + Drop + Clone> Positions<A> for FlatPositions<A> {
         FlatPositions {
             accounts: Vec::new(alloc),
             prepared: ArrayVec::new(),
+            issues: None,
             walked: Cell::new(0),
         }
     }
@@ -184,14 +216,15 @@ impl<A: Allocator + Drop + Clone> Positions<A> for FlatPositions<A> {
     fn get(&self, key: Key) -> Holding {
         let number = number_of(key.account);
         if number < self.accounts.len() {
-            self.accounts[number].get(&key)
+            let issue = number_in(&self.issues, &key.issue);
+            self.accounts[number].get(&key, issue)
         } else {
             ZEROS
         }
     }
 
     fn prepare(&mut self, keys: &[Key]) -> Result<(), NoMemory> {
-        enter_all(&mut self.accounts, keys)?;
+        enter_all(&mut self.accounts, &mut self.issues, keys)?;
         self.prepared = kept(keys);
         Ok(())
     }
@@ -217,12 +250,14 @@ impl<A: Allocator + Drop + Clone> Positions<A> for FlatPositions<A> {
 
     fn rebuilt(&self, given: &[Row]) -> Result<Self, NoMemory> {
         let mut accounts = Vec::new(self.accounts.allocator().clone()?);
+        let mut issues = None;
         for row in given {
-            append(&mut accounts, row)?;
+            append(&mut accounts, &mut issues, row)?;
         }
         Ok(FlatPositions {
             accounts,
             prepared: ArrayVec::new(),
+            issues,
             walked: Cell::new(0),
         })
     }

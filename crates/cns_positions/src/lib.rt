@@ -3,14 +3,15 @@
 //! The trait `Positions` is a finite map from keys to holdings that counts an absent key as zeros; its clauses say all
 //! that the layers above use, so one form can take another's place without a change there. `FlatPositions` keeps rows
 //! for each account, at the account's number. A row never moves; beside an account's rows stand their places in the
-//! order of the keys, and hints that save most searches: where the row of a key stands, as far as it is remembered. A
-//! hint is looked at before it is used, and where there is none the order is halved. All memory is taken by `prepare`
-//! and `rebuilt`; `add` and `roll` only write. Start with `Positions`; `run` shows every form at work.
+//! order of the keys, and a list by the issues' numbers of where each issue's row stands, as far as it is remembered. A
+//! remembered place is looked at before it is used, and where there is none the order is halved. All memory is taken by
+//! `prepare` and `rebuilt`; `add` and `roll` only write. Start with `Positions`; `run` shows every form at work.
 #![tactic(auto)]
 
 mod account;
 mod flat;
-mod hints;
+mod issues;
+mod places;
 mod holding;
 mod positions;
 mod steps;

@@ -1,4 +1,6 @@
-use Rattle.std.proofs.Common.{arith}
+use Rattle.std.proofs.Common.{◌≡◌, ◌≤◌, ℕ, Option, Some, None, arith}
+use Rattle.std.specs.Option.{MatchOption}
+use Rattle.cns_terms.specs.declared.holding.Key.{Key}
 use Rattle.cns_positions.proofs.Above.{none_before}
 use Rattle.cns_positions.proofs.Replaced.{account_at, held_there, none_there}
 use Rattle.cns_positions.proofs.flat.FlatPositionsPositions.next_row.Goals as goal
@@ -14,3 +16,10 @@ returns-in-Some g c = rw (← c.self.view_is) (held_there c.self.inside.accounts
 
 pub loop-number-preserved : goal.loop-number-preserved
 loop-number-preserved g c = none_there c.self.inside.accounts.items c.loop-number.number c.index-rows.result.now c.index-rows.result.now (omega arith) c.index-rows.ensures c.args.after c.loop-number.invariant c.in_default.ensures
+
+reached : (after : Option Key) (first number : ℕ) → MatchOption after (first ≡ 0) (λ k. first ≡ k.account) → first ≤ number → MatchOption after (Unit {0}) (λ k. k.account ≤ number)
+reached None first number is le = tt
+reached (Some k) first number is le = rw (← is) le
+
+pub first_held-requires-clause-reached : goal.first_held-requires-clause-reached
+first_held-requires-clause-reached g c = reached c.args.after c.first_number-number.result c.loop-number.number c.first_number-number.ensures c.loop-number.auto.number
