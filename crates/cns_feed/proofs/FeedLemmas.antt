@@ -32,7 +32,7 @@ log_after-one k [] r = refl
 log_after-one k (x ∷ a) r = log_after-one (step_log k x) a r
 
 -- the state of a book after a command or a line fault
-state_of-line : (k : Log) (l : Result Command LineFault) → state_of (log_after_line k l) ≡ state_after_line (state_of k) l
+pub state_of-line : (k : Log) (l : Result Command LineFault) → state_of (log_after_line k l) ≡ state_after_line (state_of k) l
 state_of-line k (Ok cmd) = refl
 state_of-line k (Err f) = refl
 
@@ -66,7 +66,7 @@ count-bound true n m turn h e = omega arith
 count-bound false n m turn h e = omega arith
 
 -- one outcome more
-counts-more : (s s2 : Summary) (os : List Outcome) (o : Outcome) → Counts s os → Adds s s2 o → Counts s2 (os ++ o ∷ [])
+pub counts-more : (s s2 : Summary) (os : List Outcome) (o : Outcome) → Counts s os → Adds s s2 o → Counts s2 (os ++ o ∷ [])
 counts-more s s2 os o c a = record {
   commands_are = count_push is_command os o s.commands s2.commands c.commands_are a.commands;
   lines_are = count_push is_at_fault os o s.lines s2.lines c.lines_are a.lines;

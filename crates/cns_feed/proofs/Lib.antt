@@ -2,3 +2,5 @@ pub mod DigitLemmas
 pub mod RecordLemmas
 pub mod FeedLemmas
 pub mod PlayLemmas
+pub mod LineLemmas
+pub mod BatchLemmas

@@ -15,13 +15,13 @@ use Rattle.cns_feed.specs.declared.summary.Summary.{Summary}
 use Rattle.cns_feed.proofs.FeedLemmas.{Fed, fed-front, fed-next, state_of-after}
 
 -- the text of records after records
-texts-append : (S : State) (a b : List Record) → texts S (a ++ b) ≡ texts S a ++ texts (state_after S a) b
+pub texts-append : (S : State) (a b : List Record) → texts S (a ++ b) ≡ texts S a ++ texts (state_after S a) b
 unfolding texts state_after
 texts-append S [] b = refl
 texts-append S (r ∷ a) b = ap (λ l. step_text S r ++ l) (texts-append (step_state S r) a b) ∙ sym (append_assoc (step_text S r) _ _)
 
 -- the text of one record
-texts-one : (S : State) (r : Record) → texts S (r ∷ []) ≡ step_text S r
+pub texts-one : (S : State) (r : Record) → texts S (r ∷ []) ≡ step_text S r
 unfolding texts
 texts-one S r = append-nil (step_text S r)
 
@@ -38,7 +38,7 @@ unfolding texts
 played-none rem bytes rdr first old s fed = record { done = []; fed = fed; text = Appends-nil old }
 
 -- the state of the book, as the definitions have it
-fed-state : {R : Type 0} (rem : R → Option (List ℕ)) (bytes : List ℕ) (rdr : Reader R) (first now : Log) (s : Summary) (done : List Record)
+pub fed-state : {R : Type 0} (rem : R → Option (List ℕ)) (bytes : List ℕ) (rdr : Reader R) (first now : Log) (s : Summary) (done : List Record)
     → Fed rem bytes rdr first now s done → state_of now ≡ state_after (state_of first) done
 fed-state rem bytes rdr first now s done p = ap state_of p.book ∙ state_of-after first done
 
@@ -71,7 +71,7 @@ played-failed rem bytes a b first now old mid new s fields e config r leaves p =
     }
 
 -- a fault before which nothing is written leaves the text as it is
-leaves-kept : (e : ReplayFault) (new : Option (List ℕ)) (text : List ℕ) → IsSilent e → Leaves e new new text
+pub leaves-kept : (e : ReplayFault) (new : Option (List ℕ)) (text : List ℕ) → IsSilent e → Leaves e new new text
 leaves-kept fault.Read new text h = Keeps-refl new
 leaves-kept fault.NoMemory new text h = Keeps-refl new
 leaves-kept fault.Full new text h = Keeps-refl new

@@ -13,6 +13,9 @@ use csv::ByteRecord;
 
 const MOST_REFERENCE: u64 = 1_000_000_000_000_000_000;
 
+/// What a record is read as: a command, or its first fault.
+pub(crate) type Line = Result<Command, LineFault>;
+
 // The field at a place, the kind being at 0.
 fn field(row: &ByteRecord, place: usize) -> &[u8]
     ensures { result.now ≡ field (fields_of row.now) place }

@@ -3,11 +3,11 @@ ghost use Rattle.std.specs.Prelude.{◌≡◌, IfOk, IfErr, OnOk};
 ghost use Rattle.csv.specs.Records.{fields_of};
 ghost use Rattle.cns_units.specs.Output.{Writes};
 ghost use Rattle.cns_book.specs.Log.{state_of};
-ghost use Rattle.cns_feed.specs.Output.{step_outcome, outcome_text, rows_told};
-ghost use Rattle.cns_feed.specs.Replay.{IsSilent, step_log};
+ghost use Rattle.cns_feed.specs.Output.{step_outcome, outcome_of, outcome_text, rows_told};
+ghost use Rattle.cns_feed.specs.Replay.{IsSilent, log_after_line, step_log};
 
 use crate::fault::{LineFault, ReplayFault};
-use crate::line::command_of;
+use crate::line::{Line, command_of};
 use crate::text::{reply_text, write_fault};
 use cns_book::{Book, TakeFault};
 use cns_positions::FlatPositions;
@@ -28,22 +28,31 @@ pub(crate) enum Outcome {
     AtFault(LineFault),
 }
 
+// Takes the command that a record was read as, if it is one.
+pub(crate) fn take_line(book: &mut ReplayBook, line: &Line) -> Result<Outcome, ReplayFault>
+    ensures outcome { IfOk result (λ o. o ≡ outcome_of (state_of book.old) line.now) }
+    ensures after { OnOk result (book.new ≡ log_after_line book.old line.now) }
+    ensures err { IfErr result IsSilent }
+{
+    let command = match line {
+        Ok(command) => command,
+        Err(LineFault::NoMemory) => return Err(ReplayFault::NoMemory),
+        Err(fault) => return Ok(Outcome::AtFault(*fault)),
+    };
+    match book.take(Worker::FIRST, *command) {
+        Ok(receipt) => Ok(Outcome::Replied(receipt.reply)),
+        Err(TakeFault::NoMemory) => Err(ReplayFault::NoMemory),
+        Err(TakeFault::Full) => Err(ReplayFault::Full),
+    }
+}
+
 // Takes the command of a record, if it is one.
 pub(crate) fn take_record(book: &mut ReplayBook, row: &ByteRecord) -> Result<Outcome, ReplayFault>
     ensures outcome { IfOk result (λ o. o ≡ step_outcome (state_of book.old) (fields_of row.now)) }
     ensures after { OnOk result (book.new ≡ step_log book.old (fields_of row.now)) }
     ensures err { IfErr result IsSilent }
 {
-    let command = match command_of(row) {
-        Ok(command) => command,
-        Err(LineFault::NoMemory) => return Err(ReplayFault::NoMemory),
-        Err(fault) => return Ok(Outcome::AtFault(fault)),
-    };
-    match book.take(Worker::FIRST, command) {
-        Ok(receipt) => Ok(Outcome::Replied(receipt.reply)),
-        Err(TakeFault::NoMemory) => Err(ReplayFault::NoMemory),
-        Err(TakeFault::Full) => Err(ReplayFault::Full),
-    }
+    take_line(book, &command_of(row))
 }
 
 // The rows of the statement that a reply tells of; none of another reply.

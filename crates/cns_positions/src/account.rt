@@ -146,6 +146,16 @@ impl<A: Allocator + Drop> AccountRows<A> {
         }
     }
 
+    /// Looks where the key's row probably stands, and remembers it. Where many keys are expected one after another, the
+    /// processor waits for all of their rows at once.
+    pub(crate) fn expect(&self, key: &Key, issue: Option<usize>) {
+        let place = self.places.guess(issue);
+        let rows = self.rows.as_slice();
+        if place < rows.len() && is_of(&rows[place], key) {
+            self.last.set(place);
+        }
+    }
+
     /// Books shares and cents in the key's row.
     pub(crate) fn book(&mut self, key: &Key, shares: i64, cents: i128)
         requires account { IsAccount key.now.account self.old }

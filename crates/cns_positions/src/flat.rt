@@ -223,6 +223,14 @@ impl<A: Allocator + Drop + Clone> Positions<A> for FlatPositions<A> {
         }
     }
 
+    fn expect(&self, key: &Key) {
+        let number = number_of(key.account);
+        if number < self.accounts.len() {
+            let issue = number_in(&self.issues, &key.issue);
+            self.accounts[number].expect(key, issue);
+        }
+    }
+
     fn prepare(&mut self, keys: &[Key]) -> Result<(), NoMemory> {
         enter_all(&mut self.accounts, &mut self.issues, keys)?;
         self.prepared = kept(keys);

@@ -32,6 +32,9 @@ pub trait Positions<A>: Drop {
     fn get(&self, key: Key) -> Holding
         ensures { result ≡ holding_at (rows self.now) key };
 
+    /// Tells that a key will be asked for soon: a form may look already now where it is, which changes nothing.
+    fn expect(&self, key: &Key);
+
     /// Makes room for the keys, so that `add` takes no memory at them.
     fn prepare(&mut self, keys: &[Key]) -> Result<(), NoMemory>
         requires { length keys.now ≤ 4 }
