@@ -135,14 +135,10 @@ impl<P: Positions<A>, A: Allocator + Drop + Clone> Book<P, A> {
         self.counts[worker.value() as usize - 1]
     }
 
-    /// Tells the book that a command will be taken soon. It changes nothing and no reply depends on it; where the next
-    /// few commands are told before the first of them is taken, the waits for their positions fall together.
-    pub fn expect(&self, command: &Command) {
-        match command {
-            Command::Activity(activity) => self.parts.expect(activity),
-            Command::Position(key) => self.parts.expect_at(key),
-            Command::Statement { .. } => {}
-        }
+    /// Tells the book which commands will be taken next. It changes nothing, and no reply depends on it: the book looks
+    /// where the positions stand that they will ask for, so that the waits for them fall together.
+    pub fn expect<E>(&self, commands: &[Result<Command, E>]) {
+        self.parts.expect(commands);
     }
 
     /// Takes a command: answers it as the machine does, and enters it and its reply into the history.

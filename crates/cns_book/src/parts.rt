@@ -27,6 +27,7 @@ use std::alloc::Allocator;
 use std::marker::Model;
 use std::sync::Arc;
 
+mod ahead;
 mod closing;
 mod listing;
 mod trading;
@@ -128,7 +129,8 @@ impl<P: Positions<A>, A: Allocator + Drop + Clone> Parts<P, A> {
         }
     }
 
-    // What stands at a key.
+    // What stands at a key. Where only the position is asked for, no more than that is read.
+    #[inline(always)]
     fn standing(&self, key: Key) -> Holding
         ensures now { result ≡ holding_at self.now.rows key }
         ensures value { (L : List Activity) → Follows L self.now → result ≡ holding (journal self.now.opening L) key.account key.issue }

@@ -57,21 +57,12 @@ fn play_batch<W: Write>(
     ensures more_closes { OnOk result (summary.new.closes ≤ summary.old.closes + length lines.now) }
     ensures fault { IfErr result (λ e. StopsIn e (W.contents writer.old) (W.contents writer.new) (state_of book.old) lines.now) }
 {
-    expect_all(book, lines);
+    book.expect(lines);
     for line in lines {
         let outcome = play(book, line, writer)?;
         summary.add(&outcome);
     }
     Ok(())
-}
-
-// Tells the book what is taken next.
-fn expect_all(book: &ReplayBook, lines: &[Line]) {
-    for line in lines {
-        if let Ok(command) = line {
-            book.expect(command);
-        }
-    }
 }
 
 // Each record that the reader gives.

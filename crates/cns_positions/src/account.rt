@@ -15,6 +15,7 @@ ghost use Rattle.cns_positions.specs.Ordered.{compared_at, in_order, IsOrder, Is
 ghost use Rattle.cns_positions.specs.Flat.{IsAccount};
 
 use crate::holding::{ZEROS, add_to, close, is_held};
+use crate::issues::{Issues, entered_in, number_in};
 use crate::places::Places;
 use crate::positions::Row;
 use cns_terms::{Holding, Key, NoMemory};
@@ -67,7 +68,9 @@ fn compared(rows: &[Row], place: usize, key: &Key) -> Ordering
     }
 }
 
-// Where in the order the key's row is, or where it would go.
+// Where in the order the key's row is, or where it would go. Most keys are found without it, by code that stays small
+// enough to stand where it is called.
+#[inline(never)]
 fn rank(rows: &[Row], order: &[usize], key: &Key) -> Result<usize, usize>
     requires order { IsOrder (length rows.now) order.now }
     requires sorted { is_sorted key_cmp (in_order rows.now order.now) ≡ true }
@@ -131,13 +134,23 @@ fn past(rows: &[Row], order: &[usize], guess: usize, number: usize, after: &Opti
 }
 
 impl<A: Allocator + Drop> AccountRows<A> {
-    /// What stands at a key, whose issue has that number where it has one.
-    pub(crate) fn get(&self, key: &Key, issue: Option<usize>) -> Holding
+    // Where the key's row probably stands: where the one stands that was asked for last, or where it is remembered.
+    fn guess(&self, key: &Key, issues: &Option<Issues<A>>) -> usize {
+        let last = self.last.get();
+        if last < self.rows.len() && is_of(&self.rows[last], key) {
+            return last;
+        }
+        self.remembered(key, issues)
+    }
+
+    /// What stands at a key.
+    #[inline(always)]
+    pub(crate) fn get(&self, key: &Key, issues: &Option<Issues<A>>) -> Holding
         requires { is_sorted key_cmp self.now ≡ true }
         ensures { result ≡ holding_at self.now key.now }
     {
         let rows = self.rows.as_slice();
-        match find(rows, self.order.as_slice(), self.places.guess(issue), key) {
+        match find(rows, self.order.as_slice(), self.guess(key, issues), key) {
             Ok(place) => {
                 self.last.set(place);
                 rows[place].1
@@ -146,12 +159,14 @@ impl<A: Allocator + Drop> AccountRows<A> {
         }
     }
 
-    /// Looks where the key's row probably stands, and remembers it. Where many keys are expected one after another, the
-    /// processor waits for all of their rows at once.
-    pub(crate) fn expect(&self, key: &Key, issue: Option<usize>) {
-        let place = self.places.guess(issue);
-        let rows = self.rows.as_slice();
-        if place < rows.len() && is_of(&rows[place], key) {
+    /// Where the key's row probably stands.
+    pub(crate) fn remembered(&self, key: &Key, issues: &Option<Issues<A>>) -> usize {
+        self.places.guess(number_in(issues, &key.issue))
+    }
+
+    /// Looks whether the key's row stands at a place: then it is what is asked for next.
+    pub(crate) fn expect(&self, key: &Key, place: usize) {
+        if place < self.rows.len() && is_of(&self.rows[place], key) {
             self.last.set(place);
         }
     }
@@ -222,8 +237,12 @@ impl<A: Allocator + Drop + Clone> AccountRows<A> {
         })
     }
 
-    /// Gives the key, whose issue has that number if any, a row of zeros where it has none.
-    pub(crate) fn enter(&mut self, key: &Key, issue: Option<usize>) -> Result<(), NoMemory>
+    /// Gives the key a row of zeros where it has none.
+    pub(crate) fn enter(
+        &mut self,
+        key: &Key,
+        issues: &mut Option<Issues<A>>,
+    ) -> Result<(), NoMemory>
         requires { IsAccount key.now.account self.old }
         ensures account { IsAccount key.now.account self.new }
         ensures there { OnOk result (has_row self.new key.now ≡ true) }
@@ -240,20 +259,29 @@ impl<A: Allocator + Drop + Clone> AccountRows<A> {
                 self.last.set(place);
                 Ok(())
             }
-            Err(at) => self.insert(at, &(*key, ZEROS), issue),
+            Err(at) => self.insert(at, &(*key, ZEROS), issues),
         }
     }
 
-    /// Puts a row after all others; its issue has that number, if any.
-    pub(crate) fn append(&mut self, row: &Row, issue: Option<usize>) -> Result<(), NoMemory>
+    /// Puts a row after all others.
+    pub(crate) fn append(
+        &mut self,
+        row: &Row,
+        issues: &mut Option<Issues<A>>,
+    ) -> Result<(), NoMemory>
         ensures { OnOk result (self.new ≡ self.old ++ row.now ∷ []) }
     {
         let last = self.order.len();
-        self.insert(last, row, issue)
+        self.insert(last, row, issues)
     }
 
     // Puts a row at that place of the order.
-    fn insert(&mut self, at: usize, row: &Row, issue: Option<usize>) -> Result<(), NoMemory>
+    fn insert(
+        &mut self,
+        at: usize,
+        row: &Row,
+        issues: &mut Option<Issues<A>>,
+    ) -> Result<(), NoMemory>
         requires { at ≤ length self.old }
         ensures ok { OnOk result (self.new ≡ insert self.old at row.now) }
         ensures err { OnErr result (self.new ≡ self.old) }
@@ -266,6 +294,7 @@ impl<A: Allocator + Drop + Clone> AccountRows<A> {
             self.rows.pop();
             return Err(NoMemory);
         };
+        let issue = entered_in(issues, self.rows.allocator(), &row.0.issue);
         self.places.note(issue, place);
         self.last.set(place);
         Ok(())

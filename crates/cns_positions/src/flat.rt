@@ -15,7 +15,7 @@ use crate::issues::Issues;
 use crate::positions::{Positions, Row};
 use arrayvec::ArrayVec;
 use cns_terms::{Holding, Key, NoMemory};
-use cns_units::{Account, Cusip};
+use cns_units::Account;
 use std::alloc::Allocator;
 use std::cell::Cell;
 use std::marker::Model;
@@ -42,6 +42,9 @@ impl<A: Allocator + Drop> Model for FlatPositions<A> {
 
     ghost invariant = { λ a. IsFlat a.accounts.items a.prepared.items };
 }
+
+// At how many keys that are expected a look is taken.
+const MOST_EXPECTED: usize = 32;
 
 // The number of an account, at which its list of rows stands.
 fn number_of(account: Account) -> usize
@@ -79,29 +82,6 @@ fn open<A: Allocator + Drop + Clone>(
     Ok(())
 }
 
-// The issue's number, if it has one.
-fn number_in<A: Allocator + Drop>(issues: &Option<Issues<A>>, issue: &Cusip) -> Option<usize> {
-    match issues {
-        Some(issues) => issues.number(issue),
-        None => None,
-    }
-}
-
-// The issue's number, a new one where it has none yet; none where memory is refused.
-fn entered_in<A: Allocator + Drop + Clone>(
-    issues: &mut Option<Issues<A>>,
-    alloc: &A,
-    issue: &Cusip,
-) -> Option<usize> {
-    if issues.is_none() {
-        *issues = Some(Issues::new(alloc.clone().ok()?));
-    }
-    match issues {
-        Some(issues) => issues.enter(issue),
-        None => None,
-    }
-}
-
 // Gives the key a row of zeros where it has none, and remembers where its row is.
 fn enter_key<A: Allocator + Drop + Clone>(
     accounts: &mut Vec<AccountRows<A>, A>,
@@ -116,8 +96,7 @@ fn enter_key<A: Allocator + Drop + Clone>(
 {
     let number = number_of(key.account);
     open(accounts, number)?;
-    let issue = entered_in(issues, accounts.allocator(), &key.issue);
-    accounts[number].enter(key, issue)
+    accounts[number].enter(key, issues)
 }
 
 // Gives each key a row of zeros where it has none, and remembers where the rows are.
@@ -195,8 +174,29 @@ fn append<A: Allocator + Drop + Clone>(
 {
     let number = number_of(row.0.account);
     open(accounts, number)?;
-    let issue = entered_in(issues, accounts.allocator(), &row.0.issue);
-    accounts[number].append(row, issue)
+    accounts[number].append(row, issues)
+}
+
+impl<A: Allocator + Drop> FlatPositions<A> {
+    // Where in its account's list the row of a key probably stands, if there is a key.
+    fn place_of(&self, key: &Option<Key>) -> usize {
+        let Some(key) = key else {
+            return usize::MAX;
+        };
+        match self.accounts.as_slice().get(number_of(key.account)) {
+            Some(rows) => rows.remembered(key, &self.issues),
+            None => usize::MAX,
+        }
+    }
+
+    // Looks at the row where a key's probably stands.
+    fn look(&self, key: &Option<Key>, place: usize) {
+        if let Some(key) = key {
+            if let Some(rows) = self.accounts.as_slice().get(number_of(key.account)) {
+                rows.expect(key, place);
+            }
+        }
+    }
 }
 
 impl<A: Allocator + Drop + Clone> Positions<A> for FlatPositions<A> {
@@ -213,21 +213,27 @@ impl<A: Allocator + Drop + Clone> Positions<A> for FlatPositions<A> {
         }
     }
 
+    #[inline(always)]
     fn get(&self, key: Key) -> Holding {
         let number = number_of(key.account);
         if number < self.accounts.len() {
-            let issue = number_in(&self.issues, &key.issue);
-            self.accounts[number].get(&key, issue)
+            self.accounts[number].get(&key, &self.issues)
         } else {
             ZEROS
         }
     }
 
-    fn expect(&self, key: &Key) {
-        let number = number_of(key.account);
-        if number < self.accounts.len() {
-            let issue = number_in(&self.issues, &key.issue);
-            self.accounts[number].expect(key, issue);
+    // First where the rows probably stand, and then a look at each of them: so the processor waits for all of the rows
+    // at once, which stand far from each other.
+    fn expect(&self, keys: &[Option<Key>]) {
+        let mut places: ArrayVec<usize, MOST_EXPECTED> = ArrayVec::new();
+        for key in keys {
+            if places.len() < MOST_EXPECTED {
+                places.push(self.place_of(key));
+            }
+        }
+        for at in 0..places.len().min(keys.len()) {
+            self.look(&keys[at], places[at]);
         }
     }
 

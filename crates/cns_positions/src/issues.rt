@@ -31,6 +31,11 @@ impl<A: Allocator + Drop> Issues<A> {
                 return Some(number);
             }
         }
+        self.look_up(issue)
+    }
+
+    #[inline(never)]
+    fn look_up(&self, issue: &Cusip) -> Option<usize> {
         let number = *self.numbers.get(issue)?;
         self.last.set(Some((*issue, number)));
         Some(number)
@@ -48,5 +53,31 @@ impl<A: Allocator + Drop + Clone> Issues<A> {
             Ok(_) => Some(number),
             Err(_) => None,
         }
+    }
+}
+
+/// The issue's number, if it has one.
+pub(crate) fn number_in<A: Allocator + Drop>(
+    issues: &Option<Issues<A>>,
+    issue: &Cusip,
+) -> Option<usize> {
+    match issues {
+        Some(issues) => issues.number(issue),
+        None => None,
+    }
+}
+
+/// The issue's number, a new one where it has none yet; none where memory is refused.
+pub(crate) fn entered_in<A: Allocator + Drop + Clone>(
+    issues: &mut Option<Issues<A>>,
+    alloc: &A,
+    issue: &Cusip,
+) -> Option<usize> {
+    if issues.is_none() {
+        *issues = Some(Issues::new(alloc.clone().ok()?));
+    }
+    match issues {
+        Some(issues) => issues.enter(issue),
+        None => None,
     }
 }

@@ -32,8 +32,8 @@ pub trait Positions<A>: Drop {
     fn get(&self, key: Key) -> Holding
         ensures { result ≡ holding_at (rows self.now) key };
 
-    /// Tells that a key will be asked for soon: a form may look already now where it is, which changes nothing.
-    fn expect(&self, key: &Key);
+    /// Tells which keys will be asked for next. It changes nothing; a form may look already now where they are.
+    fn expect(&self, keys: &[Option<Key>]);
 
     /// Makes room for the keys, so that `add` takes no memory at them.
     fn prepare(&mut self, keys: &[Key]) -> Result<(), NoMemory>

@@ -13,37 +13,12 @@ ghost use Rattle.cns_book.specs.Follows.{AreMoveFacts, AreSmall, AreTradeFacts, 
 
 use crate::parts::Parts;
 use cns_positions::Positions;
-use cns_terms::{Activity, Entry, Key, Movement, NoMemory, Reply, Trade};
+use cns_terms::{Entry, Key, Movement, NoMemory, Reply, Trade};
 use cns_trades::{MoveFacts, TradeFacts};
-use cns_units::{Account, Cusip};
+use cns_units::Account;
 use std::alloc::Allocator;
 
 impl<P: Positions<A>, A: Allocator + Drop + Clone> Parts<P, A> {
-    /// Tells the positions which key a POSITION will ask for.
-    pub fn expect_at(&self, key: &Key) {
-        self.positions.expect(key);
-    }
-
-    /// Tells the positions which keys an activity will ask for.
-    pub fn expect(&self, activity: &Activity) {
-        match activity {
-            Activity::Trade(trade) => {
-                self.expect_key(trade.buyer.account(), trade.issue);
-                self.expect_key(trade.seller.account(), trade.issue);
-            }
-            Activity::Deliver(movement) | Activity::Receive(movement) => {
-                self.expect_key(movement.member.account(), movement.issue);
-                self.expect_key(Account::CORPORATION, movement.issue);
-            }
-            _ => {}
-        }
-    }
-
-    // Tells the positions that an account's place in an issue will be asked for.
-    fn expect_key(&self, account: Account, issue: Cusip) {
-        self.positions.expect(&Key { account, issue });
-    }
-
     // What a trade is checked against.
     fn trade_facts(&self, trade: &Trade) -> TradeFacts
         requires { AreSmall (2 ^ 32) self.now.rows }
