@@ -2,7 +2,7 @@
 use Rattle.std.proofs.Common.{◌≡◌, ℕ, suc, ◌+◌, ◌<◌, true, false, List, [], ◌∷◌, ◌++◌, length, take, drop, get_or, map, Option, refl, sym, ap, subst, ◌∙◌, append_assoc, append-nil}
 use Rattle.std.specs.Io.KnownBytes.{Appends}
 use Rattle.std.proofs.KnownBytes.{Appends-trans}
-use Rattle.csv.specs.Reading.{ReadRecord, default_config, reader_config, records}
+use Rattle.csv.specs.Reading.{ReadRecord, default_config, reader_config}
 use Rattle.csv.specs.declared.parser.State.TheVariants as st
 use Rattle.csv.specs.declared.reader.Reader.{Reader}
 use Rattle.csv.proofs.ReadFacts.{rows-end, rows-more}
@@ -15,7 +15,7 @@ use Rattle.cns_feed.specs.Replay.{IsSilent, Leaves, Stops, log_after, log_after_
 use Rattle.cns_feed.specs.declared.fault.ReplayFault.{ReplayFault}
 use Rattle.cns_feed.specs.declared.outcome.Outcome.{Outcome}
 use Rattle.cns_feed.specs.declared.summary.Summary.{Summary}
-use Rattle.cns_feed.proofs.FeedLemmas.{Adds, Fed, counts-more, state_after-append}
+use Rattle.cns_feed.proofs.FeedLemmas.{Adds, counts-more, state_after-append}
 use Rattle.cns_feed.proofs.LineLemmas.{around, grown, log_lines-one, outcomes_lines-one, state_of-lines, text_lines-one, log-lines, log_after-append, outcomes-append, outcomes-lines, split, state-lines, texts-lines}
 use Rattle.cns_feed.proofs.PlayLemmas.{Played, fed-state, leaves-kept, texts-append, texts-one}
 use Rattle.cns_feed.proofs.RecordLemmas.{records-all, records-front}
@@ -84,7 +84,7 @@ pub record Ended (first now : Log) (old new : Option (List ℕ)) (s : Summary) (
 text_more : (S T : State) (old mid new : Option (List ℕ)) (done given : List Record) → T ≡ state_after S done → Appends old mid (texts S done) → Appends mid new (lines_text T (map line_of given)) → Appends old new (texts S (done ++ given))
 text_more S T old mid new done given state one two =
     rw (texts-append S done given)
-        (Appends-trans old mid new (texts S done) (texts (state_after S done) given) one (subst (Appends mid new) (texts-lines T given ∙ ap (λ U. texts U given) state) two))
+    (Appends-trans old mid new (texts S done) (texts (state_after S done) given) one (subst (Appends mid new) (texts-lines T given ∙ ap (λ U. texts U given) state) two))
 
 -- lines that were played after what was played before
 pub played-on : {R : Type 0} (rem : R → Option (List ℕ)) (bytes : List ℕ) (a : Reader R) (first now more : Log) (old mid new : Option (List ℕ)) (s s2 : Summary) (lines : List Line) (given : List Record)
@@ -173,7 +173,7 @@ module _ (first now : Log) (ls : List Line) (i : ℕ) (l : Line) (lt : i < lengt
   pub next-text : (old mid new : Option (List ℕ)) → Appends old mid (lines_text (state_of first) (take i ls)) → Appends mid new (line_text (state_of now) l) → Appends old new (lines_text (state_of first) (take (i + 1) ls))
   next-text old mid new one two =
       subst (Appends old new) (sym (text_lines-one (state_of first) (take i ls) l) ∙ ap (lines_text (state_of first)) (sym (grown ls i l lt is)))
-          (Appends-trans old mid new _ _ one (subst (λ S. Appends mid new (line_text S l)) state_now two))
+      (Appends-trans old mid new _ _ one (subst (λ S. Appends mid new (line_text S l)) state_now two))
 
   -- the counts with that of the next line
   pub next-counts : (s s2 : Summary) (before : List Outcome) (o : Outcome) → o ≡ outcome_of (state_of now) l → Adds s s2 o → Counts s (before ++ lines_outcomes (state_of first) (take i ls))
@@ -181,7 +181,7 @@ module _ (first now : Log) (ls : List Line) (i : ℕ) (l : Line) (lt : i < lengt
   next-counts s s2 before o came adds counts =
       let outs = lines_outcomes (state_of first) (take i ls) in
       let here : outs ++ o ∷ [] ≡ lines_outcomes (state_of first) (take (i + 1) ls) =
-          ap (λ x. outs ++ x ∷ []) (came ∙ ap (λ S. outcome_of S l) state_now) ∙ sym (outcomes_lines-one (state_of first) (take i ls) l) ∙ ap (lines_outcomes (state_of first)) (sym (grown ls i l lt is)) in
+      ap (λ x. outs ++ x ∷ []) (came ∙ ap (λ S. outcome_of S l) state_now) ∙ sym (outcomes_lines-one (state_of first) (take i ls) l) ∙ ap (lines_outcomes (state_of first)) (sym (grown ls i l lt is)) in
       subst (Counts s2) (append_assoc before outs (o ∷ []) ∙ ap (λ os. before ++ os) here) (counts-more s s2 (before ++ outs) o counts adds)
 
   -- a fault at the next line

@@ -5,6 +5,7 @@ use crate::{ReplayFault, Summary, load, replay, reply_text};
 use cns_terms::{Closed, Holding, Key, Refusal, Reply, Stated, Worker};
 use cns_units::{Account, Cents, Cusip, Day};
 use scripts::SCRIPTS;
+use std::alloc::Global;
 use std::io;
 use std::io::{Error, ErrorKind, Read, Write};
 use std::test::Fail;
@@ -102,6 +103,40 @@ fn each_script_gets_its_replies_and_counts(rt: HostRuntime) -> Result<(), Fail> 
         };
         assert!(rt; played == Ok(summary), "{name}");
         assert_eq!(rt; output.as_slice(), script.output.as_bytes(), "{name}");
+    }
+    Ok(())
+}
+
+// Records of that many members, and the replies to them.
+fn members(alloc: Global, count: u8) -> Result<(Vec<u8>, Vec<u8>), Fail> {
+    let (mut input, mut output) = (Vec::new(alloc), Vec::new(alloc));
+    for member in 10..count.saturating_add(10) {
+        input.extend_from_slice(b"MEMBER,")?;
+        input.extend_from_slice(&[b'0' + member / 10 % 10, b'0' + member % 10, b'\n'])?;
+        output.extend_from_slice(b"ok\n")?;
+    }
+    Ok((input, output))
+}
+
+#[test]
+fn each_number_of_records_is_answered_whole_also_where_the_reader_fails_after_them(
+    rt: HostRuntime,
+) -> Result<(), Fail> {
+    for count in 0..=47 {
+        for fails in [false, true] {
+            let (input, replies) = members(rt.alloc(), count)?;
+            let reader = Pieces {
+                bytes: input.as_slice(),
+                step: 11,
+                fails,
+                failures: 0,
+            };
+            let mut output = Vec::new(rt.alloc());
+            let played = replay(rt.alloc(), day("2024-06-03")?, reader, &mut output);
+            assert!(rt; played.is_err() == fails, "{count}");
+            assert!(rt; !fails || played == Err(ReplayFault::Read), "{count}");
+            assert_eq!(rt; output.as_slice(), replies.as_slice(), "{count}");
+        }
     }
     Ok(())
 }

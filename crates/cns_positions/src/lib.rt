@@ -10,9 +10,9 @@
 
 mod account;
 mod flat;
+mod holding;
 mod issues;
 mod places;
-mod holding;
 mod positions;
 mod steps;
 

@@ -7,6 +7,7 @@ const NONE: u16 = u16::MAX;
 // How many issues an account without rows may remember, and how many more with each row: an account that holds few of
 // many issues would else remember little in a long list.
 const FIRST: usize = 256;
+
 const PER_ROW: usize = 64;
 
 /// For each issue, at its number, a guess where the row of an account's key stands.
@@ -49,7 +50,10 @@ impl<A: Allocator + Drop> Places<A> {
         };
         if issue >= self.places.len() {
             let most = PER_ROW.saturating_mul(place).saturating_add(FIRST);
-            let len = issue.saturating_add(1).checked_next_power_of_two().unwrap_or(0);
+            let len = issue
+                .saturating_add(1)
+                .checked_next_power_of_two()
+                .unwrap_or(0);
             if len > most || self.places.resize(len, NONE).is_err() {
                 return;
             }

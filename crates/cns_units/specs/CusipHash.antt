@@ -1,5 +1,5 @@
 -- Equal CUSIPs have the same hash.
-use Rattle.std.specs.Prelude.{◌≡◌, ℕ, List, take, IsTrue, Bool, true}
+use Rattle.std.specs.Prelude.{◌≡◌, ℕ, List, take, IsTrue}
 use Rattle.std.proofs.Common.{ap, refl}
 use Rattle.std.specs.Hash as fed
 use Rattle.std.specs.Int.{w64, from_be_bytes}

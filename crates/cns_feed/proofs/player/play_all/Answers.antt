@@ -34,18 +34,18 @@ returns-then-not-more-clause-all g c =
     let gave = subst (GaveAll g.R.Read.remaining c.loop-turn.rows) (sym c.as_slice.ensures.value) (c.in_ok-more.ensures.all c.if-not-more.true) in
     let q = c.in_ok-play_batch.ensures in
     if_some _ _ (λ bytes h.
-        let p = c.loop-turn.invariant.played bytes h in
-        rw (gave.read bytes p.done (played-read g.R.Read.remaining bytes c.loop-turn.rows _ _ _ _ _ p))
-            (played-on g.R.Read.remaining bytes c.loop-turn.rows _ _ _ _ _ _ _ _ _ gave.given gave.lines_are q.after q.text q.counts p).text)
+    let p = c.loop-turn.invariant.played bytes h in
+    rw (gave.read bytes p.done (played-read g.R.Read.remaining bytes c.loop-turn.rows _ _ _ _ _ p))
+    (played-on g.R.Read.remaining bytes c.loop-turn.rows _ _ _ _ _ _ _ _ _ gave.given gave.lines_are q.after q.text q.counts p).text)
 
 pub returns-then-not-more-clause-counts : goal.returns-then-not-more-clause-counts
 returns-then-not-more-clause-counts g c =
     let gave = subst (GaveAll g.R.Read.remaining c.loop-turn.rows) (sym c.as_slice.ensures.value) (c.in_ok-more.ensures.all c.if-not-more.true) in
     let q = c.in_ok-play_batch.ensures in
     if_some _ _ (λ bytes h.
-        let p = c.loop-turn.invariant.played bytes h in
-        rw (gave.read bytes p.done (played-read g.R.Read.remaining bytes c.loop-turn.rows _ _ _ _ _ p))
-            (played-on g.R.Read.remaining bytes c.loop-turn.rows _ _ _ _ _ _ _ _ _ gave.given gave.lines_are q.after q.text q.counts p).counts)
+    let p = c.loop-turn.invariant.played bytes h in
+    rw (gave.read bytes p.done (played-read g.R.Read.remaining bytes c.loop-turn.rows _ _ _ _ _ p))
+    (played-on g.R.Read.remaining bytes c.loop-turn.rows _ _ _ _ _ _ _ _ _ gave.given gave.lines_are q.after q.text q.counts p).counts)
 
 pub loop-turn-preserved : goal.loop-turn-preserved
 loop-turn-preserved g c =

@@ -1,7 +1,6 @@
-use Rattle.std.proofs.Common.{sym, subst, ap, arith}
+use Rattle.std.proofs.Common.{sym, subst, arith}
 use Rattle.std.specs.Io.KnownBytes.{Appends}
 use Rattle.std.proofs.KnownBytes.{Appends-nil}
-use Rattle.std.proofs.lemmas.List.{take_all}
 use Rattle.std.proofs.lemmas.Result.{err_from_is_err_and}
 use Rattle.cns_book.specs.Log.{state_of}
 use Rattle.cns_feed.specs.Output.{Counts}

@@ -1,7 +1,7 @@
-use Rattle.std.proofs.Common.{◌≡◌, ◌++◌, ◌∷◌, [], subst, sym, ap, length, arith}
+use Rattle.std.proofs.Common.{subst, sym, ap, length, arith}
 use Rattle.csv.specs.Records.{fields_of}
 use Rattle.cns_feed.specs.Lines.{Gave, GaveSome}
-use Rattle.cns_feed.proofs.BatchLemmas.{gave-all, gave-more, gave-none, gave-some}
+use Rattle.cns_feed.proofs.BatchLemmas.{gave-all, gave-more, gave-some}
 use Rattle.cns_feed.proofs.rows.read_batch.Goals as goal
 
 pub returns-in_err-found-clause-some : goal.returns-in_err-found-clause-some

@@ -1,4 +1,4 @@
-use Rattle.std.proofs.Common.{◌≡◌, ◌∙◌, sym, ap, get_or, true, false}
+use Rattle.std.proofs.Common.{◌∙◌, sym, ap, get_or}
 use Rattle.cns_units.specs.Cusip.{weight}
 use Rattle.cns_units.proofs.CusipWeights.{plain, twice, plain_weight, doubled_weight, small_weight}
 use Rattle.cns_units.proofs.cusip.weight_of.Goals as goal

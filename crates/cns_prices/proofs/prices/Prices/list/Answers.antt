@@ -19,5 +19,5 @@ invariant_of-self-in_default-insert g c = λ i. c.reserve.ensures.entries.2 i �
 pub invariant_of-self-2 : goal.invariant_of-self-2
 invariant_of-self-2 g c =
     indexed _ _ _ _ c.args.cusip _ (λ i. c.reserve.ensures.entries.2 i ∙ c.self.invariant i)
-        (done c.insert-2.result c.insert-2.ensures.updates (c.insert-2.ensures.succeeds c.in-Ok.ensures.ok)).0
-        c.in-Ok-insert.ensures.updates.0
+    (done c.insert-2.result c.insert-2.ensures.updates (c.insert-2.ensures.succeeds c.in-Ok.ensures.ok)).0
+    c.in-Ok-insert.ensures.updates.0
