@@ -158,13 +158,12 @@ statement_line fields = counted 3 fields (do
   date ← date_at fields 2
   Ok (command.Statement account date))
 
--- the command of a record by its kind, or the first fault: the kind, the count of fields, the fields from left to right
-unfoldable pub line_of : Record → Result Command LineFault
-line_of fields =
+-- the command of a record that is no trade, by its kind, or its first fault
+unfoldable pub other_line : Record → Result Command LineFault
+other_line fields =
     let kind = field fields 0 in
     if bytes_eq kind (codes "MEMBER") then member_line fields
     else if bytes_eq kind (codes "ISSUE") then issue_line fields
-    else if bytes_eq kind (codes "TRADE") then trade_line fields
     else if bytes_eq kind (codes "PRICE") then price_line fields
     else if bytes_eq kind (codes "DELIVER") then deliver_line fields
     else if bytes_eq kind (codes "RECEIVE") then receive_line fields
@@ -172,3 +171,7 @@ line_of fields =
     else if bytes_eq kind (codes "POSITION") then position_line fields
     else if bytes_eq kind (codes "STATEMENT") then statement_line fields
     else Err fault.Kind
+
+-- the command of a record by its kind, or the first fault: the kind, the count of fields, the fields from left to right
+unfoldable pub line_of : Record → Result Command LineFault
+line_of fields = if bytes_eq (field fields 0) (codes "TRADE") then trade_line fields else other_line fields

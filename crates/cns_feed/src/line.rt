@@ -3,7 +3,7 @@ ghost use Rattle.std.specs.Prelude.{◌≡◌};
 ghost use Rattle.csv.specs.Records.{fields_of};
 ghost use Rattle.cns_feed.specs.Digits.{in_range};
 ghost use Rattle.cns_feed.specs.Line.{field, member_at, account_at, reference_at, shares_at, money_at, price_at, cusip_at, date_at};
-ghost use Rattle.cns_feed.specs.Line.{member_line, listing_at, issue_line, price_line, trade_line, movement_at, deliver_line, receive_line, close_line, position_line, statement_line, line_of};
+ghost use Rattle.cns_feed.specs.Line.{member_line, listing_at, issue_line, price_line, trade_line, movement_at, deliver_line, receive_line, close_line, position_line, statement_line, other_line, line_of};
 
 use crate::digits::{number_of, short_number_of};
 use crate::fault::LineFault;
@@ -60,6 +60,7 @@ fn reference(row: &ByteRecord, place: usize) -> Result<u64, LineFault>
     Ok(number)
 }
 
+#[inline(always)]
 fn shares(row: &ByteRecord, place: usize) -> Result<Shares, LineFault>
     ensures { result ≡ shares_at (fields_of row.now) place }
 {
@@ -67,6 +68,7 @@ fn shares(row: &ByteRecord, place: usize) -> Result<Shares, LineFault>
     ranged(Shares::new(number))
 }
 
+#[inline(always)]
 fn money(row: &ByteRecord, place: usize) -> Result<Money, LineFault>
     ensures { result ≡ money_at (fields_of row.now) place }
 {
@@ -81,6 +83,7 @@ fn price(row: &ByteRecord, place: usize) -> Result<Price, LineFault>
     ranged(Price::new(number))
 }
 
+#[inline(always)]
 fn cusip(row: &ByteRecord, place: usize) -> Result<Cusip, LineFault>
     ensures { result ≡ cusip_at (fields_of row.now) place }
 {
@@ -90,6 +93,7 @@ fn cusip(row: &ByteRecord, place: usize) -> Result<Cusip, LineFault>
     }
 }
 
+#[inline(always)]
 fn date(row: &ByteRecord, place: usize) -> Result<Day, LineFault>
     ensures { result ≡ date_at (fields_of row.now) place }
 {
@@ -139,6 +143,7 @@ fn price_of(row: &ByteRecord) -> Result<Command, LineFault>
     Ok(Command::Activity(Activity::Price(listing)))
 }
 
+#[inline(never)]
 #[tactic(auto, unfolding(crate::specs::Line::trade_line))]
 fn trade_of(row: &ByteRecord) -> Result<Command, LineFault>
     ensures { result ≡ trade_line (fields_of row.now) }
@@ -233,20 +238,18 @@ fn statement_of(row: &ByteRecord) -> Result<Command, LineFault>
     Ok(Command::Statement { account, date })
 }
 
-/// The command of a record, or its first fault: the kind, the count of fields, and then the fields from left to right.
-///
-/// The first field is the kind. No field takes memory to read, so `NoMemory` never comes.
-#[tactic(auto, unfolding(crate::specs::Line::line_of))]
-pub fn command_of(row: &ByteRecord) -> Result<Command, LineFault>
-    ensures { result ≡ line_of (fields_of row.now) }
+// The command of a record that is no trade, or its first fault. It stands apart, so that the code for trades, which most
+// records are, stays small.
+#[inline(never)]
+#[tactic(auto, unfolding(crate::specs::Line::other_line))]
+fn other_of(row: &ByteRecord) -> Result<Command, LineFault>
+    ensures { result ≡ other_line (fields_of row.now) }
 {
     let kind = field(row, 0);
     if kind == b"MEMBER".as_slice() {
         member_of(row)
     } else if kind == b"ISSUE".as_slice() {
         issue_of(row)
-    } else if kind == b"TRADE".as_slice() {
-        trade_of(row)
     } else if kind == b"PRICE".as_slice() {
         price_of(row)
     } else if kind == b"DELIVER".as_slice() {
@@ -261,5 +264,19 @@ pub fn command_of(row: &ByteRecord) -> Result<Command, LineFault>
         statement_of(row)
     } else {
         Err(LineFault::Kind)
+    }
+}
+
+/// The command of a record, or its first fault: the kind, the count of fields, and then the fields from left to right.
+///
+/// The first field is the kind. No field takes memory to read, so `NoMemory` never comes.
+#[tactic(auto, unfolding(crate::specs::Line::line_of))]
+pub fn command_of(row: &ByteRecord) -> Result<Command, LineFault>
+    ensures { result ≡ line_of (fields_of row.now) }
+{
+    if field(row, 0) == b"TRADE".as_slice() {
+        trade_of(row)
+    } else {
+        other_of(row)
     }
 }

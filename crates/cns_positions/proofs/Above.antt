@@ -8,7 +8,7 @@ use Rattle.cns_terms.specs.declared.holding.Key.{Key}
 use Rattle.cns_terms.specs.declared.holding.Holding.{Holding}
 use Rattle.cns_positions.specs.Rows.{Rows, held_above, is_above, is_held}
 use Rattle.cns_positions.specs.Flat.{AreOf, AreAccounts, joined}
-use Rattle.cns_positions.proofs.Puts.{and_left}
+use Rattle.cns_terms.proofs.Finds.{and_left}
 use Rattle.cns_positions.proofs.Held.{same_past, test}
 use Rattle.cns_positions.proofs.Lists.{AreFrom, above_account, below_from, first_of, from_zero, rest_of}
 

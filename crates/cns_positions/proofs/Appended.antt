@@ -8,7 +8,7 @@ use Rattle.cns_terms.specs.declared.holding.Holding.{Holding}
 use Rattle.cns_terms.specs.Keys.{key_cmp}
 use Rattle.cns_positions.specs.Rows.{Rows}
 use Rattle.cns_positions.specs.Flat.{AreOf, AreAccounts, IsAccount, joined}
-use Rattle.cns_positions.proofs.Puts.{and_left, and_right}
+use Rattle.cns_terms.proofs.Finds.{and_left, and_right}
 use Rattle.cns_positions.proofs.Lists.{both}
 
 -- the last of rows in order are in order

@@ -1,7 +1,6 @@
 -- The rows that aren't zeros, above a key.
 use Rattle.std.proofs.Common.{◌≡◌, ◌∙◌, sym, ap, refl, ℕ, zero, suc, ◌<◌, Bool, true, false, ◌&&◌, cond, [], ◌∷◌, ◌++◌, ◌+◌, ◌≤◌, inl, inr, length, get_or, take, Option, Some, None, arith}
 use Rattle.std.specs.Ordering.{is_lt, ordering_reverse}
-use Rattle.std.specs.declared.cmp.Ordering.{Ordering}
 use Rattle.std.specs.declared.cmp.Ordering.TheVariants.{Less, Equal, Greater}
 use Rattle.std.specs.FinMap.{is_sorted}
 use Rattle.std.specs.FinMap.Entries.{below_all}
@@ -13,12 +12,8 @@ use Rattle.cns_terms.specs.Keys.{key_cmp}
 use Rattle.cns_terms.proofs.Keys.{keys_total}
 use Rattle.std.proofs.lemmas.Bool.{cases_lt}
 use Rattle.std.proofs.lemmas.List.Elements.{filter_more}
-use Rattle.cns_positions.proofs.Puts.{and_left, and_right, below_each, below_later}
-
-less : (o : Ordering) → is_lt o ≡ true → o ≡ Less
-less Less e = refl
-less Equal e = cc
-less Greater e = cc
+use Rattle.cns_terms.proofs.Finds.{and_left, and_right, less}
+use Rattle.cns_positions.proofs.Puts.{below_each, below_later}
 
 abbrev pub test : Option Key → Key × Holding → Bool
 test after r = is_above after r.0 && is_held r.1

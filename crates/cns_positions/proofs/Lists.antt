@@ -18,7 +18,7 @@ use Rattle.cns_terms.proofs.Keys.{same_key}
 use Rattle.cns_positions.specs.Rows.{Rows, booked, entry_of, holding_at, zeros}
 use Rattle.cns_positions.specs.Placed.{has_row, closed_rows}
 use Rattle.cns_positions.specs.Flat.{AreOf, AreAccounts, IsAccount, joined}
-use Rattle.cns_positions.proofs.Puts.{and_left, and_right}
+use Rattle.cns_terms.proofs.Finds.{and_left, and_right}
 use Rattle.cns_positions.proofs.Placed.{add_zero, sorted_closed, sorted_put, with_booked}
 
 -- a key of a lower account is below

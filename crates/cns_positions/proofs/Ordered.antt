@@ -1,6 +1,8 @@
 -- Rows that stay where they entered, seen in the order of their keys.
 use Rattle.std.proofs.Common.{◌≡◌, ◌≢◌, ◌∙◌, sym, ap, subst, refl, ℕ, zero, suc, ℤ, ◌+◌, ◌-◌, ◌<◌, ◌≤◌, true, List, [], ◌∷◌, ◌++◌, length, length-set, get_or, set, map, Some, inl, inr, arith}
-use Rattle.std.specs.declared.cmp.Ordering.TheVariants.{Less}
+use Rattle.std.specs.declared.cmp.Ordering.TheVariants.{Less, Greater}
+use Rattle.std.specs.Option.{option_map_or}
+use Rattle.std.proofs.lemmas.Option.{slice_get-get_or}
 use Rattle.std.specs.List.{Contains, insert}
 use Rattle.std.specs.FinMap.{find, is_sorted, put}
 use Rattle.std.proofs.Math.ListN.{get_or-append}
@@ -15,7 +17,7 @@ use Rattle.cns_terms.specs.Keys.{key_cmp}
 use Rattle.cns_terms.proofs.Keys.{keys_total}
 use Rattle.cns_positions.specs.Rows.{Rows, holding_at, rolled}
 use Rattle.cns_positions.specs.Placed.{closed_rows}
-use Rattle.cns_positions.specs.Ordered.{IsOrder, IsRowOf, in_order, no_row, row_at}
+use Rattle.cns_positions.specs.Ordered.{IsOrder, IsRowOf, compared_at, in_order, no_row, row_at}
 use Rattle.cns_positions.proofs.Puts.{below_later, find_at}
 use Rattle.cns_positions.proofs.Placed.{booked_here, with_booked}
 
@@ -32,6 +34,13 @@ module _ (rows : Rows) (order : List ℕ) where
     -- and as it is read
     pub ordered_read : (i : ℕ) (d : Key × Holding) → i < length order → get_or (in_order rows order) i d ≡ get_or rows (get_or order i 0) d
     ordered_read i d lt = ordered_at i d lt ∙ get_or_default rows (get_or order i 0) no_row d (h.within i lt)
+
+    -- what a search compares is the key of the row at a rank
+    pub compared_ordered : (k : Key) (i : ℕ) (d : Key × Holding) (e : ℕ) → i < length order → compared_at rows k (get_or order i e) ≡ key_cmp (get_or (in_order rows order) i d).0 k
+    compared_ordered k i d e lt =
+        ap (compared_at rows k) (get_or_default order i e 0 lt)
+        ∙ ap (λ o. option_map_or (λ (r : Key × Holding). key_cmp r.0 k) o Greater) (slice_get-get_or rows (get_or order i 0) no_row (h.within i lt))
+        ∙ sym (ap (λ (r : Key × Holding). key_cmp r.0 k) (ordered_at i d lt))
 
     -- the rank of a place
     ranked : (p : ℕ) → p < length rows → (j : ℕ) × (j < length order) × (get_or order j 0 ≡ p)

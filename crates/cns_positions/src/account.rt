@@ -2,7 +2,7 @@
 ghost use Rattle.std.specs.Prelude.{◌≡◌, ℕ, ◌≤◌, ◌<◌, ◌+ℤ◌, [], ◌∷◌, ◌++◌, length, OnOk, OnErr, IfOk, IfErr, IfSome, MatchOption, FitsSigned, true, Some, slice_index_or, take};
 ghost use Rattle.std.specs.Int.{w64, w128};
 ghost use Rattle.std.specs.FinMap.{is_sorted};
-ghost use Rattle.std.specs.List.{HoldsAt, insert};
+ghost use Rattle.std.specs.List.{AllWithin, HoldsAt, insert};
 ghost use Rattle.std.specs.List.Sorted.{IsSearchInRange, IsPartitionPoint};
 ghost use Rattle.std.specs.Ordering.{is_eq};
 ghost use Rattle.std.specs.declared.cmp.Ordering.{Ordering};
@@ -18,6 +18,7 @@ use crate::holding::{ZEROS, add_to, close, is_held};
 use crate::issues::{Issues, entered_in, number_in};
 use crate::places::Places;
 use crate::positions::Row;
+use crate::ranks::Ranks;
 use cns_terms::{Holding, Key, NoMemory};
 use std::alloc::Allocator;
 use std::cell::Cell;
@@ -32,11 +33,15 @@ use std::marker::Model;
 pub(crate) struct AccountRows<A: Allocator + Drop> {
     rows: Vec<Row, A>,
     // The places of the rows, in the order of the rows' keys.
-    order: Vec<usize, A>,
+    order: Vec<u32, A>,
     // Where the rows of issues probably stand: a search looks there first.
     places: Places<A>,
+    // Where issues probably go in the order.
+    ranks: Ranks<A>,
     // Where the row stands that was asked for last: what comes next mostly asks for it again.
     last: Cell<usize>,
+    // Where in the order the key would go that was asked for last and had no row: it mostly enters next.
+    gap: Cell<usize>,
 }
 
 impl<A: Allocator + Drop> Model for AccountRows<A> {
@@ -50,6 +55,9 @@ impl<A: Allocator + Drop> Model for AccountRows<A> {
 
     ghost invariant = { λ a. IsOrder (length a.rows.items) a.order.items };
 }
+
+// A place that none stands at.
+const NOWHERE: usize = usize::MAX;
 
 // Whether the row is the key's.
 fn is_of(row: &Row, key: &Key) -> bool
@@ -71,32 +79,80 @@ fn compared(rows: &[Row], place: usize, key: &Key) -> Ordering
 // Where in the order the key's row is, or where it would go. Most keys are found without it, by code that stays small
 // enough to stand where it is called.
 #[inline(never)]
-fn rank(rows: &[Row], order: &[usize], key: &Key) -> Result<usize, usize>
+fn rank(rows: &[Row], order: &[u32], key: &Key) -> Result<usize, usize>
     requires order { IsOrder (length rows.now) order.now }
     requires sorted { is_sorted key_cmp (in_order rows.now order.now) ≡ true }
     ensures bound { IsSearchInRange result (length order.now) }
     ensures found { IfOk result (HoldsAt (λ r. key_cmp r.0 key.now ≡ Ordering.Equal) (in_order rows.now order.now)) }
     ensures absent { IfErr result (IsPartitionPoint (λ r. key_cmp r.0 key.now ≡ Ordering.Less) (λ r. key_cmp r.0 key.now ≡ Ordering.Greater) (in_order rows.now order.now)) }
 {
-    order.binary_search_by(|place| compared(rows, *place, key))
+    order.binary_search_by(|place| compared(rows, *place as usize, key))
 }
 
 // The same, quick where a guess is right.
-fn rank_from(rows: &[Row], order: &[usize], guess: usize, key: &Key) -> Result<usize, usize>
+fn rank_from(rows: &[Row], order: &[u32], guess: usize, key: &Key) -> Result<usize, usize>
     requires order { IsOrder (length rows.now) order.now }
     requires sorted { is_sorted key_cmp (in_order rows.now order.now) ≡ true }
     ensures bound { IsSearchInRange result (length order.now) }
     ensures found { IfOk result (HoldsAt (λ r. key_cmp r.0 key.now ≡ Ordering.Equal) (in_order rows.now order.now)) }
     ensures absent { IfErr result (IsPartitionPoint (λ r. key_cmp r.0 key.now ≡ Ordering.Less) (λ r. key_cmp r.0 key.now ≡ Ordering.Greater) (in_order rows.now order.now)) }
 {
-    if guess < order.len() && is_of(&rows[order[guess]], key) {
+    if guess < order.len() && is_of(&rows[order[guess] as usize], key) {
         return Ok(guess);
     }
     rank(rows, order, key)
 }
 
-// Where the key's row stands, or where in the order it would go; quick where a guess of the place is right.
-fn find(rows: &[Row], order: &[usize], guess: usize, key: &Key) -> Result<usize, usize>
+// Whether the key is above all rows before a rank.
+fn is_above_first(rows: &[Row], order: &[u32], at: usize, key: &Key) -> bool
+    requires order { IsOrder (length rows.now) order.now }
+    requires sorted { is_sorted key_cmp (in_order rows.now order.now) ≡ true }
+    requires rank { at ≤ length order.now }
+    ensures { result ≡ true → AllWithin (λ r. key_cmp r.0 key.now ≡ Ordering.Less) (in_order rows.now order.now) 0 at }
+{
+    at == 0 || compared(rows, order[at - 1] as usize, key).is_lt()
+}
+
+// Whether the key is below all rows from a rank on.
+fn is_below_rest(rows: &[Row], order: &[u32], at: usize, key: &Key) -> bool
+    requires order { IsOrder (length rows.now) order.now }
+    requires sorted { is_sorted key_cmp (in_order rows.now order.now) ≡ true }
+    ensures { result ≡ true → AllWithin (λ r. key_cmp r.0 key.now ≡ Ordering.Greater) (in_order rows.now order.now) at (length (in_order rows.now order.now)) }
+{
+    at >= order.len() || compared(rows, order[at] as usize, key).is_gt()
+}
+
+// Whether a key that has no row would go there in the order.
+fn is_gap(rows: &[Row], order: &[u32], at: usize, key: &Key) -> bool
+    requires order { IsOrder (length rows.now) order.now }
+    requires sorted { is_sorted key_cmp (in_order rows.now order.now) ≡ true }
+    ensures bound { result ≡ true → at ≤ length order.now }
+    ensures absent { result ≡ true → IsPartitionPoint (λ r. key_cmp r.0 key.now ≡ Ordering.Less) (λ r. key_cmp r.0 key.now ≡ Ordering.Greater) (in_order rows.now order.now) at }
+{
+    at <= order.len() && is_above_first(rows, order, at, key) && is_below_rest(rows, order, at, key)
+}
+
+// Where the key's row stands, or where in the order it would go; quick where a guess of the latter is right.
+#[inline(never)]
+fn search(rows: &[Row], order: &[u32], gap: usize, key: &Key) -> Result<usize, usize>
+    requires order { IsOrder (length rows.now) order.now }
+    requires sorted { is_sorted key_cmp (in_order rows.now order.now) ≡ true }
+    ensures found { IfOk result (IsRowOf rows.now key.now) }
+    ensures bound { IfErr result (λ i. i ≤ length order.now) }
+    ensures absent { IfErr result (IsPartitionPoint (λ r. key_cmp r.0 key.now ≡ Ordering.Less) (λ r. key_cmp r.0 key.now ≡ Ordering.Greater) (in_order rows.now order.now)) }
+{
+    if is_gap(rows, order, gap, key) {
+        return Err(gap);
+    }
+    match rank(rows, order, key) {
+        Ok(at) => Ok(order[at] as usize),
+        Err(at) => Err(at),
+    }
+}
+
+// The same, quick where a guess of the row's place is right.
+#[inline(always)]
+fn find(rows: &[Row], order: &[u32], guess: usize, gap: usize, key: &Key) -> Result<usize, usize>
     requires order { IsOrder (length rows.now) order.now }
     requires sorted { is_sorted key_cmp (in_order rows.now order.now) ≡ true }
     ensures found { IfOk result (IsRowOf rows.now key.now) }
@@ -106,14 +162,11 @@ fn find(rows: &[Row], order: &[usize], guess: usize, key: &Key) -> Result<usize,
     if guess < rows.len() && is_of(&rows[guess], key) {
         return Ok(guess);
     }
-    match rank(rows, order, key) {
-        Ok(at) => Ok(order[at]),
-        Err(at) => Err(at),
-    }
+    search(rows, order, gap, key)
 }
 
 // Where in that account's order the rows above a key begin; at the first row where there is none to be above.
-fn past(rows: &[Row], order: &[usize], guess: usize, number: usize, after: &Option<Key>) -> usize
+fn past(rows: &[Row], order: &[u32], guess: usize, number: usize, after: &Option<Key>) -> usize
     requires order { IsOrder (length rows.now) order.now }
     requires account { IsAccount number (in_order rows.now order.now) }
     requires reached { MatchOption after.now (Unit {0}) (λ k. k.account ≤ number) }
@@ -135,12 +188,22 @@ fn past(rows: &[Row], order: &[usize], guess: usize, number: usize, after: &Opti
 
 impl<A: Allocator + Drop> AccountRows<A> {
     // Where the key's row probably stands: where the one stands that was asked for last, or where it is remembered.
+    #[inline(always)]
     fn guess(&self, key: &Key, issues: &Option<Issues<A>>) -> usize {
         let last = self.last.get();
         if last < self.rows.len() && is_of(&self.rows[last], key) {
             return last;
         }
-        self.remembered(key, issues)
+        self.remembered(number_in(issues, &key.issue))
+    }
+
+    // Where in the order a key that has no row probably goes.
+    #[inline(never)]
+    fn guess_gap(&self, key: &Key, issues: &Option<Issues<A>>) -> usize {
+        match issues {
+            Some(issues) => self.ranks.guess(self.order.len(), issues, &key.issue),
+            None => NOWHERE,
+        }
     }
 
     /// What stands at a key.
@@ -150,23 +213,37 @@ impl<A: Allocator + Drop> AccountRows<A> {
         ensures { result ≡ holding_at self.now key.now }
     {
         let rows = self.rows.as_slice();
-        match find(rows, self.order.as_slice(), self.guess(key, issues), key) {
+        let guess = self.guess(key, issues);
+        let gap = if guess < rows.len() {
+            NOWHERE
+        } else {
+            self.guess_gap(key, issues)
+        };
+        match find(rows, self.order.as_slice(), guess, gap, key) {
             Ok(place) => {
                 self.last.set(place);
                 rows[place].1
             }
-            Err(_) => ZEROS,
+            Err(at) => {
+                self.gap.set(at);
+                ZEROS
+            }
         }
     }
 
-    /// Where the key's row probably stands.
-    pub(crate) fn remembered(&self, key: &Key, issues: &Option<Issues<A>>) -> usize {
-        self.places.guess(number_in(issues, &key.issue))
+    /// Where the row of the issue with the number probably stands.
+    pub(crate) fn remembered(&self, issue: Option<usize>) -> usize {
+        self.places.guess(issue)
     }
 
     /// Looks whether the key's row stands at a place: then it is what is asked for next.
     pub(crate) fn expect(&self, key: &Key, place: usize) {
-        if place < self.rows.len() && is_of(&self.rows[place], key) {
+        let Some(row) = self.rows.as_slice().get(place) else {
+            return;
+        };
+        // A row may stand on two of the processor's lines. The cents, at its end, are read only to bring both near.
+        let is_near = row.1.contract != i128::MIN;
+        if is_of(row, key) && is_near {
             self.last.set(place);
         }
     }
@@ -182,7 +259,7 @@ impl<A: Allocator + Drop> AccountRows<A> {
         ensures booked { (k : Key) → holding_at self.new k ≡ booked (entry_of key.now shares cents) k (holding_at self.old k) }
     {
         let rows = self.rows.as_slice();
-        match find(rows, self.order.as_slice(), self.last.get(), key) {
+        match find(rows, self.order.as_slice(), self.last.get(), NOWHERE, key) {
             Ok(place) => add_to(&mut self.rows[place].1, shares, cents),
             Err(_) => {}
         }
@@ -196,6 +273,14 @@ impl<A: Allocator + Drop> AccountRows<A> {
             let holding = &mut self.rows[place].1;
             *holding = close(*holding);
         }
+    }
+
+    // Reads the rows as they stand. A walk goes to and fro among them and would wait for each, but what is read in one
+    // direction the processor fetches ahead; then the walk finds them near. The count is kept, so that the reads are not
+    // left out, where a walk that only begins does not look.
+    fn pass_over(&self, walked: &Cell<usize>) {
+        let held = self.rows.iter().filter(|row| is_held(row.1)).count();
+        walked.set(held);
     }
 
     /// The first row above a key that is not zeros, of the account with that number. A walk over the rows remembers
@@ -213,8 +298,11 @@ impl<A: Allocator + Drop> AccountRows<A> {
         let rows = self.rows.as_slice();
         let order = self.order.as_slice();
         let start = past(rows, order, walked.get(), number, after);
+        if start == 0 {
+            self.pass_over(walked);
+        }
         for at in start..order.len() {
-            let row = &rows[order[at]];
+            let row = &rows[order[at] as usize];
             if is_held(row.1) {
                 walked.set(at);
                 return Some(*row);
@@ -233,7 +321,9 @@ impl<A: Allocator + Drop + Clone> AccountRows<A> {
             rows: Vec::new(alloc.clone()?),
             order: Vec::new(alloc.clone()?),
             places: Places::new(alloc.clone()?),
+            ranks: Ranks::new(alloc.clone()?),
             last: Cell::new(0),
+            gap: Cell::new(0),
         })
     }
 
@@ -253,6 +343,7 @@ impl<A: Allocator + Drop + Clone> AccountRows<A> {
             self.rows.as_slice(),
             self.order.as_slice(),
             self.last.get(),
+            self.gap.get(),
             key,
         ) {
             Ok(place) => {
@@ -287,15 +378,19 @@ impl<A: Allocator + Drop + Clone> AccountRows<A> {
         ensures err { OnErr result (self.new ≡ self.old) }
     {
         let place = self.rows.len();
+        let Ok(entry) = u32::try_from(place) else {
+            return Err(NoMemory);
+        };
         let Ok(()) = self.rows.push(*row) else {
             return Err(NoMemory);
         };
-        let Ok(()) = self.order.insert(at, place) else {
+        let Ok(()) = self.order.insert(at, entry) else {
             self.rows.pop();
             return Err(NoMemory);
         };
         let issue = entered_in(issues, self.rows.allocator(), &row.0.issue);
         self.places.note(issue, place);
+        self.ranks.note(at, issue);
         self.last.set(place);
         Ok(())
     }

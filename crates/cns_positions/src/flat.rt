@@ -11,7 +11,7 @@ ghost use Rattle.cns_positions.specs.Flat.{AreAccounts, joined, keys_of};
 
 use crate::account::AccountRows;
 use crate::holding::ZEROS;
-use crate::issues::Issues;
+use crate::issues::{Issues, number_in};
 use crate::positions::{Positions, Row};
 use arrayvec::ArrayVec;
 use cns_terms::{Holding, Key, NoMemory};
@@ -178,13 +178,21 @@ fn append<A: Allocator + Drop + Clone>(
 }
 
 impl<A: Allocator + Drop> FlatPositions<A> {
+    // The number of a key's issue, if there is a key and its issue has one.
+    fn number_of_issue(&self, key: &Option<Key>) -> Option<usize> {
+        match key {
+            Some(key) => number_in(&self.issues, &key.issue),
+            None => None,
+        }
+    }
+
     // Where in its account's list the row of a key probably stands, if there is a key.
-    fn place_of(&self, key: &Option<Key>) -> usize {
+    fn place_of(&self, key: &Option<Key>, issue: Option<usize>) -> usize {
         let Some(key) = key else {
             return usize::MAX;
         };
         match self.accounts.as_slice().get(number_of(key.account)) {
-            Some(rows) => rows.remembered(key, &self.issues),
+            Some(rows) => rows.remembered(issue),
             None => usize::MAX,
         }
     }
@@ -223,13 +231,19 @@ impl<A: Allocator + Drop + Clone> Positions<A> for FlatPositions<A> {
         }
     }
 
-    // First where the rows probably stand, and then a look at each of them: so the processor waits for all of the rows
-    // at once, which stand far from each other.
+    // First the issues' numbers, then where the rows probably stand, and then a look at each of them. Each is a loop of
+    // its own, so that the processor waits at once for all that it needs for the next.
     fn expect(&self, keys: &[Option<Key>]) {
-        let mut places: ArrayVec<usize, MOST_EXPECTED> = ArrayVec::new();
+        let mut issues: ArrayVec<Option<usize>, MOST_EXPECTED> = ArrayVec::new();
         for key in keys {
+            if issues.len() < MOST_EXPECTED {
+                issues.push(self.number_of_issue(key));
+            }
+        }
+        let mut places: ArrayVec<usize, MOST_EXPECTED> = ArrayVec::new();
+        for at in 0..issues.len().min(keys.len()) {
             if places.len() < MOST_EXPECTED {
-                places.push(self.place_of(key));
+                places.push(self.place_of(&keys[at], issues[at]));
             }
         }
         for at in 0..places.len().min(keys.len()) {

@@ -2,6 +2,7 @@
 use cns_units::Cusip;
 use std::alloc::Allocator;
 use std::cell::Cell;
+use std::cmp::Ordering;
 use std::collections::HashMap;
 use std::hash::{BuildHasherDefault, FoldHasher};
 
@@ -11,16 +12,18 @@ use std::hash::{BuildHasherDefault, FoldHasher};
 #[derive(Drop)]
 pub(crate) struct Issues<A: Allocator + Drop> {
     numbers: HashMap<Cusip, usize, BuildHasherDefault<FoldHasher>, A>,
+    // The issues at their numbers.
+    issues: Vec<Cusip, A>,
     // What was asked for last: both sides of a trade ask for one issue.
     last: Cell<Option<(Cusip, usize)>>,
 }
 
 impl<A: Allocator + Drop> Issues<A> {
-    /// No issue has a number yet. It takes no memory.
-    pub(crate) fn new(alloc: A) -> Issues<A> {
-        Issues {
-            numbers: HashMap::new(alloc),
-            last: Cell::new(None),
+    /// How the issue with a number compares with another; it counts as above where there is none.
+    pub(crate) fn compared(&self, number: u16, issue: &Cusip) -> Ordering {
+        match self.issues.as_slice().get(usize::from(number)) {
+            Some(numbered) => numbered.cmp(issue),
+            None => Ordering::Greater,
         }
     }
 
@@ -43,15 +46,28 @@ impl<A: Allocator + Drop> Issues<A> {
 }
 
 impl<A: Allocator + Drop + Clone> Issues<A> {
+    /// No issue has a number yet. None where the allocator could not be copied.
+    pub(crate) fn new(alloc: &A) -> Option<Issues<A>> {
+        Some(Issues {
+            numbers: HashMap::new(alloc.clone().ok()?),
+            issues: Vec::new(alloc.clone().ok()?),
+            last: Cell::new(None),
+        })
+    }
+
     /// The issue's number, a new one where it has none yet; none where memory is refused.
     pub(crate) fn enter(&mut self, issue: &Cusip) -> Option<usize> {
         if let Some(number) = self.number(issue) {
             return Some(number);
         }
-        let number = self.numbers.len();
+        let number = self.issues.len();
+        self.issues.push(*issue).ok()?;
         match self.numbers.insert(*issue, number) {
             Ok(_) => Some(number),
-            Err(_) => None,
+            Err(_) => {
+                self.issues.pop();
+                None
+            }
         }
     }
 }
@@ -74,7 +90,7 @@ pub(crate) fn entered_in<A: Allocator + Drop + Clone>(
     issue: &Cusip,
 ) -> Option<usize> {
     if issues.is_none() {
-        *issues = Some(Issues::new(alloc.clone().ok()?));
+        *issues = Issues::new(alloc);
     }
     match issues {
         Some(issues) => issues.enter(issue),

@@ -106,6 +106,49 @@ fn rows_come_in_the_order_of_keys(rt: HostRuntime) -> Result<(), Fail> {
     Ok(())
 }
 
+const ISSUES: [&[u8]; 6] = [
+    b"037833100",
+    b"17275R102",
+    b"38259P508",
+    b"594918104",
+    b"68389X105",
+    b"88160R101",
+];
+
+fn key_in(issue: usize) -> Result<Key, Fail> {
+    let bytes = ISSUES.get(issue).copied().unwrap_or(b"");
+    Ok(Key {
+        account: Account::new(1)?,
+        issue: Cusip::parse(bytes)?,
+    })
+}
+
+// Each issue is booked after another or the same was asked for, whose gap is then remembered.
+#[test]
+fn issues_come_in_order_however_they_entered(rt: HostRuntime) -> Result<(), Fail> {
+    let orders = [
+        [(0, 0), (1, 1), (2, 2), (3, 3), (4, 4), (5, 5)],
+        [(5, 5), (4, 4), (3, 3), (2, 2), (1, 1), (0, 0)],
+        [(2, 2), (0, 5), (5, 0), (1, 3), (4, 1), (3, 4)],
+        [(1, 4), (4, 1), (0, 3), (3, 0), (2, 5), (5, 2)],
+    ];
+    for order in orders {
+        let mut positions = Flat::new(rt.alloc());
+        for (asked, issue) in order {
+            let _ = positions.get(key_in(asked)?);
+            book(&mut positions, &key_in(issue)?, 1, 0)?;
+        }
+        let mut after = None;
+        for issue in 0..6 {
+            let next = positions.next_row(after).map(|row| row.0);
+            assert_eq!(rt; next, Some(key_in(issue)?));
+            after = next;
+        }
+        assert_eq!(rt; positions.next_row(after), None);
+    }
+    Ok(())
+}
+
 #[test]
 fn a_booking_stands_is_closed_and_is_rebuilt(rt: HostRuntime) -> Result<(), Fail> {
     let mut positions = Flat::new(rt.alloc());

@@ -1,5 +1,5 @@
 -- The sum over a CUSIP's characters, one after another.
-use Rattle.std.proofs.Common.{◌≡◌, ℕ, ◌+◌, ◌<◌, Bool, not, List, length, get_or, drop, Option, Some, None, refl, sym, ap, ◌∙◌, add-one, add-zero, add_assoc, drop-cons, ◌≤◌}
+use Rattle.std.proofs.Common.{◌≡◌, ℕ, ◌+◌, ◌<◌, Bool, not, List, length, get_or, drop, Option, Some, None, option_map, refl, sym, ap, ◌∙◌, add-one, add-zero, add_assoc, drop-cons, ◌≤◌}
 use Rattle.std.proofs.lemmas.List.{drop_all}
 use Rattle.cns_units.specs.Cusip.{character_value, weight, plus, after_value, sum_of}
 
@@ -12,12 +12,23 @@ sum-at : (doubled : Bool) (bs : List ℕ) (i : ℕ) → i < length bs
 unfolding sum_of
 sum-at doubled bs i lt = rw (add-one, drop-cons bs i 0 lt) refl
 
-pub sum-step : (doubled : Bool) (bs : List ℕ) (i sum v : ℕ) (whole : Option ℕ) → i < length bs → plus sum (sum_of doubled (drop i bs)) ≡ whole → Some v ≡ character_value (get_or bs i 0)
-    → plus (sum + weight doubled v) (sum_of (not doubled) (drop (i + 1) bs)) ≡ whole
-sum-step doubled bs i sum v whole lt inv value = sym (plus-plus sum (weight doubled v) (sum_of (not doubled) (drop (i + 1) bs))) ∙ ap (plus sum) (sym (rw (← value) at (sum-at doubled bs i lt))) ∙ inv
+-- what a character adds
+adds : (doubled : Bool) (o rest : Option ℕ) (w : ℕ) → Some w ≡ option_map (weight doubled) o → after_value doubled o rest ≡ plus w rest
+adds doubled None rest w is = cc
+adds doubled (Some v) rest w is = ap (λ n. plus n rest) (cc (sym is))
 
-pub sum-stop : (doubled : Bool) (bs : List ℕ) (i sum : ℕ) (whole : Option ℕ) → i < length bs → plus sum (sum_of doubled (drop i bs)) ≡ whole → None ≡ character_value (get_or bs i 0) → None ≡ whole
-sum-stop doubled bs i sum whole lt inv value = ap (plus sum) (sym (rw (← value) at (sum-at doubled bs i lt))) ∙ inv
+stops : (doubled : Bool) (o rest : Option ℕ) → None ≡ option_map (weight doubled) o → after_value doubled o rest ≡ None
+stops doubled None rest is = refl
+stops doubled (Some v) rest is = cc
+
+pub sum-step : (doubled : Bool) (bs : List ℕ) (i sum w : ℕ) (whole : Option ℕ) → i < length bs → plus sum (sum_of doubled (drop i bs)) ≡ whole → Some w ≡ option_map (weight doubled) (character_value (get_or bs i 0))
+    → plus (sum + w) (sum_of (not doubled) (drop (i + 1) bs)) ≡ whole
+sum-step doubled bs i sum w whole lt inv is =
+    let next = sum_of (not doubled) (drop (i + 1) bs) in
+    sym (plus-plus sum w next) ∙ ap (plus sum) (sym (sum-at doubled bs i lt ∙ adds doubled _ next w is)) ∙ inv
+
+pub sum-stop : (doubled : Bool) (bs : List ℕ) (i sum : ℕ) (whole : Option ℕ) → i < length bs → plus sum (sum_of doubled (drop i bs)) ≡ whole → None ≡ option_map (weight doubled) (character_value (get_or bs i 0)) → None ≡ whole
+sum-stop doubled bs i sum whole lt inv is = ap (plus sum) (sym (sum-at doubled bs i lt ∙ stops doubled _ _ is)) ∙ inv
 
 pub sum-all : (doubled : Bool) (bs : List ℕ) (i sum : ℕ) (whole : Option ℕ) → length bs ≤ i → plus sum (sum_of doubled (drop i bs)) ≡ whole → Some sum ≡ whole
 unfolding sum_of

@@ -12,7 +12,7 @@ use Rattle.cns_units.specs.declared.fault.UnitFault.TheVariants as fault
 use Rattle.std.proofs.lemmas.Grind.{common_steps}
 use Rattle.std.specs.Prelude.{if◌then◌else◌, slice_index}
 use Rattle.cns_units.specs.Cusip.{IsCusip, after_value, character_value, check_digit, is_digit, last_fault, sum_of}
-use Rattle.cns_units.proofs.CusipValues.{and_left}
+use Rattle.cns_units.proofs.CusipWeights.{and_left}
 
 -- a comparison, and then one that ties
 then_end : (o : Ordering) → ordering_then o Equal ≡ o

@@ -1,42 +1,75 @@
--- The tables of weights have what the definition says of each value.
-use Rattle.std.proofs.Common.{◌≡◌, ◌∙◌, ap, refl, ℕ, zero, suc, ◌+◌, ◌<◌, ◌≤◌, Bool, true, false, ◌&&◌, eqb, List, [], ◌∷◌, length, get_or, arith}
-use Rattle.std.proofs.lemmas.Bool.{eqb-true}
-use Rattle.cns_units.specs.Cusip.{weight}
-use Rattle.cns_units.proofs.CusipValues.{and_left, and_right}
+-- The tables of weights have what the definition says of each character.
+use Rattle.std.proofs.Common.{◌≡◌, ◌∙◌, sym, ap, refl, ℕ, zero, suc, ◌+◌, ◌<◌, ◌%◌, Bool, true, false, ◌&&◌, cond, eqb, List, [], ◌∷◌, length, get_or, Option, Some, None, option_map, arith}
+use Rattle.std.proofs.lemmas.Bool.{eqb-true, ne_eqb}
+use Rattle.cns_units.specs.Cusip.{character_value, weight}
 
--- what the values add as they are, and doubled
+-- the tables, from the character 35 on
 abbrev pub plain : List ℕ
-plain = 0 ∷ 1 ∷ 2 ∷ 3 ∷ 4 ∷ 5 ∷ 6 ∷ 7 ∷ 8 ∷ 9 ∷ 1 ∷ 2 ∷ 3 ∷ 4 ∷ 5 ∷ 6 ∷ 7 ∷ 8 ∷ 9 ∷ 10 ∷ 2 ∷ 3 ∷ 4 ∷ 5 ∷ 6 ∷ 7 ∷ 8 ∷ 9 ∷ 10 ∷ 11 ∷ 3 ∷ 4 ∷ 5 ∷ 6 ∷ 7 ∷ 8 ∷ 9 ∷ 10 ∷ 11 ∷ []
+plain = 11 ∷ 255 ∷ 255 ∷ 255 ∷ 255 ∷ 255 ∷ 255 ∷ 9 ∷ 255 ∷ 255 ∷ 255 ∷ 255 ∷ 255 ∷ 0 ∷ 1 ∷ 2 ∷ 3 ∷ 4 ∷ 5 ∷ 6 ∷ 7 ∷ 8 ∷ 9 ∷ 255 ∷ 255 ∷ 255 ∷ 255 ∷ 255 ∷ 255 ∷ 10 ∷ 1 ∷ 2 ∷ 3 ∷ 4 ∷ 5 ∷ 6 ∷ 7 ∷ 8 ∷ 9 ∷ 10 ∷ 2 ∷ 3 ∷ 4 ∷ 5 ∷ 6 ∷ 7 ∷ 8 ∷ 9 ∷ 10 ∷ 11 ∷ 3 ∷ 4 ∷ 5 ∷ 6 ∷ 7 ∷ 8 ∷ []
 
 abbrev pub twice : List ℕ
-twice = 0 ∷ 2 ∷ 4 ∷ 6 ∷ 8 ∷ 1 ∷ 3 ∷ 5 ∷ 7 ∷ 9 ∷ 2 ∷ 4 ∷ 6 ∷ 8 ∷ 10 ∷ 3 ∷ 5 ∷ 7 ∷ 9 ∷ 11 ∷ 4 ∷ 6 ∷ 8 ∷ 10 ∷ 12 ∷ 5 ∷ 7 ∷ 9 ∷ 11 ∷ 13 ∷ 6 ∷ 8 ∷ 10 ∷ 12 ∷ 14 ∷ 7 ∷ 9 ∷ 11 ∷ 13 ∷ []
+twice = 13 ∷ 255 ∷ 255 ∷ 255 ∷ 255 ∷ 255 ∷ 255 ∷ 9 ∷ 255 ∷ 255 ∷ 255 ∷ 255 ∷ 255 ∷ 0 ∷ 2 ∷ 4 ∷ 6 ∷ 8 ∷ 1 ∷ 3 ∷ 5 ∷ 7 ∷ 9 ∷ 255 ∷ 255 ∷ 255 ∷ 255 ∷ 255 ∷ 255 ∷ 11 ∷ 2 ∷ 4 ∷ 6 ∷ 8 ∷ 10 ∷ 3 ∷ 5 ∷ 7 ∷ 9 ∷ 11 ∷ 4 ∷ 6 ∷ 8 ∷ 10 ∷ 12 ∷ 5 ∷ 7 ∷ 9 ∷ 11 ∷ 13 ∷ 6 ∷ 8 ∷ 10 ∷ 12 ∷ 14 ∷ 7 ∷ []
 
--- whether entries are right, of which the first is that of a value
+-- what a character adds, if it has a value
+abbrev pub weighed : Bool → ℕ → Option ℕ
+weighed doubled c = option_map (weight doubled) (character_value c)
+
+-- what an entry of a table says
+abbrev pub told : ℕ → Option ℕ
+told w = cond (eqb w 255) None (Some w)
+
+abbrev same : Option ℕ → Option ℕ → Bool
+same None None = true
+same None (Some b) = false
+same (Some a) None = false
+same (Some a) (Some b) = eqb a b
+
+same-true : (a b : Option ℕ) → same a b ≡ true → a ≡ b
+same-true None None h = refl
+same-true None (Some b) h = cc
+same-true (Some a) None h = cc
+same-true (Some a) (Some b) h = ap Some (eqb-true a b h)
+
+-- the first of two tests that hold together
+pub and_left : (a b : Bool) → (a && b) ≡ true → a ≡ true
+and_left true b h = refl
+and_left false b h = h
+
+pub and_right : (a b : Bool) → (a && b) ≡ true → b ≡ true
+and_right true b h = h
+and_right false b h = cc
+
+-- whether entries are right, of which the first is that of a character
 abbrev agree : Bool → List ℕ → ℕ → Bool
-agree doubled [] v = true
-agree doubled (w ∷ ws) v = eqb w (weight doubled v) && agree doubled ws (suc v)
+agree doubled [] c = true
+agree doubled (w ∷ ws) c = same (told w) (weighed doubled c) && agree doubled ws (suc c)
 
-agree_at : (doubled : Bool) (ws : List ℕ) (v p : ℕ) → agree doubled ws v ≡ true → p < length ws → get_or ws p 0 ≡ weight doubled (p + v)
-agree_at doubled [] v p h lt = absurd (omega (arith, lt))
-agree_at doubled (w ∷ ws) v zero h lt =
-    let first : v ≡ 0 + v = omega arith in
-    eqb-true w (weight doubled v) (and_left _ _ h) ∙ ap (weight doubled) first
-agree_at doubled (w ∷ ws) v (suc p) h lt =
-    let same_place : p + suc v ≡ suc p + v = omega arith in
-    agree_at doubled ws (suc v) p (and_right _ _ h) (omega (arith, lt)) ∙ ap (weight doubled) same_place
+agree_at : (doubled : Bool) (ws : List ℕ) (c p : ℕ) → agree doubled ws c ≡ true → p < length ws → told (get_or ws p 0) ≡ weighed doubled (p + c)
+agree_at doubled [] c p h lt = absurd (omega (arith, lt))
+agree_at doubled (w ∷ ws) c zero h lt =
+    let first : c ≡ 0 + c = omega arith in
+    same-true (told w) (weighed doubled c) (and_left _ _ h) ∙ ap (weighed doubled) first
+agree_at doubled (w ∷ ws) c (suc p) h lt =
+    let same_place : p + suc c ≡ suc p + c = omega arith in
+    agree_at doubled ws (suc c) p (and_right _ _ h) (omega (arith, lt)) ∙ ap (weighed doubled) same_place
 
--- the entry of a value
-pub plain_weight : (v : ℕ) → v ≤ 38 → get_or plain v 0 ≡ weight false v
-plain_weight v le =
-    let here : v + 0 ≡ v = omega arith in
-    agree_at false plain 0 v refl (omega (arith, le)) ∙ ap (weight false) here
+-- the table of one kind of weights
+abbrev pub table : Bool → List ℕ
+table true = twice
+table false = plain
 
-pub doubled_weight : (v : ℕ) → v ≤ 38 → get_or twice v 0 ≡ weight true v
-doubled_weight v le =
-    let here : v + 0 ≡ v = omega arith in
-    agree_at true twice 0 v refl (omega (arith, le)) ∙ ap (weight true) here
+-- the entry of a character
+entry : (doubled : Bool) (c p : ℕ) → p ≡ (c + 221) % 256 → c < 256 → p < 56 → told (get_or (table doubled) p 0) ≡ weighed doubled c
+entry true c p is small lt =
+    let here : p + 35 ≡ c = omega (arith, is, small, lt) in
+    agree_at true twice 35 p refl lt ∙ ap (weighed true) here
+entry false c p is small lt =
+    let here : p + 35 ≡ c = omega (arith, is, small, lt) in
+    agree_at false plain 35 p refl lt ∙ ap (weighed false) here
 
--- no value adds more
-pub small_weight : (doubled : Bool) (v : ℕ) → v ≤ 38 → weight doubled v ≤ 20
-small_weight false v le = omega (arith, le)
-small_weight true v le = omega (arith, le)
+-- a character without a value, and one with a value
+pub no_weight : (doubled : Bool) (c p w : ℕ) → p ≡ (c + 221) % 256 → c < 256 → p < 56 → w ≡ get_or (table doubled) p 0 → w ≡ 255 → None ≡ weighed doubled c
+no_weight doubled c p w is small lt read none = sym (ap told (sym read ∙ none)) ∙ entry doubled c p is small lt
+
+pub some_weight : (doubled : Bool) (c p w : ℕ) → p ≡ (c + 221) % 256 → c < 256 → p < 56 → w ≡ get_or (table doubled) p 0 → (w ≡ 255 → ⊥) → Some w ≡ weighed doubled c
+some_weight doubled c p w is small lt read some = sym (ap (λ b. cond b None (Some w)) (ne_eqb w 255 some)) ∙ ap told read ∙ entry doubled c p is small lt

@@ -1,6 +1,5 @@
 pub mod OutputLemmas
 pub mod CusipLemmas
-pub mod CusipValues
 pub mod CentsLemmas
 pub mod DayLemmas
 pub mod CusipOrder

@@ -1,4 +1,4 @@
-ghost use Rattle.std.specs.Prelude.{◌≡◌, ℕ, ◌+◌, ◌≤◌, ◌*◌, List, length, take, Bool, Option};
+ghost use Rattle.std.specs.Prelude.{◌≡◌, ℕ, ◌+◌, ◌≤◌, ◌*◌, List, length, take, option_map, Bool, Option, IfSome};
 ghost use Rattle.std.proofs.Common.{rules};
 ghost use Rattle.std.specs.Cmp.{partial_order_from_own_ties};
 ghost use Rattle.std.specs.Cmp.Lexicographic.{slice_cmp};
@@ -29,58 +29,47 @@ impl Model for Cusip {
     ghost inverse = { λ bytes. record { text = bytes } };
 }
 
-// What stands in `VALUES` for a character that has no value.
+// What stands in the tables for a character that has no value.
 const NONE: u8 = 255;
 
-// The value of each character from `#` to `Z`. Digits and letters follow one another in no order that a processor could
-// guess, so a table is faster than branches.
+// What each character from `#` to `Z` adds to the sum: the digits of its value, and of twice its value. Digits and
+// letters follow one another in no order that a processor could guess, so tables are faster than branches.
 #[rattlefmt::skip]
-const VALUES: [u8; 56] = [
-    38, NONE, NONE, NONE, NONE, NONE, NONE, 36, NONE, NONE, NONE, NONE, NONE,
+const PLAIN: [u8; 56] = [
+    11, NONE, NONE, NONE, NONE, NONE, NONE, 9, NONE, NONE, NONE, NONE, NONE,
     0, 1, 2, 3, 4, 5, 6, 7, 8, 9,
-    NONE, NONE, NONE, NONE, NONE, NONE, 37,
-    10, 11, 12, 13, 14, 15, 16, 17, 18, 19, 20, 21, 22,
-    23, 24, 25, 26, 27, 28, 29, 30, 31, 32, 33, 34, 35,
+    NONE, NONE, NONE, NONE, NONE, NONE, 10,
+    1, 2, 3, 4, 5, 6, 7, 8, 9, 10, 2, 3, 4,
+    5, 6, 7, 8, 9, 10, 11, 3, 4, 5, 6, 7, 8,
 ];
 
-fn value_of(character: u8) -> Option<u8>
-    ensures { result ≡ character_value character }
+#[rattlefmt::skip]
+const DOUBLED: [u8; 56] = [
+    13, NONE, NONE, NONE, NONE, NONE, NONE, 9, NONE, NONE, NONE, NONE, NONE,
+    0, 2, 4, 6, 8, 1, 3, 5, 7, 9,
+    NONE, NONE, NONE, NONE, NONE, NONE, 11,
+    2, 4, 6, 8, 10, 3, 5, 7, 9, 11, 4, 6, 8,
+    10, 12, 5, 7, 9, 11, 13, 6, 8, 10, 12, 14, 7,
+];
+
+// What a character adds to the sum; nothing where it has no value.
+fn weight_of(is_doubled: bool, character: u8) -> Option<u32>
+    ensures exact { result ≡ option_map (weight is_doubled) (character_value character) }
+    ensures small { IfSome result (λ w. w ≤ 255) }
 {
-    let place = character.wrapping_sub(b'#');
+    let place = usize::from(character.wrapping_sub(b'#'));
     if place >= 56 {
         return None;
     }
-    let value = VALUES[usize::from(place)];
-    if value == NONE { None } else { Some(value) }
-}
-
-// What each value adds to the sum: its digits, and its digits where it is doubled.
-#[rattlefmt::skip]
-const PLAIN: [u8; 39] = [
-    0, 1, 2, 3, 4, 5, 6, 7, 8, 9,
-    1, 2, 3, 4, 5, 6, 7, 8, 9, 10,
-    2, 3, 4, 5, 6, 7, 8, 9, 10, 11,
-    3, 4, 5, 6, 7, 8, 9, 10, 11,
-];
-
-#[rattlefmt::skip]
-const DOUBLED: [u8; 39] = [
-    0, 2, 4, 6, 8, 1, 3, 5, 7, 9,
-    2, 4, 6, 8, 10, 3, 5, 7, 9, 11,
-    4, 6, 8, 10, 12, 5, 7, 9, 11, 13,
-    6, 8, 10, 12, 14, 7, 9, 11, 13,
-];
-
-fn weight_of(is_doubled: bool, value: u8) -> u32
-    requires { value ≤ 38 }
-    ensures exact { result ≡ weight is_doubled value }
-    ensures small { result ≤ 20 }
-{
-    let place = usize::from(value);
-    if is_doubled {
-        u32::from(DOUBLED[place])
+    let weight = if is_doubled {
+        DOUBLED[place]
     } else {
-        u32::from(PLAIN[place])
+        PLAIN[place]
+    };
+    if weight == NONE {
+        None
+    } else {
+        Some(u32::from(weight))
     }
 }
 
@@ -92,8 +81,7 @@ fn body_sum(body: &[u8]) -> Option<u32>
     let mut sum = 0;
     let mut is_doubled = false;
     for character in body {
-        let value = value_of(*character)?;
-        sum += weight_of(is_doubled, value);
+        sum += weight_of(is_doubled, *character)?;
         is_doubled = !is_doubled;
     }
     Some(sum)

@@ -1,12 +1,9 @@
-use Rattle.std.proofs.Common.{rules, ◌≡◌, ◌∙◌, sym, ap, subst, ℕ, ◌<◌, List, length, get_or, Result, Ok, Err, IfOk, IfErr, true, arith}
-use Rattle.std.specs.Option.{option_map_or}
+use Rattle.std.proofs.Common.{rules, ◌≡◌, ◌∙◌, sym, subst, ℕ, ◌<◌, List, length, get_or, Result, Ok, Err, IfOk, IfErr, true, arith}
 use Rattle.std.specs.declared.cmp.Ordering.TheVariants.{Less, Equal, Greater}
 use Rattle.std.specs.List.{HoldsAt}
 use Rattle.std.specs.List.Sorted.{IsBinarySearchResult, IsPartitionPoint, IsSearchInRange}
 use Rattle.std.specs.FinMap.{is_sorted}
 use Rattle.std.proofs.lemmas.Fn.{always_returns_same}
-use Rattle.std.proofs.lemmas.List.{get_or_default}
-use Rattle.std.proofs.lemmas.Option.{slice_get-get_or}
 use Rattle.cns_terms.specs.declared.holding.Key.{Key}
 use Rattle.cns_terms.specs.declared.holding.Holding.{Holding}
 use Rattle.cns_terms.specs.Keys.{key_cmp}
@@ -14,16 +11,12 @@ use Rattle.cns_terms.proofs.Keys.{keys_total}
 use Rattle.cns_positions.specs.Rows.{Rows}
 use Rattle.cns_positions.specs.Ordered.{IsOrder, compared_at, in_order, no_row}
 use Rattle.cns_positions.proofs.Puts.{comparisons_rise}
-use Rattle.cns_positions.proofs.Ordered.{ordered_at, ordered_count}
+use Rattle.cns_positions.proofs.Ordered.{compared_ordered, ordered_count}
 use Rattle.cns_positions.proofs.account.rank.Goals as goal
 
 module _ (rows : Rows) (order : List ℕ) (k : Key) (h : IsOrder (length rows) order) where
-  -- what the search compares is the key of the row at a rank
   compared : (i : ℕ) (d : Key × Holding) (e : ℕ) → i < length order → compared_at rows k (get_or order i e) ≡ key_cmp (get_or (in_order rows order) i d).0 k
-  compared i d e lt =
-      ap (compared_at rows k) (get_or_default order i e 0 lt)
-      ∙ ap (λ o. option_map_or (λ (r : Key × Holding). key_cmp r.0 k) o Greater) (slice_get-get_or rows (get_or order i 0) no_row (h.within i lt))
-      ∙ sym (ap (λ (r : Key × Holding). key_cmp r.0 k) (ordered_at rows order i d lt))
+  compared = compared_ordered rows order h k
 
   found : (r : Result ℕ ℕ) → IsSearchInRange r (length order) → IsBinarySearchResult (compared_at rows k) order r → IfOk r (HoldsAt (λ (e : Key × Holding). key_cmp e.0 k ≡ Equal) (in_order rows order))
   found (Ok i) lt at = λ d. sym (compared i d 0 lt) ∙ at 0

@@ -1,18 +1,22 @@
-use Rattle.std.proofs.Common.{◌∙◌, sym, ap, get_or}
-use Rattle.cns_units.specs.Cusip.{weight}
-use Rattle.cns_units.proofs.CusipWeights.{plain, twice, plain_weight, doubled_weight, small_weight}
+use Rattle.std.proofs.Common.{◌≡◌, ◌∙◌, ◌<◌, sym, ap, get_or, Some}
+use Rattle.cns_units.proofs.CusipWeights.{table, no_weight, some_weight}
 use Rattle.cns_units.proofs.cusip.weight_of.Goals as goal
+use Rattle.cns_units.proofs.cusip.weight_of.Goals.{then-is_doubled, else-is_doubled}
 
-pub returns-then-is_doubled-clause-exact : goal.returns-then-is_doubled-clause-exact
-returns-then-is_doubled-clause-exact c =
-    c.from.ensures ∙ ap (λ p. get_or twice p 0) c.from-place.ensures ∙ doubled_weight c.args.value c.requires ∙ ap (λ b. weight b c.args.value) (sym c.if-is_doubled.true)
+pub returns-then-weight-clause-exact : goal.returns-then-weight-clause-exact
+returns-then-weight-clause-exact c =
+    let place : c.from-place.result < 56 = c.if-place-ge56.false in
+    let read : c.if-is_doubled.weight ≡ get_or (table c.args.is_doubled) c.from-place.result 0 = elim c.if-is_doubled.branch [
+      | then-is_doubled w ↦ w.weight-is ∙ ap (λ b. get_or (table b) c.from-place.result 0) (sym w.if-is_doubled.true)
+      | else-is_doubled w ↦ w.weight-is ∙ ap (λ b. get_or (table b) c.from-place.result 0) (sym w.if-is_doubled.false)
+    ] in
+    no_weight c.args.is_doubled c.args.character c.from-place.result c.if-is_doubled.weight c.from-place.ensures c.ranges.character.fits place read c.if-weight.true
 
-pub returns-then-is_doubled-clause-small : goal.returns-then-is_doubled-clause-small
-returns-then-is_doubled-clause-small c = rw (returns-then-is_doubled-clause-exact c) (small_weight c.args.is_doubled c.args.value c.requires)
-
-pub returns-else-is_doubled-clause-exact : goal.returns-else-is_doubled-clause-exact
-returns-else-is_doubled-clause-exact c =
-    c.from-else-is_doubled.ensures ∙ ap (λ p. get_or plain p 0) c.from-place.ensures ∙ plain_weight c.args.value c.requires ∙ ap (λ b. weight b c.args.value) (sym c.if-is_doubled.false)
-
-pub returns-else-is_doubled-clause-small : goal.returns-else-is_doubled-clause-small
-returns-else-is_doubled-clause-small c = rw (returns-else-is_doubled-clause-exact c) (small_weight c.args.is_doubled c.args.value c.requires)
+pub returns-else-weight-clause-exact : goal.returns-else-weight-clause-exact
+returns-else-weight-clause-exact c =
+    let place : c.from-place.result < 56 = c.if-place-ge56.false in
+    let read : c.if-is_doubled.weight ≡ get_or (table c.args.is_doubled) c.from-place.result 0 = elim c.if-is_doubled.branch [
+      | then-is_doubled w ↦ w.weight-is ∙ ap (λ b. get_or (table b) c.from-place.result 0) (sym w.if-is_doubled.true)
+      | else-is_doubled w ↦ w.weight-is ∙ ap (λ b. get_or (table b) c.from-place.result 0) (sym w.if-is_doubled.false)
+    ] in
+    ap Some c.from.ensures ∙ some_weight c.args.is_doubled c.args.character c.from-place.result c.if-is_doubled.weight c.from-place.ensures c.ranges.character.fits place read c.if-weight.false

@@ -11,14 +11,14 @@ within g c = subst (λ n. c.args.at ≤ n) (ordered_count c.self.inside.rows.ite
 -- the order with the new place
 placed : (g : _) (c : goal.After-set g) → c.insert.new.self.items ≡ insert c.self.inside.order.items c.args.at (length c.self.inside.rows.items)
 placed g c =
-    let count : c.len-place.result ≡ length c.self.inside.rows.items = omega arith in
+    let count : c.in-Ok.entry ≡ length c.self.inside.rows.items = omega arith in
     c.in-Ok-insert.ensures.items ∙ ap (insert c.self.inside.order.items c.args.at) count
 
 pub invariant_of-self-2 : goal.invariant_of-self-2
-invariant_of-self-2 g c = rw (c.in-Ok.ensures.items, placed g c) (inserted_order c.self.inside.rows.items c.self.inside.order.items c.self.invariant c.args.at (within g c) c.args.row.now)
+invariant_of-self-2 g c = rw (c.in-Ok-push.ensures.items, placed g c) (inserted_order c.self.inside.rows.items c.self.inside.order.items c.self.invariant c.args.at (within g c) c.args.row.now)
 
 pub returns-clause-ok : goal.returns-clause-ok
 returns-clause-ok g c =
-    (λ i. in_order (c.in-Ok.ensures.items i) (placed g c i))
+    (λ i. in_order (c.in-Ok-push.ensures.items i) (placed g c i))
     ∙ inserted_ordered c.self.inside.rows.items c.self.inside.order.items c.self.invariant c.args.at (within g c) c.args.row.now
     ∙ ap (λ es. insert es c.args.at c.args.row.now) c.self.view_is

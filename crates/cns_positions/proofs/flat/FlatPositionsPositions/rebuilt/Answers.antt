@@ -6,7 +6,7 @@ use Rattle.cns_terms.specs.declared.holding.Holding.{Holding}
 use Rattle.cns_terms.specs.Keys.{key_cmp}
 use Rattle.cns_terms.proofs.Keys.{keys_total}
 use Rattle.cns_positions.specs.Rows.{Rows}
-use Rattle.cns_positions.specs.Flat.{joined}
+use Rattle.cns_positions.specs.Flat.{joined, keys_of}
 use Rattle.cns_positions.proofs.Puts.{below_later}
 use Rattle.cns_positions.proofs.Appended.{sorted_take}
 use Rattle.cns_positions.proofs.Lists.{accounts_rise}
@@ -33,4 +33,10 @@ loop-row-preserved g c = record {
   accounts = c.in_ok-append.ensures.accounts;
   joined = c.in_ok-append.ensures.joined ∙ more (joined c.loop-row.accounts.items) c.args.given.now c.loop-row.row-index c.row-item.result c.loop-row.invariant.joined c.loop-row-test.true c.row-item.is;
   last = λ d lt. omega (arith, c.in_ok-append.ensures.len, rising c.args.given.now c.loop-row.row-index c.row-item.result d c.requires c.row-item.is lt);
+}
+
+pub invariant_of-result : goal.invariant_of-result
+invariant_of-result g c = record {
+  accounts = c.loop-row.invariant.accounts;
+  entered = λ k none. absurd (omega (arith, none.1, ap (λ es. length (keys_of es)) c.new.ensures));
 }
