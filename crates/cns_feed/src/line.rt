@@ -60,6 +60,7 @@ fn reference(row: &ByteRecord, place: usize) -> Result<u64, LineFault>
     Ok(number)
 }
 
+// The fields of a trade are read in line: the calls would cost as much as short numbers do.
 #[inline(always)]
 fn shares(row: &ByteRecord, place: usize) -> Result<Shares, LineFault>
     ensures { result ≡ shares_at (fields_of row.now) place }
@@ -143,6 +144,7 @@ fn price_of(row: &ByteRecord) -> Result<Command, LineFault>
     Ok(Command::Activity(Activity::Price(listing)))
 }
 
+// Apart from the loop over records, in which what a trade is read as would be put together piece by piece.
 #[inline(never)]
 #[tactic(auto, unfolding(crate::specs::Line::trade_line))]
 fn trade_of(row: &ByteRecord) -> Result<Command, LineFault>

@@ -284,7 +284,7 @@ impl<A: Allocator + Drop> AccountRows<A> {
     }
 
     /// The first row above a key that is not zeros, of the account with that number. A walk over the rows remembers
-    /// where it stood, so that its next step begins there.
+    /// where it stood, so that its next step begins there; the step that begins an account reads all of its rows once.
     pub(crate) fn first_held(
         &self,
         walked: &Cell<usize>,
@@ -378,6 +378,7 @@ impl<A: Allocator + Drop + Clone> AccountRows<A> {
         ensures err { OnErr result (self.new ≡ self.old) }
     {
         let place = self.rows.len();
+        // An account has a row for an issue at most, and a history lists no more issues than a `u32` counts.
         let Ok(entry) = u32::try_from(place) else {
             return Err(NoMemory);
         };
