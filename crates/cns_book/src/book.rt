@@ -135,10 +135,10 @@ impl<P: Positions<A>, A: Allocator + Drop + Clone> Book<P, A> {
         self.counts[worker.value() as usize - 1]
     }
 
-    /// Tells the book which commands will be taken next. It changes nothing, and no reply depends on it: the book looks
-    /// where the positions stand that they will ask for, so that the waits for them fall together.
-    pub fn expect<E>(&self, commands: &[Result<Command, E>]) {
-        self.parts.expect(commands);
+    /// Tells the book at which keys the next commands will ask for holdings, so that it may look for them together.
+    /// It changes nothing, and no reply depends on it.
+    pub fn prefetch(&self, keys: &[Key]) {
+        self.parts.prefetch(keys);
     }
 
     /// Takes a command: answers it as the machine does, and enters it and its reply into the history.

@@ -27,7 +27,6 @@ use std::alloc::Allocator;
 use std::marker::Model;
 use std::sync::Arc;
 
-mod ahead;
 mod closing;
 mod listing;
 mod trading;
@@ -102,6 +101,11 @@ impl<P: Positions<A>, A: Allocator + Drop + Clone> Parts<P, A> {
         ensures { (L : List Activity) → Follows L self.now → result ≡ price_listed (journal self.now.opening L) issue }
     {
         self.prices.price(issue)
+    }
+
+    /// Tells the positions which keys will be asked for next.
+    pub fn prefetch(&self, keys: &[Key]) {
+        self.positions.prefetch(keys);
     }
 
     // Whether the account is there: the corporation's always is.

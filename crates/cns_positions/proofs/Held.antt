@@ -1,98 +1,150 @@
 -- The rows that aren't zeros, above a key.
-use Rattle.std.proofs.Common.{◌≡◌, ◌∙◌, sym, ap, refl, ℕ, zero, suc, ◌<◌, Bool, true, false, ◌&&◌, cond, [], ◌∷◌, ◌++◌, ◌+◌, ◌≤◌, inl, inr, length, get_or, take, Option, Some, None, arith}
-use Rattle.std.specs.Ordering.{is_lt, ordering_reverse}
+use Rattle.std.proofs.Common.{◌≡◌, ◌∙◌, sym, ap, refl, Bool, true, false, ◌&&◌, cond, leb, ℕ, ◌+◌, ◌<◌, ◌≤◌, List, [], ◌∷◌, ◌++◌, filter, length, length-append, get_or, take, drop, subst, Option, Some, None, MatchOption, Ordering}
+use Rattle.std.specs.Ordering.{is_le, is_lt, ordering_index, ordering_reverse}
 use Rattle.std.specs.declared.cmp.Ordering.TheVariants.{Less, Equal, Greater}
+use Rattle.std.specs.List.Sorted.{IsPartitionedBy, IsPartitionPoint}
+use Rattle.std.proofs.lemmas.List.Sorted.{IsPartitionedBy-leb}
 use Rattle.std.specs.FinMap.{is_sorted}
-use Rattle.std.specs.FinMap.Entries.{below_all}
-use Rattle.std.proofs.lemmas.Cmp.{tied_itself}
+use Rattle.std.proofs.lemmas.List.Elements.{filter-append, filter_map-append, filter_more}
+use Rattle.std.proofs.lemmas.List.{take-append-drop, take_more}
+use Rattle.std.proofs.Math.Bool.{and_comm}
 use Rattle.cns_terms.specs.declared.holding.Key.{Key}
 use Rattle.cns_terms.specs.declared.holding.Holding.{Holding}
-use Rattle.cns_positions.specs.Rows.{Rows, held_above, is_above, is_held}
 use Rattle.cns_terms.specs.Keys.{key_cmp}
+use Rattle.cns_terms.proofs.Finds.{less, next_above, sorted_filter}
 use Rattle.cns_terms.proofs.Keys.{keys_total}
-use Rattle.std.proofs.lemmas.Bool.{cases_lt}
-use Rattle.std.proofs.lemmas.List.Elements.{filter_more}
-use Rattle.cns_terms.proofs.Finds.{and_left, and_right, less}
-use Rattle.cns_positions.proofs.Puts.{below_each, below_later}
+use Rattle.std.specs.List.{find}
+use Rattle.cns_positions.specs.Rows.{AreNext, Rows, held_above, is_above, is_held, last_of, present, zeros}
+use Rattle.cns_positions.proofs.Parted.{filter_back}
+use Rattle.cns_positions.proofs.Puts.{comparisons_rise}
 
-abbrev pub test : Option Key → Key × Holding → Bool
-test after r = is_above after r.0 && is_held r.1
+-- two tests, one after the other
+pub filter_both : {X : Type 0} (p q : X → Bool) (xs : List X) → filter p (filter q xs) ≡ filter (λ x. p x && q x) xs
+filter_both p q [] = refl
+filter_both p q (x ∷ xs) = by (p x) (q x) refl (filter_both p q xs)
+  where
+    by : (a b : Bool) → p x ≡ a → filter p (filter q xs) ≡ filter (λ x. p x && q x) xs → filter p (cond b (x ∷ filter q xs) (filter q xs)) ≡ cond (a && b) (x ∷ filter (λ x. p x && q x) xs) (filter (λ x. p x && q x) xs)
+    by true true e h = ap (λ c. cond c (x ∷ filter p (filter q xs)) (filter p (filter q xs))) e ∙ ap (λ ys. x ∷ ys) h
+    by true false e h = h
+    by false true e h = ap (λ c. cond c (x ∷ filter p (filter q xs)) (filter p (filter q xs))) e ∙ h
+    by false false e h = h
 
--- above a key is above what lies below it
+-- what lies above a key that is above another is above that one too
 above_later : (after : Option Key) (k q : Key) → is_above after k ≡ true → key_cmp k q ≡ Less → is_above after q ≡ true
 above_later None k q a l = refl
 above_later (Some low) k q a l = ap is_lt (keys_total.trans low k q (less _ a) l)
 
-kept : (b : Bool) (x : Key × Holding) (xs ys : Rows) → xs ≡ ys → cond b (x ∷ xs) xs ≡ cond b (x ∷ ys) ys
-kept b x xs ys e = ap (λ zs. cond b (x ∷ zs) zs) e
+-- the rows above a key, of those that aren't zeros
+above_held : (rows : Rows) (after : Option Key) → filter (λ r. is_above after r.0) (filter (λ r. is_held r.1) rows) ≡ held_above rows after
+above_held rows after = filter_both (λ r. is_above after r.0) (λ r. is_held r.1) rows
 
--- past a row that was given, it makes no odds from where one began
-pub same_past : (after : Option Key) (k : Key) (es : Rows) → is_above after k ≡ true → below_all key_cmp k es ≡ true → held_above es after ≡ held_above es (Some k)
-same_past after k [] a b = refl
-same_past after k (e ∷ es) a b =
-    let l : key_cmp k e.0 ≡ Less = less _ (and_left _ _ b) in
-    kept (test after e) e _ _ (same_past after k es a (and_right _ _ b))
-    ∙ ap (λ c. cond c (e ∷ held_above es (Some k)) (held_above es (Some k))) (λ i. (above_later after k e.0 a l ∙ sym (ap is_lt l)) i && is_held e.1)
+-- past the first row above a key
+pub held_next : (rows : Rows) (after : Option Key) (r : Key × Holding) (rest : Rows) → is_sorted key_cmp rows ≡ true → held_above rows after ≡ r ∷ rest → held_above rows (Some r.0) ≡ rest
+held_next rows after r rest s e =
+    sym (above_held rows (Some r.0))
+    ∙ next_above keys_total (is_above after) (filter (λ r. is_held r.1) rows) r rest (above_later after) (sorted_filter keys_total is_held rows s) (above_held rows after ∙ e)
 
-none_false : (b : Bool) (x : Key × Holding) (xs : Rows) → cond b (x ∷ xs) xs ≡ [] → (b ≡ false) × (xs ≡ [])
-none_false true x xs e = cc
-none_false false x xs e = (refl, e)
+-- past the first rows above a key
+pub held_rest : (rows : Rows) (after : Option Key) (given rest : Rows) → is_sorted key_cmp rows ≡ true → held_above rows after ≡ given ++ rest → held_above rows (last_of after given) ≡ rest
+held_rest rows after [] rest s e = e
+held_rest rows after (r ∷ given) rest s e = held_rest rows (Some r.0) given rest s (held_next rows after r (given ++ rest) s e)
 
--- the first row that passes, and the rest
-pub first_held : (es : Rows) (after : Option Key) (i : ℕ) (d : Key × Holding) → is_sorted key_cmp es ≡ true → i < length es → held_above (take i es) after ≡ [] → test after (get_or es i d) ≡ true → held_above es after ≡ get_or es i d ∷ held_above es (Some (get_or es i d).0)
-first_held [] after i d s lt none passes = absurd (omega arith)
-first_held (e ∷ es) after zero d s lt none passes =
-    ap (λ b. cond b (e ∷ held_above es after) (held_above es after)) passes
-    ∙ ap (λ xs. e ∷ xs) (same_past after e.0 es (and_left _ _ passes) (and_left _ _ s) ∙ sym (ap (λ o. cond (is_lt o && is_held e.1) (e ∷ held_above es (Some e.0)) (held_above es (Some e.0))) (tied_itself keys_total e.0)))
-first_held (e ∷ es) after (suc i) d s lt none passes =
-    let no = none_false (test after e) e (held_above (take i es) after) none in
-    let k = (get_or es i d).0 in
-    let l : key_cmp e.0 k ≡ Less = below_each keys_total e.0 es i d (and_left _ _ s) (omega arith) in
-    let g : key_cmp k e.0 ≡ Greater = keys_total.antisymm k e.0 ∙ ap ordering_reverse l in
-    ap (λ b. cond b (e ∷ held_above es after) (held_above es after)) no.0
-    ∙ first_held es after i d (and_right _ _ s) (omega arith) no.1 passes
-    ∙ ap (λ xs. get_or es i d ∷ xs) (sym (ap (λ o. cond (is_lt o && is_held e.1) (e ∷ held_above es (Some k)) (held_above es (Some k))) g))
+-- whether a comparison is no greater, as a number
+is_le_index : (r : Ordering) → leb (ordering_index r) 1 ≡ is_le r
+is_le_index Less = refl
+is_le_index Equal = refl
+is_le_index Greater = refl
 
--- rows none of which is above a key
-pub none_above : (es : Rows) (after : Option Key) (n : ℕ) → ((i : ℕ) → i < n → i < length es → (d : Key × Holding) → is_above after (get_or es i d).0 ≡ false) → held_above (take n es) after ≡ []
-none_above [] after zero h = refl
-none_above [] after (suc n) h = refl
-none_above (e ∷ es) after zero h = refl
-none_above (e ∷ es) after (suc n) h =
-    ap (λ b. cond (b && is_held e.1) (e ∷ held_above (take n es) after) (held_above (take n es) after)) (h 0 (omega arith) (omega arith) e)
-    ∙ none_above es after n (λ i p q d. h (suc i) (omega arith) (omega arith) d)
+-- keys in order are parted by whether they are above a key
+pub parted_at : (rows : Rows) (k : Key) → is_sorted key_cmp rows ≡ true → IsPartitionedBy (λ r. is_le (key_cmp r.0 k)) rows
+parted_at rows k s = subst (λ p. IsPartitionedBy p rows) (λ i r. is_le_index (key_cmp r.0 k) i) (IsPartitionedBy-leb (λ r. ordering_index (key_cmp r.0 k)) rows 1 (comparisons_rise keys_total rows k (k, zeros) s))
 
--- how the key at or before which a search ended compares with a row's
-pub not_above : (low q : Key) → key_cmp q low ≡ Less → is_above (Some low) q ≡ false
-not_above low q e = ap is_lt (keys_total.antisymm low q ∙ ap ordering_reverse e)
+-- a key that is no greater is not above the other
+le_not_above : (low q : Key) (r : Ordering) → key_cmp q low ≡ r → is_le r ≡ true → is_above (Some low) q ≡ false
+le_not_above low q Less e h = ap is_lt (keys_total.antisymm low q ∙ ap ordering_reverse e)
+le_not_above low q Equal e h = ap is_lt (keys_total.antisymm low q ∙ ap ordering_reverse e)
+le_not_above low q Greater e h = cc
 
-pub not_above_tied : (low q : Key) → key_cmp q low ≡ Equal → is_above (Some low) q ≡ false
-not_above_tied low q e = ap is_lt (keys_total.antisymm low q ∙ ap ordering_reverse e)
+-- a key that is greater is above the other
+not_le_above : (low q : Key) (r : Ordering) → key_cmp q low ≡ r → is_le r ≡ false → is_above (Some low) q ≡ true
+not_le_above low q Less e h = cc
+not_le_above low q Equal e h = cc
+not_le_above low q Greater e h = ap is_lt (keys_total.antisymm low q ∙ ap ordering_reverse e)
 
-pub is_above_greater : (low q : Key) → key_cmp q low ≡ Greater → is_above (Some low) q ≡ true
-is_above_greater low q e = ap is_lt (keys_total.antisymm low q ∙ ap ordering_reverse e)
+-- the rows from the first above a key on
+pub above_parted : (rows : Rows) (k : Key) (i : ℕ) → i ≤ length rows → IsPartitionPoint (λ r. is_le (key_cmp r.0 k) ≡ true) (λ r. is_le (key_cmp r.0 k) ≡ false) rows i → held_above (drop i rows) None ≡ held_above rows (Some k)
+above_parted rows k i le parted =
+    ap (filter (λ (r : Key × Holding). is_held r.1)) (sym (filter_back (λ r. is_above (Some k) r.0) rows i le (λ j d p q. le_not_above k _ _ refl (parted.0 j d p q)) (λ j d p q. not_le_above k _ _ refl (parted.1 j d p q))))
+    ∙ filter_both (λ r. is_held r.1) (λ r. is_above (Some k) r.0) rows
+    ∙ (λ j. filter (λ (r : Key × Holding). and_comm (is_held r.1) (is_above (Some k) r.0) j) rows)
 
--- around a row that ties with the key
-pub before_tied : (es : Rows) (low : Key) (at i : ℕ) (d : Key × Holding) → is_sorted key_cmp es ≡ true → at < length es → key_cmp (get_or es at d).0 low ≡ Equal → i < at + 1 → is_above (Some low) (get_or es i d).0 ≡ false
-before_tied es low at i d s lt tied p =
-    elim (cases_lt i at) [
-      | inl q ↦
-          let k = (get_or es i d).0 in
-          let there = (get_or es at d).0 in
-          ap is_lt (sym (keys_total.congr there low k tied) ∙ keys_total.antisymm there k ∙ ap ordering_reverse (below_later keys_total es i at d s q lt))
-      | inr q ↦ let same : i ≡ at = omega arith in not_above_tied low (get_or es i d).0 (ap (λ k. key_cmp (get_or es k d).0 low) same ∙ tied)
-    ]
+-- the first rows above a key, as many as are given
+pub next_given : (rows : Rows) (after : Option Key) (given rest : Rows) → is_sorted key_cmp rows ≡ true → held_above rows after ≡ given ++ rest → (given ≡ [] → held_above rows after ≡ []) → AreNext rows after given
+next_given rows after given rest s e left = record { first = e ∙ ap (λ rs. given ++ rs) (sym (held_rest rows after given rest s e)); left = left }
 
-pub after_tied : (es : Rows) (low : Key) (at k : ℕ) (d : Key × Holding) → is_sorted key_cmp es ≡ true → k < length es → key_cmp (get_or es at d).0 low ≡ Equal → at + 1 ≤ k → is_above (Some low) (get_or es k d).0 ≡ true
-after_tied es low at k d s lt tied p = ap is_lt (sym (keys_total.congr (get_or es at d).0 low (get_or es k d).0 tied) ∙ below_later keys_total es at k d s (omega arith) lt)
+-- the first row above a key
+pub next_found : (rows : Rows) (after : Option Key) (r : Option (Key × Holding)) → is_sorted key_cmp rows ≡ true → MatchOption r (held_above rows after ≡ []) (λ r. (rest : Rows) × (held_above rows after ≡ r ∷ rest)) → MatchOption r (held_above rows after ≡ []) (λ r. held_above rows after ≡ r ∷ held_above rows (Some r.0))
+next_found rows after None s h = h
+next_found rows after (Some r) s h = h.1 ∙ ap (λ rs. r ∷ rs) (sym (held_next rows after r h.0 s h.1))
 
--- one more row that is not held
-pub still_none : (es : Rows) (after : Option Key) (i : ℕ) (d : Key × Holding) → i < length es → is_held (get_or es i d).1 ≡ false → held_above (take i es) after ≡ [] → held_above (take (i + 1) es) after ≡ []
-still_none es after i d lt idle none =
-    filter_more (test after) es i d lt
-    ∙ (λ j. none j ++ cond (is_above after (get_or es i d).0 && idle j) (get_or es i d ∷ []) [])
-    ∙ ap (λ b. [] ++ cond b (get_or es i d ∷ []) []) (never (is_above after (get_or es i d).0))
+-- the first that passes a test is the first of those that pass it
+pub find_filter : {X : Type 0} (p : X → Bool) (xs : List X) → MatchOption (find p xs) (filter p xs ≡ []) (λ x. (rest : List X) × (filter p xs ≡ x ∷ rest))
+find_filter p [] = refl
+find_filter {X} p (x ∷ xs) = by (p x) (find_filter p xs)
   where
-    never : (b : Bool) → (b && false) ≡ false
-    never true = refl
-    never false = refl
+    by : (b : Bool) → MatchOption (find p xs) (filter p xs ≡ []) (λ x. (rest : List X) × (filter p xs ≡ x ∷ rest)) → MatchOption (cond b (Some x) (find p xs)) (cond b (x ∷ filter p xs) (filter p xs) ≡ []) (λ y. (rest : List X) × (cond b (x ∷ filter p xs) (filter p xs) ≡ y ∷ rest))
+    by true h = (filter p xs, refl)
+    by false h = h
+
+-- the same, found among the rows above the key
+pub first_found : (rows above : Rows) (after : Option Key) (r : Option (Key × Holding)) → is_sorted key_cmp rows ≡ true → held_above above None ≡ held_above rows after → r ≡ find (λ r. is_held r.1) above → MatchOption r (held_above rows after ≡ []) (λ r. held_above rows after ≡ r ∷ held_above rows (Some r.0))
+first_found rows above after r s same found =
+    let first = find_filter (λ (r : Key × Holding). is_held r.1) above in
+    next_found rows after r s (subst (λ (o : Option (Key × Holding)). MatchOption o (held_above rows after ≡ []) (λ r. (rest : Rows) × (held_above rows after ≡ r ∷ rest))) (sym found)
+    (subst (λ (xs : Rows). MatchOption (find (λ (r : Key × Holding). is_held r.1) above) (xs ≡ []) (λ r. (rest : Rows) × (xs ≡ r ∷ rest))) same first))
+
+-- the rows before a place and from there on
+pub held_split : (rows : Rows) (i : ℕ) → held_above rows None ≡ held_above (take i rows) None ++ held_above (drop i rows) None
+held_split rows i = sym (ap (λ rs. held_above rs None) (take-append-drop i rows)) ∙ filter-append (λ (r : Key × Holding). is_held r.1) (take i rows) (drop i rows)
+
+-- the rows up to a place, with the one there
+pub held_more : (rows : Rows) (i : ℕ) (r : Key × Holding) (b : Bool) → i < length rows → r ≡ get_or rows i r → is_held r.1 ≡ b → held_above (take (i + 1) rows) None ≡ held_above (take i rows) None ++ cond b (r ∷ []) []
+held_more rows i r b lt is held =
+    filter_more (λ (r : Key × Holding). is_held r.1) rows i r lt
+    ∙ ap (λ (x : Key × Holding). held_above (take i rows) None ++ cond (is_held x.1) (x ∷ []) []) (sym is)
+    ∙ ap (λ b. held_above (take i rows) None ++ cond b (r ∷ []) []) held
+
+-- the last of rows that are given in two parts
+pub last_more : (after : Option Key) (given more : Rows) → last_of after (given ++ more) ≡ last_of (last_of after given) more
+last_more after [] more = refl
+last_more after (r ∷ given) more = last_more (Some r.0) given more
+
+-- where something is given, it makes no odds where one began
+pub last_given : (after : Option Key) (given : Rows) (k : Key) → last_of None given ≡ Some k → last_of after given ≡ Some k
+last_given after [] k is = cc
+last_given after (r ∷ given) k is = is
+
+-- something that is given has a last
+some_last : (k : Key) (given : Rows) → last_of (Some k) given ≡ None → ⊥
+some_last k [] is = cc
+some_last k (r ∷ given) is = some_last r.0 given is
+
+-- where nothing is last, nothing is given
+pub none_given : (given : Rows) → last_of None given ≡ None → given ≡ []
+none_given [] is = refl
+none_given (r ∷ given) is = absurd (some_last r.0 given is)
+
+-- the values that are there up to a place, with the one at it
+pub present_more : {X : Type 0} (xs : List (Option X)) (i : ℕ) (x : Option X) → i < length xs → x ≡ get_or xs i x → present (take (i + 1) xs) ≡ present (take i xs) ++ present (x ∷ [])
+present_more xs i x lt is =
+    ap present (take_more xs i x lt)
+    ∙ filter_map-append (λ y. y) (take i xs) (get_or xs i x ∷ [])
+    ∙ ap (λ y. present (take i xs) ++ present (y ∷ [])) (sym is)
+
+-- one value more that is there
+pub present-push : {X : Type 0} (xs : List (Option X)) (x : X) → present (xs ++ Some x ∷ []) ≡ present xs ++ x ∷ []
+present-push xs x = filter_map-append (λ y. y) xs (Some x ∷ [])
+
+-- where all are there, one more that is there leaves it so
+pub each_push : {X : Type 0} (xs : List (Option X)) (x : X) → length (present xs) ≡ length xs → length (present (xs ++ Some x ∷ [])) ≡ length (xs ++ Some x ∷ [])
+each_push xs x each = ap length (present-push xs x) ∙ length-append (present xs) (x ∷ []) ∙ ap (λ n. n + 1) each ∙ sym (length-append xs (Some x ∷ []))

@@ -1,5 +1,5 @@
 -- Rows of positions: what stands at each key, in the order of keys.
-use Rattle.std.specs.Prelude.{◌≡◌, ◌+◌, ◌-◌, ◌^◌, ℤ, pos, ◌+ℤ◌, int_lt, Bool, true, ◌&&◌, not, ◌==◌, min, List, filter, Option, Some, None, unwrap_or, Contains, ◌⊎◌, if◌then◌else◌}
+use Rattle.std.specs.Prelude.{◌≡◌, ◌+◌, ◌-◌, ◌^◌, ℤ, pos, ◌+ℤ◌, int_lt, Bool, true, ◌&&◌, not, ◌==◌, min, List, [], ◌∷◌, ◌++◌, filter, filter_map, Option, Some, None, unwrap_or, Contains, ◌⊎◌, if◌then◌else◌}
 use Rattle.std.specs.Ordering.{int_eq, is_lt}
 use Rattle.std.specs.FinMap.{find}
 use Rattle.cns_terms.specs.declared.holding.Key.{Key}
@@ -51,3 +51,17 @@ is_above (Some low) k = is_lt (key_cmp low k)
 -- the rows above a key that aren't zeros
 abbrev pub held_above : Rows → Option Key → Rows
 held_above rows after = filter (λ r. is_above after r.0 && is_held r.1) rows
+
+-- the values that are there
+abbrev pub present : {X : Type 0} → List (Option X) → List X
+present xs = filter_map (λ x. x) xs
+
+-- the key of the last of the given rows; where none is given, the key after which they were asked for
+abbrev pub last_of : Option Key → Rows → Option Key
+last_of after [] = after
+last_of after (r ∷ given) = last_of (Some r.0) given
+
+-- the first of the rows above a key that aren't zeros, as many as are given; none only where none is left
+pub record AreNext (rows : Rows) (after : Option Key) (given : Rows) : Type 0 where
+  pub first : held_above rows after ≡ given ++ held_above rows (last_of after given)
+  pub left : given ≡ [] → held_above rows after ≡ []

@@ -1,210 +1,140 @@
-// Positions in a sorted list of rows for each account.
-ghost use Rattle.std.specs.Prelude.{◌≡◌, ◌≤◌, ◌<◌, ◌+◌, ◌+ℤ◌, [], ◌∷◌, ◌++◌, length, map, max, OnOk, MatchOption, FitsSigned, vec_len, true, slice_index_or, Contains};
+// Positions in a sorted list.
+ghost use Rattle.std.specs.Prelude.{◌≡◌, ◌+ℤ◌, List, [], ◌∷◌, ◌++◌, length, OnOk, OnErr, IfOk, IfErr, MatchOption, FitsSigned, true, Some, None, Contains};
 ghost use Rattle.std.specs.Int.{w64, w128};
 ghost use Rattle.std.specs.FinMap.{is_sorted};
+ghost use Rattle.std.specs.List.{HoldsAt, find};
+ghost use Rattle.std.specs.List.Sorted.{IsSearchInRange, IsPartitionPoint};
+ghost use Rattle.std.specs.declared.cmp.Ordering.{Ordering};
 ghost use Rattle.cns_terms.specs.Keys.{key_cmp};
 ghost use Rattle.cns_terms.specs.declared.holding.Holding.{Holding};
 ghost use Rattle.cns_terms.specs.declared.holding.Key.{Key};
-ghost use Rattle.cns_positions.specs.Rows.{holding_at, booked, entry_of};
-ghost use Rattle.cns_positions.specs.Placed.{has_row, closed_rows};
-ghost use Rattle.cns_positions.specs.Flat.{AreAccounts, joined, keys_of};
+ghost use Rattle.cns_positions.specs.Rows.{holding_at, booked, entry_of, held_above, is_held, present};
+ghost use Rattle.cns_positions.specs.Contents.{has_row, closed_rows};
 
-use crate::account::AccountRows;
-use crate::holding::ZEROS;
-use crate::issues::{Issues, number_in};
-use crate::positions::{Positions, Row};
+use crate::holding::{ZEROS, add_to, close, is_held};
+use crate::positions::{NextRows, Positions, Row};
+use crate::prepared::{Prepared, kept};
 use arrayvec::ArrayVec;
 use cns_terms::{Holding, Key, NoMemory};
-use cns_units::Account;
 use std::alloc::Allocator;
-use std::cell::Cell;
 use std::marker::Model;
 
-/// Positions in a list of rows for each account, which stands at the account's number.
-///
-/// The lists end at the highest account that has had a row, and each prepared key has a row.
+/// Positions in one list of rows, in the order of their keys, which each call halves. Each prepared key has a row.
 #[derive(Drop)]
 pub struct FlatPositions<A: Allocator + Drop> {
-    accounts: Vec<AccountRows<A>, A>,
-    prepared: ArrayVec<Option<Key>, 4>,
-    // The issues' numbers, from the first booking on.
-    issues: Option<Issues<A>>,
-    // Where in its account's order the row stands that a walk over the rows gave last: the next step begins there.
-    walked: Cell<usize>,
+    rows: Vec<Row, A>,
+    prepared: Prepared,
 }
 
 impl<A: Allocator + Drop> Model for FlatPositions<A> {
-    ghost use Rattle.cns_positions.specs.Flat.{Contents, IsFlat, joined, keys_of};
+    ghost use Rattle.cns_positions.specs.Contents.{Contents, IsKept};
+    ghost use Rattle.cns_positions.specs.Rows.{present};
 
     ghost Value = { Contents };
 
-    ghost view = { λ a. record { rows = joined a.accounts.items; prepared = keys_of a.prepared.items } };
+    ghost view = { λ p. record { rows = p.rows.items; prepared = present p.prepared.items } };
 
-    ghost invariant = { λ a. IsFlat a.accounts.items a.prepared.items };
+    ghost invariant = { λ p. IsKept p.rows.items (present p.prepared.items) };
 }
 
-// At how many keys that are expected a look is taken.
-const MOST_EXPECTED: usize = 32;
-
-// The number of an account, at which its list of rows stands.
-fn number_of(account: Account) -> usize
-    ensures { result ≡ account }
+// Where the key's row is, or where it would go.
+fn place(rows: &[Row], key: &Key) -> Result<usize, usize>
+    requires { is_sorted key_cmp rows.now ≡ true }
+    ensures bound { IsSearchInRange result (length rows.now) }
+    ensures found { IfOk result (HoldsAt (λ r. key_cmp r.0 key.now ≡ Ordering.Equal) rows.now) }
+    ensures absent { IfErr result (IsPartitionPoint (λ r. key_cmp r.0 key.now ≡ Ordering.Less) (λ r. key_cmp r.0 key.now ≡ Ordering.Greater) rows.now) }
 {
-    usize::from(account.value())
+    rows.binary_search_by(|row| row.0.cmp(key))
 }
 
-// The number of the first account that may have a row above a key; the very first where there is none to be above.
-fn first_number(after: Option<Key>) -> usize
-    ensures { MatchOption after (result ≡ 0) (λ k. result ≡ k.account) }
+// Gives the key a row of zeros where it has none.
+fn enter<A: Allocator + Drop>(rows: &mut Vec<Row, A>, key: &Key) -> Result<(), NoMemory>
+    requires { is_sorted key_cmp rows.old.items ≡ true }
+    ensures sorted { is_sorted key_cmp rows.new.items ≡ true }
+    ensures there { OnOk result (has_row rows.new.items key.now ≡ true) }
+    ensures others { (k : Key) → has_row rows.old.items k ≡ true → has_row rows.new.items k ≡ true }
+    ensures same { (k : Key) → holding_at rows.new.items k ≡ holding_at rows.old.items k }
+{
+    match place(rows.as_slice(), key) {
+        Ok(_) => Ok(()),
+        Err(at) => match rows.insert(at, (*key, ZEROS)) {
+            Ok(()) => Ok(()),
+            Err(_) => Err(NoMemory),
+        },
+    }
+}
+
+// Gives each key a row of zeros where it has none.
+fn enter_all<A: Allocator + Drop>(rows: &mut Vec<Row, A>, keys: &[Key]) -> Result<(), NoMemory>
+    requires { is_sorted key_cmp rows.old.items ≡ true }
+    ensures sorted { is_sorted key_cmp rows.new.items ≡ true }
+    ensures there { OnOk result ((k : Key) → Contains keys.now k → has_row rows.new.items k ≡ true) }
+    ensures others { (k : Key) → has_row rows.old.items k ≡ true → has_row rows.new.items k ≡ true }
+    ensures same { (k : Key) → holding_at rows.new.items k ≡ holding_at rows.old.items k }
+{
+    for key in keys {
+        enter(rows, key)?;
+    }
+    Ok(())
+}
+
+// Books shares and cents in the key's row.
+fn book(rows: &mut [Row], key: &Key, shares: i64, cents: i128)
+    requires sorted { is_sorted key_cmp rows.old ≡ true }
+    requires there { has_row rows.old key.now ≡ true }
+    requires shares_fit { FitsSigned w64 ((holding_at rows.old key.now).now +ℤ shares) }
+    requires cents_fit { FitsSigned w128 ((holding_at rows.old key.now).contract +ℤ cents) }
+    ensures sorted { is_sorted key_cmp rows.new ≡ true }
+    ensures others { (k : Key) → has_row rows.old k ≡ true → has_row rows.new k ≡ true }
+    ensures booked { (k : Key) → holding_at rows.new k ≡ booked (entry_of key.now shares cents) k (holding_at rows.old k) }
+{
+    if let Ok(at) = place(rows, key) {
+        add_to(&mut rows[at].1, shares, cents);
+    }
+}
+
+// What a close makes of each row.
+fn close_all(rows: &mut [Row])
+    ensures { rows.new ≡ closed_rows rows.old }
+{
+    for row in rows.iter_mut() {
+        row.1 = close(row.1);
+    }
+}
+
+// The rows above a key, or all.
+fn rows_above(rows: &[Row], after: Option<Key>) -> &[Row]
+    requires { is_sorted key_cmp rows.now ≡ true }
+    ensures { held_above result.now None ≡ held_above rows.now after }
 {
     match after {
-        Some(key) => number_of(key.account),
-        None => 0,
+        Some(key) => &rows[rows.partition_point(|row| row.0 <= key)..],
+        None => rows,
     }
 }
 
-// Gives each account up to that number an empty list where it has none yet.
-fn open<A: Allocator + Drop + Clone>(
-    accounts: &mut Vec<AccountRows<A>, A>,
-    number: usize,
-) -> Result<(), NoMemory>
-    requires { AreAccounts accounts.old.items }
-    ensures accounts { AreAccounts accounts.new.items }
-    ensures joined { joined accounts.new.items ≡ joined accounts.old.items }
-    ensures len { OnOk result (vec_len accounts.new ≡ max (vec_len accounts.old) (number + 1)) }
+// The first row that isn't zeros.
+fn first_held(rows: &[Row]) -> Option<Row>
+    ensures { result ≡ find (λ r. is_held r.1) rows.now }
 {
-    while accounts.len() <= number {
-        let rows = AccountRows::new(accounts.allocator())?;
-        let Ok(()) = accounts.push(rows) else {
-            return Err(NoMemory);
-        };
-    }
-    Ok(())
+    rows.iter().find(|row| is_held(row.1)).copied()
 }
 
-// Gives the key a row of zeros where it has none, and remembers where its row is.
-fn enter_key<A: Allocator + Drop + Clone>(
-    accounts: &mut Vec<AccountRows<A>, A>,
-    issues: &mut Option<Issues<A>>,
-    key: &Key,
-) -> Result<(), NoMemory>
-    requires { AreAccounts accounts.old.items }
-    ensures accounts { AreAccounts accounts.new.items }
-    ensures there { OnOk result (has_row (joined accounts.new.items) key.now ≡ true) }
-    ensures others { (k : Key) → has_row (joined accounts.old.items) k ≡ true → has_row (joined accounts.new.items) k ≡ true }
-    ensures same { (k : Key) → holding_at (joined accounts.new.items) k ≡ holding_at (joined accounts.old.items) k }
+// The first rows that aren't zeros, as many as are handed out at once.
+fn first_rows(rows: &[Row]) -> NextRows
+    ensures first { (rest : List (Key × Holding)) × (held_above rows.now None ≡ present result.items ++ rest) }
+    ensures left { present result.items ≡ [] → held_above rows.now None ≡ [] }
 {
-    let number = number_of(key.account);
-    open(accounts, number)?;
-    accounts[number].enter(key, issues)
-}
-
-// Gives each key a row of zeros where it has none, and remembers where the rows are.
-fn enter_all<A: Allocator + Drop + Clone>(
-    accounts: &mut Vec<AccountRows<A>, A>,
-    issues: &mut Option<Issues<A>>,
-    keys: &[Key],
-) -> Result<(), NoMemory>
-    requires { AreAccounts accounts.old.items }
-    ensures accounts { AreAccounts accounts.new.items }
-    ensures there { OnOk result ((k : Key) → Contains keys.now k → has_row (joined accounts.new.items) k ≡ true) }
-    ensures others { (k : Key) → has_row (joined accounts.old.items) k ≡ true → has_row (joined accounts.new.items) k ≡ true }
-    ensures same { (k : Key) → holding_at (joined accounts.new.items) k ≡ holding_at (joined accounts.old.items) k }
-{
-    for key in keys {
-        enter_key(accounts, issues, key)?;
-    }
-    Ok(())
-}
-
-// The keys, as they are kept.
-fn kept(keys: &[Key]) -> ArrayVec<Option<Key>, 4>
-    requires { length keys.now ≤ 4 }
-    ensures { keys_of result.items ≡ keys.now }
-{
-    let mut kept = ArrayVec::new();
-    for key in keys {
-        kept.push(Some(*key));
-    }
-    kept
-}
-
-// Closes each account's rows.
-fn close_each<A: Allocator + Drop>(accounts: &mut Vec<AccountRows<A>, A>)
-    ensures { accounts.new.items ≡ map closed_rows accounts.old.items }
-{
-    for number in 0..accounts.len() {
-        accounts[number].close();
-    }
-}
-
-// Books shares and cents in the key's row, which is quickly found where it was asked for before.
-fn book_key<A: Allocator + Drop>(
-    accounts: &mut Vec<AccountRows<A>, A>,
-    key: &Key,
-    shares: i64,
-    cents: i128,
-)
-    requires accounts { AreAccounts accounts.old.items }
-    requires there { has_row (joined accounts.old.items) key.now ≡ true }
-    requires shares_fit { FitsSigned w64 ((holding_at (joined accounts.old.items) key.now).now +ℤ shares) }
-    requires cents_fit { FitsSigned w128 ((holding_at (joined accounts.old.items) key.now).contract +ℤ cents) }
-    ensures accounts { AreAccounts accounts.new.items }
-    ensures others { (k : Key) → has_row (joined accounts.old.items) k ≡ true → has_row (joined accounts.new.items) k ≡ true }
-    ensures booked { (k : Key) → holding_at (joined accounts.new.items) k ≡ booked (entry_of key.now shares cents) k (holding_at (joined accounts.old.items) k) }
-{
-    let number = number_of(key.account);
-    if number < accounts.len() {
-        accounts[number].book(key, shares, cents);
-    }
-}
-
-// Puts a row after all others.
-fn append<A: Allocator + Drop + Clone>(
-    accounts: &mut Vec<AccountRows<A>, A>,
-    issues: &mut Option<Issues<A>>,
-    row: &Row,
-) -> Result<(), NoMemory>
-    requires accounts { AreAccounts accounts.old.items }
-    requires last { vec_len accounts.old ≤ row.now.0.account + 1 }
-    requires sorted { is_sorted key_cmp (joined accounts.old.items ++ row.now ∷ []) ≡ true }
-    ensures accounts { OnOk result (AreAccounts accounts.new.items) }
-    ensures joined { OnOk result (joined accounts.new.items ≡ joined accounts.old.items ++ row.now ∷ []) }
-    ensures len { OnOk result (vec_len accounts.new ≡ row.now.0.account + 1) }
-{
-    let number = number_of(row.0.account);
-    open(accounts, number)?;
-    accounts[number].append(row, issues)
-}
-
-impl<A: Allocator + Drop> FlatPositions<A> {
-    // The number of a key's issue, if there is a key and its issue has one.
-    fn number_of_issue(&self, key: &Option<Key>) -> Option<usize> {
-        match key {
-            Some(key) => number_in(&self.issues, &key.issue),
-            None => None,
+    let mut given: NextRows = ArrayVec::new();
+    for row in rows {
+        if given.is_full() {
+            break;
+        }
+        if is_held(row.1) {
+            given.push(Some(*row));
         }
     }
-
-    // Where in its account's list the row of a key probably stands, if there is a key.
-    fn place_of(&self, key: &Option<Key>, issue: Option<usize>) -> usize {
-        let Some(key) = key else {
-            return usize::MAX;
-        };
-        match self.accounts.as_slice().get(number_of(key.account)) {
-            Some(rows) => rows.remembered(issue),
-            None => usize::MAX,
-        }
-    }
-
-    // Looks at the row where a key's probably stands.
-    fn look(&self, key: &Option<Key>, place: usize) {
-        if let Some(key) = key {
-            if let Some(rows) = self.accounts.as_slice().get(number_of(key.account)) {
-                rows.expect(key, place);
-            }
-        }
-    }
+    given
 }
 
 impl<A: Allocator + Drop + Clone> Positions<A> for FlatPositions<A> {
@@ -214,79 +144,46 @@ impl<A: Allocator + Drop + Clone> Positions<A> for FlatPositions<A> {
 
     fn new(alloc: A) -> Self {
         FlatPositions {
-            accounts: Vec::new(alloc),
+            rows: Vec::new(alloc),
             prepared: ArrayVec::new(),
-            issues: None,
-            walked: Cell::new(0),
         }
     }
 
-    #[inline(always)]
     fn get(&self, key: Key) -> Holding {
-        let number = number_of(key.account);
-        if number < self.accounts.len() {
-            self.accounts[number].get(&key, &self.issues)
-        } else {
-            ZEROS
-        }
-    }
-
-    // First the issues' numbers, then where the rows probably stand, and then a look at each of them. Each is a loop of
-    // its own, so that the processor waits at once for all that it needs for the next.
-    fn expect(&self, keys: &[Option<Key>]) {
-        let mut issues: ArrayVec<Option<usize>, MOST_EXPECTED> = ArrayVec::new();
-        for key in keys {
-            if issues.len() < MOST_EXPECTED {
-                issues.push(self.number_of_issue(key));
-            }
-        }
-        let mut places: ArrayVec<usize, MOST_EXPECTED> = ArrayVec::new();
-        for at in 0..issues.len().min(keys.len()) {
-            if places.len() < MOST_EXPECTED {
-                places.push(self.place_of(&keys[at], issues[at]));
-            }
-        }
-        for at in 0..places.len().min(keys.len()) {
-            self.look(&keys[at], places[at]);
+        match place(self.rows.as_slice(), &key) {
+            Ok(at) => self.rows[at].1,
+            Err(_) => ZEROS,
         }
     }
 
     fn prepare(&mut self, keys: &[Key]) -> Result<(), NoMemory> {
-        enter_all(&mut self.accounts, &mut self.issues, keys)?;
+        enter_all(&mut self.rows, keys)?;
         self.prepared = kept(keys);
         Ok(())
     }
 
     fn add(&mut self, key: Key, shares: i64, cents: i128) {
-        book_key(&mut self.accounts, &key, shares, cents);
+        book(self.rows.as_mut_slice(), &key, shares, cents);
     }
 
     fn roll(&mut self) {
-        close_each(&mut self.accounts);
+        close_all(self.rows.as_mut_slice());
     }
 
     fn next_row(&self, after: Option<Key>) -> Option<Row> {
-        let after = &after;
-        for number in first_number(*after)..self.accounts.len() {
-            let rows = &self.accounts[number];
-            if let Some(row) = rows.first_held(&self.walked, number, after) {
-                return Some(row);
-            }
-        }
-        None
+        first_held(rows_above(self.rows.as_slice(), after))
+    }
+
+    fn next_rows(&self, after: Option<Key>) -> NextRows {
+        first_rows(rows_above(self.rows.as_slice(), after))
     }
 
     fn rebuilt(&self, given: &[Row]) -> Result<Self, NoMemory> {
-        let mut accounts = Vec::new(self.accounts.allocator().clone()?);
-        let mut issues = None;
-        for row in given {
-            append(&mut accounts, &mut issues, row)?;
-        }
+        let mut rows = Vec::new(self.rows.allocator().clone()?);
+        rows.extend_from_slice(given)?;
         Ok(FlatPositions {
-            accounts,
+            rows,
             prepared: ArrayVec::new(),
-            issues,
-            walked: Cell::new(0),
         })
     }
 }

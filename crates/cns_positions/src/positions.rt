@@ -5,12 +5,19 @@ ghost use Rattle.std.specs.Int.{w64, w128};
 ghost use Rattle.cns_terms.specs.Keys.{key_cmp};
 ghost use Rattle.cns_terms.specs.declared.holding.Key.{Key};
 ghost use Rattle.cns_terms.specs.declared.holding.Holding.{Holding};
-ghost use Rattle.cns_positions.specs.Rows.{holding_at, booked, entry_of, rolled, IsThere, held_above};
+ghost use Rattle.cns_positions.specs.Rows.{AreNext, holding_at, booked, entry_of, rolled, IsThere, held_above, present};
 
+use arrayvec::ArrayVec;
 use cns_terms::{Holding, Key, NoMemory};
 
 /// A key and what stands at it.
 pub type Row = (Key, Holding);
+
+/// How many rows `next_rows` hands out at most.
+pub const ROWS_AT_ONCE: usize = 32;
+
+/// Rows that are handed out at once. Each of them is there; the option is for the places that stay free.
+pub type NextRows = ArrayVec<Option<Row>, ROWS_AT_ONCE>;
 
 /// What stands at each key: a finite map in which an absent key counts as zeros.
 ///
@@ -32,8 +39,8 @@ pub trait Positions<A>: Drop {
     fn get(&self, key: Key) -> Holding
         ensures { result ≡ holding_at (rows self.now) key };
 
-    /// Tells which keys will be asked for next. It changes nothing; a form may look already now where they are.
-    fn expect(&self, keys: &[Option<Key>]);
+    /// Tells which keys will be asked for next, so that a form may bring them near together. It changes nothing.
+    fn prefetch(&self, _keys: &[Key]) {}
 
     /// Makes room for the keys, so that `add` takes no memory at them.
     fn prepare(&mut self, keys: &[Key]) -> Result<(), NoMemory>
@@ -61,6 +68,23 @@ pub trait Positions<A>: Drop {
     /// The first row that isn't zeros, or the first such row above a key.
     fn next_row(&self, after: Option<Key>) -> Option<Row>
         ensures { MatchOption result (held_above (rows self.now) after ≡ []) (λ r. held_above (rows self.now) after ≡ r ∷ held_above (rows self.now) (Some r.0)) };
+
+    /// The next of the rows that aren't zeros, above a key or from the first on, as `next_row` gives them one by one. A
+    /// pass over all rows asks for those above the last that it was given, until none is given.
+    fn next_rows(&self, after: Option<Key>) -> NextRows
+        ensures { AreNext (rows self.now) after (present result.items) }
+    {
+        let mut given: NextRows = ArrayVec::new();
+        let mut after = after;
+        while !given.is_full() {
+            let Some(row) = self.next_row(after) else {
+                return given;
+            };
+            after = Some(row.0);
+            given.push(Some(row));
+        }
+        given
+    }
 
     /// The map of the given rows, on the allocator of this one. Where memory is refused nothing has changed.
     fn rebuilt(&self, given: &[Row]) -> Result<Self, NoMemory>

@@ -1,16 +1,29 @@
-use crate::{FlatPositions, Positions, Step, run};
+// Each test runs over every form of positions; a new form is one line more in each.
+ghost use Rattle.std.specs.Prelude.{◌≡◌, ◌<◌, ◌≤◌, length};
+ghost use Rattle.cns_positions.specs.Rows.{IsThere};
+
+use crate::{FlatPositions, NextRows, Positions, Row, Step, TreePositions, run};
 use cns_terms::{Holding, Key};
 use cns_units::{Account, Cusip};
 use std::alloc::Global;
+use std::process::Abort;
 use std::test::Fail;
 
 type Flat = FlatPositions<Global>;
 
-fn key(account: u16) -> Result<Key, Fail> {
+type Balanced = TreePositions<Global>;
+
+const APPLE: &[u8] = b"037833100";
+
+fn key_of(account: u16, issue: &[u8]) -> Result<Key, Fail> {
     Ok(Key {
         account: Account::new(account)?,
-        issue: Cusip::parse(b"037833100".as_slice())?,
+        issue: Cusip::parse(issue)?,
     })
+}
+
+fn key(account: u16) -> Result<Key, Fail> {
+    key_of(account, APPLE)
 }
 
 fn holding(now: i64, opening: i64, contract: i128, run: u32) -> Holding {
@@ -22,8 +35,85 @@ fn holding(now: i64, opening: i64, contract: i128, run: u32) -> Holding {
     }
 }
 
+// Books shares and cents at a key that is there or prepared, where nothing stands yet.
+fn add<P: Positions<Global>>(positions: &mut P, key: &Key, shares: i32, cents: i32)
+    requires { IsThere (P.rows positions.old) (P.prepared positions.old) key.now }
+    ensures { P.prepared positions.new ≡ P.prepared positions.old }
+{
+    let held = positions.get(*key);
+    if held.now == 0 && held.contract == 0 {
+        positions.add(*key, i64::from(shares), i128::from(cents));
+    }
+}
+
+// Prepares keys, and books shares and cents at each of them.
+fn book<P: Positions<Global>>(
+    positions: &mut P,
+    keys: &[Key],
+    shares: i32,
+    cents: i32,
+) -> Result<(), Fail>
+    requires { length keys.now ≤ 4 }
+{
+    positions.prepare(keys)?;
+    for key in keys {
+        add(positions, key, shares, cents);
+    }
+    Ok(())
+}
+
+// Puts the given rows after others, and returns the key of the last.
+fn push_all(rows: &mut Vec<Row, Global>, given: &NextRows) -> Result<Option<Key>, Fail> {
+    let mut last = None;
+    for row in given.as_slice() {
+        if let Some(row) = row {
+            rows.push(*row)?;
+            last = Some(row.0);
+        }
+    }
+    Ok(last)
+}
+
+// The rows of a pass by `next_rows`.
+fn passed<P: Positions<Global>>(
+    rt: &impl AllocGlobal,
+    positions: &P,
+) -> Result<Vec<Row, Global>, Fail> {
+    let mut rows = Vec::new(rt.alloc());
+    let mut after = None;
+    for _ in 0..100_000 {
+        let Some(last) = push_all(&mut rows, &positions.next_rows(after))? else {
+            break;
+        };
+        after = Some(last);
+    }
+    Ok(rows)
+}
+
+// The rows that `next_row` gives one by one.
+fn stepped<P: Positions<Global>>(
+    rt: &impl AllocGlobal,
+    positions: &P,
+) -> Result<Vec<Row, Global>, Fail> {
+    let mut rows = Vec::new(rt.alloc());
+    let mut after = None;
+    for _ in 0..100_000 {
+        let Some(row) = positions.next_row(after) else {
+            break;
+        };
+        after = Some(row.0);
+        rows.push(row)?;
+    }
+    Ok(rows)
+}
+
 #[test]
 fn steps_reply_what_stands_at_each_key(rt: HostRuntime) -> Result<(), Fail> {
+    check_steps::<Flat>(&rt)?;
+    check_steps::<Balanced>(&rt)
+}
+
+fn check_steps<P: Positions<Global>>(rt: &(impl Abort + AllocGlobal)) -> Result<(), Fail> {
     let (one, two) = (key(1)?, key(2)?);
     let steps = [
         Step::Get(one),
@@ -57,7 +147,7 @@ fn steps_reply_what_stands_at_each_key(rt: HostRuntime) -> Result<(), Fail> {
         },
         Step::Get(two),
     ];
-    let replies = run::<Flat, Global>(rt.alloc(), &steps)?;
+    let replies = run::<P, Global>(rt.alloc(), &steps)?;
     let expected = [
         holding(0, 0, 0, 0),
         holding(5, 0, -10, 0),
@@ -71,29 +161,27 @@ fn steps_reply_what_stands_at_each_key(rt: HostRuntime) -> Result<(), Fail> {
     Ok(())
 }
 
-// Prepares a key, and books shares and cents there where nothing stands yet.
-fn book(positions: &mut Flat, key: &Key, shares: i32, cents: i32) -> Result<(), Fail> {
-    positions.prepare(&[*key])?;
-    let held = positions.get(*key);
-    if held.now == 0 && held.contract == 0 {
-        positions.add(*key, i64::from(shares), i128::from(cents));
-    }
-    Ok(())
-}
-
 #[test]
 fn rows_come_in_the_order_of_keys(rt: HostRuntime) -> Result<(), Fail> {
-    let mut positions = Flat::new(rt.alloc());
-    for account in [7, 3, 9, 1] {
+    check_order::<Flat>(&rt)?;
+    check_order::<Balanced>(&rt)
+}
+
+fn check_order<P: Positions<Global>>(rt: &(impl Abort + AllocGlobal)) -> Result<(), Fail> {
+    let mut positions = P::new(rt.alloc());
+    for account in [7, 3, 9999, 1] {
         positions.prepare(&[key(5)?])?;
-        book(&mut positions, &key(account)?, 10, 0)?;
+        book(&mut positions, &[key(account)?], 10, 0)?;
     }
     let cases = [
         (None, Some(1)),
+        (Some(0), Some(1)),
         (Some(1), Some(3)),
         (Some(3), Some(7)),
-        (Some(7), Some(9)),
-        (Some(9), None),
+        (Some(5), Some(7)),
+        (Some(7), Some(9999)),
+        (Some(9998), Some(9999)),
+        (Some(9999), None),
     ];
     for (after, next) in cases {
         let after = match after {
@@ -102,12 +190,14 @@ fn rows_come_in_the_order_of_keys(rt: HostRuntime) -> Result<(), Fail> {
         };
         let found = positions.next_row(after);
         assert_eq!(rt; found.map(|row| row.0.account.value()), next);
+        let given = positions.next_rows(after);
+        assert_eq!(rt; given.as_slice().first().copied().flatten(), found);
     }
     Ok(())
 }
 
 const ISSUES: [&[u8]; 6] = [
-    b"037833100",
+    APPLE,
     b"17275R102",
     b"38259P508",
     b"594918104",
@@ -116,43 +206,45 @@ const ISSUES: [&[u8]; 6] = [
 ];
 
 fn key_in(issue: usize) -> Result<Key, Fail> {
-    let bytes = ISSUES.get(issue).copied().unwrap_or(b"");
-    Ok(Key {
-        account: Account::new(1)?,
-        issue: Cusip::parse(bytes)?,
-    })
+    key_of(1, ISSUES.get(issue).copied().unwrap_or(b""))
 }
 
-// Each issue is booked after another or the same was asked for, whose gap is then remembered.
 #[test]
 fn issues_come_in_order_however_they_entered(rt: HostRuntime) -> Result<(), Fail> {
+    check_issues::<Flat>(&rt)?;
+    check_issues::<Balanced>(&rt)
+}
+
+fn check_issues<P: Positions<Global>>(rt: &(impl Abort + AllocGlobal)) -> Result<(), Fail> {
     let orders = [
-        [(0, 0), (1, 1), (2, 2), (3, 3), (4, 4), (5, 5)],
-        [(5, 5), (4, 4), (3, 3), (2, 2), (1, 1), (0, 0)],
-        [(2, 2), (0, 5), (5, 0), (1, 3), (4, 1), (3, 4)],
-        [(1, 4), (4, 1), (0, 3), (3, 0), (2, 5), (5, 2)],
+        [0, 1, 2, 3, 4, 5],
+        [5, 4, 3, 2, 1, 0],
+        [2, 5, 0, 3, 1, 4],
+        [4, 1, 3, 0, 5, 2],
     ];
     for order in orders {
-        let mut positions = Flat::new(rt.alloc());
-        for (asked, issue) in order {
-            let _ = positions.get(key_in(asked)?);
-            book(&mut positions, &key_in(issue)?, 1, 0)?;
+        let mut positions = P::new(rt.alloc());
+        for issue in order {
+            book(&mut positions, &[key_in(issue)?], 1, 0)?;
         }
-        let mut after = None;
-        for issue in 0..6 {
-            let next = positions.next_row(after).map(|row| row.0);
-            assert_eq!(rt; next, Some(key_in(issue)?));
-            after = next;
+        let rows = passed(rt, &positions)?;
+        assert_eq!(rt; rows.len(), 6);
+        for (issue, row) in rows.as_slice().iter().enumerate() {
+            assert_eq!(rt; row.0, key_in(issue)?);
         }
-        assert_eq!(rt; positions.next_row(after), None);
     }
     Ok(())
 }
 
 #[test]
 fn a_booking_stands_is_closed_and_is_rebuilt(rt: HostRuntime) -> Result<(), Fail> {
-    let mut positions = Flat::new(rt.alloc());
-    book(&mut positions, &key(1)?, 5, -10)?;
+    check_booking::<Flat>(&rt)?;
+    check_booking::<Balanced>(&rt)
+}
+
+fn check_booking<P: Positions<Global>>(rt: &(impl Abort + AllocGlobal)) -> Result<(), Fail> {
+    let mut positions = P::new(rt.alloc());
+    book(&mut positions, &[key(1)?], 5, -10)?;
     assert_eq!(rt; positions.get(key(1)?), holding(5, 0, -10, 0));
     positions.roll();
     assert_eq!(rt; positions.get(key(1)?), holding(5, 5, 0, 0));
@@ -161,14 +253,72 @@ fn a_booking_stands_is_closed_and_is_rebuilt(rt: HostRuntime) -> Result<(), Fail
     let rebuilt = positions.rebuilt(&[row])?;
     assert_eq!(rt; rebuilt.next_row(None), Some(row));
     assert_eq!(rt; rebuilt.next_row(Some(key(1)?)), None);
+    let empty = positions.rebuilt(&[])?;
+    assert_eq!(rt; empty.next_row(None), None);
+    assert_eq!(rt; empty.get(key(1)?), holding(0, 0, 0, 0));
+    Ok(())
+}
+
+#[test]
+fn all_prepared_keys_are_added_to(rt: HostRuntime) -> Result<(), Fail> {
+    check_prepared::<Flat>(&rt)?;
+    check_prepared::<Balanced>(&rt)
+}
+
+fn check_prepared<P: Positions<Global>>(rt: &(impl Abort + AllocGlobal)) -> Result<(), Fail> {
+    let keys = [key(3)?, key(9999)?, key(0)?, key(7)?];
+    let mut positions = P::new(rt.alloc());
+    book(&mut positions, &keys[..3], 1, 10)?;
+    assert_eq!(rt; positions.get(key(9999)?), holding(1, 0, 10, 0));
+    assert_eq!(rt; passed(rt, &positions)?.len(), 3);
+    let mut positions = P::new(rt.alloc());
+    book(&mut positions, &keys, -2, 20)?;
+    let rows = passed(rt, &positions)?;
+    let expected = [
+        (key(0)?, holding(-2, 0, 20, 0)),
+        (key(3)?, holding(-2, 0, 20, 0)),
+        (key(7)?, holding(-2, 0, 20, 0)),
+        (key(9999)?, holding(-2, 0, 20, 0)),
+    ];
+    assert_eq!(rt; rows.as_slice(), expected.as_slice());
+    Ok(())
+}
+
+#[test]
+fn a_pass_gives_the_rows_of_single_steps(rt: HostRuntime) -> Result<(), Fail> {
+    check_passes::<Flat>(&rt)?;
+    check_passes::<Balanced>(&rt)
+}
+
+// Before each row stands one of zeros.
+fn check_passes<P: Positions<Global>>(rt: &(impl Abort + AllocGlobal)) -> Result<(), Fail> {
+    let cases = [(0, 0), (2, 1), (64, 32), (66, 33), (200, 100)];
+    for (accounts, count) in cases {
+        let mut positions = P::new(rt.alloc());
+        for account in 0..accounts {
+            if account % 2 == 0 {
+                positions.prepare(&[key(account)?])?;
+            } else {
+                book(&mut positions, &[key(account)?], 1, 0)?;
+            }
+        }
+        let rows = passed(rt, &positions)?;
+        assert_eq!(rt; rows.len(), count);
+        assert_eq!(rt; rows.as_slice(), stepped(rt, &positions)?.as_slice());
+    }
     Ok(())
 }
 
 #[test]
 fn a_thousand_accounts_come_in_order(rt: HostRuntime) -> Result<(), Fail> {
-    let mut positions = Flat::new(rt.alloc());
+    check_accounts::<Flat>(&rt)?;
+    check_accounts::<Balanced>(&rt)
+}
+
+fn check_accounts<P: Positions<Global>>(rt: &(impl Abort + AllocGlobal)) -> Result<(), Fail> {
+    let mut positions = P::new(rt.alloc());
     for below in 0..1000 {
-        book(&mut positions, &key(1000 - below)?, 1, 0)?;
+        book(&mut positions, &[key(1000 - below)?], 1, 0)?;
     }
     let mut after = None;
     for account in 1..=1000 {
@@ -178,5 +328,56 @@ fn a_thousand_accounts_come_in_order(rt: HostRuntime) -> Result<(), Fail> {
     }
     assert_eq!(rt; positions.next_row(after), None);
     assert_eq!(rt; positions.get(key(500)?), holding(1, 0, 0, 0));
+    Ok(())
+}
+
+// What a digit of a CUSIP adds to its sum: at every other place it counts twice, and then digit by digit.
+fn weight(place: usize, digit: u8) -> u8
+    requires { digit < 10 }
+    ensures { result < 10 }
+{
+    if place % 2 == 0 {
+        digit
+    } else {
+        2 * digit / 10 + 2 * digit % 10
+    }
+}
+
+// The key of an account in an issue whose CUSIP is a number of eight digits and its check digit.
+fn key_numbered(account: u16, number: u32) -> Result<Key, Fail> {
+    let mut text = [b'0'; 9];
+    let mut rest = number;
+    let mut sum = 0u8;
+    for place in (0..8).rev() {
+        let digit = (rest % 10) as u8;
+        text[place] = b'0' + digit;
+        sum = sum % 10 + weight(place, digit);
+        rest /= 10;
+    }
+    text[8] = b'0' + (10 - sum % 10) % 10;
+    key_of(account, text.as_slice())
+}
+
+#[test]
+fn an_account_has_more_issues_than_sixteen_bits_count(rt: HostRuntime) -> Result<(), Fail> {
+    check_many_issues::<Flat>(&rt)?;
+    check_many_issues::<Balanced>(&rt)
+}
+
+fn check_many_issues<P: Positions<Global>>(rt: &(impl Abort + AllocGlobal)) -> Result<(), Fail> {
+    let mut positions = P::new(rt.alloc());
+    for number in 0..65_537 {
+        book(&mut positions, &[key_numbered(1, number)?], 1, 0)?;
+    }
+    for number in [0, 1, 32_768, 65_535, 65_536] {
+        let held = positions.get(key_numbered(1, number)?);
+        assert_eq!(rt; held, holding(1, 0, 0, 0));
+    }
+    assert_eq!(rt;
+        positions.get(key_numbered(1, 65_537)?),
+        holding(0, 0, 0, 0)
+    );
+    let rows = passed(rt, &positions)?;
+    assert_eq!(rt; rows.len(), 65_537);
     Ok(())
 }

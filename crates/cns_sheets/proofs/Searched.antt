@@ -1,5 +1,5 @@
 -- What a search in sorted rows or prices finds.
-use Rattle.std.proofs.Common.{◌≡◌, ◌∙◌, sym, ap, subst, refl, ℕ, zero, suc, ◌+◌, ◌<◌, ◌≤◌, ◌==◌, Bool, true, false, leb, ltb, cond, List, [], ◌∷◌, filter, length, get_or, take, drop, drop-cons, length-drop, Option, Some, None, inl, inr, arith}
+use Rattle.std.proofs.Common.{◌≡◌, ◌∙◌, sym, ap, subst, refl, ℕ, suc, ◌+◌, ◌<◌, ◌≤◌, ◌==◌, true, false, leb, ltb, List, [], ◌∷◌, length, get_or, take, drop, drop-cons, length-drop, Option, Some, None, inl, inr, arith}
 use Rattle.std.proofs.lemmas.Bool.{cases_lt}
 use Rattle.std.proofs.lemmas.Bool.Decides.{nat_tests}
 use Rattle.std.proofs.lemmas.Cmp.{nat_list_cmp_total}
@@ -21,46 +21,11 @@ use Rattle.cns_terms.specs.declared.sheet.Row.{Row}
 use Rattle.cns_terms.specs.Keys.{key_cmp}
 use Rattle.cns_terms.proofs.Finds.{less, next_above}
 use Rattle.cns_terms.proofs.Keys.{keys_total}
+use Rattle.cns_positions.proofs.Parted.{filter_back, filter_from, filter_front, filter_whole}
 use Rattle.cns_positions.proofs.Puts.{below_later, comparisons_rise, find_at, find_gap}
 use Rattle.cns_prices.specs.Listed.{is_after}
 use Rattle.cns_sheets.specs.Build.{PriceList, by_key, key_of, rows_for}
 use Rattle.cns_sheets.specs.Search.{prices_above, row_at}
-
--- ---- what a test keeps of a list that it parts
-
-module _ {X : Type 0} (t : X → Bool) where
-  -- what fails before a place is not kept
-  pub filter_from : (xs : List X) (i : ℕ) → AllWithin (λ x. t x ≡ false) xs 0 i → filter t xs ≡ filter t (drop i xs)
-  filter_from [] zero h = refl
-  filter_from [] (suc i) h = refl
-  filter_from (x ∷ xs) zero h = refl
-  filter_from (x ∷ xs) (suc i) h = ap (λ b. cond b (x ∷ filter t xs) (filter t xs)) (h 0 x (omega arith) (omega arith)) ∙ filter_from xs i (λ k d p q. h (suc k) d (omega arith) (omega arith))
-
-  -- what all pass is kept whole
-  pub filter_whole : (xs : List X) → AllWithin (λ x. t x ≡ true) xs 0 (length xs) → filter t xs ≡ xs
-  filter_whole [] h = refl
-  filter_whole (x ∷ xs) h = ap (λ b. cond b (x ∷ filter t xs) (filter t xs)) (h 0 x (omega arith) (omega arith)) ∙ ap (λ ys. x ∷ ys) (filter_whole xs (λ k d p q. h (suc k) d (omega arith) (omega arith)))
-
-  -- what fails from a place on is not kept
-  pub filter_front : (xs : List X) (i : ℕ) → AllWithin (λ x. t x ≡ true) xs 0 i → AllWithin (λ x. t x ≡ false) xs i (length xs) → filter t xs ≡ take i xs
-  filter_front [] zero passes fails = refl
-  filter_front [] (suc i) passes fails = refl
-  filter_front (x ∷ xs) zero passes fails =
-      ap (λ b. cond b (x ∷ filter t xs) (filter t xs)) (fails 0 x (omega arith) (omega arith))
-      ∙ filter_front xs zero (λ k d p q. absurd (omega arith)) (λ k d p q. fails (suc k) d (omega arith) (omega arith)) ∙ take_none xs
-    where
-      take_none : (xs : List X) → take 0 xs ≡ []
-      take_none [] = refl
-      take_none (x ∷ xs) = refl
-  filter_front (x ∷ xs) (suc i) passes fails =
-      ap (λ b. cond b (x ∷ filter t xs) (filter t xs)) (passes 0 x (omega arith) (omega arith))
-      ∙ ap (λ ys. x ∷ ys) (filter_front xs i (λ k d p q. passes (suc k) d (omega arith) (omega arith)) (λ k d p q. fails (suc k) d (omega arith) (omega arith)))
-
-  -- what fails before a place and passes from there on
-  pub filter_back : (xs : List X) (i : ℕ) → i ≤ length xs → AllWithin (λ x. t x ≡ false) xs 0 i → AllWithin (λ x. t x ≡ true) xs i (length xs) → filter t xs ≡ drop i xs
-  filter_back xs i le fails passes =
-      filter_from xs i fails
-      ∙ filter_whole (drop i xs) (λ k d p q. subst (λ x. t x ≡ true) (sym (get_or-drop i xs k d)) (passes (i + k) d (omega arith) (omega (arith, length-drop i xs))))
 
 -- ---- rows
 

@@ -1,5 +1,5 @@
 // The rows of a day.
-ghost use Rattle.std.specs.Prelude.{◌≡◌, ◌*◌, ◌^◌, ◌≤◌, ◌+ℤ◌, ◌-ℤ◌, IfOk, true, not, unsigned_abs, unwrap_or, None};
+ghost use Rattle.std.specs.Prelude.{◌≡◌, ◌*◌, ◌^◌, ◌≤◌, ◌+ℤ◌, ◌-ℤ◌, ◌∷◌, [], ◌++◌, IfOk, OnOk, true, not, unsigned_abs, unwrap_or, None};
 ghost use Rattle.std.specs.Cmp.Lexicographic.{slice_cmp};
 ghost use Rattle.std.specs.FinMap.{is_sorted};
 ghost use Rattle.std.specs.List.{AllByRecursion};
@@ -7,10 +7,11 @@ ghost use Rattle.std.specs.Ordering.{nat_cmp};
 ghost use Rattle.cns_terms.specs.declared.holding.Key.{Key};
 ghost use Rattle.cns_terms.specs.Sheets.{is_idle};
 ghost use Rattle.cns_units.specs.declared.price.Price.{Price};
+ghost use Rattle.cns_positions.specs.Rows.{last_of, present};
 ghost use Rattle.cns_sheets.specs.Build.{HasSmallCents, IsMarked, priced_row, listed_rows, worth, marked};
 
 use crate::quotes::Quotes;
-use cns_positions::Positions;
+use cns_positions::{NextRows, Positions};
 use cns_terms::{Holding, Key, NoMemory, Row};
 use cns_units::{Cents, Cusip, Price};
 use std::alloc::Allocator;
@@ -93,6 +94,57 @@ fn is_silent(holding: &Holding) -> bool
     holding.opening == 0 && holding.now == 0 && holding.contract == 0
 }
 
+// Puts the row of a holding after others, if it says something.
+fn push_row<A: Allocator + Drop>(
+    rows: &mut Vec<Row, A>,
+    before: &mut Quotes,
+    now: &mut Quotes,
+    key: &Key,
+    holding: &Holding,
+) -> Result<(), NoMemory>
+    requires small { HasSmallCents (key.now, holding.now) }
+    requires marked { AllByRecursion IsMarked rows.old.items }
+    ensures rows { OnOk result (rows.new.items ≡ rows.old.items ++ listed_rows before.old now.old ((key.now, holding.entry.now) ∷ [])) }
+    ensures marked { OnOk result (AllByRecursion IsMarked rows.new.items) }
+    ensures before { before.new ≡ before.old }
+    ensures now { now.new ≡ now.old }
+{
+    if is_silent(holding) {
+        return Ok(());
+    }
+    let opening_price = or_zero(before.price(&key.issue, 0));
+    let price = or_zero(now.price(&key.issue, before.passed()));
+    match rows.push(row_of(key, holding, opening_price, price)) {
+        Ok(()) => Ok(()),
+        Err(_) => Err(NoMemory),
+    }
+}
+
+// Puts the rows of holdings after others, and returns the key of the last holding.
+fn push_rows<A: Allocator + Drop>(
+    rows: &mut Vec<Row, A>,
+    before: &mut Quotes,
+    now: &mut Quotes,
+    holdings: &NextRows,
+) -> Result<Option<Key>, NoMemory>
+    requires small { AllByRecursion HasSmallCents (present holdings.now.items) }
+    requires marked { AllByRecursion IsMarked rows.old.items }
+    ensures rows { OnOk result (rows.new.items ≡ rows.old.items ++ listed_rows before.old now.old (present holdings.now.items)) }
+    ensures last { IfOk result (λ key. key ≡ last_of None (present holdings.now.items)) }
+    ensures marked { OnOk result (AllByRecursion IsMarked rows.new.items) }
+    ensures before { before.new ≡ before.old }
+    ensures now { now.new ≡ now.old }
+{
+    let mut last = None;
+    for held in holdings.as_slice() {
+        if let Some((key, holding)) = held {
+            push_row(rows, before, now, key, holding)?;
+            last = Some(*key);
+        }
+    }
+    Ok(last)
+}
+
 /// The rows of a day, in the order of keys, of which `room` are expected, by the prices of the close before and of this
 /// one. Where memory is refused nothing has changed.
 pub fn collect<P: Positions<B>, B, A: Allocator + Drop>(
@@ -109,20 +161,16 @@ pub fn collect<P: Positions<B>, B, A: Allocator + Drop>(
     ensures marked { IfOk result (λ v. AllByRecursion IsMarked v.items) }
 {
     let mut rows = Vec::with_capacity(alloc, room)?;
-    let mut earlier = Quotes::new(before);
-    let mut current = Quotes::new(now);
+    let mut before = Quotes::new(before);
+    let mut now = Quotes::new(now);
     let mut after = None;
-    while let Some((key, holding)) = positions.next_row(after) {
-        let key = &key;
-        let holding = &holding;
-        if !is_silent(holding) {
-            let opening_price = or_zero(earlier.price(&key.issue, 0));
-            let price = or_zero(current.price(&key.issue, earlier.passed()));
-            let Ok(()) = rows.push(row_of(key, holding, opening_price, price)) else {
-                return Err(NoMemory);
-            };
-        }
-        after = Some(*key);
+    while let Some(last) = push_rows(
+        &mut rows,
+        &mut before,
+        &mut now,
+        &positions.next_rows(after),
+    )? {
+        after = Some(last);
     }
     Ok(rows)
 }

@@ -1,11 +1,57 @@
 // What stands at an account's place in an issue, and what is booked there.
+ghost use Rattle.std.specs.Prelude.{◌≡◌, ◌+◌, ◌*◌, ◌^◌, ◌<◌, take};
+ghost use Rattle.std.specs.Int.{w64, from_be_bytes};
+ghost use Rattle.std.specs.Ordering.{as_partial_cmp};
+ghost use Rattle.std.specs.Cmp.{partial_order_from_own_ties};
+ghost use Rattle.std.specs.Cmp.Rules.{comparing};
+ghost use Rattle.std.proofs.Common.{rules};
+ghost use Rattle.cns_units.specs.Cusip.{IsCusip};
+ghost use Rattle.cns_terms.specs.Keys.{key_cmp};
+
 use cns_units::{Account, Cusip};
+use std::cmp::Ordering;
 
 /// An account's place in an issue. Keys are in the order of accounts, and then of the bytes of the CUSIP.
-#[derive(Clone, Copy, Debug, PartialEq, Eq, PartialOrd, Ord)]
+#[derive(Clone, Copy, Debug, PartialEq, Eq)]
 pub struct Key {
     pub account: Account,
     pub issue: Cusip,
+}
+
+impl Key {
+    // The account and the issue as one number, in whose order keys are: a map compares keys all the way down.
+    fn number(&self) -> u128
+        ensures exact { result ≡ self.now.account * 2 ^ 64 + from_be_bytes w64 (take 8 self.now.issue) }
+        ensures valid { IsCusip self.now.issue }
+        ensures small { from_be_bytes w64 (take 8 self.now.issue) < 2 ^ 64 }
+    {
+        u128::from(self.account.value()) * (1 << 64) + u128::from(self.issue.body())
+    }
+}
+
+impl Ord for Key {
+    ghost cmp = { key_cmp };
+
+    ghost total = { Prim.search (comparing, rules) };
+
+    ghost matches_partial_cmp = { Prim.search (comparing, rules) };
+
+    ghost matches_eq = { Prim.search (comparing, rules) };
+
+    fn cmp(&self, other: &Key) -> Ordering {
+        self.number().cmp(&other.number())
+    }
+}
+
+impl PartialOrd for Key {
+    ghost partial_cmp = { as_partial_cmp key_cmp };
+
+    ghost laws = { partial_order_from_own_ties (Prim.search (comparing, rules))
+        (Prim.search (comparing, rules)) };
+
+    fn partial_cmp(&self, other: &Key) -> Option<Ordering> {
+        Some(self.cmp(other))
+    }
 }
 
 /// What stands at a key. A key without a holding counts as zeros.

@@ -17,7 +17,7 @@ option_or-Some None x p = refl
 option_or-Some (Some y) x p = refl
 
 -- what is below a row that isn't above k isn't either
-above_falls : {V : Type 0} (k : Key) (x e : Key × V) → key_cmp x.0 e.0 ≡ Less → is_above k e ≡ false → is_above k x ≡ false
+pub above_falls : {V : Type 0} (k : Key) (x e : Key × V) → key_cmp x.0 e.0 ≡ Less → is_above k e ≡ false → is_above k x ≡ false
 above_falls k x e p n = ap is_lt (after keys_total k e.0 x.0 (key_cmp k e.0) refl n p)
 
 -- the first row above k, where e is above it

@@ -30,6 +30,26 @@ less Less e = refl
 less Equal e = cc
 less Greater e = cc
 
+-- how two keys compare, from what was seen of it
+pub less_seen : {b : Bool} {seen r : Ordering} → seen ≡ r → b ≡ is_lt seen → b ≡ true → r ≡ Less
+less_seen {r = r} is test true_is = less r (ap is_lt (sym is) ∙ sym test ∙ true_is)
+
+pub equal_seen : {b : Bool} {seen r : Ordering} → seen ≡ r → b ≡ is_eq seen → b ≡ true → r ≡ Equal
+equal_seen {r = r} is test true_is = equal r (ap is_eq (sym is) ∙ sym test ∙ true_is)
+  where
+    equal : (r : Ordering) → is_eq r ≡ true → r ≡ Equal
+    equal Less e = cc
+    equal Equal e = refl
+    equal Greater e = cc
+
+pub greater_seen : {a b : Bool} {seen r : Ordering} → seen ≡ r → a ≡ is_eq seen → a ≡ false → b ≡ is_lt seen → b ≡ false → r ≡ Greater
+greater_seen {r = r} is eq ne lt ge = greater r (ap is_eq (sym is) ∙ sym eq ∙ ne) (ap is_lt (sym is) ∙ sym lt ∙ ge)
+  where
+    greater : (r : Ordering) → is_eq r ≡ false → is_lt r ≡ false → r ≡ Greater
+    greater Less e n = cc
+    greater Equal e n = cc
+    greater Greater e n = refl
+
 -- a test that holds is true
 T-true : (b : Bool) → T b → b ≡ true
 T-true true t = refl
@@ -67,7 +87,7 @@ module _ {K X : Type 0} (R : K → K → Ordering) where
   below_left x (y ∷ t) m b = both _ _ (and_left _ _ b) (below_left x t m (and_right _ _ b))
 
   -- and below a row in its middle
-  below_middle : (x : K) (l : List (K × X)) (e : K × X) (r : List (K × X)) → below_all R x (l ++ e ∷ r) ≡ true → R x e.0 ≡ Less
+  pub below_middle : (x : K) (l : List (K × X)) (e : K × X) (r : List (K × X)) → below_all R x (l ++ e ∷ r) ≡ true → R x e.0 ≡ Less
   below_middle x [] e r b = less _ (and_left _ _ b)
   below_middle x (y ∷ t) e r b = below_middle x t e r (and_right _ _ b)
 

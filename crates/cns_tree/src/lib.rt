@@ -11,6 +11,8 @@
 #![tactic(auto)]
 
 mod build;
+mod change;
+mod near;
 mod node;
 mod put;
 mod rotate;

@@ -1,15 +1,14 @@
 // The nodes of a tree.
-ghost use Rattle.std.specs.Prelude.{◌≡◌, [], ◌∷◌, ◌++◌, ◌+◌, max, true, None, MatchOption};
+ghost use Rattle.std.specs.Prelude.{◌≡◌, [], ◌∷◌, ◌++◌, ◌+◌, max, true, MatchOption};
 ghost use Rattle.std.specs.FinMap.{find, is_sorted};
 ghost use Rattle.cns_tree.specs.Apart.{IsApart};
 ghost use Rattle.cns_terms.specs.Keys.{key_cmp};
-ghost use Rattle.cns_tree.specs.Search.{is_at_or_after, is_above, is_after};
+ghost use Rattle.cns_tree.specs.Search.{is_at_or_after, is_above};
 ghost use Rattle.cns_tree.specs.Shape.{IsLean};
 ghost use Rattle.std.specs.List.{find as first};
 
 use cns_terms::Key;
 use std::alloc::Allocator;
-use std::cmp::Ordering;
 use std::marker::Model;
 use std::mem;
 
@@ -28,15 +27,15 @@ pub struct Subtree<V: Copy, A: Allocator> {
     pub(crate) top: Option<Box<Node<V, A>, A>>,
 }
 
-/// A row with what is below and above it.
+/// A row with what is below and above it. What a way down reads stands first, so that it is mostly on one line of memory.
 #[cycle(tree)]
 #[derive(Drop)]
 pub struct Node<V: Copy, A: Allocator> {
     pub(crate) key: Key,
-    pub(crate) value: V,
     pub(crate) lean: Lean,
     pub(crate) left: Subtree<V, A>,
     pub(crate) right: Subtree<V, A>,
+    pub(crate) value: V,
 }
 
 impl<V: Copy, A: Allocator> Model for Subtree<V, A> {
@@ -98,10 +97,14 @@ impl<V: Copy, A: Allocator> Subtree<V, A> {
         let mut side = self;
         while let Some(node) = &side.top {
             let node: &Node<V, A> = node;
-            side = match key.cmp(&node.key) {
-                Ordering::Less => &node.left,
-                Ordering::Equal => return Some(node.value),
-                Ordering::Greater => &node.right,
+            let order = key.cmp(&node.key);
+            if order.is_eq() {
+                return Some(node.value);
+            }
+            side = if order.is_lt() {
+                &node.left
+            } else {
+                &node.right
             };
         }
         None
@@ -120,20 +123,6 @@ impl<V: Copy, A: Allocator> Subtree<V, A> {
                     .saturating_add(1)
             }
         }
-    }
-
-    /// The first row.
-    pub(crate) fn first(&self) -> Option<(Key, V)>
-        ensures { result ≡ first (is_after None) self.now.0 }
-    {
-        let mut side = self;
-        let mut best = None;
-        while let Some(node) = &side.top {
-            let node: &Node<V, A> = node;
-            best = Some((node.key, node.value));
-            side = &node.left;
-        }
-        best
     }
 
     /// The first row whose key is the key or above it.

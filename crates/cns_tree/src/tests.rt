@@ -111,7 +111,10 @@ fn rebuilt_of<A: Allocator + Clone>(
 }
 
 // Gives the key 500 the value 7 with an empty spare.
-fn change<A: Allocator + Clone>(rt: &impl Abort, tree: &mut Tree<u64, A>) -> Result<(), NoMemory> {
+fn put_again<A: Allocator + Clone>(
+    rt: &impl Abort,
+    tree: &mut Tree<u64, A>,
+) -> Result<(), NoMemory> {
     let mut empty = tree.spare(0, 0)?;
     let changed = &key(rt, 500);
     if tree.get(*changed).is_some() {
@@ -133,6 +136,24 @@ fn is_changed<A: Allocator + Clone>(rt: &impl Abort, tree: &Tree<u64, A>) -> boo
     number == 1000
 }
 
+// Gives the key 500 its old value, each key ten more, and looks at what the rows are then.
+fn change_in_place<A: Allocator + Clone>(rt: &impl Abort, tree: &mut Tree<u64, A>) -> bool {
+    assert!(rt; tree.change(key(rt, 500), |value| value ^ 7 ^ 500));
+    assert!(rt; counts_to(rt, tree, 1000));
+    assert!(rt; !tree.change(key(rt, 1001), |value| value ^ 1));
+    assert!(rt; counts_to(rt, tree, 1000));
+    tree.change_each(|value| value ^ 1024);
+    assert_eq!(rt; tree.len(), 1000);
+    let mut number = 0u16;
+    for row in tree.walk() {
+        number = number.saturating_add(1);
+        if row != (key(rt, number), u64::from(number) ^ 1024) {
+            return false;
+        }
+    }
+    number == 1000
+}
+
 fn thousand_rows<A: Allocator + Clone>(
     rt: &impl Abort,
     alloc: A,
@@ -143,8 +164,9 @@ fn thousand_rows<A: Allocator + Clone>(
     four_boxes(rt, &tree)?;
     copies(rt, &tree)?;
     rebuilt_of(rt, alloc, &tree, global)?;
-    change(rt, &mut tree)?;
+    put_again(rt, &mut tree)?;
     assert!(rt; is_changed(rt, &tree));
+    assert!(rt; change_in_place(rt, &mut tree));
     Ok(())
 }
 
@@ -172,6 +194,63 @@ fn a_dropped_tree_gives_its_memory_back(rt: HostRuntime) -> Result<(), Fail> {
         drop(tree);
         assert_eq!(rt; heap.used(), 0);
     }
+    Ok(())
+}
+
+#[test]
+fn a_walk_begins_above_a_key(rt: HostRuntime) -> Result<(), Fail> {
+    let mut tree = Tree::new(rt.alloc());
+    for number in [2, 4, 6, 8] {
+        let mut spare = tree.spare(1, 0)?;
+        tree.put(key(&rt, number), u64::from(number), &mut spare);
+    }
+    let cases: [(Option<u16>, &[u64]); 6] = [
+        (None, &[2, 4, 6, 8]),
+        (Some(1), &[2, 4, 6, 8]),
+        (Some(2), &[4, 6, 8]),
+        (Some(5), &[6, 8]),
+        (Some(8), &[]),
+        (Some(9), &[]),
+    ];
+    for (above, expected) in cases {
+        let above = above.map(|number| key(&rt, number));
+        let mut found = Vec::new(rt.alloc());
+        for (_, value) in tree.walk_above(above) {
+            found.push(value)?;
+        }
+        assert_eq!(rt; found.as_slice(), expected);
+    }
+    Ok(())
+}
+
+fn is_empty(rt: &impl Abort, tree: &Tree<u64, Global>) -> bool {
+    tree.len() == 0 && tree.prefetch(&[key(rt, 1)]) == 0 && counts_to(rt, tree, 0)
+}
+
+#[test]
+fn nothing_makes_an_empty_tree(rt: HostRuntime) -> Result<(), Fail> {
+    let rows: Vec<(Key, u64)> = Vec::new(rt.alloc());
+    let mut none = Tree::from_sorted(rt.alloc(), rows.as_slice())?;
+    assert!(rt; is_empty(&rt, &none));
+    let copy = none.copied()?;
+    assert!(rt; is_empty(&rt, &copy));
+    assert!(rt; !none.change(key(&rt, 1), |value| value ^ 1));
+    none.change_each(|value| value ^ 1);
+    assert!(rt; is_empty(&rt, &none));
+    Ok(())
+}
+
+#[test]
+fn rows_are_brought_near_and_stay(rt: HostRuntime) -> Result<(), Fail> {
+    let tree = filled(&rt, rt.alloc())?;
+    let mut keys = Vec::new(rt.alloc());
+    for number in 1..=40 {
+        keys.push(key(&rt, number * 30))?;
+    }
+    // Forty ways down a tree of a thousand rows, each of seven levels at least.
+    assert!(rt; tree.prefetch(keys.as_slice()) >= 280);
+    assert_eq!(rt; tree.prefetch(&[]), 0);
+    assert!(rt; counts_to(&rt, &tree, 1000));
     Ok(())
 }
 

@@ -1,11 +1,11 @@
 // The tree and its public calls.
-ghost use Rattle.std.specs.Prelude.{◌≡◌, ◌+◌, ◌<◌, ◌≤◌, ◌⊎◌, [], true, is_some, length, min, IfOk, if◌then◌else◌};
+ghost use Rattle.std.specs.Prelude.{◌≡◌, ◌+◌, ◌<◌, ◌≤◌, ◌⊎◌, [], true, is_some, length, min, IfOk, IfSome, if◌then◌else◌};
 ghost use Rattle.std.specs.FinMap.{find, is_sorted};
 ghost use Rattle.std.specs.FinMap as rows;
-ghost use Rattle.std.specs.List.{find as first};
+ghost use Rattle.std.specs.List.{filter, find as first};
 ghost use Rattle.cns_terms.specs.Keys.{key_cmp};
+ghost use Rattle.cns_tree.specs.Changes.{ChangesAt, ChangesEach};
 ghost use Rattle.cns_tree.specs.Search.{is_at_or_after, is_above, is_after};
-ghost use Rattle.cns_tree.specs.Walk.{rows_left};
 
 use crate::build::{boxed, build};
 use crate::node::Subtree;
@@ -19,10 +19,11 @@ use std::mem;
 
 /// A map from keys to values, as a tree of one box a row. Contracts see its rows as a list in the order of their keys.
 ///
-/// The tree keeps an allocator. Its calls take no memory, but for `spare`, `from_sorted` and `copied`.
+/// The tree keeps an allocator. Its calls take no memory, but for `spare`, `from_sorted` and `copied`. A look-up, a `put`
+/// or a `change` is one way down; `walk` and `change_each` are one pass over the rows.
 #[derive(Drop)]
 pub struct Tree<V: Copy, A: Allocator + Clone> {
-    root: Subtree<V, A>,
+    pub(crate) root: Subtree<V, A>,
     count: usize,
     alloc: A,
 }
@@ -94,6 +95,11 @@ impl<V: Copy, A: Allocator + Clone> Tree<V, A> {
         Ok(spare)
     }
 
+    /// The allocator of the boxes.
+    pub fn allocator(&self) -> &A {
+        &self.alloc
+    }
+
     /// How many rows there are; past `usize::MAX`, which no memory holds, that number.
     pub fn len(&self) -> usize
         ensures count { result ≡ min (length self.now) usize.MAX }
@@ -125,6 +131,26 @@ impl<V: Copy, A: Allocator + Clone> Tree<V, A> {
         }
     }
 
+    /// Gives the value at a key, if the key has a row, what `change` makes of it; all else stays. False where the key has
+    /// no row. It costs one way down.
+    pub fn change<F: FnOnce(V) -> V>(&mut self, key: Key, change: F) -> bool
+        requires { IfSome (find key_cmp key self.old) (F.pre change) }
+        ensures found { result ≡ is_some (find key_cmp key self.old) }
+        ensures rows { ChangesAt (F.post change) key self.old self.new }
+        ensures rises { is_sorted key_cmp self.new ≡ true }
+    {
+        self.root.change(key, change)
+    }
+
+    /// Gives each value what `change` makes of it. It costs one pass over the rows.
+    pub fn change_each<F: Fn(V) -> V>(&mut self, change: F)
+        requires { F.IsAlwaysCallable change }
+        ensures rows { ChangesEach (F.post change) self.old self.new }
+        ensures rises { is_sorted key_cmp self.new ≡ true }
+    {
+        self.root.change_each(&change);
+    }
+
     /// The first row whose key is the key or above it.
     pub fn first_at_or_after(&self, key: Key) -> Option<(Key, V)>
         ensures row { result ≡ first (is_at_or_after key) self.now }
@@ -141,33 +167,27 @@ impl<V: Copy, A: Allocator + Clone> Tree<V, A> {
         self.root.first_above(key)
     }
 
-    /// The rows in the order of their keys. Each costs one way down the tree.
+    /// The rows in the order of their keys.
     pub fn walk(&self) -> Walk<V, A>
-        ensures rows { rows_left result ≡ self.now }
+        ensures rows { result ≡ self.now }
+        ensures rises { is_sorted key_cmp self.now ≡ true }
+    {
+        self.walk_above(None)
+    }
+
+    /// The rows above a key in the order of their keys, or all of them.
+    pub fn walk_above(&self, key: Option<Key>) -> Walk<V, A>
+        ensures rows { result ≡ filter (is_after key) self.now }
         ensures rises { is_sorted key_cmp self.now ≡ true }
     {
         let _ = &self.root;
-        Walk {
-            tree: self,
-            last: None,
-        }
+        Walk::new(self, key)
     }
 
     /// The nodes on the longest way down, counted one by one.
     #[cfg(test)]
     pub(crate) fn height(&self) -> u32 {
         self.root.height()
-    }
-
-    // The first row above the last one of a walk, or the first of all.
-    pub(crate) fn first_after(&self, last: Option<Key>) -> Option<(Key, V)>
-        ensures row { result ≡ first (is_after last) self.now }
-        ensures rises { is_sorted key_cmp self.now ≡ true }
-    {
-        match last {
-            None => self.root.first(),
-            Some(key) => self.root.first_above(key),
-        }
     }
 }
 

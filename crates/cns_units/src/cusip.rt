@@ -117,8 +117,9 @@ impl Cusip {
 }
 
 impl Cusip {
-    // The characters before the check digit, as one number that orders as they do.
-    fn body(&self) -> u64
+    /// The characters before the check digit as one number, big end first. CUSIPs are in the order of these numbers,
+    /// since the check digit follows from the characters.
+    pub fn body(&self) -> u64
         ensures exact { result ≡ from_be_bytes w64 (take 8 self.now) }
         ensures valid { IsCusip self.now }
     {

@@ -4,8 +4,7 @@ use Rattle.std.proofs.lemmas.List.{take_all, take_more}
 use Rattle.std.proofs.lemmas.List.Elements.{Contains-push_cases}
 use Rattle.cns_terms.specs.declared.holding.Key.{Key}
 use Rattle.cns_positions.specs.Rows.{Rows}
-use Rattle.cns_positions.specs.Placed.{has_row}
-use Rattle.cns_positions.specs.Flat.{joined}
+use Rattle.cns_positions.specs.Contents.{has_row}
 use Rattle.cns_positions.proofs.flat.enter_all.Goals as goal
 
 -- one key more has a row
@@ -19,10 +18,10 @@ entered old new keys i key lt is were stay there k h =
 
 pub loop-key-preserved : goal.loop-key-preserved
 loop-key-preserved g c = record {
-  accounts = c.enter_key.ensures.accounts;
-  there = entered (joined c.loop-key.accounts.items) (joined c.enter_key.new.accounts.items) c.args.keys.now c.loop-key.key-index c.key-item.result c.loop-key-test.true c.key-item.is c.loop-key.invariant.there c.enter_key.ensures.others c.in_ok-enter_key.ensures.there;
-  others = λ k h. c.enter_key.ensures.others k (c.loop-key.invariant.others k h);
-  same = λ k. c.enter_key.ensures.same k ∙ c.loop-key.invariant.same k;
+  sorted = c.enter.ensures.sorted;
+  there = entered c.loop-key.rows.items c.enter.new.rows.items c.args.keys.now c.loop-key.key-index c.key-item.result c.loop-key-test.true c.key-item.is c.loop-key.invariant.there c.enter.ensures.others c.in_ok-enter.ensures.there;
+  others = λ k h. c.enter.ensures.others k (c.loop-key.invariant.others k h);
+  same = λ k. c.enter.ensures.same k ∙ c.loop-key.invariant.same k;
 }
 
 pub returns-clause-there : goal.returns-clause-there

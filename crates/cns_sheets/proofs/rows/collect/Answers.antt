@@ -1,43 +1,39 @@
-use Rattle.std.proofs.Common.{◌∙◌, sym, ◌≡◌}
-use Rattle.cns_terms.specs.declared.holding.Holding.{Holding}
-use Rattle.cns_terms.specs.declared.holding.Key.{Key}
-use Rattle.cns_terms.proofs.Everywhere.{each_append}
-use Rattle.cns_sheets.specs.Build.{IsMarked, listed_row}
-use Rattle.cns_sheets.proofs.HeldRows.{held_alone, next_small, row_more, row_priced, row_silent}
+use Rattle.std.proofs.Common.{◌≡◌, ◌∙◌, None, Some, sym}
+use Rattle.cns_positions.specs.Rows.{last_of, present}
+use Rattle.cns_sheets.specs.Build.{listed_rows}
+use Rattle.cns_sheets.proofs.HeldRows.{given_small, held_alone, pass_done, pass_more, pass_smaller}
 use Rattle.cns_sheets.proofs.rows.collect.Goals as goal
-use Rattle.cns_sheets.proofs.rows.collect.Goals.{then-not-is_silent+in-Ok, else-not-is_silent}
 
-pub loop-key-init : goal.loop-key-init
-loop-key-init g c = record {
-  done = rw c.in_ok-rows.ensures.items (held_alone c.args.before.now c.args.now.now (g.P.Positions.rows c.args.positions.now));
+pub loop-rows-init : goal.loop-rows-init
+loop-rows-init g c = record {
+  done = rw c.in_ok-rows.ensures.items (held_alone c.new-before.result c.new-now.result (g.P.Positions.rows c.args.positions.now));
   marked = rw c.in_ok-rows.ensures.items tt;
-  earlier = c.new-earlier.ensures;
-  current = c.new-current.ensures;
+  before = c.new-before.ensures;
+  now = c.new-now.ensures;
 }
 
-pub row_of-requires : goal.row_of-requires
-row_of-requires g c = next_small _ _ _ _ c.requires.small c.in-Some.ensures
+pub push_rows-requires-clause-small : goal.push_rows-requires-clause-small
+push_rows-requires-clause-small g c = given_small _ _ _ _ c.requires.small c.next_rows.ensures.first
 
-pub loop-key-preserved : goal.loop-key-preserved
-loop-key-preserved g c =
-    let before = c.args.before.now in
-    let now = c.args.now.now in
+pub loop-rows-preserved : goal.loop-rows-preserved
+loop-rows-preserved g c =
     let R = g.P.Positions.rows c.args.positions.now in
-    let e : Key × Holding = (c.in-Some.key, c.in-Some.holding) in
-    let kept = c.loop-key.invariant in
-    elim c.if-not-is_silent.branch [
-      | then-not-is_silent+in-Ok w ↦
-          let made : w.row_of.result ≡ listed_row before now e = row_priced before now _ _ e _ _ _ _ _ w.row_of.ensures.row w.or_zero-opening_price.ensures w.price.ensures.price kept.earlier w.or_zero-price.ensures w.price-then-not-is_silent.ensures.price kept.current in
-          record {
-            done = rw (w.rows-is, w.in-Ok.ensures.items) (row_more before now R c.loop-key.after e c.loop-key.rows.items w.row_of.result kept.done c.in-Some.ensures made (sym (c.is_silent.ensures c.in-Some.key 0 0) ∙ w.if-not-is_silent.true));
-            marked = rw (w.rows-is, w.in-Ok.ensures.items) (each_append IsMarked _ _ kept.marked (w.row_of.ensures.marked, tt));
-            earlier = w.earlier-is ∙ w.price.ensures.same ∙ kept.earlier;
-            current = w.current-is ∙ w.price-then-not-is_silent.ensures.same ∙ kept.current;
-          }
-      | else-not-is_silent w ↦ record {
-        done = rw w.rows-is (row_silent before now R c.loop-key.after e c.loop-key.rows.items kept.done c.in-Some.ensures (sym (c.is_silent.ensures c.in-Some.key 0 0) ∙ w.if-not-is_silent.false));
-        marked = rw w.rows-is kept.marked;
-        earlier = w.earlier-is ∙ kept.earlier;
-        current = w.current-is ∙ kept.current;
-      }
-    ]
+    let given = present c.next_rows.result.items in
+    let last : last_of None given ≡ Some c.in-Some.last = sym c.in_ok-last.ensures.last ∙ c.in-Some.is in
+    let kept = c.loop-rows.invariant in
+    record {
+      done = rw (c.push_rows.ensures.before, c.push_rows.ensures.now) (pass_more R c.loop-rows.after given c.next_rows.ensures c.loop-rows.before c.loop-rows.now c.in-Some.last c.loop-rows.rows.items c.push_rows.new.rows.items last kept.done c.in_ok-last.ensures.rows);
+      marked = c.in_ok-last.ensures.marked;
+      before = c.push_rows.ensures.before ∙ kept.before;
+      now = c.push_rows.ensures.now ∙ kept.now;
+    }
+
+pub loop-rows-smaller : goal.loop-rows-smaller
+loop-rows-smaller g c = pass_smaller (g.P.Positions.rows c.args.positions.now) c.loop-rows.after (present c.next_rows.result.items) c.in-Some.last c.next_rows.ensures (sym c.in_ok-last.ensures.last ∙ c.in-Some.is)
+
+pub returns-clause-rows : goal.returns-clause-rows
+returns-clause-rows g c =
+    let R = g.P.Positions.rows c.args.positions.now in
+    let kept = c.loop-rows.invariant in
+    pass_done R c.loop-rows.after (present c.next_rows.result.items) c.next_rows.ensures c.loop-rows.before c.loop-rows.now c.loop-rows.rows.items c.push_rows.new.rows.items (sym c.in_ok-last.ensures.last ∙ c.in_default.is) kept.done c.in_ok-last.ensures.rows
+    ∙ (λ i. listed_rows (kept.before i) (kept.now i) R)

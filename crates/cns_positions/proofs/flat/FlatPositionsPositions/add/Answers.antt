@@ -1,5 +1,11 @@
-use Rattle.cns_positions.proofs.Lists.{sorted_joined}
+use Rattle.std.proofs.Common.{◌∙◌, sym, w64}
+use Rattle.std.specs.Int.{w128}
+use Rattle.std.proofs.lemmas.Int.{to_z-of_z}
+use Rattle.cns_positions.proofs.Holdings.{written}
 use Rattle.cns_positions.proofs.flat.FlatPositionsPositions.add.Goals as goal
 
-pub returns-clause-order : goal.returns-clause-order
-returns-clause-order g c = sorted_joined c.book_key.new.accounts.items c.book_key.ensures.accounts
+pub returns-clause-booked : goal.returns-clause-booked
+returns-clause-booked g c k =
+    let rows = c.self.inside.rows.items in
+    rw (written c.self.inside.rows.len c.book.new.rows rows (sym (c.book.auto.rows ∙ c.as_mut_slice.ensures.len)), ← c.self.view_is)
+    (rw (c.as_mut_slice.ensures.value, to_z-of_z w64 c.args.shares c.ranges.shares, to_z-of_z w128 c.args.cents c.ranges.cents) at c.book.ensures.booked k)

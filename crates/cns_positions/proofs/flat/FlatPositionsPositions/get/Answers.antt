@@ -1,11 +1,18 @@
-use Rattle.std.proofs.Common.{◌≤◌, ◌∙◌, length, sym, arith}
-use Rattle.cns_positions.proofs.Replaced.{holding_there, nothing_past}
+use Rattle.std.proofs.Common.{◌∙◌, sym, ap, unwrap_or}
+use Rattle.cns_terms.specs.declared.holding.Key.{Key}
+use Rattle.cns_terms.specs.declared.holding.Holding.{Holding}
+use Rattle.cns_terms.proofs.Keys.{keys_total}
+use Rattle.cns_positions.specs.Rows.{zeros}
+use Rattle.cns_positions.proofs.Puts.{find_gap}
+use Rattle.cns_positions.proofs.Holdings.{found_here}
 use Rattle.cns_positions.proofs.flat.FlatPositionsPositions.get.Goals as goal
 
-pub returns-then-number-len : goal.returns-then-number-len
-returns-then-number-len g c = c.get.ensures ∙ sym (rw (← c.self.view_is) (holding_there c.self.inside.accounts.items c.number_of-number.result c.index.result.now c.index.result.now (omega arith) c.index.ensures c.args.key c.number_of-number.ensures c.self.invariant.accounts))
+pub returns-in-Ok : goal.returns-in-Ok
+returns-in-Ok g c =
+    let rows = c.self.inside.rows.items in
+    rw (← c.self.view_is) (ap (λ (r : Key × Holding). r.1) c.index.ensures ∙ sym (found_here rows c.in-Ok.at c.args.key c.index.result.now c.self.invariant.sorted (rw c.as_slice.ensures.value at c.in-Ok.ensures.bound) (rw c.as_slice.ensures.value at c.in-Ok.ensures.found)))
 
-pub returns-else-number-len : goal.returns-else-number-len
-returns-else-number-len g c =
-    let past : length c.self.inside.accounts.items ≤ c.args.key.account = omega arith in
-    rw (← c.self.view_is) (sym (nothing_past c.self.inside.accounts.items c.args.key c.self.invariant.accounts past))
+pub returns-in-Err : goal.returns-in-Err
+returns-in-Err g c =
+    let gap = rw c.as_slice.ensures.value at c.in-Err.ensures.absent in
+    rw (← c.self.view_is) (sym (ap (λ o. unwrap_or o zeros) (find_gap keys_total c.self.inside.rows.items c.in-Err.field-0 c.args.key gap.0 gap.1)))

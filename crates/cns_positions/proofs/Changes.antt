@@ -1,0 +1,57 @@
+-- What changes of a tree's rows make of the holdings.
+use Rattle.std.proofs.Common.{◌≡◌, ◌∙◌, sym, ap, refl, Bool, true, false, is_some, ◌&&◌, cond, List, [], ◌∷◌, ◌++◌, map, Option, Some, None}
+use Rattle.std.specs.Prelude.{MatchOption, ℤ, IfSome, unwrap_or}
+use Rattle.std.specs.Ordering.{is_lt}
+use Rattle.std.specs.List.{filter}
+use Rattle.std.specs.FinMap.{put, find}
+use Rattle.std.proofs.lemmas.List.Elements.{filter-append}
+use Rattle.cns_terms.specs.Keys.{key_cmp}
+use Rattle.cns_terms.specs.declared.holding.Key.{Key}
+use Rattle.cns_terms.specs.declared.holding.Holding.{Holding}
+use Rattle.cns_positions.specs.Rows.{Rows, held_above, holding_at, is_above, is_held, rolled, zeros}
+use Rattle.cns_positions.specs.Contents.{closed_rows, has_row}
+use Rattle.cns_positions.proofs.Holdings.{with_booked}
+use Rattle.cns_tree.specs.Changes.{ChangesAt, ChangesEach}
+use Rattle.cns_tree.specs.Search.{is_after}
+
+-- what holds of what stands at a key holds of its row's value
+pub if_there : (P : Holding → Type 0) (es : Rows) (k : Key) → P (holding_at es k) → IfSome (find key_cmp k es) P
+if_there P es k h = by (find key_cmp k es) h
+  where
+    by : (o : Option Holding) → P (unwrap_or o zeros) → IfSome o P
+    by None p = tt
+    by (Some v) p = p
+
+-- a change at a key that has a row, which books shares and cents, is a put
+pub booked_change : {P : Holding → Holding → Type 0} (es new : Rows) (k : Key) (s c : ℤ) → has_row es k ≡ true → ((v w : Holding) → P v w → w ≡ with_booked v s c) → ChangesAt P k es new → new ≡ put key_cmp k (with_booked (holding_at es k) s c) es
+booked_change {P} es new k s c there books = by (find key_cmp k es) there
+  where
+    by : (o : Option Holding) → is_some o ≡ true → MatchOption o (new ≡ es) (λ v. (w : Holding) × P v w × (new ≡ put key_cmp k w es)) → new ≡ put key_cmp k (with_booked (unwrap_or o zeros) s c) es
+    by None some h = cc
+    by (Some v) some (w, p, put_is) = put_is ∙ ap (λ x. put key_cmp k x es) (books v w p)
+
+-- a change of each value that rolls it closes the rows
+pub rolled_each : {P : Holding → Holding → Type 0} (es new : Rows) → ((v w : Holding) → P v w → w ≡ rolled v) → ChangesEach P es new → new ≡ closed_rows es
+unfolding ChangesEach
+rolled_each [] [] rolls h = refl
+rolled_each [] (s ∷ ss) rolls h = absurd h
+rolled_each (r ∷ rs) [] rolls h = absurd h
+rolled_each (r ∷ rs) (s ∷ ss) rolls (same, p, h) = λ i. (same i, rolls r.1 s.1 p i) ∷ rolled_each rs ss rolls h i
+
+-- the rows above a key, without those of zeros, are those of the rows above it
+pub above_held : (rows : Rows) (after : Option Key) → held_above (filter (is_after after) rows) None ≡ held_above rows after
+above_held [] after = refl
+above_held (r ∷ rows) None = ap (λ h. cond (is_held r.1) (r ∷ h) h) (above_held rows None)
+above_held (r ∷ rows) (Some k) =
+    elim (is_lt (key_cmp k r.0)) as (λ b. held_above (cond b (r ∷ filter (is_after (Some k)) rows) (filter (is_after (Some k)) rows)) None ≡ cond (b && is_held r.1) (r ∷ held_above rows (Some k)) (held_above rows (Some k))) [
+      | true ↦ ap (λ h. cond (is_held r.1) (r ∷ h) h) (above_held rows (Some k))
+      | false ↦ above_held rows (Some k)
+    ]
+
+-- the rows that aren't zeros among rows with one more, which isn't
+pub held_push : (rows : Rows) (r : Key × Holding) (b : Bool) → is_held r.1 ≡ b → held_above (rows ++ r ∷ []) None ≡ held_above rows None ++ cond b (r ∷ []) []
+held_push rows r b is = filter-append (λ x. is_above None x.0 && is_held x.1) rows (r ∷ []) ∙ ap (λ c. held_above rows None ++ cond c (r ∷ []) []) is
+
+-- and among two lists, one after the other
+pub held_append : (rows more : Rows) → held_above (rows ++ more) None ≡ held_above rows None ++ held_above more None
+held_append rows more = filter-append (λ x. is_above None x.0 && is_held x.1) rows more

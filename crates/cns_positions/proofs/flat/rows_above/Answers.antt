@@ -1,0 +1,16 @@
+use Rattle.std.proofs.Common.{rules}
+use Rattle.std.proofs.lemmas.List.{take_rest}
+use Rattle.std.proofs.lemmas.List.Sorted.{IsPartitionPoint-from_clause}
+use Rattle.std.specs.Ordering.{is_le}
+use Rattle.cns_terms.specs.declared.holding.Key.{Key}
+use Rattle.cns_terms.specs.declared.holding.Holding.{Holding}
+use Rattle.cns_terms.specs.Keys.{key_cmp}
+use Rattle.cns_positions.proofs.Held.{above_parted, parted_at}
+use Rattle.cns_positions.proofs.flat.rows_above.Goals as goal
+
+pub returns-in-Some : goal.returns-in-Some
+returns-in-Some c =
+    let rows = c.args.rows.now in
+    let key = c.in-Some.key in
+    let parted = IsPartitionPoint-from_clause (λ (r : Key × Holding). is_le (key_cmp r.0 key)) rows c.partition_point.result c.partition_point.ensures.partitioned (parted_at rows key c.requires) (λ x r q k. search rules) in
+    rw (take_rest, c.in-Some.is) (above_parted rows key c.partition_point.result c.partition_point.ensures.bound parted)

@@ -1,0 +1,25 @@
+-- What contracts see of positions, and what a form keeps.
+use Rattle.std.specs.Prelude.{◌≡◌, Bool, true, List, Contains, is_some, map}
+use Rattle.std.specs.FinMap.{find, is_sorted}
+use Rattle.cns_terms.specs.declared.holding.Key.{Key}
+use Rattle.cns_terms.specs.declared.holding.Holding.{Holding}
+use Rattle.cns_terms.specs.Keys.{key_cmp}
+use Rattle.cns_positions.specs.Rows.{Rows, rolled}
+
+-- what contracts see
+pub record Contents : Type 0 where
+  pub rows : List (Key × Holding)
+  pub prepared : List Key
+
+-- whether the key has a row, be it of zeros
+abbrev pub has_row : Rows → Key → Bool
+has_row rows k = is_some (find key_cmp k rows)
+
+-- what a close makes of the rows
+abbrev pub closed_rows : Rows → Rows
+closed_rows rows = map (λ r. (r.0, rolled r.1)) rows
+
+-- the keys strictly rise, and each prepared key has a row
+pub record IsKept (rows : Rows) (prepared : List Key) : Type 0 where
+  pub sorted : is_sorted key_cmp rows ≡ true
+  pub entered : (k : Key) → Contains prepared k → has_row rows k ≡ true

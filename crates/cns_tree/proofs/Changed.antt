@@ -1,0 +1,128 @@
+-- Values changed in place, around a row e with others on its left and right.
+use Rattle.std.proofs.Common.{◌≡◌, ◌+◌, suc, length, ◌&&◌, true, cond, is_some, List, [], ◌∷◌, ◌++◌, Option, Some, None, refl, sym, ap, ◌∙◌, subst}
+use Rattle.std.specs.Prelude.{MatchOption, IfSome}
+use Rattle.std.specs.declared.cmp.Ordering.TheVariants.{Less, Equal, Greater}
+use Rattle.std.specs.Ordering.{is_lt}
+use Rattle.std.specs.FinMap.{put, find, is_sorted}
+use Rattle.std.specs.FinMap.Entries.{below_all}
+use Rattle.cns_terms.specs.declared.holding.Key.{Key}
+use Rattle.cns_terms.specs.Keys.{key_cmp}
+use Rattle.cns_terms.proofs.Keys.{keys_total}
+use Rattle.cns_tree.specs.Changes.{ChangesAt, ChangesEach}
+use Rattle.cns_tree.proofs.Rows.{find_left, find_middle, find_right, length_put, puts_left, puts_middle, puts_right, rises_put}
+
+-- what holds of the value that a key has
+pub if_found : {V : Type 0} (P : V → Type 0) (o : Option V) (v : V) → o ≡ Some v → IfSome o P → P v
+if_found P o v is h = subst (λ x. IfSome x P) is h
+
+-- a change at a key that has no row, or that has one
+nothing : {V : Type 0} (P : V → V → Type 0) (k : Key) (d new : List (Key × V)) → find key_cmp k d ≡ None → new ≡ d → ChangesAt P k d new
+nothing {V} P k d new is same = subst (λ o. MatchOption o (new ≡ d) (λ v. (w : V) × P v w × (new ≡ put key_cmp k w d))) (sym is) same
+
+something : {V : Type 0} (P : V → V → Type 0) (k : Key) (d new : List (Key × V)) (v w : V) → find key_cmp k d ≡ Some v → P v w → new ≡ put key_cmp k w d → ChangesAt P k d new
+something {V} P k d new v w is p at = subst (λ o. MatchOption o (new ≡ d) (λ v. (w : V) × P v w × (new ≡ put key_cmp k w d))) (sym is) (w, p, at)
+
+-- what a change makes of the rows d
+pub record Changed {V : Type 0} (P : V → V → Type 0) (k : Key) (d new : List (Key × V)) : Type 0 where
+  pub rows : ChangesAt P k d new
+  pub rises : is_sorted key_cmp new ≡ true
+
+module _ {V : Type 0} (P : V → V → Type 0) (k : Key) (d l : List (Key × V)) (e : Key × V) (r : List (Key × V)) (is : d ≡ l ++ e ∷ r) (s : is_sorted key_cmp (l ++ e ∷ r) ≡ true) where
+  -- where the key is found
+  pub found_left : key_cmp k e.0 ≡ Less → find key_cmp k d ≡ find key_cmp k l
+  found_left p = ap (find key_cmp k) is ∙ find_left key_cmp keys_total k l e r p s
+
+  pub found_right : key_cmp k e.0 ≡ Greater → find key_cmp k d ≡ find key_cmp k r
+  found_right p = ap (find key_cmp k) is ∙ find_right key_cmp keys_total k l e r p s
+
+  pub found_middle : key_cmp k e.0 ≡ Equal → find key_cmp k d ≡ Some e.1
+  found_middle p = ap (find key_cmp k) is ∙ find_middle key_cmp keys_total k l e r p s
+
+  -- a change at e's key
+  pub changed_middle : (w : V) → key_cmp k e.0 ≡ Equal → P e.1 w → Changed P k d (l ++ (e.0, w) ∷ r)
+  changed_middle w p h =
+      let at = puts_middle key_cmp keys_total k w d l e r p is s in
+      record { rows = something P k d _ e.1 w (found_middle p) h (sym at.is); rises = at.rises }
+
+  -- a change at a key below e is one on its left side
+  pub changed_left : (m : List (Key × V)) → key_cmp k e.0 ≡ Less → ChangesAt P k l m → Changed P k d (m ++ e ∷ r)
+  changed_left m p = by (find key_cmp k l) refl
+    where
+      by : (o : Option V) → find key_cmp k l ≡ o → MatchOption o (m ≡ l) (λ v. (w : V) × P v w × (m ≡ put key_cmp k w l)) → Changed P k d (m ++ e ∷ r)
+      by None f same =
+          let whole = ap (λ u. u ++ e ∷ r) same in
+          record { rows = nothing P k d _ (found_left p ∙ f) (whole ∙ sym is); rises = ap (is_sorted key_cmp) whole ∙ s }
+      by (Some v) f (w, h, put_is) =
+          let at = puts_left key_cmp keys_total k w d l e r p is s in
+          let whole = ap (λ u. u ++ e ∷ r) put_is in
+          record { rows = something P k d _ v w (found_left p ∙ f) h (whole ∙ sym at.is); rises = ap (is_sorted key_cmp) whole ∙ at.rises }
+
+  -- and one above e on its right side
+  pub changed_right : (m : List (Key × V)) → key_cmp k e.0 ≡ Greater → ChangesAt P k r m → Changed P k d (l ++ e ∷ m)
+  changed_right m p = by (find key_cmp k r) refl
+    where
+      by : (o : Option V) → find key_cmp k r ≡ o → MatchOption o (m ≡ r) (λ v. (w : V) × P v w × (m ≡ put key_cmp k w r)) → Changed P k d (l ++ e ∷ m)
+      by None f same =
+          let whole = ap (λ u. l ++ e ∷ u) same in
+          record { rows = nothing P k d _ (found_right p ∙ f) (whole ∙ sym is); rises = ap (is_sorted key_cmp) whole ∙ s }
+      by (Some v) f (w, h, put_is) =
+          let at = puts_right key_cmp keys_total k w d l e r p is s in
+          let whole = ap (λ u. l ++ e ∷ u) put_is in
+          record { rows = something P k d _ v w (found_right p ∙ f) h (whole ∙ sym at.is); rises = ap (is_sorted key_cmp) whole ∙ at.rises }
+
+-- rows with their values changed: they rise, and there are as many
+pub record Kept {V : Type 0} (d new : List (Key × V)) : Type 0 where
+  pub rises : is_sorted key_cmp new ≡ true
+  pub count : length new ≡ length d
+
+-- after a change at a key
+pub kept_at : {V : Type 0} (P : V → V → Type 0) (k : Key) (d new : List (Key × V)) → is_sorted key_cmp d ≡ true → ChangesAt P k d new → Kept d new
+kept_at {V} P k d new s = by (find key_cmp k d) refl
+  where
+    by : (o : Option V) → find key_cmp k d ≡ o → MatchOption o (new ≡ d) (λ v. (w : V) × P v w × (new ≡ put key_cmp k w d)) → Kept d new
+    by None f same = record { rises = ap (is_sorted key_cmp) same ∙ s; count = ap length same }
+    by (Some v) f (w, h, put_is) = record {
+      rises = ap (is_sorted key_cmp) put_is ∙ rises_put key_cmp keys_total k w d s;
+      count = ap length put_is ∙ length_put key_cmp keys_total k w d s ∙ ap (λ o. cond (is_some o) (length d) (length d + 1)) f;
+    }
+
+-- where each value is changed, a key is below the rows where it was
+below_each : {V : Type 0} (P : V → V → Type 0) (k : Key) (old new : List (Key × V)) → ChangesEach P old new → below_all key_cmp k new ≡ below_all key_cmp k old
+unfolding ChangesEach
+below_each P k [] [] h = refl
+below_each P k [] (s ∷ ss) h = absurd h
+below_each P k (r ∷ rs) [] h = absurd h
+below_each P k (r ∷ rs) (s ∷ ss) (same, p, h) = λ i. is_lt (key_cmp k (same i)) && below_each P k rs ss h i
+
+-- and the keys rise where they did
+pub sorted_each : {V : Type 0} (P : V → V → Type 0) (old new : List (Key × V)) → ChangesEach P old new → is_sorted key_cmp new ≡ is_sorted key_cmp old
+unfolding ChangesEach
+sorted_each P [] [] h = refl
+sorted_each P [] (s ∷ ss) h = absurd h
+sorted_each P (r ∷ rs) [] h = absurd h
+sorted_each P (r ∷ rs) (s ∷ ss) (same, p, h) =
+    (λ i. below_all key_cmp (same i) ss && sorted_each P rs ss h i) ∙ ap (λ b. b && is_sorted key_cmp rs) (below_each P r.0 rs ss h)
+
+-- and there are as many
+length_each : {V : Type 0} (P : V → V → Type 0) (old new : List (Key × V)) → ChangesEach P old new → length new ≡ length old
+unfolding ChangesEach
+length_each P [] [] h = refl
+length_each P [] (s ∷ ss) h = absurd h
+length_each P (r ∷ rs) [] h = absurd h
+length_each P (r ∷ rs) (s ∷ ss) (same, p, h) = ap suc (length_each P rs ss h)
+
+-- after a change of each value
+pub kept_each : {V : Type 0} (P : V → V → Type 0) (d new : List (Key × V)) → is_sorted key_cmp d ≡ true → ChangesEach P d new → Kept d new
+kept_each P d new s h = record { rises = sorted_each P d new h ∙ s; count = length_each P d new h }
+
+-- each value of some rows changed, then that of the row after them, then each of those after it
+each_append : {V : Type 0} (P : V → V → Type 0) (l m : List (Key × V)) (e : Key × V) (w : V) (r s : List (Key × V)) → ChangesEach P l m → P e.1 w → ChangesEach P r s → ChangesEach P (l ++ e ∷ r) (m ++ (e.0, w) ∷ s)
+unfolding ChangesEach
+each_append P [] [] e w r s h p q = (refl, p, q)
+each_append P [] (y ∷ m) e w r s h p q = absurd h
+each_append P (x ∷ l) [] e w r s h p q = absurd h
+each_append P (x ∷ l) (y ∷ m) e w r s (same, t, h) p q = (same, t, each_append P l m e w r s h p q)
+
+-- so each value of the rows d
+pub each_changed : {V : Type 0} (P : V → V → Type 0) (d l m : List (Key × V)) (e : Key × V) (w : V) (r s : List (Key × V)) → d ≡ l ++ e ∷ r → ChangesEach P l m → P e.1 w → ChangesEach P r s → ChangesEach P d (m ++ (e.0, w) ∷ s)
+each_changed P d l m e w r s is h p q = subst (λ u. ChangesEach P u (m ++ (e.0, w) ∷ s)) (sym is) (each_append P l m e w r s h p q)
