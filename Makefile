@@ -14,9 +14,11 @@ sample: build
 	$(PROGRAM) replay --open $(OPENING) < examples/day.csv | tee examples/day.out
 	diff examples/day.replies examples/day.out
 
-# The gate: every proof from nothing, the edits that must fail, every test, and the stored run of the program.
+# The gate: every proof from nothing, the edits that must fail, every test, the stored run of the program, and the program
+# that the gate built, driven through a pipe.
 test:
 	rt ci
+	bash tests/pipe.sh $(PROGRAM)
 
 # Records a second and bytes a command, at 10^4, 10^5 and 10^6 records.
 bench: build

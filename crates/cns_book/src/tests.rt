@@ -1,6 +1,6 @@
 // The limit, each worker's numbers, want of memory, and the bounds of members' positions.
 use crate::{Book, Receipt, TakeFault};
-use cns_positions::FlatPositions;
+use cns_positions::TreePositions;
 use cns_sheets::Sheet;
 use cns_terms::{
     Activity, Closed, Command, Holding, Key, Listing, NoMemory, Refusal, Reply, Row, Stated, Trade,
@@ -12,7 +12,7 @@ use std::alloc::{Allocator, Global};
 use std::process::Abort;
 use std::test::Fail;
 
-type FlatBook<A> = Book<FlatPositions<A>, A>;
+type TreeBook<A> = Book<TreePositions<A>, A>;
 
 fn date(rt: &impl Abort, text: &[u8]) -> Day {
     let Ok(day) = Day::parse(text) else {
@@ -98,7 +98,7 @@ fn holding(now: i64, opening: i64, contract: i128, run: u32) -> Holding {
 
 // What a book answers to commands, each with its worker.
 fn answers<A: Allocator + Drop + Clone>(
-    book: &mut FlatBook<A>,
+    book: &mut TreeBook<A>,
     commands: &[(Worker, Command)],
     alloc: Global,
 ) -> Result<Vec<Result<Receipt, TakeFault>>, NoMemory> {
@@ -133,7 +133,7 @@ fn a_book_at_its_limit_takes_nothing_more(rt: HostRuntime) -> Result<(), Fail> {
         receipt(2, 2, TAKEN_BEFORE),
         Err(TakeFault::Full),
     ];
-    let mut book: FlatBook<Global> = Book::with_limit(rt.alloc(), opening(&rt), 2)?;
+    let mut book: TreeBook<Global> = Book::with_limit(rt.alloc(), opening(&rt), 2)?;
     let answered = answers(&mut book, commands.as_slice(), rt.alloc())?;
     assert_eq!(rt; answered.as_slice(), expected.as_slice());
     assert_eq!(rt; book.history_len(), 2);
@@ -143,7 +143,7 @@ fn a_book_at_its_limit_takes_nothing_more(rt: HostRuntime) -> Result<(), Fail> {
 
 #[test]
 fn a_book_with_the_limit_zero_is_full_at_once(rt: HostRuntime) -> Result<(), Fail> {
-    let mut book: FlatBook<Global> = Book::with_limit(rt.alloc(), opening(&rt), 0)?;
+    let mut book: TreeBook<Global> = Book::with_limit(rt.alloc(), opening(&rt), 0)?;
     let answer = book.take(Worker::FIRST, member(&rt, 1));
     assert_eq!(rt; answer, Err(TakeFault::Full));
     assert_eq!(rt; book.history_len(), 0);
@@ -165,7 +165,7 @@ fn each_worker_has_its_own_numbers(rt: HostRuntime) -> Result<(), Fail> {
         receipt(3, 2, TAKEN_BEFORE),
         receipt(4, 2, TAKEN_BEFORE),
     ];
-    let mut book: FlatBook<Global> = Book::new(rt.alloc(), opening(&rt))?;
+    let mut book: TreeBook<Global> = Book::new(rt.alloc(), opening(&rt))?;
     let answered = answers(&mut book, commands.as_slice(), rt.alloc())?;
     assert_eq!(rt; answered.as_slice(), expected.as_slice());
     assert_eq!(rt; book.count(second), 2);
@@ -182,7 +182,7 @@ const MOST_CENTS: u64 = 1_000_000_000_000_000_000;
 fn the_largest_positions_are_closed_and_no_larger_ones_are_taken(
     rt: HostRuntime,
 ) -> Result<(), Fail> {
-    let mut book: FlatBook<Global> = Book::new(rt.alloc(), opening(&rt))?;
+    let mut book: TreeBook<Global> = Book::new(rt.alloc(), opening(&rt))?;
     let begin = [
         first(member(&rt, 1)),
         first(member(&rt, 2)),
@@ -221,7 +221,7 @@ fn the_largest_positions_are_closed_and_no_larger_ones_are_taken(
 }
 
 // Takes trades of one share until one finds no memory, at most ten thousand; answers how many were taken.
-fn fill<A: Allocator + Drop + Clone>(rt: &impl Abort, book: &mut FlatBook<A>) -> u64 {
+fn fill<A: Allocator + Drop + Clone>(rt: &impl Abort, book: &mut TreeBook<A>) -> u64 {
     for reference in 1..=10_000 {
         if book
             .take(Worker::FIRST, trade(rt, reference, 1, 0))
@@ -236,7 +236,7 @@ fn fill<A: Allocator + Drop + Clone>(rt: &impl Abort, book: &mut FlatBook<A>) ->
 #[test]
 fn a_book_without_memory_is_as_it_was(rt: HostRuntime) -> Result<(), Fail> {
     let heap = LocalHeap::new(rt.alloc(), 65_536)?;
-    let mut book: FlatBook<&LocalHeap> = Book::new(&heap, opening(&rt))?;
+    let mut book: TreeBook<&LocalHeap> = Book::new(&heap, opening(&rt))?;
     let begin = [
         first(member(&rt, 1)),
         first(member(&rt, 2)),
@@ -252,6 +252,24 @@ fn a_book_without_memory_is_as_it_was(rt: HostRuntime) -> Result<(), Fail> {
     assert_eq!(rt; book.take(Worker::FIRST, close), Err(TakeFault::NoMemory));
     assert_eq!(rt; book.day(), 1);
     assert!(rt; book.sheet(opening(&rt)).is_none());
+    Ok(())
+}
+
+#[test]
+fn many_commands_are_taken_where_there_is_memory(rt: HostRuntime) -> Result<(), Fail> {
+    let mut book: TreeBook<Global> = Book::new(rt.alloc(), opening(&rt))?;
+    let begin = [
+        first(member(&rt, 1)),
+        first(member(&rt, 2)),
+        first(listing(&rt, 19_500)),
+    ];
+    answers(&mut book, begin.as_slice(), rt.alloc())?;
+    for reference in 1..=25_000u32 {
+        let place = reference.saturating_add(3);
+        let taken = book.take(Worker::FIRST, trade(&rt, u64::from(reference), 1, 0));
+        assert!(rt; taken == receipt(place, place, Reply::Accepted));
+    }
+    assert_eq!(rt; book.history_len(), 25_003);
     Ok(())
 }
 
@@ -300,7 +318,7 @@ fn look(rt: &impl Abort, sheet: &Sheet<Global>) {
 
 #[test]
 fn a_closed_day_has_its_sheet(rt: HostRuntime) -> Result<(), Fail> {
-    let mut book: FlatBook<Global> = Book::new(rt.alloc(), opening(&rt))?;
+    let mut book: TreeBook<Global> = Book::new(rt.alloc(), opening(&rt))?;
     answers(&mut book, first_day(&rt).as_slice(), rt.alloc())?;
     let Some(sheet) = book.sheet(opening(&rt)) else {
         return Err(Fail::new("no sheet"));
@@ -314,7 +332,7 @@ fn a_closed_day_has_its_sheet(rt: HostRuntime) -> Result<(), Fail> {
 
 #[test]
 fn a_day_without_activities_has_a_sheet_without_rows(rt: HostRuntime) -> Result<(), Fail> {
-    let mut book: FlatBook<Global> = Book::new(rt.alloc(), opening(&rt))?;
+    let mut book: TreeBook<Global> = Book::new(rt.alloc(), opening(&rt))?;
     let close = [first(Command::Activity(Activity::Close(date(&rt, b"2024-06-04"))))];
     answers(&mut book, close.as_slice(), rt.alloc())?;
     let Some(sheet) = book.sheet(opening(&rt)) else {
@@ -329,7 +347,7 @@ fn a_day_without_activities_has_a_sheet_without_rows(rt: HostRuntime) -> Result<
 
 #[test]
 fn a_statement_tells_its_rows_and_their_sums(rt: HostRuntime) -> Result<(), Fail> {
-    let mut book: FlatBook<Global> = Book::new(rt.alloc(), opening(&rt))?;
+    let mut book: TreeBook<Global> = Book::new(rt.alloc(), opening(&rt))?;
     answers(&mut book, first_day(&rt).as_slice(), rt.alloc())?;
     for (number, mark) in [(1, 10_000), (2, -10_000)] {
         let account = key(&rt, number).account;
@@ -351,7 +369,7 @@ fn a_statement_tells_its_rows_and_their_sums(rt: HostRuntime) -> Result<(), Fail
 
 #[test]
 fn reading_calls_tell_the_open_day(rt: HostRuntime) -> Result<(), Fail> {
-    let mut book: FlatBook<Global> = Book::new(rt.alloc(), opening(&rt))?;
+    let mut book: TreeBook<Global> = Book::new(rt.alloc(), opening(&rt))?;
     assert_eq!(rt; book.day(), 1);
     assert_eq!(rt; book.price(issue(&rt)), None);
     answers(&mut book, first_day(&rt).as_slice(), rt.alloc())?;

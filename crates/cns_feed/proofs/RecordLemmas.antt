@@ -1,8 +1,8 @@
--- The records that a reader gave, and the records of the text.
-use Rattle.std.proofs.Common.{◌≡◌, ℕ, zero, suc, ◌+◌, ◌<◌, ◌≤◌, Bool, true, false, List, [], ◌∷◌, ◌++◌, length, Option, Some, None, refl, ap, ◌∙◌, arith, append-nil}
+-- The records that a reader has left, and what a read takes of them.
+use Rattle.std.proofs.Common.{◌≡◌, ℕ, zero, suc, ◌+◌, ◌<◌, ◌≤◌, Bool, true, false, List, [], ◌∷◌, ◌++◌, length, map, Option, Some, None, refl, sym, ap, ◌∙◌, arith, append-nil, append_assoc, inl, Result, Ok, Err}
 use Rattle.std.specs.Prelude.{if◌then◌else◌, ◌==◌, ◌&&◌}
 use Rattle.csv.specs.Machine.{Read, after_end, ends_with, ends_at_end, in_field, start_field, start_record, is_byte, is_end, next_record, step}
-use Rattle.csv.specs.Reading.{Reached, records, records_from, records_next}
+use Rattle.csv.specs.Reading.{Reached, ReadRecord, default_config, records_from, records_next}
 use Rattle.csv.specs.declared.parser.Action.{Action}
 use Rattle.csv.specs.declared.parser.Action.TheVariants as act
 use Rattle.csv.specs.declared.parser.Config.{Config}
@@ -10,6 +10,13 @@ use Rattle.csv.specs.declared.parser.State.{State}
 use Rattle.csv.specs.declared.parser.State.TheVariants as st
 use Rattle.csv.specs.declared.parser.Terminator.{Terminator}
 use Rattle.csv.specs.declared.parser.Terminator.TheVariants as term
+use Rattle.csv.specs.declared.reader.Reader.{Reader}
+use Rattle.csv.proofs.ReadFacts.{rows-end, rows-more}
+use Rattle.cns_feed.specs.Line.{Line, Record, line_of}
+use Rattle.cns_feed.specs.Records.{Gives, GivesAll, GivesFirst, ReadsBatch, Setup, given_remaining}
+use Rattle.cns_feed.specs.declared.fault.ReplayFault.{ReplayFault}
+use Rattle.cns_feed.specs.declared.given.Given.{Given}
+use Rattle.cns_feed.specs.declared.records.Records.{Records}
 
 pick : {A : Type 0} (P : A → Type 0) (b : Bool) (x y : A) → (b ≡ true → P x) → (b ≡ false → P y) → P (if b then x else y)
 pick P true x y h k = h refl
@@ -75,42 +82,90 @@ moves cfg s fields field (c ∷ rest) =
     (λ e. (omega arith, (λ f. omega arith), clean_step cfg s c e))
     (λ e. move_longer s (step cfg s c).0 (length rest) _ (moves cfg (step cfg s c).0 _ _ rest))
 
--- ---- what was reached is a front of the records
+-- ---- the first record of a text
 
-pub record Front (cfg : Config) (n : ℕ) (s : State) (xs : List ℕ) (rows : List (List (List ℕ))) (s2 : State) (ys : List ℕ) : Type 0 where
-  pub fuel : ℕ
-  pub enough : length ys < fuel
-  pub records_are : records_from cfg n s xs ≡ rows ++ records_from cfg fuel s2 ys
+next_same : (f g : State → List ℕ → List Record) (s : State) (n : ℕ) (o : Option Read) → IsMove s n o → ends_at_end s ≡ false
+    → ((t : State) (ys : List ℕ) → length ys < n → ends_at_end t ≡ false → f t ys ≡ g t ys) → records_next f o ≡ records_next g o
+next_same f g s n None m between same = refl
+next_same f g s n (Some p) m between same = ap (λ l. p.0 ∷ l) (same p.1 p.2 (m.1 between) m.2)
 
-reached_front : (cfg : Config) (rows : List (List (List ℕ))) (n : ℕ) (s : State) (xs : List ℕ) (s2 : State) (ys : List ℕ)
-    → length xs < n → ends_at_end s ≡ false → Reached cfg s xs rows s2 ys → Front cfg n s xs rows s2 ys
-unfolding Reached records_from
-reached_front cfg [] n s xs s2 ys lt clean h =
-    let len : length xs ≡ length ys = ap length h.1 in
-    record { fuel = n; enough = omega arith; records_are = rw (h.0, h.1) refl }
-reached_front cfg (r ∷ rs) zero s xs s2 ys lt clean h = absurd (omega arith)
-reached_front cfg (r ∷ rs) (suc n) s xs s2 ys lt clean h =
-    let (p, e, re, more) = h in
-    let mv : IsMove s (length xs) (Some p) = rw e at (moves cfg s [] [] xs) in
-    let shorter : length p.2 < length xs = mv.1 clean in
-    let ih = reached_front cfg rs n p.1 p.2 s2 ys (omega arith) mv.2 more in
-    record { fuel = ih.fuel; enough = ih.enough; records_are = ap (records_next (records_from cfg n)) e ∙ rw re (ap (λ l. p.0 ∷ l) ih.records_are) }
-
-none_left : (cfg : Config) (n : ℕ) (s : State) (ys : List ℕ) → next_record cfg s [] [] ys ≡ None → records_from cfg n s ys ≡ []
+-- the records of a text, whatever number above its length they are counted down from
+enough : (cfg : Config) (n m : ℕ) (s : State) (xs : List ℕ) → length xs < n → length xs < m → ends_at_end s ≡ false → records_from cfg n s xs ≡ records_from cfg m s xs
 unfolding records_from
-none_left cfg zero s ys e = refl
-none_left cfg (suc n) s ys e = ap (records_next (records_from cfg n)) e
+enough cfg zero m s xs lt lt2 between = absurd (omega arith)
+enough cfg (suc n) zero s xs lt lt2 between = absurd (omega arith)
+enough cfg (suc n) (suc m) s xs lt lt2 between =
+    next_same (records_from cfg n) (records_from cfg m) s (length xs) (next_record cfg s [] [] xs) (moves cfg s [] [] xs) between
+    (λ t ys shorter clean. enough cfg n m t ys (omega arith) (omega arith) clean)
 
--- these are all the records
-pub records-all : (cfg : Config) (xs : List ℕ) (rows : List (List (List ℕ))) (s2 : State) (ys : List ℕ)
-    → Reached cfg st.StartRecord xs rows s2 ys → next_record cfg s2 [] [] ys ≡ None → records cfg xs ≡ rows
-records-all cfg xs rows s2 ys h e =
-    let f = reached_front cfg rows (length xs + 1) st.StartRecord xs s2 ys (omega arith) refl h in
-    f.records_are ∙ rw (none_left cfg f.fuel s2 ys e) (append-nil rows)
+first_record : (cfg : Config) (s : State) (xs : List ℕ) (p : Read) → ends_at_end s ≡ false → next_record cfg s [] [] xs ≡ Some p
+    → (records_from cfg (length xs + 1) s xs ≡ p.0 ∷ records_from cfg (length p.2 + 1) p.1 p.2) × (ends_at_end p.1 ≡ false)
+unfolding records_from
+first_record cfg s xs p between e =
+    let mv : IsMove s (length xs) (Some p) = rw e at (moves cfg s [] [] xs) in
+    let shorter : length p.2 < length xs = mv.1 between in
+    let more = enough cfg (length xs) (length p.2 + 1) p.1 p.2 shorter (omega arith) mv.2 in
+    let longer : length xs + 1 ≡ suc (length xs) = omega arith in
+    (ap (λ n. records_from cfg n s xs) longer ∙ ap (records_next (records_from cfg (length xs))) e ∙ ap (λ l. p.0 ∷ l) more, mv.2)
 
--- these are the first of them
-pub records-front : (cfg : Config) (xs : List ℕ) (rows : List (List (List ℕ))) (s2 : State) (ys : List ℕ)
-    → Reached cfg st.StartRecord xs rows s2 ys → (rest : List (List (List ℕ))) × (records cfg xs ≡ rows ++ rest)
-records-front cfg xs rows s2 ys h =
-    let f = reached_front cfg rows (length xs + 1) st.StartRecord xs s2 ys (omega arith) refl h in
-    (records_from cfg f.fuel s2 ys, f.records_are)
+no_record : (cfg : Config) (s : State) (xs : List ℕ) → next_record cfg s [] [] xs ≡ None → records_from cfg (length xs + 1) s xs ≡ []
+unfolding records_from
+no_record cfg s xs e =
+    let longer : length xs + 1 ≡ suc (length xs) = omega arith in
+    ap (λ n. records_from cfg n s xs) longer ∙ ap (records_next (records_from cfg (length xs))) e
+
+-- ---- what is left
+
+-- a reader that gave a record, or told that there is none, reads on as it did
+setup_kept : {R : Type 0} (rem : R → Option (List ℕ)) (a b : Reader R) (found : Bool) (fields : Record)
+    → Setup a → ReadRecord rem a b found fields → b.first ≡ true → b.flexible ≡ a.flexible → Setup b
+setup_kept rem a b found fields s r first flexible = record { no_trim = r.3 ∙ s.no_trim; ready = inl first; config = r.2 ∙ s.config; flexible = flexible ∙ s.flexible }
+
+-- a record was read
+pub gives-line : {R : Type 0} (rem : R → Option (List ℕ)) (a b : Records R) (fields : Record) (line : Line)
+    → line ≡ line_of fields → (Setup a.rows → ReadRecord (given_remaining rem) a.rows b.rows true fields × (b.rows.first ≡ true) × (b.rows.flexible ≡ a.rows.flexible)) → Gives rem a b (line ∷ [])
+unfolding Reached
+gives-line rem a b fields line is reads all p =
+    let (r, first_read, flexible) = reads p.setup in
+    let (left, source, (q, e, first, there)) = rows-more (given_remaining rem) a.rows b.rows fields default_config a.rows.state p.bytes p.bytes [] p.setup.config p.source (refl, refl) r in
+    let (records_are, between) = first_record default_config a.rows.state p.bytes q p.between e in (
+      map line_of (records_from default_config (length left + 1) b.rows.state left),
+      p.lines_are ∙ ap (map line_of) (records_are ∙ (λ i. sym first i ∷ records_from default_config (length (there.1 i) + 1) (there.0 i) (there.1 i))) ∙ ap (λ l. l ∷ map line_of (records_from default_config (length left + 1) b.rows.state left)) (sym is),
+      record { setup = setup_kept (given_remaining rem) a.rows b.rows true fields p.setup r first_read flexible; bytes = left; source = source; between = rw (sym there.0) between; lines_are = refl },
+    )
+
+-- no record was left
+pub gives-none : {R : Type 0} (rem : R → Option (List ℕ)) (a : Records R) (b : Reader (Given R)) (fields : Record)
+    → 0 < a.left → (Setup a.rows → ReadRecord (given_remaining rem) a.rows b false fields) → GivesAll rem a []
+gives-none rem a b fields some reads all p =
+    (p.lines_are ∙ ap (map line_of) (no_record default_config a.rows.state p.bytes (rows-end (given_remaining rem) a.rows b fields default_config p.bytes p.setup.config p.source (reads p.setup))), some)
+
+-- ---- one read after another
+
+-- nothing was read
+pub gives-nothing : {R : Type 0} (rem : R → Option (List ℕ)) (a : Records R) (lines : List Line) → lines ≡ [] → Gives rem a a lines
+gives-nothing rem a lines none all p = (all, rw none refl, p)
+
+-- lines after lines
+pub gives-more : {R : Type 0} (rem : R → Option (List ℕ)) (a b c : Records R) (one two lines : List Line) → lines ≡ one ++ two → Gives rem a b one → Gives rem b c two → Gives rem a c lines
+gives-more rem a b c one two lines are first second all p =
+    let (mid, one_is, q) = first all p in
+    let (rest, two_is, r) = second mid q in
+    (rest, one_is ∙ ap (λ l. one ++ l) two_is ∙ sym (append_assoc one two rest) ∙ ap (λ l. l ++ rest) (sym are), r)
+
+-- and then none
+pub gives-all : {R : Type 0} (rem : R → Option (List ℕ)) (a b : Records R) (lines : List Line) → b.left + length lines ≡ a.left → Gives rem a b lines → GivesAll rem b [] → GivesAll rem a lines
+gives-all rem a b lines left first none all p =
+    let (rest, is, q) = first all p in
+    let (empty, some) = none rest q in
+    (is ∙ ap (λ l. lines ++ l) empty ∙ append-nil lines, omega arith)
+
+-- what comes after them is left open
+pub gives-first : {R : Type 0} (rem : R → Option (List ℕ)) (a b : Records R) (lines : List Line) → Gives rem a b lines → GivesFirst rem a lines
+gives-first rem a b lines first all p = let (rest, is, q) = first all p in (rest, is)
+
+-- whatever a read of a few lines came to, they were the first
+pub reads-first : {R : Type 0} (rem : R → Option (List ℕ)) (a b : Records R) (lines : List Line) (r : Result Bool ReplayFault) → ReadsBatch rem a b r lines → GivesFirst rem a lines
+reads-first rem a b lines (Ok true) h = gives-first rem a b lines h.0
+reads-first rem a b lines (Ok false) h = λ all p. ([], (h all p).0 ∙ sym (append-nil lines))
+reads-first rem a b lines (Err e) h = h.1

@@ -3,4 +3,4 @@ pub mod Line
 pub mod Text
 pub mod Output
 pub mod Replay
-pub mod Lines
+pub mod Records

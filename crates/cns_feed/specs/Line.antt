@@ -25,6 +25,10 @@ use Rattle.cns_feed.specs.declared.fault.LineFault.TheVariants as fault
 abbrev pub Record : Type 0
 Record = List (List ℕ)
 
+-- what a record is read as
+abbrev pub Line : Type 0
+Line = Result Command LineFault
+
 infixl 10 ◌>>=◌
 -- a field and then what is read after it; the first fault decides
 abbrev pub ◌>>=◌ : {A B : Type 0} → Result A LineFault → (A → Result B LineFault) → Result B LineFault
@@ -82,7 +86,7 @@ abbrev pub counted : {A : Type 0} → ℕ → Record → Result A LineFault → 
 counted n fields read = if length fields == n then read else Err fault.Count
 
 -- MEMBER: a member
-unfoldable pub member_line : Record → Result Command LineFault
+unfoldable pub member_line : Record → Line
 member_line fields = counted 2 fields (do
   member ← member_at fields 1
   Ok (command.Activity (activity.Member member)))
@@ -95,19 +99,19 @@ listing_at fields = counted 3 fields (do
   Ok (record { issue = issue; price = price }))
 
 -- ISSUE: an issue and its first price
-unfoldable pub issue_line : Record → Result Command LineFault
+unfoldable pub issue_line : Record → Line
 issue_line fields = do
   listing ← listing_at fields
   Ok (command.Activity (activity.Issue listing))
 
 -- PRICE: an issue and its new price
-unfoldable pub price_line : Record → Result Command LineFault
+unfoldable pub price_line : Record → Line
 price_line fields = do
   listing ← listing_at fields
   Ok (command.Activity (activity.Price listing))
 
 -- TRADE: the reference, the buyer, the seller, the issue, the shares, the money and the settlement date
-unfoldable pub trade_line : Record → Result Command LineFault
+unfoldable pub trade_line : Record → Line
 trade_line fields = counted 8 fields (do
   reference ← reference_at fields 1
   buyer ← member_at fields 2
@@ -127,43 +131,44 @@ movement_at fields = counted 4 fields (do
   Ok (record { member = member; issue = issue; shares = shares }))
 
 -- DELIVER: what a member delivers
-unfoldable pub deliver_line : Record → Result Command LineFault
+unfoldable pub deliver_line : Record → Line
 deliver_line fields = do
   movement ← movement_at fields
   Ok (command.Activity (activity.Deliver movement))
 
 -- RECEIVE: what a member receives
-unfoldable pub receive_line : Record → Result Command LineFault
+unfoldable pub receive_line : Record → Line
 receive_line fields = do
   movement ← movement_at fields
   Ok (command.Activity (activity.Receive movement))
 
 -- CLOSE: the next date
-unfoldable pub close_line : Record → Result Command LineFault
+unfoldable pub close_line : Record → Line
 close_line fields = counted 2 fields (do
   date ← date_at fields 1
   Ok (command.Activity (activity.Close date)))
 
 -- POSITION: an account and an issue
-unfoldable pub position_line : Record → Result Command LineFault
+unfoldable pub position_line : Record → Line
 position_line fields = counted 3 fields (do
   account ← account_at fields 1
   issue ← cusip_at fields 2
   Ok (command.Position (record { account = account; issue = issue })))
 
 -- STATEMENT: an account and a closed day's date
-unfoldable pub statement_line : Record → Result Command LineFault
+unfoldable pub statement_line : Record → Line
 statement_line fields = counted 3 fields (do
   account ← account_at fields 1
   date ← date_at fields 2
   Ok (command.Statement account date))
 
--- the command of a record that is no trade, by its kind, or its first fault
-unfoldable pub other_line : Record → Result Command LineFault
-other_line fields =
+-- the command of a record by its kind, or the first fault: the kind, the count of fields, the fields from left to right
+unfoldable pub line_of : Record → Line
+line_of fields =
     let kind = field fields 0 in
     if bytes_eq kind (codes "MEMBER") then member_line fields
     else if bytes_eq kind (codes "ISSUE") then issue_line fields
+    else if bytes_eq kind (codes "TRADE") then trade_line fields
     else if bytes_eq kind (codes "PRICE") then price_line fields
     else if bytes_eq kind (codes "DELIVER") then deliver_line fields
     else if bytes_eq kind (codes "RECEIVE") then receive_line fields
@@ -171,7 +176,3 @@ other_line fields =
     else if bytes_eq kind (codes "POSITION") then position_line fields
     else if bytes_eq kind (codes "STATEMENT") then statement_line fields
     else Err fault.Kind
-
--- the command of a record by its kind, or the first fault: the kind, the count of fields, the fields from left to right
-unfoldable pub line_of : Record → Result Command LineFault
-line_of fields = if bytes_eq (field fields 0) (codes "TRADE") then trade_line fields else other_line fields

@@ -1,8 +1,7 @@
--- What a replay makes of records: their outcomes and the text that is written.
-use Rattle.std.specs.Prelude.{◌≡◌, ℕ, Bool, true, false, count_by, List, [], ◌∷◌, ◌++◌, Result, Ok, Err, unwrap_or}
+-- What a replay makes of lines: their outcomes and the text that is written.
+use Rattle.std.specs.Prelude.{◌≡◌, ℕ, ◌+◌, Bool, true, false, count_by, map, List, [], ◌∷◌, ◌++◌, Ok, Err, unwrap_or}
 use Rattle.csv.specs.Reading.{records, default_config, strip_bom}
 use Rattle.cns_units.specs.declared.day.Day.{Day}
-use Rattle.cns_terms.specs.declared.command.Command.{Command}
 use Rattle.cns_terms.specs.declared.reply.Reply.{Reply}
 use Rattle.cns_terms.specs.declared.reply.Reply.TheVariants as reply
 use Rattle.cns_terms.specs.declared.sheet.Row.{Row}
@@ -12,30 +11,25 @@ use Rattle.cns_terms.specs.Machine.{State, opened, answer, next}
 use Rattle.cns_terms.specs.Sheets.{sheet_rows}
 use Rattle.cns_sheets.specs.Build.{rows_for}
 use Rattle.cns_statements.specs.Texts.{rows_text}
-use Rattle.cns_feed.specs.Line.{Record, line_of}
+use Rattle.cns_feed.specs.Line.{Line, line_of}
 use Rattle.cns_feed.specs.Text.{reply_line, fault_line}
-use Rattle.cns_feed.specs.declared.fault.LineFault.{LineFault}
 use Rattle.cns_feed.specs.declared.outcome.Outcome.{Outcome}
 use Rattle.cns_feed.specs.declared.outcome.Outcome.TheVariants as outcome
 use Rattle.cns_feed.specs.declared.summary.Summary.{Summary}
 
--- what a command or a line fault comes to in a state
-abbrev pub outcome_of : State → Result Command LineFault → Outcome
+-- the lines of an input, after a byte order mark where there is one
+abbrev pub lines_of : List ℕ → List Line
+lines_of input = map line_of (records default_config (strip_bom input))
+
+-- what a line comes to in a state
+abbrev pub outcome_of : State → Line → Outcome
 outcome_of S (Ok cmd) = outcome.Replied (answer S cmd)
 outcome_of S (Err f) = outcome.AtFault f
 
--- what a record comes to in a state
-abbrev pub step_outcome : State → Record → Outcome
-step_outcome S fields = outcome_of S (line_of fields)
-
--- the state after a command or a line fault, which changes nothing
-abbrev pub state_after_line : State → Result Command LineFault → State
+-- the state after a line; one at fault changes nothing
+abbrev pub state_after_line : State → Line → State
 state_after_line S (Ok cmd) = next S cmd
 state_after_line S (Err f) = S
-
--- the state after a record
-abbrev pub step_state : State → Record → State
-step_state S fields = state_after_line S (line_of fields)
 
 -- the rows of the statement that a reply tells of: the account's, on the sheet of the closed day with the date
 abbrev pub rows_told : State → Reply → List Row
@@ -47,32 +41,28 @@ abbrev pub outcome_text : State → Outcome → List ℕ
 outcome_text S (outcome.Replied r) = reply_line r ++ rows_text (rows_told S r)
 outcome_text S (outcome.AtFault f) = fault_line f
 
--- what is written for a record in a state
-abbrev pub step_text : State → Record → List ℕ
-step_text S fields = outcome_text (step_state S fields) (step_outcome S fields)
+-- what is written for a line in a state
+abbrev pub line_text : State → Line → List ℕ
+line_text S l = outcome_text (state_after_line S l) (outcome_of S l)
 
--- the state after records, in order
-unfoldable pub state_after : State → List Record → State
+-- the state after lines, in order
+unfoldable pub state_after : State → List Line → State
 state_after S [] = S
-state_after S (r ∷ rs) = state_after (step_state S r) rs
+state_after S (l ∷ ls) = state_after (state_after_line S l) ls
 
--- what records come to, in order
-unfoldable pub outcomes : State → List Record → List Outcome
+-- what lines come to, in order
+unfoldable pub outcomes : State → List Line → List Outcome
 outcomes S [] = []
-outcomes S (r ∷ rs) = step_outcome S r ∷ outcomes (step_state S r) rs
+outcomes S (l ∷ ls) = outcome_of S l ∷ outcomes (state_after_line S l) ls
 
--- what is written for records, in order
-unfoldable pub texts : State → List Record → List ℕ
+-- what is written for lines, in order
+unfoldable pub texts : State → List Line → List ℕ
 texts S [] = []
-texts S (r ∷ rs) = step_text S r ++ texts (step_state S r) rs
-
--- the records of an input, after a byte order mark where there is one
-abbrev pub records_of : List ℕ → List Record
-records_of input = records default_config (strip_bom input)
+texts S (l ∷ ls) = line_text S l ++ texts (state_after_line S l) ls
 
 -- all that a replay writes for an input, from the opening date on
 abbrev pub output : Day → List ℕ → List ℕ
-output opening input = texts (opened opening) (records_of input)
+output opening input = texts (opened opening) (lines_of input)
 
 -- whether a record was a command
 abbrev pub is_command : Outcome → Bool
@@ -94,8 +84,16 @@ abbrev pub is_accepted_close : Outcome → Bool
 is_accepted_close (outcome.Replied r) = is_closed r
 is_accepted_close (outcome.AtFault f) = false
 
--- a summary of outcomes: how many were commands, at fault, and accepted closes
-pub record Counts (s : Summary) (os : List Outcome) : Type 0 where
-  pub commands_are : s.commands ≡ count_by is_command os
-  pub lines_are : s.lines ≡ count_by is_at_fault os
-  pub closes_are : s.closes ≡ count_by is_accepted_close os
+-- a summary with outcomes added: how many were commands, at fault, and accepted closes
+pub record Adds (old new : Summary) (os : List Outcome) : Type 0 where
+  pub commands : new.commands ≡ old.commands + count_by is_command os
+  pub lines : new.lines ≡ old.lines + count_by is_at_fault os
+  pub closes : new.closes ≡ old.closes + count_by is_accepted_close os
+
+-- a summary of nothing
+abbrev pub no_counts : Summary
+no_counts = record { commands = 0; lines = 0; closes = 0 }
+
+-- a summary of outcomes
+abbrev pub Counts : Summary → List Outcome → Type 0
+Counts s os = Adds no_counts s os

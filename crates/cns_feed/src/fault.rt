@@ -35,7 +35,7 @@ pub enum ReplayFault {
     /// The reader failed, or 4,294,967,295 records were read, also where the input ends there.
     #[error("Read")]
     Read,
-    /// The writer failed or took no byte.
+    /// The writer failed, took no byte or could not be flushed.
     #[error("Write")]
     Write,
     /// A growth was refused.

@@ -1,9 +1,10 @@
 // Records, and the commands that they are.
-ghost use Rattle.std.specs.Prelude.{◌≡◌};
+ghost use Rattle.std.specs.Prelude.{◌≡◌, false, codes};
+ghost use Rattle.std.specs.Str.{bytes_eq};
 ghost use Rattle.csv.specs.Records.{fields_of};
 ghost use Rattle.cns_feed.specs.Digits.{in_range};
 ghost use Rattle.cns_feed.specs.Line.{field, member_at, account_at, reference_at, shares_at, money_at, price_at, cusip_at, date_at};
-ghost use Rattle.cns_feed.specs.Line.{member_line, listing_at, issue_line, price_line, trade_line, movement_at, deliver_line, receive_line, close_line, position_line, statement_line, other_line, line_of};
+ghost use Rattle.cns_feed.specs.Line.{member_line, listing_at, issue_line, price_line, trade_line, movement_at, deliver_line, receive_line, close_line, position_line, statement_line, line_of};
 
 use crate::digits::{number_of, short_number_of};
 use crate::fault::LineFault;
@@ -243,9 +244,10 @@ fn statement_of(row: &ByteRecord) -> Result<Command, LineFault>
 // The command of a record that is no trade, or its first fault. It stands apart, so that the code for trades, which most
 // records are, stays small.
 #[inline(never)]
-#[tactic(auto, unfolding(crate::specs::Line::other_line))]
+#[tactic(auto, unfolding(crate::specs::Line::line_of))]
 fn other_of(row: &ByteRecord) -> Result<Command, LineFault>
-    ensures { result ≡ other_line (fields_of row.now) }
+    requires { bytes_eq (field (fields_of row.now) 0) (codes "TRADE") ≡ false }
+    ensures { result ≡ line_of (fields_of row.now) }
 {
     let kind = field(row, 0);
     if kind == b"MEMBER".as_slice() {
@@ -272,7 +274,6 @@ fn other_of(row: &ByteRecord) -> Result<Command, LineFault>
 /// The command of a record, or its first fault: the kind, the count of fields, and then the fields from left to right.
 ///
 /// The first field is the kind. No field takes memory to read, so `NoMemory` never comes.
-#[tactic(auto, unfolding(crate::specs::Line::line_of))]
 pub fn command_of(row: &ByteRecord) -> Result<Command, LineFault>
     ensures { result ≡ line_of (fields_of row.now) }
 {

@@ -1,68 +1,85 @@
 // Loads.
-ghost use Rattle.std.specs.Prelude.{◌≡◌, IfOk, IfErr, IfSome, OnOk};
-ghost use Rattle.csv.specs.Reading.{default_config, reader_state, records, source_of};
-ghost use Rattle.csv.specs.declared.parser.State.TheVariants as st;
+ghost use Rattle.std.specs.Prelude.{◌≡◌, ◌-◌, ◌^◌, ◌<◌, List, length, IfOk, IfErr, IfSome, OnOk};
 ghost use Rattle.cns_terms.specs.Machine.{opened};
 ghost use Rattle.cns_book.specs.Log.{state_of};
-ghost use Rattle.cns_feed.specs.Output.{Counts, outcomes, records_of};
-ghost use Rattle.cns_feed.specs.Replay.{IsSilent, Setup, blank_log, log_after};
+ghost use Rattle.cns_feed.specs.Line.{Line};
+ghost use Rattle.cns_feed.specs.Output.{Counts, lines_of, outcomes};
+ghost use Rattle.cns_feed.specs.Records.{Pending};
+ghost use Rattle.cns_feed.specs.Replay.{IsSilent, IsUpTo, Takes, blank_log, log_after};
 
+use crate::batch::{Batch, prefetch};
 use crate::fault::ReplayFault;
-use crate::outcome::{ReplayBook, take_record};
-use crate::rows::{MOST_RECORDS, read_row, rows_of};
+use crate::line::Line;
+use crate::outcome::{ReplayBook, take_line};
+use crate::records::{MOST_RECORDS, Records};
 use crate::summary::Summary;
 use cns_book::Book;
+use cns_positions::Positions;
 use cns_units::Day;
-use csv::{ByteRecord, Reader};
 use std::alloc::Global;
 use std::io::Read;
 
-// Takes the command of each record that the reader gives.
-fn take_all<R: Read>(
-    rows: &mut Reader<R>,
-    book: &mut ReplayBook,
-    row: &mut ByteRecord,
+// Takes the command of each of a few lines.
+fn take_batch<P: Positions<Global>>(
+    book: &mut Book<P, Global>,
+    lines: &[Line],
+    summary: &mut Summary,
+) -> Result<(), ReplayFault>
+    requires few { length lines.now < 2 ^ 8 }
+    requires counts { IsUpTo summary.old (2 ^ 63) }
+    ensures takes { OnOk result (Takes book.old book.new summary.old summary.new lines.now) }
+    ensures err { IfErr result IsSilent }
+{
+    prefetch(book, lines);
+    for line in lines {
+        let outcome = take_line(book, line)?;
+        summary.add(&outcome);
+    }
+    Ok(())
+}
+
+/// Takes the command of each record that is left, over any form of positions.
+pub(crate) fn take_all<P: Positions<Global>, R: Read>(
+    records: &mut Records<R>,
+    book: &mut Book<P, Global>,
 ) -> Result<Summary, ReplayFault>
-    requires setup { Setup rows.old }
-    requires start { reader_state rows.old ≡ st.StartRecord }
-    ensures after { OnOk result (IfSome (source_of R.remaining rows.old)
-        (λ bytes. book.new ≡ log_after book.old (records default_config bytes))) }
-    ensures counts { IfOk result (λ s. IfSome (source_of R.remaining rows.old)
-        (λ bytes. Counts s (outcomes (state_of book.old) (records default_config bytes)))) }
+    ensures few { OnOk result ((all : List Line) → Pending R.remaining records.old all → length all < records.old.left) }
+    ensures after { OnOk result ((all : List Line) → Pending R.remaining records.old all → book.new ≡ log_after book.old all) }
+    ensures counts { IfOk result (λ s. (all : List Line) → Pending R.remaining records.old all
+        → Counts s (outcomes (state_of book.old) all)) }
     ensures err { IfErr result IsSilent }
 {
     let mut summary = Summary::new();
+    let mut batch = Batch::new();
     for _turn in 0..MOST_RECORDS {
-        let found = read_row(rows, row)?;
-        if !found {
+        let more = records.read_batch(&mut batch)?;
+        take_batch(book, batch.lines(), &mut summary)?;
+        if !more {
             return Ok(summary);
         }
-        let outcome = take_record(book, row)?;
-        summary.add(&outcome);
     }
     Err(ReplayFault::Read)
 }
 
 /// The book after the command of each record of the reader, in order, all of the first worker, on a new book that
-/// opens on that date, and the counts; nothing is written.
+/// opens on the date, and the counts; nothing is written.
 ///
 /// A record at fault is counted and changes nothing. The errors are those of `replay` without `Write`.
 pub fn load<R: Read + Drop>(
     alloc: Global,
-    opening: Day,
     reader: R,
+    date: Day,
 ) -> Result<(ReplayBook, Summary), ReplayFault>
     ensures after { IfOk result (λ p. IfSome (R.remaining reader)
-        (λ input. p.0 ≡ log_after (blank_log opening) (records_of input))) }
+        (λ input. p.0 ≡ log_after (blank_log date) (lines_of input))) }
     ensures counts { IfOk result (λ p. IfSome (R.remaining reader)
-        (λ input. Counts p.1 (outcomes (opened opening) (records_of input)))) }
+        (λ input. Counts p.1 (outcomes (opened date) (lines_of input)))) }
+    ensures few { OnOk result (IfSome (R.remaining reader) (λ input. length (lines_of input) < 2 ^ 32 - 1)) }
     ensures err { IfErr result IsSilent }
 {
-    let Ok(mut book) = Book::new(alloc, opening) else {
+    let Ok(mut book) = ReplayBook::new(alloc, date) else {
         return Err(ReplayFault::NoMemory);
     };
-    let mut rows = rows_of(alloc, reader);
-    let mut row = ByteRecord::new(alloc);
-    let summary = take_all(&mut rows, &mut book, &mut row)?;
+    let summary = take_all(&mut Records::new(alloc, reader), &mut book)?;
     Ok((book, summary))
 }

@@ -1,25 +1,23 @@
 // What a record comes to.
 ghost use Rattle.std.specs.Prelude.{◌≡◌, IfOk, IfErr, OnOk};
-ghost use Rattle.csv.specs.Records.{fields_of};
 ghost use Rattle.cns_units.specs.Output.{Writes};
 ghost use Rattle.cns_book.specs.Log.{state_of};
-ghost use Rattle.cns_feed.specs.Output.{step_outcome, outcome_of, outcome_text, rows_told};
-ghost use Rattle.cns_feed.specs.Replay.{IsSilent, log_after_line, step_log};
+ghost use Rattle.cns_feed.specs.Output.{outcome_of, outcome_text, rows_told};
+ghost use Rattle.cns_feed.specs.Replay.{IsSilent, log_after_line};
 
 use crate::fault::{LineFault, ReplayFault};
-use crate::line::{Line, command_of};
+use crate::line::Line;
 use crate::text::{reply_text, write_fault};
 use cns_book::{Book, TakeFault};
-use cns_positions::FlatPositions;
+use cns_positions::{Positions, TreePositions};
 use cns_statements::write_rows;
 use cns_terms::{Reply, Row, Worker};
 use cns_units::WriteFault;
-use csv::ByteRecord;
 use std::alloc::Global;
 use std::io::Write;
 
 /// The book that a replay or a load keeps.
-pub type ReplayBook = Book<FlatPositions<Global>, Global>;
+pub type ReplayBook = Book<TreePositions<Global>, Global>;
 
 // What a record comes to: the reply to its command, or its fault.
 #[derive(Clone, Copy)]
@@ -29,7 +27,10 @@ pub(crate) enum Outcome {
 }
 
 // Takes the command that a record was read as, if it is one.
-pub(crate) fn take_line(book: &mut ReplayBook, line: &Line) -> Result<Outcome, ReplayFault>
+pub(crate) fn take_line<P: Positions<Global>>(
+    book: &mut Book<P, Global>,
+    line: &Line,
+) -> Result<Outcome, ReplayFault>
     ensures outcome { IfOk result (λ o. o ≡ outcome_of (state_of book.old) line.now) }
     ensures after { OnOk result (book.new ≡ log_after_line book.old line.now) }
     ensures err { IfErr result IsSilent }
@@ -46,17 +47,8 @@ pub(crate) fn take_line(book: &mut ReplayBook, line: &Line) -> Result<Outcome, R
     }
 }
 
-// Takes the command of a record, if it is one.
-pub(crate) fn take_record(book: &mut ReplayBook, row: &ByteRecord) -> Result<Outcome, ReplayFault>
-    ensures outcome { IfOk result (λ o. o ≡ step_outcome (state_of book.old) (fields_of row.now)) }
-    ensures after { OnOk result (book.new ≡ step_log book.old (fields_of row.now)) }
-    ensures err { IfErr result IsSilent }
-{
-    take_line(book, &command_of(row))
-}
-
 // The rows of the statement that a reply tells of; none of another reply.
-fn rows_told<'a>(book: &'a ReplayBook, reply: &Reply) -> &'a [Row]
+fn rows_told<'a, P: Positions<Global>>(book: &'a Book<P, Global>, reply: &Reply) -> &'a [Row]
     ensures { result.now ≡ rows_told (state_of book.now) reply.now }
 {
     let Reply::Stated(stated) = reply else {
@@ -69,8 +61,8 @@ fn rows_told<'a>(book: &'a ReplayBook, reply: &Reply) -> &'a [Row]
 }
 
 // Writes the text of an outcome, with the book as it was left.
-pub(crate) fn write_outcome<W: Write>(
-    book: &ReplayBook,
+pub(crate) fn write_outcome<P: Positions<Global>, W: Write>(
+    book: &Book<P, Global>,
     outcome: &Outcome,
     writer: &mut W,
 ) -> Result<(), WriteFault>

@@ -1,29 +1,29 @@
 // Replays.
-ghost use Rattle.std.specs.Prelude.{◌≡◌, ◌+◌, ◌^◌, ◌<◌, ◌≤◌, ◌++◌, List, length, OnOk, IfOk, IfErr, IfSome};
-ghost use Rattle.std.specs.Io.KnownBytes.{Appends};
-ghost use Rattle.csv.specs.Reading.{default_config, reader_state, records, source_of, strip_bom};
-ghost use Rattle.csv.specs.declared.parser.State.TheVariants as st;
+ghost use Rattle.std.specs.Prelude.{◌≡◌, ◌-◌, ◌^◌, ◌<◌, List, length, OnOk, IfOk, IfErr, IfSome};
+ghost use Rattle.std.specs.Io.KnownBytes.{Appends, Keeps};
 ghost use Rattle.cns_terms.specs.Machine.{opened};
 ghost use Rattle.cns_book.specs.Log.{state_of};
-ghost use Rattle.cns_feed.specs.Lines.{StopsIn, line_text, lines_outcomes, lines_text, log_after_lines};
-ghost use Rattle.cns_feed.specs.Output.{Counts, outcome_of, outcomes, output, records_of, texts};
-ghost use Rattle.cns_feed.specs.Replay.{Leaves, Setup, Stops, log_after_line};
-ghost use Rattle.cns_feed.specs.declared.outcome.Outcome.{Outcome};
+ghost use Rattle.cns_feed.specs.Line.{Line};
+ghost use Rattle.cns_feed.specs.Output.{Counts, line_text, lines_of, outcome_of, outcomes, output, texts};
+ghost use Rattle.cns_feed.specs.Records.{Pending};
+ghost use Rattle.cns_feed.specs.Replay.{IsUpTo, Leaves, Stops, Takes, log_after_line};
+ghost use Rattle.cns_feed.specs.declared.fault.ReplayFault.TheVariants as fault;
 
+use crate::batch::{Batch, prefetch};
 use crate::fault::ReplayFault;
 use crate::line::Line;
 use crate::outcome::{Outcome, ReplayBook, take_line, write_outcome};
-use crate::rows::{BATCH, MOST_RECORDS, read_batch, rows_of};
+use crate::records::{MOST_RECORDS, Records};
 use crate::summary::Summary;
 use cns_book::Book;
+use cns_positions::Positions;
 use cns_units::Day;
-use csv::{ByteRecord, Reader};
 use std::alloc::Global;
 use std::io::{Read, Write};
 
 // Takes the command that a record was read as, if it is one, and writes what it came to.
-fn play<W: Write>(
-    book: &mut ReplayBook,
+fn play_line<P: Positions<Global>, W: Write>(
+    book: &mut Book<P, Global>,
     line: &Line,
     writer: &mut W,
 ) -> Result<Outcome, ReplayFault>
@@ -39,90 +39,99 @@ fn play<W: Write>(
     }
 }
 
-// Each of a few records. They are all told to the book first: it waits for their positions at once.
-fn play_batch<W: Write>(
-    book: &mut ReplayBook,
+// Each of a few lines.
+fn play_batch<P: Positions<Global>, W: Write>(
+    book: &mut Book<P, Global>,
     lines: &[Line],
     writer: &mut W,
     summary: &mut Summary,
 ) -> Result<(), ReplayFault>
-    requires commands { summary.old.commands + length lines.now < 2 ^ 64 }
-    requires lines { summary.old.lines + length lines.now < 2 ^ 64 }
-    requires closes { summary.old.closes + length lines.now < 2 ^ 64 }
-    ensures after { OnOk result (book.new ≡ log_after_lines book.old lines.now) }
-    ensures text { OnOk result (Appends (W.contents writer.old) (W.contents writer.new) (lines_text (state_of book.old) lines.now)) }
-    ensures counts { OnOk result ((before : List Outcome) → Counts summary.old before → Counts summary.new (before ++ lines_outcomes (state_of book.old) lines.now)) }
-    ensures more_commands { OnOk result (summary.new.commands ≤ summary.old.commands + length lines.now) }
-    ensures more_lines { OnOk result (summary.new.lines ≤ summary.old.lines + length lines.now) }
-    ensures more_closes { OnOk result (summary.new.closes ≤ summary.old.closes + length lines.now) }
-    ensures fault { IfErr result (λ e. StopsIn e (W.contents writer.old) (W.contents writer.new) (state_of book.old) lines.now) }
+    requires few { length lines.now < 2 ^ 8 }
+    requires counts { IsUpTo summary.old (2 ^ 63) }
+    ensures takes { OnOk result (Takes book.old book.new summary.old summary.new lines.now) }
+    ensures text { OnOk result (Appends (W.contents writer.old) (W.contents writer.new) (texts (state_of book.old) lines.now)) }
+    ensures fault { IfErr result (λ e. Stops e (W.contents writer.old) (W.contents writer.new) (state_of book.old) lines.now) }
 {
+    prefetch(book, lines);
     for line in lines {
-        let outcome = play(book, line, writer)?;
+        let outcome = play_line(book, line, writer)?;
         summary.add(&outcome);
     }
     Ok(())
 }
 
-// Each record that the reader gives.
-fn play_all<R: Read, W: Write>(
-    rows: &mut Reader<R>,
-    book: &mut ReplayBook,
+// Hands on what was written, where the next record may cost a call of the reader: whoever gives the records may wait
+// for the replies to those that it gave.
+fn flush<R: Read, W: Write>(records: &Records<R>, writer: &mut W) -> Result<(), ReplayFault>
+    ensures text { Keeps (W.contents writer.old) (W.contents writer.new) }
+    ensures err { IfErr result (λ e. e ≡ fault.Write) }
+{
+    if !records.asks_reader() {
+        return Ok(());
+    }
+    match writer.flush() {
+        Ok(()) => Ok(()),
+        Err(_) => Err(ReplayFault::Write),
+    }
+}
+
+/// Each record that is left, over any form of positions.
+pub(crate) fn play<P: Positions<Global>, R: Read, W: Write>(
+    records: &mut Records<R>,
+    book: &mut Book<P, Global>,
     writer: &mut W,
-    row: &mut ByteRecord,
-    lines: &mut Vec<Line, Global>,
 ) -> Result<Summary, ReplayFault>
-    requires setup { Setup rows.old }
-    requires start { reader_state rows.old ≡ st.StartRecord }
-    ensures all { OnOk result (IfSome (source_of R.remaining rows.old)
-        (λ bytes. Appends (W.contents writer.old) (W.contents writer.new) (texts (state_of book.old) (records default_config bytes)))) }
-    ensures counts { IfOk result (λ s. IfSome (source_of R.remaining rows.old)
-        (λ bytes. Counts s (outcomes (state_of book.old) (records default_config bytes)))) }
-    ensures fault { IfErr result (λ e. IfSome (source_of R.remaining rows.old)
-        (λ bytes. Stops e (W.contents writer.old) (W.contents writer.new) (state_of book.old) bytes)) }
+    ensures few { OnOk result ((all : List Line) → Pending R.remaining records.old all → length all < records.old.left) }
+    ensures text { OnOk result ((all : List Line) → Pending R.remaining records.old all
+        → Appends (W.contents writer.old) (W.contents writer.new) (texts (state_of book.old) all)) }
+    ensures counts { IfOk result (λ s. (all : List Line) → Pending R.remaining records.old all
+        → Counts s (outcomes (state_of book.old) all)) }
+    ensures fault { IfErr result (λ e. (all : List Line) → Pending R.remaining records.old all
+        → Stops e (W.contents writer.old) (W.contents writer.new) (state_of book.old) all) }
 {
     let mut summary = Summary::new();
-    for _turn in 0..MOST_RECORDS / BATCH {
-        let read = read_batch(rows, row, lines);
-        // What the reader gave before a fault is answered before it.
-        play_batch(book, lines.as_slice(), writer, &mut summary)?;
-        let more = read?;
-        if !more {
+    let mut batch = Batch::new();
+    for _turn in 0..MOST_RECORDS {
+        flush(records, writer)?;
+        let read = records.read_batch(&mut batch);
+        // What was read before a fault is answered before it.
+        play_batch(book, batch.lines(), writer, &mut summary)?;
+        if !read? {
             return Ok(summary);
         }
     }
     Err(ReplayFault::Read)
 }
 
-/// Takes the command of each record of the reader, in order, on a new book that opens on that date, and writes the
-/// first line of each reply; a record at fault is written as `line` and its fault, and the replay goes on.
+/// Takes the command of each record of the reader, in order, on a new book that opens on the date, and writes the
+/// reply to each; for a record at fault it writes `line` and the fault, and goes on.
 ///
 /// `Read` where the reader fails, or has given 4,294,967,295 records; `NoMemory` where a growth was refused;
-/// `Full` where the book's history is at its limit, which has room for as many commands. After these the text of the
-/// records before was written. `Write` where the writer fails or takes no byte: a front of the text was written, up to
-/// and with that of the record whose reply failed. Records are read a few at a time, up to fifteen, and then answered;
-/// what the reader gave before it failed is answered, too. After that neither the reader nor the writer is called again.
-/// The writer is not flushed. A buffer on the reader's side is not needed: blocks of 8 KiB are read.
+/// `Full` where the book's history is at its limit, which has room for as many commands. After these the replies to the
+/// records before were written. `Write` where the writer fails, takes no byte or cannot be flushed: a front of the
+/// text was written, up to and with that of the record whose reply failed.
+///
+/// Before the reader is asked for more, all records that it gave whole are answered, and the writer is flushed. After a
+/// failure neither the reader nor the writer is called again. A buffer on the reader's side is not needed: blocks of
+/// 8 KiB are read.
 pub fn replay<R: Read + Drop, W: Write>(
     alloc: Global,
-    opening: Day,
     reader: R,
     writer: &mut W,
+    date: Day,
 ) -> Result<Summary, ReplayFault>
     // All of the input is answered, and nothing else is written.
     ensures output { OnOk result (IfSome (R.remaining reader)
-        (λ input. Appends (W.contents writer.old) (W.contents writer.new) (output opening input))) }
+        (λ input. Appends (W.contents writer.old) (W.contents writer.new) (output date input))) }
     ensures counts { IfOk result (λ s. IfSome (R.remaining reader)
-        (λ input. Counts s (outcomes (opened opening) (records_of input)))) }
+        (λ input. Counts s (outcomes (opened date) (lines_of input)))) }
+    ensures few { OnOk result (IfSome (R.remaining reader) (λ input. length (lines_of input) < 2 ^ 32 - 1)) }
     // The records before the fault are answered, and of the next what the fault leaves.
     ensures fault { IfErr result (λ e. IfSome (R.remaining reader)
-        (λ input. Stops e (W.contents writer.old) (W.contents writer.new) (opened opening) (strip_bom input))) }
+        (λ input. Stops e (W.contents writer.old) (W.contents writer.new) (opened date) (lines_of input))) }
 {
-    let Ok(mut book) = Book::new(alloc, opening) else {
+    let Ok(mut book) = ReplayBook::new(alloc, date) else {
         return Err(ReplayFault::NoMemory);
     };
-    let mut rows = rows_of(alloc, reader);
-    let mut row = ByteRecord::new(alloc);
-    let mut lines = Vec::new(alloc);
-    play_all(&mut rows, &mut book, writer, &mut row, &mut lines)
+    play(&mut Records::new(alloc, reader), &mut book, writer)
 }

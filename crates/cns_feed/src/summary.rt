@@ -1,6 +1,7 @@
 // The counts of a replay.
-ghost use Rattle.std.specs.Prelude.{◌≡◌, ◌+◌, ◌-◌, ◌^◌, ◌<◌, if◌then◌else◌};
-ghost use Rattle.cns_feed.specs.Output.{is_command, is_at_fault, is_accepted_close};
+ghost use Rattle.std.specs.Prelude.{◌≡◌, ◌-◌, ◌^◌, ◌∷◌, []};
+ghost use Rattle.cns_feed.specs.Output.{Adds, no_counts};
+ghost use Rattle.cns_feed.specs.Replay.{IsUpTo};
 
 use crate::outcome::Outcome;
 use cns_terms::Reply;
@@ -19,7 +20,7 @@ pub struct Summary {
 impl Summary {
     // Nothing was read yet.
     pub(crate) fn new() -> Summary
-        ensures { result ≡ record { commands = 0; lines = 0; closes = 0 } }
+        ensures { result ≡ no_counts }
     {
         Summary {
             commands: 0,
@@ -30,12 +31,8 @@ impl Summary {
 
     // Counts one record more.
     pub(crate) fn add(&mut self, outcome: &Outcome)
-        requires commands { self.old.commands < 2 ^ 64 - 1 }
-        requires lines { self.old.lines < 2 ^ 64 - 1 }
-        requires closes { self.old.closes < 2 ^ 64 - 1 }
-        ensures commands { self.new.commands ≡ self.old.commands + (if is_command outcome.now then 1 else 0) }
-        ensures lines { self.new.lines ≡ self.old.lines + (if is_at_fault outcome.now then 1 else 0) }
-        ensures closes { self.new.closes ≡ self.old.closes + (if is_accepted_close outcome.now then 1 else 0) }
+        requires { IsUpTo self.old (2 ^ 64 - 2) }
+        ensures { Adds self.old self.new (outcome.now ∷ []) }
     {
         match outcome {
             Outcome::AtFault(_) => self.lines += 1,

@@ -1,14 +1,29 @@
 // Worked scripts, unusual inputs, texts of replies, and readers and writers that fail.
+mod ends;
 mod scripts;
+mod turns;
 
+use crate::loader::take_all;
+use crate::player::play;
+use crate::records::Records;
 use crate::{ReplayFault, Summary, load, replay, reply_text};
+use cns_book::Book;
+use cns_positions::{FlatPositions, Positions, TreePositions};
 use cns_terms::{Closed, Holding, Key, Refusal, Reply, Stated, Worker};
 use cns_units::{Account, Cents, Cusip, Day};
 use scripts::SCRIPTS;
 use std::alloc::Global;
-use std::io;
-use std::io::{Error, ErrorKind, Read, Write};
+use std::io::{Read, Write};
+use std::process::Abort;
 use std::test::Fail;
+
+// Runs a check over each form of positions that a book may stand on.
+macro_rules! over_each_form {
+    ($check:ident, $rt:ident) => {
+        $check::<FlatPositions<Global>, _>(&$rt, $rt.alloc())?;
+        $check::<TreePositions<Global>, _>(&$rt, $rt.alloc())?;
+    };
+}
 
 const POSITION_INPUT: &str = "MEMBER,101\n\
     MEMBER,202\n\
@@ -17,56 +32,6 @@ const POSITION_INPUT: &str = "MEMBER,101\n\
     POSITION,101,037833100\n";
 
 const POSITION_OUTPUT: &str = "ok\nok\nok\nok\nposition 101 037833100 100 0 -19500.00 0\n";
-
-// A writer that takes some bytes, at most so many a call, and then fails or takes none.
-#[derive(Drop)]
-struct Narrow {
-    taken: Vec<u8>,
-    step: usize,
-    room: usize,
-    fails: bool,
-    calls_when_full: u32,
-}
-
-impl Write for Narrow {
-    fn write(&mut self, buf: &[u8]) -> io::Result<usize> {
-        let count = buf.len().min(self.room).min(self.step);
-        if count == 0 && !buf.is_empty() {
-            self.calls_when_full = self.calls_when_full.saturating_add(1);
-            if self.fails {
-                return Err(Error::from(ErrorKind::Other));
-            }
-            return Ok(0);
-        }
-        self.taken.extend_from_slice(&buf[..count])?;
-        self.room -= count;
-        Ok(count)
-    }
-
-    fn flush(&mut self) -> io::Result<()> {
-        Ok(())
-    }
-}
-
-// A reader of bytes, at most so many a call, that fails or ends after them.
-#[derive(Drop)]
-struct Pieces<'a> {
-    bytes: &'a [u8],
-    step: usize,
-    fails: bool,
-    failures: u32,
-}
-
-impl Read for Pieces<'_> {
-    fn read(&mut self, buf: &mut [u8]) -> io::Result<usize> {
-        if self.bytes.is_empty() && self.fails {
-            self.failures = self.failures.saturating_add(1);
-            return Err(Error::from(ErrorKind::Other));
-        }
-        let count = buf.len().min(self.step);
-        self.bytes.read(&mut buf[..count])
-    }
-}
 
 fn day(text: &str) -> Result<Day, Fail> {
     match Day::parse(text.as_bytes()) {
@@ -89,83 +54,71 @@ fn account(number: u16) -> Result<Account, Fail> {
     }
 }
 
-#[test]
-fn each_script_gets_its_replies_and_counts(rt: HostRuntime) -> Result<(), Fail> {
+// A replay on a book over a form of positions.
+fn replay_on<P: Positions<Global>, R: Read + Drop, W: Write>(
+    alloc: Global,
+    reader: R,
+    writer: &mut W,
+    date: Day,
+) -> Result<Summary, ReplayFault> {
+    let Ok(mut book) = Book::<P, Global>::new(alloc, date) else {
+        return Err(ReplayFault::NoMemory);
+    };
+    play(&mut Records::new(alloc, reader), &mut book, writer)
+}
+
+fn replays_each_script<P: Positions<Global>, A: Abort>(rt: &A, alloc: Global) -> Result<(), Fail> {
     for script in &SCRIPTS {
         let name = script.name;
-        let opening = day(script.opening)?;
-        let mut output = Vec::new(rt.alloc());
-        let played = replay(rt.alloc(), opening, script.input.as_bytes(), &mut output);
-        let summary = Summary {
-            commands: script.commands,
-            lines: script.lines,
-            closes: script.closes,
-        };
-        assert!(rt; played == Ok(summary), "{name}");
+        let date = day(script.opening)?;
+        let mut output = Vec::new(alloc);
+        let played = replay_on::<P, &[u8], Vec<u8>>(
+            alloc,
+            script.input.as_bytes(),
+            &mut output,
+            date,
+        );
+        assert!(rt; played == Ok(script.summary()), "{name}");
         assert_eq!(rt; output.as_slice(), script.output.as_bytes(), "{name}");
     }
     Ok(())
 }
 
-// Records of that many members, and the replies to them.
-fn members(alloc: Global, count: u8) -> Result<(Vec<u8>, Vec<u8>), Fail> {
-    let (mut input, mut output) = (Vec::new(alloc), Vec::new(alloc));
-    for member in 10..count.saturating_add(10) {
-        input.extend_from_slice(b"MEMBER,")?;
-        input.extend_from_slice(&[b'0' + member / 10 % 10, b'0' + member % 10, b'\n'])?;
-        output.extend_from_slice(b"ok\n")?;
+fn loads_each_script<P: Positions<Global>, A: Abort>(rt: &A, alloc: Global) -> Result<(), Fail> {
+    for script in &SCRIPTS {
+        let name = script.name;
+        let Ok(mut book) = Book::<P, Global>::new(alloc, day(script.opening)?) else {
+            return Err(Fail::new(name));
+        };
+        let loaded = take_all(&mut Records::new(alloc, script.input.as_bytes()), &mut book);
+        let summary = script.summary();
+        assert!(rt; loaded == Ok(summary), "{name}");
+        assert_eq!(rt; book.history_len() as u64, summary.commands, "{name}");
+        assert_eq!(rt;
+            u64::from(book.count(Worker::FIRST)),
+            summary.commands,
+            "{name}"
+        );
+        assert!(rt; book.day() == summary.closes.saturating_add(1), "{name}");
     }
-    Ok((input, output))
+    Ok(())
 }
 
 #[test]
-fn each_number_of_records_is_answered_whole_also_where_the_reader_fails_after_them(
-    rt: HostRuntime,
-) -> Result<(), Fail> {
-    for count in 0..=47 {
-        for fails in [false, true] {
-            let (input, replies) = members(rt.alloc(), count)?;
-            let reader = Pieces {
-                bytes: input.as_slice(),
-                step: 11,
-                fails,
-                failures: 0,
-            };
-            let mut output = Vec::new(rt.alloc());
-            let played = replay(rt.alloc(), day("2024-06-03")?, reader, &mut output);
-            assert!(rt; played.is_err() == fails, "{count}");
-            assert!(rt; !fails || played == Err(ReplayFault::Read), "{count}");
-            assert_eq!(rt; output.as_slice(), replies.as_slice(), "{count}");
-        }
-    }
+fn each_script_gets_its_replies_and_counts(rt: HostRuntime) -> Result<(), Fail> {
+    over_each_form!(replays_each_script, rt);
     Ok(())
 }
 
 #[test]
 fn a_load_takes_the_commands_of_a_replay(rt: HostRuntime) -> Result<(), Fail> {
-    for script in &SCRIPTS {
-        let name = script.name;
-        let loaded = load(rt.alloc(), day(script.opening)?, script.input.as_bytes());
-        let Ok((book, summary)) = loaded else {
-            return Err(Fail::new(name));
-        };
-        assert_eq!(rt; summary.commands, script.commands, "{name}");
-        assert_eq!(rt; summary.lines, script.lines, "{name}");
-        assert_eq!(rt; summary.closes, script.closes, "{name}");
-        assert_eq!(rt; book.history_len() as u64, script.commands, "{name}");
-        assert_eq!(rt;
-            u64::from(book.count(Worker::FIRST)),
-            script.commands,
-            "{name}"
-        );
-        assert!(rt; book.day() == script.closes.saturating_add(1), "{name}");
-    }
+    over_each_form!(loads_each_script, rt);
     Ok(())
 }
 
 #[test]
 fn a_load_keeps_positions(rt: HostRuntime) -> Result<(), Fail> {
-    let loaded = load(rt.alloc(), day("2024-06-03")?, POSITION_INPUT.as_bytes());
+    let loaded = load(rt.alloc(), POSITION_INPUT.as_bytes(), day("2024-06-03")?);
     let Ok((book, _)) = loaded else {
         return Err(Fail::new("no book"));
     };
@@ -182,6 +135,11 @@ fn a_load_keeps_positions(rt: HostRuntime) -> Result<(), Fail> {
 
 #[test]
 fn unusual_inputs_are_read_as_records(rt: HostRuntime) -> Result<(), Fail> {
+    over_each_form!(reads_unusual_inputs, rt);
+    Ok(())
+}
+
+fn reads_unusual_inputs<P: Positions<Global>, A: Abort>(rt: &A, alloc: Global) -> Result<(), Fail> {
     let cases: [(&str, &[u8], &str); 16] = [
         ("a byte order mark", b"\xEF\xBB\xBFMEMBER,1\n", "ok\n"),
         (
@@ -229,8 +187,8 @@ fn unusual_inputs_are_read_as_records(rt: HostRuntime) -> Result<(), Fail> {
         ),
     ];
     for (name, input, expected) in cases {
-        let mut output = Vec::new(rt.alloc());
-        let played = replay(rt.alloc(), day("2024-06-03")?, input, &mut output);
+        let mut output = Vec::new(alloc);
+        let played = replay_on::<P, &[u8], Vec<u8>>(alloc, input, &mut output, day("2024-06-03")?);
         assert!(rt; played.is_ok(), "{name}");
         assert_eq!(rt; output.as_slice(), expected.as_bytes(), "{name}");
     }
@@ -314,9 +272,9 @@ fn the_first_fault_of_a_record_decides(rt: HostRuntime) -> Result<(), Fail> {
     let mut output = Vec::new(rt.alloc());
     let played = replay(
         rt.alloc(),
-        day("2024-06-03")?,
         input.as_bytes(),
         &mut output,
+        day("2024-06-03")?,
     );
     assert!(rt; played.is_ok());
     assert_eq!(rt; output.as_slice(), expected.as_bytes());
@@ -376,77 +334,6 @@ fn each_reply_has_its_text(rt: HostRuntime) -> Result<(), Fail> {
         let mut output = Vec::new(rt.alloc());
         assert!(rt; reply_text(&reply, &mut output).is_ok(), "{expected}");
         assert_eq!(rt; output.as_slice(), expected.as_bytes(), "{expected}");
-    }
-    Ok(())
-}
-
-#[test]
-fn small_reads_and_writes_give_the_same_text(rt: HostRuntime) -> Result<(), Fail> {
-    for step in 1..4 {
-        let input = Pieces {
-            bytes: POSITION_INPUT.as_bytes(),
-            step,
-            fails: false,
-            failures: 0,
-        };
-        let mut output = Narrow {
-            taken: Vec::new(rt.alloc()),
-            step,
-            room: 1000,
-            fails: true,
-            calls_when_full: 0,
-        };
-        let played = replay(rt.alloc(), day("2024-06-03")?, input, &mut output);
-        assert!(rt; played.is_ok());
-        assert_eq!(rt; output.taken.as_slice(), POSITION_OUTPUT.as_bytes());
-    }
-    Ok(())
-}
-
-#[test]
-fn a_failing_reader_ends_the_replay_and_is_not_called_again(rt: HostRuntime) -> Result<(), Fail> {
-    let mut input = Pieces {
-        bytes: &POSITION_INPUT.as_bytes()[..40],
-        step: 8192,
-        fails: true,
-        failures: 0,
-    };
-    let mut output = Vec::new(rt.alloc());
-    let played = replay(rt.alloc(), day("2024-06-03")?, &mut input, &mut output);
-    assert!(rt; played == Err(ReplayFault::Read));
-    assert_eq!(rt; output.as_slice(), b"ok\nok\n".as_slice());
-    assert_eq!(rt; input.failures, 1);
-    Ok(())
-}
-
-#[test]
-fn a_failing_writer_has_the_bytes_that_it_took_and_is_not_called_again(
-    rt: HostRuntime,
-) -> Result<(), Fail> {
-    for room in 0..POSITION_OUTPUT.len() {
-        for fails in [true, false] {
-            let mut output = Narrow {
-                taken: Vec::new(rt.alloc()),
-                step: 3,
-                room,
-                fails,
-                calls_when_full: 0,
-            };
-            let played = replay(
-                rt.alloc(),
-                day("2024-06-03")?,
-                POSITION_INPUT.as_bytes(),
-                &mut output,
-            );
-            assert!(rt; played == Err(ReplayFault::Write), "{room}");
-            assert!(rt; room <= POSITION_OUTPUT.len());
-            assert_eq!(rt;
-                output.taken.as_slice(),
-                &POSITION_OUTPUT.as_bytes()[..room],
-                "{room}"
-            );
-            assert_eq!(rt; output.calls_when_full, 1, "{room}");
-        }
     }
     Ok(())
 }

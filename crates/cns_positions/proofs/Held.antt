@@ -88,9 +88,9 @@ next_found rows after None s h = h
 next_found rows after (Some r) s h = h.1 ∙ ap (λ rs. r ∷ rs) (sym (held_next rows after r h.0 s h.1))
 
 -- the first that passes a test is the first of those that pass it
-pub find_filter : {X : Type 0} (p : X → Bool) (xs : List X) → MatchOption (find p xs) (filter p xs ≡ []) (λ x. (rest : List X) × (filter p xs ≡ x ∷ rest))
-find_filter p [] = refl
-find_filter {X} p (x ∷ xs) = by (p x) (find_filter p xs)
+pub first_passing : {X : Type 0} (p : X → Bool) (xs : List X) → MatchOption (find p xs) (filter p xs ≡ []) (λ x. (rest : List X) × (filter p xs ≡ x ∷ rest))
+first_passing p [] = refl
+first_passing {X} p (x ∷ xs) = by (p x) (first_passing p xs)
   where
     by : (b : Bool) → MatchOption (find p xs) (filter p xs ≡ []) (λ x. (rest : List X) × (filter p xs ≡ x ∷ rest)) → MatchOption (cond b (Some x) (find p xs)) (cond b (x ∷ filter p xs) (filter p xs) ≡ []) (λ y. (rest : List X) × (cond b (x ∷ filter p xs) (filter p xs) ≡ y ∷ rest))
     by true h = (filter p xs, refl)
@@ -99,7 +99,7 @@ find_filter {X} p (x ∷ xs) = by (p x) (find_filter p xs)
 -- the same, found among the rows above the key
 pub first_found : (rows above : Rows) (after : Option Key) (r : Option (Key × Holding)) → is_sorted key_cmp rows ≡ true → held_above above None ≡ held_above rows after → r ≡ find (λ r. is_held r.1) above → MatchOption r (held_above rows after ≡ []) (λ r. held_above rows after ≡ r ∷ held_above rows (Some r.0))
 first_found rows above after r s same found =
-    let first = find_filter (λ (r : Key × Holding). is_held r.1) above in
+    let first = first_passing (λ (r : Key × Holding). is_held r.1) above in
     next_found rows after r s (subst (λ (o : Option (Key × Holding)). MatchOption o (held_above rows after ≡ []) (λ r. (rest : Rows) × (held_above rows after ≡ r ∷ rest))) (sym found)
     (subst (λ (xs : Rows). MatchOption (find (λ (r : Key × Holding). is_held r.1) above) (xs ≡ []) (λ r. (rest : Rows) × (xs ≡ r ∷ rest))) same first))
 

@@ -15,7 +15,7 @@ use Rattle.std.specs.declared.cmp.Ordering.{Ordering}
 use Rattle.std.specs.declared.cmp.Ordering.TheVariants.{Less, Equal, Greater}
 use Rattle.cns_terms.specs.declared.holding.Key.{Key}
 use Rattle.cns_terms.specs.declared.holding.Holding.{Holding}
-use Rattle.cns_positions.specs.Rows.{Rows, holding_at, zeros, booked, entry_of, rolled, is_held}
+use Rattle.cns_positions.specs.Rows.{Rows, holding_at, zeros, booked, entry_of, rolled}
 use Rattle.cns_terms.specs.Keys.{key_cmp}
 use Rattle.cns_positions.specs.Contents.{has_row, closed_rows}
 use Rattle.cns_terms.proofs.Keys.{keys_total, exact_keys, same_key}
@@ -91,14 +91,6 @@ found_here es i k d s lt at = ap (λ o. unwrap_or o zeros) (find_at keys_total e
 -- it has a row
 pub row_here : (es : Rows) (i : ℕ) (k : Key) → is_sorted key_cmp es ≡ true → i < length es → HoldsAt (λ e. key_cmp e.0 k ≡ Equal) es i → has_row es k ≡ true
 row_here es i k s lt at = ap is_some (find_at keys_total es i k (k, zeros) s lt (at (k, zeros)))
-
--- what isn't zeros has a row
-held_some : (o : Option Holding) → is_held (unwrap_or o zeros) ≡ true → is_some o ≡ true
-held_some None h = cc
-held_some (Some x) h = refl
-
-pub row_held : (es : Rows) (k : Key) → is_held (holding_at es k) ≡ true → has_row es k ≡ true
-row_held es k h = held_some (find key_cmp k es) h
 
 -- a key that has a row is not in a gap
 pub no_gap : (es : Rows) (i : ℕ) (k : Key) → has_row es k ≡ true → IsPartitionPoint (λ e. key_cmp e.0 k ≡ Less) (λ e. key_cmp e.0 k ≡ Greater) es i → ⊥

@@ -6,7 +6,6 @@ use Rattle.std.proofs.lemmas.Int.{ints}
 use Rattle.cns_terms.specs.declared.holding.Holding.{Holding}
 use Rattle.cns_terms.specs.declared.holding.Key.{Key}
 use Rattle.cns_terms.specs.Sums.{same_issue}
-use Rattle.cns_positions.specs.Rows.{zeros}
 use Rattle.cns_positions.specs.declared.steps.Step.{Step}
 use Rattle.cns_positions.specs.declared.steps.Step.TheVariants.{Get, Add, Roll}
 use Rattle.cns_positions.specs.Steps.{IsSmallMap, IsSmallStep, Map, after_step, replies, reply_to}
@@ -51,14 +50,3 @@ small-step m m' s n p h same = record {
         let at = (q.account == k.account) && same_issue q.issue k.issue in
         (omega (arith, more_shares at (m k).now s n p.0 (h.shares k)), omega (arith, more_cents at (m k).contract c n p.1 (h.cents k)))
     by Roll p k = (omega (arith, h.shares k), omega arith)
-
--- no step
-pub small_none : (m : Map) → ((k : Key) → m k ≡ zeros) → IsSmallMap 0 m
-small_none m h = record {
-  shares = λ k. subst (λ (x : Holding). unsigned_abs x.now ≤ 10 ^ 9 * 0) (sym (h k)) (omega arith);
-  cents = λ k. subst (λ (x : Holding). unsigned_abs x.contract ≤ 10 ^ 18 * 0) (sym (h k)) (omega arith);
-}
-
--- fewer steps make no larger numbers than more
-pub small_below : (m : Map) (n : ℕ) → n ≤ 2 ^ 32 → IsSmallMap n m → IsSmallMap (2 ^ 32) m
-small_below m n p h = record { shares = λ k. let s = h.shares k in omega (arith, s, p); cents = λ k. let c = h.cents k in omega (arith, c, p) }

@@ -74,3 +74,35 @@ fn issues_come_in_the_order_of_their_bytes(rt: HostRuntime) -> Result<(), Fail> 
     }
     Ok(())
 }
+
+// The issue whose CUSIP is a number of three digits behind `037833`, with the check digit that is taken.
+fn numbered(number: u8) -> Result<Cusip, Fail> {
+    let mut text = *b"037833000";
+    text[6] = b'0' + number / 10 % 10;
+    text[7] = b'0' + number % 10;
+    text[5] = b'0' + number / 100;
+    for digit in b'0'..=b'9' {
+        text[8] = digit;
+        if let Ok(issue) = Cusip::parse(&text) {
+            return Ok(issue);
+        }
+    }
+    Err(Fail::new("no check digit"))
+}
+
+#[test]
+fn many_issues_are_listed(rt: HostRuntime) -> Result<(), Fail> {
+    let mut prices = Prices::new(rt.alloc())?;
+    for number in 0..=255 {
+        give(&mut prices, numbered(number)?, u64::from(number))?;
+    }
+    let mut after = None;
+    for number in 0..=255 {
+        let next = prices.next_listed(after);
+        let expected = (numbered(number)?, Price::new(u64::from(number))?);
+        assert_eq!(rt; next, Some(expected));
+        after = Some(expected.0);
+    }
+    assert_eq!(rt; prices.next_listed(after), None);
+    Ok(())
+}

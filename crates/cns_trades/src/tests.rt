@@ -241,3 +241,17 @@ fn references_are_seen_once_they_are_noted(rt: HostRuntime) -> Result<(), Fail> 
     }
     Ok(())
 }
+
+// References that stand far apart, each on a page of its own.
+#[test]
+fn references_of_many_pages_are_noted(rt: HostRuntime) -> Result<(), Fail> {
+    let mut trades = Trades::new(rt.alloc());
+    for page in 0..1_000u64 {
+        trades.note_reference(page * 1_000_003)?;
+    }
+    for page in 0..1_000u64 {
+        assert!(rt; trades.seen(page * 1_000_003));
+        assert!(rt; !trades.seen(page * 1_000_003 + 1));
+    }
+    Ok(())
+}

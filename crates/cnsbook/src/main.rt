@@ -8,7 +8,7 @@
 mod program;
 
 use cns_feed::ReplayFault;
-use program::{fail, refuse_line};
+use program::{fail, refuse_words};
 use std::io;
 use std::io::BufWriter;
 use std::process::ExitCode;
@@ -16,7 +16,7 @@ use std::process::ExitCode;
 fn main(rt: HostRuntime) -> ExitCode {
     let words = match std::env::args(&rt) {
         Ok(words) => words,
-        Err(_) => return ExitCode::from(refuse_line(&mut rt.stderr())),
+        Err(error) => return ExitCode::from(refuse_words(&error, &mut rt.stderr())),
     };
     let Ok(words) = words.collect::<Vec<String>>(rt.alloc()) else {
         return ExitCode::from(fail(ReplayFault::NoMemory, &mut rt.stderr()));

@@ -1,19 +1,21 @@
 // The line of the program, and what it asks for.
-ghost use Rattle.std.specs.Prelude.{◌≡◌, ◌≤◌, IfSome, OnOk};
+ghost use Rattle.std.specs.Prelude.{◌≡◌, ◌≢◌, ◌≤◌, IfSome, OnOk};
+ghost use Rattle.std.specs.IoError.{error_kind};
 ghost use Rattle.std.specs.Io.KnownBytes.{Appends};
 ghost use Rattle.cns_units.specs.declared.day.Day.{Day};
 ghost use Rattle.cns_units.specs.Output.{AppendsFront};
 ghost use Rattle.cns_feed.specs.Output.{output as output_of};
 ghost use Rattle.cns_feed.specs.declared.fault.ReplayFault.{ReplayFault};
+ghost use Rattle.cns_feed.specs.declared.fault.ReplayFault.TheVariants as fault;
 ghost use Rattle.cnsbook.specs.Lines.{fault_line, usage_line};
 
-use clap::error::ErrorKind;
 use clap::{Arg, ArgAction, Command, Error};
 use cns_feed::{ReplayFault, replay};
 use cns_units::{Day, write_bytes};
 use std::alloc::Global;
 use std::convert::AsStr;
-use std::io::{Read, Write};
+use std::io;
+use std::io::{ErrorKind, Read, Write};
 
 const USAGE: &[u8] =
     b"usage: cnsbook replay --open DATE | run --open DATE FILE... | statements --open DATE --day DATE --workers N\n";
@@ -50,6 +52,22 @@ pub fn fail<E: Write>(fault: ReplayFault, errors: &mut E) -> u8
     1
 }
 
+/// Answers for words of the line that could not be read: where memory was refused it writes that fault, and answers 1;
+/// words that are no text are refused, with the usage line and 2.
+#[tactic(auto, using(crate::proofs::WriteLemmas::writes_front))]
+pub fn refuse_words<E: Write>(error: &io::Error, errors: &mut E) -> u8
+    ensures fault { error_kind error.now ≡ ErrorKind.OutOfMemory
+        → (result ≡ 1) × AppendsFront (E.contents errors.old) (E.contents errors.new) (fault_line fault.NoMemory) }
+    ensures refused { error_kind error.now ≢ ErrorKind.OutOfMemory
+        → (result ≡ 2) × AppendsFront (E.contents errors.old) (E.contents errors.new) usage_line }
+{
+    if error.kind() == ErrorKind::OutOfMemory {
+        fail(ReplayFault::NoMemory, errors)
+    } else {
+        refuse_line(errors)
+    }
+}
+
 // The lines that are taken: a subcommand with its options, and no help or version.
 fn command_line<'a>(alloc: Global) -> Result<Command<'a>, Error> {
     let open = Arg::new(alloc, "open")
@@ -77,7 +95,7 @@ fn opening_of<S: AsStr>(alloc: Global, words: &[S]) -> Result<Option<Day>, Error
         Ok(matches) => matches,
         Err(error) => {
             return match error.kind() {
-                ErrorKind::OutOfMemory => Err(error),
+                clap::error::ErrorKind::OutOfMemory => Err(error),
                 _ => Ok(None),
             };
         }
@@ -101,7 +119,7 @@ fn replay_input<I: Read + Drop, O: Write>(
     ensures { OnOk result (IfSome (I.remaining input)
         (λ bytes. Appends (O.contents output.old) (O.contents output.new) (output_of opening bytes))) }
 {
-    let played = replay(alloc, opening, input, output);
+    let played = replay(alloc, input, output, opening);
     let flushed = output.flush();
     if let Err(fault) = played {
         return Err(fault);

@@ -1,5 +1,5 @@
 // What the program writes and answers, by its line, its input and its writers.
-use crate::program::program;
+use crate::program::{program, refuse_words};
 use std::io;
 use std::io::{Error, ErrorKind, Write};
 use std::test::Fail;
@@ -7,10 +7,11 @@ use std::test::Fail;
 const USAGE: &str =
     "usage: cnsbook replay --open DATE | run --open DATE FILE... | statements --open DATE --day DATE --workers N\n";
 
-// A writer that takes all bytes, and fails to flush them.
+// A writer that takes all bytes, and can be flushed only so many times.
 #[derive(Drop)]
 struct Stuck {
     taken: Vec<u8>,
+    flushes: usize,
 }
 
 impl Write for Stuck {
@@ -20,13 +21,17 @@ impl Write for Stuck {
     }
 
     fn flush(&mut self) -> io::Result<()> {
-        Err(Error::from(ErrorKind::Other))
+        if self.flushes == 0 {
+            return Err(Error::from(ErrorKind::Other));
+        }
+        self.flushes -= 1;
+        Ok(())
     }
 }
 
 #[test]
 fn a_refused_line_gets_the_usage(rt: HostRuntime) -> Result<(), Fail> {
-    let lines: [&[&str]; 22] = [
+    let lines: [&[&str]; 26] = [
         &[],
         &["cnsbook"],
         &["cnsbook", "replay"],
@@ -35,6 +40,10 @@ fn a_refused_line_gets_the_usage(rt: HostRuntime) -> Result<(), Fail> {
         &["cnsbook", "replay", "--open", "2024-6-3"],
         &["cnsbook", "replay", "--open", ""],
         &["cnsbook", "replay", "2024-06-03"],
+        &["cnsbook", "replay", "-o"],
+        &["cnsbook", "replay", "-o", "2024-06-03"],
+        &["cnsbook", "replay", "-o2024-06-03"],
+        &["cnsbook", "replay", "-open", "2024-06-03"],
         &["cnsbook", "replay", "--open", "2024-06-03", "more"],
         &[
             "cnsbook",
@@ -85,6 +94,22 @@ fn a_refused_line_gets_the_usage(rt: HostRuntime) -> Result<(), Fail> {
 }
 
 #[test]
+fn want_of_memory_for_the_words_is_a_fault_and_other_errors_refuse_the_line(
+    rt: HostRuntime,
+) -> Result<(), Fail> {
+    let cases = [
+        (ErrorKind::OutOfMemory, 1, "fault NoMemory\n"),
+        (ErrorKind::InvalidData, 2, USAGE),
+    ];
+    for (kind, status, text) in cases {
+        let mut errors = Vec::new(rt.alloc());
+        assert_eq!(rt; refuse_words(&Error::from(kind), &mut errors), status);
+        assert_eq!(rt; errors.as_slice(), text.as_bytes());
+    }
+    Ok(())
+}
+
+#[test]
 fn a_replay_opens_on_its_date_and_writes_the_replies(rt: HostRuntime) -> Result<(), Fail> {
     let lines: [&[&str]; 2] = [
         &["cnsbook", "replay", "--open", "2024-06-03"],
@@ -108,22 +133,21 @@ fn a_replay_opens_on_its_date_and_writes_the_replies(rt: HostRuntime) -> Result<
     Ok(())
 }
 
+// The writer is flushed before each of the two reads, and at the end.
 #[test]
 fn a_failed_flush_is_a_fault_of_writing(rt: HostRuntime) -> Result<(), Fail> {
     let words: &[&str] = &["cnsbook", "replay", "--open", "2024-06-03"];
-    let mut output = Stuck {
-        taken: Vec::new(rt.alloc()),
-    };
-    let mut errors = Vec::new(rt.alloc());
-    let status = program(
-        &rt,
-        words,
-        b"MEMBER,1\n".as_slice(),
-        &mut output,
-        &mut errors,
-    );
-    assert_eq!(rt; status, 1);
-    assert_eq!(rt; output.taken.as_slice(), b"ok\n".as_slice());
-    assert_eq!(rt; errors.as_slice(), b"fault Write\n".as_slice());
+    for (flushes, taken) in [(0, ""), (1, "ok\n"), (2, "ok\n")] {
+        let mut output = Stuck {
+            taken: Vec::new(rt.alloc()),
+            flushes,
+        };
+        let mut errors = Vec::new(rt.alloc());
+        let input = b"MEMBER,1\n".as_slice();
+        let status = program(&rt, words, input, &mut output, &mut errors);
+        assert_eq!(rt; status, 1, "{flushes}");
+        assert_eq!(rt; output.taken.as_slice(), taken.as_bytes(), "{flushes}");
+        assert_eq!(rt; errors.as_slice(), b"fault Write\n".as_slice(), "{flushes}");
+    }
     Ok(())
 }

@@ -1,4 +1,5 @@
 // Scripts with the replies that they must get.
+use crate::Summary;
 
 // Records, and what a replay of them must write and count.
 pub(crate) struct Script {
@@ -9,6 +10,16 @@ pub(crate) struct Script {
     pub(crate) commands: u64,
     pub(crate) lines: u64,
     pub(crate) closes: u64,
+}
+
+impl Script {
+    pub(crate) fn summary(&self) -> Summary {
+        Summary {
+            commands: self.commands,
+            lines: self.lines,
+            closes: self.closes,
+        }
+    }
 }
 
 pub(crate) const SCRIPTS: [Script; 21] = [

@@ -1,40 +1,35 @@
-use Rattle.std.proofs.Common.{arith, ap, [], ◌∷◌, ◌++◌}
-use Rattle.csv.specs.Records.{fields_of}
-use Rattle.cns_feed.specs.declared.summary.Summary.{Summary}
-use Rattle.cns_feed.proofs.FeedLemmas.{Adds, count-bound, fed-all, fed-more, fed-none, if_some}
+use Rattle.std.proofs.Common.{arith, Ok, true, None, subst, sym}
+use Rattle.cns_feed.specs.Records.{GivesAll, ReadsBatch}
+use Rattle.cns_feed.proofs.PlayLemmas.{along-all, along-more, along-none, up_to-none, up_to-turn}
 use Rattle.cns_feed.proofs.loader.take_all.Goals as goal
 
 pub loop-turn-init : goal.loop-turn-init
 loop-turn-init g c = record {
-  setup = c.requires.setup;
-  commands = let zero = ap (λ (s : Summary). s.commands) c.new-summary.ensures in omega arith;
-  lines = let zero = ap (λ (s : Summary). s.lines) c.new-summary.ensures in omega arith;
-  closes = let zero = ap (λ (s : Summary). s.closes) c.new-summary.ensures in omega arith;
-  fed = λ bytes h. ([], fed-none g.R.Read.remaining bytes _ _ _ c.requires.start h c.new-summary.ensures);
+  counts = up_to-none _ c.new-summary.ensures;
+  along = λ all p. along-none g.R.Read.remaining c.args.records.now _ _ None all c.new-summary.ensures p;
 }
 
-pub returns-then-not-found-clause-after : goal.returns-then-not-found-clause-after
-returns-then-not-found-clause-after g c =
-    let inv = c.loop-turn.invariant in
-    let r = rw c.if-not-found.true at c.in_ok-found.ensures.reads in
-    if_some _ _ (λ bytes h. let p = inv.fed bytes h in rw (fed-all g.R.Read.remaining bytes c.loop-turn.rows c.read_row.new.rows _ _ _ p.0 _ inv.setup.config r p.1) p.1.book)
+pub returns-then-not-more-clause-few : goal.returns-then-not-more-clause-few
+returns-then-not-more-clause-few g c all q =
+    let none = subst (GivesAll g.R.Read.remaining c.loop-turn.records) (sym c.lines.ensures.value) (rw c.if-not-more.true at c.in_ok-more.ensures) in
+    (along-all g.R.Read.remaining c.args.records.now c.loop-turn.records _ _ _ _ _ None None None _ all none c.in_ok-take_batch.ensures.takes tt (c.loop-turn.invariant.along all q)).few
 
-pub returns-then-not-found-clause-counts : goal.returns-then-not-found-clause-counts
-returns-then-not-found-clause-counts g c =
-    let inv = c.loop-turn.invariant in
-    let r = rw c.if-not-found.true at c.in_ok-found.ensures.reads in
-    if_some _ _ (λ bytes h. let p = inv.fed bytes h in rw (fed-all g.R.Read.remaining bytes c.loop-turn.rows c.read_row.new.rows _ _ _ p.0 _ inv.setup.config r p.1) p.1.counts)
+pub returns-then-not-more-clause-after : goal.returns-then-not-more-clause-after
+returns-then-not-more-clause-after g c all q =
+    let none = subst (GivesAll g.R.Read.remaining c.loop-turn.records) (sym c.lines.ensures.value) (rw c.if-not-more.true at c.in_ok-more.ensures) in
+    (along-all g.R.Read.remaining c.args.records.now c.loop-turn.records _ _ _ _ _ None None None _ all none c.in_ok-take_batch.ensures.takes tt (c.loop-turn.invariant.along all q)).takes.book
+
+pub returns-then-not-more-clause-counts : goal.returns-then-not-more-clause-counts
+returns-then-not-more-clause-counts g c all q =
+    let none = subst (GivesAll g.R.Read.remaining c.loop-turn.records) (sym c.lines.ensures.value) (rw c.if-not-more.true at c.in_ok-more.ensures) in
+    (along-all g.R.Read.remaining c.args.records.now c.loop-turn.records _ _ _ _ _ None None None _ all none c.in_ok-take_batch.ensures.takes tt (c.loop-turn.invariant.along all q)).takes.counts
 
 pub loop-turn-preserved : goal.loop-turn-preserved
 loop-turn-preserved g c =
     let inv = c.loop-turn.invariant in
-    let r = rw c.if-not-found.false at c.in_ok-found.ensures.reads in
-    let adds : Adds c.loop-turn.summary c.add.new.self c.in_ok-outcome.outcome = record { commands = c.add.ensures.commands; lines = c.add.ensures.lines; closes = c.add.ensures.closes } in
+    let more = subst (ReadsBatch g.R.Read.remaining c.loop-turn.records c.read_batch.new.self (Ok true)) (sym c.lines.ensures.value) (rw c.if-not-more.false at c.in_ok-more.ensures) in
+    let takes = c.in_ok-take_batch.ensures.takes in
     record {
-      setup = c.in_ok-found.ensures.setup c.if-not-found.false;
-      commands = count-bound _ _ _ _ inv.commands adds.commands;
-      lines = count-bound _ _ _ _ inv.lines adds.lines;
-      closes = count-bound _ _ _ _ inv.closes adds.closes;
-      fed = λ bytes h. let p = inv.fed bytes h in
-          (p.0 ++ fields_of c.read_row.new.row ∷ [], fed-more g.R.Read.remaining bytes c.loop-turn.rows c.read_row.new.rows _ _ _ _ _ p.0 (fields_of c.read_row.new.row) _ inv.setup.config r c.in_ok-outcome.ensures.outcome c.in_ok-outcome.ensures.after adds p.1);
+      counts = up_to-turn _ _ _ _ c.lines.result.now c.loop-turn._turn takes (omega (arith, c.lines.ensures.few)) inv.counts;
+      along = λ all q. along-more g.R.Read.remaining c.args.records.now c.loop-turn.records c.read_batch.new.self _ _ _ _ _ None None None _ all more.0 more.1 takes tt (inv.along all q);
     }

@@ -1,15 +1,13 @@
-use Rattle.std.proofs.Common.{◌≡◌, ◌≤◌, ℕ, List, Some}
-use Rattle.csv.specs.Reading.{source_of}
-use Rattle.cns_feed.specs.Line.{Record}
-use Rattle.cns_feed.specs.Replay.{Setup}
-use Rattle.cns_feed.proofs.FeedLemmas.{Fed}
+use Rattle.std.proofs.Common.{◌*◌, ◌^◌, List, None}
+use Rattle.cns_feed.specs.Line.{Line}
+use Rattle.cns_feed.specs.Records.{Pending}
+use Rattle.cns_feed.specs.Replay.{IsUpTo}
+use Rattle.cns_feed.proofs.PlayLemmas.{Along}
 use Rattle.cns_feed.proofs.loader.take_all.Given as goal
 
 abbrev pub invariant-loop-turn : goal.invariant-loop-turn
 invariant-loop-turn g l = record {
-  setup : Setup l.rows;
-  commands : l.summary.commands ≤ l._turn;
-  lines : l.summary.lines ≤ l._turn;
-  closes : l.summary.closes ≤ l._turn;
-  fed : (bytes : List ℕ) → source_of g.R.Read.remaining l.fn.rows ≡ Some bytes → (done : List Record) × Fed g.R.Read.remaining bytes l.rows l.fn.book l.book l.summary done;
+  counts : IsUpTo l.summary (2 ^ 8 * l._turn);
+  along : (all : List Line) → Pending g.R.Read.remaining l.fn.records all
+      → Along g.R.Read.remaining l.fn.records l.records l.fn.book l.book l.summary None None all;
 }

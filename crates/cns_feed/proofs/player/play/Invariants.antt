@@ -1,0 +1,13 @@
+use Rattle.std.proofs.Common.{◌*◌, ◌^◌, List}
+use Rattle.cns_feed.specs.Line.{Line}
+use Rattle.cns_feed.specs.Records.{Pending}
+use Rattle.cns_feed.specs.Replay.{IsUpTo}
+use Rattle.cns_feed.proofs.PlayLemmas.{Along}
+use Rattle.cns_feed.proofs.player.play.Given as goal
+
+abbrev pub invariant-loop-turn : goal.invariant-loop-turn
+invariant-loop-turn g l = record {
+  counts : IsUpTo l.summary (2 ^ 8 * l._turn);
+  along : (all : List Line) → Pending g.R.Read.remaining l.fn.records all
+      → Along g.R.Read.remaining l.fn.records l.records l.fn.book l.book l.summary (g.W.Write.contents l.fn.writer) (g.W.Write.contents l.writer) all;
+}

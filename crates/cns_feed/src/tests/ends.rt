@@ -1,0 +1,136 @@
+// A reader and a writer that fail or take little at a time, and that watch each other.
+use std::cell::Cell;
+use std::io;
+use std::io::{Error, ErrorKind, Read, Write};
+
+// What the two ends of a replay saw of each other.
+#[derive(Drop)]
+pub(crate) struct Watch {
+    // How many bytes were flushed.
+    pub(crate) flushed: Cell<usize>,
+    // Whether the reader was asked for more before the replies to what it gave were flushed.
+    pub(crate) is_late: Cell<bool>,
+    // Whether one of the ends has failed, and whether one was called after that.
+    pub(crate) has_failed: Cell<bool>,
+    pub(crate) is_called_after: Cell<bool>,
+}
+
+impl Watch {
+    pub(crate) fn new() -> Watch {
+        Watch {
+            flushed: Cell::new(0),
+            is_late: Cell::new(false),
+            has_failed: Cell::new(false),
+            is_called_after: Cell::new(false),
+        }
+    }
+
+    fn call(&self) {
+        if self.has_failed.get() {
+            self.is_called_after.set(true);
+        }
+    }
+
+    fn fail(&self) -> Error {
+        self.has_failed.set(true);
+        Error::from(ErrorKind::Other)
+    }
+}
+
+// Where a block of an input ends, and how many bytes of replies are due once it was given.
+#[derive(Clone, Copy)]
+pub(crate) struct Cut {
+    pub(crate) end: usize,
+    pub(crate) due: usize,
+}
+
+// Gives the blocks of an input, one or a part of one a call, and fails or ends after them.
+#[derive(Drop)]
+pub(crate) struct Source<'a> {
+    bytes: &'a [u8],
+    cuts: &'a [Cut],
+    fails: bool,
+    at: usize,
+    next: usize,
+    due: usize,
+    watch: &'a Watch,
+}
+
+impl<'a> Source<'a> {
+    pub(crate) fn new(
+        bytes: &'a [u8],
+        cuts: &'a [Cut],
+        fails: bool,
+        watch: &'a Watch,
+    ) -> Source<'a> {
+        Source {
+            bytes,
+            cuts,
+            fails,
+            at: 0,
+            next: 0,
+            due: 0,
+            watch,
+        }
+    }
+}
+
+impl Read for Source<'_> {
+    fn read(&mut self, buf: &mut [u8]) -> io::Result<usize> {
+        self.watch.call();
+        if self.watch.flushed.get() < self.due {
+            self.watch.is_late.set(true);
+        }
+        let Some(cut) = self.cuts.get(self.next) else {
+            return if self.fails {
+                Err(self.watch.fail())
+            } else {
+                Ok(0)
+            };
+        };
+        let mut block = self.bytes.get(self.at..cut.end).unwrap_or(b"");
+        let count = block.read(buf)?;
+        self.at = self.at.saturating_add(count);
+        if self.at >= cut.end {
+            self.due = cut.due;
+            self.next = self.next.saturating_add(1);
+        }
+        Ok(count)
+    }
+}
+
+// Takes bytes, at most so many a call and as many as there is room for, and is flushed at most so many times.
+#[derive(Drop)]
+pub(crate) struct Sink<'a> {
+    pub(crate) taken: Vec<u8>,
+    pub(crate) step: usize,
+    pub(crate) room: usize,
+    // Whether a call without room is an error, or takes no byte.
+    pub(crate) fails: bool,
+    pub(crate) flushes: usize,
+    pub(crate) watch: &'a Watch,
+}
+
+impl Write for Sink<'_> {
+    fn write(&mut self, buf: &[u8]) -> io::Result<usize> {
+        self.watch.call();
+        let count = buf.len().min(self.room).min(self.step);
+        if count == 0 && !buf.is_empty() {
+            let error = self.watch.fail();
+            return if self.fails { Err(error) } else { Ok(0) };
+        }
+        self.taken.extend_from_slice(&buf[..count])?;
+        self.room -= count;
+        Ok(count)
+    }
+
+    fn flush(&mut self) -> io::Result<()> {
+        self.watch.call();
+        if self.flushes == 0 {
+            return Err(self.watch.fail());
+        }
+        self.flushes -= 1;
+        self.watch.flushed.set(self.taken.len());
+        Ok(())
+    }
+}
