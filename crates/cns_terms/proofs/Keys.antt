@@ -51,9 +51,9 @@ low_cmp a b x y same =
     elim (cases_order x y) [
       | inl eq ↦ equal_is one two (omega arith) ∙ sym (equal_is x y eq)
       | inr other ↦ elim other [
-          | inl lt ↦ less_is one two (omega arith) ∙ sym (less_is x y lt)
-          | inr gt ↦ greater_is one two (omega arith) ∙ sym (greater_is x y gt)
-        ]
+        | inl lt ↦ less_is one two (omega arith) ∙ sym (less_is x y lt)
+        | inr gt ↦ greater_is one two (omega arith) ∙ sym (greater_is x y gt)
+      ]
     ]
 
 -- two pairs of numbers, the second of 64 bits, compare as the numbers that they make
@@ -65,7 +65,7 @@ pairs_cmp a b x y small too =
     elim (cases_order a b) [
       | inl eq ↦ low_cmp a b x y eq ∙ sym (ap then (equal_is a b eq))
       | inr other ↦ elim other [
-          | inl lt ↦ less_is one two (omega arith) ∙ sym (ap then (less_is a b lt))
-          | inr gt ↦ greater_is one two (omega arith) ∙ sym (ap then (greater_is a b gt))
-        ]
+        | inl lt ↦ less_is one two (omega arith) ∙ sym (ap then (less_is a b lt))
+        | inr gt ↦ greater_is one two (omega arith) ∙ sym (ap then (greater_is a b gt))
+      ]
     ]

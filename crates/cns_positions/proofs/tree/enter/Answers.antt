@@ -1,4 +1,4 @@
-use Rattle.std.proofs.Common.{◌≡◌, Option, None, Some, is_some, false, refl, sym, ap, ◌∙◌}
+use Rattle.std.proofs.Common.{◌≡◌, Option, None, Some, is_some, false, refl, sym, ◌∙◌}
 use Rattle.cns_positions.specs.Rows.{zeros}
 use Rattle.cns_positions.proofs.Holdings.{row_put, row_stays, entered}
 use Rattle.cns_positions.proofs.tree.enter.Goals as goal
