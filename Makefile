@@ -1,25 +1,37 @@
-# The commands of README.md. They need the toolchain's `rt` on the path; the benchmark needs python3 too.
+# The commands of README.md. They need Bash and the toolchain's `rt` on the path; the benchmark needs Python 3 too.
+
+SHELL := bash
+.SHELLFLAGS := -eu -o pipefail -c
 
 PROGRAM := crates/cnsbook/out/cnsbook
 OPENING := 2024-06-03
+SAMPLES := day week
 
-.PHONY: build sample test bench
+.PHONY: build sample compare test bench
 
-# Proves every crate that the program stands on, and builds it.
+# Proves every crate that the program stands on, and builds the program.
 build:
 	cd crates/cnsbook && rt run -- replay --open $(OPENING) < /dev/null
 
-# Replays the sample day, and compares its replies with those kept beside it.
-sample: build
-	$(PROGRAM) replay --open $(OPENING) < examples/day.csv | tee examples/day.out
-	diff examples/day.replies examples/day.out
+# Builds the program and replays the samples.
+sample: build compare
 
-# The gate: every proof from nothing, the edits that must fail, every test, the stored run of the program, and the program
-# that the gate built, driven through a pipe.
+# Replays the samples with the program as it stands, and compares its replies with those kept beside them.
+compare:
+	@for name in $(SAMPLES); do \
+	    $(PROGRAM) replay --open $(OPENING) < examples/$$name.csv | diff examples/$$name.replies -; \
+	done
+	@echo "samples passed: $(SAMPLES)"
+
+# The gate: every proof from nothing, the edits that the check must refuse, every test, the stored run of the program, and
+# then the program that the gate built: through a pipe, to each of its statuses, and over the samples.
 test:
-	rt ci
-	bash tests/pipe.sh $(PROGRAM)
+	@rt ci; \
+	    bash tests/pipe.sh $(PROGRAM); \
+	    bash tests/status.sh $(PROGRAM); \
+	    $(MAKE) --no-print-directory compare; \
+	    echo "the gate passed in $$((SECONDS / 60)) minutes"
 
-# Records a second and bytes a command, at 10^4, 10^5 and 10^6 records.
+# Records a second and bytes of memory a command, at 10^4, 10^5 and 10^6 records.
 bench: build
 	python3 bench/bench.py $(PROGRAM)

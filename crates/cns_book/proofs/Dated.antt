@@ -18,28 +18,19 @@ use Rattle.cns_units.specs.declared.account.Account.{Account}
 use Rattle.cns_terms.specs.declared.command.Activity.{Activity}
 use Rattle.cns_terms.specs.declared.refusal.Refusal.TheVariants.{NoSuchMember, NoSuchDay}
 use Rattle.cns_terms.specs.declared.reply.Reply.TheVariants as reply
-use Rattle.cns_terms.specs.declared.sheet.Row.{Row}
-use Rattle.cns_terms.specs.Days.{closed_on, closings, date, is_same_day}
+use Rattle.cns_terms.specs.Days.{closings, date, is_same_day}
 use Rattle.cns_terms.specs.Entries.{journal}
 use Rattle.cns_terms.specs.Refusals.{first_refusal}
-use Rattle.cns_terms.specs.Sums.{total}
-use Rattle.cns_terms.proofs.Statements.{rows_stated}
-use Rattle.cns_terms.proofs.Sound.{IsSound, IsWhole, whole_nil}
-use Rattle.cns_terms.proofs.Everywhere.{each_found}
-use Rattle.cns_sheets.specs.Search.{stated_from}
 use Rattle.cns_terms.specs.Postings.{Journal}
-use Rattle.cns_terms.specs.Sheets.{DaySheet, day_sheet, statement}
+use Rattle.cns_terms.specs.Sheets.{DaySheet, day_sheet, sheet_on, statement}
+use Rattle.cns_terms.proofs.Facts.{less_less}
 use Rattle.cns_book.specs.Contents.{Contents}
-use Rattle.cns_book.specs.Dated.{AreFalling, IsAfter, is_dated, sheet_on}
+use Rattle.cns_book.specs.Dated.{AreFalling, IsAfter, dated_sheet, is_dated}
 use Rattle.cns_book.specs.Follows.{Follows}
-use Rattle.cns_book.specs.Shown.{sheet_shown}
 
 -- the number of a sheet's day
 abbrev pub number : DaySheet → ℤ
 number s = day_number s.date
-
-less_less : (a b c : ℤ) → int_lt a b ≡ true → int_lt b c ≡ true → int_lt a c ≡ true
-less_less a b c p q = grind (arith, ints)
 
 -- a day is after all that were closed before it
 after_each : (d : Day) (ss : List DaySheet) (j : ℕ) (e : DaySheet) → IsAfter d ss → AreFalling ss → j < length ss → int_lt (number (get_or ss j e)) (day_number d) ≡ true
@@ -66,16 +57,16 @@ take true s o h = refl
 take false s o h = cc
 
 -- a day with the date is the one that a look from the newest back finds
-find_here : (ss : List DaySheet) (d : Day) (j : ℕ) (e : DaySheet) → AreFalling ss → j < length ss → is_same_day (get_or ss j e).date d ≡ true → sheet_on ss d ≡ Some (get_or ss j e)
+find_here : (ss : List DaySheet) (d : Day) (j : ℕ) (e : DaySheet) → AreFalling ss → j < length ss → is_same_day (get_or ss j e).date d ≡ true → dated_sheet ss d ≡ Some (get_or ss j e)
 find_here [] d j e f lt h = absurd (omega arith)
-find_here (s ∷ ss) d zero e f lt h = take _ s (sheet_on ss d) h
+find_here (s ∷ ss) d zero e f lt h = take _ s (dated_sheet ss d) h
 find_here (s ∷ ss) d (suc j) e f lt h =
-    skip (is_same_day s.date d) s (sheet_on ss d) (apart (number (get_or ss j e)) (number s) (day_number d) (after_each s.date ss j e f.0 f.1 (omega arith)) h)
+    skip (is_same_day s.date d) s (dated_sheet ss d) (apart (number (get_or ss j e)) (number s) (day_number d) (after_each s.date ss j e f.0 f.1 (omega arith)) h)
     ∙ find_here ss d j e f.1 (omega arith) h
 
-find_none : (ss : List DaySheet) (d : Day) (e : DaySheet) → ((j : ℕ) → j < length ss → is_same_day (get_or ss j e).date d ≡ false) → sheet_on ss d ≡ None
+find_none : (ss : List DaySheet) (d : Day) (e : DaySheet) → ((j : ℕ) → j < length ss → is_same_day (get_or ss j e).date d ≡ false) → dated_sheet ss d ≡ None
 find_none [] d e h = refl
-find_none (s ∷ ss) d e h = skip _ s (sheet_on ss d) (h 0 (omega arith)) ∙ find_none ss d e (λ j lt. h (suc j) (omega arith))
+find_none (s ∷ ss) d e h = skip _ s (dated_sheet ss d) (h 0 (omega arith)) ∙ find_none ss d e (λ j lt. h (suc j) (omega arith))
 
 rising_index : (a b c : ℤ) → int_lt a b ≡ true → ordering_index (int_cmp a c) ≤ ordering_index (int_cmp b c)
 rising_index a b c h = grind (arith, ints)
@@ -136,7 +127,7 @@ module _ {X : Type 0} (f : X → DaySheet) (d : Day) where
   found_nowhere (x ∷ xs) r falling h = nowhere (x ∷ xs) x r falling h
 
   -- what stands at the place is what a look from the newest back finds
-  pub sheet_at : (xs : List X) (i : ℕ) (e : X) → AreFalling (reverse (map f xs)) → i < length xs → is_dated d (f (get_or xs i e)) ≡ true → Some (f (get_or xs i e)) ≡ sheet_on (reverse (map f xs)) d
+  pub sheet_at : (xs : List X) (i : ℕ) (e : X) → AreFalling (reverse (map f xs)) → i < length xs → is_dated d (f (get_or xs i e)) ≡ true → Some (f (get_or xs i e)) ≡ dated_sheet (reverse (map f xs)) d
   sheet_at xs i e falling lt h =
       let ys = map f xs in
       let in_range : i < length ys = subst (λ n. i < n) (sym (length-map xs f)) lt in
@@ -144,7 +135,7 @@ module _ {X : Type 0} (f : X → DaySheet) (d : Day) where
       ap Some (sym same)
       ∙ sym (find_here (reverse ys) d (length ys - 1 - i) (f e) falling (rw (length-reverse ys) (omega (arith, in_range))) (ap (λ s. is_dated d s) same ∙ h))
 
-  none_shown : (xs : List X) (e : X) → AllWithin (λ x. is_dated d (f x) ≡ false) xs 0 (length xs) → None ≡ sheet_on (reverse (map f xs)) d
+  none_shown : (xs : List X) (e : X) → AllWithin (λ x. is_dated d (f x) ≡ false) xs 0 (length xs) → None ≡ dated_sheet (reverse (map f xs)) d
   none_shown xs e h =
       let ys = map f xs in
       sym (find_none (reverse ys) d (f e) (λ j lt.
@@ -153,7 +144,7 @@ module _ {X : Type 0} (f : X → DaySheet) (d : Day) where
       let mirror : k < length xs = subst (λ n. k < n) (length-map xs f) (omega (arith, in_range)) in
       ap (λ s. is_dated d s) (get_or-reverse ys j (f e) in_range ∙ shown xs k e mirror) ∙ h k e (omega arith) mirror))
 
-  pub sheet_nowhere : (xs : List X) → AllWithin (λ x. is_dated d (f x) ≡ false) xs 0 (length xs) → None ≡ sheet_on (reverse (map f xs)) d
+  pub sheet_nowhere : (xs : List X) → AllWithin (λ x. is_dated d (f x) ≡ false) xs 0 (length xs) → None ≡ dated_sheet (reverse (map f xs)) d
   sheet_nowhere [] h = refl
   sheet_nowhere (x ∷ xs) h = none_shown (x ∷ xs) x h
 
@@ -163,26 +154,17 @@ found_branch : (b : Bool) (opening : Day) (K : Journal) (o : Option DaySheet) (p
 found_branch true opening K o p h = refl
 found_branch false opening K o p h = h
 
-sheet_kept : (opening : Day) (Ks : List Journal) (d : Day) → sheet_on (map (day_sheet opening) Ks) d ≡ option_map (day_sheet opening) (find (λ K. is_same_day (date opening K) d) Ks)
+sheet_kept : (opening : Day) (Ks : List Journal) (d : Day) → dated_sheet (map (day_sheet opening) Ks) d ≡ option_map (day_sheet opening) (find (λ K. is_same_day (date opening K) d) Ks)
 sheet_kept opening [] d = refl
 sheet_kept opening (K ∷ Ks) d = found_branch (is_same_day (date opening K) d) opening K _ _ (sheet_kept opening Ks d)
 
 -- the sheet of the day with a date
-pub sheet_found : (L : List Activity) (s : Contents) (d : Day) → Follows L s → sheet_on s.sheets d ≡ sheet_shown s.opening (journal s.opening L) d
-sheet_found L s d f = ap (λ ss. sheet_on ss d) f.sheets ∙ sheet_kept s.opening (closings (journal s.opening L)) d
-
--- the journal as the close of the day found it is sound
-pub sound_on : (opening : Day) (J : Journal) (d : Day) → IsWhole J → IsSound (unwrap_or (closed_on opening J d) [])
-sound_on opening J d w = each_found IsSound (λ K. is_same_day (date opening K) d) [] (closings J) whole_nil.now w.past
-
--- what a sheet states is the statement
-stated_same : (opening : Day) (K : Journal) (a : Account) → IsSound K → stated_from (day_sheet opening K) a ≡ statement opening K a
-stated_same opening K a s =
-    ap (λ (rs : List Row). record { account = a; date = date opening K; rows = length rs; mark = total (λ r. r.mark) rs; dividend = total (λ r. r.dividend) rs }) (rows_stated opening K a s)
+pub sheet_found : (L : List Activity) (s : Contents) (d : Day) → Follows L s → dated_sheet s.sheets d ≡ sheet_on s.opening (journal s.opening L) d
+sheet_found L s d f = ap (λ ss. dated_sheet ss d) f.sheets ∙ sheet_kept s.opening (closings (journal s.opening L)) d
 
 -- the answer to a STATEMENT, by whether the account is there and the day is closed
-pub answer_stated : (opening : Day) (is : Bool) (o : Option Journal) (a : Account) (sheet : DaySheet) → is ≡ true → option_map (day_sheet opening) o ≡ Some sheet → IsSound (unwrap_or o [])
-    → reply.Stated (stated_from sheet a) ≡ option_map_or reply.Refused (first_refusal ((NoSuchMember, not is) ∷ (NoSuchDay, is_none o) ∷ [])) (reply.Stated (statement opening (unwrap_or o []) a))
-answer_stated opening false o a sheet i e s = cc
-answer_stated opening true None a sheet i e s = cc
-answer_stated opening true (Some K) a sheet i e s = ap reply.Stated (sym (ap (λ o. stated_from (unwrap_or o sheet) a) e) ∙ stated_same opening K a s)
+pub answer_stated : (opening : Day) (is : Bool) (o : Option Journal) (a : Account) (sheet : DaySheet) → is ≡ true → option_map (day_sheet opening) o ≡ Some sheet
+    → reply.Stated (statement sheet a) ≡ option_map_or reply.Refused (first_refusal ((NoSuchMember, not is) ∷ (NoSuchDay, is_none o) ∷ [])) (reply.Stated (statement (unwrap_or (option_map (day_sheet opening) o) (day_sheet opening [])) a))
+answer_stated opening false o a sheet i e = cc
+answer_stated opening true None a sheet i e = cc
+answer_stated opening true (Some K) a sheet i e = sym (ap (λ o. reply.Stated (statement (unwrap_or o sheet) a)) e)

@@ -1,11 +1,14 @@
+pub mod Lengths
 pub mod Machine
 pub mod Places
-pub mod Lengths
-pub mod Entered
+pub mod Staying
 pub mod Booking
+pub mod Entered
 pub mod Trading
 pub mod Moving
-pub mod SheetCut
 pub mod Closing
+pub mod SheetFound
+pub mod SheetCut
+pub mod Within
 pub mod Dated
 pub mod Taking

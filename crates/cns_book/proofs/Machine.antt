@@ -36,6 +36,6 @@ no_refusal [] h = refl
 no_refusal (r ∷ rules) h = ap (λ b. option_map (λ (r : Rule). r.0) (cond b (Some r) (find (λ r. r.1) rules))) h.0 ∙ no_refusal rules h.1
 
 -- without memory nothing that is shown has changed
-pub stopped : {s : Contents} (L : List Activity) (cmd : Command) (r : Result Reply NoMemory) → IsErr r → Follows L s → Steps L cmd r s
-stopped L cmd (Ok r) e f = cc
-stopped L cmd (Err r) e f = f
+pub stopped : {s : Contents} (L : List Activity) (cmd : Command) (r : Result Reply NoMemory) → IsErr r → refusal s.opening (journal s.opening L) cmd ≡ None → Follows L s → Steps L cmd r s
+stopped L cmd (Ok r) e none f = cc
+stopped L cmd (Err r) e none f = (none, f)

@@ -1,5 +1,5 @@
 -- One command more in the history.
-use Rattle.std.proofs.Common.{◌≡◌, ◌∙◌, sym, ap, subst, refl, ℕ, suc, ◌+◌, ◌-◌, ◌*◌, ◌^◌, ◌≤◌, ◌<◌, Bool, true, false, cond, eqb, List, [], ◌∷◌, ◌++◌, length, set, get_or, reverse, Ok, arith}
+use Rattle.std.proofs.Common.{◌≡◌, ◌∙◌, sym, ap, subst, refl, ℕ, suc, ◌+◌, ◌-◌, ◌≤◌, ◌<◌, Bool, true, false, cond, eqb, List, [], ◌∷◌, ◌++◌, length, set, get_or, reverse, Ok, arith}
 use Rattle.std.proofs.lemmas.List.{reverse-append, get_or-set_other}
 use Rattle.std.proofs.lemmas.List.Sums.{sum_by-cons}
 use Rattle.std.proofs.lemmas.Grind.{get_or-set_at}
@@ -11,11 +11,6 @@ use Rattle.cns_terms.specs.declared.command.Command.TheVariants as command
 use Rattle.cns_terms.specs.declared.reply.Reply.{Reply}
 use Rattle.cns_terms.specs.declared.history.Taken.{Taken}
 use Rattle.cns_terms.specs.declared.worker.Worker.{Worker}
-use Rattle.cns_terms.specs.Days.{closes}
-use Rattle.cns_terms.specs.Entries.{journal}
-use Rattle.cns_book.proofs.Closing.{reached_by, whole_reached}
-use Rattle.cns_book.proofs.Lengths.{closes_le, journal_len}
-use Rattle.cns_book.proofs.SheetCut.{rows_are_few, rows_balanced, rows_small}
 use Rattle.cns_terms.specs.History.{accepted, count, IsLegal}
 use Rattle.cns_terms.specs.Machine.{accepted_after, answer_to}
 use Rattle.cns_book.specs.Contents.{Contents}
@@ -36,35 +31,13 @@ pub accepted_le : (opening : Day) (H : List Taken) → length (accepted opening 
 accepted_le opening [] = omega arith
 accepted_le opening (t ∷ H) = next_le opening (accepted opening H) t.command (length H) (accepted_le opening H)
 
-closes_few : (opening : Day) (L : List Activity) (closes n limit : ℕ) → closes ≤ length (journal opening L) → length L ≤ n → n < limit → limit < 2 ^ 32 → closes + 1 < 2 ^ 32
-closes_few opening L closes n limit a b c d = omega (arith, a, b, c, d, journal_len opening L)
-
-more_shares : (a n m : ℕ) → a ≤ 10 ^ 9 * n → n ≤ m → m < 2 ^ 32 → a ≤ 10 ^ 9 * 2 ^ 32
-more_shares a n m p q r = omega (arith, p, q, r)
-
-more_cents : (a n m : ℕ) → a ≤ 10 ^ 18 * n → n ≤ m → m < 2 ^ 32 → a ≤ 10 ^ 18 * 2 ^ 32
-more_cents a n m p q r = omega (arith, p, q, r)
-
 -- below its limit a book has room for one command more
 pub has_room : (limit : ℕ) (H : List Taken) (counts : List ℕ) (s : Contents) → IsBook limit H counts s → length H < limit → HasRoom s
-has_room limit H counts s b few =
-    let L = accepted s.opening H in
-    let f = b.follows in
-    let m = accepted_le s.opening H in
-    let w = whole_reached s.opening L (reached_by s.opening H) in
-    record {
-      closes = closes_few s.opening L s.closes (length H) limit (subst (λ n. n ≤ length (journal s.opening L)) (sym f.closes) (closes_le (journal s.opening L))) m few b.limited;
-      rows = record {
-        members = f.small.members;
-        shares = λ k. more_shares _ (length L) (length H) (f.small.shares k) m (omega (arith, few, b.limited));
-        cents = λ k. more_cents _ (length L) (length H) (f.small.cents k) m (omega (arith, few, b.limited));
-      };
-      order = f.order;
-      marked = rows_small (length L) s.rows (omega (arith, m, few, b.limited)) f.order f.small;
-      balanced = rows_balanced L s f w;
-      few = rows_are_few L s f w (omega (arith, m, few, b.limited));
-      dated = f.dated;
-    }
+has_room limit H counts s b few = record {
+  activities = accepted s.opening H;
+  follows = b.follows;
+  few = omega (arith, accepted_le s.opening H, few, b.limited);
+}
 
 -- a command that found no memory
 pub book_stays : (limit : ℕ) (H : List Taken) (counts : List ℕ) (s s' : Contents) → IsBook limit H counts s → s'.opening ≡ s.opening → Follows (accepted s.opening H) s' → IsBook limit H counts s'
@@ -100,6 +73,3 @@ book_grows limit H counts s s' w cmd r b few low high len same step = record {
 -- the history's newest entry is the vector's last
 pub reverse_push : {X : Type 0} (xs : List X) (x : X) → reverse (xs ++ x ∷ []) ≡ x ∷ reverse xs
 reverse_push xs x = reverse-append xs (x ∷ [])
-
-pub room_below : (opening : Day) (H : List Taken) (limit : ℕ) → length H < limit → limit < 2 ^ 32 → length (accepted opening H) + 1 < 2 ^ 32
-room_below opening H limit a b = omega (arith, accepted_le opening H, a, b)

@@ -1,11 +1,7 @@
 -- A trade: what it is refused for, and what it leaves.
-use Rattle.std.proofs.Common.{◌≡◌, ◌∙◌, sym, ap, subst, refl, ℕ, ◌*◌, ◌^◌, ◌≤◌, ℤ, pos, ◌+ℤ◌, neg_ℤ, Bool, true, false, not, ◌&&◌, ◌||◌, cond, eqb, List, [], ◌∷◌, length, Option, Some, None, arith}
-use Rattle.std.specs.Prelude.{bytes_eq, find, is_some, nat_lt, option_map, Ok, Err, unsigned_abs, unwrap_or}
-use Rattle.std.specs.List.{AllByRecursion}
+use Rattle.std.proofs.Common.{◌≡◌, ◌∙◌, sym, ap, refl, ℕ, ◌≤◌, ℤ, pos, ◌+ℤ◌, neg_ℤ, Bool, true, false, not, ◌&&◌, ◌||◌, cond, eqb, List, [], ◌∷◌, Option, Some, None, arith}
+use Rattle.std.specs.Prelude.{bytes_eq, is_some, nat_lt, Ok, Err, unwrap_or}
 use Rattle.std.specs.Option.{option_map_or}
-use Rattle.std.specs.Ordering.{is_eq}
-use Rattle.std.proofs.lemmas.Cmp.{tied_itself, nat_list_cmp_total}
-use Rattle.std.proofs.lemmas.Map.Text.{is_eq-slice_cmp}
 use Rattle.std.proofs.lemmas.Int.{ints}
 use Rattle.std.proofs.lemmas.Bool.Decides.{nat_tests}
 use Rattle.cns_units.specs.declared.day.Day.{Day}
@@ -14,32 +10,32 @@ use Rattle.cns_terms.specs.declared.command.Activity.TheVariants as activity
 use Rattle.cns_terms.specs.declared.command.Command.TheVariants as command
 use Rattle.cns_terms.specs.declared.command.Trade.{Trade}
 use Rattle.cns_terms.specs.declared.holding.Entry.{Entry}
-use Rattle.cns_terms.specs.declared.holding.Holding.{Holding}
 use Rattle.cns_terms.specs.declared.holding.Key.{Key}
 use Rattle.cns_terms.specs.declared.refusal.Refusal.{Refusal}
 use Rattle.cns_terms.specs.declared.refusal.Refusal.TheVariants.{NoSuchMember, NoSuchIssue, Retired, SameParty, WrongDay, SeenReference, TooLarge}
-use Rattle.cns_terms.specs.Days.{date, is_same_day}
-use Rattle.cns_terms.specs.Entries.{corporation, buyer_entry, seller_entry, journal, posting}
+use Rattle.cns_terms.specs.Days.{date, is_close, is_same_day}
+use Rattle.cns_terms.specs.Entries.{buyer_entry, entries, journal, posting, seller_entry}
 use Rattle.cns_terms.specs.Listings.{is_member, is_listed, is_retired, is_seen}
-use Rattle.std.specs.FinMap.{is_sorted}
-use Rattle.cns_terms.specs.Keys.{key_cmp}
 use Rattle.cns_terms.specs.Positions.{position, shares_for}
 use Rattle.cns_terms.specs.Postings.{Journal}
-use Rattle.cns_terms.specs.Refusals.{Rule, first_refusal, refusal, rules, is_beyond, is_too_large}
-use Rattle.cns_positions.specs.Rows.{Rows, holding_at, booked}
-use Rattle.cns_trades.specs.Checks.{IsSmallEntry, trade_rules}
+use Rattle.cns_terms.specs.Reached.{IsInRange}
+use Rattle.cns_terms.specs.Refusals.{first_refusal, refusal, is_beyond, is_too_large}
+use Rattle.cns_terms.proofs.Facts.{bytes_refl, eqb_refl, or_false}
+use Rattle.cns_positions.specs.Rows.{Rows, holding_at}
+use Rattle.cns_trades.specs.Checks.{trade_rules}
 use Rattle.cns_trades.specs.declared.facts.TradeFacts.{TradeFacts}
-use Rattle.cns_trades.specs.Used.{Used, is_used}
+use Rattle.cns_trades.specs.Used.{Used}
 use Rattle.cns_book.specs.Contents.{Contents}
-use Rattle.cns_book.specs.Follows.{AreSmall, AreTradeFacts, Follows}
-use Rattle.cns_book.proofs.Booking.{AreBooked, here, still_small}
+use Rattle.cns_book.specs.Effects.{books}
+use Rattle.cns_book.specs.Follows.{AreTradeFacts, Follows, FollowsReferences}
+use Rattle.cns_book.proofs.Staying.{clock_stays, is_listing, listings_stay, rows_booked, sheets_stay}
 
 -- what an answer says of the refusal
-pub answer_err : (o : Option Refusal) (es : Entry × Entry) (r : Refusal) → Err r ≡ option_map_or Err o (Ok es) → o ≡ Some r
+pub answer_err : (o : Option Refusal) (es : List Entry) (r : Refusal) → Err r ≡ option_map_or Err o (Ok es) → o ≡ Some r
 answer_err None es r e = cc
 answer_err (Some q) es r e = cc
 
-pub answer_ok : (o : Option Refusal) (es fs : Entry × Entry) → Ok fs ≡ option_map_or Err o (Ok es) → (o ≡ None) × (fs ≡ es)
+pub answer_ok : (o : Option Refusal) (es fs : List Entry) → Ok fs ≡ option_map_or Err o (Ok es) → (o ≡ None) × (fs ≡ es)
 answer_ok None es fs e = (refl, cc)
 answer_ok (Some q) es fs e = cc
 
@@ -56,14 +52,8 @@ same_rules true false l o s d r x y h = refl
 same_rules true true l o true d r x y h = refl
 same_rules true true l o false d r x y h = ap (λ z. first_refusal ((NoSuchMember, false) ∷ (NoSuchIssue, not l) ∷ (Retired, o) ∷ (SameParty, false) ∷ (WrongDay, not d) ∷ (SeenReference, r) ∷ (TooLarge, z) ∷ [])) (h refl refl refl)
 
-pub eqb_refl : (a : ℕ) → eqb a a ≡ true
-eqb_refl a = grind (arith, nat_tests)
-
 eqb_apart : (a b : ℕ) → eqb a b ≡ false → eqb b a ≡ false
 eqb_apart a b h = grind (arith, nat_tests)
-
-pub bytes_refl : (c : List ℕ) → bytes_eq c c ≡ true
-bytes_refl c = sym (is_eq-slice_cmp c c) ∙ ap is_eq (tied_itself nat_list_cmp_total c)
 
 -- an entry at its own key, and at another account's
 pub shares_own : (e : Entry) → shares_for e.account e.issue e ≡ e.shares
@@ -88,10 +78,6 @@ seller_after opening J t h = second_part _ _ (position J t.seller t.issue) (shar
 above_zero : (a : ℕ) → 1 ≤ a → nat_lt 0 a ≡ true
 above_zero a h = grind (arith, nat_tests)
 
-or_false : (b : Bool) → (b || false) ≡ b
-or_false true = refl
-or_false false = refl
-
 too_large : (opening : Day) (J : Journal) (t : Trade) → 1 ≤ t.buyer → 1 ≤ t.seller → eqb t.buyer t.seller ≡ false → is_too_large opening J (activity.Trade t) ≡ (is_beyond (position J t.buyer t.issue +ℤ pos t.shares) || is_beyond (position J t.seller t.issue +ℤ neg_ℤ (pos t.shares)))
 too_large opening J t p q h = λ i. (above_zero t.buyer p i && is_beyond (buyer_after opening J t h i)) || (or_false (above_zero t.seller q i && is_beyond (seller_after opening J t h i)) i)
 
@@ -115,89 +101,31 @@ trade_refusal L opening t facts seen a e =
     ∷ (NoSuchIssue, not (a.listed i)) ∷ (Retired, a.retired i) ∷ (SameParty, eqb t.buyer t.seller)
     ∷ (WrongDay, not (is_same_day t.date (a.today i))) ∷ (SeenReference, e i) ∷ (TooLarge, over) ∷ []))
 
--- rows that show the same are as small
-same_small : (n : ℕ) (old new : Rows) → AreSmall n old → ((k : Key) → holding_at new k ≡ holding_at old k) → AreSmall n new
-same_small n old new s h = record {
-  members = λ k m. subst (λ (x : Holding). unsigned_abs x.now ≤ 10 ^ 10) (sym (h k)) (s.members k m);
-  shares = λ k. subst (λ (x : Holding). unsigned_abs x.now ≤ 10 ^ 9 * n) (sym (h k)) (s.shares k);
-  cents = λ k. subst (λ (x : Holding). unsigned_abs x.contract ≤ 10 ^ 18 * n) (sym (h k)) (s.cents k);
-}
-
 -- rows that show the same at each key
-pub same_rows : (L : List Activity) (s : Contents) (new : Rows) → Follows L s → ((k : Key) → holding_at new k ≡ holding_at s.rows k) → is_sorted key_cmp new ≡ true → Follows L (record s { rows = new })
-same_rows L s new f h order = record {
-  order = order;
-  sheets = f.sheets;
-  dated = f.dated;
-  today = f.today;
-  closes = f.closes;
-  members = f.members;
-  prices = f.prices;
-  retired = f.retired;
+pub same_rows : (L : List Activity) (s : Contents) (new : Rows) → Follows L s → ((k : Key) → holding_at new k ≡ holding_at s.rows k) → Follows L (record s { rows = new })
+same_rows L s new f h = record {
+  reached = f.reached;
+  clock = record { today = f.clock.today; closes = f.clock.closes };
+  listings = record { members = f.listings.members; prices = f.listings.prices; retired = f.listings.retired };
   references = f.references;
   rows = λ k. h k ∙ f.rows k;
-  small = same_small (length L) s.rows new f.small h;
+  sheets = f.sheets;
 }
 
--- where nothing refuses, no rule's condition holds
-none_true : (b : Bool) (r : Refusal) (o : Option Rule) → option_map (λ (q : Rule). q.0) (cond b (Some (r, b)) o) ≡ None → (b ≡ false) × (option_map (λ (q : Rule). q.0) o ≡ None)
-none_true true r o e = cc
-none_true false r o e = (refl, e)
-
-pub no_rule : (rs : List Rule) → first_refusal rs ≡ None → AllByRecursion (λ r. r.1 ≡ false) rs
-no_rule [] e = tt
-no_rule (r ∷ rs) e = let h = none_true r.1 r.0 (find (λ r. r.1) rs) e in (h.0, no_rule rs h.1)
-
-pub and_false : (a b : Bool) → a ≡ true → (a && b) ≡ false → b ≡ false
-and_false true b e h = h
-and_false false b e h = cc
-
-not_beyond : (q : ℤ) → is_beyond q ≡ false → unsigned_abs q ≤ 10 ^ 10
-not_beyond q h = grind (arith, nat_tests)
-
-left_false : (a b : Bool) → (a || b) ≡ false → a ≡ false
-left_false false b e = refl
-left_false true b e = e
-
-right_false : (a b : Bool) → (a || b) ≡ false → b ≡ false
-right_false false b e = e
-right_false true b e = cc
-
-pub neg_twice : (n : ℤ) → n ≡ neg_ℤ (neg_ℤ n)
-neg_twice n = omega (arith, ints)
-
--- an accepted trade
-pub trade_accepted : (L : List Activity) (s : Contents) (t : Trade) (references : Used) (rows : Rows) → Follows L s → refusal s.opening (journal s.opening L) (command.Activity (activity.Trade t)) ≡ None → (1 ≤ t.buyer) × (1 ≤ t.seller)
-    → ((r : ℕ) → is_used references r ≡ (eqb t.reference r || is_used s.references r))
-    → ((k : Key) → holding_at rows k ≡ booked (seller_entry t) k (booked (buyer_entry t) k (holding_at s.rows k)))
-    → IsSmallEntry (buyer_entry t) → is_sorted key_cmp rows ≡ true
-    → Follows (activity.Trade t ∷ L) (record s { references = references; rows = rows })
-trade_accepted L s t references rows f none m r b e order =
+-- an activity that books its entries, where the references follow it
+pub booked_by : (L : List Activity) (s : Contents) (x : Activity) (references : Used) (rows : Rows) → Follows L s → IsInRange x → refusal s.opening (journal s.opening L) (command.Activity x) ≡ None → is_close x ≡ false → is_listing x ≡ false
+    → FollowsReferences (journal s.opening (x ∷ L)) (record s { references = references })
+    → ((k : Key) → holding_at rows k ≡ books (entries s.opening (journal s.opening L) x) k (holding_at s.rows k))
+    → Follows (x ∷ L) (record s { references = references; rows = rows })
+booked_by L s x references rows f range none still unlisted r b =
     let J = journal s.opening L in
-    let p = posting s.opening J (activity.Trade t) in
-    let bought : ℤ = position (p ∷ J) t.buyer t.issue in
-    let sold : ℤ = position (p ∷ J) t.seller t.issue in
-    let large = (no_rule (rules s.opening J (activity.Trade t)) none).1.1.1.1.1.1.0 in
-    let done : AreBooked J p (buyer_entry t) (seller_entry t) s.rows rows = record {
-      still = refl;
-      entries = refl;
-      booked_both = b;
-      small = e;
-      shares = refl;
-      cents = neg_twice (pos t.money);
-      first = λ _. not_beyond bought (and_false _ _ (above_zero t.buyer m.0) (left_false _ _ large));
-      second = λ _. not_beyond sold (and_false (nat_lt corporation t.seller) (is_beyond sold) (above_zero t.seller m.1) (left_false _ false (right_false (nat_lt corporation t.buyer && is_beyond bought) _ large)));
-    } in
+    let c = clock_stays s J x still f.clock in
+    let l = listings_stay s J x unlisted f.listings in
     record {
-      today = f.today;
-      closes = f.closes;
-      members = f.members;
-      prices = f.prices;
-      retired = f.retired;
-      references = λ q. r q ∙ ap (λ b. eqb t.reference q || b) (f.references q);
-      order = order;
-      sheets = f.sheets;
-      dated = f.dated;
-      rows = here J p (buyer_entry t) (seller_entry t) s.rows rows done f.rows;
-      small = still_small J p (buyer_entry t) (seller_entry t) s.rows rows L done f.rows f.small;
+      reached = (range, none, f.reached);
+      clock = record { today = c.today; closes = c.closes };
+      listings = record { members = l.members; prices = l.prices; retired = l.retired };
+      references = r;
+      rows = rows_booked s J x rows still b f.rows;
+      sheets = sheets_stay s J x still f.sheets;
     }

@@ -19,6 +19,6 @@ AreFalling (s ∷ ss) = IsAfter s.date ss × AreFalling ss
 abbrev pub is_dated : Day → DaySheet → Bool
 is_dated d s = is_same_day s.date d
 
--- the sheet of the closed day with the date, if there is one
-abbrev pub sheet_on : List DaySheet → Day → Option DaySheet
-sheet_on ss d = find (is_dated d) ss
+-- the first of the sheets that is of the day with the date, if one is
+abbrev pub dated_sheet : List DaySheet → Day → Option DaySheet
+dated_sheet ss d = find (is_dated d) ss

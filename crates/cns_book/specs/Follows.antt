@@ -1,7 +1,5 @@
--- What ties the parts of a book to the accepted activities.
-use Rattle.std.specs.Prelude.{◌≡◌, ℕ, ◌+◌, ◌*◌, ◌^◌, ◌≤◌, ◌<◌, true, slice_get, unsigned_abs, List, map, length, Some, None, Result, Ok, Err, if◌then◌else◌}
-use Rattle.std.specs.FinMap.{is_sorted}
-use Rattle.std.specs.List.{AllByRecursion}
+-- What ties the parts of a book to the accepted activities, by what changes together.
+use Rattle.std.specs.Prelude.{◌≡◌, ℕ, ◌+◌, ◌≤◌, ◌<◌, List, map, length, Some, None, Result, Ok, Err, if◌then◌else◌}
 use Rattle.cns_units.specs.declared.cusip.Cusip.{Cusip}
 use Rattle.cns_units.specs.declared.day.Day.{Day}
 use Rattle.cns_terms.specs.declared.command.Activity.{Activity}
@@ -9,71 +7,69 @@ use Rattle.cns_terms.specs.declared.command.Command.{Command}
 use Rattle.cns_terms.specs.declared.command.Movement.{Movement}
 use Rattle.cns_terms.specs.declared.command.Trade.{Trade}
 use Rattle.cns_terms.specs.declared.fault.NoMemory.{NoMemory}
-use Rattle.cns_terms.specs.declared.holding.Entry.{Entry}
 use Rattle.cns_terms.specs.declared.holding.Key.{Key}
 use Rattle.cns_terms.specs.declared.reply.Reply.{Reply}
-use Rattle.cns_terms.specs.declared.sheet.Row.{Row}
 use Rattle.cns_terms.specs.Days.{date, closes, closings}
 use Rattle.cns_terms.specs.Listings.{is_member, is_listed, is_retired, is_seen, price}
 use Rattle.cns_terms.specs.Entries.{corporation, journal}
-use Rattle.cns_terms.specs.Machine.{accepted_after, after, answer_to, holding, opened}
-use Rattle.cns_terms.specs.Keys.{key_cmp}
+use Rattle.cns_terms.specs.Limits.{history_limit}
+use Rattle.cns_terms.specs.Machine.{accepted_after, answer_to, holding}
 use Rattle.cns_terms.specs.Positions.{position}
+use Rattle.cns_terms.specs.Postings.{Journal}
+use Rattle.cns_terms.specs.Reached.{IsReached}
+use Rattle.cns_terms.specs.Refusals.{refusal}
 use Rattle.cns_terms.specs.Sheets.{day_sheet}
-use Rattle.cns_positions.specs.Rows.{holding_at, Rows}
-use Rattle.cns_sheets.specs.Build.{AreBalanced, AreFew, HasSmallCents, prices_of, rows_from}
+use Rattle.cns_positions.specs.Rows.{holding_at}
 use Rattle.cns_prices.specs.Listed.{price_in, retired_in}
 use Rattle.cns_trades.specs.declared.facts.MoveFacts.{MoveFacts}
 use Rattle.cns_trades.specs.declared.facts.TradeFacts.{TradeFacts}
 use Rattle.cns_trades.specs.Used.{is_used}
 use Rattle.cns_book.specs.Contents.{Contents}
-use Rattle.cns_book.specs.Dated.{IsAfter}
-use Rattle.cns_book.specs.Marks.{is_marked}
+use Rattle.cns_book.specs.Members.{has_member}
 
--- the numbers that stand in rows after so many activities are small: a member's position by the limit of positions,
--- and each other number by what one activity can add to it
-pub record AreSmall (n : ℕ) (rows : Rows) : Type 0 where
-  pub members : (k : Key) → 1 ≤ k.account → unsigned_abs (holding_at rows k).now ≤ 10 ^ 10
-  pub shares : (k : Key) → unsigned_abs (holding_at rows k).now ≤ 10 ^ 9 * n
-  pub cents : (k : Key) → unsigned_abs (holding_at rows k).contract ≤ 10 ^ 18 * n
+-- the open day's date, and how many days are closed
+pub record FollowsClock (J : Journal) (s : Contents) : Type 0 where
+  pub today : s.today ≡ date s.opening J
+  pub closes : s.closes ≡ closes J
 
--- the rows that a close would cut now
-abbrev pub rows_now : Contents → List Row
-rows_now s = rows_from (prices_of (slice_get s.sheets 0)) s.prices s.rows
+-- the members, and the listed issues with their prices
+pub record FollowsListings (J : Journal) (s : Contents) : Type 0 where
+  pub members : (m : ℕ) → has_member s.members m ≡ is_member J m
+  pub prices : (c : Cusip) → price_in s.prices c ≡ (if is_listed J c then Some (price J c) else None)
+  pub retired : (c : Cusip) → retired_in s.prices c ≡ is_retired J c
 
--- room for one more activity, a close among them
-pub record HasRoom (s : Contents) : Type 0 where
-  pub closes : s.closes + 1 < 2 ^ 32
-  pub rows : AreSmall (2 ^ 32) s.rows
-  pub order : is_sorted key_cmp s.rows ≡ true
-  pub marked : AllByRecursion HasSmallCents s.rows
-  pub balanced : AreBalanced (rows_now s)
-  pub few : AreFew (rows_now s)
-  pub dated : IsAfter s.today s.sheets
+-- the references that accepted trades used
+abbrev pub FollowsReferences : Journal → Contents → Type 0
+FollowsReferences J s = (r : ℕ) → is_used s.references r ≡ is_seen J r
 
--- each part shows what the definitions say of the accepted activities
+-- what stands at each key
+abbrev pub FollowsRows : Journal → Contents → Type 0
+FollowsRows J s = (k : Key) → holding_at s.rows k ≡ holding J k.account k.issue
+
+-- the sheets of the closed days
+abbrev pub FollowsSheets : Journal → Contents → Type 0
+FollowsSheets J s = s.sheets ≡ map (day_sheet s.opening) (closings J)
+
+-- commands reach the activities, and each part shows what the definitions say of them
 pub record Follows (L : List Activity) (s : Contents) : Type 0 where
-  pub today : s.today ≡ date s.opening (journal s.opening L)
-  pub closes : s.closes ≡ closes (journal s.opening L)
-  pub members : (m : ℕ) → is_marked s.members m ≡ is_member (journal s.opening L) m
-  pub prices : (c : Cusip) → price_in s.prices c ≡ (if is_listed (journal s.opening L) c then Some (price (journal s.opening L) c) else None)
-  pub retired : (c : Cusip) → retired_in s.prices c ≡ is_retired (journal s.opening L) c
-  pub references : (r : ℕ) → is_used s.references r ≡ is_seen (journal s.opening L) r
-  pub rows : (k : Key) → holding_at s.rows k ≡ holding (journal s.opening L) k.account k.issue
-  pub order : is_sorted key_cmp s.rows ≡ true
-  pub small : AreSmall (length L) s.rows
-  pub sheets : s.sheets ≡ map (day_sheet s.opening) (closings (journal s.opening L))
-  pub dated : IsAfter s.today s.sheets
+  pub reached : IsReached s.opening L
+  pub clock : FollowsClock (journal s.opening L) s
+  pub listings : FollowsListings (journal s.opening L) s
+  pub references : FollowsReferences (journal s.opening L) s
+  pub rows : FollowsRows (journal s.opening L) s
+  pub sheets : FollowsSheets (journal s.opening L) s
 
--- the machine comes to the activities by some commands
-pub record IsReached (opening : Day) (L : List Activity) : Type 0 where
-  pub commands : List Command
-  pub reached : L ≡ (after (opened opening) commands).accepted
+-- the parts follow some activities, and there is room for one more
+pub record HasRoom (s : Contents) : Type 0 where
+  pub activities : List Activity
+  pub follows : Follows activities s
+  pub few : length activities + 1 < history_limit
 
--- a command gave the machine's reply and took the machine's step; without memory it changed nothing that is shown
+-- a command gave the machine's reply and took the machine's step; memory is missed only by a command that is not
+-- refused, and then nothing that is shown has changed
 abbrev pub Steps : List Activity → Command → Result Reply NoMemory → Contents → Type 0
 Steps L cmd (Ok r) s = (r ≡ answer_to s.opening L cmd) × Follows (accepted_after s.opening L cmd) s
-Steps L cmd (Err e) s = Follows L s
+Steps L cmd (Err e) s = (refusal s.opening (journal s.opening L) cmd ≡ None) × Follows L s
 
 -- what a trade is checked against, by the accepted activities
 pub record AreTradeFacts (L : List Activity) (opening : Day) (t : Trade) (facts : TradeFacts) : Type 0 where
@@ -91,7 +87,3 @@ pub record AreMoveFacts (L : List Activity) (opening : Day) (m : Movement) (fact
   pub listed : facts.listed ≡ is_listed (journal opening L) m.issue
   pub retired : facts.retired ≡ is_retired (journal opening L) m.issue
   pub number : 1 ≤ m.member
-
--- where an entry is booked
-abbrev pub place_of : Entry → Key
-place_of e = record { account = e.account; issue = e.issue }

@@ -1,5 +1,5 @@
 -- What the reading calls of a book show.
-use Rattle.std.specs.Prelude.{ℕ, suc, zero, List, Option, Some, None, is_none, option_map, slice_get, reverse, if◌then◌else◌}
+use Rattle.std.specs.Prelude.{ℕ, suc, zero, List, Option, Some, None, is_none, slice_get, reverse, if◌then◌else◌}
 use Rattle.cns_units.specs.declared.cusip.Cusip.{Cusip}
 use Rattle.cns_units.specs.declared.day.Day.{Day}
 use Rattle.cns_units.specs.declared.price.Price.{Price}
@@ -8,13 +8,11 @@ use Rattle.cns_terms.specs.declared.command.Command.TheVariants as command
 use Rattle.cns_terms.specs.declared.history.Taken.{Taken}
 use Rattle.cns_terms.specs.declared.holding.Holding.{Holding}
 use Rattle.cns_terms.specs.declared.holding.Key.{Key}
-use Rattle.cns_terms.specs.Days.{closed_on}
 use Rattle.cns_terms.specs.Entries.{journal}
 use Rattle.cns_terms.specs.Listings.{is_listed, price}
 use Rattle.cns_terms.specs.Postings.{Journal}
 use Rattle.cns_terms.specs.Machine.{State, holding}
 use Rattle.cns_terms.specs.Refusals.{refusal}
-use Rattle.cns_terms.specs.Sheets.{DaySheet, day_sheet}
 
 -- what a POSITION shows, where it is not refused
 abbrev pub holding_shown : Day → List Activity → Key → Option Holding
@@ -33,10 +31,6 @@ price_listed J c = if is_listed J c then Some (price J c) else None
 -- the same of a state
 abbrev pub price_shown : State → Cusip → Option Price
 price_shown S c = price_listed (journal S.opening S.accepted) c
-
--- the sheet of the closed day with the date, if there is one
-abbrev pub sheet_shown : Day → Journal → Day → Option DaySheet
-sheet_shown opening J d = option_map (day_sheet opening) (closed_on opening J d)
 
 -- the entry at a place from 1, of a history whose newest entry is the first
 abbrev pub entry_at : List Taken → ℕ → Option Taken

@@ -1,11 +1,13 @@
 // The book over its history.
 ghost use Rattle.std.specs.Arc.{arc_value};
 ghost use Rattle.std.specs.Option.{option_copied};
-ghost use Rattle.std.specs.Prelude.{◌≡◌, ◌-◌, ◌^◌, ◌↔◌, option_map, length, IfOk, OnErr, Err, replicate, reverse};
+ghost use Rattle.std.specs.Prelude.{◌≡◌, ◌-◌, ◌^◌, ◌↔◌, option_map, length, IfOk, OnErr, OnOk, Err, replicate, reverse};
 ghost use Rattle.cns_terms.specs.Days.{date, day};
-ghost use Rattle.cns_terms.specs.History.{count};
+ghost use Rattle.cns_terms.specs.History.{IsLegal, commands_of, count, replies_of};
 ghost use Rattle.cns_terms.specs.Laws.{journal_of};
-ghost use Rattle.cns_book.specs.Shown.{entry_at, price_shown, sheet_shown, shown};
+ghost use Rattle.cns_terms.specs.Machine.{opened, replies};
+ghost use Rattle.cns_terms.specs.Sheets.{sheet_on};
+ghost use Rattle.cns_book.specs.Shown.{entry_at, price_shown, shown};
 ghost use Rattle.cns_book.specs.Log.{TakesStep, empty_log, state_of};
 
 use crate::parts::Parts;
@@ -97,7 +99,7 @@ impl<P: Positions<A>, A: Allocator + Drop + Clone> Book<P, A> {
     /// The sheet of the closed day with the date, which never changes; None where no closed day has it. It may be
     /// shared by a copy of its `Arc`.
     pub fn sheet(&self, date: Day) -> Option<&Arc<Sheet<A>, A>>
-        ensures { option_map arc_value (option_copied result) ≡ sheet_shown self.now.opening (journal_of (state_of self.now)) date }
+        ensures { option_map arc_value (option_copied result) ≡ sheet_on self.now.opening (journal_of (state_of self.now)) date }
     {
         self.parts.sheet(date)
     }
@@ -112,9 +114,12 @@ impl<P: Positions<A>, A: Allocator + Drop + Clone> Book<P, A> {
         self.history.as_slice().get(place as usize - 1).copied()
     }
 
-    /// A copy of the history, the oldest entry first. `NoMemory` where a growth was refused.
+    /// A copy of the history, the oldest entry first: the commands with the replies that recomputing from them gives,
+    /// each worker's numbered 1, 2, 3 and so on. `NoMemory` where a growth was refused.
     pub fn copy_history(&self) -> Result<Vec<Taken, A>, NoMemory>
-        ensures { IfOk result (λ v. v.items ≡ reverse self.now.history) }
+        ensures copy { IfOk result (λ v. v.items ≡ reverse self.now.history) }
+        ensures legal { IsLegal self.now.opening self.now.history }
+        ensures replies { OnOk result (replies_of self.now.history ≡ replies (opened self.now.opening) (commands_of self.now.history)) }
     {
         let mut copy = Vec::new(self.history.allocator().clone()?);
         copy.extend_from_slice(self.history.as_slice())?;
@@ -123,7 +128,8 @@ impl<P: Positions<A>, A: Allocator + Drop + Clone> Book<P, A> {
 
     /// How many commands were taken.
     pub fn history_len(&self) -> usize
-        ensures { result ≡ length self.now.history }
+        ensures len { result ≡ length self.now.history }
+        ensures legal { IsLegal self.now.opening self.now.history }
     {
         self.history.len()
     }

@@ -3,13 +3,14 @@ ghost use Rattle.std.specs.Prelude.{◌≡◌, [], ◌∷◌, IfErr, IfOk, OnErr
 ghost use Rattle.std.specs.Arc.{arc_value};
 ghost use Rattle.std.specs.Cmp.Lexicographic.{slice_cmp};
 ghost use Rattle.std.specs.FinMap.{is_sorted};
-ghost use Rattle.std.specs.List.{AllByRecursion, AllWithin, HoldsAt};
+ghost use Rattle.std.specs.List.{AllWithin, HoldsAt};
 ghost use Rattle.std.specs.List.Sorted.{IsSearchInRange};
 ghost use Rattle.std.specs.Option.{option_copied};
 ghost use Rattle.std.specs.Ordering.{nat_cmp};
 ghost use Rattle.cns_terms.specs.Keys.{key_cmp};
-ghost use Rattle.cns_sheets.specs.Build.{AreBalanced, AreFew, HasSmallCents, prices_of, rows_from, sheet_from};
-ghost use Rattle.cns_book.specs.Dated.{AreFalling, IsAfter, is_dated, sheet_on};
+ghost use Rattle.cns_sheets.specs.Build.{prices_of, sheet_from};
+ghost use Rattle.cns_sheets.specs.Condition.{IsReady};
+ghost use Rattle.cns_book.specs.Dated.{AreFalling, IsAfter, is_dated, dated_sheet};
 
 use cns_positions::Positions;
 use cns_prices::Prices;
@@ -77,7 +78,7 @@ impl<A: Allocator + Drop + Clone> ClosedDays<A> {
 
     /// The sheet of the closed day with the date; None where no closed day has it.
     pub fn find(&self, date: Day) -> Option<&Arc<Sheet<A>, A>>
-        ensures { option_map arc_value (option_copied result) ≡ sheet_on self.now date }
+        ensures { option_map arc_value (option_copied result) ≡ dated_sheet self.now date }
     {
         match place(self.sheets.as_slice(), date) {
             Ok(at) => Some(&self.sheets[at]),
@@ -92,12 +93,10 @@ impl<A: Allocator + Drop + Clone> ClosedDays<A> {
         prices: &Prices<A>,
         date: Day,
     ) -> Result<Sheet<A>, NoMemory>
-        requires order { is_sorted key_cmp (P.rows positions.now) ≡ true }
-        requires small { AllByRecursion HasSmallCents (P.rows positions.now) }
-        requires balanced { AreBalanced (rows_from (prices_of (slice_get self.now 0)) prices.now (P.rows positions.now)) }
-        requires few { AreFew (rows_from (prices_of (slice_get self.now 0)) prices.now (P.rows positions.now)) }
+        requires { IsReady (slice_get self.now 0) prices.now (P.rows positions.now) }
         ensures sheet { IfOk result (λ s. s ≡ sheet_from date (prices_of (slice_get self.now 0)) prices.now (P.rows positions.now)) }
-        ensures order { OnOk result (is_sorted (slice_cmp nat_cmp) prices.now ≡ true) }
+        ensures prices { OnOk result (is_sorted (slice_cmp nat_cmp) prices.now ≡ true) }
+        ensures rows { OnOk result (is_sorted key_cmp (P.rows positions.now) ≡ true) }
     {
         Sheet::build(self.alloc.clone()?, positions, prices, self.last(), date)
     }

@@ -1,6 +1,6 @@
 // The members.
 ghost use Rattle.std.specs.Prelude.{◌≡◌, ℕ, ◌||◌, ◌==◌, OnOk, OnErr, false};
-ghost use Rattle.cns_book.specs.Marks.{is_marked};
+ghost use Rattle.cns_book.specs.Members.{has_member};
 
 use cns_terms::NoMemory;
 use cns_units::Account;
@@ -26,7 +26,7 @@ impl<A: Allocator + Drop> Model for Members<A> {
 impl<A: Allocator + Drop> Members<A> {
     /// There is no member yet.
     pub fn new(alloc: A) -> Self
-        ensures { (m : ℕ) → is_marked result m ≡ false }
+        ensures { (m : ℕ) → has_member result m ≡ false }
     {
         Members {
             marks: Vec::new(alloc),
@@ -35,7 +35,7 @@ impl<A: Allocator + Drop> Members<A> {
 
     /// Whether the account is a member's.
     pub fn contains(&self, account: Account) -> bool
-        ensures { result ≡ is_marked self.now account }
+        ensures { result ≡ has_member self.now account }
     {
         match self.marks.as_slice().get(account.value() as usize) {
             Some(is_member) => *is_member,
@@ -45,7 +45,7 @@ impl<A: Allocator + Drop> Members<A> {
 
     /// Adds a member's account. Where memory is refused the members stay as they were.
     pub fn insert(&mut self, account: Account) -> Result<(), NoMemory>
-        ensures ok { OnOk result ((m : ℕ) → is_marked self.new m ≡ ((account == m) || is_marked self.old m)) }
+        ensures ok { OnOk result ((m : ℕ) → has_member self.new m ≡ ((account == m) || has_member self.old m)) }
         ensures err { OnErr result (self.new ≡ self.old) }
     {
         let place = account.value() as usize;

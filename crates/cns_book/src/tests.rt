@@ -255,6 +255,59 @@ fn a_book_without_memory_is_as_it_was(rt: HostRuntime) -> Result<(), Fail> {
     Ok(())
 }
 
+// Takes all of a heap's memory, in pieces that get smaller.
+fn exhaust<'a>(
+    heap: &'a LocalHeap,
+    alloc: Global,
+) -> Result<Vec<Vec<u8, &'a LocalHeap>>, NoMemory> {
+    let mut pieces = Vec::new(alloc);
+    for size in [4_096, 512, 64, 8] {
+        for _piece in 0..1_000 {
+            let Ok(piece) = Vec::with_capacity(heap, size) else {
+                break;
+            };
+            let Ok(()) = pieces.push(piece) else {
+                return Err(NoMemory);
+            };
+        }
+    }
+    Ok(pieces)
+}
+
+#[test]
+fn a_refusal_asks_for_no_memory(rt: HostRuntime) -> Result<(), Fail> {
+    let heap = LocalHeap::new(rt.alloc(), 65_536)?;
+    let mut book: TreeBook<&LocalHeap> = Book::new(&heap, opening(&rt))?;
+    let begin = [
+        first(member(&rt, 1)),
+        first(member(&rt, 2)),
+        first(listing(&rt, 19_500)),
+        first(trade(&rt, 7, 1, 0)),
+        first(trade(&rt, 7, 1, 0)),
+    ];
+    answers(&mut book, begin.as_slice(), rt.alloc())?;
+    let _ballast = exhaust(&heap, rt.alloc())?;
+    // The history has room for eight entries.
+    let refused = [
+        (trade(&rt, 7, 1, 0), Refusal::SeenReference),
+        (
+            Command::Activity(Activity::Close(opening(&rt))),
+            Refusal::WrongDay,
+        ),
+        (member(&rt, 2), Refusal::MemberExists),
+    ];
+    for (command, refusal) in refused {
+        let Ok(receipt) = book.take(Worker::FIRST, command) else {
+            return Err(Fail::new("a refusal asked for memory"));
+        };
+        assert_eq!(rt; receipt.reply, Reply::Refused(refusal));
+    }
+    let close = Command::Activity(Activity::Close(date(&rt, b"2024-06-04")));
+    assert_eq!(rt; book.take(Worker::FIRST, close), Err(TakeFault::NoMemory));
+    assert_eq!(rt; book.history_len(), 8);
+    Ok(())
+}
+
 #[test]
 fn many_commands_are_taken_where_there_is_memory(rt: HostRuntime) -> Result<(), Fail> {
     let mut book: TreeBook<Global> = Book::new(rt.alloc(), opening(&rt))?;

@@ -1,16 +1,15 @@
 -- A book and a text after lines, and after more of them.
-use Rattle.std.proofs.Common.{◌≡◌, ℕ, suc, ◌+◌, ◌-◌, ◌*◌, ◌^◌, ◌<◌, ◌≤◌, Bool, List, [], ◌∷◌, ◌++◌, length, take, drop, get_or, count_by, cond, Option, Some, None, Ok, Err, refl, sym, ap, subst, ◌∙◌, append_assoc, append-nil, add-one, arith, IfSome}
+use Rattle.std.proofs.Common.{◌≡◌, ◌≢◌, ◌⊎◌, inr, ℕ, suc, ◌+◌, ◌-◌, ◌*◌, ◌^◌, ◌<◌, ◌≤◌, Bool, List, [], ◌∷◌, ◌++◌, length, take, drop, get_or, count_by, cond, Option, Some, None, Result, Ok, Err, IfErr, IfOk, refl, sym, ap, subst, ◌∙◌, append_assoc, append-nil, add-one, arith, IfSome}
 use Rattle.std.proofs.Common.{take-suc, take-append-drop, drop-cons, length-append, length-take}
 use Rattle.std.proofs.lemmas.List.Sums.{sum_by-append, count_by-le-length}
 use Rattle.std.specs.Io.KnownBytes.{Appends, Keeps}
-use Rattle.std.proofs.KnownBytes.{Appends-kept, Appends-nil, Appends-trans, Keeps-refl}
-use Rattle.cns_units.specs.Output.{AppendsFront}
+use Rattle.std.proofs.KnownBytes.{Appends-kept, Appends-nil, Appends-trans, Keeps-refl, Keeps-trans}
 use Rattle.cns_terms.specs.Machine.{State}
 use Rattle.cns_book.specs.Log.{Log, state_of}
 use Rattle.cns_feed.specs.Line.{Line}
-use Rattle.cns_feed.specs.Output.{Adds, is_accepted_close, is_at_fault, is_command, line_text, lines_of, no_counts, outcome_of, outcomes, state_after, state_after_line, texts}
-use Rattle.cns_feed.specs.Records.{Gives, GivesAll, GivesFirst, Pending}
-use Rattle.cns_feed.specs.Replay.{IsUpTo, Leaves, Stops, Takes, log_after, log_after_line}
+use Rattle.cns_feed.specs.Output.{Adds, Counts, is_accepted_close, is_at_fault, is_command, line_text, lines_of, no_counts, outcome_of, outcomes, state_after, state_after_line, texts}
+use Rattle.cns_feed.specs.Records.{EndsReading, Gives, GivesAll, GivesFirst, Pending, ReadTo}
+use Rattle.cns_feed.specs.Replay.{HasRoomFor, IsUpTo, Leaves, LeavesAt, Stops, Takes, log_after, log_after_line}
 use Rattle.cns_feed.specs.declared.fault.ReplayFault.{ReplayFault}
 use Rattle.cns_feed.specs.declared.fault.ReplayFault.TheVariants as fault
 use Rattle.cns_feed.specs.declared.outcome.Outcome.{Outcome}
@@ -80,7 +79,7 @@ up_to-after S a b ls n adds le =
     })
 
 -- the counts while a few lines are answered
-pub up_to-few : (k m : Log) (a b : Summary) (ls : List Line) (i : ℕ) → Takes k m a b (take i ls) → length ls < 2 ^ 8 → IsUpTo a (2 ^ 63) → IsUpTo b (2 ^ 64 - 2)
+pub up_to-few : (k m : Log) (a b : Summary) (ls : List Line) (i : ℕ) → Takes k m a b (take i ls) → length ls ≤ 16 → IsUpTo a (2 ^ 63) → IsUpTo b (2 ^ 64 - 2)
 up_to-few k m a b ls i takes few le =
     let p = up_to-after (state_of k) a b (take i ls) (2 ^ 63) takes.counts le in
     let short = length-take i ls in
@@ -94,9 +93,9 @@ pub up_to-none : (s : Summary) → s ≡ no_counts → IsUpTo s 0
 up_to-none s zero = rw zero (record { commands = omega arith; lines = omega arith; closes = omega arith })
 
 -- the counts after one more turn
-pub up_to-turn : (k m : Log) (a b : Summary) (ls : List Line) (turn : ℕ) → Takes k m a b ls → length ls < 2 ^ 8 → IsUpTo a (2 ^ 8 * turn) → IsUpTo b (2 ^ 8 * (turn + 1))
+pub up_to-turn : (k m : Log) (a b : Summary) (ls : List Line) (turn : ℕ) → Takes k m a b ls → length ls ≤ 16 → IsUpTo a (16 * turn) → IsUpTo b (16 * (turn + 1))
 up_to-turn k m a b ls turn takes few le =
-    let p = up_to-after (state_of k) a b ls (2 ^ 8 * turn) takes.counts le in
+    let p = up_to-after (state_of k) a b ls (16 * turn) takes.counts le in
     record {
       commands = let h = p.commands in omega (arith, h, few);
       lines = let h = p.lines in omega (arith, h, few);
@@ -140,72 +139,60 @@ pub text-more : (k m : Log) (a b : Summary) (old mid new : Option (List ℕ)) (x
 text-more k m a b old mid new x y p one two =
     rw (texts-append (state_of k) x y) (Appends-trans old mid new _ _ one (subst (λ S. Appends mid new (texts S y)) (taken_state k m a b x p) two))
 
+-- ---- room
+
+room-line : (k : Log) (l : Line) (n : ℕ) → HasRoomFor k (1 + n) → HasRoomFor (log_after_line k l) n
+room-line k (Ok cmd) n room = omega (arith, room)
+room-line k (Err f) n room = omega (arith, room)
+
+room-lines : (k : Log) (ls : List Line) (n : ℕ) → HasRoomFor k (length ls + n) → HasRoomFor (log_after k ls) n
+unfolding log_after
+room-lines k [] n room = omega (arith, room)
+room-lines k (l ∷ ls) n room = room-lines (log_after_line k l) ls n (room-line k l (length ls + n) (omega (arith, room)))
+
+-- the room that is left after lines
+pub room-after : (k m : Log) (a b : Summary) (ls : List Line) (n : ℕ) → Takes k m a b ls → HasRoomFor k (length ls + n) → HasRoomFor m n
+room-after k m a b ls n takes room = rw takes.book (room-lines k ls n room)
+
+-- room for the next of a few lines
+pub room-next : (k m : Log) (a b : Summary) (ls : List Line) (i : ℕ) → Takes k m a b (take i ls) → i < length ls → HasRoomFor k (length ls) → HasRoomFor m 1
+room-next k m a b ls i takes lt room = let short = length-take i ls in room-after k m a b (take i ls) 1 takes (omega (arith, short, lt, room))
+
 -- ---- where a replay stops
 
-front_of_more : (old new : Option (List ℕ)) (text : List ℕ) → AppendsFront old new [] → AppendsFront old new text
-front_of_more old new text w = record { front = []; rest = text; whole = refl; appended = subst (Appends old new) (no_front w.front w.rest w.whole) w.appended }
-  where
-    no_front : (a b : List ℕ) → [] ≡ a ++ b → a ≡ []
-    no_front [] b e = refl
-    no_front (x ∷ a) b e = cc
-
-leaves_more : (e : ReplayFault) (old new : Option (List ℕ)) (text : List ℕ) → Leaves e old new [] → Leaves e old new text
-leaves_more fault.Read old new text h = h
-leaves_more fault.NoMemory old new text h = h
-leaves_more fault.Full old new text h = h
-leaves_more fault.Write old new text h = front_of_more old new text h
-
--- the same where more lines come after them
-rest_longer : (e : ReplayFault) (old new : Option (List ℕ)) (S : State) (a b : List Line) → Leaves e old new (texts S (take 1 a)) → Leaves e old new (texts S (take 1 (a ++ b)))
-unfolding texts
-rest_longer e old new S [] b h = leaves_more e old new (texts S (take 1 b)) h
-rest_longer e old new S (l ∷ a) b h = h
-
-pub stops-longer : (e : ReplayFault) (old new : Option (List ℕ)) (S : State) (a b : List Line) → Stops e old new S a → Stops e old new S (a ++ b)
-stops-longer e old new S a b p = record {
-  before = p.before;
-  rest = p.rest ++ b;
-  whole = ap (λ l. l ++ b) p.whole ∙ append_assoc p.before p.rest b;
+-- a writer that was flushed where a replay stopped
+pub stops-kept : (e : ReplayFault) (old mid new : Option (List ℕ)) (S : State) (ls : List Line) → Stops e old mid S ls → Keeps mid new → Stops e old new S ls
+stops-kept e old mid new S ls p kept = record {
+  answered = p.answered;
+  waiting = p.waiting;
+  unread = p.unread;
+  whole = p.whole;
   mid = p.mid;
   written = p.written;
-  leaves = rest_longer e p.mid new (state_after S p.before) p.rest b p.leaves;
+  leaves = leaves-kept e p.mid mid new (state_after S p.answered) p.waiting p.leaves kept;
 }
+  where
+    left-kept : (e : ReplayFault) (a b c : Option (List ℕ)) (text : List ℕ) → LeavesAt e a b text → Keeps b c → LeavesAt e a c text
+    left-kept fault.Read a b c text h k = absurd h
+    left-kept fault.Full a b c text h k = absurd h
+    left-kept fault.NoMemory a b c text h k = Keeps-trans a b c h k
+    left-kept fault.Write a b c text h k = record { front = h.front; rest = h.rest; whole = h.whole; short = h.short; appended = Appends-kept a b c h.front h.appended k }
 
--- the same after lines that were answered
-pub stops-after : (k m : Log) (a b : Summary) (e : ReplayFault) (old mid new : Option (List ℕ)) (x y : List Line)
-    → Takes k m a b x → Appends old mid (texts (state_of k) x) → Stops e mid new (state_of m) y → Stops e old new (state_of k) (x ++ y)
-stops-after k m a b e old mid new x y p one q =
-    let S = state_of k in
-    let q' : Stops e mid new (state_after S x) y = subst (λ T. Stops e mid new T y) (taken_state k m a b x p) q in
-    record {
-      before = x ++ q'.before;
-      rest = q'.rest;
-      whole = ap (λ l. x ++ l) q'.whole ∙ sym (append_assoc x q'.before q'.rest);
-      mid = q'.mid;
-      written = rw (texts-append S x q'.before) (Appends-trans old mid q'.mid _ _ one q'.written);
-      leaves = rw (state_after-append S x q'.before) q'.leaves;
-    }
+    leaves-kept : (e : ReplayFault) (a b c : Option (List ℕ)) (S : State) (waiting : List Line) → Leaves e a b S waiting → Keeps b c → Leaves e a c S waiting
+    leaves-kept e a b c S [] h k = Keeps-trans a b c h k
+    leaves-kept e a b c S (l ∷ ls) h k = left-kept e a b c (line_text S l) h k
 
--- at the next line
-pub stops-line : (e : ReplayFault) (old new : Option (List ℕ)) (S : State) (l : Line) (ls : List Line) → Leaves e old new (line_text S l) → Stops e old new S (l ∷ ls)
-unfolding texts state_after
-stops-line e old new S l ls h = record { before = []; rest = l ∷ ls; whole = refl; mid = old; written = Appends-nil old; leaves = rw (append-nil (line_text S l)) h }
+-- after all lines were answered, at a writer that could not be flushed
+pub stops-end : (old mid new : Option (List ℕ)) (S : State) (ls : List Line) → Appends old mid (texts S ls) → Keeps mid new → Stops fault.Write old new S ls
+stops-end old mid new S ls text kept = record { answered = ls; waiting = []; unread = []; whole = sym (append-nil ls); mid = mid; written = text; leaves = kept }
 
-kept_leaves : (e : ReplayFault) (old new : Option (List ℕ)) → Keeps old new → Leaves e old new []
-kept_leaves fault.Read old new h = h
-kept_leaves fault.NoMemory old new h = h
-kept_leaves fault.Full old new h = h
-kept_leaves fault.Write old new h = record { front = []; rest = []; whole = refl; appended = Appends-kept old old new [] (Appends-nil old) h }
-
--- with nothing left of what was read
-pub stops-between : (e : ReplayFault) (old new : Option (List ℕ)) (S : State) → Keeps old new → Stops e old new S []
-unfolding texts
-stops-between e old new S kept = record { before = []; rest = []; whole = refl; mid = old; written = Appends-nil old; leaves = kept_leaves e old new kept }
-
--- after lines that were all answered
-pub stops-end : (e : ReplayFault) (old new : Option (List ℕ)) (S : State) (ls : List Line) → Appends old new (texts S ls) → Stops e old new S ls
-unfolding texts
-stops-end e old new S ls h = record { before = ls; rest = []; whole = sym (append-nil ls); mid = new; written = h; leaves = kept_leaves e new new (Keeps-refl new) }
+-- a fault that came at a line is not that the book is full
+pub stops-not_full : (e : ReplayFault) (old new : Option (List ℕ)) (S : State) (ls : List Line) (p : Stops e old new S ls) → 0 < length p.waiting → e ≢ fault.Full
+stops-not_full e old new S ls p some is = none p.waiting some (subst (λ f. Leaves f p.mid new (state_after S p.answered) p.waiting) is p.leaves)
+  where
+    none : (waiting : List Line) → 0 < length waiting → Leaves fault.Full p.mid new (state_after S p.answered) waiting → ⊥
+    none [] some h = omega (arith, some)
+    none (l ∷ ls) some h = h
 
 -- ---- the next of some lines
 
@@ -220,10 +207,15 @@ module _ (k m : Log) (a b : Summary) (ls : List Line) (i : ℕ) (l : Line) (lt :
   pub text-next : (old mid new : Option (List ℕ)) → Appends old mid (texts (state_of k) (take i ls)) → Appends mid new (line_text (state_of m) l) → Appends old new (texts (state_of k) (take (i + 1) ls))
   text-next old mid new one two = subst (λ x. Appends old new (texts (state_of k) x)) grown (text-more k m a b old mid new (take i ls) (l ∷ []) taken one (text-line (state_of m) mid new l two))
 
-  pub stops-next : (e : ReplayFault) (old mid new : Option (List ℕ)) → Appends old mid (texts (state_of k) (take i ls)) → Leaves e mid new (line_text (state_of m) l) → Stops e old new (state_of k) ls
+  pub stops-next : (e : ReplayFault) (old mid new : Option (List ℕ)) → Appends old mid (texts (state_of k) (take i ls)) → LeavesAt e mid new (line_text (state_of m) l)
+      → (p : Stops e old new (state_of k) ls) × (p.unread ≡ []) × (0 < length p.waiting)
   stops-next e old mid new one leaves =
-      let around : take i ls ++ l ∷ drop (suc i) ls ≡ ls = ap (λ x. take i ls ++ x) (ap (λ x. x ∷ drop (suc i) ls) is ∙ sym (drop-cons ls i l lt)) ∙ take-append-drop i ls in
-      subst (Stops e old new (state_of k)) around (stops-after k m a b e old mid new (take i ls) (l ∷ drop (suc i) ls) taken one (stops-line e mid new (state_of m) l (drop (suc i) ls) leaves))
+      let around : ls ≡ take i ls ++ (l ∷ drop (suc i) ls) = sym (ap (λ x. take i ls ++ x) (ap (λ x. x ∷ drop (suc i) ls) is ∙ sym (drop-cons ls i l lt)) ∙ take-append-drop i ls) in
+      let here : LeavesAt e mid new (line_text (state_after (state_of k) (take i ls)) l) = rw (sym (taken_state k m a b (take i ls) taken)) leaves in (
+        record { answered = take i ls; waiting = l ∷ drop (suc i) ls; unread = []; whole = around ∙ ap (λ x. take i ls ++ x) (sym (append-nil (l ∷ drop (suc i) ls))); mid = mid; written = one; leaves = here },
+        refl,
+        omega arith,
+      )
 
 -- ---- record after record of a reader
 
@@ -297,24 +289,89 @@ along-all rem a b first now more s t old mid new lines all gives takes text p =
       text = subst (λ l. Appends old new (texts (state_of first) l)) whole (text-more first now no_counts s old mid new p.done lines p.takes p.text text);
     }
 
--- a fault at one of a few lines, or after them
-pub along-stops : {R : Type 0} (rem : R → Option (List ℕ)) (a b : Records R) (first now : Log) (s : Summary) (e : ReplayFault) (old mid new : Option (List ℕ)) (lines all : List Line)
-    → GivesFirst rem b lines → Stops e mid new (state_of now) lines → Along rem a b first now s old mid all → Stops e old new (state_of first) all
-along-stops rem a b first now s e old mid new lines all gives stops p =
-    let (rest, is) = gives p.rest p.pending in
-    let whole : p.done ++ (lines ++ rest) ≡ all = sym (p.whole ∙ ap (λ l. p.done ++ l) is) in
-    subst (Stops e old new (state_of first)) whole
-    (stops-after first now no_counts s e old mid new p.done (lines ++ rest) p.takes p.text (stops-longer e mid new (state_of now) lines rest stops))
+-- where a replay stops, and what it had read then
+abbrev StopsAt : {R : Type 0} → (a c : Records R) → State → ReplayFault → Option (List ℕ) → Option (List ℕ) → List Line → Type 0
+StopsAt a c S e old new all = (s : Stops e old new S all) × ReadTo e a c s.answered s.waiting
+
+-- lines before those among which a fault came, and lines after them
+around : (all done rest lines more answered waiting unread : List Line) → all ≡ done ++ rest → rest ≡ lines ++ more → lines ≡ answered ++ (waiting ++ unread)
+    → all ≡ (done ++ answered) ++ (waiting ++ (unread ++ more))
+around all done rest lines more answered waiting unread whole is parts =
+    whole ∙ ap (λ l. done ++ l) (is ∙ ap (λ l. l ++ more) parts ∙ append_assoc answered (waiting ++ unread) more ∙ ap (λ l. answered ++ l) (append_assoc waiting unread more))
+    ∙ sym (append_assoc done answered (waiting ++ (unread ++ more)))
+
+-- a fault among a few lines that were read, or after them
+along-stops : {R : Type 0} (rem : R → Option (List ℕ)) (a b c : Records R) (first now : Log) (s : Summary) (e : ReplayFault) (old mid new : Option (List ℕ)) (lines all : List Line)
+    → GivesFirst rem b lines → (p : Stops e mid new (state_of now) lines) → ReadTo e b c p.answered p.waiting
+    → Along rem a b first now s old mid all → StopsAt a c (state_of first) e old new all
+along-stops rem a b c first now s e old mid new lines all gives p read along =
+    let (more, is) = gives along.rest along.pending in (
+      record {
+        answered = along.done ++ p.answered;
+        waiting = p.waiting;
+        unread = p.unread ++ more;
+        whole = around all along.done along.rest lines more p.answered p.waiting p.unread along.whole is p.whole;
+        mid = p.mid;
+        written = text-more first now no_counts s old mid p.mid along.done p.answered along.takes along.text p.written;
+        leaves = rw (state_after-append (state_of first) along.done p.answered, sym (taken_state first now no_counts s along.done along.takes)) p.leaves;
+      },
+      record {
+        left = let sum = length-append along.done p.answered in let before = along.left in let now = read.left in omega (arith, sum, before, now);
+        few = read.few;
+        why = read.why;
+      },
+    )
+
+-- a fault at one of a few lines
+pub along-at : {R : Type 0} (rem : R → Option (List ℕ)) (a b c : Records R) (first now : Log) (s : Summary) (e : ReplayFault) (old mid new : Option (List ℕ)) (lines all : List Line)
+    → GivesFirst rem b lines → c.left + length lines ≡ b.left → length lines ≤ 16
+    → (p : Stops e mid new (state_of now) lines) → p.unread ≡ [] → 0 < length p.waiting
+    → Along rem a b first now s old mid all → StopsAt a c (state_of first) e old new all
+along-at rem a b c first now s e old mid new lines all gives left few p read some =
+    let whole : length lines ≡ length p.answered + length p.waiting =
+    ap length (p.whole ∙ ap (λ l. p.answered ++ (p.waiting ++ l)) read ∙ ap (λ l. p.answered ++ l) (append-nil p.waiting)) ∙ length-append p.answered p.waiting in
+    along-stops rem a b c first now s e old mid new lines all gives p (record {
+      left = omega (arith, whole, left);
+      few = omega (arith, whole, few);
+      why = λ none. absurd (let no = ap length none in omega (arith, some, no));
+    })
+
+-- a fault of the read of a few lines, which were answered
+pub along-after : {R : Type 0} (rem : R → Option (List ℕ)) (a b c : Records R) (first now : Log) (s : Summary) (e : ReplayFault) (old mid new : Option (List ℕ)) (lines all : List Line)
+    → GivesFirst rem b lines → c.left + length lines ≡ b.left → EndsReading e c → Appends mid new (texts (state_of now) lines)
+    → Along rem a b first now s old mid all → StopsAt a c (state_of first) e old new all
+along-after rem a b c first now s e old mid new lines all gives left ends text =
+    along-stops rem a b c first now s e old mid new lines all gives
+    (record { answered = lines; waiting = []; unread = []; whole = sym (append-nil lines); mid = new; written = text; leaves = Keeps-refl new })
+    (record { left = omega (arith, left); few = omega arith; why = λ none. inr ends })
 
 -- a fault between two reads
 pub along-between : {R : Type 0} (rem : R → Option (List ℕ)) (a b : Records R) (first now : Log) (s : Summary) (e : ReplayFault) (old mid new : Option (List ℕ)) (all : List Line)
-    → Keeps mid new → Along rem a b first now s old mid all → Stops e old new (state_of first) all
-along-between rem a b first now s e old mid new all kept p =
-    along-stops rem a b first now s e old mid new [] all (λ rest q. (rest, refl)) (stops-between e mid new (state_of now) kept) p
+    → (e ≡ fault.Write) ⊎ EndsReading e b → Keeps mid new → Along rem a b first now s old mid all → StopsAt a b (state_of first) e old new all
+along-between rem a b first now s e old mid new all why kept =
+    along-stops rem a b b first now s e old mid new [] all (λ rest q. (rest, refl))
+    (record { answered = []; waiting = []; unread = []; whole = refl; mid = mid; written = text-none (state_of now) mid mid (Keeps-refl mid); leaves = kept })
+    (record { left = omega arith; few = omega arith; why = λ none. why })
 
 -- ---- before the first read
 
 -- want of memory, whatever the input is
 pub stops-unread : (old : Option (List ℕ)) (S : State) (known : Option (List ℕ)) → IfSome known (λ input. Stops fault.NoMemory old old S (lines_of input))
 stops-unread old S None = tt
-stops-unread old S (Some input) = stops-longer fault.NoMemory old old S [] (lines_of input) (stops-between fault.NoMemory old old S (Keeps-refl old))
+stops-unread old S (Some input) = record { answered = []; waiting = []; unread = lines_of input; whole = refl; mid = old; written = text-none S old old (Keeps-refl old); leaves = Keeps-refl old }
+
+-- where a play stops is where its replay does, if the input is known
+pub stops-known : {R : Type 0} (rem : R → Option (List ℕ)) (a c : Records R) (S : State) (old new : Option (List ℕ)) (known : Option (List ℕ)) (r : Result Summary ReplayFault)
+    → IfSome known (λ input. Pending rem a (lines_of input)) → IfErr r (λ e. (all : List Line) → Pending rem a all → StopsAt a c S e old new all)
+    → IfErr r (λ e. IfSome known (λ input. Stops e old new S (lines_of input)))
+stops-known rem a c S old new known (Ok s) pending stops = tt
+stops-known rem a c S old new None (Err e) pending stops = tt
+stops-known rem a c S old new (Some input) (Err e) pending stops = (stops (lines_of input) pending).0
+
+-- what a play counts is what its replay counts, if the input is known
+pub counts-known : {R : Type 0} (rem : R → Option (List ℕ)) (a : Records R) (S : State) (known : Option (List ℕ)) (r : Result Summary ReplayFault)
+    → IfSome known (λ input. Pending rem a (lines_of input)) → IfOk r (λ s. (all : List Line) → Pending rem a all → Counts s (outcomes S all))
+    → IfOk r (λ s. IfSome known (λ input. Counts s (outcomes S (lines_of input))))
+counts-known rem a S None (Ok s) pending counts = tt
+counts-known rem a S (Some input) (Ok s) pending counts = counts (lines_of input) pending
+counts-known rem a S known (Err e) pending counts = tt

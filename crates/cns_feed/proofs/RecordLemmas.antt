@@ -1,8 +1,10 @@
 -- The records that a reader has left, and what a read takes of them.
-use Rattle.std.proofs.Common.{◌≡◌, ℕ, zero, suc, ◌+◌, ◌<◌, ◌≤◌, Bool, true, false, List, [], ◌∷◌, ◌++◌, length, map, Option, Some, None, refl, sym, ap, ◌∙◌, arith, append-nil, append_assoc, inl, Result, Ok, Err}
+use Rattle.std.proofs.Common.{◌≡◌, ◌≢◌, ℕ, zero, suc, ◌+◌, ◌<◌, ◌≤◌, Bool, true, false, List, [], ◌∷◌, ◌++◌, length, map, Option, Some, None, refl, sym, ap, ◌∙◌, arith, append-nil, append_assoc, inl, Result, Ok, Err}
 use Rattle.std.specs.Prelude.{if◌then◌else◌, ◌==◌, ◌&&◌}
 use Rattle.csv.specs.Machine.{Read, after_end, ends_with, ends_at_end, in_field, start_field, start_record, is_byte, is_end, next_record, step}
-use Rattle.csv.specs.Reading.{Reached, ReadRecord, default_config, records_from, records_next}
+use Rattle.csv.specs.Reading.{ExplainsRead, Reached, ReadRecord, default_config, has_failed, records_from, records_next, stops_reader}
+use Rattle.csv.specs.declared.error.ErrorKind.{ErrorKind}
+use Rattle.csv.specs.declared.error.ErrorKind.TheVariants as kind
 use Rattle.csv.specs.declared.parser.Action.{Action}
 use Rattle.csv.specs.declared.parser.Action.TheVariants as act
 use Rattle.csv.specs.declared.parser.Config.{Config}
@@ -13,8 +15,9 @@ use Rattle.csv.specs.declared.parser.Terminator.TheVariants as term
 use Rattle.csv.specs.declared.reader.Reader.{Reader}
 use Rattle.csv.proofs.ReadFacts.{rows-end, rows-more}
 use Rattle.cns_feed.specs.Line.{Line, Record, line_of}
-use Rattle.cns_feed.specs.Records.{Gives, GivesAll, GivesFirst, ReadsBatch, Setup, given_remaining}
+use Rattle.cns_feed.specs.Records.{EndsReading, Gives, GivesAll, GivesFirst, ReadsBatch, Setup, fault_of, given_remaining}
 use Rattle.cns_feed.specs.declared.fault.ReplayFault.{ReplayFault}
+use Rattle.cns_feed.specs.declared.fault.ReplayFault.TheVariants as fault
 use Rattle.cns_feed.specs.declared.given.Given.{Given}
 use Rattle.cns_feed.specs.declared.records.Records.{Records}
 
@@ -117,28 +120,46 @@ no_record cfg s xs e =
 -- ---- what is left
 
 -- a reader that gave a record, or told that there is none, reads on as it did
-setup_kept : {R : Type 0} (rem : R → Option (List ℕ)) (a b : Reader R) (found : Bool) (fields : Record)
+pub setup_kept : {R : Type 0} (rem : R → Option (List ℕ)) (a b : Reader R) (found : Bool) (fields : Record)
     → Setup a → ReadRecord rem a b found fields → b.first ≡ true → b.flexible ≡ a.flexible → Setup b
 setup_kept rem a b found fields s r first flexible = record { no_trim = r.3 ∙ s.no_trim; ready = inl first; config = r.2 ∙ s.config; flexible = flexible ∙ s.flexible }
 
 -- a record was read
 pub gives-line : {R : Type 0} (rem : R → Option (List ℕ)) (a b : Records R) (fields : Record) (line : Line)
-    → line ≡ line_of fields → (Setup a.rows → ReadRecord (given_remaining rem) a.rows b.rows true fields × (b.rows.first ≡ true) × (b.rows.flexible ≡ a.rows.flexible)) → Gives rem a b (line ∷ [])
+    → line ≡ line_of fields → Setup a.rows → ReadRecord (given_remaining rem) a.rows b.rows true fields → Gives rem a b (line ∷ [])
 unfolding Reached
-gives-line rem a b fields line is reads all p =
-    let (r, first_read, flexible) = reads p.setup in
-    let (left, source, (q, e, first, there)) = rows-more (given_remaining rem) a.rows b.rows fields default_config a.rows.state p.bytes p.bytes [] p.setup.config p.source (refl, refl) r in
+gives-line rem a b fields line is setup r all p =
+    let (left, source, (q, e, first, there)) = rows-more (given_remaining rem) a.rows b.rows fields default_config a.rows.state p.bytes p.bytes [] setup.config p.source (refl, refl) r in
     let (records_are, between) = first_record default_config a.rows.state p.bytes q p.between e in (
       map line_of (records_from default_config (length left + 1) b.rows.state left),
       p.lines_are ∙ ap (map line_of) (records_are ∙ (λ i. sym first i ∷ records_from default_config (length (there.1 i) + 1) (there.0 i) (there.1 i))) ∙ ap (λ l. l ∷ map line_of (records_from default_config (length left + 1) b.rows.state left)) (sym is),
-      record { setup = setup_kept (given_remaining rem) a.rows b.rows true fields p.setup r first_read flexible; bytes = left; source = source; between = rw (sym there.0) between; lines_are = refl },
+      record { bytes = left; source = source; between = rw (sym there.0) between; lines_are = refl },
     )
 
 -- no record was left
 pub gives-none : {R : Type 0} (rem : R → Option (List ℕ)) (a : Records R) (b : Reader (Given R)) (fields : Record)
-    → 0 < a.left → (Setup a.rows → ReadRecord (given_remaining rem) a.rows b false fields) → GivesAll rem a []
-gives-none rem a b fields some reads all p =
-    (p.lines_are ∙ ap (map line_of) (no_record default_config a.rows.state p.bytes (rows-end (given_remaining rem) a.rows b fields default_config p.bytes p.setup.config p.source (reads p.setup))), some)
+    → 0 < a.left → Setup a.rows → ReadRecord (given_remaining rem) a.rows b false fields → GivesAll rem a []
+gives-none rem a b fields some setup r all p =
+    (p.lines_are ∙ ap (map line_of) (no_record default_config a.rows.state p.bytes (rows-end (given_remaining rem) a.rows b fields default_config p.bytes setup.config p.source r)), some)
+
+-- ---- a read that failed
+
+-- why no more is read, by the error of the reader
+pub ends-failed : {R : Type 0} (rem : R → Option (List ℕ)) (a : Records R) (b : Records R) (why : ErrorKind)
+    → Setup a.rows → has_failed b.rows ≡ stops_reader why → ExplainsRead (given_remaining rem) a.rows b.rows false why → EndsReading (fault_of why) b
+ends-failed rem a b (kind.Io e) setup failed explains = inl failed
+ends-failed rem a b kind.OutOfMemory setup failed explains = failed
+ends-failed rem a b (kind.UnequalLengths pos expected len) setup failed explains = let no = explains.0 in let yes = setup.flexible in cc (no, yes)
+ends-failed rem a b (kind.Utf8 pos err) setup failed explains = let no = explains.0 in cc no
+ends-failed rem a b (kind.Serialize text) setup failed explains = absurd explains
+ends-failed rem a b (kind.Deserialize pos err) setup failed explains = absurd explains
+
+-- reading does not end for a full book
+pub ends-not_full : {R : Type 0} (e : ReplayFault) (rs : Records R) → EndsReading e rs → e ≢ fault.Full
+ends-not_full fault.Read rs h is = cc is
+ends-not_full fault.NoMemory rs h is = cc is
+ends-not_full fault.Write rs h is = absurd h
+ends-not_full fault.Full rs h is = absurd h
 
 -- ---- one read after another
 
@@ -168,4 +189,4 @@ gives-first rem a b lines first all p = let (rest, is, q) = first all p in (rest
 pub reads-first : {R : Type 0} (rem : R → Option (List ℕ)) (a b : Records R) (lines : List Line) (r : Result Bool ReplayFault) → ReadsBatch rem a b r lines → GivesFirst rem a lines
 reads-first rem a b lines (Ok true) h = gives-first rem a b lines h.0
 reads-first rem a b lines (Ok false) h = λ all p. ([], (h all p).0 ∙ sym (append-nil lines))
-reads-first rem a b lines (Err e) h = h.1
+reads-first rem a b lines (Err e) h = h.0

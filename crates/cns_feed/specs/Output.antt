@@ -1,15 +1,13 @@
 -- What a replay makes of lines: their outcomes and the text that is written.
-use Rattle.std.specs.Prelude.{◌≡◌, ℕ, ◌+◌, Bool, true, false, count_by, map, List, [], ◌∷◌, ◌++◌, Ok, Err, unwrap_or}
+use Rattle.std.specs.Prelude.{◌≡◌, ℕ, ◌+◌, Bool, true, false, count_by, map, List, [], ◌∷◌, ◌++◌, Ok, Err}
 use Rattle.csv.specs.Reading.{records, default_config, strip_bom}
 use Rattle.cns_units.specs.declared.day.Day.{Day}
 use Rattle.cns_terms.specs.declared.reply.Reply.{Reply}
 use Rattle.cns_terms.specs.declared.reply.Reply.TheVariants as reply
 use Rattle.cns_terms.specs.declared.sheet.Row.{Row}
-use Rattle.cns_terms.specs.Days.{closed_on}
 use Rattle.cns_terms.specs.Laws.{journal_of}
 use Rattle.cns_terms.specs.Machine.{State, opened, answer, next}
-use Rattle.cns_terms.specs.Sheets.{sheet_rows}
-use Rattle.cns_sheets.specs.Build.{rows_for}
+use Rattle.cns_terms.specs.Sheets.{rows_for, sheet_named}
 use Rattle.cns_statements.specs.Texts.{rows_text}
 use Rattle.cns_feed.specs.Line.{Line, line_of}
 use Rattle.cns_feed.specs.Text.{reply_line, fault_line}
@@ -33,8 +31,11 @@ state_after_line S (Err f) = S
 
 -- the rows of the statement that a reply tells of: the account's, on the sheet of the closed day with the date
 abbrev pub rows_told : State → Reply → List Row
-rows_told S (reply.Stated s) = rows_for (sheet_rows S.opening (unwrap_or (closed_on S.opening (journal_of S) s.date) [])) s.account
-rows_told S _ = []
+rows_told S (reply.Stated s) = rows_for (sheet_named S.opening (journal_of S) s.date).rows s.account
+rows_told S reply.Accepted = []
+rows_told S (reply.Closed c) = []
+rows_told S (reply.Held k h) = []
+rows_told S (reply.Refused r) = []
 
 -- what is written for an outcome, in the state after it: a statement's rows follow its first line
 abbrev pub outcome_text : State → Outcome → List ℕ
@@ -77,7 +78,10 @@ is_at_fault (outcome.AtFault f) = true
 -- whether a reply is that of an accepted close
 abbrev pub is_closed : Reply → Bool
 is_closed (reply.Closed c) = true
-is_closed _ = false
+is_closed reply.Accepted = false
+is_closed (reply.Held k h) = false
+is_closed (reply.Stated s) = false
+is_closed (reply.Refused r) = false
 
 -- whether a record was a close that was accepted
 abbrev pub is_accepted_close : Outcome → Bool

@@ -1,40 +1,43 @@
 -- What a replay does to its book, and where it stops.
-use Rattle.std.specs.Prelude.{◌≡◌, ℕ, ◌+◌, ◌-◌, ◌^◌, ◌≤◌, List, [], ◌∷◌, ◌++◌, take, Option, Ok, Err}
+use Rattle.std.specs.Prelude.{◌≡◌, ℕ, ◌+◌, ◌-◌, ◌^◌, ◌≤◌, List, [], ◌∷◌, ◌++◌, length, Option, Ok, Err}
 use Rattle.std.specs.Io.KnownBytes.{Appends, Keeps}
 use Rattle.cns_units.specs.Output.{AppendsFront}
 use Rattle.cns_units.specs.declared.day.Day.{Day}
 use Rattle.cns_terms.specs.declared.command.Command.{Command}
 use Rattle.cns_terms.specs.History.{count}
-use Rattle.cns_terms.specs.Machine.{State, answer}
+use Rattle.cns_terms.specs.Machine.{State, answer, opened}
 use Rattle.cns_book.specs.Log.{Log, empty_log, state_of, with_taken}
 use Rattle.cns_feed.specs.Line.{Line}
-use Rattle.cns_feed.specs.Output.{Adds, outcomes, state_after, texts}
+use Rattle.cns_feed.specs.Output.{Adds, line_text, lines_of, outcomes, state_after, texts}
 use Rattle.cns_feed.specs.declared.fault.ReplayFault.{ReplayFault}
 use Rattle.cns_feed.specs.declared.fault.ReplayFault.TheVariants as fault
 use Rattle.cns_feed.specs.declared.summary.Summary.{Summary}
 
--- a fault before which nothing of a record is written
-abbrev pub IsSilent : ReplayFault → Type 0
-IsSilent fault.Read = Unit {0}
-IsSilent fault.NoMemory = Unit {0}
-IsSilent fault.Full = Unit {0}
-IsSilent fault.Write = ⊥
+-- what a fault at a record leaves of its text: a front that is not all of it, or nothing; no other fault comes at a record
+abbrev pub LeavesAt : ReplayFault → Option (List ℕ) → Option (List ℕ) → List ℕ → Type 0
+LeavesAt fault.Write old new text = AppendsFront old new text
+LeavesAt fault.NoMemory old new text = Keeps old new
+LeavesAt fault.Read old new text = ⊥
+LeavesAt fault.Full old new text = ⊥
 
--- what a fault leaves of the text of the record that it came at
-abbrev pub Leaves : ReplayFault → Option (List ℕ) → Option (List ℕ) → List ℕ → Type 0
-Leaves fault.Write old new text = AppendsFront old new text
-Leaves fault.Read old new text = Keeps old new
-Leaves fault.NoMemory old new text = Keeps old new
-Leaves fault.Full old new text = Keeps old new
+-- what a fault leaves of the first of the records that wait for a reply, in the state before it; nothing where none waits
+abbrev pub Leaves : ReplayFault → Option (List ℕ) → Option (List ℕ) → State → List Line → Type 0
+Leaves e old new S [] = Keeps old new
+Leaves e old new S (l ∷ ls) = LeavesAt e old new (line_text S l)
 
--- the text of the lines before the fault was written, and of the next what the fault leaves
+-- where a replay stops: the records that got their replies, those that were read and wait, and those that were not read
 pub record Stops (e : ReplayFault) (old new : Option (List ℕ)) (first : State) (lines : List Line) : Type 0 where
-  pub before : List Line
-  pub rest : List Line
-  pub whole : lines ≡ before ++ rest
+  pub answered : List Line
+  pub waiting : List Line
+  pub unread : List Line
+  pub whole : lines ≡ answered ++ (waiting ++ unread)
   pub mid : Option (List ℕ)
-  pub written : Appends old mid (texts first before)
-  pub leaves : Leaves e mid new (texts (state_after first before) (take 1 rest))
+  pub written : Appends old mid (texts first answered)
+  pub leaves : Leaves e mid new (state_after first answered) waiting
+
+-- where the replay of an input stops that opens on the date
+abbrev pub StopsReplay : ReplayFault → Day → List ℕ → Option (List ℕ) → Option (List ℕ) → Type 0
+StopsReplay e opening input old new = Stops e old new (opened opening) (lines_of input)
 
 -- a book after it took a command of the first worker: one entry more, with the machine's reply
 abbrev pub with_command : Log → Command → Log
@@ -58,6 +61,10 @@ blank_log opening = empty_log opening (2 ^ 32 - 1)
 pub record Takes (first now : Log) (old new : Summary) (lines : List Line) : Type 0 where
   pub book : now ≡ log_after first lines
   pub counts : Adds old new (outcomes (state_of first) lines)
+
+-- a book has room for so many commands more
+abbrev pub HasRoomFor : Log → ℕ → Type 0
+HasRoomFor b n = length b.history + n ≤ b.limit
 
 -- a summary of at most so many records
 pub record IsUpTo (s : Summary) (n : ℕ) : Type 0 where

@@ -41,7 +41,8 @@ pub enum ReplayFault {
     /// A growth was refused.
     #[error("NoMemory")]
     NoMemory,
-    /// The book's history is at its limit.
+    /// The book's history is at its limit. It does not come, since the history has room for as many commands as records
+    /// are read.
     #[error("Full")]
     Full,
 }

@@ -3,15 +3,16 @@
 //! `command_of` says of each record which command it is, or its first fault; `replay` takes the commands of a reader on
 //! a new book and writes each reply, `load` takes them without writing, and `reply_text` writes the first line of a
 //! reply. Over a reader and a writer that tell their bytes, a replay that answers Ok has written `output` of all of the
-//! input and nothing else; after a fault the text is that of the records before it, and of the next what the fault
-//! leaves. Replies are flushed before the reader is asked for more; no clause says so, tests do. What a record is stands
-//! in `specs/Line.antt`, the texts in `specs/Text.antt`, and what a whole input comes to in `specs/Output.antt`, where to
+//! input and nothing else; where one that ends with a fault stops is said by `Stops` in `specs/Replay.antt`. Replies are
+//! flushed before the reader is asked for more; no clause says so, tests do. What a record is stands in
+//! `specs/Line.antt`, the texts in `specs/Text.antt`, and what a whole input comes to in `specs/Output.antt`, where to
 //! start reading.
 #![tactic(auto)]
 
 mod batch;
 mod digits;
 mod fault;
+mod fields;
 mod given;
 mod line;
 mod loader;

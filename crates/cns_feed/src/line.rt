@@ -2,108 +2,15 @@
 ghost use Rattle.std.specs.Prelude.{◌≡◌, false, codes};
 ghost use Rattle.std.specs.Str.{bytes_eq};
 ghost use Rattle.csv.specs.Records.{fields_of};
-ghost use Rattle.cns_feed.specs.Digits.{in_range};
-ghost use Rattle.cns_feed.specs.Line.{field, member_at, account_at, reference_at, shares_at, money_at, price_at, cusip_at, date_at};
-ghost use Rattle.cns_feed.specs.Line.{member_line, listing_at, issue_line, price_line, trade_line, movement_at, deliver_line, receive_line, close_line, position_line, statement_line, line_of};
+ghost use Rattle.cns_feed.specs.Line.{field, member_line, listing_at, issue_line, price_line, trade_line, movement_at, deliver_line, receive_line, close_line, position_line, statement_line, line_of};
 
-use crate::digits::{number_of, short_number_of};
 use crate::fault::LineFault;
+use crate::fields::{account, cusip, date, field, member, money, price, reference, shares};
 use cns_terms::{Activity, Command, Key, Listing, Movement, Trade};
-use cns_units::{Account, Cusip, Day, Member, Money, Price, Shares, UnitFault};
 use csv::ByteRecord;
-
-const MOST_REFERENCE: u64 = 1_000_000_000_000_000_000;
 
 /// What a record is read as: a command, or its first fault.
 pub(crate) type Line = Result<Command, LineFault>;
-
-// The field at a place, the kind being at 0.
-fn field(row: &ByteRecord, place: usize) -> &[u8]
-    ensures { result.now ≡ field (fields_of row.now) place }
-{
-    row.get(place).unwrap_or(&[])
-}
-
-// A unit that a number was to be.
-fn ranged<T>(unit: Result<T, UnitFault>) -> Result<T, LineFault>
-    ensures { result ≡ in_range unit }
-{
-    match unit {
-        Ok(unit) => Ok(unit),
-        Err(_) => Err(LineFault::Range),
-    }
-}
-
-fn member(row: &ByteRecord, place: usize) -> Result<Member, LineFault>
-    ensures { result ≡ member_at (fields_of row.now) place }
-{
-    let number = short_number_of(field(row, place))?;
-    ranged(Member::new(number))
-}
-
-fn account(row: &ByteRecord, place: usize) -> Result<Account, LineFault>
-    ensures { result ≡ account_at (fields_of row.now) place }
-{
-    let number = short_number_of(field(row, place))?;
-    ranged(Account::new(number))
-}
-
-fn reference(row: &ByteRecord, place: usize) -> Result<u64, LineFault>
-    ensures { result ≡ reference_at (fields_of row.now) place }
-{
-    let number = number_of(field(row, place))?;
-    if number < 1 {
-        return Err(LineFault::Range);
-    }
-    if number > MOST_REFERENCE {
-        return Err(LineFault::Range);
-    }
-    Ok(number)
-}
-
-// The fields of a trade are read in line: the calls would cost as much as short numbers do.
-#[inline(always)]
-fn shares(row: &ByteRecord, place: usize) -> Result<Shares, LineFault>
-    ensures { result ≡ shares_at (fields_of row.now) place }
-{
-    let number = number_of(field(row, place))?;
-    ranged(Shares::new(number))
-}
-
-#[inline(always)]
-fn money(row: &ByteRecord, place: usize) -> Result<Money, LineFault>
-    ensures { result ≡ money_at (fields_of row.now) place }
-{
-    let number = number_of(field(row, place))?;
-    ranged(Money::new(number))
-}
-
-fn price(row: &ByteRecord, place: usize) -> Result<Price, LineFault>
-    ensures { result ≡ price_at (fields_of row.now) place }
-{
-    let number = number_of(field(row, place))?;
-    ranged(Price::new(number))
-}
-
-#[inline(always)]
-fn cusip(row: &ByteRecord, place: usize) -> Result<Cusip, LineFault>
-    ensures { result ≡ cusip_at (fields_of row.now) place }
-{
-    match Cusip::parse(field(row, place)) {
-        Ok(cusip) => Ok(cusip),
-        Err(_) => Err(LineFault::Cusip),
-    }
-}
-
-#[inline(always)]
-fn date(row: &ByteRecord, place: usize) -> Result<Day, LineFault>
-    ensures { result ≡ date_at (fields_of row.now) place }
-{
-    match Day::parse(field(row, place)) {
-        Ok(day) => Ok(day),
-        Err(_) => Err(LineFault::Date),
-    }
-}
 
 #[tactic(auto, unfolding(crate::specs::Line::member_line))]
 fn member_of(row: &ByteRecord) -> Result<Command, LineFault>

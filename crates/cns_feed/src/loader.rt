@@ -1,16 +1,17 @@
 // Loads.
-ghost use Rattle.std.specs.Prelude.{◌≡◌, ◌-◌, ◌^◌, ◌<◌, List, length, IfOk, IfErr, IfSome, OnOk};
+ghost use Rattle.std.specs.Prelude.{◌≡◌, ◌⊎◌, ◌-◌, ◌^◌, ◌<◌, ◌≤◌, List, length, IfOk, IfErr, IfSome, OnOk};
 ghost use Rattle.cns_terms.specs.Machine.{opened};
 ghost use Rattle.cns_book.specs.Log.{state_of};
 ghost use Rattle.cns_feed.specs.Line.{Line};
 ghost use Rattle.cns_feed.specs.Output.{Counts, lines_of, outcomes};
-ghost use Rattle.cns_feed.specs.Records.{Pending};
-ghost use Rattle.cns_feed.specs.Replay.{IsSilent, IsUpTo, Takes, blank_log, log_after};
+ghost use Rattle.cns_feed.specs.Records.{EndsReading, Pending, Setup};
+ghost use Rattle.cns_feed.specs.Replay.{HasRoomFor, IsUpTo, Takes, blank_log, log_after};
+ghost use Rattle.cns_feed.specs.declared.fault.ReplayFault.TheVariants as fault;
 
 use crate::batch::{Batch, prefetch};
 use crate::fault::ReplayFault;
 use crate::line::Line;
-use crate::outcome::{ReplayBook, take_line};
+use crate::outcome::{ReplayBook, new_book, take_line};
 use crate::records::{MOST_RECORDS, Records};
 use crate::summary::Summary;
 use cns_book::Book;
@@ -25,10 +26,11 @@ fn take_batch<P: Positions<Global>>(
     lines: &[Line],
     summary: &mut Summary,
 ) -> Result<(), ReplayFault>
-    requires few { length lines.now < 2 ^ 8 }
     requires counts { IsUpTo summary.old (2 ^ 63) }
+    requires few { length lines.now ≤ 16 }
+    requires room { HasRoomFor book.old (length lines.now) }
     ensures takes { OnOk result (Takes book.old book.new summary.old summary.new lines.now) }
-    ensures err { IfErr result IsSilent }
+    ensures err { IfErr result (λ e. e ≡ fault.NoMemory) }
 {
     prefetch(book, lines);
     for line in lines {
@@ -43,11 +45,13 @@ pub(crate) fn take_all<P: Positions<Global>, R: Read>(
     records: &mut Records<R>,
     book: &mut Book<P, Global>,
 ) -> Result<Summary, ReplayFault>
+    requires setup { Setup records.old.rows }
+    requires room { HasRoomFor book.old records.old.left }
     ensures few { OnOk result ((all : List Line) → Pending R.remaining records.old all → length all < records.old.left) }
     ensures after { OnOk result ((all : List Line) → Pending R.remaining records.old all → book.new ≡ log_after book.old all) }
     ensures counts { IfOk result (λ s. (all : List Line) → Pending R.remaining records.old all
         → Counts s (outcomes (state_of book.old) all)) }
-    ensures err { IfErr result IsSilent }
+    ensures err { IfErr result (λ e. (e ≡ fault.NoMemory) ⊎ EndsReading e records.new) }
 {
     let mut summary = Summary::new();
     let mut batch = Batch::new();
@@ -64,7 +68,8 @@ pub(crate) fn take_all<P: Positions<Global>, R: Read>(
 /// The book after the command of each record of the reader, in order, all of the first worker, on a new book that
 /// opens on the date, and the counts; nothing is written.
 ///
-/// A record at fault is counted and changes nothing. The errors are those of `replay` without `Write`.
+/// A record at fault is counted and changes nothing. `Read` where the reader fails, or has given
+/// 4,294,967,295 records; `NoMemory` where a growth was refused; no other fault comes.
 pub fn load<R: Read + Drop>(
     alloc: Global,
     reader: R,
@@ -75,11 +80,9 @@ pub fn load<R: Read + Drop>(
     ensures counts { IfOk result (λ p. IfSome (R.remaining reader)
         (λ input. Counts p.1 (outcomes (opened date) (lines_of input)))) }
     ensures few { OnOk result (IfSome (R.remaining reader) (λ input. length (lines_of input) < 2 ^ 32 - 1)) }
-    ensures err { IfErr result IsSilent }
+    ensures err { IfErr result (λ e. (e ≡ fault.NoMemory) ⊎ (e ≡ fault.Read)) }
 {
-    let Ok(mut book) = ReplayBook::new(alloc, date) else {
-        return Err(ReplayFault::NoMemory);
-    };
+    let mut book = new_book(alloc, date)?;
     let summary = take_all(&mut Records::new(alloc, reader), &mut book)?;
     Ok((book, summary))
 }

@@ -3,7 +3,8 @@ ghost use Rattle.std.specs.Prelude.{◌≡◌, IfOk, IfErr, OnOk};
 ghost use Rattle.cns_units.specs.Output.{Writes};
 ghost use Rattle.cns_book.specs.Log.{state_of};
 ghost use Rattle.cns_feed.specs.Output.{outcome_of, outcome_text, rows_told};
-ghost use Rattle.cns_feed.specs.Replay.{IsSilent, log_after_line};
+ghost use Rattle.cns_feed.specs.Replay.{HasRoomFor, blank_log, log_after_line};
+ghost use Rattle.cns_feed.specs.declared.fault.ReplayFault.TheVariants as fault;
 
 use crate::fault::{LineFault, ReplayFault};
 use crate::line::Line;
@@ -12,7 +13,7 @@ use cns_book::{Book, TakeFault};
 use cns_positions::{Positions, TreePositions};
 use cns_statements::write_rows;
 use cns_terms::{Reply, Row, Worker};
-use cns_units::WriteFault;
+use cns_units::{Day, WriteFault};
 use std::alloc::Global;
 use std::io::Write;
 
@@ -26,14 +27,26 @@ pub(crate) enum Outcome {
     AtFault(LineFault),
 }
 
+// A book that has taken nothing, with room for as many commands as there may be records.
+pub(crate) fn new_book(alloc: Global, date: Day) -> Result<ReplayBook, ReplayFault>
+    ensures book { IfOk result (λ b. b ≡ blank_log date) }
+    ensures err { IfErr result (λ e. e ≡ fault.NoMemory) }
+{
+    match ReplayBook::new(alloc, date) {
+        Ok(book) => Ok(book),
+        Err(_) => Err(ReplayFault::NoMemory),
+    }
+}
+
 // Takes the command that a record was read as, if it is one.
 pub(crate) fn take_line<P: Positions<Global>>(
     book: &mut Book<P, Global>,
     line: &Line,
 ) -> Result<Outcome, ReplayFault>
+    requires room { HasRoomFor book.old 1 }
     ensures outcome { IfOk result (λ o. o ≡ outcome_of (state_of book.old) line.now) }
     ensures after { OnOk result (book.new ≡ log_after_line book.old line.now) }
-    ensures err { IfErr result IsSilent }
+    ensures err { IfErr result (λ e. e ≡ fault.NoMemory) }
 {
     let command = match line {
         Ok(command) => command,
@@ -51,8 +64,9 @@ pub(crate) fn take_line<P: Positions<Global>>(
 fn rows_told<'a, P: Positions<Global>>(book: &'a Book<P, Global>, reply: &Reply) -> &'a [Row]
     ensures { result.now ≡ rows_told (state_of book.now) reply.now }
 {
-    let Reply::Stated(stated) = reply else {
-        return &[];
+    let stated = match reply {
+        Reply::Stated(stated) => stated,
+        Reply::Accepted | Reply::Closed(_) | Reply::Held(_, _) | Reply::Refused(_) => return &[],
     };
     match book.sheet(stated.date) {
         Some(sheet) => sheet.rows_of(stated.account),

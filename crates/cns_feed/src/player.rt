@@ -1,18 +1,18 @@
 // Replays.
-ghost use Rattle.std.specs.Prelude.{◌≡◌, ◌-◌, ◌^◌, ◌<◌, List, length, OnOk, IfOk, IfErr, IfSome};
+ghost use Rattle.std.specs.Prelude.{◌≡◌, ◌≢◌, ◌-◌, ◌^◌, ◌<◌, ◌≤◌, List, [], length, OnOk, IfOk, IfErr, IfSome};
 ghost use Rattle.std.specs.Io.KnownBytes.{Appends, Keeps};
 ghost use Rattle.cns_terms.specs.Machine.{opened};
 ghost use Rattle.cns_book.specs.Log.{state_of};
 ghost use Rattle.cns_feed.specs.Line.{Line};
 ghost use Rattle.cns_feed.specs.Output.{Counts, line_text, lines_of, outcome_of, outcomes, output, texts};
-ghost use Rattle.cns_feed.specs.Records.{Pending};
-ghost use Rattle.cns_feed.specs.Replay.{IsUpTo, Leaves, Stops, Takes, log_after_line};
+ghost use Rattle.cns_feed.specs.Records.{Pending, ReadTo, Setup};
+ghost use Rattle.cns_feed.specs.Replay.{HasRoomFor, IsUpTo, LeavesAt, Stops, StopsReplay, Takes, log_after_line};
 ghost use Rattle.cns_feed.specs.declared.fault.ReplayFault.TheVariants as fault;
 
 use crate::batch::{Batch, prefetch};
 use crate::fault::ReplayFault;
 use crate::line::Line;
-use crate::outcome::{Outcome, ReplayBook, take_line, write_outcome};
+use crate::outcome::{Outcome, new_book, take_line, write_outcome};
 use crate::records::{MOST_RECORDS, Records};
 use crate::summary::Summary;
 use cns_book::Book;
@@ -27,10 +27,11 @@ fn play_line<P: Positions<Global>, W: Write>(
     line: &Line,
     writer: &mut W,
 ) -> Result<Outcome, ReplayFault>
+    requires room { HasRoomFor book.old 1 }
     ensures outcome { IfOk result (λ o. o ≡ outcome_of (state_of book.old) line.now) }
     ensures after { OnOk result (book.new ≡ log_after_line book.old line.now) }
     ensures text { OnOk result (Appends (W.contents writer.old) (W.contents writer.new) (line_text (state_of book.old) line.now)) }
-    ensures err { IfErr result (λ e. Leaves e (W.contents writer.old) (W.contents writer.new) (line_text (state_of book.old) line.now)) }
+    ensures err { IfErr result (λ e. LeavesAt e (W.contents writer.old) (W.contents writer.new) (line_text (state_of book.old) line.now)) }
 {
     let outcome = take_line(book, line)?;
     match write_outcome(book, &outcome, writer) {
@@ -46,11 +47,14 @@ fn play_batch<P: Positions<Global>, W: Write>(
     writer: &mut W,
     summary: &mut Summary,
 ) -> Result<(), ReplayFault>
-    requires few { length lines.now < 2 ^ 8 }
     requires counts { IsUpTo summary.old (2 ^ 63) }
+    requires few { length lines.now ≤ 16 }
+    requires room { HasRoomFor book.old (length lines.now) }
     ensures takes { OnOk result (Takes book.old book.new summary.old summary.new lines.now) }
     ensures text { OnOk result (Appends (W.contents writer.old) (W.contents writer.new) (texts (state_of book.old) lines.now)) }
-    ensures fault { IfErr result (λ e. Stops e (W.contents writer.old) (W.contents writer.new) (state_of book.old) lines.now) }
+    // The fault comes at one of the lines.
+    ensures fault { IfErr result (λ e. (s : Stops e (W.contents writer.old) (W.contents writer.new) (state_of book.old) lines.now)
+        × (s.unread ≡ []) × (0 < length s.waiting)) }
 {
     prefetch(book, lines);
     for line in lines {
@@ -81,13 +85,17 @@ pub(crate) fn play<P: Positions<Global>, R: Read, W: Write>(
     book: &mut Book<P, Global>,
     writer: &mut W,
 ) -> Result<Summary, ReplayFault>
+    requires setup { Setup records.old.rows }
+    requires room { HasRoomFor book.old records.old.left }
     ensures few { OnOk result ((all : List Line) → Pending R.remaining records.old all → length all < records.old.left) }
     ensures text { OnOk result ((all : List Line) → Pending R.remaining records.old all
         → Appends (W.contents writer.old) (W.contents writer.new) (texts (state_of book.old) all)) }
     ensures counts { IfOk result (λ s. (all : List Line) → Pending R.remaining records.old all
         → Counts s (outcomes (state_of book.old) all)) }
     ensures fault { IfErr result (λ e. (all : List Line) → Pending R.remaining records.old all
-        → Stops e (W.contents writer.old) (W.contents writer.new) (state_of book.old) all) }
+        → (s : Stops e (W.contents writer.old) (W.contents writer.new) (state_of book.old) all)
+        × ReadTo e records.old records.new s.answered s.waiting) }
+    ensures room { IfErr result (λ e. e ≢ fault.Full) }
 {
     let mut summary = Summary::new();
     let mut batch = Batch::new();
@@ -106,10 +114,10 @@ pub(crate) fn play<P: Positions<Global>, R: Read, W: Write>(
 /// Takes the command of each record of the reader, in order, on a new book that opens on the date, and writes the
 /// reply to each; for a record at fault it writes `line` and the fault, and goes on.
 ///
-/// `Read` where the reader fails, or has given 4,294,967,295 records; `NoMemory` where a growth was refused;
-/// `Full` where the book's history is at its limit, which has room for as many commands. After these the replies to the
-/// records before were written. `Write` where the writer fails, takes no byte or cannot be flushed: a front of the
-/// text was written, up to and with that of the record whose reply failed.
+/// `Read` where the reader fails, or has given 4,294,967,295 records: all that were read are answered. `NoMemory` where
+/// a growth was refused: the records before the one at which it was are answered. `Write` where the writer fails, takes
+/// no byte or cannot be flushed: the records before are answered, and of the next reply a front was written that is not
+/// all of it. `Full` does not come, since the history has room for as many commands.
 ///
 /// Before the reader is asked for more, all records that it gave whole are answered, and the writer is flushed. After a
 /// failure neither the reader nor the writer is called again. A buffer on the reader's side is not needed: blocks of
@@ -126,12 +134,11 @@ pub fn replay<R: Read + Drop, W: Write>(
     ensures counts { IfOk result (λ s. IfSome (R.remaining reader)
         (λ input. Counts s (outcomes (opened date) (lines_of input)))) }
     ensures few { OnOk result (IfSome (R.remaining reader) (λ input. length (lines_of input) < 2 ^ 32 - 1)) }
-    // The records before the fault are answered, and of the next what the fault leaves.
+    // The records before the fault are answered, and of the one that it came at, if any, what the fault leaves.
     ensures fault { IfErr result (λ e. IfSome (R.remaining reader)
-        (λ input. Stops e (W.contents writer.old) (W.contents writer.new) (opened date) (lines_of input))) }
+        (λ input. StopsReplay e date input (W.contents writer.old) (W.contents writer.new))) }
+    ensures room { IfErr result (λ e. e ≢ fault.Full) }
 {
-    let Ok(mut book) = ReplayBook::new(alloc, date) else {
-        return Err(ReplayFault::NoMemory);
-    };
+    let mut book = new_book(alloc, date)?;
     play(&mut Records::new(alloc, reader), &mut book, writer)
 }

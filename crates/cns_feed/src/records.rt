@@ -1,9 +1,9 @@
 // The records of a reader, one after another.
-ghost use Rattle.std.specs.Prelude.{◌≡◌, ◌-◌, ◌^◌, IfSome};
+ghost use Rattle.std.specs.Prelude.{◌≡◌, ◌+◌, ◌-◌, ◌^◌, IfSome, length};
+ghost use Rattle.csv.specs.Reading.{error_kind};
 ghost use Rattle.csv.specs.Records.{fields_of};
 ghost use Rattle.cns_feed.specs.Output.{lines_of};
-ghost use Rattle.cns_feed.specs.Records.{Pending, ReadsBatch, ReadsLine};
-ghost use Rattle.cns_feed.specs.Replay.{IsSilent};
+ghost use Rattle.cns_feed.specs.Records.{Pending, ReadsBatch, ReadsLine, Setup, fault_of};
 
 use crate::batch::{BATCH, Batch};
 use crate::fault::ReplayFault;
@@ -26,7 +26,7 @@ pub(crate) struct Records<R> {
 
 // What an error of the reader is to a replay.
 fn fault_of(error: csv::Error) -> ReplayFault
-    ensures { IsSilent result }
+    ensures { result ≡ fault_of (error_kind error) }
 {
     match error.kind() {
         ErrorKind::OutOfMemory => ReplayFault::NoMemory,
@@ -38,6 +38,7 @@ impl<R: Read> Records<R> {
     /// No record was read yet.
     pub(crate) fn new(alloc: Global, reader: R) -> Records<R>
         ensures left { result.left ≡ 2 ^ 32 - 1 }
+        ensures setup { Setup result.rows }
         ensures pending { IfSome (R.remaining reader) (λ input. Pending R.remaining result (lines_of input)) }
     {
         let rows = ReaderBuilder::new()
@@ -58,6 +59,7 @@ impl<R: Read> Records<R> {
 
     // The next record, if there is one. After the most records it is a fault to ask.
     fn read_line(&mut self) -> Result<Option<Line>, ReplayFault>
+        requires { Setup self.old.rows }
         ensures { ReadsLine R.remaining self.old self.new result }
     {
         if self.left == 0 {
@@ -76,7 +78,9 @@ impl<R: Read> Records<R> {
     /// Reads the next few records, in the place of what was read before: only the first of them may cost a call of the
     /// reader. False where there is no more.
     pub(crate) fn read_batch(&mut self, batch: &mut Batch) -> Result<bool, ReplayFault>
-        ensures { ReadsBatch R.remaining self.old self.new result batch.new }
+        requires { Setup self.old.rows }
+        ensures reads { ReadsBatch R.remaining self.old self.new result batch.new }
+        ensures left { self.new.left + length batch.new ≡ self.old.left }
     {
         batch.clear();
         for _place in 0..BATCH {

@@ -40,7 +40,9 @@ impl Summary {
                 self.commands += 1;
                 self.closes += 1;
             }
-            Outcome::Replied(_) => self.commands += 1,
+            Outcome::Replied(
+                Reply::Accepted | Reply::Held(_, _) | Reply::Stated(_) | Reply::Refused(_),
+            ) => self.commands += 1,
         }
     }
 }

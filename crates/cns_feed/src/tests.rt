@@ -68,7 +68,7 @@ fn replay_on<P: Positions<Global>, R: Read + Drop, W: Write>(
 }
 
 fn replays_each_script<P: Positions<Global>, A: Abort>(rt: &A, alloc: Global) -> Result<(), Fail> {
-    for script in &SCRIPTS {
+    for script in SCRIPTS.into_iter().flatten() {
         let name = script.name;
         let date = day(script.opening)?;
         let mut output = Vec::new(alloc);
@@ -85,7 +85,7 @@ fn replays_each_script<P: Positions<Global>, A: Abort>(rt: &A, alloc: Global) ->
 }
 
 fn loads_each_script<P: Positions<Global>, A: Abort>(rt: &A, alloc: Global) -> Result<(), Fail> {
-    for script in &SCRIPTS {
+    for script in SCRIPTS.into_iter().flatten() {
         let name = script.name;
         let Ok(mut book) = Book::<P, Global>::new(alloc, day(script.opening)?) else {
             return Err(Fail::new(name));

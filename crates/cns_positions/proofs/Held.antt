@@ -11,7 +11,8 @@ use Rattle.std.proofs.Math.Bool.{and_comm}
 use Rattle.cns_terms.specs.declared.holding.Key.{Key}
 use Rattle.cns_terms.specs.declared.holding.Holding.{Holding}
 use Rattle.cns_terms.specs.Keys.{key_cmp}
-use Rattle.cns_terms.proofs.Finds.{less, next_above, sorted_filter}
+use Rattle.cns_terms.proofs.Facts.{less}
+use Rattle.cns_terms.proofs.Finds.{next_above, sorted_filter}
 use Rattle.cns_terms.proofs.Keys.{keys_total}
 use Rattle.std.specs.List.{find}
 use Rattle.cns_positions.specs.Rows.{AreNext, Rows, held_above, is_above, is_held, last_of, present, zeros}

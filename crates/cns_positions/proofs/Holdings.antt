@@ -11,12 +11,12 @@ use Rattle.std.specs.FinMap.{put, find, is_sorted}
 use Rattle.std.specs.FinMap.Entries.{find-put, is_sorted-put, below_all}
 use Rattle.std.proofs.lemmas.Cmp.{eq_by_cmp_equiv}
 use Rattle.std.proofs.lemmas.Int.{ints}
-use Rattle.std.specs.declared.cmp.Ordering.{Ordering}
 use Rattle.std.specs.declared.cmp.Ordering.TheVariants.{Less, Equal, Greater}
 use Rattle.cns_terms.specs.declared.holding.Key.{Key}
 use Rattle.cns_terms.specs.declared.holding.Holding.{Holding}
 use Rattle.cns_positions.specs.Rows.{Rows, holding_at, zeros, booked, entry_of, rolled}
 use Rattle.cns_terms.specs.Keys.{key_cmp}
+use Rattle.cns_terms.proofs.Facts.{equal}
 use Rattle.cns_positions.specs.Contents.{has_row, closed_rows}
 use Rattle.cns_terms.proofs.Keys.{keys_total, exact_keys, same_key}
 
@@ -51,12 +51,6 @@ row_stays es k v q e = ap is_some (find-put key_cmp keys_total q k v es) ∙ eit
 -- and the key's own is there
 pub row_put : (es : Rows) (k : Key) (v : Holding) → has_row (put key_cmp k v es) k ≡ true
 row_put es k v = ap is_some (find-put key_cmp keys_total k k v es ∙ ap (λ b. cond b (Some v) (find key_cmp k es)) ((eq_by_cmp_equiv keys_total).refl k))
-
--- a tie, as a test answers it
-pub equal : (r : Ordering) → is_eq r ≡ true → r ≡ Equal
-equal Less e = cc
-equal Equal e = refl
-equal Greater e = cc
 
 at_tied : (b : Bool) (es : Rows) (k q : Key) (v : Holding) → is_eq (key_cmp q k) ≡ b → holding_at es k ≡ v → cond b v (holding_at es q) ≡ holding_at es q
 at_tied true es k q v t e = sym e ∙ ap (holding_at es) (sym (exact_keys q k (equal _ t)))

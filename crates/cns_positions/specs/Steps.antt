@@ -1,5 +1,6 @@
 -- What steps on an empty map reply.
-use Rattle.std.specs.Prelude.{ℕ, ◌*◌, ◌^◌, ◌≤◌, List, [], ◌∷◌, ◌++◌, unsigned_abs}
+use Rattle.std.specs.Prelude.{◌+ℤ◌, List, [], ◌∷◌, ◌++◌, FitsSigned}
+use Rattle.std.specs.Int.{w64, w128}
 use Rattle.cns_terms.specs.declared.holding.Holding.{Holding}
 use Rattle.cns_terms.specs.declared.holding.Key.{Key}
 use Rattle.cns_positions.specs.Rows.{booked, entry_of, rolled, zeros}
@@ -31,13 +32,13 @@ unfoldable pub replies : Map → List Step → List Holding
 replies m [] = []
 replies m (s ∷ ss) = reply_to m s ++ replies (after_step m s) ss
 
--- no number of the map is larger than so many steps can make it
-pub record IsSmallMap (n : ℕ) (m : Map) : Type 0 where
-  pub shares : (k : Key) → unsigned_abs (m k).now ≤ 10 ^ 9 * n
-  pub cents : (k : Key) → unsigned_abs (m k).contract ≤ 10 ^ 18 * n
+-- the sums of a step fit in what holds them
+abbrev pub StepFits : Map → Step → Type 0
+StepFits m (Get k) = Unit {0}
+StepFits m (Add k shares cents) = FitsSigned w64 ((m k).now +ℤ shares) × FitsSigned w128 ((m k).contract +ℤ cents)
+StepFits m Roll = Unit {0}
 
--- a step adds no more than a command can
-abbrev pub IsSmallStep : Step → Type 0
-IsSmallStep (Get k) = Unit {0}
-IsSmallStep (Add k shares cents) = (unsigned_abs shares ≤ 10 ^ 9) × (unsigned_abs cents ≤ 10 ^ 18)
-IsSmallStep Roll = Unit {0}
+-- and so do those of each step, one after another
+unfoldable pub SumsFit : Map → List Step → Type 0
+SumsFit m [] = Unit {0}
+SumsFit m (s ∷ ss) = StepFits m s × SumsFit (after_step m s) ss

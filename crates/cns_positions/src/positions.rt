@@ -11,7 +11,7 @@ use arrayvec::ArrayVec;
 use cns_terms::{Holding, Key, NoMemory};
 
 /// A key and what stands at it.
-pub type Row = (Key, Holding);
+pub(crate) type Row = (Key, Holding);
 
 /// How many rows `next_rows` hands out at most.
 pub const ROWS_AT_ONCE: usize = 32;
@@ -72,19 +72,8 @@ pub trait Positions<A>: Drop {
     /// The next of the rows that aren't zeros, above a key or from the first on, as `next_row` gives them one by one. A
     /// pass over all rows asks for those above the last that it was given, until none is given.
     fn next_rows(&self, after: Option<Key>) -> NextRows
-        ensures { AreNext (rows self.now) after (present result.items) }
-    {
-        let mut given: NextRows = ArrayVec::new();
-        let mut after = after;
-        while !given.is_full() {
-            let Some(row) = self.next_row(after) else {
-                return given;
-            };
-            after = Some(row.0);
-            given.push(Some(row));
-        }
-        given
-    }
+        ensures next { AreNext (rows self.now) after (present result.items) }
+        ensures order { is_sorted key_cmp (rows self.now) ≡ true };
 
     /// The map of the given rows, on the allocator of this one. Where memory is refused nothing has changed.
     fn rebuilt(&self, given: &[Row]) -> Result<Self, NoMemory>

@@ -1,9 +1,9 @@
 // Steps on an empty map.
-ghost use Rattle.std.specs.Prelude.{◌≡◌, ◌^◌, ◌≤◌, ◌++◌, IfOk, OnOk, length, unsigned_abs};
-ghost use Rattle.std.specs.List.{AllByRecursion};
+ghost use Rattle.std.specs.Prelude.{◌≡◌, ◌+ℤ◌, ◌++◌, IfOk, OnOk, FitsSigned};
+ghost use Rattle.std.specs.Int.{w64, w128};
 ghost use Rattle.cns_terms.specs.declared.holding.Key.{Key};
 ghost use Rattle.cns_positions.specs.Rows.{booked, entry_of, holding_at};
-ghost use Rattle.cns_positions.specs.Steps.{IsSmallMap, IsSmallStep, after_step, nowhere, replies, reply_to};
+ghost use Rattle.cns_positions.specs.Steps.{StepFits, SumsFit, after_step, nowhere, replies, reply_to};
 
 use crate::positions::Positions;
 use cns_terms::{Holding, Key, NoMemory};
@@ -27,8 +27,8 @@ fn add<P: Positions<A>, A>(
     shares: i64,
     cents: i128,
 ) -> Result<(), NoMemory>
-    requires small { (unsigned_abs shares ≤ 10 ^ 9) × (unsigned_abs cents ≤ 10 ^ 18) }
-    requires map { IsSmallMap (2 ^ 32) (holding_at (P.rows positions.old)) }
+    requires shares_fit { FitsSigned w64 ((holding_at (P.rows positions.old) key.now).now +ℤ shares) }
+    requires cents_fit { FitsSigned w128 ((holding_at (P.rows positions.old) key.now).contract +ℤ cents) }
     ensures { OnOk result ((k : Key) → holding_at (P.rows positions.new) k ≡ booked (entry_of key.now shares cents) k (holding_at (P.rows positions.old) k)) }
 {
     positions.prepare(&[*key])?;
@@ -42,8 +42,7 @@ fn take_step<P: Positions<A>, A, B: Allocator + Drop>(
     holdings: &mut Vec<Holding, B>,
     step: &Step,
 ) -> Result<(), NoMemory>
-    requires step { IsSmallStep step.now }
-    requires map { IsSmallMap (2 ^ 32) (holding_at (P.rows positions.old)) }
+    requires { StepFits (holding_at (P.rows positions.old)) step.now }
     ensures map { OnOk result ((k : Key) → holding_at (P.rows positions.new) k ≡ after_step (holding_at (P.rows positions.old)) step.now k) }
     ensures reply { OnOk result (holdings.new.items ≡ holdings.old.items ++ reply_to (holding_at (P.rows positions.old)) step.now) }
 {
@@ -61,13 +60,13 @@ fn take_step<P: Positions<A>, A, B: Allocator + Drop>(
 
 /// The replies to the Gets among steps on an empty map, whose Adds prepare their keys first.
 ///
-/// Any form of positions gives the same replies. `NoMemory` where a growth was refused.
+/// Any form of positions gives the same replies. The sums at each key have to fit in what holds them; no more is asked.
+/// `NoMemory` where a growth was refused.
 pub fn run<P: Positions<A>, A: Allocator + Clone + Drop>(
     alloc: A,
     steps: &[Step],
 ) -> Result<Vec<Holding, A>, NoMemory>
-    requires few { length steps.now ≤ 2 ^ 32 }
-    requires small { AllByRecursion IsSmallStep steps.now }
+    requires { SumsFit nowhere steps.now }
     ensures { IfOk result (λ v. v.items ≡ replies nowhere steps.now) }
 {
     let mut positions = P::new(alloc.clone()?);

@@ -2,7 +2,8 @@
 ghost use Rattle.std.specs.Prelude.{◌≡◌, ◌<◌, ◌≤◌, length};
 ghost use Rattle.cns_positions.specs.Rows.{IsThere};
 
-use crate::{FlatPositions, NextRows, Positions, Row, Step, TreePositions, run};
+use crate::positions::Row;
+use crate::{FlatPositions, NextRows, Positions, Step, TreePositions, run};
 use cns_terms::{Holding, Key};
 use cns_units::{Account, Cusip};
 use std::alloc::Global;

@@ -9,7 +9,8 @@ use Rattle.std.specs.declared.ops.Bound.{Bound}
 use Rattle.std.specs.declared.ops.Bound.TheVariants.{Excluded, Unbounded}
 use Rattle.std.proofs.lemmas.Cmp.{nat_list_cmp_total}
 use Rattle.cns_units.specs.declared.cusip.Cusip.{Cusip}
-use Rattle.cns_terms.proofs.Finds.{less, next_above}
+use Rattle.cns_terms.proofs.Facts.{less}
+use Rattle.cns_terms.proofs.Finds.{next_above}
 use Rattle.cns_prices.specs.declared.prices.Quote.{Quote}
 use Rattle.cns_prices.specs.Listed.{Listed, is_after, listed_above}
 

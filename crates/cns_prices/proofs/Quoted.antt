@@ -1,6 +1,6 @@
 -- One quote more, or another.
 use Rattle.std.proofs.Common.{◌≡◌, ◌∙◌, sym, ap, refl, Bool, true, false, cond, Option, Some, None}
-use Rattle.std.specs.Prelude.{bytes_eq, option_map, ◌||◌, Result, Ok, Err, OnOk, OnErr, IsOk}
+use Rattle.std.specs.Prelude.{bytes_eq, option_map, ◌||◌, Result, Ok, Err, OnOk, OnErr}
 use Rattle.std.specs.Option.{option_map_or, IsSome}
 use Rattle.std.specs.Ordering.{nat_cmp, is_eq}
 use Rattle.std.specs.Cmp.Lexicographic.{slice_cmp}
@@ -8,7 +8,7 @@ use Rattle.std.proofs.lemmas.Map.Text.{is_eq-slice_cmp}
 use Rattle.std.proofs.lemmas.Slice.Eq.{bytes_eq-Decides}
 use Rattle.cns_units.specs.declared.cusip.Cusip.{Cusip}
 use Rattle.cns_prices.specs.declared.prices.Quote.{Quote}
-use Rattle.cns_prices.specs.Listed.{Listed, IsIndex, Quotes, quote_in, price_in, retired_in}
+use Rattle.cns_prices.specs.Listed.{Listed, Quotes, quote_in, price_in, retired_in}
 
 price_branch : (b : Bool) (q : Quote) (o : Option Quote) → option_map (λ (q : Quote). q.price) (cond b (Some q) o) ≡ cond b (Some q.price) (option_map (λ q. q.price) o)
 price_branch true q o = refl
@@ -71,13 +71,3 @@ retires old new k q h is c = marked old new k q h c ∙ ap (λ r. cond (bytes_eq
 pub succeeded : {X E P Q : Type 0} (r : Result X E) → OnOk r P → OnErr r Q → (Q → ⊥) → P
 succeeded (Ok x) p q never = p
 succeeded (Err e) p q never = absurd (never q)
-
--- and where it is known to have succeeded
-pub done : {X E P : Type 0} (r : Result X E) → OnOk r P → IsOk r → P
-done (Ok x) p is = p
-done (Err e) p is = cc
-
--- both maps after the same quote at the same issue
-pub indexed : (quotes issues quotes' issues' : Listed) (k : Cusip) (q : Quote) → IsIndex quotes issues → Quotes quotes quotes' k q → Quotes issues issues' k q → IsIndex quotes' issues'
-indexed quotes issues quotes' issues' k q is one two c =
-    one c ∙ ap (cond (is_eq (slice_cmp nat_cmp k c)) (Some q)) (is c) ∙ sym (two c)

@@ -36,7 +36,3 @@ listed_above issues after = map (λ e. (e.0, e.1.price)) (filter (λ e. is_after
 -- the issues have the quote at the issue, and at each other what they had
 abbrev pub Quotes : Listed → Listed → Cusip → Quote → Type 0
 Quotes old new k q = (c : Cusip) → quote_in new c ≡ (if is_eq (slice_cmp nat_cmp k c) then Some q else quote_in old c)
-
--- each issue has the same quote in both
-abbrev pub IsIndex : List (Cusip × Quote) → Listed → Type 0
-IsIndex quotes issues = (c : Cusip) → quote_in quotes c ≡ quote_in issues c

@@ -9,8 +9,7 @@ ghost use Rattle.cns_prices.specs.Listed.{price_in, retired_in, quote_in, listed
 use cns_terms::NoMemory;
 use cns_units::{Cusip, Price};
 use std::alloc::Allocator;
-use std::collections::{BTreeMap, HashMap};
-use std::hash::{BuildHasherDefault, FoldHasher};
+use std::collections::BTreeMap;
 use std::marker::Model;
 use std::ops::Bound;
 
@@ -24,44 +23,35 @@ pub struct Quote {
 }
 
 /// The listed issues with their prices, in the order of the bytes of their CUSIPs.
-///
-/// Every trade asks for an issue, so what is known of each stands in a table by hash, too.
 #[derive(Drop)]
 pub struct Prices<A: Allocator + Drop> {
     issues: BTreeMap<Cusip, Quote, A>,
-    // The same quotes, for look-ups.
-    quotes: HashMap<Cusip, Quote, BuildHasherDefault<FoldHasher>, A>,
 }
 
 impl<A: Allocator + Drop> Model for Prices<A> {
-    ghost use Rattle.cns_prices.specs.Listed.{Listed, IsIndex};
+    ghost use Rattle.cns_prices.specs.Listed.{Listed};
 
     ghost Value = { Listed };
 
     ghost view = { λ p. p.issues.entries };
-
-    ghost invariant = { λ p. IsIndex p.quotes.entries p.issues.entries };
 }
 
 impl<A: Allocator + Drop> Prices<A> {
-    /// No issue is listed yet. `NoMemory` where the allocator could not be copied.
-    pub fn new(alloc: A) -> Result<Self, NoMemory>
-    where
-        A: Clone,
-        ensures price { IfOk result (λ p. (c : Cusip) → price_in p c ≡ None) }
-        ensures retired { IfOk result (λ p. (c : Cusip) → retired_in p c ≡ false) }
+    /// No issue is listed yet. It takes no memory.
+    pub fn new(alloc: A) -> Self
+        ensures price { (c : Cusip) → price_in result c ≡ None }
+        ensures retired { (c : Cusip) → retired_in result c ≡ false }
     {
-        Ok(Prices {
-            issues: BTreeMap::new(alloc.clone()?),
-            quotes: HashMap::new(alloc),
-        })
+        Prices {
+            issues: BTreeMap::new(alloc),
+        }
     }
 
     /// What is known of an issue; None where it is not listed.
     pub fn quote(&self, cusip: Cusip) -> Option<Quote>
         ensures { result ≡ quote_in self.now cusip }
     {
-        self.quotes.get(&cusip).copied()
+        self.issues.get(&cusip).copied()
     }
 
     /// The price of an issue in cents; None where it is not listed.
@@ -90,18 +80,13 @@ impl<A: Allocator + Drop> Prices<A> {
         ensures retired { OnOk result ((c : Cusip) → retired_in self.new c ≡ retired_in self.old c) }
         ensures err { OnErr result (self.new ≡ self.old) }
     {
-        let cusip = &cusip;
-        let quote = &Quote {
+        let quote = Quote {
             price,
             retired: false,
         };
-        let Ok(()) = self.quotes.reserve(1) else {
+        let Ok(_) = self.issues.insert(cusip, quote) else {
             return Err(NoMemory);
         };
-        let Ok(_) = self.issues.insert(*cusip, *quote) else {
-            return Err(NoMemory);
-        };
-        let _ = self.quotes.insert(*cusip, *quote);
         Ok(())
     }
 
@@ -112,10 +97,7 @@ impl<A: Allocator + Drop> Prices<A> {
         requires { IsSome (quote_in self.old cusip) }
         ensures { Quotes self.old self.new cusip quote }
     {
-        let cusip = &cusip;
-        let quote = &quote;
-        let _ = self.issues.insert(*cusip, *quote);
-        let _ = self.quotes.insert(*cusip, *quote);
+        let _ = self.issues.insert(cusip, quote);
     }
 
     /// Sets the price of an issue that is listed and not retired. It takes no memory.

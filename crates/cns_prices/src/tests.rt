@@ -27,7 +27,7 @@ fn retire(prices: &mut Prices<Global>, issue: Cusip) {
 #[test]
 fn a_price_holds_until_it_is_set_again(rt: HostRuntime) -> Result<(), Fail> {
     let (apple, cisco) = (issue("037833100")?, issue("17275R102")?);
-    let mut prices = Prices::new(rt.alloc())?;
+    let mut prices = Prices::new(rt.alloc());
     assert_eq!(rt; prices.price(apple), None);
     give(&mut prices, apple, 19_500)?;
     give(&mut prices, cisco, 4_600)?;
@@ -41,7 +41,7 @@ fn a_price_holds_until_it_is_set_again(rt: HostRuntime) -> Result<(), Fail> {
 #[test]
 fn an_issue_is_retired_alone_and_keeps_its_price(rt: HostRuntime) -> Result<(), Fail> {
     let (apple, cisco) = (issue("037833100")?, issue("17275R102")?);
-    let mut prices = Prices::new(rt.alloc())?;
+    let mut prices = Prices::new(rt.alloc());
     give(&mut prices, apple, 19_500)?;
     give(&mut prices, cisco, 4_600)?;
     assert!(rt; !prices.is_retired(cisco));
@@ -59,7 +59,7 @@ fn issues_come_in_the_order_of_their_bytes(rt: HostRuntime) -> Result<(), Fail> 
         issue("17275R102")?,
         issue("594918104")?,
     );
-    let mut prices = Prices::new(rt.alloc())?;
+    let mut prices = Prices::new(rt.alloc());
     give(&mut prices, microsoft, 40_000)?;
     give(&mut prices, apple, 19_500)?;
     give(&mut prices, cisco, 4_600)?;
@@ -92,7 +92,7 @@ fn numbered(number: u8) -> Result<Cusip, Fail> {
 
 #[test]
 fn many_issues_are_listed(rt: HostRuntime) -> Result<(), Fail> {
-    let mut prices = Prices::new(rt.alloc())?;
+    let mut prices = Prices::new(rt.alloc());
     for number in 0..=255 {
         give(&mut prices, numbered(number)?, u64::from(number))?;
     }

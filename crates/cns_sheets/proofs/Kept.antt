@@ -10,7 +10,8 @@ use Rattle.cns_units.specs.declared.cusip.Cusip.{Cusip}
 use Rattle.cns_terms.specs.declared.sheet.Row.{Row}
 use Rattle.cns_terms.specs.Keys.{key_cmp}
 use Rattle.cns_terms.specs.Sheets.{is_idle}
-use Rattle.cns_terms.proofs.Finds.{and_left, and_right, both_true, sorted_filter}
+use Rattle.cns_terms.proofs.Facts.{and_left, and_right, both_true}
+use Rattle.cns_terms.proofs.Finds.{sorted_filter}
 use Rattle.cns_terms.proofs.Keys.{keys_total}
 use Rattle.cns_terms.proofs.SheetRows.{Keyed, keyed, says, sorted_keyed}
 use Rattle.cns_positions.specs.Rows.{Rows}
@@ -18,7 +19,7 @@ use Rattle.cns_prices.specs.Listed.{Listed, listed_above, price_in, quote_in}
 use Rattle.cns_sheets.specs.Build.{PriceList, key_of, listed_rows, price_on, priced_row, row_from, rows_from}
 
 -- one row more, or not, with its key
-with_key : (b : Bool) (r : Row) (rs : List Row) (es : Keyed) → map (λ r. (key_of r, r)) rs ≡ es → map (λ r. (key_of r, r)) (cond b (r ∷ rs) rs) ≡ cond b ((key_of r, r) ∷ es) es
+pub with_key : (b : Bool) (r : Row) (rs : List Row) (es : Keyed) → map (λ r. (key_of r, r)) rs ≡ es → map (λ r. (key_of r, r)) (cond b (r ∷ rs) rs) ≡ cond b ((key_of r, r) ∷ es) es
 with_key true r rs es h = ap (λ xs. (key_of r, r) ∷ xs) h
 with_key false r rs es h = h
 

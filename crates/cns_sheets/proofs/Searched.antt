@@ -19,12 +19,14 @@ use Rattle.cns_units.specs.declared.price.Price.{Price}
 use Rattle.cns_terms.specs.declared.holding.Key.{Key}
 use Rattle.cns_terms.specs.declared.sheet.Row.{Row}
 use Rattle.cns_terms.specs.Keys.{key_cmp}
-use Rattle.cns_terms.proofs.Finds.{less, next_above}
+use Rattle.cns_terms.proofs.Finds.{next_above}
 use Rattle.cns_terms.proofs.Keys.{keys_total}
 use Rattle.cns_positions.proofs.Parted.{filter_back, filter_from, filter_front, filter_whole}
 use Rattle.cns_positions.proofs.Puts.{below_later, comparisons_rise, find_at, find_gap}
 use Rattle.cns_prices.specs.Listed.{is_after}
-use Rattle.cns_sheets.specs.Build.{PriceList, by_key, key_of, rows_for}
+use Rattle.cns_terms.specs.Sheets.{rows_for}
+use Rattle.cns_terms.proofs.Facts.{less}
+use Rattle.cns_sheets.specs.Build.{PriceList, by_key, key_of}
 use Rattle.cns_sheets.specs.Search.{prices_above, row_at}
 
 -- ---- rows

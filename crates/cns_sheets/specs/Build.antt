@@ -1,5 +1,5 @@
 -- The rows of a sheet from positions and prices, and what a sheet keeps.
-use Rattle.std.specs.Prelude.{◌≡◌, ◌*◌, ◌^◌, ◌≤◌, ℤ, pos, ◌+ℤ◌, ◌-ℤ◌, ◌*ℤ◌, true, not, ◌==◌, List, [], length, map, filter, Option, Some, None, unwrap_or, unsigned_abs, if◌then◌else◌}
+use Rattle.std.specs.Prelude.{◌≡◌, ◌*◌, ◌^◌, ◌≤◌, ℤ, pos, ◌+ℤ◌, ◌-ℤ◌, ◌*ℤ◌, true, not, List, [], length, map, filter, Option, Some, None, unwrap_or, unsigned_abs, if◌then◌else◌}
 use Rattle.std.specs.Cmp.Lexicographic.{slice_cmp}
 use Rattle.std.specs.FinMap.{find, is_sorted}
 use Rattle.std.specs.List.{AllByRecursion}
@@ -12,7 +12,7 @@ use Rattle.cns_terms.specs.declared.holding.Holding.{Holding}
 use Rattle.cns_terms.specs.declared.holding.Key.{Key}
 use Rattle.cns_terms.specs.declared.sheet.Row.{Row}
 use Rattle.cns_terms.specs.Keys.{key_cmp}
-use Rattle.cns_terms.specs.Sheets.{DaySheet, is_idle}
+use Rattle.cns_terms.specs.Sheets.{DaySheet, is_idle, rows_for}
 use Rattle.cns_terms.specs.Sums.{total, same_issue}
 use Rattle.cns_positions.specs.Rows.{Rows}
 use Rattle.cns_prices.specs.Listed.{Listed, listed_above, price_in}
@@ -79,10 +79,6 @@ key_of r = record { account = r.account; issue = r.issue }
 -- rows with their keys
 abbrev pub by_key : List Row → List (Key × Row)
 by_key rows = map (λ r. (key_of r, r)) rows
-
--- the rows of an account
-abbrev pub rows_for : List Row → Account → List Row
-rows_for rows a = filter (λ r. r.account == a) rows
 
 -- a row's closing position, if it is in the issue
 abbrev pub closing_in : Cusip → Row → ℤ

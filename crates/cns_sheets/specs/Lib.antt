@@ -1,2 +1,3 @@
 pub mod Build
 pub mod Search
+pub mod Condition

@@ -1,16 +1,12 @@
 -- What is looked up in a sheet.
-use Rattle.std.specs.Prelude.{List, length, filter, Option}
+use Rattle.std.specs.Prelude.{List, filter, Option}
 use Rattle.std.specs.FinMap.{find}
-use Rattle.cns_units.specs.declared.account.Account.{Account}
 use Rattle.cns_units.specs.declared.cusip.Cusip.{Cusip}
 use Rattle.cns_terms.specs.declared.holding.Key.{Key}
-use Rattle.cns_terms.specs.declared.reply.Stated.{Stated}
 use Rattle.cns_terms.specs.declared.sheet.Row.{Row}
 use Rattle.cns_terms.specs.Keys.{key_cmp}
-use Rattle.cns_terms.specs.Sheets.{DaySheet}
-use Rattle.cns_terms.specs.Sums.{total}
 use Rattle.cns_prices.specs.Listed.{is_after}
-use Rattle.cns_sheets.specs.Build.{PriceList, by_key, rows_for}
+use Rattle.cns_sheets.specs.Build.{PriceList, by_key}
 
 -- the row of an account in an issue, if there is one
 abbrev pub row_at : List Row → Key → Option Row
@@ -19,15 +15,3 @@ row_at rows k = find key_cmp k (by_key rows)
 -- the prices of the issues above another, or all of them
 abbrev pub prices_above : PriceList → Option Cusip → PriceList
 prices_above prices after = filter (λ e. is_after after e.0) prices
-
--- the first line of an account's statement: how many rows it has, and the sums of their marks and dividends
-abbrev pub stated_from : DaySheet → Account → Stated
-stated_from s a =
-    let rows = rows_for s.rows a in
-    record {
-      account = a;
-      date = s.date;
-      rows = length rows;
-      mark = total (λ r. r.mark) rows;
-      dividend = total (λ r. r.dividend) rows;
-    }

@@ -6,13 +6,14 @@
 //! cents. A row, the rows of an account and a price are found by halving. Start with `Sheet`.
 #![tactic(auto)]
 
+mod cutting;
 mod prices;
 mod quotes;
-mod rows;
 mod search;
 mod sheet;
 mod sums;
 
+pub use cns_terms::Row;
 pub use sheet::Sheet;
 
 #[cfg(test)]

@@ -7,7 +7,8 @@ ghost use Rattle.std.specs.List.Sorted.{IsPartitionPoint, IsSearchInRange};
 ghost use Rattle.std.specs.Ordering.{nat_cmp};
 ghost use Rattle.std.specs.declared.cmp.Ordering.{Ordering};
 ghost use Rattle.cns_terms.specs.Keys.{key_cmp};
-ghost use Rattle.cns_sheets.specs.Build.{key_of, by_key, rows_for};
+ghost use Rattle.cns_terms.specs.Sheets.{rows_for};
+ghost use Rattle.cns_sheets.specs.Build.{key_of, by_key};
 ghost use Rattle.cns_sheets.specs.Search.{prices_above, row_at};
 
 use crate::prices;

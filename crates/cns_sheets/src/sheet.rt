@@ -6,12 +6,14 @@ ghost use Rattle.std.specs.List.{AllByRecursion};
 ghost use Rattle.std.specs.Ordering.{nat_cmp};
 ghost use Rattle.cns_terms.specs.Keys.{key_cmp};
 ghost use Rattle.std.specs.Option.{option_copied};
+ghost use Rattle.cns_terms.specs.Sheets.{rows_for, statement};
 ghost use Rattle.cns_terms.specs.Sums.{total};
-ghost use Rattle.cns_sheets.specs.Build.{AreBalanced, AreFew, HasSmallCents, price_on, prices_of, rows_for, rows_from, sheet_from};
-ghost use Rattle.cns_sheets.specs.Search.{prices_above, row_at, stated_from};
+ghost use Rattle.cns_sheets.specs.Build.{IsMarked, by_key, closing_in, price_on, prices_of, rows_from, sheet_from};
+ghost use Rattle.cns_sheets.specs.Condition.{IsReady, rows_before};
+ghost use Rattle.cns_sheets.specs.Search.{prices_above, row_at};
 
+use crate::cutting::collect;
 use crate::prices::{listed, price_on};
-use crate::rows::collect;
 use crate::search::{next_price, row_at, rows_for};
 use crate::sums::sums;
 use cns_positions::Positions;
@@ -44,6 +46,9 @@ impl<A: Allocator + Drop + Clone> Sheet<A> {
     /// The sheet that a close cuts: a row for each key whose opening, closing or booked cents are not zero, in the
     /// order of keys, with the prices of this close and of the sheet before (NSCC Procedure VII; the mark is this
     /// project's profile). `NoMemory` where a growth was refused, and then nothing has changed.
+    ///
+    /// In each issue the positions have to add up to zero, and so the booked cents, and each opening has to be the
+    /// closing on the sheet before. Then the marks add up to zero.
     pub fn build<P: Positions<B>, B>(
         alloc: A,
         positions: &P,
@@ -51,12 +56,10 @@ impl<A: Allocator + Drop + Clone> Sheet<A> {
         before: Option<&Sheet<A>>,
         date: Day,
     ) -> Result<Self, NoMemory>
-        requires order { is_sorted key_cmp (P.rows positions.now) ≡ true }
-        requires small { AllByRecursion HasSmallCents (P.rows positions.now) }
-        requires balanced { AreBalanced (rows_from (prices_of (option_copied before)) prices.now (P.rows positions.now)) }
-        requires few { AreFew (rows_from (prices_of (option_copied before)) prices.now (P.rows positions.now)) }
+        requires { IsReady (option_copied before) prices.now (P.rows positions.now) }
         ensures sheet { IfOk result (λ s. s ≡ sheet_from date (prices_of (option_copied before.entry)) prices.now (P.rows positions.now)) }
-        ensures order { OnOk result (is_sorted (slice_cmp nat_cmp) prices.now ≡ true) }
+        ensures prices { OnOk result (is_sorted (slice_cmp nat_cmp) prices.now ≡ true) }
+        ensures rows { OnOk result (is_sorted key_cmp (P.rows positions.now) ≡ true) }
     {
         let earlier = prices_before(before);
         let prices = listed(alloc.clone()?, earlier.len(), prices)?;
@@ -70,6 +73,8 @@ impl<A: Allocator + Drop + Clone> Sheet<A> {
 fn prices_before<A: Allocator + Drop>(before: Option<&Sheet<A>>) -> &[(Cusip, Price)]
     ensures prices { result.now ≡ prices_of (option_copied before.entry) }
     ensures order { is_sorted (slice_cmp nat_cmp) result.now ≡ true }
+    ensures rows_rise { is_sorted key_cmp (by_key (rows_before (option_copied before.entry))) ≡ true }
+    ensures closings { (c : Cusip) → total (closing_in c) (rows_before (option_copied before.entry)) ≡ pos 0 }
 {
     match before {
         Some(sheet) => sheet.prices.as_slice(),
@@ -92,9 +97,13 @@ impl<A: Allocator + Drop> Sheet<A> {
         self.rows.len()
     }
 
-    /// The rows, in the order of accounts and then of the bytes of the issues.
+    /// The rows, in the order of accounts and then of the bytes of the issues. Each mark follows its rule, and in each
+    /// issue the closings add up to zero.
     pub fn rows(&self) -> &[Row]
-        ensures { result.now ≡ self.now.rows }
+        ensures rows { result.now ≡ self.now.rows }
+        ensures order { is_sorted key_cmp (by_key self.now.rows) ≡ true }
+        ensures marked { AllByRecursion IsMarked self.now.rows }
+        ensures closings { (c : Cusip) → total (closing_in c) self.now.rows ≡ pos 0 }
     {
         self.rows.as_slice()
     }
@@ -122,7 +131,8 @@ impl<A: Allocator + Drop> Sheet<A> {
 
     /// The first of the sheet's issues above another, or the first of all, with its price in cents; None past the last.
     pub fn next_price(&self, after: Option<Cusip>) -> Option<(Cusip, Price)>
-        ensures { MatchOption result (prices_above self.now.prices after ≡ []) (λ e. prices_above self.now.prices after ≡ e ∷ prices_above self.now.prices (Some e.0)) }
+        ensures order { is_sorted (slice_cmp nat_cmp) self.now.prices ≡ true }
+        ensures next { MatchOption result (prices_above self.now.prices after ≡ []) (λ e. prices_above self.now.prices after ≡ e ∷ prices_above self.now.prices (Some e.0)) }
     {
         next_price(self.prices.as_slice(), after)
     }
@@ -130,7 +140,7 @@ impl<A: Allocator + Drop> Sheet<A> {
     /// The first line of an account's statement: how many rows the account has, and the sums of their marks and of
     /// their dividends, in cents.
     pub fn stated(&self, account: Account) -> Stated
-        ensures { result ≡ stated_from self.now account }
+        ensures { result ≡ statement self.now account }
     {
         let rows = rows_for(self.rows.as_slice(), account);
         let (mark, dividend) = sums(rows);

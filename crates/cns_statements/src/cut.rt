@@ -1,7 +1,7 @@
 // Statements cut from sheets.
 ghost use Rattle.std.specs.Prelude.{◌≡◌, ◌<◌, IfOk, length, OnErr};
 ghost use Rattle.cns_terms.specs.Sums.{total};
-ghost use Rattle.cns_sheets.specs.Build.{rows_for};
+ghost use Rattle.cns_terms.specs.Sheets.{rows_for};
 
 use crate::contents::Statement;
 use crate::rows::Rows;

@@ -14,7 +14,7 @@ use Rattle.cns_units.specs.declared.account.Account.{Account}
 use Rattle.cns_units.specs.declared.cusip.Cusip.{Cusip}
 use Rattle.cns_terms.specs.declared.holding.Key.{Key}
 use Rattle.cns_terms.specs.Keys.{key_cmp}
-use Rattle.cns_terms.proofs.Finds.{and_left, and_right, both_true, less}
+use Rattle.cns_terms.proofs.Facts.{and_left, and_right, both_true, less}
 use Rattle.cns_terms.proofs.Keys.{same_key}
 use Rattle.cns_terms.proofs.Rising.{above_all, is_rising}
 

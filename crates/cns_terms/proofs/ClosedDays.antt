@@ -1,59 +1,107 @@
--- A closed day stays as its close found it.
-use Rattle.std.proofs.Common.{◌≡◌, ℕ, ◌≤◌, Bool, true, false, List, [], ◌∷◌, length, refl, ◌∙◌, ap, arith, cond, find, unwrap_or, ◌==◌}
+-- A closed day keeps its sheet.
+use Rattle.std.proofs.Common.{◌≡◌, ℕ, ◌≤◌, ℤ, Bool, true, false, List, [], ◌∷◌, length, refl, sym, ◌∙◌, ap, subst, arith, cond, find, unwrap_or, ◌==◌, Option, Some, None}
+use Rattle.std.specs.List.{AllByRecursion}
+use Rattle.std.specs.Prelude.{int_lt, option_map}
+use Rattle.std.specs.Ordering.{int_eq}
 use Rattle.std.proofs.lemmas.Bool.{ne_eqb}
+use Rattle.std.proofs.lemmas.Int.{ints}
+use Rattle.cns_units.specs.Day.{day_number}
 use Rattle.cns_units.specs.declared.day.Day.{Day}
 use Rattle.cns_terms.specs.declared.command.Activity.{Activity}
 use Rattle.cns_terms.specs.declared.command.Command.{Command}
 use Rattle.cns_terms.specs.declared.command.Command.TheVariants as command
-use Rattle.cns_terms.specs.Postings.{Posting, Journal}
-use Rattle.cns_terms.specs.Days.{closings, closes, day, at_close, is_close}
-use Rattle.cns_terms.specs.Entries.{journal, posting}
+use Rattle.cns_terms.specs.Postings.{Journal}
+use Rattle.cns_terms.specs.Days.{closed_on, closings, closes, date, day, at_close, is_close, is_same_day}
+use Rattle.cns_terms.specs.Entries.{journal}
 use Rattle.cns_terms.specs.Laws.{ClosedDays, journal_of}
 use Rattle.cns_terms.specs.Machine.{State, opened, next, after}
-use Rattle.cns_terms.specs.Sheets.{statement}
+use Rattle.cns_terms.specs.Sheets.{DaySheet, day_sheet}
+use Rattle.cns_terms.proofs.Sound.{AreEarlier, IsWhole, opening_stays, whole-after, whole-next}
+
+-- ---- by place
 
 -- the journal of an earlier close, found among those of a later journal
 found_later : (b : Bool) (J : Journal) (i : ℕ) → i ≤ closes J → unwrap_or (find (λ K. day K == i) (cond b (J ∷ closings J) (closings J))) [] ≡ at_close J i
 found_later false J i h = refl
 found_later true J i h = rw (ne_eqb (day J) i (λ e. omega arith)) refl
 
--- one more posting leaves what an earlier close found
-pub at_close-post : (p : Posting) (J : Journal) (i : ℕ) → i ≤ closes J → at_close (p ∷ J) i ≡ at_close J i
-at_close-post p J i h = found_later (is_close p.activity) J i h
-
+-- closes are not undone
 counted_later : (b : Bool) (J : Journal) → closes J ≤ length (cond b (J ∷ closings J) (closings J))
 counted_later false J = omega arith
 counted_later true J = omega arith
 
-pub closes-post : (p : Posting) (J : Journal) → closes J ≤ closes (p ∷ J)
-closes-post p J = counted_later (is_close p.activity) J
+-- ---- by date
 
--- what a command leaves of the earlier closes
-pub record Keeps (J J' : Journal) : Type 0 where
+-- what is found passes the test, and what holds of each holds of it
+found_if : {X : Type 0} (P : X → Type 0) (t : X → Bool) (b : Bool) (y x : X) (o : Option X) → t y ≡ b → P y → (o ≡ Some x → P x × (t x ≡ true)) → cond b (Some y) o ≡ Some x → P x × (t x ≡ true)
+found_if P t true y x o test p rest e = let same : y ≡ x = cc in (subst P same p, ap t (sym same) ∙ test)
+found_if P t false y x o test p rest e = rest e
+
+found : {X : Type 0} (P : X → Type 0) (t : X → Bool) (xs : List X) (x : X) → AllByRecursion P xs → find t xs ≡ Some x → P x × (t x ≡ true)
+found P t [] x a e = cc
+found P t (y ∷ ys) x a e = found_if P t (t y) y x (find t ys) refl a.0 (found P t ys x a.1) e
+
+-- a day that is later than one with the date has another date
+apart : (a b c : ℤ) → int_lt a b ≡ true → int_eq a c ≡ true → int_eq b c ≡ false
+apart a b c p q = grind (arith, ints)
+
+-- the journal that the close of a day with the date found is found among those of a later journal
+dated_later : (opening : Day) (J : Journal) (d : Day) (K : Journal) (b : Bool) → AreEarlier opening J → closed_on opening J d ≡ Some K → find (λ K. is_same_day (date opening K) d) (cond b (J ∷ closings J) (closings J)) ≡ Some K
+dated_later opening J d K false earlier is = is
+dated_later opening J d K true earlier is =
+    let f = found (λ K. int_lt (day_number (date opening K)) (day_number (date opening J)) ≡ true) (λ K. is_same_day (date opening K) d) (closings J) K earlier is in
+    ap (λ t. cond t (Some J) (closed_on opening J d)) (apart (day_number (date opening K)) (day_number (date opening J)) (day_number d) f.0 f.1) ∙ is
+
+-- ---- after commands
+
+-- what commands leave of the earlier closes
+pub record Keeps (opening : Day) (J J' : Journal) : Type 0 where
   pub more : closes J ≤ closes J'
-  pub same : (i : ℕ) → i ≤ closes J → at_close J' i ≡ at_close J i
+  pub by_place : (i : ℕ) → i ≤ closes J → at_close J' i ≡ at_close J i
+  pub by_date : (d : Day) (K : Journal) → closed_on opening J d ≡ Some K → closed_on opening J' d ≡ Some K
 
-keeps_if : (b : Bool) (x : Activity) (opening : Day) (L : List Activity) → Keeps (journal opening L) (journal opening (cond b (x ∷ L) L))
-keeps_if true x opening L =
-    let J = journal opening L in
-    record { more = closes-post (posting opening J x) J; same = at_close-post (posting opening J x) J }
-keeps_if false x opening L = record { more = omega arith; same = λ i h. refl }
+keeps_same : (opening : Day) (J : Journal) → Keeps opening J J
+keeps_same opening J = record { more = omega arith; by_place = λ i h. refl; by_date = λ d K is. is }
+
+keeps_if : (b : Bool) (x : Activity) (opening : Day) (L : List Activity) → IsWhole opening (journal opening L) → Keeps opening (journal opening L) (journal opening (cond b (x ∷ L) L))
+keeps_if true x opening L w = let J = journal opening L in record {
+  more = counted_later (is_close x) J;
+  by_place = found_later (is_close x) J;
+  by_date = λ d K is. dated_later opening J d K (is_close x) w.earlier is;
+}
+keeps_if false x opening L w = keeps_same opening (journal opening L)
 
 -- a command keeps what stood at the earlier closes
-pub keeps-next : (S : State) (cmd : Command) → Keeps (journal_of S) (journal_of (next S cmd))
-keeps-next S (command.Activity x) = keeps_if _ x S.opening S.accepted
-keeps-next S (command.Position k) = record { more = omega arith; same = λ i h. refl }
-keeps-next S (command.Statement a d) = record { more = omega arith; same = λ i h. refl }
+keeps-next : (S : State) (cmd : Command) → IsWhole S.opening (journal_of S) → Keeps S.opening (journal_of S) (journal_of (next S cmd))
+keeps-next S (command.Activity x) w = keeps_if _ x S.opening S.accepted w
+keeps-next S (command.Position k) w = keeps_same S.opening (journal_of S)
+keeps-next S (command.Statement a d) w = keeps_same S.opening (journal_of S)
 
--- whatever is taken later, a closed day's journal stays
-pub at_close-after : (S : State) (cmds : List Command) (i : ℕ) → i ≤ closes (journal_of S) → at_close (journal_of (after S cmds)) i ≡ at_close (journal_of S) i
-at_close-after S [] i h = refl
-at_close-after S (cmd ∷ cmds) i h =
-    let k = keeps-next S cmd in
-    at_close-after (next S cmd) cmds i (omega (arith, k.more)) ∙ k.same i h
+-- and so do commands
+pub keeps-after : (S : State) (cmds : List Command) → IsWhole S.opening (journal_of S) → Keeps S.opening (journal_of S) (journal_of (after S cmds))
+keeps-after S [] w = keeps_same S.opening (journal_of S)
+keeps-after S (cmd ∷ cmds) w =
+    let one = keeps-next S cmd w in
+    let more = keeps-after (next S cmd) cmds (whole-next S cmd w) in
+    record {
+      more = omega (arith, one.more, more.more);
+      by_place = λ i h. more.by_place i (omega (arith, one.more, h)) ∙ one.by_place i h;
+      by_date = λ d K is. more.by_date d K (one.by_date d K is);
+    }
 
--- and so does its statement
+-- what is made of a journal that is found again
+found_again : (f : Journal → DaySheet) (o o' : Option Journal) (s : DaySheet) → ((K : Journal) → o ≡ Some K → o' ≡ Some K) → option_map f o ≡ Some s → option_map f o' ≡ Some s
+found_again f None o' s h e = cc
+found_again f (Some K) o' s h e = ap (option_map f) (h K refl) ∙ e
+
+-- whatever is taken later, a closed day keeps its sheet
 pub closed_days : ClosedDays
-closed_days opening cmds more i a h =
+closed_days opening cmds more =
     let S = after (opened opening) cmds in
-    ap (λ K. statement opening K a) (at_close-after S more i h)
+    let stays : S.opening ≡ opening = opening_stays (opened opening) cmds in
+    let k : Keeps opening (journal_of S) (journal_of (after S more)) =
+    subst (λ o. Keeps o (journal_of S) (journal_of (after S more))) stays (keeps-after S more (subst (λ o. IsWhole o (journal_of S)) (sym stays) (whole-after opening cmds))) in
+    record {
+      by_place = λ i h. ap (day_sheet opening) (k.by_place i h);
+      by_date = λ d s. found_again (day_sheet opening) (closed_on opening (journal_of S) d) (closed_on opening (journal_of (after S more)) d) s (k.by_date d);
+    }

@@ -1,5 +1,5 @@
 -- Searches in lists whose keys strictly rise.
-use Rattle.std.proofs.Common.{◌≡◌, ◌∙◌, sym, ap, refl, Bool, true, false, ◌&&◌, cond, List, [], ◌∷◌, map, filter, Option, Some, None}
+use Rattle.std.proofs.Common.{◌≡◌, ◌∙◌, sym, ap, refl, Bool, true, false, cond, List, [], ◌∷◌, map, filter, Option, Some, None}
 use Rattle.std.specs.Cmp.{IsTotalOrder}
 use Rattle.std.specs.FinMap.{FinMap, entries, entries-from_sorted, find, from_sorted, get-from_sorted, is_sorted, same_map, IsAntisymmetric}
 use Rattle.std.specs.FinMap.Entries.{below_all}
@@ -10,38 +10,16 @@ use Rattle.std.proofs.lemmas.Cmp.{tied_itself}
 use Rattle.std.specs.declared.cmp.Ordering.{Ordering}
 use Rattle.std.specs.declared.cmp.Ordering.TheVariants.{Less, Equal, Greater}
 use lib.Dec.{T}
-
-pub and_left : (a b : Bool) → (a && b) ≡ true → a ≡ true
-and_left true b e = refl
-and_left false b e = e
-
-pub and_right : (a b : Bool) → (a && b) ≡ true → b ≡ true
-and_right true b e = e
-and_right false b e = cc
-
-pub both_true : (a b : Bool) → a ≡ true → b ≡ true → (a && b) ≡ true
-both_true true b p q = q
-both_true false b p q = p
+use Rattle.cns_terms.proofs.Facts.{and_left, and_right, both_true, less}
 
 -- an option kept where its value passes a test
 abbrev pub kept_if : {X : Type 0} → (X → Bool) → Option X → Option X
 kept_if p None = None
 kept_if p (Some x) = cond (p x) (Some x) None
 
-pub less : (r : Ordering) → is_lt r ≡ true → r ≡ Less
-less Less e = refl
-less Equal e = cc
-less Greater e = cc
-
 pub as_T : (b : Bool) → b ≡ true → T b
 as_T true e = tt
 as_T false e = cc
-
--- the tests of a comparison
-pub equal : (r : Ordering) → is_eq r ≡ true → r ≡ Equal
-equal Less e = cc
-equal Equal e = refl
-equal Greater e = cc
 
 not_itself : {K : Type 0} {R : K → K → Ordering} (o : IsTotalOrder R) (k : K) → is_lt (R k k) ≡ false
 not_itself o k = ap is_lt (tied_itself o k)

@@ -9,10 +9,10 @@ use Rattle.std.proofs.lemmas.Cmp.{on_total, then_total, nat_cmp_total, nat_list_
 use Rattle.std.proofs.lemmas.Map.Lookups.{CmpEqualImpliesEq, exact_pairs, exact_unsigned, exact_bytes}
 use Rattle.std.proofs.lemmas.Map.Text.{is_eq-slice_cmp}
 use Rattle.std.proofs.lemmas.Bool.{cases_order}
-use Rattle.std.proofs.lemmas.Bool.Decides.{nat_tests}
 use Rattle.std.proofs.Common.{arith}
 use Rattle.cns_terms.specs.declared.holding.Key.{Key}
 use Rattle.cns_terms.specs.Keys.{key_cmp}
+use Rattle.cns_terms.proofs.Facts.{nat_eq_test}
 
 pub keys_total : IsTotalOrder key_cmp
 keys_total = then_total (on_total (λ k. k.account) nat_cmp_total) (on_total (λ k. k.issue) nat_list_cmp_total)
@@ -25,9 +25,6 @@ then_eq : (p q : Ordering) → is_eq (ordering_then p q) ≡ (is_eq p && is_eq q
 then_eq Less q = refl
 then_eq Equal q = refl
 then_eq Greater q = refl
-
-nat_eq_test : (a b : ℕ) → is_eq (nat_cmp a b) ≡ eqb a b
-nat_eq_test a b = grind (arith, nat_tests)
 
 -- what tells keys apart, in the words of the definitions
 pub same_key : (a b : Key) → is_eq (key_cmp a b) ≡ (eqb a.account b.account && bytes_eq a.issue b.issue)

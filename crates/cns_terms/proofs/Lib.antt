@@ -1,3 +1,4 @@
+pub mod Facts
 pub mod Keys
 pub mod Finds
 pub mod Rising
@@ -5,15 +6,19 @@ pub mod Cells
 pub mod Totals
 pub mod Accounts
 pub mod Everywhere
-pub mod ClosedDays
 pub mod EntrySums
 pub mod ZeroSums
 pub mod Sound
+pub mod ClosedDays
+pub mod RefusalOrder
 pub mod SheetSums
-pub mod Statements
 pub mod Elsewhere
 pub mod SheetRows
 pub mod PriceLists
 pub mod SheetBounds
-pub mod Bounds
+pub mod LegalReplies
+pub mod Limits
+pub mod Reached
+pub mod Magnitudes
+pub mod Amounts
 pub mod Examples

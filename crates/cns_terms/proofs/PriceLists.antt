@@ -5,16 +5,14 @@ use Rattle.std.specs.Cmp.Lexicographic.{slice_cmp}
 use Rattle.std.specs.FinMap.{find, is_sorted}
 use Rattle.std.specs.FinMap.Entries.{below_all}
 use Rattle.std.specs.List.{list_any}
-use Rattle.std.specs.Ordering.{is_eq, nat_cmp}
-use Rattle.std.proofs.lemmas.Cmp.{nat_list_eq_equiv}
-use Rattle.std.proofs.lemmas.Map.Text.{is_eq-slice_cmp}
+use Rattle.std.specs.Ordering.{nat_cmp}
 use Rattle.std.proofs.lemmas.Slice.Eq.{bytes_eq-Decides}
 use Rattle.cns_units.specs.declared.cusip.Cusip.{Cusip}
 use Rattle.cns_units.specs.declared.price.Price.{Price}
 use Rattle.cns_terms.specs.Listings.{is_listed, issues, price}
 use Rattle.cns_terms.specs.Postings.{Journal}
 use Rattle.cns_terms.specs.Sheets.{sheet_prices}
-use Rattle.cns_terms.proofs.Finds.{and_left, and_right, both_true}
+use Rattle.cns_terms.proofs.Facts.{and_left, and_right, both_true, same_test}
 use Rattle.cns_terms.proofs.Rising.{above_all, is_rising}
 use Rattle.cns_terms.proofs.Sound.{IsSound}
 
@@ -30,9 +28,6 @@ sorted_prices p (c ∷ cs) h = both_true _ _ (below_prices p c cs (and_left _ _ 
 found_branch : (b : Bool) (p : Cusip → Price) (c d : Cusip) (rest : Bool) → (b ≡ true → d ≡ c) → cond b (Some (p d)) (cond rest (Some (p c)) None) ≡ cond (b || rest) (Some (p c)) None
 found_branch true p c d rest h = ap (λ q. Some (p q)) (h refl)
 found_branch false p c d rest h = refl
-
-same_test : (c d : Cusip) → is_eq (slice_cmp nat_cmp c d) ≡ bytes_eq d c
-same_test c d = is_eq-slice_cmp c d ∙ nat_list_eq_equiv.symm c d
 
 -- the price of an issue among those of issues
 pub find_price : (p : Cusip → Price) (c : Cusip) (cs : List Cusip) → find (slice_cmp nat_cmp) c (map (λ d. (d, p d)) cs) ≡ cond (list_any (λ d. bytes_eq d c) cs) (Some (p c)) None

@@ -1,12 +1,12 @@
 -- Lists that strictly rise.
-use Rattle.std.proofs.Common.{◌≡◌, ◌∙◌, ap, refl, Bool, true, false, ◌&&◌, ◌||◌, cond, List, [], ◌∷◌}
+use Rattle.std.proofs.Common.{◌≡◌, ◌∙◌, ap, refl, Bool, true, false, ◌&&◌, cond, List, [], ◌∷◌}
 use Rattle.std.specs.Cmp.{IsTotalOrder}
 use Rattle.std.specs.List.{list_any}
 use Rattle.std.specs.Ordering.{is_eq, is_lt, ordering_reverse}
 use Rattle.std.specs.declared.cmp.Ordering.{Ordering}
 use Rattle.std.specs.declared.cmp.Ordering.TheVariants.{Less, Equal, Greater}
 use Rattle.cns_terms.specs.Sums.{put}
-use Rattle.cns_terms.proofs.Finds.{and_left, and_right, both_true, less}
+use Rattle.cns_terms.proofs.Facts.{and_left, and_right, both_true, less, neither}
 
 -- whether x comes before each
 abbrev pub above_all : {K : Type 0} → (K → K → Ordering) → K → List K → Bool
@@ -17,10 +17,6 @@ above_all R x (y ∷ ys) = is_lt (R x y) && above_all R x ys
 abbrev pub is_rising : {K : Type 0} → (K → K → Ordering) → List K → Bool
 is_rising R [] = true
 is_rising R (x ∷ xs) = above_all R x xs && is_rising R xs
-
-neither : (a b : Bool) → (a || b) ≡ false → (a ≡ false) × (b ≡ false)
-neither true b e = cc
-neither false b e = (refl, e)
 
 greater : (r : Ordering) → is_lt r ≡ false → is_eq r ≡ false → r ≡ Greater
 greater Less p q = cc

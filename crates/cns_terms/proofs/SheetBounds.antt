@@ -1,6 +1,5 @@
 -- Sums and counts over the rows of a sheet.
 use Rattle.std.proofs.Common.{◌≡◌, ◌∙◌, ap, refl, ℕ, ◌+◌, ◌*◌, ◌≤◌, ℤ, pos, ◌+ℤ◌, Bool, true, false, not, cond, ◌==◌, suc, zero, List, [], ◌∷◌, length, map, filter, flat_map, arith}
-use Rattle.std.proofs.lemmas.Bool.Decides.{nat_tests}
 use Rattle.std.proofs.lemmas.List.{length-append}
 use Rattle.std.proofs.lemmas.List.Elements.{filter-append}
 use Rattle.cns_units.specs.declared.account.Account.{Account}
@@ -11,44 +10,54 @@ use Rattle.cns_terms.specs.declared.command.Activity.TheVariants as activity
 use Rattle.cns_terms.specs.declared.holding.Entry.{Entry}
 use Rattle.cns_terms.specs.declared.sheet.Row.{Row}
 use Rattle.cns_terms.specs.Listings.{accounts, issue_lt, issues}
-use Rattle.cns_terms.specs.Positions.{position}
+use Rattle.cns_terms.specs.Days.{open_day}
 use Rattle.cns_terms.specs.Postings.{Journal}
 use Rattle.cns_terms.specs.Sheets.{is_idle, row, rows_of, sheet_rows}
 use Rattle.cns_terms.specs.Sums.{put, same_issue, total}
+use Rattle.cns_terms.proofs.Facts.{eqb_sym}
 use Rattle.cns_terms.proofs.Accounts.{occurs}
 use Rattle.cns_terms.proofs.SheetSums.{idle_parts, kept_or_not, total-flat_map, total-same}
 use Rattle.cns_terms.proofs.Sound.{IsSound}
 use Rattle.cns_terms.proofs.Totals.{total-swap, total-zero}
-use Rattle.cns_terms.proofs.ZeroSums.{positions_zero}
+use Rattle.cns_terms.proofs.ZeroSums.{cents_zero, positions_zero, sound_open_day}
 
--- ---- closings
+-- ---- sums in an issue
 
--- a row's closing position, if it is in the issue
-abbrev pub closing_of : Cusip → Row → ℤ
-closing_of c r = cond (same_issue r.issue c) r.closing (pos 0)
+one_issue : (b : Bool) (f : Account → ℤ) (bs : List Account) → total f bs ≡ pos 0 → total (λ a. cond b (f a) (pos 0)) bs ≡ pos 0
+one_issue true f bs h = h
+one_issue false f bs h = total-zero bs
 
-no_closing : (b : Bool) (q : ℤ) → q ≡ pos 0 → cond b q (pos 0) ≡ pos 0
-no_closing true q h = h
-no_closing false q h = refl
+no_number : (b : Bool) (q : ℤ) → q ≡ pos 0 → cond b q (pos 0) ≡ pos 0
+no_number true q h = h
+no_number false q h = refl
 
-closings_of_rows : (opening : Day) (K : Journal) (c : Cusip) (a : Account) (cs : List Cusip) → total (closing_of c) (filter (λ r. not (is_idle r)) (map (row opening K a) cs)) ≡ total (λ d. cond (same_issue d c) (position K a d) (pos 0)) cs
-closings_of_rows opening K c a [] = refl
-closings_of_rows opening K c a (d ∷ cs) =
-    kept_or_not (closing_of c) (not (is_idle (row opening K a d))) (row opening K a d) (filter (λ r. not (is_idle r)) (map (row opening K a) cs)) (λ h. no_closing (same_issue d c) (position K a d) (idle_parts (row opening K a d) h).1)
-    ∙ ap (λ n. cond (same_issue d c) (position K a d) (pos 0) +ℤ n) (closings_of_rows opening K c a cs)
+module _ (opening : Day) (K : Journal) (f : Row → ℤ) (idle : (r : Row) → not (is_idle r) ≡ false → f r ≡ pos 0) where
+  -- a number of a row, if it is in the issue
+  abbrev of_issue : Cusip → Row → ℤ
+  of_issue c r = cond (same_issue r.issue c) (f r) (pos 0)
 
-one_issue : (b : Bool) (K : Journal) (d : Cusip) (bs : List Account) → total (λ a. position K a d) bs ≡ pos 0 → total (λ a. cond b (position K a d) (pos 0)) bs ≡ pos 0
-one_issue true K d bs h = h
-one_issue false K d bs h = total-zero bs
+  of_rows : (c : Cusip) (a : Account) (cs : List Cusip) → total (of_issue c) (filter (λ r. not (is_idle r)) (map (row opening K a) cs)) ≡ total (λ d. cond (same_issue d c) (f (row opening K a d)) (pos 0)) cs
+  of_rows c a [] = refl
+  of_rows c a (d ∷ cs) =
+      kept_or_not (of_issue c) (not (is_idle (row opening K a d))) (row opening K a d) (filter (λ r. not (is_idle r)) (map (row opening K a) cs)) (λ h. no_number (same_issue d c) (f (row opening K a d)) (idle (row opening K a d) h))
+      ∙ ap (λ n. cond (same_issue d c) (f (row opening K a d)) (pos 0) +ℤ n) (of_rows c a cs)
+
+  -- what adds up to zero over all accounts in each issue does so over the sheet's rows
+  pub zero_in_issue : (c : Cusip) → ((d : Cusip) → total (λ a. f (row opening K a d)) (accounts K) ≡ pos 0) → total (of_issue c) (sheet_rows opening K) ≡ pos 0
+  zero_in_issue c balanced =
+      total-flat_map (of_issue c) (rows_of opening K) (accounts K)
+      ∙ total-same _ _ (accounts K) (λ a. of_rows c a (issues K))
+      ∙ total-swap (λ a d. cond (same_issue d c) (f (row opening K a d)) (pos 0)) (accounts K) (issues K)
+      ∙ total-same _ _ (issues K) (λ d. one_issue (same_issue d c) (λ a. f (row opening K a d)) (accounts K) (balanced d))
+      ∙ total-zero (issues K)
 
 -- the closings of a sheet's rows add up to zero in each issue
-pub closings_zero : (opening : Day) (K : Journal) (c : Cusip) → IsSound K → total (closing_of c) (sheet_rows opening K) ≡ pos 0
-closings_zero opening K c s =
-    total-flat_map (closing_of c) (rows_of opening K) (accounts K)
-    ∙ total-same _ _ (accounts K) (λ a. closings_of_rows opening K c a (issues K))
-    ∙ total-swap (λ a d. cond (same_issue d c) (position K a d) (pos 0)) (accounts K) (issues K)
-    ∙ total-same _ _ (issues K) (λ d. one_issue (same_issue d c) K d (accounts K) (positions_zero (accounts K) d K s.sound))
-    ∙ total-zero (issues K)
+pub closings_zero : (opening : Day) (K : Journal) (c : Cusip) → IsSound K → total (λ r. cond (same_issue r.issue c) r.closing (pos 0)) (sheet_rows opening K) ≡ pos 0
+closings_zero opening K c s = zero_in_issue opening K (λ r. r.closing) (λ r h. (idle_parts r h).1) c (λ d. positions_zero (accounts K) d K s.sound)
+
+-- and so do the cents booked
+pub moneys_zero : (opening : Day) (K : Journal) (c : Cusip) → IsSound K → total (λ r. cond (same_issue r.issue c) r.money (pos 0)) (sheet_rows opening K) ≡ pos 0
+moneys_zero opening K c s = zero_in_issue opening K (λ r. r.money) (λ r h. (idle_parts r h).2) c (λ d. cents_zero (accounts K) d (open_day K) (sound_open_day (accounts K) K s.sound))
 
 -- ---- how many rows an account has
 
@@ -63,9 +72,6 @@ few_rows p (r ∷ rs) = omega (arith, one_more (p r) r (filter p rs) (length rs)
 map_len : (f : Cusip → Row) (cs : List Cusip) → length (map f cs) ≡ length cs
 map_len f [] = refl
 map_len f (c ∷ cs) = omega (arith, map_len f cs)
-
-eqb_sym : (a b : ℕ) → (a == b) ≡ (b == a)
-eqb_sym a b = grind (arith, nat_tests)
 
 -- another account's rows
 others : (opening : Day) (K : Journal) (a b : Account) (cs : List Cusip) → (b == a) ≡ false → filter (λ r. r.account == a) (filter (λ r. not (is_idle r)) (map (row opening K b) cs)) ≡ []

@@ -20,9 +20,10 @@ use Rattle.cns_terms.specs.Listings.{accounts, is_account, issues}
 use Rattle.cns_terms.specs.Machine.{holding}
 use Rattle.cns_terms.specs.Postings.{Journal}
 use Rattle.cns_terms.specs.Sheets.{is_idle, row, sheet_rows}
+use Rattle.cns_terms.proofs.Facts.{and_left, and_right, both_true}
 use Rattle.cns_terms.proofs.Cells.{cells, cells_of, find_cells, key, sorted_cells}
 use Rattle.cns_terms.proofs.Elsewhere.{idle_at}
-use Rattle.cns_terms.proofs.Finds.{and_left, and_right, both_true, find_filter, kept_if, same_lists, sorted_filter}
+use Rattle.cns_terms.proofs.Finds.{find_filter, kept_if, same_lists, sorted_filter}
 use Rattle.cns_terms.proofs.Keys.{exact_keys, keys_total, same_key}
 use Rattle.cns_terms.proofs.Sound.{IsSound}
 

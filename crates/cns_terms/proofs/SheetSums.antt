@@ -1,5 +1,6 @@
 -- The sheets of closed days add up to zero.
-use Rattle.std.proofs.Common.{◌≡◌, ℤ, pos, ◌+ℤ◌, Bool, true, false, not, cond, ◌&&◌, ◌==◌, slice_get, unwrap_or, List, [], ◌∷◌, map, filter, flat_map, refl, ◌∙◌, ap, arith, int_eq}
+use Rattle.std.proofs.Common.{◌≡◌, ℤ, pos, ◌+ℤ◌, Bool, true, false, not, cond, ◌&&◌, ◌==◌, slice_get, unwrap_or, Option, Some, None, List, [], ◌∷◌, map, filter, flat_map, refl, ◌∙◌, ap, subst, arith, int_eq}
+use Rattle.std.specs.Prelude.{option_map}
 use Rattle.std.specs.Cmp.{signed_Decides}
 use Rattle.std.proofs.lemmas.Int.{ints}
 use Rattle.std.proofs.lemmas.Bool.{and_parts, not-false}
@@ -10,17 +11,16 @@ use Rattle.cns_units.specs.declared.day.Day.{Day}
 use Rattle.cns_terms.specs.declared.sheet.Row.{Row}
 use Rattle.cns_terms.specs.Sums.{total}
 use Rattle.cns_terms.specs.Postings.{Journal}
-use Rattle.cns_terms.specs.Days.{closings, last_close, at_close, day, is_close, open_day}
+use Rattle.cns_terms.specs.Days.{at_close, closed_on, closings, date, day, is_close, is_same_day, last_close, open_day}
 use Rattle.cns_terms.specs.Listings.{accounts, issues, price}
 use Rattle.cns_terms.specs.Marks.{mark}
 use Rattle.cns_terms.specs.Dividends.{dividend}
-use Rattle.cns_terms.specs.Machine.{opened}
-use Rattle.cns_terms.specs.Sheets.{row, is_idle, rows_of}
+use Rattle.cns_terms.specs.Sheets.{DaySheet, day_sheet, row, is_idle, rows_of}
 use Rattle.cns_terms.specs.Laws.{AddsUpToZero, Positions, ZeroSums, journal_after}
 use Rattle.cns_terms.proofs.Totals.{total-append, total-zero, total-swap}
 use Rattle.cns_terms.proofs.Everywhere.{each_found}
 use Rattle.cns_terms.proofs.ZeroSums.{AreSound, cents_zero, marks_zero, positions_zero, sound_open_day}
-use Rattle.cns_terms.proofs.Sound.{IsSound, IsWhole, sound_nil, whole-after, whole_nil}
+use Rattle.cns_terms.proofs.Sound.{IsSound, IsWhole, sound_nil, whole-after}
 
 pub total-flat_map : {X Y : Type 0} (f : Y → ℤ) (g : X → List Y) (xs : List X) → total f (flat_map g xs) ≡ total (λ x. total f (g x)) xs
 total-flat_map f g [] = refl
@@ -81,7 +81,7 @@ dividends_zero bs = total-zero bs
 
 -- ---- the sheet
 
-pub sheet_zero : (opening : Day) (K : Journal) → IsSound K → AddsUpToZero opening K
+pub sheet_zero : (opening : Day) (K : Journal) → IsSound K → AddsUpToZero (day_sheet opening K)
 sheet_zero opening K s = record {
   marks =
       total-flat_map (λ (r : Row). r.mark) (rows_of opening K) (accounts K)
@@ -97,18 +97,26 @@ sheet_zero opening K s = record {
       ∙ total-zero (issues K);
 }
 
+-- the sheet of a day that is looked up
+of_found : (opening : Day) (o : Option Journal) (s : DaySheet) → IsSound (unwrap_or o []) → option_map (day_sheet opening) o ≡ Some s → AddsUpToZero s
+of_found opening None s sound e = cc
+of_found opening (Some K) s sound e = let is : day_sheet opening K ≡ s = cc in subst AddsUpToZero is (sheet_zero opening K sound)
+
 -- after any commands the sheet of each closed day adds up to zero
 pub zero_sums : ZeroSums
-zero_sums opening cmds i =
+zero_sums opening cmds =
     let J : Journal = journal_after opening cmds in
-    let w : IsWhole J = whole-after (opened opening) cmds whole_nil in
-    sheet_zero opening (at_close J i) (each_found IsSound (λ K. day K == i) [] (closings J) sound_nil w.past)
+    let w : IsWhole opening J = whole-after opening cmds in
+    record {
+      by_place = λ i. sheet_zero opening (at_close J i) (each_found IsSound (λ K. day K == i) [] (closings J) sound_nil w.past);
+      by_date = λ d s. of_found opening (closed_on opening J d) s (each_found IsSound (λ K. is_same_day (date opening K) d) [] (closings J) sound_nil w.past);
+    }
 
 -- and the positions of all accounts in each issue do, with the open day's cents
 pub positions_balanced : Positions
 positions_balanced opening cmds c =
     let J : Journal = journal_after opening cmds in
-    let w : IsWhole J = whole-after (opened opening) cmds whole_nil in
+    let w : IsWhole opening J = whole-after opening cmds in
     record {
       shares = positions_zero (accounts J) c J w.now.sound;
       cents = cents_zero (accounts J) c (open_day J) (sound_open_day (accounts J) J w.now.sound);

@@ -1,34 +1,32 @@
 -- What accepted commands keep true of the journal.
-use Rattle.std.proofs.Common.{◌≡◌, ℕ, ◌+◌, ◌≤◌, Bool, true, false, not, cond, ◌&&◌, ◌||◌, ◌==◌, List, [], ◌∷◌, find, Option, Some, is_none, slice_get, unwrap_or, refl, sym, ◌∙◌, ap, arith}
+use Rattle.std.proofs.Common.{◌≡◌, ℕ, ◌+◌, ◌≤◌, Bool, true, false, not, cond, ◌&&◌, ◌==◌, List, [], ◌∷◌, find, is_none, slice_get, unwrap_or, refl, sym, ◌∙◌, ap, arith}
 use Rattle.std.specs.List.{AllByRecursion, list_any}
-use Rattle.std.specs.Prelude.{bytes_eq, filter_map}
+use Rattle.std.specs.Prelude.{bytes_eq, filter_map, int_lt}
 use Rattle.std.specs.Cmp.Lexicographic.{slice_cmp}
-use Rattle.std.specs.Ordering.{is_eq, is_lt, nat_cmp}
+use Rattle.std.specs.Ordering.{is_lt, nat_cmp}
 use Rattle.std.proofs.lemmas.Bool.{eqb-true}
-use Rattle.std.specs.Option.{option_map_or}
 use Rattle.std.proofs.lemmas.Bool.Decides.{nat_tests}
 use Rattle.std.proofs.lemmas.Slice.Eq.{bytes_eq-Decides}
-use Rattle.std.proofs.lemmas.Cmp.{nat_cmp_total, nat_list_cmp_total, nat_list_eq_equiv}
-use Rattle.std.proofs.lemmas.Map.Text.{is_eq-slice_cmp}
+use Rattle.std.proofs.lemmas.Cmp.{nat_cmp_total, nat_list_cmp_total}
+use Rattle.cns_units.specs.Day.{day_number}
 use Rattle.cns_units.specs.declared.cusip.Cusip.{Cusip}
 use Rattle.cns_units.specs.declared.day.Day.{Day}
 use Rattle.cns_terms.specs.declared.command.Activity.{Activity}
 use Rattle.cns_terms.specs.declared.command.Activity.TheVariants as activity
 use Rattle.cns_terms.specs.declared.command.Command.{Command}
-use Rattle.cns_terms.specs.declared.command.Listing.{Listing}
 use Rattle.cns_terms.specs.declared.command.Command.TheVariants as command
 use Rattle.cns_terms.specs.declared.holding.Entry.{Entry}
-use Rattle.cns_terms.specs.Days.{closings, last_close}
+use Rattle.cns_terms.specs.Days.{closings, date, last_close}
 use Rattle.cns_terms.specs.Entries.{corporation, entries, journal, posting}
-use Rattle.cns_terms.specs.Laws.{journal_of}
+use Rattle.cns_terms.specs.Laws.{journal_after, journal_of}
 use Rattle.cns_terms.specs.Listings.{accounts, is_listed, issue_lt, is_member, issues, members, price, priced}
-use Rattle.cns_terms.specs.Machine.{State, next, after}
+use Rattle.cns_terms.specs.Machine.{State, next, after, opened}
 use Rattle.cns_terms.specs.Postings.{Posting, Journal, activities}
 use Rattle.cns_terms.specs.Refusals.{Rule, first_refusal, refusal, rules}
+use Rattle.cns_terms.proofs.Facts.{and_left, and_right, both_true, holds, later, less_less, nat_eq_test, neither, or_right, price_branch, same_test}
 use Rattle.cns_terms.proofs.Accounts.{occurs, occurs-put, occurs_found, occurs_missing}
 use Rattle.cns_terms.proofs.EntrySums.{entries_balanced}
 use Rattle.cns_terms.proofs.Everywhere.{any_put, each_weaker}
-use Rattle.cns_terms.proofs.Finds.{and_left, and_right, both_true}
 use Rattle.cns_terms.proofs.Rising.{above_put, is_rising, rising_put}
 use Rattle.cns_terms.proofs.ZeroSums.{AreOf, IsSoundPosting, AreSound}
 
@@ -49,10 +47,15 @@ pub record IsSound (J : Journal) : Type 0 where
   pub issued : AllByRecursion (λ p. AreOfListed J p.entries) J
   pub unpriced : (c : Cusip) → is_listed J c ≡ false → price J c ≡ 0
 
--- a journal that is sound, as it was at each close
-pub record IsWhole (J : Journal) : Type 0 where
+-- the day that is open is later than each closed day
+abbrev pub AreEarlier : Day → Journal → Type 0
+AreEarlier opening J = AllByRecursion (λ K. int_lt (day_number (date opening K)) (day_number (date opening J)) ≡ true) (closings J)
+
+-- a journal that is sound, as it was at each close, and whose days follow one another
+pub record IsWhole (opening : Day) (J : Journal) : Type 0 where
   pub now : IsSound J
   pub past : AllByRecursion IsSound (closings J)
+  pub earlier : AreEarlier opening J
 
 -- ---- the start
 
@@ -81,10 +84,6 @@ pub both_hold : (x y : Bool) → not (x && y) ≡ false → (x ≡ true) × (y �
 both_hold true true h = (refl, refl)
 both_hold true false h = cc
 both_hold false y h = cc
-
-pub holds : (x : Bool) → not x ≡ false → x ≡ true
-holds true h = refl
-holds false h = cc
 
 member_in : (J : Journal) (a : ℕ) → is_member J a ≡ true → IsIn J a
 member_in J a h = let e = occurs_found a (members J) h in omega arith
@@ -155,15 +154,8 @@ distinct-post opening J (activity.Close d) s h a = s.distinct a
 
 -- ---- one more activity: the order, and listed issues
 
-nat_eq_test : (a b : ℕ) → is_eq (nat_cmp a b) ≡ (a == b)
-nat_eq_test a b = grind (arith, nat_tests)
-
 first_account : (m : ℕ) → (m == 0) ≡ false → is_lt (nat_cmp 0 m) ≡ true
 first_account m h = grind (arith, nat_tests)
-
-neither : (a b : Bool) → (a || b) ≡ false → (a ≡ false) × (b ≡ false)
-neither true b e = cc
-neither false b e = (refl, e)
 
 accounts-post : (opening : Day) (J : Journal) (x : Activity) → IsSound J → NoneHolds (rules opening J x) → is_rising nat_cmp (accounts (posting opening J x ∷ J)) ≡ true
 accounts-post opening J (activity.Member m) s h =
@@ -179,9 +171,6 @@ accounts-post opening J (activity.Deliver m) s h = s.accounts_rise
 accounts-post opening J (activity.Receive m) s h = s.accounts_rise
 accounts-post opening J (activity.Close d) s h = s.accounts_rise
 
-same_test : (c d : Cusip) → is_eq (slice_cmp nat_cmp c d) ≡ bytes_eq d c
-same_test c d = is_eq-slice_cmp c d ∙ nat_list_eq_equiv.symm c d
-
 issues-post : (opening : Day) (J : Journal) (x : Activity) → IsSound J → NoneHolds (rules opening J x) → is_rising (slice_cmp nat_cmp) (issues (posting opening J x ∷ J)) ≡ true
 issues-post opening J (activity.Issue l) s h =
     let fails = all_fail (rules opening J (activity.Issue l)) h in
@@ -192,10 +181,6 @@ issues-post opening J (activity.Price l) s h = s.issues_rise
 issues-post opening J (activity.Deliver m) s h = s.issues_rise
 issues-post opening J (activity.Receive m) s h = s.issues_rise
 issues-post opening J (activity.Close d) s h = s.issues_rise
-
-or_right : (a b : Bool) → b ≡ true → (a || b) ≡ true
-or_right true b h = refl
-or_right false b h = h
 
 -- an issue stays listed
 pub listed-post : (opening : Day) (J : Journal) (x : Activity) (c : Cusip) → is_listed J c ≡ true → is_listed (posting opening J x ∷ J) c ≡ true
@@ -225,10 +210,6 @@ entries_listed opening J (activity.Close d) h = tt
 still_listed : (opening : Day) (J : Journal) (x : Activity) (es : List Entry) → AreOfListed J es → AreOfListed (posting opening J x ∷ J) es
 still_listed opening J x es h = each_weaker (λ (e : Entry). is_listed J e.issue ≡ true) (λ e. is_listed (posting opening J x ∷ J) e.issue ≡ true) es (λ e p. listed-post opening J x e.issue p) h
 
-price_branch : (t : Bool) (l : Listing) (o : Option Listing) → option_map_or (λ (l : Listing). l.price) (cond t (Some l) o) 0 ≡ cond t l.price (option_map_or (λ l. l.price) o 0)
-price_branch true l o = refl
-price_branch false l o = refl
-
 unpriced_if : (t b : Bool) (p q : ℕ) → (t ≡ true → b ≡ true) → b ≡ false → (b ≡ false → q ≡ 0) → cond t p q ≡ 0
 unpriced_if true b p q there none rest = absurd (cc (there refl, none))
 unpriced_if false b p q there none rest = rest none
@@ -248,7 +229,7 @@ unpriced-post opening J (activity.Deliver m) s h c none = s.unpriced c none
 unpriced-post opening J (activity.Receive m) s h c none = s.unpriced c none
 unpriced-post opening J (activity.Close d) s h c none = s.unpriced c none
 
-past-post : (opening : Day) (J : Journal) (x : Activity) → IsWhole J → AllByRecursion IsSound (closings (posting opening J x ∷ J))
+past-post : (opening : Day) (J : Journal) (x : Activity) → IsWhole opening J → AllByRecursion IsSound (closings (posting opening J x ∷ J))
 past-post opening J (activity.Member m) w = w.past
 past-post opening J (activity.Issue l) w = w.past
 past-post opening J (activity.Trade t) w = w.past
@@ -257,8 +238,19 @@ past-post opening J (activity.Deliver m) w = w.past
 past-post opening J (activity.Receive m) w = w.past
 past-post opening J (activity.Close d) w = (w.now, w.past)
 
+earlier-post : (opening : Day) (J : Journal) (x : Activity) → IsWhole opening J → NoneHolds (rules opening J x) → AreEarlier opening (posting opening J x ∷ J)
+earlier-post opening J (activity.Member m) w h = w.earlier
+earlier-post opening J (activity.Issue l) w h = w.earlier
+earlier-post opening J (activity.Trade t) w h = w.earlier
+earlier-post opening J (activity.Price l) w h = w.earlier
+earlier-post opening J (activity.Deliver m) w h = w.earlier
+earlier-post opening J (activity.Receive m) w h = w.earlier
+earlier-post opening J (activity.Close d) w h =
+    let next = later (day_number d) (day_number (date opening J)) (all_fail (rules opening J (activity.Close d)) h).0 in
+    (next, each_weaker (λ K. int_lt (day_number (date opening K)) (day_number (date opening J)) ≡ true) (λ K. int_lt (day_number (date opening K)) (day_number d) ≡ true) (closings J) (λ K e. less_less (day_number (date opening K)) _ _ e next) w.earlier)
+
 -- one accepted activity keeps the journal sound
-whole-post : (opening : Day) (J : Journal) (x : Activity) → IsWhole J → NoneHolds (rules opening J x) → IsWhole (posting opening J x ∷ J)
+pub whole-post : (opening : Day) (J : Journal) (x : Activity) → IsWhole opening J → NoneHolds (rules opening J x) → IsWhole opening (posting opening J x ∷ J)
 whole-post opening J x w h =
     let J' : Journal = posting opening J x ∷ J in
     let grown : (a : ℕ) → occurs a (accounts J) ≤ occurs a (accounts J') = grown-post (posting opening J x) J in
@@ -284,27 +276,36 @@ whole-post opening J x w h =
         unpriced = unpriced-post opening J x w.now h;
       };
       past = past-post opening J x w;
+      earlier = earlier-post opening J x w h;
     }
 
-whole_if : (opening : Day) (L : List Activity) (x : Activity) → IsWhole (journal opening L) → (b : Bool) → is_none (refusal opening (journal opening L) (command.Activity x)) ≡ b → IsWhole (journal opening (cond b (x ∷ L) L))
+whole_if : (opening : Day) (L : List Activity) (x : Activity) → IsWhole opening (journal opening L) → (b : Bool) → is_none (refusal opening (journal opening L) (command.Activity x)) ≡ b → IsWhole opening (journal opening (cond b (x ∷ L) L))
 whole_if opening L x w true h = whole-post opening (journal opening L) x w h
 whole_if opening L x w false h = w
 
-whole-next : (S : State) (cmd : Command) → IsWhole (journal_of S) → IsWhole (journal_of (next S cmd))
+pub whole-next : (S : State) (cmd : Command) → IsWhole S.opening (journal_of S) → IsWhole S.opening (journal_of (next S cmd))
 whole-next S (command.Activity x) w = whole_if S.opening S.accepted x w _ refl
 whole-next S (command.Position k) w = w
 whole-next S (command.Statement a d) w = w
 
--- whatever commands are taken, the journal is sound
-pub whole-after : (S : State) (cmds : List Command) → IsWhole (journal_of S) → IsWhole (journal_of (after S cmds))
-whole-after S [] w = w
-whole-after S (cmd ∷ cmds) w = whole-after (next S cmd) cmds (whole-next S cmd w)
+pub whole_nil : {opening : Day} → IsWhole opening []
+whole_nil = record { now = sound_nil; past = tt; earlier = tt }
 
-pub whole_nil : IsWhole []
-whole_nil = record { now = sound_nil; past = tt }
+-- commands leave the opening date
+pub opening_stays : (S : State) (cmds : List Command) → (after S cmds).opening ≡ S.opening
+opening_stays S [] = refl
+opening_stays S (cmd ∷ cmds) = opening_stays (next S cmd) cmds
+
+whole_from : (S : State) (cmds : List Command) → IsWhole S.opening (journal_of S) → IsWhole S.opening (journal_of (after S cmds))
+whole_from S [] w = w
+whole_from S (cmd ∷ cmds) w = whole_from (next S cmd) cmds (whole-next S cmd w)
+
+-- whatever commands are taken from the opening date on, the journal is sound
+pub whole-after : (opening : Day) (cmds : List Command) → IsWhole opening (journal_after opening cmds)
+whole-after opening cmds = whole_from (opened opening) cmds whole_nil
 
 -- the journal as the last close found it is sound
-pub sound_last : (J : Journal) → IsWhole J → IsSound (last_close J)
+pub sound_last : {opening : Day} (J : Journal) → IsWhole opening J → IsSound (last_close J)
 sound_last J w = first (closings J) w.past
   where
     first : (Ks : List Journal) → AllByRecursion IsSound Ks → IsSound (unwrap_or (slice_get Ks 0) [])

@@ -67,14 +67,14 @@ sound_open_day bs (p ∷ J) h = (h.0, open_or_rest bs (is_close p.activity) J (s
 
 -- ---- marks
 
-times_sum : (a b : ℤ) (n : ℕ) → (a +ℤ b) *ℤ pos n ≡ (a *ℤ pos n) +ℤ (b *ℤ pos n)
+pub times_sum : (a b : ℤ) (n : ℕ) → (a +ℤ b) *ℤ pos n ≡ (a *ℤ pos n) +ℤ (b *ℤ pos n)
 times_sum a b zero = rw (*ℤ-zero (a +ℤ b), *ℤ-zero a, *ℤ-zero b) refl
 times_sum a b (suc n) =
     let e = times_sum a b n in
     let more : (z : ℤ) → z *ℤ pos (suc n) ≡ (z *ℤ pos n) +ℤ z = λ z. *ℤ_comm z (pos (suc n)) ∙ suc_ℤ-*ℤ (pos n) z ∙ ap (λ k. k +ℤ z) (*ℤ_comm (pos n) z) in
     rw (more (a +ℤ b), more a, more b) (omega (arith, ints))
 
-total-times : {X : Type 0} (f : X → ℤ) (n : ℕ) (xs : List X) → total (λ x. f x *ℤ pos n) xs ≡ total f xs *ℤ pos n
+pub total-times : {X : Type 0} (f : X → ℤ) (n : ℕ) (xs : List X) → total (λ x. f x *ℤ pos n) xs ≡ total f xs *ℤ pos n
 total-times f n [] = sym (zero-*ℤ (pos n))
 total-times f n (x ∷ xs) = ap (λ k. (f x *ℤ pos n) +ℤ k) (total-times f n xs) ∙ sym (times_sum (f x) (total f xs) n)
 

@@ -1,5 +1,5 @@
 -- Ages of shorts.
-use Rattle.std.specs.Prelude.{ℕ, pos, int_lt, ◌∷◌, List}
+use Rattle.std.specs.Prelude.{ℕ, pos, int_lt, List}
 use Rattle.std.specs.List.{prefix_len}
 use Rattle.cns_units.specs.declared.account.Account.{Account}
 use Rattle.cns_units.specs.declared.cusip.Cusip.{Cusip}
@@ -14,7 +14,3 @@ closes_short Ks a c = prefix_len (λ K. int_lt (position K a c) (pos 0)) Ks
 -- the age of a short at the last close
 abbrev pub age : Journal → Account → Cusip → ℕ
 age J a c = closes_short (closings J) a c
-
--- the age at the close that found the journal so, this close included
-abbrev pub age_at : Journal → Account → Cusip → ℕ
-age_at K a c = closes_short (K ∷ closings K) a c

@@ -36,10 +36,13 @@ moved_out a m = entry a m.issue (neg_ℤ (pos m.shares)) (pos 0)
 
 -- the entries that an activity books: a delivery raises the member's position, a receipt the corporation's
 abbrev pub entries : Day → Journal → Activity → List Entry
+entries opening J (activity.Member m) = []
+entries opening J (activity.Issue l) = []
 entries opening J (activity.Trade t) = buyer_entry t ∷ seller_entry t ∷ []
+entries opening J (activity.Price l) = []
 entries opening J (activity.Deliver m) = moved_in m.member m ∷ moved_out corporation m ∷ []
 entries opening J (activity.Receive m) = moved_out m.member m ∷ moved_in corporation m ∷ []
-entries opening J _ = []
+entries opening J (activity.Close d) = []
 
 -- an activity with the entries that it books on a journal
 abbrev pub posting : Day → Journal → Activity → Posting

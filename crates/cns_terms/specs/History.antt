@@ -1,8 +1,10 @@
 -- Histories: the commands that were taken, with their replies, the newest first.
-use Rattle.std.specs.Prelude.{ℕ, ◌≡◌, ◌+◌, ◌==◌, List, [], ◌∷◌, ⊤, count_by}
+use Rattle.std.specs.Prelude.{ℕ, ◌≡◌, ◌+◌, ◌==◌, List, [], ◌∷◌, ◌++◌, ⊤, count_by}
 use Rattle.cns_units.specs.declared.day.Day.{Day}
 use Rattle.cns_terms.specs.declared.command.Activity.{Activity}
+use Rattle.cns_terms.specs.declared.command.Command.{Command}
 use Rattle.cns_terms.specs.declared.history.Taken.{Taken}
+use Rattle.cns_terms.specs.declared.reply.Reply.{Reply}
 use Rattle.cns_terms.specs.declared.worker.Worker.{Worker}
 use Rattle.cns_terms.specs.Machine.{State, accepted_after, answer}
 
@@ -14,6 +16,16 @@ accepted opening (t ∷ H) = accepted_after opening (accepted opening H) t.comma
 -- the state after a history
 abbrev pub state : Day → List Taken → State
 state opening H = record { opening = opening; accepted = accepted opening H }
+
+-- the commands of a history, the oldest first
+abbrev pub commands_of : List Taken → List Command
+commands_of [] = []
+commands_of (t ∷ H) = commands_of H ++ t.command ∷ []
+
+-- the replies of a history, the oldest first
+abbrev pub replies_of : List Taken → List Reply
+replies_of [] = []
+replies_of (t ∷ H) = replies_of H ++ t.reply ∷ []
 
 -- how many commands of the worker stand in the history
 abbrev pub count : List Taken → Worker → ℕ

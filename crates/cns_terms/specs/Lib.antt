@@ -12,5 +12,7 @@ pub mod Dividends
 pub mod Sheets
 pub mod Machine
 pub mod History
+pub mod Limits
+pub mod Reached
 pub mod Laws
 pub mod Numbers

@@ -18,23 +18,42 @@ use Rattle.cns_terms.specs.Postings.{Journal, activities}
 -- the member that an activity adds
 abbrev pub added : Activity → Option Member
 added (activity.Member m) = Some m
-added _ = None
+added (activity.Issue l) = None
+added (activity.Trade t) = None
+added (activity.Price l) = None
+added (activity.Deliver m) = None
+added (activity.Receive m) = None
+added (activity.Close d) = None
 
 -- the listing that an activity makes
 abbrev pub listed : Activity → Option Listing
+listed (activity.Member m) = None
 listed (activity.Issue l) = Some l
-listed _ = None
+listed (activity.Trade t) = None
+listed (activity.Price l) = None
+listed (activity.Deliver m) = None
+listed (activity.Receive m) = None
+listed (activity.Close d) = None
 
 -- the listing by which an activity sets a price
 abbrev pub priced : Activity → Option Listing
+priced (activity.Member m) = None
 priced (activity.Issue l) = Some l
+priced (activity.Trade t) = None
 priced (activity.Price l) = Some l
-priced _ = None
+priced (activity.Deliver m) = None
+priced (activity.Receive m) = None
+priced (activity.Close d) = None
 
 -- the trade that an activity is
 abbrev pub traded : Activity → Option Trade
+traded (activity.Member m) = None
+traded (activity.Issue l) = None
 traded (activity.Trade t) = Some t
-traded _ = None
+traded (activity.Price l) = None
+traded (activity.Deliver m) = None
+traded (activity.Receive m) = None
+traded (activity.Close d) = None
 
 -- the order of accounts, by their numbers
 abbrev pub account_lt : Account → Account → Bool

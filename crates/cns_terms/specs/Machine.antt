@@ -1,5 +1,5 @@
 -- The machine that keeps only the accepted activities and recomputes.
-use Rattle.std.specs.Prelude.{List, [], ◌∷◌, length, is_none, unwrap_or, if◌then◌else◌}
+use Rattle.std.specs.Prelude.{List, [], ◌∷◌, length, is_none, if◌then◌else◌}
 use Rattle.std.specs.Option.{option_map_or}
 use Rattle.cns_units.specs.declared.account.Account.{Account}
 use Rattle.cns_units.specs.declared.cusip.Cusip.{Cusip}
@@ -12,12 +12,12 @@ use Rattle.cns_terms.specs.declared.holding.Holding.{Holding}
 use Rattle.cns_terms.specs.declared.reply.Reply.{Reply}
 use Rattle.cns_terms.specs.declared.reply.Reply.TheVariants as reply
 use Rattle.cns_terms.specs.Postings.{Journal}
-use Rattle.cns_terms.specs.Days.{closed_on, day, date, last_close}
+use Rattle.cns_terms.specs.Days.{day, date, last_close}
 use Rattle.cns_terms.specs.Positions.{position, money}
 use Rattle.cns_terms.specs.Ages.{age}
 use Rattle.cns_terms.specs.Entries.{journal}
 use Rattle.cns_terms.specs.Refusals.{refusal}
-use Rattle.cns_terms.specs.Sheets.{sheet_rows, statement}
+use Rattle.cns_terms.specs.Sheets.{sheet_named, sheet_rows, statement}
 
 -- the state: the opening date, and the accepted activities, the newest first
 pub record State : Type 0 where
@@ -34,19 +34,24 @@ holding J a c = record { now = position J a c; opening = position (last_close J)
 
 -- the reply to an activity that is not refused
 abbrev pub activity_reply : Day → Journal → Activity → Reply
+activity_reply opening J (activity.Member m) = reply.Accepted
+activity_reply opening J (activity.Issue l) = reply.Accepted
+activity_reply opening J (activity.Trade t) = reply.Accepted
+activity_reply opening J (activity.Price l) = reply.Accepted
+activity_reply opening J (activity.Deliver m) = reply.Accepted
+activity_reply opening J (activity.Receive m) = reply.Accepted
 activity_reply opening J (activity.Close d) = reply.Closed (record {
   day = day J;
   date = date opening J;
   rows = length (sheet_rows opening J);
   liable = 0;
 })
-activity_reply opening J _ = reply.Accepted
 
 -- the reply to a command that is not refused
 abbrev pub command_reply : Day → Journal → Command → Reply
 command_reply opening J (command.Activity x) = activity_reply opening J x
 command_reply opening J (command.Position k) = reply.Held k (holding J k.account k.issue)
-command_reply opening J (command.Statement a d) = reply.Stated (statement opening (unwrap_or (closed_on opening J d) []) a)
+command_reply opening J (command.Statement a d) = reply.Stated (statement (sheet_named opening J d) a)
 
 -- the reply to a command over accepted activities
 abbrev pub answer_to : Day → List Activity → Command → Reply

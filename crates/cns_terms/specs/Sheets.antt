@@ -1,5 +1,5 @@
 -- The sheet of a closed day, and the statements cut from it.
-use Rattle.std.specs.Prelude.{ℕ, pos, Bool, not, ◌&&◌, List, map, filter, flat_map, length}
+use Rattle.std.specs.Prelude.{ℕ, pos, Bool, not, ◌&&◌, ◌==◌, List, [], map, filter, flat_map, length, Option, option_map, unwrap_or}
 use Rattle.std.specs.Ordering.{int_eq}
 use Rattle.cns_units.specs.declared.account.Account.{Account}
 use Rattle.cns_units.specs.declared.cusip.Cusip.{Cusip}
@@ -9,7 +9,7 @@ use Rattle.cns_terms.specs.declared.sheet.Row.{Row}
 use Rattle.cns_terms.specs.declared.reply.Stated.{Stated}
 use Rattle.cns_terms.specs.Sums.{total}
 use Rattle.cns_terms.specs.Postings.{Journal}
-use Rattle.cns_terms.specs.Days.{last_close, at_close, date}
+use Rattle.cns_terms.specs.Days.{at_close, closed_on, date, last_close}
 use Rattle.cns_terms.specs.Positions.{position, money}
 use Rattle.cns_terms.specs.Listings.{accounts, issues, price}
 use Rattle.cns_terms.specs.Marks.{mark}
@@ -55,18 +55,30 @@ pub record DaySheet : Type 0 where
 abbrev pub day_sheet : Day → Journal → DaySheet
 day_sheet opening K = record { date = date opening K; prices = sheet_prices K; rows = sheet_rows opening K }
 
--- the statement of an account at a close: the count of its rows, and the sums of their marks and dividends
-abbrev pub statement : Day → Journal → Account → Stated
-statement opening K a =
-    let rs = rows_of opening K a in
+-- the sheet of a closed day, by its place among the closed days from 1
+abbrev pub sheet_at : Day → Journal → ℕ → DaySheet
+sheet_at opening J i = day_sheet opening (at_close J i)
+
+-- the sheet of the closed day with the date, if such a day is closed
+abbrev pub sheet_on : Day → Journal → Day → Option DaySheet
+sheet_on opening J d = option_map (day_sheet opening) (closed_on opening J d)
+
+-- the same where such a day is known to be closed
+abbrev pub sheet_named : Day → Journal → Day → DaySheet
+sheet_named opening J d = unwrap_or (sheet_on opening J d) (day_sheet opening [])
+
+-- the rows that are an account's
+abbrev pub rows_for : List Row → Account → List Row
+rows_for rows a = filter (λ r. r.account == a) rows
+
+-- the statement of an account on a sheet: the count of its rows, and the sums of their marks and dividends
+abbrev pub statement : DaySheet → Account → Stated
+statement s a =
+    let rs = rows_for s.rows a in
     record {
       account = a;
-      date = date opening K;
+      date = s.date;
       rows = length rs;
       mark = total (λ r. r.mark) rs;
       dividend = total (λ r. r.dividend) rs;
     }
-
--- the statement of an account on a closed day
-abbrev pub statement_of : Day → Journal → ℕ → Account → Stated
-statement_of opening J i a = statement opening (at_close J i) a

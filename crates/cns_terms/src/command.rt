@@ -1,5 +1,5 @@
 // Commands, and the activities among them.
-ghost use Rattle.std.specs.Prelude.{◌≡◌, Some};
+ghost use Rattle.std.specs.Prelude.{◌≡◌, ◌↔◌, true, Some};
 
 use crate::holding::Key;
 use cns_units::{Account, Cusip, Day, Member, Money, Price, Shares};
@@ -72,7 +72,47 @@ fn key(account: Account, issue: Cusip) -> Option<Key>
     Some(Key { account, issue })
 }
 
+impl Listing {
+    // Whether both are the same value.
+    fn is_same(&self, other: &Listing) -> bool
+        ensures { (result ≡ true) ↔ (self.now ≡ other.now) }
+    {
+        self.issue.is_same(&other.issue) && self.price == other.price
+    }
+}
+
+impl Trade {
+    // Whether both are the same value.
+    fn is_same(&self, other: &Trade) -> bool
+        ensures { (result ≡ true) ↔ (self.now ≡ other.now) }
+    {
+        self.reference == other.reference
+            && self.money == other.money
+            && self.shares == other.shares
+            && self.buyer == other.buyer
+            && self.seller == other.seller
+            && self.date.is_same(&other.date)
+            && self.issue.is_same(&other.issue)
+    }
+}
+
 impl Activity {
+    // Whether both are the same value.
+    fn is_same(&self, other: &Activity) -> bool
+        ensures { (result ≡ true) ↔ (self.now ≡ other.now) }
+    {
+        match (self, other) {
+            (Activity::Member(one), Activity::Member(two)) => one == two,
+            (Activity::Issue(one), Activity::Issue(two)) => one.is_same(two),
+            (Activity::Trade(one), Activity::Trade(two)) => one.is_same(two),
+            (Activity::Price(one), Activity::Price(two)) => one.is_same(two),
+            (Activity::Deliver(one), Activity::Deliver(two)) => one.is_same(two),
+            (Activity::Receive(one), Activity::Receive(two)) => one.is_same(two),
+            (Activity::Close(one), Activity::Close(two)) => one.is_same(two),
+            _ => false,
+        }
+    }
+
     // The keys at which the activity books where it is no more than a trade or a movement.
     fn keys(&self) -> [Option<Key>; 2] {
         match self {
@@ -98,6 +138,15 @@ impl Movement {
             key(Account::CORPORATION, self.issue),
         ]
     }
+
+    // Whether both are the same value.
+    fn is_same(&self, other: &Movement) -> bool
+        ensures { (result ≡ true) ↔ (self.now ≡ other.now) }
+    {
+        self.member == other.member
+            && self.issue.is_same(&other.issue)
+            && self.shares == other.shares
+    }
 }
 
 impl Command {
@@ -108,6 +157,24 @@ impl Command {
             Command::Activity(activity) => activity.keys(),
             Command::Position(key) => [Some(*key), None],
             Command::Statement { .. } => [None, None],
+        }
+    }
+
+    /// Whether both are the same value. `==` answers so too; this clause speaks of the values themselves.
+    pub fn is_same(&self, other: &Command) -> bool
+        ensures { (result ≡ true) ↔ (self.now ≡ other.now) }
+    {
+        match (self, other) {
+            (Command::Activity(one), Command::Activity(two)) => one.is_same(two),
+            (Command::Position(one), Command::Position(two)) => one.is_same(two),
+            (
+                Command::Statement { account, date },
+                Command::Statement {
+                    account: other_account,
+                    date: other_date,
+                },
+            ) => account == other_account && date.is_same(other_date),
+            _ => false,
         }
     }
 }

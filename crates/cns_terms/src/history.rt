@@ -1,4 +1,6 @@
 // The history of the book.
+ghost use Rattle.std.specs.Prelude.{◌≡◌, ◌↔◌, true};
+
 use crate::command::Command;
 use crate::reply::Reply;
 use crate::worker::Worker;
@@ -11,4 +13,16 @@ pub struct Taken {
     pub seq: u32,
     pub command: Command,
     pub reply: Reply,
+}
+
+impl Taken {
+    /// Whether both are the same value. `==` answers so too; this clause speaks of the values themselves.
+    pub fn is_same(&self, other: &Taken) -> bool
+        ensures { (result ≡ true) ↔ (self.now ≡ other.now) }
+    {
+        self.worker == other.worker
+            && self.seq == other.seq
+            && self.command.is_same(&other.command)
+            && self.reply.is_same(&other.reply)
+    }
 }

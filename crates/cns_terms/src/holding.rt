@@ -1,5 +1,5 @@
 // What stands at an account's place in an issue, and what is booked there.
-ghost use Rattle.std.specs.Prelude.{◌≡◌, ◌+◌, ◌*◌, ◌^◌, ◌<◌, take};
+ghost use Rattle.std.specs.Prelude.{◌≡◌, ◌↔◌, true, ◌+◌, ◌*◌, ◌^◌, ◌<◌, take};
 ghost use Rattle.std.specs.Int.{w64, from_be_bytes};
 ghost use Rattle.std.specs.Ordering.{as_partial_cmp};
 ghost use Rattle.std.specs.Cmp.{partial_order_from_own_ties};
@@ -26,6 +26,13 @@ impl Key {
         ensures small { from_be_bytes w64 (take 8 self.now.issue) < 2 ^ 64 }
     {
         u128::from(self.account.value()) * (1 << 64) + u128::from(self.issue.body())
+    }
+
+    /// Whether both are the same value. `==` answers so too; this clause speaks of the values themselves.
+    pub fn is_same(&self, other: &Key) -> bool
+        ensures { (result ≡ true) ↔ (self.now ≡ other.now) }
+    {
+        self.account == other.account && self.issue.is_same(&other.issue)
     }
 }
 
@@ -67,6 +74,15 @@ pub struct Holding {
     pub run: u32,
 }
 
+impl Holding {
+    /// Whether both are the same value. `==` answers so too; this clause speaks of the values themselves.
+    pub fn is_same(&self, other: &Holding) -> bool
+        ensures { (result ≡ true) ↔ (self.entry.now ≡ other.entry.now) }
+    {
+        self == other
+    }
+}
+
 /// Shares and cents that an activity books for an account in an issue.
 #[derive(Clone, Copy, Debug, PartialEq, Eq)]
 pub struct Entry {
@@ -76,4 +92,16 @@ pub struct Entry {
     pub shares: i64,
     /// Cents, to the account where positive.
     pub cents: i128,
+}
+
+impl Entry {
+    /// Whether both are the same value. `==` answers so too; this clause speaks of the values themselves.
+    pub fn is_same(&self, other: &Entry) -> bool
+        ensures { (result ≡ true) ↔ (self.now ≡ other.now) }
+    {
+        self.account == other.account
+            && self.issue.is_same(&other.issue)
+            && self.shares == other.shares
+            && self.cents == other.cents
+    }
 }

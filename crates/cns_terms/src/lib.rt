@@ -1,9 +1,31 @@
 //! The words of the book: commands, replies, refusals and what is kept of them, as plain data, and the definitions.
 //!
+//! ```text
+//! account     0, the corporation, or 1 to 9999, the members
+//! issue       known by its CUSIP, with the price last set
+//!
+//!             account 101 -----+
+//!                              +---- holding    now       position in shares: above 0 long, below 0 short
+//!             issue 037833100 -+                opening   position at the last close
+//!                                               contract  cents booked since the last close
+//!                                               run       age of a short: closes in a row at which it was short
+//!
+//! day         opening date            CLOSE names the next date        CLOSE
+//!             |                       |                                |
+//!             |---- day 1, closed ----|--------- day 2, closed --------|---- day 3, open: trades, prices, ...
+//!                                     |                                |
+//! sheet                               sheet of day 1                   sheet of day 2         never changes
+//!                                       date, price of each issue
+//!                                       rows, by account and issue:
+//!                                         opening, closing, opening price, price, money, mark, dividend
+//!                                       statement of an account: its rows and their sums
+//! ```
+//!
 //! The code here is data alone. What the book promises stands in `specs/`: every value is a sum, a count or a filter
 //! over the list of accepted activities, the newest first, so that a reader can check a rule without the code. Start
-//! with `specs/Machine.antt`, what a machine answers that keeps nothing but the accepted activities and recomputes;
-//! `specs/Refusals.antt` has the rules by which a command is refused, and `specs/Entries.antt` what an accepted one books.
+//! with `specs/Machine.antt`, which recomputes each reply from the accepted activities; `specs/Refusals.antt` has the
+//! rules by which a command is refused, `specs/Entries.antt` what an accepted one books, `specs/Laws.antt` what holds of
+//! all of it.
 #![tactic(auto)]
 
 mod command;

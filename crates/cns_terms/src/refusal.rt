@@ -1,5 +1,5 @@
 // Why a command is refused.
-ghost use Rattle.std.specs.Prelude.{◌≡◌};
+ghost use Rattle.std.specs.Prelude.{◌≡◌, ◌↔◌, true};
 ghost use Rattle.cns_terms.specs.Numbers.{refusal_number};
 
 /// Why a command is refused. Where several conditions hold, the reply is the refusal of least number (this project's
@@ -75,5 +75,12 @@ impl Refusal {
             Refusal::NoSuchDay => 19,
             Refusal::PendingTrades => 20,
         }
+    }
+
+    /// Whether both are the same value. `==` answers so too; this clause speaks of the values themselves.
+    pub fn is_same(&self, other: &Refusal) -> bool
+        ensures { (result ≡ true) ↔ (self.now ≡ other.now) }
+    {
+        self == other
     }
 }

@@ -1,4 +1,6 @@
 // What the book answers.
+ghost use Rattle.std.specs.Prelude.{◌≡◌, ◌↔◌, true};
+
 use crate::holding::{Holding, Key};
 use crate::refusal::Refusal;
 use cns_units::{Account, Cents, Day};
@@ -41,4 +43,47 @@ pub enum Reply {
     /// The first line of a statement; its rows are on the day's sheet.
     Stated(Stated),
     Refused(Refusal),
+}
+
+impl Closed {
+    // Whether both are the same value.
+    fn is_same(&self, other: &Closed) -> bool
+        ensures { (result ≡ true) ↔ (self.now ≡ other.now) }
+    {
+        self.day == other.day
+            && self.date.is_same(&other.date)
+            && self.rows == other.rows
+            && self.liable == other.liable
+    }
+}
+
+impl Stated {
+    // Whether both are the same value.
+    fn is_same(&self, other: &Stated) -> bool
+        ensures { (result ≡ true) ↔ (self.now ≡ other.now) }
+    {
+        self.account == other.account
+            && self.date.is_same(&other.date)
+            && self.rows == other.rows
+            && self.mark == other.mark
+            && self.dividend == other.dividend
+    }
+}
+
+impl Reply {
+    /// Whether both are the same value. `==` answers so too; this clause speaks of the values themselves.
+    pub fn is_same(&self, other: &Reply) -> bool
+        ensures { (result ≡ true) ↔ (self.now ≡ other.now) }
+    {
+        match (self, other) {
+            (Reply::Accepted, Reply::Accepted) => true,
+            (Reply::Closed(one), Reply::Closed(two)) => one.is_same(two),
+            (Reply::Held(key, holding), Reply::Held(other_key, other_holding)) => {
+                key.is_same(other_key) && holding.is_same(other_holding)
+            }
+            (Reply::Stated(one), Reply::Stated(two)) => one.is_same(two),
+            (Reply::Refused(one), Reply::Refused(two)) => one.is_same(two),
+            _ => false,
+        }
+    }
 }

@@ -1,4 +1,6 @@
 // A row of a closed day.
+ghost use Rattle.std.specs.Prelude.{◌≡◌, ◌↔◌, true};
+
 use cns_units::{Account, Cents, Cusip, Price};
 
 /// An account's row in an issue on a closed day's sheet.
@@ -21,4 +23,21 @@ pub struct Row {
     pub mark: Cents,
     /// The dividends booked on the day, in cents.
     pub dividend: Cents,
+}
+
+impl Row {
+    /// Whether both are the same value. `==` answers so too; this clause speaks of the values themselves.
+    pub fn is_same(&self, other: &Row) -> bool
+        ensures { (result ≡ true) ↔ (self.now ≡ other.now) }
+    {
+        self.account == other.account
+            && self.issue.is_same(&other.issue)
+            && self.opening == other.opening
+            && self.closing == other.closing
+            && self.opening_price == other.opening_price
+            && self.price == other.price
+            && self.money == other.money
+            && self.mark == other.mark
+            && self.dividend == other.dividend
+    }
 }

@@ -1,5 +1,6 @@
 -- The rules of trades and movements over plain facts, by the refusal's number.
-use Rattle.std.specs.Prelude.{◌^◌, ◌≤◌, ℤ, pos, ◌+ℤ◌, neg_ℤ, int_lt, int_le, unsigned_abs, Bool, not, ◌&&◌, ◌||◌, ◌==◌, nat_lt, List, [], ◌∷◌, Option, is_some, unwrap_or, Result, Ok, Err}
+use Rattle.std.specs.Prelude.{◌≤◌, ℤ, pos, ◌+ℤ◌, neg_ℤ, int_lt, int_le, unsigned_abs, Bool, not, ◌&&◌, ◌||◌, ◌==◌, nat_lt, List, [], ◌∷◌, Option, is_some, unwrap_or, Result, Ok, Err}
+use Rattle.std.specs.List.{AllByRecursion}
 use Rattle.std.specs.Option.{option_map_or}
 use Rattle.cns_terms.specs.declared.command.Movement.{Movement}
 use Rattle.cns_terms.specs.declared.command.Trade.{Trade}
@@ -8,6 +9,7 @@ use Rattle.cns_terms.specs.declared.refusal.Refusal.{Refusal}
 use Rattle.cns_terms.specs.declared.refusal.Refusal.TheVariants.{NoSuchMember, NoSuchIssue, Retired, SameParty, WrongDay, SeenReference, ExceedsPosition, NotOnHand, NotLong, TooLarge}
 use Rattle.cns_terms.specs.Days.{is_same_day}
 use Rattle.cns_terms.specs.Entries.{corporation, buyer_entry, seller_entry, moved_in, moved_out}
+use Rattle.cns_terms.specs.Limits.{booking_limit, corporation_limit}
 use Rattle.cns_terms.specs.Refusals.{Rule, first_refusal, is_beyond, is_exceeded}
 use Rattle.cns_terms.specs.Sums.{short}
 use Rattle.cns_trades.specs.declared.facts.MoveFacts.{MoveFacts}
@@ -47,26 +49,26 @@ receipt_rules f m =
     ∷ (NotLong, int_le (position_or_none f.member) (pos 0)) ∷ []
 
 -- the first refusal, or what is booked
-abbrev pub refusal_or : List Rule → Entry × Entry → Result (Entry × Entry) Refusal
+abbrev pub refusal_or : List Rule → List Entry → Result (List Entry) Refusal
 refusal_or rules entries = option_map_or Err (first_refusal rules) (Ok entries)
 
 -- the answer to a trade: the entries of its buyer and its seller
-abbrev pub trade_answer : TradeFacts → Bool → Trade → Result (Entry × Entry) Refusal
-trade_answer f seen t = refusal_or (trade_rules f seen t) (buyer_entry t, seller_entry t)
+abbrev pub trade_answer : TradeFacts → Bool → Trade → Result (List Entry) Refusal
+trade_answer f seen t = refusal_or (trade_rules f seen t) (buyer_entry t ∷ seller_entry t ∷ [])
 
 -- the answer to a delivery: the entries of the member and the corporation
-abbrev pub delivery_answer : MoveFacts → Movement → Result (Entry × Entry) Refusal
-delivery_answer f m = refusal_or (delivery_rules f m) (moved_in m.member m, moved_out corporation m)
+abbrev pub delivery_answer : MoveFacts → Movement → Result (List Entry) Refusal
+delivery_answer f m = refusal_or (delivery_rules f m) (moved_in m.member m ∷ moved_out corporation m ∷ [])
 
 -- the answer to a receipt: the entries of the member and the corporation
-abbrev pub receipt_answer : MoveFacts → Movement → Result (Entry × Entry) Refusal
-receipt_answer f m = refusal_or (receipt_rules f m) (moved_out m.member m, moved_in corporation m)
+abbrev pub receipt_answer : MoveFacts → Movement → Result (List Entry) Refusal
+receipt_answer f m = refusal_or (receipt_rules f m) (moved_out m.member m ∷ moved_in corporation m ∷ [])
 
--- an entry is no larger than a command can make it
+-- an entry is no larger than an activity can make it
 pub record IsSmallEntry (e : Entry) : Type 0 where
-  pub shares : unsigned_abs e.shares ≤ 10 ^ 9
-  pub cents : unsigned_abs e.cents ≤ 10 ^ 18
+  pub shares : unsigned_abs e.shares ≤ corporation_limit
+  pub cents : unsigned_abs e.cents ≤ booking_limit
 
--- and so are both of two
-abbrev pub AreSmallEntries : Entry × Entry → Type 0
-AreSmallEntries es = IsSmallEntry es.0 × IsSmallEntry es.1
+-- and so is each of a list
+abbrev pub AreSmallEntries : List Entry → Type 0
+AreSmallEntries es = AllByRecursion IsSmallEntry es

@@ -43,7 +43,7 @@ fn answer(
     trades: &Trades<Global>,
     facts: &TradeFacts,
     trade: &Trade,
-) -> Result<(Entry, Entry), Refusal> {
+) -> Result<[Entry; 2], Refusal> {
     let facts = TradeFacts {
         buyer: within(facts.buyer),
         seller: within(facts.seller),

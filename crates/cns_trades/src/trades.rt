@@ -1,10 +1,11 @@
 // The checks, and the references.
-ghost use Rattle.std.specs.Prelude.{◌≡◌, ℕ, ◌≤◌, ◌^◌, ◌||◌, ◌==◌, ◌+ℤ◌, OnOk, OnErr, IfOk, unsigned_abs, false, nat_lt, int_lt, neg_ℤ, pos};
+ghost use Rattle.std.specs.Prelude.{◌≡◌, ℕ, ◌≤◌, ◌||◌, ◌==◌, ◌+ℤ◌, OnOk, OnErr, IfOk, unsigned_abs, false, nat_lt, int_lt, neg_ℤ, pos};
 ghost use Rattle.std.specs.Option.{ForSome};
+ghost use Rattle.cns_terms.specs.Limits.{corporation_limit, position_limit};
 ghost use Rattle.cns_terms.specs.Refusals.{is_beyond, is_exceeded};
 ghost use Rattle.cns_terms.specs.Sums.{short};
-ghost use Rattle.cns_trades.specs.Checks.{delivery_answer, receipt_answer, trade_answer, AreSmallEntries};
 ghost use Rattle.cns_trades.specs.Used.{is_used};
+ghost use Rattle.cns_trades.specs.Checks.{delivery_answer, receipt_answer, trade_answer, AreSmallEntries};
 
 use crate::entries::{buyer_entry, moved_in, moved_out, seller_entry};
 use crate::facts::{MoveFacts, TradeFacts};
@@ -39,8 +40,8 @@ fn is_beyond(position: i64) -> bool
 
 // A position after the shares came in.
 fn moved(position: i64, shares: i64) -> i64
-    requires position_small { unsigned_abs position ≤ 10 ^ 10 }
-    requires shares_small { unsigned_abs shares ≤ 10 ^ 10 }
+    requires position { unsigned_abs position ≤ position_limit }
+    requires shares { unsigned_abs shares ≤ corporation_limit }
     ensures { result ≡ position +ℤ shares }
 {
     position + shares
@@ -96,9 +97,9 @@ impl<A: Allocator + Drop> Trades<A> {
 
     /// The first refusal of a trade by number, or what it books for its buyer and its seller (NSCC Procedure VII: the
     /// obligations of a trade net into the parties' positions). It takes no memory and uses no reference.
-    pub fn check_trade(&self, facts: &TradeFacts, trade: &Trade) -> Result<(Entry, Entry), Refusal>
-        requires buyer { ForSome facts.now.buyer (λ q. unsigned_abs q ≤ 10 ^ 10) }
-        requires seller { ForSome facts.now.seller (λ q. unsigned_abs q ≤ 10 ^ 10) }
+    pub fn check_trade(&self, facts: &TradeFacts, trade: &Trade) -> Result<[Entry; 2], Refusal>
+        requires buyer { ForSome facts.now.buyer (λ q. unsigned_abs q ≤ position_limit) }
+        requires seller { ForSome facts.now.seller (λ q. unsigned_abs q ≤ position_limit) }
         ensures answer { result ≡ trade_answer facts.now (is_used self.now trade.now.reference) trade.now }
         ensures small { IfOk result AreSmallEntries }
     {
@@ -131,7 +132,7 @@ impl<A: Allocator + Drop> Trades<A> {
         if is_beyond(moved(seller, sold.shares)) {
             return Err(Refusal::TooLarge);
         }
-        Ok((bought, sold))
+        Ok([bought, sold])
     }
 
     /// The first refusal of a delivery by number, or what it books for the member and the corporation: the shares come
@@ -140,7 +141,7 @@ impl<A: Allocator + Drop> Trades<A> {
         &self,
         facts: &MoveFacts,
         movement: &Movement,
-    ) -> Result<(Entry, Entry), Refusal>
+    ) -> Result<[Entry; 2], Refusal>
         ensures answer { result ≡ delivery_answer facts.now movement.now }
         ensures small { IfOk result AreSmallEntries }
     {
@@ -157,10 +158,10 @@ impl<A: Allocator + Drop> Trades<A> {
             return Err(Refusal::ExceedsPosition);
         }
         let member = movement.member.account();
-        Ok((
+        Ok([
             moved_in(member, movement),
             moved_out(Account::CORPORATION, movement),
-        ))
+        ])
     }
 
     /// The first refusal of a receipt by number, or what it books for the member and the corporation: the shares come
@@ -169,7 +170,7 @@ impl<A: Allocator + Drop> Trades<A> {
         &self,
         facts: &MoveFacts,
         movement: &Movement,
-    ) -> Result<(Entry, Entry), Refusal>
+    ) -> Result<[Entry; 2], Refusal>
         ensures answer { result ≡ receipt_answer facts.now movement.now }
         ensures small { IfOk result AreSmallEntries }
     {
@@ -192,9 +193,9 @@ impl<A: Allocator + Drop> Trades<A> {
             return Err(Refusal::NotLong);
         }
         let member = movement.member.account();
-        Ok((
+        Ok([
             moved_out(member, movement),
             moved_in(Account::CORPORATION, movement),
-        ))
+        ])
     }
 }

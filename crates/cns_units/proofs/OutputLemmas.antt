@@ -1,15 +1,27 @@
 -- One text after another, written to one writer.
-use Rattle.std.proofs.Common.{◌≡◌, ℕ, ◌+◌, ◌-◌, ◌≤◌, List, [], ◌∷◌, ◌++◌, Option, Some, None, Result, Ok, Err, refl, sym, ap, ◌∙◌, append_assoc, append-nil, arith, length, take, drop, take-append-drop, length-drop}
+use Rattle.std.proofs.Common.{◌≡◌, ℕ, ◌+◌, ◌-◌, ◌<◌, ◌≤◌, List, [], ◌∷◌, ◌++◌, Option, Some, None, Result, Ok, Err, refl, sym, ap, ◌∙◌, append_assoc, append-nil, arith, length, length-append, take, drop, take-append-drop, length-drop}
 use Rattle.std.proofs.Math.Seq.{take-add, take-length}
 use Rattle.std.specs.Io.KnownBytes.{Appends, Keeps}
 use Rattle.std.proofs.KnownBytes.{Appends-trans}
 use Rattle.cns_units.specs.Output.{AppendsFront, Writes}
 
 pub front_longer : (old new : Option (List ℕ)) (a b : List ℕ) → AppendsFront old new a → AppendsFront old new (a ++ b)
-front_longer old new a b w = record { front = w.front; rest = w.rest ++ b; whole = ap (λ l. l ++ b) w.whole ∙ append_assoc w.front w.rest b; appended = w.appended }
+front_longer old new a b w = record {
+  front = w.front;
+  rest = w.rest ++ b;
+  whole = ap (λ l. l ++ b) w.whole ∙ append_assoc w.front w.rest b;
+  short = let sum = length-append w.rest b in let some = w.short in omega (arith, sum, some);
+  appended = w.appended;
+}
 
 pub front_later : (old mid new : Option (List ℕ)) (a b : List ℕ) → Appends old mid a → AppendsFront mid new b → AppendsFront old new (a ++ b)
-front_later old mid new a b first w = record { front = a ++ w.front; rest = w.rest; whole = ap (λ l. a ++ l) w.whole ∙ sym (append_assoc a w.front w.rest); appended = Appends-trans old mid new a w.front first w.appended }
+front_later old mid new a b first w = record {
+  front = a ++ w.front;
+  rest = w.rest;
+  whole = ap (λ l. a ++ l) w.whole ∙ sym (append_assoc a w.front w.rest);
+  short = w.short;
+  appended = Appends-trans old mid new a w.front first w.appended;
+}
 
 -- a text that was written, and then what the last call did
 pub writes_then : {T E : Type 0} (old mid new : Option (List ℕ)) (a b : List ℕ) (r : Result T E) → Appends old mid a → Writes mid new b r → Writes old new (a ++ b) r
@@ -17,8 +29,14 @@ writes_then old mid new a b (Ok x) first last = Appends-trans old mid new a b fi
 writes_then old mid new a b (Err e) first last = front_later old mid new a b first last
 
 -- the first bytes of a text, which a writer took
-pub appends_front : (old new : Option (List ℕ)) (n : ℕ) (text : List ℕ) → Appends old new (take n text) → AppendsFront old new text
-appends_front old new n text h = record { front = take n text; rest = drop n text; whole = sym (take-append-drop n text); appended = h }
+pub appends_front : (old new : Option (List ℕ)) (n : ℕ) (text : List ℕ) → n < length text → Appends old new (take n text) → AppendsFront old new text
+appends_front old new n text lt h = record {
+  front = take n text;
+  rest = drop n text;
+  whole = sym (take-append-drop n text);
+  short = omega (arith, length-drop n text, lt);
+  appended = h;
+}
 
 appends_kept : (old mid new : Option (List ℕ)) (a : List ℕ) → Appends old mid a → Keeps mid new → Appends old new a
 appends_kept None mid new a p q = tt
@@ -42,8 +60,8 @@ take_none : (xs : List ℕ) → take 0 xs ≡ []
 take_none [] = refl
 take_none (x ∷ xs) = refl
 
-pub took_none : (old mid new : Option (List ℕ)) (bs xs : List ℕ) (at n : ℕ) → n ≡ 0 → Appends old mid (take at bs) → Appends mid new (take n xs) → AppendsFront old new bs
-took_none old mid new bs xs at n zero a b = appends_front old new at bs (rw append-nil at (Appends-trans old mid new (take at bs) [] a (rw (zero, take_none) at b)))
+pub took_none : (old mid new : Option (List ℕ)) (bs xs : List ℕ) (at n : ℕ) → at < length bs → n ≡ 0 → Appends old mid (take at bs) → Appends mid new (take n xs) → AppendsFront old new bs
+took_none old mid new bs xs at n lt zero a b = appends_front old new at bs lt (rw append-nil at (Appends-trans old mid new (take at bs) [] a (rw (zero, take_none) at b)))
 
-pub took_failed : (old mid new : Option (List ℕ)) (bs : List ℕ) (at : ℕ) → Appends old mid (take at bs) → Keeps mid new → AppendsFront old new bs
-took_failed old mid new bs at a b = appends_front old new at bs (appends_kept old mid new (take at bs) a b)
+pub took_failed : (old mid new : Option (List ℕ)) (bs : List ℕ) (at : ℕ) → at < length bs → Appends old mid (take at bs) → Keeps mid new → AppendsFront old new bs
+took_failed old mid new bs at lt a b = appends_front old new at bs lt (appends_kept old mid new (take at bs) a b)

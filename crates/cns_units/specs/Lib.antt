@@ -3,4 +3,3 @@ pub mod Cents
 pub mod Cusip
 pub mod Day
 pub mod Output
-pub mod CusipHash

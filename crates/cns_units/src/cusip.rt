@@ -1,16 +1,14 @@
-ghost use Rattle.std.specs.Prelude.{◌≡◌, ℕ, ◌+◌, ◌≤◌, ◌*◌, List, length, take, option_map, Bool, Option, IfSome};
+ghost use Rattle.std.specs.Prelude.{◌≡◌, ◌↔◌, ℕ, ◌+◌, ◌≤◌, ◌*◌, true, List, length, take, option_map, Bool, Option, IfSome};
 ghost use Rattle.std.proofs.Common.{rules};
 ghost use Rattle.std.specs.Cmp.{partial_order_from_own_ties};
 ghost use Rattle.std.specs.Cmp.Lexicographic.{slice_cmp};
 ghost use Rattle.std.specs.Cmp.Rules.{comparing};
 ghost use Rattle.std.specs.Int.{w64, from_be_bytes};
 ghost use Rattle.std.specs.Ordering.{nat_cmp, as_partial_cmp, is_eq};
-ghost use Rattle.cns_units.specs.CusipHash.{hash_input, hashes_alike};
 ghost use Rattle.cns_units.specs.Cusip.{character_value, weight, sum_of, cusip_of, IsCusip};
 
 use crate::fault::UnitFault;
 use std::cmp::Ordering;
-use std::hash::{Hash, Hasher};
 use std::marker::Model;
 
 /// The number of a security, with its check digit. CUSIPs are in the order of their bytes.
@@ -114,6 +112,13 @@ impl Cusip {
     {
         &self.text
     }
+
+    /// Whether all characters are the same. `==` answers so too; its clause speaks of an order, this one of the value.
+    pub fn is_same(&self, other: &Cusip) -> bool
+        ensures { (result ≡ true) ↔ (self.now ≡ other.now) }
+    {
+        self == other
+    }
 }
 
 impl Cusip {
@@ -140,16 +145,6 @@ impl PartialEq for Cusip {
 
 impl Eq for Cusip {
     ghost laws = { Prim.search (comparing, rules) };
-}
-
-impl Hash for Cusip {
-    ghost hash_input = { hash_input };
-
-    ghost respects_eq = { hashes_alike };
-
-    fn hash<H: Hasher>(&self, state: &mut H) {
-        state.write_u64(self.body());
-    }
 }
 
 impl Ord for Cusip {

@@ -1,5 +1,5 @@
 // Days of the calendar.
-ghost use Rattle.std.specs.Prelude.{◌≡◌, ◌+◌, ◌*◌, ◌<◌, length, true, IfSome};
+ghost use Rattle.std.specs.Prelude.{◌≡◌, ◌+◌, ◌*◌, ◌<◌, ◌↔◌, length, true, IfSome};
 ghost use Rattle.std.proofs.Common.{rules};
 ghost use Rattle.std.specs.Cmp.{partial_order_from_own_ties};
 ghost use Rattle.std.specs.Cmp.Rules.{comparing};
@@ -92,6 +92,13 @@ impl Day {
     {
         let date = civil::Date::new(self.year as i16, self.month as i8, self.day as i8);
         date.unwrap().to_unix_epoch_day()
+    }
+
+    /// Whether year, month and day are the same. `==` answers so too; its clause speaks of numbers, this one of the value.
+    pub fn is_same(&self, other: &Day) -> bool
+        ensures { (result ≡ true) ↔ (self.now ≡ other.now) }
+    {
+        self.day == other.day && self.month == other.month && self.year == other.year
     }
 }
 

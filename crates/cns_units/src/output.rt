@@ -6,7 +6,8 @@ use std::io::Write;
 
 /// Writes the bytes by as many calls of `write` as it takes.
 ///
-/// The first call that fails or takes no byte ends it with `WriteFault`; what was taken before is a front of the bytes.
+/// The first call that fails or takes no byte ends it with `WriteFault`; what was taken before is a front of the bytes,
+/// and not all of them.
 pub fn write_bytes<W: Write>(bytes: &[u8], writer: &mut W) -> Result<(), WriteFault>
     ensures { Writes (W.contents writer.old) (W.contents writer.new) bytes.now result }
 {

@@ -22,6 +22,20 @@ fn a_cusip_is_read_by_its_characters_and_its_check_digit(rt: HostRuntime) -> Res
 }
 
 #[test]
+fn a_cusip_is_the_same_as_itself_alone(rt: HostRuntime) -> Result<(), Fail> {
+    let texts = ["037833100", "17275R102", "38259P508", "38259P706"];
+    for left in texts {
+        for right in texts {
+            let a = Cusip::parse(left.as_bytes())?;
+            let b = Cusip::parse(right.as_bytes())?;
+            assert_eq!(rt; a.is_same(&b), left == right);
+            assert_eq!(rt; a == b, left == right);
+        }
+    }
+    Ok(())
+}
+
+#[test]
 fn a_day_is_read_only_as_year_month_and_day(rt: HostRuntime) -> Result<(), Fail> {
     let cases = [
         ("1970-01-01", Some(0)),
@@ -58,6 +72,7 @@ fn later_days_are_greater(rt: HostRuntime) -> Result<(), Fail> {
             let b = Day::parse(days[later].as_bytes())?;
             assert_eq!(rt; a < b, earlier < later);
             assert_eq!(rt; a == b, earlier == later);
+            assert_eq!(rt; a.is_same(&b), earlier == later);
         }
     }
     Ok(())

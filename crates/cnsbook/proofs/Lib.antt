@@ -1,1 +1,1 @@
-pub mod WriteLemmas
+pub mod EndLemmas

@@ -16,13 +16,13 @@ use std::process::ExitCode;
 fn main(rt: HostRuntime) -> ExitCode {
     let words = match std::env::args(&rt) {
         Ok(words) => words,
-        Err(error) => return ExitCode::from(refuse_words(&error, &mut rt.stderr())),
+        Err(error) => return ExitCode::from(refuse_words(&error, &mut rt.stderr()).status),
     };
     let Ok(words) = words.collect::<Vec<String>>(rt.alloc()) else {
-        return ExitCode::from(fail(ReplayFault::NoMemory, &mut rt.stderr()));
+        return ExitCode::from(fail(ReplayFault::NoMemory, &mut rt.stderr()).status);
     };
     let Ok(mut output) = BufWriter::new(rt.alloc(), io::writer(&rt)) else {
-        return ExitCode::from(fail(ReplayFault::NoMemory, &mut rt.stderr()));
+        return ExitCode::from(fail(ReplayFault::NoMemory, &mut rt.stderr()).status);
     };
     let status = program::program(
         &rt,

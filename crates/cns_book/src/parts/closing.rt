@@ -1,9 +1,9 @@
 // The close of a day.
-ghost use Rattle.std.specs.Prelude.{◌≡◌, ◌+◌, ◌<◌, ◌^◌, List, length};
+ghost use Rattle.std.specs.Prelude.{◌≡◌, List};
 ghost use Rattle.cns_terms.specs.declared.command.Activity.{Activity};
 ghost use Rattle.cns_terms.specs.declared.command.Activity.TheVariants as activity;
 ghost use Rattle.cns_terms.specs.declared.command.Command.TheVariants as command;
-ghost use Rattle.cns_book.specs.Follows.{Follows, HasRoom, IsReached, Steps};
+ghost use Rattle.cns_book.specs.Follows.{Follows, HasRoom, Steps};
 
 use crate::parts::Parts;
 use cns_positions::Positions;
@@ -16,7 +16,7 @@ impl<P: Positions<A>, A: Allocator + Drop + Clone> Parts<P, A> {
     pub fn close_day(&mut self, next: Day) -> Result<Reply, NoMemory>
         requires { HasRoom self.old }
         ensures opening { self.new.opening ≡ self.old.opening }
-        ensures step { (L : List Activity) → Follows L self.old → IsReached self.old.opening L → length L + 1 < 2 ^ 32 → Steps L (command.Activity (activity.Close next)) result self.new }
+        ensures step { (L : List Activity) → Follows L self.old → Steps L (command.Activity (activity.Close next)) result self.new }
     {
         if next <= self.today {
             return Ok(Reply::Refused(Refusal::WrongDay));

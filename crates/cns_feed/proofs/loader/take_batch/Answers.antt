@@ -1,8 +1,11 @@
-use Rattle.cns_feed.proofs.PlayLemmas.{takes-next, takes-none, up_to-few}
+use Rattle.cns_feed.proofs.PlayLemmas.{room-next, takes-next, takes-none, up_to-few}
 use Rattle.cns_feed.proofs.loader.take_batch.Goals as goal
 
 pub loop-line-init : goal.loop-line-init
 loop-line-init g c = takes-none _ _
+
+pub take_line-requires : goal.take_line-requires
+take_line-requires g c = record { room = room-next _ _ _ _ c.args.lines.now c.loop-line.line-index c.loop-line.invariant c.loop-line-test.true c.requires.room }
 
 pub add-requires : goal.add-requires
 add-requires g c = up_to-few _ _ _ _ c.args.lines.now c.loop-line.line-index c.loop-line.invariant c.requires.few c.requires.counts

@@ -1,17 +1,19 @@
-use Rattle.std.proofs.Common.{◌∙◌, ◌++◌, append-nil, sym, ap, subst}
+use Rattle.std.proofs.Common.{◌∙◌, ◌++◌, append-nil, sym, ap}
 use Rattle.std.proofs.lemmas.List.{drop_all}
 use Rattle.cns_positions.specs.Rows.{holding_at}
-use Rattle.cns_positions.specs.Steps.{IsSmallStep, replies}
-use Rattle.cns_positions.proofs.Stepping.{replies-step, small-step, step_at}
+use Rattle.cns_positions.specs.Steps.{replies}
+use Rattle.cns_positions.proofs.Stepping.{fit-step, next_fits, replies-step}
 use Rattle.cns_positions.proofs.steps.run.Goals as goal
+
+pub take_step-requires : goal.take_step-requires
+take_step-requires g c = next_fits _ c.args.steps.now c.loop-step.step-index c.step-item.result c.loop-step-test.true c.step-item.is c.loop-step.invariant.fits
 
 pub loop-step-preserved : goal.loop-step-preserved
 loop-step-preserved g c =
     let inv = c.loop-step.invariant in
-    let small = step_at c.args.steps.now c.loop-step.step-index c.step-item.result c.requires.small c.loop-step-test.true in
     record {
       done = rw c.in_ok-take_step.ensures.reply (replies-step _ _ c.args.steps.now c.loop-step.step-index c.step-item.result _ _ c.loop-step-test.true c.step-item.is inv.done c.in_ok-take_step.ensures.map);
-      small = small-step _ _ c.step-item.result c.loop-step.step-index (subst IsSmallStep (sym c.step-item.is) small) inv.small c.in_ok-take_step.ensures.map;
+      fits = fit-step _ _ c.args.steps.now c.loop-step.step-index c.step-item.result c.loop-step-test.true c.step-item.is inv.fits c.in_ok-take_step.ensures.map;
     }
 
 pub returns : goal.returns

@@ -1,10 +1,10 @@
 use Rattle.std.proofs.Common.{◌≡◌, ◌++◌, drop}
 use Rattle.cns_positions.specs.Rows.{holding_at}
-use Rattle.cns_positions.specs.Steps.{IsSmallMap, nowhere, replies}
+use Rattle.cns_positions.specs.Steps.{SumsFit, nowhere, replies}
 use Rattle.cns_positions.proofs.steps.run.Given as goal
 
 abbrev pub invariant-loop-step : goal.invariant-loop-step
 invariant-loop-step g l = record {
   done : replies nowhere l.steps ≡ l.holdings.items ++ replies (holding_at (g.P.Positions.rows l.positions)) (drop l.step-index l.steps);
-  small : IsSmallMap l.step-index (holding_at (g.P.Positions.rows l.positions));
+  fits : SumsFit (holding_at (g.P.Positions.rows l.positions)) (drop l.step-index l.steps);
 }

@@ -4,8 +4,7 @@ use Rattle.cns_terms.specs.History.{accepted}
 use Rattle.cns_terms.specs.declared.history.Taken.{Taken}
 use Rattle.cns_terms.specs.Machine.{answer_to}
 use Rattle.std.proofs.Common.{rules}
-use Rattle.cns_book.proofs.Taking.{has_room, book_stays, book_grows, reverse_push, room_below}
-use Rattle.cns_book.proofs.Closing.{reached_by}
+use Rattle.cns_book.proofs.Taking.{has_room, book_stays, book_grows, reverse_push}
 use Rattle.cns_book.proofs.book.Book.take.Goals as goal
 
 pub answer-requires : goal.answer-requires
@@ -18,7 +17,7 @@ invariant_of-self-in_err-reply g c =
     let H = reverse c.self.inside.history.items in
     let few : length H < c.self.inside.limit = rw (length-reverse c.self.inside.history.items) (omega arith) in
     rw c.in_ok-reserve.ensures.items (book_stays c.self.inside.limit H c.self.inside.counts c.self.inside.parts c.answer.new.self c.self.invariant c.answer.ensures.opening
-    (c.in_err-reply.ensures.step (accepted c.self.inside.parts.opening H) c.self.invariant.follows (reached_by c.self.inside.parts.opening H) (room_below c.self.inside.parts.opening H c.self.inside.limit few c.self.invariant.limited)))
+    (c.in_err-reply.ensures.step (accepted c.self.inside.parts.opening H) c.self.invariant.follows).1)
 
 pub invariant_of-self-2 : goal.invariant_of-self-2
 invariant_of-self-2 g c =
@@ -28,7 +27,7 @@ invariant_of-self-2 g c =
     let taken : Taken = record { worker = c.args.worker; seq = get_or c.self.inside.counts (c.value.result - 1) 0 + 1; command = c.args.command; reply = c.in_ok-reply.reply } in
     let done = c.push.ensures.succeeds (omega (arith, c.in_ok-reserve.ensures.ok)) in
     let pushed : c.push.new.self.items ≡ c.reserve.new.self.items ++ taken ∷ [] = rw done at c.push.ensures.items in
-    let step = c.in_ok-reply.ensures.step L c.self.invariant.follows (reached_by c.self.inside.parts.opening H) (room_below c.self.inside.parts.opening H c.self.inside.limit few c.self.invariant.limited) in
+    let step = c.in_ok-reply.ensures.step L c.self.invariant.follows in
     let same : c.value.result ≡ c.args.worker = c.value.ensures.value in
     rw (pushed, c.in_ok-reserve.ensures.items, reverse_push c.self.inside.history.items taken)
     (rw same (book_grows c.self.inside.limit H c.self.inside.counts c.self.inside.parts c.answer.new.self c.args.worker c.args.command c.in_ok-reply.reply c.self.invariant few c.value.ensures.range.0 c.value.ensures.range.1 (search rules) c.in_ok-reply.ensures.opening step))
@@ -41,7 +40,7 @@ returns-clause-ok g c =
     let taken : Taken = record { worker = c.args.worker; seq = get_or c.self.inside.counts (c.value.result - 1) 0 + 1; command = c.args.command; reply = c.in_ok-reply.reply } in
     let done = c.push.ensures.succeeds (omega (arith, c.in_ok-reserve.ensures.ok)) in
     let pushed : c.push.new.self.items ≡ c.reserve.new.self.items ++ taken ∷ [] = rw done at c.push.ensures.items in
-    let step = c.in_ok-reply.ensures.step L c.self.invariant.follows (reached_by c.self.inside.parts.opening H) (room_below c.self.inside.parts.opening H c.self.inside.limit few c.self.invariant.limited) in
+    let step = c.in_ok-reply.ensures.step L c.self.invariant.follows in
     let same : c.value.result ≡ c.args.worker = c.value.ensures.value in
     let history : reverse c.push.new.self.items ≡ taken ∷ H = ap reverse (pushed ∙ ap (λ es. es ++ taken ∷ []) c.in_ok-reserve.ensures.items) ∙ reverse_push c.self.inside.history.items taken in
     let longer = rw done at c.push.ensures.len in

@@ -15,7 +15,6 @@ returns-clause-step g c L f =
     let f' = subst (Follows L) (sym c.self.view_is) f in
     let J = journal c.self.inside.opening L in
     let absent = ap (is_account J) (sym c.account-account.ensures.value) ∙ ap (λ (s : Contents). is_account (journal s.opening L) c.account-account.result) c.self.view_is ∙ sym (c.is_account.ensures L f) ∙ c.if-is_account.false in
-    accepted L (activity.Member c.args.member) reply.Accepted
-    (no_refusal (rules c.self.inside.opening J (activity.Member c.args.member)) (absent, tt))
-    refl
-    (member_added L _ c.args.member c.insert.new.self f' (rw (← c.account-account.ensures.value) c.in_ok-insert.ensures.ok))
+    let none = no_refusal (rules c.self.inside.opening J (activity.Member c.args.member)) (absent, tt) in
+    accepted L (activity.Member c.args.member) reply.Accepted none refl
+    (member_added L _ c.args.member c.insert.new.self f' c.account-account.ensures.range.1 none (rw (← c.account-account.ensures.value) c.in_ok-insert.ensures.ok))

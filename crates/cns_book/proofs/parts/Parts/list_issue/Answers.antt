@@ -14,8 +14,7 @@ pub returns-clause-step : goal.returns-clause-step
 returns-clause-step g c L f =
     let f' = subst (Follows L) (sym c.self.view_is) f in
     let J = journal c.self.inside.opening L in
-    let absent = sym (listed (is_listed J c.args.listing.issue) _ _ (f'.prices c.args.listing.issue)) ∙ ap is_some (sym c.price.ensures) ∙ sym c.is_some.ensures ∙ c.if-is_some.false in
-    accepted L (activity.Issue c.args.listing) reply.Accepted
-    (no_refusal (rules c.self.inside.opening J (activity.Issue c.args.listing)) (absent, tt))
-    refl
-    (issue_listed L _ c.args.listing c.list.new.self f' c.in_ok-list.ensures.price c.in_ok-list.ensures.retired)
+    let absent = sym (listed (is_listed J c.args.listing.issue) _ _ (f'.listings.prices c.args.listing.issue)) ∙ ap is_some (sym c.price.ensures) ∙ sym c.is_some.ensures ∙ c.if-is_some.false in
+    let none = no_refusal (rules c.self.inside.opening J (activity.Issue c.args.listing)) (absent, tt) in
+    accepted L (activity.Issue c.args.listing) reply.Accepted none refl
+    (issue_listed L _ c.args.listing c.list.new.self f' none c.in_ok-list.ensures.price c.in_ok-list.ensures.retired)

@@ -7,4 +7,4 @@ use Rattle.cns_book.proofs.parts.Parts.listed_and_retired.Goals as goal
 pub returns-in-Some-clause-retired : goal.returns-in-Some-clause-retired
 returns-in-Some-clause-retired g c L f =
     let f' = subst (Follows L) (sym c.self.view_is) f in
-    ap (λ o. option_map_or (λ (q : Quote). q.retired) o false) c.in-Some.ensures ∙ f'.retired c.args.issue
+    ap (λ o. option_map_or (λ (q : Quote). q.retired) o false) c.in-Some.ensures ∙ f'.listings.retired c.args.issue

@@ -4,15 +4,14 @@ use Rattle.cns_terms.specs.Days.{closed_on}
 use Rattle.cns_terms.specs.Entries.{journal}
 use Rattle.cns_terms.specs.Listings.{is_account}
 use Rattle.cns_terms.specs.Sheets.{DaySheet}
-use Rattle.cns_book.proofs.Closing.{whole_reached}
-use Rattle.cns_book.proofs.Dated.{answer_stated, sound_on}
+use Rattle.cns_book.proofs.Dated.{answer_stated}
 use Rattle.cns_book.proofs.parts.Parts.statement.Goals as goal
 
 pub returns-in-Some : goal.returns-in-Some
-returns-in-Some g c L f r =
+returns-in-Some g c L f =
     let o = c.args.self.now.opening in
     let J = journal o L in
     let sheet : DaySheet = c.deref.result.now in
     let is : is_account J c.args.account ≡ true = sym (c.is_account.ensures L f) ∙ c.if-not-is_account.false in
     ap reply.Stated c.stated.ensures
-    ∙ answer_stated o (is_account J c.args.account) (closed_on o J c.args.date) c.args.account sheet is (sym (c.in-Some.ensures.value L f) ∙ ap Some (sym c.deref.ensures)) (sound_on o J c.args.date (whole_reached o L r))
+    ∙ answer_stated o (is_account J c.args.account) (closed_on o J c.args.date) c.args.account sheet is (sym (c.in-Some.ensures.value L f) ∙ ap Some (sym c.deref.ensures))

@@ -1,0 +1,64 @@
+-- What an activity leaves: of each group of parts, which activities change it.
+use Rattle.std.proofs.Common.{◌≡◌, ◌∙◌, sym, ap, Bool, true, false, [], ◌∷◌}
+use Rattle.cns_terms.specs.declared.command.Activity.{Activity}
+use Rattle.cns_terms.specs.declared.command.Activity.TheVariants as activity
+use Rattle.cns_terms.specs.declared.holding.Key.{Key}
+use Rattle.cns_terms.specs.Days.{is_close}
+use Rattle.cns_terms.specs.Entries.{entries, posting}
+use Rattle.cns_terms.specs.Machine.{holding}
+use Rattle.cns_terms.specs.Postings.{Journal}
+use Rattle.cns_positions.specs.Rows.{Rows, holding_at}
+use Rattle.cns_book.specs.Contents.{Contents}
+use Rattle.cns_book.specs.Effects.{books}
+use Rattle.cns_book.specs.Follows.{FollowsClock, FollowsListings, FollowsRows, FollowsSheets}
+use Rattle.cns_book.proofs.Places.{books_none, holding-post}
+
+-- whether an activity changes members or listed issues
+abbrev pub is_listing : Activity → Bool
+is_listing (activity.Member m) = true
+is_listing (activity.Issue l) = true
+is_listing (activity.Trade t) = false
+is_listing (activity.Price l) = true
+is_listing (activity.Deliver m) = false
+is_listing (activity.Receive m) = false
+is_listing (activity.Close d) = false
+
+module _ (s : Contents) (J : Journal) where
+  abbrev after : Activity → Journal
+  after x = posting s.opening J x ∷ J
+
+  pub clock_stays : (x : Activity) → is_close x ≡ false → FollowsClock J s → FollowsClock (after x) s
+  clock_stays (activity.Member m) h f = record { today = f.today; closes = f.closes }
+  clock_stays (activity.Issue l) h f = record { today = f.today; closes = f.closes }
+  clock_stays (activity.Trade t) h f = record { today = f.today; closes = f.closes }
+  clock_stays (activity.Price l) h f = record { today = f.today; closes = f.closes }
+  clock_stays (activity.Deliver m) h f = record { today = f.today; closes = f.closes }
+  clock_stays (activity.Receive m) h f = record { today = f.today; closes = f.closes }
+  clock_stays (activity.Close d) h f = cc
+
+  pub listings_stay : (x : Activity) → is_listing x ≡ false → FollowsListings J s → FollowsListings (after x) s
+  listings_stay (activity.Member m) h f = cc
+  listings_stay (activity.Issue l) h f = cc
+  listings_stay (activity.Trade t) h f = record { members = f.members; prices = f.prices; retired = f.retired }
+  listings_stay (activity.Price l) h f = cc
+  listings_stay (activity.Deliver m) h f = record { members = f.members; prices = f.prices; retired = f.retired }
+  listings_stay (activity.Receive m) h f = record { members = f.members; prices = f.prices; retired = f.retired }
+  listings_stay (activity.Close d) h f = record { members = f.members; prices = f.prices; retired = f.retired }
+
+  pub sheets_stay : (x : Activity) → is_close x ≡ false → FollowsSheets J s → FollowsSheets (after x) s
+  sheets_stay (activity.Member m) h f = f
+  sheets_stay (activity.Issue l) h f = f
+  sheets_stay (activity.Trade t) h f = f
+  sheets_stay (activity.Price l) h f = f
+  sheets_stay (activity.Deliver m) h f = f
+  sheets_stay (activity.Receive m) h f = f
+  sheets_stay (activity.Close d) h f = cc
+
+  -- what an activity books, and no more, is the effect on the rows
+  pub rows_booked : (x : Activity) (rows : Rows) → is_close x ≡ false → ((k : Key) → holding_at rows k ≡ books (entries s.opening J x) k (holding_at s.rows k)) → FollowsRows J s → FollowsRows (after x) (record s { rows = rows })
+  rows_booked x rows still b f k = b k ∙ ap (books (entries s.opening J x) k) (f k) ∙ sym (holding-post (posting s.opening J x) J k still)
+
+  -- an activity that books nothing leaves them
+  pub rows_stay : (x : Activity) → is_close x ≡ false → entries s.opening J x ≡ [] → FollowsRows J s → FollowsRows (after x) s
+  rows_stay x still none f k =
+      f k ∙ sym (holding-post (posting s.opening J x) J k still ∙ ap (λ es. books es k (holding J k.account k.issue)) none ∙ books_none k (holding J k.account k.issue))

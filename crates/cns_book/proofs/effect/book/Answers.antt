@@ -1,0 +1,46 @@
+use Rattle.std.proofs.Common.{◌∙◌, ◌^◌, ◌≤◌, sym, ap, refl, subst}
+use Rattle.std.specs.Prelude.{unsigned_abs}
+use Rattle.std.proofs.lemmas.List.{take_all}
+use Rattle.cns_terms.specs.declared.holding.Holding.{Holding}
+use Rattle.cns_positions.specs.Rows.{booked, holding_at}
+use Rattle.cns_trades.specs.Checks.{IsSmallEntry}
+use Rattle.cns_book.specs.Effects.{books, place_of}
+use Rattle.cns_book.proofs.Booking.{books_step, cents_fit, place_at, shares_fit, small_at}
+use Rattle.cns_book.proofs.Places.{books_none}
+use Rattle.cns_book.proofs.effect.book.Goals as goal
+
+pub loop-entry-init : goal.loop-entry-init
+loop-entry-init g c = record {
+  prepared = refl;
+  booked = λ k. sym (books_none k (holding_at (g.P.Positions.rows c.args.positions.now) k));
+}
+
+pub add-requires-clause-prepared : goal.add-requires-clause-prepared
+add-requires-clause-prepared g c =
+    rw (c.loop-entry.invariant.prepared, c.requires.prepared) (place_at c.args.entries.now c.loop-entry.entry-index c.entry-item.result c.loop-entry-test.true c.entry-item.is)
+
+pub add-requires-clause-entry : goal.add-requires-clause-entry
+add-requires-clause-entry g c = subst IsSmallEntry (sym c.entry-item.is) (small_at c.args.entries.now c.loop-entry.entry-index c.entry-item.result c.requires.small c.loop-entry-test.true)
+
+pub add-requires-clause-shares : goal.add-requires-clause-shares
+add-requires-clause-shares g c =
+    let k = place_of c.entry-item.result in
+    subst (λ (h : Holding). unsigned_abs h.now ≤ 2 ^ 62) (sym (c.loop-entry.invariant.booked k)) (shares_fit c.args.entries.now c.loop-entry.entry-index (g.P.Positions.rows c.args.positions.now) k c.requires.small c.requires.few c.requires.rows)
+
+pub add-requires-clause-cents : goal.add-requires-clause-cents
+add-requires-clause-cents g c =
+    let k = place_of c.entry-item.result in
+    subst (λ (h : Holding). unsigned_abs h.contract ≤ 2 ^ 126) (sym (c.loop-entry.invariant.booked k)) (cents_fit c.args.entries.now c.loop-entry.entry-index (g.P.Positions.rows c.args.positions.now) k c.requires.small c.requires.few c.requires.rows)
+
+pub loop-entry-preserved : goal.loop-entry-preserved
+loop-entry-preserved g c =
+    let e = c.entry-item.result in
+    let inv = c.loop-entry.invariant in
+    record {
+      prepared = c.add.ensures.prepared ∙ inv.prepared;
+      booked = λ k. c.add.ensures.booked k ∙ ap (booked e k) (inv.booked k) ∙ books_step c.args.entries.now c.loop-entry.entry-index e k (holding_at (g.P.Positions.rows c.args.positions.now) k) c.loop-entry-test.true c.entry-item.is;
+    }
+
+pub returns : goal.returns
+returns g c k =
+    c.loop-entry.invariant.booked k ∙ ap (λ es. books es k (holding_at (g.P.Positions.rows c.args.positions.now) k)) (take_all c.loop-entry.entry-index c.args.entries.now c.loop-entry-test.false)

@@ -1,0 +1,11 @@
+use Rattle.std.proofs.Common.{◌≡◌, take}
+use Rattle.cns_terms.specs.declared.holding.Key.{Key}
+use Rattle.cns_positions.specs.Rows.{holding_at}
+use Rattle.cns_book.specs.Effects.{books}
+use Rattle.cns_book.proofs.effect.book.Given as goal
+
+abbrev pub invariant-loop-entry : goal.invariant-loop-entry
+invariant-loop-entry g l = record {
+  prepared : g.P.Positions.prepared l.positions ≡ g.P.Positions.prepared l.fn.positions;
+  booked : (k : Key) → holding_at (g.P.Positions.rows l.positions) k ≡ books (take l.entry-index l.entries) k (holding_at (g.P.Positions.rows l.fn.positions) k);
+}

@@ -1,0 +1,11 @@
+use Rattle.std.proofs.Common.{◌≤◌, sym, subst}
+use Rattle.std.specs.Prelude.{unsigned_abs}
+use Rattle.cns_terms.specs.Limits.{position_limit}
+use Rattle.cns_terms.specs.declared.holding.Holding.{Holding}
+use Rattle.cns_book.specs.Follows.{HasRoom}
+use Rattle.cns_book.proofs.Within.{member_within}
+use Rattle.cns_book.proofs.parts.Parts.standing.Goals as goal
+
+pub returns-clause-member : goal.returns-clause-member
+returns-clause-member g c room m =
+    subst (λ (h : Holding). unsigned_abs h.now ≤ position_limit) (sym c.get.ensures) (member_within _ c.args.key.account c.args.key.issue m (subst HasRoom (sym c.self.view_is) room))

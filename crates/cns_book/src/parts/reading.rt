@@ -1,0 +1,159 @@
+// What the parts show.
+ghost use Rattle.std.specs.Prelude.{◌≡◌, ◌≤◌, List, Some, None, option_map, if◌then◌else◌, unsigned_abs};
+ghost use Rattle.std.specs.Arc.{arc_value};
+ghost use Rattle.std.specs.Option.{ForSome, option_copied};
+ghost use Rattle.cns_terms.specs.declared.command.Activity.{Activity};
+ghost use Rattle.cns_terms.specs.declared.command.Command.TheVariants as command;
+ghost use Rattle.cns_terms.specs.Days.{date, day};
+ghost use Rattle.cns_terms.specs.Entries.{journal};
+ghost use Rattle.cns_terms.specs.Limits.{position_limit};
+ghost use Rattle.cns_terms.specs.Listings.{is_account, is_listed, is_member, is_retired};
+ghost use Rattle.cns_terms.specs.Machine.{answer_to, holding};
+ghost use Rattle.cns_terms.specs.Positions.{position};
+ghost use Rattle.cns_terms.specs.Refusals.{refusal};
+ghost use Rattle.cns_terms.specs.Sheets.{sheet_on};
+ghost use Rattle.cns_positions.specs.Rows.{holding_at};
+ghost use Rattle.cns_book.specs.Dated.{dated_sheet};
+ghost use Rattle.cns_book.specs.Follows.{Follows, HasRoom};
+ghost use Rattle.cns_book.specs.Shown.{holding_shown, price_listed};
+
+use crate::parts::Parts;
+use cns_positions::Positions;
+use cns_sheets::Sheet;
+use cns_terms::{Holding, Key, Refusal, Reply};
+use cns_units::{Account, Cusip, Day, Member, Price};
+use std::alloc::Allocator;
+use std::sync::Arc;
+
+impl<P: Positions<A>, A: Allocator + Drop + Clone> Parts<P, A> {
+    /// The open day's date.
+    pub fn today(&self) -> Day
+        ensures { (L : List Activity) → Follows L self.now → result ≡ date self.now.opening (journal self.now.opening L) }
+    {
+        self.today
+    }
+
+    /// The open day's number, from 1.
+    pub fn day(&self) -> u64
+        ensures { (L : List Activity) → Follows L self.now → result ≡ day (journal self.now.opening L) }
+    {
+        u64::from(self.closes) + 1
+    }
+
+    /// The price of an issue, None where it is not listed.
+    pub fn price(&self, issue: Cusip) -> Option<Price>
+        ensures { (L : List Activity) → Follows L self.now → result ≡ price_listed (journal self.now.opening L) issue }
+    {
+        self.prices.price(issue)
+    }
+
+    /// Tells the positions which keys will be asked for next.
+    pub fn prefetch(&self, keys: &[Key]) {
+        self.positions.prefetch(keys);
+    }
+
+    /// Whether the account is there: the corporation's always is.
+    pub fn is_account(&self, account: Account) -> bool
+        ensures { (L : List Activity) → Follows L self.now → result ≡ is_account (journal self.now.opening L) account }
+    {
+        account == Account::CORPORATION || self.members.contains(account)
+    }
+
+    // Whether the issue is listed.
+    fn is_listed(&self, issue: Cusip) -> bool
+        ensures { (L : List Activity) → Follows L self.now → result ≡ is_listed (journal self.now.opening L) issue }
+    {
+        self.prices.price(issue).is_some()
+    }
+
+    /// Whether the issue is listed, and whether it is retired.
+    pub fn listed_and_retired(&self, issue: Cusip) -> (bool, bool)
+        ensures listed { (L : List Activity) → Follows L self.now → result.0 ≡ is_listed (journal self.now.opening L) issue }
+        ensures retired { (L : List Activity) → Follows L self.now → result.1 ≡ is_retired (journal self.now.opening L) issue }
+    {
+        match self.prices.quote(issue) {
+            Some(quote) => (true, quote.retired),
+            None => (false, false),
+        }
+    }
+
+    /// What stands at a key. Where only the position is asked for, no more than that is read.
+    #[inline(always)]
+    pub fn standing(&self, key: Key) -> Holding
+        ensures now { result ≡ holding_at self.now.rows key }
+        ensures member { HasRoom self.now → 1 ≤ key.account → unsigned_abs result.now ≤ position_limit }
+        ensures value { (L : List Activity) → Follows L self.now → result ≡ holding (journal self.now.opening L) key.account key.issue }
+    {
+        self.positions.get(key)
+    }
+
+    /// A member's position, None where it is no member.
+    pub fn position_of(&self, member: Member, issue: Cusip) -> Option<i64>
+        ensures value { (L : List Activity) → Follows L self.now → result ≡ (if is_member (journal self.now.opening L) member then Some (position (journal self.now.opening L) member issue) else None) }
+        ensures member { 1 ≤ member }
+        ensures small { HasRoom self.now → ForSome result (λ q. unsigned_abs q ≤ position_limit) }
+    {
+        let account = member.account();
+        if self.members.contains(account) {
+            Some(self.standing(Key { account, issue }).now)
+        } else {
+            None
+        }
+    }
+
+    // Why a POSITION is refused.
+    fn position_refusal(&self, key: Key) -> Option<Refusal>
+        ensures { (L : List Activity) → Follows L self.now → result ≡ refusal self.now.opening (journal self.now.opening L) (command.Position key) }
+    {
+        if !self.is_account(key.account) {
+            return Some(Refusal::NoSuchMember);
+        }
+        if !self.is_listed(key.issue) {
+            return Some(Refusal::NoSuchIssue);
+        }
+        None
+    }
+
+    /// What a POSITION would show, None where it would be refused.
+    pub fn shown(&self, key: Key) -> Option<Holding>
+        ensures { (L : List Activity) → Follows L self.now → result ≡ holding_shown self.now.opening L key }
+    {
+        let key = &key;
+        match self.position_refusal(*key) {
+            Some(_) => None,
+            None => Some(self.standing(*key)),
+        }
+    }
+
+    /// POSITION.
+    pub fn position(&self, key: Key) -> Reply
+        ensures { (L : List Activity) → Follows L self.now → result ≡ answer_to self.now.opening L (command.Position key) }
+    {
+        let key = &key;
+        match self.position_refusal(*key) {
+            Some(refusal) => Reply::Refused(refusal),
+            None => Reply::Held(*key, self.standing(*key)),
+        }
+    }
+
+    /// The sheet of the closed day with the date; None where no closed day has it.
+    pub fn sheet(&self, date: Day) -> Option<&Arc<Sheet<A>, A>>
+        ensures now { option_map arc_value (option_copied result) ≡ dated_sheet self.now.sheets date }
+        ensures value { (L : List Activity) → Follows L self.now → option_map arc_value (option_copied result) ≡ sheet_on self.now.opening (journal self.now.opening L) date }
+    {
+        self.closed.find(date)
+    }
+
+    /// STATEMENT.
+    pub fn statement(&self, account: Account, date: Day) -> Reply
+        ensures { (L : List Activity) → Follows L self.now → result ≡ answer_to self.now.opening L (command.Statement account date) }
+    {
+        if !self.is_account(account) {
+            return Reply::Refused(Refusal::NoSuchMember);
+        }
+        match self.sheet(date) {
+            Some(sheet) => Reply::Stated(sheet.stated(account)),
+            None => Reply::Refused(Refusal::NoSuchDay),
+        }
+    }
+}

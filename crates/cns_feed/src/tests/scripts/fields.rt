@@ -1,0 +1,141 @@
+// Fields of records, and their faults.
+use super::Script;
+
+pub(crate) const FIELDS: [Script; 7] = [
+    Script {
+        name: "money up to 10^18 cents, more, and none",
+        opening: "2024-06-03",
+        input: "MEMBER,101\n\
+            MEMBER,202\n\
+            ISSUE,037833100,19500\n\
+            TRADE,1,101,202,037833100,1,1000000000000000000,2024-06-03\n\
+            POSITION,101,037833100\n\
+            TRADE,2,101,202,037833100,1,1000000000000000001,2024-06-03\n\
+            TRADE,2,101,202,037833100,1,,2024-06-03\n",
+        output: "ok\n\
+            ok\n\
+            ok\n\
+            ok\n\
+            position 101 037833100 1 0 -10000000000000000.00 0\n\
+            line Range\n\
+            line Number\n",
+        commands: 5,
+        lines: 2,
+        closes: 0,
+    },
+    Script {
+        name: "dates that the calendar has and has not",
+        opening: "2024-02-29",
+        input: "MEMBER,101\n\
+            MEMBER,202\n\
+            ISSUE,037833100,19500\n\
+            TRADE,1,101,202,037833100,1,0,2024-02-29\n\
+            TRADE,2,101,202,037833100,1,0,2023-02-29\n\
+            TRADE,2,101,202,037833100,1,0,2024-6-3\n\
+            TRADE,2,101,202,037833100,1,0,0000-01-01\n",
+        output: "ok\n\
+            ok\n\
+            ok\n\
+            ok\n\
+            line Date\n\
+            line Date\n\
+            line Date\n",
+        commands: 4,
+        lines: 3,
+        closes: 0,
+    },
+    Script {
+        name: "CUSIPs with a wrong check digit, eight characters and a lower-case letter",
+        opening: "2024-06-03",
+        input: "ISSUE,037833101,1\n\
+            ISSUE,17275R102,1\n\
+            ISSUE,03783310,1\n\
+            ISSUE,38259P508,1\n\
+            ISSUE,17275r102,1\n",
+        output: "line Cusip\n\
+            ok\n\
+            line Cusip\n\
+            ok\n\
+            line Cusip\n",
+        commands: 2,
+        lines: 3,
+        closes: 0,
+    },
+    Script {
+        name: "a record whose first fault decides, and a blank line at the end",
+        opening: "2024-06-03",
+        input: "\"MEMBER\",\"101\"\n\
+            MEMBER,00101\n\
+            MEMBER,+1\n\
+            MEMBER, 1\n\
+            MEMBER,\n\
+            MEMBER\n\
+            member,1\n\
+            MEMBER,10000\n\
+            MEMBER,9999999999999999999999999999999999999999\n\
+            TRADE,0,x,202,C,5,0,2024-13-01\n\
+            \n",
+        output: "ok\n\
+            refused 1\n\
+            line Number\n\
+            line Number\n\
+            line Number\n\
+            line Count\n\
+            line Kind\n\
+            line Range\n\
+            line Range\n\
+            line Range\n",
+        commands: 2,
+        lines: 8,
+        closes: 0,
+    },
+    Script {
+        name: "quotes, leading zeros, a sign, a blank, missing and long fields, and a lower-case kind",
+        opening: "2024-06-03",
+        input: "\"MEMBER\",\"101\"\n\
+            MEMBER,00101\n\
+            MEMBER,+1\n\
+            MEMBER, 1\n\
+            MEMBER,\n\
+            MEMBER\n\
+            member,1\n\
+            MEMBER,10000\n\
+            MEMBER,9999999999999999999999999999999999999999\n\
+            TRADE,0,x,202,037833100,5,0,2024-13-01\n",
+        output: "ok\n\
+            refused 1\n\
+            line Number\n\
+            line Number\n\
+            line Number\n\
+            line Count\n\
+            line Kind\n\
+            line Range\n\
+            line Range\n\
+            line Range\n",
+        commands: 2,
+        lines: 8,
+        closes: 0,
+    },
+    Script {
+        name: "a record with too few fields, and a last record that is cut short",
+        opening: "2024-06-03",
+        input: "MEMBER,101\n\
+            TRADE,1,101,202,037833100,100\n\
+            CLOSE,2024-06",
+        output: "ok\n\
+            line Count\n\
+            line Date\n",
+        commands: 1,
+        lines: 2,
+        closes: 0,
+    },
+    Script {
+        name: "an empty input",
+        opening: "2024-06-03",
+        input: "",
+        output: "",
+        commands: 0,
+        lines: 0,
+        closes: 0,
+    },
+];

@@ -1,0 +1,412 @@
+-- No sum of a day leaves the limit of amounts.
+use Rattle.std.proofs.Common.{◌≡◌, ◌∙◌, ap, refl, sym, subst, ℕ, ◌+◌, ◌*◌, ◌≤◌, ◌<◌, ℤ, pos, neg_ℤ, ◌+ℤ◌, ◌-ℤ◌, ◌*ℤ◌, Bool, true, false, ◌&&◌, ◌==◌, cond, is_none, not, slice_get, unwrap_or, find, Option, Some, List, [], ◌∷◌, length, arith}
+use Rattle.std.specs.Cmp.Lexicographic.{slice_cmp}
+use Rattle.std.specs.List.{AllByRecursion}
+use Rattle.std.specs.Option.{option_map_or}
+use Rattle.std.specs.Ordering.{is_eq, is_lt, nat_cmp}
+use Rattle.std.specs.declared.cmp.Ordering.{Ordering}
+use Rattle.std.specs.declared.cmp.Ordering.TheVariants.{Less, Equal, Greater}
+use Rattle.std.specs.Prelude.{bytes_eq, filter_map, unsigned_abs}
+use Rattle.std.proofs.lemmas.Int.{ints, unsigned_abs-mul}
+use Rattle.std.proofs.lemmas.Map.Text.{is_eq-slice_cmp}
+use Rattle.std.proofs.Math.Nat.{mul-le-mul_right}
+use Rattle.std.proofs.lemmas.Slice.Eq.{bytes_eq-Decides}
+use Rattle.cns_units.specs.declared.account.Account.{Account}
+use Rattle.cns_units.specs.declared.cusip.Cusip.{Cusip}
+use Rattle.cns_units.specs.declared.day.Day.{Day}
+use Rattle.cns_terms.specs.declared.command.Activity.{Activity}
+use Rattle.cns_terms.specs.declared.command.Activity.TheVariants as activity
+use Rattle.cns_terms.specs.declared.command.Command.{Command}
+use Rattle.cns_terms.specs.declared.command.Command.TheVariants as command
+use Rattle.cns_terms.specs.declared.command.Listing.{Listing}
+use Rattle.cns_terms.specs.declared.holding.Entry.{Entry}
+use Rattle.cns_terms.specs.declared.sheet.Row.{Row}
+use Rattle.cns_terms.specs.Days.{at_close, closings, day, is_close, last_close, open_day}
+use Rattle.cns_terms.specs.Dividends.{dividend}
+use Rattle.cns_terms.specs.Entries.{journal, posting}
+use Rattle.cns_terms.specs.Laws.{Amounts, HasSmallAmounts, HasSmallSums, StaysSmall}
+use Rattle.cns_terms.specs.Limits.{amount_limit, booking_limit, corporation_limit, history_limit, member_limit, position_limit, price_limit}
+use Rattle.cns_terms.specs.Listings.{accounts, issues, members, price, priced}
+use Rattle.cns_terms.specs.Machine.{State, after, next, opened}
+use Rattle.cns_terms.specs.Marks.{mark, value}
+use Rattle.cns_terms.specs.Positions.{cents_for, money, position}
+use Rattle.cns_terms.specs.Postings.{Journal, Posting, activities}
+use Rattle.cns_terms.specs.Reached.{IsCommandPriceInRange, IsInRange, IsPriceInRange, IsReached}
+use Rattle.cns_terms.specs.Refusals.{refusal}
+use Rattle.cns_terms.specs.Sheets.{day_sheet, is_idle, row, rows_of, sheet_rows}
+use Rattle.cns_terms.specs.Sums.{total}
+use Rattle.cns_terms.proofs.Facts.{and_left, and_right, journal_len}
+use Rattle.cns_terms.proofs.Everywhere.{each_found, each_weaker}
+use Rattle.cns_terms.proofs.Magnitudes.{added, added-all, added-each, added-flat_map, added-kept, added-more, added-swap, added-times, added-add, added-zero, front_total, magnitude, total_small}
+use Rattle.cns_terms.proofs.Reached.{IsLimited, bounded, limited, members_few, members_from_one, reached-from}
+use Rattle.cns_terms.proofs.Rising.{above_all, is_rising}
+use Rattle.cns_terms.proofs.SheetBounds.{issues_few}
+use Rattle.cns_terms.proofs.Sound.{opening_stays}
+
+-- the cents of one activity's two entries
+abbrev entries_limit : ℕ
+entries_limit = 2 * booking_limit
+
+-- the cents of a posting's entries, whatever their signs
+abbrev pub cents_of : Posting → ℕ
+cents_of p = magnitude (λ e. e.cents) p.entries
+
+-- a journal with its limits: few postings, small prices, and no more cents than activities can book
+pub record IsSmall (opening : Day) (J : Journal) : Type 0 where
+  pub limited : IsLimited opening J
+  pub few : length J < history_limit
+  pub prices : (c : Cusip) → price J c ≤ price_limit
+  pub booked : added cents_of J ≤ entries_limit * length J
+
+-- ---- an activity's entries, and its price
+
+-- the sign of cents makes no difference
+no_sign : (n : ℕ) → unsigned_abs (neg_ℤ (pos n)) ≡ n
+no_sign n = omega (arith, ints)
+
+-- a trade's two entries
+two_cents : (m n : ℕ) → m ≤ booking_limit → n ≡ m → n + (m + 0) ≤ entries_limit
+two_cents m n h e = omega (arith, h, e)
+
+-- an activity in its ranges books few cents
+booked_few : (opening : Day) (J : Journal) (x : Activity) → IsInRange x → cents_of (posting opening J x) ≤ entries_limit
+booked_few opening J (activity.Member m) r = omega arith
+booked_few opening J (activity.Issue l) r = omega arith
+booked_few opening J (activity.Trade t) r = two_cents t.money (unsigned_abs (neg_ℤ (pos t.money))) r (no_sign t.money)
+booked_few opening J (activity.Price l) r = omega arith
+booked_few opening J (activity.Deliver m) r = omega arith
+booked_few opening J (activity.Receive m) r = omega arith
+booked_few opening J (activity.Close d) r = omega arith
+
+-- a price that is set or was set before
+price_if : (t : Bool) (l : Listing) (o : Option Listing) → l.price ≤ price_limit → option_map_or (λ (l : Listing). l.price) o 0 ≤ price_limit → option_map_or (λ (l : Listing). l.price) (cond t (Some l) o) 0 ≤ price_limit
+price_if true l o p q = p
+price_if false l o p q = q
+
+-- an activity in its ranges sets small prices
+price-post : (opening : Day) (J : Journal) (x : Activity) (c : Cusip) → IsPriceInRange x → price J c ≤ price_limit → price (posting opening J x ∷ J) c ≤ price_limit
+price-post opening J (activity.Member m) c r h = h
+price-post opening J (activity.Issue l) c r h = price_if (bytes_eq l.issue c) l (find (λ l. bytes_eq l.issue c) (filter_map priced (activities J))) r h
+price-post opening J (activity.Trade t) c r h = h
+price-post opening J (activity.Price l) c r h = price_if (bytes_eq l.issue c) l (find (λ l. bytes_eq l.issue c) (filter_map priced (activities J))) r h
+price-post opening J (activity.Deliver m) c r h = h
+price-post opening J (activity.Receive m) c r h = h
+price-post opening J (activity.Close d) c r h = h
+
+-- ---- a journal that commands reach, and the journals as its closes found them
+
+-- the prices that activities set are within their limit
+abbrev ArePriced : List Activity → Type 0
+ArePriced L = AllByRecursion IsPriceInRange L
+
+-- each price of a journal is small
+prices_small : (opening : Day) (L : List Activity) → ArePriced L → (c : Cusip) → price (journal opening L) c ≤ price_limit
+prices_small opening [] r c = omega arith
+prices_small opening (x ∷ L) r c = price-post opening (journal opening L) x c r.0 (prices_small opening L r.1 c)
+
+-- a journal has no more cents than its activities can book
+all_booked : (opening : Day) (L : List Activity) → IsReached opening L → added cents_of (journal opening L) ≤ entries_limit * length (journal opening L)
+all_booked opening [] r = omega arith
+all_booked opening (x ∷ L) r = omega (arith, booked_few opening (journal opening L) x r.0, all_booked opening L r.2)
+
+-- a journal that commands reach is small
+small : (opening : Day) (L : List Activity) → IsReached opening L → ArePriced L → length L < history_limit → IsSmall opening (journal opening L)
+small opening L r p few = record {
+  limited = limited opening L r;
+  few = omega (arith, few, journal_len opening L);
+  prices = prices_small opening L p;
+  booked = all_booked opening L r;
+}
+
+-- a journal, and the one before it
+record AreSmall (opening : Day) (J : Journal) : Type 0 where
+  now : IsSmall opening J
+  before : IsSmall opening (last_close J)
+
+-- a journal, and those of its closes
+record AreAllSmall (opening : Day) (J : Journal) : Type 0 where
+  now : AreSmall opening J
+  past : AllByRecursion (AreSmall opening) (closings J)
+
+-- the journal before, after an activity that ends a day or not
+before_if : (opening : Day) (b : Bool) (J : Journal) → AreSmall opening J → IsSmall opening (unwrap_or (slice_get (cond b (J ∷ closings J) (closings J)) 0) [])
+before_if opening true J s = s.now
+before_if opening false J s = s.before
+
+-- and the journals of all closes
+past_if : (opening : Day) (b : Bool) (J : Journal) → AreAllSmall opening J → AllByRecursion (AreSmall opening) (cond b (J ∷ closings J) (closings J))
+past_if opening true J s = (s.now, s.past)
+past_if opening false J s = s.past
+
+-- the empty journal is small
+small_nil : (opening : Day) → IsSmall opening []
+small_nil opening = small opening [] tt tt (omega arith)
+
+-- a journal that commands reach is small, and so it was at each close
+all_small : (opening : Day) (L : List Activity) → IsReached opening L → ArePriced L → length L < history_limit → AreAllSmall opening (journal opening L)
+all_small opening [] r p few = record { now = record { now = small_nil opening; before = small_nil opening }; past = tt }
+all_small opening (x ∷ L) r p few =
+    let s : AreAllSmall opening (journal opening L) = all_small opening L r.2 p.1 (omega (arith, few)) in
+    record {
+      now = record { now = small opening (x ∷ L) r p few; before = before_if opening (is_close x) (journal opening L) s.now };
+      past = past_if opening (is_close x) (journal opening L) s;
+    }
+
+-- ---- the rows of a sheet
+
+-- a number of each row, over the accounts and the issues
+abbrev over_all : (Account → Cusip → ℕ) → Journal → ℕ
+over_all g K = added (λ a. added (g a) (issues K)) (accounts K)
+
+-- a sheet's rows are of accounts and issues, each once at most
+rows_small : (opening : Day) (K : Journal) (f : Row → ℕ) → added f (sheet_rows opening K) ≤ over_all (λ a c. f (row opening K a c)) K
+rows_small opening K f = added-flat_map f (rows_of opening K) (λ a. added (λ c. f (row opening K a c)) (issues K)) (accounts K) (λ a. added-kept f (λ r. not (is_idle r)) (row opening K a) (issues K))
+
+-- ---- cents
+
+-- what comes before another is not the same
+not_same : (r : Ordering) → is_lt r ≡ true → is_eq r ≡ false
+not_same Less h = refl
+not_same Equal h = cc
+not_same Greater h = cc
+
+-- an issue's number, where its issue is none of those
+no_term : (b t : Bool) (z : ℤ) (n : ℕ) → t ≡ false → n ≡ 0 → unsigned_abs (cond (b && t) z (pos 0)) + n ≡ 0
+no_term true true z n h e = cc
+no_term true false z n h e = omega (arith, e)
+no_term false t z n h e = omega (arith, e)
+
+-- a number given to an issue is given to none of the issues after it
+none_above : (b : Bool) (i c : Cusip) (z : ℤ) (cs : List Cusip) → i ≡ c → above_all (slice_cmp nat_cmp) c cs ≡ true → added (λ d. unsigned_abs (cond (b && bytes_eq i d) z (pos 0))) cs ≡ 0
+none_above b i c z [] e h = refl
+none_above b i c z (d ∷ cs) e h =
+    no_term b (bytes_eq i d) z (added (λ d. unsigned_abs (cond (b && bytes_eq i d) z (pos 0))) cs)
+    (ap (λ j. bytes_eq j d) e ∙ sym (is_eq-slice_cmp c d) ∙ not_same (slice_cmp nat_cmp c d) (and_left _ _ h))
+    (none_above b i c z cs e (and_right _ _ h))
+
+-- a number given to one issue, with what is given to those after it
+one_term : (b t : Bool) (z : ℤ) (n : ℕ) → (t ≡ true → n ≡ 0) → n ≤ unsigned_abs z → unsigned_abs (cond (b && t) z (pos 0)) + n ≤ unsigned_abs z
+one_term true true z n none h = let e = none refl in omega (arith, e)
+one_term true false z n none h = omega (arith, h)
+one_term false t z n none h = omega (arith, h)
+
+-- a number given to one of the issues
+one_issue : (b : Bool) (i : Cusip) (z : ℤ) (cs : List Cusip) → is_rising (slice_cmp nat_cmp) cs ≡ true → added (λ c. unsigned_abs (cond (b && bytes_eq i c) z (pos 0))) cs ≤ unsigned_abs z
+one_issue b i z [] h = omega arith
+one_issue b i z (c ∷ cs) h =
+    one_term b (bytes_eq i c) z (added (λ d. unsigned_abs (cond (b && bytes_eq i d) z (pos 0))) cs)
+    (λ e. none_above b i c z cs ((bytes_eq-Decides i c).0 e) (and_left _ _ h))
+    (one_issue b i z cs (and_right _ _ h))
+
+-- the cents of one posting for an account, over the issues
+posting_cents : (a : Account) (cs : List Cusip) (p : Posting) → is_rising (slice_cmp nat_cmp) cs ≡ true → added (λ c. magnitude (cents_for a c) p.entries) cs ≤ cents_of p
+posting_cents a cs p h =
+    omega (
+      arith,
+      added-swap (λ c e. unsigned_abs (cents_for a c e)) cs p.entries,
+      added-more (λ (e : Entry). added (λ c. unsigned_abs (cents_for a c e)) cs) (λ e. unsigned_abs e.cents) p.entries (λ e. one_issue (e.account == a) e.issue e.cents cs h),
+    )
+
+-- the cents at a key are no more than the entries' there
+key_cents : (J : Journal) (a : Account) (c : Cusip) → unsigned_abs (total (λ p. total (cents_for a c) p.entries) J) ≤ added (λ p. magnitude (cents_for a c) p.entries) J
+key_cents J a c =
+    omega (
+      arith,
+      total_small (λ p. total (cents_for a c) p.entries) J,
+      added-more (λ (p : Posting). unsigned_abs (total (cents_for a c) p.entries)) (λ p. magnitude (cents_for a c) p.entries) J (λ p. total_small (cents_for a c) p.entries),
+    )
+
+-- the cents of an account, over the issues
+account_cents : (J : Journal) (a : Account) (cs : List Cusip) → is_rising (slice_cmp nat_cmp) cs ≡ true → added (λ c. unsigned_abs (total (λ p. total (cents_for a c) p.entries) J)) cs ≤ added cents_of J
+account_cents J a cs h =
+    omega (
+      arith,
+      added-more (λ (c : Cusip). unsigned_abs (total (λ p. total (cents_for a c) p.entries) J)) (λ c. added (λ p. magnitude (cents_for a c) p.entries) J) cs (λ c. key_cents J a c),
+      added-swap (λ c p. magnitude (cents_for a c) p.entries) cs J,
+      added-more (λ (p : Posting). added (λ c. magnitude (cents_for a c) p.entries) cs) cents_of J (λ p. posting_cents a cs p h),
+    )
+
+-- the open day's postings, or none after a close
+open_or_none : (b : Bool) (J : Journal) (n : ℕ) → added cents_of (open_day J) ≤ n → added cents_of (cond b [] (open_day J)) ≤ n
+open_or_none true J n h = omega arith
+open_or_none false J n h = h
+
+-- the open day's cents are among the journal's
+open_small : (J : Journal) → added cents_of (open_day J) ≤ added cents_of J
+open_small [] = omega arith
+open_small (p ∷ J) = let rest = open_or_none (is_close p.activity) J (added cents_of J) (open_small J) in omega (arith, rest)
+
+-- the cents of the open day, over the accounts and the issues
+abbrev cents_limit : ℕ
+cents_limit = entries_limit * history_limit
+
+-- few cents a posting, and few postings
+times_few : (m n k : ℕ) → m ≤ n → n ≤ entries_limit * k → k < history_limit → m ≤ cents_limit
+times_few m n k p q r = omega (arith, p, q, r)
+
+-- few cents an account, and few accounts
+at_accounts : (m n : ℕ) → m ≤ cents_limit * (1 + n) → n ≤ member_limit → m ≤ cents_limit * 10000
+at_accounts m n h few = omega (arith, h, few)
+
+-- the cents of all accounts in all issues
+cents_small : (opening : Day) (K : Journal) → IsSmall opening K → over_all (λ a c. unsigned_abs (money K a c)) K ≤ cents_limit * 10000
+cents_small opening K s =
+    let each : (a : Account) → added (λ c. unsigned_abs (money K a c)) (issues K) ≤ cents_limit = λ a.
+    times_few _ (added cents_of K) (length K) (omega (arith, account_cents (open_day K) a (issues K) s.limited.whole.now.issues_rise, open_small K)) s.booked s.few in
+    at_accounts _ (length (members K)) (omega (arith, added-all (λ a. added (λ c. unsigned_abs (money K a c)) (issues K)) cents_limit (accounts K) each)) (members_few opening K s.limited)
+
+-- ---- values
+
+-- the shares in an issue, long or short, of the corporation and of as many members as there can be
+abbrev shares_limit : ℕ
+shares_limit = corporation_limit + position_limit * member_limit
+
+-- the shares of all accounts in an issue
+shares_small : (opening : Day) (K J : Journal) (c : Cusip) → IsLimited opening K → IsLimited opening J → added (λ a. unsigned_abs (position J a c)) (accounts K) ≤ shares_limit
+shares_small opening K J c k j =
+    let b = bounded opening J c j in
+    let each = each_weaker (λ a. 1 ≤ a) (λ a. unsigned_abs (position J a c) ≤ position_limit) (members K) (λ a m. b.members a m) (members_from_one opening K k) in
+    omega (arith, b.corporation, added-each (λ a. unsigned_abs (position J a c)) position_limit (members K) each, members_few opening K k)
+
+-- the value of those shares, at most
+abbrev value_limit : ℕ
+value_limit = shares_limit * price_limit
+
+-- few shares at a small price
+priced_few : (m n p : ℕ) → m ≤ n * p → n ≤ shares_limit → p ≤ price_limit → m ≤ value_limit
+priced_few m n p h few q = omega (arith, h, q, mul-le-mul_right p few)
+
+-- the value of all accounts in an issue
+value_small : (opening : Day) (K J : Journal) (c : Cusip) → IsSmall opening K → IsSmall opening J → added (λ a. unsigned_abs (value J a c)) (accounts K) ≤ value_limit
+value_small opening K J c k j =
+    let f : Account → ℕ = λ a. unsigned_abs (position J a c) in
+    priced_few _ (added f (accounts K)) (price J c)
+    (omega (
+      arith,
+      added-more (λ (a : Account). unsigned_abs (value J a c)) (λ a. f a * price J c) (accounts K) (λ a. omega (arith, unsigned_abs-mul (position J a c) (pos (price J c)))),
+      added-times f (price J c) (accounts K),
+    ))
+    (shares_small opening K J c k.limited j.limited) (j.prices c)
+
+-- a small value an issue, and few issues
+at_issues : (m n k : ℕ) → m ≤ value_limit * n → n ≤ k → k < history_limit → m ≤ value_limit * history_limit
+at_issues m n k h p q = omega (arith, h, p, q)
+
+-- the value of all accounts in all issues
+values_small : (opening : Day) (K J : Journal) → IsSmall opening K → IsSmall opening J → over_all (λ a c. unsigned_abs (value J a c)) K ≤ value_limit * history_limit
+values_small opening K J k j =
+    at_issues _ (length (issues K)) (length K)
+    (omega (
+      arith,
+      added-swap (λ a c. unsigned_abs (value J a c)) (accounts K) (issues K),
+      added-all (λ c. added (λ a. unsigned_abs (value J a c)) (accounts K)) value_limit (issues K) (λ c. value_small opening K J c k j),
+    ))
+    (issues_few K) k.few
+
+-- ---- marks
+
+-- a mark has three parts
+three_parts : (x y z : ℤ) → unsigned_abs ((x -ℤ y) +ℤ z) ≤ (unsigned_abs x + unsigned_abs y) + unsigned_abs z
+three_parts x y z = omega (arith, ints)
+
+-- a greater number for each account and issue
+over_more : (g h : Account → Cusip → ℕ) (K : Journal) → ((a : Account) (c : Cusip) → g a c ≤ h a c) → over_all g K ≤ over_all h K
+over_more g h K le = added-more (λ a. added (g a) (issues K)) (λ a. added (h a) (issues K)) (accounts K) (λ a. added-more (g a) (h a) (issues K) (λ c. le a c))
+
+-- two numbers for each
+over_add : (g h : Account → Cusip → ℕ) (K : Journal) → over_all (λ a c. g a c + h a c) K ≤ over_all g K + over_all h K
+over_add g h K =
+    omega (
+      arith,
+      added-more (λ a. added (λ c. g a c + h a c) (issues K)) (λ a. added (g a) (issues K) + added (h a) (issues K)) (accounts K) (λ a. omega (arith, added-add (g a) (h a) (issues K))),
+      added-add (λ a. added (g a) (issues K)) (λ a. added (h a) (issues K)) (accounts K),
+    )
+
+-- the marks of all accounts in all issues
+marks_small : (opening : Day) (K : Journal) → AreSmall opening K → over_all (λ a c. unsigned_abs (mark K a c)) K ≤ amount_limit
+marks_small opening K s =
+    let g : Account → Cusip → ℕ = λ a c. unsigned_abs (value K a c) in
+    let h : Account → Cusip → ℕ = λ a c. unsigned_abs (value (last_close K) a c) in
+    let m : Account → Cusip → ℕ = λ a c. unsigned_abs (money K a c) in
+    let parts = over_more (λ a c. unsigned_abs (mark K a c)) (λ a c. (g a c + h a c) + m a c) K (λ a c. three_parts (value K a c) (value (last_close K) a c) (money K a c)) in
+    three_few _ (over_all (λ a c. g a c + h a c) K) (over_all g K) (over_all h K) (over_all m K)
+    (omega (arith, parts, over_add (λ a c. g a c + h a c) m K)) (over_add g h K)
+    (values_small opening K K s.now s.now) (values_small opening K (last_close K) s.now s.before) (cents_small opening K s.now)
+  where
+    three_few : (m n v w x : ℕ) → m ≤ n + x → n ≤ v + w → v ≤ value_limit * history_limit → w ≤ value_limit * history_limit → x ≤ cents_limit * 10000 → m ≤ amount_limit
+    three_few m n v w x h k p q r = omega (arith, h, k, p, q, r)
+
+-- ---- the sheet
+
+-- the first rows of a sheet, where the numbers of all rows are small
+first_rows : (opening : Day) (K : Journal) (f : Row → ℤ) → over_all (λ a c. unsigned_abs (f (row opening K a c))) K ≤ amount_limit → StaysSmall f (day_sheet opening K)
+first_rows opening K f h n = front_total f n amount_limit (sheet_rows opening K) (omega (arith, rows_small opening K (λ r. unsigned_abs (f r)), h))
+
+-- there are no dividends yet
+no_dividends : (opening : Day) (K : Journal) → over_all (λ a c. unsigned_abs (dividend opening K a c)) K ≤ amount_limit
+no_dividends opening K =
+    let each : (a : Account) → added (λ c. unsigned_abs (dividend opening K a c)) (issues K) ≤ 0 = λ a. omega (arith, added-zero (issues K)) in
+    omega (arith, added-all (λ a. added (λ c. unsigned_abs (dividend opening K a c)) (issues K)) 0 (accounts K) each)
+
+-- the sums over a sheet are small
+sheet_small : (opening : Day) (K : Journal) → AreSmall opening K → HasSmallSums (day_sheet opening K)
+sheet_small opening K s = record {
+  cents = first_rows opening K (λ r. r.money) (omega (arith, cents_small opening K s.now));
+  values = first_rows opening K (λ r. r.closing *ℤ pos r.price) (omega (arith, values_small opening K K s.now s.now));
+  marks = first_rows opening K (λ r. r.mark) (marks_small opening K s);
+  dividends = first_rows opening K (λ r. r.dividend) (no_dividends opening K);
+}
+
+-- ---- any commands
+
+-- few cents a posting at one key, and few postings
+few_cents : (m k : ℕ) → m ≤ booking_limit * k → k < history_limit → m ≤ amount_limit
+few_cents m k h few = omega (arith, h, few)
+
+-- amounts are small where a journal and those of its closes are
+amounts_small : (opening : Day) (J : Journal) (i : ℕ) → AreAllSmall opening J → HasSmallAmounts opening J i
+amounts_small opening J i s =
+    let none : AreSmall opening [] = record { now = small_nil opening; before = small_nil opening } in
+    record {
+      sheet = sheet_small opening (at_close J i) (each_found (AreSmall opening) (λ K. day K == i) [] (closings J) none s.past);
+      open_cents = λ a c. few_cents _ (length J) (s.now.now.limited.cents a c) s.now.now.few;
+    }
+
+-- an activity that is accepted, or refused
+priced_if : (b : Bool) (x : Activity) (L : List Activity) → IsPriceInRange x → ArePriced L → ArePriced (cond b (x ∷ L) L)
+priced_if true x L r p = (r, p)
+priced_if false x L r p = p
+
+-- a command keeps the prices small
+priced-next : (S : State) (cmd : Command) → IsCommandPriceInRange cmd → ArePriced S.accepted → ArePriced (next S cmd).accepted
+priced-next S (command.Activity x) r p = priced_if (is_none (refusal S.opening (journal S.opening S.accepted) (command.Activity x))) x S.accepted r p
+priced-next S (command.Position k) r p = p
+priced-next S (command.Statement a d) r p = p
+
+-- and so do commands
+priced-from : (S : State) (cmds : List Command) → AllByRecursion IsCommandPriceInRange cmds → ArePriced S.accepted → ArePriced (after S cmds).accepted
+priced-from S [] r p = p
+priced-from S (cmd ∷ cmds) r p = priced-from (next S cmd) cmds r.1 (priced-next S cmd r.0 p)
+
+-- at most one activity is accepted
+few_if : (b : Bool) (x : Activity) (L : List Activity) → length (cond b (x ∷ L) L) ≤ length L + 1
+few_if true x L = omega arith
+few_if false x L = omega arith
+
+-- by a command
+few-next : (S : State) (cmd : Command) → length (next S cmd).accepted ≤ length S.accepted + 1
+few-next S (command.Activity x) = few_if (is_none (refusal S.opening (journal S.opening S.accepted) (command.Activity x))) x S.accepted
+few-next S (command.Position k) = omega arith
+few-next S (command.Statement a d) = omega arith
+
+-- no more activities are accepted than there are commands
+few-from : (S : State) (cmds : List Command) → length (after S cmds).accepted ≤ length S.accepted + length cmds
+few-from S [] = omega arith
+few-from S (cmd ∷ cmds) = omega (arith, few-from (next S cmd) cmds, few-next S cmd)
+
+-- after any commands in their ranges, no more than a history holds, amounts stay within their limit
+pub amounts : Amounts
+amounts opening cmds i r p few =
+    let S = after (opened opening) cmds in
+    let s : AreAllSmall opening (journal opening S.accepted) = all_small opening S.accepted (reached-from (opened opening) cmds r tt) (priced-from (opened opening) cmds p tt) (omega (arith, few-from (opened opening) cmds, few)) in
+    subst (λ o. HasSmallAmounts opening (journal o S.accepted) i) (sym (opening_stays (opened opening) cmds)) (amounts_small opening (journal opening S.accepted) i s)

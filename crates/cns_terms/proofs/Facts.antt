@@ -1,0 +1,104 @@
+-- Facts that proofs of several crates use: tests, comparisons, numbers.
+use Rattle.std.proofs.Common.{◌≡◌, ◌∙◌, sym, ap, refl, suc, ℕ, ℤ, pos, ◌+ℤ◌, Bool, true, false, not, ◌&&◌, ◌||◌, cond, eqb, List, [], ◌∷◌, length, Option, Some, arith}
+use Rattle.std.specs.Prelude.{bytes_eq, int_le, int_lt}
+use Rattle.std.specs.Cmp.Lexicographic.{slice_cmp}
+use Rattle.std.specs.Option.{option_map_or}
+use Rattle.std.specs.Ordering.{is_eq, is_lt, nat_cmp}
+use Rattle.std.specs.declared.cmp.Ordering.{Ordering}
+use Rattle.std.specs.declared.cmp.Ordering.TheVariants.{Less, Equal, Greater}
+use Rattle.std.proofs.lemmas.Bool.Decides.{nat_tests}
+use Rattle.std.proofs.lemmas.Cmp.{nat_list_cmp_total, nat_list_eq_equiv, tied_itself}
+use Rattle.std.proofs.lemmas.Int.{ints}
+use Rattle.std.proofs.lemmas.Map.Text.{is_eq-slice_cmp}
+use Rattle.cns_units.specs.declared.cusip.Cusip.{Cusip}
+use Rattle.cns_units.specs.declared.day.Day.{Day}
+use Rattle.cns_terms.specs.declared.command.Activity.{Activity}
+use Rattle.cns_terms.specs.declared.command.Listing.{Listing}
+use Rattle.cns_terms.specs.Entries.{journal}
+
+-- ---- tests
+
+-- of two that hold, the first does, and the second
+pub and_left : (a b : Bool) → (a && b) ≡ true → a ≡ true
+and_left true b e = refl
+and_left false b e = e
+
+pub and_right : (a b : Bool) → (a && b) ≡ true → b ≡ true
+and_right true b e = e
+and_right false b e = cc
+
+pub both_true : (a b : Bool) → a ≡ true → b ≡ true → (a && b) ≡ true
+both_true true b p q = q
+both_true false b p q = p
+
+-- of two of which none holds, neither does
+pub neither : (a b : Bool) → (a || b) ≡ false → (a ≡ false) × (b ≡ false)
+neither true b h = cc
+neither false b h = (refl, h)
+
+pub or_right : (a b : Bool) → b ≡ true → (a || b) ≡ true
+or_right true b h = refl
+or_right false b h = h
+
+pub or_false : (b : Bool) → (b || false) ≡ b
+or_false true = refl
+or_false false = refl
+
+-- what does not fail holds
+pub holds : (x : Bool) → not x ≡ false → x ≡ true
+holds true h = refl
+holds false h = cc
+
+-- ---- comparisons
+
+-- a comparison, by its tests
+pub less : (r : Ordering) → is_lt r ≡ true → r ≡ Less
+less Less e = refl
+less Equal e = cc
+less Greater e = cc
+
+pub equal : (r : Ordering) → is_eq r ≡ true → r ≡ Equal
+equal Less e = cc
+equal Equal e = refl
+equal Greater e = cc
+
+-- numbers, tested for equality
+pub eqb_refl : (a : ℕ) → eqb a a ≡ true
+eqb_refl a = grind (arith, nat_tests)
+
+pub eqb_sym : (a b : ℕ) → eqb a b ≡ eqb b a
+eqb_sym a b = grind (arith, nat_tests)
+
+pub nat_eq_test : (a b : ℕ) → is_eq (nat_cmp a b) ≡ eqb a b
+nat_eq_test a b = grind (arith, nat_tests)
+
+-- CUSIPs, tested for equality
+pub bytes_refl : (c : List ℕ) → bytes_eq c c ≡ true
+bytes_refl c = sym (is_eq-slice_cmp c c) ∙ ap is_eq (tied_itself nat_list_cmp_total c)
+
+pub same_test : (c d : Cusip) → is_eq (slice_cmp nat_cmp c d) ≡ bytes_eq d c
+same_test c d = is_eq-slice_cmp c d ∙ nat_list_eq_equiv.symm c d
+
+-- ---- numbers
+
+pub zero_add : (n : ℤ) → pos 0 +ℤ n ≡ n
+zero_add n = omega (arith, ints)
+
+pub less_less : (a b c : ℤ) → int_lt a b ≡ true → int_lt b c ≡ true → int_lt a c ≡ true
+less_less a b c p q = grind (arith, ints)
+
+-- a number that is not at or below another is above it
+pub later : (a b : ℤ) → int_le a b ≡ false → int_lt b a ≡ true
+later a b h = grind (arith, ints)
+
+-- ---- journals
+
+-- the price of the listing that is found first
+pub price_branch : (t : Bool) (l : Listing) (o : Option Listing) → option_map_or (λ (l : Listing). l.price) (cond t (Some l) o) 0 ≡ cond t l.price (option_map_or (λ l. l.price) o 0)
+price_branch true l o = refl
+price_branch false l o = refl
+
+-- a posting for each activity
+pub journal_len : (opening : Day) (L : List Activity) → length (journal opening L) ≡ length L
+journal_len opening [] = refl
+journal_len opening (x ∷ L) = ap suc (journal_len opening L)

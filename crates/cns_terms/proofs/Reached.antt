@@ -1,0 +1,139 @@
+-- What is so of each journal that commands reach.
+use Rattle.std.proofs.Common.{◌≡◌, ap, refl, sym, subst, ℕ, ◌+◌, ◌*◌, ◌≤◌, ℤ, pos, ◌+ℤ◌, Bool, true, false, cond, List, [], ◌∷◌, length, is_none, Option, Some, None, arith}
+use Rattle.std.specs.List.{AllByRecursion}
+use Rattle.std.specs.Prelude.{filter_map, unsigned_abs}
+use Rattle.std.specs.Ordering.{is_lt, nat_cmp}
+use Rattle.std.proofs.lemmas.Bool.Decides.{nat_tests}
+use Rattle.std.proofs.lemmas.Int.{ints}
+use Rattle.cns_units.specs.declared.cusip.Cusip.{Cusip}
+use Rattle.cns_units.specs.declared.day.Day.{Day}
+use Rattle.cns_terms.specs.declared.command.Activity.{Activity}
+use Rattle.cns_terms.specs.declared.command.Activity.TheVariants as activity
+use Rattle.cns_terms.specs.declared.command.Command.{Command}
+use Rattle.cns_terms.specs.declared.command.Command.TheVariants as command
+use Rattle.cns_terms.specs.declared.refusal.Refusal.{Refusal}
+use Rattle.cns_terms.specs.Entries.{journal, posting}
+use Rattle.cns_terms.specs.Laws.{Bounds, IsBounded}
+use Rattle.cns_terms.specs.Limits.{corporation_limit, member_limit, position_limit}
+use Rattle.cns_terms.specs.Listings.{account_lt, accounts, added, members}
+use Rattle.cns_terms.specs.Machine.{State, after, next, opened}
+use Rattle.cns_terms.specs.Positions.{position}
+use Rattle.cns_terms.specs.Postings.{Journal, activities}
+use Rattle.cns_terms.specs.Reached.{IsCommandInRange, IsInRange, IsReached}
+use Rattle.cns_terms.specs.Refusals.{refusal}
+use Rattle.cns_terms.specs.Sums.{total}
+use Rattle.cns_terms.proofs.Facts.{and_left, and_right}
+use Rattle.cns_terms.proofs.Everywhere.{each_in_order, each_weaker}
+use Rattle.cns_terms.proofs.Limits.{AreWithin, HasFewCents, IsWithin, cents-post, within-post}
+use Rattle.cns_terms.proofs.Rising.{above_all, is_rising}
+use Rattle.cns_terms.proofs.Sound.{IsWhole, opening_stays, whole-post, whole_nil}
+use Rattle.cns_terms.proofs.ZeroSums.{positions_zero}
+
+-- the members' numbers are within their limit
+abbrev pub AreNumbered : Journal → Type 0
+AreNumbered J = AllByRecursion (λ a. a ≤ member_limit) (filter_map added (activities J))
+
+-- an activity in its ranges keeps them so
+numbered-post : (opening : Day) (J : Journal) (x : Activity) → IsInRange x → AreNumbered J → AreNumbered (posting opening J x ∷ J)
+numbered-post opening J (activity.Member m) n h = (n, h)
+numbered-post opening J (activity.Issue l) n h = h
+numbered-post opening J (activity.Trade t) n h = h
+numbered-post opening J (activity.Price l) n h = h
+numbered-post opening J (activity.Deliver m) n h = h
+numbered-post opening J (activity.Receive m) n h = h
+numbered-post opening J (activity.Close d) n h = h
+
+-- a journal that commands reach is sound, and members' numbers, their positions and cents are within their limits
+pub record IsLimited (opening : Day) (J : Journal) : Type 0 where
+  pub whole : IsWhole opening J
+  pub numbered : AreNumbered J
+  pub within : AreWithin J
+  pub cents : HasFewCents J
+
+pub limited : (opening : Day) (L : List Activity) → IsReached opening L → IsLimited opening (journal opening L)
+limited opening [] r = record { whole = whole_nil; numbered = tt; within = λ a c m. omega (arith, ints); cents = λ a c. omega (arith, ints) }
+limited opening (x ∷ L) r =
+    let J = journal opening L in
+    let before = limited opening L r.2 in
+    let fails = ap is_none r.1 in
+    record {
+      whole = whole-post opening J x before.whole fails;
+      numbered = numbered-post opening J x r.0 before.numbered;
+      within = within-post opening J x fails before.within;
+      cents = cents-post opening J x r.0 before.cents;
+    }
+
+-- ---- the corporation's position makes up for the members'
+
+-- a number that comes before another is less
+less_than : (a b : ℕ) → is_lt (nat_cmp a b) ≡ true → a + 1 ≤ b
+less_than a b h = grind (arith, nat_tests)
+
+-- what comes after 0 is 1 at least
+from_one : (bs : List ℕ) → above_all nat_cmp 0 bs ≡ true → AllByRecursion (λ b. 1 ≤ b) bs
+from_one [] h = tt
+from_one (b ∷ bs) h = (less_than 0 b (and_left _ _ h), from_one bs (and_right _ _ h))
+
+-- numbers that rise from a number up to a limit are no more than fit between
+few_rising : (a n : ℕ) (bs : List ℕ) → a ≤ n → is_rising nat_cmp (a ∷ bs) ≡ true → AllByRecursion (λ b. b ≤ n) bs → a + length bs ≤ n
+few_rising a n [] h rise most = omega (arith, h)
+few_rising a n (b ∷ bs) h rise most = omega (arith, less_than a b (and_left _ _ (and_left _ _ rise)), few_rising b n bs most.0 (and_right (above_all nat_cmp a (b ∷ bs)) _ rise) most.1)
+
+-- one more within the limits
+one_more : (q r : ℤ) (n : ℕ) → IsWithin q → unsigned_abs r ≤ position_limit * n → unsigned_abs (q +ℤ r) ≤ position_limit * (n + 1)
+one_more q r n h k = omega (arith, ints, h, k)
+
+-- what is within the limits each adds up to no more than the limits together
+total_within : (f : ℕ → ℤ) (bs : List ℕ) → AllByRecursion (λ b. IsWithin (f b)) bs → unsigned_abs (total f bs) ≤ position_limit * length bs
+total_within f [] h = omega (arith, ints)
+total_within f (b ∷ bs) h = omega (arith, one_more (f b) (total f bs) (length bs) h.0 (total_within f bs h.1))
+
+-- what the rest makes up for is no more than the rest
+made_up : (q r : ℤ) (n : ℕ) → q +ℤ r ≡ pos 0 → unsigned_abs r ≤ position_limit * n → n ≤ member_limit → unsigned_abs q ≤ corporation_limit
+made_up q r n h k le = omega (arith, ints, h, k, le)
+
+-- members' numbers are 1 at least
+pub members_from_one : (opening : Day) (J : Journal) → IsLimited opening J → AllByRecursion (λ a. 1 ≤ a) (members J)
+members_from_one opening J l = from_one (members J) (and_left _ _ l.whole.now.accounts_rise)
+
+-- there are no more members than numbers for them
+pub members_few : (opening : Day) (J : Journal) → IsLimited opening J → length (members J) ≤ member_limit
+members_few opening J l =
+    let few = few_rising 0 member_limit (members J) (omega arith) l.whole.now.accounts_rise (each_in_order (λ a. a ≤ member_limit) account_lt (filter_map added (activities J)) l.numbered) in
+    omega (arith, few)
+
+-- positions are within their limits
+pub bounded : (opening : Day) (J : Journal) (c : Cusip) → IsLimited opening J → IsBounded J c
+bounded opening J c l =
+    let each = each_weaker (λ a. 1 ≤ a) (λ a. IsWithin (position J a c)) (members J) (λ a m. l.within a c m) (members_from_one opening J l) in
+    record {
+      members = λ a m. l.within a c m;
+      corporation = made_up (position J 0 c) (total (λ a. position J a c) (members J)) (length (members J)) (positions_zero (accounts J) c J l.whole.now.sound) (total_within (λ a. position J a c) (members J) each) (members_few opening J l);
+    }
+
+-- ---- any commands
+
+-- no refusal, told by a test
+none : (o : Option Refusal) → is_none o ≡ true → o ≡ None
+none None h = refl
+none (Some r) h = cc
+
+reached_if : (opening : Day) (L : List Activity) (x : Activity) → IsInRange x → IsReached opening L → (b : Bool) → is_none (refusal opening (journal opening L) (command.Activity x)) ≡ b → IsReached opening (cond b (x ∷ L) L)
+reached_if opening L x n r true h = (n, none _ h, r)
+reached_if opening L x n r false h = r
+
+reached-next : (S : State) (cmd : Command) → IsCommandInRange cmd → IsReached S.opening S.accepted → IsReached S.opening (next S cmd).accepted
+reached-next S (command.Activity x) n r = reached_if S.opening S.accepted x n r _ refl
+reached-next S (command.Position k) n r = r
+reached-next S (command.Statement a d) n r = r
+
+pub reached-from : (S : State) (cmds : List Command) → AllByRecursion IsCommandInRange cmds → IsReached S.opening S.accepted → IsReached S.opening (after S cmds).accepted
+reached-from S [] n r = r
+reached-from S (cmd ∷ cmds) n r = reached-from (next S cmd) cmds n.1 (reached-next S cmd n.0 r)
+
+-- after any commands in their ranges, positions stay within their limits
+pub bounds : Bounds
+bounds opening cmds c n =
+    let S = after (opened opening) cmds in
+    let l : IsLimited opening (journal opening S.accepted) = limited opening S.accepted (reached-from (opened opening) cmds n tt) in
+    subst (λ o. IsBounded (journal o S.accepted) c) (sym (opening_stays (opened opening) cmds)) (bounded opening (journal opening S.accepted) c l)

@@ -1,0 +1,30 @@
+-- The limits of what a book holds, in one place.
+use Rattle.std.specs.Prelude.{ℕ, ◌^◌}
+
+-- a member's position, in shares long or short
+abbrev pub position_limit : ℕ
+position_limit = 10 ^ 10
+
+-- the corporation's position, which makes up for those of 9,999 members
+abbrev pub corporation_limit : ℕ
+corporation_limit = 10 ^ 14
+
+-- the highest number of a member
+abbrev pub member_limit : ℕ
+member_limit = 9999
+
+-- the cents that one activity books for an account in an issue
+abbrev pub booking_limit : ℕ
+booking_limit = 10 ^ 18
+
+-- there are fewer activities than this
+abbrev pub history_limit : ℕ
+history_limit = 2 ^ 32
+
+-- the cents of a price
+abbrev pub price_limit : ℕ
+price_limit = 10 ^ 9
+
+-- no sum of a day's cents, values, marks or dividends is further from zero
+abbrev pub amount_limit : ℕ
+amount_limit = 10 ^ 34

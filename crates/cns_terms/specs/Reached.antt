@@ -1,0 +1,47 @@
+-- The activities to which commands lead.
+use Rattle.std.specs.Prelude.{◌≡◌, ◌≤◌, List, [], ◌∷◌, None, ⊤}
+use Rattle.cns_units.specs.declared.day.Day.{Day}
+use Rattle.cns_terms.specs.declared.command.Activity.{Activity}
+use Rattle.cns_terms.specs.declared.command.Activity.TheVariants as activity
+use Rattle.cns_terms.specs.declared.command.Command.{Command}
+use Rattle.cns_terms.specs.declared.command.Command.TheVariants as command
+use Rattle.cns_terms.specs.Entries.{journal}
+use Rattle.cns_terms.specs.Limits.{booking_limit, member_limit, price_limit}
+use Rattle.cns_terms.specs.Refusals.{refusal}
+
+-- the values of an activity are in the ranges that commands have, as far as limits rest on them
+abbrev pub IsInRange : Activity → Type 0
+IsInRange (activity.Member m) = m ≤ member_limit
+IsInRange (activity.Issue l) = ⊤
+IsInRange (activity.Trade t) = t.money ≤ booking_limit
+IsInRange (activity.Price l) = ⊤
+IsInRange (activity.Deliver m) = ⊤
+IsInRange (activity.Receive m) = ⊤
+IsInRange (activity.Close d) = ⊤
+
+-- and so are those of a command
+abbrev pub IsCommandInRange : Command → Type 0
+IsCommandInRange (command.Activity x) = IsInRange x
+IsCommandInRange (command.Position k) = ⊤
+IsCommandInRange (command.Statement a d) = ⊤
+
+-- the price that an activity sets is within its limit
+abbrev pub IsPriceInRange : Activity → Type 0
+IsPriceInRange (activity.Member m) = ⊤
+IsPriceInRange (activity.Issue l) = l.price ≤ price_limit
+IsPriceInRange (activity.Trade t) = ⊤
+IsPriceInRange (activity.Price l) = l.price ≤ price_limit
+IsPriceInRange (activity.Deliver m) = ⊤
+IsPriceInRange (activity.Receive m) = ⊤
+IsPriceInRange (activity.Close d) = ⊤
+
+-- and so is that of a command
+abbrev pub IsCommandPriceInRange : Command → Type 0
+IsCommandPriceInRange (command.Activity x) = IsPriceInRange x
+IsCommandPriceInRange (command.Position k) = ⊤
+IsCommandPriceInRange (command.Statement a d) = ⊤
+
+-- each activity is in range, and was not refused after those before it
+abbrev pub IsReached : Day → List Activity → Type 0
+IsReached opening [] = ⊤
+IsReached opening (x ∷ L) = IsInRange x × (refusal opening (journal opening L) (command.Activity x) ≡ None) × IsReached opening L
