@@ -3,19 +3,25 @@
 
     bench.py PROGRAM [RECORDS ...]
 
-Each file lists 200 members and 1,000 issues, and then trades between them; every tenth record asks for a position, and
-every twentieth thousandth closes the day. The same file comes for the same size. Times are processor times; memory is
-the most that the program held, less what it holds for an empty input.
+Each file lists 200 members and 1,000 issues, and then trades between them. Every tenth record asks for a position, and
+every 20,000th closes the day, 25 times at most. The same size gives the same file.
 """
 
 import os
 import random
-import resource
+import shutil
 import subprocess
 import sys
 import tempfile
+import threading
 
 OPENING = '2024-06-03'
+LEGEND = """
+records/s is by processor time. bytes/command is the most memory held, less that for a single record, over the records:
+  history         128 bytes for each command, which is kept with its reply
+  closed sheets   96 bytes a row: one for each closed day, account and issue with a position or a booking
+  positions       a tree node of some 110 bytes for each account and issue that was ever booked
+The files have up to 200,000 pairs of account and issue, and up to 25 closed days."""
 VALUES = {c: i for i, c in enumerate('0123456789ABCDEFGHIJKLMNOPQRSTUVWXYZ')}
 
 
@@ -53,32 +59,54 @@ def records(count):
     return lines[:count]
 
 
-def run(program, path):
+def peak(process):
+    """The most memory that a running process has held since it was started, in bytes."""
+    with open('/proc/%d/status' % process) as status:
+        return next(int(line.split()[1]) * 1024 for line in status if line.startswith('VmHWM:'))
+
+
+def feed(path, target):
+    """Copies the file into a pipe, which stays open."""
+    with open(path, 'rb') as source:
+        shutil.copyfileobj(source, target)
+    target.flush()
+
+
+def run(program, path, count):
     """Processor seconds of a replay, and the most memory that it held, in bytes."""
-    before = resource.getrusage(resource.RUSAGE_CHILDREN)
-    with open(path, 'rb') as source, open(os.devnull, 'wb') as target:
-        child = subprocess.Popen([program, 'replay', '--open', OPENING], stdin=source, stdout=target)
-        _, status, usage = os.wait4(child.pid, 0)
+    child = subprocess.Popen([program, 'replay', '--open', OPENING], stdin=subprocess.PIPE, stdout=subprocess.PIPE)
+    feeder = threading.Thread(target=feed, args=(path, child.stdin))
+    feeder.start()
+    # Each record of these files gets one line. The memory is read once all are there and before the program ends:
+    # what the system tells of it afterwards counts the memory of this script too.
+    for _ in range(count):
+        child.stdout.readline()
+    feeder.join()
+    most = peak(child.pid)
+    child.stdin.close()
+    child.stdout.read()
+    _, status, usage = os.wait4(child.pid, 0)
     if status:
         sys.exit('the program failed on %s' % path)
-    del before
-    return usage.ru_utime + usage.ru_stime, usage.ru_maxrss * 1024
+    return usage.ru_utime + usage.ru_stime, most
 
 
 def main():
     program = sys.argv[1]
     sizes = [int(size) for size in sys.argv[2:]] or [10_000, 100_000, 1_000_000]
     with tempfile.TemporaryDirectory() as folder:
-        empty = os.path.join(folder, 'empty.csv')
-        open(empty, 'w').close()
-        _, floor = run(program, empty)
+        least = os.path.join(folder, 'least.csv')
+        with open(least, 'w') as target:
+            target.write('MEMBER,1\n')
+        _, floor = run(program, least, 1)
         print('%10s %12s %14s %16s' % ('records', 'seconds', 'records/s', 'bytes/command'))
         for size in sizes:
             path = os.path.join(folder, '%d.csv' % size)
             with open(path, 'w') as target:
                 target.write('\n'.join(records(size)) + '\n')
-            seconds, most = run(program, path)
+            seconds, most = run(program, path, size)
             print('%10d %12.3f %14.0f %16.0f' % (size, seconds, size / max(seconds, 1e-9), (most - floor) / size))
+    print(LEGEND)
 
 
 if __name__ == '__main__':
