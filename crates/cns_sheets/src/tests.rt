@@ -11,7 +11,7 @@ fn a_day_without_positions_has_its_prices_and_no_rows(rt: HostRuntime) -> Result
     let issue = Cusip::parse(b"037833100".as_slice())?;
     let price = Price::new(19_500)?;
     let date = Day::parse(b"2024-06-03".as_slice())?;
-    let mut prices = Prices::new(rt.alloc())?;
+    let mut prices = Prices::new(rt.alloc());
     assert_eq!(rt; prices.price(issue), None);
     if prices.price(issue).is_none() {
         prices.list(issue, price)?;

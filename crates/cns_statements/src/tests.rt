@@ -118,7 +118,7 @@ fn a_statement_is_its_first_line_and_its_rows(rt: HostRuntime) -> Result<(), Fai
 #[test]
 fn an_account_without_rows_has_a_statement(rt: HostRuntime) -> Result<(), Fail> {
     let date = Day::parse(b"2024-06-03".as_slice())?;
-    let prices = Prices::new(rt.alloc())?;
+    let prices = Prices::new(rt.alloc());
     let positions = FlatPositions::<Global>::new(rt.alloc());
     let sheet = Sheet::build(rt.alloc(), &positions, &prices, None, date)?;
     let statement = statement(rt.alloc(), &sheet, Account::new(7)?)?;

@@ -154,12 +154,12 @@ fn a_reply_is_the_same_as_itself_alone(rt: HostRuntime) -> Result<(), Fail> {
 }
 
 fn taken(seq: u32, account: u16, opening: i64) -> Result<Taken, UnitFault> {
-    let key = apple(account)?;
+    let key = &apple(account)?;
     Ok(Taken {
         worker: Worker::FIRST,
         seq,
-        command: Command::Position(key),
-        reply: Reply::Held(key, holding(opening)),
+        command: Command::Position(*key),
+        reply: Reply::Held(*key, holding(opening)),
     })
 }
 

@@ -146,7 +146,8 @@ fn a_trade_books_opposite_entries(rt: HostRuntime) -> Result<(), Fail> {
     let trades = Trades::new(rt.alloc());
     let answered = answer(&trades, &facts()?, &trade()?);
     assert!(rt; answered.is_ok());
-    if let Ok((buyer, seller)) = answered {
+    if let Ok(entries) = answered {
+        let (buyer, seller) = (&entries[0], &entries[1]);
         assert_eq!(rt;
             (buyer.account.value(), buyer.shares, buyer.cents),
             (101, 5, -975)
