@@ -141,12 +141,6 @@ impl<P: Positions<A>, A: Allocator + Drop + Clone> Book<P, A> {
         self.counts[worker.value() as usize - 1]
     }
 
-    /// Tells the book at which keys the next commands will ask for holdings, so that it may look for them together.
-    /// It changes nothing, and no reply depends on it.
-    pub fn prefetch(&self, keys: &[Key]) {
-        self.parts.prefetch(keys);
-    }
-
     /// Takes a command: answers it as the machine does, and enters it and its reply into the history.
     ///
     /// `Full` exactly where the history is at its limit, before anything else is looked at; `NoMemory` where a growth

@@ -1,5 +1,5 @@
 -- The records that a reader has left, and what a read takes of them.
-use Rattle.std.proofs.Common.{◌≡◌, ◌≢◌, ℕ, zero, suc, ◌+◌, ◌<◌, ◌≤◌, Bool, true, false, List, [], ◌∷◌, ◌++◌, length, map, Option, Some, None, refl, sym, ap, ◌∙◌, arith, append-nil, append_assoc, inl, Result, Ok, Err}
+use Rattle.std.proofs.Common.{◌≡◌, ◌≢◌, ℕ, zero, suc, ◌+◌, ◌<◌, ◌≤◌, Bool, true, false, List, [], ◌∷◌, ◌++◌, length, map, Option, Some, None, refl, sym, ap, ◌∙◌, arith, inl, inr}
 use Rattle.std.specs.Prelude.{if◌then◌else◌, ◌==◌, ◌&&◌}
 use Rattle.csv.specs.Machine.{Read, after_end, ends_with, ends_at_end, in_field, start_field, start_record, is_byte, is_end, next_record, step}
 use Rattle.csv.specs.Reading.{ExplainsRead, Reached, ReadRecord, default_config, has_failed, records_from, records_next, stops_reader}
@@ -15,7 +15,7 @@ use Rattle.csv.specs.declared.parser.Terminator.TheVariants as term
 use Rattle.csv.specs.declared.reader.Reader.{Reader}
 use Rattle.csv.proofs.ReadFacts.{rows-end, rows-more}
 use Rattle.cns_feed.specs.Line.{Line, Record, line_of}
-use Rattle.cns_feed.specs.Records.{EndsReading, Gives, GivesAll, GivesFirst, ReadsBatch, Setup, fault_of, given_remaining}
+use Rattle.cns_feed.specs.Records.{EndsReading, Gives, Pending, Setup, fault_of, given_remaining}
 use Rattle.cns_feed.specs.declared.fault.ReplayFault.{ReplayFault}
 use Rattle.cns_feed.specs.declared.fault.ReplayFault.TheVariants as fault
 use Rattle.cns_feed.specs.declared.given.Given.{Given}
@@ -126,7 +126,7 @@ setup_kept rem a b found fields s r first flexible = record { no_trim = r.3 ∙ 
 
 -- a record was read
 pub gives-line : {R : Type 0} (rem : R → Option (List ℕ)) (a b : Records R) (fields : Record) (line : Line)
-    → line ≡ line_of fields → Setup a.rows → ReadRecord (given_remaining rem) a.rows b.rows true fields → Gives rem a b (line ∷ [])
+    → line ≡ line_of fields → Setup a.rows → ReadRecord (given_remaining rem) a.rows b.rows true fields → Gives rem a b line
 unfolding Reached
 gives-line rem a b fields line is setup r all p =
     let (left, source, (q, e, first, there)) = rows-more (given_remaining rem) a.rows b.rows fields default_config a.rows.state p.bytes p.bytes [] setup.config p.source (refl, refl) r in
@@ -138,15 +138,15 @@ gives-line rem a b fields line is setup r all p =
 
 -- no record was left
 pub gives-none : {R : Type 0} (rem : R → Option (List ℕ)) (a : Records R) (b : Reader (Given R)) (fields : Record)
-    → 0 < a.left → Setup a.rows → ReadRecord (given_remaining rem) a.rows b false fields → GivesAll rem a []
-gives-none rem a b fields some setup r all p =
-    (p.lines_are ∙ ap (map line_of) (no_record default_config a.rows.state p.bytes (rows-end (given_remaining rem) a.rows b fields default_config p.bytes setup.config p.source r)), some)
+    → Setup a.rows → ReadRecord (given_remaining rem) a.rows b false fields → (all : List Line) → Pending rem a all → all ≡ []
+gives-none rem a b fields setup r all p =
+    p.lines_are ∙ ap (map line_of) (no_record default_config a.rows.state p.bytes (rows-end (given_remaining rem) a.rows b fields default_config p.bytes setup.config p.source r))
 
 -- ---- a read that failed
 
 -- why no more is read, by the error of the reader
 pub ends-failed : {R : Type 0} (rem : R → Option (List ℕ)) (a : Records R) (b : Records R) (why : ErrorKind)
-    → Setup a.rows → has_failed b.rows ≡ stops_reader why → ExplainsRead (given_remaining rem) a.rows b.rows false why → EndsReading (fault_of why) b
+    → Setup a.rows → has_failed b.rows ≡ stops_reader why → ExplainsRead (given_remaining rem) a.rows b.rows false why → EndsReading (fault_of why) b ⊥
 ends-failed rem a b (kind.Io e) setup failed explains = inl failed
 ends-failed rem a b kind.OutOfMemory setup failed explains = failed
 ends-failed rem a b (kind.UnequalLengths pos expected len) setup failed explains = let no = explains.0 in let yes = setup.flexible in cc (no, yes)
@@ -154,39 +154,17 @@ ends-failed rem a b (kind.Utf8 pos err) setup failed explains = let no = explain
 ends-failed rem a b (kind.Serialize text) setup failed explains = absurd explains
 ends-failed rem a b (kind.Deserialize pos err) setup failed explains = absurd explains
 
+-- a reader that ended reading did so whatever was read
+pub ends-any : {R : Type 0} (e : ReplayFault) (rs : Records R) (Most : Type 0) → EndsReading e rs ⊥ → EndsReading e rs Most
+ends-any fault.Read rs Most (inl failed) = inl failed
+ends-any fault.Read rs Most (inr most) = absurd most
+ends-any fault.NoMemory rs Most h = h
+ends-any fault.Write rs Most h = h
+ends-any fault.Full rs Most h = h
+
 -- reading does not end for a full book
-pub ends-not_full : {R : Type 0} (e : ReplayFault) (rs : Records R) → EndsReading e rs → e ≢ fault.Full
+pub ends-not_full : {R : Type 0} (e : ReplayFault) (rs : Records R) → EndsReading e rs ⊥ → e ≢ fault.Full
 ends-not_full fault.Read rs h is = cc is
 ends-not_full fault.NoMemory rs h is = cc is
 ends-not_full fault.Write rs h is = absurd h
 ends-not_full fault.Full rs h is = absurd h
-
--- ---- one read after another
-
--- nothing was read
-pub gives-nothing : {R : Type 0} (rem : R → Option (List ℕ)) (a : Records R) (lines : List Line) → lines ≡ [] → Gives rem a a lines
-gives-nothing rem a lines none all p = (all, rw none refl, p)
-
--- lines after lines
-pub gives-more : {R : Type 0} (rem : R → Option (List ℕ)) (a b c : Records R) (one two lines : List Line) → lines ≡ one ++ two → Gives rem a b one → Gives rem b c two → Gives rem a c lines
-gives-more rem a b c one two lines are first second all p =
-    let (mid, one_is, q) = first all p in
-    let (rest, two_is, r) = second mid q in
-    (rest, one_is ∙ ap (λ l. one ++ l) two_is ∙ sym (append_assoc one two rest) ∙ ap (λ l. l ++ rest) (sym are), r)
-
--- and then none
-pub gives-all : {R : Type 0} (rem : R → Option (List ℕ)) (a b : Records R) (lines : List Line) → b.left + length lines ≡ a.left → Gives rem a b lines → GivesAll rem b [] → GivesAll rem a lines
-gives-all rem a b lines left first none all p =
-    let (rest, is, q) = first all p in
-    let (empty, some) = none rest q in
-    (is ∙ ap (λ l. lines ++ l) empty ∙ append-nil lines, omega arith)
-
--- what comes after them is left open
-pub gives-first : {R : Type 0} (rem : R → Option (List ℕ)) (a b : Records R) (lines : List Line) → Gives rem a b lines → GivesFirst rem a lines
-gives-first rem a b lines first all p = let (rest, is, q) = first all p in (rest, is)
-
--- whatever a read of a few lines came to, they were the first
-pub reads-first : {R : Type 0} (rem : R → Option (List ℕ)) (a b : Records R) (lines : List Line) (r : Result Bool ReplayFault) → ReadsBatch rem a b r lines → GivesFirst rem a lines
-reads-first rem a b lines (Ok true) h = gives-first rem a b lines h.0
-reads-first rem a b lines (Ok false) h = λ all p. ([], (h all p).0 ∙ sym (append-nil lines))
-reads-first rem a b lines (Err e) h = h.0

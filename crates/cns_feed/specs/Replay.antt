@@ -1,5 +1,6 @@
 -- What a replay does to its book, and where it stops.
-use Rattle.std.specs.Prelude.{◌≡◌, ℕ, ◌+◌, ◌-◌, ◌^◌, ◌≤◌, List, [], ◌∷◌, ◌++◌, length, Option, Ok, Err}
+use Rattle.std.specs.Prelude.{◌≡◌, ℕ, ◌+◌, ◌-◌, ◌^◌, ◌≤◌, List, [], ◌∷◌, ◌++◌, length, Option, Some, None, Ok, Err}
+use Rattle.std.specs.Option.{option_to_list}
 use Rattle.std.specs.Io.KnownBytes.{Appends, Keeps}
 use Rattle.cns_units.specs.Output.{AppendsFront}
 use Rattle.cns_units.specs.declared.day.Day.{Day}
@@ -20,17 +21,17 @@ LeavesAt fault.NoMemory old new text = Keeps old new
 LeavesAt fault.Read old new text = ⊥
 LeavesAt fault.Full old new text = ⊥
 
--- what a fault leaves of the first of the records that wait for a reply, in the state before it; nothing where none waits
-abbrev pub Leaves : ReplayFault → Option (List ℕ) → Option (List ℕ) → State → List Line → Type 0
-Leaves e old new S [] = Keeps old new
-Leaves e old new S (l ∷ ls) = LeavesAt e old new (line_text S l)
+-- what a fault leaves of the record that waits for its reply, in the state before it; nothing where none waits
+abbrev pub Leaves : ReplayFault → Option (List ℕ) → Option (List ℕ) → State → Option Line → Type 0
+Leaves e old new S None = Keeps old new
+Leaves e old new S (Some l) = LeavesAt e old new (line_text S l)
 
--- where a replay stops: the records that got their replies, those that were read and wait, and those that were not read
+-- where a replay stops: the records that got their replies, the one that was read and waits, and those that were not read
 pub record Stops (e : ReplayFault) (old new : Option (List ℕ)) (first : State) (lines : List Line) : Type 0 where
   pub answered : List Line
-  pub waiting : List Line
+  pub waiting : Option Line
   pub unread : List Line
-  pub whole : lines ≡ answered ++ (waiting ++ unread)
+  pub whole : lines ≡ answered ++ (option_to_list waiting ++ unread)
   pub mid : Option (List ℕ)
   pub written : Appends old mid (texts first answered)
   pub leaves : Leaves e mid new (state_after first answered) waiting

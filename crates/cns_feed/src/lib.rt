@@ -9,7 +9,6 @@
 //! start reading.
 #![tactic(auto)]
 
-mod batch;
 mod digits;
 mod fault;
 mod fields;

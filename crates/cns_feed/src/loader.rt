@@ -5,12 +5,10 @@ ghost use Rattle.cns_book.specs.Log.{state_of};
 ghost use Rattle.cns_feed.specs.Line.{Line};
 ghost use Rattle.cns_feed.specs.Output.{Counts, lines_of, outcomes};
 ghost use Rattle.cns_feed.specs.Records.{EndsReading, Pending, Setup};
-ghost use Rattle.cns_feed.specs.Replay.{HasRoomFor, IsUpTo, Takes, blank_log, log_after};
+ghost use Rattle.cns_feed.specs.Replay.{HasRoomFor, blank_log, log_after};
 ghost use Rattle.cns_feed.specs.declared.fault.ReplayFault.TheVariants as fault;
 
-use crate::batch::{Batch, prefetch};
 use crate::fault::ReplayFault;
-use crate::line::Line;
 use crate::outcome::{ReplayBook, new_book, take_line};
 use crate::records::{MOST_RECORDS, Records};
 use crate::summary::Summary;
@@ -20,47 +18,27 @@ use cns_units::Day;
 use std::alloc::Global;
 use std::io::Read;
 
-// Takes the command of each of a few lines.
-fn take_batch<P: Positions<Global>>(
-    book: &mut Book<P, Global>,
-    lines: &[Line],
-    summary: &mut Summary,
-) -> Result<(), ReplayFault>
-    requires counts { IsUpTo summary.old (2 ^ 63) }
-    requires few { length lines.now ≤ 16 }
-    requires room { HasRoomFor book.old (length lines.now) }
-    ensures takes { OnOk result (Takes book.old book.new summary.old summary.new lines.now) }
-    ensures err { IfErr result (λ e. e ≡ fault.NoMemory) }
-{
-    prefetch(book, lines);
-    for line in lines {
-        let outcome = take_line(book, line)?;
-        summary.add(&outcome);
-    }
-    Ok(())
-}
-
 /// Takes the command of each record that is left, over any form of positions.
 pub(crate) fn take_all<P: Positions<Global>, R: Read>(
     records: &mut Records<R>,
     book: &mut Book<P, Global>,
 ) -> Result<Summary, ReplayFault>
     requires setup { Setup records.old.rows }
-    requires room { HasRoomFor book.old records.old.left }
-    ensures few { OnOk result ((all : List Line) → Pending R.remaining records.old all → length all < records.old.left) }
+    requires room { HasRoomFor book.old (2 ^ 32 - 1) }
+    ensures few { OnOk result ((all : List Line) → Pending R.remaining records.old all → length all < 2 ^ 32 - 1) }
     ensures after { OnOk result ((all : List Line) → Pending R.remaining records.old all → book.new ≡ log_after book.old all) }
     ensures counts { IfOk result (λ s. (all : List Line) → Pending R.remaining records.old all
         → Counts s (outcomes (state_of book.old) all)) }
-    ensures err { IfErr result (λ e. (e ≡ fault.NoMemory) ⊎ EndsReading e records.new) }
+    ensures err { IfErr result (λ e. (e ≡ fault.NoMemory)
+        ⊎ EndsReading e records.new ((all : List Line) → Pending R.remaining records.old all → 2 ^ 32 - 1 ≤ length all)) }
 {
     let mut summary = Summary::new();
-    let mut batch = Batch::new();
     for _turn in 0..MOST_RECORDS {
-        let more = records.read_batch(&mut batch)?;
-        take_batch(book, batch.lines(), &mut summary)?;
-        if !more {
+        let Some(line) = records.read_line()? else {
             return Ok(summary);
-        }
+        };
+        let outcome = take_line(book, &line)?;
+        summary.add(&outcome);
     }
     Err(ReplayFault::Read)
 }

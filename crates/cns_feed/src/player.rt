@@ -1,15 +1,14 @@
 // Replays.
-ghost use Rattle.std.specs.Prelude.{◌≡◌, ◌≢◌, ◌-◌, ◌^◌, ◌<◌, ◌≤◌, List, [], length, OnOk, IfOk, IfErr, IfSome};
+ghost use Rattle.std.specs.Prelude.{◌≡◌, ◌≢◌, ◌⊎◌, ◌-◌, ◌^◌, ◌<◌, List, None, length, OnOk, IfOk, IfErr, IfSome};
 ghost use Rattle.std.specs.Io.KnownBytes.{Appends, Keeps};
 ghost use Rattle.cns_terms.specs.Machine.{opened};
 ghost use Rattle.cns_book.specs.Log.{state_of};
 ghost use Rattle.cns_feed.specs.Line.{Line};
 ghost use Rattle.cns_feed.specs.Output.{Counts, line_text, lines_of, outcome_of, outcomes, output, texts};
-ghost use Rattle.cns_feed.specs.Records.{Pending, ReadTo, Setup};
-ghost use Rattle.cns_feed.specs.Replay.{HasRoomFor, IsUpTo, LeavesAt, Stops, StopsReplay, Takes, log_after_line};
+ghost use Rattle.cns_feed.specs.Records.{EndsReading, Pending, Setup};
+ghost use Rattle.cns_feed.specs.Replay.{HasRoomFor, LeavesAt, Stops, StopsReplay, log_after_line};
 ghost use Rattle.cns_feed.specs.declared.fault.ReplayFault.TheVariants as fault;
 
-use crate::batch::{Batch, prefetch};
 use crate::fault::ReplayFault;
 use crate::line::Line;
 use crate::outcome::{Outcome, new_book, take_line, write_outcome};
@@ -40,30 +39,6 @@ fn play_line<P: Positions<Global>, W: Write>(
     }
 }
 
-// Each of a few lines.
-fn play_batch<P: Positions<Global>, W: Write>(
-    book: &mut Book<P, Global>,
-    lines: &[Line],
-    writer: &mut W,
-    summary: &mut Summary,
-) -> Result<(), ReplayFault>
-    requires counts { IsUpTo summary.old (2 ^ 63) }
-    requires few { length lines.now ≤ 16 }
-    requires room { HasRoomFor book.old (length lines.now) }
-    ensures takes { OnOk result (Takes book.old book.new summary.old summary.new lines.now) }
-    ensures text { OnOk result (Appends (W.contents writer.old) (W.contents writer.new) (texts (state_of book.old) lines.now)) }
-    // The fault comes at one of the lines.
-    ensures fault { IfErr result (λ e. (s : Stops e (W.contents writer.old) (W.contents writer.new) (state_of book.old) lines.now)
-        × (s.unread ≡ []) × (0 < length s.waiting)) }
-{
-    prefetch(book, lines);
-    for line in lines {
-        let outcome = play_line(book, line, writer)?;
-        summary.add(&outcome);
-    }
-    Ok(())
-}
-
 // Hands on what was written, where the next record may cost a call of the reader: whoever gives the records may wait
 // for the replies to those that it gave.
 fn flush<R: Read, W: Write>(records: &Records<R>, writer: &mut W) -> Result<(), ReplayFault>
@@ -86,27 +61,25 @@ pub(crate) fn play<P: Positions<Global>, R: Read, W: Write>(
     writer: &mut W,
 ) -> Result<Summary, ReplayFault>
     requires setup { Setup records.old.rows }
-    requires room { HasRoomFor book.old records.old.left }
-    ensures few { OnOk result ((all : List Line) → Pending R.remaining records.old all → length all < records.old.left) }
+    requires room { HasRoomFor book.old (2 ^ 32 - 1) }
+    ensures few { OnOk result ((all : List Line) → Pending R.remaining records.old all → length all < 2 ^ 32 - 1) }
     ensures text { OnOk result ((all : List Line) → Pending R.remaining records.old all
         → Appends (W.contents writer.old) (W.contents writer.new) (texts (state_of book.old) all)) }
     ensures counts { IfOk result (λ s. (all : List Line) → Pending R.remaining records.old all
         → Counts s (outcomes (state_of book.old) all)) }
     ensures fault { IfErr result (λ e. (all : List Line) → Pending R.remaining records.old all
         → (s : Stops e (W.contents writer.old) (W.contents writer.new) (state_of book.old) all)
-        × ReadTo e records.old records.new s.answered s.waiting) }
+        × (s.waiting ≡ None → (e ≡ fault.Write) ⊎ EndsReading e records.new (length s.answered ≡ 2 ^ 32 - 1))) }
     ensures room { IfErr result (λ e. e ≢ fault.Full) }
 {
     let mut summary = Summary::new();
-    let mut batch = Batch::new();
     for _turn in 0..MOST_RECORDS {
         flush(records, writer)?;
-        let read = records.read_batch(&mut batch);
-        // What was read before a fault is answered before it.
-        play_batch(book, batch.lines(), writer, &mut summary)?;
-        if !read? {
+        let Some(line) = records.read_line()? else {
             return Ok(summary);
-        }
+        };
+        let outcome = play_line(book, &line, writer)?;
+        summary.add(&outcome);
     }
     Err(ReplayFault::Read)
 }

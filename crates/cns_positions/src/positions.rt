@@ -39,9 +39,6 @@ pub trait Positions<A>: Drop {
     fn get(&self, key: Key) -> Holding
         ensures { result ≡ holding_at (rows self.now) key };
 
-    /// Tells which keys will be asked for next, so that a form may bring them near together. It changes nothing.
-    fn prefetch(&self, _keys: &[Key]) {}
-
     /// Makes room for the keys, so that `add` takes no memory at them.
     fn prepare(&mut self, keys: &[Key]) -> Result<(), NoMemory>
         requires { length keys.now ≤ 4 }

@@ -16,7 +16,6 @@ use arrayvec::ArrayVec;
 use cns_terms::{Holding, Key, NoMemory};
 use cns_tree::{Tree, Walk};
 use std::alloc::Allocator;
-use std::cell::Cell;
 use std::marker::Model;
 
 /// Positions in a balanced tree of rows: a look-up or a booking is one way down, a close or a pass over the rows one
@@ -25,8 +24,6 @@ use std::marker::Model;
 pub struct TreePositions<A: Allocator + Clone + Drop> {
     rows: Tree<Holding, A>,
     prepared: Prepared,
-    // How many nodes were brought near. The count only stops the compiler from leaving them out.
-    near: Cell<usize>,
 }
 
 impl<A: Allocator + Clone + Drop> Model for TreePositions<A> {
@@ -135,17 +132,11 @@ impl<A: Allocator + Clone + Drop> Positions<A> for TreePositions<A> {
         TreePositions {
             rows: Tree::new(alloc),
             prepared: ArrayVec::new(),
-            near: Cell::new(0),
         }
     }
 
     fn get(&self, key: Key) -> Holding {
         self.rows.get(key).unwrap_or(ZEROS)
-    }
-
-    fn prefetch(&self, keys: &[Key]) {
-        let passed = self.rows.prefetch(keys);
-        self.near.set(self.near.get().wrapping_add(passed));
     }
 
     fn prepare(&mut self, keys: &[Key]) -> Result<(), NoMemory> {
@@ -174,7 +165,6 @@ impl<A: Allocator + Clone + Drop> Positions<A> for TreePositions<A> {
         Ok(TreePositions {
             rows: Tree::from_sorted(self.rows.allocator().clone()?, given)?,
             prepared: ArrayVec::new(),
-            near: Cell::new(0),
         })
     }
 }

@@ -1,5 +1,5 @@
 // Commands, and the activities among them.
-ghost use Rattle.std.specs.Prelude.{◌≡◌, ◌↔◌, true, Some};
+ghost use Rattle.std.specs.Prelude.{◌≡◌, ◌↔◌, true};
 
 use crate::holding::Key;
 use cns_units::{Account, Cusip, Day, Member, Money, Price, Shares};
@@ -65,13 +65,6 @@ pub enum Command {
     Statement { account: Account, date: Day },
 }
 
-// An account's place in an issue; a key asked for.
-fn key(account: Account, issue: Cusip) -> Option<Key>
-    ensures { result ≡ Some (record { account = account; issue = issue }) }
-{
-    Some(Key { account, issue })
-}
-
 impl Listing {
     // Whether both are the same value.
     fn is_same(&self, other: &Listing) -> bool
@@ -112,33 +105,9 @@ impl Activity {
             _ => false,
         }
     }
-
-    // The keys at which the activity books where it is no more than a trade or a movement.
-    fn keys(&self) -> [Option<Key>; 2] {
-        match self {
-            Activity::Trade(trade) => [
-                key(trade.buyer.account(), trade.issue),
-                key(trade.seller.account(), trade.issue),
-            ],
-            Activity::Deliver(movement) => movement.keys(),
-            Activity::Receive(movement) => movement.keys(),
-            Activity::Member(_) => [None, None],
-            Activity::Issue(_) => [None, None],
-            Activity::Price(_) => [None, None],
-            Activity::Close(_) => [None, None],
-        }
-    }
 }
 
 impl Movement {
-    // The member's key and the corporation's.
-    fn keys(&self) -> [Option<Key>; 2] {
-        [
-            key(self.member.account(), self.issue),
-            key(Account::CORPORATION, self.issue),
-        ]
-    }
-
     // Whether both are the same value.
     fn is_same(&self, other: &Movement) -> bool
         ensures { (result ≡ true) ↔ (self.now ≡ other.now) }
@@ -150,16 +119,6 @@ impl Movement {
 }
 
 impl Command {
-    /// The keys whose holdings the command asks for. They may be looked for before the command is taken; no reply
-    /// depends on them.
-    pub fn keys(&self) -> [Option<Key>; 2] {
-        match self {
-            Command::Activity(activity) => activity.keys(),
-            Command::Position(key) => [Some(*key), None],
-            Command::Statement { .. } => [None, None],
-        }
-    }
-
     /// Whether both are the same value. `==` answers so too; this clause speaks of the values themselves.
     pub fn is_same(&self, other: &Command) -> bool
         ensures { (result ≡ true) ↔ (self.now ≡ other.now) }

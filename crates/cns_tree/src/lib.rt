@@ -13,7 +13,6 @@
 
 mod build;
 mod change;
-mod near;
 mod node;
 mod put;
 mod rotate;

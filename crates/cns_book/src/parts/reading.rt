@@ -47,11 +47,6 @@ impl<P: Positions<A>, A: Allocator + Drop + Clone> Parts<P, A> {
         self.prices.price(issue)
     }
 
-    /// Tells the positions which keys will be asked for next.
-    pub fn prefetch(&self, keys: &[Key]) {
-        self.positions.prefetch(keys);
-    }
-
     /// Whether the account is there: the corporation's always is.
     pub fn is_account(&self, account: Account) -> bool
         ensures { (L : List Activity) → Follows L self.now → result ≡ is_account (journal self.now.opening L) account }

@@ -1,6 +1,7 @@
-use Rattle.std.proofs.Common.{arith, inr, Ok, true, None, subst, sym}
-use Rattle.cns_feed.specs.Records.{GivesAll, ReadsBatch}
-use Rattle.cns_feed.proofs.PlayLemmas.{along-all, along-more, along-none, room-after, up_to-none, up_to-turn}
+use Rattle.std.proofs.Common.{◌+◌, ◌-◌, ◌^◌, arith, inr, None}
+use Rattle.std.proofs.lemmas.Result.{err_from_is_err_and}
+use Rattle.cns_feed.proofs.PlayLemmas.{along-all, along-line, along-longer, along-none, room-line, up_to-less, up_to-line, up_to-none}
+use Rattle.cns_feed.proofs.RecordLemmas.{ends-any}
 use Rattle.cns_feed.proofs.loader.take_all.Goals as goal
 
 pub loop-turn-init : goal.loop-turn-init
@@ -8,39 +9,45 @@ loop-turn-init g c = record {
   counts = up_to-none _ c.new-summary.ensures;
   setup = c.requires.setup;
   room = c.requires.room;
-  turns = omega arith;
   along = λ all p. along-none g.R.Read.remaining c.args.records.now _ _ None all c.new-summary.ensures p;
 }
 
-pub returns-then-not-more-clause-few : goal.returns-then-not-more-clause-few
-returns-then-not-more-clause-few g c all q =
-    let none = subst (GivesAll g.R.Read.remaining c.loop-turn.records) (sym c.lines.ensures.value) (rw c.if-not-more.true at c.in_ok-more.ensures.reads) in
-    (along-all g.R.Read.remaining c.args.records.now c.loop-turn.records _ _ _ _ _ None None None _ all none c.in_ok-take_batch.ensures.takes tt (c.loop-turn.invariant.along all q)).few
+pub returns-in_err-line-clause-err : goal.returns-in_err-line-clause-err
+returns-in_err-line-clause-err g c =
+    let p = err_from_is_err_and c.from_residual.result c.from_residual.ensures.1 in
+    rw (p.1, p.2) (inr (ends-any _ _ _ c.in_err-line.ensures))
 
-pub returns-then-not-more-clause-after : goal.returns-then-not-more-clause-after
-returns-then-not-more-clause-after g c all q =
-    let none = subst (GivesAll g.R.Read.remaining c.loop-turn.records) (sym c.lines.ensures.value) (rw c.if-not-more.true at c.in_ok-more.ensures.reads) in
-    (along-all g.R.Read.remaining c.args.records.now c.loop-turn.records _ _ _ _ _ None None None _ all none c.in_ok-take_batch.ensures.takes tt (c.loop-turn.invariant.along all q)).takes.book
+pub returns-in_default-clause-few : goal.returns-in_default-clause-few
+returns-in_default-clause-few g c all q =
+    let none = rw c.in_default.is at c.in_ok-line.ensures in
+    let end = along-all g.R.Read.remaining c.loop-turn.records _ _ _ None None _ all none (c.loop-turn.invariant.along all q) in
+    let count = end.count in
+    omega (arith, count, c.loop-turn-test.true)
 
-pub returns-then-not-more-clause-counts : goal.returns-then-not-more-clause-counts
-returns-then-not-more-clause-counts g c all q =
-    let none = subst (GivesAll g.R.Read.remaining c.loop-turn.records) (sym c.lines.ensures.value) (rw c.if-not-more.true at c.in_ok-more.ensures.reads) in
-    (along-all g.R.Read.remaining c.args.records.now c.loop-turn.records _ _ _ _ _ None None None _ all none c.in_ok-take_batch.ensures.takes tt (c.loop-turn.invariant.along all q)).takes.counts
+pub returns-in_default-clause-after : goal.returns-in_default-clause-after
+returns-in_default-clause-after g c all q =
+    let none = rw c.in_default.is at c.in_ok-line.ensures in
+    (along-all g.R.Read.remaining c.loop-turn.records _ _ _ None None _ all none (c.loop-turn.invariant.along all q)).takes.book
+
+pub returns-in_default-clause-counts : goal.returns-in_default-clause-counts
+returns-in_default-clause-counts g c all q =
+    let none = rw c.in_default.is at c.in_ok-line.ensures in
+    (along-all g.R.Read.remaining c.loop-turn.records _ _ _ None None _ all none (c.loop-turn.invariant.along all q)).takes.counts
+
+pub add-requires : goal.add-requires
+add-requires g c = up_to-less _ c.loop-turn._turn _ (omega (arith, c.loop-turn-test.true)) c.loop-turn.invariant.counts
 
 pub loop-turn-preserved : goal.loop-turn-preserved
 loop-turn-preserved g c =
     let inv = c.loop-turn.invariant in
-    let read = c.in_ok-more.ensures in
-    let more = subst (ReadsBatch g.R.Read.remaining c.loop-turn.records c.read_batch.new.self (Ok true)) (sym c.lines.ensures.value) (rw c.if-not-more.false at read.reads) in
-    let left = rw (sym c.lines.ensures.value) at read.left in
-    let takes = c.in_ok-take_batch.ensures.takes in
+    let one = rw c.in-Some.is at c.in_ok-line.ensures in
+    let q = c.in_ok-outcome.ensures in
     record {
-      counts = up_to-turn _ _ _ _ c.lines.result.now c.loop-turn._turn takes c.lines.ensures.few inv.counts;
-      setup = more.2;
-      room = room-after _ _ _ _ c.lines.result.now _ takes (omega (arith, left, inv.room));
-      turns = omega (arith, left, more.1, inv.turns);
-      along = λ all q. along-more g.R.Read.remaining c.args.records.now c.loop-turn.records c.read_batch.new.self _ _ _ _ _ None None None _ all more.0 left takes tt (inv.along all q);
+      counts = up_to-line _ _ _ _ c.add.ensures inv.counts;
+      setup = one.1;
+      room = room-line c.loop-turn.book _ _ (2 ^ 32 - 1 - (c.loop-turn._turn + 1)) q.after (omega (arith, c.loop-turn-test.true, inv.room));
+      along = λ all p. along-line g.R.Read.remaining c.loop-turn.records c.read_line.new.self _ _ _ _ _ None None None _ _ _ all one.0 q.after q.outcome c.add.ensures tt (inv.along all p);
     }
 
 pub returns-clause-err : goal.returns-clause-err
-returns-clause-err g c = inr (inr (omega (arith, c.loop-turn.invariant.turns, c.loop-turn-test.false)))
+returns-clause-err g c = inr (inr (λ all q. let longer = along-longer _ _ _ _ _ _ _ _ all (c.loop-turn.invariant.along all q) in omega (arith, c.loop-turn-test.false, longer)))

@@ -11,4 +11,4 @@ pub returns-clause-counts : goal.returns-clause-counts
 returns-clause-counts g c = counts-known g.R.Read.remaining c.new.result _ (g.R.Read.remaining c.args.reader) _ c.new.ensures.pending (rw c.in_ok-book.ensures.book at c.play.ensures.counts)
 
 pub returns-clause-fault : goal.returns-clause-fault
-returns-clause-fault g c = stops-known g.R.Read.remaining c.new.result _ _ _ _ (g.R.Read.remaining c.args.reader) _ c.new.ensures.pending (rw c.in_ok-book.ensures.book at c.play.ensures.fault)
+returns-clause-fault g c = stops-known g.R.Read.remaining c.new.result _ _ _ (g.R.Read.remaining c.args.reader) _ _ c.new.ensures.pending (rw c.in_ok-book.ensures.book at c.play.ensures.fault)

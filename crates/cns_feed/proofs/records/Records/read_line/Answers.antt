@@ -1,4 +1,4 @@
-use Rattle.std.proofs.Common.{arith, refl, true}
+use Rattle.std.proofs.Common.{true}
 use Rattle.csv.specs.Records.{fields_of}
 use Rattle.cns_feed.specs.Records.{given_remaining}
 use Rattle.cns_feed.proofs.RecordLemmas.{ends-failed, gives-line, gives-none, setup_kept}
@@ -10,7 +10,6 @@ returns-in-Ok-true g c =
     let setup = c.requires in
     let reads = (rw c.in-Ok-true.field-0-test at q.reads) setup.no_trim setup.ready in (
       gives-line g.R.Read.remaining c.args.self.now _ (fields_of c.read_byte_record.new.row) c.command_of.result c.command_of.ensures setup reads,
-      omega arith,
       setup_kept (given_remaining g.R.Read.remaining) _ _ true (fields_of c.read_byte_record.new.row) setup reads (q.ready setup.no_trim) q.flexible,
     )
 
@@ -18,12 +17,10 @@ pub returns-in-Ok-false : goal.returns-in-Ok-false
 returns-in-Ok-false g c =
     let q = c.in-Ok-false.ensures in
     let setup = c.requires in
-    let reads = (rw c.in-Ok-false.field-0-test at q.reads) setup.no_trim setup.ready in (
-      gives-none g.R.Read.remaining c.args.self.now c.read_byte_record.new.self (fields_of c.read_byte_record.new.row) (omega arith) setup reads,
-      refl,
-    )
+    let reads = (rw c.in-Ok-false.field-0-test at q.reads) setup.no_trim setup.ready in
+    gives-none g.R.Read.remaining c.args.self.now c.read_byte_record.new.self (fields_of c.read_byte_record.new.row) setup reads
 
 pub returns-in-Err : goal.returns-in-Err
 returns-in-Err g c =
     let q = c.in-Err.ensures in
-    (rw c.fault_of.ensures (ends-failed g.R.Read.remaining c.args.self.now _ _ c.requires q.fails (q.why c.requires.ready)), refl)
+    rw c.fault_of.ensures (ends-failed g.R.Read.remaining c.args.self.now _ _ c.requires q.fails (q.why c.requires.ready))
