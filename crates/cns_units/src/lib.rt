@@ -1,4 +1,4 @@
-//! The units of the book: shares, money, prices, accounts, issues and days, and their texts.
+//! The units of the book: shares, money, prices, rates, ratios, accounts, issues and days, and their texts.
 //!
 //! A value of one of these types is in its range, so nothing above checks a range again. `new` and `parse` are Ok
 //! exactly by the range or the written form, and `value`, `bytes` and `number` give the value back. The calls that
@@ -13,6 +13,8 @@ mod fault;
 mod money;
 mod output;
 mod price;
+mod rate;
+mod ratio;
 mod shares;
 
 pub use account::{Account, Member};
@@ -22,6 +24,8 @@ pub use fault::{UnitFault, WriteFault};
 pub use money::{Cents, Money, write_cents};
 pub use output::write_bytes;
 pub use price::Price;
+pub use rate::Rate;
+pub use ratio::Ratio;
 pub use shares::Shares;
 
 #[cfg(test)]

@@ -1,5 +1,6 @@
 use crate::{
-    Account, Cents, Cusip, Day, Member, Money, Price, Shares, UnitFault, write_cents, write_day,
+    Account, Cents, Cusip, Day, Member, Money, Price, Rate, Ratio, Shares, UnitFault, write_cents,
+    write_day,
 };
 use std::test::Fail;
 
@@ -117,7 +118,31 @@ fn values_outside_their_ranges_are_refused(rt: HostRuntime) -> Result<(), Fail> 
     assert_eq!(rt; Money::new(1_000_000_000_000_000_001).err(), out);
     assert_eq!(rt; Member::new(0).err(), out);
     assert_eq!(rt; Member::new(10_000).err(), out);
+    assert_eq!(rt; Rate::new(0).err(), out);
+    assert_eq!(rt; Rate::new(1)?.value(), 1);
+    assert_eq!(rt; Rate::new(100_000_000_000)?.value(), 100_000_000_000);
+    assert_eq!(rt; Rate::new(100_000_000_001).err(), out);
     assert_eq!(rt; Account::new(0)?, Account::CORPORATION);
     assert_eq!(rt; Account::new(10_000).err(), out);
+    Ok(())
+}
+
+#[test]
+fn a_ratio_is_of_one_to_ten_thousand_shares_on_each_side(rt: HostRuntime) -> Result<(), Fail> {
+    let cases = [
+        (1, 1, true),
+        (1, 10_000, true),
+        (10_000, 1, true),
+        (0, 1, false),
+        (1, 0, false),
+        (10_001, 1, false),
+        (1, 10_001, false),
+    ];
+    for (new, old, is_ratio) in cases {
+        let parts = Ratio::new(new, old).ok().map(|ratio| ratio.parts());
+        assert_eq!(rt; parts, if is_ratio { Some((new, old)) } else { None });
+    }
+    assert!(rt; Ratio::new(1, 2)?.is_same(&Ratio::new(1, 2)?));
+    assert!(rt; !Ratio::new(1, 2)?.is_same(&Ratio::new(2, 4)?));
     Ok(())
 }
