@@ -9,6 +9,7 @@ pub mod Entries
 pub mod Refusals
 pub mod Marks
 pub mod Dividends
+pub mod Conversions
 pub mod Sheets
 pub mod Machine
 pub mod History

@@ -28,6 +28,7 @@
 //! all of it.
 #![tactic(auto)]
 
+mod action;
 mod command;
 mod fault;
 mod history;
@@ -37,6 +38,7 @@ mod reply;
 mod sheet;
 mod worker;
 
+pub use action::{Declared, Exchange, Split};
 pub use command::{Activity, Command, Listing, Movement, Trade};
 pub use fault::NoMemory;
 pub use history::Taken;
