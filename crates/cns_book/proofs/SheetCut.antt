@@ -37,6 +37,7 @@ use Rattle.cns_prices.specs.Listed.{Listed, listed_above, price_in}
 use Rattle.cns_sheets.specs.Build.{closing_in, prices_of, row_from, rows_from, sheet_from}
 use Rattle.cns_sheets.specs.Condition.{IsReady, closing_before}
 use Rattle.cns_sheets.proofs.Balance.{idle_closing, kept_sum, zero_in}
+use Rattle.cns_terms.proofs.Paid.{no_dividend}
 use Rattle.cns_sheets.proofs.Kept.{listed_found, prices_rise}
 use Rattle.cns_book.specs.Contents.{Contents}
 use Rattle.cns_book.specs.Follows.{Follows}
@@ -67,7 +68,7 @@ rows_are L s f order =
     let earlier : before ≡ sheet_prices (last_close J) = ap (λ ss. prices_of (slice_get ss 0)) f.sheets ∙ before_is s.opening (closings J) in
     let now : (c : Cusip) → unwrap_or (price_in s.prices c) 0 ≡ price J c = λ c. ap (λ o. unwrap_or o 0) (f.listings.prices c) ∙ price_or_zero J c w.now in
     let then : (c : Cusip) → unwrap_or (find (slice_cmp nat_cmp) c before) 0 ≡ price (last_close J) c = λ c. ap (λ ps. unwrap_or (find (slice_cmp nat_cmp) c ps) 0) earlier ∙ sheet_price (last_close J) c (sound_last J w) in
-    let is : (k : Key) → row_from before s.prices (k, holding J k.account k.issue) ≡ row s.opening J k.account k.issue = λ k. rw (now k.issue, then k.issue) refl in
+    let is : (k : Key) → row_from before s.prices (k, holding J k.account k.issue) ≡ row s.opening J k.account k.issue = λ k. rw (now k.issue, then k.issue, no_dividend s.opening J k.account k.issue) refl in
     rows_are_sheet (row_from before s.prices) s.opening J s.rows zeros w.now order f.rows is (λ k. refl)
 
 -- ---- what a sheet asks of positions

@@ -19,8 +19,8 @@ use Rattle.cns_terms.proofs.Facts.{and_left, and_right, both_true}
 use Rattle.cns_terms.proofs.Finds.{find_filter, kept_if, same_lists, sorted_filter}
 use Rattle.cns_terms.proofs.Keys.{exact_keys, keys_total}
 use Rattle.cns_terms.proofs.SheetRows.{says}
-use Rattle.cns_terms.proofs.SheetSums.{idle_parts, kept_or_not, total-same}
-use Rattle.cns_terms.proofs.Totals.{total-add, total-neg, total-zero}
+use Rattle.cns_terms.proofs.SheetSums.{idle_parts, kept_or_not}
+use Rattle.cns_terms.proofs.Totals.{total-add, total-neg, total-same, total-zero}
 use Rattle.cns_terms.proofs.ZeroSums.{total-times}
 use Rattle.cns_positions.specs.Rows.{Rows, zeros}
 use Rattle.cns_prices.specs.Listed.{Listed, price_in}

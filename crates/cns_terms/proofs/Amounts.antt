@@ -22,7 +22,7 @@ use Rattle.cns_terms.specs.declared.command.Listing.{Listing}
 use Rattle.cns_terms.specs.declared.holding.Entry.{Entry}
 use Rattle.cns_terms.specs.declared.sheet.Row.{Row}
 use Rattle.cns_terms.specs.Days.{at_close, closings, day, is_close, last_close, open_day}
-use Rattle.cns_terms.specs.Dividends.{dividend}
+use Rattle.cns_terms.specs.Dividends.{dividends}
 use Rattle.cns_terms.specs.Entries.{journal, posting}
 use Rattle.cns_terms.specs.Laws.{Amounts, HasSmallAmounts, HasSmallSums, StaysSmall}
 use Rattle.cns_terms.specs.Limits.{amount_limit, booking_limit, corporation_limit, history_limit, member_limit, position_limit, price_limit}
@@ -35,11 +35,13 @@ use Rattle.cns_terms.specs.Reached.{IsCommandPriceInRange, IsInRange, IsPriceInR
 use Rattle.cns_terms.specs.Refusals.{refusal}
 use Rattle.cns_terms.specs.Sheets.{day_sheet, is_idle, row, rows_of, sheet_rows}
 use Rattle.cns_terms.specs.Sums.{total}
-use Rattle.cns_terms.proofs.Facts.{and_left, and_right, journal_len}
+use Rattle.cns_terms.proofs.DividendBounds.{AreSmallRates, dividends_small}
+use Rattle.cns_terms.proofs.Facts.{journal_len}
 use Rattle.cns_terms.proofs.Everywhere.{each_found, each_weaker}
 use Rattle.cns_terms.proofs.Magnitudes.{added, added-all, added-each, added-flat_map, added-kept, added-more, added-swap, added-times, added-add, added-zero, front_total, magnitude, total_small}
 use Rattle.cns_terms.proofs.Reached.{IsLimited, bounded, limited, members_few, members_from_one, reached-from}
-use Rattle.cns_terms.proofs.Rising.{above_all, is_rising}
+use Rattle.cns_terms.proofs.OverAll.{one_issue, over_add, over_all, over_more}
+use Rattle.cns_terms.proofs.Rising.{is_rising}
 use Rattle.cns_terms.proofs.SheetBounds.{issues_few}
 use Rattle.cns_terms.proofs.Sound.{opening_stays}
 
@@ -56,6 +58,7 @@ pub record IsSmall (opening : Day) (J : Journal) : Type 0 where
   pub limited : IsLimited opening J
   pub few : length J < history_limit
   pub prices : (c : Cusip) → price J c ≤ price_limit
+  pub rates : AreSmallRates (dividends J)
   pub booked : added cents_of J ≤ entries_limit * length J
 
 -- ---- an activity's entries, and its price
@@ -104,6 +107,21 @@ prices_small : (opening : Day) (L : List Activity) → ArePriced L → (c : Cusi
 prices_small opening [] r c = omega arith
 prices_small opening (x ∷ L) r c = price-post opening (journal opening L) x c r.0 (prices_small opening L r.1 c)
 
+-- an activity in its ranges declares no large rate
+rate-post : (opening : Day) (J : Journal) (x : Activity) → IsPriceInRange x → AreSmallRates (dividends J) → AreSmallRates (dividends (posting opening J x ∷ J))
+rate-post opening J (activity.Member m) r h = h
+rate-post opening J (activity.Issue l) r h = h
+rate-post opening J (activity.Trade t) r h = h
+rate-post opening J (activity.Price l) r h = h
+rate-post opening J (activity.Deliver m) r h = h
+rate-post opening J (activity.Receive m) r h = h
+rate-post opening J (activity.Close d) r h = h
+
+-- each rate of a journal is small
+rates_small : (opening : Day) (L : List Activity) → ArePriced L → AreSmallRates (dividends (journal opening L))
+rates_small opening [] r = tt
+rates_small opening (x ∷ L) r = rate-post opening (journal opening L) x r.0 (rates_small opening L r.1)
+
 -- a journal has no more cents than its activities can book
 all_booked : (opening : Day) (L : List Activity) → IsReached opening L → added cents_of (journal opening L) ≤ entries_limit * length (journal opening L)
 all_booked opening [] r = omega arith
@@ -115,13 +133,15 @@ small opening L r p few = record {
   limited = limited opening L r;
   few = omega (arith, few, journal_len opening L);
   prices = prices_small opening L p;
+  rates = rates_small opening L p;
   booked = all_booked opening L r;
 }
 
--- a journal, and the one before it
+-- a journal, the one before it, and the limits of those of its closes
 record AreSmall (opening : Day) (J : Journal) : Type 0 where
   now : IsSmall opening J
   before : IsSmall opening (last_close J)
+  closed : AllByRecursion (IsLimited opening) (closings J)
 
 -- a journal, and those of its closes
 record AreAllSmall (opening : Day) (J : Journal) : Type 0 where
@@ -132,6 +152,11 @@ record AreAllSmall (opening : Day) (J : Journal) : Type 0 where
 before_if : (opening : Day) (b : Bool) (J : Journal) → AreSmall opening J → IsSmall opening (unwrap_or (slice_get (cond b (J ∷ closings J) (closings J)) 0) [])
 before_if opening true J s = s.now
 before_if opening false J s = s.before
+
+-- and the limits of those of its closes
+closed_if : (opening : Day) (b : Bool) (J : Journal) → AreSmall opening J → AllByRecursion (IsLimited opening) (cond b (J ∷ closings J) (closings J))
+closed_if opening true J s = (s.now.limited, s.closed)
+closed_if opening false J s = s.closed
 
 -- and the journals of all closes
 past_if : (opening : Day) (b : Bool) (J : Journal) → AreAllSmall opening J → AllByRecursion (AreSmall opening) (cond b (J ∷ closings J) (closings J))
@@ -144,59 +169,21 @@ small_nil opening = small opening [] tt tt (omega arith)
 
 -- a journal that commands reach is small, and so it was at each close
 all_small : (opening : Day) (L : List Activity) → IsReached opening L → ArePriced L → length L < history_limit → AreAllSmall opening (journal opening L)
-all_small opening [] r p few = record { now = record { now = small_nil opening; before = small_nil opening }; past = tt }
+all_small opening [] r p few = record { now = record { now = small_nil opening; before = small_nil opening; closed = tt }; past = tt }
 all_small opening (x ∷ L) r p few =
     let s : AreAllSmall opening (journal opening L) = all_small opening L r.2 p.1 (omega (arith, few)) in
     record {
-      now = record { now = small opening (x ∷ L) r p few; before = before_if opening (is_close x) (journal opening L) s.now };
+      now = record { now = small opening (x ∷ L) r p few; before = before_if opening (is_close x) (journal opening L) s.now; closed = closed_if opening (is_close x) (journal opening L) s.now };
       past = past_if opening (is_close x) (journal opening L) s;
     }
 
 -- ---- the rows of a sheet
-
--- a number of each row, over the accounts and the issues
-abbrev over_all : (Account → Cusip → ℕ) → Journal → ℕ
-over_all g K = added (λ a. added (g a) (issues K)) (accounts K)
 
 -- a sheet's rows are of accounts and issues, each once at most
 rows_small : (opening : Day) (K : Journal) (f : Row → ℕ) → added f (sheet_rows opening K) ≤ over_all (λ a c. f (row opening K a c)) K
 rows_small opening K f = added-flat_map f (rows_of opening K) (λ a. added (λ c. f (row opening K a c)) (issues K)) (accounts K) (λ a. added-kept f (λ r. not (is_idle r)) (row opening K a) (issues K))
 
 -- ---- cents
-
--- what comes before another is not the same
-not_same : (r : Ordering) → is_lt r ≡ true → is_eq r ≡ false
-not_same Less h = refl
-not_same Equal h = cc
-not_same Greater h = cc
-
--- an issue's number, where its issue is none of those
-no_term : (b t : Bool) (z : ℤ) (n : ℕ) → t ≡ false → n ≡ 0 → unsigned_abs (cond (b && t) z (pos 0)) + n ≡ 0
-no_term true true z n h e = cc
-no_term true false z n h e = omega (arith, e)
-no_term false t z n h e = omega (arith, e)
-
--- a number given to an issue is given to none of the issues after it
-none_above : (b : Bool) (i c : Cusip) (z : ℤ) (cs : List Cusip) → i ≡ c → above_all (slice_cmp nat_cmp) c cs ≡ true → added (λ d. unsigned_abs (cond (b && bytes_eq i d) z (pos 0))) cs ≡ 0
-none_above b i c z [] e h = refl
-none_above b i c z (d ∷ cs) e h =
-    no_term b (bytes_eq i d) z (added (λ d. unsigned_abs (cond (b && bytes_eq i d) z (pos 0))) cs)
-    (ap (λ j. bytes_eq j d) e ∙ sym (is_eq-slice_cmp c d) ∙ not_same (slice_cmp nat_cmp c d) (and_left _ _ h))
-    (none_above b i c z cs e (and_right _ _ h))
-
--- a number given to one issue, with what is given to those after it
-one_term : (b t : Bool) (z : ℤ) (n : ℕ) → (t ≡ true → n ≡ 0) → n ≤ unsigned_abs z → unsigned_abs (cond (b && t) z (pos 0)) + n ≤ unsigned_abs z
-one_term true true z n none h = let e = none refl in omega (arith, e)
-one_term true false z n none h = omega (arith, h)
-one_term false t z n none h = omega (arith, h)
-
--- a number given to one of the issues
-one_issue : (b : Bool) (i : Cusip) (z : ℤ) (cs : List Cusip) → is_rising (slice_cmp nat_cmp) cs ≡ true → added (λ c. unsigned_abs (cond (b && bytes_eq i c) z (pos 0))) cs ≤ unsigned_abs z
-one_issue b i z [] h = omega arith
-one_issue b i z (c ∷ cs) h =
-    one_term b (bytes_eq i c) z (added (λ d. unsigned_abs (cond (b && bytes_eq i d) z (pos 0))) cs)
-    (λ e. none_above b i c z cs ((bytes_eq-Decides i c).0 e) (and_left _ _ h))
-    (one_issue b i z cs (and_right _ _ h))
 
 -- the cents of one posting for an account, over the issues
 posting_cents : (a : Account) (cs : List Cusip) (p : Posting) → is_rising (slice_cmp nat_cmp) cs ≡ true → added (λ c. magnitude (cents_for a c) p.entries) cs ≤ cents_of p
@@ -309,19 +296,6 @@ values_small opening K J k j =
 three_parts : (x y z : ℤ) → unsigned_abs ((x -ℤ y) +ℤ z) ≤ (unsigned_abs x + unsigned_abs y) + unsigned_abs z
 three_parts x y z = omega (arith, ints)
 
--- a greater number for each account and issue
-over_more : (g h : Account → Cusip → ℕ) (K : Journal) → ((a : Account) (c : Cusip) → g a c ≤ h a c) → over_all g K ≤ over_all h K
-over_more g h K le = added-more (λ a. added (g a) (issues K)) (λ a. added (h a) (issues K)) (accounts K) (λ a. added-more (g a) (h a) (issues K) (λ c. le a c))
-
--- two numbers for each
-over_add : (g h : Account → Cusip → ℕ) (K : Journal) → over_all (λ a c. g a c + h a c) K ≤ over_all g K + over_all h K
-over_add g h K =
-    omega (
-      arith,
-      added-more (λ a. added (λ c. g a c + h a c) (issues K)) (λ a. added (g a) (issues K) + added (h a) (issues K)) (accounts K) (λ a. omega (arith, added-add (g a) (h a) (issues K))),
-      added-add (λ a. added (g a) (issues K)) (λ a. added (h a) (issues K)) (accounts K),
-    )
-
 -- the marks of all accounts in all issues
 marks_small : (opening : Day) (K : Journal) → AreSmall opening K → over_all (λ a c. unsigned_abs (mark K a c)) K ≤ amount_limit
 marks_small opening K s =
@@ -342,19 +316,13 @@ marks_small opening K s =
 first_rows : (opening : Day) (K : Journal) (f : Row → ℤ) → over_all (λ a c. unsigned_abs (f (row opening K a c))) K ≤ amount_limit → StaysSmall f (day_sheet opening K)
 first_rows opening K f h n = front_total f n amount_limit (sheet_rows opening K) (omega (arith, rows_small opening K (λ r. unsigned_abs (f r)), h))
 
--- there are no dividends yet
-no_dividends : (opening : Day) (K : Journal) → over_all (λ a c. unsigned_abs (dividend opening K a c)) K ≤ amount_limit
-no_dividends opening K =
-    let each : (a : Account) → added (λ c. unsigned_abs (dividend opening K a c)) (issues K) ≤ 0 = λ a. omega (arith, added-zero (issues K)) in
-    omega (arith, added-all (λ a. added (λ c. unsigned_abs (dividend opening K a c)) (issues K)) 0 (accounts K) each)
-
 -- the sums over a sheet are small
 sheet_small : (opening : Day) (K : Journal) → AreSmall opening K → HasSmallSums (day_sheet opening K)
 sheet_small opening K s = record {
   cents = first_rows opening K (λ r. r.money) (omega (arith, cents_small opening K s.now));
   values = first_rows opening K (λ r. r.closing *ℤ pos r.price) (omega (arith, values_small opening K K s.now s.now));
   marks = first_rows opening K (λ r. r.mark) (marks_small opening K s);
-  dividends = first_rows opening K (λ r. r.dividend) (no_dividends opening K);
+  dividends = first_rows opening K (λ r. r.dividend) (dividends_small opening K s.now.limited s.closed s.now.rates s.now.few);
 }
 
 -- ---- any commands
@@ -366,7 +334,7 @@ few_cents m k h few = omega (arith, h, few)
 -- amounts are small where a journal and those of its closes are
 amounts_small : (opening : Day) (J : Journal) (i : ℕ) → AreAllSmall opening J → HasSmallAmounts opening J i
 amounts_small opening J i s =
-    let none : AreSmall opening [] = record { now = small_nil opening; before = small_nil opening } in
+    let none : AreSmall opening [] = record { now = small_nil opening; before = small_nil opening; closed = tt } in
     record {
       sheet = sheet_small opening (at_close J i) (each_found (AreSmall opening) (λ K. day K == i) [] (closings J) none s.past);
       open_cents = λ a c. few_cents _ (length J) (s.now.now.limited.cents a c) s.now.now.few;

@@ -11,13 +11,17 @@ use Rattle.cns_units.specs.declared.cusip.Cusip.{Cusip}
 use Rattle.cns_units.specs.declared.day.Day.{Day}
 use Rattle.cns_terms.specs.declared.holding.Entry.{Entry}
 use Rattle.cns_terms.specs.declared.holding.Key.{Key}
-use Rattle.cns_terms.specs.Days.{closings, is_close, last_close, open_day}
+use Rattle.cns_terms.specs.Days.{closings, date, is_close, is_not_after, last_close, open_day}
+use Rattle.cns_terms.specs.Dividends.{as_of, dividend}
 use Rattle.cns_terms.specs.Listings.{accounts, is_account, is_listed, issues}
 use Rattle.cns_terms.specs.Positions.{cents_for, money, position, shares_for}
 use Rattle.cns_terms.specs.Postings.{Journal, Posting}
 use Rattle.cns_terms.specs.Sheets.{is_idle, row}
 use Rattle.cns_terms.specs.Sums.{total, same_issue}
 use Rattle.cns_terms.proofs.Accounts.{occurs, occurs_missing}
+use Rattle.cns_terms.proofs.Everywhere.{each_found}
+use Rattle.cns_terms.proofs.Facts.{neither}
+use Rattle.cns_terms.proofs.Paid.{no_dividend-account, no_dividend-issue}
 use Rattle.cns_terms.proofs.Sound.{AreOfListed, IsSound}
 use Rattle.cns_terms.proofs.ZeroSums.{AreOf, AreSound}
 
@@ -57,11 +61,24 @@ elsewhere_before : (a : Account) (c : Cusip) (K : Journal) → AreElsewhere a c 
 elsewhere_before a c [] h = tt
 elsewhere_before a c (p ∷ K) h = before_branch (is_close p.activity) a c K h.1 (elsewhere_before a c K h.1)
 
-idle : (o q m : ℤ) → o ≡ pos 0 → q ≡ pos 0 → m ≡ pos 0 → (int_eq o (pos 0) && int_eq q (pos 0) && int_eq m (pos 0) && int_eq (pos 0) (pos 0)) ≡ true
-idle o q m x y z = λ i. int_eq (x i) (pos 0) && int_eq (y i) (pos 0) && int_eq (z i) (pos 0) && true
+-- the journals of the closes
+closed_branch : (b : Bool) (a : Account) (c : Cusip) (K : Journal) → AreElsewhere a c K → AllByRecursion (AreElsewhere a c) (closings K) → AllByRecursion (AreElsewhere a c) (cond b (K ∷ closings K) (closings K))
+closed_branch true a c K h e = (h, e)
+closed_branch false a c K h e = e
 
-idle_elsewhere : (opening : Day) (J : Journal) (a : Account) (c : Cusip) → AreElsewhere a c J → not (is_idle (row opening J a c)) ≡ false
-idle_elsewhere opening J a c h = ap not (idle (position (last_close J) a c) (position J a c) (money J a c) (no_position a c (last_close J) (elsewhere_before a c J h)) (no_position a c J h) (no_money a c J h))
+elsewhere_closed : (a : Account) (c : Cusip) (K : Journal) → AreElsewhere a c K → AllByRecursion (AreElsewhere a c) (closings K)
+elsewhere_closed a c [] h = tt
+elsewhere_closed a c (p ∷ K) h = closed_branch (is_close p.activity) a c K h.1 (elsewhere_closed a c K h.1)
+
+-- no shares stood there at any close
+never_held : (opening : Day) (a : Account) (c : Cusip) (K : Journal) → AreElsewhere a c K → (d : Day) → position (as_of opening K d) a c ≡ pos 0
+never_held opening a c K h d = no_position a c (as_of opening K d) (each_found (AreElsewhere a c) (λ P. is_not_after (date opening P) d) [] (closings K) tt (elsewhere_closed a c K h))
+
+idle : (o q m v : ℤ) → o ≡ pos 0 → q ≡ pos 0 → m ≡ pos 0 → v ≡ pos 0 → (int_eq o (pos 0) && int_eq q (pos 0) && int_eq m (pos 0) && int_eq v (pos 0)) ≡ true
+idle o q m v x y z w = λ i. int_eq (x i) (pos 0) && int_eq (y i) (pos 0) && int_eq (z i) (pos 0) && int_eq (w i) (pos 0)
+
+idle_elsewhere : (opening : Day) (J : Journal) (a : Account) (c : Cusip) → AreElsewhere a c J → dividend opening J a c ≡ pos 0 → not (is_idle (row opening J a c)) ≡ false
+idle_elsewhere opening J a c h paid = ap not (idle (position (last_close J) a c) (position J a c) (money J a c) (dividend opening J a c) (no_position a c (last_close J) (elsewhere_before a c J h)) (no_position a c J h) (no_money a c J h) paid)
 
 -- ---- an account that is not there, and an issue that is not listed
 
@@ -87,9 +104,18 @@ elsewhere_all : (a : Account) (c : Cusip) (J K : Journal) → ((p : Posting) →
 elsewhere_all a c J [] h s l = tt
 elsewhere_all a c J (p ∷ K) h s l = (h p s.0.known l.0, elsewhere_all a c J K h s.1 l.1)
 
+no_account_elsewhere : (J : Journal) (a : Account) (c : Cusip) → IsSound J → is_account J a ≡ false → AreElsewhere a c J
+no_account_elsewhere J a c s none = elsewhere_all a c J J (λ p known listed. account_elsewhere a c (accounts J) p.entries (occurs_missing a (accounts J) none) known) s.sound s.issued
+
+no_issue_elsewhere : (J : Journal) (a : Account) (c : Cusip) → IsSound J → is_listed J c ≡ false → AreElsewhere a c J
+no_issue_elsewhere J a c s none = elsewhere_all a c J J (λ p known listed. issue_elsewhere a c J p.entries none listed) s.sound s.issued
+
 by_place : (opening : Day) (J : Journal) (k : Key) (x y : Bool) → IsSound J → is_account J k.account ≡ x → is_listed J k.issue ≡ y → (x && y) ≡ false → not (is_idle (row opening J k.account k.issue)) ≡ false
-by_place opening J k false y s a l h = idle_elsewhere opening J k.account k.issue (elsewhere_all k.account k.issue J J (λ p known listed. account_elsewhere k.account k.issue (accounts J) p.entries (occurs_missing k.account (accounts J) a) known) s.sound s.issued)
-by_place opening J k true false s a l h = idle_elsewhere opening J k.account k.issue (elsewhere_all k.account k.issue J J (λ p known listed. issue_elsewhere k.account k.issue J p.entries l listed) s.sound s.issued)
+by_place opening J k false y s a l h =
+    let e = no_account_elsewhere J k.account k.issue s a in
+    idle_elsewhere opening J k.account k.issue e (no_dividend-account opening J k.issue k.account (neither _ _ a).0 (never_held opening k.account k.issue J e))
+by_place opening J k true false s a l h =
+    idle_elsewhere opening J k.account k.issue (no_issue_elsewhere J k.account k.issue s l) (no_dividend-issue opening J k.issue k.account (λ b. never_held opening b k.issue J (no_issue_elsewhere J b k.issue s l)))
 by_place opening J k true true s a l h = cc
 
 -- a place of no account or of no listed issue has no row

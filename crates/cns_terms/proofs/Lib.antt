@@ -19,6 +19,9 @@ pub mod SheetBounds
 pub mod LegalReplies
 pub mod Limits
 pub mod Reached
+pub mod Paid
 pub mod Magnitudes
+pub mod OverAll
+pub mod DividendBounds
 pub mod Amounts
 pub mod Examples

@@ -16,9 +16,9 @@ use Rattle.cns_terms.specs.Sheets.{is_idle, row, rows_of, sheet_rows}
 use Rattle.cns_terms.specs.Sums.{put, same_issue, total}
 use Rattle.cns_terms.proofs.Facts.{eqb_sym}
 use Rattle.cns_terms.proofs.Accounts.{occurs}
-use Rattle.cns_terms.proofs.SheetSums.{idle_parts, kept_or_not, total-flat_map, total-same}
+use Rattle.cns_terms.proofs.SheetSums.{idle_parts, kept_or_not, total-flat_map}
 use Rattle.cns_terms.proofs.Sound.{IsSound}
-use Rattle.cns_terms.proofs.Totals.{total-swap, total-zero}
+use Rattle.cns_terms.proofs.Totals.{total-same, total-swap, total-zero}
 use Rattle.cns_terms.proofs.ZeroSums.{cents_zero, positions_zero, sound_open_day}
 
 -- ---- sums in an issue

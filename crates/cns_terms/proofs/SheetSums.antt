@@ -17,7 +17,8 @@ use Rattle.cns_terms.specs.Marks.{mark}
 use Rattle.cns_terms.specs.Dividends.{dividend}
 use Rattle.cns_terms.specs.Sheets.{DaySheet, day_sheet, row, is_idle, rows_of}
 use Rattle.cns_terms.specs.Laws.{AddsUpToZero, Positions, ZeroSums, journal_after}
-use Rattle.cns_terms.proofs.Totals.{total-append, total-zero, total-swap}
+use Rattle.cns_terms.proofs.Paid.{dividends_zero}
+use Rattle.cns_terms.proofs.Totals.{total-append, total-same, total-zero, total-swap}
 use Rattle.cns_terms.proofs.Everywhere.{each_found}
 use Rattle.cns_terms.proofs.ZeroSums.{AreSound, cents_zero, marks_zero, positions_zero, sound_open_day}
 use Rattle.cns_terms.proofs.Sound.{IsSound, IsWhole, sound_nil, whole-after}
@@ -25,10 +26,6 @@ use Rattle.cns_terms.proofs.Sound.{IsSound, IsWhole, sound_nil, whole-after}
 pub total-flat_map : {X Y : Type 0} (f : Y → ℤ) (g : X → List Y) (xs : List X) → total f (flat_map g xs) ≡ total (λ x. total f (g x)) xs
 total-flat_map f g [] = refl
 total-flat_map f g (x ∷ xs) = total-append f (g x) (flat_map g xs) ∙ ap (λ n. total f (g x) +ℤ n) (total-flat_map f g xs)
-
-pub total-same : {X : Type 0} (f g : X → ℤ) (xs : List X) → ((x : X) → f x ≡ g x) → total f xs ≡ total g xs
-total-same f g [] h = refl
-total-same f g (x ∷ xs) h = rw (h x, total-same f g xs h) refl
 
 is_zero : (z : ℤ) → int_eq z (pos 0) ≡ true → z ≡ pos 0
 is_zero z h = (signed_Decides z (pos 0)).0 h
@@ -76,9 +73,6 @@ sound_before : (bs : List Account) (K : Journal) → AreSound bs K → AreSound 
 sound_before bs [] h = tt
 sound_before bs (p ∷ K) h = before_or_earlier bs (is_close p.activity) K h.1 (sound_before bs K h.1)
 
-dividends_zero : (bs : List Account) → total (λ a. pos 0) bs ≡ pos 0
-dividends_zero bs = total-zero bs
-
 -- ---- the sheet
 
 pub sheet_zero : (opening : Day) (K : Journal) → IsSound K → AddsUpToZero (day_sheet opening K)
@@ -93,7 +87,7 @@ sheet_zero opening K s = record {
       total-flat_map (λ (r : Row). r.dividend) (rows_of opening K) (accounts K)
       ∙ total-same _ _ (accounts K) (λ a. dividends_of_rows opening K a (issues K))
       ∙ total-swap (λ a c. dividend opening K a c) (accounts K) (issues K)
-      ∙ total-same _ _ (issues K) (λ c. dividends_zero (accounts K))
+      ∙ total-same _ _ (issues K) (λ c. dividends_zero opening K c s.accounts_rise)
       ∙ total-zero (issues K);
 }
 

@@ -27,3 +27,8 @@ total-neg f (x ∷ xs) = let e = total-neg f xs in omega (arith, ints)
 pub total-swap : {X Y : Type 0} (f : X → Y → ℤ) (xs : List X) (ys : List Y) → total (λ x. total (f x) ys) xs ≡ total (λ y. total (λ x. f x y) xs) ys
 total-swap f [] ys = sym (total-zero ys)
 total-swap f (x ∷ xs) ys = ap (λ n. total (f x) ys +ℤ n) (total-swap f xs ys) ∙ sym (total-add (f x) (λ y. total (λ x. f x y) xs) ys)
+
+-- two sums of the same terms
+pub total-same : {X : Type 0} (f g : X → ℤ) (xs : List X) → ((x : X) → f x ≡ g x) → total f xs ≡ total g xs
+total-same f g [] h = refl
+total-same f g (x ∷ xs) h = rw (h x, total-same f g xs h) refl

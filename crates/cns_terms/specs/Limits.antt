@@ -28,3 +28,7 @@ price_limit = 10 ^ 9
 -- no sum of a day's cents, values, marks or dividends is further from zero
 abbrev pub amount_limit : ℕ
 amount_limit = 10 ^ 34
+
+-- what a dividend pays for a share, in millionths of a dollar
+abbrev pub rate_limit : ℕ
+rate_limit = 10 ^ 11

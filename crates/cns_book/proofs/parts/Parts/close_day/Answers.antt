@@ -31,10 +31,11 @@ overflow_add-self g c = let few = closes_fit _ (subst HasRoom (sym c.self.view_i
 
 pub returns-then-le-clause-step : goal.returns-then-le-clause-step
 returns-then-le-clause-step g c L f =
-    let f' = subst (Follows L) (sym c.self.view_is) f in
     let d = day_number c.args.next in
-    let late = ap (λ t. int_le d (day_number t)) (sym f'.clock.today) ∙ sym (le_test d (day_number c.self.inside.today)) ∙ sym c.le.ensures ∙ c.if-le.true in
-    rw (← c.self.view_is) (refused L (activity.Close c.args.next) WrongDay (ap (λ b. first_refusal ((WrongDay, b) ∷ [])) late) f')
+    let today = f.clock.today in
+    let same = ap (λ s. s.today) c.self.view_is in
+    let late = ap (λ t. int_le d (day_number t)) (sym today ∙ sym same) ∙ sym (le_test d (day_number c.self.inside.today)) ∙ sym c.le.ensures ∙ c.if-le.true in
+    refused L (activity.Close c.args.next) WrongDay (ap (λ b. first_refusal ((WrongDay, b) ∷ [])) late) f
 
 pub returns-clause-step : goal.returns-clause-step
 returns-clause-step g c L f =

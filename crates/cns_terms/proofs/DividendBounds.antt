@@ -1,0 +1,144 @@
+-- No dividends of a day leave the limit of amounts.
+use Rattle.std.proofs.Common.{◌≡◌, ◌∙◌, ap, refl, sym, ℕ, ◌+◌, ◌*◌, ◌^◌, ◌≤◌, ◌<◌, ℤ, pos, negsuc, neg_ℤ, suc, ◌/◌, ◌*ℤ◌, Bool, true, false, ◌&&◌, ◌==◌, cond, filter, List, [], ◌∷◌, length, arith}
+use Rattle.std.specs.List.{AllByRecursion}
+use Rattle.std.specs.Cmp.Lexicographic.{slice_cmp}
+use Rattle.std.specs.Ordering.{nat_cmp}
+use Rattle.std.specs.Prelude.{bytes_eq, int_div, unsigned_abs}
+use Rattle.std.proofs.lemmas.Bool.Decides.{nat_tests}
+use Rattle.std.proofs.lemmas.Int.{ints, unsigned_abs-mul}
+use Rattle.std.proofs.Math.Nat.{mul-le-mul_right}
+use Rattle.cns_units.specs.declared.account.Account.{Account}
+use Rattle.cns_units.specs.declared.cusip.Cusip.{Cusip}
+use Rattle.cns_units.specs.declared.day.Day.{Day}
+use Rattle.cns_units.specs.declared.rate.Rate.{Rate}
+use Rattle.cns_terms.specs.declared.action.Declared.{Declared}
+use Rattle.cns_terms.specs.declared.command.Activity.{Activity}
+use Rattle.cns_terms.specs.declared.command.Activity.TheVariants as activity
+use Rattle.cns_terms.specs.declared.holding.Entry.{Entry}
+use Rattle.cns_terms.specs.Days.{closings, date, is_not_after}
+use Rattle.cns_terms.specs.Dividends.{as_of, cash, dividend, dividends, due, is_due, last_date, member_dividend}
+use Rattle.cns_terms.specs.Limits.{amount_limit, history_limit, member_limit, position_limit, rate_limit}
+use Rattle.cns_terms.specs.Listings.{accounts, issues, members}
+use Rattle.cns_terms.specs.Positions.{position}
+use Rattle.cns_terms.specs.Postings.{Journal}
+use Rattle.cns_terms.specs.Sums.{total}
+use Rattle.cns_terms.proofs.Everywhere.{each_found, each_weaker}
+use Rattle.cns_terms.proofs.Magnitudes.{added, added-all, added-each, added-more, added-swap, total_small}
+use Rattle.cns_terms.proofs.OverAll.{one_issue, over_all}
+use Rattle.cns_terms.proofs.Reached.{IsLimited, bounded, limited, members_few, members_from_one}
+use Rattle.cns_terms.proofs.Rising.{is_rising}
+
+-- the most cents that a dividend pays on a member's position
+abbrev cash_limit : ℕ
+cash_limit = 10 ^ 17
+
+-- a quotient cut towards zero
+quotient_small : (z : ℤ) (m : ℕ) → unsigned_abs z ≤ 10000 * m → unsigned_abs (int_div z (pos 10000)) ≤ m
+quotient_small (pos n) m h = omega (arith, h)
+quotient_small (negsuc n) m h = below (suc n) h
+  where
+    below : (k : ℕ) → k ≤ 10000 * m → unsigned_abs (neg_ℤ (pos (k / 10000))) ≤ m
+    below k h = omega (arith, ints, h)
+
+-- few shares at a small rate
+product_few : (q r z : ℕ) → z ≡ q * r → q ≤ position_limit → r ≤ rate_limit → z ≤ 10000 * cash_limit
+product_few q r z e p s = omega (arith, e, s, mul-le-mul_right r p)
+
+-- the cash on a member's position
+cash_small : (q : ℤ) (rate : Rate) → unsigned_abs q ≤ position_limit → rate ≤ rate_limit → unsigned_abs (cash q rate) ≤ cash_limit
+cash_small q rate p s = quotient_small (q *ℤ pos rate) cash_limit (product_few (unsigned_abs q) rate (unsigned_abs (q *ℤ pos rate)) (unsigned_abs-mul q (pos rate)) p s)
+
+-- each rate is small
+abbrev pub AreSmallRates : List Declared → Type 0
+AreSmallRates ds = AllByRecursion (λ d. d.rate ≤ rate_limit) ds
+
+-- ---- one member
+
+-- a term that is kept or not
+kept_term : {X : Type 0} (f : X → ℕ) (s t : Bool) (x : X) (xs : List X) (n : ℕ) → f x ≤ cash_limit → added f xs ≤ n → added f (cond (s && t) (x ∷ xs) xs) ≤ unsigned_abs (cond (true && s) (pos cash_limit) (pos 0)) + n
+kept_term f true true x xs n h r = omega (arith, h, r)
+kept_term f true false x xs n h r = omega (arith, r)
+kept_term f false t x xs n h r = omega (arith, r)
+
+module _ (opening : Day) (K : Journal) (closed : AllByRecursion (IsLimited opening) (closings K)) (a : Account) (member : 1 ≤ a) where
+  -- the cash of one dividend
+  abbrev paid : Cusip → Declared → ℤ
+  paid c d = cash (position (as_of opening K d.recorded) a c) d.rate
+
+  paid_small : (c : Cusip) (d : Declared) → d.rate ≤ rate_limit → unsigned_abs (paid c d) ≤ cash_limit
+  paid_small c d r =
+      let then : IsLimited opening (as_of opening K d.recorded) = each_found (IsLimited opening) (λ P. is_not_after (date opening P) d.recorded) [] (closings K) (limited opening [] tt) closed in
+      cash_small (position (as_of opening K d.recorded) a c) d.rate ((bounded opening (as_of opening K d.recorded) c then).members a member) r
+
+  -- those that are due in an issue
+  due_small : (c : Cusip) (test : Declared → Bool) (ds : List Declared) → AreSmallRates ds
+      → added (λ d. unsigned_abs (paid c d)) (filter (λ d. bytes_eq d.cusip c && test d) ds) ≤ added (λ d. unsigned_abs (cond (true && bytes_eq d.cusip c) (pos cash_limit) (pos 0))) ds
+  due_small c test [] r = omega arith
+  due_small c test (d ∷ ds) r =
+      kept_term (λ d. unsigned_abs (paid c d)) (bytes_eq d.cusip c) (test d) d (filter (λ d. bytes_eq d.cusip c && test d) ds) _ (paid_small c d r.0) (due_small c test ds r.1)
+
+  -- the dividends of a member, over the issues
+  member_small : is_rising (slice_cmp nat_cmp) (issues K) ≡ true → AreSmallRates (dividends K) → added (λ c. unsigned_abs (member_dividend opening K c a)) (issues K) ≤ cash_limit * length (dividends K)
+  member_small rise rates =
+      omega (
+        arith,
+        added-more (λ (c : Cusip). unsigned_abs (member_dividend opening K c a)) (λ c. added (λ d. unsigned_abs (cond (true && bytes_eq d.cusip c) (pos cash_limit) (pos 0))) (dividends K)) (issues K) (λ c.
+        omega (arith, total_small (paid c) (due opening K c), due_small c (is_due (last_date opening K) (date opening K)) (dividends K) rates)),
+        added-swap (λ (c : Cusip) (d : Declared). unsigned_abs (cond (true && bytes_eq d.cusip c) (pos cash_limit) (pos 0))) (issues K) (dividends K),
+        added-all (λ (d : Declared). added (λ c. unsigned_abs (cond (true && bytes_eq d.cusip c) (pos cash_limit) (pos 0))) (issues K)) cash_limit (dividends K) (λ d. one_issue true d.cusip (pos cash_limit) (issues K) rise),
+      )
+
+-- ---- all accounts
+
+-- an activity declares one dividend at most
+few-post : (x : Activity) (es : List Entry) (K : Journal) → length (dividends K) ≤ length K → length (dividends (record { activity = x; entries = es } ∷ K)) ≤ length K + 1
+few-post (activity.Member m) es K h = omega (arith, h)
+few-post (activity.Issue l) es K h = omega (arith, h)
+few-post (activity.Trade t) es K h = omega (arith, h)
+few-post (activity.Price l) es K h = omega (arith, h)
+few-post (activity.Deliver m) es K h = omega (arith, h)
+few-post (activity.Receive m) es K h = omega (arith, h)
+few-post (activity.Close d) es K h = omega (arith, h)
+
+-- no more dividends than postings
+dividends_few : (K : Journal) → length (dividends K) ≤ length K
+dividends_few [] = omega arith
+dividends_few (p ∷ K) = omega (arith, few-post p.activity p.entries K (dividends_few K))
+
+-- what one account is paid or pays at a close, at most
+abbrev account_limit : ℕ
+account_limit = cash_limit * history_limit
+
+-- a number, and the opposite of one
+opposite : (z : ℤ) → unsigned_abs (neg_ℤ z) ≡ unsigned_abs z
+opposite z = omega (arith, ints)
+
+-- the dividends of all accounts in all issues
+pub dividends_small : (opening : Day) (K : Journal) → IsLimited opening K → AllByRecursion (IsLimited opening) (closings K) → AreSmallRates (dividends K) → length K < history_limit
+    → over_all (λ a c. unsigned_abs (dividend opening K a c)) K ≤ amount_limit
+dividends_small opening K l closed rates few = omega (arith, corporation_small, members_small, members_few opening K l)
+  where
+    one : (a : Account) → 1 ≤ a → added (λ c. unsigned_abs (member_dividend opening K c a)) (issues K) ≤ account_limit
+    one a member = let small = member_small opening K closed a member l.whole.now.issues_rise rates in let none = dividends_few K in omega (arith, small, none, few)
+
+    same : (a : Account) → 1 ≤ a → added (λ c. unsigned_abs (dividend opening K a c)) (issues K) ≤ account_limit
+    same a member = rw (other a member) (one a member)
+      where
+        other : (a : Account) → 1 ≤ a → (a == 0) ≡ false
+        other a h = grind (arith, nat_tests, h)
+
+    each : (P : Account → Type 0) → ((a : Account) → 1 ≤ a → P a) → AllByRecursion P (members K)
+    each P h = each_weaker (λ a. 1 ≤ a) P (members K) h (members_from_one opening K l)
+
+    members_small : added (λ a. added (λ c. unsigned_abs (dividend opening K a c)) (issues K)) (members K) ≤ account_limit * length (members K)
+    members_small = added-each (λ a. added (λ c. unsigned_abs (dividend opening K a c)) (issues K)) account_limit (members K) (each _ same)
+
+    corporation_small : added (λ c. unsigned_abs (dividend opening K 0 c)) (issues K) ≤ account_limit * length (members K)
+    corporation_small =
+        omega (
+          arith,
+          added-more (λ (c : Cusip). unsigned_abs (dividend opening K 0 c)) (λ c. added (λ a. unsigned_abs (member_dividend opening K c a)) (members K)) (issues K) (λ c.
+          omega (arith, opposite (total (member_dividend opening K c) (members K)), total_small (member_dividend opening K c) (members K))),
+          added-swap (λ (c : Cusip) (a : Account). unsigned_abs (member_dividend opening K c a)) (issues K) (members K),
+          added-each (λ (a : Account). added (λ c. unsigned_abs (member_dividend opening K c a)) (issues K)) account_limit (members K) (each _ one),
+        )

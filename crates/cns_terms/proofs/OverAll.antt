@@ -1,0 +1,69 @@
+-- A number for each account in each issue.
+use Rattle.std.proofs.Common.{◌≡◌, ◌∙◌, ap, refl, sym, ℕ, ◌+◌, ◌≤◌, ℤ, pos, Bool, true, false, ◌&&◌, cond, List, [], ◌∷◌, arith}
+use Rattle.std.specs.Cmp.Lexicographic.{slice_cmp}
+use Rattle.std.specs.Ordering.{is_eq, is_lt, nat_cmp}
+use Rattle.std.specs.declared.cmp.Ordering.{Ordering}
+use Rattle.std.specs.declared.cmp.Ordering.TheVariants.{Less, Equal, Greater}
+use Rattle.std.specs.Prelude.{bytes_eq, unsigned_abs}
+use Rattle.std.proofs.lemmas.Map.Text.{is_eq-slice_cmp}
+use Rattle.std.proofs.lemmas.Slice.Eq.{bytes_eq-Decides}
+use Rattle.cns_units.specs.declared.account.Account.{Account}
+use Rattle.cns_units.specs.declared.cusip.Cusip.{Cusip}
+use Rattle.cns_terms.specs.Listings.{accounts, issues}
+use Rattle.cns_terms.specs.Postings.{Journal}
+use Rattle.cns_terms.proofs.Facts.{and_left, and_right}
+use Rattle.cns_terms.proofs.Magnitudes.{added, added-add, added-more}
+use Rattle.cns_terms.proofs.Rising.{above_all, is_rising}
+
+-- a number of each row, over the accounts and the issues
+abbrev pub over_all : (Account → Cusip → ℕ) → Journal → ℕ
+over_all g K = added (λ a. added (g a) (issues K)) (accounts K)
+
+-- a greater number for each account and issue
+pub over_more : (g h : Account → Cusip → ℕ) (K : Journal) → ((a : Account) (c : Cusip) → g a c ≤ h a c) → over_all g K ≤ over_all h K
+over_more g h K le = added-more (λ a. added (g a) (issues K)) (λ a. added (h a) (issues K)) (accounts K) (λ a. added-more (g a) (h a) (issues K) (λ c. le a c))
+
+-- two numbers for each
+pub over_add : (g h : Account → Cusip → ℕ) (K : Journal) → over_all (λ a c. g a c + h a c) K ≤ over_all g K + over_all h K
+over_add g h K =
+    omega (
+      arith,
+      added-more (λ a. added (λ c. g a c + h a c) (issues K)) (λ a. added (g a) (issues K) + added (h a) (issues K)) (accounts K) (λ a. omega (arith, added-add (g a) (h a) (issues K))),
+      added-add (λ a. added (g a) (issues K)) (λ a. added (h a) (issues K)) (accounts K),
+    )
+
+-- ---- a number of one issue
+
+-- what comes before another is not the same
+not_same : (r : Ordering) → is_lt r ≡ true → is_eq r ≡ false
+not_same Less h = refl
+not_same Equal h = cc
+not_same Greater h = cc
+
+-- an issue's number, where its issue is none of those
+no_term : (b t : Bool) (z : ℤ) (n : ℕ) → t ≡ false → n ≡ 0 → unsigned_abs (cond (b && t) z (pos 0)) + n ≡ 0
+no_term true true z n h e = cc
+no_term true false z n h e = omega (arith, e)
+no_term false t z n h e = omega (arith, e)
+
+-- a number given to an issue is given to none of the issues after it
+none_above : (b : Bool) (i c : Cusip) (z : ℤ) (cs : List Cusip) → i ≡ c → above_all (slice_cmp nat_cmp) c cs ≡ true → added (λ d. unsigned_abs (cond (b && bytes_eq i d) z (pos 0))) cs ≡ 0
+none_above b i c z [] e h = refl
+none_above b i c z (d ∷ cs) e h =
+    no_term b (bytes_eq i d) z (added (λ d. unsigned_abs (cond (b && bytes_eq i d) z (pos 0))) cs)
+    (ap (λ j. bytes_eq j d) e ∙ sym (is_eq-slice_cmp c d) ∙ not_same (slice_cmp nat_cmp c d) (and_left _ _ h))
+    (none_above b i c z cs e (and_right _ _ h))
+
+-- a number given to one issue, with what is given to those after it
+one_term : (b t : Bool) (z : ℤ) (n : ℕ) → (t ≡ true → n ≡ 0) → n ≤ unsigned_abs z → unsigned_abs (cond (b && t) z (pos 0)) + n ≤ unsigned_abs z
+one_term true true z n none h = let e = none refl in omega (arith, e)
+one_term true false z n none h = omega (arith, h)
+one_term false t z n none h = omega (arith, h)
+
+-- a number given to one of the issues
+pub one_issue : (b : Bool) (i : Cusip) (z : ℤ) (cs : List Cusip) → is_rising (slice_cmp nat_cmp) cs ≡ true → added (λ c. unsigned_abs (cond (b && bytes_eq i c) z (pos 0))) cs ≤ unsigned_abs z
+one_issue b i z [] h = omega arith
+one_issue b i z (c ∷ cs) h =
+    one_term b (bytes_eq i c) z (added (λ d. unsigned_abs (cond (b && bytes_eq i d) z (pos 0))) cs)
+    (λ e. none_above b i c z cs ((bytes_eq-Decides i c).0 e) (and_left _ _ h))
+    (one_issue b i z cs (and_right _ _ h))
