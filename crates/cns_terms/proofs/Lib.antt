@@ -25,3 +25,4 @@ pub mod OverAll
 pub mod DividendBounds
 pub mod Amounts
 pub mod Examples
+pub mod ActionExamples
