@@ -83,7 +83,7 @@ module _ (opening : Day) (K : Journal) (closed : AllByRecursion (IsLimited openi
       omega (
         arith,
         added-more (λ (c : Cusip). unsigned_abs (member_dividend opening K c a)) (λ c. added (λ d. unsigned_abs (cond (true && bytes_eq d.cusip c) (pos cash_limit) (pos 0))) (dividends K)) (issues K) (λ c.
-        omega (arith, total_small (paid c) (due opening K c), due_small c (is_due (last_date opening K) (date opening K)) (dividends K) rates)),
+            omega (arith, total_small (paid c) (due opening K c), due_small c (is_due (last_date opening K) (date opening K)) (dividends K) rates)),
         added-swap (λ (c : Cusip) (d : Declared). unsigned_abs (cond (true && bytes_eq d.cusip c) (pos cash_limit) (pos 0))) (issues K) (dividends K),
         added-all (λ (d : Declared). added (λ c. unsigned_abs (cond (true && bytes_eq d.cusip c) (pos cash_limit) (pos 0))) (issues K)) cash_limit (dividends K) (λ d. one_issue true d.cusip (pos cash_limit) (issues K) rise),
       )
@@ -138,7 +138,7 @@ dividends_small opening K l closed rates few = omega (arith, corporation_small, 
         omega (
           arith,
           added-more (λ (c : Cusip). unsigned_abs (dividend opening K 0 c)) (λ c. added (λ a. unsigned_abs (member_dividend opening K c a)) (members K)) (issues K) (λ c.
-          omega (arith, opposite (total (member_dividend opening K c) (members K)), total_small (member_dividend opening K c) (members K))),
+              omega (arith, opposite (total (member_dividend opening K c) (members K)), total_small (member_dividend opening K c) (members K))),
           added-swap (λ (c : Cusip) (a : Account). unsigned_abs (member_dividend opening K c a)) (issues K) (members K),
           added-each (λ (a : Account). added (λ c. unsigned_abs (member_dividend opening K c a)) (issues K)) account_limit (members K) (each _ one),
         )

@@ -10,6 +10,7 @@ pub mod Refusals
 pub mod Marks
 pub mod Dividends
 pub mod Conversions
+pub mod Actions
 pub mod Sheets
 pub mod Machine
 pub mod History

@@ -1,0 +1,7 @@
+pub mod Quotients
+pub mod Members
+pub mod Fits
+pub mod Bookings
+pub mod Copies
+pub mod Named
+pub mod Reachable

@@ -1,0 +1,2 @@
+pub mod Legs
+pub mod Booked

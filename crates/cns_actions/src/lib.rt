@@ -1,0 +1,24 @@
+//! Splits and exchanges: what shares become, and the positions after one.
+//!
+//! `split_of` and `exchange_of` say what one position becomes, with the cents that are paid for what the cut to whole
+//! shares leaves. `next_positions` books a split or an exchange for every member that holds the issue, and the opposite
+//! of the sums for the corporation, on a copy: the positions that it was given never change. It knows positions by
+//! their trait alone. Start with `next_positions`.
+#![tactic(auto)]
+
+mod action;
+mod booking;
+mod conversion;
+mod copying;
+mod fault;
+mod leg;
+mod next;
+
+pub use action::Action;
+pub use cns_terms::{Exchange, Split};
+pub use conversion::{exchange_of, split_of};
+pub use fault::ActionFault;
+pub use next::next_positions;
+
+#[cfg(test)]
+mod tests;
