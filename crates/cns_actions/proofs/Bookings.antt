@@ -1,18 +1,18 @@
 -- What entries make of positions, one after another.
-use Rattle.std.proofs.Common.{◌≡◌, ◌∙◌, sym, ap, refl, subst, add-one, ℕ, zero, suc, ◌+◌, ◌*◌, ◌^◌, ◌≤◌, ◌<◌, ℤ, pos, ◌+ℤ◌, neg_ℤ, unsigned_abs, Bool, true, false, cond, ◌&&◌, ◌==◌, List, [], ◌∷◌, ◌++◌, map, arith}
+use Rattle.std.proofs.Common.{◌≡◌, ◌∙◌, sym, ap, refl, subst, add-one, ℕ, zero, suc, ◌+◌, ◌*◌, ◌^◌, ◌≤◌, ◌<◌, ℤ, pos, ◌+ℤ◌, unsigned_abs, Bool, true, false, cond, ◌&&◌, ◌==◌, List, [], ◌∷◌, ◌++◌, map, arith}
 use Rattle.std.proofs.lemmas.Int.{ints}
 use Rattle.cns_units.specs.declared.account.Account.{Account}
 use Rattle.cns_units.specs.declared.cusip.Cusip.{Cusip}
 use Rattle.cns_terms.specs.declared.holding.Entry.{Entry}
 use Rattle.cns_terms.specs.declared.holding.Holding.{Holding}
 use Rattle.cns_terms.specs.declared.holding.Key.{Key}
-use Rattle.cns_terms.specs.Entries.{corporation, entry}
+use Rattle.cns_terms.specs.Entries.{corporation}
 use Rattle.cns_terms.specs.Positions.{cents_for, shares_for}
 use Rattle.cns_terms.specs.Sums.{same_issue, total}
 use Rattle.cns_terms.proofs.Totals.{total-append, total-map}
 use Rattle.cns_terms.proofs.Facts.{zero_add}
-use Rattle.cns_terms.specs.Limits.{amount_limit, corporation_limit, member_limit, position_limit}
-use Rattle.cns_positions.specs.Rows.{Rows, booked, entry_of, holding_at}
+use Rattle.cns_terms.specs.Limits.{corporation_limit, member_limit, position_limit}
+use Rattle.cns_positions.specs.Rows.{Rows, booked, holding_at}
 use Rattle.cns_actions.specs.declared.leg.Leg.{Leg}
 use Rattle.cns_actions.specs.Legs.{cents_booked, leg_entry, shares_booked}
 use Rattle.cns_actions.specs.Booked.{CanBeBooked, HasSpace, all_entries, books, first_entries, firsts, position_at}

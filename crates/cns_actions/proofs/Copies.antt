@@ -1,5 +1,5 @@
 -- The rows of positions without those of zeros.
-use Rattle.std.proofs.Common.{◌≡◌, ◌∙◌, sym, ap, refl, subst, Bool, true, false, cond, not, ◌&&◌, ◌==◌, eqb, ◌++◌, pos, ◌∷◌, [], append_assoc, append-nil, length, length-append, ◌<◌, arith, Option, Some, None, unwrap_or}
+use Rattle.std.proofs.Common.{◌≡◌, ◌∙◌, sym, ap, refl, Bool, true, false, cond, not, ◌&&◌, ◌==◌, ◌++◌, pos, ◌∷◌, [], append_assoc, length, length-append, ◌<◌, arith, Option, Some, None, unwrap_or}
 use Rattle.std.specs.Ordering.{int_eq}
 use Rattle.std.specs.FinMap.{find, is_sorted}
 use Rattle.std.proofs.lemmas.Bool.{eqb-true}
@@ -7,7 +7,6 @@ use Rattle.std.proofs.lemmas.Bool.Decides.{Decides-int_eq}
 use Rattle.cns_terms.specs.declared.holding.Holding.{Holding}
 use Rattle.cns_terms.specs.declared.holding.Key.{Key}
 use Rattle.cns_terms.specs.Keys.{key_cmp}
-use Rattle.cns_terms.proofs.Facts.{and_left, and_right}
 use Rattle.cns_terms.proofs.Finds.{find_filter, kept_if, sorted_filter}
 use Rattle.cns_terms.proofs.Keys.{keys_total}
 use Rattle.cns_positions.specs.Rows.{AreNext, Rows, held_above, holding_at, is_held, last_of, zeros}

@@ -1,5 +1,5 @@
 -- What a division that is cut towards zero leaves.
-use Rattle.std.proofs.Common.{◌≡◌, ◌∙◌, ap, ℕ, ℤ, pos, ◌+ℤ◌, ◌-ℤ◌, ◌*ℤ◌, int_div, int_rem, arith}
+use Rattle.std.proofs.Common.{◌≡◌, ℤ, ◌+ℤ◌, ◌-ℤ◌, ◌*ℤ◌, int_div, int_rem, arith}
 use Rattle.std.proofs.lemmas.Int.{ints, quot-rem}
 
 part : (a x r : ℤ) → x +ℤ r ≡ a → r ≡ a -ℤ x

@@ -1,5 +1,5 @@
 -- Positions that can be booked stay so, where small numbers are added at an empty place.
-use Rattle.std.proofs.Common.{◌≡◌, ◌∙◌, sym, ap, refl, subst, ℕ, ◌≤◌, ◌^◌, ◌*◌, ℤ, pos, ◌+ℤ◌, unsigned_abs, Bool, true, false, cond, ◌&&◌, ◌==◌, [], arith}
+use Rattle.std.proofs.Common.{◌≡◌, ◌∙◌, sym, ap, refl, subst, ℕ, ◌≤◌, ℤ, pos, ◌+ℤ◌, unsigned_abs, Bool, true, false, cond, ◌&&◌, ◌==◌, [], arith}
 use Rattle.std.proofs.lemmas.Bool.{eqb-true}
 use Rattle.std.proofs.lemmas.Int.{ints}
 use Rattle.std.proofs.lemmas.Slice.Eq.{bytes_eq-Decides}

@@ -1,5 +1,5 @@
 -- What entries make of positions.
-use Rattle.std.specs.Prelude.{◌≡◌, ◌≤◌, ◌*◌, ◌^◌, ℕ, zero, suc, ℤ, pos, ◌+ℤ◌, Bool, false, List, [], ◌∷◌, ◌++◌, map, unsigned_abs}
+use Rattle.std.specs.Prelude.{◌≡◌, ◌≤◌, ◌*◌, ◌^◌, ℕ, zero, suc, ℤ, ◌+ℤ◌, Bool, false, List, [], ◌∷◌, ◌++◌, map, unsigned_abs}
 use Rattle.std.specs.List.{list_any}
 use Rattle.cns_units.specs.declared.account.Account.{Account}
 use Rattle.cns_units.specs.declared.account.Member.{Member}

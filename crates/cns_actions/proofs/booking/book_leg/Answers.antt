@@ -1,13 +1,12 @@
 use Rattle.std.proofs.Common.{◌≡◌, ◌∙◌, sym, ap, subst, neg_ℤ, ◌*◌, ◌^◌, ◌≤◌, unsigned_abs, w64, to_z, of_z}
 use Rattle.std.specs.Int.{w128}
-use Rattle.cns_terms.specs.declared.holding.Entry.{Entry}
 use Rattle.cns_terms.specs.declared.holding.Holding.{Holding}
 use Rattle.cns_terms.specs.declared.holding.Key.{Key}
 use Rattle.cns_terms.specs.Entries.{corporation, entry}
 use Rattle.cns_terms.specs.Limits.{member_limit}
 use Rattle.cns_terms.specs.Sums.{total}
 use Rattle.cns_positions.specs.Rows.{booked, entry_of, holding_at}
-use Rattle.cns_actions.specs.Booked.{books, first_entries, positions_in}
+use Rattle.cns_actions.specs.Booked.{first_entries, positions_in}
 use Rattle.cns_actions.proofs.Bookings.{books_more, cents_stay, shares_stay}
 use Rattle.cns_actions.proofs.Fits.{cents_fit, cents_passed, shares_fit, shares_passed}
 use Rattle.cns_actions.proofs.booking.book_leg.Goals as goal

@@ -1,4 +1,4 @@
-use Rattle.std.proofs.Common.{ap, subst, sym, ◌≤◌, ◌*◌, ◌^◌, unsigned_abs, arith}
+use Rattle.std.proofs.Common.{subst, sym, ◌≤◌, ◌*◌, ◌^◌, unsigned_abs, arith}
 use Rattle.cns_terms.specs.declared.holding.Key.{Key}
 use Rattle.cns_positions.specs.Rows.{holding_at}
 use Rattle.cns_actions.proofs.Fits.{cents_fit}

@@ -1,4 +1,4 @@
-use Rattle.std.proofs.Common.{◌≡◌, ◌∙◌, ◌||◌, ◌+◌, Bool, ℕ, ap, refl, sym, true, false, rules, arith}
+use Rattle.std.proofs.Common.{◌≡◌, ◌∙◌, ◌||◌, ◌+◌, ℕ, ap, refl, sym, arith}
 use Rattle.std.specs.List.{list_any}
 use Rattle.cns_terms.specs.Limits.{member_limit}
 use Rattle.cns_terms.specs.Refusals.{is_beyond}

@@ -1,4 +1,4 @@
-use Rattle.std.proofs.Common.{◌≡◌, ◌∙◌, ap, pos, ℤ, ◌*ℤ◌, ◌-ℤ◌, int_div, int_rem, rules, w64, FitsSigned}
+use Rattle.std.proofs.Common.{◌≡◌, ◌∙◌, ap, pos, ◌*ℤ◌, ◌-ℤ◌, int_div, rules, w64, FitsSigned}
 use Rattle.std.proofs.lemmas.Int.{rem_is}
 use Rattle.cns_actions.proofs.Quotients.{rest_of}
 use Rattle.cns_actions.proofs.conversion.fraction.Goals as goal

@@ -1,8 +1,7 @@
-use Rattle.std.proofs.Common.{◌≡◌, ◌∙◌, ap, w64, arith}
+use Rattle.std.proofs.Common.{◌∙◌, w64, arith}
 use Rattle.std.specs.Int.{w128}
 use Rattle.std.proofs.lemmas.Int.{to_z-of_z}
-use Rattle.cns_terms.specs.declared.holding.Key.{Key}
-use Rattle.cns_positions.specs.Rows.{booked, entry_of, holding_at}
+use Rattle.cns_positions.specs.Rows.{booked, entry_of}
 use Rattle.cns_actions.proofs.Reachable.{can_added}
 use Rattle.cns_actions.proofs.tests.add.Goals as goal
 

@@ -1,8 +1,7 @@
-use Rattle.std.proofs.Common.{◌≡◌, ◌∙◌, ◌↔◌, ap, refl, subst, sym, Bool, true, false, not}
+use Rattle.std.proofs.Common.{◌≡◌, ◌↔◌, refl, subst, sym, Bool, true, false, not}
 use Rattle.std.proofs.lemmas.Slice.Eq.{bytes_eq-Decides}
 use Rattle.cns_units.specs.declared.cusip.Cusip.{Cusip}
 use Rattle.cns_terms.specs.Sums.{same_issue}
-use Rattle.cns_actions.specs.declared.action.Action.{Action}
 use Rattle.cns_actions.specs.Booked.{IsForAnother}
 use Rattle.cns_actions.proofs.tests.is_for_another.Goals as goal
 
