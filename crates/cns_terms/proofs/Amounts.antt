@@ -1,16 +1,12 @@
 -- No sum of a day leaves the limit of amounts.
-use Rattle.std.proofs.Common.{◌≡◌, ◌∙◌, ap, refl, sym, subst, ℕ, ◌+◌, ◌*◌, ◌≤◌, ◌<◌, ℤ, pos, neg_ℤ, ◌+ℤ◌, ◌-ℤ◌, ◌*ℤ◌, Bool, true, false, ◌&&◌, ◌==◌, cond, is_none, not, slice_get, unwrap_or, find, Option, Some, List, [], ◌∷◌, length, arith}
+use Rattle.std.proofs.Common.{◌≡◌, sym, subst, ℕ, ◌+◌, ◌*◌, ◌≤◌, ◌<◌, ℤ, pos, neg_ℤ, ◌+ℤ◌, ◌-ℤ◌, ◌*ℤ◌, Bool, true, false, ◌==◌, cond, is_none, not, slice_get, unwrap_or, find, Option, Some, List, [], ◌∷◌, length, arith}
 use Rattle.std.specs.Cmp.Lexicographic.{slice_cmp}
 use Rattle.std.specs.List.{AllByRecursion}
 use Rattle.std.specs.Option.{option_map_or}
-use Rattle.std.specs.Ordering.{is_eq, is_lt, nat_cmp}
-use Rattle.std.specs.declared.cmp.Ordering.{Ordering}
-use Rattle.std.specs.declared.cmp.Ordering.TheVariants.{Less, Equal, Greater}
+use Rattle.std.specs.Ordering.{nat_cmp}
 use Rattle.std.specs.Prelude.{bytes_eq, filter_map, unsigned_abs}
 use Rattle.std.proofs.lemmas.Int.{ints, unsigned_abs-mul}
-use Rattle.std.proofs.lemmas.Map.Text.{is_eq-slice_cmp}
 use Rattle.std.proofs.Math.Nat.{mul-le-mul_right}
-use Rattle.std.proofs.lemmas.Slice.Eq.{bytes_eq-Decides}
 use Rattle.cns_units.specs.declared.account.Account.{Account}
 use Rattle.cns_units.specs.declared.cusip.Cusip.{Cusip}
 use Rattle.cns_units.specs.declared.day.Day.{Day}
@@ -38,7 +34,7 @@ use Rattle.cns_terms.specs.Sums.{total}
 use Rattle.cns_terms.proofs.DividendBounds.{AreSmallRates, dividends_small}
 use Rattle.cns_terms.proofs.Facts.{journal_len}
 use Rattle.cns_terms.proofs.Everywhere.{each_found, each_weaker}
-use Rattle.cns_terms.proofs.Magnitudes.{added, added-all, added-each, added-flat_map, added-kept, added-more, added-swap, added-times, added-add, added-zero, front_total, magnitude, total_small}
+use Rattle.cns_terms.proofs.Magnitudes.{added, added-all, added-each, added-flat_map, added-kept, added-more, added-swap, added-times, front_total, magnitude, total_small}
 use Rattle.cns_terms.proofs.Reached.{IsLimited, bounded, limited, members_few, members_from_one, reached-from}
 use Rattle.cns_terms.proofs.OverAll.{one_issue, over_add, over_all, over_more}
 use Rattle.cns_terms.proofs.Rising.{is_rising}

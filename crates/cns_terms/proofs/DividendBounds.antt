@@ -1,5 +1,5 @@
 -- No dividends of a day leave the limit of amounts.
-use Rattle.std.proofs.Common.{◌≡◌, ◌∙◌, ap, refl, sym, ℕ, ◌+◌, ◌*◌, ◌^◌, ◌≤◌, ◌<◌, ℤ, pos, negsuc, neg_ℤ, suc, ◌/◌, ◌*ℤ◌, Bool, true, false, ◌&&◌, ◌==◌, cond, filter, List, [], ◌∷◌, length, arith}
+use Rattle.std.proofs.Common.{◌≡◌, ℕ, ◌+◌, ◌*◌, ◌^◌, ◌≤◌, ◌<◌, ℤ, pos, negsuc, neg_ℤ, suc, ◌/◌, ◌*ℤ◌, Bool, true, false, ◌&&◌, ◌==◌, cond, filter, List, [], ◌∷◌, length, arith}
 use Rattle.std.specs.List.{AllByRecursion}
 use Rattle.std.specs.Cmp.Lexicographic.{slice_cmp}
 use Rattle.std.specs.Ordering.{nat_cmp}
@@ -17,8 +17,8 @@ use Rattle.cns_terms.specs.declared.command.Activity.TheVariants as activity
 use Rattle.cns_terms.specs.declared.holding.Entry.{Entry}
 use Rattle.cns_terms.specs.Days.{closings, date, is_not_after}
 use Rattle.cns_terms.specs.Dividends.{as_of, cash, dividend, dividends, due, is_due, last_date, member_dividend}
-use Rattle.cns_terms.specs.Limits.{amount_limit, history_limit, member_limit, position_limit, rate_limit}
-use Rattle.cns_terms.specs.Listings.{accounts, issues, members}
+use Rattle.cns_terms.specs.Limits.{amount_limit, history_limit, position_limit, rate_limit}
+use Rattle.cns_terms.specs.Listings.{issues, members}
 use Rattle.cns_terms.specs.Positions.{position}
 use Rattle.cns_terms.specs.Postings.{Journal}
 use Rattle.cns_terms.specs.Sums.{total}
@@ -65,6 +65,7 @@ module _ (opening : Day) (K : Journal) (closed : AllByRecursion (IsLimited openi
   abbrev paid : Cusip → Declared → ℤ
   paid c d = cash (position (as_of opening K d.recorded) a c) d.rate
 
+  -- it is small
   paid_small : (c : Cusip) (d : Declared) → d.rate ≤ rate_limit → unsigned_abs (paid c d) ≤ cash_limit
   paid_small c d r =
       let then : IsLimited opening (as_of opening K d.recorded) = each_found (IsLimited opening) (λ P. is_not_after (date opening P) d.recorded) [] (closings K) (limited opening [] tt) closed in

@@ -61,11 +61,12 @@ elsewhere_before : (a : Account) (c : Cusip) (K : Journal) → AreElsewhere a c 
 elsewhere_before a c [] h = tt
 elsewhere_before a c (p ∷ K) h = before_branch (is_close p.activity) a c K h.1 (elsewhere_before a c K h.1)
 
--- the journals of the closes
+-- the journals of the closes, after an activity that ends a day or not
 closed_branch : (b : Bool) (a : Account) (c : Cusip) (K : Journal) → AreElsewhere a c K → AllByRecursion (AreElsewhere a c) (closings K) → AllByRecursion (AreElsewhere a c) (cond b (K ∷ closings K) (closings K))
 closed_branch true a c K h e = (h, e)
 closed_branch false a c K h e = e
 
+-- nothing was booked there at any close
 elsewhere_closed : (a : Account) (c : Cusip) (K : Journal) → AreElsewhere a c K → AllByRecursion (AreElsewhere a c) (closings K)
 elsewhere_closed a c [] h = tt
 elsewhere_closed a c (p ∷ K) h = closed_branch (is_close p.activity) a c K h.1 (elsewhere_closed a c K h.1)
@@ -74,9 +75,11 @@ elsewhere_closed a c (p ∷ K) h = closed_branch (is_close p.activity) a c K h.1
 never_held : (opening : Day) (a : Account) (c : Cusip) (K : Journal) → AreElsewhere a c K → (d : Day) → position (as_of opening K d) a c ≡ pos 0
 never_held opening a c K h d = no_position a c (as_of opening K d) (each_found (AreElsewhere a c) (λ P. is_not_after (date opening P) d) [] (closings K) tt (elsewhere_closed a c K h))
 
+-- a row of zeros says nothing
 idle : (o q m v : ℤ) → o ≡ pos 0 → q ≡ pos 0 → m ≡ pos 0 → v ≡ pos 0 → (int_eq o (pos 0) && int_eq q (pos 0) && int_eq m (pos 0) && int_eq v (pos 0)) ≡ true
 idle o q m v x y z w = λ i. int_eq (x i) (pos 0) && int_eq (y i) (pos 0) && int_eq (z i) (pos 0) && int_eq (w i) (pos 0)
 
+-- nor does one of a place at which nothing was booked and nothing is paid
 idle_elsewhere : (opening : Day) (J : Journal) (a : Account) (c : Cusip) → AreElsewhere a c J → dividend opening J a c ≡ pos 0 → not (is_idle (row opening J a c)) ≡ false
 idle_elsewhere opening J a c h paid = ap not (idle (position (last_close J) a c) (position J a c) (money J a c) (dividend opening J a c) (no_position a c (last_close J) (elsewhere_before a c J h)) (no_position a c J h) (no_money a c J h) paid)
 
@@ -104,12 +107,15 @@ elsewhere_all : (a : Account) (c : Cusip) (J K : Journal) → ((p : Posting) →
 elsewhere_all a c J [] h s l = tt
 elsewhere_all a c J (p ∷ K) h s l = (h p s.0.known l.0, elsewhere_all a c J K h s.1 l.1)
 
+-- nothing was booked for an account that is not there
 no_account_elsewhere : (J : Journal) (a : Account) (c : Cusip) → IsSound J → is_account J a ≡ false → AreElsewhere a c J
 no_account_elsewhere J a c s none = elsewhere_all a c J J (λ p known listed. account_elsewhere a c (accounts J) p.entries (occurs_missing a (accounts J) none) known) s.sound s.issued
 
+-- or in an issue that is not listed
 no_issue_elsewhere : (J : Journal) (a : Account) (c : Cusip) → IsSound J → is_listed J c ≡ false → AreElsewhere a c J
 no_issue_elsewhere J a c s none = elsewhere_all a c J J (λ p known listed. issue_elsewhere a c J p.entries none listed) s.sound s.issued
 
+-- at such a place the row says nothing
 by_place : (opening : Day) (J : Journal) (k : Key) (x y : Bool) → IsSound J → is_account J k.account ≡ x → is_listed J k.issue ≡ y → (x && y) ≡ false → not (is_idle (row opening J k.account k.issue)) ≡ false
 by_place opening J k false y s a l h =
     let e = no_account_elsewhere J k.account k.issue s a in

@@ -1,9 +1,8 @@
 -- Dividends add up to zero.
-use Rattle.std.proofs.Common.{◌≡◌, ◌∙◌, ap, refl, sym, ℕ, zero, suc, ◌+◌, ◌*◌, ◌≤◌, ◌<◌, ◌/◌, ℤ, pos, negsuc, neg_ℤ, ◌+ℤ◌, ◌*ℤ◌, Bool, true, false, ◌&&◌, ◌==◌, cond, filter, List, [], ◌∷◌, length, arith}
-use Rattle.std.specs.Cmp.Lexicographic.{slice_cmp}
+use Rattle.std.proofs.Common.{◌≡◌, ◌∙◌, ap, refl, ℕ, ℤ, pos, Bool, true, false, ◌&&◌, ◌==◌, cond, filter, List, [], ◌∷◌, arith}
 use Rattle.std.specs.List.{AllByRecursion}
 use Rattle.std.specs.Ordering.{is_lt, nat_cmp}
-use Rattle.std.specs.Prelude.{bytes_eq, int_div, unsigned_abs}
+use Rattle.std.specs.Prelude.{bytes_eq, int_div}
 use Rattle.std.proofs.lemmas.Int.{ints}
 use Rattle.std.proofs.lemmas.Bool.Decides.{nat_tests}
 use lib.IntN.{zero-*ℤ}
@@ -15,13 +14,11 @@ use Rattle.cns_terms.specs.declared.action.Declared.{Declared}
 use Rattle.cns_terms.specs.declared.command.Activity.{Activity}
 use Rattle.cns_terms.specs.declared.command.Activity.TheVariants as activity
 use Rattle.cns_terms.specs.declared.holding.Entry.{Entry}
-use Rattle.cns_terms.specs.Dividends.{as_of, cash, declared, dividend, dividends, due, is_due, last_date, member_dividend}
-use Rattle.cns_terms.specs.Days.{closings, date, is_not_after}
-use Rattle.cns_terms.specs.Entries.{journal}
-use Rattle.cns_terms.specs.Limits.{position_limit, rate_limit}
+use Rattle.cns_terms.specs.Dividends.{as_of, cash, dividend, dividends, due, is_due, last_date, member_dividend}
+use Rattle.cns_terms.specs.Days.{date}
 use Rattle.cns_terms.specs.Listings.{accounts, members}
 use Rattle.cns_terms.specs.Positions.{position}
-use Rattle.cns_terms.specs.Postings.{Journal, activities}
+use Rattle.cns_terms.specs.Postings.{Journal}
 use Rattle.cns_terms.specs.Sums.{total}
 use Rattle.cns_terms.proofs.Facts.{and_left, and_right}
 use Rattle.cns_terms.proofs.Rising.{above_all, is_rising}
@@ -80,6 +77,7 @@ no_dividend-issue opening K c a h = no_dividend-all opening K a c (λ b. none_pa
 
 -- ---- no command declares a dividend yet
 
+-- an activity declares none
 none-post : (x : Activity) (es : List Entry) (K : Journal) → dividends K ≡ [] → dividends (record { activity = x; entries = es } ∷ K) ≡ []
 none-post (activity.Member m) es K h = h
 none-post (activity.Issue l) es K h = h
@@ -89,6 +87,7 @@ none-post (activity.Deliver m) es K h = h
 none-post (activity.Receive m) es K h = h
 none-post (activity.Close d) es K h = h
 
+-- a journal has none
 none_declared : (K : Journal) → dividends K ≡ []
 none_declared [] = refl
 none_declared (p ∷ K) = none-post p.activity p.entries K (none_declared K)
