@@ -18,9 +18,11 @@ use Rattle.cns_actions.specs.Legs.{cents_booked, leg_entry, shares_booked}
 use Rattle.cns_actions.specs.Booked.{CanBeBooked, HasSpace, all_entries, books, first_entries, firsts, position_at}
 use Rattle.cns_actions.proofs.Members.{given_above, given_zero}
 
+-- a sum of three in another order
 swapped : (x t h : ℤ) → (t +ℤ h) +ℤ x ≡ (x +ℤ t) +ℤ h
 swapped x t h = omega (arith, ints)
 
+-- and in a third
 apart : (t u h : ℤ) → t +ℤ (u +ℤ h) ≡ (u +ℤ t) +ℤ h
 apart t u h = omega (arith, ints)
 
@@ -52,6 +54,7 @@ module _ (l : Leg) (q : Account → ℤ) where
   pub shares_above : (a : Account) (c : Cusip) (n : ℕ) → n < a → total (shares_for a c) (first_entries l q n) ≡ pos 0
   shares_above a c n lt = total-map (shares_for a c) (leg_entry l q) (firsts n) ∙ given_above (same_issue l.booked c) (λ m. shares_booked l.change (q m)) a n lt
 
+  -- nor cents
   pub cents_above : (a : Account) (c : Cusip) (n : ℕ) → n < a → total (cents_for a c) (first_entries l q n) ≡ pos 0
   cents_above a c n lt = total-map (cents_for a c) (leg_entry l q) (firsts n) ∙ given_above (same_issue l.booked c) (λ m. cents_booked l.change (q m)) a n lt
 
@@ -59,9 +62,11 @@ module _ (l : Leg) (q : Account → ℤ) where
   pub shares_zero : (c : Cusip) (n : ℕ) → total (shares_for corporation c) (first_entries l q n) ≡ pos 0
   shares_zero c n = total-map (shares_for corporation c) (leg_entry l q) (firsts n) ∙ given_zero (same_issue l.booked c) (λ m. shares_booked l.change (q m)) n
 
+  -- nor cents
   pub cents_zero : (c : Cusip) (n : ℕ) → total (cents_for corporation c) (first_entries l q n) ≡ pos 0
   cents_zero c n = total-map (cents_for corporation c) (leg_entry l q) (firsts n) ∙ given_zero (same_issue l.booked c) (λ m. cents_booked l.change (q m)) n
 
+-- a sum with nothing is as small as the rest
 small_sum : (z q : ℤ) (m : ℕ) → z ≡ pos 0 → unsigned_abs q ≤ m → unsigned_abs (z +ℤ q) ≤ m
 small_sum z q m e h = omega (arith, ints, e, h)
 
@@ -70,6 +75,7 @@ module _ (l : Leg) (q : Account → ℤ) (h hn : Holding) (c : Cusip) (n : ℕ) 
   pub shares_still : (a : Account) (m : ℕ) → n < a → hn ≡ books (first_entries l q n) (record { account = a; issue = c }) h → unsigned_abs h.now ≤ m → unsigned_abs hn.now ≤ m
   shares_still a m lt e small = subst (λ (x : Holding). unsigned_abs x.now ≤ m) (sym e) (small_sum _ h.now m (shares_above l q a c n lt) small)
 
+  -- and the cents
   pub cents_still : (a : Account) (m : ℕ) → n < a → hn ≡ books (first_entries l q n) (record { account = a; issue = c }) h → unsigned_abs h.contract ≤ m → unsigned_abs hn.contract ≤ m
   cents_still a m lt e small = subst (λ (x : Holding). unsigned_abs x.contract ≤ m) (sym e) (small_sum _ h.contract m (cents_above l q a c n lt) small)
 
@@ -77,11 +83,13 @@ module _ (l : Leg) (q : Account → ℤ) (h hn : Holding) (c : Cusip) (n : ℕ) 
   pub shares_stay : (m : ℕ) → hn ≡ books (first_entries l q n) (record { account = corporation; issue = c }) h → unsigned_abs h.now ≤ m → unsigned_abs hn.now ≤ m
   shares_stay m e small = subst (λ (x : Holding). unsigned_abs x.now ≤ m) (sym e) (small_sum _ h.now m (shares_zero l q c n) small)
 
+  -- and the cents
   pub cents_stay : (m : ℕ) → hn ≡ books (first_entries l q n) (record { account = corporation; issue = c }) h → unsigned_abs h.contract ≤ m → unsigned_abs hn.contract ≤ m
   cents_stay m e small = subst (λ (x : Holding). unsigned_abs x.contract ≤ m) (sym e) (small_sum _ h.contract m (cents_zero l q c n) small)
 
 -- ---- other issues
 
+-- what is given in another issue adds nothing
 elsewhere : (b k : Bool) (x r : ℤ) → k ≡ false → r ≡ pos 0 → cond (b && k) x (pos 0) +ℤ r ≡ pos 0
 elsewhere true true x r e z = cc
 elsewhere true false x r e z = omega (arith, ints)
@@ -93,18 +101,22 @@ module _ (l : Leg) (q : Account → ℤ) (a : Account) (c : Cusip) (other : same
   shares_elsewhere [] = refl
   shares_elsewhere (m ∷ ms) = elsewhere (m == a) (same_issue l.booked c) _ _ other (shares_elsewhere ms)
 
+  -- nor cents
   pub cents_elsewhere : (ms : List Account) → total (cents_for a c) (map (leg_entry l q) ms) ≡ pos 0
   cents_elsewhere [] = refl
   cents_elsewhere (m ∷ ms) = elsewhere (m == a) (same_issue l.booked c) _ _ other (cents_elsewhere ms)
 
+  -- nor with the corporation
   pub all_shares_elsewhere : total (shares_for a c) (all_entries l q) ≡ pos 0
   all_shares_elsewhere = elsewhere (corporation == a) (same_issue l.booked c) _ _ other (shares_elsewhere (firsts member_limit))
 
+  -- nor cents
   pub all_cents_elsewhere : total (cents_for a c) (all_entries l q) ≡ pos 0
   all_cents_elsewhere = elsewhere (corporation == a) (same_issue l.booked c) _ _ other (cents_elsewhere (firsts member_limit))
 
 -- ---- space
 
+-- a position is within the limit of its account
 position_near : (a : ℕ) (z : ℤ) → (1 ≤ a → unsigned_abs z ≤ position_limit) → (a ≡ 0 → unsigned_abs z ≤ corporation_limit) → unsigned_abs z ≤ 4 * 10 ^ 18
 position_near zero z p q = let h = q refl in omega (arith, h)
 position_near (suc a) z p q = let h = p (omega arith) in omega (arith, h)

@@ -16,10 +16,12 @@ use Rattle.cns_positions.proofs.Held.{last_given, none_given}
 pub held_sorted : (rows : Rows) → is_sorted key_cmp rows ≡ true → is_sorted key_cmp (held_above rows None) ≡ true
 held_sorted rows s = sorted_filter keys_total is_held rows s
 
+-- what is not untrue is so
 turned : (b : Bool) → not b ≡ false → b ≡ true
 turned true e = refl
 turned false e = cc
 
+-- four tests that all hold
 each_true : (a b c d : Bool) → (a && b && c && d) ≡ true → (a ≡ true) × (b ≡ true) × (c ≡ true) × (d ≡ true)
 each_true true true true true e = (refl, refl, refl, refl)
 each_true true true true false e = cc
@@ -38,6 +40,7 @@ unheld h e =
       run = eqb-true h.run 0 all.3 i;
     }
 
+-- a holding that is left out is zeros
 kept_holding : (o : Option Holding) → unwrap_or (kept_if is_held o) zeros ≡ unwrap_or o zeros
 kept_holding None = refl
 kept_holding (Some h) = by (is_held h) refl

@@ -21,5 +21,6 @@ shares_fit q s p h =
 pub shares_passed : (s : ℤ) → unsigned_abs s ≤ 2 * 10 ^ 18 → to_z w64 (of_z w64 s) ≡ s
 shares_passed s h = to_z-of_z w64 s (fits_signed_from_abs w64 s (omega (arith, h)))
 
+-- and as cents
 pub cents_passed : (s : ℤ) → unsigned_abs s ≤ 2 * 10 ^ 34 → to_z w128 (of_z w128 s) ≡ s
 cents_passed s h = to_z-of_z w128 s (fits_signed_from_abs w128 s (omega (arith, h)))

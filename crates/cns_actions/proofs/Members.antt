@@ -26,6 +26,7 @@ pub any_more : (t : ℕ → Bool) (n : ℕ) → list_any t (firsts (n + 1)) ≡ 
 unfolding firsts
 any_more t n = rw add-one refl
 
+-- two numbers that differ, by their test
 pub other : (m a : ℕ) → (m ≡ a → ⊥) → (m == a) ≡ false
 other m a apart = by (m == a) refl
   where
@@ -33,10 +34,12 @@ other m a apart = by (m == a) refl
     by true e = absurd (apart (eqb-true m a e))
     by false e = e
 
+-- what is given to another number adds nothing
 pub skipped : (b k : Bool) (x r : ℤ) → b ≡ false → cond (b && k) x (pos 0) +ℤ r ≡ r
 skipped true k x r e = cc
 skipped false k x r e = zero_add r
 
+-- what is given to the number itself, with nothing after it
 taken : (b k : Bool) (x r : ℤ) → b ≡ true → r ≡ pos 0 → cond (b && k) x (pos 0) +ℤ r ≡ cond k x (pos 0)
 taken true true x r e z = omega (arith, ints)
 taken true false x r e z = omega (arith, ints)
@@ -48,20 +51,24 @@ unfolding firsts
 given_above k v a zero lt = refl
 given_above k v a (suc n) lt = skipped (suc n == a) k (v (suc n)) _ (other (suc n) a (λ e. omega arith)) ∙ given_above k v a n (omega arith)
 
+-- and none of them is 0
 pub given_zero : (k : Bool) (v : ℕ → ℤ) (n : ℕ) → total (λ m. cond ((m == 0) && k) (v m) (pos 0)) (firsts n) ≡ pos 0
 unfolding firsts
 given_zero k v zero = refl
 given_zero k v (suc n) = skipped (suc n == 0) k (v (suc n)) _ (other (suc n) 0 (λ e. omega arith)) ∙ given_zero k v n
 
+-- numbers whose test fails differ
 differ : (m a : ℕ) → (m == a) ≡ false → m ≡ a → ⊥
 differ m a e same = clash (sym e ∙ ap (λ b. b == a) same ∙ eqb_refl a)
   where
     clash : false ≡ true → ⊥
     clash h = cc
 
+-- a number that is not the last is among those before it
 below : (a n : ℕ) → (suc n ≡ a → ⊥) → a ≤ suc n → a ≤ n
 below a n apart le = omega (arith, apart)
 
+-- the last number, and those before it
 once_step : (k : Bool) (v : ℕ → ℤ) (a n : ℕ) (r : ℤ) → (b : Bool) → (suc n == a) ≡ b → a ≤ suc n → (n < a → r ≡ pos 0) → (a ≤ n → r ≡ cond k (v a) (pos 0)) → cond ((suc n == a) && k) (v (suc n)) (pos 0) +ℤ r ≡ cond k (v a) (pos 0)
 once_step k v a n r true e le above later =
     let same : suc n ≡ a = eqb-true (suc n) a e in
@@ -80,11 +87,13 @@ stands n ms = list_any (λ b. n == b) ms
 
 -- ---- a list of members that names nobody twice
 
+-- a member is the first of a list or one of the others
 first_or_later : (b c : Bool) (x : ℤ) → (b ≡ true → c ≡ false) → cond (b && true) x (pos 0) +ℤ cond c x (pos 0) ≡ cond (b || c) x (pos 0)
 first_or_later true true x h = let no : true ≡ false = h refl in cc
 first_or_later true false x h = omega (arith, ints)
 first_or_later false c x h = zero_add _
 
+-- what is not so is false
 absent : (b : Bool) → not b ≡ true → b ≡ false
 absent true e = cc
 absent false e = refl
@@ -99,6 +108,7 @@ named g (m ∷ ms) range distinct =
     ∙ sym (total-add (λ n. cond ((n == m) && true) (g n) (pos 0)) (λ n. cond (stands n ms) (g n) (pos 0)) (firsts member_limit))
     ∙ ap (λ f. total f (firsts member_limit)) (λ i n. first_or_later (n == m) (stands n ms) (g n) (apart n) i)
 
+-- a term of nothing may be left out
 zero_left : (b : Bool) (x r s : ℤ) → (b ≡ true → x ≡ pos 0) → r ≡ s → x +ℤ s ≡ cond (not b) (x +ℤ r) r
 zero_left true x r s z e = let here = z refl in omega (arith, ints)
 zero_left false x r s z e = ap (λ y. x +ℤ y) (sym e)
@@ -112,6 +122,7 @@ held_alone q g (m ∷ ms) range none = zero_left (int_eq (q m) (pos 0)) (g m) (t
     by true = refl
     by false = refl
 
+-- a term that is nothing wherever its test fails
 kept : (b : Bool) (x : ℤ) → (b ≡ false → x ≡ pos 0) → cond b x (pos 0) ≡ x
 kept true x h = refl
 kept false x h = sym (h refl)
@@ -130,6 +141,7 @@ module _ (q : Account → ℤ) (ms : List Member) (are : AreHolders q ms) where
 abbrev mark : Bool → ℤ
 mark b = cond b (pos 1) (pos 0)
 
+-- one test more
 counted_more : (b c : Bool) (z : ℤ) (n : ℕ) → z ≡ pos n → (c ≡ true → 1 ≤ n) → (c ≡ false → n ≡ 0) → (k : ℕ) × (mark b +ℤ z ≡ pos k) × ((b || c) ≡ true → 1 ≤ k) × ((b || c) ≡ false → k ≡ 0)
 counted_more true c z n e p q = (suc n, omega (arith, ints), (λ h. omega arith), (λ h. cc))
 counted_more false c z n e p q = (n, zero_add z ∙ e, p, q)
@@ -139,6 +151,7 @@ counted : (t : ℕ → Bool) (xs : List ℕ) → (k : ℕ) × (total (λ a. mark
 counted t [] = (0, refl, (λ h. cc), (λ h. refl))
 counted t (x ∷ xs) = let c = counted t xs in counted_more (t x) (list_any t xs) (total (λ a. mark (t a)) xs) c.0 c.1 c.2 c.3
 
+-- two tests that count the same
 same_tests : (b c : Bool) (z : ℤ) (k l : ℕ) → z ≡ pos k → z ≡ pos l → (b ≡ true → 1 ≤ k) → (b ≡ false → k ≡ 0) → (c ≡ true → 1 ≤ l) → (c ≡ false → l ≡ 0) → b ≡ c
 same_tests true true z k l e f p q r s = refl
 same_tests true false z k l e f p q r s = let more = p refl in let none = s refl in absurd (omega (arith, ints))
@@ -155,6 +168,7 @@ module _ (q : Account → ℤ) (ms : List Member) (are : AreHolders q ms) where
 
 -- ---- lists in order
 
+-- a number below all of a list is none of it
 above_none : (a : ℕ) (ms : List ℕ) → above_all nat_cmp a ms ≡ true → list_any (λ b. a == b) ms ≡ false
 above_none a [] h = refl
 above_none a (m ∷ ms) h = (λ i. lower a m (and_left _ _ h) i || above_none a ms (and_right _ _ h) i)

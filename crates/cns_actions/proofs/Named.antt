@@ -37,31 +37,39 @@ use Rattle.cns_actions.proofs.Members.{any_holder, given_once, other, over_holde
 
 -- ---- no position, no booking
 
+-- nothing times a number
 nothing_times : (n : ℕ) → pos 0 *ℤ pos n ≡ pos 0
 nothing_times n = omega (arith, ints)
 
+-- nothing by a number
 nothing_by : (n : ℕ) → int_div (pos 0) (pos n) ≡ pos 0
 nothing_by n = omega (arith, ints)
 
+-- no shares become none
 no_shares : (r : Ratio) → converted r (pos 0) ≡ pos 0
 no_shares r = ap (λ z. int_div z (pos r.old)) (nothing_times r.new) ∙ nothing_by r.old
 
+-- and leave nothing
 no_fraction : (r : Ratio) → fraction r (pos 0) ≡ pos 0
 no_fraction r = (λ i. nothing_times r.new i -ℤ (no_shares r i *ℤ pos r.old)) ∙ ap (λ z. pos 0 -ℤ z) (nothing_times r.old)
 
+-- for which nothing is paid
 no_lieu : (r : Ratio) (lieu : ℕ) → in_lieu r lieu (pos 0) ≡ pos 0
 no_lieu r lieu = ap (λ z. int_div (z *ℤ pos lieu) (pos r.old)) (no_fraction r) ∙ ap (λ z. int_div z (pos r.old)) (nothing_times lieu) ∙ nothing_by r.old
 
+-- no shares are booked for no position
 none_booked : (ch : Change) → shares_booked ch (pos 0) ≡ pos 0
 none_booked (change.Split r lieu) = ap (λ z. z -ℤ pos 0) (no_shares r)
 none_booked change.Leave = refl
 none_booked (change.Enter r lieu cash) = no_shares r
 
+-- nor cents
 no_cents : (ch : Change) → cents_booked ch (pos 0) ≡ pos 0
 no_cents (change.Split r lieu) = no_lieu r lieu
 no_cents change.Leave = refl
 no_cents (change.Enter r lieu cash) = (λ i. no_lieu r lieu i +ℤ nothing_times cash i)
 
+-- nothing, for a key or for none
 none_of : (b : Bool) (x : ℤ) → x ≡ pos 0 → cond b x (pos 0) ≡ pos 0
 none_of true x e = e
 none_of false x e = refl
@@ -69,29 +77,36 @@ none_of false x e = refl
 -- ---- the sums of a leg
 
 module _ (l : Leg) (q : Account → ℤ) (ms : List Member) (are : AreHolders q ms) where
+  -- a sum over the entries of all numbers is one over those of the holders
   over : (f : Entry → ℤ) → ((a : ℕ) → 1 ≤ a → q a ≡ pos 0 → f (leg_entry l q a) ≡ pos 0) → total f (first_entries l q member_limit) ≡ total f (map (leg_entry l q) (holders q ms))
   over f none =
       total-map f (leg_entry l q) (firsts member_limit)
       ∙ sym (over_holders q ms are (λ a. f (leg_entry l q a)) none)
       ∙ sym (total-map f (leg_entry l q) (holders q ms))
 
+  -- a member without a position is booked no shares
   no_shares_of : (a : ℕ) → 1 ≤ a → q a ≡ pos 0 → shares_booked l.change (q a) ≡ pos 0
   no_shares_of a le e = ap (shares_booked l.change) e ∙ none_booked l.change
 
+  -- nor cents
   no_cents_of : (a : ℕ) → 1 ≤ a → q a ≡ pos 0 → cents_booked l.change (q a) ≡ pos 0
   no_cents_of a le e = ap (cents_booked l.change) e ∙ no_cents l.change
 
+  -- the shares of all
   shares_sum : total (λ e. e.shares) (first_entries l q member_limit) ≡ total (λ e. e.shares) (map (leg_entry l q) (holders q ms))
   shares_sum = over (λ e. e.shares) no_shares_of
 
+  -- and the cents
   cents_sum : total (λ e. e.cents) (first_entries l q member_limit) ≡ total (λ e. e.cents) (map (leg_entry l q) (holders q ms))
   cents_sum = over (λ e. e.cents) no_cents_of
 
+  -- the shares that a leg books at a key
   pub leg_shares : (a : Account) (c : Cusip) → total (shares_for a c) (all_entries l q) ≡ total (shares_for a c) (leg_entries l q ms)
   leg_shares a c = λ i.
       shares_for a c (entry corporation l.booked (neg_ℤ (shares_sum i)) (neg_ℤ (cents_sum i)))
       +ℤ over (shares_for a c) (λ m le e. none_of ((m == a) && same_issue l.booked c) (shares_booked l.change (q m)) (no_shares_of m le e)) i
 
+  -- and the cents
   pub leg_cents : (a : Account) (c : Cusip) → total (cents_for a c) (all_entries l q) ≡ total (cents_for a c) (leg_entries l q ms)
   leg_cents a c = λ i.
       cents_for a c (entry corporation l.booked (neg_ℤ (shares_sum i)) (neg_ℤ (cents_sum i)))
@@ -129,18 +144,22 @@ member_shares l q a p r =
     ∙ given_once (same_issue l.booked l.booked) (λ m. shares_booked l.change (q m)) a member_limit p r
     ∙ ap (λ b. cond b (shares_booked l.change (q a)) (pos 0)) (bytes_refl l.booked)
 
+-- two tests that agree on members
 any_same : (s t : ℕ → Bool) (xs : List ℕ) → AllByRecursion (λ a. (1 ≤ a) × (a ≤ member_limit)) xs → ((a : ℕ) → 1 ≤ a → a ≤ member_limit → s a ≡ t a) → list_any s xs ≡ list_any t xs
 any_same s t [] range same = refl
 any_same s t (x ∷ xs) range same = λ i. same x range.0.0 range.0.1 i || any_same s t xs range.1 same i
 
+-- a test of what a function gives
 any_map : (t : Entry → Bool) (f : ℕ → Entry) (xs : List ℕ) → list_any t (map f xs) ≡ list_any (λ a. t (f a)) xs
 any_map t f [] = refl
 any_map t f (x ∷ xs) = ap (λ b. t (f x) || b) (any_map t f xs)
 
+-- a test that nothing passes
 any_none : (xs : List ℕ) → list_any (λ a. false) xs ≡ false
 any_none [] = refl
 any_none (x ∷ xs) = any_none xs
 
+-- a position within the limit is not beyond it
 not_beyond : (z : ℤ) → unsigned_abs z ≤ position_limit → is_beyond z ≡ false
 not_beyond z h = le-ltb (10 ^ 10) (unsigned_abs z) h
 
@@ -148,18 +167,21 @@ not_beyond z h = le-ltb (10 ^ 10) (unsigned_abs z) h
 abbrev takes : (Account → Cusip → ℤ) → (Account → Cusip → ℤ) → Entry → Bool
 takes T now e = nat_lt corporation e.account && is_beyond (T e.account e.issue +ℤ now e.account e.issue)
 
+-- whether any entry of a leg takes its member beyond the limits, by the positions after it
 any_taken : (l : Leg) (q : Account → ℤ) (ms : List Member) → AreHolders q ms → (T now : Account → Cusip → ℤ) (v : ℕ → ℤ) → ((a : ℕ) → 1 ≤ a → a ≤ member_limit → T a l.booked +ℤ now a l.booked ≡ v a) → list_any (takes T now) (leg_entries l q ms) ≡ list_any (λ a. is_beyond (v a)) (holders q ms)
 any_taken l q ms are T now v is =
     any_map (takes T now) (leg_entry l q) (holders q ms)
     ∙ any_same (λ a. takes T now (leg_entry l q a)) (λ a. is_beyond (v a)) (holders q ms) (each_filter (λ a. (1 ≤ a) × (a ≤ member_limit)) _ ms are.numbers)
     (λ a p r. λ i. lt-ltb 0 a p i && is_beyond (is a p r i))
 
+-- an issue is the same as itself
 clash : (c d : Cusip) → c ≡ d → same_issue c d ≡ false → ⊥
 clash c d same e = no (sym (bytes_refl c) ∙ ap (λ x. same_issue c x) same ∙ e)
   where
     no : true ≡ false → ⊥
     no h = cc
 
+-- two issues differ both ways
 turned_issue : (c d : Cusip) → same_issue c d ≡ false → same_issue d c ≡ false
 turned_issue c d e = by (same_issue d c) refl
   where
@@ -174,6 +196,7 @@ stays R can l a le e =
     ap is_beyond still ∙ not_beyond (position_at R a l.booked) (can.members a l.booked le)
 
 module _ (R : Rows) (can : CanBeBooked R) (ms : List Member) where
+  -- it is enough to look at the holders
   holders_beyond : (l : Leg) → AreHolders (positions_in R l.held) ms → list_any (λ a. is_beyond (position_after R l a)) (holders (positions_in R l.held) ms) ≡ leg_too_large l R
   holders_beyond l are = any_holder (positions_in R l.held) ms are (λ a. is_beyond (position_after R l a)) (stays R can l)
 

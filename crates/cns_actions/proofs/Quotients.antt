@@ -2,6 +2,7 @@
 use Rattle.std.proofs.Common.{◌≡◌, ℤ, ◌+ℤ◌, ◌-ℤ◌, ◌*ℤ◌, int_div, int_rem, arith}
 use Rattle.std.proofs.lemmas.Int.{ints, quot-rem}
 
+-- what is left of a sum
 part : (a x r : ℤ) → x +ℤ r ≡ a → r ≡ a -ℤ x
 part a x r e = omega (arith, ints)
 

@@ -12,12 +12,14 @@ use Rattle.cns_terms.proofs.Facts.{and_left, and_right}
 use Rattle.cns_positions.specs.Rows.{Rows, booked, entry_of, holding_at, rolled}
 use Rattle.cns_actions.specs.Booked.{CanBeBooked}
 
+-- keys with the same account and issue are the same
 same_place : (k q : Key) → ((k.account == q.account) && same_issue k.issue q.issue) ≡ true → k ≡ q
 same_place k q e = λ i. record {
   account = eqb-true k.account q.account (and_left (k.account == q.account) (same_issue k.issue q.issue) e) i;
   issue = (bytes_eq-Decides k.issue q.issue).0 (and_right (k.account == q.account) (same_issue k.issue q.issue) e) i;
 }
 
+-- a sum of which one part at most is there
 near : (b : Bool) (x s : ℤ) (m : ℕ) → (b ≡ true → x ≡ pos 0) → unsigned_abs x ≤ m → unsigned_abs s ≤ m → unsigned_abs (x +ℤ cond b s (pos 0)) ≤ m
 near true x s m zero p q = let e = zero refl in omega (arith, ints, e, q)
 near false x s m zero p q = omega (arith, ints, p)

@@ -33,30 +33,37 @@ is_at a c e = (e.account == a) && same_issue e.issue c
 abbrev AreElsewhere : Account → Cusip → Journal → Type 0
 AreElsewhere a c J = AllByRecursion (λ p. AllByRecursion (λ e. is_at a c e ≡ false) p.entries) J
 
+-- entries elsewhere book no shares there
 no_shares : (a : Account) (c : Cusip) (es : List Entry) → AllByRecursion (λ e. is_at a c e ≡ false) es → total (shares_for a c) es ≡ pos 0
 no_shares a c [] h = refl
 no_shares a c (e ∷ es) h = (λ i. cond (h.0 i) e.shares (pos 0) +ℤ no_shares a c es h.1 i)
 
+-- nor cents
 no_cents : (a : Account) (c : Cusip) (es : List Entry) → AllByRecursion (λ e. is_at a c e ≡ false) es → total (cents_for a c) es ≡ pos 0
 no_cents a c [] h = refl
 no_cents a c (e ∷ es) h = (λ i. cond (h.0 i) e.cents (pos 0) +ℤ no_cents a c es h.1 i)
 
+-- so there is no position
 no_position : (a : Account) (c : Cusip) (J : Journal) → AreElsewhere a c J → position J a c ≡ pos 0
 no_position a c [] h = refl
 no_position a c (p ∷ J) h = (λ i. no_shares a c p.entries h.0 i +ℤ no_position a c J h.1 i)
 
+-- the cents of the open day, after an activity that ends a day or not
 open_branch : (b : Bool) (a : Account) (c : Cusip) (J : Journal) → total (λ p. total (cents_for a c) p.entries) (open_day J) ≡ pos 0 → total (λ p. total (cents_for a c) p.entries) (cond b [] (open_day J)) ≡ pos 0
 open_branch true a c J h = refl
 open_branch false a c J h = h
 
+-- nor are there cents of the open day
 no_money : (a : Account) (c : Cusip) (J : Journal) → AreElsewhere a c J → money J a c ≡ pos 0
 no_money a c [] h = refl
 no_money a c (p ∷ J) h = (λ i. no_cents a c p.entries h.0 i +ℤ open_branch (is_close p.activity) a c J (no_money a c J h.1) i)
 
+-- the journal before, after an activity that ends a day or not
 before_branch : (b : Bool) (a : Account) (c : Cusip) (K : Journal) → AreElsewhere a c K → AreElsewhere a c (last_close K) → AreElsewhere a c (unwrap_or (slice_get (cond b (K ∷ closings K) (closings K)) 0) [])
 before_branch true a c K h e = h
 before_branch false a c K h e = e
 
+-- nothing was booked there before the last close
 elsewhere_before : (a : Account) (c : Cusip) (K : Journal) → AreElsewhere a c K → AreElsewhere a c (last_close K)
 elsewhere_before a c [] h = tt
 elsewhere_before a c (p ∷ K) h = before_branch (is_close p.activity) a c K h.1 (elsewhere_before a c K h.1)
@@ -85,24 +92,29 @@ idle_elsewhere opening J a c h paid = ap not (idle (position (last_close J) a c)
 
 -- ---- an account that is not there, and an issue that is not listed
 
+-- an entry for one of some accounts is not for one that is none of them
 apart_account : (b d : Bool) (a a' : ℕ) (bs : List ℕ) → (b ≡ true → a' ≡ a) → occurs a' bs ≡ 1 → occurs a bs ≡ 0 → (b && d) ≡ false
 apart_account false d a a' bs h one none = refl
 apart_account true d a a' bs h one none = absurd (omega (arith, one, ap (λ x. occurs x bs) (h refl), none))
 
+-- entries for some accounts are elsewhere for all others
 account_elsewhere : (a : Account) (c : Cusip) (bs : List ℕ) (es : List Entry) → occurs a bs ≡ 0 → AreOf bs es → AllByRecursion (λ e. is_at a c e ≡ false) es
 account_elsewhere a c bs [] none h = tt
 account_elsewhere a c bs (e ∷ es) none h = (apart_account (e.account == a) (same_issue e.issue c) a e.account bs (eqb-true e.account a) h.0 none, account_elsewhere a c bs es none h.1)
 
+-- an entry in a listed issue is not in one that is not listed
 apart_issue : (b d x y : Bool) → (d ≡ true → x ≡ y) → x ≡ true → y ≡ false → (b && d) ≡ false
 apart_issue b true x y h p q = absurd (cc (h refl, p, q))
 apart_issue true false x y h p q = refl
 apart_issue false false x y h p q = refl
 
+-- entries in listed issues are elsewhere for all others
 issue_elsewhere : (a : Account) (c : Cusip) (J : Journal) (es : List Entry) → is_listed J c ≡ false → AreOfListed J es → AllByRecursion (λ e. is_at a c e ≡ false) es
 issue_elsewhere a c J [] none h = tt
 issue_elsewhere a c J (e ∷ es) none h =
     (apart_issue (e.account == a) (same_issue e.issue c) (is_listed J e.issue) (is_listed J c) (λ s. ap (is_listed J) ((bytes_eq-Decides e.issue c).0 s)) h.0 none, issue_elsewhere a c J es none h.1)
 
+-- what holds of each posting holds of the journal
 elsewhere_all : (a : Account) (c : Cusip) (J K : Journal) → ((p : Posting) → AreOf (accounts J) p.entries → AreOfListed J p.entries → AllByRecursion (λ e. is_at a c e ≡ false) p.entries) → AreSound (accounts J) K → AllByRecursion (λ p. AreOfListed J p.entries) K → AreElsewhere a c K
 elsewhere_all a c J [] h s l = tt
 elsewhere_all a c J (p ∷ K) h s l = (h p s.0.known l.0, elsewhere_all a c J K h s.1 l.1)

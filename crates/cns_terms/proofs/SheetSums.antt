@@ -57,6 +57,7 @@ marks_of_rows opening K a (c ∷ cs) =
     kept_or_not (λ (r : Row). r.mark) (not (is_idle (row opening K a c))) (row opening K a c) (filter (λ r. not (is_idle r)) (map (row opening K a) cs)) (no_mark opening K a c)
     ∙ ap (λ n. mark K a c +ℤ n) (marks_of_rows opening K a cs)
 
+-- the dividends of an account over its rows are those over all issues
 dividends_of_rows : (opening : Day) (K : Journal) (a : Account) (cs : List Cusip) → total (λ r. r.dividend) (filter (λ r. not (is_idle r)) (map (row opening K a) cs)) ≡ total (λ c. dividend opening K a c) cs
 dividends_of_rows opening K a [] = refl
 dividends_of_rows opening K a (c ∷ cs) =
