@@ -8,6 +8,7 @@ use Rattle.cns_terms.specs.declared.holding.Entry.{Entry}
 use Rattle.cns_terms.specs.Entries.{entry}
 use Rattle.cns_terms.specs.Keys.{key_cmp}
 use Rattle.cns_terms.specs.Positions.{shares_for, cents_for}
+use Rattle.cns_terms.specs.Sums.{total}
 
 abbrev pub Rows : Type 0
 Rows = List (Key × Holding)
@@ -33,6 +34,10 @@ entry_of k shares cents = entry k.account k.issue shares cents
 -- what an entry makes of what stands at a key
 abbrev pub booked : Entry → Key → Holding → Holding
 booked e k h = record h { now = h.now +ℤ shares_for k.account k.issue e; contract = h.contract +ℤ cents_for k.account k.issue e }
+
+-- what entries make of it, one after another: its opening and its run stay
+abbrev pub books : List Entry → Key → Holding → Holding
+books es k h = record h { now = total (shares_for k.account k.issue) es +ℤ h.now; contract = total (cents_for k.account k.issue) es +ℤ h.contract }
 
 -- what a close makes of it
 abbrev pub rolled : Holding → Holding

@@ -1,5 +1,5 @@
 -- No sum of a day leaves the limit of amounts.
-use Rattle.std.proofs.Common.{◌≡◌, sym, subst, ℕ, ◌+◌, ◌*◌, ◌≤◌, ◌<◌, ℤ, pos, neg_ℤ, ◌+ℤ◌, ◌-ℤ◌, ◌*ℤ◌, Bool, true, false, ◌==◌, cond, is_none, not, slice_get, unwrap_or, find, Option, Some, List, [], ◌∷◌, length, arith}
+use Rattle.std.proofs.Common.{◌≡◌, sym, subst, ℕ, ◌+◌, ◌*◌, ◌≤◌, ◌<◌, ℤ, pos, ◌+ℤ◌, ◌-ℤ◌, ◌*ℤ◌, Bool, true, false, ◌&&◌, ◌==◌, cond, is_none, not, slice_get, unwrap_or, find, Option, Some, List, [], ◌∷◌, length, arith}
 use Rattle.std.specs.Cmp.Lexicographic.{slice_cmp}
 use Rattle.std.specs.List.{AllByRecursion}
 use Rattle.std.specs.Option.{option_map_or}
@@ -18,7 +18,6 @@ use Rattle.cns_terms.specs.declared.command.Listing.{Listing}
 use Rattle.cns_terms.specs.declared.holding.Entry.{Entry}
 use Rattle.cns_terms.specs.declared.sheet.Row.{Row}
 use Rattle.cns_terms.specs.Days.{at_close, closings, day, is_close, last_close, open_day}
-use Rattle.cns_terms.specs.Dividends.{dividends}
 use Rattle.cns_terms.specs.Entries.{journal, posting}
 use Rattle.cns_terms.specs.Laws.{Amounts, HasSmallAmounts, HasSmallSums, StaysSmall}
 use Rattle.cns_terms.specs.Limits.{amount_limit, booking_limit, corporation_limit, history_limit, member_limit, position_limit, price_limit}
@@ -27,55 +26,29 @@ use Rattle.cns_terms.specs.Machine.{State, after, next, opened}
 use Rattle.cns_terms.specs.Marks.{mark, value}
 use Rattle.cns_terms.specs.Positions.{cents_for, money, position}
 use Rattle.cns_terms.specs.Postings.{Journal, Posting, activities}
-use Rattle.cns_terms.specs.Reached.{IsCommandPriceInRange, IsInRange, IsPriceInRange, IsReached}
+use Rattle.cns_terms.specs.Reached.{IsCommandPriceInRange, IsPriceInRange, IsReached}
 use Rattle.cns_terms.specs.Refusals.{refusal}
 use Rattle.cns_terms.specs.Sheets.{day_sheet, is_idle, row, rows_of, sheet_rows}
 use Rattle.cns_terms.specs.Sums.{total}
-use Rattle.cns_terms.proofs.DividendBounds.{AreSmallRates, dividends_small}
+use Rattle.cns_terms.proofs.Accounts.{occurs}
+use Rattle.cns_terms.proofs.DividendBounds.{dividends_small}
 use Rattle.cns_terms.proofs.Facts.{journal_len}
 use Rattle.cns_terms.proofs.Everywhere.{each_found, each_weaker}
-use Rattle.cns_terms.proofs.Magnitudes.{added, added-all, added-each, added-flat_map, added-kept, added-more, added-swap, added-times, front_total, magnitude, total_small}
-use Rattle.cns_terms.proofs.Reached.{IsLimited, bounded, limited, members_few, members_from_one, reached-from}
+use Rattle.cns_terms.proofs.Limits.{cents_of}
+use Rattle.cns_terms.proofs.Magnitudes.{added, added-all, added-each, added-flat_map, added-kept, added-more, added-swap, added-times, added-zero, front_total, magnitude, total_small}
+use Rattle.cns_terms.proofs.Reached.{IsLimited, bounded, limited, limited_past, members_few, members_from_one, reached-from}
 use Rattle.cns_terms.proofs.OverAll.{one_issue, over_add, over_all, over_more}
 use Rattle.cns_terms.proofs.Rising.{is_rising}
-use Rattle.cns_terms.proofs.SheetBounds.{issues_few}
+use Rattle.cns_terms.proofs.SheetBounds.{at_most_one, issues_few}
 use Rattle.cns_terms.proofs.Sound.{opening_stays}
 
--- the cents of one activity's two entries
-abbrev entries_limit : ℕ
-entries_limit = 2 * booking_limit
-
--- the cents of a posting's entries, whatever their signs
-abbrev pub cents_of : Posting → ℕ
-cents_of p = magnitude (λ e. e.cents) p.entries
-
--- a journal with its limits: few postings, small prices, and no more cents than activities can book
+-- a journal with its limits: few postings, and small prices
 pub record IsSmall (opening : Day) (J : Journal) : Type 0 where
   pub limited : IsLimited opening J
   pub few : length J < history_limit
   pub prices : (c : Cusip) → price J c ≤ price_limit
-  pub rates : AreSmallRates (dividends J)
-  pub booked : added cents_of J ≤ entries_limit * length J
 
--- ---- an activity's entries, and its price
-
--- the sign of cents makes no difference
-no_sign : (n : ℕ) → unsigned_abs (neg_ℤ (pos n)) ≡ n
-no_sign n = omega (arith, ints)
-
--- a trade's two entries
-two_cents : (m n : ℕ) → m ≤ booking_limit → n ≡ m → n + (m + 0) ≤ entries_limit
-two_cents m n h e = omega (arith, h, e)
-
--- an activity in its ranges books few cents
-booked_few : (opening : Day) (J : Journal) (x : Activity) → IsInRange x → cents_of (posting opening J x) ≤ entries_limit
-booked_few opening J (activity.Member m) r = omega arith
-booked_few opening J (activity.Issue l) r = omega arith
-booked_few opening J (activity.Trade t) r = two_cents t.money (unsigned_abs (neg_ℤ (pos t.money))) r (no_sign t.money)
-booked_few opening J (activity.Price l) r = omega arith
-booked_few opening J (activity.Deliver m) r = omega arith
-booked_few opening J (activity.Receive m) r = omega arith
-booked_few opening J (activity.Close d) r = omega arith
+-- ---- an activity's price
 
 -- a price that is set or was set before
 price_if : (t : Bool) (l : Listing) (o : Option Listing) → l.price ≤ price_limit → option_map_or (λ (l : Listing). l.price) o 0 ≤ price_limit → option_map_or (λ (l : Listing). l.price) (cond t (Some l) o) 0 ≤ price_limit
@@ -90,6 +63,9 @@ price-post opening J (activity.Trade t) c r h = h
 price-post opening J (activity.Price l) c r h = price_if (bytes_eq l.issue c) l (find (λ l. bytes_eq l.issue c) (filter_map priced (activities J))) r h
 price-post opening J (activity.Deliver m) c r h = h
 price-post opening J (activity.Receive m) c r h = h
+price-post opening J (activity.Dividend d) c r h = h
+price-post opening J (activity.Split s) c r h = h
+price-post opening J (activity.Exchange x) c r h = h
 price-post opening J (activity.Close d) c r h = h
 
 -- ---- a journal that commands reach, and the journals as its closes found them
@@ -103,34 +79,12 @@ prices_small : (opening : Day) (L : List Activity) → ArePriced L → (c : Cusi
 prices_small opening [] r c = omega arith
 prices_small opening (x ∷ L) r c = price-post opening (journal opening L) x c r.0 (prices_small opening L r.1 c)
 
--- an activity in its ranges declares no large rate
-rate-post : (opening : Day) (J : Journal) (x : Activity) → IsPriceInRange x → AreSmallRates (dividends J) → AreSmallRates (dividends (posting opening J x ∷ J))
-rate-post opening J (activity.Member m) r h = h
-rate-post opening J (activity.Issue l) r h = h
-rate-post opening J (activity.Trade t) r h = h
-rate-post opening J (activity.Price l) r h = h
-rate-post opening J (activity.Deliver m) r h = h
-rate-post opening J (activity.Receive m) r h = h
-rate-post opening J (activity.Close d) r h = h
-
--- each rate of a journal is small
-rates_small : (opening : Day) (L : List Activity) → ArePriced L → AreSmallRates (dividends (journal opening L))
-rates_small opening [] r = tt
-rates_small opening (x ∷ L) r = rate-post opening (journal opening L) x r.0 (rates_small opening L r.1)
-
--- a journal has no more cents than its activities can book
-all_booked : (opening : Day) (L : List Activity) → IsReached opening L → added cents_of (journal opening L) ≤ entries_limit * length (journal opening L)
-all_booked opening [] r = omega arith
-all_booked opening (x ∷ L) r = omega (arith, booked_few opening (journal opening L) x r.0, all_booked opening L r.2)
-
 -- a journal that commands reach is small
 small : (opening : Day) (L : List Activity) → IsReached opening L → ArePriced L → length L < history_limit → IsSmall opening (journal opening L)
 small opening L r p few = record {
   limited = limited opening L r;
   few = omega (arith, few, journal_len opening L);
   prices = prices_small opening L p;
-  rates = rates_small opening L p;
-  booked = all_booked opening L r;
 }
 
 -- a journal, the one before it, and the limits of those of its closes
@@ -149,11 +103,6 @@ before_if : (opening : Day) (b : Bool) (J : Journal) → AreSmall opening J → 
 before_if opening true J s = s.now
 before_if opening false J s = s.before
 
--- and the limits of those of its closes
-closed_if : (opening : Day) (b : Bool) (J : Journal) → AreSmall opening J → AllByRecursion (IsLimited opening) (cond b (J ∷ closings J) (closings J))
-closed_if opening true J s = (s.now.limited, s.closed)
-closed_if opening false J s = s.closed
-
 -- and the journals of all closes
 past_if : (opening : Day) (b : Bool) (J : Journal) → AreAllSmall opening J → AllByRecursion (AreSmall opening) (cond b (J ∷ closings J) (closings J))
 past_if opening true J s = (s.now, s.past)
@@ -169,25 +118,34 @@ all_small opening [] r p few = record { now = record { now = small_nil opening; 
 all_small opening (x ∷ L) r p few =
     let s : AreAllSmall opening (journal opening L) = all_small opening L r.2 p.1 (omega (arith, few)) in
     record {
-      now = record { now = small opening (x ∷ L) r p few; before = before_if opening (is_close x) (journal opening L) s.now; closed = closed_if opening (is_close x) (journal opening L) s.now };
+      now = record { now = small opening (x ∷ L) r p few; before = before_if opening (is_close x) (journal opening L) s.now; closed = limited_past opening (x ∷ L) r };
       past = past_if opening (is_close x) (journal opening L) s;
     }
 
 -- ---- the rows of a sheet
 
 -- a sheet's rows are of accounts and issues, each once at most
-rows_small : (opening : Day) (K : Journal) (f : Row → ℕ) → added f (sheet_rows opening K) ≤ over_all (λ a c. f (row opening K a c)) K
+pub rows_small : (opening : Day) (K : Journal) (f : Row → ℕ) → added f (sheet_rows opening K) ≤ over_all (λ a c. f (row opening K a c)) K
 rows_small opening K f = added-flat_map f (rows_of opening K) (λ a. added (λ c. f (row opening K a c)) (issues K)) (accounts K) (λ a. added-kept f (λ r. not (is_idle r)) (row opening K a) (issues K))
 
 -- ---- cents
 
+-- an entry's cents, if it is of the account
+abbrev of_account : Account → Entry → ℤ
+of_account a e = cond (e.account == a) e.cents (pos 0)
+
+-- a number given to one issue or to none
+one_or_none : (b : Bool) (i : Cusip) (z : ℤ) (cs : List Cusip) → is_rising (slice_cmp nat_cmp) cs ≡ true → added (λ c. unsigned_abs (cond (b && bytes_eq i c) z (pos 0))) cs ≤ unsigned_abs (cond b z (pos 0))
+one_or_none true i z cs h = one_issue true i z cs h
+one_or_none false i z cs h = omega (arith, added-zero cs)
+
 -- the cents of one posting for an account, over the issues
-posting_cents : (a : Account) (cs : List Cusip) (p : Posting) → is_rising (slice_cmp nat_cmp) cs ≡ true → added (λ c. magnitude (cents_for a c) p.entries) cs ≤ cents_of p
+posting_cents : (a : Account) (cs : List Cusip) (p : Posting) → is_rising (slice_cmp nat_cmp) cs ≡ true → added (λ c. magnitude (cents_for a c) p.entries) cs ≤ magnitude (of_account a) p.entries
 posting_cents a cs p h =
     omega (
       arith,
       added-swap (λ c e. unsigned_abs (cents_for a c e)) cs p.entries,
-      added-more (λ (e : Entry). added (λ c. unsigned_abs (cents_for a c e)) cs) (λ e. unsigned_abs e.cents) p.entries (λ e. one_issue (e.account == a) e.issue e.cents cs h),
+      added-more (λ (e : Entry). added (λ c. unsigned_abs (cents_for a c e)) cs) (λ e. unsigned_abs (of_account a e)) p.entries (λ e. one_or_none (e.account == a) e.issue e.cents cs h),
     )
 
 -- the cents at a key are no more than the entries' there
@@ -200,13 +158,32 @@ key_cents J a c =
     )
 
 -- the cents of an account, over the issues
-account_cents : (J : Journal) (a : Account) (cs : List Cusip) → is_rising (slice_cmp nat_cmp) cs ≡ true → added (λ c. unsigned_abs (total (λ p. total (cents_for a c) p.entries) J)) cs ≤ added cents_of J
+account_cents : (J : Journal) (a : Account) (cs : List Cusip) → is_rising (slice_cmp nat_cmp) cs ≡ true → added (λ c. unsigned_abs (total (λ p. total (cents_for a c) p.entries) J)) cs ≤ added (λ p. magnitude (of_account a) p.entries) J
 account_cents J a cs h =
     omega (
       arith,
       added-more (λ (c : Cusip). unsigned_abs (total (λ p. total (cents_for a c) p.entries) J)) (λ c. added (λ p. magnitude (cents_for a c) p.entries) J) cs (λ c. key_cents J a c),
       added-swap (λ c p. magnitude (cents_for a c) p.entries) cs J,
-      added-more (λ (p : Posting). added (λ c. magnitude (cents_for a c) p.entries) cs) cents_of J (λ p. posting_cents a cs p h),
+      added-more (λ (p : Posting). added (λ c. magnitude (cents_for a c) p.entries) cs) (λ p. magnitude (of_account a) p.entries) J (λ p. posting_cents a cs p h),
+    )
+
+-- a number given to one of some accounts, one account more
+given_more : (b : Bool) (o n : ℕ) (z : ℤ) → n ≤ o * unsigned_abs z → unsigned_abs (cond b z (pos 0)) + n ≤ (cond b 1 0 + o) * unsigned_abs z
+given_more true o n z h = omega (arith, h)
+given_more false o n z h = omega (arith, h)
+
+-- a number given to an account, as often as it stands there
+given_often : (i : ℕ) (z : ℤ) (bs : List ℕ) → added (λ a. unsigned_abs (cond (i == a) z (pos 0))) bs ≤ occurs i bs * unsigned_abs z
+given_often i z [] = omega arith
+given_often i z (b ∷ bs) = given_more (i == b) (occurs i bs) (added (λ a. unsigned_abs (cond (i == a) z (pos 0))) bs) z (given_often i z bs)
+
+-- the cents of one posting, over the accounts
+of_accounts : (bs : List ℕ) (p : Posting) → ((a : ℕ) → occurs a bs ≤ 1) → added (λ a. magnitude (of_account a) p.entries) bs ≤ cents_of p
+of_accounts bs p h =
+    omega (
+      arith,
+      added-swap (λ a e. unsigned_abs (of_account a e)) bs p.entries,
+      added-more (λ (e : Entry). added (λ a. unsigned_abs (of_account a e)) bs) (λ e. unsigned_abs e.cents) p.entries (λ e. omega (arith, given_often e.account e.cents bs, at_most_one (occurs e.account bs) (unsigned_abs e.cents) (h e.account))),
     )
 
 -- the open day's postings, or none after a close
@@ -219,24 +196,27 @@ open_small : (J : Journal) → added cents_of (open_day J) ≤ added cents_of J
 open_small [] = omega arith
 open_small (p ∷ J) = let rest = open_or_none (is_close p.activity) J (added cents_of J) (open_small J) in omega (arith, rest)
 
--- the cents of the open day, over the accounts and the issues
-abbrev cents_limit : ℕ
-cents_limit = entries_limit * history_limit
+-- the cents of a day, at most
+abbrev pub cents_limit : ℕ
+cents_limit = booking_limit * history_limit
 
 -- few cents a posting, and few postings
-times_few : (m n k : ℕ) → m ≤ n → n ≤ entries_limit * k → k < history_limit → m ≤ cents_limit
+times_few : (m n k : ℕ) → m ≤ n → n ≤ booking_limit * k → k < history_limit → m ≤ cents_limit
 times_few m n k p q r = omega (arith, p, q, r)
 
--- few cents an account, and few accounts
-at_accounts : (m n : ℕ) → m ≤ cents_limit * (1 + n) → n ≤ member_limit → m ≤ cents_limit * 10000
-at_accounts m n h few = omega (arith, h, few)
-
 -- the cents of all accounts in all issues
-cents_small : (opening : Day) (K : Journal) → IsSmall opening K → over_all (λ a c. unsigned_abs (money K a c)) K ≤ cents_limit * 10000
-cents_small opening K s =
-    let each : (a : Account) → added (λ c. unsigned_abs (money K a c)) (issues K) ≤ cents_limit = λ a.
-    times_few _ (added cents_of K) (length K) (omega (arith, account_cents (open_day K) a (issues K) s.limited.whole.now.issues_rise, open_small K)) s.booked s.few in
-    at_accounts _ (length (members K)) (omega (arith, added-all (λ a. added (λ c. unsigned_abs (money K a c)) (issues K)) cents_limit (accounts K) each)) (members_few opening K s.limited)
+pub cents_small : (opening : Day) (K : Journal) → IsLimited opening K → length K < history_limit → over_all (λ a c. unsigned_abs (money K a c)) K ≤ cents_limit
+cents_small opening K l few =
+    let sound = l.whole.now in
+    times_few _ (added cents_of K) (length K)
+    (omega (
+      arith,
+      added-more (λ a. added (λ c. unsigned_abs (money K a c)) (issues K)) (λ a. added (λ p. magnitude (of_account a) p.entries) (open_day K)) (accounts K) (λ a. account_cents (open_day K) a (issues K) sound.issues_rise),
+      added-swap (λ a p. magnitude (of_account a) p.entries) (accounts K) (open_day K),
+      added-more (λ (p : Posting). added (λ a. magnitude (of_account a) p.entries) (accounts K)) cents_of (open_day K) (λ p. of_accounts (accounts K) p sound.distinct),
+      open_small K,
+    ))
+    l.booked few
 
 -- ---- values
 
@@ -301,9 +281,9 @@ marks_small opening K s =
     let parts = over_more (λ a c. unsigned_abs (mark K a c)) (λ a c. (g a c + h a c) + m a c) K (λ a c. three_parts (value K a c) (value (last_close K) a c) (money K a c)) in
     three_few _ (over_all (λ a c. g a c + h a c) K) (over_all g K) (over_all h K) (over_all m K)
     (omega (arith, parts, over_add (λ a c. g a c + h a c) m K)) (over_add g h K)
-    (values_small opening K K s.now s.now) (values_small opening K (last_close K) s.now s.before) (cents_small opening K s.now)
+    (values_small opening K K s.now s.now) (values_small opening K (last_close K) s.now s.before) (cents_small opening K s.now.limited s.now.few)
   where
-    three_few : (m n v w x : ℕ) → m ≤ n + x → n ≤ v + w → v ≤ value_limit * history_limit → w ≤ value_limit * history_limit → x ≤ cents_limit * 10000 → m ≤ amount_limit
+    three_few : (m n v w x : ℕ) → m ≤ n + x → n ≤ v + w → v ≤ value_limit * history_limit → w ≤ value_limit * history_limit → x ≤ cents_limit → m ≤ amount_limit
     three_few m n v w x h k p q r = omega (arith, h, k, p, q, r)
 
 -- ---- the sheet
@@ -315,10 +295,10 @@ first_rows opening K f h n = front_total f n amount_limit (sheet_rows opening K)
 -- the sums over a sheet are small
 sheet_small : (opening : Day) (K : Journal) → AreSmall opening K → HasSmallSums (day_sheet opening K)
 sheet_small opening K s = record {
-  cents = first_rows opening K (λ r. r.money) (omega (arith, cents_small opening K s.now));
+  cents = first_rows opening K (λ r. r.money) (omega (arith, cents_small opening K s.now.limited s.now.few));
   values = first_rows opening K (λ r. r.closing *ℤ pos r.price) (omega (arith, values_small opening K K s.now s.now));
   marks = first_rows opening K (λ r. r.mark) (marks_small opening K s);
-  dividends = first_rows opening K (λ r. r.dividend) (dividends_small opening K s.now.limited s.closed s.now.rates s.now.few);
+  dividends = first_rows opening K (λ r. r.dividend) (dividends_small opening K s.now.limited s.closed s.now.few);
 }
 
 -- ---- any commands

@@ -25,11 +25,11 @@ use Rattle.cns_terms.specs.Sums.{total}
 use Rattle.cns_terms.proofs.Everywhere.{each_found, each_weaker}
 use Rattle.cns_terms.proofs.Magnitudes.{added, added-all, added-each, added-more, added-swap, total_small}
 use Rattle.cns_terms.proofs.OverAll.{one_issue, over_all}
-use Rattle.cns_terms.proofs.Reached.{IsLimited, bounded, limited, members_few, members_from_one}
+use Rattle.cns_terms.proofs.Reached.{AreSmallRates, IsLimited, bounded, limited, members_few, members_from_one}
 use Rattle.cns_terms.proofs.Rising.{is_rising}
 
 -- the most cents that a dividend pays on a member's position
-abbrev cash_limit : ℕ
+abbrev pub cash_limit : ℕ
 cash_limit = 10 ^ 17
 
 -- a quotient cut towards zero
@@ -45,12 +45,8 @@ product_few : (q r z : ℕ) → z ≡ q * r → q ≤ position_limit → r ≤ r
 product_few q r z e p s = omega (arith, e, s, mul-le-mul_right r p)
 
 -- the cash on a member's position
-cash_small : (q : ℤ) (rate : Rate) → unsigned_abs q ≤ position_limit → rate ≤ rate_limit → unsigned_abs (cash q rate) ≤ cash_limit
+pub cash_small : (q : ℤ) (rate : Rate) → unsigned_abs q ≤ position_limit → rate ≤ rate_limit → unsigned_abs (cash q rate) ≤ cash_limit
 cash_small q rate p s = quotient_small (q *ℤ pos rate) cash_limit (product_few (unsigned_abs q) rate (unsigned_abs (q *ℤ pos rate)) (unsigned_abs-mul q (pos rate)) p s)
-
--- each rate is small
-abbrev pub AreSmallRates : List Declared → Type 0
-AreSmallRates ds = AllByRecursion (λ d. d.rate ≤ rate_limit) ds
 
 -- ---- one member
 
@@ -99,10 +95,13 @@ few-post (activity.Trade t) es K h = omega (arith, h)
 few-post (activity.Price l) es K h = omega (arith, h)
 few-post (activity.Deliver m) es K h = omega (arith, h)
 few-post (activity.Receive m) es K h = omega (arith, h)
+few-post (activity.Dividend d) es K h = omega (arith, h)
+few-post (activity.Split s) es K h = omega (arith, h)
+few-post (activity.Exchange x) es K h = omega (arith, h)
 few-post (activity.Close d) es K h = omega (arith, h)
 
 -- no more dividends than postings
-dividends_few : (K : Journal) → length (dividends K) ≤ length K
+pub dividends_few : (K : Journal) → length (dividends K) ≤ length K
 dividends_few [] = omega arith
 dividends_few (p ∷ K) = omega (arith, few-post p.activity p.entries K (dividends_few K))
 
@@ -115,12 +114,12 @@ opposite : (z : ℤ) → unsigned_abs (neg_ℤ z) ≡ unsigned_abs z
 opposite z = omega (arith, ints)
 
 -- the dividends of all accounts in all issues
-pub dividends_small : (opening : Day) (K : Journal) → IsLimited opening K → AllByRecursion (IsLimited opening) (closings K) → AreSmallRates (dividends K) → length K < history_limit
+pub dividends_small : (opening : Day) (K : Journal) → IsLimited opening K → AllByRecursion (IsLimited opening) (closings K) → length K < history_limit
     → over_all (λ a c. unsigned_abs (dividend opening K a c)) K ≤ amount_limit
-dividends_small opening K l closed rates few = omega (arith, corporation_small, members_small, members_few opening K l)
+dividends_small opening K l closed few = omega (arith, corporation_small, members_small, members_few opening K l)
   where
     one : (a : Account) → 1 ≤ a → added (λ c. unsigned_abs (member_dividend opening K c a)) (issues K) ≤ account_limit
-    one a member = let small = member_small opening K closed a member l.whole.now.issues_rise rates in let none = dividends_few K in omega (arith, small, none, few)
+    one a member = let small = member_small opening K closed a member l.whole.now.issues_rise l.rates in let none = dividends_few K in omega (arith, small, none, few)
 
     same : (a : Account) → 1 ≤ a → added (λ c. unsigned_abs (dividend opening K a c)) (issues K) ≤ account_limit
     same a member = rw (other a member) (one a member)

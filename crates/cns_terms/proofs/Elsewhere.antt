@@ -30,7 +30,7 @@ abbrev is_at : Account → Cusip → Entry → Bool
 is_at a c e = (e.account == a) && same_issue e.issue c
 
 -- none of the entries is booked at the place
-abbrev AreElsewhere : Account → Cusip → Journal → Type 0
+abbrev pub AreElsewhere : Account → Cusip → Journal → Type 0
 AreElsewhere a c J = AllByRecursion (λ p. AllByRecursion (λ e. is_at a c e ≡ false) p.entries) J
 
 -- entries elsewhere book no shares there
@@ -44,7 +44,7 @@ no_cents a c [] h = refl
 no_cents a c (e ∷ es) h = (λ i. cond (h.0 i) e.cents (pos 0) +ℤ no_cents a c es h.1 i)
 
 -- so there is no position
-no_position : (a : Account) (c : Cusip) (J : Journal) → AreElsewhere a c J → position J a c ≡ pos 0
+pub no_position : (a : Account) (c : Cusip) (J : Journal) → AreElsewhere a c J → position J a c ≡ pos 0
 no_position a c [] h = refl
 no_position a c (p ∷ J) h = (λ i. no_shares a c p.entries h.0 i +ℤ no_position a c J h.1 i)
 
@@ -120,7 +120,7 @@ elsewhere_all a c J [] h s l = tt
 elsewhere_all a c J (p ∷ K) h s l = (h p s.0.known l.0, elsewhere_all a c J K h s.1 l.1)
 
 -- nothing was booked for an account that is not there
-no_account_elsewhere : (J : Journal) (a : Account) (c : Cusip) → IsSound J → is_account J a ≡ false → AreElsewhere a c J
+pub no_account_elsewhere : (J : Journal) (a : Account) (c : Cusip) → IsSound J → is_account J a ≡ false → AreElsewhere a c J
 no_account_elsewhere J a c s none = elsewhere_all a c J J (λ p known listed. account_elsewhere a c (accounts J) p.entries (occurs_missing a (accounts J) none) known) s.sound s.issued
 
 -- or in an issue that is not listed

@@ -9,6 +9,11 @@ pub each_weaker : {X : Type 0} (P Q : X → Type 0) (xs : List X) → ((x : X) �
 each_weaker P Q [] h a = tt
 each_weaker P Q (x ∷ xs) h a = (h x a.0, each_weaker P Q xs h a.1)
 
+-- what holds of each, and so does another
+pub each_both : {X : Type 0} (P Q : X → Type 0) (xs : List X) → AllByRecursion P xs → AllByRecursion Q xs → AllByRecursion (λ x. P x × Q x) xs
+each_both P Q [] p q = tt
+each_both P Q (x ∷ xs) p q = ((p.0, q.0), each_both P Q xs p.1 q.1)
+
 pub each_map : {X Y : Type 0} (P : Y → Type 0) (f : X → Y) (xs : List X) → AllByRecursion (λ x. P (f x)) xs → AllByRecursion P (map f xs)
 each_map P f [] a = tt
 each_map P f (x ∷ xs) a = (a.0, each_map P f xs a.1)

@@ -17,12 +17,14 @@ pub mod SheetRows
 pub mod PriceLists
 pub mod SheetBounds
 pub mod LegalReplies
+pub mod Magnitudes
+pub mod Quotients
 pub mod Limits
 pub mod Reached
 pub mod Paid
-pub mod Magnitudes
 pub mod OverAll
 pub mod DividendBounds
 pub mod Amounts
+pub mod SheetLimits
 pub mod Examples
 pub mod ActionExamples

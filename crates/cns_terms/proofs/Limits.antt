@@ -1,28 +1,39 @@
 -- One accepted activity keeps positions and cents within their limits.
-use Rattle.std.proofs.Common.{◌≡◌, ap, subst, refl, ℕ, suc, ◌*◌, ◌≤◌, ℤ, pos, negsuc, ◌+ℤ◌, neg_ℤ, Bool, true, false, ◌&&◌, ◌||◌, ◌==◌, cond, [], ◌∷◌, length, arith}
+use Rattle.std.proofs.Common.{◌≡◌, subst, refl, ℕ, suc, ◌+◌, ◌*◌, ◌≤◌, ℤ, pos, negsuc, ◌+ℤ◌, ◌-ℤ◌, ◌*ℤ◌, neg_ℤ, Bool, true, false, not, ◌&&◌, ◌==◌, cond, List, [], ◌∷◌, length, map, ◌⊎◌, inl, inr, arith}
+use Rattle.std.specs.List.{AllByRecursion, list_any}
+use Rattle.std.specs.Ordering.{int_eq}
 use Rattle.std.specs.Prelude.{bytes_eq, int_le, nat_lt, unsigned_abs}
+use Rattle.std.proofs.Math.Nat.{mul-le-mul_left, mul-le-mul_right}
 use Rattle.std.proofs.lemmas.Bool.{eqb-true}
 use Rattle.std.proofs.lemmas.Bool.Decides.{nat_tests}
-use Rattle.std.proofs.lemmas.Int.{ints}
+use Rattle.std.proofs.lemmas.Int.{ints, unsigned_abs-mul}
 use Rattle.std.proofs.lemmas.Slice.Eq.{bytes_eq-Decides}
 use Rattle.cns_units.specs.declared.account.Account.{Account}
 use Rattle.cns_units.specs.declared.cusip.Cusip.{Cusip}
 use Rattle.cns_units.specs.declared.day.Day.{Day}
+use Rattle.cns_units.specs.declared.price.Price.{Price}
+use Rattle.cns_units.specs.declared.ratio.Ratio.{Ratio}
 use Rattle.cns_terms.specs.declared.command.Activity.{Activity}
 use Rattle.cns_terms.specs.declared.command.Activity.TheVariants as activity
 use Rattle.cns_terms.specs.declared.command.Movement.{Movement}
-use Rattle.cns_terms.specs.declared.command.Trade.{Trade}
 use Rattle.cns_terms.specs.declared.holding.Entry.{Entry}
 use Rattle.cns_terms.specs.Days.{is_close, open_day}
-use Rattle.cns_terms.specs.Entries.{buyer_entry, corporation, entries, moved_in, moved_out, posting, seller_entry}
-use Rattle.cns_terms.specs.Limits.{booking_limit, position_limit}
-use Rattle.cns_terms.specs.Reached.{IsInRange}
+use Rattle.cns_terms.specs.Conversions.{converted, fraction, in_exchange, in_lieu}
+use Rattle.cns_terms.specs.Entries.{against_corporation, corporation, entries, entry, holders, moved_in, moved_out, new_entry, old_entry, posting}
+use Rattle.cns_terms.specs.Limits.{booking_limit, member_limit, money_limit, position_limit, price_limit, ratio_limit}
+use Rattle.cns_terms.specs.Listings.{members}
+use Rattle.cns_terms.specs.Reached.{IsInRange, IsRatio}
 use Rattle.cns_terms.specs.Positions.{cents_for, money, position, shares_for}
-use Rattle.cns_terms.specs.Postings.{Journal}
-use Rattle.cns_terms.specs.Refusals.{is_beyond, is_exceeded, rules}
+use Rattle.cns_terms.specs.Postings.{Journal, Posting}
+use Rattle.cns_terms.specs.Refusals.{is_beyond, is_exceeded, is_too_large, rules}
 use Rattle.cns_terms.specs.Sums.{short, total}
+use Rattle.cns_terms.proofs.EntrySums.{entries_for}
+use Rattle.cns_terms.proofs.Everywhere.{each_weaker}
 use Rattle.cns_terms.proofs.Facts.{and_left, and_right, neither}
+use Rattle.cns_terms.proofs.Magnitudes.{added, added-append, added-each, added-filter, added-map, added-more, magnitude, total_small}
+use Rattle.cns_terms.proofs.Quotients.{fraction_few, quotient_few}
 use Rattle.cns_terms.proofs.Sound.{NoneHolds, all_fail}
+use Rattle.cns_terms.proofs.Totals.{total-map}
 
 -- a position within a member's limits
 abbrev pub IsWithin : ℤ → Type 0
@@ -44,41 +55,40 @@ at_place P a c e h p =
     subst (λ (d : Cusip). P a d) ((bytes_eq-Decides e.issue c).0 (and_right _ _ h))
     (subst (λ (b : Account). P b e.issue) (eqb-true e.account a (and_left _ _ h)) p)
 
--- a position after two entries
-abbrev moved_by : Journal → Entry → Entry → Account → Cusip → ℤ
-moved_by J e f a c = total (shares_for a c) (e ∷ f ∷ []) +ℤ position J a c
+-- ---- activities that are looked at as a whole
 
--- a limit, where it is a member's position that two entries leave
-abbrev IsLimit : Journal → Entry → Entry → Account → Cusip → Type 0
-IsLimit J e f a c = 1 ≤ a → IsWithin (moved_by J e f a c)
-
--- two entries elsewhere leave a position as it is
-unmoved : (m n q : ℤ) → m ≡ pos 0 → n ≡ pos 0 → IsWithin q → IsWithin ((m +ℤ (n +ℤ pos 0)) +ℤ q)
-unmoved m n q h k le = omega (arith, ints, h, k, le)
-
--- limits at the places of both entries are limits at each place
-two_within : (J : Journal) (e f : Entry) (a : Account) (c : Cusip) (t u : Bool) → is_of a c e ≡ t → is_of a c f ≡ u → IsLimit J e f e.account e.issue → IsLimit J e f f.account f.issue → IsWithin (position J a c) → IsLimit J e f a c
-two_within J e f a c true u h k first second old = at_place (IsLimit J e f) a c e h first
-two_within J e f a c false true h k first second old = at_place (IsLimit J e f) a c f k second
-two_within J e f a c false false h k first second old = λ m. unmoved _ _ (position J a c) (ap (λ b. cond b e.shares (pos 0)) h) (ap (λ b. cond b f.shares (pos 0)) k) old
-
--- ---- a trade
+-- nothing added
+nothing : (q : ℤ) → IsWithin q → IsWithin (pos 0 +ℤ q)
+nothing q h = omega (arith, ints, h)
 
 -- what is not refused as too large is within the limits
 not_beyond : (a : ℕ) (q : ℤ) → (nat_lt corporation a && is_beyond q) ≡ false → 1 ≤ a → IsWithin q
 not_beyond a q h m = grind (arith, nat_tests)
 
--- a trade keeps each member's position within its limits
-within-trade : (opening : Day) (J : Journal) (t : Trade) → NoneHolds (rules opening J (activity.Trade t)) → AreWithin J → AreWithin (posting opening J (activity.Trade t) ∷ J)
-within-trade opening J t h w a c m =
-    let large = (all_fail (rules opening J (activity.Trade t)) h).1.1.1.1.1.1.0 in
-    let e = buyer_entry t in
-    let f = seller_entry t in
-    let bought : ℤ = moved_by J e f t.buyer t.issue in
-    let sold : ℤ = moved_by J e f t.seller t.issue in
-    let one = neither (nat_lt corporation t.buyer && is_beyond bought) ((nat_lt corporation t.seller && is_beyond sold) || false) large in
-    let two = neither (nat_lt corporation t.seller && is_beyond sold) false one.1 in
-    two_within J e f a c _ _ refl refl (not_beyond t.buyer bought one.0) (not_beyond t.seller sold two.0) (w a c m) m
+-- no shares at a place, with an entry more that is elsewhere
+none_more : (b : Bool) (n r : ℤ) → b ≡ false → r ≡ pos 0 → cond b n (pos 0) +ℤ r ≡ pos 0
+none_more true n r e z = cc
+none_more false n r e z = omega (arith, ints, z)
+
+-- where no entry's place is beyond the limits, a member's position is within them, or nothing is booked there
+within_or_none : (T : Account → Cusip → ℤ) (a : Account) (c : Cusip) (es : List Entry) → 1 ≤ a → list_any (λ e. nat_lt corporation e.account && is_beyond (T e.account e.issue)) es ≡ false → IsWithin (T a c) ⊎ (total (shares_for a c) es ≡ pos 0)
+within_or_none T a c [] m h = inr refl
+within_or_none T a c (e ∷ es) m h =
+    let both = neither (nat_lt corporation e.account && is_beyond (T e.account e.issue)) (list_any (λ e. nat_lt corporation e.account && is_beyond (T e.account e.issue)) es) h in
+    here (is_of a c e) refl both.0 (within_or_none T a c es m both.1)
+  where
+    here : (t : Bool) → is_of a c e ≡ t → (nat_lt corporation e.account && is_beyond (T e.account e.issue)) ≡ false → IsWithin (T a c) ⊎ (total (shares_for a c) es ≡ pos 0) → IsWithin (T a c) ⊎ (total (shares_for a c) (e ∷ es) ≡ pos 0)
+    here true is fails rest = inl (not_beyond a (T a c) (at_place (λ b d. (nat_lt corporation b && is_beyond (T b d)) ≡ false) a c e is fails) m)
+    here false is fails (inl w) = inl w
+    here false is fails (inr z) = inr (none_more (is_of a c e) e.shares (total (shares_for a c) es) is z)
+
+-- such an activity keeps each member's position within its limits
+within-whole : (opening : Day) (J : Journal) (x : Activity) → is_too_large opening J x ≡ false → AreWithin J → AreWithin (posting opening J x ∷ J)
+within-whole opening J x fails w a c m =
+    elim (within_or_none (λ a c. total (shares_for a c) (entries opening J x) +ℤ position J a c) a c (entries opening J x) m fails) [
+      | inl h ↦ h
+      | inr z ↦ rw z (nothing (position J a c) (w a c m))
+    ]
 
 -- ---- a movement
 
@@ -123,18 +133,17 @@ within-receive opening J m h w a c n =
 
 -- ---- one more activity
 
--- nothing added
-nothing : (q : ℤ) → IsWithin q → IsWithin (pos 0 +ℤ q)
-nothing q h = omega (arith, ints, h)
-
 -- an activity that is not refused keeps each member's position within its limits
 pub within-post : (opening : Day) (J : Journal) (x : Activity) → NoneHolds (rules opening J x) → AreWithin J → AreWithin (posting opening J x ∷ J)
-within-post opening J (activity.Trade t) h w = within-trade opening J t h w
+within-post opening J (activity.Trade t) h w = within-whole opening J (activity.Trade t) (all_fail (rules opening J (activity.Trade t)) h).1.1.1.1.1.1.0 w
 within-post opening J (activity.Deliver m) h w = within-deliver opening J m h w
 within-post opening J (activity.Receive m) h w = within-receive opening J m h w
 within-post opening J (activity.Member k) h w = λ a c m. nothing (position J a c) (w a c m)
 within-post opening J (activity.Issue l) h w = λ a c m. nothing (position J a c) (w a c m)
 within-post opening J (activity.Price l) h w = λ a c m. nothing (position J a c) (w a c m)
+within-post opening J (activity.Dividend d) h w = λ a c m. nothing (position J a c) (w a c m)
+within-post opening J (activity.Split s) h w = within-whole opening J (activity.Split s) (all_fail (rules opening J (activity.Split s)) h).1.1.0 w
+within-post opening J (activity.Exchange x) h w = within-whole opening J (activity.Exchange x) (all_fail (rules opening J (activity.Exchange x)) h).1.1.1.0 w
 within-post opening J (activity.Close d) h w = λ a c m. nothing (position J a c) (w a c m)
 
 -- ---- cents
@@ -143,29 +152,98 @@ within-post opening J (activity.Close d) h w = λ a c m. nothing (position J a c
 abbrev pub HasFewCents : Journal → Type 0
 HasFewCents J = (a : Account) (c : Cusip) → unsigned_abs (money J a c) ≤ booking_limit * length J
 
--- opposite cents, at one place or at two
-opposite : (t u : Bool) (n : ℕ) → unsigned_abs (cond t (neg_ℤ (pos n)) (pos 0) +ℤ (cond u (pos n) (pos 0) +ℤ pos 0)) ≤ n
-opposite true true n = omega (arith, ints)
-opposite true false n = omega (arith, ints)
-opposite false true n = omega (arith, ints)
-opposite false false n = omega (arith, ints)
+-- the cents of a posting's entries, whatever their signs
+abbrev pub cents_of : Posting → ℕ
+cents_of p = magnitude (λ e. e.cents) p.entries
 
--- entries without cents
-no_cents : (t u : Bool) → unsigned_abs (cond t (pos 0) (pos 0) +ℤ (cond u (pos 0) (pos 0) +ℤ pos 0)) ≤ booking_limit
-no_cents true true = omega arith
-no_cents true false = omega arith
-no_cents false true = omega arith
-no_cents false false = omega arith
+-- the sign of cents makes no difference
+no_sign : (n : ℕ) → unsigned_abs (neg_ℤ (pos n)) ≡ n
+no_sign n = omega (arith, ints)
+
+-- a trade's two entries
+two_cents : (m n : ℕ) → m ≤ money_limit → n ≡ m → n + (m + 0) ≤ booking_limit
+two_cents m n h e = omega (arith, h, e)
+
+-- the cents in lieu of less than a share
+lieu_few : (r : Ratio) (lieu : Price) (q : ℤ) → IsRatio r → lieu ≤ price_limit → unsigned_abs (in_lieu r lieu q) ≤ ratio_limit * price_limit
+lieu_few r lieu q ratio h =
+    let parts = fraction_few q r ratio.0 in
+    omega (arith, quotient_few (fraction r q *ℤ pos lieu) r.old, parts_priced (unsigned_abs (fraction r q)) lieu (unsigned_abs (fraction r q *ℤ pos lieu)) (unsigned_abs-mul (fraction r q) (pos lieu)) (omega (arith, parts, ratio.1)) h)
+  where
+    parts_priced : (n p z : ℕ) → z ≡ n * p → n ≤ ratio_limit → p ≤ price_limit → z ≤ ratio_limit * price_limit
+    parts_priced n p z e m h = omega (arith, e, h, mul-le-mul_right p m)
+
+-- the most cents that a split or an exchange books for a member
+abbrev holder_limit : ℕ
+holder_limit = ratio_limit * price_limit + position_limit * price_limit
+
+-- those of an exchange
+exchange_few : (r : Ratio) (lieu cash : Price) (q : ℤ) → IsRatio r → lieu ≤ price_limit → cash ≤ price_limit → IsWithin q → unsigned_abs (in_exchange r lieu cash q) ≤ holder_limit
+exchange_few r lieu cash q ratio h k w =
+    sum_few (in_lieu r lieu q) (q *ℤ pos cash) (lieu_few r lieu q ratio h) (cash_few (unsigned_abs q) cash (unsigned_abs (q *ℤ pos cash)) (unsigned_abs-mul q (pos cash)) w k)
+  where
+    cash_few : (n p z : ℕ) → z ≡ n * p → n ≤ position_limit → p ≤ price_limit → z ≤ position_limit * price_limit
+    cash_few n p z e m h = omega (arith, e, h, mul-le-mul_right p m)
+
+    sum_few : (x y : ℤ) → unsigned_abs x ≤ ratio_limit * price_limit → unsigned_abs y ≤ position_limit * price_limit → unsigned_abs (x +ℤ y) ≤ holder_limit
+    sum_few x y p q = omega (arith, ints, p, q)
+
+-- who is within the limits of positions, of members that are few
+pub record AreFewHolders (J : Journal) : Type 0 where
+  pub within : AreWithin J
+  pub numbers : AllByRecursion (λ a. 1 ≤ a) (members J)
+  pub few : length (members J) ≤ member_limit
+
+-- the cents of the corporation and of members with an entry each
+against_few : (J : Journal) (c d : Cusip) (shares : Account → ℤ) (f : ℤ → ℤ) (m : ℕ) → AreFewHolders J → ((q : ℤ) → IsWithin q → unsigned_abs (f q) ≤ m)
+    → magnitude (λ e. e.cents) (against_corporation c (entries_for c shares (λ a. f (position J a d)) (holders (λ a. position J a d) (members J)))) ≤ 2 * (m * member_limit)
+against_few J c d shares f m are small =
+    let q : Account → ℤ = λ a. position J a d in
+    let hs : List Account = holders q (members J) in
+    let w : Account → ℤ = λ a. f (q a) in
+    let g : Account → Entry = λ a. entry a c (shares a) (w a) in
+    let each = each_weaker (λ a. 1 ≤ a) (λ a. unsigned_abs (w a) ≤ m) (members J) (λ a k. small (q a) (are.within a d k)) are.numbers in
+    let all = added-each (λ a. unsigned_abs (w a)) m (members J) each in
+    let some = added-filter (λ a. unsigned_abs (w a)) (λ a. not (int_eq (q a) (pos 0))) (members J) in
+    let few = mul-le-mul_left m are.few in
+    rw (added-map (λ (e : Entry). unsigned_abs e.cents) g hs, total-map (λ (e : Entry). e.cents) g hs)
+    (twice (total w hs) (added (λ a. unsigned_abs (w a)) hs) (m * member_limit) (total_small w hs) (omega (arith, all, some, few)))
+  where
+    twice : (z : ℤ) (n k : ℕ) → unsigned_abs z ≤ n → n ≤ k → unsigned_abs (neg_ℤ z) + n ≤ 2 * k
+    twice z n k h le = omega (arith, ints, h, le)
+
+-- two lists of entries
+both_few : (z m n : ℕ) → z ≡ m + n → m ≤ 2 * (0 * member_limit) → n ≤ 2 * (holder_limit * member_limit) → z ≤ booking_limit
+both_few z m n e p q = omega (arith, e, p, q)
 
 -- an activity books few cents
-booked_few : (opening : Day) (J : Journal) (x : Activity) (a : Account) (c : Cusip) → IsInRange x → unsigned_abs (total (cents_for a c) (entries opening J x)) ≤ booking_limit
-booked_few opening J (activity.Member m) a c r = omega arith
-booked_few opening J (activity.Issue l) a c r = omega arith
-booked_few opening J (activity.Trade t) a c r = omega (arith, opposite (is_of a c (buyer_entry t)) (is_of a c (seller_entry t)) t.money, r)
-booked_few opening J (activity.Price l) a c r = omega arith
-booked_few opening J (activity.Deliver m) a c r = no_cents (is_of a c (moved_in m.member m)) (is_of a c (moved_out corporation m))
-booked_few opening J (activity.Receive m) a c r = no_cents (is_of a c (moved_out m.member m)) (is_of a c (moved_in corporation m))
-booked_few opening J (activity.Close d) a c r = omega arith
+pub booked_few : (opening : Day) (J : Journal) (x : Activity) → IsInRange x → AreFewHolders J → cents_of (posting opening J x) ≤ booking_limit
+booked_few opening J (activity.Member m) r are = omega arith
+booked_few opening J (activity.Issue l) r are = omega arith
+booked_few opening J (activity.Trade t) r are = two_cents t.money (unsigned_abs (neg_ℤ (pos t.money))) r (no_sign t.money)
+booked_few opening J (activity.Price l) r are = omega arith
+booked_few opening J (activity.Deliver m) r are = omega arith
+booked_few opening J (activity.Receive m) r are = omega arith
+booked_few opening J (activity.Dividend d) r are = omega arith
+booked_few opening J (activity.Split s) r are =
+    let q : Account → ℤ = λ a. position J a s.issue in
+    omega (arith, against_few J s.issue s.issue (λ a. converted s.ratio (q a) -ℤ q a) (in_lieu s.ratio s.lieu) holder_limit are (λ z w. omega (arith, lieu_few s.ratio s.lieu z r.0 r.1)))
+booked_few opening J (activity.Exchange x) r are =
+    let q : Account → ℤ = λ a. position J a x.old in
+    let hs : List Account = holders q (members J) in
+    both_few _ _ _
+    (added-append (λ (e : Entry). unsigned_abs e.cents) (against_corporation x.old (map (old_entry x q) hs)) (against_corporation x.successor (map (new_entry x q) hs)))
+    (against_few J x.old x.old (λ a. neg_ℤ (q a)) (λ z. pos 0) 0 are (λ z w. omega arith))
+    (against_few J x.successor x.old (λ a. converted x.ratio (q a)) (in_exchange x.ratio x.lieu x.cash) holder_limit are (λ z w. exchange_few x.ratio x.lieu x.cash z r.0 r.1 r.2 w))
+booked_few opening J (activity.Close d) r are = omega arith
+
+-- the cents at one place are among them
+at_one_place : (a : Account) (c : Cusip) (es : List Entry) → unsigned_abs (total (cents_for a c) es) ≤ magnitude (λ e. e.cents) es
+at_one_place a c es = omega (arith, total_small (cents_for a c) es, added-more (λ (e : Entry). unsigned_abs (cents_for a c e)) (λ e. unsigned_abs e.cents) es (λ e. given_or_not (is_of a c e) e.cents))
+  where
+    given_or_not : (b : Bool) (z : ℤ) → unsigned_abs (cond b z (pos 0)) ≤ unsigned_abs z
+    given_or_not true z = omega arith
+    given_or_not false z = omega arith
 
 -- a few cents more, and at a close a new day's
 more_cents : (b : Bool) (e m : ℤ) (n : ℕ) → unsigned_abs e ≤ booking_limit → unsigned_abs m ≤ booking_limit * n → unsigned_abs (e +ℤ cond b (pos 0) m) ≤ booking_limit * suc n
@@ -176,6 +254,6 @@ open_cents : (b : Bool) (a : Account) (c : Cusip) (K : Journal) → total (λ p.
 open_cents true a c K = refl
 open_cents false a c K = refl
 
-pub cents-post : (opening : Day) (J : Journal) (x : Activity) → IsInRange x → HasFewCents J → HasFewCents (posting opening J x ∷ J)
-cents-post opening J x r h a c =
-    rw (open_cents (is_close x) a c (open_day J)) (more_cents (is_close x) (total (cents_for a c) (entries opening J x)) (money J a c) (length J) (booked_few opening J x a c r) (h a c))
+pub cents-post : (opening : Day) (J : Journal) (x : Activity) → cents_of (posting opening J x) ≤ booking_limit → HasFewCents J → HasFewCents (posting opening J x ∷ J)
+cents-post opening J x few h a c =
+    rw (open_cents (is_close x) a c (open_day J)) (more_cents (is_close x) (total (cents_for a c) (entries opening J x)) (money J a c) (length J) (omega (arith, at_one_place a c (entries opening J x), few)) (h a c))

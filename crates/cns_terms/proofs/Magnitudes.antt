@@ -1,5 +1,5 @@
 -- Sums of absolute values, which bound sums of numbers with a sign.
-use Rattle.std.proofs.Common.{◌≡◌, refl, ℕ, zero, suc, ◌+◌, ◌*◌, ◌≤◌, ℤ, ◌+ℤ◌, Bool, true, false, cond, List, [], ◌∷◌, ◌++◌, length, map, filter, flat_map, take, arith}
+use Rattle.std.proofs.Common.{◌≡◌, ap, refl, ℕ, zero, suc, ◌+◌, ◌*◌, ◌≤◌, ℤ, ◌+ℤ◌, Bool, true, false, cond, List, [], ◌∷◌, ◌++◌, length, map, filter, flat_map, take, arith}
 use Rattle.std.specs.List.{AllByRecursion}
 use Rattle.std.specs.Prelude.{unsigned_abs}
 use Rattle.std.proofs.lemmas.Int.{ints}
@@ -34,7 +34,7 @@ pub front_total : {X : Type 0} (f : X → ℤ) (n m : ℕ) (xs : List X) → mag
 front_total f n m xs h = omega (arith, total_small f (take n xs), front_small (λ x. unsigned_abs (f x)) n xs, h)
 
 -- a sum over two lists
-added-append : {X : Type 0} (f : X → ℕ) (xs ys : List X) → added f (xs ++ ys) ≡ added f xs + added f ys
+pub added-append : {X : Type 0} (f : X → ℕ) (xs ys : List X) → added f (xs ++ ys) ≡ added f xs + added f ys
 added-append f [] ys = omega arith
 added-append f (x ∷ xs) ys = omega (arith, added-append f xs ys)
 
@@ -47,6 +47,16 @@ added-flat_map f g h (x ∷ xs) le = omega (arith, added-append f (g x) (flat_ma
 kept_or_not : {X : Type 0} (f : X → ℕ) (b : Bool) (x : X) (xs : List X) → added f (cond b (x ∷ xs) xs) ≤ f x + added f xs
 kept_or_not f true x xs = omega arith
 kept_or_not f false x xs = omega arith
+
+-- what is kept is no more than all
+pub added-filter : {X : Type 0} (f : X → ℕ) (p : X → Bool) (xs : List X) → added f (filter p xs) ≤ added f xs
+added-filter f p [] = omega arith
+added-filter f p (x ∷ xs) = omega (arith, kept_or_not f (p x) x (filter p xs), added-filter f p xs)
+
+-- a sum over the values of a function
+pub added-map : {X Y : Type 0} (f : Y → ℕ) (g : X → Y) (xs : List X) → added f (map g xs) ≡ added (λ x. f (g x)) xs
+added-map f g [] = refl
+added-map f g (x ∷ xs) = ap (λ n. f (g x) + n) (added-map f g xs)
 
 -- what is kept of the values of a function is no more than all of them
 pub added-kept : {X Y : Type 0} (f : Y → ℕ) (p : Y → Bool) (g : X → Y) (xs : List X) → added f (filter p (map g xs)) ≤ added (λ x. f (g x)) xs

@@ -1,8 +1,8 @@
 -- Dividends add up to zero.
-use Rattle.std.proofs.Common.{◌≡◌, ◌∙◌, ap, refl, ℕ, ℤ, pos, Bool, true, false, ◌&&◌, ◌==◌, cond, filter, List, [], ◌∷◌, arith}
+use Rattle.std.proofs.Common.{◌≡◌, ◌∙◌, ap, refl, ℕ, ℤ, pos, Bool, true, false, ◌==◌, cond, List, [], ◌∷◌, arith}
 use Rattle.std.specs.List.{AllByRecursion}
 use Rattle.std.specs.Ordering.{is_lt, nat_cmp}
-use Rattle.std.specs.Prelude.{bytes_eq, int_div}
+use Rattle.std.specs.Prelude.{int_div}
 use Rattle.std.proofs.lemmas.Int.{ints}
 use Rattle.std.proofs.lemmas.Bool.Decides.{nat_tests}
 use lib.IntN.{zero-*ℤ}
@@ -11,11 +11,7 @@ use Rattle.cns_units.specs.declared.cusip.Cusip.{Cusip}
 use Rattle.cns_units.specs.declared.day.Day.{Day}
 use Rattle.cns_units.specs.declared.rate.Rate.{Rate}
 use Rattle.cns_terms.specs.declared.action.Declared.{Declared}
-use Rattle.cns_terms.specs.declared.command.Activity.{Activity}
-use Rattle.cns_terms.specs.declared.command.Activity.TheVariants as activity
-use Rattle.cns_terms.specs.declared.holding.Entry.{Entry}
-use Rattle.cns_terms.specs.Dividends.{as_of, cash, dividend, dividends, due, is_due, last_date, member_dividend}
-use Rattle.cns_terms.specs.Days.{date}
+use Rattle.cns_terms.specs.Dividends.{as_of, cash, dividend, due, member_dividend}
 use Rattle.cns_terms.specs.Listings.{accounts, members}
 use Rattle.cns_terms.specs.Positions.{position}
 use Rattle.cns_terms.specs.Postings.{Journal}
@@ -50,7 +46,7 @@ dividends_zero opening K c h =
 -- ---- where nothing was booked none is paid
 
 -- there is no cash on no shares
-no_cash : (rate : Rate) → cash (pos 0) rate ≡ pos 0
+pub no_cash : (rate : Rate) → cash (pos 0) rate ≡ pos 0
 no_cash rate = ap (λ z. int_div z (pos 10000)) (zero-*ℤ (pos rate))
 
 -- nor are there dividends on them
@@ -74,26 +70,3 @@ no_dividend-all opening K a c h = either (a == 0) (omega (arith, ints, total-sam
 -- or in which no account had shares
 pub no_dividend-issue : (opening : Day) (K : Journal) (c : Cusip) (a : Account) → ((b : Account) (d : Day) → position (as_of opening K d) b c ≡ pos 0) → dividend opening K a c ≡ pos 0
 no_dividend-issue opening K c a h = no_dividend-all opening K a c (λ b. none_paid opening K c b (due opening K c) (h b))
-
--- ---- no command declares a dividend yet
-
--- an activity declares none
-none-post : (x : Activity) (es : List Entry) (K : Journal) → dividends K ≡ [] → dividends (record { activity = x; entries = es } ∷ K) ≡ []
-none-post (activity.Member m) es K h = h
-none-post (activity.Issue l) es K h = h
-none-post (activity.Trade t) es K h = h
-none-post (activity.Price l) es K h = h
-none-post (activity.Deliver m) es K h = h
-none-post (activity.Receive m) es K h = h
-none-post (activity.Close d) es K h = h
-
--- a journal has none
-none_declared : (K : Journal) → dividends K ≡ []
-none_declared [] = refl
-none_declared (p ∷ K) = none-post p.activity p.entries K (none_declared K)
-
--- so none is booked
-pub no_dividend : (opening : Day) (K : Journal) (a : Account) (c : Cusip) → dividend opening K a c ≡ pos 0
-no_dividend opening K a c =
-    let none : (b : Account) → member_dividend opening K c b ≡ pos 0 = λ b. ap (λ ds. total (λ d. cash (position (as_of opening K d.recorded) b c) d.rate) (filter (λ d. bytes_eq d.cusip c && is_due (last_date opening K) (date opening K) d) ds)) (none_declared K) in
-    no_dividend-all opening K a c none

@@ -7,14 +7,17 @@ use Rattle.std.proofs.lemmas.Bool.Decides.{nat_tests}
 use Rattle.std.proofs.lemmas.Int.{ints}
 use Rattle.cns_units.specs.declared.cusip.Cusip.{Cusip}
 use Rattle.cns_units.specs.declared.day.Day.{Day}
+use Rattle.cns_terms.specs.declared.action.Declared.{Declared}
 use Rattle.cns_terms.specs.declared.command.Activity.{Activity}
 use Rattle.cns_terms.specs.declared.command.Activity.TheVariants as activity
 use Rattle.cns_terms.specs.declared.command.Command.{Command}
 use Rattle.cns_terms.specs.declared.command.Command.TheVariants as command
 use Rattle.cns_terms.specs.declared.refusal.Refusal.{Refusal}
+use Rattle.cns_terms.specs.Days.{closings, is_close}
+use Rattle.cns_terms.specs.Dividends.{dividends}
 use Rattle.cns_terms.specs.Entries.{journal, posting}
 use Rattle.cns_terms.specs.Laws.{Bounds, IsBounded}
-use Rattle.cns_terms.specs.Limits.{corporation_limit, member_limit, position_limit}
+use Rattle.cns_terms.specs.Limits.{booking_limit, corporation_limit, member_limit, position_limit, rate_limit}
 use Rattle.cns_terms.specs.Listings.{account_lt, accounts, added, members}
 use Rattle.cns_terms.specs.Machine.{State, after, next, opened}
 use Rattle.cns_terms.specs.Positions.{position}
@@ -24,7 +27,8 @@ use Rattle.cns_terms.specs.Refusals.{refusal}
 use Rattle.cns_terms.specs.Sums.{total}
 use Rattle.cns_terms.proofs.Facts.{and_left, and_right}
 use Rattle.cns_terms.proofs.Everywhere.{each_in_order, each_weaker}
-use Rattle.cns_terms.proofs.Limits.{AreWithin, HasFewCents, IsWithin, cents-post, within-post}
+use Rattle.cns_terms.proofs.Limits.{AreFewHolders, AreWithin, HasFewCents, IsWithin, booked_few, cents-post, cents_of, within-post}
+use Rattle.cns_terms.proofs.Magnitudes.{added as added_up}
 use Rattle.cns_terms.proofs.Rising.{above_all, is_rising}
 use Rattle.cns_terms.proofs.Sound.{IsWhole, opening_stays, whole-post, whole_nil}
 use Rattle.cns_terms.proofs.ZeroSums.{positions_zero}
@@ -41,27 +45,36 @@ numbered-post opening J (activity.Trade t) n h = h
 numbered-post opening J (activity.Price l) n h = h
 numbered-post opening J (activity.Deliver m) n h = h
 numbered-post opening J (activity.Receive m) n h = h
+numbered-post opening J (activity.Dividend d) n h = h
+numbered-post opening J (activity.Split s) n h = h
+numbered-post opening J (activity.Exchange x) n h = h
 numbered-post opening J (activity.Close d) n h = h
 
--- a journal that commands reach is sound, and members' numbers, their positions and cents are within their limits
+-- the rates of the dividends are within their limit
+abbrev pub AreSmallRates : List Declared → Type 0
+AreSmallRates ds = AllByRecursion (λ d. d.rate ≤ rate_limit) ds
+
+-- and an activity in its ranges keeps them so
+rates-post : (opening : Day) (J : Journal) (x : Activity) → IsInRange x → AreSmallRates (dividends J) → AreSmallRates (dividends (posting opening J x ∷ J))
+rates-post opening J (activity.Member m) n h = h
+rates-post opening J (activity.Issue l) n h = h
+rates-post opening J (activity.Trade t) n h = h
+rates-post opening J (activity.Price l) n h = h
+rates-post opening J (activity.Deliver m) n h = h
+rates-post opening J (activity.Receive m) n h = h
+rates-post opening J (activity.Dividend d) n h = (n, h)
+rates-post opening J (activity.Split s) n h = h
+rates-post opening J (activity.Exchange x) n h = h
+rates-post opening J (activity.Close d) n h = h
+
+-- a journal that commands reach is sound, and members' numbers, their positions, cents and rates are within their limits
 pub record IsLimited (opening : Day) (J : Journal) : Type 0 where
   pub whole : IsWhole opening J
   pub numbered : AreNumbered J
   pub within : AreWithin J
   pub cents : HasFewCents J
-
-pub limited : (opening : Day) (L : List Activity) → IsReached opening L → IsLimited opening (journal opening L)
-limited opening [] r = record { whole = whole_nil; numbered = tt; within = λ a c m. omega (arith, ints); cents = λ a c. omega (arith, ints) }
-limited opening (x ∷ L) r =
-    let J = journal opening L in
-    let before = limited opening L r.2 in
-    let fails = ap is_none r.1 in
-    record {
-      whole = whole-post opening J x before.whole fails;
-      numbered = numbered-post opening J x r.0 before.numbered;
-      within = within-post opening J x fails before.within;
-      cents = cents-post opening J x r.0 before.cents;
-    }
+  pub rates : AreSmallRates (dividends J)
+  pub booked : added_up cents_of J ≤ booking_limit * length J
 
 -- ---- the corporation's position makes up for the members'
 
@@ -101,6 +114,42 @@ pub members_few : (opening : Day) (J : Journal) → IsLimited opening J → leng
 members_few opening J l =
     let few = few_rising 0 member_limit (members J) (omega arith) l.whole.now.accounts_rise (each_in_order (λ a. a ≤ member_limit) account_lt (filter_map added (activities J)) l.numbered) in
     omega (arith, few)
+
+-- whom splits and exchanges book for
+few_holders : (opening : Day) (J : Journal) → IsLimited opening J → AreFewHolders J
+few_holders opening J l = record { within = l.within; numbers = members_from_one opening J l; few = members_few opening J l }
+
+-- an activity in its ranges books few cents
+books_few : (opening : Day) (J : Journal) (x : Activity) → IsInRange x → IsLimited opening J → cents_of (posting opening J x) ≤ booking_limit
+books_few opening J x r l = booked_few opening J x r (few_holders opening J l)
+
+-- a journal that commands reach has its limits
+pub limited : (opening : Day) (L : List Activity) → IsReached opening L → IsLimited opening (journal opening L)
+limited opening [] r = record { whole = whole_nil; numbered = tt; within = λ a c m. omega (arith, ints); cents = λ a c. omega (arith, ints); rates = tt; booked = omega arith }
+limited opening (x ∷ L) r =
+    let J = journal opening L in
+    let before = limited opening L r.2 in
+    let fails = ap is_none r.1 in
+    let few = books_few opening J x r.0 before in
+    let past = before.booked in
+    record {
+      whole = whole-post opening J x before.whole fails;
+      numbered = numbered-post opening J x r.0 before.numbered;
+      within = within-post opening J x fails before.within;
+      cents = cents-post opening J x few before.cents;
+      rates = rates-post opening J x r.0 before.rates;
+      booked = omega (arith, few, past);
+    }
+
+-- the journals of the closes, after an activity that ends a day or not
+past_if : (opening : Day) (b : Bool) (J : Journal) → IsLimited opening J → AllByRecursion (IsLimited opening) (closings J) → AllByRecursion (IsLimited opening) (cond b (J ∷ closings J) (closings J))
+past_if opening true J l past = (l, past)
+past_if opening false J l past = past
+
+-- and so had it at each close
+pub limited_past : (opening : Day) (L : List Activity) → IsReached opening L → AllByRecursion (IsLimited opening) (closings (journal opening L))
+limited_past opening [] r = tt
+limited_past opening (x ∷ L) r = past_if opening (is_close x) (journal opening L) (limited opening L r.2) (limited_past opening L r.2)
 
 -- positions are within their limits
 pub bounded : (opening : Day) (J : Journal) (c : Cusip) → IsLimited opening J → IsBounded J c

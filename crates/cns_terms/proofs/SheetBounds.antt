@@ -102,7 +102,8 @@ of_accounts opening K a (b ∷ bs) cs =
     rw (filter-append (λ r. r.account == a) (rows_in opening K b cs) rest, length-append (filter (λ r. r.account == a) (rows_in opening K b cs)) (filter (λ r. r.account == a) rest))
     (summed (a == b) _ _ (occurs a bs) (length cs) (of_one opening K a b cs (a == b) (eqb_sym b a)) (of_accounts opening K a bs cs))
 
-at_most_one : (o n : ℕ) → o ≤ 1 → o * n ≤ n
+-- once at most
+pub at_most_one : (o n : ℕ) → o ≤ 1 → o * n ≤ n
 at_most_one zero n h = omega arith
 at_most_one (suc zero) n h = omega arith
 at_most_one (suc (suc o)) n h = absurd (omega (arith, h))
@@ -126,6 +127,9 @@ issues-post (activity.Trade t) es K h = omega (arith, h)
 issues-post (activity.Price l) es K h = omega (arith, h)
 issues-post (activity.Deliver m) es K h = omega (arith, h)
 issues-post (activity.Receive m) es K h = omega (arith, h)
+issues-post (activity.Dividend d) es K h = omega (arith, h)
+issues-post (activity.Split s) es K h = omega (arith, h)
+issues-post (activity.Exchange x) es K h = omega (arith, h)
 issues-post (activity.Close d) es K h = omega (arith, h)
 
 -- no more issues than postings

@@ -1,5 +1,5 @@
 -- What accepted commands keep true of the journal.
-use Rattle.std.proofs.Common.{◌≡◌, ℕ, ◌+◌, ◌≤◌, Bool, true, false, not, cond, ◌&&◌, ◌==◌, List, [], ◌∷◌, find, is_none, slice_get, unwrap_or, refl, sym, ◌∙◌, ap, arith}
+use Rattle.std.proofs.Common.{◌≡◌, ℕ, ◌+◌, ◌≤◌, ℤ, pos, ◌-ℤ◌, neg_ℤ, Bool, true, false, not, cond, ◌&&◌, ◌==◌, List, [], ◌∷◌, find, map, is_none, slice_get, unwrap_or, refl, sym, ◌∙◌, ap, arith}
 use Rattle.std.specs.List.{AllByRecursion, list_any}
 use Rattle.std.specs.Prelude.{bytes_eq, filter_map, int_lt}
 use Rattle.std.specs.Cmp.Lexicographic.{slice_cmp}
@@ -9,6 +9,7 @@ use Rattle.std.proofs.lemmas.Bool.Decides.{nat_tests}
 use Rattle.std.proofs.lemmas.Slice.Eq.{bytes_eq-Decides}
 use Rattle.std.proofs.lemmas.Cmp.{nat_cmp_total, nat_list_cmp_total}
 use Rattle.cns_units.specs.Day.{day_number}
+use Rattle.cns_units.specs.declared.account.Account.{Account}
 use Rattle.cns_units.specs.declared.cusip.Cusip.{Cusip}
 use Rattle.cns_units.specs.declared.day.Day.{Day}
 use Rattle.cns_terms.specs.declared.command.Activity.{Activity}
@@ -17,16 +18,18 @@ use Rattle.cns_terms.specs.declared.command.Command.{Command}
 use Rattle.cns_terms.specs.declared.command.Command.TheVariants as command
 use Rattle.cns_terms.specs.declared.holding.Entry.{Entry}
 use Rattle.cns_terms.specs.Days.{closings, date, last_close}
-use Rattle.cns_terms.specs.Entries.{corporation, entries, journal, posting}
+use Rattle.cns_terms.specs.Conversions.{converted, in_exchange, in_lieu}
+use Rattle.cns_terms.specs.Entries.{against_corporation, corporation, entries, entry, holders, journal, new_entry, old_entry, posting}
 use Rattle.cns_terms.specs.Laws.{journal_after, journal_of}
 use Rattle.cns_terms.specs.Listings.{accounts, is_listed, issue_lt, is_member, issues, members, price, priced}
 use Rattle.cns_terms.specs.Machine.{State, next, after, opened}
+use Rattle.cns_terms.specs.Positions.{position}
 use Rattle.cns_terms.specs.Postings.{Posting, Journal, activities}
 use Rattle.cns_terms.specs.Refusals.{Rule, first_refusal, refusal, rules}
 use Rattle.cns_terms.proofs.Facts.{and_left, and_right, both_true, holds, later, less_less, nat_eq_test, neither, or_right, price_branch, same_test}
 use Rattle.cns_terms.proofs.Accounts.{occurs, occurs-put, occurs_found, occurs_missing}
-use Rattle.cns_terms.proofs.EntrySums.{entries_balanced}
-use Rattle.cns_terms.proofs.Everywhere.{any_put, each_weaker}
+use Rattle.cns_terms.proofs.EntrySums.{entries_balanced, entries_for}
+use Rattle.cns_terms.proofs.Everywhere.{any_put, each_append, each_filter, each_map, each_stands, each_weaker}
 use Rattle.cns_terms.proofs.Rising.{above_put, is_rising, rising_put}
 use Rattle.cns_terms.proofs.ZeroSums.{AreOf, IsSoundPosting, AreSound}
 
@@ -96,6 +99,12 @@ zero_in J = omega arith
 abbrev AreIn : Journal → List Entry → Type 0
 AreIn J es = AllByRecursion (λ e. IsIn J e.account) es
 
+-- so do the corporation and members with an entry each
+against_in : (J : Journal) (c : Cusip) (shares cents q : Account → ℤ) → AreIn J (against_corporation c (entries_for c shares cents (holders q (members J))))
+against_in J c shares cents q =
+    let each : AllByRecursion (IsIn J) (members J) = each_weaker (λ a. 1 ≤ occurs a (members J)) (IsIn J) (members J) (λ a p. omega arith) (each_stands (members J)) in
+    (zero_in J, each_map (λ e. IsIn J e.account) (λ a. entry a c (shares a) (cents a)) (holders q (members J)) (each_filter (IsIn J) _ (members J) each))
+
 entries_in : (opening : Day) (J : Journal) (x : Activity) → NoneHolds (rules opening J x) → AreIn J (entries opening J x)
 entries_in opening J (activity.Member m) h = tt
 entries_in opening J (activity.Issue l) h = tt
@@ -110,6 +119,16 @@ entries_in opening J (activity.Deliver m) h =
 entries_in opening J (activity.Receive m) h =
     let fails = all_fail (rules opening J (activity.Receive m)) h in
     (member_in J m.member (holds (is_member J m.member) fails.0), (zero_in J, tt))
+entries_in opening J (activity.Dividend d) h = tt
+entries_in opening J (activity.Split s) h =
+    let q : Account → ℤ = λ a. position J a s.issue in
+    against_in J s.issue (λ a. converted s.ratio (q a) -ℤ q a) (λ a. in_lieu s.ratio s.lieu (q a)) q
+entries_in opening J (activity.Exchange x) h =
+    let q : Account → ℤ = λ a. position J a x.old in
+    let hs : List Account = holders q (members J) in
+    each_append (λ (e : Entry). IsIn J e.account) (against_corporation x.old (map (old_entry x q) hs)) (against_corporation x.successor (map (new_entry x q) hs))
+    (against_in J x.old (λ a. neg_ℤ (q a)) (λ a. pos 0) q)
+    (against_in J x.successor (λ a. converted x.ratio (q a)) (λ a. in_exchange x.ratio x.lieu x.cash (q a)) q)
 entries_in opening J (activity.Close d) h = tt
 
 -- ---- one more activity
@@ -124,7 +143,8 @@ once_in J es distinct h = each_weaker (λ (e : Entry). IsIn J e.account) (λ e. 
 held_in : (J : Journal) (es : List Entry) → AreOf (accounts J) es → AreIn J es
 held_in J es h = each_weaker (λ (e : Entry). occurs e.account (accounts J) ≡ 1) (λ e. IsIn J e.account) es (λ e p. omega arith) h
 
-grown-post : (p : Posting) (J : Journal) (a : ℕ) → occurs a (accounts J) ≤ occurs a (accounts (p ∷ J))
+-- accounts stay
+pub grown-post : (p : Posting) (J : Journal) (a : ℕ) → occurs a (accounts J) ≤ occurs a (accounts (p ∷ J))
 grown-post p J a = by p.activity where
   by : (x : Activity) → occurs a (accounts J) ≤ occurs a (accounts (record { activity = x; entries = p.entries } ∷ J))
   by (activity.Member m) = rw (occurs-put a m (members J)) (omega arith)
@@ -133,6 +153,9 @@ grown-post p J a = by p.activity where
   by (activity.Price l) = omega arith
   by (activity.Deliver m) = omega arith
   by (activity.Receive m) = omega arith
+  by (activity.Dividend d) = omega arith
+  by (activity.Split s) = omega arith
+  by (activity.Exchange x) = omega arith
   by (activity.Close d) = omega arith
 
 added_once : (b : Bool) (n k : ℕ) → n + k ≤ 1 → (b ≡ true → n + k ≡ 0) → n + (cond b 1 0 + k) ≤ 1
@@ -150,6 +173,9 @@ distinct-post opening J (activity.Trade t) s h a = s.distinct a
 distinct-post opening J (activity.Price l) s h a = s.distinct a
 distinct-post opening J (activity.Deliver m) s h a = s.distinct a
 distinct-post opening J (activity.Receive m) s h a = s.distinct a
+distinct-post opening J (activity.Dividend d) s h a = s.distinct a
+distinct-post opening J (activity.Split x) s h a = s.distinct a
+distinct-post opening J (activity.Exchange x) s h a = s.distinct a
 distinct-post opening J (activity.Close d) s h a = s.distinct a
 
 -- ---- one more activity: the order, and listed issues
@@ -169,6 +195,9 @@ accounts-post opening J (activity.Trade t) s h = s.accounts_rise
 accounts-post opening J (activity.Price l) s h = s.accounts_rise
 accounts-post opening J (activity.Deliver m) s h = s.accounts_rise
 accounts-post opening J (activity.Receive m) s h = s.accounts_rise
+accounts-post opening J (activity.Dividend d) s h = s.accounts_rise
+accounts-post opening J (activity.Split x) s h = s.accounts_rise
+accounts-post opening J (activity.Exchange x) s h = s.accounts_rise
 accounts-post opening J (activity.Close d) s h = s.accounts_rise
 
 issues-post : (opening : Day) (J : Journal) (x : Activity) → IsSound J → NoneHolds (rules opening J x) → is_rising (slice_cmp nat_cmp) (issues (posting opening J x ∷ J)) ≡ true
@@ -180,6 +209,9 @@ issues-post opening J (activity.Trade t) s h = s.issues_rise
 issues-post opening J (activity.Price l) s h = s.issues_rise
 issues-post opening J (activity.Deliver m) s h = s.issues_rise
 issues-post opening J (activity.Receive m) s h = s.issues_rise
+issues-post opening J (activity.Dividend d) s h = s.issues_rise
+issues-post opening J (activity.Split x) s h = s.issues_rise
+issues-post opening J (activity.Exchange x) s h = s.issues_rise
 issues-post opening J (activity.Close d) s h = s.issues_rise
 
 -- an issue stays listed
@@ -190,7 +222,19 @@ listed-post opening J (activity.Trade t) c h = h
 listed-post opening J (activity.Price l) c h = h
 listed-post opening J (activity.Deliver m) c h = h
 listed-post opening J (activity.Receive m) c h = h
+listed-post opening J (activity.Dividend d) c h = h
+listed-post opening J (activity.Split s) c h = h
+listed-post opening J (activity.Exchange x) c h = h
 listed-post opening J (activity.Close d) c h = h
+
+-- what holds anyway holds of each of a list
+each_anyway : {X : Type 0} (P : Type 0) (xs : List X) → P → AllByRecursion (λ x. P) xs
+each_anyway P [] p = tt
+each_anyway P (x ∷ xs) p = (p, each_anyway P xs p)
+
+-- entries in one listed issue
+against_listed : (J : Journal) (c : Cusip) (shares cents : Account → ℤ) (xs : List Account) → is_listed J c ≡ true → AreOfListed J (against_corporation c (entries_for c shares cents xs))
+against_listed J c shares cents xs h = (h, each_map (λ e. is_listed J e.issue ≡ true) (λ a. entry a c (shares a) (cents a)) xs (each_anyway (is_listed J c ≡ true) xs h))
 
 entries_listed : (opening : Day) (J : Journal) (x : Activity) → NoneHolds (rules opening J x) → AreOfListed J (entries opening J x)
 entries_listed opening J (activity.Member m) h = tt
@@ -205,6 +249,18 @@ entries_listed opening J (activity.Deliver m) h =
 entries_listed opening J (activity.Receive m) h =
     let listed = holds (is_listed J m.issue) (all_fail (rules opening J (activity.Receive m)) h).1.0 in
     (listed, (listed, tt))
+entries_listed opening J (activity.Dividend d) h = tt
+entries_listed opening J (activity.Split s) h =
+    let listed = holds (is_listed J s.issue) (all_fail (rules opening J (activity.Split s)) h).0 in
+    let q : Account → ℤ = λ a. position J a s.issue in
+    against_listed J s.issue (λ a. converted s.ratio (q a) -ℤ q a) (λ a. in_lieu s.ratio s.lieu (q a)) (holders q (members J)) listed
+entries_listed opening J (activity.Exchange x) h =
+    let both = both_hold (is_listed J x.old) (is_listed J x.successor) (all_fail (rules opening J (activity.Exchange x)) h).0 in
+    let q : Account → ℤ = λ a. position J a x.old in
+    let hs : List Account = holders q (members J) in
+    each_append (λ (e : Entry). is_listed J e.issue ≡ true) (against_corporation x.old (map (old_entry x q) hs)) (against_corporation x.successor (map (new_entry x q) hs))
+    (against_listed J x.old (λ a. neg_ℤ (q a)) (λ a. pos 0) hs both.0)
+    (against_listed J x.successor (λ a. converted x.ratio (q a)) (λ a. in_exchange x.ratio x.lieu x.cash (q a)) hs both.1)
 entries_listed opening J (activity.Close d) h = tt
 
 still_listed : (opening : Day) (J : Journal) (x : Activity) (es : List Entry) → AreOfListed J es → AreOfListed (posting opening J x ∷ J) es
@@ -227,6 +283,9 @@ unpriced-post opening J (activity.Member m) s h c none = s.unpriced c none
 unpriced-post opening J (activity.Trade t) s h c none = s.unpriced c none
 unpriced-post opening J (activity.Deliver m) s h c none = s.unpriced c none
 unpriced-post opening J (activity.Receive m) s h c none = s.unpriced c none
+unpriced-post opening J (activity.Dividend d) s h c none = s.unpriced c none
+unpriced-post opening J (activity.Split x) s h c none = s.unpriced c none
+unpriced-post opening J (activity.Exchange x) s h c none = s.unpriced c none
 unpriced-post opening J (activity.Close d) s h c none = s.unpriced c none
 
 past-post : (opening : Day) (J : Journal) (x : Activity) → IsWhole opening J → AllByRecursion IsSound (closings (posting opening J x ∷ J))
@@ -236,6 +295,9 @@ past-post opening J (activity.Trade t) w = w.past
 past-post opening J (activity.Price l) w = w.past
 past-post opening J (activity.Deliver m) w = w.past
 past-post opening J (activity.Receive m) w = w.past
+past-post opening J (activity.Dividend d) w = w.past
+past-post opening J (activity.Split s) w = w.past
+past-post opening J (activity.Exchange x) w = w.past
 past-post opening J (activity.Close d) w = (w.now, w.past)
 
 earlier-post : (opening : Day) (J : Journal) (x : Activity) → IsWhole opening J → NoneHolds (rules opening J x) → AreEarlier opening (posting opening J x ∷ J)
@@ -245,6 +307,9 @@ earlier-post opening J (activity.Trade t) w h = w.earlier
 earlier-post opening J (activity.Price l) w h = w.earlier
 earlier-post opening J (activity.Deliver m) w h = w.earlier
 earlier-post opening J (activity.Receive m) w h = w.earlier
+earlier-post opening J (activity.Dividend d) w h = w.earlier
+earlier-post opening J (activity.Split s) w h = w.earlier
+earlier-post opening J (activity.Exchange x) w h = w.earlier
 earlier-post opening J (activity.Close d) w h =
     let next = later (day_number d) (day_number (date opening J)) (all_fail (rules opening J (activity.Close d)) h).0 in
     (next, each_weaker (λ K. int_lt (day_number (date opening K)) (day_number (date opening J)) ≡ true) (λ K. int_lt (day_number (date opening K)) (day_number d) ≡ true) (closings J) (λ K e. less_less (day_number (date opening K)) _ _ e next) w.earlier)

@@ -23,6 +23,9 @@ next_date (activity.Trade t) = None
 next_date (activity.Price l) = None
 next_date (activity.Deliver m) = None
 next_date (activity.Receive m) = None
+next_date (activity.Dividend d) = None
+next_date (activity.Split s) = None
+next_date (activity.Exchange x) = None
 next_date (activity.Close d) = Some d
 
 -- whether an activity ends a day

@@ -1,5 +1,5 @@
 -- Dividends: what is paid, and when.
-use Rattle.std.specs.Prelude.{ℤ, pos, ◌*ℤ◌, neg_ℤ, int_div, int_lt, Bool, true, not, ◌&&◌, ◌==◌, List, [], Option, None, option_map, unwrap_or, find, filter, filter_map, slice_get, if◌then◌else◌}
+use Rattle.std.specs.Prelude.{ℤ, pos, ◌*ℤ◌, neg_ℤ, int_div, int_lt, Bool, true, not, ◌&&◌, ◌==◌, List, [], Option, Some, None, option_map, unwrap_or, find, filter, filter_map, slice_get, if◌then◌else◌}
 use Rattle.std.specs.Option.{option_map_or}
 use Rattle.cns_units.specs.Day.{day_number}
 use Rattle.cns_units.specs.declared.account.Account.{Account}
@@ -16,7 +16,7 @@ use Rattle.cns_terms.specs.Positions.{position}
 use Rattle.cns_terms.specs.Listings.{members}
 use Rattle.cns_terms.specs.Entries.{corporation}
 
--- the dividend that an activity declares; no command declares one yet
+-- the dividend that an activity declares
 abbrev pub declared : Activity → Option Declared
 declared (activity.Member m) = None
 declared (activity.Issue l) = None
@@ -24,6 +24,9 @@ declared (activity.Trade t) = None
 declared (activity.Price l) = None
 declared (activity.Deliver m) = None
 declared (activity.Receive m) = None
+declared (activity.Dividend d) = Some d
+declared (activity.Split s) = None
+declared (activity.Exchange x) = None
 declared (activity.Close d) = None
 
 -- the dividends that were declared, the newest first

@@ -1,14 +1,22 @@
 -- What accepted activities book.
-use Rattle.std.specs.Prelude.{ℤ, pos, neg_ℤ, List, [], ◌∷◌}
+use Rattle.std.specs.Prelude.{ℤ, pos, ◌-ℤ◌, neg_ℤ, not, List, [], ◌∷◌, ◌++◌, map, filter}
+use Rattle.std.specs.Ordering.{int_eq}
 use Rattle.cns_units.specs.declared.account.Account.{Account}
+use Rattle.cns_units.specs.declared.account.Member.{Member}
 use Rattle.cns_units.specs.declared.cusip.Cusip.{Cusip}
 use Rattle.cns_units.specs.declared.day.Day.{Day}
+use Rattle.cns_terms.specs.declared.action.Exchange.{Exchange}
+use Rattle.cns_terms.specs.declared.action.Split.{Split}
 use Rattle.cns_terms.specs.declared.command.Activity.{Activity}
 use Rattle.cns_terms.specs.declared.command.Activity.TheVariants as activity
 use Rattle.cns_terms.specs.declared.command.Movement.{Movement}
 use Rattle.cns_terms.specs.declared.command.Trade.{Trade}
 use Rattle.cns_terms.specs.declared.holding.Entry.{Entry}
+use Rattle.cns_terms.specs.Conversions.{converted, in_lieu, in_exchange}
+use Rattle.cns_terms.specs.Listings.{members}
+use Rattle.cns_terms.specs.Positions.{position}
 use Rattle.cns_terms.specs.Postings.{Posting, Journal}
+use Rattle.cns_terms.specs.Sums.{total}
 
 -- shares and cents for an account in an issue
 abbrev pub entry : Account → Cusip → ℤ → ℤ → Entry
@@ -34,7 +42,38 @@ moved_in a m = entry a m.issue (pos m.shares) (pos 0)
 abbrev pub moved_out : Account → Movement → Entry
 moved_out a m = entry a m.issue (neg_ℤ (pos m.shares)) (pos 0)
 
--- the entries that an activity books: a delivery raises the member's position, a receipt the corporation's
+-- the members with a position, by their positions in an issue
+abbrev pub holders : (Account → ℤ) → List Member → List Member
+holders q ms = filter (λ a. not (int_eq (q a) (pos 0))) ms
+
+-- members' entries in one issue, and the corporation's, which is the opposite of their sums
+abbrev pub against_corporation : Cusip → List Entry → List Entry
+against_corporation c es = entry corporation c (neg_ℤ (total (λ e. e.shares) es)) (neg_ℤ (total (λ e. e.cents) es)) ∷ es
+
+-- what a split books for a member, by its position in the issue
+abbrev pub split_entry : Split → (Account → ℤ) → Member → Entry
+split_entry s q a = entry a s.issue (converted s.ratio (q a) -ℤ q a) (in_lieu s.ratio s.lieu (q a))
+
+-- what an exchange books for a member in the old issue, by its position there
+abbrev pub old_entry : Exchange → (Account → ℤ) → Member → Entry
+old_entry x q a = entry a x.old (neg_ℤ (q a)) (pos 0)
+
+-- and in the successor
+abbrev pub new_entry : Exchange → (Account → ℤ) → Member → Entry
+new_entry x q a = entry a x.successor (converted x.ratio (q a)) (in_exchange x.ratio x.lieu x.cash (q a))
+
+-- the entries of a split, by the positions in the issue
+abbrev pub split_entries : Split → (Account → ℤ) → List Member → List Entry
+split_entries s q ms = against_corporation s.issue (map (split_entry s q) (holders q ms))
+
+-- the entries of an exchange, by the positions in the old issue
+abbrev pub exchange_entries : Exchange → (Account → ℤ) → List Member → List Entry
+exchange_entries x q ms =
+    against_corporation x.old (map (old_entry x q) (holders q ms))
+    ++ against_corporation x.successor (map (new_entry x q) (holders q ms))
+
+-- the entries that an activity books: a delivery raises the member's position, a receipt the corporation's; splits and
+-- exchanges book for all who have a position
 abbrev pub entries : Day → Journal → Activity → List Entry
 entries opening J (activity.Member m) = []
 entries opening J (activity.Issue l) = []
@@ -42,6 +81,9 @@ entries opening J (activity.Trade t) = buyer_entry t ∷ seller_entry t ∷ []
 entries opening J (activity.Price l) = []
 entries opening J (activity.Deliver m) = moved_in m.member m ∷ moved_out corporation m ∷ []
 entries opening J (activity.Receive m) = moved_out m.member m ∷ moved_in corporation m ∷ []
+entries opening J (activity.Dividend d) = []
+entries opening J (activity.Split s) = split_entries s (λ a. position J a s.issue) (members J)
+entries opening J (activity.Exchange x) = exchange_entries x (λ a. position J a x.old) (members J)
 entries opening J (activity.Close d) = []
 
 -- an activity with the entries that it books on a journal

@@ -5,12 +5,12 @@ pub mod Days
 pub mod Positions
 pub mod Ages
 pub mod Listings
+pub mod Conversions
 pub mod Entries
+pub mod Actions
 pub mod Refusals
 pub mod Marks
 pub mod Dividends
-pub mod Conversions
-pub mod Actions
 pub mod Sheets
 pub mod Machine
 pub mod History

@@ -1,5 +1,5 @@
 -- The limits of what a book holds, in one place.
-use Rattle.std.specs.Prelude.{ℕ, ◌^◌}
+use Rattle.std.specs.Prelude.{ℕ, ◌*◌, ◌^◌}
 
 -- a member's position, in shares long or short
 abbrev pub position_limit : ℕ
@@ -13,9 +13,13 @@ corporation_limit = 10 ^ 14
 abbrev pub member_limit : ℕ
 member_limit = 9999
 
--- the cents that one activity books for an account in an issue
+-- the cents of a trade
+abbrev pub money_limit : ℕ
+money_limit = 10 ^ 18
+
+-- the cents that one activity books, whatever their signs: an exchange's for 9,999 members, and for the corporation
 abbrev pub booking_limit : ℕ
-booking_limit = 10 ^ 18
+booking_limit = 2 * 10 ^ 23
 
 -- there are fewer activities than this
 abbrev pub history_limit : ℕ
@@ -28,6 +32,10 @@ price_limit = 10 ^ 9
 -- no sum of a day's cents, values, marks or dividends is further from zero
 abbrev pub amount_limit : ℕ
 amount_limit = 10 ^ 34
+
+-- the shares on either side of a ratio
+abbrev pub ratio_limit : ℕ
+ratio_limit = 10 ^ 4
 
 -- what a dividend pays for a share, in millionths of a dollar
 abbrev pub rate_limit : ℕ

@@ -1,5 +1,5 @@
--- Members, issues, prices and references.
-use Rattle.std.specs.Prelude.{◌∷◌, ℕ, Bool, false, ◌==◌, List, Option, Some, None, find, filter_map, map}
+-- Members, issues, prices, retired issues and references.
+use Rattle.std.specs.Prelude.{◌∷◌, ℕ, Bool, ◌==◌, List, Option, Some, None, find, filter_map, map}
 use Rattle.std.specs.List.{list_any}
 use Rattle.std.specs.Option.{option_map_or}
 use Rattle.std.specs.Ordering.{nat_cmp, is_lt}
@@ -23,6 +23,9 @@ added (activity.Trade t) = None
 added (activity.Price l) = None
 added (activity.Deliver m) = None
 added (activity.Receive m) = None
+added (activity.Dividend d) = None
+added (activity.Split s) = None
+added (activity.Exchange x) = None
 added (activity.Close d) = None
 
 -- the listing that an activity makes
@@ -33,6 +36,9 @@ listed (activity.Trade t) = None
 listed (activity.Price l) = None
 listed (activity.Deliver m) = None
 listed (activity.Receive m) = None
+listed (activity.Dividend d) = None
+listed (activity.Split s) = None
+listed (activity.Exchange x) = None
 listed (activity.Close d) = None
 
 -- the listing by which an activity sets a price
@@ -43,6 +49,9 @@ priced (activity.Trade t) = None
 priced (activity.Price l) = Some l
 priced (activity.Deliver m) = None
 priced (activity.Receive m) = None
+priced (activity.Dividend d) = None
+priced (activity.Split s) = None
+priced (activity.Exchange x) = None
 priced (activity.Close d) = None
 
 -- the trade that an activity is
@@ -53,7 +62,23 @@ traded (activity.Trade t) = Some t
 traded (activity.Price l) = None
 traded (activity.Deliver m) = None
 traded (activity.Receive m) = None
+traded (activity.Dividend d) = None
+traded (activity.Split s) = None
+traded (activity.Exchange x) = None
 traded (activity.Close d) = None
+
+-- the issue that an activity replaces by its successor
+abbrev pub replaced : Activity → Option Cusip
+replaced (activity.Member m) = None
+replaced (activity.Issue l) = None
+replaced (activity.Trade t) = None
+replaced (activity.Price l) = None
+replaced (activity.Deliver m) = None
+replaced (activity.Receive m) = None
+replaced (activity.Dividend d) = None
+replaced (activity.Split s) = None
+replaced (activity.Exchange x) = Some x.old
+replaced (activity.Close d) = None
 
 -- the order of accounts, by their numbers
 abbrev pub account_lt : Account → Account → Bool
@@ -91,9 +116,9 @@ is_listed J c = list_any (λ d. same_issue d c) (issues J)
 abbrev pub price : Journal → Cusip → Price
 price J c = option_map_or (λ l. l.price) (find (λ l. same_issue l.issue c) (filter_map priced (activities J))) 0
 
--- whether the issue is retired for good; no command retires one yet
+-- whether the issue is retired for good
 abbrev pub is_retired : Journal → Cusip → Bool
-is_retired J c = false
+is_retired J c = list_any (λ d. same_issue d c) (filter_map replaced (activities J))
 
 -- whether an accepted trade has the reference
 abbrev pub is_seen : Journal → ℕ → Bool

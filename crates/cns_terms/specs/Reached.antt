@@ -1,22 +1,30 @@
 -- The activities to which commands lead.
 use Rattle.std.specs.Prelude.{◌≡◌, ◌≤◌, List, [], ◌∷◌, None, ⊤}
 use Rattle.cns_units.specs.declared.day.Day.{Day}
+use Rattle.cns_units.specs.declared.ratio.Ratio.{Ratio}
 use Rattle.cns_terms.specs.declared.command.Activity.{Activity}
 use Rattle.cns_terms.specs.declared.command.Activity.TheVariants as activity
 use Rattle.cns_terms.specs.declared.command.Command.{Command}
 use Rattle.cns_terms.specs.declared.command.Command.TheVariants as command
 use Rattle.cns_terms.specs.Entries.{journal}
-use Rattle.cns_terms.specs.Limits.{booking_limit, member_limit, price_limit}
+use Rattle.cns_terms.specs.Limits.{member_limit, money_limit, price_limit, rate_limit, ratio_limit}
 use Rattle.cns_terms.specs.Refusals.{refusal}
+
+-- the old shares of a ratio are in their range
+abbrev pub IsRatio : Ratio → Type 0
+IsRatio r = (1 ≤ r.old) × (r.old ≤ ratio_limit)
 
 -- the values of an activity are in the ranges that commands have, as far as limits rest on them
 abbrev pub IsInRange : Activity → Type 0
 IsInRange (activity.Member m) = m ≤ member_limit
 IsInRange (activity.Issue l) = ⊤
-IsInRange (activity.Trade t) = t.money ≤ booking_limit
+IsInRange (activity.Trade t) = t.money ≤ money_limit
 IsInRange (activity.Price l) = ⊤
 IsInRange (activity.Deliver m) = ⊤
 IsInRange (activity.Receive m) = ⊤
+IsInRange (activity.Dividend d) = d.rate ≤ rate_limit
+IsInRange (activity.Split s) = IsRatio s.ratio × (s.lieu ≤ price_limit)
+IsInRange (activity.Exchange x) = IsRatio x.ratio × (x.lieu ≤ price_limit) × (x.cash ≤ price_limit)
 IsInRange (activity.Close d) = ⊤
 
 -- and so are those of a command
@@ -33,6 +41,9 @@ IsPriceInRange (activity.Trade t) = ⊤
 IsPriceInRange (activity.Price l) = l.price ≤ price_limit
 IsPriceInRange (activity.Deliver m) = ⊤
 IsPriceInRange (activity.Receive m) = ⊤
+IsPriceInRange (activity.Dividend d) = ⊤
+IsPriceInRange (activity.Split s) = ⊤
+IsPriceInRange (activity.Exchange x) = ⊤
 IsPriceInRange (activity.Close d) = ⊤
 
 -- and so is that of a command

@@ -1,19 +1,22 @@
 -- What is refused, and why.
-use Rattle.std.specs.Prelude.{ℕ, is_none, ℤ, pos, neg_ℤ, int_lt, int_le, unsigned_abs, Bool, not, ◌&&◌, ◌==◌, nat_lt, ◌^◌, List, [], ◌∷◌, Option, option_map, find}
+use Rattle.std.specs.Prelude.{ℕ, is_none, ℤ, pos, ◌+ℤ◌, neg_ℤ, int_lt, int_le, unsigned_abs, Bool, not, ◌&&◌, ◌||◌, ◌==◌, nat_lt, ◌^◌, List, [], ◌∷◌, Option, option_map, find}
 use Rattle.std.specs.List.{list_any}
+use Rattle.cns_units.specs.declared.account.Account.{Account}
+use Rattle.cns_units.specs.declared.cusip.Cusip.{Cusip}
 use Rattle.cns_units.specs.declared.day.Day.{Day}
 use Rattle.cns_terms.specs.declared.command.Activity.{Activity}
 use Rattle.cns_terms.specs.declared.command.Activity.TheVariants as activity
 use Rattle.cns_terms.specs.declared.command.Command.{Command}
 use Rattle.cns_terms.specs.declared.command.Command.TheVariants as command
+use Rattle.cns_terms.specs.declared.holding.Entry.{Entry}
 use Rattle.cns_terms.specs.declared.refusal.Refusal.{Refusal}
-use Rattle.cns_terms.specs.declared.refusal.Refusal.TheVariants.{MemberExists, NoSuchMember, IssueExists, NoSuchIssue, Retired, SameParty, WrongDay, SeenReference, ExceedsPosition, NotOnHand, NotLong, TooLarge, NoSuchDay}
-use Rattle.cns_terms.specs.Sums.{short}
+use Rattle.cns_terms.specs.declared.refusal.Refusal.TheVariants.{MemberExists, NoSuchMember, IssueExists, NoSuchIssue, Retired, SameParty, SameIssue, WrongDay, SeenReference, ExceedsPosition, NotOnHand, NotLong, TooLarge, NoSuchDay}
+use Rattle.cns_terms.specs.Sums.{same_issue, short, total}
 use Rattle.cns_terms.specs.Postings.{Journal}
 use Rattle.cns_terms.specs.Days.{closed_on, date, is_same_day, is_not_after}
-use Rattle.cns_terms.specs.Positions.{position}
+use Rattle.cns_terms.specs.Positions.{position, shares_for}
 use Rattle.cns_terms.specs.Listings.{is_member, is_account, is_listed, is_retired, is_seen}
-use Rattle.cns_terms.specs.Entries.{corporation, entries, posting}
+use Rattle.cns_terms.specs.Entries.{corporation, entries}
 
 -- a refusal, and whether its condition holds
 abbrev pub Rule : Type 0
@@ -23,14 +26,22 @@ Rule = Refusal × Bool
 abbrev pub is_beyond : ℤ → Bool
 is_beyond q = nat_lt (10 ^ 10) (unsigned_abs q)
 
--- whether the activity would take a member's position out of its limits
+-- whether entries take a member's position out of its limits, by the positions before them
+abbrev pub are_too_large : (Account → Cusip → ℤ) → List Entry → Bool
+are_too_large before es =
+    list_any (λ e. nat_lt corporation e.account && is_beyond (total (shares_for e.account e.issue) es +ℤ before e.account e.issue)) es
+
+-- whether the whole activity would do so
 abbrev pub is_too_large : Day → Journal → Activity → Bool
-is_too_large opening J x =
-    list_any (λ e. nat_lt corporation e.account && is_beyond (position (posting opening J x ∷ J) e.account e.issue)) (entries opening J x)
+is_too_large opening J x = are_too_large (position J) (entries opening J x)
 
 -- whether a position is above 0 and less than the shares
 abbrev pub is_exceeded : ℤ → ℕ → Bool
 is_exceeded q shares = int_lt (pos 0) q && int_lt q (pos shares)
+
+-- whether the first day is before the second, by their numbers
+abbrev pub is_past : Day → Day → Bool
+is_past d today = not (is_not_after today d)
 
 -- the rules of an activity, by the refusal's number
 abbrev pub rules : Day → Journal → Activity → List Rule
@@ -57,6 +68,19 @@ rules opening J (activity.Receive m) =
     ∷ (ExceedsPosition, is_exceeded (position J m.member m.issue) m.shares)
     ∷ (NotOnHand, int_lt (neg_ℤ (pos m.shares)) (position J corporation m.issue))
     ∷ (NotLong, int_le (position J m.member m.issue) (pos 0)) ∷ []
+rules opening J (activity.Dividend d) =
+    (NoSuchIssue, not (is_listed J d.cusip))
+    ∷ (Retired, is_retired J d.cusip)
+    ∷ (WrongDay, is_past d.recorded (date opening J) || is_not_after d.payable d.recorded) ∷ []
+rules opening J (activity.Split s) =
+    (NoSuchIssue, not (is_listed J s.issue))
+    ∷ (Retired, is_retired J s.issue)
+    ∷ (TooLarge, is_too_large opening J (activity.Split s)) ∷ []
+rules opening J (activity.Exchange x) =
+    (NoSuchIssue, not (is_listed J x.old && is_listed J x.successor))
+    ∷ (Retired, is_retired J x.old || is_retired J x.successor)
+    ∷ (SameIssue, same_issue x.old x.successor)
+    ∷ (TooLarge, is_too_large opening J (activity.Exchange x)) ∷ []
 rules opening J (activity.Close d) = (WrongDay, is_not_after d (date opening J)) ∷ []
 
 -- the rules of a command

@@ -1,6 +1,7 @@
 // Commands, and the activities among them.
 ghost use Rattle.std.specs.Prelude.{◌≡◌, ◌↔◌, true};
 
+use crate::action::{Declared, Exchange, Split};
 use crate::holding::Key;
 use cns_units::{Account, Cusip, Day, Member, Money, Price, Shares};
 
@@ -51,6 +52,12 @@ pub enum Activity {
     Deliver(Movement),
     /// Shares from the corporation to a long member.
     Receive(Movement),
+    /// A dividend that members are paid later, or pay.
+    Dividend(Declared),
+    /// New shares for old ones in one issue.
+    Split(Split),
+    /// Shares of a successor for those of an issue, which is retired.
+    Exchange(Exchange),
     /// The end of the day; the date is that of the next one.
     Close(Day),
 }
@@ -101,6 +108,9 @@ impl Activity {
             (Activity::Price(one), Activity::Price(two)) => one.is_same(two),
             (Activity::Deliver(one), Activity::Deliver(two)) => one.is_same(two),
             (Activity::Receive(one), Activity::Receive(two)) => one.is_same(two),
+            (Activity::Dividend(one), Activity::Dividend(two)) => one.is_same(two),
+            (Activity::Split(one), Activity::Split(two)) => one.is_same(two),
+            (Activity::Exchange(one), Activity::Exchange(two)) => one.is_same(two),
             (Activity::Close(one), Activity::Close(two)) => one.is_same(two),
             _ => false,
         }

@@ -12,15 +12,16 @@ pub enum Refusal {
     NoSuchMember,
     /// 3: the CUSIP was listed before.
     IssueExists,
-    /// 4: the issue is not listed.
+    /// 4: the issue is not listed, or one of the two of an exchange.
     NoSuchIssue,
-    /// 5: the issue is retired.
+    /// 5: the issue is retired, or one of the two of an exchange.
     Retired,
     /// 6: buyer and seller are the same.
     SameParty,
     /// 7: old issue and successor are the same.
     SameIssue,
-    /// 8: a trade's date is not today, or the next date of a close is not after today.
+    /// 8: a trade's date is not today, a dividend's record date is before today or its payable date not after the record
+    /// date, or the next date of a close is not after today.
     WrongDay,
     /// 9: an accepted trade has the reference.
     SeenReference,

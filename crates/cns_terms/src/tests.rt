@@ -1,8 +1,8 @@
 use crate::{
-    Activity, Closed, Command, Entry, Holding, Key, Listing, Movement, Refusal, Reply, Row, Stated,
-    Taken, Trade, Worker,
+    Activity, Closed, Command, Declared, Entry, Exchange, Holding, Key, Listing, Movement, Refusal,
+    Reply, Row, Split, Stated, Taken, Trade, Worker,
 };
-use cns_units::{Account, Cents, Cusip, Day, Member, Money, Price, Shares, UnitFault};
+use cns_units::{Account, Cents, Cusip, Day, Member, Money, Price, Rate, Ratio, Shares, UnitFault};
 use std::mem::size_of;
 use std::test::Fail;
 
@@ -75,6 +75,33 @@ fn listing(price: u64) -> Result<Listing, UnitFault> {
     })
 }
 
+fn dividend(rate: u64) -> Result<Declared, UnitFault> {
+    Ok(Declared {
+        cusip: apple(101)?.issue,
+        recorded: Day::parse(b"2024-06-03")?,
+        payable: Day::parse(b"2024-06-04")?,
+        rate: Rate::new(rate)?,
+    })
+}
+
+fn split(new: u16) -> Result<Split, UnitFault> {
+    Ok(Split {
+        issue: apple(101)?.issue,
+        ratio: Ratio::new(new, 1)?,
+        lieu: Price::ZERO,
+    })
+}
+
+fn exchange(cash: u64) -> Result<Exchange, UnitFault> {
+    Ok(Exchange {
+        old: apple(101)?.issue,
+        successor: Cusip::parse(b"17275R102")?,
+        ratio: Ratio::new(2, 3)?,
+        lieu: Price::ZERO,
+        cash: Price::new(cash)?,
+    })
+}
+
 #[test]
 fn a_command_is_the_same_as_itself_alone(rt: HostRuntime) -> Result<(), Fail> {
     let account = Account::new(101)?;
@@ -89,6 +116,12 @@ fn a_command_is_the_same_as_itself_alone(rt: HostRuntime) -> Result<(), Fail> {
         Command::Activity(Activity::Deliver(movement(100)?)),
         Command::Activity(Activity::Receive(movement(100)?)),
         Command::Activity(Activity::Receive(movement(40)?)),
+        Command::Activity(Activity::Dividend(dividend(500)?)),
+        Command::Activity(Activity::Dividend(dividend(501)?)),
+        Command::Activity(Activity::Split(split(2)?)),
+        Command::Activity(Activity::Split(split(3)?)),
+        Command::Activity(Activity::Exchange(exchange(0)?)),
+        Command::Activity(Activity::Exchange(exchange(25)?)),
         Command::Activity(Activity::Close(date)),
         Command::Position(apple(101)?),
         Command::Position(apple(202)?),

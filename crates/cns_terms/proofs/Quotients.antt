@@ -1,0 +1,29 @@
+-- What a division that is cut towards zero leaves.
+use Rattle.std.proofs.Common.{◌≡◌, subst, ℕ, suc, ◌/◌, ◌≤◌, ◌<◌, ℤ, pos, negsuc, neg_ℤ, ◌+ℤ◌, ◌-ℤ◌, ◌*ℤ◌, int_div, int_rem, arith}
+use Rattle.std.specs.Prelude.{unsigned_abs}
+use Rattle.std.proofs.Math.Nat.{div-le_self}
+use Rattle.std.proofs.lemmas.Int.{ints, quot-rem, rem_below}
+use Rattle.cns_units.specs.declared.ratio.Ratio.{Ratio}
+use Rattle.cns_terms.specs.Conversions.{fraction}
+
+-- what is left of a sum
+part : (a x r : ℤ) → x +ℤ r ≡ a → r ≡ a -ℤ x
+part a x r e = omega (arith, ints)
+
+-- the rest is what the quotient times the divisor lacks
+pub rest_of : (a d : ℤ) → int_rem a d ≡ a -ℤ (int_div a d *ℤ d)
+rest_of a d = part a (int_div a d *ℤ d) (int_rem a d) (quot-rem a d)
+
+-- a quotient is no further from zero than what is divided
+pub quotient_few : (z : ℤ) (n : ℕ) → unsigned_abs (int_div z (pos n)) ≤ unsigned_abs z
+quotient_few (pos k) n = omega (arith, div-le_self k n)
+quotient_few (negsuc k) n = below (suc k / n) (suc k) (div-le_self (suc k) n)
+  where
+    below : (m k : ℕ) → m ≤ k → unsigned_abs (neg_ℤ (pos m)) ≤ k
+    below m k h = omega (arith, ints, h)
+
+-- the cut leaves less than a new share
+pub fraction_few : (q : ℤ) (r : Ratio) → 1 ≤ r.old → unsigned_abs (fraction r q) ≤ r.old
+fraction_few q r h =
+    let few : unsigned_abs (int_rem (q *ℤ pos r.new) (pos r.old)) < r.old = rem_below (q *ℤ pos r.new) (pos r.old) h in
+    subst (λ (z : ℤ). unsigned_abs z ≤ r.old) (rest_of (q *ℤ pos r.new) (pos r.old)) (omega (arith, few))

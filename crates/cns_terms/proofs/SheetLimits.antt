@@ -1,0 +1,188 @@
+-- What the sheet of a close asks of its amounts, and of the dividends that it pays.
+use Rattle.std.proofs.Common.{◌≡◌, ◌∙◌, sym, ap, refl, ℕ, suc, ◌+◌, ◌*◌, ◌^◌, ◌≤◌, ◌<◌, ℤ, pos, ◌+ℤ◌, Bool, true, false, not, ◌&&◌, ◌==◌, cond, List, [], ◌∷◌, length, filter, take, arith}
+use Rattle.std.specs.Prelude.{bytes_eq, unsigned_abs}
+use Rattle.std.specs.List.{AllByRecursion, sum_by}
+use Rattle.std.proofs.lemmas.Bool.Decides.{nat_tests}
+use Rattle.std.proofs.lemmas.Cmp.{nat_list_eq_equiv}
+use Rattle.std.proofs.lemmas.Int.{ints}
+use Rattle.std.proofs.lemmas.List.Sums.{sum_by-cons}
+use Rattle.std.proofs.lemmas.Slice.Eq.{bytes_eq-Decides}
+use Rattle.cns_units.specs.declared.account.Account.{Account}
+use Rattle.cns_units.specs.declared.cusip.Cusip.{Cusip}
+use Rattle.cns_units.specs.declared.day.Day.{Day}
+use Rattle.cns_units.specs.declared.rate.Rate.{Rate}
+use Rattle.cns_terms.specs.declared.action.Declared.{Declared}
+use Rattle.cns_terms.specs.declared.sheet.Row.{Row}
+use Rattle.cns_terms.specs.Days.{closings, is_close}
+use Rattle.cns_terms.specs.Dividends.{cash, dividends, pays_before}
+use Rattle.cns_terms.specs.Limits.{amount_limit, history_limit, rate_limit}
+use Rattle.cns_terms.specs.Listings.{accounts, issues, members}
+use Rattle.cns_terms.specs.Positions.{position}
+use Rattle.cns_terms.specs.Postings.{Journal, Posting}
+use Rattle.cns_terms.specs.Sheets.{row, rows_for, sheet_rows}
+use Rattle.cns_terms.specs.Sums.{in_order, put, total}
+use Rattle.cns_terms.proofs.Accounts.{occurs}
+use Rattle.cns_terms.proofs.Amounts.{cents_small, rows_small}
+use Rattle.cns_terms.proofs.DividendBounds.{cash_limit, cash_small, dividends_few, dividends_small}
+use Rattle.cns_terms.proofs.Everywhere.{each_weaker}
+use Rattle.cns_terms.proofs.Magnitudes.{added, added-all, added-filter, added-more, front_total}
+use Rattle.cns_terms.proofs.OverAll.{one_issue, over_all}
+use Rattle.cns_terms.proofs.Reached.{IsLimited, bounded, members_few}
+use Rattle.cns_terms.proofs.Sound.{grown-post}
+
+-- ---- the rows of one account
+
+-- the first of an account's rows, where the numbers of all rows are small
+account_rows : (opening : Day) (K : Journal) (a : Account) (n : ℕ) (f : Row → ℤ) → over_all (λ b c. unsigned_abs (f (row opening K b c))) K ≤ amount_limit → unsigned_abs (total f (take n (rows_for (sheet_rows opening K) a))) ≤ amount_limit
+account_rows opening K a n f h =
+    front_total f n amount_limit (rows_for (sheet_rows opening K) a)
+    (omega (arith, added-filter (λ (r : Row). unsigned_abs (f r)) (λ r. r.account == a) (sheet_rows opening K), rows_small opening K (λ r. unsigned_abs (f r)), h))
+
+-- the cents of an account's first rows
+pub account_cents_small : (opening : Day) (K : Journal) (a : Account) (n : ℕ) → IsLimited opening K → length K < history_limit → unsigned_abs (total (λ r. r.money) (take n (rows_for (sheet_rows opening K) a))) ≤ amount_limit
+account_cents_small opening K a n l few = account_rows opening K a n (λ r. r.money) (omega (arith, cents_small opening K l few))
+
+-- and their dividends
+pub account_dividends_small : (opening : Day) (K : Journal) (a : Account) (n : ℕ) → IsLimited opening K → AllByRecursion (IsLimited opening) (closings K) → length K < history_limit → unsigned_abs (total (λ r. r.dividend) (take n (rows_for (sheet_rows opening K) a))) ≤ amount_limit
+account_dividends_small opening K a n l past few = account_rows opening K a n (λ r. r.dividend) (dividends_small opening K l past few)
+
+-- ---- what a dividend pays all members
+
+-- std's sum of natural numbers is the one of these proofs
+summed : {X : Type 0} (f : X → ℕ) (xs : List X) → sum_by f xs ≡ added f xs
+summed f [] = refl
+summed f (x ∷ xs) = sum_by-cons f x xs ∙ ap (λ n. f x + n) (summed f xs)
+
+module _ (opening : Day) (K : Journal) (l : IsLimited opening K) (c : Cusip) (rate : Rate) (low : rate ≤ rate_limit) where
+  -- the cash of a member in the issue, and nothing for the corporation
+  abbrev cash_of : Account → ℤ
+  cash_of a = cond (not (a == 0)) (cash (position K a c) rate) (pos 0)
+
+  -- it is small
+  cash_few : (a : Account) → unsigned_abs (cash_of a) ≤ cash_limit
+  cash_few a = by (a == 0) refl
+    where
+      from_one : (a : ℕ) → (a == 0) ≡ false → 1 ≤ a
+      from_one a h = grind (arith, nat_tests)
+
+      by : (b : Bool) → (a == 0) ≡ b → unsigned_abs (cond (not b) (cash (position K a c) rate) (pos 0)) ≤ cash_limit
+      by true e = omega arith
+      by false e = cash_small (position K a c) rate ((bounded opening K c l).members a (from_one a e)) low
+
+  -- a row's cash is that of its account, or nothing
+  row_few : (a : Account) (d : Cusip) → unsigned_abs (cond (bytes_eq d c && not (a == 0)) (cash (position K a d) rate) (pos 0)) ≤ unsigned_abs (cond (true && bytes_eq c d) (cash_of a) (pos 0))
+  row_few a d = by (bytes_eq d c) refl
+    where
+      by : (b : Bool) → bytes_eq d c ≡ b → unsigned_abs (cond (bytes_eq d c && not (a == 0)) (cash (position K a d) rate) (pos 0)) ≤ unsigned_abs (cond (true && bytes_eq c d) (cash_of a) (pos 0))
+      by true e = rw (e, nat_list_eq_equiv.symm c d ∙ e, (bytes_eq-Decides d c).0 e) (omega arith)
+      by false e = rw e (omega arith)
+
+  -- few members, and little cash for each
+  few_paid : (m n : ℕ) → m ≤ cash_limit * (1 + n) → n ≤ 9999 → m ≤ 10 ^ 21
+  few_paid m n h k = omega (arith, h, k)
+
+  -- what the dividend pays all members
+  pub payable : sum_by (λ r. unsigned_abs (cond (bytes_eq r.issue c && not (r.account == 0)) (cash r.closing rate) (pos 0))) (sheet_rows opening K) ≤ 10 ^ 21
+  payable =
+      let f : Row → ℕ = λ r. unsigned_abs (cond (bytes_eq r.issue c && not (r.account == 0)) (cash r.closing rate) (pos 0)) in
+      rw (summed f (sheet_rows opening K))
+      (few_paid _ (length (members K))
+      (omega (
+        arith,
+        rows_small opening K f,
+        added-all (λ a. added (λ d. f (row opening K a d)) (issues K)) cash_limit (accounts K) (λ a. omega (
+          arith,
+          added-more (λ (d : Cusip). f (row opening K a d)) (λ d. unsigned_abs (cond (true && bytes_eq c d) (cash_of a) (pos 0))) (issues K) (row_few a),
+          one_issue true c (cash_of a) (issues K) l.whole.now.issues_rise,
+          cash_few a,
+        )),
+      ))
+      (members_few opening K l))
+
+-- ---- the dividends of a close, in any order
+
+-- one more put in its place
+total-put : {X : Type 0} (f : X → ℤ) (before : X → X → Bool) (x : X) (ys : List X) → total f (put before x ys) ≡ f x +ℤ total f ys
+total-put f before x [] = refl
+total-put f before x (y ∷ ys) = by (before x y) (total-put f before x ys)
+  where
+    by : (b : Bool) → total f (put before x ys) ≡ f x +ℤ total f ys → total f (cond b (x ∷ y ∷ ys) (y ∷ put before x ys)) ≡ f x +ℤ (f y +ℤ total f ys)
+    by true h = refl
+    by false h = omega (arith, ints, h)
+
+-- an order leaves a sum as it is
+total-in_order : {X : Type 0} (f : X → ℤ) (before : X → X → Bool) (xs : List X) → total f (in_order before xs) ≡ total f xs
+total-in_order f before [] = refl
+total-in_order f before (x ∷ xs) = total-put f before x (in_order before xs) ∙ ap (λ n. f x +ℤ n) (total-in_order f before xs)
+
+-- a sum over what is kept
+total-kept : {X : Type 0} (f : X → ℤ) (p : X → Bool) (xs : List X) → total f (filter p xs) ≡ total (λ x. cond (p x) (f x) (pos 0)) xs
+total-kept f p [] = refl
+total-kept f p (x ∷ xs) = by (p x) (total-kept f p xs)
+  where
+    by : (b : Bool) → total f (filter p xs) ≡ total (λ x. cond (p x) (f x) (pos 0)) xs → total f (cond b (x ∷ filter p xs) (filter p xs)) ≡ cond b (f x) (pos 0) +ℤ total (λ x. cond (p x) (f x) (pos 0)) xs
+    by true h = ap (λ n. f x +ℤ n) h
+    by false h = omega (arith, ints, h)
+
+-- of what is due, that of one issue
+pub total-due : (f : Declared → ℤ) (p : Declared → Bool) (c : Cusip) (ds : List Declared) → total (λ d. cond (bytes_eq c d.cusip) (f d) (pos 0)) (filter p (in_order pays_before ds)) ≡ total f (filter (λ d. bytes_eq d.cusip c && p d) ds)
+total-due f p c ds =
+    total-kept (λ (d : Declared). cond (bytes_eq c d.cusip) (f d) (pos 0)) p (in_order pays_before ds)
+    ∙ total-in_order (λ (d : Declared). cond (p d) (cond (bytes_eq c d.cusip) (f d) (pos 0)) (pos 0)) pays_before ds
+    ∙ (λ i. total (λ d. same d i) ds)
+    ∙ sym (total-kept f (λ d. bytes_eq d.cusip c && p d) ds)
+  where
+    by : (b t : Bool) (z : ℤ) → cond b (cond t z (pos 0)) (pos 0) ≡ cond (t && b) z (pos 0)
+    by true true z = refl
+    by true false z = refl
+    by false true z = refl
+    by false false z = refl
+
+    same : (d : Declared) → cond (p d) (cond (bytes_eq c d.cusip) (f d) (pos 0)) (pos 0) ≡ cond (bytes_eq d.cusip c && p d) (f d) (pos 0)
+    same d = by (p d) (bytes_eq c d.cusip) (f d) ∙ ap (λ t. cond (t && p d) (f d) (pos 0)) (nat_list_eq_equiv.symm c d.cusip)
+
+-- one more, or not
+kept_len : {X : Type 0} (b : Bool) (x : X) (xs : List X) (n : ℕ) → length xs ≤ n → length (cond b (x ∷ xs) xs) ≤ suc n
+kept_len true x xs n h = omega (arith, h)
+kept_len false x xs n h = omega (arith, h)
+
+-- what is kept is no more
+filter_len : {X : Type 0} (p : X → Bool) (xs : List X) → length (filter p xs) ≤ length xs
+filter_len p [] = omega arith
+filter_len p (x ∷ xs) = kept_len (p x) x (filter p xs) (length xs) (filter_len p xs)
+
+-- an order keeps the count
+put_len : {X : Type 0} (before : X → X → Bool) (x : X) (ys : List X) → length (put before x ys) ≡ suc (length ys)
+put_len before x [] = refl
+put_len before x (y ∷ ys) = by (before x y) (put_len before x ys)
+  where
+    by : (b : Bool) → length (put before x ys) ≡ suc (length ys) → length (cond b (x ∷ y ∷ ys) (y ∷ put before x ys)) ≡ suc (suc (length ys))
+    by true h = refl
+    by false h = ap suc h
+
+order_len : {X : Type 0} (before : X → X → Bool) (xs : List X) → length (in_order before xs) ≡ length xs
+order_len before [] = refl
+order_len before (x ∷ xs) = put_len before x (in_order before xs) ∙ ap suc (order_len before xs)
+
+-- no more dividends are due than there are postings
+pub due_few : (p : Declared → Bool) (K : Journal) → length (filter p (in_order pays_before (dividends K))) ≤ length K
+due_few p K = omega (arith, filter_len p (in_order pays_before (dividends K)), order_len pays_before (dividends K), dividends_few K)
+
+-- ---- accounts that were there at a close are there now
+
+-- the accounts of each are among those of a journal
+abbrev pub AreAmong : Journal → List Journal → Type 0
+AreAmong J Ks = AllByRecursion (λ K. (a : ℕ) → occurs a (accounts K) ≤ occurs a (accounts J)) Ks
+
+-- and so among those of one posting more
+grown : (p : Posting) (J : Journal) (Ks : List Journal) → AreAmong J Ks → AreAmong (p ∷ J) Ks
+grown p J Ks h = each_weaker (λ (K : Journal). (a : ℕ) → occurs a (accounts K) ≤ occurs a (accounts J)) (λ K. (a : ℕ) → occurs a (accounts K) ≤ occurs a (accounts (p ∷ J))) Ks (λ K q a. let more = grown-post p J a in let had = q a in omega (arith, more, had)) h
+
+-- the journals of the closes, after an activity that ends a day or not
+grown_if : (b : Bool) (p : Posting) (J : Journal) → AreAmong J (closings J) → AreAmong (p ∷ J) (cond b (J ∷ closings J) (closings J))
+grown_if true p J h = (grown-post p J, grown p J (closings J) h)
+grown_if false p J h = grown p J (closings J) h
+
+pub accounts_grew : (J : Journal) → AreAmong J (closings J)
+accounts_grew [] = tt
+accounts_grew (p ∷ J) = grown_if (is_close p.activity) p J (accounts_grew J)
