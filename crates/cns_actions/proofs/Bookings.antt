@@ -12,10 +12,10 @@ use Rattle.cns_terms.specs.Sums.{same_issue, total}
 use Rattle.cns_terms.proofs.Totals.{total-append, total-map}
 use Rattle.cns_terms.proofs.Facts.{zero_add}
 use Rattle.cns_terms.specs.Limits.{corporation_limit, member_limit, position_limit}
-use Rattle.cns_positions.specs.Rows.{Rows, booked, holding_at}
+use Rattle.cns_positions.specs.Rows.{Rows, booked, books, holding_at}
 use Rattle.cns_actions.specs.declared.leg.Leg.{Leg}
 use Rattle.cns_actions.specs.Legs.{cents_booked, leg_entry, shares_booked}
-use Rattle.cns_actions.specs.Booked.{CanBeBooked, HasSpace, all_entries, books, first_entries, firsts, position_at}
+use Rattle.cns_actions.specs.Booked.{CanBeBooked, HasSpace, all_entries, first_entries, firsts, position_at}
 use Rattle.cns_actions.proofs.Members.{given_above, given_zero}
 
 -- a sum of three in another order

@@ -1,4 +1,3 @@
-pub mod Quotients
 pub mod Members
 pub mod Fits
 pub mod Bookings

@@ -7,7 +7,8 @@ use Rattle.std.proofs.lemmas.Bool.Decides.{Decides-int_eq, nat_tests}
 use Rattle.std.proofs.lemmas.Int.{ints}
 use Rattle.cns_units.specs.declared.account.Account.{Account}
 use Rattle.cns_units.specs.declared.account.Member.{Member}
-use Rattle.cns_terms.specs.Actions.{AreHolders, are_distinct, holders}
+use Rattle.cns_terms.specs.Actions.{AreHolders, are_distinct}
+use Rattle.cns_terms.specs.Entries.{holders}
 use Rattle.cns_terms.specs.Limits.{member_limit}
 use Rattle.cns_terms.specs.Sums.{total}
 use Rattle.cns_terms.proofs.Facts.{and_left, and_right, both_true, eqb_refl, zero_add}

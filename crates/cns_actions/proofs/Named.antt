@@ -14,24 +14,24 @@ use Rattle.cns_terms.specs.declared.action.Split.{Split}
 use Rattle.cns_terms.specs.declared.holding.Entry.{Entry}
 use Rattle.cns_terms.specs.declared.holding.Holding.{Holding}
 use Rattle.cns_terms.specs.declared.holding.Key.{Key}
-use Rattle.cns_terms.specs.Actions.{AreHolders, are_too_large, holders}
+use Rattle.cns_terms.specs.Actions.{AreHolders}
 use Rattle.cns_terms.specs.Conversions.{converted, fraction, in_lieu}
-use Rattle.cns_terms.specs.Entries.{corporation, entry}
+use Rattle.cns_terms.specs.Entries.{corporation, entry, holders}
 use Rattle.cns_terms.specs.Limits.{member_limit, position_limit}
 use Rattle.cns_terms.specs.Positions.{cents_for, shares_for}
-use Rattle.cns_terms.specs.Refusals.{is_beyond}
+use Rattle.cns_terms.specs.Refusals.{are_too_large, is_beyond}
 use Rattle.cns_terms.specs.Sums.{same_issue, total}
 use Rattle.cns_terms.proofs.Everywhere.{each_filter}
 use Rattle.cns_terms.proofs.Facts.{bytes_refl, zero_add}
 use Rattle.cns_terms.proofs.Totals.{total-append, total-map}
-use Rattle.cns_positions.specs.Rows.{Rows}
+use Rattle.cns_positions.specs.Rows.{Rows, books}
 use Rattle.cns_actions.specs.declared.action.Action.{Action}
 use Rattle.cns_actions.specs.declared.action.Action.TheVariants as action
 use Rattle.cns_actions.specs.declared.leg.Change.{Change}
 use Rattle.cns_actions.specs.declared.leg.Change.TheVariants as change
 use Rattle.cns_actions.specs.declared.leg.Leg.{Leg}
 use Rattle.cns_actions.specs.Legs.{cents_booked, entering, leaving, leg_entries, leg_entry, shares_booked, splitting}
-use Rattle.cns_actions.specs.Booked.{CanBeBooked, IsForAnother, all_entries, books, entries_of, first_entries, firsts, issue_of, leg_too_large, legs_entries, legs_too_large, position_after, position_at, positions_in}
+use Rattle.cns_actions.specs.Booked.{CanBeBooked, IsForAnother, all_entries, entries_of, first_entries, firsts, issue_of, leg_too_large, legs_entries, legs_too_large, position_after, position_at, positions_in}
 use Rattle.cns_actions.proofs.Bookings.{all_shares_elsewhere}
 use Rattle.cns_actions.proofs.Members.{any_holder, given_once, other, over_holders, skipped}
 

@@ -5,14 +5,11 @@ use Rattle.cns_units.specs.declared.account.Account.{Account}
 use Rattle.cns_units.specs.declared.account.Member.{Member}
 use Rattle.cns_units.specs.declared.cusip.Cusip.{Cusip}
 use Rattle.cns_terms.specs.declared.holding.Entry.{Entry}
-use Rattle.cns_terms.specs.declared.holding.Holding.{Holding}
 use Rattle.cns_terms.specs.declared.holding.Key.{Key}
-use Rattle.cns_terms.specs.Actions.{against_corporation, exchange_entries, split_entries}
-use Rattle.cns_terms.specs.Entries.{corporation}
+use Rattle.cns_terms.specs.Entries.{against_corporation, corporation, exchange_entries, split_entries}
 use Rattle.cns_terms.specs.Limits.{amount_limit, corporation_limit, member_limit, position_limit}
-use Rattle.cns_terms.specs.Positions.{cents_for, shares_for}
 use Rattle.cns_terms.specs.Refusals.{is_beyond}
-use Rattle.cns_terms.specs.Sums.{same_issue, total}
+use Rattle.cns_terms.specs.Sums.{same_issue}
 use Rattle.cns_positions.specs.Rows.{Rows, holding_at}
 use Rattle.cns_actions.specs.declared.action.Action.{Action}
 use Rattle.cns_actions.specs.declared.action.Action.TheVariants as action
@@ -26,10 +23,6 @@ position_at rows a c = (holding_at rows (record { account = a; issue = c })).now
 -- the positions in an issue, by account
 abbrev pub positions_in : Rows → Cusip → Account → ℤ
 positions_in rows c a = position_at rows a c
-
--- what entries make of what stands at a key: its opening and its run stay
-abbrev pub books : List Entry → Key → Holding → Holding
-books es k h = record h { now = total (shares_for k.account k.issue) es +ℤ h.now; contract = total (cents_for k.account k.issue) es +ℤ h.contract }
 
 -- the issue whose positions count
 abbrev pub issue_of : Action → Cusip

@@ -5,9 +5,8 @@ use Rattle.cns_units.specs.declared.account.Member.{Member}
 use Rattle.cns_terms.specs.declared.action.Exchange.{Exchange}
 use Rattle.cns_terms.specs.declared.action.Split.{Split}
 use Rattle.cns_terms.specs.declared.holding.Entry.{Entry}
-use Rattle.cns_terms.specs.Actions.{against_corporation, holders}
 use Rattle.cns_terms.specs.Conversions.{converted, in_exchange, in_lieu}
-use Rattle.cns_terms.specs.Entries.{entry}
+use Rattle.cns_terms.specs.Entries.{against_corporation, entry, holders}
 use Rattle.cns_actions.specs.declared.leg.Change.{Change}
 use Rattle.cns_actions.specs.declared.leg.Change.TheVariants as change
 use Rattle.cns_actions.specs.declared.leg.Leg.{Leg}

@@ -8,9 +8,9 @@ ghost use Rattle.cns_terms.specs.Keys.{key_cmp};
 ghost use Rattle.cns_terms.specs.Limits.{member_limit, position_limit};
 ghost use Rattle.cns_terms.specs.Refusals.{is_beyond};
 ghost use Rattle.cns_terms.specs.Sums.{total};
-ghost use Rattle.cns_positions.specs.Rows.{booked, entry_of, holding_at};
+ghost use Rattle.cns_positions.specs.Rows.{booked, books, entry_of, holding_at};
 ghost use Rattle.cns_actions.specs.Legs.{cents_booked, leg_entry, shares_booked};
-ghost use Rattle.cns_actions.specs.Booked.{CanBeBooked, HasSpace, all_entries, books, first_entries, firsts, position_after, position_at, positions_in};
+ghost use Rattle.cns_actions.specs.Booked.{CanBeBooked, HasSpace, all_entries, first_entries, firsts, position_after, position_at, positions_in};
 
 use crate::leg::{Leg, booked_for};
 use cns_positions::Positions;

@@ -3,10 +3,11 @@ ghost use Rattle.std.specs.Prelude.{◌≡◌, ◌↔◌, ◌++◌, List, Err, t
 ghost use Rattle.std.specs.FinMap.{is_sorted};
 ghost use Rattle.cns_units.specs.declared.account.Member.{Member};
 ghost use Rattle.cns_terms.specs.declared.holding.Key.{Key};
-ghost use Rattle.cns_terms.specs.Actions.{AreHolders, are_too_large};
+ghost use Rattle.cns_terms.specs.Actions.{AreHolders};
+ghost use Rattle.cns_terms.specs.Refusals.{are_too_large};
 ghost use Rattle.cns_terms.specs.Keys.{key_cmp};
-ghost use Rattle.cns_positions.specs.Rows.{holding_at};
-ghost use Rattle.cns_actions.specs.Booked.{CanBeBooked, IsForAnother, books, entries_of, issue_of, legs_entries, legs_too_large, position_at, positions_in};
+ghost use Rattle.cns_positions.specs.Rows.{books, holding_at};
+ghost use Rattle.cns_actions.specs.Booked.{CanBeBooked, IsForAnother, entries_of, issue_of, legs_entries, legs_too_large, position_at, positions_in};
 
 use crate::action::Action;
 use crate::booking::{book_leg, is_too_large};
@@ -29,8 +30,8 @@ fn takes_any_beyond<P: Positions<B>, B>(positions: &P, action: &Action) -> bool
 }
 
 // Books the legs of a split or an exchange on a copy.
-fn booked<P: Positions<B>, B, A: Allocator + Drop>(
-    alloc: A,
+fn booked<P: Positions<B>, B, A: Allocator + Drop + Clone>(
+    alloc: &A,
     positions: &P,
     action: &Action,
 ) -> Result<P, NoMemory>
@@ -39,7 +40,7 @@ fn booked<P: Positions<B>, B, A: Allocator + Drop>(
     ensures booked { IfOk result (λ p. (k : Key) → holding_at (P.rows p) k ≡ books (legs_entries action.now (P.rows positions.now)) k (holding_at (P.rows positions.now) k)) }
     ensures order { IfOk result (λ p. is_sorted key_cmp (P.rows p) ≡ true) }
 {
-    let mut next = copy(alloc, positions)?;
+    let mut next = copy(alloc.clone()?, positions)?;
     match action {
         Action::Split(split) => book_leg(&mut next, positions, &splitting(split))?,
         Action::Exchange(exchange) => {
@@ -62,12 +63,13 @@ fn booked<P: Positions<B>, B, A: Allocator + Drop>(
 /// for first, and takes no memory. `NoMemory` where a growth was refused.
 ///
 /// For any list of members that names nobody twice and leaves nobody out who has a position in the issue, the entries
-/// are those of the definitions (`Actions.antt` in `cns_terms`).
+/// are those of the definitions (`Entries.antt` in `cns_terms`).
 ///
 /// It looks up the 9,999 places that members can have in the issue, twice for a split and three times for an exchange;
-/// it goes through all rows once, builds them anew once, and books there. `alloc` keeps a list of the rows meanwhile.
-pub fn next_positions<P: Positions<B>, B, A: Allocator + Drop>(
-    alloc: A,
+/// it goes through all rows once, builds them anew once, and books there. A copy of `alloc` keeps a list of the rows
+/// meanwhile.
+pub fn next_positions<P: Positions<B>, B, A: Allocator + Drop + Clone>(
+    alloc: &A,
     positions: &P,
     action: &Action,
 ) -> Result<P, ActionFault>

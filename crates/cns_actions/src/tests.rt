@@ -129,7 +129,7 @@ fn is_for_another(action: &Action) -> bool
 }
 
 // The positions after a split or an exchange, where the test says that it is for another issue.
-fn after<P: Positions<A>, A, B: Allocator + Drop>(
+fn after<P: Positions<A>, A, B: Allocator + Drop + Clone>(
     rt: &impl Abort,
     alloc: B,
     positions: &P,
@@ -138,7 +138,7 @@ fn after<P: Positions<A>, A, B: Allocator + Drop>(
     requires { CanBeBooked (P.rows positions.now) }
 {
     assert!(rt; is_for_another(action));
-    next_positions(alloc, positions, action)
+    next_positions(&alloc, positions, action)
 }
 
 // Checks what stands at places after a split or an exchange of what was booked before.

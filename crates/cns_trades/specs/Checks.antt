@@ -9,7 +9,7 @@ use Rattle.cns_terms.specs.declared.refusal.Refusal.{Refusal}
 use Rattle.cns_terms.specs.declared.refusal.Refusal.TheVariants.{NoSuchMember, NoSuchIssue, Retired, SameParty, WrongDay, SeenReference, ExceedsPosition, NotOnHand, NotLong, TooLarge}
 use Rattle.cns_terms.specs.Days.{is_same_day}
 use Rattle.cns_terms.specs.Entries.{corporation, buyer_entry, seller_entry, moved_in, moved_out}
-use Rattle.cns_terms.specs.Limits.{booking_limit, corporation_limit}
+use Rattle.cns_terms.specs.Limits.{corporation_limit, money_limit}
 use Rattle.cns_terms.specs.Refusals.{Rule, first_refusal, is_beyond, is_exceeded}
 use Rattle.cns_terms.specs.Sums.{short}
 use Rattle.cns_trades.specs.declared.facts.MoveFacts.{MoveFacts}
@@ -64,10 +64,10 @@ delivery_answer f m = refusal_or (delivery_rules f m) (moved_in m.member m ∷ m
 abbrev pub receipt_answer : MoveFacts → Movement → Result (List Entry) Refusal
 receipt_answer f m = refusal_or (receipt_rules f m) (moved_out m.member m ∷ moved_in corporation m ∷ [])
 
--- an entry is no larger than an activity can make it
+-- an entry is no larger than a trade or a movement can make it
 pub record IsSmallEntry (e : Entry) : Type 0 where
   pub shares : unsigned_abs e.shares ≤ corporation_limit
-  pub cents : unsigned_abs e.cents ≤ booking_limit
+  pub cents : unsigned_abs e.cents ≤ money_limit
 
 -- and so is each of a list
 abbrev pub AreSmallEntries : List Entry → Type 0

@@ -3,8 +3,8 @@ use Rattle.std.proofs.lemmas.Int.{ints}
 use Rattle.cns_terms.specs.declared.holding.Entry.{Entry}
 use Rattle.cns_terms.specs.declared.holding.Key.{Key}
 use Rattle.cns_terms.specs.Sums.{total}
-use Rattle.cns_positions.specs.Rows.{booked, holding_at}
-use Rattle.cns_actions.specs.Booked.{books, first_entries, firsts, positions_in}
+use Rattle.cns_positions.specs.Rows.{booked, books, holding_at}
+use Rattle.cns_actions.specs.Booked.{first_entries, firsts, positions_in}
 use Rattle.cns_actions.specs.Legs.{leg_entry}
 use Rattle.cns_actions.proofs.Bookings.{books_more, books_none, cents_still, firsts_more, shares_still}
 use Rattle.cns_actions.proofs.booking.book_members.Goals as goal

@@ -3,8 +3,8 @@ use Rattle.std.specs.FinMap.{is_sorted}
 use Rattle.cns_terms.specs.declared.holding.Key.{Key}
 use Rattle.cns_terms.specs.Keys.{key_cmp}
 use Rattle.cns_terms.specs.Sums.{total}
-use Rattle.cns_positions.specs.Rows.{holding_at}
-use Rattle.cns_actions.specs.Booked.{books, first_entries, positions_in}
+use Rattle.cns_positions.specs.Rows.{books, holding_at}
+use Rattle.cns_actions.specs.Booked.{first_entries, positions_in}
 use Rattle.cns_actions.proofs.booking.book_members.Given as goal
 
 abbrev pub invariant-loop-passed : goal.invariant-loop-passed

@@ -1,6 +1,6 @@
 use Rattle.std.proofs.Common.{◌≡◌, ◌∙◌, ap, pos, ◌*ℤ◌, ◌-ℤ◌, int_div, rules, w64, FitsSigned}
 use Rattle.std.proofs.lemmas.Int.{rem_is}
-use Rattle.cns_actions.proofs.Quotients.{rest_of}
+use Rattle.cns_terms.proofs.Quotients.{rest_of}
 use Rattle.cns_actions.proofs.conversion.fraction.Goals as goal
 
 pub returns-clause-exact : goal.returns-clause-exact

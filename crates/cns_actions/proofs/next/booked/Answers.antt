@@ -1,9 +1,9 @@
 use Rattle.std.proofs.Common.{◌≡◌, ◌∙◌, ap, subst, sym, false}
 use Rattle.cns_terms.specs.Sums.{same_issue}
-use Rattle.cns_positions.specs.Rows.{holding_at}
+use Rattle.cns_positions.specs.Rows.{books, holding_at}
 use Rattle.cns_actions.specs.declared.action.Action.{Action}
 use Rattle.cns_actions.specs.declared.leg.Leg.{Leg}
-use Rattle.cns_actions.specs.Booked.{IsForAnother, all_entries, books, legs_entries, positions_in}
+use Rattle.cns_actions.specs.Booked.{IsForAnother, all_entries, legs_entries, positions_in}
 use Rattle.cns_actions.specs.Legs.{entering, leaving}
 use Rattle.cns_actions.proofs.Bookings.{books_append, space_first, space_next}
 use Rattle.cns_actions.proofs.next.booked.Goals as goal

@@ -1,5 +1,5 @@
 use Rattle.std.proofs.Common.{◌≡◌, ◌∙◌, sym, refl, Bool, true, false}
-use Rattle.cns_terms.specs.Actions.{are_too_large}
+use Rattle.cns_terms.specs.Refusals.{are_too_large}
 use Rattle.cns_positions.specs.Rows.{holding_at}
 use Rattle.cns_actions.specs.Booked.{entries_of, issue_of, position_at, positions_in}
 use Rattle.cns_actions.proofs.Named.{same_books, same_large}
