@@ -20,12 +20,16 @@ use Rattle.cns_terms.proofs.Finds.{find_filter, kept_if, same_lists, sorted_filt
 use Rattle.cns_terms.proofs.Keys.{exact_keys, keys_total}
 use Rattle.cns_terms.proofs.SheetRows.{says}
 use Rattle.cns_terms.proofs.SheetSums.{idle_parts, kept_or_not}
-use Rattle.cns_terms.proofs.Totals.{total-add, total-neg, total-same, total-zero}
+use Rattle.cns_terms.proofs.Totals.{total-add, total-neg, total-same}
 use Rattle.cns_terms.proofs.ZeroSums.{total-times}
-use Rattle.cns_positions.specs.Rows.{Rows, zeros}
+use Rattle.cns_positions.specs.Rows.{Rows, held_above, holding_at, is_held, zeros}
 use Rattle.cns_prices.specs.Listed.{Listed, price_in}
-use Rattle.cns_sheets.specs.Build.{AreBalanced, PriceList, by_key, closing_in, price_on, prices_of, row_from, rows_from, worth}
+use Rattle.cns_sheets.specs.Build.{AreBalanced, by_key, closing_in, price_on, prices_of, worth}
 use Rattle.cns_sheets.specs.Condition.{CanBeCut, held_in, rows_before}
+use Rattle.cns_sheets.specs.Payments.{Paying}
+use Rattle.cns_sheets.specs.Woven.{CentsByKey, Woven, weave}
+use Rattle.cns_sheets.proofs.Kept.{held_stands, row_from}
+use Rattle.cns_sheets.proofs.Weaving.{both_at, find_weave, sorted_weave}
 
 -- ---- sums by issue
 
@@ -134,38 +138,44 @@ alike (Some m) None h = ap (λ b. cond b (Some m) None) (no_count m h)
 alike (Some m) (Some n) h = ap (λ k. cond (counts k) (Some k) None) h
 
 -- the numbers in an issue
-abbrev numbers_in : Cusip → Key × ℤ → ℤ
+abbrev pub numbers_in : Cusip → Key × ℤ → ℤ
 numbers_in c e = cond (same_issue e.0.issue c) e.1 (pos 0)
 
 pub zero_in : (b : Bool) (n : ℤ) → n ≡ pos 0 → cond b n (pos 0) ≡ pos 0
 zero_in true n h = h
 zero_in false n h = refl
 
-counted : (c : Cusip) (xs : List (Key × ℤ)) → total (numbers_in c) (filter (λ e. counts e.1) xs) ≡ total (numbers_in c) xs
-counted c [] = refl
-counted c (e ∷ xs) =
-    kept_or_not (numbers_in c) (counts e.1) e (filter (λ e. counts e.1) xs) (λ h. zero_in (same_issue e.0.issue c) e.1 (counts_or_zero e.1 h))
-    ∙ ap (λ n. numbers_in c e +ℤ n) (counted c xs)
+module _ (f : Key × ℤ → ℤ) (nothing : (k : Key) → f (k, pos 0) ≡ pos 0) where
+  -- zeros add nothing
+  counted : (xs : List (Key × ℤ)) → total f (filter (λ e. counts e.1) xs) ≡ total f xs
+  counted [] = refl
+  counted (e ∷ xs) =
+      kept_or_not f (counts e.1) e (filter (λ e. counts e.1) xs) (λ h. ap (λ n. f (e.0, n)) (counts_or_zero e.1 h) ∙ nothing e.0)
+      ∙ ap (λ n. f e +ℤ n) (counted xs)
 
--- they have the same sums
-same_sums : (c : Cusip) (xs ys : List (Key × ℤ)) → is_sorted key_cmp xs ≡ true → is_sorted key_cmp ys ≡ true → ((k : Key) → unwrap_or (find key_cmp k xs) (pos 0) ≡ unwrap_or (find key_cmp k ys) (pos 0)) → total (numbers_in c) xs ≡ total (numbers_in c) ys
-same_sums c xs ys s t h =
-    sym (counted c xs)
-    ∙ ap (total (numbers_in c)) (same_lists keys_total exact_keys (filter (λ e. counts e.1) xs) (filter (λ e. counts e.1) ys) (sorted_filter keys_total counts xs s) (sorted_filter keys_total counts ys t)
-    (λ k. find_filter keys_total counts k xs s ∙ alike (find key_cmp k xs) (find key_cmp k ys) (h k) ∙ sym (find_filter keys_total counts k ys t)))
-    ∙ counted c ys
+  -- they have the same sums
+  pub same_sums : (xs ys : List (Key × ℤ)) → is_sorted key_cmp xs ≡ true → is_sorted key_cmp ys ≡ true → ((k : Key) → unwrap_or (find key_cmp k xs) (pos 0) ≡ unwrap_or (find key_cmp k ys) (pos 0)) → total f xs ≡ total f ys
+  same_sums xs ys s t h =
+      sym (counted xs)
+      ∙ ap (total f) (same_lists keys_total exact_keys (filter (λ e. counts e.1) xs) (filter (λ e. counts e.1) ys) (sorted_filter keys_total counts xs s) (sorted_filter keys_total counts ys t)
+      (λ k. find_filter keys_total counts k xs s ∙ alike (find key_cmp k xs) (find key_cmp k ys) (h k) ∙ sym (find_filter keys_total counts k ys t)))
+      ∙ counted ys
+
+-- none of an issue
+pub none_in : (c : Cusip) (k : Key) → numbers_in c (k, pos 0) ≡ pos 0
+none_in c k = zero_in (same_issue k.issue c) (pos 0) refl
 
 -- ---- one number of each value
 
 module _ {V : Type 0} (f : V → ℤ) where
-  abbrev numbers : List (Key × V) → List (Key × ℤ)
+  abbrev pub numbers : List (Key × V) → List (Key × ℤ)
   numbers es = map (λ e. (e.0, f e.1)) es
 
   below_numbers : (k : Key) (es : List (Key × V)) → below_all key_cmp k es ≡ true → below_all key_cmp k (numbers es) ≡ true
   below_numbers k [] h = refl
   below_numbers k (e ∷ es) h = both_true _ _ (and_left _ _ h) (below_numbers k es (and_right _ _ h))
 
-  sorted_numbers : (es : List (Key × V)) → is_sorted key_cmp es ≡ true → is_sorted key_cmp (numbers es) ≡ true
+  pub sorted_numbers : (es : List (Key × V)) → is_sorted key_cmp es ≡ true → is_sorted key_cmp (numbers es) ≡ true
   sorted_numbers [] h = refl
   sorted_numbers (e ∷ es) h = both_true _ _ (below_numbers e.0 es (and_left _ _ h)) (sorted_numbers es (and_right _ _ h))
 
@@ -173,78 +183,127 @@ module _ {V : Type 0} (f : V → ℤ) where
   found_branch true v n o p h = refl
   found_branch false v n o p h = h
 
-  found_number : (k : Key) (n : ℤ) (es : List (Key × V)) → unwrap_or (find key_cmp k (numbers es)) n ≡ option_map_or f (find key_cmp k es) n
+  pub found_number : (k : Key) (n : ℤ) (es : List (Key × V)) → unwrap_or (find key_cmp k (numbers es)) n ≡ option_map_or f (find key_cmp k es) n
   found_number k n [] = refl
   found_number k n (e ∷ es) = found_branch (is_eq (key_cmp k e.0)) e.1 n _ _ (found_number k n es)
 
-  total_numbers : (c : Cusip) (es : List (Key × V)) → total (numbers_in c) (numbers es) ≡ total (λ e. cond (same_issue e.0.issue c) (f e.1) (pos 0)) es
-  total_numbers c [] = refl
-  total_numbers c (e ∷ es) = ap (λ n. cond (same_issue e.0.issue c) (f e.1) (pos 0) +ℤ n) (total_numbers c es)
+  pub total_numbers : (s : Key × ℤ → ℤ) (es : List (Key × V)) → total s (numbers es) ≡ total (λ e. s (e.0, f e.1)) es
+  total_numbers s [] = refl
+  total_numbers s (e ∷ es) = ap (λ n. s (e.0, f e.1) +ℤ n) (total_numbers s es)
 
--- ---- rows and holdings
+-- ---- rows, holdings and cents
 
-opening_or_zero : (o : Option Holding) → option_map_or (λ h. h.opening) o (pos 0) ≡ (unwrap_or o zeros).opening
-opening_or_zero None = refl
-opening_or_zero (Some h) = refl
+-- a number of a holding, or zero
+held_number : (g : Holding → ℤ) → pos 0 ≡ g zeros → (o : Option Holding) → option_map_or g o (pos 0) ≡ g (unwrap_or o zeros)
+held_number g z None = z
+held_number g z (Some h) = refl
 
+-- the same with cents beside it
+woven_number : (g : Holding → ℤ) → pos 0 ≡ g zeros → (o : Option Holding) (p : Option ℤ) → option_map_or (λ v. g v.0) (both_at o p) (pos 0) ≡ g (unwrap_or o zeros)
+woven_number g z (Some h) p = refl
+woven_number g z None (Some n) = refl
+woven_number g z None None = z
+
+-- the cents beside a holding, or zero
+woven_cents : (o : Option Holding) (p : Option ℤ) → option_map_or (λ v. v.1) (both_at o p) (pos 0) ≡ unwrap_or p (pos 0)
+woven_cents (Some h) p = refl
+woven_cents None (Some n) = refl
+woven_cents None None = refl
+
+-- the closings of rows, by their keys
 closings_by_key : (c : Cusip) (rows : List Row) → total (λ e. cond (same_issue e.0.issue c) e.1.closing (pos 0)) (by_key rows) ≡ total (closing_in c) rows
 closings_by_key c [] = refl
 closings_by_key c (r ∷ rows) = ap (λ n. closing_in c r +ℤ n) (closings_by_key c rows)
 
 -- a sum over rows that say something
-pub kept_sum : (f : Row → ℤ) (g : Key × Holding → Row) (R : Rows) → ((r : Row) → says r ≡ false → f r ≡ pos 0) → total f (filter says (map g R)) ≡ total (λ e. f (g e)) R
+kept_sum : {X : Type 0} (f : Row → ℤ) (g : X → Row) (xs : List X) → ((x : X) → says (g x) ≡ false → f (g x) ≡ pos 0) → total f (filter says (map g xs)) ≡ total (λ x. f (g x)) xs
 kept_sum f g [] idle = refl
-kept_sum f g (e ∷ R) idle = kept_or_not f (says (g e)) (g e) (filter says (map g R)) (idle (g e)) ∙ ap (λ n. f (g e) +ℤ n) (kept_sum f g R idle)
+kept_sum f g (x ∷ xs) idle = kept_or_not f (says (g x)) (g x) (filter says (map g xs)) (idle x) ∙ ap (λ n. f (g x) +ℤ n) (kept_sum f g xs idle)
 
 -- a row that says nothing has no closing, and by the rule of marks no mark
-pub idle_closing : (c : Cusip) (r : Row) → says r ≡ false → closing_in c r ≡ pos 0
+idle_closing : (c : Cusip) (r : Row) → says r ≡ false → closing_in c r ≡ pos 0
 idle_closing c r h = zero_in (same_issue r.issue c) r.closing (idle_parts r h).1
 
-module _ (before : Option DaySheet) (prices : Listed) (R : Rows) (sorted : is_sorted key_cmp R ≡ true) (rise : is_sorted key_cmp (by_key (rows_before before)) ≡ true)
-    (closed : (c : Cusip) → total (closing_in c) (rows_before before) ≡ pos 0) (ready : CanBeCut before prices R) where
-  abbrev old : PriceList
-  old = prices_of before
+module _ (before : Option DaySheet) (prices : Listed) (R : Rows) (ps : List Paying) (cs : CentsByKey) (sorted : is_sorted key_cmp R ≡ true) (cents_rise : is_sorted key_cmp cs ≡ true) (zero : total (λ e. e.1) cs ≡ pos 0)
+    (rise : is_sorted key_cmp (by_key (rows_before before)) ≡ true) (closed : (c : Cusip) → total (closing_in c) (rows_before before) ≡ pos 0) (ready : CanBeCut before prices R ps) where
+  -- the holdings with the cents of their keys
+  abbrev woven : Woven
+  woven = weave (held_above R None) cs
+
+  -- they are in order
+  woven_rise : is_sorted key_cmp woven ≡ true
+  woven_rise = sorted_weave (held_above R None) cs (sorted_filter keys_total is_held R sorted) cents_rise
+
+  -- what stands at a key
+  found : (k : Key) → find key_cmp k woven ≡ both_at (find key_cmp k (held_above R None)) (find key_cmp k cs)
+  found k = find_weave k (held_above R None) cs (sorted_filter keys_total is_held R sorted)
+
+  -- a number of what stands at a key
+  number_at : (g : Holding → ℤ) → pos 0 ≡ g zeros → (k : Key) → unwrap_or (find key_cmp k (numbers (λ v. g v.0) woven)) (pos 0) ≡ g (holding_at R k)
+  number_at g z k =
+      found_number (λ v. g v.0) k (pos 0) woven
+      ∙ ap (λ o. option_map_or (λ v. g v.0) o (pos 0)) (found k)
+      ∙ woven_number g z (find key_cmp k (held_above R None)) (find key_cmp k cs)
+      ∙ ap g (held_stands R sorted k)
+
+  -- sums in an issue are those over positions
+  held_sums : (g : Holding → ℤ) → pos 0 ≡ g zeros → (c : Cusip) → total (λ e. cond (same_issue e.0.issue c) (g e.1.0) (pos 0)) woven ≡ total (held_in g c) R
+  held_sums g z c =
+      sym (total_numbers (λ v. g v.0) (numbers_in c) woven)
+      ∙ same_sums (numbers_in c) (none_in c) (numbers (λ v. g v.0) woven) (numbers g R) (sorted_numbers (λ v. g v.0) woven woven_rise) (sorted_numbers g R sorted)
+      (λ k. number_at g z k ∙ sym (held_number g z (find key_cmp k R)) ∙ sym (found_number g k (pos 0) R))
+      ∙ total_numbers g (numbers_in c) R
 
   -- the openings of an issue add up to zero, as the closings before did
-  openings : (c : Cusip) → total (held_in (λ h. h.opening) c) R ≡ pos 0
+  openings : (c : Cusip) → total (λ e. cond (same_issue e.0.issue c) e.1.0.opening (pos 0)) woven ≡ pos 0
   openings c =
-      sym (total_numbers (λ h. h.opening) c R)
-      ∙ same_sums c (numbers (λ h. h.opening) R) (numbers (λ r. r.closing) (by_key (rows_before before))) (sorted_numbers (λ h. h.opening) R sorted) (sorted_numbers (λ r. r.closing) (by_key (rows_before before)) rise)
-      (λ k. found_number (λ h. h.opening) k (pos 0) R ∙ opening_or_zero (find key_cmp k R) ∙ ready.openings k ∙ sym (found_number (λ r. r.closing) k (pos 0) (by_key (rows_before before))))
-      ∙ total_numbers (λ r. r.closing) c (by_key (rows_before before))
+      sym (total_numbers (λ v. v.0.opening) (numbers_in c) woven)
+      ∙ same_sums (numbers_in c) (none_in c) (numbers (λ v. v.0.opening) woven) (numbers (λ r. r.closing) (by_key (rows_before before))) (sorted_numbers (λ v. v.0.opening) woven woven_rise) (sorted_numbers (λ r. r.closing) (by_key (rows_before before)) rise)
+      (λ k. number_at (λ h. h.opening) refl k ∙ ready.openings k ∙ sym (found_number (λ r. r.closing) k (pos 0) (by_key (rows_before before))))
+      ∙ total_numbers (λ r. r.closing) (numbers_in c) (by_key (rows_before before))
       ∙ closings_by_key c (rows_before before)
       ∙ closed c
+
+  -- the cents of dividends add up to what all cents do
+  dividends : total (λ e. e.1.1) woven ≡ pos 0
+  dividends =
+      sym (total_numbers (λ v. v.1) (λ e. e.1) woven)
+      ∙ same_sums (λ e. e.1) (λ k. refl) (numbers (λ v. v.1) woven) cs (sorted_numbers (λ v. v.1) woven woven_rise) cents_rise
+      (λ k. found_number (λ v. v.1) k (pos 0) woven ∙ ap (λ o. option_map_or (λ v. v.1) o (pos 0)) (found k) ∙ woven_cents (find key_cmp k (held_above R None)) (find key_cmp k cs))
+      ∙ zero
 
   abbrev price_now : Cusip → ℕ
   price_now c = unwrap_or (price_in prices c) 0
 
   abbrev price_then : Cusip → ℕ
-  price_then c = unwrap_or (price_on old c) 0
+  price_then c = unwrap_or (price_on (prices_of before) c) 0
 
-  no_mark : (e : Key × Holding) → says (row_from old prices e) ≡ false → (row_from old prices e).mark ≡ pos 0
+  -- the row of each
+  abbrev row_of : Key × (Holding × ℤ) → Row
+  row_of = row_from (prices_of before) prices
+
+  -- a row that says nothing has no mark
+  no_mark : (e : Key × (Holding × ℤ)) → says (row_of e) ≡ false → (row_of e).mark ≡ pos 0
   no_mark e h =
-      let p = idle_parts (row_from old prices e) h in
+      let p = idle_parts (row_of e) h in
       rw (p.0, p.1, p.2, zero-*ℤ (pos (price_now e.0.issue)), zero-*ℤ (pos (price_then e.0.issue))) refl
 
-  kept_marks : (S : Rows) → total (λ r. r.mark) (filter says (map (row_from old prices) S)) ≡ total (λ e. (row_from old prices e).mark) S
-  kept_marks [] = refl
-  kept_marks (e ∷ S) = kept_or_not (λ (r : Row). r.mark) (says (row_from old prices e)) (row_from old prices e) (filter says (map (row_from old prices) S)) (no_mark e) ∙ ap (λ n. (row_from old prices e).mark +ℤ n) (kept_marks S)
-
-  marks : total (λ e. (row_from old prices e).mark) R ≡ pos 0
+  -- the marks add up to zero
+  marks : total (λ e. (row_of e).mark) woven ≡ pos 0
   marks =
-      total-add (λ e. worth e.1.now (price_now e.0.issue) -ℤ worth e.1.opening (price_then e.0.issue)) (λ e. e.1.contract) R
+      total-add (λ e. worth e.1.0.now (price_now e.0.issue) -ℤ worth e.1.0.opening (price_then e.0.issue)) (λ e. e.1.0.contract) woven
       ∙ rw (
-        total-add (λ e. worth e.1.now (price_now e.0.issue)) (λ e. neg_ℤ (worth e.1.opening (price_then e.0.issue))) R,
-        total-neg (λ e. worth e.1.opening (price_then e.0.issue)) R,
-        zero_weighed (λ e. e.0.issue) (λ e. e.1.now) price_now R ready.shares,
-        zero_weighed (λ e. e.0.issue) (λ e. e.1.opening) price_then R openings,
-        zero_by_issue (λ e. e.0.issue) (λ e. e.1.contract) R ready.cents,
+        total-add (λ e. worth e.1.0.now (price_now e.0.issue)) (λ e. neg_ℤ (worth e.1.0.opening (price_then e.0.issue))) woven,
+        total-neg (λ e. worth e.1.0.opening (price_then e.0.issue)) woven,
+        zero_weighed (λ e. e.0.issue) (λ e. e.1.0.now) price_now woven (λ c. held_sums (λ h. h.now) refl c ∙ ready.shares c),
+        zero_weighed (λ e. e.0.issue) (λ e. e.1.0.opening) price_then woven openings,
+        zero_by_issue (λ e. e.0.issue) (λ e. e.1.0.contract) woven (λ c. held_sums (λ h. h.contract) refl c ∙ ready.cents c),
       ) refl
 
   -- what a sheet keeps of sums holds of the rows that are cut
-  pub cut_balanced : AreBalanced (rows_from old prices R)
+  pub cut_balanced : AreBalanced (filter says (map row_of woven))
   cut_balanced = record {
-    closings = λ c. kept_sum (closing_in c) (row_from old prices) R (idle_closing c) ∙ ready.shares c;
-    marks = kept_marks R ∙ marks;
-    dividends = kept_sum (λ r. r.dividend) (row_from old prices) R (λ r h. (idle_parts r h).3) ∙ total-zero R;
+    closings = λ c. kept_sum (closing_in c) row_of woven (λ e. idle_closing c (row_of e)) ∙ held_sums (λ h. h.now) refl c ∙ ready.shares c;
+    marks = kept_sum (λ r. r.mark) row_of woven no_mark ∙ marks;
+    dividends = kept_sum (λ r. r.dividend) row_of woven (λ e h. (idle_parts (row_of e) h).3) ∙ dividends;
   }

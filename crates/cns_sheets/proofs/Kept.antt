@@ -1,37 +1,31 @@
 -- What a sheet keeps of the rows that it is built from.
-use Rattle.std.proofs.Common.{◌≡◌, ◌∙◌, ap, refl, Bool, true, false, cond, List, [], ◌∷◌, map, filter}
-use Rattle.std.proofs.Common.{None, Some, not, unwrap_or}
+use Rattle.std.proofs.Common.{◌≡◌, ◌∙◌, ap, sym, refl, ℤ, pos, Bool, true, false, ◌&&◌, cond, List, [], ◌∷◌, map, filter, Option, None, Some, not, unwrap_or, eqb}
 use Rattle.std.specs.Prelude.{option_map}
+use Rattle.std.specs.Cmp.{signed_Decides}
 use Rattle.std.specs.Cmp.Lexicographic.{slice_cmp}
 use Rattle.std.specs.FinMap.{find, is_sorted}
 use Rattle.std.specs.FinMap.Entries.{below_all}
-use Rattle.std.specs.Ordering.{is_eq, nat_cmp}
+use Rattle.std.specs.Ordering.{int_eq, is_eq, nat_cmp}
+use Rattle.std.proofs.lemmas.Bool.{eqb-true}
 use Rattle.cns_units.specs.declared.cusip.Cusip.{Cusip}
+use Rattle.cns_terms.specs.declared.holding.Holding.{Holding}
+use Rattle.cns_terms.specs.declared.holding.Key.{Key}
 use Rattle.cns_terms.specs.declared.sheet.Row.{Row}
 use Rattle.cns_terms.specs.Keys.{key_cmp}
 use Rattle.cns_terms.specs.Sheets.{is_idle}
-use Rattle.cns_terms.proofs.Facts.{and_left, and_right, both_true}
-use Rattle.cns_terms.proofs.Finds.{sorted_filter}
-use Rattle.cns_terms.proofs.Keys.{keys_total}
-use Rattle.cns_terms.proofs.SheetRows.{Keyed, keyed, says, sorted_keyed}
-use Rattle.cns_positions.specs.Rows.{Rows}
+use Rattle.cns_terms.proofs.Facts.{and_left, and_right, both_true, equal, holds}
+use Rattle.cns_terms.proofs.Finds.{find_filter, kept_if, sorted_filter}
+use Rattle.cns_terms.proofs.Keys.{exact_keys, keys_total}
+use Rattle.cns_terms.proofs.SheetRows.{says}
+use Rattle.cns_positions.specs.Rows.{Rows, held_above, holding_at, is_held, zeros}
 use Rattle.cns_prices.specs.Listed.{Listed, listed_above, price_in, quote_in}
-use Rattle.cns_sheets.specs.Build.{PriceList, key_of, listed_rows, price_on, priced_row, row_from, rows_from}
+use Rattle.cns_sheets.specs.Build.{PriceList, by_key, key_of, price_on, priced_row}
+use Rattle.cns_sheets.specs.Payments.{IsCut, Paying, dividend_of, said}
+use Rattle.cns_sheets.specs.Search.{row_at}
+use Rattle.cns_sheets.specs.Woven.{CentsByKey, Woven, cents_at, weave, woven_rows}
+use Rattle.cns_sheets.proofs.Weaving.{both_at, find_weave, sorted_weave}
 
--- one row more, or not, with its key
-pub with_key : (b : Bool) (r : Row) (rs : List Row) (es : Keyed) → map (λ r. (key_of r, r)) rs ≡ es → map (λ r. (key_of r, r)) (cond b (r ∷ rs) rs) ≡ cond b ((key_of r, r) ∷ es) es
-with_key true r rs es h = ap (λ xs. (key_of r, r) ∷ xs) h
-with_key false r rs es h = h
-
--- the rows made of holdings, with their keys
-with_keys : (before : PriceList) (prices : Listed) (R : Rows) → map (λ r. (key_of r, r)) (rows_from before prices R) ≡ filter (λ e. says e.1) (keyed (row_from before prices) R)
-with_keys before prices [] = refl
-with_keys before prices (e ∷ R) = with_key (says (row_from before prices e)) (row_from before prices e) (rows_from before prices R) _ (with_keys before prices R)
-
--- rows made of holdings in the order of keys are in that order
-pub rows_rise : (before : PriceList) (prices : Listed) (R : Rows) → is_sorted key_cmp R ≡ true → is_sorted key_cmp (map (λ r. (key_of r, r)) (rows_from before prices R)) ≡ true
-rows_rise before prices R h =
-    ap (is_sorted key_cmp) (with_keys before prices R) ∙ sorted_filter keys_total says (keyed (row_from before prices) R) (sorted_keyed (row_from before prices) R h)
+-- ---- prices
 
 -- an issue below all is below the listed ones
 below_listed : (c : Cusip) (es : Listed) → below_all (slice_cmp nat_cmp) c es ≡ true → below_all (slice_cmp nat_cmp) c (listed_above es None) ≡ true
@@ -52,6 +46,110 @@ listed_found c (e ∷ es) = found (is_eq (slice_cmp nat_cmp c e.0)) (listed_foun
     found true h = refl
     found false h = h
 
+-- the row of a holding and cents, by the prices of the close before and of this one
+abbrev pub row_from : PriceList → Listed → Key × (Holding × ℤ) → Row
+row_from before prices e = priced_row (unwrap_or (price_on before e.0.issue) 0) (unwrap_or (price_in prices e.0.issue) 0) e.1.1 (e.0, e.1.0)
+
 -- the rows by the list of this close's prices are those by the prices themselves
-pub rows_listed : (before : PriceList) (prices : Listed) (R : Rows) → listed_rows before (listed_above prices None) R ≡ rows_from before prices R
-rows_listed before prices R i = filter (λ r. not (is_idle r)) (map (λ e. priced_row (unwrap_or (price_on before e.0.issue) 0) (unwrap_or (listed_found e.0.issue prices i) 0) e) R)
+pub rows_listed : (before : PriceList) (prices : Listed) (es : Woven) → woven_rows before (listed_above prices None) es ≡ filter says (map (row_from before prices) es)
+rows_listed before prices es i = filter says (map (λ e. priced_row (unwrap_or (price_on before e.0.issue) 0) (unwrap_or (listed_found e.0.issue prices i) 0) e.1.1 (e.0, e.1.0)) es)
+
+-- ---- holdings of zeros
+
+-- what is not held is zeros
+unheld_zeros : (h : Holding) → is_held h ≡ false → zeros ≡ h
+unheld_zeros h e =
+    let all = holds (int_eq h.now (pos 0) && int_eq h.opening (pos 0) && int_eq h.contract (pos 0) && eqb h.run 0) e in
+    let three = and_left _ _ all in
+    let two = and_left _ _ three in
+    let now = (signed_Decides h.now (pos 0)).0 (and_left _ _ two) in
+    let opening = (signed_Decides h.opening (pos 0)).0 (and_right _ _ two) in
+    let contract = (signed_Decides h.contract (pos 0)).0 (and_right _ _ three) in
+    let run = eqb-true h.run 0 (and_right _ _ all) in
+    λ i. record { now = sym now i; opening = sym opening i; contract = sym contract i; run = sym run i }
+
+-- a holding of zeros, or another
+held_branch : (b : Bool) (h : Holding) → is_held h ≡ b → unwrap_or (cond b (Some h) None) zeros ≡ h
+held_branch true h e = refl
+held_branch false h e = unheld_zeros h e
+
+-- what is not held counts as zeros
+held_or_zeros : (o : Option Holding) → unwrap_or (kept_if is_held o) zeros ≡ unwrap_or o zeros
+held_or_zeros None = refl
+held_or_zeros (Some h) = held_branch (is_held h) h refl
+
+-- what stands at a key among the holdings that aren't zeros
+pub held_stands : (R : Rows) → is_sorted key_cmp R ≡ true → (k : Key) → unwrap_or (find key_cmp k (held_above R None)) zeros ≡ holding_at R k
+held_stands R s k = ap (λ o. unwrap_or o zeros) (find_filter keys_total is_held k R s) ∙ held_or_zeros (find key_cmp k R)
+
+-- ---- rows with their keys
+
+module _ (f : Key × (Holding × ℤ) → Row) (keyed_so : (e : Key × (Holding × ℤ)) → key_of (f e) ≡ e.0) where
+  -- the row of each, with its key
+  abbrev keyed : Woven → List (Key × Row)
+  keyed es = map (λ e. (e.0, f e)) es
+
+  -- one row more, or not, with its key
+  with_key : (b : Bool) (e : Key × (Holding × ℤ)) (rs : List Row) (es : List (Key × Row)) → by_key rs ≡ es → by_key (cond b (f e ∷ rs) rs) ≡ cond b ((e.0, f e) ∷ es) es
+  with_key true e rs es h = λ i. (keyed_so e i, f e) ∷ h i
+  with_key false e rs es h = h
+
+  -- the rows that say something, with their keys
+  with_keys : (es : Woven) → by_key (filter says (map f es)) ≡ filter (λ e. says e.1) (keyed es)
+  with_keys [] = refl
+  with_keys (e ∷ es) = with_key (says (f e)) e (filter says (map f es)) _ (with_keys es)
+
+  -- the keys keep their order
+  below_keyed : (k : Key) (es : Woven) → below_all key_cmp k es ≡ true → below_all key_cmp k (keyed es) ≡ true
+  below_keyed k [] h = refl
+  below_keyed k (e ∷ es) h = both_true _ _ (and_left _ _ h) (below_keyed k es (and_right _ _ h))
+
+  -- so they are in order
+  sorted_keyed : (es : Woven) → is_sorted key_cmp es ≡ true → is_sorted key_cmp (keyed es) ≡ true
+  sorted_keyed [] h = refl
+  sorted_keyed (e ∷ es) h = both_true _ _ (below_keyed e.0 es (and_left _ _ h)) (sorted_keyed es (and_right _ _ h))
+
+  -- a key that ties, or not
+  find_branch : (b : Bool) (k : Key) (e : Key × (Holding × ℤ)) (o : Option Row) (p : Option (Holding × ℤ)) → (b ≡ true → k ≡ e.0) → o ≡ option_map (λ v. f (k, v)) p → cond b (Some (f e)) o ≡ option_map (λ v. f (k, v)) (cond b (Some e.1) p)
+  find_branch true k e o p same h = ap (λ q. Some (f (q, e.1))) (sym (same refl))
+  find_branch false k e o p same h = h
+
+  -- a search among rows by their keys
+  find_keyed : (k : Key) (es : Woven) → find key_cmp k (keyed es) ≡ option_map (λ v. f (k, v)) (find key_cmp k es)
+  find_keyed k [] = refl
+  find_keyed k (e ∷ es) = find_branch (is_eq (key_cmp k e.0)) k e _ _ (λ h. exact_keys k e.0 (equal _ h)) (find_keyed k es)
+
+  -- rows made of holdings in the order of keys are in that order
+  rows_rise : (es : Woven) → is_sorted key_cmp es ≡ true → is_sorted key_cmp (by_key (filter says (map f es))) ≡ true
+  rows_rise es s = ap (is_sorted key_cmp) (with_keys es) ∙ sorted_filter keys_total says (keyed es) (sorted_keyed es s)
+
+  -- the row of a key is the one that its holding makes
+  row_found : (k : Key) (es : Woven) → is_sorted key_cmp es ≡ true → row_at (filter says (map f es)) k ≡ kept_if says (option_map (λ v. f (k, v)) (find key_cmp k es))
+  row_found k es s = ap (find key_cmp k) (with_keys es) ∙ find_filter keys_total says k (keyed es) (sorted_keyed es s) ∙ ap (kept_if says) (find_keyed k es)
+
+-- the two words for a row that says something
+said_or_not : (b : Bool) (r : Row) → cond (not b) (Some r) None ≡ cond b None (Some r)
+said_or_not true r = refl
+said_or_not false r = refl
+
+module _ (before : PriceList) (prices : Listed) where
+  -- what is kept of a key's row
+  kept_row : (k : Key) (o : Option Holding) (p : Option ℤ) → kept_if says (option_map (λ v. row_from before prices (k, v)) (both_at o p)) ≡ said (row_from before prices (k, (unwrap_or o zeros, unwrap_or p (pos 0))))
+  kept_row k (Some h) p = said_or_not (is_idle (row_from before prices (k, (h, unwrap_or p (pos 0))))) (row_from before prices (k, (h, unwrap_or p (pos 0))))
+  kept_row k None (Some n) = said_or_not (is_idle (row_from before prices (k, (zeros, n)))) (row_from before prices (k, (zeros, n)))
+  kept_row k None None = refl
+
+  -- the rows of holdings and of the cents that dividends book are those that a close cuts
+  pub rows_cut : (R : Rows) (ps : List Paying) (cs : CentsByKey) → is_sorted key_cmp R ≡ true → is_sorted key_cmp cs ≡ true → ((k : Key) → cents_at cs k ≡ dividend_of ps k) → IsCut before prices R ps (filter says (map (row_from before prices) (weave (held_above R None) cs)))
+  rows_cut R ps cs s t cents =
+      let hs = held_above R None in
+      let rise = sorted_filter keys_total is_held R s in
+      let order = sorted_weave hs cs rise t in
+      record {
+        order = rows_rise (row_from before prices) (λ e. refl) (weave hs cs) order;
+        each = λ k.
+            row_found (row_from before prices) (λ e. refl) k (weave hs cs) order
+            ∙ ap (λ o. kept_if says (option_map (λ v. row_from before prices (k, v)) o)) (find_weave k hs cs rise)
+            ∙ kept_row k (find key_cmp k hs) (find key_cmp k cs)
+            ∙ (λ i. said (row_from before prices (k, (held_stands R s k i, cents k i))));
+      }

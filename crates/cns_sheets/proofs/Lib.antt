@@ -1,5 +1,10 @@
+pub mod Weaving
+pub mod Woven
+pub mod Booked
+pub mod Balance
 pub mod HeldRows
 pub mod Kept
-pub mod Searched
+pub mod Empty
+pub mod Tested
 pub mod RowSums
-pub mod Balance
+pub mod Searched

@@ -1,47 +1,74 @@
 -- Sums over rows, one row after another.
-use Rattle.std.proofs.Common.{◌≡◌, ◌∙◌, sym, ap, ℕ, zero, suc, ◌+◌, ◌*◌, ◌^◌, ◌<◌, ◌≤◌, ℤ, ◌+ℤ◌, of_z, to_z, refl, List, [], ◌∷◌, ◌++◌, length, get_or, take, add-one, FitsSigned, arith}
+use Rattle.std.proofs.Common.{◌≡◌, ◌∙◌, sym, ap, ℕ, suc, ◌+◌, ◌*◌, ◌^◌, ◌<◌, ◌≤◌, ℤ, ◌+ℤ◌, ◌-ℤ◌, of_z, to_z, refl, List, [], ◌∷◌, ◌++◌, length, get_or, take, add-one, FitsSigned, arith}
 use Rattle.std.specs.Prelude.{unsigned_abs}
 use Rattle.std.specs.Int.{w128}
 use Rattle.std.specs.List.{AllByRecursion}
 use Rattle.std.proofs.Math.Seq.{take-suc}
 use Rattle.std.proofs.lemmas.Int.{ints, to_z-of_z}
 use Rattle.cns_terms.specs.declared.sheet.Row.{Row}
+use Rattle.cns_terms.specs.Limits.{amount_limit}
 use Rattle.cns_terms.specs.Sums.{total}
-use Rattle.cns_terms.proofs.Totals.{total-append}
-use Rattle.cns_sheets.specs.Build.{IsMarked}
+use Rattle.cns_terms.proofs.Everywhere.{each_weaker}
+use Rattle.cns_terms.proofs.Magnitudes.{added, added-each, front_total}
+use Rattle.cns_terms.proofs.Totals.{total-add, total-append, total-same}
+use Rattle.cns_sheets.specs.Build.{IsMarked, sum_limit}
 
--- the row at a place of marked ones is marked
-pub marked_at : (rows : List Row) (i : ℕ) (d : Row) → AllByRecursion IsMarked rows → i < length rows → IsMarked (get_or rows i d)
-marked_at [] i d a lt = absurd (omega (arith, lt))
-marked_at (r ∷ rows) zero d a lt = a.0
-marked_at (r ∷ rows) (suc i) d a lt = marked_at rows i d a.1 (omega (arith, lt))
+-- one term more
+pub sum_more : {X : Type 0} (f : X → ℤ) (xs : List X) (i : ℕ) (x : X) → i < length xs → x ≡ get_or xs i x → total f (take i xs) +ℤ f x ≡ total f (take (i + 1) xs)
+sum_more f xs i x lt is =
+    let one : total f (x ∷ []) ≡ f x = omega (arith, ints) in
+    let whole : take (suc i) xs ≡ take i xs ++ (x ∷ []) = take-suc xs i x lt ∙ ap (λ y. take i xs ++ (y ∷ [])) (sym is) in
+    rw (add-one, whole, total-append f (take i xs) (x ∷ []), one) refl
 
--- one row more
-sum_more : (f : Row → ℤ) (rows : List Row) (i : ℕ) (r : Row) → i < length rows → r ≡ get_or rows i r → total f (take i rows) +ℤ f r ≡ total f (take (i + 1) rows)
-sum_more f rows i r lt is =
-    let one : total f (r ∷ []) ≡ f r = omega (arith, ints) in
-    let whole : take (suc i) rows ≡ take i rows ++ (r ∷ []) = take-suc rows i r lt ∙ ap (λ x. take i rows ++ (x ∷ [])) (sym is) in
-    rw (add-one, whole, total-append f (take i rows) (r ∷ []), one) refl
+-- a sum in a register of 128 bits that is bounded at each step
+module _ {X : Type 0} (f : X → ℤ) (xs : List X) (bound : (n : ℕ) → unsigned_abs (total f (take n xs)) ≤ sum_limit) (i : ℕ) (x : X) (lt : i < length xs) (at : x ≡ get_or xs i x) (sum amount : ℤ) (same : amount ≡ f x) (is : sum ≡ total f (take i xs)) where
+  -- small numbers fit
+  fits : (z : ℤ) → unsigned_abs z ≤ 2 * sum_limit → FitsSigned w128 z
+  fits z h = omega (arith, ints, h)
 
--- a sum over as many rows as an account has at most fits
-small_fits : (sum : ℤ) (i : ℕ) → unsigned_abs sum ≤ 23 * 10 ^ 27 * i → i ≤ 2 ^ 32 → FitsSigned w128 sum
-small_fits sum i h le = omega (arith, ints, h, le)
+  -- two sums that are small differ by little
+  near : (m n p : ℤ) → m +ℤ n ≡ p → unsigned_abs m ≤ sum_limit → unsigned_abs p ≤ sum_limit → unsigned_abs n ≤ 2 * sum_limit
+  near m n p h a b = omega (arith, ints, h, a, b)
 
--- one row more leaves a sum small
-small_more : (sum amount : ℤ) (i : ℕ) → unsigned_abs sum ≤ 23 * 10 ^ 27 * i → unsigned_abs amount ≤ 23 * 10 ^ 27 → unsigned_abs (sum +ℤ amount) ≤ 23 * 10 ^ 27 * (i + 1)
-small_more sum amount i h k = omega (arith, ints, h, k)
+  -- the amount in its register
+  amount_is : to_z w128 (of_z w128 amount) ≡ f x
+  amount_is = rw same (to_z-of_z w128 (f x) (fits (f x) (near (total f (take i xs)) (f x) (total f (take (i + 1) xs)) (sum_more f xs i x lt at) (bound i) (bound (i + 1)))))
 
--- a sum is that over the first rows, and small
-pub record IsSum (f : Row → ℤ) (rows : List Row) (i : ℕ) (sum : ℤ) : Type 0 where
-  pub is : sum ≡ total f (take i rows)
-  pub small : unsigned_abs sum ≤ 23 * 10 ^ 27 * i
+  -- the next sum
+  next_is : sum +ℤ to_z w128 (of_z w128 amount) ≡ total f (take (i + 1) xs)
+  next_is = rw (amount_is, is) (sum_more f xs i x lt at)
 
--- a sum in a register of 128 bits, with the amount of one row more
-pub one_more : (f : Row → ℤ) (rows : List Row) (i : ℕ) (r : Row) (sum amount : ℤ) → i < length rows → length rows ≤ 2 ^ 32 → r ≡ get_or rows i r → amount ≡ f r → unsigned_abs (f r) ≤ 23 * 10 ^ 27 → IsSum f rows i sum
-    → IsSum f rows (i + 1) (to_z w128 (of_z w128 (sum +ℤ to_z w128 (of_z w128 amount))))
-one_more f rows i r sum amount lt few at same small s =
-    let amount_small : unsigned_abs amount ≤ 23 * 10 ^ 27 * 1 = rw same (omega (arith, small)) in
-    let more : unsigned_abs (sum +ℤ amount) ≤ 23 * 10 ^ 27 * (i + 1) = small_more sum amount i s.small (omega (arith, amount_small)) in
-    let amount_is = to_z-of_z w128 amount (small_fits amount 1 amount_small (omega arith)) in
-    let sum_is = to_z-of_z w128 (sum +ℤ amount) (small_fits (sum +ℤ amount) (i + 1) more (omega (arith, lt, few))) in
-    rw (amount_is, sum_is) (record { is = ap (λ n. n +ℤ amount) s.is ∙ ap (λ n. total f (take i rows) +ℤ n) same ∙ sum_more f rows i r lt at; small = more })
+  -- which fits
+  next_fits : FitsSigned w128 (total f (take (i + 1) xs))
+  next_fits = fits (total f (take (i + 1) xs)) (let b = bound (i + 1) in omega (arith, b))
+
+  -- a sum stays in its register
+  pub bounded_fits : FitsSigned w128 (sum +ℤ to_z w128 (of_z w128 amount))
+  bounded_fits = rw next_is next_fits
+
+  -- and is that over one term more
+  pub bounded_step : to_z w128 (of_z w128 (sum +ℤ to_z w128 (of_z w128 amount))) ≡ total f (take (i + 1) xs)
+  bounded_step = rw next_is (to_z-of_z w128 (total f (take (i + 1) xs)) next_fits)
+
+-- ---- the marks of an account
+
+-- what each of some marked rows gains is small
+gains_few : (rows : List Row) → AllByRecursion IsMarked rows → added (λ r. unsigned_abs (r.mark -ℤ r.money)) rows ≤ 2 ^ 64 * 10 ^ 9 * length rows
+gains_few rows a = added-each (λ r. unsigned_abs (r.mark -ℤ r.money)) (2 ^ 64 * 10 ^ 9) rows (each_weaker IsMarked (λ r. unsigned_abs (r.mark -ℤ r.money) ≤ 2 ^ 64 * 10 ^ 9) rows (λ r m. m.gained) a)
+
+-- marks are gains and cents
+parts : (rows : List Row) → total (λ r. r.mark) rows ≡ total (λ r. r.mark -ℤ r.money) rows +ℤ total (λ r. r.money) rows
+parts rows = total-same (λ (r : Row). r.mark) (λ r. (r.mark -ℤ r.money) +ℤ r.money) rows (λ r. whole r.mark r.money) ∙ total-add (λ (r : Row). r.mark -ℤ r.money) (λ r. r.money) rows
+  where
+    whole : (m c : ℤ) → m ≡ (m -ℤ c) +ℤ c
+    whole m c = omega (arith, ints)
+
+-- few rows gain little
+gained : (g c m : ℤ) (k : ℕ) → m ≡ g +ℤ c → unsigned_abs g ≤ 2 ^ 64 * 10 ^ 9 * k → k ≤ 2 ^ 32 → unsigned_abs c ≤ amount_limit → unsigned_abs m ≤ sum_limit
+gained g c m k e p few q = omega (arith, ints, e, p, few, q)
+
+-- so the marks of few rows stay small, where the cents do
+pub marks_stay : (rows : List Row) → AllByRecursion IsMarked rows → length rows ≤ 2 ^ 32 → (n : ℕ) → unsigned_abs (total (λ r. r.money) (take n rows)) ≤ amount_limit → unsigned_abs (total (λ r. r.mark) (take n rows)) ≤ sum_limit
+marks_stay rows a few n small =
+    gained (total (λ r. r.mark -ℤ r.money) (take n rows)) (total (λ r. r.money) (take n rows)) (total (λ r. r.mark) (take n rows)) (length rows) (parts (take n rows))
+    (front_total (λ (r : Row). r.mark -ℤ r.money) n (2 ^ 64 * 10 ^ 9 * length rows) rows (gains_few rows a)) few small

@@ -1,21 +1,19 @@
--- The rows of a sheet from positions and prices, and what a sheet keeps.
-use Rattle.std.specs.Prelude.{◌≡◌, ◌*◌, ◌^◌, ◌≤◌, ℤ, pos, ◌+ℤ◌, ◌-ℤ◌, ◌*ℤ◌, true, not, List, [], length, map, filter, Option, Some, None, unwrap_or, unsigned_abs, if◌then◌else◌}
+-- A row of a sheet, and what a sheet keeps.
+use Rattle.std.specs.Prelude.{◌≡◌, ℕ, ◌*◌, ◌^◌, ◌≤◌, ℤ, pos, ◌+ℤ◌, ◌-ℤ◌, ◌*ℤ◌, true, List, [], length, map, take, Option, Some, None, unsigned_abs, if◌then◌else◌}
 use Rattle.std.specs.Cmp.Lexicographic.{slice_cmp}
 use Rattle.std.specs.FinMap.{find, is_sorted}
 use Rattle.std.specs.List.{AllByRecursion}
 use Rattle.std.specs.Ordering.{nat_cmp}
 use Rattle.cns_units.specs.declared.account.Account.{Account}
 use Rattle.cns_units.specs.declared.cusip.Cusip.{Cusip}
-use Rattle.cns_units.specs.declared.day.Day.{Day}
 use Rattle.cns_units.specs.declared.price.Price.{Price}
 use Rattle.cns_terms.specs.declared.holding.Holding.{Holding}
 use Rattle.cns_terms.specs.declared.holding.Key.{Key}
 use Rattle.cns_terms.specs.declared.sheet.Row.{Row}
 use Rattle.cns_terms.specs.Keys.{key_cmp}
-use Rattle.cns_terms.specs.Sheets.{DaySheet, is_idle, rows_for}
+use Rattle.cns_terms.specs.Limits.{amount_limit}
+use Rattle.cns_terms.specs.Sheets.{DaySheet, rows_for}
 use Rattle.cns_terms.specs.Sums.{total, same_issue}
-use Rattle.cns_positions.specs.Rows.{Rows}
-use Rattle.cns_prices.specs.Listed.{Listed, listed_above, price_in}
 
 -- issues with their prices, in the order of the bytes of the issues
 abbrev pub PriceList : Type 0
@@ -38,9 +36,9 @@ worth q p = q *ℤ pos p
 abbrev pub marked : ℤ → ℤ → Price → Price → ℤ → ℤ
 marked opening closing opening_price price money = (worth closing price -ℤ worth opening opening_price) +ℤ money
 
--- the row that a holding makes, by its issue's price at the close before and at this one
-abbrev pub priced_row : Price → Price → Key × Holding → Row
-priced_row opening_price price e = record {
+-- the row that a holding and the cents of dividends make, by its issue's price at the close before and at this one
+abbrev pub priced_row : Price → Price → ℤ → Key × Holding → Row
+priced_row opening_price price dividend e = record {
   account = e.0.account;
   issue = e.0.issue;
   opening = e.1.opening;
@@ -49,28 +47,8 @@ priced_row opening_price price e = record {
   price = price;
   money = e.1.contract;
   mark = marked e.1.opening e.1.now opening_price price e.1.contract;
-  dividend = pos 0;
+  dividend = dividend;
 }
-
--- the row that a holding makes, by the prices of the close before and of this one
-abbrev pub row_from : PriceList → Listed → Key × Holding → Row
-row_from before prices e = priced_row (unwrap_or (price_on before e.0.issue) 0) (unwrap_or (price_in prices e.0.issue) 0) e
-
--- the same, by two lists of prices
-abbrev pub listed_row : PriceList → PriceList → Key × Holding → Row
-listed_row before now e = priced_row (unwrap_or (price_on before e.0.issue) 0) (unwrap_or (price_on now e.0.issue) 0) e
-
--- the rows that say something, in the order of their keys
-abbrev pub rows_from : PriceList → Listed → Rows → List Row
-rows_from before prices positions = filter (λ r. not (is_idle r)) (map (row_from before prices) positions)
-
--- the same, by two lists of prices
-abbrev pub listed_rows : PriceList → PriceList → Rows → List Row
-listed_rows before now positions = filter (λ r. not (is_idle r)) (map (listed_row before now) positions)
-
--- the sheet of a day
-abbrev pub sheet_from : Day → PriceList → Listed → Rows → DaySheet
-sheet_from date before prices positions = record { date = date; prices = listed_above prices None; rows = rows_from before prices positions }
 
 -- the key of a row
 abbrev pub key_of : Row → Key
@@ -84,11 +62,10 @@ by_key rows = map (λ r. (key_of r, r)) rows
 abbrev pub closing_in : Cusip → Row → ℤ
 closing_in c r = if same_issue r.issue c then r.closing else pos 0
 
--- a row's mark follows its other columns, and its amounts are small enough to be added up
+-- a row's mark follows its other columns, and what it gains beside the cents booked is small enough to be added up
 pub record IsMarked (r : Row) : Type 0 where
   pub rule : r.mark ≡ marked r.opening r.closing r.opening_price r.price r.money
-  pub mark : unsigned_abs r.mark ≤ 23 * 10 ^ 27
-  pub dividend : unsigned_abs r.dividend ≤ 23 * 10 ^ 27
+  pub gained : unsigned_abs (r.mark -ℤ r.money) ≤ 2 ^ 64 * 10 ^ 9
 
 -- rows whose closings add up to zero in each issue, and their marks and dividends over all
 pub record AreBalanced (rows : List Row) : Type 0 where
@@ -100,6 +77,19 @@ pub record AreBalanced (rows : List Row) : Type 0 where
 abbrev pub AreFew : List Row → Type 0
 AreFew rows = (a : Account) → length (rows_for rows a) ≤ 2 ^ 32
 
+-- a number of an account's rows stays small while it is added up
+abbrev pub StaysSmall : (Row → ℤ) → ℕ → List Row → Type 0
+StaysSmall f most rows = (a : Account) (n : ℕ) → unsigned_abs (total f (take n (rows_for rows a))) ≤ most
+
+-- so do the cents booked and the dividends
+pub record HaveSmallAmounts (rows : List Row) : Type 0 where
+  pub cents : StaysSmall (λ r. r.money) amount_limit rows
+  pub dividends : StaysSmall (λ r. r.dividend) amount_limit rows
+
+-- what is added up of an account's rows stays within this, and so within 128 bits
+abbrev pub sum_limit : ℕ
+sum_limit = 8 * 10 ^ 37
+
 -- what a sheet keeps: rows and prices in order, each row marked by the rule, and all of them balanced
 pub record IsSheet (prices : PriceList) (rows : List Row) : Type 0 where
   pub prices_rise : is_sorted (slice_cmp nat_cmp) prices ≡ true
@@ -107,7 +97,9 @@ pub record IsSheet (prices : PriceList) (rows : List Row) : Type 0 where
   pub rows_marked : AllByRecursion IsMarked rows
   pub balanced : AreBalanced rows
   pub few : AreFew rows
+  pub small_marks : StaysSmall (λ r. r.mark) sum_limit rows
+  pub small_dividends : StaysSmall (λ r. r.dividend) sum_limit rows
 
 -- the cents of a holding are small enough to be marked
 abbrev pub HasSmallCents : Key × Holding → Type 0
-HasSmallCents e = unsigned_abs e.1.contract ≤ 10 ^ 18 * 2 ^ 32
+HasSmallCents e = unsigned_abs e.1.contract ≤ amount_limit

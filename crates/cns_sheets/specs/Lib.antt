@@ -1,3 +1,5 @@
 pub mod Build
 pub mod Search
+pub mod Payments
 pub mod Condition
+pub mod Woven

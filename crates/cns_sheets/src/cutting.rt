@@ -1,21 +1,34 @@
 // Rows, cut from what stands at each key.
-ghost use Rattle.std.specs.Prelude.{◌≡◌, ◌*◌, ◌^◌, ◌≤◌, ◌+ℤ◌, ◌-ℤ◌, ◌∷◌, [], ◌++◌, IfOk, OnOk, true, not, unsigned_abs, unwrap_or, None};
+ghost use Rattle.std.specs.Prelude.{◌≡◌, ◌*◌, ◌^◌, ◌≤◌, ◌+ℤ◌, ◌-ℤ◌, ℤ, ◌∷◌, [], ◌++◌, IfOk, OnOk, true, not, unsigned_abs, unwrap_or, None, Some};
 ghost use Rattle.std.specs.Cmp.Lexicographic.{slice_cmp};
 ghost use Rattle.std.specs.FinMap.{is_sorted};
 ghost use Rattle.std.specs.List.{AllByRecursion};
+ghost use Rattle.std.specs.Option.{option_copied};
 ghost use Rattle.std.specs.Ordering.{nat_cmp};
 ghost use Rattle.cns_terms.specs.declared.holding.Key.{Key};
 ghost use Rattle.cns_terms.specs.Keys.{key_cmp};
+ghost use Rattle.cns_terms.specs.Limits.{amount_limit};
 ghost use Rattle.cns_terms.specs.Sheets.{is_idle};
 ghost use Rattle.cns_units.specs.declared.price.Price.{Price};
-ghost use Rattle.cns_positions.specs.Rows.{last_of, present};
-ghost use Rattle.cns_sheets.specs.Build.{HasSmallCents, IsMarked, priced_row, listed_rows, worth, marked};
+ghost use Rattle.cns_positions.specs.Rows.{Rows, held_above, last_of, present, zeros};
+ghost use Rattle.cns_sheets.specs.Build.{HasSmallCents, IsMarked, priced_row, worth, marked};
+ghost use Rattle.cns_sheets.specs.Woven.{cents_at, higher, lower, past, unheld, weave, woven_rows};
 
+use crate::in_order::InOrder;
+use crate::payments::Paid;
 use crate::quotes::Quotes;
 use cns_positions::{NextRows, Positions};
 use cns_terms::{Holding, Key, NoMemory, Row};
 use cns_units::{Cents, Cusip, Price};
 use std::alloc::Allocator;
+
+// What stands at a key with dividends and no holding.
+const UNHELD: Holding = Holding {
+    now: 0,
+    opening: 0,
+    contract: 0,
+    run: 0,
+};
 
 // What a position is worth at a price, in cents.
 fn worth(shares: i64, price: Price) -> i128
@@ -27,9 +40,10 @@ fn worth(shares: i64, price: Price) -> i128
 
 // The mark of a day: what a position is worth now, less what it was worth at the close before, and the cents booked.
 fn marked(opening: i64, closing: i64, opening_price: Price, price: Price, money: i128) -> i128
-    requires { unsigned_abs money ≤ 10 ^ 18 * 2 ^ 32 }
+    requires { unsigned_abs money ≤ amount_limit }
     ensures exact { result ≡ marked opening closing opening_price price money }
-    ensures small { unsigned_abs result ≤ 23 * 10 ^ 27 }
+    ensures gained { unsigned_abs (result -ℤ money) ≤ 2 ^ 64 * 10 ^ 9 }
+    ensures small { unsigned_abs result ≤ 2 * amount_limit }
 {
     let gained = less(worth(closing, price), worth(opening, opening_price));
     plus(gained, money)
@@ -48,9 +62,9 @@ fn less(now: i128, then: i128) -> i128
 // An amount and the cents booked.
 fn plus(amount: i128, money: i128) -> i128
     requires amount { unsigned_abs amount ≤ 2 ^ 64 * 10 ^ 9 }
-    requires money { unsigned_abs money ≤ 10 ^ 18 * 2 ^ 32 }
+    requires money { unsigned_abs money ≤ amount_limit }
     ensures exact { result ≡ amount +ℤ money }
-    ensures small { unsigned_abs result ≤ 23 * 10 ^ 27 }
+    ensures small { unsigned_abs result ≤ 2 * amount_limit }
 {
     amount + money
 }
@@ -62,10 +76,10 @@ fn or_zero(price: Option<Price>) -> Price
     price.unwrap_or(Price::ZERO)
 }
 
-// The row that a holding makes, by its issue's price at the close before and at this one.
-fn row_of(key: &Key, holding: &Holding, opening_price: Price, price: Price) -> Row
+// The row that a holding and the cents of dividends make, by its issue's price at the close before and at this one.
+fn row_of(key: &Key, holding: &Holding, dividend: Cents, opening_price: Price, price: Price) -> Row
     requires { HasSmallCents (key.now, holding.now) }
-    ensures row { result ≡ priced_row opening_price price (key.now, holding.entry.now) }
+    ensures row { result ≡ priced_row opening_price price dividend (key.now, holding.entry.now) }
     ensures marked { IsMarked result }
 {
     let mark = marked(
@@ -84,53 +98,101 @@ fn row_of(key: &Key, holding: &Holding, opening_price: Price, price: Price) -> R
         price,
         money: Cents::of(holding.contract),
         mark: Cents::of(mark),
-        dividend: Cents::ZERO,
+        dividend,
     }
 }
 
-// Whether the row of a holding says nothing, whatever the prices. A holding that is no more than an age makes such a row.
-fn is_silent(holding: &Holding) -> bool
-    ensures { (k : Key) (before : Price) (now : Price) → result ≡ is_idle (priced_row before now (k, holding.entry.now)) }
+// Whether the row of a holding and the cents of dividends says nothing, whatever the prices. A holding that is no more
+// than an age makes such a row.
+fn is_silent(holding: &Holding, dividend: Cents) -> bool
+    ensures { (k : Key) (before : Price) (now : Price) → result ≡ is_idle (priced_row before now dividend (k, holding.entry.now)) }
 {
-    holding.opening == 0 && holding.now == 0 && holding.contract == 0
+    holding.opening == 0 && holding.now == 0 && holding.contract == 0 && dividend == Cents::ZERO
 }
 
-// Puts the row of a holding after others, if it says something.
+// Puts the row of a holding and the cents of dividends after others, if it says something.
 fn push_row<A: Allocator + Drop>(
     rows: &mut Vec<Row, A>,
     before: &mut Quotes,
     now: &mut Quotes,
     key: &Key,
     holding: &Holding,
+    dividend: Cents,
 ) -> Result<(), NoMemory>
     requires small { HasSmallCents (key.now, holding.now) }
     requires marked { AllByRecursion IsMarked rows.old.items }
-    ensures rows { OnOk result (rows.new.items ≡ rows.old.items ++ listed_rows before.old now.old ((key.now, holding.entry.now) ∷ [])) }
+    ensures rows { OnOk result (rows.new.items ≡ rows.old.items ++ woven_rows before.old now.old ((key.now, (holding.entry.now, dividend)) ∷ [])) }
     ensures marked { OnOk result (AllByRecursion IsMarked rows.new.items) }
     ensures before { before.new ≡ before.old }
     ensures now { now.new ≡ now.old }
 {
-    if is_silent(holding) {
+    if is_silent(holding, dividend) {
         return Ok(());
     }
     let opening_price = or_zero(before.price(&key.issue, 0));
     let price = or_zero(now.price(&key.issue, before.passed()));
-    match rows.push(row_of(key, holding, opening_price, price)) {
+    match rows.push(row_of(key, holding, dividend, opening_price, price)) {
         Ok(()) => Ok(()),
         Err(_) => Err(NoMemory),
     }
 }
 
-// Puts the rows of holdings after others, and returns the key of the last holding.
+// Puts the rows of the dividends of lower keys after others, or of all that are left where no key is given. None of
+// these keys has a holding.
+fn push_paid<A: Allocator + Drop>(
+    rows: &mut Vec<Row, A>,
+    before: &mut Quotes,
+    now: &mut Quotes,
+    paid: &mut InOrder,
+    high: Option<&Key>,
+) -> Result<(), NoMemory>
+    requires marked { AllByRecursion IsMarked rows.old.items }
+    ensures rows { OnOk result (rows.new.items ≡ rows.old.items ++ woven_rows before.old now.old (unheld (lower (option_copied high.entry) paid.old))) }
+    ensures marked { OnOk result (AllByRecursion IsMarked rows.new.items) }
+    ensures paid { OnOk result (paid.new ≡ past (option_copied high.entry) paid.old) }
+    ensures none_lower { OnOk result (lower (option_copied high.entry) paid.new ≡ []) }
+    ensures before { before.new ≡ before.old }
+    ensures now { now.new ≡ now.old }
+{
+    while let Some((key, dividend)) = paid.next_below(high) {
+        push_row(rows, before, now, &key, &UNHELD, dividend)?;
+    }
+    Ok(())
+}
+
+// Puts the row of a holding after others, behind those of the dividends of lower keys.
+fn push_holding<A: Allocator + Drop>(
+    rows: &mut Vec<Row, A>,
+    before: &mut Quotes,
+    now: &mut Quotes,
+    paid: &mut InOrder,
+    key: &Key,
+    holding: &Holding,
+) -> Result<(), NoMemory>
+    requires small { HasSmallCents (key.now, holding.now) }
+    requires marked { AllByRecursion IsMarked rows.old.items }
+    ensures rows { OnOk result ((rest : Rows) → rows.old.items ++ woven_rows before.old now.old (weave ((key.now, holding.entry.now) ∷ rest) paid.old) ≡ rows.new.items ++ woven_rows before.old now.old (weave rest paid.new)) }
+    ensures marked { OnOk result (AllByRecursion IsMarked rows.new.items) }
+    ensures before { before.new ≡ before.old }
+    ensures now { now.new ≡ now.old }
+{
+    push_paid(rows, before, now, paid, Some(key))?;
+    let dividend = paid.take(*key);
+    push_row(rows, before, now, key, holding, dividend)
+}
+
+// Puts the rows of holdings after others, with those of the dividends up to the last, and returns the key of the last
+// holding.
 fn push_rows<A: Allocator + Drop>(
     rows: &mut Vec<Row, A>,
     before: &mut Quotes,
     now: &mut Quotes,
+    paid: &mut InOrder,
     holdings: &NextRows,
 ) -> Result<Option<Key>, NoMemory>
     requires small { AllByRecursion HasSmallCents (present holdings.now.items) }
     requires marked { AllByRecursion IsMarked rows.old.items }
-    ensures rows { OnOk result (rows.new.items ≡ rows.old.items ++ listed_rows before.old now.old (present holdings.now.items)) }
+    ensures rows { OnOk result ((rest : Rows) → rows.old.items ++ woven_rows before.old now.old (weave (present holdings.now.items ++ rest) paid.old) ≡ rows.new.items ++ woven_rows before.old now.old (weave rest paid.new)) }
     ensures last { IfOk result (λ key. key ≡ last_of None (present holdings.now.items)) }
     ensures marked { OnOk result (AllByRecursion IsMarked rows.new.items) }
     ensures before { before.new ≡ before.old }
@@ -139,7 +201,7 @@ fn push_rows<A: Allocator + Drop>(
     let mut last = None;
     for held in holdings.as_slice() {
         if let Some((key, holding)) = held {
-            push_row(rows, before, now, key, holding)?;
+            push_holding(rows, before, now, paid, key, holding)?;
             last = Some(*key);
         }
     }
@@ -152,27 +214,32 @@ pub fn collect<P: Positions<B>, B, A: Allocator + Drop>(
     alloc: A,
     room: usize,
     positions: &P,
+    paid: &Paid<A>,
     before: &[(Cusip, Price)],
     now: &[(Cusip, Price)],
 ) -> Result<Vec<Row, A>, NoMemory>
     requires before_rise { is_sorted (slice_cmp nat_cmp) before.now ≡ true }
     requires now_rise { is_sorted (slice_cmp nat_cmp) now.now ≡ true }
     requires small { is_sorted key_cmp (P.rows positions.now) ≡ true → AllByRecursion HasSmallCents (P.rows positions.now) }
-    ensures rows { IfOk result (λ v. v.items ≡ listed_rows before.now now.now (P.rows positions.now)) }
+    ensures rows { IfOk result (λ v. v.items ≡ woven_rows before.now now.now (weave (held_above (P.rows positions.now) None) paid.now)) }
     ensures marked { IfOk result (λ v. AllByRecursion IsMarked v.items) }
     ensures order { OnOk result (is_sorted key_cmp (P.rows positions.now) ≡ true) }
+    ensures paid_rise { OnOk result (is_sorted key_cmp paid.now ≡ true) }
 {
     let mut rows = Vec::with_capacity(alloc, room)?;
     let mut before = Quotes::new(before);
     let mut now = Quotes::new(now);
+    let mut paid = paid.in_order();
     let mut after = None;
     while let Some(last) = push_rows(
         &mut rows,
         &mut before,
         &mut now,
+        &mut paid,
         &positions.next_rows(after),
     )? {
         after = Some(last);
     }
+    push_paid(&mut rows, &mut before, &mut now, &mut paid, None)?;
     Ok(rows)
 }

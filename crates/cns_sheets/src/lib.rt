@@ -1,12 +1,15 @@
 //! The sheet of a closed day: a row for each account and issue with something to say, and the prices of the day.
 //!
-//! A sheet is built once, from positions and prices, and never changes. Its type keeps that its rows are in the order
-//! of accounts and then of the bytes of the issues, that each row's mark follows from its other columns, that in each
-//! issue the closing positions of all accounts add up to zero, and that all marks, and all dividends, add up to zero
-//! cents. A row, the rows of an account and a price are found by halving. Start with `Sheet`.
+//! A sheet is built once, from positions, prices and the dividends that its close pays, and never changes. Its type
+//! keeps that its rows are in the order of accounts and then of the bytes of the issues, that each row's mark follows
+//! from its other columns, that in each issue the closing positions of all accounts add up to zero, and that all marks,
+//! and all dividends, add up to zero cents. A row, the rows of an account and a price are found by halving. Start with
+//! `Sheet`; `Payment` is a dividend that a close pays.
 #![tactic(auto)]
 
 mod cutting;
+mod in_order;
+mod payments;
 mod prices;
 mod quotes;
 mod search;
@@ -14,6 +17,7 @@ mod sheet;
 mod sums;
 
 pub use cns_terms::Row;
+pub use payments::Payment;
 pub use sheet::Sheet;
 
 #[cfg(test)]

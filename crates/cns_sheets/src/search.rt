@@ -15,8 +15,8 @@ use crate::prices;
 use cns_terms::{Key, Row};
 use cns_units::{Account, Cusip, Price};
 
-// The place of a row, in the order of rows.
-fn key_of(row: &Row) -> Key
+/// The place of a row, in the order of rows.
+pub fn key_of(row: &Row) -> Key
     ensures { result ≡ key_of row.now }
 {
     Key {

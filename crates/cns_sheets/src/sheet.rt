@@ -1,5 +1,5 @@
 // A closed day.
-ghost use Rattle.std.specs.Prelude.{◌≡◌, ◌∷◌, [], IfOk, length, MatchOption, OnOk, pos, Some, true};
+ghost use Rattle.std.specs.Prelude.{◌≡◌, ◌∷◌, [], IfOk, length, MatchOption, None, OnOk, pos, Some, true};
 ghost use Rattle.std.specs.Cmp.Lexicographic.{slice_cmp};
 ghost use Rattle.std.specs.FinMap.{is_sorted};
 ghost use Rattle.std.specs.List.{AllByRecursion};
@@ -8,11 +8,14 @@ ghost use Rattle.cns_terms.specs.Keys.{key_cmp};
 ghost use Rattle.std.specs.Option.{option_copied};
 ghost use Rattle.cns_terms.specs.Sheets.{rows_for, statement};
 ghost use Rattle.cns_terms.specs.Sums.{total};
-ghost use Rattle.cns_sheets.specs.Build.{IsMarked, by_key, closing_in, price_on, prices_of, rows_from, sheet_from};
-ghost use Rattle.cns_sheets.specs.Condition.{IsReady, rows_before};
+ghost use Rattle.cns_sheets.specs.Build.{IsMarked, by_key, closing_in, price_on, prices_of};
+ghost use Rattle.cns_sheets.specs.Condition.{CanBePaid, IsReady, rows_before};
+ghost use Rattle.cns_sheets.specs.Payments.{IsCut, paying};
+ghost use Rattle.cns_prices.specs.Listed.{listed_above};
 ghost use Rattle.cns_sheets.specs.Search.{prices_above, row_at};
 
 use crate::cutting::collect;
+use crate::payments::{Paid, Payment};
 use crate::prices::{listed, price_on};
 use crate::search::{next_price, row_at, rows_for};
 use crate::sums::sums;
@@ -43,28 +46,37 @@ impl<A: Allocator + Drop> Model for Sheet<A> {
 }
 
 impl<A: Allocator + Drop + Clone> Sheet<A> {
-    /// The sheet that a close cuts: a row for each key whose opening, closing or booked cents are not zero, in the
-    /// order of keys, with the prices of this close and of the sheet before (NSCC Procedure VII; the mark is this
+    /// The sheet that a close cuts: a row for each key whose opening, closing, booked cents or dividends are not zero, in
+    /// the order of keys, with the prices of this close and of the sheet before (NSCC Procedure VII; the mark is this
     /// project's profile). `NoMemory` where a growth was refused, and then nothing has changed.
     ///
+    /// Each of the `payments` books, at each member's key in its issue, the cash of the dividend on the closing position of
+    /// the sheet of its record date, in cents cut towards zero each by itself. The corporation's key books the opposite of
+    /// what all members get, whatever its own position was. Several payments add up, also those of one issue.
+    ///
     /// In each issue the positions have to add up to zero, and so the booked cents, and each opening has to be the
-    /// closing on the sheet before. Then the marks add up to zero.
+    /// closing on the sheet before. Then the marks add up to zero. The dividends always do.
     pub fn build<P: Positions<B>, B>(
         alloc: A,
         positions: &P,
         prices: &Prices<A>,
         before: Option<&Sheet<A>>,
+        payments: &[Payment<'_, A>],
         date: Day,
     ) -> Result<Self, NoMemory>
-        requires { IsReady (option_copied before) prices.now (P.rows positions.now) }
-        ensures sheet { IfOk result (λ s. s ≡ sheet_from date (prices_of (option_copied before.entry)) prices.now (P.rows positions.now)) }
+        requires ready { IsReady (option_copied before) prices.now (P.rows positions.now) (paying payments.now) }
+        requires paid { CanBePaid (paying payments.now) }
+        ensures date { IfOk result (λ s. s.date ≡ date) }
+        ensures listed { IfOk result (λ s. s.prices ≡ listed_above prices.now None) }
+        ensures cut { IfOk result (λ s. IsCut (prices_of (option_copied before.entry)) prices.now (P.rows positions.now) (paying payments.now) s.rows) }
         ensures prices { OnOk result (is_sorted (slice_cmp nat_cmp) prices.now ≡ true) }
         ensures rows { OnOk result (is_sorted key_cmp (P.rows positions.now) ≡ true) }
     {
         let earlier = prices_before(before);
         let prices = listed(alloc.clone()?, earlier.len(), prices)?;
         let room = before.map_or(0, |sheet| sheet.len());
-        let rows = collect(alloc, room, positions, earlier, prices.as_slice())?;
+        let paid = Paid::new(alloc.clone()?, payments)?;
+        let rows = collect(alloc, room, positions, &paid, earlier, prices.as_slice())?;
         Ok(Sheet { date, prices, rows })
     }
 }

@@ -120,7 +120,7 @@ fn an_account_without_rows_has_a_statement(rt: HostRuntime) -> Result<(), Fail> 
     let date = Day::parse(b"2024-06-03".as_slice())?;
     let prices = Prices::new(rt.alloc());
     let positions = FlatPositions::<Global>::new(rt.alloc());
-    let sheet = Sheet::build(rt.alloc(), &positions, &prices, None, date)?;
+    let sheet = Sheet::build(rt.alloc(), &positions, &prices, None, &[], date)?;
     let statement = statement(rt.alloc(), &sheet, Account::new(7)?)?;
     assert_eq!(rt; statement.rows.len(), 0);
     let mut output = Vec::new(rt.alloc());

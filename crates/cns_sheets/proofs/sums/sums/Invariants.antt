@@ -1,8 +1,9 @@
-use Rattle.cns_sheets.proofs.RowSums.{IsSum}
+use Rattle.std.proofs.Common.{◌≡◌, take}
+use Rattle.cns_terms.specs.Sums.{total}
 use Rattle.cns_sheets.proofs.sums.sums.Given as goal
 
 abbrev pub invariant-loop-row : goal.invariant-loop-row
 invariant-loop-row l = record {
-  mark : IsSum (λ r. r.mark) l.rows l.row-index l.mark;
-  dividend : IsSum (λ r. r.dividend) l.rows l.row-index l.dividend;
+  mark : l.mark ≡ total (λ r. r.mark) (take l.row-index l.rows);
+  dividend : l.dividend ≡ total (λ r. r.dividend) (take l.row-index l.rows);
 }

@@ -1,34 +1,55 @@
-use Rattle.std.proofs.Common.{◌≡◌}
+use Rattle.std.proofs.Common.{◌≡◌, ℕ, ◌≤◌, ◌==◌, None, filter, map, arith}
 use Rattle.std.specs.Option.{option_copied}
-use Rattle.cns_sheets.specs.Build.{prices_of, rows_from}
+use Rattle.cns_terms.proofs.SheetRows.{says}
+use Rattle.cns_positions.specs.Rows.{held_above}
+use Rattle.cns_terms.specs.Limits.{amount_limit}
+use Rattle.cns_terms.specs.Sheets.{rows_for}
+use Rattle.cns_terms.proofs.Everywhere.{each_filter}
+use Rattle.cns_sheets.specs.Build.{IsMarked, prices_of, sum_limit}
+use Rattle.cns_sheets.specs.Woven.{weave}
 use Rattle.cns_sheets.proofs.Balance.{cut_balanced}
-use Rattle.cns_sheets.proofs.Kept.{prices_rise, rows_listed, rows_rise}
+use Rattle.cns_sheets.proofs.Kept.{prices_rise, row_from, rows_cut, rows_listed}
+use Rattle.cns_sheets.proofs.RowSums.{marks_stay}
 use Rattle.cns_sheets.proofs.sheet.Sheet.build.Goals as goal
 
 pub collect-requires-clause-now_rise : goal.collect-requires-clause-now_rise
 collect-requires-clause-now_rise g c = rw (c.as_slice.ensures.value, c.in_ok-prices.ensures.prices) (prices_rise c.args.prices.now c.in_ok-prices.ensures.order)
 
+pub collect-requires-clause-small : goal.collect-requires-clause-small
+collect-requires-clause-small g c = λ order. (c.requires.ready order).small
+
+-- an amount within its limit can be added up
+within : (n : ℕ) → n ≤ amount_limit → n ≤ sum_limit
+within n h = omega (arith, h)
+
 pub invariant_of-result : goal.invariant_of-result
 invariant_of-result g c =
-    let earlier = prices_of (option_copied c.args.before) in
+    let before = option_copied c.args.before in
+    let earlier = prices_of before in
     let R = g.P.Positions.rows c.args.positions.now in
-    let rows : c.in_ok-rows.rows.items ≡ rows_from earlier c.args.prices.now R =
-    rw (c.in_ok-rows.ensures.rows, c.prices_before-earlier.ensures.prices, c.as_slice.ensures.value, c.in_ok-prices.ensures.prices) (rows_listed earlier c.args.prices.now R) in
+    let cents = c.in_ok-paid.paid in
+    let order = c.in_ok-rows.ensures.order in
+    let ready = c.requires.ready order in
+    let cut = rows_cut earlier c.args.prices.now R _ cents order c.in_ok-rows.ensures.paid_rise c.in_ok-paid.ensures.cents in
+    let rows : c.in_ok-rows.rows.items ≡ filter says (map (row_from earlier c.args.prices.now) (weave (held_above R None) cents)) =
+    rw (c.in_ok-rows.ensures.rows, c.prices_before-earlier.ensures.prices, c.as_slice.ensures.value, c.in_ok-prices.ensures.prices) (rows_listed earlier c.args.prices.now (weave (held_above R None) cents)) in
     record {
       prices_rise = rw c.in_ok-prices.ensures.prices (prices_rise c.args.prices.now c.in_ok-prices.ensures.order);
-      rows_rise = rw rows (rows_rise earlier c.args.prices.now R c.in_ok-rows.ensures.order);
+      rows_rise = rw rows cut.order;
       rows_marked = c.in_ok-rows.ensures.marked;
-      balanced = rw rows (cut_balanced (option_copied c.args.before) c.args.prices.now R c.in_ok-rows.ensures.order c.prices_before-earlier.ensures.rows_rise c.prices_before-earlier.ensures.closings (c.requires c.in_ok-rows.ensures.order));
-      few = rw rows (c.requires c.in_ok-rows.ensures.order).few;
+      balanced = rw rows (cut_balanced before c.args.prices.now R _ cents order c.in_ok-rows.ensures.paid_rise c.in_ok-paid.ensures.zero c.prices_before-earlier.ensures.rows_rise c.prices_before-earlier.ensures.closings ready);
+      few = rw rows (ready.few _ cut);
+      small_marks = λ a n.
+          let marked = c.in_ok-rows.ensures.marked in
+          marks_stay (rows_for c.in_ok-rows.rows.items a) (each_filter IsMarked (λ r. r.account == a) c.in_ok-rows.rows.items marked) ((rw (← rows) at (ready.few _ cut)) a) n ((rw (← rows) at (ready.amounts _ cut).cents) a n);
+      small_dividends = λ a n. within _ ((rw (← rows) at (ready.amounts _ cut).dividends) a n);
     }
 
-pub returns-clause-sheet : goal.returns-clause-sheet
-returns-clause-sheet g c =
+pub returns-clause-cut : goal.returns-clause-cut
+returns-clause-cut g c =
     let earlier = prices_of (option_copied c.args.before) in
     let R = g.P.Positions.rows c.args.positions.now in
-    let rows : c.in_ok-rows.rows.items ≡ rows_from earlier c.args.prices.now R =
-    rw (c.in_ok-rows.ensures.rows, c.prices_before-earlier.ensures.prices, c.as_slice.ensures.value, c.in_ok-prices.ensures.prices) (rows_listed earlier c.args.prices.now R) in
-    λ i. record { date = c.args.date; prices = c.in_ok-prices.ensures.prices i; rows = rows i }
-
-pub collect-requires-clause-small : goal.collect-requires-clause-small
-collect-requires-clause-small g c = λ order. (c.requires order).small
+    let cents = c.in_ok-paid.paid in
+    let rows : c.in_ok-rows.rows.items ≡ filter says (map (row_from earlier c.args.prices.now) (weave (held_above R None) cents)) =
+    rw (c.in_ok-rows.ensures.rows, c.prices_before-earlier.ensures.prices, c.as_slice.ensures.value, c.in_ok-prices.ensures.prices) (rows_listed earlier c.args.prices.now (weave (held_above R None) cents)) in
+    rw rows (rows_cut earlier c.args.prices.now R _ cents c.in_ok-rows.ensures.order c.in_ok-rows.ensures.paid_rise c.in_ok-paid.ensures.cents)

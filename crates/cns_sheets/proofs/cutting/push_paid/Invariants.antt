@@ -1,0 +1,18 @@
+use Rattle.std.proofs.Common.{◌≡◌, ◌++◌, length}
+use Rattle.std.specs.List.{AllByRecursion}
+use Rattle.std.specs.Option.{option_copied}
+use Rattle.cns_sheets.specs.Build.{IsMarked}
+use Rattle.cns_sheets.specs.Woven.{lower, past, unheld, woven_rows}
+use Rattle.cns_sheets.proofs.cutting.push_paid.Given as goal
+
+abbrev pub invariant-loop-key : goal.invariant-loop-key
+invariant-loop-key g l = record {
+  rows : l.fn.rows.items ++ woven_rows l.fn.before l.fn.now (unheld (lower (option_copied l.fn.high) l.fn.paid)) ≡ l.rows.items ++ woven_rows l.fn.before l.fn.now (unheld (lower (option_copied l.fn.high) l.paid));
+  left : past (option_copied l.fn.high) l.paid ≡ past (option_copied l.fn.high) l.fn.paid;
+  marked : AllByRecursion IsMarked l.rows.items;
+  before : l.before ≡ l.fn.before;
+  now : l.now ≡ l.fn.now;
+}
+
+abbrev pub decreases-loop-key : goal.decreases-loop-key
+decreases-loop-key g l = length l.paid

@@ -1,0 +1,16 @@
+use Rattle.std.proofs.Common.{◌≡◌, ◌+ℤ◌, if◌then◌else◌, pos, take}
+use Rattle.std.specs.Ordering.{is_eq}
+use Rattle.cns_terms.specs.declared.holding.Key.{Key}
+use Rattle.cns_terms.specs.Keys.{key_cmp}
+use Rattle.cns_terms.specs.Sums.{total}
+use Rattle.cns_sheets.specs.Build.{key_of}
+use Rattle.cns_sheets.specs.Payments.{member_cash}
+use Rattle.cns_sheets.specs.Woven.{cents_at}
+use Rattle.cns_sheets.proofs.payments.Paid.pay_members.Given as goal
+
+abbrev pub invariant-loop-row : goal.invariant-loop-row
+invariant-loop-row g l = record {
+  cents : (k : Key) → cents_at l.self k ≡ cents_at l.fn.self k +ℤ total (λ r. if is_eq (key_cmp k (key_of r)) then member_cash l.fn.declared r else pos 0) (take l.row-index l.fn.rows);
+  sum : l.sum ≡ total (member_cash l.fn.declared) (take l.row-index l.fn.rows);
+  all : total (λ e. e.1) l.self ≡ total (λ e. e.1) l.fn.self +ℤ total (member_cash l.fn.declared) (take l.row-index l.fn.rows);
+}
