@@ -11,9 +11,9 @@ use Rattle.cns_terms.specs.Limits.{booking_limit, corporation_limit, history_lim
 use Rattle.cns_terms.specs.Positions.{cents_for, shares_for}
 use Rattle.cns_terms.specs.Sums.{total}
 use Rattle.cns_terms.proofs.Totals.{total-append}
-use Rattle.cns_positions.specs.Rows.{Rows, booked, holding_at}
+use Rattle.cns_positions.specs.Rows.{Rows, booked, books, holding_at}
 use Rattle.cns_trades.specs.Checks.{AreSmallEntries, IsSmallEntry}
-use Rattle.cns_book.specs.Effects.{AreWithin, books, place_of, places_of}
+use Rattle.cns_book.specs.Effects.{AreWithin, place_of, places_of}
 
 one_last : (a b q : ℤ) → (a +ℤ (b +ℤ pos 0)) +ℤ q ≡ (a +ℤ q) +ℤ b
 one_last a b q = omega (arith, ints)
@@ -55,7 +55,7 @@ shares_few a c (e ∷ es) h = more _ e.shares (total (shares_for a c) es) corpor
 
 cents_few : (a : ℕ) (c : List ℕ) (es : List Entry) → AreSmallEntries es → unsigned_abs (total (cents_for a c) es) ≤ booking_limit * length es
 cents_few a c [] h = omega arith
-cents_few a c (e ∷ es) h = more _ e.cents (total (cents_for a c) es) booking_limit (length es) h.0.cents (cents_few a c es h.1)
+cents_few a c (e ∷ es) h = more _ e.cents (total (cents_for a c) es) booking_limit (length es) (omega (arith, h.0.cents)) (cents_few a c es h.1)
 
 small_first : (es : List Entry) (i : ℕ) → AreSmallEntries es → AreSmallEntries (take i es)
 small_first [] i h = none i

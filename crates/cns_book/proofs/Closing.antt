@@ -77,6 +77,7 @@ day_closed L s d rows sheet f few none h is =
       clock = record { today = refl; closes = omega (arith, f.clock.closes) };
       listings = record { members = l.members; prices = l.prices; retired = l.retired };
       references = f.references;
+      dividends = f.dividends;
       rows = λ k. h k ∙ ap rolled (f.rows k) ∙ holding_close s.opening J d k (subst (λ n. n + 1 < history_limit) f.clock.closes few);
       sheets = λ i. is i ∷ f.sheets i;
     }

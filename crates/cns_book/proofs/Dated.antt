@@ -1,8 +1,8 @@
 -- Searches for a closed day by its date.
-use Rattle.std.proofs.Common.{◌≡◌, ◌∙◌, sym, ap, subst, refl, ℕ, zero, suc, ◌-◌, ◌<◌, ◌≤◌, ℤ, Bool, true, false, cond, List, [], ◌∷◌, length, get_or, map, reverse, find, Option, Some, None, Result, Ok, Err, IfOk, IfErr, inl, inr, arith}
-use Rattle.std.specs.Prelude.{int_lt, not, option_map}
+use Rattle.std.proofs.Common.{◌≡◌, ◌∙◌, sym, ap, subst, refl, ℕ, zero, suc, ◌+◌, ◌-◌, ◌<◌, ◌≤◌, ℤ, Bool, true, false, cond, List, [], ◌∷◌, length, get_or, map, reverse, find, Option, Some, None, Result, Ok, Err, IfOk, IfErr, inl, inr, arith}
+use Rattle.std.specs.Prelude.{int_le, int_lt, not, option_map}
 use Rattle.std.specs.List.{AllWithin, HoldsAt}
-use Rattle.std.specs.List.Sorted.{IsBinarySearchResult, IsNonDecreasingBy, IsPartitionPoint}
+use Rattle.std.specs.List.Sorted.{IsBinarySearchResult, IsNonDecreasingBy, IsPartitionedBy, IsPartitionPoint}
 use Rattle.std.specs.Ordering.{int_cmp, int_eq, ordering_index}
 use Rattle.std.specs.declared.cmp.Ordering.{Ordering}
 use Rattle.std.specs.declared.cmp.Ordering.TheVariants.{Less, Equal, Greater}
@@ -18,14 +18,14 @@ use Rattle.cns_units.specs.declared.account.Account.{Account}
 use Rattle.cns_terms.specs.declared.command.Activity.{Activity}
 use Rattle.cns_terms.specs.declared.refusal.Refusal.TheVariants.{NoSuchMember, NoSuchDay}
 use Rattle.cns_terms.specs.declared.reply.Reply.TheVariants as reply
-use Rattle.cns_terms.specs.Days.{closings, date, is_same_day}
+use Rattle.cns_terms.specs.Days.{closings, is_same_day}
 use Rattle.cns_terms.specs.Entries.{journal}
 use Rattle.cns_terms.specs.Refusals.{first_refusal}
 use Rattle.cns_terms.specs.Postings.{Journal}
 use Rattle.cns_terms.specs.Sheets.{DaySheet, day_sheet, sheet_on, statement}
 use Rattle.cns_terms.proofs.Facts.{less_less}
 use Rattle.cns_book.specs.Contents.{Contents}
-use Rattle.cns_book.specs.Dated.{AreFalling, IsAfter, dated_sheet, is_dated}
+use Rattle.cns_book.specs.Dated.{AreFalling, IsAfter, dated_sheet, is_dated, is_dated_by, sheet_as_of}
 use Rattle.cns_book.specs.Follows.{Follows}
 
 -- the number of a sheet's day
@@ -48,11 +48,11 @@ falls (s ∷ ss) (suc i) (suc j) e f p q = falls ss i j e f.1 (omega arith) (ome
 apart : (a b c : ℤ) → int_lt a b ≡ true → int_eq a c ≡ true → int_eq b c ≡ false
 apart a b c p q = grind (arith, ints)
 
-skip : (b : Bool) (s : DaySheet) (o : Option DaySheet) → b ≡ false → cond b (Some s) o ≡ o
+skip : {Y : Type 0} (b : Bool) (s : Y) (o : Option Y) → b ≡ false → cond b (Some s) o ≡ o
 skip true s o h = cc
 skip false s o h = refl
 
-take : (b : Bool) (s : DaySheet) (o : Option DaySheet) → b ≡ true → cond b (Some s) o ≡ Some s
+take : {Y : Type 0} (b : Bool) (s : Y) (o : Option Y) → b ≡ true → cond b (Some s) o ≡ Some s
 take true s o h = refl
 take false s o h = cc
 
@@ -64,9 +64,16 @@ find_here (s ∷ ss) d (suc j) e f lt h =
     skip (is_same_day s.date d) s (dated_sheet ss d) (apart (number (get_or ss j e)) (number s) (day_number d) (after_each s.date ss j e f.0 f.1 (omega arith)) h)
     ∙ find_here ss d j e f.1 (omega arith) h
 
-find_none : (ss : List DaySheet) (d : Day) (e : DaySheet) → ((j : ℕ) → j < length ss → is_same_day (get_or ss j e).date d ≡ false) → dated_sheet ss d ≡ None
-find_none [] d e h = refl
-find_none (s ∷ ss) d e h = skip _ s (dated_sheet ss d) (h 0 (omega arith)) ∙ find_none ss d e (λ j lt. h (suc j) (omega arith))
+-- the first that passes is found
+find_first : {Y : Type 0} (p : Y → Bool) (ys : List Y) (j : ℕ) (e : Y) → j < length ys → p (get_or ys j e) ≡ true → ((i : ℕ) → i < j → p (get_or ys i e) ≡ false) → find p ys ≡ Some (get_or ys j e)
+find_first p [] j e lt h before = absurd (omega arith)
+find_first p (y ∷ ys) zero e lt h before = take (p y) y (find p ys) h
+find_first p (y ∷ ys) (suc j) e lt h before = skip (p y) y (find p ys) (before 0 (omega arith)) ∙ find_first p ys j e (omega arith) h (λ i l. before (suc i) (omega arith))
+
+-- where none passes, none is found
+find_none : {Y : Type 0} (p : Y → Bool) (ys : List Y) (e : Y) → ((j : ℕ) → j < length ys → p (get_or ys j e) ≡ false) → find p ys ≡ None
+find_none p [] e h = refl
+find_none p (y ∷ ys) e h = skip (p y) y (find p ys) (h 0 (omega arith)) ∙ find_none p ys e (λ j lt. h (suc j) (omega arith))
 
 rising_index : (a b c : ℤ) → int_lt a b ≡ true → ordering_index (int_cmp a c) ≤ ordering_index (int_cmp b c)
 rising_index a b c h = grind (arith, ints)
@@ -74,8 +81,8 @@ rising_index a b c h = grind (arith, ints)
 back : (n i : ℕ) → i < n → n - 1 - (n - 1 - i) ≡ i
 back n i h = omega (arith, h)
 
--- a day from the oldest on, among those from the newest back
-mirrored : (xs : List DaySheet) (i : ℕ) (e : DaySheet) → i < length xs → get_or (reverse xs) (length xs - 1 - i) e ≡ get_or xs i e
+-- one from the first on, among those from the last back
+mirrored : {Y : Type 0} (xs : List Y) (i : ℕ) (e : Y) → i < length xs → get_or (reverse xs) (length xs - 1 - i) e ≡ get_or xs i e
 mirrored xs i e h = get_or-reverse xs (length xs - 1 - i) e (omega (arith, h)) ∙ ap (λ k. get_or xs k e) (back (length xs) i h)
 
 rises : (xs : List DaySheet) (d : Day) (e : DaySheet) (i j : ℕ) → AreFalling (reverse xs) → i ≤ j → j < length xs → ordering_index (int_cmp (number (get_or xs i e)) (day_number d)) ≤ ordering_index (int_cmp (number (get_or xs j e)) (day_number d))
@@ -86,20 +93,77 @@ rises xs d e i j f le lt = elim (cases_lt i j) [
   | inr p ↦ let same : i ≡ j = omega (arith, p, le) in rw same (omega arith)
 ]
 
+-- ---- a look from the last back
+
+module _ {X Y : Type 0} (f : X → Y) (p : Y → Bool) where
+  -- an image from the first on
+  shown : (xs : List X) (i : ℕ) (e : X) → i < length xs → get_or (map f xs) i (f e) ≡ f (get_or xs i e)
+  shown xs i e h = get_or-map f xs i e (f e) h
+
+  -- and from the last back
+  shown_back : (xs : List X) (j : ℕ) (e : X) → j < length xs → get_or (reverse (map f xs)) j (f e) ≡ f (get_or xs (length xs - 1 - j) e)
+  shown_back xs j e h =
+      get_or-reverse (map f xs) j (f e) (subst (λ n. j < n) (sym (length-map xs f)) h)
+      ∙ ap (λ n. get_or (map f xs) (n - 1 - j) (f e)) (length-map xs f)
+      ∙ shown xs (length xs - 1 - j) e (omega (arith, h))
+
+  -- a place from the last back is one from the first on
+  back_in_range : (xs : List X) (j : ℕ) → j < length (reverse (map f xs)) → j < length xs
+  back_in_range xs j h = subst (λ n. j < n) (length-reverse (map f xs) ∙ length-map xs f) h
+
+  -- where none passes, none is found: first where there is one to stand in for a missing one
+  none_back : (xs : List X) (e : X) → AllWithin (λ x. p (f x) ≡ false) xs 0 (length xs) → None ≡ find p (reverse (map f xs))
+  none_back xs e h = sym (find_none p (reverse (map f xs)) (f e) (λ j l.
+      let lt = back_in_range xs j l in
+      ap p (shown_back xs j e lt) ∙ h (length xs - 1 - j) e (omega arith) (omega (arith, lt))))
+
+  -- and then of any list
+  pub nowhere_back : (xs : List X) → AllWithin (λ x. p (f x) ≡ false) xs 0 (length xs) → None ≡ find p (reverse (map f xs))
+  nowhere_back [] h = refl
+  nowhere_back (x ∷ xs) h = none_back (x ∷ xs) x h
+
+  -- what passes is found, where none behind it does
+  pub found_back : (xs : List X) (i : ℕ) (e : X) → i < length xs → p (f (get_or xs i e)) ≡ true → AllWithin (λ x. p (f x) ≡ false) xs (i + 1) (length xs) → Some (f (get_or xs i e)) ≡ find p (reverse (map f xs))
+  found_back xs i e lt h behind =
+      let j : ℕ = length xs - 1 - i in
+      let here : get_or (reverse (map f xs)) j (f e) ≡ f (get_or xs i e) = shown_back xs j e (omega (arith, lt)) ∙ ap (λ k. f (get_or xs k e)) (back (length xs) i lt) in
+      ap Some (sym here)
+      ∙ sym (find_first p (reverse (map f xs)) j (f e) (rw (length-reverse (map f xs), length-map xs f) (omega (arith, lt))) (ap p here ∙ h) (λ k l.
+      ap p (shown_back xs k e (omega (arith, lt, l))) ∙ behind (length xs - 1 - k) e (omega (arith, lt, l)) (omega (arith, lt, l))))
+
 -- ---- a search among what stands for sheets
+
+-- what comes no later in a comparison is no greater
+le_from_index : (a b c : ℤ) → ordering_index (int_cmp a c) ≤ ordering_index (int_cmp b c) → int_le b c ≡ true → int_le a c ≡ true
+le_from_index a b c h p = grind (arith, ints)
 
 module _ {X : Type 0} (f : X → DaySheet) (d : Day) where
   abbrev pub compared : X → Ordering
   compared x = int_cmp (number (f x)) (day_number d)
 
-  shown : (xs : List X) (i : ℕ) (e : X) → i < length xs → get_or (map f xs) i (f e) ≡ f (get_or xs i e)
-  shown xs i e h = get_or-map f xs i e (f e) h
-
   -- from the oldest on, the comparisons rise
   compared_rise : (xs : List X) (e : X) → AreFalling (reverse (map f xs)) → IsNonDecreasingBy (λ x. ordering_index (compared x)) xs
   compared_rise xs e falling = IsNonDecreasingBy-from_default (λ x. ordering_index (compared x)) xs e (λ i j le lt.
       let in_range : j < length (map f xs) = subst (λ n. j < n) (sym (length-map xs f)) lt in
-      rw (← shown xs i e (omega (arith, le, lt)), ← shown xs j e lt) (rises (map f xs) d (f e) i j falling le in_range))
+      rw (← get_or-map f xs i e (f e) (omega (arith, le, lt)), ← get_or-map f xs j e (f e) lt) (rises (map f xs) d (f e) i j falling le in_range))
+
+  -- those of days on or before the date come first
+  pub dated_parted : (xs : List X) → AreFalling (reverse (map f xs)) → IsPartitionedBy (λ x. is_dated_by d (f x)) xs
+  dated_parted xs falling i j e le lt h = le_from_index (number (f (get_or xs i e))) (number (f (get_or xs j e))) (day_number d) (compared_rise xs e falling i j e le lt) h
+
+  -- the first so many are of days on or before the date, and none behind them is
+  abbrev Parted : List X → ℕ → Type 0
+  Parted xs n = IsPartitionPoint (λ x. is_dated_by d (f x) ≡ true) (λ x. is_dated_by d (f x) ≡ false) xs n
+
+  -- where no day is on or before the date, no sheet is found
+  pub none_as_of : (xs : List X) (n : ℕ) → n ≡ 0 → Parted xs n → None ≡ sheet_as_of (reverse (map f xs)) d
+  none_as_of xs n is h = nowhere_back f (is_dated_by d) xs (λ i e p q. h.1 i e (omega (arith, is)) q)
+
+  -- else the last of the first so many
+  pub found_as_of : (xs : List X) (n : ℕ) (x : X) → (n ≡ 0 → ⊥) → n ≤ length xs → Parted xs n → x ≡ get_or xs (n - 1) x → Some (f x) ≡ sheet_as_of (reverse (map f xs)) d
+  found_as_of xs n x some le h is =
+      ap (λ y. Some (f y)) is
+      ∙ found_back f (is_dated_by d) xs (n - 1) x (omega (arith, some, le)) (h.0 (n - 1) x (omega arith) (omega (arith, some))) (λ i e p q. h.1 i e (omega (arith, some, p)) q)
 
   tied : (a b : ℤ) → int_cmp a b ≡ Equal → int_eq a b ≡ true
   tied a b h = grind (arith, ints)
@@ -131,36 +195,25 @@ module _ {X : Type 0} (f : X → DaySheet) (d : Day) where
   sheet_at xs i e falling lt h =
       let ys = map f xs in
       let in_range : i < length ys = subst (λ n. i < n) (sym (length-map xs f)) lt in
-      let same : get_or (reverse ys) (length ys - 1 - i) (f e) ≡ f (get_or xs i e) = mirrored ys i (f e) in_range ∙ shown xs i e lt in
+      let same : get_or (reverse ys) (length ys - 1 - i) (f e) ≡ f (get_or xs i e) = mirrored ys i (f e) in_range ∙ get_or-map f xs i e (f e) lt in
       ap Some (sym same)
       ∙ sym (find_here (reverse ys) d (length ys - 1 - i) (f e) falling (rw (length-reverse ys) (omega (arith, in_range))) (ap (λ s. is_dated d s) same ∙ h))
 
-  none_shown : (xs : List X) (e : X) → AllWithin (λ x. is_dated d (f x) ≡ false) xs 0 (length xs) → None ≡ dated_sheet (reverse (map f xs)) d
-  none_shown xs e h =
-      let ys = map f xs in
-      sym (find_none (reverse ys) d (f e) (λ j lt.
-      let in_range : j < length ys = subst (λ n. j < n) (length-reverse ys) lt in
-      let k : ℕ = length ys - 1 - j in
-      let mirror : k < length xs = subst (λ n. k < n) (length-map xs f) (omega (arith, in_range)) in
-      ap (λ s. is_dated d s) (get_or-reverse ys j (f e) in_range ∙ shown xs k e mirror) ∙ h k e (omega arith) mirror))
-
-  pub sheet_nowhere : (xs : List X) → AllWithin (λ x. is_dated d (f x) ≡ false) xs 0 (length xs) → None ≡ dated_sheet (reverse (map f xs)) d
-  sheet_nowhere [] h = refl
-  sheet_nowhere (x ∷ xs) h = none_shown (x ∷ xs) x h
-
 -- ---- the sheets of the definitions
 
-found_branch : (b : Bool) (opening : Day) (K : Journal) (o : Option DaySheet) (p : Option Journal) → o ≡ option_map (day_sheet opening) p → cond b (Some (day_sheet opening K)) o ≡ option_map (day_sheet opening) (cond b (Some K) p)
-found_branch true opening K o p h = refl
-found_branch false opening K o p h = h
+-- an image that is found, or another
+found_branch : {X Y : Type 0} (f : X → Y) (b : Bool) (x : X) (o : Option Y) (p : Option X) → o ≡ option_map f p → cond b (Some (f x)) o ≡ option_map f (cond b (Some x) p)
+found_branch f true x o p h = refl
+found_branch f false x o p h = h
 
-sheet_kept : (opening : Day) (Ks : List Journal) (d : Day) → dated_sheet (map (day_sheet opening) Ks) d ≡ option_map (day_sheet opening) (find (λ K. is_same_day (date opening K) d) Ks)
-sheet_kept opening [] d = refl
-sheet_kept opening (K ∷ Ks) d = found_branch (is_same_day (date opening K) d) opening K _ _ (sheet_kept opening Ks d)
+-- what is found among images is the image of what is found
+find_image : {X Y : Type 0} (f : X → Y) (p : Y → Bool) (xs : List X) → find p (map f xs) ≡ option_map f (find (λ x. p (f x)) xs)
+find_image f p [] = refl
+find_image f p (x ∷ xs) = found_branch f (p (f x)) x (find p (map f xs)) (find (λ x. p (f x)) xs) (find_image f p xs)
 
 -- the sheet of the day with a date
 pub sheet_found : (L : List Activity) (s : Contents) (d : Day) → Follows L s → dated_sheet s.sheets d ≡ sheet_on s.opening (journal s.opening L) d
-sheet_found L s d f = ap (λ ss. dated_sheet ss d) f.sheets ∙ sheet_kept s.opening (closings (journal s.opening L)) d
+sheet_found L s d f = ap (λ ss. dated_sheet ss d) f.sheets ∙ find_image (day_sheet s.opening) (is_dated d) (closings (journal s.opening L))
 
 -- the answer to a STATEMENT, by whether the account is there and the day is closed
 pub answer_stated : (opening : Day) (is : Bool) (o : Option Journal) (a : Account) (sheet : DaySheet) → is ≡ true → option_map (day_sheet opening) o ≡ Some sheet

@@ -8,7 +8,9 @@ pub mod Trading
 pub mod Moving
 pub mod Closing
 pub mod SheetFound
+pub mod Paying
 pub mod SheetCut
 pub mod Within
+pub mod Acting
 pub mod Dated
 pub mod Taking

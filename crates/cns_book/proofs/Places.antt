@@ -6,7 +6,7 @@ use Rattle.cns_terms.specs.Days.{is_close}
 use Rattle.cns_terms.specs.Machine.{holding}
 use Rattle.cns_terms.specs.Postings.{Journal, Posting}
 use Rattle.cns_terms.proofs.Facts.{zero_add}
-use Rattle.cns_book.specs.Effects.{books}
+use Rattle.cns_positions.specs.Rows.{books}
 
 -- a posting that closes no day books its entries
 pub holding-post : (p : Posting) (J : Journal) (k : Key) → is_close p.activity ≡ false → holding (p ∷ J) k.account k.issue ≡ books p.entries k (holding J k.account k.issue)

@@ -1,48 +1,55 @@
 -- The sheet that a close cuts is the one of the definitions.
-use Rattle.std.proofs.Common.{◌≡◌, ◌∙◌, sym, ap, subst, refl, ℕ, ◌+◌, ◌*◌, ◌≤◌, ◌<◌, pos, Bool, true, false, cond, List, [], ◌∷◌, length, map, Some, None, unwrap_or, arith}
-use Rattle.std.specs.Prelude.{slice_get, unsigned_abs}
+use Rattle.std.proofs.Common.{◌≡◌, ◌∙◌, sym, ap, subst, refl, ℕ, ◌+◌, ◌*◌, ◌≤◌, ◌<◌, ℤ, pos, Bool, true, false, cond, List, [], ◌∷◌, length, map, filter, Option, Some, None, unwrap_or, arith}
+use Rattle.std.specs.Prelude.{option_map, slice_get, unsigned_abs}
 use Rattle.std.specs.Cmp.Lexicographic.{slice_cmp}
 use Rattle.std.specs.FinMap.{find, is_sorted}
-use Rattle.std.specs.List.{AllByRecursion}
+use Rattle.std.specs.List.{AllByRecursion, cons_option}
+use Rattle.std.specs.Option.{option_map_or}
 use Rattle.std.specs.Ordering.{is_eq, nat_cmp}
 use Rattle.std.proofs.lemmas.Cmp.{nat_list_cmp_total, tied_itself}
 use Rattle.std.proofs.lemmas.Map.Lookups.{exact_bytes}
 use Rattle.cns_units.specs.declared.cusip.Cusip.{Cusip}
 use Rattle.cns_units.specs.declared.day.Day.{Day}
+use Rattle.cns_terms.specs.declared.action.Declared.{Declared}
 use Rattle.cns_terms.specs.declared.command.Activity.{Activity}
 use Rattle.cns_terms.specs.declared.holding.Holding.{Holding}
 use Rattle.cns_terms.specs.declared.holding.Key.{Key}
 use Rattle.cns_terms.specs.declared.sheet.Row.{Row}
-use Rattle.cns_terms.specs.Days.{closings, last_close}
+use Rattle.cns_terms.specs.Days.{closings, date, is_not_after, last_close}
+use Rattle.cns_terms.specs.Dividends.{dividend, dividends, is_due, last_date, pays_before}
 use Rattle.cns_terms.specs.Entries.{journal}
 use Rattle.cns_terms.specs.Keys.{key_cmp}
-use Rattle.cns_terms.specs.Limits.{booking_limit, history_limit}
-use Rattle.cns_terms.specs.Listings.{is_listed, issues, price}
+use Rattle.cns_terms.specs.Limits.{amount_limit, booking_limit, history_limit, rate_limit}
+use Rattle.cns_terms.specs.Listings.{accounts, is_listed, issues, price}
 use Rattle.cns_terms.specs.Machine.{holding}
 use Rattle.cns_terms.specs.Positions.{money, position}
 use Rattle.cns_terms.specs.Postings.{Journal}
-use Rattle.cns_terms.specs.Sheets.{day_sheet, row, rows_for, sheet_prices, sheet_rows}
-use Rattle.cns_terms.specs.Sums.{same_issue, total}
+use Rattle.cns_terms.specs.Sheets.{DaySheet, day_sheet, row, rows_for, sheet_prices, sheet_rows}
+use Rattle.cns_terms.specs.Sums.{in_order, same_issue, total}
+use Rattle.cns_terms.proofs.Accounts.{occurs}
+use Rattle.cns_terms.proofs.Everywhere.{each_both, each_filter, each_in_order}
 use Rattle.cns_terms.proofs.Facts.{and_left, and_right, equal, journal_len}
 use Rattle.cns_terms.proofs.Finds.{find_below, same_lists, tied_below}
 use Rattle.cns_terms.proofs.Keys.{keys_total}
 use Rattle.cns_terms.proofs.PriceLists.{find_price, price_or_zero, sheet_price, sorted_prices}
-use Rattle.cns_terms.proofs.Reached.{limited}
+use Rattle.cns_terms.proofs.Reached.{AreSmallRates, IsLimited, limited, limited_past}
 use Rattle.cns_terms.proofs.SheetBounds.{closings_zero, issues_few, moneys_zero, rows_few}
-use Rattle.cns_terms.proofs.SheetRows.{rows_are_sheet, says}
-use Rattle.cns_terms.proofs.SheetSums.{idle_parts}
+use Rattle.cns_terms.proofs.SheetLimits.{account_cents_small, account_dividends_small, accounts_grew, due_few, payable}
 use Rattle.cns_terms.proofs.Sound.{IsSound, sound_last}
+use Rattle.cns_terms.proofs.Totals.{total-map}
 use Rattle.cns_positions.specs.Rows.{Rows, holding_at, zeros}
 use Rattle.cns_prices.specs.Listed.{Listed, listed_above, price_in}
-use Rattle.cns_sheets.specs.Build.{closing_in, prices_of, row_from, rows_from, sheet_from}
-use Rattle.cns_sheets.specs.Condition.{IsReady, closing_before}
-use Rattle.cns_sheets.proofs.Balance.{idle_closing, kept_sum, zero_in}
-use Rattle.cns_terms.proofs.Paid.{no_dividend}
+use Rattle.cns_sheets.specs.Build.{HaveSmallAmounts, by_key, key_of, priced_row, prices_of}
+use Rattle.cns_sheets.specs.Condition.{CanBePaid, IsReady, held_in, rows_before}
+use Rattle.cns_sheets.specs.Payments.{IsCut, IsPayable, Paying, closing_at, cut_row, dividend_of, said}
+use Rattle.cns_sheets.proofs.Balance.{found_number, none_in, numbers, numbers_in, same_sums, sorted_numbers, total_numbers}
 use Rattle.cns_sheets.proofs.Kept.{listed_found, prices_rise}
 use Rattle.cns_book.specs.Contents.{Contents}
+use Rattle.cns_book.specs.Dated.{last_dated, payments_by, sheet_as_of}
 use Rattle.cns_book.specs.Follows.{Follows}
 use Rattle.cns_book.proofs.Closing.{whole_reached}
-use Rattle.cns_book.proofs.SheetFound.{closing_found}
+use Rattle.cns_book.proofs.Paying.{IsEarlier, dividends_are, rows_are_cut}
+use Rattle.cns_book.proofs.SheetFound.{closing_found, money_found, shown_rise}
 
 -- ---- prices
 
@@ -59,17 +66,44 @@ prices_are J es s sorted is =
 
 -- ---- rows
 
--- the rows are those of the definitions
-pub rows_are : (L : List Activity) (s : Contents) → Follows L s → is_sorted key_cmp s.rows ≡ true → rows_from (prices_of (slice_get s.sheets 0)) s.prices s.rows ≡ sheet_rows s.opening (journal s.opening L)
-rows_are L s f order =
-    let J = journal s.opening L in
-    let w = whole_reached L f in
-    let before = prices_of (slice_get s.sheets 0) in
-    let earlier : before ≡ sheet_prices (last_close J) = ap (λ ss. prices_of (slice_get ss 0)) f.sheets ∙ before_is s.opening (closings J) in
-    let now : (c : Cusip) → unwrap_or (price_in s.prices c) 0 ≡ price J c = λ c. ap (λ o. unwrap_or o 0) (f.listings.prices c) ∙ price_or_zero J c w.now in
-    let then : (c : Cusip) → unwrap_or (find (slice_cmp nat_cmp) c before) 0 ≡ price (last_close J) c = λ c. ap (λ ps. unwrap_or (find (slice_cmp nat_cmp) c ps) 0) earlier ∙ sheet_price (last_close J) c (sound_last J w) in
-    let is : (k : Key) → row_from before s.prices (k, holding J k.account k.issue) ≡ row s.opening J k.account k.issue = λ k. rw (now k.issue, then k.issue, no_dividend s.opening J k.account k.issue) refl in
-    rows_are_sheet (row_from before s.prices) s.opening J s.rows zeros w.now order f.rows is (λ k. refl)
+-- the dividends that a close pays, with the rows of the sheets of their record dates
+abbrev pub paid_now : Contents → List Paying
+paid_now s = payments_by s.sheets (filter (is_due (last_dated s.sheets) s.today) s.dividends)
+
+module _ (L : List Activity) (s : Contents) (f : Follows L s) where
+  abbrev journal_now : Journal
+  journal_now = journal s.opening L
+
+  -- the date of the last close is that of the definitions
+  last_is : (Ks : List Journal) → last_dated (map (day_sheet s.opening) Ks) ≡ option_map (date s.opening) (slice_get Ks 0)
+  last_is [] = refl
+  last_is (K ∷ Ks) = refl
+
+  -- and so are the dividends
+  paid_is_due : paid_now s ≡ payments_by (map (day_sheet s.opening) (closings journal_now)) (filter (is_due (last_date s.opening journal_now) (date s.opening journal_now)) (in_order pays_before (dividends journal_now)))
+  paid_is_due = λ i. payments_by (f.sheets i) (filter (is_due ((ap last_dated f.sheets ∙ last_is (closings journal_now)) i) (f.clock.today i)) (f.dividends i))
+
+  -- each journal of a close is sound, and its accounts are there now
+  earlier : AllByRecursion (IsEarlier s.opening journal_now (whole_reached L f).now) (closings journal_now)
+  earlier = each_both IsSound (λ K. (a : ℕ) → occurs a (accounts K) ≤ occurs a (accounts journal_now)) (closings journal_now) (whole_reached L f).past (accounts_grew journal_now)
+
+  -- what a close pays at each key
+  dividend_is : (k : Key) → dividend_of (paid_now s) k ≡ dividend s.opening journal_now k.account k.issue
+  dividend_is k = ap (λ ps. dividend_of ps k) paid_is_due ∙ dividends_are s.opening journal_now (whole_reached L f).now k earlier
+
+  -- the row of each key is that of the definitions
+  row_is : (k : Key) → cut_row (prices_of (slice_get s.sheets 0)) s.prices s.rows (paid_now s) k ≡ row s.opening journal_now k.account k.issue
+  row_is k =
+      let w = whole_reached L f in
+      let before = prices_of (slice_get s.sheets 0) in
+      let old : before ≡ sheet_prices (last_close journal_now) = ap (λ ss. prices_of (slice_get ss 0)) f.sheets ∙ before_is s.opening (closings journal_now) in
+      let now : unwrap_or (price_in s.prices k.issue) 0 ≡ price journal_now k.issue = ap (λ o. unwrap_or o 0) (f.listings.prices k.issue) ∙ price_or_zero journal_now k.issue w.now in
+      let then : unwrap_or (find (slice_cmp nat_cmp) k.issue before) 0 ≡ price (last_close journal_now) k.issue = ap (λ ps. unwrap_or (find (slice_cmp nat_cmp) k.issue ps) 0) old ∙ sheet_price (last_close journal_now) k.issue (sound_last journal_now w) in
+      λ i. priced_row (then i) (now i) (dividend_is k i) (k, f.rows k i)
+
+  -- rows that are cut are those of the definitions
+  pub cut_is : (rows : List Row) → IsCut (prices_of (slice_get s.sheets 0)) s.prices s.rows (paid_now s) rows → rows ≡ sheet_rows s.opening journal_now
+  cut_is rows cut = rows_are_cut s.opening journal_now rows (whole_reached L f).now cut.order (λ k. cut.each k ∙ ap said (row_is k))
 
 -- ---- what a sheet asks of positions
 
@@ -99,31 +133,98 @@ each_row Q (e ∷ R) z s h =
     (subst Q here (h e.0), each_row Q R z (and_right _ _ s) (λ k. each_branch (is_eq (key_cmp k e.0)) R e k Q z (h k) (λ t. find_below keys_total k R (tied_below keys_total k e.0 R (equal _ t) (and_left _ _ s)))))
 
 -- the sheet before has the position of the close before at each key
-opening_is : (opening : Day) (Ks : List Journal) (k : Key) → AllByRecursion IsSound Ks → position (unwrap_or (slice_get Ks 0) []) k.account k.issue ≡ closing_before (slice_get (map (day_sheet opening) Ks) 0) k
+opening_is : (opening : Day) (Ks : List Journal) (k : Key) → AllByRecursion IsSound Ks → position (unwrap_or (slice_get Ks 0) []) k.account k.issue ≡ closing_at (rows_before (slice_get (map (day_sheet opening) Ks) 0)) k
 opening_is opening [] k h = refl
 opening_is opening (K ∷ Ks) k h = sym (closing_found opening K k h.0)
 
--- an idle row has no money
-idle_money : (c : Cusip) (r : Row) → says r ≡ false → cond (same_issue r.issue c) r.money (pos 0) ≡ pos 0
-idle_money c r h = zero_in (same_issue r.issue c) r.money (idle_parts r h).2
+-- ---- what holds of rows at keys
+
+-- a number of the holding at each key adds up in each issue as that of the rows
+same_by_issue : (f : Holding → ℤ) (g : Row → ℤ) (R : Rows) (rows : List Row) (c : Cusip) → is_sorted key_cmp R ≡ true → is_sorted key_cmp (by_key rows) ≡ true
+    → ((k : Key) → option_map_or f (find key_cmp k R) (pos 0) ≡ option_map_or g (find key_cmp k (by_key rows)) (pos 0)) → total (held_in f c) R ≡ total (λ r. cond (same_issue r.issue c) (g r) (pos 0)) rows
+same_by_issue f g R rows c order rise alike =
+    sym (total_numbers f (numbers_in c) R)
+    ∙ same_sums (numbers_in c) (none_in c) (numbers f R) (numbers g (by_key rows)) (sorted_numbers f R order) (sorted_numbers g (by_key rows) rise)
+    (λ k. found_number f k (pos 0) R ∙ alike k ∙ sym (found_number g k (pos 0) (by_key rows)))
+    ∙ total_numbers g (numbers_in c) (by_key rows)
+    ∙ total-map (λ (e : Key × Row). cond (same_issue e.0.issue c) (g e.1) (pos 0)) (λ r. (key_of r, r)) rows
+
+-- a number of the holding at a key, be it there or not
+held_number : (g : Holding → ℤ) (o : Option Holding) → g zeros ≡ pos 0 → option_map_or g o (pos 0) ≡ g (unwrap_or o zeros)
+held_number g None z = sym z
+held_number g (Some h) z = refl
+
+-- few cents are within the limit of amounts
+cents_within : (n : ℕ) → n ≤ booking_limit * history_limit → n ≤ amount_limit
+cents_within n h = omega (arith, h)
 
 -- a sheet can be cut of the positions
-pub can_be_cut : (L : List Activity) (s : Contents) → Follows L s → length L + 1 < history_limit → IsReady (slice_get s.sheets 0) s.prices s.rows
+pub can_be_cut : (L : List Activity) (s : Contents) → Follows L s → length L + 1 < history_limit → IsReady (slice_get s.sheets 0) s.prices s.rows (paid_now s)
 can_be_cut L s f room order =
     let J = journal s.opening L in
     let w = whole_reached L f in
-    let before = prices_of (slice_get s.sheets 0) in
-    let same = rows_are L s f order in
+    let l = limited s.opening L f.reached in
+    let short : length J < history_limit = omega (arith, room, journal_len s.opening L) in
+    let shown = sheet_rows s.opening J in
     record {
-      shares = λ c. sym (kept_sum (closing_in c) (row_from before s.prices) s.rows (idle_closing c)) ∙ ap (total (closing_in c)) same ∙ closings_zero s.opening J c w.now;
+      shares = λ c.
+          same_by_issue (λ h. h.now) (λ r. r.closing) s.rows shown c order (shown_rise s.opening J w.now)
+          (λ k. held_number (λ h. h.now) (find key_cmp k s.rows) refl ∙ ap (λ (h : Holding). h.now) (f.rows k) ∙ sym (closing_found s.opening J k w.now))
+          ∙ closings_zero s.opening J c w.now;
       cents = λ c.
-          sym (kept_sum (λ r. cond (same_issue r.issue c) r.money (pos 0)) (row_from before s.prices) s.rows (idle_money c))
-          ∙ ap (total (λ r. cond (same_issue r.issue c) r.money (pos 0))) same ∙ moneys_zero s.opening J c w.now;
-      openings = λ k. ap (λ (h : Holding). h.opening) (f.rows k) ∙ opening_is s.opening (closings J) k w.past ∙ ap (λ ss. closing_before (slice_get ss 0) k) (sym f.sheets);
-      small = each_row (λ h. unsigned_abs h.contract ≤ booking_limit * history_limit) s.rows (omega arith) order (λ k. cents_few L s k f room);
-      few = λ a. subst (λ rs. length (rows_for rs a) ≤ history_limit) (sym same) (few _ (length L) (omega (arith, rows_few s.opening J a w.now, issues_few J, journal_len s.opening L)) room);
+          same_by_issue (λ h. h.contract) (λ r. r.money) s.rows shown c order (shown_rise s.opening J w.now)
+          (λ k. held_number (λ h. h.contract) (find key_cmp k s.rows) refl ∙ ap (λ (h : Holding). h.contract) (f.rows k) ∙ sym (money_found s.opening J k w.now))
+          ∙ moneys_zero s.opening J c w.now;
+      openings = λ k. ap (λ (h : Holding). h.opening) (f.rows k) ∙ opening_is s.opening (closings J) k w.past ∙ ap (λ ss. closing_at (rows_before (slice_get ss 0)) k) (sym f.sheets);
+      small = each_row (λ h. unsigned_abs h.contract ≤ amount_limit) s.rows (omega arith) order (λ k. cents_within _ (cents_few L s k f room));
+      few = λ cut is a. subst (λ rs. length (rows_for rs a) ≤ history_limit) (sym (cut_is L s f cut is)) (few _ (length L) (omega (arith, rows_few s.opening J a w.now, issues_few J, journal_len s.opening L)) room);
+      amounts = λ cut is. subst HaveSmallAmounts (sym (cut_is L s f cut is)) (record {
+        cents = λ a n. account_cents_small s.opening J a n l short;
+        dividends = λ a n. account_dividends_small s.opening J a n l (limited_past s.opening L f.reached) short;
+      });
     }
 
+-- ---- what a close pays can be paid
+
+-- a dividend with the sheet that is found
+payable_if : (opening : Day) (d : Declared) (b : Bool) (K : Journal) (o : Option DaySheet) (ps : List Paying) → IsLimited opening K → d.rate ≤ rate_limit → AllByRecursion IsPayable (cons_option (option_map (λ s. (d, s.rows)) o) ps)
+    → AllByRecursion IsPayable ps → AllByRecursion IsPayable (cons_option (option_map (λ s. (d, s.rows)) (cond b (Some (day_sheet opening K)) o)) ps)
+payable_if opening d true K o ps l low rest h = (payable opening K l d.cusip d.rate low, h)
+payable_if opening d false K o ps l low rest h = rest
+
+payable_one : (opening : Day) (d : Declared) (Ks : List Journal) (ps : List Paying) → AllByRecursion (IsLimited opening) Ks → d.rate ≤ rate_limit → AllByRecursion IsPayable ps → AllByRecursion IsPayable (cons_option (option_map (λ s. (d, s.rows)) (sheet_as_of (map (day_sheet opening) Ks) d.recorded)) ps)
+payable_one opening d [] ps l low h = h
+payable_one opening d (K ∷ Ks) ps l low h = payable_if opening d (is_not_after (date opening K) d.recorded) K (sheet_as_of (map (day_sheet opening) Ks) d.recorded) ps l.0 low (payable_one opening d Ks ps l.1 low h) h
+
+all_payable : (opening : Day) (Ks : List Journal) (ds : List Declared) → AllByRecursion (IsLimited opening) Ks → AreSmallRates ds → AllByRecursion IsPayable (payments_by (map (day_sheet opening) Ks) ds)
+all_payable opening Ks [] l r = tt
+all_payable opening Ks (d ∷ ds) l r = payable_one opening d Ks (payments_by (map (day_sheet opening) Ks) ds) l r.0 (all_payable opening Ks ds l r.1)
+
+-- no more are paid than are due
+option_len : {X : Type 0} (o : Option X) (xs : List X) (n : ℕ) → length xs ≤ n → length (cons_option o xs) ≤ n + 1
+option_len None xs n h = omega (arith, h)
+option_len (Some x) xs n h = omega (arith, h)
+
+paying_few : (ss : List DaySheet) (ds : List Declared) → length (payments_by ss ds) ≤ length ds
+paying_few ss [] = omega arith
+paying_few ss (d ∷ ds) = omega (arith, option_len (option_map (λ s. (d, s.rows)) (sheet_as_of ss d.recorded)) (payments_by ss ds) (length ds) (paying_few ss ds))
+
+-- the dividends of a close can be paid
+pub can_be_paid : (L : List Activity) (s : Contents) → Follows L s → length L + 1 < history_limit → CanBePaid (paid_now s)
+can_be_paid L s f room =
+    let J = journal s.opening L in
+    let due = is_due (last_date s.opening J) (date s.opening J) in
+    let ds = filter due (in_order pays_before (dividends J)) in
+    let low = each_filter (λ d. d.rate ≤ rate_limit) due (in_order pays_before (dividends J)) (each_in_order (λ d. d.rate ≤ rate_limit) pays_before (dividends J) (limited s.opening L f.reached).rates) in
+    subst CanBePaid (sym (paid_is_due L s f)) (record {
+      payable = all_payable s.opening (closings J) ds (limited_past s.opening L f.reached) low;
+      few = omega (arith, paying_few (map (day_sheet s.opening) (closings J)) ds, due_few due J, journal_len s.opening L, room);
+    })
+
 -- the sheet
-pub sheet_is : (L : List Activity) (s : Contents) → Follows L s → is_sorted (slice_cmp nat_cmp) s.prices ≡ true → is_sorted key_cmp s.rows ≡ true → sheet_from s.today (prices_of (slice_get s.sheets 0)) s.prices s.rows ≡ day_sheet s.opening (journal s.opening L)
-sheet_is L s f prices rows = λ i. record { date = f.clock.today i; prices = prices_are (journal s.opening L) s.prices (whole_reached L f).now prices f.listings.prices i; rows = rows_are L s f rows i }
+pub sheet_is : (L : List Activity) (s : Contents) (sheet : DaySheet) → Follows L s → is_sorted (slice_cmp nat_cmp) s.prices ≡ true → sheet.date ≡ s.today → sheet.prices ≡ listed_above s.prices None → IsCut (prices_of (slice_get s.sheets 0)) s.prices s.rows (paid_now s) sheet.rows → sheet ≡ day_sheet s.opening (journal s.opening L)
+sheet_is L s sheet f order dated listed cut = λ i. record {
+  date = (dated ∙ f.clock.today) i;
+  prices = (listed ∙ prices_are (journal s.opening L) s.prices (whole_reached L f).now order f.listings.prices) i;
+  rows = cut_is L s f sheet.rows cut i;
+}

@@ -1,7 +1,7 @@
 -- What a closed day's sheet of the definitions shows at each key.
-use Rattle.std.proofs.Common.{◌≡◌, ◌∙◌, sym, ap, refl, pos, Bool, true, false, ◌&&◌, cond, List, [], ◌∷◌, ◌++◌, map, filter, flat_map, Some, None}
+use Rattle.std.proofs.Common.{◌≡◌, ◌∙◌, sym, ap, refl, ℤ, pos, Bool, true, false, ◌&&◌, cond, List, [], ◌∷◌, ◌++◌, map, filter, flat_map, Some, None}
 use Rattle.std.specs.Prelude.{bytes_eq}
-use Rattle.std.specs.FinMap.{find}
+use Rattle.std.specs.FinMap.{find, is_sorted}
 use Rattle.std.specs.List.{list_any}
 use Rattle.std.specs.Option.{option_map_or}
 use Rattle.std.proofs.lemmas.List.{map-append}
@@ -13,18 +13,23 @@ use Rattle.cns_terms.specs.declared.holding.Key.{Key}
 use Rattle.cns_terms.specs.declared.sheet.Row.{Row}
 use Rattle.cns_terms.specs.Keys.{key_cmp}
 use Rattle.cns_terms.specs.Listings.{accounts, is_account, issues}
-use Rattle.cns_terms.specs.Positions.{position}
+use Rattle.cns_terms.specs.Positions.{money, position}
 use Rattle.cns_terms.specs.Postings.{Journal}
 use Rattle.cns_terms.specs.Sheets.{row, rows_of, sheet_rows}
 use Rattle.cns_terms.proofs.Cells.{cells, cells_of, find_cells, sorted_cells}
 use Rattle.cns_terms.proofs.Elsewhere.{idle_at}
-use Rattle.cns_terms.proofs.Finds.{find_filter, kept_if}
+use Rattle.cns_terms.proofs.Finds.{find_filter, kept_if, sorted_filter}
 use Rattle.cns_terms.proofs.Keys.{keys_total}
 use Rattle.cns_terms.proofs.SheetRows.{says}
 use Rattle.cns_terms.proofs.SheetSums.{idle_parts}
 use Rattle.cns_terms.proofs.Sound.{IsSound}
 use Rattle.cns_sheets.specs.Build.{by_key, key_of}
-use Rattle.cns_sheets.proofs.Kept.{with_key}
+use Rattle.cns_sheets.specs.Payments.{closing_at}
+
+-- one row more, or not, with its key
+with_key : (b : Bool) (r : Row) (rs : List Row) (es : List (Key × Row)) → by_key rs ≡ es → by_key (cond b (r ∷ rs) rs) ≡ cond b ((key_of r, r) ∷ es) es
+with_key true r rs es h = ap (λ xs. (key_of r, r) ∷ xs) h
+with_key false r rs es h = h
 
 module _ (opening : Day) (K : Journal) where
   -- the row at each key
@@ -35,23 +40,39 @@ module _ (opening : Day) (K : Journal) where
   of_account a [] = refl
   of_account a (c ∷ cs) = with_key (says (row opening K a c)) (row opening K a c) (filter says (map (row opening K a) cs)) (filter (λ e. says e.1) (cells_of row_of a cs)) (of_account a cs)
 
-  of_all : (bs : List Account) → by_key (flat_map (rows_of opening K) bs) ≡ filter (λ e. says e.1) (cells row_of bs (issues K))
+  -- the rows of all accounts, with their keys
+  pub of_all : (bs : List Account) → by_key (flat_map (rows_of opening K) bs) ≡ filter (λ e. says e.1) (cells row_of bs (issues K))
   of_all [] = refl
   of_all (a ∷ bs) =
       map-append (λ r. (key_of r, r)) (rows_of opening K a) (flat_map (rows_of opening K) bs)
       ∙ (λ i. of_account a (issues K) i ++ of_all bs i)
       ∙ sym (filter-append (λ (e : Key × Row). says e.1) (cells_of row_of a (issues K)) (cells row_of bs (issues K)))
 
-  closing_kept : (b t : Bool) (r : Row) → says r ≡ t → (b ≡ false → says r ≡ false) → option_map_or (λ (r : Row). r.closing) (kept_if says (cond b (Some r) None)) (pos 0) ≡ r.closing
-  closing_kept true true r is out = ap (λ t. option_map_or (λ (r : Row). r.closing) (cond t (Some r) None) (pos 0)) is
-  closing_kept true false r is out = ap (λ t. option_map_or (λ (r : Row). r.closing) (cond t (Some r) None) (pos 0)) is ∙ sym (idle_parts r is).1
-  closing_kept false t r is out = sym (idle_parts r (out refl)).1
+  module _ (g : Row → ℤ) (idle : (r : Row) → says r ≡ false → g r ≡ pos 0) where
+    number_kept : (b t : Bool) (r : Row) → says r ≡ t → (b ≡ false → says r ≡ false) → option_map_or g (kept_if says (cond b (Some r) None)) (pos 0) ≡ g r
+    number_kept true true r is out = ap (λ t. option_map_or g (cond t (Some r) None) (pos 0)) is
+    number_kept true false r is out = ap (λ t. option_map_or g (cond t (Some r) None) (pos 0)) is ∙ sym (idle r is)
+    number_kept false t r is out = sym (idle r (out refl))
+
+    -- a number of the row at a key, 0 where it has none, is that of the definitions
+    pub number_found : (k : Key) → IsSound K → option_map_or g (find key_cmp k (by_key (sheet_rows opening K))) (pos 0) ≡ g (row_of k)
+    number_found k s =
+        ap (λ o. option_map_or g o (pos 0)) (
+        ap (find key_cmp k) (of_all (accounts K))
+        ∙ find_filter keys_total says k (cells row_of (accounts K) (issues K)) (sorted_cells row_of (accounts K) (issues K) s.accounts_rise s.issues_rise)
+        ∙ ap (kept_if says) (find_cells row_of k (accounts K) (issues K)))
+        ∙ number_kept (is_account K k.account && list_any (λ c. bytes_eq k.issue c) (issues K)) _ (row_of k) refl (idle_at opening K k s)
+
+  -- the rows are in the order of their keys
+  pub shown_rise : IsSound K → is_sorted key_cmp (by_key (sheet_rows opening K)) ≡ true
+  shown_rise s =
+      ap (is_sorted key_cmp) (of_all (accounts K))
+      ∙ sorted_filter keys_total says (cells row_of (accounts K) (issues K)) (sorted_cells row_of (accounts K) (issues K) s.accounts_rise s.issues_rise)
 
   -- the closing at a key, 0 where it has no row, is the position at the close
-  pub closing_found : (k : Key) → IsSound K → option_map_or (λ r. r.closing) (find key_cmp k (by_key (sheet_rows opening K))) (pos 0) ≡ position K k.account k.issue
-  closing_found k s =
-      ap (λ o. option_map_or (λ (r : Row). r.closing) o (pos 0)) (
-      ap (find key_cmp k) (of_all (accounts K))
-      ∙ find_filter keys_total says k (cells row_of (accounts K) (issues K)) (sorted_cells row_of (accounts K) (issues K) s.accounts_rise s.issues_rise)
-      ∙ ap (kept_if says) (find_cells row_of k (accounts K) (issues K)))
-      ∙ closing_kept (is_account K k.account && list_any (λ c. bytes_eq k.issue c) (issues K)) _ (row_of k) refl (idle_at opening K k s)
+  pub closing_found : (k : Key) → IsSound K → closing_at (sheet_rows opening K) k ≡ position K k.account k.issue
+  closing_found k s = number_found (λ r. r.closing) (λ r h. (idle_parts r h).1) k s
+
+  -- and so are the cents
+  pub money_found : (k : Key) → IsSound K → option_map_or (λ r. r.money) (find key_cmp k (by_key (sheet_rows opening K))) (pos 0) ≡ money K k.account k.issue
+  money_found k s = number_found (λ r. r.money) (λ r h. (idle_parts r h).2) k s

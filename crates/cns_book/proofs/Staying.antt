@@ -1,19 +1,19 @@
 -- What an activity leaves: of each group of parts, which activities change it.
-use Rattle.std.proofs.Common.{◌≡◌, ◌∙◌, sym, ap, Bool, true, false, [], ◌∷◌}
+use Rattle.std.proofs.Common.{◌≡◌, ◌∙◌, sym, ap, Bool, true, false, [], ◌∷◌, is_some}
 use Rattle.cns_terms.specs.declared.command.Activity.{Activity}
 use Rattle.cns_terms.specs.declared.command.Activity.TheVariants as activity
 use Rattle.cns_terms.specs.declared.holding.Key.{Key}
 use Rattle.cns_terms.specs.Days.{is_close}
+use Rattle.cns_terms.specs.Dividends.{declared}
 use Rattle.cns_terms.specs.Entries.{entries, posting}
 use Rattle.cns_terms.specs.Machine.{holding}
 use Rattle.cns_terms.specs.Postings.{Journal}
-use Rattle.cns_positions.specs.Rows.{Rows, holding_at}
+use Rattle.cns_positions.specs.Rows.{Rows, books, holding_at}
 use Rattle.cns_book.specs.Contents.{Contents}
-use Rattle.cns_book.specs.Effects.{books}
-use Rattle.cns_book.specs.Follows.{FollowsClock, FollowsListings, FollowsRows, FollowsSheets}
+use Rattle.cns_book.specs.Follows.{FollowsClock, FollowsDividends, FollowsListings, FollowsRows, FollowsSheets}
 use Rattle.cns_book.proofs.Places.{books_none, holding-post}
 
--- whether an activity changes members or listed issues
+-- whether an activity changes members, listed issues or retired ones
 abbrev pub is_listing : Activity → Bool
 is_listing (activity.Member m) = true
 is_listing (activity.Issue l) = true
@@ -21,7 +21,14 @@ is_listing (activity.Trade t) = false
 is_listing (activity.Price l) = true
 is_listing (activity.Deliver m) = false
 is_listing (activity.Receive m) = false
+is_listing (activity.Dividend d) = false
+is_listing (activity.Split s) = false
+is_listing (activity.Exchange x) = true
 is_listing (activity.Close d) = false
+
+-- whether an activity declares a dividend
+abbrev pub is_dividend : Activity → Bool
+is_dividend x = is_some (declared x)
 
 module _ (s : Contents) (J : Journal) where
   abbrev after : Activity → Journal
@@ -34,6 +41,9 @@ module _ (s : Contents) (J : Journal) where
   clock_stays (activity.Price l) h f = record { today = f.today; closes = f.closes }
   clock_stays (activity.Deliver m) h f = record { today = f.today; closes = f.closes }
   clock_stays (activity.Receive m) h f = record { today = f.today; closes = f.closes }
+  clock_stays (activity.Dividend d) h f = record { today = f.today; closes = f.closes }
+  clock_stays (activity.Split p) h f = record { today = f.today; closes = f.closes }
+  clock_stays (activity.Exchange x) h f = record { today = f.today; closes = f.closes }
   clock_stays (activity.Close d) h f = cc
 
   pub listings_stay : (x : Activity) → is_listing x ≡ false → FollowsListings J s → FollowsListings (after x) s
@@ -43,7 +53,22 @@ module _ (s : Contents) (J : Journal) where
   listings_stay (activity.Price l) h f = cc
   listings_stay (activity.Deliver m) h f = record { members = f.members; prices = f.prices; retired = f.retired }
   listings_stay (activity.Receive m) h f = record { members = f.members; prices = f.prices; retired = f.retired }
+  listings_stay (activity.Dividend d) h f = record { members = f.members; prices = f.prices; retired = f.retired }
+  listings_stay (activity.Split p) h f = record { members = f.members; prices = f.prices; retired = f.retired }
+  listings_stay (activity.Exchange x) h f = cc
   listings_stay (activity.Close d) h f = record { members = f.members; prices = f.prices; retired = f.retired }
+
+  pub dividends_stay : (x : Activity) → is_dividend x ≡ false → FollowsDividends J s → FollowsDividends (after x) s
+  dividends_stay (activity.Member m) h f = f
+  dividends_stay (activity.Issue l) h f = f
+  dividends_stay (activity.Trade t) h f = f
+  dividends_stay (activity.Price l) h f = f
+  dividends_stay (activity.Deliver m) h f = f
+  dividends_stay (activity.Receive m) h f = f
+  dividends_stay (activity.Dividend d) h f = cc
+  dividends_stay (activity.Split p) h f = f
+  dividends_stay (activity.Exchange x) h f = f
+  dividends_stay (activity.Close d) h f = f
 
   pub sheets_stay : (x : Activity) → is_close x ≡ false → FollowsSheets J s → FollowsSheets (after x) s
   sheets_stay (activity.Member m) h f = f
@@ -52,6 +77,9 @@ module _ (s : Contents) (J : Journal) where
   sheets_stay (activity.Price l) h f = f
   sheets_stay (activity.Deliver m) h f = f
   sheets_stay (activity.Receive m) h f = f
+  sheets_stay (activity.Dividend d) h f = f
+  sheets_stay (activity.Split p) h f = f
+  sheets_stay (activity.Exchange x) h f = f
   sheets_stay (activity.Close d) h f = cc
 
   -- what an activity books, and no more, is the effect on the rows

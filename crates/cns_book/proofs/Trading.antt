@@ -21,14 +21,13 @@ use Rattle.cns_terms.specs.Postings.{Journal}
 use Rattle.cns_terms.specs.Reached.{IsInRange}
 use Rattle.cns_terms.specs.Refusals.{first_refusal, refusal, is_beyond, is_too_large}
 use Rattle.cns_terms.proofs.Facts.{bytes_refl, eqb_refl, or_false}
-use Rattle.cns_positions.specs.Rows.{Rows, holding_at}
+use Rattle.cns_positions.specs.Rows.{Rows, books, holding_at}
 use Rattle.cns_trades.specs.Checks.{trade_rules}
 use Rattle.cns_trades.specs.declared.facts.TradeFacts.{TradeFacts}
 use Rattle.cns_trades.specs.Used.{Used}
 use Rattle.cns_book.specs.Contents.{Contents}
-use Rattle.cns_book.specs.Effects.{books}
 use Rattle.cns_book.specs.Follows.{AreTradeFacts, Follows, FollowsReferences}
-use Rattle.cns_book.proofs.Staying.{clock_stays, is_listing, listings_stay, rows_booked, sheets_stay}
+use Rattle.cns_book.proofs.Staying.{clock_stays, dividends_stay, is_dividend, is_listing, listings_stay, rows_booked, sheets_stay}
 
 -- what an answer says of the refusal
 pub answer_err : (o : Option Refusal) (es : List Entry) (r : Refusal) → Err r ≡ option_map_or Err o (Ok es) → o ≡ Some r
@@ -108,16 +107,17 @@ same_rows L s new f h = record {
   clock = record { today = f.clock.today; closes = f.clock.closes };
   listings = record { members = f.listings.members; prices = f.listings.prices; retired = f.listings.retired };
   references = f.references;
+  dividends = f.dividends;
   rows = λ k. h k ∙ f.rows k;
   sheets = f.sheets;
 }
 
 -- an activity that books its entries, where the references follow it
-pub booked_by : (L : List Activity) (s : Contents) (x : Activity) (references : Used) (rows : Rows) → Follows L s → IsInRange x → refusal s.opening (journal s.opening L) (command.Activity x) ≡ None → is_close x ≡ false → is_listing x ≡ false
+pub booked_by : (L : List Activity) (s : Contents) (x : Activity) (references : Used) (rows : Rows) → Follows L s → IsInRange x → refusal s.opening (journal s.opening L) (command.Activity x) ≡ None → is_close x ≡ false → is_listing x ≡ false → is_dividend x ≡ false
     → FollowsReferences (journal s.opening (x ∷ L)) (record s { references = references })
     → ((k : Key) → holding_at rows k ≡ books (entries s.opening (journal s.opening L) x) k (holding_at s.rows k))
     → Follows (x ∷ L) (record s { references = references; rows = rows })
-booked_by L s x references rows f range none still unlisted r b =
+booked_by L s x references rows f range none still unlisted undeclared r b =
     let J = journal s.opening L in
     let c = clock_stays s J x still f.clock in
     let l = listings_stay s J x unlisted f.listings in
@@ -126,6 +126,7 @@ booked_by L s x references rows f range none still unlisted r b =
       clock = record { today = c.today; closes = c.closes };
       listings = record { members = l.members; prices = l.prices; retired = l.retired };
       references = r;
+      dividends = dividends_stay s J x undeclared f.dividends;
       rows = rows_booked s J x rows still b f.rows;
       sheets = sheets_stay s J x still f.sheets;
     }

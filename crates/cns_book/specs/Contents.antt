@@ -1,6 +1,7 @@
 -- What each part of a book shows.
 use Rattle.std.specs.Prelude.{ℕ, Bool, List}
 use Rattle.cns_units.specs.declared.day.Day.{Day}
+use Rattle.cns_terms.specs.declared.action.Declared.{Declared}
 use Rattle.cns_terms.specs.declared.holding.Holding.{Holding}
 use Rattle.cns_terms.specs.declared.holding.Key.{Key}
 use Rattle.cns_terms.specs.Sheets.{DaySheet}
@@ -15,5 +16,6 @@ pub record Contents : Type 0 where
   pub members : List Bool
   pub prices : Listed
   pub references : Used
+  pub dividends : List Declared
   pub rows : List (Key × Holding)
   pub sheets : List DaySheet

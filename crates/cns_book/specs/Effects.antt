@@ -1,12 +1,20 @@
--- What entries make of the rows.
-use Rattle.std.specs.Prelude.{◌≤◌, ◌*◌, ◌+ℤ◌, List, map, unsigned_abs}
+-- Where entries are booked, and what splits and exchanges are checked for.
+use Rattle.std.specs.Prelude.{◌≤◌, ◌*◌, not, ◌&&◌, ◌||◌, List, [], ◌∷◌, map, unsigned_abs}
+use Rattle.cns_terms.specs.declared.action.Exchange.{Exchange}
+use Rattle.cns_terms.specs.declared.action.Split.{Split}
+use Rattle.cns_terms.specs.declared.command.Activity.{Activity}
+use Rattle.cns_terms.specs.declared.command.Activity.TheVariants as activity
 use Rattle.cns_terms.specs.declared.holding.Entry.{Entry}
-use Rattle.cns_terms.specs.declared.holding.Holding.{Holding}
 use Rattle.cns_terms.specs.declared.holding.Key.{Key}
+use Rattle.cns_terms.specs.declared.refusal.Refusal.TheVariants.{NoSuchIssue, Retired, SameIssue}
 use Rattle.cns_terms.specs.Limits.{booking_limit, corporation_limit, history_limit}
-use Rattle.cns_terms.specs.Positions.{cents_for, shares_for}
-use Rattle.cns_terms.specs.Sums.{total}
+use Rattle.cns_terms.specs.Listings.{is_listed, is_retired}
+use Rattle.cns_terms.specs.Postings.{Journal}
+use Rattle.cns_terms.specs.Refusals.{Rule}
+use Rattle.cns_terms.specs.Sums.{same_issue}
 use Rattle.cns_positions.specs.Rows.{Rows, holding_at}
+use Rattle.cns_actions.specs.declared.action.Action.{Action}
+use Rattle.cns_actions.specs.declared.action.Action.TheVariants as action
 
 -- where an entry is booked
 abbrev pub place_of : Entry → Key
@@ -16,11 +24,23 @@ place_of e = record { account = e.account; issue = e.issue }
 abbrev pub places_of : List Entry → List Key
 places_of es = map place_of es
 
--- what entries make of what stands at a key
-abbrev pub books : List Entry → Key → Holding → Holding
-books es k h = record h { now = total (shares_for k.account k.issue) es +ℤ h.now; contract = total (cents_for k.account k.issue) es +ℤ h.contract }
-
 -- no position is beyond its limit, and no cents beyond what all activities can book
 pub record AreWithin (rows : Rows) : Type 0 where
   pub shares : (k : Key) → unsigned_abs (holding_at rows k).now ≤ corporation_limit
   pub cents : (k : Key) → unsigned_abs (holding_at rows k).contract ≤ booking_limit * history_limit
+
+-- the activity that a split or an exchange is
+abbrev pub activity_of : Action → Activity
+activity_of (action.Split s) = activity.Split s
+activity_of (action.Exchange x) = activity.Exchange x
+
+-- the rules of a split, its size apart
+abbrev pub split_rules : Journal → Split → List Rule
+split_rules J s = (NoSuchIssue, not (is_listed J s.issue)) ∷ (Retired, is_retired J s.issue) ∷ []
+
+-- the rules of an exchange, its size apart
+abbrev pub exchange_rules : Journal → Exchange → List Rule
+exchange_rules J x =
+    (NoSuchIssue, not (is_listed J x.old && is_listed J x.successor))
+    ∷ (Retired, is_retired J x.old || is_retired J x.successor)
+    ∷ (SameIssue, same_issue x.old x.successor) ∷ []

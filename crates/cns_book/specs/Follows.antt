@@ -10,6 +10,7 @@ use Rattle.cns_terms.specs.declared.fault.NoMemory.{NoMemory}
 use Rattle.cns_terms.specs.declared.holding.Key.{Key}
 use Rattle.cns_terms.specs.declared.reply.Reply.{Reply}
 use Rattle.cns_terms.specs.Days.{date, closes, closings}
+use Rattle.cns_terms.specs.Dividends.{dividends, pays_before}
 use Rattle.cns_terms.specs.Listings.{is_member, is_listed, is_retired, is_seen, price}
 use Rattle.cns_terms.specs.Entries.{corporation, journal}
 use Rattle.cns_terms.specs.Limits.{history_limit}
@@ -19,6 +20,7 @@ use Rattle.cns_terms.specs.Postings.{Journal}
 use Rattle.cns_terms.specs.Reached.{IsReached}
 use Rattle.cns_terms.specs.Refusals.{refusal}
 use Rattle.cns_terms.specs.Sheets.{day_sheet}
+use Rattle.cns_terms.specs.Sums.{in_order}
 use Rattle.cns_positions.specs.Rows.{holding_at}
 use Rattle.cns_prices.specs.Listed.{price_in, retired_in}
 use Rattle.cns_trades.specs.declared.facts.MoveFacts.{MoveFacts}
@@ -42,6 +44,10 @@ pub record FollowsListings (J : Journal) (s : Contents) : Type 0 where
 abbrev pub FollowsReferences : Journal → Contents → Type 0
 FollowsReferences J s = (r : ℕ) → is_used s.references r ≡ is_seen J r
 
+-- the declared dividends, in the order in which they are paid
+abbrev pub FollowsDividends : Journal → Contents → Type 0
+FollowsDividends J s = s.dividends ≡ in_order pays_before (dividends J)
+
 -- what stands at each key
 abbrev pub FollowsRows : Journal → Contents → Type 0
 FollowsRows J s = (k : Key) → holding_at s.rows k ≡ holding J k.account k.issue
@@ -56,6 +62,7 @@ pub record Follows (L : List Activity) (s : Contents) : Type 0 where
   pub clock : FollowsClock (journal s.opening L) s
   pub listings : FollowsListings (journal s.opening L) s
   pub references : FollowsReferences (journal s.opening L) s
+  pub dividends : FollowsDividends (journal s.opening L) s
   pub rows : FollowsRows (journal s.opening L) s
   pub sheets : FollowsSheets (journal s.opening L) s
 

@@ -1,20 +1,23 @@
 // The sheets of the closed days.
-ghost use Rattle.std.specs.Prelude.{◌≡◌, [], ◌∷◌, IfErr, IfOk, OnErr, OnOk, length, map, option_map, reverse, slice_get, false, true};
+ghost use Rattle.std.specs.Prelude.{◌≡◌, ◌≤◌, [], ◌∷◌, IfErr, IfOk, OnErr, OnOk, length, map, option_map, reverse, slice_get, false, true, None};
 ghost use Rattle.std.specs.Arc.{arc_value};
 ghost use Rattle.std.specs.Cmp.Lexicographic.{slice_cmp};
 ghost use Rattle.std.specs.FinMap.{is_sorted};
 ghost use Rattle.std.specs.List.{AllWithin, HoldsAt};
-ghost use Rattle.std.specs.List.Sorted.{IsSearchInRange};
+ghost use Rattle.std.specs.List.Sorted.{IsPartitionPoint, IsSearchInRange};
 ghost use Rattle.std.specs.Option.{option_copied};
 ghost use Rattle.std.specs.Ordering.{nat_cmp};
 ghost use Rattle.cns_terms.specs.Keys.{key_cmp};
-ghost use Rattle.cns_sheets.specs.Build.{prices_of, sheet_from};
-ghost use Rattle.cns_sheets.specs.Condition.{IsReady};
-ghost use Rattle.cns_book.specs.Dated.{AreFalling, IsAfter, is_dated, dated_sheet};
+ghost use Rattle.cns_prices.specs.Listed.{listed_above};
+ghost use Rattle.cns_sheets.specs.Build.{prices_of};
+ghost use Rattle.cns_sheets.specs.Condition.{CanBePaid, IsReady};
+ghost use Rattle.cns_sheets.specs.Payments.{IsCut};
+ghost use Rattle.cns_book.specs.Dated.{AreFalling, IsAfter, dated_sheet, is_dated, is_dated_by, last_dated, payments_by, sheet_as_of};
 
+use cns_dividends::Due;
 use cns_positions::Positions;
 use cns_prices::Prices;
-use cns_sheets::Sheet;
+use cns_sheets::{Payment, Sheet};
 use cns_terms::NoMemory;
 use cns_units::Day;
 use std::alloc::Allocator;
@@ -55,6 +58,15 @@ fn place<A: Allocator + Drop + Clone>(
     sheets.binary_search_by_key(&date, |sheet| sheet.date())
 }
 
+// How many of the sheets are of days on or before the date.
+fn count_by<A: Allocator + Drop + Clone>(sheets: &[Arc<Sheet<A>, A>], date: Day) -> usize
+    requires { AreFalling (reverse (map arc_value sheets.now)) }
+    ensures bound { result ≤ length sheets.now }
+    ensures parted { IsPartitionPoint (λ a. is_dated_by date (arc_value a) ≡ true) (λ a. is_dated_by date (arc_value a) ≡ false) sheets.now result }
+{
+    sheets.partition_point(|sheet| sheet.date() <= date)
+}
+
 impl<A: Allocator + Drop + Clone> ClosedDays<A> {
     /// No day is closed yet. `NoMemory` where the allocator could not be copied.
     pub fn new(alloc: A) -> Result<Self, NoMemory>
@@ -76,6 +88,24 @@ impl<A: Allocator + Drop + Clone> ClosedDays<A> {
         }
     }
 
+    /// The date of the day that was closed last; None before the first close.
+    pub fn last_date(&self) -> Option<Day>
+        ensures { result ≡ last_dated self.now }
+    {
+        Some(self.last()?.date())
+    }
+
+    /// The sheet of the last closed day that is dated on or before the date; None where each is dated after it.
+    pub fn as_of(&self, date: Day) -> Option<&Sheet<A>>
+        ensures { option_copied result ≡ sheet_as_of self.now date }
+    {
+        let count = count_by(self.sheets.as_slice(), date);
+        if count == 0 {
+            return None;
+        }
+        Some(&*self.sheets[count - 1])
+    }
+
     /// The sheet of the closed day with the date; None where no closed day has it.
     pub fn find(&self, date: Day) -> Option<&Arc<Sheet<A>, A>>
         ensures { option_map arc_value (option_copied result) ≡ dated_sheet self.now date }
@@ -86,19 +116,49 @@ impl<A: Allocator + Drop + Clone> ClosedDays<A> {
         }
     }
 
-    /// The sheet that a close cuts now. Where memory is refused nothing has changed.
+    // The dividends that a close pays, each with the sheet of its record date. One that was recorded before the first close
+    // is paid on nothing, and so is left out.
+    fn payments(&self, due: Due<'_>) -> Result<Vec<Payment<'_, A>, A>, NoMemory>
+        ensures { IfOk result (λ v. map (λ p. (p.declared, p.sheet.now.rows)) v.items ≡ payments_by self.now due.entry) }
+    {
+        let mut payments = Vec::new(self.alloc.clone()?);
+        for declared in due {
+            let declared = &declared;
+            if let Some(sheet) = self.as_of(declared.recorded) {
+                let declared = *declared;
+                let Ok(()) = payments.push(Payment { declared, sheet }) else {
+                    return Err(NoMemory);
+                };
+            }
+        }
+        Ok(payments)
+    }
+
+    /// The sheet that a close cuts now, with the dividends that it pays. Where memory is refused nothing has changed.
     pub fn cut<P: Positions<B>, B>(
         &self,
         positions: &P,
         prices: &Prices<A>,
+        due: Due<'_>,
         date: Day,
     ) -> Result<Sheet<A>, NoMemory>
-        requires { IsReady (slice_get self.now 0) prices.now (P.rows positions.now) }
-        ensures sheet { IfOk result (λ s. s ≡ sheet_from date (prices_of (slice_get self.now 0)) prices.now (P.rows positions.now)) }
+        requires ready { IsReady (slice_get self.now 0) prices.now (P.rows positions.now) (payments_by self.now due) }
+        requires paid { CanBePaid (payments_by self.now due) }
+        ensures date { IfOk result (λ s. s.date ≡ date) }
+        ensures listed { IfOk result (λ s. s.prices ≡ listed_above prices.now None) }
+        ensures cut { IfOk result (λ s. IsCut (prices_of (slice_get self.now 0)) prices.now (P.rows positions.now) (payments_by self.now due.entry) s.rows) }
         ensures prices { OnOk result (is_sorted (slice_cmp nat_cmp) prices.now ≡ true) }
         ensures rows { OnOk result (is_sorted key_cmp (P.rows positions.now) ≡ true) }
     {
-        Sheet::build(self.alloc.clone()?, positions, prices, self.last(), date)
+        let payments = self.payments(due)?;
+        Sheet::build(
+            self.alloc.clone()?,
+            positions,
+            prices,
+            self.last(),
+            payments.as_slice(),
+            date,
+        )
     }
 
     /// Keeps the sheet of a day that is closed. Where memory is refused the days stay as they were.

@@ -1,9 +1,9 @@
-// What accepted activities book: every command that books does it here.
+// What trades and movements book: two entries, at keys that are prepared. Splits and exchanges book in `cns_actions`.
 ghost use Rattle.std.specs.Prelude.{◌≡◌, List, ◌≤◌, ◌*◌, ◌^◌, length, unsigned_abs, OnOk, Contains, true};
 ghost use Rattle.cns_terms.specs.declared.holding.Key.{Key};
-ghost use Rattle.cns_positions.specs.Rows.{booked, holding_at};
+ghost use Rattle.cns_positions.specs.Rows.{booked, books, holding_at};
 ghost use Rattle.cns_trades.specs.Checks.{AreSmallEntries, IsSmallEntry};
-ghost use Rattle.cns_book.specs.Effects.{AreWithin, books, place_of, places_of};
+ghost use Rattle.cns_book.specs.Effects.{AreWithin, place_of, places_of};
 
 use cns_positions::Positions;
 use cns_terms::{Entry, Key, NoMemory};

@@ -4,7 +4,7 @@
 //! and its reply into the history. Contracts see a book as its opening date, its limit and its history; every reading
 //! call is its definition over that history. After a refusal the book is as it was but for the new entry, and after want
 //! of memory or at its limit wholly so. Start with `Book` in `book.rt`; the parts that make its answers fast are in
-//! `parts.rt`, what ties each to the history in `specs/Follows.antt`, and what activities book in `effect.rt`.
+//! `parts.rt`, and what ties each to the history in `specs/Follows.antt`.
 #![tactic(auto)]
 
 mod book;

@@ -6,6 +6,7 @@ ghost use Rattle.cns_book.specs.Follows.{Follows, HasRoom, Steps};
 
 use crate::closed_days::ClosedDays;
 use crate::members::Members;
+use cns_dividends::Dividends;
 use cns_positions::Positions;
 use cns_prices::Prices;
 use cns_terms::{Activity, Command, NoMemory, Reply};
@@ -14,7 +15,9 @@ use cns_units::Day;
 use std::alloc::Allocator;
 use std::marker::Model;
 
+mod actions;
 mod closing;
+mod dividend;
 mod listing;
 mod reading;
 mod trading;
@@ -25,12 +28,14 @@ mod trading;
 /// answer is the machine's and that the parts follow what comes next; so nothing above names a part.
 #[derive(Drop)]
 pub struct Parts<P: Positions<A>, A: Allocator + Drop + Clone> {
+    alloc: A,
     opening: Day,
     today: Day,
     closes: u32,
     members: Members<A>,
     prices: Prices<A>,
     trades: Trades<A>,
+    dividends: Dividends<A>,
     positions: P,
     closed: ClosedDays<A>,
 }
@@ -47,6 +52,7 @@ impl<P: Positions<A>, A: Allocator + Drop + Clone> Model for Parts<P, A> {
       members = a.members;
       prices = a.prices;
       references = a.trades;
+      dividends = a.dividends;
       rows = P.rows a.positions;
       sheets = a.closed;
     } };
@@ -65,8 +71,10 @@ impl<P: Positions<A>, A: Allocator + Drop + Clone> Parts<P, A> {
             members: Members::new(alloc.clone()?),
             prices: Prices::new(alloc.clone()?),
             trades: Trades::new(alloc.clone()?),
+            dividends: Dividends::new(alloc.clone()?),
             closed: ClosedDays::new(alloc.clone()?)?,
-            positions: P::new(alloc),
+            positions: P::new(alloc.clone()?),
+            alloc,
         })
     }
 
@@ -83,6 +91,9 @@ impl<P: Positions<A>, A: Allocator + Drop + Clone> Parts<P, A> {
             Activity::Price(listing) => Ok(self.set_price(*listing)),
             Activity::Deliver(movement) => self.deliver(movement),
             Activity::Receive(movement) => self.receive(movement),
+            Activity::Dividend(declared) => self.declare_dividend(declared),
+            Activity::Split(split) => self.split(split),
+            Activity::Exchange(exchange) => self.exchange(exchange),
             Activity::Close(next) => self.close_day(*next),
         }
     }

@@ -1,4 +1,6 @@
 // The limit, each worker's numbers, want of memory, and the bounds of members' positions.
+mod dividends;
+
 use crate::{Book, Receipt, TakeFault};
 use cns_positions::TreePositions;
 use cns_sheets::Sheet;

@@ -12,7 +12,7 @@ use cns_units::Day;
 use std::alloc::Allocator;
 
 impl<P: Positions<A>, A: Allocator + Drop + Clone> Parts<P, A> {
-    /// CLOSE. The sheet is made and kept before anything else changes.
+    /// CLOSE. The sheet, with the dividends that are due, is made and kept before anything else changes.
     pub fn close_day(&mut self, next: Day) -> Result<Reply, NoMemory>
         requires { HasRoom self.old }
         ensures opening { self.new.opening ≡ self.old.opening }
@@ -21,7 +21,10 @@ impl<P: Positions<A>, A: Allocator + Drop + Clone> Parts<P, A> {
         if next <= self.today {
             return Ok(Reply::Refused(Refusal::WrongDay));
         }
-        let sheet = self.closed.cut(&self.positions, &self.prices, self.today)?;
+        let due = self.dividends.due(self.closed.last_date(), self.today);
+        let sheet = self
+            .closed
+            .cut(&self.positions, &self.prices, due, self.today)?;
         let closed = Closed {
             day: self.closes + 1,
             date: self.today,

@@ -2,9 +2,9 @@ use Rattle.std.proofs.Common.{◌∙◌, ◌^◌, ◌≤◌, sym, ap, refl, subs
 use Rattle.std.specs.Prelude.{unsigned_abs}
 use Rattle.std.proofs.lemmas.List.{take_all}
 use Rattle.cns_terms.specs.declared.holding.Holding.{Holding}
-use Rattle.cns_positions.specs.Rows.{booked, holding_at}
+use Rattle.cns_positions.specs.Rows.{booked, books, holding_at}
 use Rattle.cns_trades.specs.Checks.{IsSmallEntry}
-use Rattle.cns_book.specs.Effects.{books, place_of}
+use Rattle.cns_book.specs.Effects.{place_of}
 use Rattle.cns_book.proofs.Booking.{books_step, cents_fit, place_at, shares_fit, small_at}
 use Rattle.cns_book.proofs.Places.{books_none}
 use Rattle.cns_book.proofs.effect.book.Goals as goal

@@ -1,6 +1,7 @@
 use Rattle.std.proofs.Common.{◌∙◌, ◌<◌, ap, length, Some}
 use Rattle.std.specs.Arc.{arc_value}
-use Rattle.cns_book.proofs.Dated.{sheet_at, sheet_nowhere}
+use Rattle.cns_book.specs.Dated.{is_dated}
+use Rattle.cns_book.proofs.Dated.{nowhere_back, sheet_at}
 use Rattle.cns_book.proofs.closed_days.ClosedDays.find.Goals as goal
 
 pub returns-in-Ok : goal.returns-in-Ok
@@ -12,4 +13,4 @@ returns-in-Ok g c =
     ∙ sheet_at arc_value c.args.date items c.in-Ok.at c.index.result.now c.self.invariant there ((rw c.as_slice.ensures.value at c.in-Ok.ensures.found) c.index.result.now))
 
 pub returns-in-Err : goal.returns-in-Err
-returns-in-Err g c = rw (← c.self.view_is) (sheet_nowhere arc_value c.args.date c.self.inside.sheets.items (rw c.as_slice.ensures.value at c.in-Err.ensures.absent))
+returns-in-Err g c = rw (← c.self.view_is) (nowhere_back arc_value (is_dated c.args.date) c.self.inside.sheets.items (rw c.as_slice.ensures.value at c.in-Err.ensures.absent))

@@ -1,27 +1,40 @@
-use Rattle.std.proofs.Common.{◌≡◌, ◌∙◌, ◌+◌, sym, ap, subst, length, [], ◌∷◌, arith}
-use Rattle.std.specs.Prelude.{int_le}
+use Rattle.std.proofs.Common.{◌≡◌, ◌∙◌, ◌+◌, sym, ap, subst, length, filter, List, [], ◌∷◌, arith}
+use Rattle.std.specs.Prelude.{int_le, slice_get}
 use Rattle.cns_units.specs.Day.{day_number}
+use Rattle.cns_terms.specs.declared.action.Declared.{Declared}
 use Rattle.cns_terms.specs.declared.command.Activity.TheVariants as activity
 use Rattle.cns_terms.specs.declared.reply.Reply.TheVariants as reply
+use Rattle.cns_terms.specs.Dividends.{is_due}
 use Rattle.cns_terms.specs.Entries.{journal}
 use Rattle.cns_terms.specs.declared.refusal.Refusal.TheVariants.{WrongDay}
 use Rattle.cns_terms.specs.Refusals.{first_refusal, rules}
 use Rattle.cns_terms.specs.Sheets.{day_sheet}
+use Rattle.cns_sheets.specs.Build.{prices_of}
+use Rattle.cns_sheets.specs.Condition.{CanBePaid, IsReady}
+use Rattle.cns_sheets.specs.Payments.{IsCut}
+use Rattle.cns_book.specs.Dated.{last_dated, payments_by}
 use Rattle.cns_book.specs.Follows.{Follows, HasRoom}
 use Rattle.cns_book.proofs.Closing.{after_last, closes_fit, day_closed, le_test}
 use Rattle.cns_book.proofs.Machine.{accepted, no_refusal, refused}
-use Rattle.cns_book.proofs.SheetCut.{can_be_cut, sheet_is}
+use Rattle.cns_book.proofs.SheetCut.{can_be_cut, can_be_paid, sheet_is}
 use Rattle.cns_book.proofs.parts.Parts.close_day.Goals as goal
 
-pub cut-requires : goal.cut-requires
-cut-requires g c =
+pub cut-requires-clause-ready : goal.cut-requires-clause-ready
+cut-requires-clause-ready g c =
     let room = subst HasRoom (sym c.self.view_is) c.requires in
-    can_be_cut room.activities _ room.follows room.few
+    let same : c.due-due.result ≡ filter (is_due (last_dated c.self.inside.closed) c.self.inside.today) c.self.inside.dividends = c.due-due.ensures.due ∙ ap (λ o. filter (is_due o c.self.inside.today) c.self.inside.dividends) c.last_date.ensures in
+    subst (λ (ds : List Declared). IsReady (slice_get c.self.inside.closed 0) c.self.inside.prices (g.P.Positions.rows c.self.inside.positions) (payments_by c.self.inside.closed ds)) (sym same) (can_be_cut room.activities _ room.follows room.few)
+
+pub cut-requires-clause-paid : goal.cut-requires-clause-paid
+cut-requires-clause-paid g c =
+    let room = subst HasRoom (sym c.self.view_is) c.requires in
+    let same : c.due-due.result ≡ filter (is_due (last_dated c.self.inside.closed) c.self.inside.today) c.self.inside.dividends = c.due-due.ensures.due ∙ ap (λ o. filter (is_due o c.self.inside.today) c.self.inside.dividends) c.last_date.ensures in
+    subst (λ (ds : List Declared). CanBePaid (payments_by c.self.inside.closed ds)) (sym same) (can_be_paid room.activities _ room.follows room.few)
 
 pub keep-requires : goal.keep-requires
 keep-requires g c =
     let room = subst HasRoom (sym c.self.view_is) c.requires in
-    rw c.in_ok-sheet.ensures.sheet (after_last room.activities _ room.follows)
+    rw c.in_ok-sheet.ensures.date (after_last room.activities _ room.follows)
 
 pub overflow_add-closed : goal.overflow_add-closed
 overflow_add-closed g c = let few = closes_fit _ (subst HasRoom (sym c.self.view_is) c.requires) in omega (arith, few)
@@ -46,7 +59,9 @@ returns-clause-step g c L f =
     let d = day_number c.args.next in
     let late = ap (λ t. int_le d (day_number t)) (sym f'.clock.today) ∙ sym (le_test d (day_number c.self.inside.today)) ∙ sym c.le.ensures ∙ c.if-le.false in
     let none = no_refusal (rules o J (activity.Close c.args.next)) (late, tt) in
-    let is : c.in_ok-sheet.sheet ≡ day_sheet o J = c.in_ok-sheet.ensures.sheet ∙ sheet_is L _ f' c.in_ok-sheet.ensures.prices c.in_ok-sheet.ensures.rows in
+    let same : c.due-due.result ≡ filter (is_due (last_dated c.self.inside.closed) c.self.inside.today) c.self.inside.dividends = c.due-due.ensures.due ∙ ap (λ o. filter (is_due o c.self.inside.today) c.self.inside.dividends) c.last_date.ensures in
+    let cut = subst (λ (ds : List Declared). IsCut (prices_of (slice_get c.self.inside.closed 0)) c.self.inside.prices (g.P.Positions.rows c.self.inside.positions) (payments_by c.self.inside.closed ds) c.in_ok-sheet.sheet.rows) same c.in_ok-sheet.ensures.cut in
+    let is : c.in_ok-sheet.sheet ≡ day_sheet o J = sheet_is L _ c.in_ok-sheet.sheet f' c.in_ok-sheet.ensures.prices c.in_ok-sheet.ensures.date c.in_ok-sheet.ensures.listed cut in
     let count = c.len.ensures ∙ ap (λ s. length s.rows) is in
     accepted L (activity.Close c.args.next) (reply.Closed (record { day = c.self.inside.closes + 1; date = c.self.inside.today; rows = c.len.result; liable = 0 }))
     none

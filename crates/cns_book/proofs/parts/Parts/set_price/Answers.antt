@@ -15,6 +15,6 @@ returns-clause-step g c L f =
     let f' = subst (Follows L) (sym c.self.view_is) f in
     let J = journal c.self.inside.opening L in
     let is : is_listed J c.args.listing.issue ≡ true = sym (listed (is_listed J c.args.listing.issue) _ _ (f'.listings.prices c.args.listing.issue)) ∙ ap is_some (sym c.price.ensures) ∙ c.is_none.ensures ∙ ap not c.if-is_none.false in
-    let none = no_refusal (rules c.self.inside.opening J (activity.Price c.args.listing)) (ap not is, (refl, tt)) in
+    let none = no_refusal (rules c.self.inside.opening J (activity.Price c.args.listing)) (ap not is, (sym (f'.listings.retired c.args.listing.issue) ∙ sym c.is_retired.ensures ∙ c.if-is_retired.false, tt)) in
     accepted L (activity.Price c.args.listing) reply.Accepted none refl
     (price_set L _ c.args.listing c.set.new.self f' none is c.set.ensures.price c.set.ensures.retired)

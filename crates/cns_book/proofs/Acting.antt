@@ -1,0 +1,140 @@
+-- Splits and exchanges.
+use Rattle.std.proofs.Common.{◌≡◌, ◌∙◌, sym, ap, subst, refl, ℕ, ◌+◌, ◌*◌, ◌≤◌, ℤ, pos, Bool, true, false, not, ◌||◌, ◌==◌, cond, List, [], ◌∷◌, ◌++◌, Option, Some, None, arith}
+use Rattle.std.specs.Prelude.{bytes_eq, is_none, is_some, unsigned_abs, IfOk, IsSome, Result, Ok, Err}
+use Rattle.std.specs.List.{AllByRecursion, list_any}
+use Rattle.std.proofs.lemmas.Bool.Decides.{nat_tests}
+use Rattle.cns_units.specs.declared.account.Account.{Account}
+use Rattle.cns_units.specs.declared.cusip.Cusip.{Cusip}
+use Rattle.cns_terms.specs.declared.action.Exchange.{Exchange}
+use Rattle.cns_terms.specs.declared.command.Activity.{Activity}
+use Rattle.cns_terms.specs.declared.command.Activity.TheVariants as activity
+use Rattle.cns_terms.specs.declared.command.Command.TheVariants as command
+use Rattle.cns_terms.specs.declared.holding.Holding.{Holding}
+use Rattle.cns_terms.specs.declared.holding.Key.{Key}
+use Rattle.cns_terms.specs.declared.refusal.Refusal.{Refusal}
+use Rattle.cns_terms.specs.Actions.{AreHolders}
+use Rattle.cns_terms.specs.Entries.{entries, exchange_entries, journal, split_entries}
+use Rattle.cns_terms.specs.Limits.{amount_limit, booking_limit, history_limit, member_limit}
+use Rattle.cns_terms.specs.Listings.{account_lt, added, is_account, members}
+use Rattle.cns_terms.specs.Positions.{position}
+use Rattle.cns_terms.specs.Postings.{Journal, activities}
+use Rattle.cns_terms.specs.Reached.{IsInRange}
+use Rattle.cns_terms.specs.Refusals.{Rule, are_too_large, first_refusal, is_too_large, refusal}
+use Rattle.cns_terms.proofs.Elsewhere.{no_account_elsewhere, no_position}
+use Rattle.cns_terms.proofs.Everywhere.{each_both, each_in_order}
+use Rattle.cns_terms.proofs.Facts.{and_right}
+use Rattle.cns_terms.proofs.Reached.{IsLimited, limited, members_from_one}
+use Rattle.cns_terms.proofs.Sound.{all_fail}
+use Rattle.cns_positions.specs.Rows.{Rows, books, holding_at}
+use Rattle.cns_prices.specs.Listed.{Listed, price_in, retired_in}
+use Rattle.cns_actions.specs.Booked.{CanBeBooked, entries_of, issue_of, position_at, positions_in}
+use Rattle.cns_actions.specs.declared.action.Action.{Action}
+use Rattle.cns_actions.specs.declared.action.Action.TheVariants as action
+use Rattle.cns_actions.proofs.Members.{rising_distinct}
+use Rattle.cns_book.specs.Contents.{Contents}
+use Rattle.cns_book.specs.Effects.{activity_of}
+use Rattle.cns_book.specs.Follows.{Follows, HasRoom}
+use Rattle.cns_book.proofs.Staying.{clock_stays, dividends_stay, rows_booked, sheets_stay}
+use Rattle.cns_book.proofs.Within.{member_within, rows_within}
+
+-- ---- what can be booked
+
+-- cents that are few
+few : (n : ℕ) → n ≤ booking_limit * history_limit → n ≤ amount_limit
+few n h = omega (arith, h)
+
+-- with room for one activity more, positions can be booked
+pub can_be_booked : (s : Contents) → HasRoom s → CanBeBooked s.rows
+can_be_booked s r =
+    let w = rows_within s r in
+    record {
+      members = λ a c le. member_within s a c le r;
+      corporation = λ c. w.shares (record { account = 0; issue = c });
+      cents = λ k. few _ (w.cents k);
+    }
+
+-- ---- the members, and their positions
+
+-- an account that is no member's and not the corporation's is none
+no_account : (a : ℕ) (b : Bool) → 1 ≤ a → b ≡ false → ((a == 0) || b) ≡ false
+no_account a b h e = ap (λ t. t || b) (other a h) ∙ e
+  where
+    other : (a : ℕ) → 1 ≤ a → (a == 0) ≡ false
+    other a h = grind (arith, nat_tests)
+
+-- the members are all who have a position in an issue
+members_hold : (s : Contents) (L : List Activity) (c : Cusip) → Follows L s → AreHolders (λ a. position (journal s.opening L) a c) (members (journal s.opening L))
+members_hold s L c f =
+    let J = journal s.opening L in
+    let l : IsLimited s.opening J = limited s.opening L f.reached in
+    record {
+      numbers = each_both (λ a. 1 ≤ a) (λ a. a ≤ member_limit) (members J) (members_from_one s.opening J l) (each_in_order (λ a. a ≤ member_limit) account_lt _ l.numbered);
+      distinct = rising_distinct (members J) (and_right _ _ l.whole.now.accounts_rise);
+      others = λ a h none. no_position a c J (no_account_elsewhere J a c l.whole.now (no_account a _ h none));
+    }
+
+module _ (s : Contents) (L : List Activity) (f : Follows L s) where
+  -- positions are those of the definitions
+  same_positions : position_at s.rows ≡ position (journal s.opening L)
+  same_positions i a c = (f.rows (record { account = a; issue = c }) i).now
+
+  pub holders_are : (c : Cusip) → AreHolders (positions_in s.rows c) (members (journal s.opening L))
+  holders_are c = subst (λ (q : Account → ℤ). AreHolders q (members (journal s.opening L))) (sym (λ i a. same_positions i a c)) (members_hold s L c f)
+
+  -- so are the entries
+  pub entries_are : (x : Action) → entries_of x (positions_in s.rows (issue_of x)) (members (journal s.opening L)) ≡ entries s.opening (journal s.opening L) (activity_of x)
+  entries_are (action.Split p) = λ i. split_entries p (λ a. same_positions i a p.issue) (members (journal s.opening L))
+  entries_are (action.Exchange x) = λ i. exchange_entries x (λ a. same_positions i a x.old) (members (journal s.opening L))
+
+  -- and whether they are too large
+  pub size_is : (x : Action) → are_too_large (position_at s.rows) (entries_of x (positions_in s.rows (issue_of x)) (members (journal s.opening L))) ≡ is_too_large s.opening (journal s.opening L) (activity_of x)
+  size_is x = λ i. are_too_large (same_positions i) (entries_are x i)
+
+-- ---- what is refused
+
+-- a test that does not hold
+pub not_true : (b : Bool) → (b ≡ true → ⊥) → b ≡ false
+not_true true h = absurd (h refl)
+not_true false h = refl
+
+-- what was made is no fault
+pub no_fault : {A E : Type 0} (x : A) (e : E) → Ok x ≡ Err e → ⊥
+no_fault x e h = cc
+
+-- what is said of a value that was made, in other words
+pub ok_weaker : {A E : Type 0} (r : Result A E) (P Q : A → Type 0) → ((x : A) → P x → Q x) → IfOk r P → IfOk r Q
+ok_weaker (Ok x) P Q h p = h x p
+ok_weaker (Err e) P Q h p = p
+
+-- of rules that refuse nothing, none holds
+pub none_fails : (rs : List Rule) → first_refusal rs ≡ None → AllByRecursion (λ r. r.1 ≡ false) rs
+none_fails rs e = all_fail rs (ap is_none e)
+
+-- a listed issue has a price
+pub price_there : (b : Bool) (p : ℕ) (o : Option ℕ) → o ≡ cond b (Some p) None → b ≡ true → IsSome o
+price_there true p o e h = ap is_some e
+price_there false p o e h = cc
+
+-- ---- what stands after an exchange
+
+-- an exchange that is not refused
+pub exchanged : (L : List Activity) (s : Contents) (x : Exchange) (prices : Listed) (rows : Rows) → Follows L s → IsInRange (activity.Exchange x) → refusal s.opening (journal s.opening L) (command.Activity (activity.Exchange x)) ≡ None
+    → ((c : Cusip) → price_in prices c ≡ price_in s.prices c) → ((c : Cusip) → retired_in prices c ≡ (bytes_eq x.old c || retired_in s.prices c))
+    → ((k : Key) → holding_at rows k ≡ books (entries s.opening (journal s.opening L) (activity.Exchange x)) k (holding_at s.rows k))
+    → Follows (activity.Exchange x ∷ L) (record s { prices = prices; rows = rows })
+exchanged L s x prices rows f range none p r b =
+    let J = journal s.opening L in
+    let c = clock_stays s J (activity.Exchange x) refl f.clock in
+    record {
+      reached = (range, none, f.reached);
+      clock = record { today = c.today; closes = c.closes };
+      listings = record {
+        members = f.listings.members;
+        prices = λ c. p c ∙ f.listings.prices c;
+        retired = λ c. r c ∙ ap (λ t. bytes_eq x.old c || t) (f.listings.retired c);
+      };
+      references = f.references;
+      dividends = dividends_stay s J (activity.Exchange x) refl f.dividends;
+      rows = rows_booked s J (activity.Exchange x) rows refl b f.rows;
+      sheets = sheets_stay s J (activity.Exchange x) refl f.sheets;
+    }

@@ -1,0 +1,231 @@
+-- What a close pays by the sheets of the record dates is what the definitions say.
+use Rattle.std.proofs.Common.{◌≡◌, ◌≢◌, ◌∙◌, sym, ap, subst, refl, ℕ, ◌+◌, ◌≤◌, ℤ, pos, ◌+ℤ◌, neg_ℤ, Bool, true, false, not, ◌&&◌, ◌||◌, ◌==◌, cond, eqb, List, [], ◌∷◌, map, filter, find, Option, Some, None, unwrap_or, arith}
+use Rattle.std.specs.Prelude.{bytes_eq, filter_map, option_map}
+use Rattle.std.specs.FinMap.{is_sorted}
+use Rattle.std.specs.FinMap as finmap
+use Rattle.std.specs.List.{AllByRecursion, cons_option, list_any}
+use Rattle.std.specs.Option.{option_map_or}
+use Rattle.std.specs.Ordering.{nat_cmp}
+use Rattle.std.proofs.lemmas.Bool.Decides.{nat_tests}
+use Rattle.std.proofs.lemmas.Int.{ints}
+use Rattle.std.proofs.lemmas.Slice.Eq.{bytes_eq-Decides}
+use Rattle.cns_units.specs.declared.account.Account.{Account}
+use Rattle.cns_units.specs.declared.cusip.Cusip.{Cusip}
+use Rattle.cns_units.specs.declared.day.Day.{Day}
+use Rattle.cns_units.specs.declared.rate.Rate.{Rate}
+use Rattle.cns_terms.specs.declared.action.Declared.{Declared}
+use Rattle.cns_terms.specs.declared.holding.Key.{Key}
+use Rattle.cns_terms.specs.declared.sheet.Row.{Row}
+use Rattle.cns_terms.specs.Days.{closings, date, is_not_after}
+use Rattle.cns_terms.specs.Dividends.{as_of, cash, dividend, dividends, due, is_due, last_date, member_dividend, pays_before}
+use Rattle.cns_terms.specs.Entries.{corporation}
+use Rattle.cns_terms.specs.Keys.{key_cmp}
+use Rattle.cns_terms.specs.Listings.{accounts, is_account, issues, members}
+use Rattle.cns_terms.specs.Positions.{position}
+use Rattle.cns_terms.specs.Postings.{Journal}
+use Rattle.cns_terms.specs.Sheets.{DaySheet, day_sheet, is_idle, row, sheet_rows}
+use Rattle.cns_terms.specs.Sums.{in_order, same_issue, total}
+use Rattle.cns_terms.proofs.Accounts.{occurs, occurs_found, occurs_missing}
+use Rattle.cns_terms.proofs.Cells.{cells, cells_of, find_cells, key, sorted_cells}
+use Rattle.cns_terms.proofs.Elsewhere.{idle_at, no_account_elsewhere, no_position}
+use Rattle.cns_terms.proofs.Facts.{and_right}
+use Rattle.cns_terms.proofs.Finds.{find_filter, kept_if, same_lists, sorted_filter}
+use Rattle.cns_terms.proofs.Keys.{exact_keys, keys_total}
+use Rattle.cns_terms.proofs.Paid.{no_cash}
+use Rattle.cns_terms.proofs.SheetLimits.{AreAmong, total-due}
+use Rattle.cns_terms.proofs.SheetRows.{says}
+use Rattle.cns_terms.proofs.SheetSums.{idle_parts}
+use Rattle.cns_terms.proofs.Sound.{IsSound}
+use Rattle.cns_terms.proofs.Totals.{total-map, total-neg, total-same, total-swap, total-zero}
+use Rattle.cns_sheets.specs.Build.{by_key, key_of}
+use Rattle.cns_sheets.specs.Search.{row_at}
+use Rattle.cns_sheets.specs.Payments.{Paying, dividend_of, member_cash, paid, said}
+use Rattle.cns_book.specs.Dated.{payments_by, sheet_as_of}
+use Rattle.cns_book.proofs.SheetFound.{closing_found, number_found, of_all, shown_rise}
+use Rattle.cns_sheets.proofs.Balance.{found_number, numbers, same_sums, sorted_numbers, total_numbers}
+
+-- ---- who is not there
+
+-- what does not stand in a list is not found there
+not_found : (a : ℕ) (bs : List ℕ) → occurs a bs ≡ 0 → list_any (λ b. a == b) bs ≡ false
+not_found a bs h = by (list_any (λ b. a == b) bs) refl
+  where
+    by : (t : Bool) → list_any (λ b. a == b) bs ≡ t → list_any (λ b. a == b) bs ≡ false
+    by true e = absurd (omega (arith, occurs_found a bs e, h))
+    by false e = e
+
+-- ---- the members of a sheet
+
+module _ (opening : Day) (K J : Journal) (k_sound : IsSound K) (j_sound : IsSound J) (among : (a : ℕ) → occurs a (accounts K) ≤ occurs a (accounts J)) (d : Declared) where
+  -- the cash at a place
+  abbrev at_place : Key → ℤ
+  at_place k = cash (position K k.account k.issue) d.rate
+
+  -- nothing is paid to who was not there
+  none_absent : (a : Account) (c : Cusip) → occurs a (accounts J) ≡ 0 → cash (position K a c) d.rate ≡ pos 0
+  none_absent a c h =
+      let absent : is_account K a ≡ false = not_found a (accounts K) (omega (arith, among a, h)) in
+      ap (λ q. cash q d.rate) (no_position a c K (no_account_elsewhere K a c k_sound absent)) ∙ no_cash d.rate
+
+  -- what a row that says nothing is paid
+  none_idle : (r : Row) → says r ≡ false → member_cash d r ≡ pos 0
+  none_idle r h = by (same_issue r.issue d.cusip && not (r.account == corporation))
+    where
+      by : (b : Bool) → cond b (cash r.closing d.rate) (pos 0) ≡ pos 0
+      by true = ap (λ q. cash q d.rate) (idle_parts r h).1 ∙ no_cash d.rate
+      by false = refl
+
+  -- what is paid at a key, by the members that are there now
+  same_number : (k : Key) (s n m : Bool) → bytes_eq k.issue d.cusip ≡ s → (k.account == corporation) ≡ n → list_any (λ a. k.account == a) (members J) ≡ m → cond (s && not n) (at_place k) (pos 0) ≡ unwrap_or (cond (m && (s || false)) (Some (at_place k)) None) (pos 0)
+  same_number k false n true is first me = refl
+  same_number k false n false is first me = refl
+  same_number k true true true is first me =
+      let twice : 2 ≤ occurs k.account (accounts J) = rw first (omega (arith, occurs_found k.account (members J) me)) in
+      absurd (omega (arith, twice, j_sound.distinct k.account))
+  same_number k true true false is first me = refl
+  same_number k true false true is first me = refl
+  same_number k true false false is first me = none_absent k.account k.issue (rw first (omega (arith, occurs_missing k.account (members J) me)))
+
+  -- the rows of the sheet with their keys, as the definitions make them
+  abbrev shown : List (Key × Row)
+  shown = by_key (sheet_rows opening K)
+
+  -- what each row is paid, with its key, and what each member is paid that is there now
+  abbrev of_rows : List (Key × ℤ)
+  of_rows = numbers (member_cash d) shown
+
+  abbrev of_members : List (Key × ℤ)
+  of_members = cells at_place (members J) (d.cusip ∷ [])
+
+  -- the sums of both
+  rows_sum : total (λ e. e.1) of_rows ≡ total (member_cash d) (sheet_rows opening K)
+  rows_sum = total_numbers (member_cash d) (λ e. e.1) shown ∙ total-map (λ (e : Key × Row). member_cash d e.1) (λ r. (key_of r, r)) (sheet_rows opening K)
+
+  members_sum : (ms : List Account) → total (λ e. e.1) (cells at_place ms (d.cusip ∷ [])) ≡ total (λ a. cash (position K a d.cusip) d.rate) ms
+  members_sum [] = refl
+  members_sum (a ∷ ms) = ap (λ n. cash (position K a d.cusip) d.rate +ℤ n) (members_sum ms)
+
+  -- the rows of the sheet are paid what the members are that are there now
+  pub members_paid : total (member_cash d) (sheet_rows opening K) ≡ total (λ a. cash (position K a d.cusip) d.rate) (members J)
+  members_paid =
+      sym rows_sum
+      ∙ same_sums (λ e. e.1) (λ k. refl) of_rows of_members (sorted_numbers (member_cash d) shown (shown_rise opening K k_sound)) (sorted_cells at_place (members J) (d.cusip ∷ []) (and_right _ _ j_sound.accounts_rise) refl)
+      (λ k. found_number (member_cash d) k (pos 0) shown ∙ number_found opening K (member_cash d) none_idle k k_sound ∙ same_number k _ _ _ refl refl refl ∙ sym (ap (λ o. unwrap_or o (pos 0)) (find_cells at_place k (members J) (d.cusip ∷ []))))
+      ∙ members_sum (members J)
+
+  -- what the dividend books at a key, by the positions at the close of its record date
+  abbrev pub booked_at : Key → ℤ
+  booked_at k = cond (bytes_eq k.issue d.cusip) (cond (k.account == corporation) (neg_ℤ (total (λ a. cash (position K a d.cusip) d.rate) (members J))) (at_place k)) (pos 0)
+
+  pub paid_is : (k : Key) → paid d (sheet_rows opening K) k ≡ booked_at k
+  paid_is k = λ i. cond (bytes_eq k.issue d.cusip) (cond (k.account == corporation) (neg_ℤ (members_paid i)) (cash (closing_found opening K k k_sound i) d.rate)) (pos 0)
+
+-- ---- the dividends of a close
+
+-- a sum over what a function gives
+given_more : {Y : Type 0} (f : Y → ℤ) (o : Option Y) (ys : List Y) (n : ℤ) → total f ys ≡ n → total f (cons_option o ys) ≡ option_map_or f o (pos 0) +ℤ n
+given_more f None ys n h = omega (arith, ints, h)
+given_more f (Some y) ys n h = ap (λ m. f y +ℤ m) h
+
+total-given : {X Y : Type 0} (f : Y → ℤ) (g : X → Option Y) (xs : List X) → total f (filter_map g xs) ≡ total (λ x. option_map_or f (g x) (pos 0)) xs
+total-given f g [] = refl
+total-given f g (x ∷ xs) = given_more f (g x) (filter_map g xs) (total (λ x. option_map_or f (g x) (pos 0)) xs) (total-given f g xs)
+
+module _ (opening : Day) (J : Journal) (sound : IsSound J) where
+  -- what is so of each journal of a close
+  abbrev pub IsEarlier : Journal → Type 0
+  IsEarlier K = IsSound K × ((a : ℕ) → occurs a (accounts K) ≤ occurs a (accounts J))
+
+  -- what a dividend books at a key, by the positions that a journal has
+  abbrev books_at : Declared → Key → Journal → ℤ
+  books_at d k K = cond (bytes_eq k.issue d.cusip) (cond (k.account == corporation) (neg_ℤ (total (λ a. cash (position K a d.cusip) d.rate) (members J))) (cash (position K k.account k.issue) d.rate)) (pos 0)
+
+  -- where no day is closed it books nothing
+  books_none : (d : Declared) (k : Key) → pos 0 ≡ books_at d k []
+  books_none d k =
+      by (bytes_eq k.issue d.cusip) (k.account == corporation)
+      (sym (total-same (λ a. cash (pos 0) d.rate) (λ a. pos 0) (members J) (λ a. no_cash d.rate) ∙ total-zero (members J))) (sym (no_cash d.rate))
+    where
+      by : (b t : Bool) {x y : ℤ} → pos 0 ≡ x → pos 0 ≡ y → pos 0 ≡ cond b (cond t (neg_ℤ x) y) (pos 0)
+      by true true e f = ap neg_ℤ e
+      by true false e f = f
+      by false t e f = refl
+
+  -- what is paid by the sheet that is found, or nothing
+  found_paid : (b : Bool) (d : Declared) (k : Key) (K : Journal) (o : Option DaySheet) (p : Option Journal) → IsEarlier K → option_map_or (λ s. paid d s.rows k) o (pos 0) ≡ books_at d k (unwrap_or p [])
+      → option_map_or (λ s. paid d s.rows k) (cond b (Some (day_sheet opening K)) o) (pos 0) ≡ books_at d k (unwrap_or (cond b (Some K) p) [])
+  found_paid true d k K o p e h = paid_is opening K J e.0 sound e.1 d k
+  found_paid false d k K o p e h = h
+
+  one_paid : (d : Declared) (k : Key) (Ks : List Journal) → AllByRecursion IsEarlier Ks
+      → option_map_or (λ s. paid d s.rows k) (sheet_as_of (map (day_sheet opening) Ks) d.recorded) (pos 0) ≡ books_at d k (unwrap_or (find (λ K. is_not_after (date opening K) d.recorded) Ks) [])
+  one_paid d k [] e = books_none d k
+  one_paid d k (K ∷ Ks) e = found_paid (is_not_after (date opening K) d.recorded) d k K (sheet_as_of (map (day_sheet opening) Ks) d.recorded) (find (λ K. is_not_after (date opening K) d.recorded) Ks) e.0 (one_paid d k Ks e.1)
+
+  -- the same of a sheet with its dividend
+  with_rows : (d : Declared) (k : Key) (o : Option DaySheet) → option_map_or (λ (p : Paying). paid p.0 p.1 k) (option_map (λ s. (d, s.rows)) o) (pos 0) ≡ option_map_or (λ s. paid d s.rows k) o (pos 0)
+  with_rows d k None = refl
+  with_rows d k (Some s) = refl
+
+  -- what a dividend books where it is of the issue
+  abbrev in_issue : Account → Cusip → Declared → ℤ
+  in_issue a c d = cond (a == corporation) (neg_ℤ (total (λ b. cash (position (as_of opening J d.recorded) b c) d.rate) (members J))) (cash (position (as_of opening J d.recorded) a c) d.rate)
+
+  of_issue : (b : Bool) (a : Account) (c : Cusip) (d : Declared) → (b ≡ true → d.cusip ≡ c)
+      → cond b (cond (a == corporation) (neg_ℤ (total (λ b. cash (position (as_of opening J d.recorded) b d.cusip) d.rate) (members J))) (cash (position (as_of opening J d.recorded) a c) d.rate)) (pos 0) ≡ cond b (in_issue a c d) (pos 0)
+  of_issue true a c d h = λ i. cond (a == corporation) (neg_ℤ (total (λ b. cash (position (as_of opening J d.recorded) b (h refl i)) d.rate) (members J))) (cash (position (as_of opening J d.recorded) a c) d.rate)
+  of_issue false a c d h = refl
+
+  -- the dividends that are due in an issue book what the definitions say
+  all_due : (a : Account) (c : Cusip) → total (in_issue a c) (due opening J c) ≡ dividend opening J a c
+  all_due a c = by (a == corporation)
+    where
+      by : (b : Bool) → total (λ d. cond b (neg_ℤ (total (λ b. cash (position (as_of opening J d.recorded) b c) d.rate) (members J))) (cash (position (as_of opening J d.recorded) a c) d.rate)) (due opening J c) ≡ cond b (neg_ℤ (total (member_dividend opening J c) (members J))) (member_dividend opening J c a)
+      by true =
+          total-neg (λ d. total (λ b. cash (position (as_of opening J d.recorded) b c) d.rate) (members J)) (due opening J c)
+          ∙ ap neg_ℤ (total-swap (λ d b. cash (position (as_of opening J d.recorded) b c) d.rate) (due opening J c) (members J))
+      by false = refl
+
+  -- what a close pays at a key
+  pub dividends_are : (k : Key) → AllByRecursion IsEarlier (closings J) → dividend_of (payments_by (map (day_sheet opening) (closings J)) (filter (is_due (last_date opening J) (date opening J)) (in_order pays_before (dividends J)))) k ≡ dividend opening J k.account k.issue
+  dividends_are k e =
+      let ds : List Declared = filter (is_due (last_date opening J) (date opening J)) (in_order pays_before (dividends J)) in
+      let ss : List DaySheet = map (day_sheet opening) (closings J) in
+      total-given (λ (p : Paying). paid p.0 p.1 k) (λ d. option_map (λ s. (d, s.rows)) (sheet_as_of ss d.recorded)) ds
+      ∙ total-same _ _ ds (λ d. with_rows d k (sheet_as_of ss d.recorded) ∙ one_paid d k (closings J) e ∙ of_issue (bytes_eq k.issue d.cusip) k.account k.issue d (λ t. sym ((bytes_eq-Decides k.issue d.cusip).0 t)))
+      ∙ total-due (in_issue k.account k.issue) (is_due (last_date opening J) (date opening J)) k.issue (dividends J)
+      ∙ all_due k.account k.issue
+
+-- ---- the rows of a close
+
+-- a row that is kept or not, and that says something or not
+said_kept : (b t : Bool) (r : Row) → is_idle r ≡ t → (b ≡ false → says r ≡ false) → said r ≡ kept_if says (cond b (Some r) None)
+said_kept true true r is out = refl_of r is
+  where
+    refl_of : (r : Row) → is_idle r ≡ true → said r ≡ kept_if says (Some r)
+    refl_of r is = (λ i. cond (is i) None (Some r)) ∙ sym (λ i. cond (not (is i)) (Some r) None)
+said_kept true false r is out = (λ i. cond (is i) None (Some r)) ∙ sym (λ i. cond (not (is i)) (Some r) None)
+said_kept false true r is out = λ i. cond (is i) None (Some r)
+said_kept false false r is out = absurd (clash (sym (ap not is) ∙ out refl))
+  where
+    clash : true ≡ false → ⊥
+    clash h = cc
+
+-- rows without their keys
+without_keys : (rs : List Row) → map (λ e. e.1) (by_key rs) ≡ rs
+without_keys [] = refl
+without_keys (r ∷ rs) = ap (λ xs. r ∷ xs) (without_keys rs)
+
+-- rows in the order of keys that show the row of each key are those of the definitions
+pub rows_are_cut : (opening : Day) (J : Journal) (rows : List Row) → IsSound J → is_sorted key_cmp (by_key rows) ≡ true → ((k : Key) → row_at rows k ≡ said (row opening J k.account k.issue)) → rows ≡ sheet_rows opening J
+rows_are_cut opening J rows s order is =
+    let g : Key → Row = λ k. row opening J k.account k.issue in
+    let all = sorted_cells g (accounts J) (issues J) s.accounts_rise s.issues_rise in
+    let kept = of_all opening J (accounts J) in
+    sym (without_keys rows)
+    ∙ ap (map (λ e. e.1)) (same_lists keys_total exact_keys (by_key rows) (by_key (sheet_rows opening J)) order
+    (shown_rise opening J s)
+    (λ k. is k
+    ∙ said_kept (is_account J k.account && list_any (λ c. bytes_eq k.issue c) (issues J)) _ (g k) refl (idle_at opening J k s)
+    ∙ sym (ap (finmap.find key_cmp k) kept ∙ find_filter keys_total says k (cells g (accounts J) (issues J)) all ∙ ap (kept_if says) (find_cells g k (accounts J) (issues J)))))
+    ∙ without_keys (sheet_rows opening J)

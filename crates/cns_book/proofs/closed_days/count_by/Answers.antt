@@ -1,0 +1,11 @@
+use Rattle.std.proofs.Common.{rules}
+use Rattle.std.specs.Arc.{arc_value}
+use Rattle.std.proofs.lemmas.List.Sorted.{IsPartitionPoint-from_clause}
+use Rattle.cns_book.specs.Dated.{is_dated_by}
+use Rattle.cns_book.proofs.Closing.{le_test}
+use Rattle.cns_book.proofs.Dated.{dated_parted}
+use Rattle.cns_book.proofs.closed_days.count_by.Goals as goal
+
+pub returns-clause-parted : goal.returns-clause-parted
+returns-clause-parted g c =
+    IsPartitionPoint-from_clause (λ a. is_dated_by c.args.date (arc_value a)) c.args.sheets.now c.partition_point.result c.partition_point.ensures.partitioned (dated_parted arc_value c.args.date c.args.sheets.now c.requires) (λ x r q k. search (rules, le_test))

@@ -1,0 +1,37 @@
+use Rattle.std.proofs.Common.{◌≡◌, ◌∙◌, sym, ap, subst, true, List}
+use Rattle.std.specs.Prelude.{IfOk}
+use Rattle.cns_units.specs.declared.account.Member.{Member}
+use Rattle.cns_terms.specs.declared.command.Activity.{Activity}
+use Rattle.cns_terms.specs.declared.holding.Key.{Key}
+use Rattle.cns_terms.specs.Actions.{AreHolders}
+use Rattle.cns_terms.specs.Entries.{entries, journal}
+use Rattle.cns_terms.specs.Listings.{members}
+use Rattle.cns_positions.specs.Rows.{books, holding_at}
+use Rattle.cns_book.specs.Follows.{Follows, HasRoom}
+use Rattle.cns_actions.specs.Booked.{entries_of, issue_of, positions_in}
+use Rattle.cns_book.specs.Contents.{Contents}
+use Rattle.cns_book.specs.Effects.{activity_of}
+use Rattle.cns_book.proofs.Acting.{can_be_booked, entries_are, holders_are, ok_weaker, size_is}
+use Rattle.cns_book.proofs.parts.Parts.positions_after.Goals as goal
+
+pub next_positions-requires-clause-within : goal.next_positions-requires-clause-within
+next_positions-requires-clause-within g c = can_be_booked _ (subst HasRoom (sym c.self.view_is) c.requires.room)
+
+pub returns-clause-too_large : goal.returns-clause-too_large
+returns-clause-too_large g c L f =
+    let f' = subst (Follows L) (sym c.self.view_is) f in
+    let x = c.args.action.now in
+    let both = c.next_positions.ensures.too_large (members (journal c.self.inside.opening L)) (holders_are _ L f' (issue_of x)) in
+    let same = size_is _ L f' x in
+    ((λ e. sym same ∙ both.0 e), (λ e. both.1 (same ∙ e)))
+
+pub returns-clause-booked : goal.returns-clause-booked
+returns-clause-booked g c =
+    let s = c.args.self.now in
+    let x = c.args.action.now in
+    let R = s.rows in
+    ok_weaker c.next_positions.result
+    (λ p. (ms : List Member) → AreHolders (positions_in R (issue_of x)) ms → (k : Key) → holding_at (g.P.Positions.rows p) k ≡ books (entries_of x (positions_in R (issue_of x)) ms) k (holding_at R k))
+    (λ p. (L : List Activity) → Follows L s → (k : Key) → holding_at (g.P.Positions.rows p) k ≡ books (entries s.opening (journal s.opening L) (activity_of x)) k (holding_at R k))
+    (λ p h L f k. h (members (journal s.opening L)) (holders_are s L f (issue_of x)) k ∙ ap (λ es. books es k (holding_at R k)) (entries_are s L f x))
+    (subst (λ (t : Contents). IfOk c.next_positions.result (λ p. (ms : List Member) → AreHolders (positions_in t.rows (issue_of x)) ms → (k : Key) → holding_at (g.P.Positions.rows p) k ≡ books (entries_of x (positions_in t.rows (issue_of x)) ms) k (holding_at t.rows k))) c.self.view_is c.next_positions.ensures.booked)

@@ -1,0 +1,110 @@
+// Splits and exchanges.
+ghost use Rattle.std.specs.Prelude.{◌≡◌, ◌↔◌, List, Err, IfOk, true};
+ghost use Rattle.cns_terms.specs.declared.command.Activity.{Activity};
+ghost use Rattle.cns_terms.specs.declared.command.Activity.TheVariants as activity;
+ghost use Rattle.cns_terms.specs.declared.command.Command.TheVariants as command;
+ghost use Rattle.cns_terms.specs.declared.holding.Key.{Key};
+ghost use Rattle.cns_terms.specs.Entries.{entries, journal};
+ghost use Rattle.cns_terms.specs.Refusals.{first_refusal, is_too_large};
+ghost use Rattle.cns_positions.specs.Rows.{books, holding_at};
+ghost use Rattle.cns_actions.specs.Booked.{IsForAnother};
+ghost use Rattle.cns_actions.specs.declared.fault.ActionFault.TheVariants as fault;
+ghost use Rattle.cns_book.specs.Effects.{activity_of, exchange_rules, split_rules};
+ghost use Rattle.cns_book.specs.Follows.{Follows, HasRoom, Steps};
+
+use crate::parts::Parts;
+use cns_actions::{Action, ActionFault, next_positions};
+use cns_positions::Positions;
+use cns_terms::{Exchange, NoMemory, Refusal, Reply, Split};
+use std::alloc::Allocator;
+
+impl<P: Positions<A>, A: Allocator + Drop + Clone> Parts<P, A> {
+    // The positions after a split or an exchange, beside those that stand.
+    fn positions_after(&self, action: &Action) -> Result<P, ActionFault>
+        requires room { HasRoom self.now }
+        requires another { IsForAnother action.now }
+        ensures too_large { (L : List Activity) → Follows L self.now → (result ≡ Err fault.TooLarge) ↔ (is_too_large self.now.opening (journal self.now.opening L) (activity_of action.now) ≡ true) }
+        ensures booked { IfOk result (λ p. (L : List Activity) → Follows L self.now → (k : Key) → holding_at (P.rows p) k ≡ books (entries self.now.opening (journal self.now.opening L) (activity_of action.now)) k (holding_at self.now.rows k)) }
+    {
+        next_positions(&self.alloc, &self.positions, action)
+    }
+
+    // Why a SPLIT is refused, its size apart.
+    fn split_refusal(&self, split: &Split) -> Option<Refusal>
+        ensures { (L : List Activity) → Follows L self.now → result ≡ first_refusal (split_rules (journal self.now.opening L) split.now) }
+    {
+        let (listed, retired) = self.listed_and_retired(split.issue);
+        if !listed {
+            return Some(Refusal::NoSuchIssue);
+        }
+        if retired {
+            return Some(Refusal::Retired);
+        }
+        None
+    }
+
+    /// SPLIT. The new positions are made beside the old ones, and take their place at once.
+    pub fn split(&mut self, split: &Split) -> Result<Reply, NoMemory>
+        requires { HasRoom self.old }
+        ensures opening { self.new.opening ≡ self.old.opening }
+        ensures step { (L : List Activity) → Follows L self.old → Steps L (command.Activity (activity.Split split.now)) result self.new }
+    {
+        if let Some(refusal) = self.split_refusal(split) {
+            return Ok(Reply::Refused(refusal));
+        }
+        // Each number is within its limit; the calls tell the prover.
+        let _ = (split.ratio.parts(), split.lieu.value());
+        match self.positions_after(&Action::Split(*split)) {
+            Ok(positions) => {
+                self.positions = positions;
+                Ok(Reply::Accepted)
+            }
+            Err(ActionFault::TooLarge) => Ok(Reply::Refused(Refusal::TooLarge)),
+            Err(ActionFault::NoMemory) => Err(NoMemory),
+        }
+    }
+
+    // Why an EXCHANGE is refused, its size apart.
+    fn exchange_refusal(&self, exchange: &Exchange) -> Option<Refusal>
+        ensures { (L : List Activity) → Follows L self.now → result ≡ first_refusal (exchange_rules (journal self.now.opening L) exchange.now) }
+    {
+        let (old_listed, old_retired) = self.listed_and_retired(exchange.old);
+        let (listed, retired) = self.listed_and_retired(exchange.successor);
+        if !(old_listed && listed) {
+            return Some(Refusal::NoSuchIssue);
+        }
+        if old_retired || retired {
+            return Some(Refusal::Retired);
+        }
+        if exchange.old.is_same(&exchange.successor) {
+            return Some(Refusal::SameIssue);
+        }
+        None
+    }
+
+    /// EXCHANGE. The new positions are made beside the old ones, and take their place at once; then the old issue is retired.
+    pub fn exchange(&mut self, exchange: &Exchange) -> Result<Reply, NoMemory>
+        requires { HasRoom self.old }
+        ensures opening { self.new.opening ≡ self.old.opening }
+        ensures step { (L : List Activity) → Follows L self.old → Steps L (command.Activity (activity.Exchange exchange.now)) result self.new }
+    {
+        if let Some(refusal) = self.exchange_refusal(exchange) {
+            return Ok(Reply::Refused(refusal));
+        }
+        // Each number is within its limit; the calls tell the prover.
+        let _ = (
+            exchange.ratio.parts(),
+            exchange.lieu.value(),
+            exchange.cash.value(),
+        );
+        match self.positions_after(&Action::Exchange(*exchange)) {
+            Ok(positions) => {
+                self.positions = positions;
+                self.prices.retire(exchange.old);
+                Ok(Reply::Accepted)
+            }
+            Err(ActionFault::TooLarge) => Ok(Reply::Refused(Refusal::TooLarge)),
+            Err(ActionFault::NoMemory) => Err(NoMemory),
+        }
+    }
+}
