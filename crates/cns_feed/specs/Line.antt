@@ -4,6 +4,7 @@ use Rattle.std.specs.Str.{bytes_eq}
 use Rattle.csv.specs.Records.{field_at}
 use Rattle.cns_units.specs.Cusip.{cusip_of}
 use Rattle.cns_units.specs.Day.{day_of}
+use Rattle.cns_units.specs.Ranges.{ratio_of}
 use Rattle.cns_units.specs.declared.account.Account.{Account}
 use Rattle.cns_units.specs.declared.account.Member.{Member}
 use Rattle.cns_units.specs.declared.cusip.Cusip.{Cusip}
@@ -11,13 +12,15 @@ use Rattle.cns_units.specs.declared.day.Day.{Day}
 use Rattle.cns_units.specs.declared.fault.UnitFault.{UnitFault}
 use Rattle.cns_units.specs.declared.money.Money.{Money}
 use Rattle.cns_units.specs.declared.price.Price.{Price}
+use Rattle.cns_units.specs.declared.rate.Rate.{Rate}
+use Rattle.cns_units.specs.declared.ratio.Ratio.{Ratio}
 use Rattle.cns_units.specs.declared.shares.Shares.{Shares}
 use Rattle.cns_terms.specs.declared.command.Activity.TheVariants as activity
 use Rattle.cns_terms.specs.declared.command.Command.{Command}
 use Rattle.cns_terms.specs.declared.command.Command.TheVariants as command
 use Rattle.cns_terms.specs.declared.command.Listing.{Listing}
 use Rattle.cns_terms.specs.declared.command.Movement.{Movement}
-use Rattle.cns_feed.specs.Digits.{number_in}
+use Rattle.cns_feed.specs.Digits.{in_range, number_in}
 use Rattle.cns_feed.specs.declared.fault.LineFault.{LineFault}
 use Rattle.cns_feed.specs.declared.fault.LineFault.TheVariants as fault
 
@@ -63,6 +66,14 @@ money_at fields i = number_in 0 (10 ^ 18) (field fields i)
 abbrev pub price_at : Record → ℕ → Result Price LineFault
 price_at fields i = number_in 0 (10 ^ 9) (field fields i)
 
+-- the rate of a dividend in millionths of a dollar, 1 to 10^11
+abbrev pub rate_at : Record → ℕ → Result Rate LineFault
+rate_at fields i = number_in 1 (10 ^ 11) (field fields i)
+
+-- the shares on one side of a ratio, 1 to 10,000
+abbrev pub part_at : Record → ℕ → Result ℕ LineFault
+part_at fields i = number_in 1 (10 ^ 4) (field fields i)
+
 -- a text that is no CUSIP is a fault of its own
 abbrev pub or_cusip_fault : Result Cusip UnitFault → Result Cusip LineFault
 or_cusip_fault (Ok c) = Ok c
@@ -80,6 +91,13 @@ or_date_fault (Err e) = Err fault.Date
 -- the date
 abbrev pub date_at : Record → ℕ → Result Day LineFault
 date_at fields i = or_date_fault (day_of (field fields i))
+
+-- the ratio, by the places of its new shares and of its old ones
+abbrev pub ratio_at : Record → ℕ → ℕ → Result Ratio LineFault
+ratio_at fields i j = do
+  new ← part_at fields i
+  old ← part_at fields j
+  in_range (ratio_of new old)
 
 -- what is read of a record with so many fields, the kind among them
 abbrev pub counted : {A : Type 0} → ℕ → Record → Result A LineFault → Result A LineFault
@@ -142,6 +160,34 @@ receive_line fields = do
   movement ← movement_at fields
   Ok (command.Activity (activity.Receive movement))
 
+-- DIVIDEND: the issue, the record date, the payable date and the rate
+unfoldable pub dividend_line : Record → Line
+dividend_line fields = counted 5 fields (do
+  issue ← cusip_at fields 1
+  recorded ← date_at fields 2
+  payable ← date_at fields 3
+  rate ← rate_at fields 4
+  Ok (command.Activity (activity.Dividend (record { cusip = issue; recorded = recorded; payable = payable; rate = rate }))))
+
+-- SPLIT: the issue, the new shares, the old ones, and the cents in lieu of a new share
+unfoldable pub split_line : Record → Line
+split_line fields = counted 5 fields (do
+  issue ← cusip_at fields 1
+  ratio ← ratio_at fields 2 3
+  lieu ← price_at fields 4
+  Ok (command.Activity (activity.Split (record { issue = issue; ratio = ratio; lieu = lieu }))))
+
+-- EXCHANGE: the old issue, the successor, the new shares, the old ones, the cents in lieu of a new share, and the cash for
+-- an old one
+unfoldable pub exchange_line : Record → Line
+exchange_line fields = counted 7 fields (do
+  old ← cusip_at fields 1
+  successor ← cusip_at fields 2
+  ratio ← ratio_at fields 3 4
+  lieu ← price_at fields 5
+  cash ← price_at fields 6
+  Ok (command.Activity (activity.Exchange (record { old = old; successor = successor; ratio = ratio; lieu = lieu; cash = cash }))))
+
 -- CLOSE: the next date
 unfoldable pub close_line : Record → Line
 close_line fields = counted 2 fields (do
@@ -172,6 +218,9 @@ line_of fields =
     else if bytes_eq kind (codes "PRICE") then price_line fields
     else if bytes_eq kind (codes "DELIVER") then deliver_line fields
     else if bytes_eq kind (codes "RECEIVE") then receive_line fields
+    else if bytes_eq kind (codes "DIVIDEND") then dividend_line fields
+    else if bytes_eq kind (codes "SPLIT") then split_line fields
+    else if bytes_eq kind (codes "EXCHANGE") then exchange_line fields
     else if bytes_eq kind (codes "CLOSE") then close_line fields
     else if bytes_eq kind (codes "POSITION") then position_line fields
     else if bytes_eq kind (codes "STATEMENT") then statement_line fields

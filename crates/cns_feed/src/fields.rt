@@ -2,14 +2,17 @@
 ghost use Rattle.std.specs.Prelude.{◌≡◌};
 ghost use Rattle.csv.specs.Records.{fields_of};
 ghost use Rattle.cns_feed.specs.Digits.{in_range};
-ghost use Rattle.cns_feed.specs.Line.{field, member_at, account_at, reference_at, shares_at, money_at, price_at, cusip_at, date_at};
+ghost use Rattle.cns_feed.specs.Line.{field, member_at, account_at, reference_at, shares_at, money_at, price_at, rate_at, part_at, ratio_at, cusip_at, date_at};
 
 use crate::digits::{number_of, short_number_of};
 use crate::fault::LineFault;
-use cns_units::{Account, Cusip, Day, Member, Money, Price, Shares, UnitFault};
+use cns_units::{Account, Cusip, Day, Member, Money, Price, Rate, Ratio, Shares, UnitFault};
 use csv::ByteRecord;
 
 const MOST_REFERENCE: u64 = 1_000_000_000_000_000_000;
+
+// The most shares on one side of a ratio.
+const MOST_PART: u16 = 10_000;
 
 // The field at a place, the kind being at 0.
 pub(crate) fn field(row: &ByteRecord, place: usize) -> &[u8]
@@ -77,6 +80,36 @@ pub(crate) fn price(row: &ByteRecord, place: usize) -> Result<Price, LineFault>
 {
     let number = number_of(field(row, place))?;
     ranged(Price::new(number))
+}
+
+pub(crate) fn rate(row: &ByteRecord, place: usize) -> Result<Rate, LineFault>
+    ensures { result ≡ rate_at (fields_of row.now) place }
+{
+    let number = number_of(field(row, place))?;
+    ranged(Rate::new(number))
+}
+
+// The shares on one side of a ratio. Each side is looked at by itself, so that the first one at fault decides.
+fn part(row: &ByteRecord, place: usize) -> Result<u16, LineFault>
+    ensures { result ≡ part_at (fields_of row.now) place }
+{
+    let number = short_number_of(field(row, place))?;
+    if number < 1 {
+        return Err(LineFault::Range);
+    }
+    if number > MOST_PART {
+        return Err(LineFault::Range);
+    }
+    Ok(number)
+}
+
+// The ratio whose new shares stand at one place, and whose old ones at another.
+pub(crate) fn ratio(row: &ByteRecord, new: usize, old: usize) -> Result<Ratio, LineFault>
+    ensures { result ≡ ratio_at (fields_of row.now) new old }
+{
+    let new = part(row, new)?;
+    let old = part(row, old)?;
+    ranged(Ratio::new(new, old))
 }
 
 #[inline(always)]

@@ -2,11 +2,13 @@
 ghost use Rattle.std.specs.Prelude.{◌≡◌, false, codes};
 ghost use Rattle.std.specs.Str.{bytes_eq};
 ghost use Rattle.csv.specs.Records.{fields_of};
-ghost use Rattle.cns_feed.specs.Line.{field, member_line, listing_at, issue_line, price_line, trade_line, movement_at, deliver_line, receive_line, close_line, position_line, statement_line, line_of};
+ghost use Rattle.cns_feed.specs.Line.{field, member_line, listing_at, issue_line, price_line, trade_line, movement_at, deliver_line, receive_line, dividend_line, split_line, exchange_line, close_line, position_line, statement_line, line_of};
 
 use crate::fault::LineFault;
-use crate::fields::{account, cusip, date, field, member, money, price, reference, shares};
-use cns_terms::{Activity, Command, Key, Listing, Movement, Trade};
+use crate::fields::{
+    account, cusip, date, field, member, money, price, rate, ratio, reference, shares,
+};
+use cns_terms::{Activity, Command, Declared, Exchange, Key, Listing, Movement, Split, Trade};
 use csv::ByteRecord;
 
 /// What a record is read as: a command, or its first fault.
@@ -113,6 +115,59 @@ fn receive_of(row: &ByteRecord) -> Result<Command, LineFault>
     Ok(Command::Activity(Activity::Receive(movement)))
 }
 
+#[tactic(auto, unfolding(crate::specs::Line::dividend_line))]
+fn dividend_of(row: &ByteRecord) -> Result<Command, LineFault>
+    ensures { result ≡ dividend_line (fields_of row.now) }
+{
+    if row.len() != 5 {
+        return Err(LineFault::Count);
+    }
+    let cusip = cusip(row, 1)?;
+    let recorded = date(row, 2)?;
+    let payable = date(row, 3)?;
+    let rate = rate(row, 4)?;
+    Ok(Command::Activity(Activity::Dividend(Declared {
+        cusip,
+        recorded,
+        payable,
+        rate,
+    })))
+}
+
+#[tactic(auto, unfolding(crate::specs::Line::split_line))]
+fn split_of(row: &ByteRecord) -> Result<Command, LineFault>
+    ensures { result ≡ split_line (fields_of row.now) }
+{
+    if row.len() != 5 {
+        return Err(LineFault::Count);
+    }
+    let issue = cusip(row, 1)?;
+    let ratio = ratio(row, 2, 3)?;
+    let lieu = price(row, 4)?;
+    Ok(Command::Activity(Activity::Split(Split { issue, ratio, lieu })))
+}
+
+#[tactic(auto, unfolding(crate::specs::Line::exchange_line))]
+fn exchange_of(row: &ByteRecord) -> Result<Command, LineFault>
+    ensures { result ≡ exchange_line (fields_of row.now) }
+{
+    if row.len() != 7 {
+        return Err(LineFault::Count);
+    }
+    let old = cusip(row, 1)?;
+    let successor = cusip(row, 2)?;
+    let ratio = ratio(row, 3, 4)?;
+    let lieu = price(row, 5)?;
+    let cash = price(row, 6)?;
+    Ok(Command::Activity(Activity::Exchange(Exchange {
+        old,
+        successor,
+        ratio,
+        lieu,
+        cash,
+    })))
+}
+
 #[tactic(auto, unfolding(crate::specs::Line::close_line))]
 fn close_of(row: &ByteRecord) -> Result<Command, LineFault>
     ensures { result ≡ close_line (fields_of row.now) }
@@ -167,6 +222,12 @@ fn other_of(row: &ByteRecord) -> Result<Command, LineFault>
         deliver_of(row)
     } else if kind == b"RECEIVE".as_slice() {
         receive_of(row)
+    } else if kind == b"DIVIDEND".as_slice() {
+        dividend_of(row)
+    } else if kind == b"SPLIT".as_slice() {
+        split_of(row)
+    } else if kind == b"EXCHANGE".as_slice() {
+        exchange_of(row)
     } else if kind == b"CLOSE".as_slice() {
         close_of(row)
     } else if kind == b"POSITION".as_slice() {

@@ -259,7 +259,8 @@ fn the_first_fault_of_a_record_decides(rt: HostRuntime) -> Result<(), Fail> {
         ("STATEMENT,x,2024-6-3", "line Number"),
         ("STATEMENT,10000,2024-06-03", "line Range"),
         ("STATEMENT,0,2024-6-3", "line Date"),
-        ("DIVIDEND,1", "line Kind"),
+        ("DIVIDEND,1", "line Count"),
+        ("NOTICE,1", "line Kind"),
     ];
     let mut input = String::new(rt.alloc());
     let mut expected = String::new(rt.alloc());

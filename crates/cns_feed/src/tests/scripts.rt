@@ -1,10 +1,14 @@
 // Scripts with the replies that they must get, by subject.
+mod actions;
 mod bookings;
+mod dividends;
 mod fields;
 mod statements;
 
 use crate::Summary;
+use actions::ACTIONS;
 use bookings::BOOKINGS;
+use dividends::DIVIDENDS;
 use fields::FIELDS;
 use statements::STATEMENTS;
 
@@ -29,4 +33,4 @@ impl Script {
     }
 }
 
-pub(crate) const SCRIPTS: [&[Script]; 3] = [&BOOKINGS, &FIELDS, &STATEMENTS];
+pub(crate) const SCRIPTS: [&[Script]; 5] = [&ACTIONS, &BOOKINGS, &DIVIDENDS, &FIELDS, &STATEMENTS];

@@ -1,7 +1,7 @@
 // Fields of records, and their faults.
 use super::Script;
 
-pub(crate) const FIELDS: [Script; 7] = [
+pub(crate) const FIELDS: [Script; 8] = [
     Script {
         name: "money up to 10^18 cents, more, and none",
         opening: "2024-06-03",
@@ -136,6 +136,53 @@ pub(crate) const FIELDS: [Script; 7] = [
         output: "",
         commands: 0,
         lines: 0,
+        closes: 0,
+    },
+    Script {
+        name: "dividends, splits and exchanges that cannot be read",
+        opening: "2024-06-03",
+        input: "DIVIDEND,17275R102,2024-06-03,2024-06-04\n\
+            DIVIDEND,17275R103,x,2024-06-04,1\n\
+            DIVIDEND,17275R102,2024-06-31,x,1\n\
+            DIVIDEND,17275R102,2024-06-03,x,0\n\
+            DIVIDEND,17275R102,2024-06-03,2024-06-04,0\n\
+            DIVIDEND,17275R102,2024-06-03,2024-06-04,100000000001\n\
+            DIVIDEND,17275R102,2024-06-03,2024-06-04,1.5\n\
+            SPLIT,17275R102,1,1\n\
+            SPLIT,17275R102,0,x,0\n\
+            SPLIT,17275R102,x,0,0\n\
+            SPLIT,17275R102,1,0,0\n\
+            SPLIT,17275R102,10001,1,0\n\
+            SPLIT,17275R102,1,10001,x\n\
+            SPLIT,17275R102,1,65537,0\n\
+            SPLIT,17275R102,1,1,1000000001\n\
+            EXCHANGE,17275R102,594918104,1,1,0\n\
+            EXCHANGE,17275R102,x,0,1,0,0\n\
+            EXCHANGE,17275R102,594918104,1,1,0,1000000001\n\
+            EXCHANGE,17275R102,594918104,1,1,-1,0\n\
+            dividend,1\n",
+        output: "line Count\n\
+            line Cusip\n\
+            line Date\n\
+            line Date\n\
+            line Range\n\
+            line Range\n\
+            line Number\n\
+            line Count\n\
+            line Range\n\
+            line Number\n\
+            line Range\n\
+            line Range\n\
+            line Range\n\
+            line Range\n\
+            line Range\n\
+            line Count\n\
+            line Cusip\n\
+            line Range\n\
+            line Number\n\
+            line Kind\n",
+        commands: 0,
+        lines: 20,
         closes: 0,
     },
 ];
