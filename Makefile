@@ -5,7 +5,7 @@ SHELL := bash
 
 PROGRAM := crates/cnsbook/out/cnsbook
 OPENING := 2024-06-03
-SAMPLES := day week
+SAMPLES := day week actions
 
 .PHONY: build sample compare test bench
 
