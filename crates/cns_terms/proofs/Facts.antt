@@ -44,6 +44,10 @@ pub or_false : (b : Bool) → (b || false) ≡ b
 or_false true = refl
 or_false false = refl
 
+pub and_false : (b : Bool) → (b && false) ≡ false
+and_false true = refl
+and_false false = refl
+
 -- what does not fail holds
 pub holds : (x : Bool) → not x ≡ false → x ≡ true
 holds true h = refl

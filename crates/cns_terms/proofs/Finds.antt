@@ -21,7 +21,8 @@ pub as_T : (b : Bool) → b ≡ true → T b
 as_T true e = tt
 as_T false e = cc
 
-not_itself : {K : Type 0} {R : K → K → Ordering} (o : IsTotalOrder R) (k : K) → is_lt (R k k) ≡ false
+-- no key comes before itself
+pub not_itself : {K : Type 0} {R : K → K → Ordering} (o : IsTotalOrder R) (k : K) → is_lt (R k k) ≡ false
 not_itself o k = ap is_lt (tied_itself o k)
 
 module _ {K X : Type 0} {R : K → K → Ordering} (o : IsTotalOrder R) where

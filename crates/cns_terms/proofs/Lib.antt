@@ -8,6 +8,7 @@ pub mod Accounts
 pub mod Everywhere
 pub mod EntrySums
 pub mod ZeroSums
+pub mod FillSums
 pub mod Sound
 pub mod ClosedDays
 pub mod RefusalOrder
@@ -28,3 +29,8 @@ pub mod Amounts
 pub mod SheetLimits
 pub mod Examples
 pub mod ActionExamples
+pub mod BuyIns
+pub mod NoticeSteps
+pub mod BatchSteps
+pub mod SheetShorts
+pub mod BuyInExamples

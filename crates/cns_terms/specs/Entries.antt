@@ -7,13 +7,17 @@ use Rattle.cns_units.specs.declared.cusip.Cusip.{Cusip}
 use Rattle.cns_units.specs.declared.day.Day.{Day}
 use Rattle.cns_terms.specs.declared.action.Exchange.{Exchange}
 use Rattle.cns_terms.specs.declared.action.Split.{Split}
+use Rattle.cns_terms.specs.declared.buy_in.Execution.{Execution}
+use Rattle.cns_terms.specs.declared.buy_in.Fill.{Fill}
 use Rattle.cns_terms.specs.declared.command.Activity.{Activity}
 use Rattle.cns_terms.specs.declared.command.Activity.TheVariants as activity
 use Rattle.cns_terms.specs.declared.command.Movement.{Movement}
 use Rattle.cns_terms.specs.declared.command.Trade.{Trade}
 use Rattle.cns_terms.specs.declared.holding.Entry.{Entry}
 use Rattle.cns_terms.specs.Conversions.{converted, in_lieu, in_exchange}
+use Rattle.cns_terms.specs.Fills.{fills}
 use Rattle.cns_terms.specs.Listings.{members}
+use Rattle.cns_terms.specs.Notices.{Notice}
 use Rattle.cns_terms.specs.Positions.{position}
 use Rattle.cns_terms.specs.Postings.{Posting, Journal}
 use Rattle.cns_terms.specs.Sums.{total}
@@ -71,6 +75,18 @@ abbrev pub exchange_entries : Exchange → (Account → ℤ) → List Member →
 exchange_entries x q ms =
     against_corporation x.old (map (old_entry x q) (holders q ms))
     ++ against_corporation x.successor (map (new_entry x q) (holders q ms))
+
+-- what an execution books for the member that gave the notice: the shares that it bought in, and their money
+abbrev pub originator_entry : Execution → Notice → Entry
+originator_entry x k = entry k.given.member k.given.issue (neg_ℤ (pos x.shares)) (pos x.money)
+
+-- and for a member that is filled
+abbrev pub fill_entry : Notice → Fill → Entry
+fill_entry k f = entry f.member k.given.issue (pos f.shares) (neg_ℤ (pos f.cents))
+
+-- the entries of an execution, by its notice
+abbrev pub execution_entries : Journal → Execution → Notice → List Entry
+execution_entries J x k = originator_entry x k ∷ map (fill_entry k) (fills J x k)
 
 -- the entries that an activity books: a delivery raises the member's position, a receipt the corporation's; splits and
 -- exchanges book for all who have a position

@@ -6,6 +6,9 @@ pub mod Positions
 pub mod Ages
 pub mod Listings
 pub mod Conversions
+pub mod Notices
+pub mod Batches
+pub mod Fills
 pub mod Entries
 pub mod Actions
 pub mod Refusals

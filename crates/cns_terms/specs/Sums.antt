@@ -12,6 +12,11 @@ abbrev pub short : ℤ → ℕ
 short (pos n) = 0
 short (negsuc n) = suc n
 
+-- how much it is above 0
+abbrev pub long : ℤ → ℕ
+long (pos n) = n
+long (negsuc n) = 0
+
 -- whether two identifiers are the same
 abbrev pub same_issue : Cusip → Cusip → Bool
 same_issue = bytes_eq

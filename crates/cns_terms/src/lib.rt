@@ -29,6 +29,7 @@
 #![tactic(auto)]
 
 mod action;
+mod buy_in;
 mod command;
 mod fault;
 mod history;
@@ -39,6 +40,7 @@ mod sheet;
 mod worker;
 
 pub use action::{Declared, Exchange, Split};
+pub use buy_in::{Execution, Fill, Given, Liable, Short, Stage};
 pub use command::{Activity, Command, Listing, Movement, Trade};
 pub use fault::NoMemory;
 pub use history::Taken;

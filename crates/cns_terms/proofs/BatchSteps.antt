@@ -1,0 +1,127 @@
+-- How batches stand after one more activity.
+use Rattle.std.proofs.Common.{◌≡◌, ◌∙◌, ap, refl, ℕ, zero, suc, ◌+◌, ◌-◌, ◌≤◌, pos, neg_ℤ, Bool, true, false, cond, ◌&&◌, ◌==◌, List, [], ◌∷◌, length, map, filter, is_none, Option, Some, None, sum_by, arith}
+use Rattle.std.specs.List.{AllByRecursion}
+use Rattle.std.specs.Option.{option_map_or}
+use Rattle.std.specs.Prelude.{nat_lt}
+use Rattle.std.proofs.lemmas.Bool.Decides.{nat_tests}
+use Rattle.std.proofs.lemmas.List.Sums.{sum_by-cons}
+use Rattle.cns_units.specs.declared.account.Member.{Member}
+use Rattle.cns_units.specs.declared.cusip.Cusip.{Cusip}
+use Rattle.cns_units.specs.declared.day.Day.{Day}
+use Rattle.cns_terms.specs.declared.buy_in.Execution.{Execution}
+use Rattle.cns_terms.specs.declared.buy_in.Fill.{Fill}
+use Rattle.cns_terms.specs.declared.buy_in.Liable.{Liable}
+use Rattle.cns_terms.specs.declared.buy_in.Short.{Short}
+use Rattle.cns_terms.specs.declared.command.Activity.{Activity}
+use Rattle.cns_terms.specs.declared.command.Activity.TheVariants as activity
+use Rattle.cns_terms.specs.Batches.{batch_at, called, fills_before, is_called, liable_of, shorts}
+use Rattle.cns_terms.specs.Days.{closes, closings, day, is_close}
+use Rattle.cns_terms.specs.Entries.{execution_entries, fill_entry, journal, originator_entry, posting}
+use Rattle.cns_terms.specs.Fills.{batch_since, brought, charged, executes, filled, fills, given_to, left_of}
+use Rattle.cns_terms.specs.Notices.{Notice, notice_at}
+use Rattle.cns_terms.specs.Positions.{shares_for}
+use Rattle.cns_terms.specs.Postings.{Journal, Posting}
+use Rattle.cns_terms.specs.Reached.{IsReached}
+use Rattle.cns_terms.specs.Refusals.{rules}
+use Rattle.cns_terms.specs.Sums.{in_order, long, same_issue}
+use Rattle.cns_terms.proofs.Facts.{and_false}
+use Rattle.cns_terms.proofs.NoticeSteps.{map_each}
+use Rattle.cns_terms.proofs.Sound.{NoneHolds}
+
+-- ---- what executions filled
+
+-- an activity that executes no notice of the day in the issue fills nothing of its batch
+filled_same : (p : Posting) (J : Journal) (n : ℕ) (c : Cusip) (a : Member) → executes J n c p.activity ≡ false → filled (p ∷ J) n c a ≡ filled J n c a
+filled_same p J n c a h = nothing (executes J n c p.activity) (brought a c p.entries) (filled J n c a) h
+  where
+    nothing : (b : Bool) (m n : ℕ) → b ≡ false → cond b m 0 + n ≡ n
+    nothing true m n e = cc
+    nothing false m n e = omega arith
+
+left_same : (p : Posting) (J : Journal) (n : ℕ) (c : Cusip) (ls : List Liable) → executes J n c p.activity ≡ false → AllByRecursion (λ l. left_of (p ∷ J) n c l ≡ left_of J n c l) ls
+left_same p J n c [] h = tt
+left_same p J n c (l ∷ ls) h = ((λ i. record { member = l.member; age = l.age; closing = l.closing; left = l.closing - filled_same p J n c l.member h i }), left_same p J n c ls h)
+
+-- and leaves it
+pub batch_same : (p : Posting) (J K : Journal) (c : Cusip) → executes J (day K) c p.activity ≡ false → batch_since (p ∷ J) K c ≡ batch_since J K c
+batch_same p J K c h = map_each (left_of (p ∷ J) (day K) c) (left_of J (day K) c) (batch_at K c) (left_same p J (day K) c (batch_at K c) h)
+
+-- ---- no notice of a day is executed before the second day after it
+
+-- an activity that is not refused executes no notice of the open day, nor of the day before it
+none_executed : (opening : Day) (J : Journal) (n : ℕ) (c : Cusip) (x : Activity) → NoneHolds (rules opening J x) → day J ≤ n + 1 → executes J n c x ≡ false
+none_executed opening J n c (activity.Member m) h le = refl
+none_executed opening J n c (activity.Issue l) h le = refl
+none_executed opening J n c (activity.Trade t) h le = refl
+none_executed opening J n c (activity.Price l) h le = refl
+none_executed opening J n c (activity.Deliver m) h le = refl
+none_executed opening J n c (activity.Receive m) h le = refl
+none_executed opening J n c (activity.Dividend d) h le = refl
+none_executed opening J n c (activity.Split s) h le = refl
+none_executed opening J n c (activity.Exchange x) h le = refl
+none_executed opening J n c (activity.Close d) h le = refl
+
+-- days go on
+pub no_earlier : (b : Bool) (J : Journal) → closes J ≤ length (cond b (J ∷ closings J) (closings J))
+no_earlier true J = omega arith
+no_earlier false J = omega arith
+
+-- nothing is filled of the notices of the open day, nor of the day before it
+pub unfilled : (opening : Day) (L : List Activity) (n : ℕ) (c : Cusip) (a : Member) → IsReached opening L → day (journal opening L) ≤ n + 1 → filled (journal opening L) n c a ≡ 0
+unfilled opening [] n c a r le = refl
+unfilled opening (x ∷ L) n c a r le =
+    let J : Journal = journal opening L in
+    let before : day J ≤ n + 1 = omega (arith, le, no_earlier (is_close x) J) in
+    filled_same (posting opening J x) J n c a (none_executed opening J n c x (ap is_none r.1) before) ∙ unfilled opening L n c a r.2 before
+
+-- liabilities that nothing was filled of
+left_whole : (J : Journal) (n : ℕ) (c : Cusip) (ss : List Short) → ((a : Member) → filled J n c a ≡ 0) → map (left_of J n c) (map liable_of ss) ≡ map liable_of ss
+left_whole J n c [] h = refl
+left_whole J n c (s ∷ ss) h =
+    let all : s.shares - filled J n c s.member ≡ s.shares = all_left s.shares (filled J n c s.member) (h s.member) in
+    rw (all, left_whole J n c ss h) refl
+  where
+    all_left : (m n : ℕ) → n ≡ 0 → m - n ≡ m
+    all_left m n e = omega (arith, e)
+
+-- a batch that nothing was filled of is as it was chosen
+pub batch_new : (J K : Journal) (c : Cusip) → ((a : Member) → filled J (day K) c a ≡ 0) → batch_since J K c ≡ batch_at K c
+batch_new J K c h = left_whole J (day K) c (filter (is_called (shorts K c) (called K c)) (in_order fills_before (shorts K c))) h
+
+-- ---- an execution
+
+-- what an execution's entries bring a member is what its fills give it
+brought_all : (k : Notice) (a : Member) (c : Cusip) → same_issue k.given.issue c ≡ true → (fs : List Fill) → sum_by (λ e. long (shares_for a c e)) (map (fill_entry k) fs) ≡ given_to a fs
+brought_all k a c is [] = refl
+brought_all k a c is (f ∷ fs) =
+    sum_by-cons (λ e. long (shares_for a c e)) (fill_entry k f) (map (fill_entry k) fs)
+    ∙ rw (is, brought_all k a c is fs, sum_by-cons (λ (f : Fill). cond (f.member == a) f.shares 0) f fs) (one (f.member == a) f.shares (given_to a fs))
+  where
+    one : (t : Bool) (s n : ℕ) → long (cond (t && true) (pos s) (pos 0)) + n ≡ cond t s 0 + n
+    one true s n = refl
+    one false s n = refl
+
+-- and its originator is brought nothing
+pub brought_by : (J : Journal) (x : Execution) (k : Notice) (a : Member) (c : Cusip) → same_issue k.given.issue c ≡ true → brought a c (execution_entries J x k) ≡ given_to a (fills J x k)
+brought_by J x k a c is =
+    sum_by-cons (λ e. long (shares_for a c e)) (originator_entry x k) (map (fill_entry k) (fills J x k))
+    ∙ rw (brought_all k a c is (fills J x k)) (nothing ((k.given.member == a) && same_issue k.given.issue c) x.shares (given_to a (fills J x k)))
+  where
+    nothing : (b : Bool) (s n : ℕ) → long (cond b (neg_ℤ (pos s)) (pos 0)) + n ≡ n
+    nothing true zero n = omega arith
+    nothing true (suc s) n = omega arith
+    nothing false s n = omega arith
+
+-- the execution of a notice lowers what is left of its batch by its fills
+pub batch_charged : (p : Posting) (J K : Journal) (c : Cusip) (x : Execution) (k : Notice) → executes J (day K) c p.activity ≡ true → p.entries ≡ execution_entries J x k → same_issue k.given.issue c ≡ true → batch_since (p ∷ J) K c ≡ map (charged (fills J x k)) (batch_since J K c)
+batch_charged p J K c x k is entries same = each (batch_at K c)
+  where
+    lowered : (closing n f : ℕ) (b : Bool) (m : ℕ) → b ≡ true → m ≡ n → closing - (cond b m 0 + f) ≡ closing - f - n
+    lowered closing n f true m e h = omega (arith, h)
+    lowered closing n f false m e h = cc
+
+    each : (ls : List Liable) → map (left_of (p ∷ J) (day K) c) ls ≡ map (charged (fills J x k)) (map (left_of J (day K) c) ls)
+    each [] = refl
+    each (l ∷ ls) =
+        let one = lowered l.closing (given_to l.member (fills J x k)) (filled J (day K) c l.member) (executes J (day K) c p.activity) (brought l.member c p.entries) is (ap (brought l.member c) entries ∙ brought_by J x k l.member c same) in
+        rw (one, each ls) refl

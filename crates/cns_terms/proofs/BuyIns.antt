@@ -1,0 +1,278 @@
+-- Whom executions book for, and how much.
+use Rattle.std.proofs.Common.{◌≡◌, ◌∙◌, ap, subst, refl, ℕ, zero, suc, ◌+◌, ◌-◌, ◌*◌, ◌≤◌, min, ℤ, pos, negsuc, ◌+ℤ◌, neg_ℤ, Bool, true, false, not, cond, ◌&&◌, ◌==◌, List, [], ◌∷◌, map, filter, find, Option, Some, None, sum_by, arith}
+use Rattle.std.specs.List.{AllByRecursion}
+use Rattle.std.specs.Option.{IfSome}
+use Rattle.std.specs.Prelude.{nat_lt, unsigned_abs}
+use Rattle.std.proofs.Math.Nat.{min-le_right}
+use Rattle.std.proofs.lemmas.Bool.{eqb-true}
+use Rattle.std.proofs.lemmas.Bool.Decides.{nat_tests}
+use Rattle.std.proofs.lemmas.Int.{ints}
+use Rattle.std.proofs.lemmas.List.Sums.{sum_by-cons}
+use Rattle.std.proofs.lemmas.Slice.Eq.{bytes_eq-Decides}
+use Rattle.cns_units.specs.declared.account.Account.{Account}
+use Rattle.cns_units.specs.declared.account.Member.{Member}
+use Rattle.cns_units.specs.declared.cusip.Cusip.{Cusip}
+use Rattle.cns_terms.specs.declared.buy_in.Execution.{Execution}
+use Rattle.cns_terms.specs.declared.buy_in.Fill.{Fill}
+use Rattle.cns_terms.specs.declared.buy_in.Liable.{Liable}
+use Rattle.cns_terms.specs.declared.buy_in.Short.{Short}
+use Rattle.cns_terms.specs.declared.holding.Entry.{Entry}
+use Rattle.cns_terms.specs.Batches.{batch_at, called, fills_before, is_called, liable_of, short_of, shorts}
+use Rattle.cns_terms.specs.Days.{at_close, day}
+use Rattle.cns_terms.specs.Entries.{execution_entries, fill_entry}
+use Rattle.cns_terms.specs.Fills.{batch, capacity, fills, left_of, room, stretch, stretches}
+use Rattle.cns_terms.specs.Listings.{members}
+use Rattle.cns_terms.specs.Notices.{Notice, is_so, is_live, remaining, stage}
+use Rattle.cns_terms.specs.Positions.{position, shares_for}
+use Rattle.cns_terms.specs.Postings.{Journal}
+use Rattle.cns_terms.specs.Sums.{in_order, long, put, same_issue, short, total}
+use Rattle.cns_terms.proofs.Accounts.{occurs}
+use Rattle.cns_terms.proofs.EntrySums.{IsBalanced, cents_in, shares_in}
+use Rattle.cns_terms.proofs.Everywhere.{each_filter, each_in_order, each_map}
+use Rattle.cns_terms.proofs.Facts.{eqb_sym}
+use Rattle.cns_terms.proofs.FillSums.{cents_of_fills, shares_of_fills}
+use Rattle.cns_terms.proofs.Magnitudes.{added, magnitude}
+
+-- ---- what an execution that is not refused has met
+
+-- what holds of each notice holds of the one that is found
+pub each_named : {X : Type 0} (P : X → Type 0) (t : X → Bool) (xs : List X) → AllByRecursion P xs → IfSome (find t xs) P
+each_named P t [] a = tt
+each_named P t (x ∷ xs) a = here (t x) (each_named P t xs a.1)
+  where
+    here : (b : Bool) → IfSome (find t xs) P → IfSome (cond b (Some x) (find t xs)) P
+    here true h = a.0
+    here false h = h
+
+-- a notice is live, and as many shares remain of it and find room
+pub record IsExecutable (J : Journal) (x : Execution) (k : Notice) : Type 0 where
+  pub live : is_live (stage J k) ≡ true
+  pub enough : x.shares ≤ remaining J k
+  pub roomy : x.shares ≤ room J k
+
+-- the notice of an execution that is not refused
+pub executable : (J : Journal) (x : Execution) (o : Option Notice) → is_so (λ k. is_live (stage J k) && nat_lt (remaining J k) x.shares) o ≡ false → is_so (λ k. not (is_live (stage J k))) o ≡ false → is_so (λ k. nat_lt (room J k) x.shares) o ≡ false → IfSome o (IsExecutable J x)
+executable J x None e l r = tt
+executable J x (Some k) e l r =
+    let live = holds (is_live (stage J k)) l in
+    record { live = live; enough = no_less (remaining J k) x.shares (of_live (is_live (stage J k)) _ live e); roomy = no_less (room J k) x.shares r }
+  where
+    holds : (b : Bool) → not b ≡ false → b ≡ true
+    holds true h = refl
+    holds false h = cc
+
+    of_live : (b t : Bool) → b ≡ true → (b && t) ≡ false → t ≡ false
+    of_live true t h e = e
+    of_live false t h e = cc
+
+    no_less : (a b : ℕ) → nat_lt a b ≡ false → b ≤ a
+    no_less a b h = grind (arith, nat_tests)
+
+-- what remains of a notice is no more than its member is long
+pub remains_long : (J : Journal) (k : Notice) → remaining J k ≤ long (position J k.given.member k.given.issue)
+remains_long J k = at_most (is_live (stage J k)) (k.given.shares - _ - _) (long (position J k.given.member k.given.issue))
+  where
+    at_most : (b : Bool) (m n : ℕ) → cond b (min m n) 0 ≤ n
+    at_most true m n = min-le_right m n
+    at_most false m n = omega arith
+
+-- ---- the members that fills are for
+
+-- what holds of each member of a batch holds of each that is filled
+filled_each : (P : Member → Type 0) (each : Liable → ℕ) (n m from : ℕ) (ls : List Liable) → AllByRecursion (λ (l : Liable). P l.member) ls → AllByRecursion (λ (f : Fill). P f.member) (stretches each n m from ls)
+filled_each P each n m from [] a = tt
+filled_each P each n m from (l ∷ ls) a = (a.0, filled_each P each n m (from + each l) ls a.1)
+
+-- what holds of each member at the close of a notice's day holds of each that its execution fills
+pub fills_each : (P : Member → Type 0) (J : Journal) (x : Execution) (k : Notice) → AllByRecursion P (members (at_close J k.given.day)) → AllByRecursion (λ f. P f.member) (fills J x k)
+fills_each P J x k a =
+    let K : Journal = at_close J k.given.day in
+    let c : Cusip = k.given.issue in
+    let all_shorts = each_filter (λ (s : Short). P s.member) (λ s. nat_lt 0 s.shares) (map (short_of K c) (members K)) (each_map (λ (s : Short). P s.member) (short_of K c) (members K) a) in
+    let taken = each_filter (λ (s : Short). P s.member) (is_called (shorts K c) (called K c)) (in_order fills_before (shorts K c)) (each_in_order (λ (s : Short). P s.member) fills_before (shorts K c) all_shorts) in
+    let liable = each_map (λ (l : Liable). P l.member) (left_of J (day K) c) (batch_at K c) (each_map (λ (l : Liable). P l.member) liable_of _ taken) in
+    each_filter (λ (f : Fill). P f.member) (λ f. nat_lt 0 f.shares) _ (filled_each P (capacity (λ a. short (position J a c))) x.shares x.money 0 (batch J k.given.day c) liable)
+
+-- ---- no member stands in a batch twice
+
+-- how often a number is that of an element
+abbrev pub times : {X : Type 0} → (X → ℕ) → ℕ → List X → ℕ
+times f a xs = added (λ x. cond (a == f x) 1 0) xs
+
+times-put : {X : Type 0} (f : X → ℕ) (a : ℕ) (before : X → X → Bool) (x : X) (xs : List X) → times f a (put before x xs) ≡ cond (a == f x) 1 0 + times f a xs
+times-put f a before x [] = refl
+times-put f a before x (y ∷ ys) = here (before x y) (times-put f a before x ys)
+  where
+    here : (b : Bool) → times f a (put before x ys) ≡ cond (a == f x) 1 0 + times f a ys → times f a (cond b (x ∷ y ∷ ys) (y ∷ put before x ys)) ≡ cond (a == f x) 1 0 + times f a (y ∷ ys)
+    here true e = refl
+    here false e = omega (arith, e)
+
+times-in_order : {X : Type 0} (f : X → ℕ) (a : ℕ) (before : X → X → Bool) (xs : List X) → times f a (in_order before xs) ≡ times f a xs
+times-in_order f a before [] = refl
+times-in_order f a before (x ∷ xs) = times-put f a before x (in_order before xs) ∙ ap (λ n. cond (a == f x) 1 0 + n) (times-in_order f a before xs)
+
+times-filter : {X : Type 0} (f : X → ℕ) (a : ℕ) (p : X → Bool) (xs : List X) → times f a (filter p xs) ≤ times f a xs
+times-filter f a p [] = omega arith
+times-filter f a p (x ∷ xs) = here (p x) (times-filter f a p xs)
+  where
+    here : (b : Bool) → times f a (filter p xs) ≤ times f a xs → times f a (cond b (x ∷ filter p xs) (filter p xs)) ≤ cond (a == f x) 1 0 + times f a xs
+    here true e = omega (arith, e)
+    here false e = omega (arith, e)
+
+times-map : {X Y : Type 0} (f : Y → ℕ) (a : ℕ) (g : X → Y) (xs : List X) → times f a (map g xs) ≡ times (λ x. f (g x)) a xs
+times-map f a g [] = refl
+times-map f a g (x ∷ xs) = ap (λ n. cond (a == f (g x)) 1 0 + n) (times-map f a g xs)
+
+times-occurs : (a : ℕ) (bs : List ℕ) → times (λ b. b) a bs ≡ occurs a bs
+times-occurs a [] = refl
+times-occurs a (b ∷ bs) = ap (λ n. cond (a == b) 1 0 + n) (times-occurs a bs)
+
+-- a member stands in a batch as often as among the members at most
+pub batch_once : (J : Journal) (n : ℕ) (c : Cusip) (a : ℕ) → times (λ (l : Liable). l.member) a (batch J n c) ≤ occurs a (members (at_close J n))
+batch_once J n c a =
+    let K : Journal = at_close J n in
+    let all : times (λ (s : Short). s.member) a (map (short_of K c) (members K)) ≡ occurs a (members K) = times-map (λ (s : Short). s.member) a (short_of K c) (members K) ∙ times-occurs a (members K) in
+    let some = times-filter (λ (s : Short). s.member) a (λ s. nat_lt 0 s.shares) (map (short_of K c) (members K)) in
+    let placed = times-in_order (λ (s : Short). s.member) a fills_before (shorts K c) in
+    let taken = times-filter (λ (s : Short). s.member) a (is_called (shorts K c) (called K c)) (in_order fills_before (shorts K c)) in
+    let liable = times-map (λ (l : Liable). l.member) a liable_of (filter (is_called (shorts K c) (called K c)) (in_order fills_before (shorts K c))) in
+    let now = times-map (λ (l : Liable). l.member) a (left_of J (day K) c) (batch_at K c) in
+    omega (arith, all, some, placed, taken, liable, now)
+
+-- ---- how much a member is filled
+
+-- the shares of fills for a member
+abbrev pub filled_by : List Fill → Member → ℕ
+filled_by fs a = added (λ f. cond (f.member == a) f.shares 0) fs
+
+-- a member is filled up to its short, as often as it stands in the batch
+filled_few : (short_now : Member → ℕ) (n m from : ℕ) (a : Member) (ls : List Liable) → filled_by (filter (λ f. nat_lt 0 f.shares) (stretches (capacity short_now) n m from ls)) a ≤ times (λ l. l.member) a ls * short_now a
+filled_few short_now n m from a [] = omega arith
+filled_few short_now n m from a (l ∷ ls) =
+    let to : ℕ = from + capacity short_now l in
+    let one = stretch_few from (capacity short_now l) n in
+    let less = min-le_right l.left (short_now l.member) in
+    let rest = filled_few short_now n m to a ls in
+    kept (nat_lt 0 (min n to - from)) (l.member == a) (a == l.member) refl (eqb_sym a l.member) (min n to - from) (stretch n m from to l.member) (filter (λ f. nat_lt 0 f.shares) (stretches (capacity short_now) n m to ls)) refl refl
+    (omega (arith, one, less)) rest
+  where
+    stretch_few : (from c n : ℕ) → min n (from + c) - from ≤ c
+    stretch_few from c n = omega (arith, min-le_right n (from + c))
+
+    same_member : (t : Bool) → (l.member == a) ≡ t → (s : ℕ) → s ≤ short_now l.member → cond t s 0 ≤ cond t 1 0 * short_now a
+    same_member true e s h = let is : short_now l.member ≡ short_now a = ap short_now (eqb-true l.member a e) in omega (arith, h, is)
+    same_member false e s h = omega arith
+
+    sum_up : (t : ℕ) (p q o z : ℕ) → p ≤ t * z → q ≤ o * z → p + q ≤ (t + o) * z
+    sum_up t p q o z h k = omega (arith, h, k)
+
+    kept : (b t u : Bool) → (l.member == a) ≡ t → u ≡ t → (s : ℕ) (f : Fill) (fs : List Fill) → f.shares ≡ s → f.member ≡ l.member → s ≤ short_now l.member → filled_by fs a ≤ times (λ l. l.member) a ls * short_now a
+        → filled_by (cond b (f ∷ fs) fs) a ≤ (cond u 1 0 + times (λ l. l.member) a ls) * short_now a
+    kept true t u is same s f fs shares member h rest =
+        let one : cond (f.member == a) f.shares 0 ≤ cond u 1 0 * short_now a = rw (shares, member, is, same) (same_member t is s h) in
+        sum_up (cond u 1 0) (cond (f.member == a) f.shares 0) (filled_by fs a) (times (λ l. l.member) a ls) (short_now a) one rest
+    kept false t u is same s f fs shares member h rest = omega (arith, sum_up (cond u 1 0) 0 (filled_by fs a) (times (λ (l : Liable). l.member) a ls) (short_now a) (omega arith) rest)
+
+-- what an execution gives a member is no more than it is short, where no number stands twice among the members
+pub fill_few : (J : Journal) (x : Execution) (k : Notice) (a : Member) → occurs a (members (at_close J k.given.day)) ≤ 1 → filled_by (fills J x k) a ≤ short (position J a k.given.issue)
+fill_few J x k a once =
+    let all = filled_few (λ a. short (position J a k.given.issue)) x.shares x.money 0 a (batch J k.given.day k.given.issue) in
+    let one = batch_once J k.given.day k.given.issue a in
+    at_most_once (times (λ (l : Liable). l.member) a (batch J k.given.day k.given.issue)) _ _ (omega (arith, one, once)) all
+  where
+    at_most_once : (t z n : ℕ) → t ≤ 1 → n ≤ t * z → n ≤ z
+    at_most_once zero z n h le = omega (arith, le)
+    at_most_once (suc zero) z n h le = omega (arith, le)
+    at_most_once (suc (suc t)) z n h le = absurd (omega (arith, h))
+
+-- ---- the shares and cents of an execution's entries
+
+-- the shares of fills' entries for an account
+fill_shares : (k : Notice) (a : Account) (c : Cusip) (b : Bool) → same_issue k.given.issue c ≡ b → (fs : List Fill) → total (shares_for a c) (map (fill_entry k) fs) ≡ cond b (pos (filled_by fs a)) (pos 0)
+fill_shares k a c b is [] = none b
+  where
+    none : (b : Bool) → pos 0 ≡ cond b (pos 0) (pos 0)
+    none true = refl
+    none false = refl
+fill_shares k a c b is (f ∷ fs) = rw (is, fill_shares k a c b is fs) (one (f.member == a) b f.shares (filled_by fs a))
+  where
+    one : (t b : Bool) (s n : ℕ) → cond (t && b) (pos s) (pos 0) +ℤ cond b (pos n) (pos 0) ≡ cond b (pos (cond t s 0 + n)) (pos 0)
+    one true true s n = refl
+    one true false s n = refl
+    one false true s n = omega (arith, ints)
+    one false false s n = refl
+
+-- an execution leaves a member's position no further from zero
+pub executed_within : (J : Journal) (x : Execution) (k : Notice) (a : Account) (c : Cusip) (m : ℕ) → IsExecutable J x k → occurs a (members (at_close J k.given.day)) ≤ 1 → unsigned_abs (position J a c) ≤ m → unsigned_abs (total (shares_for a c) (execution_entries J x k) +ℤ position J a c) ≤ m
+executed_within J x k a c m ready once h = by (same_issue k.given.issue c) refl
+  where
+    closer : (q : ℤ) (t : Bool) (n f : ℕ) → (t ≡ true → n ≤ long q) → f ≤ short q → unsigned_abs q ≤ m → unsigned_abs ((cond t (neg_ℤ (pos n)) (pos 0) +ℤ pos f) +ℤ q) ≤ m
+    closer (pos q) true n f g s h = let e = g refl in omega (arith, ints, e, s, h)
+    closer (pos q) false n f g s h = omega (arith, ints, s, h)
+    closer (negsuc q) true n f g s h = let e = g refl in omega (arith, ints, e, s, h)
+    closer (negsuc q) false n f g s h = omega (arith, ints, s, h)
+
+    elsewhere : (t : Bool) (n : ℤ) (q : ℤ) → unsigned_abs q ≤ m → unsigned_abs ((cond (t && false) n (pos 0) +ℤ pos 0) +ℤ q) ≤ m
+    elsewhere true n q h = omega (arith, ints, h)
+    elsewhere false n q h = omega (arith, ints, h)
+
+    of_true : (t : Bool) → (t && true) ≡ t
+    of_true true = refl
+    of_true false = refl
+
+    here : (b : Bool) → same_issue k.given.issue c ≡ b → b ≡ true → unsigned_abs (total (shares_for a c) (execution_entries J x k) +ℤ position J a c) ≤ m
+    here b is yes_it_is =
+        let same : k.given.issue ≡ c = (bytes_eq-Decides k.given.issue c).0 (is ∙ yes_it_is) in
+        let few : filled_by (fills J x k) a ≤ short (position J a c) = subst (λ (d : Cusip). filled_by (fills J x k) a ≤ short (position J a d)) same (fill_few J x k a once) in
+        let all = ready.enough in
+        let remains = remains_long J k in
+        let gives : (k.given.member == a) ≡ true → x.shares ≤ long (position J a c) = λ e. subst (λ (d : Cusip). x.shares ≤ long (position J a d)) same (subst (λ (b : Member). x.shares ≤ long (position J b k.given.issue)) (eqb-true k.given.member a e) (omega (arith, all, remains))) in
+        rw (fill_shares k a c b is (fills J x k), is, yes_it_is, of_true (k.given.member == a)) (closer (position J a c) (k.given.member == a) x.shares (filled_by (fills J x k) a) gives few h)
+
+    by : (b : Bool) → same_issue k.given.issue c ≡ b → unsigned_abs (total (shares_for a c) (execution_entries J x k) +ℤ position J a c) ≤ m
+    by true is = here true is refl
+    by false is = rw (fill_shares k a c false is (fills J x k), is) (elsewhere (k.given.member == a) (neg_ℤ (pos x.shares)) (position J a c) h)
+
+-- the shares that fills' entries bring, in an issue
+fill_shares_in : (k : Notice) (c : Cusip) (b : Bool) → same_issue k.given.issue c ≡ b → (fs : List Fill) → total (shares_in c) (map (fill_entry k) fs) ≡ cond b (pos (sum_by (λ f. f.shares) fs)) (pos 0)
+fill_shares_in k c true is [] = refl
+fill_shares_in k c false is [] = refl
+fill_shares_in k c true is (f ∷ fs) = rw (is, fill_shares_in k c true is fs, sum_by-cons (λ (f : Fill). f.shares) f fs) refl
+fill_shares_in k c false is (f ∷ fs) = rw (is, fill_shares_in k c false is fs) refl
+
+-- and the cents that they take
+fill_cents_in : (k : Notice) (c : Cusip) (b : Bool) → same_issue k.given.issue c ≡ b → (fs : List Fill) → total (cents_in c) (map (fill_entry k) fs) ≡ cond b (neg_ℤ (pos (sum_by (λ f. f.cents) fs))) (pos 0)
+fill_cents_in k c true is [] = refl
+fill_cents_in k c false is [] = refl
+fill_cents_in k c true is (f ∷ fs) = rw (is, fill_cents_in k c true is fs, sum_by-cons (λ (f : Fill). f.cents) f fs) (omega (arith, ints))
+fill_cents_in k c false is (f ∷ fs) = rw (is, fill_cents_in k c false is fs) refl
+
+-- the entries of an execution add up to zero in each issue
+pub execution_balanced : (J : Journal) (x : Execution) (k : Notice) → 1 ≤ x.shares → IsExecutable J x k → IsBalanced (execution_entries J x k)
+execution_balanced J x k some ready =
+    let now : Member → ℕ = λ a. short (position J a k.given.issue) in
+    let ls = batch J k.given.day k.given.issue in
+    let shares = shares_of_fills now x.shares x.money ls ready.roomy in
+    let cents = cents_of_fills now x.shares x.money ls some ready.roomy in
+    record {
+      shares = λ c. rw (fill_shares_in k c (same_issue k.given.issue c) refl (fills J x k), shares) (opposite (same_issue k.given.issue c) (neg_ℤ (pos x.shares)) (pos x.shares) (omega (arith, ints)));
+      cents = λ c. rw (fill_cents_in k c (same_issue k.given.issue c) refl (fills J x k), cents) (opposite (same_issue k.given.issue c) (pos x.money) (neg_ℤ (pos x.money)) (omega (arith, ints)));
+    }
+  where
+    opposite : (b : Bool) (m n : ℤ) → m +ℤ n ≡ pos 0 → cond b m (pos 0) +ℤ cond b n (pos 0) ≡ pos 0
+    opposite true m n h = h
+    opposite false m n h = refl
+
+-- the cents of fills' entries, whatever their signs
+fill_magnitude : (k : Notice) (fs : List Fill) → magnitude (λ (e : Entry). e.cents) (map (fill_entry k) fs) ≡ sum_by (λ f. f.cents) fs
+fill_magnitude k [] = refl
+fill_magnitude k (f ∷ fs) = rw (fill_magnitude k fs, sum_by-cons (λ (f : Fill). f.cents) f fs) (unsigned f.cents (sum_by (λ (f : Fill). f.cents) fs))
+  where
+    unsigned : (m n : ℕ) → unsigned_abs (neg_ℤ (pos m)) + n ≡ m + n
+    unsigned m n = omega (arith, ints)
+
+-- an execution's entries book its money twice
+pub execution_cents : (J : Journal) (x : Execution) (k : Notice) → 1 ≤ x.shares → IsExecutable J x k → magnitude (λ (e : Entry). e.cents) (execution_entries J x k) ≡ x.money + x.money
+execution_cents J x k some ready =
+    let cents = cents_of_fills (λ a. short (position J a k.given.issue)) x.shares x.money (batch J k.given.day k.given.issue) some ready.roomy in
+    rw (fill_magnitude k (fills J x k), cents) refl

@@ -1,0 +1,82 @@
+-- The fills of an execution are its shares and its money, whole.
+use Rattle.std.proofs.Common.{add_assoc, le_trans, ◌≡◌, ℕ, ◌+◌, ◌-◌, ◌*◌, ◌/◌, ◌<◌, ◌≤◌, min, Bool, true, false, cond, List, [], ◌∷◌, filter, sum_by, nat_lt, refl, ◌∙◌, ap, arith}
+use Rattle.std.proofs.lemmas.Nat.{le-div}
+use Rattle.std.proofs.Math.Nat.{mul-div_left, zero-div, mul-zero, div-mul-le_self, mul-le-mul_left}
+use Rattle.std.proofs.lemmas.Bool.{le-ltb, cond-false, ltb-true, ltb-false}
+use Rattle.std.proofs.lemmas.List.Sums.{sum_by-cons}
+use Rattle.cns_units.specs.declared.account.Member.{Member}
+use Rattle.cns_terms.specs.declared.buy_in.Fill.{Fill}
+use Rattle.cns_terms.specs.declared.buy_in.Liable.{Liable}
+use Rattle.cns_terms.specs.Fills.{room_of, capacity, stretch, stretches, fills_of}
+
+-- dropping what adds nothing leaves a sum as it is
+kept_or_not : {X : Type 0} (f : X → ℕ) (b : Bool) (x : X) (ys : List X) → (b ≡ false → f x ≡ 0) → sum_by f (cond b (x ∷ ys) ys) ≡ f x + sum_by f ys
+kept_or_not f true x ys h = sum_by-cons f x ys
+kept_or_not f false x ys h = let z = h refl in omega arith
+
+-- the shares that fall to a stretch
+shares_of_stretch : (n m from to a : ℕ) → from ≤ to → (stretch n m from to a).shares + min n from ≡ min n to
+shares_of_stretch n m from to a h = omega arith
+
+-- the shares of stretches laid end to end
+shares_of_stretches : (each : Liable → ℕ) (n m from : ℕ) (ss : List Liable) → sum_by (λ f. f.shares) (filter (λ f. nat_lt 0 f.shares) (stretches each n m from ss)) + min n from ≡ min n (from + sum_by each ss)
+shares_of_stretches each n m from [] = omega arith
+shares_of_stretches each n m from (s ∷ ss) =
+    let to : ℕ = from + each s in
+    let rest = shares_of_stretches each n m to ss in
+    let one = shares_of_stretch n m from to s.member (omega arith) in
+    let first = kept_or_not (λ (f : Fill). f.shares) (nat_lt 0 (min n to - from)) (stretch n m from to s.member) (filter (λ f. nat_lt 0 f.shares) (stretches each n m to ss)) (λ e. let z = ltb-false 0 (min n to - from) e in omega arith) in
+    rw (sum_by-cons each s ss, ← add_assoc from (each s) (sum_by each ss)) (omega arith)
+
+-- the part of the money m that belongs to the first k of n shares
+abbrev pub paid : ℕ → ℕ → ℕ → ℕ
+paid n m k = (m * min n k) / n
+
+pub paid_more : (n m j k : ℕ) → 0 < n → j ≤ k → (m * j) / n ≤ (m * k) / n
+paid_more n m j k some h = le-div ((m * j) / n) (m * k) n some (le_trans (div-mul-le_self (m * j) n) (mul-le-mul_left m h))
+
+-- the money that falls to a stretch
+cents_of_stretch : (n m from to a : ℕ) → from ≤ to → (stretch n m from to a).cents + paid n m from ≡ paid n m to
+cents_of_stretch n m from to a h =
+    let by : (b : Bool) → nat_lt from (min n to) ≡ b → cond b ((m * min n to) / n - (m * from) / n) 0 + paid n m from ≡ paid n m to =
+    λ b. elim b as (λ b. nat_lt from (min n to) ≡ b → cond b ((m * min n to) / n - (m * from) / n) 0 + paid n m from ≡ paid n m to) [
+      | true ↦ λ e.
+          let lower : from < min n to = ltb-true from (min n to) e in
+          let from_is : min n from ≡ from = omega arith in
+          let more = paid_more n m from (min n to) (omega arith) (omega arith) in
+          rw from_is (omega arith)
+      | false ↦ λ e.
+          let upper : min n to ≤ from = ltb-false from (min n to) e in
+          let same : min n from ≡ min n to = omega arith in
+          rw same (omega arith)
+    ] in
+    by (nat_lt from (min n to)) refl
+
+-- a stretch without shares gets no money
+unpaid : (n m from to a : ℕ) → nat_lt 0 (stretch n m from to a).shares ≡ false → (stretch n m from to a).cents ≡ 0
+unpaid n m from to a e =
+    let none = ltb-false 0 (min n to - from) e in
+    cond-false (nat_lt from (min n to)) _ 0 (le-ltb from (min n to) (omega arith))
+
+cents_of_stretches : (each : Liable → ℕ) (n m from : ℕ) (ss : List Liable) → sum_by (λ f. f.cents) (filter (λ f. nat_lt 0 f.shares) (stretches each n m from ss)) + paid n m from ≡ paid n m (from + sum_by each ss)
+cents_of_stretches each n m from [] = let z : from + 0 ≡ from = omega arith in rw z (omega arith)
+cents_of_stretches each n m from (s ∷ ss) =
+    let to : ℕ = from + each s in
+    let rest = cents_of_stretches each n m to ss in
+    let one = cents_of_stretch n m from to s.member (omega arith) in
+    let first = kept_or_not (λ (f : Fill). f.cents) (nat_lt 0 (min n to - from)) (stretch n m from to s.member) (filter (λ f. nat_lt 0 f.shares) (stretches each n m to ss)) (unpaid n m from to s.member) in
+    rw (sum_by-cons each s ss, ← add_assoc from (each s) (sum_by each ss)) (omega arith)
+
+-- the fills of n shares that a batch has room for are n shares
+pub shares_of_fills : (short : Member → ℕ) (n m : ℕ) (ls : List Liable) → n ≤ room_of short ls → sum_by (λ f. f.shares) (fills_of short n m ls) ≡ n
+shares_of_fills short n m ls h = let all = shares_of_stretches (capacity short) n m 0 ls in omega arith
+
+-- and they are paid the whole money
+pub cents_of_fills : (short : Member → ℕ) (n m : ℕ) (ls : List Liable) → 0 < n → n ≤ room_of short ls → sum_by (λ f. f.cents) (fills_of short n m ls) ≡ m
+cents_of_fills short n m ls some h =
+    let all = cents_of_stretches (capacity short) n m 0 ls in
+    let to : min n (0 + room_of short ls) ≡ n = omega arith in
+    let from : min n 0 ≡ 0 = omega arith in
+    let whole : paid n m (0 + room_of short ls) ≡ m = ap (λ k. (m * k) / n) to ∙ mul-div_left m some in
+    let nothing : paid n m 0 ≡ 0 = ap (λ k. (m * k) / n) from ∙ ap (λ k. k / n) (mul-zero m) ∙ zero-div n in
+    omega arith

@@ -1,0 +1,129 @@
+-- How notices stand after one more activity.
+use Rattle.std.proofs.Common.{◌≡◌, ap, refl, ℕ, suc, ◌+◌, ◌≤◌, ◌<◌, Bool, true, false, cond, ◌&&◌, List, [], ◌∷◌, ◌++◌, length, map, Option, Some, None, arith}
+use Rattle.std.specs.List.{AllByRecursion}
+use Rattle.std.specs.Option.{option_map_or}
+use Rattle.std.specs.Prelude.{nat_le}
+use Rattle.std.proofs.lemmas.Bool.Decides.{nat_tests}
+use Rattle.std.proofs.lemmas.List.{length-append}
+use Rattle.cns_terms.specs.declared.buy_in.Stage.{Stage}
+use Rattle.cns_terms.specs.declared.buy_in.Stage.TheVariants.{Live, Withdrawn, Ended, Expired}
+use Rattle.cns_terms.specs.declared.command.Movement.{Movement}
+use Rattle.cns_terms.specs.Days.{day}
+use Rattle.cns_terms.specs.Notices.{Notice, execution, first_reached, is_given, is_live, notice, noticed, notices, received_live, receipt, shares_executed, shares_received, stage, stage_by}
+use Rattle.cns_terms.specs.Postings.{Journal, Posting}
+
+-- ---- numbers
+
+-- numbers that go up by one from a first
+abbrev pub AreNumberedFrom : ℕ → List Notice → Type 0
+AreNumberedFrom k [] = Unit {0}
+AreNumberedFrom k (n ∷ ns) = (n.number ≡ k) × AreNumberedFrom (suc k) ns
+
+numbered_push : (k : ℕ) (ns : List Notice) (n : Notice) → AreNumberedFrom k ns → n.number ≡ length ns + k → AreNumberedFrom k (ns ++ n ∷ [])
+numbered_push k [] n h e = (omega (arith, e), tt)
+numbered_push k (m ∷ ns) n h e = (h.0, numbered_push (suc k) ns n h.1 (omega (arith, e)))
+
+-- notices are numbered 1, 2, 3
+pub numbered : (J : Journal) → AreNumberedFrom 1 (notices J)
+numbered [] = tt
+numbered (p ∷ J) = by (noticed p.activity) (numbered J)
+  where
+    by : (o : Option Movement) → AreNumberedFrom 1 (notices J) → AreNumberedFrom 1 (option_map_or (λ m. notices J ++ (notice (length (notices J) + 1) (day J) m ∷ [])) o (notices J))
+    by None before = before
+    by (Some m) before = numbered_push 1 (notices J) (notice (length (notices J) + 1) (day J) m) before refl
+
+-- a number below a bound
+below : (k n : ℕ) (ns : List Notice) → AreNumberedFrom k ns → length ns + k ≤ n + 1 → AllByRecursion (λ m. nat_le m.number n ≡ true) ns
+below k n [] h le = tt
+below k n (m ∷ ns) h le = (no_more m.number k n h.0 (omega (arith, le)), below (suc k) n ns h.1 (omega (arith, le)))
+  where
+    no_more : (a b n : ℕ) → a ≡ b → b ≤ n → nat_le a n ≡ true
+    no_more a b n e h = grind (arith, nat_tests)
+
+-- each notice of a journal was given in it
+pub each_given : (J : Journal) → AllByRecursion (λ n. is_given J n ≡ true) (notices J)
+each_given J = below 1 (length (notices J)) (notices J) (numbered J) (omega arith)
+
+-- ---- a notice that was given
+
+-- its stage after one more activity
+pub stage_next : (p : Posting) (J : Journal) (n : Notice) → is_given J n ≡ true → stage (p ∷ J) n ≡ first_reached (stage J n) (stage_by n (day J) p.activity)
+stage_next p J n h = ap (λ b. first_reached (stage J n) (cond b (stage_by n (day J) p.activity) Live)) h
+
+-- what was executed of it
+pub executed_next : (p : Posting) (J : Journal) (n : Notice) → is_given J n ≡ true → shares_executed (p ∷ J) n ≡ execution n p.activity + shares_executed J n
+executed_next p J n h = ap (λ b. cond b (execution n p.activity) 0 + shares_executed J n) h
+
+-- what its member received while it was live
+pub received_next : (p : Posting) (J : Journal) (n : Notice) → is_given J n ≡ true → received_live (p ∷ J) n ≡ cond (is_live (stage J n)) (receipt n p.activity) 0 + received_live J n
+received_next p J n h = ap (λ b. cond (b && is_live (stage J n)) (receipt n p.activity) 0 + received_live J n) h
+
+-- a stage that was reached is not left
+live_before : (s t : Stage) → is_live (first_reached s t) ≡ true → is_live s ≡ true
+live_before Live t h = refl
+live_before Withdrawn t h = cc
+live_before Ended t h = cc
+live_before Expired t h = cc
+
+-- of a live notice that is all that its member received
+pub live_received : (J : Journal) (n : Notice) → is_live (stage J n) ≡ true → received_live J n ≡ shares_received J n
+live_received [] n h = refl
+live_received (p ∷ J) n h =
+    let before = live_before (stage J n) (cond (is_given J n) (stage_by n (day J) p.activity) Live) h in
+    here (is_given J n) (is_live (stage J n)) (receipt n p.activity) before (live_received J n before)
+  where
+    here : (g l : Bool) (r : ℕ) → l ≡ true → received_live J n ≡ shares_received J n → cond (g && l) r 0 + received_live J n ≡ cond g r 0 + shares_received J n
+    here true true r e same = omega (arith, same)
+    here false true r e same = omega (arith, same)
+    here g false r e same = cc
+
+-- ---- a notice that was not given yet
+
+-- notices stay
+more_notices : (p : Posting) (J : Journal) → length (notices J) ≤ length (notices (p ∷ J))
+more_notices p J = by (noticed p.activity)
+  where
+    by : (o : Option Movement) → length (notices J) ≤ length (option_map_or (λ m. notices J ++ (notice (length (notices J) + 1) (day J) m ∷ [])) o (notices J))
+    by None = omega arith
+    by (Some m) = omega (arith, length-append (notices J) (notice (length (notices J) + 1) (day J) m ∷ []))
+
+not_given : (J : Journal) (n : Notice) → length (notices J) < n.number → is_given J n ≡ false
+not_given J n h = above n.number (length (notices J)) h
+  where
+    above : (a b : ℕ) → b < a → nat_le a b ≡ false
+    above a b h = grind (arith, nat_tests)
+
+-- an activity before which it was not given leaves it live
+live_still : (g : Bool) (t s : Stage) → g ≡ false → t ≡ Live → first_reached t (cond g s Live) ≡ Live
+live_still true t s e h = cc
+live_still false t s e h = ap (λ u. first_reached u Live) h
+
+-- and its sums at 0
+no_more : (g l : Bool) (r x a b : ℕ) → g ≡ false → a ≡ 0 → b ≡ 0 → (cond (g && l) r 0 + a ≡ 0) × (cond g x 0 + b ≡ 0)
+no_more true l r x a b e h k = cc
+no_more false l r x a b e h k = (omega (arith, h), omega (arith, k))
+
+-- nothing became of it
+pub untouched : (J : Journal) (n : Notice) → length (notices J) < n.number → (stage J n ≡ Live) × (received_live J n ≡ 0) × (shares_executed J n ≡ 0)
+untouched [] n h = (refl, refl, refl)
+untouched (p ∷ J) n h =
+    let less : length (notices J) < n.number = omega (arith, h, more_notices p J) in
+    let before = untouched J n less in
+    let sums = no_more (is_given J n) (is_live (stage J n)) (receipt n p.activity) (execution n p.activity) (received_live J n) (shares_executed J n) (not_given J n less) before.1 before.2 in
+    (live_still (is_given J n) (stage J n) (stage_by n (day J) p.activity) (not_given J n less) before.0, sums.0, sums.1)
+
+-- nor of one that the activity itself gives
+pub given_now : (p : Posting) (J : Journal) (m : Movement) → let n = notice (length (notices J) + 1) (day J) m in
+    (stage (p ∷ J) n ≡ Live) × (received_live (p ∷ J) n ≡ 0) × (shares_executed (p ∷ J) n ≡ 0)
+given_now p J m =
+    let n : Notice = notice (length (notices J) + 1) (day J) m in
+    let before = untouched J n (omega arith) in
+    let sums = no_more (is_given J n) (is_live (stage J n)) (receipt n p.activity) (execution n p.activity) (received_live J n) (shares_executed J n) (not_given J n (omega arith)) before.1 before.2 in
+    (live_still (is_given J n) (stage J n) (stage_by n (day J) p.activity) (not_given J n (omega arith)) before.0, sums.0, sums.1)
+
+-- ---- lists of notices
+
+-- two functions that agree on each element
+pub map_each : {X Y : Type 0} (f g : X → Y) (xs : List X) → AllByRecursion (λ x. f x ≡ g x) xs → map f xs ≡ map g xs
+map_each f g [] h = refl
+map_each f g (x ∷ xs) h = rw (h.0, map_each f g xs h.1) refl
