@@ -1,0 +1,64 @@
+-- Places of members in issues, and the numbers at them.
+use Rattle.std.proofs.Common.{◌≡◌, ◌∙◌, sym, ap, refl, subst, ℕ, ◌<◌, true, false, cond, not, ◌&&◌, [], ◌∷◌, filter, arith}
+use Rattle.std.specs.BTreeMap.{insert_entry}
+use Rattle.std.proofs.lemmas.Map.Views.{All-keys-insert_entry}
+use Rattle.std.specs.BTreeMap.Range.{range_contains}
+use Rattle.std.specs.Cmp.{IsTotalOrder}
+use Rattle.std.specs.Map.{keys_of}
+use Rattle.std.specs.Ordering.{is_eq, is_gt, is_le, is_lt, nat_cmp, ordering_then}
+use Rattle.std.specs.Cmp.Lexicographic.{slice_cmp}
+use Rattle.std.specs.declared.cmp.Ordering.{Ordering}
+use Rattle.std.specs.declared.cmp.Ordering.TheVariants.{Less, Equal, Greater}
+use Rattle.std.specs.declared.ops.Bound.TheVariants.{Included}
+use Rattle.std.proofs.lemmas.Bool.Decides.{nat_tests}
+use Rattle.std.proofs.lemmas.Cmp.{nat_cmp_total, nat_list_cmp_total, then_total, tied_itself, on_total}
+use Rattle.std.proofs.lemmas.List.Elements.{All-head, All-tail}
+use Rattle.std.proofs.lemmas.Map.Lookups.{CmpEqualImpliesEq, exact_pairs, exact_unsigned, exact_bytes}
+use Rattle.std.proofs.lemmas.Map.Text.{is_eq-slice_cmp}
+use Rattle.cns_units.specs.declared.cusip.Cusip.{Cusip}
+use Rattle.cns_terms.specs.Sums.{same_issue}
+use Rattle.cns_notices.specs.Latest.{HaveSmallMembers, Numbers, Place, in_issue, place_cmp}
+
+-- the order of places is total, and tells them apart
+pub places_total : IsTotalOrder place_cmp
+places_total = then_total (on_total (λ (p : Place). p.0) nat_list_cmp_total) (on_total (λ (p : Place). p.1) nat_cmp_total)
+
+pub exact_places : CmpEqualImpliesEq place_cmp
+exact_places = exact_pairs (slice_cmp nat_cmp) nat_cmp exact_bytes exact_unsigned
+
+-- a place is not before itself
+pub forward : (c : Cusip) → is_gt (place_cmp (c, 0) (c, 65535)) ≡ false
+forward c = ap (λ r. is_gt (ordering_then r Less)) (tied_itself nat_list_cmp_total c)
+
+-- the least and the largest member number
+least : (m : ℕ) → is_le (nat_cmp 0 m) ≡ true
+least m = grind (arith, nat_tests)
+
+largest : (m : ℕ) → m < 65536 → is_lt (nat_cmp 65535 m) ≡ false
+largest m h = grind (arith, nat_tests)
+
+-- a place is between them exactly if it is in the issue
+between_branch : (r low high : Ordering) → is_le low ≡ true → is_lt high ≡ false → (is_le (ordering_then r low) && not (is_lt (ordering_then r high))) ≡ is_eq r
+between_branch Less low high p q = refl
+between_branch Equal low high p q = (λ i. p i && not (q i))
+between_branch Greater low high p q = refl
+
+is_between : (c : Cusip) (p : Place) → p.1 < 65536 → range_contains place_cmp (Included (c, 0)) (Included (c, 65535)) p ≡ same_issue c p.0
+is_between c p h = between_branch (slice_cmp nat_cmp c p.0) (nat_cmp 0 p.1) (nat_cmp 65535 p.1) (least p.1) (largest p.1 h) ∙ is_eq-slice_cmp c p.0
+
+-- the numbers between them are those of the issue
+pub range_of_issue : (c : Cusip) (ns : Numbers) → HaveSmallMembers ns → filter (λ e. range_contains place_cmp (Included (c, 0)) (Included (c, 65535)) e.0) ns ≡ in_issue c ns
+range_of_issue c [] h = refl
+range_of_issue c (e ∷ ns) h =
+    let rest = range_of_issue c ns (All-tail (λ (p : Place). p.1 < 65536) e.0 (keys_of ns) h) in
+    let first = is_between c e.0 (All-head (λ (p : Place). p.1 < 65536) e.0 (keys_of ns) h) in
+    (λ i. cond (first i) (e ∷ rest i) (rest i))
+
+-- what a search between them finds
+pub found_in_issue : (c : Cusip) (found es ns : Numbers) → found ≡ filter (λ e. range_contains place_cmp (Included (c, 0)) (Included (c, 65535)) e.0) es → es ≡ ns → HaveSmallMembers ns → found ≡ in_issue c ns
+found_in_issue c found es ns is same h = is ∙ ap (filter (λ e. range_contains place_cmp (Included (c, 0)) (Included (c, 65535)) e.0)) same ∙ range_of_issue c ns h
+
+-- one number more
+pub put_there : (old es new : Numbers) (p : Place) (k : ℕ) → es ≡ old → HaveSmallMembers old → p.1 < 65536 → new ≡ insert_entry place_cmp es p k → HaveSmallMembers new
+put_there old es new p k same small less is =
+    subst HaveSmallMembers (sym is) (All-keys-insert_entry place_cmp p k (λ (q : Place). q.1 < 65536) es (subst HaveSmallMembers (sym same) small) less)

@@ -1,0 +1,25 @@
+use Rattle.std.proofs.Common.{◌≡◌, ◌∙◌, sym, ap, Some, cond}
+use Rattle.std.specs.Ordering.{is_eq}
+use Rattle.cns_notices.proofs.Places.{put_there}
+use Rattle.cns_notices.specs.Latest.{Numbers, number_at, numbers_of, place_cmp}
+use Rattle.cns_notices.proofs.latest.Latest.put.Goals as goal
+use Rattle.cns_notices.proofs.latest.Latest.put.Goals.{in-Some, in-None+in_ok-clone-in-None, in-Ok, in-Err}
+
+-- the map that is changed has the numbers from before
+before : (g : _) (c : goal.Joined-inserted g) → c.match-take.numbers.entries ≡ numbers_of c.self.inside.numbers
+before g c = elim c.match-take.branch [
+  | in-Some w ↦ ap (λ m. m.entries) w.numbers-is ∙ ap numbers_of (sym w.in-Some.is ∙ c.take.ensures.value)
+  | in-None+in_ok-clone-in-None w ↦ ap (λ m. m.entries) w.numbers-is ∙ w.new-numbers.ensures.empty ∙ ap numbers_of (sym w.in-None.is ∙ c.take.ensures.value)
+]
+
+pub invariant_of-self-2 : goal.invariant_of-self-2
+invariant_of-self-2 g c = elim c.match-inserted.branch [
+  | in-Ok w ↦ put_there _ _ _ _ _ (before g c) c.self.invariant c.value.type_inv w.in-Ok.ensures.entries
+  | in-Err w ↦ rw (w.in-Err.ensures.err, before g c) c.self.invariant
+]
+
+pub returns-clause-ok : goal.returns-clause-ok
+returns-clause-ok g c = elim c.match-inserted.branch [
+  | in-Ok w ↦ rw w.result-is (λ p. rw (sym c.value.ensures.value, sym c.self.view_is) (w.in-Ok.ensures.updates.0 p ∙ ap (λ (ns : Numbers). cond (is_eq (place_cmp (c.args.cusip, c.value.result) p)) (Some c.args.number) (number_at ns p)) (before g c)))
+  | in-Err w ↦ rw w.result-is tt
+]

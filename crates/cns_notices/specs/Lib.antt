@@ -1,0 +1,3 @@
+pub mod Noticed
+pub mod Latest
+pub mod Kept
