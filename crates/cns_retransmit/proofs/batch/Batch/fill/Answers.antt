@@ -1,0 +1,24 @@
+use Rattle.std.proofs.Common.{◌≡◌, ◌∙◌, ap, sym, subst, sum_by}
+use Rattle.cns_terms.specs.declared.buy_in.Fill.{Fill}
+use Rattle.cns_terms.specs.Fills.{capacity, fills_of}
+use Rattle.cns_terms.proofs.FillSums.{shares_of_fills, cents_of_fills}
+use Rattle.cns_retransmit.specs.Order.{FillInOrder}
+use Rattle.cns_retransmit.proofs.Charging.{fills_follow}
+use Rattle.cns_retransmit.proofs.batch.Batch.fill.Goals as goal
+
+-- the fills are those of the definition
+made : (g : _) (c : goal.In_ok-fills g) → c.in_ok-fills.fills.items ≡ fills_of (g.S.Shorts.short_now c.args.now.now) c.args.shares c.args.money c.args.self.now.members
+made g c =
+    let ls : c.as_slice.result.now ≡ c.args.self.now.members = c.as_slice.ensures.value ∙ ap (λ b. b.members) c.self.view_is in
+    c.in_ok-fills.ensures
+    ∙ ap (λ n. fills_of (g.S.Shorts.short_now c.args.now.now) n c.args.money c.as_slice.result.now) c.value.ensures.value
+    ∙ ap (fills_of (g.S.Shorts.short_now c.args.now.now) c.args.shares c.args.money) ls
+
+pub returns-clause-shares : goal.returns-clause-shares
+returns-clause-shares g c = ap (sum_by (λ (f : Fill). f.shares)) (made g c) ∙ shares_of_fills (g.S.Shorts.short_now c.args.now.now) c.args.shares c.args.money c.args.self.now.members c.requires
+
+pub returns-clause-cents : goal.returns-clause-cents
+returns-clause-cents g c = ap (sum_by (λ (f : Fill). f.cents)) (made g c) ∙ cents_of_fills (g.S.Shorts.short_now c.args.now.now) c.args.shares c.args.money c.args.self.now.members c.value.ensures.range.0 c.requires
+
+pub returns-clause-order : goal.returns-clause-order
+returns-clause-order g c = subst (λ fs. FillInOrder fs c.args.self.now.members) (sym (made g c)) (fills_follow (capacity (g.S.Shorts.short_now c.args.now.now)) c.args.shares c.args.money 0 c.args.self.now.members)

@@ -1,0 +1,124 @@
+// A batch, with what is left of each liability.
+ghost use Rattle.std.specs.Prelude.{◌≡◌, [], ◌^◌, ◌<◌, ◌≤◌, IfOk, MatchOption, map, OnOk, pos, sum_by};
+ghost use Rattle.cns_terms.specs.Batches.{chosen};
+ghost use Rattle.cns_terms.specs.Fills.{charged, fills_of, room_of};
+ghost use Rattle.cns_units.specs.declared.account.Member.{Member};
+ghost use Rattle.cns_retransmit.specs.Chosen.{shorts_of};
+ghost use Rattle.cns_retransmit.specs.Members.{left_of};
+ghost use Rattle.cns_retransmit.specs.Order.{FillInOrder};
+
+use crate::choice;
+use crate::filling::{self, Shorts, left_for, make_fills};
+use cns_terms::{Fill, Liable, NoMemory, Short};
+use cns_units::{Cusip, Member, Money, Shares};
+use std::alloc::Allocator;
+use std::marker::Model;
+
+/// The members that are liable for the notices of a day in an issue, in the order of filling: by the age of their shorts at
+/// that close, the oldest first, then by number. Contracts see the issue and the members. No member stands in it twice.
+#[derive(Drop)]
+pub struct Batch<A: Allocator + Drop> {
+    cusip: Cusip,
+    liables: Vec<Liable, A>,
+}
+
+impl<A: Allocator + Drop> Model for Batch<A> {
+    ghost use Rattle.cns_retransmit.specs.Members.{IsBatch};
+    ghost use Rattle.cns_terms.specs.Batches.{Liables};
+
+    ghost Value = { Liables };
+
+    ghost view = { λ b. record { cusip = b.cusip; members = b.liables.items } };
+
+    ghost invariant = { λ b. IsBatch b.liables.items };
+}
+
+impl<A: Allocator + Drop + Clone> Batch<A> {
+    /// Chooses who is liable for notices of `total` shares in an issue, from all that are short in it at a close: whole
+    /// groups of one age, the oldest first, until their shorts are at least that many or nobody is left. Each is liable for
+    /// its short. None where nobody is chosen, as at a total of 0. (Retransmittal to the oldest shorts is this project's
+    /// profile of NSCC Procedure X.)
+    ///
+    /// No member may stand twice among the shorts, and together they have to be below 2^63 shares. `NoMemory` where a growth
+    /// or the copy of the allocator was refused.
+    pub fn choose(
+        alloc: A,
+        cusip: Cusip,
+        shorts: &[Short],
+        total: u64,
+    ) -> Result<Option<Batch<A>>, NoMemory>
+        requires distinct { (a : Member) → shorts_of a shorts.now ≤ 1 }
+        requires fits { sum_by (λ s. s.shares) shorts.now < 2 ^ 63 }
+        ensures { IfOk result (λ b. MatchOption b (chosen shorts.now total ≡ []) (λ b. b ≡ record { cusip = cusip; members = chosen shorts.now total })) }
+    {
+        let liables = choice::choose(alloc, shorts, total)?;
+        if liables.is_empty() {
+            return Ok(None);
+        }
+        Ok(Some(Batch { cusip, liables }))
+    }
+
+    /// What an execution of so many shares for so much money gives each member now, and what each pays: they are filled in
+    /// order, each up to what is left of its liability and to what it is short now, until all the shares are given. A member
+    /// whose fill ends at the k-th of n shares pays k/n of the money, cut to whole cents, less what those before it pay. So
+    /// the fills are for that many shares and that many cents, exactly (this project's profile of NSCC Procedure X).
+    ///
+    /// A member that is given nothing has no fill. The batch is not changed; `charge` does that. The shares have to be no
+    /// more than the room. `NoMemory` where a growth or the copy of the allocator was refused.
+    pub fn fill<S: Shorts>(
+        &self,
+        now: &S,
+        shares: Shares,
+        money: Money,
+    ) -> Result<Vec<Fill, A>, NoMemory>
+        requires { shares ≤ room_of (S.short_now now.now) self.now.members }
+        ensures fills { IfOk result (λ v. v.items ≡ fills_of (S.short_now now.now) shares money self.now.members) }
+        ensures shares { IfOk result (λ v. sum_by (λ f. f.shares) v.items ≡ shares) }
+        ensures cents { IfOk result (λ v. sum_by (λ f. f.cents) v.items ≡ money) }
+        ensures order { IfOk result (λ v. FillInOrder v.items self.now.members) }
+    {
+        let alloc = self.liables.allocator().clone()?;
+        let fills = make_fills(alloc, self.liables.as_slice(), now, shares.value(), money)?;
+        Ok(fills)
+    }
+}
+
+impl<A: Allocator + Drop> Batch<A> {
+    /// The members, in the order of filling. It takes no memory.
+    pub fn members(&self) -> &[Liable]
+        ensures { result.now ≡ self.now.members }
+    {
+        self.liables.as_slice()
+    }
+
+    /// The issue. It takes no memory.
+    pub fn cusip(&self) -> Cusip
+        ensures { result ≡ self.now.cusip }
+    {
+        self.cusip
+    }
+
+    /// What is left of a member's liability, in shares; 0 for a member that is not in the batch. It takes no memory.
+    pub fn liable(&self, member: Member) -> i64
+        ensures { result ≡ pos (left_of member self.now.members) }
+    {
+        left_for(self.liables.as_slice(), member) as i64
+    }
+
+    /// How many shares an execution can give the members now: of each what is left of its liability, or what it is short
+    /// now where that is less. It takes no memory.
+    pub fn room<S: Shorts>(&self, now: &S) -> u64
+        ensures { result ≡ room_of (S.short_now now.now) self.now.members }
+    {
+        filling::room(self.liables.as_slice(), now)
+    }
+
+    /// Lowers what is left of each liability by what the fills give its member, down to 0. The fills have to be for
+    /// members of the batch, in its order and at most one for each, as `fill` makes them. It takes no memory.
+    pub fn charge(&mut self, fills: &[Fill])
+        requires { FillInOrder fills.now self.old.members }
+        ensures { self.new ≡ record { cusip = self.old.cusip; members = map (charged fills.now) self.old.members } }
+    {
+        filling::charge(self.liables.as_mut_slice(), fills);
+    }
+}
