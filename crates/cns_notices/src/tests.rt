@@ -114,44 +114,7 @@ fn receive(
     Ok(())
 }
 
-// What happens to notices.
-#[derive(Clone, Copy)]
-enum Step {
-    // Notice by a member, in an issue, of so many shares, on a day.
-    Give(u16, &'static [u8; 9], u64, u32),
-    Withdraw(u32),
-    Receive(u16, &'static [u8; 9], u64),
-    Execute(u32, u64),
-    Split(&'static [u8; 9]),
-    Close(u32),
-}
-
-use Step::{Close, Execute, Give, Receive, Split, Withdraw};
-
-fn take(notices: &mut Notices<Global>, step: Step) -> Result<(), Fail> {
-    match step {
-        Give(number, cusip, n, day) => {
-            give(notices, number, cusip, n, day)?;
-        }
-        Withdraw(k) => withdraw(notices, k)?,
-        Receive(number, cusip, n) => receive(notices, number, cusip, n)?,
-        Execute(k, n) => execute(notices, k, n)?,
-        Split(cusip) => notices.end_issue(Cusip::parse(cusip)?),
-        Close(day) => notices.expire(day),
-    }
-    Ok(())
-}
-
-// The notices after some steps.
-fn after(alloc: Global, steps: &[Step]) -> Result<Notices<Global>, Fail> {
-    let mut notices = Notices::new(alloc);
-    for step in steps {
-        take(&mut notices, *step)?;
-    }
-    Ok(notices)
-}
-
-// Whether the notices have these stages.
+// Whether the first notices have these stages, and there are no more.
 fn have_stages(notices: &Notices<Global>, stages: &[Stage]) -> Result<bool, Fail> {
     let mut k = 0;
     for expected in stages {
@@ -166,183 +129,180 @@ fn have_stages(notices: &Notices<Global>, stages: &[Stage]) -> Result<bool, Fail
     Ok(notices.len() == k)
 }
 
+// The stage of a notice of one day after the close of another.
+fn stage_after_close(alloc: Global, given: u32, closing: u32) -> Result<Stage, Fail> {
+    let mut notices = Notices::new(alloc);
+    give(&mut notices, 1, CISCO, 9, given)?;
+    notices.expire(closing);
+    stage(&notices, 1)
+}
+
 #[test]
-fn a_notice_ends_by_withdrawal_split_or_time(rt: HostRuntime) -> Result<(), Fail> {
-    use Stage::{Ended, Expired, Live, Withdrawn};
-    let cases: [(&[Step], &[Stage]); 12] = [
-        (&[], &[]),
-        // The close of the second day after its own, and no other.
-        (
-            &[Give(1, CISCO, 9, 5), Close(3), Close(5), Close(6), Close(8)],
-            &[Live],
-        ),
-        (&[Give(1, CISCO, 9, 5), Close(7)], &[Expired]),
-        (
-            &[Give(1, CISCO, 9, 1), Close(0), Close(1), Close(2)],
-            &[Live],
-        ),
-        (&[Give(1, CISCO, 9, 0), Close(2)], &[Expired]),
-        (
-            &[
-                Give(1, CISCO, 9, u32::MAX),
-                Close(u32::MAX),
-                Close(0),
-                Close(1),
-            ],
-            &[Live],
-        ),
-        // All live ones of a day, and of no other.
-        (
-            &[
-                Give(1, CISCO, 9, 1),
-                Give(2, CISCO, 9, 2),
-                Give(3, APPLE, 9, 2),
-                Give(4, CISCO, 9, 2),
-                Give(5, CISCO, 9, 4),
-                Withdraw(3),
-                Close(4),
-            ],
-            &[Live, Expired, Withdrawn, Expired, Live],
-        ),
-        // All live ones in an issue, of the first member to the last.
-        (
-            &[
-                Give(1, CISCO, 9, 1),
-                Give(9999, CISCO, 9, 1),
-                Give(1, APPLE, 9, 1),
-                Give(2, CISCO, 9, 1),
-                Withdraw(4),
-                Split(CISCO),
-            ],
-            &[Ended, Ended, Live, Withdrawn],
-        ),
-        (&[Split(CISCO), Give(1, CISCO, 9, 1)], &[Live]),
-        // Another may follow, and the first stays as it ended.
-        (
-            &[Give(1, CISCO, 9, 1), Withdraw(1), Give(1, CISCO, 9, 1)],
-            &[Withdrawn, Live],
-        ),
-        (
-            &[
-                Give(1, CISCO, 9, 1),
-                Split(CISCO),
-                Give(1, CISCO, 9, 1),
-                Close(3),
-            ],
-            &[Ended, Expired],
-        ),
-        (
-            &[Give(1, CISCO, 9, 1), Execute(1, 9), Receive(1, CISCO, 9)],
-            &[Live],
-        ),
+fn a_notice_expires_at_the_close_of_the_second_day_after_its_own(
+    rt: HostRuntime,
+) -> Result<(), Fail> {
+    let cases = [
+        (5, 3, Stage::Live),
+        (5, 5, Stage::Live),
+        (5, 6, Stage::Live),
+        (5, 7, Stage::Expired),
+        (5, 8, Stage::Live),
+        (1, 0, Stage::Live),
+        (1, 2, Stage::Live),
+        (0, 2, Stage::Expired),
+        (u32::MAX, u32::MAX, Stage::Live),
+        (u32::MAX, 1, Stage::Live),
     ];
-    for (steps, stages) in cases {
-        let notices = after(rt.alloc(), steps)?;
-        assert!(rt; have_stages(&notices, stages)?);
+    for (given, closing, expected) in cases {
+        assert_eq!(rt; stage_after_close(rt.alloc(), given, closing)?, expected);
     }
     Ok(())
+}
+
+#[test]
+fn the_live_notices_of_a_day_expire_and_no_other(rt: HostRuntime) -> Result<(), Fail> {
+    let mut notices = Notices::new(rt.alloc());
+    give(&mut notices, 1, CISCO, 9, 1)?;
+    give(&mut notices, 2, CISCO, 9, 2)?;
+    give(&mut notices, 3, APPLE, 9, 2)?;
+    give(&mut notices, 4, CISCO, 9, 2)?;
+    give(&mut notices, 5, CISCO, 9, 4)?;
+    withdraw(&mut notices, 3)?;
+    notices.expire(4);
+    let stages = [
+        Stage::Live,
+        Stage::Expired,
+        Stage::Withdrawn,
+        Stage::Expired,
+        Stage::Live,
+    ];
+    assert!(rt; have_stages(&notices, &stages)?);
+    Ok(())
+}
+
+#[test]
+fn a_split_ends_the_live_notices_of_its_issue(rt: HostRuntime) -> Result<(), Fail> {
+    let mut notices = Notices::new(rt.alloc());
+    give(&mut notices, 1, CISCO, 9, 1)?;
+    give(&mut notices, 9999, CISCO, 9, 1)?;
+    give(&mut notices, 1, APPLE, 9, 1)?;
+    give(&mut notices, 2, CISCO, 9, 1)?;
+    withdraw(&mut notices, 4)?;
+    notices.end_issue(Cusip::parse(CISCO)?);
+    let stages = [Stage::Ended, Stage::Ended, Stage::Live, Stage::Withdrawn];
+    assert!(rt; have_stages(&notices, &stages)?);
+    Ok(())
+}
+
+#[test]
+fn another_notice_may_follow_one_that_has_ended(rt: HostRuntime) -> Result<(), Fail> {
+    let mut notices = Notices::new(rt.alloc());
+    give(&mut notices, 1, CISCO, 9, 1)?;
+    withdraw(&mut notices, 1)?;
+    give(&mut notices, 1, CISCO, 9, 1)?;
+    notices.expire(3);
+    let stages = [Stage::Withdrawn, Stage::Expired];
+    assert!(rt; have_stages(&notices, &stages)?);
+    Ok(())
+}
+
+// What remains of a notice of 80 shares after a receipt and an execution of so many, if any.
+fn remaining_of_80(
+    alloc: Global,
+    received: u64,
+    executed: u64,
+    position: i64,
+) -> Result<u64, Fail> {
+    let mut notices = Notices::new(alloc);
+    give(&mut notices, 1, CISCO, 80, 3)?;
+    if received > 0 {
+        receive(&mut notices, 1, CISCO, received)?;
+    }
+    if executed > 0 {
+        execute(&mut notices, 1, executed)?;
+    }
+    remaining(&notices, 1, position)
 }
 
 #[test]
 fn what_remains_follows_receipts_executions_and_the_position(rt: HostRuntime) -> Result<(), Fail> {
-    // The notice and its member's position, and what remains.
-    let cases: [(&[Step], u32, i64, u64); 16] = [
-        (&[Give(1, CISCO, 80, 3)], 1, 220, 80),
-        (&[Give(1, CISCO, 80, 3)], 1, 80, 80),
-        (&[Give(1, CISCO, 80, 3)], 1, 79, 79),
-        (&[Give(1, CISCO, 80, 3)], 1, 0, 0),
-        (&[Give(1, CISCO, 80, 3)], 1, -1, 0),
-        (&[Give(1, CISCO, 80, 3)], 1, i64::MIN, 0),
-        (&[Give(1, CISCO, 80, 3)], 1, i64::MAX, 80),
-        (&[Give(1, CISCO, 80, 3), Receive(1, CISCO, 50)], 1, 170, 30),
-        (
-            &[Give(1, CISCO, 80, 3), Receive(1, CISCO, 50), Execute(1, 20)],
-            1,
-            190,
-            10,
-        ),
-        (
-            &[Give(1, CISCO, 80, 3), Receive(1, CISCO, 50), Execute(1, 20)],
-            1,
-            4,
-            4,
-        ),
-        (
-            &[Give(1, CISCO, 80, 3), Receive(1, CISCO, 81), Execute(1, 20)],
-            1,
-            190,
-            0,
-        ),
-        // Receipts from before, of another member or of another issue do not count.
-        (&[Receive(1, CISCO, 5), Give(1, CISCO, 80, 3)], 1, 220, 80),
-        (&[Give(1, CISCO, 80, 3), Receive(2, CISCO, 5)], 1, 220, 80),
-        (
-            &[
-                Give(1, CISCO, 80, 3),
-                Give(1, APPLE, 7, 3),
-                Receive(1, APPLE, 5),
-            ],
-            1,
-            220,
-            80,
-        ),
-        // Nothing remains of a notice that is not live, and its receipts are not those of the next.
-        (&[Give(1, CISCO, 80, 3), Withdraw(1)], 1, 220, 0),
-        (
-            &[
-                Give(1, CISCO, 80, 3),
-                Receive(1, CISCO, 50),
-                Withdraw(1),
-                Give(1, CISCO, 20, 3),
-                Receive(1, CISCO, 5),
-            ],
-            2,
-            220,
-            15,
-        ),
+    let cases = [
+        (0, 0, 220, 80),
+        (0, 0, 80, 80),
+        (0, 0, 79, 79),
+        (0, 0, 0, 0),
+        (0, 0, -1, 0),
+        (0, 0, i64::MIN, 0),
+        (0, 0, i64::MAX, 80),
+        (50, 0, 170, 30),
+        (50, 20, 190, 10),
+        (50, 20, 4, 4),
+        (81, 20, 190, 0),
+        (0, 80, 190, 0),
     ];
-    for (steps, k, position, expected) in cases {
-        let notices = after(rt.alloc(), steps)?;
-        assert_eq!(rt; remaining(&notices, k, position)?, expected);
+    for (received, executed, position, expected) in cases {
+        let left = remaining_of_80(rt.alloc(), received, executed, position)?;
+        assert_eq!(rt; left, expected);
     }
     Ok(())
 }
 
 #[test]
+fn receipts_from_before_or_of_another_do_not_count(rt: HostRuntime) -> Result<(), Fail> {
+    let mut notices = Notices::new(rt.alloc());
+    receive(&mut notices, 1, CISCO, 5)?;
+    give(&mut notices, 1, CISCO, 80, 3)?;
+    give(&mut notices, 1, APPLE, 70, 3)?;
+    receive(&mut notices, 2, CISCO, 5)?;
+    receive(&mut notices, 1, APPLE, 5)?;
+    assert_eq!(rt; remaining(&notices, 1, 220)?, 80);
+    assert_eq!(rt; remaining(&notices, 2, 220)?, 65);
+    Ok(())
+}
+
+#[test]
+fn nothing_remains_of_a_notice_that_is_not_live(rt: HostRuntime) -> Result<(), Fail> {
+    let mut notices = Notices::new(rt.alloc());
+    give(&mut notices, 1, CISCO, 80, 3)?;
+    receive(&mut notices, 1, CISCO, 50)?;
+    withdraw(&mut notices, 1)?;
+    assert_eq!(rt; remaining(&notices, 1, 220)?, 0);
+    // Its receipts are not those of the next.
+    give(&mut notices, 1, CISCO, 20, 3)?;
+    receive(&mut notices, 1, CISCO, 5)?;
+    assert_eq!(rt; remaining(&notices, 2, 220)?, 15);
+    Ok(())
+}
+
+// The number of the first member's live notice in one issue.
+fn live(notices: &Notices<Global>) -> Result<Option<u32>, Fail> {
+    Ok(notices.live_of(member(1)?, Cusip::parse(CISCO)?))
+}
+
+#[test]
 fn the_live_notice_is_that_of_the_member_and_the_issue(rt: HostRuntime) -> Result<(), Fail> {
-    let cases: [(&[Step], Option<u32>); 8] = [
-        (&[], None),
-        (&[Give(1, CISCO, 9, 1)], Some(1)),
-        (&[Give(2, CISCO, 9, 1)], None),
-        (&[Give(1, APPLE, 9, 1)], None),
-        (
-            &[
-                Give(2, CISCO, 9, 1),
-                Give(1, APPLE, 9, 1),
-                Give(1, CISCO, 9, 1),
-            ],
-            Some(3),
-        ),
-        (&[Give(1, CISCO, 9, 1), Withdraw(1)], None),
-        (
-            &[Give(1, CISCO, 9, 1), Withdraw(1), Give(1, CISCO, 9, 2)],
-            Some(2),
-        ),
-        // Nothing remains of it, and still it is live.
-        (&[Give(1, CISCO, 9, 1), Receive(1, CISCO, 9)], Some(1)),
-    ];
-    for (steps, expected) in cases {
-        let notices = after(rt.alloc(), steps)?;
-        let live = notices.live_of(member(1)?, Cusip::parse(CISCO)?);
-        assert_eq!(rt; live, expected);
-    }
+    let mut notices = Notices::new(rt.alloc());
+    assert_eq!(rt; live(&notices)?, None);
+    give(&mut notices, 2, CISCO, 9, 1)?;
+    give(&mut notices, 1, APPLE, 9, 1)?;
+    assert_eq!(rt; live(&notices)?, None);
+    give(&mut notices, 1, CISCO, 9, 1)?;
+    assert_eq!(rt; live(&notices)?, Some(3));
+    // Nothing remains of it, and still it is live.
+    receive(&mut notices, 1, CISCO, 9)?;
+    assert_eq!(rt; live(&notices)?, Some(3));
+    withdraw(&mut notices, 3)?;
+    assert_eq!(rt; live(&notices)?, None);
+    give(&mut notices, 1, CISCO, 9, 2)?;
+    assert_eq!(rt; live(&notices)?, Some(4));
     Ok(())
 }
 
 #[test]
 fn a_notice_is_kept_as_it_was_given(rt: HostRuntime) -> Result<(), Fail> {
-    let steps = [Give(101, CISCO, 80, 3), Give(202, APPLE, 7, 4)];
-    let notices = after(rt.alloc(), &steps)?;
+    let mut notices = Notices::new(rt.alloc());
+    give(&mut notices, 101, CISCO, 80, 3)?;
+    give(&mut notices, 202, APPLE, 7, 4)?;
     if !is_there(&notices, 2) {
         return Err(Fail::new("no second notice"));
     }
