@@ -1,3 +1,5 @@
+pub mod Calling
+pub mod Sought
 pub mod Lists
 pub mod FillSteps
 pub mod Capacities

@@ -1,5 +1,5 @@
 // A batch, with what is left of each liability.
-ghost use Rattle.std.specs.Prelude.{◌≡◌, [], ◌^◌, ◌<◌, ◌≤◌, IfOk, MatchOption, map, OnOk, pos, sum_by};
+ghost use Rattle.std.specs.Prelude.{◌≡◌, [], ◌^◌, ◌<◌, ◌≤◌, IfOk, IfSome, length, MatchOption, map, OnOk, pos, sum_by};
 ghost use Rattle.cns_terms.specs.Batches.{chosen};
 ghost use Rattle.cns_terms.specs.Fills.{charged, fills_of, room_of};
 ghost use Rattle.cns_units.specs.declared.account.Member.{Member};
@@ -49,7 +49,8 @@ impl<A: Allocator + Drop + Clone> Batch<A> {
     ) -> Result<Option<Batch<A>>, NoMemory>
         requires distinct { (a : Member) → shorts_of a shorts.now ≤ 1 }
         requires fits { sum_by (λ s. s.shares) shorts.now < 2 ^ 63 }
-        ensures { IfOk result (λ b. MatchOption b (chosen shorts.now total ≡ []) (λ b. b ≡ record { cusip = cusip; members = chosen shorts.now total })) }
+        ensures batch { IfOk result (λ b. MatchOption b (chosen shorts.now total ≡ []) (λ b. b ≡ record { cusip = cusip; members = chosen shorts.now total })) }
+        ensures somebody { IfOk result (λ b. IfSome b (λ b. 0 < length b.members)) }
     {
         let liables = choice::choose(alloc, shorts, total)?;
         if liables.is_empty() {

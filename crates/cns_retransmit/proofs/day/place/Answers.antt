@@ -1,0 +1,26 @@
+use Rattle.std.proofs.Common.{rules, ◌≡◌, ℕ, List, [], Result, Ok, Err, IfOk, IfErr}
+use Rattle.std.specs.declared.cmp.Ordering.TheVariants.{Less, Equal, Greater}
+use Rattle.std.specs.List.{HoldsAt}
+use Rattle.std.specs.List.Sorted.{IsBinarySearchResult, IsPartitionPoint}
+use Rattle.std.proofs.lemmas.List.Sorted.{answers_always}
+use Rattle.cns_units.specs.declared.cusip.Cusip.{Cusip}
+use Rattle.cns_terms.specs.Batches.{Liables}
+use Rattle.cns_retransmit.specs.Days.{RiseByIssue}
+use Rattle.cns_retransmit.proofs.Sought.{comparisons_rise, issue_cmp}
+use Rattle.cns_retransmit.proofs.day.place.Goals as goal
+
+-- what the search found, where it found a batch
+found : (bs : List Liables) (c : Cusip) (r : Result ℕ ℕ) → IsBinarySearchResult (λ b. issue_cmp b.cusip c) bs r → IfOk r (HoldsAt (λ b. issue_cmp b.cusip c ≡ Equal) bs)
+found bs c (Ok i) h = h
+found bs c (Err i) h = tt
+
+-- where it found none
+absent : (bs : List Liables) (c : Cusip) (d : Liables) (r : Result ℕ ℕ) → RiseByIssue bs → IsBinarySearchResult (λ b. issue_cmp b.cusip c) bs r → IfErr r (IsPartitionPoint (λ b. issue_cmp b.cusip c ≡ Less) (λ b. issue_cmp b.cusip c ≡ Greater) bs)
+absent bs c d (Ok i) s h = tt
+absent bs c d (Err i) s h = h (comparisons_rise bs c d s)
+
+pub returns-clause-found : goal.returns-clause-found
+returns-clause-found g c = found c.args.batches.now c.args.issue _ (c.binary_search_by_key.ensures.position (λ (b : Liables). b.cusip) (answers_always _ _ _ (λ f a r g called. search rules)))
+
+pub returns-clause-absent : goal.returns-clause-absent
+returns-clause-absent g c = absent c.args.batches.now c.args.issue (record { cusip = c.args.issue; members = [] }) _ c.requires (c.binary_search_by_key.ensures.position (λ (b : Liables). b.cusip) (answers_always _ _ _ (λ f a r g called. search rules)))

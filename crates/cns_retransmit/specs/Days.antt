@@ -1,0 +1,64 @@
+-- The batches of the closed days.
+use Rattle.std.specs.Prelude.{◌≡◌, ℕ, zero, suc, true, List, [], ◌∷◌, map, Option, None, if◌then◌else◌}
+use Rattle.std.specs.List.{find, slice_get}
+use Rattle.std.specs.Option.{unwrap_or}
+use Rattle.std.specs.FinMap.{is_sorted}
+use Rattle.std.specs.Ordering.{nat_cmp}
+use Rattle.std.specs.Cmp.Lexicographic.{slice_cmp}
+use Rattle.cns_units.specs.declared.cusip.Cusip.{Cusip}
+use Rattle.cns_terms.specs.declared.buy_in.Fill.{Fill}
+use Rattle.cns_terms.specs.Batches.{Liables}
+use Rattle.cns_terms.specs.Fills.{charged}
+use Rattle.cns_terms.specs.Sums.{same_issue}
+
+-- ---- the batches of one day
+
+-- batches, each with its issue before it
+abbrev pub by_issue : List Liables → List (Cusip × Liables)
+by_issue bs = map (λ b. (b.cusip, b)) bs
+
+-- whether the issues of batches strictly rise
+abbrev pub RiseByIssue : List Liables → Type 0
+RiseByIssue bs = is_sorted (slice_cmp nat_cmp) (by_issue bs) ≡ true
+
+-- the batch of an issue
+abbrev pub batch_in : List Liables → Cusip → Option Liables
+batch_in bs c = find (λ b. same_issue b.cusip c) bs
+
+-- a batch after fills
+abbrev pub charged_by : List Fill → Liables → Liables
+charged_by fs b = record { cusip = b.cusip; members = map (charged fs) b.members }
+
+-- a batch after fills in an issue
+abbrev pub charged_if : Cusip → List Fill → Liables → Liables
+charged_if c fs b = if same_issue b.cusip c then charged_by fs b else b
+
+-- batches after fills in an issue
+abbrev pub charged_in : Cusip → List Fill → List Liables → List Liables
+charged_in c fs bs = map (charged_if c fs) bs
+
+-- ---- those of all closed days: day n stands at place n - 1
+
+-- the batches of a day, where it is closed
+abbrev pub day_at : List (List Liables) → ℕ → Option (List Liables)
+day_at V zero = None
+day_at V (suc n) = slice_get V n
+
+-- the batches of a day; none where it is not closed
+abbrev pub batches_on : List (List Liables) → ℕ → List Liables
+batches_on V n = unwrap_or (day_at V n) []
+
+-- the batch of a day in an issue
+abbrev pub batch_on : List (List Liables) → ℕ → Cusip → Option Liables
+batch_on V n c = batch_in (batches_on V n) c
+
+-- a list whose item at a place is changed by f
+abbrev pub changed_at : {X : Type 0} → (X → X) → ℕ → List X → List X
+changed_at f i [] = []
+changed_at f zero (x ∷ xs) = f x ∷ xs
+changed_at f (suc i) (x ∷ xs) = x ∷ changed_at f i xs
+
+-- the batches of all days after fills in an issue against those of a day
+abbrev pub charged_on : List (List Liables) → ℕ → Cusip → List Fill → List (List Liables)
+charged_on V zero c fs = V
+charged_on V (suc n) c fs = changed_at (charged_in c fs) n V
