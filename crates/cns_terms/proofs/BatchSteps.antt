@@ -1,9 +1,6 @@
 -- How batches stand after one more activity.
-use Rattle.std.proofs.Common.{◌≡◌, ◌∙◌, ap, refl, ℕ, zero, suc, ◌+◌, ◌-◌, ◌≤◌, pos, neg_ℤ, Bool, true, false, cond, ◌&&◌, ◌==◌, List, [], ◌∷◌, length, map, filter, is_none, Option, Some, None, sum_by, arith}
+use Rattle.std.proofs.Common.{◌≡◌, ◌∙◌, ap, refl, ℕ, zero, suc, ◌+◌, ◌-◌, ◌≤◌, pos, neg_ℤ, Bool, true, false, cond, ◌&&◌, ◌==◌, List, [], ◌∷◌, length, map, filter, is_none, sum_by, arith}
 use Rattle.std.specs.List.{AllByRecursion}
-use Rattle.std.specs.Option.{option_map_or}
-use Rattle.std.specs.Prelude.{nat_lt}
-use Rattle.std.proofs.lemmas.Bool.Decides.{nat_tests}
 use Rattle.std.proofs.lemmas.List.Sums.{sum_by-cons}
 use Rattle.cns_units.specs.declared.account.Member.{Member}
 use Rattle.cns_units.specs.declared.cusip.Cusip.{Cusip}
@@ -18,13 +15,12 @@ use Rattle.cns_terms.specs.Batches.{batch_at, called, fills_before, is_called, l
 use Rattle.cns_terms.specs.Days.{closes, closings, day, is_close}
 use Rattle.cns_terms.specs.Entries.{execution_entries, fill_entry, journal, originator_entry, posting}
 use Rattle.cns_terms.specs.Fills.{batch_since, brought, charged, executes, filled, fills, given_to, left_of}
-use Rattle.cns_terms.specs.Notices.{Notice, notice_at}
+use Rattle.cns_terms.specs.Notices.{Notice}
 use Rattle.cns_terms.specs.Positions.{shares_for}
 use Rattle.cns_terms.specs.Postings.{Journal, Posting}
 use Rattle.cns_terms.specs.Reached.{IsReached}
 use Rattle.cns_terms.specs.Refusals.{rules}
 use Rattle.cns_terms.specs.Sums.{in_order, long, same_issue}
-use Rattle.cns_terms.proofs.Facts.{and_false}
 use Rattle.cns_terms.proofs.NoticeSteps.{map_each}
 use Rattle.cns_terms.proofs.Sound.{NoneHolds}
 
