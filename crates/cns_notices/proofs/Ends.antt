@@ -15,7 +15,8 @@ use Rattle.cns_terms.specs.Notices.{is_live}
 use Rattle.cns_terms.specs.Sums.{same_issue}
 use Rattle.cns_notices.specs.declared.noticed.Noticed.{Noticed}
 use Rattle.cns_notices.specs.Latest.{Leads, Numbers, Place, ended_each, in_issue, number_at, place_cmp, place_of}
-use Rattle.cns_notices.specs.Noticed.{at_stage, brought_to, changed_at, ended, with_notice}
+use Rattle.cns_notices.specs.Noticed.{at_stage, brought_to, ended, with_notice}
+use Rattle.cns_terms.specs.Sums.{changed_at}
 use Rattle.cns_notices.proofs.Led.{Keeps, back, brought_stays, changed_keeps, forth, set_is}
 use Rattle.cns_notices.proofs.Listed.{some_and}
 use Rattle.cns_notices.proofs.Places.{exact_places}

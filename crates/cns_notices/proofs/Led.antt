@@ -17,7 +17,8 @@ use Rattle.cns_terms.specs.Notices.{is_live}
 use Rattle.cns_terms.specs.Sums.{same_issue}
 use Rattle.cns_notices.specs.declared.noticed.Noticed.{Noticed}
 use Rattle.cns_notices.specs.Latest.{Leads, Numbers, Place, number_at, place_of}
-use Rattle.cns_notices.specs.Noticed.{at_stage, brought_to, changed_at, ended, executes, expired, has_received, is_live_of, live_number, receives}
+use Rattle.cns_notices.specs.Noticed.{at_stage, brought_to, ended, executes, expired, has_received, is_live_of, live_number, receives}
+use Rattle.cns_terms.specs.Sums.{changed_at}
 use Rattle.cns_notices.proofs.Listed.{found_at, map_none, map_one, none_at, none_from, not_true, one_from, some_and, written}
 
 -- a member's live notice in an issue, by its parts

@@ -3,7 +3,7 @@ use Rattle.std.proofs.Common.{◌≡◌, ◌∙◌, sym, ap, refl, ℕ, zero, su
 use Rattle.std.specs.List.{position_from, slice_get}
 use Rattle.std.specs.Option.{IsSomeAnd}
 use Rattle.std.proofs.lemmas.List.{take_at}
-use Rattle.cns_notices.specs.Noticed.{changed_at}
+use Rattle.cns_terms.specs.Sums.{changed_at}
 
 -- what is not true is false
 pub not_true : (b : Bool) → (b ≡ true → ⊥) → b ≡ false

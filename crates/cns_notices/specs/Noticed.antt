@@ -1,5 +1,5 @@
 -- The notices in the order in which they were accepted: notice k stands at place k - 1.
-use Rattle.std.specs.Prelude.{ℕ, zero, suc, ◌+◌, ◌-◌, ℤ, Bool, ◌&&◌, ◌==◌, List, [], ◌∷◌, Option, if◌then◌else◌}
+use Rattle.std.specs.Prelude.{ℕ, ◌+◌, ◌-◌, ℤ, Bool, ◌&&◌, ◌==◌, List, Option, if◌then◌else◌}
 use Rattle.std.specs.List.{position_from, slice_get}
 use Rattle.cns_units.specs.declared.account.Member.{Member}
 use Rattle.cns_units.specs.declared.cusip.Cusip.{Cusip}
@@ -7,7 +7,7 @@ use Rattle.cns_terms.specs.declared.buy_in.Given.{Given}
 use Rattle.cns_terms.specs.declared.buy_in.Stage.{Stage}
 use Rattle.cns_terms.specs.declared.buy_in.Stage.TheVariants.{Live, Ended, Expired}
 use Rattle.cns_terms.specs.Notices.{is_live, what_remains}
-use Rattle.cns_terms.specs.Sums.{same_issue}
+use Rattle.cns_terms.specs.Sums.{changed_at, same_issue}
 use Rattle.cns_notices.specs.declared.noticed.Noticed.{Noticed}
 
 -- ---- one notice
@@ -49,12 +49,6 @@ notice_at xs k = slice_get xs (k - 1)
 -- the number of a member's live notice in an issue: of the first, and no more than one is ever live
 abbrev pub live_number : List Noticed → Member → Cusip → Option ℕ
 live_number xs a c = position_from (is_live_of a c) 1 xs
-
--- a list whose item at a place is changed by f
-abbrev pub changed_at : {X : Type 0} → (X → X) → ℕ → List X → List X
-changed_at f i [] = []
-changed_at f zero (x ∷ xs) = f x ∷ xs
-changed_at f (suc i) (x ∷ xs) = x ∷ changed_at f i xs
 
 -- the notices with the one of a number changed by f
 abbrev pub with_notice : (Noticed → Noticed) → ℕ → List Noticed → List Noticed

@@ -16,7 +16,8 @@ use Rattle.cns_units.specs.declared.cusip.Cusip.{Cusip}
 use Rattle.cns_terms.specs.declared.buy_in.Fill.{Fill}
 use Rattle.cns_terms.specs.Batches.{Liables}
 use Rattle.cns_terms.proofs.Facts.{and_left, and_right, both_true, less}
-use Rattle.cns_retransmit.specs.Days.{batch_in, by_issue, changed_at, charged_by, charged_if, charged_in, charged_on, RiseByIssue}
+use Rattle.cns_retransmit.specs.Days.{batch_in, by_issue, charged_by, charged_if, charged_in, charged_on, RiseByIssue}
+use Rattle.cns_terms.specs.Sums.{changed_at}
 
 -- the order of issues
 abbrev pub issue_cmp : Cusip → Cusip → Ordering

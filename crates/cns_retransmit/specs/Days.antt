@@ -9,7 +9,7 @@ use Rattle.cns_units.specs.declared.cusip.Cusip.{Cusip}
 use Rattle.cns_terms.specs.declared.buy_in.Fill.{Fill}
 use Rattle.cns_terms.specs.Batches.{Liables}
 use Rattle.cns_terms.specs.Fills.{charged}
-use Rattle.cns_terms.specs.Sums.{same_issue}
+use Rattle.cns_terms.specs.Sums.{changed_at, same_issue}
 
 -- ---- the batches of one day
 
@@ -51,12 +51,6 @@ batches_on V n = unwrap_or (day_at V n) []
 -- the batch of a day in an issue
 abbrev pub batch_on : List (List Liables) → ℕ → Cusip → Option Liables
 batch_on V n c = batch_in (batches_on V n) c
-
--- a list whose item at a place is changed by f
-abbrev pub changed_at : {X : Type 0} → (X → X) → ℕ → List X → List X
-changed_at f i [] = []
-changed_at f zero (x ∷ xs) = f x ∷ xs
-changed_at f (suc i) (x ∷ xs) = x ∷ changed_at f i xs
 
 -- the batches of all days after fills in an issue against those of a day
 abbrev pub charged_on : List (List Liables) → ℕ → Cusip → List Fill → List (List Liables)

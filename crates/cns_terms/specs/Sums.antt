@@ -1,5 +1,5 @@
--- Sums, and lists in order.
-use Rattle.std.specs.Prelude.{ℕ, suc, ℤ, pos, negsuc, ◌+ℤ◌, Bool, List, [], ◌∷◌, bytes_eq, if◌then◌else◌}
+-- Sums, lists in order, and lists changed at a place.
+use Rattle.std.specs.Prelude.{ℕ, zero, suc, ℤ, pos, negsuc, ◌+ℤ◌, Bool, List, [], ◌∷◌, bytes_eq, if◌then◌else◌}
 use Rattle.cns_units.specs.declared.cusip.Cusip.{Cusip}
 
 -- f of each, added up
@@ -30,3 +30,9 @@ put before x (y ∷ ys) = if before x y then x ∷ y ∷ ys else y ∷ put befor
 abbrev pub in_order : {X : Type 0} → (X → X → Bool) → List X → List X
 in_order before [] = []
 in_order before (x ∷ xs) = put before x (in_order before xs)
+
+-- a list whose item at a place is changed by f
+abbrev pub changed_at : {X : Type 0} → (X → X) → ℕ → List X → List X
+changed_at f i [] = []
+changed_at f zero (x ∷ xs) = f x ∷ xs
+changed_at f (suc i) (x ∷ xs) = x ∷ changed_at f i xs
