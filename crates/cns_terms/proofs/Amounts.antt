@@ -66,6 +66,9 @@ price-post opening J (activity.Receive m) c r h = h
 price-post opening J (activity.Dividend d) c r h = h
 price-post opening J (activity.Split s) c r h = h
 price-post opening J (activity.Exchange x) c r h = h
+price-post opening J (activity.Notice m) c r h = h
+price-post opening J (activity.Withdraw k) c r h = h
+price-post opening J (activity.Execute x) c r h = h
 price-post opening J (activity.Close d) c r h = h
 
 -- ---- a journal that commands reach, and the journals as its closes found them

@@ -1,6 +1,9 @@
 -- How batches stand after one more activity.
-use Rattle.std.proofs.Common.{◌≡◌, ◌∙◌, ap, refl, ℕ, zero, suc, ◌+◌, ◌-◌, ◌≤◌, pos, neg_ℤ, Bool, true, false, cond, ◌&&◌, ◌==◌, List, [], ◌∷◌, length, map, filter, is_none, sum_by, arith}
+use Rattle.std.proofs.Common.{◌≡◌, ◌∙◌, ap, refl, ℕ, zero, suc, ◌+◌, ◌-◌, ◌≤◌, pos, neg_ℤ, Bool, true, false, cond, ◌&&◌, ◌==◌, List, [], ◌∷◌, length, map, filter, is_none, Option, Some, None, sum_by, arith}
 use Rattle.std.specs.List.{AllByRecursion}
+use Rattle.std.specs.Option.{option_map_or}
+use Rattle.std.specs.Prelude.{nat_lt}
+use Rattle.std.proofs.lemmas.Bool.Decides.{nat_tests}
 use Rattle.std.proofs.lemmas.List.Sums.{sum_by-cons}
 use Rattle.cns_units.specs.declared.account.Member.{Member}
 use Rattle.cns_units.specs.declared.cusip.Cusip.{Cusip}
@@ -15,14 +18,14 @@ use Rattle.cns_terms.specs.Batches.{batch_at, called, fills_before, is_called, l
 use Rattle.cns_terms.specs.Days.{closes, closings, day, is_close}
 use Rattle.cns_terms.specs.Entries.{execution_entries, fill_entry, journal, originator_entry, posting}
 use Rattle.cns_terms.specs.Fills.{batch_since, brought, charged, executes, filled, fills, given_to, left_of}
-use Rattle.cns_terms.specs.Notices.{Notice}
+use Rattle.cns_terms.specs.Notices.{Notice, is_so, notice_at}
 use Rattle.cns_terms.specs.Positions.{shares_for}
 use Rattle.cns_terms.specs.Postings.{Journal, Posting}
 use Rattle.cns_terms.specs.Reached.{IsReached}
 use Rattle.cns_terms.specs.Refusals.{rules}
 use Rattle.cns_terms.specs.Sums.{in_order, long, same_issue}
 use Rattle.cns_terms.proofs.NoticeSteps.{map_each}
-use Rattle.cns_terms.proofs.Sound.{NoneHolds}
+use Rattle.cns_terms.proofs.Sound.{NoneHolds, all_fail}
 
 -- ---- what executions filled
 
@@ -44,6 +47,17 @@ batch_same p J K c h = map_each (left_of (p ∷ J) (day K) c) (left_of J (day K)
 
 -- ---- no notice of a day is executed before the second day after it
 
+-- a notice that may be executed is of a day before that
+not_early : (J : Journal) (n : ℕ) (c : Cusip) (o : Option Notice) → is_so (λ k. nat_lt (day J) (k.given.day + 2)) o ≡ false → day J ≤ n + 1 → option_map_or (λ k. (k.given.day == n) && same_issue k.given.issue c) o false ≡ false
+not_early J n c None h le = refl
+not_early J n c (Some k) h le = other k.given.day n (day J) (same_issue k.given.issue c) h le
+  where
+    other : (d n t : ℕ) (b : Bool) → nat_lt t (d + 2) ≡ false → t ≤ n + 1 → ((d == n) && b) ≡ false
+    other d n t b h le = ap (λ e. e && b) (apart d n t h le)
+      where
+        apart : (d n t : ℕ) → nat_lt t (d + 2) ≡ false → t ≤ n + 1 → (d == n) ≡ false
+        apart d n t h le = grind (arith, nat_tests)
+
 -- an activity that is not refused executes no notice of the open day, nor of the day before it
 none_executed : (opening : Day) (J : Journal) (n : ℕ) (c : Cusip) (x : Activity) → NoneHolds (rules opening J x) → day J ≤ n + 1 → executes J n c x ≡ false
 none_executed opening J n c (activity.Member m) h le = refl
@@ -55,6 +69,9 @@ none_executed opening J n c (activity.Receive m) h le = refl
 none_executed opening J n c (activity.Dividend d) h le = refl
 none_executed opening J n c (activity.Split s) h le = refl
 none_executed opening J n c (activity.Exchange x) h le = refl
+none_executed opening J n c (activity.Notice m) h le = refl
+none_executed opening J n c (activity.Withdraw k) h le = refl
+none_executed opening J n c (activity.Execute x) h le = not_early J n c (notice_at J x.notice) (all_fail (rules opening J (activity.Execute x)) h).1.1.1.0 le
 none_executed opening J n c (activity.Close d) h le = refl
 
 -- days go on

@@ -98,6 +98,9 @@ few-post (activity.Receive m) es K h = omega (arith, h)
 few-post (activity.Dividend d) es K h = omega (arith, h)
 few-post (activity.Split s) es K h = omega (arith, h)
 few-post (activity.Exchange x) es K h = omega (arith, h)
+few-post (activity.Notice m) es K h = omega (arith, h)
+few-post (activity.Withdraw k) es K h = omega (arith, h)
+few-post (activity.Execute x) es K h = omega (arith, h)
 few-post (activity.Close d) es K h = omega (arith, h)
 
 -- no more dividends than postings

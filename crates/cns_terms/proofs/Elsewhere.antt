@@ -23,7 +23,7 @@ use Rattle.cns_terms.proofs.Everywhere.{each_found}
 use Rattle.cns_terms.proofs.Facts.{neither}
 use Rattle.cns_terms.proofs.Paid.{no_dividend-account, no_dividend-issue}
 use Rattle.cns_terms.proofs.Sound.{AreOfListed, IsSound}
-use Rattle.cns_terms.proofs.ZeroSums.{AreOf, AreSound}
+use Rattle.cns_terms.proofs.ZeroSums.{AreKnown, AreOf}
 
 -- whether an entry is booked at a place
 abbrev is_at : Account → Cusip → Entry → Bool
@@ -115,17 +115,17 @@ issue_elsewhere a c J (e ∷ es) none h =
     (apart_issue (e.account == a) (same_issue e.issue c) (is_listed J e.issue) (is_listed J c) (λ s. ap (is_listed J) ((bytes_eq-Decides e.issue c).0 s)) h.0 none, issue_elsewhere a c J es none h.1)
 
 -- what holds of each posting holds of the journal
-elsewhere_all : (a : Account) (c : Cusip) (J K : Journal) → ((p : Posting) → AreOf (accounts J) p.entries → AreOfListed J p.entries → AllByRecursion (λ e. is_at a c e ≡ false) p.entries) → AreSound (accounts J) K → AllByRecursion (λ p. AreOfListed J p.entries) K → AreElsewhere a c K
+elsewhere_all : (a : Account) (c : Cusip) (J K : Journal) → ((p : Posting) → AreOf (accounts J) p.entries → AreOfListed J p.entries → AllByRecursion (λ e. is_at a c e ≡ false) p.entries) → AreKnown (accounts J) K → AllByRecursion (λ p. AreOfListed J p.entries) K → AreElsewhere a c K
 elsewhere_all a c J [] h s l = tt
-elsewhere_all a c J (p ∷ K) h s l = (h p s.0.known l.0, elsewhere_all a c J K h s.1 l.1)
+elsewhere_all a c J (p ∷ K) h s l = (h p s.0 l.0, elsewhere_all a c J K h s.1 l.1)
 
 -- nothing was booked for an account that is not there
 pub no_account_elsewhere : (J : Journal) (a : Account) (c : Cusip) → IsSound J → is_account J a ≡ false → AreElsewhere a c J
-no_account_elsewhere J a c s none = elsewhere_all a c J J (λ p known listed. account_elsewhere a c (accounts J) p.entries (occurs_missing a (accounts J) none) known) s.sound s.issued
+no_account_elsewhere J a c s none = elsewhere_all a c J J (λ p known listed. account_elsewhere a c (accounts J) p.entries (occurs_missing a (accounts J) none) known) s.known s.issued
 
 -- or in an issue that is not listed
 no_issue_elsewhere : (J : Journal) (a : Account) (c : Cusip) → IsSound J → is_listed J c ≡ false → AreElsewhere a c J
-no_issue_elsewhere J a c s none = elsewhere_all a c J J (λ p known listed. issue_elsewhere a c J p.entries none listed) s.sound s.issued
+no_issue_elsewhere J a c s none = elsewhere_all a c J J (λ p known listed. issue_elsewhere a c J p.entries none listed) s.known s.issued
 
 -- at such a place the row says nothing
 by_place : (opening : Day) (J : Journal) (k : Key) (x y : Bool) → IsSound J → is_account J k.account ≡ x → is_listed J k.issue ≡ y → (x && y) ≡ false → not (is_idle (row opening J k.account k.issue)) ≡ false

@@ -9,7 +9,10 @@ pub mod Everywhere
 pub mod EntrySums
 pub mod ZeroSums
 pub mod FillSums
+pub mod Magnitudes
+pub mod BuyIns
 pub mod Sound
+pub mod Balanced
 pub mod ClosedDays
 pub mod RefusalOrder
 pub mod SheetSums
@@ -18,7 +21,6 @@ pub mod SheetRows
 pub mod PriceLists
 pub mod SheetBounds
 pub mod LegalReplies
-pub mod Magnitudes
 pub mod Quotients
 pub mod Limits
 pub mod Reached
@@ -29,7 +31,6 @@ pub mod Amounts
 pub mod SheetLimits
 pub mod Examples
 pub mod ActionExamples
-pub mod BuyIns
 pub mod NoticeSteps
 pub mod BatchSteps
 pub mod SheetShorts

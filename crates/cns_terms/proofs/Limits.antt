@@ -1,6 +1,7 @@
 -- One accepted activity keeps positions and cents within their limits.
-use Rattle.std.proofs.Common.{◌≡◌, subst, refl, ℕ, suc, ◌+◌, ◌*◌, ◌≤◌, ℤ, pos, negsuc, ◌+ℤ◌, ◌-ℤ◌, ◌*ℤ◌, neg_ℤ, Bool, true, false, not, ◌&&◌, ◌==◌, cond, List, [], ◌∷◌, length, map, ◌⊎◌, inl, inr, arith}
+use Rattle.std.proofs.Common.{◌≡◌, subst, refl, ℕ, suc, ◌+◌, ◌*◌, ◌≤◌, ℤ, pos, negsuc, ◌+ℤ◌, ◌-ℤ◌, ◌*ℤ◌, neg_ℤ, Bool, true, false, not, ◌&&◌, ◌==◌, cond, List, [], ◌∷◌, length, map, Option, Some, None, ◌⊎◌, inl, inr, arith}
 use Rattle.std.specs.List.{AllByRecursion, list_any}
+use Rattle.std.specs.Option.{IfSome, option_map_or}
 use Rattle.std.specs.Ordering.{int_eq}
 use Rattle.std.specs.Prelude.{bytes_eq, int_le, nat_lt, unsigned_abs}
 use Rattle.std.proofs.Math.Nat.{mul-le-mul_left, mul-le-mul_right}
@@ -13,26 +14,30 @@ use Rattle.cns_units.specs.declared.cusip.Cusip.{Cusip}
 use Rattle.cns_units.specs.declared.day.Day.{Day}
 use Rattle.cns_units.specs.declared.price.Price.{Price}
 use Rattle.cns_units.specs.declared.ratio.Ratio.{Ratio}
+use Rattle.cns_terms.specs.declared.buy_in.Execution.{Execution}
 use Rattle.cns_terms.specs.declared.command.Activity.{Activity}
 use Rattle.cns_terms.specs.declared.command.Activity.TheVariants as activity
 use Rattle.cns_terms.specs.declared.command.Movement.{Movement}
 use Rattle.cns_terms.specs.declared.holding.Entry.{Entry}
-use Rattle.cns_terms.specs.Days.{is_close, open_day}
+use Rattle.cns_terms.specs.Days.{at_close, closings, day, is_close, open_day}
 use Rattle.cns_terms.specs.Conversions.{converted, fraction, in_exchange, in_lieu}
-use Rattle.cns_terms.specs.Entries.{against_corporation, corporation, entries, entry, holders, moved_in, moved_out, new_entry, old_entry, posting}
+use Rattle.cns_terms.specs.Entries.{against_corporation, corporation, entries, entry, execution_entries, holders, moved_in, moved_out, new_entry, old_entry, posting}
 use Rattle.cns_terms.specs.Limits.{booking_limit, member_limit, money_limit, position_limit, price_limit, ratio_limit}
 use Rattle.cns_terms.specs.Listings.{members}
+use Rattle.cns_terms.specs.Notices.{Notice, notice_at}
 use Rattle.cns_terms.specs.Reached.{IsInRange, IsRatio}
 use Rattle.cns_terms.specs.Positions.{cents_for, money, position, shares_for}
 use Rattle.cns_terms.specs.Postings.{Journal, Posting}
 use Rattle.cns_terms.specs.Refusals.{is_beyond, is_exceeded, is_too_large, rules}
 use Rattle.cns_terms.specs.Sums.{short, total}
+use Rattle.cns_terms.proofs.Accounts.{occurs}
+use Rattle.cns_terms.proofs.BuyIns.{IsExecutable, executable, executed_within, execution_cents}
 use Rattle.cns_terms.proofs.EntrySums.{entries_for}
-use Rattle.cns_terms.proofs.Everywhere.{each_weaker}
+use Rattle.cns_terms.proofs.Everywhere.{each_found, each_weaker}
 use Rattle.cns_terms.proofs.Facts.{and_left, and_right, neither}
 use Rattle.cns_terms.proofs.Magnitudes.{added, added-append, added-each, added-filter, added-map, added-more, magnitude, total_small}
 use Rattle.cns_terms.proofs.Quotients.{fraction_few, quotient_few}
-use Rattle.cns_terms.proofs.Sound.{NoneHolds, all_fail}
+use Rattle.cns_terms.proofs.Sound.{IsSound, IsWhole, NoneHolds, all_fail}
 use Rattle.cns_terms.proofs.Totals.{total-map}
 
 -- a position within a member's limits
@@ -131,20 +136,36 @@ within-receive opening J m h w a c n =
     (at_place (λ b d. is_exceeded (position J b d) m.shares ≡ false) a c e here fails.0)
     (at_place (λ b d. int_le (position J b d) (pos 0) ≡ false) a c e here fails.1.1.0) (w a c n)) (w a c n))
 
+-- no member was twice at a close
+once_at : (opening : Day) (J : Journal) (n : ℕ) (a : Account) → IsWhole opening J → occurs a (members (at_close J n)) ≤ 1
+once_at opening J n a w = each_found (λ K. occurs a (members K) ≤ 1) (λ K. day K == n) [] (closings J) (omega arith) (each_weaker IsSound (λ K. occurs a (members K) ≤ 1) (closings J) (λ K s. let once = s.distinct a in omega (arith, once)) w.past)
+
+-- the notice of an execution that is not refused
+ready : (opening : Day) (J : Journal) (x : Execution) → NoneHolds (rules opening J (activity.Execute x)) → IfSome (notice_at J x.notice) (IsExecutable J x)
+ready opening J x h = let fails = all_fail (rules opening J (activity.Execute x)) h in executable J x (notice_at J x.notice) fails.0 fails.1.1.0 fails.1.1.1.1.0
+
+-- an execution keeps each member's position within its limits
+within-execute : (opening : Day) (J : Journal) (x : Execution) → IsWhole opening J → AreWithin J → (o : Option Notice) → IfSome o (IsExecutable J x) → (a : Account) (c : Cusip) → 1 ≤ a → IsWithin (total (shares_for a c) (option_map_or (execution_entries J x) o []) +ℤ position J a c)
+within-execute opening J x whole w None h a c m = nothing (position J a c) (w a c m)
+within-execute opening J x whole w (Some k) h a c m = executed_within J x k a c position_limit h (once_at opening J k.given.day a whole) (w a c m)
+
 -- ---- one more activity
 
 -- an activity that is not refused keeps each member's position within its limits
-pub within-post : (opening : Day) (J : Journal) (x : Activity) → NoneHolds (rules opening J x) → AreWithin J → AreWithin (posting opening J x ∷ J)
-within-post opening J (activity.Trade t) h w = within-whole opening J (activity.Trade t) (all_fail (rules opening J (activity.Trade t)) h).1.1.1.1.1.1.0 w
-within-post opening J (activity.Deliver m) h w = within-deliver opening J m h w
-within-post opening J (activity.Receive m) h w = within-receive opening J m h w
-within-post opening J (activity.Member k) h w = λ a c m. nothing (position J a c) (w a c m)
-within-post opening J (activity.Issue l) h w = λ a c m. nothing (position J a c) (w a c m)
-within-post opening J (activity.Price l) h w = λ a c m. nothing (position J a c) (w a c m)
-within-post opening J (activity.Dividend d) h w = λ a c m. nothing (position J a c) (w a c m)
-within-post opening J (activity.Split s) h w = within-whole opening J (activity.Split s) (all_fail (rules opening J (activity.Split s)) h).1.1.0 w
-within-post opening J (activity.Exchange x) h w = within-whole opening J (activity.Exchange x) (all_fail (rules opening J (activity.Exchange x)) h).1.1.1.0 w
-within-post opening J (activity.Close d) h w = λ a c m. nothing (position J a c) (w a c m)
+pub within-post : (opening : Day) (J : Journal) (x : Activity) → NoneHolds (rules opening J x) → IsWhole opening J → AreWithin J → AreWithin (posting opening J x ∷ J)
+within-post opening J (activity.Trade t) h whole w = within-whole opening J (activity.Trade t) (all_fail (rules opening J (activity.Trade t)) h).1.1.1.1.1.1.0 w
+within-post opening J (activity.Deliver m) h whole w = within-deliver opening J m h w
+within-post opening J (activity.Receive m) h whole w = within-receive opening J m h w
+within-post opening J (activity.Member k) h whole w = λ a c m. nothing (position J a c) (w a c m)
+within-post opening J (activity.Issue l) h whole w = λ a c m. nothing (position J a c) (w a c m)
+within-post opening J (activity.Price l) h whole w = λ a c m. nothing (position J a c) (w a c m)
+within-post opening J (activity.Dividend d) h whole w = λ a c m. nothing (position J a c) (w a c m)
+within-post opening J (activity.Split s) h whole w = within-whole opening J (activity.Split s) (all_fail (rules opening J (activity.Split s)) h).1.1.0 w
+within-post opening J (activity.Exchange x) h whole w = within-whole opening J (activity.Exchange x) (all_fail (rules opening J (activity.Exchange x)) h).1.1.1.0 w
+within-post opening J (activity.Notice m) h whole w = λ a c m. nothing (position J a c) (w a c m)
+within-post opening J (activity.Withdraw k) h whole w = λ a c m. nothing (position J a c) (w a c m)
+within-post opening J (activity.Execute x) h whole w = within-execute opening J x whole w (notice_at J x.notice) (ready opening J x h)
+within-post opening J (activity.Close d) h whole w = λ a c m. nothing (position J a c) (w a c m)
 
 -- ---- cents
 
@@ -216,26 +237,34 @@ against_few J c d shares f m are small =
 both_few : (z m n : ℕ) → z ≡ m + n → m ≤ 2 * (0 * member_limit) → n ≤ 2 * (holder_limit * member_limit) → z ≤ booking_limit
 both_few z m n e p q = omega (arith, e, p, q)
 
--- an activity books few cents
-pub booked_few : (opening : Day) (J : Journal) (x : Activity) → IsInRange x → AreFewHolders J → cents_of (posting opening J x) ≤ booking_limit
-booked_few opening J (activity.Member m) r are = omega arith
-booked_few opening J (activity.Issue l) r are = omega arith
-booked_few opening J (activity.Trade t) r are = two_cents t.money (unsigned_abs (neg_ℤ (pos t.money))) r (no_sign t.money)
-booked_few opening J (activity.Price l) r are = omega arith
-booked_few opening J (activity.Deliver m) r are = omega arith
-booked_few opening J (activity.Receive m) r are = omega arith
-booked_few opening J (activity.Dividend d) r are = omega arith
-booked_few opening J (activity.Split s) r are =
+-- an execution's money is booked twice
+execution_few : (J : Journal) (x : Execution) (o : Option Notice) → 1 ≤ x.shares → x.money ≤ money_limit → IfSome o (IsExecutable J x) → magnitude (λ (e : Entry). e.cents) (option_map_or (execution_entries J x) o []) ≤ booking_limit
+execution_few J x None some few h = omega arith
+execution_few J x (Some k) some few h = omega (arith, few, execution_cents J x k some h)
+
+-- an activity that is not refused books few cents
+pub booked_few : (opening : Day) (J : Journal) (x : Activity) → IsInRange x → NoneHolds (rules opening J x) → AreFewHolders J → cents_of (posting opening J x) ≤ booking_limit
+booked_few opening J (activity.Member m) r h are = omega arith
+booked_few opening J (activity.Issue l) r h are = omega arith
+booked_few opening J (activity.Trade t) r h are = two_cents t.money (unsigned_abs (neg_ℤ (pos t.money))) r (no_sign t.money)
+booked_few opening J (activity.Price l) r h are = omega arith
+booked_few opening J (activity.Deliver m) r h are = omega arith
+booked_few opening J (activity.Receive m) r h are = omega arith
+booked_few opening J (activity.Dividend d) r h are = omega arith
+booked_few opening J (activity.Split s) r h are =
     let q : Account → ℤ = λ a. position J a s.issue in
     omega (arith, against_few J s.issue s.issue (λ a. converted s.ratio (q a) -ℤ q a) (in_lieu s.ratio s.lieu) holder_limit are (λ z w. omega (arith, lieu_few s.ratio s.lieu z r.0 r.1)))
-booked_few opening J (activity.Exchange x) r are =
+booked_few opening J (activity.Exchange x) r h are =
     let q : Account → ℤ = λ a. position J a x.old in
     let hs : List Account = holders q (members J) in
     both_few _ _ _
     (added-append (λ (e : Entry). unsigned_abs e.cents) (against_corporation x.old (map (old_entry x q) hs)) (against_corporation x.successor (map (new_entry x q) hs)))
     (against_few J x.old x.old (λ a. neg_ℤ (q a)) (λ z. pos 0) 0 are (λ z w. omega arith))
     (against_few J x.successor x.old (λ a. converted x.ratio (q a)) (in_exchange x.ratio x.lieu x.cash) holder_limit are (λ z w. exchange_few x.ratio x.lieu x.cash z r.0 r.1 r.2 w))
-booked_few opening J (activity.Close d) r are = omega arith
+booked_few opening J (activity.Notice m) r h are = omega arith
+booked_few opening J (activity.Withdraw k) r h are = omega arith
+booked_few opening J (activity.Execute x) r h are = execution_few J x (notice_at J x.notice) r.0 r.2 (ready opening J x h)
+booked_few opening J (activity.Close d) r h are = omega arith
 
 -- the cents at one place are among them
 at_one_place : (a : Account) (c : Cusip) (es : List Entry) → unsigned_abs (total (cents_for a c) es) ≤ magnitude (λ e. e.cents) es

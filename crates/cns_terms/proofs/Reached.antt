@@ -16,22 +16,23 @@ use Rattle.cns_terms.specs.declared.refusal.Refusal.{Refusal}
 use Rattle.cns_terms.specs.Days.{closings, is_close}
 use Rattle.cns_terms.specs.Dividends.{dividends}
 use Rattle.cns_terms.specs.Entries.{journal, posting}
-use Rattle.cns_terms.specs.Laws.{Bounds, IsBounded}
+use Rattle.cns_terms.specs.Laws.{Bounds, IsBounded, journal_after}
 use Rattle.cns_terms.specs.Limits.{booking_limit, corporation_limit, member_limit, position_limit, rate_limit}
 use Rattle.cns_terms.specs.Listings.{account_lt, accounts, added, members}
 use Rattle.cns_terms.specs.Machine.{State, after, next, opened}
 use Rattle.cns_terms.specs.Positions.{position}
 use Rattle.cns_terms.specs.Postings.{Journal, activities}
 use Rattle.cns_terms.specs.Reached.{IsCommandInRange, IsInRange, IsReached}
-use Rattle.cns_terms.specs.Refusals.{refusal}
+use Rattle.cns_terms.specs.Refusals.{refusal, rules}
 use Rattle.cns_terms.specs.Sums.{total}
+use Rattle.cns_terms.proofs.Balanced.{entries_balanced}
 use Rattle.cns_terms.proofs.Facts.{and_left, and_right}
 use Rattle.cns_terms.proofs.Everywhere.{each_in_order, each_weaker}
 use Rattle.cns_terms.proofs.Limits.{AreFewHolders, AreWithin, HasFewCents, IsWithin, booked_few, cents-post, cents_of, within-post}
 use Rattle.cns_terms.proofs.Magnitudes.{added as added_up}
 use Rattle.cns_terms.proofs.Rising.{above_all, is_rising}
-use Rattle.cns_terms.proofs.Sound.{IsWhole, opening_stays, whole-post, whole_nil}
-use Rattle.cns_terms.proofs.ZeroSums.{positions_zero}
+use Rattle.cns_terms.proofs.Sound.{IsWhole, NoneHolds, opening_stays, whole-post, whole_nil}
+use Rattle.cns_terms.proofs.ZeroSums.{AreBalanced, AreSound, positions_zero, sound_of}
 
 -- the members' numbers are within their limit
 abbrev pub AreNumbered : Journal → Type 0
@@ -48,6 +49,9 @@ numbered-post opening J (activity.Receive m) n h = h
 numbered-post opening J (activity.Dividend d) n h = h
 numbered-post opening J (activity.Split s) n h = h
 numbered-post opening J (activity.Exchange x) n h = h
+numbered-post opening J (activity.Notice m) n h = h
+numbered-post opening J (activity.Withdraw k) n h = h
+numbered-post opening J (activity.Execute x) n h = h
 numbered-post opening J (activity.Close d) n h = h
 
 -- the rates of the dividends are within their limit
@@ -65,11 +69,15 @@ rates-post opening J (activity.Receive m) n h = h
 rates-post opening J (activity.Dividend d) n h = (n, h)
 rates-post opening J (activity.Split s) n h = h
 rates-post opening J (activity.Exchange x) n h = h
+rates-post opening J (activity.Notice m) n h = h
+rates-post opening J (activity.Withdraw k) n h = h
+rates-post opening J (activity.Execute x) n h = h
 rates-post opening J (activity.Close d) n h = h
 
--- a journal that commands reach is sound, and members' numbers, their positions, cents and rates are within their limits
+-- a journal that commands reach is sound and balanced, and members' numbers, their positions, cents and rates are within their limits
 pub record IsLimited (opening : Day) (J : Journal) : Type 0 where
   pub whole : IsWhole opening J
+  pub balanced : AreBalanced J
   pub numbered : AreNumbered J
   pub within : AreWithin J
   pub cents : HasFewCents J
@@ -120,22 +128,31 @@ few_holders : (opening : Day) (J : Journal) → IsLimited opening J → AreFewHo
 few_holders opening J l = record { within = l.within; numbers = members_from_one opening J l; few = members_few opening J l }
 
 -- an activity in its ranges books few cents
-books_few : (opening : Day) (J : Journal) (x : Activity) → IsInRange x → IsLimited opening J → cents_of (posting opening J x) ≤ booking_limit
-books_few opening J x r l = booked_few opening J x r (few_holders opening J l)
+books_few : (opening : Day) (J : Journal) (x : Activity) → IsInRange x → NoneHolds (rules opening J x) → IsLimited opening J → cents_of (posting opening J x) ≤ booking_limit
+books_few opening J x r h l = booked_few opening J x r h (few_holders opening J l)
 
--- a journal that commands reach has its limits
+-- each of its postings adds up to zero, and books for its accounts alone
+pub sound_journal : (opening : Day) (J : Journal) → IsLimited opening J → AreSound (accounts J) J
+sound_journal opening J l = sound_of (accounts J) J l.whole.now.known l.balanced
+
+-- a journal of nothing has its limits
+pub limited_nil : {opening : Day} → IsLimited opening []
+limited_nil = record { whole = whole_nil; balanced = tt; numbered = tt; within = λ a c m. omega (arith, ints); cents = λ a c. omega (arith, ints); rates = tt; booked = omega arith }
+
+-- and so has one that commands reach
 pub limited : (opening : Day) (L : List Activity) → IsReached opening L → IsLimited opening (journal opening L)
-limited opening [] r = record { whole = whole_nil; numbered = tt; within = λ a c m. omega (arith, ints); cents = λ a c. omega (arith, ints); rates = tt; booked = omega arith }
+limited opening [] r = limited_nil
 limited opening (x ∷ L) r =
     let J = journal opening L in
     let before = limited opening L r.2 in
     let fails = ap is_none r.1 in
-    let few = books_few opening J x r.0 before in
+    let few = books_few opening J x r.0 fails before in
     let past = before.booked in
     record {
       whole = whole-post opening J x before.whole fails;
+      balanced = (entries_balanced opening J x r.0 fails, before.balanced);
       numbered = numbered-post opening J x r.0 before.numbered;
-      within = within-post opening J x fails before.within;
+      within = within-post opening J x fails before.whole before.within;
       cents = cents-post opening J x few before.cents;
       rates = rates-post opening J x r.0 before.rates;
       booked = omega (arith, few, past);
@@ -157,7 +174,7 @@ bounded opening J c l =
     let each = each_weaker (λ a. 1 ≤ a) (λ a. IsWithin (position J a c)) (members J) (λ a m. l.within a c m) (members_from_one opening J l) in
     record {
       members = λ a m. l.within a c m;
-      corporation = made_up (position J 0 c) (total (λ a. position J a c) (members J)) (length (members J)) (positions_zero (accounts J) c J l.whole.now.sound) (total_within (λ a. position J a c) (members J) each) (members_few opening J l);
+      corporation = made_up (position J 0 c) (total (λ a. position J a c) (members J)) (length (members J)) (positions_zero (accounts J) c J (sound_journal opening J l)) (total_within (λ a. position J a c) (members J) each) (members_few opening J l);
     }
 
 -- ---- any commands
@@ -180,9 +197,18 @@ pub reached-from : (S : State) (cmds : List Command) → AllByRecursion IsComman
 reached-from S [] n r = r
 reached-from S (cmd ∷ cmds) n r = reached-from (next S cmd) cmds n.1 (reached-next S cmd n.0 r)
 
+-- so is the journal after any commands in their ranges
+pub limited-after : (opening : Day) (cmds : List Command) → AllByRecursion IsCommandInRange cmds → IsLimited opening (journal_after opening cmds)
+limited-after opening cmds n =
+    let S = after (opened opening) cmds in
+    subst (λ o. IsLimited opening (journal o S.accepted)) (sym (opening_stays (opened opening) cmds)) (limited opening S.accepted (reached-from (opened opening) cmds n tt))
+
+-- and so was it at each close
+pub limited_past-after : (opening : Day) (cmds : List Command) → AllByRecursion IsCommandInRange cmds → AllByRecursion (IsLimited opening) (closings (journal_after opening cmds))
+limited_past-after opening cmds n =
+    let S = after (opened opening) cmds in
+    subst (λ o. AllByRecursion (IsLimited opening) (closings (journal o S.accepted))) (sym (opening_stays (opened opening) cmds)) (limited_past opening S.accepted (reached-from (opened opening) cmds n tt))
+
 -- after any commands in their ranges, positions stay within their limits
 pub bounds : Bounds
-bounds opening cmds c n =
-    let S = after (opened opening) cmds in
-    let l : IsLimited opening (journal opening S.accepted) = limited opening S.accepted (reached-from (opened opening) cmds n tt) in
-    subst (λ o. IsBounded (journal o S.accepted) c) (sym (opening_stays (opened opening) cmds)) (bounded opening (journal opening S.accepted) c l)
+bounds opening cmds c n = bounded opening (journal_after opening cmds) c (limited-after opening cmds n)

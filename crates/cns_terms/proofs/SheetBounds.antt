@@ -16,6 +16,7 @@ use Rattle.cns_terms.specs.Sheets.{is_idle, row, rows_of, sheet_rows}
 use Rattle.cns_terms.specs.Sums.{put, same_issue, total}
 use Rattle.cns_terms.proofs.Facts.{eqb_sym}
 use Rattle.cns_terms.proofs.Accounts.{occurs}
+use Rattle.cns_terms.proofs.Reached.{IsLimited, sound_journal}
 use Rattle.cns_terms.proofs.SheetSums.{idle_parts, kept_or_not, total-flat_map}
 use Rattle.cns_terms.proofs.Sound.{IsSound}
 use Rattle.cns_terms.proofs.Totals.{total-same, total-swap, total-zero}
@@ -52,12 +53,12 @@ module _ (opening : Day) (K : Journal) (f : Row → ℤ) (idle : (r : Row) → n
       ∙ total-zero (issues K)
 
 -- the closings of a sheet's rows add up to zero in each issue
-pub closings_zero : (opening : Day) (K : Journal) (c : Cusip) → IsSound K → total (λ r. cond (same_issue r.issue c) r.closing (pos 0)) (sheet_rows opening K) ≡ pos 0
-closings_zero opening K c s = zero_in_issue opening K (λ r. r.closing) (λ r h. (idle_parts r h).1) c (λ d. positions_zero (accounts K) d K s.sound)
+pub closings_zero : (opening : Day) (K : Journal) (c : Cusip) → IsLimited opening K → total (λ r. cond (same_issue r.issue c) r.closing (pos 0)) (sheet_rows opening K) ≡ pos 0
+closings_zero opening K c l = zero_in_issue opening K (λ r. r.closing) (λ r h. (idle_parts r h).1) c (λ d. positions_zero (accounts K) d K (sound_journal opening K l))
 
 -- and so do the cents booked
-pub moneys_zero : (opening : Day) (K : Journal) (c : Cusip) → IsSound K → total (λ r. cond (same_issue r.issue c) r.money (pos 0)) (sheet_rows opening K) ≡ pos 0
-moneys_zero opening K c s = zero_in_issue opening K (λ r. r.money) (λ r h. (idle_parts r h).2) c (λ d. cents_zero (accounts K) d (open_day K) (sound_open_day (accounts K) K s.sound))
+pub moneys_zero : (opening : Day) (K : Journal) (c : Cusip) → IsLimited opening K → total (λ r. cond (same_issue r.issue c) r.money (pos 0)) (sheet_rows opening K) ≡ pos 0
+moneys_zero opening K c l = zero_in_issue opening K (λ r. r.money) (λ r h. (idle_parts r h).2) c (λ d. cents_zero (accounts K) d (open_day K) (sound_open_day (accounts K) K (sound_journal opening K l)))
 
 -- ---- how many rows an account has
 
@@ -130,6 +131,9 @@ issues-post (activity.Receive m) es K h = omega (arith, h)
 issues-post (activity.Dividend d) es K h = omega (arith, h)
 issues-post (activity.Split s) es K h = omega (arith, h)
 issues-post (activity.Exchange x) es K h = omega (arith, h)
+issues-post (activity.Notice m) es K h = omega (arith, h)
+issues-post (activity.Withdraw k) es K h = omega (arith, h)
+issues-post (activity.Execute x) es K h = omega (arith, h)
 issues-post (activity.Close d) es K h = omega (arith, h)
 
 -- no more issues than postings

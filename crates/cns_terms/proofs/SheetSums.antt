@@ -21,7 +21,7 @@ use Rattle.cns_terms.proofs.Paid.{dividends_zero}
 use Rattle.cns_terms.proofs.Totals.{total-append, total-same, total-zero, total-swap}
 use Rattle.cns_terms.proofs.Everywhere.{each_found}
 use Rattle.cns_terms.proofs.ZeroSums.{AreSound, cents_zero, marks_zero, positions_zero, sound_open_day}
-use Rattle.cns_terms.proofs.Sound.{IsSound, IsWhole, sound_nil, whole-after}
+use Rattle.cns_terms.proofs.Reached.{IsLimited, limited-after, limited_nil, limited_past-after, sound_journal}
 
 pub total-flat_map : {X Y : Type 0} (f : Y → ℤ) (g : X → List Y) (xs : List X) → total f (flat_map g xs) ≡ total (λ x. total f (g x)) xs
 total-flat_map f g [] = refl
@@ -76,43 +76,43 @@ sound_before bs (p ∷ K) h = before_or_earlier bs (is_close p.activity) K h.1 (
 
 -- ---- the sheet
 
-pub sheet_zero : (opening : Day) (K : Journal) → IsSound K → AddsUpToZero (day_sheet opening K)
-sheet_zero opening K s = record {
+pub sheet_zero : (opening : Day) (K : Journal) → IsLimited opening K → AddsUpToZero (day_sheet opening K)
+sheet_zero opening K l = let sound = sound_journal opening K l in record {
   marks =
       total-flat_map (λ (r : Row). r.mark) (rows_of opening K) (accounts K)
       ∙ total-same _ _ (accounts K) (λ a. marks_of_rows opening K a (issues K))
       ∙ total-swap (λ a c. mark K a c) (accounts K) (issues K)
-      ∙ total-same _ _ (issues K) (λ c. marks_zero (accounts K) c K s.sound (sound_before (accounts K) K s.sound))
+      ∙ total-same _ _ (issues K) (λ c. marks_zero (accounts K) c K sound (sound_before (accounts K) K sound))
       ∙ total-zero (issues K);
   dividends =
       total-flat_map (λ (r : Row). r.dividend) (rows_of opening K) (accounts K)
       ∙ total-same _ _ (accounts K) (λ a. dividends_of_rows opening K a (issues K))
       ∙ total-swap (λ a c. dividend opening K a c) (accounts K) (issues K)
-      ∙ total-same _ _ (issues K) (λ c. dividends_zero opening K c s.accounts_rise)
+      ∙ total-same _ _ (issues K) (λ c. dividends_zero opening K c l.whole.now.accounts_rise)
       ∙ total-zero (issues K);
 }
 
 -- the sheet of a day that is looked up
-of_found : (opening : Day) (o : Option Journal) (s : DaySheet) → IsSound (unwrap_or o []) → option_map (day_sheet opening) o ≡ Some s → AddsUpToZero s
-of_found opening None s sound e = cc
-of_found opening (Some K) s sound e = let is : day_sheet opening K ≡ s = cc in subst AddsUpToZero is (sheet_zero opening K sound)
+of_found : (opening : Day) (o : Option Journal) (s : DaySheet) → IsLimited opening (unwrap_or o []) → option_map (day_sheet opening) o ≡ Some s → AddsUpToZero s
+of_found opening None s l e = cc
+of_found opening (Some K) s l e = let is : day_sheet opening K ≡ s = cc in subst AddsUpToZero is (sheet_zero opening K l)
 
 -- after any commands the sheet of each closed day adds up to zero
 pub zero_sums : ZeroSums
-zero_sums opening cmds =
+zero_sums opening cmds n =
     let J : Journal = journal_after opening cmds in
-    let w : IsWhole opening J = whole-after opening cmds in
+    let past = limited_past-after opening cmds n in
     record {
-      by_place = λ i. sheet_zero opening (at_close J i) (each_found IsSound (λ K. day K == i) [] (closings J) sound_nil w.past);
-      by_date = λ d s. of_found opening (closed_on opening J d) s (each_found IsSound (λ K. is_same_day (date opening K) d) [] (closings J) sound_nil w.past);
+      by_place = λ i. sheet_zero opening (at_close J i) (each_found (IsLimited opening) (λ K. day K == i) [] (closings J) limited_nil past);
+      by_date = λ d s. of_found opening (closed_on opening J d) s (each_found (IsLimited opening) (λ K. is_same_day (date opening K) d) [] (closings J) limited_nil past);
     }
 
 -- and the positions of all accounts in each issue do, with the open day's cents
 pub positions_balanced : Positions
-positions_balanced opening cmds c =
+positions_balanced opening cmds c n =
     let J : Journal = journal_after opening cmds in
-    let w : IsWhole opening J = whole-after opening cmds in
+    let sound = sound_journal opening J (limited-after opening cmds n) in
     record {
-      shares = positions_zero (accounts J) c J w.now.sound;
-      cents = cents_zero (accounts J) c (open_day J) (sound_open_day (accounts J) J w.now.sound);
+      shares = positions_zero (accounts J) c J sound;
+      cents = cents_zero (accounts J) c (open_day J) (sound_open_day (accounts J) J sound);
     }

@@ -1,6 +1,7 @@
 -- What accepted commands keep true of the journal.
-use Rattle.std.proofs.Common.{◌≡◌, ℕ, ◌+◌, ◌≤◌, ℤ, pos, ◌-ℤ◌, neg_ℤ, Bool, true, false, not, cond, ◌&&◌, ◌==◌, List, [], ◌∷◌, find, map, is_none, slice_get, unwrap_or, refl, sym, ◌∙◌, ap, arith}
+use Rattle.std.proofs.Common.{◌≡◌, ℕ, ◌+◌, ◌≤◌, ℤ, pos, ◌-ℤ◌, neg_ℤ, Bool, true, false, not, cond, ◌&&◌, ◌==◌, List, [], ◌∷◌, find, length, map, is_none, Option, Some, None, slice_get, unwrap_or, refl, sym, ◌∙◌, ap, arith}
 use Rattle.std.specs.List.{AllByRecursion, list_any}
+use Rattle.std.specs.Option.{IfSome, option_map_or}
 use Rattle.std.specs.Prelude.{bytes_eq, filter_map, int_lt}
 use Rattle.std.specs.Cmp.Lexicographic.{slice_cmp}
 use Rattle.std.specs.Ordering.{is_lt, nat_cmp}
@@ -12,26 +13,30 @@ use Rattle.cns_units.specs.Day.{day_number}
 use Rattle.cns_units.specs.declared.account.Account.{Account}
 use Rattle.cns_units.specs.declared.cusip.Cusip.{Cusip}
 use Rattle.cns_units.specs.declared.day.Day.{Day}
+use Rattle.cns_terms.specs.declared.buy_in.Execution.{Execution}
 use Rattle.cns_terms.specs.declared.command.Activity.{Activity}
 use Rattle.cns_terms.specs.declared.command.Activity.TheVariants as activity
 use Rattle.cns_terms.specs.declared.command.Command.{Command}
 use Rattle.cns_terms.specs.declared.command.Command.TheVariants as command
 use Rattle.cns_terms.specs.declared.holding.Entry.{Entry}
-use Rattle.cns_terms.specs.Days.{closings, date, last_close}
+use Rattle.cns_terms.specs.Days.{at_close, closings, date, day, is_close, last_close}
 use Rattle.cns_terms.specs.Conversions.{converted, in_exchange, in_lieu}
-use Rattle.cns_terms.specs.Entries.{against_corporation, corporation, entries, entry, holders, journal, new_entry, old_entry, posting}
+use Rattle.cns_terms.specs.Entries.{against_corporation, corporation, entries, entry, execution_entries, fill_entry, holders, journal, new_entry, old_entry, posting}
+use Rattle.cns_terms.specs.Fills.{fills}
 use Rattle.cns_terms.specs.Laws.{journal_after, journal_of}
 use Rattle.cns_terms.specs.Listings.{accounts, is_listed, issue_lt, is_member, issues, members, price, priced}
 use Rattle.cns_terms.specs.Machine.{State, next, after, opened}
+use Rattle.cns_terms.specs.Notices.{Notice, notice, notice_at, notices}
 use Rattle.cns_terms.specs.Positions.{position}
 use Rattle.cns_terms.specs.Postings.{Posting, Journal, activities}
 use Rattle.cns_terms.specs.Refusals.{Rule, first_refusal, refusal, rules}
 use Rattle.cns_terms.proofs.Facts.{and_left, and_right, both_true, holds, later, less_less, nat_eq_test, neither, or_right, price_branch, same_test}
 use Rattle.cns_terms.proofs.Accounts.{occurs, occurs-put, occurs_found, occurs_missing}
-use Rattle.cns_terms.proofs.EntrySums.{entries_balanced, entries_for}
-use Rattle.cns_terms.proofs.Everywhere.{any_put, each_append, each_filter, each_map, each_stands, each_weaker}
+use Rattle.cns_terms.proofs.BuyIns.{each_named, fills_each}
+use Rattle.cns_terms.proofs.EntrySums.{entries_for}
+use Rattle.cns_terms.proofs.Everywhere.{any_put, each_append, each_filter, each_found, each_map, each_stands, each_weaker}
 use Rattle.cns_terms.proofs.Rising.{above_put, is_rising, rising_put}
-use Rattle.cns_terms.proofs.ZeroSums.{AreOf, IsSoundPosting, AreSound}
+use Rattle.cns_terms.proofs.ZeroSums.{AreKnown, AreOf}
 
 -- a number is one of the accounts
 abbrev pub IsIn : Journal → ℕ → Type 0
@@ -41,14 +46,19 @@ IsIn J a = 1 ≤ occurs a (accounts J)
 abbrev pub AreOfListed : Journal → List Entry → Type 0
 AreOfListed J es = AllByRecursion (λ e. is_listed J e.issue ≡ true) es
 
--- accounts and issues are distinct and in order, and each posting adds up to zero and books for them alone
+-- a notice is one of the accounts', in a listed issue
+abbrev pub IsNoticed : Journal → Notice → Type 0
+IsNoticed J n = IsIn J n.given.member × (is_listed J n.given.issue ≡ true)
+
+-- accounts and issues are distinct and in order, and postings and notices are of them alone
 pub record IsSound (J : Journal) : Type 0 where
   pub distinct : (a : ℕ) → occurs a (accounts J) ≤ 1
-  pub sound : AreSound (accounts J) J
+  pub known : AreKnown (accounts J) J
   pub accounts_rise : is_rising nat_cmp (accounts J) ≡ true
   pub issues_rise : is_rising (slice_cmp nat_cmp) (issues J) ≡ true
   pub issued : AllByRecursion (λ p. AreOfListed J p.entries) J
   pub unpriced : (c : Cusip) → is_listed J c ≡ false → price J c ≡ 0
+  pub noticed : AllByRecursion (IsNoticed J) (notices J)
 
 -- the day that is open is later than each closed day
 abbrev pub AreEarlier : Day → Journal → Type 0
@@ -67,7 +77,7 @@ one_account true = omega arith
 one_account false = omega arith
 
 pub sound_nil : IsSound []
-sound_nil = record { distinct = λ a. one_account (a == 0); sound = tt; accounts_rise = refl; issues_rise = refl; issued = tt; unpriced = λ c h. refl }
+sound_nil = record { distinct = λ a. one_account (a == 0); known = tt; accounts_rise = refl; issues_rise = refl; issued = tt; unpriced = λ c h. refl; noticed = tt }
 
 -- ---- what a command that is not refused has met
 
@@ -94,56 +104,9 @@ member_in J a h = let e = occurs_found a (members J) h in omega arith
 zero_in : (J : Journal) → IsIn J corporation
 zero_in J = omega arith
 
--- ---- the accounts that activities book for
+-- ---- accounts stay
 
-abbrev AreIn : Journal → List Entry → Type 0
-AreIn J es = AllByRecursion (λ e. IsIn J e.account) es
-
--- so do the corporation and members with an entry each
-against_in : (J : Journal) (c : Cusip) (shares cents q : Account → ℤ) → AreIn J (against_corporation c (entries_for c shares cents (holders q (members J))))
-against_in J c shares cents q =
-    let each : AllByRecursion (IsIn J) (members J) = each_weaker (λ a. 1 ≤ occurs a (members J)) (IsIn J) (members J) (λ a p. omega arith) (each_stands (members J)) in
-    (zero_in J, each_map (λ e. IsIn J e.account) (λ a. entry a c (shares a) (cents a)) (holders q (members J)) (each_filter (IsIn J) _ (members J) each))
-
-entries_in : (opening : Day) (J : Journal) (x : Activity) → NoneHolds (rules opening J x) → AreIn J (entries opening J x)
-entries_in opening J (activity.Member m) h = tt
-entries_in opening J (activity.Issue l) h = tt
-entries_in opening J (activity.Trade t) h =
-    let fails = all_fail (rules opening J (activity.Trade t)) h in
-    let both = both_hold (is_member J t.buyer) (is_member J t.seller) fails.0 in
-    (member_in J t.buyer both.0, (member_in J t.seller both.1, tt))
-entries_in opening J (activity.Price l) h = tt
-entries_in opening J (activity.Deliver m) h =
-    let fails = all_fail (rules opening J (activity.Deliver m)) h in
-    (member_in J m.member (holds (is_member J m.member) fails.0), (zero_in J, tt))
-entries_in opening J (activity.Receive m) h =
-    let fails = all_fail (rules opening J (activity.Receive m)) h in
-    (member_in J m.member (holds (is_member J m.member) fails.0), (zero_in J, tt))
-entries_in opening J (activity.Dividend d) h = tt
-entries_in opening J (activity.Split s) h =
-    let q : Account → ℤ = λ a. position J a s.issue in
-    against_in J s.issue (λ a. converted s.ratio (q a) -ℤ q a) (λ a. in_lieu s.ratio s.lieu (q a)) q
-entries_in opening J (activity.Exchange x) h =
-    let q : Account → ℤ = λ a. position J a x.old in
-    let hs : List Account = holders q (members J) in
-    each_append (λ (e : Entry). IsIn J e.account) (against_corporation x.old (map (old_entry x q) hs)) (against_corporation x.successor (map (new_entry x q) hs))
-    (against_in J x.old (λ a. neg_ℤ (q a)) (λ a. pos 0) q)
-    (against_in J x.successor (λ a. converted x.ratio (q a)) (λ a. in_exchange x.ratio x.lieu x.cash (q a)) q)
-entries_in opening J (activity.Close d) h = tt
-
--- ---- one more activity
-
-weaker_in : (J J' : Journal) (es : List Entry) → ((a : ℕ) → occurs a (accounts J) ≤ occurs a (accounts J')) → AreIn J es → AreIn J' es
-weaker_in J J' es grown h = each_weaker (λ (e : Entry). IsIn J e.account) (λ e. IsIn J' e.account) es (λ e p. let g = grown e.account in omega arith) h
-
--- where accounts are distinct, an account that stands there stands once
-once_in : (J : Journal) (es : List Entry) → ((a : ℕ) → occurs a (accounts J) ≤ 1) → AreIn J es → AreOf (accounts J) es
-once_in J es distinct h = each_weaker (λ (e : Entry). IsIn J e.account) (λ e. occurs e.account (accounts J) ≡ 1) es (λ e p. let d = distinct e.account in omega arith) h
-
-held_in : (J : Journal) (es : List Entry) → AreOf (accounts J) es → AreIn J es
-held_in J es h = each_weaker (λ (e : Entry). occurs e.account (accounts J) ≡ 1) (λ e. IsIn J e.account) es (λ e p. omega arith) h
-
--- accounts stay
+-- an account stays
 pub grown-post : (p : Posting) (J : Journal) (a : ℕ) → occurs a (accounts J) ≤ occurs a (accounts (p ∷ J))
 grown-post p J a = by p.activity where
   by : (x : Activity) → occurs a (accounts J) ≤ occurs a (accounts (record { activity = x; entries = p.entries } ∷ J))
@@ -156,7 +119,86 @@ grown-post p J a = by p.activity where
   by (activity.Dividend d) = omega arith
   by (activity.Split s) = omega arith
   by (activity.Exchange x) = omega arith
+  by (activity.Notice m) = omega arith
+  by (activity.Withdraw k) = omega arith
+  by (activity.Execute x) = omega arith
   by (activity.Close d) = omega arith
+
+-- those of the closes are there still
+closed_known : (J : Journal) → AllByRecursion (λ K. (a : ℕ) → occurs a (accounts K) ≤ occurs a (accounts J)) (closings J)
+closed_known [] = tt
+closed_known (p ∷ J) =
+    let later : (K : Journal) → ((a : ℕ) → occurs a (accounts K) ≤ occurs a (accounts J)) → (a : ℕ) → occurs a (accounts K) ≤ occurs a (accounts (p ∷ J)) = λ K known a. omega (arith, known a, grown-post p J a) in
+    by (is_close p.activity) (each_weaker (λ K. (a : ℕ) → occurs a (accounts K) ≤ occurs a (accounts J)) (λ K. (a : ℕ) → occurs a (accounts K) ≤ occurs a (accounts (p ∷ J))) (closings J) later (closed_known J))
+  where
+    by : (b : Bool) → AllByRecursion (λ K. (a : ℕ) → occurs a (accounts K) ≤ occurs a (accounts (p ∷ J))) (closings J) → AllByRecursion (λ K. (a : ℕ) → occurs a (accounts K) ≤ occurs a (accounts (p ∷ J))) (cond b (J ∷ closings J) (closings J))
+    by true h = (grown-post p J, h)
+    by false h = h
+
+-- who was a member at a close is one of the accounts
+closed_in : (J : Journal) (n : ℕ) → AllByRecursion (IsIn J) (members (at_close J n))
+closed_in J n =
+    let each : (K : Journal) → ((a : ℕ) → occurs a (accounts K) ≤ occurs a (accounts J)) → AllByRecursion (IsIn J) (members K) =
+    λ K known. each_weaker (λ a. 1 ≤ occurs a (members K)) (IsIn J) (members K) (λ a p. omega (arith, p, known a)) (each_stands (members K)) in
+    each_found (λ K. AllByRecursion (IsIn J) (members K)) (λ K. day K == n) [] (closings J) tt
+    (each_weaker (λ K. (a : ℕ) → occurs a (accounts K) ≤ occurs a (accounts J)) (λ K. AllByRecursion (IsIn J) (members K)) (closings J) each (closed_known J))
+
+-- ---- the accounts that activities book for
+
+abbrev AreIn : Journal → List Entry → Type 0
+AreIn J es = AllByRecursion (λ e. IsIn J e.account) es
+
+-- so do the corporation and members with an entry each
+against_in : (J : Journal) (c : Cusip) (shares cents q : Account → ℤ) → AreIn J (against_corporation c (entries_for c shares cents (holders q (members J))))
+against_in J c shares cents q =
+    let each : AllByRecursion (IsIn J) (members J) = each_weaker (λ a. 1 ≤ occurs a (members J)) (IsIn J) (members J) (λ a p. omega arith) (each_stands (members J)) in
+    (zero_in J, each_map (λ e. IsIn J e.account) (λ a. entry a c (shares a) (cents a)) (holders q (members J)) (each_filter (IsIn J) _ (members J) each))
+
+-- and the members of an execution
+executed_in : (J : Journal) (x : Execution) (o : Option Notice) → IfSome o (IsNoticed J) → AreIn J (option_map_or (execution_entries J x) o [])
+executed_in J x None h = tt
+executed_in J x (Some k) h = (h.0, each_map (λ (e : Entry). IsIn J e.account) (fill_entry k) (fills J x k) (fills_each (IsIn J) J x k (closed_in J k.given.day)))
+
+entries_in : (opening : Day) (J : Journal) (x : Activity) → IsSound J → NoneHolds (rules opening J x) → AreIn J (entries opening J x)
+entries_in opening J (activity.Member m) s h = tt
+entries_in opening J (activity.Issue l) s h = tt
+entries_in opening J (activity.Trade t) s h =
+    let fails = all_fail (rules opening J (activity.Trade t)) h in
+    let both = both_hold (is_member J t.buyer) (is_member J t.seller) fails.0 in
+    (member_in J t.buyer both.0, (member_in J t.seller both.1, tt))
+entries_in opening J (activity.Price l) s h = tt
+entries_in opening J (activity.Deliver m) s h =
+    let fails = all_fail (rules opening J (activity.Deliver m)) h in
+    (member_in J m.member (holds (is_member J m.member) fails.0), (zero_in J, tt))
+entries_in opening J (activity.Receive m) s h =
+    let fails = all_fail (rules opening J (activity.Receive m)) h in
+    (member_in J m.member (holds (is_member J m.member) fails.0), (zero_in J, tt))
+entries_in opening J (activity.Dividend d) s h = tt
+entries_in opening J (activity.Split s) w h =
+    let q : Account → ℤ = λ a. position J a s.issue in
+    against_in J s.issue (λ a. converted s.ratio (q a) -ℤ q a) (λ a. in_lieu s.ratio s.lieu (q a)) q
+entries_in opening J (activity.Exchange x) s h =
+    let q : Account → ℤ = λ a. position J a x.old in
+    let hs : List Account = holders q (members J) in
+    each_append (λ (e : Entry). IsIn J e.account) (against_corporation x.old (map (old_entry x q) hs)) (against_corporation x.successor (map (new_entry x q) hs))
+    (against_in J x.old (λ a. neg_ℤ (q a)) (λ a. pos 0) q)
+    (against_in J x.successor (λ a. converted x.ratio (q a)) (λ a. in_exchange x.ratio x.lieu x.cash (q a)) q)
+entries_in opening J (activity.Notice m) s h = tt
+entries_in opening J (activity.Withdraw k) s h = tt
+entries_in opening J (activity.Execute x) s h = executed_in J x (notice_at J x.notice) (each_named (IsNoticed J) (λ n. n.number == x.notice) (notices J) s.noticed)
+entries_in opening J (activity.Close d) s h = tt
+
+-- ---- one more activity
+
+weaker_in : (J J' : Journal) (es : List Entry) → ((a : ℕ) → occurs a (accounts J) ≤ occurs a (accounts J')) → AreIn J es → AreIn J' es
+weaker_in J J' es grown h = each_weaker (λ (e : Entry). IsIn J e.account) (λ e. IsIn J' e.account) es (λ e p. let g = grown e.account in omega arith) h
+
+-- where accounts are distinct, an account that stands there stands once
+once_in : (J : Journal) (es : List Entry) → ((a : ℕ) → occurs a (accounts J) ≤ 1) → AreIn J es → AreOf (accounts J) es
+once_in J es distinct h = each_weaker (λ (e : Entry). IsIn J e.account) (λ e. occurs e.account (accounts J) ≡ 1) es (λ e p. let d = distinct e.account in omega arith) h
+
+held_in : (J : Journal) (es : List Entry) → AreOf (accounts J) es → AreIn J es
+held_in J es h = each_weaker (λ (e : Entry). occurs e.account (accounts J) ≡ 1) (λ e. IsIn J e.account) es (λ e p. omega arith) h
 
 added_once : (b : Bool) (n k : ℕ) → n + k ≤ 1 → (b ≡ true → n + k ≡ 0) → n + (cond b 1 0 + k) ≤ 1
 added_once true n k d e = let z = e refl in omega arith
@@ -176,6 +218,9 @@ distinct-post opening J (activity.Receive m) s h a = s.distinct a
 distinct-post opening J (activity.Dividend d) s h a = s.distinct a
 distinct-post opening J (activity.Split x) s h a = s.distinct a
 distinct-post opening J (activity.Exchange x) s h a = s.distinct a
+distinct-post opening J (activity.Notice m) s h a = s.distinct a
+distinct-post opening J (activity.Withdraw k) s h a = s.distinct a
+distinct-post opening J (activity.Execute x) s h a = s.distinct a
 distinct-post opening J (activity.Close d) s h a = s.distinct a
 
 -- ---- one more activity: the order, and listed issues
@@ -198,6 +243,9 @@ accounts-post opening J (activity.Receive m) s h = s.accounts_rise
 accounts-post opening J (activity.Dividend d) s h = s.accounts_rise
 accounts-post opening J (activity.Split x) s h = s.accounts_rise
 accounts-post opening J (activity.Exchange x) s h = s.accounts_rise
+accounts-post opening J (activity.Notice m) s h = s.accounts_rise
+accounts-post opening J (activity.Withdraw k) s h = s.accounts_rise
+accounts-post opening J (activity.Execute x) s h = s.accounts_rise
 accounts-post opening J (activity.Close d) s h = s.accounts_rise
 
 issues-post : (opening : Day) (J : Journal) (x : Activity) → IsSound J → NoneHolds (rules opening J x) → is_rising (slice_cmp nat_cmp) (issues (posting opening J x ∷ J)) ≡ true
@@ -212,6 +260,9 @@ issues-post opening J (activity.Receive m) s h = s.issues_rise
 issues-post opening J (activity.Dividend d) s h = s.issues_rise
 issues-post opening J (activity.Split x) s h = s.issues_rise
 issues-post opening J (activity.Exchange x) s h = s.issues_rise
+issues-post opening J (activity.Notice m) s h = s.issues_rise
+issues-post opening J (activity.Withdraw k) s h = s.issues_rise
+issues-post opening J (activity.Execute x) s h = s.issues_rise
 issues-post opening J (activity.Close d) s h = s.issues_rise
 
 -- an issue stays listed
@@ -225,6 +276,9 @@ listed-post opening J (activity.Receive m) c h = h
 listed-post opening J (activity.Dividend d) c h = h
 listed-post opening J (activity.Split s) c h = h
 listed-post opening J (activity.Exchange x) c h = h
+listed-post opening J (activity.Notice m) c h = h
+listed-post opening J (activity.Withdraw k) c h = h
+listed-post opening J (activity.Execute x) c h = h
 listed-post opening J (activity.Close d) c h = h
 
 -- what holds anyway holds of each of a list
@@ -236,32 +290,40 @@ each_anyway P (x ∷ xs) p = (p, each_anyway P xs p)
 against_listed : (J : Journal) (c : Cusip) (shares cents : Account → ℤ) (xs : List Account) → is_listed J c ≡ true → AreOfListed J (against_corporation c (entries_for c shares cents xs))
 against_listed J c shares cents xs h = (h, each_map (λ e. is_listed J e.issue ≡ true) (λ a. entry a c (shares a) (cents a)) xs (each_anyway (is_listed J c ≡ true) xs h))
 
-entries_listed : (opening : Day) (J : Journal) (x : Activity) → NoneHolds (rules opening J x) → AreOfListed J (entries opening J x)
-entries_listed opening J (activity.Member m) h = tt
-entries_listed opening J (activity.Issue l) h = tt
-entries_listed opening J (activity.Trade t) h =
+-- and those of an execution
+executed_listed : (J : Journal) (x : Execution) (o : Option Notice) → IfSome o (IsNoticed J) → AreOfListed J (option_map_or (execution_entries J x) o [])
+executed_listed J x None h = tt
+executed_listed J x (Some k) h = (h.1, each_map (λ e. is_listed J e.issue ≡ true) (fill_entry k) (fills J x k) (each_anyway (is_listed J k.given.issue ≡ true) (fills J x k) h.1))
+
+entries_listed : (opening : Day) (J : Journal) (x : Activity) → IsSound J → NoneHolds (rules opening J x) → AreOfListed J (entries opening J x)
+entries_listed opening J (activity.Member m) s h = tt
+entries_listed opening J (activity.Issue l) s h = tt
+entries_listed opening J (activity.Trade t) s h =
     let listed = holds (is_listed J t.issue) (all_fail (rules opening J (activity.Trade t)) h).1.0 in
     (listed, (listed, tt))
-entries_listed opening J (activity.Price l) h = tt
-entries_listed opening J (activity.Deliver m) h =
+entries_listed opening J (activity.Price l) s h = tt
+entries_listed opening J (activity.Deliver m) s h =
     let listed = holds (is_listed J m.issue) (all_fail (rules opening J (activity.Deliver m)) h).1.0 in
     (listed, (listed, tt))
-entries_listed opening J (activity.Receive m) h =
+entries_listed opening J (activity.Receive m) s h =
     let listed = holds (is_listed J m.issue) (all_fail (rules opening J (activity.Receive m)) h).1.0 in
     (listed, (listed, tt))
-entries_listed opening J (activity.Dividend d) h = tt
-entries_listed opening J (activity.Split s) h =
+entries_listed opening J (activity.Dividend d) s h = tt
+entries_listed opening J (activity.Split s) w h =
     let listed = holds (is_listed J s.issue) (all_fail (rules opening J (activity.Split s)) h).0 in
     let q : Account → ℤ = λ a. position J a s.issue in
     against_listed J s.issue (λ a. converted s.ratio (q a) -ℤ q a) (λ a. in_lieu s.ratio s.lieu (q a)) (holders q (members J)) listed
-entries_listed opening J (activity.Exchange x) h =
+entries_listed opening J (activity.Exchange x) s h =
     let both = both_hold (is_listed J x.old) (is_listed J x.successor) (all_fail (rules opening J (activity.Exchange x)) h).0 in
     let q : Account → ℤ = λ a. position J a x.old in
     let hs : List Account = holders q (members J) in
     each_append (λ (e : Entry). is_listed J e.issue ≡ true) (against_corporation x.old (map (old_entry x q) hs)) (against_corporation x.successor (map (new_entry x q) hs))
     (against_listed J x.old (λ a. neg_ℤ (q a)) (λ a. pos 0) hs both.0)
     (against_listed J x.successor (λ a. converted x.ratio (q a)) (λ a. in_exchange x.ratio x.lieu x.cash (q a)) hs both.1)
-entries_listed opening J (activity.Close d) h = tt
+entries_listed opening J (activity.Notice m) s h = tt
+entries_listed opening J (activity.Withdraw k) s h = tt
+entries_listed opening J (activity.Execute x) s h = executed_listed J x (notice_at J x.notice) (each_named (IsNoticed J) (λ n. n.number == x.notice) (notices J) s.noticed)
+entries_listed opening J (activity.Close d) s h = tt
 
 still_listed : (opening : Day) (J : Journal) (x : Activity) (es : List Entry) → AreOfListed J es → AreOfListed (posting opening J x ∷ J) es
 still_listed opening J x es h = each_weaker (λ (e : Entry). is_listed J e.issue ≡ true) (λ e. is_listed (posting opening J x ∷ J) e.issue ≡ true) es (λ e p. listed-post opening J x e.issue p) h
@@ -286,7 +348,34 @@ unpriced-post opening J (activity.Receive m) s h c none = s.unpriced c none
 unpriced-post opening J (activity.Dividend d) s h c none = s.unpriced c none
 unpriced-post opening J (activity.Split x) s h c none = s.unpriced c none
 unpriced-post opening J (activity.Exchange x) s h c none = s.unpriced c none
+unpriced-post opening J (activity.Notice m) s h c none = s.unpriced c none
+unpriced-post opening J (activity.Withdraw k) s h c none = s.unpriced c none
+unpriced-post opening J (activity.Execute x) s h c none = s.unpriced c none
 unpriced-post opening J (activity.Close d) s h c none = s.unpriced c none
+
+-- notices stay as they were given
+still_noticed : (opening : Day) (J : Journal) (x : Activity) → IsSound J → AllByRecursion (IsNoticed (posting opening J x ∷ J)) (notices J)
+still_noticed opening J x s = each_weaker (IsNoticed J) (IsNoticed (posting opening J x ∷ J)) (notices J) (λ n p. (omega (arith, p.0, grown-post (posting opening J x) J n.given.member), listed-post opening J x n.given.issue p.1)) s.noticed
+
+noticed-post : (opening : Day) (J : Journal) (x : Activity) → IsSound J → NoneHolds (rules opening J x) → AllByRecursion (IsNoticed (posting opening J x ∷ J)) (notices (posting opening J x ∷ J))
+noticed-post opening J (activity.Member m) s h = still_noticed opening J (activity.Member m) s
+noticed-post opening J (activity.Issue l) s h = still_noticed opening J (activity.Issue l) s
+noticed-post opening J (activity.Trade t) s h = still_noticed opening J (activity.Trade t) s
+noticed-post opening J (activity.Price l) s h = still_noticed opening J (activity.Price l) s
+noticed-post opening J (activity.Deliver m) s h = still_noticed opening J (activity.Deliver m) s
+noticed-post opening J (activity.Receive m) s h = still_noticed opening J (activity.Receive m) s
+noticed-post opening J (activity.Dividend d) s h = still_noticed opening J (activity.Dividend d) s
+noticed-post opening J (activity.Split x) s h = still_noticed opening J (activity.Split x) s
+noticed-post opening J (activity.Exchange x) s h = still_noticed opening J (activity.Exchange x) s
+noticed-post opening J (activity.Notice m) s h =
+    let x : Activity = activity.Notice m in
+    let fails = all_fail (rules opening J x) h in
+    let member = member_in J m.member (holds (is_member J m.member) fails.0) in
+    each_append (IsNoticed (posting opening J x ∷ J)) (notices J) (notice (length (notices J) + 1) (day J) m ∷ []) (still_noticed opening J x s)
+    ((omega (arith, member, grown-post (posting opening J x) J m.member), listed-post opening J x m.issue (holds (is_listed J m.issue) fails.1.0)), tt)
+noticed-post opening J (activity.Withdraw k) s h = still_noticed opening J (activity.Withdraw k) s
+noticed-post opening J (activity.Execute x) s h = still_noticed opening J (activity.Execute x) s
+noticed-post opening J (activity.Close d) s h = still_noticed opening J (activity.Close d) s
 
 past-post : (opening : Day) (J : Journal) (x : Activity) → IsWhole opening J → AllByRecursion IsSound (closings (posting opening J x ∷ J))
 past-post opening J (activity.Member m) w = w.past
@@ -298,6 +387,9 @@ past-post opening J (activity.Receive m) w = w.past
 past-post opening J (activity.Dividend d) w = w.past
 past-post opening J (activity.Split s) w = w.past
 past-post opening J (activity.Exchange x) w = w.past
+past-post opening J (activity.Notice m) w = w.past
+past-post opening J (activity.Withdraw k) w = w.past
+past-post opening J (activity.Execute x) w = w.past
 past-post opening J (activity.Close d) w = (w.now, w.past)
 
 earlier-post : (opening : Day) (J : Journal) (x : Activity) → IsWhole opening J → NoneHolds (rules opening J x) → AreEarlier opening (posting opening J x ∷ J)
@@ -310,6 +402,9 @@ earlier-post opening J (activity.Receive m) w h = w.earlier
 earlier-post opening J (activity.Dividend d) w h = w.earlier
 earlier-post opening J (activity.Split s) w h = w.earlier
 earlier-post opening J (activity.Exchange x) w h = w.earlier
+earlier-post opening J (activity.Notice m) w h = w.earlier
+earlier-post opening J (activity.Withdraw k) w h = w.earlier
+earlier-post opening J (activity.Execute x) w h = w.earlier
 earlier-post opening J (activity.Close d) w h =
     let next = later (day_number d) (day_number (date opening J)) (all_fail (rules opening J (activity.Close d)) h).0 in
     (next, each_weaker (λ K. int_lt (day_number (date opening K)) (day_number (date opening J)) ≡ true) (λ K. int_lt (day_number (date opening K)) (day_number d) ≡ true) (closings J) (λ K e. less_less (day_number (date opening K)) _ _ e next) w.earlier)
@@ -320,25 +415,20 @@ whole-post opening J x w h =
     let J' : Journal = posting opening J x ∷ J in
     let grown : (a : ℕ) → occurs a (accounts J) ≤ occurs a (accounts J') = grown-post (posting opening J x) J in
     let distinct : (a : ℕ) → occurs a (accounts J') ≤ 1 = distinct-post opening J x w.now h in
-    let mine : IsSoundPosting (accounts J') (posting opening J x) = record {
-      balanced = entries_balanced opening J x;
-      known = once_in J' (entries opening J x) distinct (weaker_in J J' (entries opening J x) grown (entries_in opening J x h));
-    } in
-    let others : AreSound (accounts J') J = each_weaker (IsSoundPosting (accounts J)) (IsSoundPosting (accounts J')) J (λ p s. record {
-      balanced = s.balanced;
-      known = once_in J' p.entries distinct (weaker_in J J' p.entries grown (held_in J p.entries s.known));
-    }) w.now.sound in
+    let mine : AreOf (accounts J') (entries opening J x) = once_in J' (entries opening J x) distinct (weaker_in J J' (entries opening J x) grown (entries_in opening J x w.now h)) in
+    let others : AreKnown (accounts J') J = each_weaker (λ p. AreOf (accounts J) p.entries) (λ p. AreOf (accounts J') p.entries) J (λ p k. once_in J' p.entries distinct (weaker_in J J' p.entries grown (held_in J p.entries k))) w.now.known in
     record {
       now = record {
         distinct = distinct;
-        sound = (mine, others);
+        known = (mine, others);
         accounts_rise = accounts-post opening J x w.now h;
         issues_rise = issues-post opening J x w.now h;
         issued = (
-          still_listed opening J x (entries opening J x) (entries_listed opening J x h),
+          still_listed opening J x (entries opening J x) (entries_listed opening J x w.now h),
           each_weaker (λ p. AreOfListed J p.entries) (λ p. AreOfListed J' p.entries) J (λ p l. still_listed opening J x p.entries l) w.now.issued,
         );
         unpriced = unpriced-post opening J x w.now h;
+        noticed = noticed-post opening J x w.now h;
       };
       past = past-post opening J x w;
       earlier = earlier-post opening J x w h;

@@ -28,6 +28,19 @@ pub record IsSoundPosting (bs : List Account) (p : Posting) : Type 0 where
 abbrev pub AreSound : List Account → Journal → Type 0
 AreSound bs J = AllByRecursion (IsSoundPosting bs) J
 
+-- each posting books for those accounts alone
+abbrev pub AreKnown : List Account → Journal → Type 0
+AreKnown bs J = AllByRecursion (λ p. AreOf bs p.entries) J
+
+-- each posting adds up to zero
+abbrev pub AreBalanced : Journal → Type 0
+AreBalanced J = AllByRecursion (λ p. IsBalanced p.entries) J
+
+-- both of each posting
+pub sound_of : (bs : List Account) (J : Journal) → AreKnown bs J → AreBalanced J → AreSound bs J
+sound_of bs [] k b = tt
+sound_of bs (p ∷ J) k b = (record { balanced = b.0; known = k.0 }, sound_of bs J k.1 b.1)
+
 -- what entries book for all of the accounts is what they book
 shares_of_all : (bs : List Account) (c : Cusip) (es : List Entry) → AreOf bs es → total (λ e. total (λ a. shares_for a c e) bs) es ≡ total (shares_in c) es
 shares_of_all bs c [] h = refl

@@ -26,6 +26,9 @@ next_date (activity.Receive m) = None
 next_date (activity.Dividend d) = None
 next_date (activity.Split s) = None
 next_date (activity.Exchange x) = None
+next_date (activity.Notice m) = None
+next_date (activity.Withdraw k) = None
+next_date (activity.Execute x) = None
 next_date (activity.Close d) = Some d
 
 -- whether an activity ends a day

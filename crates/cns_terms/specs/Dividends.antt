@@ -27,6 +27,9 @@ declared (activity.Receive m) = None
 declared (activity.Dividend d) = Some d
 declared (activity.Split s) = None
 declared (activity.Exchange x) = None
+declared (activity.Notice m) = None
+declared (activity.Withdraw k) = None
+declared (activity.Execute x) = None
 declared (activity.Close d) = None
 
 -- the dividends that were declared, the newest first

@@ -1,5 +1,6 @@
 -- What accepted activities book.
 use Rattle.std.specs.Prelude.{ℤ, pos, ◌-ℤ◌, neg_ℤ, not, List, [], ◌∷◌, ◌++◌, map, filter}
+use Rattle.std.specs.Option.{option_map_or}
 use Rattle.std.specs.Ordering.{int_eq}
 use Rattle.cns_units.specs.declared.account.Account.{Account}
 use Rattle.cns_units.specs.declared.account.Member.{Member}
@@ -17,7 +18,7 @@ use Rattle.cns_terms.specs.declared.holding.Entry.{Entry}
 use Rattle.cns_terms.specs.Conversions.{converted, in_lieu, in_exchange}
 use Rattle.cns_terms.specs.Fills.{fills}
 use Rattle.cns_terms.specs.Listings.{members}
-use Rattle.cns_terms.specs.Notices.{Notice}
+use Rattle.cns_terms.specs.Notices.{Notice, notice_at}
 use Rattle.cns_terms.specs.Positions.{position}
 use Rattle.cns_terms.specs.Postings.{Posting, Journal}
 use Rattle.cns_terms.specs.Sums.{total}
@@ -100,6 +101,9 @@ entries opening J (activity.Receive m) = moved_out m.member m ∷ moved_in corpo
 entries opening J (activity.Dividend d) = []
 entries opening J (activity.Split s) = split_entries s (λ a. position J a s.issue) (members J)
 entries opening J (activity.Exchange x) = exchange_entries x (λ a. position J a x.old) (members J)
+entries opening J (activity.Notice m) = []
+entries opening J (activity.Withdraw k) = []
+entries opening J (activity.Execute x) = option_map_or (execution_entries J x) (notice_at J x.notice) []
 entries opening J (activity.Close d) = []
 
 -- an activity with the entries that it books on a journal

@@ -38,17 +38,17 @@ pub record SheetsAddUp (opening : Day) (J : Journal) : Type 0 where
   pub by_place : (i : ℕ) → AddsUpToZero (sheet_at opening J i)
   pub by_date : (d : Day) (s : DaySheet) → sheet_on opening J d ≡ Some s → AddsUpToZero s
 
--- after any commands, the sheet of each closed day adds up to zero
+-- after any commands whose values are in their ranges, the sheet of each closed day adds up to zero
 abbrev pub ZeroSums : Type 0
-ZeroSums = (opening : Day) (cmds : List Command) → SheetsAddUp opening (journal_after opening cmds)
+ZeroSums = (opening : Day) (cmds : List Command) → AllByRecursion IsCommandInRange cmds → SheetsAddUp opening (journal_after opening cmds)
 
--- after any commands, in each issue the positions of all accounts add up to zero, and so do the open day's cents
+-- after such commands, in each issue the positions of all accounts add up to zero, and so do the open day's cents
 pub record IsBalancedIn (J : Journal) (c : Cusip) : Type 0 where
   pub shares : total (λ a. position J a c) (accounts J) ≡ pos 0
   pub cents : total (λ a. money J a c) (accounts J) ≡ pos 0
 
 abbrev pub Positions : Type 0
-Positions = (opening : Day) (cmds : List Command) (c : Cusip) → IsBalancedIn (journal_after opening cmds) c
+Positions = (opening : Day) (cmds : List Command) (c : Cusip) → AllByRecursion IsCommandInRange cmds → IsBalancedIn (journal_after opening cmds) c
 
 -- each day that is closed in the first journal has the same sheet in the second, by its place and by its date
 pub record KeepsSheets (opening : Day) (J J' : Journal) : Type 0 where

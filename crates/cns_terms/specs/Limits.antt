@@ -13,6 +13,10 @@ corporation_limit = 10 ^ 14
 abbrev pub member_limit : ℕ
 member_limit = 9999
 
+-- the shares of a command
+abbrev pub shares_limit : ℕ
+shares_limit = 10 ^ 9
+
 -- the cents of a trade
 abbrev pub money_limit : ℕ
 money_limit = 10 ^ 18

@@ -26,6 +26,9 @@ added (activity.Receive m) = None
 added (activity.Dividend d) = None
 added (activity.Split s) = None
 added (activity.Exchange x) = None
+added (activity.Notice m) = None
+added (activity.Withdraw k) = None
+added (activity.Execute x) = None
 added (activity.Close d) = None
 
 -- the listing that an activity makes
@@ -39,6 +42,9 @@ listed (activity.Receive m) = None
 listed (activity.Dividend d) = None
 listed (activity.Split s) = None
 listed (activity.Exchange x) = None
+listed (activity.Notice m) = None
+listed (activity.Withdraw k) = None
+listed (activity.Execute x) = None
 listed (activity.Close d) = None
 
 -- the listing by which an activity sets a price
@@ -52,6 +58,9 @@ priced (activity.Receive m) = None
 priced (activity.Dividend d) = None
 priced (activity.Split s) = None
 priced (activity.Exchange x) = None
+priced (activity.Notice m) = None
+priced (activity.Withdraw k) = None
+priced (activity.Execute x) = None
 priced (activity.Close d) = None
 
 -- the trade that an activity is
@@ -65,6 +74,9 @@ traded (activity.Receive m) = None
 traded (activity.Dividend d) = None
 traded (activity.Split s) = None
 traded (activity.Exchange x) = None
+traded (activity.Notice m) = None
+traded (activity.Withdraw k) = None
+traded (activity.Execute x) = None
 traded (activity.Close d) = None
 
 -- the issue that an activity replaces by its successor
@@ -78,6 +90,9 @@ replaced (activity.Receive m) = None
 replaced (activity.Dividend d) = None
 replaced (activity.Split s) = None
 replaced (activity.Exchange x) = Some x.old
+replaced (activity.Notice m) = None
+replaced (activity.Withdraw k) = None
+replaced (activity.Execute x) = None
 replaced (activity.Close d) = None
 
 -- the order of accounts, by their numbers

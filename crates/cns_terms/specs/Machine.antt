@@ -1,5 +1,5 @@
 -- The machine that keeps only the accepted activities and recomputes.
-use Rattle.std.specs.Prelude.{List, [], ◌∷◌, length, is_none, if◌then◌else◌}
+use Rattle.std.specs.Prelude.{List, [], ◌∷◌, length, ◌+◌, is_none, if◌then◌else◌}
 use Rattle.std.specs.Option.{option_map_or}
 use Rattle.cns_units.specs.declared.account.Account.{Account}
 use Rattle.cns_units.specs.declared.cusip.Cusip.{Cusip}
@@ -15,7 +15,10 @@ use Rattle.cns_terms.specs.Postings.{Journal}
 use Rattle.cns_terms.specs.Days.{day, date, last_close}
 use Rattle.cns_terms.specs.Positions.{position, money}
 use Rattle.cns_terms.specs.Ages.{age}
+use Rattle.cns_terms.specs.Batches.{liable_at}
 use Rattle.cns_terms.specs.Entries.{journal}
+use Rattle.cns_terms.specs.Fills.{fills}
+use Rattle.cns_terms.specs.Notices.{notice_at, notices}
 use Rattle.cns_terms.specs.Refusals.{refusal}
 use Rattle.cns_terms.specs.Sheets.{sheet_named, sheet_rows, statement}
 
@@ -43,11 +46,14 @@ activity_reply opening J (activity.Receive m) = reply.Accepted
 activity_reply opening J (activity.Dividend d) = reply.Accepted
 activity_reply opening J (activity.Split s) = reply.Accepted
 activity_reply opening J (activity.Exchange x) = reply.Accepted
+activity_reply opening J (activity.Notice m) = reply.Noticed (length (notices J) + 1)
+activity_reply opening J (activity.Withdraw k) = reply.Accepted
+activity_reply opening J (activity.Execute x) = reply.Executed (option_map_or (λ n. length (fills J x n)) (notice_at J x.notice) 0)
 activity_reply opening J (activity.Close d) = reply.Closed (record {
   day = day J;
   date = date opening J;
   rows = length (sheet_rows opening J);
-  liable = 0;
+  liable = length (liable_at J);
 })
 
 -- the reply to a command that is not refused

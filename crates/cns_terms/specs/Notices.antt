@@ -28,6 +28,9 @@ noticed (activity.Receive m) = None
 noticed (activity.Dividend d) = None
 noticed (activity.Split s) = None
 noticed (activity.Exchange x) = None
+noticed (activity.Notice m) = Some m
+noticed (activity.Withdraw k) = None
+noticed (activity.Execute x) = None
 noticed (activity.Close d) = None
 
 -- the movement by which a member receives
@@ -41,6 +44,9 @@ received (activity.Receive m) = Some m
 received (activity.Dividend d) = None
 received (activity.Split s) = None
 received (activity.Exchange x) = None
+received (activity.Notice m) = None
+received (activity.Withdraw k) = None
+received (activity.Execute x) = None
 received (activity.Close d) = None
 
 -- the execution that an activity is
@@ -54,6 +60,9 @@ executed (activity.Receive m) = None
 executed (activity.Dividend d) = None
 executed (activity.Split s) = None
 executed (activity.Exchange x) = None
+executed (activity.Notice m) = None
+executed (activity.Withdraw k) = None
+executed (activity.Execute x) = Some x
 executed (activity.Close d) = None
 
 -- ---- the notices
@@ -104,6 +113,9 @@ stage_by n today (activity.Receive m) = Live
 stage_by n today (activity.Dividend d) = Live
 stage_by n today (activity.Split s) = if same_issue s.issue n.given.issue then Ended else Live
 stage_by n today (activity.Exchange x) = if same_issue x.old n.given.issue then Ended else Live
+stage_by n today (activity.Notice m) = Live
+stage_by n today (activity.Withdraw k) = if k == n.number then Withdrawn else Live
+stage_by n today (activity.Execute x) = Live
 stage_by n today (activity.Close d) = if today == n.given.day + 2 then Expired else Live
 
 -- the stage that was reached first

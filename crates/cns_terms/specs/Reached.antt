@@ -7,7 +7,7 @@ use Rattle.cns_terms.specs.declared.command.Activity.TheVariants as activity
 use Rattle.cns_terms.specs.declared.command.Command.{Command}
 use Rattle.cns_terms.specs.declared.command.Command.TheVariants as command
 use Rattle.cns_terms.specs.Entries.{journal}
-use Rattle.cns_terms.specs.Limits.{member_limit, money_limit, price_limit, rate_limit, ratio_limit}
+use Rattle.cns_terms.specs.Limits.{member_limit, money_limit, price_limit, rate_limit, ratio_limit, shares_limit}
 use Rattle.cns_terms.specs.Refusals.{refusal}
 
 -- the old shares of a ratio are in their range
@@ -21,10 +21,13 @@ IsInRange (activity.Issue l) = ⊤
 IsInRange (activity.Trade t) = t.money ≤ money_limit
 IsInRange (activity.Price l) = ⊤
 IsInRange (activity.Deliver m) = ⊤
-IsInRange (activity.Receive m) = ⊤
+IsInRange (activity.Receive m) = m.shares ≤ shares_limit
 IsInRange (activity.Dividend d) = d.rate ≤ rate_limit
 IsInRange (activity.Split s) = IsRatio s.ratio × (s.lieu ≤ price_limit)
 IsInRange (activity.Exchange x) = IsRatio x.ratio × (x.lieu ≤ price_limit) × (x.cash ≤ price_limit)
+IsInRange (activity.Notice m) = m.shares ≤ shares_limit
+IsInRange (activity.Withdraw k) = ⊤
+IsInRange (activity.Execute x) = (1 ≤ x.shares) × (x.shares ≤ shares_limit) × (x.money ≤ money_limit)
 IsInRange (activity.Close d) = ⊤
 
 -- and so are those of a command
@@ -44,6 +47,9 @@ IsPriceInRange (activity.Receive m) = ⊤
 IsPriceInRange (activity.Dividend d) = ⊤
 IsPriceInRange (activity.Split s) = ⊤
 IsPriceInRange (activity.Exchange x) = ⊤
+IsPriceInRange (activity.Notice m) = ⊤
+IsPriceInRange (activity.Withdraw k) = ⊤
+IsPriceInRange (activity.Execute x) = ⊤
 IsPriceInRange (activity.Close d) = ⊤
 
 -- and so is that of a command

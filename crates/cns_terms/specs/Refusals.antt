@@ -1,6 +1,7 @@
 -- What is refused, and why.
-use Rattle.std.specs.Prelude.{ℕ, is_none, ℤ, pos, ◌+ℤ◌, neg_ℤ, int_lt, int_le, unsigned_abs, Bool, not, ◌&&◌, ◌||◌, ◌==◌, nat_lt, ◌^◌, List, [], ◌∷◌, Option, option_map, find}
+use Rattle.std.specs.Prelude.{ℕ, ◌+◌, is_none, is_some, ℤ, pos, ◌+ℤ◌, neg_ℤ, int_lt, int_le, unsigned_abs, Bool, not, ◌&&◌, ◌||◌, ◌==◌, nat_lt, ◌^◌, List, [], ◌∷◌, Option, option_map, find}
 use Rattle.std.specs.List.{list_any}
+use Rattle.std.specs.Option.{option_map_or}
 use Rattle.cns_units.specs.declared.account.Account.{Account}
 use Rattle.cns_units.specs.declared.cusip.Cusip.{Cusip}
 use Rattle.cns_units.specs.declared.day.Day.{Day}
@@ -10,13 +11,15 @@ use Rattle.cns_terms.specs.declared.command.Command.{Command}
 use Rattle.cns_terms.specs.declared.command.Command.TheVariants as command
 use Rattle.cns_terms.specs.declared.holding.Entry.{Entry}
 use Rattle.cns_terms.specs.declared.refusal.Refusal.{Refusal}
-use Rattle.cns_terms.specs.declared.refusal.Refusal.TheVariants.{MemberExists, NoSuchMember, IssueExists, NoSuchIssue, Retired, SameParty, SameIssue, WrongDay, SeenReference, ExceedsPosition, NotOnHand, NotLong, TooLarge, NoSuchDay}
+use Rattle.cns_terms.specs.declared.refusal.Refusal.TheVariants.{MemberExists, NoSuchMember, IssueExists, NoSuchIssue, Retired, SameParty, SameIssue, WrongDay, SeenReference, ExceedsPosition, NotOnHand, NotLong, AlreadyNoticed, NoSuchNotice, NotLive, TooEarly, NotLiable, TooLarge, NoSuchDay}
 use Rattle.cns_terms.specs.Sums.{same_issue, short, total}
 use Rattle.cns_terms.specs.Postings.{Journal}
-use Rattle.cns_terms.specs.Days.{closed_on, date, is_same_day, is_not_after}
+use Rattle.cns_terms.specs.Days.{closed_on, date, day, is_same_day, is_not_after}
 use Rattle.cns_terms.specs.Positions.{position, shares_for}
 use Rattle.cns_terms.specs.Listings.{is_member, is_account, is_listed, is_retired, is_seen}
 use Rattle.cns_terms.specs.Entries.{corporation, entries}
+use Rattle.cns_terms.specs.Fills.{room}
+use Rattle.cns_terms.specs.Notices.{is_live, is_so, live_notice, notice_at, remaining, stage}
 
 -- a refusal, and whether its condition holds
 abbrev pub Rule : Type 0
@@ -81,6 +84,22 @@ rules opening J (activity.Exchange x) =
     ∷ (Retired, is_retired J x.old || is_retired J x.successor)
     ∷ (SameIssue, same_issue x.old x.successor)
     ∷ (TooLarge, is_too_large opening J (activity.Exchange x)) ∷ []
+rules opening J (activity.Notice m) =
+    (NoSuchMember, not (is_member J m.member))
+    ∷ (NoSuchIssue, not (is_listed J m.issue))
+    ∷ (Retired, is_retired J m.issue)
+    ∷ (ExceedsPosition, is_exceeded (position J m.member m.issue) m.shares)
+    ∷ (NotLong, int_le (position J m.member m.issue) (pos 0))
+    ∷ (let live = live_notice J m.member m.issue in (AlreadyNoticed (option_map_or (λ n. n.number) live 0), is_some live)) ∷ []
+rules opening J (activity.Withdraw k) =
+    (NoSuchNotice, is_none (notice_at J k))
+    ∷ (NotLive, is_so (λ n. not (is_live (stage J n))) (notice_at J k)) ∷ []
+rules opening J (activity.Execute x) =
+    (ExceedsPosition, is_so (λ n. is_live (stage J n) && nat_lt (remaining J n) x.shares) (notice_at J x.notice))
+    ∷ (NoSuchNotice, is_none (notice_at J x.notice))
+    ∷ (NotLive, is_so (λ n. not (is_live (stage J n))) (notice_at J x.notice))
+    ∷ (TooEarly, is_so (λ n. nat_lt (day J) (n.given.day + 2)) (notice_at J x.notice))
+    ∷ (NotLiable (option_map_or (room J) (notice_at J x.notice) 0), is_so (λ n. nat_lt (room J n) x.shares) (notice_at J x.notice)) ∷ []
 rules opening J (activity.Close d) = (WrongDay, is_not_after d (date opening J)) ∷ []
 
 -- the rules of a command

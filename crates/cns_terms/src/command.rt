@@ -2,6 +2,7 @@
 ghost use Rattle.std.specs.Prelude.{◌≡◌, ◌↔◌, true};
 
 use crate::action::{Declared, Exchange, Split};
+use crate::buy_in::Execution;
 use crate::holding::Key;
 use cns_units::{Account, Cusip, Day, Member, Money, Price, Shares};
 
@@ -29,7 +30,7 @@ pub struct Trade {
     pub issue: Cusip,
 }
 
-/// Shares of an issue that move between a member and the corporation.
+/// Shares of an issue that move between a member and the corporation, or that a member means to buy in.
 #[derive(Clone, Copy, Debug, PartialEq, Eq)]
 pub struct Movement {
     pub member: Member,
@@ -58,6 +59,12 @@ pub enum Activity {
     Split(Split),
     /// Shares of a successor for those of an issue, which is retired.
     Exchange(Exchange),
+    /// A long member's notice of its intention to buy in.
+    Notice(Movement),
+    /// The notice with the number, from 1, is taken back.
+    Withdraw(u32),
+    /// Shares that were bought in for a notice, on the second day after its own.
+    Execute(Execution),
     /// The end of the day; the date is that of the next one.
     Close(Day),
 }
@@ -111,6 +118,9 @@ impl Activity {
             (Activity::Dividend(one), Activity::Dividend(two)) => one.is_same(two),
             (Activity::Split(one), Activity::Split(two)) => one.is_same(two),
             (Activity::Exchange(one), Activity::Exchange(two)) => one.is_same(two),
+            (Activity::Notice(one), Activity::Notice(two)) => one.is_same(two),
+            (Activity::Withdraw(one), Activity::Withdraw(two)) => one == two,
+            (Activity::Execute(one), Activity::Execute(two)) => one.is_same(two),
             (Activity::Close(one), Activity::Close(two)) => one.is_same(two),
             _ => false,
         }

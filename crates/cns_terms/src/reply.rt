@@ -37,6 +37,10 @@ pub struct Stated {
 pub enum Reply {
     /// An activity was accepted that has no reply of its own.
     Accepted,
+    /// A notice was accepted: its number, from 1. Each notice is one entry of the history, so numbers go up to 2^32 - 1.
+    Noticed(u32),
+    /// An execution was accepted: how many members were filled.
+    Executed(u64),
     Closed(Closed),
     /// What stands at the key.
     Held(Key, Holding),
@@ -77,6 +81,8 @@ impl Reply {
     {
         match (self, other) {
             (Reply::Accepted, Reply::Accepted) => true,
+            (Reply::Noticed(one), Reply::Noticed(two)) => one == two,
+            (Reply::Executed(one), Reply::Executed(two)) => one == two,
             (Reply::Closed(one), Reply::Closed(two)) => one.is_same(two),
             (Reply::Held(key, holding), Reply::Held(other_key, other_holding)) => {
                 key.is_same(other_key) && holding.is_same(other_holding)

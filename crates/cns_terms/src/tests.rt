@@ -1,6 +1,6 @@
 use crate::{
-    Activity, Closed, Command, Declared, Entry, Exchange, Holding, Key, Listing, Movement, Refusal,
-    Reply, Row, Split, Stated, Taken, Trade, Worker,
+    Activity, Closed, Command, Declared, Entry, Exchange, Execution, Holding, Key, Listing,
+    Movement, Refusal, Reply, Row, Split, Stated, Taken, Trade, Worker,
 };
 use cns_units::{Account, Cents, Cusip, Day, Member, Money, Price, Rate, Ratio, Shares, UnitFault};
 use std::mem::size_of;
@@ -102,6 +102,14 @@ fn exchange(cash: u64) -> Result<Exchange, UnitFault> {
     })
 }
 
+fn execution(notice: u32) -> Result<Execution, UnitFault> {
+    Ok(Execution {
+        notice,
+        shares: Shares::new(100)?,
+        money: Money::new(1_950_000)?,
+    })
+}
+
 #[test]
 fn a_command_is_the_same_as_itself_alone(rt: HostRuntime) -> Result<(), Fail> {
     let account = Account::new(101)?;
@@ -122,6 +130,11 @@ fn a_command_is_the_same_as_itself_alone(rt: HostRuntime) -> Result<(), Fail> {
         Command::Activity(Activity::Split(split(3)?)),
         Command::Activity(Activity::Exchange(exchange(0)?)),
         Command::Activity(Activity::Exchange(exchange(25)?)),
+        Command::Activity(Activity::Notice(movement(100)?)),
+        Command::Activity(Activity::Withdraw(1)),
+        Command::Activity(Activity::Withdraw(2)),
+        Command::Activity(Activity::Execute(execution(1)?)),
+        Command::Activity(Activity::Execute(execution(2)?)),
         Command::Activity(Activity::Close(date)),
         Command::Position(apple(101)?),
         Command::Position(apple(202)?),
@@ -167,6 +180,10 @@ fn stated(mark: i128) -> Result<Stated, UnitFault> {
 fn a_reply_is_the_same_as_itself_alone(rt: HostRuntime) -> Result<(), Fail> {
     let replies = [
         Reply::Accepted,
+        Reply::Noticed(1),
+        Reply::Noticed(2),
+        Reply::Executed(1),
+        Reply::Executed(2),
         Reply::Closed(closed(3)?),
         Reply::Closed(closed(4)?),
         Reply::Held(apple(101)?, holding(0)),

@@ -1,0 +1,69 @@
+-- What an activity books adds up to zero in each issue.
+use Rattle.std.proofs.Common.{◌≡◌, ◌≤◌, ℤ, pos, ◌+ℤ◌, ◌-ℤ◌, neg_ℤ, Bool, true, false, cond, List, [], map, Option, Some, None, refl, arith}
+use Rattle.std.specs.Option.{IfSome, option_map_or}
+use Rattle.std.proofs.lemmas.Int.{ints}
+use Rattle.cns_units.specs.declared.account.Account.{Account}
+use Rattle.cns_units.specs.declared.day.Day.{Day}
+use Rattle.cns_terms.specs.declared.buy_in.Execution.{Execution}
+use Rattle.cns_terms.specs.declared.command.Activity.{Activity}
+use Rattle.cns_terms.specs.declared.command.Activity.TheVariants as activity
+use Rattle.cns_terms.specs.Conversions.{converted, in_exchange, in_lieu}
+use Rattle.cns_terms.specs.Entries.{against_corporation, entries, execution_entries, holders, new_entry, old_entry}
+use Rattle.cns_terms.specs.Listings.{members}
+use Rattle.cns_terms.specs.Notices.{Notice, notice_at}
+use Rattle.cns_terms.specs.Positions.{position}
+use Rattle.cns_terms.specs.Postings.{Journal}
+use Rattle.cns_terms.specs.Reached.{IsInRange}
+use Rattle.cns_terms.specs.Refusals.{rules}
+use Rattle.cns_terms.specs.Sums.{same_issue}
+use Rattle.cns_terms.proofs.BuyIns.{IsExecutable, executable, execution_balanced}
+use Rattle.cns_terms.proofs.EntrySums.{IsBalanced, against_balanced, both_balanced}
+use Rattle.cns_terms.proofs.Sound.{NoneHolds, all_fail}
+
+-- two parties' numbers in one issue, each the opposite of the other
+two_parties : (b : Bool) (m n : ℤ) → m +ℤ n ≡ pos 0 → cond b m (pos 0) +ℤ (cond b n (pos 0) +ℤ pos 0) ≡ pos 0
+two_parties true m n e = omega (arith, ints)
+two_parties false m n e = refl
+
+-- no entries
+none : IsBalanced []
+none = record { shares = λ c. refl; cents = λ c. refl }
+
+-- those of an execution, if its notice is there
+executed : (J : Journal) (x : Execution) (o : Option Notice) → 1 ≤ x.shares → IfSome o (IsExecutable J x) → IsBalanced (option_map_or (execution_entries J x) o [])
+executed J x None some ready = none
+executed J x (Some k) some ready = execution_balanced J x k some ready
+
+-- the entries of an activity in its ranges that is not refused add up to zero in each issue
+pub entries_balanced : (opening : Day) (J : Journal) (x : Activity) → IsInRange x → NoneHolds (rules opening J x) → IsBalanced (entries opening J x)
+entries_balanced opening J (activity.Member m) r h = none
+entries_balanced opening J (activity.Issue l) r h = none
+entries_balanced opening J (activity.Trade t) r h = record {
+  shares = λ c. two_parties (same_issue t.issue c) (pos t.shares) (neg_ℤ (pos t.shares)) (omega (arith, ints));
+  cents = λ c. two_parties (same_issue t.issue c) (neg_ℤ (pos t.money)) (pos t.money) (omega (arith, ints));
+}
+entries_balanced opening J (activity.Price l) r h = none
+entries_balanced opening J (activity.Deliver m) r h = record {
+  shares = λ c. two_parties (same_issue m.issue c) (pos m.shares) (neg_ℤ (pos m.shares)) (omega (arith, ints));
+  cents = λ c. two_parties (same_issue m.issue c) (pos 0) (pos 0) refl;
+}
+entries_balanced opening J (activity.Receive m) r h = record {
+  shares = λ c. two_parties (same_issue m.issue c) (neg_ℤ (pos m.shares)) (pos m.shares) (omega (arith, ints));
+  cents = λ c. two_parties (same_issue m.issue c) (pos 0) (pos 0) refl;
+}
+entries_balanced opening J (activity.Dividend d) r h = none
+entries_balanced opening J (activity.Split s) r h =
+    let q : Account → ℤ = λ a. position J a s.issue in
+    against_balanced s.issue (λ a. converted s.ratio (q a) -ℤ q a) (λ a. in_lieu s.ratio s.lieu (q a)) (holders q (members J))
+entries_balanced opening J (activity.Exchange x) r h =
+    let q : Account → ℤ = λ a. position J a x.old in
+    let hs : List Account = holders q (members J) in
+    both_balanced (against_corporation x.old (map (old_entry x q) hs)) (against_corporation x.successor (map (new_entry x q) hs))
+    (against_balanced x.old (λ a. neg_ℤ (q a)) (λ a. pos 0) hs)
+    (against_balanced x.successor (λ a. converted x.ratio (q a)) (λ a. in_exchange x.ratio x.lieu x.cash (q a)) hs)
+entries_balanced opening J (activity.Notice m) r h = none
+entries_balanced opening J (activity.Withdraw k) r h = none
+entries_balanced opening J (activity.Execute x) r h =
+    let fails = all_fail (rules opening J (activity.Execute x)) h in
+    executed J x (notice_at J x.notice) r.0 (executable J x (notice_at J x.notice) fails.0 fails.1.1.0 fails.1.1.1.1.0)
+entries_balanced opening J (activity.Close d) r h = none
