@@ -11,7 +11,7 @@ mod references;
 mod trades;
 
 pub use facts::{MoveFacts, TradeFacts};
-pub use trades::Trades;
+pub use trades::{Trades, is_exceeded};
 
 #[cfg(test)]
 mod tests;

@@ -54,8 +54,9 @@ fn is_over_delivered(position: i64, shares: Shares) -> bool
     position > -(shares.value() as i64)
 }
 
-// Whether a receipt is of more shares than a long position has.
-fn is_exceeded(position: i64, shares: Shares) -> bool
+/// Whether more shares are taken from a position than it is long. None are taken from one that is not long, so of that it
+/// is not so.
+pub fn is_exceeded(position: i64, shares: Shares) -> bool
     ensures { result ≡ is_exceeded position shares }
 {
     position > 0 && position < shares.value() as i64
