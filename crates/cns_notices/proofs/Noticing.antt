@@ -116,7 +116,7 @@ module _ (f : Noticed → Noticed) (h : Notice → Noticed) where
       other a b h = grind (arith, nat_tests)
 
 -- two changes that agree at the place
-changed_same : (f g : Noticed → Noticed) (i : ℕ) (xs : List Noticed) → ((x : Noticed) → slice_get xs i ≡ Some x → f x ≡ g x) → changed_at f i xs ≡ changed_at g i xs
+pub changed_same : (f g : Noticed → Noticed) (i : ℕ) (xs : List Noticed) → ((x : Noticed) → slice_get xs i ≡ Some x → f x ≡ g x) → changed_at f i xs ≡ changed_at g i xs
 changed_same f g i [] h = refl
 changed_same f g zero (x ∷ xs) h = ap (λ y. y ∷ xs) (h x refl)
 changed_same f g (suc i) (x ∷ xs) h = ap (λ ys. x ∷ ys) (changed_same f g i xs h)
