@@ -1,5 +1,5 @@
 // What is called at a close in each issue.
-ghost use Rattle.std.specs.Prelude.{◌≡◌, [], ◌+◌, ◌^◌, ◌<◌, if◌then◌else◌, IfOk, OnErr, OnOk, IsSome, Some, option_map, true};
+ghost use Rattle.std.specs.Prelude.{◌≡◌, [], ◌+◌, ◌^◌, ◌<◌, if◌then◌else◌, IfOk, OnErr, OnOk, IsSome, ◌↔◌, is_some, None, Some, option_map, true};
 ghost use Rattle.std.specs.Cmp.Lexicographic.{slice_cmp};
 ghost use Rattle.std.specs.FinMap.{is_sorted};
 ghost use Rattle.std.specs.List.{AllByRecursion};
@@ -82,12 +82,28 @@ impl<A: Allocator + Drop + Clone> Calls<A> {
         Ok(())
     }
 
-    /// Calls for so many shares more in an issue: what remains of a notice. Together they have to fit 64 bits.
+    /// Whether nothing is called in any issue. It takes no memory.
+    pub fn is_empty(&self) -> bool
+        ensures { (result ≡ true) ↔ (self.now ≡ []) }
+    {
+        self.issues.is_empty()
+    }
+
+    /// Whether anything is called in an issue. It takes no memory.
+    pub fn is_called(&self, issue: Cusip) -> bool
+        ensures { result ≡ is_some (called_in self.now issue) }
+    {
+        self.issues.contains_key(&issue)
+    }
+
+    /// Calls for so many shares more in an issue: what remains of a notice. Together they have to fit 64 bits. Only the
+    /// first call in an issue asks for memory.
     ///
     /// `NoMemory` where a growth or the copy of the allocator was refused, and then nothing changes.
     pub fn call(&mut self, issue: Cusip, shares: u64) -> Result<(), NoMemory>
         requires fits { total_in self.old issue + shares < 2 ^ 64 }
         ensures ok { OnOk result ((c : Cusip) → called_in self.new c ≡ (if same_issue issue c then Some (record { total = total_in self.old issue + shares; shorts = shorts_in self.old issue }) else called_in self.old c)) }
+        ensures first { OnErr result (called_in self.old issue ≡ None) }
         ensures err { OnErr result (self.new ≡ self.old) }
     {
         if let Some(called) = self.issues.get_mut(&issue) {

@@ -5,16 +5,13 @@ ghost use Rattle.cns_units.specs.declared.cusip.Cusip.{Cusip};
 ghost use Rattle.cns_retransmit.specs.Calls.{called_in, CanBeChosen};
 ghost use Rattle.cns_retransmit.specs.Days.{RiseByIssue};
 
-use crate::{Batch, Batches, Calls, Short};
+use crate::calls_tests::{APPLE, CISCO, exhaust, several};
+use crate::{Batch, Batches, Calls, Fill, Short, Shorts};
 use cns_terms::NoMemory;
-use cns_units::{Cusip, Member};
+use cns_units::{Cusip, Member, Money, Shares};
 use linked_list_allocator::LocalHeap;
 use std::alloc::{Allocator, Global};
 use std::test::Fail;
-
-const CISCO: &[u8] = b"17275R102";
-
-const APPLE: &[u8] = b"037833100";
 
 fn short(member: u16, shares: u32) -> Result<Short, Fail>
     ensures { IfOk result (λ s. s.shares < 2 ^ 63) }
@@ -93,5 +90,164 @@ fn is_kept(bytes: usize, alloc: Global) -> Result<bool, Fail> {
 fn a_day_is_refused_only_where_memory_is_short(rt: HostRuntime) -> Result<(), Fail> {
     assert!(rt; !is_kept(64, rt.alloc())?);
     assert!(rt; is_kept(65_536, rt.alloc())?);
+    Ok(())
+}
+
+// Everybody is short more than it is liable for.
+struct Many;
+
+impl Shorts for Many {
+    ghost short_now = { λ s a. 1000000 };
+
+    fn short(&self, _member: Member) -> i64 {
+        1_000_000
+    }
+}
+
+// Two days with the same batches: 60 and 50 shares in one issue, 40 and 30 in another.
+fn two_days(alloc: Global) -> Result<Batches<Global>, Fail> {
+    let mut batches = Batches::new(alloc);
+    batches.keep(several(alloc, 61, 31)?.choose()?)?;
+    batches.keep(several(alloc, 61, 31)?.choose()?)?;
+    Ok(batches)
+}
+
+// Executes so many shares against the batch of a day in an issue, at a cent each, and charges the fills.
+fn execute(batches: &mut Batches<Global>, day: u64, issue: Cusip, shares: u64) -> Result<(), Fail> {
+    let money = Money::new(shares)?;
+    let shares = Shares::new(shares)?;
+    let Some(batch) = batches.find(day, issue) else {
+        return Err(Fail::new("nobody is liable"));
+    };
+    if shares.value() > batch.room(&Many) {
+        return Err(Fail::new("there is no room"));
+    }
+    let fills = batch.fill(&Many, shares, money)?;
+    batches.charge(day, issue, fills.as_slice());
+    Ok(())
+}
+
+// Charges the first member of the batch of a day in an issue so many shares, whatever is left of its liability; where
+// there is no such batch, a member of none.
+fn charge_first(
+    batches: &mut Batches<Global>,
+    day: u64,
+    issue: Cusip,
+    shares: u64,
+) -> Result<(), Fail> {
+    let mut fill = Fill {
+        member: Member::new(7)?,
+        shares,
+        cents: 0,
+    };
+    if let Some(batch) = batches.find(day, issue) {
+        if batch.members().is_empty() {
+            return Err(Fail::new("nobody is liable"));
+        }
+        fill.member = batch.members()[0].member;
+    }
+    batches.charge(day, issue, &[fill]);
+    Ok(())
+}
+
+// What is left of the liabilities of members 7 and 8 on a day in an issue.
+fn left(batches: &Batches<Global>, day: u64, issue: Cusip) -> Result<[i64; 2], Fail> {
+    let Some(batch) = batches.find(day, issue) else {
+        return Err(Fail::new("nobody is liable"));
+    };
+    Ok([batch.liable(Member::new(7)?), batch.liable(Member::new(8)?)])
+}
+
+#[test]
+fn an_execution_is_charged_to_the_batch_of_its_day_and_issue_alone(
+    rt: HostRuntime,
+) -> Result<(), Fail> {
+    let (apple, cisco) = (Cusip::parse(APPLE)?, Cusip::parse(CISCO)?);
+    let mut batches = two_days(rt.alloc())?;
+    let steps: [(u64, Cusip, u64, [[i64; 2]; 4]); 5] = [
+        (1, apple, 20, [[40, 50], [40, 30], [60, 50], [40, 30]]),
+        (2, cisco, 35, [[40, 50], [40, 30], [60, 50], [35, 0]]),
+        (1, cisco, 30, [[40, 50], [40, 0], [60, 50], [35, 0]]),
+        (1, apple, 90, [[0, 0], [40, 0], [60, 50], [35, 0]]),
+        (2, apple, 61, [[0, 0], [40, 0], [0, 49], [35, 0]]),
+    ];
+    for (day, issue, shares, expected) in steps {
+        execute(&mut batches, day, issue, shares)?;
+        assert_eq!(rt; left(&batches, 1, apple)?, expected[0]);
+        assert_eq!(rt; left(&batches, 1, cisco)?, expected[1]);
+        assert_eq!(rt; left(&batches, 2, apple)?, expected[2]);
+        assert_eq!(rt; left(&batches, 2, cisco)?, expected[3]);
+    }
+    Ok(())
+}
+
+#[test]
+fn nothing_is_left_where_more_is_charged(rt: HostRuntime) -> Result<(), Fail> {
+    let (apple, cisco) = (Cusip::parse(APPLE)?, Cusip::parse(CISCO)?);
+    let mut batches = two_days(rt.alloc())?;
+    charge_first(&mut batches, 1, apple, 61)?;
+    charge_first(&mut batches, 2, cisco, u64::MAX)?;
+    for _again in 0..2 {
+        assert_eq!(rt; left(&batches, 1, apple)?, [0, 50]);
+        assert_eq!(rt; left(&batches, 1, cisco)?, [40, 30]);
+        assert_eq!(rt; left(&batches, 2, apple)?, [60, 50]);
+        assert_eq!(rt; left(&batches, 2, cisco)?, [40, 0]);
+        // A day that is not closed, no day, and an issue in which nobody is liable.
+        charge_first(&mut batches, 3, apple, 10)?;
+        charge_first(&mut batches, 0, apple, 10)?;
+        charge_first(&mut batches, 1, Cusip::parse(b"594918104")?, 10)?;
+        // Nothing was left.
+        charge_first(&mut batches, 1, apple, 1)?;
+    }
+    Ok(())
+}
+
+// How many of the first days have a batch in an issue, one after another.
+fn days_with(batches: &Batches<&LocalHeap>, issue: Cusip) -> u64 {
+    for day in 1..=100 {
+        if batches.find(day, issue).is_none() {
+            return day - 1;
+        }
+    }
+    100
+}
+
+// Keeps days until one is refused memory, and answers how many were kept. The batches are chosen on another heap.
+fn keep_until_refused<'a>(
+    batches: &mut Batches<&'a LocalHeap>,
+    issue: Cusip,
+    chosen: &'a LocalHeap,
+) -> Result<u64, Fail> {
+    for kept in 0..20 {
+        let used = chosen.used();
+        if batches
+            .keep(day(chosen, issue, 10, short(7, 60)?)?)
+            .is_err()
+        {
+            if chosen.used() != used {
+                return Err(Fail::new("memory is not given back"));
+            }
+            return Ok(kept);
+        }
+    }
+    Err(Fail::new("no day is refused memory"))
+}
+
+#[test]
+fn a_day_that_is_refused_memory_is_not_kept(rt: HostRuntime) -> Result<(), Fail> {
+    let days = LocalHeap::new(rt.alloc(), 16_384)?;
+    let chosen = LocalHeap::new(rt.alloc(), 65_536)?;
+    let cisco = Cusip::parse(CISCO)?;
+    let mut batches = Batches::new(&days);
+    let mut kept: u64 = 0;
+    for _time in 0..3 {
+        let ballast = exhaust(&days, rt.alloc())?;
+        kept = kept.saturating_add(keep_until_refused(&mut batches, cisco, &chosen)?);
+        assert_eq!(rt; days_with(&batches, cisco), kept);
+        drop(ballast);
+        batches.keep(day(&chosen, cisco, 10, short(7, 60)?)?)?;
+        kept = kept.saturating_add(1);
+        assert_eq!(rt; days_with(&batches, cisco), kept);
+    }
     Ok(())
 }

@@ -24,6 +24,8 @@ pub use cns_terms::{Fill, Liable, Short};
 pub use filling::Shorts;
 
 #[cfg(test)]
+mod calls_tests;
+#[cfg(test)]
 mod day_tests;
 #[cfg(test)]
 mod tests;
