@@ -1,23 +1,21 @@
 -- Splits and exchanges.
-use Rattle.std.proofs.Common.{◌≡◌, ◌∙◌, sym, ap, subst, refl, ℕ, ◌+◌, ◌*◌, ◌≤◌, ℤ, pos, Bool, true, false, not, ◌||◌, ◌==◌, cond, List, [], ◌∷◌, ◌++◌, Option, Some, None, arith}
-use Rattle.std.specs.Prelude.{bytes_eq, is_none, is_some, unsigned_abs, IfOk, IsSome, Result, Ok, Err}
-use Rattle.std.specs.List.{AllByRecursion, list_any}
+use Rattle.std.proofs.Common.{◌≡◌, ◌∙◌, sym, ap, subst, refl, ℕ, ◌*◌, ◌≤◌, ℤ, Bool, true, false, ◌||◌, ◌==◌, cond, List, ◌∷◌, map, Option, Some, None, arith}
+use Rattle.std.specs.Prelude.{bytes_eq, is_none, is_some, IfOk, IsSome, Result, Ok, Err}
+use Rattle.std.specs.List.{AllByRecursion}
 use Rattle.std.proofs.lemmas.Bool.Decides.{nat_tests}
 use Rattle.cns_units.specs.declared.account.Account.{Account}
 use Rattle.cns_units.specs.declared.cusip.Cusip.{Cusip}
 use Rattle.cns_terms.specs.declared.action.Exchange.{Exchange}
+use Rattle.cns_terms.specs.declared.action.Split.{Split}
 use Rattle.cns_terms.specs.declared.command.Activity.{Activity}
 use Rattle.cns_terms.specs.declared.command.Activity.TheVariants as activity
 use Rattle.cns_terms.specs.declared.command.Command.TheVariants as command
-use Rattle.cns_terms.specs.declared.holding.Holding.{Holding}
 use Rattle.cns_terms.specs.declared.holding.Key.{Key}
-use Rattle.cns_terms.specs.declared.refusal.Refusal.{Refusal}
 use Rattle.cns_terms.specs.Actions.{AreHolders}
-use Rattle.cns_terms.specs.Entries.{entries, exchange_entries, journal, split_entries}
+use Rattle.cns_terms.specs.Entries.{entries, exchange_entries, journal, posting, split_entries}
 use Rattle.cns_terms.specs.Limits.{amount_limit, booking_limit, history_limit, member_limit}
-use Rattle.cns_terms.specs.Listings.{account_lt, added, is_account, members}
+use Rattle.cns_terms.specs.Listings.{account_lt, members}
 use Rattle.cns_terms.specs.Positions.{position}
-use Rattle.cns_terms.specs.Postings.{Journal, activities}
 use Rattle.cns_terms.specs.Reached.{IsInRange}
 use Rattle.cns_terms.specs.Refusals.{Rule, are_too_large, first_refusal, is_too_large, refusal}
 use Rattle.cns_terms.proofs.Elsewhere.{no_account_elsewhere, no_position}
@@ -25,6 +23,8 @@ use Rattle.cns_terms.proofs.Everywhere.{each_both, each_in_order}
 use Rattle.cns_terms.proofs.Facts.{and_right}
 use Rattle.cns_terms.proofs.Reached.{IsLimited, limited, members_from_one}
 use Rattle.cns_terms.proofs.Sound.{all_fail}
+use Rattle.cns_notices.specs.Noticed.{ended}
+use Rattle.cns_notices.proofs.Noticing.{changed_each, ended_by}
 use Rattle.cns_positions.specs.Rows.{Rows, books, holding_at}
 use Rattle.cns_prices.specs.Listed.{Listed, price_in, retired_in}
 use Rattle.cns_actions.specs.Booked.{CanBeBooked, entries_of, issue_of, position_at, positions_in}
@@ -33,8 +33,8 @@ use Rattle.cns_actions.specs.declared.action.Action.TheVariants as action
 use Rattle.cns_actions.proofs.Members.{rising_distinct}
 use Rattle.cns_book.specs.Contents.{Contents}
 use Rattle.cns_book.specs.Effects.{activity_of}
-use Rattle.cns_book.specs.Follows.{Follows, HasRoom}
-use Rattle.cns_book.proofs.Staying.{clock_stays, dividends_stay, rows_booked, sheets_stay}
+use Rattle.cns_book.specs.Follows.{Follows, FollowsNotices, HasRoom}
+use Rattle.cns_book.proofs.Staying.{batches_stay, clock_stays, dividends_stay, rows_booked, sheets_stay}
 use Rattle.cns_book.proofs.Within.{member_within, rows_within}
 
 -- ---- what can be booked
@@ -121,7 +121,7 @@ price_there false p o e h = cc
 pub exchanged : (L : List Activity) (s : Contents) (x : Exchange) (prices : Listed) (rows : Rows) → Follows L s → IsInRange (activity.Exchange x) → refusal s.opening (journal s.opening L) (command.Activity (activity.Exchange x)) ≡ None
     → ((c : Cusip) → price_in prices c ≡ price_in s.prices c) → ((c : Cusip) → retired_in prices c ≡ (bytes_eq x.old c || retired_in s.prices c))
     → ((k : Key) → holding_at rows k ≡ books (entries s.opening (journal s.opening L) (activity.Exchange x)) k (holding_at s.rows k))
-    → Follows (activity.Exchange x ∷ L) (record s { prices = prices; rows = rows })
+    → Follows (activity.Exchange x ∷ L) (record s { prices = prices; rows = rows; notices = map (ended x.old) s.notices })
 exchanged L s x prices rows f range none p r b =
     let J = journal s.opening L in
     let c = clock_stays s J (activity.Exchange x) refl f.clock in
@@ -137,4 +137,12 @@ exchanged L s x prices rows f range none p r b =
       dividends = dividends_stay s J (activity.Exchange x) refl f.dividends;
       rows = rows_booked s J (activity.Exchange x) rows refl b f.rows;
       sheets = sheets_stay s J (activity.Exchange x) refl f.sheets;
+      notices = ap (map (ended x.old)) f.notices ∙ sym (changed_each J (posting s.opening J (activity.Exchange x)) (ended x.old) (λ k y. ended_by x.old y));
+      batches = batches_stay s J (activity.Exchange x) refl refl f.batches;
     }
+
+-- the notices after a split
+pub split_ends : {s : Contents} (L : List Activity) (x : Split) → Follows L s → FollowsNotices (journal s.opening (activity.Split x ∷ L)) (record s { notices = map (ended x.issue) s.notices })
+split_ends {s} L x f =
+    let J = journal s.opening L in
+    ap (map (ended x.issue)) f.notices ∙ sym (changed_each J (posting s.opening J (activity.Split x)) (ended x.issue) (λ k y. ended_by x.issue y))

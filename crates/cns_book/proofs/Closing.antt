@@ -1,5 +1,5 @@
 -- The close of a day.
-use Rattle.std.proofs.Common.{◌≡◌, ◌∙◌, sym, ap, subst, refl, ℕ, suc, ◌+◌, ◌-◌, ◌^◌, ◌≤◌, ◌<◌, min, ℤ, pos, Bool, true, false, cond, List, [], ◌∷◌, length, map, None, arith}
+use Rattle.std.proofs.Common.{◌≡◌, ◌∙◌, sym, ap, subst, refl, ℕ, suc, ◌+◌, ◌-◌, ◌^◌, ◌≤◌, ◌<◌, min, ℤ, pos, Bool, true, false, cond, List, [], ◌∷◌, ◌++◌, length, map, None, arith}
 use Rattle.std.specs.Prelude.{int_le, int_lt}
 use Rattle.std.specs.List.{AllByRecursion, prefix_len}
 use Rattle.std.specs.Ordering.{int_cmp, is_le}
@@ -10,8 +10,10 @@ use Rattle.cns_terms.specs.declared.command.Activity.{Activity}
 use Rattle.cns_terms.specs.declared.command.Activity.TheVariants as activity
 use Rattle.cns_terms.specs.declared.command.Command.TheVariants as command
 use Rattle.cns_terms.specs.declared.holding.Key.{Key}
-use Rattle.cns_terms.specs.Days.{closes, closings, date}
+use Rattle.cns_terms.specs.Days.{closes, closings, date, day}
+use Rattle.cns_terms.specs.Batches.{Liables}
 use Rattle.cns_terms.specs.Entries.{journal, posting}
+use Rattle.cns_terms.specs.Fills.{batches_since}
 use Rattle.cns_terms.specs.Limits.{history_limit}
 use Rattle.cns_terms.specs.Machine.{holding}
 use Rattle.cns_terms.specs.Positions.{position}
@@ -21,10 +23,13 @@ use Rattle.cns_terms.specs.Sheets.{DaySheet, day_sheet}
 use Rattle.cns_terms.proofs.Facts.{journal_len, zero_add}
 use Rattle.cns_terms.proofs.Reached.{limited}
 use Rattle.cns_terms.proofs.Sound.{IsWhole}
+use Rattle.cns_notices.specs.Noticed.{expired}
+use Rattle.cns_notices.proofs.Noticing.{changed_each, expired_by}
 use Rattle.cns_positions.specs.Rows.{Rows, holding_at, rolled}
 use Rattle.cns_book.specs.Contents.{Contents}
 use Rattle.cns_book.specs.Dated.{IsAfter}
 use Rattle.cns_book.specs.Follows.{Follows, HasRoom}
+use Rattle.cns_book.proofs.Batching.{batches_more}
 use Rattle.cns_book.proofs.Lengths.{closes_le}
 use Rattle.cns_book.proofs.Staying.{listings_stay}
 
@@ -32,7 +37,8 @@ use Rattle.cns_book.proofs.Staying.{listings_stay}
 pub whole_reached : {s : Contents} (L : List Activity) → Follows L s → IsWhole s.opening (journal s.opening L)
 whole_reached {s} L f = (limited s.opening L f.reached).whole
 
-prefix_le : {X : Type 0} (p : X → Bool) (xs : List X) → prefix_len p xs ≤ length xs
+-- a run is no longer than the list
+pub prefix_le : {X : Type 0} (p : X → Bool) (xs : List X) → prefix_len p xs ≤ length xs
 prefix_le p [] = omega arith
 prefix_le p (x ∷ xs) = elim (p x) as (λ b. cond b (1 + prefix_len p xs) 0 ≤ suc (length xs)) [ true ↦ omega (arith, prefix_le p xs) | false ↦ omega arith ]
 
@@ -66,10 +72,11 @@ closes_fit s r =
     omega (arith, same, closes_le J, journal_len s.opening r.activities, few)
 
 -- a close that is not refused
-pub day_closed : (L : List Activity) (s : Contents) (d : Day) (rows : Rows) (sheet : DaySheet) → Follows L s → s.closes + 1 < history_limit → refusal s.opening (journal s.opening L) (command.Activity (activity.Close d)) ≡ None
+pub day_closed : (L : List Activity) (s : Contents) (d : Day) (rows : Rows) (sheet : DaySheet) (chosen : List Liables) → Follows L s → s.closes + 1 < history_limit → refusal s.opening (journal s.opening L) (command.Activity (activity.Close d)) ≡ None
     → ((k : Key) → holding_at rows k ≡ rolled (holding_at s.rows k)) → sheet ≡ day_sheet s.opening (journal s.opening L)
-    → Follows (activity.Close d ∷ L) (record s { today = d; closes = s.closes + 1; rows = rows; sheets = sheet ∷ s.sheets })
-day_closed L s d rows sheet f few none h is =
+    → chosen ≡ batches_since (journal s.opening L) (journal s.opening L)
+    → Follows (activity.Close d ∷ L) (record s { today = d; closes = s.closes + 1; rows = rows; sheets = sheet ∷ s.sheets; notices = map (expired (s.closes + 1)) s.notices; batches = s.batches ++ chosen ∷ [] })
+day_closed L s d rows sheet chosen f few none h is liable =
     let J = journal s.opening L in
     let l = listings_stay s J (activity.Close d) refl f.listings in
     record {
@@ -80,6 +87,10 @@ day_closed L s d rows sheet f few none h is =
       dividends = f.dividends;
       rows = λ k. h k ∙ ap rolled (f.rows k) ∙ holding_close s.opening J d k (subst (λ n. n + 1 < history_limit) f.clock.closes few);
       sheets = λ i. is i ∷ f.sheets i;
+      notices =
+          (λ i. map (expired (f.clock.closes i + 1)) (f.notices i))
+          ∙ sym (changed_each J (posting s.opening J (activity.Close d)) (expired (day J)) (λ k y. expired_by (day J) y));
+      batches = (λ i. f.batches i ++ liable i ∷ []) ∙ sym (batches_more s.opening J d);
     }
 
 -- a comparison in the words of the definitions

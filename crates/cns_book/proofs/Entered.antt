@@ -5,13 +5,16 @@ use Rattle.cns_units.specs.declared.cusip.Cusip.{Cusip}
 use Rattle.cns_terms.specs.Postings.{activities}
 use Rattle.cns_terms.specs.Listings.{priced}
 use Rattle.std.proofs.lemmas.Slice.Eq.{bytes_eq-Decides}
+use Rattle.cns_terms.specs.declared.action.Declared.{Declared}
 use Rattle.cns_terms.specs.declared.command.Activity.{Activity}
 use Rattle.cns_terms.specs.declared.command.Activity.TheVariants as activity
 use Rattle.cns_terms.specs.declared.command.Command.TheVariants as command
 use Rattle.cns_terms.specs.declared.command.Listing.{Listing}
 use Rattle.cns_terms.proofs.Everywhere.{any_put}
+use Rattle.cns_terms.specs.Dividends.{pays_before}
+use Rattle.cns_terms.specs.Sums.{put}
 use Rattle.cns_terms.specs.Entries.{entries, journal}
-use Rattle.cns_terms.specs.Limits.{member_limit}
+use Rattle.cns_terms.specs.Limits.{member_limit, rate_limit}
 use Rattle.cns_terms.specs.Reached.{IsInRange}
 use Rattle.cns_terms.specs.Refusals.{refusal}
 use Rattle.cns_terms.specs.Days.{is_close}
@@ -21,13 +24,13 @@ use Rattle.cns_prices.specs.Listed.{Listed, price_in, retired_in}
 use Rattle.cns_book.specs.Contents.{Contents}
 use Rattle.cns_book.specs.Follows.{Follows, FollowsListings, FollowsReferences}
 use Rattle.cns_book.specs.Members.{has_member}
-use Rattle.cns_book.proofs.Staying.{clock_stays, dividends_stay, is_dividend, rows_stay, sheets_stay}
+use Rattle.cns_book.proofs.Staying.{batches_stay, clock_stays, dividends_stay, is_dividend, is_execution, is_noticing, listings_stay, notices_stay, rows_stay, sheets_stay}
 
 module _ (L : List Activity) (s : Contents) where
   -- an activity that books nothing and closes no day, where the listings follow it
-  entered : (x : Activity) (members : List Bool) (prices : Listed) → Follows L s → IsInRange x → refusal s.opening (journal s.opening L) (command.Activity x) ≡ None → is_close x ≡ false → is_dividend x ≡ false → entries s.opening (journal s.opening L) x ≡ []
+  entered : (x : Activity) (members : List Bool) (prices : Listed) → Follows L s → IsInRange x → refusal s.opening (journal s.opening L) (command.Activity x) ≡ None → is_close x ≡ false → is_dividend x ≡ false → is_noticing x ≡ false → is_execution x ≡ false → entries s.opening (journal s.opening L) x ≡ []
       → FollowsReferences (journal s.opening (x ∷ L)) s → FollowsListings (journal s.opening (x ∷ L)) (record s { members = members; prices = prices }) → Follows (x ∷ L) (record s { members = members; prices = prices })
-  entered x members prices f range none still undeclared books references listings =
+  entered x members prices f range none still undeclared unnoticed unexecuted books references listings =
       let J = journal s.opening L in
       let c = clock_stays s J x still f.clock in
       record {
@@ -38,15 +41,37 @@ module _ (L : List Activity) (s : Contents) where
         dividends = dividends_stay s J x undeclared f.dividends;
         rows = rows_stay s J x still books f.rows;
         sheets = sheets_stay s J x still f.sheets;
+        notices = notices_stay s J x unnoticed f.notices;
+        batches = batches_stay s J x still unexecuted f.batches;
       }
 
   -- a member more
   pub member_added : (m : ℕ) (new : List Bool) → Follows L s → m ≤ member_limit → refusal s.opening (journal s.opening L) (command.Activity (activity.Member m)) ≡ None → ((a : ℕ) → has_member new a ≡ (eqb m a || has_member s.members a)) → Follows (activity.Member m ∷ L) (record s { members = new })
-  member_added m new f range none h = entered (activity.Member m) new s.prices f range none refl refl refl f.references (record {
+  member_added m new f range none h = entered (activity.Member m) new s.prices f range none refl refl refl refl refl f.references (record {
     members = λ a. h a ∙ (λ i. eqb_sym m a i || f.listings.members a i) ∙ sym (any_put (λ b. eqb a b) account_lt m (members (journal s.opening L)));
     prices = f.listings.prices;
     retired = f.listings.retired;
   })
+
+-- a dividend more
+pub dividend_declared : (L : List Activity) (s : Contents) (d : Declared) (new : List Declared) → Follows L s → d.rate ≤ rate_limit → refusal s.opening (journal s.opening L) (command.Activity (activity.Dividend d)) ≡ None → new ≡ put pays_before d s.dividends
+    → Follows (activity.Dividend d ∷ L) (record s { dividends = new })
+dividend_declared L s d new f range none is =
+    let J = journal s.opening L in
+    let x : Activity = activity.Dividend d in
+    let c = clock_stays s J x refl f.clock in
+    let l = listings_stay s J x refl f.listings in
+    record {
+      reached = (range, none, f.reached);
+      clock = record { today = c.today; closes = c.closes };
+      listings = record { members = l.members; prices = l.prices; retired = l.retired };
+      references = f.references;
+      dividends = is ∙ ap (put pays_before d) f.dividends;
+      rows = rows_stay s J x refl refl f.rows;
+      sheets = sheets_stay s J x refl f.sheets;
+      notices = notices_stay s J x refl f.notices;
+      batches = batches_stay s J x refl refl f.batches;
+    }
 
 listed_branch : (b t : Bool) (p q : ℕ) → cond t (Some p) (cond b (Some q) None) ≡ cond (t || b) (Some (cond t p q)) None
 listed_branch b true p q = refl
@@ -55,7 +80,7 @@ listed_branch b false p q = refl
 -- an issue more
 pub issue_listed : (L : List Activity) (s : Contents) (l : Listing) (new : Listed) → Follows L s → refusal s.opening (journal s.opening L) (command.Activity (activity.Issue l)) ≡ None → ((c : Cusip) → price_in new c ≡ cond (bytes_eq l.issue c) (Some l.price) (price_in s.prices c))
     → ((c : Cusip) → retired_in new c ≡ retired_in s.prices c) → Follows (activity.Issue l ∷ L) (record s { prices = new })
-issue_listed L s l new f none h r = entered L s (activity.Issue l) s.members new f tt none refl refl refl f.references (record {
+issue_listed L s l new f none h r = entered L s (activity.Issue l) s.members new f tt none refl refl refl refl refl f.references (record {
   members = f.listings.members;
   prices = λ c.
       let J = journal s.opening L in
@@ -82,7 +107,7 @@ set_branch false false p q h = refl
 -- a price set anew
 pub price_set : (L : List Activity) (s : Contents) (l : Listing) (new : Listed) → Follows L s → refusal s.opening (journal s.opening L) (command.Activity (activity.Price l)) ≡ None → is_listed (journal s.opening L) l.issue ≡ true → ((c : Cusip) → price_in new c ≡ cond (bytes_eq l.issue c) (Some l.price) (price_in s.prices c))
     → ((c : Cusip) → retired_in new c ≡ retired_in s.prices c) → Follows (activity.Price l ∷ L) (record s { prices = new })
-price_set L s l new f none there h r = entered L s (activity.Price l) s.members new f tt none refl refl refl f.references (record {
+price_set L s l new f none there h r = entered L s (activity.Price l) s.members new f tt none refl refl refl refl refl f.references (record {
   members = f.listings.members;
   prices = λ c.
       let J = journal s.opening L in

@@ -1,18 +1,15 @@
 -- What a close pays by the sheets of the record dates is what the definitions say.
-use Rattle.std.proofs.Common.{◌≡◌, ◌≢◌, ◌∙◌, sym, ap, subst, refl, ℕ, ◌+◌, ◌≤◌, ℤ, pos, ◌+ℤ◌, neg_ℤ, Bool, true, false, not, ◌&&◌, ◌||◌, ◌==◌, cond, eqb, List, [], ◌∷◌, map, filter, find, Option, Some, None, unwrap_or, arith}
+use Rattle.std.proofs.Common.{◌≡◌, ◌∙◌, sym, ap, refl, ℕ, ◌≤◌, ℤ, pos, ◌+ℤ◌, neg_ℤ, Bool, true, false, not, ◌&&◌, ◌||◌, ◌==◌, cond, List, [], ◌∷◌, map, filter, find, Option, Some, None, unwrap_or, arith}
 use Rattle.std.specs.Prelude.{bytes_eq, filter_map, option_map}
 use Rattle.std.specs.FinMap.{is_sorted}
 use Rattle.std.specs.FinMap as finmap
 use Rattle.std.specs.List.{AllByRecursion, cons_option, list_any}
 use Rattle.std.specs.Option.{option_map_or}
-use Rattle.std.specs.Ordering.{nat_cmp}
-use Rattle.std.proofs.lemmas.Bool.Decides.{nat_tests}
 use Rattle.std.proofs.lemmas.Int.{ints}
 use Rattle.std.proofs.lemmas.Slice.Eq.{bytes_eq-Decides}
 use Rattle.cns_units.specs.declared.account.Account.{Account}
 use Rattle.cns_units.specs.declared.cusip.Cusip.{Cusip}
 use Rattle.cns_units.specs.declared.day.Day.{Day}
-use Rattle.cns_units.specs.declared.rate.Rate.{Rate}
 use Rattle.cns_terms.specs.declared.action.Declared.{Declared}
 use Rattle.cns_terms.specs.declared.holding.Key.{Key}
 use Rattle.cns_terms.specs.declared.sheet.Row.{Row}
@@ -26,13 +23,13 @@ use Rattle.cns_terms.specs.Postings.{Journal}
 use Rattle.cns_terms.specs.Sheets.{DaySheet, day_sheet, is_idle, row, sheet_rows}
 use Rattle.cns_terms.specs.Sums.{in_order, same_issue, total}
 use Rattle.cns_terms.proofs.Accounts.{occurs, occurs_found, occurs_missing}
-use Rattle.cns_terms.proofs.Cells.{cells, cells_of, find_cells, key, sorted_cells}
+use Rattle.cns_terms.proofs.Cells.{cells, find_cells, sorted_cells}
 use Rattle.cns_terms.proofs.Elsewhere.{idle_at, no_account_elsewhere, no_position}
 use Rattle.cns_terms.proofs.Facts.{and_right}
-use Rattle.cns_terms.proofs.Finds.{find_filter, kept_if, same_lists, sorted_filter}
+use Rattle.cns_terms.proofs.Finds.{find_filter, kept_if, same_lists}
 use Rattle.cns_terms.proofs.Keys.{exact_keys, keys_total}
 use Rattle.cns_terms.proofs.Paid.{no_cash}
-use Rattle.cns_terms.proofs.SheetLimits.{AreAmong, total-due}
+use Rattle.cns_terms.proofs.SheetLimits.{total-due}
 use Rattle.cns_terms.proofs.SheetRows.{says}
 use Rattle.cns_terms.proofs.SheetSums.{idle_parts}
 use Rattle.cns_terms.proofs.Sound.{IsSound}

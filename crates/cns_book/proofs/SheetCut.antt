@@ -21,7 +21,6 @@ use Rattle.cns_terms.specs.Entries.{journal}
 use Rattle.cns_terms.specs.Keys.{key_cmp}
 use Rattle.cns_terms.specs.Limits.{amount_limit, booking_limit, history_limit, rate_limit}
 use Rattle.cns_terms.specs.Listings.{accounts, is_listed, issues, price}
-use Rattle.cns_terms.specs.Machine.{holding}
 use Rattle.cns_terms.specs.Positions.{money, position}
 use Rattle.cns_terms.specs.Postings.{Journal}
 use Rattle.cns_terms.specs.Sheets.{DaySheet, day_sheet, row, rows_for, sheet_prices, sheet_rows}
@@ -170,11 +169,11 @@ can_be_cut L s f room order =
       shares = λ c.
           same_by_issue (λ h. h.now) (λ r. r.closing) s.rows shown c order (shown_rise s.opening J w.now)
           (λ k. held_number (λ h. h.now) (find key_cmp k s.rows) refl ∙ ap (λ (h : Holding). h.now) (f.rows k) ∙ sym (closing_found s.opening J k w.now))
-          ∙ closings_zero s.opening J c w.now;
+          ∙ closings_zero s.opening J c l;
       cents = λ c.
           same_by_issue (λ h. h.contract) (λ r. r.money) s.rows shown c order (shown_rise s.opening J w.now)
           (λ k. held_number (λ h. h.contract) (find key_cmp k s.rows) refl ∙ ap (λ (h : Holding). h.contract) (f.rows k) ∙ sym (money_found s.opening J k w.now))
-          ∙ moneys_zero s.opening J c w.now;
+          ∙ moneys_zero s.opening J c l;
       openings = λ k. ap (λ (h : Holding). h.opening) (f.rows k) ∙ opening_is s.opening (closings J) k w.past ∙ ap (λ ss. closing_at (rows_before (slice_get ss 0)) k) (sym f.sheets);
       small = each_row (λ h. unsigned_abs h.contract ≤ amount_limit) s.rows (omega arith) order (λ k. cents_within _ (cents_few L s k f room));
       few = λ cut is a. subst (λ rs. length (rows_for rs a) ≤ history_limit) (sym (cut_is L s f cut is)) (few _ (length L) (omega (arith, rows_few s.opening J a w.now, issues_few J, journal_len s.opening L)) room);

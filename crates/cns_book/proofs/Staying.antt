@@ -1,16 +1,20 @@
 -- What an activity leaves: of each group of parts, which activities change it.
-use Rattle.std.proofs.Common.{◌≡◌, ◌∙◌, sym, ap, Bool, true, false, [], ◌∷◌, is_some}
+use Rattle.std.proofs.Common.{◌≡◌, ◌∙◌, sym, ap, refl, Bool, true, false, cond, [], ◌∷◌, is_some, map, reverse}
 use Rattle.cns_terms.specs.declared.command.Activity.{Activity}
 use Rattle.cns_terms.specs.declared.command.Activity.TheVariants as activity
 use Rattle.cns_terms.specs.declared.holding.Key.{Key}
-use Rattle.cns_terms.specs.Days.{is_close}
+use Rattle.cns_terms.specs.Days.{closings, is_close}
 use Rattle.cns_terms.specs.Dividends.{declared}
 use Rattle.cns_terms.specs.Entries.{entries, posting}
+use Rattle.cns_terms.specs.Fills.{batches_since}
 use Rattle.cns_terms.specs.Machine.{holding}
-use Rattle.cns_terms.specs.Postings.{Journal}
+use Rattle.cns_terms.specs.Notices.{executed}
+use Rattle.cns_terms.specs.Postings.{Journal, Posting}
+use Rattle.cns_notices.proofs.Noticing.{untouched_by}
 use Rattle.cns_positions.specs.Rows.{Rows, books, holding_at}
 use Rattle.cns_book.specs.Contents.{Contents}
-use Rattle.cns_book.specs.Follows.{FollowsClock, FollowsDividends, FollowsListings, FollowsRows, FollowsSheets}
+use Rattle.cns_book.specs.Follows.{FollowsBatches, FollowsClock, FollowsDividends, FollowsListings, FollowsNotices, FollowsRows, FollowsSheets}
+use Rattle.cns_book.proofs.Batching.{batches_same, executes_none}
 use Rattle.cns_book.proofs.Places.{books_none, holding-post}
 
 -- whether an activity changes members, listed issues or retired ones
@@ -24,7 +28,30 @@ is_listing (activity.Receive m) = false
 is_listing (activity.Dividend d) = false
 is_listing (activity.Split s) = false
 is_listing (activity.Exchange x) = true
+is_listing (activity.Notice m) = false
+is_listing (activity.Withdraw k) = false
+is_listing (activity.Execute x) = false
 is_listing (activity.Close d) = false
+
+-- whether an activity gives notice or touches one
+abbrev pub is_noticing : Activity → Bool
+is_noticing (activity.Member m) = false
+is_noticing (activity.Issue l) = false
+is_noticing (activity.Trade t) = false
+is_noticing (activity.Price l) = false
+is_noticing (activity.Deliver m) = false
+is_noticing (activity.Receive m) = true
+is_noticing (activity.Dividend d) = false
+is_noticing (activity.Split s) = true
+is_noticing (activity.Exchange x) = true
+is_noticing (activity.Notice m) = true
+is_noticing (activity.Withdraw k) = true
+is_noticing (activity.Execute x) = true
+is_noticing (activity.Close d) = true
+
+-- whether an activity executes a notice
+abbrev pub is_execution : Activity → Bool
+is_execution x = is_some (executed x)
 
 -- whether an activity declares a dividend
 abbrev pub is_dividend : Activity → Bool
@@ -44,6 +71,9 @@ module _ (s : Contents) (J : Journal) where
   clock_stays (activity.Dividend d) h f = record { today = f.today; closes = f.closes }
   clock_stays (activity.Split p) h f = record { today = f.today; closes = f.closes }
   clock_stays (activity.Exchange x) h f = record { today = f.today; closes = f.closes }
+  clock_stays (activity.Notice m) h f = record { today = f.today; closes = f.closes }
+  clock_stays (activity.Withdraw k) h f = record { today = f.today; closes = f.closes }
+  clock_stays (activity.Execute x) h f = record { today = f.today; closes = f.closes }
   clock_stays (activity.Close d) h f = cc
 
   pub listings_stay : (x : Activity) → is_listing x ≡ false → FollowsListings J s → FollowsListings (after x) s
@@ -56,6 +86,9 @@ module _ (s : Contents) (J : Journal) where
   listings_stay (activity.Dividend d) h f = record { members = f.members; prices = f.prices; retired = f.retired }
   listings_stay (activity.Split p) h f = record { members = f.members; prices = f.prices; retired = f.retired }
   listings_stay (activity.Exchange x) h f = cc
+  listings_stay (activity.Notice m) h f = record { members = f.members; prices = f.prices; retired = f.retired }
+  listings_stay (activity.Withdraw k) h f = record { members = f.members; prices = f.prices; retired = f.retired }
+  listings_stay (activity.Execute x) h f = record { members = f.members; prices = f.prices; retired = f.retired }
   listings_stay (activity.Close d) h f = record { members = f.members; prices = f.prices; retired = f.retired }
 
   pub dividends_stay : (x : Activity) → is_dividend x ≡ false → FollowsDividends J s → FollowsDividends (after x) s
@@ -68,6 +101,9 @@ module _ (s : Contents) (J : Journal) where
   dividends_stay (activity.Dividend d) h f = cc
   dividends_stay (activity.Split p) h f = f
   dividends_stay (activity.Exchange x) h f = f
+  dividends_stay (activity.Notice m) h f = f
+  dividends_stay (activity.Withdraw k) h f = f
+  dividends_stay (activity.Execute x) h f = f
   dividends_stay (activity.Close d) h f = f
 
   pub sheets_stay : (x : Activity) → is_close x ≡ false → FollowsSheets J s → FollowsSheets (after x) s
@@ -80,6 +116,9 @@ module _ (s : Contents) (J : Journal) where
   sheets_stay (activity.Dividend d) h f = f
   sheets_stay (activity.Split p) h f = f
   sheets_stay (activity.Exchange x) h f = f
+  sheets_stay (activity.Notice m) h f = f
+  sheets_stay (activity.Withdraw k) h f = f
+  sheets_stay (activity.Execute x) h f = f
   sheets_stay (activity.Close d) h f = cc
 
   -- what an activity books, and no more, is the effect on the rows
@@ -90,3 +129,26 @@ module _ (s : Contents) (J : Journal) where
   pub rows_stay : (x : Activity) → is_close x ≡ false → entries s.opening J x ≡ [] → FollowsRows J s → FollowsRows (after x) s
   rows_stay x still none f k =
       f k ∙ sym (holding-post (posting s.opening J x) J k still ∙ ap (λ es. books es k (holding J k.account k.issue)) none ∙ books_none k (holding J k.account k.issue))
+
+  -- an activity that touches no notice leaves them
+  pub notices_stay : (x : Activity) → is_noticing x ≡ false → FollowsNotices J s → FollowsNotices (after x) s
+  notices_stay (activity.Member m) h f = f ∙ sym (untouched_by J (posting s.opening J (activity.Member m)) (λ k y. refl))
+  notices_stay (activity.Issue l) h f = f ∙ sym (untouched_by J (posting s.opening J (activity.Issue l)) (λ k y. refl))
+  notices_stay (activity.Trade t) h f = f ∙ sym (untouched_by J (posting s.opening J (activity.Trade t)) (λ k y. refl))
+  notices_stay (activity.Price l) h f = f ∙ sym (untouched_by J (posting s.opening J (activity.Price l)) (λ k y. refl))
+  notices_stay (activity.Deliver m) h f = f ∙ sym (untouched_by J (posting s.opening J (activity.Deliver m)) (λ k y. refl))
+  notices_stay (activity.Receive m) h f = cc
+  notices_stay (activity.Dividend d) h f = f ∙ sym (untouched_by J (posting s.opening J (activity.Dividend d)) (λ k y. refl))
+  notices_stay (activity.Split p) h f = cc
+  notices_stay (activity.Exchange x) h f = cc
+  notices_stay (activity.Notice m) h f = cc
+  notices_stay (activity.Withdraw k) h f = cc
+  notices_stay (activity.Execute x) h f = cc
+  notices_stay (activity.Close d) h f = cc
+
+  -- one that executes none leaves the batches
+  pub batches_stay : (x : Activity) → is_close x ≡ false → is_execution x ≡ false → FollowsBatches J s → FollowsBatches (after x) s
+  batches_stay x still unexecuted f =
+      let p : Posting = posting s.opening J x in
+      f ∙ sym (batches_same p J (reverse (closings J)) (λ n c. executes_none J n c x unexecuted))
+      ∙ ap (λ b. map (batches_since (p ∷ J)) (reverse (cond b (J ∷ closings J) (closings J)))) (sym still)

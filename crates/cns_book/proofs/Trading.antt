@@ -21,13 +21,14 @@ use Rattle.cns_terms.specs.Postings.{Journal}
 use Rattle.cns_terms.specs.Reached.{IsInRange}
 use Rattle.cns_terms.specs.Refusals.{first_refusal, refusal, is_beyond, is_too_large}
 use Rattle.cns_terms.proofs.Facts.{bytes_refl, eqb_refl, or_false}
+use Rattle.cns_notices.specs.declared.noticed.Noticed.{Noticed}
 use Rattle.cns_positions.specs.Rows.{Rows, books, holding_at}
 use Rattle.cns_trades.specs.Checks.{trade_rules}
 use Rattle.cns_trades.specs.declared.facts.TradeFacts.{TradeFacts}
 use Rattle.cns_trades.specs.Used.{Used}
 use Rattle.cns_book.specs.Contents.{Contents}
-use Rattle.cns_book.specs.Follows.{AreTradeFacts, Follows, FollowsReferences}
-use Rattle.cns_book.proofs.Staying.{clock_stays, dividends_stay, is_dividend, is_listing, listings_stay, rows_booked, sheets_stay}
+use Rattle.cns_book.specs.Follows.{AreTradeFacts, Follows, FollowsNotices, FollowsReferences}
+use Rattle.cns_book.proofs.Staying.{batches_stay, clock_stays, dividends_stay, is_dividend, is_execution, is_listing, is_noticing, listings_stay, notices_stay, rows_booked, sheets_stay}
 
 -- what an answer says of the refusal
 pub answer_err : (o : Option Refusal) (es : List Entry) (r : Refusal) → Err r ≡ option_map_or Err o (Ok es) → o ≡ Some r
@@ -110,14 +111,21 @@ same_rows L s new f h = record {
   dividends = f.dividends;
   rows = λ k. h k ∙ f.rows k;
   sheets = f.sheets;
+  notices = f.notices;
+  batches = f.batches;
 }
 
--- an activity that books its entries, where the references follow it
-pub booked_by : (L : List Activity) (s : Contents) (x : Activity) (references : Used) (rows : Rows) → Follows L s → IsInRange x → refusal s.opening (journal s.opening L) (command.Activity x) ≡ None → is_close x ≡ false → is_listing x ≡ false → is_dividend x ≡ false
+-- an activity that touches no notice leaves them
+pub notices_kept : {s : Contents} (L : List Activity) (x : Activity) → is_noticing x ≡ false → Follows L s → FollowsNotices (journal s.opening (x ∷ L)) s
+notices_kept {s} L x unnoticed f = notices_stay s (journal s.opening L) x unnoticed f.notices
+
+-- an activity that books its entries, where the references and the notices follow it
+pub booked_by : (L : List Activity) (s : Contents) (x : Activity) (references : Used) (notices : List Noticed) (rows : Rows) → Follows L s → IsInRange x → refusal s.opening (journal s.opening L) (command.Activity x) ≡ None → is_close x ≡ false → is_listing x ≡ false → is_dividend x ≡ false → is_execution x ≡ false
     → FollowsReferences (journal s.opening (x ∷ L)) (record s { references = references })
+    → FollowsNotices (journal s.opening (x ∷ L)) (record s { notices = notices })
     → ((k : Key) → holding_at rows k ≡ books (entries s.opening (journal s.opening L) x) k (holding_at s.rows k))
-    → Follows (x ∷ L) (record s { references = references; rows = rows })
-booked_by L s x references rows f range none still unlisted undeclared r b =
+    → Follows (x ∷ L) (record s { references = references; rows = rows; notices = notices })
+booked_by L s x references notices rows f range none still unlisted undeclared unexecuted r n b =
     let J = journal s.opening L in
     let c = clock_stays s J x still f.clock in
     let l = listings_stay s J x unlisted f.listings in
@@ -129,4 +137,6 @@ booked_by L s x references rows f range none still unlisted undeclared r b =
       dividends = dividends_stay s J x undeclared f.dividends;
       rows = rows_booked s J x rows still b f.rows;
       sheets = sheets_stay s J x still f.sheets;
+      notices = n;
+      batches = batches_stay s J x still unexecuted f.batches;
     }

@@ -4,7 +4,9 @@ use Rattle.cns_units.specs.declared.day.Day.{Day}
 use Rattle.cns_terms.specs.declared.action.Declared.{Declared}
 use Rattle.cns_terms.specs.declared.holding.Holding.{Holding}
 use Rattle.cns_terms.specs.declared.holding.Key.{Key}
+use Rattle.cns_terms.specs.Batches.{Liables}
 use Rattle.cns_terms.specs.Sheets.{DaySheet}
+use Rattle.cns_notices.specs.declared.noticed.Noticed.{Noticed}
 use Rattle.cns_prices.specs.Listed.{Listed}
 use Rattle.cns_trades.specs.Used.{Used}
 
@@ -19,3 +21,5 @@ pub record Contents : Type 0 where
   pub dividends : List Declared
   pub rows : List (Key × Holding)
   pub sheets : List DaySheet
+  pub notices : List Noticed
+  pub batches : List (List Liables)

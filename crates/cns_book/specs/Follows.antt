@@ -1,5 +1,5 @@
 -- What ties the parts of a book to the accepted activities, by what changes together.
-use Rattle.std.specs.Prelude.{◌≡◌, ℕ, ◌+◌, ◌≤◌, ◌<◌, List, map, length, Some, None, Result, Ok, Err, if◌then◌else◌}
+use Rattle.std.specs.Prelude.{◌≡◌, ℕ, ◌+◌, ◌≤◌, ◌<◌, List, map, length, reverse, Some, None, Result, Ok, Err, if◌then◌else◌}
 use Rattle.cns_units.specs.declared.cusip.Cusip.{Cusip}
 use Rattle.cns_units.specs.declared.day.Day.{Day}
 use Rattle.cns_terms.specs.declared.command.Activity.{Activity}
@@ -9,8 +9,10 @@ use Rattle.cns_terms.specs.declared.command.Trade.{Trade}
 use Rattle.cns_terms.specs.declared.fault.NoMemory.{NoMemory}
 use Rattle.cns_terms.specs.declared.holding.Key.{Key}
 use Rattle.cns_terms.specs.declared.reply.Reply.{Reply}
+use Rattle.cns_terms.specs.Batches.{Liables}
 use Rattle.cns_terms.specs.Days.{date, closes, closings}
 use Rattle.cns_terms.specs.Dividends.{dividends, pays_before}
+use Rattle.cns_terms.specs.Fills.{batches_since}
 use Rattle.cns_terms.specs.Listings.{is_member, is_listed, is_retired, is_seen, price}
 use Rattle.cns_terms.specs.Entries.{corporation, journal}
 use Rattle.cns_terms.specs.Limits.{history_limit}
@@ -21,6 +23,7 @@ use Rattle.cns_terms.specs.Reached.{IsReached}
 use Rattle.cns_terms.specs.Refusals.{refusal}
 use Rattle.cns_terms.specs.Sheets.{day_sheet}
 use Rattle.cns_terms.specs.Sums.{in_order}
+use Rattle.cns_notices.specs.Kept.{kept_notices}
 use Rattle.cns_positions.specs.Rows.{holding_at}
 use Rattle.cns_prices.specs.Listed.{price_in, retired_in}
 use Rattle.cns_trades.specs.declared.facts.MoveFacts.{MoveFacts}
@@ -56,6 +59,18 @@ FollowsRows J s = (k : Key) → holding_at s.rows k ≡ holding J k.account k.is
 abbrev pub FollowsSheets : Journal → Contents → Type 0
 FollowsSheets J s = s.sheets ≡ map (day_sheet s.opening) (closings J)
 
+-- the notices, with what became of each
+abbrev pub FollowsNotices : Journal → Contents → Type 0
+FollowsNotices J s = s.notices ≡ kept_notices J
+
+-- the batches of the closed days, the first day's first
+abbrev pub kept_batches : Journal → List (List Liables)
+kept_batches J = map (batches_since J) (reverse (closings J))
+
+-- with what is left of each liability now
+abbrev pub FollowsBatches : Journal → Contents → Type 0
+FollowsBatches J s = s.batches ≡ kept_batches J
+
 -- commands reach the activities, and each part shows what the definitions say of them
 pub record Follows (L : List Activity) (s : Contents) : Type 0 where
   pub reached : IsReached s.opening L
@@ -65,6 +80,8 @@ pub record Follows (L : List Activity) (s : Contents) : Type 0 where
   pub dividends : FollowsDividends (journal s.opening L) s
   pub rows : FollowsRows (journal s.opening L) s
   pub sheets : FollowsSheets (journal s.opening L) s
+  pub notices : FollowsNotices (journal s.opening L) s
+  pub batches : FollowsBatches (journal s.opening L) s
 
 -- the parts follow some activities, and there is room for one more
 pub record HasRoom (s : Contents) : Type 0 where

@@ -1,8 +1,10 @@
 pub mod Contents
 pub mod Dated
 pub mod Effects
+pub mod Executions
 pub mod Follows
 pub mod Legal
 pub mod Log
 pub mod Members
+pub mod Retransmittal
 pub mod Shown

@@ -7,12 +7,14 @@ ghost use Rattle.cns_terms.specs.History.{IsLegal, commands_of, count, replies_o
 ghost use Rattle.cns_terms.specs.Laws.{journal_of};
 ghost use Rattle.cns_terms.specs.Machine.{opened, replies};
 ghost use Rattle.cns_terms.specs.Sheets.{sheet_on};
-ghost use Rattle.cns_book.specs.Shown.{entry_at, price_shown, shown};
+ghost use Rattle.cns_book.specs.Shown.{batch_shown, batches_shown, entry_at, notice_shown, price_shown, shown};
 ghost use Rattle.cns_book.specs.Log.{TakesStep, empty_log, state_of};
 
+use crate::notice::Notice;
 use crate::parts::Parts;
 use crate::receipt::{Receipt, TakeFault};
 use cns_positions::Positions;
+use cns_retransmit::Batch;
 use cns_sheets::Sheet;
 use cns_terms::{Command, Holding, Key, NoMemory, Taken, Worker};
 use cns_units::{Account, Cusip, Day, Price};
@@ -102,6 +104,29 @@ impl<P: Positions<A>, A: Allocator + Drop + Clone> Book<P, A> {
         ensures { option_map arc_value (option_copied result) ≡ sheet_on self.now.opening (journal_of (state_of self.now)) date }
     {
         self.parts.sheet(date)
+    }
+
+    /// A notice as it stands, by its number from 1; None where none has the number.
+    pub fn notice(&self, number: u32) -> Option<Notice>
+        ensures { result ≡ notice_shown (state_of self.now) number }
+    {
+        self.parts.notice(number)
+    }
+
+    /// The batch that the close of a day chose in an issue, with what is left of each liability now; None where nobody was
+    /// liable there, or the day is not closed. Days are numbered from 1.
+    pub fn batch(&self, day: u32, cusip: Cusip) -> Option<&Batch<A>>
+        ensures { option_copied result ≡ batch_shown (state_of self.now) day cusip }
+    {
+        self.parts.batch(day, cusip)
+    }
+
+    /// The batches that the close of a day chose, in the order of the bytes of their issues; none where the day is not
+    /// closed.
+    pub fn batches(&self, day: u32) -> &[Batch<A>]
+        ensures { result.now ≡ batches_shown (state_of self.now) day }
+    {
+        self.parts.batches(day)
     }
 
     /// The entry at a place of the history, from 1; None past its end.

@@ -2,7 +2,8 @@
 ghost use Rattle.cns_terms.specs.Laws.{Amounts, Bounds, ClosedDays, Positions, RefusalOrder, ZeroSums};
 
 /// The marks of each closed day's sheet add up to zero cents over all accounts, the corporation's included, and so do
-/// its dividends. The day is named by its place or by its date.
+/// its dividends, where the commands' values are in their ranges, as those of [`cns_units`] are. The day is named by its
+/// place or by its date.
 pub fn zero_sums()
     ensures { ZeroSums }
 {}
@@ -13,7 +14,8 @@ pub fn closed_days()
     ensures { ClosedDays }
 {}
 
-/// In each issue the positions of all accounts add up to zero shares, and so do the cents of the open day.
+/// In each issue the positions of all accounts add up to zero shares, and so do the cents of the open day, where the
+/// commands' values are in their ranges.
 pub fn positions()
     ensures { Positions }
 {}

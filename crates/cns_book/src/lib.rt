@@ -8,14 +8,18 @@
 #![tactic(auto)]
 
 mod book;
+mod buy_in;
 mod closed_days;
 mod effect;
 pub mod laws;
 mod members;
+mod notice;
 mod parts;
 mod receipt;
 
 pub use book::Book;
+pub use cns_notices::Stage;
+pub use notice::Notice;
 pub use receipt::{Receipt, TakeFault};
 
 #[cfg(test)]

@@ -7,8 +7,10 @@ ghost use Rattle.cns_book.specs.Follows.{Follows, HasRoom, Steps};
 use crate::closed_days::ClosedDays;
 use crate::members::Members;
 use cns_dividends::Dividends;
+use cns_notices::Notices;
 use cns_positions::Positions;
 use cns_prices::Prices;
+use cns_retransmit::Batches;
 use cns_terms::{Activity, Command, NoMemory, Reply};
 use cns_trades::Trades;
 use cns_units::Day;
@@ -18,8 +20,11 @@ use std::marker::Model;
 mod actions;
 mod closing;
 mod dividend;
+mod execution;
 mod listing;
+mod notice;
 mod reading;
+mod retransmittal;
 mod trading;
 
 /// The parts of a book: each a map, a set or a number that shows what the definitions say of the accepted activities.
@@ -38,6 +43,8 @@ pub struct Parts<P: Positions<A>, A: Allocator + Drop + Clone> {
     dividends: Dividends<A>,
     positions: P,
     closed: ClosedDays<A>,
+    notices: Notices<A>,
+    batches: Batches<A>,
 }
 
 impl<P: Positions<A>, A: Allocator + Drop + Clone> Model for Parts<P, A> {
@@ -55,6 +62,8 @@ impl<P: Positions<A>, A: Allocator + Drop + Clone> Model for Parts<P, A> {
       dividends = a.dividends;
       rows = P.rows a.positions;
       sheets = a.closed;
+      notices = a.notices;
+      batches = a.batches;
     } };
 }
 
@@ -73,6 +82,8 @@ impl<P: Positions<A>, A: Allocator + Drop + Clone> Parts<P, A> {
             trades: Trades::new(alloc.clone()?),
             dividends: Dividends::new(alloc.clone()?),
             closed: ClosedDays::new(alloc.clone()?)?,
+            notices: Notices::new(alloc.clone()?),
+            batches: Batches::new(alloc.clone()?),
             positions: P::new(alloc.clone()?),
             alloc,
         })
@@ -94,6 +105,9 @@ impl<P: Positions<A>, A: Allocator + Drop + Clone> Parts<P, A> {
             Activity::Dividend(declared) => self.declare_dividend(declared),
             Activity::Split(split) => self.split(split),
             Activity::Exchange(exchange) => self.exchange(exchange),
+            Activity::Notice(movement) => self.give_notice(movement),
+            Activity::Withdraw(number) => Ok(self.withdraw(*number)),
+            Activity::Execute(execution) => self.execute(execution),
             Activity::Close(next) => self.close_day(*next),
         }
     }

@@ -43,7 +43,7 @@ impl<P: Positions<A>, A: Allocator + Drop + Clone> Parts<P, A> {
         None
     }
 
-    /// SPLIT. The new positions are made beside the old ones, and take their place at once.
+    /// SPLIT. The new positions are made beside the old ones, and take their place at once; the notices of the issue end.
     pub fn split(&mut self, split: &Split) -> Result<Reply, NoMemory>
         requires { HasRoom self.old }
         ensures opening { self.new.opening ≡ self.old.opening }
@@ -57,6 +57,7 @@ impl<P: Positions<A>, A: Allocator + Drop + Clone> Parts<P, A> {
         match self.positions_after(&Action::Split(*split)) {
             Ok(positions) => {
                 self.positions = positions;
+                self.notices.end_issue(split.issue);
                 Ok(Reply::Accepted)
             }
             Err(ActionFault::TooLarge) => Ok(Reply::Refused(Refusal::TooLarge)),
@@ -82,7 +83,8 @@ impl<P: Positions<A>, A: Allocator + Drop + Clone> Parts<P, A> {
         None
     }
 
-    /// EXCHANGE. The new positions are made beside the old ones, and take their place at once; then the old issue is retired.
+    /// EXCHANGE. The new positions are made beside the old ones, and take their place at once; then
+    /// the old issue is retired, and its notices end.
     pub fn exchange(&mut self, exchange: &Exchange) -> Result<Reply, NoMemory>
         requires { HasRoom self.old }
         ensures opening { self.new.opening ≡ self.old.opening }
@@ -101,6 +103,7 @@ impl<P: Positions<A>, A: Allocator + Drop + Clone> Parts<P, A> {
             Ok(positions) => {
                 self.positions = positions;
                 self.prices.retire(exchange.old);
+                self.notices.end_issue(exchange.old);
                 Ok(Reply::Accepted)
             }
             Err(ActionFault::TooLarge) => Ok(Reply::Refused(Refusal::TooLarge)),

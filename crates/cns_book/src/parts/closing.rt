@@ -6,13 +6,15 @@ ghost use Rattle.cns_terms.specs.declared.command.Command.TheVariants as command
 ghost use Rattle.cns_book.specs.Follows.{Follows, HasRoom, Steps};
 
 use crate::parts::Parts;
+use crate::parts::retransmittal::count_liable;
 use cns_positions::Positions;
 use cns_terms::{Closed, NoMemory, Refusal, Reply};
 use cns_units::Day;
 use std::alloc::Allocator;
 
 impl<P: Positions<A>, A: Allocator + Drop + Clone> Parts<P, A> {
-    /// CLOSE. The sheet, with the dividends that are due, is made and kept before anything else changes.
+    /// CLOSE. The sheet, with the dividends that are due, and the batches for the day's notices are made and kept before
+    /// anything else changes. Notices of two days ago expire after the batches are chosen.
     pub fn close_day(&mut self, next: Day) -> Result<Reply, NoMemory>
         requires { HasRoom self.old }
         ensures opening { self.new.opening ≡ self.old.opening }
@@ -25,15 +27,21 @@ impl<P: Positions<A>, A: Allocator + Drop + Clone> Parts<P, A> {
         let sheet = self
             .closed
             .cut(&self.positions, &self.prices, due, self.today)?;
+        let batches = self.choose_batches(&sheet)?;
         let closed = Closed {
             day: self.closes + 1,
             date: self.today,
             rows: sheet.len() as u64,
-            liable: 0,
+            liable: count_liable(batches.as_slice()),
         };
-        self.closed.keep(sheet)?;
+        self.batches.keep(batches)?;
+        if let Err(NoMemory) = self.closed.keep(sheet) {
+            self.batches.forget_last();
+            return Err(NoMemory);
+        }
         self.positions.roll();
         self.closes += 1;
+        self.notices.expire(self.closes);
         self.today = next;
         Ok(Reply::Closed(closed))
     }

@@ -6,6 +6,7 @@ ghost use Rattle.cns_terms.specs.declared.command.Activity.{Activity};
 ghost use Rattle.cns_terms.specs.declared.command.Command.TheVariants as command;
 ghost use Rattle.cns_terms.specs.Days.{date, day};
 ghost use Rattle.cns_terms.specs.Entries.{journal};
+ghost use Rattle.cns_terms.specs.Fills.{batches};
 ghost use Rattle.cns_terms.specs.Limits.{position_limit};
 ghost use Rattle.cns_terms.specs.Listings.{is_account, is_listed, is_member, is_retired};
 ghost use Rattle.cns_terms.specs.Machine.{answer_to, holding};
@@ -15,10 +16,12 @@ ghost use Rattle.cns_terms.specs.Sheets.{sheet_on};
 ghost use Rattle.cns_positions.specs.Rows.{holding_at};
 ghost use Rattle.cns_book.specs.Dated.{dated_sheet};
 ghost use Rattle.cns_book.specs.Follows.{Follows, HasRoom};
-ghost use Rattle.cns_book.specs.Shown.{holding_shown, price_listed};
+ghost use Rattle.cns_book.specs.Shown.{batch_listed, holding_shown, notice_listed, price_listed};
 
+use crate::notice::Notice;
 use crate::parts::Parts;
 use cns_positions::Positions;
+use cns_retransmit::Batch;
 use cns_sheets::Sheet;
 use cns_terms::{Holding, Key, Refusal, Reply};
 use cns_units::{Account, Cusip, Day, Member, Price};
@@ -137,6 +140,38 @@ impl<P: Positions<A>, A: Allocator + Drop + Clone> Parts<P, A> {
         ensures value { (L : List Activity) → Follows L self.now → option_map arc_value (option_copied result) ≡ sheet_on self.now.opening (journal self.now.opening L) date }
     {
         self.closed.find(date)
+    }
+
+    /// A notice as it stands; None where none has the number.
+    pub fn notice(&self, number: u32) -> Option<Notice>
+        ensures { (L : List Activity) → Follows L self.now → result ≡ notice_listed (journal self.now.opening L) number }
+    {
+        if !self.is_noticed(number) {
+            return None;
+        }
+        let given = self.notices.given(number);
+        Some(Notice {
+            member: given.member,
+            issue: given.issue,
+            shares: given.shares,
+            given: given.day,
+            stage: self.notices.stage(number),
+            remaining: self.remaining(number),
+        })
+    }
+
+    /// The batches of a day, in the order of the bytes of their issues; none where the day is not closed.
+    pub fn batches(&self, day: u32) -> &[Batch<A>]
+        ensures { (L : List Activity) → Follows L self.now → result.now ≡ batches (journal self.now.opening L) day }
+    {
+        self.batches.of_day(u64::from(day))
+    }
+
+    /// The batch of a day in an issue; None where nobody is liable there.
+    pub fn batch(&self, day: u32, cusip: Cusip) -> Option<&Batch<A>>
+        ensures { (L : List Activity) → Follows L self.now → option_copied result ≡ batch_listed (journal self.now.opening L) day cusip }
+    {
+        self.batches.find(u64::from(day), cusip)
     }
 
     /// STATEMENT.

@@ -88,7 +88,7 @@ impl<P: Positions<A>, A: Allocator + Drop + Clone> Parts<P, A> {
         Ok(Reply::Accepted)
     }
 
-    /// RECEIVE.
+    /// RECEIVE. The shares count for the member's live notice in the issue.
     pub fn receive(&mut self, movement: &Movement) -> Result<Reply, NoMemory>
         requires { HasRoom self.old }
         ensures opening { self.new.opening ≡ self.old.opening }
@@ -99,8 +99,12 @@ impl<P: Positions<A>, A: Allocator + Drop + Clone> Parts<P, A> {
             Ok(entries) => entries,
             Err(refusal) => return Ok(Reply::Refused(refusal)),
         };
+        // The shares are within their limit; the call tells the prover.
+        let _ = movement.shares.value();
         prepare(&mut self.positions, &entries)?;
         book(&mut self.positions, &entries);
+        self.notices
+            .received(movement.member, movement.issue, movement.shares);
         Ok(Reply::Accepted)
     }
 }

@@ -8,7 +8,7 @@ use Rattle.cns_trades.specs.Checks.{AreSmallEntries, trade_rules}
 use Rattle.cns_trades.specs.Used.{is_used}
 use Rattle.cns_book.specs.Follows.{Follows, HasRoom}
 use Rattle.cns_book.proofs.Machine.{accepted, refused, stopped}
-use Rattle.cns_book.proofs.Trading.{answer_err, answer_ok, booked_by, same_rows, trade_refusal}
+use Rattle.cns_book.proofs.Trading.{answer_err, answer_ok, booked_by, notices_kept, same_rows, trade_refusal}
 use Rattle.cns_book.proofs.Within.{rows_within, same_within}
 use Rattle.cns_book.proofs.parts.Parts.book_trade.Goals as goal
 use Rattle.cns_positions.specs.Rows.{books}
@@ -58,6 +58,6 @@ returns-clause-step g c L f =
     let none = trade_refusal L c.self.inside.opening t facts seen are (f'.references t.reference) ∙ done.0 in
     let small = subst AreSmallEntries done.1 c.in-Ok.ensures.small in
     accepted L (activity.Trade t) reply.Accepted none refl
-    (booked_by L _ (activity.Trade t) c.note_reference.new.self (g.P.Positions.rows c.book.new.positions) f' small.1.0.cents none refl refl refl
-    (λ r. c.in_ok-note_reference.ensures.ok r ∙ ap (λ b. eqb t.reference r || b) (f'.references r))
+    (booked_by L _ (activity.Trade t) c.note_reference.new.self c.self.inside.notices (g.P.Positions.rows c.book.new.positions) f' small.1.0.cents none refl refl refl refl
+    (λ r. c.in_ok-note_reference.ensures.ok r ∙ ap (λ b. eqb t.reference r || b) (f'.references r)) (notices_kept L (activity.Trade t) refl f')
     (λ k. c.book.ensures k ∙ (λ i. books (done.1 i) k (c.in_ok-prepare.ensures.same k i))))

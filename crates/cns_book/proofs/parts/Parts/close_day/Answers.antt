@@ -3,19 +3,23 @@ use Rattle.std.specs.Prelude.{int_le, slice_get}
 use Rattle.cns_units.specs.Day.{day_number}
 use Rattle.cns_terms.specs.declared.action.Declared.{Declared}
 use Rattle.cns_terms.specs.declared.command.Activity.TheVariants as activity
+use Rattle.cns_terms.specs.declared.command.Command.TheVariants as command
 use Rattle.cns_terms.specs.declared.reply.Reply.TheVariants as reply
 use Rattle.cns_terms.specs.Dividends.{is_due}
 use Rattle.cns_terms.specs.Entries.{journal}
+use Rattle.cns_terms.specs.Fills.{batches_since}
 use Rattle.cns_terms.specs.declared.refusal.Refusal.TheVariants.{WrongDay}
 use Rattle.cns_terms.specs.Refusals.{first_refusal, rules}
 use Rattle.cns_terms.specs.Sheets.{day_sheet}
 use Rattle.cns_sheets.specs.Build.{prices_of}
 use Rattle.cns_sheets.specs.Condition.{CanBePaid, IsReady}
 use Rattle.cns_sheets.specs.Payments.{IsCut}
+use Rattle.cns_book.specs.Contents.{Contents}
 use Rattle.cns_book.specs.Dated.{last_dated, payments_by}
-use Rattle.cns_book.specs.Follows.{Follows, HasRoom}
+use Rattle.cns_book.specs.Follows.{Follows, HasRoom, Steps}
 use Rattle.cns_book.proofs.Closing.{after_last, closes_fit, day_closed, le_test}
-use Rattle.cns_book.proofs.Machine.{accepted, no_refusal, refused}
+use Rattle.cns_book.proofs.Machine.{accepted, no_refusal, refused, stopped}
+use Rattle.cns_book.proofs.Retransmitting.{liable_counted, liable_few}
 use Rattle.cns_book.proofs.SheetCut.{can_be_cut, can_be_paid, sheet_is}
 use Rattle.cns_book.proofs.parts.Parts.close_day.Goals as goal
 
@@ -31,8 +35,8 @@ cut-requires-clause-paid g c =
     let same : c.due-due.result ≡ filter (is_due (last_dated c.self.inside.closed) c.self.inside.today) c.self.inside.dividends = c.due-due.ensures.due ∙ ap (λ o. filter (is_due o c.self.inside.today) c.self.inside.dividends) c.last_date.ensures in
     subst (λ (ds : List Declared). CanBePaid (payments_by c.self.inside.closed ds)) (sym same) (can_be_paid room.activities _ room.follows room.few)
 
-pub keep-requires : goal.keep-requires
-keep-requires g c =
+pub keep-requires-2 : goal.keep-requires-2
+keep-requires-2 g c =
     let room = subst HasRoom (sym c.self.view_is) c.requires in
     rw c.in_ok-sheet.ensures.date (after_last room.activities _ room.follows)
 
@@ -50,6 +54,45 @@ returns-then-le-clause-step g c L f =
     let late = ap (λ t. int_le d (day_number t)) (sym today ∙ sym same) ∙ sym (le_test d (day_number c.self.inside.today)) ∙ sym c.le.ensures ∙ c.if-le.true in
     refused L (activity.Close c.args.next) WrongDay (ap (λ b. first_refusal ((WrongDay, b) ∷ [])) late) f
 
+pub choose_batches-requires-clause-cut : goal.choose_batches-requires-clause-cut
+choose_batches-requires-clause-cut g c L f =
+    let f' = subst (Follows L) (sym c.self.view_is) f in
+    let same : c.due-due.result ≡ filter (is_due (last_dated c.self.inside.closed) c.self.inside.today) c.self.inside.dividends = c.due-due.ensures.due ∙ ap (λ o. filter (is_due o c.self.inside.today) c.self.inside.dividends) c.last_date.ensures in
+    let cut = subst (λ (ds : List Declared). IsCut (prices_of (slice_get c.self.inside.closed 0)) c.self.inside.prices (g.P.Positions.rows c.self.inside.positions) (payments_by c.self.inside.closed ds) c.in_ok-sheet.sheet.rows) same c.in_ok-sheet.ensures.cut in
+    subst (λ (t : Contents). c.in_ok-sheet.sheet ≡ day_sheet t.opening (journal t.opening L)) c.self.view_is (sheet_is L _ c.in_ok-sheet.sheet f' c.in_ok-sheet.ensures.prices c.in_ok-sheet.ensures.date c.in_ok-sheet.ensures.listed cut)
+
+pub returns-in_err-batches-clause-step : goal.returns-in_err-batches-clause-step
+returns-in_err-batches-clause-step g c L f =
+    let f' = subst (Follows L) (sym c.self.view_is) f in
+    let d = day_number c.args.next in
+    let late = ap (λ t. int_le d (day_number t)) (sym f'.clock.today) ∙ sym (le_test d (day_number c.self.inside.today)) ∙ sym c.le.ensures ∙ c.if-le.false in
+    let none = no_refusal (rules c.self.inside.opening (journal c.self.inside.opening L) (activity.Close c.args.next)) (late, tt) in
+    subst (λ (t : Contents). Steps L (command.Activity (activity.Close c.args.next)) c.from_residual-in_err-batches.result t) c.self.view_is
+    (stopped L (command.Activity (activity.Close c.args.next)) c.from_residual-in_err-batches.result c.from_residual-in_err-batches.ensures.0 none f')
+
+pub count_liable-requires : goal.count_liable-requires
+count_liable-requires g c =
+    let room = c.requires in
+    let few = liable_few c.args.self.now.opening room.activities room.follows.reached room.few in
+    let same = liable_counted c.args.self.now.opening room.activities c.as_slice.result.now room.follows.reached (c.as_slice.ensures.value ∙ c.in_ok-batches.ensures.batches room.activities room.follows) in
+    omega (arith, same, few)
+
+pub returns-in_err-keep-clause-step : goal.returns-in_err-keep-clause-step
+returns-in_err-keep-clause-step g c L f =
+    let f' = subst (Follows L) (sym c.self.view_is) f in
+    let d = day_number c.args.next in
+    let late = ap (λ t. int_le d (day_number t)) (sym f'.clock.today) ∙ sym (le_test d (day_number c.self.inside.today)) ∙ sym c.le.ensures ∙ c.if-le.false in
+    let none = no_refusal (rules c.self.inside.opening (journal c.self.inside.opening L) (activity.Close c.args.next)) (late, tt) in
+    stopped L (command.Activity (activity.Close c.args.next)) c.from_residual-in_err-keep.result c.from_residual-in_err-keep.ensures.0 none (rw c.in_err-keep.ensures.err f')
+
+pub returns-in-Err-clause-step : goal.returns-in-Err-clause-step
+returns-in-Err-clause-step g c L f =
+    let f' = subst (Follows L) (sym c.self.view_is) f in
+    let d = day_number c.args.next in
+    let late = ap (λ t. int_le d (day_number t)) (sym f'.clock.today) ∙ sym (le_test d (day_number c.self.inside.today)) ∙ sym c.le.ensures ∙ c.if-le.false in
+    let none = no_refusal (rules c.self.inside.opening (journal c.self.inside.opening L) (activity.Close c.args.next)) (late, tt) in
+    (none, rw (c.in-Err.ensures.err, c.forget_last.ensures.last c.self.inside.batches c.in_ok-batches.batches.items c.in_ok-keep.ensures.ok) f')
+
 pub returns-clause-step : goal.returns-clause-step
 returns-clause-step g c L f =
     let f' = subst (Follows L) (sym c.self.view_is) f in
@@ -63,7 +106,9 @@ returns-clause-step g c L f =
     let cut = subst (λ (ds : List Declared). IsCut (prices_of (slice_get c.self.inside.closed 0)) c.self.inside.prices (g.P.Positions.rows c.self.inside.positions) (payments_by c.self.inside.closed ds) c.in_ok-sheet.sheet.rows) same c.in_ok-sheet.ensures.cut in
     let is : c.in_ok-sheet.sheet ≡ day_sheet o J = sheet_is L _ c.in_ok-sheet.sheet f' c.in_ok-sheet.ensures.prices c.in_ok-sheet.ensures.date c.in_ok-sheet.ensures.listed cut in
     let count = c.len.ensures ∙ ap (λ s. length s.rows) is in
-    accepted L (activity.Close c.args.next) (reply.Closed (record { day = c.self.inside.closes + 1; date = c.self.inside.today; rows = c.len.result; liable = 0 }))
+    let chosen = subst (λ (t : Contents). c.in_ok-batches.batches.items ≡ batches_since (journal t.opening L) (journal t.opening L)) (sym c.self.view_is) (c.in_ok-batches.ensures.batches L f) in
+    let liable = c.count_liable.ensures ∙ liable_counted o L c.as_slice.result.now f'.reached (c.as_slice.ensures.value ∙ chosen) in
+    accepted L (activity.Close c.args.next) (reply.Closed (record { day = c.self.inside.closes + 1; date = c.self.inside.today; rows = c.len.result; liable = c.count_liable.result }))
     none
-    (λ i. reply.Closed (record { day = f'.clock.closes i + 1; date = f'.clock.today i; rows = count i; liable = 0 }))
-    (rw c.in_ok-keep.ensures.ok (day_closed L _ c.args.next (g.P.Positions.rows c.roll.new.self) c.in_ok-sheet.sheet f' (closes_fit _ room) none c.roll.ensures.rolled is))
+    (λ i. reply.Closed (record { day = f'.clock.closes i + 1; date = f'.clock.today i; rows = count i; liable = liable i }))
+    (rw (c.in_default.ensures.ok, c.in_ok-keep.ensures.ok, c.expire.ensures) (day_closed L _ c.args.next (g.P.Positions.rows c.roll.new.self) c.in_ok-sheet.sheet c.in_ok-batches.batches.items f' (closes_fit _ room) none c.roll.ensures.rolled is chosen))

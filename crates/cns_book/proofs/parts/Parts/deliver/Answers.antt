@@ -8,7 +8,7 @@ use Rattle.cns_trades.specs.Checks.{delivery_rules}
 use Rattle.cns_book.specs.Follows.{Follows, HasRoom}
 use Rattle.cns_book.proofs.Machine.{accepted, refused, stopped}
 use Rattle.cns_book.proofs.Moving.{delivery_refusal}
-use Rattle.cns_book.proofs.Trading.{answer_err, answer_ok, booked_by, same_rows}
+use Rattle.cns_book.proofs.Trading.{answer_err, answer_ok, booked_by, notices_kept, same_rows}
 use Rattle.cns_book.proofs.Within.{rows_within, same_within}
 use Rattle.cns_book.proofs.parts.Parts.deliver.Goals as goal
 use Rattle.cns_positions.specs.Rows.{books}
@@ -44,5 +44,5 @@ returns-clause-step g c L f =
     let done = answer_ok (first_refusal (delivery_rules facts m)) (moved_in m.member m ∷ moved_out corporation m ∷ []) c.in-Ok.entries c.in-Ok.ensures.answer in
     let none = delivery_refusal L c.self.inside.opening m facts are ∙ done.0 in
     accepted L (activity.Deliver m) reply.Accepted none refl
-    (booked_by L _ (activity.Deliver m) c.self.inside.trades (g.P.Positions.rows c.book.new.positions) f' tt none refl refl refl f'.references
+    (booked_by L _ (activity.Deliver m) c.self.inside.trades c.self.inside.notices (g.P.Positions.rows c.book.new.positions) f' tt none refl refl refl refl f'.references (notices_kept L (activity.Deliver m) refl f')
     (λ k. c.book.ensures k ∙ (λ i. books (done.1 i) k (c.in_ok-prepare.ensures.same k i))))

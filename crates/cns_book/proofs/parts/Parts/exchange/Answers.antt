@@ -1,9 +1,9 @@
-use Rattle.std.proofs.Common.{◌≡◌, ◌∙◌, sym, ap, subst, refl}
+use Rattle.std.proofs.Common.{◌≡◌, ◌∙◌, sym, subst, refl}
 use Rattle.cns_terms.specs.declared.command.Activity.TheVariants as activity
 use Rattle.cns_terms.specs.declared.reply.Reply.TheVariants as reply
 use Rattle.cns_terms.specs.declared.holding.Key.{Key}
 use Rattle.cns_terms.specs.Entries.{entries, journal}
-use Rattle.cns_terms.specs.Listings.{is_listed, is_retired, price}
+use Rattle.cns_terms.specs.Listings.{is_listed, is_retired}
 use Rattle.cns_terms.specs.Refusals.{is_too_large, rules}
 use Rattle.cns_terms.proofs.Facts.{neither}
 use Rattle.cns_terms.proofs.Sound.{both_hold}
@@ -44,4 +44,4 @@ returns-in-Ok-clause-step g c L f =
     let none = no_refusal (rules c.self.inside.opening J x) (fails.0, (fails.1.0, (fails.1.1.0, (small, tt)))) in
     let booked = subst (λ (t : Contents). (k : Key) → holding_at (g.P.Positions.rows c.in-Ok.positions) k ≡ books (entries t.opening (journal t.opening L) x) k (holding_at t.rows k)) (sym c.self.view_is) (c.in-Ok.ensures.booked L f) in
     accepted L x reply.Accepted none refl
-    (exchanged L _ e c.retire.new.self (g.P.Positions.rows c.in-Ok.positions) f' (c.parts.ensures.old_range, c.value.ensures.range, c.value-2.ensures.range) none c.retire.ensures.price c.retire.ensures.retired booked)
+    (rw c.end_issue.ensures (exchanged L _ e c.retire.new.self (g.P.Positions.rows c.in-Ok.positions) f' (c.parts.ensures.old_range, c.value.ensures.range, c.value-2.ensures.range) none c.retire.ensures.price c.retire.ensures.retired booked))

@@ -1,4 +1,4 @@
-use Rattle.std.proofs.Common.{◌≡◌, ◌∙◌, sym, ap, subst, true, List}
+use Rattle.std.proofs.Common.{◌≡◌, ◌∙◌, sym, ap, subst, List}
 use Rattle.std.specs.Prelude.{IfOk}
 use Rattle.cns_units.specs.declared.account.Member.{Member}
 use Rattle.cns_terms.specs.declared.command.Activity.{Activity}

@@ -8,6 +8,8 @@ use Rattle.cns_trades.specs.Checks.{receipt_rules}
 use Rattle.cns_book.specs.Follows.{Follows, HasRoom}
 use Rattle.cns_book.proofs.Machine.{accepted, refused, stopped}
 use Rattle.cns_book.proofs.Moving.{receipt_refusal}
+use Rattle.cns_book.proofs.NoticeBounds.{receipts_fit}
+use Rattle.cns_book.proofs.Noticing.{receipt_counted}
 use Rattle.cns_book.proofs.Trading.{answer_err, answer_ok, booked_by, same_rows}
 use Rattle.cns_book.proofs.Within.{rows_within, same_within}
 use Rattle.cns_book.proofs.parts.Parts.receive.Goals as goal
@@ -44,5 +46,8 @@ returns-clause-step g c L f =
     let done = answer_ok (first_refusal (receipt_rules facts m)) (moved_out m.member m ∷ moved_in corporation m ∷ []) c.in-Ok.entries c.in-Ok.ensures.answer in
     let none = receipt_refusal L c.self.inside.opening m facts are ∙ done.0 in
     accepted L (activity.Receive m) reply.Accepted none refl
-    (booked_by L _ (activity.Receive m) c.self.inside.trades (g.P.Positions.rows c.book.new.positions) f' tt none refl refl refl f'.references
+    (booked_by L _ (activity.Receive m) c.self.inside.trades c.received.new.self (g.P.Positions.rows c.book.new.positions) f' c.value.ensures.range.1 none refl refl refl refl f'.references (c.received.ensures ∙ receipt_counted L m f')
     (λ k. c.book.ensures k ∙ (λ i. books (done.1 i) k (c.in_ok-prepare.ensures.same k i))))
+
+pub received-requires : goal.received-requires
+received-requires g c = record { fits = λ k is. receipts_fit _ (subst HasRoom (sym c.self.view_is) c.requires) c.args.movement.now.shares c.value.ensures.range.1 k }

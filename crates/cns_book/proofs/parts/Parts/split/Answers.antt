@@ -1,4 +1,4 @@
-use Rattle.std.proofs.Common.{◌≡◌, ◌∙◌, sym, ap, subst, refl}
+use Rattle.std.proofs.Common.{◌≡◌, ◌∙◌, sym, subst, refl}
 use Rattle.cns_terms.specs.declared.command.Activity.TheVariants as activity
 use Rattle.cns_terms.specs.declared.reply.Reply.TheVariants as reply
 use Rattle.cns_terms.specs.declared.holding.Key.{Key}
@@ -8,7 +8,7 @@ use Rattle.cns_positions.specs.Rows.{books, holding_at}
 use Rattle.cns_book.specs.Contents.{Contents}
 use Rattle.cns_book.specs.Effects.{split_rules}
 use Rattle.cns_book.specs.Follows.{Follows}
-use Rattle.cns_book.proofs.Acting.{no_fault, none_fails, not_true}
+use Rattle.cns_book.proofs.Acting.{no_fault, none_fails, not_true, split_ends}
 use Rattle.cns_book.proofs.Machine.{accepted, no_refusal}
 use Rattle.cns_book.proofs.Trading.{booked_by}
 use Rattle.cns_book.proofs.parts.Parts.split.Goals as goal
@@ -23,4 +23,4 @@ returns-in-Ok-clause-step g c L f =
     let none = no_refusal (rules c.self.inside.opening J x) (fails.0, (fails.1.0, (small, tt))) in
     let booked = subst (λ (t : Contents). (k : Key) → holding_at (g.P.Positions.rows c.in-Ok.positions) k ≡ books (entries t.opening (journal t.opening L) x) k (holding_at t.rows k)) (sym c.self.view_is) (c.in-Ok.ensures.booked L f) in
     accepted L x reply.Accepted none refl
-    (booked_by L _ x c.self.inside.trades (g.P.Positions.rows c.in-Ok.positions) f' (c.parts.ensures.old_range, c.value.ensures.range) none refl refl refl f'.references booked)
+    (booked_by L _ x c.self.inside.trades c.end_issue.new.self (g.P.Positions.rows c.in-Ok.positions) f' (c.parts.ensures.old_range, c.value.ensures.range) none refl refl refl refl f'.references (c.end_issue.ensures ∙ split_ends L c.args.split.now f') booked)

@@ -1,0 +1,57 @@
+-- The batches of the closed days after one activity more.
+use Rattle.std.proofs.Common.{◌≡◌, ◌∙◌, ap, refl, ℕ, false, List, [], ◌∷◌, ◌++◌, length, map, filter, is_some, Option, Some, None, reverse}
+use Rattle.std.specs.List.{AllByRecursion}
+use Rattle.std.specs.Option.{option_map_or}
+use Rattle.std.specs.Prelude.{nat_lt, ◌&&◌, ◌==◌}
+use Rattle.std.proofs.lemmas.List.{map-append, reverse-append}
+use Rattle.cns_units.specs.declared.cusip.Cusip.{Cusip}
+use Rattle.cns_units.specs.declared.day.Day.{Day}
+use Rattle.cns_terms.specs.declared.buy_in.Execution.{Execution}
+use Rattle.cns_terms.specs.declared.buy_in.Liable.{Liable}
+use Rattle.cns_terms.specs.declared.command.Activity.{Activity}
+use Rattle.cns_terms.specs.declared.command.Activity.TheVariants as activity
+use Rattle.cns_terms.specs.Batches.{Liables}
+use Rattle.cns_terms.specs.Days.{closings, day}
+use Rattle.cns_terms.specs.Entries.{posting}
+use Rattle.cns_terms.specs.Fills.{batch_since, batches_since, executes}
+use Rattle.cns_terms.specs.Listings.{issues}
+use Rattle.cns_terms.specs.Notices.{executed, notice_at}
+use Rattle.cns_terms.specs.Postings.{Journal, Posting}
+use Rattle.cns_terms.specs.Sums.{same_issue}
+use Rattle.cns_terms.proofs.BatchSteps.{batch_same}
+use Rattle.cns_terms.proofs.NoticeSteps.{map_each}
+use Rattle.cns_book.specs.Follows.{kept_batches}
+
+-- an activity that is no execution executes no notice
+pub executes_none : (J : Journal) (n : ℕ) (c : Cusip) (x : Activity) → is_some (executed x) ≡ false → executes J n c x ≡ false
+executes_none J n c x h = by (executed x) h
+  where
+    by : (o : Option Execution) → is_some o ≡ false → option_map_or (λ e. option_map_or (λ k. (k.given.day == n) && same_issue k.given.issue c) (notice_at J e.notice) false) o false ≡ false
+    by None h = refl
+    by (Some e) h = cc
+
+-- a batch in an issue
+abbrev pub in_issue : (Cusip → List Liable) → Cusip → Liables
+in_issue f c = record { cusip = c; members = f c }
+
+-- the batches of a day, after an activity that executes no notice of that day
+pub since_same : (p : Posting) (J K : Journal) → ((c : Cusip) → executes J (day K) c p.activity ≡ false) → batches_since (p ∷ J) K ≡ batches_since J K
+since_same p J K h =
+    ap (λ bs. filter (λ b. nat_lt 0 (length b.members)) bs) (map_each (in_issue (batch_since (p ∷ J) K)) (in_issue (batch_since J K)) (issues K) (each (issues K)))
+  where
+    each : (cs : List Cusip) → AllByRecursion (λ c. in_issue (batch_since (p ∷ J) K) c ≡ in_issue (batch_since J K) c) cs
+    each [] = tt
+    each (c ∷ cs) = ((λ i. record { cusip = c; members = batch_same p J K c (h c) i }), each cs)
+
+-- those of many days, after one that executes none at all
+pub batches_same : (p : Posting) (J : Journal) (Ks : List Journal) → ((n : ℕ) (c : Cusip) → executes J n c p.activity ≡ false) → map (batches_since (p ∷ J)) Ks ≡ map (batches_since J) Ks
+batches_same p J [] h = refl
+batches_same p J (K ∷ Ks) h = λ i. since_same p J K (h (day K)) i ∷ batches_same p J Ks h i
+
+-- the batches of the day that was closed come last
+pub batches_more : (opening : Day) (J : Journal) (d : Day) → kept_batches (posting opening J (activity.Close d) ∷ J) ≡ kept_batches J ++ batches_since J J ∷ []
+batches_more opening J d =
+    let p : Posting = posting opening J (activity.Close d) in
+    ap (map (batches_since (p ∷ J))) (reverse-append (J ∷ []) (closings J))
+    ∙ map-append (batches_since (p ∷ J)) (reverse (closings J)) (J ∷ [])
+    ∙ (λ i. batches_same p J (reverse (closings J)) (λ n c. executes_none J n c (activity.Close d) refl) i ++ since_same p J J (λ c. executes_none J (day J) c (activity.Close d) refl) i ∷ [])

@@ -1,0 +1,138 @@
+-- The batches of the closed days after an execution.
+use Rattle.std.proofs.Common.{◌≡◌, ◌∙◌, ap, refl, ℕ, zero, suc, ◌+◌, ◌<◌, Bool, true, false, cond, ◌&&◌, ◌==◌, List, [], ◌∷◌, ◌++◌, filter, length, map, Some, reverse, arith}
+use Rattle.std.specs.Option.{option_map_or}
+use Rattle.std.specs.Prelude.{nat_lt}
+use Rattle.std.proofs.lemmas.Bool.Decides.{nat_tests}
+use Rattle.std.proofs.lemmas.Cmp.{nat_list_eq_equiv}
+use Rattle.std.proofs.lemmas.List.{length-map, length-reverse, reverse-append}
+use Rattle.cns_units.specs.declared.cusip.Cusip.{Cusip}
+use Rattle.cns_units.specs.declared.day.Day.{Day}
+use Rattle.cns_terms.specs.declared.buy_in.Execution.{Execution}
+use Rattle.cns_terms.specs.declared.buy_in.Fill.{Fill}
+use Rattle.cns_terms.specs.declared.command.Activity.TheVariants as activity
+use Rattle.cns_terms.specs.Batches.{Liables}
+use Rattle.cns_terms.specs.Days.{closings, day, is_close}
+use Rattle.cns_terms.specs.Entries.{entries, execution_entries, posting}
+use Rattle.cns_terms.specs.Fills.{batch_since, batches_since, charged, executes, fills}
+use Rattle.cns_terms.specs.Listings.{issues}
+use Rattle.cns_terms.specs.Notices.{Notice, notice_at}
+use Rattle.cns_terms.specs.Postings.{Journal, Posting}
+use Rattle.cns_terms.specs.Sums.{changed_at, same_issue}
+use Rattle.cns_terms.proofs.BatchSteps.{batch_charged, batch_same}
+use Rattle.cns_terms.proofs.Facts.{eqb_sym}
+use Rattle.cns_retransmit.specs.Days.{charged_if, charged_in, charged_on}
+use Rattle.cns_book.specs.Follows.{kept_batches}
+use Rattle.cns_book.proofs.Batching.{in_issue, since_same}
+
+-- ---- the days of the closings
+
+-- days are numbered one after another
+abbrev pub AreDaysFrom : ℕ → List Journal → Type 0
+AreDaysFrom j [] = Unit {0}
+AreDaysFrom j (K ∷ Ks) = (day K ≡ j) × AreDaysFrom (suc j) Ks
+
+one_day_more : (j : ℕ) (Ks : List Journal) (K : Journal) → AreDaysFrom j Ks → day K ≡ j + length Ks → AreDaysFrom j (Ks ++ K ∷ [])
+one_day_more j [] K h e = (omega (arith, e), tt)
+one_day_more j (M ∷ Ks) K h e = (h.0, one_day_more (suc j) Ks K h.1 (omega (arith, e)))
+
+-- the first closed day is day 1
+days_from_one : (J : Journal) → AreDaysFrom 1 (reverse (closings J))
+days_from_one [] = tt
+days_from_one (p ∷ J) = by (is_close p.activity) (days_from_one J)
+  where
+    by : (b : Bool) → AreDaysFrom 1 (reverse (closings J)) → AreDaysFrom 1 (reverse (cond b (J ∷ closings J) (closings J)))
+    by false h = h
+    by true h = rw (reverse-append (J ∷ []) (closings J)) (one_day_more 1 (reverse (closings J)) J h (omega (arith, length-reverse (closings J))))
+
+-- ---- a change of one day
+
+module _ {X : Type 0} (h : X → X) (g : Journal → X) where
+  -- what stands for a day, changed on the day with the number
+  abbrev on_one : ℕ → Journal → X
+  on_one n K = cond (day K == n) (h (g K)) (g K)
+
+  others : (n j : ℕ) (Ks : List Journal) → AreDaysFrom j Ks → n < j → map (on_one n) Ks ≡ map g Ks
+  others n j [] a lt = refl
+  others n j (K ∷ Ks) a lt = λ i. cond (apart (day K) n (omega (arith, a.0, lt)) i) (h (g K)) (g K) ∷ others n (suc j) Ks a.1 (omega (arith, lt)) i
+    where
+      apart : (a b : ℕ) → b < a → (a == b) ≡ false
+      apart a b h = grind (arith, nat_tests)
+
+  at_day : (i j n : ℕ) (Ks : List Journal) → AreDaysFrom j Ks → n ≡ i + j → map (on_one n) Ks ≡ changed_at h i (map g Ks)
+  at_day i j n [] a e = refl
+  at_day zero j n (K ∷ Ks) a e = λ i. cond (same (day K) n (omega (arith, a.0, e)) i) (h (g K)) (g K) ∷ others n (suc j) Ks a.1 (omega (arith, e)) i
+    where
+      same : (a b : ℕ) → a ≡ b → (a == b) ≡ true
+      same a b h = grind (arith, nat_tests)
+  at_day (suc i) j n (K ∷ Ks) a e = λ t. cond (other (day K) n (omega (arith, a.0, e)) t) (h (g K)) (g K) ∷ at_day i (suc j) n Ks a.1 (omega (arith, e)) t
+    where
+      other : (a b : ℕ) → a < b → (a == b) ≡ false
+      other a b h = grind (arith, nat_tests)
+
+-- ---- the batches of one day
+
+-- fills leave nobody out of a batch
+charged_kept : (c : Cusip) (fs : List Fill) (bs : List Liables) → filter (λ b. nat_lt 0 (length b.members)) (map (charged_if c fs) bs) ≡ map (charged_if c fs) (filter (λ b. nat_lt 0 (length b.members)) bs)
+charged_kept c fs [] = refl
+charged_kept c fs (b ∷ bs) = ap (λ n. cond (nat_lt 0 n) (charged_if c fs b ∷ rest) rest) (as_many (same_issue b.cusip c)) ∙ kept (nat_lt 0 (length b.members)) (charged_kept c fs bs)
+  where
+    rest : List Liables
+    rest = filter (λ b. nat_lt 0 (length b.members)) (map (charged_if c fs) bs)
+
+    as_many : (t : Bool) → length (cond t (record { cusip = b.cusip; members = map (charged fs) b.members }) b).members ≡ length b.members
+    as_many true = length-map b.members (charged fs)
+    as_many false = refl
+
+    kept : (t : Bool) → rest ≡ map (charged_if c fs) (filter (λ b. nat_lt 0 (length b.members)) bs) → cond t (charged_if c fs b ∷ rest) rest ≡ map (charged_if c fs) (cond t (b ∷ filter (λ b. nat_lt 0 (length b.members)) bs) (filter (λ b. nat_lt 0 (length b.members)) bs))
+    kept true e = ap (λ xs. charged_if c fs b ∷ xs) e
+    kept false e = e
+
+module _ (opening : Day) (J : Journal) (x : Execution) (k : Notice) (is : notice_at J x.notice ≡ Some k) where
+  -- the execution of a notice
+  abbrev post : Posting
+  post = posting opening J (activity.Execute x)
+
+  -- what it books
+  pub booked_for : entries opening J (activity.Execute x) ≡ execution_entries J x k
+  booked_for = ap (λ o. option_map_or (execution_entries J x) o []) is
+
+  -- whether it executes a notice of a day in an issue
+  executes_one : (n : ℕ) (c : Cusip) → executes J n c (activity.Execute x) ≡ (n == k.given.day) && same_issue c k.given.issue
+  executes_one n c =
+      ap (λ o. option_map_or (λ (m : Notice). (m.given.day == n) && same_issue m.given.issue c) o false) is
+      ∙ (λ i. eqb_sym k.given.day n i && nat_list_eq_equiv.symm k.given.issue c i)
+
+  -- the batch of its day in an issue
+  one_charged : (K : Journal) (d : Cusip) → (day K == k.given.day) ≡ true → in_issue (batch_since (post ∷ J) K) d ≡ charged_if k.given.issue (fills J x k) (in_issue (batch_since J K) d)
+  one_charged K d today = by (same_issue d k.given.issue) refl
+    where
+      by : (t : Bool) → same_issue d k.given.issue ≡ t → in_issue (batch_since (post ∷ J) K) d ≡ cond t (record { cusip = d; members = map (charged (fills J x k)) (batch_since J K d) }) (in_issue (batch_since J K) d)
+      by true e = λ i. record { cusip = d; members = batch_charged post J K d x k (executes_one (day K) d ∙ (λ j. today j && e j)) booked_for (nat_list_eq_equiv.symm k.given.issue d ∙ e) i }
+      by false e = λ i. record { cusip = d; members = batch_same post J K d (executes_one (day K) d ∙ (λ j. today j && e j)) i }
+
+  all_charged : (K : Journal) (ds : List Cusip) → (day K == k.given.day) ≡ true → map (in_issue (batch_since (post ∷ J) K)) ds ≡ map (charged_if k.given.issue (fills J x k)) (map (in_issue (batch_since J K)) ds)
+  all_charged K [] today = refl
+  all_charged K (d ∷ ds) today = λ i. one_charged K d today i ∷ all_charged K ds today i
+
+  -- the batches of a day
+  day_charged : (K : Journal) → batches_since (post ∷ J) K ≡ on_one (charged_in k.given.issue (fills J x k)) (batches_since J) k.given.day K
+  day_charged K = by (day K == k.given.day) refl
+    where
+      by : (t : Bool) → (day K == k.given.day) ≡ t → batches_since (post ∷ J) K ≡ cond t (charged_in k.given.issue (fills J x k) (batches_since J K)) (batches_since J K)
+      by true e = ap (filter (λ b. nat_lt 0 (length b.members))) (all_charged K (issues K) e) ∙ charged_kept k.given.issue (fills J x k) (map (in_issue (batch_since J K)) (issues K))
+      by false e = since_same post J K (λ c. executes_one (day K) c ∙ (λ i. e i && same_issue c k.given.issue))
+
+  -- the batches of all closed days
+  pub batches_charged : kept_batches (post ∷ J) ≡ charged_on (kept_batches J) k.given.day k.given.issue (fills J x k)
+  batches_charged = all (reverse (closings J)) ∙ by k.given.day
+    where
+      step : ℕ → Journal → List Liables
+      step n = on_one (charged_in k.given.issue (fills J x k)) (batches_since J) n
+
+      all : (Ks : List Journal) → map (batches_since (post ∷ J)) Ks ≡ map (step k.given.day) Ks
+      all [] = refl
+      all (K ∷ Ks) = λ i. day_charged K i ∷ all Ks i
+
+      by : (n : ℕ) → map (step n) (reverse (closings J)) ≡ charged_on (kept_batches J) n k.given.issue (fills J x k)
+      by zero = others (charged_in k.given.issue (fills J x k)) (batches_since J) 0 1 (reverse (closings J)) (days_from_one J) (omega arith)
+      by (suc n) = at_day (charged_in k.given.issue (fills J x k)) (batches_since J) n 1 (suc n) (reverse (closings J)) (days_from_one J) (omega arith)

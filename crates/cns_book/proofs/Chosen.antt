@@ -1,0 +1,122 @@
+-- The batches that a close chooses are those of the definitions.
+use Rattle.std.proofs.Common.{◌≡◌, ◌∙◌, ap, sym, refl, Bool, true, false, cond, ◌||◌, List, [], ◌∷◌, filter, length, map, Option, Some, None}
+use Rattle.std.specs.Cmp.Lexicographic.{slice_cmp}
+use Rattle.std.specs.FinMap.{find, is_sorted}
+use Rattle.std.specs.FinMap.Entries.{below_all}
+use Rattle.std.specs.List.{list_any}
+use Rattle.std.specs.Option.{option_map_or}
+use Rattle.std.specs.Ordering.{is_eq, nat_cmp}
+use Rattle.std.specs.Prelude.{bytes_eq, nat_lt, option_map}
+use Rattle.std.proofs.lemmas.Cmp.{nat_list_cmp_total}
+use Rattle.std.proofs.lemmas.Map.Lookups.{exact_bytes}
+use Rattle.std.proofs.lemmas.Slice.Eq.{bytes_eq-Decides}
+use Rattle.cns_units.specs.declared.cusip.Cusip.{Cusip}
+use Rattle.cns_terms.specs.declared.buy_in.Liable.{Liable}
+use Rattle.cns_terms.specs.Batches.{Liables, chosen}
+use Rattle.cns_terms.proofs.Facts.{and_left, and_right, both_true, same_test}
+use Rattle.cns_terms.proofs.Finds.{find_filter, kept_if, same_lists, sorted_filter}
+use Rattle.cns_terms.proofs.Rising.{above_all, is_rising}
+use Rattle.cns_retransmit.specs.Calls.{CalledIn, batch_of, batches_of, called_in}
+
+-- whether anybody is liable
+abbrev has_members : Liables → Bool
+has_members b = nat_lt 0 (length b.members)
+
+-- ---- a value for each issue
+
+-- what stands below an issue stands below it with its value
+below_with : {X : Type 0} (p : Cusip → X) (c : Cusip) (cs : List Cusip) → above_all (slice_cmp nat_cmp) c cs ≡ true → below_all (slice_cmp nat_cmp) c (map (λ d. (d, p d)) cs) ≡ true
+below_with p c [] h = refl
+below_with p c (d ∷ cs) h = both_true _ _ (and_left _ _ h) (below_with p c cs (and_right _ _ h))
+
+sorted_with : {X : Type 0} (p : Cusip → X) (cs : List Cusip) → is_rising (slice_cmp nat_cmp) cs ≡ true → is_sorted (slice_cmp nat_cmp) (map (λ d. (d, p d)) cs) ≡ true
+sorted_with p [] h = refl
+sorted_with p (c ∷ cs) h = both_true _ _ (below_with p c cs (and_left _ _ h)) (sorted_with p cs (and_right _ _ h))
+
+-- the value of an issue among those of issues
+find_with : {X : Type 0} (p : Cusip → X) (c : Cusip) (cs : List Cusip) → find (slice_cmp nat_cmp) c (map (λ d. (d, p d)) cs) ≡ cond (list_any (λ d. bytes_eq d c) cs) (Some (p c)) None
+find_with p c [] = refl
+find_with p c (d ∷ cs) =
+    (λ i. cond (same_test c d i) (Some (p d)) (find_with p c cs i))
+    ∙ found (bytes_eq d c) (list_any (λ d. bytes_eq d c) cs) (λ e. (bytes_eq-Decides d c).0 e)
+  where
+    found : (b rest : Bool) → (b ≡ true → d ≡ c) → cond b (Some (p d)) (cond rest (Some (p c)) None) ≡ cond (b || rest) (Some (p c)) None
+    found true rest h = ap (λ q. Some (p q)) (h refl)
+    found false rest h = refl
+
+-- ---- what is called, by issue
+
+-- each issue with its batch
+abbrev with_batches : List (Cusip × CalledIn) → List (Cusip × Liables)
+with_batches es = map (λ e. (e.0, batch_of e)) es
+
+below_batches : (c : Cusip) (es : List (Cusip × CalledIn)) → below_all (slice_cmp nat_cmp) c es ≡ true → below_all (slice_cmp nat_cmp) c (with_batches es) ≡ true
+below_batches c [] h = refl
+below_batches c (e ∷ es) h = both_true _ _ (and_left _ _ h) (below_batches c es (and_right _ _ h))
+
+sorted_batches : (es : List (Cusip × CalledIn)) → is_sorted (slice_cmp nat_cmp) es ≡ true → is_sorted (slice_cmp nat_cmp) (with_batches es) ≡ true
+sorted_batches [] h = refl
+sorted_batches (e ∷ es) h = both_true _ _ (below_batches e.0 es (and_left _ _ h)) (sorted_batches es (and_right _ _ h))
+
+-- the batch of an issue
+find_batch : (c : Cusip) (es : List (Cusip × CalledIn)) → find (slice_cmp nat_cmp) c (with_batches es) ≡ option_map (λ x. batch_of (c, x)) (called_in es c)
+find_batch c [] = refl
+find_batch c (e ∷ es) = here (is_eq (slice_cmp nat_cmp c e.0)) (λ t. (bytes_eq-Decides e.0 c).0 (sym (same_test c e.0) ∙ t)) (find_batch c es)
+  where
+    here : (b : Bool) → (b ≡ true → e.0 ≡ c) → find (slice_cmp nat_cmp) c (with_batches es) ≡ option_map (λ x. batch_of (c, x)) (called_in es c) → cond b (Some (batch_of e)) (find (slice_cmp nat_cmp) c (with_batches es)) ≡ option_map (λ x. batch_of (c, x)) (cond b (Some e.1) (called_in es c))
+    here true h r = ap (λ d. Some (batch_of (d, e.1))) (h refl)
+    here false h r = r
+
+-- ---- the same batches
+
+-- whoever is liable in an issue by what is called is so by the definitions
+abbrev pub AreSameBatches : (Cusip → List Liable) → List Cusip → List (Cusip × CalledIn) → Type 0
+AreSameBatches g cs es = (c : Cusip) → option_map_or (λ x. chosen x.shorts x.total) (called_in es c) [] ≡ cond (list_any (λ d. bytes_eq d c) cs) (g c) []
+
+-- a batch, if anybody is in it
+abbrev kept_of : Cusip → List Liable → Option Liables
+kept_of c ls = cond (nat_lt 0 (length ls)) (Some (record { cusip = c; members = ls })) None
+
+-- a batch in which nobody is is none
+same_kept : (c : Cusip) (o : Option CalledIn) (b : Bool) (ls : List Liable) → option_map_or (λ x. chosen x.shorts x.total) o [] ≡ cond b ls [] → kept_if has_members (option_map (λ x. batch_of (c, x)) o) ≡ kept_if has_members (cond b (Some (record { cusip = c; members = ls })) None)
+same_kept c None true ls h = ap (kept_of c) h
+same_kept c None false ls h = refl
+same_kept c (Some x) true ls h = ap (kept_of c) h
+same_kept c (Some x) false ls h = ap (kept_of c) h
+
+-- the values of a filtered list
+filtered_values : (es : List (Cusip × Liables)) → map (λ e. e.1) (filter (λ e. has_members e.1) es) ≡ filter has_members (map (λ e. e.1) es)
+filtered_values [] = refl
+filtered_values (e ∷ es) = here (has_members e.1) (filtered_values es)
+  where
+    here : (b : Bool) → map (λ e. e.1) (filter (λ e. has_members e.1) es) ≡ filter has_members (map (λ e. e.1) es) → map (λ e. e.1) (cond b (e ∷ filter (λ e. has_members e.1) es) (filter (λ e. has_members e.1) es)) ≡ cond b (e.1 ∷ filter has_members (map (λ e. e.1) es)) (filter has_members (map (λ e. e.1) es))
+    here true h = ap (λ bs. e.1 ∷ bs) h
+    here false h = h
+
+values_of : (es : List (Cusip × CalledIn)) → map (λ e. e.1) (with_batches es) ≡ map batch_of es
+values_of [] = refl
+values_of (e ∷ es) = ap (λ bs. batch_of e ∷ bs) (values_of es)
+
+values_with : {X : Type 0} (p : Cusip → X) (cs : List Cusip) → map (λ (e : Cusip × X). e.1) (map (λ d. (d, p d)) cs) ≡ map p cs
+values_with p [] = refl
+values_with p (c ∷ cs) = ap (λ xs. p c ∷ xs) (values_with p cs)
+
+-- the batches of what is called are those of the issues
+pub batches_same : (g : Cusip → List Liable) (cs : List Cusip) (es : List (Cusip × CalledIn)) → is_rising (slice_cmp nat_cmp) cs ≡ true → is_sorted (slice_cmp nat_cmp) es ≡ true → AreSameBatches g cs es → batches_of es ≡ filter has_members (map (λ c. record { cusip = c; members = g c }) cs)
+batches_same g cs es rising sorted h =
+    let R = slice_cmp nat_cmp in
+    let p : Cusip → Liables = λ c. record { cusip = c; members = g c } in
+    let xs : List (Cusip × Liables) = with_batches es in
+    let ys : List (Cusip × Liables) = map (λ c. (c, p c)) cs in
+    let s = sorted_batches es sorted in
+    let t = sorted_with p cs rising in
+    let alike : (c : Cusip) → find R c (filter (λ e. has_members e.1) xs) ≡ find R c (filter (λ e. has_members e.1) ys) = λ c.
+    find_filter nat_list_cmp_total has_members c xs s
+    ∙ ap (kept_if has_members) (find_batch c es)
+    ∙ same_kept c (called_in es c) (list_any (λ d. bytes_eq d c) cs) (g c) (h c)
+    ∙ ap (kept_if has_members) (sym (find_with p c cs))
+    ∙ sym (find_filter nat_list_cmp_total has_members c ys t) in
+    let lists = same_lists nat_list_cmp_total exact_bytes (filter (λ e. has_members e.1) xs) (filter (λ e. has_members e.1) ys) (sorted_filter nat_list_cmp_total has_members xs s) (sorted_filter nat_list_cmp_total has_members ys t) alike in
+    ap (filter has_members) (sym (values_of es)) ∙ sym (filtered_values xs)
+    ∙ ap (map (λ e. e.1)) lists
+    ∙ filtered_values ys ∙ ap (filter has_members) (values_with p cs)

@@ -1,0 +1,168 @@
+-- How much is received and bought in on a notice, and of which days notices are.
+use Rattle.std.proofs.Common.{◌≡◌, ◌∙◌, ap, sym, subst, refl, ℕ, zero, suc, ◌+◌, ◌*◌, ◌-◌, ◌^◌, ◌≤◌, ◌<◌, Bool, true, false, cond, ◌&&◌, ◌==◌, List, [], ◌∷◌, ◌++◌, length, map, Option, Some, None, arith}
+use Rattle.std.specs.List.{AllByRecursion, slice_get}
+use Rattle.std.specs.Option.{ForSome, option_map_or}
+use Rattle.std.proofs.lemmas.List.{length-map}
+use Rattle.cns_units.specs.declared.day.Day.{Day}
+use Rattle.cns_terms.specs.declared.command.Activity.{Activity}
+use Rattle.cns_terms.specs.declared.command.Activity.TheVariants as activity
+use Rattle.cns_terms.specs.declared.command.Movement.{Movement}
+use Rattle.cns_terms.specs.Days.{day}
+use Rattle.cns_terms.specs.Entries.{journal}
+use Rattle.cns_terms.specs.Limits.{history_limit, shares_limit}
+use Rattle.cns_terms.specs.Notices.{Notice, execution, is_given, is_live, notice, noticed, notices, receipt, received_live, shares_executed, stage}
+use Rattle.cns_terms.specs.Postings.{Journal}
+use Rattle.cns_terms.specs.Reached.{IsInRange, IsReached}
+use Rattle.cns_terms.specs.Sums.{same_issue}
+use Rattle.cns_terms.proofs.Everywhere.{each_append, each_map}
+use Rattle.cns_terms.proofs.Facts.{journal_len}
+use Rattle.cns_notices.specs.declared.noticed.Noticed.{Noticed}
+use Rattle.cns_notices.specs.Kept.{kept, kept_notices}
+use Rattle.cns_notices.specs.Noticed.{notice_at}
+use Rattle.cns_notices.proofs.NoticeFacts.{days_by, notices_few}
+use Rattle.cns_book.specs.Contents.{Contents}
+use Rattle.cns_book.specs.Follows.{HasRoom}
+
+-- ---- one activity
+
+-- shares where a test says so
+some_or_none : (b : Bool) (n : ℕ) → n ≤ shares_limit → cond b n 0 ≤ shares_limit
+some_or_none true n h = h
+some_or_none false n h = omega arith
+
+-- an activity in its ranges receives no more shares than one command can
+receipt_small : (n : Notice) (x : Activity) → IsInRange x → receipt n x ≤ shares_limit
+receipt_small n (activity.Member m) r = omega arith
+receipt_small n (activity.Issue l) r = omega arith
+receipt_small n (activity.Trade t) r = omega arith
+receipt_small n (activity.Price l) r = omega arith
+receipt_small n (activity.Deliver m) r = omega arith
+receipt_small n (activity.Receive m) r = some_or_none ((m.member == n.given.member) && same_issue m.issue n.given.issue) m.shares r
+receipt_small n (activity.Dividend d) r = omega arith
+receipt_small n (activity.Split s) r = omega arith
+receipt_small n (activity.Exchange x) r = omega arith
+receipt_small n (activity.Notice m) r = omega arith
+receipt_small n (activity.Withdraw k) r = omega arith
+receipt_small n (activity.Execute x) r = omega arith
+receipt_small n (activity.Close d) r = omega arith
+
+-- nor does it buy in more
+execution_small : (n : Notice) (x : Activity) → IsInRange x → execution n x ≤ shares_limit
+execution_small n (activity.Member m) r = omega arith
+execution_small n (activity.Issue l) r = omega arith
+execution_small n (activity.Trade t) r = omega arith
+execution_small n (activity.Price l) r = omega arith
+execution_small n (activity.Deliver m) r = omega arith
+execution_small n (activity.Receive m) r = omega arith
+execution_small n (activity.Dividend d) r = omega arith
+execution_small n (activity.Split s) r = omega arith
+execution_small n (activity.Exchange x) r = omega arith
+execution_small n (activity.Notice m) r = omega arith
+execution_small n (activity.Withdraw k) r = omega arith
+execution_small n (activity.Execute x) r = some_or_none (x.notice == n.number) x.shares r.1
+execution_small n (activity.Close d) r = omega arith
+
+-- nor does it give notice of more
+noticed_small : (x : Activity) → IsInRange x → ForSome (noticed x) (λ m. m.shares ≤ shares_limit)
+noticed_small (activity.Notice m) r n e = subst (λ (m : Movement). m.shares ≤ shares_limit) (inside e) r
+  where
+    inside : Some m ≡ Some n → m ≡ n
+    inside e = cc
+noticed_small (activity.Member m) r n e = cc
+noticed_small (activity.Issue l) r n e = cc
+noticed_small (activity.Trade t) r n e = cc
+noticed_small (activity.Price l) r n e = cc
+noticed_small (activity.Deliver m) r n e = cc
+noticed_small (activity.Receive m) r n e = cc
+noticed_small (activity.Dividend d) r n e = cc
+noticed_small (activity.Split s) r n e = cc
+noticed_small (activity.Exchange x) r n e = cc
+noticed_small (activity.Withdraw k) r n e = cc
+noticed_small (activity.Execute x) r n e = cc
+noticed_small (activity.Close d) r n e = cc
+
+-- ---- many
+
+one_more : (b : Bool) (n m k : ℕ) → n ≤ shares_limit → m ≤ shares_limit * k → cond b n 0 + m ≤ shares_limit * suc k
+one_more true n m k h l = omega (arith, h, l)
+one_more false n m k h l = omega (arith, l)
+
+-- what is received on a notice
+received_few : (opening : Day) (L : List Activity) (n : Notice) → IsReached opening L → received_live (journal opening L) n ≤ shares_limit * length L
+received_few opening [] n r = omega arith
+received_few opening (x ∷ L) n r =
+    let J = journal opening L in
+    one_more (is_given J n && is_live (stage J n)) (receipt n x) (received_live J n) (length L) (receipt_small n x r.0) (received_few opening L n r.2)
+
+-- what is bought in on it
+executed_few : (opening : Day) (L : List Activity) (n : Notice) → IsReached opening L → shares_executed (journal opening L) n ≤ shares_limit * length L
+executed_few opening [] n r = omega arith
+executed_few opening (x ∷ L) n r =
+    let J = journal opening L in
+    one_more (is_given J n) (execution n x) (shares_executed J n) (length L) (execution_small n x r.0) (executed_few opening L n r.2)
+
+-- what notices are given for
+pub given_few : (opening : Day) (L : List Activity) → IsReached opening L → AllByRecursion (λ n. n.given.shares ≤ shares_limit) (notices (journal opening L))
+given_few opening [] r = tt
+given_few opening (x ∷ L) r = by (noticed x) (noticed_small x r.0) (given_few opening L r.2)
+  where
+    by : (o : Option Movement) → ForSome o (λ m. m.shares ≤ shares_limit) → AllByRecursion (λ n. n.given.shares ≤ shares_limit) (notices (journal opening L)) → AllByRecursion (λ n. n.given.shares ≤ shares_limit) (option_map_or (λ m. notices (journal opening L) ++ (notice (length (notices (journal opening L)) + 1) (day (journal opening L)) m ∷ [])) o (notices (journal opening L)))
+    by None small h = h
+    by (Some m) small h = each_append (λ n. n.given.shares ≤ shares_limit) (notices (journal opening L)) (notice (length (notices (journal opening L)) + 1) (day (journal opening L)) m ∷ []) h (small m refl, tt)
+
+-- what holds of each holds of the one at a place
+pub each_at : {X : Type 0} (P : X → Type 0) (xs : List X) (i : ℕ) → AllByRecursion P xs → ForSome (slice_get xs i) P
+each_at P [] i a y e = cc
+each_at P (x ∷ xs) zero a y e = subst P (inside e) a.0
+  where
+    inside : Some x ≡ Some y → x ≡ y
+    inside e = cc
+each_at P (x ∷ xs) (suc i) a y e = each_at P xs i a.1 y e
+
+-- what holds of each notice holds of each that is kept
+each_kept : (P : Noticed → Type 0) (J : Journal) → ((n : Notice) → P (kept J n)) → AllByRecursion P (kept_notices J)
+each_kept P J h = all (notices J)
+  where
+    all : (ns : List Notice) → AllByRecursion P (map (kept J) ns)
+    all [] = tt
+    all (n ∷ ns) = (h n, all ns)
+
+-- so many shares more can be counted
+fits : (m n k : ℕ) → n ≤ shares_limit * k → k + 1 < history_limit → m ≤ shares_limit → n + m < 2 ^ 64
+fits m n k h l s = omega (arith, h, l, s)
+
+-- a receipt can be counted on any notice
+pub receipts_fit : (s : Contents) → HasRoom s → (m : ℕ) → m ≤ shares_limit → (k : ℕ) → ForSome (notice_at s.notices k) (λ x. x.received + m < 2 ^ 64)
+receipts_fit s room m small k =
+    let L = room.activities in
+    let J = journal s.opening L in
+    subst (λ (xs : List Noticed). ForSome (notice_at xs k) (λ x. x.received + m < 2 ^ 64)) (sym room.follows.notices)
+    (each_at (λ x. x.received + m < 2 ^ 64) (kept_notices J) (k - 1) (each_kept (λ x. x.received + m < 2 ^ 64) J (λ n. fits m (received_live J n) (length L) (received_few s.opening L n room.follows.reached) room.few small)))
+
+-- and so can an execution
+pub executions_fit : (s : Contents) → HasRoom s → (m : ℕ) → m ≤ shares_limit → (k : ℕ) → ForSome (notice_at s.notices k) (λ x. x.executed + m < 2 ^ 64)
+executions_fit s room m small k =
+    let L = room.activities in
+    let J = journal s.opening L in
+    subst (λ (xs : List Noticed). ForSome (notice_at xs k) (λ x. x.executed + m < 2 ^ 64)) (sym room.follows.notices)
+    (each_at (λ x. x.executed + m < 2 ^ 64) (kept_notices J) (k - 1) (each_kept (λ x. x.executed + m < 2 ^ 64) J (λ n. fits m (shares_executed J n) (length L) (executed_few s.opening L n room.follows.reached) room.few small)))
+
+-- ---- how many, and of which days
+
+-- one notice more can be numbered
+pub notices_fit : (s : Contents) → HasRoom s → length s.notices + 1 < history_limit
+notices_fit s room =
+    let L = room.activities in
+    let J = journal s.opening L in
+    let same : length s.notices ≡ length (notices J) = ap (λ (xs : List Noticed). length xs) room.follows.notices ∙ length-map (notices J) (kept J) in
+    let few = room.few in
+    omega (arith, same, notices_few J, journal_len s.opening L, few)
+
+-- no notice is of a day after the open one
+pub last_day : (s : Contents) → HasRoom s → (k : ℕ) → ForSome (notice_at s.notices k) (λ x. x.given.day ≤ s.closes + 1)
+last_day s room k =
+    let L = room.activities in
+    let J = journal s.opening L in
+    let each : AllByRecursion (λ (x : Noticed). x.given.day ≤ day J) (kept_notices J) = each_map (λ (x : Noticed). x.given.day ≤ day J) (kept J) (notices J) (days_by J) in
+    subst (λ n. ForSome (notice_at s.notices k) (λ x. x.given.day ≤ n + 1)) (sym room.follows.clock.closes)
+    (subst (λ (xs : List Noticed). ForSome (notice_at xs k) (λ x. x.given.day ≤ day J)) (sym room.follows.notices) (each_at (λ (x : Noticed). x.given.day ≤ day J) (kept_notices J) (k - 1) each))

@@ -1,0 +1,228 @@
+-- Notices and withdrawals: what they are refused for, and what they leave.
+use Rattle.std.proofs.Common.{◌≡◌, ◌∙◌, ap, sym, refl, ℕ, zero, suc, ◌+◌, ◌-◌, ◌≤◌, ℤ, pos, Bool, true, false, not, cond, List, [], ◌∷◌, ◌++◌, length, map, Option, Some, None, ◌⊎◌, inl, inr, is_none, is_some, arith}
+use Rattle.std.specs.List.{slice_get}
+use Rattle.std.specs.Option.{IsSomeAnd, option_map_or}
+use Rattle.std.specs.Prelude.{◌==◌, find, int_le, nat_le, option_map}
+use Rattle.std.proofs.lemmas.Bool.Decides.{nat_tests}
+use Rattle.std.proofs.lemmas.List.{length-map}
+use Rattle.cns_units.specs.declared.day.Day.{Day}
+use Rattle.cns_terms.specs.declared.buy_in.Given.{Given}
+use Rattle.cns_terms.specs.declared.buy_in.Stage.{Stage}
+use Rattle.cns_terms.specs.declared.buy_in.Stage.TheVariants.{Live, Withdrawn, Ended, Expired}
+use Rattle.cns_terms.specs.declared.command.Activity.{Activity}
+use Rattle.cns_terms.specs.declared.command.Activity.TheVariants as activity
+use Rattle.cns_terms.specs.declared.command.Command.TheVariants as command
+use Rattle.cns_terms.specs.declared.command.Movement.{Movement}
+use Rattle.cns_terms.specs.declared.refusal.Refusal.TheVariants.{AlreadyNoticed, ExceedsPosition, NoSuchIssue, NoSuchMember, NoSuchNotice, NotLive, NotLong, Retired}
+use Rattle.cns_terms.specs.Days.{is_close}
+use Rattle.cns_terms.specs.Entries.{entries, journal, posting}
+use Rattle.cns_terms.specs.Listings.{is_listed, is_member, is_retired, is_seen}
+use Rattle.cns_terms.specs.Notices.{Notice, first_reached, is_live, is_so, live_notice, notice_at, notices, stage}
+use Rattle.cns_terms.specs.Positions.{position}
+use Rattle.cns_terms.specs.Postings.{Journal, Posting}
+use Rattle.cns_terms.specs.Reached.{IsInRange}
+use Rattle.cns_terms.specs.Refusals.{first_refusal, is_exceeded, refusal}
+use Rattle.cns_terms.proofs.NoticeSteps.{AreNumberedFrom, numbered}
+use Rattle.cns_positions.specs.Rows.{books, holding_at}
+use Rattle.cns_notices.specs.declared.noticed.Noticed.{Noticed}
+use Rattle.cns_notices.specs.Kept.{kept}
+use Rattle.cns_notices.specs.Noticed.{at_stage, live_number, notice_at as kept_at, opened, receives, with_notice}
+use Rattle.cns_notices.proofs.NoticeFacts.{kept_found, live_same}
+use Rattle.cns_notices.proofs.Noticing.{changed_each, changed_one, changed_same, notice_found, notice_more, received_by, taken_back, withdrawn_by}
+use Rattle.cns_book.specs.Contents.{Contents}
+use Rattle.cns_book.specs.Follows.{Follows, FollowsNotices}
+use Rattle.cns_book.specs.Retransmittal.{remaining_by}
+use Rattle.cns_book.specs.Shown.{notice_listed, notice_of}
+use Rattle.cns_book.proofs.Calls.{remaining_same}
+use Rattle.cns_book.proofs.Places.{books_none}
+use Rattle.cns_book.proofs.Staying.{is_dividend, is_execution, is_listing}
+use Rattle.cns_book.proofs.Trading.{booked_by}
+
+-- an activity that books nothing, where the notices follow it
+pub noticed_by : (L : List Activity) (s : Contents) (x : Activity) (notices : List Noticed) → Follows L s → IsInRange x → refusal s.opening (journal s.opening L) (command.Activity x) ≡ None → is_close x ≡ false → is_listing x ≡ false → is_dividend x ≡ false → is_execution x ≡ false
+    → entries s.opening (journal s.opening L) x ≡ [] → ((r : ℕ) → is_seen (journal s.opening (x ∷ L)) r ≡ is_seen (journal s.opening L) r)
+    → FollowsNotices (journal s.opening (x ∷ L)) (record s { notices = notices }) → Follows (x ∷ L) (record s { notices = notices })
+noticed_by L s x notices f range none still unlisted undeclared unexecuted nothing seen n =
+    booked_by L s x s.references notices s.rows f range none still unlisted undeclared unexecuted (λ r. f.references r ∙ sym (seen r)) n
+    (λ k. sym (ap (λ es. books es k (holding_at s.rows k)) nothing ∙ books_none k (holding_at s.rows k)))
+
+-- ---- a receipt
+
+-- the notices after a receipt
+pub receipt_counted : {s : Contents} (L : List Activity) (m : Movement) → Follows L s → FollowsNotices (journal s.opening (activity.Receive m ∷ L)) (record s { notices = map (receives m.member m.issue m.shares) s.notices })
+receipt_counted {s} L m f =
+    let J = journal s.opening L in
+    ap (map (receives m.member m.issue m.shares)) f.notices ∙ sym (changed_each J (posting s.opening J (activity.Receive m)) (receives m.member m.issue m.shares) (λ k y. received_by m y))
+
+-- ---- a notice
+
+-- the notices after one more
+pub notice_given : (L : List Activity) (s : Contents) (m : Movement) → Follows L s → IsInRange (activity.Notice m) → refusal s.opening (journal s.opening L) (command.Activity (activity.Notice m)) ≡ None
+    → Follows (activity.Notice m ∷ L) (record s { notices = s.notices ++ opened (record { member = m.member; issue = m.issue; shares = m.shares; day = s.closes + 1 }) ∷ [] })
+notice_given L s m f range none =
+    let J = journal s.opening L in
+    let p : Posting = posting s.opening J (activity.Notice m) in
+    noticed_by L s (activity.Notice m) _ f range none refl refl refl refl refl (λ r. refl)
+    ((λ i. f.notices i ++ opened (record { member = m.member; issue = m.issue; shares = m.shares; day = f.clock.closes i + 1 }) ∷ []) ∙ sym (notice_more p J m (λ k y. refl)))
+
+-- what a notice is refused for, where it is of a long member's shares in a current issue
+pub notice_answer : (L : List Activity) (s : Contents) (m : Movement) (q : ℤ) → Follows L s → Some q ≡ cond (is_member (journal s.opening L) m.member) (Some (position (journal s.opening L) m.member m.issue)) None → is_listed (journal s.opening L) m.issue ≡ true → is_retired (journal s.opening L) m.issue ≡ false
+    → is_exceeded q m.shares ≡ false → int_le q (pos 0) ≡ false → refusal s.opening (journal s.opening L) (command.Activity (activity.Notice m)) ≡ option_map AlreadyNoticed (live_number s.notices m.member m.issue)
+notice_answer L s m q f member listed current enough long =
+    let J = journal s.opening L in
+    let at = member_at (is_member J m.member) (position J m.member m.issue) q member in
+    (λ i. first_refusal (
+    (NoSuchMember, not (at.0 i)) ∷ (NoSuchIssue, not (listed i)) ∷ (Retired, current i)
+    ∷ (ExceedsPosition, (ap (λ z. is_exceeded z m.shares) at.1 ∙ enough) i) ∷ (NotLong, (ap (λ z. int_le z (pos 0)) at.1 ∙ long) i)
+    ∷ (AlreadyNoticed (option_map_or (λ n. n.number) (live_notice J m.member m.issue) 0), is_some (live_notice J m.member m.issue)) ∷ []))
+    ∙ by (live_notice J m.member m.issue)
+    ∙ ap (option_map AlreadyNoticed) (sym (ap (λ xs. live_number xs m.member m.issue) f.notices ∙ live_same J m.member m.issue))
+  where
+    member_at : (b : Bool) (p q : ℤ) → Some q ≡ cond b (Some p) None → (b ≡ true) × (p ≡ q)
+    member_at true p q e = (refl, cc)
+    member_at false p q e = cc
+
+    by : (o : Option Notice) → first_refusal ((NoSuchMember, false) ∷ (NoSuchIssue, false) ∷ (Retired, false) ∷ (ExceedsPosition, false) ∷ (NotLong, false) ∷ (AlreadyNoticed (option_map_or (λ n. n.number) o 0), is_some o) ∷ []) ≡ option_map AlreadyNoticed (option_map (λ n. n.number) o)
+    by None = refl
+    by (Some n) = refl
+
+-- how many notices there are
+pub notices_counted : (L : List Activity) (s : Contents) → Follows L s → length s.notices ≡ length (notices (journal s.opening L))
+notices_counted L s f = ap (λ (xs : List Noticed). length xs) f.notices ∙ length-map (notices (journal s.opening L)) (kept (journal s.opening L))
+
+-- ---- a notice with a number
+
+-- where none has the number, none is found
+pub notice_missing : (L : List Activity) (s : Contents) (k : ℕ) → Follows L s → ((1 ≤ k) × (k ≤ length s.notices) → ⊥) → notice_at (journal s.opening L) k ≡ None
+notice_missing L s k f never = by k never
+  where
+    J : Journal
+    J = journal s.opening L
+
+    found : (ns : List Notice) (j : ℕ) → AreNumberedFrom (suc j) ns → find (λ n. n.number == 0) ns ≡ None
+    found [] j h = refl
+    found (n ∷ ns) j h = ap (λ b. cond b (Some n) (find (λ n. n.number == 0) ns)) (above n.number j h.0) ∙ found ns (suc j) h.1
+      where
+        above : (a j : ℕ) → a ≡ suc j → (a == 0) ≡ false
+        above a j e = grind (arith, nat_tests)
+
+    past : (xs : List Notice) (i : ℕ) → length xs ≤ i → slice_get xs i ≡ None
+    past [] i h = refl
+    past (x ∷ xs) zero h = absurd (omega (arith, h))
+    past (x ∷ xs) (suc i) h = past xs i (omega (arith, h))
+
+    by : (k : ℕ) → ((1 ≤ k) × (k ≤ length s.notices) → ⊥) → notice_at J k ≡ None
+    by zero never = found (notices J) 0 (numbered J)
+    by (suc k) never = notice_found J (suc k) (omega arith) ∙ past (notices J) (suc k - 1) (beyond k (length s.notices) (length (notices J)) (notices_counted L s f) (λ h. never (omega arith, h)))
+      where
+        beyond : (k m n : ℕ) → m ≡ n → (suc k ≤ m → ⊥) → n ≤ suc k - 1
+        beyond k m n e never = elim (nat_le (suc k) m) as (λ b. nat_le (suc k) m ≡ b → n ≤ suc k - 1) [ true ↦ λ t. absurd (never (is_le (suc k) m t)) | false ↦ λ t. is_more (suc k) m n e t ] refl
+          where
+            is_le : (a b : ℕ) → nat_le a b ≡ true → a ≤ b
+            is_le a b h = grind (arith, nat_tests)
+
+            is_more : (a m n : ℕ) → m ≡ n → nat_le a m ≡ false → n ≤ a - 1
+            is_more a m n e h = grind (arith, nat_tests)
+
+-- where one has it, it is found as it is kept
+pub notice_there : (L : List Activity) (s : Contents) (k : ℕ) (x : Noticed) → Follows L s → 1 ≤ k → kept_at s.notices k ≡ Some x → IsSomeAnd (notice_at (journal s.opening L) k) (λ n. kept (journal s.opening L) n ≡ x)
+notice_there L s k x f le is = by (notice_at J k) (sym (kept_found J k le) ∙ ap (λ xs. kept_at xs k) (sym f.notices) ∙ is)
+  where
+    J : Journal
+    J = journal s.opening L
+
+    by : (o : Option Notice) → option_map (kept J) o ≡ Some x → IsSomeAnd o (λ n. kept J n ≡ x)
+    by None e = cc
+    by (Some n) e = inside (kept J n) x e
+      where
+        inside : (y z : Noticed) → Some y ≡ Some z → y ≡ z
+        inside y z e = cc
+
+-- ---- a withdrawal
+
+-- what a withdrawal is refused for
+pub withdraw_missing : (opening : Day) (L : List Activity) (k : ℕ) → notice_at (journal opening L) k ≡ None → refusal opening (journal opening L) (command.Activity (activity.Withdraw k)) ≡ Some NoSuchNotice
+withdraw_missing opening L k h = ap (λ o. first_refusal ((NoSuchNotice, is_none o) ∷ (NotLive, is_so (λ n. not (is_live (stage (journal opening L) n))) o) ∷ [])) h
+
+pub withdraw_there : (opening : Day) (L : List Activity) (k : ℕ) (x : Noticed) → IsSomeAnd (notice_at (journal opening L) k) (λ n. kept (journal opening L) n ≡ x) → refusal opening (journal opening L) (command.Activity (activity.Withdraw k)) ≡ cond (is_live x.stage) None (Some NotLive)
+withdraw_there opening L k x there = by (notice_at J k) there
+  where
+    J : Journal
+    J = journal opening L
+
+    if_not : (b : Bool) → first_refusal ((NoSuchNotice, false) ∷ (NotLive, not b) ∷ []) ≡ cond b None (Some NotLive)
+    if_not true = refl
+    if_not false = refl
+
+    by : (o : Option Notice) → IsSomeAnd o (λ n. kept J n ≡ x) → first_refusal ((NoSuchNotice, is_none o) ∷ (NotLive, is_so (λ n. not (is_live (stage J n))) o) ∷ []) ≡ cond (is_live x.stage) None (Some NotLive)
+    by None h = absurd h
+    by (Some n) h = if_not (is_live (stage J n)) ∙ ap (λ (y : Noticed). cond (is_live y.stage) None (Some NotLive)) h
+
+-- by its stage
+pub withdraw_by_stage : (L : List Activity) (s : Contents) (k : ℕ) (st : Stage) → Follows L s → 1 ≤ k → Some st ≡ option_map (λ (x : Noticed). x.stage) (kept_at s.notices k) → refusal s.opening (journal s.opening L) (command.Activity (activity.Withdraw k)) ≡ cond (is_live st) None (Some NotLive)
+withdraw_by_stage L s k st f le is = by (kept_at s.notices k) refl is
+  where
+    by : (o : Option Noticed) → kept_at s.notices k ≡ o → Some st ≡ option_map (λ (x : Noticed). x.stage) o → refusal s.opening (journal s.opening L) (command.Activity (activity.Withdraw k)) ≡ cond (is_live st) None (Some NotLive)
+    by None e h = cc
+    by (Some x) e h = withdraw_there s.opening L k x (notice_there L s k x f le e) ∙ ap (λ t. cond (is_live t) None (Some NotLive)) (inside x.stage st (sym h))
+      where
+        inside : (a b : Stage) → Some a ≡ Some b → a ≡ b
+        inside a b e = cc
+
+-- a stage that is not live
+pub not_live : (st : Stage) → (st ≡ Withdrawn) ⊎ ((st ≡ Ended) ⊎ (st ≡ Expired)) → is_live st ≡ false
+not_live st (inl e) = ap is_live e
+not_live st (inr (inl e)) = ap is_live e
+not_live st (inr (inr e)) = ap is_live e
+
+-- a notice that is taken back at a stage
+abbrev back : Noticed → Stage → Noticed
+back y t = record { given = y.given; stage = first_reached t Withdrawn; received = y.received; executed = y.executed }
+
+-- a live one is withdrawn
+withdrawn_one : (y : Noticed) → y.stage ≡ Live → taken_back y ≡ at_stage Withdrawn y
+withdrawn_one y h = ap (back y) h
+
+-- the notices after a withdrawal
+pub notice_withdrawn : (L : List Activity) (s : Contents) (k : ℕ) → Follows L s → refusal s.opening (journal s.opening L) (command.Activity (activity.Withdraw k)) ≡ None → 1 ≤ k → Some Live ≡ option_map (λ (x : Noticed). x.stage) (kept_at s.notices k)
+    → Follows (activity.Withdraw k ∷ L) (record s { notices = with_notice (at_stage Withdrawn) k s.notices })
+notice_withdrawn L s k f none le live =
+    let J = journal s.opening L in
+    let p : Posting = posting s.opening J (activity.Withdraw k) in
+    noticed_by L s (activity.Withdraw k) _ f tt none refl refl refl refl refl (λ r. refl)
+    (sym (changed_same taken_back (at_stage Withdrawn) (k - 1) s.notices (λ x e. withdrawn_one x (at_once x e)))
+    ∙ ap (with_notice taken_back k) f.notices
+    ∙ sym (changed_one J p taken_back k le (λ j y. withdrawn_by (k == j) y)))
+  where
+    at_once : (x : Noticed) → slice_get s.notices (k - 1) ≡ Some x → x.stage ≡ Live
+    at_once x e = inside x.stage Live (sym (live ∙ ap (option_map (λ (y : Noticed). y.stage)) e))
+      where
+        inside : (a b : Stage) → Some a ≡ Some b → a ≡ b
+        inside a b e = cc
+
+-- ---- a notice as it is shown
+
+-- the notice with a number, by what is kept of it
+pub notice_read : (L : List Activity) (s : Contents) (k : ℕ) (g : Given) (st : Stage) (m : ℕ) → Follows L s → 1 ≤ k → Some g ≡ option_map (λ (x : Noticed). x.given) (kept_at s.notices k) → Some st ≡ option_map (λ (x : Noticed). x.stage) (kept_at s.notices k) → Some m ≡ option_map (remaining_by s.rows) (kept_at s.notices k)
+    → Some (record { member = g.member; issue = g.issue; shares = g.shares; given = g.day; stage = st; remaining = m }) ≡ notice_listed (journal s.opening L) k
+notice_read L s k g st m f le p q r = by (kept_at s.notices k) refl p q r
+  where
+    J : Journal
+    J = journal s.opening L
+
+    inside : {X : Type 0} (x y : X) → Some x ≡ Some y → x ≡ y
+    inside x y e = cc
+
+    shown : (o : Option Notice) (x : Noticed) → IsSomeAnd o (λ n. kept J n ≡ x) → g ≡ x.given → st ≡ x.stage → m ≡ remaining_by s.rows x
+        → Some (record { member = g.member; issue = g.issue; shares = g.shares; given = g.day; stage = st; remaining = m }) ≡ option_map (notice_of J) o
+    shown None x h a b d = absurd h
+    shown (Some n) x h a b d =
+        let given = a ∙ ap (λ (y : Noticed). y.given) (sym h) in
+        let now = b ∙ ap (λ (y : Noticed). y.stage) (sym h) in
+        let left = d ∙ ap (remaining_by s.rows) (sym h) ∙ remaining_same L s f n in
+        λ i. Some (record { member = (given i).member; issue = (given i).issue; shares = (given i).shares; given = (given i).day; stage = now i; remaining = left i })
+
+    by : (o : Option Noticed) → kept_at s.notices k ≡ o → Some g ≡ option_map (λ (x : Noticed). x.given) o → Some st ≡ option_map (λ (x : Noticed). x.stage) o → Some m ≡ option_map (remaining_by s.rows) o
+        → Some (record { member = g.member; issue = g.issue; shares = g.shares; given = g.day; stage = st; remaining = m }) ≡ notice_listed J k
+    by None e a b d = cc
+    by (Some x) e a b d = shown (notice_at J k) x (notice_there L s k x f le e) (inside g x.given a) (inside st x.stage b) (inside m (remaining_by s.rows x) d)

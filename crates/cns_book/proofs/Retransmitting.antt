@@ -1,0 +1,250 @@
+-- Whom a close makes liable, from what is called and who is short.
+use Rattle.std.proofs.Common.{◌≡◌, ◌∙◌, ap, sym, subst, refl, ℕ, suc, ◌+◌, ◌*◌, ◌^◌, ◌≤◌, ◌<◌, Bool, true, false, cond, ◌&&◌, ◌==◌, List, [], ◌∷◌, ◌++◌, filter, flat_map, length, map, Option, Some, None, sum_by, arith}
+use Rattle.std.specs.Cmp.Lexicographic.{slice_cmp}
+use Rattle.std.specs.FinMap.{is_sorted}
+use Rattle.std.specs.List.{AllByRecursion, list_any}
+use Rattle.std.specs.Option.{ForSome, option_map_or}
+use Rattle.std.specs.Ordering.{nat_cmp}
+use Rattle.std.specs.Prelude.{filter_map, nat_lt, option_map, IfOk, OnOk, Result, Ok, Err}
+use Rattle.std.proofs.Math.Nat.{mul-le-mul_right}
+use Rattle.std.proofs.lemmas.Bool.Decides.{nat_tests}
+use Rattle.std.proofs.lemmas.List.{length-append, length-map}
+use Rattle.std.proofs.lemmas.List.Sums.{sum_by-cons}
+use Rattle.std.proofs.lemmas.Slice.Eq.{bytes_eq-Decides}
+use Rattle.cns_units.specs.declared.cusip.Cusip.{Cusip}
+use Rattle.cns_units.specs.declared.day.Day.{Day}
+use Rattle.cns_terms.specs.declared.buy_in.Liable.{Liable}
+use Rattle.cns_terms.specs.declared.buy_in.Short.{Short}
+use Rattle.cns_terms.specs.declared.command.Activity.{Activity}
+use Rattle.cns_terms.specs.declared.sheet.Row.{Row}
+use Rattle.cns_terms.specs.Ages.{age}
+use Rattle.cns_terms.specs.Batches.{Liables, batch_at, called, chosen, fills_before, is_called, liable_at, liable_of, short_of, shorts}
+use Rattle.cns_terms.specs.Days.{day}
+use Rattle.cns_terms.specs.Entries.{journal}
+use Rattle.cns_terms.specs.Fills.{batch_since, batches_since}
+use Rattle.cns_terms.specs.Limits.{history_limit, member_limit}
+use Rattle.cns_terms.specs.Listings.{is_listed, issues, members}
+use Rattle.cns_terms.specs.Notices.{Notice, notices, remaining}
+use Rattle.cns_terms.specs.Postings.{Journal}
+use Rattle.cns_terms.specs.Reached.{IsReached}
+use Rattle.cns_terms.specs.Sheets.{sheet_rows}
+use Rattle.cns_terms.specs.Sums.{in_order, put, same_issue}
+use Rattle.cns_terms.proofs.BatchSteps.{batch_new, unfilled}
+use Rattle.cns_terms.proofs.Facts.{journal_len}
+use Rattle.cns_terms.proofs.Reached.{IsLimited, limited, members_few, members_from_one}
+use Rattle.cns_terms.proofs.SheetBounds.{issues_few}
+use Rattle.cns_terms.proofs.SheetShorts.{shorts_off_sheet}
+use Rattle.cns_terms.proofs.Sound.{IsNoticed, IsSound}
+use Rattle.cns_retransmit.specs.Calls.{CalledIn, CanBeChosen, batches_of, called_in, shorts_in, total_in}
+use Rattle.cns_book.specs.Contents.{Contents}
+use Rattle.cns_book.specs.Follows.{Follows}
+use Rattle.cns_book.specs.Retransmittal.{called_by, run_at, short_in, with_shorts}
+use Rattle.cns_book.proofs.Batching.{in_issue}
+use Rattle.cns_book.proofs.Calls.{called_is}
+use Rattle.cns_book.proofs.Chosen.{AreSameBatches, batches_same}
+use Rattle.cns_book.proofs.Shorts.{HasShorts, ages_are, shorts_few, shorts_once}
+
+-- ---- issues in which nothing is called
+
+-- where nothing is called nobody is chosen
+pub chosen_none : (ss : List Short) → chosen ss 0 ≡ []
+chosen_none ss = ap (map liable_of) (none (in_order fills_before ss))
+  where
+    below_zero : (n : ℕ) → nat_lt n 0 ≡ false
+    below_zero n = grind (arith, nat_tests)
+
+    none : (ts : List Short) → filter (is_called ss 0) ts ≡ []
+    none [] = refl
+    none (t ∷ ts) = ap (λ b. cond b (t ∷ filter (is_called ss 0) ts) (filter (is_called ss 0) ts)) (below_zero _) ∙ none ts
+
+-- in an issue that is not listed nothing is called
+pub uncalled : (J : Journal) (c : Cusip) → IsSound J → is_listed J c ≡ false → called J c ≡ 0
+uncalled J c s none = ap (sum_by (remaining J)) (nothing (notices J) s.noticed)
+  where
+    apart : (n : Notice) → is_listed J n.given.issue ≡ true → (b : Bool) → same_issue n.given.issue c ≡ b → b ≡ false
+    apart n l false e = refl
+    apart n l true e = absurd (cc (sym l ∙ ap (is_listed J) ((bytes_eq-Decides n.given.issue c).0 e) ∙ none))
+
+    and_none : (t b : Bool) → b ≡ false → (t && b) ≡ false
+    and_none true b e = e
+    and_none false b e = refl
+
+    nothing : (ns : List Notice) → AllByRecursion (IsNoticed J) ns → filter (λ n. (n.given.day == day J) && same_issue n.given.issue c) ns ≡ []
+    nothing [] h = refl
+    nothing (n ∷ ns) h =
+        ap (λ b. cond b (n ∷ filter (λ n. (n.given.day == day J) && same_issue n.given.issue c) ns) (filter (λ n. (n.given.day == day J) && same_issue n.given.issue c) ns))
+        (and_none (n.given.day == day J) (same_issue n.given.issue c) (apart n h.0.1 (same_issue n.given.issue c) refl))
+        ∙ nothing ns h.1
+
+-- so where something is called, the issue is listed
+listed_if : (J : Journal) (c : Cusip) → IsSound J → 1 ≤ called J c → is_listed J c ≡ true
+listed_if J c s some = by (is_listed J c) refl
+  where
+    by : (b : Bool) → is_listed J c ≡ b → b ≡ true
+    by true e = refl
+    by false e = let none = uncalled J c s e in absurd (omega (arith, some, none))
+
+-- ---- what is called and who is short, by issue
+
+-- what was called of each issue, before shorts were given
+pub record AreCalls (J : Journal) (es : List (Cusip × CalledIn)) : Type 0 where
+  pub totals : (c : Cusip) → total_in es c ≡ called J c
+  pub shorts : (c : Cusip) → shorts_in es c ≡ []
+  pub some : (c : Cusip) → ForSome (called_in es c) (λ x. 1 ≤ x.total)
+
+-- the shorts that were given
+abbrev pub AreGiven : Day → Journal → List (Cusip × CalledIn) → List (Cusip × CalledIn) → Type 0
+AreGiven opening J before es = (c : Cusip) → called_in es c ≡ option_map (with_shorts (filter_map (short_in (age J) c) (sheet_rows opening J))) (called_in before c)
+
+module _ (opening : Day) (J : Journal) (l : IsLimited opening J) (before es : List (Cusip × CalledIn)) (calls : AreCalls J before) (given : AreGiven opening J before es) where
+  -- what stands in an issue is called in a listed one, for the shorts of the definitions
+  in_listed : (c : Cusip) (x : CalledIn) → called_in before c ≡ Some x → (is_listed J c ≡ true) × (called_in es c ≡ Some (record { total = called J c; shorts = shorts J c }))
+  in_listed c x is =
+      let total : x.total ≡ called J c = sym (ap (λ o. option_map_or (λ (y : CalledIn). y.total) o 0) is) ∙ calls.totals c in
+      let none : x.shorts ≡ [] = sym (ap (λ o. option_map_or (λ (y : CalledIn). y.shorts) o []) is) ∙ calls.shorts c in
+      let some : 1 ≤ x.total = calls.some c x is in
+      let listed = listed_if J c l.whole.now (subst (λ n. 1 ≤ n) total some) in
+      let all = shorts_off_sheet opening J c l.whole.now (members_from_one opening J l) listed in
+      (listed, given c ∙ ap (option_map (with_shorts (filter_map (short_in (age J) c) (sheet_rows opening J)))) is ∙ (λ i. Some (record { total = total i; shorts = none i ++ all i })))
+
+  -- who is liable is so by the definitions
+  same_liable : ((c : Cusip) → batch_since J J c ≡ batch_at J c) → AreSameBatches (batch_since J J) (issues J) es
+  same_liable whole c = by (called_in before c) refl
+    where
+      by : (o : Option CalledIn) → called_in before c ≡ o → option_map_or (λ x. chosen x.shorts x.total) (called_in es c) [] ≡ cond (list_any (λ d. same_issue d c) (issues J)) (batch_since J J c) []
+      by (Some x) is =
+          let here = in_listed c x is in
+          ap (λ o. option_map_or (λ (y : CalledIn). chosen y.shorts y.total) o []) here.1 ∙ sym (whole c) ∙ ap (λ b. cond b (batch_since J J c) []) (sym here.0)
+      by None is =
+          let zero : called J c ≡ 0 = sym (calls.totals c) ∙ ap (λ o. option_map_or (λ (y : CalledIn). y.total) o 0) is in
+          let nobody : batch_since J J c ≡ [] = whole c ∙ ap (chosen (shorts J c)) zero ∙ chosen_none (shorts J c) in
+          ap (λ o. option_map_or (λ (y : CalledIn). chosen y.shorts y.total) o []) (given c ∙ ap (option_map (with_shorts (filter_map (short_in (age J) c) (sheet_rows opening J)))) is)
+          ∙ none_either (list_any (λ d. same_issue d c) (issues J)) (batch_since J J c) nobody
+        where
+          none_either : (b : Bool) (ls : List Liable) → ls ≡ [] → [] ≡ cond b ls []
+          none_either true ls e = sym e
+          none_either false ls e = refl
+
+  -- the shorts of each issue can be chosen from
+  pub can_choose : (c : Cusip) → ForSome (called_in es c) CanBeChosen
+  can_choose c y is = by (called_in before c) refl
+    where
+      by : (o : Option CalledIn) → called_in before c ≡ o → CanBeChosen y
+      by None none = absurd (cc (sym is ∙ given c ∙ ap (option_map (with_shorts (filter_map (short_in (age J) c) (sheet_rows opening J)))) none))
+      by (Some x) some =
+          let same : record { total = called J c; shorts = shorts J c } ≡ y = inside _ _ (sym (in_listed c x some).1 ∙ is) in
+          subst CanBeChosen same (record {
+            distinct = λ a. let one = shorts_once J c a in let all = l.whole.now.distinct a in omega (arith, one, all);
+            fits = shorts_few J c (λ a m. l.within a c m) (members_from_one opening J l) (members_few opening J l);
+          })
+        where
+          inside : (u v : CalledIn) → Some u ≡ Some v → u ≡ v
+          inside u v e = cc
+
+-- the batches that are chosen are those of the definitions
+pub chosen_same : (opening : Day) (L : List Activity) (before es : List (Cusip × CalledIn)) → IsReached opening L → AreCalls (journal opening L) before → AreGiven opening (journal opening L) before es → is_sorted (slice_cmp nat_cmp) es ≡ true
+    → batches_of es ≡ batches_since (journal opening L) (journal opening L)
+chosen_same opening L before es r calls given sorted =
+    let J = journal opening L in
+    let l = limited opening L r in
+    batches_same (batch_since J J) (issues J) es l.whole.now.issues_rise sorted (same_liable opening J l before es calls given (λ c. batch_new J J c (λ a. unfilled opening L (day J) c a r (omega arith))))
+
+-- ---- how many are liable
+
+-- batches without anybody add nothing
+sum_of : (g : Cusip → List Liable) (cs : List Cusip) → sum_by (λ b. length b.members) (filter (λ b. nat_lt 0 (length b.members)) (map (in_issue g) cs)) ≡ length (flat_map g cs)
+sum_of g [] = refl
+sum_of g (c ∷ cs) = by (g c) refl (sum_of g cs)
+  where
+    rest : List Liables
+    rest = filter (λ b. nat_lt 0 (length b.members)) (map (in_issue g) cs)
+
+    by : (ls : List Liable) → g c ≡ ls → sum_by (λ b. length b.members) rest ≡ length (flat_map g cs) → sum_by (λ b. length b.members) (cond (nat_lt 0 (length (g c))) (in_issue g c ∷ rest) rest) ≡ length (g c ++ flat_map g cs)
+    by [] e h = ap (λ xs. sum_by (λ b. length b.members) (cond (nat_lt 0 (length xs)) (in_issue g c ∷ rest) rest)) e ∙ h ∙ ap (λ xs. length (xs ++ flat_map g cs)) (sym e)
+    by (x ∷ xs) e h =
+        ap (λ ys. sum_by (λ b. length b.members) (cond (nat_lt 0 (length ys)) (in_issue g c ∷ rest) rest)) e
+        ∙ ap (λ b. sum_by (λ (b : Liables). length b.members) (cond b (in_issue g c ∷ rest) rest)) (some (length xs))
+        ∙ sum_by-cons (λ (b : Liables). length b.members) (in_issue g c) rest
+        ∙ omega (arith, h, length-append (g c) (flat_map g cs))
+      where
+        some : (n : ℕ) → nat_lt 0 (suc n) ≡ true
+        some n = grind (arith, nat_tests)
+
+same_map : (f g : Cusip → List Liable) (cs : List Cusip) → ((c : Cusip) → f c ≡ g c) → flat_map f cs ≡ flat_map g cs
+same_map f g [] h = refl
+same_map f g (c ∷ cs) h = λ i. h c i ++ same_map f g cs h i
+
+-- the members that are liable by a close
+pub liable_counted : (opening : Day) (L : List Activity) (bs : List Liables) → IsReached opening L → bs ≡ batches_since (journal opening L) (journal opening L) → sum_by (λ b. length b.members) bs ≡ length (liable_at (journal opening L))
+liable_counted opening L bs r is =
+    let J = journal opening L in
+    ap (sum_by (λ (b : Liables). length b.members)) is
+    ∙ sum_of (batch_since J J) (issues J)
+    ∙ ap length (same_map (batch_since J J) (batch_at J) (issues J) (λ c. batch_new J J c (λ a. unfilled opening L (day J) c a r (omega arith))))
+
+-- a filtered list is no longer
+filtered_few : {X : Type 0} (p : X → Bool) (xs : List X) → length (filter p xs) ≤ length xs
+filtered_few p [] = omega arith
+filtered_few p (x ∷ xs) = by (p x) (filtered_few p xs)
+  where
+    by : (b : Bool) → length (filter p xs) ≤ length xs → length (cond b (x ∷ filter p xs) (filter p xs)) ≤ suc (length xs)
+    by true h = omega (arith, h)
+    by false h = omega (arith, h)
+
+ordered_len : {X : Type 0} (before : X → X → Bool) (xs : List X) → length (in_order before xs) ≡ length xs
+ordered_len before [] = refl
+ordered_len before (x ∷ xs) = put_len x (in_order before xs) ∙ ap suc (ordered_len before xs)
+  where
+    put_len : (x : _) (ys : List _) → length (put before x ys) ≡ suc (length ys)
+    put_len x [] = refl
+    put_len x (y ∷ ys) = by (before x y) (put_len x ys)
+      where
+        by : (b : Bool) → length (put before x ys) ≡ suc (length ys) → length (cond b (x ∷ y ∷ ys) (y ∷ put before x ys)) ≡ suc (suc (length ys))
+        by true h = refl
+        by false h = ap suc h
+
+-- no batch has more members than there are
+batch_few : (J : Journal) (c : Cusip) → length (batch_at J c) ≤ length (members J)
+batch_few J c =
+    let all = length-map (members J) (short_of J c) in
+    let some = filtered_few (λ s. nat_lt 0 s.shares) (map (short_of J c) (members J)) in
+    let placed = ordered_len fills_before (shorts J c) in
+    let taken = filtered_few (is_called (shorts J c) (called J c)) (in_order fills_before (shorts J c)) in
+    let liable = length-map (filter (is_called (shorts J c) (called J c)) (in_order fills_before (shorts J c))) liable_of in
+    omega (arith, all, some, placed, taken, liable)
+
+batches_few : (J : Journal) (cs : List Cusip) → length (flat_map (batch_at J) cs) ≤ length (members J) * length cs
+batches_few J [] = omega arith
+batches_few J (c ∷ cs) = more _ (length (batch_at J c)) _ (length (members J)) (length cs) (length-append (batch_at J c) (flat_map (batch_at J) cs)) (batch_few J c) (batches_few J cs)
+  where
+    more : (z x y m n : ℕ) → z ≡ x + y → x ≤ m → y ≤ m * n → z ≤ m * suc n
+    more z x y m n e p q = omega (arith, e, p, q)
+
+-- they can be counted
+pub liable_few : (opening : Day) (L : List Activity) → IsReached opening L → length L + 1 < history_limit → length (liable_at (journal opening L)) < 2 ^ 64
+liable_few opening L r few =
+    let J = journal opening L in
+    let l = limited opening L r in
+    small (length (liable_at J)) (length (members J)) (length (issues J)) (length L) (batches_few J (issues J)) (members_few opening J l) (omega (arith, issues_few J, journal_len opening L)) few
+  where
+    small : (z m n k : ℕ) → z ≤ m * n → m ≤ member_limit → n ≤ k → k + 1 < history_limit → z < 2 ^ 64
+    small z m n k h a b c = omega (arith, h, mul-le-mul_right n a, b, c)
+
+-- ---- the close's calls
+
+-- what the calls of the day tell
+pub calls_are : (L : List Activity) (s : Contents) (es : List (Cusip × CalledIn)) → Follows L s → ((c : Cusip) → total_in es c ≡ called_by s.rows (s.closes + 1) c s.notices) → ((c : Cusip) → shorts_in es c ≡ []) → ((c : Cusip) → ForSome (called_in es c) (λ x. 1 ≤ x.total)) → AreCalls (journal s.opening L) es
+calls_are L s es f totals none some = record { totals = λ c. totals c ∙ called_is L s f c; shorts = none; some = some }
+
+-- the shorts on the sheet were given
+pub given_are : (L : List Activity) (s : Contents) (rs : List Row) (before es : List (Cusip × CalledIn)) → Follows L s → rs ≡ sheet_rows s.opening (journal s.opening L) → HasShorts (run_at s.rows) (called_in before) (called_in es) rs → AreGiven s.opening (journal s.opening L) before es
+given_are L s rs before es f rows h c = h c ∙ (λ i. option_map (with_shorts (filter_map (short_in (ages_are L s f i) c) (rows i))) (called_in before c))
+
+-- where nothing is called there is nothing to give
+pub none_given : (opening : Day) (J : Journal) (es : List (Cusip × CalledIn)) → es ≡ [] → AreGiven opening J es es
+none_given opening J es none c = ap (λ (xs : List (Cusip × CalledIn)). called_in xs c) none ∙ sym (ap (λ (xs : List (Cusip × CalledIn)). option_map (with_shorts (filter_map (short_in (age J) c) (sheet_rows opening J))) (called_in xs c)) none)
+
+-- two things that are said of a value that was made
+pub ok_both : {X E Q : Type 0} (r : Result X E) (P R : X → Type 0) → IfOk r P → OnOk r Q → ((x : X) → P x → Q → R x) → IfOk r R
+ok_both (Ok x) P R p q f = f x p q
+ok_both (Err e) P R p q f = p

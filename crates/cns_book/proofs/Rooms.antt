@@ -1,0 +1,154 @@
+-- The batch of a notice, and what it can be given, as the parts show them.
+use Rattle.std.proofs.Common.{◌≡◌, ◌∙◌, ap, sym, refl, ℕ, zero, suc, ◌+◌, ◌^◌, ◌-◌, ◌≤◌, min, ℤ, pos, negsuc, Bool, true, false, cond, ◌||◌, ◌==◌, List, [], ◌∷◌, ◌++◌, filter, find, length, map, Option, Some, None, reverse, arith}
+use Rattle.std.specs.List.{list_any, slice_get}
+use Rattle.std.specs.Option.{IfSome, option_map_or, unwrap_or}
+use Rattle.std.specs.Prelude.{nat_lt, option_map, unsigned_abs}
+use Rattle.std.proofs.lemmas.Bool.Decides.{nat_tests}
+use Rattle.std.proofs.lemmas.Int.{ints}
+use Rattle.std.proofs.lemmas.List.{length-reverse, reverse-append}
+use Rattle.std.proofs.lemmas.Option.{slice_get-map}
+use Rattle.std.proofs.lemmas.Slice.Eq.{bytes_eq-Decides}
+use Rattle.cns_units.specs.declared.cusip.Cusip.{Cusip}
+use Rattle.cns_units.specs.declared.day.Day.{Day}
+use Rattle.cns_terms.specs.declared.buy_in.Liable.{Liable}
+use Rattle.cns_terms.specs.declared.command.Activity.{Activity}
+use Rattle.cns_terms.specs.declared.holding.Key.{Key}
+use Rattle.cns_terms.specs.Batches.{Liables, chosen, shorts}
+use Rattle.cns_terms.specs.Days.{at_close, closes, closings, day, is_close}
+use Rattle.cns_terms.specs.Entries.{journal}
+use Rattle.cns_terms.specs.Fills.{batch, batch_since, batches, batches_since, left_of}
+use Rattle.cns_terms.specs.Limits.{corporation_limit}
+use Rattle.cns_terms.specs.Listings.{is_listed, issues}
+use Rattle.cns_terms.specs.Positions.{position}
+use Rattle.cns_terms.specs.Postings.{Journal}
+use Rattle.cns_terms.specs.Sums.{same_issue, short}
+use Rattle.cns_terms.proofs.BuyIns.{each_named}
+use Rattle.cns_terms.proofs.Reached.{limited}
+use Rattle.cns_terms.proofs.Sound.{IsSound, whole_nil}
+use Rattle.cns_positions.specs.Rows.{holding_at}
+use Rattle.cns_retransmit.specs.Days.{batch_in, batch_on, batches_on}
+use Rattle.cns_book.specs.Contents.{Contents}
+use Rattle.cns_book.specs.Executions.{capped_short}
+use Rattle.cns_book.specs.Follows.{Follows, kept_batches}
+use Rattle.cns_book.proofs.Batching.{in_issue}
+use Rattle.cns_book.proofs.Retransmitting.{chosen_none, uncalled}
+
+-- ---- the closings, the first day's first
+
+-- one item more
+get_last : {X : Type 0} (xs : List X) (y : X) (n : ℕ) → slice_get (xs ++ y ∷ []) n ≡ cond (length xs + 1 == suc n) (Some y) (slice_get xs n)
+get_last [] y zero = refl
+get_last [] y (suc n) = ap (λ b. cond b (Some y) None) (sym (apart n))
+  where
+    apart : (m : ℕ) → (0 + 1 == suc (suc m)) ≡ false
+    apart m = grind (arith, nat_tests)
+get_last (x ∷ xs) y zero = ap (λ b. cond b (Some y) (Some x)) (sym (apart (length xs)))
+  where
+    apart : (m : ℕ) → (suc m + 1 == 1) ≡ false
+    apart m = grind (arith, nat_tests)
+get_last (x ∷ xs) y (suc n) = get_last xs y n ∙ ap (λ b. cond b (Some y) (slice_get xs n)) (next (length xs) n)
+  where
+    next : (m n : ℕ) → (m + 1 == suc n) ≡ (suc m + 1 == suc (suc n))
+    next m n = grind (arith, nat_tests)
+
+-- the close of a day stands at the place before its number
+closing_at : (J : Journal) (n : ℕ) → slice_get (reverse (closings J)) n ≡ find (λ K. day K == suc n) (closings J)
+closing_at [] n = refl
+closing_at (p ∷ J) n = by (is_close p.activity) (closing_at J n)
+  where
+    by : (b : Bool) → slice_get (reverse (closings J)) n ≡ find (λ K. day K == suc n) (closings J) → slice_get (reverse (cond b (J ∷ closings J) (closings J))) n ≡ find (λ K. day K == suc n) (cond b (J ∷ closings J) (closings J))
+    by false h = h
+    by true h =
+        ap (λ (Ks : List Journal). slice_get Ks n) (reverse-append (J ∷ []) (closings J))
+        ∙ get_last (reverse (closings J)) J n
+        ∙ (λ i. cond (length-reverse (closings J) i + 1 == suc n) (Some J) (h i))
+
+-- no day has the number 0
+no_day_zero : (Ks : List Journal) → find (λ K. day K == 0) Ks ≡ None
+no_day_zero [] = refl
+no_day_zero (K ∷ Ks) = ap (λ b. cond b (Some K) (find (λ K. day K == 0) Ks)) (apart (closes K)) ∙ no_day_zero Ks
+  where
+    apart : (m : ℕ) → (m + 1 == 0) ≡ false
+    apart m = grind (arith, nat_tests)
+
+-- the batches of a day
+pub on_day : (J : Journal) (n : ℕ) → batches_on (kept_batches J) n ≡ batches J n
+on_day J zero = ap (λ o. batches_since J (unwrap_or o [])) (sym (no_day_zero (closings J)))
+on_day J (suc n) =
+    ap (λ o. unwrap_or o []) (slice_get-map (batches_since J) (reverse (closings J)) n ∙ ap (option_map (batches_since J)) (closing_at J n))
+    ∙ of_found (find (λ K. day K == suc n) (closings J))
+  where
+    of_found : (o : Option Journal) → unwrap_or (option_map (batches_since J) o) [] ≡ batches_since J (unwrap_or o [])
+    of_found None = refl
+    of_found (Some K) = refl
+
+-- ---- the batch in an issue
+
+-- who is liable in an issue that is among others
+abbrev listed_members : (Cusip → List Liable) → List Cusip → Cusip → List Liable
+listed_members g cs c = cond (list_any (λ d. same_issue d c) cs) (g c) []
+
+abbrev pub members_of : Option Liables → List Liable
+members_of o = option_map_or (λ b. b.members) o []
+
+members_in : (g : Cusip → List Liable) (cs : List Cusip) (c : Cusip) → members_of (batch_in (filter (λ b. nat_lt 0 (length b.members)) (map (in_issue g) cs)) c) ≡ listed_members g cs c
+members_in g [] c = refl
+members_in g (d ∷ cs) c = by (same_issue d c) (g d) (λ e. ap g ((bytes_eq-Decides d c).0 e)) refl (members_in g cs c) refl
+  where
+    rest : List Liables
+    rest = filter (λ b. nat_lt 0 (length b.members)) (map (in_issue g) cs)
+
+    some : (n : ℕ) → nat_lt 0 (suc n) ≡ true
+    some n = grind (arith, nat_tests)
+
+    none_either : (b : Bool) (ls : List Liable) → [] ≡ ls → cond b ls [] ≡ ls
+    none_either true ls e = refl
+    none_either false ls e = e
+
+    by : (t : Bool) (ls : List Liable) → (same_issue d c ≡ true → g d ≡ g c) → g d ≡ ls → members_of (batch_in rest c) ≡ listed_members g cs c → same_issue d c ≡ t → members_of (batch_in (cond (nat_lt 0 (length ls)) (record { cusip = d; members = ls } ∷ rest) rest) c) ≡ cond (t || list_any (λ e. same_issue e c) cs) (g c) []
+    by true [] same is h e = h ∙ none_either (list_any (λ e. same_issue e c) cs) (g c) (sym is ∙ same e)
+    by true (l ∷ ls) same is h e =
+        ap (λ b. members_of (batch_in (cond b (record { cusip = d; members = l ∷ ls } ∷ rest) rest) c)) (some (length ls))
+        ∙ ap (λ b. members_of (cond b (Some (record { cusip = d; members = l ∷ ls })) (batch_in rest c))) e ∙ sym is ∙ same e
+    by false [] same is h e = h
+    by false (l ∷ ls) same is h e =
+        ap (λ b. members_of (batch_in (cond b (record { cusip = d; members = l ∷ ls } ∷ rest) rest) c)) (some (length ls))
+        ∙ ap (λ b. members_of (cond b (Some (record { cusip = d; members = l ∷ ls })) (batch_in rest c))) e ∙ h
+
+-- a closed day's journal is sound; so is the empty one that stands for a day that is not closed
+pub sound_at : (opening : Day) (L : List Activity) (n : ℕ) → Rattle.cns_terms.specs.Reached.IsReached opening L → IsSound (at_close (journal opening L) n)
+sound_at opening L n r = by (find (λ K. day K == n) (closings (journal opening L))) (each_named IsSound (λ K. day K == n) (closings (journal opening L)) (limited opening L r).whole.past)
+  where
+    by : (o : Option Journal) → IfSome o IsSound → IsSound (unwrap_or o [])
+    by None h = (whole_nil {opening = opening}).now
+    by (Some K) h = h
+
+-- in an issue that is not listed nobody is liable
+nobody : (J K : Journal) (c : Cusip) → IsSound K → listed_members (batch_since J K) (issues K) c ≡ batch_since J K c
+nobody J K c s = by (is_listed K c) refl
+  where
+    by : (b : Bool) → is_listed K c ≡ b → cond b (batch_since J K c) [] ≡ batch_since J K c
+    by true e = refl
+    by false e = ap (map (left_of J (day K) c)) (sym (ap (chosen (shorts K c)) (uncalled K c s e) ∙ chosen_none (shorts K c)))
+
+-- the members of the batch of a day in an issue
+pub batch_members : (L : List Activity) (s : Contents) (n : ℕ) (c : Cusip) → Follows L s → members_of (batch_on s.batches n c) ≡ batch (journal s.opening L) n c
+batch_members L s n c f =
+    let J = journal s.opening L in
+    let K = at_close J n in
+    ap (λ (V : List (List Liables)). members_of (batch_on V n c)) f.batches
+    ∙ ap (λ (bs : List Liables). members_of (batch_in bs c)) (on_day J n)
+    ∙ members_in (batch_since J K) (issues K) c
+    ∙ nobody J K c (sound_at s.opening L n f.reached)
+
+-- ---- who is short now
+
+short_capped : (q : ℤ) → unsigned_abs q ≤ corporation_limit → min (short q) (2 ^ 63 - 1) ≡ short q
+short_capped (pos n) h = omega arith
+short_capped (negsuc n) h = omega (arith, ints, h)
+
+-- how much each member is short
+pub shorts_now : (L : List Activity) (s : Contents) (c : Cusip) → Follows L s → ((k : Key) → unsigned_abs (holding_at s.rows k).now ≤ corporation_limit) → capped_short s.rows c ≡ (λ a. short (position (journal s.opening L) a c))
+shorts_now L s c f within i a =
+    (short_capped (holding_at s.rows (record { account = a; issue = c })).now (within (record { account = a; issue = c }))
+    ∙ ap short (λ j. (f.rows (record { account = a; issue = c }) j).now)) i

@@ -1,0 +1,8 @@
+use Rattle.std.proofs.Common.{◌≡◌, take}
+use Rattle.cns_terms.specs.declared.holding.Key.{Key}
+use Rattle.cns_positions.specs.Rows.{books, holding_at}
+use Rattle.cns_book.specs.Executions.{entries_by}
+use Rattle.cns_book.proofs.buy_in.book_fills.Given as goal
+
+abbrev pub invariant-loop-fill : goal.invariant-loop-fill
+invariant-loop-fill g l = (k : Key) → holding_at (g.P.Positions.rows l.positions) k ≡ books (entries_by l.fn.execution l.fn.given (take l.fill-index l.fills)) k (holding_at (g.P.Positions.rows l.fn.positions) k)

@@ -1,0 +1,16 @@
+use Rattle.std.proofs.Common.{◌≡◌, ◌∙◌, sym, ap, subst, List}
+use Rattle.std.specs.Option.{option_copied}
+use Rattle.cns_terms.specs.Batches.{Liables}
+use Rattle.cns_terms.specs.Entries.{journal}
+use Rattle.cns_retransmit.specs.Days.{batch_in, batch_on}
+use Rattle.cns_book.specs.Contents.{Contents}
+use Rattle.cns_book.specs.Follows.{Follows}
+use Rattle.cns_book.specs.Shown.{batch_listed}
+use Rattle.cns_book.proofs.Rooms.{on_day}
+use Rattle.cns_book.proofs.parts.Parts.batch.Goals as goal
+
+pub returns : goal.returns
+returns g c L f =
+    let f' = subst (Follows L) (sym c.self.view_is) f in
+    subst (λ (t : Contents). option_copied c.find.result ≡ batch_listed (journal t.opening L) c.args.day c.args.cusip) c.self.view_is
+    (c.find.ensures ∙ ap (λ n. batch_on c.self.inside.batches n c.args.cusip) c.from.ensures ∙ ap (λ (V : List (List Liables)). batch_on V c.args.day c.args.cusip) f'.batches ∙ ap (λ (bs : List Liables). batch_in bs c.args.cusip) (on_day (journal c.self.inside.opening L) c.args.day))

@@ -1,0 +1,15 @@
+use Rattle.std.proofs.Common.{◌≡◌, ◌∙◌, sym, ap, subst, List}
+use Rattle.cns_terms.specs.Batches.{Liables}
+use Rattle.cns_terms.specs.Entries.{journal}
+use Rattle.cns_terms.specs.Fills.{batches}
+use Rattle.cns_retransmit.specs.Days.{batches_on}
+use Rattle.cns_book.specs.Contents.{Contents}
+use Rattle.cns_book.specs.Follows.{Follows}
+use Rattle.cns_book.proofs.Rooms.{on_day}
+use Rattle.cns_book.proofs.parts.Parts.batches.Goals as goal
+
+pub returns : goal.returns
+returns g c L f =
+    let f' = subst (Follows L) (sym c.self.view_is) f in
+    subst (λ (t : Contents). c.of_day.result.now ≡ batches (journal t.opening L) c.args.day) c.self.view_is
+    (c.of_day.ensures ∙ ap (λ n. batches_on c.self.inside.batches n) c.from.ensures ∙ ap (λ (V : List (List Liables)). batches_on V c.args.day) f'.batches ∙ on_day (journal c.self.inside.opening L) c.args.day)
