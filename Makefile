@@ -5,7 +5,7 @@ SHELL := bash
 
 PROGRAM := crates/cnsbook/out/cnsbook
 OPENING := 2024-06-03
-SAMPLES := day week actions
+SAMPLES := day week actions buy-in
 
 .PHONY: build sample compare test bench
 

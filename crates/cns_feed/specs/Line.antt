@@ -1,5 +1,5 @@
 -- The command that a record is, or its first fault.
-use Rattle.std.specs.Prelude.{ℕ, ◌^◌, ◌==◌, if◌then◌else◌, List, [], length, codes, unwrap_or, Result, Ok, Err}
+use Rattle.std.specs.Prelude.{ℕ, ◌-◌, ◌^◌, ◌==◌, if◌then◌else◌, List, [], length, codes, unwrap_or, Result, Ok, Err}
 use Rattle.std.specs.Str.{bytes_eq}
 use Rattle.csv.specs.Records.{field_at}
 use Rattle.cns_units.specs.Cusip.{cusip_of}
@@ -69,6 +69,10 @@ price_at fields i = number_in 0 (10 ^ 9) (field fields i)
 -- the rate of a dividend in millionths of a dollar, 1 to 10^11
 abbrev pub rate_at : Record → ℕ → Result Rate LineFault
 rate_at fields i = number_in 1 (10 ^ 11) (field fields i)
+
+-- the number of a notice, 1 to 2^32 - 1
+abbrev pub notice_at : Record → ℕ → Result ℕ LineFault
+notice_at fields i = number_in 1 (2 ^ 32 - 1) (field fields i)
 
 -- the shares on one side of a ratio, 1 to 10,000
 abbrev pub part_at : Record → ℕ → Result ℕ LineFault
@@ -140,7 +144,7 @@ trade_line fields = counted 8 fields (do
   date ← date_at fields 7
   Ok (command.Activity (activity.Trade (record { reference = reference; money = money; shares = shares; buyer = buyer; seller = seller; date = date; issue = issue }))))
 
--- a member, an issue and the shares that move
+-- a member, an issue and the shares that move, or that it means to buy in
 unfoldable pub movement_at : Record → Result Movement LineFault
 movement_at fields = counted 4 fields (do
   member ← member_at fields 1
@@ -188,6 +192,26 @@ exchange_line fields = counted 7 fields (do
   cash ← price_at fields 6
   Ok (command.Activity (activity.Exchange (record { old = old; successor = successor; ratio = ratio; lieu = lieu; cash = cash }))))
 
+-- NOTICE: what a member means to buy in
+unfoldable pub notice_line : Record → Line
+notice_line fields = do
+  movement ← movement_at fields
+  Ok (command.Activity (activity.Notice movement))
+
+-- WITHDRAW: a notice's number
+unfoldable pub withdraw_line : Record → Line
+withdraw_line fields = counted 2 fields (do
+  notice ← notice_at fields 1
+  Ok (command.Activity (activity.Withdraw notice)))
+
+-- EXECUTE: a notice's number, the shares that were bought in, and their money
+unfoldable pub execute_line : Record → Line
+execute_line fields = counted 4 fields (do
+  notice ← notice_at fields 1
+  shares ← shares_at fields 2
+  money ← money_at fields 3
+  Ok (command.Activity (activity.Execute (record { notice = notice; shares = shares; money = money }))))
+
 -- CLOSE: the next date
 unfoldable pub close_line : Record → Line
 close_line fields = counted 2 fields (do
@@ -221,6 +245,9 @@ line_of fields =
     else if bytes_eq kind (codes "DIVIDEND") then dividend_line fields
     else if bytes_eq kind (codes "SPLIT") then split_line fields
     else if bytes_eq kind (codes "EXCHANGE") then exchange_line fields
+    else if bytes_eq kind (codes "NOTICE") then notice_line fields
+    else if bytes_eq kind (codes "WITHDRAW") then withdraw_line fields
+    else if bytes_eq kind (codes "EXECUTE") then execute_line fields
     else if bytes_eq kind (codes "CLOSE") then close_line fields
     else if bytes_eq kind (codes "POSITION") then position_line fields
     else if bytes_eq kind (codes "STATEMENT") then statement_line fields

@@ -4,13 +4,15 @@ use Rattle.csv.specs.Reading.{records, default_config, strip_bom}
 use Rattle.cns_units.specs.declared.day.Day.{Day}
 use Rattle.cns_terms.specs.declared.reply.Reply.{Reply}
 use Rattle.cns_terms.specs.declared.reply.Reply.TheVariants as reply
+use Rattle.cns_terms.specs.declared.reply.Stated.{Stated}
 use Rattle.cns_terms.specs.declared.sheet.Row.{Row}
+use Rattle.cns_terms.specs.Fills.{batches}
 use Rattle.cns_terms.specs.Laws.{journal_of}
 use Rattle.cns_terms.specs.Machine.{State, opened, answer, next}
 use Rattle.cns_terms.specs.Sheets.{rows_for, sheet_named}
 use Rattle.cns_statements.specs.Texts.{rows_text}
 use Rattle.cns_feed.specs.Line.{Line, line_of}
-use Rattle.cns_feed.specs.Text.{reply_line, fault_line}
+use Rattle.cns_feed.specs.Text.{batches_text, reply_line, fault_line}
 use Rattle.cns_feed.specs.declared.outcome.Outcome.{Outcome}
 use Rattle.cns_feed.specs.declared.outcome.Outcome.TheVariants as outcome
 use Rattle.cns_feed.specs.declared.summary.Summary.{Summary}
@@ -29,17 +31,24 @@ abbrev pub state_after_line : State → Line → State
 state_after_line S (Ok cmd) = next S cmd
 state_after_line S (Err f) = S
 
--- the rows of the statement that a reply tells of: the account's, on the sheet of the closed day with the date
-abbrev pub rows_told : State → Reply → List Row
-rows_told S (reply.Stated s) = rows_for (sheet_named S.opening (journal_of S) s.date).rows s.account
-rows_told S reply.Accepted = []
-rows_told S (reply.Closed c) = []
-rows_told S (reply.Held k h) = []
-rows_told S (reply.Refused r) = []
+-- the rows of a statement: the account's, on the sheet of the closed day with the date
+abbrev pub rows_stated : State → Stated → List Row
+rows_stated S s = rows_for (sheet_named S.opening (journal_of S) s.date).rows s.account
 
--- what is written for an outcome, in the state after it: a statement's rows follow its first line
+-- what follows the first line of a reply, in the state after it: the liable members of the day that a close ended, or a
+-- statement's rows
+abbrev pub rest_text : State → Reply → List ℕ
+rest_text S (reply.Closed c) = batches_text (batches (journal_of S) c.day)
+rest_text S (reply.Stated s) = rows_text (rows_stated S s)
+rest_text S reply.Accepted = []
+rest_text S (reply.Noticed n) = []
+rest_text S (reply.Executed n) = []
+rest_text S (reply.Held k h) = []
+rest_text S (reply.Refused r) = []
+
+-- what is written for an outcome, in the state after it
 abbrev pub outcome_text : State → Outcome → List ℕ
-outcome_text S (outcome.Replied r) = reply_line r ++ rows_text (rows_told S r)
+outcome_text S (outcome.Replied r) = reply_line r ++ rest_text S r
 outcome_text S (outcome.AtFault f) = fault_line f
 
 -- what is written for a line in a state
@@ -79,6 +88,8 @@ is_at_fault (outcome.AtFault f) = true
 abbrev pub is_closed : Reply → Bool
 is_closed (reply.Closed c) = true
 is_closed reply.Accepted = false
+is_closed (reply.Noticed n) = false
+is_closed (reply.Executed n) = false
 is_closed (reply.Held k h) = false
 is_closed (reply.Stated s) = false
 is_closed (reply.Refused r) = false

@@ -1,9 +1,13 @@
 -- The texts of replies and of records at fault.
 use Rattle.std.specs.Prelude.{ℕ, ◌∷◌, [], List, codes}
 use Rattle.std.specs.Fmt.{decimal, signed_decimal}
+use Rattle.std.specs.List.{flat_map}
 use Rattle.cns_units.specs.Cents.{cents_text}
 use Rattle.cns_units.specs.Day.{day_text}
+use Rattle.cns_units.specs.declared.cusip.Cusip.{Cusip}
+use Rattle.cns_terms.specs.Batches.{Liables}
 use Rattle.cns_terms.specs.Numbers.{refusal_number}
+use Rattle.cns_terms.specs.declared.buy_in.Liable.{Liable}
 use Rattle.cns_terms.specs.declared.holding.Holding.{Holding}
 use Rattle.cns_terms.specs.declared.holding.Key.{Key}
 use Rattle.cns_terms.specs.declared.refusal.Refusal.{Refusal}
@@ -15,6 +19,14 @@ use Rattle.cns_statements.specs.Texts.{stated_line}
 use Rattle.cns_statements.specs.Words.{text_line}
 use Rattle.cns_feed.specs.declared.fault.LineFault.{LineFault}
 use Rattle.cns_feed.specs.declared.fault.LineFault.TheVariants as fault
+
+-- `notice NUMBER`
+abbrev pub noticed_line : ℕ → List ℕ
+noticed_line number = text_line (codes "notice") (decimal number ∷ [])
+
+-- `executed MEMBERS`
+abbrev pub executed_line : ℕ → List ℕ
+executed_line members = text_line (codes "executed") (decimal members ∷ [])
 
 -- `closed DAY DATE ROWS LIABLE`
 abbrev pub closed_line : Closed → List ℕ
@@ -38,10 +50,24 @@ refused_line r = text_line (codes "refused") (decimal (refusal_number r) ∷ ref
 -- the first line of a reply
 abbrev pub reply_line : Reply → List ℕ
 reply_line reply.Accepted = text_line (codes "ok") []
+reply_line (reply.Noticed n) = noticed_line n
+reply_line (reply.Executed n) = executed_line n
 reply_line (reply.Closed c) = closed_line c
 reply_line (reply.Held k h) = held_line k h
 reply_line (reply.Stated s) = stated_line s
 reply_line (reply.Refused r) = refused_line r
+
+-- `liable CUSIP MEMBER SHARES AGE` of a member that is liable in an issue: its short at the close, and the age of that short
+abbrev pub liable_line : Cusip → Liable → List ℕ
+liable_line c l = text_line (codes "liable") (c ∷ decimal l.member ∷ decimal l.closing ∷ decimal l.age ∷ [])
+
+-- a line for each member of a batch, in the order of filling
+abbrev pub batch_text : Liables → List ℕ
+batch_text b = flat_map (liable_line b.cusip) b.members
+
+-- the lines of each batch
+abbrev pub batches_text : List Liables → List ℕ
+batches_text bs = flat_map batch_text bs
 
 -- the name of a line fault
 abbrev pub fault_name : LineFault → List ℕ

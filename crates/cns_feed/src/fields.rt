@@ -2,7 +2,7 @@
 ghost use Rattle.std.specs.Prelude.{◌≡◌};
 ghost use Rattle.csv.specs.Records.{fields_of};
 ghost use Rattle.cns_feed.specs.Digits.{in_range};
-ghost use Rattle.cns_feed.specs.Line.{field, member_at, account_at, reference_at, shares_at, money_at, price_at, rate_at, part_at, ratio_at, cusip_at, date_at};
+ghost use Rattle.cns_feed.specs.Line.{field, member_at, account_at, reference_at, notice_at, shares_at, money_at, price_at, rate_at, part_at, ratio_at, cusip_at, date_at};
 
 use crate::digits::{number_of, short_number_of};
 use crate::fault::LineFault;
@@ -56,6 +56,20 @@ pub(crate) fn reference(row: &ByteRecord, place: usize) -> Result<u64, LineFault
         return Err(LineFault::Range);
     }
     Ok(number)
+}
+
+// The number of a notice.
+pub(crate) fn notice(row: &ByteRecord, place: usize) -> Result<u32, LineFault>
+    ensures { result ≡ notice_at (fields_of row.now) place }
+{
+    let number = number_of(field(row, place))?;
+    if number < 1 {
+        return Err(LineFault::Range);
+    }
+    if number > u64::from(u32::MAX) {
+        return Err(LineFault::Range);
+    }
+    Ok(number as u32)
 }
 
 // The fields of a trade are read in line: the calls would cost as much as short numbers do.

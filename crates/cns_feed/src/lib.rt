@@ -13,6 +13,7 @@ mod digits;
 mod fault;
 mod fields;
 mod given;
+mod liable;
 mod line;
 mod loader;
 mod outcome;

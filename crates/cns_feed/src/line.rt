@@ -2,13 +2,15 @@
 ghost use Rattle.std.specs.Prelude.{◌≡◌, false, codes};
 ghost use Rattle.std.specs.Str.{bytes_eq};
 ghost use Rattle.csv.specs.Records.{fields_of};
-ghost use Rattle.cns_feed.specs.Line.{field, member_line, listing_at, issue_line, price_line, trade_line, movement_at, deliver_line, receive_line, dividend_line, split_line, exchange_line, close_line, position_line, statement_line, line_of};
+ghost use Rattle.cns_feed.specs.Line.{field, member_line, listing_at, issue_line, price_line, trade_line, movement_at, deliver_line, receive_line, dividend_line, split_line, exchange_line, notice_line, withdraw_line, execute_line, close_line, position_line, statement_line, line_of};
 
 use crate::fault::LineFault;
 use crate::fields::{
-    account, cusip, date, field, member, money, price, rate, ratio, reference, shares,
+    account, cusip, date, field, member, money, notice, price, rate, ratio, reference, shares,
 };
-use cns_terms::{Activity, Command, Declared, Exchange, Key, Listing, Movement, Split, Trade};
+use cns_terms::{
+    Activity, Command, Declared, Exchange, Execution, Key, Listing, Movement, Split, Trade,
+};
 use csv::ByteRecord;
 
 /// What a record is read as: a command, or its first fault.
@@ -81,7 +83,7 @@ fn trade_of(row: &ByteRecord) -> Result<Command, LineFault>
     })))
 }
 
-// A member, an issue and the shares that move.
+// A member, an issue and the shares that move, or that it means to buy in.
 #[tactic(auto, unfolding(crate::specs::Line::movement_at))]
 fn movement(row: &ByteRecord) -> Result<Movement, LineFault>
     ensures { result ≡ movement_at (fields_of row.now) }
@@ -168,6 +170,42 @@ fn exchange_of(row: &ByteRecord) -> Result<Command, LineFault>
     })))
 }
 
+#[tactic(auto, unfolding(crate::specs::Line::notice_line))]
+fn notice_of(row: &ByteRecord) -> Result<Command, LineFault>
+    ensures { result ≡ notice_line (fields_of row.now) }
+{
+    let movement = movement(row)?;
+    Ok(Command::Activity(Activity::Notice(movement)))
+}
+
+#[tactic(auto, unfolding(crate::specs::Line::withdraw_line))]
+fn withdraw_of(row: &ByteRecord) -> Result<Command, LineFault>
+    ensures { result ≡ withdraw_line (fields_of row.now) }
+{
+    if row.len() != 2 {
+        return Err(LineFault::Count);
+    }
+    let notice = notice(row, 1)?;
+    Ok(Command::Activity(Activity::Withdraw(notice)))
+}
+
+#[tactic(auto, unfolding(crate::specs::Line::execute_line))]
+fn execute_of(row: &ByteRecord) -> Result<Command, LineFault>
+    ensures { result ≡ execute_line (fields_of row.now) }
+{
+    if row.len() != 4 {
+        return Err(LineFault::Count);
+    }
+    let notice = notice(row, 1)?;
+    let shares = shares(row, 2)?;
+    let money = money(row, 3)?;
+    Ok(Command::Activity(Activity::Execute(Execution {
+        notice,
+        shares,
+        money,
+    })))
+}
+
 #[tactic(auto, unfolding(crate::specs::Line::close_line))]
 fn close_of(row: &ByteRecord) -> Result<Command, LineFault>
     ensures { result ≡ close_line (fields_of row.now) }
@@ -228,6 +266,12 @@ fn other_of(row: &ByteRecord) -> Result<Command, LineFault>
         split_of(row)
     } else if kind == b"EXCHANGE".as_slice() {
         exchange_of(row)
+    } else if kind == b"NOTICE".as_slice() {
+        notice_of(row)
+    } else if kind == b"WITHDRAW".as_slice() {
+        withdraw_of(row)
+    } else if kind == b"EXECUTE".as_slice() {
+        execute_of(row)
     } else if kind == b"CLOSE".as_slice() {
         close_of(row)
     } else if kind == b"POSITION".as_slice() {

@@ -2,17 +2,18 @@
 ghost use Rattle.std.specs.Prelude.{◌≡◌, IfOk, IfErr, OnOk};
 ghost use Rattle.cns_units.specs.Output.{Writes};
 ghost use Rattle.cns_book.specs.Log.{state_of};
-ghost use Rattle.cns_feed.specs.Output.{outcome_of, outcome_text, rows_told};
+ghost use Rattle.cns_feed.specs.Output.{outcome_of, outcome_text, rest_text, rows_stated};
 ghost use Rattle.cns_feed.specs.Replay.{HasRoomFor, blank_log, log_after_line};
 ghost use Rattle.cns_feed.specs.declared.fault.ReplayFault.TheVariants as fault;
 
 use crate::fault::{LineFault, ReplayFault};
+use crate::liable::write_batches;
 use crate::line::Line;
 use crate::text::{reply_text, write_fault};
 use cns_book::{Book, TakeFault};
 use cns_positions::{Positions, TreePositions};
 use cns_statements::write_rows;
-use cns_terms::{Reply, Row, Worker};
+use cns_terms::{Reply, Row, Stated, Worker};
 use cns_units::{Day, WriteFault};
 use std::alloc::Global;
 use std::io::Write;
@@ -60,17 +61,32 @@ pub(crate) fn take_line<P: Positions<Global>>(
     }
 }
 
-// The rows of the statement that a reply tells of; none of another reply.
-fn rows_told<'a, P: Positions<Global>>(book: &'a Book<P, Global>, reply: &Reply) -> &'a [Row]
-    ensures { result.now ≡ rows_told (state_of book.now) reply.now }
+// The rows of a statement.
+fn rows_stated<'a, P: Positions<Global>>(book: &'a Book<P, Global>, stated: &Stated) -> &'a [Row]
+    ensures { result.now ≡ rows_stated (state_of book.now) stated.now }
 {
-    let stated = match reply {
-        Reply::Stated(stated) => stated,
-        Reply::Accepted | Reply::Closed(_) | Reply::Held(_, _) | Reply::Refused(_) => return &[],
-    };
     match book.sheet(stated.date) {
         Some(sheet) => sheet.rows_of(stated.account),
         None => &[],
+    }
+}
+
+// Writes what follows the first line of a reply: the liable members of the day that a close ended, or a statement's rows.
+fn write_rest<P: Positions<Global>, W: Write>(
+    book: &Book<P, Global>,
+    reply: &Reply,
+    writer: &mut W,
+) -> Result<(), WriteFault>
+    ensures { Writes (W.contents writer.old) (W.contents writer.new) (rest_text (state_of book.now) reply.now) result }
+{
+    match reply {
+        Reply::Closed(closed) => write_batches(book.batches(closed.day), writer),
+        Reply::Stated(stated) => write_rows(rows_stated(book, stated), writer),
+        Reply::Accepted
+        | Reply::Noticed(_)
+        | Reply::Executed(_)
+        | Reply::Held(_, _)
+        | Reply::Refused(_) => Ok(()),
     }
 }
 
@@ -85,7 +101,7 @@ pub(crate) fn write_outcome<P: Positions<Global>, W: Write>(
     match outcome {
         Outcome::Replied(reply) => {
             reply_text(reply, writer)?;
-            write_rows(rows_told(book, reply), writer)
+            write_rest(book, reply, writer)
         }
         Outcome::AtFault(fault) => write_fault(*fault, writer),
     }

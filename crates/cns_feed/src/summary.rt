@@ -41,7 +41,12 @@ impl Summary {
                 self.closes += 1;
             }
             Outcome::Replied(
-                Reply::Accepted | Reply::Held(_, _) | Reply::Stated(_) | Reply::Refused(_),
+                Reply::Accepted
+                | Reply::Noticed(_)
+                | Reply::Executed(_)
+                | Reply::Held(_, _)
+                | Reply::Stated(_)
+                | Reply::Refused(_),
             ) => self.commands += 1,
         }
     }

@@ -3,14 +3,16 @@ mod ends;
 mod scripts;
 mod turns;
 
+use crate::liable::write_batches;
 use crate::loader::take_all;
 use crate::player::play;
 use crate::records::Records;
 use crate::{ReplayFault, Summary, load, replay, reply_text};
 use cns_book::Book;
 use cns_positions::{FlatPositions, Positions, TreePositions};
+use cns_retransmit::{Batch, Short};
 use cns_terms::{Closed, Holding, Key, Refusal, Reply, Stated, Worker};
-use cns_units::{Account, Cents, Cusip, Day};
+use cns_units::{Account, Cents, Cusip, Day, Member};
 use scripts::SCRIPTS;
 use std::alloc::Global;
 use std::io::{Read, Write};
@@ -260,7 +262,14 @@ fn the_first_fault_of_a_record_decides(rt: HostRuntime) -> Result<(), Fail> {
         ("STATEMENT,10000,2024-06-03", "line Range"),
         ("STATEMENT,0,2024-6-3", "line Date"),
         ("DIVIDEND,1", "line Count"),
-        ("NOTICE,1", "line Kind"),
+        ("NOTICE,1", "line Count"),
+        ("NOTICE,0,17275R103,1", "line Range"),
+        ("NOTICE,1,037833100,1", "refused 2"),
+        ("WITHDRAW,0", "line Range"),
+        ("WITHDRAW,4294967295", "refused 14"),
+        ("WITHDRAW,4294967296", "line Range"),
+        ("EXECUTE,1,1,x", "line Number"),
+        ("EXECUTE,1,1,0", "refused 14"),
     ];
     let mut input = String::new(rt.alloc());
     let mut expected = String::new(rt.alloc());
@@ -286,6 +295,9 @@ fn the_first_fault_of_a_record_decides(rt: HostRuntime) -> Result<(), Fail> {
 fn each_reply_has_its_text(rt: HostRuntime) -> Result<(), Fail> {
     let cases = [
         (Reply::Accepted, "ok\n"),
+        (Reply::Noticed(1), "notice 1\n"),
+        (Reply::Noticed(u32::MAX), "notice 4294967295\n"),
+        (Reply::Executed(9_998), "executed 9998\n"),
         (
             Reply::Closed(Closed {
                 day: u32::MAX,
@@ -334,6 +346,52 @@ fn each_reply_has_its_text(rt: HostRuntime) -> Result<(), Fail> {
     for (reply, expected) in cases {
         let mut output = Vec::new(rt.alloc());
         assert!(rt; reply_text(&reply, &mut output).is_ok(), "{expected}");
+        assert_eq!(rt; output.as_slice(), expected.as_bytes(), "{expected}");
+    }
+    Ok(())
+}
+
+// A batch of one member.
+fn batch_of_one(
+    alloc: Global,
+    issue: &str,
+    member: u16,
+    shares: u32,
+    age: u32,
+) -> Result<Batch<Global>, Fail> {
+    let short = Short {
+        member: Member::new(member)?,
+        shares: u64::from(shares),
+        age,
+    };
+    match Batch::choose(alloc, cusip(issue)?, &[short], 1) {
+        Ok(Some(batch)) => Ok(batch),
+        _ => Err(Fail::new("no batch")),
+    }
+}
+
+#[test]
+fn each_liable_member_has_a_line(rt: HostRuntime) -> Result<(), Fail> {
+    let cases = [
+        (
+            "037833100",
+            7,
+            1,
+            u32::MAX,
+            "liable 037833100 7 1 4294967295\n",
+        ),
+        (
+            "17275R102",
+            9_999,
+            4_000_000_000,
+            1,
+            "liable 17275R102 9999 4000000000 1\n",
+        ),
+    ];
+    for (issue, member, shares, age, expected) in cases {
+        let batch = batch_of_one(rt.alloc(), issue, member, shares, age)?;
+        let mut output = Vec::new(rt.alloc());
+        assert!(rt; write_batches(&[batch], &mut output).is_ok(), "{expected}");
         assert_eq!(rt; output.as_slice(), expected.as_bytes(), "{expected}");
     }
     Ok(())

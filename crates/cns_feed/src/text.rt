@@ -3,13 +3,25 @@ ghost use Rattle.std.specs.Prelude.{◌≡◌, ◌∷◌, []};
 ghost use Rattle.std.specs.Fmt.{decimal};
 ghost use Rattle.std.specs.Option.{option_map_or};
 ghost use Rattle.cns_units.specs.Output.{Writes};
-ghost use Rattle.cns_feed.specs.Text.{closed_line, held_line, refusal_detail, refused_line, reply_line, fault_name, fault_line};
+ghost use Rattle.cns_feed.specs.Text.{noticed_line, executed_line, closed_line, held_line, refusal_detail, refused_line, reply_line, fault_name, fault_line};
 
 use crate::fault::LineFault;
 use cns_statements::{Word, write_line, write_stated};
 use cns_terms::{Closed, Holding, Key, Refusal, Reply};
 use cns_units::{Cents, WriteFault, write_bytes};
 use std::io::Write;
+
+fn write_noticed<W: Write>(number: u32, writer: &mut W) -> Result<(), WriteFault>
+    ensures { Writes (W.contents writer.old) (W.contents writer.new) (noticed_line number) result }
+{
+    write_line(b"notice", &[Word::Number(u64::from(number))], writer)
+}
+
+fn write_executed<W: Write>(members: u64, writer: &mut W) -> Result<(), WriteFault>
+    ensures { Writes (W.contents writer.old) (W.contents writer.new) (executed_line members) result }
+{
+    write_line(b"executed", &[Word::Number(members)], writer)
+}
 
 fn write_closed<W: Write>(closed: &Closed, writer: &mut W) -> Result<(), WriteFault>
     ensures { Writes (W.contents writer.old) (W.contents writer.new) (closed_line closed.now) result }
@@ -66,6 +78,8 @@ pub fn reply_text<W: Write>(reply: &Reply, writer: &mut W) -> Result<(), WriteFa
 {
     match reply {
         Reply::Accepted => write_bytes(b"ok\n", writer),
+        Reply::Noticed(number) => write_noticed(*number, writer),
+        Reply::Executed(members) => write_executed(*members, writer),
         Reply::Closed(closed) => write_closed(closed, writer),
         Reply::Held(key, holding) => write_held(key, holding, writer),
         Reply::Stated(stated) => write_stated(stated, writer),

@@ -2,14 +2,18 @@
 mod actions;
 mod bookings;
 mod dividends;
+mod executions;
 mod fields;
+mod notices;
 mod statements;
 
 use crate::Summary;
 use actions::ACTIONS;
 use bookings::BOOKINGS;
 use dividends::DIVIDENDS;
+use executions::EXECUTIONS;
 use fields::FIELDS;
+use notices::NOTICES;
 use statements::STATEMENTS;
 
 // Records, and what a replay of them must write and count.
@@ -33,4 +37,12 @@ impl Script {
     }
 }
 
-pub(crate) const SCRIPTS: [&[Script]; 5] = [&ACTIONS, &BOOKINGS, &DIVIDENDS, &FIELDS, &STATEMENTS];
+pub(crate) const SCRIPTS: [&[Script]; 7] = [
+    &ACTIONS,
+    &BOOKINGS,
+    &DIVIDENDS,
+    &EXECUTIONS,
+    &FIELDS,
+    &NOTICES,
+    &STATEMENTS,
+];

@@ -1,7 +1,7 @@
 // Fields of records, and their faults.
 use super::Script;
 
-pub(crate) const FIELDS: [Script; 8] = [
+pub(crate) const FIELDS: [Script; 9] = [
     Script {
         name: "money up to 10^18 cents, more, and none",
         opening: "2024-06-03",
@@ -183,6 +183,77 @@ pub(crate) const FIELDS: [Script; 8] = [
             line Kind\n",
         commands: 0,
         lines: 20,
+        closes: 0,
+    },
+    Script {
+        name: "notices, withdrawals and executions that cannot be read",
+        opening: "2024-06-03",
+        input: "NOTICE,1\n\
+            NOTICE,1,17275R102,1,2\n\
+            NOTICE,0,17275R103,x\n\
+            NOTICE,1,17275R103,x\n\
+            NOTICE,1,17275R102,0\n\
+            NOTICE,1,17275R102,1000000001\n\
+            NOTICE,1,17275R102,1.5\n\
+            NOTICE,1,17275R102,1000000000\n\
+            WITHDRAW\n\
+            WITHDRAW,1,1\n\
+            WITHDRAW,\n\
+            WITHDRAW,-1\n\
+            WITHDRAW,0\n\
+            WITHDRAW,4294967296\n\
+            WITHDRAW,4294967297\n\
+            WITHDRAW,18446744073709551617\n\
+            WITHDRAW,4294967295\n\
+            WITHDRAW,0001\n\
+            EXECUTE,1,1\n\
+            EXECUTE,1,1,0,2024-06-03\n\
+            EXECUTE,0,x,x\n\
+            EXECUTE,x,0,0\n\
+            EXECUTE,4294967296,x,0\n\
+            EXECUTE,1,0,x\n\
+            EXECUTE,1,x,-1\n\
+            EXECUTE,1,1000000001,0\n\
+            EXECUTE,1,1,16.25\n\
+            EXECUTE,1,1,1000000000000000001\n\
+            EXECUTE,4294967295,1000000000,1000000000000000000\n\
+            notice,1,17275R102,1\n\
+            WITHDRAWAL,1\n\
+            EXECUTE ,1,1,0\n",
+        output: "line Count\n\
+            line Count\n\
+            line Range\n\
+            line Cusip\n\
+            line Range\n\
+            line Range\n\
+            line Number\n\
+            refused 2\n\
+            line Count\n\
+            line Count\n\
+            line Number\n\
+            line Number\n\
+            line Range\n\
+            line Range\n\
+            line Range\n\
+            line Range\n\
+            refused 14\n\
+            refused 14\n\
+            line Count\n\
+            line Count\n\
+            line Range\n\
+            line Number\n\
+            line Range\n\
+            line Range\n\
+            line Number\n\
+            line Range\n\
+            line Number\n\
+            line Range\n\
+            refused 14\n\
+            line Kind\n\
+            line Kind\n\
+            line Kind\n",
+        commands: 4,
+        lines: 28,
         closes: 0,
     },
 ];
