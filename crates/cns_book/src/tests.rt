@@ -1,7 +1,5 @@
 // The limit, each worker's numbers, want of memory, and the bounds of members' positions.
-mod buy_ins;
 mod dividends;
-mod splits;
 
 use crate::{Book, Receipt, TakeFault};
 use cns_positions::TreePositions;
@@ -276,45 +274,6 @@ fn exhaust<'a>(
         }
     }
     Ok(pieces)
-}
-
-// What a book answers while its heap has no memory left.
-fn starved_answers<'a>(
-    heap: &'a LocalHeap,
-    book: &mut TreeBook<&'a LocalHeap>,
-    commands: &[(Worker, Command)],
-    alloc: Global,
-) -> Result<Vec<Result<Receipt, TakeFault>>, NoMemory> {
-    let _ballast = exhaust(heap, alloc)?;
-    answers(book, commands, alloc)
-}
-
-// Takes a command of the first day while memory is given back piece by piece, the smallest first. Each time that it finds
-// too little the book has taken no more, is at the same day, and shows the same to the first member.
-fn take_at_last<'a>(
-    rt: &impl Abort,
-    heap: &'a LocalHeap,
-    book: &mut TreeBook<&'a LocalHeap>,
-    command: &Command,
-    alloc: Global,
-) -> Result<Receipt, Fail> {
-    let mut ballast = exhaust(heap, alloc)?;
-    let account = key(rt, 1).account;
-    let taken = book.history_len();
-    let before = book.position(account, issue(rt));
-    for _piece in 0..5_000 {
-        match book.take(Worker::FIRST, *command) {
-            Ok(receipt) => return Ok(receipt),
-            Err(TakeFault::Full) => return Err(Fail::new("the book is full")),
-            Err(TakeFault::NoMemory) => {}
-        }
-        assert_eq!(rt; book.history_len(), taken);
-        assert_eq!(rt; book.day(), 1);
-        assert!(rt; book.batches(1).is_empty());
-        assert_eq!(rt; book.position(account, issue(rt)), before);
-        let _ = ballast.pop();
-    }
-    Err(Fail::new("all memory is too little"))
 }
 
 #[test]

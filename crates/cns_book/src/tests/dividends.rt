@@ -1,7 +1,7 @@
 // Dividends that are declared, that are refused, and that find no memory.
-use super::{TreeBook, answers, date, first, listing, member, opening, receipt, starved_answers};
-use crate::{Book, TakeFault};
-use cns_terms::{Activity, Closed, Command, Declared, Refusal, Reply};
+use super::{TreeBook, answers, date, exhaust, first, listing, member, opening, receipt};
+use crate::{Book, Receipt, TakeFault};
+use cns_terms::{Activity, Closed, Command, Declared, NoMemory, Refusal, Reply, Worker};
 use cns_units::{Cusip, Rate};
 use linked_list_allocator::LocalHeap;
 use std::alloc::Global;
@@ -102,6 +102,17 @@ fn a_record_date_may_not_be_of_a_closed_day(rt: HostRuntime) -> Result<(), Fail>
     let answered = answers(&mut book, commands.as_slice(), rt.alloc())?;
     assert_eq!(rt; answered.as_slice(), expected.as_slice());
     Ok(())
+}
+
+// What a book answers while its heap has no memory left.
+fn starved_answers<'a>(
+    heap: &'a LocalHeap,
+    book: &mut TreeBook<&'a LocalHeap>,
+    commands: &[(Worker, Command)],
+    alloc: Global,
+) -> Result<Vec<Result<Receipt, TakeFault>>, NoMemory> {
+    let _ballast = exhaust(heap, alloc)?;
+    answers(book, commands, alloc)
 }
 
 #[test]
