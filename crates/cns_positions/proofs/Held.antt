@@ -58,7 +58,9 @@ is_le_index Greater = refl
 
 -- keys in order are parted by whether they are above a key
 pub parted_at : (rows : Rows) (k : Key) → is_sorted key_cmp rows ≡ true → IsPartitionedBy (λ r. is_le (key_cmp r.0 k)) rows
-parted_at rows k s = subst (λ p. IsPartitionedBy p rows) (λ i r. is_le_index (key_cmp r.0 k) i) (IsPartitionedBy-leb (λ r. ordering_index (key_cmp r.0 k)) rows 1 (comparisons_rise keys_total rows k (k, zeros) s))
+parted_at rows k s =
+    let equal : ℕ = ordering_index Equal in
+    subst (λ p. IsPartitionedBy p rows) (λ i r. is_le_index (key_cmp r.0 k) i) (IsPartitionedBy-leb (λ r. ordering_index (key_cmp r.0 k)) rows equal (comparisons_rise keys_total rows k (k, zeros) s))
 
 -- a key that is no greater is not above the other
 le_not_above : (low q : Key) (r : Ordering) → key_cmp q low ≡ r → is_le r ≡ true → is_above (Some low) q ≡ false

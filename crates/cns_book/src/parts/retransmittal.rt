@@ -35,7 +35,7 @@ pub fn count_liable<A: Allocator + Drop + Clone>(batches: &[Batch<A>]) -> u64
 }
 
 impl<P: Positions<A>, A: Allocator + Drop + Clone> Parts<P, A> {
-    // What remains of a notice.
+    /// What remains of a notice, in shares.
     pub fn remaining(&self, number: u32) -> u64
         requires { (1 ≤ number) × (number ≤ length self.now.notices) }
         ensures { Some result ≡ option_map (remaining_by self.now.rows) (notice_at self.now.notices number) }
