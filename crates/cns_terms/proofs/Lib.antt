@@ -18,6 +18,7 @@ pub mod RefusalOrder
 pub mod SheetSums
 pub mod Elsewhere
 pub mod SheetRows
+pub mod Valued
 pub mod PriceLists
 pub mod SheetBounds
 pub mod LegalReplies

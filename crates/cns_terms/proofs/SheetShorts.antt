@@ -15,7 +15,7 @@ use Rattle.cns_units.specs.declared.day.Day.{Day}
 use Rattle.cns_terms.specs.declared.buy_in.Short.{Short}
 use Rattle.cns_terms.specs.declared.sheet.Row.{Row}
 use Rattle.cns_terms.specs.Ages.{age, closes_short}
-use Rattle.cns_terms.specs.Batches.{short_of, shorts}
+use Rattle.cns_terms.specs.Batches.{short_at, short_in, short_of, shorts}
 use Rattle.cns_terms.specs.Days.{closings}
 use Rattle.cns_terms.specs.Listings.{accounts, is_listed, issues, members}
 use Rattle.cns_terms.specs.Positions.{position}
@@ -27,18 +27,6 @@ use Rattle.cns_terms.proofs.Finds.{not_itself}
 use Rattle.cns_terms.proofs.Rising.{above_all, is_rising}
 use Rattle.cns_terms.proofs.SheetSums.{idle_parts}
 use Rattle.cns_terms.proofs.Sound.{IsSound}
-
--- whether a row is a member's that closes short in the issue
-abbrev pub is_short_in : Cusip → Row → Bool
-is_short_in c r = nat_lt 0 r.account && (int_lt r.closing (pos 0) && same_issue r.issue c)
-
--- the short of a row, with an age
-abbrev pub short_at : (Account → Cusip → ℕ) → Row → Short
-short_at age r = record { member = r.account; shares = short r.closing; age = age r.account r.issue + 1 }
-
--- the short of a row, if it is a member's that closes short in the issue
-abbrev pub short_in : (Account → Cusip → ℕ) → Cusip → Row → Option Short
-short_in age c r = cond (is_short_in c r) (Some (short_at age r)) None
 
 -- ---- lists
 

@@ -21,3 +21,4 @@ pub mod Limits
 pub mod Reached
 pub mod Laws
 pub mod Numbers
+pub mod Sources

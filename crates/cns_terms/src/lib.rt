@@ -21,7 +21,8 @@
 //!                                       statement of an account: its rows and their sums
 //! ```
 //!
-//! The code here is data alone. What the book promises stands in `specs/`: every value is a sum, a count or a filter
+//! The code here is data, and two traits that workers are handed: a `Source` gives commands, a `Gate` is called around
+//! each step. What the book promises stands in `specs/`: every value is a sum, a count or a filter
 //! over the list of accepted activities, the newest first, so that a reader can check a rule without the code. Start
 //! with `specs/Machine.antt`, which recomputes each reply from the accepted activities; `specs/Refusals.antt` has the
 //! rules by which a command is refused, `specs/Entries.antt` what an accepted one books, `specs/Laws.antt` what holds of
@@ -32,22 +33,26 @@ mod action;
 mod buy_in;
 mod command;
 mod fault;
+mod gate;
 mod history;
 mod holding;
 mod refusal;
 mod reply;
 mod sheet;
+mod source;
 mod worker;
 
 pub use action::{Declared, Exchange, Split};
 pub use buy_in::{Execution, Fill, Given, Liable, Short, Stage};
 pub use command::{Activity, Command, Listing, Movement, Trade};
 pub use fault::NoMemory;
+pub use gate::{Gate, NoGate};
 pub use history::Taken;
 pub use holding::{Entry, Holding, Key};
 pub use refusal::Refusal;
 pub use reply::{Closed, Reply, Stated};
 pub use sheet::Row;
+pub use source::{Item, Source, SourceFault};
 pub use worker::Worker;
 
 #[cfg(test)]

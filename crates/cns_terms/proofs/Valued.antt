@@ -1,0 +1,34 @@
+-- A value for each of some issues.
+use Rattle.std.proofs.Common.{◌≡◌, ◌∙◌, ap, refl, Bool, true, false, ◌||◌, cond, List, [], ◌∷◌, map, Some, None}
+use Rattle.std.specs.Prelude.{bytes_eq}
+use Rattle.std.specs.Cmp.Lexicographic.{slice_cmp}
+use Rattle.std.specs.FinMap.{find, is_sorted}
+use Rattle.std.specs.FinMap.Entries.{below_all}
+use Rattle.std.specs.List.{list_any}
+use Rattle.std.specs.Ordering.{nat_cmp}
+use Rattle.std.proofs.lemmas.Slice.Eq.{bytes_eq-Decides}
+use Rattle.cns_units.specs.declared.cusip.Cusip.{Cusip}
+use Rattle.cns_terms.proofs.Facts.{and_left, and_right, both_true, same_test}
+use Rattle.cns_terms.proofs.Rising.{above_all, is_rising}
+
+module _ {X : Type 0} (p : Cusip → X) where
+  -- what stands above an issue stands above it with its value
+  above_with : (c : Cusip) (cs : List Cusip) → above_all (slice_cmp nat_cmp) c cs ≡ true → below_all (slice_cmp nat_cmp) c (map (λ d. (d, p d)) cs) ≡ true
+  above_with c [] h = refl
+  above_with c (d ∷ cs) h = both_true _ _ (and_left _ _ h) (above_with c cs (and_right _ _ h))
+
+  -- values of issues in order are in that order
+  pub sorted_with : (cs : List Cusip) → is_rising (slice_cmp nat_cmp) cs ≡ true → is_sorted (slice_cmp nat_cmp) (map (λ d. (d, p d)) cs) ≡ true
+  sorted_with [] h = refl
+  sorted_with (c ∷ cs) h = both_true _ _ (above_with c cs (and_left _ _ h)) (sorted_with cs (and_right _ _ h))
+
+  -- the value of an issue among those of issues
+  pub find_with : (c : Cusip) (cs : List Cusip) → find (slice_cmp nat_cmp) c (map (λ d. (d, p d)) cs) ≡ cond (list_any (λ d. bytes_eq d c) cs) (Some (p c)) None
+  find_with c [] = refl
+  find_with c (d ∷ cs) =
+      (λ i. cond (same_test c d i) (Some (p d)) (find_with c cs i))
+      ∙ found (bytes_eq d c) (list_any (λ d. bytes_eq d c) cs) (λ e. (bytes_eq-Decides d c).0 e)
+    where
+      found : (b rest : Bool) → (b ≡ true → d ≡ c) → cond b (Some (p d)) (cond rest (Some (p c)) None) ≡ cond (b || rest) (Some (p c)) None
+      found true rest h = ap (λ q. Some (p q)) (h refl)
+      found false rest h = refl
