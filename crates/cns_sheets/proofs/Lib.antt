@@ -8,3 +8,4 @@ pub mod Empty
 pub mod Tested
 pub mod RowSums
 pub mod Searched
+pub mod Alike

@@ -12,6 +12,7 @@ mod in_order;
 mod payments;
 mod prices;
 mod quotes;
+mod same;
 mod search;
 mod sheet;
 mod sums;

@@ -1,5 +1,5 @@
 // A closed day.
-ghost use Rattle.std.specs.Prelude.{◌≡◌, ◌∷◌, [], IfOk, length, MatchOption, None, OnOk, pos, Some, true};
+ghost use Rattle.std.specs.Prelude.{◌≡◌, ◌↔◌, ◌∷◌, [], IfOk, length, MatchOption, None, OnOk, pos, Some, true};
 ghost use Rattle.std.specs.Cmp.Lexicographic.{slice_cmp};
 ghost use Rattle.std.specs.FinMap.{is_sorted};
 ghost use Rattle.std.specs.List.{AllByRecursion};
@@ -17,6 +17,7 @@ ghost use Rattle.cns_sheets.specs.Search.{prices_above, row_at};
 use crate::cutting::collect;
 use crate::payments::{Paid, Payment};
 use crate::prices::{listed, price_on};
+use crate::same::{same_prices, same_rows};
 use crate::search::{next_price, row_at, rows_for};
 use crate::sums::sums;
 use cns_positions::Positions;
@@ -163,6 +164,15 @@ impl<A: Allocator + Drop> Sheet<A> {
             mark,
             dividend,
         }
+    }
+
+    /// Whether both are sheets of one day with the same prices and rows.
+    pub fn is_same(&self, other: &Sheet<A>) -> bool
+        ensures { (result ≡ true) ↔ (self.now ≡ other.now) }
+    {
+        self.date.is_same(&other.date)
+            && same_prices(self.prices.as_slice(), other.prices.as_slice())
+            && same_rows(self.rows.as_slice(), other.rows.as_slice())
     }
 
     /// The sum of all marks, in cents. It is zero, and so is not added up.
