@@ -15,34 +15,13 @@ use Rattle.cns_terms.specs.declared.buy_in.Liable.{Liable}
 use Rattle.cns_terms.specs.Batches.{Liables, chosen}
 use Rattle.cns_terms.proofs.Facts.{and_left, and_right, both_true, same_test}
 use Rattle.cns_terms.proofs.Finds.{find_filter, kept_if, same_lists, sorted_filter}
-use Rattle.cns_terms.proofs.Rising.{above_all, is_rising}
+use Rattle.cns_terms.proofs.Rising.{is_rising}
+use Rattle.cns_terms.proofs.Valued.{find_with, sorted_with}
 use Rattle.cns_retransmit.specs.Calls.{CalledIn, batch_of, batches_of, called_in}
 
 -- whether anybody is liable
 abbrev has_members : Liables → Bool
 has_members b = nat_lt 0 (length b.members)
-
--- ---- a value for each issue
-
--- what stands below an issue stands below it with its value
-below_with : {X : Type 0} (p : Cusip → X) (c : Cusip) (cs : List Cusip) → above_all (slice_cmp nat_cmp) c cs ≡ true → below_all (slice_cmp nat_cmp) c (map (λ d. (d, p d)) cs) ≡ true
-below_with p c [] h = refl
-below_with p c (d ∷ cs) h = both_true _ _ (and_left _ _ h) (below_with p c cs (and_right _ _ h))
-
-sorted_with : {X : Type 0} (p : Cusip → X) (cs : List Cusip) → is_rising (slice_cmp nat_cmp) cs ≡ true → is_sorted (slice_cmp nat_cmp) (map (λ d. (d, p d)) cs) ≡ true
-sorted_with p [] h = refl
-sorted_with p (c ∷ cs) h = both_true _ _ (below_with p c cs (and_left _ _ h)) (sorted_with p cs (and_right _ _ h))
-
--- the value of an issue among those of issues
-find_with : {X : Type 0} (p : Cusip → X) (c : Cusip) (cs : List Cusip) → find (slice_cmp nat_cmp) c (map (λ d. (d, p d)) cs) ≡ cond (list_any (λ d. bytes_eq d c) cs) (Some (p c)) None
-find_with p c [] = refl
-find_with p c (d ∷ cs) =
-    (λ i. cond (same_test c d i) (Some (p d)) (find_with p c cs i))
-    ∙ found (bytes_eq d c) (list_any (λ d. bytes_eq d c) cs) (λ e. (bytes_eq-Decides d c).0 e)
-  where
-    found : (b rest : Bool) → (b ≡ true → d ≡ c) → cond b (Some (p d)) (cond rest (Some (p c)) None) ≡ cond (b || rest) (Some (p c)) None
-    found true rest h = ap (λ q. Some (p q)) (h refl)
-    found false rest h = refl
 
 -- ---- what is called, by issue
 

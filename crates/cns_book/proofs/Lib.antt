@@ -19,6 +19,7 @@ pub mod SheetCut
 pub mod Within
 pub mod Shorts
 pub mod Retransmitting
+pub mod LiableCounts
 pub mod Rooms
 pub mod Charging
 pub mod Executing

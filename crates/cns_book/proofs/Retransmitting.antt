@@ -18,7 +18,7 @@ use Rattle.cns_terms.specs.declared.buy_in.Short.{Short}
 use Rattle.cns_terms.specs.declared.command.Activity.{Activity}
 use Rattle.cns_terms.specs.declared.sheet.Row.{Row}
 use Rattle.cns_terms.specs.Ages.{age}
-use Rattle.cns_terms.specs.Batches.{Liables, batch_at, called, chosen, fills_before, is_called, liable_at, liable_of, short_of, shorts}
+use Rattle.cns_terms.specs.Batches.{Liables, batch_at, called, chosen, fills_before, is_called, liable_at, liable_of, short_in, short_of, shorts}
 use Rattle.cns_terms.specs.Days.{day}
 use Rattle.cns_terms.specs.Entries.{journal}
 use Rattle.cns_terms.specs.Fills.{batch_since, batches_since}
@@ -38,7 +38,7 @@ use Rattle.cns_terms.proofs.Sound.{IsNoticed, IsSound}
 use Rattle.cns_retransmit.specs.Calls.{CalledIn, CanBeChosen, batches_of, called_in, shorts_in, total_in}
 use Rattle.cns_book.specs.Contents.{Contents}
 use Rattle.cns_book.specs.Follows.{Follows}
-use Rattle.cns_book.specs.Retransmittal.{called_by, run_at, short_in, with_shorts}
+use Rattle.cns_book.specs.Retransmittal.{called_by, run_at, with_shorts}
 use Rattle.cns_book.proofs.Batching.{in_issue}
 use Rattle.cns_book.proofs.Calls.{called_is}
 use Rattle.cns_book.proofs.Chosen.{AreSameBatches, batches_same}
@@ -152,7 +152,7 @@ chosen_same opening L before es r calls given sorted =
 -- ---- how many are liable
 
 -- batches without anybody add nothing
-sum_of : (g : Cusip → List Liable) (cs : List Cusip) → sum_by (λ b. length b.members) (filter (λ b. nat_lt 0 (length b.members)) (map (in_issue g) cs)) ≡ length (flat_map g cs)
+pub sum_of : (g : Cusip → List Liable) (cs : List Cusip) → sum_by (λ b. length b.members) (filter (λ b. nat_lt 0 (length b.members)) (map (in_issue g) cs)) ≡ length (flat_map g cs)
 sum_of g [] = refl
 sum_of g (c ∷ cs) = by (g c) refl (sum_of g cs)
   where

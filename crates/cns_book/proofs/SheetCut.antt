@@ -30,7 +30,8 @@ use Rattle.cns_terms.proofs.Everywhere.{each_both, each_filter, each_in_order}
 use Rattle.cns_terms.proofs.Facts.{and_left, and_right, equal, journal_len}
 use Rattle.cns_terms.proofs.Finds.{find_below, same_lists, tied_below}
 use Rattle.cns_terms.proofs.Keys.{keys_total}
-use Rattle.cns_terms.proofs.PriceLists.{find_price, price_or_zero, sheet_price, sorted_prices}
+use Rattle.cns_terms.proofs.PriceLists.{price_or_zero, sheet_price}
+use Rattle.cns_terms.proofs.Valued.{find_with, sorted_with}
 use Rattle.cns_terms.proofs.Reached.{AreSmallRates, IsLimited, limited, limited_past}
 use Rattle.cns_terms.proofs.SheetBounds.{closings_zero, issues_few, moneys_zero, rows_few}
 use Rattle.cns_terms.proofs.SheetLimits.{account_cents_small, account_dividends_small, accounts_grew, due_few, payable}
@@ -60,8 +61,8 @@ before_is opening (K ∷ Ks) = refl
 -- the list of prices is that of the definitions
 prices_are : (J : Journal) (es : Listed) → IsSound J → is_sorted (slice_cmp nat_cmp) es ≡ true → ((c : Cusip) → price_in es c ≡ cond (is_listed J c) (Some (price J c)) None) → listed_above es None ≡ sheet_prices J
 prices_are J es s sorted is =
-    same_lists nat_list_cmp_total exact_bytes (listed_above es None) (sheet_prices J) (prices_rise es sorted) (sorted_prices (price J) (issues J) s.issues_rise)
-    (λ c. listed_found c es ∙ is c ∙ sym (find_price (price J) c (issues J)))
+    same_lists nat_list_cmp_total exact_bytes (listed_above es None) (sheet_prices J) (prices_rise es sorted) (sorted_with (price J) (issues J) s.issues_rise)
+    (λ c. listed_found c es ∙ is c ∙ sym (find_with (price J) c (issues J)))
 
 -- ---- rows
 

@@ -20,7 +20,7 @@ use Rattle.cns_terms.specs.declared.holding.Holding.{Holding}
 use Rattle.cns_terms.specs.declared.holding.Key.{Key}
 use Rattle.cns_terms.specs.declared.sheet.Row.{Row}
 use Rattle.cns_terms.specs.Ages.{age}
-use Rattle.cns_terms.specs.Batches.{short_of, shorts}
+use Rattle.cns_terms.specs.Batches.{is_short_in, short_at, short_in, short_of, shorts}
 use Rattle.cns_terms.specs.Days.{closings}
 use Rattle.cns_terms.specs.Entries.{journal}
 use Rattle.cns_terms.specs.Limits.{corporation_limit, member_limit, position_limit}
@@ -37,7 +37,7 @@ use Rattle.cns_retransmit.specs.Calls.{CalledIn, with_short}
 use Rattle.cns_retransmit.specs.Chosen.{shorts_of}
 use Rattle.cns_book.specs.Contents.{Contents}
 use Rattle.cns_book.specs.Follows.{Follows, HasRoom}
-use Rattle.cns_book.specs.Retransmittal.{is_short_in, run_at, short_at, short_in, with_shorts}
+use Rattle.cns_book.specs.Retransmittal.{run_at, with_shorts}
 use Rattle.cns_book.proofs.Closing.{prefix_le}
 use Rattle.cns_book.proofs.Lengths.{closes_le}
 use Rattle.cns_book.proofs.Within.{rows_within}

@@ -4,6 +4,7 @@ pub mod Effects
 pub mod Executions
 pub mod Follows
 pub mod Legal
+pub mod Liable
 pub mod Log
 pub mod Members
 pub mod Retransmittal

@@ -29,15 +29,3 @@ run_at rows a c = (holding_at rows (record { account = a; issue = c })).run
 -- what is called in an issue, with more shorts
 abbrev pub with_shorts : List Short → CalledIn → CalledIn
 with_shorts ss x = record { total = x.total; shorts = x.shorts ++ ss }
-
--- whether a row is a member's that closes short in the issue
-abbrev pub is_short_in : Cusip → Row → Bool
-is_short_in c r = nat_lt 0 r.account && (int_lt r.closing (pos 0) && same_issue r.issue c)
-
--- the short of a row, with an age
-abbrev pub short_at : (Account → Cusip → ℕ) → Row → Short
-short_at age r = record { member = r.account; shares = short r.closing; age = age r.account r.issue + 1 }
-
--- the short of a row, if it is a member's that closes short in the issue
-abbrev pub short_in : (Account → Cusip → ℕ) → Cusip → Row → Option Short
-short_in age c r = if is_short_in c r then Some (short_at age r) else None

@@ -1,5 +1,6 @@
 //! The laws of the definitions, over any list of commands. Each is the contract of a call that does nothing.
 ghost use Rattle.cns_terms.specs.Laws.{Amounts, Bounds, ClosedDays, Positions, RefusalOrder, ZeroSums};
+ghost use Rattle.cns_book.specs.Liable.{LiableCounts};
 
 /// The marks of each closed day's sheet add up to zero cents over all accounts, the corporation's included, and so do
 /// its dividends, where the commands' values are in their ranges, as those of [`cns_units`] are. The day is named by its
@@ -37,4 +38,10 @@ pub fn amounts()
 /// least number.
 pub fn refusal_order()
     ensures { RefusalOrder }
+{}
+
+/// An accepted close tells how many members are liable by it: as many as the batches of its day have, over all issues,
+/// then and whatever is taken later. Executions lower what is left of a liability, and take no member out of its batch.
+pub fn liable_counts()
+    ensures { LiableCounts }
 {}

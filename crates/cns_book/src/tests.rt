@@ -1,4 +1,5 @@
 // The limit, each worker's numbers, want of memory, and the bounds of members' positions.
+mod buy_ins;
 mod dividends;
 
 use crate::{Book, Receipt, TakeFault};

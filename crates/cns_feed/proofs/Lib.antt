@@ -1,3 +1,4 @@
 pub mod DigitLemmas
 pub mod RecordLemmas
 pub mod PlayLemmas
+pub mod SourceLemmas

@@ -4,3 +4,4 @@ pub mod Text
 pub mod Output
 pub mod Replay
 pub mod Records
+pub mod Source

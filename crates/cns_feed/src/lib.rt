@@ -19,6 +19,7 @@ mod loader;
 mod outcome;
 mod player;
 mod records;
+mod source;
 mod summary;
 mod text;
 
@@ -27,6 +28,7 @@ pub use line::command_of;
 pub use loader::load;
 pub use outcome::ReplayBook;
 pub use player::replay;
+pub use source::CsvSource;
 pub use summary::Summary;
 pub use text::reply_text;
 

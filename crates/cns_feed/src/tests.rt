@@ -1,6 +1,7 @@
 // Worked scripts, unusual inputs, texts of replies, and readers and writers that fail.
 mod ends;
 mod scripts;
+mod sources;
 mod turns;
 
 use crate::liable::write_batches;

@@ -12,7 +12,8 @@ ghost use Rattle.cns_notices.specs.Noticed.{notice_at};
 ghost use Rattle.cns_retransmit.specs.Calls.{called_in, shorts_in, total_in};
 ghost use Rattle.cns_retransmit.specs.Days.{RiseByIssue};
 ghost use Rattle.cns_book.specs.Follows.{Follows, HasRoom};
-ghost use Rattle.cns_book.specs.Retransmittal.{called_by, remaining_by, run_at, short_in, with_shorts};
+ghost use Rattle.cns_terms.specs.Batches.{short_in};
+ghost use Rattle.cns_book.specs.Retransmittal.{called_by, remaining_by, run_at, with_shorts};
 
 use crate::parts::Parts;
 use cns_positions::Positions;

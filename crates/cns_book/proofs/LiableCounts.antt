@@ -1,0 +1,73 @@
+-- A close tells how many members the batches of its day have.
+use Rattle.std.proofs.Common.{◌≡◌, ◌∙◌, ap, sym, subst, refl, ℕ, ◌≤◌, true, cond, ◌==◌, List, [], ◌∷◌, flat_map, length, Option, Some, None, arith}
+use Rattle.std.specs.Option.{option_map_or}
+use Rattle.std.specs.Prelude.{find, is_none, unwrap_or}
+use Rattle.std.proofs.lemmas.Bool.Decides.{nat_tests}
+use Rattle.std.proofs.lemmas.List.{length-append, length-map}
+use Rattle.cns_units.specs.declared.cusip.Cusip.{Cusip}
+use Rattle.cns_units.specs.declared.day.Day.{Day}
+use Rattle.cns_terms.specs.declared.command.Activity.TheVariants as activity
+use Rattle.cns_terms.specs.declared.command.Command.{Command}
+use Rattle.cns_terms.specs.declared.command.Command.TheVariants as command
+use Rattle.cns_terms.specs.declared.refusal.Refusal.{Refusal}
+use Rattle.cns_terms.specs.declared.reply.Closed.{Closed}
+use Rattle.cns_terms.specs.declared.reply.Reply.TheVariants as reply
+use Rattle.cns_terms.specs.Batches.{batch_at, liable_at}
+use Rattle.cns_terms.specs.Days.{at_close, closings, day}
+use Rattle.cns_terms.specs.Entries.{journal, posting}
+use Rattle.cns_terms.specs.Fills.{batch_since, batches, batches_since, left_of}
+use Rattle.cns_terms.specs.Laws.{journal_of}
+use Rattle.cns_terms.specs.Listings.{issues}
+use Rattle.cns_terms.specs.Machine.{State, activity_reply, after, next, opened}
+use Rattle.cns_terms.specs.Postings.{Journal}
+use Rattle.cns_terms.specs.Refusals.{refusal}
+use Rattle.cns_terms.proofs.ClosedDays.{keeps-after}
+use Rattle.cns_terms.proofs.Sound.{IsWhole, opening_stays, whole-after, whole-next}
+use Rattle.cns_book.specs.Liable.{LiableCounts, liable_in}
+use Rattle.cns_book.proofs.Retransmitting.{sum_of}
+
+-- executions leave the members in their batches
+still_liable : (J K : Journal) (cs : List Cusip) → length (flat_map (batch_since J K) cs) ≡ length (flat_map (batch_at K) cs)
+still_liable J K [] = refl
+still_liable J K (c ∷ cs) =
+    let here = length-map (batch_at K c) (left_of J (day K) c) in
+    let all = length-append (batch_since J K c) (flat_map (batch_since J K) cs) in
+    let all' = length-append (batch_at K c) (flat_map (batch_at K) cs) in
+    omega (arith, here, still_liable J K cs, all, all')
+
+-- the batches that a close chose have the members that it made liable, whatever comes later
+counted : (J K : Journal) → liable_in (batches_since J K) ≡ length (liable_at K)
+counted J K = sum_of (batch_since J K) (issues K) ∙ still_liable J K (issues K)
+
+-- the journal that a close found is found by its day
+close_found : (J : Journal) (n : ℕ) → n ≡ day J → unwrap_or (find (λ K. day K == n) (J ∷ closings J)) [] ≡ J
+close_found J n e = ap (λ b. unwrap_or (cond b (Some J) (find (λ K. day K == n) (closings J))) []) (same (day J) n e)
+  where
+    same : (a b : ℕ) → b ≡ a → (a == b) ≡ true
+    same a b e = grind (arith, nat_tests, e)
+
+-- what an accepted close tells, and what the journal has at the close of its day from then on
+by_refusal : (S : State) (more : List Command) (d : Day) (c : Closed) (o : Option Refusal) → IsWhole S.opening (journal_of S) → refusal S.opening (journal_of S) (command.Activity (activity.Close d)) ≡ o
+    → option_map_or reply.Refused o (activity_reply S.opening (journal_of S) (activity.Close d)) ≡ reply.Closed c
+    → c.liable ≡ liable_in (batches (journal_of (after (next S (command.Activity (activity.Close d))) more)) c.day)
+by_refusal S more d c (Some r) w o e = cc
+by_refusal S more d c None w o e =
+    let J = journal_of S in
+    let close = command.Activity (activity.Close d) in
+    let S' = next S close in
+    let J' = journal_of (after S' more) in
+    let told : activity_reply S.opening J (activity.Close d) ≡ reply.Closed c = e in
+    let liable : length (liable_at J) ≡ c.liable = cc in
+    let on : day J ≡ c.day = cc in
+    let closed : journal_of S' ≡ posting S.opening J (activity.Close d) ∷ J = ap (λ r. journal S.opening (cond (is_none r) (activity.Close d ∷ S.accepted) S.accepted)) o in
+    let k = keeps-after S' more (whole-next S close w) in
+    let found : at_close (journal_of S') (day J) ≡ J = ap (λ K. at_close K (day J)) closed ∙ close_found J (day J) refl in
+    let fits : day J ≤ length (closings (journal_of S')) = subst (λ K. day J ≤ length (closings K)) (sym closed) (omega arith) in
+    sym liable ∙ sym (counted J' J) ∙ ap (λ K. liable_in (batches_since J' K)) (sym (k.by_place (day J) fits ∙ found)) ∙ ap (λ n. liable_in (batches J' n)) on
+
+-- whatever is taken later, the batches of a closed day have as many members as its close told
+pub liable_counts : LiableCounts
+liable_counts opening cmds more d c e =
+    let S = after (opened opening) cmds in
+    let w : IsWhole S.opening (journal_of S) = subst (λ o. IsWhole o (journal_of S)) (sym (opening_stays (opened opening) cmds)) (whole-after opening cmds) in
+    by_refusal S more d c _ w refl e
