@@ -1,6 +1,5 @@
 -- The texts of the items of a list, written one after another.
-use Rattle.std.proofs.Common.{◌≡◌, ℕ, ◌+◌, ◌<◌, ◌≤◌, List, ◌++◌, Option, get_or, length, drop, add-one, drop-cons, append-nil, append_assoc, refl, sym, ◌∙◌}
-use Rattle.std.proofs.lemmas.List.{drop_all}
+use Rattle.std.proofs.Common.{◌≡◌, ℕ, ◌+◌, ◌<◌, List, ◌++◌, Option, get_or, length, drop, add-one, drop-cons, append_assoc, refl, sym, ◌∙◌}
 use Rattle.std.specs.List.{flat_map}
 use Rattle.std.specs.Io.KnownBytes.{Appends}
 use Rattle.std.proofs.KnownBytes.{Appends-trans}
@@ -23,8 +22,3 @@ pub parts_failed : {X : Type 0} (old mid new : Option (List ℕ)) (f : X → Lis
     → flat_map f xs ≡ done ++ flat_map f (drop i xs) → Appends old mid done → AppendsFront mid new (f (get_or xs i d)) → AppendsFront old new (flat_map f xs)
 parts_failed old mid new f xs i d done lt whole a b =
     rw (whole, part_at f xs i d lt) (front_later old mid new done (f (get_or xs i d) ++ flat_map f (drop (i + 1) xs)) a (front_longer mid new (f (get_or xs i d)) (flat_map f (drop (i + 1) xs)) b))
-
--- all items' texts were written
-pub parts_done : {X : Type 0} (old new : Option (List ℕ)) (f : X → List ℕ) (xs : List X) (i : ℕ) (done : List ℕ) → length xs ≤ i
-    → flat_map f xs ≡ done ++ flat_map f (drop i xs) → Appends old new done → Appends old new (flat_map f xs)
-parts_done old new f xs i done le whole a = rw (whole, drop_all i xs le, append-nil) a

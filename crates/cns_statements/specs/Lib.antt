@@ -1,2 +1,4 @@
 pub mod Words
 pub mod Texts
+pub mod Packs
+pub mod Promised

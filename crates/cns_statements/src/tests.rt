@@ -1,3 +1,5 @@
+mod packs;
+
 use crate::{Rows, Statement, statement, write_rows, write_stated, write_statement};
 use cns_positions::{FlatPositions, Positions};
 use cns_prices::Prices;

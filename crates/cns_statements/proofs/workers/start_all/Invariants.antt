@@ -1,0 +1,15 @@
+use Rattle.std.proofs.Common.{◌≡◌, ◌+◌, ◌++◌, List, Vec, vec_len}
+use Rattle.std.specs.declared.alloc.Global.{Global}
+use Rattle.cns_units.specs.declared.account.Account.{Account}
+use Rattle.cns_statements.specs.Promised.{AllAre}
+use Rattle.cns_statements.proofs.workers.start_all.Given as goal
+
+-- the parts of the threads so far and those that are left are all
+abbrev pub invariant-starting : goal.invariant-starting
+invariant-starting g l = record {
+  all : (done : List (Vec Account Global)) × (done ++ l.parts.items ≡ l.fn.parts.items) × AllAre l.sheet done l.handles.items;
+  number : l.number + vec_len l.parts ≡ vec_len l.fn.parts;
+}
+
+abbrev pub decreases-starting : goal.decreases-starting
+decreases-starting g l = vec_len l.parts
