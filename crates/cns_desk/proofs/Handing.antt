@@ -1,0 +1,50 @@
+-- The sheet that is handed out with a statement.
+use Rattle.std.proofs.Common.{◌≡◌, ◌∙◌, sym, ap, refl, subst, cond, Bool, true, false, not, List, [], ◌∷◌, Some, None, Option, option_map, find, is_none, unwrap_or}
+use Rattle.std.specs.Option.{option_map_or}
+use Rattle.cns_units.specs.declared.day.Day.{Day}
+use Rattle.cns_terms.specs.declared.command.Command.TheVariants as command
+use Rattle.cns_terms.specs.declared.history.Taken.{Taken}
+use Rattle.cns_terms.specs.declared.refusal.Refusal.TheVariants.{NoSuchDay, NoSuchMember}
+use Rattle.cns_terms.specs.declared.reply.Reply.{Reply}
+use Rattle.cns_terms.specs.declared.reply.Reply.TheVariants as reply
+use Rattle.cns_terms.specs.Days.{closed_on, closings, date, is_same_day}
+use Rattle.cns_terms.specs.Entries.{journal}
+use Rattle.cns_terms.specs.History.{accepted}
+use Rattle.cns_terms.specs.Postings.{Journal}
+use Rattle.cns_terms.specs.Refusals.{first_refusal}
+use Rattle.cns_terms.specs.Sheets.{DaySheet, day_sheet, sheet_on, statement}
+use Rattle.cns_terms.specs.Machine.{answer_to}
+use Rattle.cns_desk.specs.Handed.{Hands}
+
+-- ---- what is found
+
+some_same : {X : Type 0} (x y : X) → Some x ≡ Some y → x ≡ y
+some_same x y h = cc
+
+none_some : {X : Type 0} (x : X) → None ≡ Some x → ⊥
+none_some x h = cc
+
+module _ {X : Type 0} (p : X → Bool) where
+  found_branch : (b : Bool) (y : X) (rest : Option X) (x : X) → p y ≡ b → (rest ≡ Some x → p x ≡ true) → cond b (Some y) rest ≡ Some x → p x ≡ true
+  found_branch true y rest x e more h = ap p (sym (some_same y x h)) ∙ e
+  found_branch false y rest x e more h = more h
+
+  -- what is found meets the test
+  find_meets : (xs : List X) (x : X) → find p xs ≡ Some x → p x ≡ true
+  find_meets [] x h = absurd (none_some x h)
+  find_meets (y ∷ ys) x h = found_branch (p y) y (find p ys) x refl (find_meets ys x) h
+
+-- the sheet of a day that was looked for, and the reply to the statement of the corporation on it
+hands_found : (o d : Day) (q : Option Journal) → ((K : Journal) → q ≡ Some K → is_same_day (date o K) d ≡ true)
+    → Hands d (option_map_or reply.Refused (first_refusal ((NoSuchMember, not true) ∷ (NoSuchDay, is_none q) ∷ [])) (reply.Stated (statement (unwrap_or (option_map (day_sheet o) q) (day_sheet o [])) 0))) (option_map (day_sheet o) q)
+hands_found o d None same = refl
+hands_found o d (Some K) same = record { sheet = day_sheet o K; is = refl; dated = same K refl; stated = refl }
+
+-- with the reply to the statement of the corporation goes the sheet of the day
+pub hands : (o : Day) (H : List Taken) (d : Day) (r : Reply) (s : Option DaySheet) → r ≡ answer_to o (accepted o H) (command.Statement 0 d) → s ≡ sheet_on o (journal o (accepted o H)) d → Hands d r s
+hands o H d r s p q =
+    let L = accepted o H in
+    let J = journal o L in
+    let P : Reply → Type 0 = λ x. Hands d x s in
+    let Q : Option DaySheet → Type 0 = λ x. Hands d (answer_to o L (command.Statement 0 d)) x in
+    subst P (sym p) (subst Q (sym q) (hands_found o d (closed_on o J d) (λ K is. find_meets (λ K. is_same_day (date o K) d) (closings J) K is)))

@@ -1,0 +1,55 @@
+-- One worker more that was joined.
+use Rattle.std.proofs.Common.{◌≡◌, ◌∙◌, sym, ap, refl, Bool, ℕ, suc, ◌≤◌, ◌⊎◌, ◌↔◌, inl, inr, ◌<◌, List, [], ◌∷◌, ◌++◌, length, drop, Option, arith, append_assoc}
+use Rattle.std.specs.Prelude.{IfSome, slice_index_or}
+use Rattle.std.specs.List.{AllByRecursion}
+use Rattle.std.proofs.lemmas.Bool.{cases_lt}
+use Rattle.std.specs.declared.thread.PromisedHandle.{PromisedHandle}
+use Rattle.cns_terms.specs.Sources.{Told}
+use Rattle.cns_desk.specs.Logged.{Logged}
+use Rattle.cns_desk.specs.Promised.{promised}
+use Rattle.cns_desk.specs.Running.{HaveRun, Worked}
+use Rattle.cns_desk.specs.Seats.{AreFresh, IsFresh, Sitting, fresh}
+use Rattle.cns_desk.specs.declared.end.End.{End}
+use Rattle.cns_desk.specs.declared.running.Works.{Works}
+
+-- one worker more has run
+pub run_more : {S : Type 0} (fails : Bool) (told : S → Option Told) (ss : List S) (ls : List Logged) (es : List End) (s : S) (l : Logged) (e : End) → HaveRun fails told ss ls es → IfSome (told s) (λ t. Worked fails t l e) → HaveRun fails told (ss ++ s ∷ []) (ls ++ l ∷ []) (es ++ e ∷ [])
+run_more fails told [] [] [] s l e h k = (k, tt)
+run_more fails told (a ∷ ss) (b ∷ ls) (c ∷ es) s l e h k = (h.0, run_more fails told ss ls es s l e h.1 k)
+run_more fails told [] [] (c ∷ es) s l e h k = absurd h
+run_more fails told [] (b ∷ ls) es s l e h k = absurd h
+run_more fails told (a ∷ ss) [] es s l e h k = absurd h
+run_more fails told (a ∷ ss) (b ∷ ls) [] s l e h k = absurd h
+
+-- a list that is not empty is its first and the rest
+first_of : {X : Type 0} (xs : List X) (x : X) → 0 < length xs → x ≡ slice_index_or xs 0 x → xs ≡ x ∷ drop 1 xs
+first_of [] x some is = absurd (omega (arith, some))
+first_of (y ∷ ys) x some is = ap (λ z. z ∷ ys) (sym is)
+
+-- the sources of what was joined and of what is left
+pub sources_same : {T S : Type 0} (done all : List S) (old new : List (PromisedHandle T (Works S))) (h : PromisedHandle T (Works S)) → done ++ promised old ≡ all → 0 < length old → h ≡ slice_index_or old 0 h → new ≡ drop 1 old
+    → (done ++ h.promise.0.value ∷ []) ++ promised new ≡ all
+sources_same done all old new h is some first rest =
+    append_assoc done (h.promise.0.value ∷ []) (promised new) ∙ ap (λ hs. done ++ h.promise.0.value ∷ promised hs) rest ∙ sym (ap (λ hs. done ++ promised hs) (first_of old h some first)) ∙ is
+
+-- there is a log for each source
+pub run_len : {S : Type 0} (fails : Bool) (told : S → Option Told) (ss : List S) (ls : List Logged) (es : List End) → HaveRun fails told ss ls es → length ls ≡ length ss
+run_len fails told [] [] [] h = refl
+run_len fails told (a ∷ ss) (b ∷ ls) (c ∷ es) h = ap suc (run_len fails told ss ls es h.1)
+run_len fails told [] [] (c ∷ es) h = absurd h
+run_len fails told [] (b ∷ ls) es h = absurd h
+run_len fails told (a ∷ ss) [] es h = absurd h
+run_len fails told (a ∷ ss) (b ∷ ls) [] h = absurd h
+
+-- seats whose counts are 0 are fresh
+fresh_each : (seats : List Sitting) (d : Sitting) → ((k : ℕ) → k < length seats → (slice_index_or seats k d).count ≡ 0) → AllByRecursion IsFresh seats
+fresh_each [] d h = tt
+fresh_each (s ∷ seats) d h = (h 0 (omega arith), fresh_each seats d (λ k low. h (suc k) (omega (arith, low))))
+
+-- under new seats nothing was taken
+pub fresh_all : (n : ℕ) (seats : List Sitting) → AreFresh n seats → AllByRecursion IsFresh seats
+fresh_all n seats (len, each) = fresh_each seats (fresh 0) (λ k low. ap (λ (s : Sitting). s.count) (each k (omega (arith, low, len))))
+
+-- what was not refused is at most 64
+pub at_most : {R : Type 0} (n : ℕ) (ok err : R) → ((ok ≡ err) ↔ ((n < 1) ⊎ (64 < n))) → (ok ≡ err → ⊥) → n ≤ 64
+at_most n ok err h apart = elim (cases_lt 64 n) [ inl more ↦ absurd (apart (h.1 (inr more))) | inr few ↦ few ]

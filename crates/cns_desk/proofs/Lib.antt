@@ -1,0 +1,5 @@
+pub mod Numbered
+pub mod Handing
+pub mod Differences
+pub mod SoFar
+pub mod Joined

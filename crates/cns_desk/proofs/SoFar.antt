@@ -1,0 +1,76 @@
+-- One record more.
+use Rattle.std.proofs.Common.{◌≡◌, ◌∙◌, sym, ap, subst, refl, ℕ, ◌+◌, Bool, List, [], ◌∷◌, ◌++◌, map, Some, None, Option, append_assoc, length-append}
+use Rattle.std.specs.Prelude.{IfSome}
+use Rattle.std.specs.List.{AllByRecursion}
+use Rattle.cns_terms.specs.declared.command.Command.{Command}
+use Rattle.cns_terms.specs.Sources.{Told}
+use Rattle.cns_desk.specs.Logged.{Logged}
+use Rattle.cns_desk.specs.Running.{Adds, HasNoSheet, Logs, SoFar, Steps, commands_in, lines_in}
+use Rattle.cns_desk.specs.declared.log.LogItem.{LogItem}
+
+-- a command more
+commands_more : (given : List (Option Command)) (c : Command) → commands_in (given ++ Some c ∷ []) ≡ commands_in given ++ c ∷ []
+commands_more [] c = refl
+commands_more ((Some d) ∷ given) c = ap (λ xs. d ∷ xs) (commands_more given c)
+commands_more (None ∷ given) c = commands_more given c
+
+-- a record at fault adds no command
+commands_same : (given : List (Option Command)) → commands_in (given ++ None ∷ []) ≡ commands_in given
+commands_same [] = refl
+commands_same ((Some d) ∷ given) = ap (λ xs. d ∷ xs) (commands_same given)
+commands_same (None ∷ given) = commands_same given
+
+-- a command adds no record at fault
+lines_same : (given : List (Option Command)) (c : Command) → lines_in (given ++ Some c ∷ []) ≡ lines_in given
+lines_same [] c = refl
+lines_same ((Some d) ∷ given) c = lines_same given c
+lines_same (None ∷ given) c = ap (λ n. n + 1) (lines_same given c)
+
+-- a record at fault more
+lines_more : (given : List (Option Command)) → lines_in (given ++ None ∷ []) ≡ lines_in given + 1
+lines_more [] = refl
+lines_more ((Some d) ∷ given) = lines_more given
+lines_more (None ∷ given) = ap (λ n. n + 1) (lines_more given)
+
+-- the commands of one item more
+mapped_more : (items : List LogItem) (i : LogItem) → map (λ (j : LogItem). j.command) (items ++ i ∷ []) ≡ map (λ (j : LogItem). j.command) items ++ i.command ∷ []
+mapped_more [] i = refl
+mapped_more (j ∷ items) i = ap (λ xs. j.command ∷ xs) (mapped_more items i)
+
+-- one item more without a sheet
+sheets_more : (items : List LogItem) (i : LogItem) → AllByRecursion HasNoSheet items → HasNoSheet i → AllByRecursion HasNoSheet (items ++ i ∷ [])
+sheets_more [] i all is = (is, all)
+sheets_more (j ∷ items) i all is = (all.0, sheets_more items i all.1 is)
+
+-- the log of one record more
+logs_more : (given : List (Option Command)) (old new : Logged) (x : Option Command) → Logs given old → Adds old new x → Logs (given ++ x ∷ []) new
+logs_more given old new None l (items, lines) = record {
+  commands = ap (map (λ (j : LogItem). j.command)) items ∙ l.commands ∙ sym (commands_same given);
+  sheets = subst (AllByRecursion HasNoSheet) (sym items) l.sheets;
+  lines = lines ∙ ap (λ n. n + 1) l.lines ∙ sym (lines_more given);
+}
+logs_more given old new (Some c) l (i, is, none, items, lines) = record {
+  commands = ap (map (λ (j : LogItem). j.command)) items ∙ mapped_more old.items i ∙ ap (λ xs. xs ++ i.command ∷ []) l.commands ∙ ap (λ d. commands_in given ++ d ∷ []) is ∙ sym (commands_more given c);
+  sheets = subst (AllByRecursion HasNoSheet) (sym items) (sheets_more old.items i l.sheets none);
+  lines = lines ∙ l.lines ∙ sym (lines_same given c);
+}
+
+-- one record more of a source that tells
+step_more : (fails : Bool) (t : Told) (now new : Option Told) (old log : Logged) (n : ℕ) → SoFar t now old n → IfSome now (λ u. Steps fails u None new old log) → SoFar t new log (n + 1)
+step_more fails t now new old log n s step =
+    let P : Option Told → Type 0 = λ o. IfSome o (λ u. Steps fails u None new old log) in
+    let told = subst P s.tells step in
+    let x = told.0 in let rest = told.1.0 in
+    record {
+      given = s.given ++ x ∷ [];
+      rest = rest;
+      split = s.split ∙ ap (λ ys. s.given ++ ys) told.1.1 ∙ sym (append_assoc s.given (x ∷ []) rest);
+      tells = told.1.2;
+      logs = logs_more s.given old log x s.logs told.2;
+      long = length-append s.given (x ∷ []) ∙ ap (λ k. k + 1) s.long;
+    }
+
+-- one record more of any source
+pub more : (fails : Bool) (o now new : Option Told) (old log : Logged) (n : ℕ) → IfSome o (λ t. SoFar t now old n) → IfSome now (λ u. Steps fails u None new old log) → IfSome o (λ t. SoFar t new log (n + 1))
+more fails None now new old log n s step = tt
+more fails (Some t) now new old log n s step = step_more fails t now new old log n s step

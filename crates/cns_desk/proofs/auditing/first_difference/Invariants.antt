@@ -1,0 +1,11 @@
+use Rattle.std.proofs.Common.{◌≤◌, ℕ}
+use Rattle.cns_terms.specs.History.{count}
+use Rattle.cns_desk.specs.Parts.{SameAt}
+use Rattle.cns_desk.proofs.auditing.first_difference.Given as goal
+
+-- the places so far are the same
+abbrev pub invariant-loop-at : goal.invariant-loop-at
+invariant-loop-at g l = record {
+  inside : l.at ≤ count l.book.history l.worker;
+  same : (k : ℕ) → 1 ≤ k → k ≤ l.at → SameAt l.book l.worker l.items k;
+}

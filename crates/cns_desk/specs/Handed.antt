@@ -1,0 +1,25 @@
+-- What comes with the reply to a statement.
+use Rattle.std.specs.Prelude.{◌≡◌, true, Option, Some, None}
+use Rattle.cns_units.specs.declared.day.Day.{Day}
+use Rattle.cns_terms.specs.declared.reply.Reply.{Reply}
+use Rattle.cns_terms.specs.declared.reply.Reply.TheVariants as reply
+use Rattle.cns_terms.specs.declared.reply.Stated.{Stated}
+use Rattle.cns_terms.specs.Days.{is_same_day}
+use Rattle.cns_terms.specs.Sheets.{DaySheet, statement}
+
+-- the sheet has the date, and the reply tells of its rows of the corporation
+pub record IsStated (date : Day) (s : Stated) (o : Option DaySheet) : Type 0 where
+  pub sheet : DaySheet
+  pub is : o ≡ Some sheet
+  pub dated : is_same_day sheet.date date ≡ true
+  pub stated : s ≡ statement sheet 0
+
+-- a sheet is handed out exactly where the reply is Stated
+abbrev pub Hands : Day → Reply → Option DaySheet → Type 0
+Hands date (reply.Stated s) o = IsStated date s o
+Hands date reply.Accepted o = o ≡ None
+Hands date (reply.Noticed k) o = o ≡ None
+Hands date (reply.Executed n) o = o ≡ None
+Hands date (reply.Closed c) o = o ≡ None
+Hands date (reply.Held k h) o = o ≡ None
+Hands date (reply.Refused r) o = o ≡ None

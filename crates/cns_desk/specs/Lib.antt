@@ -1,0 +1,7 @@
+pub mod Logged
+pub mod Seats
+pub mod Handed
+pub mod Parts
+pub mod Running
+pub mod Promised
+pub mod Given
