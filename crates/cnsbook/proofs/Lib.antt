@@ -1,1 +1,3 @@
 pub mod EndLemmas
+pub mod EndsTold
+pub mod Tallied

@@ -1,5 +1,9 @@
 // What the program writes and answers, by its line, its input and its writers.
-use crate::program::{program, refuse_words, run_line};
+mod days;
+mod outcomes;
+
+use crate::ended::refuse_words;
+use crate::program::{program, run_line};
 use std::io;
 use std::io::{Error, ErrorKind, Read, Write};
 use std::test::Fail;
@@ -54,7 +58,7 @@ impl Read for Broken<'_> {
 
 #[test]
 fn a_refused_line_gets_the_usage(rt: HostRuntime) -> Result<(), Fail> {
-    let lines: [&[&str]; 26] = [
+    let lines: [&[&str]; 33] = [
         &[],
         &["cnsbook"],
         &["cnsbook", "replay"],
@@ -86,7 +90,30 @@ fn a_refused_line_gets_the_usage(rt: HostRuntime) -> Result<(), Fail> {
         &["cnsbook", "help"],
         &["cnsbook", "--version"],
         &["cnsbook", "Replay", "--open", "2024-06-03"],
-        &["cnsbook", "run", "--open", "2024-06-03", "FILE"],
+        &["cnsbook", "run"],
+        &["cnsbook", "run", "FILE"],
+        &["cnsbook", "run", "--open", "2024-06-03"],
+        &["cnsbook", "run", "--open", "2024-06-31", "FILE"],
+        &["cnsbook", "run", "--open", "2024-06-03", "FILE", "--help"],
+        &["cnsbook", "statements", "--open", "2024-06-03"],
+        &[
+            "cnsbook",
+            "statements",
+            "--open",
+            "2024-06-03",
+            "--day",
+            "2024-06-03",
+        ],
+        &[
+            "cnsbook",
+            "statements",
+            "--open",
+            "2024-06-03",
+            "--day",
+            "2024-06-31",
+            "--workers",
+            "1",
+        ],
         &[
             "cnsbook",
             "statements",
@@ -96,6 +123,7 @@ fn a_refused_line_gets_the_usage(rt: HostRuntime) -> Result<(), Fail> {
             "2024-06-03",
             "--workers",
             "1",
+            "more",
         ],
     ];
     for words in lines {

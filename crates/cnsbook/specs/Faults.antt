@@ -1,0 +1,35 @@
+-- Which faults of the program the faults of its parts are.
+use Rattle.std.specs.Prelude.{ℕ, ◌≤◌, ⊤}
+use Rattle.cns_feed.specs.declared.fault.ReplayFault.{ReplayFault}
+use Rattle.cns_feed.specs.declared.fault.ReplayFault.TheVariants as replays
+use Rattle.cnsbook.specs.declared.fault.Fault.{Fault}
+use Rattle.cnsbook.specs.declared.fault.Fault.TheVariants as fault
+
+-- a replay's fault
+abbrev pub of_replay : ReplayFault → Fault
+of_replay replays.Read = fault.Read
+of_replay replays.Write = fault.Write
+of_replay replays.NoMemory = fault.NoMemory
+of_replay replays.Full = fault.Full
+
+-- a fault of opening so many files: it names one of them, or memory was refused
+abbrev pub IsOfOpening : ℕ → Fault → Type 0
+IsOfOpening files fault.Read = ⊥
+IsOfOpening files fault.Write = ⊥
+IsOfOpening files fault.NoMemory = ⊤
+IsOfOpening files fault.Full = ⊥
+IsOfOpening files (fault.Open file) = (1 ≤ file) × (file ≤ files)
+IsOfOpening files fault.Spawn = ⊥
+IsOfOpening files fault.Mismatch = ⊥
+IsOfOpening files fault.NoSuchDay = ⊥
+
+-- a fault of a run over so many files, before anything is written
+abbrev pub IsOfRun : ℕ → Fault → Type 0
+IsOfRun files fault.Read = ⊥
+IsOfRun files fault.Write = ⊥
+IsOfRun files fault.NoMemory = ⊤
+IsOfRun files fault.Full = ⊥
+IsOfRun files (fault.Open file) = (1 ≤ file) × (file ≤ files)
+IsOfRun files fault.Spawn = ⊤
+IsOfRun files fault.Mismatch = ⊤
+IsOfRun files fault.NoSuchDay = ⊥
