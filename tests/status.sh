@@ -33,7 +33,12 @@ refuse
 refuse replay
 refuse replay --open 2024-02-30
 refuse replay --open 2024-06-03 more
-refuse run --open 2024-06-03 FILE
+refuse run --open 2024-06-03
+refuse run --open 2024-02-30 "$room/no-such-file"
+refuse run --open 2024-06-03 $(printf 'FILE%.0s ' {1..65})
+refuse statements --open 2024-06-03 --day 2024-06-03 --workers 0
+refuse statements --open 2024-06-03 --day 2024-06-03 --workers 65
+refuse statements --open 2024-06-03 --workers 1
 refuse help
 
 printf 'MEMBER,101\nMEMBER,x\n' | "$program" replay --open 2024-06-03 >"$room/output" 2>"$room/errors"
@@ -47,3 +52,56 @@ expect 'a reader that fails' 1 '' $'fault Read\n' "$?"
 : >"$room/output"
 printf 'MEMBER,101\n' | "$program" replay --open 2024-06-03 >/dev/full 2>"$room/errors"
 expect 'a writer that fails' 1 '' $'fault Write\n' "$?"
+
+# Two files with fifty commands each: three and 47 trades, and fifty trades that may come before the members do.
+# Accepted or not, each is a command of its worker.
+trades() {
+    local reference
+    for reference in $(seq "$1" "$2"); do
+        echo "TRADE,$reference,101,202,037833100,1,19500,2024-06-03"
+    done
+}
+{ printf 'MEMBER,101\nMEMBER,202\nISSUE,037833100,19500\n'; trades 1 47; } >"$room/one.csv"
+trades 101 150 >"$room/two.csv"
+summary='{"closes":0,"commands":100,"counts":[50,50],"dividends":"0.00","lines":0,"marks":"0.00"}'
+"$program" run --open 2024-06-03 "$room/one.csv" "$room/two.csv" >"$room/output" 2>"$room/errors" </dev/null
+expect 'a run of two files' 0 "$summary"$'\n' '' "$?"
+
+# As many files as a run may have, of which each is read by a worker of its own.
+printf 'MEMBER,1\nno,kind\n' >"$room/three.csv"
+files=()
+counts=1
+for _ in $(seq 1 64); do files+=("$room/three.csv"); done
+for _ in $(seq 2 64); do counts+=,1; done
+summary='{"closes":0,"commands":64,"counts":['"$counts"'],"dividends":"0.00","lines":64,"marks":"0.00"}'
+"$program" run --open 2024-06-03 "${files[@]}" >"$room/output" 2>"$room/errors" </dev/null
+expect 'a run of 64 files' 0 "$summary"$'\n' '' "$?"
+
+# No worker is started where a file is missing.
+"$program" run --open 2024-06-03 "$room/one.csv" "$room/missing.csv" >"$room/output" 2>"$room/errors" </dev/null
+expect 'a file that is missing' 1 '' $'fault Open 2\n' "$?"
+
+# A folder can be opened and not read; the other worker goes on.
+summary='{"closes":0,"commands":1,"counts":[0,1],"dividends":"0.00","lines":1,"marks":"0.00"}'
+"$program" run --open 2024-06-03 "$room" "$room/three.csv" >"$room/output" 2>"$room/errors" </dev/null
+expect 'a file that cannot be read' 1 "$summary"$'\n' $'worker 1 Read\n' "$?"
+
+: >"$room/output"
+"$program" run --open 2024-06-03 "$room/one.csv" >/dev/full 2>"$room/errors" </dev/null
+expect 'a summary that cannot be written' 1 '' $'fault Write\n' "$?"
+
+# All statements of the sample's first day, by any number of workers, and of a day that is not closed.
+day=$(dirname "$0")/../examples/day.csv
+statements='statement 101 2024-06-03 1 100.00 0.00
+row 037833100 0 100 0.00 196.00 -19500.00 100.00 0.00
+statement 202 2024-06-03 1 -100.00 0.00
+row 037833100 0 -140 0.00 196.00 27340.00 -100.00 0.00
+statement 303 2024-06-03 1 0.00 0.00
+row 037833100 0 40 0.00 196.00 -7840.00 0.00 0.00
+'
+for workers in 1 2 64; do
+    "$program" statements --open 2024-06-03 --day 2024-06-03 --workers "$workers" <"$day" >"$room/output" 2>"$room/errors"
+    expect "statements by $workers workers" 0 "$statements" '' "$?"
+done
+"$program" statements --open 2024-06-03 --day 2024-06-09 --workers 2 <"$day" >"$room/output" 2>"$room/errors"
+expect 'statements of a day that is not closed' 1 '' $'fault NoSuchDay\n' "$?"
