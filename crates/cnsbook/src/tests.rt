@@ -1,5 +1,6 @@
 // What the program writes and answers, by its line, its input and its writers.
 mod days;
+mod handed_out;
 mod outcomes;
 
 use crate::ended::refuse_words;
