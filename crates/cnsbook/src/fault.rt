@@ -1,12 +1,14 @@
 // Why the program ended without doing its work.
-ghost use Rattle.std.specs.Prelude.{◌≡◌, ◌∷◌, []};
+ghost use Rattle.std.specs.Prelude.{◌≡◌, ◌≢◌, ◌∷◌, [], Some};
 ghost use Rattle.std.specs.Fmt.{decimal};
 ghost use Rattle.std.specs.Option.{option_map_or};
 ghost use Rattle.cns_units.specs.Output.{Writes};
+ghost use Rattle.cnsbook.specs.Faults.{of_pack, of_run};
 ghost use Rattle.cnsbook.specs.Lines.{fault_file, fault_line, fault_name};
 
+use cns_desk::RunFault;
 use cns_feed::ReplayFault;
-use cns_statements::{Word, write_line};
+use cns_statements::{PackFault, Word, write_line};
 use cns_units::WriteFault;
 use std::convert::From;
 use std::io::Write;
@@ -43,6 +45,33 @@ impl From<ReplayFault> for Fault {
             ReplayFault::Write => Fault::Write,
             ReplayFault::NoMemory => Fault::NoMemory,
             ReplayFault::Full => Fault::Full,
+        }
+    }
+}
+
+impl Fault {
+    /// The fault of a run over 1 to 64 files.
+    pub fn of_run(fault: RunFault) -> Fault
+        requires { fault ≢ RunFault.Workers }
+        ensures { of_run fault ≡ Some result }
+    {
+        match fault {
+            RunFault::Workers => unreachable!(),
+            RunFault::Spawn => Fault::Spawn,
+            RunFault::NoMemory => Fault::NoMemory,
+            RunFault::Mismatch => Fault::Mismatch,
+        }
+    }
+
+    /// The fault of a packing by 1 to 64 workers.
+    pub fn of_pack(fault: PackFault) -> Fault
+        requires { fault ≢ PackFault.Workers }
+        ensures { of_pack fault ≡ Some result }
+    {
+        match fault {
+            PackFault::Workers => unreachable!(),
+            PackFault::Spawn => Fault::Spawn,
+            PackFault::NoMemory => Fault::NoMemory,
         }
     }
 }

@@ -6,7 +6,7 @@ ghost use Rattle.cnsbook.specs.Faults.{IsOfOpening, IsOfRun};
 use crate::ended::{Ended, fail};
 use crate::fault::Fault;
 use crate::outcome::tell_outcome;
-use cns_desk::{Outcome, RunFault, run_workers};
+use cns_desk::{Outcome, run_workers};
 use cns_feed::CsvSource;
 use cns_terms::NoGate;
 use cns_units::Day;
@@ -49,10 +49,7 @@ fn run_files<F: Read + Send + Drop, R: AllocGlobal + Files<File = F> + Threads +
     let sources = open_files(rt, files)?;
     match run_workers(rt, rt.alloc(), opening, sources, &NoGate) {
         Ok(outcome) => Ok(outcome),
-        Err(RunFault::Spawn) => Err(Fault::Spawn),
-        Err(RunFault::NoMemory) => Err(Fault::NoMemory),
-        Err(RunFault::Mismatch) => Err(Fault::Mismatch),
-        Err(RunFault::Workers) => unreachable!(),
+        Err(fault) => Err(Fault::of_run(fault)),
     }
 }
 

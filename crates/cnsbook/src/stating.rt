@@ -7,7 +7,7 @@ ghost use Rattle.cnsbook.specs.Ends.{TellsDay};
 use crate::ended::{Ended, fail};
 use crate::fault::Fault;
 use cns_feed::{ReplayBook, load};
-use cns_statements::{PackFault, Statement, pack, write_statement};
+use cns_statements::{Statement, pack, write_statement};
 use cns_terms::NoGate;
 use cns_units::{Day, WriteFault};
 use std::alloc::Global;
@@ -43,9 +43,7 @@ fn write_day<R: AllocGlobal + Threads + Wait + Sync, O: Write>(
     };
     let statements = match pack(rt, rt.alloc(), sheet, workers, &NoGate) {
         Ok(statements) => statements,
-        Err(PackFault::Spawn) => return Err(Fault::Spawn),
-        Err(PackFault::NoMemory) => return Err(Fault::NoMemory),
-        Err(PackFault::Workers) => unreachable!(),
+        Err(fault) => return Err(Fault::of_pack(fault)),
     };
     let written = write_all(statements.as_slice(), output);
     let flushed = output.flush();

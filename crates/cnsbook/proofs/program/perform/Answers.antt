@@ -1,4 +1,3 @@
-use Rattle.std.proofs.Common.{rules}
 use Rattle.cnsbook.proofs.program.perform.Goals as goal
 
 pub returns-in-Run-clause-done : goal.returns-in-Run-clause-done

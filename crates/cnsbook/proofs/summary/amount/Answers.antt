@@ -1,4 +1,4 @@
-use Rattle.std.proofs.Common.{◌≡◌, ◌∷◌, [], refl, rules, arith}
+use Rattle.std.proofs.Common.{◌≡◌, rules}
 use Rattle.std.specs.Str.{IsUtf8}
 use Rattle.cnsbook.specs.Summary.{total_text}
 use Rattle.cnsbook.proofs.Tallied.{total_is_text}

@@ -1,4 +1,4 @@
-use Rattle.std.proofs.Common.{◌≡◌, ◌+◌, ◌<◌, ◌≤◌, length, refl, rules, arith}
+use Rattle.std.proofs.Common.{◌≡◌, ◌+◌, ◌<◌, ◌≤◌, length, refl, rules}
 use Rattle.cnsbook.proofs.Tallied.{counts_more, lines_more}
 use Rattle.cnsbook.proofs.summary.tally_of.Goals as goal
 
