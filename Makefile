@@ -26,9 +26,10 @@ compare:
 	@echo "samples passed: $(SAMPLES)"
 
 # The gate: every proof from nothing, the edits that the check must refuse, every test, the stored run of the program, and
-# then the program that the gate built: through a pipe, to each of its statuses, and over the samples.
+# then the program that the gate built: through a pipe, to each of its statuses, and over the samples. A task a processor:
+# left to itself, rt expects twice the memory that the large crates take, and so works on two of them at a time.
 test:
-	@rt ci; \
+	@RT_JOBS="$$(nproc)" rt ci; \
 	    bash tests/pipe.sh $(PROGRAM); \
 	    bash tests/status.sh $(PROGRAM); \
 	    bash tests/trials.sh --apply; \
