@@ -27,7 +27,7 @@ compare:
 
 # The gate: every proof from nothing, the edits that the check must refuse, every test, the stored run of the program, and
 # then the program that the gate built: through a pipe, to each of its statuses, and over the samples. A task a processor:
-# left to itself, rt expects twice the memory that the large crates take, and so works on two of them at a time.
+# left to itself, rt expects twice the memory that the large crates take, and so keeps them waiting behind small ones.
 test:
 	@RT_JOBS="$$(nproc)" rt ci; \
 	    bash tests/pipe.sh $(PROGRAM); \
