@@ -356,6 +356,7 @@ pub(crate) const ACTIONS: [Script; 10] = [
             EXCHANGE,594918104,17275R102,1,1,0,0\n\
             EXCHANGE,594918104,594918104,1,1,0,0\n\
             DIVIDEND,594918104,2024-06-01,2024-06-01,1\n\
+            DIVIDEND,594918104,2024-06-03,2024-06-04,1\n\
             SPLIT,17275R102,2,1,0\n",
         output: "ok\n\
             refused 4\n\
@@ -363,8 +364,9 @@ pub(crate) const ACTIONS: [Script; 10] = [
             refused 4\n\
             refused 4\n\
             refused 4\n\
+            refused 4\n\
             ok\n",
-        commands: 7,
+        commands: 8,
         lines: 0,
         closes: 0,
     },

@@ -1,7 +1,7 @@
 // Members, issues, trades and closes, and their refusals.
 use super::Script;
 
-pub(crate) const BOOKINGS: [Script; 7] = [
+pub(crate) const BOOKINGS: [Script; 8] = [
     Script {
         name: "a trade gives the buyer a position",
         opening: "2024-06-03",
@@ -130,5 +130,49 @@ pub(crate) const BOOKINGS: [Script; 7] = [
         commands: 1,
         lines: 0,
         closes: 0,
+    },
+    Script {
+        name: "the largest positions are closed with the largest money",
+        opening: "2024-06-03",
+        input: "MEMBER,1\n\
+            MEMBER,2\n\
+            ISSUE,17275R102,1000000000\n\
+            TRADE,1,1,2,17275R102,1000000000,1000000000000000000,2024-06-03\n\
+            TRADE,2,1,2,17275R102,1000000000,1000000000000000000,2024-06-03\n\
+            TRADE,3,1,2,17275R102,1000000000,1000000000000000000,2024-06-03\n\
+            TRADE,4,1,2,17275R102,1000000000,1000000000000000000,2024-06-03\n\
+            TRADE,5,1,2,17275R102,1000000000,1000000000000000000,2024-06-03\n\
+            TRADE,6,1,2,17275R102,1000000000,1000000000000000000,2024-06-03\n\
+            TRADE,7,1,2,17275R102,1000000000,1000000000000000000,2024-06-03\n\
+            TRADE,8,1,2,17275R102,1000000000,1000000000000000000,2024-06-03\n\
+            TRADE,9,1,2,17275R102,1000000000,1000000000000000000,2024-06-03\n\
+            TRADE,10,1,2,17275R102,1000000000,1000000000000000000,2024-06-03\n\
+            TRADE,11,1,2,17275R102,1,0,2024-06-03\n\
+            POSITION,2,17275R102\n\
+            CLOSE,2024-06-04\n\
+            POSITION,2,17275R102\n\
+            STATEMENT,2,2024-06-03\n",
+        output: "ok\n\
+            ok\n\
+            ok\n\
+            ok\n\
+            ok\n\
+            ok\n\
+            ok\n\
+            ok\n\
+            ok\n\
+            ok\n\
+            ok\n\
+            ok\n\
+            ok\n\
+            refused 18\n\
+            position 2 17275R102 -10000000000 0 100000000000000000.00 0\n\
+            closed 1 2024-06-03 2 0\n\
+            position 2 17275R102 -10000000000 -10000000000 0.00 1\n\
+            statement 2 2024-06-03 1 0.00 0.00\n\
+            row 17275R102 0 -10000000000 0.00 10000000.00 100000000000000000.00 0.00 0.00\n",
+        commands: 18,
+        lines: 0,
+        closes: 1,
     },
 ];

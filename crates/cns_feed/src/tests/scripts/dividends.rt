@@ -1,7 +1,7 @@
 // Dividends: when they are paid, on which positions, and to the cent.
 use super::Script;
 
-pub(crate) const DIVIDENDS: [Script; 7] = [
+pub(crate) const DIVIDENDS: [Script; 8] = [
     Script {
         name: "a dividend is cut towards zero, and the corporation makes up for it",
         opening: "2024-06-03",
@@ -43,14 +43,22 @@ pub(crate) const DIVIDENDS: [Script; 7] = [
         name: "a dividend has a record date from today on, and is payable after it",
         opening: "2024-06-03",
         input: "ISSUE,17275R102,10000\n\
-            CLOSE,2024-06-04\n\
+            CLOSE,2024-06-05\n\
             DIVIDEND,17275R102,2024-06-03,2024-06-10,5000\n\
-            DIVIDEND,17275R102,2024-06-10,2024-06-10,5000\n",
+            DIVIDEND,17275R102,2024-06-04,2024-06-10,5000\n\
+            DIVIDEND,17275R102,2024-06-10,2024-06-10,5000\n\
+            DIVIDEND,17275R102,2024-06-11,2024-06-10,5000\n\
+            DIVIDEND,17275R102,2024-06-05,2024-06-06,5000\n\
+            DIVIDEND,17275R102,2024-06-10,2024-07-01,5000\n",
         output: "ok\n\
             closed 1 2024-06-03 0 0\n\
             refused 8\n\
-            refused 8\n",
-        commands: 4,
+            refused 8\n\
+            refused 8\n\
+            refused 8\n\
+            ok\n\
+            ok\n",
+        commands: 8,
         lines: 0,
         closes: 1,
     },
@@ -235,6 +243,32 @@ pub(crate) const DIVIDENDS: [Script; 7] = [
             statement 2 2024-06-04 1 0.00 -1000000000000000.00\n\
             row 17275R102 -10000000000 -10000000000 10000000.00 10000000.00 0.00 0.00 -1000000000000000.00\n",
         commands: 17,
+        lines: 0,
+        closes: 2,
+    },
+    Script {
+        name: "two declarations that are alike are two dividends",
+        opening: "2024-06-03",
+        input: "MEMBER,1\n\
+            MEMBER,2\n\
+            ISSUE,17275R102,10000\n\
+            TRADE,1,1,2,17275R102,100,0,2024-06-03\n\
+            DIVIDEND,17275R102,2024-06-03,2024-06-04,10000\n\
+            DIVIDEND,17275R102,2024-06-03,2024-06-04,10000\n\
+            CLOSE,2024-06-04\n\
+            CLOSE,2024-06-05\n\
+            STATEMENT,1,2024-06-04\n",
+        output: "ok\n\
+            ok\n\
+            ok\n\
+            ok\n\
+            ok\n\
+            ok\n\
+            closed 1 2024-06-03 2 0\n\
+            closed 2 2024-06-04 2 0\n\
+            statement 1 2024-06-04 1 0.00 2.00\n\
+            row 17275R102 100 100 100.00 100.00 0.00 0.00 2.00\n",
+        commands: 9,
         lines: 0,
         closes: 2,
     },

@@ -1,7 +1,7 @@
 // Executions of notices: who is given shares, and what each pays.
 use super::Script;
 
-pub(crate) const EXECUTIONS: [Script; 10] = [
+pub(crate) const EXECUTIONS: [Script; 11] = [
     Script {
         name: "an execution fills the oldest shorts first, and the payments add up to its money",
         opening: "2024-06-03",
@@ -437,5 +437,46 @@ pub(crate) const EXECUTIONS: [Script; 10] = [
         commands: 15,
         lines: 0,
         closes: 3,
+    },
+    Script {
+        name: "a receipt after a notice lowers what remains of it, and one before it does not",
+        opening: "2024-06-03",
+        input: "MEMBER,1\n\
+            MEMBER,2\n\
+            MEMBER,3\n\
+            ISSUE,17275R102,10000\n\
+            TRADE,1,1,2,17275R102,60,0,2024-06-03\n\
+            TRADE,2,1,3,17275R102,50,0,2024-06-03\n\
+            DELIVER,2,17275R102,40\n\
+            RECEIVE,1,17275R102,5\n\
+            NOTICE,1,17275R102,80\n\
+            RECEIVE,1,17275R102,30\n\
+            CLOSE,2024-06-04\n\
+            CLOSE,2024-06-05\n\
+            EXECUTE,1,51,0\n\
+            EXECUTE,1,50,0\n\
+            POSITION,3,17275R102\n\
+            EXECUTE,1,1,0\n",
+        output: "ok\n\
+            ok\n\
+            ok\n\
+            ok\n\
+            ok\n\
+            ok\n\
+            ok\n\
+            ok\n\
+            notice 1\n\
+            ok\n\
+            closed 1 2024-06-03 4 2\n\
+            liable 17275R102 2 20 1\n\
+            liable 17275R102 3 50 1\n\
+            closed 2 2024-06-04 4 0\n\
+            refused 10\n\
+            executed 2\n\
+            position 3 17275R102 -20 -50 0.00 2\n\
+            refused 10\n",
+        commands: 16,
+        lines: 0,
+        closes: 2,
     },
 ];

@@ -1,7 +1,7 @@
 // Notices of intention to buy in, and the members that a close makes liable.
 use super::Script;
 
-pub(crate) const NOTICES: [Script; 7] = [
+pub(crate) const NOTICES: [Script; 8] = [
     Script {
         name: "whole groups of one age are liable, the oldest first, until they are short enough",
         opening: "2024-06-03",
@@ -88,6 +88,7 @@ pub(crate) const NOTICES: [Script; 7] = [
             NOTICE,1,17275R102,30\n\
             SPLIT,17275R102,2,1,0\n\
             WITHDRAW,1\n\
+            EXECUTE,1,30,0\n\
             NOTICE,1,17275R102,30\n\
             CLOSE,2024-06-04\n",
         output: "ok\n\
@@ -99,10 +100,11 @@ pub(crate) const NOTICES: [Script; 7] = [
             notice 1\n\
             ok\n\
             refused 15\n\
+            refused 15\n\
             notice 2\n\
             closed 1 2024-06-03 3 1\n\
             liable 17275R102 3 200 1\n",
-        commands: 11,
+        commands: 12,
         lines: 0,
         closes: 1,
     },
@@ -300,5 +302,37 @@ pub(crate) const NOTICES: [Script; 7] = [
         commands: 28,
         lines: 0,
         closes: 1,
+    },
+    Script {
+        name: "one share more than the oldest are short makes all of the next age liable",
+        opening: "2024-06-03",
+        input: "MEMBER,1\n\
+            MEMBER,2\n\
+            MEMBER,3\n\
+            MEMBER,4\n\
+            ISSUE,17275R102,10000\n\
+            TRADE,1,1,2,17275R102,60,0,2024-06-03\n\
+            CLOSE,2024-06-04\n\
+            TRADE,2,1,3,17275R102,50,0,2024-06-04\n\
+            TRADE,3,1,4,17275R102,40,0,2024-06-04\n\
+            NOTICE,1,17275R102,61\n\
+            CLOSE,2024-06-05\n",
+        output: "ok\n\
+            ok\n\
+            ok\n\
+            ok\n\
+            ok\n\
+            ok\n\
+            closed 1 2024-06-03 2 0\n\
+            ok\n\
+            ok\n\
+            notice 1\n\
+            closed 2 2024-06-04 4 3\n\
+            liable 17275R102 2 60 2\n\
+            liable 17275R102 3 50 1\n\
+            liable 17275R102 4 40 1\n",
+        commands: 11,
+        lines: 0,
+        closes: 2,
     },
 ];
