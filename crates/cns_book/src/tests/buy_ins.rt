@@ -108,8 +108,8 @@ fn no_notice_has_the_number_zero_or_one_past_the_last(rt: HostRuntime) {
     ask(&rt, &mut book, notice(&rt, 1, 80), Reply::Noticed(1));
     ask(&rt, &mut book, execution(&rt, 0, 80, 0), NO_SUCH_NOTICE);
     ask(&rt, &mut book, withdrawal(2), NO_SUCH_NOTICE);
-    assert!(rt; book.notice(0) == None);
-    assert!(rt; book.notice(2) == None);
+    assert!(rt; book.notice(0).is_none());
+    assert!(rt; book.notice(2).is_none());
 }
 
 // Looks at how many batches the close of each day chose.

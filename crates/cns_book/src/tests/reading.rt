@@ -43,9 +43,9 @@ fn assert_rows(rt: &impl Abort, sheet: &Sheet<Global>) {
     assert_eq!(rt; sheet.len(), 2);
     assert!(rt; sheet.row(key(rt, 1)) == Some(bought));
     assert!(rt; sheet.row(key(rt, 2)) == Some(sold));
-    assert!(rt; sheet.row(key(rt, 0)) == None);
+    assert!(rt; sheet.row(key(rt, 0)).is_none());
     assert!(rt; sheet.next_price(None) == Some((issue(rt), price(rt, 19_600))));
-    assert!(rt; sheet.next_price(Some(issue(rt))) == None);
+    assert!(rt; sheet.next_price(Some(issue(rt))).is_none());
 }
 
 // Looks at what a sheet adds up to.
@@ -109,8 +109,8 @@ fn assert_entries(rt: &impl Abort, book: &TreeBook<Global>) {
     };
     assert!(rt; taken.reply == ACCEPTED);
     assert_eq!(rt; taken.seq, 4);
-    assert!(rt; book.entry(0) == None);
-    assert!(rt; book.entry(7) == None);
+    assert!(rt; book.entry(0).is_none());
+    assert!(rt; book.entry(7).is_none());
 }
 
 #[test]
