@@ -175,9 +175,6 @@ received_keeps n x = (refl, λ l. l)
 pub executed_keeps : (n : ℕ) (x : Noticed) → Keeps x (executes n x)
 executed_keeps n x = (refl, λ l. l)
 
-pub receives_keeps : (a : Member) (c : Cusip) (n : ℕ) (x : Noticed) → Keeps x (receives a c n x)
-receives_keeps a c n x = either_keeps (has_received n) (received_keeps n) (is_live_of a c x) x
-
 pub ended_keeps : (c : Cusip) (x : Noticed) → Keeps x (ended c x)
 ended_keeps c x = either_keeps (brought_to Ended) (brought_stays Ended refl) (same_issue c x.given.issue) x
 

@@ -1,6 +1,6 @@
 -- What changes of a tree's rows make of the holdings.
 use Rattle.std.proofs.Common.{◌≡◌, ◌∙◌, ap, refl, Bool, true, false, is_some, ◌&&◌, cond, [], ◌∷◌, ◌++◌, Option, Some, None}
-use Rattle.std.specs.Prelude.{MatchOption, ℤ, IfSome, unwrap_or}
+use Rattle.std.specs.Prelude.{MatchOption, ℤ, unwrap_or}
 use Rattle.std.specs.Ordering.{is_lt}
 use Rattle.std.specs.List.{filter}
 use Rattle.std.specs.FinMap.{put, find}
@@ -13,14 +13,6 @@ use Rattle.cns_positions.specs.Contents.{closed_rows, has_row}
 use Rattle.cns_positions.proofs.Holdings.{with_booked}
 use Rattle.cns_tree.specs.Changes.{ChangesAt, ChangesEach}
 use Rattle.cns_tree.specs.Search.{is_after}
-
--- what holds of what stands at a key holds of its row's value
-pub if_there : (P : Holding → Type 0) (es : Rows) (k : Key) → P (holding_at es k) → IfSome (find key_cmp k es) P
-if_there P es k h = by (find key_cmp k es) h
-  where
-    by : (o : Option Holding) → P (unwrap_or o zeros) → IfSome o P
-    by None p = tt
-    by (Some v) p = p
 
 -- a change at a key that has a row, which books shares and cents, is a put
 pub booked_change : {P : Holding → Holding → Type 0} (es new : Rows) (k : Key) (s c : ℤ) → has_row es k ≡ true → ((v w : Holding) → P v w → w ≡ with_booked v s c) → ChangesAt P k es new → new ≡ put key_cmp k (with_booked (holding_at es k) s c) es

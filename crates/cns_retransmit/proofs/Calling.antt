@@ -1,14 +1,13 @@
 -- What calls and shorts change, and the batches that come of them.
-use Rattle.std.proofs.Common.{◌≡◌, ◌∙◌, sym, ap, refl, subst, ℕ, suc, ◌+◌, ◌<◌, Bool, true, false, cond, nat_lt, List, [], ◌∷◌, ◌++◌, length, Option, Some, None, MatchOption, arith}
+use Rattle.std.proofs.Common.{◌≡◌, ◌∙◌, sym, ap, refl, subst, ℕ, suc, ◌+◌, Bool, true, false, cond, nat_lt, List, [], ◌∷◌, ◌++◌, length, Option, Some, arith}
 use Rattle.std.specs.Prelude.{bytes_eq, option_map, Result, Ok, Err, IfOk, OnOk, OnErr}
 use Rattle.std.proofs.lemmas.List.{append_assoc}
 use Rattle.std.specs.List.{All, AllByRecursion}
-use Rattle.std.specs.Option.{ForSome, IfSome, option_map_or, option_to_list}
+use Rattle.std.specs.Option.{ForSome, option_map_or, option_to_list}
 use Rattle.std.specs.FinMap.{is_sorted}
 use Rattle.std.specs.FinMap.Entries.{below_all}
 use Rattle.std.specs.Ordering.{nat_cmp, is_eq}
 use Rattle.std.specs.Cmp.Lexicographic.{slice_cmp}
-use Rattle.std.proofs.lemmas.Bool.{lt-ltb}
 use Rattle.std.proofs.lemmas.Map.Text.{is_eq-slice_cmp}
 use Rattle.std.proofs.lemmas.Slice.Eq.{bytes_eq-Decides}
 use Rattle.cns_units.specs.declared.cusip.Cusip.{Cusip}
@@ -44,23 +43,6 @@ pub called_more : (old new : Entries) (k : Cusip) (n : ℕ) (x y : CalledIn) →
 called_more old new k n x y found is h c =
     put_in old new k y h c ∙ ap (λ z. cond (bytes_eq k c) (Some z) (called_in old c)) (is ∙ ap (more_of n) (sym found))
 
--- nobody is short yet
-abbrev with_total : ℕ → CalledIn
-with_total n = record { total = n; shorts = [] }
-
--- shares more than nothing
-from_nothing : (n : ℕ) (o : Option CalledIn) → o ≡ None → record { total = n; shorts = [] } ≡ more_of n o
-from_nothing n None h = ap (λ (t : ℕ). with_total t) zero_more
-  where
-    zero_more : n ≡ 0 + n
-    zero_more = omega arith
-from_nothing n (Some x) h = cc
-
--- and in one in which nothing is
-pub called_first : (old new : Entries) (k : Cusip) (n : ℕ) → called_in old k ≡ None → ((c : Cusip) → called_in new c ≡ cond (bytes_eq k c) (Some (record { total = n; shorts = [] })) (called_in old c))
-    → (c : Cusip) → called_in new c ≡ cond (bytes_eq k c) (Some (record { total = total_in old k + n; shorts = shorts_in old k })) (called_in old c)
-called_first old new k n none h c = h c ∙ ap (λ (z : CalledIn). cond (bytes_eq k c) (Some z) (called_in old c)) (from_nothing n (called_in old k) none)
-
 -- a short more, by what was found
 short_here : (b : Bool) (s : Short) (o p : Option CalledIn) (x y : CalledIn) → (b ≡ true → o ≡ p) → p ≡ Some x → y ≡ with_short s x → cond b (Some y) o ≡ cond b (option_map (with_short s) o) o
 short_here true s o p x y same found is = ap Some is ∙ ap (option_map (with_short s)) (sym (same refl ∙ found))
@@ -74,14 +56,6 @@ same_place es k c h = ap (called_in es) (sym ((bytes_eq-Decides k c).0 h))
 pub short_more : (old new : Entries) (k : Cusip) (s : Short) (x y : CalledIn) → called_in old k ≡ Some x → y ≡ with_short s x → Puts old new k y
     → (c : Cusip) → called_in new c ≡ cond (bytes_eq k c) (option_map (with_short s) (called_in old c)) (called_in old c)
 short_more old new k s x y found is h c = put_in old new k y h c ∙ short_here (bytes_eq k c) s (called_in old c) (called_in old k) x y (same_place old k c) found is
-
-short_nowhere : (b : Bool) (s : Short) (o : Option CalledIn) → (b ≡ true → o ≡ None) → o ≡ cond b (option_map (with_short s) o) o
-short_nowhere true s o none = none refl ∙ sym (ap (option_map (with_short s)) (none refl))
-short_nowhere false s o none = refl
-
--- a short in an issue in which nothing is called
-pub short_none : (es : Entries) (k : Cusip) (s : Short) → called_in es k ≡ None → (c : Cusip) → called_in es c ≡ cond (bytes_eq k c) (option_map (with_short s) (called_in es c)) (called_in es c)
-short_none es k s none c = short_nowhere (bytes_eq k c) s (called_in es c) (λ e. same_place es k c e ∙ none)
 
 -- ---- answers
 
@@ -104,13 +78,6 @@ err_too (Ok x) q = tt
 err_too (Err e) q = q
 
 -- ---- batches
-
--- the batch of one issue, or none
-pub one_batch : (e : Cusip × CalledIn) (b : Option Liables) → MatchOption b (chosen e.1.shorts e.1.total ≡ []) (λ b. b ≡ batch_of e) → IfSome b (λ b. 0 < length b.members) → option_to_list b ≡ batches_of (e ∷ [])
-one_batch e None h s = sym (ap (λ ls. cond (nat_lt 0 (length ls)) (batch_of e ∷ []) []) h)
-one_batch e (Some b) h s =
-    let some : 0 < length (chosen e.1.shorts e.1.total) = subst (λ (l : Liables). 0 < length l.members) h s in
-    ap (λ l. l ∷ []) h ∙ sym (ap (λ t. cond t (batch_of e ∷ []) []) (lt-ltb 0 (length (chosen e.1.shorts e.1.total)) some))
 
 kept_first : (t : Bool) (b : Liables) (bs : List Liables) → cond t (b ∷ bs) bs ≡ cond t (b ∷ []) [] ++ bs
 kept_first true b bs = refl
