@@ -2,7 +2,7 @@
 use Rattle.std.proofs.Common.{◌≡◌, ◌≢◌, ℕ, ◌+◌, ◌≤◌, Bool, List, [], ◌∷◌, ◌++◌, length, count_by, cond, Option, Some, None, Result, Ok, Err, IfErr, IfOk, refl, sym, ap, subst, ◌∙◌, append_assoc, append-nil, length-append, arith, IfSome}
 use Rattle.std.proofs.lemmas.List.Sums.{sum_by-append, count_by-le-length}
 use Rattle.std.specs.Io.KnownBytes.{Appends, Keeps}
-use Rattle.std.proofs.KnownBytes.{Appends-kept, Appends-nil, Appends-trans, Keeps-refl, Keeps-trans}
+use Rattle.std.proofs.KnownBytes.{Appends-kept, Appends-nil, Appends-trans, Keeps-refl}
 use Rattle.cns_terms.specs.Machine.{State}
 use Rattle.cns_book.specs.Log.{Log, state_of}
 use Rattle.cns_feed.specs.Line.{Line}
@@ -234,28 +234,6 @@ along-between rem rs first now s e old mid new turns all Why why kept p = (
   record { answered = p.done; waiting = None; unread = p.rest; whole = p.whole; mid = mid; written = p.text; leaves = kept },
   λ none. why p.done p.count,
 )
-
--- a writer that was flushed where a replay stopped
-pub stops-kept : (e : ReplayFault) (old mid new : Option (List ℕ)) (S : State) (ls : List Line) → Stops e old mid S ls → Keeps mid new → Stops e old new S ls
-stops-kept e old mid new S ls p kept = record {
-  answered = p.answered;
-  waiting = p.waiting;
-  unread = p.unread;
-  whole = p.whole;
-  mid = p.mid;
-  written = p.written;
-  leaves = leaves-kept e p.waiting p.leaves;
-}
-  where
-    left-kept : (e : ReplayFault) (text : List ℕ) → LeavesAt e p.mid mid text → LeavesAt e p.mid new text
-    left-kept fault.Read text h = absurd h
-    left-kept fault.Full text h = absurd h
-    left-kept fault.NoMemory text h = Keeps-trans p.mid mid new h kept
-    left-kept fault.Write text h = record { front = h.front; rest = h.rest; whole = h.whole; short = h.short; appended = Appends-kept p.mid mid new h.front h.appended kept }
-
-    leaves-kept : (e : ReplayFault) (waiting : Option Line) → Leaves e p.mid mid (state_after S p.answered) waiting → Leaves e p.mid new (state_after S p.answered) waiting
-    leaves-kept e None h = Keeps-trans p.mid mid new h kept
-    leaves-kept e (Some l) h = left-kept e (line_text (state_after S p.answered) l) h
 
 -- after all lines were answered, at a writer that could not be flushed
 pub stops-end : (old mid new : Option (List ℕ)) (S : State) (ls : List Line) → Appends old mid (texts S ls) → Keeps mid new → Stops fault.Write old new S ls

@@ -1,21 +1,13 @@
 -- How the program ends.
-use Rattle.std.proofs.Common.{◌≢◌, ℕ, List, Option, Some, None, Result, Ok, Err, IfSome, inl, inr}
+use Rattle.std.proofs.Common.{ℕ, List, Option, Some, None, Result, Ok, Err, IfSome, inl, inr}
 use Rattle.std.specs.Io.KnownBytes.{Appends, Keeps}
 use Rattle.cns_units.specs.Output.{Writes}
 use Rattle.cns_units.specs.declared.day.Day.{Day}
 use Rattle.cns_feed.specs.Output.{output}
-use Rattle.cns_feed.specs.Replay.{StopsReplay}
-use Rattle.cns_feed.specs.declared.fault.ReplayFault.{ReplayFault}
 use Rattle.cns_feed.specs.declared.fault.ReplayFault.TheVariants as fault
-use Rattle.cns_feed.proofs.PlayLemmas.{stops-end, stops-kept}
+use Rattle.cns_feed.proofs.PlayLemmas.{stops-end}
 use Rattle.cnsbook.specs.Ends.{FailsReplay}
 use Rattle.cnsbook.specs.Lines.{IsTold}
-
--- a replay that failed by itself
-pub fails-flushed : (f : ReplayFault) (opening : Day) (input old mid new : Option (List ℕ)) → f ≢ fault.Full
-    → IfSome input (λ bytes. StopsReplay f opening bytes old mid) → Keeps mid new → FailsReplay f opening input old new
-fails-flushed f opening None old mid new room stops kept = record { room = room; stops = tt }
-fails-flushed f opening (Some bytes) old mid new room stops kept = record { room = room; stops = stops-kept f old mid new _ _ stops kept }
 
 -- a whole replay whose output could not be flushed
 pub fails-unflushed : (opening : Day) (input old mid new : Option (List ℕ))
