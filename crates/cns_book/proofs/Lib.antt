@@ -28,3 +28,4 @@ pub mod Accepted
 pub mod Acting
 pub mod Dated
 pub mod Taking
+pub mod Crossing

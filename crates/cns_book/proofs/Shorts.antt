@@ -1,11 +1,11 @@
 -- The shorts of a close, given to what is called.
-use Rattle.std.proofs.Common.{◌≡◌, ◌∙◌, ap, sym, subst, refl, ℕ, suc, ◌+◌, ◌*◌, ◌^◌, ◌≤◌, ◌<◌, ℤ, pos, negsuc, Bool, true, false, cond, ◌&&◌, ◌==◌, List, [], ◌∷◌, ◌++◌, filter, flat_map, get_or, length, map, not, of_z, take, to_z, zero, Option, Some, None, sum_by, arith}
+use Rattle.std.proofs.Common.{◌≡◌, ◌∙◌, ap, sym, subst, refl, ℕ, suc, ◌+◌, ◌*◌, ◌^◌, ◌≤◌, ◌<◌, ℤ, pos, negsuc, Bool, true, false, cond, ◌&&◌, ◌==◌, List, [], ◌∷◌, ◌++◌, filter, flat_map, get_or, length, map, not, of_z, to_z, zero, Option, Some, None, sum_by, arith}
 use Rattle.std.specs.List.{AllByRecursion, cons_option}
 use Rattle.std.specs.Prelude.{filter_map, int_lt, is_some, nat_le, nat_lt, option_map, unsigned_abs, Result, Ok, Err}
 use Rattle.std.specs.Int.{w64}
 use Rattle.std.proofs.lemmas.Bool.Decides.{nat_tests}
 use Rattle.std.proofs.lemmas.Int.{fits_signed_from_abs, ints, to_z-of_z}
-use Rattle.std.proofs.lemmas.List.{append_assoc, append-nil, take_more}
+use Rattle.std.proofs.lemmas.List.{append_assoc, append-nil}
 use Rattle.std.proofs.lemmas.List.Elements.{filter_map-append}
 use Rattle.std.proofs.lemmas.List.Sums.{sum_by-cons}
 use Rattle.std.proofs.lemmas.Slice.Eq.{bytes_eq-Decides}
@@ -56,9 +56,6 @@ HasShorts age before now rs = (c : Cusip) → now c ≡ option_map (with_shorts 
 none_more : (o : Option CalledIn) → o ≡ option_map (with_shorts []) o
 none_more None = refl
 none_more (Some x) = ap (λ ss. Some (record { total = x.total; shorts = ss })) (sym (append-nil x.shorts))
-
-pub no_rows : (age : Account → Cusip → ℕ) (now : Calling) → HasShorts age now now []
-no_rows age now c = none_more (now c)
 
 -- shorts, and then more of them
 both_given : (ss ts : List Short) (o : Option CalledIn) → option_map (with_shorts ts) (option_map (with_shorts ss) o) ≡ option_map (with_shorts (ss ++ ts)) o
@@ -181,10 +178,6 @@ pub at_index : {X : Type 0} (P : X → Type 0) (xs : List X) (i : ℕ) (d : X) �
 at_index P [] i d a lt = absurd (omega (arith, lt))
 at_index P (x ∷ xs) zero d a lt = a.0
 at_index P (x ∷ xs) (suc i) d a lt = at_index P xs i d a.1 (omega (arith, lt))
-
--- the rows up to one, and it
-pub rows_next : (rs : List Row) (i : ℕ) (r : Row) → i < length rs → r ≡ get_or rs i r → take i rs ++ r ∷ [] ≡ take (i + 1) rs
-rows_next rs i r lt is = ap (λ x. take i rs ++ (x ∷ [])) is ∙ sym (take_more rs i r lt)
 
 -- an age counts one close more
 pub ages_fit : (s : Contents) → HasRoom s → (k : Key) (h : Holding) → ((L : List Activity) → Follows L s → h ≡ holding (journal s.opening L) k.account k.issue) → h.run + 1 < 2 ^ 32

@@ -3,3 +3,4 @@ pub mod Handing
 pub mod Differences
 pub mod SoFar
 pub mod Joined
+pub mod Crossing

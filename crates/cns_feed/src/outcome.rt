@@ -3,6 +3,7 @@ ghost use Rattle.std.specs.Prelude.{◌≡◌, IfOk, IfErr, OnOk};
 ghost use Rattle.cns_units.specs.Output.{Writes};
 ghost use Rattle.cns_book.specs.Log.{state_of};
 ghost use Rattle.cns_feed.specs.Output.{outcome_of, outcome_text, rest_text, rows_stated};
+ghost use Rattle.cns_statements.specs.Texts.{rows_text};
 ghost use Rattle.cns_feed.specs.Replay.{HasRoomFor, blank_log, log_after_line};
 ghost use Rattle.cns_feed.specs.declared.fault.ReplayFault.TheVariants as fault;
 
@@ -13,7 +14,7 @@ use crate::text::{reply_text, write_fault};
 use cns_book::{Book, TakeFault};
 use cns_positions::{Positions, TreePositions};
 use cns_statements::write_rows;
-use cns_terms::{Reply, Row, Stated, Worker};
+use cns_terms::{Reply, Stated, Worker};
 use cns_units::{Day, WriteFault};
 use std::alloc::Global;
 use std::io::Write;
@@ -61,13 +62,17 @@ pub(crate) fn take_line<P: Positions<Global>>(
     }
 }
 
-// The rows of a statement.
-fn rows_stated<'a, P: Positions<Global>>(book: &'a Book<P, Global>, stated: &Stated) -> &'a [Row]
-    ensures { result.now ≡ rows_stated (state_of book.now) stated.now }
+// Writes the rows of a statement, from the sheet of its day.
+fn write_stated_rows<P: Positions<Global>, W: Write>(
+    book: &Book<P, Global>,
+    stated: &Stated,
+    writer: &mut W,
+) -> Result<(), WriteFault>
+    ensures { Writes (W.contents writer.old) (W.contents writer.new) (rows_text (rows_stated (state_of book.now) stated.now)) result }
 {
     match book.sheet(stated.date) {
-        Some(sheet) => sheet.rows_of(stated.account),
-        None => &[],
+        Some(sheet) => write_rows(sheet.rows_of(stated.account), writer),
+        None => Ok(()),
     }
 }
 
@@ -81,7 +86,7 @@ fn write_rest<P: Positions<Global>, W: Write>(
 {
     match reply {
         Reply::Closed(closed) => write_batches(book.batches(closed.day), writer),
-        Reply::Stated(stated) => write_rows(rows_stated(book, stated), writer),
+        Reply::Stated(stated) => write_stated_rows(book, stated, writer),
         Reply::Accepted
         | Reply::Noticed(_)
         | Reply::Executed(_)

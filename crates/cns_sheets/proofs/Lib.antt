@@ -9,3 +9,6 @@ pub mod Tested
 pub mod RowSums
 pub mod Searched
 pub mod Alike
+pub mod LowestCusip
+pub mod Walked
+pub mod Crossing

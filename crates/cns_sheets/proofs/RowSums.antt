@@ -1,9 +1,10 @@
 -- Sums over rows, one row after another.
-use Rattle.std.proofs.Common.{◌≡◌, ◌∙◌, sym, ap, ℕ, suc, ◌+◌, ◌*◌, ◌^◌, ◌<◌, ◌≤◌, ℤ, ◌+ℤ◌, ◌-ℤ◌, of_z, to_z, refl, List, [], ◌∷◌, ◌++◌, length, get_or, take, add-one, FitsSigned, arith}
+use Rattle.std.proofs.Common.{◌≡◌, ◌∙◌, sym, ap, ℕ, suc, ◌+◌, ◌*◌, ◌^◌, ◌<◌, ◌≤◌, ℤ, ◌+ℤ◌, ◌-ℤ◌, of_z, to_z, refl, List, [], ◌∷◌, ◌++◌, length, get_or, take, add-one, FitsSigned, append-nil, append_assoc, arith}
 use Rattle.std.specs.Prelude.{unsigned_abs}
 use Rattle.std.specs.Int.{w128}
 use Rattle.std.specs.List.{AllByRecursion}
-use Rattle.std.proofs.Math.Seq.{take-suc}
+use Rattle.std.proofs.Math.Seq.{get_or-append_seam, take-suc}
+use Rattle.std.proofs.lemmas.List.{length-append}
 use Rattle.std.proofs.lemmas.Int.{ints, to_z-of_z}
 use Rattle.cns_terms.specs.declared.sheet.Row.{Row}
 use Rattle.cns_terms.specs.Limits.{amount_limit}
@@ -19,6 +20,28 @@ sum_more f xs i x lt is =
     let one : total f (x ∷ []) ≡ f x = omega (arith, ints) in
     let whole : take (suc i) xs ≡ take i xs ++ (x ∷ []) = take-suc xs i x lt ∙ ap (λ y. take i xs ++ (y ∷ [])) (sym is) in
     rw (add-one, whole, total-append f (take i xs) (x ∷ []), one) refl
+
+-- what an iterator gives next, behind all that it gave
+module _ {X : Type 0} (xs ys left : List X) (x : X) (zs : List X) (whole : xs ≡ ys ++ left) (next : left ≡ x ∷ zs) where
+  split : xs ≡ ys ++ x ∷ zs
+  split = whole ∙ ap (λ u. ys ++ u) next
+
+  pub behind : length ys < length xs
+  behind = rw (split, length-append ys (x ∷ zs)) (omega arith)
+
+  pub stands : x ≡ get_or xs (length ys) x
+  stands = rw split (sym (get_or-append_seam ys x zs x))
+
+  pub onward : xs ≡ (ys ++ x ∷ []) ++ zs
+  onward = split ∙ sym (append_assoc ys (x ∷ []) zs)
+
+-- one more
+pub one_more : {X : Type 0} (ys : List X) (x : X) → length (ys ++ x ∷ []) ≡ length ys + 1
+one_more ys x = length-append ys (x ∷ [])
+
+-- all that an iterator gave, where nothing is left
+pub all_given : {X : Type 0} (xs ys left : List X) → xs ≡ ys ++ left → left ≡ [] → length xs ≤ length ys
+all_given xs ys left whole none = let same : length xs ≡ length ys = ap length (whole ∙ ap (λ u. ys ++ u) none ∙ append-nil ys) in omega (arith, same)
 
 -- a sum in a register of 128 bits that is bounded at each step
 module _ {X : Type 0} (f : X → ℤ) (xs : List X) (bound : (n : ℕ) → unsigned_abs (total f (take n xs)) ≤ sum_limit) (i : ℕ) (x : X) (lt : i < length xs) (at : x ≡ get_or xs i x) (sum amount : ℤ) (same : amount ≡ f x) (is : sum ≡ total f (take i xs)) where

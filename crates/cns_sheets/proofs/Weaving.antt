@@ -53,10 +53,6 @@ all_past high (c ∷ cs) h = past_branch (is_below high c.0) c (lower high cs) (
 pub lower_first : (high : Option Key) (c : Key × ℤ) (cs : CentsByKey) → is_below high c.0 ≡ true → lower high (c ∷ cs) ≡ c ∷ lower high cs
 lower_first high c cs h = ap (λ b. cond b (c ∷ lower high cs) (lower high cs)) h
 
--- is not past
-pub past_first : (high : Option Key) (c : Key × ℤ) (cs : CentsByKey) → is_below high c.0 ≡ true → past high (c ∷ cs) ≡ past high cs
-past_first high c cs h = ap (λ b. cond (not b) (c ∷ past high cs) (past high cs)) h
-
 -- those above a key below all of them are all of them
 pub all_higher : (k : Key) (cs : CentsByKey) → below_all key_cmp k cs ≡ true → higher k cs ≡ cs
 all_higher k [] b = refl

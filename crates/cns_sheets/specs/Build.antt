@@ -1,5 +1,5 @@
 -- A row of a sheet, and what a sheet keeps.
-use Rattle.std.specs.Prelude.{◌≡◌, ℕ, ◌*◌, ◌^◌, ◌≤◌, ℤ, pos, ◌+ℤ◌, ◌-ℤ◌, ◌*ℤ◌, true, List, [], length, map, take, Option, Some, None, unsigned_abs, if◌then◌else◌}
+use Rattle.std.specs.Prelude.{◌≡◌, ℕ, ◌*◌, ◌^◌, ◌<◌, ◌≤◌, ℤ, pos, ◌+ℤ◌, ◌-ℤ◌, ◌*ℤ◌, true, List, [], length, map, take, Option, Some, None, unsigned_abs, if◌then◌else◌}
 use Rattle.std.specs.Cmp.Lexicographic.{slice_cmp}
 use Rattle.std.specs.FinMap.{find, is_sorted}
 use Rattle.std.specs.List.{AllByRecursion}
@@ -14,6 +14,7 @@ use Rattle.cns_terms.specs.Keys.{key_cmp}
 use Rattle.cns_terms.specs.Limits.{amount_limit}
 use Rattle.cns_terms.specs.Sheets.{DaySheet, rows_for}
 use Rattle.cns_terms.specs.Sums.{total, same_issue}
+use Rattle.cns_sheets.specs.LowestCusip.{IsFromLowest}
 
 -- issues with their prices, in the order of the bytes of the issues
 abbrev pub PriceList : Type 0
@@ -58,14 +59,24 @@ key_of r = record { account = r.account; issue = r.issue }
 abbrev pub by_key : List Row → List (Key × Row)
 by_key rows = map (λ r. (key_of r, r)) rows
 
+-- rows without their keys
+abbrev pub without_keys : List (Key × Row) → List Row
+without_keys es = map (λ e. e.1) es
+
+-- each row stands under its own key
+abbrev pub AreKeyed : List (Key × Row) → Type 0
+AreKeyed es = es ≡ by_key (without_keys es)
+
 -- a row's closing position, if it is in the issue
 abbrev pub closing_in : Cusip → Row → ℤ
 closing_in c r = if same_issue r.issue c then r.closing else pos 0
 
--- a row's mark follows its other columns, and what it gains beside the cents booked is small enough to be added up
+-- a row's mark follows its other columns, what it gains beside the cents booked is small enough to be added up, and its
+-- issue is not below the lowest
 pub record IsMarked (r : Row) : Type 0 where
   pub rule : r.mark ≡ marked r.opening r.closing r.opening_price r.price r.money
   pub gained : unsigned_abs (r.mark -ℤ r.money) ≤ 2 ^ 64 * 10 ^ 9
+  pub issue : IsFromLowest r.issue
 
 -- rows whose closings add up to zero in each issue, and their marks and dividends over all
 pub record AreBalanced (rows : List Row) : Type 0 where
@@ -99,6 +110,12 @@ pub record IsSheet (prices : PriceList) (rows : List Row) : Type 0 where
   pub few : AreFew rows
   pub small_marks : StaysSmall (λ r. r.mark) sum_limit rows
   pub small_dividends : StaysSmall (λ r. r.dividend) sum_limit rows
+
+-- the same of the rows in a tree, each under its own key, and no more of them than a machine counts
+pub record IsPlanted (prices : PriceList) (es : List (Key × Row)) : Type 0 where
+  pub sheet : IsSheet prices (without_keys es)
+  pub keyed : AreKeyed es
+  pub countable : length es < 2 ^ 64
 
 -- the cents of a holding are small enough to be marked
 abbrev pub HasSmallCents : Key × Holding → Type 0

@@ -3,3 +3,5 @@ pub mod Search
 pub mod Payments
 pub mod Condition
 pub mod Woven
+pub mod LowestCusip
+pub mod Walking

@@ -15,6 +15,7 @@ ghost use Rattle.cns_sheets.specs.Build.{HasSmallCents, IsMarked, priced_row, wo
 ghost use Rattle.cns_sheets.specs.Woven.{cents_at, higher, lower, past, unheld, weave, woven_rows};
 
 use crate::in_order::InOrder;
+use crate::keyed::KeyedRows;
 use crate::payments::Paid;
 use crate::quotes::Quotes;
 use cns_positions::{NextRows, Positions};
@@ -77,11 +78,14 @@ fn or_zero(price: Option<Price>) -> Price
 }
 
 // The row that a holding and the cents of dividends make, by its issue's price at the close before and at this one.
+#[tactic(auto, using(crate::proofs::LowestCusip::from_lowest))]
 fn row_of(key: &Key, holding: &Holding, dividend: Cents, opening_price: Price, price: Price) -> Row
     requires { HasSmallCents (key.now, holding.now) }
     ensures row { result ≡ priced_row opening_price price dividend (key.now, holding.entry.now) }
     ensures marked { IsMarked result }
 {
+    // The call lets the proof use what the type of an issue keeps: that it is a CUSIP.
+    let _ = key.issue.bytes();
     let mark = marked(
         holding.opening,
         holding.now,
@@ -112,7 +116,7 @@ fn is_silent(holding: &Holding, dividend: Cents) -> bool
 
 // Puts the row of a holding and the cents of dividends after others, if it says something.
 fn push_row<A: Allocator + Drop>(
-    rows: &mut Vec<Row, A>,
+    rows: &mut KeyedRows<A>,
     before: &mut Quotes,
     now: &mut Quotes,
     key: &Key,
@@ -120,9 +124,9 @@ fn push_row<A: Allocator + Drop>(
     dividend: Cents,
 ) -> Result<(), NoMemory>
     requires small { HasSmallCents (key.now, holding.now) }
-    requires marked { AllByRecursion IsMarked rows.old.items }
-    ensures rows { OnOk result (rows.new.items ≡ rows.old.items ++ woven_rows before.old now.old ((key.now, (holding.entry.now, dividend)) ∷ [])) }
-    ensures marked { OnOk result (AllByRecursion IsMarked rows.new.items) }
+    requires marked { AllByRecursion IsMarked rows.old }
+    ensures rows { OnOk result (rows.new ≡ rows.old ++ woven_rows before.old now.old ((key.now, (holding.entry.now, dividend)) ∷ [])) }
+    ensures marked { OnOk result (AllByRecursion IsMarked rows.new) }
     ensures before { before.new ≡ before.old }
     ensures now { now.new ≡ now.old }
 {
@@ -131,24 +135,21 @@ fn push_row<A: Allocator + Drop>(
     }
     let opening_price = or_zero(before.price(&key.issue, 0));
     let price = or_zero(now.price(&key.issue, before.passed()));
-    match rows.push(row_of(key, holding, dividend, opening_price, price)) {
-        Ok(()) => Ok(()),
-        Err(_) => Err(NoMemory),
-    }
+    rows.push(row_of(key, holding, dividend, opening_price, price))
 }
 
 // Puts the rows of the dividends of lower keys after others, or of all that are left where no key is given. None of
 // these keys has a holding.
 fn push_paid<A: Allocator + Drop>(
-    rows: &mut Vec<Row, A>,
+    rows: &mut KeyedRows<A>,
     before: &mut Quotes,
     now: &mut Quotes,
     paid: &mut InOrder,
     high: Option<&Key>,
 ) -> Result<(), NoMemory>
-    requires marked { AllByRecursion IsMarked rows.old.items }
-    ensures rows { OnOk result (rows.new.items ≡ rows.old.items ++ woven_rows before.old now.old (unheld (lower (option_copied high.entry) paid.old))) }
-    ensures marked { OnOk result (AllByRecursion IsMarked rows.new.items) }
+    requires marked { AllByRecursion IsMarked rows.old }
+    ensures rows { OnOk result (rows.new ≡ rows.old ++ woven_rows before.old now.old (unheld (lower (option_copied high.entry) paid.old))) }
+    ensures marked { OnOk result (AllByRecursion IsMarked rows.new) }
     ensures paid { OnOk result (paid.new ≡ past (option_copied high.entry) paid.old) }
     ensures none_lower { OnOk result (lower (option_copied high.entry) paid.new ≡ []) }
     ensures before { before.new ≡ before.old }
@@ -162,7 +163,7 @@ fn push_paid<A: Allocator + Drop>(
 
 // Puts the row of a holding after others, behind those of the dividends of lower keys.
 fn push_holding<A: Allocator + Drop>(
-    rows: &mut Vec<Row, A>,
+    rows: &mut KeyedRows<A>,
     before: &mut Quotes,
     now: &mut Quotes,
     paid: &mut InOrder,
@@ -170,9 +171,9 @@ fn push_holding<A: Allocator + Drop>(
     holding: &Holding,
 ) -> Result<(), NoMemory>
     requires small { HasSmallCents (key.now, holding.now) }
-    requires marked { AllByRecursion IsMarked rows.old.items }
-    ensures rows { OnOk result ((rest : Rows) → rows.old.items ++ woven_rows before.old now.old (weave ((key.now, holding.entry.now) ∷ rest) paid.old) ≡ rows.new.items ++ woven_rows before.old now.old (weave rest paid.new)) }
-    ensures marked { OnOk result (AllByRecursion IsMarked rows.new.items) }
+    requires marked { AllByRecursion IsMarked rows.old }
+    ensures rows { OnOk result ((rest : Rows) → rows.old ++ woven_rows before.old now.old (weave ((key.now, holding.entry.now) ∷ rest) paid.old) ≡ rows.new ++ woven_rows before.old now.old (weave rest paid.new)) }
+    ensures marked { OnOk result (AllByRecursion IsMarked rows.new) }
     ensures before { before.new ≡ before.old }
     ensures now { now.new ≡ now.old }
 {
@@ -184,17 +185,17 @@ fn push_holding<A: Allocator + Drop>(
 // Puts the rows of holdings after others, with those of the dividends up to the last, and returns the key of the last
 // holding.
 fn push_rows<A: Allocator + Drop>(
-    rows: &mut Vec<Row, A>,
+    rows: &mut KeyedRows<A>,
     before: &mut Quotes,
     now: &mut Quotes,
     paid: &mut InOrder,
     holdings: &NextRows,
 ) -> Result<Option<Key>, NoMemory>
     requires small { AllByRecursion HasSmallCents (present holdings.now.items) }
-    requires marked { AllByRecursion IsMarked rows.old.items }
-    ensures rows { OnOk result ((rest : Rows) → rows.old.items ++ woven_rows before.old now.old (weave (present holdings.now.items ++ rest) paid.old) ≡ rows.new.items ++ woven_rows before.old now.old (weave rest paid.new)) }
+    requires marked { AllByRecursion IsMarked rows.old }
+    ensures rows { OnOk result ((rest : Rows) → rows.old ++ woven_rows before.old now.old (weave (present holdings.now.items ++ rest) paid.old) ≡ rows.new ++ woven_rows before.old now.old (weave rest paid.new)) }
     ensures last { IfOk result (λ key. key ≡ last_of None (present holdings.now.items)) }
-    ensures marked { OnOk result (AllByRecursion IsMarked rows.new.items) }
+    ensures marked { OnOk result (AllByRecursion IsMarked rows.new) }
     ensures before { before.new ≡ before.old }
     ensures now { now.new ≡ now.old }
 {
@@ -217,16 +218,16 @@ pub fn collect<P: Positions<B>, B, A: Allocator + Drop>(
     paid: &Paid<A>,
     before: &[(Cusip, Price)],
     now: &[(Cusip, Price)],
-) -> Result<Vec<Row, A>, NoMemory>
+) -> Result<KeyedRows<A>, NoMemory>
     requires before_rise { is_sorted (slice_cmp nat_cmp) before.now ≡ true }
     requires now_rise { is_sorted (slice_cmp nat_cmp) now.now ≡ true }
     requires small { is_sorted key_cmp (P.rows positions.now) ≡ true → AllByRecursion HasSmallCents (P.rows positions.now) }
-    ensures rows { IfOk result (λ v. v.items ≡ woven_rows before.now now.now (weave (held_above (P.rows positions.now) None) paid.now)) }
-    ensures marked { IfOk result (λ v. AllByRecursion IsMarked v.items) }
+    ensures rows { IfOk result (λ v. v ≡ woven_rows before.now now.now (weave (held_above (P.rows positions.now) None) paid.now)) }
+    ensures marked { IfOk result (λ v. AllByRecursion IsMarked v) }
     ensures order { OnOk result (is_sorted key_cmp (P.rows positions.now) ≡ true) }
     ensures paid_rise { OnOk result (is_sorted key_cmp paid.now ≡ true) }
 {
-    let mut rows = Vec::with_capacity(alloc, room)?;
+    let mut rows = KeyedRows::with_capacity(alloc, room)?;
     let mut before = Quotes::new(before);
     let mut now = Quotes::new(now);
     let mut paid = paid.in_order();

@@ -3,12 +3,14 @@
 //! A sheet is built once, from positions, prices and the dividends that its close pays, and never changes. Its type
 //! keeps that its rows are in the order of accounts and then of the bytes of the issues, that each row's mark follows
 //! from its other columns, that in each issue the closing positions of all accounts add up to zero, and that all marks,
-//! and all dividends, add up to zero cents. A row, the rows of an account and a price are found by halving. Start with
-//! `Sheet`; `Payment` is a dividend that a close pays.
+//! and all dividends, add up to zero cents. Its rows stand in a balanced tree, where a row, or the first of an account, is
+//! one way down; a price is found by halving. Start with `Sheet`; `Payment` is a dividend that a close pays.
 #![tactic(auto)]
 
 mod cutting;
 mod in_order;
+mod keyed;
+mod lowest;
 mod payments;
 mod prices;
 mod quotes;
@@ -16,10 +18,12 @@ mod same;
 mod search;
 mod sheet;
 mod sums;
+mod walks;
 
 pub use cns_terms::Row;
 pub use payments::Payment;
 pub use sheet::Sheet;
+pub use walks::{AccountRows, SheetRows};
 
 #[cfg(test)]
 mod tests;

@@ -11,8 +11,9 @@ ghost use Rattle.cns_sheets.specs.Payments.{IsPayable, dividend_of, member_cash,
 ghost use Rattle.cns_sheets.specs.Woven.{cents_at};
 
 use crate::in_order::InOrder;
-use crate::search::key_of;
+use crate::keyed::key_of;
 use crate::sheet::Sheet;
+use crate::walks::SheetRows;
 use cns_dividends::{Declared, cash};
 use cns_terms::{Key, NoMemory, Row};
 use cns_units::{Account, Cents};
@@ -23,7 +24,7 @@ use std::marker::Model;
 /// A dividend that a close pays, with the sheet of the close of its record date, whose closing positions it is paid on.
 /// A close reads each row of that sheet once for each payment.
 #[derive(Drop)]
-pub struct Payment<'a, A: Allocator + Drop> {
+pub struct Payment<'a, A: Allocator + Drop + Clone> {
     pub declared: Declared,
     pub sheet: &'a Sheet<A>,
 }
@@ -84,10 +85,14 @@ impl<A: Allocator + Drop + Clone> Paid<A> {
 
     /// Books a dividend on the rows of the sheet of its record date. The corporation gets the opposite of what all members
     /// get, so the cents add up to what they did.
-    pub fn pay(&mut self, declared: &Declared, rows: &[Row]) -> Result<(), NoMemory>
+    pub fn pay<B: Allocator + Clone>(
+        &mut self,
+        declared: &Declared,
+        rows: SheetRows<'_, B>,
+    ) -> Result<(), NoMemory>
         requires small { (k : Key) → unsigned_abs (cents_at self.old k) ≤ 10 ^ 33 }
-        requires payable { IsPayable (declared.now, rows.now) }
-        ensures cents { is_sorted key_cmp (by_key rows.now) ≡ true → OnOk result ((k : Key) → cents_at self.new k ≡ cents_at self.old k +ℤ paid declared.now rows.now k) }
+        requires payable { IsPayable (declared.now, rows) }
+        ensures cents { is_sorted key_cmp (by_key rows.entry) ≡ true → OnOk result ((k : Key) → cents_at self.new k ≡ cents_at self.old k +ℤ paid declared.now rows.entry k) }
         ensures sum { OnOk result (total (λ e. e.1) self.new ≡ total (λ e. e.1) self.old) }
         ensures bound { OnOk result ((k : Key) → unsigned_abs (cents_at self.new k) ≤ unsigned_abs (cents_at self.old k) + 2 * 10 ^ 21) }
     {
@@ -98,17 +103,21 @@ impl<A: Allocator + Drop + Clone> Paid<A> {
     }
 
     // Books a dividend for the members with a closing position in its issue, and returns what all of them get.
-    fn pay_members(&mut self, declared: &Declared, rows: &[Row]) -> Result<i128, NoMemory>
+    fn pay_members<B: Allocator + Clone>(
+        &mut self,
+        declared: &Declared,
+        rows: SheetRows<'_, B>,
+    ) -> Result<i128, NoMemory>
         requires small { (k : Key) → unsigned_abs (cents_at self.old k) ≤ 10 ^ 33 }
-        requires payable { IsPayable (declared.now, rows.now) }
-        ensures cents { OnOk result ((k : Key) → cents_at self.new k ≡ cents_at self.old k +ℤ total (λ r. if is_eq (key_cmp k (key_of r)) then member_cash declared.now r else pos 0) rows.now) }
-        ensures sum { IfOk result (λ sum. sum ≡ total (member_cash declared.now) rows.now) }
-        ensures all { OnOk result (total (λ e. e.1) self.new ≡ total (λ e. e.1) self.old +ℤ total (member_cash declared.now) rows.now) }
+        requires payable { IsPayable (declared.now, rows) }
+        ensures cents { OnOk result ((k : Key) → cents_at self.new k ≡ cents_at self.old k +ℤ total (λ r. if is_eq (key_cmp k (key_of r)) then member_cash declared.now r else pos 0) rows.entry) }
+        ensures sum { IfOk result (λ sum. sum ≡ total (member_cash declared.now) rows.entry) }
+        ensures all { OnOk result (total (λ e. e.1) self.new ≡ total (λ e. e.1) self.old +ℤ total (member_cash declared.now) rows.entry) }
     {
         let mut sum = 0;
         for row in rows {
-            let cents = member_cash(declared, row);
-            self.add(key_of(row), cents)?;
+            let cents = member_cash(declared, &row);
+            self.add(key_of(&row), cents)?;
             sum += cents;
         }
         Ok(sum)

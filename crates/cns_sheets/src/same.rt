@@ -1,8 +1,9 @@
 // Whether two sheets have the same prices and rows.
 ghost use Rattle.std.specs.Prelude.{◌≡◌, ◌↔◌, true};
 
-use cns_terms::Row;
+use crate::walks::SheetRows;
 use cns_units::{Cusip, Price};
+use std::alloc::Allocator;
 
 // Whether the prices are the same, issue by issue.
 pub(crate) fn same_prices(one: &[(Cusip, Price)], other: &[(Cusip, Price)]) -> bool
@@ -12,8 +13,17 @@ pub(crate) fn same_prices(one: &[(Cusip, Price)], other: &[(Cusip, Price)]) -> b
 }
 
 // Whether the rows are the same.
-pub(crate) fn same_rows(one: &[Row], other: &[Row]) -> bool
-    ensures { (result ≡ true) ↔ (one.now ≡ other.now) }
+pub(crate) fn same_rows<A: Allocator + Clone>(
+    one: SheetRows<'_, A>,
+    other: SheetRows<'_, A>,
+) -> bool
+    ensures { (result ≡ true) ↔ (one.entry ≡ other.entry) }
 {
-    one == other
+    let mut other = other;
+    for row in one {
+        if !other.next().is_some_and(|next| next.is_same(&row)) {
+            return false;
+        }
+    }
+    other.next().is_none()
 }

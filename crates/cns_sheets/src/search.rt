@@ -1,61 +1,12 @@
-// Searches among the rows and the prices of a day, each by halving.
-ghost use Rattle.std.specs.Prelude.{◌≡◌, ◌≤◌, ◌∷◌, [], drop, IfErr, IfOk, length, MatchOption, Some, true};
+// Searches among the prices of a day, by halving.
+ghost use Rattle.std.specs.Prelude.{◌≡◌, ◌≤◌, ◌∷◌, [], drop, length, MatchOption, Some, true};
 ghost use Rattle.std.specs.Cmp.Lexicographic.{slice_cmp};
 ghost use Rattle.std.specs.FinMap.{is_sorted};
-ghost use Rattle.std.specs.List.{HoldsAt};
-ghost use Rattle.std.specs.List.Sorted.{IsPartitionPoint, IsSearchInRange};
 ghost use Rattle.std.specs.Ordering.{nat_cmp};
-ghost use Rattle.std.specs.declared.cmp.Ordering.{Ordering};
-ghost use Rattle.cns_terms.specs.Keys.{key_cmp};
-ghost use Rattle.cns_terms.specs.Sheets.{rows_for};
-ghost use Rattle.cns_sheets.specs.Build.{key_of, by_key};
-ghost use Rattle.cns_sheets.specs.Search.{prices_above, row_at};
+ghost use Rattle.cns_sheets.specs.Search.{prices_above};
 
 use crate::prices;
-use cns_terms::{Key, Row};
-use cns_units::{Account, Cusip, Price};
-
-/// The place of a row, in the order of rows.
-pub fn key_of(row: &Row) -> Key
-    ensures { result ≡ key_of row.now }
-{
-    Key {
-        account: row.account,
-        issue: row.issue,
-    }
-}
-
-// Where the row of a key stands, or where it would.
-fn place(rows: &[Row], key: Key) -> Result<usize, usize>
-    requires { is_sorted key_cmp (by_key rows.now) ≡ true }
-    ensures bound { IsSearchInRange result (length rows.now) }
-    ensures found { IfOk result (HoldsAt (λ r. key_cmp (key_of r) key ≡ Ordering.Equal) rows.now) }
-    ensures absent { IfErr result (IsPartitionPoint (λ r. key_cmp (key_of r) key ≡ Ordering.Less) (λ r. key_cmp (key_of r) key ≡ Ordering.Greater) rows.now) }
-{
-    rows.binary_search_by_key(&key, |row| key_of(row))
-}
-
-/// The row of a key, among rows in the order of keys.
-pub fn row_at(rows: &[Row], key: Key) -> Option<Row>
-    requires { is_sorted key_cmp (by_key rows.now) ≡ true }
-    ensures { result ≡ row_at rows.now key }
-{
-    match place(rows, key) {
-        Ok(at) => Some(rows[at]),
-        Err(_) => None,
-    }
-}
-
-/// The rows of an account, among rows in the order of keys.
-pub fn rows_for(rows: &[Row], account: Account) -> &[Row]
-    requires { is_sorted key_cmp (by_key rows.now) ≡ true }
-    ensures { result.now ≡ rows_for rows.now account }
-{
-    let start = rows.partition_point(|row| row.account < account);
-    let rest = &rows[start..];
-    let count = rest.partition_point(|row| row.account <= account);
-    &rest[..count]
-}
+use cns_units::{Cusip, Price};
 
 // How many prices stand before those of the issues above one.
 fn past(prices: &[(Cusip, Price)], after: Option<Cusip>) -> usize

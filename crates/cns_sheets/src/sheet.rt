@@ -8,42 +8,46 @@ ghost use Rattle.cns_terms.specs.Keys.{key_cmp};
 ghost use Rattle.std.specs.Option.{option_copied};
 ghost use Rattle.cns_terms.specs.Sheets.{rows_for, statement};
 ghost use Rattle.cns_terms.specs.Sums.{total};
-ghost use Rattle.cns_sheets.specs.Build.{IsMarked, by_key, closing_in, price_on, prices_of};
+ghost use Rattle.cns_sheets.specs.Build.{IsMarked, IsSheet, by_key, closing_in, price_on, prices_of};
 ghost use Rattle.cns_sheets.specs.Condition.{CanBePaid, IsReady, rows_before};
 ghost use Rattle.cns_sheets.specs.Payments.{IsCut, paying};
 ghost use Rattle.cns_prices.specs.Listed.{listed_above};
 ghost use Rattle.cns_sheets.specs.Search.{prices_above, row_at};
 
 use crate::cutting::collect;
+use crate::keyed::KeyedRows;
+use crate::lowest::{lowest_of, of_account, passed};
 use crate::payments::{Paid, Payment};
 use crate::prices::{listed, price_on};
 use crate::same::{same_prices, same_rows};
-use crate::search::{next_price, row_at, rows_for};
+use crate::search::next_price;
 use crate::sums::sums;
+use crate::walks::{AccountRows, SheetRows};
 use cns_positions::Positions;
 use cns_prices::Prices;
 use cns_terms::{Key, NoMemory, Row, Stated};
+use cns_tree::Tree;
 use cns_units::{Account, Cents, Cusip, Day, Price};
 use std::alloc::Allocator;
 use std::marker::Model;
 
 /// The sheet of a closed day, which never changes. Contracts see its date, its prices and its rows.
 #[derive(Drop)]
-pub struct Sheet<A: Allocator + Drop> {
+pub struct Sheet<A: Allocator + Drop + Clone> {
     date: Day,
     prices: Vec<(Cusip, Price), A>,
-    rows: Vec<Row, A>,
+    rows: Tree<Row, A>,
 }
 
-impl<A: Allocator + Drop> Model for Sheet<A> {
+impl<A: Allocator + Drop + Clone> Model for Sheet<A> {
     ghost use Rattle.cns_terms.specs.Sheets.{DaySheet};
-    ghost use Rattle.cns_sheets.specs.Build.{IsSheet};
+    ghost use Rattle.cns_sheets.specs.Build.{IsPlanted, without_keys};
 
     ghost Value = { DaySheet };
 
-    ghost view = { λ s. record { date = s.date; prices = s.prices.items; rows = s.rows.items } };
+    ghost view = { λ s. record { date = s.date; prices = s.prices.items; rows = without_keys s.rows } };
 
-    ghost invariant = { λ s. IsSheet s.prices.items s.rows.items };
+    ghost invariant = { λ s. IsPlanted s.prices.items s.rows };
 }
 
 impl<A: Allocator + Drop + Clone> Sheet<A> {
@@ -77,13 +81,34 @@ impl<A: Allocator + Drop + Clone> Sheet<A> {
         let prices = listed(alloc.clone()?, earlier.len(), prices)?;
         let room = before.map_or(0, |sheet| sheet.len());
         let paid = Paid::new(alloc.clone()?, payments)?;
-        let rows = collect(alloc, room, positions, &paid, earlier, prices.as_slice())?;
+        let rows = collect(
+            alloc.clone()?,
+            room,
+            positions,
+            &paid,
+            earlier,
+            prices.as_slice(),
+        )?;
+        Sheet::of_rows(alloc, date, prices, &rows)
+    }
+
+    // The sheet of a date with some prices and rows.
+    fn of_rows(
+        alloc: A,
+        date: Day,
+        prices: Vec<(Cusip, Price), A>,
+        rows: &KeyedRows<A>,
+    ) -> Result<Self, NoMemory>
+        requires { IsSheet prices.items rows.now }
+        ensures { IfOk result (λ s. s ≡ record { date = date; prices = prices.items; rows = rows.now }) }
+    {
+        let rows = Tree::from_sorted(alloc, rows.as_slice())?;
         Ok(Sheet { date, prices, rows })
     }
 }
 
 // The prices of the sheet before, none where there is none.
-fn prices_before<A: Allocator + Drop>(before: Option<&Sheet<A>>) -> &[(Cusip, Price)]
+fn prices_before<A: Allocator + Drop + Clone>(before: Option<&Sheet<A>>) -> &[(Cusip, Price)]
     ensures prices { result.now ≡ prices_of (option_copied before.entry) }
     ensures order { is_sorted (slice_cmp nat_cmp) result.now ≡ true }
     ensures rows_rise { is_sorted key_cmp (by_key (rows_before (option_copied before.entry))) ≡ true }
@@ -95,7 +120,7 @@ fn prices_before<A: Allocator + Drop>(before: Option<&Sheet<A>>) -> &[(Cusip, Pr
     }
 }
 
-impl<A: Allocator + Drop> Sheet<A> {
+impl<A: Allocator + Drop + Clone> Sheet<A> {
     /// The closed day's date.
     pub fn date(&self) -> Day
         ensures { result ≡ self.now.date }
@@ -112,27 +137,29 @@ impl<A: Allocator + Drop> Sheet<A> {
 
     /// The rows, in the order of accounts and then of the bytes of the issues. Each mark follows its rule, and in each
     /// issue the closings add up to zero.
-    pub fn rows(&self) -> &[Row]
-        ensures rows { result.now ≡ self.now.rows }
+    pub fn rows(&self) -> SheetRows<'_, A>
+        ensures rows { result ≡ self.now.rows }
         ensures order { is_sorted key_cmp (by_key self.now.rows) ≡ true }
         ensures marked { AllByRecursion IsMarked self.now.rows }
         ensures closings { (c : Cusip) → total (closing_in c) self.now.rows ≡ pos 0 }
     {
-        self.rows.as_slice()
+        SheetRows::new(self.rows.walk())
     }
 
     /// The row of an account in an issue; None where the sheet has none, since it would say nothing.
     pub fn row(&self, key: Key) -> Option<Row>
         ensures { result ≡ row_at self.now.rows key }
     {
-        row_at(self.rows.as_slice(), key)
+        self.rows.get(key)
     }
 
     /// The rows of an account, in the order of the bytes of their issues.
-    pub fn rows_of(&self, account: Account) -> &[Row]
-        ensures { result.now ≡ rows_for self.now.rows account }
+    pub fn rows_of(&self, account: Account) -> AccountRows<'_, A>
+        ensures { result ≡ rows_for self.now.rows account }
     {
-        rows_for(self.rows.as_slice(), account)
+        let first = of_account(self.rows.first_at_or_after(lowest_of(account)), account);
+        let rest = self.rows.walk_above(Some(passed(&first, account)));
+        AccountRows::new(first, rest, account)
     }
 
     /// The price of an issue at the close, in cents; None where it was not listed then.
@@ -155,14 +182,14 @@ impl<A: Allocator + Drop> Sheet<A> {
     pub fn stated(&self, account: Account) -> Stated
         ensures { result ≡ statement self.now account }
     {
-        let rows = rows_for(self.rows.as_slice(), account);
-        let (mark, dividend) = sums(rows);
+        let date = self.date;
+        let totals = sums(self.rows_of(account));
         Stated {
             account,
-            date: self.date,
-            rows: rows.len() as u64,
-            mark,
-            dividend,
+            date,
+            rows: totals.rows,
+            mark: totals.mark,
+            dividend: totals.dividend,
         }
     }
 
@@ -172,7 +199,7 @@ impl<A: Allocator + Drop> Sheet<A> {
     {
         self.date.is_same(&other.date)
             && same_prices(self.prices.as_slice(), other.prices.as_slice())
-            && same_rows(self.rows.as_slice(), other.rows.as_slice())
+            && same_rows(self.rows(), other.rows())
     }
 
     /// The sum of all marks, in cents. It is zero, and so is not added up.

@@ -1,15 +1,19 @@
 ghost use Rattle.std.specs.Prelude.{◌≡◌, pos, true, IfOk, OnOk};
 ghost use Rattle.cns_terms.specs.declared.holding.Key.{Key};
 ghost use Rattle.cns_positions.specs.Rows.{holding_at};
+ghost use Rattle.cns_sheets.specs.Build.{without_keys};
 ghost use Rattle.cns_sheets.specs.Payments.{IsPayable};
 
 use crate::Sheet;
 use crate::cutting::collect;
+use crate::keyed::KeyedRows;
 use crate::payments::{Paid, member_cash};
+use crate::walks::SheetRows;
 use cns_dividends::Declared;
 use cns_positions::{FlatPositions, Positions};
 use cns_prices::Prices;
 use cns_terms::{Key, Row, Stated};
+use cns_tree::Tree;
 use cns_units::{Account, Cents, Cusip, Day, Price, Rate};
 use linked_list_allocator::LocalHeap;
 use std::alloc::{AllocGlobal, Allocator, Global};
@@ -35,7 +39,7 @@ fn a_day_without_positions_has_its_prices_and_no_rows(rt: HostRuntime) -> Result
     assert_eq!(rt; sheet.next_price(Some(issue)), None);
     let account = Account::CORPORATION;
     assert_eq!(rt; sheet.row(Key { account, issue }), None);
-    assert_eq!(rt; sheet.rows_of(account).len(), 0);
+    assert_eq!(rt; sheet.rows_of(account).count(), 0);
     let stated = Stated {
         account,
         date,
@@ -81,48 +85,55 @@ fn declared(alloc: Global, dividends: &[(usize, u64)]) -> Result<Vec<Declared>, 
     Ok(all)
 }
 
+// A row at a key with a closing position, and zero in all other columns.
+fn row_at(key: &Key, closing: i64) -> Row {
+    Row {
+        account: key.account,
+        issue: key.issue,
+        opening: 0,
+        closing,
+        opening_price: Price::ZERO,
+        price: Price::ZERO,
+        money: Cents::ZERO,
+        mark: Cents::ZERO,
+        dividend: Cents::ZERO,
+    }
+}
+
 // The rows of a sheet with these closing positions.
-fn closed(alloc: Global, places: &[Place]) -> Result<Vec<Row>, Fail> {
-    let mut rows = Vec::new(alloc);
+fn closed(alloc: Global, places: &[Place]) -> Result<Tree<Row, Global>, Fail> {
+    let mut rows = Tree::new(alloc);
     for (account, number, closing) in places {
-        let place = key(*account, *number)?;
-        rows.push(Row {
-            account: place.account,
-            issue: place.issue,
-            opening: 0,
-            closing: *closing,
-            opening_price: Price::ZERO,
-            price: Price::ZERO,
-            money: Cents::ZERO,
-            mark: Cents::ZERO,
-            dividend: Cents::ZERO,
-        })?;
+        let place = &key(*account, *number)?;
+        let row = &row_at(place, *closing);
+        let mut spare = rows.spare(1, *row)?;
+        rows.put(*place, *row, &mut spare);
     }
     Ok(rows)
 }
 
-// The most that a test pays a member.
-const MOST: u128 = 1_000_000_000_000_000_000;
+// The most that a dividend of a test pays all members.
+const MOST: u128 = 1_000_000_000_000_000_000_000;
 
 // Whether what a dividend pays can be added up.
-fn is_payable(declared: &Declared, rows: &[Row]) -> bool
-    ensures { result ≡ true → IsPayable (declared.now, rows.now) }
+fn is_payable(declared: &Declared, rows: &Tree<Row, Global>) -> bool
+    ensures { result ≡ true → IsPayable (declared.now, without_keys rows.now) }
 {
     let mut sum: u128 = 0;
-    for row in rows {
-        let cents = member_cash(declared, row).unsigned_abs();
-        if cents > MOST {
+    for row in SheetRows::new(rows.walk()) {
+        let cents = member_cash(declared, &row).unsigned_abs();
+        if cents > MOST - sum {
             return false;
         }
         sum += cents;
     }
-    sum <= 1_000 * MOST
+    true
 }
 
 // What dividends book on the rows of one sheet; None where memory is refused, or the amounts are beyond a test's.
 fn paid_on<A: Allocator + Drop + Clone>(
     alloc: A,
-    rows: &[Row],
+    rows: &Tree<Row, Global>,
     dividends: &[Declared],
 ) -> Option<Paid<A>> {
     let mut paid = Paid::nothing(alloc);
@@ -133,7 +144,7 @@ fn paid_on<A: Allocator + Drop + Clone>(
         if !is_payable(declared, rows) {
             return None;
         }
-        paid.pay(declared, rows).ok()?;
+        paid.pay(declared, SheetRows::new(rows.walk())).ok()?;
     }
     Some(paid)
 }
@@ -169,7 +180,7 @@ fn cut<A: Allocator + Drop + Clone>(
     positions: &FlatPositions<Global>,
     paid: &Paid<A>,
     priced: (Cusip, Price, Price),
-) -> Option<Vec<Row, A>>
+) -> Option<KeyedRows<A>>
     requires { (k : Key) → (holding_at positions.now.rows k).contract ≡ pos 0 }
 {
     let (issue, before, now) = priced;
@@ -197,16 +208,18 @@ fn check(
 ) -> Result<(), Fail> {
     let record = closed(rt.alloc(), recorded)?;
     let declared = declared(rt.alloc(), dividends)?;
-    let Some(paid) = paid_on(rt.alloc(), record.as_slice(), declared.as_slice()) else {
+    let Some(paid) = paid_on(rt.alloc(), &record, declared.as_slice()) else {
         return Err(Fail::new("nothing is paid"));
     };
     let positions = held(rt.alloc(), today)?;
     let Some(rows) = cut(rt.alloc(), &positions, &paid, priced()?) else {
         return Err(Fail::new("nothing is cut"));
     };
+    let rows = rows.as_slice();
     assert_eq!(rt; rows.len(), expected.len());
-    for (row, (account, number, closing, cents)) in rows.iter().zip(expected.iter()) {
+    for ((at, row), (account, number, closing, cents)) in rows.iter().zip(expected.iter()) {
         let place = key(*account, *number)?;
+        assert_eq!(rt; *at, place);
         assert_eq!(rt; row.account, place.account);
         assert_eq!(rt; row.issue, place.issue);
         assert_eq!(rt; row.closing, *closing);
@@ -341,7 +354,7 @@ fn a_close_books_the_dividends_that_it_pays(rt: HostRuntime) -> Result<(), Fail>
 // Cuts on a heap, and answers how many rows there are, or None where memory is refused.
 fn cut_on(
     heap: &LocalHeap,
-    rows: &[Row],
+    rows: &Tree<Row, Global>,
     dividends: &[Declared],
     positions: &FlatPositions<Global>,
     priced: (Cusip, Price, Price),
@@ -350,7 +363,7 @@ fn cut_on(
 {
     let paid = paid_on(heap, rows, dividends)?;
     let rows = cut(heap, positions, &paid, priced)?;
-    Some(rows.len())
+    Some(rows.as_slice().len())
 }
 
 #[test]
@@ -370,13 +383,7 @@ fn a_growth_that_is_refused_leaves_nothing(rt: HostRuntime) -> Result<(), Fail> 
     let mut done = false;
     for size in 1..=100 {
         let heap = LocalHeap::new(rt.alloc(), size * 64)?;
-        match cut_on(
-            &heap,
-            record.as_slice(),
-            dividends.as_slice(),
-            &positions,
-            priced()?,
-        ) {
+        match cut_on(&heap, &record, dividends.as_slice(), &positions, priced()?) {
             Some(rows) => {
                 assert_eq!(rt; rows, 7);
                 done = true;
@@ -402,7 +409,7 @@ fn nothing_to_pay_takes_no_memory(rt: HostRuntime) -> Result<(), Fail> {
         declared(rt.alloc(), &[])?,
         declared(rt.alloc(), &[(1, 240_000)])?,
     ] {
-        let paid = paid_on(&heap, record.as_slice(), dividends.as_slice());
+        let paid = paid_on(&heap, &record, dividends.as_slice());
         assert!(rt; paid.is_some());
         assert_eq!(rt; heap.used(), 0);
     }

@@ -13,7 +13,7 @@ use std::alloc::Allocator;
 /// The statement of an account on a closed day. An account without rows gets one without rows, and sums of no cents.
 ///
 /// `NoMemory` where the growth for the copy was refused; a statement without rows takes no memory.
-pub fn statement<A: Allocator + Drop>(
+pub fn statement<A: Allocator + Drop + Clone>(
     alloc: A,
     sheet: &Sheet<A>,
     account: Account,
@@ -25,8 +25,8 @@ pub fn statement<A: Allocator + Drop>(
     ensures dividend { IfOk result (λ s. s.dividend ≡ total (λ r. r.dividend) (rows_for sheet.now.rows account)) }
     ensures err { OnErr result (0 < length (rows_for sheet.now.rows account)) }
 {
-    let rows = Rows::copied(alloc, sheet.rows_of(account))?;
     let stated = sheet.stated(account);
+    let rows = Rows::copied(alloc, stated.rows, sheet.rows_of(account))?;
     Ok(Statement {
         account,
         date: stated.date,

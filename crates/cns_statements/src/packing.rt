@@ -5,8 +5,8 @@ ghost use Rattle.cns_statements.specs.Packs.{accounts_of, is_next, statement_on}
 
 use crate::contents::Statement;
 use crate::cut::statement;
-use cns_sheets::Sheet;
-use cns_terms::{Gate, NoMemory, Row, Worker};
+use cns_sheets::{Sheet, SheetRows};
+use cns_terms::{Gate, NoMemory, Worker};
 use cns_units::Account;
 use std::alloc::Global;
 use std::sync::Wait;
@@ -22,8 +22,8 @@ fn is_next(before: Option<Account>, account: Account) -> bool
 }
 
 // The accounts that have a row, in the order of rows.
-pub(crate) fn accounts(alloc: Global, rows: &[Row]) -> Result<Vec<Account>, NoMemory>
-    ensures { IfOk result (λ v. v.items ≡ accounts_of rows.now) }
+pub(crate) fn accounts(alloc: Global, rows: SheetRows<'_, Global>) -> Result<Vec<Account>, NoMemory>
+    ensures { IfOk result (λ v. v.items ≡ accounts_of rows.entry) }
 {
     let mut accounts = Vec::new(alloc);
     let mut before = None;

@@ -1,6 +1,7 @@
 // The rows of a statement.
 ghost use Rattle.std.specs.Prelude.{◌≡◌, ◌<◌, IfOk, length, OnErr, slice_get};
 
+use cns_sheets::AccountRows;
 use cns_terms::{NoMemory, Row};
 use std::alloc::Allocator;
 use std::marker::Model;
@@ -21,13 +22,30 @@ impl<A: Allocator + Drop> Model for Rows<A> {
 }
 
 impl<A: Allocator + Drop> Rows<A> {
-    // A copy of some rows. `NoMemory` where the growth was refused; no rows take no memory.
-    pub(crate) fn copied(alloc: A, rows: &[Row]) -> Result<Self, NoMemory>
-        ensures ok { IfOk result (λ r. r ≡ rows.now) }
-        ensures err { OnErr result (0 < length rows.now) }
+    /// The rows of a list, which takes no memory.
+    pub fn of(items: Vec<Row, A>) -> Self
+        ensures { result ≡ items.items }
+    {
+        Rows { items }
+    }
+
+    // A copy of some rows, of which there are `count`. `NoMemory` where the growth was refused; no rows take no memory.
+    pub(crate) fn copied<B: Allocator + Clone>(
+        alloc: A,
+        count: u64,
+        rows: AccountRows<'_, B>,
+    ) -> Result<Self, NoMemory>
+        requires { count ≡ length rows }
+        ensures ok { IfOk result (λ r. r ≡ rows.entry) }
+        ensures err { OnErr result (0 < length rows.entry) }
     {
         let mut items = Vec::new(alloc);
-        items.extend_from_slice(rows)?;
+        items.reserve_exact(count as usize)?;
+        for row in rows {
+            let Ok(()) = items.push(row) else {
+                return Err(NoMemory);
+            };
+        }
         Ok(Rows { items })
     }
 

@@ -1,6 +1,7 @@
 mod packs;
 
-use crate::{Rows, Statement, statement, write_rows, write_stated, write_statement};
+use crate::text::write_row;
+use crate::{Rows, Statement, statement, write_stated, write_statement};
 use cns_positions::{FlatPositions, Positions};
 use cns_prices::Prices;
 use cns_sheets::Sheet;
@@ -90,7 +91,7 @@ fn the_first_line_has_its_words(rt: HostRuntime) -> Result<(), Fail> {
 fn each_row_has_its_line(rt: HostRuntime) -> Result<(), Fail> {
     for (row, line) in [(opened()?, OPENED), (closed()?, CLOSED)] {
         let mut output = Vec::new(rt.alloc());
-        write_rows(&[row], &mut output)?;
+        write_row(&row, &mut output)?;
         assert_eq!(rt; output.as_slice(), line.as_bytes());
     }
     Ok(())
@@ -98,7 +99,7 @@ fn each_row_has_its_line(rt: HostRuntime) -> Result<(), Fail> {
 
 #[test]
 fn a_statement_is_its_first_line_and_its_rows(rt: HostRuntime) -> Result<(), Fail> {
-    let rows = Rows::copied(rt.alloc(), &[opened()?])?;
+    let rows = Rows::of(Vec::from_slice(rt.alloc(), &[opened()?])?);
     assert_eq!(rt; rows.get(0), Some(opened()?));
     assert_eq!(rt; rows.get(1), None);
     let stated = stated()?;

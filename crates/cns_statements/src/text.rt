@@ -5,6 +5,7 @@ ghost use Rattle.cns_statements.specs.Texts.{row_line, rows_text, stated_line, s
 
 use crate::contents::Statement;
 use crate::words::{Word, write_line};
+use cns_sheets::AccountRows;
 use cns_terms::{Row, Stated};
 use cns_units::{Cents, Price, WriteFault};
 use std::alloc::Allocator;
@@ -33,7 +34,8 @@ fn cents_of(price: Price) -> Cents
     Cents::of(i128::from(price.value()))
 }
 
-fn write_row<W: Write>(row: &Row, writer: &mut W) -> Result<(), WriteFault>
+// Writes the line of a row.
+pub(crate) fn write_row<W: Write>(row: &Row, writer: &mut W) -> Result<(), WriteFault>
     ensures { Writes (W.contents writer.old) (W.contents writer.new) (row_line row.now) result }
 {
     let words = [
@@ -49,10 +51,23 @@ fn write_row<W: Write>(row: &Row, writer: &mut W) -> Result<(), WriteFault>
     write_line(b"row", &words, writer)
 }
 
-/// Writes a line for each row: `row CUSIP OPENING CLOSING OPENINGPRICE PRICE MONEY MARK DIVIDEND`.
+/// Writes a line for each row of an account: `row CUSIP OPENING CLOSING OPENINGPRICE PRICE MONEY MARK DIVIDEND`.
 ///
 /// Where the writer fails or takes no byte it answers `WriteFault`, and a front of those lines was written.
-pub fn write_rows<W: Write>(rows: &[Row], writer: &mut W) -> Result<(), WriteFault>
+pub fn write_rows<A: Allocator + Clone, W: Write>(
+    rows: AccountRows<'_, A>,
+    writer: &mut W,
+) -> Result<(), WriteFault>
+    ensures { Writes (W.contents writer.old) (W.contents writer.new) (rows_text rows.entry) result }
+{
+    for row in rows {
+        write_row(&row, writer)?;
+    }
+    Ok(())
+}
+
+// Writes the line of each row of a statement.
+fn write_kept<W: Write>(rows: &[Row], writer: &mut W) -> Result<(), WriteFault>
     ensures { Writes (W.contents writer.old) (W.contents writer.new) (rows_text rows.now) result }
 {
     for row in rows {
@@ -78,5 +93,5 @@ pub fn write_statement<A: Allocator + Drop, W: Write>(
         dividend: statement.dividend,
     };
     write_stated(&stated, writer)?;
-    write_rows(statement.rows.as_slice(), writer)
+    write_kept(statement.rows.as_slice(), writer)
 }

@@ -18,7 +18,7 @@ ghost use Rattle.cns_book.specs.Retransmittal.{called_by, remaining_by, run_at, 
 use crate::parts::Parts;
 use cns_positions::Positions;
 use cns_retransmit::{Batch, Calls, Short};
-use cns_sheets::{Row, Sheet};
+use cns_sheets::{Sheet, SheetRows};
 use cns_terms::{Key, NoMemory};
 use cns_units::Member;
 use std::alloc::Allocator;
@@ -76,10 +76,10 @@ impl<P: Positions<A>, A: Allocator + Drop + Clone> Parts<P, A> {
 
     // Gives the calls the shorts on the rows of a sheet, each with its age, which counts the close. The row of an issue
     // in which nothing is called is passed over.
-    fn add_shorts(&self, calls: &mut Calls<A>, rows: &[Row]) -> Result<(), NoMemory>
+    fn add_shorts(&self, calls: &mut Calls<A>, rows: SheetRows<'_, A>) -> Result<(), NoMemory>
         requires room { HasRoom self.now }
-        requires few { AllByRecursion (λ r. unsigned_abs r.closing ≤ corporation_limit) rows.now }
-        ensures { OnOk result ((c : Cusip) → called_in calls.new c ≡ option_map (with_shorts (filter_map (short_in (run_at self.now.rows) c) rows.now)) (called_in calls.old c)) }
+        requires few { AllByRecursion (λ r. unsigned_abs r.closing ≤ corporation_limit) rows }
+        ensures { OnOk result ((c : Cusip) → called_in calls.new c ≡ option_map (with_shorts (filter_map (short_in (run_at self.now.rows) c) rows.entry)) (called_in calls.old c)) }
     {
         for row in rows {
             if row.closing >= 0 || !calls.is_called(row.issue) {

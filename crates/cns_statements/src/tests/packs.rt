@@ -1,11 +1,10 @@
-// Statements of a whole day: the accounts, their parts, and how many workers there may be.
-use super::opened;
-use crate::packing::{accounts, parts_of};
+// Statements of a whole day: the parts of the accounts, and how many workers there may be.
+use crate::packing::parts_of;
 use crate::{PackFault, pack};
 use cns_positions::{FlatPositions, Positions};
 use cns_prices::Prices;
 use cns_sheets::Sheet;
-use cns_terms::{NoGate, Row};
+use cns_terms::NoGate;
 use cns_units::{Account, Day};
 use std::alloc::Global;
 use std::sync::{Arc, Wait};
@@ -17,38 +16,6 @@ fn account(number: u16) -> Result<Account, Fail> {
         Ok(account) => Ok(account),
         Err(_) => Err(Fail::new("no account")),
     }
-}
-
-// A row of each of the accounts.
-fn rows(alloc: Global, numbers: &[u16]) -> Result<Vec<Row>, Fail> {
-    let mut rows = Vec::new(alloc);
-    for number in numbers {
-        rows.push(Row {
-            account: account(*number)?,
-            ..opened()?
-        })?;
-    }
-    Ok(rows)
-}
-
-#[test]
-fn an_account_is_named_once_for_all_its_rows(rt: HostRuntime) -> Result<(), Fail> {
-    let cases: [(&[u16], &[u16]); 5] = [
-        (&[], &[]),
-        (&[0], &[0]),
-        (&[7, 7, 7], &[7]),
-        (&[0, 0, 101, 202, 202], &[0, 101, 202]),
-        (&[1, 2, 3], &[1, 2, 3]),
-    ];
-    for (numbers, wanted) in cases {
-        let rows = rows(rt.alloc(), numbers)?;
-        let named = accounts(rt.alloc(), rows.as_slice())?;
-        assert_eq!(rt; named.len(), wanted.len());
-        for (account, number) in named.as_slice().iter().zip(wanted) {
-            assert_eq!(rt; account.value(), *number);
-        }
-    }
-    Ok(())
 }
 
 #[test]

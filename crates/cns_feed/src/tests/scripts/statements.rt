@@ -1,7 +1,7 @@
 // Statements of closed days.
 use super::Script;
 
-pub(crate) const STATEMENTS: [Script; 7] = [
+pub(crate) const STATEMENTS: [Script; 8] = [
     Script {
         name: "statements of a buyer and a seller on the day of their trade",
         opening: "2024-06-03",
@@ -233,6 +233,47 @@ pub(crate) const STATEMENTS: [Script; 7] = [
             refused 19\n\
             refused 2\n",
         commands: 9,
+        lines: 0,
+        closes: 1,
+    },
+    Script {
+        name: "a statement has its account's rows from the lowest issue to the highest, and none of a neighbour's",
+        opening: "2024-06-03",
+        input: "MEMBER,101\n\
+            MEMBER,102\n\
+            MEMBER,103\n\
+            ISSUE,########4,100\n\
+            ISSUE,037833100,19500\n\
+            ISSUE,ZZZZZZZZ0,200\n\
+            TRADE,1,101,103,########4,10,1000,2024-06-03\n\
+            TRADE,2,101,103,ZZZZZZZZ0,10,2000,2024-06-03\n\
+            TRADE,3,102,103,037833100,1,19400,2024-06-03\n\
+            CLOSE,2024-06-04\n\
+            STATEMENT,101,2024-06-03\n\
+            STATEMENT,102,2024-06-03\n\
+            STATEMENT,103,2024-06-03\n\
+            STATEMENT,0,2024-06-03\n",
+        output: "ok\n\
+            ok\n\
+            ok\n\
+            ok\n\
+            ok\n\
+            ok\n\
+            ok\n\
+            ok\n\
+            ok\n\
+            closed 1 2024-06-03 6 0\n\
+            statement 101 2024-06-03 2 0.00 0.00\n\
+            row ########4 0 10 0.00 1.00 -10.00 0.00 0.00\n\
+            row ZZZZZZZZ0 0 10 0.00 2.00 -20.00 0.00 0.00\n\
+            statement 102 2024-06-03 1 1.00 0.00\n\
+            row 037833100 0 1 0.00 195.00 -194.00 1.00 0.00\n\
+            statement 103 2024-06-03 3 -1.00 0.00\n\
+            row ########4 0 -10 0.00 1.00 10.00 0.00 0.00\n\
+            row 037833100 0 -1 0.00 195.00 194.00 -1.00 0.00\n\
+            row ZZZZZZZZ0 0 -10 0.00 2.00 20.00 0.00 0.00\n\
+            statement 0 2024-06-03 0 0.00 0.00\n",
+        commands: 14,
         lines: 0,
         closes: 1,
     },

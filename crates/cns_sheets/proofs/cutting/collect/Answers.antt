@@ -14,7 +14,7 @@ loop-rows-preserved g c =
     let last : last_of None given ≡ Some c.in-Some.last = sym c.in_ok-last.ensures.last ∙ c.in-Some.is in
     let kept = c.loop-rows.invariant in
     record {
-      done = pass_more c.args.before.now c.args.now.now R c.loop-rows.after given c.next_rows.ensures.next c.loop-rows.before c.loop-rows.now _ c.loop-rows.rows.items c.push_rows.new.rows.items c.loop-rows.paid _ kept.before kept.now kept.done c.in_ok-last.ensures.rows c.in-Some.last last;
+      done = pass_more c.args.before.now c.args.now.now R c.loop-rows.after given c.next_rows.ensures.next c.loop-rows.before c.loop-rows.now _ c.loop-rows.rows c.push_rows.new.rows c.loop-rows.paid _ kept.before kept.now kept.done c.in_ok-last.ensures.rows c.in-Some.last last;
       marked = c.in_ok-last.ensures.marked;
       before = c.push_rows.ensures.before ∙ kept.before;
       now = c.push_rows.ensures.now ∙ kept.now;
@@ -27,6 +27,6 @@ pub returns-clause-rows : goal.returns-clause-rows
 returns-clause-rows g c =
     let R = g.P.Positions.rows c.args.positions.now in
     let kept = c.loop-rows.invariant in
-    pass_done c.args.before.now c.args.now.now R c.loop-rows.after (present c.next_rows.result.items) c.next_rows.ensures.next c.loop-rows.before c.loop-rows.now _ c.loop-rows.rows.items c.push_rows.new.rows.items c.loop-rows.paid c.push_rows.new.paid
-    kept.before kept.now kept.done c.in_ok-last.ensures.rows c.push_rows.new.before c.push_rows.new.now c.push_paid.new.rows.items (sym c.in_ok-last.ensures.last ∙ c.in_default.is)
+    pass_done c.args.before.now c.args.now.now R c.loop-rows.after (present c.next_rows.result.items) c.next_rows.ensures.next c.loop-rows.before c.loop-rows.now _ c.loop-rows.rows c.push_rows.new.rows c.loop-rows.paid c.push_rows.new.paid
+    kept.before kept.now kept.done c.in_ok-last.ensures.rows c.push_rows.new.before c.push_rows.new.now c.push_paid.new.rows (sym c.in_ok-last.ensures.last ∙ c.in_default.is)
     (c.push_rows.ensures.before ∙ kept.before) (c.push_rows.ensures.now ∙ kept.now) c.in_ok-push_paid.ensures.rows

@@ -2,16 +2,16 @@ use Rattle.std.proofs.Common.{◌≡◌, ◌∙◌, sym, ℤ}
 use Rattle.cns_terms.specs.declared.holding.Key.{Key}
 use Rattle.cns_terms.specs.declared.holding.Holding.{Holding}
 use Rattle.cns_sheets.specs.Woven.{woven_row}
-use Rattle.cns_sheets.proofs.Woven.{row_priced, row_said, row_silent}
+use Rattle.cns_sheets.proofs.Woven.{row_priced, row_said, row_silent, where_ok}
 use Rattle.cns_sheets.proofs.cutting.push_row.Goals as goal
 
 pub returns-then-is_silent-clause-rows : goal.returns-then-is_silent-clause-rows
 returns-then-is_silent-clause-rows g c =
     let e : Key × (Holding × ℤ) = (c.args.key.now, (c.args.holding.now, c.args.dividend)) in
-    row_silent c.args.before.now c.args.now.now e c.args.rows.now.items (sym (c.is_silent.ensures c.args.key.now 0 0) ∙ c.if-is_silent.true)
+    row_silent c.args.before.now c.args.now.now e c.args.rows.now (sym (c.is_silent.ensures c.args.key.now 0 0) ∙ c.if-is_silent.true)
 
-pub returns-in-Ok-clause-rows : goal.returns-in-Ok-clause-rows
-returns-in-Ok-clause-rows g c =
+pub returns-clause-rows : goal.returns-clause-rows
+returns-clause-rows g c =
     let e : Key × (Holding × ℤ) = (c.args.key.now, (c.args.holding.now, c.args.dividend)) in
     let made : c.row_of.result ≡ woven_row c.args.before.now c.args.now.now e = row_priced c.args.before.now c.args.now.now e _ _ _ _ _ c.row_of.ensures.row c.or_zero-opening_price.ensures c.price.ensures.price c.or_zero-price.ensures c.price-2.ensures.price in
-    c.in-Ok.ensures.items ∙ row_said c.args.before.now c.args.now.now e c.args.rows.now.items c.row_of.result made (sym (c.is_silent.ensures c.args.key.now 0 0) ∙ c.if-is_silent.false)
+    where_ok c.push.result c.push.ensures (λ pushed. pushed ∙ row_said c.args.before.now c.args.now.now e c.args.rows.now c.row_of.result made (sym (c.is_silent.ensures c.args.key.now 0 0) ∙ c.if-is_silent.false))

@@ -38,7 +38,7 @@ loop-held-preserved g c =
           let none : present (drop i held) ≡ present (drop (i + 1) held) = from ∙ ap (λ (y : Option (Key × Holding)). present (y ∷ drop (i + 1) held)) w.in_default.is in
           let with : present (take (i + 1) held) ≡ present (take i held) = more ∙ ap (λ (y : Option (Key × Holding)). present (take i held) ++ present (y ∷ [])) w.in_default.is ∙ append-nil (present (take i held)) in
           record {
-            rows = λ more. rw (w.rows-is, w.paid-is) (kept.rows more ∙ ap (λ (hs : Rows). c.loop-held.rows.items ++ woven_rows c.args.before.now c.args.now.now (weave (hs ++ more) c.loop-held.paid)) none);
+            rows = λ more. rw (w.rows-is, w.paid-is) (kept.rows more ∙ ap (λ (hs : Rows). c.loop-held.rows ++ woven_rows c.args.before.now c.args.now.now (weave (hs ++ more) c.loop-held.paid)) none);
             last = rw (w.last-is, with) kept.last;
             rest = subst (λ (y : Option (Key × Holding)). AllByRecursion HasSmallCents (present (y ∷ drop (i + 1) held))) w.in_default.is rest;
             marked = rw w.rows-is kept.marked;

@@ -7,10 +7,10 @@ use Rattle.cns_sheets.proofs.cutting.push_rows.Given as goal
 
 abbrev pub invariant-loop-held : goal.invariant-loop-held
 invariant-loop-held g l = record {
-  rows : (rest : Rows) → l.fn.rows.items ++ woven_rows l.fn.before l.fn.now (weave (present l.held-items ++ rest) l.fn.paid) ≡ l.rows.items ++ woven_rows l.fn.before l.fn.now (weave (present (drop l.held-index l.held-items) ++ rest) l.paid);
+  rows : (rest : Rows) → l.fn.rows ++ woven_rows l.fn.before l.fn.now (weave (present l.held-items ++ rest) l.fn.paid) ≡ l.rows ++ woven_rows l.fn.before l.fn.now (weave (present (drop l.held-index l.held-items) ++ rest) l.paid);
   last : l.last ≡ last_of None (present (take l.held-index l.held-items));
   rest : AllByRecursion HasSmallCents (present (drop l.held-index l.held-items));
-  marked : AllByRecursion IsMarked l.rows.items;
+  marked : AllByRecursion IsMarked l.rows;
   before : l.before ≡ l.fn.before;
   now : l.now ≡ l.fn.now;
 }

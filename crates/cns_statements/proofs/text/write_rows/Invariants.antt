@@ -1,8 +1,8 @@
-use Rattle.std.proofs.Common.{◌≡◌, ℕ, List, ◌++◌, drop}
+use Rattle.std.proofs.Common.{◌≡◌, ℕ, List, ◌++◌}
 use Rattle.std.specs.Io.KnownBytes.{Appends}
 use Rattle.cns_statements.specs.Texts.{rows_text}
 use Rattle.cns_statements.proofs.text.write_rows.Given as goal
 
 abbrev pub invariant-loop-row : goal.invariant-loop-row
-invariant-loop-row g l = (done : List ℕ) × (rows_text l.rows ≡ done ++ rows_text (drop l.row-index l.rows))
+invariant-loop-row g l = (done : List ℕ) × (rows_text l.initial.row-iterator ≡ done ++ rows_text l.row-iterator)
     × Appends (g.W.Write.contents l.fn.writer) (g.W.Write.contents l.writer) done

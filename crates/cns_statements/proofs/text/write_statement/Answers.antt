@@ -12,4 +12,4 @@ returns-in_err-write_stated g c =
 pub returns : goal.returns
 returns g c =
     let s = c.args.statement.now in
-    writes_then _ _ _ (stated_line (stated_of s.account s.date s.rows s.mark s.dividend)) (rows_text s.rows) _ (rw c.len.ensures at c.in_ok-write_stated.ensures) (rw c.as_slice.ensures at c.write_rows.ensures)
+    writes_then _ _ _ (stated_line (stated_of s.account s.date s.rows s.mark s.dividend)) (rows_text s.rows) _ (rw c.len.ensures at c.in_ok-write_stated.ensures) (rw c.as_slice.ensures at c.write_kept.ensures)

@@ -1,4 +1,4 @@
-use Rattle.std.proofs.Common.{◌≡◌, ◌∙◌, ap, List}
+use Rattle.std.proofs.Common.{◌≡◌, ◌∙◌, ap, arith, List}
 use Rattle.cns_terms.specs.declared.command.Activity.{Activity}
 use Rattle.cns_terms.specs.Entries.{journal}
 use Rattle.cns_terms.specs.Fills.{batches_since}
@@ -11,10 +11,11 @@ use Rattle.cns_book.proofs.Shorts.{closings_few}
 use Rattle.cns_book.proofs.parts.Parts.choose_batches.Goals as goal
 use Rattle.cns_book.proofs.parts.Parts.choose_batches.Goals.{then-not-is_empty+in_ok-add_shorts, else-not-is_empty}
 
-pub add_shorts-requires-clause-few : goal.add_shorts-requires-clause-few
-add_shorts-requires-clause-few g c =
+pub add_shorts-requires : goal.add_shorts-requires
+add_shorts-requires g c =
     let room = c.requires.room in
-    closings_few c.args.self.now room c.rows.result.now (c.rows.ensures.rows ∙ ap (λ (s : DaySheet). s.rows) (c.requires.cut room.activities room.follows))
+    let rows = c.rows.ensures.rows ∙ ap (λ (s : DaySheet). s.rows) (c.requires.cut room.activities room.follows) in
+    (omega arith, (room, closings_few c.args.self.now room c.rows.result rows))
 
 pub choose-requires : goal.choose-requires
 choose-requires g c =
@@ -24,7 +25,7 @@ choose-requires g c =
     let J = journal s.opening L in
     let calls = calls_are L s c.in_ok-calls.calls f c.in_ok-calls.ensures.total c.in_ok-calls.ensures.shorts c.in_ok-calls.ensures.some in
     let given : AreGiven s.opening J c.in_ok-calls.calls c.if-not-is_empty.calls = elim c.if-not-is_empty.branch [
-      | then-not-is_empty+in_ok-add_shorts w ↦ rw w.calls-is (given_are L s w.rows.result.now c.in_ok-calls.calls _ f (w.rows.ensures.rows ∙ ap (λ (t : DaySheet). t.rows) (c.requires.cut L f)) w.in_ok-add_shorts.ensures)
+      | then-not-is_empty+in_ok-add_shorts w ↦ rw w.calls-is (given_are L s w.rows.result c.in_ok-calls.calls _ f (w.rows.ensures.rows ∙ ap (λ (t : DaySheet). t.rows) (c.requires.cut L f)) w.in_ok-add_shorts.ensures)
       | else-not-is_empty w ↦ rw w.calls-is (none_given s.opening J c.in_ok-calls.calls (c.is_empty.ensures.0 w.if-not-is_empty.false))
     ] in
     can_choose s.opening J (limited s.opening L f.reached) c.in_ok-calls.calls c.if-not-is_empty.calls calls given
@@ -37,7 +38,7 @@ returns-clause-batches g c =
     let J = journal s.opening L in
     let calls = calls_are L s c.in_ok-calls.calls f c.in_ok-calls.ensures.total c.in_ok-calls.ensures.shorts c.in_ok-calls.ensures.some in
     let given : AreGiven s.opening J c.in_ok-calls.calls c.if-not-is_empty.calls = elim c.if-not-is_empty.branch [
-      | then-not-is_empty+in_ok-add_shorts w ↦ rw w.calls-is (given_are L s w.rows.result.now c.in_ok-calls.calls _ f (w.rows.ensures.rows ∙ ap (λ (t : DaySheet). t.rows) (c.requires.cut L f)) w.in_ok-add_shorts.ensures)
+      | then-not-is_empty+in_ok-add_shorts w ↦ rw w.calls-is (given_are L s w.rows.result c.in_ok-calls.calls _ f (w.rows.ensures.rows ∙ ap (λ (t : DaySheet). t.rows) (c.requires.cut L f)) w.in_ok-add_shorts.ensures)
       | else-not-is_empty w ↦ rw w.calls-is (none_given s.opening J c.in_ok-calls.calls (c.is_empty.ensures.0 w.if-not-is_empty.false))
     ] in
     is ∙ chosen_same s.opening L c.in_ok-calls.calls c.if-not-is_empty.calls f.reached calls given sorted)

@@ -1,4 +1,4 @@
-use Rattle.std.proofs.Common.{◌≡◌, ◌∙◌, ◌+◌, sym, ap, subst, length, filter, List, [], ◌∷◌, arith}
+use Rattle.std.proofs.Common.{◌≡◌, ◌∙◌, ◌+◌, refl, sym, ap, subst, length, filter, List, [], ◌∷◌, arith}
 use Rattle.std.specs.Prelude.{int_le, slice_get}
 use Rattle.cns_units.specs.Day.{day_number}
 use Rattle.cns_terms.specs.declared.action.Declared.{Declared}
@@ -112,3 +112,6 @@ returns-clause-step g c L f =
     none
     (λ i. reply.Closed (record { day = f'.clock.closes i + 1; date = f'.clock.today i; rows = count i; liable = liable i }))
     (rw (c.in_default.ensures.ok, c.in_ok-keep.ensures.ok, c.expire.ensures) (day_closed L _ c.args.next (g.P.Positions.rows c.roll.new.self) c.in_ok-sheet.sheet c.in_ok-batches.batches.items f' (closes_fit _ room) none c.roll.ensures.rolled is chosen))
+
+pub same-self-in_err-batches : goal.same-self-in_err-batches
+same-self-in_err-batches g c = refl

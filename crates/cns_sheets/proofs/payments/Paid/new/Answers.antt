@@ -1,4 +1,4 @@
-use Rattle.std.proofs.Common.{◌∙◌, ◌+ℤ◌, List, ap, subst, sym}
+use Rattle.std.proofs.Common.{◌∙◌, ◌+ℤ◌, List, ap, subst, sym, arith}
 use Rattle.std.specs.FinMap.{is_sorted}
 use Rattle.cns_terms.specs.declared.sheet.Row.{Row}
 use Rattle.cns_terms.specs.Keys.{key_cmp}
@@ -8,11 +8,14 @@ use Rattle.cns_sheets.specs.Woven.{cents_at}
 use Rattle.cns_sheets.proofs.Booked.{all_payments, few_small, one_payment_more, payable_at, payment_step, seldom}
 use Rattle.cns_sheets.proofs.payments.Paid.new.Goals as goal
 
-pub pay-requires-clause-small : goal.pay-requires-clause-small
-pay-requires-clause-small g c = λ k. few_small _ c.loop-payment.payment-index (c.loop-payment.invariant.small k) (seldom c.loop-payment-test.true c.requires.few)
-
-pub pay-requires-clause-payable : goal.pay-requires-clause-payable
-pay-requires-clause-payable g c = subst (λ (rs : List Row). IsPayable (c.payment-item.result.declared, rs)) (sym c.rows.ensures.rows) (payable_at (λ p. p.declared) (λ p. p.sheet.now.rows) c.args.payments.now c.loop-payment.payment-index _ c.requires.payable c.loop-payment-test.true c.payment-item.is)
+pub pay-requires : goal.pay-requires
+pay-requires g c = (
+  omega arith,
+  (
+    λ k. few_small _ c.loop-payment.payment-index (c.loop-payment.invariant.small k) (seldom c.loop-payment-test.true c.requires.few),
+    subst (λ (rs : List Row). IsPayable (c.payment-item.result.declared, rs)) (sym c.rows.ensures.rows) (payable_at (λ p. p.declared) (λ p. p.sheet.now.rows) c.args.payments.now c.loop-payment.payment-index _ c.requires.payable c.loop-payment-test.true c.payment-item.is),
+  ),
+)
 
 pub loop-payment-preserved : goal.loop-payment-preserved
 loop-payment-preserved g c =

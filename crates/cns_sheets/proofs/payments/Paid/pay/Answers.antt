@@ -10,14 +10,14 @@ use Rattle.cns_sheets.proofs.payments.Paid.pay.Goals as goal
 pub overflow_sub-sum : goal.overflow_sub-sum
 overflow_sub-sum g c =
     let d = c.args.declared.now in
-    let rows = c.args.rows.now in
+    let rows = c.args.rows in
     let payable = c.requires.payable in
     neg_fits c.in_ok-sum.sum _ c.in_ok-sum.ensures.sum (all_small d rows payable)
 
 pub add-requires : goal.add-requires
 add-requires g c =
     let d = c.args.declared.now in
-    let rows = c.args.rows.now in
+    let rows = c.args.rows in
     let k : Key = record { account = 0; issue = d.cusip } in
     let payable = c.requires.payable in
     rw (neg_is c.in_ok-sum.sum _ c.in_ok-sum.ensures.sum (all_small d rows payable))
@@ -26,7 +26,7 @@ add-requires g c =
 pub returns-clause-cents : goal.returns-clause-cents
 returns-clause-cents g c =
     let d = c.args.declared.now in
-    let rows = c.args.rows.now in
+    let rows = c.args.rows in
     let corp : Key = record { account = 0; issue = d.cusip } in
     let payable = c.requires.payable in
     let neg = neg_is c.in_ok-sum.sum _ c.in_ok-sum.ensures.sum (all_small d rows payable) in
@@ -37,7 +37,7 @@ returns-clause-cents g c =
 pub returns-clause-bound : goal.returns-clause-bound
 returns-clause-bound g c =
     let d = c.args.declared.now in
-    let rows = c.args.rows.now in
+    let rows = c.args.rows in
     let corp : Key = record { account = 0; issue = d.cusip } in
     let payable = c.requires.payable in
     let neg = neg_is c.in_ok-sum.sum _ c.in_ok-sum.ensures.sum (all_small d rows payable) in
@@ -48,7 +48,7 @@ returns-clause-bound g c =
 pub returns-clause-sum : goal.returns-clause-sum
 returns-clause-sum g c =
     let d = c.args.declared.now in
-    let rows = c.args.rows.now in
+    let rows = c.args.rows in
     let payable = c.requires.payable in
     let neg = neg_is c.in_ok-sum.sum _ c.in_ok-sum.ensures.sum (all_small d rows payable) in
     where_ok c.add.result c.add.ensures.sum (λ h. cancelled _ _ _ c.in_ok-sum.sum _ _ h neg c.in_ok-sum.ensures.all c.in_ok-sum.ensures.sum)

@@ -1,4 +1,4 @@
-use Rattle.std.proofs.Common.{◌≡◌, ◌+ℤ◌, if◌then◌else◌, pos, take}
+use Rattle.std.proofs.Common.{◌≡◌, ◌+ℤ◌, ◌++◌, if◌then◌else◌, length, pos, take}
 use Rattle.std.specs.Ordering.{is_eq}
 use Rattle.cns_terms.specs.declared.holding.Key.{Key}
 use Rattle.cns_terms.specs.Keys.{key_cmp}
@@ -10,7 +10,8 @@ use Rattle.cns_sheets.proofs.payments.Paid.pay_members.Given as goal
 
 abbrev pub invariant-loop-row : goal.invariant-loop-row
 invariant-loop-row g l = record {
-  cents : (k : Key) → cents_at l.self k ≡ cents_at l.fn.self k +ℤ total (λ r. if is_eq (key_cmp k (key_of r)) then member_cash l.fn.declared r else pos 0) (take l.row-index l.fn.rows);
-  sum : l.sum ≡ total (member_cash l.fn.declared) (take l.row-index l.fn.rows);
-  all : total (λ e. e.1) l.self ≡ total (λ e. e.1) l.fn.self +ℤ total (member_cash l.fn.declared) (take l.row-index l.fn.rows);
+  left : l.initial.row-iterator ≡ l.yielded ++ l.row-iterator;
+  cents : (k : Key) → cents_at l.self k ≡ cents_at l.fn.self k +ℤ total (λ r. if is_eq (key_cmp k (key_of r)) then member_cash l.fn.declared r else pos 0) (take (length l.yielded) l.initial.row-iterator);
+  sum : l.sum ≡ total (member_cash l.fn.declared) (take (length l.yielded) l.initial.row-iterator);
+  all : total (λ e. e.1) l.self ≡ total (λ e. e.1) l.fn.self +ℤ total (member_cash l.fn.declared) (take (length l.yielded) l.initial.row-iterator);
 }

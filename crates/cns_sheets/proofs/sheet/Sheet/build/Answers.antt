@@ -1,4 +1,4 @@
-use Rattle.std.proofs.Common.{◌≡◌, ℕ, ◌≤◌, ◌==◌, None, filter, map, arith}
+use Rattle.std.proofs.Common.{◌≡◌, ℕ, ◌≤◌, ◌==◌, None, Result, Ok, Err, IfOk, filter, map, subst, sym, arith}
 use Rattle.std.specs.Option.{option_copied}
 use Rattle.cns_terms.proofs.SheetRows.{says}
 use Rattle.cns_positions.specs.Rows.{held_above}
@@ -22,8 +22,8 @@ collect-requires-clause-small g c = λ order. (c.requires.ready order).small
 within : (n : ℕ) → n ≤ amount_limit → n ≤ sum_limit
 within n h = omega (arith, h)
 
-pub invariant_of-result : goal.invariant_of-result
-invariant_of-result g c =
+pub of_rows-requires : goal.of_rows-requires
+of_rows-requires g c =
     let before = option_copied c.args.before in
     let earlier = prices_of before in
     let R = g.P.Positions.rows c.args.positions.now in
@@ -31,7 +31,7 @@ invariant_of-result g c =
     let order = c.in_ok-rows.ensures.order in
     let ready = c.requires.ready order in
     let cut = rows_cut earlier c.args.prices.now R _ cents order c.in_ok-rows.ensures.paid_rise c.in_ok-paid.ensures.cents in
-    let rows : c.in_ok-rows.rows.items ≡ filter says (map (row_from earlier c.args.prices.now) (weave (held_above R None) cents)) =
+    let rows : c.in_ok-rows.rows ≡ filter says (map (row_from earlier c.args.prices.now) (weave (held_above R None) cents)) =
     rw (c.in_ok-rows.ensures.rows, c.prices_before-earlier.ensures.prices, c.as_slice.ensures.value, c.in_ok-prices.ensures.prices) (rows_listed earlier c.args.prices.now (weave (held_above R None) cents)) in
     record {
       prices_rise = rw c.in_ok-prices.ensures.prices (prices_rise c.args.prices.now c.in_ok-prices.ensures.order);
@@ -41,15 +41,21 @@ invariant_of-result g c =
       few = rw rows (ready.few _ cut);
       small_marks = λ a n.
           let marked = c.in_ok-rows.ensures.marked in
-          marks_stay (rows_for c.in_ok-rows.rows.items a) (each_filter IsMarked (λ r. r.account == a) c.in_ok-rows.rows.items marked) ((rw (← rows) at (ready.few _ cut)) a) n ((rw (← rows) at (ready.amounts _ cut).cents) a n);
+          marks_stay (rows_for c.in_ok-rows.rows a) (each_filter IsMarked (λ r. r.account == a) c.in_ok-rows.rows marked) ((rw (← rows) at (ready.few _ cut)) a) n ((rw (← rows) at (ready.amounts _ cut).cents) a n);
       small_dividends = λ a n. within _ ((rw (← rows) at (ready.amounts _ cut).dividends) a n);
     }
+
+-- what holds of the sheet that was made
+made_so : {X E : Type 0} (r : Result X E) (P : X → Type 0) (v : X) → IfOk r (λ s. s ≡ v) → P v → IfOk r P
+made_so (Ok x) P v e h = subst P (sym e) h
+made_so (Err e) P v h k = tt
 
 pub returns-clause-cut : goal.returns-clause-cut
 returns-clause-cut g c =
     let earlier = prices_of (option_copied c.args.before) in
     let R = g.P.Positions.rows c.args.positions.now in
     let cents = c.in_ok-paid.paid in
-    let rows : c.in_ok-rows.rows.items ≡ filter says (map (row_from earlier c.args.prices.now) (weave (held_above R None) cents)) =
+    let rows : c.in_ok-rows.rows ≡ filter says (map (row_from earlier c.args.prices.now) (weave (held_above R None) cents)) =
     rw (c.in_ok-rows.ensures.rows, c.prices_before-earlier.ensures.prices, c.as_slice.ensures.value, c.in_ok-prices.ensures.prices) (rows_listed earlier c.args.prices.now (weave (held_above R None) cents)) in
-    rw rows (rows_cut earlier c.args.prices.now R _ cents c.in_ok-rows.ensures.order c.in_ok-rows.ensures.paid_rise c.in_ok-paid.ensures.cents)
+    let cut = rows_cut earlier c.args.prices.now R _ cents c.in_ok-rows.ensures.order c.in_ok-rows.ensures.paid_rise c.in_ok-paid.ensures.cents in
+    made_so c.of_rows.result _ _ c.of_rows.ensures (rw rows cut)

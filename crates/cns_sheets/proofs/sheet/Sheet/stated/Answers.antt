@@ -1,7 +1,12 @@
+use Rattle.std.proofs.Common.{◌^◌, ◌<◌, ◌≤◌, ℕ, arith}
 use Rattle.cns_sheets.proofs.sheet.Sheet.stated.Goals as goal
 
-pub sums-mark-requires-clause-marks : goal.sums-mark-requires-clause-marks
-sums-mark-requires-clause-marks g c = rw (c.rows_for-rows.ensures, c.as_slice.ensures.value) (c.self.invariant.small_marks c.args.account)
+-- few rows can be counted
+countable : (n : ℕ) → n ≤ 2 ^ 32 → n < 2 ^ 64
+countable n h = omega (arith, h)
 
-pub sums-mark-requires-clause-dividends : goal.sums-mark-requires-clause-dividends
-sums-mark-requires-clause-dividends g c = rw (c.rows_for-rows.ensures, c.as_slice.ensures.value) (c.self.invariant.small_dividends c.args.account)
+pub sums-totals-requires : goal.sums-totals-requires
+sums-totals-requires g c =
+    let kept = c.self.invariant.sheet in
+    let a = c.args.account in
+    (omega arith, (rw (c.rows_of.ensures, ← c.self.view_is) (countable _ (kept.few a)), (rw (c.rows_of.ensures, ← c.self.view_is) (kept.small_marks a), rw (c.rows_of.ensures, ← c.self.view_is) (kept.small_dividends a))))

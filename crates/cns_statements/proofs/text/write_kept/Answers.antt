@@ -1,0 +1,15 @@
+use Rattle.std.proofs.lemmas.Result.{err_from_is_err_and}
+use Rattle.cns_statements.specs.Texts.{row_line}
+use Rattle.cns_statements.proofs.Parts.{parts_more, parts_failed}
+use Rattle.cns_statements.proofs.text.write_kept.Goals as goal
+
+pub loop-row-preserved : goal.loop-row-preserved
+loop-row-preserved g c =
+    let inv = c.loop-row.invariant in
+    parts_more _ _ _ row_line _ _ c.row-item.result inv.0 c.loop-row-test.true inv.1 inv.2 (rw (← c.row-item.is) c.in_ok-write_row.ensures)
+
+pub returns-in_err-write_row : goal.returns-in_err-write_row
+returns-in_err-write_row g c =
+    let p = err_from_is_err_and c.from_residual.result c.from_residual.ensures.1 in
+    let inv = c.loop-row.invariant in
+    rw p.1 (parts_failed _ _ _ row_line _ _ c.row-item.result inv.0 c.loop-row-test.true inv.1 inv.2 (rw (← c.row-item.is) c.in_err-write_row.ensures))

@@ -1,0 +1,8 @@
+use Rattle.std.proofs.Common.{◌≡◌, ℕ, List, ◌++◌, drop}
+use Rattle.std.specs.Io.KnownBytes.{Appends}
+use Rattle.cns_statements.specs.Texts.{rows_text}
+use Rattle.cns_statements.proofs.text.write_kept.Given as goal
+
+abbrev pub invariant-loop-row : goal.invariant-loop-row
+invariant-loop-row g l = (done : List ℕ) × (rows_text l.rows ≡ done ++ rows_text (drop l.row-index l.rows))
+    × Appends (g.W.Write.contents l.fn.writer) (g.W.Write.contents l.writer) done
