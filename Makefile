@@ -1,4 +1,5 @@
-# The commands of README.md. They need Bash and the toolchain's `rt` on the path; the benchmark needs Python 3 too.
+# The commands of README.md; `make help` lists them. They need Bash, GNU make and the toolchain's `rt` on the path; the
+# benchmark and `make times` need Python 3 too.
 
 SHELL := bash
 .SHELLFLAGS := -eu -o pipefail -c
@@ -7,40 +8,71 @@ PROGRAM := crates/cnsbook/out/cnsbook
 OPENING := 2024-06-03
 SAMPLES := day week actions buy-in
 
+# The crates that the program stands on, lowest first, and the program: those of crates.txt above its tests.
+BUILT := $(shell sed -n '/^\# tests alone/q; s/^\([a-z_]*\):.*/\1/p' crates.txt)
+
 CRATES :=
 
-.PHONY: build sample compare test trials bench
+.PHONY: help try build sample compare test trials times bench
 
-# Proves every crate that the program stands on, and builds the program.
+help:
+	@grep -E '^# [a-z]+:' Makefile | sed 's/^# //'
+
+# try: plays the samples without a proof, in two minutes
+try:
+	@room=$$(mktemp -d); trap 'rm -rf "$$room"' EXIT; \
+	    for name in $(SAMPLES); do \
+	        cp examples/$$name.csv "$$room/$$name"; \
+	        cp examples/$$name.replies "$$room/$$name.stdout"; \
+	    done; \
+	    echo "building without a proof, which takes a minute or two ..."; \
+	    (cd crates/cnsbook && rt try --cases "$$room" -- replay --open $(OPENING)); \
+	    echo "samples agree: $(SAMPLES). Nothing was proved; make build proves and builds"
+
+# build: proves every crate that the program stands on, and builds the program
 build:
-	cd crates/cnsbook && rt run -- replay --open $(OPENING) < /dev/null
+	@echo "Proves $(words $(BUILT)) crates, lowest first, each on up to 4 processors in up to 8 GB of memory:"; \
+	    echo "from nothing in some half an hour, in seconds where this machine has kept the work."; \
+	    number=0; log=$$(mktemp); trap 'rm -f "$$log"' EXIT; \
+	    for crate in $(BUILT); do \
+	        number=$$((number + 1)); begun=$$SECONDS; \
+	        printf '[%s/%s] %s ...' "$$number" $(words $(BUILT)) "$$crate"; \
+	        case $$crate in \
+	            cnsbook) verb='run -- replay --open $(OPENING)';; \
+	            *) verb=lib;; \
+	        esac; \
+	        (cd "crates/$$crate" && rt $$verb) < /dev/null > "$$log" 2>&1 || { echo; cat "$$log"; exit 1; }; \
+	        echo " proved in $$((SECONDS - begun)) s"; \
+	    done
 
-# Builds the program and replays the samples.
+# sample: builds the program and replays the samples
 sample: build compare
 
-# Replays the samples with the program as it stands, and compares its replies with those kept beside them.
+# compare: replays the samples with the program as it stands, and compares its replies with those kept beside them
 compare:
 	@for name in $(SAMPLES); do \
 	    $(PROGRAM) replay --open $(OPENING) < examples/$$name.csv | diff examples/$$name.replies -; \
 	done
 	@echo "samples passed: $(SAMPLES)"
 
-# The gate: every proof from nothing, the edits that the check must refuse, every test, the stored run of the program, and
-# then the program that the gate built: through a pipe, to each of its statuses, and over the samples. A task a processor:
-# left to itself, rt expects twice the memory that the large crates take, and so keeps them waiting behind small ones.
+# test: the gate: every proof, the edits that the check must refuse, all tests and cases, the program driven through a pipe,
+# to each of its statuses and over the samples
 test:
 	@RT_JOBS="$$(nproc)" rt ci; \
 	    bash tests/pipe.sh $(PROGRAM); \
 	    bash tests/status.sh $(PROGRAM); \
 	    bash tests/trials.sh --apply; \
 	    $(MAKE) --no-print-directory compare; \
-	    echo "the gate passed in $$((SECONDS / 60)) minutes"
+	    echo "the gate passed in $$((SECONDS / 60)) minutes; the line 'rt: ok' above says what it took from kept work"
 
-# The further edits of each crate that the check must refuse, which are too many for the gate. `CRATES="cns_tree cns_feed"`
-# tries those of some crates.
+# trials: the further edits of each crate that the check must refuse; CRATES="cns_tree cns_feed" tries those of some crates
 trials:
-	bash tests/trials.sh $(CRATES)
+	@bash tests/trials.sh $(CRATES)
 
-# Records a second and bytes of memory a command, at 10^4, 10^5 and 10^6 records.
+# times: the gate from nothing, and the processor minutes of each crate and part
+times:
+	@python3 tests/times.py --csv bench/gate.csv env RT_JOBS="$$(nproc)" rt ci --anew
+
+# bench: records a second and bytes of memory a command, at 10^4, 10^5 and 10^6 records
 bench: build
-	python3 bench/bench.py $(PROGRAM)
+	@python3 bench/bench.py $(PROGRAM)

@@ -19,6 +19,3 @@ pub use cns_terms::{Exchange, Split};
 pub use conversion::{exchange_of, split_of};
 pub use fault::ActionFault;
 pub use next::next_positions;
-
-#[cfg(test)]
-mod tests;

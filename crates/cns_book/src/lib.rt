@@ -21,6 +21,3 @@ pub use book::Book;
 pub use cns_notices::Stage;
 pub use notice::Notice;
 pub use receipt::{Receipt, TakeFault};
-
-#[cfg(test)]
-mod tests;

@@ -33,6 +33,3 @@ pub use list_source::ListSource;
 pub use log::{Log, LogItem};
 pub use run::{DeskBook, Outcome, run_workers};
 pub use seat::Seat;
-
-#[cfg(test)]
-mod tests;

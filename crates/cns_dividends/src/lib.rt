@@ -12,6 +12,3 @@ mod payment;
 pub use cns_terms::Declared;
 pub use dividends::{Dividends, Due};
 pub use payment::cash;
-
-#[cfg(test)]
-mod tests;

@@ -13,7 +13,7 @@ use crate::outcome::{ReplayBook, new_book, take_line};
 use crate::records::{MOST_RECORDS, Records};
 use crate::summary::Summary;
 use cns_book::Book;
-use cns_positions::Positions;
+use cns_positions::{Positions, TreePositions};
 use cns_units::Day;
 use std::alloc::Global;
 use std::io::Read;
@@ -43,11 +43,31 @@ pub(crate) fn take_all<P: Positions<Global>, R: Read>(
     Err(ReplayFault::Read)
 }
 
-/// The book after the command of each record of the reader, in order, all of the first worker, on a new book that
-/// opens on the date, and the counts; nothing is written.
+/// The book after the command of each record of the reader, in order, all of the first worker, on a new book over the
+/// form of positions `P` that opens on the date, and the counts; nothing is written.
 ///
 /// A record at fault is counted and changes nothing. `Read` where the reader fails, or has given
 /// 4,294,967,295 records; `NoMemory` where a growth was refused; no other fault comes.
+pub fn load_on<P: Positions<Global>, R: Read + Drop>(
+    alloc: Global,
+    reader: R,
+    date: Day,
+) -> Result<(Book<P, Global>, Summary), ReplayFault>
+    ensures after { IfOk result (λ p. IfSome (R.remaining reader)
+        (λ input. p.0 ≡ log_after (blank_log date) (lines_of input))) }
+    ensures counts { IfOk result (λ p. IfSome (R.remaining reader)
+        (λ input. Counts p.1 (outcomes (opened date) (lines_of input)))) }
+    ensures few { OnOk result (IfSome (R.remaining reader) (λ input. length (lines_of input) < 2 ^ 32 - 1)) }
+    ensures err { IfErr result (λ e. (e ≡ fault.NoMemory) ⊎ (e ≡ fault.Read)) }
+{
+    let mut book = new_book::<P>(alloc, date)?;
+    let summary = take_all(&mut Records::new(alloc, reader), &mut book)?;
+    Ok((book, summary))
+}
+
+/// The same as a `ReplayBook`: the book after the command of each record of the reader, and the counts.
+///
+/// Faults are those of `load_on`.
 pub fn load<R: Read + Drop>(
     alloc: Global,
     reader: R,
@@ -60,7 +80,5 @@ pub fn load<R: Read + Drop>(
     ensures few { OnOk result (IfSome (R.remaining reader) (λ input. length (lines_of input) < 2 ^ 32 - 1)) }
     ensures err { IfErr result (λ e. (e ≡ fault.NoMemory) ⊎ (e ≡ fault.Read)) }
 {
-    let mut book = new_book(alloc, date)?;
-    let summary = take_all(&mut Records::new(alloc, reader), &mut book)?;
-    Ok((book, summary))
+    load_on::<TreePositions<Global>, R>(alloc, reader, date)
 }

@@ -30,11 +30,14 @@ pub(crate) enum Outcome {
 }
 
 // A book that has taken nothing, with room for as many commands as there may be records.
-pub(crate) fn new_book(alloc: Global, date: Day) -> Result<ReplayBook, ReplayFault>
+pub(crate) fn new_book<P: Positions<Global>>(
+    alloc: Global,
+    date: Day,
+) -> Result<Book<P, Global>, ReplayFault>
     ensures book { IfOk result (λ b. b ≡ blank_log date) }
     ensures err { IfErr result (λ e. e ≡ fault.NoMemory) }
 {
-    match ReplayBook::new(alloc, date) {
+    match Book::<P, Global>::new(alloc, date) {
         Ok(book) => Ok(book),
         Err(_) => Err(ReplayFault::NoMemory),
     }

@@ -15,7 +15,7 @@ use crate::outcome::{Outcome, new_book, take_line, write_outcome};
 use crate::records::{MOST_RECORDS, Records};
 use crate::summary::Summary;
 use cns_book::Book;
-use cns_positions::Positions;
+use cns_positions::{Positions, TreePositions};
 use cns_units::Day;
 use std::alloc::Global;
 use std::io::{Read, Write};
@@ -84,8 +84,8 @@ pub(crate) fn play<P: Positions<Global>, R: Read, W: Write>(
     Err(ReplayFault::Read)
 }
 
-/// Takes the command of each record of the reader, in order, on a new book that opens on the date, and writes the
-/// reply to each; for a record at fault it writes `line` and the fault, and goes on.
+/// Takes the command of each record of the reader, in order, on a new book over the form of positions `P` that opens on
+/// the date, and writes the reply to each; for a record at fault it writes `line` and the fault, and goes on.
 ///
 /// `Read` where the reader fails, or has given 4,294,967,295 records: all that were read are answered. `NoMemory` where
 /// a growth was refused: the records before the one at which it was are answered. `Write` where the writer fails, takes
@@ -95,6 +95,30 @@ pub(crate) fn play<P: Positions<Global>, R: Read, W: Write>(
 /// Before the reader is asked for more, all records that it gave whole are answered, and the writer is flushed. After a
 /// failure neither the reader nor the writer is called again. A buffer on the reader's side is not needed: blocks of
 /// 8 KiB are read.
+pub fn replay_on<P: Positions<Global>, R: Read + Drop, W: Write>(
+    alloc: Global,
+    reader: R,
+    writer: &mut W,
+    date: Day,
+) -> Result<Summary, ReplayFault>
+    // All of the input is answered, and nothing else is written.
+    ensures output { OnOk result (IfSome (R.remaining reader)
+        (λ input. Appends (W.contents writer.old) (W.contents writer.new) (output date input))) }
+    ensures counts { IfOk result (λ s. IfSome (R.remaining reader)
+        (λ input. Counts s (outcomes (opened date) (lines_of input)))) }
+    ensures few { OnOk result (IfSome (R.remaining reader) (λ input. length (lines_of input) < 2 ^ 32 - 1)) }
+    // The records before the fault are answered, and of the one that it came at, if any, what the fault leaves.
+    ensures fault { IfErr result (λ e. IfSome (R.remaining reader)
+        (λ input. StopsReplay e date input (W.contents writer.old) (W.contents writer.new))) }
+    ensures room { IfErr result (λ e. e ≢ fault.Full) }
+{
+    let mut book = new_book::<P>(alloc, date)?;
+    play(&mut Records::new(alloc, reader), &mut book, writer)
+}
+
+/// The same on a `ReplayBook`: takes each record's command on a new book that opens on the date, and writes the replies.
+///
+/// Faults, flushes and what was written at a fault are those of `replay_on`.
 pub fn replay<R: Read + Drop, W: Write>(
     alloc: Global,
     reader: R,
@@ -112,6 +136,5 @@ pub fn replay<R: Read + Drop, W: Write>(
         (λ input. StopsReplay e date input (W.contents writer.old) (W.contents writer.new))) }
     ensures room { IfErr result (λ e. e ≢ fault.Full) }
 {
-    let mut book = new_book(alloc, date)?;
-    play(&mut Records::new(alloc, reader), &mut book, writer)
+    replay_on::<TreePositions<Global>, R, W>(alloc, reader, writer, date)
 }

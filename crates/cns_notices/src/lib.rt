@@ -13,6 +13,3 @@ mod notices;
 
 pub use cns_terms::{Given, Stage};
 pub use notices::Notices;
-
-#[cfg(test)]
-mod tests;

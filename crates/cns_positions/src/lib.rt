@@ -18,6 +18,3 @@ pub use flat::FlatPositions;
 pub use positions::{NextRows, Positions, ROWS_AT_ONCE};
 pub use steps::{Step, run};
 pub use tree::TreePositions;
-
-#[cfg(test)]
-mod tests;

@@ -7,6 +7,3 @@
 mod prices;
 
 pub use prices::{Prices, Quote};
-
-#[cfg(test)]
-mod tests;

@@ -22,10 +22,3 @@ pub use batches::Batches;
 pub use calls::Calls;
 pub use cns_terms::{Fill, Liable, Short};
 pub use filling::Shorts;
-
-#[cfg(test)]
-mod calls_tests;
-#[cfg(test)]
-mod day_tests;
-#[cfg(test)]
-mod tests;

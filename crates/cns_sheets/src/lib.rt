@@ -24,6 +24,3 @@ pub use cns_terms::Row;
 pub use payments::Payment;
 pub use sheet::Sheet;
 pub use walks::{AccountRows, SheetRows};
-
-#[cfg(test)]
-mod tests;

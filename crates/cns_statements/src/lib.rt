@@ -27,6 +27,3 @@ pub use rows::Rows;
 pub use text::{write_rows, write_stated, write_statement};
 pub use whole_day::pack;
 pub use words::{Word, write_line};
-
-#[cfg(test)]
-mod tests;

@@ -54,6 +54,3 @@ pub use reply::{Closed, Reply, Stated};
 pub use sheet::Row;
 pub use source::{Item, Source, SourceFault};
 pub use worker::Worker;
-
-#[cfg(test)]
-mod tests;

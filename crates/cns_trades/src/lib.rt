@@ -12,6 +12,3 @@ mod trades;
 
 pub use facts::{MoveFacts, TradeFacts};
 pub use trades::{Trades, is_exceeded};
-
-#[cfg(test)]
-mod tests;

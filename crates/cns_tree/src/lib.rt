@@ -23,6 +23,3 @@ mod walk;
 pub use spare::Spare;
 pub use tree::Tree;
 pub use walk::Walk;
-
-#[cfg(test)]
-mod tests;

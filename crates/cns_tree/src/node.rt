@@ -110,21 +110,6 @@ impl<V: Copy, A: Allocator> Subtree<V, A> {
         None
     }
 
-    /// The nodes on the longest way down, counted one by one.
-    #[cfg(test)]
-    pub(crate) fn height(&self) -> u32 {
-        match &self.top {
-            None => 0,
-            Some(node) => {
-                let node: &Node<V, A> = node;
-                node.left
-                    .height()
-                    .max(node.right.height())
-                    .saturating_add(1)
-            }
-        }
-    }
-
     /// The first row whose key is the key or above it.
     pub(crate) fn first_at_or_after(&self, key: Key) -> Option<(Key, V)>
         ensures { result ≡ first (is_at_or_after key) self.now.0 }

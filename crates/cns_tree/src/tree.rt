@@ -183,12 +183,6 @@ impl<V: Copy, A: Allocator + Clone> Tree<V, A> {
         let _ = &self.root;
         Walk::new(self, key)
     }
-
-    /// The nodes on the longest way down, counted one by one.
-    #[cfg(test)]
-    pub(crate) fn height(&self) -> u32 {
-        self.root.height()
-    }
 }
 
 // The key in a box that no put has used yet. No call gives it back.

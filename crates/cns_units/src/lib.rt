@@ -27,6 +27,3 @@ pub use price::Price;
 pub use rate::Rate;
 pub use ratio::Ratio;
 pub use shares::Shares;
-
-#[cfg(test)]
-mod tests;

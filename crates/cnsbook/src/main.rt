@@ -1,25 +1,10 @@
 //! The program `cnsbook`: the books of Continuous Net Settlement from a command line.
 //!
-//! `replay` answers records on standard input with replies on standard output; `run` takes the records of several files
-//! side by side, one worker a file, and writes a summary; `statements` writes the statements of all accounts for a closed
-//! day. `main` gathers the words of the line and lends standard input,
-//! output and error; `program` does the rest over any reader and writers, so that tests can run it. The status is 0 where
-//! the work was done, 1 at a fault, of which standard error gets one line, and 2 for a line that is refused, where it gets
-//! the usage. Start with `program`.
+//! `main` gathers the words of the line and lends standard input, output and error; `program` of `cns_program`, where to
+//! start, does the rest.
 #![tactic(auto)]
 
-mod ended;
-mod fault;
-mod line;
-mod outcome;
-mod program;
-mod replaying;
-mod running;
-mod stating;
-mod summary;
-
-use ended::{fail, refuse_words};
-use fault::Fault;
+use cns_program::{Fault, fail, program, refuse_words};
 use std::io;
 use std::io::BufWriter;
 use std::process::ExitCode;
@@ -35,7 +20,7 @@ fn main(rt: HostRuntime) -> ExitCode {
     let Ok(mut output) = BufWriter::new(rt.alloc(), io::writer(&rt)) else {
         return ExitCode::from(fail(Fault::NoMemory, &mut rt.stderr()).status);
     };
-    let status = program::program(
+    let status = program(
         &rt,
         words.as_slice(),
         rt.stdin(),
@@ -44,6 +29,3 @@ fn main(rt: HostRuntime) -> ExitCode {
     );
     ExitCode::from(status)
 }
-
-#[cfg(test)]
-mod tests;

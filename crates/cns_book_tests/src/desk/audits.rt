@@ -1,0 +1,344 @@
+// Audits of logs in which something was changed.
+use super::{OPENING, SECOND, close, day, hundred, issue, member, price, statement, trade};
+use cns_book::{Book, Receipt};
+use cns_desk::{DeskBook, Log, LogItem, Outcome, audit, run_workers};
+use cns_sheets::Sheet;
+use cns_terms::{Activity, Command, NoGate, Reply, Worker};
+use std::alloc::Global;
+use std::process::Abort;
+use std::sync::{Arc, Wait};
+use std::test::Fail;
+use std::thread::Threads;
+
+// What is done to a copy of a log, at a place from 1.
+#[derive(Clone, Copy)]
+enum Change {
+    Nothing,
+    Command(usize),
+    Reply(usize),
+    Index(usize),
+    Seq(usize),
+    Missing(usize),
+    Twice(usize),
+    // The item is given the place after it, and that one its place.
+    Swapped(usize),
+}
+
+fn add(
+    log: &mut Log,
+    receipt: Receipt,
+    command: Command,
+    sheet: Option<Arc<Sheet<Global>>>,
+) -> Result<(), Fail> {
+    if log.reserve().is_err() {
+        return Err(Fail::new("no memory"));
+    }
+    log.push(LogItem {
+        receipt,
+        command,
+        sheet,
+    });
+    Ok(())
+}
+
+// The item of a log at an index, with what the change makes of it there.
+fn changed(items: &[LogItem], at: usize, change: Change) -> Option<(Receipt, Command)> {
+    let place = at.saturating_add(1);
+    let from = match change {
+        Change::Swapped(other) if other == place => place,
+        Change::Swapped(other) if other == at => at.saturating_sub(1),
+        _ => at,
+    };
+    let item = items.get(from)?;
+    let mut receipt = item.receipt;
+    let mut command = item.command;
+    match change {
+        Change::Command(other) if other == place => {
+            command = Command::Activity(Activity::Withdraw(7));
+        }
+        Change::Reply(other) if other == place => receipt.reply = Reply::Executed(7),
+        Change::Index(other) if other == place => receipt.index = 0,
+        Change::Seq(other) if other == place => receipt.seq = 0,
+        _ => {}
+    }
+    Some((receipt, command))
+}
+
+// Adds an item without a sheet so many times.
+fn add_times(log: &mut Log, item: &(Receipt, Command), times: u8) -> Result<(), Fail> {
+    for _time in 0..times {
+        add(log, item.0, item.1, None)?;
+    }
+    Ok(())
+}
+
+// How many times the item of a place is in the copy.
+fn times(change: Change, place: usize) -> u8 {
+    match change {
+        Change::Missing(other) if other == place => 0,
+        Change::Twice(other) if other == place => 2,
+        _ => 1,
+    }
+}
+
+fn copied(alloc: Global, log: &Log, change: Change) -> Result<Log, Fail> {
+    let mut copy = Log::new(alloc);
+    for at in 0..log.items().len() {
+        let Some(item) = changed(log.items(), at, change) else {
+            return Err(Fail::new("no item"));
+        };
+        add_times(&mut copy, &item, times(change, at.saturating_add(1)))?;
+    }
+    Ok(copy)
+}
+
+// The worker and the place at which the logs differ, changed so.
+fn found(
+    alloc: Global,
+    outcome: &Outcome,
+    changes: [Change; 2],
+) -> Result<Option<(u8, usize)>, Fail> {
+    let [one, two] = outcome.logs.as_slice() else {
+        return Err(Fail::new("not two logs"));
+    };
+    let first = copied(alloc, one, changes[0])?;
+    let second = copied(alloc, two, changes[1])?;
+    let logs = vec![in alloc; first, second]?;
+    match audit(&outcome.book, logs.as_slice()) {
+        Ok(()) => Ok(None),
+        Err(mismatch) => Ok(Some((mismatch.worker.value(), mismatch.place))),
+    }
+}
+
+// Which worker's log of fifty items is changed and how, and the worker and the place that an audit finds.
+const CHANGES: [(&str, u8, Change, Option<(u8, usize)>); 12] = [
+    ("nothing", 1, Change::Nothing, None),
+    ("a first command", 1, Change::Command(1), Some((1, 1))),
+    ("a command", 2, Change::Command(30), Some((2, 30))),
+    ("a last command", 1, Change::Command(50), Some((1, 50))),
+    ("a reply", 2, Change::Reply(2), Some((2, 2))),
+    ("a place of an entry", 1, Change::Index(9), Some((1, 9))),
+    ("a number", 2, Change::Seq(50), Some((2, 50))),
+    ("a missing item", 1, Change::Missing(20), Some((1, 20))),
+    ("one item short", 2, Change::Missing(50), Some((2, 50))),
+    ("an item twice", 1, Change::Twice(20), Some((1, 21))),
+    ("an item too many", 2, Change::Twice(50), Some((2, 51))),
+    ("two items swapped", 2, Change::Swapped(4), Some((2, 4))),
+];
+
+// Checks what an audit finds in two logs of fifty items each, where one is changed.
+fn check_changes<A: Abort>(rt: &A, alloc: Global, outcome: &Outcome) -> Result<(), Fail> {
+    for (name, worker, change, wanted) in &CHANGES {
+        let changes = match worker {
+            1 => [*change, Change::Nothing],
+            _ => [Change::Nothing, *change],
+        };
+        let place = found(alloc, outcome, changes)?;
+        assert!(rt; place == *wanted, "{name}");
+    }
+    let both = [Change::Reply(50), Change::Missing(1)];
+    assert!(rt; found(alloc, outcome, both)? == Some((1, 50)));
+    Ok(())
+}
+
+fn run<R: Threads + Wait + Sync>(rt: &R, alloc: Global) -> Result<Outcome, Fail> {
+    match run_workers(rt, alloc, day(OPENING)?, hundred(alloc)?, &NoGate) {
+        Ok(outcome) => Ok(outcome),
+        Err(_) => Err(Fail::new("no outcome")),
+    }
+}
+
+#[test]
+fn an_audit_names_the_first_place_that_differs(rt: HostRuntime) -> Result<(), Fail> {
+    let alloc = rt.alloc();
+    let outcome = run(&rt, alloc)?;
+    check_changes(&rt, alloc, &outcome)
+}
+
+// How many whole logs, how many empty ones after them, whether one of an item more, and what is found.
+const COUNTS: [(usize, u8, bool, Option<(u8, usize)>); 7] = [
+    (0, 0, false, Some((1, 1))),
+    (1, 0, false, Some((2, 1))),
+    (1, 3, false, Some((2, 1))),
+    (2, 0, false, None),
+    (2, 62, false, None),
+    (2, 0, true, Some((3, 1))),
+    (2, 61, true, Some((64, 1))),
+];
+
+// So many of the whole logs, then so many empty ones, and then, if asked for, one of an item.
+fn some_logs(
+    alloc: Global,
+    outcome: &Outcome,
+    whole: usize,
+    empty: u8,
+    more: bool,
+) -> Result<Vec<Log>, Fail> {
+    let mut logs = Vec::new(alloc);
+    for log in outcome.logs.as_slice().iter().take(whole) {
+        logs.push(copied(alloc, log, Change::Nothing)?)?;
+    }
+    for _log in 0..empty {
+        logs.push(Log::new(alloc))?;
+    }
+    if more {
+        let mut log = Log::new(alloc);
+        add_first(&mut log, outcome)?;
+        logs.push(log)?;
+    }
+    Ok(logs)
+}
+
+// The worker and the place that an audit of these logs finds.
+fn audited(outcome: &Outcome, logs: &[Log]) -> Result<Option<(u8, usize)>, Fail> {
+    if logs.len() > 64 {
+        return Err(Fail::new("too many logs"));
+    }
+    match audit(&outcome.book, logs) {
+        Ok(()) => Ok(None),
+        Err(mismatch) => Ok(Some((mismatch.worker.value(), mismatch.place))),
+    }
+}
+
+// Checks audits of fewer and of more logs than the two that are whole.
+fn check_counts<A: Abort>(rt: &A, alloc: Global, outcome: &Outcome) -> Result<(), Fail> {
+    for (whole, empty, more, wanted) in &COUNTS {
+        let logs = some_logs(alloc, outcome, *whole, *empty, *more)?;
+        let place = audited(outcome, logs.as_slice())?;
+        assert!(rt; place == *wanted, "{whole} and {empty}");
+    }
+    Ok(())
+}
+
+// Adds the first item of worker 1, which is no other worker's.
+fn add_first(log: &mut Log, outcome: &Outcome) -> Result<(), Fail> {
+    let Some(first) = outcome.logs.as_slice().first() else {
+        return Err(Fail::new("no log"));
+    };
+    let Some(item) = first.items().first() else {
+        return Err(Fail::new("no item"));
+    };
+    add(log, item.receipt, item.command, None)
+}
+
+#[test]
+fn a_worker_without_a_log_has_an_empty_one(rt: HostRuntime) -> Result<(), Fail> {
+    let alloc = rt.alloc();
+    let outcome = run(&rt, alloc)?;
+    check_counts(&rt, alloc, &outcome)
+}
+
+// The sheet of a date that is kept in a log, none where no date is given.
+fn kept(book: &DeskBook, date: Option<&[u8]>) -> Result<Option<Arc<Sheet<Global>>>, Fail> {
+    let Some(text) = date else {
+        return Ok(None);
+    };
+    let Some(sheet) = book.sheet(day(text)?) else {
+        return Err(Fail::new("no sheet"));
+    };
+    match Arc::try_clone(sheet) {
+        Ok(copy) => Ok(Some(copy)),
+        Err(_) => Err(Fail::new("no memory")),
+    }
+}
+
+// The date of the third day.
+const THIRD: &[u8] = b"2024-06-05";
+
+// Takes two days for worker 1, whose sheets differ, and logs them.
+fn take_days(book: &mut DeskBook, log: &mut Log) -> Result<(), Fail> {
+    let commands = [
+        member(101)?,
+        member(202)?,
+        issue(19_500)?,
+        trade(1, 100)?,
+        close(SECOND)?,
+        price(19_500)?,
+        close(THIRD)?,
+    ];
+    for command in commands {
+        let Ok(receipt) = book.take(Worker::FIRST, command) else {
+            return Err(Fail::new("not taken"));
+        };
+        add(log, receipt, command, None)?;
+    }
+    Ok(())
+}
+
+// The place at which a log of two days differs that ends in this command with this sheet.
+fn ending(alloc: Global, command: &Command, date: Option<&[u8]>) -> Result<Option<usize>, Fail> {
+    let Ok(mut book) = Book::new(alloc, day(OPENING)?) else {
+        return Err(Fail::new("no book"));
+    };
+    let mut log = Log::new(alloc);
+    take_days(&mut book, &mut log)?;
+    let Ok(receipt) = book.take(Worker::FIRST, *command) else {
+        return Err(Fail::new("not taken"));
+    };
+    let sheet = kept(&book, date)?;
+    add(&mut log, receipt, *command, sheet)?;
+    let logs = vec![in alloc; log]?;
+    match audit(&book, logs.as_slice()) {
+        Ok(()) => Ok(None),
+        Err(mismatch) => Ok(Some(mismatch.place)),
+    }
+}
+
+// The command that is logged last, the eighth.
+#[derive(Clone, Copy)]
+enum Last {
+    // A statement of an account for the day of a date.
+    Statement(u16, &'static [u8]),
+    Member(u16),
+}
+
+fn command_of(last: Last) -> Result<Command, Fail> {
+    match last {
+        Last::Statement(account, date) => statement(account, date),
+        Last::Member(number) => member(number),
+    }
+}
+
+// The last command, the date of the sheet that is logged with it, and the place at which the log differs.
+const SHEETS: [(&str, Last, Option<&[u8]>, Option<usize>); 6] = [
+    ("no sheet", Last::Statement(101, OPENING), None, None),
+    (
+        "its own",
+        Last::Statement(101, OPENING),
+        Some(OPENING),
+        None,
+    ),
+    (
+        "the corporation",
+        Last::Statement(0, SECOND),
+        Some(SECOND),
+        None,
+    ),
+    (
+        "another",
+        Last::Statement(101, OPENING),
+        Some(SECOND),
+        Some(8),
+    ),
+    (
+        "an open day",
+        Last::Statement(101, THIRD),
+        Some(SECOND),
+        Some(8),
+    ),
+    ("no statement", Last::Member(303), Some(OPENING), Some(8)),
+];
+
+// Checks whether a sheet fits the command that is logged with it.
+fn check_sheets<A: Abort>(rt: &A, alloc: Global) -> Result<(), Fail> {
+    for (name, last, date, wanted) in &SHEETS {
+        let place = ending(alloc, &command_of(*last)?, *date)?;
+        assert!(rt; place == *wanted, "{name}");
+    }
+    Ok(())
+}
+
+#[test]
+fn a_sheet_in_a_log_is_that_of_the_day_of_its_statement(rt: HostRuntime) -> Result<(), Fail> {
+    check_sheets(&rt, rt.alloc())
+}

@@ -1,0 +1,279 @@
+// When the two ends of a replay are called: replies before the next records, and nothing after a failure.
+use super::ends::{Cut, Sink, Source, Watch};
+use super::{POSITION_INPUT, POSITION_OUTPUT, day};
+use cns_feed::{ReplayFault, replay};
+use std::alloc::Global;
+use std::test::Fail;
+
+// How many bytes a writer takes a call and in all, whether a call without room is an error, and how often it can be flushed.
+#[derive(Clone, Copy)]
+struct Limits {
+    step: usize,
+    room: usize,
+    fails: bool,
+    flushes: usize,
+}
+
+const NONE: Limits = Limits {
+    step: usize::MAX,
+    room: usize::MAX,
+    fails: true,
+    flushes: usize::MAX,
+};
+
+// What a replay came to, and what the two ends saw of each other.
+#[derive(Drop)]
+struct Played {
+    fault: Option<ReplayFault>,
+    taken: Vec<u8>,
+    flushed: usize,
+    is_late: bool,
+    is_called_after: bool,
+}
+
+impl Played {
+    // Whether it ended so, wrote this text, and called no end late or after a failure.
+    fn is(&self, fault: Option<ReplayFault>, text: &[u8]) -> bool {
+        self.fault == fault
+            && self.taken.as_slice() == text
+            && !self.is_late
+            && !self.is_called_after
+    }
+}
+
+// Replays the blocks of an input, after which the reader ends or fails.
+fn play(
+    alloc: Global,
+    input: &[u8],
+    cuts: &[Cut],
+    fails: bool,
+    limits: Limits,
+) -> Result<Played, Fail> {
+    let watch = Watch::new();
+    let mut output = Sink {
+        taken: Vec::new(alloc),
+        step: limits.step,
+        room: limits.room,
+        fails: limits.fails,
+        flushes: limits.flushes,
+        watch: &watch,
+    };
+    let source = Source::new(input, cuts, fails, &watch);
+    let fault = replay(alloc, source, &mut output, day("2024-06-03")?).err();
+    Ok(Played {
+        fault,
+        taken: output.taken,
+        flushed: watch.flushed.get(),
+        is_late: watch.is_late.get(),
+        is_called_after: watch.is_called_after.get(),
+    })
+}
+
+// One block, and how many bytes of replies are due after it.
+fn whole(bytes: &[u8], due: usize) -> [Cut; 1] {
+    let end = bytes.len();
+    [Cut { end, due }]
+}
+
+// The blocks of a text, with bars between them.
+fn blocks(alloc: Global, text: &str, dues: &[usize]) -> Result<(Vec<u8>, Vec<Cut>), Fail> {
+    let (mut bytes, mut cuts) = (Vec::new(alloc), Vec::new(alloc));
+    for (block, due) in text.as_bytes().split(|&byte| byte == b'|').zip(dues) {
+        bytes.extend_from_slice(block)?;
+        let (end, due) = (bytes.len(), *due);
+        cuts.push(Cut { end, due })?;
+    }
+    Ok((bytes, cuts))
+}
+
+// Records of that many members with this line end, and the replies to them.
+fn members(alloc: Global, count: u8, end: &[u8]) -> Result<(Vec<u8>, Vec<u8>), Fail> {
+    let (mut input, mut output) = (Vec::new(alloc), Vec::new(alloc));
+    for member in 10..count.saturating_add(10) {
+        input.extend_from_slice(b"MEMBER,")?;
+        input.extend_from_slice(&[b'0' + member / 10 % 10, b'0' + member % 10])?;
+        input.extend_from_slice(end)?;
+        output.extend_from_slice(b"ok\n")?;
+    }
+    Ok((input, output))
+}
+
+// The blocks of members' records, each but the last of that many bytes. The first byte of a line end ends a record, and
+// each reply has three bytes.
+fn pieces(alloc: Global, input: &[u8], line_end: u8, size: usize) -> Result<Vec<Cut>, Fail> {
+    let mut cuts = Vec::new(alloc);
+    let mut due: usize = 0;
+    let mut room = size;
+    for (at, byte) in input.iter().enumerate() {
+        let end = at.saturating_add(1);
+        if *byte == line_end {
+            due = due.saturating_add(3);
+        }
+        room = room.saturating_sub(1);
+        if room == 0 || end == input.len() {
+            cuts.push(Cut { end, due })?;
+            room = size;
+        }
+    }
+    Ok(cuts)
+}
+
+// The blocks of an input, with bars between them, and how many bytes of replies are due after each.
+const BLOCKS: [(&str, &str, &[usize]); 11] = [
+    (
+        "a record at a time",
+        "MEMBER,1\n|MEMBER,1\n|MEMBER,2\n",
+        &[3, 13, 16],
+    ),
+    (
+        "a block that ends inside of a record",
+        "MEMBER,1\nMEMB|ER,2\nMEMBER,3\n",
+        &[3, 9],
+    ),
+    (
+        "a block that ends inside of CR LF",
+        "MEMBER,1\r|\nMEMBER,2\r\n|MEMBER,3\r\n",
+        &[3, 6, 9],
+    ),
+    (
+        "a block that begins with the end of a record",
+        "MEMBER,1|\n|MEMBER,2\n",
+        &[0, 3, 6],
+    ),
+    (
+        "a block that ends inside of a quoted field",
+        "MEMBER,1\nMEMBER,\"2|\"\nMEMBER,3\n",
+        &[3, 9],
+    ),
+    (
+        "a line end in a quoted field",
+        "MEMBER,1\nMEMBER,\"2\n|3\n4|5\"\nMEMBER,6\nMEM",
+        &[3, 3, 18],
+    ),
+    (
+        "whole records after a quote",
+        "\"MEMBER\",1\nMEMBER,2\nMEMBER,3\nMEM|BER,4\n",
+        &[9, 12],
+    ),
+    (
+        "blank lines",
+        "\n\nMEMBER,1\n\n\r\n|\n|\r\nMEMBER,2\n\n",
+        &[3, 3, 6],
+    ),
+    (
+        "a byte order mark",
+        "\u{FEFF}MEMBER,1\n|MEMBER,2\n",
+        &[3, 6],
+    ),
+    ("records at fault", "X\nMEMBER,x\n|MEMBER\n", &[22, 33]),
+    (
+        "a last record without a line end",
+        "MEMBER,1\nMEMBER,2",
+        &[3],
+    ),
+];
+
+#[test]
+fn replies_are_flushed_before_more_is_asked_for(rt: HostRuntime) -> Result<(), Fail> {
+    for (name, text, dues) in &BLOCKS {
+        let (input, cuts) = blocks(rt.alloc(), text, dues)?;
+        let played = play(rt.alloc(), input.as_slice(), cuts.as_slice(), false, NONE)?;
+        let due = dues.last().copied().unwrap_or(0);
+        let is_flushed = due <= played.flushed && played.flushed == played.taken.len();
+        assert!(rt;
+            played.fault.is_none() && !played.is_late && is_flushed,
+            "{name}"
+        );
+    }
+    Ok(())
+}
+
+// Line ends, and the first byte of each.
+const LINE_ENDS: [(&[u8], u8); 3] = [(b"\n", b'\n'), (b"\r\n", b'\r'), (b"\r", b'\r')];
+
+#[test]
+fn replies_are_flushed_wherever_the_input_is_cut(rt: HostRuntime) -> Result<(), Fail> {
+    for (line_end, first) in &LINE_ENDS {
+        let (input, replies) = members(rt.alloc(), 40, line_end)?;
+        for size in 1..=input.len() {
+            let cuts = pieces(rt.alloc(), input.as_slice(), *first, size)?;
+            let played = play(rt.alloc(), input.as_slice(), cuts.as_slice(), false, NONE)?;
+            assert!(rt; played.is(None, replies.as_slice()), "{size}");
+        }
+    }
+    Ok(())
+}
+
+// Whether the reader fails after the records, and what the replay then answers.
+const FAILURES: [(bool, Option<ReplayFault>); 2] = [(false, None), (true, Some(ReplayFault::Read))];
+
+#[test]
+fn each_number_of_records_is_answered_whole_also_where_the_reader_fails_after_them(
+    rt: HostRuntime,
+) -> Result<(), Fail> {
+    for count in 0..=50 {
+        let (input, replies) = members(rt.alloc(), count, b"\n")?;
+        let cuts = whole(input.as_slice(), replies.len());
+        for (fails, fault) in &FAILURES {
+            let played = play(rt.alloc(), input.as_slice(), &cuts, *fails, NONE)?;
+            assert!(rt; played.is(*fault, replies.as_slice()), "{count}");
+        }
+    }
+    Ok(())
+}
+
+#[test]
+fn a_reader_that_fails_inside_of_a_record_is_called_last(rt: HostRuntime) -> Result<(), Fail> {
+    let input = &POSITION_INPUT.as_bytes()[..40];
+    let played = play(rt.alloc(), input, &whole(input, 6), true, NONE)?;
+    assert!(rt; played.is(Some(ReplayFault::Read), b"ok\nok\n"));
+    Ok(())
+}
+
+#[test]
+fn small_writes_give_the_same_text(rt: HostRuntime) -> Result<(), Fail> {
+    let input = POSITION_INPUT.as_bytes();
+    let cuts = whole(input, POSITION_OUTPUT.len());
+    for step in 1..4 {
+        let limits = Limits { step, ..NONE };
+        let played = play(rt.alloc(), input, &cuts, false, limits)?;
+        assert!(rt; played.is(None, POSITION_OUTPUT.as_bytes()), "{step}");
+    }
+    Ok(())
+}
+
+#[test]
+fn a_failing_writer_has_the_bytes_that_it_took_and_is_called_last(
+    rt: HostRuntime,
+) -> Result<(), Fail> {
+    let input = POSITION_INPUT.as_bytes();
+    let cuts = whole(input, 0);
+    for room in 0..POSITION_OUTPUT.len() {
+        let front = &POSITION_OUTPUT.as_bytes()[..room];
+        for fails in [true, false] {
+            let limits = Limits {
+                step: 3,
+                room,
+                fails,
+                ..NONE
+            };
+            let played = play(rt.alloc(), input, &cuts, false, limits)?;
+            assert!(rt; played.is(Some(ReplayFault::Write), front), "{room}");
+        }
+    }
+    Ok(())
+}
+
+// What a writer has that can be flushed no time, once and twice.
+const TAKEN: [&[u8]; 3] = [b"", b"ok\n", b"ok\nok\n"];
+
+#[test]
+fn a_writer_that_cannot_be_flushed_is_called_last(rt: HostRuntime) -> Result<(), Fail> {
+    let (input, cuts) = blocks(rt.alloc(), "MEMBER,1\n|MEMBER,2\n", &[3, 6])?;
+    for (flushes, text) in TAKEN.iter().enumerate() {
+        let limits = Limits { flushes, ..NONE };
+        let played = play(rt.alloc(), input.as_slice(), cuts.as_slice(), false, limits)?;
+        assert!(rt; played.is(Some(ReplayFault::Write), text), "{flushes}");
+    }
+    Ok(())
+}

@@ -1,0 +1,39 @@
+//! Tests of the crates below the book: units, terms, the tree, positions, prices, trades, dividends, splits and
+//! exchanges, notices, retransmittal.
+//!
+//! They use public names alone and stand in a crate of their own, so that no crate below is proved once more for its
+//! tests. They say what no clause says: worked values, that a call succeeds where there is memory, and refused memory.
+//! Cases are tables, `const` where they can be: one in a body would be proved with it. There is a file for each crate,
+//! or for a part of one; `heaps.rt` is shared.
+#![tactic(auto)]
+
+#[cfg(test)]
+mod action_limits;
+#[cfg(test)]
+mod actions;
+#[cfg(test)]
+mod batch_days;
+#[cfg(test)]
+mod batches;
+#[cfg(test)]
+mod calls;
+#[cfg(test)]
+mod conversions;
+#[cfg(test)]
+mod dividends;
+#[cfg(test)]
+mod heaps;
+#[cfg(test)]
+mod notices;
+#[cfg(test)]
+mod positions;
+#[cfg(test)]
+mod prices;
+#[cfg(test)]
+mod terms;
+#[cfg(test)]
+mod trades;
+#[cfg(test)]
+mod tree;
+#[cfg(test)]
+mod units;

@@ -1,0 +1,12 @@
+use Rattle.std.proofs.Common.{◌≡◌, ◌≤◌, ◌*◌, map}
+use Rattle.serde_json.specs.View.{view}
+use Rattle.cns_program.specs.Summary.{counts_to, lines_to, whole, workers_of}
+use Rattle.cns_program.proofs.summary.tally_of.Given as goal
+
+abbrev pub invariant-loop-place : goal.invariant-loop-place
+invariant-loop-place l = record {
+  end : l.place-end ≡ workers_of l.logs;
+  counts : map view l.counts.items ≡ map whole (counts_to l.book l.place);
+  lines : l.lines ≡ lines_to l.logs l.place;
+  small : l.lines ≤ l.place * 4294967295;
+}

@@ -1,0 +1,48 @@
+-- The statements of a day, as the program writes them.
+use Rattle.std.specs.Prelude.{◌≡◌, ℕ, List, Option, None, MatchOption}
+use Rattle.std.specs.Io.KnownBytes.{Appends}
+use Rattle.std.specs.List.{flat_map}
+use Rattle.std.specs.declared.alloc.Global.{Global}
+use Rattle.cns_units.specs.declared.day.Day.{Day}
+use Rattle.cns_terms.specs.Laws.{journal_of}
+use Rattle.cns_terms.specs.Sheets.{DaySheet, sheet_on}
+use Rattle.cns_book.specs.Log.{Log, state_of}
+use Rattle.cns_feed.specs.Output.{lines_of}
+use Rattle.cns_feed.specs.Replay.{blank_log, log_after}
+use Rattle.cns_statements.specs.Packs.{statements_of}
+use Rattle.cns_statements.specs.Texts.{statement_text}
+use Rattle.cns_statements.specs.declared.contents.Statement.{Statement}
+use Rattle.cns_program.specs.Lines.{IsTold}
+use Rattle.cns_program.specs.declared.fault.Fault.{Fault}
+use Rattle.cns_program.specs.declared.fault.Fault.TheVariants as fault
+
+-- the text of one statement
+abbrev pub text_of_one : Statement Global → List ℕ
+text_of_one s = statement_text s.account s.date s.rows s.mark s.dividend
+
+-- the texts of statements, in order
+abbrev pub statements_text : List (Statement Global) → List ℕ
+statements_text ss = flat_map text_of_one ss
+
+-- the book after the records of an input
+abbrev pub loaded : Day → List ℕ → Log
+loaded opening bytes = log_after (blank_log opening) (lines_of bytes)
+
+-- the sheet that a book has for a day
+abbrev pub sheet_of : Log → Day → Option DaySheet
+sheet_of b day = sheet_on b.opening (journal_of (state_of b)) day
+
+-- the day is closed, and the statements of all accounts with a row were written
+abbrev pub WritesDay : Log → Day → Option (List ℕ) → Option (List ℕ) → Type 0
+WritesDay b day old new = MatchOption (sheet_of b day) ⊥ (λ s. Appends old new (statements_text (statements_of s)))
+
+-- they were not: nothing was written, or, where writing failed, a front of them
+abbrev pub FailsDay : Fault → Log → Day → Option (List ℕ) → Option (List ℕ) → Type 0
+FailsDay fault.Read b day old new = new ≡ old
+FailsDay fault.Write b day old new = MatchOption (sheet_of b day) ⊥ (λ s. IsTold old new (statements_text (statements_of s)))
+FailsDay fault.NoMemory b day old new = new ≡ old
+FailsDay fault.Full b day old new = ⊥
+FailsDay (fault.Open file) b day old new = ⊥
+FailsDay fault.Spawn b day old new = new ≡ old
+FailsDay fault.Mismatch b day old new = ⊥
+FailsDay fault.NoSuchDay b day old new = (new ≡ old) × (sheet_of b day ≡ None)

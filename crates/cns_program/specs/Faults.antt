@@ -1,0 +1,52 @@
+-- Which faults of the program the faults of its parts are.
+use Rattle.std.specs.Prelude.{ℕ, ◌≤◌, ⊤, Option, Some, None}
+use Rattle.cns_desk.specs.declared.fault.RunFault.{RunFault}
+use Rattle.cns_desk.specs.declared.fault.RunFault.TheVariants as runs
+use Rattle.cns_feed.specs.declared.fault.ReplayFault.{ReplayFault}
+use Rattle.cns_feed.specs.declared.fault.ReplayFault.TheVariants as replays
+use Rattle.cns_statements.specs.declared.fault.PackFault.{PackFault}
+use Rattle.cns_statements.specs.declared.fault.PackFault.TheVariants as packs
+use Rattle.cns_program.specs.declared.fault.Fault.{Fault}
+use Rattle.cns_program.specs.declared.fault.Fault.TheVariants as fault
+
+-- a replay's fault
+abbrev pub of_replay : ReplayFault → Fault
+of_replay replays.Read = fault.Read
+of_replay replays.Write = fault.Write
+of_replay replays.NoMemory = fault.NoMemory
+of_replay replays.Full = fault.Full
+
+-- the fault of a run over a right number of files
+abbrev pub of_run : RunFault → Option Fault
+of_run runs.Workers = None
+of_run runs.Spawn = Some fault.Spawn
+of_run runs.NoMemory = Some fault.NoMemory
+of_run runs.Mismatch = Some fault.Mismatch
+
+-- the fault of a packing by a right number of workers
+abbrev pub of_pack : PackFault → Option Fault
+of_pack packs.Workers = None
+of_pack packs.Spawn = Some fault.Spawn
+of_pack packs.NoMemory = Some fault.NoMemory
+
+-- a fault of opening so many files: it names one of them, or memory was refused
+abbrev pub IsOfOpening : ℕ → Fault → Type 0
+IsOfOpening files fault.Read = ⊥
+IsOfOpening files fault.Write = ⊥
+IsOfOpening files fault.NoMemory = ⊤
+IsOfOpening files fault.Full = ⊥
+IsOfOpening files (fault.Open file) = (1 ≤ file) × (file ≤ files)
+IsOfOpening files fault.Spawn = ⊥
+IsOfOpening files fault.Mismatch = ⊥
+IsOfOpening files fault.NoSuchDay = ⊥
+
+-- a fault of a run over so many files, before anything is written
+abbrev pub IsOfRun : ℕ → Fault → Type 0
+IsOfRun files fault.Read = ⊥
+IsOfRun files fault.Write = ⊥
+IsOfRun files fault.NoMemory = ⊤
+IsOfRun files fault.Full = ⊥
+IsOfRun files (fault.Open file) = (1 ≤ file) × (file ≤ files)
+IsOfRun files fault.Spawn = ⊤
+IsOfRun files fault.Mismatch = ⊤
+IsOfRun files fault.NoSuchDay = ⊥

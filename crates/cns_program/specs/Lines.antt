@@ -1,0 +1,67 @@
+-- What the program writes to standard error.
+use Rattle.std.specs.Prelude.{ℕ, ◌+◌, ◌++◌, ◌∷◌, [], List, Option, Some, None, ◌⊎◌, codes}
+use Rattle.std.specs.Fmt.{decimal}
+use Rattle.std.specs.Io.KnownBytes.{Appends}
+use Rattle.cns_units.specs.Output.{AppendsFront}
+use Rattle.cns_terms.specs.declared.source.SourceFault.TheVariants as source
+use Rattle.cns_desk.specs.declared.end.End.{End}
+use Rattle.cns_desk.specs.declared.end.End.TheVariants as ended
+use Rattle.cns_statements.specs.Words.{text_line}
+use Rattle.cns_program.specs.declared.fault.Fault.{Fault}
+use Rattle.cns_program.specs.declared.fault.Fault.TheVariants as fault
+
+-- the usage, for a refused line
+abbrev pub usage_line : List ℕ
+usage_line = codes "usage: cnsbook replay --open DATE | run --open DATE FILE... | statements --open DATE --day DATE --workers N" ++ 10 ∷ []
+
+-- the word for a fault
+abbrev pub fault_name : Fault → List ℕ
+fault_name fault.Read = codes "Read"
+fault_name fault.Write = codes "Write"
+fault_name fault.NoMemory = codes "NoMemory"
+fault_name fault.Full = codes "Full"
+fault_name (fault.Open file) = codes "Open"
+fault_name fault.Spawn = codes "Spawn"
+fault_name fault.Mismatch = codes "Mismatch"
+fault_name fault.NoSuchDay = codes "NoSuchDay"
+
+-- the number of a file that could not be opened, from 1, which follows the word
+abbrev pub fault_file : Fault → List (List ℕ)
+fault_file fault.Read = []
+fault_file fault.Write = []
+fault_file fault.NoMemory = []
+fault_file fault.Full = []
+fault_file (fault.Open file) = decimal file ∷ []
+fault_file fault.Spawn = []
+fault_file fault.Mismatch = []
+fault_file fault.NoSuchDay = []
+
+-- `fault`, its word and what follows
+abbrev pub fault_line : Fault → List ℕ
+fault_line f = text_line (codes "fault") (fault_name f ∷ fault_file f)
+
+-- the word for the end of a worker that ended early
+abbrev pub end_name : End → Option (List ℕ)
+end_name ended.Complete = None
+end_name (ended.Source source.Read) = Some (codes "Read")
+end_name (ended.Source source.NoMemory) = Some (codes "NoMemory")
+end_name ended.NoMemory = Some (codes "NoMemory")
+end_name ended.Full = Some (codes "Full")
+
+-- `worker`, its number and the word
+abbrev pub named_line : ℕ → Option (List ℕ) → List ℕ
+named_line number None = []
+named_line number (Some name) = text_line (codes "worker") (decimal number ∷ name ∷ [])
+
+-- the line of a worker that ended early; nothing for one that came to the end of its source
+abbrev pub end_line : ℕ → End → List ℕ
+end_line number e = named_line number (end_name e)
+
+-- the lines of the workers from a number on
+abbrev pub end_lines : ℕ → List End → List ℕ
+end_lines number [] = []
+end_lines number (e ∷ es) = end_line number e ++ end_lines (number + 1) es
+
+-- the line was written to its end, or, where the writer failed, a front of it that is not all of it
+abbrev pub IsTold : Option (List ℕ) → Option (List ℕ) → List ℕ → Type 0
+IsTold old new line = Appends old new line ⊎ AppendsFront old new line

@@ -1,0 +1,56 @@
+// The subcommand `replay`.
+ghost use Rattle.std.specs.Prelude.{◌≡◌, ◌≤◌, IfErr, IfSome, OnOk};
+ghost use Rattle.std.specs.Io.KnownBytes.{Appends};
+ghost use Rattle.cns_feed.specs.Output.{output as output_of};
+ghost use Rattle.cns_program.specs.Ends.{FailsReplay, TellsReplay};
+
+use crate::ended::{Ended, fail};
+use crate::fault::Fault;
+use cns_feed::{ReplayFault, replay};
+use cns_units::Day;
+use std::alloc::Global;
+use std::convert::From;
+use std::io::{Read, Write};
+
+// Replays the input, and flushes the output also where the replay failed: what was answered is to be seen.
+fn replay_input<I: Read + Drop, O: Write>(
+    alloc: Global,
+    opening: Day,
+    input: I,
+    output: &mut O,
+) -> Result<(), ReplayFault>
+    ensures output { OnOk result (IfSome (I.remaining input)
+        (λ bytes. Appends (O.contents output.old) (O.contents output.new) (output_of opening bytes))) }
+    ensures fault { IfErr result (λ f. FailsReplay f opening (I.remaining input) (O.contents output.old) (O.contents output.new)) }
+{
+    let played = replay(alloc, input, output, opening);
+    let flushed = output.flush();
+    if let Err(fault) = played {
+        return Err(fault);
+    }
+    match flushed {
+        Ok(()) => Ok(()),
+        Err(_) => Err(ReplayFault::Write),
+    }
+}
+
+/// Replays the input by a book that opens on the date, and tells a fault.
+pub fn tell_replay<I: Read + Drop, O: Write, E: Write>(
+    alloc: Global,
+    opening: Day,
+    input: I,
+    output: &mut O,
+    errors: &mut E,
+) -> Ended
+    ensures status { result.status ≤ 1 }
+    ensures done { result.status ≡ 0 → IfSome (I.remaining input)
+        (λ bytes. Appends (O.contents output.old) (O.contents output.new) (output_of opening bytes)) }
+    ensures quiet { result.status ≡ 0 → errors.new ≡ errors.old }
+    ensures told { result.status ≡ 1 → TellsReplay opening (I.remaining input) (O.contents output.old) (O.contents output.new)
+        (E.contents errors.old) (E.contents errors.new) result.told }
+{
+    match replay_input(alloc, opening, input, output) {
+        Ok(()) => Ended::DONE,
+        Err(fault) => fail(Fault::from(fault), errors),
+    }
+}

@@ -1,0 +1,75 @@
+// The subcommand `run`.
+ghost use Rattle.std.specs.Prelude.{◌≡◌, ◌≤◌, IfErr, IfOk, length, vec_len};
+ghost use Rattle.cns_program.specs.Ends.{IsOutcome, IsRun, TellsRun};
+ghost use Rattle.cns_program.specs.Faults.{IsOfOpening, IsOfRun};
+
+use crate::ended::{Ended, fail};
+use crate::fault::Fault;
+use crate::outcome::tell_outcome;
+use cns_desk::{Outcome, run_workers};
+use cns_feed::CsvSource;
+use cns_terms::NoGate;
+use cns_units::Day;
+use std::fs;
+use std::io::{Read, Write};
+use std::rt::Files;
+use std::sync::Wait;
+use std::thread::Threads;
+
+// Opens the files, from left to right, as the sources of the workers.
+fn open_files<F: Read + Drop, R: AllocGlobal + Files<File = F>>(
+    rt: &R,
+    files: &[&str],
+) -> Result<Vec<CsvSource<F>>, Fault>
+    ensures ok { IfOk result (λ v. vec_len v ≡ length files.now) }
+    ensures err { IfErr result (λ f. IsOfOpening (length files.now) f) }
+{
+    let mut sources = Vec::new(rt.alloc());
+    for (place, name) in files.iter().enumerate() {
+        let Ok(file) = fs::open(rt, *name) else {
+            return Err(Fault::Open(place as u64 + 1));
+        };
+        let Ok(()) = sources.push(CsvSource::new(rt.alloc(), file)) else {
+            return Err(Fault::NoMemory);
+        };
+    }
+    Ok(sources)
+}
+
+// Opens the files and runs a worker for each. Where one cannot be opened no worker is started.
+fn run_files<F: Read + Send + Drop, R: AllocGlobal + Files<File = F> + Threads + Wait + Sync>(
+    rt: &R,
+    opening: Day,
+    files: &[&str],
+) -> Result<Outcome, Fault>
+    requires { (1 ≤ length files.now) × (length files.now ≤ 64) }
+    ensures ok { IfOk result (λ o. IsOutcome (length files.now) o) }
+    ensures err { IfErr result (λ f. IsOfRun (length files.now) f) }
+{
+    let sources = open_files(rt, files)?;
+    match run_workers(rt, rt.alloc(), opening, sources, &NoGate) {
+        Ok(outcome) => Ok(outcome),
+        Err(fault) => Err(Fault::of_run(fault)),
+    }
+}
+
+/// Runs a worker for each of the files, of which there are 1 to 64, over a book that opens on the date, and tells what it
+/// came to. Where a file cannot be opened no worker is started.
+pub fn tell_run<
+    F: Read + Send + Drop,
+    R: AllocGlobal + Files<File = F> + Threads + Wait + Sync,
+    O: Write,
+    E: Write,
+>(rt: &R, opening: Day, files: &[&str], output: &mut O, errors: &mut E) -> Ended
+    requires { (1 ≤ length files.now) × (length files.now ≤ 64) }
+    ensures status { result.status ≤ 1 }
+    ensures done { result.status ≡ 0 → IsRun (length files.now) (O.contents output.old) (O.contents output.new) }
+    ensures quiet { result.status ≡ 0 → errors.new ≡ errors.old }
+    ensures told { result.status ≡ 1 → TellsRun (length files.now) (O.contents output.old) (O.contents output.new)
+        (E.contents errors.old) (E.contents errors.new) result.told }
+{
+    match run_files(rt, opening, files) {
+        Ok(outcome) => tell_outcome(&outcome, output, errors),
+        Err(fault) => fail(fault, errors),
+    }
+}

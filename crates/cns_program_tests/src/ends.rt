@@ -1,0 +1,116 @@
+// Readers and writers that fail, and what a line comes to.
+use cns_program::program;
+use std::io;
+use std::io::{Error, ErrorKind, Read, Write};
+use std::rt::Files;
+use std::sync::Wait;
+use std::thread::Threads;
+
+pub(crate) const USAGE: &str =
+    "usage: cnsbook replay --open DATE | run --open DATE FILE... | statements --open DATE --day DATE --workers N\n";
+
+// A reader that gives its bytes, and then ends or fails.
+#[derive(Drop)]
+pub(crate) struct Part<'a> {
+    pub(crate) bytes: &'a [u8],
+    pub(crate) fails: bool,
+}
+
+impl Read for Part<'_> {
+    fn read(&mut self, buf: &mut [u8]) -> io::Result<usize> {
+        if self.fails && self.bytes.is_empty() {
+            return Err(Error::from(ErrorKind::Other));
+        }
+        self.bytes.read(buf)
+    }
+}
+
+// A writer that has room for so many bytes, can be flushed so many times, and notes how many bytes were flushed.
+#[derive(Drop)]
+pub(crate) struct Stuck {
+    pub(crate) taken: Vec<u8>,
+    pub(crate) room: usize,
+    pub(crate) flushes: usize,
+    pub(crate) flushed: usize,
+}
+
+impl Stuck {
+    pub(crate) fn new(taken: Vec<u8>, room: usize, flushes: usize) -> Stuck {
+        Stuck {
+            taken,
+            room,
+            flushes,
+            flushed: 0,
+        }
+    }
+}
+
+impl Write for Stuck {
+    fn write(&mut self, buf: &[u8]) -> io::Result<usize> {
+        let count = buf.len().min(self.room);
+        if count == 0 && !buf.is_empty() {
+            return Err(Error::from(ErrorKind::Other));
+        }
+        self.taken.extend_from_slice(&buf[..count])?;
+        self.room -= count;
+        Ok(count)
+    }
+
+    fn flush(&mut self) -> io::Result<()> {
+        if self.flushes == 0 {
+            return Err(Error::from(ErrorKind::Other));
+        }
+        self.flushes -= 1;
+        self.flushed = self.taken.len();
+        Ok(())
+    }
+}
+
+// What a line came to: its status, and what went to the two writers.
+#[derive(Drop)]
+pub(crate) struct Told {
+    pub(crate) status: u8,
+    pub(crate) output: Vec<u8>,
+    pub(crate) errors: Vec<u8>,
+}
+
+impl Told {
+    pub(crate) fn is(&self, status: u8, output: &str, errors: &str) -> bool {
+        self.status == status
+            && self.output.as_slice() == output.as_bytes()
+            && self.errors.as_slice() == errors.as_bytes()
+    }
+}
+
+// Runs a line over an input.
+pub(crate) fn tell<
+    F: Read + Send + Drop,
+    R: AllocGlobal + Files<File = F> + Threads + Wait + Sync,
+    I: Read + Drop,
+>(rt: &R, words: &[&str], input: I) -> Told {
+    let mut output = Vec::new(rt.alloc());
+    let mut errors = Vec::new(rt.alloc());
+    let status = program(rt, words, input, &mut output, &mut errors);
+    Told {
+        status,
+        output,
+        errors,
+    }
+}
+
+// Runs a line over an input and a writer of its own.
+pub(crate) fn tell_into<
+    F: Read + Send + Drop,
+    R: AllocGlobal + Files<File = F> + Threads + Wait + Sync,
+    I: Read + Drop,
+>(rt: &R, words: &[&str], input: I, mut output: Stuck) -> (Told, usize) {
+    let mut errors = Vec::new(rt.alloc());
+    let status = program(rt, words, input, &mut output, &mut errors);
+    let flushed = output.flushed;
+    let told = Told {
+        status,
+        output: output.taken,
+        errors,
+    };
+    (told, flushed)
+}

@@ -1,0 +1,189 @@
+// Lines that are refused or taken, and ends that fail in a replay.
+use crate::ends::{Part, Stuck, USAGE, tell, tell_into};
+use cns_program::{refuse_words, run_line};
+use std::io::{Error, ErrorKind};
+use std::test::Fail;
+
+const REPLAY: &[&str] = &["cnsbook", "replay", "--open", "2024-06-03"];
+
+const MEMBER: &[u8] = b"MEMBER,1\n";
+
+const REFUSED: [&[&str]; 33] = [
+    &[],
+    &["cnsbook"],
+    &["cnsbook", "replay"],
+    &["cnsbook", "replay", "--open"],
+    &["cnsbook", "replay", "--open", "2024-02-30"],
+    &["cnsbook", "replay", "--open", "2024-6-3"],
+    &["cnsbook", "replay", "--open", ""],
+    &["cnsbook", "replay", "2024-06-03"],
+    &["cnsbook", "replay", "-o"],
+    &["cnsbook", "replay", "-o", "2024-06-03"],
+    &["cnsbook", "replay", "-o2024-06-03"],
+    &["cnsbook", "replay", "-open", "2024-06-03"],
+    &["cnsbook", "replay", "--open", "2024-06-03", "more"],
+    &[
+        "cnsbook",
+        "replay",
+        "--open",
+        "2024-06-03",
+        "--open",
+        "2024-06-03",
+    ],
+    &["cnsbook", "replay", "--open", "2024-06-03", "--help"],
+    &["cnsbook", "replay", "--help"],
+    &["cnsbook", "replay", "-h"],
+    &["cnsbook", "replay", "--version"],
+    &["cnsbook", "replay", "help"],
+    &["cnsbook", "--open", "2024-06-03", "replay"],
+    &["cnsbook", "--help"],
+    &["cnsbook", "help"],
+    &["cnsbook", "--version"],
+    &["cnsbook", "Replay", "--open", "2024-06-03"],
+    &["cnsbook", "run"],
+    &["cnsbook", "run", "FILE"],
+    &["cnsbook", "run", "--open", "2024-06-03"],
+    &["cnsbook", "run", "--open", "2024-06-31", "FILE"],
+    &["cnsbook", "run", "--open", "2024-06-03", "FILE", "--help"],
+    &["cnsbook", "statements", "--open", "2024-06-03"],
+    &[
+        "cnsbook",
+        "statements",
+        "--open",
+        "2024-06-03",
+        "--day",
+        "2024-06-03",
+    ],
+    &[
+        "cnsbook",
+        "statements",
+        "--open",
+        "2024-06-03",
+        "--day",
+        "2024-06-31",
+        "--workers",
+        "1",
+    ],
+    &[
+        "cnsbook",
+        "statements",
+        "--open",
+        "2024-06-03",
+        "--day",
+        "2024-06-03",
+        "--workers",
+        "1",
+        "more",
+    ],
+];
+
+#[test]
+fn a_refused_line_gets_the_usage(rt: HostRuntime) -> Result<(), Fail> {
+    for (at, words) in REFUSED.iter().enumerate() {
+        assert!(rt; tell(&rt, words, MEMBER).is(2, "", USAGE), "line {at}");
+    }
+    Ok(())
+}
+
+// The kind of an error of the words, the status and the line.
+const WORDS: [(ErrorKind, u8, &str); 2] = [
+    (ErrorKind::OutOfMemory, 1, "fault NoMemory\n"),
+    (ErrorKind::InvalidData, 2, USAGE),
+];
+
+#[test]
+fn want_of_memory_for_the_words_is_a_fault_and_other_errors_refuse_the_line(
+    rt: HostRuntime,
+) -> Result<(), Fail> {
+    for (kind, status, text) in &WORDS {
+        let mut errors = Vec::new(rt.alloc());
+        let ended = refuse_words(&Error::from(*kind), &mut errors);
+        assert_eq!(rt; ended.status, *status);
+        assert_eq!(rt; errors.as_slice(), text.as_bytes());
+    }
+    Ok(())
+}
+
+const TAKEN: [&[&str]; 2] = [REPLAY, &["cnsbook", "replay", "--open=2024-06-03"]];
+
+#[test]
+fn a_replay_opens_on_its_date_and_writes_the_replies(rt: HostRuntime) -> Result<(), Fail> {
+    let input = b"MEMBER,1\nCLOSE\nCLOSE,2024-06-04\n".as_slice();
+    let replies = "ok\nline Count\nclosed 1 2024-06-03 0 0\n";
+    for (at, words) in TAKEN.iter().enumerate() {
+        assert!(rt; tell(&rt, words, input).is(0, replies, ""), "line {at}");
+    }
+    Ok(())
+}
+
+// How many times a writer can be flushed, and what it then takes.
+const FLUSHES: [(usize, &str); 3] = [(0, ""), (1, "ok\n"), (2, "ok\n")];
+
+// The writer is flushed before each of the two reads, and at the end.
+#[test]
+fn a_failed_flush_is_a_fault_of_writing(rt: HostRuntime) -> Result<(), Fail> {
+    for (flushes, taken) in &FLUSHES {
+        let output = Stuck::new(Vec::new(rt.alloc()), usize::MAX, *flushes);
+        let (told, _) = tell_into(&rt, REPLAY, MEMBER, output);
+        assert!(rt; told.is(1, taken, "fault Write\n"), "{flushes} flushes");
+    }
+    Ok(())
+}
+
+// Both replies are written for one block, so that only the last flush can hand them on.
+#[test]
+fn what_a_writer_took_is_flushed_also_where_it_fails(rt: HostRuntime) -> Result<(), Fail> {
+    let input = b"MEMBER,1\nMEMBER,1\n".as_slice();
+    let replies = "ok\nrefused 1\n";
+    for room in 0..replies.len() {
+        let output = Stuck::new(Vec::new(rt.alloc()), room, usize::MAX);
+        let (told, flushed) = tell_into(&rt, REPLAY, input, output);
+        let front = &replies.as_bytes()[..room];
+        assert_eq!(rt; told.status, 1, "{room}");
+        assert_eq!(rt; (told.output.as_slice(), flushed), (front, room), "{room}");
+        assert_eq!(rt;
+            told.errors.as_slice(),
+            b"fault Write\n".as_slice(),
+            "{room}"
+        );
+    }
+    Ok(())
+}
+
+// What a reader gives before it fails, and the replies.
+const BROKEN: [(&[u8], &str); 4] = [
+    (b"", ""),
+    (MEMBER, "ok\n"),
+    (b"MEMBER,1\nMEMBER,1\n", "ok\nrefused 1\n"),
+    (b"MEMBER,1\nMEMB", "ok\n"),
+];
+
+#[test]
+fn what_was_answered_before_a_fault_stands_in_the_output(rt: HostRuntime) -> Result<(), Fail> {
+    for (bytes, replies) in &BROKEN {
+        let input = Part { bytes, fails: true };
+        let told = tell(&rt, REPLAY, input);
+        assert!(rt; told.is(1, replies, "fault Read\n"), "{replies}");
+    }
+    Ok(())
+}
+
+// Words, and the status and the line that they come to over a reader that fails at once.
+const UNTOLD: [(&[&str], u8, &str); 2] = [(&["cnsbook"], 2, USAGE), (REPLAY, 1, "fault Read\n")];
+
+#[test]
+fn errors_that_cannot_be_written_change_no_status(rt: HostRuntime) -> Result<(), Fail> {
+    for (words, status, line) in &UNTOLD {
+        let mut errors = Stuck::new(Vec::new(rt.alloc()), 5, 0);
+        let mut output = Vec::new(rt.alloc());
+        let input = Part {
+            bytes: b"",
+            fails: true,
+        };
+        let ended = run_line(&rt, words, input, &mut output, &mut errors);
+        assert_eq!(rt; ended.status, *status, "{line}");
+        assert!(rt; ended.told.is_err(), "{line}");
+        assert_eq!(rt; errors.taken.as_slice(), &line.as_bytes()[..5], "{line}");
+    }
+    Ok(())
+}

@@ -1,0 +1,147 @@
+// What is told of a run: its summary, and the workers that ended early.
+use crate::ends::{Part, Stuck, Told};
+use cns_desk::{Outcome, run_workers};
+use cns_feed::CsvSource;
+use cns_program::write_outcome;
+use cns_terms::NoGate;
+use cns_units::Day;
+use std::alloc::Global;
+use std::sync::Wait;
+use std::test::Fail;
+use std::thread::Threads;
+
+// Runs a worker for each text. Those of the second list fail after their bytes.
+fn run<R: Threads + Wait + Sync>(
+    rt: &R,
+    alloc: Global,
+    whole: &[&str],
+    failing: &[&str],
+) -> Result<Outcome, Fail> {
+    let Ok(opening) = Day::parse(b"2024-06-03") else {
+        return Err(Fail::new("no date"));
+    };
+    let mut sources = Vec::new(alloc);
+    for (texts, fails) in [(whole, false), (failing, true)] {
+        for text in texts {
+            let bytes = text.as_bytes();
+            sources.push(CsvSource::new(alloc, Part { bytes, fails }))?;
+        }
+    }
+    match run_workers(rt, alloc, opening, sources, &NoGate) {
+        Ok(outcome) => Ok(outcome),
+        Err(_) => Err(Fail::new("no outcome")),
+    }
+}
+
+// What is told of such a run.
+fn told<R: Threads + Wait + Sync>(
+    rt: &R,
+    alloc: Global,
+    whole: &[&str],
+    failing: &[&str],
+) -> Result<Told, Fail> {
+    let mut output = Vec::new(alloc);
+    let mut errors = Vec::new(alloc);
+    let outcome = run(rt, alloc, whole, failing)?;
+    let status = write_outcome(&outcome, &mut output, &mut errors);
+    Ok(Told {
+        status,
+        output,
+        errors,
+    })
+}
+
+// The same of a worker that came to its end and one that did not, over a writer that has room for so many bytes and can
+// be flushed so many times.
+fn told_short<R: Threads + Wait + Sync>(
+    rt: &R,
+    alloc: Global,
+    room: usize,
+    flushes: usize,
+) -> Result<Told, Fail> {
+    let mut output = Stuck::new(Vec::new(alloc), room, flushes);
+    let mut errors = Vec::new(alloc);
+    let outcome = run(rt, alloc, &["MEMBER,101\n"], &[""])?;
+    let status = write_outcome(&outcome, &mut output, &mut errors);
+    Ok(Told {
+        status,
+        output: output.taken,
+        errors,
+    })
+}
+
+// The texts of the workers, and the summary.
+const RUNS: [(&[&str], &str); 4] = [
+    (
+        &[""],
+        "{\"closes\":0,\"commands\":0,\"counts\":[0],\"dividends\":\"0.00\",\"lines\":0,\"marks\":\"0.00\"}\n",
+    ),
+    (
+        &["MEMBER,101\nCLOSE,2024-06-04\nCLOSE,2024-06-03\nCLOSE,2024-06-05\n"],
+        "{\"closes\":2,\"commands\":4,\"counts\":[4],\"dividends\":\"0.00\",\"lines\":0,\"marks\":\"0.00\"}\n",
+    ),
+    (
+        &[
+            "MEMBER,101\nMEMBER,x\nMEMBER,101\n",
+            "MEMBER,202\n",
+            "no,kind\n",
+        ],
+        "{\"closes\":0,\"commands\":3,\"counts\":[2,1,0],\"dividends\":\"0.00\",\"lines\":2,\"marks\":\"0.00\"}\n",
+    ),
+    (
+        &[
+            "MEMBER,1\n",
+            "MEMBER,2\n",
+            "MEMBER,3\n",
+            "MEMBER,4\n",
+            "MEMBER,5\n",
+        ],
+        "{\"closes\":0,\"commands\":5,\"counts\":[1,1,1,1,1],\"dividends\":\"0.00\",\"lines\":0,\"marks\":\"0.00\"}\n",
+    ),
+];
+
+#[test]
+fn a_run_whose_sources_come_to_their_ends_tells_its_summary(rt: HostRuntime) -> Result<(), Fail> {
+    for (texts, summary) in &RUNS {
+        let told = told(&rt, rt.alloc(), texts, &[])?;
+        assert!(rt; told.is(0, summary, ""), "{summary}");
+    }
+    Ok(())
+}
+
+const EARLY: &str =
+    "{\"closes\":0,\"commands\":3,\"counts\":[1,2,0],\"dividends\":\"0.00\",\"lines\":1,\"marks\":\"0.00\"}\n";
+
+#[test]
+fn workers_that_ended_early_are_told_after_the_summary(rt: HostRuntime) -> Result<(), Fail> {
+    let failing = ["MEMBER,101\nMEMBER,x\nMEMBER,202\n", ""];
+    let told = told(&rt, rt.alloc(), &["MEMBER,303\n"], &failing)?;
+    assert!(rt; told.is(1, EARLY, "worker 2 Read\nworker 3 Read\n"));
+    Ok(())
+}
+
+// Whatever number of bytes the writer takes, what it took is a front of the summary, and its fault is the only line,
+// though a worker ended early.
+#[test]
+fn a_summary_that_cannot_be_written_is_the_only_fault(rt: HostRuntime) -> Result<(), Fail> {
+    let summary = told(&rt, rt.alloc(), &["MEMBER,101\n"], &[""])?.output;
+    for room in 0..summary.len() {
+        let told = told_short(&rt, rt.alloc(), room, usize::MAX)?;
+        assert_eq!(rt; told.status, 1, "{room}");
+        assert_eq!(rt; told.output.as_slice(), &summary[..room], "{room}");
+        assert_eq!(rt;
+            told.errors.as_slice(),
+            b"fault Write\n".as_slice(),
+            "{room}"
+        );
+    }
+    Ok(())
+}
+
+#[test]
+fn a_summary_that_cannot_be_flushed_is_a_fault_of_writing(rt: HostRuntime) -> Result<(), Fail> {
+    let told = told_short(&rt, rt.alloc(), usize::MAX, 0)?;
+    assert_eq!(rt; told.status, 1);
+    assert_eq!(rt; told.errors.as_slice(), b"fault Write\n".as_slice());
+    Ok(())
+}

@@ -1,4 +1,0 @@
-use Rattle.cnsbook.proofs.outcome.write_outcome.Goals as goal
-
-pub returns-clause-told : goal.returns-clause-told
-returns-clause-told g c is = (c.tell_outcome.result.told, c.tell_outcome.ensures.told is)
