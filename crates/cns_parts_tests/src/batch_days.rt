@@ -1,5 +1,5 @@
 // Tests of what is called at a close, and of the batches of all days.
-ghost use Rattle.std.specs.Prelude.{◌≡◌, ◌<◌, ◌^◌, IfOk};
+ghost use Rattle.std.specs.Prelude.{◌<◌, ◌^◌, IfOk};
 ghost use Rattle.std.specs.Option.{ForSome};
 ghost use Rattle.cns_units.specs.declared.cusip.Cusip.{Cusip};
 ghost use Rattle.cns_retransmit.specs.Calls.{called_in, CanBeChosen};

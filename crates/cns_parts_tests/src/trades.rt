@@ -1,3 +1,4 @@
+// Tests of the trades: what is refused, what is booked, and references that are used once.
 ghost use Rattle.std.specs.Prelude.{◌≤◌, ◌^◌, unsigned_abs};
 ghost use Rattle.std.specs.Option.{ForSome};
 

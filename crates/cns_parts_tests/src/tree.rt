@@ -108,6 +108,7 @@ fn rebuilt_of<A: Allocator + Clone>(
     tree: &Tree<u64, A>,
     global: Global,
 ) -> Result<(), NoMemory> {
+    assert_eq!(rt; tree.len(), 1000);
     let rows = rows_of(tree, global)?;
     rebuilt(rt, alloc, rows.as_slice(), 1000)
 }
