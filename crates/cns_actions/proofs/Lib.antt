@@ -1,6 +1,7 @@
 pub mod Members
-pub mod Fits
-pub mod Bookings
-pub mod Copies
-pub mod Named
 pub mod Reachable
+pub mod Walking
+pub mod Merges
+pub mod Holders
+pub mod Summing
+pub mod Booking

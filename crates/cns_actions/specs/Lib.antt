@@ -1,2 +1,4 @@
-pub mod Legs
 pub mod Booked
+pub mod Walks
+pub mod Merging
+pub mod Changes

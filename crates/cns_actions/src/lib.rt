@@ -2,17 +2,19 @@
 //!
 //! `split_of` and `exchange_of` say what one position becomes, with the cents that are paid for what the cut to whole
 //! shares leaves. `next_positions` books a split or an exchange for every member that holds the issue, and the opposite
-//! of the sums for the corporation, on a copy: the positions that it was given never change. It knows positions by
-//! their trait alone. Start with `next_positions`.
+//! of the sums for the corporation, beside the positions that it was given: they never change. It walks the rows,
+//! makes the entries, and merges both into new rows (`merging.rt`, which knows nothing of splits and exchanges). It knows
+//! positions by their trait alone. Start with `next_positions`.
 #![tactic(auto)]
 
 mod action;
-mod booking;
+mod change;
 mod conversion;
-mod copying;
 mod fault;
-mod leg;
+mod holder;
+mod merging;
 mod next;
+mod walk;
 
 pub use action::Action;
 pub use cns_terms::{Exchange, Split};

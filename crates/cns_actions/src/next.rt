@@ -1,54 +1,159 @@
 // The positions after a split or an exchange.
-ghost use Rattle.std.specs.Prelude.{◌≡◌, ◌↔◌, ◌++◌, List, Err, true, IfOk, OnOk};
+ghost use Rattle.std.specs.Prelude.{◌≡◌, ◌↔◌, ◌<◌, ◌≤◌, ◌+ℤ◌, ◌++◌, List, Err, None, true, false, IfOk, IfNone, IfSome, OnSome, OnOk, unsigned_abs};
 ghost use Rattle.std.specs.FinMap.{is_sorted};
+ghost use Rattle.std.specs.List.{AllByRecursion, list_any};
 ghost use Rattle.cns_units.specs.declared.account.Member.{Member};
+ghost use Rattle.cns_units.specs.declared.cusip.Cusip.{Cusip};
 ghost use Rattle.cns_terms.specs.declared.holding.Key.{Key};
 ghost use Rattle.cns_terms.specs.Actions.{AreHolders};
-ghost use Rattle.cns_terms.specs.Refusals.{are_too_large};
+ghost use Rattle.cns_terms.specs.Entries.{corporation};
+ghost use Rattle.cns_terms.specs.Limits.{member_limit, position_limit};
+ghost use Rattle.cns_terms.specs.Refusals.{are_too_large, is_beyond};
 ghost use Rattle.cns_terms.specs.Keys.{key_cmp};
-ghost use Rattle.cns_positions.specs.Rows.{books, holding_at};
-ghost use Rattle.cns_actions.specs.Booked.{CanBeBooked, IsForAnother, entries_of, issue_of, legs_entries, legs_too_large, position_at, positions_in};
+ghost use Rattle.cns_positions.specs.Rows.{books, held_above, holding_at};
+ghost use Rattle.cns_actions.specs.Booked.{CanBeBooked, IsForAnother, entries_of, issue_of, position_at, positions_in};
+ghost use Rattle.cns_actions.specs.Changes.{IsFew, all_entries, change_of, entries_for, holders_in, member_entries, opposite, position_after, sum_of, takes_beyond};
+ghost use Rattle.cns_actions.specs.Merging.{IsSmall};
 
 use crate::action::Action;
-use crate::booking::{book_leg, is_too_large};
-use crate::copying::copy;
+use crate::change::{Change, push_change};
 use crate::fault::ActionFault;
-use crate::leg::{entering, leaving, splitting};
+use crate::holder::Holder;
+use crate::merging::merged;
+use crate::walk::{Ahead, Walk};
 use cns_positions::Positions;
-use cns_terms::NoMemory;
+use cns_terms::{Entry, Key, NoMemory, POSITION_LIMIT};
+use cns_units::{Account, Cusip};
 use std::alloc::Allocator;
 
-// Whether a split or an exchange takes any member beyond its limits. In the old issue of an exchange all go to 0.
-fn takes_any_beyond<P: Positions<B>, B>(positions: &P, action: &Action) -> bool
-    requires { CanBeBooked (P.rows positions.now) }
-    ensures { result ≡ legs_too_large action.now (P.rows positions.now) }
+// The issue that is split or exchanged.
+fn issue_of(action: &Action) -> Cusip
+    ensures { result ≡ issue_of action.now }
 {
     match action {
-        Action::Split(split) => is_too_large(positions, &splitting(split)),
-        Action::Exchange(exchange) => is_too_large(positions, &entering(exchange)),
+        Action::Split(split) => split.issue,
+        Action::Exchange(exchange) => exchange.old,
     }
 }
 
-// Books the legs of a split or an exchange on a copy.
+// Whether a position is beyond a member's limits.
+fn is_beyond(position: i64) -> bool
+    ensures { result ≡ is_beyond position }
+{
+    position > POSITION_LIMIT || position < -POSITION_LIMIT
+}
+
+// The new shares with what stands in the successor.
+fn joined(change: &Change, position: i64) -> i64
+    requires few { IsFew 1 change.now }
+    requires position { unsigned_abs position ≤ position_limit }
+    ensures { result ≡ change.now.after +ℤ position }
+{
+    change.after + position
+}
+
+// Whether a member's position would be beyond its limits: in the old issue of an exchange there is none left. Positions
+// in the successor are read off the rows that stand, so members come in the order of their numbers.
+fn takes_beyond<P: Positions<B>, B>(
+    rows: &mut Ahead<'_, P, B>,
+    action: &Action,
+    holder: &Holder,
+    change: &Change,
+) -> bool
+    requires few { IsFew 1 change.now }
+    requires exact { change.now ≡ change_of action.now holder.now.shares }
+    requires within { (c : Cusip) → unsigned_abs (position_at rows.old holder.now.account c) ≤ position_limit }
+    ensures beyond { result ≡ takes_beyond rows.old action.now holder.now }
+    ensures later { (k : Key) → holder.now.account < k.account → holding_at rows.new k ≡ holding_at rows.old k }
+{
+    match action {
+        Action::Split(_) => is_beyond(change.after),
+        Action::Exchange(exchange) => {
+            let holding = rows.holding_at(&Key {
+                account: holder.account,
+                issue: exchange.successor,
+            });
+            is_beyond(joined(change, holding.now))
+        }
+    }
+}
+
+// What the positions of all members become together; None where one of them would be beyond its limits.
+fn sum_of<P: Positions<B>, B>(positions: &P, action: &Action) -> Option<Change>
+    requires { CanBeBooked (P.rows positions.now) }
+    ensures large { IfNone result
+        (list_any (takes_beyond (P.rows positions.now) action.now)
+        (holders_in (issue_of action.now) (held_above (P.rows positions.now) None)) ≡ true) }
+    ensures within { OnSome result
+        (list_any (takes_beyond (P.rows positions.now) action.now)
+        (holders_in (issue_of action.now) (held_above (P.rows positions.now) None)) ≡ false) }
+    ensures sum { IfSome result
+        (λ s. s ≡ sum_of action.now (holders_in (issue_of action.now) (held_above (P.rows positions.now) None))) }
+    ensures few { IfSome result (IsFew member_limit) }
+    ensures order { is_sorted key_cmp (P.rows positions.now) ≡ true }
+{
+    let issue = issue_of(action);
+    let mut sum = Change::NONE;
+    let mut rows = Walk::new(positions);
+    let mut others = Ahead::new(positions);
+    while let Some(holder) = rows.next_holder(&issue) {
+        let change = Change::of(action, &holder);
+        if takes_beyond(&mut others, action, &holder, &change) {
+            return None;
+        }
+        sum.add(&change);
+    }
+    Some(sum)
+}
+
+// The entries of a split or an exchange in the order of their keys: the corporation's, which are the opposite of what the
+// positions of all members become together, and the members'.
+fn entries<P: Positions<B>, B, A: Allocator + Drop>(
+    alloc: A,
+    positions: &P,
+    action: &Action,
+    sum: &Change,
+) -> Result<Vec<Entry, A>, NoMemory>
+    requires within { CanBeBooked (P.rows positions.now) }
+    requires few { IsFew member_limit sum.now }
+    ensures entries { IfOk result
+        (λ v. v.items ≡ entries_for action.now corporation (opposite sum.now) ++ member_entries action.now
+        (holders_in (issue_of action.now) (held_above (P.rows positions.now) None))) }
+    ensures small { IfOk result (λ v. AllByRecursion IsSmall v.items) }
+{
+    let issue = issue_of(action);
+    let mut entries = Vec::new(alloc);
+    push_change(&mut entries, action, Account::CORPORATION, &sum.opposite())?;
+    let mut rows = Walk::new(positions);
+    while let Some(holder) = rows.next_holder(&issue) {
+        let change = Change::of(action, &holder);
+        push_change(&mut entries, action, holder.account, &change)?;
+    }
+    Ok(entries)
+}
+
+// The positions with these entries booked, beside the ones that stand.
 fn booked<P: Positions<B>, B, A: Allocator + Drop + Clone>(
     alloc: &A,
     positions: &P,
     action: &Action,
+    sum: &Change,
 ) -> Result<P, NoMemory>
     requires within { CanBeBooked (P.rows positions.now) }
     requires another { IsForAnother action.now }
-    ensures booked { IfOk result (λ p. (k : Key) → holding_at (P.rows p) k ≡ books (legs_entries action.now (P.rows positions.now)) k (holding_at (P.rows positions.now) k)) }
+    requires sum { sum.now
+        ≡ sum_of action.now (holders_in (issue_of action.now) (held_above (P.rows positions.now) None)) }
+    requires few { IsFew member_limit sum.now }
+    requires order { is_sorted key_cmp (P.rows positions.now) ≡ true }
+    ensures booked { IfOk result
+        (λ p. (k : Key) → holding_at (P.rows p) k
+        ≡ books (all_entries action.now (holders_in (issue_of action.now) (held_above (P.rows positions.now) None))) k
+        (holding_at (P.rows positions.now) k)) }
     ensures order { IfOk result (λ p. is_sorted key_cmp (P.rows p) ≡ true) }
 {
-    let mut next = copy(alloc.clone()?, positions)?;
-    match action {
-        Action::Split(split) => book_leg(&mut next, positions, &splitting(split))?,
-        Action::Exchange(exchange) => {
-            book_leg(&mut next, positions, &leaving(exchange))?;
-            book_leg(&mut next, positions, &entering(exchange))?;
-        }
-    }
-    Ok(next)
+    let entries = entries(alloc.clone()?, positions, action, sum)?;
+    let rows = merged(alloc.clone()?, positions, entries.as_slice())?;
+    positions.rebuilt(rows.as_slice())
 }
 
 /// The positions after a split or an exchange, beside the ones before it, which never change (NSCC Procedure VII; the
@@ -59,15 +164,18 @@ fn booked<P: Positions<B>, B, A: Allocator + Drop + Clone>(
 /// issue; in the successor what it becomes, with the cents in lieu and the cash for each old share. The corporation,
 /// account 0, is booked the opposite of the sums in each issue. Openings and runs stay, and so does every other key.
 ///
+/// An exchange is for another issue: where both were one, two entries would have one key, and the position before it
+/// could not be told from what enters. The book refuses such an exchange first.
+///
 /// `TooLarge` where after all of it a member's position would be beyond 10^10 shares, long or short; this is looked
 /// for first, and takes no memory. `NoMemory` where a growth was refused.
 ///
 /// For any list of members that names nobody twice and leaves nobody out who has a position in the issue, the entries
 /// are those of the definitions (`Entries.antt` in `cns_terms`).
 ///
-/// It looks up the 9,999 places that members can have in the issue, twice for a split and three times for an exchange;
-/// it goes through all rows once, builds them anew once, and books there. A copy of `alloc` keeps a list of the rows
-/// meanwhile.
+/// It goes through all rows three times and looks none up: for the size and the sums, for the entries, and to merge
+/// them with the rows. For the size of an exchange a second walk reads the successor's rows beside the first. Then the
+/// rows are built anew once. Copies of `alloc` keep a list of the entries and one of the rows meanwhile.
 pub fn next_positions<P: Positions<B>, B, A: Allocator + Drop + Clone>(
     alloc: &A,
     positions: &P,
@@ -75,14 +183,21 @@ pub fn next_positions<P: Positions<B>, B, A: Allocator + Drop + Clone>(
 ) -> Result<P, ActionFault>
     requires within { CanBeBooked (P.rows positions.now) }
     requires another { IsForAnother action.now }
-    ensures too_large { (ms : List Member) → AreHolders (positions_in (P.rows positions.now) (issue_of action.now)) ms → (result ≡ Err ActionFault.TooLarge) ↔ (are_too_large (position_at (P.rows positions.now)) (entries_of action.now (positions_in (P.rows positions.now) (issue_of action.now)) ms) ≡ true) }
-    ensures booked { IfOk result (λ p. (ms : List Member) → AreHolders (positions_in (P.rows positions.now) (issue_of action.now)) ms → (k : Key) → holding_at (P.rows p) k ≡ books (entries_of action.now (positions_in (P.rows positions.now) (issue_of action.now)) ms) k (holding_at (P.rows positions.now) k)) }
+    ensures too_large { (ms : List Member) → AreHolders (positions_in (P.rows positions.now) (issue_of action.now)) ms
+        → (result ≡ Err ActionFault.TooLarge)
+        ↔ (are_too_large (position_at (P.rows positions.now))
+        (entries_of action.now (positions_in (P.rows positions.now) (issue_of action.now)) ms) ≡ true) }
+    ensures booked { IfOk result
+        (λ p. (ms : List Member) → AreHolders (positions_in (P.rows positions.now) (issue_of action.now)) ms
+        → (k : Key) → holding_at (P.rows p) k
+        ≡ books (entries_of action.now (positions_in (P.rows positions.now) (issue_of action.now)) ms) k
+        (holding_at (P.rows positions.now) k)) }
     ensures order { IfOk result (λ p. is_sorted key_cmp (P.rows p) ≡ true) }
 {
-    if takes_any_beyond(positions, action) {
+    let Some(sum) = sum_of(positions, action) else {
         return Err(ActionFault::TooLarge);
-    }
-    match booked(alloc, positions, action) {
+    };
+    match booked(alloc, positions, action, &sum) {
         Ok(next) => Ok(next),
         Err(_) => Err(ActionFault::NoMemory),
     }

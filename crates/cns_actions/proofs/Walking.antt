@@ -1,0 +1,148 @@
+-- The rows of a walk, and what stands at keys before and after it passed some.
+use Rattle.std.proofs.Common.{◌≡◌, ◌∙◌, sym, ap, subst, refl, Bool, true, false, cond, ◌&&◌, ◌==◌, pos, List, ◌∷◌, [], inl, inr, Option, Some, None, unwrap_or, MatchOption, Ordering}
+use Rattle.std.specs.Ordering.{int_eq, is_eq, is_lt, ordering_reverse}
+use Rattle.std.specs.declared.cmp.Ordering.TheVariants.{Less, Equal, Greater}
+use Rattle.std.specs.FinMap.{find, is_sorted}
+use Rattle.std.specs.FinMap.Entries.{below_all}
+use Rattle.std.specs.List.{AllByRecursion}
+use Rattle.std.proofs.lemmas.Bool.{eqb-true}
+use Rattle.std.proofs.lemmas.Bool.Decides.{Decides-int_eq}
+use Rattle.std.proofs.lemmas.Cmp.{tied_itself}
+use Rattle.cns_terms.specs.declared.holding.Holding.{Holding}
+use Rattle.cns_terms.specs.declared.holding.Key.{Key}
+use Rattle.cns_terms.specs.Keys.{key_cmp}
+use Rattle.cns_terms.proofs.Everywhere.{each_weaker}
+use Rattle.cns_terms.proofs.Facts.{and_left, and_right, both_true, holds, less}
+use Rattle.cns_terms.proofs.Finds.{find_below, find_filter, kept_if, sorted_filter}
+use Rattle.cns_terms.proofs.Keys.{exact_keys, keys_total}
+use Rattle.cns_positions.specs.Rows.{Rows, held_above, holding_at, is_held, zeros}
+use Rattle.cns_actions.specs.Walks.{IsTaken, is_before, starts_before, with_ahead}
+
+-- ---- the rows that aren't zeros
+
+-- they are in order
+pub held_sorted : (rows : Rows) → is_sorted key_cmp rows ≡ true → is_sorted key_cmp (held_above rows None) ≡ true
+held_sorted rows s = sorted_filter keys_total is_held rows s
+
+-- four tests that all hold
+each_true : (a b c d : Bool) → (a && b && c && d) ≡ true → (a ≡ true) × (b ≡ true) × (c ≡ true) × (d ≡ true)
+each_true true true true true e = (refl, refl, refl, refl)
+each_true true true true false e = cc
+each_true true true false d e = cc
+each_true true false c d e = cc
+each_true false b c d e = cc
+
+-- what isn't held is zeros
+unheld : (h : Holding) → is_held h ≡ false → h ≡ zeros
+unheld h e =
+    let all = each_true (int_eq h.now (pos 0)) (int_eq h.opening (pos 0)) (int_eq h.contract (pos 0)) (h.run == 0) (holds _ e) in
+    λ i. record {
+      now = (Decides-int_eq h.now (pos 0)).0 all.0 i;
+      opening = (Decides-int_eq h.opening (pos 0)).0 all.1 i;
+      contract = (Decides-int_eq h.contract (pos 0)).0 all.2 i;
+      run = eqb-true h.run 0 all.3 i;
+    }
+
+-- a holding that is left out is zeros
+kept_holding : (o : Option Holding) → unwrap_or (kept_if is_held o) zeros ≡ unwrap_or o zeros
+kept_holding None = refl
+kept_holding (Some h) = by (is_held h) refl
+  where
+    by : (b : Bool) → is_held h ≡ b → unwrap_or (cond (is_held h) (Some h) None) zeros ≡ h
+    by true e = ap (λ b. unwrap_or (cond b (Some h) None) zeros) e
+    by false e = ap (λ b. unwrap_or (cond b (Some h) None) zeros) e ∙ sym (unheld h e)
+
+-- and the same stands at each key
+pub held_same : (rows : Rows) (k : Key) → is_sorted key_cmp rows ≡ true → holding_at (held_above rows None) k ≡ holding_at rows k
+held_same rows k s = ap (λ o. unwrap_or o zeros) (find_filter keys_total is_held k rows s) ∙ kept_holding (find key_cmp k rows)
+
+-- ---- the first row
+
+-- a row before a key does not change what stands there
+pub passed_row : (r : Key × Holding) (rows : Rows) (k : Key) → key_cmp r.0 k ≡ Less → holding_at rows k ≡ holding_at (r ∷ rows) k
+passed_row r rows k l = sym (ap (λ o. unwrap_or (cond (is_eq o) (Some r.1) (find key_cmp k rows)) zeros) (keys_total.antisymm k r.0 ∙ ap ordering_reverse l))
+
+-- what stands at the key of the first row
+pub first_row : (r : Key × Holding) (rows : Rows) → holding_at (r ∷ rows) r.0 ≡ r.1
+first_row r rows = ap (λ o. unwrap_or (cond (is_eq o) (Some r.1) (find key_cmp r.0 rows)) zeros) (tied_itself keys_total r.0)
+
+-- nothing stands at a key below all rows
+pub nothing_below : (k : Key) (rows : Rows) → below_all key_cmp k rows ≡ true → holding_at rows k ≡ zeros
+nothing_below k rows b = ap (λ o. unwrap_or o zeros) (find_below keys_total k rows b)
+
+-- a key below one that is below all is below all
+pub below_later : {X : Type 0} (k q : Key) (es : List (Key × X)) → key_cmp k q ≡ Less → below_all key_cmp q es ≡ true → below_all key_cmp k es ≡ true
+below_later k q [] l b = refl
+below_later k q (e ∷ es) l b = both_true _ _ (ap is_lt (keys_total.trans k q e.0 l (less _ (and_left _ _ b)))) (below_later k q es l (and_right _ _ b))
+
+-- a key that is not above another and differs is below it
+below_by : (k q : Key) (o : Ordering) → key_cmp q k ≡ o → is_lt o ≡ false → (q ≡ k → ⊥) → key_cmp k q ≡ Less
+below_by k q Less e h other = cc
+below_by k q Equal e h other = absurd (other (exact_keys q k e))
+below_by k q Greater e h other = keys_total.antisymm k q ∙ ap ordering_reverse e
+
+-- a key that is not that of the first row, and has no row before it, is below all rows
+pub gap : (k : Key) (r : Key × Holding) (rest rows : Rows) → rows ≡ r ∷ rest → is_sorted key_cmp rows ≡ true → starts_before (Some k) rows ≡ false → (r.0 ≡ k → ⊥) → below_all key_cmp k rows ≡ true
+gap k r rest rows e s none other =
+    let s' : is_sorted key_cmp (r ∷ rest) ≡ true = ap (is_sorted key_cmp) (sym e) ∙ s in
+    let l : key_cmp k r.0 ≡ Less = below_by k r.0 (key_cmp r.0 k) refl (ap (starts_before (Some k)) (sym e) ∙ none) other in
+    ap (below_all key_cmp k) e ∙ both_true _ _ (ap is_lt l) (below_later k r.0 rest l (and_left _ _ s'))
+
+-- what holds at the keys of rows in the rest of a list
+rest_same : (f : Key → Holding) (r : Key × Holding) (rows xs : Rows) → below_all key_cmp r.0 xs ≡ true → AllByRecursion (λ x. f x.0 ≡ holding_at (r ∷ rows) x.0) xs → AllByRecursion (λ x. f x.0 ≡ holding_at rows x.0) xs
+rest_same f r rows [] b h = tt
+rest_same f r rows (x ∷ xs) b h = (h.0 ∙ sym (passed_row r rows x.0 (less _ (and_left _ _ b))), rest_same f r rows xs (and_right _ _ b) h.1)
+
+-- what stands at the key of each of some rows is its own holding
+own_rows : (f : Key → Holding) (rows : Rows) → is_sorted key_cmp rows ≡ true → AllByRecursion (λ r. f r.0 ≡ holding_at rows r.0) rows → AllByRecursion (λ r. f r.0 ≡ r.1) rows
+own_rows f [] s h = tt
+own_rows f (r ∷ rows) s h = (h.0 ∙ first_row r rows, own_rows f rows (and_right _ _ s) (rest_same f r rows rows (and_left _ _ s) h.1))
+
+-- what holds at every key holds at the keys of rows
+at_keys : (P : Key → Type 0) (rows : Rows) → ((k : Key) → P k) → AllByRecursion (λ r. P r.0) rows
+at_keys P [] h = tt
+at_keys P (r ∷ rows) h = (h r.0, at_keys P rows h)
+
+-- of rows in order, each that isn't zeros has what stands at its key
+pub held_own : (rows : Rows) → is_sorted key_cmp rows ≡ true → AllByRecursion (λ r. holding_at rows r.0 ≡ r.1) (held_above rows None)
+held_own rows s =
+    own_rows (holding_at rows) (held_above rows None) (held_sorted rows s) (at_keys (λ k. holding_at rows k ≡ holding_at (held_above rows None) k) (held_above rows None) (λ k. sym (held_same rows k s)))
+
+-- what holds of all that stands anywhere holds of these rows
+pub each_held : (P : Holding → Type 0) (rows : Rows) → is_sorted key_cmp rows ≡ true → ((k : Key) → P (holding_at rows k)) → AllByRecursion (λ r. P r.1) (held_above rows None)
+each_held P rows s all = each_weaker (λ r. holding_at rows r.0 ≡ r.1) (λ r. P r.1) (held_above rows None) (λ r own. subst P own (all r.0)) (held_own rows s)
+
+-- ---- rows that were read ahead
+
+-- they are in order
+pub ahead_sorted : (o : Option (Key × Holding)) (all rest : Rows) → MatchOption o (all ≡ []) (λ r. all ≡ r ∷ rest) → is_sorted key_cmp all ≡ true → is_sorted key_cmp (with_ahead o rest) ≡ true
+ahead_sorted None all rest e s = refl
+ahead_sorted (Some r) all rest e s = ap (is_sorted key_cmp) (sym e) ∙ s
+
+module _ (k : Key) (rows rest : Rows) (h : Holding) where
+  -- what is taken at a key stands there
+  pub taken_is : IsTaken k rows h rest → h ≡ holding_at rows k
+  taken_is (inl e) = sym (ap (λ rs. holding_at rs k) e ∙ first_row (k, h) rest)
+  taken_is (inr n) = n.2 ∙ sym (nothing_below k rows n.1)
+
+  -- and what stands at higher keys stays
+  pub taken_later : IsTaken k rows h rest → (q : Key) → key_cmp k q ≡ Less → holding_at rest q ≡ holding_at rows q
+  taken_later (inl e) q l = passed_row (k, h) rest q l ∙ ap (λ rs. holding_at rs q) (sym e)
+  taken_later (inr n) q l = ap (λ rs. holding_at rs q) (sym n.0)
+
+module _ (k : Key) (rows rest : Rows) (o : Option (Key × Holding)) (next : MatchOption o ((rest ≡ rows) × (starts_before (Some k) rows ≡ false)) (λ r. (rows ≡ r ∷ rest) × (is_before (Some k) r.0 ≡ true))) where
+  -- where a row before a key is passed, what stands at the key stays
+  pub passed_here : holding_at rest k ≡ holding_at rows k
+  passed_here = by o next
+    where
+      by : (o : Option (Key × Holding)) → MatchOption o ((rest ≡ rows) × (starts_before (Some k) rows ≡ false)) (λ r. (rows ≡ r ∷ rest) × (is_before (Some k) r.0 ≡ true)) → holding_at rest k ≡ holding_at rows k
+      by None e = ap (λ rs. holding_at rs k) e.0
+      by (Some r) e = passed_row r rest k (less _ e.1) ∙ ap (λ rs. holding_at rs k) (sym e.0)
+
+  -- and so at higher keys
+  pub passed_later : (q : Key) → key_cmp k q ≡ Less → holding_at rest q ≡ holding_at rows q
+  passed_later q l = by o next
+    where
+      by : (o : Option (Key × Holding)) → MatchOption o ((rest ≡ rows) × (starts_before (Some k) rows ≡ false)) (λ r. (rows ≡ r ∷ rest) × (is_before (Some k) r.0 ≡ true)) → holding_at rest q ≡ holding_at rows q
+      by None e = ap (λ rs. holding_at rs q) e.0
+      by (Some r) e = passed_row r rest q (keys_total.trans r.0 k q (less _ e.1) l) ∙ ap (λ rs. holding_at rs q) (sym e.0)

@@ -1,0 +1,88 @@
+-- What splits and exchanges make of positions.
+use Rattle.std.specs.Prelude.{◌≤◌, ◌*◌, ◌^◌, ℕ, ℤ, pos, ◌+ℤ◌, ◌-ℤ◌, neg_ℤ, Bool, not, ◌&&◌, nat_lt, List, [], ◌∷◌, ◌++◌, map, filter, unsigned_abs, None, if◌then◌else◌}
+use Rattle.std.specs.Cmp.Lexicographic.{slice_cmp}
+use Rattle.std.specs.List.{flat_map}
+use Rattle.std.specs.Ordering.{int_eq, is_lt, nat_cmp}
+use Rattle.cns_units.specs.declared.account.Account.{Account}
+use Rattle.cns_units.specs.declared.cusip.Cusip.{Cusip}
+use Rattle.cns_terms.specs.declared.holding.Entry.{Entry}
+use Rattle.cns_terms.specs.declared.holding.Holding.{Holding}
+use Rattle.cns_terms.specs.declared.holding.Key.{Key}
+use Rattle.cns_terms.specs.Conversions.{converted, in_exchange, in_lieu}
+use Rattle.cns_terms.specs.Entries.{corporation, entry}
+use Rattle.cns_terms.specs.Refusals.{is_beyond}
+use Rattle.cns_terms.specs.Sums.{same_issue, total}
+use Rattle.cns_positions.specs.Rows.{Rows, held_above}
+use Rattle.cns_actions.specs.declared.action.Action.{Action}
+use Rattle.cns_actions.specs.declared.action.Action.TheVariants as action
+use Rattle.cns_actions.specs.declared.change.Change.{Change}
+use Rattle.cns_actions.specs.declared.holder.Holder.{Holder}
+use Rattle.cns_actions.specs.Booked.{issue_of, position_at}
+
+-- whether a row is that of a member with a position in an issue
+abbrev pub is_holder : Cusip → Key × Holding → Bool
+is_holder c r = nat_lt corporation r.0.account && same_issue r.0.issue c && not (int_eq r.1.now (pos 0))
+
+-- the member, with its position
+abbrev pub holder_of : Key × Holding → Holder
+holder_of r = record { account = r.0.account; shares = r.1.now }
+
+-- the members with a position in an issue, in the order of rows
+abbrev pub holders_in : Cusip → Rows → List Holder
+holders_in c rows = map holder_of (filter (is_holder c) rows)
+
+-- those that a split or an exchange is booked for
+abbrev pub holders_of : Action → Rows → List Holder
+holders_of x rows = holders_in (issue_of x) (held_above rows None)
+
+-- what a position becomes
+abbrev pub change_of : Action → ℤ → Change
+change_of (action.Split s) q = record { before = q; after = converted s.ratio q; cents = in_lieu s.ratio s.lieu q }
+change_of (action.Exchange x) q = record { before = q; after = converted x.ratio q; cents = in_exchange x.ratio x.lieu x.cash q }
+
+-- two changes together
+abbrev pub plus : Change → Change → Change
+plus c d = record { before = c.before +ℤ d.before; after = c.after +ℤ d.after; cents = c.cents +ℤ d.cents }
+
+-- what the positions of members become together
+abbrev pub sum_of : Action → List Holder → Change
+sum_of x hs = record {
+  before = total (λ h. (change_of x h.shares).before) hs;
+  after = total (λ h. (change_of x h.shares).after) hs;
+  cents = total (λ h. (change_of x h.shares).cents) hs;
+}
+
+abbrev pub opposite : Change → Change
+opposite c = record { before = neg_ℤ c.before; after = neg_ℤ c.after; cents = neg_ℤ c.cents }
+
+-- no more than so many members' changes together
+pub record IsFew (n : ℕ) (c : Change) : Type 0 where
+  pub before : unsigned_abs c.before ≤ 10 ^ 14 * n
+  pub after : unsigned_abs c.after ≤ 10 ^ 14 * n
+  pub cents : unsigned_abs c.cents ≤ 2 * 10 ^ 19 * n
+
+-- two entries of an account, in the order of their issues
+abbrev pub in_issue_order : Entry → Entry → List Entry
+in_issue_order e f = if is_lt (slice_cmp nat_cmp e.issue f.issue) then e ∷ f ∷ [] else f ∷ e ∷ []
+
+-- what a change books for an account
+abbrev pub entries_for : Action → Account → Change → List Entry
+entries_for (action.Split s) a c = entry a s.issue (c.after -ℤ c.before) c.cents ∷ []
+entries_for (action.Exchange x) a c = in_issue_order (entry a x.old (neg_ℤ c.before) (pos 0)) (entry a x.successor c.after c.cents)
+
+-- what is booked for members
+abbrev pub member_entries : Action → List Holder → List Entry
+member_entries x hs = flat_map (λ h. entries_for x h.account (change_of x h.shares)) hs
+
+-- what is booked for them and for the corporation
+abbrev pub all_entries : Action → List Holder → List Entry
+all_entries x hs = entries_for x corporation (opposite (sum_of x hs)) ++ member_entries x hs
+
+-- a member's position after it, in the issue of the new shares
+abbrev pub position_after : Rows → Action → Holder → ℤ
+position_after rows (action.Split s) h = converted s.ratio h.shares
+position_after rows (action.Exchange x) h = converted x.ratio h.shares +ℤ position_at rows h.account x.successor
+
+-- whether it is beyond the member's limits
+abbrev pub takes_beyond : Rows → Action → Holder → Bool
+takes_beyond rows x h = is_beyond (position_after rows x h)

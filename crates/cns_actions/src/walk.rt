@@ -1,0 +1,161 @@
+// Walks over the rows of positions.
+ghost use Rattle.std.specs.Prelude.{◌≡◌, ◌∷◌, [], MatchOption, None, Some, true, false, drop};
+ghost use Rattle.std.specs.FinMap.{is_sorted};
+ghost use Rattle.std.specs.Option.{option_copied};
+ghost use Rattle.std.specs.declared.cmp.Ordering.TheVariants.{Less};
+ghost use Rattle.cns_terms.specs.declared.holding.Key.{Key};
+ghost use Rattle.cns_terms.specs.Keys.{key_cmp};
+ghost use Rattle.cns_positions.specs.Rows.{held_above, holding_at, present};
+ghost use Rattle.cns_actions.specs.Walks.{IsTaken, is_before, starts_before};
+
+use cns_positions::{NextRows, Positions};
+use cns_terms::{Holding, Key};
+use std::marker::{Model, PhantomData};
+
+/// A walk over the rows that aren't zeros, in the order of keys. Contracts see those that are left.
+#[derive(Drop)]
+pub(crate) struct Walk<'a, P: Positions<A>, A> {
+    positions: &'a P,
+    // Rows that were handed out at once, and how many of their places are passed.
+    given: NextRows,
+    passed: usize,
+    // The key of the last row that was passed.
+    last: Option<Key>,
+    // What positions are generic in.
+    form: PhantomData<A>,
+}
+
+impl<'a, P: Positions<A>, A> Model for Walk<'a, P, A> {
+    ghost use Rattle.cns_positions.specs.Rows.{Rows};
+    ghost use Rattle.cns_actions.specs.Walks.{rows_left};
+
+    ghost Value = { Rows };
+
+    ghost view = { λ w. rows_left (P.rows w.positions.now) w.given.items w.passed w.last };
+}
+
+// The next row of those that were handed out, past the places that stay free.
+fn next_given(given: &NextRows, passed: &mut usize) -> Option<(Key, Holding)>
+    ensures { MatchOption result (present (drop passed.old given.now.items) ≡ [])
+        (λ r. present (drop passed.old given.now.items) ≡ r ∷ present (drop passed.new given.now.items)) }
+{
+    while let Some(place) = given.as_slice().get(*passed) {
+        *passed += 1;
+        if let Some(row) = place {
+            return Some(*row);
+        }
+    }
+    None
+}
+
+impl<'a, P: Positions<A>, A> Walk<'a, P, A> {
+    /// A walk over all rows.
+    pub fn new(positions: &'a P) -> Self
+        ensures rows { result ≡ held_above (P.rows positions.now) None }
+        ensures order { is_sorted key_cmp (P.rows positions.now) ≡ true }
+    {
+        Walk {
+            positions,
+            given: positions.next_rows(None),
+            passed: 0,
+            last: None,
+            form: PhantomData,
+        }
+    }
+
+    /// The next row.
+    pub fn next_row(&mut self) -> Option<(Key, Holding)>
+        ensures { MatchOption result (self.old ≡ []) (λ r. self.old ≡ r ∷ self.new) }
+    {
+        if let Some(row) = next_given(&self.given, &mut self.passed) {
+            self.last = Some(row.0);
+            return Some(row);
+        }
+        self.given = self.positions.next_rows(self.last);
+        self.passed = 0;
+        let row = next_given(&self.given, &mut self.passed)?;
+        self.last = Some(row.0);
+        Some(row)
+    }
+}
+
+/// A walk whose first row is read ahead. Contracts see the rows that are left, that one first.
+#[derive(Drop)]
+pub(crate) struct Ahead<'a, P: Positions<A>, A> {
+    next: Option<(Key, Holding)>,
+    rest: Walk<'a, P, A>,
+}
+
+impl<'a, P: Positions<A>, A> Model for Ahead<'a, P, A> {
+    ghost use Rattle.std.specs.Prelude.{◌≡◌, true};
+    ghost use Rattle.std.specs.FinMap.{is_sorted};
+    ghost use Rattle.cns_terms.specs.Keys.{key_cmp};
+    ghost use Rattle.cns_positions.specs.Rows.{Rows};
+    ghost use Rattle.cns_actions.specs.Walks.{with_ahead};
+
+    ghost Value = { Rows };
+
+    ghost view = { λ a. with_ahead a.next a.rest };
+
+    ghost invariant = { λ a. is_sorted key_cmp (with_ahead a.next a.rest) ≡ true };
+}
+
+impl<'a, P: Positions<A>, A> Ahead<'a, P, A> {
+    /// All rows.
+    pub fn new(positions: &'a P) -> Self
+        ensures rows { result ≡ held_above (P.rows positions.now) None }
+        ensures order { is_sorted key_cmp (P.rows positions.now) ≡ true }
+    {
+        let mut rest = Walk::new(positions);
+        let next = rest.next_row();
+        Ahead { next, rest }
+    }
+
+    /// The next row, if it is before a key; without a key, the next of all.
+    pub fn next_before(&mut self, key: Option<&Key>) -> Option<(Key, Holding)>
+        ensures { MatchOption result
+            ((self.new ≡ self.old) × (starts_before (option_copied key.entry) self.old ≡ false))
+            (λ r. (self.old ≡ r ∷ self.new) × (is_before (option_copied key.entry) r.0 ≡ true)) }
+    {
+        let row = self.next?;
+        if !is_before(key, &row.0) {
+            return None;
+        }
+        self.next = self.rest.next_row();
+        Some(row)
+    }
+
+    /// What stands at a key that has no row before it. Where it has a row, that is passed.
+    pub fn take(&mut self, key: &Key) -> Holding
+        requires { starts_before (Some key.now) self.old ≡ false }
+        ensures { IsTaken key.now self.old result self.new }
+    {
+        let Some((next, holding)) = self.next else {
+            return Holding::ZEROS;
+        };
+        if !next.is_same(key) {
+            return Holding::ZEROS;
+        }
+        self.next = self.rest.next_row();
+        holding
+    }
+
+    /// What stands at a key, past the rows before it. What stands at higher keys stays.
+    pub fn holding_at(&mut self, key: &Key) -> Holding
+        ensures value { result ≡ holding_at self.old key.now }
+        ensures later { (k : Key) → key_cmp key.now k ≡ Less → holding_at self.new k ≡ holding_at self.old k }
+    {
+        while self.next_before(Some(key)).is_some() {}
+        self.take(key)
+    }
+}
+
+// Whether a key is before another, if there is one.
+fn is_before(high: Option<&Key>, key: &Key) -> bool
+    ensures { result ≡ is_before (option_copied high.entry) key.now }
+{
+    match high {
+        Some(high) => key.cmp(high).is_lt(),
+        None => true,
+    }
+}
