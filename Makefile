@@ -69,9 +69,10 @@ test:
 trials:
 	@bash tests/trials.sh $(CRATES)
 
-# times: the gate from nothing, and the processor minutes of each crate and part
+# times: the gate from nothing, and the processor minutes of each crate and part. A kit without the flag keeps no work.
 times:
-	@python3 tests/times.py --csv bench/gate.csv env RT_JOBS="$$(nproc)" rt ci --anew
+	@anew=$$(rt help 2>&1 | grep -o -m 1 -e --anew || true); \
+	    python3 tests/times.py --csv bench/gate.csv env RT_JOBS="$$(nproc)" rt ci $$anew
 
 # bench: records a second and bytes of memory a command, at 10^4, 10^5 and 10^6 records
 bench: build

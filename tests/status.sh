@@ -63,9 +63,9 @@ trades() {
 }
 { printf 'MEMBER,101\nMEMBER,202\nISSUE,037833100,19500\n'; trades 1 47; } >"$room/one.csv"
 trades 101 150 >"$room/two.csv"
-summary='{"closes":0,"commands":100,"counts":[50,50],"dividends":"0.00","lines":0,"marks":"0.00"}'
+tally='{"closes":0,"commands":100,"counts":[50,50],"dividends":"0.00","lines":0,"marks":"0.00"}'
 "$program" run --open 2024-06-03 "$room/one.csv" "$room/two.csv" >"$room/output" 2>"$room/errors" </dev/null
-expect 'a run of two files' 0 "$summary"$'\n' '' "$?"
+expect 'a run of two files' 0 "$tally"$'\n' '' "$?"
 
 # As many files as a run may have, of which each is read by a worker of its own.
 printf 'MEMBER,1\nno,kind\n' >"$room/three.csv"
@@ -73,22 +73,40 @@ files=()
 counts=1
 for _ in $(seq 1 64); do files+=("$room/three.csv"); done
 for _ in $(seq 2 64); do counts+=,1; done
-summary='{"closes":0,"commands":64,"counts":['"$counts"'],"dividends":"0.00","lines":64,"marks":"0.00"}'
+tally='{"closes":0,"commands":64,"counts":['"$counts"'],"dividends":"0.00","lines":64,"marks":"0.00"}'
 "$program" run --open 2024-06-03 "${files[@]}" >"$room/output" 2>"$room/errors" </dev/null
-expect 'a run of 64 files' 0 "$summary"$'\n' '' "$?"
+expect 'a run of 64 files' 0 "$tally"$'\n' '' "$?"
 
 # No worker is started where a file is missing.
 "$program" run --open 2024-06-03 "$room/one.csv" "$room/missing.csv" >"$room/output" 2>"$room/errors" </dev/null
 expect 'a file that is missing' 1 '' $'fault Open 2\n' "$?"
 
+# Files are opened from left to right, so of two that are missing the first is told.
+"$program" run --open 2024-06-03 "$room/missing.csv" "$room/gone.csv" >"$room/output" 2>"$room/errors" </dev/null
+expect 'two files that are missing' 1 '' $'fault Open 1\n' "$?"
+
+# Workers are numbered by the files from left to right.
+tally='{"closes":0,"commands":51,"counts":[50,1],"dividends":"0.00","lines":1,"marks":"0.00"}'
+"$program" run --open 2024-06-03 "$room/one.csv" "$room/three.csv" >"$room/output" 2>"$room/errors" </dev/null
+expect 'files from left to right' 0 "$tally"$'\n' '' "$?"
+
+# The book opens on the date of the line: a close that names it, or a date before it, is refused.
+printf 'CLOSE,2024-06-04\n' >"$room/close.csv"
+for opening in 2024-06-03 2024-06-04; do
+    closes=$([ "$opening" = 2024-06-03 ] && echo 1 || echo 0)
+    tally='{"closes":'"$closes"',"commands":1,"counts":[1],"dividends":"0.00","lines":0,"marks":"0.00"}'
+    "$program" run --open "$opening" "$room/close.csv" >"$room/output" 2>"$room/errors" </dev/null
+    expect "a run that opens on $opening" 0 "$tally"$'\n' '' "$?"
+done
+
 # A folder can be opened and not read; the other worker goes on.
-summary='{"closes":0,"commands":1,"counts":[0,1],"dividends":"0.00","lines":1,"marks":"0.00"}'
+tally='{"closes":0,"commands":1,"counts":[0,1],"dividends":"0.00","lines":1,"marks":"0.00"}'
 "$program" run --open 2024-06-03 "$room" "$room/three.csv" >"$room/output" 2>"$room/errors" </dev/null
-expect 'a file that cannot be read' 1 "$summary"$'\n' $'worker 1 Read\n' "$?"
+expect 'a file that cannot be read' 1 "$tally"$'\n' $'worker 1 Read\n' "$?"
 
 : >"$room/output"
 "$program" run --open 2024-06-03 "$room/one.csv" >/dev/full 2>"$room/errors" </dev/null
-expect 'a summary that cannot be written' 1 '' $'fault Write\n' "$?"
+expect 'a tally that cannot be written' 1 '' $'fault Write\n' "$?"
 
 # All statements of the sample's first day, by any number of workers, and of a day that is not closed.
 day=$(dirname "$0")/../examples/day.csv
@@ -105,3 +123,7 @@ for workers in 1 2 64; do
 done
 "$program" statements --open 2024-06-03 --day 2024-06-09 --workers 2 <"$day" >"$room/output" 2>"$room/errors"
 expect 'statements of a day that is not closed' 1 '' $'fault NoSuchDay\n' "$?"
+
+# The sheet of the first day has the date of the line.
+printf 'CLOSE,2024-06-04\nSTATEMENT,0,2024-06-02\n' | "$program" replay --open 2024-06-02 >"$room/output" 2>"$room/errors"
+expect 'a replay that opens on its date' 0 $'closed 1 2024-06-02 0 0\nstatement 0 2024-06-02 0 0.00 0.00\n' '' "$?"

@@ -1,4 +1,5 @@
 -- Splits and exchanges.
+-- For `split` and `exchange` of parts/actions.rt, clause step.
 use Rattle.std.proofs.Common.{◌≡◌, ◌∙◌, sym, ap, subst, refl, ℕ, ◌*◌, ◌≤◌, ℤ, Bool, true, false, ◌||◌, ◌==◌, cond, List, ◌∷◌, map, Option, Some, None, arith}
 use Rattle.std.specs.Prelude.{bytes_eq, is_none, is_some, IfOk, IsSome, Result, Ok, Err}
 use Rattle.std.specs.List.{AllByRecursion}
@@ -34,8 +35,8 @@ use Rattle.cns_actions.proofs.Members.{rising_distinct}
 use Rattle.cns_book.specs.Contents.{Contents}
 use Rattle.cns_book.specs.Effects.{activity_of}
 use Rattle.cns_book.specs.Follows.{Follows, FollowsNotices, HasRoom}
-use Rattle.cns_book.proofs.Staying.{batches_stay, clock_stays, dividends_stay, rows_booked, sheets_stay}
-use Rattle.cns_book.proofs.Within.{member_within, rows_within}
+use Rattle.cns_book.proofs.PartsStaying.{batches_stay, clock_stays, dividends_stay, rows_booked, sheets_stay}
+use Rattle.cns_book.proofs.PartsWithin.{member_within, rows_within}
 
 -- ---- what can be booked
 

@@ -1,5 +1,6 @@
 -- A book may go to another thread, where its positions may. Rattle shows as much by itself of a type that nothing below it
 -- holds itself; a tree's boxes do, so it is shown here of what a sheet stands in.
+-- For the struct Book of book.rt and the struct Parts of parts.rt.
 use denote.RattleType.{RattleType}
 use denote.Param.Send.{IsSend, sendable, view_send}
 use denote.Param.SendFields.{declared_send}

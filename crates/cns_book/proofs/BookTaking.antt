@@ -1,4 +1,5 @@
 -- One command more in the history.
+-- For `take` of book.rt, clause ok.
 use Rattle.std.proofs.Common.{◌≡◌, ◌∙◌, sym, ap, subst, refl, ℕ, suc, ◌+◌, ◌-◌, ◌≤◌, ◌<◌, Bool, true, false, cond, eqb, List, [], ◌∷◌, ◌++◌, length, set, get_or, reverse, Ok, arith}
 use Rattle.std.proofs.lemmas.List.{reverse-append, get_or-set_other}
 use Rattle.std.proofs.lemmas.List.Sums.{sum_by-cons}
@@ -12,6 +13,7 @@ use Rattle.cns_terms.specs.declared.reply.Reply.{Reply}
 use Rattle.cns_terms.specs.declared.history.Taken.{Taken}
 use Rattle.cns_terms.specs.declared.worker.Worker.{Worker}
 use Rattle.cns_terms.specs.History.{accepted, count, IsLegal}
+use Rattle.cns_terms.specs.Limits.{history_limit}
 use Rattle.cns_terms.specs.Machine.{accepted_after, answer_to}
 use Rattle.cns_book.specs.Contents.{Contents}
 use Rattle.cns_book.specs.Follows.{Follows, Steps, HasRoom}
@@ -30,6 +32,10 @@ next_le opening L (command.Statement a d) n h = omega (arith, h)
 pub accepted_le : (opening : Day) (H : List Taken) → length (accepted opening H) ≤ length H
 accepted_le opening [] = omega arith
 accepted_le opening (t ∷ H) = next_le opening (accepted opening H) t.command (length H) (accepted_le opening H)
+
+-- a book's accepted activities are few
+pub few_accepted : (limit : ℕ) (H : List Taken) (counts : List ℕ) (parts : Contents) → IsBook limit H counts parts → length (accepted parts.opening H) < history_limit
+few_accepted limit H counts parts b = omega (arith, accepted_le parts.opening H, b.few, b.limited)
 
 -- below its limit a book has room for one command more
 pub has_room : (limit : ℕ) (H : List Taken) (counts : List ℕ) (s : Contents) → IsBook limit H counts s → length H < limit → HasRoom s

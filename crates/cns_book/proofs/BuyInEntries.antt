@@ -1,4 +1,5 @@
 -- The entries of an execution, booked one after another.
+-- For `book_fills` of buy_in.rt.
 use Rattle.std.proofs.Common.{◌≡◌, ◌∙◌, sym, ap, subst, refl, ℕ, zero, suc, ◌+◌, ◌<◌, ℤ, pos, negsuc, ◌+ℤ◌, Bool, true, false, ◌&&◌, ◌==◌, cond, List, [], ◌∷◌, ◌++◌, length, map, take, get_or, arith}
 use Rattle.std.specs.List.{AllByRecursion}
 use Rattle.std.specs.Prelude.{int_lt, nat_lt}
@@ -20,8 +21,8 @@ use Rattle.cns_terms.specs.Sums.{same_issue, total}
 use Rattle.cns_terms.proofs.Facts.{eqb_sym}
 use Rattle.cns_positions.specs.Rows.{Rows, booked, books, holding_at}
 use Rattle.cns_book.specs.Executions.{AreApart, CanBeBought, CanBeExecuted, CanBeFilled, entries_by, filled_at, notice_of, originator_at}
-use Rattle.cns_book.proofs.Booking.{books_more}
-use Rattle.cns_book.proofs.Places.{books_none}
+use Rattle.cns_book.proofs.EffectEntries.{books_more}
+use Rattle.cns_book.proofs.EffectPlaces.{books_none}
 
 -- what holds of each holds of the one at a place
 each_get : {X : Type 0} (P : X → Type 0) (xs : List X) (i : ℕ) (d : X) → AllByRecursion P xs → i < length xs → P (get_or xs i d)

@@ -1,4 +1,5 @@
 -- Searches for a closed day by its date.
+-- For closed_days.rt, and `sheet` of parts/reading.rt.
 use Rattle.std.proofs.Common.{◌≡◌, ◌∙◌, sym, ap, subst, refl, ℕ, zero, suc, ◌+◌, ◌-◌, ◌<◌, ◌≤◌, ℤ, Bool, true, false, cond, List, [], ◌∷◌, length, get_or, map, reverse, find, Option, Some, None, Result, Ok, Err, IfOk, IfErr, inl, inr, arith}
 use Rattle.std.specs.Prelude.{int_le, int_lt, not, option_map}
 use Rattle.std.specs.List.{AllWithin, HoldsAt}

@@ -1,4 +1,5 @@
 -- What a close pays by the sheets of the record dates is what the definitions say.
+-- For `close_day` of parts/closing.rt, clause step.
 use Rattle.std.proofs.Common.{◌≡◌, ◌∙◌, sym, ap, refl, ℕ, ◌≤◌, ℤ, pos, ◌+ℤ◌, neg_ℤ, Bool, true, false, not, ◌&&◌, ◌||◌, ◌==◌, cond, List, [], ◌∷◌, map, filter, find, Option, Some, None, unwrap_or, arith}
 use Rattle.std.specs.Prelude.{bytes_eq, filter_map, option_map}
 use Rattle.std.specs.FinMap.{is_sorted}
@@ -38,7 +39,7 @@ use Rattle.cns_sheets.specs.Build.{by_key, key_of}
 use Rattle.cns_sheets.specs.Search.{row_at}
 use Rattle.cns_sheets.specs.Payments.{Paying, dividend_of, member_cash, paid, said}
 use Rattle.cns_book.specs.Dated.{payments_by, sheet_as_of}
-use Rattle.cns_book.proofs.SheetFound.{closing_found, number_found, of_all, shown_rise}
+use Rattle.cns_book.proofs.ClosingRows.{closing_found, number_found, of_all, shown_rise}
 use Rattle.cns_sheets.proofs.Balance.{found_number, numbers, same_sums, sorted_numbers, total_numbers}
 
 -- ---- who is not there
@@ -66,14 +67,14 @@ module _ (opening : Day) (K J : Journal) (k_sound : IsSound K) (j_sound : IsSoun
 
   -- what a row that says nothing is paid
   none_idle : (r : Row) → says r ≡ false → member_cash d r ≡ pos 0
-  none_idle r h = by (same_issue r.issue d.cusip && not (r.account == corporation))
+  none_idle r h = by (same_issue r.issue d.issue && not (r.account == corporation))
     where
       by : (b : Bool) → cond b (cash r.closing d.rate) (pos 0) ≡ pos 0
       by true = ap (λ q. cash q d.rate) (idle_parts r h).1 ∙ no_cash d.rate
       by false = refl
 
   -- what is paid at a key, by the members that are there now
-  same_number : (k : Key) (s n m : Bool) → bytes_eq k.issue d.cusip ≡ s → (k.account == corporation) ≡ n → list_any (λ a. k.account == a) (members J) ≡ m → cond (s && not n) (at_place k) (pos 0) ≡ unwrap_or (cond (m && (s || false)) (Some (at_place k)) None) (pos 0)
+  same_number : (k : Key) (s n m : Bool) → bytes_eq k.issue d.issue ≡ s → (k.account == corporation) ≡ n → list_any (λ a. k.account == a) (members J) ≡ m → cond (s && not n) (at_place k) (pos 0) ≡ unwrap_or (cond (m && (s || false)) (Some (at_place k)) None) (pos 0)
   same_number k false n true is first me = refl
   same_number k false n false is first me = refl
   same_number k true true true is first me =
@@ -92,30 +93,30 @@ module _ (opening : Day) (K J : Journal) (k_sound : IsSound K) (j_sound : IsSoun
   of_rows = numbers (member_cash d) shown
 
   abbrev of_members : List (Key × ℤ)
-  of_members = cells at_place (members J) (d.cusip ∷ [])
+  of_members = cells at_place (members J) (d.issue ∷ [])
 
   -- the sums of both
   rows_sum : total (λ e. e.1) of_rows ≡ total (member_cash d) (sheet_rows opening K)
   rows_sum = total_numbers (member_cash d) (λ e. e.1) shown ∙ total-map (λ (e : Key × Row). member_cash d e.1) (λ r. (key_of r, r)) (sheet_rows opening K)
 
-  members_sum : (ms : List Account) → total (λ e. e.1) (cells at_place ms (d.cusip ∷ [])) ≡ total (λ a. cash (position K a d.cusip) d.rate) ms
+  members_sum : (ms : List Account) → total (λ e. e.1) (cells at_place ms (d.issue ∷ [])) ≡ total (λ a. cash (position K a d.issue) d.rate) ms
   members_sum [] = refl
-  members_sum (a ∷ ms) = ap (λ n. cash (position K a d.cusip) d.rate +ℤ n) (members_sum ms)
+  members_sum (a ∷ ms) = ap (λ n. cash (position K a d.issue) d.rate +ℤ n) (members_sum ms)
 
   -- the rows of the sheet are paid what the members are that are there now
-  pub members_paid : total (member_cash d) (sheet_rows opening K) ≡ total (λ a. cash (position K a d.cusip) d.rate) (members J)
+  pub members_paid : total (member_cash d) (sheet_rows opening K) ≡ total (λ a. cash (position K a d.issue) d.rate) (members J)
   members_paid =
       sym rows_sum
-      ∙ same_sums (λ e. e.1) (λ k. refl) of_rows of_members (sorted_numbers (member_cash d) shown (shown_rise opening K k_sound)) (sorted_cells at_place (members J) (d.cusip ∷ []) (and_right _ _ j_sound.accounts_rise) refl)
-      (λ k. found_number (member_cash d) k (pos 0) shown ∙ number_found opening K (member_cash d) none_idle k k_sound ∙ same_number k _ _ _ refl refl refl ∙ sym (ap (λ o. unwrap_or o (pos 0)) (find_cells at_place k (members J) (d.cusip ∷ []))))
+      ∙ same_sums (λ e. e.1) (λ k. refl) of_rows of_members (sorted_numbers (member_cash d) shown (shown_rise opening K k_sound)) (sorted_cells at_place (members J) (d.issue ∷ []) (and_right _ _ j_sound.accounts_rise) refl)
+      (λ k. found_number (member_cash d) k (pos 0) shown ∙ number_found opening K (member_cash d) none_idle k k_sound ∙ same_number k _ _ _ refl refl refl ∙ sym (ap (λ o. unwrap_or o (pos 0)) (find_cells at_place k (members J) (d.issue ∷ []))))
       ∙ members_sum (members J)
 
   -- what the dividend books at a key, by the positions at the close of its record date
   abbrev pub booked_at : Key → ℤ
-  booked_at k = cond (bytes_eq k.issue d.cusip) (cond (k.account == corporation) (neg_ℤ (total (λ a. cash (position K a d.cusip) d.rate) (members J))) (at_place k)) (pos 0)
+  booked_at k = cond (bytes_eq k.issue d.issue) (cond (k.account == corporation) (neg_ℤ (total (λ a. cash (position K a d.issue) d.rate) (members J))) (at_place k)) (pos 0)
 
   pub paid_is : (k : Key) → paid d (sheet_rows opening K) k ≡ booked_at k
-  paid_is k = λ i. cond (bytes_eq k.issue d.cusip) (cond (k.account == corporation) (neg_ℤ (members_paid i)) (cash (closing_found opening K k k_sound i) d.rate)) (pos 0)
+  paid_is k = λ i. cond (bytes_eq k.issue d.issue) (cond (k.account == corporation) (neg_ℤ (members_paid i)) (cash (closing_found opening K k k_sound i) d.rate)) (pos 0)
 
 -- ---- the dividends of a close
 
@@ -135,12 +136,12 @@ module _ (opening : Day) (J : Journal) (sound : IsSound J) where
 
   -- what a dividend books at a key, by the positions that a journal has
   abbrev books_at : Declared → Key → Journal → ℤ
-  books_at d k K = cond (bytes_eq k.issue d.cusip) (cond (k.account == corporation) (neg_ℤ (total (λ a. cash (position K a d.cusip) d.rate) (members J))) (cash (position K k.account k.issue) d.rate)) (pos 0)
+  books_at d k K = cond (bytes_eq k.issue d.issue) (cond (k.account == corporation) (neg_ℤ (total (λ a. cash (position K a d.issue) d.rate) (members J))) (cash (position K k.account k.issue) d.rate)) (pos 0)
 
   -- where no day is closed it books nothing
   books_none : (d : Declared) (k : Key) → pos 0 ≡ books_at d k []
   books_none d k =
-      by (bytes_eq k.issue d.cusip) (k.account == corporation)
+      by (bytes_eq k.issue d.issue) (k.account == corporation)
       (sym (total-same (λ a. cash (pos 0) d.rate) (λ a. pos 0) (members J) (λ a. no_cash d.rate) ∙ total-zero (members J))) (sym (no_cash d.rate))
     where
       by : (b t : Bool) {x y : ℤ} → pos 0 ≡ x → pos 0 ≡ y → pos 0 ≡ cond b (cond t (neg_ℤ x) y) (pos 0)
@@ -168,8 +169,8 @@ module _ (opening : Day) (J : Journal) (sound : IsSound J) where
   abbrev in_issue : Account → Cusip → Declared → ℤ
   in_issue a c d = cond (a == corporation) (neg_ℤ (total (λ b. cash (position (as_of opening J d.recorded) b c) d.rate) (members J))) (cash (position (as_of opening J d.recorded) a c) d.rate)
 
-  of_issue : (b : Bool) (a : Account) (c : Cusip) (d : Declared) → (b ≡ true → d.cusip ≡ c)
-      → cond b (cond (a == corporation) (neg_ℤ (total (λ b. cash (position (as_of opening J d.recorded) b d.cusip) d.rate) (members J))) (cash (position (as_of opening J d.recorded) a c) d.rate)) (pos 0) ≡ cond b (in_issue a c d) (pos 0)
+  of_issue : (b : Bool) (a : Account) (c : Cusip) (d : Declared) → (b ≡ true → d.issue ≡ c)
+      → cond b (cond (a == corporation) (neg_ℤ (total (λ b. cash (position (as_of opening J d.recorded) b d.issue) d.rate) (members J))) (cash (position (as_of opening J d.recorded) a c) d.rate)) (pos 0) ≡ cond b (in_issue a c d) (pos 0)
   of_issue true a c d h = λ i. cond (a == corporation) (neg_ℤ (total (λ b. cash (position (as_of opening J d.recorded) b (h refl i)) d.rate) (members J))) (cash (position (as_of opening J d.recorded) a c) d.rate)
   of_issue false a c d h = refl
 
@@ -189,7 +190,7 @@ module _ (opening : Day) (J : Journal) (sound : IsSound J) where
       let ds : List Declared = filter (is_due (last_date opening J) (date opening J)) (in_order pays_before (dividends J)) in
       let ss : List DaySheet = map (day_sheet opening) (closings J) in
       total-given (λ (p : Paying). paid p.0 p.1 k) (λ d. option_map (λ s. (d, s.rows)) (sheet_as_of ss d.recorded)) ds
-      ∙ total-same _ _ ds (λ d. with_rows d k (sheet_as_of ss d.recorded) ∙ one_paid d k (closings J) e ∙ of_issue (bytes_eq k.issue d.cusip) k.account k.issue d (λ t. sym ((bytes_eq-Decides k.issue d.cusip).0 t)))
+      ∙ total-same _ _ ds (λ d. with_rows d k (sheet_as_of ss d.recorded) ∙ one_paid d k (closings J) e ∙ of_issue (bytes_eq k.issue d.issue) k.account k.issue d (λ t. sym ((bytes_eq-Decides k.issue d.issue).0 t)))
       ∙ total-due (in_issue k.account k.issue) (is_due (last_date opening J) (date opening J)) k.issue (dividends J)
       ∙ all_due k.account k.issue
 

@@ -1,4 +1,5 @@
 -- What a closed day's sheet of the definitions shows at each key.
+-- For `close_day` of parts/closing.rt, clause step.
 use Rattle.std.proofs.Common.{◌≡◌, ◌∙◌, sym, ap, refl, ℤ, pos, Bool, true, false, ◌&&◌, cond, List, [], ◌∷◌, ◌++◌, map, filter, flat_map, Some, None}
 use Rattle.std.specs.Prelude.{bytes_eq}
 use Rattle.std.specs.FinMap.{find, is_sorted}

@@ -1,4 +1,5 @@
 -- The sheet that a close cuts is the one of the definitions.
+-- For `close_day` of parts/closing.rt, clause step.
 use Rattle.std.proofs.Common.{◌≡◌, ◌∙◌, sym, ap, subst, refl, ℕ, ◌+◌, ◌*◌, ◌≤◌, ◌<◌, ℤ, pos, Bool, true, false, cond, List, [], ◌∷◌, length, map, filter, Option, Some, None, unwrap_or, arith}
 use Rattle.std.specs.Prelude.{option_map, slice_get, unsigned_abs}
 use Rattle.std.specs.Cmp.Lexicographic.{slice_cmp}
@@ -47,9 +48,9 @@ use Rattle.cns_sheets.proofs.Kept.{listed_found, prices_rise}
 use Rattle.cns_book.specs.Contents.{Contents}
 use Rattle.cns_book.specs.Dated.{last_dated, payments_by, sheet_as_of}
 use Rattle.cns_book.specs.Follows.{Follows}
-use Rattle.cns_book.proofs.Closing.{whole_reached}
-use Rattle.cns_book.proofs.Paying.{IsEarlier, dividends_are, rows_are_cut}
-use Rattle.cns_book.proofs.SheetFound.{closing_found, money_found, shown_rise}
+use Rattle.cns_book.proofs.ClosingSteps.{whole_reached}
+use Rattle.cns_book.proofs.ClosingPayments.{IsEarlier, dividends_are, rows_are_cut}
+use Rattle.cns_book.proofs.ClosingRows.{closing_found, money_found, shown_rise}
 
 -- ---- prices
 
@@ -189,7 +190,7 @@ can_be_cut L s f room order =
 -- a dividend with the sheet that is found
 payable_if : (opening : Day) (d : Declared) (b : Bool) (K : Journal) (o : Option DaySheet) (ps : List Paying) → IsLimited opening K → d.rate ≤ rate_limit → AllByRecursion IsPayable (cons_option (option_map (λ s. (d, s.rows)) o) ps)
     → AllByRecursion IsPayable ps → AllByRecursion IsPayable (cons_option (option_map (λ s. (d, s.rows)) (cond b (Some (day_sheet opening K)) o)) ps)
-payable_if opening d true K o ps l low rest h = (payable opening K l d.cusip d.rate low, h)
+payable_if opening d true K o ps l low rest h = (payable opening K l d.issue d.rate low, h)
 payable_if opening d false K o ps l low rest h = rest
 
 payable_one : (opening : Day) (d : Declared) (Ks : List Journal) (ps : List Paying) → AllByRecursion (IsLimited opening) Ks → d.rate ≤ rate_limit → AllByRecursion IsPayable ps → AllByRecursion IsPayable (cons_option (option_map (λ s. (d, s.rows)) (sheet_as_of (map (day_sheet opening) Ks) d.recorded)) ps)

@@ -1,4 +1,5 @@
 -- The close of a day.
+-- For `close_day` of parts/closing.rt, clause step.
 use Rattle.std.proofs.Common.{◌≡◌, ◌∙◌, sym, ap, subst, refl, ℕ, suc, ◌+◌, ◌-◌, ◌^◌, ◌≤◌, ◌<◌, min, ℤ, pos, Bool, true, false, cond, List, [], ◌∷◌, ◌++◌, length, map, None, arith}
 use Rattle.std.specs.Prelude.{int_le, int_lt}
 use Rattle.std.specs.List.{AllByRecursion, prefix_len}
@@ -15,7 +16,7 @@ use Rattle.cns_terms.specs.Batches.{Liables}
 use Rattle.cns_terms.specs.Entries.{journal, posting}
 use Rattle.cns_terms.specs.Fills.{batches_since}
 use Rattle.cns_terms.specs.Limits.{history_limit}
-use Rattle.cns_terms.specs.Machine.{holding}
+use Rattle.cns_terms.specs.Holdings.{holding}
 use Rattle.cns_terms.specs.Positions.{position}
 use Rattle.cns_terms.specs.Postings.{Journal}
 use Rattle.cns_terms.specs.Refusals.{refusal}
@@ -29,9 +30,9 @@ use Rattle.cns_positions.specs.Rows.{Rows, holding_at, rolled}
 use Rattle.cns_book.specs.Contents.{Contents}
 use Rattle.cns_book.specs.Dated.{IsAfter}
 use Rattle.cns_book.specs.Follows.{Follows, HasRoom}
-use Rattle.cns_book.proofs.Batching.{batches_more}
-use Rattle.cns_book.proofs.Lengths.{closes_le}
-use Rattle.cns_book.proofs.Staying.{listings_stay}
+use Rattle.cns_book.proofs.RetransmittalBatches.{batches_more}
+use Rattle.cns_book.proofs.JournalLengths.{closes_le}
+use Rattle.cns_book.proofs.PartsStaying.{listings_stay}
 
 -- the journal of activities that commands reach is sound
 pub whole_reached : {s : Contents} (L : List Activity) → Follows L s → IsWhole s.opening (journal s.opening L)

@@ -1,4 +1,5 @@
 -- Entries, booked one after another.
+-- For `book` of effect.rt.
 use Rattle.std.proofs.Common.{◌≡◌, ◌∙◌, sym, ap, subst, refl, ℕ, suc, zero, ◌+◌, ◌*◌, ◌^◌, ◌≤◌, ◌<◌, ℤ, pos, ◌+ℤ◌, Bool, true, false, cond, List, [], ◌∷◌, ◌++◌, length, map, take, get_or, arith}
 use Rattle.std.specs.Prelude.{unsigned_abs, Contains}
 use Rattle.std.proofs.lemmas.Int.{ints}

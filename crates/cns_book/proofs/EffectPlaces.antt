@@ -1,9 +1,10 @@
 -- What one posting more makes of what stands at a key.
+-- For `book` of effect.rt, and every command, clause step.
 use Rattle.std.proofs.Common.{◌≡◌, false, [], ◌∷◌, refl}
 use Rattle.cns_terms.specs.declared.holding.Holding.{Holding}
 use Rattle.cns_terms.specs.declared.holding.Key.{Key}
 use Rattle.cns_terms.specs.Days.{is_close}
-use Rattle.cns_terms.specs.Machine.{holding}
+use Rattle.cns_terms.specs.Holdings.{holding}
 use Rattle.cns_terms.specs.Postings.{Journal, Posting}
 use Rattle.cns_terms.proofs.Facts.{zero_add}
 use Rattle.cns_positions.specs.Rows.{books}

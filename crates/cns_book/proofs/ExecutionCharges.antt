@@ -1,4 +1,5 @@
 -- The batches of the closed days after an execution.
+-- For `execute` of parts/execution.rt, clause step.
 use Rattle.std.proofs.Common.{◌≡◌, ◌∙◌, ap, refl, ℕ, zero, suc, ◌+◌, ◌<◌, Bool, true, false, cond, ◌&&◌, ◌==◌, List, [], ◌∷◌, ◌++◌, filter, length, map, Some, reverse, arith}
 use Rattle.std.specs.Option.{option_map_or}
 use Rattle.std.specs.Prelude.{nat_lt}
@@ -22,7 +23,7 @@ use Rattle.cns_terms.proofs.BatchSteps.{batch_charged, batch_same}
 use Rattle.cns_terms.proofs.Facts.{eqb_sym}
 use Rattle.cns_retransmit.specs.Days.{charged_if, charged_in, charged_on}
 use Rattle.cns_book.specs.Follows.{kept_batches}
-use Rattle.cns_book.proofs.Batching.{in_issue, since_same}
+use Rattle.cns_book.proofs.RetransmittalBatches.{in_issue, since_same}
 
 -- ---- the days of the closings
 
@@ -74,12 +75,12 @@ module _ {X : Type 0} (h : X → X) (g : Journal → X) where
 -- fills leave nobody out of a batch
 charged_kept : (c : Cusip) (fs : List Fill) (bs : List Liables) → filter (λ b. nat_lt 0 (length b.members)) (map (charged_if c fs) bs) ≡ map (charged_if c fs) (filter (λ b. nat_lt 0 (length b.members)) bs)
 charged_kept c fs [] = refl
-charged_kept c fs (b ∷ bs) = ap (λ n. cond (nat_lt 0 n) (charged_if c fs b ∷ rest) rest) (as_many (same_issue b.cusip c)) ∙ kept (nat_lt 0 (length b.members)) (charged_kept c fs bs)
+charged_kept c fs (b ∷ bs) = ap (λ n. cond (nat_lt 0 n) (charged_if c fs b ∷ rest) rest) (as_many (same_issue b.issue c)) ∙ kept (nat_lt 0 (length b.members)) (charged_kept c fs bs)
   where
     rest : List Liables
     rest = filter (λ b. nat_lt 0 (length b.members)) (map (charged_if c fs) bs)
 
-    as_many : (t : Bool) → length (cond t (record { cusip = b.cusip; members = map (charged fs) b.members }) b).members ≡ length b.members
+    as_many : (t : Bool) → length (cond t (record { issue = b.issue; members = map (charged fs) b.members }) b).members ≡ length b.members
     as_many true = length-map b.members (charged fs)
     as_many false = refl
 
@@ -106,9 +107,9 @@ module _ (opening : Day) (J : Journal) (x : Execution) (k : Notice) (is : notice
   one_charged : (K : Journal) (d : Cusip) → (day K == k.given.day) ≡ true → in_issue (batch_since (post ∷ J) K) d ≡ charged_if k.given.issue (fills J x k) (in_issue (batch_since J K) d)
   one_charged K d today = by (same_issue d k.given.issue) refl
     where
-      by : (t : Bool) → same_issue d k.given.issue ≡ t → in_issue (batch_since (post ∷ J) K) d ≡ cond t (record { cusip = d; members = map (charged (fills J x k)) (batch_since J K d) }) (in_issue (batch_since J K) d)
-      by true e = λ i. record { cusip = d; members = batch_charged post J K d x k (executes_one (day K) d ∙ (λ j. today j && e j)) booked_for (nat_list_eq_equiv.symm k.given.issue d ∙ e) i }
-      by false e = λ i. record { cusip = d; members = batch_same post J K d (executes_one (day K) d ∙ (λ j. today j && e j)) i }
+      by : (t : Bool) → same_issue d k.given.issue ≡ t → in_issue (batch_since (post ∷ J) K) d ≡ cond t (record { issue = d; members = map (charged (fills J x k)) (batch_since J K d) }) (in_issue (batch_since J K) d)
+      by true e = λ i. record { issue = d; members = batch_charged post J K d x k (executes_one (day K) d ∙ (λ j. today j && e j)) booked_for (nat_list_eq_equiv.symm k.given.issue d ∙ e) i }
+      by false e = λ i. record { issue = d; members = batch_same post J K d (executes_one (day K) d ∙ (λ j. today j && e j)) i }
 
   all_charged : (K : Journal) (ds : List Cusip) → (day K == k.given.day) ≡ true → map (in_issue (batch_since (post ∷ J) K)) ds ≡ map (charged_if k.given.issue (fills J x k)) (map (in_issue (batch_since J K)) ds)
   all_charged K [] today = refl

@@ -1,4 +1,5 @@
 -- The fills of an execution that is not refused can be booked.
+-- For `make_fills` of parts/execution.rt, clause booked.
 use Rattle.std.proofs.Common.{◌≡◌, ◌∙◌, ap, refl, ℕ, ◌+◌, ◌-◌, ◌≤◌, min, ℤ, pos, negsuc, Bool, true, false, cond, List, [], ◌∷◌, filter, sum_by, arith}
 use Rattle.std.specs.List.{AllByRecursion}
 use Rattle.std.specs.Prelude.{◌==◌, int_lt, nat_lt}
@@ -26,7 +27,7 @@ use Rattle.cns_positions.specs.Rows.{holding_at}
 use Rattle.cns_book.specs.Contents.{Contents}
 use Rattle.cns_book.specs.Executions.{AreApart, CanBeExecuted, CanBeFilled, IsWithin, filled_at, originator_at}
 use Rattle.cns_book.specs.Follows.{Follows}
-use Rattle.cns_book.proofs.Rooms.{sound_at}
+use Rattle.cns_book.proofs.ExecutionRoom.{sound_at}
 
 -- ---- members that are filled are short
 

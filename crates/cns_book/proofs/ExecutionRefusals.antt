@@ -1,4 +1,5 @@
 -- An execution: what it is refused for, and what it leaves.
+-- For `check_execution` of parts/execution.rt, clauses refused and accepted.
 use Rattle.std.proofs.Common.{◌≡◌, ◌∙◌, ap, sym, subst, refl, ℕ, zero, suc, ◌+◌, ◌-◌, ◌≤◌, ◌<◌, Bool, true, false, not, cond, ◌&&◌, ◌⊎◌, inl, inr, List, [], ◌∷◌, length, Option, Some, None, is_none, arith}
 use Rattle.std.specs.List.{slice_get}
 use Rattle.std.specs.Option.{IfSome, option_map_or}
@@ -36,10 +37,10 @@ use Rattle.cns_book.specs.Contents.{Contents}
 use Rattle.cns_book.specs.Executions.{capped_short, entries_by}
 use Rattle.cns_book.specs.Follows.{Follows}
 use Rattle.cns_book.specs.Retransmittal.{remaining_by}
-use Rattle.cns_book.proofs.Calls.{remaining_same}
-use Rattle.cns_book.proofs.Charging.{batches_charged, booked_for}
-use Rattle.cns_book.proofs.Rooms.{batch_members, members_of, shorts_now}
-use Rattle.cns_book.proofs.Staying.{clock_stays, dividends_stay, listings_stay, rows_booked, sheets_stay}
+use Rattle.cns_book.proofs.RetransmittalCalls.{remaining_same}
+use Rattle.cns_book.proofs.ExecutionCharges.{batches_charged, booked_for}
+use Rattle.cns_book.proofs.ExecutionRoom.{batch_members, members_of, shorts_now}
+use Rattle.cns_book.proofs.PartsStaying.{clock_stays, dividends_stay, listings_stay, rows_booked, sheets_stay}
 
 -- ---- the notice that is named
 

@@ -1,4 +1,5 @@
 -- The batch of a notice, and what it can be given, as the parts show them.
+-- For `check_execution` of parts/execution.rt, clause refused, and `batch` and `batches` of parts/reading.rt.
 use Rattle.std.proofs.Common.{◌≡◌, ◌∙◌, ap, sym, refl, ℕ, zero, suc, ◌+◌, ◌^◌, ◌-◌, ◌≤◌, min, ℤ, pos, negsuc, Bool, true, false, cond, ◌||◌, ◌==◌, List, [], ◌∷◌, ◌++◌, filter, find, length, map, Option, Some, None, reverse, arith}
 use Rattle.std.specs.List.{list_any, slice_get}
 use Rattle.std.specs.Option.{IfSome, option_map_or, unwrap_or}
@@ -30,8 +31,8 @@ use Rattle.cns_retransmit.specs.Days.{batch_in, batch_on, batches_on}
 use Rattle.cns_book.specs.Contents.{Contents}
 use Rattle.cns_book.specs.Executions.{capped_short}
 use Rattle.cns_book.specs.Follows.{Follows, kept_batches}
-use Rattle.cns_book.proofs.Batching.{in_issue}
-use Rattle.cns_book.proofs.Retransmitting.{chosen_none, uncalled}
+use Rattle.cns_book.proofs.RetransmittalBatches.{in_issue}
+use Rattle.cns_book.proofs.RetransmittalSteps.{chosen_none, uncalled}
 
 -- ---- the closings, the first day's first
 
@@ -105,15 +106,15 @@ members_in g (d ∷ cs) c = by (same_issue d c) (g d) (λ e. ap g ((bytes_eq-Dec
     none_either true ls e = refl
     none_either false ls e = e
 
-    by : (t : Bool) (ls : List Liable) → (same_issue d c ≡ true → g d ≡ g c) → g d ≡ ls → members_of (batch_in rest c) ≡ listed_members g cs c → same_issue d c ≡ t → members_of (batch_in (cond (nat_lt 0 (length ls)) (record { cusip = d; members = ls } ∷ rest) rest) c) ≡ cond (t || list_any (λ e. same_issue e c) cs) (g c) []
+    by : (t : Bool) (ls : List Liable) → (same_issue d c ≡ true → g d ≡ g c) → g d ≡ ls → members_of (batch_in rest c) ≡ listed_members g cs c → same_issue d c ≡ t → members_of (batch_in (cond (nat_lt 0 (length ls)) (record { issue = d; members = ls } ∷ rest) rest) c) ≡ cond (t || list_any (λ e. same_issue e c) cs) (g c) []
     by true [] same is h e = h ∙ none_either (list_any (λ e. same_issue e c) cs) (g c) (sym is ∙ same e)
     by true (l ∷ ls) same is h e =
-        ap (λ b. members_of (batch_in (cond b (record { cusip = d; members = l ∷ ls } ∷ rest) rest) c)) (some (length ls))
-        ∙ ap (λ b. members_of (cond b (Some (record { cusip = d; members = l ∷ ls })) (batch_in rest c))) e ∙ sym is ∙ same e
+        ap (λ b. members_of (batch_in (cond b (record { issue = d; members = l ∷ ls } ∷ rest) rest) c)) (some (length ls))
+        ∙ ap (λ b. members_of (cond b (Some (record { issue = d; members = l ∷ ls })) (batch_in rest c))) e ∙ sym is ∙ same e
     by false [] same is h e = h
     by false (l ∷ ls) same is h e =
-        ap (λ b. members_of (batch_in (cond b (record { cusip = d; members = l ∷ ls } ∷ rest) rest) c)) (some (length ls))
-        ∙ ap (λ b. members_of (cond b (Some (record { cusip = d; members = l ∷ ls })) (batch_in rest c))) e ∙ h
+        ap (λ b. members_of (batch_in (cond b (record { issue = d; members = l ∷ ls } ∷ rest) rest) c)) (some (length ls))
+        ∙ ap (λ b. members_of (cond b (Some (record { issue = d; members = l ∷ ls })) (batch_in rest c))) e ∙ h
 
 -- a closed day's journal is sound; so is the empty one that stands for a day that is not closed
 pub sound_at : (opening : Day) (L : List Activity) (n : ℕ) → Rattle.cns_terms.specs.Reached.IsReached opening L → IsSound (at_close (journal opening L) n)

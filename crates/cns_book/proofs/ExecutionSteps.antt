@@ -1,4 +1,5 @@
 -- What an accepted execution fills.
+-- For `make_fills` and `execute` of parts/execution.rt, clauses fills, booked and step.
 use Rattle.std.proofs.Common.{◌≡◌, ◌∙◌, ap, sym, subst, ℕ, ◌≤◌, List, [], ◌∷◌, length, Ok, Option, Some}
 use Rattle.std.specs.Option.{option_map_or}
 use Rattle.cns_terms.specs.declared.buy_in.Execution.{Execution}
@@ -22,11 +23,11 @@ use Rattle.cns_retransmit.specs.Days.{batch_on, charged_on}
 use Rattle.cns_book.specs.Contents.{Contents}
 use Rattle.cns_book.specs.Executions.{CanBeExecuted, IsAccepted, capped_short, entries_by, fills_by}
 use Rattle.cns_book.specs.Follows.{Follows, HasRoom, Steps}
-use Rattle.cns_book.proofs.Executing.{AreShort, executable_one, execute_follows, fills_same, named, read_of, room_by, room_same}
-use Rattle.cns_book.proofs.Fillable.{can_execute}
-use Rattle.cns_book.proofs.Machine.{accepted}
-use Rattle.cns_book.proofs.Rooms.{members_of}
-use Rattle.cns_book.proofs.Within.{rows_within}
+use Rattle.cns_book.proofs.ExecutionRefusals.{AreShort, executable_one, execute_follows, fills_same, named, read_of, room_by, room_same}
+use Rattle.cns_book.proofs.ExecutionFills.{can_execute}
+use Rattle.cns_book.proofs.MachineSteps.{accepted}
+use Rattle.cns_book.proofs.ExecutionRoom.{members_of}
+use Rattle.cns_book.proofs.PartsWithin.{rows_within}
 
 -- the notice of an accepted execution
 pub record IsOfNotice (L : List Activity) (s : Contents) (x : Execution) (g : Given) (k : Notice) : Type 0 where

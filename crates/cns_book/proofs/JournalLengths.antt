@@ -1,4 +1,5 @@
 -- How many postings and closes there are.
+-- For `close_day` of parts/closing.rt.
 use Rattle.std.proofs.Common.{suc, ◌≤◌, Bool, true, false, cond, [], ◌∷◌, length, arith}
 use Rattle.cns_terms.specs.Days.{closes, closings, is_close}
 use Rattle.cns_terms.specs.Postings.{Journal}

@@ -1,4 +1,5 @@
--- A close tells how many members the batches of its day have.
+-- A close tells the date of its day, and how many rows its sheet and how many members its batches have.
+-- For `close_counts` of laws.rt.
 use Rattle.std.proofs.Common.{◌≡◌, ◌∙◌, ap, sym, subst, refl, ℕ, ◌≤◌, true, cond, ◌==◌, List, [], ◌∷◌, flat_map, length, Option, Some, None, arith}
 use Rattle.std.specs.Option.{option_map_or}
 use Rattle.std.specs.Prelude.{find, is_none, unwrap_or}
@@ -13,18 +14,19 @@ use Rattle.cns_terms.specs.declared.refusal.Refusal.{Refusal}
 use Rattle.cns_terms.specs.declared.reply.Closed.{Closed}
 use Rattle.cns_terms.specs.declared.reply.Reply.TheVariants as reply
 use Rattle.cns_terms.specs.Batches.{batch_at, liable_at}
-use Rattle.cns_terms.specs.Days.{at_close, closings, day}
+use Rattle.cns_terms.specs.Days.{at_close, closings, date, day}
 use Rattle.cns_terms.specs.Entries.{journal, posting}
-use Rattle.cns_terms.specs.Fills.{batch_since, batches, batches_since, left_of}
+use Rattle.cns_terms.specs.Fills.{batch_since, batches_since, left_of}
 use Rattle.cns_terms.specs.Laws.{journal_of}
 use Rattle.cns_terms.specs.Listings.{issues}
 use Rattle.cns_terms.specs.Machine.{State, activity_reply, after, next, opened}
 use Rattle.cns_terms.specs.Postings.{Journal}
 use Rattle.cns_terms.specs.Refusals.{refusal}
+use Rattle.cns_terms.specs.Sheets.{sheet_rows}
 use Rattle.cns_terms.proofs.ClosedDays.{keeps-after}
 use Rattle.cns_terms.proofs.Sound.{IsWhole, opening_stays, whole-after, whole-next}
-use Rattle.cns_book.specs.Liable.{LiableCounts, liable_in}
-use Rattle.cns_book.proofs.Retransmitting.{sum_of}
+use Rattle.cns_book.specs.Closes.{CloseCounts, TellsDay, liable_in}
+use Rattle.cns_book.proofs.RetransmittalSteps.{sum_of}
 
 -- executions leave the members in their batches
 still_liable : (J K : Journal) (cs : List Cusip) → length (flat_map (batch_since J K) cs) ≡ length (flat_map (batch_at K) cs)
@@ -49,7 +51,7 @@ close_found J n e = ap (λ b. unwrap_or (cond b (Some J) (find (λ K. day K == n
 -- what an accepted close tells, and what the journal has at the close of its day from then on
 by_refusal : (S : State) (more : List Command) (d : Day) (c : Closed) (o : Option Refusal) → IsWhole S.opening (journal_of S) → refusal S.opening (journal_of S) (command.Activity (activity.Close d)) ≡ o
     → option_map_or reply.Refused o (activity_reply S.opening (journal_of S) (activity.Close d)) ≡ reply.Closed c
-    → c.liable ≡ liable_in (batches (journal_of (after (next S (command.Activity (activity.Close d))) more)) c.day)
+    → TellsDay (after (next S (command.Activity (activity.Close d))) more) c
 by_refusal S more d c (Some r) w o e = cc
 by_refusal S more d c None w o e =
     let J = journal_of S in
@@ -58,16 +60,24 @@ by_refusal S more d c None w o e =
     let J' = journal_of (after S' more) in
     let told : activity_reply S.opening J (activity.Close d) ≡ reply.Closed c = e in
     let liable : length (liable_at J) ≡ c.liable = cc in
+    let rows : length (sheet_rows S.opening J) ≡ c.rows = cc in
+    let dated : date S.opening J ≡ c.date = cc in
     let on : day J ≡ c.day = cc in
     let closed : journal_of S' ≡ posting S.opening J (activity.Close d) ∷ J = ap (λ r. journal S.opening (cond (is_none r) (activity.Close d ∷ S.accepted) S.accepted)) o in
     let k = keeps-after S' more (whole-next S close w) in
     let found : at_close (journal_of S') (day J) ≡ J = ap (λ K. at_close K (day J)) closed ∙ close_found J (day J) refl in
     let fits : day J ≤ length (closings (journal_of S')) = subst (λ K. day J ≤ length (closings K)) (sym closed) (omega arith) in
-    sym liable ∙ sym (counted J' J) ∙ ap (λ K. liable_in (batches_since J' K)) (sym (k.by_place (day J) fits ∙ found)) ∙ ap (λ n. liable_in (batches J' n)) on
+    let there : at_close J' c.day ≡ J = ap (at_close J') (sym on) ∙ k.by_place (day J) fits ∙ found in
+    let same : (after S' more).opening ≡ S.opening = opening_stays S' more in
+    record {
+      date = (λ i. date (same i) (there i)) ∙ dated;
+      rows = sym rows ∙ (λ i. length (sheet_rows (sym same i) (sym there i)));
+      liable = sym liable ∙ sym (counted J' J) ∙ ap (λ K. liable_in (batches_since J' K)) (sym there);
+    }
 
--- whatever is taken later, the batches of a closed day have as many members as its close told
-pub liable_counts : LiableCounts
-liable_counts opening cmds more d c e =
+-- whatever is taken later, a closed day is as its close told
+pub close_counts : CloseCounts
+close_counts opening cmds more d c e =
     let S = after (opened opening) cmds in
     let w : IsWhole S.opening (journal_of S) = subst (λ o. IsWhole o (journal_of S)) (sym (opening_stays (opened opening) cmds)) (whole-after opening cmds) in
     by_refusal S more d c _ w refl e

@@ -1,4 +1,5 @@
 -- A member, an issue or a price more: each leaves all parts but its own.
+-- For parts/listing.rt, and `declare_dividend` of parts/dividend.rt, clause step.
 use Rattle.std.proofs.Common.{◌≡◌, ◌∙◌, sym, ap, ℕ, ◌≤◌, Bool, true, false, ◌||◌, cond, eqb, List, [], ◌∷◌, refl}
 use Rattle.std.specs.Prelude.{bytes_eq, is_some, Option, Some, None, find, filter_map}
 use Rattle.cns_units.specs.declared.cusip.Cusip.{Cusip}
@@ -14,7 +15,7 @@ use Rattle.cns_terms.proofs.Everywhere.{any_put}
 use Rattle.cns_terms.specs.Dividends.{pays_before}
 use Rattle.cns_terms.specs.Sums.{put}
 use Rattle.cns_terms.specs.Entries.{entries, journal}
-use Rattle.cns_terms.specs.Limits.{member_limit, rate_limit}
+use Rattle.cns_terms.specs.Limits.{member_limit, price_limit, rate_limit}
 use Rattle.cns_terms.specs.Reached.{IsInRange}
 use Rattle.cns_terms.specs.Refusals.{refusal}
 use Rattle.cns_terms.specs.Days.{is_close}
@@ -24,7 +25,7 @@ use Rattle.cns_prices.specs.Listed.{Listed, price_in, retired_in}
 use Rattle.cns_book.specs.Contents.{Contents}
 use Rattle.cns_book.specs.Follows.{Follows, FollowsListings, FollowsReferences}
 use Rattle.cns_book.specs.Members.{has_member}
-use Rattle.cns_book.proofs.Staying.{batches_stay, clock_stays, dividends_stay, is_dividend, is_execution, is_noticing, listings_stay, notices_stay, rows_stay, sheets_stay}
+use Rattle.cns_book.proofs.PartsStaying.{batches_stay, clock_stays, dividends_stay, is_dividend, is_execution, is_noticing, listings_stay, notices_stay, rows_stay, sheets_stay}
 
 module _ (L : List Activity) (s : Contents) where
   -- an activity that books nothing and closes no day, where the listings follow it
@@ -78,9 +79,9 @@ listed_branch b true p q = refl
 listed_branch b false p q = refl
 
 -- an issue more
-pub issue_listed : (L : List Activity) (s : Contents) (l : Listing) (new : Listed) → Follows L s → refusal s.opening (journal s.opening L) (command.Activity (activity.Issue l)) ≡ None → ((c : Cusip) → price_in new c ≡ cond (bytes_eq l.issue c) (Some l.price) (price_in s.prices c))
+pub issue_listed : (L : List Activity) (s : Contents) (l : Listing) (new : Listed) → Follows L s → l.price ≤ price_limit → refusal s.opening (journal s.opening L) (command.Activity (activity.Issue l)) ≡ None → ((c : Cusip) → price_in new c ≡ cond (bytes_eq l.issue c) (Some l.price) (price_in s.prices c))
     → ((c : Cusip) → retired_in new c ≡ retired_in s.prices c) → Follows (activity.Issue l ∷ L) (record s { prices = new })
-issue_listed L s l new f none h r = entered L s (activity.Issue l) s.members new f tt none refl refl refl refl refl f.references (record {
+issue_listed L s l new f range none h r = entered L s (activity.Issue l) s.members new f range none refl refl refl refl refl f.references (record {
   members = f.listings.members;
   prices = λ c.
       let J = journal s.opening L in
@@ -105,9 +106,9 @@ set_branch false true p q h = absurd (no (h refl))
 set_branch false false p q h = refl
 
 -- a price set anew
-pub price_set : (L : List Activity) (s : Contents) (l : Listing) (new : Listed) → Follows L s → refusal s.opening (journal s.opening L) (command.Activity (activity.Price l)) ≡ None → is_listed (journal s.opening L) l.issue ≡ true → ((c : Cusip) → price_in new c ≡ cond (bytes_eq l.issue c) (Some l.price) (price_in s.prices c))
+pub price_set : (L : List Activity) (s : Contents) (l : Listing) (new : Listed) → Follows L s → l.price ≤ price_limit → refusal s.opening (journal s.opening L) (command.Activity (activity.Price l)) ≡ None → is_listed (journal s.opening L) l.issue ≡ true → ((c : Cusip) → price_in new c ≡ cond (bytes_eq l.issue c) (Some l.price) (price_in s.prices c))
     → ((c : Cusip) → retired_in new c ≡ retired_in s.prices c) → Follows (activity.Price l ∷ L) (record s { prices = new })
-price_set L s l new f none there h r = entered L s (activity.Price l) s.members new f tt none refl refl refl refl refl f.references (record {
+price_set L s l new f range none there h r = entered L s (activity.Price l) s.members new f range none refl refl refl refl refl f.references (record {
   members = f.listings.members;
   prices = λ c.
       let J = journal s.opening L in

@@ -1,5 +1,6 @@
 -- The machine's reply and step, by whether a command is refused.
-use Rattle.std.proofs.Common.{◌≡◌, ◌∙◌, sym, ap, subst, refl, cond, false, List, [], ◌∷◌, Some, None, Ok}
+-- For every command, clause step.
+use Rattle.std.proofs.Common.{◌≡◌, ◌∙◌, sym, ap, subst, refl, cond, Bool, true, false, not, List, [], ◌∷◌, ◌++◌, Some, None, Ok}
 use Rattle.std.specs.Prelude.{find, option_map, is_none, Result, Err, IsErr}
 use Rattle.std.specs.List.{AllByRecursion}
 use Rattle.std.specs.Option.{option_map_or}
@@ -34,6 +35,21 @@ refused {s} L x r some f = (
 pub no_refusal : (rules : List Rule) → AllByRecursion (λ r. r.1 ≡ false) rules → first_refusal rules ≡ None
 no_refusal [] h = refl
 no_refusal (r ∷ rules) h = ap (λ b. option_map (λ (r : Rule). r.0) (cond b (Some r) (find (λ r. r.1) rules))) h.0 ∙ no_refusal rules h.1
+
+-- a rule whose condition is that something is not so does not hold, so it is so
+pub so : (b : Bool) → not b ≡ false → b ≡ true
+so true h = refl
+so false h = cc
+
+-- what is refused by the first rules is refused by them and more
+pub still_refused : (rs ss : List Rule) (r : Refusal) → first_refusal rs ≡ Some r → first_refusal (rs ++ ss) ≡ Some r
+still_refused [] ss r h = cc
+still_refused (t ∷ rs) ss r h = by t.1 h (still_refused rs ss r)
+  where
+    by : (b : Bool) → option_map (λ (r : Rule). r.0) (cond b (Some t) (find (λ r. r.1) rs)) ≡ Some r → (first_refusal rs ≡ Some r → first_refusal (rs ++ ss) ≡ Some r)
+        → option_map (λ (r : Rule). r.0) (cond b (Some t) (find (λ r. r.1) (rs ++ ss))) ≡ Some r
+    by true e more = e
+    by false e more = more e
 
 -- without memory nothing that is shown has changed
 pub stopped : {s : Contents} (L : List Activity) (cmd : Command) (r : Result Reply NoMemory) → IsErr r → refusal s.opening (journal s.opening L) cmd ≡ None → Follows L s → Steps L cmd r s

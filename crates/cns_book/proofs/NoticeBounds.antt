@@ -1,4 +1,5 @@
 -- How much is received and bought in on a notice, and of which days notices are.
+-- For parts/notice.rt, and `execute` of parts/execution.rt: what the calls of notices require.
 use Rattle.std.proofs.Common.{◌≡◌, ◌∙◌, ap, sym, subst, refl, ℕ, zero, suc, ◌+◌, ◌*◌, ◌-◌, ◌^◌, ◌≤◌, ◌<◌, Bool, true, false, cond, ◌&&◌, ◌==◌, List, [], ◌∷◌, ◌++◌, length, map, Option, Some, None, arith}
 use Rattle.std.specs.List.{AllByRecursion, slice_get}
 use Rattle.std.specs.Option.{ForSome, option_map_or}
@@ -10,14 +11,14 @@ use Rattle.cns_terms.specs.declared.command.Movement.{Movement}
 use Rattle.cns_terms.specs.Days.{day}
 use Rattle.cns_terms.specs.Entries.{journal}
 use Rattle.cns_terms.specs.Limits.{history_limit, shares_limit}
-use Rattle.cns_terms.specs.Notices.{Notice, execution, is_given, is_live, notice, noticed, notices, receipt, received_live, shares_executed, stage}
+use Rattle.cns_terms.specs.Notices.{Notice, execution, is_given, is_live, notice, noticed, notices, receipt, shares_executed, stage}
 use Rattle.cns_terms.specs.Postings.{Journal}
 use Rattle.cns_terms.specs.Reached.{IsInRange, IsReached}
 use Rattle.cns_terms.specs.Sums.{same_issue}
 use Rattle.cns_terms.proofs.Everywhere.{each_append, each_map}
 use Rattle.cns_terms.proofs.Facts.{journal_len}
 use Rattle.cns_notices.specs.declared.noticed.Noticed.{Noticed}
-use Rattle.cns_notices.specs.Kept.{kept, kept_notices}
+use Rattle.cns_notices.specs.Kept.{kept, kept_notices, received_live}
 use Rattle.cns_notices.specs.Noticed.{notice_at}
 use Rattle.cns_notices.proofs.NoticeFacts.{days_by, notices_few}
 use Rattle.cns_book.specs.Contents.{Contents}
@@ -32,35 +33,13 @@ some_or_none false n h = omega arith
 
 -- an activity in its ranges receives no more shares than one command can
 receipt_small : (n : Notice) (x : Activity) → IsInRange x → receipt n x ≤ shares_limit
-receipt_small n (activity.Member m) r = omega arith
-receipt_small n (activity.Issue l) r = omega arith
-receipt_small n (activity.Trade t) r = omega arith
-receipt_small n (activity.Price l) r = omega arith
-receipt_small n (activity.Deliver m) r = omega arith
 receipt_small n (activity.Receive m) r = some_or_none ((m.member == n.given.member) && same_issue m.issue n.given.issue) m.shares r
-receipt_small n (activity.Dividend d) r = omega arith
-receipt_small n (activity.Split s) r = omega arith
-receipt_small n (activity.Exchange x) r = omega arith
-receipt_small n (activity.Notice m) r = omega arith
-receipt_small n (activity.Withdraw k) r = omega arith
-receipt_small n (activity.Execute x) r = omega arith
-receipt_small n (activity.Close d) r = omega arith
+receipt_small n _ r = omega arith
 
 -- nor does it buy in more
 execution_small : (n : Notice) (x : Activity) → IsInRange x → execution n x ≤ shares_limit
-execution_small n (activity.Member m) r = omega arith
-execution_small n (activity.Issue l) r = omega arith
-execution_small n (activity.Trade t) r = omega arith
-execution_small n (activity.Price l) r = omega arith
-execution_small n (activity.Deliver m) r = omega arith
-execution_small n (activity.Receive m) r = omega arith
-execution_small n (activity.Dividend d) r = omega arith
-execution_small n (activity.Split s) r = omega arith
-execution_small n (activity.Exchange x) r = omega arith
-execution_small n (activity.Notice m) r = omega arith
-execution_small n (activity.Withdraw k) r = omega arith
 execution_small n (activity.Execute x) r = some_or_none (x.notice == n.number) x.shares r.1
-execution_small n (activity.Close d) r = omega arith
+execution_small n _ r = omega arith
 
 -- nor does it give notice of more
 noticed_small : (x : Activity) → IsInRange x → ForSome (noticed x) (λ m. m.shares ≤ shares_limit)
@@ -69,17 +48,7 @@ noticed_small (activity.Notice m) r n e = subst (λ (m : Movement). m.shares ≤
     inside : Some m ≡ Some n → m ≡ n
     inside e = cc
 noticed_small (activity.Member m) r n e = cc
-noticed_small (activity.Issue l) r n e = cc
-noticed_small (activity.Trade t) r n e = cc
-noticed_small (activity.Price l) r n e = cc
-noticed_small (activity.Deliver m) r n e = cc
-noticed_small (activity.Receive m) r n e = cc
-noticed_small (activity.Dividend d) r n e = cc
-noticed_small (activity.Split s) r n e = cc
-noticed_small (activity.Exchange x) r n e = cc
-noticed_small (activity.Withdraw k) r n e = cc
-noticed_small (activity.Execute x) r n e = cc
-noticed_small (activity.Close d) r n e = cc
+noticed_small _ r n e = cc
 
 -- ---- many
 

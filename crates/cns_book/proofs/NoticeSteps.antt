@@ -1,4 +1,5 @@
 -- Notices and withdrawals: what they are refused for, and what they leave.
+-- For parts/notice.rt, clauses refusal and step.
 use Rattle.std.proofs.Common.{◌≡◌, ◌∙◌, ap, sym, refl, ℕ, zero, suc, ◌+◌, ◌-◌, ◌≤◌, ℤ, pos, Bool, true, false, not, cond, List, [], ◌∷◌, ◌++◌, length, map, Option, Some, None, ◌⊎◌, inl, inr, is_none, is_some, arith}
 use Rattle.std.specs.List.{slice_get}
 use Rattle.std.specs.Option.{IsSomeAnd, option_map_or}
@@ -13,6 +14,7 @@ use Rattle.cns_terms.specs.declared.command.Activity.{Activity}
 use Rattle.cns_terms.specs.declared.command.Activity.TheVariants as activity
 use Rattle.cns_terms.specs.declared.command.Command.TheVariants as command
 use Rattle.cns_terms.specs.declared.command.Movement.{Movement}
+use Rattle.cns_terms.specs.declared.refusal.Refusal.{Refusal}
 use Rattle.cns_terms.specs.declared.refusal.Refusal.TheVariants.{AlreadyNoticed, ExceedsPosition, NoSuchIssue, NoSuchMember, NoSuchNotice, NotLive, NotLong, Retired}
 use Rattle.cns_terms.specs.Days.{is_close}
 use Rattle.cns_terms.specs.Entries.{entries, journal, posting}
@@ -21,29 +23,31 @@ use Rattle.cns_terms.specs.Notices.{Notice, first_reached, is_live, is_so, live_
 use Rattle.cns_terms.specs.Positions.{position}
 use Rattle.cns_terms.specs.Postings.{Journal, Posting}
 use Rattle.cns_terms.specs.Reached.{IsInRange}
-use Rattle.cns_terms.specs.Refusals.{first_refusal, is_exceeded, refusal}
-use Rattle.cns_terms.proofs.NoticeSteps.{AreNumberedFrom, numbered}
+use Rattle.cns_terms.specs.Refusals.{Rule, first_refusal, is_exceeded, refusal}
+use Rattle.cns_notices.proofs.NoticeSteps.{AreNumberedFrom, numbered}
 use Rattle.cns_positions.specs.Rows.{books, holding_at}
+use Rattle.cns_trades.specs.Checks.{issue_rules}
 use Rattle.cns_notices.specs.declared.noticed.Noticed.{Noticed}
 use Rattle.cns_notices.specs.Kept.{kept}
 use Rattle.cns_notices.specs.Noticed.{at_stage, live_number, notice_at as kept_at, opened, receives, with_notice}
 use Rattle.cns_notices.proofs.NoticeFacts.{kept_found, live_same}
 use Rattle.cns_notices.proofs.Noticing.{changed_each, changed_one, changed_same, notice_found, notice_more, received_by, taken_back, withdrawn_by}
 use Rattle.cns_book.specs.Contents.{Contents}
-use Rattle.cns_book.specs.Follows.{Follows, FollowsNotices}
+use Rattle.cns_book.specs.Follows.{Follows, FollowsNotices, member_position}
 use Rattle.cns_book.specs.Retransmittal.{remaining_by}
 use Rattle.cns_book.specs.Shown.{notice_listed, notice_of}
-use Rattle.cns_book.proofs.Calls.{remaining_same}
-use Rattle.cns_book.proofs.Places.{books_none}
-use Rattle.cns_book.proofs.Staying.{is_dividend, is_execution, is_listing}
-use Rattle.cns_book.proofs.Trading.{booked_by}
+use Rattle.cns_book.proofs.RetransmittalCalls.{remaining_same}
+use Rattle.cns_book.proofs.EffectPlaces.{books_none}
+use Rattle.cns_book.proofs.MachineSteps.{still_refused}
+use Rattle.cns_book.proofs.PartsStaying.{is_dividend, is_execution, is_listing}
+use Rattle.cns_book.proofs.TradingSteps.{booked_by}
 
 -- an activity that books nothing, where the notices follow it
 pub noticed_by : (L : List Activity) (s : Contents) (x : Activity) (notices : List Noticed) → Follows L s → IsInRange x → refusal s.opening (journal s.opening L) (command.Activity x) ≡ None → is_close x ≡ false → is_listing x ≡ false → is_dividend x ≡ false → is_execution x ≡ false
     → entries s.opening (journal s.opening L) x ≡ [] → ((r : ℕ) → is_seen (journal s.opening (x ∷ L)) r ≡ is_seen (journal s.opening L) r)
     → FollowsNotices (journal s.opening (x ∷ L)) (record s { notices = notices }) → Follows (x ∷ L) (record s { notices = notices })
 noticed_by L s x notices f range none still unlisted undeclared unexecuted nothing seen n =
-    booked_by L s x s.references notices s.rows f range none still unlisted undeclared unexecuted (λ r. f.references r ∙ sym (seen r)) n
+    booked_by L s x s.trades notices s.rows f range none still unlisted undeclared unexecuted (λ r. f.references r ∙ sym (seen r)) n
     (λ k. sym (ap (λ es. books es k (holding_at s.rows k)) nothing ∙ books_none k (holding_at s.rows k)))
 
 -- ---- a receipt
@@ -64,6 +68,21 @@ notice_given L s m f range none =
     let p : Posting = posting s.opening J (activity.Notice m) in
     noticed_by L s (activity.Notice m) _ f range none refl refl refl refl refl (λ r. refl)
     ((λ i. f.notices i ++ opened (record { member = m.member; issue = m.issue; shares = m.shares; day = f.clock.closes i + 1 }) ∷ []) ∙ sym (notice_more p J m (λ k y. refl)))
+
+-- a notice in an issue that is not listed or retired is refused for that
+pub notice_issue : (L : List Activity) (s : Contents) (m : Movement) (q : ℤ) (r : Refusal) → Some q ≡ member_position (journal s.opening L) m.member m.issue
+    → first_refusal (issue_rules (is_listed (journal s.opening L) m.issue) (is_retired (journal s.opening L) m.issue)) ≡ Some r → refusal s.opening (journal s.opening L) (command.Activity (activity.Notice m)) ≡ Some r
+notice_issue L s m q r member h =
+    let J = journal s.opening L in
+    let known = there (is_member J m.member) (position J m.member m.issue) q member in
+    let live = live_notice J m.member m.issue in
+    let rest : List Rule = (ExceedsPosition, is_exceeded (position J m.member m.issue) m.shares) ∷ (NotLong, int_le (position J m.member m.issue) (pos 0)) ∷ (AlreadyNoticed (option_map_or (λ n. n.number) live 0), is_some live) ∷ [] in
+    (λ i. first_refusal ((NoSuchMember, not (known i)) ∷ (NoSuchIssue, not (is_listed J m.issue)) ∷ (Retired, is_retired J m.issue) ∷ rest))
+    ∙ still_refused (issue_rules (is_listed J m.issue) (is_retired J m.issue)) rest r h
+  where
+    there : (b : Bool) (p q : ℤ) → Some q ≡ cond b (Some p) None → b ≡ true
+    there true p q e = refl
+    there false p q e = cc
 
 -- what a notice is refused for, where it is of a long member's shares in a current issue
 pub notice_answer : (L : List Activity) (s : Contents) (m : Movement) (q : ℤ) → Follows L s → Some q ≡ cond (is_member (journal s.opening L) m.member) (Some (position (journal s.opening L) m.member m.issue)) None → is_listed (journal s.opening L) m.issue ≡ true → is_retired (journal s.opening L) m.issue ≡ false

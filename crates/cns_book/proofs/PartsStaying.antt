@@ -1,4 +1,5 @@
 -- What an activity leaves: of each group of parts, which activities change it.
+-- For every command, clause step.
 use Rattle.std.proofs.Common.{◌≡◌, ◌∙◌, sym, ap, refl, Bool, true, false, cond, [], ◌∷◌, is_some, map, reverse}
 use Rattle.cns_terms.specs.declared.command.Activity.{Activity}
 use Rattle.cns_terms.specs.declared.command.Activity.TheVariants as activity
@@ -7,31 +8,23 @@ use Rattle.cns_terms.specs.Days.{closings, is_close}
 use Rattle.cns_terms.specs.Dividends.{declared}
 use Rattle.cns_terms.specs.Entries.{entries, posting}
 use Rattle.cns_terms.specs.Fills.{batches_since}
-use Rattle.cns_terms.specs.Machine.{holding}
+use Rattle.cns_terms.specs.Holdings.{holding}
 use Rattle.cns_terms.specs.Notices.{executed}
 use Rattle.cns_terms.specs.Postings.{Journal, Posting}
 use Rattle.cns_notices.proofs.Noticing.{untouched_by}
 use Rattle.cns_positions.specs.Rows.{Rows, books, holding_at}
 use Rattle.cns_book.specs.Contents.{Contents}
 use Rattle.cns_book.specs.Follows.{FollowsBatches, FollowsClock, FollowsDividends, FollowsListings, FollowsNotices, FollowsRows, FollowsSheets}
-use Rattle.cns_book.proofs.Batching.{batches_same, executes_none}
-use Rattle.cns_book.proofs.Places.{books_none, holding-post}
+use Rattle.cns_book.proofs.RetransmittalBatches.{batches_same, executes_none}
+use Rattle.cns_book.proofs.EffectPlaces.{books_none, holding-post}
 
 -- whether an activity changes members, listed issues or retired ones
 abbrev pub is_listing : Activity → Bool
 is_listing (activity.Member m) = true
 is_listing (activity.Issue l) = true
-is_listing (activity.Trade t) = false
 is_listing (activity.Price l) = true
-is_listing (activity.Deliver m) = false
-is_listing (activity.Receive m) = false
-is_listing (activity.Dividend d) = false
-is_listing (activity.Split s) = false
 is_listing (activity.Exchange x) = true
-is_listing (activity.Notice m) = false
-is_listing (activity.Withdraw k) = false
-is_listing (activity.Execute x) = false
-is_listing (activity.Close d) = false
+is_listing _ = false
 
 -- whether an activity gives notice or touches one
 abbrev pub is_noticing : Activity → Bool
@@ -40,14 +33,8 @@ is_noticing (activity.Issue l) = false
 is_noticing (activity.Trade t) = false
 is_noticing (activity.Price l) = false
 is_noticing (activity.Deliver m) = false
-is_noticing (activity.Receive m) = true
 is_noticing (activity.Dividend d) = false
-is_noticing (activity.Split s) = true
-is_noticing (activity.Exchange x) = true
-is_noticing (activity.Notice m) = true
-is_noticing (activity.Withdraw k) = true
-is_noticing (activity.Execute x) = true
-is_noticing (activity.Close d) = true
+is_noticing _ = true
 
 -- whether an activity executes a notice
 abbrev pub is_execution : Activity → Bool

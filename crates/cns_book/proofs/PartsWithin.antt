@@ -1,4 +1,5 @@
 -- With room for one activity more, all numbers are small enough.
+-- For every call of positions: what it requires.
 use Rattle.std.proofs.Common.{◌≡◌, sym, subst, ℕ, zero, suc, ◌*◌, ◌≤◌, ℤ, refl, arith}
 use Rattle.std.specs.Prelude.{unsigned_abs}
 use Rattle.cns_units.specs.declared.cusip.Cusip.{Cusip}
@@ -12,7 +13,7 @@ use Rattle.cns_positions.specs.Rows.{Rows, holding_at}
 use Rattle.cns_book.specs.Contents.{Contents}
 use Rattle.cns_book.specs.Effects.{AreWithin}
 use Rattle.cns_book.specs.Follows.{HasRoom}
-use Rattle.cns_book.proofs.SheetCut.{cents_few}
+use Rattle.cns_book.proofs.ClosingSheet.{cents_few}
 
 member_or_corporation : (a : ℕ) (q : ℤ) → (1 ≤ a → unsigned_abs q ≤ position_limit) → (a ≡ 0 → unsigned_abs q ≤ corporation_limit) → unsigned_abs q ≤ corporation_limit
 member_or_corporation zero q m c = c refl

@@ -1,4 +1,5 @@
 -- The batches of the closed days after one activity more.
+-- For every command, clause step.
 use Rattle.std.proofs.Common.{◌≡◌, ◌∙◌, ap, refl, ℕ, false, List, [], ◌∷◌, ◌++◌, length, map, filter, is_some, Option, Some, None, reverse}
 use Rattle.std.specs.List.{AllByRecursion}
 use Rattle.std.specs.Option.{option_map_or}
@@ -19,7 +20,7 @@ use Rattle.cns_terms.specs.Notices.{executed, notice_at}
 use Rattle.cns_terms.specs.Postings.{Journal, Posting}
 use Rattle.cns_terms.specs.Sums.{same_issue}
 use Rattle.cns_terms.proofs.BatchSteps.{batch_same}
-use Rattle.cns_terms.proofs.NoticeSteps.{map_each}
+use Rattle.cns_terms.proofs.Facts.{map_each}
 use Rattle.cns_book.specs.Follows.{kept_batches}
 
 -- an activity that is no execution executes no notice
@@ -32,7 +33,7 @@ executes_none J n c x h = by (executed x) h
 
 -- a batch in an issue
 abbrev pub in_issue : (Cusip → List Liable) → Cusip → Liables
-in_issue f c = record { cusip = c; members = f c }
+in_issue f c = record { issue = c; members = f c }
 
 -- the batches of a day, after an activity that executes no notice of that day
 pub since_same : (p : Posting) (J K : Journal) → ((c : Cusip) → executes J (day K) c p.activity ≡ false) → batches_since (p ∷ J) K ≡ batches_since J K
@@ -41,7 +42,7 @@ since_same p J K h =
   where
     each : (cs : List Cusip) → AllByRecursion (λ c. in_issue (batch_since (p ∷ J) K) c ≡ in_issue (batch_since J K) c) cs
     each [] = tt
-    each (c ∷ cs) = ((λ i. record { cusip = c; members = batch_same p J K c (h c) i }), each cs)
+    each (c ∷ cs) = ((λ i. record { issue = c; members = batch_same p J K c (h c) i }), each cs)
 
 -- those of many days, after one that executes none at all
 pub batches_same : (p : Posting) (J : Journal) (Ks : List Journal) → ((n : ℕ) (c : Cusip) → executes J n c p.activity ≡ false) → map (batches_since (p ∷ J)) Ks ≡ map (batches_since J) Ks

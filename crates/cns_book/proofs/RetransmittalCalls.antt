@@ -1,4 +1,5 @@
 -- What the notices of the open day call for.
+-- For `calls_of_day` of parts/retransmittal.rt.
 use Rattle.std.proofs.Common.{◌≡◌, ◌∙◌, ap, sym, subst, refl, ℕ, zero, suc, ◌+◌, ◌*◌, ◌-◌, ◌^◌, ◌≤◌, ◌<◌, min, ℤ, Bool, true, false, cond, ◌&&◌, ◌==◌, List, [], ◌∷◌, ◌++◌, drop, filter, length, map, Option, Some, None, sum_by, arith}
 use Rattle.std.specs.List.{AllByRecursion, slice_get}
 use Rattle.std.specs.Option.{ForSome, IsSomeAnd, option_map_or}
@@ -17,14 +18,14 @@ use Rattle.cns_terms.specs.Batches.{called}
 use Rattle.cns_terms.specs.Days.{day}
 use Rattle.cns_terms.specs.Entries.{journal}
 use Rattle.cns_terms.specs.Limits.{history_limit, shares_limit}
-use Rattle.cns_terms.specs.Notices.{Notice, is_live, notice, noticed, notices, received_live, remaining, shares_executed, shares_received, stage, what_remains}
+use Rattle.cns_terms.specs.Notices.{Notice, is_live, notice, noticed, notices, remaining, shares_executed, shares_received, stage, what_remains}
 use Rattle.cns_terms.specs.Postings.{Journal}
 use Rattle.cns_terms.specs.Sums.{long, same_issue}
 use Rattle.cns_terms.proofs.Everywhere.{each_map}
-use Rattle.cns_terms.proofs.NoticeSteps.{live_received}
+use Rattle.cns_notices.proofs.NoticeSteps.{live_received}
 use Rattle.cns_positions.specs.Rows.{Rows, holding_at}
 use Rattle.cns_notices.specs.declared.noticed.Noticed.{Noticed}
-use Rattle.cns_notices.specs.Kept.{kept, kept_notices}
+use Rattle.cns_notices.specs.Kept.{kept, kept_notices, received_live}
 use Rattle.cns_notices.specs.Noticed.{notice_at}
 use Rattle.cns_notices.proofs.NoticeFacts.{days_by}
 use Rattle.cns_retransmit.specs.Calls.{CalledIn, called_in, shorts_in, total_in}

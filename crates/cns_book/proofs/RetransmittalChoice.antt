@@ -1,4 +1,5 @@
 -- The batches that a close chooses are those of the definitions.
+-- For `choose_batches` of parts/retransmittal.rt, clause batches.
 use Rattle.std.proofs.Common.{◌≡◌, ◌∙◌, ap, sym, refl, Bool, true, false, cond, List, [], ◌∷◌, filter, length, map, Option, Some, None}
 use Rattle.std.specs.Cmp.Lexicographic.{slice_cmp}
 use Rattle.std.specs.FinMap.{find, is_sorted}
@@ -54,10 +55,10 @@ AreSameBatches g cs es = (c : Cusip) → option_map_or (λ x. chosen x.shorts x.
 
 -- a batch, if anybody is in it
 abbrev kept_of : Cusip → List Liable → Option Liables
-kept_of c ls = cond (nat_lt 0 (length ls)) (Some (record { cusip = c; members = ls })) None
+kept_of c ls = cond (nat_lt 0 (length ls)) (Some (record { issue = c; members = ls })) None
 
 -- a batch in which nobody is is none
-same_kept : (c : Cusip) (o : Option CalledIn) (b : Bool) (ls : List Liable) → option_map_or (λ x. chosen x.shorts x.total) o [] ≡ cond b ls [] → kept_if has_members (option_map (λ x. batch_of (c, x)) o) ≡ kept_if has_members (cond b (Some (record { cusip = c; members = ls })) None)
+same_kept : (c : Cusip) (o : Option CalledIn) (b : Bool) (ls : List Liable) → option_map_or (λ x. chosen x.shorts x.total) o [] ≡ cond b ls [] → kept_if has_members (option_map (λ x. batch_of (c, x)) o) ≡ kept_if has_members (cond b (Some (record { issue = c; members = ls })) None)
 same_kept c None true ls h = ap (kept_of c) h
 same_kept c None false ls h = refl
 same_kept c (Some x) true ls h = ap (kept_of c) h
@@ -81,10 +82,10 @@ values_with p [] = refl
 values_with p (c ∷ cs) = ap (λ xs. p c ∷ xs) (values_with p cs)
 
 -- the batches of what is called are those of the issues
-pub batches_same : (g : Cusip → List Liable) (cs : List Cusip) (es : List (Cusip × CalledIn)) → is_rising (slice_cmp nat_cmp) cs ≡ true → is_sorted (slice_cmp nat_cmp) es ≡ true → AreSameBatches g cs es → batches_of es ≡ filter has_members (map (λ c. record { cusip = c; members = g c }) cs)
+pub batches_same : (g : Cusip → List Liable) (cs : List Cusip) (es : List (Cusip × CalledIn)) → is_rising (slice_cmp nat_cmp) cs ≡ true → is_sorted (slice_cmp nat_cmp) es ≡ true → AreSameBatches g cs es → batches_of es ≡ filter has_members (map (λ c. record { issue = c; members = g c }) cs)
 batches_same g cs es rising sorted h =
     let R = slice_cmp nat_cmp in
-    let p : Cusip → Liables = λ c. record { cusip = c; members = g c } in
+    let p : Cusip → Liables = λ c. record { issue = c; members = g c } in
     let xs : List (Cusip × Liables) = with_batches es in
     let ys : List (Cusip × Liables) = map (λ c. (c, p c)) cs in
     let s = sorted_batches es sorted in

@@ -1,4 +1,5 @@
 -- The shorts of a close, given to what is called.
+-- For `add_shorts` of parts/retransmittal.rt.
 use Rattle.std.proofs.Common.{◌≡◌, ◌∙◌, ap, sym, subst, refl, ℕ, suc, ◌+◌, ◌*◌, ◌^◌, ◌≤◌, ◌<◌, ℤ, pos, negsuc, Bool, true, false, cond, ◌&&◌, ◌==◌, List, [], ◌∷◌, ◌++◌, filter, flat_map, get_or, length, map, not, of_z, to_z, zero, Option, Some, None, sum_by, arith}
 use Rattle.std.specs.List.{AllByRecursion, cons_option}
 use Rattle.std.specs.Prelude.{filter_map, int_lt, is_some, nat_le, nat_lt, option_map, unsigned_abs, Result, Ok, Err}
@@ -20,12 +21,12 @@ use Rattle.cns_terms.specs.declared.holding.Holding.{Holding}
 use Rattle.cns_terms.specs.declared.holding.Key.{Key}
 use Rattle.cns_terms.specs.declared.sheet.Row.{Row}
 use Rattle.cns_terms.specs.Ages.{age}
-use Rattle.cns_terms.specs.Batches.{is_short_in, short_at, short_in, short_of, shorts}
+use Rattle.cns_terms.specs.Batches.{short_of, shorts}
 use Rattle.cns_terms.specs.Days.{closings}
 use Rattle.cns_terms.specs.Entries.{journal}
 use Rattle.cns_terms.specs.Limits.{corporation_limit, member_limit, position_limit}
 use Rattle.cns_terms.specs.Listings.{accounts, issues, members}
-use Rattle.cns_terms.specs.Machine.{holding}
+use Rattle.cns_terms.specs.Holdings.{holding}
 use Rattle.cns_terms.specs.Positions.{position}
 use Rattle.cns_terms.specs.Postings.{Journal}
 use Rattle.cns_terms.specs.Sheets.{is_idle, row, rows_of, sheet_rows}
@@ -37,10 +38,10 @@ use Rattle.cns_retransmit.specs.Calls.{CalledIn, with_short}
 use Rattle.cns_retransmit.specs.Chosen.{shorts_of}
 use Rattle.cns_book.specs.Contents.{Contents}
 use Rattle.cns_book.specs.Follows.{Follows, HasRoom}
-use Rattle.cns_book.specs.Retransmittal.{run_at, with_shorts}
-use Rattle.cns_book.proofs.Closing.{prefix_le}
-use Rattle.cns_book.proofs.Lengths.{closes_le}
-use Rattle.cns_book.proofs.Within.{rows_within}
+use Rattle.cns_book.specs.Retransmittal.{is_short_in, run_at, short_at, short_in, with_shorts}
+use Rattle.cns_book.proofs.ClosingSteps.{prefix_le}
+use Rattle.cns_book.proofs.JournalLengths.{closes_le}
+use Rattle.cns_book.proofs.PartsWithin.{rows_within}
 
 -- ---- one row after another
 

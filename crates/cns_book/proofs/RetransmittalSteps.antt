@@ -1,4 +1,5 @@
 -- Whom a close makes liable, from what is called and who is short.
+-- For `choose_batches` of parts/retransmittal.rt and `close_day` of parts/closing.rt, clause step.
 use Rattle.std.proofs.Common.{◌≡◌, ◌∙◌, ap, sym, subst, refl, ℕ, suc, ◌+◌, ◌*◌, ◌^◌, ◌≤◌, ◌<◌, Bool, true, false, cond, ◌&&◌, ◌==◌, List, [], ◌∷◌, ◌++◌, filter, flat_map, length, map, Option, Some, None, sum_by, arith}
 use Rattle.std.specs.Cmp.Lexicographic.{slice_cmp}
 use Rattle.std.specs.FinMap.{is_sorted}
@@ -18,7 +19,7 @@ use Rattle.cns_terms.specs.declared.buy_in.Short.{Short}
 use Rattle.cns_terms.specs.declared.command.Activity.{Activity}
 use Rattle.cns_terms.specs.declared.sheet.Row.{Row}
 use Rattle.cns_terms.specs.Ages.{age}
-use Rattle.cns_terms.specs.Batches.{Liables, batch_at, called, chosen, fills_before, is_called, liable_at, liable_of, short_in, short_of, shorts}
+use Rattle.cns_terms.specs.Batches.{Liables, batch_at, called, chosen, fills_before, is_called, liable_at, liable_of, short_of, shorts}
 use Rattle.cns_terms.specs.Days.{day}
 use Rattle.cns_terms.specs.Entries.{journal}
 use Rattle.cns_terms.specs.Fills.{batch_since, batches_since}
@@ -33,16 +34,16 @@ use Rattle.cns_terms.proofs.BatchSteps.{batch_new, unfilled}
 use Rattle.cns_terms.proofs.Facts.{journal_len}
 use Rattle.cns_terms.proofs.Reached.{IsLimited, limited, members_few, members_from_one}
 use Rattle.cns_terms.proofs.SheetBounds.{issues_few}
-use Rattle.cns_terms.proofs.SheetShorts.{shorts_off_sheet}
+use Rattle.cns_book.proofs.RetransmittalSheet.{shorts_off_sheet}
 use Rattle.cns_terms.proofs.Sound.{IsNoticed, IsSound}
 use Rattle.cns_retransmit.specs.Calls.{CalledIn, CanBeChosen, batches_of, called_in, shorts_in, total_in}
 use Rattle.cns_book.specs.Contents.{Contents}
 use Rattle.cns_book.specs.Follows.{Follows}
-use Rattle.cns_book.specs.Retransmittal.{called_by, run_at, with_shorts}
-use Rattle.cns_book.proofs.Batching.{in_issue}
-use Rattle.cns_book.proofs.Calls.{called_is}
-use Rattle.cns_book.proofs.Chosen.{AreSameBatches, batches_same}
-use Rattle.cns_book.proofs.Shorts.{HasShorts, ages_are, shorts_few, shorts_once}
+use Rattle.cns_book.specs.Retransmittal.{called_by, run_at, short_in, with_shorts}
+use Rattle.cns_book.proofs.RetransmittalBatches.{in_issue}
+use Rattle.cns_book.proofs.RetransmittalCalls.{called_is}
+use Rattle.cns_book.proofs.RetransmittalChoice.{AreSameBatches, batches_same}
+use Rattle.cns_book.proofs.RetransmittalShorts.{HasShorts, ages_are, shorts_few, shorts_once}
 
 -- ---- issues in which nothing is called
 

@@ -1,4 +1,5 @@
 -- What a delivery or a receipt is refused for.
+-- For `deliver` and `receive` of parts/trading.rt, clause step.
 use Rattle.std.proofs.Common.{◌≡◌, ◌∙◌, sym, ap, refl, ℤ, pos, neg_ℤ, Bool, true, false, not, List, [], ◌∷◌}
 use Rattle.std.specs.Prelude.{int_le, int_lt, nat_lt, unwrap_or}
 use Rattle.cns_units.specs.declared.day.Day.{Day}
@@ -15,7 +16,7 @@ use Rattle.cns_terms.specs.Sums.{short}
 use Rattle.cns_trades.specs.Checks.{delivery_rules, receipt_rules}
 use Rattle.cns_trades.specs.declared.facts.MoveFacts.{MoveFacts}
 use Rattle.cns_book.specs.Follows.{AreMoveFacts}
-use Rattle.cns_book.proofs.Trading.{at_true, some_member}
+use Rattle.cns_book.proofs.TradingSteps.{at_true, some_member}
 
 -- the rules of a delivery, where the last ones agree once the party is a member
 same_delivery : (m l o x y : Bool) → (m ≡ true → x ≡ y) →
@@ -34,7 +35,7 @@ same_receipt true l o x y w v z h =
     λ i. first_refusal ((NoSuchMember, false) ∷ (NoSuchIssue, not l) ∷ (Retired, o) ∷ (ExceedsPosition, e.0 i) ∷ (NotOnHand, w) ∷ (NotLong, e.1 i) ∷ [])
 
 -- what a delivery is refused for, over the facts
-pub delivery_refusal : (L : List Activity) (opening : Day) (m : Movement) (facts : MoveFacts) → AreMoveFacts L opening m facts → refusal opening (journal opening L) (command.Activity (activity.Deliver m)) ≡ first_refusal (delivery_rules facts m)
+pub delivery_refusal : (L : List Activity) (opening : Day) (m : Movement) (facts : MoveFacts) → AreMoveFacts (journal opening L) m facts → refusal opening (journal opening L) (command.Activity (activity.Deliver m)) ≡ first_refusal (delivery_rules facts m)
 delivery_refusal L opening m facts a =
     let J = journal opening L in
     let over : Bool = nat_lt (short (unwrap_or facts.member (pos 0))) m.shares in
@@ -43,7 +44,7 @@ delivery_refusal L opening m facts a =
     ∙ sym (λ i. first_refusal ((NoSuchMember, not (some_member (is_member J m.member) _ _ a.member i)) ∷ (NoSuchIssue, not (a.listed i)) ∷ (Retired, a.retired i) ∷ (ExceedsPosition, over) ∷ []))
 
 -- what a receipt is refused for, over the facts
-pub receipt_refusal : (L : List Activity) (opening : Day) (m : Movement) (facts : MoveFacts) → AreMoveFacts L opening m facts → refusal opening (journal opening L) (command.Activity (activity.Receive m)) ≡ first_refusal (receipt_rules facts m)
+pub receipt_refusal : (L : List Activity) (opening : Day) (m : Movement) (facts : MoveFacts) → AreMoveFacts (journal opening L) m facts → refusal opening (journal opening L) (command.Activity (activity.Receive m)) ≡ first_refusal (receipt_rules facts m)
 receipt_refusal L opening m facts a =
     let J = journal opening L in
     let q : ℤ = unwrap_or facts.member (pos 0) in

@@ -1,4 +1,5 @@
 -- A trade: what it is refused for, and what it leaves.
+-- For `book_trade` of parts/trading.rt, clause step.
 use Rattle.std.proofs.Common.{◌≡◌, ◌∙◌, sym, ap, refl, ℕ, ◌≤◌, ℤ, pos, ◌+ℤ◌, neg_ℤ, Bool, true, false, not, ◌&&◌, ◌||◌, cond, eqb, List, [], ◌∷◌, Option, Some, None, arith}
 use Rattle.std.specs.Prelude.{bytes_eq, is_some, nat_lt, Ok, Err, unwrap_or}
 use Rattle.std.specs.Option.{option_map_or}
@@ -25,10 +26,10 @@ use Rattle.cns_notices.specs.declared.noticed.Noticed.{Noticed}
 use Rattle.cns_positions.specs.Rows.{Rows, books, holding_at}
 use Rattle.cns_trades.specs.Checks.{trade_rules}
 use Rattle.cns_trades.specs.declared.facts.TradeFacts.{TradeFacts}
-use Rattle.cns_trades.specs.Used.{Used}
+use Rattle.cns_trades.specs.Used.{Traded}
 use Rattle.cns_book.specs.Contents.{Contents}
 use Rattle.cns_book.specs.Follows.{AreTradeFacts, Follows, FollowsNotices, FollowsReferences}
-use Rattle.cns_book.proofs.Staying.{batches_stay, clock_stays, dividends_stay, is_dividend, is_execution, is_listing, is_noticing, listings_stay, notices_stay, rows_booked, sheets_stay}
+use Rattle.cns_book.proofs.PartsStaying.{batches_stay, clock_stays, dividends_stay, is_dividend, is_execution, is_listing, is_noticing, listings_stay, notices_stay, rows_booked, sheets_stay}
 
 -- what an answer says of the refusal
 pub answer_err : (o : Option Refusal) (es : List Entry) (r : Refusal) → Err r ≡ option_map_or Err o (Ok es) → o ≡ Some r
@@ -90,7 +91,7 @@ at_true true q o e h = ap (λ o. unwrap_or o (pos 0)) e
 at_true false q o e h = cc
 
 -- what a trade is refused for, over the facts
-pub trade_refusal : (L : List Activity) (opening : Day) (t : Trade) (facts : TradeFacts) (seen : Bool) → AreTradeFacts L opening t facts → seen ≡ is_seen (journal opening L) t.reference → refusal opening (journal opening L) (command.Activity (activity.Trade t)) ≡ first_refusal (trade_rules facts seen t)
+pub trade_refusal : (L : List Activity) (opening : Day) (t : Trade) (facts : TradeFacts) (seen : Bool) → AreTradeFacts opening (journal opening L) t facts → seen ≡ is_seen (journal opening L) t.reference → refusal opening (journal opening L) (command.Activity (activity.Trade t)) ≡ first_refusal (trade_rules facts seen t)
 trade_refusal L opening t facts seen a e =
     let J = journal opening L in
     let over : Bool = is_beyond (unwrap_or facts.buyer (pos 0) +ℤ pos t.shares) || is_beyond (unwrap_or facts.seller (pos 0) +ℤ neg_ℤ (pos t.shares)) in
@@ -120,12 +121,12 @@ pub notices_kept : {s : Contents} (L : List Activity) (x : Activity) → is_noti
 notices_kept {s} L x unnoticed f = notices_stay s (journal s.opening L) x unnoticed f.notices
 
 -- an activity that books its entries, where the references and the notices follow it
-pub booked_by : (L : List Activity) (s : Contents) (x : Activity) (references : Used) (notices : List Noticed) (rows : Rows) → Follows L s → IsInRange x → refusal s.opening (journal s.opening L) (command.Activity x) ≡ None → is_close x ≡ false → is_listing x ≡ false → is_dividend x ≡ false → is_execution x ≡ false
-    → FollowsReferences (journal s.opening (x ∷ L)) (record s { references = references })
+pub booked_by : (L : List Activity) (s : Contents) (x : Activity) (trades : Traded) (notices : List Noticed) (rows : Rows) → Follows L s → IsInRange x → refusal s.opening (journal s.opening L) (command.Activity x) ≡ None → is_close x ≡ false → is_listing x ≡ false → is_dividend x ≡ false → is_execution x ≡ false
+    → FollowsReferences (journal s.opening (x ∷ L)) (record s { trades = trades })
     → FollowsNotices (journal s.opening (x ∷ L)) (record s { notices = notices })
     → ((k : Key) → holding_at rows k ≡ books (entries s.opening (journal s.opening L) x) k (holding_at s.rows k))
-    → Follows (x ∷ L) (record s { references = references; rows = rows; notices = notices })
-booked_by L s x references notices rows f range none still unlisted undeclared unexecuted r n b =
+    → Follows (x ∷ L) (record s { trades = trades; rows = rows; notices = notices })
+booked_by L s x trades notices rows f range none still unlisted undeclared unexecuted r n b =
     let J = journal s.opening L in
     let c = clock_stays s J x still f.clock in
     let l = listings_stay s J x unlisted f.listings in

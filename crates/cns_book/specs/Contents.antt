@@ -8,7 +8,7 @@ use Rattle.cns_terms.specs.Batches.{Liables}
 use Rattle.cns_terms.specs.Sheets.{DaySheet}
 use Rattle.cns_notices.specs.declared.noticed.Noticed.{Noticed}
 use Rattle.cns_prices.specs.Listed.{Listed}
-use Rattle.cns_trades.specs.Used.{Used}
+use Rattle.cns_trades.specs.Used.{Traded}
 
 -- the opening date, the open day, and the maps and sets of the book
 pub record Contents : Type 0 where
@@ -17,7 +17,7 @@ pub record Contents : Type 0 where
   pub closes : ℕ
   pub members : List Bool
   pub prices : Listed
-  pub references : Used
+  pub trades : Traded
   pub dividends : List Declared
   pub rows : List (Key × Holding)
   pub sheets : List DaySheet

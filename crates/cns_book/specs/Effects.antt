@@ -1,7 +1,6 @@
 -- Where entries are booked, and what splits and exchanges are checked for.
 use Rattle.std.specs.Prelude.{◌≤◌, ◌*◌, not, ◌&&◌, ◌||◌, List, [], ◌∷◌, map, unsigned_abs}
 use Rattle.cns_terms.specs.declared.action.Exchange.{Exchange}
-use Rattle.cns_terms.specs.declared.action.Split.{Split}
 use Rattle.cns_terms.specs.declared.command.Activity.{Activity}
 use Rattle.cns_terms.specs.declared.command.Activity.TheVariants as activity
 use Rattle.cns_terms.specs.declared.holding.Entry.{Entry}
@@ -33,10 +32,6 @@ pub record AreWithin (rows : Rows) : Type 0 where
 abbrev pub activity_of : Action → Activity
 activity_of (action.Split s) = activity.Split s
 activity_of (action.Exchange x) = activity.Exchange x
-
--- the rules of a split, its size apart
-abbrev pub split_rules : Journal → Split → List Rule
-split_rules J s = (NoSuchIssue, not (is_listed J s.issue)) ∷ (Retired, is_retired J s.issue) ∷ []
 
 -- the rules of an exchange, its size apart
 abbrev pub exchange_rules : Journal → Exchange → List Rule

@@ -1,13 +1,17 @@
 -- What ties the parts of a book to the accepted activities, by what changes together.
-use Rattle.std.specs.Prelude.{◌≡◌, ℕ, ◌+◌, ◌≤◌, ◌<◌, List, map, length, reverse, Some, None, Result, Ok, Err, if◌then◌else◌}
+use Rattle.std.specs.Prelude.{◌≡◌, ℕ, ℤ, ◌+◌, ◌≤◌, ◌<◌, Bool, true, false, List, map, length, reverse, Option, Some, None, Result, Ok, Err, if◌then◌else◌}
+use Rattle.cns_units.specs.declared.account.Member.{Member}
 use Rattle.cns_units.specs.declared.cusip.Cusip.{Cusip}
 use Rattle.cns_units.specs.declared.day.Day.{Day}
 use Rattle.cns_terms.specs.declared.command.Activity.{Activity}
+use Rattle.cns_terms.specs.declared.command.Activity.TheVariants as activity
 use Rattle.cns_terms.specs.declared.command.Command.{Command}
+use Rattle.cns_terms.specs.declared.command.Command.TheVariants as command
 use Rattle.cns_terms.specs.declared.command.Movement.{Movement}
 use Rattle.cns_terms.specs.declared.command.Trade.{Trade}
 use Rattle.cns_terms.specs.declared.fault.NoMemory.{NoMemory}
 use Rattle.cns_terms.specs.declared.holding.Key.{Key}
+use Rattle.cns_terms.specs.declared.refusal.Refusal.{Refusal}
 use Rattle.cns_terms.specs.declared.reply.Reply.{Reply}
 use Rattle.cns_terms.specs.Batches.{Liables}
 use Rattle.cns_terms.specs.Days.{date, closes, closings}
@@ -16,7 +20,8 @@ use Rattle.cns_terms.specs.Fills.{batches_since}
 use Rattle.cns_terms.specs.Listings.{is_member, is_listed, is_retired, is_seen, price}
 use Rattle.cns_terms.specs.Entries.{corporation, journal}
 use Rattle.cns_terms.specs.Limits.{history_limit}
-use Rattle.cns_terms.specs.Machine.{accepted_after, answer_to, holding}
+use Rattle.cns_terms.specs.Holdings.{holding}
+use Rattle.cns_terms.specs.Machine.{accepted_after, answer_to}
 use Rattle.cns_terms.specs.Positions.{position}
 use Rattle.cns_terms.specs.Postings.{Journal}
 use Rattle.cns_terms.specs.Reached.{IsReached}
@@ -45,7 +50,7 @@ pub record FollowsListings (J : Journal) (s : Contents) : Type 0 where
 
 -- the references that accepted trades used
 abbrev pub FollowsReferences : Journal → Contents → Type 0
-FollowsReferences J s = (r : ℕ) → is_used s.references r ≡ is_seen J r
+FollowsReferences J s = (r : ℕ) → is_used s.trades.references r ≡ is_seen J r
 
 -- the declared dividends, in the order in which they are paid
 abbrev pub FollowsDividends : Journal → Contents → Type 0
@@ -95,19 +100,43 @@ abbrev pub Steps : List Activity → Command → Result Reply NoMemory → Conte
 Steps L cmd (Ok r) s = (r ≡ answer_to s.opening L cmd) × Follows (accepted_after s.opening L cmd) s
 Steps L cmd (Err e) s = (refusal s.opening (journal s.opening L) cmd ≡ None) × Follows L s
 
--- what a trade is checked against, by the accepted activities
-pub record AreTradeFacts (L : List Activity) (opening : Day) (t : Trade) (facts : TradeFacts) : Type 0 where
-  pub buyer : facts.buyer ≡ (if is_member (journal opening L) t.buyer then Some (position (journal opening L) t.buyer t.issue) else None)
-  pub seller : facts.seller ≡ (if is_member (journal opening L) t.seller then Some (position (journal opening L) t.seller t.issue) else None)
-  pub listed : facts.listed ≡ is_listed (journal opening L) t.issue
-  pub retired : facts.retired ≡ is_retired (journal opening L) t.issue
-  pub today : facts.today ≡ date opening (journal opening L)
+-- what is so over the journal of any activities that the parts follow
+abbrev pub Shows : Contents → (Journal → Type 0) → Type 0
+Shows s Q = (L : List Activity) → Follows L s → Q (journal s.opening L)
+
+-- a refusal, or none, is the machine's for a command
+abbrev pub Refuses : Contents → Command → Option Refusal → Type 0
+Refuses s cmd r = Shows s (λ J. r ≡ refusal s.opening J cmd)
+
+-- a command takes the machine's step from whatever activities the parts followed
+abbrev pub Answers : Contents → Command → Result Reply NoMemory → Contents → Type 0
+Answers old cmd r new = (L : List Activity) → Follows L old → Steps L cmd r new
+
+-- whether a command may need more memory than its entry in the history does
+abbrev pub may_grow : Command → Bool
+may_grow (command.Activity (activity.Price l)) = false
+may_grow (command.Activity (activity.Withdraw k)) = false
+may_grow (command.Activity _) = true
+may_grow (command.Position k) = false
+may_grow (command.Statement a d) = false
+
+-- a member's position, where the account is a member's
+abbrev pub member_position : Journal → Member → Cusip → Option ℤ
+member_position J a c = if is_member J a then Some (position J a c) else None
+
+-- what a trade is checked against, by the journal
+pub record AreTradeFacts (opening : Day) (J : Journal) (t : Trade) (facts : TradeFacts) : Type 0 where
+  pub buyer : facts.buyer ≡ member_position J t.buyer t.issue
+  pub seller : facts.seller ≡ member_position J t.seller t.issue
+  pub listed : facts.listed ≡ is_listed J t.issue
+  pub retired : facts.retired ≡ is_retired J t.issue
+  pub today : facts.today ≡ date opening J
   pub members : (1 ≤ t.buyer) × (1 ≤ t.seller)
 
--- what a movement is checked against, by the accepted activities
-pub record AreMoveFacts (L : List Activity) (opening : Day) (m : Movement) (facts : MoveFacts) : Type 0 where
-  pub member : facts.member ≡ (if is_member (journal opening L) m.member then Some (position (journal opening L) m.member m.issue) else None)
-  pub corporation : facts.corporation ≡ position (journal opening L) corporation m.issue
-  pub listed : facts.listed ≡ is_listed (journal opening L) m.issue
-  pub retired : facts.retired ≡ is_retired (journal opening L) m.issue
+-- what a movement is checked against, by the journal
+pub record AreMoveFacts (J : Journal) (m : Movement) (facts : MoveFacts) : Type 0 where
+  pub member : facts.member ≡ member_position J m.member m.issue
+  pub corporation : facts.corporation ≡ position J corporation m.issue
+  pub listed : facts.listed ≡ is_listed J m.issue
+  pub retired : facts.retired ≡ is_retired J m.issue
   pub number : 1 ≤ m.member

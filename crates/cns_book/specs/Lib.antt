@@ -1,10 +1,10 @@
+pub mod Closes
 pub mod Contents
 pub mod Dated
 pub mod Effects
 pub mod Executions
 pub mod Follows
 pub mod Legal
-pub mod Liable
 pub mod Log
 pub mod Members
 pub mod Retransmittal

@@ -1,9 +1,10 @@
 -- What the notices of a day call for, and who is short, by what the parts show.
-use Rattle.std.specs.Prelude.{ℕ, ◌&&◌, ◌==◌, List, ◌++◌, sum_by, if◌then◌else◌}
+use Rattle.std.specs.Prelude.{ℕ, ◌+◌, pos, int_lt, Bool, ◌&&◌, ◌==◌, nat_lt, List, ◌++◌, Option, Some, None, sum_by, if◌then◌else◌}
 use Rattle.cns_units.specs.declared.account.Account.{Account}
 use Rattle.cns_units.specs.declared.cusip.Cusip.{Cusip}
 use Rattle.cns_terms.specs.declared.buy_in.Short.{Short}
-use Rattle.cns_terms.specs.Sums.{same_issue}
+use Rattle.cns_terms.specs.declared.sheet.Row.{Row}
+use Rattle.cns_terms.specs.Sums.{same_issue, short}
 use Rattle.cns_notices.specs.declared.noticed.Noticed.{Noticed}
 use Rattle.cns_notices.specs.Noticed.{remaining_of}
 use Rattle.cns_positions.specs.Rows.{Rows, holding_at}
@@ -28,3 +29,17 @@ run_at rows a c = (holding_at rows (record { account = a; issue = c })).run
 -- what is called in an issue, with more shorts
 abbrev pub with_shorts : List Short → CalledIn → CalledIn
 with_shorts ss x = record { total = x.total; shorts = x.shorts ++ ss }
+
+-- ---- shorts read off a sheet
+
+-- whether a row is a member's that closes short in the issue
+abbrev pub is_short_in : Cusip → Row → Bool
+is_short_in c r = nat_lt 0 r.account && (int_lt r.closing (pos 0) && same_issue r.issue c)
+
+-- the short of a row, with an age before its close
+abbrev pub short_at : (Account → Cusip → ℕ) → Row → Short
+short_at age r = record { member = r.account; shares = short r.closing; age = age r.account r.issue + 1 }
+
+-- the short of a row, if it is a member's that closes short in the issue
+abbrev pub short_in : (Account → Cusip → ℕ) → Cusip → Row → Option Short
+short_in age c r = if is_short_in c r then Some (short_at age r) else None

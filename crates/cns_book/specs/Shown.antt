@@ -3,7 +3,6 @@ use Rattle.std.specs.Prelude.{ℕ, suc, zero, List, Option, Some, None, is_none,
 use Rattle.cns_units.specs.declared.cusip.Cusip.{Cusip}
 use Rattle.cns_units.specs.declared.day.Day.{Day}
 use Rattle.cns_units.specs.declared.price.Price.{Price}
-use Rattle.cns_terms.specs.declared.command.Activity.{Activity}
 use Rattle.cns_terms.specs.declared.command.Command.TheVariants as command
 use Rattle.cns_terms.specs.declared.history.Taken.{Taken}
 use Rattle.cns_terms.specs.declared.holding.Holding.{Holding}
@@ -14,20 +13,20 @@ use Rattle.cns_terms.specs.Fills.{batches}
 use Rattle.cns_terms.specs.Listings.{is_listed, price}
 use Rattle.cns_terms.specs.Notices.{Notice as Listed, notice_at, remaining, stage}
 use Rattle.cns_terms.specs.Postings.{Journal}
-use Rattle.cns_terms.specs.Machine.{State, holding}
+use Rattle.cns_terms.specs.Holdings.{holding}
+use Rattle.cns_terms.specs.Machine.{State}
 use Rattle.cns_terms.specs.Refusals.{refusal}
 use Rattle.cns_retransmit.specs.Days.{batch_in}
 use Rattle.cns_book.specs.declared.notice.Notice.{Notice}
 
--- what a POSITION shows, where it is not refused
-abbrev pub holding_shown : Day → List Activity → Key → Option Holding
-holding_shown opening L k =
-    let J = journal opening L in
+-- what stands at a key, where a POSITION is not refused
+abbrev pub position_listed : Day → Journal → Key → Option Holding
+position_listed opening J k =
     if is_none (refusal opening J (command.Position k)) then Some (holding J k.account k.issue) else None
 
 -- the same of a state
-abbrev pub shown : State → Key → Option Holding
-shown S k = holding_shown S.opening S.accepted k
+abbrev pub position_shown : State → Key → Option Holding
+position_shown S k = position_listed S.opening (journal S.opening S.accepted) k
 
 -- the price of an issue, where it is listed
 abbrev pub price_listed : Journal → Cusip → Option Price

@@ -1,13 +1,15 @@
 // The book over its history.
 ghost use Rattle.std.specs.Arc.{arc_value};
 ghost use Rattle.std.specs.Option.{option_copied};
-ghost use Rattle.std.specs.Prelude.{◌≡◌, ◌-◌, ◌^◌, ◌↔◌, option_map, length, IfOk, OnErr, OnOk, Err, replicate, reverse};
+ghost use Rattle.std.specs.Prelude.{◌≡◌, ◌-◌, ◌<◌, ◌^◌, ◌↔◌, option_map, length, IfOk, OnErr, OnOk, Err, replicate, reverse};
 ghost use Rattle.cns_terms.specs.Days.{date, day};
 ghost use Rattle.cns_terms.specs.History.{IsLegal, commands_of, count, replies_of};
 ghost use Rattle.cns_terms.specs.Laws.{journal_of};
+ghost use Rattle.cns_terms.specs.Limits.{history_limit};
 ghost use Rattle.cns_terms.specs.Machine.{opened, replies};
+ghost use Rattle.cns_terms.specs.Reached.{IsReached};
 ghost use Rattle.cns_terms.specs.Sheets.{sheet_on};
-ghost use Rattle.cns_book.specs.Shown.{batch_shown, batches_shown, entry_at, notice_shown, price_shown, shown};
+ghost use Rattle.cns_book.specs.Shown.{batch_shown, batches_shown, entry_at, notice_shown, position_shown, price_shown};
 ghost use Rattle.cns_book.specs.Log.{TakesStep, empty_log, state_of};
 
 use crate::notice::Notice;
@@ -83,9 +85,9 @@ impl<P: Positions<A>, A: Allocator + Drop + Clone> Book<P, A> {
 
     /// What stands at an account's place in an issue, as a POSITION shows it; None where a POSITION would be refused.
     pub fn position(&self, account: Account, cusip: Cusip) -> Option<Holding>
-        ensures { result ≡ shown (state_of self.now) (record { account = account; issue = cusip }) }
+        ensures { result ≡ position_shown (state_of self.now) (record { account = account; issue = cusip }) }
     {
-        self.parts.shown(Key {
+        self.parts.position(Key {
             account,
             issue: cusip,
         })
@@ -101,7 +103,8 @@ impl<P: Positions<A>, A: Allocator + Drop + Clone> Book<P, A> {
     /// The sheet of the closed day with the date, which never changes; None where no closed day has it. It may be
     /// shared by a copy of its `Arc`.
     pub fn sheet(&self, date: Day) -> Option<&Arc<Sheet<A>, A>>
-        ensures { option_map arc_value (option_copied result) ≡ sheet_on self.now.opening (journal_of (state_of self.now)) date }
+        ensures { option_map arc_value (option_copied result)
+            ≡ sheet_on self.now.opening (journal_of (state_of self.now)) date }
     {
         self.parts.sheet(date)
     }
@@ -144,17 +147,23 @@ impl<P: Positions<A>, A: Allocator + Drop + Clone> Book<P, A> {
     pub fn copy_history(&self) -> Result<Vec<Taken, A>, NoMemory>
         ensures copy { IfOk result (λ v. v.items ≡ reverse self.now.history) }
         ensures legal { IsLegal self.now.opening self.now.history }
-        ensures replies { OnOk result (replies_of self.now.history ≡ replies (opened self.now.opening) (commands_of self.now.history)) }
+        ensures reached { IsReached self.now.opening (state_of self.now).accepted }
+        ensures few { length (state_of self.now).accepted < history_limit }
+        ensures replies { OnOk result
+            (replies_of self.now.history ≡ replies (opened self.now.opening) (commands_of self.now.history)) }
     {
         let mut copy = Vec::new(self.history.allocator().clone()?);
         copy.extend_from_slice(self.history.as_slice())?;
         Ok(copy)
     }
 
-    /// How many commands were taken.
+    /// How many commands were taken. The activities accepted of them are in their ranges, none was refused, and there are
+    /// fewer than 2^32; so the laws of [`crate::laws`] hold of them.
     pub fn history_len(&self) -> usize
         ensures len { result ≡ length self.now.history }
         ensures legal { IsLegal self.now.opening self.now.history }
+        ensures reached { IsReached self.now.opening (state_of self.now).accepted }
+        ensures few { length (state_of self.now).accepted < history_limit }
     {
         self.history.len()
     }

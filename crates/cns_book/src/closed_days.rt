@@ -53,7 +53,8 @@ fn place<A: Allocator + Drop + Clone>(
     requires { AreFalling (reverse (map arc_value sheets.now)) }
     ensures bound { IsSearchInRange result (length sheets.now) }
     ensures found { IfOk result (HoldsAt (λ a. is_dated date (arc_value a) ≡ true) sheets.now) }
-    ensures absent { IfErr result (λ _. AllWithin (λ a. is_dated date (arc_value a) ≡ false) sheets.now 0 (length sheets.now)) }
+    ensures absent { IfErr result
+        (λ _. AllWithin (λ a. is_dated date (arc_value a) ≡ false) sheets.now 0 (length sheets.now)) }
 {
     sheets.binary_search_by_key(&date, |sheet| sheet.date())
 }
@@ -62,7 +63,8 @@ fn place<A: Allocator + Drop + Clone>(
 fn count_by<A: Allocator + Drop + Clone>(sheets: &[Arc<Sheet<A>, A>], date: Day) -> usize
     requires { AreFalling (reverse (map arc_value sheets.now)) }
     ensures bound { result ≤ length sheets.now }
-    ensures parted { IsPartitionPoint (λ a. is_dated_by date (arc_value a) ≡ true) (λ a. is_dated_by date (arc_value a) ≡ false) sheets.now result }
+    ensures parted { IsPartitionPoint (λ a. is_dated_by date (arc_value a) ≡ true)
+        (λ a. is_dated_by date (arc_value a) ≡ false) sheets.now result }
 {
     sheets.partition_point(|sheet| sheet.date() <= date)
 }
@@ -119,7 +121,8 @@ impl<A: Allocator + Drop + Clone> ClosedDays<A> {
     // The dividends that a close pays, each with the sheet of its record date. One that was recorded before the first close
     // is paid on nothing, and so is left out.
     fn payments(&self, due: Due<'_>) -> Result<Vec<Payment<'_, A>, A>, NoMemory>
-        ensures { IfOk result (λ v. map (λ p. (p.declared, p.sheet.now.rows)) v.items ≡ payments_by self.now due.entry) }
+        ensures { IfOk result
+            (λ v. map (λ p. (p.declared, p.sheet.now.rows)) v.items ≡ payments_by self.now due.entry) }
     {
         let mut payments = Vec::new(self.alloc.clone()?);
         for declared in due {
@@ -146,7 +149,9 @@ impl<A: Allocator + Drop + Clone> ClosedDays<A> {
         requires paid { CanBePaid (payments_by self.now due) }
         ensures date { IfOk result (λ s. s.date ≡ date) }
         ensures listed { IfOk result (λ s. s.prices ≡ listed_above prices.now None) }
-        ensures cut { IfOk result (λ s. IsCut (prices_of (slice_get self.now 0)) prices.now (P.rows positions.now) (payments_by self.now due.entry) s.rows) }
+        ensures cut { IfOk result
+            (λ s. IsCut (prices_of (slice_get self.now 0)) prices.now (P.rows positions.now)
+            (payments_by self.now due.entry) s.rows) }
         ensures prices { OnOk result (is_sorted (slice_cmp nat_cmp) prices.now ≡ true) }
         ensures rows { OnOk result (is_sorted key_cmp (P.rows positions.now) ≡ true) }
     {

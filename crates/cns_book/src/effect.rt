@@ -25,7 +25,8 @@ pub fn book<P: Positions<A>, A>(positions: &mut P, entries: &[Entry])
     requires small { AreSmallEntries entries.now }
     requires few { length entries.now ≤ 10 ^ 4 }
     requires rows { AreWithin (P.rows positions.old) }
-    ensures { (k : Key) → holding_at (P.rows positions.new) k ≡ books entries.now k (holding_at (P.rows positions.old) k) }
+    ensures { (k : Key) → holding_at (P.rows positions.new) k
+        ≡ books entries.now k (holding_at (P.rows positions.old) k) }
 {
     for entry in entries {
         add(positions, entry);
@@ -38,7 +39,8 @@ fn add<P: Positions<A>, A>(positions: &mut P, entry: &Entry)
     requires entry { IsSmallEntry entry.now }
     requires shares { unsigned_abs (holding_at (P.rows positions.old) (place_of entry.now)).now ≤ 2 ^ 62 }
     requires cents { unsigned_abs (holding_at (P.rows positions.old) (place_of entry.now)).contract ≤ 2 ^ 126 }
-    ensures booked { (k : Key) → holding_at (P.rows positions.new) k ≡ booked entry.now k (holding_at (P.rows positions.old) k) }
+    ensures booked { (k : Key) → holding_at (P.rows positions.new) k
+        ≡ booked entry.now k (holding_at (P.rows positions.old) k) }
     ensures prepared { P.prepared positions.new ≡ P.prepared positions.old }
 {
     positions.add(key_of(entry), entry.shares, entry.cents);

@@ -1,35 +1,42 @@
-//! The laws of the definitions, over any list of commands. Each is the contract of a call that does nothing.
-ghost use Rattle.cns_terms.specs.Laws.{Amounts, Bounds, ClosedDays, Positions, RefusalOrder, ZeroSums};
-ghost use Rattle.cns_book.specs.Liable.{LiableCounts};
+//! The laws of the definitions. Each is the contract of a call that does nothing.
+//!
+//! Sums, positions, bounds and amounts are laws over accepted activities that commands reach (`IsReached`): each is in its
+//! ranges and was not refused. A book's history is told to have reached such activities by `Book::history_len` and
+//! `Book::copy_history`, and `reaches` says that any list of commands in their ranges does.
+ghost use Rattle.cns_terms.specs.Laws.{Amounts, Bounds, ClosedDays, Positions, Reaches, RefusalOrder, ZeroSums};
+ghost use Rattle.cns_book.specs.Closes.{CloseCounts};
+
+/// What is accepted of any list of commands whose values are in their ranges, as those of [`cns_units`] are, was not
+/// refused after what was accepted before it.
+pub fn reaches()
+    ensures { Reaches }
+{}
 
 /// The marks of each closed day's sheet add up to zero cents over all accounts, the corporation's included, and so do
-/// its dividends, where the commands' values are in their ranges, as those of [`cns_units`] are. The day is named by its
-/// place or by its date.
+/// its dividends. The day is named by its place or by its date.
 pub fn zero_sums()
     ensures { ZeroSums }
 {}
 
-/// A closed day keeps its sheet, date, prices and rows, whatever is taken later; and so each statement, which is cut
-/// from it. The day is named by its place or by its date.
+/// A closed day keeps its sheet, date, prices and rows, whatever is taken later, and each account its statement on it.
+/// The day is named by its place or by its date.
 pub fn closed_days()
     ensures { ClosedDays }
 {}
 
-/// In each issue the positions of all accounts add up to zero shares, and so do the cents of the open day, where the
-/// commands' values are in their ranges.
+/// In each issue the positions of all accounts add up to zero shares, and so do the cents of the open day.
 pub fn positions()
     ensures { Positions }
 {}
 
-/// In each issue a member's position stays within 10^10 shares, and the corporation's within 10^14, where the commands'
-/// values are in their ranges, as those of [`cns_units`] are.
+/// In each issue a member's position stays within 10^10 shares, and the corporation's within 10^14.
 pub fn bounds()
     ensures { Bounds }
 {}
 
 /// No sum of a day is further than 10^34 cents from zero: on each closed day's sheet the cents booked, the values at the
 /// close, the marks and the dividends, added up over any first rows, and the open day's cents of each account in each
-/// issue, where the commands' values are in their ranges and there are fewer than 2^32 of them.
+/// issue, where there are fewer than 2^32 activities.
 pub fn amounts()
     ensures { Amounts }
 {}
@@ -40,8 +47,9 @@ pub fn refusal_order()
     ensures { RefusalOrder }
 {}
 
-/// An accepted close tells how many members are liable by it: as many as the batches of its day have, over all issues,
-/// then and whatever is taken later. Executions lower what is left of a liability, and take no member out of its batch.
-pub fn liable_counts()
-    ensures { LiableCounts }
+/// An accepted close tells of its day the date, the number of rows of its sheet and how many members are liable by it:
+/// as many as the batches of its day have, over all issues. So it is then, and whatever is taken later. Executions lower
+/// what is left of a liability, and take no member out of its batch.
+pub fn close_counts()
+    ensures { CloseCounts }
 {}

@@ -1,8 +1,8 @@
 // What the accepted activities amount to, part by part.
-ghost use Rattle.std.specs.Prelude.{◌≡◌, List, IfOk, []};
+ghost use Rattle.std.specs.Prelude.{◌≡◌, IfOk, OnErr, [], true};
 ghost use Rattle.cns_terms.specs.declared.command.Activity.{Activity};
 ghost use Rattle.cns_terms.specs.declared.command.Command.TheVariants as command;
-ghost use Rattle.cns_book.specs.Follows.{Follows, HasRoom, Steps};
+ghost use Rattle.cns_book.specs.Follows.{Answers, Follows, HasRoom, may_grow};
 
 use crate::closed_days::ClosedDays;
 use crate::members::Members;
@@ -58,7 +58,7 @@ impl<P: Positions<A>, A: Allocator + Drop + Clone> Model for Parts<P, A> {
       closes = a.closes;
       members = a.members;
       prices = a.prices;
-      references = a.trades;
+      trades = a.trades;
       dividends = a.dividends;
       rows = P.rows a.positions;
       sheets = a.closed;
@@ -93,7 +93,8 @@ impl<P: Positions<A>, A: Allocator + Drop + Clone> Parts<P, A> {
     fn act(&mut self, activity: &Activity) -> Result<Reply, NoMemory>
         requires { HasRoom self.old }
         ensures opening { self.new.opening ≡ self.old.opening }
-        ensures step { (L : List Activity) → Follows L self.old → Steps L (command.Activity activity.now) result self.new }
+        ensures step { Answers self.old (command.Activity activity.now) result self.new }
+        ensures grows { OnErr result (may_grow (command.Activity activity.now) ≡ true) }
     {
         match activity {
             Activity::Member(member) => self.add_member(*member),
@@ -116,12 +117,13 @@ impl<P: Positions<A>, A: Allocator + Drop + Clone> Parts<P, A> {
     pub fn answer(&mut self, command: &Command) -> Result<Reply, NoMemory>
         requires { HasRoom self.old }
         ensures opening { self.new.opening ≡ self.old.opening }
-        ensures step { (L : List Activity) → Follows L self.old → Steps L command.now result self.new }
+        ensures step { Answers self.old command.now result self.new }
+        ensures grows { OnErr result (may_grow command.now ≡ true) }
     {
         match command {
             Command::Activity(activity) => self.act(activity),
-            Command::Position(key) => Ok(self.position(*key)),
-            Command::Statement { account, date } => Ok(self.statement(*account, *date)),
+            Command::Position(key) => Ok(self.answer_position(*key)),
+            Command::Statement { account, date } => Ok(self.answer_statement(*account, *date)),
         }
     }
 }

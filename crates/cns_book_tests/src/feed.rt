@@ -6,7 +6,7 @@ mod turns;
 
 use cns_feed::{load, replay_on, reply_text};
 use cns_positions::{FlatPositions, Positions, TreePositions};
-use cns_terms::{Closed, Holding, Key, Refusal, Reply, Stated};
+use cns_terms::{Closed, Held, Holding, Key, Refusal, Reply, Stated};
 use cns_units::{Account, Cents, Cusip, Day};
 use std::alloc::Global;
 use std::process::Abort;
@@ -192,7 +192,7 @@ fn a_position_and_a_statement_have_their_texts(rt: HostRuntime) -> Result<(), Fa
         contract: -1,
         run: 4,
     };
-    let held = Reply::Held(key, holding);
+    let held = Reply::Held(Held::of(key, holding));
     let text = "position 0 17275R102 -10000000000 7 -0.01 4\n";
     assert_text(&rt, rt.alloc(), &held, text);
     let stated = Reply::Stated(Stated {

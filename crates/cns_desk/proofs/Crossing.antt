@@ -12,7 +12,7 @@ use Rattle.cns_terms.proofs.command.Command.TheSendSync as command
 use Rattle.cns_terms.proofs.worker.Worker.TheSendSync as worker
 use Rattle.cns_positions.specs.declared.positions.Positions as positions
 use Rattle.cns_sheets.proofs.Crossing.{sheet_send, sheet_sync}
-use Rattle.cns_book.proofs.Crossing.{book_send}
+use Rattle.cns_book.proofs.BookCrossing.{book_send}
 use Rattle.cns_book.proofs.receipt.Receipt.TheSendSync as receipt
 use Rattle.cns_desk.specs.contracts.desk.Desk
 use Rattle.cns_desk.specs.contracts.kept.Kept

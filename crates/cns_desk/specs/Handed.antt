@@ -17,9 +17,4 @@ pub record IsStated (date : Day) (s : Stated) (o : Option DaySheet) : Type 0 whe
 -- a sheet is handed out exactly where the reply is Stated
 abbrev pub Hands : Day → Reply → Option DaySheet → Type 0
 Hands date (reply.Stated s) o = IsStated date s o
-Hands date reply.Accepted o = o ≡ None
-Hands date (reply.Noticed k) o = o ≡ None
-Hands date (reply.Executed n) o = o ≡ None
-Hands date (reply.Closed c) o = o ≡ None
-Hands date (reply.Held k h) o = o ≡ None
-Hands date (reply.Refused r) o = o ≡ None
+Hands date _ o = o ≡ None

@@ -58,12 +58,14 @@ impl<A: Allocator + Drop> Dividends<A> {
     ) -> Result<(), NoMemory>
     where
         A: Clone,
-        ensures ok { OnOk result (self.new ≡ put pays_before (record { cusip = cusip; recorded = recorded; payable = payable; rate = rate }) self.old) }
+        ensures ok { OnOk result
+            (self.new ≡ put pays_before
+            (record { issue = cusip; recorded = recorded; payable = payable; rate = rate }) self.old) }
         ensures err { OnErr result (self.new ≡ self.old) }
     {
         let place = (payable, self.placed.len());
         let declared = Declared {
-            cusip,
+            issue: cusip,
             recorded,
             payable,
             rate,

@@ -6,12 +6,12 @@ use Rattle.std.proofs.KnownBytes.{Appends-kept, Appends-nil, Appends-trans, Keep
 use Rattle.cns_terms.specs.Machine.{State}
 use Rattle.cns_book.specs.Log.{Log, state_of}
 use Rattle.cns_feed.specs.Line.{Line}
-use Rattle.cns_feed.specs.Output.{Adds, Counts, is_accepted_close, is_at_fault, is_command, line_text, lines_of, no_counts, outcome_of, outcomes, state_after, state_after_line, texts}
+use Rattle.cns_feed.specs.Output.{Adds, Counts, is_accepted_close, is_at_fault, is_command, line_text, lines_of, no_counts, response_of, responses, state_after, state_after_line, texts}
 use Rattle.cns_feed.specs.Records.{Gives, Pending}
 use Rattle.cns_feed.specs.Replay.{HasRoomFor, IsUpTo, Leaves, LeavesAt, Stops, Takes, log_after, log_after_line}
 use Rattle.cns_feed.specs.declared.fault.ReplayFault.{ReplayFault}
 use Rattle.cns_feed.specs.declared.fault.ReplayFault.TheVariants as fault
-use Rattle.cns_feed.specs.declared.outcome.Outcome.{Outcome}
+use Rattle.cns_feed.specs.declared.response.Response.{Response}
 use Rattle.cns_feed.specs.declared.records.Records.{Records}
 use Rattle.cns_feed.specs.declared.summary.Summary.{Summary}
 
@@ -27,10 +27,10 @@ unfolding state_after
 state_after-append S [] b = refl
 state_after-append S (l ∷ a) b = state_after-append (state_after_line S l) a b
 
-outcomes-append : (S : State) (a b : List Line) → outcomes S (a ++ b) ≡ outcomes S a ++ outcomes (state_after S a) b
-unfolding outcomes state_after
-outcomes-append S [] b = refl
-outcomes-append S (l ∷ a) b = ap (λ os. outcome_of S l ∷ os) (outcomes-append (state_after_line S l) a b)
+responses-append : (S : State) (a b : List Line) → responses S (a ++ b) ≡ responses S a ++ responses (state_after S a) b
+unfolding responses state_after
+responses-append S [] b = refl
+responses-append S (l ∷ a) b = ap (λ os. response_of S l ∷ os) (responses-append (state_after_line S l) a b)
 
 texts-append : (S : State) (a b : List Line) → texts S (a ++ b) ≡ texts S a ++ texts (state_after S a) b
 unfolding texts state_after
@@ -49,25 +49,25 @@ state_of-after k (l ∷ ls) = state_of-after (log_after_line k l) ls ∙ ap (λ 
 
 -- ---- counts
 
-adds-more : (a b c : Summary) (x y : List Outcome) → Adds a b x → Adds b c y → Adds a c (x ++ y)
+adds-more : (a b c : Summary) (x y : List Response) → Adds a b x → Adds b c y → Adds a c (x ++ y)
 adds-more a b c x y p q = record {
   commands = more is_command a.commands b.commands c.commands p.commands q.commands;
   lines = more is_at_fault a.lines b.lines c.lines p.lines q.lines;
   closes = more is_accepted_close a.closes b.closes c.closes p.closes q.closes;
 }
   where
-    more : (test : Outcome → Bool) (k m n : ℕ) → m ≡ k + count_by test x → n ≡ m + count_by test y → n ≡ k + count_by test (x ++ y)
+    more : (test : Response → Bool) (k m n : ℕ) → m ≡ k + count_by test x → n ≡ m + count_by test y → n ≡ k + count_by test (x ++ y)
     more test k m n e f = let both = sum_by-append (λ o. cond (test o) 1 0) x y in omega (arith, both, e, f)
 
 -- at most so many more
-up_to_more : (test : Outcome → Bool) (os : List Outcome) (k m n : ℕ) → m ≡ k + count_by test os → k ≤ n → m ≤ n + length os
+up_to_more : (test : Response → Bool) (os : List Response) (k m n : ℕ) → m ≡ k + count_by test os → k ≤ n → m ≤ n + length os
 up_to_more test os k m n e le = let few = count_by-le-length test os in omega (arith, e, le, few)
 
 pub up_to-none : (s : Summary) → s ≡ no_counts → IsUpTo s 0
 up_to-none s zero = rw zero (record { commands = omega arith; lines = omega arith; closes = omega arith })
 
 -- the counts after one more line
-pub up_to-line : (s t : Summary) (o : Outcome) (n : ℕ) → Adds s t (o ∷ []) → IsUpTo s n → IsUpTo t (n + 1)
+pub up_to-line : (s t : Summary) (o : Response) (n : ℕ) → Adds s t (o ∷ []) → IsUpTo s n → IsUpTo t (n + 1)
 up_to-line s t o n adds le = record {
   commands = up_to_more is_command (o ∷ []) s.commands t.commands n adds.commands le.commands;
   lines = up_to_more is_at_fault (o ∷ []) s.lines t.lines n adds.lines le.lines;
@@ -84,11 +84,11 @@ up_to-less s m n le p = record {
 -- ---- a book and its counts
 
 pub takes-none : (k : Log) (s : Summary) → Takes k k s s []
-unfolding log_after outcomes
+unfolding log_after responses
 takes-none k s = record { book = refl; counts = record { commands = omega arith; lines = omega arith; closes = omega arith } }
 
-pub takes-line : (k more : Log) (s t : Summary) (l : Line) (o : Outcome) → more ≡ log_after_line k l → o ≡ outcome_of (state_of k) l → Adds s t (o ∷ []) → Takes k more s t (l ∷ [])
-unfolding log_after outcomes
+pub takes-line : (k more : Log) (s t : Summary) (l : Line) (o : Response) → more ≡ log_after_line k l → o ≡ response_of (state_of k) l → Adds s t (o ∷ []) → Takes k more s t (l ∷ [])
+unfolding log_after responses
 takes-line k more s t l o after is adds = record { book = after; counts = rw is at adds }
 
 pub takes-more : (k m n : Log) (a b c : Summary) (x y : List Line) → Takes k m a b x → Takes m n b c y → Takes k n a c (x ++ y)
@@ -96,7 +96,7 @@ takes-more k m n a b c x y p q =
     let state : state_of m ≡ state_after (state_of k) x = ap state_of p.book ∙ state_of-after k x in
     record {
       book = q.book ∙ ap (λ l. log_after l y) p.book ∙ sym (log_after-append k x y);
-      counts = subst (Adds a c) (ap (λ S. outcomes (state_of k) x ++ outcomes S y) state ∙ sym (outcomes-append (state_of k) x y)) (adds-more a b c _ _ p.counts q.counts);
+      counts = subst (Adds a c) (ap (λ S. responses (state_of k) x ++ responses S y) state ∙ sym (responses-append (state_of k) x y)) (adds-more a b c _ _ p.counts q.counts);
     }
 
 -- the state of a book that took lines
@@ -166,8 +166,8 @@ along-kept rem rs first now s old mid new turns all kept p = record {
 }
 
 -- one line more
-pub along-line : {R : Type 0} (rem : R → Option (List ℕ)) (rs more : Records R) (first now then : Log) (s t : Summary) (old mid new : Option (List ℕ)) (turns : ℕ) (l : Line) (o : Outcome) (all : List Line)
-    → Gives rem rs more l → then ≡ log_after_line now l → o ≡ outcome_of (state_of now) l → Adds s t (o ∷ []) → Appends mid new (line_text (state_of now) l)
+pub along-line : {R : Type 0} (rem : R → Option (List ℕ)) (rs more : Records R) (first now then : Log) (s t : Summary) (old mid new : Option (List ℕ)) (turns : ℕ) (l : Line) (o : Response) (all : List Line)
+    → Gives rem rs more l → then ≡ log_after_line now l → o ≡ response_of (state_of now) l → Adds s t (o ∷ []) → Appends mid new (line_text (state_of now) l)
     → Along rem rs first now s old mid turns all → Along rem more first then t old new (turns + 1) all
 along-line rem rs more first now then s t old mid new turns l o all gives after is adds text p =
     let (rest, first_is, pending) = gives p.rest p.pending in
@@ -263,8 +263,8 @@ stops-known rem rs S old new (Some input) (Err e) Why pending stops = (stops (li
 
 -- what a play counts is what its replay counts, if the input is known
 pub counts-known : {R : Type 0} (rem : R → Option (List ℕ)) (a : Records R) (S : State) (known : Option (List ℕ)) (r : Result Summary ReplayFault)
-    → IfSome known (λ input. Pending rem a (lines_of input)) → IfOk r (λ s. (all : List Line) → Pending rem a all → Counts s (outcomes S all))
-    → IfOk r (λ s. IfSome known (λ input. Counts s (outcomes S (lines_of input))))
+    → IfSome known (λ input. Pending rem a (lines_of input)) → IfOk r (λ s. (all : List Line) → Pending rem a all → Counts s (responses S all))
+    → IfOk r (λ s. IfSome known (λ input. Counts s (responses S (lines_of input))))
 counts-known rem a S None (Ok s) pending counts = tt
 counts-known rem a S (Some input) (Ok s) pending counts = counts (lines_of input) pending
 counts-known rem a S known (Err e) pending counts = tt

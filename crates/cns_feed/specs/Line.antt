@@ -171,7 +171,7 @@ dividend_line fields = counted 5 fields (do
   recorded ← date_at fields 2
   payable ← date_at fields 3
   rate ← rate_at fields 4
-  Ok (command.Activity (activity.Dividend (record { cusip = issue; recorded = recorded; payable = payable; rate = rate }))))
+  Ok (command.Activity (activity.Dividend (record { issue = issue; recorded = recorded; payable = payable; rate = rate }))))
 
 -- SPLIT: the issue, the new shares, the old ones, and the cents in lieu of a new share
 unfoldable pub split_line : Record → Line

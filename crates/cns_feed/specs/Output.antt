@@ -1,4 +1,4 @@
--- What a replay makes of lines: their outcomes and the text that is written.
+-- What a replay makes of lines: their responses and the text that is written.
 use Rattle.std.specs.Prelude.{◌≡◌, ℕ, ◌+◌, Bool, true, false, count_by, map, List, [], ◌∷◌, ◌++◌, Ok, Err}
 use Rattle.csv.specs.Reading.{records, default_config, strip_bom}
 use Rattle.cns_units.specs.declared.day.Day.{Day}
@@ -13,8 +13,8 @@ use Rattle.cns_terms.specs.Sheets.{rows_for, sheet_named}
 use Rattle.cns_statements.specs.Texts.{rows_text}
 use Rattle.cns_feed.specs.Line.{Line, line_of}
 use Rattle.cns_feed.specs.Text.{batches_text, reply_line, fault_line}
-use Rattle.cns_feed.specs.declared.outcome.Outcome.{Outcome}
-use Rattle.cns_feed.specs.declared.outcome.Outcome.TheVariants as outcome
+use Rattle.cns_feed.specs.declared.response.Response.{Response}
+use Rattle.cns_feed.specs.declared.response.Response.TheVariants as response
 use Rattle.cns_feed.specs.declared.summary.Summary.{Summary}
 
 -- the lines of an input, after a byte order mark where there is one
@@ -22,9 +22,9 @@ abbrev pub lines_of : List ℕ → List Line
 lines_of input = map line_of (records default_config (strip_bom input))
 
 -- what a line comes to in a state
-abbrev pub outcome_of : State → Line → Outcome
-outcome_of S (Ok cmd) = outcome.Replied (answer S cmd)
-outcome_of S (Err f) = outcome.AtFault f
+abbrev pub response_of : State → Line → Response
+response_of S (Ok cmd) = response.Replied (answer S cmd)
+response_of S (Err f) = response.AtFault f
 
 -- the state after a line; one at fault changes nothing
 abbrev pub state_after_line : State → Line → State
@@ -40,20 +40,16 @@ rows_stated S s = rows_for (sheet_named S.opening (journal_of S) s.date).rows s.
 abbrev pub rest_text : State → Reply → List ℕ
 rest_text S (reply.Closed c) = batches_text (batches (journal_of S) c.day)
 rest_text S (reply.Stated s) = rows_text (rows_stated S s)
-rest_text S reply.Accepted = []
-rest_text S (reply.Noticed n) = []
-rest_text S (reply.Executed n) = []
-rest_text S (reply.Held k h) = []
-rest_text S (reply.Refused r) = []
+rest_text S _ = []
 
--- what is written for an outcome, in the state after it
-abbrev pub outcome_text : State → Outcome → List ℕ
-outcome_text S (outcome.Replied r) = reply_line r ++ rest_text S r
-outcome_text S (outcome.AtFault f) = fault_line f
+-- what is written for an response, in the state after it
+abbrev pub response_text : State → Response → List ℕ
+response_text S (response.Replied r) = reply_line r ++ rest_text S r
+response_text S (response.AtFault f) = fault_line f
 
 -- what is written for a line in a state
 abbrev pub line_text : State → Line → List ℕ
-line_text S l = outcome_text (state_after_line S l) (outcome_of S l)
+line_text S l = response_text (state_after_line S l) (response_of S l)
 
 -- the state after lines, in order
 unfoldable pub state_after : State → List Line → State
@@ -61,9 +57,9 @@ state_after S [] = S
 state_after S (l ∷ ls) = state_after (state_after_line S l) ls
 
 -- what lines come to, in order
-unfoldable pub outcomes : State → List Line → List Outcome
-outcomes S [] = []
-outcomes S (l ∷ ls) = outcome_of S l ∷ outcomes (state_after_line S l) ls
+unfoldable pub responses : State → List Line → List Response
+responses S [] = []
+responses S (l ∷ ls) = response_of S l ∷ responses (state_after_line S l) ls
 
 -- what is written for lines, in order
 unfoldable pub texts : State → List Line → List ℕ
@@ -75,32 +71,27 @@ abbrev pub output : Day → List ℕ → List ℕ
 output opening input = texts (opened opening) (lines_of input)
 
 -- whether a record was a command
-abbrev pub is_command : Outcome → Bool
-is_command (outcome.Replied r) = true
-is_command (outcome.AtFault f) = false
+abbrev pub is_command : Response → Bool
+is_command (response.Replied r) = true
+is_command (response.AtFault f) = false
 
 -- whether a record was at fault
-abbrev pub is_at_fault : Outcome → Bool
-is_at_fault (outcome.Replied r) = false
-is_at_fault (outcome.AtFault f) = true
+abbrev pub is_at_fault : Response → Bool
+is_at_fault (response.Replied r) = false
+is_at_fault (response.AtFault f) = true
 
 -- whether a reply is that of an accepted close
 abbrev pub is_closed : Reply → Bool
 is_closed (reply.Closed c) = true
-is_closed reply.Accepted = false
-is_closed (reply.Noticed n) = false
-is_closed (reply.Executed n) = false
-is_closed (reply.Held k h) = false
-is_closed (reply.Stated s) = false
-is_closed (reply.Refused r) = false
+is_closed _ = false
 
 -- whether a record was a close that was accepted
-abbrev pub is_accepted_close : Outcome → Bool
-is_accepted_close (outcome.Replied r) = is_closed r
-is_accepted_close (outcome.AtFault f) = false
+abbrev pub is_accepted_close : Response → Bool
+is_accepted_close (response.Replied r) = is_closed r
+is_accepted_close (response.AtFault f) = false
 
--- a summary with outcomes added: how many were commands, at fault, and accepted closes
-pub record Adds (old new : Summary) (os : List Outcome) : Type 0 where
+-- a summary with responses added: how many were commands, at fault, and accepted closes
+pub record Adds (old new : Summary) (os : List Response) : Type 0 where
   pub commands : new.commands ≡ old.commands + count_by is_command os
   pub lines : new.lines ≡ old.lines + count_by is_at_fault os
   pub closes : new.closes ≡ old.closes + count_by is_accepted_close os
@@ -109,6 +100,6 @@ pub record Adds (old new : Summary) (os : List Outcome) : Type 0 where
 abbrev pub no_counts : Summary
 no_counts = record { commands = 0; lines = 0; closes = 0 }
 
--- a summary of outcomes
-abbrev pub Counts : Summary → List Outcome → Type 0
+-- a summary of responses
+abbrev pub Counts : Summary → List Response → Type 0
 Counts s os = Adds no_counts s os

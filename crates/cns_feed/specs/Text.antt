@@ -8,11 +8,10 @@ use Rattle.cns_units.specs.declared.cusip.Cusip.{Cusip}
 use Rattle.cns_terms.specs.Batches.{Liables}
 use Rattle.cns_terms.specs.Numbers.{refusal_number}
 use Rattle.cns_terms.specs.declared.buy_in.Liable.{Liable}
-use Rattle.cns_terms.specs.declared.holding.Holding.{Holding}
-use Rattle.cns_terms.specs.declared.holding.Key.{Key}
 use Rattle.cns_terms.specs.declared.refusal.Refusal.{Refusal}
 use Rattle.cns_terms.specs.declared.refusal.Refusal.TheVariants as refusal
 use Rattle.cns_terms.specs.declared.reply.Closed.{Closed}
+use Rattle.cns_terms.specs.declared.reply.Held.{Held}
 use Rattle.cns_terms.specs.declared.reply.Reply.{Reply}
 use Rattle.cns_terms.specs.declared.reply.Reply.TheVariants as reply
 use Rattle.cns_statements.specs.Texts.{stated_line}
@@ -33,9 +32,9 @@ abbrev pub closed_line : Closed → List ℕ
 closed_line c = text_line (codes "closed") (decimal c.day ∷ day_text c.date ∷ decimal c.rows ∷ decimal c.liable ∷ [])
 
 -- `position ACCOUNT CUSIP NOW OPENING CONTRACT RUN`
-abbrev pub held_line : Key → Holding → List ℕ
-held_line k h =
-    text_line (codes "position") (decimal k.account ∷ k.issue ∷ signed_decimal h.now ∷ signed_decimal h.opening ∷ cents_text h.contract ∷ decimal h.run ∷ [])
+abbrev pub held_line : Held → List ℕ
+held_line h =
+    text_line (codes "position") (decimal h.key.account ∷ h.key.issue ∷ signed_decimal h.position ∷ signed_decimal h.opening ∷ cents_text h.contract ∷ decimal h.age ∷ [])
 
 -- what is written after a refusal's number: the live notice's number, or the room
 abbrev pub refusal_detail : Refusal → List (List ℕ)
@@ -53,7 +52,7 @@ reply_line reply.Accepted = text_line (codes "ok") []
 reply_line (reply.Noticed n) = noticed_line n
 reply_line (reply.Executed n) = executed_line n
 reply_line (reply.Closed c) = closed_line c
-reply_line (reply.Held k h) = held_line k h
+reply_line (reply.Held h) = held_line h
 reply_line (reply.Stated s) = stated_line s
 reply_line (reply.Refused r) = refused_line r
 
@@ -63,7 +62,7 @@ liable_line c l = text_line (codes "liable") (c ∷ decimal l.member ∷ decimal
 
 -- a line for each member of a batch, in the order of filling
 abbrev pub batch_text : Liables → List ℕ
-batch_text b = flat_map (liable_line b.cusip) b.members
+batch_text b = flat_map (liable_line b.issue) b.members
 
 -- the lines of each batch
 abbrev pub batches_text : List Liables → List ℕ

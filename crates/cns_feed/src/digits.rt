@@ -24,7 +24,8 @@ fn exact(bytes: &[u8]) -> Option<u64>
 
 // The number that digits stand for, or the greatest number where it is greater; nothing where one is no digit.
 fn capped(bytes: &[u8]) -> Option<u64>
-    ensures { result ≡ (if all_ascii_digits bytes.now then Some (min (digits_value 10 bytes.now) (2 ^ 64 - 1)) else None) }
+    ensures { result ≡ (if all_ascii_digits bytes.now then Some
+        (min (digits_value 10 bytes.now) (2 ^ 64 - 1)) else None) }
 {
     let mut value = 0u64;
     for byte in bytes {
@@ -40,7 +41,8 @@ fn capped(bytes: &[u8]) -> Option<u64>
 
 // The same; fields of the formats' lengths are read without looking for the greatest number at each digit.
 fn saturated(bytes: &[u8]) -> Option<u64>
-    ensures { result ≡ (if all_ascii_digits bytes.now then Some (min (digits_value 10 bytes.now) (2 ^ 64 - 1)) else None) }
+    ensures { result ≡ (if all_ascii_digits bytes.now then Some
+        (min (digits_value 10 bytes.now) (2 ^ 64 - 1)) else None) }
 {
     if bytes.len() <= 19 {
         exact(bytes)

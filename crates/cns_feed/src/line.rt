@@ -124,12 +124,12 @@ fn dividend_of(row: &ByteRecord) -> Result<Command, LineFault>
     if row.len() != 5 {
         return Err(LineFault::Count);
     }
-    let cusip = cusip(row, 1)?;
+    let issue = cusip(row, 1)?;
     let recorded = date(row, 2)?;
     let payable = date(row, 3)?;
     let rate = rate(row, 4)?;
     Ok(Command::Activity(Activity::Dividend(Declared {
-        cusip,
+        issue,
         recorded,
         payable,
         rate,

@@ -3,14 +3,14 @@ ghost use Rattle.std.specs.Prelude.{◌≡◌, ◌⊎◌, ◌-◌, ◌^◌, ◌<
 ghost use Rattle.cns_terms.specs.Machine.{opened};
 ghost use Rattle.cns_book.specs.Log.{state_of};
 ghost use Rattle.cns_feed.specs.Line.{Line};
-ghost use Rattle.cns_feed.specs.Output.{Counts, lines_of, outcomes};
+ghost use Rattle.cns_feed.specs.Output.{Counts, lines_of, responses};
 ghost use Rattle.cns_feed.specs.Records.{EndsReading, Pending, Setup};
 ghost use Rattle.cns_feed.specs.Replay.{HasRoomFor, blank_log, log_after};
 ghost use Rattle.cns_feed.specs.declared.fault.ReplayFault.TheVariants as fault;
 
 use crate::fault::ReplayFault;
-use crate::outcome::{ReplayBook, new_book, take_line};
 use crate::records::{MOST_RECORDS, Records};
+use crate::response::{ReplayBook, new_book, take_line};
 use crate::summary::Summary;
 use cns_book::Book;
 use cns_positions::{Positions, TreePositions};
@@ -26,19 +26,21 @@ pub(crate) fn take_all<P: Positions<Global>, R: Read>(
     requires setup { Setup records.old.rows }
     requires room { HasRoomFor book.old (2 ^ 32 - 1) }
     ensures few { OnOk result ((all : List Line) → Pending R.remaining records.old all → length all < 2 ^ 32 - 1) }
-    ensures after { OnOk result ((all : List Line) → Pending R.remaining records.old all → book.new ≡ log_after book.old all) }
+    ensures after { OnOk result
+        ((all : List Line) → Pending R.remaining records.old all → book.new ≡ log_after book.old all) }
     ensures counts { IfOk result (λ s. (all : List Line) → Pending R.remaining records.old all
-        → Counts s (outcomes (state_of book.old) all)) }
+        → Counts s (responses (state_of book.old) all)) }
     ensures err { IfErr result (λ e. (e ≡ fault.NoMemory)
-        ⊎ EndsReading e records.new ((all : List Line) → Pending R.remaining records.old all → 2 ^ 32 - 1 ≤ length all)) }
+        ⊎ EndsReading e records.new
+        ((all : List Line) → Pending R.remaining records.old all → 2 ^ 32 - 1 ≤ length all)) }
 {
     let mut summary = Summary::new();
     for _turn in 0..MOST_RECORDS {
         let Some(line) = records.read_line()? else {
             return Ok(summary);
         };
-        let outcome = take_line(book, &line)?;
-        summary.add(&outcome);
+        let response = take_line(book, &line)?;
+        summary.add(&response);
     }
     Err(ReplayFault::Read)
 }
@@ -56,7 +58,7 @@ pub fn load_on<P: Positions<Global>, R: Read + Drop>(
     ensures after { IfOk result (λ p. IfSome (R.remaining reader)
         (λ input. p.0 ≡ log_after (blank_log date) (lines_of input))) }
     ensures counts { IfOk result (λ p. IfSome (R.remaining reader)
-        (λ input. Counts p.1 (outcomes (opened date) (lines_of input)))) }
+        (λ input. Counts p.1 (responses (opened date) (lines_of input)))) }
     ensures few { OnOk result (IfSome (R.remaining reader) (λ input. length (lines_of input) < 2 ^ 32 - 1)) }
     ensures err { IfErr result (λ e. (e ≡ fault.NoMemory) ⊎ (e ≡ fault.Read)) }
 {
@@ -76,7 +78,7 @@ pub fn load<R: Read + Drop>(
     ensures after { IfOk result (λ p. IfSome (R.remaining reader)
         (λ input. p.0 ≡ log_after (blank_log date) (lines_of input))) }
     ensures counts { IfOk result (λ p. IfSome (R.remaining reader)
-        (λ input. Counts p.1 (outcomes (opened date) (lines_of input)))) }
+        (λ input. Counts p.1 (responses (opened date) (lines_of input)))) }
     ensures few { OnOk result (IfSome (R.remaining reader) (λ input. length (lines_of input) < 2 ^ 32 - 1)) }
     ensures err { IfErr result (λ e. (e ≡ fault.NoMemory) ⊎ (e ≡ fault.Read)) }
 {

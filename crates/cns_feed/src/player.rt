@@ -4,15 +4,15 @@ ghost use Rattle.std.specs.Io.KnownBytes.{Appends, Keeps};
 ghost use Rattle.cns_terms.specs.Machine.{opened};
 ghost use Rattle.cns_book.specs.Log.{state_of};
 ghost use Rattle.cns_feed.specs.Line.{Line};
-ghost use Rattle.cns_feed.specs.Output.{Counts, line_text, lines_of, outcome_of, outcomes, output, texts};
+ghost use Rattle.cns_feed.specs.Output.{Counts, line_text, lines_of, response_of, responses, output, texts};
 ghost use Rattle.cns_feed.specs.Records.{EndsReading, Pending, Setup};
 ghost use Rattle.cns_feed.specs.Replay.{HasRoomFor, LeavesAt, Stops, StopsReplay, log_after_line};
 ghost use Rattle.cns_feed.specs.declared.fault.ReplayFault.TheVariants as fault;
 
 use crate::fault::ReplayFault;
 use crate::line::Line;
-use crate::outcome::{Outcome, new_book, take_line, write_outcome};
 use crate::records::{MOST_RECORDS, Records};
+use crate::response::{Response, new_book, take_line, write_response};
 use crate::summary::Summary;
 use cns_book::Book;
 use cns_positions::{Positions, TreePositions};
@@ -25,16 +25,18 @@ fn play_line<P: Positions<Global>, W: Write>(
     book: &mut Book<P, Global>,
     line: &Line,
     writer: &mut W,
-) -> Result<Outcome, ReplayFault>
+) -> Result<Response, ReplayFault>
     requires room { HasRoomFor book.old 1 }
-    ensures outcome { IfOk result (λ o. o ≡ outcome_of (state_of book.old) line.now) }
+    ensures response { IfOk result (λ o. o ≡ response_of (state_of book.old) line.now) }
     ensures after { OnOk result (book.new ≡ log_after_line book.old line.now) }
-    ensures text { OnOk result (Appends (W.contents writer.old) (W.contents writer.new) (line_text (state_of book.old) line.now)) }
-    ensures err { IfErr result (λ e. LeavesAt e (W.contents writer.old) (W.contents writer.new) (line_text (state_of book.old) line.now)) }
+    ensures text { OnOk result
+        (Appends (W.contents writer.old) (W.contents writer.new) (line_text (state_of book.old) line.now)) }
+    ensures err { IfErr result
+        (λ e. LeavesAt e (W.contents writer.old) (W.contents writer.new) (line_text (state_of book.old) line.now)) }
 {
-    let outcome = take_line(book, line)?;
-    match write_outcome(book, &outcome, writer) {
-        Ok(()) => Ok(outcome),
+    let response = take_line(book, line)?;
+    match write_response(book, &response, writer) {
+        Ok(()) => Ok(response),
         Err(_) => Err(ReplayFault::Write),
     }
 }
@@ -66,7 +68,7 @@ pub(crate) fn play<P: Positions<Global>, R: Read, W: Write>(
     ensures text { OnOk result ((all : List Line) → Pending R.remaining records.old all
         → Appends (W.contents writer.old) (W.contents writer.new) (texts (state_of book.old) all)) }
     ensures counts { IfOk result (λ s. (all : List Line) → Pending R.remaining records.old all
-        → Counts s (outcomes (state_of book.old) all)) }
+        → Counts s (responses (state_of book.old) all)) }
     ensures fault { IfErr result (λ e. (all : List Line) → Pending R.remaining records.old all
         → (s : Stops e (W.contents writer.old) (W.contents writer.new) (state_of book.old) all)
         × (s.waiting ≡ None → (e ≡ fault.Write) ⊎ EndsReading e records.new (length s.answered ≡ 2 ^ 32 - 1))) }
@@ -78,8 +80,8 @@ pub(crate) fn play<P: Positions<Global>, R: Read, W: Write>(
         let Some(line) = records.read_line()? else {
             return Ok(summary);
         };
-        let outcome = play_line(book, &line, writer)?;
-        summary.add(&outcome);
+        let response = play_line(book, &line, writer)?;
+        summary.add(&response);
     }
     Err(ReplayFault::Read)
 }
@@ -105,7 +107,7 @@ pub fn replay_on<P: Positions<Global>, R: Read + Drop, W: Write>(
     ensures output { OnOk result (IfSome (R.remaining reader)
         (λ input. Appends (W.contents writer.old) (W.contents writer.new) (output date input))) }
     ensures counts { IfOk result (λ s. IfSome (R.remaining reader)
-        (λ input. Counts s (outcomes (opened date) (lines_of input)))) }
+        (λ input. Counts s (responses (opened date) (lines_of input)))) }
     ensures few { OnOk result (IfSome (R.remaining reader) (λ input. length (lines_of input) < 2 ^ 32 - 1)) }
     // The records before the fault are answered, and of the one that it came at, if any, what the fault leaves.
     ensures fault { IfErr result (λ e. IfSome (R.remaining reader)
@@ -129,7 +131,7 @@ pub fn replay<R: Read + Drop, W: Write>(
     ensures output { OnOk result (IfSome (R.remaining reader)
         (λ input. Appends (W.contents writer.old) (W.contents writer.new) (output date input))) }
     ensures counts { IfOk result (λ s. IfSome (R.remaining reader)
-        (λ input. Counts s (outcomes (opened date) (lines_of input)))) }
+        (λ input. Counts s (responses (opened date) (lines_of input)))) }
     ensures few { OnOk result (IfSome (R.remaining reader) (λ input. length (lines_of input) < 2 ^ 32 - 1)) }
     // The records before the fault are answered, and of the one that it came at, if any, what the fault leaves.
     ensures fault { IfErr result (λ e. IfSome (R.remaining reader)

@@ -2,7 +2,7 @@
 ghost use Rattle.std.specs.Prelude.{◌≡◌, IfOk, IfErr, OnOk};
 ghost use Rattle.cns_units.specs.Output.{Writes};
 ghost use Rattle.cns_book.specs.Log.{state_of};
-ghost use Rattle.cns_feed.specs.Output.{outcome_of, outcome_text, rest_text, rows_stated};
+ghost use Rattle.cns_feed.specs.Output.{response_of, response_text, rest_text, rows_stated};
 ghost use Rattle.cns_statements.specs.Texts.{rows_text};
 ghost use Rattle.cns_feed.specs.Replay.{HasRoomFor, blank_log, log_after_line};
 ghost use Rattle.cns_feed.specs.declared.fault.ReplayFault.TheVariants as fault;
@@ -24,7 +24,7 @@ pub type ReplayBook = Book<TreePositions<Global>, Global>;
 
 // What a record comes to: the reply to its command, or its fault.
 #[derive(Clone, Copy)]
-pub(crate) enum Outcome {
+pub(crate) enum Response {
     Replied(Reply),
     AtFault(LineFault),
 }
@@ -47,19 +47,19 @@ pub(crate) fn new_book<P: Positions<Global>>(
 pub(crate) fn take_line<P: Positions<Global>>(
     book: &mut Book<P, Global>,
     line: &Line,
-) -> Result<Outcome, ReplayFault>
+) -> Result<Response, ReplayFault>
     requires room { HasRoomFor book.old 1 }
-    ensures outcome { IfOk result (λ o. o ≡ outcome_of (state_of book.old) line.now) }
+    ensures response { IfOk result (λ o. o ≡ response_of (state_of book.old) line.now) }
     ensures after { OnOk result (book.new ≡ log_after_line book.old line.now) }
     ensures err { IfErr result (λ e. e ≡ fault.NoMemory) }
 {
     let command = match line {
         Ok(command) => command,
         Err(LineFault::NoMemory) => return Err(ReplayFault::NoMemory),
-        Err(fault) => return Ok(Outcome::AtFault(*fault)),
+        Err(fault) => return Ok(Response::AtFault(*fault)),
     };
     match book.take(Worker::FIRST, *command) {
-        Ok(receipt) => Ok(Outcome::Replied(receipt.reply)),
+        Ok(receipt) => Ok(Response::Replied(receipt.reply)),
         Err(TakeFault::NoMemory) => Err(ReplayFault::NoMemory),
         Err(TakeFault::Full) => Err(ReplayFault::Full),
     }
@@ -71,7 +71,8 @@ fn write_stated_rows<P: Positions<Global>, W: Write>(
     stated: &Stated,
     writer: &mut W,
 ) -> Result<(), WriteFault>
-    ensures { Writes (W.contents writer.old) (W.contents writer.new) (rows_text (rows_stated (state_of book.now) stated.now)) result }
+    ensures { Writes (W.contents writer.old) (W.contents writer.new)
+        (rows_text (rows_stated (state_of book.now) stated.now)) result }
 {
     match book.sheet(stated.date) {
         Some(sheet) => write_rows(sheet.rows_of(stated.account), writer),
@@ -93,24 +94,25 @@ fn write_rest<P: Positions<Global>, W: Write>(
         Reply::Accepted
         | Reply::Noticed(_)
         | Reply::Executed(_)
-        | Reply::Held(_, _)
+        | Reply::Held(_)
         | Reply::Refused(_) => Ok(()),
     }
 }
 
-// Writes the text of an outcome, with the book as it was left.
-pub(crate) fn write_outcome<P: Positions<Global>, W: Write>(
+// Writes the text of an response, with the book as it was left.
+pub(crate) fn write_response<P: Positions<Global>, W: Write>(
     book: &Book<P, Global>,
-    outcome: &Outcome,
+    response: &Response,
     writer: &mut W,
 ) -> Result<(), WriteFault>
-    ensures { Writes (W.contents writer.old) (W.contents writer.new) (outcome_text (state_of book.now) outcome.now) result }
+    ensures { Writes (W.contents writer.old) (W.contents writer.new)
+        (response_text (state_of book.now) response.now) result }
 {
-    match outcome {
-        Outcome::Replied(reply) => {
+    match response {
+        Response::Replied(reply) => {
             reply_text(reply, writer)?;
             write_rest(book, reply, writer)
         }
-        Outcome::AtFault(fault) => write_fault(*fault, writer),
+        Response::AtFault(fault) => write_fault(*fault, writer),
     }
 }

@@ -93,7 +93,8 @@ impl<R: Read> Model for CsvSource<R> {
 impl<R: Read> CsvSource<R> {
     /// No record was read yet.
     pub fn new(alloc: Global, reader: R) -> CsvSource<R>
-        ensures told { IfSome (R.remaining reader) (λ input. result.told ≡ Some (told_of (2 ^ 32 - 1) (lines_of input))) }
+        ensures told { IfSome (R.remaining reader)
+            (λ input. result.told ≡ Some (told_of (2 ^ 32 - 1) (lines_of input))) }
         ensures ended { result.ended ≡ None }
         ensures left { result.left ≡ 2 ^ 32 - 1 }
     {

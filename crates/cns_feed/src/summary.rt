@@ -3,7 +3,7 @@ ghost use Rattle.std.specs.Prelude.{◌≡◌, ◌-◌, ◌^◌, ◌∷◌, []};
 ghost use Rattle.cns_feed.specs.Output.{Adds, no_counts};
 ghost use Rattle.cns_feed.specs.Replay.{IsUpTo};
 
-use crate::outcome::Outcome;
+use crate::response::Response;
 use cns_terms::Reply;
 
 /// What a replay or a load read.
@@ -30,21 +30,21 @@ impl Summary {
     }
 
     // Counts one record more.
-    pub(crate) fn add(&mut self, outcome: &Outcome)
+    pub(crate) fn add(&mut self, response: &Response)
         requires { IsUpTo self.old (2 ^ 64 - 2) }
-        ensures { Adds self.old self.new (outcome.now ∷ []) }
+        ensures { Adds self.old self.new (response.now ∷ []) }
     {
-        match outcome {
-            Outcome::AtFault(_) => self.lines += 1,
-            Outcome::Replied(Reply::Closed(_)) => {
+        match response {
+            Response::AtFault(_) => self.lines += 1,
+            Response::Replied(Reply::Closed(_)) => {
                 self.commands += 1;
                 self.closes += 1;
             }
-            Outcome::Replied(
+            Response::Replied(
                 Reply::Accepted
                 | Reply::Noticed(_)
                 | Reply::Executed(_)
-                | Reply::Held(_, _)
+                | Reply::Held(_)
                 | Reply::Stated(_)
                 | Reply::Refused(_),
             ) => self.commands += 1,

@@ -7,8 +7,8 @@ ghost use Rattle.cns_feed.specs.Text.{noticed_line, executed_line, closed_line, 
 
 use crate::fault::LineFault;
 use cns_statements::{Word, write_line, write_stated};
-use cns_terms::{Closed, Holding, Key, Refusal, Reply};
-use cns_units::{Cents, WriteFault, write_bytes};
+use cns_terms::{Closed, Held, Refusal, Reply};
+use cns_units::{WriteFault, write_bytes};
 use std::io::Write;
 
 fn write_noticed<W: Write>(number: u32, writer: &mut W) -> Result<(), WriteFault>
@@ -35,16 +35,16 @@ fn write_closed<W: Write>(closed: &Closed, writer: &mut W) -> Result<(), WriteFa
     write_line(b"closed", &words, writer)
 }
 
-fn write_held<W: Write>(key: &Key, holding: &Holding, writer: &mut W) -> Result<(), WriteFault>
-    ensures { Writes (W.contents writer.old) (W.contents writer.new) (held_line key.now holding.entry.now) result }
+fn write_held<W: Write>(held: &Held, writer: &mut W) -> Result<(), WriteFault>
+    ensures { Writes (W.contents writer.old) (W.contents writer.new) (held_line held.now) result }
 {
     let words = [
-        Word::Number(u64::from(key.account.value())),
-        Word::Text(key.issue.bytes()),
-        Word::Signed(holding.now),
-        Word::Signed(holding.opening),
-        Word::Amount(Cents::of(holding.contract)),
-        Word::Number(u64::from(holding.run)),
+        Word::Number(u64::from(held.key.account.value())),
+        Word::Text(held.key.issue.bytes()),
+        Word::Signed(held.position),
+        Word::Signed(held.opening),
+        Word::Amount(held.contract),
+        Word::Number(u64::from(held.age)),
     ];
     write_line(b"position", &words, writer)
 }
@@ -81,7 +81,7 @@ pub fn reply_text<W: Write>(reply: &Reply, writer: &mut W) -> Result<(), WriteFa
         Reply::Noticed(number) => write_noticed(*number, writer),
         Reply::Executed(members) => write_executed(*members, writer),
         Reply::Closed(closed) => write_closed(closed, writer),
-        Reply::Held(key, holding) => write_held(key, holding, writer),
+        Reply::Held(held) => write_held(held, writer),
         Reply::Stated(stated) => write_stated(stated, writer),
         Reply::Refused(refusal) => write_refused(*refusal, writer),
     }

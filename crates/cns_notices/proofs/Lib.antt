@@ -4,5 +4,6 @@ pub mod Led
 pub mod Opens
 pub mod Ends
 pub mod Expires
+pub mod NoticeSteps
 pub mod Noticing
 pub mod NoticeFacts

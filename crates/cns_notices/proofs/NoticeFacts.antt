@@ -13,7 +13,7 @@ use Rattle.cns_terms.specs.Notices.{Notice, is_live, live_notice, notice, notice
 use Rattle.cns_terms.specs.Postings.{Journal, Posting}
 use Rattle.cns_terms.specs.Sums.{same_issue}
 use Rattle.cns_terms.proofs.Everywhere.{each_append, each_weaker}
-use Rattle.cns_terms.proofs.NoticeSteps.{AreNumberedFrom, numbered}
+use Rattle.cns_notices.proofs.NoticeSteps.{AreNumberedFrom, numbered}
 use Rattle.cns_notices.specs.Noticed.{is_live_of, live_number, notice_at as kept_at}
 use Rattle.cns_notices.specs.Kept.{kept, kept_notices}
 use Rattle.cns_notices.proofs.Noticing.{notice_found}

@@ -15,7 +15,8 @@ use Rattle.cns_terms.specs.Notices.{Notice, execution, first_reached, is_given, 
 use Rattle.cns_terms.specs.Postings.{Journal, Posting}
 use Rattle.cns_terms.proofs.Everywhere.{each_weaker}
 use Rattle.cns_terms.proofs.Facts.{eqb_sym}
-use Rattle.cns_terms.proofs.NoticeSteps.{AreNumberedFrom, each_given, executed_next, given_now, map_each, numbered, received_next, stage_next}
+use Rattle.cns_terms.proofs.Facts.{map_each}
+use Rattle.cns_notices.proofs.NoticeSteps.{AreNumberedFrom, each_given, executed_next, given_now, numbered, received_next, stage_next}
 use Rattle.cns_notices.specs.declared.noticed.Noticed.{Noticed}
 use Rattle.cns_notices.specs.Noticed.{brought_to, ended, executes, expired, opened, receives, with_notice}
 use Rattle.cns_terms.specs.Sums.{changed_at}

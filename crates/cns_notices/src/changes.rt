@@ -34,8 +34,10 @@ fn expire_each(notices: &mut [Noticed])
 fn span(notices: &[Noticed], day: u32) -> (usize, usize)
     requires { IsNonDecreasingBy (λ x. x.given.day) notices.now }
     ensures order { (result.0 ≤ result.1) × (result.1 ≤ length notices.now) }
-    ensures start { IsPartitionPoint (λ x. nat_lt x.given.day day ≡ true) (λ x. nat_lt x.given.day day ≡ false) notices.now result.0 }
-    ensures end { IsPartitionPoint (λ x. nat_le x.given.day day ≡ true) (λ x. nat_le x.given.day day ≡ false) notices.now result.1 }
+    ensures start { IsPartitionPoint (λ x. nat_lt x.given.day day ≡ true)
+        (λ x. nat_lt x.given.day day ≡ false) notices.now result.0 }
+    ensures end { IsPartitionPoint (λ x. nat_le x.given.day day ≡ true)
+        (λ x. nat_le x.given.day day ≡ false) notices.now result.1 }
 {
     let start = notices.partition_point(|noticed| noticed.given.day < day);
     let end = notices.partition_point(|noticed| noticed.given.day <= day);

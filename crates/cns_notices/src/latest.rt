@@ -68,7 +68,9 @@ impl<A: Allocator + Drop> Latest<A> {
     ) -> Result<(), NoMemory>
     where
         A: Clone,
-        ensures ok { OnOk result ((p : Place) → number_at self.new p ≡ (if is_eq (place_cmp (cusip, member) p) then Some number else number_at self.old p)) }
+        ensures ok { OnOk result
+            ((p : Place) → number_at self.new p
+            ≡ (if is_eq (place_cmp (cusip, member) p) then Some number else number_at self.old p)) }
         ensures err { OnErr result (self.new ≡ self.old) }
     {
         let mut numbers = match self.numbers.take() {

@@ -67,7 +67,9 @@ impl<A: Allocator + Drop> Notices<A> {
         requires alone { live_number self.old member cusip ≡ None }
         requires room { length self.old + 1 < 2 ^ 32 }
         requires days { ForSome (notice_at self.old (length self.old)) (λ x. x.given.day ≤ day) }
-        ensures ok { OnOk result (self.new ≡ self.old ++ opened (record { member = member; issue = cusip; shares = shares; day = day }) ∷ []) }
+        ensures ok { OnOk result
+            (self.new ≡ self.old ++ opened
+            (record { member = member; issue = cusip; shares = shares; day = day }) ∷ []) }
         ensures number { IfOk result (λ k. k ≡ length self.new) }
         ensures err { OnErr result (self.new ≡ self.old) }
     {
@@ -141,7 +143,8 @@ impl<A: Allocator + Drop> Notices<A> {
     /// Counts shares that a member received of an issue for its live notice there. Where it has none nothing changes. It
     /// takes no memory.
     pub fn received(&mut self, member: Member, cusip: Cusip, n: Shares)
-        requires fits { ForSome (live_number self.old member cusip) (λ k. ForSome (notice_at self.old k) (λ x. x.received + n < 2 ^ 64)) }
+        requires fits { ForSome (live_number self.old member cusip)
+            (λ k. ForSome (notice_at self.old k) (λ x. x.received + n < 2 ^ 64)) }
         ensures { self.new ≡ map (receives member cusip n) self.old }
     {
         if let Some(k) = self.live_of(member, cusip) {

@@ -165,7 +165,7 @@ fn dividends_come_by_payable_date_and_then_as_they_were_declared(
 
 fn declared() -> Result<Declared, Fail> {
     Ok(Declared {
-        cusip: Cusip::parse(b"17275R102")?,
+        issue: Cusip::parse(b"17275R102")?,
         recorded: june(5)?,
         payable: june(26)?,
         rate: Rate::new(240_000)?,
@@ -176,7 +176,7 @@ fn declared() -> Result<Declared, Fail> {
 fn a_dividend_is_kept_as_it_was_declared(rt: HostRuntime) -> Result<(), Fail> {
     let given = declared()?;
     let mut dividends = Dividends::new(rt.alloc());
-    dividends.declare(given.cusip, given.recorded, given.payable, given.rate)?;
+    dividends.declare(given.issue, given.recorded, given.payable, given.rate)?;
     let mut due = dividends.due(None, given.payable);
     assert_eq!(rt; due.next(), Some(given));
     // Nothing else is due, however often it is asked.

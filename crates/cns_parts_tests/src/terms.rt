@@ -1,6 +1,6 @@
 // Tests of the terms: sizes, numbers, and that a value is the same as itself alone.
 use cns_terms::{
-    Activity, Closed, Command, Declared, Entry, Exchange, Execution, Holding, Key, Listing,
+    Activity, Closed, Command, Declared, Entry, Exchange, Execution, Held, Holding, Key, Listing,
     Movement, Refusal, Reply, Row, Split, Stated, Taken, Trade, Worker,
 };
 use cns_units::{Account, Cents, Cusip, Day, Member, Money, Price, Rate, Ratio, Shares, UnitFault};
@@ -79,7 +79,7 @@ fn listing(price: u64) -> Result<Listing, UnitFault> {
 
 fn dividend(rate: u64) -> Result<Declared, UnitFault> {
     Ok(Declared {
-        cusip: apple(101)?.issue,
+        issue: apple(101)?.issue,
         recorded: Day::parse(b"2024-06-03")?,
         payable: Day::parse(b"2024-06-04")?,
         rate: Rate::new(rate)?,
@@ -265,7 +265,10 @@ fn reply(answer: &Answer) -> Result<Reply, UnitFault> {
         Answer::Noticed(number) => Reply::Noticed(*number),
         Answer::Executed(count) => Reply::Executed(*count),
         Answer::Closed(rows) => Reply::Closed(closed(*rows)?),
-        Answer::Held(account, opening) => Reply::Held(apple(*account)?, holding(*opening)),
+        Answer::Held(account, opening) => Reply::Held(Held::of(
+            apple(*account)?,
+            holding(*opening),
+        )),
         Answer::Stated(mark) => Reply::Stated(stated(*mark)?),
         Answer::Refused(refusal) => Reply::Refused(*refusal),
     })
@@ -294,7 +297,7 @@ fn taken(asked: &Asked) -> Result<Taken, UnitFault> {
         worker: Worker::FIRST,
         seq,
         command: Command::Position(*key),
-        reply: Reply::Held(*key, holding(opening)),
+        reply: Reply::Held(Held::of(*key, holding(opening))),
     })
 }
 

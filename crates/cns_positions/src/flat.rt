@@ -11,7 +11,7 @@ ghost use Rattle.cns_terms.specs.declared.holding.Key.{Key};
 ghost use Rattle.cns_positions.specs.Rows.{holding_at, booked, entry_of, held_above, is_held, present};
 ghost use Rattle.cns_positions.specs.Contents.{has_row, closed_rows};
 
-use crate::holding::{ZEROS, add_to, close, is_held};
+use crate::holding::{add_to, close, is_held};
 use crate::positions::{NextRows, Positions, Row};
 use crate::prepared::{Prepared, kept};
 use arrayvec::ArrayVec;
@@ -57,7 +57,7 @@ fn enter<A: Allocator + Drop>(rows: &mut Vec<Row, A>, key: &Key) -> Result<(), N
 {
     match place(rows.as_slice(), key) {
         Ok(_) => Ok(()),
-        Err(at) => match rows.insert(at, (*key, ZEROS)) {
+        Err(at) => match rows.insert(at, (*key, Holding::ZEROS)) {
             Ok(()) => Ok(()),
             Err(_) => Err(NoMemory),
         },
@@ -152,7 +152,7 @@ impl<A: Allocator + Drop + Clone> Positions<A> for FlatPositions<A> {
     fn get(&self, key: Key) -> Holding {
         match place(self.rows.as_slice(), &key) {
             Ok(at) => self.rows[at].1,
-            Err(_) => ZEROS,
+            Err(_) => Holding::ZEROS,
         }
     }
 

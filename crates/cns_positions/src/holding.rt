@@ -5,14 +5,6 @@ ghost use Rattle.cns_positions.specs.Rows.{rolled, is_held};
 
 use cns_terms::Holding;
 
-/// What stands where nothing was ever booked.
-pub(crate) const ZEROS: Holding = Holding {
-    now: 0,
-    opening: 0,
-    contract: 0,
-    run: 0,
-};
-
 const LONGEST_RUN: u32 = 4_294_967_295;
 
 /// What a close makes of a holding.

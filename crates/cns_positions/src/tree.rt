@@ -9,7 +9,7 @@ ghost use Rattle.cns_terms.specs.declared.holding.Key.{Key};
 ghost use Rattle.cns_positions.specs.Rows.{holding_at, booked, entry_of, held_above, is_held, present};
 ghost use Rattle.cns_positions.specs.Contents.{has_row, closed_rows};
 
-use crate::holding::{ZEROS, add_to, close, is_held};
+use crate::holding::{add_to, close, is_held};
 use crate::positions::{NextRows, Positions, Row};
 use crate::prepared::{Prepared, kept};
 use arrayvec::ArrayVec;
@@ -50,8 +50,8 @@ fn enter<A: Allocator + Clone + Drop>(
     if rows.get(*key).is_some() {
         return Ok(());
     }
-    let mut spare = rows.spare(1, ZEROS)?;
-    rows.put(*key, ZEROS, &mut spare);
+    let mut spare = rows.spare(1, Holding::ZEROS)?;
+    rows.put(*key, Holding::ZEROS, &mut spare);
     Ok(())
 }
 
@@ -136,7 +136,7 @@ impl<A: Allocator + Clone + Drop> Positions<A> for TreePositions<A> {
     }
 
     fn get(&self, key: Key) -> Holding {
-        self.rows.get(key).unwrap_or(ZEROS)
+        self.rows.get(key).unwrap_or(Holding::ZEROS)
     }
 
     fn prepare(&mut self, keys: &[Key]) -> Result<(), NoMemory> {

@@ -76,7 +76,8 @@ impl<A: Allocator + Drop> Prices<A> {
     where
         A: Clone,
         requires { price_in self.old cusip ≡ None }
-        ensures price { OnOk result ((c : Cusip) → price_in self.new c ≡ (if bytes_eq cusip c then Some price else price_in self.old c)) }
+        ensures price { OnOk result
+            ((c : Cusip) → price_in self.new c ≡ (if bytes_eq cusip c then Some price else price_in self.old c)) }
         ensures retired { OnOk result ((c : Cusip) → retired_in self.new c ≡ retired_in self.old c) }
         ensures err { OnErr result (self.new ≡ self.old) }
     {
@@ -106,7 +107,8 @@ impl<A: Allocator + Drop> Prices<A> {
         A: Clone,
         requires listed { IsSome (price_in self.old cusip) }
         requires current { retired_in self.old cusip ≡ false }
-        ensures price { (c : Cusip) → price_in self.new c ≡ (if bytes_eq cusip c then Some price else price_in self.old c) }
+        ensures price { (c : Cusip) → price_in self.new c
+            ≡ (if bytes_eq cusip c then Some price else price_in self.old c) }
         ensures retired { (c : Cusip) → retired_in self.new c ≡ retired_in self.old c }
     {
         let current = Quote {
@@ -139,7 +141,8 @@ impl<A: Allocator + Drop> Prices<A> {
 
     /// The first listed issue above another, or the first of all, with its price; retired ones too.
     pub fn next_listed(&self, after: Option<Cusip>) -> Option<(Cusip, Price)>
-        ensures next { MatchOption result (listed_above self.now after ≡ []) (λ e. listed_above self.now after ≡ e ∷ listed_above self.now (Some e.0)) }
+        ensures next { MatchOption result (listed_above self.now after ≡ [])
+            (λ e. listed_above self.now after ≡ e ∷ listed_above self.now (Some e.0)) }
         ensures order { is_sorted (slice_cmp nat_cmp) self.now ≡ true }
     {
         let start = match after {

@@ -1,4 +1,4 @@
--- What a summary says of the workers, worker by worker.
+-- What a tally says of the workers, worker by worker.
 use Rattle.std.proofs.Common.{◌≡◌, ℕ, zero, suc, false, ◌+◌, ◌-◌, ◌<◌, arith, codes, List, [], ◌∷◌, ◌++◌, map, length, get_or, add-one, refl, sym, ap, ◌∙◌}
 use Rattle.std.proofs.lemmas.List.{map-append, get_or_default}
 use Rattle.std.proofs.lemmas.Fmt.{IsAscii-decimal_wide}
@@ -15,7 +15,7 @@ use Rattle.cns_book.specs.Log.{Log, state_of}
 use Rattle.cns_terms.specs.Days.{day}
 use Rattle.cns_terms.specs.Laws.{journal_of}
 use Rattle.cns_desk.specs.Logged.{Logged, empty_logged}
-use Rattle.cns_program.specs.Summary.{counts_to, lines_to, summary_of, total_text, whole, workers_of}
+use Rattle.cns_program.specs.Tally.{counts_to, lines_to, tally_of, total_text, whole, workers_of}
 
 -- one worker's count more
 pub counts_more : (b : Log) (n w : ℕ) (vs : List Value) (v : Value) → w ≡ n + 1 → map view vs ≡ map whole (counts_to b n) → view v ≡ whole (count b.history w) → map view (vs ++ v ∷ []) ≡ map whole (counts_to b (n + 1))
@@ -43,20 +43,20 @@ counts_whole : (ns : List ℕ) → items_have_float (items_of (map whole ns)) �
 counts_whole [] = refl
 counts_whole (n ∷ ns) = counts_whole ns
 
--- a summary has no float
-pub summary_whole : (b : Log) (logs : List Logged) → has_float (summary_of b logs) ≡ false
-unfolding summary_of
-summary_whole b logs = rw (counts_whole (counts_to b (workers_of logs))) refl
+-- a tally has no float
+pub tally_whole : (b : Log) (logs : List Logged) → has_float (tally_of b logs) ≡ false
+unfolding tally_of
+tally_whole b logs = rw (counts_whole (counts_to b (workers_of logs))) refl
 
--- data with the parts of a summary is the summary
-pub summary_is : (b : Log) (logs : List Logged) (v : Value) (closes commands lines : ℕ) (counts : List Value) (dividends marks : List ℕ)
+-- data with the parts of a tally is the tally
+pub tally_is : (b : Log) (logs : List Logged) (v : Value) (closes commands lines : ℕ) (counts : List Value) (dividends marks : List ℕ)
     → view v ≡ object (member (codes "closes") (whole closes) (member (codes "commands") (whole commands) (member (codes "counts") (array (items_of (map view counts)))
     (member (codes "dividends") (string dividends) (member (codes "lines") (whole lines) (member (codes "marks") (string marks) no_members))))))
     → closes ≡ day (journal_of (state_of b)) - 1 → commands ≡ length b.history → map view counts ≡ map whole (counts_to b (workers_of logs))
-    → dividends ≡ total_text → lines ≡ lines_to logs (workers_of logs) → marks ≡ total_text → view v ≡ summary_of b logs
-unfolding summary_of
-summary_is b logs v closes commands lines counts dividends marks e a b1 c d f g = e ∙ rw (a, b1, c, d, f, g) refl
+    → dividends ≡ total_text → lines ≡ lines_to logs (workers_of logs) → marks ≡ total_text → view v ≡ tally_of b logs
+unfolding tally_of
+tally_is b logs v closes commands lines counts dividends marks e a b1 c d f g = e ∙ rw (a, b1, c, d, f, g) refl
 
--- the text of the summary
-pub summary_told : (b : Log) (logs : List Logged) (v : Value) (text : List ℕ) → view v ≡ summary_of b logs → (has_float (view v) ≡ false → text ≡ compact_text (view v)) → text ≡ compact_text (summary_of b logs)
-summary_told b logs v text is told = told (rw is (summary_whole b logs)) ∙ ap compact_text is
+-- the text of the tally
+pub tally_told : (b : Log) (logs : List Logged) (v : Value) (text : List ℕ) → view v ≡ tally_of b logs → (has_float (view v) ≡ false → text ≡ compact_text (view v)) → text ≡ compact_text (tally_of b logs)
+tally_told b logs v text is told = told (rw is (tally_whole b logs)) ∙ ap compact_text is

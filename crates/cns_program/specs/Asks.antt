@@ -1,7 +1,7 @@
 -- What a line asks for.
 use Rattle.std.specs.Prelude.{◌≤◌, ⊤, vec_len}
-use Rattle.cns_program.specs.declared.line.Asked.{Asked}
-use Rattle.cns_program.specs.declared.line.Asked.TheVariants as asked
+use Rattle.cns_program.specs.declared.asked.Asked.{Asked}
+use Rattle.cns_program.specs.declared.asked.Asked.TheVariants as asked
 
 -- a run has 1 to 64 files, and statements are made by 1 to 64 workers
 abbrev pub HasWorkers : Asked → Type 0

@@ -14,12 +14,12 @@ use Rattle.cns_desk.specs.declared.end.End.TheVariants as ended
 use Rattle.cns_desk.specs.declared.run.Outcome.{Outcome}
 use Rattle.cns_program.specs.declared.fault.Fault.{Fault}
 use Rattle.cns_program.specs.declared.fault.Fault.TheVariants as fault
-use Rattle.cns_program.specs.declared.line.Asked.{Asked}
-use Rattle.cns_program.specs.declared.line.Asked.TheVariants as asked
+use Rattle.cns_program.specs.declared.asked.Asked.{Asked}
+use Rattle.cns_program.specs.declared.asked.Asked.TheVariants as asked
 use Rattle.cns_program.specs.Faults.{IsOfRun, of_replay}
 use Rattle.cns_program.specs.Lines.{IsTold, end_lines, fault_line}
 use Rattle.cns_program.specs.Days.{FailsDay, WritesDay, loaded}
-use Rattle.cns_program.specs.Summary.{summary_line}
+use Rattle.cns_program.specs.Tally.{tally_line}
 
 -- a replay that opens on the date failed with the fault, which is not that its book was full
 pub record FailsReplay (f : ReplayFault) (opening : Day) (input old new : Option (List ℕ)) : Type 0 where
@@ -34,38 +34,33 @@ IsComplete e = e ≡ ended.Complete
 abbrev pub AreComplete : List End → Type 0
 AreComplete = AllByRecursion IsComplete
 
--- the summary of an outcome
+-- the tally of an outcome
 abbrev pub text_of : Outcome → List ℕ
-text_of o = summary_line o.book o.logs.items
+text_of o = tally_line o.book o.logs.items
 
--- the summary was not written whole: it could not be made, and nothing was written, or writing it failed
-abbrev pub FailsSummary : Fault → Outcome → Option (List ℕ) → Option (List ℕ) → Type 0
-FailsSummary fault.NoMemory o old new = new ≡ old
-FailsSummary fault.Write o old new = IsTold old new (text_of o)
-FailsSummary fault.Read o old new = ⊥
-FailsSummary fault.Full o old new = ⊥
-FailsSummary (fault.Open file) o old new = ⊥
-FailsSummary fault.Spawn o old new = ⊥
-FailsSummary fault.Mismatch o old new = ⊥
-FailsSummary fault.NoSuchDay o old new = ⊥
+-- the tally was not written whole: it could not be made, and nothing was written, or writing it failed
+abbrev pub FailsTally : Fault → Outcome → Option (List ℕ) → Option (List ℕ) → Type 0
+FailsTally fault.NoMemory o old new = new ≡ old
+FailsTally fault.Write o old new = IsTold old new (text_of o)
+FailsTally _ o old new = ⊥
 
--- a worker ended early: the summary was written, and the lines of such workers are told
+-- a worker ended early: the tally was written, and the lines of such workers are told
 pub record EndsEarly {T E : Type 0} (o : Outcome) (old new told_old told_new : Option (List ℕ)) (told : Result T E) : Type 0 where
   pub early : AreComplete o.ends.items → ⊥
-  pub summary : Appends old new (text_of o)
+  pub tally : Appends old new (text_of o)
   pub lines : Writes told_old told_new (end_lines 1 o.ends.items) told
 
 -- an outcome of a run over so many files: a log for each, which is its worker's part of the history
 abbrev pub IsOutcome : ℕ → Outcome → Type 0
 IsOutcome files o = (vec_len o.logs ≡ files) × AreParts o.book o.logs.items
 
--- a run over so many files was done, and its summary was written
+-- a run over so many files was done, and its tally was written
 abbrev pub IsRun : ℕ → Option (List ℕ) → Option (List ℕ) → Type 0
 IsRun files old new = (o : Outcome) × IsOutcome files o × AreComplete o.ends.items × Appends old new (text_of o)
 
--- a run over so many files ended with a fault: before anything was written, or at its summary
+-- a run over so many files ended with a fault: before anything was written, or at its tally
 abbrev pub FailsRun : Fault → ℕ → Option (List ℕ) → Option (List ℕ) → Type 0
-FailsRun f files old new = (IsOfRun files f × (new ≡ old)) ⊎ ((o : Outcome) × IsOutcome files o × FailsSummary f o old new)
+FailsRun f files old new = (IsOfRun files f × (new ≡ old)) ⊎ ((o : Outcome) × IsOutcome files o × FailsTally f o old new)
 
 -- such a run ended with a fault, whose line is told, or a worker of it ended early
 abbrev pub TellsRun : {T E : Type 0} → ℕ → Option (List ℕ) → Option (List ℕ) → Option (List ℕ) → Option (List ℕ) → Result T E → Type 0
@@ -83,7 +78,7 @@ abbrev pub TellsDay : {T E : Type 0} → Day → Day → Option (List ℕ) → O
 TellsDay opening day input old new told_old told_new told =
     (f : Fault) × IfSome input (λ bytes. FailsDay f (loaded opening bytes) day old new) × Writes told_old told_new (fault_line f) told
 
--- the work that a line asks for was done: the replies to all of the input were written, or the summary of a run, or the
+-- the work that a line asks for was done: the replies to all of the input were written, or the tally of a run, or the
 -- statements of a day
 abbrev pub IsDone : Asked → Option (List ℕ) → Option (List ℕ) → Option (List ℕ) → Type 0
 IsDone (asked.Replay opening) input old new = IfSome input (λ bytes. Appends old new (output opening bytes))

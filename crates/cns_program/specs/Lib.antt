@@ -1,6 +1,6 @@
 pub mod Asks
 pub mod Faults
 pub mod Lines
-pub mod Summary
+pub mod Tally
 pub mod Days
 pub mod Ends

@@ -1,4 +1,4 @@
--- The summary of a run, as the program writes it.
+-- The tally of a run, as the program writes it.
 use Rattle.std.specs.Prelude.{ℕ, zero, suc, ◌+◌, ◌-◌, min, List, [], ◌∷◌, ◌++◌, length, map, slice_index_or, codes, pos}
 use Rattle.cns_units.specs.Cents.{cents_text}
 use Rattle.cns_terms.specs.Days.{day}
@@ -32,7 +32,7 @@ lines_to logs (suc n) = lines_to logs n + (slice_index_or logs n empty_logged).l
 abbrev pub total_text : List ℕ
 total_text = cents_text (pos 0)
 
--- a summary as data: its members in the order of their names
+-- a tally as data: its members in the order of their names
 abbrev pub members_of : ℕ → ℕ → List ℕ → ℕ → Data
 members_of closes commands counts lines =
     object (member (codes "closes") (whole closes)
@@ -42,11 +42,11 @@ members_of closes commands counts lines =
     (member (codes "lines") (whole lines)
     (member (codes "marks") (string total_text) no_members))))))
 
--- the summary of a book and of logs
-unfoldable pub summary_of : Log → List Logged → Data
-summary_of b logs =
+-- the tally of a book and of logs
+unfoldable pub tally_of : Log → List Logged → Data
+tally_of b logs =
     members_of (day (journal_of (state_of b)) - 1) (length b.history) (counts_to b (workers_of logs)) (lines_to logs (workers_of logs))
 
--- the summary without spaces, and a line feed
-abbrev pub summary_line : Log → List Logged → List ℕ
-summary_line b logs = compact_text (summary_of b logs) ++ 10 ∷ []
+-- the tally without spaces, and a line feed
+abbrev pub tally_line : Log → List Logged → List ℕ
+tally_line b logs = compact_text (tally_of b logs) ++ 10 ∷ []

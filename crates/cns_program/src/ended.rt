@@ -30,7 +30,7 @@ impl Ended {
 }
 
 /// Writes the usage line; the status is 2, that of a refused line.
-pub fn refuse_line<E: Write>(errors: &mut E) -> Ended
+pub fn refuse_usage<E: Write>(errors: &mut E) -> Ended
     ensures status { result.status ≡ 2 }
     ensures text { Writes (E.contents errors.old) (E.contents errors.new) usage_line result.told }
 {
@@ -55,13 +55,14 @@ pub fn fail<E: Write>(fault: Fault, errors: &mut E) -> Ended
 /// words that are no text are refused, with the usage line and status 2.
 pub fn refuse_words<E: Write>(error: &io::Error, errors: &mut E) -> Ended
     ensures fault { error_kind error.now ≡ ErrorKind.OutOfMemory
-        → (result.status ≡ 1) × Writes (E.contents errors.old) (E.contents errors.new) (fault_line faults.NoMemory) result.told }
+        → (result.status ≡ 1)
+        × Writes (E.contents errors.old) (E.contents errors.new) (fault_line faults.NoMemory) result.told }
     ensures refused { error_kind error.now ≢ ErrorKind.OutOfMemory
         → (result.status ≡ 2) × Writes (E.contents errors.old) (E.contents errors.new) usage_line result.told }
 {
     if error.kind() == ErrorKind::OutOfMemory {
         fail(Fault::NoMemory, errors)
     } else {
-        refuse_line(errors)
+        refuse_usage(errors)
     }
 }

@@ -3,14 +3,14 @@ ghost use Rattle.std.specs.Prelude.{◌≡◌, ◌⊎◌, ◌≤◌, Result, ⊤
 ghost use Rattle.cns_units.specs.Output.{Writes};
 ghost use Rattle.cns_units.specs.declared.fault.WriteFault.{WriteFault};
 ghost use Rattle.cns_program.specs.declared.fault.Fault.TheVariants as faults;
-ghost use Rattle.cns_program.specs.declared.line.Asked.{Asked};
+ghost use Rattle.cns_program.specs.declared.asked.Asked.{Asked};
 ghost use Rattle.cns_program.specs.Asks.{HasWorkers};
 ghost use Rattle.cns_program.specs.Ends.{IsDone, TellsWork};
 ghost use Rattle.cns_program.specs.Lines.{IsTold, fault_line, usage_line};
 
-use crate::ended::{Ended, fail, refuse_line};
+use crate::asked::{Asked, asked_of};
+use crate::ended::{Ended, fail, refuse_usage};
 use crate::fault::Fault;
-use crate::line::{Asked, asked_of};
 use crate::replaying::tell_replay;
 use crate::running::tell_run;
 use crate::stating::tell_statements;
@@ -30,9 +30,11 @@ fn perform<
 >(rt: &R, asked: &Asked<'_>, input: I, output: &mut O, errors: &mut E) -> Ended
     requires { HasWorkers asked.now }
     ensures status { result.status ≤ 1 }
-    ensures done { result.status ≡ 0 → IsDone asked.now (I.remaining input) (O.contents output.old) (O.contents output.new) }
+    ensures done { result.status ≡ 0
+        → IsDone asked.now (I.remaining input) (O.contents output.old) (O.contents output.new) }
     ensures quiet { result.status ≡ 0 → errors.new ≡ errors.old }
-    ensures told { result.status ≡ 1 → TellsWork asked.now (I.remaining input) (O.contents output.old) (O.contents output.new)
+    ensures told { result.status ≡ 1
+        → TellsWork asked.now (I.remaining input) (O.contents output.old) (O.contents output.new)
         (E.contents errors.old) (E.contents errors.new) result.told }
 {
     match asked {
@@ -45,7 +47,7 @@ fn perform<
 }
 
 /// Runs the program on the words of its line, its name first, and tells what writing its line to `errors` came to.
-pub fn run_line<
+pub fn run_words<
     F: Read + Send + Drop,
     R: AllocGlobal + Files<File = F> + Threads + Wait + Sync,
     S: AsStr,
@@ -54,18 +56,21 @@ pub fn run_line<
     E: Write,
 >(rt: &R, words: &[S], input: I, output: &mut O, errors: &mut E) -> Ended
     ensures status { result.status ≤ 2 }
-    ensures done { result.status ≡ 0 → (a : Asked) × IsDone a (I.remaining input) (O.contents output.old) (O.contents output.new) }
+    ensures done { result.status ≡ 0 → (a : Asked)
+        × IsDone a (I.remaining input) (O.contents output.old) (O.contents output.new) }
     ensures quiet { result.status ≡ 0 → errors.new ≡ errors.old }
     // The fault is that of the work, or memory was refused before there was any.
-    ensures told { result.status ≡ 1 → ((a : Asked) × TellsWork a (I.remaining input) (O.contents output.old) (O.contents output.new)
+    ensures told { result.status ≡ 1
+        → ((a : Asked) × TellsWork a (I.remaining input) (O.contents output.old) (O.contents output.new)
         (E.contents errors.old) (E.contents errors.new) result.told)
-        ⊎ (Writes (E.contents errors.old) (E.contents errors.new) (fault_line faults.NoMemory) result.told × (output.new ≡ output.old)) }
+        ⊎ (Writes (E.contents errors.old) (E.contents errors.new) (fault_line faults.NoMemory) result.told
+        × (output.new ≡ output.old)) }
     ensures refused { result.status ≡ 2 → output.new ≡ output.old }
     ensures usage { result.status ≡ 2 → Writes (E.contents errors.old) (E.contents errors.new) usage_line result.told }
 {
     match asked_of(rt.alloc(), words) {
         Ok(Some(asked)) => perform(rt, &asked, input, output, errors),
-        Ok(None) => refuse_line(errors),
+        Ok(None) => refuse_usage(errors),
         Err(_) => fail(Fault::NoMemory, errors),
     }
 }
@@ -84,14 +89,17 @@ pub fn program<
     E: Write,
 >(rt: &R, words: &[S], input: I, output: &mut O, errors: &mut E) -> u8
     ensures status { result ≤ 2 }
-    ensures done { result ≡ 0 → (a : Asked) × IsDone a (I.remaining input) (O.contents output.old) (O.contents output.new) }
+    ensures done { result ≡ 0 → (a : Asked)
+        × IsDone a (I.remaining input) (O.contents output.old) (O.contents output.new) }
     ensures quiet { result ≡ 0 → errors.new ≡ errors.old }
     // The fault is that of the work, or memory was refused before there was any.
-    ensures told { result ≡ 1 → (told : Result ⊤ WriteFault) × (((a : Asked) × TellsWork a (I.remaining input) (O.contents output.old) (O.contents output.new)
+    ensures told { result ≡ 1 → (told : Result ⊤ WriteFault)
+        × (((a : Asked) × TellsWork a (I.remaining input) (O.contents output.old) (O.contents output.new)
         (E.contents errors.old) (E.contents errors.new) told)
-        ⊎ (Writes (E.contents errors.old) (E.contents errors.new) (fault_line faults.NoMemory) told × (output.new ≡ output.old))) }
+        ⊎ (Writes (E.contents errors.old) (E.contents errors.new) (fault_line faults.NoMemory) told
+        × (output.new ≡ output.old))) }
     ensures refused { result ≡ 2 → output.new ≡ output.old }
     ensures usage { result ≡ 2 → IsTold (E.contents errors.old) (E.contents errors.new) usage_line }
 {
-    run_line(rt, words, input, output, errors).status
+    run_words(rt, words, input, output, errors).status
 }

@@ -2,22 +2,22 @@
 //!
 //! `program` takes the words of a line, a reader and two writers, and answers the status: 0 where the work was done, 1 at
 //! a fault, of which `errors` gets one line, 2 for a line that is refused, where it gets the usage. `replay` answers
-//! records with replies; `run` takes the records of several files side by side, one worker a file, and writes a summary;
+//! records with replies; `run` takes the records of several files side by side, one worker a file, and writes a tally;
 //! `statements` writes the statements of all accounts for a closed day. The crate `cnsbook` lends it standard input,
 //! output and error, and the tests of `cns_program_tests` readers and writers that fail. Start with `program`.
 #![tactic(auto)]
 
+mod asked;
 mod ended;
 mod entry;
 mod fault;
-mod line;
 mod outcome;
 mod replaying;
 mod running;
 mod stating;
-mod summary;
+mod tally;
 
 pub use ended::{Ended, fail, refuse_words};
-pub use entry::{program, run_line};
+pub use entry::{program, run_words};
 pub use fault::Fault;
 pub use outcome::write_outcome;

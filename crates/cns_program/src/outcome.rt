@@ -5,23 +5,23 @@ ghost use Rattle.cns_units.specs.Output.{Writes};
 ghost use Rattle.cns_units.specs.declared.fault.WriteFault.{WriteFault};
 ghost use Rattle.cns_program.specs.declared.fault.Fault.{Fault};
 ghost use Rattle.cns_program.specs.Lines.{end_line, end_lines, end_name, fault_line};
-ghost use Rattle.cns_program.specs.Ends.{AreComplete, EndsEarly, FailsSummary, text_of};
+ghost use Rattle.cns_program.specs.Ends.{AreComplete, EndsEarly, FailsTally, text_of};
 
 use crate::ended::{Ended, fail};
 use crate::fault::Fault;
-use crate::summary::summary;
+use crate::tally::tally_line;
 use cns_desk::{End, Outcome};
 use cns_statements::{Word, write_line};
 use cns_terms::SourceFault;
 use cns_units::{WriteFault, write_bytes};
 use std::io::Write;
 
-// Writes the summary and hands it on. Nothing is written where it cannot be made.
-fn write_summary<O: Write>(outcome: &Outcome, output: &mut O) -> Result<(), Fault>
+// Writes the tally and hands it on. Nothing is written where it cannot be made.
+fn write_tally<O: Write>(outcome: &Outcome, output: &mut O) -> Result<(), Fault>
     ensures ok { OnOk result (Appends (O.contents output.old) (O.contents output.new) (text_of outcome.now)) }
-    ensures err { IfErr result (λ f. FailsSummary f outcome.now (O.contents output.old) (O.contents output.new)) }
+    ensures err { IfErr result (λ f. FailsTally f outcome.now (O.contents output.old) (O.contents output.new)) }
 {
-    let Ok(line) = summary(outcome) else {
+    let Ok(line) = tally_line(outcome) else {
         return Err(Fault::NoMemory);
     };
     let written = write_bytes(line.as_bytes(), output);
@@ -71,18 +71,22 @@ fn are_complete(ends: &[End]) -> bool
     ends.iter().all(|end| *end == End::Complete)
 }
 
-/// Writes the summary of a run to `output`, and to `errors` a line for each worker that ended early.
+/// Writes the tally of a run to `output`, and to `errors` a line for each worker that ended early.
 ///
 /// The status is 0 where all came to the end of their sources, and then nothing went to `errors`. Else it is 1: a worker
-/// ended early, or the summary could not be made or written, and then the line of that fault is the only one.
+/// ended early, or the tally could not be made or written, and then the line of that fault is the only one.
 pub fn tell_outcome<O: Write, E: Write>(outcome: &Outcome, output: &mut O, errors: &mut E) -> Ended
     ensures status { result.status ≤ 1 }
-    ensures done { result.status ≡ 0 → AreComplete outcome.now.ends.items × Appends (O.contents output.old) (O.contents output.new) (text_of outcome.now) }
+    ensures done { result.status ≡ 0 → AreComplete outcome.now.ends.items
+        × Appends (O.contents output.old) (O.contents output.new) (text_of outcome.now) }
     ensures quiet { result.status ≡ 0 → errors.new ≡ errors.old }
-    ensures told { result.status ≡ 1 → EndsEarly outcome.now (O.contents output.old) (O.contents output.new) (E.contents errors.old) (E.contents errors.new) result.told
-        ⊎ ((f : Fault) × FailsSummary f outcome.now (O.contents output.old) (O.contents output.new) × Writes (E.contents errors.old) (E.contents errors.new) (fault_line f) result.told) }
+    ensures told { result.status ≡ 1
+        → EndsEarly outcome.now (O.contents output.old) (O.contents output.new) (E.contents errors.old)
+        (E.contents errors.new) result.told
+        ⊎ ((f : Fault) × FailsTally f outcome.now (O.contents output.old) (O.contents output.new)
+        × Writes (E.contents errors.old) (E.contents errors.new) (fault_line f) result.told) }
 {
-    if let Err(fault) = write_summary(outcome, output) {
+    if let Err(fault) = write_tally(outcome, output) {
         return fail(fault, errors);
     }
     let ends = outcome.ends.as_slice();
@@ -98,10 +102,14 @@ pub fn tell_outcome<O: Write, E: Write>(outcome: &Outcome, output: &mut O, error
 /// The status of `tell_outcome`, which it answers also where writing to `errors` fails.
 pub fn write_outcome<O: Write, E: Write>(outcome: &Outcome, output: &mut O, errors: &mut E) -> u8
     ensures status { result ≤ 1 }
-    ensures done { result ≡ 0 → AreComplete outcome.now.ends.items × Appends (O.contents output.old) (O.contents output.new) (text_of outcome.now) }
+    ensures done { result ≡ 0 → AreComplete outcome.now.ends.items
+        × Appends (O.contents output.old) (O.contents output.new) (text_of outcome.now) }
     ensures quiet { result ≡ 0 → errors.new ≡ errors.old }
-    ensures told { result ≡ 1 → (told : Result ⊤ WriteFault) × (EndsEarly outcome.now (O.contents output.old) (O.contents output.new) (E.contents errors.old) (E.contents errors.new) told
-        ⊎ ((f : Fault) × FailsSummary f outcome.now (O.contents output.old) (O.contents output.new) × Writes (E.contents errors.old) (E.contents errors.new) (fault_line f) told)) }
+    ensures told { result ≡ 1 → (told : Result ⊤ WriteFault)
+        × (EndsEarly outcome.now (O.contents output.old) (O.contents output.new) (E.contents errors.old)
+        (E.contents errors.new) told
+        ⊎ ((f : Fault) × FailsTally f outcome.now (O.contents output.old) (O.contents output.new)
+        × Writes (E.contents errors.old) (E.contents errors.new) (fault_line f) told)) }
 {
     tell_outcome(outcome, output, errors).status
 }

@@ -21,7 +21,8 @@ fn replay_input<I: Read + Drop, O: Write>(
 ) -> Result<(), ReplayFault>
     ensures output { OnOk result (IfSome (I.remaining input)
         (λ bytes. Appends (O.contents output.old) (O.contents output.new) (output_of opening bytes))) }
-    ensures fault { IfErr result (λ f. FailsReplay f opening (I.remaining input) (O.contents output.old) (O.contents output.new)) }
+    ensures fault { IfErr result
+        (λ f. FailsReplay f opening (I.remaining input) (O.contents output.old) (O.contents output.new)) }
 {
     let played = replay(alloc, input, output, opening);
     let flushed = output.flush();
@@ -46,7 +47,8 @@ pub fn tell_replay<I: Read + Drop, O: Write, E: Write>(
     ensures done { result.status ≡ 0 → IfSome (I.remaining input)
         (λ bytes. Appends (O.contents output.old) (O.contents output.new) (output_of opening bytes)) }
     ensures quiet { result.status ≡ 0 → errors.new ≡ errors.old }
-    ensures told { result.status ≡ 1 → TellsReplay opening (I.remaining input) (O.contents output.old) (O.contents output.new)
+    ensures told { result.status ≡ 1
+        → TellsReplay opening (I.remaining input) (O.contents output.old) (O.contents output.new)
         (E.contents errors.old) (E.contents errors.new) result.told }
 {
     match replay_input(alloc, opening, input, output) {

@@ -63,8 +63,12 @@ fn write_statements<R: AllocGlobal + Threads + Wait + Sync, I: Read + Drop, O: W
     output: &mut O,
 ) -> Result<(), Fault>
     requires { (1 ≤ workers) × (workers ≤ 64) }
-    ensures ok { OnOk result (IfSome (I.remaining input) (λ bytes. WritesDay (loaded opening bytes) day (O.contents output.old) (O.contents output.new))) }
-    ensures err { IfErr result (λ f. IfSome (I.remaining input) (λ bytes. FailsDay f (loaded opening bytes) day (O.contents output.old) (O.contents output.new))) }
+    ensures ok { OnOk result
+        (IfSome (I.remaining input)
+        (λ bytes. WritesDay (loaded opening bytes) day (O.contents output.old) (O.contents output.new))) }
+    ensures err { IfErr result
+        (λ f. IfSome (I.remaining input)
+        (λ bytes. FailsDay f (loaded opening bytes) day (O.contents output.old) (O.contents output.new))) }
 {
     match load(rt.alloc(), input, opening) {
         Ok((book, _)) => write_day(rt, &book, day, workers, output),
@@ -86,9 +90,12 @@ pub fn tell_statements<R: AllocGlobal + Threads + Wait + Sync, I: Read + Drop, O
 ) -> Ended
     requires { (1 ≤ workers) × (workers ≤ 64) }
     ensures status { result.status ≤ 1 }
-    ensures done { result.status ≡ 0 → IfSome (I.remaining input) (λ bytes. WritesDay (loaded opening bytes) day (O.contents output.old) (O.contents output.new)) }
+    ensures done { result.status ≡ 0
+        → IfSome (I.remaining input)
+        (λ bytes. WritesDay (loaded opening bytes) day (O.contents output.old) (O.contents output.new)) }
     ensures quiet { result.status ≡ 0 → errors.new ≡ errors.old }
-    ensures told { result.status ≡ 1 → TellsDay opening day (I.remaining input) (O.contents output.old) (O.contents output.new)
+    ensures told { result.status ≡ 1
+        → TellsDay opening day (I.remaining input) (O.contents output.old) (O.contents output.new)
         (E.contents errors.old) (E.contents errors.new) result.told }
 {
     match write_statements(rt, opening, day, workers, input, output) {

@@ -1,8 +1,8 @@
-// The summary of a run as JSON.
+// The tally of a run as JSON: the program's line on standard output.
 ghost use Rattle.std.specs.Prelude.{◌≡◌, IfOk, codes, map, pos, string_bytes};
 ghost use Rattle.serde_json.specs.Data.{array, member, no_members, object, string};
 ghost use Rattle.serde_json.specs.View.{items_of, view};
-ghost use Rattle.cns_program.specs.Summary.{counts_to, lines_to, total_text, whole, workers_of};
+ghost use Rattle.cns_program.specs.Tally.{counts_to, lines_to, total_text, whole, workers_of};
 ghost use Rattle.cns_program.specs.Ends.{text_of};
 
 use cns_desk::{DeskBook, Log, LogItem, Outcome};
@@ -59,9 +59,9 @@ fn amount(alloc: Global, cents: Cents) -> Result<String, NoMemory>
     Ok(text)
 }
 
-// What a summary says of the workers.
+// What a tally says of the workers.
 #[derive(Drop)]
-struct Tally {
+struct Counted {
     // How many commands of each worker were taken.
     counts: Vec<Value>,
     // The records at fault of all.
@@ -69,7 +69,7 @@ struct Tally {
 }
 
 // Goes through the workers that have a log.
-fn tally_of(alloc: Global, book: &DeskBook, logs: &[Log]) -> Result<Tally, NoMemory>
+fn counted_of(alloc: Global, book: &DeskBook, logs: &[Log]) -> Result<Counted, NoMemory>
     ensures counts { IfOk result (λ t. map view t.counts.items ≡ map whole (counts_to book.now (workers_of logs.now))) }
     ensures lines { IfOk result (λ t. t.lines ≡ lines_to logs.now (workers_of logs.now)) }
 {
@@ -84,26 +84,26 @@ fn tally_of(alloc: Global, book: &DeskBook, logs: &[Log]) -> Result<Tally, NoMem
         };
         lines += u64::from(logs[place].lines());
     }
-    Ok(Tally { counts, lines })
+    Ok(Counted { counts, lines })
 }
 
-// A summary as data.
+// A tally as data.
 fn members(
     alloc: Global,
     closes: u64,
     commands: u64,
-    tally: Tally,
+    counted: Counted,
     dividends: &str,
     marks: &str,
 ) -> Result<Value, NoMemory>
     ensures { IfOk result (λ v. view v ≡ object (member (codes "closes") (whole closes)
         (member (codes "commands") (whole commands)
-        (member (codes "counts") (array (items_of (map view tally.counts.items)))
+        (member (codes "counts") (array (items_of (map view counted.counts.items)))
         (member (codes "dividends") (string dividends.now)
-        (member (codes "lines") (whole tally.lines)
+        (member (codes "lines") (whole counted.lines)
         (member (codes "marks") (string marks.now) no_members))))))) }
 {
-    let Tally { counts, lines } = tally;
+    let Counted { counts, lines } = counted;
     let members = json!(in alloc; {
         "closes": closes,
         "commands": commands,
@@ -115,28 +115,28 @@ fn members(
     Ok(members)
 }
 
-/// The summary of an outcome: one line of JSON without a space, and a line feed. Its members are `closes`, the accepted
+/// The tally of an outcome: one line of JSON without a space, and a line feed. Its members are `closes`, the accepted
 /// closes; `commands`, the length of the history; `counts`, how many commands of each worker were taken; `dividends` and
 /// `marks`, the sums over the sheets of all closes, as texts of cents; `lines`, the records at fault of all workers.
-pub fn summary(outcome: &Outcome) -> Result<String, NoMemory>
+pub fn tally_line(outcome: &Outcome) -> Result<String, NoMemory>
     ensures { IfOk result (λ s. string_bytes s ≡ text_of outcome.now) }
 {
     let alloc = *outcome.logs.allocator();
     let (marks, dividends) = totals(outcome);
     let marks = amount(alloc, marks)?;
     let dividends = amount(alloc, dividends)?;
-    let tally = tally_of(alloc, &outcome.book, outcome.logs.as_slice())?;
+    let counted = counted_of(alloc, &outcome.book, outcome.logs.as_slice())?;
     let closes = outcome.book.day() - 1;
     let commands = outcome.book.history_len() as u64;
-    let summary = members(
+    let tally = members(
         alloc,
         closes,
         commands,
-        tally,
+        counted,
         dividends.as_str(),
         marks.as_str(),
     )?;
-    let mut line = summary.to_string(alloc)?;
+    let mut line = tally.to_string(alloc)?;
     line.push('\n')?;
     Ok(line)
 }

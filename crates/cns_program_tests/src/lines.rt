@@ -1,6 +1,6 @@
 // Lines that are refused or taken, and ends that fail in a replay.
 use crate::ends::{Part, Stuck, USAGE, tell, tell_into};
-use cns_program::{refuse_words, run_line};
+use cns_program::{refuse_words, run_words};
 use std::io::{Error, ErrorKind};
 use std::test::Fail;
 
@@ -180,7 +180,7 @@ fn errors_that_cannot_be_written_change_no_status(rt: HostRuntime) -> Result<(),
             bytes: b"",
             fails: true,
         };
-        let ended = run_line(&rt, words, input, &mut output, &mut errors);
+        let ended = run_words(&rt, words, input, &mut output, &mut errors);
         assert_eq!(rt; ended.status, *status, "{line}");
         assert!(rt; ended.told.is_err(), "{line}");
         assert_eq!(rt; errors.taken.as_slice(), &line.as_bytes()[..5], "{line}");

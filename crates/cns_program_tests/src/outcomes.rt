@@ -1,4 +1,4 @@
-// What is told of a run: its summary, and the workers that ended early.
+// What is told of a run: its tally, and the workers that ended early.
 use crate::ends::{Part, Stuck, Told};
 use cns_desk::{Outcome, run_workers};
 use cns_feed::CsvSource;
@@ -70,7 +70,7 @@ fn told_short<R: Threads + Wait + Sync>(
     })
 }
 
-// The texts of the workers, and the summary.
+// The texts of the workers, and the tally.
 const RUNS: [(&[&str], &str); 4] = [
     (
         &[""],
@@ -101,10 +101,10 @@ const RUNS: [(&[&str], &str); 4] = [
 ];
 
 #[test]
-fn a_run_whose_sources_come_to_their_ends_tells_its_summary(rt: HostRuntime) -> Result<(), Fail> {
-    for (texts, summary) in &RUNS {
+fn a_run_whose_sources_come_to_their_ends_tells_its_tally(rt: HostRuntime) -> Result<(), Fail> {
+    for (texts, tally) in &RUNS {
         let told = told(&rt, rt.alloc(), texts, &[])?;
-        assert!(rt; told.is(0, summary, ""), "{summary}");
+        assert!(rt; told.is(0, tally, ""), "{tally}");
     }
     Ok(())
 }
@@ -113,22 +113,22 @@ const EARLY: &str =
     "{\"closes\":0,\"commands\":3,\"counts\":[1,2,0],\"dividends\":\"0.00\",\"lines\":1,\"marks\":\"0.00\"}\n";
 
 #[test]
-fn workers_that_ended_early_are_told_after_the_summary(rt: HostRuntime) -> Result<(), Fail> {
+fn workers_that_ended_early_are_told_after_the_tally(rt: HostRuntime) -> Result<(), Fail> {
     let failing = ["MEMBER,101\nMEMBER,x\nMEMBER,202\n", ""];
     let told = told(&rt, rt.alloc(), &["MEMBER,303\n"], &failing)?;
     assert!(rt; told.is(1, EARLY, "worker 2 Read\nworker 3 Read\n"));
     Ok(())
 }
 
-// Whatever number of bytes the writer takes, what it took is a front of the summary, and its fault is the only line,
+// Whatever number of bytes the writer takes, what it took is a front of the tally, and its fault is the only line,
 // though a worker ended early.
 #[test]
-fn a_summary_that_cannot_be_written_is_the_only_fault(rt: HostRuntime) -> Result<(), Fail> {
-    let summary = told(&rt, rt.alloc(), &["MEMBER,101\n"], &[""])?.output;
-    for room in 0..summary.len() {
+fn a_tally_that_cannot_be_written_is_the_only_fault(rt: HostRuntime) -> Result<(), Fail> {
+    let tally = told(&rt, rt.alloc(), &["MEMBER,101\n"], &[""])?.output;
+    for room in 0..tally.len() {
         let told = told_short(&rt, rt.alloc(), room, usize::MAX)?;
         assert_eq!(rt; told.status, 1, "{room}");
-        assert_eq!(rt; told.output.as_slice(), &summary[..room], "{room}");
+        assert_eq!(rt; told.output.as_slice(), &tally[..room], "{room}");
         assert_eq!(rt;
             told.errors.as_slice(),
             b"fault Write\n".as_slice(),
@@ -139,7 +139,7 @@ fn a_summary_that_cannot_be_written_is_the_only_fault(rt: HostRuntime) -> Result
 }
 
 #[test]
-fn a_summary_that_cannot_be_flushed_is_a_fault_of_writing(rt: HostRuntime) -> Result<(), Fail> {
+fn a_tally_that_cannot_be_flushed_is_a_fault_of_writing(rt: HostRuntime) -> Result<(), Fail> {
     let told = told_short(&rt, rt.alloc(), usize::MAX, 0)?;
     assert_eq!(rt; told.status, 1);
     assert_eq!(rt; told.errors.as_slice(), b"fault Write\n".as_slice());

@@ -42,47 +42,47 @@ below_tied c d k Equal p q = rw (subst (λ x. issue_cmp c x ≡ Less) (tied_same
 below_tied c d k Greater p q = elim (issue_cmp c k) as (λ r. ordering_index r ≤ 2) [ Less ↦ omega arith | Equal ↦ omega arith | Greater ↦ omega arith ]
 
 -- an issue below all is below each
-below_each : (c : Cusip) (bs : List Liables) (i : ℕ) (d : Liables) → below_all issue_cmp c (by_issue bs) ≡ true → i < length bs → issue_cmp c (get_or bs i d).cusip ≡ Less
+below_each : (c : Cusip) (bs : List Liables) (i : ℕ) (d : Liables) → below_all issue_cmp c (by_issue bs) ≡ true → i < length bs → issue_cmp c (get_or bs i d).issue ≡ Less
 below_each c [] i d h lt = absurd (omega arith)
 below_each c (b ∷ bs) zero d h lt = less _ (and_left _ _ h)
 below_each c (b ∷ bs) (suc i) d h lt = below_each c bs i d (and_right _ _ h) (omega arith)
 
 -- the issue of an earlier batch is below that of a later
-below_later : (bs : List Liables) (i j : ℕ) (d : Liables) → RiseByIssue bs → i < j → j < length bs → issue_cmp (get_or bs i d).cusip (get_or bs j d).cusip ≡ Less
+below_later : (bs : List Liables) (i j : ℕ) (d : Liables) → RiseByIssue bs → i < j → j < length bs → issue_cmp (get_or bs i d).issue (get_or bs j d).issue ≡ Less
 below_later [] i j d s p q = absurd (omega arith)
 below_later (b ∷ bs) i zero d s p q = absurd (omega arith)
-below_later (b ∷ bs) zero (suc j) d s p q = below_each b.cusip bs j d (and_left _ _ s) (omega arith)
+below_later (b ∷ bs) zero (suc j) d s p q = below_each b.issue bs j d (and_left _ _ s) (omega arith)
 below_later (b ∷ bs) (suc i) (suc j) d s p q = below_later bs i j d (and_right _ _ s) (omega arith) (omega arith)
 
 -- how the issues of batches compare with one issue
-pub comparisons_rise : (bs : List Liables) (c : Cusip) (d : Liables) → RiseByIssue bs → IsNonDecreasingBy (λ b. ordering_index (issue_cmp b.cusip c)) bs
-comparisons_rise bs c d s = IsNonDecreasingBy-from_default (λ (b : Liables). ordering_index (issue_cmp b.cusip c)) bs d (λ i j le lt.
+pub comparisons_rise : (bs : List Liables) (c : Cusip) (d : Liables) → RiseByIssue bs → IsNonDecreasingBy (λ b. ordering_index (issue_cmp b.issue c)) bs
+comparisons_rise bs c d s = IsNonDecreasingBy-from_default (λ (b : Liables). ordering_index (issue_cmp b.issue c)) bs d (λ i j le lt.
     elim (cases_lt i j) [
       | inl p ↦ below_tied _ _ c _ refl (below_later bs i j d s p lt)
       | inr p ↦ let same : i ≡ j = omega arith in rw same (omega arith)
     ])
 
 -- a batch before that of an issue is another's
-before : (b : Liables) (bs : List Liables) (i : ℕ) (c : Cusip) (d : Liables) → RiseByIssue (b ∷ bs) → i < length bs → issue_cmp (get_or bs i d).cusip c ≡ Equal → bytes_eq b.cusip c ≡ false
+before : (b : Liables) (bs : List Liables) (i : ℕ) (c : Cusip) (d : Liables) → RiseByIssue (b ∷ bs) → i < length bs → issue_cmp (get_or bs i d).issue c ≡ Equal → bytes_eq b.issue c ≡ false
 before b bs i c d s lt tied =
-    let below : issue_cmp b.cusip (get_or bs i d).cusip ≡ Less = below_each b.cusip bs i d (and_left _ _ s) lt in
-    apart b.cusip c Less (subst (λ x. issue_cmp b.cusip x ≡ Less) (tied_same (get_or bs i d).cusip c tied) below) refl
+    let below : issue_cmp b.issue (get_or bs i d).issue ≡ Less = below_each b.issue bs i d (and_left _ _ s) lt in
+    apart b.issue c Less (subst (λ x. issue_cmp b.issue x ≡ Less) (tied_same (get_or bs i d).issue c tied) below) refl
 
 -- the batch of an issue, where a search ended
-pub batch_found : (bs : List Liables) (i : ℕ) (c : Cusip) (d : Liables) → RiseByIssue bs → i < length bs → issue_cmp (get_or bs i d).cusip c ≡ Equal → batch_in bs c ≡ Some (get_or bs i d)
+pub batch_found : (bs : List Liables) (i : ℕ) (c : Cusip) (d : Liables) → RiseByIssue bs → i < length bs → issue_cmp (get_or bs i d).issue c ≡ Equal → batch_in bs c ≡ Some (get_or bs i d)
 batch_found [] i c d s lt tied = absurd (omega arith)
-batch_found (b ∷ bs) zero c d s lt tied = ap (λ t. cond t (Some b) (batch_in bs c)) (sym (is_eq-slice_cmp b.cusip c) ∙ ap is_eq tied)
+batch_found (b ∷ bs) zero c d s lt tied = ap (λ t. cond t (Some b) (batch_in bs c)) (sym (is_eq-slice_cmp b.issue c) ∙ ap is_eq tied)
 batch_found (b ∷ bs) (suc i) c d s lt tied =
     ap (λ t. cond t (Some b) (batch_in bs c)) (before b bs i c d s (omega arith) tied) ∙ batch_found bs i c d (and_right _ _ s) (omega arith) tied
 
 -- no batch of an issue, where a search found a gap
-pub batch_missing : (bs : List Liables) (i : ℕ) (c : Cusip) → AllWithin (λ b. issue_cmp b.cusip c ≡ Less) bs 0 i → AllWithin (λ b. issue_cmp b.cusip c ≡ Greater) bs i (length bs) → batch_in bs c ≡ None
+pub batch_missing : (bs : List Liables) (i : ℕ) (c : Cusip) → AllWithin (λ b. issue_cmp b.issue c ≡ Less) bs 0 i → AllWithin (λ b. issue_cmp b.issue c ≡ Greater) bs i (length bs) → batch_in bs c ≡ None
 batch_missing [] i c low high = refl
 batch_missing (b ∷ bs) zero c low high =
-    ap (λ t. cond t (Some b) (batch_in bs c)) (apart b.cusip c Greater (high 0 b (omega arith) (omega arith)) refl)
+    ap (λ t. cond t (Some b) (batch_in bs c)) (apart b.issue c Greater (high 0 b (omega arith) (omega arith)) refl)
     ∙ batch_missing bs zero c (λ j d p q. absurd (omega arith)) (λ j d p q. high (suc j) d (omega arith) (omega arith))
 batch_missing (b ∷ bs) (suc i) c low high =
-    ap (λ t. cond t (Some b) (batch_in bs c)) (apart b.cusip c Less (low 0 b (omega arith) (omega arith)) refl)
+    ap (λ t. cond t (Some b) (batch_in bs c)) (apart b.issue c Less (low 0 b (omega arith) (omega arith)) refl)
     ∙ batch_missing bs i c (λ j d p q. low (suc j) d (omega arith) (omega arith)) (λ j d p q. high (suc j) d (omega arith) (omega arith))
 
 -- ---- charges
@@ -90,9 +90,9 @@ batch_missing (b ∷ bs) (suc i) c low high =
 -- batches among which none is of an issue stay as they are
 uncharged : (c : Cusip) (fs : List Fill) (bs : List Liables) → batch_in bs c ≡ None → charged_in c fs bs ≡ bs
 uncharged c fs [] h = refl
-uncharged c fs (b ∷ bs) h = by (bytes_eq b.cusip c) refl h (uncharged c fs bs)
+uncharged c fs (b ∷ bs) h = by (bytes_eq b.issue c) refl h (uncharged c fs bs)
   where
-    by : (t : Bool) → bytes_eq b.cusip c ≡ t → cond t (Some b) (batch_in bs c) ≡ None → (batch_in bs c ≡ None → charged_in c fs bs ≡ bs) → charged_if c fs b ∷ charged_in c fs bs ≡ b ∷ bs
+    by : (t : Bool) → bytes_eq b.issue c ≡ t → cond t (Some b) (batch_in bs c) ≡ None → (batch_in bs c ≡ None → charged_in c fs bs ≡ bs) → charged_if c fs b ∷ charged_in c fs bs ≡ b ∷ bs
     by true e h more = cc
     by false e h more = ap (λ t. cond t (charged_by fs b) b ∷ charged_in c fs bs) e ∙ ap (λ xs. b ∷ xs) (more h)
 
@@ -103,37 +103,37 @@ nothing_charged c fs bs h = sym (uncharged c fs bs h)
 -- an issue below all has no batch
 none_below : (c : Cusip) (bs : List Liables) → below_all issue_cmp c (by_issue bs) ≡ true → batch_in bs c ≡ None
 none_below c [] h = refl
-none_below c (b ∷ bs) h = ap (λ t. cond t (Some b) (batch_in bs c)) (apart b.cusip c Greater (turned c b.cusip Less (less _ (and_left _ _ h))) refl) ∙ none_below c bs (and_right _ _ h)
+none_below c (b ∷ bs) h = ap (λ t. cond t (Some b) (batch_in bs c)) (apart b.issue c Greater (turned c b.issue Less (less _ (and_left _ _ h))) refl) ∙ none_below c bs (and_right _ _ h)
 
 -- a write of the charged batch where a search ended
-pub set_charged : (bs : List Liables) (i : ℕ) (c : Cusip) (fs : List Fill) (d : Liables) → RiseByIssue bs → i < length bs → issue_cmp (get_or bs i d).cusip c ≡ Equal → set bs i (charged_by fs (get_or bs i d)) ≡ charged_in c fs bs
+pub set_charged : (bs : List Liables) (i : ℕ) (c : Cusip) (fs : List Fill) (d : Liables) → RiseByIssue bs → i < length bs → issue_cmp (get_or bs i d).issue c ≡ Equal → set bs i (charged_by fs (get_or bs i d)) ≡ charged_in c fs bs
 set_charged [] i c fs d s lt tied = absurd (omega arith)
 set_charged (b ∷ bs) zero c fs d s lt tied =
-    let none : batch_in bs c ≡ None = none_below c bs (subst (λ x. below_all issue_cmp x (by_issue bs) ≡ true) (tied_same b.cusip c tied) (and_left _ _ s)) in
+    let none : batch_in bs c ≡ None = none_below c bs (subst (λ x. below_all issue_cmp x (by_issue bs) ≡ true) (tied_same b.issue c tied) (and_left _ _ s)) in
     ap (λ xs. charged_by fs b ∷ xs) (nothing_charged c fs bs none)
-    ∙ ap (λ t. cond t (charged_by fs b) b ∷ charged_in c fs bs) (sym (sym (is_eq-slice_cmp b.cusip c) ∙ ap is_eq tied))
+    ∙ ap (λ t. cond t (charged_by fs b) b ∷ charged_in c fs bs) (sym (sym (is_eq-slice_cmp b.issue c) ∙ ap is_eq tied))
 set_charged (b ∷ bs) (suc i) c fs d s lt tied =
     ap (λ xs. b ∷ xs) (set_charged bs i c fs d (and_right _ _ s) (omega arith) tied)
     ∙ ap (λ t. cond t (charged_by fs b) b ∷ charged_in c fs bs) (sym (before b bs i c d s (omega arith) tied))
 
 -- a charge keeps the issue
-same_cusip : (t : Bool) (fs : List Fill) (b : Liables) → (cond t (charged_by fs b) b).cusip ≡ b.cusip
+same_cusip : (t : Bool) (fs : List Fill) (b : Liables) → (cond t (charged_by fs b) b).issue ≡ b.issue
 same_cusip true fs b = refl
 same_cusip false fs b = refl
 
 below_charged : (k c : Cusip) (fs : List Fill) (bs : List Liables) → below_all issue_cmp k (by_issue bs) ≡ true → below_all issue_cmp k (by_issue (charged_in c fs bs)) ≡ true
 below_charged k c fs [] h = refl
-below_charged k c fs (b ∷ bs) h = both_true _ _ (ap (λ x. is_lt (issue_cmp k x)) (same_cusip (bytes_eq b.cusip c) fs b) ∙ and_left _ _ h) (below_charged k c fs bs (and_right _ _ h))
+below_charged k c fs (b ∷ bs) h = both_true _ _ (ap (λ x. is_lt (issue_cmp k x)) (same_cusip (bytes_eq b.issue c) fs b) ∙ and_left _ _ h) (below_charged k c fs bs (and_right _ _ h))
 
 -- a charge keeps the order
 pub charged_rise : (c : Cusip) (fs : List Fill) (bs : List Liables) → RiseByIssue bs → RiseByIssue (charged_in c fs bs)
 charged_rise c fs [] s = refl
 charged_rise c fs (b ∷ bs) s = both_true _ _
-    (ap (λ x. below_all issue_cmp x (by_issue (charged_in c fs bs))) (same_cusip (bytes_eq b.cusip c) fs b) ∙ below_charged b.cusip c fs bs (and_left _ _ s))
+    (ap (λ x. below_all issue_cmp x (by_issue (charged_in c fs bs))) (same_cusip (bytes_eq b.issue c) fs b) ∙ below_charged b.issue c fs bs (and_left _ _ s))
     (charged_rise c fs bs (and_right _ _ s))
 
 -- the same, of what was read and written
-pub written_charged : (bs : List Liables) (i : ℕ) (c : Cusip) (fs : List Fill) (x y : Liables) → RiseByIssue bs → i < length bs → issue_cmp (get_or bs i x).cusip c ≡ Equal → x ≡ get_or bs i x → y ≡ charged_by fs x → set bs i y ≡ charged_in c fs bs
+pub written_charged : (bs : List Liables) (i : ℕ) (c : Cusip) (fs : List Fill) (x y : Liables) → RiseByIssue bs → i < length bs → issue_cmp (get_or bs i x).issue c ≡ Equal → x ≡ get_or bs i x → y ≡ charged_by fs x → set bs i y ≡ charged_in c fs bs
 written_charged bs i c fs x y s lt tied read is = ap (set bs i) (is ∙ ap (charged_by fs) read) ∙ set_charged bs i c fs x s lt tied
 
 -- ---- days

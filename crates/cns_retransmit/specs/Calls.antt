@@ -46,7 +46,7 @@ shorts_in es c = option_map_or (λ x. x.shorts) (called_in es c) []
 
 -- who is liable in an issue
 abbrev pub batch_of : Cusip × CalledIn → Liables
-batch_of e = record { cusip = e.0; members = chosen e.1.shorts e.1.total }
+batch_of e = record { issue = e.0; members = chosen e.1.shorts e.1.total }
 
 -- the batches: the issues in which somebody is liable
 abbrev pub batches_of : List (Cusip × CalledIn) → List Liables

@@ -15,7 +15,7 @@ use Rattle.cns_terms.specs.Sums.{changed_at, same_issue}
 
 -- batches, each with its issue before it
 abbrev pub by_issue : List Liables → List (Cusip × Liables)
-by_issue bs = map (λ b. (b.cusip, b)) bs
+by_issue bs = map (λ b. (b.issue, b)) bs
 
 -- whether the issues of batches strictly rise
 abbrev pub RiseByIssue : List Liables → Type 0
@@ -23,15 +23,15 @@ RiseByIssue bs = is_sorted (slice_cmp nat_cmp) (by_issue bs) ≡ true
 
 -- the batch of an issue
 abbrev pub batch_in : List Liables → Cusip → Option Liables
-batch_in bs c = find (λ b. same_issue b.cusip c) bs
+batch_in bs c = find (λ b. same_issue b.issue c) bs
 
 -- a batch after fills
 abbrev pub charged_by : List Fill → Liables → Liables
-charged_by fs b = record { cusip = b.cusip; members = map (charged fs) b.members }
+charged_by fs b = record { issue = b.issue; members = map (charged fs) b.members }
 
 -- a batch after fills in an issue
 abbrev pub charged_if : Cusip → List Fill → Liables → Liables
-charged_if c fs b = if same_issue b.cusip c then charged_by fs b else b
+charged_if c fs b = if same_issue b.issue c then charged_by fs b else b
 
 -- batches after fills in an issue
 abbrev pub charged_in : Cusip → List Fill → List Liables → List Liables

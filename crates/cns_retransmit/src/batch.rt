@@ -18,7 +18,7 @@ use std::marker::Model;
 /// that close, the oldest first, then by number. Contracts see the issue and the members. No member stands in it twice.
 #[derive(Drop)]
 pub struct Batch<A: Allocator + Drop> {
-    cusip: Cusip,
+    issue: Cusip,
     liables: Vec<Liable, A>,
 }
 
@@ -28,7 +28,7 @@ impl<A: Allocator + Drop> Model for Batch<A> {
 
     ghost Value = { Liables };
 
-    ghost view = { λ b. record { cusip = b.cusip; members = b.liables.items } };
+    ghost view = { λ b. record { issue = b.issue; members = b.liables.items } };
 
     ghost invariant = { λ b. IsBatch b.liables.items };
 }
@@ -49,14 +49,17 @@ impl<A: Allocator + Drop + Clone> Batch<A> {
     ) -> Result<Option<Batch<A>>, NoMemory>
         requires distinct { (a : Member) → shorts_of a shorts.now ≤ 1 }
         requires fits { sum_by (λ s. s.shares) shorts.now < 2 ^ 63 }
-        ensures batch { IfOk result (λ b. MatchOption b (chosen shorts.now total ≡ []) (λ b. b ≡ record { cusip = cusip; members = chosen shorts.now total })) }
+        ensures batch { IfOk result (λ b. MatchOption b (chosen shorts.now total ≡ []) (λ b. b ≡ record { issue = cusip; members = chosen shorts.now total })) }
         ensures somebody { IfOk result (λ b. IfSome b (λ b. 0 < length b.members)) }
     {
         let liables = choice::choose(alloc, shorts, total)?;
         if liables.is_empty() {
             return Ok(None);
         }
-        Ok(Some(Batch { cusip, liables }))
+        Ok(Some(Batch {
+            issue: cusip,
+            liables,
+        }))
     }
 
     /// What an execution of so many shares for so much money gives each member now, and what each pays: they are filled in
@@ -94,9 +97,9 @@ impl<A: Allocator + Drop> Batch<A> {
 
     /// The issue. It takes no memory.
     pub fn cusip(&self) -> Cusip
-        ensures { result ≡ self.now.cusip }
+        ensures { result ≡ self.now.issue }
     {
-        self.cusip
+        self.issue
     }
 
     /// What is left of a member's liability, in shares; 0 for a member that is not in the batch. It takes no memory.
@@ -118,7 +121,7 @@ impl<A: Allocator + Drop> Batch<A> {
     /// members of the batch, in its order and at most one for each, as `fill` makes them. It takes no memory.
     pub fn charge(&mut self, fills: &[Fill])
         requires { FillInOrder fills.now self.old.members }
-        ensures { self.new ≡ record { cusip = self.old.cusip; members = map (charged fills.now) self.old.members } }
+        ensures { self.new ≡ record { issue = self.old.issue; members = map (charged fills.now) self.old.members } }
     {
         filling::charge(self.liables.as_mut_slice(), fills);
     }

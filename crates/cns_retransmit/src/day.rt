@@ -37,8 +37,8 @@ impl<A: Allocator + Drop> Model for DayBatches<A> {
 fn place<A: Allocator + Drop>(batches: &[Batch<A>], issue: Cusip) -> Result<usize, usize>
     requires { RiseByIssue batches.now }
     ensures bound { IsSearchInRange result (length batches.now) }
-    ensures found { IfOk result (HoldsAt (λ b. slice_cmp nat_cmp b.cusip issue ≡ Equal) batches.now) }
-    ensures absent { IfErr result (IsPartitionPoint (λ b. slice_cmp nat_cmp b.cusip issue ≡ Less) (λ b. slice_cmp nat_cmp b.cusip issue ≡ Greater) batches.now) }
+    ensures found { IfOk result (HoldsAt (λ b. slice_cmp nat_cmp b.issue issue ≡ Equal) batches.now) }
+    ensures absent { IfErr result (IsPartitionPoint (λ b. slice_cmp nat_cmp b.issue issue ≡ Less) (λ b. slice_cmp nat_cmp b.issue issue ≡ Greater) batches.now) }
 {
     batches.binary_search_by_key(&issue, |batch| batch.cusip())
 }

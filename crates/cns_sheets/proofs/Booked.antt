@@ -236,9 +236,9 @@ module _ (d : Declared) where
   no_cash = sym (ap (λ n. int_div n (pos 10000)) (zero-*ℤ (pos d.rate)))
 
   -- the row of a key, the first or a later one
-  found_branch : (e : Bool) (k : Key) (r : Row) (o : Option Row) → (e ≡ true → k ≡ key_of r) → option_map_or (member_cash d) o (pos 0) ≡ cond (same_issue k.issue d.cusip && not (k.account == corporation)) (cash (option_map_or (λ r. r.closing) o (pos 0)) d.rate) (pos 0)
-      → option_map_or (member_cash d) (cond e (Some r) o) (pos 0) ≡ cond (same_issue k.issue d.cusip && not (k.account == corporation)) (cash (option_map_or (λ r. r.closing) (cond e (Some r) o) (pos 0)) d.rate) (pos 0)
-  found_branch true k r o same h = ap (λ (q : Key). cond (same_issue q.issue d.cusip && not (q.account == corporation)) (cash r.closing d.rate) (pos 0)) (sym (same refl))
+  found_branch : (e : Bool) (k : Key) (r : Row) (o : Option Row) → (e ≡ true → k ≡ key_of r) → option_map_or (member_cash d) o (pos 0) ≡ cond (same_issue k.issue d.issue && not (k.account == corporation)) (cash (option_map_or (λ r. r.closing) o (pos 0)) d.rate) (pos 0)
+      → option_map_or (member_cash d) (cond e (Some r) o) (pos 0) ≡ cond (same_issue k.issue d.issue && not (k.account == corporation)) (cash (option_map_or (λ r. r.closing) (cond e (Some r) o) (pos 0)) d.rate) (pos 0)
+  found_branch true k r o same h = ap (λ (q : Key). cond (same_issue q.issue d.issue && not (q.account == corporation)) (cash r.closing d.rate) (pos 0)) (sym (same refl))
   found_branch false k r o same h = h
 
   -- a zero that may be left out
@@ -247,7 +247,7 @@ module _ (d : Declared) where
   either false n h = refl
 
   -- which is that of its closing position, for a member in the issue
-  cash_found : (rows : List Row) (k : Key) → found_cash rows k ≡ cond (same_issue k.issue d.cusip && not (k.account == corporation)) (cash (closing_at rows k) d.rate) (pos 0)
+  cash_found : (rows : List Row) (k : Key) → found_cash rows k ≡ cond (same_issue k.issue d.issue && not (k.account == corporation)) (cash (closing_at rows k) d.rate) (pos 0)
   cash_found [] k = either _ _ no_cash
   cash_found (r ∷ rows) k = found_branch (is_eq (key_cmp k (key_of r))) k r (row_at rows k) (λ e. exact_keys k (key_of r) (equal _ e)) (cash_found rows k)
 
@@ -259,9 +259,9 @@ module _ (d : Declared) where
   paid_cases false false c t = refl
 
   -- what is paid at a key is the cash of its row, and the corporation's part at its key
-  paid_found : (rows : List Row) (k corp : Key) → corp.account ≡ corporation → corp.issue ≡ d.cusip → paid d rows k ≡ found_cash rows k +ℤ cond (is_eq (key_cmp k corp)) (neg_ℤ (total (member_cash d) rows)) (pos 0)
+  paid_found : (rows : List Row) (k corp : Key) → corp.account ≡ corporation → corp.issue ≡ d.issue → paid d rows k ≡ found_cash rows k +ℤ cond (is_eq (key_cmp k corp)) (neg_ℤ (total (member_cash d) rows)) (pos 0)
   paid_found rows k corp ea ei =
-      paid_cases (same_issue k.issue d.cusip) (k.account == corporation) (cash (closing_at rows k) d.rate) (total (member_cash d) rows)
+      paid_cases (same_issue k.issue d.issue) (k.account == corporation) (cash (closing_at rows k) d.rate) (total (member_cash d) rows)
       ∙ (λ i. sym (cash_found rows k) i +ℤ cond ((k.account == sym ea i) && same_issue k.issue (sym ei i)) (neg_ℤ (total (member_cash d) rows)) (pos 0))
       ∙ ap (λ b. found_cash rows k +ℤ cond b (neg_ℤ (total (member_cash d) rows)) (pos 0)) (sym (same_key k corp))
 
@@ -277,7 +277,7 @@ module _ (d : Declared) where
       (λ e. find_below keys_total k (by_key rows) (ap (λ q. below_all key_cmp q (by_key rows)) (exact_keys k (key_of r) (equal _ e)) ∙ and_left _ _ s))
 
   -- what the payment of the members and that of the corporation book together
-  pub booked_is : (rows : List Row) (corp : Key) (sum : ℤ) → is_sorted key_cmp (by_key rows) ≡ true → corp.account ≡ corporation → corp.issue ≡ d.cusip → sum ≡ total (member_cash d) rows → (old mid new : CentsByKey) (k : Key)
+  pub booked_is : (rows : List Row) (corp : Key) (sum : ℤ) → is_sorted key_cmp (by_key rows) ≡ true → corp.account ≡ corporation → corp.issue ≡ d.issue → sum ≡ total (member_cash d) rows → (old mid new : CentsByKey) (k : Key)
       → cents_at mid k ≡ cents_at old k +ℤ total (λ r. cond (is_eq (key_cmp k (key_of r))) (member_cash d r) (pos 0)) rows → cents_at new k ≡ cents_at mid k +ℤ cond (is_eq (key_cmp k corp)) (neg_ℤ sum) (pos 0) → cents_at new k ≡ cents_at old k +ℤ paid d rows k
   booked_is rows corp sum s ea ei es old mid new k first second =
       join (cents_at old k) (found_cash rows k) (cond (is_eq (key_cmp k corp)) (neg_ℤ (total (member_cash d) rows)) (pos 0)) (cents_at mid k) (cents_at new k) (first ∙ ap (λ n. cents_at old k +ℤ n) (booked_once k rows s))

@@ -31,12 +31,12 @@ closing_at rows k = option_map_or (λ r. r.closing) (row_at rows k) (pos 0)
 
 -- the cash of a dividend on a row of the sheet of its record date, which only a member's row in the issue has
 abbrev pub member_cash : Declared → Row → ℤ
-member_cash d r = if same_issue r.issue d.cusip && not (r.account == corporation) then cash r.closing d.rate else pos 0
+member_cash d r = if same_issue r.issue d.issue && not (r.account == corporation) then cash r.closing d.rate else pos 0
 
 -- what a dividend books at a key; the corporation's part is the opposite of what all members get
 abbrev pub paid : Declared → List Row → Key → ℤ
 paid d rows k =
-    if same_issue k.issue d.cusip then
+    if same_issue k.issue d.issue then
     (if k.account == corporation then neg_ℤ (total (member_cash d) rows) else cash (closing_at rows k) d.rate)
     else pos 0
 

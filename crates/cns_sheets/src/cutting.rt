@@ -23,14 +23,6 @@ use cns_terms::{Holding, Key, NoMemory, Row};
 use cns_units::{Cents, Cusip, Price};
 use std::alloc::Allocator;
 
-// What stands at a key with dividends and no holding.
-const UNHELD: Holding = Holding {
-    now: 0,
-    opening: 0,
-    contract: 0,
-    run: 0,
-};
-
 // What a position is worth at a price, in cents.
 fn worth(shares: i64, price: Price) -> i128
     ensures exact { result ≡ worth shares price }
@@ -156,7 +148,7 @@ fn push_paid<A: Allocator + Drop>(
     ensures now { now.new ≡ now.old }
 {
     while let Some((key, dividend)) = paid.next_below(high) {
-        push_row(rows, before, now, &key, &UNHELD, dividend)?;
+        push_row(rows, before, now, &key, &Holding::ZEROS, dividend)?;
     }
     Ok(())
 }

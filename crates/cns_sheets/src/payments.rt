@@ -33,7 +33,7 @@ pub struct Payment<'a, A: Allocator + Drop + Clone> {
 pub fn member_cash(declared: &Declared, row: &Row) -> i128
     ensures { result ≡ member_cash declared.now row.now }
 {
-    if row.account == Account::CORPORATION || !row.issue.is_same(&declared.cusip) {
+    if row.account == Account::CORPORATION || !row.issue.is_same(&declared.issue) {
         return 0;
     }
     cash(row.closing, declared.rate).value()
@@ -98,7 +98,7 @@ impl<A: Allocator + Drop + Clone> Paid<A> {
     {
         let sum = self.pay_members(declared, rows)?;
         let account = Account::CORPORATION;
-        let issue = declared.cusip;
+        let issue = declared.issue;
         self.add(Key { account, issue }, -sum)
     }
 

@@ -34,7 +34,8 @@ fn pack_parts<G: Gate + Sync, R: Threads + Wait + Sync>(
         rt,
         move |scope| -> Result<Vec<Statement<Global>>, PackFault>
             requires { vec_len parts ≤ 64 }
-            ensures ok { IfOk result (λ v. v.items ≡ map (statement_on sheet.entry.now) (flat_map (λ p. p.items) parts.items)) }
+            ensures ok { IfOk result
+                (λ v. v.items ≡ map (statement_on sheet.entry.now) (flat_map (λ p. p.items) parts.items)) }
             ensures err { IfErr result IsLate }
         { gather(scope, rt, alloc, sheet, gate, parts) },
     )

@@ -1,5 +1,5 @@
 -- No sum of a day leaves the limit of amounts.
-use Rattle.std.proofs.Common.{◌≡◌, sym, subst, ℕ, ◌+◌, ◌*◌, ◌≤◌, ◌<◌, ℤ, pos, ◌+ℤ◌, ◌-ℤ◌, ◌*ℤ◌, Bool, true, false, ◌&&◌, ◌==◌, cond, is_none, not, slice_get, unwrap_or, find, Option, Some, List, [], ◌∷◌, length, arith}
+use Rattle.std.proofs.Common.{◌≡◌, ℕ, ◌+◌, ◌*◌, ◌≤◌, ◌<◌, ℤ, pos, ◌+ℤ◌, ◌-ℤ◌, ◌*ℤ◌, Bool, true, false, ◌&&◌, ◌==◌, cond, not, slice_get, unwrap_or, find, Option, Some, List, [], ◌∷◌, length, arith}
 use Rattle.std.specs.Cmp.Lexicographic.{slice_cmp}
 use Rattle.std.specs.List.{AllByRecursion}
 use Rattle.std.specs.Option.{option_map_or}
@@ -12,8 +12,6 @@ use Rattle.cns_units.specs.declared.cusip.Cusip.{Cusip}
 use Rattle.cns_units.specs.declared.day.Day.{Day}
 use Rattle.cns_terms.specs.declared.command.Activity.{Activity}
 use Rattle.cns_terms.specs.declared.command.Activity.TheVariants as activity
-use Rattle.cns_terms.specs.declared.command.Command.{Command}
-use Rattle.cns_terms.specs.declared.command.Command.TheVariants as command
 use Rattle.cns_terms.specs.declared.command.Listing.{Listing}
 use Rattle.cns_terms.specs.declared.holding.Entry.{Entry}
 use Rattle.cns_terms.specs.declared.sheet.Row.{Row}
@@ -22,12 +20,10 @@ use Rattle.cns_terms.specs.Entries.{journal, posting}
 use Rattle.cns_terms.specs.Laws.{Amounts, HasSmallAmounts, HasSmallSums, StaysSmall}
 use Rattle.cns_terms.specs.Limits.{amount_limit, booking_limit, corporation_limit, history_limit, member_limit, position_limit, price_limit}
 use Rattle.cns_terms.specs.Listings.{accounts, issues, members, price, priced}
-use Rattle.cns_terms.specs.Machine.{State, after, next, opened}
 use Rattle.cns_terms.specs.Marks.{mark, value}
 use Rattle.cns_terms.specs.Positions.{cents_for, money, position}
 use Rattle.cns_terms.specs.Postings.{Journal, Posting, activities}
-use Rattle.cns_terms.specs.Reached.{IsCommandPriceInRange, IsPriceInRange, IsReached}
-use Rattle.cns_terms.specs.Refusals.{refusal}
+use Rattle.cns_terms.specs.Reached.{IsInRange, IsReached}
 use Rattle.cns_terms.specs.Sheets.{day_sheet, is_idle, row, rows_of, sheet_rows}
 use Rattle.cns_terms.specs.Sums.{total}
 use Rattle.cns_terms.proofs.Accounts.{occurs}
@@ -36,11 +32,10 @@ use Rattle.cns_terms.proofs.Facts.{journal_len}
 use Rattle.cns_terms.proofs.Everywhere.{each_found, each_weaker}
 use Rattle.cns_terms.proofs.Limits.{cents_of}
 use Rattle.cns_terms.proofs.Magnitudes.{added, added-all, added-each, added-flat_map, added-kept, added-more, added-swap, added-times, added-zero, front_total, magnitude, total_small}
-use Rattle.cns_terms.proofs.Reached.{IsLimited, bounded, limited, limited_past, members_few, members_from_one, reached-from}
+use Rattle.cns_terms.proofs.Reached.{IsLimited, bounded, limited, limited_past, members_few, members_from_one}
 use Rattle.cns_terms.proofs.OverAll.{one_issue, over_add, over_all, over_more}
 use Rattle.cns_terms.proofs.Rising.{is_rising}
 use Rattle.cns_terms.proofs.SheetBounds.{at_most_one, issues_few}
-use Rattle.cns_terms.proofs.Sound.{opening_stays}
 
 -- a journal with its limits: few postings, and small prices
 pub record IsSmall (opening : Day) (J : Journal) : Type 0 where
@@ -56,38 +51,24 @@ price_if true l o p q = p
 price_if false l o p q = q
 
 -- an activity in its ranges sets small prices
-price-post : (opening : Day) (J : Journal) (x : Activity) (c : Cusip) → IsPriceInRange x → price J c ≤ price_limit → price (posting opening J x ∷ J) c ≤ price_limit
-price-post opening J (activity.Member m) c r h = h
+price-post : (opening : Day) (J : Journal) (x : Activity) (c : Cusip) → IsInRange x → price J c ≤ price_limit → price (posting opening J x ∷ J) c ≤ price_limit
 price-post opening J (activity.Issue l) c r h = price_if (bytes_eq l.issue c) l (find (λ l. bytes_eq l.issue c) (filter_map priced (activities J))) r h
-price-post opening J (activity.Trade t) c r h = h
 price-post opening J (activity.Price l) c r h = price_if (bytes_eq l.issue c) l (find (λ l. bytes_eq l.issue c) (filter_map priced (activities J))) r h
-price-post opening J (activity.Deliver m) c r h = h
-price-post opening J (activity.Receive m) c r h = h
-price-post opening J (activity.Dividend d) c r h = h
-price-post opening J (activity.Split s) c r h = h
-price-post opening J (activity.Exchange x) c r h = h
-price-post opening J (activity.Notice m) c r h = h
-price-post opening J (activity.Withdraw k) c r h = h
-price-post opening J (activity.Execute x) c r h = h
-price-post opening J (activity.Close d) c r h = h
+price-post opening J _ c r h = h
 
 -- ---- a journal that commands reach, and the journals as its closes found them
 
--- the prices that activities set are within their limit
-abbrev ArePriced : List Activity → Type 0
-ArePriced L = AllByRecursion IsPriceInRange L
-
 -- each price of a journal is small
-prices_small : (opening : Day) (L : List Activity) → ArePriced L → (c : Cusip) → price (journal opening L) c ≤ price_limit
+prices_small : (opening : Day) (L : List Activity) → IsReached opening L → (c : Cusip) → price (journal opening L) c ≤ price_limit
 prices_small opening [] r c = omega arith
-prices_small opening (x ∷ L) r c = price-post opening (journal opening L) x c r.0 (prices_small opening L r.1 c)
+prices_small opening (x ∷ L) r c = price-post opening (journal opening L) x c r.0 (prices_small opening L r.2 c)
 
 -- a journal that commands reach is small
-small : (opening : Day) (L : List Activity) → IsReached opening L → ArePriced L → length L < history_limit → IsSmall opening (journal opening L)
-small opening L r p few = record {
+small : (opening : Day) (L : List Activity) → IsReached opening L → length L < history_limit → IsSmall opening (journal opening L)
+small opening L r few = record {
   limited = limited opening L r;
   few = omega (arith, few, journal_len opening L);
-  prices = prices_small opening L p;
+  prices = prices_small opening L r;
 }
 
 -- a journal, the one before it, and the limits of those of its closes
@@ -113,15 +94,15 @@ past_if opening false J s = s.past
 
 -- the empty journal is small
 small_nil : (opening : Day) → IsSmall opening []
-small_nil opening = small opening [] tt tt (omega arith)
+small_nil opening = small opening [] tt (omega arith)
 
 -- a journal that commands reach is small, and so it was at each close
-all_small : (opening : Day) (L : List Activity) → IsReached opening L → ArePriced L → length L < history_limit → AreAllSmall opening (journal opening L)
-all_small opening [] r p few = record { now = record { now = small_nil opening; before = small_nil opening; closed = tt }; past = tt }
-all_small opening (x ∷ L) r p few =
-    let s : AreAllSmall opening (journal opening L) = all_small opening L r.2 p.1 (omega (arith, few)) in
+all_small : (opening : Day) (L : List Activity) → IsReached opening L → length L < history_limit → AreAllSmall opening (journal opening L)
+all_small opening [] r few = record { now = record { now = small_nil opening; before = small_nil opening; closed = tt }; past = tt }
+all_small opening (x ∷ L) r few =
+    let s : AreAllSmall opening (journal opening L) = all_small opening L r.2 (omega (arith, few)) in
     record {
-      now = record { now = small opening (x ∷ L) r p few; before = before_if opening (is_close x) (journal opening L) s.now; closed = limited_past opening (x ∷ L) r };
+      now = record { now = small opening (x ∷ L) r few; before = before_if opening (is_close x) (journal opening L) s.now; closed = limited_past opening (x ∷ L) r };
       past = past_if opening (is_close x) (journal opening L) s;
     }
 
@@ -304,7 +285,7 @@ sheet_small opening K s = record {
   dividends = first_rows opening K (λ r. r.dividend) (dividends_small opening K s.now.limited s.closed s.now.few);
 }
 
--- ---- any commands
+-- ---- the law
 
 -- few cents a posting at one key, and few postings
 few_cents : (m k : ℕ) → m ≤ booking_limit * k → k < history_limit → m ≤ amount_limit
@@ -319,41 +300,6 @@ amounts_small opening J i s =
       open_cents = λ a c. few_cents _ (length J) (s.now.now.limited.cents a c) s.now.now.few;
     }
 
--- an activity that is accepted, or refused
-priced_if : (b : Bool) (x : Activity) (L : List Activity) → IsPriceInRange x → ArePriced L → ArePriced (cond b (x ∷ L) L)
-priced_if true x L r p = (r, p)
-priced_if false x L r p = p
-
--- a command keeps the prices small
-priced-next : (S : State) (cmd : Command) → IsCommandPriceInRange cmd → ArePriced S.accepted → ArePriced (next S cmd).accepted
-priced-next S (command.Activity x) r p = priced_if (is_none (refusal S.opening (journal S.opening S.accepted) (command.Activity x))) x S.accepted r p
-priced-next S (command.Position k) r p = p
-priced-next S (command.Statement a d) r p = p
-
--- and so do commands
-priced-from : (S : State) (cmds : List Command) → AllByRecursion IsCommandPriceInRange cmds → ArePriced S.accepted → ArePriced (after S cmds).accepted
-priced-from S [] r p = p
-priced-from S (cmd ∷ cmds) r p = priced-from (next S cmd) cmds r.1 (priced-next S cmd r.0 p)
-
--- at most one activity is accepted
-few_if : (b : Bool) (x : Activity) (L : List Activity) → length (cond b (x ∷ L) L) ≤ length L + 1
-few_if true x L = omega arith
-few_if false x L = omega arith
-
--- by a command
-few-next : (S : State) (cmd : Command) → length (next S cmd).accepted ≤ length S.accepted + 1
-few-next S (command.Activity x) = few_if (is_none (refusal S.opening (journal S.opening S.accepted) (command.Activity x))) x S.accepted
-few-next S (command.Position k) = omega arith
-few-next S (command.Statement a d) = omega arith
-
--- no more activities are accepted than there are commands
-few-from : (S : State) (cmds : List Command) → length (after S cmds).accepted ≤ length S.accepted + length cmds
-few-from S [] = omega arith
-few-from S (cmd ∷ cmds) = omega (arith, few-from (next S cmd) cmds, few-next S cmd)
-
--- after any commands in their ranges, no more than a history holds, amounts stay within their limit
+-- over activities that commands reach, no more than a history holds, amounts stay within their limit
 pub amounts : Amounts
-amounts opening cmds i r p few =
-    let S = after (opened opening) cmds in
-    let s : AreAllSmall opening (journal opening S.accepted) = all_small opening S.accepted (reached-from (opened opening) cmds r tt) (priced-from (opened opening) cmds p tt) (omega (arith, few-from (opened opening) cmds, few)) in
-    subst (λ o. HasSmallAmounts opening (journal o S.accepted) i) (sym (opening_stays (opened opening) cmds)) (amounts_small opening (journal opening S.accepted) i s)
+amounts opening L i r few = amounts_small opening (journal opening L) i (all_small opening L r few)

@@ -24,7 +24,7 @@ use Rattle.cns_terms.specs.Postings.{Journal, Posting}
 use Rattle.cns_terms.specs.Reached.{IsReached}
 use Rattle.cns_terms.specs.Refusals.{rules}
 use Rattle.cns_terms.specs.Sums.{in_order, long, same_issue}
-use Rattle.cns_terms.proofs.NoticeSteps.{map_each}
+use Rattle.cns_terms.proofs.Facts.{map_each}
 use Rattle.cns_terms.proofs.Sound.{NoneHolds, all_fail}
 
 -- ---- what executions filled
@@ -60,19 +60,8 @@ not_early J n c (Some k) h le = other k.given.day n (day J) (same_issue k.given.
 
 -- an activity that is not refused executes no notice of the open day, nor of the day before it
 none_executed : (opening : Day) (J : Journal) (n : ℕ) (c : Cusip) (x : Activity) → NoneHolds (rules opening J x) → day J ≤ n + 1 → executes J n c x ≡ false
-none_executed opening J n c (activity.Member m) h le = refl
-none_executed opening J n c (activity.Issue l) h le = refl
-none_executed opening J n c (activity.Trade t) h le = refl
-none_executed opening J n c (activity.Price l) h le = refl
-none_executed opening J n c (activity.Deliver m) h le = refl
-none_executed opening J n c (activity.Receive m) h le = refl
-none_executed opening J n c (activity.Dividend d) h le = refl
-none_executed opening J n c (activity.Split s) h le = refl
-none_executed opening J n c (activity.Exchange x) h le = refl
-none_executed opening J n c (activity.Notice m) h le = refl
-none_executed opening J n c (activity.Withdraw k) h le = refl
 none_executed opening J n c (activity.Execute x) h le = not_early J n c (notice_at J x.notice) (all_fail (rules opening J (activity.Execute x)) h).1.1.1.0 le
-none_executed opening J n c (activity.Close d) h le = refl
+none_executed opening J n c _ h le = refl
 
 -- days go on
 pub no_earlier : (b : Bool) (J : Journal) → closes J ≤ length (cond b (J ∷ closings J) (closings J))

@@ -15,7 +15,7 @@ use Rattle.cns_terms.specs.Days.{closed_on, closings, closes, date, day, at_clos
 use Rattle.cns_terms.specs.Entries.{journal}
 use Rattle.cns_terms.specs.Laws.{ClosedDays, journal_of}
 use Rattle.cns_terms.specs.Machine.{State, opened, next, after}
-use Rattle.cns_terms.specs.Sheets.{DaySheet, day_sheet}
+use Rattle.cns_terms.specs.Sheets.{DaySheet, day_sheet, rows_for, sheet_at, statement}
 use Rattle.cns_terms.proofs.Sound.{AreEarlier, IsWhole, opening_stays, whole-after, whole-next}
 
 -- ---- by place
@@ -94,14 +94,16 @@ found_again : (f : Journal → DaySheet) (o o' : Option Journal) (s : DaySheet) 
 found_again f None o' s h e = cc
 found_again f (Some K) o' s h e = ap (option_map f) (h K refl) ∙ e
 
--- whatever is taken later, a closed day keeps its sheet
+-- whatever is taken later, a closed day keeps its sheet and its statements
 pub closed_days : ClosedDays
 closed_days opening cmds more =
     let S = after (opened opening) cmds in
     let stays : S.opening ≡ opening = opening_stays (opened opening) cmds in
     let k : Keeps opening (journal_of S) (journal_of (after S more)) =
     subst (λ o. Keeps o (journal_of S) (journal_of (after S more))) stays (keeps-after S more (subst (λ o. IsWhole o (journal_of S)) (sym stays) (whole-after opening cmds))) in
+    let same : (i : ℕ) → i ≤ closes (journal_of S) → sheet_at opening (journal_of (after S more)) i ≡ sheet_at opening (journal_of S) i = λ i h. ap (day_sheet opening) (k.by_place i h) in
     record {
-      by_place = λ i h. ap (day_sheet opening) (k.by_place i h);
+      by_place = same;
       by_date = λ d s. found_again (day_sheet opening) (closed_on opening (journal_of S) d) (closed_on opening (journal_of (after S more)) d) s (k.by_date d);
+      statements = λ i a h. record { stated = ap (λ s. statement s a) (same i h); rows = ap (λ (s : DaySheet). rows_for s.rows a) (same i h) };
     }

@@ -69,20 +69,20 @@ module _ (opening : Day) (K : Journal) (closed : AllByRecursion (IsLimited openi
 
   -- those that are due in an issue
   due_small : (c : Cusip) (test : Declared → Bool) (ds : List Declared) → AreSmallRates ds
-      → added (λ d. unsigned_abs (paid c d)) (filter (λ d. bytes_eq d.cusip c && test d) ds) ≤ added (λ d. unsigned_abs (cond (true && bytes_eq d.cusip c) (pos cash_limit) (pos 0))) ds
+      → added (λ d. unsigned_abs (paid c d)) (filter (λ d. bytes_eq d.issue c && test d) ds) ≤ added (λ d. unsigned_abs (cond (true && bytes_eq d.issue c) (pos cash_limit) (pos 0))) ds
   due_small c test [] r = omega arith
   due_small c test (d ∷ ds) r =
-      kept_term (λ d. unsigned_abs (paid c d)) (bytes_eq d.cusip c) (test d) d (filter (λ d. bytes_eq d.cusip c && test d) ds) _ (paid_small c d r.0) (due_small c test ds r.1)
+      kept_term (λ d. unsigned_abs (paid c d)) (bytes_eq d.issue c) (test d) d (filter (λ d. bytes_eq d.issue c && test d) ds) _ (paid_small c d r.0) (due_small c test ds r.1)
 
   -- the dividends of a member, over the issues
   member_small : is_rising (slice_cmp nat_cmp) (issues K) ≡ true → AreSmallRates (dividends K) → added (λ c. unsigned_abs (member_dividend opening K c a)) (issues K) ≤ cash_limit * length (dividends K)
   member_small rise rates =
       omega (
         arith,
-        added-more (λ (c : Cusip). unsigned_abs (member_dividend opening K c a)) (λ c. added (λ d. unsigned_abs (cond (true && bytes_eq d.cusip c) (pos cash_limit) (pos 0))) (dividends K)) (issues K) (λ c.
+        added-more (λ (c : Cusip). unsigned_abs (member_dividend opening K c a)) (λ c. added (λ d. unsigned_abs (cond (true && bytes_eq d.issue c) (pos cash_limit) (pos 0))) (dividends K)) (issues K) (λ c.
             omega (arith, total_small (paid c) (due opening K c), due_small c (is_due (last_date opening K) (date opening K)) (dividends K) rates)),
-        added-swap (λ (c : Cusip) (d : Declared). unsigned_abs (cond (true && bytes_eq d.cusip c) (pos cash_limit) (pos 0))) (issues K) (dividends K),
-        added-all (λ (d : Declared). added (λ c. unsigned_abs (cond (true && bytes_eq d.cusip c) (pos cash_limit) (pos 0))) (issues K)) cash_limit (dividends K) (λ d. one_issue true d.cusip (pos cash_limit) (issues K) rise),
+        added-swap (λ (c : Cusip) (d : Declared). unsigned_abs (cond (true && bytes_eq d.issue c) (pos cash_limit) (pos 0))) (issues K) (dividends K),
+        added-all (λ (d : Declared). added (λ c. unsigned_abs (cond (true && bytes_eq d.issue c) (pos cash_limit) (pos 0))) (issues K)) cash_limit (dividends K) (λ d. one_issue true d.issue (pos cash_limit) (issues K) rise),
       )
 
 -- ---- all accounts
@@ -90,18 +90,7 @@ module _ (opening : Day) (K : Journal) (closed : AllByRecursion (IsLimited openi
 -- an activity declares one dividend at most
 few-post : (x : Activity) (es : List Entry) (K : Journal) → length (dividends K) ≤ length K → length (dividends (record { activity = x; entries = es } ∷ K)) ≤ length K + 1
 few-post (activity.Member m) es K h = omega (arith, h)
-few-post (activity.Issue l) es K h = omega (arith, h)
-few-post (activity.Trade t) es K h = omega (arith, h)
-few-post (activity.Price l) es K h = omega (arith, h)
-few-post (activity.Deliver m) es K h = omega (arith, h)
-few-post (activity.Receive m) es K h = omega (arith, h)
-few-post (activity.Dividend d) es K h = omega (arith, h)
-few-post (activity.Split s) es K h = omega (arith, h)
-few-post (activity.Exchange x) es K h = omega (arith, h)
-few-post (activity.Notice m) es K h = omega (arith, h)
-few-post (activity.Withdraw k) es K h = omega (arith, h)
-few-post (activity.Execute x) es K h = omega (arith, h)
-few-post (activity.Close d) es K h = omega (arith, h)
+few-post _ es K h = omega (arith, h)
 
 -- no more dividends than postings
 pub dividends_few : (K : Journal) → length (dividends K) ≤ length K

@@ -51,7 +51,7 @@ abbrev position : ℕ → Command
 position a = command.Position (record { account = a; issue = apple })
 
 abbrev held : ℕ → ℤ → ℤ → ℤ → ℕ → Reply
-held a now opening contract run = reply.Held (record { account = a; issue = apple }) (record { now = now; opening = opening; contract = contract; run = run })
+held a now opening contract run = reply.Held (record { contract = contract; position = now; opening = opening; age = run; key = record { account = a; issue = apple } })
 
 abbrev closed : ℕ → Day → ℕ → Reply
 closed n d rows = reply.Closed (record { day = n; date = d; rows = rows; liable = 0 })

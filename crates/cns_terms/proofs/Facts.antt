@@ -1,7 +1,8 @@
 -- Facts that proofs of several crates use: tests, comparisons, numbers.
-use Rattle.std.proofs.Common.{◌≡◌, ◌∙◌, sym, ap, refl, suc, ℕ, ℤ, pos, ◌+ℤ◌, Bool, true, false, not, ◌&&◌, ◌||◌, cond, eqb, List, [], ◌∷◌, length, Option, Some, arith}
+use Rattle.std.proofs.Common.{◌≡◌, ◌∙◌, sym, ap, refl, suc, ℕ, ℤ, pos, ◌+ℤ◌, Bool, true, false, not, ◌&&◌, ◌||◌, cond, eqb, List, [], ◌∷◌, length, map, Option, Some, arith}
 use Rattle.std.specs.Prelude.{bytes_eq, int_le, int_lt}
 use Rattle.std.specs.Cmp.Lexicographic.{slice_cmp}
+use Rattle.std.specs.List.{AllByRecursion}
 use Rattle.std.specs.Option.{option_map_or}
 use Rattle.std.specs.Ordering.{is_eq, is_lt, nat_cmp}
 use Rattle.std.specs.declared.cmp.Ordering.{Ordering}
@@ -106,3 +107,10 @@ price_branch false l o = refl
 pub journal_len : (opening : Day) (L : List Activity) → length (journal opening L) ≡ length L
 journal_len opening [] = refl
 journal_len opening (x ∷ L) = ap suc (journal_len opening L)
+
+-- ---- lists
+
+-- two functions that agree on each element
+pub map_each : {X Y : Type 0} (f g : X → Y) (xs : List X) → AllByRecursion (λ x. f x ≡ g x) xs → map f xs ≡ map g xs
+map_each f g [] h = refl
+map_each f g (x ∷ xs) h = rw (h.0, map_each f g xs h.1) refl

@@ -32,7 +32,5 @@ pub mod Amounts
 pub mod SheetLimits
 pub mod Examples
 pub mod ActionExamples
-pub mod NoticeSteps
 pub mod BatchSteps
-pub mod SheetShorts
 pub mod BuyInExamples

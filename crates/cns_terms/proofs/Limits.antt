@@ -156,16 +156,11 @@ pub within-post : (opening : Day) (J : Journal) (x : Activity) → NoneHolds (ru
 within-post opening J (activity.Trade t) h whole w = within-whole opening J (activity.Trade t) (all_fail (rules opening J (activity.Trade t)) h).1.1.1.1.1.1.0 w
 within-post opening J (activity.Deliver m) h whole w = within-deliver opening J m h w
 within-post opening J (activity.Receive m) h whole w = within-receive opening J m h w
-within-post opening J (activity.Member k) h whole w = λ a c m. nothing (position J a c) (w a c m)
-within-post opening J (activity.Issue l) h whole w = λ a c m. nothing (position J a c) (w a c m)
-within-post opening J (activity.Price l) h whole w = λ a c m. nothing (position J a c) (w a c m)
-within-post opening J (activity.Dividend d) h whole w = λ a c m. nothing (position J a c) (w a c m)
 within-post opening J (activity.Split s) h whole w = within-whole opening J (activity.Split s) (all_fail (rules opening J (activity.Split s)) h).1.1.0 w
 within-post opening J (activity.Exchange x) h whole w = within-whole opening J (activity.Exchange x) (all_fail (rules opening J (activity.Exchange x)) h).1.1.1.0 w
 within-post opening J (activity.Notice m) h whole w = λ a c m. nothing (position J a c) (w a c m)
-within-post opening J (activity.Withdraw k) h whole w = λ a c m. nothing (position J a c) (w a c m)
 within-post opening J (activity.Execute x) h whole w = within-execute opening J x whole w (notice_at J x.notice) (ready opening J x h)
-within-post opening J (activity.Close d) h whole w = λ a c m. nothing (position J a c) (w a c m)
+within-post opening J _ h whole w = λ a c m. nothing (position J a c) (w a c m)
 
 -- ---- cents
 
@@ -244,13 +239,7 @@ execution_few J x (Some k) some few h = omega (arith, few, execution_cents J x k
 
 -- an activity that is not refused books few cents
 pub booked_few : (opening : Day) (J : Journal) (x : Activity) → IsInRange x → NoneHolds (rules opening J x) → AreFewHolders J → cents_of (posting opening J x) ≤ booking_limit
-booked_few opening J (activity.Member m) r h are = omega arith
-booked_few opening J (activity.Issue l) r h are = omega arith
 booked_few opening J (activity.Trade t) r h are = two_cents t.money (unsigned_abs (neg_ℤ (pos t.money))) r (no_sign t.money)
-booked_few opening J (activity.Price l) r h are = omega arith
-booked_few opening J (activity.Deliver m) r h are = omega arith
-booked_few opening J (activity.Receive m) r h are = omega arith
-booked_few opening J (activity.Dividend d) r h are = omega arith
 booked_few opening J (activity.Split s) r h are =
     let q : Account → ℤ = λ a. position J a s.issue in
     omega (arith, against_few J s.issue s.issue (λ a. converted s.ratio (q a) -ℤ q a) (in_lieu s.ratio s.lieu) holder_limit are (λ z w. omega (arith, lieu_few s.ratio s.lieu z r.0 r.1)))
@@ -261,10 +250,8 @@ booked_few opening J (activity.Exchange x) r h are =
     (added-append (λ (e : Entry). unsigned_abs e.cents) (against_corporation x.old (map (old_entry x q) hs)) (against_corporation x.successor (map (new_entry x q) hs)))
     (against_few J x.old x.old (λ a. neg_ℤ (q a)) (λ z. pos 0) 0 are (λ z w. omega arith))
     (against_few J x.successor x.old (λ a. converted x.ratio (q a)) (in_exchange x.ratio x.lieu x.cash) holder_limit are (λ z w. exchange_few x.ratio x.lieu x.cash z r.0 r.1 r.2 w))
-booked_few opening J (activity.Notice m) r h are = omega arith
-booked_few opening J (activity.Withdraw k) r h are = omega arith
 booked_few opening J (activity.Execute x) r h are = execution_few J x (notice_at J x.notice) r.0 r.2 (ready opening J x h)
-booked_few opening J (activity.Close d) r h are = omega arith
+booked_few opening J _ r h are = omega arith
 
 -- the cents at one place are among them
 at_one_place : (a : Account) (c : Cusip) (es : List Entry) → unsigned_abs (total (cents_for a c) es) ≤ magnitude (λ e. e.cents) es

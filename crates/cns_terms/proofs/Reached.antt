@@ -1,5 +1,5 @@
 -- What is so of each journal that commands reach.
-use Rattle.std.proofs.Common.{◌≡◌, ap, refl, sym, subst, ℕ, ◌+◌, ◌*◌, ◌≤◌, ℤ, pos, ◌+ℤ◌, Bool, true, false, cond, List, [], ◌∷◌, length, is_none, Option, Some, None, arith}
+use Rattle.std.proofs.Common.{◌≡◌, ap, refl, ℕ, ◌+◌, ◌*◌, ◌≤◌, ℤ, pos, ◌+ℤ◌, Bool, true, false, cond, List, [], ◌∷◌, length, is_none, Option, Some, None, arith}
 use Rattle.std.specs.List.{AllByRecursion}
 use Rattle.std.specs.Prelude.{filter_map, unsigned_abs}
 use Rattle.std.specs.Ordering.{is_lt, nat_cmp}
@@ -16,7 +16,7 @@ use Rattle.cns_terms.specs.declared.refusal.Refusal.{Refusal}
 use Rattle.cns_terms.specs.Days.{closings, is_close}
 use Rattle.cns_terms.specs.Dividends.{dividends}
 use Rattle.cns_terms.specs.Entries.{journal, posting}
-use Rattle.cns_terms.specs.Laws.{Bounds, IsBounded, journal_after}
+use Rattle.cns_terms.specs.Laws.{Bounds, IsBounded, Reaches}
 use Rattle.cns_terms.specs.Limits.{booking_limit, corporation_limit, member_limit, position_limit, rate_limit}
 use Rattle.cns_terms.specs.Listings.{account_lt, accounts, added, members}
 use Rattle.cns_terms.specs.Machine.{State, after, next, opened}
@@ -31,7 +31,7 @@ use Rattle.cns_terms.proofs.Everywhere.{each_in_order, each_weaker}
 use Rattle.cns_terms.proofs.Limits.{AreFewHolders, AreWithin, HasFewCents, IsWithin, booked_few, cents-post, cents_of, within-post}
 use Rattle.cns_terms.proofs.Magnitudes.{added as added_up}
 use Rattle.cns_terms.proofs.Rising.{above_all, is_rising}
-use Rattle.cns_terms.proofs.Sound.{IsWhole, NoneHolds, opening_stays, whole-post, whole_nil}
+use Rattle.cns_terms.proofs.Sound.{IsWhole, NoneHolds, whole-post, whole_nil}
 use Rattle.cns_terms.proofs.ZeroSums.{AreBalanced, AreSound, positions_zero, sound_of}
 
 -- the members' numbers are within their limit
@@ -41,18 +41,7 @@ AreNumbered J = AllByRecursion (λ a. a ≤ member_limit) (filter_map added (act
 -- an activity in its ranges keeps them so
 numbered-post : (opening : Day) (J : Journal) (x : Activity) → IsInRange x → AreNumbered J → AreNumbered (posting opening J x ∷ J)
 numbered-post opening J (activity.Member m) n h = (n, h)
-numbered-post opening J (activity.Issue l) n h = h
-numbered-post opening J (activity.Trade t) n h = h
-numbered-post opening J (activity.Price l) n h = h
-numbered-post opening J (activity.Deliver m) n h = h
-numbered-post opening J (activity.Receive m) n h = h
-numbered-post opening J (activity.Dividend d) n h = h
-numbered-post opening J (activity.Split s) n h = h
-numbered-post opening J (activity.Exchange x) n h = h
-numbered-post opening J (activity.Notice m) n h = h
-numbered-post opening J (activity.Withdraw k) n h = h
-numbered-post opening J (activity.Execute x) n h = h
-numbered-post opening J (activity.Close d) n h = h
+numbered-post opening J _ n h = h
 
 -- the rates of the dividends are within their limit
 abbrev pub AreSmallRates : List Declared → Type 0
@@ -60,19 +49,8 @@ AreSmallRates ds = AllByRecursion (λ d. d.rate ≤ rate_limit) ds
 
 -- and an activity in its ranges keeps them so
 rates-post : (opening : Day) (J : Journal) (x : Activity) → IsInRange x → AreSmallRates (dividends J) → AreSmallRates (dividends (posting opening J x ∷ J))
-rates-post opening J (activity.Member m) n h = h
-rates-post opening J (activity.Issue l) n h = h
-rates-post opening J (activity.Trade t) n h = h
-rates-post opening J (activity.Price l) n h = h
-rates-post opening J (activity.Deliver m) n h = h
-rates-post opening J (activity.Receive m) n h = h
 rates-post opening J (activity.Dividend d) n h = (n, h)
-rates-post opening J (activity.Split s) n h = h
-rates-post opening J (activity.Exchange x) n h = h
-rates-post opening J (activity.Notice m) n h = h
-rates-post opening J (activity.Withdraw k) n h = h
-rates-post opening J (activity.Execute x) n h = h
-rates-post opening J (activity.Close d) n h = h
+rates-post opening J _ n h = h
 
 -- a journal that commands reach is sound and balanced, and members' numbers, their positions, cents and rates are within their limits
 pub record IsLimited (opening : Day) (J : Journal) : Type 0 where
@@ -193,22 +171,15 @@ reached-next S (command.Activity x) n r = reached_if S.opening S.accepted x n r 
 reached-next S (command.Position k) n r = r
 reached-next S (command.Statement a d) n r = r
 
+-- and so do commands
 pub reached-from : (S : State) (cmds : List Command) → AllByRecursion IsCommandInRange cmds → IsReached S.opening S.accepted → IsReached S.opening (after S cmds).accepted
 reached-from S [] n r = r
 reached-from S (cmd ∷ cmds) n r = reached-from (next S cmd) cmds n.1 (reached-next S cmd n.0 r)
 
--- so is the journal after any commands in their ranges
-pub limited-after : (opening : Day) (cmds : List Command) → AllByRecursion IsCommandInRange cmds → IsLimited opening (journal_after opening cmds)
-limited-after opening cmds n =
-    let S = after (opened opening) cmds in
-    subst (λ o. IsLimited opening (journal o S.accepted)) (sym (opening_stays (opened opening) cmds)) (limited opening S.accepted (reached-from (opened opening) cmds n tt))
+-- what commands in their ranges reach
+pub reaches : Reaches
+reaches opening cmds n = reached-from (opened opening) cmds n tt
 
--- and so was it at each close
-pub limited_past-after : (opening : Day) (cmds : List Command) → AllByRecursion IsCommandInRange cmds → AllByRecursion (IsLimited opening) (closings (journal_after opening cmds))
-limited_past-after opening cmds n =
-    let S = after (opened opening) cmds in
-    subst (λ o. AllByRecursion (IsLimited opening) (closings (journal o S.accepted))) (sym (opening_stays (opened opening) cmds)) (limited_past opening S.accepted (reached-from (opened opening) cmds n tt))
-
--- after any commands in their ranges, positions stay within their limits
+-- over activities that commands reach, positions stay within their limits
 pub bounds : Bounds
-bounds opening cmds c n = bounded opening (journal_after opening cmds) c (limited-after opening cmds n)
+bounds opening L c r = bounded opening (journal opening L) c (limited opening L r)

@@ -124,17 +124,7 @@ put_len c (d ∷ cs) = put_branch (issue_lt c d) c d cs (put issue_lt c cs) (put
 issues-post : (x : Activity) (es : List Entry) (K : Journal) → length (issues K) ≤ length K → length (issues (record { activity = x; entries = es } ∷ K)) ≤ length K + 1
 issues-post (activity.Issue l) es K h = omega (arith, put_len l.issue (issues K), h)
 issues-post (activity.Member m) es K h = omega (arith, h)
-issues-post (activity.Trade t) es K h = omega (arith, h)
-issues-post (activity.Price l) es K h = omega (arith, h)
-issues-post (activity.Deliver m) es K h = omega (arith, h)
-issues-post (activity.Receive m) es K h = omega (arith, h)
-issues-post (activity.Dividend d) es K h = omega (arith, h)
-issues-post (activity.Split s) es K h = omega (arith, h)
-issues-post (activity.Exchange x) es K h = omega (arith, h)
-issues-post (activity.Notice m) es K h = omega (arith, h)
-issues-post (activity.Withdraw k) es K h = omega (arith, h)
-issues-post (activity.Execute x) es K h = omega (arith, h)
-issues-post (activity.Close d) es K h = omega (arith, h)
+issues-post _ es K h = omega (arith, h)
 
 -- no more issues than postings
 pub issues_few : (K : Journal) → length (issues K) ≤ length K

@@ -125,12 +125,12 @@ total-kept f p (x ∷ xs) = by (p x) (total-kept f p xs)
     by false h = omega (arith, ints, h)
 
 -- of what is due, that of one issue
-pub total-due : (f : Declared → ℤ) (p : Declared → Bool) (c : Cusip) (ds : List Declared) → total (λ d. cond (bytes_eq c d.cusip) (f d) (pos 0)) (filter p (in_order pays_before ds)) ≡ total f (filter (λ d. bytes_eq d.cusip c && p d) ds)
+pub total-due : (f : Declared → ℤ) (p : Declared → Bool) (c : Cusip) (ds : List Declared) → total (λ d. cond (bytes_eq c d.issue) (f d) (pos 0)) (filter p (in_order pays_before ds)) ≡ total f (filter (λ d. bytes_eq d.issue c && p d) ds)
 total-due f p c ds =
-    total-kept (λ (d : Declared). cond (bytes_eq c d.cusip) (f d) (pos 0)) p (in_order pays_before ds)
-    ∙ total-in_order (λ (d : Declared). cond (p d) (cond (bytes_eq c d.cusip) (f d) (pos 0)) (pos 0)) pays_before ds
+    total-kept (λ (d : Declared). cond (bytes_eq c d.issue) (f d) (pos 0)) p (in_order pays_before ds)
+    ∙ total-in_order (λ (d : Declared). cond (p d) (cond (bytes_eq c d.issue) (f d) (pos 0)) (pos 0)) pays_before ds
     ∙ (λ i. total (λ d. same d i) ds)
-    ∙ sym (total-kept f (λ d. bytes_eq d.cusip c && p d) ds)
+    ∙ sym (total-kept f (λ d. bytes_eq d.issue c && p d) ds)
   where
     by : (b t : Bool) (z : ℤ) → cond b (cond t z (pos 0)) (pos 0) ≡ cond (t && b) z (pos 0)
     by true true z = refl
@@ -138,8 +138,8 @@ total-due f p c ds =
     by false true z = refl
     by false false z = refl
 
-    same : (d : Declared) → cond (p d) (cond (bytes_eq c d.cusip) (f d) (pos 0)) (pos 0) ≡ cond (bytes_eq d.cusip c && p d) (f d) (pos 0)
-    same d = by (p d) (bytes_eq c d.cusip) (f d) ∙ ap (λ t. cond (t && p d) (f d) (pos 0)) (nat_list_eq_equiv.symm c d.cusip)
+    same : (d : Declared) → cond (p d) (cond (bytes_eq c d.issue) (f d) (pos 0)) (pos 0) ≡ cond (bytes_eq d.issue c && p d) (f d) (pos 0)
+    same d = by (p d) (bytes_eq c d.issue) (f d) ∙ ap (λ t. cond (t && p d) (f d) (pos 0)) (nat_list_eq_equiv.symm c d.issue)
 
 -- one more, or not
 kept_len : {X : Type 0} (b : Bool) (x : X) (xs : List X) (n : ℕ) → length xs ≤ n → length (cond b (x ∷ xs) xs) ≤ suc n

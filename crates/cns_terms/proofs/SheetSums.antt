@@ -16,12 +16,13 @@ use Rattle.cns_terms.specs.Listings.{accounts, issues, price}
 use Rattle.cns_terms.specs.Marks.{mark}
 use Rattle.cns_terms.specs.Dividends.{dividend}
 use Rattle.cns_terms.specs.Sheets.{DaySheet, day_sheet, row, is_idle, rows_of}
-use Rattle.cns_terms.specs.Laws.{AddsUpToZero, Positions, ZeroSums, journal_after}
+use Rattle.cns_terms.specs.Laws.{AddsUpToZero, Positions, ZeroSums}
 use Rattle.cns_terms.proofs.Paid.{dividends_zero}
 use Rattle.cns_terms.proofs.Totals.{total-append, total-same, total-zero, total-swap}
 use Rattle.cns_terms.proofs.Everywhere.{each_found}
 use Rattle.cns_terms.proofs.ZeroSums.{AreSound, cents_zero, marks_zero, positions_zero, sound_open_day}
-use Rattle.cns_terms.proofs.Reached.{IsLimited, limited-after, limited_nil, limited_past-after, sound_journal}
+use Rattle.cns_terms.specs.Entries.{journal}
+use Rattle.cns_terms.proofs.Reached.{IsLimited, limited, limited_nil, limited_past, sound_journal}
 
 pub total-flat_map : {X Y : Type 0} (f : Y → ℤ) (g : X → List Y) (xs : List X) → total f (flat_map g xs) ≡ total (λ x. total f (g x)) xs
 total-flat_map f g [] = refl
@@ -97,11 +98,11 @@ of_found : (opening : Day) (o : Option Journal) (s : DaySheet) → IsLimited ope
 of_found opening None s l e = cc
 of_found opening (Some K) s l e = let is : day_sheet opening K ≡ s = cc in subst AddsUpToZero is (sheet_zero opening K l)
 
--- after any commands the sheet of each closed day adds up to zero
+-- over activities that commands reach, the sheet of each closed day adds up to zero
 pub zero_sums : ZeroSums
-zero_sums opening cmds n =
-    let J : Journal = journal_after opening cmds in
-    let past = limited_past-after opening cmds n in
+zero_sums opening L r =
+    let J : Journal = journal opening L in
+    let past = limited_past opening L r in
     record {
       by_place = λ i. sheet_zero opening (at_close J i) (each_found (IsLimited opening) (λ K. day K == i) [] (closings J) limited_nil past);
       by_date = λ d s. of_found opening (closed_on opening J d) s (each_found (IsLimited opening) (λ K. is_same_day (date opening K) d) [] (closings J) limited_nil past);
@@ -109,9 +110,9 @@ zero_sums opening cmds n =
 
 -- and the positions of all accounts in each issue do, with the open day's cents
 pub positions_balanced : Positions
-positions_balanced opening cmds c n =
-    let J : Journal = journal_after opening cmds in
-    let sound = sound_journal opening J (limited-after opening cmds n) in
+positions_balanced opening L c r =
+    let J : Journal = journal opening L in
+    let sound = sound_journal opening J (limited opening L r) in
     record {
       shares = positions_zero (accounts J) c J sound;
       cents = cents_zero (accounts J) c (open_day J) (sound_open_day (accounts J) J sound);

@@ -23,7 +23,7 @@ use Rattle.cns_terms.specs.Days.{at_close, closings, date, day, is_close, last_c
 use Rattle.cns_terms.specs.Conversions.{converted, in_exchange, in_lieu}
 use Rattle.cns_terms.specs.Entries.{against_corporation, corporation, entries, entry, execution_entries, fill_entry, holders, journal, new_entry, old_entry, posting}
 use Rattle.cns_terms.specs.Fills.{fills}
-use Rattle.cns_terms.specs.Laws.{journal_after, journal_of}
+use Rattle.cns_terms.specs.Laws.{journal_of}
 use Rattle.cns_terms.specs.Listings.{accounts, is_listed, issue_lt, is_member, issues, members, price, priced}
 use Rattle.cns_terms.specs.Machine.{State, next, after, opened}
 use Rattle.cns_terms.specs.Notices.{Notice, notice, notice_at, notices}
@@ -160,20 +160,16 @@ executed_in J x None h = tt
 executed_in J x (Some k) h = (h.0, each_map (λ (e : Entry). IsIn J e.account) (fill_entry k) (fills J x k) (fills_each (IsIn J) J x k (closed_in J k.given.day)))
 
 entries_in : (opening : Day) (J : Journal) (x : Activity) → IsSound J → NoneHolds (rules opening J x) → AreIn J (entries opening J x)
-entries_in opening J (activity.Member m) s h = tt
-entries_in opening J (activity.Issue l) s h = tt
 entries_in opening J (activity.Trade t) s h =
     let fails = all_fail (rules opening J (activity.Trade t)) h in
     let both = both_hold (is_member J t.buyer) (is_member J t.seller) fails.0 in
     (member_in J t.buyer both.0, (member_in J t.seller both.1, tt))
-entries_in opening J (activity.Price l) s h = tt
 entries_in opening J (activity.Deliver m) s h =
     let fails = all_fail (rules opening J (activity.Deliver m)) h in
     (member_in J m.member (holds (is_member J m.member) fails.0), (zero_in J, tt))
 entries_in opening J (activity.Receive m) s h =
     let fails = all_fail (rules opening J (activity.Receive m)) h in
     (member_in J m.member (holds (is_member J m.member) fails.0), (zero_in J, tt))
-entries_in opening J (activity.Dividend d) s h = tt
 entries_in opening J (activity.Split s) w h =
     let q : Account → ℤ = λ a. position J a s.issue in
     against_in J s.issue (λ a. converted s.ratio (q a) -ℤ q a) (λ a. in_lieu s.ratio s.lieu (q a)) q
@@ -183,10 +179,8 @@ entries_in opening J (activity.Exchange x) s h =
     each_append (λ (e : Entry). IsIn J e.account) (against_corporation x.old (map (old_entry x q) hs)) (against_corporation x.successor (map (new_entry x q) hs))
     (against_in J x.old (λ a. neg_ℤ (q a)) (λ a. pos 0) q)
     (against_in J x.successor (λ a. converted x.ratio (q a)) (λ a. in_exchange x.ratio x.lieu x.cash (q a)) q)
-entries_in opening J (activity.Notice m) s h = tt
-entries_in opening J (activity.Withdraw k) s h = tt
 entries_in opening J (activity.Execute x) s h = executed_in J x (notice_at J x.notice) (each_named (IsNoticed J) (λ n. n.number == x.notice) (notices J) s.noticed)
-entries_in opening J (activity.Close d) s h = tt
+entries_in opening J _ s h = tt
 
 -- ---- one more activity
 
@@ -210,18 +204,7 @@ distinct-post opening J (activity.Member m) s h a =
     let missing : occurs m (accounts J) ≡ 0 = occurs_missing m (accounts J) fails.0 in
     let d = s.distinct a in
     rw (occurs-put a m (members J)) (added_once (a == m) (cond (a == 0) 1 0) (occurs a (members J)) d (λ e. ap (λ k. occurs k (accounts J)) (eqb-true a m e) ∙ missing))
-distinct-post opening J (activity.Issue l) s h a = s.distinct a
-distinct-post opening J (activity.Trade t) s h a = s.distinct a
-distinct-post opening J (activity.Price l) s h a = s.distinct a
-distinct-post opening J (activity.Deliver m) s h a = s.distinct a
-distinct-post opening J (activity.Receive m) s h a = s.distinct a
-distinct-post opening J (activity.Dividend d) s h a = s.distinct a
-distinct-post opening J (activity.Split x) s h a = s.distinct a
-distinct-post opening J (activity.Exchange x) s h a = s.distinct a
-distinct-post opening J (activity.Notice m) s h a = s.distinct a
-distinct-post opening J (activity.Withdraw k) s h a = s.distinct a
-distinct-post opening J (activity.Execute x) s h a = s.distinct a
-distinct-post opening J (activity.Close d) s h a = s.distinct a
+distinct-post opening J _ s h a = s.distinct a
 
 -- ---- one more activity: the order, and listed issues
 
@@ -235,51 +218,20 @@ accounts-post opening J (activity.Member m) s h =
     both_true _ _
     (above_put nat_cmp_total corporation m (members J) (first_account m apart.0) (and_left _ _ s.accounts_rise))
     (rising_put nat_cmp_total m (members J) (and_right _ _ s.accounts_rise) ((λ i. list_any (λ b. nat_eq_test m b i) (members J)) ∙ apart.1))
-accounts-post opening J (activity.Issue l) s h = s.accounts_rise
-accounts-post opening J (activity.Trade t) s h = s.accounts_rise
-accounts-post opening J (activity.Price l) s h = s.accounts_rise
-accounts-post opening J (activity.Deliver m) s h = s.accounts_rise
-accounts-post opening J (activity.Receive m) s h = s.accounts_rise
-accounts-post opening J (activity.Dividend d) s h = s.accounts_rise
-accounts-post opening J (activity.Split x) s h = s.accounts_rise
-accounts-post opening J (activity.Exchange x) s h = s.accounts_rise
-accounts-post opening J (activity.Notice m) s h = s.accounts_rise
-accounts-post opening J (activity.Withdraw k) s h = s.accounts_rise
-accounts-post opening J (activity.Execute x) s h = s.accounts_rise
-accounts-post opening J (activity.Close d) s h = s.accounts_rise
+accounts-post opening J _ s h = s.accounts_rise
 
 issues-post : (opening : Day) (J : Journal) (x : Activity) → IsSound J → NoneHolds (rules opening J x) → is_rising (slice_cmp nat_cmp) (issues (posting opening J x ∷ J)) ≡ true
 issues-post opening J (activity.Issue l) s h =
     let fails = all_fail (rules opening J (activity.Issue l)) h in
     rising_put nat_list_cmp_total l.issue (issues J) s.issues_rise ((λ i. list_any (λ d. same_test l.issue d i) (issues J)) ∙ fails.0)
 issues-post opening J (activity.Member m) s h = s.issues_rise
-issues-post opening J (activity.Trade t) s h = s.issues_rise
-issues-post opening J (activity.Price l) s h = s.issues_rise
-issues-post opening J (activity.Deliver m) s h = s.issues_rise
-issues-post opening J (activity.Receive m) s h = s.issues_rise
-issues-post opening J (activity.Dividend d) s h = s.issues_rise
-issues-post opening J (activity.Split x) s h = s.issues_rise
-issues-post opening J (activity.Exchange x) s h = s.issues_rise
-issues-post opening J (activity.Notice m) s h = s.issues_rise
-issues-post opening J (activity.Withdraw k) s h = s.issues_rise
-issues-post opening J (activity.Execute x) s h = s.issues_rise
-issues-post opening J (activity.Close d) s h = s.issues_rise
+issues-post opening J _ s h = s.issues_rise
 
 -- an issue stays listed
 pub listed-post : (opening : Day) (J : Journal) (x : Activity) (c : Cusip) → is_listed J c ≡ true → is_listed (posting opening J x ∷ J) c ≡ true
 listed-post opening J (activity.Issue l) c h = any_put (λ d. bytes_eq d c) issue_lt l.issue (issues J) ∙ or_right (bytes_eq l.issue c) (is_listed J c) h
 listed-post opening J (activity.Member m) c h = h
-listed-post opening J (activity.Trade t) c h = h
-listed-post opening J (activity.Price l) c h = h
-listed-post opening J (activity.Deliver m) c h = h
-listed-post opening J (activity.Receive m) c h = h
-listed-post opening J (activity.Dividend d) c h = h
-listed-post opening J (activity.Split s) c h = h
-listed-post opening J (activity.Exchange x) c h = h
-listed-post opening J (activity.Notice m) c h = h
-listed-post opening J (activity.Withdraw k) c h = h
-listed-post opening J (activity.Execute x) c h = h
-listed-post opening J (activity.Close d) c h = h
+listed-post opening J _ c h = h
 
 -- what holds anyway holds of each of a list
 each_anyway : {X : Type 0} (P : Type 0) (xs : List X) → P → AllByRecursion (λ x. P) xs
@@ -296,19 +248,15 @@ executed_listed J x None h = tt
 executed_listed J x (Some k) h = (h.1, each_map (λ e. is_listed J e.issue ≡ true) (fill_entry k) (fills J x k) (each_anyway (is_listed J k.given.issue ≡ true) (fills J x k) h.1))
 
 entries_listed : (opening : Day) (J : Journal) (x : Activity) → IsSound J → NoneHolds (rules opening J x) → AreOfListed J (entries opening J x)
-entries_listed opening J (activity.Member m) s h = tt
-entries_listed opening J (activity.Issue l) s h = tt
 entries_listed opening J (activity.Trade t) s h =
     let listed = holds (is_listed J t.issue) (all_fail (rules opening J (activity.Trade t)) h).1.0 in
     (listed, (listed, tt))
-entries_listed opening J (activity.Price l) s h = tt
 entries_listed opening J (activity.Deliver m) s h =
     let listed = holds (is_listed J m.issue) (all_fail (rules opening J (activity.Deliver m)) h).1.0 in
     (listed, (listed, tt))
 entries_listed opening J (activity.Receive m) s h =
     let listed = holds (is_listed J m.issue) (all_fail (rules opening J (activity.Receive m)) h).1.0 in
     (listed, (listed, tt))
-entries_listed opening J (activity.Dividend d) s h = tt
 entries_listed opening J (activity.Split s) w h =
     let listed = holds (is_listed J s.issue) (all_fail (rules opening J (activity.Split s)) h).0 in
     let q : Account → ℤ = λ a. position J a s.issue in
@@ -320,10 +268,8 @@ entries_listed opening J (activity.Exchange x) s h =
     each_append (λ (e : Entry). is_listed J e.issue ≡ true) (against_corporation x.old (map (old_entry x q) hs)) (against_corporation x.successor (map (new_entry x q) hs))
     (against_listed J x.old (λ a. neg_ℤ (q a)) (λ a. pos 0) hs both.0)
     (against_listed J x.successor (λ a. converted x.ratio (q a)) (λ a. in_exchange x.ratio x.lieu x.cash (q a)) hs both.1)
-entries_listed opening J (activity.Notice m) s h = tt
-entries_listed opening J (activity.Withdraw k) s h = tt
 entries_listed opening J (activity.Execute x) s h = executed_listed J x (notice_at J x.notice) (each_named (IsNoticed J) (λ n. n.number == x.notice) (notices J) s.noticed)
-entries_listed opening J (activity.Close d) s h = tt
+entries_listed opening J _ s h = tt
 
 still_listed : (opening : Day) (J : Journal) (x : Activity) (es : List Entry) → AreOfListed J es → AreOfListed (posting opening J x ∷ J) es
 still_listed opening J x es h = each_weaker (λ (e : Entry). is_listed J e.issue ≡ true) (λ e. is_listed (posting opening J x ∷ J) e.issue ≡ true) es (λ e p. listed-post opening J x e.issue p) h
@@ -342,72 +288,30 @@ unpriced-post opening J (activity.Price l) s h c none =
     price_branch (bytes_eq l.issue c) l (find (λ l. bytes_eq l.issue c) (filter_map priced (activities J)))
     ∙ unpriced_if (bytes_eq l.issue c) (is_listed J c) l.price (price J c) (λ e. ap (is_listed J) (sym ((bytes_eq-Decides l.issue c).0 e)) ∙ listed) none (s.unpriced c)
 unpriced-post opening J (activity.Member m) s h c none = s.unpriced c none
-unpriced-post opening J (activity.Trade t) s h c none = s.unpriced c none
-unpriced-post opening J (activity.Deliver m) s h c none = s.unpriced c none
-unpriced-post opening J (activity.Receive m) s h c none = s.unpriced c none
-unpriced-post opening J (activity.Dividend d) s h c none = s.unpriced c none
-unpriced-post opening J (activity.Split x) s h c none = s.unpriced c none
-unpriced-post opening J (activity.Exchange x) s h c none = s.unpriced c none
-unpriced-post opening J (activity.Notice m) s h c none = s.unpriced c none
-unpriced-post opening J (activity.Withdraw k) s h c none = s.unpriced c none
-unpriced-post opening J (activity.Execute x) s h c none = s.unpriced c none
-unpriced-post opening J (activity.Close d) s h c none = s.unpriced c none
+unpriced-post opening J _ s h c none = s.unpriced c none
 
 -- notices stay as they were given
 still_noticed : (opening : Day) (J : Journal) (x : Activity) → IsSound J → AllByRecursion (IsNoticed (posting opening J x ∷ J)) (notices J)
 still_noticed opening J x s = each_weaker (IsNoticed J) (IsNoticed (posting opening J x ∷ J)) (notices J) (λ n p. (omega (arith, p.0, grown-post (posting opening J x) J n.given.member), listed-post opening J x n.given.issue p.1)) s.noticed
 
 noticed-post : (opening : Day) (J : Journal) (x : Activity) → IsSound J → NoneHolds (rules opening J x) → AllByRecursion (IsNoticed (posting opening J x ∷ J)) (notices (posting opening J x ∷ J))
-noticed-post opening J (activity.Member m) s h = still_noticed opening J (activity.Member m) s
-noticed-post opening J (activity.Issue l) s h = still_noticed opening J (activity.Issue l) s
-noticed-post opening J (activity.Trade t) s h = still_noticed opening J (activity.Trade t) s
-noticed-post opening J (activity.Price l) s h = still_noticed opening J (activity.Price l) s
-noticed-post opening J (activity.Deliver m) s h = still_noticed opening J (activity.Deliver m) s
-noticed-post opening J (activity.Receive m) s h = still_noticed opening J (activity.Receive m) s
-noticed-post opening J (activity.Dividend d) s h = still_noticed opening J (activity.Dividend d) s
-noticed-post opening J (activity.Split x) s h = still_noticed opening J (activity.Split x) s
-noticed-post opening J (activity.Exchange x) s h = still_noticed opening J (activity.Exchange x) s
 noticed-post opening J (activity.Notice m) s h =
     let x : Activity = activity.Notice m in
     let fails = all_fail (rules opening J x) h in
     let member = member_in J m.member (holds (is_member J m.member) fails.0) in
     each_append (IsNoticed (posting opening J x ∷ J)) (notices J) (notice (length (notices J) + 1) (day J) m ∷ []) (still_noticed opening J x s)
     ((omega (arith, member, grown-post (posting opening J x) J m.member), listed-post opening J x m.issue (holds (is_listed J m.issue) fails.1.0)), tt)
-noticed-post opening J (activity.Withdraw k) s h = still_noticed opening J (activity.Withdraw k) s
-noticed-post opening J (activity.Execute x) s h = still_noticed opening J (activity.Execute x) s
-noticed-post opening J (activity.Close d) s h = still_noticed opening J (activity.Close d) s
+noticed-post opening J x s h = still_noticed opening J x s
 
 past-post : (opening : Day) (J : Journal) (x : Activity) → IsWhole opening J → AllByRecursion IsSound (closings (posting opening J x ∷ J))
-past-post opening J (activity.Member m) w = w.past
-past-post opening J (activity.Issue l) w = w.past
-past-post opening J (activity.Trade t) w = w.past
-past-post opening J (activity.Price l) w = w.past
-past-post opening J (activity.Deliver m) w = w.past
-past-post opening J (activity.Receive m) w = w.past
-past-post opening J (activity.Dividend d) w = w.past
-past-post opening J (activity.Split s) w = w.past
-past-post opening J (activity.Exchange x) w = w.past
-past-post opening J (activity.Notice m) w = w.past
-past-post opening J (activity.Withdraw k) w = w.past
-past-post opening J (activity.Execute x) w = w.past
 past-post opening J (activity.Close d) w = (w.now, w.past)
+past-post opening J _ w = w.past
 
 earlier-post : (opening : Day) (J : Journal) (x : Activity) → IsWhole opening J → NoneHolds (rules opening J x) → AreEarlier opening (posting opening J x ∷ J)
-earlier-post opening J (activity.Member m) w h = w.earlier
-earlier-post opening J (activity.Issue l) w h = w.earlier
-earlier-post opening J (activity.Trade t) w h = w.earlier
-earlier-post opening J (activity.Price l) w h = w.earlier
-earlier-post opening J (activity.Deliver m) w h = w.earlier
-earlier-post opening J (activity.Receive m) w h = w.earlier
-earlier-post opening J (activity.Dividend d) w h = w.earlier
-earlier-post opening J (activity.Split s) w h = w.earlier
-earlier-post opening J (activity.Exchange x) w h = w.earlier
-earlier-post opening J (activity.Notice m) w h = w.earlier
-earlier-post opening J (activity.Withdraw k) w h = w.earlier
-earlier-post opening J (activity.Execute x) w h = w.earlier
 earlier-post opening J (activity.Close d) w h =
     let next = later (day_number d) (day_number (date opening J)) (all_fail (rules opening J (activity.Close d)) h).0 in
     (next, each_weaker (λ K. int_lt (day_number (date opening K)) (day_number (date opening J)) ≡ true) (λ K. int_lt (day_number (date opening K)) (day_number d) ≡ true) (closings J) (λ K e. less_less (day_number (date opening K)) _ _ e next) w.earlier)
+earlier-post opening J _ w h = w.earlier
 
 -- one accepted activity keeps the journal sound
 pub whole-post : (opening : Day) (J : Journal) (x : Activity) → IsWhole opening J → NoneHolds (rules opening J x) → IsWhole opening (posting opening J x ∷ J)
@@ -456,7 +360,7 @@ whole_from S [] w = w
 whole_from S (cmd ∷ cmds) w = whole_from (next S cmd) cmds (whole-next S cmd w)
 
 -- whatever commands are taken from the opening date on, the journal is sound
-pub whole-after : (opening : Day) (cmds : List Command) → IsWhole opening (journal_after opening cmds)
+pub whole-after : (opening : Day) (cmds : List Command) → IsWhole opening (journal_of (after (opened opening) cmds))
 whole-after opening cmds = whole_from (opened opening) cmds whole_nil
 
 -- the journal as the last close found it is sound

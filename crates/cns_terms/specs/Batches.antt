@@ -1,11 +1,9 @@
 -- Retransmittal: the members that are liable for the notices of a day.
-use Rattle.std.specs.Prelude.{ℕ, ◌+◌, pos, int_lt, Bool, ◌&&◌, ◌||◌, ◌==◌, nat_lt, List, ◌∷◌, Option, Some, None, filter, flat_map, map, sum_by, if◌then◌else◌}
-use Rattle.cns_units.specs.declared.account.Account.{Account}
+use Rattle.std.specs.Prelude.{ℕ, Bool, ◌&&◌, ◌||◌, ◌==◌, nat_lt, List, ◌∷◌, filter, flat_map, map, sum_by, if◌then◌else◌}
 use Rattle.cns_units.specs.declared.account.Member.{Member}
 use Rattle.cns_units.specs.declared.cusip.Cusip.{Cusip}
 use Rattle.cns_terms.specs.declared.buy_in.Liable.{Liable}
 use Rattle.cns_terms.specs.declared.buy_in.Short.{Short}
-use Rattle.cns_terms.specs.declared.sheet.Row.{Row}
 use Rattle.cns_terms.specs.Sums.{in_order, same_issue, short}
 use Rattle.cns_terms.specs.Postings.{Journal}
 use Rattle.cns_terms.specs.Days.{closings, day}
@@ -38,7 +36,7 @@ chosen ss called = map liable_of (filter (is_called ss called) (in_order fills_b
 
 -- a batch: an issue, and the members that are liable in it, in the order of filling
 pub record Liables : Type 0 where
-  pub cusip : Cusip
+  pub issue : Cusip
   pub members : List Liable
 
 -- ---- the batches of a day
@@ -62,17 +60,3 @@ batch_at K c = chosen (shorts K c) (called K c)
 -- the members that are liable by that close, by issue and then in the order of filling
 abbrev pub liable_at : Journal → List Liable
 liable_at K = flat_map (batch_at K) (issues K)
-
--- ---- shorts read off a sheet
-
--- whether a row is a member's that closes short in the issue
-abbrev pub is_short_in : Cusip → Row → Bool
-is_short_in c r = nat_lt 0 r.account && (int_lt r.closing (pos 0) && same_issue r.issue c)
-
--- the short of a row, with an age before its close
-abbrev pub short_at : (Account → Cusip → ℕ) → Row → Short
-short_at age r = record { member = r.account; shares = short r.closing; age = age r.account r.issue + 1 }
-
--- the short of a row, if it is a member's that closes short in the issue
-abbrev pub short_in : (Account → Cusip → ℕ) → Cusip → Row → Option Short
-short_in age c r = if is_short_in c r then Some (short_at age r) else None

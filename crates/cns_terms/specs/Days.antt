@@ -17,19 +17,8 @@ is_not_after d e = int_le (day_number d) (day_number e)
 
 -- the date that a CLOSE names
 abbrev pub next_date : Activity → Option Day
-next_date (activity.Member m) = None
-next_date (activity.Issue l) = None
-next_date (activity.Trade t) = None
-next_date (activity.Price l) = None
-next_date (activity.Deliver m) = None
-next_date (activity.Receive m) = None
-next_date (activity.Dividend d) = None
-next_date (activity.Split s) = None
-next_date (activity.Exchange x) = None
-next_date (activity.Notice m) = None
-next_date (activity.Withdraw k) = None
-next_date (activity.Execute x) = None
 next_date (activity.Close d) = Some d
+next_date _ = None
 
 -- whether an activity ends a day
 abbrev pub is_close : Activity → Bool

@@ -18,19 +18,8 @@ use Rattle.cns_terms.specs.Entries.{corporation}
 
 -- the dividend that an activity declares
 abbrev pub declared : Activity → Option Declared
-declared (activity.Member m) = None
-declared (activity.Issue l) = None
-declared (activity.Trade t) = None
-declared (activity.Price l) = None
-declared (activity.Deliver m) = None
-declared (activity.Receive m) = None
 declared (activity.Dividend d) = Some d
-declared (activity.Split s) = None
-declared (activity.Exchange x) = None
-declared (activity.Notice m) = None
-declared (activity.Withdraw k) = None
-declared (activity.Execute x) = None
-declared (activity.Close d) = None
+declared _ = None
 
 -- the dividends that were declared, the newest first
 abbrev pub dividends : Journal → List Declared
@@ -54,7 +43,7 @@ last_date opening K = option_map (date opening) (slice_get (closings K) 0)
 
 -- the dividends in an issue that are paid at the close that found the journal so
 abbrev pub due : Day → Journal → Cusip → List Declared
-due opening K c = filter (λ d. same_issue d.cusip c && is_due (last_date opening K) (date opening K) d) (dividends K)
+due opening K c = filter (λ d. same_issue d.issue c && is_due (last_date opening K) (date opening K) d) (dividends K)
 
 -- the journal as the last close dated on or before the day found it; empty where there is none
 abbrev pub as_of : Day → Journal → Day → Journal

@@ -87,7 +87,7 @@ fills J x k = fills_of (λ a. short (position J a k.given.issue)) x.shares x.mon
 
 -- the batches that a close chose, by issue: those in which somebody is
 abbrev pub batches_since : Journal → Journal → List Liables
-batches_since J K = filter (λ b. nat_lt 0 (length b.members)) (map (λ c. record { cusip = c; members = batch_since J K c }) (issues K))
+batches_since J K = filter (λ b. nat_lt 0 (length b.members)) (map (λ c. record { issue = c; members = batch_since J K c }) (issues K))
 
 -- the batches of a day
 abbrev pub batches : Journal → ℕ → List Liables

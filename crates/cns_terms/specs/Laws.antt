@@ -5,6 +5,7 @@ use Rattle.std.specs.Option.{option_map_or}
 use Rattle.cns_units.specs.declared.account.Account.{Account}
 use Rattle.cns_units.specs.declared.cusip.Cusip.{Cusip}
 use Rattle.cns_units.specs.declared.day.Day.{Day}
+use Rattle.cns_terms.specs.declared.command.Activity.{Activity}
 use Rattle.cns_terms.specs.declared.command.Command.{Command}
 use Rattle.cns_terms.specs.declared.sheet.Row.{Row}
 use Rattle.cns_terms.specs.Sums.{total}
@@ -15,18 +16,23 @@ use Rattle.cns_terms.specs.Limits.{amount_limit, corporation_limit, history_limi
 use Rattle.cns_terms.specs.Listings.{accounts}
 use Rattle.cns_terms.specs.Entries.{journal}
 use Rattle.cns_terms.specs.Numbers.{refusal_number}
-use Rattle.cns_terms.specs.Reached.{IsCommandInRange, IsCommandPriceInRange}
+use Rattle.cns_terms.specs.Reached.{IsCommandInRange, IsReached}
 use Rattle.cns_terms.specs.Refusals.{rules_of}
-use Rattle.cns_terms.specs.Sheets.{DaySheet, sheet_at, sheet_on}
+use Rattle.cns_terms.specs.Sheets.{DaySheet, rows_for, sheet_at, sheet_on, statement}
 use Rattle.cns_terms.specs.Machine.{State, opened, after}
 
 -- the journal of a state
 abbrev pub journal_of : State → Journal
 journal_of S = journal S.opening S.accepted
 
--- the journal after commands, from the opening date on
-abbrev pub journal_after : Day → List Command → Journal
-journal_after opening cmds = journal_of (after (opened opening) cmds)
+-- ---- what commands lead to
+
+-- after any commands whose values are in their ranges, each accepted activity is in range and was not refused
+abbrev pub Reaches : Type 0
+Reaches = (opening : Day) (cmds : List Command) →
+    AllByRecursion IsCommandInRange cmds → IsReached opening (after (opened opening) cmds).accepted
+
+-- ---- sums
 
 -- the marks of a sheet's rows add up to zero, and so do the dividends
 pub record AddsUpToZero (s : DaySheet) : Type 0 where
@@ -38,26 +44,39 @@ pub record SheetsAddUp (opening : Day) (J : Journal) : Type 0 where
   pub by_place : (i : ℕ) → AddsUpToZero (sheet_at opening J i)
   pub by_date : (d : Day) (s : DaySheet) → sheet_on opening J d ≡ Some s → AddsUpToZero s
 
--- after any commands whose values are in their ranges, the sheet of each closed day adds up to zero
+-- over activities that commands reach, the sheet of each closed day adds up to zero
 abbrev pub ZeroSums : Type 0
-ZeroSums = (opening : Day) (cmds : List Command) → AllByRecursion IsCommandInRange cmds → SheetsAddUp opening (journal_after opening cmds)
+ZeroSums = (opening : Day) (L : List Activity) → IsReached opening L → SheetsAddUp opening (journal opening L)
 
--- after such commands, in each issue the positions of all accounts add up to zero, and so do the open day's cents
+-- in an issue the positions of all accounts add up to zero, and so do the open day's cents
 pub record IsBalancedIn (J : Journal) (c : Cusip) : Type 0 where
   pub shares : total (λ a. position J a c) (accounts J) ≡ pos 0
   pub cents : total (λ a. money J a c) (accounts J) ≡ pos 0
 
+-- and so it is in each issue, over activities that commands reach
 abbrev pub Positions : Type 0
-Positions = (opening : Day) (cmds : List Command) (c : Cusip) → AllByRecursion IsCommandInRange cmds → IsBalancedIn (journal_after opening cmds) c
+Positions = (opening : Day) (L : List Activity) (c : Cusip) → IsReached opening L → IsBalancedIn (journal opening L) c
 
--- each day that is closed in the first journal has the same sheet in the second, by its place and by its date
-pub record KeepsSheets (opening : Day) (J J' : Journal) : Type 0 where
+-- ---- closed days
+
+-- the statement of an account on two sheets: its first line and its rows are the same
+pub record IsSameStatement (s t : DaySheet) (a : Account) : Type 0 where
+  pub stated : statement s a ≡ statement t a
+  pub rows : rows_for s.rows a ≡ rows_for t.rows a
+
+-- each day that is closed in the first journal has the same sheet in the second, by its place and by its date, and so
+-- each account has the same statement
+pub record KeepsDays (opening : Day) (J J' : Journal) : Type 0 where
   pub by_place : (i : ℕ) → i ≤ closes J → sheet_at opening J' i ≡ sheet_at opening J i
   pub by_date : (d : Day) (s : DaySheet) → sheet_on opening J d ≡ Some s → sheet_on opening J' d ≡ Some s
+  pub statements : (i : ℕ) (a : Account) → i ≤ closes J → IsSameStatement (sheet_at opening J' i) (sheet_at opening J i) a
 
--- after any commands, and any more, each day that was closed has the sheet that it had
+-- after any commands, and any more, each day that was closed has the sheet and the statements that it had
 abbrev pub ClosedDays : Type 0
-ClosedDays = (opening : Day) (cmds more : List Command) → let S = after (opened opening) cmds in KeepsSheets opening (journal_of S) (journal_of (after S more))
+ClosedDays = (opening : Day) (cmds more : List Command) →
+    let S = after (opened opening) cmds in KeepsDays opening (journal_of S) (journal_of (after S more))
+
+-- ---- refusals
 
 -- whether each number is less than the next
 abbrev pub rises : List ℕ → Bool
@@ -68,14 +87,16 @@ rises (n ∷ ns) = option_map_or (nat_lt n) (slice_get ns 0) true && rises ns
 abbrev pub RefusalOrder : Type 0
 RefusalOrder = (opening : Day) (J : Journal) (cmd : Command) → rises (map (λ r. refusal_number r.0) (rules_of opening J cmd)) ≡ true
 
+-- ---- limits
+
 -- in an issue each member's position is within its limit, and so is the corporation's
 pub record IsBounded (J : Journal) (c : Cusip) : Type 0 where
   pub members : (a : Account) → 1 ≤ a → unsigned_abs (position J a c) ≤ position_limit
   pub corporation : unsigned_abs (position J 0 c) ≤ corporation_limit
 
--- after any commands whose values are in their ranges, positions stay within their limits
+-- over activities that commands reach, positions stay within their limits
 abbrev pub Bounds : Type 0
-Bounds = (opening : Day) (cmds : List Command) (c : Cusip) → AllByRecursion IsCommandInRange cmds → IsBounded (journal_after opening cmds) c
+Bounds = (opening : Day) (L : List Activity) (c : Cusip) → IsReached opening L → IsBounded (journal opening L) c
 
 -- a number of each row, added up from the first row to any other, stays within the limit of amounts
 abbrev pub StaysSmall : (Row → ℤ) → DaySheet → Type 0
@@ -93,6 +114,7 @@ pub record HasSmallAmounts (opening : Day) (J : Journal) (i : ℕ) : Type 0 wher
   pub sheet : HasSmallSums (sheet_at opening J i)
   pub open_cents : (a : Account) (c : Cusip) → unsigned_abs (money J a c) ≤ amount_limit
 
--- after commands whose values are in their ranges, and that are no more than a history holds, amounts stay within their limit
+-- over activities that commands reach, no more than a history holds, amounts stay within their limit
 abbrev pub Amounts : Type 0
-Amounts = (opening : Day) (cmds : List Command) (i : ℕ) → AllByRecursion IsCommandInRange cmds → AllByRecursion IsCommandPriceInRange cmds → length cmds < history_limit → HasSmallAmounts opening (journal_after opening cmds) i
+Amounts = (opening : Day) (L : List Activity) (i : ℕ) →
+    IsReached opening L → length L < history_limit → HasSmallAmounts opening (journal opening L) i

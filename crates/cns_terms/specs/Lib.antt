@@ -4,6 +4,7 @@ pub mod Keys
 pub mod Days
 pub mod Positions
 pub mod Ages
+pub mod Holdings
 pub mod Listings
 pub mod Conversions
 pub mod Notices

@@ -18,82 +18,28 @@ use Rattle.cns_terms.specs.Postings.{Journal, activities}
 -- the member that an activity adds
 abbrev pub added : Activity → Option Member
 added (activity.Member m) = Some m
-added (activity.Issue l) = None
-added (activity.Trade t) = None
-added (activity.Price l) = None
-added (activity.Deliver m) = None
-added (activity.Receive m) = None
-added (activity.Dividend d) = None
-added (activity.Split s) = None
-added (activity.Exchange x) = None
-added (activity.Notice m) = None
-added (activity.Withdraw k) = None
-added (activity.Execute x) = None
-added (activity.Close d) = None
+added _ = None
 
 -- the listing that an activity makes
 abbrev pub listed : Activity → Option Listing
-listed (activity.Member m) = None
 listed (activity.Issue l) = Some l
-listed (activity.Trade t) = None
-listed (activity.Price l) = None
-listed (activity.Deliver m) = None
-listed (activity.Receive m) = None
-listed (activity.Dividend d) = None
-listed (activity.Split s) = None
-listed (activity.Exchange x) = None
-listed (activity.Notice m) = None
-listed (activity.Withdraw k) = None
-listed (activity.Execute x) = None
-listed (activity.Close d) = None
+listed _ = None
 
 -- the listing by which an activity sets a price
 abbrev pub priced : Activity → Option Listing
-priced (activity.Member m) = None
 priced (activity.Issue l) = Some l
-priced (activity.Trade t) = None
 priced (activity.Price l) = Some l
-priced (activity.Deliver m) = None
-priced (activity.Receive m) = None
-priced (activity.Dividend d) = None
-priced (activity.Split s) = None
-priced (activity.Exchange x) = None
-priced (activity.Notice m) = None
-priced (activity.Withdraw k) = None
-priced (activity.Execute x) = None
-priced (activity.Close d) = None
+priced _ = None
 
 -- the trade that an activity is
 abbrev pub traded : Activity → Option Trade
-traded (activity.Member m) = None
-traded (activity.Issue l) = None
 traded (activity.Trade t) = Some t
-traded (activity.Price l) = None
-traded (activity.Deliver m) = None
-traded (activity.Receive m) = None
-traded (activity.Dividend d) = None
-traded (activity.Split s) = None
-traded (activity.Exchange x) = None
-traded (activity.Notice m) = None
-traded (activity.Withdraw k) = None
-traded (activity.Execute x) = None
-traded (activity.Close d) = None
+traded _ = None
 
 -- the issue that an activity replaces by its successor
 abbrev pub replaced : Activity → Option Cusip
-replaced (activity.Member m) = None
-replaced (activity.Issue l) = None
-replaced (activity.Trade t) = None
-replaced (activity.Price l) = None
-replaced (activity.Deliver m) = None
-replaced (activity.Receive m) = None
-replaced (activity.Dividend d) = None
-replaced (activity.Split s) = None
 replaced (activity.Exchange x) = Some x.old
-replaced (activity.Notice m) = None
-replaced (activity.Withdraw k) = None
-replaced (activity.Execute x) = None
-replaced (activity.Close d) = None
+replaced _ = None
 
 -- the order of accounts, by their numbers
 abbrev pub account_lt : Account → Account → Bool

@@ -1,23 +1,19 @@
 -- The machine that keeps only the accepted activities and recomputes.
 use Rattle.std.specs.Prelude.{List, [], ◌∷◌, length, ◌+◌, is_none, if◌then◌else◌}
 use Rattle.std.specs.Option.{option_map_or}
-use Rattle.cns_units.specs.declared.account.Account.{Account}
-use Rattle.cns_units.specs.declared.cusip.Cusip.{Cusip}
 use Rattle.cns_units.specs.declared.day.Day.{Day}
 use Rattle.cns_terms.specs.declared.command.Activity.{Activity}
 use Rattle.cns_terms.specs.declared.command.Activity.TheVariants as activity
 use Rattle.cns_terms.specs.declared.command.Command.{Command}
 use Rattle.cns_terms.specs.declared.command.Command.TheVariants as command
-use Rattle.cns_terms.specs.declared.holding.Holding.{Holding}
 use Rattle.cns_terms.specs.declared.reply.Reply.{Reply}
 use Rattle.cns_terms.specs.declared.reply.Reply.TheVariants as reply
 use Rattle.cns_terms.specs.Postings.{Journal}
-use Rattle.cns_terms.specs.Days.{day, date, last_close}
-use Rattle.cns_terms.specs.Positions.{position, money}
-use Rattle.cns_terms.specs.Ages.{age}
+use Rattle.cns_terms.specs.Days.{day, date}
 use Rattle.cns_terms.specs.Batches.{liable_at}
 use Rattle.cns_terms.specs.Entries.{journal}
 use Rattle.cns_terms.specs.Fills.{fills}
+use Rattle.cns_terms.specs.Holdings.{held_of, holding}
 use Rattle.cns_terms.specs.Notices.{notice_at, notices}
 use Rattle.cns_terms.specs.Refusals.{refusal}
 use Rattle.cns_terms.specs.Sheets.{sheet_named, sheet_rows, statement}
@@ -30,10 +26,6 @@ pub record State : Type 0 where
 -- a state in which nothing is accepted yet
 abbrev pub opened : Day → State
 opened d = record { opening = d; accepted = [] }
-
--- what stands at a key
-abbrev pub holding : Journal → Account → Cusip → Holding
-holding J a c = record { now = position J a c; opening = position (last_close J) a c; contract = money J a c; run = age J a c }
 
 -- the reply to an activity that is not refused
 abbrev pub activity_reply : Day → Journal → Activity → Reply
@@ -59,12 +51,16 @@ activity_reply opening J (activity.Close d) = reply.Closed (record {
 -- the reply to a command that is not refused
 abbrev pub command_reply : Day → Journal → Command → Reply
 command_reply opening J (command.Activity x) = activity_reply opening J x
-command_reply opening J (command.Position k) = reply.Held k (holding J k.account k.issue)
+command_reply opening J (command.Position k) = reply.Held (held_of k (holding J k.account k.issue))
 command_reply opening J (command.Statement a d) = reply.Stated (statement (sheet_named opening J d) a)
+
+-- the reply to a command over a journal
+abbrev pub answer_over : Day → Journal → Command → Reply
+answer_over opening J cmd = option_map_or reply.Refused (refusal opening J cmd) (command_reply opening J cmd)
 
 -- the reply to a command over accepted activities
 abbrev pub answer_to : Day → List Activity → Command → Reply
-answer_to opening L cmd = let J = journal opening L in option_map_or reply.Refused (refusal opening J cmd) (command_reply opening J cmd)
+answer_to opening L cmd = answer_over opening (journal opening L) cmd
 
 -- the accepted activities after a command: a refused command and a query change nothing
 abbrev pub accepted_after : Day → List Activity → Command → List Activity

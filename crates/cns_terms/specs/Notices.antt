@@ -19,51 +19,18 @@ use Rattle.cns_terms.specs.Positions.{position}
 
 -- what an activity notices: the member, the issue and the shares
 abbrev pub noticed : Activity → Option Movement
-noticed (activity.Member m) = None
-noticed (activity.Issue l) = None
-noticed (activity.Trade t) = None
-noticed (activity.Price l) = None
-noticed (activity.Deliver m) = None
-noticed (activity.Receive m) = None
-noticed (activity.Dividend d) = None
-noticed (activity.Split s) = None
-noticed (activity.Exchange x) = None
 noticed (activity.Notice m) = Some m
-noticed (activity.Withdraw k) = None
-noticed (activity.Execute x) = None
-noticed (activity.Close d) = None
+noticed _ = None
 
 -- the movement by which a member receives
 abbrev pub received : Activity → Option Movement
-received (activity.Member m) = None
-received (activity.Issue l) = None
-received (activity.Trade t) = None
-received (activity.Price l) = None
-received (activity.Deliver m) = None
 received (activity.Receive m) = Some m
-received (activity.Dividend d) = None
-received (activity.Split s) = None
-received (activity.Exchange x) = None
-received (activity.Notice m) = None
-received (activity.Withdraw k) = None
-received (activity.Execute x) = None
-received (activity.Close d) = None
+received _ = None
 
 -- the execution that an activity is
 abbrev pub executed : Activity → Option Execution
-executed (activity.Member m) = None
-executed (activity.Issue l) = None
-executed (activity.Trade t) = None
-executed (activity.Price l) = None
-executed (activity.Deliver m) = None
-executed (activity.Receive m) = None
-executed (activity.Dividend d) = None
-executed (activity.Split s) = None
-executed (activity.Exchange x) = None
-executed (activity.Notice m) = None
-executed (activity.Withdraw k) = None
 executed (activity.Execute x) = Some x
-executed (activity.Close d) = None
+executed _ = None
 
 -- ---- the notices
 
@@ -104,19 +71,11 @@ is_live Expired = false
 
 -- what an activity makes of a live notice; the number is that of the day on which it is accepted
 abbrev pub stage_by : Notice → ℕ → Activity → Stage
-stage_by n today (activity.Member m) = Live
-stage_by n today (activity.Issue l) = Live
-stage_by n today (activity.Trade t) = Live
-stage_by n today (activity.Price l) = Live
-stage_by n today (activity.Deliver m) = Live
-stage_by n today (activity.Receive m) = Live
-stage_by n today (activity.Dividend d) = Live
 stage_by n today (activity.Split s) = if same_issue s.issue n.given.issue then Ended else Live
 stage_by n today (activity.Exchange x) = if same_issue x.old n.given.issue then Ended else Live
-stage_by n today (activity.Notice m) = Live
 stage_by n today (activity.Withdraw k) = if k == n.number then Withdrawn else Live
-stage_by n today (activity.Execute x) = Live
 stage_by n today (activity.Close d) = if today == n.given.day + 2 then Expired else Live
+stage_by n today _ = Live
 
 -- the stage that was reached first
 abbrev pub first_reached : Stage → Stage → Stage
@@ -162,10 +121,3 @@ what_remains stage shares received executed q = if is_live stage then min (share
 -- what remains of a notice now
 abbrev pub remaining : Journal → Notice → ℕ
 remaining J n = what_remains (stage J n) n.given.shares (shares_received J n) (shares_executed J n) (position J n.given.member n.given.issue)
-
--- ---- as a counter has it
-
--- what its member received while it was live: of a live notice that is all that it received
-abbrev pub received_live : Journal → Notice → ℕ
-received_live [] n = 0
-received_live (p ∷ J) n = (if is_given J n && is_live (stage J n) then receipt n p.activity else 0) + received_live J n

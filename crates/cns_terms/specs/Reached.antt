@@ -17,46 +17,22 @@ IsRatio r = (1 ≤ r.old) × (r.old ≤ ratio_limit)
 -- the values of an activity are in the ranges that commands have, as far as limits rest on them
 abbrev pub IsInRange : Activity → Type 0
 IsInRange (activity.Member m) = m ≤ member_limit
-IsInRange (activity.Issue l) = ⊤
+IsInRange (activity.Issue l) = l.price ≤ price_limit
 IsInRange (activity.Trade t) = t.money ≤ money_limit
-IsInRange (activity.Price l) = ⊤
-IsInRange (activity.Deliver m) = ⊤
+IsInRange (activity.Price l) = l.price ≤ price_limit
 IsInRange (activity.Receive m) = m.shares ≤ shares_limit
 IsInRange (activity.Dividend d) = d.rate ≤ rate_limit
 IsInRange (activity.Split s) = IsRatio s.ratio × (s.lieu ≤ price_limit)
 IsInRange (activity.Exchange x) = IsRatio x.ratio × (x.lieu ≤ price_limit) × (x.cash ≤ price_limit)
 IsInRange (activity.Notice m) = m.shares ≤ shares_limit
-IsInRange (activity.Withdraw k) = ⊤
 IsInRange (activity.Execute x) = (1 ≤ x.shares) × (x.shares ≤ shares_limit) × (x.money ≤ money_limit)
-IsInRange (activity.Close d) = ⊤
+IsInRange _ = ⊤
 
 -- and so are those of a command
 abbrev pub IsCommandInRange : Command → Type 0
 IsCommandInRange (command.Activity x) = IsInRange x
 IsCommandInRange (command.Position k) = ⊤
 IsCommandInRange (command.Statement a d) = ⊤
-
--- the price that an activity sets is within its limit
-abbrev pub IsPriceInRange : Activity → Type 0
-IsPriceInRange (activity.Member m) = ⊤
-IsPriceInRange (activity.Issue l) = l.price ≤ price_limit
-IsPriceInRange (activity.Trade t) = ⊤
-IsPriceInRange (activity.Price l) = l.price ≤ price_limit
-IsPriceInRange (activity.Deliver m) = ⊤
-IsPriceInRange (activity.Receive m) = ⊤
-IsPriceInRange (activity.Dividend d) = ⊤
-IsPriceInRange (activity.Split s) = ⊤
-IsPriceInRange (activity.Exchange x) = ⊤
-IsPriceInRange (activity.Notice m) = ⊤
-IsPriceInRange (activity.Withdraw k) = ⊤
-IsPriceInRange (activity.Execute x) = ⊤
-IsPriceInRange (activity.Close d) = ⊤
-
--- and so is that of a command
-abbrev pub IsCommandPriceInRange : Command → Type 0
-IsCommandPriceInRange (command.Activity x) = IsPriceInRange x
-IsCommandPriceInRange (command.Position k) = ⊤
-IsCommandPriceInRange (command.Statement a d) = ⊤
 
 -- each activity is in range, and was not refused after those before it
 abbrev pub IsReached : Day → List Activity → Type 0

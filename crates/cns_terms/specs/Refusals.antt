@@ -1,5 +1,5 @@
 -- What is refused, and why.
-use Rattle.std.specs.Prelude.{ℕ, ◌+◌, is_none, is_some, ℤ, pos, ◌+ℤ◌, neg_ℤ, int_lt, int_le, unsigned_abs, Bool, not, ◌&&◌, ◌||◌, ◌==◌, nat_lt, ◌^◌, List, [], ◌∷◌, Option, option_map, find}
+use Rattle.std.specs.Prelude.{ℕ, ◌+◌, is_none, is_some, ℤ, pos, ◌+ℤ◌, neg_ℤ, int_lt, int_le, unsigned_abs, Bool, not, ◌&&◌, ◌||◌, ◌==◌, nat_lt, List, [], ◌∷◌, Option, option_map, find}
 use Rattle.std.specs.List.{list_any}
 use Rattle.std.specs.Option.{option_map_or}
 use Rattle.cns_units.specs.declared.account.Account.{Account}
@@ -19,6 +19,7 @@ use Rattle.cns_terms.specs.Positions.{position, shares_for}
 use Rattle.cns_terms.specs.Listings.{is_member, is_account, is_listed, is_retired, is_seen}
 use Rattle.cns_terms.specs.Entries.{corporation, entries}
 use Rattle.cns_terms.specs.Fills.{room}
+use Rattle.cns_terms.specs.Limits.{position_limit}
 use Rattle.cns_terms.specs.Notices.{is_live, is_so, live_notice, notice_at, remaining, stage}
 
 -- a refusal, and whether its condition holds
@@ -27,7 +28,7 @@ Rule = Refusal × Bool
 
 -- whether a member's position is out of its limits
 abbrev pub is_beyond : ℤ → Bool
-is_beyond q = nat_lt (10 ^ 10) (unsigned_abs q)
+is_beyond q = nat_lt position_limit (unsigned_abs q)
 
 -- whether entries take a member's position out of its limits, by the positions before them
 abbrev pub are_too_large : (Account → Cusip → ℤ) → List Entry → Bool
@@ -72,8 +73,8 @@ rules opening J (activity.Receive m) =
     ∷ (NotOnHand, int_lt (neg_ℤ (pos m.shares)) (position J corporation m.issue))
     ∷ (NotLong, int_le (position J m.member m.issue) (pos 0)) ∷ []
 rules opening J (activity.Dividend d) =
-    (NoSuchIssue, not (is_listed J d.cusip))
-    ∷ (Retired, is_retired J d.cusip)
+    (NoSuchIssue, not (is_listed J d.issue))
+    ∷ (Retired, is_retired J d.issue)
     ∷ (WrongDay, is_past d.recorded (date opening J) || is_not_after d.payable d.recorded) ∷ []
 rules opening J (activity.Split s) =
     (NoSuchIssue, not (is_listed J s.issue))

@@ -7,7 +7,7 @@ use cns_units::{Cusip, Day, Price, Rate, Ratio};
 /// payable date (NSCC Procedure VII credits dividends to longs and charges them to shorts).
 #[derive(Clone, Copy, Debug, PartialEq, Eq)]
 pub struct Declared {
-    pub cusip: Cusip,
+    pub issue: Cusip,
     /// The record date.
     pub recorded: Day,
     /// The payable date.
@@ -42,7 +42,7 @@ impl Declared {
     pub fn is_same(&self, other: &Declared) -> bool
         ensures { (result ≡ true) ↔ (self.now ≡ other.now) }
     {
-        self.cusip.is_same(&other.cusip)
+        self.issue.is_same(&other.issue)
             && self.recorded.is_same(&other.recorded)
             && self.payable.is_same(&other.payable)
             && self.rate == other.rate

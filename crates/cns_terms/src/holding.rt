@@ -61,6 +61,9 @@ impl PartialOrd for Key {
     }
 }
 
+/// How many shares a member may be long or short in an issue (this project's profile).
+pub const POSITION_LIMIT: i64 = 10_000_000_000;
+
 /// What stands at a key. A key without a holding counts as zeros.
 #[derive(Clone, Copy, Debug, PartialEq, Eq)]
 pub struct Holding {
@@ -75,6 +78,14 @@ pub struct Holding {
 }
 
 impl Holding {
+    /// What stands where nothing was ever booked.
+    pub const ZEROS: Holding = Holding {
+        now: 0,
+        opening: 0,
+        contract: 0,
+        run: 0,
+    };
+
     /// Whether both are the same value. `==` answers so too; this clause speaks of the values themselves.
     pub fn is_same(&self, other: &Holding) -> bool
         ensures { (result ≡ true) ↔ (self.entry.now ≡ other.entry.now) }

@@ -1,5 +1,6 @@
 // What the book answers.
 ghost use Rattle.std.specs.Prelude.{◌≡◌, ◌↔◌, true};
+ghost use Rattle.cns_terms.specs.Holdings.{held_of};
 
 use crate::holding::{Holding, Key};
 use crate::refusal::Refusal;
@@ -32,6 +33,20 @@ pub struct Stated {
     pub dividend: Cents,
 }
 
+/// What a POSITION tells of an account's place in an issue.
+#[derive(Clone, Copy, Debug, PartialEq, Eq)]
+pub struct Held {
+    /// The cents booked since the last close.
+    pub contract: Cents,
+    /// The position in shares: above 0 it is due from the corporation, below 0 to it (NSCC Rule 11).
+    pub position: i64,
+    /// The position at the last close, in shares.
+    pub opening: i64,
+    /// The age of a short: at how many closes in a row, up to the last, the position was below 0.
+    pub age: u32,
+    pub key: Key,
+}
+
 /// The reply to a command.
 #[derive(Clone, Copy, Debug, PartialEq, Eq)]
 pub enum Reply {
@@ -42,8 +57,8 @@ pub enum Reply {
     /// An execution was accepted: how many members were filled.
     Executed(u64),
     Closed(Closed),
-    /// What stands at the key.
-    Held(Key, Holding),
+    /// What stands at a key.
+    Held(Held),
     /// The first line of a statement; its rows are on the day's sheet.
     Stated(Stated),
     Refused(Refusal),
@@ -74,6 +89,32 @@ impl Stated {
     }
 }
 
+impl Held {
+    /// What a POSITION tells of what stands at a key.
+    pub fn of(key: Key, holding: Holding) -> Held
+        ensures { result ≡ held_of key holding }
+    {
+        Held {
+            contract: Cents::of(holding.contract),
+            position: holding.now,
+            opening: holding.opening,
+            age: holding.run,
+            key,
+        }
+    }
+
+    // Whether both are the same value.
+    fn is_same(&self, other: &Held) -> bool
+        ensures { (result ≡ true) ↔ (self.now ≡ other.now) }
+    {
+        self.key.is_same(&other.key)
+            && self.position == other.position
+            && self.opening == other.opening
+            && self.contract == other.contract
+            && self.age == other.age
+    }
+}
+
 impl Reply {
     /// Whether both are the same value. `==` answers so too; this clause speaks of the values themselves.
     pub fn is_same(&self, other: &Reply) -> bool
@@ -84,9 +125,7 @@ impl Reply {
             (Reply::Noticed(one), Reply::Noticed(two)) => one == two,
             (Reply::Executed(one), Reply::Executed(two)) => one == two,
             (Reply::Closed(one), Reply::Closed(two)) => one.is_same(two),
-            (Reply::Held(key, holding), Reply::Held(other_key, other_holding)) => {
-                key.is_same(other_key) && holding.is_same(other_holding)
-            }
+            (Reply::Held(one), Reply::Held(two)) => one.is_same(two),
             (Reply::Stated(one), Reply::Stated(two)) => one.is_same(two),
             (Reply::Refused(one), Reply::Refused(two)) => one.is_same(two),
             _ => false,

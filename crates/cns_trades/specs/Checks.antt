@@ -19,6 +19,10 @@ use Rattle.cns_trades.specs.declared.facts.TradeFacts.{TradeFacts}
 abbrev pub position_or_none : Option ℤ → ℤ
 position_or_none q = unwrap_or q (pos 0)
 
+-- the rules of an issue in which is booked: whether it is listed, and whether it is retired
+abbrev pub issue_rules : Bool → Bool → List Rule
+issue_rules listed retired = (NoSuchIssue, not listed) ∷ (Retired, retired) ∷ []
+
 -- the rules of a trade; the flag says whether its reference was used
 abbrev pub trade_rules : TradeFacts → Bool → Trade → List Rule
 trade_rules f seen t =

@@ -25,3 +25,7 @@ bits_in u p = if p == u.page then u.bits else page_among u.others p
 -- whether the number was used
 unfoldable pub is_used : Used → ℕ → Bool
 is_used u n = has_bit (bits_in u (n / 64)) (n % 64)
+
+-- what is kept of trades: the references that accepted ones used
+pub record Traded : Type 0 where
+  pub references : Used

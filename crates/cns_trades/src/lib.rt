@@ -11,4 +11,4 @@ mod references;
 mod trades;
 
 pub use facts::{MoveFacts, TradeFacts};
-pub use trades::{Trades, is_exceeded};
+pub use trades::{Trades, check_issue, is_exceeded};

@@ -1,16 +1,16 @@
 // The checks, and the references.
-ghost use Rattle.std.specs.Prelude.{◌≡◌, ℕ, ◌≤◌, ◌||◌, ◌==◌, ◌+ℤ◌, OnOk, OnErr, IfOk, unsigned_abs, false, nat_lt, int_lt, neg_ℤ, pos};
+ghost use Rattle.std.specs.Prelude.{◌≡◌, ℕ, ◌≤◌, ◌||◌, ◌==◌, ◌+ℤ◌, OnOk, OnErr, IfOk, IfErr, Some, unsigned_abs, false, true, nat_lt, int_lt, neg_ℤ, pos};
 ghost use Rattle.std.specs.Option.{ForSome};
 ghost use Rattle.cns_terms.specs.Limits.{corporation_limit, position_limit};
-ghost use Rattle.cns_terms.specs.Refusals.{is_beyond, is_exceeded};
+ghost use Rattle.cns_terms.specs.Refusals.{first_refusal, is_beyond, is_exceeded};
 ghost use Rattle.cns_terms.specs.Sums.{short};
 ghost use Rattle.cns_trades.specs.Used.{is_used};
-ghost use Rattle.cns_trades.specs.Checks.{delivery_answer, receipt_answer, trade_answer, AreSmallEntries};
+ghost use Rattle.cns_trades.specs.Checks.{delivery_answer, issue_rules, receipt_answer, trade_answer, AreSmallEntries};
 
 use crate::entries::{buyer_entry, moved_in, moved_out, seller_entry};
 use crate::facts::{MoveFacts, TradeFacts};
 use crate::references::References;
-use cns_terms::{Entry, Movement, NoMemory, Refusal, Trade};
+use cns_terms::{Entry, Movement, NoMemory, POSITION_LIMIT, Refusal, Trade};
 use cns_units::{Account, Shares};
 use std::alloc::Allocator;
 use std::marker::Model;
@@ -22,20 +22,18 @@ pub struct Trades<A: Allocator + Drop> {
 }
 
 impl<A: Allocator + Drop> Model for Trades<A> {
-    ghost use Rattle.cns_trades.specs.Used.{Used};
+    ghost use Rattle.cns_trades.specs.Used.{Traded};
 
-    ghost Value = { Used };
+    ghost Value = { Traded };
 
-    ghost view = { λ t. t.references };
+    ghost view = { λ t. record { references = t.references } };
 }
-
-const LARGEST: i64 = 10_000_000_000;
 
 // Whether a member's position is out of its limits.
 fn is_beyond(position: i64) -> bool
     ensures { result ≡ is_beyond position }
 {
-    position > LARGEST || position < -LARGEST
+    position > POSITION_LIMIT || position < -POSITION_LIMIT
 }
 
 // A position after the shares came in.
@@ -62,6 +60,20 @@ pub fn is_exceeded(position: i64, shares: Shares) -> bool
     position > 0 && position < shares.value() as i64
 }
 
+/// Whether an issue can be booked in, priced or paid on: it is listed, and not retired.
+pub fn check_issue(listed: bool, retired: bool) -> Result<(), Refusal>
+    ensures ok { IfOk result (λ _. (listed ≡ true) × (retired ≡ false)) }
+    ensures err { IfErr result (λ r. first_refusal (issue_rules listed retired) ≡ Some r) }
+{
+    if !listed {
+        return Err(Refusal::NoSuchIssue);
+    }
+    if retired {
+        return Err(Refusal::Retired);
+    }
+    Ok(())
+}
+
 // Whether fewer shares were delivered to the corporation than a receipt takes.
 fn is_not_on_hand(corporation: i64, shares: Shares) -> bool
     ensures { result ≡ int_lt (neg_ℤ (pos shares)) corporation }
@@ -72,7 +84,7 @@ fn is_not_on_hand(corporation: i64, shares: Shares) -> bool
 impl<A: Allocator + Drop> Trades<A> {
     /// No reference was used yet.
     pub fn new(alloc: A) -> Self
-        ensures { (r : ℕ) → is_used result r ≡ false }
+        ensures { (r : ℕ) → is_used result.references r ≡ false }
     {
         Trades {
             references: References::new(alloc),
@@ -81,7 +93,7 @@ impl<A: Allocator + Drop> Trades<A> {
 
     /// Whether an accepted trade used the reference.
     pub fn seen(&self, reference: u64) -> bool
-        ensures { result ≡ is_used self.now reference }
+        ensures { result ≡ is_used self.now.references reference }
     {
         self.references.contains(reference)
     }
@@ -90,7 +102,7 @@ impl<A: Allocator + Drop> Trades<A> {
     pub fn note_reference(&mut self, reference: u64) -> Result<(), NoMemory>
     where
         A: Clone,
-        ensures ok { OnOk result ((r : ℕ) → is_used self.new r ≡ ((reference == r) || is_used self.old r)) }
+        ensures ok { OnOk result ((r : ℕ) → is_used self.new.references r ≡ ((reference == r) || is_used self.old.references r)) }
         ensures err { OnErr result (self.new ≡ self.old) }
     {
         self.references.insert(reference)
@@ -101,7 +113,7 @@ impl<A: Allocator + Drop> Trades<A> {
     pub fn check_trade(&self, facts: &TradeFacts, trade: &Trade) -> Result<[Entry; 2], Refusal>
         requires buyer { ForSome facts.now.buyer (λ q. unsigned_abs q ≤ position_limit) }
         requires seller { ForSome facts.now.seller (λ q. unsigned_abs q ≤ position_limit) }
-        ensures answer { result ≡ trade_answer facts.now (is_used self.now trade.now.reference) trade.now }
+        ensures answer { result ≡ trade_answer facts.now (is_used self.now.references trade.now.reference) trade.now }
         ensures small { IfOk result AreSmallEntries }
     {
         let Some(buyer) = facts.buyer else {
@@ -110,12 +122,7 @@ impl<A: Allocator + Drop> Trades<A> {
         let Some(seller) = facts.seller else {
             return Err(Refusal::NoSuchMember);
         };
-        if !facts.listed {
-            return Err(Refusal::NoSuchIssue);
-        }
-        if facts.retired {
-            return Err(Refusal::Retired);
-        }
+        check_issue(facts.listed, facts.retired)?;
         if trade.buyer == trade.seller {
             return Err(Refusal::SameParty);
         }
@@ -149,12 +156,7 @@ impl<A: Allocator + Drop> Trades<A> {
         let Some(position) = facts.member else {
             return Err(Refusal::NoSuchMember);
         };
-        if !facts.listed {
-            return Err(Refusal::NoSuchIssue);
-        }
-        if facts.retired {
-            return Err(Refusal::Retired);
-        }
+        check_issue(facts.listed, facts.retired)?;
         if is_over_delivered(position, movement.shares) {
             return Err(Refusal::ExceedsPosition);
         }
@@ -178,12 +180,7 @@ impl<A: Allocator + Drop> Trades<A> {
         let Some(position) = facts.member else {
             return Err(Refusal::NoSuchMember);
         };
-        if !facts.listed {
-            return Err(Refusal::NoSuchIssue);
-        }
-        if facts.retired {
-            return Err(Refusal::Retired);
-        }
+        check_issue(facts.listed, facts.retired)?;
         if is_exceeded(position, movement.shares) {
             return Err(Refusal::ExceedsPosition);
         }

@@ -1,16 +1,15 @@
 // Splits and exchanges.
-ghost use Rattle.std.specs.Prelude.{◌≡◌, ◌↔◌, List, Err, IfOk, true};
-ghost use Rattle.cns_terms.specs.declared.command.Activity.{Activity};
+ghost use Rattle.std.specs.Prelude.{◌≡◌, ◌↔◌, Err, IfOk, true};
 ghost use Rattle.cns_terms.specs.declared.command.Activity.TheVariants as activity;
 ghost use Rattle.cns_terms.specs.declared.command.Command.TheVariants as command;
 ghost use Rattle.cns_terms.specs.declared.holding.Key.{Key};
-ghost use Rattle.cns_terms.specs.Entries.{entries, journal};
+ghost use Rattle.cns_terms.specs.Entries.{entries};
 ghost use Rattle.cns_terms.specs.Refusals.{first_refusal, is_too_large};
 ghost use Rattle.cns_positions.specs.Rows.{books, holding_at};
 ghost use Rattle.cns_actions.specs.Booked.{IsForAnother};
 ghost use Rattle.cns_actions.specs.declared.fault.ActionFault.TheVariants as fault;
-ghost use Rattle.cns_book.specs.Effects.{activity_of, exchange_rules, split_rules};
-ghost use Rattle.cns_book.specs.Follows.{Follows, HasRoom, Steps};
+ghost use Rattle.cns_book.specs.Effects.{activity_of, exchange_rules};
+ghost use Rattle.cns_book.specs.Follows.{Answers, HasRoom, Shows};
 
 use crate::parts::Parts;
 use cns_actions::{Action, ActionFault, next_positions};
@@ -23,33 +22,23 @@ impl<P: Positions<A>, A: Allocator + Drop + Clone> Parts<P, A> {
     fn positions_after(&self, action: &Action) -> Result<P, ActionFault>
         requires room { HasRoom self.now }
         requires another { IsForAnother action.now }
-        ensures too_large { (L : List Activity) → Follows L self.now → (result ≡ Err fault.TooLarge) ↔ (is_too_large self.now.opening (journal self.now.opening L) (activity_of action.now) ≡ true) }
-        ensures booked { IfOk result (λ p. (L : List Activity) → Follows L self.now → (k : Key) → holding_at (P.rows p) k ≡ books (entries self.now.opening (journal self.now.opening L) (activity_of action.now)) k (holding_at self.now.rows k)) }
+        ensures too_large { Shows self.now
+            (λ J. (result ≡ Err fault.TooLarge) ↔ (is_too_large self.now.opening J (activity_of action.now) ≡ true)) }
+        ensures booked { IfOk result
+            (λ p. Shows self.now
+            (λ J. (k : Key) → holding_at (P.rows p) k
+            ≡ books (entries self.now.opening J (activity_of action.now)) k (holding_at self.now.rows k))) }
     {
         next_positions(&self.alloc, &self.positions, action)
-    }
-
-    // Why a SPLIT is refused, its size apart.
-    fn split_refusal(&self, split: &Split) -> Option<Refusal>
-        ensures { (L : List Activity) → Follows L self.now → result ≡ first_refusal (split_rules (journal self.now.opening L) split.now) }
-    {
-        let (listed, retired) = self.listed_and_retired(split.issue);
-        if !listed {
-            return Some(Refusal::NoSuchIssue);
-        }
-        if retired {
-            return Some(Refusal::Retired);
-        }
-        None
     }
 
     /// SPLIT. The new positions are made beside the old ones, and take their place at once; the notices of the issue end.
     pub fn split(&mut self, split: &Split) -> Result<Reply, NoMemory>
         requires { HasRoom self.old }
         ensures opening { self.new.opening ≡ self.old.opening }
-        ensures step { (L : List Activity) → Follows L self.old → Steps L (command.Activity (activity.Split split.now)) result self.new }
+        ensures step { Answers self.old (command.Activity (activity.Split split.now)) result self.new }
     {
-        if let Some(refusal) = self.split_refusal(split) {
+        if let Some(refusal) = self.issue_refusal(split.issue) {
             return Ok(Reply::Refused(refusal));
         }
         // Each number is within its limit; the calls tell the prover.
@@ -67,7 +56,7 @@ impl<P: Positions<A>, A: Allocator + Drop + Clone> Parts<P, A> {
 
     // Why an EXCHANGE is refused, its size apart.
     fn exchange_refusal(&self, exchange: &Exchange) -> Option<Refusal>
-        ensures { (L : List Activity) → Follows L self.now → result ≡ first_refusal (exchange_rules (journal self.now.opening L) exchange.now) }
+        ensures { Shows self.now (λ J. result ≡ first_refusal (exchange_rules J exchange.now)) }
     {
         let (old_listed, old_retired) = self.listed_and_retired(exchange.old);
         let (listed, retired) = self.listed_and_retired(exchange.successor);
@@ -88,7 +77,7 @@ impl<P: Positions<A>, A: Allocator + Drop + Clone> Parts<P, A> {
     pub fn exchange(&mut self, exchange: &Exchange) -> Result<Reply, NoMemory>
         requires { HasRoom self.old }
         ensures opening { self.new.opening ≡ self.old.opening }
-        ensures step { (L : List Activity) → Follows L self.old → Steps L (command.Activity (activity.Exchange exchange.now)) result self.new }
+        ensures step { Answers self.old (command.Activity (activity.Exchange exchange.now)) result self.new }
     {
         if let Some(refusal) = self.exchange_refusal(exchange) {
             return Ok(Reply::Refused(refusal));

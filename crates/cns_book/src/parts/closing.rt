@@ -1,9 +1,8 @@
 // The close of a day.
-ghost use Rattle.std.specs.Prelude.{◌≡◌, List};
-ghost use Rattle.cns_terms.specs.declared.command.Activity.{Activity};
+ghost use Rattle.std.specs.Prelude.{◌≡◌};
 ghost use Rattle.cns_terms.specs.declared.command.Activity.TheVariants as activity;
 ghost use Rattle.cns_terms.specs.declared.command.Command.TheVariants as command;
-ghost use Rattle.cns_book.specs.Follows.{Follows, HasRoom, Steps};
+ghost use Rattle.cns_book.specs.Follows.{Answers, HasRoom};
 
 use crate::parts::Parts;
 use crate::parts::retransmittal::count_liable;
@@ -18,7 +17,7 @@ impl<P: Positions<A>, A: Allocator + Drop + Clone> Parts<P, A> {
     pub fn close_day(&mut self, next: Day) -> Result<Reply, NoMemory>
         requires { HasRoom self.old }
         ensures opening { self.new.opening ≡ self.old.opening }
-        ensures step { (L : List Activity) → Follows L self.old → Steps L (command.Activity (activity.Close next)) result self.new }
+        ensures step { Answers self.old (command.Activity (activity.Close next)) result self.new }
     {
         if next <= self.today {
             return Ok(Reply::Refused(Refusal::WrongDay));

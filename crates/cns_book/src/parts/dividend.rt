@@ -1,12 +1,10 @@
 // Dividends.
-ghost use Rattle.std.specs.Prelude.{◌≡◌, List, ◌||◌};
-ghost use Rattle.cns_terms.specs.declared.command.Activity.{Activity};
+ghost use Rattle.std.specs.Prelude.{◌≡◌, ◌||◌};
 ghost use Rattle.cns_terms.specs.declared.command.Activity.TheVariants as activity;
 ghost use Rattle.cns_terms.specs.declared.command.Command.TheVariants as command;
 ghost use Rattle.cns_terms.specs.Days.{is_not_after};
-ghost use Rattle.cns_terms.specs.Entries.{journal};
 ghost use Rattle.cns_terms.specs.Refusals.{is_past, refusal};
-ghost use Rattle.cns_book.specs.Follows.{Follows, Steps};
+ghost use Rattle.cns_book.specs.Follows.{Answers, Refuses};
 
 use crate::parts::Parts;
 use cns_positions::Positions;
@@ -24,14 +22,10 @@ fn has_wrong_dates(declared: &Declared, today: Day) -> bool
 impl<P: Positions<A>, A: Allocator + Drop + Clone> Parts<P, A> {
     // Why a DIVIDEND is refused.
     fn dividend_refusal(&self, declared: &Declared) -> Option<Refusal>
-        ensures { (L : List Activity) → Follows L self.now → result ≡ refusal self.now.opening (journal self.now.opening L) (command.Activity (activity.Dividend declared.now)) }
+        ensures { Refuses self.now (command.Activity (activity.Dividend declared.now)) result }
     {
-        let (listed, retired) = self.listed_and_retired(declared.cusip);
-        if !listed {
-            return Some(Refusal::NoSuchIssue);
-        }
-        if retired {
-            return Some(Refusal::Retired);
+        if let Some(refusal) = self.issue_refusal(declared.issue) {
+            return Some(refusal);
         }
         if has_wrong_dates(declared, self.today) {
             return Some(Refusal::WrongDay);
@@ -42,7 +36,7 @@ impl<P: Positions<A>, A: Allocator + Drop + Clone> Parts<P, A> {
     /// DIVIDEND. A record date of today can still be declared, since positions are recorded at the close.
     pub fn declare_dividend(&mut self, declared: &Declared) -> Result<Reply, NoMemory>
         ensures opening { self.new.opening ≡ self.old.opening }
-        ensures step { (L : List Activity) → Follows L self.old → Steps L (command.Activity (activity.Dividend declared.now)) result self.new }
+        ensures step { Answers self.old (command.Activity (activity.Dividend declared.now)) result self.new }
     {
         if let Some(refusal) = self.dividend_refusal(declared) {
             return Ok(Reply::Refused(refusal));
@@ -50,7 +44,7 @@ impl<P: Positions<A>, A: Allocator + Drop + Clone> Parts<P, A> {
         // Every rate is within its limit; the call tells the prover.
         let _ = declared.rate.value();
         self.dividends.declare(
-            declared.cusip,
+            declared.issue,
             declared.recorded,
             declared.payable,
             declared.rate,

@@ -1,14 +1,12 @@
 // Executions of notices.
-ghost use Rattle.std.specs.Prelude.{◌≡◌, List, Some, IfOk, IfErr};
-ghost use Rattle.cns_terms.specs.declared.command.Activity.{Activity};
+ghost use Rattle.std.specs.Prelude.{◌≡◌, Some, IfOk, IfErr};
 ghost use Rattle.cns_terms.specs.declared.command.Activity.TheVariants as activity;
 ghost use Rattle.cns_terms.specs.declared.command.Command.TheVariants as command;
-ghost use Rattle.cns_terms.specs.Entries.{journal};
 ghost use Rattle.cns_terms.specs.Refusals.{refusal};
 ghost use Rattle.cns_retransmit.specs.Days.{batch_on};
 ghost use Rattle.cns_retransmit.specs.Order.{FillInOrder};
 ghost use Rattle.cns_book.specs.Executions.{capped_short, CanBeExecuted, fills_by, IsAccepted};
-ghost use Rattle.cns_book.specs.Follows.{Follows, HasRoom, Steps};
+ghost use Rattle.cns_book.specs.Follows.{Answers, HasRoom, Shows};
 
 use crate::buy_in::book_fills;
 use crate::parts::Parts;
@@ -30,12 +28,12 @@ impl<'a, P: Positions<A>, A: Allocator + Drop + Clone> Shorts for ShortsNow<'a, 
     ghost short_now = { λ s a. capped_short s.parts.now.rows s.issue a };
 
     fn short(&self, member: Member) -> i64 {
-        let standing = self.parts.standing(Key {
+        let holding = self.parts.holding(Key {
             account: member.account(),
             issue: self.issue,
         });
-        if standing.now < 0 {
-            standing.now.saturating_neg()
+        if holding.now < 0 {
+            holding.now.saturating_neg()
         } else {
             0
         }
@@ -47,7 +45,9 @@ impl<P: Positions<A>, A: Allocator + Drop + Clone> Parts<P, A> {
     // their numbers, but for shares beyond what remains: only a live notice is refused for those, so it is found first.
     fn check_execution(&self, execution: &Execution) -> Result<(Given, &Batch<A>), Refusal>
         requires { HasRoom self.now }
-        ensures refused { IfErr result (λ r. (L : List Activity) → Follows L self.now → refusal self.now.opening (journal self.now.opening L) (command.Activity (activity.Execute execution.now)) ≡ Some r) }
+        ensures refused { IfErr result
+            (λ r. Shows self.now
+            (λ J. refusal self.now.opening J (command.Activity (activity.Execute execution.now)) ≡ Some r)) }
         ensures accepted { IfOk result (λ r. IsAccepted self.now execution.now r.0) }
         ensures batch { IfOk result (λ r. batch_on self.now.batches r.0.day r.0.issue ≡ Some r.1.now) }
     {
@@ -92,7 +92,7 @@ impl<P: Positions<A>, A: Allocator + Drop + Clone> Parts<P, A> {
         requires room { HasRoom self.now }
         requires accepted { IsAccepted self.now execution.now given.now }
         requires batch { batch_on self.now.batches given.now.day given.now.issue ≡ Some batch.now }
-        ensures fills { IfOk result (λ v. (L : List Activity) → Follows L self.now → v.items ≡ fills_by (journal self.now.opening L) execution.now) }
+        ensures fills { IfOk result (λ v. Shows self.now (λ J. v.items ≡ fills_by J execution.now)) }
         ensures booked { IfOk result (λ v. CanBeExecuted self.now.rows given.now v.items) }
         ensures order { IfOk result (λ v. FillInOrder v.items batch.now.members) }
     {
@@ -107,7 +107,7 @@ impl<P: Positions<A>, A: Allocator + Drop + Clone> Parts<P, A> {
     pub fn execute(&mut self, execution: &Execution) -> Result<Reply, NoMemory>
         requires { HasRoom self.old }
         ensures opening { self.new.opening ≡ self.old.opening }
-        ensures step { (L : List Activity) → Follows L self.old → Steps L (command.Activity (activity.Execute execution.now)) result self.new }
+        ensures step { Answers self.old (command.Activity (activity.Execute execution.now)) result self.new }
     {
         let (given, batch) = match self.check_execution(execution) {
             Ok(checked) => checked,

@@ -1,9 +1,8 @@
 // Members, issues and prices.
-ghost use Rattle.std.specs.Prelude.{◌≡◌, List, Ok};
-ghost use Rattle.cns_terms.specs.declared.command.Activity.{Activity};
+ghost use Rattle.std.specs.Prelude.{◌≡◌, Ok};
 ghost use Rattle.cns_terms.specs.declared.command.Activity.TheVariants as activity;
 ghost use Rattle.cns_terms.specs.declared.command.Command.TheVariants as command;
-ghost use Rattle.cns_book.specs.Follows.{Follows, Steps};
+ghost use Rattle.cns_book.specs.Follows.{Answers, HasRoom};
 
 use crate::parts::Parts;
 use cns_positions::Positions;
@@ -15,7 +14,7 @@ impl<P: Positions<A>, A: Allocator + Drop + Clone> Parts<P, A> {
     /// MEMBER.
     pub fn add_member(&mut self, member: Member) -> Result<Reply, NoMemory>
         ensures opening { self.new.opening ≡ self.old.opening }
-        ensures step { (L : List Activity) → Follows L self.old → Steps L (command.Activity (activity.Member member)) result self.new }
+        ensures step { Answers self.old (command.Activity (activity.Member member)) result self.new }
     {
         let account = member.account();
         if self.is_account(account) {
@@ -28,26 +27,28 @@ impl<P: Positions<A>, A: Allocator + Drop + Clone> Parts<P, A> {
     /// ISSUE.
     pub fn list_issue(&mut self, listing: Listing) -> Result<Reply, NoMemory>
         ensures opening { self.new.opening ≡ self.old.opening }
-        ensures step { (L : List Activity) → Follows L self.old → Steps L (command.Activity (activity.Issue listing)) result self.new }
+        ensures step { Answers self.old (command.Activity (activity.Issue listing)) result self.new }
     {
         if self.prices.price(listing.issue).is_some() {
             return Ok(Reply::Refused(Refusal::IssueExists));
         }
+        // Every price is within its limit; the call tells the prover.
+        let _ = listing.price.value();
         self.prices.list(listing.issue, listing.price)?;
         Ok(Reply::Accepted)
     }
 
     /// PRICE.
     pub fn set_price(&mut self, listing: Listing) -> Reply
+        requires { HasRoom self.old }
         ensures opening { self.new.opening ≡ self.old.opening }
-        ensures step { (L : List Activity) → Follows L self.old → Steps L (command.Activity (activity.Price listing)) (Ok result) self.new }
+        ensures step { Answers self.old (command.Activity (activity.Price listing)) (Ok result) self.new }
     {
-        if self.prices.price(listing.issue).is_none() {
-            return Reply::Refused(Refusal::NoSuchIssue);
+        if let Some(refusal) = self.issue_refusal(listing.issue) {
+            return Reply::Refused(refusal);
         }
-        if self.prices.is_retired(listing.issue) {
-            return Reply::Refused(Refusal::Retired);
-        }
+        // Every price is within its limit; the call tells the prover.
+        let _ = listing.price.value();
         self.prices.set(listing.issue, listing.price);
         Reply::Accepted
     }

@@ -1,14 +1,12 @@
 // Notices of intention to buy in.
-ghost use Rattle.std.specs.Prelude.{◌≡◌, ◌≤◌, length, List, None, Ok, Some, option_map, true, ◌↔◌};
+ghost use Rattle.std.specs.Prelude.{◌≡◌, ◌≤◌, length, None, Ok, Some, option_map, true, ◌↔◌};
 ghost use Rattle.std.specs.Option.{ForNone};
 ghost use Rattle.cns_terms.specs.declared.buy_in.Stage.TheVariants.{Live};
-ghost use Rattle.cns_terms.specs.declared.command.Activity.{Activity};
 ghost use Rattle.cns_terms.specs.declared.command.Activity.TheVariants as activity;
 ghost use Rattle.cns_terms.specs.declared.command.Command.TheVariants as command;
-ghost use Rattle.cns_terms.specs.Entries.{journal};
 ghost use Rattle.cns_terms.specs.Refusals.{refusal};
 ghost use Rattle.cns_notices.specs.Noticed.{live_number, notice_at};
-ghost use Rattle.cns_book.specs.Follows.{Follows, HasRoom, Steps};
+ghost use Rattle.cns_book.specs.Follows.{Answers, HasRoom, Refuses};
 
 use crate::parts::Parts;
 use cns_notices::Stage;
@@ -21,18 +19,14 @@ impl<P: Positions<A>, A: Allocator + Drop + Clone> Parts<P, A> {
     // Why a NOTICE is refused.
     fn notice_refusal(&self, movement: &Movement) -> Option<Refusal>
         requires { HasRoom self.now }
-        ensures refusal { (L : List Activity) → Follows L self.now → result ≡ refusal self.now.opening (journal self.now.opening L) (command.Activity (activity.Notice movement.now)) }
+        ensures refusal { Refuses self.now (command.Activity (activity.Notice movement.now)) result }
         ensures alone { ForNone result (live_number self.now.notices movement.now.member movement.now.issue ≡ None) }
     {
-        let Some(position) = self.position_of(movement.member, movement.issue) else {
+        let Some(position) = self.member_position(movement.member, movement.issue) else {
             return Some(Refusal::NoSuchMember);
         };
-        let (listed, retired) = self.listed_and_retired(movement.issue);
-        if !listed {
-            return Some(Refusal::NoSuchIssue);
-        }
-        if retired {
-            return Some(Refusal::Retired);
+        if let Some(refusal) = self.issue_refusal(movement.issue) {
+            return Some(refusal);
         }
         if is_exceeded(position, movement.shares) {
             return Some(Refusal::ExceedsPosition);
@@ -50,7 +44,7 @@ impl<P: Positions<A>, A: Allocator + Drop + Clone> Parts<P, A> {
     pub fn give_notice(&mut self, movement: &Movement) -> Result<Reply, NoMemory>
         requires { HasRoom self.old }
         ensures opening { self.new.opening ≡ self.old.opening }
-        ensures step { (L : List Activity) → Follows L self.old → Steps L (command.Activity (activity.Notice movement.now)) result self.new }
+        ensures step { Answers self.old (command.Activity (activity.Notice movement.now)) result self.new }
     {
         if let Some(refusal) = self.notice_refusal(movement) {
             return Ok(Reply::Refused(refusal));
@@ -75,7 +69,7 @@ impl<P: Positions<A>, A: Allocator + Drop + Clone> Parts<P, A> {
 
     // Why a WITHDRAW is refused.
     fn withdraw_refusal(&self, number: u32) -> Option<Refusal>
-        ensures refusal { (L : List Activity) → Follows L self.now → result ≡ refusal self.now.opening (journal self.now.opening L) (command.Activity (activity.Withdraw number)) }
+        ensures refusal { Refuses self.now (command.Activity (activity.Withdraw number)) result }
         ensures there { ForNone result ((1 ≤ number) × (number ≤ length self.now.notices)) }
         ensures live { ForNone result (Some Live ≡ option_map (λ x. x.stage) (notice_at self.now.notices number)) }
     {
@@ -91,7 +85,7 @@ impl<P: Positions<A>, A: Allocator + Drop + Clone> Parts<P, A> {
     /// WITHDRAW.
     pub fn withdraw(&mut self, number: u32) -> Reply
         ensures opening { self.new.opening ≡ self.old.opening }
-        ensures step { (L : List Activity) → Follows L self.old → Steps L (command.Activity (activity.Withdraw number)) (Ok result) self.new }
+        ensures step { Answers self.old (command.Activity (activity.Withdraw number)) (Ok result) self.new }
     {
         if let Some(refusal) = self.withdraw_refusal(number) {
             return Reply::Refused(refusal);

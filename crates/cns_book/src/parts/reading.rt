@@ -1,29 +1,29 @@
 // What the parts show.
-ghost use Rattle.std.specs.Prelude.{◌≡◌, ◌≤◌, List, Some, None, option_map, if◌then◌else◌, unsigned_abs};
+ghost use Rattle.std.specs.Prelude.{◌≡◌, ◌≤◌, Some, None, option_map, unsigned_abs};
 ghost use Rattle.std.specs.Arc.{arc_value};
 ghost use Rattle.std.specs.Option.{ForSome, option_copied};
-ghost use Rattle.cns_terms.specs.declared.command.Activity.{Activity};
 ghost use Rattle.cns_terms.specs.declared.command.Command.TheVariants as command;
 ghost use Rattle.cns_terms.specs.Days.{date, day};
-ghost use Rattle.cns_terms.specs.Entries.{journal};
 ghost use Rattle.cns_terms.specs.Fills.{batches};
 ghost use Rattle.cns_terms.specs.Limits.{position_limit};
-ghost use Rattle.cns_terms.specs.Listings.{is_account, is_listed, is_member, is_retired};
-ghost use Rattle.cns_terms.specs.Machine.{answer_to, holding};
-ghost use Rattle.cns_terms.specs.Positions.{position};
-ghost use Rattle.cns_terms.specs.Refusals.{refusal};
+ghost use Rattle.cns_terms.specs.Listings.{is_account, is_listed, is_retired};
+ghost use Rattle.cns_terms.specs.Holdings.{holding};
+ghost use Rattle.cns_terms.specs.Machine.{answer_over};
+ghost use Rattle.cns_terms.specs.Refusals.{first_refusal};
 ghost use Rattle.cns_terms.specs.Sheets.{sheet_on};
+ghost use Rattle.cns_trades.specs.Checks.{issue_rules};
 ghost use Rattle.cns_positions.specs.Rows.{holding_at};
 ghost use Rattle.cns_book.specs.Dated.{dated_sheet};
-ghost use Rattle.cns_book.specs.Follows.{Follows, HasRoom};
-ghost use Rattle.cns_book.specs.Shown.{batch_listed, holding_shown, notice_listed, price_listed};
+ghost use Rattle.cns_book.specs.Follows.{HasRoom, Refuses, Shows, member_position};
+ghost use Rattle.cns_book.specs.Shown.{batch_listed, position_listed, notice_listed, price_listed};
 
 use crate::notice::Notice;
 use crate::parts::Parts;
 use cns_positions::Positions;
 use cns_retransmit::Batch;
 use cns_sheets::Sheet;
-use cns_terms::{Holding, Key, Refusal, Reply};
+use cns_terms::{Held, Holding, Key, Refusal, Reply};
+use cns_trades::check_issue;
 use cns_units::{Account, Cusip, Day, Member, Price};
 use std::alloc::Allocator;
 use std::sync::Arc;
@@ -31,43 +31,43 @@ use std::sync::Arc;
 impl<P: Positions<A>, A: Allocator + Drop + Clone> Parts<P, A> {
     /// The open day's date.
     pub fn today(&self) -> Day
-        ensures { (L : List Activity) → Follows L self.now → result ≡ date self.now.opening (journal self.now.opening L) }
+        ensures { Shows self.now (λ J. result ≡ date self.now.opening J) }
     {
         self.today
     }
 
     /// The open day's number, from 1.
     pub fn day(&self) -> u64
-        ensures { (L : List Activity) → Follows L self.now → result ≡ day (journal self.now.opening L) }
+        ensures { Shows self.now (λ J. result ≡ day J) }
     {
         u64::from(self.closes) + 1
     }
 
     /// The price of an issue, None where it is not listed.
     pub fn price(&self, issue: Cusip) -> Option<Price>
-        ensures { (L : List Activity) → Follows L self.now → result ≡ price_listed (journal self.now.opening L) issue }
+        ensures { Shows self.now (λ J. result ≡ price_listed J issue) }
     {
         self.prices.price(issue)
     }
 
     /// Whether the account is there: the corporation's always is.
     pub fn is_account(&self, account: Account) -> bool
-        ensures { (L : List Activity) → Follows L self.now → result ≡ is_account (journal self.now.opening L) account }
+        ensures { Shows self.now (λ J. result ≡ is_account J account) }
     {
         account == Account::CORPORATION || self.members.contains(account)
     }
 
     // Whether the issue is listed.
     fn is_listed(&self, issue: Cusip) -> bool
-        ensures { (L : List Activity) → Follows L self.now → result ≡ is_listed (journal self.now.opening L) issue }
+        ensures { Shows self.now (λ J. result ≡ is_listed J issue) }
     {
         self.prices.price(issue).is_some()
     }
 
     /// Whether the issue is listed, and whether it is retired.
     pub fn listed_and_retired(&self, issue: Cusip) -> (bool, bool)
-        ensures listed { (L : List Activity) → Follows L self.now → result.0 ≡ is_listed (journal self.now.opening L) issue }
-        ensures retired { (L : List Activity) → Follows L self.now → result.1 ≡ is_retired (journal self.now.opening L) issue }
+        ensures listed { Shows self.now (λ J. result.0 ≡ is_listed J issue) }
+        ensures retired { Shows self.now (λ J. result.1 ≡ is_retired J issue) }
     {
         match self.prices.quote(issue) {
             Some(quote) => (true, quote.retired),
@@ -75,25 +75,36 @@ impl<P: Positions<A>, A: Allocator + Drop + Clone> Parts<P, A> {
         }
     }
 
+    /// Why an issue is not booked in, priced or paid on: it is not listed, or it is retired.
+    pub fn issue_refusal(&self, issue: Cusip) -> Option<Refusal>
+        ensures { Shows self.now (λ J. result ≡ first_refusal (issue_rules (is_listed J issue) (is_retired J issue))) }
+    {
+        let (listed, retired) = self.listed_and_retired(issue);
+        match check_issue(listed, retired) {
+            Ok(()) => None,
+            Err(refusal) => Some(refusal),
+        }
+    }
+
     /// What stands at a key. Where only the position is asked for, no more than that is read.
     #[inline(always)]
-    pub fn standing(&self, key: Key) -> Holding
+    pub fn holding(&self, key: Key) -> Holding
         ensures now { result ≡ holding_at self.now.rows key }
         ensures member { HasRoom self.now → 1 ≤ key.account → unsigned_abs result.now ≤ position_limit }
-        ensures value { (L : List Activity) → Follows L self.now → result ≡ holding (journal self.now.opening L) key.account key.issue }
+        ensures value { Shows self.now (λ J. result ≡ holding J key.account key.issue) }
     {
         self.positions.get(key)
     }
 
     /// A member's position, None where it is no member.
-    pub fn position_of(&self, member: Member, issue: Cusip) -> Option<i64>
-        ensures value { (L : List Activity) → Follows L self.now → result ≡ (if is_member (journal self.now.opening L) member then Some (position (journal self.now.opening L) member issue) else None) }
+    pub fn member_position(&self, member: Member, issue: Cusip) -> Option<i64>
+        ensures value { Shows self.now (λ J. result ≡ member_position J member issue) }
         ensures member { 1 ≤ member }
         ensures small { HasRoom self.now → ForSome result (λ q. unsigned_abs q ≤ position_limit) }
     {
         let account = member.account();
         if self.members.contains(account) {
-            Some(self.standing(Key { account, issue }).now)
+            Some(self.holding(Key { account, issue }).now)
         } else {
             None
         }
@@ -101,7 +112,7 @@ impl<P: Positions<A>, A: Allocator + Drop + Clone> Parts<P, A> {
 
     // Why a POSITION is refused.
     fn position_refusal(&self, key: Key) -> Option<Refusal>
-        ensures { (L : List Activity) → Follows L self.now → result ≡ refusal self.now.opening (journal self.now.opening L) (command.Position key) }
+        ensures { Refuses self.now (command.Position key) result }
     {
         if !self.is_account(key.account) {
             return Some(Refusal::NoSuchMember);
@@ -113,38 +124,39 @@ impl<P: Positions<A>, A: Allocator + Drop + Clone> Parts<P, A> {
     }
 
     /// What a POSITION would show, None where it would be refused.
-    pub fn shown(&self, key: Key) -> Option<Holding>
-        ensures { (L : List Activity) → Follows L self.now → result ≡ holding_shown self.now.opening L key }
+    pub fn position(&self, key: Key) -> Option<Holding>
+        ensures { Shows self.now (λ J. result ≡ position_listed self.now.opening J key) }
     {
         let key = &key;
         match self.position_refusal(*key) {
             Some(_) => None,
-            None => Some(self.standing(*key)),
+            None => Some(self.holding(*key)),
         }
     }
 
     /// POSITION.
-    pub fn position(&self, key: Key) -> Reply
-        ensures { (L : List Activity) → Follows L self.now → result ≡ answer_to self.now.opening L (command.Position key) }
+    pub fn answer_position(&self, key: Key) -> Reply
+        ensures { Shows self.now (λ J. result ≡ answer_over self.now.opening J (command.Position key)) }
     {
         let key = &key;
         match self.position_refusal(*key) {
             Some(refusal) => Reply::Refused(refusal),
-            None => Reply::Held(*key, self.standing(*key)),
+            None => Reply::Held(Held::of(*key, self.holding(*key))),
         }
     }
 
     /// The sheet of the closed day with the date; None where no closed day has it.
     pub fn sheet(&self, date: Day) -> Option<&Arc<Sheet<A>, A>>
         ensures now { option_map arc_value (option_copied result) ≡ dated_sheet self.now.sheets date }
-        ensures value { (L : List Activity) → Follows L self.now → option_map arc_value (option_copied result) ≡ sheet_on self.now.opening (journal self.now.opening L) date }
+        ensures value { Shows self.now
+            (λ J. option_map arc_value (option_copied result) ≡ sheet_on self.now.opening J date) }
     {
         self.closed.find(date)
     }
 
     /// A notice as it stands; None where none has the number.
     pub fn notice(&self, number: u32) -> Option<Notice>
-        ensures { (L : List Activity) → Follows L self.now → result ≡ notice_listed (journal self.now.opening L) number }
+        ensures { Shows self.now (λ J. result ≡ notice_listed J number) }
     {
         if !self.is_noticed(number) {
             return None;
@@ -162,21 +174,21 @@ impl<P: Positions<A>, A: Allocator + Drop + Clone> Parts<P, A> {
 
     /// The batches of a day, in the order of the bytes of their issues; none where the day is not closed.
     pub fn batches(&self, day: u32) -> &[Batch<A>]
-        ensures { (L : List Activity) → Follows L self.now → result.now ≡ batches (journal self.now.opening L) day }
+        ensures { Shows self.now (λ J. result.now ≡ batches J day) }
     {
         self.batches.of_day(u64::from(day))
     }
 
     /// The batch of a day in an issue; None where nobody is liable there.
     pub fn batch(&self, day: u32, cusip: Cusip) -> Option<&Batch<A>>
-        ensures { (L : List Activity) → Follows L self.now → option_copied result ≡ batch_listed (journal self.now.opening L) day cusip }
+        ensures { Shows self.now (λ J. option_copied result ≡ batch_listed J day cusip) }
     {
         self.batches.find(u64::from(day), cusip)
     }
 
     /// STATEMENT.
-    pub fn statement(&self, account: Account, date: Day) -> Reply
-        ensures { (L : List Activity) → Follows L self.now → result ≡ answer_to self.now.opening L (command.Statement account date) }
+    pub fn answer_statement(&self, account: Account, date: Day) -> Reply
+        ensures { Shows self.now (λ J. result ≡ answer_over self.now.opening J (command.Statement account date)) }
     {
         if !self.is_account(account) {
             return Reply::Refused(Refusal::NoSuchMember);

@@ -1,19 +1,16 @@
 // Retransmittal: the batches that a close chooses.
-ghost use Rattle.std.specs.Prelude.{◌≡◌, ◌+◌, ◌^◌, ◌<◌, ◌≤◌, [], List, Some, IfOk, OnOk, length, filter_map, option_map, sum_by, unsigned_abs};
+ghost use Rattle.std.specs.Prelude.{◌≡◌, ◌+◌, ◌^◌, ◌<◌, ◌≤◌, [], Some, IfOk, OnOk, length, filter_map, option_map, sum_by, unsigned_abs};
 ghost use Rattle.std.specs.List.{AllByRecursion};
 ghost use Rattle.std.specs.Option.{ForSome};
 ghost use Rattle.cns_units.specs.declared.cusip.Cusip.{Cusip};
-ghost use Rattle.cns_terms.specs.declared.command.Activity.{Activity};
-ghost use Rattle.cns_terms.specs.Entries.{journal};
 ghost use Rattle.cns_terms.specs.Fills.{batches_since};
 ghost use Rattle.cns_terms.specs.Limits.{corporation_limit};
 ghost use Rattle.cns_terms.specs.Sheets.{day_sheet};
 ghost use Rattle.cns_notices.specs.Noticed.{notice_at};
 ghost use Rattle.cns_retransmit.specs.Calls.{called_in, shorts_in, total_in};
 ghost use Rattle.cns_retransmit.specs.Days.{RiseByIssue};
-ghost use Rattle.cns_book.specs.Follows.{Follows, HasRoom};
-ghost use Rattle.cns_terms.specs.Batches.{short_in};
-ghost use Rattle.cns_book.specs.Retransmittal.{called_by, remaining_by, run_at, with_shorts};
+ghost use Rattle.cns_book.specs.Follows.{HasRoom, Shows};
+ghost use Rattle.cns_book.specs.Retransmittal.{called_by, remaining_by, run_at, short_in, with_shorts};
 
 use crate::parts::Parts;
 use cns_positions::Positions;
@@ -42,7 +39,7 @@ impl<P: Positions<A>, A: Allocator + Drop + Clone> Parts<P, A> {
         ensures { Some result ≡ option_map (remaining_by self.now.rows) (notice_at self.now.notices number) }
     {
         let given = self.notices.given(number);
-        let position = self.standing(Key {
+        let position = self.holding(Key {
             account: given.member.account(),
             issue: given.issue,
         });
@@ -53,7 +50,8 @@ impl<P: Positions<A>, A: Allocator + Drop + Clone> Parts<P, A> {
     // day are the last ones.
     fn calls_of_day(&self) -> Result<Calls<A>, NoMemory>
         requires { HasRoom self.now }
-        ensures total { IfOk result (λ v. (c : Cusip) → total_in v c ≡ called_by self.now.rows (self.now.closes + 1) c self.now.notices) }
+        ensures total { IfOk result
+            (λ v. (c : Cusip) → total_in v c ≡ called_by self.now.rows (self.now.closes + 1) c self.now.notices) }
         ensures shorts { IfOk result (λ v. (c : Cusip) → shorts_in v c ≡ []) }
         ensures some { IfOk result (λ v. (c : Cusip) → ForSome (called_in v c) (λ x. 1 ≤ x.total)) }
     {
@@ -79,7 +77,10 @@ impl<P: Positions<A>, A: Allocator + Drop + Clone> Parts<P, A> {
     fn add_shorts(&self, calls: &mut Calls<A>, rows: SheetRows<'_, A>) -> Result<(), NoMemory>
         requires room { HasRoom self.now }
         requires few { AllByRecursion (λ r. unsigned_abs r.closing ≤ corporation_limit) rows }
-        ensures { OnOk result ((c : Cusip) → called_in calls.new c ≡ option_map (with_shorts (filter_map (short_in (run_at self.now.rows) c) rows.entry)) (called_in calls.old c)) }
+        ensures { OnOk result
+            ((c : Cusip) → called_in calls.new c
+            ≡ option_map (with_shorts (filter_map (short_in (run_at self.now.rows) c) rows.entry))
+            (called_in calls.old c)) }
     {
         for row in rows {
             if row.closing >= 0 || !calls.is_called(row.issue) {
@@ -88,7 +89,7 @@ impl<P: Positions<A>, A: Allocator + Drop + Clone> Parts<P, A> {
             let Ok(member) = Member::new(row.account.value()) else {
                 continue;
             };
-            let standing = self.standing(Key {
+            let holding = self.holding(Key {
                 account: row.account,
                 issue: row.issue,
             });
@@ -97,7 +98,7 @@ impl<P: Positions<A>, A: Allocator + Drop + Clone> Parts<P, A> {
                 Short {
                     member,
                     shares: row.closing.unsigned_abs(),
-                    age: standing.run + 1,
+                    age: holding.run + 1,
                 },
             )?;
         }
@@ -108,8 +109,8 @@ impl<P: Positions<A>, A: Allocator + Drop + Clone> Parts<P, A> {
     /// the sheet that the close cut (this project's profile of NSCC Procedure X).
     pub fn choose_batches(&self, sheet: &Sheet<A>) -> Result<Vec<Batch<A>, A>, NoMemory>
         requires room { HasRoom self.now }
-        requires cut { (L : List Activity) → Follows L self.now → sheet.now ≡ day_sheet self.now.opening (journal self.now.opening L) }
-        ensures batches { IfOk result (λ v. (L : List Activity) → Follows L self.now → v.items ≡ batches_since (journal self.now.opening L) (journal self.now.opening L)) }
+        requires cut { Shows self.now (λ J. sheet.now ≡ day_sheet self.now.opening J) }
+        ensures batches { IfOk result (λ v. Shows self.now (λ J. v.items ≡ batches_since J J)) }
         ensures rise { IfOk result (λ v. RiseByIssue v.items) }
     {
         let mut calls = self.calls_of_day()?;

@@ -1,11 +1,10 @@
 // Trades, deliveries and receipts.
-ghost use Rattle.std.specs.Prelude.{◌≡◌, List, ◌≤◌, unsigned_abs};
+ghost use Rattle.std.specs.Prelude.{◌≡◌, ◌≤◌, unsigned_abs};
 ghost use Rattle.std.specs.Option.{ForSome};
-ghost use Rattle.cns_terms.specs.declared.command.Activity.{Activity};
 ghost use Rattle.cns_terms.specs.declared.command.Activity.TheVariants as activity;
 ghost use Rattle.cns_terms.specs.declared.command.Command.TheVariants as command;
 ghost use Rattle.cns_terms.specs.Limits.{position_limit};
-ghost use Rattle.cns_book.specs.Follows.{AreMoveFacts, AreTradeFacts, Follows, HasRoom, Steps};
+ghost use Rattle.cns_book.specs.Follows.{AreMoveFacts, AreTradeFacts, Answers, HasRoom, Shows};
 
 use crate::effect::{book, prepare};
 use crate::parts::Parts;
@@ -19,13 +18,13 @@ impl<P: Positions<A>, A: Allocator + Drop + Clone> Parts<P, A> {
     // What a trade is checked against.
     fn trade_facts(&self, trade: &Trade) -> TradeFacts
         requires { HasRoom self.now }
-        ensures facts { (L : List Activity) → Follows L self.now → AreTradeFacts L self.now.opening trade.now result }
+        ensures facts { Shows self.now (λ J. AreTradeFacts self.now.opening J trade.now result) }
         ensures buyer { ForSome result.buyer (λ q. unsigned_abs q ≤ position_limit) }
         ensures seller { ForSome result.seller (λ q. unsigned_abs q ≤ position_limit) }
     {
         // The positions first: their rows may be far away, and what follows needn't wait for them.
-        let buyer = self.position_of(trade.buyer, trade.issue);
-        let seller = self.position_of(trade.seller, trade.issue);
+        let buyer = self.member_position(trade.buyer, trade.issue);
+        let seller = self.member_position(trade.seller, trade.issue);
         let (listed, retired) = self.listed_and_retired(trade.issue);
         TradeFacts {
             buyer,
@@ -38,14 +37,14 @@ impl<P: Positions<A>, A: Allocator + Drop + Clone> Parts<P, A> {
 
     // What a delivery or a receipt is checked against.
     fn move_facts(&self, movement: &Movement) -> MoveFacts
-        ensures facts { (L : List Activity) → Follows L self.now → AreMoveFacts L self.now.opening movement.now result }
+        ensures facts { Shows self.now (λ J. AreMoveFacts J movement.now result) }
     {
         let corporation = Key {
             account: Account::CORPORATION,
             issue: movement.issue,
         };
-        let member = self.position_of(movement.member, movement.issue);
-        let corporation = self.standing(corporation).now;
+        let member = self.member_position(movement.member, movement.issue);
+        let corporation = self.holding(corporation).now;
         let (listed, retired) = self.listed_and_retired(movement.issue);
         MoveFacts {
             member,
@@ -59,7 +58,7 @@ impl<P: Positions<A>, A: Allocator + Drop + Clone> Parts<P, A> {
     pub fn book_trade(&mut self, trade: &Trade) -> Result<Reply, NoMemory>
         requires { HasRoom self.old }
         ensures opening { self.new.opening ≡ self.old.opening }
-        ensures step { (L : List Activity) → Follows L self.old → Steps L (command.Activity (activity.Trade trade.now)) result self.new }
+        ensures step { Answers self.old (command.Activity (activity.Trade trade.now)) result self.new }
     {
         let facts = self.trade_facts(trade);
         let entries = match self.trades.check_trade(&facts, trade) {
@@ -76,7 +75,7 @@ impl<P: Positions<A>, A: Allocator + Drop + Clone> Parts<P, A> {
     pub fn deliver(&mut self, movement: &Movement) -> Result<Reply, NoMemory>
         requires { HasRoom self.old }
         ensures opening { self.new.opening ≡ self.old.opening }
-        ensures step { (L : List Activity) → Follows L self.old → Steps L (command.Activity (activity.Deliver movement.now)) result self.new }
+        ensures step { Answers self.old (command.Activity (activity.Deliver movement.now)) result self.new }
     {
         let facts = self.move_facts(movement);
         let entries = match self.trades.check_delivery(&facts, movement) {
@@ -92,7 +91,7 @@ impl<P: Positions<A>, A: Allocator + Drop + Clone> Parts<P, A> {
     pub fn receive(&mut self, movement: &Movement) -> Result<Reply, NoMemory>
         requires { HasRoom self.old }
         ensures opening { self.new.opening ≡ self.old.opening }
-        ensures step { (L : List Activity) → Follows L self.old → Steps L (command.Activity (activity.Receive movement.now)) result self.new }
+        ensures step { Answers self.old (command.Activity (activity.Receive movement.now)) result self.new }
     {
         let facts = self.move_facts(movement);
         let entries = match self.trades.check_receipt(&facts, movement) {

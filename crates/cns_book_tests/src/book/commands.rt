@@ -113,7 +113,7 @@ pub(super) fn dividend_payable(
         panic!(rt; "no rate");
     };
     Command::Activity(Activity::Dividend(Declared {
-        cusip: cusip(rt, issue),
+        issue: cusip(rt, issue),
         recorded: date(rt, recorded),
         payable: date(rt, payable),
         rate,

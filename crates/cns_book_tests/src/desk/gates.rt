@@ -4,7 +4,7 @@ ghost use Rattle.cns_terms.specs.declared.source.SourceFault.TheVariants as faul
 
 use super::{OPENING, day, hundred, issue, key, member, position, source, trade};
 use cns_desk::{End, ListSource, Outcome, RunFault, run_workers};
-use cns_terms::{Gate, Holding, Item, NoGate, Reply, Source, SourceFault, Worker};
+use cns_terms::{Gate, Held, Holding, Item, NoGate, Reply, Source, SourceFault, Worker};
 use std::alloc::Global;
 use std::sync::Wait;
 use std::sync::atomic::AtomicU64;
@@ -153,7 +153,10 @@ fn a_reply_shows_what_another_worker_was_answered_before(rt: HostRuntime) -> Res
     let [item] = log.items() else {
         return Err(Fail::new("not one reply"));
     };
-    assert_eq!(&rt; item.receipt.reply, Reply::Held(key(101)?, long(5)));
+    assert_eq!(&rt;
+        item.receipt.reply,
+        Reply::Held(Held::of(key(101)?, long(5)))
+    );
     Ok(())
 }
 

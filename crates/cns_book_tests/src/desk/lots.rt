@@ -122,7 +122,7 @@ impl Lot {
             return Err(Fail::new("no rate"));
         };
         Ok(Declared {
-            cusip: self.issue()?,
+            issue: self.issue()?,
             recorded,
             payable,
             rate,

@@ -5,8 +5,8 @@ use Rattle.cns_terms.specs.declared.holding.Holding.{Holding}
 use Rattle.cns_positions.specs.Rows.{booked, books, holding_at}
 use Rattle.cns_trades.specs.Checks.{IsSmallEntry}
 use Rattle.cns_book.specs.Effects.{place_of}
-use Rattle.cns_book.proofs.Booking.{books_step, cents_fit, place_at, shares_fit, small_at}
-use Rattle.cns_book.proofs.Places.{books_none}
+use Rattle.cns_book.proofs.EffectEntries.{books_step, cents_fit, place_at, shares_fit, small_at}
+use Rattle.cns_book.proofs.EffectPlaces.{books_none}
 use Rattle.cns_book.proofs.effect.book.Goals as goal
 
 pub loop-entry-init : goal.loop-entry-init

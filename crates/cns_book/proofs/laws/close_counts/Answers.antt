@@ -1,5 +1,5 @@
-use Rattle.cns_book.proofs.LiableCounts.{liable_counts}
-use Rattle.cns_book.proofs.laws.liable_counts.Goals as goal
+use Rattle.cns_book.proofs.LawCloseCounts.{close_counts}
+use Rattle.cns_book.proofs.laws.close_counts.Goals as goal
 
 pub returns : goal.returns
-returns c = liable_counts
+returns c = close_counts

@@ -41,12 +41,12 @@ pub loop-turn-preserved : goal.loop-turn-preserved
 loop-turn-preserved g c =
     let inv = c.loop-turn.invariant in
     let one = rw c.in-Some.is at c.in_ok-line.ensures in
-    let q = c.in_ok-outcome.ensures in
+    let q = c.in_ok-response.ensures in
     record {
       counts = up_to-line _ _ _ _ c.add.ensures inv.counts;
       setup = one.1;
       room = room-line c.loop-turn.book _ _ (2 ^ 32 - 1 - (c.loop-turn._turn + 1)) q.after (omega (arith, c.loop-turn-test.true, inv.room));
-      along = λ all p. along-line g.R.Read.remaining c.loop-turn.records c.read_line.new.self _ _ _ _ _ None None None _ _ _ all one.0 q.after q.outcome c.add.ensures tt (inv.along all p);
+      along = λ all p. along-line g.R.Read.remaining c.loop-turn.records c.read_line.new.self _ _ _ _ _ None None None _ _ _ all one.0 q.after q.response c.add.ensures tt (inv.along all p);
     }
 
 pub returns-clause-err : goal.returns-clause-err

@@ -47,18 +47,18 @@ returns-in_default-clause-counts g c all q =
     let none = rw c.in_default.is at c.in_ok-line.ensures in
     (along-all g.R.Read.remaining c.loop-turn.records _ _ _ _ _ _ all none (along-kept g.R.Read.remaining c.loop-turn.records _ _ _ _ _ _ _ all c.flush.ensures.text (c.loop-turn.invariant.along all q))).takes.counts
 
-pub returns-in_err-outcome-clause-fault : goal.returns-in_err-outcome-clause-fault
-returns-in_err-outcome-clause-fault g c =
-    let p = err_from_is_err_and c.from_residual-in_err-outcome.result c.from_residual-in_err-outcome.ensures.1 in
+pub returns-in_err-response-clause-fault : goal.returns-in_err-response-clause-fault
+returns-in_err-response-clause-fault g c =
+    let p = err_from_is_err_and c.from_residual-in_err-response.result c.from_residual-in_err-response.ensures.1 in
     let one = rw c.in-Some.is at c.in_ok-line.ensures in
     rw (p.1, p.2) (λ all q.
-    along-at g.R.Read.remaining c.loop-turn.records c.read_line.new.self _ _ _ _ _ _ _ _ _ all _ one.0 c.in_err-outcome.ensures.err
+    along-at g.R.Read.remaining c.loop-turn.records c.read_line.new.self _ _ _ _ _ _ _ _ _ all _ one.0 c.in_err-response.ensures.err
     (along-kept g.R.Read.remaining c.loop-turn.records _ _ _ _ _ _ _ all c.flush.ensures.text (c.loop-turn.invariant.along all q)))
 
-pub returns-in_err-outcome-clause-room : goal.returns-in_err-outcome-clause-room
-returns-in_err-outcome-clause-room g c =
-    let p = err_from_is_err_and c.from_residual-in_err-outcome.result c.from_residual-in_err-outcome.ensures.1 in
-    rw (p.1, p.2) (leaves-not_full _ _ _ _ c.in_err-outcome.ensures.err)
+pub returns-in_err-response-clause-room : goal.returns-in_err-response-clause-room
+returns-in_err-response-clause-room g c =
+    let p = err_from_is_err_and c.from_residual-in_err-response.result c.from_residual-in_err-response.ensures.1 in
+    rw (p.1, p.2) (leaves-not_full _ _ _ _ c.in_err-response.ensures.err)
 
 pub add-requires : goal.add-requires
 add-requires g c = up_to-less _ c.loop-turn._turn _ (omega (arith, c.loop-turn-test.true)) c.loop-turn.invariant.counts
@@ -67,12 +67,12 @@ pub loop-turn-preserved : goal.loop-turn-preserved
 loop-turn-preserved g c =
     let inv = c.loop-turn.invariant in
     let one = rw c.in-Some.is at c.in_ok-line.ensures in
-    let q = c.in_ok-outcome.ensures in
+    let q = c.in_ok-response.ensures in
     record {
       counts = up_to-line _ _ _ _ c.add.ensures inv.counts;
       setup = one.1;
       room = room-line c.loop-turn.book _ _ (2 ^ 32 - 1 - (c.loop-turn._turn + 1)) q.after (omega (arith, c.loop-turn-test.true, inv.room));
-      along = λ all p. along-line g.R.Read.remaining c.loop-turn.records c.read_line.new.self _ _ _ _ _ _ _ _ _ _ _ all one.0 q.after q.outcome c.add.ensures q.text
+      along = λ all p. along-line g.R.Read.remaining c.loop-turn.records c.read_line.new.self _ _ _ _ _ _ _ _ _ _ _ all one.0 q.after q.response c.add.ensures q.text
           (along-kept g.R.Read.remaining c.loop-turn.records _ _ _ _ _ _ _ all c.flush.ensures.text (inv.along all p));
     }
 

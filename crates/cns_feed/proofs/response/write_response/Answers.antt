@@ -3,7 +3,7 @@ use Rattle.cns_units.proofs.OutputLemmas.{front_longer, writes_then}
 use Rattle.cns_book.specs.Log.{state_of}
 use Rattle.cns_feed.specs.Output.{rest_text}
 use Rattle.cns_feed.specs.Text.{reply_line}
-use Rattle.cns_feed.proofs.outcome.write_outcome.Goals as goal
+use Rattle.cns_feed.proofs.response.write_response.Goals as goal
 
 pub returns-in_err-reply_text-in-Replied : goal.returns-in_err-reply_text-in-Replied
 returns-in_err-reply_text-in-Replied g c =

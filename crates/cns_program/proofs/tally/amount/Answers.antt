@@ -1,8 +1,8 @@
 use Rattle.std.proofs.Common.{◌≡◌, rules}
 use Rattle.std.specs.Str.{IsUtf8}
-use Rattle.cns_program.specs.Summary.{total_text}
+use Rattle.cns_program.specs.Tally.{total_text}
 use Rattle.cns_program.proofs.Tallied.{total_is_text}
-use Rattle.cns_program.proofs.summary.amount.Goals as goal
+use Rattle.cns_program.proofs.tally.amount.Goals as goal
 
 pub unreachable-requires : goal.unreachable-requires
 unreachable-requires c =

@@ -1,6 +1,6 @@
 use Rattle.std.proofs.Common.{◌≡◌, ◌+◌, ◌<◌, ◌≤◌, length, refl, rules}
 use Rattle.cns_program.proofs.Tallied.{counts_more, lines_more}
-use Rattle.cns_program.proofs.summary.tally_of.Goals as goal
+use Rattle.cns_program.proofs.tally.counted_of.Goals as goal
 
 pub loop-place-init : goal.loop-place-init
 loop-place-init c = record {

@@ -1,7 +1,7 @@
 use Rattle.std.proofs.Common.{◌≡◌, ◌≤◌, ◌*◌, map}
 use Rattle.serde_json.specs.View.{view}
-use Rattle.cns_program.specs.Summary.{counts_to, lines_to, whole, workers_of}
-use Rattle.cns_program.proofs.summary.tally_of.Given as goal
+use Rattle.cns_program.specs.Tally.{counts_to, lines_to, whole, workers_of}
+use Rattle.cns_program.proofs.tally.counted_of.Given as goal
 
 abbrev pub invariant-loop-place : goal.invariant-loop-place
 invariant-loop-place l = record {

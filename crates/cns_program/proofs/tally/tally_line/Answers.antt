@@ -1,21 +1,21 @@
 use Rattle.std.proofs.Common.{◌≡◌, ◌-◌, ◌∷◌, ◌++◌, [], map, string_bytes, refl, ap, rules, arith, ◌∙◌}
 use Rattle.serde_json.specs.Written.{compact_text}
 use Rattle.serde_json.specs.View.{view}
-use Rattle.cns_program.specs.Summary.{counts_to, lines_to, summary_of, total_text, whole, workers_of}
-use Rattle.cns_program.proofs.Tallied.{summary_is, summary_told}
-use Rattle.cns_program.proofs.summary.summary.Goals as goal
+use Rattle.cns_program.specs.Tally.{counts_to, lines_to, tally_of, total_text, whole, workers_of}
+use Rattle.cns_program.proofs.Tallied.{tally_is, tally_told}
+use Rattle.cns_program.proofs.tally.tally_line.Goals as goal
 
 pub returns : goal.returns
 returns c =
     let o = c.args.outcome.now in
     let slice = c.as_slice.result.now in
-    let counts : map view c.in_ok-tally.tally.counts.items ≡ map whole (counts_to o.book (workers_of slice)) = c.in_ok-tally.ensures.counts in
-    let lines : c.in_ok-tally.tally.lines ≡ lines_to slice (workers_of slice) = c.in_ok-tally.ensures.lines in
+    let counts : map view c.in_ok-counted.counted.counts.items ≡ map whole (counts_to o.book (workers_of slice)) = c.in_ok-counted.ensures.counts in
+    let lines : c.in_ok-counted.counted.lines ≡ lines_to slice (workers_of slice) = c.in_ok-counted.ensures.lines in
     let dividends : c.as_str.result.now ≡ total_text = search rules in
     let marks : c.as_str-2.result.now ≡ total_text = search rules in
-    let same : view c.in_ok-summary.summary ≡ summary_of o.book slice = summary_is o.book slice _ _ _ _ c.in_ok-tally.tally.counts.items _ _ c.in_ok-summary.ensures
+    let same : view c.in_ok-tally.tally ≡ tally_of o.book slice = tally_is o.book slice _ _ _ _ c.in_ok-counted.counted.counts.items _ _ c.in_ok-tally.ensures
     (ap (λ n. n - 1) c.day-closes.ensures) c.history_len-commands.ensures.len counts dividends lines marks in
-    let is : view c.in_ok-summary.summary ≡ summary_of o.book o.logs.items = same ∙ ap (λ logs. summary_of o.book logs) c.as_slice.ensures.value in
-    let told : string_bytes c.in_ok-line.line ≡ compact_text (summary_of o.book o.logs.items) = summary_told _ _ _ _ is c.in_ok-line.ensures.text in
+    let is : view c.in_ok-tally.tally ≡ tally_of o.book o.logs.items = same ∙ ap (λ logs. tally_of o.book logs) c.as_slice.ensures.value in
+    let told : string_bytes c.in_ok-line.line ≡ compact_text (tally_of o.book o.logs.items) = tally_told _ _ _ _ is c.in_ok-line.ensures.text in
     let pushed : string_bytes c.push.new.self ≡ string_bytes c.in_ok-line.line ++ 10 ∷ [] = c.in_ok-push.ensures.bytes ∙ rw (c.in_ok-push.ensures.ascii (omega arith)) refl in
     pushed ∙ rw told refl

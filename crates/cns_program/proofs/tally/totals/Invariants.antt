@@ -1,5 +1,5 @@
 use Rattle.std.proofs.Common.{◌≡◌, pos}
-use Rattle.cns_program.proofs.summary.totals.Given as goal
+use Rattle.cns_program.proofs.tally.totals.Given as goal
 
 abbrev pub invariant-loop-log : goal.invariant-loop-log
 invariant-loop-log l = (l.marks ≡ pos 0) × (l.dividends ≡ pos 0)

@@ -1,5 +1,5 @@
 use Rattle.std.proofs.Common.{◌≡◌, pos}
-use Rattle.cns_program.proofs.summary.totals_of.Given as goal
+use Rattle.cns_program.proofs.tally.totals_of.Given as goal
 
 abbrev pub invariant-loop-item : goal.invariant-loop-item
 invariant-loop-item l = (l.marks ≡ pos 0) × (l.dividends ≡ pos 0)

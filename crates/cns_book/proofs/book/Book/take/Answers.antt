@@ -4,7 +4,7 @@ use Rattle.cns_terms.specs.History.{accepted}
 use Rattle.cns_terms.specs.declared.history.Taken.{Taken}
 use Rattle.cns_terms.specs.Machine.{answer_to}
 use Rattle.std.proofs.Common.{rules}
-use Rattle.cns_book.proofs.Taking.{has_room, book_stays, book_grows, reverse_push}
+use Rattle.cns_book.proofs.BookTaking.{has_room, book_stays, book_grows, reverse_push}
 use Rattle.cns_book.proofs.book.Book.take.Goals as goal
 
 pub answer-requires : goal.answer-requires

@@ -1,7 +1,7 @@
 use Rattle.std.proofs.Common.{◌∙◌, ◌<◌, ap, length, Some}
 use Rattle.std.specs.Arc.{arc_value}
 use Rattle.cns_book.specs.Dated.{is_dated}
-use Rattle.cns_book.proofs.Dated.{nowhere_back, sheet_at}
+use Rattle.cns_book.proofs.ClosedDaysSearch.{nowhere_back, sheet_at}
 use Rattle.cns_book.proofs.closed_days.ClosedDays.find.Goals as goal
 
 pub returns-in-Ok : goal.returns-in-Ok

@@ -6,8 +6,8 @@ use Rattle.cns_terms.specs.Listings.{is_account}
 use Rattle.cns_terms.specs.Refusals.{rules}
 use Rattle.cns_book.specs.Contents.{Contents}
 use Rattle.cns_book.specs.Follows.{Follows}
-use Rattle.cns_book.proofs.Machine.{accepted, no_refusal}
-use Rattle.cns_book.proofs.Entered.{member_added}
+use Rattle.cns_book.proofs.MachineSteps.{accepted, no_refusal}
+use Rattle.cns_book.proofs.ListingSteps.{member_added}
 use Rattle.cns_book.proofs.parts.Parts.add_member.Goals as goal
 
 pub returns-clause-step : goal.returns-clause-step

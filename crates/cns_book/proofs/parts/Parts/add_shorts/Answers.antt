@@ -7,7 +7,7 @@ use Rattle.cns_terms.specs.declared.sheet.Row.{Row}
 use Rattle.cns_terms.specs.Limits.{corporation_limit}
 use Rattle.cns_retransmit.specs.Calls.{called_in}
 use Rattle.cns_book.specs.Retransmittal.{run_at}
-use Rattle.cns_book.proofs.Shorts.{ages_fit, below_zero, not_below, not_below_zero, not_member, no_member, read_back, row_given, row_passed, short_is, some_member, uncalled_row}
+use Rattle.cns_book.proofs.RetransmittalShorts.{ages_fit, below_zero, not_below, not_below_zero, not_member, no_member, read_back, row_given, row_passed, short_is, some_member, uncalled_row}
 use Rattle.cns_book.proofs.parts.Parts.add_shorts.Goals as goal
 use Rattle.cns_book.proofs.parts.Parts.add_shorts.Goals.{then-row-ge0-via-then-row-ge0, then-row-ge0-via-else-row-ge0+then-not-is_called}
 
@@ -49,9 +49,9 @@ loop-row-preserved-in_default g c =
       shorts = row_passed (run_at s.rows) (called_in c.args.calls.now) (called_in c.loop-row.calls) c.loop-row.yielded r kept.shorts (λ d is. absurd (not_member d r (rw c.value.ensures.value at none) is));
     }
 
-pub overflow_add-standing : goal.overflow_add-standing
-overflow_add-standing g c =
-    let few = ages_fit c.args.self.now c.requires.room (record { account = c.in-Some.row.account; issue = c.in-Some.row.issue }) c.standing-standing.result c.standing-standing.ensures.value in
+pub overflow_add-holding : goal.overflow_add-holding
+overflow_add-holding g c =
+    let few = ages_fit c.args.self.now c.requires.room (record { account = c.in-Some.row.account; issue = c.in-Some.row.issue }) c.holding-holding.result c.holding-holding.ensures.value in
     omega (arith, few)
 
 pub loop-row-preserved : goal.loop-row-preserved
@@ -64,7 +64,7 @@ loop-row-preserved g c =
     let member = some_member c.new.result _ c.value.result c.in-Ok.member c.new.ensures c.in-Ok.is in
     let below : int_lt q (pos 0) ≡ true = below_zero q (subst (λ z. le_z (pos 0) z ≡ false) (read_back q few.0) c.if-row-ge0.false) in
     let shares = c.unsigned_abs.ensures.value ∙ ap unsigned_abs (read_back q few.0) ∙ short_is q below in
-    let age = ap (λ (h : Holding). h.run + 1) c.standing-standing.ensures.now in
+    let age = ap (λ (h : Holding). h.run + 1) c.holding-holding.ensures.now in
     record {
       left = onward _ _ _ _ _ kept.left c.in-Some.ensures.steps;
       few = few.1;

@@ -4,7 +4,7 @@ use Rattle.std.specs.List.{AllByRecursion}
 use Rattle.cns_terms.specs.Limits.{corporation_limit}
 use Rattle.cns_retransmit.specs.Calls.{called_in}
 use Rattle.cns_book.specs.Retransmittal.{run_at}
-use Rattle.cns_book.proofs.Shorts.{HasShorts}
+use Rattle.cns_book.proofs.RetransmittalShorts.{HasShorts}
 use Rattle.cns_book.proofs.parts.Parts.add_shorts.Given as goal
 
 abbrev pub invariant-loop-row : goal.invariant-loop-row

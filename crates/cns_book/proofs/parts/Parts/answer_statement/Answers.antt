@@ -4,8 +4,8 @@ use Rattle.cns_terms.specs.Days.{closed_on}
 use Rattle.cns_terms.specs.Entries.{journal}
 use Rattle.cns_terms.specs.Listings.{is_account}
 use Rattle.cns_terms.specs.Sheets.{DaySheet}
-use Rattle.cns_book.proofs.Dated.{answer_stated}
-use Rattle.cns_book.proofs.parts.Parts.statement.Goals as goal
+use Rattle.cns_book.proofs.ClosedDaysSearch.{answer_stated}
+use Rattle.cns_book.proofs.parts.Parts.answer_statement.Goals as goal
 
 pub returns-in-Some : goal.returns-in-Some
 returns-in-Some g c L f =

@@ -6,7 +6,7 @@ use Rattle.cns_retransmit.specs.Days.{batch_in, batch_on}
 use Rattle.cns_book.specs.Contents.{Contents}
 use Rattle.cns_book.specs.Follows.{Follows}
 use Rattle.cns_book.specs.Shown.{batch_listed}
-use Rattle.cns_book.proofs.Rooms.{on_day}
+use Rattle.cns_book.proofs.ExecutionRoom.{on_day}
 use Rattle.cns_book.proofs.parts.Parts.batch.Goals as goal
 
 pub returns : goal.returns

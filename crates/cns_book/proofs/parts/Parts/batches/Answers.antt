@@ -5,7 +5,7 @@ use Rattle.cns_terms.specs.Fills.{batches}
 use Rattle.cns_retransmit.specs.Days.{batches_on}
 use Rattle.cns_book.specs.Contents.{Contents}
 use Rattle.cns_book.specs.Follows.{Follows}
-use Rattle.cns_book.proofs.Rooms.{on_day}
+use Rattle.cns_book.proofs.ExecutionRoom.{on_day}
 use Rattle.cns_book.proofs.parts.Parts.batches.Goals as goal
 
 pub returns : goal.returns

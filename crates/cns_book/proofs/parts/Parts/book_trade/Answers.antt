@@ -7,9 +7,9 @@ use Rattle.cns_terms.specs.Refusals.{first_refusal}
 use Rattle.cns_trades.specs.Checks.{AreSmallEntries, trade_rules}
 use Rattle.cns_trades.specs.Used.{is_used}
 use Rattle.cns_book.specs.Follows.{Follows, HasRoom}
-use Rattle.cns_book.proofs.Machine.{accepted, refused, stopped}
-use Rattle.cns_book.proofs.Trading.{answer_err, answer_ok, booked_by, notices_kept, same_rows, trade_refusal}
-use Rattle.cns_book.proofs.Within.{rows_within, same_within}
+use Rattle.cns_book.proofs.MachineSteps.{accepted, refused, stopped}
+use Rattle.cns_book.proofs.TradingSteps.{answer_err, answer_ok, booked_by, notices_kept, same_rows, trade_refusal}
+use Rattle.cns_book.proofs.PartsWithin.{rows_within, same_within}
 use Rattle.cns_book.proofs.parts.Parts.book_trade.Goals as goal
 use Rattle.cns_positions.specs.Rows.{books}
 
@@ -19,8 +19,8 @@ returns-in-Err-clause-step g c L f =
     let t = c.args.trade.now in
     let facts = c.trade_facts-facts.result in
     refused {s = s} L (activity.Trade t) c.in-Err.refusal
-    (trade_refusal L s.opening t facts (is_used s.references t.reference) (c.trade_facts-facts.ensures.facts L f) (f.references t.reference)
-    ∙ answer_err (first_refusal (trade_rules facts (is_used s.references t.reference) t)) (buyer_entry t ∷ seller_entry t ∷ []) c.in-Err.refusal (rw (← c.self.view_is) c.in-Err.ensures.answer))
+    (trade_refusal L s.opening t facts (is_used s.trades.references t.reference) (c.trade_facts-facts.ensures.facts L f) (f.references t.reference)
+    ∙ answer_err (first_refusal (trade_rules facts (is_used s.trades.references t.reference) t)) (buyer_entry t ∷ seller_entry t ∷ []) c.in-Err.refusal (rw (← c.self.view_is) c.in-Err.ensures.answer))
     f
 
 pub returns-in_err-prepare-clause-step : goal.returns-in_err-prepare-clause-step
@@ -28,7 +28,7 @@ returns-in_err-prepare-clause-step g c L f =
     let f' = subst (Follows L) (sym c.self.view_is) f in
     let t = c.args.trade.now in
     let facts = c.trade_facts-facts.result in
-    let seen = is_used c.self.inside.trades t.reference in
+    let seen = is_used c.self.inside.trades.references t.reference in
     let done = answer_ok (first_refusal (trade_rules facts seen t)) (buyer_entry t ∷ seller_entry t ∷ []) c.in-Ok.entries c.in-Ok.ensures.answer in
     let none = trade_refusal L c.self.inside.opening t facts seen (rw (← c.self.view_is) at (c.trade_facts-facts.ensures.facts L f)) (f'.references t.reference) ∙ done.0 in
     stopped L (command.Activity (activity.Trade t)) c.from_residual.result c.from_residual.ensures.0 none (same_rows L _ _ f' c.in_err-prepare.ensures.same)
@@ -38,7 +38,7 @@ returns-in_err-note_reference-clause-step g c L f =
     let f' = subst (Follows L) (sym c.self.view_is) f in
     let t = c.args.trade.now in
     let facts = c.trade_facts-facts.result in
-    let seen = is_used c.self.inside.trades t.reference in
+    let seen = is_used c.self.inside.trades.references t.reference in
     let done = answer_ok (first_refusal (trade_rules facts seen t)) (buyer_entry t ∷ seller_entry t ∷ []) c.in-Ok.entries c.in-Ok.ensures.answer in
     let none = trade_refusal L c.self.inside.opening t facts seen (rw (← c.self.view_is) at (c.trade_facts-facts.ensures.facts L f)) (f'.references t.reference) ∙ done.0 in
     stopped L (command.Activity (activity.Trade t)) c.from_residual-in_err-note_reference.result c.from_residual-in_err-note_reference.ensures.0 none
@@ -53,7 +53,7 @@ returns-clause-step g c L f =
     let t = c.args.trade.now in
     let facts = c.trade_facts-facts.result in
     let are = rw (← c.self.view_is) at (c.trade_facts-facts.ensures.facts L f) in
-    let seen = is_used c.self.inside.trades t.reference in
+    let seen = is_used c.self.inside.trades.references t.reference in
     let done = answer_ok (first_refusal (trade_rules facts seen t)) (buyer_entry t ∷ seller_entry t ∷ []) c.in-Ok.entries c.in-Ok.ensures.answer in
     let none = trade_refusal L c.self.inside.opening t facts seen are (f'.references t.reference) ∙ done.0 in
     let small = subst AreSmallEntries done.1 c.in-Ok.ensures.small in

@@ -5,8 +5,8 @@ use Rattle.cns_notices.specs.declared.noticed.Noticed.{Noticed}
 use Rattle.cns_notices.specs.Noticed.{notice_at}
 use Rattle.cns_book.specs.Contents.{Contents}
 use Rattle.cns_book.specs.Follows.{HasRoom}
-use Rattle.cns_book.proofs.Calls.{call_added, call_fits, call_passed, called_whole, notice_told, other_day}
-use Rattle.cns_book.proofs.Closing.{closes_fit}
+use Rattle.cns_book.proofs.RetransmittalCalls.{call_added, call_fits, call_passed, called_whole, notice_told, other_day}
+use Rattle.cns_book.proofs.ClosingSteps.{closes_fit}
 use Rattle.cns_book.proofs.parts.Parts.calls_of_day.Goals as goal
 use Rattle.cns_book.proofs.parts.Parts.calls_of_day.Goals.{else-loop-number-test, then-loop-number-test+then-given-today, then-shares-gt0+in_ok-call, else-shares-gt0}
 

@@ -1,5 +1,5 @@
 use Rattle.std.proofs.Common.{◌≤◌, length}
-use Rattle.cns_book.proofs.Calls.{AreCalledFrom}
+use Rattle.cns_book.proofs.RetransmittalCalls.{AreCalledFrom}
 use Rattle.cns_book.proofs.parts.Parts.calls_of_day.Given as goal
 
 abbrev pub decreases-loop-number : goal.decreases-loop-number

@@ -7,10 +7,10 @@ use Rattle.cns_notices.specs.Noticed.{notice_at}
 use Rattle.cns_retransmit.specs.Days.{batch_on}
 use Rattle.cns_book.specs.Contents.{Contents}
 use Rattle.cns_book.specs.Executions.{capped_short}
-use Rattle.cns_book.proofs.Executing.{dead, execute_accepted, execute_early, execute_exceeds, execute_missing, execute_not_live, execute_over, read_live, room_by}
-use Rattle.cns_book.proofs.Noticing.{notice_missing}
-use Rattle.cns_book.proofs.Rooms.{members_of}
-use Rattle.cns_book.proofs.Within.{rows_within}
+use Rattle.cns_book.proofs.ExecutionRefusals.{dead, execute_accepted, execute_early, execute_exceeds, execute_missing, execute_not_live, execute_over, read_live, room_by}
+use Rattle.cns_book.proofs.NoticeSteps.{notice_missing}
+use Rattle.cns_book.proofs.ExecutionRoom.{members_of}
+use Rattle.cns_book.proofs.PartsWithin.{rows_within}
 use Rattle.cns_book.proofs.parts.Parts.check_execution.Goals as goal
 
 pub returns-then-not-is_noticed-clause-refused : goal.returns-then-not-is_noticed-clause-refused

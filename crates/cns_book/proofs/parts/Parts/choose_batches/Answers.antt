@@ -6,8 +6,8 @@ use Rattle.cns_terms.specs.Sheets.{DaySheet}
 use Rattle.cns_terms.proofs.Reached.{limited}
 use Rattle.cns_retransmit.specs.Calls.{batches_of}
 use Rattle.cns_book.specs.Follows.{Follows}
-use Rattle.cns_book.proofs.Retransmitting.{AreGiven, calls_are, can_choose, chosen_same, given_are, none_given, ok_both}
-use Rattle.cns_book.proofs.Shorts.{closings_few}
+use Rattle.cns_book.proofs.RetransmittalSteps.{AreGiven, calls_are, can_choose, chosen_same, given_are, none_given, ok_both}
+use Rattle.cns_book.proofs.RetransmittalShorts.{closings_few}
 use Rattle.cns_book.proofs.parts.Parts.choose_batches.Goals as goal
 use Rattle.cns_book.proofs.parts.Parts.choose_batches.Goals.{then-not-is_empty+in_ok-add_shorts, else-not-is_empty}
 

@@ -17,10 +17,10 @@ use Rattle.cns_sheets.specs.Payments.{IsCut}
 use Rattle.cns_book.specs.Contents.{Contents}
 use Rattle.cns_book.specs.Dated.{last_dated, payments_by}
 use Rattle.cns_book.specs.Follows.{Follows, HasRoom, Steps}
-use Rattle.cns_book.proofs.Closing.{after_last, closes_fit, day_closed, le_test}
-use Rattle.cns_book.proofs.Machine.{accepted, no_refusal, refused, stopped}
-use Rattle.cns_book.proofs.Retransmitting.{liable_counted, liable_few}
-use Rattle.cns_book.proofs.SheetCut.{can_be_cut, can_be_paid, sheet_is}
+use Rattle.cns_book.proofs.ClosingSteps.{after_last, closes_fit, day_closed, le_test}
+use Rattle.cns_book.proofs.MachineSteps.{accepted, no_refusal, refused, stopped}
+use Rattle.cns_book.proofs.RetransmittalSteps.{liable_counted, liable_few}
+use Rattle.cns_book.proofs.ClosingSheet.{can_be_cut, can_be_paid, sheet_is}
 use Rattle.cns_book.proofs.parts.Parts.close_day.Goals as goal
 
 pub cut-requires-clause-ready : goal.cut-requires-clause-ready

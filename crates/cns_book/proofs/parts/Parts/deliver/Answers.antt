@@ -6,10 +6,10 @@ use Rattle.cns_terms.specs.Entries.{corporation, moved_in, moved_out}
 use Rattle.cns_terms.specs.Refusals.{first_refusal}
 use Rattle.cns_trades.specs.Checks.{delivery_rules}
 use Rattle.cns_book.specs.Follows.{Follows, HasRoom}
-use Rattle.cns_book.proofs.Machine.{accepted, refused, stopped}
-use Rattle.cns_book.proofs.Moving.{delivery_refusal}
-use Rattle.cns_book.proofs.Trading.{answer_err, answer_ok, booked_by, notices_kept, same_rows}
-use Rattle.cns_book.proofs.Within.{rows_within, same_within}
+use Rattle.cns_book.proofs.MachineSteps.{accepted, refused, stopped}
+use Rattle.cns_book.proofs.TradingMovements.{delivery_refusal}
+use Rattle.cns_book.proofs.TradingSteps.{answer_err, answer_ok, booked_by, notices_kept, same_rows}
+use Rattle.cns_book.proofs.PartsWithin.{rows_within, same_within}
 use Rattle.cns_book.proofs.parts.Parts.deliver.Goals as goal
 use Rattle.cns_positions.specs.Rows.{books}
 

@@ -11,8 +11,8 @@ use Rattle.cns_positions.specs.Rows.{books, holding_at}
 use Rattle.cns_book.specs.Contents.{Contents}
 use Rattle.cns_book.specs.Effects.{exchange_rules}
 use Rattle.cns_book.specs.Follows.{Follows, HasRoom}
-use Rattle.cns_book.proofs.Acting.{exchanged, no_fault, none_fails, not_true, price_there}
-use Rattle.cns_book.proofs.Machine.{accepted, no_refusal}
+use Rattle.cns_book.proofs.ActionSteps.{exchanged, no_fault, none_fails, not_true, price_there}
+use Rattle.cns_book.proofs.MachineSteps.{accepted, no_refusal}
 use Rattle.cns_book.proofs.parts.Parts.exchange.Goals as goal
 
 pub retire-requires-clause-listed : goal.retire-requires-clause-listed

@@ -3,7 +3,7 @@ use Rattle.cns_terms.specs.Entries.{journal}
 use Rattle.cns_book.specs.Contents.{Contents}
 use Rattle.cns_book.specs.Executions.{IsAccepted, fills_by}
 use Rattle.cns_book.specs.Follows.{Follows, HasRoom}
-use Rattle.cns_book.proofs.Accepted.{accepted_steps}
+use Rattle.cns_book.proofs.ExecutionSteps.{accepted_steps}
 use Rattle.cns_book.proofs.NoticeBounds.{executions_fit}
 use Rattle.cns_book.proofs.parts.Parts.execute.Goals as goal
 

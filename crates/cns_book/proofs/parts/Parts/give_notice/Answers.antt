@@ -5,10 +5,10 @@ use Rattle.cns_terms.specs.declared.reply.Reply.TheVariants as reply
 use Rattle.cns_terms.specs.Entries.{journal}
 use Rattle.cns_terms.specs.Notices.{notices}
 use Rattle.cns_book.specs.Follows.{Follows, HasRoom}
-use Rattle.cns_book.proofs.Closing.{closes_fit}
-use Rattle.cns_book.proofs.Machine.{accepted}
+use Rattle.cns_book.proofs.ClosingSteps.{closes_fit}
+use Rattle.cns_book.proofs.MachineSteps.{accepted}
 use Rattle.cns_book.proofs.NoticeBounds.{last_day, notices_fit}
-use Rattle.cns_book.proofs.Noticing.{notice_given, notices_counted}
+use Rattle.cns_book.proofs.NoticeSteps.{notice_given, notices_counted}
 use Rattle.cns_book.proofs.parts.Parts.give_notice.Goals as goal
 
 pub overflow_add-self-inside : goal.overflow_add-self-inside

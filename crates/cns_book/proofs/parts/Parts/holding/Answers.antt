@@ -3,8 +3,8 @@ use Rattle.std.specs.Prelude.{unsigned_abs}
 use Rattle.cns_terms.specs.Limits.{position_limit}
 use Rattle.cns_terms.specs.declared.holding.Holding.{Holding}
 use Rattle.cns_book.specs.Follows.{HasRoom}
-use Rattle.cns_book.proofs.Within.{member_within}
-use Rattle.cns_book.proofs.parts.Parts.standing.Goals as goal
+use Rattle.cns_book.proofs.PartsWithin.{member_within}
+use Rattle.cns_book.proofs.parts.Parts.holding.Goals as goal
 
 pub returns-clause-member : goal.returns-clause-member
 returns-clause-member g c room m =

@@ -5,7 +5,7 @@ use Rattle.cns_notices.specs.declared.noticed.Noticed.{Noticed}
 use Rattle.cns_notices.specs.Noticed.{notice_at}
 use Rattle.cns_book.specs.Contents.{Contents}
 use Rattle.cns_book.specs.Shown.{notice_of}
-use Rattle.cns_book.proofs.Noticing.{notice_missing, notice_read}
+use Rattle.cns_book.proofs.NoticeSteps.{notice_missing, notice_read}
 use Rattle.cns_book.proofs.parts.Parts.notice.Goals as goal
 
 pub returns-then-not-is_noticed : goal.returns-then-not-is_noticed

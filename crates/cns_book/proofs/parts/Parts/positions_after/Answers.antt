@@ -11,7 +11,7 @@ use Rattle.cns_book.specs.Follows.{Follows, HasRoom}
 use Rattle.cns_actions.specs.Booked.{entries_of, issue_of, positions_in}
 use Rattle.cns_book.specs.Contents.{Contents}
 use Rattle.cns_book.specs.Effects.{activity_of}
-use Rattle.cns_book.proofs.Acting.{can_be_booked, entries_are, holders_are, ok_weaker, size_is}
+use Rattle.cns_book.proofs.ActionSteps.{can_be_booked, entries_are, holders_are, ok_weaker, size_is}
 use Rattle.cns_book.proofs.parts.Parts.positions_after.Goals as goal
 
 pub next_positions-requires-clause-within : goal.next_positions-requires-clause-within

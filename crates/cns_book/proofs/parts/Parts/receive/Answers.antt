@@ -6,12 +6,12 @@ use Rattle.cns_terms.specs.Entries.{corporation, moved_in, moved_out}
 use Rattle.cns_terms.specs.Refusals.{first_refusal}
 use Rattle.cns_trades.specs.Checks.{receipt_rules}
 use Rattle.cns_book.specs.Follows.{Follows, HasRoom}
-use Rattle.cns_book.proofs.Machine.{accepted, refused, stopped}
-use Rattle.cns_book.proofs.Moving.{receipt_refusal}
+use Rattle.cns_book.proofs.MachineSteps.{accepted, refused, stopped}
+use Rattle.cns_book.proofs.TradingMovements.{receipt_refusal}
 use Rattle.cns_book.proofs.NoticeBounds.{receipts_fit}
-use Rattle.cns_book.proofs.Noticing.{receipt_counted}
-use Rattle.cns_book.proofs.Trading.{answer_err, answer_ok, booked_by, same_rows}
-use Rattle.cns_book.proofs.Within.{rows_within, same_within}
+use Rattle.cns_book.proofs.NoticeSteps.{receipt_counted}
+use Rattle.cns_book.proofs.TradingSteps.{answer_err, answer_ok, booked_by, same_rows}
+use Rattle.cns_book.proofs.PartsWithin.{rows_within, same_within}
 use Rattle.cns_book.proofs.parts.Parts.receive.Goals as goal
 use Rattle.cns_positions.specs.Rows.{books}
 

@@ -1,20 +1,40 @@
-use Rattle.std.proofs.Common.{◌≡◌, ◌∙◌, sym, ap, subst, refl, true, not}
-use Rattle.std.specs.Prelude.{is_some}
+use Rattle.std.proofs.Common.{◌∙◌, sym, subst, refl}
 use Rattle.cns_terms.specs.declared.command.Activity.TheVariants as activity
 use Rattle.cns_terms.specs.declared.reply.Reply.TheVariants as reply
 use Rattle.cns_terms.specs.Entries.{journal}
-use Rattle.cns_terms.specs.Listings.{is_listed}
+use Rattle.cns_terms.specs.Listings.{is_listed, is_retired}
 use Rattle.cns_terms.specs.Refusals.{rules}
-use Rattle.cns_book.specs.Follows.{Follows}
-use Rattle.cns_book.proofs.Machine.{accepted, no_refusal}
-use Rattle.cns_book.proofs.Entered.{price_set, listed}
+use Rattle.cns_trades.specs.Checks.{issue_rules}
+use Rattle.cns_book.specs.Follows.{Follows, HasRoom}
+use Rattle.cns_book.proofs.ActionSteps.{none_fails, price_there}
+use Rattle.cns_book.proofs.ListingSteps.{price_set}
+use Rattle.cns_book.proofs.MachineSteps.{accepted, no_refusal, so}
 use Rattle.cns_book.proofs.parts.Parts.set_price.Goals as goal
+
+pub set-requires-clause-listed : goal.set-requires-clause-listed
+set-requires-clause-listed g c =
+    let room = subst HasRoom (sym c.self.view_is) c.requires in
+    let L = room.activities in
+    let J = journal c.self.inside.opening L in
+    let i = c.args.listing.issue in
+    let fails = none_fails (issue_rules (is_listed J i) (is_retired J i)) (sym (c.issue_refusal.ensures L (subst (Follows L) c.self.view_is room.follows)) ∙ c.in_default.is) in
+    price_there _ _ _ (room.follows.listings.prices i) (so (is_listed J i) fails.0)
+
+pub set-requires-clause-current : goal.set-requires-clause-current
+set-requires-clause-current g c =
+    let room = subst HasRoom (sym c.self.view_is) c.requires in
+    let L = room.activities in
+    let J = journal c.self.inside.opening L in
+    let i = c.args.listing.issue in
+    let fails = none_fails (issue_rules (is_listed J i) (is_retired J i)) (sym (c.issue_refusal.ensures L (subst (Follows L) c.self.view_is room.follows)) ∙ c.in_default.is) in
+    room.follows.listings.retired i ∙ fails.1.0
 
 pub returns-clause-step : goal.returns-clause-step
 returns-clause-step g c L f =
     let f' = subst (Follows L) (sym c.self.view_is) f in
     let J = journal c.self.inside.opening L in
-    let is : is_listed J c.args.listing.issue ≡ true = sym (listed (is_listed J c.args.listing.issue) _ _ (f'.listings.prices c.args.listing.issue)) ∙ ap is_some (sym c.price.ensures) ∙ c.is_none.ensures ∙ ap not c.if-is_none.false in
-    let none = no_refusal (rules c.self.inside.opening J (activity.Price c.args.listing)) (ap not is, (sym (f'.listings.retired c.args.listing.issue) ∙ sym c.is_retired.ensures ∙ c.if-is_retired.false, tt)) in
-    accepted L (activity.Price c.args.listing) reply.Accepted none refl
-    (price_set L _ c.args.listing c.set.new.self f' none is c.set.ensures.price c.set.ensures.retired)
+    let l = c.args.listing in
+    let fails = none_fails (issue_rules (is_listed J l.issue) (is_retired J l.issue)) (sym (c.issue_refusal.ensures L f) ∙ c.in_default.is) in
+    let none = no_refusal (rules c.self.inside.opening J (activity.Price l)) (fails.0, (fails.1.0, tt)) in
+    accepted L (activity.Price l) reply.Accepted none refl
+    (price_set L _ l c.set.new.self f' c.value.ensures.range none (so (is_listed J l.issue) fails.0) c.set.ensures.price c.set.ensures.retired)

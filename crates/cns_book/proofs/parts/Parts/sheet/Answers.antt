@@ -1,6 +1,6 @@
 use Rattle.std.proofs.Common.{◌∙◌, sym, subst}
 use Rattle.cns_book.specs.Follows.{Follows}
-use Rattle.cns_book.proofs.Dated.{sheet_found}
+use Rattle.cns_book.proofs.ClosedDaysSearch.{sheet_found}
 use Rattle.cns_book.proofs.parts.Parts.sheet.Goals as goal
 
 pub returns-clause-value : goal.returns-clause-value

@@ -3,24 +3,26 @@ use Rattle.cns_terms.specs.declared.command.Activity.TheVariants as activity
 use Rattle.cns_terms.specs.declared.reply.Reply.TheVariants as reply
 use Rattle.cns_terms.specs.declared.holding.Key.{Key}
 use Rattle.cns_terms.specs.Entries.{entries, journal}
+use Rattle.cns_terms.specs.Listings.{is_listed, is_retired}
 use Rattle.cns_terms.specs.Refusals.{is_too_large, rules}
 use Rattle.cns_positions.specs.Rows.{books, holding_at}
+use Rattle.cns_trades.specs.Checks.{issue_rules}
 use Rattle.cns_book.specs.Contents.{Contents}
-use Rattle.cns_book.specs.Effects.{split_rules}
 use Rattle.cns_book.specs.Follows.{Follows}
-use Rattle.cns_book.proofs.Acting.{no_fault, none_fails, not_true, split_ends}
-use Rattle.cns_book.proofs.Machine.{accepted, no_refusal}
-use Rattle.cns_book.proofs.Trading.{booked_by}
+use Rattle.cns_book.proofs.ActionSteps.{no_fault, none_fails, not_true, split_ends}
+use Rattle.cns_book.proofs.MachineSteps.{accepted, no_refusal}
+use Rattle.cns_book.proofs.TradingSteps.{booked_by}
 use Rattle.cns_book.proofs.parts.Parts.split.Goals as goal
 
 pub returns-in-Ok-clause-step : goal.returns-in-Ok-clause-step
 returns-in-Ok-clause-step g c L f =
     let f' = subst (Follows L) (sym c.self.view_is) f in
-    let x = activity.Split c.args.split.now in
+    let s = c.args.split.now in
+    let x = activity.Split s in
     let J = journal c.self.inside.opening L in
-    let fails = none_fails (split_rules J c.args.split.now) (sym (c.split_refusal.ensures L f) ∙ c.in_default.is) in
+    let fails = none_fails (issue_rules (is_listed J s.issue) (is_retired J s.issue)) (sym (c.issue_refusal.ensures L f) ∙ c.in_default.is) in
     let small = not_true (is_too_large c.self.inside.opening J x) (λ e. no_fault _ _ ((c.in-Ok.ensures.too_large L f).1 e)) in
     let none = no_refusal (rules c.self.inside.opening J x) (fails.0, (fails.1.0, (small, tt))) in
     let booked = subst (λ (t : Contents). (k : Key) → holding_at (g.P.Positions.rows c.in-Ok.positions) k ≡ books (entries t.opening (journal t.opening L) x) k (holding_at t.rows k)) (sym c.self.view_is) (c.in-Ok.ensures.booked L f) in
     accepted L x reply.Accepted none refl
-    (booked_by L _ x c.self.inside.trades c.end_issue.new.self (g.P.Positions.rows c.in-Ok.positions) f' (c.parts.ensures.old_range, c.value.ensures.range) none refl refl refl refl f'.references (c.end_issue.ensures ∙ split_ends L c.args.split.now f') booked)
+    (booked_by L _ x c.self.inside.trades c.end_issue.new.self (g.P.Positions.rows c.in-Ok.positions) f' (c.parts.ensures.old_range, c.value.ensures.range) none refl refl refl refl f'.references (c.end_issue.ensures ∙ split_ends L s f') booked)

@@ -2,8 +2,8 @@ use Rattle.std.proofs.Common.{◌∙◌, sym, subst, refl}
 use Rattle.cns_terms.specs.declared.command.Activity.TheVariants as activity
 use Rattle.cns_terms.specs.declared.reply.Reply.TheVariants as reply
 use Rattle.cns_book.specs.Follows.{Follows}
-use Rattle.cns_book.proofs.Machine.{accepted}
-use Rattle.cns_book.proofs.Noticing.{notice_withdrawn}
+use Rattle.cns_book.proofs.MachineSteps.{accepted}
+use Rattle.cns_book.proofs.NoticeSteps.{notice_withdrawn}
 use Rattle.cns_book.proofs.parts.Parts.withdraw.Goals as goal
 
 pub withdraw-requires : goal.withdraw-requires

@@ -7,7 +7,7 @@ use Rattle.cns_terms.specs.Notices.{is_live}
 use Rattle.cns_terms.specs.Refusals.{refusal}
 use Rattle.cns_book.specs.Contents.{Contents}
 use Rattle.cns_book.specs.Follows.{Follows}
-use Rattle.cns_book.proofs.Noticing.{not_live, notice_missing, withdraw_by_stage, withdraw_missing}
+use Rattle.cns_book.proofs.NoticeSteps.{not_live, notice_missing, withdraw_by_stage, withdraw_missing}
 use Rattle.cns_book.proofs.parts.Parts.withdraw_refusal.Goals as goal
 
 pub returns-then-not-is_noticed-clause-refusal : goal.returns-then-not-is_noticed-clause-refusal

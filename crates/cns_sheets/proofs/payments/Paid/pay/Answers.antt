@@ -18,7 +18,7 @@ pub add-requires : goal.add-requires
 add-requires g c =
     let d = c.args.declared.now in
     let rows = c.args.rows in
-    let k : Key = record { account = 0; issue = d.cusip } in
+    let k : Key = record { account = 0; issue = d.issue } in
     let payable = c.requires.payable in
     rw (neg_is c.in_ok-sum.sum _ c.in_ok-sum.ensures.sum (all_small d rows payable))
     (part_small (cents_at c.pay_members.new.self k) (cents_at c.args.self.now k) _ c.in_ok-sum.sum _ (c.in_ok-sum.ensures.cents k) (c.requires.small k) (all_booked_small d rows payable k) c.in_ok-sum.ensures.sum (all_small d rows payable))
@@ -27,7 +27,7 @@ pub returns-clause-cents : goal.returns-clause-cents
 returns-clause-cents g c =
     let d = c.args.declared.now in
     let rows = c.args.rows in
-    let corp : Key = record { account = 0; issue = d.cusip } in
+    let corp : Key = record { account = 0; issue = d.issue } in
     let payable = c.requires.payable in
     let neg = neg_is c.in_ok-sum.sum _ c.in_ok-sum.ensures.sum (all_small d rows payable) in
     λ order. where_ok c.add.result c.add.ensures.cents (λ h k.
@@ -38,7 +38,7 @@ pub returns-clause-bound : goal.returns-clause-bound
 returns-clause-bound g c =
     let d = c.args.declared.now in
     let rows = c.args.rows in
-    let corp : Key = record { account = 0; issue = d.cusip } in
+    let corp : Key = record { account = 0; issue = d.issue } in
     let payable = c.requires.payable in
     let neg = neg_is c.in_ok-sum.sum _ c.in_ok-sum.ensures.sum (all_small d rows payable) in
     where_ok c.add.result c.add.ensures.cents (λ h k.

@@ -1,4 +1,5 @@
 -- The members that are short in an issue, read off a sheet.
+-- For `choose_batches` of parts/retransmittal.rt, clause batches.
 use Rattle.std.proofs.Common.{◌≡◌, ◌∙◌, ap, sym, refl, ℕ, suc, ◌+◌, ◌≤◌, ℤ, pos, negsuc, Bool, true, false, not, cond, ◌&&◌, ◌||◌, List, [], ◌∷◌, ◌++◌, map, filter, flat_map, Option, Some, None, arith}
 use Rattle.std.specs.List.{AllByRecursion, cons_option, list_any}
 use Rattle.std.specs.Cmp.Lexicographic.{slice_cmp}
@@ -15,7 +16,7 @@ use Rattle.cns_units.specs.declared.day.Day.{Day}
 use Rattle.cns_terms.specs.declared.buy_in.Short.{Short}
 use Rattle.cns_terms.specs.declared.sheet.Row.{Row}
 use Rattle.cns_terms.specs.Ages.{age, closes_short}
-use Rattle.cns_terms.specs.Batches.{short_at, short_in, short_of, shorts}
+use Rattle.cns_terms.specs.Batches.{short_of, shorts}
 use Rattle.cns_terms.specs.Days.{closings}
 use Rattle.cns_terms.specs.Listings.{accounts, is_listed, issues, members}
 use Rattle.cns_terms.specs.Positions.{position}
@@ -27,6 +28,7 @@ use Rattle.cns_terms.proofs.Finds.{not_itself}
 use Rattle.cns_terms.proofs.Rising.{above_all, is_rising}
 use Rattle.cns_terms.proofs.SheetSums.{idle_parts}
 use Rattle.cns_terms.proofs.Sound.{IsSound}
+use Rattle.cns_book.specs.Retransmittal.{short_at, short_in}
 
 -- ---- lists
 

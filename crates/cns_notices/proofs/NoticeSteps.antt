@@ -1,5 +1,5 @@
 -- How notices stand after one more activity.
-use Rattle.std.proofs.Common.{◌≡◌, ap, refl, ℕ, suc, ◌+◌, ◌≤◌, ◌<◌, Bool, true, false, cond, ◌&&◌, List, [], ◌∷◌, ◌++◌, length, map, Option, Some, None, arith}
+use Rattle.std.proofs.Common.{◌≡◌, ap, refl, ℕ, suc, ◌+◌, ◌≤◌, ◌<◌, Bool, true, false, cond, ◌&&◌, List, [], ◌∷◌, ◌++◌, length, Option, Some, None, arith}
 use Rattle.std.specs.List.{AllByRecursion}
 use Rattle.std.specs.Option.{option_map_or}
 use Rattle.std.specs.Prelude.{nat_le}
@@ -9,8 +9,9 @@ use Rattle.cns_terms.specs.declared.buy_in.Stage.{Stage}
 use Rattle.cns_terms.specs.declared.buy_in.Stage.TheVariants.{Live, Withdrawn, Ended, Expired}
 use Rattle.cns_terms.specs.declared.command.Movement.{Movement}
 use Rattle.cns_terms.specs.Days.{day}
-use Rattle.cns_terms.specs.Notices.{Notice, execution, first_reached, is_given, is_live, notice, noticed, notices, received_live, receipt, shares_executed, shares_received, stage, stage_by}
+use Rattle.cns_terms.specs.Notices.{Notice, execution, first_reached, is_given, is_live, notice, noticed, notices, receipt, shares_executed, shares_received, stage, stage_by}
 use Rattle.cns_terms.specs.Postings.{Journal, Posting}
+use Rattle.cns_notices.specs.Kept.{received_live}
 
 -- ---- numbers
 
@@ -120,10 +121,3 @@ given_now p J m =
     let before = untouched J n (omega arith) in
     let sums = no_more (is_given J n) (is_live (stage J n)) (receipt n p.activity) (execution n p.activity) (received_live J n) (shares_executed J n) (not_given J n (omega arith)) before.1 before.2 in
     (live_still (is_given J n) (stage J n) (stage_by n (day J) p.activity) (not_given J n (omega arith)) before.0, sums.0, sums.1)
-
--- ---- lists of notices
-
--- two functions that agree on each element
-pub map_each : {X Y : Type 0} (f g : X → Y) (xs : List X) → AllByRecursion (λ x. f x ≡ g x) xs → map f xs ≡ map g xs
-map_each f g [] h = refl
-map_each f g (x ∷ xs) h = rw (h.0, map_each f g xs h.1) refl

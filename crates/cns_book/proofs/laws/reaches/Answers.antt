@@ -1,0 +1,5 @@
+use Rattle.cns_terms.proofs.Reached.{reaches}
+use Rattle.cns_book.proofs.laws.reaches.Goals as goal
+
+pub returns : goal.returns
+returns c = reaches
