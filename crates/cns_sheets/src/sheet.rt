@@ -21,7 +21,7 @@ use crate::payments::{Paid, Payment};
 use crate::prices::{listed, price_on};
 use crate::same::{same_prices, same_rows};
 use crate::search::next_price;
-use crate::sums::sums;
+use crate::sums::{Totals, account_sums, sheet_sums};
 use crate::walks::{AccountRows, SheetRows};
 use cns_positions::Positions;
 use cns_prices::Prices;
@@ -183,7 +183,7 @@ impl<A: Allocator + Drop + Clone> Sheet<A> {
         ensures { result ≡ statement self.now account }
     {
         let date = self.date;
-        let totals = sums(self.rows_of(account));
+        let totals = account_sums(self.rows_of(account));
         Stated {
             account,
             date,
@@ -202,23 +202,29 @@ impl<A: Allocator + Drop + Clone> Sheet<A> {
             && same_rows(self.rows(), other.rows())
     }
 
-    /// The sum of all marks, in cents. It is zero, and so is not added up.
+    // How many rows there are, and what they add up to.
+    fn totals(&self) -> Totals
+        ensures marks { result.mark ≡ total (λ r. r.mark) self.now.rows }
+        ensures dividends { result.dividend ≡ total (λ r. r.dividend) self.now.rows }
+        ensures no_mark { result.mark ≡ pos 0 }
+        ensures no_dividend { result.dividend ≡ pos 0 }
+    {
+        sheet_sums(SheetRows::new(self.rows.walk()))
+    }
+
+    /// The sum of all marks, in cents, added up row by row. It is zero.
     pub fn total_marks(&self) -> Cents
         ensures sum { result ≡ total (λ r. r.mark) self.now.rows }
         ensures zero { result ≡ pos 0 }
     {
-        // The read of a field lets the proof use what the type keeps: that the sum is zero.
-        let _ = &self.date;
-        Cents::ZERO
+        self.totals().mark
     }
 
-    /// The sum of all dividends, in cents. It is zero, and so is not added up.
+    /// The sum of all dividends, in cents, added up row by row. It is zero.
     pub fn total_dividends(&self) -> Cents
         ensures sum { result ≡ total (λ r. r.dividend) self.now.rows }
         ensures zero { result ≡ pos 0 }
     {
-        // The read of a field lets the proof use what the type keeps: that the sum is zero.
-        let _ = &self.date;
-        Cents::ZERO
+        self.totals().dividend
     }
 }
