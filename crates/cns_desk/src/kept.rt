@@ -120,7 +120,8 @@ impl<L: Ledger, P: Positions<Global>> Kept<L, P> {
         ensures ok { IfOk result (λ r. TakesStep self.old self.new seat.old.worker (command_is.Statement 0 date) r.0) }
         ensures raised { IfOk result (λ _. Raised seat.old seat.new) }
         ensures handed { IfOk result (λ r. Hands date r.0.reply (option_map arc_value r.1)) }
-        ensures own { IfOk result (λ r. option_map arc_value r.1 ≡ sheet_on self.old.opening (journal_of (state_of self.old)) date) }
+        ensures own { IfOk result
+            (λ r. option_map arc_value r.1 ≡ sheet_on self.old.opening (journal_of (state_of self.old)) date) }
         ensures err { OnErr result ((self.new ≡ self.old) × (seat.new ≡ seat.old)) }
     {
         let Ok(sheet) = self.copy_of(date) else {
@@ -138,7 +139,8 @@ impl<L: Ledger, P: Positions<Global>> Kept<L, P> {
 
     // A copy of the `Arc` of the book's sheet with the date, None where it has none.
     fn copy_of(&self, date: Day) -> Result<Option<Arc<Sheet<Global>>>, NoMemory>
-        ensures { IfOk result (λ o. option_map arc_value o ≡ sheet_on self.now.opening (journal_of (state_of self.now)) date) }
+        ensures { IfOk result
+            (λ o. option_map arc_value o ≡ sheet_on self.now.opening (journal_of (state_of self.now)) date) }
     {
         let Some(sheet) = self.book.sheet(date) else {
             return Ok(None);

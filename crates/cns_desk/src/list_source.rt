@@ -18,7 +18,8 @@ pub struct ListSource {
 impl ListSource {
     /// A source that is finished after the items.
     pub fn new(items: Vec<Option<Command>>) -> ListSource
-        ensures told { ⟦<ListSource as Source>⟧.told result ≡ Some (record { items = items.items; end = end_of false }) }
+        ensures told { ⟦<ListSource as Source>⟧.told result
+            ≡ Some (record { items = items.items; end = end_of false }) }
     {
         ListSource {
             items,

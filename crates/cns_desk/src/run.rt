@@ -62,7 +62,9 @@ fn run_at<
         rt,
         move |scope| -> Result<Gathered<L>, RunFault>
             requires { (vec_len seats ≡ vec_len sources) × AllByRecursion IsFresh seats.items }
-            ensures ok { IfOk result (λ g. (vec_len g.seats ≡ vec_len sources) × HaveRun S.may_fail S.told sources.items g.logs.items g.ends.items) }
+            ensures ok { IfOk result
+                (λ g. (vec_len g.seats ≡ vec_len sources)
+                × HaveRun S.may_fail S.told sources.items g.logs.items g.ends.items) }
             ensures err { IfErr result IsLate }
         { gather(scope, rt, alloc, desk, gate, seats, sources) },
     )

@@ -1,6 +1,6 @@
 -- What stands at a key after a row is put.
 use lib.Dec.{T}
-use Rattle.std.proofs.Common.{◌≡◌, ℕ, ℤ, pos, ◌+ℤ◌, Bool, true, false, cond, ◌&&◌, eqb, [], ◌∷◌, ◌++◌, length, get_or, set, take, drop, ◌<◌, Option, Some, None, is_some, unwrap_or, refl, sym, ap, ◌∙◌, arith}
+use Rattle.std.proofs.Common.{◌≡◌, ◌≢◌, ℕ, ℤ, pos, ◌+ℤ◌, Bool, true, false, cond, ◌&&◌, eqb, [], ◌∷◌, ◌++◌, length, get_or, set, take, drop, ◌<◌, Option, Some, None, is_some, unwrap_or, refl, sym, ap, ◌∙◌, arith}
 use Rattle.std.specs.Prelude.{bytes_eq}
 use Rattle.std.proofs.Math.Seq.{take-append_seam}
 use Rattle.std.specs.Ordering.{is_eq, is_lt}
@@ -14,7 +14,7 @@ use Rattle.std.proofs.lemmas.Int.{ints}
 use Rattle.std.specs.declared.cmp.Ordering.TheVariants.{Less, Equal, Greater}
 use Rattle.cns_terms.specs.declared.holding.Key.{Key}
 use Rattle.cns_terms.specs.declared.holding.Holding.{Holding}
-use Rattle.cns_positions.specs.Rows.{Rows, holding_at, zeros, booked, entry_of, rolled}
+use Rattle.cns_positions.specs.Rows.{Rows, holding_at, zeros, booked, entry_of, rolled, row_at}
 use Rattle.cns_terms.specs.Keys.{key_cmp}
 use Rattle.cns_terms.proofs.Facts.{equal}
 use Rattle.cns_positions.specs.Contents.{has_row, closed_rows}
@@ -47,6 +47,15 @@ holding_put es k v q = ap (λ o. unwrap_or o zeros) (find-put key_cmp keys_total
 -- rows that were there stay
 pub row_stays : (es : Rows) (k : Key) (v : Holding) (q : Key) → has_row es q ≡ true → has_row (put key_cmp k v es) q ≡ true
 row_stays es k v q e = ap is_some (find-put key_cmp keys_total q k v es) ∙ either_some (is_eq (key_cmp q k)) v (find key_cmp q es) e
+
+other_test : (b : Bool) (k q : Key) (v : Holding) (o : Option Holding) → is_eq (key_cmp q k) ≡ b → q ≢ k → cond b (Some v) o ≡ o
+other_test true k q v o t apart = absurd (apart (exact_keys q k (equal _ t)))
+other_test false k q v o t apart = refl
+
+-- another key's row is as it was
+pub other_row : (es : Rows) (k : Key) (v : Holding) (q : Key) → q ≢ k → row_at (put key_cmp k v es) q ≡ row_at es q
+unfolding row_at
+other_row es k v q apart = find-put key_cmp keys_total q k v es ∙ other_test _ k q v (find key_cmp q es) refl apart
 
 -- and the key's own is there
 pub row_put : (es : Rows) (k : Key) (v : Holding) → has_row (put key_cmp k v es) k ≡ true

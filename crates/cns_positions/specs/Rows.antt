@@ -16,6 +16,10 @@ Rows = List (Key × Holding)
 abbrev pub zeros : Holding
 zeros = record { now = pos 0; opening = pos 0; contract = pos 0; run = 0 }
 
+-- what a key's row has, be it zeros; none where the key has no row
+unfoldable pub row_at : Rows → Key → Option Holding
+row_at rows k = find key_cmp k rows
+
 -- what stands at a key; zeros where it has no row
 abbrev pub holding_at : Rows → Key → Holding
 holding_at rows k = unwrap_or (find key_cmp k rows) zeros
@@ -27,6 +31,11 @@ is_held h = not (int_eq h.now (pos 0) && int_eq h.opening (pos 0) && int_eq h.co
 -- the key may be added to without memory
 abbrev pub IsThere : Rows → List Key → Key → Type 0
 IsThere rows prepared k = (is_held (holding_at rows k) ≡ true) ⊎ Contains prepared k
+
+-- room has to be made for the key: it has no row and is not prepared
+pub record LacksRoom (rows : Rows) (prepared : List Key) (k : Key) : Type 0 where
+  pub absent : row_at rows k ≡ None
+  pub unprepared : ¬ Contains prepared k
 
 abbrev pub entry_of : Key → ℤ → ℤ → Entry
 entry_of k shares cents = entry k.account k.issue shares cents

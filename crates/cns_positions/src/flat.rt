@@ -1,5 +1,5 @@
 // Positions in a sorted list.
-ghost use Rattle.std.specs.Prelude.{◌≡◌, ◌+ℤ◌, List, [], ◌∷◌, ◌++◌, length, OnOk, OnErr, IfOk, IfErr, MatchOption, FitsSigned, true, Some, None, Contains};
+ghost use Rattle.std.specs.Prelude.{◌≡◌, ◌≢◌, ◌+ℤ◌, List, [], ◌∷◌, ◌++◌, length, OnOk, OnErr, IfOk, IfErr, MatchOption, FitsSigned, true, Some, None, Contains, Any};
 ghost use Rattle.std.specs.Int.{w64, w128};
 ghost use Rattle.std.specs.FinMap.{is_sorted};
 ghost use Rattle.std.specs.List.{HoldsAt, find};
@@ -8,7 +8,7 @@ ghost use Rattle.std.specs.declared.cmp.Ordering.{Ordering};
 ghost use Rattle.cns_terms.specs.Keys.{key_cmp};
 ghost use Rattle.cns_terms.specs.declared.holding.Holding.{Holding};
 ghost use Rattle.cns_terms.specs.declared.holding.Key.{Key};
-ghost use Rattle.cns_positions.specs.Rows.{holding_at, booked, entry_of, held_above, is_held, present};
+ghost use Rattle.cns_positions.specs.Rows.{holding_at, booked, entry_of, held_above, is_held, present, row_at};
 ghost use Rattle.cns_positions.specs.Contents.{has_row, closed_rows};
 
 use crate::holding::{add_to, close, is_held};
@@ -42,7 +42,9 @@ fn place(rows: &[Row], key: &Key) -> Result<usize, usize>
     requires { is_sorted key_cmp rows.now ≡ true }
     ensures bound { IsSearchInRange result (length rows.now) }
     ensures found { IfOk result (HoldsAt (λ r. key_cmp r.0 key.now ≡ Ordering.Equal) rows.now) }
-    ensures absent { IfErr result (IsPartitionPoint (λ r. key_cmp r.0 key.now ≡ Ordering.Less) (λ r. key_cmp r.0 key.now ≡ Ordering.Greater) rows.now) }
+    ensures absent { IfErr result
+        (IsPartitionPoint (λ r. key_cmp r.0 key.now ≡ Ordering.Less)
+        (λ r. key_cmp r.0 key.now ≡ Ordering.Greater) rows.now) }
 {
     rows.binary_search_by(|row| row.0.cmp(key))
 }
@@ -52,7 +54,9 @@ fn enter<A: Allocator + Drop>(rows: &mut Vec<Row, A>, key: &Key) -> Result<(), N
     requires { is_sorted key_cmp rows.old.items ≡ true }
     ensures sorted { is_sorted key_cmp rows.new.items ≡ true }
     ensures there { OnOk result (has_row rows.new.items key.now ≡ true) }
-    ensures others { (k : Key) → has_row rows.old.items k ≡ true → has_row rows.new.items k ≡ true }
+    ensures kept { (k : Key) → has_row rows.old.items k ≡ true → has_row rows.new.items k ≡ true }
+    ensures others { (k : Key) → k ≢ key.now → row_at rows.new.items k ≡ row_at rows.old.items k }
+    ensures memory { OnErr result (row_at rows.old.items key.now ≡ None) }
     ensures same { (k : Key) → holding_at rows.new.items k ≡ holding_at rows.old.items k }
 {
     match place(rows.as_slice(), key) {
@@ -69,7 +73,9 @@ fn enter_all<A: Allocator + Drop>(rows: &mut Vec<Row, A>, keys: &[Key]) -> Resul
     requires { is_sorted key_cmp rows.old.items ≡ true }
     ensures sorted { is_sorted key_cmp rows.new.items ≡ true }
     ensures there { OnOk result ((k : Key) → Contains keys.now k → has_row rows.new.items k ≡ true) }
-    ensures others { (k : Key) → has_row rows.old.items k ≡ true → has_row rows.new.items k ≡ true }
+    ensures kept { (k : Key) → has_row rows.old.items k ≡ true → has_row rows.new.items k ≡ true }
+    ensures others { (k : Key) → ¬ Contains keys.now k → row_at rows.new.items k ≡ row_at rows.old.items k }
+    ensures memory { OnErr result (Any (λ k. row_at rows.old.items k ≡ None) keys.now) }
     ensures same { (k : Key) → holding_at rows.new.items k ≡ holding_at rows.old.items k }
 {
     for key in keys {
@@ -85,8 +91,10 @@ fn book(rows: &mut [Row], key: &Key, shares: i64, cents: i128)
     requires shares_fit { FitsSigned w64 ((holding_at rows.old key.now).now +ℤ shares) }
     requires cents_fit { FitsSigned w128 ((holding_at rows.old key.now).contract +ℤ cents) }
     ensures sorted { is_sorted key_cmp rows.new ≡ true }
-    ensures others { (k : Key) → has_row rows.old k ≡ true → has_row rows.new k ≡ true }
-    ensures booked { (k : Key) → holding_at rows.new k ≡ booked (entry_of key.now shares cents) k (holding_at rows.old k) }
+    ensures kept { (k : Key) → has_row rows.old k ≡ true → has_row rows.new k ≡ true }
+    ensures others { (k : Key) → k ≢ key.now → row_at rows.new k ≡ row_at rows.old k }
+    ensures booked { (k : Key) → holding_at rows.new k
+        ≡ booked (entry_of key.now shares cents) k (holding_at rows.old k) }
 {
     if let Ok(at) = place(rows, key) {
         add_to(&mut rows[at].1, shares, cents);

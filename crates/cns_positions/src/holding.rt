@@ -31,7 +31,8 @@ pub(crate) fn close(holding: Holding) -> Holding
 pub(crate) fn add_to(holding: &mut Holding, shares: i64, cents: i128)
     requires shares_fit { FitsSigned w64 (holding.old.now +ℤ shares) }
     requires cents_fit { FitsSigned w128 (holding.old.contract +ℤ cents) }
-    ensures { holding.new ≡ record holding.old { now = holding.old.now +ℤ shares; contract = holding.old.contract +ℤ cents } }
+    ensures { holding.new
+        ≡ record holding.old { now = holding.old.now +ℤ shares; contract = holding.old.contract +ℤ cents } }
 {
     holding.now += shares;
     holding.contract += cents;

@@ -1,11 +1,11 @@
 // The contract that every form of positions keeps.
-ghost use Rattle.std.specs.Prelude.{◌≡◌, ◌≤◌, ◌+ℤ◌, List, [], ◌∷◌, Some, length, IfOk, OnOk, OnErr, MatchOption, FitsSigned, true};
+ghost use Rattle.std.specs.Prelude.{◌≡◌, ◌≢◌, ◌≤◌, ◌+ℤ◌, List, [], ◌∷◌, Some, length, IfOk, OnOk, OnErr, MatchOption, FitsSigned, true, Any, Contains};
 ghost use Rattle.std.specs.FinMap.{is_sorted};
 ghost use Rattle.std.specs.Int.{w64, w128};
 ghost use Rattle.cns_terms.specs.Keys.{key_cmp};
 ghost use Rattle.cns_terms.specs.declared.holding.Key.{Key};
 ghost use Rattle.cns_terms.specs.declared.holding.Holding.{Holding};
-ghost use Rattle.cns_positions.specs.Rows.{AreNext, holding_at, booked, entry_of, rolled, IsThere, held_above, present};
+ghost use Rattle.cns_positions.specs.Rows.{AreNext, holding_at, booked, entry_of, rolled, row_at, IsThere, LacksRoom, held_above, present};
 
 use arrayvec::ArrayVec;
 use cns_terms::{Holding, Key, NoMemory};
@@ -39,20 +39,27 @@ pub trait Positions<A>: Drop {
     fn get(&self, key: Key) -> Holding
         ensures { result ≡ holding_at (rows self.now) key };
 
-    /// Makes room for the keys, so that `add` takes no memory at them.
+    /// Makes room for the keys, so that `add` takes no memory at them. What stands at each key stays, and no key but these
+    /// gets a row or loses one.
+    ///
+    /// `NoMemory` where a growth was refused, which a key asks for only where it has no row and is not prepared.
     fn prepare(&mut self, keys: &[Key]) -> Result<(), NoMemory>
         requires { length keys.now ≤ 4 }
         ensures same { (k : Key) → holding_at (rows self.new) k ≡ holding_at (rows self.old) k }
+        ensures others { (k : Key) → ¬ Contains keys.now k → row_at (rows self.new) k ≡ row_at (rows self.old) k }
         ensures order { is_sorted key_cmp (rows self.new) ≡ true }
         ensures ok { OnOk result (prepared self.new ≡ keys.now) }
-        ensures err { OnErr result (prepared self.new ≡ prepared self.old) };
+        ensures err { OnErr result (prepared self.new ≡ prepared self.old) }
+        ensures memory { OnErr result (Any (LacksRoom (rows self.old) (prepared self.old)) keys.now) };
 
-    /// Books shares and cents at a key that is there or prepared.
+    /// Books shares and cents at a key that is there or prepared. No other key gets a row or loses one.
     fn add(&mut self, key: Key, shares: i64, cents: i128)
         requires there { IsThere (rows self.old) (prepared self.old) key }
         requires shares_fit { FitsSigned w64 ((holding_at (rows self.old) key).now +ℤ shares) }
         requires cents_fit { FitsSigned w128 ((holding_at (rows self.old) key).contract +ℤ cents) }
-        ensures booked { (k : Key) → holding_at (rows self.new) k ≡ booked (entry_of key shares cents) k (holding_at (rows self.old) k) }
+        ensures booked { (k : Key) → holding_at (rows self.new) k
+            ≡ booked (entry_of key shares cents) k (holding_at (rows self.old) k) }
+        ensures others { (k : Key) → k ≢ key → row_at (rows self.new) k ≡ row_at (rows self.old) k }
         ensures order { is_sorted key_cmp (rows self.new) ≡ true }
         ensures prepared { prepared self.new ≡ prepared self.old };
 
@@ -64,7 +71,8 @@ pub trait Positions<A>: Drop {
 
     /// The first row that isn't zeros, or the first such row above a key.
     fn next_row(&self, after: Option<Key>) -> Option<Row>
-        ensures { MatchOption result (held_above (rows self.now) after ≡ []) (λ r. held_above (rows self.now) after ≡ r ∷ held_above (rows self.now) (Some r.0)) };
+        ensures { MatchOption result (held_above (rows self.now) after ≡ [])
+            (λ r. held_above (rows self.now) after ≡ r ∷ held_above (rows self.now) (Some r.0)) };
 
     /// The next of the rows that aren't zeros, above a key or from the first on, as `next_row` gives them one by one. A
     /// pass over all rows asks for those above the last that it was given, until none is given.

@@ -29,7 +29,9 @@ fn add<P: Positions<A>, A>(
 ) -> Result<(), NoMemory>
     requires shares_fit { FitsSigned w64 ((holding_at (P.rows positions.old) key.now).now +ℤ shares) }
     requires cents_fit { FitsSigned w128 ((holding_at (P.rows positions.old) key.now).contract +ℤ cents) }
-    ensures { OnOk result ((k : Key) → holding_at (P.rows positions.new) k ≡ booked (entry_of key.now shares cents) k (holding_at (P.rows positions.old) k)) }
+    ensures { OnOk result
+        ((k : Key) → holding_at (P.rows positions.new) k
+        ≡ booked (entry_of key.now shares cents) k (holding_at (P.rows positions.old) k)) }
 {
     positions.prepare(&[*key])?;
     positions.add(*key, shares, cents);
@@ -43,8 +45,10 @@ fn take_step<P: Positions<A>, A, B: Allocator + Drop>(
     step: &Step,
 ) -> Result<(), NoMemory>
     requires { StepFits (holding_at (P.rows positions.old)) step.now }
-    ensures map { OnOk result ((k : Key) → holding_at (P.rows positions.new) k ≡ after_step (holding_at (P.rows positions.old)) step.now k) }
-    ensures reply { OnOk result (holdings.new.items ≡ holdings.old.items ++ reply_to (holding_at (P.rows positions.old)) step.now) }
+    ensures map { OnOk result
+        ((k : Key) → holding_at (P.rows positions.new) k ≡ after_step (holding_at (P.rows positions.old)) step.now k) }
+    ensures reply { OnOk result
+        (holdings.new.items ≡ holdings.old.items ++ reply_to (holding_at (P.rows positions.old)) step.now) }
 {
     match step {
         Step::Get(key) => {

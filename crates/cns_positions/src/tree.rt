@@ -1,12 +1,12 @@
 // Positions in a balanced tree.
-ghost use Rattle.std.specs.Prelude.{◌≡◌, ◌+ℤ◌, List, [], ◌∷◌, ◌++◌, length, OnOk, OnErr, IfOk, FitsSigned, true, Some, None, Contains};
+ghost use Rattle.std.specs.Prelude.{◌≡◌, ◌≢◌, ◌+ℤ◌, List, [], ◌∷◌, ◌++◌, length, OnOk, OnErr, IfOk, FitsSigned, true, Some, None, Contains, Any};
 ghost use Rattle.std.specs.Int.{w64, w128};
 ghost use Rattle.std.specs.FinMap.{is_sorted};
 ghost use Rattle.std.specs.List.{filter, find};
 ghost use Rattle.cns_terms.specs.Keys.{key_cmp};
 ghost use Rattle.cns_terms.specs.declared.holding.Holding.{Holding};
 ghost use Rattle.cns_terms.specs.declared.holding.Key.{Key};
-ghost use Rattle.cns_positions.specs.Rows.{holding_at, booked, entry_of, held_above, is_held, present};
+ghost use Rattle.cns_positions.specs.Rows.{holding_at, booked, entry_of, held_above, is_held, present, row_at};
 ghost use Rattle.cns_positions.specs.Contents.{has_row, closed_rows};
 
 use crate::holding::{add_to, close, is_held};
@@ -44,7 +44,9 @@ fn enter<A: Allocator + Clone + Drop>(
 ) -> Result<(), NoMemory>
     ensures sorted { is_sorted key_cmp rows.new ≡ true }
     ensures there { OnOk result (has_row rows.new key.now ≡ true) }
-    ensures others { (k : Key) → has_row rows.old k ≡ true → has_row rows.new k ≡ true }
+    ensures kept { (k : Key) → has_row rows.old k ≡ true → has_row rows.new k ≡ true }
+    ensures others { (k : Key) → k ≢ key.now → row_at rows.new k ≡ row_at rows.old k }
+    ensures memory { OnErr result (row_at rows.old key.now ≡ None) }
     ensures same { (k : Key) → holding_at rows.new k ≡ holding_at rows.old k }
 {
     if rows.get(*key).is_some() {
@@ -63,7 +65,9 @@ fn enter_all<A: Allocator + Clone + Drop>(
     requires { is_sorted key_cmp rows.old ≡ true }
     ensures sorted { is_sorted key_cmp rows.new ≡ true }
     ensures there { OnOk result ((k : Key) → Contains keys.now k → has_row rows.new k ≡ true) }
-    ensures others { (k : Key) → has_row rows.old k ≡ true → has_row rows.new k ≡ true }
+    ensures kept { (k : Key) → has_row rows.old k ≡ true → has_row rows.new k ≡ true }
+    ensures others { (k : Key) → ¬ Contains keys.now k → row_at rows.new k ≡ row_at rows.old k }
+    ensures memory { OnErr result (Any (λ k. row_at rows.old k ≡ None) keys.now) }
     ensures same { (k : Key) → holding_at rows.new k ≡ holding_at rows.old k }
 {
     for key in keys {
@@ -83,7 +87,8 @@ fn book<A: Allocator + Clone + Drop>(
     requires shares_fit { FitsSigned w64 ((holding_at rows.old key).now +ℤ shares) }
     requires cents_fit { FitsSigned w128 ((holding_at rows.old key).contract +ℤ cents) }
     ensures sorted { is_sorted key_cmp rows.new ≡ true }
-    ensures others { (k : Key) → has_row rows.old k ≡ true → has_row rows.new k ≡ true }
+    ensures kept { (k : Key) → has_row rows.old k ≡ true → has_row rows.new k ≡ true }
+    ensures others { (k : Key) → k ≢ key → row_at rows.new k ≡ row_at rows.old k }
     ensures booked { (k : Key) → holding_at rows.new k ≡ booked (entry_of key shares cents) k (holding_at rows.old k) }
 {
     let _ = rows.change(key, |mut holding| {

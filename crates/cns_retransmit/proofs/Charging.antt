@@ -1,37 +1,29 @@
--- Fills in the order of a batch, taken in one walk.
-use Rattle.std.proofs.Common.{◌≡◌, ◌∙◌, sym, ap, refl, add-one, append-nil, ◌++◌, drop, get_or, set, take, inl, inr, ℕ, suc, ◌+◌, ◌-◌, ◌<◌, ◌≤◌, Bool, true, false, cond, List, [], ◌∷◌, length, map, nat_eq, nat_lt, eq-eqb, arith}
+-- Fills charged to a batch one after another, in any order.
+use Rattle.std.proofs.Common.{◌≡◌, ◌∙◌, sym, ap, subst, refl, ℕ, zero, suc, ◌+◌, ◌-◌, ◌<◌, ◌≤◌, Bool, true, false, cond, List, [], ◌∷◌, ◌++◌, get_or, set, take, length, map, nat_eq, nat_lt, eq-eqb, arith}
 use Rattle.std.proofs.lemmas.Bool.{cond-true, cond-false}
-use Rattle.std.proofs.lemmas.List.{drop_all, take_all}
-use Rattle.std.proofs.lemmas.List.Sums.{sum_by-cons}
+use Rattle.std.proofs.lemmas.List.{get_or_default}
+use Rattle.std.proofs.lemmas.List.Sums.{sum_by-cons, sum_by_push, sum_by-take-le}
+use Rattle.std.proofs.lemmas.List.Elements.{All-cons, All-get_or, All-nil, All-weaker}
+use Rattle.std.specs.List.{All}
 use Rattle.cns_units.specs.declared.account.Member.{Member}
 use Rattle.cns_terms.specs.declared.buy_in.Fill.{Fill}
 use Rattle.cns_terms.specs.declared.buy_in.Liable.{Liable}
 use Rattle.cns_terms.specs.Fills.{charged, given_to, stretch}
-use Rattle.cns_retransmit.specs.Members.{members_of}
-use Rattle.cns_retransmit.specs.Order.{FillInOrder}
-use Rattle.cns_retransmit.proofs.Lists.{drop_at, next_is, one_if, set_next}
+use Rattle.cns_retransmit.specs.Members.{left_of, members_of}
+use Rattle.cns_retransmit.specs.Charges.{CanBeCharged, IsWithin, fills_for}
+use Rattle.cns_retransmit.proofs.Lists.{one_if, take_next}
+use Rattle.cns_retransmit.proofs.Lefts.{members_of_charged}
 use Rattle.cns_retransmit.proofs.FillSteps.{fills_from}
 
 -- a liability after so many shares
 abbrev pub lowered : Liable → ℕ → Liable
 lowered l n = record { member = l.member; age = l.age; closing = l.closing; left = l.left - n }
 
--- what one walk leaves that meets the fills in order
-abbrev pub walked : List Fill → List Liable → List Liable
-walked [] ls = ls
-walked (f ∷ fs) [] = []
-walked (f ∷ fs) (l ∷ ls) = cond (nat_eq f.member l.member) (lowered l f.shares ∷ walked fs ls) (l ∷ walked (f ∷ fs) ls)
+-- ---- members of a batch
 
--- either way there are as many
-as_many : (b : Bool) (x y : Liable) (us vs ls : List Liable) → length us ≡ length ls → length vs ≡ length ls → length (cond b (x ∷ us) (y ∷ vs)) ≡ suc (length ls)
-as_many true x y us vs ls h k = ap suc h
-as_many false x y us vs ls h k = ap suc k
-
--- a walk leaves as many
-pub length-walked : (fs : List Fill) (ls : List Liable) → length (walked fs ls) ≡ length ls
-length-walked [] ls = refl
-length-walked (f ∷ fs) [] = refl
-length-walked (f ∷ fs) (l ∷ ls) = as_many (nat_eq f.member l.member) (lowered l f.shares) l (walked fs ls) (walked (f ∷ fs) ls) ls (length-walked fs ls) (length-walked (f ∷ fs) ls)
+-- the first of some, and the rest
+pub members_more : (a : Member) (l : Liable) (ls : List Liable) → members_of a (l ∷ ls) ≡ one_if (nat_eq l.member a) + members_of a ls
+members_more a l ls = sum_by-cons (λ (k : Liable). one_if (nat_eq k.member a)) l ls
 
 -- what does not count is not there
 uncounted : (b : Bool) (n : ℕ) → one_if b + n ≡ 0 → (b ≡ false) × (n ≡ 0)
@@ -39,201 +31,227 @@ uncounted true n h = absurd (omega arith)
 uncounted false n h = (refl, omega arith)
 
 -- the first of some is another's, and so are the rest
-pub nobody's : (a : Member) (l : Liable) (ls : List Liable) → members_of a (l ∷ ls) ≡ 0 → (nat_eq l.member a ≡ false) × (members_of a ls ≡ 0)
-nobody's a l ls none = uncounted (nat_eq l.member a) (members_of a ls) (sym (sum_by-cons (λ (k : Liable). one_if (nat_eq k.member a)) l ls) ∙ none)
+nobody's : (a : Member) (l : Liable) (ls : List Liable) → members_of a (l ∷ ls) ≡ 0 → (nat_eq l.member a ≡ false) × (members_of a ls ≡ 0)
+nobody's a l ls none = uncounted (nat_eq l.member a) (members_of a ls) (sym (members_more a l ls) ∙ none)
+
+-- one that is the member's counts
+one_own : (a b : Member) → a ≡ b → one_if (nat_eq a b) ≡ 1
+one_own a b is = cond-true (nat_eq a b) 1 0 (eq-eqb a b is)
 
 -- where each member stands once, the first is not among the rest
-pub first_once : (l : Liable) (ls : List Liable) → ((a : Member) → members_of a (l ∷ ls) ≤ 1) → members_of l.member ls ≡ 0
+first_once : (l : Liable) (ls : List Liable) → ((a : Member) → members_of a (l ∷ ls) ≤ 1) → members_of l.member ls ≡ 0
 first_once l ls once =
-    let all : members_of l.member (l ∷ ls) ≡ one_if (nat_eq l.member l.member) + members_of l.member ls = sum_by-cons (λ (k : Liable). one_if (nat_eq k.member l.member)) l ls in
-    let one : one_if (nat_eq l.member l.member) ≡ 1 = cond-true (nat_eq l.member l.member) 1 0 (eq-eqb l.member l.member refl) in
+    let all = members_more l.member l ls in
+    let one = one_own l.member l.member refl in
     let most = once l.member in
     omega arith
 
 -- and each of the rest stands there once
-pub rest_once : (l : Liable) (ls : List Liable) → ((a : Member) → members_of a (l ∷ ls) ≤ 1) → (a : Member) → members_of a ls ≤ 1
-rest_once l ls once a =
-    let all : members_of a (l ∷ ls) ≡ one_if (nat_eq l.member a) + members_of a ls = sum_by-cons (λ (k : Liable). one_if (nat_eq k.member a)) l ls in
-    let most = once a in
-    omega arith
+rest_once : (l : Liable) (ls : List Liable) → ((a : Member) → members_of a (l ∷ ls) ≤ 1) → (a : Member) → members_of a ls ≤ 1
+rest_once l ls once a = let all = members_more a l ls in let most = once a in omega arith
+
+-- the member at a place is there
+counted : (a : Member) (ls : List Liable) (p : ℕ) (d : Liable) → p < length ls → (get_or ls p d).member ≡ a → 0 < members_of a ls
+counted a [] p d lt is = absurd (omega arith)
+counted a (l ∷ ls) zero d lt is = let all = members_more a l ls in let one = one_own l.member a is in omega arith
+counted a (l ∷ ls) (suc p) d lt is = let all = members_more a l ls in let rest = counted a ls p d (omega arith) is in omega arith
+
+-- where each member stands once, the first is not the one that stands later
+apart_by : (b : Bool) (a : Member) (l : Liable) (ls : List Liable) → nat_eq l.member a ≡ b → members_of l.member ls ≡ 0 → 0 < members_of a ls → b ≡ false
+apart_by false a l ls test none some = refl
+apart_by true a l ls test none some =
+    let is : l.member ≡ a = grind (arith, test) in
+    let same : members_of l.member ls ≡ members_of a ls = ap (λ m. members_of m ls) is in
+    absurd (omega arith)
+
+apart : (a : Member) (l : Liable) (ls : List Liable) → ((b : Member) → members_of b (l ∷ ls) ≤ 1) → 0 < members_of a ls → nat_eq l.member a ≡ false
+apart a l ls once some = apart_by (nat_eq l.member a) a l ls refl (first_once l ls once) some
+
+-- what is left of a member's liability stands at its place
+pub left_at : (a : Member) (ls : List Liable) (p : ℕ) (d : Liable) → ((b : Member) → members_of b ls ≤ 1) → p < length ls → (get_or ls p d).member ≡ a → left_of a ls ≡ (get_or ls p d).left
+left_at a [] p d once lt is = absurd (omega arith)
+left_at a (l ∷ ls) zero d once lt is = cond-true (nat_eq l.member a) l.left (left_of a ls) (eq-eqb l.member a is)
+left_at a (l ∷ ls) (suc p) d once lt is =
+    cond-false (nat_eq l.member a) l.left (left_of a ls) (apart a l ls once (counted a ls p d (omega arith) is))
+    ∙ left_at a ls p d (rest_once l ls once) (omega arith) is
+
+-- ---- what fills give
 
 -- what one fill gives, and the rest
 given_more : (a : Member) (f : Fill) (fs : List Fill) → given_to a (f ∷ fs) ≡ cond (nat_eq f.member a) f.shares 0 + given_to a fs
 given_more a f fs = sum_by-cons (λ (g : Fill). cond (nat_eq g.member a) g.shares 0) f fs
 
--- fills for members of a batch give nothing to another
-ungiven : (a : Member) (fs : List Fill) (ls : List Liable) → FillInOrder fs ls → members_of a ls ≡ 0 → given_to a fs ≡ 0
-ungiven a [] ls h none = refl
-ungiven a (f ∷ fs) [] h none = absurd h
-ungiven a (f ∷ fs) (l ∷ ls) (inl h) none =
-    let others = nobody's a l ls none in
-    let not_it : cond (nat_eq f.member a) f.shares 0 ≡ 0 = ap (λ m. cond (nat_eq m a) f.shares 0) h.0 ∙ cond-false (nat_eq l.member a) f.shares 0 others.0 in
-    let rest = ungiven a fs ls h.1 others.1 in
+-- a member without a fill is given nothing
+ungiven : (a : Member) (fs : List Fill) → fills_for a fs ≡ 0 → given_to a fs ≡ 0
+ungiven a [] none = refl
+ungiven a (f ∷ fs) none =
+    let h = uncounted (nat_eq f.member a) (fills_for a fs) (sym (sum_by-cons (λ (g : Fill). one_if (nat_eq g.member a)) f fs) ∙ none) in
+    let not_it : cond (nat_eq f.member a) f.shares 0 ≡ 0 = cond-false (nat_eq f.member a) f.shares 0 h.0 in
+    let rest = ungiven a fs h.1 in
     given_more a f fs ∙ omega arith
-ungiven a (f ∷ fs) (l ∷ ls) (inr h) none = ungiven a (f ∷ fs) ls h (nobody's a l ls none).1
-
--- the member of the first fill is there
-present : (f : Fill) (fs : List Fill) (ls : List Liable) → FillInOrder (f ∷ fs) ls → 0 < members_of f.member ls
-present f fs [] h = absurd h
-present f fs (l ∷ ls) (inl h) =
-    let all : members_of f.member (l ∷ ls) ≡ one_if (nat_eq l.member f.member) + members_of f.member ls = sum_by-cons (λ (k : Liable). one_if (nat_eq k.member f.member)) l ls in
-    let one : one_if (nat_eq l.member f.member) ≡ 1 = cond-true (nat_eq l.member f.member) 1 0 (eq-eqb l.member f.member (sym h.0)) in
-    omega arith
-present f fs (l ∷ ls) (inr h) =
-    let all : members_of f.member (l ∷ ls) ≡ one_if (nat_eq l.member f.member) + members_of f.member ls = sum_by-cons (λ (k : Liable). one_if (nat_eq k.member f.member)) l ls in
-    let rest = present f fs ls h in
-    omega arith
 
 -- a liability that is given nothing stays
-pub uncharged : (fs : List Fill) (l : Liable) → given_to l.member fs ≡ 0 → charged fs l ≡ l
+uncharged : (fs : List Fill) (l : Liable) → given_to l.member fs ≡ 0 → charged fs l ≡ l
 uncharged fs l h = let same : l.left - given_to l.member fs ≡ l.left = omega arith in ap (λ n. record { member = l.member; age = l.age; closing = l.closing; left = n }) same
 
 -- no fills charge nobody
-none_charged : (ls : List Liable) → map (charged []) ls ≡ ls
+pub none_charged : (ls : List Liable) → map (charged []) ls ≡ ls
 none_charged [] = refl
 none_charged (l ∷ ls) = ap (λ k. k ∷ map (charged []) ls) (uncharged [] l refl) ∙ ap (λ ks. l ∷ ks) (none_charged ls)
 
--- a fill for somebody else charges none of them
-others : (f : Fill) (fs : List Fill) (ls : List Liable) → members_of f.member ls ≡ 0 → map (charged (f ∷ fs)) ls ≡ map (charged fs) ls
-others f fs [] none = refl
-others f fs (l ∷ ls) none =
-    let not_it = nobody's f.member l ls none in
-    let isnt : nat_eq l.member f.member ≡ false = not_it.0 in
+-- a fill charges another's liability nothing
+other_charged : (f : Fill) (l : Liable) → nat_eq l.member f.member ≡ false → charged (f ∷ []) l ≡ l
+other_charged f l isnt =
     let flipped : nat_eq f.member l.member ≡ false = grind (arith, isnt) in
-    let nothing : cond (nat_eq f.member l.member) f.shares 0 ≡ 0 = cond-false (nat_eq f.member l.member) f.shares 0 flipped in
-    let same : given_to l.member (f ∷ fs) ≡ given_to l.member fs = given_more l.member f fs ∙ omega arith in
-    ap (λ n. lowered l n ∷ map (charged (f ∷ fs)) ls) same ∙ ap (λ ks. charged fs l ∷ ks) (others f fs ls not_it.1)
+    uncharged (f ∷ []) l (given_more l.member f [] ∙ ap (λ n. n + 0) (cond-false (nat_eq f.member l.member) f.shares 0 flipped))
 
--- the rest is in order where the first fill is the first member's
-rest_follows : (f : Fill) (fs : List Fill) (l : Liable) (ls : List Liable) → f.member ≡ l.member → members_of l.member ls ≡ 0 → FillInOrder (f ∷ fs) (l ∷ ls) → FillInOrder fs ls
-rest_follows f fs l ls is none (inl h) = h.1
-rest_follows f fs l ls is none (inr h) =
-    let there = present f fs ls h in
-    let same : members_of f.member ls ≡ members_of l.member ls = ap (λ m. members_of m ls) is in
-    absurd (omega arith)
+-- and its member's all that it gives
+own_charged : (f : Fill) (l : Liable) → l.member ≡ f.member → charged (f ∷ []) l ≡ lowered l f.shares
+own_charged f l is =
+    let it : cond (nat_eq f.member l.member) f.shares 0 ≡ f.shares = cond-true (nat_eq f.member l.member) f.shares 0 (eq-eqb f.member l.member (sym is)) in
+    let all : given_to l.member (f ∷ []) ≡ f.shares = given_more l.member f [] ∙ omega arith in
+    ap (lowered l) all
 
--- and where it is not, it comes later
-later_follows : (f : Fill) (fs : List Fill) (l : Liable) (ls : List Liable) → nat_eq f.member l.member ≡ false → FillInOrder (f ∷ fs) (l ∷ ls) → FillInOrder (f ∷ fs) ls
-later_follows f fs l ls isnt (inl h) = let same : f.member ≡ l.member = h.0 in absurd (grind (arith, isnt, same))
-later_follows f fs l ls isnt (inr h) = h
+-- a fill for somebody else charges none of them
+others_charged : (f : Fill) (ls : List Liable) → members_of f.member ls ≡ 0 → map (charged (f ∷ [])) ls ≡ ls
+others_charged f [] none = refl
+others_charged f (l ∷ ls) none =
+    let h = nobody's f.member l ls none in
+    ap (λ k. k ∷ map (charged (f ∷ [])) ls) (other_charged f l h.0) ∙ ap (λ ks. l ∷ ks) (others_charged f ls h.1)
 
--- the first is charged, or passed
-step : (b : Bool) (f : Fill) (fs : List Fill) (l : Liable) (ls : List Liable) → nat_eq f.member l.member ≡ b → members_of l.member ls ≡ 0 → FillInOrder (f ∷ fs) (l ∷ ls)
-    → (FillInOrder fs ls → walked fs ls ≡ map (charged fs) ls) → (FillInOrder (f ∷ fs) ls → walked (f ∷ fs) ls ≡ map (charged (f ∷ fs)) ls)
-    → cond b (lowered l f.shares ∷ walked fs ls) (l ∷ walked (f ∷ fs) ls) ≡ map (charged (f ∷ fs)) (l ∷ ls)
-step true f fs l ls test none h done more =
-    let is : f.member ≡ l.member = grind (arith, test) in
-    let k : FillInOrder fs ls = rest_follows f fs l ls is none h in
-    let nothing = ungiven l.member fs ls k none in
-    let it : cond (nat_eq f.member l.member) f.shares 0 ≡ f.shares = cond-true (nat_eq f.member l.member) f.shares 0 test in
-    let all : given_to l.member (f ∷ fs) ≡ f.shares = given_more l.member f fs ∙ omega arith in
-    let away : members_of f.member ls ≡ 0 = ap (λ m. members_of m ls) is ∙ none in
-    ap (λ n. lowered l n ∷ walked fs ls) (sym all) ∙ ap (λ ks. charged (f ∷ fs) l ∷ ks) (done k ∙ sym (others f fs ls away))
-step false f fs l ls test none h done more =
-    let k : FillInOrder (f ∷ fs) ls = later_follows f fs l ls test h in
-    ap (λ ks. l ∷ ks) (more k) ∙ ap (λ x. x ∷ map (charged (f ∷ fs)) ls) (sym (uncharged (f ∷ fs) l (ungiven l.member (f ∷ fs) ls k none)))
+-- ---- one fill after another
 
--- one walk charges each member for its fill
-pub walked_is : (fs : List Fill) (ls : List Liable) → ((a : Member) → members_of a ls ≤ 1) → FillInOrder fs ls → walked fs ls ≡ map (charged fs) ls
-walked_is [] ls once h = sym (none_charged ls)
-walked_is (f ∷ fs) [] once h = refl
-walked_is (f ∷ fs) (l ∷ ls) once h =
-    step (nat_eq f.member l.member) f fs l ls refl (first_once l ls once) h (λ k. walked_is fs ls (rest_once l ls once) k) (λ k. walked_is (f ∷ fs) ls (rest_once l ls once) k)
+-- a fill is charged where its member stands
+pub one_charged : (f : Fill) (ls : List Liable) (p : ℕ) (d : Liable) → ((a : Member) → members_of a ls ≤ 1) → p < length ls → (get_or ls p d).member ≡ f.member → set ls p (lowered (get_or ls p d) f.shares) ≡ map (charged (f ∷ [])) ls
+one_charged f [] p d once lt is = absurd (omega arith)
+one_charged f (l ∷ ls) zero d once lt is =
+    let none : members_of f.member ls ≡ 0 = ap (λ m. members_of m ls) (sym is) ∙ first_once l ls once in
+    ap (λ k. k ∷ ls) (sym (own_charged f l is)) ∙ ap (λ ks. charged (f ∷ []) l ∷ ks) (sym (others_charged f ls none))
+one_charged f (l ∷ ls) (suc p) d once lt is =
+    let isnt = apart f.member l ls once (counted f.member ls p d (omega arith) is) in
+    ap (λ k. k ∷ set ls p (lowered (get_or ls p d) f.shares)) (sym (other_charged f l isnt))
+    ∙ ap (λ ks. charged (f ∷ []) l ∷ ks) (one_charged f ls p d (rest_once l ls once) (omega arith) is)
 
--- one more member takes no order away
-wider : (fs : List Fill) (l : Liable) (ls : List Liable) → FillInOrder fs ls → FillInOrder fs (l ∷ ls)
-wider [] l ls h = tt
-wider (f ∷ fs) l ls h = inr h
+-- charging fills and then one more is charging them all
+one_after : (fs : List Fill) (f : Fill) (l : Liable) → charged (f ∷ []) (charged fs l) ≡ charged (fs ++ f ∷ []) l
+one_after fs f l =
+    let one : given_to l.member (f ∷ []) ≡ cond (nat_eq f.member l.member) f.shares 0 + 0 = given_more l.member f [] in
+    let all : given_to l.member (fs ++ f ∷ []) ≡ given_to l.member fs + cond (nat_eq f.member l.member) f.shares 0 = sum_by_push (λ (g : Fill). cond (nat_eq g.member l.member) g.shares 0) fs f in
+    let same : (l.left - given_to l.member fs) - given_to l.member (f ∷ []) ≡ l.left - given_to l.member (fs ++ f ∷ []) = omega arith in
+    ap (λ n. record { member = l.member; age = l.age; closing = l.closing; left = n }) same
+
+pub charged_after : (fs : List Fill) (f : Fill) (ls : List Liable) → map (charged (f ∷ [])) (map (charged fs) ls) ≡ map (charged (fs ++ f ∷ [])) ls
+charged_after fs f [] = refl
+charged_after fs f (l ∷ ls) = ap (λ k. k ∷ map (charged (f ∷ [])) (map (charged fs) ls)) (one_after fs f l) ∙ ap (λ ks. charged (fs ++ f ∷ []) l ∷ ks) (charged_after fs f ls)
+
+-- what is left after fills
+left_by : (b : Bool) (a : Member) (fs : List Fill) (l : Liable) (n : ℕ) → nat_eq l.member a ≡ b → cond b (l.left - given_to l.member fs) (n - given_to a fs) ≡ cond b l.left n - given_to a fs
+left_by true a fs l n test = let is : l.member ≡ a = grind (arith, test) in ap (λ m. l.left - given_to m fs) is
+left_by false a fs l n test = refl
+
+left_charged : (a : Member) (fs : List Fill) (ls : List Liable) → left_of a (map (charged fs) ls) ≡ left_of a ls - given_to a fs
+left_charged a fs [] = omega arith
+left_charged a fs (l ∷ ls) = ap (cond (nat_eq l.member a) (l.left - given_to l.member fs)) (left_charged a fs ls) ∙ left_by (nat_eq l.member a) a fs l (left_of a ls) refl
+
+-- a loop over fills: those so far are charged to the batch, and f is the next
+module _ (fills : List Fill) (initial : List Liable) (i : ℕ) (f : Fill) (can : CanBeCharged fills initial) (lt : i < length fills) (is : f ≡ get_or fills i f) where
+  abbrev so_far : List Fill
+  so_far = take i fills
+
+  abbrev now : List Liable
+  now = map (charged so_far) initial
+
+  -- it is within the batch
+  within : IsWithin initial f
+  within = subst (IsWithin initial) (sym is) (All-get_or (IsWithin initial) fills i f lt can.within)
+
+  -- it has no fill so far
+  first_fill : given_to f.member so_far ≡ 0
+  first_fill =
+      let one : fills_for f.member (take (i + 1) fills) ≡ fills_for f.member so_far + one_if (nat_eq f.member f.member) =
+      ap (fills_for f.member) (take_next fills i f lt is) ∙ sum_by_push (λ (g : Fill). one_if (nat_eq g.member f.member)) so_far f in
+      let front : fills_for f.member (take (i + 1) fills) ≤ fills_for f.member fills = sum_by-take-le (λ (g : Fill). one_if (nat_eq g.member f.member)) fills (i + 1) in
+      let own = one_own f.member f.member refl in
+      let most = can.once f.member in
+      ungiven f.member so_far (omega arith)
+
+  -- each member still stands once
+  pub once_now : ((a : Member) → members_of a initial ≤ 1) → (a : Member) → members_of a now ≤ 1
+  once_now once a = let same = members_of_charged a so_far initial in let most = once a in omega arith
+
+  -- enough is left where its member stands
+  pub next_enough : (p : ℕ) (d : Liable) → ((a : Member) → members_of a initial ≤ 1) → p < length now → (get_or now p d).member ≡ f.member → f.shares ≤ (get_or now p d).left
+  next_enough p d once at there =
+      let here = left_at f.member now p d (once_now once) at there in
+      let left = left_charged f.member so_far initial in
+      let none = first_fill in
+      let enough = within.enough in
+      omega arith
+
+  -- with it one more is charged
+  pub next_charged : (p : ℕ) (d : Liable) → ((a : Member) → members_of a initial ≤ 1) → p < length now → (get_or now p d).member ≡ f.member → set now p (lowered (get_or now p d) f.shares) ≡ map (charged (take (i + 1) fills)) initial
+  next_charged p d once at there =
+      one_charged f now p d (once_now once) at there ∙ charged_after so_far f initial ∙ ap (λ fs. map (charged fs) initial) (sym (take_next fills i f lt is))
+
+-- a liability that is lowered where it stands
+pub lowered_at : (ls now : List Liable) (p n : ℕ) (d e : Liable) → ls ≡ now → p < length ls → set ls p (record { member = (get_or ls p e).member; age = (get_or ls p e).age; closing = (get_or ls p e).closing; left = (get_or ls p d).left - n }) ≡ set now p (lowered (get_or now p d) n)
+lowered_at ls now p n d e same lt =
+    ap (λ (k : Liable). set ls p (record { member = k.member; age = k.age; closing = k.closing; left = (get_or ls p d).left - n })) (get_or_default ls p e d lt)
+    ∙ ap (λ ks. set ks p (lowered (get_or ks p d) n)) same
+
+-- ---- the fills of an execution
 
 -- a stretch is for its member, or left out
-follow_one : (b : Bool) (f : Fill) (fs : List Fill) (l : Liable) (ls : List Liable) → f.member ≡ l.member → FillInOrder fs ls → FillInOrder (cond b (f ∷ fs) fs) (l ∷ ls)
-follow_one true f fs l ls is h = inl (is, h)
-follow_one false f fs l ls is h = wider fs l ls h
+counts_one : (b : Bool) (a : Member) (f : Fill) (fs : List Fill) (l : Liable) (ls : List Liable) → f.member ≡ l.member → fills_for a fs ≤ members_of a ls → fills_for a (cond b (f ∷ fs) fs) ≤ members_of a (l ∷ ls)
+counts_one true a f fs l ls is h =
+    let more : fills_for a (f ∷ fs) ≡ one_if (nat_eq f.member a) + fills_for a fs = sum_by-cons (λ (g : Fill). one_if (nat_eq g.member a)) f fs in
+    let same : one_if (nat_eq f.member a) ≡ one_if (nat_eq l.member a) = ap (λ m. one_if (nat_eq m a)) is in
+    let all = members_more a l ls in
+    omega arith
+counts_one false a f fs l ls is h = let all = members_more a l ls in omega arith
 
--- the fills of an execution stand in the order of the batch
-pub fills_follow : (each : Liable → ℕ) (n m from : ℕ) (ls : List Liable) → FillInOrder (fills_from each n m from ls) ls
-fills_follow each n m from [] = tt
-fills_follow each n m from (l ∷ ls) =
+-- no member has more fills than it stands in the batch
+fills_count : (each : Liable → ℕ) (n m from : ℕ) (a : Member) (ls : List Liable) → fills_for a (fills_from each n m from ls) ≤ members_of a ls
+fills_count each n m from a [] = omega arith
+fills_count each n m from a (l ∷ ls) =
     let to : ℕ = from + each l in
     let f : Fill = stretch n m from to l.member in
-    follow_one (nat_lt 0 f.shares) f (fills_from each n m to ls) l ls refl (fills_follow each n m to ls)
+    counts_one (nat_lt 0 f.shares) a f (fills_from each n m to ls) l ls refl (fills_count each n m to a ls)
 
--- how far a loop over a batch has come: what the walk leaves of those that are done, and the fills that the rest will meet
-pub record Walking (fills : List Fill) (initial liables : List Liable) (next i : ℕ) : Type 0 where
-  pub within : next ≤ length fills
-  pub done : liables ≡ take i (walked fills initial) ++ drop i initial
-  pub rest : drop i (walked fills initial) ≡ walked (drop next fills) (drop i initial)
+-- a fill within a batch is within it with one member more
+wider : (l : Liable) (ls : List Liable) → ((a : Member) → members_of a (l ∷ ls) ≤ 1) → (f : Fill) → IsWithin ls f → IsWithin (l ∷ ls) f
+wider l ls once f h = record {
+  liable = let all = members_more f.member l ls in let there = h.liable in omega arith;
+  enough =
+      let past : left_of f.member (l ∷ ls) ≡ left_of f.member ls = cond-false (nat_eq l.member f.member) l.left (left_of f.member ls) (apart f.member l ls once h.liable) in
+      let enough = h.enough in
+      omega arith;
+}
 
--- the head and the rest of equal lists are equal
-heads : (x y : Liable) (xs ys : List Liable) → x ∷ xs ≡ y ∷ ys → x ≡ y
-heads x y xs ys e = ap (λ (zs : List Liable). get_or zs 0 x) e
+-- so is a fill for that member of no more than is left of it
+first_within : (l : Liable) (ls : List Liable) (f : Fill) → f.member ≡ l.member → f.shares ≤ l.left → IsWithin (l ∷ ls) f
+first_within l ls f is le = record {
+  liable = let all = members_more f.member l ls in let one = one_own l.member f.member (sym is) in omega arith;
+  enough = let here : left_of f.member (l ∷ ls) ≡ l.left = cond-true (nat_eq l.member f.member) l.left (left_of f.member ls) (eq-eqb l.member f.member (sym is)) in omega arith;
+}
 
-tails : (x y : Liable) (xs ys : List Liable) → x ∷ xs ≡ y ∷ ys → xs ≡ ys
-tails x y xs ys e = ap (λ (zs : List Liable). drop 1 zs) e
+with_one : (b : Bool) (ls : List Liable) (f : Fill) (fs : List Fill) → IsWithin ls f → All (IsWithin ls) fs → All (IsWithin ls) (cond b (f ∷ fs) fs)
+with_one true ls f fs h hs = All-cons (IsWithin ls) f fs h hs
+with_one false ls f fs h hs = hs
 
-module _ (fills : List Fill) (initial liables : List Liable) (next i : ℕ) (d : Liable) (w : Walking fills initial liables next i) (lt : i < length initial) where
-  -- the next liability
-  abbrev l : Liable
-  l = get_or liables i d
+-- each fill is within the batch
+fills_within : (each : Liable → ℕ) (n m from : ℕ) (ls : List Liable) → ((l : Liable) → each l ≤ l.left) → ((a : Member) → members_of a ls ≤ 1) → All (IsWithin ls) (fills_from each n m from ls)
+fills_within each n m from [] most once = All-nil (IsWithin [])
+fills_within each n m from (l ∷ ls) most once =
+    let to : ℕ = from + each l in
+    let f : Fill = stretch n m from to l.member in
+    let le : each l ≤ l.left = most l in
+    with_one (nat_lt 0 f.shares) (l ∷ ls) f (fills_from each n m to ls) (first_within l ls f refl (omega arith))
+    (All-weaker (IsWithin ls) (IsWithin (l ∷ ls)) (wider l ls once) (fills_from each n m to ls) (fills_within each n m to ls most (rest_once l ls once)))
 
-  same_length : length (walked fills initial) ≡ length initial
-  same_length = length-walked fills initial
-
-  -- it is still as it was
-  was : l ≡ get_or initial i d
-  was = ap (λ ls. get_or ls i d) w.done ∙ next_is (walked fills initial) initial i d same_length lt
-
-  -- what the walk leaves of it and of the rest
-  left : get_or (walked fills initial) i d ∷ drop (i + 1) (walked fills initial) ≡ walked (drop next fills) (l ∷ drop (i + 1) initial)
-  left =
-      sym (drop_at (walked fills initial) i d (omega (arith, same_length, lt)))
-      ∙ w.rest ∙ ap (walked (drop next fills)) (drop_at initial i d lt ∙ ap (λ k. k ∷ drop (i + 1) initial) (sym was))
-
-  -- with it in place, one more is done
-  placed : (x : Liable) → get_or (walked fills initial) i d ≡ x → set liables i x ≡ take (i + 1) (walked fills initial) ++ drop (i + 1) initial
-  placed x e = ap (set liables i) (sym e) ∙ ap (λ ls. set ls i (get_or (walked fills initial) i d)) w.done ∙ rw add-one (set_next (walked fills initial) initial i d same_length lt)
-
-  -- a fill for the next is taken
-  pub takes : (e : Fill) (n : ℕ) → next < length fills → nat_eq (get_or fills next e).member l.member ≡ true → n ≡ l.left - (get_or fills next e).shares → Walking fills initial (set liables i (record { member = l.member; age = l.age; closing = l.closing; left = n })) (next + 1) (i + 1)
-  takes e n some test n_is =
-      let f : Fill = get_or fills next e in
-      let met : get_or (walked fills initial) i d ∷ drop (i + 1) (walked fills initial) ≡ lowered l f.shares ∷ walked (drop (next + 1) fills) (drop (i + 1) initial) =
-      left ∙ ap (λ fs. walked fs (l ∷ drop (i + 1) initial)) (drop_at fills next e some)
-      ∙ cond-true (nat_eq f.member l.member) (lowered l f.shares ∷ walked (drop (next + 1) fills) (drop (i + 1) initial)) (l ∷ walked (f ∷ drop (next + 1) fills) (drop (i + 1) initial)) test in
-      let first : get_or (walked fills initial) i d ≡ record { member = l.member; age = l.age; closing = l.closing; left = n } =
-      heads _ _ _ _ met ∙ ap (λ k. record { member = l.member; age = l.age; closing = l.closing; left = k }) (sym n_is) in
-      record {
-        within = omega arith;
-        done = placed (record { member = l.member; age = l.age; closing = l.closing; left = n }) first;
-        rest = tails _ _ _ _ met;
-      }
-
-  -- it stays
-  stays : get_or (walked fills initial) i d ∷ drop (i + 1) (walked fills initial) ≡ l ∷ walked (drop next fills) (drop (i + 1) initial) → Walking fills initial (set liables i l) next (i + 1)
-  stays met = record {
-    within = w.within;
-    done = placed l (heads _ _ _ _ met);
-    rest = tails _ _ _ _ met;
-  }
-
-  -- a fill for another waits
-  pub passes : (e : Fill) → next < length fills → nat_eq (get_or fills next e).member l.member ≡ false → Walking fills initial (set liables i l) next (i + 1)
-  passes e some test =
-      let f : Fill = get_or fills next e in
-      let fs : drop next fills ≡ f ∷ drop (next + 1) fills = drop_at fills next e some in
-      stays (left ∙ ap (λ gs. walked gs (l ∷ drop (i + 1) initial)) fs
-      ∙ cond-false (nat_eq f.member l.member) (lowered l f.shares ∷ walked (drop (next + 1) fills) (drop (i + 1) initial)) (l ∷ walked (f ∷ drop (next + 1) fills) (drop (i + 1) initial)) test
-      ∙ ap (λ gs. l ∷ walked gs (drop (i + 1) initial)) (sym fs))
-
-  -- after the last fill all stay
-  pub ends : length fills ≤ next → Walking fills initial (set liables i l) next (i + 1)
-  ends none =
-      let fs : drop next fills ≡ [] = drop_all next fills none in
-      stays (left ∙ ap (λ gs. walked gs (l ∷ drop (i + 1) initial)) fs ∙ ap (λ gs. l ∷ walked gs (drop (i + 1) initial)) (sym fs))
-
--- at the end all are charged
-pub all_charged : (fills : List Fill) (initial liables : List Liable) (next i : ℕ) → Walking fills initial liables next i → length initial ≤ i → ((a : Member) → members_of a initial ≤ 1) → FillInOrder fills initial → liables ≡ map (charged fills) initial
-all_charged fills initial liables next i w end once order =
-    let same = length-walked fills initial in
-    w.done ∙ ap (λ ls. take i (walked fills initial) ++ ls) (drop_all i initial end) ∙ append-nil (take i (walked fills initial))
-    ∙ take_all i (walked fills initial) (omega arith) ∙ walked_is fills initial once order
+-- a batch can be charged with the fills of an execution
+pub fills_chargeable : (each : Liable → ℕ) (n m : ℕ) (ls : List Liable) → ((l : Liable) → each l ≤ l.left) → ((a : Member) → members_of a ls ≤ 1) → CanBeCharged (fills_from each n m 0 ls) ls
+fills_chargeable each n m ls most once = record {
+  once = λ a. let few = fills_count each n m 0 a ls in let one = once a in omega arith;
+  within = fills_within each n m 0 ls most once;
+}

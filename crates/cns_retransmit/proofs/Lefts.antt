@@ -1,6 +1,6 @@
 -- What is left of the liabilities of a batch.
-use Rattle.std.proofs.Common.{◌≡◌, ◌∙◌, ap, ℕ, ◌+◌, ◌<◌, ◌≤◌, ◌^◌, Bool, true, false, cond, List, [], ◌∷◌, drop, filter, get_or, length, map, nat_eq, sum_by, arith}
-use Rattle.std.proofs.lemmas.Bool.{cond-true, cond-false}
+use Rattle.std.proofs.Common.{◌≡◌, ◌∙◌, ap, refl, ℕ, ◌+◌, ◌<◌, ◌≤◌, ◌^◌, Bool, true, false, cond, List, [], ◌∷◌, drop, filter, get_or, length, map, nat_eq, eqb, sum_by, arith}
+use Rattle.std.proofs.lemmas.Bool.{cond-true, cond-false, le-ltb}
 use Rattle.std.proofs.lemmas.List.Sums.{sum_by-cons}
 use Rattle.cns_units.specs.declared.account.Member.{Member}
 use Rattle.cns_terms.specs.declared.buy_in.Fill.{Fill}
@@ -31,6 +31,19 @@ chosen_below g ss called =
     let all = sum_in_order (λ (t : Short). g (liable_of t)) fills_before ss in
     omega arith
 
+none_pass : (p : Short → Bool) (ss : List Short) → ((s : Short) → p s ≡ false) → filter p ss ≡ []
+none_pass p [] none = refl
+none_pass p (s ∷ ss) none = cond-false (p s) (s ∷ filter p ss) (filter p ss) (none s) ∙ none_pass p ss none
+
+-- nobody is chosen where nothing is called
+pub none_called : (ss : List Short) → chosen ss 0 ≡ []
+none_called ss = ap (map liable_of) (none_pass (is_called ss 0) (in_order fills_before ss) (λ s. le-ltb _ 0 (omega arith)))
+
+-- nor where nobody is short
+pub none_short : (ss : List Short) (called : ℕ) → eqb (length ss) 0 ≡ true → chosen ss called ≡ []
+none_short [] called none = refl
+none_short (s ∷ ss) called none = let empty : length (s ∷ ss) ≡ 0 = grind (arith, none) in absurd (omega arith)
+
 -- what is chosen is a batch
 pub chosen_is_batch : (ss : List Short) (called : ℕ) → ((a : Member) → shorts_of a ss ≤ 1) → sum_by (λ s. s.shares) ss < 2 ^ 63 → IsBatch (chosen ss called)
 chosen_is_batch ss called once fits = record {
@@ -46,7 +59,7 @@ left_of_charged fs (l ∷ ls) =
     rw (sum_by-cons (λ k. k.left) (charged fs l) (map (charged fs) ls), sum_by-cons (λ k. k.left) l ls) (omega arith)
 
 -- nor other members
-members_of_charged : (a : Member) (fs : List Fill) (ls : List Liable) → members_of a (map (charged fs) ls) ≡ members_of a ls
+pub members_of_charged : (a : Member) (fs : List Fill) (ls : List Liable) → members_of a (map (charged fs) ls) ≡ members_of a ls
 members_of_charged a fs [] = omega arith
 members_of_charged a fs (l ∷ ls) =
     let count : Liable → ℕ = λ k. cond (nat_eq k.member a) 1 0 in

@@ -1,5 +1,5 @@
 pub mod Calls
+pub mod Charges
 pub mod Chosen
 pub mod Days
 pub mod Members
-pub mod Order

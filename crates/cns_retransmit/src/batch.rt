@@ -1,11 +1,11 @@
 // A batch, with what is left of each liability.
-ghost use Rattle.std.specs.Prelude.{◌≡◌, [], ◌^◌, ◌<◌, ◌≤◌, IfOk, IfSome, length, MatchOption, map, OnOk, pos, sum_by};
+ghost use Rattle.std.specs.Prelude.{◌≡◌, [], ◌^◌, ◌<◌, ◌≤◌, IfOk, IfSome, length, MatchOption, map, OnErr, pos, sum_by};
 ghost use Rattle.cns_terms.specs.Batches.{chosen};
 ghost use Rattle.cns_terms.specs.Fills.{charged, fills_of, room_of};
 ghost use Rattle.cns_units.specs.declared.account.Member.{Member};
 ghost use Rattle.cns_retransmit.specs.Chosen.{shorts_of};
 ghost use Rattle.cns_retransmit.specs.Members.{left_of};
-ghost use Rattle.cns_retransmit.specs.Order.{FillInOrder};
+ghost use Rattle.cns_retransmit.specs.Charges.{CanBeCharged};
 
 use crate::choice;
 use crate::filling::{self, Shorts, left_for, make_fills};
@@ -40,7 +40,7 @@ impl<A: Allocator + Drop + Clone> Batch<A> {
     /// profile of NSCC Procedure X.)
     ///
     /// No member may stand twice among the shorts, and together they have to be below 2^63 shares. `NoMemory` where a growth
-    /// or the copy of the allocator was refused.
+    /// or a copy of the allocator was refused; where nothing is called, or nobody is short, none is asked for.
     pub fn choose(
         alloc: A,
         cusip: Cusip,
@@ -49,9 +49,16 @@ impl<A: Allocator + Drop + Clone> Batch<A> {
     ) -> Result<Option<Batch<A>>, NoMemory>
         requires distinct { (a : Member) → shorts_of a shorts.now ≤ 1 }
         requires fits { sum_by (λ s. s.shares) shorts.now < 2 ^ 63 }
-        ensures batch { IfOk result (λ b. MatchOption b (chosen shorts.now total ≡ []) (λ b. b ≡ record { issue = cusip; members = chosen shorts.now total })) }
+        ensures batch { IfOk result
+            (λ b. MatchOption b (chosen shorts.now total ≡ [])
+            (λ b. b ≡ record { issue = cusip; members = chosen shorts.now total })) }
         ensures somebody { IfOk result (λ b. IfSome b (λ b. 0 < length b.members)) }
+        ensures called { OnErr result (0 < total) }
+        ensures short { OnErr result (0 < length shorts.now) }
     {
+        if total == 0 || shorts.is_empty() {
+            return Ok(None);
+        }
         let liables = choice::choose(alloc, shorts, total)?;
         if liables.is_empty() {
             return Ok(None);
@@ -79,7 +86,7 @@ impl<A: Allocator + Drop + Clone> Batch<A> {
         ensures fills { IfOk result (λ v. v.items ≡ fills_of (S.short_now now.now) shares money self.now.members) }
         ensures shares { IfOk result (λ v. sum_by (λ f. f.shares) v.items ≡ shares) }
         ensures cents { IfOk result (λ v. sum_by (λ f. f.cents) v.items ≡ money) }
-        ensures order { IfOk result (λ v. FillInOrder v.items self.now.members) }
+        ensures chargeable { IfOk result (λ v. CanBeCharged v.items self.now.members) }
     {
         let alloc = self.liables.allocator().clone()?;
         let fills = make_fills(alloc, self.liables.as_slice(), now, shares.value(), money)?;
@@ -117,10 +124,11 @@ impl<A: Allocator + Drop> Batch<A> {
         filling::room(self.liables.as_slice(), now)
     }
 
-    /// Lowers what is left of each liability by what the fills give its member, down to 0. The fills have to be for
-    /// members of the batch, in its order and at most one for each, as `fill` makes them. It takes no memory.
+    /// Lowers what is left of each liability by what the fills give its member. The fills may come in any order. They have to
+    /// be for members of the batch, at most one for each, and none for more than is left, as those are that `fill` makes.
+    /// It takes no memory, and a step for each member where the fills come in the order of the batch.
     pub fn charge(&mut self, fills: &[Fill])
-        requires { FillInOrder fills.now self.old.members }
+        requires { CanBeCharged fills.now self.old.members }
         ensures { self.new ≡ record { issue = self.old.issue; members = map (charged fills.now) self.old.members } }
     {
         filling::charge(self.liables.as_mut_slice(), fills);

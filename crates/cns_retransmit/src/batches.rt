@@ -3,7 +3,7 @@ ghost use Rattle.std.specs.Prelude.{◌≡◌, [], ◌∷◌, ◌++◌, OnErr, O
 ghost use Rattle.std.specs.Option.{ForSome, option_copied};
 ghost use Rattle.cns_terms.specs.Batches.{Liables};
 ghost use Rattle.cns_retransmit.specs.Days.{batch_on, batches_on, charged_on, day_at, RiseByIssue};
-ghost use Rattle.cns_retransmit.specs.Order.{FillInOrder};
+ghost use Rattle.cns_retransmit.specs.Charges.{CanBeCharged};
 
 use crate::Batch;
 use crate::day::DayBatches;
@@ -55,7 +55,8 @@ impl<A: Allocator + Drop> Batches<A> {
 
     /// Takes the batches of the last day away again, where there is one. It takes no memory.
     pub fn forget_last(&mut self)
-        ensures last { (days : List (List Liables)) (day : List Liables) → self.old ≡ days ++ day ∷ [] → self.new ≡ days }
+        ensures last { (days : List (List Liables)) (day : List Liables) → self.old ≡ days ++ day ∷ [] → self.new
+            ≡ days }
         ensures none { self.old ≡ [] → self.new ≡ [] }
     {
         let _ = self.days.pop();
@@ -88,9 +89,10 @@ impl<A: Allocator + Drop> Batches<A> {
     }
 
     /// Charges the batch of a day in an issue with fills, as `Batch::charge` does; where there is no such batch nothing
-    /// changes. The fills have to be for members of the batch, in its order and at most one for each. It takes no memory.
+    /// changes. The fills may come in any order. They have to be for members of the batch, at most one for each, and none for
+    /// more than is left. It takes no memory.
     pub fn charge(&mut self, day: u64, issue: Cusip, fills: &[Fill])
-        requires { ForSome (batch_on self.old day issue) (λ b. FillInOrder fills.now b.members) }
+        requires { ForSome (batch_on self.old day issue) (λ b. CanBeCharged fills.now b.members) }
         ensures { self.new ≡ charged_on self.old day issue fills.now }
     {
         let Some(place) = day.checked_sub(1) else {

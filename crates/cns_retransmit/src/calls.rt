@@ -72,7 +72,9 @@ impl<A: Allocator + Drop + Clone> Calls<A> {
 
     // Calls shares in an issue in which nothing is called yet.
     fn open(&mut self, issue: Cusip, shares: u64) -> Result<(), NoMemory>
-        ensures ok { OnOk result ((c : Cusip) → called_in self.new c ≡ (if same_issue issue c then Some (record { total = shares; shorts = [] }) else called_in self.old c)) }
+        ensures ok { OnOk result
+            ((c : Cusip) → called_in self.new c
+            ≡ (if same_issue issue c then Some (record { total = shares; shorts = [] }) else called_in self.old c)) }
         ensures err { OnErr result (self.new ≡ self.old) }
     {
         let called = Called::new(self.alloc.clone()?, shares);
@@ -102,7 +104,10 @@ impl<A: Allocator + Drop + Clone> Calls<A> {
     /// `NoMemory` where a growth or the copy of the allocator was refused, and then nothing changes.
     pub fn call(&mut self, issue: Cusip, shares: u64) -> Result<(), NoMemory>
         requires fits { total_in self.old issue + shares < 2 ^ 64 }
-        ensures ok { OnOk result ((c : Cusip) → called_in self.new c ≡ (if same_issue issue c then Some (record { total = total_in self.old issue + shares; shorts = shorts_in self.old issue }) else called_in self.old c)) }
+        ensures ok { OnOk result
+            ((c : Cusip) → called_in self.new c
+            ≡ (if same_issue issue c then Some
+            (record { total = total_in self.old issue + shares; shorts = shorts_in self.old issue }) else called_in self.old c)) }
         ensures first { OnErr result (called_in self.old issue ≡ None) }
         ensures err { OnErr result (self.new ≡ self.old) }
     {
@@ -118,7 +123,10 @@ impl<A: Allocator + Drop + Clone> Calls<A> {
     ///
     /// `NoMemory` where a growth was refused, and then nothing changes.
     pub fn short(&mut self, issue: Cusip, short: Short) -> Result<(), NoMemory>
-        ensures ok { OnOk result ((c : Cusip) → called_in self.new c ≡ (if same_issue issue c then option_map (with_short short) (called_in self.old c) else called_in self.old c)) }
+        ensures ok { OnOk result
+            ((c : Cusip) → called_in self.new c
+            ≡ (if same_issue issue c then option_map (with_short short)
+            (called_in self.old c) else called_in self.old c)) }
         ensures called { OnErr result (IsSome (called_in self.old issue)) }
         ensures err { OnErr result (self.new ≡ self.old) }
     {

@@ -7,7 +7,7 @@ ghost use Rattle.std.specs.Option.{ForSome, option_copied};
 ghost use Rattle.std.specs.Ordering.{nat_cmp};
 ghost use Rattle.std.specs.declared.cmp.Ordering.TheVariants.{Equal, Greater, Less};
 ghost use Rattle.cns_retransmit.specs.Days.{batch_in, charged_in, RiseByIssue};
-ghost use Rattle.cns_retransmit.specs.Order.{FillInOrder};
+ghost use Rattle.cns_retransmit.specs.Charges.{CanBeCharged};
 
 use crate::Batch;
 use cns_terms::Fill;
@@ -38,7 +38,9 @@ fn place<A: Allocator + Drop>(batches: &[Batch<A>], issue: Cusip) -> Result<usiz
     requires { RiseByIssue batches.now }
     ensures bound { IsSearchInRange result (length batches.now) }
     ensures found { IfOk result (HoldsAt (λ b. slice_cmp nat_cmp b.issue issue ≡ Equal) batches.now) }
-    ensures absent { IfErr result (IsPartitionPoint (λ b. slice_cmp nat_cmp b.issue issue ≡ Less) (λ b. slice_cmp nat_cmp b.issue issue ≡ Greater) batches.now) }
+    ensures absent { IfErr result
+        (IsPartitionPoint (λ b. slice_cmp nat_cmp b.issue issue ≡ Less)
+        (λ b. slice_cmp nat_cmp b.issue issue ≡ Greater) batches.now) }
 {
     batches.binary_search_by_key(&issue, |batch| batch.cusip())
 }
@@ -71,7 +73,7 @@ impl<A: Allocator + Drop> DayBatches<A> {
 
     /// Charges the batch of an issue with fills; where there is none nothing changes.
     pub(crate) fn charge(&mut self, issue: Cusip, fills: &[Fill])
-        requires { ForSome (batch_in self.old issue) (λ b. FillInOrder fills.now b.members) }
+        requires { ForSome (batch_in self.old issue) (λ b. CanBeCharged fills.now b.members) }
         ensures { self.new ≡ charged_in issue fills.now self.old }
     {
         if let Ok(at) = place(self.batches.as_slice(), issue) {

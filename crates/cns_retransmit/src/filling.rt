@@ -1,9 +1,10 @@
 // What an execution gives each member of a batch, and what it charges.
-ghost use Rattle.std.specs.Prelude.{◌≡◌, ℕ, ◌*◌, ◌/◌, ◌^◌, ◌<◌, ◌≤◌, IfOk, map, pos, sum_by};
+ghost use Rattle.std.specs.Prelude.{◌≡◌, ℕ, ◌*◌, ◌/◌, ◌^◌, ◌<◌, ◌≤◌, IfNone, IfOk, IfSome, drop, length, map, pos, sum_by};
+ghost use Rattle.std.specs.List.{HoldsAt};
 ghost use Rattle.cns_terms.specs.Fills.{capacity, charged, fills_of, room_of};
 ghost use Rattle.cns_units.specs.declared.account.Member.{Member};
 ghost use Rattle.cns_retransmit.specs.Members.{left_of, members_of};
-ghost use Rattle.cns_retransmit.specs.Order.{FillInOrder};
+ghost use Rattle.cns_retransmit.specs.Charges.{CanBeCharged};
 
 use cns_terms::{Fill, Liable};
 use cns_units::{Member, Money, Shares};
@@ -92,17 +93,45 @@ pub(crate) fn make_fills<S: Shorts, A: Allocator + Drop>(
     Ok(fills)
 }
 
-// Lowers what is left of each liability by the fills, which stand in the order of the batch.
+// The first place from one on at which a member stands.
+fn place_from(liables: &[Liable], member: Member, from: usize) -> Option<usize>
+    ensures found { IfSome result (λ place. place < length liables.now) }
+    ensures member { IfSome result (HoldsAt (λ l. l.member ≡ member) liables.now) }
+    ensures none { IfNone result (members_of member (drop from liables.now) ≡ 0) }
+{
+    for place in from..liables.len() {
+        if liables[place].member == member {
+            return Some(place);
+        }
+    }
+    None
+}
+
+// The place of a member that is there, sought from one on and then from the first. Fills mostly come in the order of the
+// batch, so that each search goes on where the last one ended.
+fn place_of(liables: &[Liable], member: Member, from: usize) -> usize
+    requires { 0 < members_of member liables.now }
+    ensures found { result < length liables.now }
+    ensures member { HoldsAt (λ l. l.member ≡ member) liables.now result }
+{
+    if let Some(place) = place_from(liables, member, from) {
+        return place;
+    }
+    let Some(place) = place_from(liables, member, 0) else {
+        unreachable!()
+    };
+    place
+}
+
+// Lowers what is left of each liability by the fills.
 pub(crate) fn charge(liables: &mut [Liable], fills: &[Fill])
     requires distinct { (a : Member) → members_of a liables.old ≤ 1 }
-    requires order { FillInOrder fills.now liables.old }
+    requires fills { CanBeCharged fills.now liables.old }
     ensures { liables.new ≡ map (charged fills.now) liables.old }
 {
-    let mut next = 0;
-    for liable in liables.iter_mut() {
-        if next < fills.len() && fills[next].member == liable.member {
-            liable.left = liable.left.saturating_sub(fills[next].shares);
-            next += 1;
-        }
+    let mut place = 0;
+    for fill in fills {
+        place = place_of(liables, fill.member, place);
+        liables[place].left -= fill.shares;
     }
 }

@@ -12,3 +12,4 @@ pub mod Alike
 pub mod LowestCusip
 pub mod Walked
 pub mod Crossing
+pub mod Added

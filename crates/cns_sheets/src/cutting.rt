@@ -101,7 +101,8 @@ fn row_of(key: &Key, holding: &Holding, dividend: Cents, opening_price: Price, p
 // Whether the row of a holding and the cents of dividends says nothing, whatever the prices. A holding that is no more
 // than an age makes such a row.
 fn is_silent(holding: &Holding, dividend: Cents) -> bool
-    ensures { (k : Key) (before : Price) (now : Price) → result ≡ is_idle (priced_row before now dividend (k, holding.entry.now)) }
+    ensures { (k : Key) (before : Price) (now : Price) → result
+        ≡ is_idle (priced_row before now dividend (k, holding.entry.now)) }
 {
     holding.opening == 0 && holding.now == 0 && holding.contract == 0 && dividend == Cents::ZERO
 }
@@ -117,7 +118,8 @@ fn push_row<A: Allocator + Drop>(
 ) -> Result<(), NoMemory>
     requires small { HasSmallCents (key.now, holding.now) }
     requires marked { AllByRecursion IsMarked rows.old }
-    ensures rows { OnOk result (rows.new ≡ rows.old ++ woven_rows before.old now.old ((key.now, (holding.entry.now, dividend)) ∷ [])) }
+    ensures rows { OnOk result
+        (rows.new ≡ rows.old ++ woven_rows before.old now.old ((key.now, (holding.entry.now, dividend)) ∷ [])) }
     ensures marked { OnOk result (AllByRecursion IsMarked rows.new) }
     ensures before { before.new ≡ before.old }
     ensures now { now.new ≡ now.old }
@@ -140,7 +142,8 @@ fn push_paid<A: Allocator + Drop>(
     high: Option<&Key>,
 ) -> Result<(), NoMemory>
     requires marked { AllByRecursion IsMarked rows.old }
-    ensures rows { OnOk result (rows.new ≡ rows.old ++ woven_rows before.old now.old (unheld (lower (option_copied high.entry) paid.old))) }
+    ensures rows { OnOk result
+        (rows.new ≡ rows.old ++ woven_rows before.old now.old (unheld (lower (option_copied high.entry) paid.old))) }
     ensures marked { OnOk result (AllByRecursion IsMarked rows.new) }
     ensures paid { OnOk result (paid.new ≡ past (option_copied high.entry) paid.old) }
     ensures none_lower { OnOk result (lower (option_copied high.entry) paid.new ≡ []) }
@@ -164,7 +167,10 @@ fn push_holding<A: Allocator + Drop>(
 ) -> Result<(), NoMemory>
     requires small { HasSmallCents (key.now, holding.now) }
     requires marked { AllByRecursion IsMarked rows.old }
-    ensures rows { OnOk result ((rest : Rows) → rows.old ++ woven_rows before.old now.old (weave ((key.now, holding.entry.now) ∷ rest) paid.old) ≡ rows.new ++ woven_rows before.old now.old (weave rest paid.new)) }
+    ensures rows { OnOk result
+        ((rest : Rows) → rows.old ++ woven_rows before.old now.old
+        (weave ((key.now, holding.entry.now) ∷ rest) paid.old)
+        ≡ rows.new ++ woven_rows before.old now.old (weave rest paid.new)) }
     ensures marked { OnOk result (AllByRecursion IsMarked rows.new) }
     ensures before { before.new ≡ before.old }
     ensures now { now.new ≡ now.old }
@@ -185,7 +191,10 @@ fn push_rows<A: Allocator + Drop>(
 ) -> Result<Option<Key>, NoMemory>
     requires small { AllByRecursion HasSmallCents (present holdings.now.items) }
     requires marked { AllByRecursion IsMarked rows.old }
-    ensures rows { OnOk result ((rest : Rows) → rows.old ++ woven_rows before.old now.old (weave (present holdings.now.items ++ rest) paid.old) ≡ rows.new ++ woven_rows before.old now.old (weave rest paid.new)) }
+    ensures rows { OnOk result
+        ((rest : Rows) → rows.old ++ woven_rows before.old now.old
+        (weave (present holdings.now.items ++ rest) paid.old)
+        ≡ rows.new ++ woven_rows before.old now.old (weave rest paid.new)) }
     ensures last { IfOk result (λ key. key ≡ last_of None (present holdings.now.items)) }
     ensures marked { OnOk result (AllByRecursion IsMarked rows.new) }
     ensures before { before.new ≡ before.old }
@@ -213,8 +222,10 @@ pub fn collect<P: Positions<B>, B, A: Allocator + Drop>(
 ) -> Result<KeyedRows<A>, NoMemory>
     requires before_rise { is_sorted (slice_cmp nat_cmp) before.now ≡ true }
     requires now_rise { is_sorted (slice_cmp nat_cmp) now.now ≡ true }
-    requires small { is_sorted key_cmp (P.rows positions.now) ≡ true → AllByRecursion HasSmallCents (P.rows positions.now) }
-    ensures rows { IfOk result (λ v. v ≡ woven_rows before.now now.now (weave (held_above (P.rows positions.now) None) paid.now)) }
+    requires small { is_sorted key_cmp (P.rows positions.now) ≡ true
+        → AllByRecursion HasSmallCents (P.rows positions.now) }
+    ensures rows { IfOk result
+        (λ v. v ≡ woven_rows before.now now.now (weave (held_above (P.rows positions.now) None) paid.now)) }
     ensures marked { IfOk result (λ v. AllByRecursion IsMarked v) }
     ensures order { OnOk result (is_sorted key_cmp (P.rows positions.now) ≡ true) }
     ensures paid_rise { OnOk result (is_sorted key_cmp paid.now ≡ true) }

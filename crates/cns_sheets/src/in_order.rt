@@ -43,7 +43,8 @@ impl<'a> InOrder<'a> {
 
     /// The next key with its cents, if it is below another; without one, the next of all.
     pub fn next_below(&mut self, high: Option<&Key>) -> Option<(Key, Cents)>
-        ensures { MatchOption result ((self.new ≡ self.old) × (lower (option_copied high.entry) self.old ≡ [])) (λ e. (self.old ≡ e ∷ self.new) × (is_below (option_copied high.entry) e.0 ≡ true)) }
+        ensures { MatchOption result ((self.new ≡ self.old) × (lower (option_copied high.entry) self.old ≡ []))
+            (λ e. (self.old ≡ e ∷ self.new) × (is_below (option_copied high.entry) e.0 ≡ true)) }
     {
         let (key, cents) = self.next?;
         if !is_below(high, &key) {

@@ -92,9 +92,11 @@ impl<A: Allocator + Drop + Clone> Paid<A> {
     ) -> Result<(), NoMemory>
         requires small { (k : Key) → unsigned_abs (cents_at self.old k) ≤ 10 ^ 33 }
         requires payable { IsPayable (declared.now, rows) }
-        ensures cents { is_sorted key_cmp (by_key rows.entry) ≡ true → OnOk result ((k : Key) → cents_at self.new k ≡ cents_at self.old k +ℤ paid declared.now rows.entry k) }
+        ensures cents { is_sorted key_cmp (by_key rows.entry) ≡ true
+            → OnOk result ((k : Key) → cents_at self.new k ≡ cents_at self.old k +ℤ paid declared.now rows.entry k) }
         ensures sum { OnOk result (total (λ e. e.1) self.new ≡ total (λ e. e.1) self.old) }
-        ensures bound { OnOk result ((k : Key) → unsigned_abs (cents_at self.new k) ≤ unsigned_abs (cents_at self.old k) + 2 * 10 ^ 21) }
+        ensures bound { OnOk result
+            ((k : Key) → unsigned_abs (cents_at self.new k) ≤ unsigned_abs (cents_at self.old k) + 2 * 10 ^ 21) }
     {
         let sum = self.pay_members(declared, rows)?;
         let account = Account::CORPORATION;
@@ -110,9 +112,13 @@ impl<A: Allocator + Drop + Clone> Paid<A> {
     ) -> Result<i128, NoMemory>
         requires small { (k : Key) → unsigned_abs (cents_at self.old k) ≤ 10 ^ 33 }
         requires payable { IsPayable (declared.now, rows) }
-        ensures cents { OnOk result ((k : Key) → cents_at self.new k ≡ cents_at self.old k +ℤ total (λ r. if is_eq (key_cmp k (key_of r)) then member_cash declared.now r else pos 0) rows.entry) }
+        ensures cents { OnOk result
+            ((k : Key) → cents_at self.new k
+            ≡ cents_at self.old k +ℤ total
+            (λ r. if is_eq (key_cmp k (key_of r)) then member_cash declared.now r else pos 0) rows.entry) }
         ensures sum { IfOk result (λ sum. sum ≡ total (member_cash declared.now) rows.entry) }
-        ensures all { OnOk result (total (λ e. e.1) self.new ≡ total (λ e. e.1) self.old +ℤ total (member_cash declared.now) rows.entry) }
+        ensures all { OnOk result
+            (total (λ e. e.1) self.new ≡ total (λ e. e.1) self.old +ℤ total (member_cash declared.now) rows.entry) }
     {
         let mut sum = 0;
         for row in rows {
@@ -126,7 +132,9 @@ impl<A: Allocator + Drop + Clone> Paid<A> {
     // Adds cents at a key.
     fn add(&mut self, key: Key, cents: i128) -> Result<(), NoMemory>
         requires { unsigned_abs (cents_at self.old key +ℤ cents) ≤ 10 ^ 34 }
-        ensures cents { OnOk result ((k : Key) → cents_at self.new k ≡ cents_at self.old k +ℤ (if is_eq (key_cmp k key) then cents else pos 0)) }
+        ensures cents { OnOk result
+            ((k : Key) → cents_at self.new k
+            ≡ cents_at self.old k +ℤ (if is_eq (key_cmp k key) then cents else pos 0)) }
         ensures sum { OnOk result (total (λ e. e.1) self.new ≡ total (λ e. e.1) self.old +ℤ cents) }
     {
         if cents == 0 {

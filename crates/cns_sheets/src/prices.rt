@@ -19,7 +19,9 @@ pub fn place(prices: &[(Cusip, Price)], issue: &Cusip) -> Result<usize, usize>
     requires { is_sorted (slice_cmp nat_cmp) prices.now ≡ true }
     ensures bound { IsSearchInRange result (length prices.now) }
     ensures found { IfOk result (HoldsAt (λ e. slice_cmp nat_cmp e.0 issue.now ≡ Ordering.Equal) prices.now) }
-    ensures absent { IfErr result (IsPartitionPoint (λ e. slice_cmp nat_cmp e.0 issue.now ≡ Ordering.Less) (λ e. slice_cmp nat_cmp e.0 issue.now ≡ Ordering.Greater) prices.now) }
+    ensures absent { IfErr result
+        (IsPartitionPoint (λ e. slice_cmp nat_cmp e.0 issue.now ≡ Ordering.Less)
+        (λ e. slice_cmp nat_cmp e.0 issue.now ≡ Ordering.Greater) prices.now) }
 {
     prices.binary_search_by(|entry| entry.0.cmp(issue))
 }

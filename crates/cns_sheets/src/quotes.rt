@@ -85,7 +85,9 @@ fn place_near(prices: &[(Cusip, Price)], start: usize, issue: &Cusip) -> Result<
     requires { is_sorted (slice_cmp nat_cmp) prices.now ≡ true }
     ensures bound { IsSearchInRange result (length prices.now) }
     ensures found { IfOk result (HoldsAt (λ e. slice_cmp nat_cmp e.0 issue.now ≡ Ordering.Equal) prices.now) }
-    ensures absent { IfErr result (IsPartitionPoint (λ e. slice_cmp nat_cmp e.0 issue.now ≡ Ordering.Less) (λ e. slice_cmp nat_cmp e.0 issue.now ≡ Ordering.Greater) prices.now) }
+    ensures absent { IfErr result
+        (IsPartitionPoint (λ e. slice_cmp nat_cmp e.0 issue.now ≡ Ordering.Less)
+        (λ e. slice_cmp nat_cmp e.0 issue.now ≡ Ordering.Greater) prices.now) }
 {
     for at in start..prices.len().min(start.saturating_add(NEAR)) {
         if prices[at].0.cmp(issue).is_eq() {

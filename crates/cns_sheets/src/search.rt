@@ -26,7 +26,8 @@ fn past(prices: &[(Cusip, Price)], after: Option<Cusip>) -> usize
 /// The first of the prices, or the first of an issue above another, among prices in the order of issues.
 pub fn next_price(prices: &[(Cusip, Price)], after: Option<Cusip>) -> Option<(Cusip, Price)>
     requires { is_sorted (slice_cmp nat_cmp) prices.now ≡ true }
-    ensures { MatchOption result (prices_above prices.now after ≡ []) (λ e. prices_above prices.now after ≡ e ∷ prices_above prices.now (Some e.0)) }
+    ensures { MatchOption result (prices_above prices.now after ≡ [])
+        (λ e. prices_above prices.now after ≡ e ∷ prices_above prices.now (Some e.0)) }
 {
     prices.get(past(prices, after)).copied()
 }

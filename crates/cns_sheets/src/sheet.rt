@@ -21,7 +21,7 @@ use crate::payments::{Paid, Payment};
 use crate::prices::{listed, price_on};
 use crate::same::{same_prices, same_rows};
 use crate::search::next_price;
-use crate::sums::sums;
+use crate::sums::{Totals, account_sums, sheet_sums};
 use crate::walks::{AccountRows, SheetRows};
 use cns_positions::Positions;
 use cns_prices::Prices;
@@ -73,7 +73,9 @@ impl<A: Allocator + Drop + Clone> Sheet<A> {
         requires paid { CanBePaid (paying payments.now) }
         ensures date { IfOk result (λ s. s.date ≡ date) }
         ensures listed { IfOk result (λ s. s.prices ≡ listed_above prices.now None) }
-        ensures cut { IfOk result (λ s. IsCut (prices_of (option_copied before.entry)) prices.now (P.rows positions.now) (paying payments.now) s.rows) }
+        ensures cut { IfOk result
+            (λ s. IsCut (prices_of (option_copied before.entry)) prices.now (P.rows positions.now)
+            (paying payments.now) s.rows) }
         ensures prices { OnOk result (is_sorted (slice_cmp nat_cmp) prices.now ≡ true) }
         ensures rows { OnOk result (is_sorted key_cmp (P.rows positions.now) ≡ true) }
     {
@@ -172,7 +174,8 @@ impl<A: Allocator + Drop + Clone> Sheet<A> {
     /// The first of the sheet's issues above another, or the first of all, with its price in cents; None past the last.
     pub fn next_price(&self, after: Option<Cusip>) -> Option<(Cusip, Price)>
         ensures order { is_sorted (slice_cmp nat_cmp) self.now.prices ≡ true }
-        ensures next { MatchOption result (prices_above self.now.prices after ≡ []) (λ e. prices_above self.now.prices after ≡ e ∷ prices_above self.now.prices (Some e.0)) }
+        ensures next { MatchOption result (prices_above self.now.prices after ≡ [])
+            (λ e. prices_above self.now.prices after ≡ e ∷ prices_above self.now.prices (Some e.0)) }
     {
         next_price(self.prices.as_slice(), after)
     }
@@ -183,7 +186,7 @@ impl<A: Allocator + Drop + Clone> Sheet<A> {
         ensures { result ≡ statement self.now account }
     {
         let date = self.date;
-        let totals = sums(self.rows_of(account));
+        let totals = account_sums(self.rows_of(account));
         Stated {
             account,
             date,
@@ -202,23 +205,29 @@ impl<A: Allocator + Drop + Clone> Sheet<A> {
             && same_rows(self.rows(), other.rows())
     }
 
-    /// The sum of all marks, in cents. It is zero, and so is not added up.
+    // How many rows there are, and what they add up to.
+    fn totals(&self) -> Totals
+        ensures marks { result.mark ≡ total (λ r. r.mark) self.now.rows }
+        ensures dividends { result.dividend ≡ total (λ r. r.dividend) self.now.rows }
+        ensures no_mark { result.mark ≡ pos 0 }
+        ensures no_dividend { result.dividend ≡ pos 0 }
+    {
+        sheet_sums(SheetRows::new(self.rows.walk()))
+    }
+
+    /// The sum of all marks, in cents, added up row by row. It is zero.
     pub fn total_marks(&self) -> Cents
         ensures sum { result ≡ total (λ r. r.mark) self.now.rows }
         ensures zero { result ≡ pos 0 }
     {
-        // The read of a field lets the proof use what the type keeps: that the sum is zero.
-        let _ = &self.date;
-        Cents::ZERO
+        self.totals().mark
     }
 
-    /// The sum of all dividends, in cents. It is zero, and so is not added up.
+    /// The sum of all dividends, in cents, added up row by row. It is zero.
     pub fn total_dividends(&self) -> Cents
         ensures sum { result ≡ total (λ r. r.dividend) self.now.rows }
         ensures zero { result ≡ pos 0 }
     {
-        // The read of a field lets the proof use what the type keeps: that the sum is zero.
-        let _ = &self.date;
-        Cents::ZERO
+        self.totals().dividend
     }
 }

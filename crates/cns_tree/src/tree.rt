@@ -1,5 +1,5 @@
 // The tree and its public calls.
-ghost use Rattle.std.specs.Prelude.{◌≡◌, ◌+◌, ◌<◌, ◌≤◌, ◌⊎◌, [], true, is_some, length, min, IfOk, IfSome, if◌then◌else◌};
+ghost use Rattle.std.specs.Prelude.{◌≡◌, ◌+◌, ◌<◌, ◌≤◌, ◌⊎◌, [], true, is_some, length, min, IfOk, IfSome, OnErr, if◌then◌else◌};
 ghost use Rattle.std.specs.FinMap.{find, is_sorted};
 ghost use Rattle.std.specs.FinMap as rows;
 ghost use Rattle.std.specs.List.{filter, find as first};
@@ -54,10 +54,11 @@ impl<V: Copy, A: Allocator + Clone> Tree<V, A> {
 
     /// A tree of rows whose keys strictly rise. It takes time in proportion to their number.
     ///
-    /// `NoMemory` where a box was refused; those that it had are given back.
+    /// `NoMemory` where a box was refused; those that it had are given back. A tree of no rows asks for none.
     pub fn from_sorted(alloc: A, rows: &[(Key, V)]) -> Result<Self, NoMemory>
         requires { is_sorted key_cmp rows.now ≡ true }
-        ensures { IfOk result (λ tree. tree ≡ rows.now) }
+        ensures rows { IfOk result (λ tree. tree ≡ rows.now) }
+        ensures memory { OnErr result (0 < length rows.now) }
     {
         let built = build(&alloc, rows)?;
         Ok(Tree {
@@ -83,10 +84,11 @@ impl<V: Copy, A: Allocator + Clone> Tree<V, A> {
 
     /// A spare of so many boxes, at most four. The value fills them until a put uses them; no call gives it back.
     ///
-    /// `NoMemory` where a box was refused; those that it had are given back.
+    /// `NoMemory` where a box was refused; those that it had are given back. A spare of none asks for none.
     pub fn spare(&self, count: usize, value: V) -> Result<Spare<V, A>, NoMemory>
         requires { count ≤ 4 }
-        ensures { IfOk result (λ spare. spare ≡ count) }
+        ensures count { IfOk result (λ spare. spare ≡ count) }
+        ensures memory { OnErr result (0 < count) }
     {
         let mut spare = Spare::empty();
         for _held in 0..count {

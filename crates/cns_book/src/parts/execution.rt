@@ -4,7 +4,7 @@ ghost use Rattle.cns_terms.specs.declared.command.Activity.TheVariants as activi
 ghost use Rattle.cns_terms.specs.declared.command.Command.TheVariants as command;
 ghost use Rattle.cns_terms.specs.Refusals.{refusal};
 ghost use Rattle.cns_retransmit.specs.Days.{batch_on};
-ghost use Rattle.cns_retransmit.specs.Order.{FillInOrder};
+ghost use Rattle.cns_retransmit.specs.Charges.{CanBeCharged};
 ghost use Rattle.cns_book.specs.Executions.{capped_short, CanBeExecuted, fills_by, IsAccepted};
 ghost use Rattle.cns_book.specs.Follows.{Answers, HasRoom, Shows};
 
@@ -94,7 +94,7 @@ impl<P: Positions<A>, A: Allocator + Drop + Clone> Parts<P, A> {
         requires batch { batch_on self.now.batches given.now.day given.now.issue ≡ Some batch.now }
         ensures fills { IfOk result (λ v. Shows self.now (λ J. v.items ≡ fills_by J execution.now)) }
         ensures booked { IfOk result (λ v. CanBeExecuted self.now.rows given.now v.items) }
-        ensures order { IfOk result (λ v. FillInOrder v.items batch.now.members) }
+        ensures chargeable { IfOk result (λ v. CanBeCharged v.items batch.now.members) }
     {
         let now = ShortsNow {
             parts: self,

@@ -3,7 +3,7 @@ use Rattle.std.specs.FinMap.{is_sorted}
 use Rattle.std.specs.List.{Contains}
 use Rattle.cns_terms.specs.declared.holding.Key.{Key}
 use Rattle.cns_terms.specs.Keys.{key_cmp}
-use Rattle.cns_positions.specs.Rows.{holding_at}
+use Rattle.cns_positions.specs.Rows.{holding_at, row_at}
 use Rattle.cns_positions.specs.Contents.{has_row}
 use Rattle.cns_positions.proofs.flat.enter_all.Given as goal
 
@@ -11,6 +11,7 @@ abbrev pub invariant-loop-key : goal.invariant-loop-key
 invariant-loop-key g l = record {
   sorted : is_sorted key_cmp l.rows.items ≡ true;
   there : (k : Key) → Contains (take l.key-index l.keys) k → has_row l.rows.items k ≡ true;
-  others : (k : Key) → has_row l.fn.rows.items k ≡ true → has_row l.rows.items k ≡ true;
+  kept : (k : Key) → has_row l.fn.rows.items k ≡ true → has_row l.rows.items k ≡ true;
+  others : (k : Key) → ¬ Contains (take l.key-index l.keys) k → row_at l.rows.items k ≡ row_at l.fn.rows.items k;
   same : (k : Key) → holding_at l.rows.items k ≡ holding_at l.fn.rows.items k;
 }

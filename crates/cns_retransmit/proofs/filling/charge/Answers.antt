@@ -1,24 +1,19 @@
-use Rattle.std.proofs.Common.{◌≡◌, ◌∙◌, ap, sym, ◌-◌, get_or}
-use Rattle.std.proofs.lemmas.List.{get_or_default}
-use Rattle.cns_terms.specs.declared.buy_in.Fill.{Fill}
-use Rattle.cns_terms.specs.declared.buy_in.Liable.{Liable}
-use Rattle.cns_retransmit.proofs.Charging.{all_charged, ends, passes, takes}
+use Rattle.std.proofs.Common.{sym, ◌∙◌}
+use Rattle.cns_retransmit.proofs.Charging.{lowered_at, next_charged, next_enough, none_charged}
 use Rattle.cns_retransmit.proofs.filling.charge.Goals as goal
-use Rattle.cns_retransmit.proofs.filling.charge.Goals.{then-next-fills+then-eq, else-next-fills, else-next-fills-via-then-next-fills+else-eq, else-next-fills-via-else-next-fills}
 
-pub loop-liable-preserved : goal.loop-liable-preserved
-loop-liable-preserved c =
-    elim c.if-next-fills.branch [
-      | then-next-fills+then-eq w ↦
-          let l : Liable = get_or c.loop-liable.liables c.loop-liable.liable-index c.liable-item.result in
-          let n_is : w.saturating_sub-liable.result ≡ l.left - (get_or c.args.fills.now c.loop-liable.next w.index-fills-next.result).shares =
-          w.saturating_sub-liable.ensures ∙ ap (λ (f : Fill). l.left - f.shares) (get_or_default c.args.fills.now c.loop-liable.next w.index-fills-next-then-eq.result w.index-fills-next.result w.if-next-fills.true) in
-          rw (w.liables-is, w.next-is) (takes c.args.fills.now c.args.liables.now c.loop-liable.liables c.loop-liable.next c.loop-liable.liable-index c.liable-item.result c.loop-liable.invariant c.loop-liable-test.true w.index-fills-next.result w.saturating_sub-liable.result w.if-next-fills.true (sym w.eq.ensures ∙ w.if-eq.true) n_is)
-      | else-next-fills w ↦ elim w.else-next-fills.branch [
-        | else-next-fills-via-then-next-fills+else-eq v ↦ rw (w.liables-is, w.next-is, v.liables-is) (passes c.args.fills.now c.args.liables.now c.loop-liable.liables c.loop-liable.next c.loop-liable.liable-index c.liable-item.result c.loop-liable.invariant c.loop-liable-test.true v.index-fills-next.result v.if-next-fills.true (sym v.eq.ensures ∙ v.if-eq.false))
-        | else-next-fills-via-else-next-fills v ↦ rw (w.liables-is, w.next-is, v.liables-is) (ends c.args.fills.now c.args.liables.now c.loop-liable.liables c.loop-liable.next c.loop-liable.liable-index c.liable-item.result c.loop-liable.invariant c.loop-liable-test.true v.if-next-fills.false)
-      ]
-    ]
+pub loop-fill-init : goal.loop-fill-init
+loop-fill-init c = sym (none_charged c.args.liables.now)
 
-pub returns : goal.returns
-returns c = all_charged c.args.fills.now c.args.liables.now c.loop-liable.liables c.loop-liable.next c.loop-liable.liable-index c.loop-liable.invariant c.loop-liable-test.false c.requires.distinct c.requires.order
+pub overflow_sub-liables : goal.overflow_sub-liables
+overflow_sub-liables c =
+    rw c.loop-fill.invariant (next_enough c.args.fills.now c.args.liables.now c.loop-fill.fill-index c.fill-item.result c.requires.fills c.loop-fill-test.true c.fill-item.is
+    c.place_of-place.result c.index-liables-place.result c.requires.distinct
+    (rw c.loop-fill.invariant at c.place_of-place.ensures.found) (rw c.loop-fill.invariant at (c.place_of-place.ensures.member c.index-liables-place.result)))
+
+pub loop-fill-preserved : goal.loop-fill-preserved
+loop-fill-preserved c =
+    lowered_at c.loop-fill.liables _ c.place_of-place.result c.fill-item.result.shares c.index-liables-place.result c.index-liables-place-in-loop-fill.result c.loop-fill.invariant c.place_of-place.ensures.found
+    ∙ next_charged c.args.fills.now c.args.liables.now c.loop-fill.fill-index c.fill-item.result c.requires.fills c.loop-fill-test.true c.fill-item.is
+    c.place_of-place.result c.index-liables-place.result c.requires.distinct
+    (rw c.loop-fill.invariant at c.place_of-place.ensures.found) (rw c.loop-fill.invariant at (c.place_of-place.ensures.member c.index-liables-place.result))

@@ -1,5 +1,6 @@
-use Rattle.cns_retransmit.proofs.Charging.{Walking}
+use Rattle.std.proofs.Common.{◌≡◌, map, take}
+use Rattle.cns_terms.specs.Fills.{charged}
 use Rattle.cns_retransmit.proofs.filling.charge.Given as goal
 
-abbrev pub invariant-loop-liable : goal.invariant-loop-liable
-invariant-loop-liable l = Walking l.fills l.initial.liables l.liables l.next l.liable-index
+abbrev pub invariant-loop-fill : goal.invariant-loop-fill
+invariant-loop-fill l = l.liables ≡ map (charged (take l.fill-index l.fills)) l.fn.liables

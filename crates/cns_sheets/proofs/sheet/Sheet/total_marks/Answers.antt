@@ -1,5 +1,0 @@
-use Rattle.std.proofs.Common.{sym}
-use Rattle.cns_sheets.proofs.sheet.Sheet.total_marks.Goals as goal
-
-pub returns-clause-sum : goal.returns-clause-sum
-returns-clause-sum g c = rw (← c.self.view_is) (sym c.self.invariant.sheet.balanced.marks)
