@@ -55,11 +55,10 @@ fn entered(entry: &Entry, holding: Holding) -> Holding
 impl<'a, P: Positions<A>, A> Merge<'a, P, A> {
     // The next row, with the entry at its key if there is one; or the row that an entry makes at a key without one.
     fn next_row(&mut self) -> Option<(Key, Holding)>
-        ensures next { MatchOption result ((self.old.rows ≡ []) × (self.old.entries ≡ []))
-            (λ r. (m : Rows) → IsMerged self.new.rows self.new.entries m
-            → IsMerged self.old.rows self.old.entries (r ∷ m)) }
-        ensures fewer { IfSome result
-            (λ r. length self.new.rows + length self.new.entries < length self.old.rows + length self.old.entries) }
+        ensures next { MatchOption result ((self.old.rows ≡ []) × (self.old.entries ≡ [])) (λ r. (m : Rows)
+            → IsMerged self.new.rows self.new.entries m → IsMerged self.old.rows self.old.entries (r ∷ m)) }
+        ensures fewer { IfSome result (λ r. length self.new.rows + length self.new.entries
+            < length self.old.rows + length self.old.entries) }
     {
         let Some((entry, rest)) = self.entries.split_first() else {
             return self.rows.next_before(None);
@@ -88,8 +87,8 @@ pub(crate) fn merged<P: Positions<B>, B, A: Allocator + Drop>(
     requires space { (k : Key) → HasSpace (holding_at (P.rows positions.now) k) }
     requires small { AllByRecursion IsSmall entries.now }
     requires rise { is_sorted key_cmp (by_key entries.now) ≡ true }
-    ensures booked { IfOk result
-        (λ v. (k : Key) → holding_at v.items k ≡ books entries.now k (holding_at (P.rows positions.now) k)) }
+    ensures booked { IfOk result (λ v. (k : Key) → holding_at v.items k
+        ≡ books entries.now k (holding_at (P.rows positions.now) k)) }
     ensures order { IfOk result (λ v. is_sorted key_cmp v.items ≡ true) }
 {
     let mut rows = Vec::new(alloc);

@@ -1,5 +1,5 @@
 // The positions after a split or an exchange.
-ghost use Rattle.std.specs.Prelude.{◌≡◌, ◌↔◌, ◌<◌, ◌≤◌, ◌+ℤ◌, ◌++◌, List, Err, None, true, false, IfOk, IfNone, IfSome, OnSome, OnOk, unsigned_abs};
+ghost use Rattle.std.specs.Prelude.{◌≡◌, ◌↔◌, ◌<◌, ◌≤◌, ◌+ℤ◌, ◌++◌, List, Err, true, false, IfOk, IfNone, IfSome, OnSome, OnOk, unsigned_abs};
 ghost use Rattle.std.specs.FinMap.{is_sorted};
 ghost use Rattle.std.specs.List.{AllByRecursion, list_any};
 ghost use Rattle.cns_units.specs.declared.account.Member.{Member};
@@ -10,9 +10,9 @@ ghost use Rattle.cns_terms.specs.Entries.{corporation};
 ghost use Rattle.cns_terms.specs.Limits.{member_limit, position_limit};
 ghost use Rattle.cns_terms.specs.Refusals.{are_too_large, is_beyond};
 ghost use Rattle.cns_terms.specs.Keys.{key_cmp};
-ghost use Rattle.cns_positions.specs.Rows.{books, held_above, holding_at};
+ghost use Rattle.cns_positions.specs.Rows.{books, holding_at};
 ghost use Rattle.cns_actions.specs.Booked.{CanBeBooked, IsForAnother, entries_of, issue_of, position_at, positions_in};
-ghost use Rattle.cns_actions.specs.Changes.{IsFew, all_entries, change_of, entries_for, holders_in, member_entries, opposite, position_after, sum_of, takes_beyond};
+ghost use Rattle.cns_actions.specs.Changes.{IsFew, all_entries, change_of, entries_for, holders_of, member_entries, opposite, position_after, sum_of, takes_beyond};
 ghost use Rattle.cns_actions.specs.Merging.{IsSmall};
 
 use crate::action::Action;
@@ -81,14 +81,11 @@ fn takes_beyond<P: Positions<B>, B>(
 // What the positions of all members become together; None where one of them would be beyond its limits.
 fn sum_of<P: Positions<B>, B>(positions: &P, action: &Action) -> Option<Change>
     requires { CanBeBooked (P.rows positions.now) }
-    ensures large { IfNone result
-        (list_any (takes_beyond (P.rows positions.now) action.now)
-        (holders_in (issue_of action.now) (held_above (P.rows positions.now) None)) ≡ true) }
-    ensures within { OnSome result
-        (list_any (takes_beyond (P.rows positions.now) action.now)
-        (holders_in (issue_of action.now) (held_above (P.rows positions.now) None)) ≡ false) }
-    ensures sum { IfSome result
-        (λ s. s ≡ sum_of action.now (holders_in (issue_of action.now) (held_above (P.rows positions.now) None))) }
+    ensures large { IfNone result (list_any (takes_beyond (P.rows positions.now) action.now)
+        (holders_of action.now (P.rows positions.now)) ≡ true) }
+    ensures within { OnSome result (list_any (takes_beyond (P.rows positions.now) action.now)
+        (holders_of action.now (P.rows positions.now)) ≡ false) }
+    ensures sum { IfSome result (λ s. s ≡ sum_of action.now (holders_of action.now (P.rows positions.now))) }
     ensures few { IfSome result (IsFew member_limit) }
     ensures order { is_sorted key_cmp (P.rows positions.now) ≡ true }
 {
@@ -106,8 +103,8 @@ fn sum_of<P: Positions<B>, B>(positions: &P, action: &Action) -> Option<Change>
     Some(sum)
 }
 
-// The entries of a split or an exchange in the order of their keys: the corporation's, which are the opposite of what the
-// positions of all members become together, and the members'.
+// The entries of a split or an exchange in the order of their keys: the corporation's, which are the opposite of what
+// the positions of all members become together, and the members'.
 fn entries<P: Positions<B>, B, A: Allocator + Drop>(
     alloc: A,
     positions: &P,
@@ -116,9 +113,8 @@ fn entries<P: Positions<B>, B, A: Allocator + Drop>(
 ) -> Result<Vec<Entry, A>, NoMemory>
     requires within { CanBeBooked (P.rows positions.now) }
     requires few { IsFew member_limit sum.now }
-    ensures entries { IfOk result
-        (λ v. v.items ≡ entries_for action.now corporation (opposite sum.now) ++ member_entries action.now
-        (holders_in (issue_of action.now) (held_above (P.rows positions.now) None))) }
+    ensures entries { IfOk result (λ v. v.items ≡ entries_for action.now corporation (opposite sum.now)
+        ++ member_entries action.now (holders_of action.now (P.rows positions.now))) }
     ensures small { IfOk result (λ v. AllByRecursion IsSmall v.items) }
 {
     let issue = issue_of(action);
@@ -141,13 +137,11 @@ fn booked<P: Positions<B>, B, A: Allocator + Drop + Clone>(
 ) -> Result<P, NoMemory>
     requires within { CanBeBooked (P.rows positions.now) }
     requires another { IsForAnother action.now }
-    requires sum { sum.now
-        ≡ sum_of action.now (holders_in (issue_of action.now) (held_above (P.rows positions.now) None)) }
+    requires sum { sum.now ≡ sum_of action.now (holders_of action.now (P.rows positions.now)) }
     requires few { IsFew member_limit sum.now }
     requires order { is_sorted key_cmp (P.rows positions.now) ≡ true }
-    ensures booked { IfOk result
-        (λ p. (k : Key) → holding_at (P.rows p) k
-        ≡ books (all_entries action.now (holders_in (issue_of action.now) (held_above (P.rows positions.now) None))) k
+    ensures booked { IfOk result (λ p. (k : Key) → holding_at (P.rows p) k
+        ≡ books (all_entries action.now (holders_of action.now (P.rows positions.now))) k
         (holding_at (P.rows positions.now) k)) }
     ensures order { IfOk result (λ p. is_sorted key_cmp (P.rows p) ≡ true) }
 {
@@ -184,12 +178,11 @@ pub fn next_positions<P: Positions<B>, B, A: Allocator + Drop + Clone>(
     requires within { CanBeBooked (P.rows positions.now) }
     requires another { IsForAnother action.now }
     ensures too_large { (ms : List Member) → AreHolders (positions_in (P.rows positions.now) (issue_of action.now)) ms
-        → (result ≡ Err ActionFault.TooLarge)
-        ↔ (are_too_large (position_at (P.rows positions.now))
+        → (result ≡ Err ActionFault.TooLarge) ↔ (are_too_large (position_at (P.rows positions.now))
         (entries_of action.now (positions_in (P.rows positions.now) (issue_of action.now)) ms) ≡ true) }
-    ensures booked { IfOk result
-        (λ p. (ms : List Member) → AreHolders (positions_in (P.rows positions.now) (issue_of action.now)) ms
-        → (k : Key) → holding_at (P.rows p) k
+    ensures booked { IfOk result (λ p. (ms : List Member)
+        → AreHolders (positions_in (P.rows positions.now) (issue_of action.now)) ms → (k : Key)
+        → holding_at (P.rows p) k
         ≡ books (entries_of action.now (positions_in (P.rows positions.now) (issue_of action.now)) ms) k
         (holding_at (P.rows positions.now) k)) }
     ensures order { IfOk result (λ p. is_sorted key_cmp (P.rows p) ≡ true) }

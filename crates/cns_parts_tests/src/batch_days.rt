@@ -143,24 +143,16 @@ fn execute(batches: &mut Batches<Global>, day: u64, issue: Cusip, shares: u64) -
     Ok(())
 }
 
-// Charges the first member of the batch of a day in an issue so many shares, whatever is left of its liability; where
-// there is no such batch, a member of none.
-fn charge_first(
-    batches: &mut Batches<Global>,
-    day: u64,
-    issue: Cusip,
-    shares: u64,
-) -> Result<(), Fail> {
-    let mut fill = Fill {
+// Charges a fill on a day and in an issue without a batch.
+fn charge_nobody(batches: &mut Batches<Global>, day: u64, issue: Cusip) -> Result<(), Fail> {
+    let fill = Fill {
         member: Member::new(7)?,
-        shares,
+        shares: 10,
         cents: 0,
     };
-    if let Some(batch) = batches.find(day, issue) {
-        if batch.members().is_empty() {
-            return Err(Fail::new("nobody is liable"));
-        }
-        fill.member = batch.members()[0].member;
+    match batches.find(day, issue) {
+        Some(_) => return Err(Fail::new("somebody is liable")),
+        None => (),
     }
     batches.charge(day, issue, &[fill]);
     Ok(())
@@ -206,30 +198,18 @@ fn an_execution_is_charged_to_the_batch_of_its_day_and_issue_alone(
     Ok(())
 }
 
-// Charges where nothing is left, and where there is no batch.
-fn charge_in_vain(batches: &mut Batches<Global>) -> Result<(), Fail> {
-    let apple = Cusip::parse(APPLE)?;
-    // A day that is not closed, no day, and an issue in which nobody is liable.
-    charge_first(batches, 3, apple, 10)?;
-    charge_first(batches, 0, apple, 10)?;
-    charge_first(batches, 1, Cusip::parse(MICROSOFT)?, 10)?;
-    // Nothing was left.
-    charge_first(batches, 1, apple, 1)
-}
-
 #[test]
-fn nothing_is_left_where_more_is_charged(rt: HostRuntime) -> Result<(), Fail> {
+fn a_charge_where_nobody_is_liable_changes_nothing(rt: HostRuntime) -> Result<(), Fail> {
     let (apple, cisco) = (Cusip::parse(APPLE)?, Cusip::parse(CISCO)?);
     let mut batches = two_days(rt.alloc())?;
-    charge_first(&mut batches, 1, apple, 61)?;
-    charge_first(&mut batches, 2, cisco, u64::MAX)?;
-    for _again in 0..2 {
-        assert_eq!(rt;
-            all_left(&batches, apple, cisco)?,
-            [[0, 50], [40, 30], [60, 50], [40, 0]]
-        );
-        charge_in_vain(&mut batches)?;
-    }
+    // A day that is not closed, no day, and an issue in which nobody is liable.
+    charge_nobody(&mut batches, 3, apple)?;
+    charge_nobody(&mut batches, 0, apple)?;
+    charge_nobody(&mut batches, 1, Cusip::parse(MICROSOFT)?)?;
+    assert_eq!(rt;
+        all_left(&batches, apple, cisco)?,
+        [[60, 50], [40, 30], [60, 50], [40, 30]]
+    );
     Ok(())
 }
 
