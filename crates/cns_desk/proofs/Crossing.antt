@@ -20,7 +20,7 @@ use Rattle.cns_desk.specs.contracts.kept.Kept.TheInside as of_kept
 use Rattle.cns_desk.specs.contracts.log.Log
 use Rattle.cns_desk.specs.contracts.log.Log.TheInside as of_log
 use Rattle.cns_desk.specs.contracts.log.LogItem
-use Rattle.cns_desk.specs.contracts.working.Ran
+use Rattle.cns_desk.specs.contracts.worker.Done
 use Rattle.cns_desk.specs.contracts.seat.Seat
 use Rattle.cns_desk.specs.contracts.seat.Seat.TheInside as of_seat
 use Rattle.cns_desk.specs.contracts.end.End
@@ -50,5 +50,5 @@ end_send : IsSend End.the_row
 end_send = search sendable depth 20
 
 -- what a worker hands back may
-pub ran_send : (L : RattleType) (l : ledger.Ghosts L.Denot) → IsSend (Ran.the_row L l)
-ran_send L l = declared_send (Ran.the_type L l) (seat_send L l, (log_send, (end_send, tt)))
+pub done_send : (L : RattleType) (l : ledger.Ghosts L.Denot) → IsSend (Done.the_row L l)
+done_send L l = declared_send (Done.the_type L l) (seat_send L l, (log_send, (end_send, tt)))

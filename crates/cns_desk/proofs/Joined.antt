@@ -7,10 +7,10 @@ use Rattle.std.specs.declared.thread.PromisedHandle.{PromisedHandle}
 use Rattle.cns_terms.specs.Sources.{Told}
 use Rattle.cns_desk.specs.Logged.{Logged}
 use Rattle.cns_desk.specs.Promised.{promised}
-use Rattle.cns_desk.specs.Running.{HaveRun, Worked}
+use Rattle.cns_desk.specs.Worked.{HaveRun, Worked}
 use Rattle.cns_desk.specs.Seats.{AreFresh, IsFresh, Sitting, fresh}
 use Rattle.cns_desk.specs.declared.end.End.{End}
-use Rattle.cns_desk.specs.declared.running.Works.{Works}
+use Rattle.cns_desk.specs.declared.threads.Works.{Works}
 
 -- one worker more has run
 pub run_more : {S : Type 0} (fails : Bool) (told : S → Option Told) (ss : List S) (ls : List Logged) (es : List End) (s : S) (l : Logged) (e : End) → HaveRun fails told ss ls es → IfSome (told s) (λ t. Worked fails t l e) → HaveRun fails told (ss ++ s ∷ []) (ls ++ l ∷ []) (es ++ e ∷ [])

@@ -5,7 +5,7 @@ use Rattle.std.specs.List.{AllByRecursion}
 use Rattle.cns_terms.specs.declared.command.Command.{Command}
 use Rattle.cns_terms.specs.Sources.{Told}
 use Rattle.cns_desk.specs.Logged.{Logged}
-use Rattle.cns_desk.specs.Running.{Adds, HasNoSheet, Logs, SoFar, Steps, commands_in, lines_in}
+use Rattle.cns_desk.specs.Worked.{Adds, HasNoSheet, Logs, SoFar, Steps, commands_in, lines_in}
 use Rattle.cns_desk.specs.declared.log.LogItem.{LogItem}
 
 -- a command more

@@ -2,6 +2,6 @@ pub mod Logged
 pub mod Seats
 pub mod Handed
 pub mod Parts
-pub mod Running
+pub mod Worked
 pub mod Promised
 pub mod Given

@@ -44,7 +44,7 @@ pub enum RunFault {
 
 impl From<OpenFault> for RunFault {
     ghost use Rattle.std.specs.Prelude.{◌≡◌};
-    ghost use Rattle.cns_desk.specs.Running.{run_fault_of};
+    ghost use Rattle.cns_desk.specs.Worked.{run_fault_of};
 
     ghost from_gives = { λ f e. e ≡ run_fault_of f };
 

@@ -8,8 +8,9 @@
 //! it for a list of sources, one thread a source.
 //!
 //! What the lock holds is in `kept.rt`, where to start; contracts see it as the book's own model. What the audit shows
-//! stands in `specs/Parts.antt`, what a worker makes of its source in `specs/Running.antt`. No clause speaks of progress
-//! or of the order between workers; tests show that workers run at once.
+//! stands in `specs/Parts.antt`, what a worker makes of its source in `specs/Worked.antt`. A run is in three files: the
+//! run of all workers from a new desk to the audit in `run.rt`, their threads in `threads.rt`, and what one worker does in
+//! `worker.rt`. No clause speaks of progress or of the order between workers; tests show that workers run at once.
 #![tactic(auto)]
 
 mod auditing;
@@ -20,9 +21,9 @@ mod kept;
 mod list_source;
 mod log;
 mod run;
-mod running;
 mod seat;
-mod working;
+mod threads;
+mod worker;
 
 pub use auditing::{Mismatch, audit};
 pub use desk::Desk;

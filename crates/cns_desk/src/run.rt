@@ -2,7 +2,7 @@
 ghost use Rattle.std.specs.Prelude.{◌≡◌, ◌<◌, ◌≤◌, ◌↔◌, ◌⊎◌, Err, IfErr, IfOk, length, vec_len};
 ghost use Rattle.std.specs.List.{AllByRecursion};
 ghost use Rattle.cns_desk.specs.Parts.{AreParts};
-ghost use Rattle.cns_desk.specs.Running.{HaveRun, IsLate};
+ghost use Rattle.cns_desk.specs.Worked.{HaveRun, IsLate};
 ghost use Rattle.cns_desk.specs.Seats.{IsFresh};
 
 use crate::auditing::audit;
@@ -10,8 +10,8 @@ use crate::desk::Desk;
 use crate::end::End;
 use crate::fault::RunFault;
 use crate::log::Log;
-use crate::running::{Gathered, gather};
 use crate::seat::Seat;
+use crate::threads::{Gathered, start_and_join};
 use cns_book::Book;
 use cns_positions::{Positions, TreePositions};
 use cns_terms::{Gate, Source};
@@ -37,7 +37,7 @@ pub struct Outcome {
 }
 
 // Runs a worker for each source at a desk, and waits for all.
-fn run_at<
+fn gather<
     L: Ledger + Send + Sync,
     P: Positions<Global> + Send,
     S: Source + Send + Drop,
@@ -66,12 +66,12 @@ fn run_at<
                 (λ g. (vec_len g.seats ≡ vec_len sources)
                 × HaveRun S.may_fail S.told sources.items g.logs.items g.ends.items) }
             ensures err { IfErr result IsLate }
-        { gather(scope, rt, alloc, desk, gate, seats, sources) },
+        { start_and_join(scope, rt, alloc, desk, gate, seats, sources) },
     )
 }
 
-// The same on a new desk of the ledger L.
-fn run_on<
+// The same on a new desk of the ledger L. What the workers logged is audited before it is handed back.
+fn run_audited<
     L: Ledger + Send + Sync,
     S: Source + Send + Drop,
     G: Gate + Sync,
@@ -92,7 +92,7 @@ fn run_on<
     ensures ran { IfOk result (λ o. HaveRun S.may_fail S.told sources.items o.logs.items o.ends.items) }
 {
     let (desk, seats) = Desk::<L, TreePositions<Global>>::open(alloc, blank, date, sources.len())?;
-    let gathered = match run_at(rt, alloc, &desk, gate, seats, sources) {
+    let gathered = match gather(rt, alloc, &desk, gate, seats, sources) {
         Ok(gathered) => gathered,
         Err(fault) => return Err(fault),
     };
@@ -128,5 +128,5 @@ pub fn run_workers<S: Source + Send + Drop, G: Gate + Sync, R: Threads + Wait + 
     ensures ran { IfOk result (λ o. HaveRun S.may_fail S.told sources.items o.logs.items o.ends.items) }
 {
     let blank = Blank::new(sources.len() as u64);
-    run_on::<Brand, S, G, R>(rt, alloc, blank, date, sources, gate)
+    run_audited::<Brand, S, G, R>(rt, alloc, blank, date, sources, gate)
 }

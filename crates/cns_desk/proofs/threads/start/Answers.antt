@@ -1,10 +1,10 @@
 use denote.Param.Send.{sendable}
 use Rattle.std.proofs.Crossing.{crosses}
-use Rattle.cns_desk.proofs.Crossing.{desk_sync, ran_send, seat_send}
-use Rattle.cns_desk.proofs.running.start.Goals as goal
+use Rattle.cns_desk.proofs.Crossing.{desk_sync, done_send, seat_send}
+use Rattle.cns_desk.proofs.threads.start.Goals as goal
 
 pub spawn_with-requires-send-F : goal.spawn_with-requires-send-F
 spawn_with-requires-send-F g c κs within = search (sendable, crosses, desk_sync, seat_send) depth 20
 
 pub spawn_with-requires-send-T : goal.spawn_with-requires-send-T
-spawn_with-requires-send-T g c κs within = search (sendable, ran_send) depth 20
+spawn_with-requires-send-T g c κs within = search (sendable, done_send) depth 20

@@ -1,6 +1,6 @@
 // What one worker does.
 ghost use Rattle.std.specs.Prelude.{◌≡◌, ◌+◌, ◌^◌, ◌<◌, ◌≤◌, IfNone, IfSome, Some, None};
-ghost use Rattle.cns_desk.specs.Running.{Adds, EndsAtSubmit, StaysLogged, Steps, Worked};
+ghost use Rattle.cns_desk.specs.Worked.{Adds, EndsAtSubmit, StaysLogged, Steps, Worked};
 
 use crate::desk::Desk;
 use crate::end::End;
@@ -18,7 +18,7 @@ const MOST_RECORDS: u32 = u32::MAX;
 
 // What a worker hands back.
 #[derive(Drop)]
-pub(crate) struct Ran<L: Ledger> {
+pub(crate) struct Done<L: Ledger> {
     pub(crate) seat: Seat<L>,
     pub(crate) log: Log,
     pub(crate) end: End,
@@ -94,7 +94,7 @@ pub(crate) fn work<L: Ledger, P: Positions<Global>, S: Source + Drop, G: Gate, R
     gate: &G,
     seat: Seat<L>,
     source: S,
-) -> Ran<L>
+) -> Done<L>
     requires { seat.count ≡ 0 }
     ensures { IfSome (S.told source) (λ t. Worked S.may_fail t result.log result.end) }
 {
@@ -103,10 +103,10 @@ pub(crate) fn work<L: Ledger, P: Positions<Global>, S: Source + Drop, G: Gate, R
     let mut log = Log::new(alloc);
     for _turn in 0..MOST_RECORDS {
         if let Some(end) = step(rt, desk, gate, &mut seat, &mut source, &mut log) {
-            return Ran { seat, log, end };
+            return Done { seat, log, end };
         }
     }
-    Ran {
+    Done {
         seat,
         log,
         end: End::Source(SourceFault::Read),

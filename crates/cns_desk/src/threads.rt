@@ -1,7 +1,7 @@
 // Workers in threads of their own.
 ghost use Rattle.std.specs.Prelude.{◌≡◌, ◌+◌, ◌<◌, ◌≤◌, ◌↔◌, ◌⊎◌, Err, IfErr, IfOk, IfSome, length, vec_len};
 ghost use Rattle.std.specs.List.{AllByRecursion};
-ghost use Rattle.cns_desk.specs.Running.{HaveRun, IsLate, Worked};
+ghost use Rattle.cns_desk.specs.Worked.{HaveRun, IsLate, Worked};
 ghost use Rattle.cns_desk.specs.Seats.{IsFresh};
 ghost use Rattle.cns_desk.specs.Promised.{promised};
 
@@ -10,7 +10,7 @@ use crate::end::End;
 use crate::fault::RunFault;
 use crate::log::Log;
 use crate::seat::Seat;
-use crate::working::{Ran, work};
+use crate::worker::{Done, work};
 use cns_positions::Positions;
 use cns_terms::{Gate, Source};
 use std::alloc::Global;
@@ -23,7 +23,7 @@ use std::thread::{Promise, PromisedHandle, Scope, Threads};
 #[derive(Drop)]
 pub(crate) struct Works<S: Source>(Snapshot<S>);
 
-impl<L: Ledger, S: Source> Promise<Ran<L>> for Works<S> {
+impl<L: Ledger, S: Source> Promise<Done<L>> for Works<S> {
     ghost kept_by = { λ p r. IfSome (S.told p.0.value) (λ t. Worked S.may_fail t r.log r.end) };
 }
 
@@ -52,13 +52,13 @@ fn start<
     gate: &'e G,
     seat: Seat<L>,
     source: S,
-) -> Result<PromisedHandle<Ran<L>, Works<S>>, RunFault>
+) -> Result<PromisedHandle<Done<L>, Works<S>>, RunFault>
     requires { seat.count ≡ 0 }
     ensures promise { IfOk result (λ h. h.promise.0.value ≡ source) }
     ensures err { IfErr result IsLate }
 {
     let promise = Works(Snapshot::of(&source));
-    let job = move || -> Ran<L>
+    let job = move || -> Done<L>
         requires { seat.count ≡ 0 }
         ensures { IfSome (S.told source) (λ t. Worked S.may_fail t result.log result.end) }
     { work(rt, alloc, desk, gate, seat, source) };
@@ -85,7 +85,7 @@ fn start_all<
     gate: &'e G,
     seats: Vec<Seat<L>>,
     sources: Vec<S>,
-) -> Result<Vec<PromisedHandle<Ran<L>, Works<S>>>, RunFault>
+) -> Result<Vec<PromisedHandle<Done<L>, Works<S>>>, RunFault>
     requires one_each { vec_len seats ≡ vec_len sources }
     requires fresh { AllByRecursion IsFresh seats.items }
     ensures promised { IfOk result (λ v. promised v.items ≡ sources.items) }
@@ -109,7 +109,7 @@ fn start_all<
 fn join_all<L: Ledger, S: Source, R: Threads>(
     rt: &R,
     alloc: Global,
-    handles: Vec<PromisedHandle<Ran<L>, Works<S>>>,
+    handles: Vec<PromisedHandle<Done<L>, Works<S>>>,
 ) -> Result<Gathered<L>, RunFault>
     ensures seats { IfOk result (λ g. vec_len g.seats ≡ vec_len handles) }
     ensures ran { IfOk result (λ g. HaveRun S.may_fail S.told (promised handles.items) g.logs.items g.ends.items) }
@@ -121,7 +121,7 @@ fn join_all<L: Ledger, S: Source, R: Threads>(
     let mut ends = Vec::new(alloc);
     'joining: while !handles.is_empty() {
         let handle = handles.remove(0);
-        let Ran { seat, log, end } = handle.join(rt);
+        let Done { seat, log, end } = handle.join(rt);
         let Ok(()) = seats.push(seat) else {
             return Err(RunFault::NoMemory);
         };
@@ -136,7 +136,7 @@ fn join_all<L: Ledger, S: Source, R: Threads>(
 }
 
 // Starts a worker for each source, and joins them all.
-pub(crate) fn gather<
+pub(crate) fn start_and_join<
     's,
     'e,
     L: Ledger + Send + Sync + 'e,

@@ -1,6 +1,6 @@
 use Rattle.std.proofs.Common.{arith}
 use Rattle.cns_desk.proofs.SoFar.{more}
-use Rattle.cns_desk.proofs.working.work.Goals as goal
+use Rattle.cns_desk.proofs.worker.work.Goals as goal
 
 pub loop-turn-preserved : goal.loop-turn-preserved
 loop-turn-preserved g c = record {

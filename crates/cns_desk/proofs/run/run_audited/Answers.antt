@@ -1,9 +1,9 @@
 use Rattle.std.proofs.Common.{arith, vec_len, ◌≤◌}
 use Rattle.cns_desk.proofs.Joined.{at_most, fresh_all, run_len}
-use Rattle.cns_desk.proofs.run.run_on.Goals as goal
+use Rattle.cns_desk.proofs.run.run_audited.Goals as goal
 
-pub run_at-requires-clause-fresh : goal.run_at-requires-clause-fresh
-run_at-requires-clause-fresh g c κs within = fresh_all c.len.result c.in_ok-desk.seats.items c.in_ok-desk.ensures.seats
+pub gather-requires-clause-fresh : goal.gather-requires-clause-fresh
+gather-requires-clause-fresh g c κs within = fresh_all c.len.result c.in_ok-desk.seats.items c.in_ok-desk.ensures.seats
 
 pub audit-requires : goal.audit-requires
 audit-requires g c =

@@ -1,6 +1,6 @@
 use Rattle.std.proofs.Common.{rules, ◌≡◌, ◌<◌, ◌++◌, ◌∷◌, [], drop, length}
 use Rattle.cns_desk.proofs.Joined.{run_more, sources_same}
-use Rattle.cns_desk.proofs.running.join_all.Goals as goal
+use Rattle.cns_desk.proofs.threads.join_all.Goals as goal
 
 pub joining-preserved : goal.joining-preserved
 joining-preserved g c =

@@ -1,7 +1,7 @@
 use Rattle.std.proofs.Common.{◌≡◌, ◌+◌, ◌++◌, List, vec_len}
 use Rattle.cns_desk.specs.Promised.{promised}
-use Rattle.cns_desk.specs.Running.{HaveRun}
-use Rattle.cns_desk.proofs.running.join_all.Given as goal
+use Rattle.cns_desk.specs.Worked.{HaveRun}
+use Rattle.cns_desk.proofs.threads.join_all.Given as goal
 
 -- the workers that were joined have run, and with the rest they are all
 abbrev pub invariant-joining : goal.invariant-joining
