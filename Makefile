@@ -1,5 +1,4 @@
-# The commands of README.md; `make help` lists them. They need Bash, GNU make and the toolchain's `rt` on the path; the
-# benchmark and `make times` need Python 3 too.
+# The commands of README.md; `make help` lists them. They need Bash, GNU make, Python 3 and the toolchain's `rt` on the path.
 
 SHELL := bash
 .SHELLFLAGS := -eu -o pipefail -c
@@ -56,9 +55,9 @@ compare:
 	@echo "samples passed: $(SAMPLES)"
 
 # test: the gate: every proof, the edits that the check must refuse, all tests and cases, the program driven through a pipe,
-# to each of its statuses and over the samples
+# to each of its statuses and over the samples; tells where its processor time went
 test:
-	@RT_JOBS="$$(nproc)" rt ci; \
+	@python3 tests/times.py env RT_JOBS="$$(nproc)" rt ci; \
 	    bash tests/pipe.sh $(PROGRAM); \
 	    bash tests/status.sh $(PROGRAM); \
 	    bash tests/trials.sh --apply; \
