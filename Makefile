@@ -12,7 +12,7 @@ BUILT := $(shell sed -n '/^\# tests alone/q; s/^\([a-z_]*\):.*/\1/p' crates.txt)
 
 CRATES :=
 
-.PHONY: help try build sample compare test trials times bench
+.PHONY: help try build sample compare test fuzz trials times bench
 
 help:
 	@grep -E '^# [a-z]+:' Makefile | sed 's/^# //'
@@ -55,14 +55,24 @@ compare:
 	@echo "samples passed: $(SAMPLES)"
 
 # test: the gate: every proof, the edits that the check must refuse, all tests and cases, the program driven through a pipe,
-# to each of its statuses and over the samples; tells where its processor time went
+# to each of its statuses, with each growth of its memory refused, over bytes that are no text, over the samples and beside
+# a recomputation; tells where its processor time went
 test:
 	@python3 tests/times.py env RT_JOBS="$$(nproc)" rt ci; \
 	    bash tests/pipe.sh $(PROGRAM); \
 	    bash tests/status.sh $(PROGRAM); \
+	    bash tests/refused.sh $(PROGRAM); \
+	    bash tests/bytes.sh $(PROGRAM); \
+	    bash tests/quoted.sh $(PROGRAM); \
+	    python3 tests/fuzz.py --model; \
+	    python3 tests/fuzz.py $(PROGRAM) --seconds 20; \
 	    bash tests/trials.sh --apply; \
 	    $(MAKE) --no-print-directory compare; \
 	    echo "the gate passed in $$((SECONDS / 60)) minutes; the line 'rt: ok' above says what it took from kept work"
+
+# fuzz: random and mutated streams of records, by the program as it is built and by a recomputation, for ten minutes
+fuzz: build
+	@python3 tests/fuzz.py $(PROGRAM) --seconds 600
 
 # trials: the further edits of each crate that the check must refuse; CRATES="cns_tree cns_feed" tries those of some crates
 trials:

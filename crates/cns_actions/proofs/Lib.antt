@@ -3,5 +3,6 @@ pub mod Reachable
 pub mod Walking
 pub mod Merges
 pub mod Holders
+pub mod Skipping
 pub mod Summing
 pub mod Booking

@@ -1,48 +1,51 @@
--- Sums over the members with a position, as far as a walk has seen them.
-use Rattle.std.proofs.Common.{◌≡◌, ◌∙◌, sym, ap, subst, refl, ℕ, ◌*◌, ◌^◌, ◌<◌, ◌≤◌, ℤ, pos, ◌+ℤ◌, true, false, Bool, ◌||◌, List, ◌∷◌, None, unsigned_abs, arith}
+-- Sums over the members with a position, as far as they were added up.
+use Rattle.std.proofs.Common.{◌≡◌, ◌∙◌, sym, ap, subst, ℕ, ◌*◌, ◌^◌, ◌<◌, ◌≤◌, ℤ, pos, ◌+ℤ◌, true, false, Bool, ◌||◌, List, ◌∷◌, None, unsigned_abs, arith}
 use Rattle.std.specs.FinMap.{is_sorted}
 use Rattle.std.specs.List.{list_any}
 use Rattle.std.specs.Ordering.{is_lt, nat_cmp}
 use Rattle.std.proofs.lemmas.Bool.Decides.{nat_tests}
 use Rattle.std.proofs.lemmas.Int.{ints}
 use Rattle.cns_units.specs.declared.cusip.Cusip.{Cusip}
-use Rattle.cns_terms.specs.declared.holding.Holding.{Holding}
-use Rattle.cns_terms.specs.declared.holding.Key.{Key}
 use Rattle.cns_terms.specs.Keys.{key_cmp}
 use Rattle.cns_terms.specs.Limits.{member_limit, position_limit}
-use Rattle.cns_terms.specs.Refusals.{is_beyond}
 use Rattle.cns_terms.proofs.Facts.{and_left, and_right}
 use Rattle.cns_terms.proofs.Rising.{above_all}
-use Rattle.cns_positions.specs.Rows.{Rows, held_above, holding_at}
+use Rattle.cns_positions.specs.Rows.{Rows, held_above}
 use Rattle.cns_actions.specs.declared.action.Action.{Action}
-use Rattle.cns_actions.specs.declared.action.Action.TheVariants as action
 use Rattle.cns_actions.specs.declared.change.Change.{Change}
 use Rattle.cns_actions.specs.declared.holder.Holder.{Holder}
 use Rattle.cns_actions.specs.Booked.{CanBeBooked, position_at}
-use Rattle.cns_actions.specs.Changes.{IsFew, change_of, holders_in, plus, sum_of, takes_beyond}
+use Rattle.cns_actions.specs.Holding.{holders_after}
+use Rattle.cns_actions.specs.Changes.{IsFew, change_of, holders_in, sum_of}
 use Rattle.cns_actions.proofs.Holders.{AreListed, above_zero, accounts, shown_listed}
-use Rattle.cns_actions.proofs.Walking.{held_same}
+use Rattle.cns_actions.proofs.Skipping.{all_pass}
 
--- the sum over members up to a number, with the members above it, and rows that are there from it on
-pub record IsUpTo (sum : Change) (left : List Holder) (others rows : Rows) : Type 0 where
+-- two changes together
+abbrev pub plus : Change → Change → Change
+plus c d = record { before = c.before +ℤ d.before; after = c.after +ℤ d.after; cents = c.cents +ℤ d.cents }
+
+-- the sum over members up to a number, with the members above it
+pub record IsUpTo (sum : Change) (left : List Holder) : Type 0 where
   pub last : ℕ
   pub most : last ≤ member_limit
   pub few : IsFew last sum
   pub above : above_all nat_cmp last (accounts left) ≡ true
   pub listed : AreListed left
-  pub same : (k : Key) → last < k.account → holding_at others k ≡ holding_at rows k
+
+-- at first all members are left
+pub all_left : (R : Rows) (c : Cusip) → holders_after R c None ≡ holders_in c (held_above R None)
+all_left R c = ap (holders_in c) (all_pass (held_above R None))
 
 -- nothing is added up yet
-pub up_first : (R rows others : Rows) (c : Cusip) → CanBeBooked R → is_sorted key_cmp R ≡ true → rows ≡ held_above R None → others ≡ held_above R None → IsUpTo (record { before = pos 0; after = pos 0; cents = pos 0 }) (holders_in c rows) others R
-up_first R rows others c can order is too =
-    let listed : AreListed (holders_in c rows) = subst (λ (rs : Rows). AreListed (holders_in c rs)) (sym is) (shown_listed R order c can) in
+pub up_first : (R : Rows) (c : Cusip) → CanBeBooked R → is_sorted key_cmp R ≡ true → IsUpTo (record { before = pos 0; after = pos 0; cents = pos 0 }) (holders_after R c None)
+up_first R c can order =
+    let listed : AreListed (holders_after R c None) = subst AreListed (sym (all_left R c)) (shown_listed R order c can) in
     record {
       last = 0;
       most = omega arith;
       few = record { before = omega arith; after = omega arith; cents = omega arith };
-      above = above_zero (holders_in c rows) listed.members;
+      above = above_zero (holders_after R c None) listed.members;
       listed = listed;
-      same = λ k lt. ap (λ (rs : Rows). holding_at rs k) too ∙ held_same R k order;
     }
 
 -- a number that comes before another is below it
@@ -60,27 +63,18 @@ more_cents z s t n p e h k lt = omega (arith, ints, e, h, k)
 moved : (a b c : ℤ) → a +ℤ (b +ℤ c) ≡ (a +ℤ b) +ℤ c
 moved a b c = omega (arith, ints)
 
-module _ (sum : Change) (left : List Holder) (others R : Rows) (up : IsUpTo sum left others R) (h : Holder) (rest : List Holder) (first : left ≡ h ∷ rest) where
+module _ (sum : Change) (left : List Holder) (up : IsUpTo sum left) (h : Holder) (rest : List Holder) (first : left ≡ h ∷ rest) where
   -- the next member is above those before it
   next_above : up.last < h.account
   next_above = lower up.last h.account (and_left _ _ (ap (λ hs. above_all nat_cmp up.last (accounts hs)) (sym first) ∙ up.above))
 
-  -- what stands at its keys is there
-  pub next_same : (c : Cusip) → holding_at others (record { account = h.account; issue = c }) ≡ holding_at R (record { account = h.account; issue = c })
-  next_same c = up.same (record { account = h.account; issue = c }) next_above
-
-  -- and within its limits
-  pub next_within : CanBeBooked R → (c : Cusip) → unsigned_abs (position_at others h.account c) ≤ position_limit
-  next_within can c = subst (λ (s : Holding). unsigned_abs s.now ≤ position_limit) (sym (next_same c)) (can.members h.account c (subst AreListed first up.listed).members.0)
-
-  -- so is whether it would be beyond its limits
-  pub next_beyond : (x : Action) → takes_beyond others x h ≡ takes_beyond R x h
-  next_beyond (action.Split s) = refl
-  next_beyond (action.Exchange e) = ap (λ (s : Holding). is_beyond ((change_of (action.Exchange e) h.shares).after +ℤ s.now)) (next_same e.successor)
+  -- its positions are within their limits
+  pub next_within : (R : Rows) → CanBeBooked R → (c : Cusip) → unsigned_abs (position_at R h.account c) ≤ position_limit
+  next_within R can c = can.members h.account c (subst AreListed first up.listed).members.0
 
   -- it is added
-  pub up_next : (new other : Change) (later : Rows) → h.account ≤ member_limit → IsFew 1 other → new.before ≡ sum.before +ℤ other.before → new.after ≡ sum.after +ℤ other.after → new.cents ≡ sum.cents +ℤ other.cents → ((k : Key) → h.account < k.account → holding_at later k ≡ holding_at others k) → IsUpTo new rest later R
-  up_next new other later most few b a c stays =
+  pub up_next : (new other : Change) → h.account ≤ member_limit → IsFew 1 other → new.before ≡ sum.before +ℤ other.before → new.after ≡ sum.after +ℤ other.after → new.cents ≡ sum.cents +ℤ other.cents → IsUpTo new rest
+  up_next new other most few b a c =
       let listed : AreListed (h ∷ rest) = subst AreListed first up.listed in
       record {
         last = h.account;
@@ -92,7 +86,6 @@ module _ (sum : Change) (left : List Holder) (others R : Rows) (up : IsUpTo sum 
         };
         above = and_left _ _ listed.rising;
         listed = record { rising = and_right _ _ listed.rising; members = listed.members.1; within = listed.within.1 };
-        same = λ k lt. stays k lt ∙ up.same k (omega (arith, next_above));
       }
 
 -- the sum with one member more

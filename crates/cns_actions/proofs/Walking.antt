@@ -1,5 +1,5 @@
 -- The rows of a walk, and what stands at keys before and after it passed some.
-use Rattle.std.proofs.Common.{◌≡◌, ◌∙◌, sym, ap, subst, refl, Bool, true, false, cond, ◌&&◌, ◌==◌, pos, List, ◌∷◌, [], inl, inr, Option, Some, None, unwrap_or, MatchOption, Ordering}
+use Rattle.std.proofs.Common.{◌≡◌, ◌∙◌, sym, ap, subst, refl, Bool, true, false, cond, ◌&&◌, ◌==◌, pos, List, ◌∷◌, [], Option, Some, None, unwrap_or, MatchOption, Ordering}
 use Rattle.std.specs.Ordering.{int_eq, is_eq, is_lt, ordering_reverse}
 use Rattle.std.specs.declared.cmp.Ordering.TheVariants.{Less, Equal, Greater}
 use Rattle.std.specs.FinMap.{find, is_sorted}
@@ -16,7 +16,7 @@ use Rattle.cns_terms.proofs.Facts.{and_left, and_right, both_true, holds, less}
 use Rattle.cns_terms.proofs.Finds.{find_below, find_filter, kept_if, sorted_filter}
 use Rattle.cns_terms.proofs.Keys.{exact_keys, keys_total}
 use Rattle.cns_positions.specs.Rows.{Rows, held_above, holding_at, is_held, zeros}
-use Rattle.cns_actions.specs.Walks.{IsTaken, is_before, starts_before, with_ahead}
+use Rattle.cns_actions.specs.Walks.{starts_before, with_ahead}
 
 -- ---- the rows that aren't zeros
 
@@ -118,31 +118,3 @@ each_held P rows s all = each_weaker (λ r. holding_at rows r.0 ≡ r.1) (λ r. 
 pub ahead_sorted : (o : Option (Key × Holding)) (all rest : Rows) → MatchOption o (all ≡ []) (λ r. all ≡ r ∷ rest) → is_sorted key_cmp all ≡ true → is_sorted key_cmp (with_ahead o rest) ≡ true
 ahead_sorted None all rest e s = refl
 ahead_sorted (Some r) all rest e s = ap (is_sorted key_cmp) (sym e) ∙ s
-
-module _ (k : Key) (rows rest : Rows) (h : Holding) where
-  -- what is taken at a key stands there
-  pub taken_is : IsTaken k rows h rest → h ≡ holding_at rows k
-  taken_is (inl e) = sym (ap (λ rs. holding_at rs k) e ∙ first_row (k, h) rest)
-  taken_is (inr n) = n.2 ∙ sym (nothing_below k rows n.1)
-
-  -- and what stands at higher keys stays
-  pub taken_later : IsTaken k rows h rest → (q : Key) → key_cmp k q ≡ Less → holding_at rest q ≡ holding_at rows q
-  taken_later (inl e) q l = passed_row (k, h) rest q l ∙ ap (λ rs. holding_at rs q) (sym e)
-  taken_later (inr n) q l = ap (λ rs. holding_at rs q) (sym n.0)
-
-module _ (k : Key) (rows rest : Rows) (o : Option (Key × Holding)) (next : MatchOption o ((rest ≡ rows) × (starts_before (Some k) rows ≡ false)) (λ r. (rows ≡ r ∷ rest) × (is_before (Some k) r.0 ≡ true))) where
-  -- where a row before a key is passed, what stands at the key stays
-  pub passed_here : holding_at rest k ≡ holding_at rows k
-  passed_here = by o next
-    where
-      by : (o : Option (Key × Holding)) → MatchOption o ((rest ≡ rows) × (starts_before (Some k) rows ≡ false)) (λ r. (rows ≡ r ∷ rest) × (is_before (Some k) r.0 ≡ true)) → holding_at rest k ≡ holding_at rows k
-      by None e = ap (λ rs. holding_at rs k) e.0
-      by (Some r) e = passed_row r rest k (less _ e.1) ∙ ap (λ rs. holding_at rs k) (sym e.0)
-
-  -- and so at higher keys
-  pub passed_later : (q : Key) → key_cmp k q ≡ Less → holding_at rest q ≡ holding_at rows q
-  passed_later q l = by o next
-    where
-      by : (o : Option (Key × Holding)) → MatchOption o ((rest ≡ rows) × (starts_before (Some k) rows ≡ false)) (λ r. (rows ≡ r ∷ rest) × (is_before (Some k) r.0 ≡ true)) → holding_at rest q ≡ holding_at rows q
-      by None e = ap (λ rs. holding_at rs q) e.0
-      by (Some r) e = passed_row r rest q (keys_total.trans r.0 k q (less _ e.1) l) ∙ ap (λ rs. holding_at rs q) (sym e.0)

@@ -40,10 +40,6 @@ abbrev pub change_of : Action → ℤ → Change
 change_of (action.Split s) q = record { before = q; after = converted s.ratio q; cents = in_lieu s.ratio s.lieu q }
 change_of (action.Exchange x) q = record { before = q; after = converted x.ratio q; cents = in_exchange x.ratio x.lieu x.cash q }
 
--- two changes together
-abbrev pub plus : Change → Change → Change
-plus c d = record { before = c.before +ℤ d.before; after = c.after +ℤ d.after; cents = c.cents +ℤ d.cents }
-
 -- what the positions of members become together
 abbrev pub sum_of : Action → List Holder → Change
 sum_of x hs = record {

@@ -1,11 +1,13 @@
 // The members with a position in an issue.
-ghost use Rattle.std.specs.Prelude.{◌≡◌, ◌≤◌, [], ◌∷◌, IfSome, MatchOption};
+ghost use Rattle.std.specs.Prelude.{◌≡◌, ◌≤◌, ◌∷◌, [], IfSome, MatchOption, false, true};
+ghost use Rattle.std.specs.FinMap.{is_sorted};
+ghost use Rattle.std.specs.Ordering.{is_lt};
+ghost use Rattle.cns_terms.specs.Keys.{key_cmp};
 ghost use Rattle.cns_terms.specs.Limits.{member_limit};
-ghost use Rattle.cns_actions.specs.Changes.{holders_in, is_holder};
+ghost use Rattle.cns_actions.specs.Holding.{holder_at, holders_after, is_of_next};
 
-use crate::walk::Walk;
 use cns_positions::Positions;
-use cns_terms::{Holding, Key};
+use cns_terms::Key;
 use cns_units::{Account, Cusip};
 
 /// A member with a position in an issue.
@@ -16,32 +18,77 @@ pub(crate) struct Holder {
     pub shares: i64,
 }
 
-// Whether a row is that of a member with a position in an issue.
-fn is_holder(row: &(Key, Holding), issue: &Cusip) -> bool
-    ensures { result ≡ is_holder issue.now row.now }
-{
-    let (key, holding) = row;
-    key.account.value() > 0 && key.issue == *issue && holding.now != 0
+// The issue that comes last in the order of bytes: `Z` has the highest code of all characters that have a value. Only
+// speed rests on it: if rows of an account came after it, they would be passed one by one.
+fn last_issue() -> Cusip {
+    let Ok(issue) = Cusip::parse(b"ZZZZZZZZ0") else {
+        unreachable!()
+    };
+    issue
 }
 
-impl<'a, P: Positions<A>, A> Walk<'a, P, A> {
-    /// The next member with a position in an issue, past all other rows.
-    pub fn next_holder(&mut self, issue: &Cusip) -> Option<Holder>
-        ensures next { MatchOption result (holders_in issue.now self.old ≡ [])
-            (λ h. holders_in issue.now self.old ≡ h ∷ holders_in issue.now self.new) }
-        ensures range { IfSome result (λ h. h.account ≤ member_limit) }
-    {
-        while let Some(row) = self.next_row() {
-            if is_holder(&row, issue) {
-                let (key, holding) = row;
-                // The number is within its limit; the call tells the prover.
-                let _ = key.account.value();
-                return Some(Holder {
-                    account: key.account,
-                    shares: holding.now,
-                });
+// A key from which on no rows of an account are left, and not before a row of it.
+fn past(row: &Key) -> Key
+    ensures account { result.account ≡ row.now.account }
+    ensures order { is_lt (key_cmp result row.now) ≡ false }
+{
+    let last = Key {
+        account: row.account,
+        issue: last_issue(),
+    };
+    if last < *row { *row } else { last }
+}
+
+// Whether a row is of another account than the one that was passed last.
+fn is_of_next(passed: &Option<Key>, row: &Key) -> bool
+    ensures { result ≡ is_of_next passed.now row.now }
+{
+    match passed {
+        Some(last) => last.account != row.account,
+        None => true,
+    }
+}
+
+// An account as a member with a position in an issue, if it is one.
+fn holder_at<P: Positions<A>, A>(positions: &P, account: Account, issue: &Cusip) -> Option<Holder>
+    ensures holder { result ≡ holder_at (P.rows positions.now) account issue.now }
+    ensures range { IfSome result (λ h. h.account ≤ member_limit) }
+{
+    let holding = positions.get(Key {
+        account,
+        issue: *issue,
+    });
+    if account.value() == 0 || holding.now == 0 {
+        return None;
+    }
+    Some(Holder {
+        account,
+        shares: holding.now,
+    })
+}
+
+/// The next member with a position in an issue, after the accounts that are passed: those up to that of the key.
+///
+/// An account costs two ways down, to its first row and to its place in the issue; its other rows are passed over.
+pub(crate) fn next_holder<P: Positions<A>, A>(
+    positions: &P,
+    issue: &Cusip,
+    passed: &mut Option<Key>,
+) -> Option<Holder>
+    requires { is_sorted key_cmp (P.rows positions.now) ≡ true }
+    ensures next { MatchOption result (holders_after (P.rows positions.now) issue.now passed.old ≡ [])
+        (λ h. holders_after (P.rows positions.now) issue.now passed.old
+        ≡ h ∷ holders_after (P.rows positions.now) issue.now passed.new) }
+    ensures range { IfSome result (λ h. h.account ≤ member_limit) }
+{
+    while let Some((row, _)) = positions.next_row(*passed) {
+        let is_new = is_of_next(passed, &row);
+        *passed = Some(past(&row));
+        if is_new {
+            if let Some(holder) = holder_at(positions, row.account, issue) {
+                return Some(holder);
             }
         }
-        None
     }
+    None
 }

@@ -2,9 +2,10 @@
 //!
 //! `split_of` and `exchange_of` say what one position becomes, with the cents that are paid for what the cut to whole
 //! shares leaves. `next_positions` books a split or an exchange for every member that holds the issue, and the opposite
-//! of the sums for the corporation, beside the positions that it was given: they never change. It walks the rows in the
-//! order of keys (`walk.rt`), makes the entries (`change.rt`), and merges both into new rows (`merging.rt`, which knows
-//! nothing of splits and exchanges). It knows positions by their trait alone. Start with `next_positions`.
+//! of the sums for the corporation, beside the positions that it was given: they never change. It finds the members
+//! account by account (`holder.rt`), makes the entries (`change.rt`), and merges them with the rows in the order of keys
+//! into new rows (`merging.rt`, which knows nothing of splits and exchanges). It knows positions by their trait alone.
+//! Start with `next_positions`.
 #![tactic(auto)]
 
 mod action;

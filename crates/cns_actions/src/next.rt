@@ -18,9 +18,8 @@ ghost use Rattle.cns_actions.specs.Merging.{IsSmall};
 use crate::action::Action;
 use crate::change::{Change, push_change};
 use crate::fault::ActionFault;
-use crate::holder::Holder;
+use crate::holder::{Holder, next_holder};
 use crate::merging::merged;
-use crate::walk::{Ahead, Walk};
 use cns_positions::Positions;
 use cns_terms::{Entry, Key, NoMemory, POSITION_LIMIT};
 use cns_units::{Account, Cusip};
@@ -52,30 +51,36 @@ fn joined(change: &Change, position: i64) -> i64
     change.after + position
 }
 
-// Whether a member's position would be beyond its limits: in the old issue of an exchange there is none left. Positions
-// in the successor are read off the rows that stand, so members come in the order of their numbers.
+// Whether a member's position would be beyond its limits: in the old issue of an exchange there is none left.
 fn takes_beyond<P: Positions<B>, B>(
-    rows: &mut Ahead<'_, P, B>,
+    positions: &P,
     action: &Action,
     holder: &Holder,
     change: &Change,
 ) -> bool
     requires few { IsFew 1 change.now }
     requires exact { change.now ≡ change_of action.now holder.now.shares }
-    requires within { (c : Cusip) → unsigned_abs (position_at rows.old holder.now.account c) ≤ position_limit }
-    ensures beyond { result ≡ takes_beyond rows.old action.now holder.now }
-    ensures later { (k : Key) → holder.now.account < k.account → holding_at rows.new k ≡ holding_at rows.old k }
+    requires within { (c : Cusip)
+        → unsigned_abs (position_at (P.rows positions.now) holder.now.account c) ≤ position_limit }
+    ensures { result ≡ takes_beyond (P.rows positions.now) action.now holder.now }
 {
     match action {
         Action::Split(_) => is_beyond(change.after),
         Action::Exchange(exchange) => {
-            let holding = rows.holding_at(&Key {
+            let holding = positions.get(Key {
                 account: holder.account,
                 issue: exchange.successor,
             });
             is_beyond(joined(change, holding.now))
         }
     }
+}
+
+// Rows are in order, which any call that hands some out tells.
+fn in_order<P: Positions<B>, B>(positions: &P)
+    ensures { is_sorted key_cmp (P.rows positions.now) ≡ true }
+{
+    let _rows = positions.next_rows(None);
 }
 
 // What the positions of all members become together; None where one of them would be beyond its limits.
@@ -91,11 +96,11 @@ fn sum_of<P: Positions<B>, B>(positions: &P, action: &Action) -> Option<Change>
 {
     let issue = issue_of(action);
     let mut sum = Change::NONE;
-    let mut rows = Walk::new(positions);
-    let mut others = Ahead::new(positions);
-    while let Some(holder) = rows.next_holder(&issue) {
+    let mut passed = None;
+    in_order(positions);
+    while let Some(holder) = next_holder(positions, &issue, &mut passed) {
         let change = Change::of(action, &holder);
-        if takes_beyond(&mut others, action, &holder, &change) {
+        if takes_beyond(positions, action, &holder, &change) {
             return None;
         }
         sum.add(&change);
@@ -113,6 +118,7 @@ fn entries<P: Positions<B>, B, A: Allocator + Drop>(
 ) -> Result<Vec<Entry, A>, NoMemory>
     requires within { CanBeBooked (P.rows positions.now) }
     requires few { IsFew member_limit sum.now }
+    requires order { is_sorted key_cmp (P.rows positions.now) ≡ true }
     ensures entries { IfOk result (λ v. v.items ≡ entries_for action.now corporation (opposite sum.now)
         ++ member_entries action.now (holders_of action.now (P.rows positions.now))) }
     ensures small { IfOk result (λ v. AllByRecursion IsSmall v.items) }
@@ -120,8 +126,8 @@ fn entries<P: Positions<B>, B, A: Allocator + Drop>(
     let issue = issue_of(action);
     let mut entries = Vec::new(alloc);
     push_change(&mut entries, action, Account::CORPORATION, &sum.opposite())?;
-    let mut rows = Walk::new(positions);
-    while let Some(holder) = rows.next_holder(&issue) {
+    let mut passed = None;
+    while let Some(holder) = next_holder(positions, &issue, &mut passed) {
         let change = Change::of(action, &holder);
         push_change(&mut entries, action, holder.account, &change)?;
     }
@@ -167,9 +173,9 @@ fn booked<P: Positions<B>, B, A: Allocator + Drop + Clone>(
 /// For any list of members that names nobody twice and leaves nobody out who has a position in the issue, the entries
 /// are those of the definitions (`Entries.antt` in `cns_terms`).
 ///
-/// It goes through all rows three times and looks none up: for the size and the sums, for the entries, and to merge
-/// them with the rows. For the size of an exchange a second walk reads the successor's rows beside the first. Then the
-/// rows are built anew once. Copies of `alloc` keep a list of the entries and one of the rows meanwhile.
+/// It looks twice at the place of each account in the issue, for the size and the sums and for the entries, and in an
+/// exchange once at its place in the successor. All rows are gone through once, to merge the entries with them, and built
+/// anew once. Copies of `alloc` keep a list of the entries and one of the rows meanwhile.
 pub fn next_positions<P: Positions<B>, B, A: Allocator + Drop + Clone>(
     alloc: &A,
     positions: &P,

@@ -2,10 +2,8 @@
 ghost use Rattle.std.specs.Prelude.{◌≡◌, ◌∷◌, [], MatchOption, None, Some, true, false, drop};
 ghost use Rattle.std.specs.FinMap.{is_sorted};
 ghost use Rattle.std.specs.Option.{option_copied};
-ghost use Rattle.std.specs.declared.cmp.Ordering.TheVariants.{Less};
-ghost use Rattle.cns_terms.specs.declared.holding.Key.{Key};
 ghost use Rattle.cns_terms.specs.Keys.{key_cmp};
-ghost use Rattle.cns_positions.specs.Rows.{held_above, holding_at, present};
+ghost use Rattle.cns_positions.specs.Rows.{held_above, present};
 ghost use Rattle.cns_actions.specs.Walks.{IsTaken, is_before, starts_before};
 
 use cns_positions::{NextRows, Positions};
@@ -138,15 +136,6 @@ impl<'a, P: Positions<A>, A> Ahead<'a, P, A> {
         }
         self.next = self.rest.next_row();
         holding
-    }
-
-    /// What stands at a key, past the rows before it. What stands at higher keys stays.
-    pub fn holding_at(&mut self, key: &Key) -> Holding
-        ensures value { result ≡ holding_at self.old key.now }
-        ensures later { (k : Key) → key_cmp key.now k ≡ Less → holding_at self.new k ≡ holding_at self.old k }
-    {
-        while self.next_before(Some(key)).is_some() {}
-        self.take(key)
     }
 }
 

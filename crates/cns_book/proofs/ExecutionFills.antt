@@ -1,6 +1,6 @@
 -- The fills of an execution that is not refused can be booked.
 -- For `make_fills` of parts/execution.rt, clause booked.
-use Rattle.std.proofs.Common.{◌≡◌, ◌∙◌, ap, refl, ℕ, ◌+◌, ◌-◌, ◌≤◌, min, ℤ, pos, negsuc, Bool, true, false, cond, List, [], ◌∷◌, filter, sum_by, arith}
+use Rattle.std.proofs.Common.{◌≡◌, ◌∙◌, ap, refl, subst, sym, ℕ, ◌+◌, ◌-◌, ◌≤◌, min, ℤ, pos, negsuc, Bool, true, false, cond, List, [], ◌∷◌, filter, sum_by, arith}
 use Rattle.std.specs.List.{AllByRecursion}
 use Rattle.std.specs.Prelude.{◌==◌, int_lt, nat_lt}
 use Rattle.std.proofs.Math.Nat.{min-le_right}
@@ -14,7 +14,8 @@ use Rattle.cns_terms.specs.declared.command.Activity.{Activity}
 use Rattle.cns_terms.specs.declared.command.Activity.TheVariants as activity
 use Rattle.cns_terms.specs.declared.holding.Key.{Key}
 use Rattle.cns_terms.specs.Entries.{journal}
-use Rattle.cns_terms.specs.Fills.{batch, capacity, fills, stretch, stretches}
+use Rattle.cns_terms.specs.Fills.{batch, capacity, fills, stretch}
+use Rattle.cns_terms.proofs.Laid.{fills_laid, laid}
 use Rattle.cns_terms.specs.Notices.{Notice}
 use Rattle.cns_terms.specs.Positions.{position}
 use Rattle.cns_terms.specs.Reached.{IsInRange}
@@ -34,7 +35,7 @@ use Rattle.cns_book.proofs.ExecutionRoom.{sound_at}
 module _ (now : Member → ℕ) (n m : ℕ) where
   -- the fills of members whose stretches begin at a share
   abbrev filled_from : ℕ → List Liable → List Fill
-  filled_from from ls = filter (λ f. nat_lt 0 f.shares) (stretches (capacity now) n m from ls)
+  filled_from from ls = filter (λ f. nat_lt 0 f.shares) (laid (capacity now) n m from ls)
 
   short_each : (from : ℕ) (ls : List Liable) → AllByRecursion (λ f. 1 ≤ now f.member) (filled_from from ls)
   short_each from [] = tt
@@ -59,7 +60,7 @@ module _ (now : Member → ℕ) (n m : ℕ) where
   -- ---- and distinct
 
   -- members other than those of the batch's rest
-  others_each : (a : Member) (from : ℕ) (ls : List Liable) → times (λ (l : Liable). l.member) a ls ≤ 0 → AllByRecursion (λ f. (f.member == a) ≡ false) (stretches (capacity now) n m from ls)
+  others_each : (a : Member) (from : ℕ) (ls : List Liable) → times (λ (l : Liable). l.member) a ls ≤ 0 → AllByRecursion (λ f. (f.member == a) ≡ false) (laid (capacity now) n m from ls)
   others_each a from [] h = tt
   others_each a from (l ∷ ls) h = (by (a == l.member) (eqb_sym l.member a) (omega (arith, h)), others_each a (from + capacity now l) ls (omega (arith, h)))
     where
@@ -79,7 +80,7 @@ module _ (now : Member → ℕ) (n m : ℕ) where
           one_less false t e h = cc
 
       by : (b : Bool) → AreApart (filled_from (from + capacity now l) ls) → AreApart (cond b (stretch n m from (from + capacity now l) l.member ∷ filled_from (from + capacity now l) ls) (filled_from (from + capacity now l) ls))
-      by true h = (each_filter (λ (f : Fill). (f.member == l.member) ≡ false) (λ f. nat_lt 0 f.shares) (stretches (capacity now) n m (from + capacity now l) ls) (others_each l.member (from + capacity now l) ls only), h)
+      by true h = (each_filter (λ (f : Fill). (f.member == l.member) ≡ false) (λ f. nat_lt 0 f.shares) (laid (capacity now) n m (from + capacity now l) ls) (others_each l.member (from + capacity now l) ls only), h)
       by false h = h
 
 -- ---- no fill is for more than the whole
@@ -108,6 +109,7 @@ can_execute L s x k f within range can =
     let now : Member → ℕ = λ a. short (position J a c) in
     let ls = batch J k.given.day c in
     let fs = fills J x k in
+    let laid_is : fs ≡ filled_from now x.shares x.money 0 ls = fills_laid now x.shares x.money ls in
     let remains = remains_long J k in
     let enough = can.enough in
     let bought : x.shares ≤ long (position J k.given.member c) = omega (arith, remains, enough) in
@@ -127,7 +129,7 @@ can_execute L s x k f within range can =
             shares = let one = h.1.0 in let most = range.1 in omega (arith, one, most);
             cents = let one = h.1.1 in let most = range.2 in omega (arith, one, most);
           })
-          (each_both (λ g. 1 ≤ now g.member) (λ g. (g.shares ≤ x.shares) × (g.cents ≤ x.money)) fs (short_each now x.shares x.money 0 ls)
+          (each_both (λ g. 1 ≤ now g.member) (λ g. (g.shares ≤ x.shares) × (g.cents ≤ x.money)) fs (subst (λ gs. AllByRecursion (λ g. 1 ≤ now g.member) gs) (sym laid_is) (short_each now x.shares x.money 0 ls))
           (each_both (λ g. g.shares ≤ x.shares) (λ g. g.cents ≤ x.money) fs (each_few (λ g. g.shares) fs x.shares (omega (arith, shares))) (each_few (λ g. g.cents) fs x.money (omega (arith, cents)))));
-      apart = apart_each now x.shares x.money 0 ls once;
+      apart = subst AreApart (sym laid_is) (apart_each now x.shares x.money 0 ls once);
     }

@@ -1,11 +1,12 @@
 // Audits, workers that wait for one another, and commands under a seat.
 mod audits;
 mod gates;
+mod list_source;
 mod lots;
 mod many;
 mod seats;
 
-use cns_desk::ListSource;
+use crate::desk::list_source::ListSource;
 use cns_terms::{Activity, Command, Key, Listing, Trade};
 use cns_units::{Account, Cusip, Day, Member, Money, Price, Shares};
 use std::alloc::Global;

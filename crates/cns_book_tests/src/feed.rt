@@ -1,6 +1,7 @@
 // What no case file can say of the feed: unusual bytes, texts of replies that no short day has, and readers and writers that
 // fail.
 mod ends;
+mod limits;
 mod sources;
 mod turns;
 

@@ -1,12 +1,21 @@
 -- One record more.
-use Rattle.std.proofs.Common.{◌≡◌, ◌∙◌, sym, ap, subst, refl, ℕ, ◌+◌, Bool, List, [], ◌∷◌, ◌++◌, map, Some, None, Option, append_assoc, length-append}
+use Rattle.std.proofs.Common.{◌≡◌, ◌∙◌, sym, ap, subst, refl, ℕ, ◌+◌, Bool, List, [], ◌∷◌, ◌++◌, map, Some, None, Option, append_assoc, length, length-append}
 use Rattle.std.specs.Prelude.{IfSome}
 use Rattle.std.specs.List.{AllByRecursion}
 use Rattle.cns_terms.specs.declared.command.Command.{Command}
 use Rattle.cns_terms.specs.Sources.{Told}
 use Rattle.cns_desk.specs.Logged.{Logged}
-use Rattle.cns_desk.specs.Worked.{Adds, HasNoSheet, Logs, SoFar, Steps, commands_in, lines_in}
+use Rattle.cns_desk.specs.Worked.{Adds, HasNoSheet, Logs, Steps, commands_in, lines_in}
 use Rattle.cns_desk.specs.declared.log.LogItem.{LogItem}
+
+-- a worker's log so far: that of what its source gave, which now tells what is left
+pub record SoFar (t : Told) (now : Option Told) (log : Logged) (turns : ℕ) : Type 0 where
+  pub given : List (Option Command)
+  pub rest : List (Option Command)
+  pub split : t.items ≡ given ++ rest
+  pub tells : now ≡ Some (record { items = rest; end = t.end })
+  pub logs : Logs given log
+  pub long : length given ≡ turns
 
 -- a command more
 commands_more : (given : List (Option Command)) (c : Command) → commands_in (given ++ Some c ∷ []) ≡ commands_in given ++ c ∷ []

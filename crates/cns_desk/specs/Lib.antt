@@ -4,4 +4,3 @@ pub mod Handed
 pub mod Parts
 pub mod Worked
 pub mod Promised
-pub mod Given

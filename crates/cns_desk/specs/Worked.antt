@@ -83,15 +83,6 @@ pub record Worked (fails : Bool) (t : Told) (log : Logged) (end : End) : Type 0 
   pub logs : Logs given log
   pub left : LeftAt fails t given rest end
 
--- the same so far, where the source now tells what is left
-pub record SoFar (t : Told) (now : Option Told) (log : Logged) (turns : ℕ) : Type 0 where
-  pub given : List (Option Command)
-  pub rest : List (Option Command)
-  pub split : t.items ≡ given ++ rest
-  pub tells : now ≡ Some (record { items = rest; end = t.end })
-  pub logs : Logs given log
-  pub long : length given ≡ turns
-
 -- worker by worker, the logs and ends are those of the sources that tell
 abbrev pub HaveRun : {S : Type 0} → Bool → (S → Option Told) → List S → List Logged → List End → Type 0
 HaveRun fails told [] [] [] = ⊤

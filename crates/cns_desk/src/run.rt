@@ -106,8 +106,8 @@ fn run_audited<
 
 /// Runs a worker for each source, in a thread of its own, over one new book that opens on the date, and waits for all of
 /// them. Worker 1 takes the commands of the first source, and so on. The gate is called round each command that is
-/// submitted. A record at fault is counted and not submitted, and its worker goes on; where a source fails or a command
-/// is not taken its worker ends, and the others go on.
+/// submitted, also one that is not taken. A record at fault is counted and not submitted, and its worker goes on; where a
+/// source fails or a command is not taken its worker ends, and the others go on.
 ///
 /// Ok comes only where each log is its worker's part of the book's history, which `audit` shows before it is handed
 /// back. Where a source tells its items, its worker's log has their commands in order and the count of those at fault,

@@ -24,8 +24,8 @@ pub(crate) struct Done<L: Ledger> {
     pub(crate) end: End,
 }
 
-// Submits a command between the calls of the gate, and logs what it was answered. Room in the log comes first, so that a
-// command that was taken is always logged. None where the worker goes on.
+// Submits a command between the calls of the gate, also one that is not taken, and logs what it was answered. Room in the
+// log comes first, so that a command that was taken is always logged. None where the worker goes on.
 fn submit_one<L: Ledger, P: Positions<Global>, G: Gate, R: Wait>(
     rt: &R,
     desk: &Desk<L, P>,
@@ -45,9 +45,10 @@ fn submit_one<L: Ledger, P: Positions<Global>, G: Gate, R: Wait>(
     let worker = seat.worker();
     let seq = seat.count() + 1;
     gate.before(rt, worker, seq);
-    match desk.submit(rt, seat, *command) {
+    let answer = desk.submit(rt, seat, *command);
+    gate.answered(rt, worker, seq);
+    match answer {
         Ok(receipt) => {
-            gate.answered(rt, worker, seq);
             log.push(LogItem {
                 receipt,
                 command: *command,

@@ -15,7 +15,7 @@ use Rattle.cns_terms.specs.declared.reply.Held.{Held}
 use Rattle.cns_terms.specs.declared.reply.Reply.{Reply}
 use Rattle.cns_terms.specs.declared.reply.Reply.TheVariants as reply
 use Rattle.cns_statements.specs.Texts.{stated_line}
-use Rattle.cns_statements.specs.Words.{text_line}
+use Rattle.cns_units.specs.Words.{text_line}
 use Rattle.cns_feed.specs.declared.fault.LineFault.{LineFault}
 use Rattle.cns_feed.specs.declared.fault.LineFault.TheVariants as fault
 

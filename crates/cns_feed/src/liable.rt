@@ -3,8 +3,7 @@ ghost use Rattle.cns_units.specs.Output.{Writes};
 ghost use Rattle.cns_feed.specs.Text.{liable_line, batch_text, batches_text};
 
 use cns_retransmit::{Batch, Liable};
-use cns_statements::{Word, write_line};
-use cns_units::{Cusip, WriteFault};
+use cns_units::{Cusip, Word, WriteFault, write_line};
 use std::alloc::Allocator;
 use std::io::Write;
 

@@ -18,24 +18,27 @@ use cns_units::Day;
 use std::alloc::Global;
 use std::io::Read;
 
-/// Takes the command of each record that is left, over any form of positions.
+/// Takes the command of each record that is left, of which fewer than `most` are read up to the end, over any form of
+/// positions.
 pub(crate) fn take_all<P: Positions<Global>, R: Read>(
     records: &mut Records<R>,
     book: &mut Book<P, Global>,
+    most: u32,
 ) -> Result<Summary, ReplayFault>
     requires setup { Setup records.old.rows }
-    requires room { HasRoomFor book.old (2 ^ 32 - 1) }
-    ensures few { OnOk result ((all : List Line) → Pending R.remaining records.old all → length all < 2 ^ 32 - 1) }
+    requires room { HasRoomFor book.old most }
+    requires most { most ≤ 2 ^ 32 - 1 }
+    ensures few { OnOk result ((all : List Line) → Pending R.remaining records.old all → length all < most) }
     ensures after { OnOk result
         ((all : List Line) → Pending R.remaining records.old all → book.new ≡ log_after book.old all) }
     ensures counts { IfOk result (λ s. (all : List Line) → Pending R.remaining records.old all
         → Counts s (responses (state_of book.old) all)) }
     ensures err { IfErr result (λ e. (e ≡ fault.NoMemory)
         ⊎ EndsReading e records.new
-        ((all : List Line) → Pending R.remaining records.old all → 2 ^ 32 - 1 ≤ length all)) }
+        ((all : List Line) → Pending R.remaining records.old all → most ≤ length all)) }
 {
     let mut summary = Summary::new();
-    for _turn in 0..MOST_RECORDS {
+    for _turn in 0..most {
         let Some(line) = records.read_line()? else {
             return Ok(summary);
         };
@@ -62,8 +65,26 @@ pub fn load_on<P: Positions<Global>, R: Read + Drop>(
     ensures few { OnOk result (IfSome (R.remaining reader) (λ input. length (lines_of input) < 2 ^ 32 - 1)) }
     ensures err { IfErr result (λ e. (e ≡ fault.NoMemory) ⊎ (e ≡ fault.Read)) }
 {
+    load_up_to::<P, R>(alloc, reader, date, MOST_RECORDS)
+}
+
+/// The same with another number of records at which it ends: `Read` comes where the reader has given `most` records, also
+/// where its input ends there.
+pub fn load_up_to<P: Positions<Global>, R: Read + Drop>(
+    alloc: Global,
+    reader: R,
+    date: Day,
+    most: u32,
+) -> Result<(Book<P, Global>, Summary), ReplayFault>
+    ensures after { IfOk result (λ p. IfSome (R.remaining reader)
+        (λ input. p.0 ≡ log_after (blank_log date) (lines_of input))) }
+    ensures counts { IfOk result (λ p. IfSome (R.remaining reader)
+        (λ input. Counts p.1 (responses (opened date) (lines_of input)))) }
+    ensures few { OnOk result (IfSome (R.remaining reader) (λ input. length (lines_of input) < most)) }
+    ensures err { IfErr result (λ e. (e ≡ fault.NoMemory) ⊎ (e ≡ fault.Read)) }
+{
     let mut book = new_book::<P>(alloc, date)?;
-    let summary = take_all(&mut Records::new(alloc, reader), &mut book)?;
+    let summary = take_all(&mut Records::new(alloc, reader), &mut book, most)?;
     Ok((book, summary))
 }
 

@@ -1,5 +1,5 @@
 // Replays.
-ghost use Rattle.std.specs.Prelude.{◌≡◌, ◌≢◌, ◌⊎◌, ◌-◌, ◌^◌, ◌<◌, List, None, length, OnOk, IfOk, IfErr, IfSome};
+ghost use Rattle.std.specs.Prelude.{◌≡◌, ◌≢◌, ◌⊎◌, ◌-◌, ◌^◌, ◌<◌, ◌≤◌, List, None, length, OnOk, IfOk, IfErr, IfSome};
 ghost use Rattle.std.specs.Io.KnownBytes.{Appends, Keeps};
 ghost use Rattle.cns_terms.specs.Machine.{opened};
 ghost use Rattle.cns_book.specs.Log.{state_of};
@@ -56,26 +56,28 @@ fn flush<R: Read, W: Write>(records: &Records<R>, writer: &mut W) -> Result<(), 
     }
 }
 
-/// Each record that is left, over any form of positions.
+/// Each record that is left, of which fewer than `most` are read up to the end, over any form of positions.
 pub(crate) fn play<P: Positions<Global>, R: Read, W: Write>(
     records: &mut Records<R>,
     book: &mut Book<P, Global>,
     writer: &mut W,
+    most: u32,
 ) -> Result<Summary, ReplayFault>
     requires setup { Setup records.old.rows }
-    requires room { HasRoomFor book.old (2 ^ 32 - 1) }
-    ensures few { OnOk result ((all : List Line) → Pending R.remaining records.old all → length all < 2 ^ 32 - 1) }
+    requires room { HasRoomFor book.old most }
+    requires most { most ≤ 2 ^ 32 - 1 }
+    ensures few { OnOk result ((all : List Line) → Pending R.remaining records.old all → length all < most) }
     ensures text { OnOk result ((all : List Line) → Pending R.remaining records.old all
         → Appends (W.contents writer.old) (W.contents writer.new) (texts (state_of book.old) all)) }
     ensures counts { IfOk result (λ s. (all : List Line) → Pending R.remaining records.old all
         → Counts s (responses (state_of book.old) all)) }
     ensures fault { IfErr result (λ e. (all : List Line) → Pending R.remaining records.old all
         → (s : Stops e (W.contents writer.old) (W.contents writer.new) (state_of book.old) all)
-        × (s.waiting ≡ None → (e ≡ fault.Write) ⊎ EndsReading e records.new (length s.answered ≡ 2 ^ 32 - 1))) }
+        × (s.waiting ≡ None → (e ≡ fault.Write) ⊎ EndsReading e records.new (length s.answered ≡ most))) }
     ensures room { IfErr result (λ e. e ≢ fault.Full) }
 {
     let mut summary = Summary::new();
-    for _turn in 0..MOST_RECORDS {
+    for _turn in 0..most {
         flush(records, writer)?;
         let Some(line) = records.read_line()? else {
             return Ok(summary);
@@ -114,8 +116,29 @@ pub fn replay_on<P: Positions<Global>, R: Read + Drop, W: Write>(
         (λ input. StopsReplay e date input (W.contents writer.old) (W.contents writer.new))) }
     ensures room { IfErr result (λ e. e ≢ fault.Full) }
 {
+    replay_up_to::<P, R, W>(alloc, reader, writer, date, MOST_RECORDS)
+}
+
+/// The same with another number of records at which it ends: `Read` comes where the reader has given `most` records, also
+/// where its input ends there.
+pub fn replay_up_to<P: Positions<Global>, R: Read + Drop, W: Write>(
+    alloc: Global,
+    reader: R,
+    writer: &mut W,
+    date: Day,
+    most: u32,
+) -> Result<Summary, ReplayFault>
+    ensures output { OnOk result (IfSome (R.remaining reader)
+        (λ input. Appends (W.contents writer.old) (W.contents writer.new) (output date input))) }
+    ensures counts { IfOk result (λ s. IfSome (R.remaining reader)
+        (λ input. Counts s (responses (opened date) (lines_of input)))) }
+    ensures few { OnOk result (IfSome (R.remaining reader) (λ input. length (lines_of input) < most)) }
+    ensures fault { IfErr result (λ e. IfSome (R.remaining reader)
+        (λ input. StopsReplay e date input (W.contents writer.old) (W.contents writer.new))) }
+    ensures room { IfErr result (λ e. e ≢ fault.Full) }
+{
     let mut book = new_book::<P>(alloc, date)?;
-    play(&mut Records::new(alloc, reader), &mut book, writer)
+    play(&mut Records::new(alloc, reader), &mut book, writer, most)
 }
 
 /// The same on a `ReplayBook`: takes each record's command on a new book that opens on the date, and writes the replies.

@@ -98,9 +98,19 @@ impl<R: Read> CsvSource<R> {
         ensures ended { result.ended ≡ None }
         ensures left { result.left ≡ 2 ^ 32 - 1 }
     {
+        CsvSource::up_to(alloc, reader, MOST_RECORDS)
+    }
+
+    /// The same with another number of records: `Read` comes where the reader has given `most` of them, also where its
+    /// input ends there.
+    pub fn up_to(alloc: Global, reader: R, most: u32) -> CsvSource<R>
+        ensures told { IfSome (R.remaining reader) (λ input. result.told ≡ Some (told_of most (lines_of input))) }
+        ensures ended { result.ended ≡ None }
+        ensures left { result.left ≡ most }
+    {
         CsvSource {
             records: Records::new(alloc, reader),
-            left: MOST_RECORDS,
+            left: most,
             ended: None,
         }
     }

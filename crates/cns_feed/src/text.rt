@@ -6,9 +6,9 @@ ghost use Rattle.cns_units.specs.Output.{Writes};
 ghost use Rattle.cns_feed.specs.Text.{noticed_line, executed_line, closed_line, held_line, refusal_detail, refused_line, reply_line, fault_name, fault_line};
 
 use crate::fault::LineFault;
-use cns_statements::{Word, write_line, write_stated};
+use cns_statements::write_stated;
 use cns_terms::{Closed, Held, Refusal, Reply};
-use cns_units::{WriteFault, write_bytes};
+use cns_units::{Word, WriteFault, write_bytes, write_line};
 use std::io::Write;
 
 fn write_noticed<W: Write>(number: u32, writer: &mut W) -> Result<(), WriteFault>

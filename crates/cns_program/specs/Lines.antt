@@ -6,7 +6,7 @@ use Rattle.cns_units.specs.Output.{AppendsFront}
 use Rattle.cns_terms.specs.declared.source.SourceFault.TheVariants as source
 use Rattle.cns_desk.specs.declared.end.End.{End}
 use Rattle.cns_desk.specs.declared.end.End.TheVariants as ended
-use Rattle.cns_statements.specs.Words.{text_line}
+use Rattle.cns_units.specs.Words.{text_line}
 use Rattle.cns_program.specs.declared.fault.Fault.{Fault}
 use Rattle.cns_program.specs.declared.fault.Fault.TheVariants as fault
 

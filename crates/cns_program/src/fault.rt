@@ -8,8 +8,8 @@ ghost use Rattle.cns_program.specs.Lines.{fault_file, fault_line, fault_name};
 
 use cns_desk::RunFault;
 use cns_feed::ReplayFault;
-use cns_statements::{PackFault, Word, write_line};
-use cns_units::WriteFault;
+use cns_statements::PackFault;
+use cns_units::{Word, WriteFault, write_line};
 use std::convert::From;
 use std::io::Write;
 

@@ -11,12 +11,11 @@ use crate::ended::{Ended, fail};
 use crate::fault::Fault;
 use crate::tally::tally_line;
 use cns_desk::{End, Outcome};
-use cns_statements::{Word, write_line};
 use cns_terms::SourceFault;
-use cns_units::{WriteFault, write_bytes};
+use cns_units::{Word, WriteFault, write_bytes, write_line};
 use std::io::Write;
 
-// Writes the tally and hands it on. Nothing is written where it cannot be made.
+// Writes the tally and hands it on. Nothing is written where it cannot be made, and a writer that failed is left alone.
 fn write_tally<O: Write>(outcome: &Outcome, output: &mut O) -> Result<(), Fault>
     ensures ok { OnOk result (Appends (O.contents output.old) (O.contents output.new) (text_of outcome.now)) }
     ensures err { IfErr result (λ f. FailsTally f outcome.now (O.contents output.old) (O.contents output.new)) }
@@ -24,9 +23,7 @@ fn write_tally<O: Write>(outcome: &Outcome, output: &mut O) -> Result<(), Fault>
     let Ok(line) = tally_line(outcome) else {
         return Err(Fault::NoMemory);
     };
-    let written = write_bytes(line.as_bytes(), output);
-    let flushed = output.flush();
-    if written.is_err() || flushed.is_err() {
+    if write_bytes(line.as_bytes(), output).is_err() || output.flush().is_err() {
         return Err(Fault::Write);
     }
     Ok(())

@@ -12,7 +12,8 @@ use std::alloc::Global;
 use std::convert::From;
 use std::io::{Read, Write};
 
-// Replays the input, and flushes the output also where the replay failed: what was answered is to be seen.
+// Replays the input, and flushes the output also where the input could not be read or memory was refused: what was
+// answered is to be seen. A writer that failed is left alone; one that cannot be flushed then is the fault.
 fn replay_input<I: Read + Drop, O: Write>(
     alloc: Global,
     opening: Day,
@@ -25,12 +26,15 @@ fn replay_input<I: Read + Drop, O: Write>(
         (λ f. FailsReplay f opening (I.remaining input) (O.contents output.old) (O.contents output.new)) }
 {
     let played = replay(alloc, input, output, opening);
-    let flushed = output.flush();
-    if let Err(fault) = played {
-        return Err(fault);
+    if let Err(ReplayFault::Write) = played {
+        return Err(ReplayFault::Write);
     }
+    let flushed = output.flush();
     match flushed {
-        Ok(()) => Ok(()),
+        Ok(()) => match played {
+            Ok(_) => Ok(()),
+            Err(fault) => Err(fault),
+        },
         Err(_) => Err(ReplayFault::Write),
     }
 }

@@ -26,7 +26,8 @@ fn write_all<O: Write>(statements: &[Statement<Global>], output: &mut O) -> Resu
     Ok(())
 }
 
-// Writes the statements of a book's closed day, made by so many workers, and hands them on.
+// Writes the statements of a book's closed day, made by so many workers, and hands them on. A writer that failed is left
+// alone.
 fn write_day<R: AllocGlobal + Threads + Wait + Sync, O: Write>(
     rt: &R,
     book: &ReplayBook,
@@ -45,9 +46,7 @@ fn write_day<R: AllocGlobal + Threads + Wait + Sync, O: Write>(
         Ok(statements) => statements,
         Err(fault) => return Err(Fault::of_pack(fault)),
     };
-    let written = write_all(statements.as_slice(), output);
-    let flushed = output.flush();
-    if written.is_err() || flushed.is_err() {
+    if write_all(statements.as_slice(), output).is_err() || output.flush().is_err() {
         return Err(Fault::Write);
     }
     Ok(())

@@ -25,13 +25,15 @@ impl Read for Part<'_> {
     }
 }
 
-// A writer that has room for so many bytes, can be flushed so many times, and notes how many bytes were flushed.
+// A writer that has room for so many bytes, can be flushed so many times, and notes whether it was called once it had
+// failed. After its first failure it would take everything.
 #[derive(Drop)]
 pub(crate) struct Stuck {
     pub(crate) taken: Vec<u8>,
     pub(crate) room: usize,
     pub(crate) flushes: usize,
-    pub(crate) flushed: usize,
+    has_failed: bool,
+    pub(crate) is_left_alone: bool,
 }
 
 impl Stuck {
@@ -40,16 +42,32 @@ impl Stuck {
             taken,
             room,
             flushes,
-            flushed: 0,
+            has_failed: false,
+            is_left_alone: true,
         }
+    }
+
+    // Notes a call, and whether it is one too many.
+    fn call(&mut self) {
+        if self.has_failed {
+            self.is_left_alone = false;
+        }
+    }
+
+    fn fail(&mut self) -> Error {
+        self.has_failed = true;
+        self.room = usize::MAX;
+        self.flushes = usize::MAX;
+        Error::from(ErrorKind::Other)
     }
 }
 
 impl Write for Stuck {
     fn write(&mut self, buf: &[u8]) -> io::Result<usize> {
+        self.call();
         let count = buf.len().min(self.room);
         if count == 0 && !buf.is_empty() {
-            return Err(Error::from(ErrorKind::Other));
+            return Err(self.fail());
         }
         self.taken.extend_from_slice(&buf[..count])?;
         self.room -= count;
@@ -57,11 +75,11 @@ impl Write for Stuck {
     }
 
     fn flush(&mut self) -> io::Result<()> {
+        self.call();
         if self.flushes == 0 {
-            return Err(Error::from(ErrorKind::Other));
+            return Err(self.fail());
         }
         self.flushes -= 1;
-        self.flushed = self.taken.len();
         Ok(())
     }
 }
@@ -98,19 +116,19 @@ pub(crate) fn tell<
     }
 }
 
-// Runs a line over an input and a writer of its own.
+// Runs a line over an input and a writer of its own, and whether that was left alone once it had failed.
 pub(crate) fn tell_into<
     F: Read + Send + Drop,
     R: AllocGlobal + Files<File = F> + Threads + Wait + Sync,
     I: Read + Drop,
->(rt: &R, words: &[&str], input: I, mut output: Stuck) -> (Told, usize) {
+>(rt: &R, words: &[&str], input: I, mut output: Stuck) -> (Told, bool) {
     let mut errors = Vec::new(rt.alloc());
     let status = program(rt, words, input, &mut output, &mut errors);
-    let flushed = output.flushed;
+    let is_left_alone = output.is_left_alone;
     let told = Told {
         status,
         output: output.taken,
         errors,
     };
-    (told, flushed)
+    (told, is_left_alone)
 }

@@ -124,23 +124,28 @@ const FLUSHES: [(usize, &str); 3] = [(0, ""), (1, "ok\n"), (2, "ok\n")];
 fn a_failed_flush_is_a_fault_of_writing(rt: HostRuntime) -> Result<(), Fail> {
     for (flushes, taken) in &FLUSHES {
         let output = Stuck::new(Vec::new(rt.alloc()), usize::MAX, *flushes);
-        let (told, _) = tell_into(&rt, REPLAY, MEMBER, output);
+        let (told, is_left_alone) = tell_into(&rt, REPLAY, MEMBER, output);
         assert!(rt; told.is(1, taken, "fault Write\n"), "{flushes} flushes");
+        assert!(rt; is_left_alone, "{flushes} flushes");
     }
     Ok(())
 }
 
-// Both replies are written for one block, so that only the last flush can hand them on.
+// Both replies are written for one block, before it is flushed.
 #[test]
-fn what_a_writer_took_is_flushed_also_where_it_fails(rt: HostRuntime) -> Result<(), Fail> {
+fn a_writer_that_failed_is_left_alone(rt: HostRuntime) -> Result<(), Fail> {
     let input = b"MEMBER,1\nMEMBER,1\n".as_slice();
     let replies = "ok\nrefused 1\n";
     for room in 0..replies.len() {
         let output = Stuck::new(Vec::new(rt.alloc()), room, usize::MAX);
-        let (told, flushed) = tell_into(&rt, REPLAY, input, output);
+        let (told, is_left_alone) = tell_into(&rt, REPLAY, input, output);
         let front = &replies.as_bytes()[..room];
         assert_eq!(rt; told.status, 1, "{room}");
-        assert_eq!(rt; (told.output.as_slice(), flushed), (front, room), "{room}");
+        assert_eq!(rt;
+            (told.output.as_slice(), is_left_alone),
+            (front, true),
+            "{room}"
+        );
         assert_eq!(rt;
             told.errors.as_slice(),
             b"fault Write\n".as_slice(),
@@ -182,7 +187,7 @@ fn errors_that_cannot_be_written_change_no_status(rt: HostRuntime) -> Result<(),
         };
         let ended = run_words(&rt, words, input, &mut output, &mut errors);
         assert_eq!(rt; ended.status, *status, "{line}");
-        assert!(rt; ended.told.is_err(), "{line}");
+        assert!(rt; ended.told.is_err() && errors.is_left_alone, "{line}");
         assert_eq!(rt; errors.taken.as_slice(), &line.as_bytes()[..5], "{line}");
     }
     Ok(())

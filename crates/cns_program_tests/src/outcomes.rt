@@ -52,22 +52,24 @@ fn told<R: Threads + Wait + Sync>(
 }
 
 // The same of a worker that came to its end and one that did not, over a writer that has room for so many bytes and can
-// be flushed so many times.
+// be flushed so many times; and whether the writer was left alone once it had failed.
 fn told_short<R: Threads + Wait + Sync>(
     rt: &R,
     alloc: Global,
     room: usize,
     flushes: usize,
-) -> Result<Told, Fail> {
+) -> Result<(Told, bool), Fail> {
     let mut output = Stuck::new(Vec::new(alloc), room, flushes);
     let mut errors = Vec::new(alloc);
     let outcome = run(rt, alloc, &["MEMBER,101\n"], &[""])?;
     let status = write_outcome(&outcome, &mut output, &mut errors);
-    Ok(Told {
+    let is_left_alone = output.is_left_alone;
+    let told = Told {
         status,
         output: output.taken,
         errors,
-    })
+    };
+    Ok((told, is_left_alone))
 }
 
 // The texts of the workers, and the tally.
@@ -126,7 +128,8 @@ fn workers_that_ended_early_are_told_after_the_tally(rt: HostRuntime) -> Result<
 fn a_tally_that_cannot_be_written_is_the_only_fault(rt: HostRuntime) -> Result<(), Fail> {
     let tally = told(&rt, rt.alloc(), &["MEMBER,101\n"], &[""])?.output;
     for room in 0..tally.len() {
-        let told = told_short(&rt, rt.alloc(), room, usize::MAX)?;
+        let (told, is_left_alone) = told_short(&rt, rt.alloc(), room, usize::MAX)?;
+        assert!(rt; is_left_alone, "{room}");
         assert_eq!(rt; told.status, 1, "{room}");
         assert_eq!(rt; told.output.as_slice(), &tally[..room], "{room}");
         assert_eq!(rt;
@@ -140,7 +143,8 @@ fn a_tally_that_cannot_be_written_is_the_only_fault(rt: HostRuntime) -> Result<(
 
 #[test]
 fn a_tally_that_cannot_be_flushed_is_a_fault_of_writing(rt: HostRuntime) -> Result<(), Fail> {
-    let told = told_short(&rt, rt.alloc(), usize::MAX, 0)?;
+    let (told, is_left_alone) = told_short(&rt, rt.alloc(), usize::MAX, 0)?;
+    assert!(rt; is_left_alone);
     assert_eq!(rt; told.status, 1);
     assert_eq!(rt; told.errors.as_slice(), b"fault Write\n".as_slice());
     Ok(())

@@ -8,7 +8,8 @@ use Rattle.std.specs.List.{All}
 use Rattle.cns_units.specs.declared.account.Member.{Member}
 use Rattle.cns_terms.specs.declared.buy_in.Fill.{Fill}
 use Rattle.cns_terms.specs.declared.buy_in.Liable.{Liable}
-use Rattle.cns_terms.specs.Fills.{charged, given_to, stretch}
+use Rattle.cns_terms.specs.Fills.{capacity, charged, fills_of, given_to, stretch}
+use Rattle.cns_terms.proofs.Laid.{fills_laid}
 use Rattle.cns_retransmit.specs.Members.{left_of, members_of}
 use Rattle.cns_retransmit.specs.Charges.{CanBeCharged, IsWithin, fills_for}
 use Rattle.cns_retransmit.proofs.Lists.{one_if, take_next}
@@ -249,9 +250,15 @@ fills_within each n m from (l ∷ ls) most once =
     with_one (nat_lt 0 f.shares) (l ∷ ls) f (fills_from each n m to ls) (first_within l ls f refl (omega arith))
     (All-weaker (IsWithin ls) (IsWithin (l ∷ ls)) (wider l ls once) (fills_from each n m to ls) (fills_within each n m to ls most (rest_once l ls once)))
 
+-- a member can be given no more than is left
+most_left : (short : Member → ℕ) (l : Liable) → capacity short l ≤ l.left
+most_left short l = omega arith
+
 -- a batch can be charged with the fills of an execution
-pub fills_chargeable : (each : Liable → ℕ) (n m : ℕ) (ls : List Liable) → ((l : Liable) → each l ≤ l.left) → ((a : Member) → members_of a ls ≤ 1) → CanBeCharged (fills_from each n m 0 ls) ls
-fills_chargeable each n m ls most once = record {
-  once = λ a. let few = fills_count each n m 0 a ls in let one = once a in omega arith;
-  within = fills_within each n m 0 ls most once;
-}
+pub fills_chargeable : (short : Member → ℕ) (n m : ℕ) (ls : List Liable) → ((a : Member) → members_of a ls ≤ 1) → CanBeCharged (fills_of short n m ls) ls
+fills_chargeable short n m ls once =
+    let can : CanBeCharged (fills_from (capacity short) n m 0 ls) ls = record {
+      once = λ a. let few = fills_count (capacity short) n m 0 a ls in let one = once a in omega arith;
+      within = fills_within (capacity short) n m 0 ls (most_left short) once;
+    } in
+    subst (λ fs. CanBeCharged fs ls) (sym (fills_laid short n m ls)) can

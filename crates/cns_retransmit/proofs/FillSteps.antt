@@ -3,16 +3,24 @@ use Rattle.std.proofs.Common.{◌≡◌, ◌∙◌, sym, ap, ℕ, ◌+◌, ◌-�
 use Rattle.std.proofs.lemmas.Bool.{le-ltb, lt-ltb, cond-false, cond-true}
 use Rattle.cns_terms.specs.declared.buy_in.Fill.{Fill}
 use Rattle.cns_terms.specs.declared.buy_in.Liable.{Liable}
-use Rattle.cns_terms.specs.Fills.{stretch, stretches}
+use Rattle.std.proofs.Math.Nat.{mul-zero, zero-div}
+use Rattle.cns_units.specs.declared.account.Member.{Member}
+use Rattle.cns_terms.specs.Fills.{capacity, fills_of, stretch}
+use Rattle.cns_terms.proofs.Laid.{fills_laid, laid}
 
 -- the fills that are left to make
 abbrev pub fills_from : (Liable → ℕ) → ℕ → ℕ → ℕ → List Liable → List Fill
-fills_from each n m from ss = filter (λ f. nat_lt 0 f.shares) (stretches each n m from ss)
+fills_from each n m from ss = filter (λ f. nat_lt 0 f.shares) (laid each n m from ss)
 
--- how far a loop over a batch has come: the fills done, and those of the rest from some place on
-abbrev pub Filling : (Liable → ℕ) → ℕ → ℕ → List Liable → List Liable → List Fill → ℕ → ℕ → Type 0
-Filling each n m ls rest done start paid =
-    (from : ℕ) × (start ≡ min n from) × (paid ≡ (m * start) / n) × (fills_from each n m 0 ls ≡ done ++ fills_from each n m from rest)
+-- how far a loop over a batch has come: of all fills those done, and those of the rest from some share on
+abbrev pub Filling : (Liable → ℕ) → ℕ → ℕ → List Fill → List Liable → List Fill → ℕ → ℕ → Type 0
+Filling each n m all rest done start paid =
+    (from : ℕ) × (start ≡ min n from) × (paid ≡ (m * start) / n) × (all ≡ done ++ fills_from each n m from rest)
+
+-- before it has begun, all fills of an execution are left
+pub fill_first : (short : Member → ℕ) (n m : ℕ) (ls : List Liable) → Filling (capacity short) n m (fills_of short n m ls) ls [] 0 0
+fill_first short n m ls =
+    (0, omega arith, sym (ap (λ k. k / n) (mul-zero m) ∙ zero-div n), fills_laid short n m ls)
 
 -- a fill
 abbrev pub made : ℕ → ℕ → ℕ → Fill
@@ -23,8 +31,8 @@ same_made : (a n c k d : ℕ) → n ≡ k → c ≡ d → made a n c ≡ made a 
 same_made a n c k d e f = ap (λ x. made a x c) e ∙ ap (λ y. made a k y) f
 
 -- a member that is given something
-pub fill_some : (each : Liable → ℕ) (n m : ℕ) (ls rest : List Liable) (s : Liable) (done : List Fill) (start paid given due : ℕ) → Filling each n m ls (s ∷ rest) done start paid → given ≡ min (each s) (n - start) → 0 < given → due ≡ (m * (start + given)) / n → Filling each n m ls rest (done ++ made s.member given (due - paid) ∷ []) (start + given) due
-fill_some each n m ls rest s done start paid given due inv is some due_is =
+pub fill_some : (each : Liable → ℕ) (n m : ℕ) (all : List Fill) (rest : List Liable) (s : Liable) (done : List Fill) (start paid given due : ℕ) → Filling each n m all (s ∷ rest) done start paid → given ≡ min (each s) (n - start) → 0 < given → due ≡ (m * (start + given)) / n → Filling each n m all rest (done ++ made s.member given (due - paid) ∷ []) (start + given) due
+fill_some each n m all rest s done start paid given due inv is some due_is =
     let from : ℕ = inv.0 in
     let to : ℕ = from + each s in
     let start_is : start ≡ min n from = inv.1 in
@@ -44,8 +52,8 @@ fill_some each n m ls rest s done start paid given due inv is some due_is =
     (to, sym end_is, due_is, inv.3 ∙ ap (λ fs. done ++ fs) here ∙ sym (append_assoc done (made s.member given (due - paid) ∷ []) (fills_from each n m to rest)))
 
 -- a member that is given nothing
-pub fill_none : (each : Liable → ℕ) (n m : ℕ) (ls rest : List Liable) (s : Liable) (done : List Fill) (start paid given : ℕ) → Filling each n m ls (s ∷ rest) done start paid → given ≡ min (each s) (n - start) → given ≡ 0 → Filling each n m ls rest done start paid
-fill_none each n m ls rest s done start paid given inv is none =
+pub fill_none : (each : Liable → ℕ) (n m : ℕ) (all : List Fill) (rest : List Liable) (s : Liable) (done : List Fill) (start paid given : ℕ) → Filling each n m all (s ∷ rest) done start paid → given ≡ min (each s) (n - start) → given ≡ 0 → Filling each n m all rest done start paid
+fill_none each n m all rest s done start paid given inv is none =
     let from : ℕ = inv.0 in
     let to : ℕ = from + each s in
     let start_is : start ≡ min n from = inv.1 in
@@ -56,5 +64,5 @@ fill_none each n m ls rest s done start paid given inv is none =
     (to, still, inv.2, inv.3 ∙ ap (λ fs. done ++ fs) here)
 
 -- when nobody is left, all fills are made
-pub filled : (each : Liable → ℕ) (n m : ℕ) (ls : List Liable) (done : List Fill) (start paid : ℕ) → Filling each n m ls [] done start paid → done ≡ fills_from each n m 0 ls
-filled each n m ls done start paid inv = sym (inv.3 ∙ append-nil done)
+pub filled : (each : Liable → ℕ) (n m : ℕ) (all done : List Fill) (start paid : ℕ) → Filling each n m all [] done start paid → done ≡ all
+filled each n m all done start paid inv = sym (inv.3 ∙ append-nil done)

@@ -8,7 +8,7 @@ use Rattle.cns_units.specs.declared.account.Account.{Account}
 use Rattle.cns_units.specs.declared.day.Day.{Day}
 use Rattle.cns_terms.specs.declared.reply.Stated.{Stated}
 use Rattle.cns_terms.specs.declared.sheet.Row.{Row}
-use Rattle.cns_statements.specs.Words.{text_line}
+use Rattle.cns_units.specs.Words.{text_line}
 
 -- `statement ACCOUNT DATE ROWS MARK DIVIDEND`
 abbrev pub stated_line : Stated → List ℕ

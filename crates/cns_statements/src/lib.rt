@@ -4,7 +4,7 @@
 //! dividends, so that the statement may outlive the sheet. `write_statement` writes the text of a statement to any
 //! writer: the line of `write_stated`, and then the lines of `write_rows`. Over a writer that tells its bytes, a call
 //! that answers Ok has written exactly that text, and one that answers `WriteFault` a front of it. The texts stand in
-//! `specs/Texts.antt`, where to start reading. `write_line` writes one line of words, for other texts of such lines.
+//! `specs/Texts.antt`, where to start reading.
 //!
 //! `pack` makes the statements of all accounts that have a row on a sheet, by several workers at once. A sheet never
 //! changes, so neither it nor `statement` waits for a lock. What a packing gives stands in `specs/Packs.antt`.
@@ -17,7 +17,6 @@ mod packing;
 mod rows;
 mod text;
 mod whole_day;
-mod words;
 mod workers;
 
 pub use contents::Statement;
@@ -26,4 +25,3 @@ pub use fault::PackFault;
 pub use rows::Rows;
 pub use text::{write_rows, write_stated, write_statement};
 pub use whole_day::pack;
-pub use words::{Word, write_line};

@@ -61,7 +61,7 @@ pub(crate) fn parts_of(
     Ok(parts)
 }
 
-// Makes the statements of some accounts, each between the calls of the gate.
+// Makes the statements of some accounts, each between the calls of the gate, also one that finds no memory.
 pub(crate) fn make<G: Gate, R: Wait>(
     rt: &R,
     alloc: Global,
@@ -78,9 +78,9 @@ pub(crate) fn make<G: Gate, R: Wait>(
         // A sheet has at most 10,000 accounts, so the number is exact.
         seq = seq.saturating_add(1);
         gate.before(rt, worker, seq);
-        let statement = statement(alloc, sheet, *account)?;
+        let answer = statement(alloc, sheet, *account);
         gate.answered(rt, worker, seq);
-        let Ok(()) = made.push(statement) else {
+        let Ok(()) = made.push(answer?) else {
             return Err(NoMemory);
         };
     }

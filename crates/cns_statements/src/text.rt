@@ -4,10 +4,9 @@ ghost use Rattle.cns_units.specs.Output.{Writes};
 ghost use Rattle.cns_statements.specs.Texts.{row_line, rows_text, stated_line, statement_text};
 
 use crate::contents::Statement;
-use crate::words::{Word, write_line};
 use cns_sheets::AccountRows;
 use cns_terms::{Row, Stated};
-use cns_units::{Cents, Price, WriteFault};
+use cns_units::{Cents, Price, Word, WriteFault, write_line};
 use std::alloc::Allocator;
 use std::io::Write;
 

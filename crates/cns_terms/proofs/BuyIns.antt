@@ -20,13 +20,14 @@ use Rattle.cns_terms.specs.declared.holding.Entry.{Entry}
 use Rattle.cns_terms.specs.Batches.{batch_at, called, fills_before, is_called, liable_of, short_of, shorts}
 use Rattle.cns_terms.specs.Days.{at_close, day}
 use Rattle.cns_terms.specs.Entries.{execution_entries, fill_entry}
-use Rattle.cns_terms.specs.Fills.{batch, capacity, fills, left_of, room, stretch, stretches}
+use Rattle.cns_terms.specs.Fills.{batch, capacity, fills, left_of, room, stretch}
 use Rattle.cns_terms.specs.Listings.{members}
 use Rattle.cns_terms.specs.Notices.{Notice, is_so, is_live, remaining, stage}
 use Rattle.cns_terms.specs.Positions.{position, shares_for}
 use Rattle.cns_terms.specs.Postings.{Journal}
 use Rattle.cns_terms.specs.Sums.{in_order, long, put, same_issue, short, total}
 use Rattle.cns_terms.proofs.Accounts.{occurs}
+use Rattle.cns_terms.proofs.Laid.{fills_laid, laid}
 use Rattle.cns_terms.proofs.EntrySums.{IsBalanced, cents_in, shares_in}
 use Rattle.cns_terms.proofs.Everywhere.{each_filter, each_in_order, each_map}
 use Rattle.cns_terms.proofs.Facts.{eqb_sym}
@@ -79,7 +80,7 @@ remains_long J k = at_most (is_live (stage J k)) (k.given.shares - _ - _) (long 
 -- ---- the members that fills are for
 
 -- what holds of each member of a batch holds of each that is filled
-filled_each : (P : Member → Type 0) (each : Liable → ℕ) (n m from : ℕ) (ls : List Liable) → AllByRecursion (λ (l : Liable). P l.member) ls → AllByRecursion (λ (f : Fill). P f.member) (stretches each n m from ls)
+filled_each : (P : Member → Type 0) (each : Liable → ℕ) (n m from : ℕ) (ls : List Liable) → AllByRecursion (λ (l : Liable). P l.member) ls → AllByRecursion (λ (f : Fill). P f.member) (laid each n m from ls)
 filled_each P each n m from [] a = tt
 filled_each P each n m from (l ∷ ls) a = (a.0, filled_each P each n m (from + each l) ls a.1)
 
@@ -91,7 +92,7 @@ fills_each P J x k a =
     let all_shorts = each_filter (λ (s : Short). P s.member) (λ s. nat_lt 0 s.shares) (map (short_of K c) (members K)) (each_map (λ (s : Short). P s.member) (short_of K c) (members K) a) in
     let taken = each_filter (λ (s : Short). P s.member) (is_called (shorts K c) (called K c)) (in_order fills_before (shorts K c)) (each_in_order (λ (s : Short). P s.member) fills_before (shorts K c) all_shorts) in
     let liable = each_map (λ (l : Liable). P l.member) (left_of J (day K) c) (batch_at K c) (each_map (λ (l : Liable). P l.member) liable_of _ taken) in
-    each_filter (λ (f : Fill). P f.member) (λ f. nat_lt 0 f.shares) _ (filled_each P (capacity (λ a. short (position J a c))) x.shares x.money 0 (batch J k.given.day c) liable)
+    rw (fills_laid (λ a. short (position J a c)) x.shares x.money (batch J k.given.day c)) (each_filter (λ (f : Fill). P f.member) (λ f. nat_lt 0 f.shares) _ (filled_each P (capacity (λ a. short (position J a c))) x.shares x.money 0 (batch J k.given.day c) liable))
 
 -- ---- no member stands in a batch twice
 
@@ -146,14 +147,14 @@ abbrev pub filled_by : List Fill → Member → ℕ
 filled_by fs a = added (λ f. cond (f.member == a) f.shares 0) fs
 
 -- a member is filled up to its short, as often as it stands in the batch
-filled_few : (short_now : Member → ℕ) (n m from : ℕ) (a : Member) (ls : List Liable) → filled_by (filter (λ f. nat_lt 0 f.shares) (stretches (capacity short_now) n m from ls)) a ≤ times (λ l. l.member) a ls * short_now a
+filled_few : (short_now : Member → ℕ) (n m from : ℕ) (a : Member) (ls : List Liable) → filled_by (filter (λ f. nat_lt 0 f.shares) (laid (capacity short_now) n m from ls)) a ≤ times (λ l. l.member) a ls * short_now a
 filled_few short_now n m from a [] = omega arith
 filled_few short_now n m from a (l ∷ ls) =
     let to : ℕ = from + capacity short_now l in
     let one = stretch_few from (capacity short_now l) n in
     let less = min-le_right l.left (short_now l.member) in
     let rest = filled_few short_now n m to a ls in
-    kept (nat_lt 0 (min n to - from)) (l.member == a) (a == l.member) refl (eqb_sym a l.member) (min n to - from) (stretch n m from to l.member) (filter (λ f. nat_lt 0 f.shares) (stretches (capacity short_now) n m to ls)) refl refl
+    kept (nat_lt 0 (min n to - from)) (l.member == a) (a == l.member) refl (eqb_sym a l.member) (min n to - from) (stretch n m from to l.member) (filter (λ f. nat_lt 0 f.shares) (laid (capacity short_now) n m to ls)) refl refl
     (omega (arith, one, less)) rest
   where
     stretch_few : (from c n : ℕ) → min n (from + c) - from ≤ c
@@ -178,7 +179,7 @@ pub fill_few : (J : Journal) (x : Execution) (k : Notice) (a : Member) → occur
 fill_few J x k a once =
     let all = filled_few (λ a. short (position J a k.given.issue)) x.shares x.money 0 a (batch J k.given.day k.given.issue) in
     let one = batch_once J k.given.day k.given.issue a in
-    at_most_once (times (λ (l : Liable). l.member) a (batch J k.given.day k.given.issue)) _ _ (omega (arith, one, once)) all
+    rw (fills_laid (λ a. short (position J a k.given.issue)) x.shares x.money (batch J k.given.day k.given.issue)) (at_most_once (times (λ (l : Liable). l.member) a (batch J k.given.day k.given.issue)) _ _ (omega (arith, one, once)) all)
   where
     at_most_once : (t z n : ℕ) → t ≤ 1 → n ≤ t * z → n ≤ z
     at_most_once zero z n h le = omega (arith, le)

@@ -7,7 +7,8 @@ use Rattle.std.proofs.lemmas.List.Sums.{sum_by-cons}
 use Rattle.cns_units.specs.declared.account.Member.{Member}
 use Rattle.cns_terms.specs.declared.buy_in.Fill.{Fill}
 use Rattle.cns_terms.specs.declared.buy_in.Liable.{Liable}
-use Rattle.cns_terms.specs.Fills.{room_of, capacity, stretch, stretches, fills_of}
+use Rattle.cns_terms.specs.Fills.{room_of, capacity, stretch, fills_of}
+use Rattle.cns_terms.proofs.Laid.{fills_laid, laid}
 
 -- dropping what adds nothing leaves a sum as it is
 kept_or_not : {X : Type 0} (f : X → ℕ) (b : Bool) (x : X) (ys : List X) → (b ≡ false → f x ≡ 0) → sum_by f (cond b (x ∷ ys) ys) ≡ f x + sum_by f ys
@@ -19,13 +20,13 @@ shares_of_stretch : (n m from to a : ℕ) → from ≤ to → (stretch n m from 
 shares_of_stretch n m from to a h = omega arith
 
 -- the shares of stretches laid end to end
-shares_of_stretches : (each : Liable → ℕ) (n m from : ℕ) (ss : List Liable) → sum_by (λ f. f.shares) (filter (λ f. nat_lt 0 f.shares) (stretches each n m from ss)) + min n from ≡ min n (from + sum_by each ss)
+shares_of_stretches : (each : Liable → ℕ) (n m from : ℕ) (ss : List Liable) → sum_by (λ f. f.shares) (filter (λ f. nat_lt 0 f.shares) (laid each n m from ss)) + min n from ≡ min n (from + sum_by each ss)
 shares_of_stretches each n m from [] = omega arith
 shares_of_stretches each n m from (s ∷ ss) =
     let to : ℕ = from + each s in
     let rest = shares_of_stretches each n m to ss in
     let one = shares_of_stretch n m from to s.member (omega arith) in
-    let first = kept_or_not (λ (f : Fill). f.shares) (nat_lt 0 (min n to - from)) (stretch n m from to s.member) (filter (λ f. nat_lt 0 f.shares) (stretches each n m to ss)) (λ e. let z = ltb-false 0 (min n to - from) e in omega arith) in
+    let first = kept_or_not (λ (f : Fill). f.shares) (nat_lt 0 (min n to - from)) (stretch n m from to s.member) (filter (λ f. nat_lt 0 f.shares) (laid each n m to ss)) (λ e. let z = ltb-false 0 (min n to - from) e in omega arith) in
     rw (sum_by-cons each s ss, ← add_assoc from (each s) (sum_by each ss)) (omega arith)
 
 -- the part of the money m that belongs to the first k of n shares
@@ -58,18 +59,18 @@ unpaid n m from to a e =
     let none = ltb-false 0 (min n to - from) e in
     cond-false (nat_lt from (min n to)) _ 0 (le-ltb from (min n to) (omega arith))
 
-cents_of_stretches : (each : Liable → ℕ) (n m from : ℕ) (ss : List Liable) → sum_by (λ f. f.cents) (filter (λ f. nat_lt 0 f.shares) (stretches each n m from ss)) + paid n m from ≡ paid n m (from + sum_by each ss)
+cents_of_stretches : (each : Liable → ℕ) (n m from : ℕ) (ss : List Liable) → sum_by (λ f. f.cents) (filter (λ f. nat_lt 0 f.shares) (laid each n m from ss)) + paid n m from ≡ paid n m (from + sum_by each ss)
 cents_of_stretches each n m from [] = let z : from + 0 ≡ from = omega arith in rw z (omega arith)
 cents_of_stretches each n m from (s ∷ ss) =
     let to : ℕ = from + each s in
     let rest = cents_of_stretches each n m to ss in
     let one = cents_of_stretch n m from to s.member (omega arith) in
-    let first = kept_or_not (λ (f : Fill). f.cents) (nat_lt 0 (min n to - from)) (stretch n m from to s.member) (filter (λ f. nat_lt 0 f.shares) (stretches each n m to ss)) (unpaid n m from to s.member) in
+    let first = kept_or_not (λ (f : Fill). f.cents) (nat_lt 0 (min n to - from)) (stretch n m from to s.member) (filter (λ f. nat_lt 0 f.shares) (laid each n m to ss)) (unpaid n m from to s.member) in
     rw (sum_by-cons each s ss, ← add_assoc from (each s) (sum_by each ss)) (omega arith)
 
 -- the fills of n shares that a batch has room for are n shares
 pub shares_of_fills : (short : Member → ℕ) (n m : ℕ) (ls : List Liable) → n ≤ room_of short ls → sum_by (λ f. f.shares) (fills_of short n m ls) ≡ n
-shares_of_fills short n m ls h = let all = shares_of_stretches (capacity short) n m 0 ls in omega arith
+shares_of_fills short n m ls h = rw (fills_laid short n m ls) (let all = shares_of_stretches (capacity short) n m 0 ls in omega arith)
 
 -- and they are paid the whole money
 pub cents_of_fills : (short : Member → ℕ) (n m : ℕ) (ls : List Liable) → 0 < n → n ≤ room_of short ls → sum_by (λ f. f.cents) (fills_of short n m ls) ≡ m
@@ -79,4 +80,4 @@ cents_of_fills short n m ls some h =
     let from : min n 0 ≡ 0 = omega arith in
     let whole : paid n m (0 + room_of short ls) ≡ m = ap (λ k. (m * k) / n) to ∙ mul-div_left m some in
     let nothing : paid n m 0 ≡ 0 = ap (λ k. (m * k) / n) from ∙ ap (λ k. k / n) (mul-zero m) ∙ zero-div n in
-    omega arith
+    rw (fills_laid short n m ls) (omega arith)

@@ -8,6 +8,7 @@ pub mod Accounts
 pub mod Everywhere
 pub mod EntrySums
 pub mod ZeroSums
+pub mod Laid
 pub mod FillSums
 pub mod Magnitudes
 pub mod BuyIns

@@ -1,5 +1,6 @@
 -- What an execution gives each liable member, and what it pays.
-use Rattle.std.specs.Prelude.{ℕ, ◌+◌, ◌-◌, ◌*◌, ◌/◌, min, Bool, false, ◌&&◌, ◌==◌, nat_lt, List, [], ◌∷◌, filter, length, map, sum_by, if◌then◌else◌}
+use Rattle.std.specs.Prelude.{ℕ, ◌+◌, ◌-◌, ◌*◌, ◌/◌, min, Bool, false, ◌&&◌, ◌==◌, nat_lt, List, [], ◌∷◌, filter, length, map, sum_by, take, if◌then◌else◌}
+use Rattle.std.specs.List.{enumerate_from}
 use Rattle.std.specs.Option.{option_map_or}
 use Rattle.cns_units.specs.declared.account.Member.{Member}
 use Rattle.cns_units.specs.declared.cusip.Cusip.{Cusip}
@@ -32,14 +33,17 @@ stretch n m from to a =
     let end = min n to in
     record { member = a; shares = end - from; cents = if nat_lt from end then (m * end) / n - (m * from) / n else 0 }
 
--- the members' stretches, each as long as its capacity, laid end to end in the order of filling
-abbrev pub stretches : (Liable → ℕ) → ℕ → ℕ → ℕ → List Liable → List Fill
-stretches capacity n m from [] = []
-stretches capacity n m from (l ∷ ls) = stretch n m from (from + capacity l) l.member ∷ stretches capacity n m (from + capacity l) ls
+-- where the stretch of the member at a place begins: after the capacities of those before it in the order of filling
+abbrev pub start : (Liable → ℕ) → List Liable → ℕ → ℕ
+start capacity ls i = sum_by capacity (take i ls)
 
--- the fills of an execution of n shares for the money m: the stretches that hold any of the shares
+-- what falls to the member at a place, whose stretch is as long as its capacity
+abbrev pub stretch_at : (Liable → ℕ) → ℕ → ℕ → List Liable → ℕ × Liable → Fill
+stretch_at capacity n m ls p = stretch n m (start capacity ls p.0) (start capacity ls p.0 + capacity p.1) p.1.member
+
+-- the fills of an execution of n shares for the money m: what falls to each member, where that is any of the shares
 abbrev pub fills_of : (Member → ℕ) → ℕ → ℕ → List Liable → List Fill
-fills_of short n m ls = filter (λ f. nat_lt 0 f.shares) (stretches (capacity short) n m 0 ls)
+fills_of short n m ls = filter (λ f. nat_lt 0 f.shares) (map (stretch_at (capacity short) n m ls) (enumerate_from 0 ls))
 
 -- the shares that fills give a member
 abbrev pub given_to : Member → List Fill → ℕ

@@ -4,3 +4,4 @@ pub mod CentsLemmas
 pub mod DayLemmas
 pub mod CusipOrder
 pub mod CusipWeights
+pub mod Parts

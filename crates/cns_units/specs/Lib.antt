@@ -3,3 +3,4 @@ pub mod Cents
 pub mod Cusip
 pub mod Day
 pub mod Output
+pub mod Words

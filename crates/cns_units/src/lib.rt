@@ -3,7 +3,8 @@
 //! A value of one of these types is in its range, so nothing above checks a range again. `new` and `parse` are Ok
 //! exactly by the range or the written form, and `value`, `bytes` and `number` give the value back. The calls that
 //! write put exactly their text to a writer, or a front of it where the writer fails. Start with `Shares`, the
-//! shortest type, then `Cusip` and `Day`, and `write_bytes`, on which every writing call stands.
+//! shortest type, then `Cusip` and `Day`, and `write_bytes`, on which every writing call stands: `write_line` writes
+//! the lines of words that every text of the program is made of.
 #![tactic(auto)]
 
 mod account;
@@ -16,6 +17,7 @@ mod price;
 mod rate;
 mod ratio;
 mod shares;
+mod words;
 
 pub use account::{Account, Member};
 pub use cusip::Cusip;
@@ -27,3 +29,4 @@ pub use price::Price;
 pub use rate::Rate;
 pub use ratio::Ratio;
 pub use shares::Shares;
+pub use words::{Word, write_line};

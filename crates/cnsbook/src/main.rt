@@ -27,5 +27,7 @@ fn main(rt: HostRuntime) -> ExitCode {
         &mut output,
         &mut rt.stderr(),
     );
+    // What was to be written is flushed. What is left was refused, and a drop would hand it on once more.
+    let (_writer, _refused) = output.into_parts();
     ExitCode::from(status)
 }

@@ -3,7 +3,8 @@ ghost use Rattle.std.specs.Prelude.{Err, None, Some, true};
 ghost use Rattle.cns_terms.specs.declared.source.SourceFault.TheVariants as fault;
 
 use super::{OPENING, day, hundred, issue, key, member, position, source, trade};
-use cns_desk::{End, ListSource, Outcome, RunFault, run_workers};
+use crate::desk::list_source::ListSource;
+use cns_desk::{End, Outcome, RunFault, run_workers};
 use cns_terms::{Gate, Held, Holding, Item, NoGate, Reply, Source, SourceFault, Worker};
 use std::alloc::Global;
 use std::sync::Wait;

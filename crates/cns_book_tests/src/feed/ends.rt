@@ -8,6 +8,9 @@ use std::io::{Error, ErrorKind, Read, Write};
 pub(crate) struct Watch {
     // How many bytes were flushed.
     pub(crate) flushed: Cell<usize>,
+    // How often the writer was flushed, and how often the reader was called.
+    pub(crate) flushes: Cell<usize>,
+    pub(crate) reads: Cell<usize>,
     // Whether the reader was asked for more before the replies to what it gave were flushed.
     pub(crate) is_late: Cell<bool>,
     // Whether one of the ends has failed, and whether one was called after that.
@@ -19,6 +22,8 @@ impl Watch {
     pub(crate) fn new() -> Watch {
         Watch {
             flushed: Cell::new(0),
+            flushes: Cell::new(0),
+            reads: Cell::new(0),
             is_late: Cell::new(false),
             has_failed: Cell::new(false),
             is_called_after: Cell::new(false),
@@ -31,10 +36,14 @@ impl Watch {
         }
     }
 
-    fn fail(&self) -> Error {
+    fn fail(&self, kind: ErrorKind) -> Error {
         self.has_failed.set(true);
-        Error::from(ErrorKind::Other)
+        Error::from(kind)
     }
+}
+
+fn count(calls: &Cell<usize>) {
+    calls.set(calls.get().saturating_add(1));
 }
 
 // Where a block of an input ends, and how many bytes of replies are due once it was given.
@@ -54,6 +63,8 @@ pub(crate) struct Source<'a> {
     next: usize,
     due: usize,
     watch: &'a Watch,
+    // What it fails with.
+    pub(crate) kind: ErrorKind,
 }
 
 impl<'a> Source<'a> {
@@ -71,6 +82,7 @@ impl<'a> Source<'a> {
             next: 0,
             due: 0,
             watch,
+            kind: ErrorKind::Other,
         }
     }
 }
@@ -78,12 +90,13 @@ impl<'a> Source<'a> {
 impl Read for Source<'_> {
     fn read(&mut self, buf: &mut [u8]) -> io::Result<usize> {
         self.watch.call();
+        count(&self.watch.reads);
         if self.watch.flushed.get() < self.due {
             self.watch.is_late.set(true);
         }
         let Some(cut) = self.cuts.get(self.next) else {
             return if self.fails {
-                Err(self.watch.fail())
+                Err(self.watch.fail(self.kind))
             } else {
                 Ok(0)
             };
@@ -116,7 +129,7 @@ impl Write for Sink<'_> {
         self.watch.call();
         let count = buf.len().min(self.room).min(self.step);
         if count == 0 && !buf.is_empty() {
-            let error = self.watch.fail();
+            let error = self.watch.fail(ErrorKind::Other);
             return if self.fails { Err(error) } else { Ok(0) };
         }
         self.taken.extend_from_slice(&buf[..count])?;
@@ -127,9 +140,10 @@ impl Write for Sink<'_> {
     fn flush(&mut self) -> io::Result<()> {
         self.watch.call();
         if self.flushes == 0 {
-            return Err(self.watch.fail());
+            return Err(self.watch.fail(ErrorKind::Other));
         }
         self.flushes -= 1;
+        count(&self.watch.flushes);
         self.watch.flushed.set(self.taken.len());
         Ok(())
     }

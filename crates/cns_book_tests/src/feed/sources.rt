@@ -1,11 +1,11 @@
 // What a source over a reader's records gives, one item after another.
 use super::day;
 use super::ends::{Cut, Source as Blocks, Watch};
-use cns_feed::CsvSource;
+use cns_feed::{CsvSource, ReplayFault, load, replay};
 use cns_terms::{Activity, Command, Item, Source, SourceFault};
 use cns_units::Member;
 use std::alloc::Global;
-use std::io::Read;
+use std::io::{ErrorKind, Read};
 use std::process::Abort;
 use std::test::Fail;
 
@@ -57,5 +57,91 @@ fn a_reader_that_fails_is_told_twice_and_called_last(rt: HostRuntime) -> Result<
     check_answers(&rt, rt.alloc(), reader, &answers);
     assert!(rt; watch.has_failed.get());
     assert!(rt; !watch.is_called_after.get());
+    Ok(())
+}
+
+// Records of 11 bytes each, in quotes and outside of them, one of which is at fault.
+const SHORT: &[u8] = b"MEMBER,101\n\"MEMBER\",2\nMEMBER,\"x\"\nMEMBER,202\n";
+
+// The replies to so many of them.
+const REPLIES: [&str; 5] = [
+    "",
+    "ok\n",
+    "ok\nok\n",
+    "ok\nok\nline Number\n",
+    "ok\nok\nline Number\nok\n",
+];
+
+// What a reader that gave so many of these bytes fails with.
+const KINDS: [ErrorKind; 3] = [
+    ErrorKind::Other,
+    ErrorKind::Interrupted,
+    ErrorKind::UnexpectedEof,
+];
+
+// A reader that gives these blocks of the records, and then fails.
+fn failing<'a>(cuts: &'a [Cut], kind: ErrorKind, watch: &'a Watch) -> Blocks<'a> {
+    let mut reader = Blocks::new(SHORT, cuts, true, watch);
+    reader.kind = kind;
+    reader
+}
+
+// The blocks of the first `end` bytes, of `size` bytes each, which is at least 1.
+fn cuts_of(alloc: Global, end: usize, size: usize) -> Result<Vec<Cut>, Fail> {
+    let size = size.max(1);
+    let mut cuts = Vec::new(alloc);
+    for at in 1..=end {
+        if at % size == 0 || at == end {
+            cuts.push(Cut { end: at, due: 0 })?;
+        }
+    }
+    Ok(cuts)
+}
+
+// Whether a replay ends with `Read` where its reader does, has answered the whole records, and calls it no more.
+fn replay_fails(alloc: Global, cuts: &[Cut], kind: ErrorKind, text: &str) -> Result<bool, Fail> {
+    let watch = Watch::new();
+    let mut output = Vec::new(alloc);
+    let reader = failing(cuts, kind, &watch);
+    let fault = replay(alloc, reader, &mut output, day("2024-06-03")?).err();
+    let is_told = fault == Some(ReplayFault::Read) && output.as_slice() == text.as_bytes();
+    Ok(is_told && !watch.is_called_after.get())
+}
+
+// The same of a load.
+fn load_fails(alloc: Global, cuts: &[Cut], kind: ErrorKind) -> Result<bool, Fail> {
+    let watch = Watch::new();
+    let fault = load(alloc, failing(cuts, kind, &watch), day("2024-06-03")?).err();
+    Ok(fault == Some(ReplayFault::Read) && !watch.is_called_after.get())
+}
+
+// The same of a source, which gives an item for each whole record and then the fault, again and again.
+fn source_fails(alloc: Global, cuts: &[Cut], kind: ErrorKind, whole: usize) -> bool {
+    let watch = Watch::new();
+    let mut source = CsvSource::new(alloc, failing(cuts, kind, &watch));
+    for _item in 0..whole {
+        if source.next().is_err() {
+            return false;
+        }
+    }
+    let fault = Err(SourceFault::Read);
+    source.next() == fault && source.next() == fault && !watch.is_called_after.get()
+}
+
+#[test]
+fn a_reader_that_fails_after_any_byte_is_told_and_called_last(rt: HostRuntime) -> Result<(), Fail> {
+    let alloc = rt.alloc();
+    for end in 0..=SHORT.len() {
+        let whole = end / 11;
+        let text = REPLIES.get(whole).copied().unwrap_or("");
+        for size in [1, 3, 44] {
+            let cuts = cuts_of(alloc, end, size)?;
+            for kind in KINDS {
+                assert!(rt; replay_fails(alloc, cuts.as_slice(), kind, text)?, "{end}");
+                assert!(rt; load_fails(alloc, cuts.as_slice(), kind)?, "{end}");
+                assert!(rt; source_fails(alloc, cuts.as_slice(), kind, whole), "{end}");
+            }
+        }
+    }
     Ok(())
 }

@@ -3,11 +3,12 @@ use Rattle.std.specs.List.{AllByRecursion}
 use Rattle.cns_terms.specs.Entries.{corporation}
 use Rattle.cns_terms.specs.Limits.{position_limit}
 use Rattle.cns_terms.proofs.Everywhere.{each_append}
-use Rattle.cns_positions.specs.Rows.{Rows}
-use Rattle.cns_actions.specs.Changes.{entries_for, holders_in, member_entries, opposite}
+use Rattle.cns_actions.specs.declared.holder.Holder.{Holder}
+use Rattle.cns_actions.specs.Changes.{entries_for, member_entries, opposite}
 use Rattle.cns_actions.specs.Merging.{IsSmall}
 use Rattle.cns_actions.proofs.Booking.{entries_next, few_more, small_entries}
 use Rattle.cns_actions.proofs.Holders.{shown_listed}
+use Rattle.cns_actions.proofs.Summing.{all_left}
 use Rattle.cns_actions.proofs.next.entries.Goals as goal
 
 pub loop-holder-init : goal.loop-holder-init
@@ -18,9 +19,9 @@ loop-holder-init g c =
     let made : c.push_change.new.entries.items ≡ entries_for x corporation c.opposite.result = c.in_ok-push_change.ensures ∙ ap (λ es. es ++ entries_for x corporation c.opposite.result) c.new-entries.ensures.items in
     let whole : entries_for x corporation (opposite c.args.sum.now) ≡ c.push_change.new.entries.items = ap (entries_for x corporation) (sym c.opposite.ensures.exact) ∙ sym made in
     record {
-      entries = λ j. whole j ++ member_entries x (holders_in i (sym c.new-rows.ensures.rows j));
+      entries = λ j. whole j ++ member_entries x (sym (all_left R i) j);
       small = subst (AllByRecursion IsSmall) (sym made) (small_entries x corporation c.opposite.result c.opposite.ensures.few);
-      within = subst (λ (rs : Rows). AllByRecursion (λ h. unsigned_abs h.shares ≤ position_limit) (holders_in i rs)) (sym c.new-rows.ensures.rows) (shown_listed R c.new-rows.ensures.order i c.requires.within).within;
+      within = subst (AllByRecursion (λ (h : Holder). unsigned_abs h.shares ≤ position_limit)) (sym (all_left R i)) (shown_listed R c.requires.order i c.requires.within).within;
     }
 
 pub loop-holder-preserved : goal.loop-holder-preserved

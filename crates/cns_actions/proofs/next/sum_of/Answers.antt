@@ -4,8 +4,8 @@ use Rattle.cns_terms.proofs.Facts.{zero_add}
 use Rattle.cns_positions.specs.Rows.{held_above}
 use Rattle.cns_units.specs.declared.cusip.Cusip.{Cusip}
 use Rattle.cns_actions.specs.declared.change.Change.{Change}
-use Rattle.cns_actions.specs.Changes.{holders_in, plus, sum_of, takes_beyond}
-use Rattle.cns_actions.proofs.Summing.{beyond_found, fits_next, next_beyond, next_within, sum_next, up_first, up_next}
+use Rattle.cns_actions.specs.Changes.{holders_in, sum_of, takes_beyond}
+use Rattle.cns_actions.proofs.Summing.{all_left, beyond_found, fits_next, next_within, plus, sum_next, up_first, up_next}
 use Rattle.cns_actions.proofs.next.sum_of.Goals as goal
 
 pub loop-holder-init : goal.loop-holder-init
@@ -15,9 +15,9 @@ loop-holder-init g c =
     let i = c.issue_of-issue.result in
     let s = sum_of x (holders_in i (held_above R None)) in
     let none : Change = record { before = pos 0; after = pos 0; cents = pos 0 } in
-    let same = ap (holders_in i) (sym c.new-rows.ensures.rows) in
+    let same = sym (all_left R i) in
     record {
-      up = up_first R c.new-rows.result c.new-others.result i c.requires c.new-rows.ensures.order c.new-rows.ensures.rows c.new-others.ensures.rows;
+      up = up_first R i c.requires c.in_order.ensures;
       sum = (λ j. record { before = sym (zero_add s.before) j; after = sym (zero_add s.after) j; cents = sym (zero_add s.cents) j }) ∙ ap (λ hs. plus none (sum_of x hs)) same;
       fits = ap (list_any (takes_beyond R x)) same;
     }
@@ -25,7 +25,7 @@ loop-holder-init g c =
 pub takes_beyond-requires-clause-within : goal.takes_beyond-requires-clause-within
 takes_beyond-requires-clause-within g c =
     let l = c.loop-holder in
-    next_within l.sum _ l.others (g.P.Positions.rows c.args.positions.now) l.invariant.up c.in-Some.holder _ c.in-Some.ensures.next c.requires
+    next_within l.sum _ l.invariant.up c.in-Some.holder _ c.in-Some.ensures.next (g.P.Positions.rows c.args.positions.now) c.requires
 
 pub returns-then-takes_beyond-clause-large : goal.returns-then-takes_beyond-clause-large
 returns-then-takes_beyond-clause-large g c =
@@ -33,8 +33,7 @@ returns-then-takes_beyond-clause-large g c =
     let x = c.args.action.now in
     let l = c.loop-holder in
     ap (λ (i : Cusip). list_any (takes_beyond R x) (holders_in i (held_above R None))) (sym c.issue_of-issue.ensures)
-    ∙ beyond_found (takes_beyond R x) _ _ _ _ _ c.in-Some.ensures.next l.invariant.fits
-    (sym (next_beyond l.sum _ l.others R l.invariant.up _ _ c.in-Some.ensures.next x) ∙ sym c.takes_beyond.ensures.beyond) c.if-takes_beyond.true
+    ∙ beyond_found (takes_beyond R x) _ _ _ _ _ c.in-Some.ensures.next l.invariant.fits (sym c.takes_beyond.ensures) c.if-takes_beyond.true
 
 pub loop-holder-preserved : goal.loop-holder-preserved
 loop-holder-preserved g c =
@@ -46,7 +45,7 @@ loop-holder-preserved g c =
     let d = c.of-change in
     let e = c.add.ensures in
     record {
-      up = up_next l.sum _ l.others R l.invariant.up h _ first c.add.new.self d.result c.takes_beyond.new.rows c.in-Some.ensures.range d.ensures.few e.before e.after e.cents c.takes_beyond.ensures.later;
+      up = up_next l.sum _ l.invariant.up h _ first c.add.new.self d.result c.in-Some.ensures.range d.ensures.few e.before e.after e.cents;
       sum = sum_next x _ l.sum c.add.new.self _ h _ first l.invariant.sum (e.before ∙ ap (λ (s : Change). l.sum.before +ℤ s.before) d.ensures.exact) (e.after ∙ ap (λ (s : Change). l.sum.after +ℤ s.after) d.ensures.exact) (e.cents ∙ ap (λ (s : Change). l.sum.cents +ℤ s.cents) d.ensures.exact);
-      fits = fits_next (takes_beyond R x) _ _ _ h _ first l.invariant.fits (sym (next_beyond l.sum _ l.others R l.invariant.up h _ first x) ∙ sym c.takes_beyond.ensures.beyond) c.if-takes_beyond.false;
+      fits = fits_next (takes_beyond R x) _ _ _ h _ first l.invariant.fits (sym c.takes_beyond.ensures) c.if-takes_beyond.false;
     }

@@ -1,16 +1,17 @@
 use Rattle.std.proofs.Common.{◌≡◌, None, length}
 use Rattle.std.specs.List.{list_any}
 use Rattle.cns_positions.specs.Rows.{held_above}
-use Rattle.cns_actions.specs.Changes.{holders_in, plus, sum_of, takes_beyond}
-use Rattle.cns_actions.proofs.Summing.{IsUpTo}
+use Rattle.cns_actions.specs.Changes.{holders_in, sum_of, takes_beyond}
+use Rattle.cns_actions.specs.Holding.{holders_after}
+use Rattle.cns_actions.proofs.Summing.{IsUpTo, plus}
 use Rattle.cns_actions.proofs.next.sum_of.Given as goal
 
 abbrev pub invariant-loop-holder : goal.invariant-loop-holder
 invariant-loop-holder g l = record {
-  up : IsUpTo l.sum (holders_in l.issue l.rows) l.others (g.P.Positions.rows l.positions);
-  sum : sum_of l.action (holders_in l.issue (held_above (g.P.Positions.rows l.positions) None)) ≡ plus l.sum (sum_of l.action (holders_in l.issue l.rows));
-  fits : list_any (takes_beyond (g.P.Positions.rows l.positions) l.action) (holders_in l.issue (held_above (g.P.Positions.rows l.positions) None)) ≡ list_any (takes_beyond (g.P.Positions.rows l.positions) l.action) (holders_in l.issue l.rows);
+  up : IsUpTo l.sum (holders_after (g.P.Positions.rows l.positions) l.issue l.passed);
+  sum : sum_of l.action (holders_in l.issue (held_above (g.P.Positions.rows l.positions) None)) ≡ plus l.sum (sum_of l.action (holders_after (g.P.Positions.rows l.positions) l.issue l.passed));
+  fits : list_any (takes_beyond (g.P.Positions.rows l.positions) l.action) (holders_in l.issue (held_above (g.P.Positions.rows l.positions) None)) ≡ list_any (takes_beyond (g.P.Positions.rows l.positions) l.action) (holders_after (g.P.Positions.rows l.positions) l.issue l.passed);
 }
 
 abbrev pub decreases-loop-holder : goal.decreases-loop-holder
-decreases-loop-holder g l = length (holders_in l.issue l.rows)
+decreases-loop-holder g l = length (holders_after (g.P.Positions.rows l.positions) l.issue l.passed)

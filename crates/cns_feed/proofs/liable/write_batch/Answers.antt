@@ -1,5 +1,5 @@
 use Rattle.std.proofs.lemmas.Result.{err_from_is_err_and}
-use Rattle.cns_statements.proofs.Parts.{parts_more, parts_failed}
+use Rattle.cns_units.proofs.Parts.{parts_more, parts_failed}
 use Rattle.cns_feed.specs.Text.{liable_line}
 use Rattle.cns_feed.proofs.liable.write_batch.Goals as goal
 

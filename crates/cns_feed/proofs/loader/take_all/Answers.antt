@@ -1,4 +1,4 @@
-use Rattle.std.proofs.Common.{◌+◌, ◌-◌, ◌^◌, arith, inr, None}
+use Rattle.std.proofs.Common.{◌≡◌, ◌+◌, ◌-◌, arith, inr, None}
 use Rattle.std.proofs.lemmas.Result.{err_from_is_err_and}
 use Rattle.cns_feed.proofs.PlayLemmas.{along-all, along-line, along-longer, along-none, room-line, up_to-less, up_to-line, up_to-none}
 use Rattle.cns_feed.proofs.RecordLemmas.{ends-any}
@@ -8,7 +8,7 @@ pub loop-turn-init : goal.loop-turn-init
 loop-turn-init g c = record {
   counts = up_to-none _ c.new-summary.ensures;
   setup = c.requires.setup;
-  room = c.requires.room;
+  room = let all : c.args.most - 0 ≡ c.args.most = omega arith in rw all c.requires.room;
   along = λ all p. along-none g.R.Read.remaining c.args.records.now _ _ None all c.new-summary.ensures p;
 }
 
@@ -35,7 +35,7 @@ returns-in_default-clause-counts g c all q =
     (along-all g.R.Read.remaining c.loop-turn.records _ _ _ None None _ all none (c.loop-turn.invariant.along all q)).takes.counts
 
 pub add-requires : goal.add-requires
-add-requires g c = up_to-less _ c.loop-turn._turn _ (omega (arith, c.loop-turn-test.true)) c.loop-turn.invariant.counts
+add-requires g c = up_to-less _ c.loop-turn._turn _ (omega (arith, c.loop-turn-test.true, c.requires.most)) c.loop-turn.invariant.counts
 
 pub loop-turn-preserved : goal.loop-turn-preserved
 loop-turn-preserved g c =
@@ -45,7 +45,7 @@ loop-turn-preserved g c =
     record {
       counts = up_to-line _ _ _ _ c.add.ensures inv.counts;
       setup = one.1;
-      room = room-line c.loop-turn.book _ _ (2 ^ 32 - 1 - (c.loop-turn._turn + 1)) q.after (omega (arith, c.loop-turn-test.true, inv.room));
+      room = room-line c.loop-turn.book _ _ (c.args.most - (c.loop-turn._turn + 1)) q.after (omega (arith, c.loop-turn-test.true, inv.room));
       along = λ all p. along-line g.R.Read.remaining c.loop-turn.records c.read_line.new.self _ _ _ _ _ None None None _ _ _ all one.0 q.after q.response c.add.ensures tt (inv.along all p);
     }
 

@@ -1,4 +1,4 @@
-use Rattle.std.proofs.Common.{◌+◌, ◌-◌, ◌^◌, arith, inl, inr}
+use Rattle.std.proofs.Common.{◌≡◌, ◌+◌, ◌-◌, arith, inl, inr}
 use Rattle.std.proofs.KnownBytes.{Keeps-refl}
 use Rattle.std.proofs.lemmas.Result.{err_from_is_err_and}
 use Rattle.cns_feed.proofs.PlayLemmas.{along-all, along-at, along-between, along-kept, along-line, along-none, leaves-not_full, room-line, up_to-less, up_to-line, up_to-none}
@@ -9,7 +9,7 @@ pub loop-turn-init : goal.loop-turn-init
 loop-turn-init g c = record {
   counts = up_to-none _ c.new-summary.ensures;
   setup = c.requires.setup;
-  room = c.requires.room;
+  room = let all : c.args.most - 0 ≡ c.args.most = omega arith in rw all c.requires.room;
   along = λ all p. along-none g.R.Read.remaining c.args.records.now _ _ _ all c.new-summary.ensures p;
 }
 
@@ -61,7 +61,7 @@ returns-in_err-response-clause-room g c =
     rw (p.1, p.2) (leaves-not_full _ _ _ _ c.in_err-response.ensures.err)
 
 pub add-requires : goal.add-requires
-add-requires g c = up_to-less _ c.loop-turn._turn _ (omega (arith, c.loop-turn-test.true)) c.loop-turn.invariant.counts
+add-requires g c = up_to-less _ c.loop-turn._turn _ (omega (arith, c.loop-turn-test.true, c.requires.most)) c.loop-turn.invariant.counts
 
 pub loop-turn-preserved : goal.loop-turn-preserved
 loop-turn-preserved g c =
@@ -71,7 +71,7 @@ loop-turn-preserved g c =
     record {
       counts = up_to-line _ _ _ _ c.add.ensures inv.counts;
       setup = one.1;
-      room = room-line c.loop-turn.book _ _ (2 ^ 32 - 1 - (c.loop-turn._turn + 1)) q.after (omega (arith, c.loop-turn-test.true, inv.room));
+      room = room-line c.loop-turn.book _ _ (c.args.most - (c.loop-turn._turn + 1)) q.after (omega (arith, c.loop-turn-test.true, inv.room));
       along = λ all p. along-line g.R.Read.remaining c.loop-turn.records c.read_line.new.self _ _ _ _ _ _ _ _ _ _ _ all one.0 q.after q.response c.add.ensures q.text
           (along-kept g.R.Read.remaining c.loop-turn.records _ _ _ _ _ _ _ all c.flush.ensures.text (inv.along all p));
     }

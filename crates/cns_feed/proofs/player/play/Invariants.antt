@@ -1,4 +1,4 @@
-use Rattle.std.proofs.Common.{◌-◌, ◌^◌, List}
+use Rattle.std.proofs.Common.{◌-◌, List}
 use Rattle.cns_feed.specs.Line.{Line}
 use Rattle.cns_feed.specs.Records.{Pending, Setup}
 use Rattle.cns_feed.specs.Replay.{HasRoomFor, IsUpTo}
@@ -9,7 +9,7 @@ abbrev pub invariant-loop-turn : goal.invariant-loop-turn
 invariant-loop-turn g l = record {
   counts : IsUpTo l.summary l._turn;
   setup : Setup l.records.rows;
-  room : HasRoomFor l.book (2 ^ 32 - 1 - l._turn);
+  room : HasRoomFor l.book (l.fn.most - l._turn);
   along : (all : List Line) → Pending g.R.Read.remaining l.fn.records all
       → Along g.R.Read.remaining l.records l.fn.book l.book l.summary (g.W.Write.contents l.fn.writer) (g.W.Write.contents l.writer) l._turn all;
 }

@@ -1,5 +1,6 @@
-use Rattle.cns_program.proofs.EndLemmas.{fails-unflushed}
+use Rattle.cns_program.proofs.EndLemmas.{fails-flushing}
 use Rattle.cns_program.proofs.replaying.replay_input.Goals as goal
 
-pub returns-in-Err-flushed-clause-fault : goal.returns-in-Err-flushed-clause-fault
-returns-in-Err-flushed-clause-fault g c = fails-unflushed c.args.opening (g.I.Read.remaining c.args.input) _ _ _ c.in_default.ensures.output c.in-Err-flushed.ensures.bytes
+pub returns-in-Err-clause-fault : goal.returns-in-Err-clause-fault
+returns-in-Err-clause-fault g c =
+    fails-flushing c.args.opening (g.I.Read.remaining c.args.input) _ _ _ c.replay-played.result c.replay-played.ensures.output c.replay-played.ensures.fault c.in-Err.ensures.bytes

@@ -1,5 +1,5 @@
 use Rattle.std.proofs.lemmas.Result.{err_from_is_err_and}
-use Rattle.cns_statements.proofs.Parts.{parts_more, parts_failed}
+use Rattle.cns_units.proofs.Parts.{parts_more, parts_failed}
 use Rattle.cns_program.specs.Days.{text_of_one}
 use Rattle.cns_program.proofs.stating.write_all.Goals as goal
 

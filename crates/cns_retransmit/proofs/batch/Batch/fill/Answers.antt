@@ -1,10 +1,9 @@
-use Rattle.std.proofs.Common.{◌≡◌, ◌∙◌, ap, sym, subst, sum_by, ℕ, ◌≤◌, arith}
+use Rattle.std.proofs.Common.{◌≡◌, ◌∙◌, ap, sym, subst, sum_by, ◌≤◌}
 use Rattle.cns_units.specs.declared.account.Member.{Member}
 use Rattle.cns_terms.specs.Batches.{Liables}
 use Rattle.cns_terms.specs.declared.buy_in.Fill.{Fill}
-use Rattle.cns_terms.specs.declared.buy_in.Liable.{Liable}
 use Rattle.cns_retransmit.specs.Members.{members_of}
-use Rattle.cns_terms.specs.Fills.{capacity, fills_of}
+use Rattle.cns_terms.specs.Fills.{fills_of}
 use Rattle.cns_terms.proofs.FillSums.{shares_of_fills, cents_of_fills}
 use Rattle.cns_retransmit.specs.Charges.{CanBeCharged}
 use Rattle.cns_retransmit.proofs.Charging.{fills_chargeable}
@@ -24,12 +23,8 @@ returns-clause-shares g c = ap (sum_by (λ (f : Fill). f.shares)) (made g c) ∙
 pub returns-clause-cents : goal.returns-clause-cents
 returns-clause-cents g c = ap (sum_by (λ (f : Fill). f.cents)) (made g c) ∙ cents_of_fills (g.S.Shorts.short_now c.args.now.now) c.args.shares c.args.money c.args.self.now.members c.value.ensures.range.0 c.requires
 
--- a member can be given no more than is left
-most_left : (short : Member → ℕ) (l : Liable) → capacity short l ≤ l.left
-most_left short l = omega arith
-
 pub returns-clause-chargeable : goal.returns-clause-chargeable
 returns-clause-chargeable g c =
     subst (λ fs. CanBeCharged fs c.args.self.now.members) (sym (made g c))
-    (fills_chargeable (capacity (g.S.Shorts.short_now c.args.now.now)) c.args.shares c.args.money c.args.self.now.members (most_left (g.S.Shorts.short_now c.args.now.now))
+    (fills_chargeable (g.S.Shorts.short_now c.args.now.now) c.args.shares c.args.money c.args.self.now.members
     (subst (λ (b : Liables). (a : Member) → members_of a b.members ≤ 1) c.self.view_is c.self.invariant.once))

@@ -1,0 +1,316 @@
+-- Members with a position in an issue, account by account: all rows of an account but that in the issue are passed over.
+-- For `next_holder` of holder.rt, clause next.
+use Rattle.std.proofs.Common.{◌≡◌, ◌∙◌, sym, ap, subst, refl, ℕ, ◌<◌, ◌≤◌, Bool, true, false, cond, not, ◌&&◌, ◌==◌, nat_lt, pos, List, [], ◌∷◌, length, map, filter, Option, Some, None, unwrap_or, Ordering, arith}
+use Rattle.std.specs.Cmp.Lexicographic.{slice_cmp}
+use Rattle.std.specs.FinMap.{find, is_sorted}
+use Rattle.std.specs.FinMap.Entries.{below_all}
+use Rattle.std.specs.List.{AllByRecursion, cons_option}
+use Rattle.std.specs.Ordering.{int_eq, is_eq, is_lt, nat_cmp, ordering_reverse, ordering_then}
+use Rattle.std.specs.declared.cmp.Ordering.TheVariants.{Less, Equal, Greater}
+use Rattle.std.proofs.lemmas.Bool.{eqb-true}
+use Rattle.std.proofs.lemmas.Bool.Decides.{nat_tests}
+use Rattle.std.proofs.lemmas.Slice.Eq.{bytes_eq-Decides}
+use Rattle.cns_units.specs.declared.account.Account.{Account}
+use Rattle.cns_units.specs.declared.cusip.Cusip.{Cusip}
+use Rattle.cns_terms.specs.declared.holding.Holding.{Holding}
+use Rattle.cns_terms.specs.declared.holding.Key.{Key}
+use Rattle.cns_terms.specs.Entries.{corporation}
+use Rattle.cns_terms.specs.Keys.{key_cmp}
+use Rattle.cns_terms.specs.Sums.{same_issue}
+use Rattle.cns_terms.proofs.Everywhere.{each_weaker}
+use Rattle.cns_terms.proofs.Facts.{and_false, and_left, and_right, both_true, bytes_refl, equal, holds, less}
+use Rattle.cns_terms.proofs.Keys.{exact_keys, keys_total}
+use Rattle.cns_positions.specs.Rows.{Rows, held_above, holding_at, is_above, is_held, zeros}
+use Rattle.cns_actions.specs.declared.holder.Holder.{Holder}
+use Rattle.cns_actions.specs.Changes.{holder_of, holders_in, is_holder}
+use Rattle.cns_actions.specs.Holding.{holder_at, holders_after, is_left, is_of_next}
+use Rattle.cns_actions.proofs.Walking.{below_later, first_row, held_same, held_sorted, nothing_below, passed_row}
+
+-- ---- lists
+
+-- a test does not both fail and hold
+apart : false ≡ true → ⊥
+apart h = cc
+
+-- what holds of all that pass a test
+passing : {X : Type 0} (P : X → Type 0) (t : X → Bool) (xs : List X) → AllByRecursion P (filter t xs) → AllByRecursion (λ x. t x ≡ true → P x) xs
+passing P t [] h = tt
+passing P t (x ∷ xs) h = by (t x) refl (passing P t xs) h
+  where
+    by : (b : Bool) → t x ≡ b → (AllByRecursion P (filter t xs) → AllByRecursion (λ x. t x ≡ true → P x) xs) → AllByRecursion P (cond b (x ∷ filter t xs) (filter t xs)) → AllByRecursion (λ x. t x ≡ true → P x) (x ∷ xs)
+    by true e rest h = ((λ _. h.0), rest h.1)
+    by false e rest h = ((λ f. absurd (apart (sym e ∙ f))), rest h)
+
+-- nothing passes a test that fails everywhere
+none_pass : {X : Type 0} (t : X → Bool) (xs : List X) → AllByRecursion (λ x. t x ≡ false) xs → filter t xs ≡ []
+none_pass t [] h = refl
+none_pass t (x ∷ xs) h = ap (λ b. cond b (x ∷ filter t xs) (filter t xs)) h.0 ∙ none_pass t xs h.1
+
+-- all pass a test that holds everywhere
+pub all_pass : {X : Type 0} (xs : List X) → filter (λ x. true) xs ≡ xs
+all_pass [] = refl
+all_pass (x ∷ xs) = ap (λ ys. x ∷ ys) (all_pass xs)
+
+-- no more pass a test that implies another
+fewer_pass : {X : Type 0} (t u : X → Bool) (xs : List X) → ((x : X) → t x ≡ true → u x ≡ true) → length (filter t xs) ≤ length (filter u xs)
+fewer_pass t u [] h = omega arith
+fewer_pass t u (x ∷ xs) h = by (t x) (u x) refl refl (fewer_pass t u xs h)
+  where
+    by : (b d : Bool) → t x ≡ b → u x ≡ d → length (filter t xs) ≤ length (filter u xs) → length (cond b (x ∷ filter t xs) (filter t xs)) ≤ length (cond d (x ∷ filter u xs) (filter u xs))
+    by true true e f le = omega arith
+    by true false e f le = absurd (apart (sym f ∙ h x e))
+    by false true e f le = omega arith
+    by false false e f le = le
+
+-- ---- keys and their accounts
+
+-- a key before another is of no later account
+account_le : (k q : Key) → is_lt (key_cmp k q) ≡ true → k.account ≤ q.account
+account_le k q h = by (nat_cmp k.account q.account) refl h
+  where
+    by : (o : Ordering) → nat_cmp k.account q.account ≡ o → is_lt (ordering_then o (slice_cmp nat_cmp k.issue q.issue)) ≡ true → k.account ≤ q.account
+    by Less e h = grind (arith, nat_tests)
+    by Equal e h = grind (arith, nat_tests)
+    by Greater e h = cc
+
+-- a key of an earlier account is before another
+account_before : (k q : Key) → nat_lt k.account q.account ≡ true → key_cmp k q ≡ Less
+account_before k q h = ap (λ o. ordering_then o (slice_cmp nat_cmp k.issue q.issue)) less_account
+  where
+    less_account : nat_cmp k.account q.account ≡ Less
+    less_account = grind (arith, nat_tests)
+
+-- rows whose accounts are left are above what is passed
+left_above : (passed : Option Key) (k : Key) → is_left passed k ≡ true → is_above passed k ≡ true
+left_above None k h = refl
+left_above (Some p) k h = ap is_lt (account_before p k h)
+
+-- ---- the rows above a key, among those that aren't zeros
+
+above_held : (passed : Option Key) (rows : Rows) → held_above rows passed ≡ filter (λ r. is_above passed r.0) (held_above rows None)
+above_held passed [] = refl
+above_held passed (r ∷ rows) = by (is_above passed r.0) (is_held r.1) refl refl (above_held passed rows)
+  where
+    by : (a h : Bool) → is_above passed r.0 ≡ a → is_held r.1 ≡ h → held_above rows passed ≡ filter (λ r. is_above passed r.0) (held_above rows None)
+        → cond (a && h) (r ∷ held_above rows passed) (held_above rows passed) ≡ filter (λ r. is_above passed r.0) (cond h (r ∷ held_above rows None) (held_above rows None))
+    by true true e f same = ap (λ rs. r ∷ rs) same ∙ sym (ap (λ b. cond b (r ∷ filter (λ r. is_above passed r.0) (held_above rows None)) (filter (λ r. is_above passed r.0) (held_above rows None))) e)
+    by true false e f same = same
+    by false true e f same = same ∙ sym (ap (λ b. cond b (r ∷ filter (λ r. is_above passed r.0) (held_above rows None)) (filter (λ r. is_above passed r.0) (held_above rows None))) e)
+    by false false e f same = same
+
+-- the accounts of rows in order are no earlier than that of the first
+from_first : (r : Key × Holding) (rows : Rows) → below_all key_cmp r.0 rows ≡ true → AllByRecursion (λ x. r.0.account ≤ x.0.account) rows
+from_first r [] b = tt
+from_first r (x ∷ rows) b = (account_le r.0 x.0 (and_left _ _ b), from_first r rows (and_right _ _ b))
+
+-- some of the rows in order are in order
+below_kept : (t : Key × Holding → Bool) (k : Key) (rows : Rows) → below_all key_cmp k rows ≡ true → below_all key_cmp k (filter t rows) ≡ true
+below_kept t k [] b = refl
+below_kept t k (x ∷ rows) b = by (t x) (below_kept t k rows (and_right _ _ b))
+  where
+    by : (d : Bool) → below_all key_cmp k (filter t rows) ≡ true → below_all key_cmp k (cond d (x ∷ filter t rows) (filter t rows)) ≡ true
+    by true h = both_true _ _ (and_left _ _ b) h
+    by false h = h
+
+some_sorted : (t : Key × Holding → Bool) (rows : Rows) → is_sorted key_cmp rows ≡ true → is_sorted key_cmp (filter t rows) ≡ true
+some_sorted t [] s = refl
+some_sorted t (x ∷ rows) s = by (t x) (some_sorted t rows (and_right _ _ s))
+  where
+    by : (d : Bool) → is_sorted key_cmp (filter t rows) ≡ true → is_sorted key_cmp (cond d (x ∷ filter t rows) (filter t rows)) ≡ true
+    by true h = both_true _ _ (below_kept t x.0 rows (and_left _ _ s)) h
+    by false h = h
+
+-- ---- one account
+
+is_above_it : (a n : ℕ) → nat_lt a n ≡ true → a < n
+is_above_it a n h = grind (arith, nat_tests)
+
+same_number : (n a : ℕ) → a ≤ n → nat_lt a n ≡ false → n ≡ a
+same_number n a le h = grind (arith, nat_tests)
+
+below_number : (n a : ℕ) → nat_lt a n ≡ false → (n ≡ a → ⊥) → nat_lt n a ≡ true
+below_number n a h other = grind (arith, nat_tests)
+
+module _ (c : Cusip) (a : Account) (left : Key → Bool) (later : (k : Key) → a < k.account → left k ≡ true) (alike : (k q : Key) → k.account ≡ q.account → left k ≡ left q) (own : left (record { account = a; issue = c }) ≡ true) where
+  -- the account's place in the issue
+  abbrev place : Key
+  place = record { account = a; issue = c }
+
+  -- the holders of later accounts
+  abbrev after : Rows → List Holder
+  after rows = holders_in c (filter (λ r. nat_lt a r.0.account) rows)
+
+  -- the account as a holder, by what stands at its place
+  abbrev one : Holding → Option Holder
+  one h = cond (nat_lt corporation a && not (int_eq h.now (pos 0))) (Some (record { account = a; shares = h.now })) None
+
+  -- an account at whose place nothing stands is none
+  none_here : one zeros ≡ None
+  none_here = ap (λ b. cond b (Some (record { account = a; shares = pos 0 })) None) (and_false (nat_lt corporation a))
+
+  -- one row more among holders
+  more : (x : Key × Holding) (xs ys : Rows) → holders_in c xs ≡ holders_in c ys → holders_in c (x ∷ xs) ≡ holders_in c (x ∷ ys)
+  more x xs ys e = by (is_holder c x)
+    where
+      by : (b : Bool) → map holder_of (cond b (x ∷ filter (is_holder c) xs) (filter (is_holder c) xs)) ≡ map holder_of (cond b (x ∷ filter (is_holder c) ys) (filter (is_holder c) ys))
+      by true = ap (λ hs. holder_of x ∷ hs) e
+      by false = e
+
+  -- the row at the place is that of the holder
+  at_place : (h : Holding) (xs : Rows) (hs : List Holder) → holders_in c xs ≡ hs → holders_in c ((place, h) ∷ xs) ≡ cons_option (one h) hs
+  at_place h xs hs e = ap (λ b. map holder_of (cond b ((place, h) ∷ filter (is_holder c) xs) (filter (is_holder c) xs))) test ∙ by (nat_lt corporation a && not (int_eq h.now (pos 0)))
+    where
+      test : is_holder c (place, h) ≡ (nat_lt corporation a && not (int_eq h.now (pos 0)))
+      test = by (nat_lt corporation a)
+        where
+          by : (b : Bool) → (b && same_issue c c && not (int_eq h.now (pos 0))) ≡ (b && not (int_eq h.now (pos 0)))
+          by true = ap (λ s. s && not (int_eq h.now (pos 0))) (bytes_refl c)
+          by false = refl
+
+      by : (b : Bool) → map holder_of (cond b ((place, h) ∷ filter (is_holder c) xs) (filter (is_holder c) xs)) ≡ cons_option (cond b (Some (record { account = a; shares = h.now })) None) hs
+      by true = ap (λ gs. record { account = a; shares = h.now } ∷ gs) e
+      by false = e
+
+  -- a row in another issue is no holder's
+  elsewhere : (x : Key × Holding) (xs : Rows) → same_issue x.0.issue c ≡ false → holders_in c (x ∷ xs) ≡ holders_in c xs
+  elsewhere x xs e = ap (λ b. map holder_of (cond b (x ∷ filter (is_holder c) xs) (filter (is_holder c) xs))) other
+    where
+      other : is_holder c x ≡ false
+      other =
+          ap (λ s. nat_lt corporation x.0.account && s && not (int_eq x.1.now (pos 0))) e
+          ∙ ap (λ b. b && not (int_eq x.1.now (pos 0))) (and_false (nat_lt corporation x.0.account))
+
+  -- what stands at the place is past a row in another issue
+  past_row : (x : Key × Holding) (rows : Rows) → same_issue x.0.issue c ≡ false → holding_at (x ∷ rows) place ≡ holding_at rows place
+  past_row x rows e = by (is_eq (key_cmp place x.0)) refl
+    where
+      by : (b : Bool) → is_eq (key_cmp place x.0) ≡ b → holding_at (x ∷ rows) place ≡ holding_at rows place
+      by true f =
+          let same : c ≡ x.0.issue = ap (λ (k : Key). k.issue) (exact_keys place x.0 (equal _ f)) in
+          absurd (apart (sym e ∙ ap (λ i. same_issue i c) (sym same) ∙ bytes_refl c))
+      by false f = ap (λ b. unwrap_or (cond b (Some x.1) (find key_cmp place rows)) zeros) f
+
+  -- rows of which none that is left is of an earlier account: the account itself, and those of later ones
+  split : (rows : Rows) → is_sorted key_cmp rows ≡ true → AllByRecursion (λ x. left x.0 ≡ true → a ≤ x.0.account) rows → holders_in c (filter (λ r. left r.0) rows) ≡ cons_option (one (holding_at rows place)) (after rows)
+  split [] s g = sym (ap (λ o. cons_option o []) none_here)
+  split (x ∷ rows) s g = by (left x.0) (nat_lt a x.0.account) refl refl (split rows (and_right _ _ s) g.1)
+    where
+      below : below_all key_cmp x.0 rows ≡ true
+      below = and_left _ _ s
+
+      -- where the place is below the other rows, none of them is the account's
+      others : below_all key_cmp place rows ≡ true → holders_in c (filter (λ r. left r.0) rows) ≡ cons_option (one (holding_at rows place)) (after rows) → holders_in c (filter (λ r. left r.0) rows) ≡ after rows
+      others b ih = ih ∙ ap (λ h. cons_option (one h) (after rows)) (nothing_below place rows b) ∙ ap (λ o. cons_option o (after rows)) none_here
+
+      -- a row of the account
+      of_account : (t : Bool) → same_issue x.0.issue c ≡ t → x.0.account ≡ a → holders_in c (filter (λ r. left r.0) rows) ≡ cons_option (one (holding_at rows place)) (after rows) → holders_in c (x ∷ filter (λ r. left r.0) rows) ≡ cons_option (one (holding_at (x ∷ rows) place)) (after rows)
+      of_account true e same ih =
+          let is : x.0 ≡ place = λ i. record { account = same i; issue = (bytes_eq-Decides x.0.issue c).0 e i } in
+          let rest = others (ap (λ (k : Key). below_all key_cmp k rows) (sym is) ∙ below) ih in
+          ap (λ (k : Key). holders_in c ((k, x.1) ∷ filter (λ r. left r.0) rows)) is
+          ∙ at_place x.1 (filter (λ r. left r.0) rows) (after rows) rest
+          ∙ ap (λ h. cons_option (one h) (after rows)) (sym (ap (holding_at (x ∷ rows)) (sym is) ∙ first_row x rows))
+      of_account false e same ih =
+          elsewhere x (filter (λ r. left r.0) rows) e ∙ ih ∙ ap (λ h. cons_option (one h) (after rows)) (sym (past_row x rows e))
+
+      by : (l d : Bool) → left x.0 ≡ l → nat_lt a x.0.account ≡ d → holders_in c (filter (λ r. left r.0) rows) ≡ cons_option (one (holding_at rows place)) (after rows)
+          → holders_in c (cond l (x ∷ filter (λ r. left r.0) rows) (filter (λ r. left r.0) rows)) ≡ cons_option (one (holding_at (x ∷ rows) place)) (holders_in c (cond d (x ∷ filter (λ r. nat_lt a r.0.account) rows) (filter (λ r. nat_lt a r.0.account) rows)))
+      by true true e f ih =
+          let l : key_cmp place x.0 ≡ Less = account_before place x.0 f in
+          let under : below_all key_cmp place rows ≡ true = below_later place x.0 rows l below in
+          let none : holding_at (x ∷ rows) place ≡ zeros = nothing_below place (x ∷ rows) (both_true _ _ (ap is_lt l) under) in
+          more x (filter (λ r. left r.0) rows) (filter (λ r. nat_lt a r.0.account) rows) (others under ih)
+          ∙ sym (ap (λ h. cons_option (one h) (holders_in c (x ∷ filter (λ r. nat_lt a r.0.account) rows))) none ∙ ap (λ o. cons_option o (holders_in c (x ∷ filter (λ r. nat_lt a r.0.account) rows))) none_here)
+      by true false e f ih = of_account (same_issue x.0.issue c) refl (same_number x.0.account a (g.0 e) f) ih
+      by false true e f ih = absurd (apart (sym e ∙ later x.0 (is_above_it a x.0.account f)))
+      by false false e f ih =
+          let other : x.0.account ≡ a → ⊥ = λ same. apart (sym e ∙ alike x.0 place same ∙ own) in
+          ih ∙ ap (λ h. cons_option (one h) (after rows)) (passed_row x rows place (account_before x.0 place (below_number x.0.account a f other)))
+
+-- ---- the next account of a walk
+
+-- the first that passes a test passes it
+first_passes : {X : Type 0} (t : X → Bool) (xs ys : List X) (x : X) → filter t xs ≡ x ∷ ys → t x ≡ true
+first_passes t [] ys x e = cc
+first_passes t (y ∷ xs) ys x e = by (t y) refl (first_passes t xs ys x) e
+  where
+    by : (b : Bool) → t y ≡ b → (filter t xs ≡ x ∷ ys → t x ≡ true) → cond b (y ∷ filter t xs) (filter t xs) ≡ x ∷ ys → t x ≡ true
+    by true f rest e = let same : y ≡ x = cc in ap t (sym same) ∙ f
+    by false f rest e = rest e
+
+module _ (R : Rows) (order : is_sorted key_cmp R ≡ true) (c : Cusip) (passed : Option Key) where
+  -- all rows that aren't zeros
+  abbrev all : Rows
+  all = held_above R None
+
+  -- a row that is not above what is passed is not left
+  not_left : (x : Key × Holding) → (is_above passed x.0 ≡ true → ⊥) → is_left passed x.0 ≡ false
+  not_left x under = by (is_left passed x.0) refl
+    where
+      by : (b : Bool) → is_left passed x.0 ≡ b → b ≡ false
+      by true e = absurd (under (left_above passed x.0 e))
+      by false e = refl
+
+  -- where no row is above what is passed, no holder is left
+  pub none_left : held_above R passed ≡ [] → holders_after R c passed ≡ []
+  none_left e =
+      let none = passing (λ (x : Key × Holding). ⊥) (λ r. is_above passed r.0) all (subst (AllByRecursion (λ (x : Key × Holding). ⊥)) (sym e ∙ above_held passed R) tt) in
+      ap (holders_in c) (none_pass (λ (r : Key × Holding). is_left passed r.0) all (each_weaker (λ (x : Key × Holding). is_above passed x.0 ≡ true → ⊥) (λ x. is_left passed x.0 ≡ false) all not_left none))
+
+  module _ (r : Key × Holding) (rest : Rows) (next : held_above R passed ≡ r ∷ rest) (q : Key) (same : q.account ≡ r.0.account) where
+    -- the row is above what is passed
+    row_above : is_above passed r.0 ≡ true
+    row_above = first_passes (λ (x : Key × Holding). is_above passed x.0) all rest r (sym (above_held passed R) ∙ next)
+
+    -- a row of the account that was passed last changes nothing
+    pub same_left : is_of_next passed r.0 ≡ false → holders_after R c passed ≡ holders_after R c (Some q)
+    same_left h = by passed h
+      where
+        by : (p : Option Key) → is_of_next p r.0 ≡ false → holders_after R c p ≡ holders_after R c (Some q)
+        by None h = cc
+        by (Some p) h =
+            let own : p.account ≡ q.account = eqb-true p.account r.0.account (holds _ h) ∙ sym same in
+            ap (λ n. holders_in c (filter (λ (x : Key × Holding). nat_lt n x.0.account) all)) own
+
+    -- accounts from that of the row on are left
+    from_row : is_of_next passed r.0 ≡ true → (k : Key) → r.0.account ≤ k.account → is_left passed k ≡ true
+    from_row h k le = by passed h row_above
+      where
+        by : (p : Option Key) → is_of_next p r.0 ≡ true → is_above p r.0 ≡ true → is_left p k ≡ true
+        by None h up = refl
+        by (Some p) h up = below_it p.account r.0.account k.account h (account_le p r.0 up) le
+          where
+            below_it : (m n o : ℕ) → not (m == n) ≡ true → m ≤ n → n ≤ o → nat_lt m o ≡ true
+            below_it m n o h le low = grind (arith, nat_tests)
+
+    -- whether an account is left is a matter of its number
+    alike_left : (k l : Key) → k.account ≡ l.account → is_left passed k ≡ is_left passed l
+    alike_left k l e = by passed
+      where
+        by : (p : Option Key) → is_left p k ≡ is_left p l
+        by None = refl
+        by (Some p) = ap (nat_lt p.account) e
+
+    -- no account that is left comes before that of the row
+    pub next_left : is_of_next passed r.0 ≡ true → holders_after R c passed ≡ cons_option (holder_at R r.0.account c) (holders_after R c (Some q))
+    next_left h =
+        let a = r.0.account in
+        let above : filter (λ (x : Key × Holding). is_above passed x.0) all ≡ r ∷ rest = sym (above_held passed R) ∙ next in
+        let sorted : is_sorted key_cmp (r ∷ rest) ≡ true = ap (is_sorted key_cmp) (sym above) ∙ some_sorted (λ (x : Key × Holding). is_above passed x.0) all (held_sorted R order) in
+        let low : AllByRecursion (λ x. a ≤ x.0.account) (r ∷ rest) = (omega arith, from_first r rest (and_left _ _ sorted)) in
+        let gap = passing (λ (x : Key × Holding). a ≤ x.0.account) (λ x. is_above passed x.0) all (subst (AllByRecursion (λ (x : Key × Holding). a ≤ x.0.account)) (sym above) low) in
+        split c a (is_left passed) (λ k lt. from_row h k (omega arith)) alike_left (from_row h (record { account = a; issue = c }) (omega arith)) all (held_sorted R order)
+        (each_weaker (λ (x : Key × Holding). is_above passed x.0 ≡ true → a ≤ x.0.account) (λ x. is_left passed x.0 ≡ true → a ≤ x.0.account) all (λ x p e. p (left_above passed x.0 e)) gap)
+        ∙ ap (λ (s : Holding). cons_option (one c a (is_left passed) (λ k lt. from_row h k (omega arith)) alike_left (from_row h (record { account = a; issue = c }) (omega arith)) s) (holders_in c (filter (λ (x : Key × Holding). nat_lt a x.0.account) all))) (held_same R (record { account = a; issue = c }) order)
+        ∙ ap (λ n. cons_option (holder_at R a c) (holders_in c (filter (λ (x : Key × Holding). nat_lt n x.0.account) all))) (sym same)
+
+  -- fewer rows are above a key that is not before one of them
+  pub fewer_above : (r : Key × Holding) (q : Key) → held_above R passed ≡ r ∷ held_above R (Some r.0) → is_lt (key_cmp q r.0) ≡ false → length (held_above R (Some q)) < length (held_above R passed)
+  fewer_above r q e h =
+      let few = fewer_pass (λ (x : Key × Holding). is_lt (key_cmp q x.0) && is_held x.1) (λ x. is_lt (key_cmp r.0 x.0) && is_held x.1) R (λ x p. both_true _ _ (onward (key_cmp q r.0) refl h x.0 (and_left _ _ p)) (and_right _ _ p)) in
+      rw e (omega (arith, few))
+    where
+      onward : (o : Ordering) → key_cmp q r.0 ≡ o → is_lt o ≡ false → (k : Key) → is_lt (key_cmp q k) ≡ true → is_lt (key_cmp r.0 k) ≡ true
+      onward Less f h k l = cc
+      onward Equal f h k l = ap (λ (p : Key). is_lt (key_cmp p k)) (sym (exact_keys q r.0 f)) ∙ l
+      onward Greater f h k l = ap is_lt (keys_total.trans r.0 q k (keys_total.antisymm r.0 q ∙ ap ordering_reverse f) (less _ l))

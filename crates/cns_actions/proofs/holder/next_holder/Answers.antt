@@ -1,0 +1,42 @@
+use Rattle.std.proofs.Common.{◌∙◌, Some, ap, sym}
+use Rattle.std.specs.List.{cons_option}
+use Rattle.cns_terms.specs.declared.holding.Holding.{Holding}
+use Rattle.cns_terms.specs.declared.holding.Key.{Key}
+use Rattle.cns_positions.specs.Rows.{Rows}
+use Rattle.cns_actions.specs.Holding.{holders_after}
+use Rattle.cns_actions.proofs.Skipping.{fewer_above, next_left, none_left, same_left}
+use Rattle.cns_actions.proofs.holder.next_holder.Goals as goal
+
+pub returns-in-Some-holder_at-clause-next : goal.returns-in-Some-holder_at-clause-next
+returns-in-Some-holder_at-clause-next g c =
+    let R : Rows = g.P.Positions.rows c.args.positions.now in
+    let r : Key × Holding = (c.in-Some.row, c.in-Some.field-0-1) in
+    c.loop-row.invariant
+    ∙ next_left R c.requires c.args.issue.now c.loop-row.passed r _ c.in-Some.ensures c.past.result c.past.ensures.account (sym c.if-is_new.ensures)
+    ∙ ap (λ o. cons_option o (holders_after R c.args.issue.now (Some c.past.result))) (sym c.in-Some-holder_at.ensures.holder)
+
+pub loop-row-smaller-in_default-holder_at : goal.loop-row-smaller-in_default-holder_at
+loop-row-smaller-in_default-holder_at g c =
+    fewer_above (g.P.Positions.rows c.args.positions.now) c.requires c.args.issue.now c.loop-row.passed (c.in-Some.row, c.in-Some.field-0-1) c.past.result c.in-Some.ensures c.past.ensures.order
+
+pub loop-row-preserved-in_default-holder_at : goal.loop-row-preserved-in_default-holder_at
+loop-row-preserved-in_default-holder_at g c =
+    let R : Rows = g.P.Positions.rows c.args.positions.now in
+    let r : Key × Holding = (c.in-Some.row, c.in-Some.field-0-1) in
+    c.loop-row.invariant
+    ∙ next_left R c.requires c.args.issue.now c.loop-row.passed r _ c.in-Some.ensures c.past.result c.past.ensures.account (sym c.if-is_new.ensures)
+    ∙ ap (λ o. cons_option o (holders_after R c.args.issue.now (Some c.past.result))) (sym c.in_default-holder_at.ensures.holder)
+
+pub loop-row-smaller : goal.loop-row-smaller
+loop-row-smaller g c =
+    fewer_above (g.P.Positions.rows c.args.positions.now) c.requires c.args.issue.now c.loop-row.passed (c.in-Some.row, c.in-Some.field-0-1) c.past.result c.in-Some.ensures c.past.ensures.order
+
+pub loop-row-preserved : goal.loop-row-preserved
+loop-row-preserved g c =
+    let R : Rows = g.P.Positions.rows c.args.positions.now in
+    let r : Key × Holding = (c.in-Some.row, c.in-Some.field-0-1) in
+    c.loop-row.invariant ∙ same_left R c.requires c.args.issue.now c.loop-row.passed r _ c.in-Some.ensures c.past.result c.past.ensures.account (sym c.if-is_new.ensures)
+
+pub returns-clause-next : goal.returns-clause-next
+returns-clause-next g c =
+    c.loop-row.invariant ∙ none_left (g.P.Positions.rows c.args.positions.now) c.requires c.args.issue.now c.loop-row.passed c.in_default.ensures

@@ -1,0 +1,6 @@
+use Rattle.cns_terms.proofs.Finds.{not_itself}
+use Rattle.cns_terms.proofs.Keys.{keys_total}
+use Rattle.cns_actions.proofs.holder.past.Goals as goal
+
+pub returns-then-lt-clause-order : goal.returns-then-lt-clause-order
+returns-then-lt-clause-order c = not_itself keys_total c.args.row.now

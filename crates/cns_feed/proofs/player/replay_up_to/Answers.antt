@@ -1,0 +1,14 @@
+use Rattle.std.proofs.lemmas.Result.{err_from_is_err_and}
+use Rattle.cns_feed.proofs.PlayLemmas.{counts-known, stops-known, stops-unread}
+use Rattle.cns_feed.proofs.player.replay_up_to.Goals as goal
+
+pub returns-in_err-book-clause-fault : goal.returns-in_err-book-clause-fault
+returns-in_err-book-clause-fault g c =
+    let p = err_from_is_err_and c.from_residual.result c.from_residual.ensures.1 in
+    rw (p.1, p.2, c.in_err-book.ensures.err) (stops-unread _ _ (g.R.Read.remaining c.args.reader))
+
+pub returns-clause-counts : goal.returns-clause-counts
+returns-clause-counts g c = counts-known g.R.Read.remaining c.new.result _ (g.R.Read.remaining c.args.reader) _ c.new.ensures.pending (rw c.in_ok-book.ensures.book at c.play.ensures.counts)
+
+pub returns-clause-fault : goal.returns-clause-fault
+returns-clause-fault g c = stops-known g.R.Read.remaining c.new.result _ _ _ (g.R.Read.remaining c.args.reader) _ _ c.new.ensures.pending (rw c.in_ok-book.ensures.book at c.play.ensures.fault)

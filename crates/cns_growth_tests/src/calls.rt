@@ -1,0 +1,48 @@
+// Each call below the book that takes memory, with each of its growths refused in turn.
+use crate::batches::{Choose, Fill};
+use crate::maps::{Prepare, Rebuilt};
+use crate::opening::Opening;
+use crate::parts::{Declare, List, NoteReference, Open};
+use crate::refusing::{Handle, Refusing, most_growths};
+use crate::statements::Cut;
+use crate::trees::{Copied, FromSorted, Spare};
+use cns_positions::{FlatPositions, TreePositions};
+use cns_rationed::Rationed;
+use std::alloc::Global;
+use std::process::Abort;
+
+// The number beside a call is the least that its growths can be where its arguments have 24 items: its boxes, or one block.
+fn refuse_each<'a, H: Handle<'a>>(rt: &impl Abort, global: Global, rationed: Refusing<'a>) {
+    assert!(rt; most_growths::<H, Spare<H>>(rt, global, rationed) >= 4);
+    assert!(rt; most_growths::<H, Copied<H>>(rt, global, rationed) >= 24);
+    assert!(rt; most_growths::<H, FromSorted<H>>(rt, global, rationed) >= 24);
+    assert!(rt; most_growths::<H, Prepare<TreePositions<H>>>(rt, global, rationed) >= 4);
+    assert!(rt; most_growths::<H, Prepare<FlatPositions<H>>>(rt, global, rationed) >= 1);
+    assert!(rt; most_growths::<H, Rebuilt<TreePositions<H>>>(rt, global, rationed) >= 24);
+    assert!(rt; most_growths::<H, Rebuilt<FlatPositions<H>>>(rt, global, rationed) >= 1);
+    assert!(rt; most_growths::<H, List<H>>(rt, global, rationed) >= 1);
+    assert!(rt; most_growths::<H, NoteReference<H>>(rt, global, rationed) >= 1);
+    assert!(rt; most_growths::<H, Declare<H>>(rt, global, rationed) >= 1);
+    assert!(rt; most_growths::<H, Open<H>>(rt, global, rationed) >= 2);
+    assert!(rt; most_growths::<H, Choose<H>>(rt, global, rationed) >= 2);
+    assert!(rt; most_growths::<H, Fill<H>>(rt, global, rationed) >= 1);
+    assert!(rt; most_growths::<H, Cut<H>>(rt, global, rationed) >= 1);
+}
+
+#[test]
+fn each_growth_of_each_call_below_the_book_is_refused_in_turn(rt: HostRuntime) {
+    let rationed = Rationed::new(rt.alloc());
+    refuse_each::<Refusing>(&rt, rt.alloc(), &rationed);
+}
+
+#[test]
+fn each_copy_of_the_allocator_below_the_book_is_refused_in_turn(rt: HostRuntime) {
+    let rationed = Rationed::new(rt.alloc());
+    refuse_each::<Rationed<Refusing>>(&rt, rt.alloc(), &rationed);
+    let copies = most_growths::<Rationed<Refusing>, Opening<Rationed<Refusing>>>(
+        &rt,
+        rt.alloc(),
+        &rationed,
+    );
+    assert!(rt; copies >= 2);
+}

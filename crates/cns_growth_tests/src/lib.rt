@@ -1,0 +1,32 @@
+//! Tests in which each growth of a call is refused in turn.
+//!
+//! `Rationed` of `cns_rationed` grants a call so many growths, refuses the next, and grants all after it. A call answers
+//! `NoMemory` exactly where one was refused. Its arguments are then as before, its blocks are given back, and the same call
+//! once more does what it would have done at once. This catches a call that swallows a refusal as well as one that gives up
+//! without any. `refusing.rt` has the loop; there is a file for the tree, one for positions, one for the other calls below
+//! the book, and `book.rt` for the fifteen commands. Calls over the global allocator are driven by `tests/refused.sh`, which
+//! refuses the growths of the built program.
+#![tactic(auto)]
+
+#[cfg(test)]
+mod batches;
+#[cfg(test)]
+mod book;
+#[cfg(test)]
+mod bytes;
+#[cfg(test)]
+mod calls;
+#[cfg(test)]
+mod maps;
+#[cfg(test)]
+mod opening;
+#[cfg(test)]
+mod parts;
+#[cfg(test)]
+mod refusing;
+#[cfg(test)]
+mod statements;
+#[cfg(test)]
+mod trees;
+#[cfg(test)]
+mod units;

@@ -1,0 +1,8 @@
+use Rattle.std.proofs.Common.{◌≡◌, ℕ, List, ◌++◌, drop}
+use Rattle.std.specs.Io.KnownBytes.{Appends}
+use Rattle.cns_units.specs.Words.{words_text}
+use Rattle.cns_units.proofs.words.write_words.Given as goal
+
+abbrev pub invariant-loop-word : goal.invariant-loop-word
+invariant-loop-word g l = (done : List ℕ) × (words_text l.words ≡ done ++ words_text (drop l.word-index l.words))
+    × Appends (g.W.Write.contents l.fn.writer) (g.W.Write.contents l.writer) done
