@@ -42,6 +42,31 @@ impl Watch {
     }
 }
 
+// Interrupts each second call, the first one too, or none.
+#[derive(Clone, Copy)]
+pub(crate) struct Signals {
+    is_due: bool,
+    goes_on: bool,
+}
+
+impl Signals {
+    pub(crate) fn new(interrupts: bool) -> Signals {
+        Signals {
+            is_due: interrupts,
+            goes_on: interrupts,
+        }
+    }
+
+    fn call(&mut self) -> io::Result<()> {
+        let is_due = self.is_due;
+        self.is_due = self.goes_on && !is_due;
+        if is_due {
+            return Err(Error::from(ErrorKind::Interrupted));
+        }
+        Ok(())
+    }
+}
+
 fn count(calls: &Cell<usize>) {
     calls.set(calls.get().saturating_add(1));
 }
@@ -63,8 +88,9 @@ pub(crate) struct Source<'a> {
     next: usize,
     due: usize,
     watch: &'a Watch,
-    // What it fails with.
+    // What it fails with, and what interrupts it.
     pub(crate) kind: ErrorKind,
+    pub(crate) signals: Signals,
 }
 
 impl<'a> Source<'a> {
@@ -83,6 +109,7 @@ impl<'a> Source<'a> {
             due: 0,
             watch,
             kind: ErrorKind::Other,
+            signals: Signals::new(false),
         }
     }
 }
@@ -90,6 +117,7 @@ impl<'a> Source<'a> {
 impl Read for Source<'_> {
     fn read(&mut self, buf: &mut [u8]) -> io::Result<usize> {
         self.watch.call();
+        self.signals.call()?;
         count(&self.watch.reads);
         if self.watch.flushed.get() < self.due {
             self.watch.is_late.set(true);
@@ -122,11 +150,13 @@ pub(crate) struct Sink<'a> {
     pub(crate) fails: bool,
     pub(crate) flushes: usize,
     pub(crate) watch: &'a Watch,
+    pub(crate) signals: Signals,
 }
 
 impl Write for Sink<'_> {
     fn write(&mut self, buf: &[u8]) -> io::Result<usize> {
         self.watch.call();
+        self.signals.call()?;
         let count = buf.len().min(self.room).min(self.step);
         if count == 0 && !buf.is_empty() {
             let error = self.watch.fail(ErrorKind::Other);

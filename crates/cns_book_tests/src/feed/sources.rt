@@ -1,6 +1,6 @@
 // What a source over a reader's records gives, one item after another.
 use super::day;
-use super::ends::{Cut, Source as Blocks, Watch};
+use super::ends::{Cut, Signals, Source as Blocks, Watch};
 use cns_feed::{CsvSource, ReplayFault, load, replay};
 use cns_terms::{Activity, Command, Item, Source, SourceFault};
 use cns_units::Member;
@@ -72,17 +72,33 @@ const REPLIES: [&str; 5] = [
     "ok\nok\nline Number\nok\n",
 ];
 
-// What a reader that gave so many of these bytes fails with.
-const KINDS: [ErrorKind; 3] = [
-    ErrorKind::Other,
-    ErrorKind::Interrupted,
-    ErrorKind::UnexpectedEof,
+// What a reader fails with, and whether its calls are interrupted before.
+#[derive(Clone, Copy)]
+struct Failing {
+    kind: ErrorKind,
+    is_interrupted: bool,
+}
+
+const FAILING: [Failing; 3] = [
+    Failing {
+        kind: ErrorKind::Other,
+        is_interrupted: false,
+    },
+    Failing {
+        kind: ErrorKind::Other,
+        is_interrupted: true,
+    },
+    Failing {
+        kind: ErrorKind::UnexpectedEof,
+        is_interrupted: false,
+    },
 ];
 
 // A reader that gives these blocks of the records, and then fails.
-fn failing<'a>(cuts: &'a [Cut], kind: ErrorKind, watch: &'a Watch) -> Blocks<'a> {
+fn reader<'a>(cuts: &'a [Cut], failing: Failing, watch: &'a Watch) -> Blocks<'a> {
     let mut reader = Blocks::new(SHORT, cuts, true, watch);
-    reader.kind = kind;
+    reader.kind = failing.kind;
+    reader.signals = Signals::new(failing.is_interrupted);
     reader
 }
 
@@ -99,26 +115,26 @@ fn cuts_of(alloc: Global, end: usize, size: usize) -> Result<Vec<Cut>, Fail> {
 }
 
 // Whether a replay ends with `Read` where its reader does, has answered the whole records, and calls it no more.
-fn replay_fails(alloc: Global, cuts: &[Cut], kind: ErrorKind, text: &str) -> Result<bool, Fail> {
+fn replay_fails(alloc: Global, cuts: &[Cut], failing: Failing, text: &str) -> Result<bool, Fail> {
     let watch = Watch::new();
     let mut output = Vec::new(alloc);
-    let reader = failing(cuts, kind, &watch);
+    let reader = reader(cuts, failing, &watch);
     let fault = replay(alloc, reader, &mut output, day("2024-06-03")?).err();
     let is_told = fault == Some(ReplayFault::Read) && output.as_slice() == text.as_bytes();
     Ok(is_told && !watch.is_called_after.get())
 }
 
 // The same of a load.
-fn load_fails(alloc: Global, cuts: &[Cut], kind: ErrorKind) -> Result<bool, Fail> {
+fn load_fails(alloc: Global, cuts: &[Cut], failing: Failing) -> Result<bool, Fail> {
     let watch = Watch::new();
-    let fault = load(alloc, failing(cuts, kind, &watch), day("2024-06-03")?).err();
+    let fault = load(alloc, reader(cuts, failing, &watch), day("2024-06-03")?).err();
     Ok(fault == Some(ReplayFault::Read) && !watch.is_called_after.get())
 }
 
 // The same of a source, which gives an item for each whole record and then the fault, again and again.
-fn source_fails(alloc: Global, cuts: &[Cut], kind: ErrorKind, whole: usize) -> bool {
+fn source_fails(alloc: Global, cuts: &[Cut], failing: Failing, whole: usize) -> bool {
     let watch = Watch::new();
-    let mut source = CsvSource::new(alloc, failing(cuts, kind, &watch));
+    let mut source = CsvSource::new(alloc, reader(cuts, failing, &watch));
     for _item in 0..whole {
         if source.next().is_err() {
             return false;
@@ -136,10 +152,16 @@ fn a_reader_that_fails_after_any_byte_is_told_and_called_last(rt: HostRuntime) -
         let text = REPLIES.get(whole).copied().unwrap_or("");
         for size in [1, 3, 44] {
             let cuts = cuts_of(alloc, end, size)?;
-            for kind in KINDS {
-                assert!(rt; replay_fails(alloc, cuts.as_slice(), kind, text)?, "{end}");
-                assert!(rt; load_fails(alloc, cuts.as_slice(), kind)?, "{end}");
-                assert!(rt; source_fails(alloc, cuts.as_slice(), kind, whole), "{end}");
+            for failing in FAILING {
+                assert!(rt;
+                    replay_fails(alloc, cuts.as_slice(), failing, text)?,
+                    "{end}"
+                );
+                assert!(rt; load_fails(alloc, cuts.as_slice(), failing)?, "{end}");
+                assert!(rt;
+                    source_fails(alloc, cuts.as_slice(), failing, whole),
+                    "{end}"
+                );
             }
         }
     }

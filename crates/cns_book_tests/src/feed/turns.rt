@@ -1,17 +1,19 @@
 // When the two ends of a replay are called: replies before the next records, and nothing after a failure.
-use super::ends::{Cut, Sink, Source, Watch};
+use super::ends::{Cut, Signals, Sink, Source, Watch};
 use super::{POSITION_INPUT, POSITION_OUTPUT, day};
 use cns_feed::{ReplayFault, replay};
 use std::alloc::Global;
 use std::test::Fail;
 
-// How many bytes a writer takes a call and in all, whether a call without room is an error, and how often it can be flushed.
+// How many bytes a writer takes a call and in all, whether a call without room is an error, how often it can be flushed,
+// and whether each second call of the reader and of the writer is interrupted.
 #[derive(Clone, Copy)]
 struct Limits {
     step: usize,
     room: usize,
     fails: bool,
     flushes: usize,
+    is_interrupted: bool,
 }
 
 const NONE: Limits = Limits {
@@ -19,6 +21,7 @@ const NONE: Limits = Limits {
     room: usize::MAX,
     fails: true,
     flushes: usize::MAX,
+    is_interrupted: false,
 };
 
 // What a replay came to, and what the two ends saw of each other.
@@ -65,8 +68,10 @@ fn play(
         fails: limits.fails,
         flushes: limits.flushes,
         watch: &watch,
+        signals: Signals::new(limits.is_interrupted),
     };
-    let source = Source::new(input, cuts, fails, &watch);
+    let mut source = Source::new(input, cuts, fails, &watch);
+    source.signals = Signals::new(limits.is_interrupted);
     let fault = replay(alloc, source, &mut output, day("2024-06-03")?).err();
     Ok(Played {
         fault,
@@ -300,13 +305,19 @@ fn a_reader_that_fails_inside_of_a_record_is_called_last(rt: HostRuntime) -> Res
 }
 
 #[test]
-fn small_writes_give_the_same_text(rt: HostRuntime) -> Result<(), Fail> {
+fn small_writes_and_interrupted_calls_give_the_same_text(rt: HostRuntime) -> Result<(), Fail> {
     let input = POSITION_INPUT.as_bytes();
     let cuts = whole(input, POSITION_OUTPUT.len());
     for step in 1..4 {
-        let limits = Limits { step, ..NONE };
-        let played = play(rt.alloc(), input, &cuts, false, limits)?;
-        assert!(rt; played.is(None, POSITION_OUTPUT.as_bytes()), "{step}");
+        for is_interrupted in [false, true] {
+            let limits = Limits {
+                step,
+                is_interrupted,
+                ..NONE
+            };
+            let played = play(rt.alloc(), input, &cuts, false, limits)?;
+            assert!(rt; played.is(None, POSITION_OUTPUT.as_bytes()), "{step}");
+        }
     }
     Ok(())
 }
