@@ -1,122 +1,133 @@
 // What only a book's own calls show: its limit, each worker's numbers, the calls that read it, and want of memory. What each
 // command is answered is shown by the cases of cns_cases.
 mod buy_ins;
-mod commands;
+mod heap;
 mod reading;
-mod starved;
 
-use cns_book::{Book, TakeFault};
+use crate::script::{FIRST, command, commands, day, tell};
+use cns_book::{Book, Receipt, TakeFault};
 use cns_positions::TreePositions;
-use cns_terms::{Command, Refusal, Reply, Worker};
-use commands::{date, listing, member, trade};
+use cns_terms::{Activity, Command, Reply, Trade, Worker};
 use std::alloc::{Allocator, Global};
-use std::process::Abort;
+use std::test::Fail;
 
 type TreeBook<A> = Book<TreePositions<A>, A>;
 
-const ACCEPTED: Reply = Reply::Accepted;
+// Two members, and an issue.
+const MEMBERS: &str = "MEMBER,1\nMEMBER,2\nISSUE,037833100,19500\n";
 
-const TAKEN_BEFORE: Reply = Reply::Refused(Refusal::MemberExists);
-
-// A book that opens on 3 June 2024.
-fn opened<A: Allocator + Drop + Clone>(rt: &impl Abort, alloc: A) -> TreeBook<A> {
-    let Ok(book) = Book::new(alloc, date(rt, "2024-06-03")) else {
-        panic!(rt; "no book");
-    };
-    book
+fn opened<A: Allocator + Drop + Clone>(alloc: A) -> Result<TreeBook<A>, Fail> {
+    match Book::new(alloc, day(FIRST)?) {
+        Ok(book) => Ok(book),
+        Err(_) => Err(Fail::new("no book")),
+    }
 }
 
 // A book that takes so many commands.
-fn limited(rt: &impl Abort, alloc: Global, limit: u32) -> TreeBook<Global> {
-    let Ok(book) = Book::with_limit(alloc, date(rt, "2024-06-03"), limit) else {
-        panic!(rt; "no book");
-    };
-    book
+fn limited(alloc: Global, limit: u32) -> Result<TreeBook<Global>, Fail> {
+    match Book::with_limit(alloc, day(FIRST)?, limit) {
+        Ok(book) => Ok(book),
+        Err(_) => Err(Fail::new("no book")),
+    }
 }
 
-// Gives a book a command, which has to get its reply.
-fn ask<A: Allocator + Drop + Clone>(
-    rt: &impl Abort,
+// Gives a book a worker's command.
+fn take<A: Allocator + Drop + Clone>(
     book: &mut TreeBook<A>,
+    worker: Worker,
     command: Command,
-    expected: Reply,
-) {
-    let Ok(receipt) = book.take(Worker::FIRST, command) else {
-        panic!(rt; "not taken");
-    };
-    assert_eq!(rt; receipt.reply, expected);
+) -> Result<Receipt, Fail> {
+    match book.take(worker, command) {
+        Ok(receipt) => Ok(receipt),
+        Err(_) => Err(Fail::new("not taken")),
+    }
 }
 
-// Asks a full book for one thing more.
-fn assert_full(rt: &impl Abort, book: &mut TreeBook<Global>, entries: usize) {
-    let answer = book.take(Worker::FIRST, member(rt, 3));
-    assert!(rt; answer == Err(TakeFault::Full));
-    assert_eq!(rt; book.history_len(), entries);
+// Gives a book records, which have to get these replies.
+fn play<A: Allocator + Drop + Clone>(
+    alloc: Global,
+    book: &mut TreeBook<A>,
+    records: &'static str,
+    replies: &str,
+) -> Result<(), Fail> {
+    let mut text = Vec::new(alloc);
+    for command in commands(alloc, records)? {
+        let receipt = take(book, Worker::FIRST, command)?;
+        tell(&mut text, &receipt.reply)?;
+    }
+    if text.as_slice() != replies.as_bytes() {
+        return Err(Fail::new(records));
+    }
+    Ok(())
 }
 
-// Looks at a copy of the history.
-fn assert_copied(rt: &impl Abort, book: &TreeBook<Global>, entries: usize) {
-    let Ok(copy) = book.copy_history() else {
-        panic!(rt; "no copy");
-    };
-    assert_eq!(rt; copy.len(), entries);
+// The members and the issue.
+fn begin<A: Allocator + Drop + Clone>(alloc: Global, book: &mut TreeBook<A>) -> Result<(), Fail> {
+    play(alloc, book, MEMBERS, "ok\nok\nok\n")
 }
 
-#[test]
-fn a_book_at_its_limit_takes_nothing_more(rt: HostRuntime) {
-    let mut book = limited(&rt, rt.alloc(), 2);
-    ask(&rt, &mut book, member(&rt, 1), ACCEPTED);
-    ask(&rt, &mut book, member(&rt, 1), TAKEN_BEFORE);
-    assert_full(&rt, &mut book, 2);
-    assert_copied(&rt, &book, 2);
-}
-
-#[test]
-fn a_book_with_the_limit_zero_is_full_at_once(rt: HostRuntime) {
-    let mut book = limited(&rt, rt.alloc(), 0);
-    assert_full(&rt, &mut book, 0);
-}
-
-// Gives a book a worker's command, which has to stand at a place of the history, under one of the worker's numbers.
-fn enter(rt: &impl Abort, book: &mut TreeBook<Global>, worker: Worker, index: u32, seq: u32) {
-    let Ok(receipt) = book.take(worker, member(rt, 1)) else {
-        panic!(rt; "not taken");
-    };
-    assert_eq!(rt; receipt.index, index);
-    assert_eq!(rt; receipt.seq, seq);
+// Whether a book is full, and stays as it was.
+fn is_full(alloc: Global, book: &mut TreeBook<Global>) -> Result<bool, Fail> {
+    let entries = book.history_len();
+    let answer = book.take(Worker::FIRST, command(alloc, "MEMBER,3\n")?);
+    Ok(answer == Err(TakeFault::Full) && book.history_len() == entries)
 }
 
 #[test]
-fn each_worker_has_its_own_numbers(rt: HostRuntime) {
-    let Ok(second) = Worker::new(2) else {
-        panic!(&rt; "no worker");
-    };
-    let mut book = opened(&rt, rt.alloc());
-    enter(&rt, &mut book, Worker::FIRST, 1, 1);
-    enter(&rt, &mut book, second, 2, 1);
-    enter(&rt, &mut book, Worker::FIRST, 3, 2);
-    enter(&rt, &mut book, second, 4, 2);
-    assert_eq!(rt; book.count(second), 2);
+fn a_book_at_its_limit_takes_nothing_more(rt: HostRuntime) -> Result<(), Fail> {
+    let mut book = limited(rt.alloc(), 2)?;
+    play(
+        rt.alloc(),
+        &mut book,
+        "MEMBER,1\nMEMBER,1\n",
+        "ok\nrefused 1\n",
+    )?;
+    assert!(rt; is_full(rt.alloc(), &mut book)?);
+    assert_eq!(rt; book.copy_history()?.len(), 2);
+    Ok(())
 }
 
-// Members 1 and 2, and an issue.
-fn begin<A: Allocator + Drop + Clone>(rt: &impl Abort, book: &mut TreeBook<A>) {
-    ask(rt, book, member(rt, 1), ACCEPTED);
-    ask(rt, book, member(rt, 2), ACCEPTED);
-    ask(rt, book, listing(rt, 19_500), ACCEPTED);
+#[test]
+fn a_book_with_the_limit_zero_is_full_at_once(rt: HostRuntime) -> Result<(), Fail> {
+    let mut book = limited(rt.alloc(), 0)?;
+    assert!(rt; is_full(rt.alloc(), &mut book)?);
+    Ok(())
 }
 
-// Member 1 buys from member 2 one share after another, in so many trades.
-fn buy(rt: &impl Abort, book: &mut TreeBook<Global>, trades: u64) {
-    for reference in 1..=trades {
-        ask(rt, book, trade(rt, reference, 2, 1, 0), ACCEPTED);
+// Which of two workers gives a command, and the place and the number that it gets.
+const PLACES: [(u8, u32, u32); 4] = [(1, 1, 1), (2, 2, 1), (1, 3, 2), (2, 4, 2)];
+
+#[test]
+fn each_worker_has_its_own_numbers(rt: HostRuntime) -> Result<(), Fail> {
+    let mut book = opened(rt.alloc())?;
+    let joins = command(rt.alloc(), "MEMBER,1\n")?;
+    for (worker, index, seq) in &PLACES {
+        let receipt = take(&mut book, Worker::new(*worker)?, joins)?;
+        assert_eq!(rt; receipt.index, *index);
+        assert_eq!(rt; receipt.seq, *seq);
+    }
+    assert_eq!(rt; book.count(Worker::new(2)?), 2);
+    Ok(())
+}
+
+// The trade of a record.
+fn trade(alloc: Global, record: &str) -> Result<Trade, Fail> {
+    match command(alloc, record)? {
+        Command::Activity(Activity::Trade(trade)) => Ok(trade),
+        _ => Err(Fail::new("no trade")),
     }
 }
 
 #[test]
-fn many_commands_are_taken_where_there_is_memory(rt: HostRuntime) {
-    let mut book = opened(&rt, rt.alloc());
-    begin(&rt, &mut book);
-    buy(&rt, &mut book, 25_000);
+fn many_commands_are_taken_where_there_is_memory(rt: HostRuntime) -> Result<(), Fail> {
+    let mut book = opened(rt.alloc())?;
+    begin(rt.alloc(), &mut book)?;
+    let trade = trade(rt.alloc(), "TRADE,1,1,2,037833100,1,0,2024-06-03\n")?;
+    for reference in 1..=25_000 {
+        let next = Command::Activity(Activity::Trade(Trade { reference, ..trade }));
+        let receipt = take(&mut book, Worker::FIRST, next)?;
+        assert!(rt; receipt.reply == Reply::Accepted, "{reference}");
+    }
     assert_eq!(rt; book.history_len(), 25_003);
+    Ok(())
 }

@@ -12,7 +12,7 @@ mod desk;
 #[cfg(test)]
 mod feed;
 #[cfg(test)]
-mod handed_out;
+mod script;
 #[cfg(test)]
 mod sheets;
 #[cfg(test)]

@@ -1,139 +1,127 @@
 // What the calls that read a book tell of notices, and of the members that are liable for them.
-use super::commands::{
-    close, closed, execution, issue, member, notice, party, split, trade, withdrawal,
-};
-use super::{ACCEPTED, TreeBook, ask, begin, opened};
-use cns_terms::{Liable, Refusal, Reply, Stage};
+use super::{TreeBook, begin, opened, play, take};
+use crate::script::{APPLE, cusip};
+use cns_terms::{Activity, Command, Liable, Refusal, Reply, Stage, Worker};
 use std::alloc::{Allocator, Global};
-use std::process::Abort;
-
-pub(super) const NO_SUCH_NOTICE: Reply = Reply::Refused(Refusal::NoSuchNotice);
+use std::test::Fail;
 
 // Member 1 is long 110 shares, and members 2 and 3 are short 60 and 50.
-pub(super) fn sell_short<A: Allocator + Drop + Clone>(rt: &impl Abort, book: &mut TreeBook<A>) {
-    begin(rt, book);
-    ask(rt, book, member(rt, 3), ACCEPTED);
-    ask(rt, book, trade(rt, 1, 2, 60, 0), ACCEPTED);
-    ask(rt, book, trade(rt, 2, 3, 50, 0), ACCEPTED);
+const SHORT: &str = "MEMBER,3\nTRADE,1,1,2,037833100,60,0,2024-06-03\n\
+TRADE,2,1,3,037833100,50,0,2024-06-03\n";
+
+// The first day's notice, and two closes.
+const NOTICED: &str = "NOTICE,1,037833100,80\nCLOSE,2024-06-04\nCLOSE,2024-06-05\n";
+
+const NOTICED_REPLIES: &str = "notice 1\nclosed 1 2024-06-03 3 2\nclosed 2 2024-06-04 3 0\n";
+
+fn sell_short<A: Allocator + Drop + Clone>(
+    alloc: Global,
+    book: &mut TreeBook<A>,
+) -> Result<(), Fail> {
+    begin(alloc, book)?;
+    play(alloc, book, SHORT, "ok\nok\nok\n")
 }
 
-// Member 1 gives notice of 80 shares on the first day, and the third day is open.
-pub(super) fn give_notice<A: Allocator + Drop + Clone>(rt: &impl Abort, book: &mut TreeBook<A>) {
-    ask(rt, book, notice(rt, 1, 80), Reply::Noticed(1));
-    ask(
-        rt,
-        book,
-        close(rt, "2024-06-04"),
-        closed(rt, 1, "2024-06-03", 3, 2),
-    );
-    ask(
-        rt,
-        book,
-        close(rt, "2024-06-05"),
-        closed(rt, 2, "2024-06-04", 3, 0),
-    );
-}
-
-// Looks at how a notice stands, and at what remains of it.
-fn assert_stage(
-    rt: &impl Abort,
-    book: &TreeBook<Global>,
-    number: u32,
-    stage: Stage,
-    remaining: u64,
-) {
-    let Some(notice) = book.notice(number) else {
-        panic!(rt; "no notice");
-    };
-    assert!(rt; notice.stage == stage);
-    assert_eq!(rt; notice.remaining, remaining);
-}
-
-// Looks at the members that are liable for the notices of the first day: all that members 2 and 3 were short then, and what
-// is left of it.
-pub(super) fn assert_liable<A: Allocator + Drop + Clone>(
-    rt: &impl Abort,
-    book: &TreeBook<A>,
-    place: usize,
-    number: u16,
-    closing: u64,
-    left: u64,
-) {
-    let Some(batch) = book.batch(1, issue(rt)) else {
-        panic!(rt; "nobody is liable");
-    };
-    let expected = Liable {
-        member: party(rt, number),
-        age: 1,
-        closing,
-        left,
-    };
-    assert_eq!(rt; batch.members().len(), 2);
-    assert!(rt; batch.members().get(place).copied() == Some(expected));
+// Whether a notice stands so, and so much of it remains.
+fn stands(book: &TreeBook<Global>, number: u32, stage: Stage, remaining: u64) -> bool {
+    match book.notice(number) {
+        Some(notice) => notice.stage == stage && notice.remaining == remaining,
+        None => false,
+    }
 }
 
 #[test]
-fn a_notice_is_shown_with_its_stage_and_what_remains_of_it(rt: HostRuntime) {
-    let mut book = opened(&rt, rt.alloc());
-    sell_short(&rt, &mut book);
-    give_notice(&rt, &mut book);
-    assert_stage(&rt, &book, 1, Stage::Live, 80);
-    ask(&rt, &mut book, execution(&rt, 1, 70, 0), Reply::Executed(2));
-    assert_stage(&rt, &book, 1, Stage::Live, 10);
-    ask(
-        &rt,
+fn a_notice_is_shown_with_its_stage_and_what_remains_of_it(rt: HostRuntime) -> Result<(), Fail> {
+    let mut book = opened(rt.alloc())?;
+    sell_short(rt.alloc(), &mut book)?;
+    play(rt.alloc(), &mut book, NOTICED, NOTICED_REPLIES)?;
+    assert!(rt; stands(&book, 1, Stage::Live, 80));
+    play(rt.alloc(), &mut book, "EXECUTE,1,70,0\n", "executed 2\n")?;
+    assert!(rt; stands(&book, 1, Stage::Live, 10));
+    play(
+        rt.alloc(),
         &mut book,
-        close(&rt, "2024-06-06"),
-        closed(&rt, 3, "2024-06-05", 3, 0),
-    );
-    assert_stage(&rt, &book, 1, Stage::Expired, 0);
+        "CLOSE,2024-06-06\n",
+        "closed 3 2024-06-05 3 0\n",
+    )?;
+    assert!(rt; stands(&book, 1, Stage::Expired, 0));
+    Ok(())
+}
+
+// A notice that is withdrawn, and one that a split ends.
+const ENDED: &str = "NOTICE,1,037833100,80\nWITHDRAW,1\nNOTICE,1,037833100,30\n\
+SPLIT,037833100,2,1,0\n";
+
+#[test]
+fn a_notice_that_was_withdrawn_or_ended_by_a_split_is_shown_so(
+    rt: HostRuntime,
+) -> Result<(), Fail> {
+    let mut book = opened(rt.alloc())?;
+    sell_short(rt.alloc(), &mut book)?;
+    play(rt.alloc(), &mut book, ENDED, "notice 1\nok\nnotice 2\nok\n")?;
+    assert!(rt; stands(&book, 1, Stage::Withdrawn, 0));
+    assert!(rt; stands(&book, 2, Stage::Ended, 0));
+    Ok(())
 }
 
 #[test]
-fn a_notice_that_was_withdrawn_or_ended_by_a_split_is_shown_so(rt: HostRuntime) {
-    let mut book = opened(&rt, rt.alloc());
-    sell_short(&rt, &mut book);
-    ask(&rt, &mut book, notice(&rt, 1, 80), Reply::Noticed(1));
-    ask(&rt, &mut book, withdrawal(1), ACCEPTED);
-    ask(&rt, &mut book, notice(&rt, 1, 30), Reply::Noticed(2));
-    ask(&rt, &mut book, split(&rt), ACCEPTED);
-    assert_stage(&rt, &book, 1, Stage::Withdrawn, 0);
-    assert_stage(&rt, &book, 2, Stage::Ended, 0);
-}
-
-#[test]
-fn no_notice_has_the_number_zero_or_one_past_the_last(rt: HostRuntime) {
-    let mut book = opened(&rt, rt.alloc());
-    sell_short(&rt, &mut book);
-    ask(&rt, &mut book, notice(&rt, 1, 80), Reply::Noticed(1));
-    ask(&rt, &mut book, execution(&rt, 0, 80, 0), NO_SUCH_NOTICE);
-    ask(&rt, &mut book, withdrawal(2), NO_SUCH_NOTICE);
+fn no_notice_has_the_number_zero_or_one_past_the_last(rt: HostRuntime) -> Result<(), Fail> {
+    let mut book = opened(rt.alloc())?;
+    sell_short(rt.alloc(), &mut book)?;
+    let records = "NOTICE,1,037833100,80\nWITHDRAW,2\nEXECUTE,2,80,0\n";
+    play(
+        rt.alloc(),
+        &mut book,
+        records,
+        "notice 1\nrefused 14\nrefused 14\n",
+    )?;
+    // No record has a notice with the number zero.
+    let zeroth = Command::Activity(Activity::Withdraw(0));
+    let receipt = take(&mut book, Worker::FIRST, zeroth)?;
+    assert!(rt; receipt.reply == Reply::Refused(Refusal::NoSuchNotice));
     assert!(rt; book.notice(0).is_none());
     assert!(rt; book.notice(2).is_none());
+    Ok(())
 }
 
-// Looks at how many batches the close of each day chose.
-fn assert_batches(rt: &impl Abort, book: &TreeBook<Global>) {
-    assert_eq!(rt; book.batches(0).len(), 0);
-    assert_eq!(rt; book.batches(1).len(), 1);
-    assert_eq!(rt; book.batches(2).len(), 0);
-    assert_eq!(rt; book.batches(3).len(), 0);
+// Days, and how many batches their closes chose.
+const CHOSEN: [(u32, usize); 4] = [(0, 0), (1, 1), (2, 0), (3, 0)];
+
+// Whether members 2 and 3, who were short 60 and 50, are liable for the notices of the first day, with so much left.
+fn are_liable(book: &TreeBook<Global>, left: [u64; 2]) -> Result<bool, Fail> {
+    let Some(batch) = book.batch(1, cusip(APPLE)?) else {
+        return Ok(false);
+    };
+    let [two, three] = batch.members() else {
+        return Ok(false);
+    };
+    Ok(is_liable(two, (2, 60, left[0])) && is_liable(three, (3, 50, left[1])))
+}
+
+// Whether it is this member with this closing position, so much of which is left, after one close.
+fn is_liable(liable: &Liable, is: (u16, u64, u64)) -> bool {
+    let (number, closing, left) = is;
+    liable.member.value() == number
+        && liable.age == 1
+        && liable.closing == closing
+        && liable.left == left
 }
 
 #[test]
-fn a_batch_tells_what_is_left_of_each_liability(rt: HostRuntime) {
-    let mut book = opened(&rt, rt.alloc());
-    sell_short(&rt, &mut book);
-    give_notice(&rt, &mut book);
-    assert_batches(&rt, &book);
-    assert_liable(&rt, &book, 0, 2, 60, 60);
-    assert_liable(&rt, &book, 1, 3, 50, 50);
-    ask(
-        &rt,
+fn a_batch_tells_what_is_left_of_each_liability(rt: HostRuntime) -> Result<(), Fail> {
+    let mut book = opened(rt.alloc())?;
+    sell_short(rt.alloc(), &mut book)?;
+    play(rt.alloc(), &mut book, NOTICED, NOTICED_REPLIES)?;
+    for (day, batches) in &CHOSEN {
+        assert_eq!(rt; book.batches(*day).len(), *batches);
+    }
+    assert!(rt; are_liable(&book, [60, 50])?);
+    play(
+        rt.alloc(),
         &mut book,
-        execution(&rt, 1, 80, 160_001),
-        Reply::Executed(2),
-    );
-    assert_liable(&rt, &book, 0, 2, 60, 0);
-    assert_liable(&rt, &book, 1, 3, 50, 30);
+        "EXECUTE,1,80,160001\n",
+        "executed 2\n",
+    )?;
+    assert!(rt; are_liable(&book, [0, 30])?);
+    Ok(())
 }

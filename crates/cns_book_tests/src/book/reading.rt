@@ -1,130 +1,141 @@
 // What the calls that read a book tell of the open day, of a closed day's sheet, and of the history.
-use super::commands::{close, closed, date, issue, key, price, pricing, trade};
-use super::{ACCEPTED, TreeBook, ask, begin, opened};
+use super::{MEMBERS, TreeBook, begin, opened, play};
+use crate::script::{APPLE, FIRST, SECOND, account, cusip, day, stated};
 use cns_sheets::Sheet;
-use cns_terms::{Holding, Row};
+use cns_terms::{Holding, Key, Reply};
 use cns_units::{Cents, Price};
 use std::alloc::Global;
-use std::process::Abort;
+use std::sync::Arc;
+use std::test::Fail;
 
-// The first day: member 1 buys 100 shares from member 2, and the price goes from 195.00 to 196.00.
-fn trade_and_close(rt: &impl Abort, book: &mut TreeBook<Global>) {
-    begin(rt, book);
-    ask(rt, book, trade(rt, 1, 2, 100, 1_950_000), ACCEPTED);
-    ask(rt, book, pricing(rt, 19_600), ACCEPTED);
-    ask(
-        rt,
-        book,
-        close(rt, "2024-06-04"),
-        closed(rt, 1, "2024-06-03", 2, 0),
-    );
+// Member 1 buys 100 shares from member 2, and the price goes from 195.00 to 196.00.
+const TRADED: &str = "TRADE,1,1,2,037833100,100,1950000,2024-06-03\nPRICE,037833100,19600\n\
+CLOSE,2024-06-04\n";
+
+const TRADED_REPLIES: &str = "ok\nok\nclosed 1 2024-06-03 2 0\n";
+
+// Accounts, and their statements of the first day.
+const STATEMENTS: [(u16, &str); 3] = [
+    (0, "statement 0 2024-06-03 0 0.00 0.00\n"),
+    (
+        1,
+        "statement 1 2024-06-03 1 100.00 0.00\nrow 037833100 0 100 0.00 196.00 -19500.00 100.00 0.00\n",
+    ),
+    (
+        2,
+        "statement 2 2024-06-03 1 -100.00 0.00\nrow 037833100 0 -100 0.00 196.00 19500.00 -100.00 0.00\n",
+    ),
+];
+
+fn key(number: u16) -> Result<Key, Fail> {
+    Ok(Key {
+        account: account(number)?,
+        issue: cusip(APPLE)?,
+    })
 }
 
-// A row of the first day, of a position that was opened on it.
-fn row(rt: &impl Abort, account: u16, closing: i64, money: i128, mark: i128) -> Row {
-    let key = key(rt, account);
-    Row {
-        account: key.account,
-        issue: key.issue,
-        opening: 0,
-        closing,
-        opening_price: Price::ZERO,
-        price: price(rt, 19_600),
-        money: Cents::of(money),
-        mark: Cents::of(mark),
-        dividend: Cents::ZERO,
+// The sheet of the first day.
+fn sheet(book: &TreeBook<Global>) -> Result<&Arc<Sheet<Global>>, Fail> {
+    match book.sheet(day(FIRST)?) {
+        Some(sheet) => Ok(sheet),
+        None => Err(Fail::new("no sheet")),
     }
 }
 
-// Looks at the sheet of the first day.
-fn assert_rows(rt: &impl Abort, sheet: &Sheet<Global>) {
-    let bought = row(rt, 1, 100, -1_950_000, 10_000);
-    let sold = row(rt, 2, -100, 1_950_000, -10_000);
+// Whether a sheet has the date of the first day, and marks and dividends that add up to zero.
+fn adds_up(sheet: &Sheet<Global>) -> Result<bool, Fail> {
+    let is_zero = sheet.total_marks() == Cents::ZERO && sheet.total_dividends() == Cents::ZERO;
+    Ok(is_zero && sheet.date() == day(FIRST)?)
+}
+
+#[test]
+fn a_closed_day_has_its_sheet(rt: HostRuntime) -> Result<(), Fail> {
+    let mut book = opened(rt.alloc())?;
+    begin(rt.alloc(), &mut book)?;
+    play(rt.alloc(), &mut book, TRADED, TRADED_REPLIES)?;
+    let sheet = sheet(&book)?;
+    for (number, text) in &STATEMENTS {
+        let stated = stated(rt.alloc(), sheet, *number)?;
+        assert_eq!(rt; stated.as_slice(), text.as_bytes());
+    }
+    assert!(rt; adds_up(sheet)?);
+    assert!(rt; book.sheet(day(SECOND)?).is_none());
+    Ok(())
+}
+
+#[test]
+fn a_sheet_tells_the_rows_and_prices_that_it_has(rt: HostRuntime) -> Result<(), Fail> {
+    let mut book = opened(rt.alloc())?;
+    begin(rt.alloc(), &mut book)?;
+    play(rt.alloc(), &mut book, TRADED, TRADED_REPLIES)?;
+    let sheet = sheet(&book)?;
     assert_eq!(rt; sheet.len(), 2);
-    assert!(rt; sheet.row(key(rt, 1)) == Some(bought));
-    assert!(rt; sheet.row(key(rt, 2)) == Some(sold));
-    assert!(rt; sheet.row(key(rt, 0)).is_none());
-    assert!(rt; sheet.next_price(None) == Some((issue(rt), price(rt, 19_600))));
-    assert!(rt; sheet.next_price(Some(issue(rt))).is_none());
-}
-
-// Looks at what a sheet adds up to.
-fn assert_sums(rt: &impl Abort, sheet: &Sheet<Global>) {
-    assert!(rt; sheet.date() == date(rt, "2024-06-03"));
-    assert!(rt; sheet.total_marks() == Cents::ZERO);
-    assert!(rt; sheet.total_dividends() == Cents::ZERO);
+    let closing = sheet.row(key(2)?).map(|row| row.closing);
+    assert_eq!(rt; closing, Some(-100));
+    assert!(rt; sheet.row(key(0)?).is_none());
+    let priced = (cusip(APPLE)?, Price::new(19_600)?);
+    assert!(rt; sheet.next_price(None) == Some(priced));
+    assert!(rt; sheet.next_price(Some(priced.0)).is_none());
+    Ok(())
 }
 
 #[test]
-fn a_closed_day_has_its_sheet(rt: HostRuntime) {
-    let mut book = opened(&rt, rt.alloc());
-    trade_and_close(&rt, &mut book);
-    let Some(sheet) = book.sheet(date(&rt, "2024-06-03")) else {
-        panic!(&rt; "no sheet");
-    };
-    assert_rows(&rt, &**sheet);
-    assert_sums(&rt, &**sheet);
-    assert!(rt; book.sheet(date(&rt, "2024-06-04")).is_none());
-}
-
-#[test]
-fn a_day_without_activities_has_a_sheet_without_rows(rt: HostRuntime) {
-    let mut book = opened(&rt, rt.alloc());
-    ask(
-        &rt,
+fn a_day_without_activities_has_a_sheet_without_rows(rt: HostRuntime) -> Result<(), Fail> {
+    let mut book = opened(rt.alloc())?;
+    play(
+        rt.alloc(),
         &mut book,
-        close(&rt, "2024-06-04"),
-        closed(&rt, 1, "2024-06-03", 0, 0),
-    );
-    let Some(sheet) = book.sheet(date(&rt, "2024-06-03")) else {
-        panic!(&rt; "no sheet");
-    };
+        "CLOSE,2024-06-04\n",
+        "closed 1 2024-06-03 0 0\n",
+    )?;
+    let sheet = sheet(&book)?;
     assert_eq!(rt; sheet.len(), 0);
-    assert_sums(&rt, &**sheet);
+    assert!(rt; adds_up(sheet)?);
+    Ok(())
 }
 
-// Looks at the open day.
-fn assert_day(
-    rt: &impl Abort,
+// Whether the open day has this number, this date and this price.
+fn is_open(
     book: &TreeBook<Global>,
-    day: u64,
-    text: &str,
-    shown: Option<Price>,
-) {
-    assert_eq!(rt; book.day(), day);
-    assert!(rt; book.today() == date(rt, text));
-    assert!(rt; book.price(issue(rt)) == shown);
+    number: u64,
+    date: &str,
+    price: Option<Price>,
+) -> Result<bool, Fail> {
+    let is_day = book.day() == number && book.today() == day(date)?;
+    Ok(is_day && book.price(cusip(APPLE)?) == price)
 }
 
-// Looks at what stands at a member's key.
-fn assert_held(rt: &impl Abort, book: &TreeBook<Global>, number: u16, expected: Holding) {
-    let held = book.position(key(rt, number).account, issue(rt));
-    assert!(rt; held == Some(expected));
+// Member 2 on the second day.
+const SHORT: Holding = Holding {
+    now: -100,
+    opening: -100,
+    contract: 0,
+    run: 1,
+};
+
+#[test]
+fn reading_calls_tell_the_open_day(rt: HostRuntime) -> Result<(), Fail> {
+    let mut book = opened(rt.alloc())?;
+    assert!(rt; is_open(&book, 1, FIRST, None)?);
+    play(rt.alloc(), &mut book, MEMBERS, "ok\nok\nok\n")?;
+    play(rt.alloc(), &mut book, TRADED, TRADED_REPLIES)?;
+    assert!(rt; is_open(&book, 2, SECOND, Some(Price::new(19_600)?))?);
+    let held = book.position(account(2)?, cusip(APPLE)?);
+    assert!(rt; held == Some(SHORT));
+    Ok(())
 }
 
-// Looks at the entries at the ends of a history, and past them.
-fn assert_entries(rt: &impl Abort, book: &TreeBook<Global>) {
+#[test]
+fn a_book_tells_its_entries_and_none_before_or_past_them(rt: HostRuntime) -> Result<(), Fail> {
+    let mut book = opened(rt.alloc())?;
+    begin(rt.alloc(), &mut book)?;
+    play(rt.alloc(), &mut book, TRADED, TRADED_REPLIES)?;
     let Some(taken) = book.entry(4) else {
-        panic!(rt; "no entry");
+        return Err(Fail::new("no entry"));
     };
-    assert!(rt; taken.reply == ACCEPTED);
+    assert!(rt; taken.reply == Reply::Accepted);
     assert_eq!(rt; taken.seq, 4);
     assert!(rt; book.entry(0).is_none());
     assert!(rt; book.entry(7).is_none());
-}
-
-#[test]
-fn reading_calls_tell_the_open_day(rt: HostRuntime) {
-    let mut book = opened(&rt, rt.alloc());
-    assert_day(&rt, &book, 1, "2024-06-03", None);
-    trade_and_close(&rt, &mut book);
-    assert_day(&rt, &book, 2, "2024-06-04", Some(price(&rt, 19_600)));
-    assert_entries(&rt, &book);
-    let short = Holding {
-        now: -100,
-        opening: -100,
-        contract: 0,
-        run: 1,
-    };
-    assert_held(&rt, &book, 2, short);
+    Ok(())
 }

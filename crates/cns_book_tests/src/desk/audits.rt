@@ -1,5 +1,7 @@
 // Audits of logs in which something was changed.
-use super::{OPENING, SECOND, close, day, hundred, issue, member, price, statement, trade};
+use super::hundred;
+use super::inputs::ending;
+use crate::script::{FIRST, command, commands, day};
 use cns_book::{Book, Receipt};
 use cns_desk::{DeskBook, Log, LogItem, Outcome, audit, run_workers};
 use cns_sheets::Sheet;
@@ -41,17 +43,18 @@ fn add(
     Ok(())
 }
 
-// The item of a log at an index, with what the change makes of it there.
-fn changed(items: &[LogItem], at: usize, change: Change) -> Option<(Receipt, Command)> {
-    let place = at.saturating_add(1);
-    let from = match change {
-        Change::Swapped(other) if other == place => place,
+// The index of the item that stands at an index of the changed log.
+fn source(change: Change, at: usize) -> usize {
+    match change {
+        Change::Swapped(other) if other == at.saturating_add(1) => other,
         Change::Swapped(other) if other == at => at.saturating_sub(1),
         _ => at,
-    };
-    let item = items.get(from)?;
-    let mut receipt = item.receipt;
-    let mut command = item.command;
+    }
+}
+
+// What the change makes of an item at a place.
+fn changed(item: &LogItem, place: usize, change: Change) -> (Receipt, Command) {
+    let (mut receipt, mut command) = (item.receipt, item.command);
     match change {
         Change::Command(other) if other == place => {
             command = Command::Activity(Activity::Withdraw(7));
@@ -61,7 +64,7 @@ fn changed(items: &[LogItem], at: usize, change: Change) -> Option<(Receipt, Com
         Change::Seq(other) if other == place => receipt.seq = 0,
         _ => {}
     }
-    Some((receipt, command))
+    (receipt, command)
 }
 
 // Adds an item without a sheet so many times.
@@ -84,10 +87,15 @@ fn times(change: Change, place: usize) -> u8 {
 fn copied(alloc: Global, log: &Log, change: Change) -> Result<Log, Fail> {
     let mut copy = Log::new(alloc);
     for at in 0..log.items().len() {
-        let Some(item) = changed(log.items(), at, change) else {
+        let Some(item) = log.items().get(source(change, at)) else {
             return Err(Fail::new("no item"));
         };
-        add_times(&mut copy, &item, times(change, at.saturating_add(1)))?;
+        let place = at.saturating_add(1);
+        add_times(
+            &mut copy,
+            &changed(item, place, change),
+            times(change, place),
+        )?;
     }
     Ok(copy)
 }
@@ -142,7 +150,12 @@ fn check_changes<A: Abort>(rt: &A, alloc: Global, outcome: &Outcome) -> Result<(
 }
 
 fn run<R: Threads + Wait + Sync>(rt: &R, alloc: Global) -> Result<Outcome, Fail> {
-    match run_workers(rt, alloc, day(OPENING)?, hundred(alloc)?, &NoGate) {
+    let [first, second] = hundred(alloc)?;
+    let sources = vec![in alloc;
+        ending(alloc, first.as_slice()),
+        ending(alloc, second.as_slice()),
+    ]?;
+    match run_workers(rt, alloc, day(FIRST)?, sources, &NoGate) {
         Ok(outcome) => Ok(outcome),
         Err(_) => Err(Fail::new("no outcome")),
     }
@@ -229,7 +242,7 @@ fn a_worker_without_a_log_has_an_empty_one(rt: HostRuntime) -> Result<(), Fail> 
 }
 
 // The sheet of a date that is kept in a log, none where no date is given.
-fn kept(book: &DeskBook, date: Option<&[u8]>) -> Result<Option<Arc<Sheet<Global>>>, Fail> {
+fn kept(book: &DeskBook, date: Option<&str>) -> Result<Option<Arc<Sheet<Global>>>, Fail> {
     let Some(text) = date else {
         return Ok(None);
     };
@@ -242,41 +255,34 @@ fn kept(book: &DeskBook, date: Option<&[u8]>) -> Result<Option<Arc<Sheet<Global>
     }
 }
 
-// The date of the third day.
-const THIRD: &[u8] = b"2024-06-05";
+// Two days, whose sheets differ.
+const DAYS: &str = "MEMBER,101\nMEMBER,202\nISSUE,037833100,19500\n\
+TRADE,1,101,202,037833100,100,1950000,2024-06-03\nCLOSE,2024-06-04\nPRICE,037833100,19500\n\
+CLOSE,2024-06-05\n";
 
-// Takes two days for worker 1, whose sheets differ, and logs them.
-fn take_days(book: &mut DeskBook, log: &mut Log) -> Result<(), Fail> {
-    let commands = [
-        member(101)?,
-        member(202)?,
-        issue(19_500)?,
-        trade(1, 100)?,
-        close(SECOND)?,
-        price(19_500)?,
-        close(THIRD)?,
-    ];
-    for command in commands {
-        let Ok(receipt) = book.take(Worker::FIRST, command) else {
-            return Err(Fail::new("not taken"));
-        };
-        add(log, receipt, command, None)?;
-    }
-    Ok(())
+// Gives a book worker 1's command, and logs it with the sheet of a date.
+fn take(
+    book: &mut DeskBook,
+    log: &mut Log,
+    command: Command,
+    date: Option<&str>,
+) -> Result<(), Fail> {
+    let Ok(receipt) = book.take(Worker::FIRST, command) else {
+        return Err(Fail::new("not taken"));
+    };
+    add(log, receipt, command, kept(book, date)?)
 }
 
-// The place at which a log of two days differs that ends in this command with this sheet.
-fn ending(alloc: Global, command: &Command, date: Option<&[u8]>) -> Result<Option<usize>, Fail> {
-    let Ok(mut book) = Book::new(alloc, day(OPENING)?) else {
+// The place at which a log of two days differs that ends in the command of this record with this sheet.
+fn ending_differs(alloc: Global, record: &str, date: Option<&str>) -> Result<Option<usize>, Fail> {
+    let Ok(mut book) = Book::new(alloc, day(FIRST)?) else {
         return Err(Fail::new("no book"));
     };
     let mut log = Log::new(alloc);
-    take_days(&mut book, &mut log)?;
-    let Ok(receipt) = book.take(Worker::FIRST, *command) else {
-        return Err(Fail::new("not taken"));
-    };
-    let sheet = kept(&book, date)?;
-    add(&mut log, receipt, *command, sheet)?;
+    for command in commands(alloc, DAYS)? {
+        take(&mut book, &mut log, command, None)?;
+    }
+    take(&mut book, &mut log, command(alloc, record)?, date)?;
     let logs = vec![in alloc; log]?;
     match audit(&book, logs.as_slice()) {
         Ok(()) => Ok(None),
@@ -284,61 +290,42 @@ fn ending(alloc: Global, command: &Command, date: Option<&[u8]>) -> Result<Optio
     }
 }
 
-// The command that is logged last, the eighth.
-#[derive(Clone, Copy)]
-enum Last {
-    // A statement of an account for the day of a date.
-    Statement(u16, &'static [u8]),
-    Member(u16),
-}
-
-fn command_of(last: Last) -> Result<Command, Fail> {
-    match last {
-        Last::Statement(account, date) => statement(account, date),
-        Last::Member(number) => member(number),
-    }
-}
-
-// The last command, the date of the sheet that is logged with it, and the place at which the log differs.
-const SHEETS: [(&str, Last, Option<&[u8]>, Option<usize>); 6] = [
-    ("no sheet", Last::Statement(101, OPENING), None, None),
+// The record that is logged last, the eighth, the date of the sheet that is logged with it, and the place at which the log
+// differs.
+const SHEETS: [(&str, &str, Option<&str>, Option<usize>); 6] = [
+    ("no sheet", "STATEMENT,101,2024-06-03\n", None, None),
     (
         "its own",
-        Last::Statement(101, OPENING),
-        Some(OPENING),
+        "STATEMENT,101,2024-06-03\n",
+        Some("2024-06-03"),
         None,
     ),
     (
         "the corporation",
-        Last::Statement(0, SECOND),
-        Some(SECOND),
+        "STATEMENT,0,2024-06-04\n",
+        Some("2024-06-04"),
         None,
     ),
     (
         "another",
-        Last::Statement(101, OPENING),
-        Some(SECOND),
+        "STATEMENT,101,2024-06-03\n",
+        Some("2024-06-04"),
         Some(8),
     ),
     (
         "an open day",
-        Last::Statement(101, THIRD),
-        Some(SECOND),
+        "STATEMENT,101,2024-06-05\n",
+        Some("2024-06-04"),
         Some(8),
     ),
-    ("no statement", Last::Member(303), Some(OPENING), Some(8)),
+    ("no statement", "MEMBER,303\n", Some("2024-06-03"), Some(8)),
 ];
-
-// Checks whether a sheet fits the command that is logged with it.
-fn check_sheets<A: Abort>(rt: &A, alloc: Global) -> Result<(), Fail> {
-    for (name, last, date, wanted) in &SHEETS {
-        let place = ending(alloc, &command_of(*last)?, *date)?;
-        assert!(rt; place == *wanted, "{name}");
-    }
-    Ok(())
-}
 
 #[test]
 fn a_sheet_in_a_log_is_that_of_the_day_of_its_statement(rt: HostRuntime) -> Result<(), Fail> {
-    check_sheets(&rt, rt.alloc())
+    for (name, record, date, wanted) in &SHEETS {
+        let place = ending_differs(rt.alloc(), record, *date)?;
+        assert!(rt; place == *wanted, "{name}");
+    }
+    Ok(())
 }

@@ -2,10 +2,11 @@
 ghost use Rattle.std.specs.Prelude.{Err, None, Some, true};
 ghost use Rattle.cns_terms.specs.declared.source.SourceFault.TheVariants as fault;
 
-use super::{OPENING, day, hundred, issue, key, member, position, source, trade};
-use crate::desk::list_source::ListSource;
-use cns_desk::{End, Outcome, RunFault, run_workers};
-use cns_terms::{Gate, Held, Holding, Item, NoGate, Reply, Source, SourceFault, Worker};
+use super::inputs::{Records, ending, failing};
+use super::{MEMBERS, hundred};
+use crate::script::{APPLE, FIRST, account, cusip, day, tell};
+use cns_desk::{End, Log, Outcome, RunFault, run_workers};
+use cns_terms::{Gate, Item, NoGate, Source, SourceFault, Worker};
 use std::alloc::Global;
 use std::sync::Wait;
 use std::sync::atomic::AtomicU64;
@@ -21,11 +22,22 @@ const MOST_TURNS: u32 = 10_000;
 // Holds each worker's first command until the first commands of so many workers have come.
 #[derive(Drop)]
 pub(super) struct Meeting<C> {
-    pub(super) clock: C,
-    pub(super) wanted: u64,
-    pub(super) came: AtomicU64,
+    clock: C,
+    wanted: u64,
+    came: AtomicU64,
     // How many workers waited in vain.
-    pub(super) late: AtomicU64,
+    late: AtomicU64,
+}
+
+impl<C> Meeting<C> {
+    pub(super) fn new(clock: C, wanted: u64) -> Meeting<C> {
+        Meeting {
+            clock,
+            wanted,
+            came: AtomicU64::new(0),
+            late: AtomicU64::new(0),
+        }
+    }
 }
 
 impl<C: Clock> Gate for Meeting<C> {
@@ -95,13 +107,16 @@ impl Gate for Tally {
     }
 }
 
+// Runs a worker for each of two sources.
 fn run<G: Gate + Sync, R: Threads + Wait + Sync>(
     rt: &R,
     alloc: Global,
-    sources: Vec<ListSource>,
+    first: Records<'_>,
+    second: Records<'_>,
     gate: &G,
 ) -> Result<Outcome, Fail> {
-    match run_workers(rt, alloc, day(OPENING)?, sources, gate) {
+    let sources = vec![in alloc; first, second]?;
+    match run_workers(rt, alloc, day(FIRST)?, sources, gate) {
         Ok(outcome) => Ok(outcome),
         Err(_) => Err(Fail::new("no outcome")),
     }
@@ -110,54 +125,42 @@ fn run<G: Gate + Sync, R: Threads + Wait + Sync>(
 #[test]
 fn workers_run_at_once(rt: HostRuntime) -> Result<(), Fail> {
     let alloc = rt.alloc();
-    let first = source(alloc, &[member(101)?, member(202)?])?;
-    let second = source(alloc, &[member(303)?])?;
-    let gate = Meeting {
-        clock: &rt,
-        wanted: 2,
-        came: AtomicU64::new(0),
-        late: AtomicU64::new(0),
-    };
-    let outcome = run(&rt, alloc, vec![in alloc; first, second]?, &gate)?;
+    let first = ending(alloc, b"MEMBER,101\nMEMBER,202\n");
+    let second = ending(alloc, b"MEMBER,303\n");
+    let gate = Meeting::new(&rt, 2);
+    let outcome = run(&rt, alloc, first, second, &gate)?;
     assert_eq!(&rt; gate.late.load(SeqCst), 0);
     assert_eq!(&rt; outcome.book.history_len(), 3);
     Ok(())
 }
 
-// Member 101 is long so many shares that were booked at 195 dollars.
-fn long(shares: i64) -> Holding {
-    Holding {
-        now: shares,
-        opening: 0,
-        contract: i128::from(shares) * -19_500,
-        run: 0,
+// The replies of a worker.
+fn replies(alloc: Global, log: Option<&Log>) -> Result<Vec<u8>, Fail> {
+    let mut text = Vec::new(alloc);
+    let Some(log) = log else {
+        return Err(Fail::new("no log"));
+    };
+    for item in log.items() {
+        tell(&mut text, &item.receipt.reply)?;
     }
+    Ok(text)
 }
 
 #[test]
 fn a_reply_shows_what_another_worker_was_answered_before(rt: HostRuntime) -> Result<(), Fail> {
     let alloc = rt.alloc();
-    let first = source(
-        alloc,
-        &[member(101)?, member(202)?, issue(19_500)?, trade(1, 5)?],
-    )?;
-    let second = source(alloc, &[position(101)?])?;
+    let records = "MEMBER,101\nMEMBER,202\nISSUE,037833100,19500\n\
+TRADE,1,101,202,037833100,5,97500,2024-06-03\n";
+    let first = ending(alloc, records.as_bytes());
+    let second = ending(alloc, b"POSITION,101,037833100\n");
     let gate = After {
         clock: &rt,
         wanted: 4,
         answered: AtomicU64::new(0),
     };
-    let outcome = run(&rt, alloc, vec![in alloc; first, second]?, &gate)?;
-    let [_, log] = outcome.logs.as_slice() else {
-        return Err(Fail::new("not two logs"));
-    };
-    let [item] = log.items() else {
-        return Err(Fail::new("not one reply"));
-    };
-    assert_eq!(&rt;
-        item.receipt.reply,
-        Reply::Held(Held::of(key(101)?, long(5)))
-    );
+    let outcome = run(&rt, alloc, first, second, &gate)?;
+    let told = replies(alloc, outcome.logs.as_slice().get(1))?;
+    assert!(&rt; told.as_slice() == b"position 101 037833100 5 0 -975.00 0\n".as_slice());
     Ok(())
 }
 
@@ -169,34 +172,42 @@ fn a_hundred_commands_of_two_workers_are_one_history(rt: HostRuntime) -> Result<
         wanted: 3,
         answered: AtomicU64::new(0),
     };
-    let outcome = run(&rt, alloc, hundred(alloc)?, &gate)?;
+    let [first, second] = hundred(alloc)?;
+    let (first, second) = (
+        ending(alloc, first.as_slice()),
+        ending(alloc, second.as_slice()),
+    );
+    let outcome = run(&rt, alloc, first, second, &gate)?;
     assert_eq!(&rt; outcome.book.history_len(), 100);
     assert_eq!(&rt; outcome.book.count(Worker::new(1)?), 50);
     assert_eq!(&rt; outcome.book.count(Worker::new(2)?), 50);
-    let held = outcome.book.position(key(101)?.account, key(101)?.issue);
-    assert_eq!(&rt; held, Some(long(97)));
+    let held = outcome.book.position(account(101)?, cusip(APPLE)?);
     assert_eq!(&rt;
-        outcome.ends.as_slice(),
-        [End::Complete, End::Complete].as_slice()
+        held.map(|held| (held.now, held.contract)),
+        Some((97, -1_891_500))
     );
+    assert!(&rt; outcome.ends.as_slice() == [End::Complete, End::Complete].as_slice());
     Ok(())
+}
+
+// How many items and lines each worker's log has.
+fn counts(alloc: Global, outcome: &Outcome) -> Result<Vec<(usize, u32)>, Fail> {
+    let mut counts = Vec::new(alloc);
+    for log in outcome.logs.as_slice() {
+        counts.push((log.items().len(), log.lines()))?;
+    }
+    Ok(counts)
 }
 
 #[test]
 fn a_source_that_fails_ends_its_worker_and_no_other(rt: HostRuntime) -> Result<(), Fail> {
     let alloc = rt.alloc();
-    let items = vec![in alloc; Some(member(101)?), None, Some(member(202)?)]?;
-    let sources = vec![in alloc; ListSource::failing(items), source(alloc, &[member(303)?])?]?;
-    let outcome = run(&rt, alloc, sources, &NoGate)?;
+    let first = failing(alloc, b"MEMBER,101\nMEMBER,x\nMEMBER,202\n");
+    let second = ending(alloc, b"MEMBER,303\n");
+    let outcome = run(&rt, alloc, first, second, &NoGate)?;
     let ends = [End::Source(SourceFault::Read), End::Complete];
-    assert_eq!(&rt; outcome.ends.as_slice(), ends.as_slice());
-    let [first, second] = outcome.logs.as_slice() else {
-        return Err(Fail::new("not two logs"));
-    };
-    assert_eq!(&rt; first.items().len(), 2);
-    assert_eq!(&rt; first.lines(), 1);
-    assert_eq!(&rt; second.items().len(), 1);
-    assert_eq!(&rt; second.lines(), 0);
+    assert!(&rt; outcome.ends.as_slice() == ends.as_slice());
+    assert!(&rt; counts(alloc, &outcome)?.as_slice() == [(2, 1), (1, 0)].as_slice());
     Ok(())
 }
 
@@ -220,11 +231,11 @@ impl Source for Starved {
 fn a_source_without_memory_ends_its_worker(rt: HostRuntime) -> Result<(), Fail> {
     let alloc = rt.alloc();
     let sources = vec![in alloc; Starved, Starved]?;
-    let Ok(outcome) = run_workers(&rt, alloc, day(OPENING)?, sources, &NoGate) else {
+    let Ok(outcome) = run_workers(&rt, alloc, day(FIRST)?, sources, &NoGate) else {
         return Err(Fail::new("no outcome"));
     };
     let end = End::Source(SourceFault::NoMemory);
-    assert_eq!(&rt; outcome.ends.as_slice(), [end, end].as_slice());
+    assert!(&rt; outcome.ends.as_slice() == [end, end].as_slice());
     assert_eq!(&rt; outcome.book.history_len(), 0);
     Ok(())
 }
@@ -235,10 +246,10 @@ fn a_run_has_1_to_64_workers(rt: HostRuntime) -> Result<(), Fail> {
     for workers in [0, 65] {
         let mut sources = Vec::new(alloc);
         for _worker in 0..workers {
-            sources.push(source(alloc, &[member(101)?])?)?;
+            sources.push(ending(alloc, MEMBERS.as_bytes()))?;
         }
-        let refused = run_workers(&rt, alloc, day(OPENING)?, sources, &NoGate).err();
-        assert_eq!(&rt; refused, Some(RunFault::Workers));
+        let refused = run_workers(&rt, alloc, day(FIRST)?, sources, &NoGate).err();
+        assert!(&rt; refused == Some(RunFault::Workers), "{workers}");
     }
     Ok(())
 }
@@ -246,13 +257,13 @@ fn a_run_has_1_to_64_workers(rt: HostRuntime) -> Result<(), Fail> {
 #[test]
 fn a_gate_stands_around_each_command_and_no_record_at_fault(rt: HostRuntime) -> Result<(), Fail> {
     let alloc = rt.alloc();
-    let items = vec![in alloc; None, Some(member(101)?), None, Some(member(202)?)]?;
-    let sources = vec![in alloc; ListSource::new(items), source(alloc, &[member(303)?])?]?;
+    let first = ending(alloc, b"MEMBER,x\nMEMBER,101\nMEMBER,x\nMEMBER,202\n");
+    let second = ending(alloc, b"MEMBER,303\n");
     let gate = Tally {
         before: AtomicU64::new(0),
         answered: AtomicU64::new(0),
     };
-    let outcome = run(&rt, alloc, sources, &gate)?;
+    let outcome = run(&rt, alloc, first, second, &gate)?;
     assert_eq!(&rt; outcome.book.history_len(), 3);
     assert_eq!(&rt; gate.before.load(SeqCst), 40_004);
     assert_eq!(&rt; gate.answered.load(SeqCst), 40_004);

@@ -1,32 +1,77 @@
-// Commands of every kind, drawn by lot.
+// Records of every kind, drawn by lot.
 ghost use Rattle.std.specs.Prelude.{◌<◌, ◌≤◌};
 
-use super::{OPENING, SECOND, account, day, party};
-use cns_terms::{
-    Activity, Command, Declared, Exchange, Execution, Key, Listing, Movement, Split, Trade,
-};
-use cns_units::{Account, Cusip, Day, Money, Price, Rate, Ratio, Shares};
+use std::io::Write;
 use std::test::Fail;
 
-const ISSUES: [&[u8]; 4] = [b"037833100", b"594918104", b"17275R102", b"023135106"];
+const ISSUES: [&str; 4] = ["037833100", "594918104", "17275R102", "023135106"];
 
-const DAYS: [&[u8]; 8] = [
-    OPENING,
-    SECOND,
-    b"2024-06-05",
-    b"2024-06-06",
-    b"2024-06-07",
-    b"2024-06-08",
-    b"2024-06-09",
-    b"2024-06-10",
+const DAYS: [&str; 8] = [
+    "2024-06-03",
+    "2024-06-04",
+    "2024-06-05",
+    "2024-06-06",
+    "2024-06-07",
+    "2024-06-08",
+    "2024-06-09",
+    "2024-06-10",
 ];
 
-fn issue_of(text: &[u8]) -> Result<Cusip, Fail> {
-    match Cusip::parse(text) {
-        Ok(cusip) => Ok(cusip),
-        Err(_) => Err(Fail::new("no issue")),
-    }
+// What a field of a record is drawn from.
+#[derive(Clone, Copy)]
+enum Field {
+    // One of six members, also in a ratio.
+    Member,
+    // One of them or the corporation.
+    Account,
+    Issue,
+    // From 1 to so many.
+    Below(u64),
+    // So many days after the day.
+    Date(usize),
 }
+
+use Field::{Account, Below, Date, Issue, Member};
+
+// A kind of record with its fields. The fewer of two hundred it has, the rarer it is.
+type Form = (u64, &'static str, &'static [Field]);
+
+const PRICE: Field = Below(50_000);
+
+const MONEY: Field = Below(100_000);
+
+const SHARES: Field = Below(5);
+
+const FORMS: [Form; 16] = [
+    (4, "MEMBER", &[Member]),
+    (4, "ISSUE", &[Issue, PRICE]),
+    (
+        70,
+        "TRADE",
+        &[
+            Below(1_000_000),
+            Member,
+            Member,
+            Issue,
+            SHARES,
+            MONEY,
+            Date(0),
+        ],
+    ),
+    (9, "PRICE", &[Issue, PRICE]),
+    (18, "DELIVER", &[Member, Issue, SHARES]),
+    (18, "RECEIVE", &[Member, Issue, SHARES]),
+    (9, "DIVIDEND", &[Issue, Date(1), Date(2), Below(1_000_000)]),
+    (2, "SPLIT", &[Issue, Member, Member, PRICE]),
+    (1, "EXCHANGE", &[Issue, Issue, Member, Member, PRICE, PRICE]),
+    (18, "NOTICE", &[Member, Issue, SHARES]),
+    (3, "WITHDRAW", &[Below(4)]),
+    (22, "EXECUTE", &[Below(4), SHARES, MONEY]),
+    (1, "CLOSE", &[Date(1)]),
+    (10, "POSITION", &[Account, Issue]),
+    (10, "STATEMENT", &[Account, Date(0)]),
+    (1, "X", &[]),
+];
 
 // Numbers that look drawn by lot, the same ones for the same seed.
 #[derive(Drop)]
@@ -47,180 +92,62 @@ impl Lot {
         (self.state >> 33) % most
     }
 
-    fn issue(&mut self) -> Result<Cusip, Fail> {
-        issue_of(ISSUES[self.below(4) as usize])
+    fn issue(&mut self) -> &'static str {
+        ISSUES[self.below(4) as usize]
     }
 
-    fn number(&mut self) -> u16
-        ensures { result ≤ 6 }
-    {
-        1 + self.below(6) as u16
-    }
-
-    // An account, the corporation's too.
-    fn account(&mut self) -> Result<Account, Fail> {
-        account(self.below(7) as u16)
-    }
-
-    fn shares(&mut self) -> Result<Shares, Fail> {
-        match Shares::new(1 + self.below(5)) {
-            Ok(shares) => Ok(shares),
-            Err(_) => Err(Fail::new("no shares")),
+    // Writes a field of a record of a day.
+    fn field(&mut self, text: &mut Vec<u8>, at: usize, field: Field) -> Result<(), Fail> {
+        match field {
+            Member => write!(text, ",{}", 1 + self.below(6))?,
+            Account => write!(text, ",{}", self.below(7))?,
+            Issue => write!(text, ",{}", self.issue())?,
+            Below(most) => write!(text, ",{}", 1 + self.below(most.max(1)))?,
+            Date(later) => write!(text, ",{}", date(at.saturating_add(later)))?,
         }
+        Ok(())
     }
 
-    fn price(&mut self) -> Result<Price, Fail> {
-        match Price::new(1 + self.below(50_000)) {
-            Ok(price) => Ok(price),
-            Err(_) => Err(Fail::new("no price")),
+    // The form of the next record.
+    fn form(&mut self) -> &'static Form {
+        let mut left = self.below(200);
+        for form in &FORMS {
+            if left < form.0 {
+                return form;
+            }
+            left -= form.0;
         }
+        &FORMS[0]
     }
 
-    fn money(&mut self) -> Result<Money, Fail> {
-        match Money::new(self.below(100_000)) {
-            Ok(money) => Ok(money),
-            Err(_) => Err(Fail::new("no money")),
+    // Writes a record of a day: a command, or one in two hundred that is at fault.
+    pub(super) fn record(&mut self, text: &mut Vec<u8>, at: usize) -> Result<(), Fail> {
+        let (_, kind, fields) = self.form();
+        write!(text, "{kind}")?;
+        for field in *fields {
+            self.field(text, at, *field)?;
         }
+        write!(text, "\n")?;
+        Ok(())
     }
 
-    fn ratio(&mut self) -> Result<Ratio, Fail> {
-        match Ratio::new(self.number(), self.number()) {
-            Ok(ratio) => Ok(ratio),
-            Err(_) => Err(Fail::new("no ratio")),
+    // Writes one of the ten records that let six members trade in four issues.
+    pub(super) fn beginning(&mut self, text: &mut Vec<u8>, at: usize) -> Result<(), Fail> {
+        match ISSUES.get(at) {
+            Some(issue) => write!(text, "ISSUE,{issue},{}\n", 1 + self.below(50_000))?,
+            None => write!(text, "MEMBER,{}\n", at.saturating_sub(3))?,
         }
-    }
-
-    fn listing(&mut self) -> Result<Listing, Fail> {
-        Ok(Listing {
-            issue: self.issue()?,
-            price: self.price()?,
-        })
-    }
-
-    fn movement(&mut self) -> Result<Movement, Fail> {
-        Ok(Movement {
-            member: party(self.number())?,
-            issue: self.issue()?,
-            shares: self.shares()?,
-        })
-    }
-
-    fn trade(&mut self, date: Day) -> Result<Trade, Fail> {
-        Ok(Trade {
-            reference: 1 + self.below(1_000_000),
-            money: self.money()?,
-            shares: self.shares()?,
-            buyer: party(self.number())?,
-            seller: party(self.number())?,
-            date,
-            issue: self.issue()?,
-        })
-    }
-
-    fn declared(&mut self, recorded: Day, payable: Day) -> Result<Declared, Fail> {
-        let Ok(rate) = Rate::new(1 + self.below(1_000_000)) else {
-            return Err(Fail::new("no rate"));
-        };
-        Ok(Declared {
-            issue: self.issue()?,
-            recorded,
-            payable,
-            rate,
-        })
-    }
-
-    fn split(&mut self) -> Result<Split, Fail> {
-        Ok(Split {
-            issue: self.issue()?,
-            ratio: self.ratio()?,
-            lieu: self.price()?,
-        })
-    }
-
-    fn exchange(&mut self) -> Result<Exchange, Fail> {
-        Ok(Exchange {
-            old: self.issue()?,
-            successor: self.issue()?,
-            ratio: self.ratio()?,
-            lieu: self.price()?,
-            cash: self.price()?,
-        })
-    }
-
-    fn execution(&mut self) -> Result<Execution, Fail> {
-        Ok(Execution {
-            notice: 1 + self.below(4) as u32,
-            shares: self.shares()?,
-            money: self.money()?,
-        })
-    }
-
-    // An activity of a day; the fewer of the numbers it has, the rarer it is.
-    fn activity(&mut self, date: Day, next: Day, later: Day) -> Result<Activity, Fail> {
-        Ok(match self.below(200) {
-            0..=3 => Activity::Member(party(self.number())?),
-            4..=7 => Activity::Issue(self.listing()?),
-            8..=87 => Activity::Trade(self.trade(date)?),
-            88..=97 => Activity::Price(self.listing()?),
-            98..=117 => Activity::Deliver(self.movement()?),
-            118..=137 => Activity::Receive(self.movement()?),
-            138..=147 => Activity::Dividend(self.declared(next, later)?),
-            148..=149 => Activity::Split(self.split()?),
-            150 => Activity::Exchange(self.exchange()?),
-            151..=170 => Activity::Notice(self.movement()?),
-            171..=173 => Activity::Withdraw(1 + self.below(4) as u32),
-            174..=198 => Activity::Execute(self.execution()?),
-            _ => Activity::Close(next),
-        })
-    }
-
-    // A command of one of the first six days.
-    fn command(&mut self, at: usize) -> Result<Command, Fail>
-        requires { at < 6 }
-    {
-        let (date, next, later) = (day(DAYS[at])?, day(DAYS[at + 1])?, day(DAYS[at + 2])?);
-        Ok(match self.below(20) {
-            0 => Command::Position(Key {
-                account: self.account()?,
-                issue: self.issue()?,
-            }),
-            1 => Command::Statement {
-                account: self.account()?,
-                date,
-            },
-            _ => Command::Activity(self.activity(date, next, later)?),
-        })
-    }
-
-    // A record of one of the first six days: a command, or None where it is at fault.
-    pub(super) fn record(&mut self, at: usize) -> Result<Option<Command>, Fail>
-        requires { at < 6 }
-    {
-        if self.below(20) == 0 {
-            return Ok(None);
-        }
-        Ok(Some(self.command(at)?))
-    }
-
-    // One of the ten commands that let six members trade in four issues.
-    pub(super) fn beginning(&mut self, at: u16) -> Result<Command, Fail> {
-        if at < 6 {
-            return Ok(Command::Activity(Activity::Member(party(at + 1)?)));
-        }
-        let issue = match ISSUES.get(at as usize - 6) {
-            Some(text) => issue_of(text)?,
-            None => self.issue()?,
-        };
-        Ok(Command::Activity(Activity::Issue(Listing {
-            issue,
-            price: self.price()?,
-        })))
+        Ok(())
     }
 }
 
-// The end of one of the first six days.
-pub(super) fn closing(at: usize) -> Result<Command, Fail>
-    requires { at < 6 }
-{
-    Ok(Command::Activity(Activity::Close(day(DAYS[at + 1])?)))
+// The date of a day, or the last one.
+fn date(at: usize) -> &'static str {
+    DAYS.get(at).copied().unwrap_or("2024-06-10")
+}
+
+// Writes the end of a day.
+pub(super) fn closing(text: &mut Vec<u8>, at: usize) -> Result<(), Fail> {
+    write!(text, "CLOSE,{}\n", date(at.saturating_add(1)))?;
+    Ok(())
 }

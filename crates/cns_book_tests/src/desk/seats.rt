@@ -1,99 +1,52 @@
 // Commands under a seat, by one caller.
 ghost use Rattle.std.specs.Prelude.{◌≡◌};
 
-use super::{OPENING, SECOND, account, apple, close, day, issue, member, price, statement, trade};
+use crate::script::{FIRST, SECOND, commands, day, stated, tell};
 use cns_desk::{Desk, Kept, OpenFault, Seat};
 use cns_positions::TreePositions;
 use cns_sheets::Sheet;
-use cns_terms::{Activity, Closed, Command, Refusal, Reply, Row, Split, Stated};
-use cns_units::{Cents, Price, Ratio};
+use cns_terms::{Refusal, Reply};
 use std::alloc::Global;
 use std::marker::Brand;
 use std::process::Abort;
-use std::sync::Wait;
 use std::sync::ledger::{Blank, Ledger};
+use std::sync::{Arc, Wait};
 use std::test::Fail;
 
 type Tree = TreePositions<Global>;
 
+type TreeDesk<L> = Desk<L, Tree>;
+
 // One day of a trade at 195 dollars that closes at 196, and the statements of its two members.
-fn commands() -> Result<[Command; 8], Fail> {
-    Ok([
-        member(101)?,
-        member(202)?,
-        issue(19_500)?,
-        trade(1, 100)?,
-        price(19_600)?,
-        close(SECOND)?,
-        statement(101, OPENING)?,
-        statement(202, OPENING)?,
-    ])
-}
+const DAY: &str = "MEMBER,101\nMEMBER,202\nISSUE,037833100,19500\n\
+TRADE,1,101,202,037833100,100,1950000,2024-06-03\nPRICE,037833100,19600\nCLOSE,2024-06-04\n\
+STATEMENT,101,2024-06-03\nSTATEMENT,202,2024-06-03\n";
 
-fn stated(number: u16, rows: u64, mark: i128) -> Result<Reply, Fail> {
-    Ok(Reply::Stated(Stated {
-        account: account(number)?,
-        date: day(OPENING)?,
-        rows,
-        mark: Cents::of(mark),
-        dividend: Cents::ZERO,
-    }))
-}
+const DAY_REPLIES: &str = "ok\nok\nok\nok\nok\nclosed 1 2024-06-03 2 0\n\
+statement 101 2024-06-03 1 100.00 0.00\nstatement 202 2024-06-03 1 -100.00 0.00\n";
 
-// What they are answered.
-fn replies() -> Result<[Reply; 8], Fail> {
-    let closed = Reply::Closed(Closed {
-        day: 1,
-        date: day(OPENING)?,
-        rows: 2,
-        liable: 0,
-    });
-    Ok([
-        Reply::Accepted,
-        Reply::Accepted,
-        Reply::Accepted,
-        Reply::Accepted,
-        Reply::Accepted,
-        closed,
-        stated(101, 1, 10_000)?,
-        stated(202, 1, -10_000)?,
-    ])
-}
+// The next day, on which two new shares take the place of each old one.
+const LATER: &str = "PRICE,037833100,5\nSPLIT,037833100,2,1,0\nCLOSE,2024-06-05\n";
 
-// A member's row of the day, of so many shares.
-fn row(number: u16, shares: i64) -> Result<Row, Fail> {
-    let Ok(price) = Price::new(19_600) else {
-        return Err(Fail::new("no price"));
-    };
-    Ok(Row {
-        account: account(number)?,
-        issue: apple()?,
-        opening: 0,
-        closing: shares,
-        opening_price: Price::ZERO,
-        price,
-        money: Cents::of(i128::from(shares) * -19_500),
-        mark: Cents::of(i128::from(shares) * 100),
-        dividend: Cents::ZERO,
-    })
-}
+const LATER_REPLIES: &str = "ok\nok\nclosed 2 2024-06-04 2 0\n";
 
-// Gives the commands under the seat, and checks what they are answered.
-fn check_day<A: Abort, L: Ledger>(
-    rt: &A,
+const STATEMENT: &str = "statement 101 2024-06-03 1 100.00 0.00\n\
+row 037833100 0 100 0.00 196.00 -19500.00 100.00 0.00\n";
+
+// Gives the commands of a day under the seat, and tells what they are answered.
+fn take_day<L: Ledger>(
+    alloc: Global,
     kept: &mut Kept<L, Tree>,
     seat: &mut Seat<L>,
-) -> Result<(), Fail> {
-    let replies = replies()?;
-    for (at, command) in commands()?.into_iter().enumerate() {
+) -> Result<Vec<u8>, Fail> {
+    let mut text = Vec::new(alloc);
+    for command in commands(alloc, DAY)? {
         let Ok(receipt) = kept.take(seat, command) else {
             return Err(Fail::new("not taken"));
         };
-        assert!(rt; replies.get(at) == Some(&receipt.reply), "command {at}");
+        tell(&mut text, &receipt.reply)?;
     }
-    assert_eq!(rt; kept.book().history_len(), 8);
-    assert_eq!(rt; seat.count(), 8);
-    Ok(())
+    Ok(text)
 }
 
 fn check_kept<A: Abort, L: Ledger>(rt: &A, alloc: Global, blank: Blank) -> Result<(), Fail>
@@ -101,13 +54,16 @@ fn check_kept<A: Abort, L: Ledger>(rt: &A, alloc: Global, blank: Blank) -> Resul
     requires parts { blank.parts ≡ L.parts }
     requires one { blank.parts ≡ 1 }
 {
-    let Ok((mut kept, mut seats)) = Kept::<L, Tree>::open(alloc, blank, day(OPENING)?, 1) else {
-        return Err(Fail::new("no seat"));
+    let Ok((mut kept, mut seats)) = Kept::<L, Tree>::open(alloc, blank, day(FIRST)?, 1) else {
+        return Err(Fail::new("no book"));
     };
     let Some(seat) = seats.as_mut_slice().first_mut() else {
         return Err(Fail::new("no seat"));
     };
-    check_day(rt, &mut kept, seat)?;
+    let replies = take_day(alloc, &mut kept, seat)?;
+    assert!(rt; replies.as_slice() == DAY_REPLIES.as_bytes());
+    assert_eq!(rt; kept.book().history_len(), 8);
+    assert_eq!(rt; seat.count(), 8);
     let book = kept.finish(seats);
     assert_eq!(rt; book.history_len(), 8);
     Ok(())
@@ -118,76 +74,82 @@ fn a_seat_takes_a_day_of_commands(rt: HostRuntime) -> Result<(), Fail> {
     check_kept::<HostRuntime, Brand>(&rt, rt.alloc(), Blank::new(1))
 }
 
-// Checks the rows of the day.
-fn check_rows<A: Abort>(rt: &A, sheet: &Sheet<Global>) -> Result<(), Fail> {
-    assert!(rt; sheet.date() == day(OPENING)?);
-    let mut rows = sheet.rows();
-    assert!(rt; rows.next() == Some(row(101, 100)?));
-    assert!(rt; rows.next() == Some(row(202, -100)?));
-    assert!(rt; rows.next().is_none());
-    Ok(())
-}
-
-// Two new shares for each old one.
-fn split() -> Result<Command, Fail> {
-    let Ok(ratio) = Ratio::new(2, 1) else {
-        return Err(Fail::new("no ratio"));
-    };
-    Ok(Command::Activity(Activity::Split(Split {
-        issue: apple()?,
-        ratio,
-        lieu: Price::ZERO,
-    })))
-}
-
-// Gives the commands at the desk, and asks for the sheets of the day that they close and of the open one.
-fn check_desk<R: Abort + Wait, L: Ledger>(
+// Submits the commands of the records under a seat, which get these replies.
+fn submit<R: Abort + Wait, L: Ledger>(
     rt: &R,
-    desk: &Desk<L, Tree>,
+    alloc: Global,
+    desk: &TreeDesk<L>,
     seat: &mut Seat<L>,
+    records: &'static str,
+    replies: &str,
 ) -> Result<(), Fail> {
-    for command in commands()? {
-        if desk.submit(rt, seat, command).is_err() {
-            return Err(Fail::new("not taken"));
-        }
-    }
-    let Ok((receipt, handed)) = desk.sheet(rt, seat, day(OPENING)?) else {
-        return Err(Fail::new("not taken"));
-    };
-    assert!(rt; receipt.reply == stated(0, 0, 0)?);
-    let Some(sheet) = handed else {
-        return Err(Fail::new("no sheet"));
-    };
-    check_rows(rt, &sheet)?;
-    let Ok((receipt, handed)) = desk.sheet(rt, seat, day(SECOND)?) else {
-        return Err(Fail::new("not taken"));
-    };
-    assert!(rt; receipt.reply == Reply::Refused(Refusal::NoSuchDay));
-    assert!(rt; handed.is_none());
-    // what comes later leaves the sheet as it is
-    for command in [price(5)?, split()?, close(b"2024-06-05")?] {
+    let mut text = Vec::new(alloc);
+    for command in commands(alloc, records)? {
         let Ok(receipt) = desk.submit(rt, seat, command) else {
             return Err(Fail::new("not taken"));
         };
-        assert!(rt; !matches!(receipt.reply, Reply::Refused(_)));
+        tell(&mut text, &receipt.reply)?;
     }
-    check_rows(rt, &sheet)?;
+    if text.as_slice() != replies.as_bytes() {
+        return Err(Fail::new(records));
+    }
+    Ok(())
+}
+
+// The reply to a question for the sheet of a date, and the sheet.
+fn handed<R: Abort + Wait, L: Ledger>(
+    rt: &R,
+    desk: &TreeDesk<L>,
+    seat: &mut Seat<L>,
+    date: &str,
+) -> Result<(Reply, Option<Arc<Sheet<Global>>>), Fail> {
+    match desk.sheet(rt, seat, day(date)?) {
+        Ok((receipt, sheet)) => Ok((receipt.reply, sheet)),
+        Err(_) => Err(Fail::new("not taken")),
+    }
+}
+
+// Whether the statement of member 101 on the sheet is that of the day.
+fn is_as_closed(alloc: Global, sheet: &Sheet<Global>) -> Result<bool, Fail> {
+    Ok(stated(alloc, sheet, 101)?.as_slice() == STATEMENT.as_bytes())
+}
+
+// Closes a day, asks for its sheet and for that of the open day, and goes on under the same seat.
+fn check_seat<R: Abort + Wait, L: Ledger>(
+    rt: &R,
+    alloc: Global,
+    desk: &TreeDesk<L>,
+    seat: &mut Seat<L>,
+) -> Result<(), Fail> {
+    submit(rt, alloc, desk, seat, DAY, DAY_REPLIES)?;
+    let (reply, Some(sheet)) = handed(rt, desk, seat, FIRST)? else {
+        return Err(Fail::new("no sheet"));
+    };
+    let mut text = Vec::new(alloc);
+    tell(&mut text, &reply)?;
+    assert!(rt; text.as_slice() == b"statement 0 2024-06-03 0 0.00 0.00\n".as_slice());
+    assert!(rt; is_as_closed(alloc, &sheet)?);
+    let (reply, none) = handed(rt, desk, seat, SECOND)?;
+    assert!(rt; reply == Reply::Refused(Refusal::NoSuchDay));
+    assert!(rt; none.is_none());
+    submit(rt, alloc, desk, seat, LATER, LATER_REPLIES)?;
+    assert!(rt; is_as_closed(alloc, &sheet)?);
     assert_eq!(rt; seat.count(), 13);
     Ok(())
 }
 
-fn check_opened<R: Abort + Wait, L: Ledger>(rt: &R, alloc: Global, blank: Blank) -> Result<(), Fail>
+fn check_desk<R: Abort + Wait, L: Ledger>(rt: &R, alloc: Global, blank: Blank) -> Result<(), Fail>
     requires name { blank.name ≡ L.name }
     requires parts { blank.parts ≡ L.parts }
     requires one { blank.parts ≡ 1 }
 {
-    let Ok((desk, mut seats)) = Desk::<L, Tree>::open(alloc, blank, day(OPENING)?, 1) else {
-        return Err(Fail::new("no seat"));
+    let Ok((desk, mut seats)) = TreeDesk::<L>::open(alloc, blank, day(FIRST)?, 1) else {
+        return Err(Fail::new("no desk"));
     };
     let Some(seat) = seats.as_mut_slice().first_mut() else {
         return Err(Fail::new("no seat"));
     };
-    check_desk(rt, &desk, seat)?;
+    check_seat(rt, alloc, &desk, seat)?;
     let book = desk.finish(seats);
     assert_eq!(rt; book.history_len(), 13);
     Ok(())
@@ -195,7 +157,45 @@ fn check_opened<R: Abort + Wait, L: Ledger>(rt: &R, alloc: Global, blank: Blank)
 
 #[test]
 fn a_desk_hands_out_the_sheet_of_a_closed_day_as_it_stays(rt: HostRuntime) -> Result<(), Fail> {
-    check_opened::<HostRuntime, Brand>(&rt, rt.alloc(), Blank::new(1))
+    check_desk::<HostRuntime, Brand>(&rt, rt.alloc(), Blank::new(1))
+}
+
+// Has one worker close a day and ask for its sheet, and then another one go on.
+fn check_seats<R: Abort + Wait, L: Ledger>(
+    rt: &R,
+    alloc: Global,
+    desk: &TreeDesk<L>,
+    seats: &mut [Seat<L>],
+) -> Result<(), Fail> {
+    let [one, other] = seats else {
+        return Err(Fail::new("not two seats"));
+    };
+    submit(rt, alloc, desk, one, DAY, DAY_REPLIES)?;
+    let (_, Some(sheet)) = handed(rt, desk, one, FIRST)? else {
+        return Err(Fail::new("no sheet"));
+    };
+    assert!(rt; is_as_closed(alloc, &sheet)?);
+    submit(rt, alloc, desk, other, LATER, LATER_REPLIES)?;
+    assert!(rt; is_as_closed(alloc, &sheet)?);
+    Ok(())
+}
+
+fn check_two<R: Abort + Wait, L: Ledger>(rt: &R, alloc: Global, blank: Blank) -> Result<(), Fail>
+    requires name { blank.name ≡ L.name }
+    requires parts { blank.parts ≡ L.parts }
+    requires two { blank.parts ≡ 2 }
+{
+    let Ok((desk, mut seats)) = TreeDesk::<L>::open(alloc, blank, day(FIRST)?, 2) else {
+        return Err(Fail::new("no desk"));
+    };
+    check_seats(rt, alloc, &desk, seats.as_mut_slice())
+}
+
+#[test]
+fn a_sheet_gives_the_same_statement_after_another_workers_split_and_close(
+    rt: HostRuntime,
+) -> Result<(), Fail> {
+    check_two::<HostRuntime, Brand>(&rt, rt.alloc(), Blank::new(2))
 }
 
 // Why no desk is opened for so many workers, and why not what a desk locks.
@@ -208,7 +208,7 @@ fn desk_refused<L: Ledger>(
     requires parts { blank.parts ≡ L.parts }
     requires one_each { blank.parts ≡ workers }
 {
-    let opened = Desk::<L, Tree>::open(alloc, blank, day(OPENING)?, workers);
+    let opened = TreeDesk::<L>::open(alloc, blank, day(FIRST)?, workers);
     Ok(opened.err())
 }
 
@@ -221,7 +221,7 @@ fn kept_refused<L: Ledger>(
     requires parts { blank.parts ≡ L.parts }
     requires one_each { blank.parts ≡ workers }
 {
-    let opened = Kept::<L, Tree>::open(alloc, blank, day(OPENING)?, workers);
+    let opened = Kept::<L, Tree>::open(alloc, blank, day(FIRST)?, workers);
     Ok(opened.err())
 }
 
@@ -239,15 +239,11 @@ fn a_desk_has_1_to_64_seats(rt: HostRuntime) -> Result<(), Fail> {
     for (workers, wanted) in &NUMBERS {
         let workers = *workers;
         let blank = Blank::new(workers as u64);
-        assert!(rt;
-            desk_refused::<Brand>(alloc, blank, workers)? == *wanted,
-            "{workers}"
-        );
+        let refused = desk_refused::<Brand>(alloc, blank, workers)?;
+        assert!(rt; refused == *wanted, "{workers}");
         let blank = Blank::new(workers as u64);
-        assert!(rt;
-            kept_refused::<Brand>(alloc, blank, workers)? == *wanted,
-            "{workers}"
-        );
+        let refused = kept_refused::<Brand>(alloc, blank, workers)?;
+        assert!(rt; refused == *wanted, "{workers}");
     }
     Ok(())
 }
