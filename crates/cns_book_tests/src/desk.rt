@@ -25,10 +25,10 @@ fn trades(text: &mut Vec<u8>, first: u64, last: u64) -> Result<(), Fail> {
 }
 
 // The records of two workers, fifty each. Trades of the second are refused until the first has given three.
-fn hundred(alloc: Global) -> Result<[Vec<u8>; 2], Fail> {
+fn hundred(alloc: Global) -> Result<(Vec<u8>, Vec<u8>), Fail> {
     let mut first = Vec::from_slice(alloc, MEMBERS.as_bytes())?;
     trades(&mut first, 1, 47)?;
     let mut second = Vec::new(alloc);
     trades(&mut second, 101, 150)?;
-    Ok([first, second])
+    Ok((first, second))
 }

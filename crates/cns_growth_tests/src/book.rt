@@ -3,7 +3,7 @@ mod cases;
 mod same;
 
 use crate::refusing::{Handle, MOST, Refusing};
-use cases::{ACCEPTED, Case, REFUSED};
+use cases::{ACCEPTED, Case, REFUSED, UNPAID_DUE, UNPAID_LATER};
 use cns_book::{Book, Receipt, TakeFault};
 use cns_feed::CsvSource;
 use cns_positions::TreePositions;
@@ -278,4 +278,13 @@ fn a_command_that_breaks_a_rule_asks_for_room_in_the_history_alone(rt: HostRunti
         let span = span_of_growths::<Rationed<Refusing>>(&rt, rt.alloc(), &rationed, &case);
         assert_eq!(rt; span, (0, 1), "{record}");
     }
+}
+
+// The one growth more is that of the list of what is due.
+#[test]
+fn a_dividend_that_nobody_is_paid_takes_no_memory_but_for_its_place_on_a_list(rt: HostRuntime) {
+    let rationed = Rationed::new(rt.alloc());
+    let due = growths_of::<Refusing>(&rt, rt.alloc(), &rationed, &UNPAID_DUE, 0);
+    let later = growths_of::<Refusing>(&rt, rt.alloc(), &rationed, &UNPAID_LATER, 0);
+    assert!(rt; due <= later.saturating_add(1), "{due} and {later}");
 }

@@ -150,7 +150,7 @@ fn check_changes<A: Abort>(rt: &A, alloc: Global, outcome: &Outcome) -> Result<(
 }
 
 fn run<R: Threads + Wait + Sync>(rt: &R, alloc: Global) -> Result<Outcome, Fail> {
-    let [first, second] = hundred(alloc)?;
+    let (first, second) = hundred(alloc)?;
     let sources = vec![in alloc;
         ending(alloc, first.as_slice()),
         ending(alloc, second.as_slice()),

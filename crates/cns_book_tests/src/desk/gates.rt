@@ -172,11 +172,9 @@ fn a_hundred_commands_of_two_workers_are_one_history(rt: HostRuntime) -> Result<
         wanted: 3,
         answered: AtomicU64::new(0),
     };
-    let [first, second] = hundred(alloc)?;
-    let (first, second) = (
-        ending(alloc, first.as_slice()),
-        ending(alloc, second.as_slice()),
-    );
+    let (one, two) = hundred(alloc)?;
+    let first = ending(alloc, one.as_slice());
+    let second = ending(alloc, two.as_slice());
     let outcome = run(&rt, alloc, first, second, &gate)?;
     assert_eq!(&rt; outcome.book.history_len(), 100);
     assert_eq!(&rt; outcome.book.count(Worker::new(1)?), 50);

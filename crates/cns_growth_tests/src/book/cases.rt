@@ -130,6 +130,27 @@ pub(super) const ACCEPTED: [Case<'static>; 15] = [
     },
 ];
 
+// A dividend of an issue that nobody holds is due at a close, or later.
+pub(super) const UNPAID_DUE: Case<'static> = Case {
+    before: &[
+        MEMBERS,
+        "DIVIDEND,037833100,2024-06-03,2024-06-04,240000\nCLOSE,2024-06-04\n",
+    ],
+    record: "CLOSE,2024-06-05\n",
+    growths: 0,
+    left: 0,
+};
+
+pub(super) const UNPAID_LATER: Case<'static> = Case {
+    before: &[
+        MEMBERS,
+        "DIVIDEND,037833100,2024-06-03,2024-06-20,240000\nCLOSE,2024-06-04\n",
+    ],
+    record: "CLOSE,2024-06-05\n",
+    growths: 0,
+    left: 0,
+};
+
 // Records of a book, and a command that is refused there.
 pub(super) const REFUSED: [(&[&str], &str); 17] = [
     (&[MEMBERS], "MEMBER,1\n"),
