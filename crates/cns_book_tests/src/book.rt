@@ -4,8 +4,8 @@ mod buy_ins;
 mod heap;
 mod reading;
 
-use crate::script::{FIRST, command, commands, day, tell};
-use cns_book::{Book, Receipt, TakeFault};
+use crate::script::{FIRST, command, commands, day, take, tell};
+use cns_book::{Book, TakeFault};
 use cns_positions::TreePositions;
 use cns_terms::{Activity, Command, Reply, Trade, Worker};
 use std::alloc::{Allocator, Global};
@@ -28,18 +28,6 @@ fn limited(alloc: Global, limit: u32) -> Result<TreeBook<Global>, Fail> {
     match Book::with_limit(alloc, day(FIRST)?, limit) {
         Ok(book) => Ok(book),
         Err(_) => Err(Fail::new("no book")),
-    }
-}
-
-// Gives a book a worker's command.
-fn take<A: Allocator + Drop + Clone>(
-    book: &mut TreeBook<A>,
-    worker: Worker,
-    command: Command,
-) -> Result<Receipt, Fail> {
-    match book.take(worker, command) {
-        Ok(receipt) => Ok(receipt),
-        Err(_) => Err(Fail::new("not taken")),
     }
 }
 

@@ -5,11 +5,13 @@ mod limits;
 mod sources;
 mod turns;
 
-use cns_feed::{load, replay_on, reply_text};
+use crate::script::{FIRST, account, cusip, day};
+use cns_feed::{ReplayFault, load, replay, replay_on, reply_text};
 use cns_positions::{FlatPositions, Positions, TreePositions};
 use cns_terms::{Closed, Held, Holding, Key, Refusal, Reply, Stated};
-use cns_units::{Account, Cents, Cusip, Day};
+use cns_units::{Cents, Day};
 use std::alloc::Global;
+use std::io::{Read, Write};
 use std::process::Abort;
 use std::test::Fail;
 
@@ -21,30 +23,23 @@ const POSITION_INPUT: &str = "MEMBER,101\n\
 
 const POSITION_OUTPUT: &str = "ok\nok\nok\nok\nposition 101 037833100 100 0 -19500.00 0\n";
 
-fn day(text: &str) -> Result<Day, Fail> {
-    match Day::parse(text.as_bytes()) {
-        Ok(day) => Ok(day),
-        Err(_) => Err(Fail::new("no date")),
-    }
+// The fault of a replay, if it ends with one.
+fn fault_of_replay<R: Read, W: Write>(
+    alloc: Global,
+    reader: R,
+    writer: &mut W,
+) -> Result<Option<ReplayFault>, Fail> {
+    Ok(replay(alloc, reader, writer, day(FIRST)?).err())
 }
 
-fn cusip(text: &str) -> Result<Cusip, Fail> {
-    match Cusip::parse(text.as_bytes()) {
-        Ok(cusip) => Ok(cusip),
-        Err(_) => Err(Fail::new("no CUSIP")),
-    }
-}
-
-fn account(number: u16) -> Result<Account, Fail> {
-    match Account::new(number) {
-        Ok(account) => Ok(account),
-        Err(_) => Err(Fail::new("no account")),
-    }
+// The same of a load.
+fn fault_of_load<R: Read>(alloc: Global, reader: R) -> Result<Option<ReplayFault>, Fail> {
+    Ok(load(alloc, reader, day(FIRST)?).err())
 }
 
 #[test]
 fn a_load_keeps_positions(rt: HostRuntime) -> Result<(), Fail> {
-    let loaded = load(rt.alloc(), POSITION_INPUT.as_bytes(), day("2024-06-03")?);
+    let loaded = load(rt.alloc(), POSITION_INPUT.as_bytes(), day(FIRST)?);
     let Ok((book, _)) = loaded else {
         return Err(Fail::new("no book"));
     };
@@ -130,7 +125,7 @@ fn reads_unusual_inputs<P: Positions<Global>>(rt: &impl Abort, alloc: Global, da
 
 #[test]
 fn unusual_inputs_are_read_as_records(rt: HostRuntime) -> Result<(), Fail> {
-    let date = day("2024-06-03")?;
+    let date = day(FIRST)?;
     reads_unusual_inputs::<FlatPositions<Global>>(&rt, rt.alloc(), date);
     reads_unusual_inputs::<TreePositions<Global>>(&rt, rt.alloc(), date);
     Ok(())
@@ -198,7 +193,7 @@ fn a_position_and_a_statement_have_their_texts(rt: HostRuntime) -> Result<(), Fa
     assert_text(&rt, rt.alloc(), &held, text);
     let stated = Reply::Stated(Stated {
         account: account(101)?,
-        date: day("2024-06-03")?,
+        date: day(FIRST)?,
         rows: 1,
         mark: Cents::of(-1),
         dividend: Cents::of(12_345),

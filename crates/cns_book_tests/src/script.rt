@@ -1,10 +1,13 @@
 // Commands, replies and statements as the texts that a clerk reads.
+use cns_book::{Book, Receipt};
 use cns_feed::{CsvSource, reply_text};
+use cns_positions::Positions;
 use cns_sheets::Sheet;
 use cns_statements::{statement, write_statement};
-use cns_terms::{Command, Item, Reply, Source};
+use cns_terms::{Command, Item, Reply, Source, Worker};
 use cns_units::{Account, Cusip, Day};
-use std::alloc::Global;
+use std::alloc::{Allocator, Global};
+use std::io::Read;
 use std::test::Fail;
 
 // The day on which each book opens, and the next one.
@@ -36,15 +39,23 @@ pub(crate) fn account(number: u16) -> Result<Account, Fail> {
     }
 }
 
-// The commands of a text of records, none of which is at fault.
+// The next command of a source, none where it is finished. No record is at fault.
+fn next<R: Read>(source: &mut CsvSource<R>) -> Result<Option<Command>, Fail> {
+    match source.next() {
+        Ok(Item::Given(command)) => Ok(Some(command)),
+        Ok(Item::Finished) => Ok(None),
+        _ => Err(Fail::new("no command")),
+    }
+}
+
+// The commands of a text of records.
 pub(crate) fn commands(alloc: Global, records: &str) -> Result<Vec<Command>, Fail> {
     let mut source = CsvSource::new(alloc, records.as_bytes());
     let mut commands = Vec::new(alloc);
     for _record in 0..=records.len() {
-        match source.next() {
-            Ok(Item::Given(command)) => commands.push(command)?,
-            Ok(Item::Finished) => return Ok(commands),
-            _ => return Err(Fail::new("no command")),
+        match next(&mut source)? {
+            Some(command) => commands.push(command)?,
+            None => return Ok(commands),
         }
     }
     Err(Fail::new("no end of the records"))
@@ -52,9 +63,21 @@ pub(crate) fn commands(alloc: Global, records: &str) -> Result<Vec<Command>, Fai
 
 // The command of a record.
 pub(crate) fn command(alloc: Global, record: &str) -> Result<Command, Fail> {
-    match CsvSource::new(alloc, record.as_bytes()).next() {
-        Ok(Item::Given(command)) => Ok(command),
-        _ => Err(Fail::new("no command")),
+    match next(&mut CsvSource::new(alloc, record.as_bytes()))? {
+        Some(command) => Ok(command),
+        None => Err(Fail::new("no record")),
+    }
+}
+
+// Gives a book a worker's command. A check of a caller need not go through all that a book promises of it.
+pub(crate) fn take<P: Positions<A>, A: Allocator + Drop + Clone>(
+    book: &mut Book<P, A>,
+    worker: Worker,
+    command: Command,
+) -> Result<Receipt, Fail> {
+    match book.take(worker, command) {
+        Ok(receipt) => Ok(receipt),
+        Err(_) => Err(Fail::new("not taken")),
     }
 }
 

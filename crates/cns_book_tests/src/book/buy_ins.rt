@@ -1,6 +1,6 @@
 // What the calls that read a book tell of notices, and of the members that are liable for them.
-use super::{TreeBook, begin, opened, play, take};
-use crate::script::{APPLE, cusip};
+use super::{TreeBook, begin, opened, play};
+use crate::script::{APPLE, cusip, take};
 use cns_terms::{Activity, Command, Liable, Refusal, Reply, Stage, Worker};
 use std::alloc::{Allocator, Global};
 use std::test::Fail;

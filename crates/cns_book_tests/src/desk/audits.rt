@@ -1,9 +1,10 @@
 // Audits of logs in which something was changed.
 use super::hundred;
 use super::inputs::ending;
-use crate::script::{FIRST, command, commands, day};
+use crate::script::{FIRST, command, commands, day, take};
 use cns_book::{Book, Receipt};
 use cns_desk::{DeskBook, Log, LogItem, Outcome, audit, run_workers};
+use cns_positions::Positions;
 use cns_sheets::Sheet;
 use cns_terms::{Activity, Command, NoGate, Reply, Worker};
 use std::alloc::Global;
@@ -100,6 +101,17 @@ fn copied(alloc: Global, log: &Log, change: Change) -> Result<Log, Fail> {
     Ok(copy)
 }
 
+// The worker and the place that an audit of these logs finds.
+fn found_by_audit(book: &DeskBook, logs: &[Log]) -> Result<Option<(u8, usize)>, Fail> {
+    if logs.len() > 64 {
+        return Err(Fail::new("too many logs"));
+    }
+    match audit(book, logs) {
+        Ok(()) => Ok(None),
+        Err(mismatch) => Ok(Some((mismatch.worker.value(), mismatch.place))),
+    }
+}
+
 // The worker and the place at which the logs differ, changed so.
 fn found(
     alloc: Global,
@@ -112,10 +124,7 @@ fn found(
     let first = copied(alloc, one, changes[0])?;
     let second = copied(alloc, two, changes[1])?;
     let logs = vec![in alloc; first, second]?;
-    match audit(&outcome.book, logs.as_slice()) {
-        Ok(()) => Ok(None),
-        Err(mismatch) => Ok(Some((mismatch.worker.value(), mismatch.place))),
-    }
+    found_by_audit(&outcome.book, logs.as_slice())
 }
 
 // Which worker's log of fifty items is changed and how, and the worker and the place that an audit finds.
@@ -202,22 +211,11 @@ fn some_logs(
     Ok(logs)
 }
 
-// The worker and the place that an audit of these logs finds.
-fn audited(outcome: &Outcome, logs: &[Log]) -> Result<Option<(u8, usize)>, Fail> {
-    if logs.len() > 64 {
-        return Err(Fail::new("too many logs"));
-    }
-    match audit(&outcome.book, logs) {
-        Ok(()) => Ok(None),
-        Err(mismatch) => Ok(Some((mismatch.worker.value(), mismatch.place))),
-    }
-}
-
 // Checks audits of fewer and of more logs than the two that are whole.
 fn check_counts<A: Abort>(rt: &A, alloc: Global, outcome: &Outcome) -> Result<(), Fail> {
     for (whole, empty, more, wanted) in &COUNTS {
         let logs = some_logs(alloc, outcome, *whole, *empty, *more)?;
-        let place = audited(outcome, logs.as_slice())?;
+        let place = found_by_audit(&outcome.book, logs.as_slice())?;
         assert!(rt; place == *wanted, "{whole} and {empty}");
     }
     Ok(())
@@ -242,17 +240,36 @@ fn a_worker_without_a_log_has_an_empty_one(rt: HostRuntime) -> Result<(), Fail> 
 }
 
 // The sheet of a date that is kept in a log, none where no date is given.
-fn kept(book: &DeskBook, date: Option<&str>) -> Result<Option<Arc<Sheet<Global>>>, Fail> {
+fn kept<P: Positions<Global>>(
+    book: &Book<P, Global>,
+    date: Option<&str>,
+) -> Result<Option<Arc<Sheet<Global>>>, Fail> {
     let Some(text) = date else {
         return Ok(None);
     };
-    let Some(sheet) = book.sheet(day(text)?) else {
-        return Err(Fail::new("no sheet"));
-    };
+    match book.sheet(day(text)?) {
+        Some(sheet) => Ok(Some(copied_sheet(sheet)?)),
+        None => Err(Fail::new("no sheet")),
+    }
+}
+
+fn copied_sheet(sheet: &Arc<Sheet<Global>>) -> Result<Arc<Sheet<Global>>, Fail> {
     match Arc::try_clone(sheet) {
-        Ok(copy) => Ok(Some(copy)),
+        Ok(copy) => Ok(copy),
         Err(_) => Err(Fail::new("no memory")),
     }
+}
+
+// Gives a book worker 1's command, and logs it with the sheet of a date.
+fn take_and_log<P: Positions<Global>>(
+    book: &mut Book<P, Global>,
+    log: &mut Log,
+    command: Command,
+    date: Option<&str>,
+) -> Result<(), Fail> {
+    let receipt = take(book, Worker::FIRST, command)?;
+    let sheet = kept(book, date)?;
+    add(log, receipt, command, sheet)
 }
 
 // Two days, whose sheets differ.
@@ -260,34 +277,31 @@ const DAYS: &str = "MEMBER,101\nMEMBER,202\nISSUE,037833100,19500\n\
 TRADE,1,101,202,037833100,100,1950000,2024-06-03\nCLOSE,2024-06-04\nPRICE,037833100,19500\n\
 CLOSE,2024-06-05\n";
 
-// Gives a book worker 1's command, and logs it with the sheet of a date.
-fn take(
-    book: &mut DeskBook,
+fn take_days<P: Positions<Global>>(
+    alloc: Global,
+    book: &mut Book<P, Global>,
     log: &mut Log,
-    command: Command,
-    date: Option<&str>,
 ) -> Result<(), Fail> {
-    let Ok(receipt) = book.take(Worker::FIRST, command) else {
-        return Err(Fail::new("not taken"));
-    };
-    add(log, receipt, command, kept(book, date)?)
+    for command in commands(alloc, DAYS)? {
+        take_and_log(book, log, command, None)?;
+    }
+    Ok(())
 }
 
-// The place at which a log of two days differs that ends in the command of this record with this sheet.
-fn ending_differs(alloc: Global, record: &str, date: Option<&str>) -> Result<Option<usize>, Fail> {
-    let Ok(mut book) = Book::new(alloc, day(FIRST)?) else {
+// The place at which a log of two days differs that ends in this command with this sheet.
+fn ending_differs(
+    alloc: Global,
+    command: &Command,
+    date: Option<&str>,
+) -> Result<Option<usize>, Fail> {
+    let Ok(mut book) = DeskBook::new(alloc, day(FIRST)?) else {
         return Err(Fail::new("no book"));
     };
     let mut log = Log::new(alloc);
-    for command in commands(alloc, DAYS)? {
-        take(&mut book, &mut log, command, None)?;
-    }
-    take(&mut book, &mut log, command(alloc, record)?, date)?;
+    take_days(alloc, &mut book, &mut log)?;
+    take_and_log(&mut book, &mut log, *command, date)?;
     let logs = vec![in alloc; log]?;
-    match audit(&book, logs.as_slice()) {
-        Ok(()) => Ok(None),
-        Err(mismatch) => Ok(Some(mismatch.place)),
-    }
+    Ok(found_by_audit(&book, logs.as_slice())?.map(|found| found.1))
 }
 
 // The record that is logged last, the eighth, the date of the sheet that is logged with it, and the place at which the log
@@ -324,7 +338,7 @@ const SHEETS: [(&str, &str, Option<&str>, Option<usize>); 6] = [
 #[test]
 fn a_sheet_in_a_log_is_that_of_the_day_of_its_statement(rt: HostRuntime) -> Result<(), Fail> {
     for (name, record, date, wanted) in &SHEETS {
-        let place = ending_differs(rt.alloc(), record, *date)?;
+        let place = ending_differs(rt.alloc(), &command(rt.alloc(), record)?, *date)?;
         assert!(rt; place == *wanted, "{name}");
     }
     Ok(())

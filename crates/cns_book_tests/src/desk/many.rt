@@ -2,8 +2,10 @@
 use super::gates::Meeting;
 use super::inputs::ending;
 use super::lots::{Lot, closing};
-use crate::script::{FIRST, day};
+use crate::script::{FIRST, day, take};
+use cns_book::Book;
 use cns_desk::{DeskBook, End, Outcome, run_workers};
+use cns_positions::Positions;
 use cns_terms::Taken;
 use std::alloc::Global;
 use std::process::Abort;
@@ -65,20 +67,26 @@ fn texts(alloc: Global, size: Size, seed: u64) -> Result<Vec<Vec<u8>>, Fail> {
     Ok(texts)
 }
 
-// Whether the history has the replies that one caller is given who takes its commands in its order.
-fn is_one_callers(alloc: Global, history: &[Taken]) -> Result<bool, Fail> {
-    let Ok(mut book) = DeskBook::new(alloc, day(FIRST)?) else {
-        return Err(Fail::new("no book"));
-    };
+// Whether a book that has taken nothing gives the replies of a history.
+fn gives_replies<P: Positions<Global>>(
+    book: &mut Book<P, Global>,
+    history: &[Taken],
+) -> Result<bool, Fail> {
     for entry in history {
-        let Ok(receipt) = book.take(entry.worker, entry.command) else {
-            return Err(Fail::new("not taken"));
-        };
+        let receipt = take(book, entry.worker, entry.command)?;
         if receipt.reply != entry.reply || receipt.seq != entry.seq {
             return Ok(false);
         }
     }
     Ok(true)
+}
+
+// Whether the history has the replies that one caller is given who takes its commands in its order.
+fn is_one_callers(alloc: Global, history: &[Taken]) -> Result<bool, Fail> {
+    match DeskBook::new(alloc, day(FIRST)?) {
+        Ok(mut book) => gives_replies(&mut book, history),
+        Err(_) => Err(Fail::new("no book")),
+    }
 }
 
 // How many commands and how many records at fault the logs have.

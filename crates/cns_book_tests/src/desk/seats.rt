@@ -5,7 +5,7 @@ use crate::script::{FIRST, SECOND, commands, day, stated, tell};
 use cns_desk::{Desk, Kept, OpenFault, Seat};
 use cns_positions::TreePositions;
 use cns_sheets::Sheet;
-use cns_terms::{Refusal, Reply};
+use cns_terms::{Command, Refusal, Reply};
 use std::alloc::Global;
 use std::marker::Brand;
 use std::process::Abort;
@@ -33,6 +33,18 @@ const LATER_REPLIES: &str = "ok\nok\nclosed 2 2024-06-04 2 0\n";
 const STATEMENT: &str = "statement 101 2024-06-03 1 100.00 0.00\n\
 row 037833100 0 100 0.00 196.00 -19500.00 100.00 0.00\n";
 
+// What a command is answered under the seat.
+fn take_one<L: Ledger>(
+    kept: &mut Kept<L, Tree>,
+    seat: &mut Seat<L>,
+    command: Command,
+) -> Result<Reply, Fail> {
+    match kept.take(seat, command) {
+        Ok(receipt) => Ok(receipt.reply),
+        Err(_) => Err(Fail::new("not taken")),
+    }
+}
+
 // Gives the commands of a day under the seat, and tells what they are answered.
 fn take_day<L: Ledger>(
     alloc: Global,
@@ -41,10 +53,7 @@ fn take_day<L: Ledger>(
 ) -> Result<Vec<u8>, Fail> {
     let mut text = Vec::new(alloc);
     for command in commands(alloc, DAY)? {
-        let Ok(receipt) = kept.take(seat, command) else {
-            return Err(Fail::new("not taken"));
-        };
-        tell(&mut text, &receipt.reply)?;
+        tell(&mut text, &take_one(kept, seat, command)?)?;
     }
     Ok(text)
 }
@@ -74,6 +83,19 @@ fn a_seat_takes_a_day_of_commands(rt: HostRuntime) -> Result<(), Fail> {
     check_kept::<HostRuntime, Brand>(&rt, rt.alloc(), Blank::new(1))
 }
 
+// What a command is answered at the desk.
+fn submit_one<R: Abort + Wait, L: Ledger>(
+    rt: &R,
+    desk: &TreeDesk<L>,
+    seat: &mut Seat<L>,
+    command: Command,
+) -> Result<Reply, Fail> {
+    match desk.submit(rt, seat, command) {
+        Ok(receipt) => Ok(receipt.reply),
+        Err(_) => Err(Fail::new("not taken")),
+    }
+}
+
 // Submits the commands of the records under a seat, which get these replies.
 fn submit<R: Abort + Wait, L: Ledger>(
     rt: &R,
@@ -85,10 +107,7 @@ fn submit<R: Abort + Wait, L: Ledger>(
 ) -> Result<(), Fail> {
     let mut text = Vec::new(alloc);
     for command in commands(alloc, records)? {
-        let Ok(receipt) = desk.submit(rt, seat, command) else {
-            return Err(Fail::new("not taken"));
-        };
-        tell(&mut text, &receipt.reply)?;
+        tell(&mut text, &submit_one(rt, desk, seat, command)?)?;
     }
     if text.as_slice() != replies.as_bytes() {
         return Err(Fail::new(records));

@@ -1,5 +1,5 @@
 // How many records are read: fewer than the most that may be, and as many as an input has, however long it is.
-use super::day;
+use crate::script::{FIRST, day};
 use cns_feed::{CsvSource, ReplayFault, Summary, load, load_up_to, replay, replay_up_to};
 use cns_positions::TreePositions;
 use cns_terms::{Item, Source, SourceFault};
@@ -60,7 +60,7 @@ fn replayed(
     input: &[u8],
     most: u32,
 ) -> Result<(Option<ReplayFault>, Vec<u8>), Fail> {
-    let date = day("2024-06-03")?;
+    let date = day(FIRST)?;
     let mut output = Vec::new(alloc);
     let fault = replay_up_to::<Tree, &[u8], Vec<u8>>(alloc, input, &mut output, date, most).err();
     Ok((fault, output))
@@ -76,7 +76,7 @@ fn ends_at_limit(alloc: Global, input: &[u8], count: u32, most: u32) -> Result<b
     };
     let (replayed, output) = replayed(alloc, input, most)?;
     let replies = times(alloc, "refused 14\n", read)?;
-    let loaded = load_up_to::<Tree, &[u8]>(alloc, input, day("2024-06-03")?, most).err();
+    let loaded = load_up_to::<Tree, &[u8]>(alloc, input, day(FIRST)?, most).err();
     let is_replayed = replayed == fault && output.as_slice() == replies.as_slice();
     Ok(is_replayed && loaded == fault && drained(alloc, input, most) == Some((read, end)))
 }
@@ -108,10 +108,10 @@ fn a_long_input_is_read_to_its_end(rt: HostRuntime) -> Result<(), Fail> {
         closes: 0,
     };
     let mut output = Vec::new(alloc);
-    let replayed = replay(alloc, input.as_slice(), &mut output, day("2024-06-03")?);
+    let replayed = replay(alloc, input.as_slice(), &mut output, day(FIRST)?);
     assert!(rt; replayed == Ok(counts));
     assert!(rt; output.as_slice() == times(alloc, "refused 14\n", MANY)?.as_slice());
-    let loaded = load(alloc, input.as_slice(), day("2024-06-03")?);
+    let loaded = load(alloc, input.as_slice(), day(FIRST)?);
     assert!(rt; loaded.ok().map(|pair| pair.1) == Some(counts));
     let drained = drained(alloc, input.as_slice(), u32::MAX);
     assert!(rt; drained == Some((MANY, Ok(Item::Finished))));

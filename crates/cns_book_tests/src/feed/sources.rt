@@ -1,7 +1,8 @@
 // What a source over a reader's records gives, one item after another.
-use super::day;
 use super::ends::{Cut, Signals, Source as Blocks, Watch};
-use cns_feed::{CsvSource, ReplayFault, load, replay};
+use super::{fault_of_load, fault_of_replay};
+use crate::script::day;
+use cns_feed::{CsvSource, ReplayFault};
 use cns_terms::{Activity, Command, Item, Source, SourceFault};
 use cns_units::Member;
 use std::alloc::Global;
@@ -119,7 +120,7 @@ fn replay_fails(alloc: Global, cuts: &[Cut], failing: Failing, text: &str) -> Re
     let watch = Watch::new();
     let mut output = Vec::new(alloc);
     let reader = reader(cuts, failing, &watch);
-    let fault = replay(alloc, reader, &mut output, day("2024-06-03")?).err();
+    let fault = fault_of_replay(alloc, reader, &mut output)?;
     let is_told = fault == Some(ReplayFault::Read) && output.as_slice() == text.as_bytes();
     Ok(is_told && !watch.is_called_after.get())
 }
@@ -127,7 +128,7 @@ fn replay_fails(alloc: Global, cuts: &[Cut], failing: Failing, text: &str) -> Re
 // The same of a load.
 fn load_fails(alloc: Global, cuts: &[Cut], failing: Failing) -> Result<bool, Fail> {
     let watch = Watch::new();
-    let fault = load(alloc, reader(cuts, failing, &watch), day("2024-06-03")?).err();
+    let fault = fault_of_load(alloc, reader(cuts, failing, &watch))?;
     Ok(fault == Some(ReplayFault::Read) && !watch.is_called_after.get())
 }
 

@@ -1,7 +1,7 @@
 // When the two ends of a replay are called: replies before the next records, and nothing after a failure.
 use super::ends::{Cut, Signals, Sink, Source, Watch};
-use super::{POSITION_INPUT, POSITION_OUTPUT, day};
-use cns_feed::{ReplayFault, replay};
+use super::{POSITION_INPUT, POSITION_OUTPUT, fault_of_replay};
+use cns_feed::ReplayFault;
 use std::alloc::Global;
 use std::test::Fail;
 
@@ -72,7 +72,7 @@ fn play(
     };
     let mut source = Source::new(input, cuts, fails, &watch);
     source.signals = Signals::new(limits.is_interrupted);
-    let fault = replay(alloc, source, &mut output, day("2024-06-03")?).err();
+    let fault = fault_of_replay(alloc, source, &mut output)?;
     Ok(Played {
         fault,
         taken: output.taken,
