@@ -24,7 +24,7 @@ const POSITION_INPUT: &str = "MEMBER,101\n\
 const POSITION_OUTPUT: &str = "ok\nok\nok\nok\nposition 101 037833100 100 0 -19500.00 0\n";
 
 // The fault of a replay, if it ends with one.
-fn fault_of_replay<R: Read, W: Write>(
+fn fault_of_replay<R: Read + Drop, W: Write>(
     alloc: Global,
     reader: R,
     writer: &mut W,
@@ -33,7 +33,7 @@ fn fault_of_replay<R: Read, W: Write>(
 }
 
 // The same of a load.
-fn fault_of_load<R: Read>(alloc: Global, reader: R) -> Result<Option<ReplayFault>, Fail> {
+fn fault_of_load<R: Read + Drop>(alloc: Global, reader: R) -> Result<Option<ReplayFault>, Fail> {
     Ok(load(alloc, reader, day(FIRST)?).err())
 }
 
