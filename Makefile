@@ -4,6 +4,7 @@ SHELL := bash
 .SHELLFLAGS := -eu -o pipefail -c
 
 PROGRAM := crates/cnsbook/out/cnsbook
+DRIVER := crates/cns_desk_growths/out/cns_desk_growths
 OPENING := 2024-06-03
 SAMPLES := day week actions buy-in
 
@@ -61,7 +62,7 @@ test:
 	@python3 tests/times.py env RT_JOBS="$$(nproc)" rt ci; \
 	    bash tests/pipe.sh $(PROGRAM); \
 	    bash tests/status.sh $(PROGRAM); \
-	    bash tests/refused.sh $(PROGRAM); \
+	    bash tests/refused.sh $(PROGRAM) $(DRIVER); \
 	    bash tests/bytes.sh $(PROGRAM); \
 	    bash tests/quoted.sh $(PROGRAM); \
 	    python3 tests/fuzz.py --model; \

@@ -2,11 +2,13 @@
 # Refuses each growth of the program's memory in turn, by a library that is loaded before the C library, and looks at its
 # status and at both outputs.
 #
-# usage: tests/refused.sh PROGRAM
+# usage: tests/refused.sh PROGRAM DRIVER
+# DRIVER is the program of cns_desk_growths, which makes those calls of a desk that no subcommand makes.
 # Prints a line for each input that passes. Prints one line of what failed, and exits with status 1 then.
 set -u
 
-program=$(realpath "${1:?usage: tests/refused.sh PROGRAM}")
+program=$(realpath "${1:?usage: tests/refused.sh PROGRAM DRIVER}")
+driver=$(realpath "${2:?usage: tests/refused.sh PROGRAM DRIVER}")
 tests=$(realpath "$(dirname "$0")")
 examples=$tests/../examples
 # More growths than any run here asks for.
@@ -112,6 +114,38 @@ drive() {
     fail "$name: no end of growths"
 }
 
+# How a run of the driver ended, in which a growth was refused: its call found no memory and did at once what it does, or the
+# records could not be read; nothing where that is no end that it may have.
+call_of() {
+    case $ended,$errors in
+        3,) [ -z "$output" ] && call=read ;;
+        0,$'open\n' | 0,$'submit\n' | 0,$'sheet\n' | 0,$'reserve\n') [ "$output" = "$whole" ] && call=${errors%$'\n'} ;;
+        *) false ;;
+    esac
+}
+
+# Refuses each growth of the driver in turn.
+drive_desk() {
+    local input=$tests/../crates/cns_desk_growths/stdin growth name met=' '
+    "$driver" <"$input" >"$room/whole" 2>"$room/errors" || fail "desk: status $? with all memory"
+    take whole "$room/whole"
+    program=$driver
+    for growth in $(seq 1 "$most"); do
+        starve "$growth" <"$input"
+        if [ -z "$told" ]; then
+            is_whole || fail "desk: status $ended where nothing was refused"
+            for name in read open submit sheet reserve; do
+                [[ $met == *" $name "* ]] || fail "desk: no growth of the call '$name'"
+            done
+            echo "refused: a desk and its log: $((growth - 1)) growths"
+            return
+        fi
+        call_of || fail "desk, growth $growth: status $ended, '$errors', ${#output} bytes"
+        met="$met$call "
+    done
+    fail 'desk: no end of growths'
+}
+
 # The records of a file: members, an issue and so many trades that no other file has, so that any order gives one tally.
 records() {
     local number=$1 issue=$2 trades=$3
@@ -132,3 +166,4 @@ drive 'statements by four workers' "$examples/week.csv" 'nothing spawn' statemen
 # Each worker has a thread of its own, whose start asks for memory.
 [ "$growths" -gt "$by_one" ] || fail 'four workers ask for no more than one'
 drive 'a run of two files' /dev/null 'nothing spawn worker-1 worker-2' run --open 2024-06-03 "$room/one.csv" "$room/two.csv"
+drive_desk
