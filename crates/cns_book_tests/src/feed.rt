@@ -5,7 +5,8 @@ mod limits;
 mod sources;
 mod turns;
 
-use crate::script::{FIRST, account, cusip, day};
+use crate::script::{APPLE, FIRST, account, cusip, day};
+use cns_book::Book;
 use cns_feed::{ReplayFault, load, replay, replay_on, reply_text};
 use cns_positions::{FlatPositions, Positions, TreePositions};
 use cns_terms::{Closed, Held, Holding, Key, Refusal, Reply, Stated};
@@ -37,20 +38,34 @@ fn fault_of_load<R: Read + Drop>(alloc: Global, reader: R) -> Result<Option<Repl
     Ok(load(alloc, reader, day(FIRST)?).err())
 }
 
+// What a member holds in a book.
+fn held<P: Positions<Global>>(
+    book: &Book<P, Global>,
+    number: u16,
+) -> Result<Option<Holding>, Fail> {
+    Ok(book.position(account(number)?, cusip(APPLE)?))
+}
+
+// What a member holds after a load.
+fn held_after_load(alloc: Global, records: &str, number: u16) -> Result<Option<Holding>, Fail> {
+    match load(alloc, records.as_bytes(), day(FIRST)?) {
+        Ok((book, _)) => held(&book, number),
+        Err(_) => Err(Fail::new("no book")),
+    }
+}
+
+// Member 202 after the records.
+const SOLD: Holding = Holding {
+    now: -100,
+    opening: 0,
+    contract: 1_950_000,
+    run: 0,
+};
+
 #[test]
 fn a_load_keeps_positions(rt: HostRuntime) -> Result<(), Fail> {
-    let loaded = load(rt.alloc(), POSITION_INPUT.as_bytes(), day(FIRST)?);
-    let Ok((book, _)) = loaded else {
-        return Err(Fail::new("no book"));
-    };
-    let held = book.position(account(202)?, cusip("037833100")?);
-    let expected = Holding {
-        now: -100,
-        opening: 0,
-        contract: 1_950_000,
-        run: 0,
-    };
-    assert!(rt; held == Some(expected));
+    let held = held_after_load(rt.alloc(), POSITION_INPUT, 202)?;
+    assert!(rt; held == Some(SOLD));
     Ok(())
 }
 

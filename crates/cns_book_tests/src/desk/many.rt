@@ -38,18 +38,30 @@ impl Size {
     }
 }
 
+// A worker's share of the beginning.
+fn begin(text: &mut Vec<u8>, lot: &mut Lot, size: Size, worker: usize) -> Result<(), Fail> {
+    for at in 0..10 {
+        if size.has(worker, at) {
+            lot.beginning(text, at)?;
+        }
+    }
+    Ok(())
+}
+
+// So many records of a day.
+fn draw(text: &mut Vec<u8>, lot: &mut Lot, records: usize, at: usize) -> Result<(), Fail> {
+    for _record in 0..records {
+        lot.record(text, at)?;
+    }
+    Ok(())
+}
+
 // A worker's records: its share of the beginning, and then so many for each day. One worker closes the days.
 fn drawn(alloc: Global, lot: &mut Lot, size: Size, worker: usize) -> Result<Vec<u8>, Fail> {
     let mut text = Vec::new(alloc);
-    for at in 0..10 {
-        if size.has(worker, at) {
-            lot.beginning(&mut text, at)?;
-        }
-    }
+    begin(&mut text, lot, size, worker)?;
     for at in 0..size.days {
-        for _turn in 0..size.each {
-            lot.record(&mut text, at)?;
-        }
+        draw(&mut text, lot, size.each, at)?;
         if worker == 0 {
             closing(&mut text, at)?;
         }

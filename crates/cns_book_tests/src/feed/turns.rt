@@ -3,6 +3,7 @@ use super::ends::{Cut, Signals, Sink, Source, Watch};
 use super::{POSITION_INPUT, POSITION_OUTPUT, fault_of_replay};
 use cns_feed::ReplayFault;
 use std::alloc::Global;
+use std::io::Write;
 use std::test::Fail;
 
 // How many bytes a writer takes a call and in all, whether a call without room is an error, how often it can be flushed,
@@ -90,11 +91,11 @@ fn whole(bytes: &[u8], due: usize) -> [Cut; 1] {
     [Cut { end, due }]
 }
 
-// The blocks of a text, with bars between them.
-fn blocks(alloc: Global, text: &str, dues: &[usize]) -> Result<(Vec<u8>, Vec<Cut>), Fail> {
+// An input of these blocks, and where they end.
+fn blocks(alloc: Global, parts: &[(&str, usize)]) -> Result<(Vec<u8>, Vec<Cut>), Fail> {
     let (mut bytes, mut cuts) = (Vec::new(alloc), Vec::new(alloc));
-    for (block, due) in text.as_bytes().split(|&byte| byte == b'|').zip(dues) {
-        bytes.extend_from_slice(block)?;
+    for (block, due) in parts {
+        bytes.extend_from_slice(block.as_bytes())?;
         let (end, due) = (bytes.len(), *due);
         cuts.push(Cut { end, due })?;
     }
@@ -105,14 +106,12 @@ fn blocks(alloc: Global, text: &str, dues: &[usize]) -> Result<(Vec<u8>, Vec<Cut
 fn members(
     alloc: Global,
     count: u8,
-    before: &[u8],
-    after: &[u8],
+    before: &str,
+    after: &str,
 ) -> Result<(Vec<u8>, Vec<u8>), Fail> {
     let (mut input, mut output) = (Vec::new(alloc), Vec::new(alloc));
     for member in 10..count.saturating_add(10) {
-        input.extend_from_slice(before)?;
-        input.extend_from_slice(&[b'0' + member / 10 % 10, b'0' + member % 10])?;
-        input.extend_from_slice(after)?;
+        write!(input, "{before}{member}{after}")?;
         output.extend_from_slice(b"ok\n")?;
     }
     Ok((input, output))
@@ -138,141 +137,172 @@ fn pieces(alloc: Global, input: &[u8], line_end: u8, size: usize) -> Result<Vec<
     Ok(cuts)
 }
 
-// The blocks of an input, with bars between them, and how many bytes of replies are due after each.
-const BLOCKS: [(&str, &str, &[usize]); 20] = [
+// The blocks of an input, and how many bytes of replies are due after each.
+const BLOCKS: [(&str, &[(&str, usize)]); 20] = [
     (
         "a record at a time",
-        "MEMBER,1\n|MEMBER,1\n|MEMBER,2\n",
-        &[3, 13, 16],
+        &[("MEMBER,1\n", 3), ("MEMBER,1\n", 13), ("MEMBER,2\n", 16)],
     ),
     (
         "a block that ends inside of a record",
-        "MEMBER,1\nMEMB|ER,2\nMEMBER,3\n",
-        &[3, 9],
+        &[("MEMBER,1\nMEMB", 3), ("ER,2\nMEMBER,3\n", 9)],
     ),
     (
         "a block that ends inside of CR LF",
-        "MEMBER,1\r|\nMEMBER,2\r\n|MEMBER,3\r\n",
-        &[3, 6, 9],
+        &[
+            ("MEMBER,1\r", 3),
+            ("\nMEMBER,2\r\n", 6),
+            ("MEMBER,3\r\n", 9),
+        ],
     ),
     (
         "a block that begins with the end of a record",
-        "MEMBER,1|\n|MEMBER,2\n",
-        &[0, 3, 6],
+        &[("MEMBER,1", 0), ("\n", 3), ("MEMBER,2\n", 6)],
     ),
     (
         "a block that ends inside of a quoted field",
-        "MEMBER,1\nMEMBER,\"2|\"\nMEMBER,3\n",
-        &[3, 9],
+        &[("MEMBER,1\nMEMBER,\"2", 3), ("\"\nMEMBER,3\n", 9)],
     ),
     (
         "a line end in a quoted field",
-        "MEMBER,1\nMEMBER,\"2\n|3\n4|5\"\nMEMBER,6\nMEM",
-        &[3, 3, 18],
+        &[
+            ("MEMBER,1\nMEMBER,\"2\n", 3),
+            ("3\n4", 3),
+            ("5\"\nMEMBER,6\nMEM", 18),
+        ],
     ),
     (
         "whole records after a quote",
-        "\"MEMBER\",1\nMEMBER,2\nMEMBER,3\nMEM|BER,4\n",
-        &[9, 12],
+        &[
+            ("\"MEMBER\",1\nMEMBER,2\nMEMBER,3\nMEM", 9),
+            ("BER,4\n", 12),
+        ],
     ),
     (
         "a doubled quote in two blocks",
-        "MEMBER,1\n\"A\"|\"\n\",1\nMEMBER,2\n|MEMBER,3\n",
-        &[3, 16, 19],
+        &[
+            ("MEMBER,1\n\"A\"", 3),
+            ("\"\n\",1\nMEMBER,2\n", 16),
+            ("MEMBER,3\n", 19),
+        ],
     ),
     (
         "a field that goes on after its quotes",
-        "MEMBER,\"1\"|2\"\nMEMBER,3\n|MEMBER,4\n",
-        &[0, 15, 18],
+        &[
+            ("MEMBER,\"1\"", 0),
+            ("2\"\nMEMBER,3\n", 15),
+            ("MEMBER,4\n", 18),
+        ],
     ),
     (
         "a quote inside of a field",
-        "MEMBER,1\"\nMEMBER,3\n|MEMBER,4\n",
-        &[15, 18],
+        &[("MEMBER,1\"\nMEMBER,3\n", 15), ("MEMBER,4\n", 18)],
     ),
     (
         "a quote at the start of a block",
-        "MEMBER,|\"1\"\n|MEMBER,2\n",
-        &[0, 3, 6],
+        &[("MEMBER,", 0), ("\"1\"\n", 3), ("MEMBER,2\n", 6)],
     ),
     (
         "a quote inside of a field at the start of a block",
-        "MEMBER,1|\"\nMEMBER,2\n|\"\n\",1\n",
-        &[0, 15, 25],
+        &[("MEMBER,1", 0), ("\"\nMEMBER,2\n", 15), ("\"\n\",1\n", 25)],
     ),
     (
         "a line end after a block that ends with a quote",
-        "MEMBER,\"1\"|\nMEMBER,2\n|MEMBER,3\n",
-        &[0, 6, 9],
+        &[("MEMBER,\"1\"", 0), ("\nMEMBER,2\n", 6), ("MEMBER,3\n", 9)],
     ),
     (
         "blank lines before quotes",
-        "\n\r\n\"MEMBER\",1\n\n|\n\"MEMBER\",2\n|\n",
-        &[3, 6, 6],
+        &[
+            ("\n\r\n\"MEMBER\",1\n\n", 3),
+            ("\n\"MEMBER\",2\n", 6),
+            ("\n", 6),
+        ],
     ),
     (
         "a quote that is never closed",
-        "MEMBER,1\nMEMBER,\"2\n|MEMBER,3\n|MEMBER,4",
-        &[3, 3, 3],
+        &[
+            ("MEMBER,1\nMEMBER,\"2\n", 3),
+            ("MEMBER,3\n", 3),
+            ("MEMBER,4", 3),
+        ],
     ),
     (
         "a byte order mark in pieces before a quote",
-        "\u{FEFF}|\"MEMBER\",1\n|\"\n\",1\n",
-        &[0, 3, 13],
+        &[("\u{FEFF}", 0), ("\"MEMBER\",1\n", 3), ("\"\n\",1\n", 13)],
     ),
     (
         "blank lines",
-        "\n\nMEMBER,1\n\n\r\n|\n|\r\nMEMBER,2\n\n",
-        &[3, 3, 6],
+        &[
+            ("\n\nMEMBER,1\n\n\r\n", 3),
+            ("\n", 3),
+            ("\r\nMEMBER,2\n\n", 6),
+        ],
     ),
     (
         "a byte order mark",
-        "\u{FEFF}MEMBER,1\n|MEMBER,2\n",
-        &[3, 6],
+        &[("\u{FEFF}MEMBER,1\n", 3), ("MEMBER,2\n", 6)],
     ),
-    ("records at fault", "X\nMEMBER,x\n|MEMBER\n", &[22, 33]),
+    (
+        "records at fault",
+        &[("X\nMEMBER,x\n", 22), ("MEMBER\n", 33)],
+    ),
     (
         "a last record without a line end",
-        "MEMBER,1\nMEMBER,2",
-        &[3],
+        &[("MEMBER,1\nMEMBER,2", 3)],
     ),
 ];
 
+// Whether a replay of these blocks is flushed in time, to the end, and seldom.
+fn is_flushed(alloc: Global, parts: &[(&str, usize)]) -> Result<bool, Fail> {
+    let (input, cuts) = blocks(alloc, parts)?;
+    let played = play(alloc, input.as_slice(), cuts.as_slice(), false, NONE)?;
+    let due = parts.last().map_or(0, |part| part.1);
+    let is_whole = due <= played.flushed && played.flushed == played.taken.len();
+    Ok(played.fault.is_none() && !played.is_late && is_whole && played.is_seldom_flushed())
+}
+
 #[test]
 fn replies_are_flushed_before_more_is_asked_for(rt: HostRuntime) -> Result<(), Fail> {
-    for (name, text, dues) in &BLOCKS {
-        let (input, cuts) = blocks(rt.alloc(), text, dues)?;
-        let played = play(rt.alloc(), input.as_slice(), cuts.as_slice(), false, NONE)?;
-        let due = dues.last().copied().unwrap_or(0);
-        let is_flushed = due <= played.flushed && played.flushed == played.taken.len();
-        assert!(rt;
-            played.fault.is_none() && !played.is_late && is_flushed && played.is_seldom_flushed(),
-            "{name}"
-        );
+    for (name, parts) in &BLOCKS {
+        assert!(rt; is_flushed(rt.alloc(), parts)?, "{name}");
     }
     Ok(())
 }
 
 // What stands before and after the number of a member, and the first byte of the line end.
-const FORMS: [(&[u8], &[u8], u8); 7] = [
-    (b"MEMBER,", b"\n", b'\n'),
-    (b"MEMBER,", b"\r\n", b'\r'),
-    (b"MEMBER,", b"\r", b'\r'),
-    (b"MEMBER,\"", b"\"\n", b'\n'),
-    (b"\"MEMBER\",\"", b"\"\r\n", b'\r'),
-    (b"\"MEMBER\",", b"\r", b'\r'),
-    (b"\"\"MEMBER,\"\"", b"\n", b'\n'),
+const FORMS: [(&str, &str, u8); 7] = [
+    ("MEMBER,", "\n", b'\n'),
+    ("MEMBER,", "\r\n", b'\r'),
+    ("MEMBER,", "\r", b'\r'),
+    ("MEMBER,\"", "\"\n", b'\n'),
+    ("\"MEMBER\",\"", "\"\r\n", b'\r'),
+    ("\"MEMBER\",", "\r", b'\r'),
+    ("\"\"MEMBER,\"\"", "\n", b'\n'),
 ];
+
+// Whether a replay that is given so many bytes at a time writes the replies, and is flushed in time and seldom.
+fn is_answered(
+    alloc: Global,
+    input: &[u8],
+    line_end: u8,
+    size: usize,
+    replies: &[u8],
+) -> Result<bool, Fail> {
+    let cuts = pieces(alloc, input, line_end, size)?;
+    let played = play(alloc, input, cuts.as_slice(), false, NONE)?;
+    Ok(played.is(None, replies) && played.is_seldom_flushed())
+}
 
 #[test]
 fn replies_are_flushed_wherever_the_input_is_cut(rt: HostRuntime) -> Result<(), Fail> {
     for (before, after, first) in &FORMS {
         let (input, replies) = members(rt.alloc(), 40, before, after)?;
+        let (input, replies) = (input.as_slice(), replies.as_slice());
         for size in 1..=input.len() {
-            let cuts = pieces(rt.alloc(), input.as_slice(), *first, size)?;
-            let played = play(rt.alloc(), input.as_slice(), cuts.as_slice(), false, NONE)?;
-            assert!(rt; played.is(None, replies.as_slice()), "{size}");
-            assert!(rt; played.is_seldom_flushed(), "{size}");
+            assert!(rt;
+                is_answered(rt.alloc(), input, *first, size, replies)?,
+                "{size}"
+            );
         }
     }
     Ok(())
@@ -286,7 +316,7 @@ fn each_number_of_records_is_answered_whole_also_where_the_reader_fails_after_th
     rt: HostRuntime,
 ) -> Result<(), Fail> {
     for count in 0..=50 {
-        let (input, replies) = members(rt.alloc(), count, b"MEMBER,", b"\n")?;
+        let (input, replies) = members(rt.alloc(), count, "MEMBER,", "\n")?;
         let cuts = whole(input.as_slice(), replies.len());
         for (fails, fault) in &FAILURES {
             let played = play(rt.alloc(), input.as_slice(), &cuts, *fails, NONE)?;
@@ -349,7 +379,7 @@ const TAKEN: [&[u8]; 3] = [b"", b"ok\n", b"ok\nok\n"];
 
 #[test]
 fn a_writer_that_cannot_be_flushed_is_called_last(rt: HostRuntime) -> Result<(), Fail> {
-    let (input, cuts) = blocks(rt.alloc(), "MEMBER,1\n|MEMBER,2\n", &[3, 6])?;
+    let (input, cuts) = blocks(rt.alloc(), &[("MEMBER,1\n", 3), ("MEMBER,2\n", 6)])?;
     for (flushes, text) in TAKEN.iter().enumerate() {
         let limits = Limits { flushes, ..NONE };
         let played = play(rt.alloc(), input.as_slice(), cuts.as_slice(), false, limits)?;
