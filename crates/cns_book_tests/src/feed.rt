@@ -5,7 +5,7 @@ mod limits;
 mod sources;
 mod turns;
 
-use crate::script::{APPLE, FIRST, account, cusip, day};
+use crate::script::{APPLE, FIRST, account, cusip, day, loaded};
 use cns_book::Book;
 use cns_feed::{ReplayFault, load, replay, replay_on, reply_text};
 use cns_positions::{FlatPositions, Positions, TreePositions};
@@ -46,14 +46,6 @@ fn held<P: Positions<Global>>(
     Ok(book.position(account(number)?, cusip(APPLE)?))
 }
 
-// What a member holds after a load.
-fn held_after_load(alloc: Global, records: &str, number: u16) -> Result<Option<Holding>, Fail> {
-    match load(alloc, records.as_bytes(), day(FIRST)?) {
-        Ok((book, _)) => held(&book, number),
-        Err(_) => Err(Fail::new("no book")),
-    }
-}
-
 // Member 202 after the records.
 const SOLD: Holding = Holding {
     now: -100,
@@ -64,8 +56,8 @@ const SOLD: Holding = Holding {
 
 #[test]
 fn a_load_keeps_positions(rt: HostRuntime) -> Result<(), Fail> {
-    let held = held_after_load(rt.alloc(), POSITION_INPUT, 202)?;
-    assert!(rt; held == Some(SOLD));
+    let book = loaded(rt.alloc(), POSITION_INPUT.as_bytes())?;
+    assert!(rt; held(&book, 202)? == Some(SOLD));
     Ok(())
 }
 

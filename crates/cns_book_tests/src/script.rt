@@ -1,6 +1,7 @@
 // Commands, replies and statements as the texts that a clerk reads.
 use cns_book::{Book, Receipt};
-use cns_feed::{CsvSource, reply_text};
+use cns_desk::DeskBook;
+use cns_feed::{CsvSource, load, reply_text};
 use cns_positions::Positions;
 use cns_sheets::Sheet;
 use cns_statements::{statement, write_statement};
@@ -8,6 +9,7 @@ use cns_terms::{Command, Item, Reply, Source, Worker};
 use cns_units::{Account, Cusip, Day};
 use std::alloc::{Allocator, Global};
 use std::io::Read;
+use std::sync::Arc;
 use std::test::Fail;
 
 // The day on which each book opens, and the next one.
@@ -78,6 +80,32 @@ pub(crate) fn take<P: Positions<A>, A: Allocator + Drop + Clone>(
     match book.take(worker, command) {
         Ok(receipt) => Ok(receipt),
         Err(_) => Err(Fail::new("not taken")),
+    }
+}
+
+// The book that has taken the commands of the records.
+pub(crate) fn loaded(alloc: Global, records: &[u8]) -> Result<DeskBook, Fail> {
+    match load(alloc, records, day(FIRST)?) {
+        Ok((book, _)) => Ok(book),
+        Err(_) => Err(Fail::new("no book")),
+    }
+}
+
+// The sheet of a date.
+pub(crate) fn sheet_of<P: Positions<Global>>(
+    book: &Book<P, Global>,
+    date: &str,
+) -> Result<Arc<Sheet<Global>>, Fail> {
+    match book.sheet(day(date)?) {
+        Some(sheet) => copied(sheet),
+        None => Err(Fail::new("no sheet")),
+    }
+}
+
+fn copied(sheet: &Arc<Sheet<Global>>) -> Result<Arc<Sheet<Global>>, Fail> {
+    match Arc::try_clone(sheet) {
+        Ok(copy) => Ok(copy),
+        Err(_) => Err(Fail::new("no memory")),
     }
 }
 

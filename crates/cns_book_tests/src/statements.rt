@@ -1,10 +1,9 @@
 // Statements and their texts.
 mod packs;
 
-use cns_positions::{FlatPositions, Positions};
-use cns_prices::Prices;
-use cns_sheets::Sheet;
-use cns_statements::{Rows, Statement, statement, write_stated, write_statement};
+use crate::script;
+use crate::script::{FIRST, loaded, sheet_of};
+use cns_statements::{Rows, Statement, write_stated, write_statement};
 use cns_terms::{Row, Stated};
 use cns_units::{Account, Cents, Cusip, Day, Price, WriteFault};
 use std::alloc::Global;
@@ -128,16 +127,10 @@ fn rows_are_told_by_their_places(rt: HostRuntime) -> Result<(), Fail> {
 
 #[test]
 fn an_account_without_rows_has_a_statement(rt: HostRuntime) -> Result<(), Fail> {
-    let date = Day::parse(b"2024-06-03".as_slice())?;
-    let prices = Prices::new(rt.alloc());
-    let positions = FlatPositions::<Global>::new(rt.alloc());
-    let sheet = Sheet::build(rt.alloc(), &positions, &prices, None, &[], date)?;
-    let statement = statement(rt.alloc(), &sheet, Account::new(7)?)?;
-    assert_eq!(rt; statement.rows.len(), 0);
-    let mut output = Vec::new(rt.alloc());
-    write_statement(&statement, &mut output)?;
+    let book = loaded(rt.alloc(), b"CLOSE,2024-06-04\n".as_slice())?;
+    let text = script::stated(rt.alloc(), &*sheet_of(&book, FIRST)?, 7)?;
     assert_eq!(rt;
-        output.as_slice(),
+        text.as_slice(),
         b"statement 7 2024-06-03 0 0.00 0.00\n".as_slice()
     );
     Ok(())

@@ -1,7 +1,7 @@
 // Audits of logs in which something was changed.
 use super::hundred;
 use super::inputs::ending;
-use crate::script::{FIRST, command, commands, day, take};
+use crate::script::{FIRST, command, commands, day, sheet_of, take};
 use cns_book::{Book, Receipt};
 use cns_desk::{DeskBook, Log, LogItem, Outcome, audit, run_workers};
 use cns_positions::Positions;
@@ -239,27 +239,6 @@ fn a_worker_without_a_log_has_an_empty_one(rt: HostRuntime) -> Result<(), Fail> 
     check_counts(&rt, alloc, &outcome)
 }
 
-// The sheet of a date that is kept in a log, none where no date is given.
-fn kept<P: Positions<Global>>(
-    book: &Book<P, Global>,
-    date: Option<&str>,
-) -> Result<Option<Arc<Sheet<Global>>>, Fail> {
-    let Some(text) = date else {
-        return Ok(None);
-    };
-    match book.sheet(day(text)?) {
-        Some(sheet) => Ok(Some(copied_sheet(sheet)?)),
-        None => Err(Fail::new("no sheet")),
-    }
-}
-
-fn copied_sheet(sheet: &Arc<Sheet<Global>>) -> Result<Arc<Sheet<Global>>, Fail> {
-    match Arc::try_clone(sheet) {
-        Ok(copy) => Ok(copy),
-        Err(_) => Err(Fail::new("no memory")),
-    }
-}
-
 // Gives a book worker 1's command, and logs it with the sheet of a date.
 fn take_and_log<P: Positions<Global>>(
     book: &mut Book<P, Global>,
@@ -268,7 +247,10 @@ fn take_and_log<P: Positions<Global>>(
     date: Option<&str>,
 ) -> Result<(), Fail> {
     let receipt = take(book, Worker::FIRST, command)?;
-    let sheet = kept(book, date)?;
+    let sheet = match date {
+        Some(date) => Some(sheet_of(book, date)?),
+        None => None,
+    };
     add(log, receipt, command, sheet)
 }
 

@@ -1,9 +1,8 @@
 // Statements of a whole day: how the accounts are shared out, and how many workers there may be.
-use cns_feed::load;
+use crate::script::{FIRST, loaded, sheet_of};
 use cns_sheets::Sheet;
 use cns_statements::{PackFault, pack};
 use cns_terms::{Gate, NoGate, Worker};
-use cns_units::Day;
 use std::alloc::Global;
 use std::io::Write;
 use std::sync::atomic::AtomicU64;
@@ -13,13 +12,6 @@ use std::test::Fail;
 use std::thread;
 use std::thread::Threads;
 use std::time::{Clock, Duration};
-
-fn day(text: &[u8]) -> Result<Day, Fail> {
-    match Day::parse(text) {
-        Ok(day) => Ok(day),
-        Err(_) => Err(Fail::new("no date")),
-    }
-}
 
 // The records of a day on which so many members, 2 at least, have a position, or nobody: all others buy of member 1.
 fn records(alloc: Global, members: u16) -> Result<Vec<u8>, Fail> {
@@ -34,15 +26,9 @@ fn records(alloc: Global, members: u16) -> Result<Vec<u8>, Fail> {
 }
 
 // The sheet of that day.
-fn sheet_of(alloc: Global, members: u16) -> Result<Arc<Sheet<Global>>, Fail> {
+fn sheet_with(alloc: Global, members: u16) -> Result<Arc<Sheet<Global>>, Fail> {
     let records = records(alloc, members)?;
-    let Ok((book, _)) = load(alloc, records.as_slice(), day(b"2024-06-03")?) else {
-        return Err(Fail::new("no book"));
-    };
-    match book.sheet(day(b"2024-06-03")?) {
-        Some(sheet) => Ok(sheet.clone()?),
-        None => Err(Fail::new("no sheet")),
-    }
+    sheet_of(&loaded(alloc, records.as_slice())?, FIRST)
 }
 
 // Counts the statements of each of the first four workers.
@@ -85,7 +71,7 @@ fn the_parts_are_as_even_as_they_can_be(rt: HostRuntime) -> Result<(), Fail> {
                 AtomicU64::new(0),
             ],
         };
-        let sheet = sheet_of(rt.alloc(), *members)?;
+        let sheet = sheet_with(rt.alloc(), *members)?;
         let packed = pack(&rt, rt.alloc(), &sheet, *workers, &made);
         assert!(&rt; packed.is_ok());
         for (count, wanted) in made.by_worker.iter().zip(wanted) {
@@ -100,7 +86,7 @@ const WORKERS: [(usize, bool); 4] = [(0, false), (1, true), (64, true), (65, fal
 
 #[test]
 fn there_are_1_to_64_workers(rt: HostRuntime) -> Result<(), Fail> {
-    let sheet = sheet_of(rt.alloc(), 0)?;
+    let sheet = sheet_with(rt.alloc(), 0)?;
     for (workers, is_taken) in &WORKERS {
         match pack(&rt, rt.alloc(), &sheet, *workers, &NoGate) {
             Ok(statements) => {
@@ -150,7 +136,7 @@ fn statements_are_made_at_once(rt: HostRuntime) -> Result<(), Fail> {
         came: AtomicU64::new(0),
         late: AtomicU64::new(0),
     };
-    let sheet = sheet_of(rt.alloc(), 2)?;
+    let sheet = sheet_with(rt.alloc(), 2)?;
     let packed = pack(&rt, rt.alloc(), &sheet, 2, &gate);
     let Ok(statements) = packed else {
         return Err(Fail::new("not packed"));
