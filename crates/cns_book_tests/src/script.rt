@@ -8,7 +8,6 @@ use cns_statements::{statement, write_statement};
 use cns_terms::{Command, Item, Reply, Source, Worker};
 use cns_units::{Account, Cusip, Day};
 use std::alloc::{Allocator, Global};
-use std::io::Read;
 use std::sync::Arc;
 use std::test::Fail;
 
@@ -41,23 +40,15 @@ pub(crate) fn account(number: u16) -> Result<Account, Fail> {
     }
 }
 
-// The next command of a source, none where it is finished. No record is at fault.
-fn next<R: Read>(source: &mut CsvSource<R>) -> Result<Option<Command>, Fail> {
-    match source.next() {
-        Ok(Item::Given(command)) => Ok(Some(command)),
-        Ok(Item::Finished) => Ok(None),
-        _ => Err(Fail::new("no command")),
-    }
-}
-
-// The commands of a text of records.
+// The commands of a text of records, none of which is at fault.
 pub(crate) fn commands(alloc: Global, records: &str) -> Result<Vec<Command>, Fail> {
     let mut source = CsvSource::new(alloc, records.as_bytes());
     let mut commands = Vec::new(alloc);
     for _record in 0..=records.len() {
-        match next(&mut source)? {
-            Some(command) => commands.push(command)?,
-            None => return Ok(commands),
+        match source.next() {
+            Ok(Item::Given(command)) => commands.push(command)?,
+            Ok(Item::Finished) => return Ok(commands),
+            _ => return Err(Fail::new("no command")),
         }
     }
     Err(Fail::new("no end of the records"))
@@ -65,9 +56,9 @@ pub(crate) fn commands(alloc: Global, records: &str) -> Result<Vec<Command>, Fai
 
 // The command of a record.
 pub(crate) fn command(alloc: Global, record: &str) -> Result<Command, Fail> {
-    match next(&mut CsvSource::new(alloc, record.as_bytes()))? {
-        Some(command) => Ok(command),
-        None => Err(Fail::new("no record")),
+    match CsvSource::new(alloc, record.as_bytes()).next() {
+        Ok(Item::Given(command)) => Ok(command),
+        _ => Err(Fail::new("no command")),
     }
 }
 
