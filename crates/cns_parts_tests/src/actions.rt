@@ -1,23 +1,16 @@
 // Tests of the positions after a split or an exchange.
-ghost use Rattle.std.specs.Prelude.{◌≡◌, ◌≤◌, ◌^◌, pos, true, unsigned_abs, IfOk};
+ghost use Rattle.std.specs.Prelude.{◌≡◌, ◌≤◌, ◌^◌, pos, true, unsigned_abs};
 ghost use Rattle.cns_positions.specs.Rows.{holding_at};
 ghost use Rattle.cns_actions.specs.Booked.{CanBeBooked, IsForAnother};
 
+use crate::values::{APPLE, CISCO, MICROSOFT, cusip, key, price, ratio};
 use cns_actions::{Action, ActionFault, Exchange, Split, next_positions};
 use cns_positions::{FlatPositions, Positions, TreePositions};
-use cns_terms::{Holding, Key, NoMemory};
-use cns_units::{Account, Cusip, Price, Ratio};
+use cns_terms::{Holding, Key};
 use std::alloc::{Allocator, Global};
 use std::process::Abort;
-use std::test::Fail;
 
 pub(crate) const LIMIT: i64 = 10_000_000_000;
-
-pub(crate) const CISCO: &[u8] = b"17275R102";
-
-pub(crate) const MICROSOFT: &[u8] = b"594918104";
-
-pub(crate) const APPLE: &[u8] = b"037833100";
 
 pub(crate) type Flat = FlatPositions<Global>;
 
@@ -25,13 +18,6 @@ pub(crate) type Balanced = TreePositions<Global>;
 
 // What stands at an account's place in an issue: the position, and the cents booked.
 pub(crate) type Held = (u16, &'static [u8], i64, i128);
-
-fn key((account, issue, _, _): &Held) -> Result<Key, Fail> {
-    Ok(Key {
-        account: Account::new(*account)?,
-        issue: Cusip::parse(issue)?,
-    })
-}
 
 // Nothing stands anywhere.
 fn empty<P: Positions<A>, A>(alloc: A) -> P
@@ -41,12 +27,7 @@ fn empty<P: Positions<A>, A>(alloc: A) -> P
 }
 
 // Books shares and cents at a place where nothing stands, within the limits that splits and exchanges ask for.
-fn add<P: Positions<A>, A>(
-    positions: &mut P,
-    key: &Key,
-    shares: i64,
-    cents: i128,
-) -> Result<(), NoMemory>
+fn add<P: Positions<A>, A>(rt: &impl Abort, positions: &mut P, key: &Key, shares: i64, cents: i128)
     requires can { CanBeBooked (P.rows positions.old) }
     requires no_shares { (holding_at (P.rows positions.old) key.now).now ≡ pos 0 }
     requires no_cents { (holding_at (P.rows positions.old) key.now).contract ≡ pos 0 }
@@ -54,25 +35,23 @@ fn add<P: Positions<A>, A>(
     requires few_cents { unsigned_abs cents ≤ 10 ^ 21 }
     ensures { CanBeBooked (P.rows positions.new) }
 {
-    positions.prepare(&[*key])?;
+    positions.prepare(&[*key]).expect(rt, "memory");
     positions.add(*key, shares, cents);
-    Ok(())
 }
 
 // The same, where the test says that nothing stands there.
-fn book<P: Positions<A>, A>(rt: &impl Abort, positions: &mut P, held: &Held) -> Result<(), Fail>
+fn book<P: Positions<A>, A>(rt: &impl Abort, positions: &mut P, held: &Held)
     requires { CanBeBooked (P.rows positions.old) }
     ensures { CanBeBooked (P.rows positions.new) }
 {
-    let (_, _, shares, cents) = *held;
-    let key = key(held)?;
-    let before = positions.get(key);
+    let (number, issue, shares, cents) = *held;
+    let key = &key(rt, number, issue);
+    let before = positions.get(*key);
     assert!(rt; before.now == 0);
     assert!(rt; before.contract == 0);
     assert!(rt; shares.unsigned_abs() <= 10_000_000_000);
     assert!(rt; cents.unsigned_abs() <= 1_000_000_000_000_000_000_000);
-    add(positions, &key, shares, cents)?;
-    Ok(())
+    add(rt, positions, key, shares, cents);
 }
 
 // A close of a day.
@@ -84,36 +63,49 @@ fn close<P: Positions<A>, A>(positions: &mut P)
 }
 
 // Positions with what is booked at empty places.
-pub(crate) fn booked<P: Positions<A>, A>(
-    rt: &impl Abort,
-    alloc: A,
-    held: &[Held],
-) -> Result<P, Fail>
-    ensures { IfOk result (λ p. CanBeBooked (P.rows p)) }
+pub(crate) fn booked<P: Positions<A>, A>(rt: &impl Abort, alloc: A, held: &[Held]) -> P
+    ensures { CanBeBooked (P.rows result) }
 {
     let mut positions = empty(alloc);
     for held in held {
-        book(rt, &mut positions, held)?;
+        book(rt, &mut positions, held);
     }
-    Ok(positions)
+    positions
 }
 
-pub(crate) fn split_for(new: u16, old: u16, lieu: u64) -> Result<Action, Fail> {
-    Ok(Action::Split(Split {
-        issue: Cusip::parse(CISCO)?,
-        ratio: Ratio::new(new, old)?,
-        lieu: Price::new(lieu)?,
-    }))
+// A split of one issue, or an exchange for another: new shares for old ones, the cents in lieu of a share, and the
+// cents for each old share.
+#[derive(Clone, Copy)]
+pub(crate) enum Given {
+    Split(u16, u16, u64),
+    Exchange(u16, u16, u64, u64),
 }
 
-pub(crate) fn exchange_for(new: u16, old: u16, lieu: u64, cash: u64) -> Result<Action, Fail> {
-    Ok(Action::Exchange(Exchange {
-        old: Cusip::parse(CISCO)?,
-        successor: Cusip::parse(MICROSOFT)?,
-        ratio: Ratio::new(new, old)?,
-        lieu: Price::new(lieu)?,
-        cash: Price::new(cash)?,
-    }))
+fn split(rt: &impl Abort, new: u16, old: u16, lieu: u64) -> Split {
+    Split {
+        issue: cusip(rt, CISCO),
+        ratio: ratio(rt, new, old),
+        lieu: price(rt, lieu),
+    }
+}
+
+fn exchange(rt: &impl Abort, new: u16, old: u16, lieu: u64, cash: u64) -> Exchange {
+    Exchange {
+        old: cusip(rt, CISCO),
+        successor: cusip(rt, MICROSOFT),
+        ratio: ratio(rt, new, old),
+        lieu: price(rt, lieu),
+        cash: price(rt, cash),
+    }
+}
+
+pub(crate) fn action(rt: &impl Abort, given: Given) -> Action {
+    match given {
+        Given::Split(new, old, lieu) => Action::Split(split(rt, new, old, lieu)),
+        Given::Exchange(new, old, lieu, cash) => {
+            Action::Exchange(exchange(rt, new, old, lieu, cash))
+        }
+    }
 }
 
 // Whether an exchange is for another issue, as the call asks.
@@ -131,37 +123,24 @@ pub(crate) fn after<P: Positions<A>, A, B: Allocator + Drop + Clone>(
     rt: &impl Abort,
     alloc: B,
     positions: &P,
-    action: &Action,
+    given: Given,
 ) -> Result<P, ActionFault>
     requires { CanBeBooked (P.rows positions.now) }
 {
-    assert!(rt; is_for_another(action));
-    next_positions(&alloc, positions, action)
-}
-
-// A split of one issue, or an exchange for another: new shares for old ones, the cents in lieu of a share, and the
-// cents for each old share.
-pub(crate) enum Given {
-    Split(u16, u16, u64),
-    Exchange(u16, u16, u64, u64),
-}
-
-pub(crate) fn action(given: &Given) -> Result<Action, Fail> {
-    match given {
-        Given::Split(new, old, lieu) => split_for(*new, *old, *lieu),
-        Given::Exchange(new, old, lieu, cash) => exchange_for(*new, *old, *lieu, *cash),
-    }
+    let action = action(rt, given);
+    assert!(rt; is_for_another(&action));
+    next_positions(&alloc, positions, &action)
 }
 
 // Whether these shares and cents stand at their places.
-pub(crate) fn stand<P: Positions<A>, A>(positions: &P, places: &[Held]) -> Result<bool, Fail> {
-    for place in places {
-        let found = positions.get(key(place)?);
-        if found.now != place.2 || found.contract != place.3 {
-            return Ok(false);
+pub(crate) fn stand<P: Positions<A>, A>(rt: &impl Abort, positions: &P, places: &[Held]) -> bool {
+    for (number, issue, shares, cents) in places {
+        let found = positions.get(key(rt, *number, issue));
+        if found.now != *shares || found.contract != *cents {
+            return false;
         }
     }
-    Ok(true)
+    true
 }
 
 // What is booked, a split or an exchange, and what stands after it.
@@ -173,15 +152,11 @@ struct Case {
 }
 
 // Checks what stands at places after a split or an exchange of what was booked before.
-fn check_case<P: Positions<Global>>(
-    rt: &(impl Abort + AllocGlobal),
-    case: &Case,
-) -> Result<(), Fail> {
-    let positions: P = booked(rt, rt.alloc(), case.held)?;
-    let next = after(rt, rt.alloc(), &positions, &action(&case.given)?)?;
-    assert!(rt; stand(&next, case.expected)?, "after: {}", case.name);
-    assert!(rt; stand(&positions, case.held)?, "before: {}", case.name);
-    Ok(())
+fn check_case<P: Positions<Global>>(rt: &(impl Abort + AllocGlobal), case: &Case) {
+    let positions: P = booked(rt, rt.alloc(), case.held);
+    let next = after(rt, rt.alloc(), &positions, case.given).expect(rt, case.name);
+    assert!(rt; stand(rt, &next, case.expected), "after: {}", case.name);
+    assert!(rt; stand(rt, &positions, case.held));
 }
 
 const CASES: [Case; 8] = [
@@ -303,30 +278,29 @@ const LARGEST: [Held; 5] = [
 ];
 
 #[test]
-fn a_split_or_an_exchange_is_booked_for_each_member(rt: HostRuntime) -> Result<(), Fail> {
+fn a_split_or_an_exchange_is_booked_for_each_member(rt: HostRuntime) {
     for case in &CASES {
-        check_case::<Flat>(&rt, case)?;
-        check_case::<Balanced>(&rt, case)?;
+        check_case::<Flat>(&rt, case);
+        check_case::<Balanced>(&rt, case);
     }
-    Ok(())
 }
 
 #[test]
-fn openings_and_ages_stay(rt: HostRuntime) -> Result<(), Fail> {
-    check_stay::<Flat>(&rt)?;
-    check_stay::<Balanced>(&rt)
+fn openings_and_ages_stay(rt: HostRuntime) {
+    check_stay::<Flat>(&rt);
+    check_stay::<Balanced>(&rt);
 }
 
 const LONG_AND_SHORT: [Held; 2] = [(1, CISCO, 4, -10), (2, CISCO, -4, 10)];
 
 // Positions that were closed twice.
-fn twice_closed<P: Positions<Global>>(rt: &(impl Abort + AllocGlobal)) -> Result<P, Fail>
-    ensures { IfOk result (λ p. CanBeBooked (P.rows p)) }
+fn twice_closed<P: Positions<Global>>(rt: &(impl Abort + AllocGlobal)) -> P
+    ensures { CanBeBooked (P.rows result) }
 {
-    let mut positions: P = booked(rt, rt.alloc(), &LONG_AND_SHORT)?;
+    let mut positions: P = booked(rt, rt.alloc(), &LONG_AND_SHORT);
     close(&mut positions);
     close(&mut positions);
-    Ok(positions)
+    positions
 }
 
 // An account, its position and its opening, and how long it was short.
@@ -334,48 +308,45 @@ const AFTER_SPLIT: [(u16, i64, i64, u32); 2] = [(1, 6, 4, 0), (2, -6, -4, 2)];
 
 const AFTER_EXCHANGE: [(u16, i64, i64, u32); 1] = [(2, 0, -4, 2)];
 
-// Whether accounts have these positions, openings and ages, and no cents.
+// Whether accounts have these positions, openings and ages after a split or an exchange, and no cents.
 fn have_ages<P: Positions<Global>>(
-    positions: &P,
+    rt: &(impl Abort + AllocGlobal),
+    given: Given,
     rows: &[(u16, i64, i64, u32)],
-) -> Result<bool, Fail> {
-    for (account, now, opening, run) in rows {
+) -> bool {
+    let positions: P = twice_closed(rt);
+    let next = after(rt, rt.alloc(), &positions, given).expect(rt, "memory");
+    for (number, now, opening, run) in rows {
         let expected = Holding {
             now: *now,
             opening: *opening,
             contract: 0,
             run: *run,
         };
-        if positions.get(key(&(*account, CISCO, 0, 0))?) != expected {
-            return Ok(false);
+        if next.get(key(rt, *number, CISCO)) != expected {
+            return false;
         }
     }
-    Ok(true)
+    true
 }
 
-fn check_stay<P: Positions<Global>>(rt: &(impl Abort + AllocGlobal)) -> Result<(), Fail> {
-    let positions: P = twice_closed(rt)?;
-    let split = after(rt, rt.alloc(), &positions, &split_for(3, 2, 0)?)?;
-    assert!(rt; have_ages(&split, &AFTER_SPLIT)?);
-    let exchanged = after(rt, rt.alloc(), &positions, &exchange_for(3, 2, 0, 0)?)?;
-    assert!(rt; have_ages(&exchanged, &AFTER_EXCHANGE)?);
-    Ok(())
+fn check_stay<P: Positions<Global>>(rt: &(impl Abort + AllocGlobal)) {
+    assert!(rt; have_ages::<P>(rt, Given::Split(3, 2, 0), &AFTER_SPLIT));
+    assert!(rt; have_ages::<P>(rt, Given::Exchange(3, 2, 0, 0), &AFTER_EXCHANGE));
 }
 
 const FROM_NOTHING: [Given; 2] = [Given::Split(3, 2, 1), Given::Exchange(3, 2, 1, 1)];
 
 // Whether no row stands after an action where none stood before.
-fn stays_empty(rt: &(impl Abort + AllocGlobal), action: &Action) -> Result<bool, Fail> {
-    let positions: Balanced = booked(rt, rt.alloc(), &[])?;
-    let next = after(rt, rt.alloc(), &positions, action)?;
-    Ok(next.next_row(None).is_none())
+fn stays_empty(rt: &(impl Abort + AllocGlobal), given: Given) -> bool {
+    let positions: Balanced = booked(rt, rt.alloc(), &[]);
+    let next = after(rt, rt.alloc(), &positions, given).expect(rt, "memory");
+    next.next_row(None).is_none()
 }
 
 #[test]
-fn nothing_is_made_where_nothing_is_held(rt: HostRuntime) -> Result<(), Fail> {
+fn nothing_is_made_where_nothing_is_held(rt: HostRuntime) {
     for given in &FROM_NOTHING {
-        let action = action(given)?;
-        assert!(rt; stays_empty(&rt, &action)?);
+        assert!(rt; stays_empty(&rt, *given));
     }
-    Ok(())
 }

@@ -1,24 +1,23 @@
 // Tests of one batch: who is liable, and what an execution gives and charges.
-ghost use Rattle.std.specs.Prelude.{◌≡◌, ◌+◌, ◌^◌, ◌<◌, ◌≤◌, ◌==◌, IfOk, OnOk, false, sum_by, if◌then◌else◌};
+ghost use Rattle.std.specs.Prelude.{◌≡◌, ◌+◌, ◌^◌, ◌<◌, ◌≤◌, ◌==◌, false, sum_by, if◌then◌else◌};
 ghost use Rattle.cns_units.specs.declared.account.Member.{Member};
 ghost use Rattle.cns_retransmit.specs.Chosen.{shorts_of};
 
+use crate::calls::short;
 use crate::heaps::exhaust;
+use crate::values::{CISCO, cusip, member, money, shares};
 use cns_retransmit::{Batch, Fill, Liable, Short, Shorts};
 use cns_terms::NoMemory;
-use cns_units::{Cusip, Member, Money, Shares};
+use cns_units::Member;
 use linked_list_allocator::LocalHeap;
 use std::alloc::{AllocError, Allocator, Global};
 use std::process::Abort;
-use std::test::Fail;
 
 // A member, the age of its short and the short.
 type Row = (u16, u32, u32);
 
 // One member of age 3, two of age 2 and one of age 1, in no order.
 const ROWS: [Row; 4] = [(4, 2, 40), (5, 1, 70), (2, 3, 60), (3, 2, 50)];
-
-const CISCO: &[u8] = b"17275R102";
 
 // Whether a member stands among shorts.
 fn stands(shorts: &[Short], member: Member) -> bool
@@ -33,38 +32,29 @@ fn stands(shorts: &[Short], member: Member) -> bool
 }
 
 // Adds a short to a list that has none of its member.
-fn add(shorts: &mut Vec<Short, Global>, short: Short) -> Result<(), Fail>
+fn add(rt: &impl Abort, shorts: &mut Vec<Short, Global>, short: Short)
     requires { (a : Member) → shorts_of a shorts.old.items ≤ 1 }
-    ensures distinct { OnOk result ((a : Member) → shorts_of a shorts.new.items ≤ 1) }
-    ensures more { OnOk result (sum_by (λ s. s.shares) shorts.new.items ≡ sum_by (λ s. s.shares) shorts.old.items + short.shares) }
+    ensures distinct { (a : Member) → shorts_of a shorts.new.items ≤ 1 }
+    ensures more { sum_by (λ s. s.shares) shorts.new.items ≡ sum_by (λ s. s.shares) shorts.old.items + short.shares }
 {
-    if stands(shorts.as_slice(), short.member) {
-        return Err(Fail::new("a member has two shorts"));
-    }
-    shorts.push(short)?;
-    Ok(())
+    assert!(rt; !stands(shorts.as_slice(), short.member));
+    shorts.push(short).expect(rt, "memory");
 }
 
 // The shorts of a table, where no member stands in it twice.
-fn shorts(rows: &[Row], alloc: Global) -> Result<Vec<Short>, Fail>
-    ensures distinct { IfOk result (λ v. (a : Member) → shorts_of a v.items ≤ 1) }
-    ensures fits { IfOk result (λ v. sum_by (λ s. s.shares) v.items < 2 ^ 63) }
+fn shorts(rt: &impl Abort, rows: &[Row], alloc: Global) -> Vec<Short>
+    ensures distinct { (a : Member) → shorts_of a result.items ≤ 1 }
+    ensures fits { sum_by (λ s. s.shares) result.items < 2 ^ 63 }
 {
     let mut shorts = Vec::new(alloc);
     let mut room = 1u64 << 62;
-    for (member, age, shares) in rows {
-        let short = Short {
-            member: Member::new(*member)?,
-            shares: u64::from(*shares),
-            age: *age,
-        };
-        if short.shares > room {
-            return Err(Fail::new("the shorts are too many"));
-        }
+    for row in rows {
+        let short = short(rt, *row);
+        assert!(rt; short.shares <= room);
         room -= short.shares;
-        add(&mut shorts, short)?;
+        add(rt, &mut shorts, short);
     }
-    Ok(shorts)
+    shorts
 }
 
 // What one member is short now, and what each of the others is.
@@ -94,61 +84,76 @@ const MANY: Now = Now {
 };
 
 fn choose<A: Allocator + Drop + Clone>(
+    rt: &impl Abort,
     alloc: A,
     rows: &[Row],
     total: u64,
     scratch: Global,
-) -> Result<Result<Option<Batch<A>>, NoMemory>, Fail> {
-    let shorts = shorts(rows, scratch)?;
-    let cusip = Cusip::parse(CISCO)?;
-    Ok(Batch::choose(alloc, cusip, shorts.as_slice(), total))
+) -> Result<Option<Batch<A>>, NoMemory> {
+    let shorts = shorts(rt, rows, scratch);
+    Batch::choose(alloc, cusip(rt, CISCO), shorts.as_slice(), total)
 }
 
 // The batch of a table that calls for so many shares.
-fn batch(rows: &[Row], total: u64, alloc: Global) -> Result<Batch<Global>, Fail> {
-    let Ok(Some(batch)) = choose(alloc, rows, total, alloc)? else {
-        return Err(Fail::new("nobody is liable"));
+fn batch<A: Allocator + Drop + Clone>(
+    rt: &impl Abort,
+    alloc: A,
+    rows: &[Row],
+    total: u64,
+    scratch: Global,
+) -> Batch<A> {
+    let Ok(Some(batch)) = choose(rt, alloc, rows, total, scratch) else {
+        panic!(rt; "nobody is liable");
     };
-    Ok(batch)
+    batch
 }
 
-// The numbers of the members that are chosen, in order.
-fn chosen(rows: &[Row], total: u64, alloc: Global) -> Result<Vec<u16>, Fail> {
-    let mut numbers = Vec::new(alloc);
-    let Ok(batch) = choose(alloc, rows, total, alloc)? else {
-        return Err(Fail::new("there is memory"));
-    };
-    if let Some(batch) = &batch {
-        for liable in batch.members() {
-            numbers.push(liable.member.value())?;
+// Whether these members are liable, in this order.
+fn are_liable(liable: &[Liable], numbers: &[u16]) -> bool {
+    for (liable, number) in liable.iter().zip(numbers) {
+        if liable.member.value() != *number {
+            return false;
         }
     }
-    Ok(numbers)
+    liable.len() == numbers.len()
 }
 
-// Member, shares and cents of each fill.
-fn fills_of(fills: &[Fill], alloc: Global) -> Result<Vec<(u16, u64, u64)>, Fail> {
-    let mut rows = Vec::new(alloc);
-    for fill in fills {
-        rows.push((fill.member.value(), fill.shares, fill.cents))?;
+// Member, shares and cents of a fill.
+type Filled = (u16, u64, u64);
+
+// Whether these are the fills.
+fn are_fills(fills: &[Fill], expected: &[Filled]) -> bool {
+    for (fill, row) in fills.iter().zip(expected) {
+        if (fill.member.value(), fill.shares, fill.cents) != *row {
+            return false;
+        }
     }
-    Ok(rows)
+    fills.len() == expected.len()
 }
 
 // What an execution gives the members of a batch that has room for it.
-fn fill(
+fn fill<A: Allocator + Drop + Clone>(
+    rt: &impl Abort,
+    batch: &Batch<A>,
+    now: &Now,
+    count: u64,
+    cents: u64,
+) -> Result<Vec<Fill, A>, NoMemory> {
+    let shares = shares(rt, count);
+    assert!(rt; shares.value() <= batch.room(now));
+    batch.fill(now, shares, money(rt, cents))
+}
+
+// Checks what an execution gives.
+fn check_fill(
+    rt: &impl Abort,
     batch: &Batch<Global>,
     now: &Now,
-    shares: u64,
-    cents: u64,
-    alloc: Global,
-) -> Result<Vec<(u16, u64, u64)>, Fail> {
-    let shares = Shares::new(shares)?;
-    if shares.value() > batch.room(now) {
-        return Err(Fail::new("there is no room"));
-    }
-    let fills = batch.fill(now, shares, Money::new(cents)?)?;
-    fills_of(fills.as_slice(), alloc)
+    (count, cents): (u64, u64),
+    expected: &[Filled],
+) {
+    let fills = fill(rt, batch, now, count, cents).expect(rt, "memory");
+    assert!(rt; are_fills(fills.as_slice(), expected));
 }
 
 // Rows, what is called for and the members that are liable, in order.
@@ -171,19 +176,18 @@ const CHOICES: [Choice; 12] = [
     (&ROWS, u64::MAX, &[2, 3, 4, 5]),
 ];
 
-fn check_choices(rt: &(impl Abort + AllocGlobal), choices: &[Choice]) -> Result<(), Fail> {
+fn check_choices(rt: &(impl Abort + AllocGlobal), choices: &[Choice]) {
     for (rows, total, expected) in choices {
-        let numbers = chosen(rows, *total, rt.alloc())?;
-        assert_eq!(rt; numbers.as_slice(), *expected);
+        match choose(rt, rt.alloc(), rows, *total, rt.alloc()).expect(rt, "memory") {
+            Some(batch) => assert!(rt; are_liable(batch.members(), expected)),
+            None => assert!(rt; expected.is_empty()),
+        }
     }
-    Ok(())
 }
 
 #[test]
-fn whole_groups_of_one_age_are_liable_until_they_are_short_of_what_is_called(
-    rt: HostRuntime,
-) -> Result<(), Fail> {
-    check_choices(&rt, &CHOICES)
+fn whole_groups_of_one_age_are_liable_until_they_are_short_of_what_is_called(rt: HostRuntime) {
+    check_choices(&rt, &CHOICES);
 }
 
 const ORDERS: [Choice; 5] = [
@@ -200,42 +204,34 @@ const ORDERS: [Choice; 5] = [
 ];
 
 #[test]
-fn of_one_age_the_lower_number_is_filled_first(rt: HostRuntime) -> Result<(), Fail> {
-    check_choices(&rt, &ORDERS)
+fn of_one_age_the_lower_number_is_filled_first(rt: HostRuntime) {
+    check_choices(&rt, &ORDERS);
 }
 
 // The members that are liable for 61 shares, in order.
 const LIABLE: [Row; 3] = [(2, 3, 60), (3, 2, 50), (4, 2, 40)];
 
-fn whole(row: &Row) -> Result<Liable, Fail> {
-    let (member, age, closing) = *row;
-    Ok(Liable {
-        member: Member::new(member)?,
+fn whole(rt: &impl Abort, (number, age, closing): Row) -> Liable {
+    Liable {
+        member: member(rt, number),
         age,
         closing: u64::from(closing),
         left: u64::from(closing),
-    })
-}
-
-#[test]
-fn a_member_is_liable_for_its_whole_short(rt: HostRuntime) -> Result<(), Fail> {
-    let batch = batch(&ROWS, 61, rt.alloc())?;
-    assert_eq!(rt; batch.cusip(), Cusip::parse(CISCO)?);
-    assert_eq!(rt; batch.members().len(), LIABLE.len());
-    for (liable, row) in batch.members().iter().zip(&LIABLE) {
-        assert_eq!(rt; *liable, whole(row)?);
-        assert_eq!(rt; batch.liable(liable.member), i64::from(row.2));
     }
-    Ok(())
 }
 
 #[test]
-fn who_is_not_called_is_not_liable(rt: HostRuntime) -> Result<(), Fail> {
-    let batch = batch(&ROWS, 61, rt.alloc())?;
+fn a_member_is_liable_for_its_whole_short_and_nobody_else_is(rt: HostRuntime) {
+    let batch = batch(&rt, rt.alloc(), &ROWS, 61, rt.alloc());
+    assert!(rt; batch.cusip() == cusip(&rt, CISCO));
+    assert!(rt; batch.members().len() == LIABLE.len());
+    for (liable, row) in batch.members().iter().zip(&LIABLE) {
+        assert!(rt; *liable == whole(&rt, *row));
+        assert!(rt; batch.liable(liable.member) == i64::from(row.2));
+    }
     // A member that was short, and one that was not.
-    assert_eq!(rt; batch.liable(Member::new(5)?), 0);
-    assert_eq!(rt; batch.liable(Member::new(1)?), 0);
-    Ok(())
+    assert!(rt; batch.liable(member(&rt, 5)) == 0);
+    assert!(rt; batch.liable(member(&rt, 1)) == 0);
 }
 
 // The shares and the cents of an execution, and what each member gets: its number, shares and cents.
@@ -257,16 +253,12 @@ const EXECUTIONS: [(u64, u64, &[(u16, u64, u64)]); 8] = [
 ];
 
 #[test]
-fn an_execution_fills_the_oldest_first_and_adds_up_to_the_cent(
-    rt: HostRuntime,
-) -> Result<(), Fail> {
-    let batch = batch(&ROWS, 80, rt.alloc())?;
-    assert_eq!(rt; batch.room(&MANY), 150);
+fn an_execution_fills_the_oldest_first_and_adds_up_to_the_cent(rt: HostRuntime) {
+    let batch = batch(&rt, rt.alloc(), &ROWS, 80, rt.alloc());
+    assert!(rt; batch.room(&MANY) == 150);
     for (shares, cents, expected) in &EXECUTIONS {
-        let fills = fill(&batch, &MANY, *shares, *cents, rt.alloc())?;
-        assert_eq!(rt; fills.as_slice(), *expected);
+        check_fill(&rt, &batch, &MANY, (*shares, *cents), expected);
     }
-    Ok(())
 }
 
 const LARGE_ROWS: [Row; 3] = [(1, 2, 333_333_333), (2, 1, 666_666_666), (3, 1, 1)];
@@ -278,12 +270,10 @@ const LARGE_FILLS: [(u16, u64, u64); 3] = [
 ];
 
 #[test]
-fn a_large_execution_is_shared_exactly(rt: HostRuntime) -> Result<(), Fail> {
-    let batch = batch(&LARGE_ROWS, 1_000_000_000, rt.alloc())?;
-    let cents = 999_999_999_999_999_999;
-    let fills = fill(&batch, &MANY, 1_000_000_000, cents, rt.alloc())?;
-    assert_eq!(rt; fills.as_slice(), LARGE_FILLS.as_slice());
-    Ok(())
+fn a_large_execution_is_shared_exactly(rt: HostRuntime) {
+    let batch = batch(&rt, rt.alloc(), &LARGE_ROWS, 1_000_000_000, rt.alloc());
+    let given = (1_000_000_000, 999_999_999_999_999_999);
+    check_fill(&rt, &batch, &MANY, given, &LARGE_FILLS);
 }
 
 // What is short now, the room, and what each member gets of an execution of all of it at a cent a share.
@@ -346,38 +336,33 @@ const NOBODY: Now = Now {
 };
 
 #[test]
-fn nobody_is_given_more_than_it_is_short_now(rt: HostRuntime) -> Result<(), Fail> {
-    let batch = batch(&ROWS, 80, rt.alloc())?;
+fn nobody_is_given_more_than_it_is_short_now(rt: HostRuntime) {
+    let batch = batch(&rt, rt.alloc(), &ROWS, 80, rt.alloc());
     for (now, room, expected) in &SHORT_NOW {
-        assert_eq!(rt; batch.room(now), *room);
-        let fills = fill(&batch, now, *room, *room, rt.alloc())?;
-        assert_eq!(rt; fills.as_slice(), *expected);
+        assert!(rt; batch.room(now) == *room);
+        check_fill(&rt, &batch, now, (*room, *room), expected);
     }
-    assert_eq!(rt; batch.room(&NOBODY), 0);
-    Ok(())
+    assert!(rt; batch.room(&NOBODY) == 0);
 }
 
 // Executes so many shares at a cent each, and charges the fills.
-fn execute(batch: &mut Batch<Global>, shares: u64) -> Result<(), Fail> {
-    let money = Money::new(shares)?;
-    let shares = Shares::new(shares)?;
-    if shares.value() > batch.room(&MANY) {
-        return Err(Fail::new("there is no room"));
-    }
-    let fills = batch.fill(&MANY, shares, money)?;
+fn execute(rt: &impl Abort, batch: &mut Batch<Global>, count: u64) {
+    let shares = shares(rt, count);
+    assert!(rt; shares.value() <= batch.room(&MANY));
+    let fills = batch
+        .fill(&MANY, shares, money(rt, count))
+        .expect(rt, "memory");
     batch.charge(fills.as_slice());
-    Ok(())
 }
 
-// What is left of the liabilities of the three members of a batch, and what each was short at the close.
-fn owed(batch: &Batch<Global>) -> Result<([u64; 3], [u64; 3]), Fail> {
-    let [first, second, third] = batch.members() else {
-        return Err(Fail::new("not three members"));
-    };
-    Ok((
-        [first.left, second.left, third.left],
-        [first.closing, second.closing, third.closing],
-    ))
+// Whether so much is left of the liabilities of the members of a batch, and each was short at the close what it was.
+fn are_owed(members: &[Liable], left: &[u64]) -> bool {
+    for (liable, (left, row)) in members.iter().zip(left.iter().zip(&LIABLE)) {
+        if liable.left != *left || liable.closing != u64::from(row.2) {
+            return false;
+        }
+    }
+    members.len() == left.len()
 }
 
 // The shares of an execution, what is left to each member then, and the room.
@@ -388,78 +373,46 @@ const LEFT: [(u64, [u64; 3], u64); 4] = [
     (40, [0, 0, 0], 0),
 ];
 
-// What each was short at the close stays.
-const CLOSINGS: [u64; 3] = [60, 50, 40];
-
 #[test]
-fn what_is_filled_is_no_longer_owed(rt: HostRuntime) -> Result<(), Fail> {
-    let mut batch = batch(&ROWS, 80, rt.alloc())?;
+fn what_is_filled_is_no_longer_owed(rt: HostRuntime) {
+    let mut batch = batch(&rt, rt.alloc(), &ROWS, 80, rt.alloc());
     for (shares, left, room) in &LEFT {
-        execute(&mut batch, *shares)?;
-        assert_eq!(rt; owed(&batch)?, (*left, CLOSINGS));
-        assert_eq!(rt; batch.room(&MANY), *room);
+        execute(&rt, &mut batch, *shares);
+        assert!(rt; are_owed(batch.members(), left));
+        assert!(rt; batch.room(&MANY) == *room);
     }
-    Ok(())
 }
 
-// Whether a choice is refused memory where so much of a heap is taken; None where even that is refused.
-fn choice_refused(taken: usize, alloc: Global) -> Result<Option<bool>, Fail> {
-    let heap = LocalHeap::new(alloc, 4_096)?;
+// Whether a choice is refused memory where so much of a heap is taken. Not where even that is refused.
+fn is_choice_refused(rt: &impl Abort, taken: usize, alloc: Global) -> bool {
+    let heap = LocalHeap::new(alloc, 4_096).expect(rt, "memory");
     let ballast: Result<Vec<u8, &LocalHeap>, AllocError> = Vec::with_capacity(&heap, taken);
-    if ballast.is_err() {
-        return Ok(None);
-    }
     let used = heap.used();
-    let chosen = choose(&heap, &ROWS, 80, alloc)?;
-    let refused = chosen.is_err();
-    drop(chosen);
-    if heap.used() != used {
-        return Err(Fail::new("memory is not given back"));
-    }
-    Ok(Some(refused))
+    let refused = choose(rt, &heap, &ROWS, 80, alloc).is_err();
+    assert!(rt; heap.used() == used);
+    ballast.is_ok() && refused
 }
 
 #[test]
-fn a_choice_is_refused_only_where_memory_is_short(rt: HostRuntime) -> Result<(), Fail> {
-    assert_eq!(rt; choice_refused(0, rt.alloc())?, Some(false));
+fn a_choice_is_refused_only_where_memory_is_short(rt: HostRuntime) {
+    assert!(rt; !is_choice_refused(&rt, 0, rt.alloc()));
     let mut refused = false;
     for step in 0..128 {
-        if choice_refused(step * 32, rt.alloc())? == Some(true) {
+        if is_choice_refused(&rt, step * 32, rt.alloc()) {
             refused = true;
         }
     }
     assert!(rt; refused);
-    Ok(())
-}
-
-// The fills of an execution of 80 shares for 80 cents; None where memory is refused.
-fn fills_on(
-    batch: &Batch<&LocalHeap>,
-    alloc: Global,
-) -> Result<Option<Vec<(u16, u64, u64)>>, Fail> {
-    let shares = Shares::new(80)?;
-    if shares.value() > batch.room(&MANY) {
-        return Err(Fail::new("there is no room"));
-    }
-    match batch.fill(&MANY, shares, Money::new(80)?) {
-        Ok(fills) => Ok(Some(fills_of(fills.as_slice(), alloc)?)),
-        Err(NoMemory) => Ok(None),
-    }
 }
 
 #[test]
-fn a_fill_that_is_refused_memory_leaves_the_batch(rt: HostRuntime) -> Result<(), Fail> {
-    let heap = LocalHeap::new(rt.alloc(), 4_096)?;
-    let Ok(Some(batch)) = choose(&heap, &ROWS, 80, rt.alloc())? else {
-        return Err(Fail::new("nobody is liable"));
-    };
-    let ballast = exhaust(&heap, rt.alloc())?;
-    assert!(rt; fills_on(&batch, rt.alloc())?.is_none());
-    assert_eq!(rt; batch.room(&MANY), 150);
+fn a_fill_that_is_refused_memory_leaves_the_batch(rt: HostRuntime) {
+    let heap = LocalHeap::new(rt.alloc(), 4_096).expect(&rt, "memory");
+    let batch = batch(&rt, &heap, &ROWS, 80, rt.alloc());
+    let ballast = exhaust(&rt, &heap, rt.alloc());
+    assert!(rt; fill(&rt, &batch, &MANY, 80, 80).is_err());
+    assert!(rt; batch.room(&MANY) == 150);
     drop(ballast);
-    let Some(fills) = fills_on(&batch, rt.alloc())? else {
-        return Err(Fail::new("there is memory"));
-    };
-    assert_eq!(rt; fills.as_slice(), [(2, 60, 60), (3, 20, 20)].as_slice());
-    Ok(())
+    let fills = fill(&rt, &batch, &MANY, 80, 80).expect(&rt, "memory");
+    assert!(rt; are_fills(fills.as_slice(), &[(2, 60, 60), (3, 20, 20)]));
 }

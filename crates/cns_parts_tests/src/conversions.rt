@@ -1,17 +1,16 @@
 // Tests of what a split and an exchange make of one position.
+use crate::values::{price, ratio};
 use cns_actions::{exchange_of, split_of};
 use cns_units::{Cents, Price, Ratio};
-use std::test::Fail;
 
 const LIMIT: i64 = 10_000_000_000;
 
 // A split of a position that is within a member's limits, as the call asks.
-fn split(q: i64, (new, old): (u16, u16), lieu: u64) -> Result<Option<(i64, Cents)>, Fail> {
-    let (ratio, lieu) = (Ratio::new(new, old)?, Price::new(lieu)?);
-    if q.unsigned_abs() <= 10_000_000_000 {
-        return Ok(Some(split_of(q, ratio, lieu)));
+fn split(q: i64, ratio: Ratio, lieu: Price) -> Option<(i64, Cents)> {
+    if q.unsigned_abs() > 10_000_000_000 {
+        return None;
     }
-    Ok(None)
+    Some(split_of(q, ratio, lieu))
 }
 
 // A position, the ratio, the cents in lieu of a share, and the shares and the cents that come of it.
@@ -40,27 +39,19 @@ const SPLITS: [(i64, (u16, u16), u64, i64, i128); 15] = [
 ];
 
 #[test]
-fn a_split_cuts_shares_and_cents_towards_zero(rt: HostRuntime) -> Result<(), Fail> {
-    for (q, ratio, lieu, shares, cents) in &SPLITS {
-        let expected = Some((*shares, Cents::of(*cents)));
-        assert_eq!(rt; split(*q, *ratio, *lieu)?, expected);
+fn a_split_cuts_shares_and_cents_towards_zero(rt: HostRuntime) {
+    for (q, (new, old), lieu, shares, cents) in &SPLITS {
+        let found = split(*q, ratio(&rt, *new, *old), price(&rt, *lieu));
+        assert!(rt; found == Some((*shares, Cents::of(*cents))));
     }
-    Ok(())
 }
 
 // An exchange of a position that is within a member's limits, as the call asks.
-fn exchange(
-    q: i64,
-    (new, old): (u16, u16),
-    lieu: u64,
-    cash: u64,
-) -> Result<Option<(i64, Cents)>, Fail> {
-    let ratio = Ratio::new(new, old)?;
-    let (lieu, cash) = (Price::new(lieu)?, Price::new(cash)?);
-    if q.unsigned_abs() <= 10_000_000_000 {
-        return Ok(Some(exchange_of(q, ratio, lieu, cash)));
+fn exchange(q: i64, ratio: Ratio, lieu: Price, cash: Price) -> Option<(i64, Cents)> {
+    if q.unsigned_abs() > 10_000_000_000 {
+        return None;
     }
-    Ok(None)
+    Some(exchange_of(q, ratio, lieu, cash))
 }
 
 // A position, the ratio, the cents in lieu of a share and for each old share, and the shares and the cents that come
@@ -99,12 +90,10 @@ const EXCHANGES: [(i64, (u16, u16), u64, u64, i64, i128); 9] = [
 ];
 
 #[test]
-fn an_exchange_pays_cash_for_each_old_share_beside_the_cents_in_lieu(
-    rt: HostRuntime,
-) -> Result<(), Fail> {
-    for (q, ratio, lieu, cash, shares, cents) in &EXCHANGES {
-        let expected = Some((*shares, Cents::of(*cents)));
-        assert_eq!(rt; exchange(*q, *ratio, *lieu, *cash)?, expected);
+fn an_exchange_pays_cash_for_each_old_share_beside_the_cents_in_lieu(rt: HostRuntime) {
+    for (q, (new, old), lieu, cash, shares, cents) in &EXCHANGES {
+        let ratio = ratio(&rt, *new, *old);
+        let found = exchange(*q, ratio, price(&rt, *lieu), price(&rt, *cash));
+        assert!(rt; found == Some((*shares, Cents::of(*cents))));
     }
-    Ok(())
 }

@@ -1,50 +1,67 @@
 // Tests of the dividends: cash, and what is due at a close.
+use crate::values::{CISCO, cusip, day};
 use cns_dividends::{Dividends, cash};
-use cns_terms::Declared;
-use cns_units::{Cents, Cusip, Day, Rate};
+use cns_terms::{Declared, NoMemory};
+use cns_units::{Cents, Day, Rate};
 use linked_list_allocator::LocalHeap;
 use std::alloc::{Allocator, Global};
 use std::process::Abort;
-use std::test::Fail;
 
 // A day of June 2024.
-fn june(day: u8) -> Result<Day, Fail> {
+fn june(rt: &impl Abort, number: u8) -> Day {
     let mut text = *b"2024-06-00";
-    text[8] = b'0' + day / 10 % 10;
-    text[9] = b'0' + day % 10;
-    Ok(Day::parse(&text)?)
+    text[8] = b'0' + number / 10 % 10;
+    text[9] = b'0' + number % 10;
+    day(rt, &text)
 }
 
-fn before(day: Option<u8>) -> Result<Option<Day>, Fail> {
-    match day {
-        Some(day) => Ok(Some(june(day)?)),
-        None => Ok(None),
+fn before(rt: &impl Abort, number: Option<u8>) -> Option<Day> {
+    match number {
+        Some(number) => Some(june(rt, number)),
+        None => None,
     }
+}
+
+fn rate(rt: &impl Abort, millionths: u64) -> Rate {
+    Rate::new(millionths).expect(rt, "a rate")
 }
 
 // Declares a dividend that is payable on a day of June. Tests tell dividends apart by their rates.
 fn declare<A: Allocator + Drop + Clone>(
+    rt: &impl Abort,
     dividends: &mut Dividends<A>,
     payable: u8,
-    rate: u64,
-) -> Result<(), Fail> {
-    let issue = Cusip::parse(b"17275R102")?;
-    dividends.declare(issue, june(1)?, june(payable)?, Rate::new(rate)?)?;
-    Ok(())
+    millionths: u64,
+) -> Result<(), NoMemory> {
+    let rate = rate(rt, millionths);
+    dividends.declare(cusip(rt, CISCO), june(rt, 1), june(rt, payable), rate)
 }
 
-// The rates of the dividends that are due at a close, in order.
-fn due_rates<A: Allocator + Drop>(
+// Whether the dividends that are due at a close have these rates, in order.
+fn are_due<A: Allocator + Drop>(
+    rt: &impl Abort,
     dividends: &Dividends<A>,
     last: Option<u8>,
     this: u8,
-    alloc: Global,
-) -> Result<Vec<u64>, Fail> {
-    let mut rates = Vec::new(alloc);
-    for declared in dividends.due(before(last)?, june(this)?) {
-        rates.push(declared.rate.value())?;
+    rates: &[u64],
+) -> bool {
+    let mut left = rates.iter();
+    for declared in dividends.due(before(rt, last), june(rt, this)) {
+        if left.next() != Some(&declared.rate.value()) {
+            return false;
+        }
     }
-    Ok(rates)
+    left.next().is_none()
+}
+
+// How many dividends are due at a close.
+fn due_count<A: Allocator + Drop>(
+    rt: &impl Abort,
+    dividends: &Dividends<A>,
+    last: Option<u8>,
+    this: u8,
+) -> usize {
+    dividends.due(before(rt, last), june(rt, this)).count()
 }
 
 // A position, a rate in millionths of a dollar a share, and the cents that are paid.
@@ -85,28 +102,25 @@ const CASH: [(i64, u64, i128); 20] = [
 ];
 
 #[test]
-fn cash_is_cut_towards_zero_for_longs_and_shorts(rt: HostRuntime) -> Result<(), Fail> {
-    for (position, rate, expected) in &CASH {
-        let paid = cash(*position, Rate::new(*rate)?);
-        assert_eq!(rt; paid, Cents::of(*expected));
+fn cash_is_cut_towards_zero_for_longs_and_shorts(rt: HostRuntime) {
+    for (position, millionths, expected) in &CASH {
+        let paid = cash(*position, rate(&rt, *millionths));
+        assert!(rt; paid == Cents::of(*expected));
     }
-    Ok(())
 }
 
 // The days of the last close and of this one, and the rates of what is due.
 type Due = (Option<u8>, u8, &'static [u64]);
 
-// Whether each close pays what it should.
-fn check_due(
-    rt: &(impl Abort + AllocGlobal),
-    dividends: &Dividends<Global>,
-    closes: &[Due],
-) -> Result<(), Fail> {
-    for (last, this, expected) in closes {
-        let rates = due_rates(dividends, *last, *this, rt.alloc())?;
-        assert_eq!(rt; rates.as_slice(), *expected);
+// Payable days and rates as they are declared, and what is due at closes.
+fn check_due(rt: &(impl Abort + AllocGlobal), given: &[(u8, u64)], closes: &[Due]) {
+    let mut dividends = Dividends::new(rt.alloc());
+    for (payable, millionths) in given {
+        declare(rt, &mut dividends, *payable, *millionths).expect(rt, "memory");
     }
-    Ok(())
+    for (last, this, rates) in closes {
+        assert!(rt; are_due(rt, &dividends, *last, *this, rates));
+    }
 }
 
 // The closes round a dividend that is payable on the 10th.
@@ -130,12 +144,8 @@ const ROUND_A_PAYABLE_DATE: [Due; 12] = [
 ];
 
 #[test]
-fn a_dividend_is_due_at_the_first_close_on_or_after_its_payable_date(
-    rt: HostRuntime,
-) -> Result<(), Fail> {
-    let mut dividends = Dividends::new(rt.alloc());
-    declare(&mut dividends, 10, 7)?;
-    check_due(&rt, &dividends, &ROUND_A_PAYABLE_DATE)
+fn a_dividend_is_due_at_the_first_close_on_or_after_its_payable_date(rt: HostRuntime) {
+    check_due(&rt, &[(10, 7)], &ROUND_A_PAYABLE_DATE);
 }
 
 // Payable days and rates, as they were declared.
@@ -153,36 +163,31 @@ const SEVERAL_DUE: [Due; 8] = [
 ];
 
 #[test]
-fn dividends_come_by_payable_date_and_then_as_they_were_declared(
-    rt: HostRuntime,
-) -> Result<(), Fail> {
-    let mut dividends = Dividends::new(rt.alloc());
-    for (payable, rate) in &SEVERAL {
-        declare(&mut dividends, *payable, *rate)?;
-    }
-    check_due(&rt, &dividends, &SEVERAL_DUE)
+fn dividends_come_by_payable_date_and_then_as_they_were_declared(rt: HostRuntime) {
+    check_due(&rt, &SEVERAL, &SEVERAL_DUE);
 }
 
-fn declared() -> Result<Declared, Fail> {
-    Ok(Declared {
-        issue: Cusip::parse(b"17275R102")?,
-        recorded: june(5)?,
-        payable: june(26)?,
-        rate: Rate::new(240_000)?,
-    })
+fn declared(rt: &impl Abort) -> Declared {
+    Declared {
+        issue: cusip(rt, CISCO),
+        recorded: june(rt, 5),
+        payable: june(rt, 26),
+        rate: rate(rt, 240_000),
+    }
 }
 
 #[test]
-fn a_dividend_is_kept_as_it_was_declared(rt: HostRuntime) -> Result<(), Fail> {
-    let given = declared()?;
+fn a_dividend_is_kept_as_it_was_declared(rt: HostRuntime) {
+    let given = &declared(&rt);
     let mut dividends = Dividends::new(rt.alloc());
-    dividends.declare(given.issue, given.recorded, given.payable, given.rate)?;
+    dividends
+        .declare(given.issue, given.recorded, given.payable, given.rate)
+        .expect(&rt, "memory");
     let mut due = dividends.due(None, given.payable);
-    assert_eq!(rt; due.next(), Some(given));
+    assert!(rt; due.next() == Some(*given));
     // Nothing else is due, however often it is asked.
     assert!(rt; due.next().is_none());
     assert!(rt; due.next().is_none());
-    Ok(())
 }
 
 // The days of the last close and of this one, and how many dividends are paid, where 30 are payable on each day.
@@ -198,60 +203,47 @@ const CLOSES: [(Option<u8>, u8, usize); 8] = [
 ];
 
 #[test]
-fn closes_one_after_another_pay_each_dividend_once(rt: HostRuntime) -> Result<(), Fail> {
+fn closes_one_after_another_pay_each_dividend_once(rt: HostRuntime) {
     let mut dividends = Dividends::new(rt.alloc());
     for rate in 1..=900u16 {
-        declare(&mut dividends, (rate % 30) as u8 + 1, u64::from(rate))?;
+        let payable = (rate % 30) as u8 + 1;
+        declare(&rt, &mut dividends, payable, u64::from(rate)).expect(&rt, "memory");
     }
     for (last, this, paid) in &CLOSES {
-        let rates = due_rates(&dividends, *last, *this, rt.alloc())?;
-        assert_eq!(rt; rates.len(), *paid);
+        assert!(rt; due_count(&rt, &dividends, *last, *this) == *paid);
     }
-    Ok(())
 }
 
 // Declares dividends that are payable on the 10th until memory is refused, and answers how many were taken.
-fn fill(dividends: &mut Dividends<&LocalHeap>) -> Result<u64, Fail> {
-    let issue = Cusip::parse(b"17275R102")?;
-    for rate in 1..=10_000 {
-        let declared = dividends.declare(issue, june(1)?, june(10)?, Rate::new(rate)?);
-        if declared.is_err() {
-            return Ok(rate - 1);
+fn fill(rt: &impl Abort, dividends: &mut Dividends<&LocalHeap>) -> u64 {
+    for rate in 1..=9_999 {
+        if declare(rt, dividends, 10, rate).is_err() {
+            return rate - 1;
         }
     }
-    Ok(10_000)
+    panic!(rt; "the heap is too large");
 }
 
 #[test]
-fn a_declaration_that_is_refused_memory_changes_nothing(rt: HostRuntime) -> Result<(), Fail> {
+fn a_declaration_that_is_refused_memory_changes_nothing(rt: HostRuntime) {
     for pages in 1..=64 {
-        let heap = LocalHeap::new(rt.alloc(), pages * 512)?;
+        let heap = LocalHeap::new(rt.alloc(), pages * 512).expect(&rt, "memory");
         let mut dividends = Dividends::new(&heap);
-        let taken = fill(&mut dividends)?;
-        assert!(rt; taken < 10_000);
-        let rates = due_rates(&dividends, None, 10, rt.alloc())?;
-        let expected: Vec<u64> = (1..=taken).collect(rt.alloc())?;
-        assert_eq!(rt; rates.as_slice(), expected.as_slice());
+        let taken = fill(&rt, &mut dividends);
+        let rates: Vec<u64> = (1..=taken).collect(rt.alloc()).expect(&rt, "memory");
+        assert!(rt; are_due(&rt, &dividends, None, 10, rates.as_slice()));
         drop(dividends);
-        assert_eq!(rt; heap.used(), 0);
+        assert!(rt; heap.used() == 0);
     }
-    Ok(())
-}
-
-// How many dividends that are payable on the 10th are due at its close.
-fn due_count(dividends: &Dividends<&LocalHeap>) -> Result<usize, Fail> {
-    Ok(dividends.due(Some(june(9)?), june(10)?).count())
 }
 
 #[test]
-fn what_is_due_asks_for_no_memory(rt: HostRuntime) -> Result<(), Fail> {
-    let heap = LocalHeap::new(rt.alloc(), 4_096)?;
+fn what_is_due_asks_for_no_memory(rt: HostRuntime) {
+    let heap = LocalHeap::new(rt.alloc(), 4_096).expect(&rt, "memory");
     let mut dividends = Dividends::new(&heap);
     assert!(rt; heap.used() == 0);
-    let taken = fill(&mut dividends)?;
+    let taken = fill(&rt, &mut dividends);
     let used = heap.used();
-    let paid = due_count(&dividends)?;
-    assert!(rt; 0 < taken && paid as u64 == taken);
+    assert!(rt; 0 < taken && due_count(&rt, &dividends, Some(9), 10) as u64 == taken);
     assert!(rt; heap.used() == used);
-    Ok(())
 }

@@ -4,7 +4,8 @@
 //! They use public names alone and stand in a crate of their own, so that no crate below is proved once more for its
 //! tests. They say what no clause says: worked values, that a call succeeds where there is memory, and refused memory.
 //! Cases are tables, `const` where they can be: one in a body would be proved with it. There is a file for each crate,
-//! or for a part of one; `heaps.rt` is shared.
+//! or for a part of one; `heaps.rt` and `values.rt` are shared. A helper that cannot go on ends the test by `rt`: its
+//! callers are then proved sooner than with a `?` after each call.
 #![tactic(auto)]
 
 #[cfg(test)]
@@ -37,3 +38,5 @@ mod trades;
 mod tree;
 #[cfg(test)]
 mod units;
+#[cfg(test)]
+mod values;

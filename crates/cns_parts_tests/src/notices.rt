@@ -3,20 +3,12 @@ ghost use Rattle.std.specs.Prelude.{◌≡◌, ◌+◌, ◌^◌, ◌<◌, ◌≤
 ghost use Rattle.std.specs.Option.{ForSome};
 ghost use Rattle.cns_notices.specs.Noticed.{live_number, notice_at};
 
+use crate::values::{APPLE, CISCO, cusip, member, shares};
 use cns_notices::{Given, Notices, Stage};
-use cns_units::{Cusip, Member, Shares};
+use cns_units::{Cusip, Member};
 use linked_list_allocator::LocalHeap;
 use std::alloc::{Allocator, Global};
 use std::process::Abort;
-use std::test::Fail;
-
-fn member(number: u16) -> Result<Member, Fail> {
-    Ok(Member::new(number)?)
-}
-
-const APPLE: &[u8; 9] = b"037833100";
-
-const CISCO: &[u8; 9] = b"17275R102";
 
 // Whether a notice may be given: what `open` asks.
 fn may_open<A: Allocator + Drop>(
@@ -36,21 +28,19 @@ fn may_open<A: Allocator + Drop>(
     count == 0 || notices.given(count).day <= day
 }
 
-// Gives notice. None where memory is refused.
+// Gives notice, and answers whether there was memory.
 fn give<A: Allocator + Drop + Clone>(
+    rt: &impl Abort,
     notices: &mut Notices<A>,
     number: u16,
-    cusip: &[u8; 9],
-    n: u64,
+    issue: &[u8],
+    count: u64,
     day: u32,
-) -> Result<Option<u32>, Fail> {
-    let member = member(number)?;
-    let cusip = Cusip::parse(cusip)?;
-    let n = Shares::new(n)?;
-    if !may_open(notices, member, cusip, day) {
-        return Err(Fail::new("no notice may be given"));
-    }
-    Ok(notices.open(member, cusip, n, day).ok())
+) -> bool {
+    let member = member(rt, number);
+    let issue = &cusip(rt, issue);
+    assert!(rt; may_open(notices, member, *issue, day));
+    notices.open(member, *issue, shares(rt, count), day).is_ok()
 }
 
 fn is_there<A: Allocator + Drop>(notices: &Notices<A>, k: u32) -> bool
@@ -59,26 +49,19 @@ fn is_there<A: Allocator + Drop>(notices: &Notices<A>, k: u32) -> bool
     0 < k && k <= notices.len()
 }
 
-fn stage<A: Allocator + Drop>(notices: &Notices<A>, k: u32) -> Result<Stage, Fail> {
-    if !is_there(notices, k) {
-        return Err(Fail::new("no such notice"));
-    }
-    Ok(notices.stage(k))
+fn stage(rt: &impl Abort, notices: &Notices<Global>, k: u32) -> Stage {
+    assert!(rt; is_there(notices, k));
+    notices.stage(k)
 }
 
-fn remaining(notices: &Notices<Global>, k: u32, position: i64) -> Result<u64, Fail> {
-    if !is_there(notices, k) {
-        return Err(Fail::new("no such notice"));
-    }
-    Ok(notices.remaining(k, position))
+fn remaining(rt: &impl Abort, notices: &Notices<Global>, k: u32, position: i64) -> u64 {
+    assert!(rt; is_there(notices, k));
+    notices.remaining(k, position)
 }
 
-fn withdraw<A: Allocator + Drop>(notices: &mut Notices<A>, k: u32) -> Result<(), Fail> {
-    if !is_there(notices, k) {
-        return Err(Fail::new("no such notice"));
-    }
+fn withdraw(rt: &impl Abort, notices: &mut Notices<Global>, k: u32) {
+    assert!(rt; is_there(notices, k));
     notices.withdraw(k);
-    Ok(())
 }
 
 // Whether something remains of a notice, so that few shares were received and bought in.
@@ -91,13 +74,10 @@ fn is_open(notices: &Notices<Global>, k: u32) -> bool
     shares <= 1_000_000_000 && notices.remaining(k, i64::MAX) > 0
 }
 
-fn execute(notices: &mut Notices<Global>, k: u32, n: u64) -> Result<(), Fail> {
-    let n = Shares::new(n)?;
-    if !is_there(notices, k) || !is_open(notices, k) {
-        return Err(Fail::new("no execution may be counted"));
-    }
-    notices.executed(k, n);
-    Ok(())
+fn execute(rt: &impl Abort, notices: &mut Notices<Global>, k: u32, count: u64) {
+    assert!(rt; is_there(notices, k));
+    assert!(rt; is_open(notices, k));
+    notices.executed(k, shares(rt, count));
 }
 
 // Whether a receipt may be counted: what `received` asks.
@@ -110,69 +90,44 @@ fn may_receive(notices: &Notices<Global>, member: Member, cusip: Cusip) -> bool
     }
 }
 
-fn receive(
-    notices: &mut Notices<Global>,
-    number: u16,
-    cusip: &[u8; 9],
-    n: u64,
-) -> Result<(), Fail> {
-    let member = member(number)?;
-    let cusip = Cusip::parse(cusip)?;
-    let n = Shares::new(n)?;
-    if !may_receive(notices, member, cusip) {
-        return Err(Fail::new("no receipt may be counted"));
-    }
-    notices.received(member, cusip, n);
-    Ok(())
+fn receive(rt: &impl Abort, notices: &mut Notices<Global>, number: u16, issue: &[u8], count: u64) {
+    let member = member(rt, number);
+    let issue = &cusip(rt, issue);
+    assert!(rt; may_receive(notices, member, *issue));
+    notices.received(member, *issue, shares(rt, count));
 }
 
-// A member's notice or receipt of so many shares of an issue, a notice on a day; or what becomes of one by its number.
+// A member's notice or receipt of so many shares of an issue, a notice on a day; what becomes of one by its number; the
+// close of a day; a split of an issue.
+#[derive(Clone, Copy)]
 enum Step {
-    Give(u16, &'static [u8; 9], u64, u32),
-    Receive(u16, &'static [u8; 9], u64),
+    Give(u16, &'static [u8], u64, u32),
+    Receive(u16, &'static [u8], u64),
     Withdraw(u32),
+    Execute(u32, u64),
+    Close(u32),
+    Split(&'static [u8]),
 }
 
-fn take(notices: &mut Notices<Global>, step: &Step) -> Result<(), Fail> {
+fn take(rt: &impl Abort, notices: &mut Notices<Global>, step: &Step) {
     match step {
-        Step::Give(member, issue, shares, day) => {
-            give(notices, *member, issue, *shares, *day)?;
-            Ok(())
+        Step::Give(member, issue, count, day) => {
+            assert!(rt; give(rt, notices, *member, issue, *count, *day));
         }
-        Step::Receive(member, issue, shares) => receive(notices, *member, issue, *shares),
-        Step::Withdraw(k) => withdraw(notices, *k),
+        Step::Receive(member, issue, count) => receive(rt, notices, *member, issue, *count),
+        Step::Withdraw(k) => withdraw(rt, notices, *k),
+        Step::Execute(k, count) => execute(rt, notices, *k, *count),
+        Step::Close(day) => notices.expire(*day),
+        Step::Split(issue) => notices.end_issue(cusip(rt, issue)),
     }
 }
 
-fn after(steps: &[Step], alloc: Global) -> Result<Notices<Global>, Fail> {
-    let mut notices = Notices::new(alloc);
+fn after(rt: &(impl Abort + AllocGlobal), steps: &[Step]) -> Notices<Global> {
+    let mut notices = Notices::new(rt.alloc());
     for step in steps {
-        take(&mut notices, step)?;
+        take(rt, &mut notices, step);
     }
-    Ok(notices)
-}
-
-// Whether the first notices have these stages, and there are no more.
-fn have_stages(notices: &Notices<Global>, stages: &[Stage]) -> Result<bool, Fail> {
-    let mut k = 0;
-    for expected in stages {
-        if k >= notices.len() {
-            return Ok(false);
-        }
-        k += 1;
-        if stage(notices, k)? != *expected {
-            return Ok(false);
-        }
-    }
-    Ok(notices.len() == k)
-}
-
-// The stage of a notice of one day after the close of another.
-fn stage_after_close(alloc: Global, given: u32, closing: u32) -> Result<Stage, Fail> {
-    let mut notices = Notices::new(alloc);
-    give(&mut notices, 1, CISCO, 9, given)?;
-    notices.expire(closing);
-    stage(&notices, 1)
+    notices
 }
 
 // The day of a notice, the day that is closed, and the stage then.
@@ -190,172 +145,169 @@ const CLOSES: [(u32, u32, Stage); 10] = [
 ];
 
 #[test]
-fn a_notice_expires_at_the_close_of_the_second_day_after_its_own(
-    rt: HostRuntime,
-) -> Result<(), Fail> {
+fn a_notice_expires_at_the_close_of_the_second_day_after_its_own(rt: HostRuntime) {
     for (given, closing, expected) in &CLOSES {
-        let found = stage_after_close(rt.alloc(), *given, *closing)?;
-        assert_eq!(rt; found, *expected);
+        let notices = after(
+            &rt,
+            &[Step::Give(1, CISCO, 9, *given), Step::Close(*closing)],
+        );
+        assert!(rt; stage(&rt, &notices, 1) == *expected);
     }
-    Ok(())
 }
 
-const OF_SEVERAL_DAYS: [Step; 6] = [
-    Step::Give(1, CISCO, 9, 1),
-    Step::Give(2, CISCO, 9, 2),
-    Step::Give(3, APPLE, 9, 2),
-    Step::Give(4, CISCO, 9, 2),
-    Step::Give(5, CISCO, 9, 4),
-    Step::Withdraw(3),
+// What happens, and the stages of all notices then.
+const STAGES: [(&str, &[Step], &[Stage]); 3] = [
+    (
+        "the live notices of a day expire and no other",
+        &[
+            Step::Give(1, CISCO, 9, 1),
+            Step::Give(2, CISCO, 9, 2),
+            Step::Give(3, APPLE, 9, 2),
+            Step::Give(4, CISCO, 9, 2),
+            Step::Give(5, CISCO, 9, 4),
+            Step::Withdraw(3),
+            Step::Close(4),
+        ],
+        &[
+            Stage::Live,
+            Stage::Expired,
+            Stage::Withdrawn,
+            Stage::Expired,
+            Stage::Live,
+        ],
+    ),
+    (
+        "a split ends the live notices of its issue",
+        &[
+            Step::Give(1, CISCO, 9, 1),
+            Step::Give(9999, CISCO, 9, 1),
+            Step::Give(1, APPLE, 9, 1),
+            Step::Give(2, CISCO, 9, 1),
+            Step::Withdraw(4),
+            Step::Split(CISCO),
+        ],
+        &[Stage::Ended, Stage::Ended, Stage::Live, Stage::Withdrawn],
+    ),
+    (
+        "another notice may follow one that has ended",
+        &[
+            Step::Give(1, CISCO, 9, 1),
+            Step::Withdraw(1),
+            Step::Give(1, CISCO, 9, 1),
+            Step::Close(3),
+        ],
+        &[Stage::Withdrawn, Stage::Expired],
+    ),
 ];
 
-const AFTER_DAY_4: [Stage; 5] = [
-    Stage::Live,
-    Stage::Expired,
-    Stage::Withdrawn,
-    Stage::Expired,
-    Stage::Live,
-];
-
-#[test]
-fn the_live_notices_of_a_day_expire_and_no_other(rt: HostRuntime) -> Result<(), Fail> {
-    let mut notices = after(&OF_SEVERAL_DAYS, rt.alloc())?;
-    notices.expire(4);
-    assert!(rt; have_stages(&notices, &AFTER_DAY_4)?);
-    Ok(())
-}
-
-const OF_TWO_ISSUES: [Step; 5] = [
-    Step::Give(1, CISCO, 9, 1),
-    Step::Give(9999, CISCO, 9, 1),
-    Step::Give(1, APPLE, 9, 1),
-    Step::Give(2, CISCO, 9, 1),
-    Step::Withdraw(4),
-];
-
-const AFTER_A_SPLIT: [Stage; 4] = [Stage::Ended, Stage::Ended, Stage::Live, Stage::Withdrawn];
-
-#[test]
-fn a_split_ends_the_live_notices_of_its_issue(rt: HostRuntime) -> Result<(), Fail> {
-    let mut notices = after(&OF_TWO_ISSUES, rt.alloc())?;
-    notices.end_issue(Cusip::parse(CISCO)?);
-    assert!(rt; have_stages(&notices, &AFTER_A_SPLIT)?);
-    Ok(())
-}
-
-const ONE_AFTER_ANOTHER: [Step; 3] = [
-    Step::Give(1, CISCO, 9, 1),
-    Step::Withdraw(1),
-    Step::Give(1, CISCO, 9, 1),
-];
-
-#[test]
-fn another_notice_may_follow_one_that_has_ended(rt: HostRuntime) -> Result<(), Fail> {
-    let mut notices = after(&ONE_AFTER_ANOTHER, rt.alloc())?;
-    notices.expire(3);
-    assert!(rt; have_stages(&notices, &[Stage::Withdrawn, Stage::Expired])?);
-    Ok(())
-}
-
-// What remains of a notice of 80 shares after an execution and a receipt of so many, if any.
-fn remaining_of_80(
-    alloc: Global,
-    received: u64,
-    executed: u64,
-    position: i64,
-) -> Result<u64, Fail> {
-    let mut notices = Notices::new(alloc);
-    give(&mut notices, 1, CISCO, 80, 3)?;
-    if executed > 0 {
-        execute(&mut notices, 1, executed)?;
-    }
-    if received > 0 {
-        receive(&mut notices, 1, CISCO, received)?;
-    }
-    remaining(&notices, 1, position)
-}
-
-// What was received and executed, the position, and what remains of 80 shares.
-const REMAINS: [(u64, u64, i64, u64); 12] = [
-    (0, 0, 220, 80),
-    (0, 0, 80, 80),
-    (0, 0, 79, 79),
-    (0, 0, 0, 0),
-    (0, 0, -1, 0),
-    (0, 0, i64::MIN, 0),
-    (0, 0, i64::MAX, 80),
-    (50, 0, 170, 30),
-    (50, 20, 190, 10),
-    (50, 20, 4, 4),
-    (81, 20, 190, 0),
-    (0, 80, 190, 0),
-];
-
-#[test]
-fn what_remains_follows_receipts_executions_and_the_position(rt: HostRuntime) -> Result<(), Fail> {
-    for (received, executed, position, expected) in &REMAINS {
-        let left = remaining_of_80(rt.alloc(), *received, *executed, *position)?;
-        assert_eq!(rt; left, *expected);
-    }
-    Ok(())
-}
-
-// Whether so much remains of each notice by its number, where its member is long 220 shares.
-fn remain(notices: &Notices<Global>, expected: &[(u32, u64)]) -> Result<bool, Fail> {
-    for (k, shares) in expected {
-        if remaining(notices, *k, 220)? != *shares {
-            return Ok(false);
+// Whether the notices have these stages, the first one first.
+fn have_stages(rt: &impl Abort, notices: &Notices<Global>, stages: &[Stage]) -> bool {
+    let mut k = 0u32;
+    for expected in stages {
+        k = k.saturating_add(1);
+        if stage(rt, notices, k) != *expected {
+            return false;
         }
     }
-    Ok(true)
+    notices.len() == k
 }
 
-const AMONG_OTHER_RECEIPTS: [Step; 5] = [
-    Step::Receive(1, CISCO, 5),
-    Step::Give(1, CISCO, 80, 3),
-    Step::Give(1, APPLE, 70, 3),
-    Step::Receive(2, CISCO, 5),
-    Step::Receive(1, APPLE, 5),
+#[test]
+fn closes_and_splits_end_the_live_notices_that_they_are_for(rt: HostRuntime) {
+    for (name, steps, stages) in &STAGES {
+        let notices = after(&rt, steps);
+        assert!(rt; have_stages(&rt, &notices, stages), "{name}");
+    }
+}
+
+// What follows a notice of 80 shares, the position of its member, and what remains.
+const REMAINS: [(&[Step], i64, u64); 12] = [
+    (&[], 220, 80),
+    (&[], 80, 80),
+    (&[], 79, 79),
+    (&[], 0, 0),
+    (&[], -1, 0),
+    (&[], i64::MIN, 0),
+    (&[], i64::MAX, 80),
+    (&[Step::Receive(1, CISCO, 50)], 170, 30),
+    (
+        &[Step::Execute(1, 20), Step::Receive(1, CISCO, 50)],
+        190,
+        10,
+    ),
+    (&[Step::Execute(1, 20), Step::Receive(1, CISCO, 50)], 4, 4),
+    (&[Step::Execute(1, 20), Step::Receive(1, CISCO, 81)], 190, 0),
+    (&[Step::Execute(1, 80)], 190, 0),
+];
+
+fn remaining_of_80(rt: &(impl Abort + AllocGlobal), steps: &[Step], position: i64) -> u64 {
+    let mut notices = after(rt, &[Step::Give(1, CISCO, 80, 3)]);
+    for step in steps {
+        take(rt, &mut notices, step);
+    }
+    remaining(rt, &notices, 1, position)
+}
+
+#[test]
+fn what_remains_follows_receipts_executions_and_the_position(rt: HostRuntime) {
+    for (steps, position, expected) in &REMAINS {
+        assert!(rt; remaining_of_80(&rt, steps, *position) == *expected);
+    }
+}
+
+// What happens, and what remains of the first notice and of the last where their member is long 220 shares.
+const OTHER_RECEIPTS: [(&str, &[Step], u64, u64); 3] = [
+    (
+        "receipts from before or of another do not count",
+        &[
+            Step::Receive(1, CISCO, 5),
+            Step::Give(1, CISCO, 80, 3),
+            Step::Give(1, APPLE, 70, 3),
+            Step::Receive(2, CISCO, 5),
+            Step::Receive(1, APPLE, 5),
+        ],
+        80,
+        65,
+    ),
+    (
+        "nothing remains of a notice that is not live",
+        &[
+            Step::Give(1, CISCO, 80, 3),
+            Step::Receive(1, CISCO, 50),
+            Step::Withdraw(1),
+        ],
+        0,
+        0,
+    ),
+    (
+        "the receipts of a notice are not those of the next",
+        &[
+            Step::Give(1, CISCO, 80, 3),
+            Step::Receive(1, CISCO, 50),
+            Step::Withdraw(1),
+            Step::Give(1, CISCO, 20, 3),
+            Step::Receive(1, CISCO, 5),
+        ],
+        0,
+        15,
+    ),
 ];
 
 #[test]
-fn receipts_from_before_or_of_another_do_not_count(rt: HostRuntime) -> Result<(), Fail> {
-    let notices = after(&AMONG_OTHER_RECEIPTS, rt.alloc())?;
-    assert!(rt; remain(&notices, &[(1, 80), (2, 65)])?);
-    Ok(())
-}
-
-const RECEIVED_AND_WITHDRAWN: [Step; 3] = [
-    Step::Give(1, CISCO, 80, 3),
-    Step::Receive(1, CISCO, 50),
-    Step::Withdraw(1),
-];
-
-#[test]
-fn nothing_remains_of_a_notice_that_is_not_live(rt: HostRuntime) -> Result<(), Fail> {
-    let notices = after(&RECEIVED_AND_WITHDRAWN, rt.alloc())?;
-    assert!(rt; remain(&notices, &[(1, 0)])?);
-    Ok(())
-}
-
-const GIVEN_AGAIN: [Step; 5] = [
-    Step::Give(1, CISCO, 80, 3),
-    Step::Receive(1, CISCO, 50),
-    Step::Withdraw(1),
-    Step::Give(1, CISCO, 20, 3),
-    Step::Receive(1, CISCO, 5),
-];
-
-#[test]
-fn the_receipts_of_a_notice_are_not_those_of_the_next(rt: HostRuntime) -> Result<(), Fail> {
-    let notices = after(&GIVEN_AGAIN, rt.alloc())?;
-    assert!(rt; remain(&notices, &[(1, 0), (2, 15)])?);
-    Ok(())
+fn the_receipts_of_a_notice_are_those_of_its_member_and_issue_while_it_is_live(rt: HostRuntime) {
+    for (name, steps, first, last) in &OTHER_RECEIPTS {
+        let notices = after(&rt, steps);
+        let found = (
+            remaining(&rt, &notices, 1, 220),
+            remaining(&rt, &notices, notices.len(), 220),
+        );
+        assert!(rt; found == (*first, *last), "{name}");
+    }
 }
 
 // The number of the first member's live notice in one issue.
-fn live(notices: &Notices<Global>) -> Result<Option<u32>, Fail> {
-    Ok(notices.live_of(member(1)?, Cusip::parse(CISCO)?))
+fn live(rt: &impl Abort, notices: &Notices<Global>) -> Option<u32> {
+    notices.live_of(member(rt, 1), cusip(rt, CISCO))
 }
 
 // Steps, and the number of the first member's live notice after each.
@@ -370,85 +322,71 @@ const LIVE: [(Step, Option<u32>); 6] = [
 ];
 
 #[test]
-fn the_live_notice_is_that_of_the_member_and_the_issue(rt: HostRuntime) -> Result<(), Fail> {
+fn the_live_notice_is_that_of_the_member_and_the_issue(rt: HostRuntime) {
     let mut notices = Notices::new(rt.alloc());
-    assert!(rt; live(&notices)?.is_none());
+    assert!(rt; live(&rt, &notices).is_none());
     for (step, expected) in &LIVE {
-        take(&mut notices, step)?;
-        assert_eq!(rt; live(&notices)?, *expected);
+        take(&rt, &mut notices, step);
+        assert!(rt; live(&rt, &notices) == *expected);
     }
-    Ok(())
 }
 
 const TWO_GIVEN: [Step; 2] = [Step::Give(101, CISCO, 80, 3), Step::Give(202, APPLE, 7, 4)];
 
-fn second() -> Result<Given, Fail> {
-    Ok(Given {
-        member: member(202)?,
-        issue: Cusip::parse(APPLE)?,
-        shares: Shares::new(7)?,
+fn second(rt: &impl Abort) -> Given {
+    Given {
+        member: member(rt, 202),
+        issue: cusip(rt, APPLE),
+        shares: shares(rt, 7),
         day: 4,
-    })
+    }
 }
 
 #[test]
-fn a_notice_is_kept_as_it_was_given(rt: HostRuntime) -> Result<(), Fail> {
-    let notices = after(&TWO_GIVEN, rt.alloc())?;
-    if !is_there(&notices, 2) {
-        return Err(Fail::new("no second notice"));
-    }
-    assert_eq!(rt; notices.given(2), second()?);
-    Ok(())
+fn a_notice_is_kept_as_it_was_given(rt: HostRuntime) {
+    let notices = after(&rt, &TWO_GIVEN);
+    assert!(rt; is_there(&notices, 2));
+    assert!(rt; notices.given(2) == second(&rt));
 }
 
 // Gives notices of distinct members until memory is refused, and answers how many were taken.
-fn fill(notices: &mut Notices<&LocalHeap>) -> Result<u16, Fail> {
+fn fill(rt: &impl Abort, notices: &mut Notices<&LocalHeap>) -> u16 {
     for number in 1..=999 {
-        if give(notices, number, CISCO, 1, 1)?.is_none() {
-            return Ok(number - 1);
+        if !give(rt, notices, number, CISCO, 1, 1) {
+            return number - 1;
         }
     }
-    Err(Fail::new("the heap is too large"))
+    panic!(rt; "the heap is too large");
 }
 
 // Whether these are the members with live notices, each with its own number.
-fn are_live(notices: &Notices<&LocalHeap>, count: u16) -> Result<bool, Fail> {
+fn are_live(rt: &impl Abort, notices: &Notices<&LocalHeap>, count: u16) -> bool {
     for number in 1..=count {
-        let live = notices.live_of(member(number)?, Cusip::parse(CISCO)?);
+        let live = notices.live_of(member(rt, number), cusip(rt, CISCO));
         if live != Some(u32::from(number)) {
-            return Ok(false);
+            return false;
         }
     }
-    Ok(notices.len() == u32::from(count))
+    notices.len() == u32::from(count)
 }
 
-// Whether one more is refused, whichever growth it is that finds no room, and changes nothing.
-fn is_refused_again(
-    notices: &mut Notices<&LocalHeap>,
-    heap: &LocalHeap,
-    taken: u16,
-) -> Result<bool, Fail> {
-    let used = heap.used();
-    let given = give(notices, 1_000, CISCO, 1, 1)?;
-    Ok(given.is_none() && heap.used() == used && are_live(notices, taken)?)
-}
-
-// Gives notices until one is refused, and then one more.
-fn check_refused(rt: &impl Abort, heap: &LocalHeap) -> Result<(), Fail> {
+// Gives notices until one is refused. One more is refused, whichever growth it is that finds no room, and changes
+// nothing.
+fn check_refused(rt: &impl Abort, heap: &LocalHeap) {
     let mut notices = Notices::new(heap);
     assert!(rt; heap.used() == 0);
-    let taken = fill(&mut notices)?;
-    assert!(rt; are_live(&notices, taken)?);
-    assert!(rt; is_refused_again(&mut notices, heap, taken)?);
-    Ok(())
+    let taken = fill(rt, &mut notices);
+    assert!(rt; are_live(rt, &notices, taken));
+    let used = heap.used();
+    assert!(rt; !give(rt, &mut notices, 1_000, CISCO, 1, 1));
+    assert!(rt; heap.used() == used && are_live(rt, &notices, taken));
 }
 
 #[test]
-fn a_notice_that_is_refused_memory_changes_nothing(rt: HostRuntime) -> Result<(), Fail> {
+fn a_notice_that_is_refused_memory_changes_nothing(rt: HostRuntime) {
     for step in 1..=64 {
-        let heap = LocalHeap::new(rt.alloc(), step * 128)?;
-        check_refused(&rt, &heap)?;
+        let heap = LocalHeap::new(rt.alloc(), step * 128).expect(&rt, "memory");
+        check_refused(&rt, &heap);
         assert!(rt; heap.used() == 0);
     }
-    Ok(())
 }

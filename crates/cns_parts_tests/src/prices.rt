@@ -1,24 +1,17 @@
 // Tests of the prices of listed issues.
+use crate::values::{APPLE, CISCO, MICROSOFT, cusip, numbered, price};
 use cns_prices::Prices;
 use cns_units::{Cusip, Price};
 use std::alloc::Global;
-use std::test::Fail;
-
-const APPLE: &[u8] = b"037833100";
-
-const CISCO: &[u8] = b"17275R102";
-
-const MICROSOFT: &[u8] = b"594918104";
+use std::process::Abort;
 
 // Lists an issue, or sets its price where it is listed.
-fn give(prices: &mut Prices<Global>, issue: Cusip, price: u64) -> Result<(), Fail> {
-    let price = Price::new(price)?;
+fn give(rt: &impl Abort, prices: &mut Prices<Global>, issue: Cusip, price: Price) {
     if prices.price(issue).is_none() {
-        prices.list(issue, price)?;
+        prices.list(issue, price).expect(rt, "memory");
     } else if !prices.is_retired(issue) {
         prices.set(issue, price);
     }
-    Ok(())
 }
 
 fn retire(prices: &mut Prices<Global>, issue: Cusip) {
@@ -27,90 +20,95 @@ fn retire(prices: &mut Prices<Global>, issue: Cusip) {
     }
 }
 
-#[test]
-fn a_price_holds_until_it_is_set_again(rt: HostRuntime) -> Result<(), Fail> {
-    let (apple, cisco) = (Cusip::parse(APPLE)?, Cusip::parse(CISCO)?);
+// Prices of issues, listed one after another.
+fn listed(rt: &(impl Abort + AllocGlobal), rows: &[(&[u8], u64)]) -> Prices<Global> {
     let mut prices = Prices::new(rt.alloc());
-    assert_eq!(rt; prices.price(apple), None);
-    give(&mut prices, apple, 19_500)?;
-    give(&mut prices, cisco, 4_600)?;
-    assert_eq!(rt; prices.price(apple), Some(Price::new(19_500)?));
-    give(&mut prices, apple, 19_600)?;
-    assert_eq!(rt; prices.price(apple), Some(Price::new(19_600)?));
-    assert_eq!(rt; prices.price(cisco), Some(Price::new(4_600)?));
-    Ok(())
+    for (issue, cents) in rows {
+        give(rt, &mut prices, cusip(rt, issue), price(rt, *cents));
+    }
+    prices
+}
+
+// Issues and prices as they are given, an issue, and its price then.
+const GIVEN: [(&[(&[u8], u64)], &[u8], Option<u64>); 5] = [
+    (&[], APPLE, None),
+    (&[(CISCO, 4_600)], APPLE, None),
+    (&[(APPLE, 19_500), (CISCO, 4_600)], APPLE, Some(19_500)),
+    (
+        &[(APPLE, 19_500), (CISCO, 4_600), (APPLE, 19_600)],
+        APPLE,
+        Some(19_600),
+    ),
+    (
+        &[(APPLE, 19_500), (CISCO, 4_600), (APPLE, 19_600)],
+        CISCO,
+        Some(4_600),
+    ),
+];
+
+fn cents_of(price: Option<Price>) -> Option<u64> {
+    match price {
+        Some(price) => Some(price.value()),
+        None => None,
+    }
 }
 
 #[test]
-fn an_issue_is_retired_alone_and_keeps_its_price(rt: HostRuntime) -> Result<(), Fail> {
-    let (apple, cisco) = (Cusip::parse(APPLE)?, Cusip::parse(CISCO)?);
-    let mut prices = Prices::new(rt.alloc());
-    give(&mut prices, apple, 19_500)?;
-    give(&mut prices, cisco, 4_600)?;
+fn a_price_holds_until_it_is_set_again(rt: HostRuntime) {
+    for (rows, issue, expected) in &GIVEN {
+        let prices = listed(&rt, rows);
+        let found = cents_of(prices.price(cusip(&rt, issue)));
+        assert!(rt; found == *expected);
+    }
+}
+
+const LISTED: [(&[u8], u64); 3] = [(MICROSOFT, 40_000), (APPLE, 19_500), (CISCO, 4_600)];
+
+#[test]
+fn an_issue_is_retired_alone_and_keeps_its_price(rt: HostRuntime) {
+    let (apple, cisco) = (cusip(&rt, APPLE), cusip(&rt, CISCO));
+    let mut prices = listed(&rt, &LISTED);
     assert!(rt; !prices.is_retired(cisco));
     retire(&mut prices, cisco);
     assert!(rt; prices.is_retired(cisco));
     assert!(rt; !prices.is_retired(apple));
-    assert_eq!(rt; prices.price(cisco), Some(Price::new(4_600)?));
-    Ok(())
+    assert!(rt; prices.price(cisco) == Some(price(&rt, 4_600)));
 }
 
-// An issue, or none, and the next that is listed.
-const NEXT_LISTED: [(Option<&[u8]>, Option<&[u8]>); 4] = [
-    (None, Some(APPLE)),
-    (Some(APPLE), Some(CISCO)),
-    (Some(CISCO), Some(MICROSOFT)),
-    (Some(MICROSOFT), None),
-];
+const IN_ORDER: [&[u8]; 3] = [APPLE, CISCO, MICROSOFT];
 
-fn issue_of(text: Option<&[u8]>) -> Result<Option<Cusip>, Fail> {
-    match text {
-        Some(text) => Ok(Some(Cusip::parse(text)?)),
-        None => Ok(None),
+#[test]
+fn issues_come_in_the_order_of_their_bytes(rt: HostRuntime) {
+    let prices = listed(&rt, &LISTED);
+    let mut after = None;
+    for issue in &IN_ORDER {
+        let issue = cusip(&rt, issue);
+        let Some((found, _)) = prices.next_listed(after) else {
+            panic!(rt; "no more issues");
+        };
+        assert!(rt; found == issue);
+        after = Some(issue);
     }
+    assert!(rt; prices.next_listed(after) == None);
 }
 
 #[test]
-fn issues_come_in_the_order_of_their_bytes(rt: HostRuntime) -> Result<(), Fail> {
-    let mut prices = Prices::new(rt.alloc());
-    give(&mut prices, Cusip::parse(MICROSOFT)?, 40_000)?;
-    give(&mut prices, Cusip::parse(APPLE)?, 19_500)?;
-    give(&mut prices, Cusip::parse(CISCO)?, 4_600)?;
-    for (after, next) in &NEXT_LISTED {
-        let found = prices.next_listed(issue_of(*after)?);
-        assert_eq!(rt; found.map(|entry| entry.0), issue_of(*next)?);
-    }
-    Ok(())
-}
-
-// The issue whose CUSIP is a number of three digits behind `037833`, with the check digit that is taken.
-fn numbered(number: u8) -> Result<Cusip, Fail> {
-    let mut text = *b"037833000";
-    text[6] = b'0' + number / 10 % 10;
-    text[7] = b'0' + number % 10;
-    text[5] = b'0' + number / 100;
-    for digit in b'0'..=b'9' {
-        text[8] = digit;
-        if let Ok(issue) = Cusip::parse(&text) {
-            return Ok(issue);
-        }
-    }
-    Err(Fail::new("no check digit"))
-}
-
-#[test]
-fn many_issues_are_listed(rt: HostRuntime) -> Result<(), Fail> {
+fn many_issues_are_listed(rt: HostRuntime) {
     let mut prices = Prices::new(rt.alloc());
     for number in 0..=255 {
-        give(&mut prices, numbered(number)?, u64::from(number))?;
+        give(
+            &rt,
+            &mut prices,
+            numbered(&rt, number),
+            price(&rt, u64::from(number)),
+        );
     }
     let mut after = None;
     for number in 0..=255 {
+        let issue = numbered(&rt, number);
         let next = prices.next_listed(after);
-        let expected = (numbered(number)?, Price::new(u64::from(number))?);
-        assert_eq!(rt; next, Some(expected));
-        after = Some(expected.0);
+        assert!(rt; next == Some((issue, price(&rt, u64::from(number)))));
+        after = Some(issue);
     }
-    assert_eq!(rt; prices.next_listed(after), None);
-    Ok(())
+    assert!(rt; prices.next_listed(after) == None);
 }

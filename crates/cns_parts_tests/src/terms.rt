@@ -1,10 +1,12 @@
 // Tests of the terms: sizes, numbers, and that a value is the same as itself alone.
+use crate::values::{APPLE, CISCO, account, cusip, day, key, member, money, price, ratio, shares};
 use cns_terms::{
     Activity, Closed, Command, Declared, Entry, Exchange, Execution, Held, Holding, Key, Listing,
     Movement, Refusal, Reply, Row, Split, Stated, Taken, Trade, Worker,
 };
-use cns_units::{Account, Cents, Cusip, Day, Member, Money, Price, Rate, Ratio, Shares, UnitFault};
+use cns_units::{Cents, Price, Rate};
 use std::mem::size_of;
+use std::process::Abort;
 use std::test::Fail;
 
 #[test]
@@ -16,7 +18,7 @@ fn what_is_kept_by_the_million_stays_small(rt: HostRuntime) {
         size_of::<Taken>(),
         size_of::<Row>(),
     ];
-    assert_eq!(rt; sizes, [48, 56, 64, 128, 96]);
+    assert!(rt; sizes == [48, 56, 64, 128, 96]);
 }
 
 const NUMBERED_REFUSALS: [(Refusal, u8); 5] = [
@@ -30,86 +32,80 @@ const NUMBERED_REFUSALS: [(Refusal, u8); 5] = [
 #[test]
 fn refusals_have_the_numbers_by_which_they_are_written(rt: HostRuntime) {
     for (refusal, number) in &NUMBERED_REFUSALS {
-        assert_eq!(rt; refusal.number(), *number);
+        assert!(rt; refusal.number() == *number);
     }
 }
 
 #[test]
 fn workers_are_numbered_from_1_to_64(rt: HostRuntime) -> Result<(), Fail> {
-    assert_eq!(rt; Worker::new(1)?, Worker::FIRST);
-    assert_eq!(rt; Worker::new(64)?.value(), 64);
+    assert!(rt; Worker::new(1)? == Worker::FIRST);
+    assert!(rt; Worker::new(64)?.value() == 64);
     assert!(rt; Worker::new(0).is_err() && Worker::new(65).is_err());
     Ok(())
 }
 
-fn apple(account: u16) -> Result<Key, UnitFault> {
-    Ok(Key {
-        account: Account::new(account)?,
-        issue: Cusip::parse(b"037833100")?,
-    })
+const DATE: &[u8] = b"2024-06-03";
+
+fn movement(rt: &impl Abort, count: u64) -> Movement {
+    Movement {
+        member: member(rt, 101),
+        issue: cusip(rt, APPLE),
+        shares: shares(rt, count),
+    }
 }
 
-fn movement(shares: u64) -> Result<Movement, UnitFault> {
-    Ok(Movement {
-        member: Member::new(101)?,
-        issue: apple(101)?.issue,
-        shares: Shares::new(shares)?,
-    })
-}
-
-fn trade(seller: u16) -> Result<Trade, UnitFault> {
-    let bought = movement(100)?;
-    Ok(Trade {
+fn trade(rt: &impl Abort, seller: u16) -> Trade {
+    Trade {
         reference: 1,
-        money: Money::new(1_950_000)?,
-        shares: bought.shares,
-        buyer: bought.member,
-        seller: Member::new(seller)?,
-        date: Day::parse(b"2024-06-03")?,
-        issue: bought.issue,
-    })
+        money: money(rt, 1_950_000),
+        shares: shares(rt, 100),
+        buyer: member(rt, 101),
+        seller: member(rt, seller),
+        date: day(rt, DATE),
+        issue: cusip(rt, APPLE),
+    }
 }
 
-fn listing(price: u64) -> Result<Listing, UnitFault> {
-    Ok(Listing {
-        issue: apple(101)?.issue,
-        price: Price::new(price)?,
-    })
+fn listing(rt: &impl Abort, cents: u64) -> Listing {
+    Listing {
+        issue: cusip(rt, APPLE),
+        price: price(rt, cents),
+    }
 }
 
-fn dividend(rate: u64) -> Result<Declared, UnitFault> {
-    Ok(Declared {
-        issue: apple(101)?.issue,
-        recorded: Day::parse(b"2024-06-03")?,
-        payable: Day::parse(b"2024-06-04")?,
-        rate: Rate::new(rate)?,
-    })
+fn dividend(rt: &impl Abort, rate: u64) -> Declared {
+    Declared {
+        issue: cusip(rt, APPLE),
+        recorded: day(rt, DATE),
+        payable: day(rt, b"2024-06-04"),
+        rate: Rate::new(rate).expect(rt, "a rate"),
+    }
 }
 
-fn split(new: u16) -> Result<Split, UnitFault> {
-    Ok(Split {
-        issue: apple(101)?.issue,
-        ratio: Ratio::new(new, 1)?,
+fn split(rt: &impl Abort, new: u16) -> Split {
+    Split {
+        issue: cusip(rt, APPLE),
+        ratio: ratio(rt, new, 1),
         lieu: Price::ZERO,
-    })
+    }
 }
 
-fn exchange(cash: u64) -> Result<Exchange, UnitFault> {
-    Ok(Exchange {
-        old: apple(101)?.issue,
-        successor: Cusip::parse(b"17275R102")?,
-        ratio: Ratio::new(2, 3)?,
+fn exchange(rt: &impl Abort, cash: u64) -> Exchange {
+    Exchange {
+        old: cusip(rt, APPLE),
+        successor: cusip(rt, CISCO),
+        ratio: ratio(rt, 2, 3),
         lieu: Price::ZERO,
-        cash: Price::new(cash)?,
-    })
+        cash: price(rt, cash),
+    }
 }
 
-fn execution(notice: u32) -> Result<Execution, UnitFault> {
-    Ok(Execution {
+fn execution(rt: &impl Abort, notice: u32) -> Execution {
+    Execution {
         notice,
-        shares: Shares::new(100)?,
-        money: Money::new(1_950_000)?,
-    })
+        shares: shares(rt, 100),
+        money: money(rt, 1_950_000),
+    }
 }
 
 // A command by what tells it from the others of its kind.
@@ -158,48 +154,40 @@ const COMMANDS: [Given; 24] = [
     Given::Statement,
 ];
 
-fn command(given: &Given) -> Result<Command, UnitFault> {
+fn command(rt: &impl Abort, given: &Given) -> Command {
     let activity = match given {
-        Given::Member => Activity::Member(movement(100)?.member),
-        Given::Issue => Activity::Issue(listing(19_500)?),
-        Given::Price(price) => Activity::Price(listing(*price)?),
-        Given::Trade(seller) => Activity::Trade(trade(*seller)?),
-        Given::Deliver => Activity::Deliver(movement(100)?),
-        Given::Receive(shares) => Activity::Receive(movement(*shares)?),
-        Given::Dividend(rate) => Activity::Dividend(dividend(*rate)?),
-        Given::Split(new) => Activity::Split(split(*new)?),
-        Given::Exchange(cash) => Activity::Exchange(exchange(*cash)?),
-        Given::Notice => Activity::Notice(movement(100)?),
+        Given::Member => Activity::Member(member(rt, 101)),
+        Given::Issue => Activity::Issue(listing(rt, 19_500)),
+        Given::Price(cents) => Activity::Price(listing(rt, *cents)),
+        Given::Trade(seller) => Activity::Trade(trade(rt, *seller)),
+        Given::Deliver => Activity::Deliver(movement(rt, 100)),
+        Given::Receive(count) => Activity::Receive(movement(rt, *count)),
+        Given::Dividend(rate) => Activity::Dividend(dividend(rt, *rate)),
+        Given::Split(new) => Activity::Split(split(rt, *new)),
+        Given::Exchange(cash) => Activity::Exchange(exchange(rt, *cash)),
+        Given::Notice => Activity::Notice(movement(rt, 100)),
         Given::Withdraw(notice) => Activity::Withdraw(*notice),
-        Given::Execute(notice) => Activity::Execute(execution(*notice)?),
-        Given::Close => Activity::Close(Day::parse(b"2024-06-03")?),
-        Given::Position(account) => return Ok(Command::Position(apple(*account)?)),
-        Given::Statement => return statement(),
+        Given::Execute(notice) => Activity::Execute(execution(rt, *notice)),
+        Given::Close => Activity::Close(day(rt, DATE)),
+        Given::Position(number) => return Command::Position(key(rt, *number, APPLE)),
+        Given::Statement => {
+            return Command::Statement {
+                account: account(rt, 101),
+                date: day(rt, DATE),
+            };
+        }
     };
-    Ok(Command::Activity(activity))
-}
-
-fn statement() -> Result<Command, UnitFault> {
-    Ok(Command::Statement {
-        account: Account::new(101)?,
-        date: Day::parse(b"2024-06-03")?,
-    })
-}
-
-fn are_same_commands(one: &Given, other: &Given) -> Result<bool, UnitFault> {
-    let both = [command(one)?, command(other)?];
-    Ok(both[0].is_same(&both[1]))
+    Command::Activity(activity)
 }
 
 #[test]
-fn a_command_is_the_same_as_itself_alone(rt: HostRuntime) -> Result<(), Fail> {
+fn a_command_is_the_same_as_itself_alone(rt: HostRuntime) {
     for (left, one) in COMMANDS.iter().enumerate() {
         for (right, other) in COMMANDS.iter().enumerate() {
-            let same = are_same_commands(one, other)?;
-            assert_eq!(rt; same, left == right, "{left} and {right}");
+            let same = command(&rt, one).is_same(&command(&rt, other));
+            assert!(rt; same == (left == right));
         }
     }
-    Ok(())
 }
 
 fn holding(opening: i64) -> Holding {
@@ -211,23 +199,27 @@ fn holding(opening: i64) -> Holding {
     }
 }
 
-fn closed(rows: u64) -> Result<Closed, UnitFault> {
-    Ok(Closed {
+fn closed(rt: &impl Abort, rows: u64) -> Closed {
+    Closed {
         day: 1,
-        date: Day::parse(b"2024-06-03")?,
+        date: day(rt, DATE),
         rows,
         liable: 0,
-    })
+    }
 }
 
-fn stated(mark: i128) -> Result<Stated, UnitFault> {
-    Ok(Stated {
-        account: Account::new(101)?,
-        date: Day::parse(b"2024-06-03")?,
+fn held(rt: &impl Abort, number: u16, opening: i64) -> Held {
+    Held::of(key(rt, number, APPLE), holding(opening))
+}
+
+fn stated(rt: &impl Abort, mark: i128) -> Stated {
+    Stated {
+        account: account(rt, 101),
+        date: day(rt, DATE),
         rows: 1,
         mark: Cents::of(mark),
         dividend: Cents::ZERO,
-    })
+    }
 }
 
 // A reply by what tells it from the others of its kind.
@@ -259,30 +251,26 @@ const REPLIES: [Answer; 15] = [
     Answer::Refused(Refusal::NotLive),
 ];
 
-fn reply(answer: &Answer) -> Result<Reply, UnitFault> {
-    Ok(match answer {
+fn reply(rt: &impl Abort, answer: &Answer) -> Reply {
+    match answer {
         Answer::Accepted => Reply::Accepted,
         Answer::Noticed(number) => Reply::Noticed(*number),
         Answer::Executed(count) => Reply::Executed(*count),
-        Answer::Closed(rows) => Reply::Closed(closed(*rows)?),
-        Answer::Held(account, opening) => Reply::Held(Held::of(
-            apple(*account)?,
-            holding(*opening),
-        )),
-        Answer::Stated(mark) => Reply::Stated(stated(*mark)?),
+        Answer::Closed(rows) => Reply::Closed(closed(rt, *rows)),
+        Answer::Held(number, opening) => Reply::Held(held(rt, *number, *opening)),
+        Answer::Stated(mark) => Reply::Stated(stated(rt, *mark)),
         Answer::Refused(refusal) => Reply::Refused(*refusal),
-    })
+    }
 }
 
 #[test]
-fn a_reply_is_the_same_as_itself_alone(rt: HostRuntime) -> Result<(), Fail> {
+fn a_reply_is_the_same_as_itself_alone(rt: HostRuntime) {
     for (left, one) in REPLIES.iter().enumerate() {
         for (right, other) in REPLIES.iter().enumerate() {
-            let same = reply(one)?.is_same(&reply(other)?);
-            assert_eq!(rt; same, left == right, "{left} and {right}");
+            let same = reply(&rt, one).is_same(&reply(&rt, other));
+            assert!(rt; same == (left == right));
         }
     }
-    Ok(())
 }
 
 // The number of a command, and the account and the opening position that its reply names.
@@ -290,65 +278,58 @@ type Asked = (u32, u16, i64);
 
 const TAKEN: [Asked; 4] = [(1, 101, 0), (2, 101, 0), (1, 202, 0), (1, 101, 100)];
 
-fn taken(asked: &Asked) -> Result<Taken, UnitFault> {
-    let (seq, account, opening) = *asked;
-    let key = &apple(account)?;
-    Ok(Taken {
+fn taken(rt: &impl Abort, asked: &Asked) -> Taken {
+    let (seq, number, opening) = *asked;
+    Taken {
         worker: Worker::FIRST,
         seq,
-        command: Command::Position(*key),
-        reply: Reply::Held(Held::of(*key, holding(opening))),
-    })
-}
-
-fn are_same_taken(one: &Asked, other: &Asked) -> Result<bool, UnitFault> {
-    let both = [taken(one)?, taken(other)?];
-    Ok(both[0].is_same(&both[1]))
+        command: Command::Position(key(rt, number, APPLE)),
+        reply: Reply::Held(held(rt, number, opening)),
+    }
 }
 
 #[test]
-fn what_is_taken_is_the_same_as_itself_alone(rt: HostRuntime) -> Result<(), Fail> {
+fn what_is_taken_is_the_same_as_itself_alone(rt: HostRuntime) {
     for (left, one) in TAKEN.iter().enumerate() {
         for (right, other) in TAKEN.iter().enumerate() {
-            let same = are_same_taken(one, other)?;
-            assert_eq!(rt; same, left == right, "{left} and {right}");
+            let same = taken(&rt, one).is_same(&taken(&rt, other));
+            assert!(rt; same == (left == right));
         }
     }
-    Ok(())
 }
 
-fn row(dividend: i128) -> Result<Row, UnitFault> {
-    let key = apple(101)?;
-    Ok(Row {
-        account: key.account,
-        issue: key.issue,
+fn row(rt: &impl Abort, dividend: i128) -> Row {
+    Row {
+        account: account(rt, 101),
+        issue: cusip(rt, APPLE),
         opening: 0,
         closing: 100,
         opening_price: Price::ZERO,
-        price: Price::new(19_600)?,
+        price: price(rt, 19_600),
         money: Cents::of(-1_950_000),
         mark: Cents::of(10_000),
         dividend: Cents::of(dividend),
-    })
+    }
 }
 
-fn entry(cents: i128) -> Result<Entry, UnitFault> {
-    let key = apple(101)?;
-    Ok(Entry {
-        account: key.account,
-        issue: key.issue,
+fn entry(rt: &impl Abort, cents: i128) -> Entry {
+    Entry {
+        account: account(rt, 101),
+        issue: cusip(rt, APPLE),
         shares: 100,
         cents,
-    })
+    }
 }
 
+const SUMS: [i128; 3] = [0, 5, -1_950_000];
+
 #[test]
-fn a_row_and_an_entry_are_the_same_as_themselves_alone(rt: HostRuntime) -> Result<(), Fail> {
-    let row_of_none = row(0)?;
-    assert!(rt; row_of_none.is_same(&row(0)?));
-    assert!(rt; !row_of_none.is_same(&row(5)?));
-    let payment = entry(-1_950_000)?;
-    assert!(rt; payment.is_same(&entry(-1_950_000)?));
-    assert!(rt; !payment.is_same(&entry(0)?));
-    Ok(())
+fn a_row_and_an_entry_are_the_same_as_themselves_alone(rt: HostRuntime) {
+    for one in &SUMS {
+        for other in &SUMS {
+            let rows = row(&rt, *one).is_same(&row(&rt, *other));
+            let entries = entry(&rt, *one).is_same(&entry(&rt, *other));
+            assert!(rt; (rows, entries) == (one == other, one == other));
+        }
+    }
 }

@@ -2,32 +2,22 @@
 ghost use Rattle.std.specs.Prelude.{◌≤◌, ◌^◌, unsigned_abs};
 ghost use Rattle.std.specs.Option.{ForSome};
 
+use crate::values::{APPLE, cusip, day, member, money, shares};
 use cns_terms::{Entry, Movement, Refusal, Trade};
 use cns_trades::{MoveFacts, TradeFacts, Trades};
-use cns_units::{Cusip, Day, Member, Money, Shares};
 use std::alloc::Global;
-use std::test::Fail;
+use std::process::Abort;
 
-fn trade() -> Result<Trade, Fail> {
-    Ok(Trade {
+fn trade(rt: &impl Abort, seller: u16) -> Trade {
+    Trade {
         reference: 7,
-        money: Money::new(975)?,
-        shares: Shares::new(5)?,
-        buyer: Member::new(101)?,
-        seller: Member::new(202)?,
-        date: Day::parse(b"2024-06-03".as_slice())?,
-        issue: Cusip::parse(b"037833100".as_slice())?,
-    })
-}
-
-fn facts() -> Result<TradeFacts, Fail> {
-    Ok(TradeFacts {
-        buyer: Some(0),
-        seller: Some(0),
-        listed: true,
-        retired: false,
-        today: Day::parse(b"2024-06-03".as_slice())?,
-    })
+        money: money(rt, 975),
+        shares: shares(rt, 5),
+        buyer: member(rt, 101),
+        seller: member(rt, seller),
+        date: day(rt, b"2024-06-03"),
+        issue: cusip(rt, APPLE),
+    }
 }
 
 // A position, where it is within a member's limits, as the check asks.
@@ -53,131 +43,121 @@ fn answer(
     trades.check_trade(&facts, trade)
 }
 
-// What differs from a trade that is taken, and the number that it is refused by.
+// What differs from a trade that is taken, and what it is answered.
 struct Case {
-    buyer: Option<i64>,
-    seller: Option<i64>,
+    seller: u16,
+    positions: (Option<i64>, Option<i64>),
     listed: bool,
     retired: bool,
     late: bool,
-    refusal: Refusal,
+    refusal: Option<Refusal>,
 }
 
 const FINE: Case = Case {
-    buyer: Some(0),
-    seller: Some(0),
+    seller: 202,
+    positions: (Some(0), Some(0)),
     listed: true,
     retired: false,
     late: false,
-    refusal: Refusal::NoSuchMember,
+    refusal: None,
 };
 
-const CASES: [Case; 7] = [
+const CASES: [Case; 9] = [
+    FINE,
     Case {
-        buyer: None,
+        positions: (None, Some(0)),
         listed: false,
+        refusal: Some(Refusal::NoSuchMember),
         ..FINE
     },
     Case {
-        seller: None,
+        positions: (Some(0), None),
+        refusal: Some(Refusal::NoSuchMember),
         ..FINE
     },
     Case {
         listed: false,
         retired: true,
-        refusal: Refusal::NoSuchIssue,
+        refusal: Some(Refusal::NoSuchIssue),
         ..FINE
     },
     Case {
         retired: true,
         late: true,
-        refusal: Refusal::Retired,
+        refusal: Some(Refusal::Retired),
         ..FINE
     },
     Case {
         late: true,
-        buyer: Some(10_000_000_000),
-        refusal: Refusal::WrongDay,
+        positions: (Some(10_000_000_000), Some(0)),
+        refusal: Some(Refusal::WrongDay),
         ..FINE
     },
     Case {
-        buyer: Some(10_000_000_000),
-        refusal: Refusal::TooLarge,
+        positions: (Some(10_000_000_000), Some(0)),
+        refusal: Some(Refusal::TooLarge),
         ..FINE
     },
     Case {
-        seller: Some(-10_000_000_000),
-        refusal: Refusal::TooLarge,
+        positions: (Some(0), Some(-10_000_000_000)),
+        refusal: Some(Refusal::TooLarge),
+        ..FINE
+    },
+    Case {
+        seller: 101,
+        refusal: Some(Refusal::SameParty),
         ..FINE
     },
 ];
 
-fn facts_of(case: &Case) -> Result<TradeFacts, Fail> {
-    let date = if case.late {
+fn facts(rt: &impl Abort, case: &Case) -> TradeFacts {
+    let today: &[u8] = if case.late {
         b"2024-06-05"
     } else {
         b"2024-06-03"
     };
-    Ok(TradeFacts {
-        buyer: case.buyer,
-        seller: case.seller,
+    TradeFacts {
+        buyer: case.positions.0,
+        seller: case.positions.1,
         listed: case.listed,
         retired: case.retired,
-        today: Day::parse(date.as_slice())?,
-    })
-}
-
-#[test]
-fn a_trade_is_refused_by_the_least_number(rt: HostRuntime) -> Result<(), Fail> {
-    let trades = Trades::new(rt.alloc());
-    let trade = trade()?;
-    for case in &CASES {
-        assert_eq!(rt;
-            answer(&trades, &facts_of(case)?, &trade),
-            Err(case.refusal)
-        );
+        today: day(rt, today),
     }
-    let same = Trade {
-        seller: trade.buyer,
-        ..trade
-    };
-    assert_eq!(rt; answer(&trades, &facts()?, &same), Err(Refusal::SameParty));
-    Ok(())
 }
 
 #[test]
-fn a_reference_is_used_once_and_only_when_it_is_noted(rt: HostRuntime) -> Result<(), Fail> {
+fn a_trade_is_refused_by_the_least_number(rt: HostRuntime) {
+    let trades = Trades::new(rt.alloc());
+    for case in &CASES {
+        let answered = answer(&trades, &facts(&rt, case), &trade(&rt, case.seller));
+        assert!(rt; answered.err() == case.refusal);
+    }
+}
+
+#[test]
+fn a_reference_is_used_once_and_only_when_it_is_noted(rt: HostRuntime) {
     let mut trades = Trades::new(rt.alloc());
-    let facts = facts()?;
-    let trade = trade()?;
+    let (facts, trade) = (facts(&rt, &FINE), trade(&rt, 202));
     assert!(rt; answer(&trades, &facts, &trade).is_ok());
     assert!(rt; !trades.seen(7));
-    trades.note_reference(7)?;
+    trades.note_reference(7).expect(&rt, "memory");
     assert!(rt; trades.seen(7));
-    assert_eq!(rt;
-        answer(&trades, &facts, &trade),
-        Err(Refusal::SeenReference)
-    );
-    Ok(())
+    assert!(rt; answer(&trades, &facts, &trade).err() == Some(Refusal::SeenReference));
+}
+
+// The account, the shares and the cents of an entry.
+fn parts(entry: &Entry) -> (u16, i64, i128) {
+    (entry.account.value(), entry.shares, entry.cents)
 }
 
 #[test]
-fn a_trade_books_opposite_entries(rt: HostRuntime) -> Result<(), Fail> {
+fn a_trade_books_opposite_entries(rt: HostRuntime) {
     let trades = Trades::new(rt.alloc());
-    let answered = answer(&trades, &facts()?, &trade()?);
-    assert!(rt; answered.is_ok());
-    if let Ok(entries) = answered {
-        let (buyer, seller) = (&entries[0], &entries[1]);
-        assert_eq!(rt;
-            (buyer.account.value(), buyer.shares, buyer.cents),
-            (101, 5, -975)
-        );
-        assert_eq!(rt;
-            (seller.account.value(), seller.shares, seller.cents),
-            (202, -5, 975)
-        );
-    }
-    Ok(())
+    let Ok(entries) = answer(&trades, &facts(&rt, &FINE), &trade(&rt, 202)) else {
+        panic!(rt; "the trade is refused");
+    };
+    assert!(rt; parts(&entries[0]) == (101, 5, -975));
+    assert!(rt; parts(&entries[1]) == (202, -5, 975));
 }
 
 // A member's position and the shares on hand, and what a movement is answered.
@@ -211,26 +191,21 @@ fn moved_from(case: &Moved) -> MoveFacts {
 }
 
 #[test]
-fn movements_are_refused_by_the_least_number(rt: HostRuntime) -> Result<(), Fail> {
+fn movements_are_refused_by_the_least_number(rt: HostRuntime) {
     let trades = Trades::new(rt.alloc());
-    let movement = Movement {
-        member: Member::new(101)?,
-        issue: Cusip::parse(b"037833100".as_slice())?,
-        shares: Shares::new(100)?,
+    let movement = &Movement {
+        member: member(&rt, 101),
+        issue: cusip(&rt, APPLE),
+        shares: shares(&rt, 100),
     };
     for case in &DELIVERIES {
-        assert_eq!(rt;
-            trades.check_delivery(&moved_from(case), &movement).err(),
-            case.2
-        );
+        let answered = trades.check_delivery(&moved_from(case), movement);
+        assert!(rt; answered.err() == case.2);
     }
     for case in &RECEIPTS {
-        assert_eq!(rt;
-            trades.check_receipt(&moved_from(case), &movement).err(),
-            case.2
-        );
+        let answered = trades.check_receipt(&moved_from(case), movement);
+        assert!(rt; answered.err() == case.2);
     }
-    Ok(())
 }
 
 // Up within a page and into the next, far away and back, the least number and the greatest.
@@ -265,11 +240,11 @@ const UNNOTED: [u64; 9] = [
 ];
 
 #[test]
-fn references_are_seen_once_they_are_noted(rt: HostRuntime) -> Result<(), Fail> {
+fn references_are_seen_once_they_are_noted(rt: HostRuntime) {
     let mut trades = Trades::new(rt.alloc());
     for reference in &NOTED {
-        assert!(rt; !trades.seen(*reference), "{reference}");
-        trades.note_reference(*reference)?;
+        assert!(rt; !trades.seen(*reference));
+        trades.note_reference(*reference).expect(&rt, "memory");
     }
     for reference in &NOTED {
         assert!(rt; trades.seen(*reference), "{reference}");
@@ -277,19 +252,19 @@ fn references_are_seen_once_they_are_noted(rt: HostRuntime) -> Result<(), Fail> 
     for reference in &UNNOTED {
         assert!(rt; !trades.seen(*reference), "{reference}");
     }
-    Ok(())
 }
 
 // References that stand far apart, each on a page of its own.
 #[test]
-fn references_of_many_pages_are_noted(rt: HostRuntime) -> Result<(), Fail> {
+fn references_of_many_pages_are_noted(rt: HostRuntime) {
     let mut trades = Trades::new(rt.alloc());
     for page in 0..1_000u64 {
-        trades.note_reference(page * 1_000_003)?;
+        trades
+            .note_reference(page * 1_000_003)
+            .expect(&rt, "memory");
     }
     for page in 0..1_000u64 {
         assert!(rt; trades.seen(page * 1_000_003));
         assert!(rt; !trades.seen(page * 1_000_003 + 1));
     }
-    Ok(())
 }

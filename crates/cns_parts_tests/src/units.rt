@@ -1,10 +1,9 @@
 // Tests of the units: what is read and written, and the ranges of values.
+use crate::values::{cusip, day, ratio};
 use cns_units::{
     Account, Cents, Cusip, Day, Member, Money, Price, Rate, Ratio, Shares, UnitFault, write_cents,
     write_day,
 };
-use std::alloc::Global;
-use std::test::Fail;
 
 const READ_CUSIPS: [(&str, Option<UnitFault>); 8] = [
     ("037833100", None),
@@ -20,23 +19,22 @@ const READ_CUSIPS: [(&str, Option<UnitFault>); 8] = [
 #[test]
 fn a_cusip_is_read_by_its_characters_and_its_check_digit(rt: HostRuntime) {
     for (text, fault) in &READ_CUSIPS {
-        assert_eq!(rt; Cusip::parse(text.as_bytes()).err(), *fault, "{text}");
+        assert!(rt; Cusip::parse(text.as_bytes()).err() == *fault, "{text}");
     }
 }
 
 const DISTINCT_CUSIPS: [&str; 4] = ["037833100", "17275R102", "38259P508", "38259P706"];
 
 #[test]
-fn a_cusip_is_the_same_as_itself_alone(rt: HostRuntime) -> Result<(), Fail> {
+fn a_cusip_is_the_same_as_itself_alone(rt: HostRuntime) {
     for left in &DISTINCT_CUSIPS {
         for right in &DISTINCT_CUSIPS {
-            let a = Cusip::parse(left.as_bytes())?;
-            let b = Cusip::parse(right.as_bytes())?;
+            let one = cusip(&rt, left.as_bytes());
+            let other = cusip(&rt, right.as_bytes());
             let same = left == right;
-            assert_eq!(rt; (a.is_same(&b), a == b), (same, same));
+            assert!(rt; (one.is_same(&other), one == other) == (same, same));
         }
     }
-    Ok(())
 }
 
 const READ_DAYS: [(&str, Option<i32>); 11] = [
@@ -63,7 +61,7 @@ fn number_of_day(text: &str) -> Option<i32> {
 #[test]
 fn a_day_is_read_only_as_year_month_and_day(rt: HostRuntime) {
     for (text, number) in &READ_DAYS {
-        assert_eq!(rt; number_of_day(text), *number, "{text}");
+        assert!(rt; number_of_day(text) == *number, "{text}");
     }
 }
 
@@ -76,19 +74,17 @@ const RISING_DAYS: [&str; 5] = [
 ];
 
 #[test]
-fn later_days_are_greater(rt: HostRuntime) -> Result<(), Fail> {
+fn later_days_are_greater(rt: HostRuntime) {
     for (earlier, left) in RISING_DAYS.iter().enumerate() {
         for (later, right) in RISING_DAYS.iter().enumerate() {
-            let a = Day::parse(left.as_bytes())?;
-            let b = Day::parse(right.as_bytes())?;
+            let one = day(&rt, left.as_bytes());
+            let other = day(&rt, right.as_bytes());
             let same = earlier == later;
-            assert_eq!(rt;
-                (a < b, a == b, a.is_same(&b)),
-                (earlier < later, same, same)
+            assert!(rt;
+                (one < other, one == other, one.is_same(&other)) == (earlier < later, same, same)
             );
         }
     }
-    Ok(())
 }
 
 const WRITTEN_CENTS: [(i128, &str); 7] = [
@@ -101,36 +97,25 @@ const WRITTEN_CENTS: [(i128, &str); 7] = [
     (i128::MIN, "-1701411834604692317316873037158841057.28"),
 ];
 
-fn written_cents(cents: i128, alloc: Global) -> Result<Vec<u8>, Fail> {
-    let mut written = Vec::new(alloc);
-    write_cents(Cents::new(cents)?, &mut written)?;
-    Ok(written)
-}
-
 #[test]
-fn cents_are_written_as_dollars_and_two_digits(rt: HostRuntime) -> Result<(), Fail> {
+fn cents_are_written_as_dollars_and_two_digits(rt: HostRuntime) {
     for (cents, text) in &WRITTEN_CENTS {
-        let written = written_cents(*cents, rt.alloc())?;
-        assert_eq!(rt; written.as_slice(), text.as_bytes());
+        let mut written = Vec::new(rt.alloc());
+        let cents = Cents::new(*cents).expect(&rt, "cents");
+        write_cents(cents, &mut written).expect(&rt, "cents are written");
+        assert!(rt; written.as_slice() == text.as_bytes());
     }
-    Ok(())
 }
 
 const WRITTEN_DAYS: [&str; 4] = ["0001-01-01", "0999-10-09", "2024-06-03", "9999-12-31"];
 
-fn rewritten_day(text: &str, alloc: Global) -> Result<Vec<u8>, Fail> {
-    let mut written = Vec::new(alloc);
-    write_day(Day::parse(text.as_bytes())?, &mut written)?;
-    Ok(written)
-}
-
 #[test]
-fn a_day_is_written_as_it_is_read(rt: HostRuntime) -> Result<(), Fail> {
+fn a_day_is_written_as_it_is_read(rt: HostRuntime) {
     for text in &WRITTEN_DAYS {
-        let written = rewritten_day(text, rt.alloc())?;
-        assert_eq!(rt; written.as_slice(), text.as_bytes());
+        let mut written = Vec::new(rt.alloc());
+        write_day(day(&rt, text.as_bytes()), &mut written).expect(&rt, "a day is written");
+        assert!(rt; written.as_slice() == text.as_bytes());
     }
-    Ok(())
 }
 
 // A number that is to be a value of a unit.
@@ -175,9 +160,9 @@ const RANGES: [(Given, Result<u64, UnitFault>); 13] = [
 #[test]
 fn values_outside_their_ranges_are_refused(rt: HostRuntime) {
     for (given, expected) in &RANGES {
-        assert_eq!(rt; value_of(given), *expected);
+        assert!(rt; value_of(given) == *expected);
     }
-    assert_eq!(rt; Account::new(0), Ok(Account::CORPORATION));
+    assert!(rt; Account::new(0) == Ok(Account::CORPORATION));
 }
 
 const RATIOS: [(u16, u16, bool); 7] = [
@@ -201,14 +186,13 @@ fn is_kept(new: u16, old: u16) -> bool {
 #[test]
 fn a_ratio_is_of_one_to_ten_thousand_shares_on_each_side(rt: HostRuntime) {
     for (new, old, is_ratio) in &RATIOS {
-        assert_eq!(rt; is_kept(*new, *old), *is_ratio, "{new} for {old}");
+        assert!(rt; is_kept(*new, *old) == *is_ratio, "{new} for {old}");
     }
 }
 
 #[test]
-fn a_ratio_is_not_reduced(rt: HostRuntime) -> Result<(), Fail> {
-    let half = Ratio::new(1, 2)?;
-    assert!(rt; half.is_same(&Ratio::new(1, 2)?));
-    assert!(rt; !half.is_same(&Ratio::new(2, 4)?));
-    Ok(())
+fn a_ratio_is_not_reduced(rt: HostRuntime) {
+    let half = ratio(&rt, 1, 2);
+    assert!(rt; half.is_same(&ratio(&rt, 1, 2)));
+    assert!(rt; !half.is_same(&ratio(&rt, 2, 4)));
 }

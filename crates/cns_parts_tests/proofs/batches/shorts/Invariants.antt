@@ -3,8 +3,8 @@ use Rattle.cns_units.specs.declared.account.Member.{Member}
 use Rattle.cns_retransmit.specs.Chosen.{shorts_of}
 use Rattle.cns_parts_tests.proofs.batches.shorts.Given as goal
 
-abbrev pub invariant-loop-member : goal.invariant-loop-member
-invariant-loop-member l = record {
+abbrev pub invariant-loop-row : goal.invariant-loop-row
+invariant-loop-row g l = record {
   once : (a : Member) → shorts_of a l.shorts.items ≤ 1;
   fits : sum_by (λ s. s.shares) l.shorts.items + l.room ≡ 2 ^ 62;
 }

@@ -39,6 +39,6 @@ by_issue true (Some y) p q s t apart small_s small_t first second nobody before 
 pub returns-clause-chosen : goal.returns-clause-chosen
 returns-clause-chosen g c = λ i x found.
     let nobody : bytes_eq c.args.issue i ≡ true → shorts_in c.args.calls.now i ≡ [] = λ same. subst (λ k. shorts_in c.args.calls.now k ≡ []) ((bytes_eq-Decides c.args.issue i).0 same) c.requires.nobody in
-    by_issue (bytes_eq c.args.issue i) (called_in c.args.calls.now i) (called_in c.short-3.new.self i) (called_in c.short-4.new.self i) c.in_ok-first.first c.in_ok-second.second
-    (sym c.eq.ensures ∙ c.if-eq.false) c.in_ok-first.ensures c.in_ok-second.ensures
+    by_issue (bytes_eq c.args.issue i) (called_in c.args.calls.now i) (called_in c.short.new.self i) (called_in c.short-2.new.self i) c.short-first.result c.short-second.result
+    (sym c.eq.ensures ∙ c.if-eq.false) c.short-first.ensures c.short-second.ensures
     (c.in_ok-short.ensures.ok i) (c.in_ok-short-2.ensures.ok i) nobody (c.requires.chosen i) x found
