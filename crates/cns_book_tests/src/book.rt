@@ -24,7 +24,7 @@ fn opened<A: Allocator + Drop + Clone>(alloc: A) -> Result<TreeBook<A>, Fail> {
 }
 
 // A book that takes so many commands.
-fn limited(alloc: Global, limit: u32) -> Result<TreeBook<Global>, Fail> {
+fn limited<A: Allocator + Drop + Clone>(alloc: A, limit: u32) -> Result<TreeBook<A>, Fail> {
     match Book::with_limit(alloc, day(FIRST)?, limit) {
         Ok(book) => Ok(book),
         Err(_) => Err(Fail::new("no book")),
@@ -71,7 +71,7 @@ fn a_book_at_its_limit_takes_nothing_more(rt: HostRuntime) -> Result<(), Fail> {
         "ok\nrefused 1\n",
     )?;
     assert!(rt; is_full(rt.alloc(), &mut book)?);
-    assert_eq!(rt; book.copy_history()?.len(), 2);
+    assert!(rt; book.copy_history()?.len() == 2);
     Ok(())
 }
 
@@ -91,10 +91,10 @@ fn each_worker_has_its_own_numbers(rt: HostRuntime) -> Result<(), Fail> {
     let joins = command(rt.alloc(), "MEMBER,1\n")?;
     for (worker, index, seq) in &PLACES {
         let receipt = take(&mut book, Worker::new(*worker)?, joins)?;
-        assert_eq!(rt; receipt.index, *index);
-        assert_eq!(rt; receipt.seq, *seq);
+        assert!(rt; receipt.index == *index);
+        assert!(rt; receipt.seq == *seq);
     }
-    assert_eq!(rt; book.count(Worker::new(2)?), 2);
+    assert!(rt; book.count(Worker::new(2)?) == 2);
     Ok(())
 }
 
@@ -116,6 +116,6 @@ fn many_commands_are_taken_where_there_is_memory(rt: HostRuntime) -> Result<(), 
         let receipt = take(&mut book, Worker::FIRST, next)?;
         assert!(rt; receipt.reply == Reply::Accepted, "{reference}");
     }
-    assert_eq!(rt; book.history_len(), 25_003);
+    assert!(rt; book.history_len() == 25_003);
     Ok(())
 }

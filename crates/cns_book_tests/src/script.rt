@@ -93,6 +93,11 @@ pub(crate) fn sheet_of<P: Positions<Global>>(
     }
 }
 
+// The sheet of the first day after the records.
+pub(crate) fn first_sheet(alloc: Global, records: &[u8]) -> Result<Arc<Sheet<Global>>, Fail> {
+    sheet_of(&loaded(alloc, records)?, FIRST)
+}
+
 fn copied(sheet: &Arc<Sheet<Global>>) -> Result<Arc<Sheet<Global>>, Fail> {
     match Arc::try_clone(sheet) {
         Ok(copy) => Ok(copy),

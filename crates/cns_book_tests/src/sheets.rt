@@ -13,20 +13,20 @@ fn a_day_without_positions_has_its_prices_and_no_rows(rt: HostRuntime) -> Result
     let price = Price::new(19_500)?;
     let date = Day::parse(b"2024-06-03".as_slice())?;
     let mut prices = Prices::new(rt.alloc());
-    assert_eq!(rt; prices.price(issue), None);
+    assert!(rt; prices.price(issue) == None);
     if prices.price(issue).is_none() {
         prices.list(issue, price)?;
     }
     let positions = FlatPositions::<Global>::new(rt.alloc());
     let sheet = Sheet::build(rt.alloc(), &positions, &prices, None, &[], date)?;
-    assert_eq!(rt; sheet.date(), date);
-    assert_eq!(rt; sheet.len(), 0);
-    assert_eq!(rt; sheet.price(issue), Some(price));
+    assert!(rt; sheet.date() == date);
+    assert!(rt; sheet.len() == 0);
+    assert!(rt; sheet.price(issue) == Some(price));
     assert_eq!(rt; sheet.next_price(None), Some((issue, price)));
-    assert_eq!(rt; sheet.next_price(Some(issue)), None);
+    assert!(rt; sheet.next_price(Some(issue)) == None);
     let account = Account::CORPORATION;
-    assert_eq!(rt; sheet.row(Key { account, issue }), None);
-    assert_eq!(rt; sheet.rows_of(account).count(), 0);
+    assert!(rt; sheet.row(Key { account, issue }) == None);
+    assert!(rt; sheet.rows_of(account).count() == 0);
     let stated = Stated {
         account,
         date,
@@ -34,7 +34,7 @@ fn a_day_without_positions_has_its_prices_and_no_rows(rt: HostRuntime) -> Result
         mark: Cents::ZERO,
         dividend: Cents::ZERO,
     };
-    assert_eq!(rt; sheet.stated(account), stated);
+    assert!(rt; sheet.stated(account) == stated);
     assert_eq!(rt; sheet.total_marks(), Cents::ZERO);
     assert_eq!(rt; sheet.total_dividends(), Cents::ZERO);
     Ok(())

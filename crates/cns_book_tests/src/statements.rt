@@ -2,7 +2,7 @@
 mod packs;
 
 use crate::script;
-use crate::script::{FIRST, loaded, sheet_of};
+use crate::script::first_sheet;
 use cns_statements::{Rows, Statement, write_stated, write_statement};
 use cns_terms::{Row, Stated};
 use cns_units::{Account, Cents, Cusip, Day, Price, WriteFault};
@@ -83,7 +83,7 @@ fn closed() -> Result<Row, Fail> {
 fn the_first_line_has_its_words(rt: HostRuntime) -> Result<(), Fail> {
     let mut output = Vec::new(rt.alloc());
     write_stated(&stated()?, &mut output)?;
-    assert_eq!(rt; output.as_slice(), STATED.as_bytes());
+    assert!(rt; output.as_slice() == STATED.as_bytes());
     Ok(())
 }
 
@@ -127,8 +127,8 @@ fn rows_are_told_by_their_places(rt: HostRuntime) -> Result<(), Fail> {
 
 #[test]
 fn an_account_without_rows_has_a_statement(rt: HostRuntime) -> Result<(), Fail> {
-    let book = loaded(rt.alloc(), b"CLOSE,2024-06-04\n".as_slice())?;
-    let text = script::stated(rt.alloc(), &*sheet_of(&book, FIRST)?, 7)?;
+    let sheet = first_sheet(rt.alloc(), b"CLOSE,2024-06-04\n".as_slice())?;
+    let text = script::stated(rt.alloc(), &*sheet, 7)?;
     assert_eq!(rt;
         text.as_slice(),
         b"statement 7 2024-06-03 0 0.00 0.00\n".as_slice()

@@ -2,10 +2,12 @@
 ghost use Rattle.std.specs.Prelude.{Err, None, Some, true};
 ghost use Rattle.cns_terms.specs.declared.source.SourceFault.TheVariants as fault;
 
-use super::inputs::{Records, ending, failing};
+use super::inputs::{ending, failing};
 use super::{MEMBERS, hundred};
 use crate::script::{APPLE, FIRST, account, cusip, day, tell};
-use cns_desk::{End, Log, Outcome, RunFault, run_workers};
+use cns_book::Book;
+use cns_desk::{End, LogItem, Outcome, RunFault, run_workers};
+use cns_positions::Positions;
 use cns_terms::{Gate, Item, NoGate, Source, SourceFault, Worker};
 use std::alloc::Global;
 use std::sync::Wait;
@@ -107,19 +109,22 @@ impl Gate for Tally {
     }
 }
 
-// Runs a worker for each of two sources.
-fn run<G: Gate + Sync, R: Threads + Wait + Sync>(
+// Runs a worker for each source.
+fn run<S: Source + Send + Drop, G: Gate + Sync, R: Threads + Wait + Sync>(
     rt: &R,
     alloc: Global,
-    first: Records<'_>,
-    second: Records<'_>,
+    sources: Vec<S>,
     gate: &G,
 ) -> Result<Outcome, Fail> {
-    let sources = vec![in alloc; first, second]?;
     match run_workers(rt, alloc, day(FIRST)?, sources, gate) {
         Ok(outcome) => Ok(outcome),
         Err(_) => Err(Fail::new("no outcome")),
     }
+}
+
+// The length of the history.
+fn entries(outcome: &Outcome) -> usize {
+    outcome.book.history_len()
 }
 
 #[test]
@@ -128,19 +133,16 @@ fn workers_run_at_once(rt: HostRuntime) -> Result<(), Fail> {
     let first = ending(alloc, b"MEMBER,101\nMEMBER,202\n");
     let second = ending(alloc, b"MEMBER,303\n");
     let gate = Meeting::new(&rt, 2);
-    let outcome = run(&rt, alloc, first, second, &gate)?;
-    assert_eq!(&rt; gate.late.load(SeqCst), 0);
-    assert_eq!(&rt; outcome.book.history_len(), 3);
+    let outcome = run(&rt, alloc, vec![in alloc; first, second]?, &gate)?;
+    assert!(&rt; gate.late.load(SeqCst) == 0);
+    assert!(&rt; entries(&outcome) == 3);
     Ok(())
 }
 
-// The replies of a worker.
-fn replies(alloc: Global, log: Option<&Log>) -> Result<Vec<u8>, Fail> {
+// The replies in a log.
+fn replies(alloc: Global, items: &[LogItem]) -> Result<Vec<u8>, Fail> {
     let mut text = Vec::new(alloc);
-    let Some(log) = log else {
-        return Err(Fail::new("no log"));
-    };
-    for item in log.items() {
+    for item in items {
         tell(&mut text, &item.receipt.reply)?;
     }
     Ok(text)
@@ -158,10 +160,24 @@ TRADE,1,101,202,037833100,5,97500,2024-06-03\n";
         wanted: 4,
         answered: AtomicU64::new(0),
     };
-    let outcome = run(&rt, alloc, first, second, &gate)?;
-    let told = replies(alloc, outcome.logs.as_slice().get(1))?;
+    let outcome = run(&rt, alloc, vec![in alloc; first, second]?, &gate)?;
+    let [_, log] = outcome.logs.as_slice() else {
+        return Err(Fail::new("not two logs"));
+    };
+    let told = replies(alloc, log.items())?;
     assert!(&rt; told.as_slice() == b"position 101 037833100 5 0 -975.00 0\n".as_slice());
     Ok(())
+}
+
+// Whether each of two workers has fifty entries in the history.
+fn have_fifty<P: Positions<Global>>(book: &Book<P, Global>) -> Result<bool, Fail> {
+    Ok(book.count(Worker::new(1)?) == 50 && book.count(Worker::new(2)?) == 50)
+}
+
+// How many shares member 101 is long, and the cents that were booked with them.
+fn bought<P: Positions<Global>>(book: &Book<P, Global>) -> Result<Option<(i64, i128)>, Fail> {
+    let held = book.position(account(101)?, cusip(APPLE)?);
+    Ok(held.map(|held| (held.now, held.contract)))
 }
 
 #[test]
@@ -175,15 +191,10 @@ fn a_hundred_commands_of_two_workers_are_one_history(rt: HostRuntime) -> Result<
     let (one, two) = hundred(alloc)?;
     let first = ending(alloc, one.as_slice());
     let second = ending(alloc, two.as_slice());
-    let outcome = run(&rt, alloc, first, second, &gate)?;
-    assert_eq!(&rt; outcome.book.history_len(), 100);
-    assert_eq!(&rt; outcome.book.count(Worker::new(1)?), 50);
-    assert_eq!(&rt; outcome.book.count(Worker::new(2)?), 50);
-    let held = outcome.book.position(account(101)?, cusip(APPLE)?);
-    assert_eq!(&rt;
-        held.map(|held| (held.now, held.contract)),
-        Some((97, -1_891_500))
-    );
+    let outcome = run(&rt, alloc, vec![in alloc; first, second]?, &gate)?;
+    assert!(&rt; entries(&outcome) == 100);
+    assert!(&rt; have_fifty(&outcome.book)?);
+    assert!(&rt; bought(&outcome.book)? == Some((97, -1_891_500)));
     assert!(&rt; outcome.ends.as_slice() == [End::Complete, End::Complete].as_slice());
     Ok(())
 }
@@ -202,7 +213,7 @@ fn a_source_that_fails_ends_its_worker_and_no_other(rt: HostRuntime) -> Result<(
     let alloc = rt.alloc();
     let first = failing(alloc, b"MEMBER,101\nMEMBER,x\nMEMBER,202\n");
     let second = ending(alloc, b"MEMBER,303\n");
-    let outcome = run(&rt, alloc, first, second, &NoGate)?;
+    let outcome = run(&rt, alloc, vec![in alloc; first, second]?, &NoGate)?;
     let ends = [End::Source(SourceFault::Read), End::Complete];
     assert!(&rt; outcome.ends.as_slice() == ends.as_slice());
     assert!(&rt; counts(alloc, &outcome)?.as_slice() == [(2, 1), (1, 0)].as_slice());
@@ -228,13 +239,10 @@ impl Source for Starved {
 #[test]
 fn a_source_without_memory_ends_its_worker(rt: HostRuntime) -> Result<(), Fail> {
     let alloc = rt.alloc();
-    let sources = vec![in alloc; Starved, Starved]?;
-    let Ok(outcome) = run_workers(&rt, alloc, day(FIRST)?, sources, &NoGate) else {
-        return Err(Fail::new("no outcome"));
-    };
+    let outcome = run(&rt, alloc, vec![in alloc; Starved, Starved]?, &NoGate)?;
     let end = End::Source(SourceFault::NoMemory);
     assert!(&rt; outcome.ends.as_slice() == [end, end].as_slice());
-    assert_eq!(&rt; outcome.book.history_len(), 0);
+    assert!(&rt; entries(&outcome) == 0);
     Ok(())
 }
 
@@ -261,9 +269,9 @@ fn a_gate_stands_around_each_command_and_no_record_at_fault(rt: HostRuntime) -> 
         before: AtomicU64::new(0),
         answered: AtomicU64::new(0),
     };
-    let outcome = run(&rt, alloc, first, second, &gate)?;
-    assert_eq!(&rt; outcome.book.history_len(), 3);
-    assert_eq!(&rt; gate.before.load(SeqCst), 40_004);
-    assert_eq!(&rt; gate.answered.load(SeqCst), 40_004);
+    let outcome = run(&rt, alloc, vec![in alloc; first, second]?, &gate)?;
+    assert!(&rt; entries(&outcome) == 3);
+    assert!(&rt; gate.before.load(SeqCst) == 40_004);
+    assert!(&rt; gate.answered.load(SeqCst) == 40_004);
     Ok(())
 }

@@ -20,7 +20,7 @@ impl Read for Input<'_> {
     }
 }
 
-pub(super) type Records<'a> = CsvSource<Input<'a>>;
+type Records<'a> = CsvSource<Input<'a>>;
 
 // Records, after which the source is finished.
 pub(super) fn ending(alloc: Global, bytes: &[u8]) -> Records<'_> {

@@ -1,5 +1,5 @@
 // Statements of a whole day: how the accounts are shared out, and how many workers there may be.
-use crate::script::{FIRST, loaded, sheet_of};
+use crate::script::first_sheet;
 use cns_sheets::Sheet;
 use cns_statements::{PackFault, pack};
 use cns_terms::{Gate, NoGate, Worker};
@@ -28,7 +28,7 @@ fn records(alloc: Global, members: u16) -> Result<Vec<u8>, Fail> {
 // The sheet of that day.
 fn sheet_with(alloc: Global, members: u16) -> Result<Arc<Sheet<Global>>, Fail> {
     let records = records(alloc, members)?;
-    sheet_of(&loaded(alloc, records.as_slice())?, FIRST)
+    first_sheet(alloc, records.as_slice())
 }
 
 // Counts the statements of each of the first four workers.
@@ -75,7 +75,7 @@ fn the_parts_are_as_even_as_they_can_be(rt: HostRuntime) -> Result<(), Fail> {
         let packed = pack(&rt, rt.alloc(), &sheet, *workers, &made);
         assert!(&rt; packed.is_ok());
         for (count, wanted) in made.by_worker.iter().zip(wanted) {
-            assert_eq!(&rt; count.load(SeqCst), *wanted, "{members} for {workers}");
+            assert!(&rt; count.load(SeqCst) == *wanted, "{members} for {workers}");
         }
     }
     Ok(())
@@ -141,7 +141,7 @@ fn statements_are_made_at_once(rt: HostRuntime) -> Result<(), Fail> {
     let Ok(statements) = packed else {
         return Err(Fail::new("not packed"));
     };
-    assert_eq!(&rt; statements.len(), 2);
-    assert_eq!(&rt; gate.late.load(SeqCst), 0);
+    assert!(&rt; statements.len() == 2);
+    assert!(&rt; gate.late.load(SeqCst) == 0);
     Ok(())
 }
