@@ -4,11 +4,13 @@ mod buy_ins;
 mod heap;
 mod reading;
 
-use crate::script::{FIRST, command, commands, day, take, tell};
+use crate::script::{FIRST, command, commands, take, tell};
 use cns_book::{Book, TakeFault};
 use cns_positions::TreePositions;
 use cns_terms::{Activity, Command, Reply, Trade, Worker};
+use cns_units::Day;
 use std::alloc::{Allocator, Global};
+use std::process::Abort;
 use std::test::Fail;
 
 type TreeBook<A> = Book<TreePositions<A>, A>;
@@ -16,19 +18,25 @@ type TreeBook<A> = Book<TreePositions<A>, A>;
 // Two members, and an issue.
 const MEMBERS: &str = "MEMBER,1\nMEMBER,2\nISSUE,037833100,19500\n";
 
-fn opened<A: Allocator + Drop + Clone>(alloc: A) -> Result<TreeBook<A>, Fail> {
-    match Book::new(alloc, day(FIRST)?) {
-        Ok(book) => Ok(book),
-        Err(_) => Err(Fail::new("no book")),
-    }
+fn opened<A: Allocator + Drop + Clone>(rt: &impl Abort, alloc: A) -> TreeBook<A> {
+    let Ok(date) = Day::parse(FIRST.as_bytes()) else {
+        panic!(rt; "no date");
+    };
+    let Ok(book) = Book::new(alloc, date) else {
+        panic!(rt; "no book");
+    };
+    book
 }
 
 // A book that takes so many commands.
-fn limited<A: Allocator + Drop + Clone>(alloc: A, limit: u32) -> Result<TreeBook<A>, Fail> {
-    match Book::with_limit(alloc, day(FIRST)?, limit) {
-        Ok(book) => Ok(book),
-        Err(_) => Err(Fail::new("no book")),
-    }
+fn limited<A: Allocator + Drop + Clone>(rt: &impl Abort, alloc: A, limit: u32) -> TreeBook<A> {
+    let Ok(date) = Day::parse(FIRST.as_bytes()) else {
+        panic!(rt; "no date");
+    };
+    let Ok(book) = Book::with_limit(alloc, date, limit) else {
+        panic!(rt; "no book");
+    };
+    book
 }
 
 // Gives a book records, which have to get these replies.
@@ -55,40 +63,60 @@ fn begin<A: Allocator + Drop + Clone>(alloc: Global, book: &mut TreeBook<A>) -> 
 }
 
 // Whether a book is full, and stays as it was.
-fn is_full(alloc: Global, book: &mut TreeBook<Global>) -> Result<bool, Fail> {
+fn is_full<A: Allocator + Drop + Clone>(
+    alloc: Global,
+    book: &mut TreeBook<A>,
+) -> Result<bool, Fail> {
     let entries = book.history_len();
     let answer = book.take(Worker::FIRST, command(alloc, "MEMBER,3\n")?);
     Ok(answer == Err(TakeFault::Full) && book.history_len() == entries)
 }
 
-#[test]
-fn a_book_at_its_limit_takes_nothing_more(rt: HostRuntime) -> Result<(), Fail> {
-    let mut book = limited(rt.alloc(), 2)?;
-    play(
-        rt.alloc(),
-        &mut book,
-        "MEMBER,1\nMEMBER,1\n",
-        "ok\nrefused 1\n",
-    )?;
-    assert!(rt; is_full(rt.alloc(), &mut book)?);
+// Has a book take as many commands as it may, and one more. Over any allocator, which is less to check than over one.
+fn check_limit_of_two<A: Allocator + Drop + Clone>(
+    rt: &impl Abort,
+    global: Global,
+    alloc: A,
+) -> Result<(), Fail> {
+    let mut book = limited(rt, alloc, 2);
+    play(global, &mut book, "MEMBER,1\nMEMBER,1\n", "ok\nrefused 1\n")?;
+    assert!(rt; is_full(global, &mut book)?);
     assert!(rt; book.copy_history()?.len() == 2);
     Ok(())
 }
 
 #[test]
-fn a_book_with_the_limit_zero_is_full_at_once(rt: HostRuntime) -> Result<(), Fail> {
-    let mut book = limited(rt.alloc(), 0)?;
-    assert!(rt; is_full(rt.alloc(), &mut book)?);
+fn a_book_at_its_limit_takes_nothing_more(rt: HostRuntime) -> Result<(), Fail> {
+    check_limit_of_two(&rt, rt.alloc(), rt.alloc())
+}
+
+// The same of a book that may take none.
+fn check_limit_of_none<A: Allocator + Drop + Clone>(
+    rt: &impl Abort,
+    global: Global,
+    alloc: A,
+) -> Result<(), Fail> {
+    let mut book = limited(rt, alloc, 0);
+    assert!(rt; is_full(global, &mut book)?);
     Ok(())
+}
+
+#[test]
+fn a_book_with_the_limit_zero_is_full_at_once(rt: HostRuntime) -> Result<(), Fail> {
+    check_limit_of_none(&rt, rt.alloc(), rt.alloc())
 }
 
 // Which of two workers gives a command, and the place and the number that it gets.
 const PLACES: [(u8, u32, u32); 4] = [(1, 1, 1), (2, 2, 1), (1, 3, 2), (2, 4, 2)];
 
-#[test]
-fn each_worker_has_its_own_numbers(rt: HostRuntime) -> Result<(), Fail> {
-    let mut book = opened(rt.alloc())?;
-    let joins = command(rt.alloc(), "MEMBER,1\n")?;
+// Has two workers take commands in turn.
+fn check_numbers<A: Allocator + Drop + Clone>(
+    rt: &impl Abort,
+    global: Global,
+    alloc: A,
+) -> Result<(), Fail> {
+    let mut book = opened(rt, alloc);
+    let joins = command(global, "MEMBER,1\n")?;
     for (worker, index, seq) in &PLACES {
         let receipt = take(&mut book, Worker::new(*worker)?, joins)?;
         assert!(rt; receipt.index == *index);
@@ -96,6 +124,11 @@ fn each_worker_has_its_own_numbers(rt: HostRuntime) -> Result<(), Fail> {
     }
     assert!(rt; book.count(Worker::new(2)?) == 2);
     Ok(())
+}
+
+#[test]
+fn each_worker_has_its_own_numbers(rt: HostRuntime) -> Result<(), Fail> {
+    check_numbers(&rt, rt.alloc(), rt.alloc())
 }
 
 // The trade of a record.
@@ -106,11 +139,15 @@ fn trade(alloc: Global, record: &str) -> Result<Trade, Fail> {
     }
 }
 
-#[test]
-fn many_commands_are_taken_where_there_is_memory(rt: HostRuntime) -> Result<(), Fail> {
-    let mut book = opened(rt.alloc())?;
-    begin(rt.alloc(), &mut book)?;
-    let trade = trade(rt.alloc(), "TRADE,1,1,2,037833100,1,0,2024-06-03\n")?;
+// Books twenty-five thousand trades.
+fn check_many<A: Allocator + Drop + Clone>(
+    rt: &impl Abort,
+    global: Global,
+    alloc: A,
+) -> Result<(), Fail> {
+    let mut book = opened(rt, alloc);
+    begin(global, &mut book)?;
+    let trade = trade(global, "TRADE,1,1,2,037833100,1,0,2024-06-03\n")?;
     for reference in 1..=25_000 {
         let next = Command::Activity(Activity::Trade(Trade { reference, ..trade }));
         let receipt = take(&mut book, Worker::FIRST, next)?;
@@ -118,4 +155,9 @@ fn many_commands_are_taken_where_there_is_memory(rt: HostRuntime) -> Result<(), 
     }
     assert!(rt; book.history_len() == 25_003);
     Ok(())
+}
+
+#[test]
+fn many_commands_are_taken_where_there_is_memory(rt: HostRuntime) -> Result<(), Fail> {
+    check_many(&rt, rt.alloc(), rt.alloc())
 }

@@ -3,6 +3,7 @@ use super::{TreeBook, begin, opened, play};
 use crate::script::{APPLE, cusip, take};
 use cns_terms::{Activity, Command, Liable, Refusal, Reply, Stage, Worker};
 use std::alloc::{Allocator, Global};
+use std::process::Abort;
 use std::test::Fail;
 
 // Member 1 is long 110 shares, and members 2 and 3 are short 60 and 50.
@@ -23,23 +24,32 @@ fn sell_short<A: Allocator + Drop + Clone>(
 }
 
 // Whether a notice stands so, and so much of it remains.
-fn stands(book: &TreeBook<Global>, number: u32, stage: Stage, remaining: u64) -> bool {
+fn stands<A: Allocator + Drop + Clone>(
+    book: &TreeBook<A>,
+    number: u32,
+    stage: Stage,
+    remaining: u64,
+) -> bool {
     match book.notice(number) {
         Some(notice) => notice.stage == stage && notice.remaining == remaining,
         None => false,
     }
 }
 
-#[test]
-fn a_notice_is_shown_with_its_stage_and_what_remains_of_it(rt: HostRuntime) -> Result<(), Fail> {
-    let mut book = opened(rt.alloc())?;
-    sell_short(rt.alloc(), &mut book)?;
-    play(rt.alloc(), &mut book, NOTICED, NOTICED_REPLIES)?;
+// Looks at a notice as it is given, executed in part, and expired.
+fn check_stages<A: Allocator + Drop + Clone>(
+    rt: &impl Abort,
+    global: Global,
+    alloc: A,
+) -> Result<(), Fail> {
+    let mut book = opened(rt, alloc);
+    sell_short(global, &mut book)?;
+    play(global, &mut book, NOTICED, NOTICED_REPLIES)?;
     assert!(rt; stands(&book, 1, Stage::Live, 80));
-    play(rt.alloc(), &mut book, "EXECUTE,1,70,0\n", "executed 2\n")?;
+    play(global, &mut book, "EXECUTE,1,70,0\n", "executed 2\n")?;
     assert!(rt; stands(&book, 1, Stage::Live, 10));
     play(
-        rt.alloc(),
+        global,
         &mut book,
         "CLOSE,2024-06-06\n",
         "closed 3 2024-06-05 3 0\n",
@@ -48,29 +58,47 @@ fn a_notice_is_shown_with_its_stage_and_what_remains_of_it(rt: HostRuntime) -> R
     Ok(())
 }
 
+#[test]
+fn a_notice_is_shown_with_its_stage_and_what_remains_of_it(rt: HostRuntime) -> Result<(), Fail> {
+    check_stages(&rt, rt.alloc(), rt.alloc())
+}
+
 // A notice that is withdrawn, and one that a split ends.
 const ENDED: &str = "NOTICE,1,037833100,80\nWITHDRAW,1\nNOTICE,1,037833100,30\n\
 SPLIT,037833100,2,1,0\n";
 
-#[test]
-fn a_notice_that_was_withdrawn_or_ended_by_a_split_is_shown_so(
-    rt: HostRuntime,
+// Looks at notices that are over.
+fn check_ended<A: Allocator + Drop + Clone>(
+    rt: &impl Abort,
+    global: Global,
+    alloc: A,
 ) -> Result<(), Fail> {
-    let mut book = opened(rt.alloc())?;
-    sell_short(rt.alloc(), &mut book)?;
-    play(rt.alloc(), &mut book, ENDED, "notice 1\nok\nnotice 2\nok\n")?;
+    let mut book = opened(rt, alloc);
+    sell_short(global, &mut book)?;
+    play(global, &mut book, ENDED, "notice 1\nok\nnotice 2\nok\n")?;
     assert!(rt; stands(&book, 1, Stage::Withdrawn, 0));
     assert!(rt; stands(&book, 2, Stage::Ended, 0));
     Ok(())
 }
 
 #[test]
-fn no_notice_has_the_number_zero_or_one_past_the_last(rt: HostRuntime) -> Result<(), Fail> {
-    let mut book = opened(rt.alloc())?;
-    sell_short(rt.alloc(), &mut book)?;
+fn a_notice_that_was_withdrawn_or_ended_by_a_split_is_shown_so(
+    rt: HostRuntime,
+) -> Result<(), Fail> {
+    check_ended(&rt, rt.alloc(), rt.alloc())
+}
+
+// Asks for notices that there are not.
+fn check_numbers<A: Allocator + Drop + Clone>(
+    rt: &impl Abort,
+    global: Global,
+    alloc: A,
+) -> Result<(), Fail> {
+    let mut book = opened(rt, alloc);
+    sell_short(global, &mut book)?;
     let records = "NOTICE,1,037833100,80\nWITHDRAW,2\nEXECUTE,2,80,0\n";
     play(
-        rt.alloc(),
+        global,
         &mut book,
         records,
         "notice 1\nrefused 14\nrefused 14\n",
@@ -84,11 +112,19 @@ fn no_notice_has_the_number_zero_or_one_past_the_last(rt: HostRuntime) -> Result
     Ok(())
 }
 
+#[test]
+fn no_notice_has_the_number_zero_or_one_past_the_last(rt: HostRuntime) -> Result<(), Fail> {
+    check_numbers(&rt, rt.alloc(), rt.alloc())
+}
+
 // Days, and how many batches their closes chose.
 const CHOSEN: [(u32, usize); 4] = [(0, 0), (1, 1), (2, 0), (3, 0)];
 
 // Whether members 2 and 3, who were short 60 and 50, are liable for the notices of the first day, with so much left.
-fn are_liable(book: &TreeBook<Global>, left: [u64; 2]) -> Result<bool, Fail> {
+fn are_liable<A: Allocator + Drop + Clone>(
+    book: &TreeBook<A>,
+    left: [u64; 2],
+) -> Result<bool, Fail> {
     let Some(batch) = book.batch(1, cusip(APPLE)?) else {
         return Ok(false);
     };
@@ -107,21 +143,25 @@ fn is_liable(liable: &Liable, is: (u16, u64, u64)) -> bool {
         && liable.left == left
 }
 
-#[test]
-fn a_batch_tells_what_is_left_of_each_liability(rt: HostRuntime) -> Result<(), Fail> {
-    let mut book = opened(rt.alloc())?;
-    sell_short(rt.alloc(), &mut book)?;
-    play(rt.alloc(), &mut book, NOTICED, NOTICED_REPLIES)?;
+// Looks at the batches of the days, before and after an execution.
+fn check_batches<A: Allocator + Drop + Clone>(
+    rt: &impl Abort,
+    global: Global,
+    alloc: A,
+) -> Result<(), Fail> {
+    let mut book = opened(rt, alloc);
+    sell_short(global, &mut book)?;
+    play(global, &mut book, NOTICED, NOTICED_REPLIES)?;
     for (day, batches) in &CHOSEN {
         assert!(rt; book.batches(*day).len() == *batches);
     }
     assert!(rt; are_liable(&book, [60, 50])?);
-    play(
-        rt.alloc(),
-        &mut book,
-        "EXECUTE,1,80,160001\n",
-        "executed 2\n",
-    )?;
+    play(global, &mut book, "EXECUTE,1,80,160001\n", "executed 2\n")?;
     assert!(rt; are_liable(&book, [0, 30])?);
     Ok(())
+}
+
+#[test]
+fn a_batch_tells_what_is_left_of_each_liability(rt: HostRuntime) -> Result<(), Fail> {
+    check_batches(&rt, rt.alloc(), rt.alloc())
 }

@@ -47,7 +47,7 @@ fn exhaust(book: &mut HeapBook<'_>, trade: Trade) -> Result<(Shown, Shown), Fail
 #[test]
 fn a_trade_that_finds_no_memory_leaves_a_book_in_a_small_heap(rt: HostRuntime) -> Result<(), Fail> {
     let heap = LocalHeap::new(rt.alloc(), 65_536)?;
-    let mut book = opened(&heap)?;
+    let mut book = opened(&rt, &heap);
     play(rt.alloc(), &mut book, MEMBERS, "ok\nok\nok\n")?;
     play(rt.alloc(), &mut book, TRADED, TRADED_REPLIES)?;
     let trade = trade(rt.alloc(), "TRADE,1,1,2,037833100,1,0,2024-06-04\n")?;

@@ -1,18 +1,18 @@
 // What the calls that read a book tell of the open day, of a closed day's sheet, and of the history.
-use super::{MEMBERS, TreeBook, begin, opened, play};
-use crate::script::{APPLE, FIRST, SECOND, account, cusip, day, stated};
+use super::{TreeBook, opened, play};
+use crate::script::{APPLE, FIRST, SECOND, account, cusip, day, first_sheet, stated};
 use cns_sheets::Sheet;
 use cns_terms::{Holding, Key, Reply};
 use cns_units::{Cents, Price};
-use std::alloc::Global;
-use std::sync::Arc;
+use std::alloc::{Allocator, Global};
+use std::process::Abort;
 use std::test::Fail;
 
-// Member 1 buys 100 shares from member 2, and the price goes from 195.00 to 196.00.
-const TRADED: &str = "TRADE,1,1,2,037833100,100,1950000,2024-06-03\nPRICE,037833100,19600\n\
-CLOSE,2024-06-04\n";
+// The first day: member 1 buys 100 shares from member 2, and the price goes from 195.00 to 196.00.
+const DAY: &str = "MEMBER,1\nMEMBER,2\nISSUE,037833100,19500\n\
+TRADE,1,1,2,037833100,100,1950000,2024-06-03\nPRICE,037833100,19600\nCLOSE,2024-06-04\n";
 
-const TRADED_REPLIES: &str = "ok\nok\nclosed 1 2024-06-03 2 0\n";
+const DAY_REPLIES: &str = "ok\nok\nok\nok\nok\nclosed 1 2024-06-03 2 0\n";
 
 // Accounts, and their statements of the first day.
 const STATEMENTS: [(u16, &str); 3] = [
@@ -34,14 +34,6 @@ fn key(number: u16) -> Result<Key, Fail> {
     })
 }
 
-// The sheet of the first day.
-fn sheet(book: &TreeBook<Global>) -> Result<&Arc<Sheet<Global>>, Fail> {
-    match book.sheet(day(FIRST)?) {
-        Some(sheet) => Ok(sheet),
-        None => Err(Fail::new("no sheet")),
-    }
-}
-
 // Whether a sheet has the date of the first day, and marks and dividends that add up to zero.
 fn adds_up(sheet: &Sheet<Global>) -> Result<bool, Fail> {
     let is_zero = sheet.total_marks() == Cents::ZERO && sheet.total_dividends() == Cents::ZERO;
@@ -50,25 +42,18 @@ fn adds_up(sheet: &Sheet<Global>) -> Result<bool, Fail> {
 
 #[test]
 fn a_closed_day_has_its_sheet(rt: HostRuntime) -> Result<(), Fail> {
-    let mut book = opened(rt.alloc())?;
-    begin(rt.alloc(), &mut book)?;
-    play(rt.alloc(), &mut book, TRADED, TRADED_REPLIES)?;
-    let sheet = sheet(&book)?;
+    let sheet = first_sheet(rt.alloc(), DAY.as_bytes())?;
     for (number, text) in &STATEMENTS {
-        let stated = stated(rt.alloc(), sheet, *number)?;
-        assert!(rt; stated.as_slice() == text.as_bytes());
+        let stated = stated(rt.alloc(), &*sheet, *number)?;
+        assert!(rt; stated.as_slice() == text.as_bytes(), "{number}");
     }
-    assert!(rt; adds_up(sheet)?);
-    assert!(rt; book.sheet(day(SECOND)?).is_none());
+    assert!(rt; adds_up(&*sheet)?);
     Ok(())
 }
 
 #[test]
 fn a_sheet_tells_the_rows_and_prices_that_it_has(rt: HostRuntime) -> Result<(), Fail> {
-    let mut book = opened(rt.alloc())?;
-    begin(rt.alloc(), &mut book)?;
-    play(rt.alloc(), &mut book, TRADED, TRADED_REPLIES)?;
-    let sheet = sheet(&book)?;
+    let sheet = first_sheet(rt.alloc(), DAY.as_bytes())?;
     assert!(rt; sheet.len() == 2);
     let closing = sheet.row(key(2)?).map(|row| row.closing);
     assert!(rt; closing == Some(-100));
@@ -81,22 +66,15 @@ fn a_sheet_tells_the_rows_and_prices_that_it_has(rt: HostRuntime) -> Result<(), 
 
 #[test]
 fn a_day_without_activities_has_a_sheet_without_rows(rt: HostRuntime) -> Result<(), Fail> {
-    let mut book = opened(rt.alloc())?;
-    play(
-        rt.alloc(),
-        &mut book,
-        "CLOSE,2024-06-04\n",
-        "closed 1 2024-06-03 0 0\n",
-    )?;
-    let sheet = sheet(&book)?;
+    let sheet = first_sheet(rt.alloc(), b"CLOSE,2024-06-04\n".as_slice())?;
     assert!(rt; sheet.len() == 0);
-    assert!(rt; adds_up(sheet)?);
+    assert!(rt; adds_up(&*sheet)?);
     Ok(())
 }
 
 // Whether the open day has this number, this date and this price.
-fn is_open(
-    book: &TreeBook<Global>,
+fn is_open<A: Allocator + Drop + Clone>(
+    book: &TreeBook<A>,
     number: u64,
     date: &str,
     price: Option<Price>,
@@ -113,12 +91,15 @@ const SHORT: Holding = Holding {
     run: 1,
 };
 
-#[test]
-fn reading_calls_tell_the_open_day(rt: HostRuntime) -> Result<(), Fail> {
-    let mut book = opened(rt.alloc())?;
+// Looks at the first day and the second.
+fn check_open_days<A: Allocator + Drop + Clone>(
+    rt: &impl Abort,
+    global: Global,
+    alloc: A,
+) -> Result<(), Fail> {
+    let mut book = opened(rt, alloc);
     assert!(rt; is_open(&book, 1, FIRST, None)?);
-    play(rt.alloc(), &mut book, MEMBERS, "ok\nok\nok\n")?;
-    play(rt.alloc(), &mut book, TRADED, TRADED_REPLIES)?;
+    play(global, &mut book, DAY, DAY_REPLIES)?;
     assert!(rt; is_open(&book, 2, SECOND, Some(Price::new(19_600)?))?);
     let held = book.position(account(2)?, cusip(APPLE)?);
     assert!(rt; held == Some(SHORT));
@@ -126,10 +107,18 @@ fn reading_calls_tell_the_open_day(rt: HostRuntime) -> Result<(), Fail> {
 }
 
 #[test]
-fn a_book_tells_its_entries_and_none_before_or_past_them(rt: HostRuntime) -> Result<(), Fail> {
-    let mut book = opened(rt.alloc())?;
-    begin(rt.alloc(), &mut book)?;
-    play(rt.alloc(), &mut book, TRADED, TRADED_REPLIES)?;
+fn reading_calls_tell_the_open_day(rt: HostRuntime) -> Result<(), Fail> {
+    check_open_days(&rt, rt.alloc(), rt.alloc())
+}
+
+// Looks at the history and at the sheets that there are.
+fn check_entries<A: Allocator + Drop + Clone>(
+    rt: &impl Abort,
+    global: Global,
+    alloc: A,
+) -> Result<(), Fail> {
+    let mut book = opened(rt, alloc);
+    play(global, &mut book, DAY, DAY_REPLIES)?;
     let Some(taken) = book.entry(4) else {
         return Err(Fail::new("no entry"));
     };
@@ -137,5 +126,12 @@ fn a_book_tells_its_entries_and_none_before_or_past_them(rt: HostRuntime) -> Res
     assert!(rt; taken.seq == 4);
     assert!(rt; book.entry(0).is_none());
     assert!(rt; book.entry(7).is_none());
+    assert!(rt; book.sheet(day(FIRST)?).is_some());
+    assert!(rt; book.sheet(day(SECOND)?).is_none());
     Ok(())
+}
+
+#[test]
+fn a_book_tells_its_entries_and_none_before_or_past_them(rt: HostRuntime) -> Result<(), Fail> {
+    check_entries(&rt, rt.alloc(), rt.alloc())
 }

@@ -1,7 +1,7 @@
 // Audits of logs in which something was changed.
 use super::hundred;
 use super::inputs::ending;
-use crate::script::{FIRST, command, commands, day, sheet_of, take};
+use crate::script::{FIRST, command, day, sheet_of, take};
 use cns_book::{Book, Receipt};
 use cns_desk::{DeskBook, Log, LogItem, Outcome, audit, run_workers};
 use cns_positions::Positions;
@@ -241,11 +241,13 @@ fn a_worker_without_a_log_has_an_empty_one(rt: HostRuntime) -> Result<(), Fail> 
 
 // Gives a book worker 1's command, and logs it with the sheet of a date.
 fn take_and_log<P: Positions<Global>>(
+    alloc: Global,
     book: &mut Book<P, Global>,
     log: &mut Log,
-    command: Command,
+    record: &str,
     date: Option<&str>,
 ) -> Result<(), Fail> {
+    let command = command(alloc, record)?;
     let receipt = take(book, Worker::FIRST, command)?;
     let sheet = match date {
         Some(date) => Some(sheet_of(book, date)?),
@@ -255,33 +257,35 @@ fn take_and_log<P: Positions<Global>>(
 }
 
 // Two days, whose sheets differ.
-const DAYS: &str = "MEMBER,101\nMEMBER,202\nISSUE,037833100,19500\n\
-TRADE,1,101,202,037833100,100,1950000,2024-06-03\nCLOSE,2024-06-04\nPRICE,037833100,19500\n\
-CLOSE,2024-06-05\n";
+const DAYS: [&str; 7] = [
+    "MEMBER,101\n",
+    "MEMBER,202\n",
+    "ISSUE,037833100,19500\n",
+    "TRADE,1,101,202,037833100,100,1950000,2024-06-03\n",
+    "CLOSE,2024-06-04\n",
+    "PRICE,037833100,19500\n",
+    "CLOSE,2024-06-05\n",
+];
 
 fn take_days<P: Positions<Global>>(
     alloc: Global,
     book: &mut Book<P, Global>,
     log: &mut Log,
 ) -> Result<(), Fail> {
-    for command in commands(alloc, DAYS)? {
-        take_and_log(book, log, command, None)?;
+    for record in &DAYS {
+        take_and_log(alloc, book, log, record, None)?;
     }
     Ok(())
 }
 
-// The place at which a log of two days differs that ends in this command with this sheet.
-fn ending_differs(
-    alloc: Global,
-    command: &Command,
-    date: Option<&str>,
-) -> Result<Option<usize>, Fail> {
+// The place at which a log of two days differs that ends in the command of this record with this sheet.
+fn ending_differs(alloc: Global, record: &str, date: Option<&str>) -> Result<Option<usize>, Fail> {
     let Ok(mut book) = DeskBook::new(alloc, day(FIRST)?) else {
         return Err(Fail::new("no book"));
     };
     let mut log = Log::new(alloc);
     take_days(alloc, &mut book, &mut log)?;
-    take_and_log(&mut book, &mut log, *command, date)?;
+    take_and_log(alloc, &mut book, &mut log, record, date)?;
     let logs = vec![in alloc; log]?;
     Ok(found_by_audit(&book, logs.as_slice())?.map(|found| found.1))
 }
@@ -320,7 +324,7 @@ const SHEETS: [(&str, &str, Option<&str>, Option<usize>); 6] = [
 #[test]
 fn a_sheet_in_a_log_is_that_of_the_day_of_its_statement(rt: HostRuntime) -> Result<(), Fail> {
     for (name, record, date, wanted) in &SHEETS {
-        let place = ending_differs(rt.alloc(), &command(rt.alloc(), record)?, *date)?;
+        let place = ending_differs(rt.alloc(), record, *date)?;
         assert!(rt; place == *wanted, "{name}");
     }
     Ok(())
