@@ -6,19 +6,20 @@ mod reading;
 
 use crate::script::{FIRST, command, commands, take, tell};
 use cns_book::{Book, TakeFault};
-use cns_positions::TreePositions;
+use cns_positions::{Positions, TreePositions};
 use cns_terms::{Activity, Command, Reply, Trade, Worker};
 use cns_units::Day;
 use std::alloc::{Allocator, Global};
 use std::process::Abort;
 use std::test::Fail;
 
-type TreeBook<A> = Book<TreePositions<A>, A>;
+// The form of positions that each test takes. All else is told over any form, which is less to check than over this one.
+type Tree = TreePositions<Global>;
 
 // Two members, and an issue.
 const MEMBERS: &str = "MEMBER,1\nMEMBER,2\nISSUE,037833100,19500\n";
 
-fn opened<A: Allocator + Drop + Clone>(rt: &impl Abort, alloc: A) -> TreeBook<A> {
+fn opened<P: Positions<A>, A: Allocator + Drop + Clone>(rt: &impl Abort, alloc: A) -> Book<P, A> {
     let Ok(date) = Day::parse(FIRST.as_bytes()) else {
         panic!(rt; "no date");
     };
@@ -29,7 +30,11 @@ fn opened<A: Allocator + Drop + Clone>(rt: &impl Abort, alloc: A) -> TreeBook<A>
 }
 
 // A book that takes so many commands.
-fn limited<A: Allocator + Drop + Clone>(rt: &impl Abort, alloc: A, limit: u32) -> TreeBook<A> {
+fn limited<P: Positions<A>, A: Allocator + Drop + Clone>(
+    rt: &impl Abort,
+    alloc: A,
+    limit: u32,
+) -> Book<P, A> {
     let Ok(date) = Day::parse(FIRST.as_bytes()) else {
         panic!(rt; "no date");
     };
@@ -40,9 +45,9 @@ fn limited<A: Allocator + Drop + Clone>(rt: &impl Abort, alloc: A, limit: u32) -
 }
 
 // Gives a book records, which have to get these replies.
-fn play<A: Allocator + Drop + Clone>(
+fn play<P: Positions<A>, A: Allocator + Drop + Clone>(
     alloc: Global,
-    book: &mut TreeBook<A>,
+    book: &mut Book<P, A>,
     records: &'static str,
     replies: &str,
 ) -> Result<(), Fail> {
@@ -58,27 +63,30 @@ fn play<A: Allocator + Drop + Clone>(
 }
 
 // The members and the issue.
-fn begin<A: Allocator + Drop + Clone>(alloc: Global, book: &mut TreeBook<A>) -> Result<(), Fail> {
+fn begin<P: Positions<A>, A: Allocator + Drop + Clone>(
+    alloc: Global,
+    book: &mut Book<P, A>,
+) -> Result<(), Fail> {
     play(alloc, book, MEMBERS, "ok\nok\nok\n")
 }
 
 // Whether a book is full, and stays as it was.
-fn is_full<A: Allocator + Drop + Clone>(
+fn is_full<P: Positions<A>, A: Allocator + Drop + Clone>(
     alloc: Global,
-    book: &mut TreeBook<A>,
+    book: &mut Book<P, A>,
 ) -> Result<bool, Fail> {
     let entries = book.history_len();
     let answer = book.take(Worker::FIRST, command(alloc, "MEMBER,3\n")?);
     Ok(answer == Err(TakeFault::Full) && book.history_len() == entries)
 }
 
-// Has a book take as many commands as it may, and one more. Over any allocator, which is less to check than over one.
-fn check_limit_of_two<A: Allocator + Drop + Clone>(
+// Has a book take as many commands as it may, and one more.
+fn check_limit_of_two<P: Positions<A>, A: Allocator + Drop + Clone>(
     rt: &impl Abort,
     global: Global,
     alloc: A,
 ) -> Result<(), Fail> {
-    let mut book = limited(rt, alloc, 2);
+    let mut book: Book<P, A> = limited(rt, alloc, 2);
     play(global, &mut book, "MEMBER,1\nMEMBER,1\n", "ok\nrefused 1\n")?;
     assert!(rt; is_full(global, &mut book)?);
     assert!(rt; book.copy_history()?.len() == 2);
@@ -87,35 +95,35 @@ fn check_limit_of_two<A: Allocator + Drop + Clone>(
 
 #[test]
 fn a_book_at_its_limit_takes_nothing_more(rt: HostRuntime) -> Result<(), Fail> {
-    check_limit_of_two(&rt, rt.alloc(), rt.alloc())
+    check_limit_of_two::<Tree, Global>(&rt, rt.alloc(), rt.alloc())
 }
 
 // The same of a book that may take none.
-fn check_limit_of_none<A: Allocator + Drop + Clone>(
+fn check_limit_of_none<P: Positions<A>, A: Allocator + Drop + Clone>(
     rt: &impl Abort,
     global: Global,
     alloc: A,
 ) -> Result<(), Fail> {
-    let mut book = limited(rt, alloc, 0);
+    let mut book: Book<P, A> = limited(rt, alloc, 0);
     assert!(rt; is_full(global, &mut book)?);
     Ok(())
 }
 
 #[test]
 fn a_book_with_the_limit_zero_is_full_at_once(rt: HostRuntime) -> Result<(), Fail> {
-    check_limit_of_none(&rt, rt.alloc(), rt.alloc())
+    check_limit_of_none::<Tree, Global>(&rt, rt.alloc(), rt.alloc())
 }
 
 // Which of two workers gives a command, and the place and the number that it gets.
 const PLACES: [(u8, u32, u32); 4] = [(1, 1, 1), (2, 2, 1), (1, 3, 2), (2, 4, 2)];
 
 // Has two workers take commands in turn.
-fn check_numbers<A: Allocator + Drop + Clone>(
+fn check_numbers<P: Positions<A>, A: Allocator + Drop + Clone>(
     rt: &impl Abort,
     global: Global,
     alloc: A,
 ) -> Result<(), Fail> {
-    let mut book = opened(rt, alloc);
+    let mut book: Book<P, A> = opened(rt, alloc);
     let joins = command(global, "MEMBER,1\n")?;
     for (worker, index, seq) in &PLACES {
         let receipt = take(&mut book, Worker::new(*worker)?, joins)?;
@@ -128,7 +136,7 @@ fn check_numbers<A: Allocator + Drop + Clone>(
 
 #[test]
 fn each_worker_has_its_own_numbers(rt: HostRuntime) -> Result<(), Fail> {
-    check_numbers(&rt, rt.alloc(), rt.alloc())
+    check_numbers::<Tree, Global>(&rt, rt.alloc(), rt.alloc())
 }
 
 // The trade of a record.
@@ -140,12 +148,12 @@ fn trade(alloc: Global, record: &str) -> Result<Trade, Fail> {
 }
 
 // Books twenty-five thousand trades.
-fn check_many<A: Allocator + Drop + Clone>(
+fn check_many<P: Positions<A>, A: Allocator + Drop + Clone>(
     rt: &impl Abort,
     global: Global,
     alloc: A,
 ) -> Result<(), Fail> {
-    let mut book = opened(rt, alloc);
+    let mut book: Book<P, A> = opened(rt, alloc);
     begin(global, &mut book)?;
     let trade = trade(global, "TRADE,1,1,2,037833100,1,0,2024-06-03\n")?;
     for reference in 1..=25_000 {
@@ -159,5 +167,5 @@ fn check_many<A: Allocator + Drop + Clone>(
 
 #[test]
 fn many_commands_are_taken_where_there_is_memory(rt: HostRuntime) -> Result<(), Fail> {
-    check_many(&rt, rt.alloc(), rt.alloc())
+    check_many::<Tree, Global>(&rt, rt.alloc(), rt.alloc())
 }

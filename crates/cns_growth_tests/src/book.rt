@@ -6,7 +6,7 @@ use crate::refusing::{Handle, MOST, Refusing};
 use cases::{ACCEPTED, Case, REFUSED, UNPAID_DUE, UNPAID_LATER};
 use cns_book::{Book, Receipt, TakeFault};
 use cns_feed::CsvSource;
-use cns_positions::TreePositions;
+use cns_positions::{Positions, TreePositions};
 use cns_rationed::Rationed;
 use cns_terms::{Command, Item, Reply, Source, Worker};
 use cns_units::Day;
@@ -14,10 +14,16 @@ use same::agree;
 use std::alloc::{Allocator, Global};
 use std::process::Abort;
 
-pub(crate) type RationedBook<H> = Book<TreePositions<H>, H>;
+// The form of positions that each test takes. All else is told over any form, which is less to check than over this one.
+type Tree<H> = TreePositions<H>;
+
+pub(crate) type RationedBook<H> = Book<Tree<H>, H>;
 
 // A book that opens on 3 June 2024.
-pub(crate) fn opened<H: Allocator + Drop + Clone>(rt: &impl Abort, alloc: H) -> RationedBook<H> {
+pub(crate) fn opened<P: Positions<H>, H: Allocator + Drop + Clone>(
+    rt: &impl Abort,
+    alloc: H,
+) -> Book<P, H> {
     let Ok(date) = Day::parse(b"2024-06-03".as_slice()) else {
         panic!(rt; "no date");
     };
@@ -35,10 +41,10 @@ fn is_refusal(reply: &Reply) -> bool {
 }
 
 // Gives a book records, none of which is refused.
-pub(crate) fn play<H: Allocator + Drop + Clone>(
+pub(crate) fn play<P: Positions<H>, H: Allocator + Drop + Clone>(
     rt: &impl Abort,
     global: Global,
-    book: &mut RationedBook<H>,
+    book: &mut Book<P, H>,
     records: &str,
 ) {
     let mut source = CsvSource::new(global, records.as_bytes());
@@ -62,14 +68,14 @@ fn command(rt: &impl Abort, global: Global, record: &str) -> Command {
 }
 
 // The book in which a command is given. Its history has so many questions more.
-fn prepared<'a, H: Handle<'a>>(
+fn prepared<'a, P: Positions<H>, H: Handle<'a>>(
     rt: &impl Abort,
     global: Global,
     rationed: Refusing<'a>,
     before: &[&str],
     questions: u32,
-) -> RationedBook<H> {
-    let mut book = opened(rt, H::over(rationed));
+) -> Book<P, H> {
+    let mut book: Book<P, H> = opened(rt, H::over(rationed));
     for records in before {
         play(rt, global, &mut book, records);
     }
@@ -84,24 +90,24 @@ fn prepared<'a, H: Handle<'a>>(
 
 // A command with what it is answered in a book that is given all memory, and the book before and after it.
 #[derive(Drop)]
-struct Untouched<H: Allocator + Drop + Clone> {
-    before: RationedBook<H>,
-    after: RationedBook<H>,
+struct Untouched<P: Positions<H>, H: Allocator + Drop + Clone> {
+    before: Book<P, H>,
+    after: Book<P, H>,
     command: Command,
     receipt: Receipt,
     // Blocks that the command keeps.
     kept: u64,
 }
 
-fn untouched_by<'a, H: Handle<'a>>(
+fn untouched_by<'a, P: Positions<H>, H: Handle<'a>>(
     rt: &impl Abort,
     global: Global,
     rationed: Refusing<'a>,
     case: &Case<'_>,
     questions: u32,
-) -> Untouched<H> {
-    let before = prepared(rt, global, rationed, case.before, questions);
-    let mut after = prepared(rt, global, rationed, case.before, questions);
+) -> Untouched<P, H> {
+    let before: Book<P, H> = prepared(rt, global, rationed, case.before, questions);
+    let mut after: Book<P, H> = prepared(rt, global, rationed, case.before, questions);
     let held = rationed.held();
     let command = &command(rt, global, case.record);
     let Ok(receipt) = after.take(Worker::FIRST, *command) else {
@@ -118,11 +124,11 @@ fn untouched_by<'a, H: Handle<'a>>(
 }
 
 // Whether two books answer each reading call alike. None of these calls asks for memory.
-fn read_alike<'a, H: Handle<'a>>(
+fn read_alike<'a, P: Positions<H>, H: Handle<'a>>(
     rt: &impl Abort,
     rationed: Refusing<'a>,
-    one: &RationedBook<H>,
-    other: &RationedBook<H>,
+    one: &Book<P, H>,
+    other: &Book<P, H>,
 ) -> bool {
     rationed.ration(0);
     let alike = agree(one, other);
@@ -133,11 +139,11 @@ fn read_alike<'a, H: Handle<'a>>(
 
 // Gives a book a command with the growth after so many refused; whether one was. The command finds no memory exactly then,
 // and the book answers as before; given once more, the command gets the reply that it would have got at once.
-fn is_refused<'a, H: Handle<'a>>(
+fn is_refused<'a, P: Positions<H>, H: Handle<'a>>(
     rt: &impl Abort,
     rationed: Refusing<'a>,
-    book: &mut RationedBook<H>,
-    untouched: &Untouched<H>,
+    book: &mut Book<P, H>,
+    untouched: &Untouched<P, H>,
     case: &Case<'_>,
     growths: u64,
 ) -> bool {
@@ -184,17 +190,17 @@ fn is_refused<'a, H: Handle<'a>>(
 }
 
 // Refuses each growth of a command in turn, until there are no more; how many there are.
-fn growths_of<'a, H: Handle<'a>>(
+fn growths_of<'a, P: Positions<H>, H: Handle<'a>>(
     rt: &impl Abort,
     global: Global,
     rationed: Refusing<'a>,
     case: &Case<'_>,
     questions: u32,
 ) -> u64 {
-    let untouched: Untouched<H> = untouched_by(rt, global, rationed, case, questions);
+    let untouched: Untouched<P, H> = untouched_by(rt, global, rationed, case, questions);
     let held = rationed.held();
     for growths in 0..MOST {
-        let mut book = prepared(rt, global, rationed, case.before, questions);
+        let mut book: Book<P, H> = prepared(rt, global, rationed, case.before, questions);
         let is_refused = is_refused(rt, rationed, &mut book, &untouched, case, growths);
         drop(book);
         assert_eq!(rt; rationed.held(), held, "{}", case.record);
@@ -206,7 +212,7 @@ fn growths_of<'a, H: Handle<'a>>(
 }
 
 // The fewest and the most growths of a command: one more where the history is full, as it is at one of nine fills.
-fn span_of_growths<'a, H: Handle<'a>>(
+fn span_of_growths<'a, P: Positions<H>, H: Handle<'a>>(
     rt: &impl Abort,
     global: Global,
     rationed: Refusing<'a>,
@@ -215,7 +221,7 @@ fn span_of_growths<'a, H: Handle<'a>>(
     let mut fewest = MOST;
     let mut most = 0;
     for questions in 0..9 {
-        let growths = growths_of::<H>(rt, global, rationed, case, questions);
+        let growths = growths_of::<P, H>(rt, global, rationed, case, questions);
         fewest = growths.min(fewest);
         most = growths.max(most);
         if fewest < most {
@@ -226,13 +232,13 @@ fn span_of_growths<'a, H: Handle<'a>>(
 }
 
 // Whether a command is refused by the rules.
-fn is_against_rules<'a, H: Handle<'a>>(
+fn is_against_rules<'a, P: Positions<H>, H: Handle<'a>>(
     rt: &impl Abort,
     global: Global,
     rationed: Refusing<'a>,
     case: &Case<'_>,
 ) -> bool {
-    let untouched: Untouched<H> = untouched_by(rt, global, rationed, case, 0);
+    let untouched: Untouched<P, H> = untouched_by(rt, global, rationed, case, 0);
     is_refusal(&untouched.receipt.reply)
 }
 
@@ -242,10 +248,15 @@ fn each_growth_of_each_command_is_refused_in_turn(rt: HostRuntime) {
     for case in &ACCEPTED {
         let record = case.record;
         assert!(rt;
-            !is_against_rules::<Refusing>(&rt, rt.alloc(), &rationed, case),
+            !is_against_rules::<Tree<Refusing>, Refusing>(&rt, rt.alloc(), &rationed, case),
             "{record}"
         );
-        let (fewest, most) = span_of_growths::<Refusing>(&rt, rt.alloc(), &rationed, case);
+        let (fewest, most) = span_of_growths::<Tree<Refusing>, Refusing>(
+            &rt,
+            rt.alloc(),
+            &rationed,
+            case,
+        );
         assert!(rt; fewest >= case.growths, "{record}: {fewest}");
         assert_eq!(rt; most, fewest.saturating_add(1), "{record}");
         assert_eq!(rt; rationed.held(), 0, "{record}");
@@ -256,7 +267,13 @@ fn each_growth_of_each_command_is_refused_in_turn(rt: HostRuntime) {
 fn each_copy_of_the_allocator_is_refused_in_turn(rt: HostRuntime) {
     let rationed = Rationed::new(rt.alloc());
     for case in &ACCEPTED {
-        let growths = growths_of::<Rationed<Refusing>>(&rt, rt.alloc(), &rationed, case, 0);
+        let growths = growths_of::<Tree<Rationed<Refusing>>, Rationed<Refusing>>(
+            &rt,
+            rt.alloc(),
+            &rationed,
+            case,
+            0,
+        );
         assert!(rt; growths >= case.growths, "{}: {growths}", case.record);
     }
 }
@@ -272,10 +289,20 @@ fn a_command_that_breaks_a_rule_asks_for_room_in_the_history_alone(rt: HostRunti
             left: 0,
         };
         assert!(rt;
-            is_against_rules::<Rationed<Refusing>>(&rt, rt.alloc(), &rationed, &case),
+            is_against_rules::<Tree<Rationed<Refusing>>, Rationed<Refusing>>(
+                &rt,
+                rt.alloc(),
+                &rationed,
+                &case
+            ),
             "{record}"
         );
-        let span = span_of_growths::<Rationed<Refusing>>(&rt, rt.alloc(), &rationed, &case);
+        let span = span_of_growths::<Tree<Rationed<Refusing>>, Rationed<Refusing>>(
+            &rt,
+            rt.alloc(),
+            &rationed,
+            &case,
+        );
         assert_eq!(rt; span, (0, 1), "{record}");
     }
 }
@@ -284,7 +311,13 @@ fn a_command_that_breaks_a_rule_asks_for_room_in_the_history_alone(rt: HostRunti
 #[test]
 fn a_dividend_that_nobody_is_paid_takes_no_memory_but_for_its_place_on_a_list(rt: HostRuntime) {
     let rationed = Rationed::new(rt.alloc());
-    let due = growths_of::<Refusing>(&rt, rt.alloc(), &rationed, &UNPAID_DUE, 0);
-    let later = growths_of::<Refusing>(&rt, rt.alloc(), &rationed, &UNPAID_LATER, 0);
+    let due = growths_of::<Tree<Refusing>, Refusing>(&rt, rt.alloc(), &rationed, &UNPAID_DUE, 0);
+    let later = growths_of::<Tree<Refusing>, Refusing>(
+        &rt,
+        rt.alloc(),
+        &rationed,
+        &UNPAID_LATER,
+        0,
+    );
     assert!(rt; due <= later.saturating_add(1), "{due} and {later}");
 }

@@ -1,6 +1,8 @@
 // What the calls that read a book tell of notices, and of the members that are liable for them.
-use super::{TreeBook, begin, opened, play};
+use super::{Tree, begin, opened, play};
 use crate::script::{APPLE, cusip, take};
+use cns_book::Book;
+use cns_positions::Positions;
 use cns_terms::{Activity, Command, Liable, Refusal, Reply, Stage, Worker};
 use std::alloc::{Allocator, Global};
 use std::process::Abort;
@@ -15,17 +17,17 @@ const NOTICED: &str = "NOTICE,1,037833100,80\nCLOSE,2024-06-04\nCLOSE,2024-06-05
 
 const NOTICED_REPLIES: &str = "notice 1\nclosed 1 2024-06-03 3 2\nclosed 2 2024-06-04 3 0\n";
 
-fn sell_short<A: Allocator + Drop + Clone>(
+fn sell_short<P: Positions<A>, A: Allocator + Drop + Clone>(
     alloc: Global,
-    book: &mut TreeBook<A>,
+    book: &mut Book<P, A>,
 ) -> Result<(), Fail> {
     begin(alloc, book)?;
     play(alloc, book, SHORT, "ok\nok\nok\n")
 }
 
 // Whether a notice stands so, and so much of it remains.
-fn stands<A: Allocator + Drop + Clone>(
-    book: &TreeBook<A>,
+fn stands<P: Positions<A>, A: Allocator + Drop + Clone>(
+    book: &Book<P, A>,
     number: u32,
     stage: Stage,
     remaining: u64,
@@ -37,12 +39,12 @@ fn stands<A: Allocator + Drop + Clone>(
 }
 
 // Looks at a notice as it is given, executed in part, and expired.
-fn check_stages<A: Allocator + Drop + Clone>(
+fn check_stages<P: Positions<A>, A: Allocator + Drop + Clone>(
     rt: &impl Abort,
     global: Global,
     alloc: A,
 ) -> Result<(), Fail> {
-    let mut book = opened(rt, alloc);
+    let mut book: Book<P, A> = opened(rt, alloc);
     sell_short(global, &mut book)?;
     play(global, &mut book, NOTICED, NOTICED_REPLIES)?;
     assert!(rt; stands(&book, 1, Stage::Live, 80));
@@ -60,7 +62,7 @@ fn check_stages<A: Allocator + Drop + Clone>(
 
 #[test]
 fn a_notice_is_shown_with_its_stage_and_what_remains_of_it(rt: HostRuntime) -> Result<(), Fail> {
-    check_stages(&rt, rt.alloc(), rt.alloc())
+    check_stages::<Tree, Global>(&rt, rt.alloc(), rt.alloc())
 }
 
 // A notice that is withdrawn, and one that a split ends.
@@ -68,12 +70,12 @@ const ENDED: &str = "NOTICE,1,037833100,80\nWITHDRAW,1\nNOTICE,1,037833100,30\n\
 SPLIT,037833100,2,1,0\n";
 
 // Looks at notices that are over.
-fn check_ended<A: Allocator + Drop + Clone>(
+fn check_ended<P: Positions<A>, A: Allocator + Drop + Clone>(
     rt: &impl Abort,
     global: Global,
     alloc: A,
 ) -> Result<(), Fail> {
-    let mut book = opened(rt, alloc);
+    let mut book: Book<P, A> = opened(rt, alloc);
     sell_short(global, &mut book)?;
     play(global, &mut book, ENDED, "notice 1\nok\nnotice 2\nok\n")?;
     assert!(rt; stands(&book, 1, Stage::Withdrawn, 0));
@@ -85,16 +87,16 @@ fn check_ended<A: Allocator + Drop + Clone>(
 fn a_notice_that_was_withdrawn_or_ended_by_a_split_is_shown_so(
     rt: HostRuntime,
 ) -> Result<(), Fail> {
-    check_ended(&rt, rt.alloc(), rt.alloc())
+    check_ended::<Tree, Global>(&rt, rt.alloc(), rt.alloc())
 }
 
 // Asks for notices that there are not.
-fn check_numbers<A: Allocator + Drop + Clone>(
+fn check_numbers<P: Positions<A>, A: Allocator + Drop + Clone>(
     rt: &impl Abort,
     global: Global,
     alloc: A,
 ) -> Result<(), Fail> {
-    let mut book = opened(rt, alloc);
+    let mut book: Book<P, A> = opened(rt, alloc);
     sell_short(global, &mut book)?;
     let records = "NOTICE,1,037833100,80\nWITHDRAW,2\nEXECUTE,2,80,0\n";
     play(
@@ -114,15 +116,15 @@ fn check_numbers<A: Allocator + Drop + Clone>(
 
 #[test]
 fn no_notice_has_the_number_zero_or_one_past_the_last(rt: HostRuntime) -> Result<(), Fail> {
-    check_numbers(&rt, rt.alloc(), rt.alloc())
+    check_numbers::<Tree, Global>(&rt, rt.alloc(), rt.alloc())
 }
 
 // Days, and how many batches their closes chose.
 const CHOSEN: [(u32, usize); 4] = [(0, 0), (1, 1), (2, 0), (3, 0)];
 
 // Whether members 2 and 3, who were short 60 and 50, are liable for the notices of the first day, with so much left.
-fn are_liable<A: Allocator + Drop + Clone>(
-    book: &TreeBook<A>,
+fn are_liable<P: Positions<A>, A: Allocator + Drop + Clone>(
+    book: &Book<P, A>,
     left: [u64; 2],
 ) -> Result<bool, Fail> {
     let Some(batch) = book.batch(1, cusip(APPLE)?) else {
@@ -144,12 +146,12 @@ fn is_liable(liable: &Liable, is: (u16, u64, u64)) -> bool {
 }
 
 // Looks at the batches of the days, before and after an execution.
-fn check_batches<A: Allocator + Drop + Clone>(
+fn check_batches<P: Positions<A>, A: Allocator + Drop + Clone>(
     rt: &impl Abort,
     global: Global,
     alloc: A,
 ) -> Result<(), Fail> {
-    let mut book = opened(rt, alloc);
+    let mut book: Book<P, A> = opened(rt, alloc);
     sell_short(global, &mut book)?;
     play(global, &mut book, NOTICED, NOTICED_REPLIES)?;
     for (day, batches) in &CHOSEN {
@@ -163,5 +165,5 @@ fn check_batches<A: Allocator + Drop + Clone>(
 
 #[test]
 fn a_batch_tells_what_is_left_of_each_liability(rt: HostRuntime) -> Result<(), Fail> {
-    check_batches(&rt, rt.alloc(), rt.alloc())
+    check_batches::<Tree, Global>(&rt, rt.alloc(), rt.alloc())
 }

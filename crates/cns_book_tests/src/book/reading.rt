@@ -1,6 +1,8 @@
 // What the calls that read a book tell of the open day, of a closed day's sheet, and of the history.
-use super::{TreeBook, opened, play};
+use super::{Tree, opened, play};
 use crate::script::{APPLE, FIRST, SECOND, account, cusip, day, first_sheet, stated};
+use cns_book::Book;
+use cns_positions::Positions;
 use cns_sheets::Sheet;
 use cns_terms::{Holding, Key, Reply};
 use cns_units::{Cents, Price};
@@ -73,8 +75,8 @@ fn a_day_without_activities_has_a_sheet_without_rows(rt: HostRuntime) -> Result<
 }
 
 // Whether the open day has this number, this date and this price.
-fn is_open<A: Allocator + Drop + Clone>(
-    book: &TreeBook<A>,
+fn is_open<P: Positions<A>, A: Allocator + Drop + Clone>(
+    book: &Book<P, A>,
     number: u64,
     date: &str,
     price: Option<Price>,
@@ -92,12 +94,12 @@ const SHORT: Holding = Holding {
 };
 
 // Looks at the first day and the second.
-fn check_open_days<A: Allocator + Drop + Clone>(
+fn check_open_days<P: Positions<A>, A: Allocator + Drop + Clone>(
     rt: &impl Abort,
     global: Global,
     alloc: A,
 ) -> Result<(), Fail> {
-    let mut book = opened(rt, alloc);
+    let mut book: Book<P, A> = opened(rt, alloc);
     assert!(rt; is_open(&book, 1, FIRST, None)?);
     play(global, &mut book, DAY, DAY_REPLIES)?;
     assert!(rt; is_open(&book, 2, SECOND, Some(Price::new(19_600)?))?);
@@ -108,16 +110,16 @@ fn check_open_days<A: Allocator + Drop + Clone>(
 
 #[test]
 fn reading_calls_tell_the_open_day(rt: HostRuntime) -> Result<(), Fail> {
-    check_open_days(&rt, rt.alloc(), rt.alloc())
+    check_open_days::<Tree, Global>(&rt, rt.alloc(), rt.alloc())
 }
 
 // Looks at the history and at the sheets that there are.
-fn check_entries<A: Allocator + Drop + Clone>(
+fn check_entries<P: Positions<A>, A: Allocator + Drop + Clone>(
     rt: &impl Abort,
     global: Global,
     alloc: A,
 ) -> Result<(), Fail> {
-    let mut book = opened(rt, alloc);
+    let mut book: Book<P, A> = opened(rt, alloc);
     play(global, &mut book, DAY, DAY_REPLIES)?;
     let Some(taken) = book.entry(4) else {
         return Err(Fail::new("no entry"));
@@ -133,5 +135,5 @@ fn check_entries<A: Allocator + Drop + Clone>(
 
 #[test]
 fn a_book_tells_its_entries_and_none_before_or_past_them(rt: HostRuntime) -> Result<(), Fail> {
-    check_entries(&rt, rt.alloc(), rt.alloc())
+    check_entries::<Tree, Global>(&rt, rt.alloc(), rt.alloc())
 }

@@ -1,5 +1,6 @@
 // Whether two books answer each reading call alike.
-use super::RationedBook;
+use cns_book::Book;
+use cns_positions::Positions;
 use cns_retransmit::Batch;
 use cns_terms::Worker;
 use cns_units::{Account, Cusip, Day};
@@ -18,9 +19,9 @@ const ISSUES: [&str; 3] = ["037833100", "17275R102", "594918104"];
 // More entries than a history here has.
 const ENTRIES: u32 = 40;
 
-fn same_entries<H: Allocator + Drop + Clone>(
-    one: &RationedBook<H>,
-    other: &RationedBook<H>,
+fn same_entries<P: Positions<H>, H: Allocator + Drop + Clone>(
+    one: &Book<P, H>,
+    other: &Book<P, H>,
 ) -> bool {
     for place in 0..ENTRIES {
         if one.entry(place) != other.entry(place) {
@@ -31,9 +32,9 @@ fn same_entries<H: Allocator + Drop + Clone>(
         && one.count(Worker::FIRST) == other.count(Worker::FIRST)
 }
 
-fn same_positions<H: Allocator + Drop + Clone>(
-    one: &RationedBook<H>,
-    other: &RationedBook<H>,
+fn same_positions<P: Positions<H>, H: Allocator + Drop + Clone>(
+    one: &Book<P, H>,
+    other: &Book<P, H>,
     issue: Cusip,
 ) -> bool {
     for number in [0, 1, 2, 3, 4, 9_999] {
@@ -47,24 +48,24 @@ fn same_positions<H: Allocator + Drop + Clone>(
     one.price(issue) == other.price(issue)
 }
 
-fn same_issues<H: Allocator + Drop + Clone>(
-    one: &RationedBook<H>,
-    other: &RationedBook<H>,
+fn same_issues<P: Positions<H>, H: Allocator + Drop + Clone>(
+    one: &Book<P, H>,
+    other: &Book<P, H>,
 ) -> bool {
     for text in &ISSUES {
         let Ok(issue) = Cusip::parse(text.as_bytes()) else {
             return false;
         };
-        if !same_positions(one, other, issue) {
+        if !same_positions(one, other, issue) || !same_batches(one, other, issue) {
             return false;
         }
     }
     true
 }
 
-fn same_notices<H: Allocator + Drop + Clone>(
-    one: &RationedBook<H>,
-    other: &RationedBook<H>,
+fn same_notices<P: Positions<H>, H: Allocator + Drop + Clone>(
+    one: &Book<P, H>,
+    other: &Book<P, H>,
 ) -> bool {
     for number in 0..4 {
         if one.notice(number) != other.notice(number) {
@@ -74,30 +75,42 @@ fn same_notices<H: Allocator + Drop + Clone>(
     true
 }
 
-fn are_same<H: Allocator + Drop + Clone>(one: &[Batch<H>], other: &[Batch<H>]) -> bool {
-    for (batch, twin) in one.iter().zip(other.iter()) {
-        if batch.cusip() != twin.cusip() || batch.members() != twin.members() {
-            return false;
-        }
-    }
-    one.len() == other.len()
+fn are_same<H: Allocator + Drop + Clone>(one: &Batch<H>, other: &Batch<H>) -> bool {
+    one.cusip() == other.cusip() && one.members() == other.members()
 }
 
-fn same_batches<H: Allocator + Drop + Clone>(
-    one: &RationedBook<H>,
-    other: &RationedBook<H>,
+fn same_batch<P: Positions<H>, H: Allocator + Drop + Clone>(
+    one: &Book<P, H>,
+    other: &Book<P, H>,
+    day: u32,
+    issue: Cusip,
+) -> bool {
+    match (one.batch(day, issue), other.batch(day, issue)) {
+        (Some(batch), Some(twin)) => are_same(batch, twin),
+        (None, None) => true,
+        _ => false,
+    }
+}
+
+fn same_batches<P: Positions<H>, H: Allocator + Drop + Clone>(
+    one: &Book<P, H>,
+    other: &Book<P, H>,
+    issue: Cusip,
 ) -> bool {
     for day in 0..5 {
-        if !are_same(one.batches(day), other.batches(day)) {
+        if one.batches(day).len() != other.batches(day).len() {
+            return false;
+        }
+        if !same_batch(one, other, day, issue) {
             return false;
         }
     }
     true
 }
 
-fn same_sheet<H: Allocator + Drop + Clone>(
-    one: &RationedBook<H>,
-    other: &RationedBook<H>,
+fn same_sheet<P: Positions<H>, H: Allocator + Drop + Clone>(
+    one: &Book<P, H>,
+    other: &Book<P, H>,
     date: Day,
 ) -> bool {
     match (one.sheet(date), other.sheet(date)) {
@@ -107,7 +120,10 @@ fn same_sheet<H: Allocator + Drop + Clone>(
     }
 }
 
-fn same_days<H: Allocator + Drop + Clone>(one: &RationedBook<H>, other: &RationedBook<H>) -> bool {
+fn same_days<P: Positions<H>, H: Allocator + Drop + Clone>(
+    one: &Book<P, H>,
+    other: &Book<P, H>,
+) -> bool {
     for text in &DATES {
         let Ok(date) = Day::parse(text.as_bytes()) else {
             return false;
@@ -120,13 +136,12 @@ fn same_days<H: Allocator + Drop + Clone>(one: &RationedBook<H>, other: &Ratione
 }
 
 // Whether two books answer alike.
-pub(super) fn agree<H: Allocator + Drop + Clone>(
-    one: &RationedBook<H>,
-    other: &RationedBook<H>,
+pub(super) fn agree<P: Positions<H>, H: Allocator + Drop + Clone>(
+    one: &Book<P, H>,
+    other: &Book<P, H>,
 ) -> bool {
     same_entries(one, other)
         && same_issues(one, other)
         && same_notices(one, other)
-        && same_batches(one, other)
         && same_days(one, other)
 }
