@@ -1,9 +1,11 @@
 // What the calls that read a book tell of notices, and of the members that are liable for them.
 use super::{Tree, begin, opened, play};
 use crate::script::{APPLE, cusip, take};
-use cns_book::Book;
+use cns_book::{Book, Notice};
 use cns_positions::Positions;
+use cns_retransmit::Batch;
 use cns_terms::{Activity, Command, Liable, Refusal, Reply, Stage, Worker};
+use cns_units::Cusip;
 use std::alloc::{Allocator, Global};
 use std::process::Abort;
 use std::test::Fail;
@@ -25,6 +27,14 @@ fn sell_short<P: Positions<A>, A: Allocator + Drop + Clone>(
     play(alloc, book, SHORT, "ok\nok\nok\n")
 }
 
+// A notice that a book shows. A check of a caller need not go through what the call promises.
+fn shown<P: Positions<A>, A: Allocator + Drop + Clone>(
+    book: &Book<P, A>,
+    number: u32,
+) -> Option<Notice> {
+    book.notice(number)
+}
+
 // Whether a notice stands so, and so much of it remains.
 fn stands<P: Positions<A>, A: Allocator + Drop + Clone>(
     book: &Book<P, A>,
@@ -32,7 +42,7 @@ fn stands<P: Positions<A>, A: Allocator + Drop + Clone>(
     stage: Stage,
     remaining: u64,
 ) -> bool {
-    match book.notice(number) {
+    match shown(book, number) {
         Some(notice) => notice.stage == stage && notice.remaining == remaining,
         None => false,
     }
@@ -109,8 +119,8 @@ fn check_numbers<P: Positions<A>, A: Allocator + Drop + Clone>(
     let zeroth = Command::Activity(Activity::Withdraw(0));
     let receipt = take(&mut book, Worker::FIRST, zeroth)?;
     assert!(rt; receipt.reply == Reply::Refused(Refusal::NoSuchNotice));
-    assert!(rt; book.notice(0).is_none());
-    assert!(rt; book.notice(2).is_none());
+    assert!(rt; shown(&book, 0).is_none());
+    assert!(rt; shown(&book, 2).is_none());
     Ok(())
 }
 
@@ -122,18 +132,30 @@ fn no_notice_has_the_number_zero_or_one_past_the_last(rt: HostRuntime) -> Result
 // Days, and how many batches their closes chose.
 const CHOSEN: [(u32, usize); 4] = [(0, 0), (1, 1), (2, 0), (3, 0)];
 
+// The batch of the first day.
+fn batch<P: Positions<A>, A: Allocator + Drop + Clone>(
+    book: &Book<P, A>,
+    issue: Cusip,
+) -> Option<&Batch<A>> {
+    book.batch(1, issue)
+}
+
 // Whether members 2 and 3, who were short 60 and 50, are liable for the notices of the first day, with so much left.
 fn are_liable<P: Positions<A>, A: Allocator + Drop + Clone>(
     book: &Book<P, A>,
     left: [u64; 2],
 ) -> Result<bool, Fail> {
-    let Some(batch) = book.batch(1, cusip(APPLE)?) else {
-        return Ok(false);
-    };
-    let [two, three] = batch.members() else {
-        return Ok(false);
-    };
-    Ok(is_liable(two, (2, 60, left[0])) && is_liable(three, (3, 50, left[1])))
+    match batch(book, cusip(APPLE)?) {
+        Some(batch) => Ok(are_these(batch.members(), left)),
+        None => Ok(false),
+    }
+}
+
+fn are_these(members: &[Liable], left: [u64; 2]) -> bool {
+    match members {
+        [two, three] => is_liable(two, (2, 60, left[0])) && is_liable(three, (3, 50, left[1])),
+        _ => false,
+    }
 }
 
 // Whether it is this member with this closing position, so much of which is left, after one close.

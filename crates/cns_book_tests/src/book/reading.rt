@@ -4,7 +4,7 @@ use crate::script::{APPLE, FIRST, SECOND, account, cusip, day, first_sheet, stat
 use cns_book::Book;
 use cns_positions::Positions;
 use cns_sheets::Sheet;
-use cns_terms::{Holding, Key, Reply};
+use cns_terms::{Holding, Key, Reply, Taken};
 use cns_units::{Cents, Price};
 use std::alloc::{Allocator, Global};
 use std::process::Abort;
@@ -93,6 +93,14 @@ const SHORT: Holding = Holding {
     run: 1,
 };
 
+// What a member holds.
+fn held<P: Positions<A>, A: Allocator + Drop + Clone>(
+    book: &Book<P, A>,
+    number: u16,
+) -> Result<Option<Holding>, Fail> {
+    Ok(book.position(account(number)?, cusip(APPLE)?))
+}
+
 // Looks at the first day and the second.
 fn check_open_days<P: Positions<A>, A: Allocator + Drop + Clone>(
     rt: &impl Abort,
@@ -103,14 +111,28 @@ fn check_open_days<P: Positions<A>, A: Allocator + Drop + Clone>(
     assert!(rt; is_open(&book, 1, FIRST, None)?);
     play(global, &mut book, DAY, DAY_REPLIES)?;
     assert!(rt; is_open(&book, 2, SECOND, Some(Price::new(19_600)?))?);
-    let held = book.position(account(2)?, cusip(APPLE)?);
-    assert!(rt; held == Some(SHORT));
+    assert!(rt; held(&book, 2)? == Some(SHORT));
     Ok(())
 }
 
 #[test]
 fn reading_calls_tell_the_open_day(rt: HostRuntime) -> Result<(), Fail> {
     check_open_days::<Tree, Global>(&rt, rt.alloc(), rt.alloc())
+}
+
+// An entry of a book. A check of a caller need not go through what the call promises.
+fn entry<P: Positions<A>, A: Allocator + Drop + Clone>(
+    book: &Book<P, A>,
+    place: u32,
+) -> Option<Taken> {
+    book.entry(place)
+}
+
+fn has_sheet<P: Positions<A>, A: Allocator + Drop + Clone>(
+    book: &Book<P, A>,
+    date: &str,
+) -> Result<bool, Fail> {
+    Ok(book.sheet(day(date)?).is_some())
 }
 
 // Looks at the history and at the sheets that there are.
@@ -121,15 +143,15 @@ fn check_entries<P: Positions<A>, A: Allocator + Drop + Clone>(
 ) -> Result<(), Fail> {
     let mut book: Book<P, A> = opened(rt, alloc);
     play(global, &mut book, DAY, DAY_REPLIES)?;
-    let Some(taken) = book.entry(4) else {
+    let Some(taken) = entry(&book, 4) else {
         return Err(Fail::new("no entry"));
     };
     assert!(rt; taken.reply == Reply::Accepted);
     assert!(rt; taken.seq == 4);
-    assert!(rt; book.entry(0).is_none());
-    assert!(rt; book.entry(7).is_none());
-    assert!(rt; book.sheet(day(FIRST)?).is_some());
-    assert!(rt; book.sheet(day(SECOND)?).is_none());
+    assert!(rt; entry(&book, 0).is_none());
+    assert!(rt; entry(&book, 7).is_none());
+    assert!(rt; has_sheet(&book, FIRST)?);
+    assert!(rt; !has_sheet(&book, SECOND)?);
     Ok(())
 }
 
