@@ -4,7 +4,7 @@ mod buy_ins;
 mod heap;
 mod reading;
 
-use crate::script::{FIRST, command, commands, take, tell};
+use crate::script::{FIRST, are_same, command, commands, take, tell};
 use cns_book::{Book, TakeFault};
 use cns_positions::{Positions, TreePositions};
 use cns_terms::{Activity, Command, Reply, Trade, Worker};
@@ -159,7 +159,7 @@ fn check_many<P: Positions<A>, A: Allocator + Drop + Clone>(
     for reference in 1..=25_000 {
         let next = Command::Activity(Activity::Trade(Trade { reference, ..trade }));
         let receipt = take(&mut book, Worker::FIRST, next)?;
-        assert!(rt; receipt.reply == Reply::Accepted, "{reference}");
+        assert!(rt; are_same(&receipt.reply, &Reply::Accepted), "{reference}");
     }
     assert!(rt; book.history_len() == 25_003);
     Ok(())

@@ -105,6 +105,11 @@ fn copied(sheet: &Arc<Sheet<Global>>) -> Result<Arc<Sheet<Global>>, Fail> {
     }
 }
 
+// Whether two replies are the same. A check of a caller need not go through all that a reply may be.
+pub(crate) fn are_same(one: &Reply, other: &Reply) -> bool {
+    one == other
+}
+
 // Puts the line of a reply after a text.
 pub(crate) fn tell(text: &mut Vec<u8>, reply: &Reply) -> Result<(), Fail> {
     match reply_text(reply, text) {

@@ -1,6 +1,6 @@
 // What the calls that read a book tell of notices, and of the members that are liable for them.
 use super::{Tree, begin, opened, play};
-use crate::script::{APPLE, cusip, take};
+use crate::script::{APPLE, are_same, cusip, take};
 use cns_book::{Book, Notice};
 use cns_positions::Positions;
 use cns_retransmit::Batch;
@@ -100,6 +100,8 @@ fn a_notice_that_was_withdrawn_or_ended_by_a_split_is_shown_so(
     check_ended::<Tree, Global>(&rt, rt.alloc(), rt.alloc())
 }
 
+const NO_SUCH_NOTICE: Reply = Reply::Refused(Refusal::NoSuchNotice);
+
 // Asks for notices that there are not.
 fn check_numbers<P: Positions<A>, A: Allocator + Drop + Clone>(
     rt: &impl Abort,
@@ -118,7 +120,7 @@ fn check_numbers<P: Positions<A>, A: Allocator + Drop + Clone>(
     // No record has a notice with the number zero.
     let zeroth = Command::Activity(Activity::Withdraw(0));
     let receipt = take(&mut book, Worker::FIRST, zeroth)?;
-    assert!(rt; receipt.reply == Reply::Refused(Refusal::NoSuchNotice));
+    assert!(rt; are_same(&receipt.reply, &NO_SUCH_NOTICE));
     assert!(rt; shown(&book, 0).is_none());
     assert!(rt; shown(&book, 2).is_none());
     Ok(())

@@ -1,6 +1,6 @@
 // A book in a small heap.
 use super::{MEMBERS, opened, play, trade};
-use crate::script::{FIRST, day};
+use crate::script::{FIRST, are_same, day};
 use cns_book::{Book, TakeFault};
 use cns_positions::{Positions, TreePositions};
 use cns_terms::{Activity, Command, Holding, Key, Reply, Row, Trade, Worker};
@@ -44,7 +44,7 @@ fn exhaust<P: Positions<A>, A: Allocator + Drop + Clone>(
         let before = show(book, account, issue)?;
         let next = Command::Activity(Activity::Trade(Trade { reference, ..trade }));
         match book.take(Worker::FIRST, next) {
-            Ok(receipt) if receipt.reply == Reply::Accepted => {}
+            Ok(receipt) if are_same(&receipt.reply, &Reply::Accepted) => {}
             Err(TakeFault::NoMemory) => return Ok((before, show(book, account, issue)?)),
             _ => return Err(Fail::new("not accepted")),
         }

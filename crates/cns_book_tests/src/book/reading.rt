@@ -1,6 +1,6 @@
 // What the calls that read a book tell of the open day, of a closed day's sheet, and of the history.
 use super::{Tree, opened, play};
-use crate::script::{APPLE, FIRST, SECOND, account, cusip, day, first_sheet, stated};
+use crate::script::{APPLE, FIRST, SECOND, account, are_same, cusip, day, first_sheet, stated};
 use cns_book::Book;
 use cns_positions::Positions;
 use cns_sheets::Sheet;
@@ -146,7 +146,7 @@ fn check_entries<P: Positions<A>, A: Allocator + Drop + Clone>(
     let Some(taken) = entry(&book, 4) else {
         return Err(Fail::new("no entry"));
     };
-    assert!(rt; taken.reply == Reply::Accepted);
+    assert!(rt; are_same(&taken.reply, &Reply::Accepted));
     assert!(rt; taken.seq == 4);
     assert!(rt; entry(&book, 0).is_none());
     assert!(rt; entry(&book, 7).is_none());

@@ -2,7 +2,7 @@
 use super::gates::Meeting;
 use super::inputs::ending;
 use super::lots::{Lot, closing};
-use crate::script::{FIRST, day, take};
+use crate::script::{FIRST, are_same, day, take};
 use cns_book::Book;
 use cns_desk::{DeskBook, End, Outcome, run_workers};
 use cns_positions::Positions;
@@ -86,7 +86,7 @@ fn gives_replies<P: Positions<Global>>(
 ) -> Result<bool, Fail> {
     for entry in history {
         let receipt = take(book, entry.worker, entry.command)?;
-        if receipt.reply != entry.reply || receipt.seq != entry.seq {
+        if receipt.seq != entry.seq || !are_same(&receipt.reply, &entry.reply) {
             return Ok(false);
         }
     }

@@ -1,7 +1,7 @@
 // Commands under a seat, by one caller.
 ghost use Rattle.std.specs.Prelude.{◌≡◌};
 
-use crate::script::{FIRST, SECOND, commands, day, stated, tell};
+use crate::script::{FIRST, SECOND, are_same, commands, day, stated, tell};
 use cns_desk::{Desk, Kept, OpenFault, Seat};
 use cns_positions::TreePositions;
 use cns_sheets::Sheet;
@@ -149,7 +149,7 @@ fn check_seat<R: Abort + Wait, L: Ledger>(
     assert!(rt; text.as_slice() == b"statement 0 2024-06-03 0 0.00 0.00\n".as_slice());
     assert!(rt; is_as_closed(alloc, &sheet)?);
     let (reply, none) = handed(rt, desk, seat, SECOND)?;
-    assert!(rt; reply == Reply::Refused(Refusal::NoSuchDay));
+    assert!(rt; are_same(&reply, &Reply::Refused(Refusal::NoSuchDay)));
     assert!(rt; none.is_none());
     submit(rt, alloc, desk, seat, LATER, LATER_REPLIES)?;
     assert!(rt; is_as_closed(alloc, &sheet)?);
