@@ -5,7 +5,7 @@ use cns_book::Book;
 use cns_positions::Positions;
 use cns_sheets::Sheet;
 use cns_terms::{Holding, Key, Reply, Taken};
-use cns_units::{Cents, Price};
+use cns_units::{Cents, Day, Price};
 use std::alloc::{Allocator, Global};
 use std::process::Abort;
 use std::test::Fail;
@@ -74,6 +74,17 @@ fn a_day_without_activities_has_a_sheet_without_rows(rt: HostRuntime) -> Result<
     Ok(())
 }
 
+// The number and the date of the open day. A check of a caller need not go through what these calls promise.
+fn open_day<P: Positions<A>, A: Allocator + Drop + Clone>(book: &Book<P, A>) -> (u64, Day) {
+    (book.day(), book.today())
+}
+
+fn shown_price<P: Positions<A>, A: Allocator + Drop + Clone>(
+    book: &Book<P, A>,
+) -> Result<Option<Price>, Fail> {
+    Ok(book.price(cusip(APPLE)?))
+}
+
 // Whether the open day has this number, this date and this price.
 fn is_open<P: Positions<A>, A: Allocator + Drop + Clone>(
     book: &Book<P, A>,
@@ -81,8 +92,8 @@ fn is_open<P: Positions<A>, A: Allocator + Drop + Clone>(
     date: &str,
     price: Option<Price>,
 ) -> Result<bool, Fail> {
-    let is_day = book.day() == number && book.today() == day(date)?;
-    Ok(is_day && book.price(cusip(APPLE)?) == price)
+    let is_day = open_day(book) == (number, day(date)?);
+    Ok(is_day && shown_price(book)? == price)
 }
 
 // Member 2 on the second day.
