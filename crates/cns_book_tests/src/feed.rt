@@ -46,6 +46,16 @@ fn held<P: Positions<Global>>(
     Ok(book.position(account(number)?, cusip(APPLE)?))
 }
 
+// What a member holds after the records.
+fn held_after<P: Positions<Global>>(
+    alloc: Global,
+    records: &[u8],
+    number: u16,
+) -> Result<Option<Holding>, Fail> {
+    let book: Book<P, Global> = loaded(alloc, records)?;
+    held(&book, number)
+}
+
 // Member 202 after the records.
 const SOLD: Holding = Holding {
     now: -100,
@@ -56,8 +66,8 @@ const SOLD: Holding = Holding {
 
 #[test]
 fn a_load_keeps_positions(rt: HostRuntime) -> Result<(), Fail> {
-    let book = loaded(rt.alloc(), POSITION_INPUT.as_bytes())?;
-    assert!(rt; held(&book, 202)? == Some(SOLD));
+    let held = held_after::<TreePositions<Global>>(rt.alloc(), POSITION_INPUT.as_bytes(), 202)?;
+    assert!(rt; held == Some(SOLD));
     Ok(())
 }
 

@@ -1,8 +1,7 @@
 // Commands, replies and statements as the texts that a clerk reads.
 use cns_book::{Book, Receipt};
-use cns_desk::DeskBook;
-use cns_feed::{CsvSource, load, reply_text};
-use cns_positions::Positions;
+use cns_feed::{CsvSource, load_on, reply_text};
+use cns_positions::{Positions, TreePositions};
 use cns_sheets::Sheet;
 use cns_statements::{statement, write_statement};
 use cns_terms::{Command, Item, Reply, Source, Worker};
@@ -75,8 +74,11 @@ pub(crate) fn take<P: Positions<A>, A: Allocator + Drop + Clone>(
 }
 
 // The book that has taken the commands of the records.
-pub(crate) fn loaded(alloc: Global, records: &[u8]) -> Result<DeskBook, Fail> {
-    match load(alloc, records, day(FIRST)?) {
+pub(crate) fn loaded<P: Positions<Global>>(
+    alloc: Global,
+    records: &[u8],
+) -> Result<Book<P, Global>, Fail> {
+    match load_on::<P, &[u8]>(alloc, records, day(FIRST)?) {
         Ok((book, _)) => Ok(book),
         Err(_) => Err(Fail::new("no book")),
     }
@@ -93,9 +95,17 @@ pub(crate) fn sheet_of<P: Positions<Global>>(
     }
 }
 
+fn sheet_after<P: Positions<Global>>(
+    alloc: Global,
+    records: &[u8],
+) -> Result<Arc<Sheet<Global>>, Fail> {
+    let book: Book<P, Global> = loaded(alloc, records)?;
+    sheet_of(&book, FIRST)
+}
+
 // The sheet of the first day after the records.
 pub(crate) fn first_sheet(alloc: Global, records: &[u8]) -> Result<Arc<Sheet<Global>>, Fail> {
-    sheet_of(&loaded(alloc, records)?, FIRST)
+    sheet_after::<TreePositions<Global>>(alloc, records)
 }
 
 fn copied(sheet: &Arc<Sheet<Global>>) -> Result<Arc<Sheet<Global>>, Fail> {
