@@ -57,10 +57,10 @@ fn submit<R: Eprint + Wait, L: Ledger>(
     rt: &R,
     desk: &TreeDesk<L>,
     seat: &mut Seat<L>,
-    command: Command,
+    command: &Command,
 ) -> Result<Receipt, Ending> {
     for _time in 0..2 {
-        match desk.submit(rt, seat, command) {
+        match desk.submit(rt, seat, *command) {
             Ok(receipt) => return Ok(receipt),
             Err(TakeFault::NoMemory) => name(rt, "submit")?,
             Err(_) => return Err(Ending::Failed),
@@ -128,19 +128,28 @@ fn ask<R: Eprint + Wait, L: Ledger, W: Write>(
     write_rows(output, handed.as_ref())
 }
 
-// Asks for the sheets of the day that a close closed and of the one that it opened.
-fn ask_both<R: Eprint + Wait, L: Ledger, W: Write>(
+// The days that a close closed and opened, None for another command.
+fn days(command: &Command, reply: &Reply) -> Option<[Day; 2]> {
+    match (command, reply) {
+        (Command::Activity(Activity::Close(next)), Reply::Closed(closed)) => {
+            Some([closed.date, *next])
+        }
+        _ => None,
+    }
+}
+
+// Asks for the sheets of the days that a close closed and opened.
+fn ask_all<R: Eprint + Wait, L: Ledger, W: Write>(
     rt: &R,
     desk: &TreeDesk<L>,
     seat: &mut Seat<L>,
-    taken: (Command, Reply),
+    dates: &[Day],
     output: &mut W,
 ) -> Result<(), Ending> {
-    let (Command::Activity(Activity::Close(next)), Reply::Closed(closed)) = taken else {
-        return Ok(());
-    };
-    ask(rt, desk, seat, closed.date, output)?;
-    ask(rt, desk, seat, next, output)
+    for date in dates {
+        ask(rt, desk, seat, *date, output)?;
+    }
+    Ok(())
 }
 
 /// Submits the commands and logs them, and asks for sheets after each close.
@@ -154,7 +163,7 @@ pub(crate) fn drive<R: Eprint + Wait, L: Ledger, W: Write>(
 ) -> Result<(), Ending> {
     let mut items = Log::new(alloc);
     for command in commands {
-        let receipt = submit(rt, desk, seat, *command)?;
+        let receipt = submit(rt, desk, seat, command)?;
         write_reply(output, &receipt.reply)?;
         let item = LogItem {
             receipt,
@@ -162,7 +171,9 @@ pub(crate) fn drive<R: Eprint + Wait, L: Ledger, W: Write>(
             sheet: None,
         };
         log(rt, &mut items, item)?;
-        ask_both(rt, desk, seat, (*command, receipt.reply), output)?;
+        if let Some(dates) = days(command, &receipt.reply) {
+            ask_all(rt, desk, seat, &dates, output)?;
+        }
     }
     Ok(())
 }
