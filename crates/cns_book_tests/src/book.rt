@@ -4,29 +4,28 @@ mod buy_ins;
 mod heap;
 mod reading;
 
-use crate::script::{FIRST, are_same, command, commands, take, tell};
+use crate::script::{are_same, command, commands, first_day, take, tell};
 use cns_book::{Book, TakeFault};
 use cns_positions::{Positions, TreePositions};
 use cns_terms::{Activity, Command, Reply, Trade, Worker};
-use cns_units::Day;
 use std::alloc::{Allocator, Global};
 use std::process::Abort;
 use std::test::Fail;
 
-// The form of positions that each test takes. All else is told over any form, which is less to check than over this one.
-type Tree = TreePositions<Global>;
+// The book of each test. All else is told over any form of positions, which is less to check than over this one.
+type TreeBook = Book<TreePositions<Global>, Global>;
 
 // Two members, and an issue.
 const MEMBERS: &str = "MEMBER,1\nMEMBER,2\nISSUE,037833100,19500\n";
 
+// The first day: member 1 buys 100 shares from member 2, and the price goes from 195.00 to 196.00.
+const DAY: &str = "MEMBER,1\nMEMBER,2\nISSUE,037833100,19500\n\
+TRADE,1,1,2,037833100,100,1950000,2024-06-03\nPRICE,037833100,19600\nCLOSE,2024-06-04\n";
+
+const DAY_REPLIES: &str = "ok\nok\nok\nok\nok\nclosed 1 2024-06-03 2 0\n";
+
 fn opened<P: Positions<A>, A: Allocator + Drop + Clone>(rt: &impl Abort, alloc: A) -> Book<P, A> {
-    let Ok(date) = Day::parse(FIRST.as_bytes()) else {
-        panic!(rt; "no date");
-    };
-    let Ok(book) = Book::new(alloc, date) else {
-        panic!(rt; "no book");
-    };
-    book
+    Book::new(alloc, first_day(rt)).expect(rt, "memory")
 }
 
 // A book that takes so many commands.
@@ -35,13 +34,7 @@ fn limited<P: Positions<A>, A: Allocator + Drop + Clone>(
     alloc: A,
     limit: u32,
 ) -> Book<P, A> {
-    let Ok(date) = Day::parse(FIRST.as_bytes()) else {
-        panic!(rt; "no date");
-    };
-    let Ok(book) = Book::with_limit(alloc, date, limit) else {
-        panic!(rt; "no book");
-    };
-    book
+    Book::with_limit(alloc, first_day(rt), limit).expect(rt, "memory")
 }
 
 // Gives a book records, which have to get these replies.
@@ -101,38 +94,37 @@ fn is_full<P: Positions<A>, A: Allocator + Drop + Clone>(
     Ok(answer == Err(TakeFault::Full) && book.history_len() == entries)
 }
 
+fn check_full<P: Positions<A>, A: Allocator + Drop + Clone>(
+    rt: &impl Abort,
+    alloc: Global,
+    book: &mut Book<P, A>,
+) -> Result<(), Fail> {
+    assert!(rt; is_full(alloc, book)?);
+    Ok(())
+}
+
 // Has a book take as many commands as it may, and one more.
 fn check_limit_of_two<P: Positions<A>, A: Allocator + Drop + Clone>(
     rt: &impl Abort,
-    global: Global,
-    alloc: A,
+    alloc: Global,
+    book: &mut Book<P, A>,
 ) -> Result<(), Fail> {
-    let mut book: Book<P, A> = limited(rt, alloc, 2);
-    play(global, &mut book, "MEMBER,1\nMEMBER,1\n", "ok\nrefused 1\n")?;
-    assert!(rt; is_full(global, &mut book)?);
-    assert!(rt; copied_entries(&book)? == 2);
+    play(alloc, book, "MEMBER,1\nMEMBER,1\n", "ok\nrefused 1\n")?;
+    assert!(rt; is_full(alloc, book)?);
+    assert!(rt; copied_entries(book)? == 2);
     Ok(())
 }
 
 #[test]
 fn a_book_at_its_limit_takes_nothing_more(rt: HostRuntime) -> Result<(), Fail> {
-    check_limit_of_two::<Tree, Global>(&rt, rt.alloc(), rt.alloc())
-}
-
-// The same of a book that may take none.
-fn check_limit_of_none<P: Positions<A>, A: Allocator + Drop + Clone>(
-    rt: &impl Abort,
-    global: Global,
-    alloc: A,
-) -> Result<(), Fail> {
-    let mut book: Book<P, A> = limited(rt, alloc, 0);
-    assert!(rt; is_full(global, &mut book)?);
-    Ok(())
+    let mut book: TreeBook = limited(&rt, rt.alloc(), 2);
+    check_limit_of_two(&rt, rt.alloc(), &mut book)
 }
 
 #[test]
 fn a_book_with_the_limit_zero_is_full_at_once(rt: HostRuntime) -> Result<(), Fail> {
-    check_limit_of_none::<Tree, Global>(&rt, rt.alloc(), rt.alloc())
+    let mut book: TreeBook = limited(&rt, rt.alloc(), 0);
+    check_full(&rt, rt.alloc(), &mut book)
 }
 
 // Which of two workers gives a command, and the place and the number that it gets.
@@ -141,23 +133,23 @@ const PLACES: [(u8, u32, u32); 4] = [(1, 1, 1), (2, 2, 1), (1, 3, 2), (2, 4, 2)]
 // Has two workers take commands in turn.
 fn check_numbers<P: Positions<A>, A: Allocator + Drop + Clone>(
     rt: &impl Abort,
-    global: Global,
-    alloc: A,
+    alloc: Global,
+    book: &mut Book<P, A>,
 ) -> Result<(), Fail> {
-    let mut book: Book<P, A> = opened(rt, alloc);
-    let joins = command(global, "MEMBER,1\n")?;
+    let joins = command(alloc, "MEMBER,1\n")?;
     for (worker, index, seq) in &PLACES {
-        let receipt = take(&mut book, Worker::new(*worker)?, joins)?;
+        let receipt = take(book, Worker::new(*worker)?, joins)?;
         assert!(rt; receipt.index == *index);
         assert!(rt; receipt.seq == *seq);
     }
-    assert!(rt; entries_of(&book, 2)? == 2);
+    assert!(rt; entries_of(book, 2)? == 2);
     Ok(())
 }
 
 #[test]
 fn each_worker_has_its_own_numbers(rt: HostRuntime) -> Result<(), Fail> {
-    check_numbers::<Tree, Global>(&rt, rt.alloc(), rt.alloc())
+    let mut book: TreeBook = opened(&rt, rt.alloc());
+    check_numbers(&rt, rt.alloc(), &mut book)
 }
 
 // The trade of a record.
@@ -171,22 +163,22 @@ fn trade(alloc: Global, record: &str) -> Result<Trade, Fail> {
 // Books twenty-five thousand trades.
 fn check_many<P: Positions<A>, A: Allocator + Drop + Clone>(
     rt: &impl Abort,
-    global: Global,
-    alloc: A,
+    alloc: Global,
+    book: &mut Book<P, A>,
 ) -> Result<(), Fail> {
-    let mut book: Book<P, A> = opened(rt, alloc);
-    begin(global, &mut book)?;
-    let trade = trade(global, "TRADE,1,1,2,037833100,1,0,2024-06-03\n")?;
+    begin(alloc, book)?;
+    let trade = trade(alloc, "TRADE,1,1,2,037833100,1,0,2024-06-03\n")?;
     for reference in 1..=25_000 {
         let next = Command::Activity(Activity::Trade(Trade { reference, ..trade }));
-        let receipt = take(&mut book, Worker::FIRST, next)?;
+        let receipt = take(book, Worker::FIRST, next)?;
         assert!(rt; are_same(&receipt.reply, &Reply::Accepted), "{reference}");
     }
-    assert!(rt; entries(&book) == 25_003);
+    assert!(rt; entries(book) == 25_003);
     Ok(())
 }
 
 #[test]
 fn many_commands_are_taken_where_there_is_memory(rt: HostRuntime) -> Result<(), Fail> {
-    check_many::<Tree, Global>(&rt, rt.alloc(), rt.alloc())
+    let mut book: TreeBook = opened(&rt, rt.alloc());
+    check_many(&rt, rt.alloc(), &mut book)
 }

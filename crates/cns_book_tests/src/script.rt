@@ -7,6 +7,7 @@ use cns_statements::{statement, write_statement};
 use cns_terms::{Command, Item, Reply, Source, Worker};
 use cns_units::{Account, Cusip, Day};
 use std::alloc::{Allocator, Global};
+use std::process::Abort;
 use std::sync::Arc;
 use std::test::Fail;
 
@@ -23,6 +24,10 @@ pub(crate) fn day(text: &str) -> Result<Day, Fail> {
         Ok(day) => Ok(day),
         Err(_) => Err(Fail::new("no date")),
     }
+}
+
+pub(crate) fn first_day(rt: &impl Abort) -> Day {
+    Day::parse(FIRST.as_bytes()).expect(rt, "a date")
 }
 
 pub(crate) fn cusip(text: &str) -> Result<Cusip, Fail> {

@@ -12,7 +12,7 @@ use std::sync::ledger::Ledger;
 use std::sync::{Arc, Wait};
 
 /// Why a run goes no further.
-#[derive(Clone, Copy, Drop)]
+#[derive(Drop)]
 pub(crate) enum Ending {
     /// The desk could not be opened.
     NoDesk,

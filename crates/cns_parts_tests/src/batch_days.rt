@@ -5,7 +5,7 @@ ghost use Rattle.cns_units.specs.declared.cusip.Cusip.{Cusip};
 ghost use Rattle.cns_retransmit.specs.Calls.{called_in, CanBeChosen};
 ghost use Rattle.cns_retransmit.specs.Days.{RiseByIssue};
 
-use crate::calls::{several, short};
+use crate::calls::{Row, several, short};
 use crate::heaps::exhaust;
 use crate::values::{APPLE, CISCO, MICROSOFT, cusip, member, money, shares};
 use cns_retransmit::{Batch, Batches, Calls, Fill, Short, Shorts};
@@ -31,16 +31,22 @@ fn called<A: Allocator + Drop + Clone>(
     Ok(calls)
 }
 
-// The batches of a day on which so many shares are called in one issue, where member 7 is short 60.
+// The shorts of two members.
+const SEVEN: Row = (7, 1, 60);
+
+const EIGHT: Row = (8, 1, 50);
+
+// The batches of a day on which so many shares are called in one issue, where one member is short.
 fn day<A: Allocator + Drop + Clone>(
     rt: &impl Abort,
     alloc: A,
     issue: &[u8],
     total: u64,
+    row: Row,
 ) -> Result<Vec<Batch<A>, A>, NoMemory>
     ensures { IfOk result (λ v. RiseByIssue v.items) }
 {
-    let calls = called(alloc, cusip(rt, issue), total, short(rt, (7, 1, 60)))?;
+    let calls = called(alloc, cusip(rt, issue), total, short(rt, row))?;
     calls.choose()
 }
 
@@ -54,8 +60,9 @@ fn keep<A: Allocator + Drop + Clone>(
     alloc: A,
     issue: &[u8],
     total: u64,
+    row: Row,
 ) -> bool {
-    let Ok(day) = day(rt, alloc, issue, total) else {
+    let Ok(day) = day(rt, alloc, issue, total, row) else {
         return false;
     };
     batches.keep(day).is_ok()
@@ -64,9 +71,9 @@ fn keep<A: Allocator + Drop + Clone>(
 // Two days on which somebody is liable, in another issue each, and a day between on which nobody is.
 fn three_days(rt: &(impl Abort + AllocGlobal)) -> Batches<Global> {
     let mut batches = Batches::new(rt.alloc());
-    assert!(rt; keep(rt, &mut batches, rt.alloc(), CISCO, 10));
-    assert!(rt; keep(rt, &mut batches, rt.alloc(), CISCO, 0));
-    assert!(rt; keep(rt, &mut batches, rt.alloc(), APPLE, 10));
+    assert!(rt; keep(rt, &mut batches, rt.alloc(), CISCO, 10, SEVEN));
+    assert!(rt; keep(rt, &mut batches, rt.alloc(), CISCO, 0, SEVEN));
+    assert!(rt; keep(rt, &mut batches, rt.alloc(), APPLE, 10, EIGHT));
     batches
 }
 
@@ -93,7 +100,7 @@ fn the_last_day_alone_is_forgotten(rt: HostRuntime) {
 fn is_kept(rt: &impl Abort, bytes: usize, alloc: Global) -> bool {
     let heap = LocalHeap::new(alloc, bytes).expect(rt, "memory");
     let mut batches = Batches::new(&heap);
-    keep(rt, &mut batches, &heap, CISCO, 10)
+    keep(rt, &mut batches, &heap, CISCO, 10, SEVEN)
 }
 
 #[test]
@@ -218,7 +225,8 @@ fn keep_until_refused<'a>(
 ) -> u64 {
     for kept in 0..20 {
         let used = chosen.used();
-        if !keep(rt, batches, chosen, CISCO, 10) {
+        let day = day(rt, chosen, CISCO, 10, SEVEN).expect(rt, "memory");
+        if batches.keep(day).is_err() {
             assert!(rt; chosen.used() == used);
             return kept;
         }
@@ -248,7 +256,7 @@ fn a_day_that_is_refused_memory_is_not_kept(rt: HostRuntime) {
         let more = keep_starved(&rt, &mut batches, &days, &chosen, rt.alloc());
         kept = kept.saturating_add(more);
         assert!(rt; days_with(&batches, cusip(&rt, CISCO)) == kept);
-        assert!(rt; keep(&rt, &mut batches, &chosen, CISCO, 10));
+        assert!(rt; keep(&rt, &mut batches, &chosen, CISCO, 10, SEVEN));
         kept = kept.saturating_add(1);
         assert!(rt; days_with(&batches, cusip(&rt, CISCO)) == kept);
     }

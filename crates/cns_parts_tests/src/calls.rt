@@ -17,7 +17,7 @@ use std::process::Abort;
 const IBM: &[u8] = b"459200101";
 
 // A member, the age of its short and the short.
-type Row = (u16, u32, u32);
+pub(crate) type Row = (u16, u32, u32);
 
 // The short of a row.
 pub(crate) fn short(rt: &impl Abort, row: Row) -> Short

@@ -126,10 +126,23 @@ fn put_again<A: Allocator + Clone>(rt: &impl Abort, tree: &mut Tree<u64, A>, val
     }
 }
 
+// Whether the key 500 has the value 7, and each other of a thousand keys its number.
+fn is_changed<A: Allocator + Clone>(rt: &impl Abort, tree: &Tree<u64, A>) -> bool {
+    let mut number = 0u16;
+    for row in tree.walk() {
+        number = number.saturating_add(1);
+        let value = if number == 500 { 7 } else { u64::from(number) };
+        if row != (key(rt, number, APPLE), value) {
+            return false;
+        }
+    }
+    number == 1000
+}
+
 // Changes one value and then each, and looks at what the rows are then.
 fn change<A: Allocator + Clone>(rt: &impl Abort, tree: &mut Tree<u64, A>) {
     put_again(rt, tree, 7);
-    assert!(rt; tree.get(key(rt, 500, APPLE)) == Some(7));
+    assert!(rt; is_changed(rt, tree));
     assert!(rt; tree.change(key(rt, 500, APPLE), |value| value ^ 7 ^ 500));
     assert!(rt; counts_to(rt, tree, 1000, 0));
     assert!(rt; !tree.change(key(rt, 1001, APPLE), |value| value ^ 1));
@@ -217,6 +230,7 @@ fn a_walk_begins_above_a_key(rt: HostRuntime) {
 #[test]
 fn nothing_makes_an_empty_tree(rt: HostRuntime) {
     let mut none: Tree<u64, Global> = Tree::from_sorted(rt.alloc(), &[]).expect(&rt, "memory");
+    assert!(rt; counts_to(&rt, &none, 0, 0));
     copies(&rt, &none, 0).expect(&rt, "memory");
     assert!(rt; !none.change(key(&rt, 1, APPLE), |value| value ^ 1));
     none.change_each(|value| value ^ 1);

@@ -1,5 +1,5 @@
 // What the calls that read a book tell of notices, and of the members that are liable for them.
-use super::{Tree, begin, opened, play};
+use super::{TreeBook, begin, opened, play};
 use crate::script::{APPLE, are_same, cusip, take};
 use cns_book::{Book, Notice};
 use cns_positions::Positions;
@@ -51,28 +51,28 @@ fn stands<P: Positions<A>, A: Allocator + Drop + Clone>(
 // Looks at a notice as it is given, executed in part, and expired.
 fn check_stages<P: Positions<A>, A: Allocator + Drop + Clone>(
     rt: &impl Abort,
-    global: Global,
-    alloc: A,
+    alloc: Global,
+    book: &mut Book<P, A>,
 ) -> Result<(), Fail> {
-    let mut book: Book<P, A> = opened(rt, alloc);
-    sell_short(global, &mut book)?;
-    play(global, &mut book, NOTICED, NOTICED_REPLIES)?;
-    assert!(rt; stands(&book, 1, Stage::Live, 80));
-    play(global, &mut book, "EXECUTE,1,70,0\n", "executed 2\n")?;
-    assert!(rt; stands(&book, 1, Stage::Live, 10));
+    sell_short(alloc, book)?;
+    play(alloc, book, NOTICED, NOTICED_REPLIES)?;
+    assert!(rt; stands(book, 1, Stage::Live, 80));
+    play(alloc, book, "EXECUTE,1,70,0\n", "executed 2\n")?;
+    assert!(rt; stands(book, 1, Stage::Live, 10));
     play(
-        global,
-        &mut book,
+        alloc,
+        book,
         "CLOSE,2024-06-06\n",
         "closed 3 2024-06-05 3 0\n",
     )?;
-    assert!(rt; stands(&book, 1, Stage::Expired, 0));
+    assert!(rt; stands(book, 1, Stage::Expired, 0));
     Ok(())
 }
 
 #[test]
 fn a_notice_is_shown_with_its_stage_and_what_remains_of_it(rt: HostRuntime) -> Result<(), Fail> {
-    check_stages::<Tree, Global>(&rt, rt.alloc(), rt.alloc())
+    let mut book: TreeBook = opened(&rt, rt.alloc());
+    check_stages(&rt, rt.alloc(), &mut book)
 }
 
 // A notice that is withdrawn, and one that a split ends.
@@ -82,14 +82,13 @@ SPLIT,037833100,2,1,0\n";
 // Looks at notices that are over.
 fn check_ended<P: Positions<A>, A: Allocator + Drop + Clone>(
     rt: &impl Abort,
-    global: Global,
-    alloc: A,
+    alloc: Global,
+    book: &mut Book<P, A>,
 ) -> Result<(), Fail> {
-    let mut book: Book<P, A> = opened(rt, alloc);
-    sell_short(global, &mut book)?;
-    play(global, &mut book, ENDED, "notice 1\nok\nnotice 2\nok\n")?;
-    assert!(rt; stands(&book, 1, Stage::Withdrawn, 0));
-    assert!(rt; stands(&book, 2, Stage::Ended, 0));
+    sell_short(alloc, book)?;
+    play(alloc, book, ENDED, "notice 1\nok\nnotice 2\nok\n")?;
+    assert!(rt; stands(book, 1, Stage::Withdrawn, 0));
+    assert!(rt; stands(book, 2, Stage::Ended, 0));
     Ok(())
 }
 
@@ -97,7 +96,8 @@ fn check_ended<P: Positions<A>, A: Allocator + Drop + Clone>(
 fn a_notice_that_was_withdrawn_or_ended_by_a_split_is_shown_so(
     rt: HostRuntime,
 ) -> Result<(), Fail> {
-    check_ended::<Tree, Global>(&rt, rt.alloc(), rt.alloc())
+    let mut book: TreeBook = opened(&rt, rt.alloc());
+    check_ended(&rt, rt.alloc(), &mut book)
 }
 
 const NO_SUCH_NOTICE: Reply = Reply::Refused(Refusal::NoSuchNotice);
@@ -105,30 +105,25 @@ const NO_SUCH_NOTICE: Reply = Reply::Refused(Refusal::NoSuchNotice);
 // Asks for notices that there are not.
 fn check_numbers<P: Positions<A>, A: Allocator + Drop + Clone>(
     rt: &impl Abort,
-    global: Global,
-    alloc: A,
+    alloc: Global,
+    book: &mut Book<P, A>,
 ) -> Result<(), Fail> {
-    let mut book: Book<P, A> = opened(rt, alloc);
-    sell_short(global, &mut book)?;
+    sell_short(alloc, book)?;
     let records = "NOTICE,1,037833100,80\nWITHDRAW,2\nEXECUTE,2,80,0\n";
-    play(
-        global,
-        &mut book,
-        records,
-        "notice 1\nrefused 14\nrefused 14\n",
-    )?;
+    play(alloc, book, records, "notice 1\nrefused 14\nrefused 14\n")?;
     // No record has a notice with the number zero.
     let zeroth = Command::Activity(Activity::Withdraw(0));
-    let receipt = take(&mut book, Worker::FIRST, zeroth)?;
+    let receipt = take(book, Worker::FIRST, zeroth)?;
     assert!(rt; are_same(&receipt.reply, &NO_SUCH_NOTICE));
-    assert!(rt; shown(&book, 0).is_none());
-    assert!(rt; shown(&book, 2).is_none());
+    assert!(rt; shown(book, 0).is_none());
+    assert!(rt; shown(book, 2).is_none());
     Ok(())
 }
 
 #[test]
 fn no_notice_has_the_number_zero_or_one_past_the_last(rt: HostRuntime) -> Result<(), Fail> {
-    check_numbers::<Tree, Global>(&rt, rt.alloc(), rt.alloc())
+    let mut book: TreeBook = opened(&rt, rt.alloc());
+    check_numbers(&rt, rt.alloc(), &mut book)
 }
 
 // Days, and how many batches their closes chose.
@@ -172,22 +167,22 @@ fn is_liable(liable: &Liable, is: (u16, u64, u64)) -> bool {
 // Looks at the batches of the days, before and after an execution.
 fn check_batches<P: Positions<A>, A: Allocator + Drop + Clone>(
     rt: &impl Abort,
-    global: Global,
-    alloc: A,
+    alloc: Global,
+    book: &mut Book<P, A>,
 ) -> Result<(), Fail> {
-    let mut book: Book<P, A> = opened(rt, alloc);
-    sell_short(global, &mut book)?;
-    play(global, &mut book, NOTICED, NOTICED_REPLIES)?;
+    sell_short(alloc, book)?;
+    play(alloc, book, NOTICED, NOTICED_REPLIES)?;
     for (day, batches) in &CHOSEN {
         assert!(rt; book.batches(*day).len() == *batches);
     }
-    assert!(rt; are_liable(&book, [60, 50])?);
-    play(global, &mut book, "EXECUTE,1,80,160001\n", "executed 2\n")?;
-    assert!(rt; are_liable(&book, [0, 30])?);
+    assert!(rt; are_liable(book, [60, 50])?);
+    play(alloc, book, "EXECUTE,1,80,160001\n", "executed 2\n")?;
+    assert!(rt; are_liable(book, [0, 30])?);
     Ok(())
 }
 
 #[test]
 fn a_batch_tells_what_is_left_of_each_liability(rt: HostRuntime) -> Result<(), Fail> {
-    check_batches::<Tree, Global>(&rt, rt.alloc(), rt.alloc())
+    let mut book: TreeBook = opened(&rt, rt.alloc());
+    check_batches(&rt, rt.alloc(), &mut book)
 }

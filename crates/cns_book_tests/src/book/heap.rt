@@ -1,68 +1,91 @@
 // A book in a small heap.
-use super::{MEMBERS, opened, play, trade};
-use crate::script::{FIRST, are_same, day};
+use super::{DAY, DAY_REPLIES, entries, opened, play, trade};
+use crate::script::{are_same, first_day};
 use cns_book::{Book, TakeFault};
 use cns_positions::{Positions, TreePositions};
 use cns_terms::{Activity, Command, Holding, Key, Reply, Row, Trade, Worker};
-use cns_units::{Account, Cusip};
 use linked_list_allocator::LocalHeap;
 use std::alloc::{Allocator, Global};
 use std::process::Abort;
 use std::test::Fail;
 
-const TRADED: &str = "TRADE,1,1,2,037833100,100,1950000,2024-06-03\nPRICE,037833100,19600\n\
-CLOSE,2024-06-04\n";
-
-const TRADED_REPLIES: &str = "ok\nok\nclosed 1 2024-06-03 2 0\n";
-
-// What a book shows: its entries, what an account holds, and its row of the first day.
+// What a book shows of a key: how many entries there are, what the account holds, and its row of the first day.
 type Shown = (usize, Option<Holding>, Option<Row>);
 
-fn show<P: Positions<A>, A: Allocator + Drop + Clone>(
+// A check of a caller need not go through what these calls promise.
+fn held<P: Positions<A>, A: Allocator + Drop + Clone>(
     book: &Book<P, A>,
-    account: Account,
-    issue: Cusip,
-) -> Result<Shown, Fail> {
-    let Some(sheet) = book.sheet(day(FIRST)?) else {
-        return Err(Fail::new("no sheet"));
-    };
-    Ok((
-        book.history_len(),
-        book.position(account, issue),
-        sheet.row(Key { account, issue }),
-    ))
+    key: Key,
+) -> Option<Holding> {
+    book.position(key.account, key.issue)
+}
+
+fn row<P: Positions<A>, A: Allocator + Drop + Clone>(
+    rt: &impl Abort,
+    book: &Book<P, A>,
+    key: Key,
+) -> Option<Row> {
+    match book.sheet(first_day(rt)) {
+        Some(sheet) => sheet.row(key),
+        None => None,
+    }
+}
+
+fn show<P: Positions<A>, A: Allocator + Drop + Clone>(
+    rt: &impl Abort,
+    book: &Book<P, A>,
+    key: Key,
+) -> Shown {
+    (entries(book), held(book, key), row(rt, book, key))
+}
+
+// Whether a book has memory for a trade, which it then accepts.
+fn has_memory<P: Positions<A>, A: Allocator + Drop + Clone>(
+    rt: &impl Abort,
+    book: &mut Book<P, A>,
+    trade: Trade,
+) -> bool {
+    match book.take(Worker::FIRST, Command::Activity(Activity::Trade(trade))) {
+        Ok(receipt) => {
+            assert!(rt; are_same(&receipt.reply, &Reply::Accepted));
+            true
+        }
+        Err(fault) => {
+            assert!(rt; fault == TakeFault::NoMemory);
+            false
+        }
+    }
 }
 
 // Books trades like one, of ever new references, until the book finds no memory. What it showed before that one, and what it
 // shows after it.
 fn exhaust<P: Positions<A>, A: Allocator + Drop + Clone>(
+    rt: &impl Abort,
     book: &mut Book<P, A>,
     trade: Trade,
-) -> Result<(Shown, Shown), Fail> {
-    let (account, issue) = (trade.buyer.account(), trade.issue);
+) -> (Shown, Shown) {
+    let key = Key {
+        account: trade.buyer.account(),
+        issue: trade.issue,
+    };
     for reference in 10..10_010 {
-        let before = show(book, account, issue)?;
-        let next = Command::Activity(Activity::Trade(Trade { reference, ..trade }));
-        match book.take(Worker::FIRST, next) {
-            Ok(receipt) if are_same(&receipt.reply, &Reply::Accepted) => {}
-            Err(TakeFault::NoMemory) => return Ok((before, show(book, account, issue)?)),
-            _ => return Err(Fail::new("not accepted")),
+        let before = show(rt, book, key);
+        if !has_memory(rt, book, Trade { reference, ..trade }) {
+            return (before, show(rt, book, key));
         }
     }
-    Err(Fail::new("memory for ten thousand trades"))
+    panic!(rt; "memory for ten thousand trades");
 }
 
 // Closes a day, and trades until memory is out.
 fn check_exhausted<P: Positions<A>, A: Allocator + Drop + Clone>(
     rt: &impl Abort,
-    global: Global,
-    alloc: A,
+    alloc: Global,
+    book: &mut Book<P, A>,
 ) -> Result<(), Fail> {
-    let mut book: Book<P, A> = opened(rt, alloc);
-    play(global, &mut book, MEMBERS, "ok\nok\nok\n")?;
-    play(global, &mut book, TRADED, TRADED_REPLIES)?;
-    let trade = trade(global, "TRADE,1,1,2,037833100,1,0,2024-06-04\n")?;
-    let (before, after) = exhaust(&mut book, trade)?;
+    play(alloc, book, DAY, DAY_REPLIES)?;
+    let trade = trade(alloc, "TRADE,1,1,2,037833100,1,0,2024-06-04\n")?;
+    let (before, after) = exhaust(rt, book, trade);
     assert!(rt; before == after);
     assert!(rt; before.1.is_some() && before.2.is_some());
     Ok(())
@@ -71,5 +94,6 @@ fn check_exhausted<P: Positions<A>, A: Allocator + Drop + Clone>(
 #[test]
 fn a_trade_that_finds_no_memory_leaves_a_book_in_a_small_heap(rt: HostRuntime) -> Result<(), Fail> {
     let heap = LocalHeap::new(rt.alloc(), 65_536)?;
-    check_exhausted::<TreePositions<&LocalHeap>, &LocalHeap>(&rt, rt.alloc(), &heap)
+    let mut book: Book<TreePositions<&LocalHeap>, &LocalHeap> = opened(&rt, &heap);
+    check_exhausted(&rt, rt.alloc(), &mut book)
 }

@@ -1,5 +1,5 @@
 // What the calls that read a book tell of the open day, of a closed day's sheet, and of the history.
-use super::{Tree, opened, play};
+use super::{DAY, DAY_REPLIES, TreeBook, opened, play};
 use crate::script::{APPLE, FIRST, SECOND, account, are_same, cusip, day, first_sheet, stated};
 use cns_book::Book;
 use cns_positions::Positions;
@@ -9,12 +9,6 @@ use cns_units::{Cents, Day, Price};
 use std::alloc::{Allocator, Global};
 use std::process::Abort;
 use std::test::Fail;
-
-// The first day: member 1 buys 100 shares from member 2, and the price goes from 195.00 to 196.00.
-const DAY: &str = "MEMBER,1\nMEMBER,2\nISSUE,037833100,19500\n\
-TRADE,1,1,2,037833100,100,1950000,2024-06-03\nPRICE,037833100,19600\nCLOSE,2024-06-04\n";
-
-const DAY_REPLIES: &str = "ok\nok\nok\nok\nok\nclosed 1 2024-06-03 2 0\n";
 
 // Accounts, and their statements of the first day.
 const STATEMENTS: [(u16, &str); 3] = [
@@ -115,20 +109,20 @@ fn held<P: Positions<A>, A: Allocator + Drop + Clone>(
 // Looks at the first day and the second.
 fn check_open_days<P: Positions<A>, A: Allocator + Drop + Clone>(
     rt: &impl Abort,
-    global: Global,
-    alloc: A,
+    alloc: Global,
+    book: &mut Book<P, A>,
 ) -> Result<(), Fail> {
-    let mut book: Book<P, A> = opened(rt, alloc);
-    assert!(rt; is_open(&book, 1, FIRST, None)?);
-    play(global, &mut book, DAY, DAY_REPLIES)?;
-    assert!(rt; is_open(&book, 2, SECOND, Some(Price::new(19_600)?))?);
-    assert!(rt; held(&book, 2)? == Some(SHORT));
+    assert!(rt; is_open(book, 1, FIRST, None)?);
+    play(alloc, book, DAY, DAY_REPLIES)?;
+    assert!(rt; is_open(book, 2, SECOND, Some(Price::new(19_600)?))?);
+    assert!(rt; held(book, 2)? == Some(SHORT));
     Ok(())
 }
 
 #[test]
 fn reading_calls_tell_the_open_day(rt: HostRuntime) -> Result<(), Fail> {
-    check_open_days::<Tree, Global>(&rt, rt.alloc(), rt.alloc())
+    let mut book: TreeBook = opened(&rt, rt.alloc());
+    check_open_days(&rt, rt.alloc(), &mut book)
 }
 
 // An entry of a book. A check of a caller need not go through what the call promises.
@@ -149,24 +143,24 @@ fn has_sheet<P: Positions<A>, A: Allocator + Drop + Clone>(
 // Looks at the history and at the sheets that there are.
 fn check_entries<P: Positions<A>, A: Allocator + Drop + Clone>(
     rt: &impl Abort,
-    global: Global,
-    alloc: A,
+    alloc: Global,
+    book: &mut Book<P, A>,
 ) -> Result<(), Fail> {
-    let mut book: Book<P, A> = opened(rt, alloc);
-    play(global, &mut book, DAY, DAY_REPLIES)?;
-    let Some(taken) = entry(&book, 4) else {
+    play(alloc, book, DAY, DAY_REPLIES)?;
+    let Some(taken) = entry(book, 4) else {
         return Err(Fail::new("no entry"));
     };
     assert!(rt; are_same(&taken.reply, &Reply::Accepted));
     assert!(rt; taken.seq == 4);
-    assert!(rt; entry(&book, 0).is_none());
-    assert!(rt; entry(&book, 7).is_none());
-    assert!(rt; has_sheet(&book, FIRST)?);
-    assert!(rt; !has_sheet(&book, SECOND)?);
+    assert!(rt; entry(book, 0).is_none());
+    assert!(rt; entry(book, 7).is_none());
+    assert!(rt; has_sheet(book, FIRST)?);
+    assert!(rt; !has_sheet(book, SECOND)?);
     Ok(())
 }
 
 #[test]
 fn a_book_tells_its_entries_and_none_before_or_past_them(rt: HostRuntime) -> Result<(), Fail> {
-    check_entries::<Tree, Global>(&rt, rt.alloc(), rt.alloc())
+    let mut book: TreeBook = opened(&rt, rt.alloc());
+    check_entries(&rt, rt.alloc(), &mut book)
 }

@@ -1,7 +1,7 @@
 // Audits of logs in which something was changed.
 use super::hundred;
 use super::inputs::ending;
-use crate::script::{FIRST, command, day, sheet_of, take};
+use crate::script::{command, first_day, sheet_of, take};
 use cns_book::{Book, Receipt};
 use cns_desk::{DeskBook, Log, LogItem, Outcome, audit, run_workers};
 use cns_positions::Positions;
@@ -158,22 +158,23 @@ fn check_changes<A: Abort>(rt: &A, alloc: Global, outcome: &Outcome) -> Result<(
     Ok(())
 }
 
-fn run<R: Threads + Wait + Sync>(rt: &R, alloc: Global) -> Result<Outcome, Fail> {
-    let (first, second) = hundred(alloc)?;
-    let sources = vec![in alloc;
-        ending(alloc, first.as_slice()),
-        ending(alloc, second.as_slice()),
-    ]?;
-    match run_workers(rt, alloc, day(FIRST)?, sources, &NoGate) {
-        Ok(outcome) => Ok(outcome),
-        Err(_) => Err(Fail::new("no outcome")),
-    }
+// The outcome of two workers with these records.
+fn run<R: Abort + Threads + Wait + Sync>(
+    rt: &R,
+    alloc: Global,
+    first: &[u8],
+    second: &[u8],
+) -> Outcome {
+    let sources = vec![in alloc; ending(alloc, first), ending(alloc, second)];
+    let sources = sources.expect(rt, "memory");
+    run_workers(rt, alloc, first_day(rt), sources, &NoGate).expect(rt, "an outcome")
 }
 
 #[test]
 fn an_audit_names_the_first_place_that_differs(rt: HostRuntime) -> Result<(), Fail> {
     let alloc = rt.alloc();
-    let outcome = run(&rt, alloc)?;
+    let (first, second) = hundred(alloc)?;
+    let outcome = run(&rt, alloc, first.as_slice(), second.as_slice());
     check_changes(&rt, alloc, &outcome)
 }
 
@@ -235,25 +236,42 @@ fn add_first(log: &mut Log, outcome: &Outcome) -> Result<(), Fail> {
 #[test]
 fn a_worker_without_a_log_has_an_empty_one(rt: HostRuntime) -> Result<(), Fail> {
     let alloc = rt.alloc();
-    let outcome = run(&rt, alloc)?;
+    let (first, second) = hundred(alloc)?;
+    let outcome = run(&rt, alloc, first.as_slice(), second.as_slice());
     check_counts(&rt, alloc, &outcome)
+}
+
+// The sheet of a date, where one is given.
+fn sheet_on<P: Positions<Global>>(
+    book: &Book<P, Global>,
+    date: Option<&str>,
+) -> Result<Option<Arc<Sheet<Global>>>, Fail> {
+    match date {
+        Some(date) => Ok(Some(sheet_of(book, date)?)),
+        None => Ok(None),
+    }
 }
 
 // Gives a book worker 1's command, and logs it with the sheet of a date.
 fn take_and_log<P: Positions<Global>>(
+    book: &mut Book<P, Global>,
+    log: &mut Log,
+    command: &Command,
+    date: Option<&str>,
+) -> Result<(), Fail> {
+    let receipt = take(book, Worker::FIRST, *command)?;
+    add(log, receipt, *command, sheet_on(book, date)?)
+}
+
+// The same for the command of a record.
+fn log_record<P: Positions<Global>>(
     alloc: Global,
     book: &mut Book<P, Global>,
     log: &mut Log,
     record: &str,
     date: Option<&str>,
 ) -> Result<(), Fail> {
-    let command = command(alloc, record)?;
-    let receipt = take(book, Worker::FIRST, command)?;
-    let sheet = match date {
-        Some(date) => Some(sheet_of(book, date)?),
-        None => None,
-    };
-    add(log, receipt, command, sheet)
+    take_and_log(book, log, &command(alloc, record)?, date)
 }
 
 // Two days, whose sheets differ.
@@ -273,21 +291,44 @@ fn take_days<P: Positions<Global>>(
     log: &mut Log,
 ) -> Result<(), Fail> {
     for record in &DAYS {
-        take_and_log(alloc, book, log, record, None)?;
+        log_record(alloc, book, log, record, None)?;
     }
     Ok(())
 }
 
-// The place at which a log of two days differs that ends in the command of this record with this sheet.
-fn ending_differs(alloc: Global, record: &str, date: Option<&str>) -> Result<Option<usize>, Fail> {
-    let Ok(mut book) = DeskBook::new(alloc, day(FIRST)?) else {
-        return Err(Fail::new("no book"));
-    };
+// The log of two days that ends in the command of this record with this sheet, and of which a book is the history.
+fn ending_in<P: Positions<Global>>(
+    alloc: Global,
+    book: &mut Book<P, Global>,
+    record: &str,
+    date: Option<&str>,
+) -> Result<Vec<Log>, Fail> {
     let mut log = Log::new(alloc);
-    take_days(alloc, &mut book, &mut log)?;
-    take_and_log(alloc, &mut book, &mut log, record, date)?;
-    let logs = vec![in alloc; log]?;
-    Ok(found_by_audit(&book, logs.as_slice())?.map(|found| found.1))
+    take_days(alloc, book, &mut log)?;
+    log_record(alloc, book, &mut log, record, date)?;
+    Ok(vec![in alloc; log]?)
+}
+
+// The place at which such a log differs.
+fn differs_at(
+    alloc: Global,
+    book: &mut DeskBook,
+    record: &str,
+    date: Option<&str>,
+) -> Result<Option<usize>, Fail> {
+    let logs = ending_in(alloc, book, record, date)?;
+    Ok(found_by_audit(book, logs.as_slice())?.map(|found| found.1))
+}
+
+// The same over a book of its own.
+fn ending_differs(
+    rt: &impl Abort,
+    alloc: Global,
+    record: &str,
+    date: Option<&str>,
+) -> Result<Option<usize>, Fail> {
+    let mut book = DeskBook::new(alloc, first_day(rt)).expect(rt, "memory");
+    differs_at(alloc, &mut book, record, date)
 }
 
 // The record that is logged last, the eighth, the date of the sheet that is logged with it, and the place at which the log
@@ -324,7 +365,7 @@ const SHEETS: [(&str, &str, Option<&str>, Option<usize>); 6] = [
 #[test]
 fn a_sheet_in_a_log_is_that_of_the_day_of_its_statement(rt: HostRuntime) -> Result<(), Fail> {
     for (name, record, date, wanted) in &SHEETS {
-        let place = ending_differs(rt.alloc(), record, *date)?;
+        let place = ending_differs(&rt, rt.alloc(), record, *date)?;
         assert!(rt; place == *wanted, "{name}");
     }
     Ok(())

@@ -4,12 +4,15 @@ ghost use Rattle.cns_terms.specs.declared.source.SourceFault.TheVariants as faul
 
 use super::inputs::{ending, failing};
 use super::{MEMBERS, hundred};
-use crate::script::{APPLE, FIRST, account, cusip, day, tell};
+use crate::script::{APPLE, first_day};
 use cns_book::Book;
 use cns_desk::{End, LogItem, Outcome, RunFault, run_workers};
+use cns_feed::reply_text;
 use cns_positions::Positions;
-use cns_terms::{Gate, Item, NoGate, Source, SourceFault, Worker};
+use cns_terms::{Gate, Holding, Item, NoGate, Source, SourceFault, Worker};
+use cns_units::{Account, Cusip};
 use std::alloc::Global;
+use std::process::Abort;
 use std::sync::Wait;
 use std::sync::atomic::AtomicU64;
 use std::sync::atomic::Ordering::SeqCst;
@@ -110,16 +113,13 @@ impl Gate for Tally {
 }
 
 // Runs a worker for each source.
-fn run<S: Source + Send + Drop, G: Gate + Sync, R: Threads + Wait + Sync>(
+fn run<S: Source + Send + Drop, G: Gate + Sync, R: Abort + Threads + Wait + Sync>(
     rt: &R,
     alloc: Global,
     sources: Vec<S>,
     gate: &G,
-) -> Result<Outcome, Fail> {
-    match run_workers(rt, alloc, day(FIRST)?, sources, gate) {
-        Ok(outcome) => Ok(outcome),
-        Err(_) => Err(Fail::new("no outcome")),
-    }
+) -> Outcome {
+    run_workers(rt, alloc, first_day(rt), sources, gate).expect(rt, "an outcome")
 }
 
 // The length of the history.
@@ -132,20 +132,31 @@ fn workers_run_at_once(rt: HostRuntime) -> Result<(), Fail> {
     let alloc = rt.alloc();
     let first = ending(alloc, b"MEMBER,101\nMEMBER,202\n");
     let second = ending(alloc, b"MEMBER,303\n");
+    let sources = vec![in alloc; first, second]?;
     let gate = Meeting::new(&rt, 2);
-    let outcome = run(&rt, alloc, vec![in alloc; first, second]?, &gate)?;
+    let outcome = run(&rt, alloc, sources, &gate);
     assert!(&rt; gate.late.load(SeqCst) == 0);
     assert!(&rt; entries(&outcome) == 3);
     Ok(())
 }
 
-// The replies in a log.
-fn replies(alloc: Global, items: &[LogItem]) -> Result<Vec<u8>, Fail> {
-    let mut text = Vec::new(alloc);
+// Whether a log's replies are this text.
+fn is_told(alloc: Global, items: &[LogItem], text: &str) -> bool {
+    let mut told = Vec::new(alloc);
     for item in items {
-        tell(&mut text, &item.receipt.reply)?;
+        if reply_text(&item.receipt.reply, &mut told).is_err() {
+            return false;
+        }
     }
-    Ok(text)
+    told.as_slice() == text.as_bytes()
+}
+
+// Whether the second worker's replies are this text.
+fn second_is_told(alloc: Global, outcome: &Outcome, text: &str) -> bool {
+    match outcome.logs.as_slice() {
+        [_, log] => is_told(alloc, log.items(), text),
+        _ => false,
+    }
 }
 
 #[test]
@@ -155,57 +166,76 @@ fn a_reply_shows_what_another_worker_was_answered_before(rt: HostRuntime) -> Res
 TRADE,1,101,202,037833100,5,97500,2024-06-03\n";
     let first = ending(alloc, records.as_bytes());
     let second = ending(alloc, b"POSITION,101,037833100\n");
+    let sources = vec![in alloc; first, second]?;
     let gate = After {
         clock: &rt,
         wanted: 4,
         answered: AtomicU64::new(0),
     };
-    let outcome = run(&rt, alloc, vec![in alloc; first, second]?, &gate)?;
-    let [_, log] = outcome.logs.as_slice() else {
-        return Err(Fail::new("not two logs"));
-    };
-    let told = replies(alloc, log.items())?;
-    assert!(&rt; told.as_slice() == b"position 101 037833100 5 0 -975.00 0\n".as_slice());
+    let outcome = run(&rt, alloc, sources, &gate);
+    let told = "position 101 037833100 5 0 -975.00 0\n";
+    assert!(&rt; second_is_told(alloc, &outcome, told));
     Ok(())
 }
 
-// Whether each of two workers has fifty entries in the history.
-fn have_fifty<P: Positions<Global>>(book: &Book<P, Global>) -> Result<bool, Fail> {
-    Ok(book.count(Worker::new(1)?) == 50 && book.count(Worker::new(2)?) == 50)
+// Whether the history has so many entries of a worker.
+fn has_entries<P: Positions<Global>>(book: &Book<P, Global>, worker: u8, entries: u32) -> bool {
+    match Worker::new(worker) {
+        Ok(worker) => book.count(worker) == entries,
+        Err(_) => false,
+    }
 }
 
-// How many shares member 101 is long, and the cents that were booked with them.
-fn bought<P: Positions<Global>>(book: &Book<P, Global>) -> Result<Option<(i64, i128)>, Fail> {
-    let held = book.position(account(101)?, cusip(APPLE)?);
-    Ok(held.map(|held| (held.now, held.contract)))
+// What member 101 holds.
+fn held<P: Positions<Global>>(rt: &impl Abort, book: &Book<P, Global>) -> Option<Holding> {
+    let account = Account::new(101).expect(rt, "an account");
+    book.position(
+        account,
+        Cusip::parse(APPLE.as_bytes()).expect(rt, "an issue"),
+    )
+}
+
+// Whether member 101 is long so many shares, for which so many cents were booked.
+fn has_bought<P: Positions<Global>>(
+    rt: &impl Abort,
+    book: &Book<P, Global>,
+    shares: i64,
+    cents: i128,
+) -> bool {
+    match held(rt, book) {
+        Some(held) => held.now == shares && held.contract == cents,
+        None => false,
+    }
 }
 
 #[test]
 fn a_hundred_commands_of_two_workers_are_one_history(rt: HostRuntime) -> Result<(), Fail> {
     let alloc = rt.alloc();
+    let (one, two) = hundred(alloc)?;
+    let first = ending(alloc, one.as_slice());
+    let second = ending(alloc, two.as_slice());
+    let sources = vec![in alloc; first, second]?;
     let gate = After {
         clock: &rt,
         wanted: 3,
         answered: AtomicU64::new(0),
     };
-    let (one, two) = hundred(alloc)?;
-    let first = ending(alloc, one.as_slice());
-    let second = ending(alloc, two.as_slice());
-    let outcome = run(&rt, alloc, vec![in alloc; first, second]?, &gate)?;
+    let outcome = run(&rt, alloc, sources, &gate);
     assert!(&rt; entries(&outcome) == 100);
-    assert!(&rt; have_fifty(&outcome.book)?);
-    assert!(&rt; bought(&outcome.book)? == Some((97, -1_891_500)));
+    assert!(&rt; has_entries(&outcome.book, 1, 50));
+    assert!(&rt; has_entries(&outcome.book, 2, 50));
+    assert!(&rt; has_bought(&rt, &outcome.book, 97, -1_891_500));
     assert!(&rt; outcome.ends.as_slice() == [End::Complete, End::Complete].as_slice());
     Ok(())
 }
 
-// How many items and lines each worker's log has.
-fn counts(alloc: Global, outcome: &Outcome) -> Result<Vec<(usize, u32)>, Fail> {
-    let mut counts = Vec::new(alloc);
-    for log in outcome.logs.as_slice() {
-        counts.push((log.items().len(), log.lines()))?;
-    }
-    Ok(counts)
+// Whether two workers' logs have so many items and lines each.
+fn have(outcome: &Outcome, counts: [(usize, u32); 2]) -> bool {
+    let [first, second] = outcome.logs.as_slice() else {
+        return false;
+    };
+    (first.items().len(), first.lines()) == counts[0]
+        && (second.items().len(), second.lines()) == counts[1]
 }
 
 #[test]
@@ -213,10 +243,11 @@ fn a_source_that_fails_ends_its_worker_and_no_other(rt: HostRuntime) -> Result<(
     let alloc = rt.alloc();
     let first = failing(alloc, b"MEMBER,101\nMEMBER,x\nMEMBER,202\n");
     let second = ending(alloc, b"MEMBER,303\n");
-    let outcome = run(&rt, alloc, vec![in alloc; first, second]?, &NoGate)?;
+    let sources = vec![in alloc; first, second]?;
+    let outcome = run(&rt, alloc, sources, &NoGate);
     let ends = [End::Source(SourceFault::Read), End::Complete];
     assert!(&rt; outcome.ends.as_slice() == ends.as_slice());
-    assert!(&rt; counts(alloc, &outcome)?.as_slice() == [(2, 1), (1, 0)].as_slice());
+    assert!(&rt; have(&outcome, [(2, 1), (1, 0)]));
     Ok(())
 }
 
@@ -239,7 +270,8 @@ impl Source for Starved {
 #[test]
 fn a_source_without_memory_ends_its_worker(rt: HostRuntime) -> Result<(), Fail> {
     let alloc = rt.alloc();
-    let outcome = run(&rt, alloc, vec![in alloc; Starved, Starved]?, &NoGate)?;
+    let sources = vec![in alloc; Starved, Starved]?;
+    let outcome = run(&rt, alloc, sources, &NoGate);
     let end = End::Source(SourceFault::NoMemory);
     assert!(&rt; outcome.ends.as_slice() == [end, end].as_slice());
     assert!(&rt; entries(&outcome) == 0);
@@ -254,7 +286,7 @@ fn a_run_has_1_to_64_workers(rt: HostRuntime) -> Result<(), Fail> {
         for _worker in 0..workers {
             sources.push(ending(alloc, MEMBERS.as_bytes()))?;
         }
-        let refused = run_workers(&rt, alloc, day(FIRST)?, sources, &NoGate).err();
+        let refused = run_workers(&rt, alloc, first_day(&rt), sources, &NoGate).err();
         assert!(&rt; refused == Some(RunFault::Workers), "{workers}");
     }
     Ok(())
@@ -265,11 +297,12 @@ fn a_gate_stands_around_each_command_and_no_record_at_fault(rt: HostRuntime) -> 
     let alloc = rt.alloc();
     let first = ending(alloc, b"MEMBER,x\nMEMBER,101\nMEMBER,x\nMEMBER,202\n");
     let second = ending(alloc, b"MEMBER,303\n");
+    let sources = vec![in alloc; first, second]?;
     let gate = Tally {
         before: AtomicU64::new(0),
         answered: AtomicU64::new(0),
     };
-    let outcome = run(&rt, alloc, vec![in alloc; first, second]?, &gate)?;
+    let outcome = run(&rt, alloc, sources, &gate);
     assert!(&rt; entries(&outcome) == 3);
     assert!(&rt; gate.before.load(SeqCst) == 40_004);
     assert!(&rt; gate.answered.load(SeqCst) == 40_004);

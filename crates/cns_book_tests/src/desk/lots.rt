@@ -46,7 +46,7 @@ const FORMS: [Form; 16] = [
     (4, "MEMBER", &[Member]),
     (4, "ISSUE", &[Issue, PRICE]),
     (
-        70,
+        61,
         "TRADE",
         &[
             Below(1_000_000),
@@ -70,7 +70,8 @@ const FORMS: [Form; 16] = [
     (1, "CLOSE", &[Date(1)]),
     (10, "POSITION", &[Account, Issue]),
     (10, "STATEMENT", &[Account, Date(0)]),
-    (1, "X", &[]),
+    // A record that is at fault, one in twenty.
+    (10, "X", &[]),
 ];
 
 // Numbers that look drawn by lot, the same ones for the same seed.
@@ -120,7 +121,7 @@ impl Lot {
         &FORMS[0]
     }
 
-    // Writes a record of a day: a command, or one in two hundred that is at fault.
+    // Writes a record of a day: a command, or one in twenty that is at fault.
     pub(super) fn record(&mut self, text: &mut Vec<u8>, at: usize) -> Result<(), Fail> {
         let (_, kind, fields) = self.form();
         write!(text, "{kind}")?;

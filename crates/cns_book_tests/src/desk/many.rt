@@ -2,7 +2,7 @@
 use super::gates::Meeting;
 use super::inputs::ending;
 use super::lots::{Lot, closing};
-use crate::script::{FIRST, are_same, day, take};
+use crate::script::{FIRST, are_same, day, first_day, take};
 use cns_book::Book;
 use cns_desk::{DeskBook, End, Outcome, run_workers};
 use cns_positions::Positions;
@@ -142,7 +142,7 @@ fn check_run<R: Abort + Clock + Threads + Wait + Sync>(
         sources.push(ending(alloc, text.as_slice()))?;
     }
     let gate = Meeting::new(rt, size.workers as u64);
-    match run_workers(rt, alloc, day(FIRST)?, sources, &gate) {
+    match run_workers(rt, alloc, first_day(rt), sources, &gate) {
         Ok(outcome) => check_outcome(rt, alloc, &outcome, size),
         Err(_) => Err(Fail::new("no outcome")),
     }
