@@ -6,9 +6,16 @@ mod lots;
 mod many;
 mod seats;
 
+use crate::script::first_day;
+use cns_desk::{Outcome, run_workers};
+use cns_terms::{Gate, Source};
+use inputs::ending;
 use std::alloc::Global;
 use std::io::Write;
+use std::process::Abort;
+use std::sync::Wait;
 use std::test::Fail;
+use std::thread::Threads;
 
 // Members 101 and 202, and an issue.
 const MEMBERS: &str = "MEMBER,101\nMEMBER,202\nISSUE,037833100,19500\n";
@@ -22,6 +29,29 @@ fn trades(text: &mut Vec<u8>, first: u64, last: u64) -> Result<(), Fail> {
         )?;
     }
     Ok(())
+}
+
+// Runs a worker for each source.
+fn run<S: Source + Send + Drop, G: Gate + Sync, R: Abort + Threads + Wait + Sync>(
+    rt: &R,
+    alloc: Global,
+    sources: Vec<S>,
+    gate: &G,
+) -> Outcome {
+    run_workers(rt, alloc, first_day(rt), sources, gate).expect(rt, "an outcome")
+}
+
+// Runs two workers with these records.
+fn run_two<G: Gate + Sync, R: Abort + Threads + Wait + Sync>(
+    rt: &R,
+    alloc: Global,
+    records: [&[u8]; 2],
+    gate: &G,
+) -> Outcome {
+    let first = ending(alloc, records[0]);
+    let second = ending(alloc, records[1]);
+    let sources = vec![in alloc; first, second].expect(rt, "memory");
+    run(rt, alloc, sources, gate)
 }
 
 // The records of two workers, fifty each. Trades of the second are refused until the first has given three.

@@ -15,7 +15,7 @@ type Shown = (usize, Option<Holding>, Option<Row>);
 // A check of a caller need not go through what these calls promise.
 fn held<P: Positions<A>, A: Allocator + Drop + Clone>(
     book: &Book<P, A>,
-    key: Key,
+    key: &Key,
 ) -> Option<Holding> {
     book.position(key.account, key.issue)
 }
@@ -23,10 +23,10 @@ fn held<P: Positions<A>, A: Allocator + Drop + Clone>(
 fn row<P: Positions<A>, A: Allocator + Drop + Clone>(
     rt: &impl Abort,
     book: &Book<P, A>,
-    key: Key,
+    key: &Key,
 ) -> Option<Row> {
     match book.sheet(first_day(rt)) {
-        Some(sheet) => sheet.row(key),
+        Some(sheet) => sheet.row(*key),
         None => None,
     }
 }
@@ -34,7 +34,7 @@ fn row<P: Positions<A>, A: Allocator + Drop + Clone>(
 fn show<P: Positions<A>, A: Allocator + Drop + Clone>(
     rt: &impl Abort,
     book: &Book<P, A>,
-    key: Key,
+    key: &Key,
 ) -> Shown {
     (entries(book), held(book, key), row(rt, book, key))
 }
@@ -62,15 +62,19 @@ fn has_memory<P: Positions<A>, A: Allocator + Drop + Clone>(
 fn exhaust<P: Positions<A>, A: Allocator + Drop + Clone>(
     rt: &impl Abort,
     book: &mut Book<P, A>,
-    trade: Trade,
+    trade: &Trade,
 ) -> (Shown, Shown) {
-    let key = Key {
+    let key = &Key {
         account: trade.buyer.account(),
         issue: trade.issue,
     };
     for reference in 10..10_010 {
         let before = show(rt, book, key);
-        if !has_memory(rt, book, Trade { reference, ..trade }) {
+        let next = Trade {
+            reference,
+            ..*trade
+        };
+        if !has_memory(rt, book, next) {
             return (before, show(rt, book, key));
         }
     }
@@ -85,7 +89,7 @@ fn check_exhausted<P: Positions<A>, A: Allocator + Drop + Clone>(
 ) -> Result<(), Fail> {
     play(alloc, book, DAY, DAY_REPLIES)?;
     let trade = trade(alloc, "TRADE,1,1,2,037833100,1,0,2024-06-04\n")?;
-    let (before, after) = exhaust(rt, book, trade);
+    let (before, after) = exhaust(rt, book, &trade);
     assert!(rt; before == after);
     assert!(rt; before.1.is_some() && before.2.is_some());
     Ok(())

@@ -1,17 +1,15 @@
 // Audits of logs in which something was changed.
-use super::hundred;
-use super::inputs::ending;
+use super::{hundred, run_two};
 use crate::script::{command, first_day, sheet_of, take};
 use cns_book::{Book, Receipt};
-use cns_desk::{DeskBook, Log, LogItem, Outcome, audit, run_workers};
+use cns_desk::{DeskBook, Log, LogItem, Outcome, audit};
 use cns_positions::Positions;
 use cns_sheets::Sheet;
 use cns_terms::{Activity, Command, NoGate, Reply, Worker};
 use std::alloc::Global;
 use std::process::Abort;
-use std::sync::{Arc, Wait};
+use std::sync::Arc;
 use std::test::Fail;
-use std::thread::Threads;
 
 // What is done to a copy of a log, at a place from 1.
 #[derive(Clone, Copy)]
@@ -158,23 +156,12 @@ fn check_changes<A: Abort>(rt: &A, alloc: Global, outcome: &Outcome) -> Result<(
     Ok(())
 }
 
-// The outcome of two workers with these records.
-fn run<R: Abort + Threads + Wait + Sync>(
-    rt: &R,
-    alloc: Global,
-    first: &[u8],
-    second: &[u8],
-) -> Outcome {
-    let sources = vec![in alloc; ending(alloc, first), ending(alloc, second)];
-    let sources = sources.expect(rt, "memory");
-    run_workers(rt, alloc, first_day(rt), sources, &NoGate).expect(rt, "an outcome")
-}
-
 #[test]
 fn an_audit_names_the_first_place_that_differs(rt: HostRuntime) -> Result<(), Fail> {
     let alloc = rt.alloc();
     let (first, second) = hundred(alloc)?;
-    let outcome = run(&rt, alloc, first.as_slice(), second.as_slice());
+    let records = [first.as_slice(), second.as_slice()];
+    let outcome = run_two(&rt, alloc, records, &NoGate);
     check_changes(&rt, alloc, &outcome)
 }
 
@@ -237,7 +224,8 @@ fn add_first(log: &mut Log, outcome: &Outcome) -> Result<(), Fail> {
 fn a_worker_without_a_log_has_an_empty_one(rt: HostRuntime) -> Result<(), Fail> {
     let alloc = rt.alloc();
     let (first, second) = hundred(alloc)?;
-    let outcome = run(&rt, alloc, first.as_slice(), second.as_slice());
+    let records = [first.as_slice(), second.as_slice()];
+    let outcome = run_two(&rt, alloc, records, &NoGate);
     check_counts(&rt, alloc, &outcome)
 }
 

@@ -3,7 +3,7 @@ ghost use Rattle.std.specs.Prelude.{Err, None, Some, true};
 ghost use Rattle.cns_terms.specs.declared.source.SourceFault.TheVariants as fault;
 
 use super::inputs::{ending, failing};
-use super::{MEMBERS, hundred};
+use super::{MEMBERS, hundred, run, run_two};
 use crate::script::{APPLE, first_day};
 use cns_book::Book;
 use cns_desk::{End, LogItem, Outcome, RunFault, run_workers};
@@ -71,6 +71,16 @@ struct After<C> {
     answered: AtomicU64,
 }
 
+impl<C> After<C> {
+    fn new(clock: C, wanted: u64) -> After<C> {
+        After {
+            clock,
+            wanted,
+            answered: AtomicU64::new(0),
+        }
+    }
+}
+
 impl<C: Clock> Gate for After<C> {
     fn before<R: Wait>(&self, _rt: &R, worker: Worker, seq: u32) {
         if worker.value() != 2 || seq != 1 {
@@ -112,32 +122,24 @@ impl Gate for Tally {
     }
 }
 
-// Runs a worker for each source.
-fn run<S: Source + Send + Drop, G: Gate + Sync, R: Abort + Threads + Wait + Sync>(
-    rt: &R,
-    alloc: Global,
-    sources: Vec<S>,
-    gate: &G,
-) -> Outcome {
-    run_workers(rt, alloc, first_day(rt), sources, gate).expect(rt, "an outcome")
-}
-
 // The length of the history.
 fn entries(outcome: &Outcome) -> usize {
     outcome.book.history_len()
 }
 
+// Whether each worker ended so.
+fn have_ended(outcome: &Outcome, ends: [End; 2]) -> bool {
+    outcome.ends.as_slice() == ends.as_slice()
+}
+
+const THREE_MEMBERS: [&[u8]; 2] = [b"MEMBER,101\nMEMBER,202\n", b"MEMBER,303\n"];
+
 #[test]
-fn workers_run_at_once(rt: HostRuntime) -> Result<(), Fail> {
-    let alloc = rt.alloc();
-    let first = ending(alloc, b"MEMBER,101\nMEMBER,202\n");
-    let second = ending(alloc, b"MEMBER,303\n");
-    let sources = vec![in alloc; first, second]?;
+fn workers_run_at_once(rt: HostRuntime) {
     let gate = Meeting::new(&rt, 2);
-    let outcome = run(&rt, alloc, sources, &gate);
+    let outcome = run_two(&rt, rt.alloc(), THREE_MEMBERS, &gate);
     assert!(&rt; gate.late.load(SeqCst) == 0);
     assert!(&rt; entries(&outcome) == 3);
-    Ok(())
 }
 
 // Whether a log's replies are this text.
@@ -159,23 +161,19 @@ fn second_is_told(alloc: Global, outcome: &Outcome, text: &str) -> bool {
     }
 }
 
+// A trade of one worker, after which the other asks for a position.
+const TRADE_AND_QUESTION: [&[u8]; 2] = [
+    b"MEMBER,101\nMEMBER,202\nISSUE,037833100,19500\n\
+TRADE,1,101,202,037833100,5,97500,2024-06-03\n",
+    b"POSITION,101,037833100\n",
+];
+
 #[test]
-fn a_reply_shows_what_another_worker_was_answered_before(rt: HostRuntime) -> Result<(), Fail> {
-    let alloc = rt.alloc();
-    let records = "MEMBER,101\nMEMBER,202\nISSUE,037833100,19500\n\
-TRADE,1,101,202,037833100,5,97500,2024-06-03\n";
-    let first = ending(alloc, records.as_bytes());
-    let second = ending(alloc, b"POSITION,101,037833100\n");
-    let sources = vec![in alloc; first, second]?;
-    let gate = After {
-        clock: &rt,
-        wanted: 4,
-        answered: AtomicU64::new(0),
-    };
-    let outcome = run(&rt, alloc, sources, &gate);
+fn a_reply_shows_what_another_worker_was_answered_before(rt: HostRuntime) {
+    let gate = After::new(&rt, 4);
+    let outcome = run_two(&rt, rt.alloc(), TRADE_AND_QUESTION, &gate);
     let told = "position 101 037833100 5 0 -975.00 0\n";
-    assert!(&rt; second_is_told(alloc, &outcome, told));
-    Ok(())
+    assert!(&rt; second_is_told(rt.alloc(), &outcome, told));
 }
 
 // Whether the history has so many entries of a worker.
@@ -208,24 +206,25 @@ fn has_bought<P: Positions<Global>>(
     }
 }
 
+// Runs two workers of fifty commands each, the second of which waits for the first one's members and issue.
+fn check_hundred<R: Abort + Clock + Threads + Wait + Sync>(
+    rt: &R,
+    alloc: Global,
+    records: [&[u8]; 2],
+) {
+    let gate = After::new(rt, 3);
+    let outcome = run_two(rt, alloc, records, &gate);
+    assert!(rt; entries(&outcome) == 100);
+    assert!(rt; has_entries(&outcome.book, 1, 50));
+    assert!(rt; has_entries(&outcome.book, 2, 50));
+    assert!(rt; has_bought(rt, &outcome.book, 97, -1_891_500));
+    assert!(rt; have_ended(&outcome, [End::Complete, End::Complete]));
+}
+
 #[test]
 fn a_hundred_commands_of_two_workers_are_one_history(rt: HostRuntime) -> Result<(), Fail> {
-    let alloc = rt.alloc();
-    let (one, two) = hundred(alloc)?;
-    let first = ending(alloc, one.as_slice());
-    let second = ending(alloc, two.as_slice());
-    let sources = vec![in alloc; first, second]?;
-    let gate = After {
-        clock: &rt,
-        wanted: 3,
-        answered: AtomicU64::new(0),
-    };
-    let outcome = run(&rt, alloc, sources, &gate);
-    assert!(&rt; entries(&outcome) == 100);
-    assert!(&rt; has_entries(&outcome.book, 1, 50));
-    assert!(&rt; has_entries(&outcome.book, 2, 50));
-    assert!(&rt; has_bought(&rt, &outcome.book, 97, -1_891_500));
-    assert!(&rt; outcome.ends.as_slice() == [End::Complete, End::Complete].as_slice());
+    let (first, second) = hundred(rt.alloc())?;
+    check_hundred(&rt, rt.alloc(), [first.as_slice(), second.as_slice()]);
     Ok(())
 }
 
@@ -239,16 +238,15 @@ fn have(outcome: &Outcome, counts: [(usize, u32); 2]) -> bool {
 }
 
 #[test]
-fn a_source_that_fails_ends_its_worker_and_no_other(rt: HostRuntime) -> Result<(), Fail> {
+fn a_source_that_fails_ends_its_worker_and_no_other(rt: HostRuntime) {
     let alloc = rt.alloc();
     let first = failing(alloc, b"MEMBER,101\nMEMBER,x\nMEMBER,202\n");
     let second = ending(alloc, b"MEMBER,303\n");
-    let sources = vec![in alloc; first, second]?;
+    let sources = vec![in alloc; first, second].expect(&rt, "memory");
     let outcome = run(&rt, alloc, sources, &NoGate);
-    let ends = [End::Source(SourceFault::Read), End::Complete];
-    assert!(&rt; outcome.ends.as_slice() == ends.as_slice());
+    let read = End::Source(SourceFault::Read);
+    assert!(&rt; have_ended(&outcome, [read, End::Complete]));
     assert!(&rt; have(&outcome, [(2, 1), (1, 0)]));
-    Ok(())
 }
 
 // A source that finds no memory for its first record.
@@ -268,14 +266,12 @@ impl Source for Starved {
 }
 
 #[test]
-fn a_source_without_memory_ends_its_worker(rt: HostRuntime) -> Result<(), Fail> {
-    let alloc = rt.alloc();
-    let sources = vec![in alloc; Starved, Starved]?;
-    let outcome = run(&rt, alloc, sources, &NoGate);
+fn a_source_without_memory_ends_its_worker(rt: HostRuntime) {
+    let sources = vec![in rt.alloc(); Starved, Starved].expect(&rt, "memory");
+    let outcome = run(&rt, rt.alloc(), sources, &NoGate);
     let end = End::Source(SourceFault::NoMemory);
-    assert!(&rt; outcome.ends.as_slice() == [end, end].as_slice());
+    assert!(&rt; have_ended(&outcome, [end, end]));
     assert!(&rt; entries(&outcome) == 0);
-    Ok(())
 }
 
 #[test]
@@ -292,19 +288,19 @@ fn a_run_has_1_to_64_workers(rt: HostRuntime) -> Result<(), Fail> {
     Ok(())
 }
 
+const WITH_FAULTS: [&[u8]; 2] = [
+    b"MEMBER,x\nMEMBER,101\nMEMBER,x\nMEMBER,202\n",
+    b"MEMBER,303\n",
+];
+
 #[test]
-fn a_gate_stands_around_each_command_and_no_record_at_fault(rt: HostRuntime) -> Result<(), Fail> {
-    let alloc = rt.alloc();
-    let first = ending(alloc, b"MEMBER,x\nMEMBER,101\nMEMBER,x\nMEMBER,202\n");
-    let second = ending(alloc, b"MEMBER,303\n");
-    let sources = vec![in alloc; first, second]?;
+fn a_gate_stands_around_each_command_and_no_record_at_fault(rt: HostRuntime) {
     let gate = Tally {
         before: AtomicU64::new(0),
         answered: AtomicU64::new(0),
     };
-    let outcome = run(&rt, alloc, sources, &gate);
+    let outcome = run_two(&rt, rt.alloc(), WITH_FAULTS, &gate);
     assert!(&rt; entries(&outcome) == 3);
     assert!(&rt; gate.before.load(SeqCst) == 40_004);
     assert!(&rt; gate.answered.load(SeqCst) == 40_004);
-    Ok(())
 }
