@@ -18,7 +18,7 @@ CRATES :=
 help:
 	@grep -E '^# [a-z]+:' Makefile | sed 's/^# //'
 
-# try: plays the samples without a proof, in two minutes
+# try: plays the samples without a proof, in a minute and a half
 try:
 	@room=$$(mktemp -d); trap 'rm -rf "$$room"' EXIT; \
 	    for name in $(SAMPLES); do \
