@@ -49,64 +49,23 @@ module _ (s : Contents) (J : Journal) where
   after x = posting s.opening J x ∷ J
 
   pub clock_stays : (x : Activity) → is_close x ≡ false → FollowsClock J s → FollowsClock (after x) s
-  clock_stays (activity.Member m) h f = record { today = f.today; closes = f.closes }
-  clock_stays (activity.Issue l) h f = record { today = f.today; closes = f.closes }
-  clock_stays (activity.Trade t) h f = record { today = f.today; closes = f.closes }
-  clock_stays (activity.Price l) h f = record { today = f.today; closes = f.closes }
-  clock_stays (activity.Deliver m) h f = record { today = f.today; closes = f.closes }
-  clock_stays (activity.Receive m) h f = record { today = f.today; closes = f.closes }
-  clock_stays (activity.Dividend d) h f = record { today = f.today; closes = f.closes }
-  clock_stays (activity.Split p) h f = record { today = f.today; closes = f.closes }
-  clock_stays (activity.Exchange x) h f = record { today = f.today; closes = f.closes }
-  clock_stays (activity.Notice m) h f = record { today = f.today; closes = f.closes }
-  clock_stays (activity.Withdraw k) h f = record { today = f.today; closes = f.closes }
-  clock_stays (activity.Execute x) h f = record { today = f.today; closes = f.closes }
   clock_stays (activity.Close d) h f = cc
+  clock_stays _ h f = record { today = f.today; closes = f.closes }
 
   pub listings_stay : (x : Activity) → is_listing x ≡ false → FollowsListings J s → FollowsListings (after x) s
   listings_stay (activity.Member m) h f = cc
   listings_stay (activity.Issue l) h f = cc
-  listings_stay (activity.Trade t) h f = record { members = f.members; prices = f.prices; retired = f.retired }
   listings_stay (activity.Price l) h f = cc
-  listings_stay (activity.Deliver m) h f = record { members = f.members; prices = f.prices; retired = f.retired }
-  listings_stay (activity.Receive m) h f = record { members = f.members; prices = f.prices; retired = f.retired }
-  listings_stay (activity.Dividend d) h f = record { members = f.members; prices = f.prices; retired = f.retired }
-  listings_stay (activity.Split p) h f = record { members = f.members; prices = f.prices; retired = f.retired }
   listings_stay (activity.Exchange x) h f = cc
-  listings_stay (activity.Notice m) h f = record { members = f.members; prices = f.prices; retired = f.retired }
-  listings_stay (activity.Withdraw k) h f = record { members = f.members; prices = f.prices; retired = f.retired }
-  listings_stay (activity.Execute x) h f = record { members = f.members; prices = f.prices; retired = f.retired }
-  listings_stay (activity.Close d) h f = record { members = f.members; prices = f.prices; retired = f.retired }
+  listings_stay _ h f = record { members = f.members; prices = f.prices; retired = f.retired }
 
   pub dividends_stay : (x : Activity) → is_dividend x ≡ false → FollowsDividends J s → FollowsDividends (after x) s
-  dividends_stay (activity.Member m) h f = f
-  dividends_stay (activity.Issue l) h f = f
-  dividends_stay (activity.Trade t) h f = f
-  dividends_stay (activity.Price l) h f = f
-  dividends_stay (activity.Deliver m) h f = f
-  dividends_stay (activity.Receive m) h f = f
   dividends_stay (activity.Dividend d) h f = cc
-  dividends_stay (activity.Split p) h f = f
-  dividends_stay (activity.Exchange x) h f = f
-  dividends_stay (activity.Notice m) h f = f
-  dividends_stay (activity.Withdraw k) h f = f
-  dividends_stay (activity.Execute x) h f = f
-  dividends_stay (activity.Close d) h f = f
+  dividends_stay _ h f = f
 
   pub sheets_stay : (x : Activity) → is_close x ≡ false → FollowsSheets J s → FollowsSheets (after x) s
-  sheets_stay (activity.Member m) h f = f
-  sheets_stay (activity.Issue l) h f = f
-  sheets_stay (activity.Trade t) h f = f
-  sheets_stay (activity.Price l) h f = f
-  sheets_stay (activity.Deliver m) h f = f
-  sheets_stay (activity.Receive m) h f = f
-  sheets_stay (activity.Dividend d) h f = f
-  sheets_stay (activity.Split p) h f = f
-  sheets_stay (activity.Exchange x) h f = f
-  sheets_stay (activity.Notice m) h f = f
-  sheets_stay (activity.Withdraw k) h f = f
-  sheets_stay (activity.Execute x) h f = f
   sheets_stay (activity.Close d) h f = cc
+  sheets_stay _ h f = f
 
   -- what an activity books, and no more, is the effect on the rows
   pub rows_booked : (x : Activity) (rows : Rows) → is_close x ≡ false → ((k : Key) → holding_at rows k ≡ books (entries s.opening J x) k (holding_at s.rows k)) → FollowsRows J s → FollowsRows (after x) (record s { rows = rows })
@@ -119,19 +78,14 @@ module _ (s : Contents) (J : Journal) where
 
   -- an activity that touches no notice leaves them
   pub notices_stay : (x : Activity) → is_noticing x ≡ false → FollowsNotices J s → FollowsNotices (after x) s
-  notices_stay (activity.Member m) h f = f ∙ sym (untouched_by J (posting s.opening J (activity.Member m)) (λ k y. refl))
-  notices_stay (activity.Issue l) h f = f ∙ sym (untouched_by J (posting s.opening J (activity.Issue l)) (λ k y. refl))
-  notices_stay (activity.Trade t) h f = f ∙ sym (untouched_by J (posting s.opening J (activity.Trade t)) (λ k y. refl))
-  notices_stay (activity.Price l) h f = f ∙ sym (untouched_by J (posting s.opening J (activity.Price l)) (λ k y. refl))
-  notices_stay (activity.Deliver m) h f = f ∙ sym (untouched_by J (posting s.opening J (activity.Deliver m)) (λ k y. refl))
   notices_stay (activity.Receive m) h f = cc
-  notices_stay (activity.Dividend d) h f = f ∙ sym (untouched_by J (posting s.opening J (activity.Dividend d)) (λ k y. refl))
   notices_stay (activity.Split p) h f = cc
   notices_stay (activity.Exchange x) h f = cc
   notices_stay (activity.Notice m) h f = cc
   notices_stay (activity.Withdraw k) h f = cc
   notices_stay (activity.Execute x) h f = cc
   notices_stay (activity.Close d) h f = cc
+  notices_stay x h f = f ∙ sym (untouched_by J (posting s.opening J x) (λ k y. refl))
 
   -- one that executes none leaves the batches
   pub batches_stay : (x : Activity) → is_close x ≡ false → is_execution x ≡ false → FollowsBatches J s → FollowsBatches (after x) s

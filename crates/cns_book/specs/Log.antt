@@ -8,21 +8,26 @@ use Rattle.cns_terms.specs.History.{count, state}
 use Rattle.cns_terms.specs.Machine.{State, answer}
 use Rattle.cns_book.specs.declared.receipt.Receipt.{Receipt}
 
--- a book: its opening date, the most commands that it takes, and its history, the newest first
+-- what a book remembers: its opening date, the most commands that it takes, and its history, the newest first
 pub record Log : Type 0 where
   pub opening : Day
   pub limit : ℕ
   pub history : List Taken
 
--- a book that has taken nothing yet
+-- a book: its log, of which all that it answers follows, and how many rows its positions have, of zeros too
+pub record BookView : Type 0 where
+  pub log : Log
+  pub rows : ℕ
+
+-- the log of a book that has taken nothing yet
 abbrev pub empty_log : Day → ℕ → Log
 empty_log opening limit = record { opening = opening; limit = limit; history = [] }
 
--- the state of the machine after a book's history
+-- the state of the machine after a log's history
 abbrev pub state_of : Log → State
 state_of b = state b.opening b.history
 
--- a book with one entry more
+-- a log with one entry more
 abbrev pub with_taken : Log → Taken → Log
 with_taken b t = record { opening = b.opening; limit = b.limit; history = t ∷ b.history }
 

@@ -24,7 +24,8 @@ use std::alloc::Allocator;
 use std::marker::Model;
 use std::sync::Arc;
 
-/// A book over any form of positions. Contracts see its opening date, its limit and its history, the newest first.
+/// A book over any form of positions. Contracts see its log, which is its opening date, its limit and its history, the
+/// newest first, and how many rows its positions have. All that a book answers follows from its log.
 ///
 /// The type keeps that the history is legal, that each reply in it is the machine's, and that every part shows what
 /// the definitions say of the accepted activities.
@@ -37,13 +38,16 @@ pub struct Book<P: Positions<A>, A: Allocator + Drop + Clone> {
 }
 
 impl<P: Positions<A>, A: Allocator + Drop + Clone> Model for Book<P, A> {
-    ghost use Rattle.std.specs.Prelude.{reverse};
+    ghost use Rattle.std.specs.Prelude.{length, reverse};
     ghost use Rattle.cns_book.specs.Legal.{IsBook};
-    ghost use Rattle.cns_book.specs.Log.{Log};
+    ghost use Rattle.cns_book.specs.Log.{BookView};
 
-    ghost Value = { Log };
+    ghost Value = { BookView };
 
-    ghost view = { λ b. record { opening = b.parts.opening; limit = b.limit; history = reverse b.history.items } };
+    ghost view = { λ b. record {
+      log = record { opening = b.parts.opening; limit = b.limit; history = reverse b.history.items };
+      rows = length b.parts.rows;
+    } };
 
     ghost invariant = { λ b. IsBook b.limit (reverse b.history.items) b.counts b.parts };
 }
@@ -52,14 +56,16 @@ impl<P: Positions<A>, A: Allocator + Drop + Clone> Book<P, A> {
     /// A book that has taken nothing, opened on the date, for as many commands as a history may have: 4,294,967,295.
     /// `NoMemory` where the allocator could not be copied.
     pub fn new(alloc: A, date: Day) -> Result<Self, NoMemory>
-        ensures { IfOk result (λ b. b ≡ empty_log date (2 ^ 32 - 1)) }
+        ensures log { IfOk result (λ b. b.log ≡ empty_log date (2 ^ 32 - 1)) }
+        ensures rows { IfOk result (λ b. b.rows ≡ 0) }
     {
         Book::with_limit(alloc, date, u32::MAX)
     }
 
     /// A book that has taken nothing, opened on the date, for at most that many commands.
     pub fn with_limit(alloc: A, date: Day, limit: u32) -> Result<Self, NoMemory>
-        ensures { IfOk result (λ b. b ≡ empty_log date limit) }
+        ensures log { IfOk result (λ b. b.log ≡ empty_log date limit) }
+        ensures rows { IfOk result (λ b. b.rows ≡ 0) }
     {
         Ok(Book {
             limit,
@@ -71,21 +77,21 @@ impl<P: Positions<A>, A: Allocator + Drop + Clone> Book<P, A> {
 
     /// The open day's date: what the last close named, or the opening date.
     pub fn today(&self) -> Day
-        ensures { result ≡ date self.now.opening (journal_of (state_of self.now)) }
+        ensures { result ≡ date self.now.log.opening (journal_of (state_of self.now.log)) }
     {
         self.parts.today()
     }
 
     /// The open day's number, from 1; one more than the days that were closed.
     pub fn day(&self) -> u64
-        ensures { result ≡ day (journal_of (state_of self.now)) }
+        ensures { result ≡ day (journal_of (state_of self.now.log)) }
     {
         self.parts.day()
     }
 
     /// What stands at an account's place in an issue, as a POSITION shows it; None where a POSITION would be refused.
     pub fn position(&self, account: Account, cusip: Cusip) -> Option<Holding>
-        ensures { result ≡ position_shown (state_of self.now) (record { account = account; issue = cusip }) }
+        ensures { result ≡ position_shown (state_of self.now.log) (record { account = account; issue = cusip }) }
     {
         self.parts.position(Key {
             account,
@@ -95,7 +101,7 @@ impl<P: Positions<A>, A: Allocator + Drop + Clone> Book<P, A> {
 
     /// The price of an issue in cents, the last that was set; None where the issue is not listed.
     pub fn price(&self, cusip: Cusip) -> Option<Price>
-        ensures { result ≡ price_shown (state_of self.now) cusip }
+        ensures { result ≡ price_shown (state_of self.now.log) cusip }
     {
         self.parts.price(cusip)
     }
@@ -104,14 +110,14 @@ impl<P: Positions<A>, A: Allocator + Drop + Clone> Book<P, A> {
     /// shared by a copy of its `Arc`.
     pub fn sheet(&self, date: Day) -> Option<&Arc<Sheet<A>, A>>
         ensures { option_map arc_value (option_copied result)
-            ≡ sheet_on self.now.opening (journal_of (state_of self.now)) date }
+            ≡ sheet_on self.now.log.opening (journal_of (state_of self.now.log)) date }
     {
         self.parts.sheet(date)
     }
 
     /// A notice as it stands, by its number from 1; None where none has the number.
     pub fn notice(&self, number: u32) -> Option<Notice>
-        ensures { result ≡ notice_shown (state_of self.now) number }
+        ensures { result ≡ notice_shown (state_of self.now.log) number }
     {
         self.parts.notice(number)
     }
@@ -119,7 +125,7 @@ impl<P: Positions<A>, A: Allocator + Drop + Clone> Book<P, A> {
     /// The batch that the close of a day chose in an issue, with what is left of each liability now; None where nobody was
     /// liable there, or the day is not closed. Days are numbered from 1.
     pub fn batch(&self, day: u32, cusip: Cusip) -> Option<&Batch<A>>
-        ensures { option_copied result ≡ batch_shown (state_of self.now) day cusip }
+        ensures { option_copied result ≡ batch_shown (state_of self.now.log) day cusip }
     {
         self.parts.batch(day, cusip)
     }
@@ -127,14 +133,14 @@ impl<P: Positions<A>, A: Allocator + Drop + Clone> Book<P, A> {
     /// The batches that the close of a day chose, in the order of the bytes of their issues; none where the day is not
     /// closed.
     pub fn batches(&self, day: u32) -> &[Batch<A>]
-        ensures { result.now ≡ batches_shown (state_of self.now) day }
+        ensures { result.now ≡ batches_shown (state_of self.now.log) day }
     {
         self.parts.batches(day)
     }
 
     /// The entry at a place of the history, from 1; None past its end.
     pub fn entry(&self, place: u32) -> Option<Taken>
-        ensures { result ≡ entry_at self.now.history place }
+        ensures { result ≡ entry_at self.now.log.history place }
     {
         if place == 0 {
             return None;
@@ -145,12 +151,12 @@ impl<P: Positions<A>, A: Allocator + Drop + Clone> Book<P, A> {
     /// A copy of the history, the oldest entry first: the commands with the replies that recomputing from them gives,
     /// each worker's numbered 1, 2, 3 and so on. `NoMemory` where a growth was refused.
     pub fn copy_history(&self) -> Result<Vec<Taken, A>, NoMemory>
-        ensures copy { IfOk result (λ v. v.items ≡ reverse self.now.history) }
-        ensures legal { IsLegal self.now.opening self.now.history }
-        ensures reached { IsReached self.now.opening (state_of self.now).accepted }
-        ensures few { length (state_of self.now).accepted < history_limit }
+        ensures copy { IfOk result (λ v. v.items ≡ reverse self.now.log.history) }
+        ensures legal { IsLegal self.now.log.opening self.now.log.history }
+        ensures reached { IsReached self.now.log.opening (state_of self.now.log).accepted }
+        ensures few { length (state_of self.now.log).accepted < history_limit }
         ensures replies { OnOk result
-            (replies_of self.now.history ≡ replies (opened self.now.opening) (commands_of self.now.history)) }
+            (replies_of self.now.log.history ≡ replies (opened self.now.log.opening) (commands_of self.now.log.history)) }
     {
         let mut copy = Vec::new(self.history.allocator().clone()?);
         copy.extend_from_slice(self.history.as_slice())?;
@@ -160,17 +166,17 @@ impl<P: Positions<A>, A: Allocator + Drop + Clone> Book<P, A> {
     /// How many commands were taken. The activities accepted of them are in their ranges, none was refused, and there are
     /// fewer than 2^32; so the laws of [`crate::laws`] hold of them.
     pub fn history_len(&self) -> usize
-        ensures len { result ≡ length self.now.history }
-        ensures legal { IsLegal self.now.opening self.now.history }
-        ensures reached { IsReached self.now.opening (state_of self.now).accepted }
-        ensures few { length (state_of self.now).accepted < history_limit }
+        ensures len { result ≡ length self.now.log.history }
+        ensures legal { IsLegal self.now.log.opening self.now.log.history }
+        ensures reached { IsReached self.now.log.opening (state_of self.now.log).accepted }
+        ensures few { length (state_of self.now.log).accepted < history_limit }
     {
         self.history.len()
     }
 
     /// How many commands of the worker were taken.
     pub fn count(&self, worker: Worker) -> u32
-        ensures { result ≡ count self.now.history worker }
+        ensures { result ≡ count self.now.log.history worker }
     {
         self.counts[worker.value() as usize - 1]
     }
@@ -178,12 +184,12 @@ impl<P: Positions<A>, A: Allocator + Drop + Clone> Book<P, A> {
     /// Takes a command: answers it as the machine does, and enters it and its reply into the history.
     ///
     /// `Full` exactly where the history is at its limit, before anything else is looked at; `NoMemory` where a growth
-    /// was refused. After either the book is as it was. A command that the machine refuses is taken, and stands in
-    /// the history with its refusal.
+    /// was refused. After either the book's log is as it was, and so is all that it answers; want of memory may leave rows
+    /// of zeros behind. A command that the machine refuses is taken, and stands in the history with its refusal.
     pub fn take(&mut self, worker: Worker, command: Command) -> Result<Receipt, TakeFault>
-        ensures full { (result ≡ Err TakeFault.Full) ↔ (length self.old.history ≡ self.old.limit) }
-        ensures ok { IfOk result (λ r. TakesStep self.old self.new worker command r) }
-        ensures err { OnErr result (self.new ≡ self.old) }
+        ensures full { (result ≡ Err TakeFault.Full) ↔ (length self.old.log.history ≡ self.old.log.limit) }
+        ensures ok { IfOk result (λ r. TakesStep self.old.log self.new.log worker command r) }
+        ensures err { OnErr result (self.new.log ≡ self.old.log) }
     {
         if self.history.len() >= self.limit as usize {
             return Err(TakeFault::Full);

@@ -71,6 +71,7 @@ impl<P: Positions<A>, A: Allocator + Drop + Clone> Parts<P, A> {
     /// The parts before anything was accepted.
     pub fn new(alloc: A, opening: Day) -> Result<Self, NoMemory>
         ensures opening { IfOk result (λ s. s.opening ≡ opening) }
+        ensures rows { IfOk result (λ s. s.rows ≡ []) }
         ensures follows { IfOk result (λ s. Follows [] s) }
     {
         Ok(Parts {

@@ -21,7 +21,7 @@ pub struct Mismatch {
 
 // Whether a sheet that was kept is the book's, of the day that the command states. No sheet fits anywhere.
 fn sheet_fits<P: Positions<Global>>(book: &Book<P, Global>, item: &LogItem) -> bool
-    ensures { (result ≡ true) ↔ SheetFits book.now item.now.command (option_map arc_value item.now.sheet) }
+    ensures { (result ≡ true) ↔ SheetFits book.now.log item.now.command (option_map arc_value item.now.sheet) }
 {
     let Some(kept) = &item.sheet else {
         return true;
@@ -42,7 +42,7 @@ fn fits<P: Positions<Global>>(
     place: u32,
     item: &LogItem,
 ) -> bool
-    ensures { (result ≡ true) ↔ Fits book.now worker place item.now }
+    ensures { (result ≡ true) ↔ Fits book.now.log worker place item.now }
 {
     let Some(entry) = book.entry(item.receipt.index) else {
         return false;
@@ -62,8 +62,8 @@ fn first_difference<P: Positions<Global>>(
     worker: Worker,
     items: &[LogItem],
 ) -> Option<usize>
-    ensures none { IfNone result (IsPart book.now worker items.now) }
-    ensures some { IfSome result (λ j. DiffersFirst book.now worker items.now j) }
+    ensures none { IfNone result (IsPart book.now.log worker items.now) }
+    ensures some { IfSome result (λ j. DiffersFirst book.now.log worker items.now j) }
 {
     let count = book.count(worker) as usize;
     for (at, item) in items.iter().enumerate() {
@@ -95,8 +95,8 @@ fn items_of(logs: &[Log], worker: Worker) -> &[LogItem]
 /// is that of worker 1; a worker without a log has an empty one. At most 64 logs. Takes no memory and waits for nobody.
 pub fn audit<P: Positions<Global>>(book: &Book<P, Global>, logs: &[Log]) -> Result<(), Mismatch>
     requires { length logs.now ≤ 64 }
-    ensures ok { (result ≡ Ok tt) ↔ AreParts book.now logs.now }
-    ensures err { IfErr result (λ m. Mismatches book.now logs.now m) }
+    ensures ok { (result ≡ Ok tt) ↔ AreParts book.now.log logs.now }
+    ensures err { IfErr result (λ m. Mismatches book.now.log logs.now m) }
 {
     for number in 1..65u8 {
         let worker = worker_of(number);

@@ -83,7 +83,7 @@ impl<L: Ledger, P: Positions<Global>> Desk<L, P> {
     /// The book, once all the desk's seats are back, in any order: its history is as long as their counts add up to.
     pub fn finish(self, seats: Vec<Seat<L>>) -> Book<P, Global>
         requires { vec_len seats ≡ L.parts }
-        ensures { length result.history ≡ counts_of seats.items }
+        ensures { length result.log.history ≡ counts_of seats.items }
     {
         let Desk { kept } = self;
         kept.into_inner().finish(seats)

@@ -20,8 +20,8 @@ use std::marker::Model;
 use std::sync::Arc;
 use std::sync::ledger::{Blank, Book as Total, Ledger, Share};
 
-/// A book, with the total of the ledger of its seats, which is the length of the book's history. Contracts see the book:
-/// its opening date, its limit and its history, which is legal. The positions may have either form.
+/// A book, with the total of the ledger of its seats, which is the length of the book's history. Contracts see the
+/// book's log: its opening date, its limit and its history, which is legal. The positions may have either form.
 #[derive(Drop)]
 pub struct Kept<L: Ledger, P: Positions<Global>> {
     book: Book<P, Global>,
@@ -36,9 +36,9 @@ impl<L: Ledger, P: Positions<Global>> Model for Kept<L, P> {
 
     ghost Value = { Log };
 
-    ghost view = { λ k. k.book };
+    ghost view = { λ k. k.book.log };
 
-    ghost invariant = { λ k. (k.total.total ≡ length k.book.history) × (k.gathered.parts ≡ 0) × (k.gathered.amount ≡ 0) };
+    ghost invariant = { λ k. (k.total.total ≡ length k.book.log.history) × (k.gathered.parts ≡ 0) × (k.gathered.amount ≡ 0) };
 }
 
 impl<L: Ledger, P: Positions<Global>> Kept<L, P> {
@@ -76,7 +76,7 @@ impl<L: Ledger, P: Positions<Global>> Kept<L, P> {
 
     /// The book.
     pub fn book(&self) -> &Book<P, Global>
-        ensures { result.now ≡ self.now }
+        ensures { result.now.log ≡ self.now }
     {
         &self.book
     }
@@ -152,8 +152,8 @@ impl<L: Ledger, P: Positions<Global>> Kept<L, P> {
     /// are this book's seats is in their type; each has one part of the ledger, so as many as it has parts are all.
     pub fn finish(self, seats: Vec<Seat<L>>) -> Book<P, Global>
         requires { vec_len seats ≡ L.parts }
-        ensures book { result ≡ self }
-        ensures counts { length result.history ≡ counts_of seats.items }
+        ensures book { result.log ≡ self }
+        ensures counts { length result.log.history ≡ counts_of seats.items }
     {
         let Kept {
             book,

@@ -88,7 +88,7 @@ fn run_audited<
     requires parts { blank.parts ≡ L.parts }
     requires one_each { blank.parts ≡ vec_len sources }
     ensures workers { (result ≡ Err RunFault.Workers) ↔ ((vec_len sources < 1) ⊎ (64 < vec_len sources)) }
-    ensures parts { IfOk result (λ o. AreParts o.book o.logs.items) }
+    ensures parts { IfOk result (λ o. AreParts o.book.log o.logs.items) }
     ensures ran { IfOk result (λ o. HaveRun S.may_fail S.told sources.items o.logs.items o.ends.items) }
 {
     let (desk, seats) = Desk::<L, TreePositions<Global>>::open(alloc, blank, date, sources.len())?;
@@ -124,7 +124,7 @@ pub fn run_workers<S: Source + Send + Drop, G: Gate + Sync, R: Threads + Wait + 
     gate: &G,
 ) -> Result<Outcome, RunFault>
     ensures workers { (result ≡ Err RunFault.Workers) ↔ ((vec_len sources < 1) ⊎ (64 < vec_len sources)) }
-    ensures parts { IfOk result (λ o. AreParts o.book o.logs.items) }
+    ensures parts { IfOk result (λ o. AreParts o.book.log o.logs.items) }
     ensures ran { IfOk result (λ o. HaveRun S.may_fail S.told sources.items o.logs.items o.ends.items) }
 {
     let blank = Blank::new(sources.len() as u64);

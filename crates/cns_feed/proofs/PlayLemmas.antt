@@ -8,7 +8,7 @@ use Rattle.cns_book.specs.Log.{Log, state_of}
 use Rattle.cns_feed.specs.Line.{Line}
 use Rattle.cns_feed.specs.Output.{Adds, Counts, is_accepted_close, is_at_fault, is_command, line_text, lines_of, no_counts, response_of, responses, state_after, state_after_line, texts}
 use Rattle.cns_feed.specs.Records.{Gives, Pending}
-use Rattle.cns_feed.specs.Replay.{HasRoomFor, IsUpTo, Leaves, LeavesAt, Stops, Takes, log_after, log_after_line}
+use Rattle.cns_feed.specs.Replay.{HasRoomFor, IsUpTo, Leaves, LeavesAt, Stops, log_after, log_after_line}
 use Rattle.cns_feed.specs.declared.fault.ReplayFault.{ReplayFault}
 use Rattle.cns_feed.specs.declared.fault.ReplayFault.TheVariants as fault
 use Rattle.cns_feed.specs.declared.response.Response.{Response}
@@ -82,6 +82,11 @@ up_to-less s m n le p = record {
 }
 
 -- ---- a book and its counts
+
+-- a book and a summary after lines
+pub record Takes (first now : Log) (old new : Summary) (lines : List Line) : Type 0 where
+  pub book : now ≡ log_after first lines
+  pub counts : Adds old new (responses (state_of first) lines)
 
 pub takes-none : (k : Log) (s : Summary) → Takes k k s s []
 unfolding log_after responses

@@ -9,7 +9,7 @@ use Rattle.cns_terms.specs.History.{count}
 use Rattle.cns_terms.specs.Machine.{State, answer, opened}
 use Rattle.cns_book.specs.Log.{Log, empty_log, state_of, with_taken}
 use Rattle.cns_feed.specs.Line.{Line}
-use Rattle.cns_feed.specs.Output.{Adds, line_text, lines_of, responses, state_after, texts}
+use Rattle.cns_feed.specs.Output.{line_text, lines_of, state_after, texts}
 use Rattle.cns_feed.specs.declared.fault.ReplayFault.{ReplayFault}
 use Rattle.cns_feed.specs.declared.fault.ReplayFault.TheVariants as fault
 use Rattle.cns_feed.specs.declared.summary.Summary.{Summary}
@@ -57,11 +57,6 @@ log_after b (l ∷ ls) = log_after (log_after_line b l) ls
 -- a book that has taken nothing yet, with the greatest limit
 abbrev pub blank_log : Day → Log
 blank_log opening = empty_log opening (2 ^ 32 - 1)
-
--- a book and a summary after lines
-pub record Takes (first now : Log) (old new : Summary) (lines : List Line) : Type 0 where
-  pub book : now ≡ log_after first lines
-  pub counts : Adds old new (responses (state_of first) lines)
 
 -- a book has room for so many commands more
 abbrev pub HasRoomFor : Log → ℕ → Type 0

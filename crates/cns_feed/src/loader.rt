@@ -26,13 +26,13 @@ pub(crate) fn take_all<P: Positions<Global>, R: Read>(
     most: u32,
 ) -> Result<Summary, ReplayFault>
     requires setup { Setup records.old.rows }
-    requires room { HasRoomFor book.old most }
+    requires room { HasRoomFor book.old.log most }
     requires most { most ≤ 2 ^ 32 - 1 }
     ensures few { OnOk result ((all : List Line) → Pending R.remaining records.old all → length all < most) }
     ensures after { OnOk result
-        ((all : List Line) → Pending R.remaining records.old all → book.new ≡ log_after book.old all) }
+        ((all : List Line) → Pending R.remaining records.old all → book.new.log ≡ log_after book.old.log all) }
     ensures counts { IfOk result (λ s. (all : List Line) → Pending R.remaining records.old all
-        → Counts s (responses (state_of book.old) all)) }
+        → Counts s (responses (state_of book.old.log) all)) }
     ensures err { IfErr result (λ e. (e ≡ fault.NoMemory)
         ⊎ EndsReading e records.new
         ((all : List Line) → Pending R.remaining records.old all → most ≤ length all)) }
@@ -59,7 +59,7 @@ pub fn load_on<P: Positions<Global>, R: Read + Drop>(
     date: Day,
 ) -> Result<(Book<P, Global>, Summary), ReplayFault>
     ensures after { IfOk result (λ p. IfSome (R.remaining reader)
-        (λ input. p.0 ≡ log_after (blank_log date) (lines_of input))) }
+        (λ input. p.0.log ≡ log_after (blank_log date) (lines_of input))) }
     ensures counts { IfOk result (λ p. IfSome (R.remaining reader)
         (λ input. Counts p.1 (responses (opened date) (lines_of input)))) }
     ensures few { OnOk result (IfSome (R.remaining reader) (λ input. length (lines_of input) < 2 ^ 32 - 1)) }
@@ -77,7 +77,7 @@ pub fn load_up_to<P: Positions<Global>, R: Read + Drop>(
     most: u32,
 ) -> Result<(Book<P, Global>, Summary), ReplayFault>
     ensures after { IfOk result (λ p. IfSome (R.remaining reader)
-        (λ input. p.0 ≡ log_after (blank_log date) (lines_of input))) }
+        (λ input. p.0.log ≡ log_after (blank_log date) (lines_of input))) }
     ensures counts { IfOk result (λ p. IfSome (R.remaining reader)
         (λ input. Counts p.1 (responses (opened date) (lines_of input)))) }
     ensures few { OnOk result (IfSome (R.remaining reader) (λ input. length (lines_of input) < most)) }
@@ -97,7 +97,7 @@ pub fn load<R: Read + Drop>(
     date: Day,
 ) -> Result<(ReplayBook, Summary), ReplayFault>
     ensures after { IfOk result (λ p. IfSome (R.remaining reader)
-        (λ input. p.0 ≡ log_after (blank_log date) (lines_of input))) }
+        (λ input. p.0.log ≡ log_after (blank_log date) (lines_of input))) }
     ensures counts { IfOk result (λ p. IfSome (R.remaining reader)
         (λ input. Counts p.1 (responses (opened date) (lines_of input)))) }
     ensures few { OnOk result (IfSome (R.remaining reader) (λ input. length (lines_of input) < 2 ^ 32 - 1)) }

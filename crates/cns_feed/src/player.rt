@@ -26,13 +26,13 @@ fn play_line<P: Positions<Global>, W: Write>(
     line: &Line,
     writer: &mut W,
 ) -> Result<Response, ReplayFault>
-    requires room { HasRoomFor book.old 1 }
-    ensures response { IfOk result (λ o. o ≡ response_of (state_of book.old) line.now) }
-    ensures after { OnOk result (book.new ≡ log_after_line book.old line.now) }
+    requires room { HasRoomFor book.old.log 1 }
+    ensures response { IfOk result (λ o. o ≡ response_of (state_of book.old.log) line.now) }
+    ensures after { OnOk result (book.new.log ≡ log_after_line book.old.log line.now) }
     ensures text { OnOk result
-        (Appends (W.contents writer.old) (W.contents writer.new) (line_text (state_of book.old) line.now)) }
+        (Appends (W.contents writer.old) (W.contents writer.new) (line_text (state_of book.old.log) line.now)) }
     ensures err { IfErr result
-        (λ e. LeavesAt e (W.contents writer.old) (W.contents writer.new) (line_text (state_of book.old) line.now)) }
+        (λ e. LeavesAt e (W.contents writer.old) (W.contents writer.new) (line_text (state_of book.old.log) line.now)) }
 {
     let response = take_line(book, line)?;
     match write_response(book, &response, writer) {
@@ -64,15 +64,15 @@ pub(crate) fn play<P: Positions<Global>, R: Read, W: Write>(
     most: u32,
 ) -> Result<Summary, ReplayFault>
     requires setup { Setup records.old.rows }
-    requires room { HasRoomFor book.old most }
+    requires room { HasRoomFor book.old.log most }
     requires most { most ≤ 2 ^ 32 - 1 }
     ensures few { OnOk result ((all : List Line) → Pending R.remaining records.old all → length all < most) }
     ensures text { OnOk result ((all : List Line) → Pending R.remaining records.old all
-        → Appends (W.contents writer.old) (W.contents writer.new) (texts (state_of book.old) all)) }
+        → Appends (W.contents writer.old) (W.contents writer.new) (texts (state_of book.old.log) all)) }
     ensures counts { IfOk result (λ s. (all : List Line) → Pending R.remaining records.old all
-        → Counts s (responses (state_of book.old) all)) }
+        → Counts s (responses (state_of book.old.log) all)) }
     ensures fault { IfErr result (λ e. (all : List Line) → Pending R.remaining records.old all
-        → (s : Stops e (W.contents writer.old) (W.contents writer.new) (state_of book.old) all)
+        → (s : Stops e (W.contents writer.old) (W.contents writer.new) (state_of book.old.log) all)
         × (s.waiting ≡ None → (e ≡ fault.Write) ⊎ EndsReading e records.new (length s.answered ≡ most))) }
     ensures room { IfErr result (λ e. e ≢ fault.Full) }
 {

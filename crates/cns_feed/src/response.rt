@@ -34,7 +34,7 @@ pub(crate) fn new_book<P: Positions<Global>>(
     alloc: Global,
     date: Day,
 ) -> Result<Book<P, Global>, ReplayFault>
-    ensures book { IfOk result (λ b. b ≡ blank_log date) }
+    ensures book { IfOk result (λ b. b.log ≡ blank_log date) }
     ensures err { IfErr result (λ e. e ≡ fault.NoMemory) }
 {
     match Book::<P, Global>::new(alloc, date) {
@@ -48,9 +48,9 @@ pub(crate) fn take_line<P: Positions<Global>>(
     book: &mut Book<P, Global>,
     line: &Line,
 ) -> Result<Response, ReplayFault>
-    requires room { HasRoomFor book.old 1 }
-    ensures response { IfOk result (λ o. o ≡ response_of (state_of book.old) line.now) }
-    ensures after { OnOk result (book.new ≡ log_after_line book.old line.now) }
+    requires room { HasRoomFor book.old.log 1 }
+    ensures response { IfOk result (λ o. o ≡ response_of (state_of book.old.log) line.now) }
+    ensures after { OnOk result (book.new.log ≡ log_after_line book.old.log line.now) }
     ensures err { IfErr result (λ e. e ≡ fault.NoMemory) }
 {
     let command = match line {
@@ -72,7 +72,7 @@ fn write_stated_rows<P: Positions<Global>, W: Write>(
     writer: &mut W,
 ) -> Result<(), WriteFault>
     ensures { Writes (W.contents writer.old) (W.contents writer.new)
-        (rows_text (rows_stated (state_of book.now) stated.now)) result }
+        (rows_text (rows_stated (state_of book.now.log) stated.now)) result }
 {
     match book.sheet(stated.date) {
         Some(sheet) => write_rows(sheet.rows_of(stated.account), writer),
@@ -86,7 +86,7 @@ fn write_rest<P: Positions<Global>, W: Write>(
     reply: &Reply,
     writer: &mut W,
 ) -> Result<(), WriteFault>
-    ensures { Writes (W.contents writer.old) (W.contents writer.new) (rest_text (state_of book.now) reply.now) result }
+    ensures { Writes (W.contents writer.old) (W.contents writer.new) (rest_text (state_of book.now.log) reply.now) result }
 {
     match reply {
         Reply::Closed(closed) => write_batches(book.batches(closed.day), writer),
@@ -106,7 +106,7 @@ pub(crate) fn write_response<P: Positions<Global>, W: Write>(
     writer: &mut W,
 ) -> Result<(), WriteFault>
     ensures { Writes (W.contents writer.old) (W.contents writer.new)
-        (response_text (state_of book.now) response.now) result }
+        (response_text (state_of book.now.log) response.now) result }
 {
     match response {
         Response::Replied(reply) => {

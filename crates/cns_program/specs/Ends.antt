@@ -36,7 +36,7 @@ AreComplete = AllByRecursion IsComplete
 
 -- the tally of an outcome
 abbrev pub text_of : Outcome → List ℕ
-text_of o = tally_line o.book o.logs.items
+text_of o = tally_line o.book.log o.logs.items
 
 -- the tally was not written whole: it could not be made, and nothing was written, or writing it failed
 abbrev pub FailsTally : Fault → Outcome → Option (List ℕ) → Option (List ℕ) → Type 0
@@ -52,7 +52,7 @@ pub record EndsEarly {T E : Type 0} (o : Outcome) (old new told_old told_new : O
 
 -- an outcome of a run over so many files: a log for each, which is its worker's part of the history
 abbrev pub IsOutcome : ℕ → Outcome → Type 0
-IsOutcome files o = (vec_len o.logs ≡ files) × AreParts o.book o.logs.items
+IsOutcome files o = (vec_len o.logs ≡ files) × AreParts o.book.log o.logs.items
 
 -- a run over so many files was done, and its tally was written
 abbrev pub IsRun : ℕ → Option (List ℕ) → Option (List ℕ) → Type 0

@@ -36,8 +36,8 @@ fn write_day<R: AllocGlobal + Threads + Wait + Sync, O: Write>(
     output: &mut O,
 ) -> Result<(), Fault>
     requires { (1 ≤ workers) × (workers ≤ 64) }
-    ensures ok { OnOk result (WritesDay book.now day (O.contents output.old) (O.contents output.new)) }
-    ensures err { IfErr result (λ f. FailsDay f book.now day (O.contents output.old) (O.contents output.new)) }
+    ensures ok { OnOk result (WritesDay book.now.log day (O.contents output.old) (O.contents output.new)) }
+    ensures err { IfErr result (λ f. FailsDay f book.now.log day (O.contents output.old) (O.contents output.new)) }
 {
     let Some(sheet) = book.sheet(day) else {
         return Err(Fault::NoSuchDay);

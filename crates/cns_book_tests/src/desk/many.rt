@@ -2,9 +2,10 @@
 use super::gates::Meeting;
 use super::inputs::ending;
 use super::lots::{Lot, closing};
-use crate::script::{FIRST, are_same, day, first_day, take};
+use super::run;
+use crate::script::{FIRST, are_same, day, take};
 use cns_book::Book;
-use cns_desk::{DeskBook, End, Outcome, run_workers};
+use cns_desk::{DeskBook, End, Outcome};
 use cns_positions::Positions;
 use cns_terms::Taken;
 use std::alloc::Global;
@@ -142,10 +143,8 @@ fn check_run<R: Abort + Clock + Threads + Wait + Sync>(
         sources.push(ending(alloc, text.as_slice()))?;
     }
     let gate = Meeting::new(rt, size.workers as u64);
-    match run_workers(rt, alloc, first_day(rt), sources, &gate) {
-        Ok(outcome) => check_outcome(rt, alloc, &outcome, size),
-        Err(_) => Err(Fail::new("no outcome")),
-    }
+    let outcome = run(rt, alloc, sources, &gate);
+    check_outcome(rt, alloc, &outcome, size)
 }
 
 // Two, eight and sixty-four workers, and how many runs each, all drawn from other seeds.

@@ -9,7 +9,7 @@ abbrev pub invariant-loop-turn : goal.invariant-loop-turn
 invariant-loop-turn g l = record {
   counts : IsUpTo l.summary l._turn;
   setup : Setup l.records.rows;
-  room : HasRoomFor l.book (l.fn.most - l._turn);
+  room : HasRoomFor l.book.log (l.fn.most - l._turn);
   along : (all : List Line) → Pending g.R.Read.remaining l.fn.records all
-      → Along g.R.Read.remaining l.records l.fn.book l.book l.summary None None l._turn all;
+      → Along g.R.Read.remaining l.records l.fn.book.log l.book.log l.summary None None l._turn all;
 }

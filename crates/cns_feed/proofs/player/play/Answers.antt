@@ -71,7 +71,7 @@ loop-turn-preserved g c =
     record {
       counts = up_to-line _ _ _ _ c.add.ensures inv.counts;
       setup = one.1;
-      room = room-line c.loop-turn.book _ _ (c.args.most - (c.loop-turn._turn + 1)) q.after (omega (arith, c.loop-turn-test.true, inv.room));
+      room = room-line c.loop-turn.book.log _ _ (c.args.most - (c.loop-turn._turn + 1)) q.after (omega (arith, c.loop-turn-test.true, inv.room));
       along = λ all p. along-line g.R.Read.remaining c.loop-turn.records c.read_line.new.self _ _ _ _ _ _ _ _ _ _ _ all one.0 q.after q.response c.add.ensures q.text
           (along-kept g.R.Read.remaining c.loop-turn.records _ _ _ _ _ _ _ all c.flush.ensures.text (inv.along all p));
     }

@@ -18,7 +18,7 @@ loop-place-preserved c =
     let fits : c.from-lines.result ≤ 4294967295 = search rules in
     record {
       end = c.loop-place.invariant.end;
-      counts = rw c.in-Ok-push.ensures.items (counts_more c.args.book.now c.loop-place.place c.in-Ok.worker c.loop-place.counts.items c.from.result worker c.loop-place.invariant.counts (search rules));
+      counts = rw c.in-Ok-push.ensures.items (counts_more c.args.book.now.log c.loop-place.place c.in-Ok.worker c.loop-place.counts.items c.from.result worker c.loop-place.invariant.counts (search rules));
       lines = lines_more _ _ _ _ c.index-logs-place.result inside c.index-logs-place.is c.loop-place.invariant.lines lines;
       small = search rules;
     }

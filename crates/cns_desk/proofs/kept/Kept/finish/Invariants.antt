@@ -7,7 +7,7 @@ abbrev pub invariant-loop-seat : goal.invariant-loop-seat
 invariant-loop-seat g l = record {
   parts : l.gathered.parts + vec_len l.seats ≡ vec_len l.fn.seats;
   amount : l.gathered.amount + counts_of l.seats.items ≡ counts_of l.fn.seats.items;
-  book : l.book ≡ l.fn.self;
+  book : l.book.log ≡ l.fn.self;
   total : l.total.total ≡ length l.fn.self.history;
 }
 
