@@ -3,7 +3,7 @@ ghost use Rattle.std.specs.Prelude.{◌≡◌, ◌∷◌, [], MatchOption, None,
 ghost use Rattle.std.specs.FinMap.{is_sorted};
 ghost use Rattle.std.specs.Option.{option_copied};
 ghost use Rattle.cns_terms.specs.Keys.{key_cmp};
-ghost use Rattle.cns_positions.specs.Rows.{held_above, present};
+ghost use Rattle.cns_positions.specs.Rows.{AreNext, held_above, present};
 ghost use Rattle.cns_actions.specs.Walks.{IsTaken, is_before, starts_before};
 
 use cns_positions::{NextRows, Positions};
@@ -46,6 +46,14 @@ fn next_given(given: &NextRows, passed: &mut usize) -> Option<(Key, Holding)>
     None
 }
 
+// Fetches the next rows above a key. It stands alone, so that the room for them is cleared where rows are fetched, and not
+// for each row.
+fn fetch<P: Positions<A>, A>(positions: &P, given: &mut NextRows, last: Option<Key>)
+    ensures { AreNext (P.rows positions.now) last (present given.new.items) }
+{
+    *given = positions.next_rows(last);
+}
+
 impl<'a, P: Positions<A>, A> Walk<'a, P, A> {
     /// A walk over all rows.
     pub fn new(positions: &'a P) -> Self
@@ -69,7 +77,7 @@ impl<'a, P: Positions<A>, A> Walk<'a, P, A> {
             self.last = Some(row.0);
             return Some(row);
         }
-        self.given = self.positions.next_rows(self.last);
+        fetch(self.positions, &mut self.given, self.last);
         self.passed = 0;
         let row = next_given(&self.given, &mut self.passed)?;
         self.last = Some(row.0);

@@ -28,13 +28,14 @@ is_listing _ = false
 
 -- whether an activity gives notice or touches one
 abbrev pub is_noticing : Activity → Bool
-is_noticing (activity.Member m) = false
-is_noticing (activity.Issue l) = false
-is_noticing (activity.Trade t) = false
-is_noticing (activity.Price l) = false
-is_noticing (activity.Deliver m) = false
-is_noticing (activity.Dividend d) = false
-is_noticing _ = true
+is_noticing (activity.Receive m) = true
+is_noticing (activity.Split s) = true
+is_noticing (activity.Exchange x) = true
+is_noticing (activity.Notice m) = true
+is_noticing (activity.Withdraw k) = true
+is_noticing (activity.Execute x) = true
+is_noticing (activity.Close d) = true
+is_noticing _ = false
 
 -- whether an activity executes a notice
 abbrev pub is_execution : Activity → Bool

@@ -156,7 +156,8 @@ impl<P: Positions<A>, A: Allocator + Drop + Clone> Book<P, A> {
         ensures reached { IsReached self.now.log.opening (state_of self.now.log).accepted }
         ensures few { length (state_of self.now.log).accepted < history_limit }
         ensures replies { OnOk result
-            (replies_of self.now.log.history ≡ replies (opened self.now.log.opening) (commands_of self.now.log.history)) }
+            (replies_of self.now.log.history
+            ≡ replies (opened self.now.log.opening) (commands_of self.now.log.history)) }
     {
         let mut copy = Vec::new(self.history.allocator().clone()?);
         copy.extend_from_slice(self.history.as_slice())?;

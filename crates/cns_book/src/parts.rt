@@ -80,7 +80,7 @@ impl<P: Positions<A>, A: Allocator + Drop + Clone> Parts<P, A> {
             closes: 0,
             members: Members::new(alloc.clone()?),
             prices: Prices::new(alloc.clone()?),
-            trades: Trades::new(alloc.clone()?),
+            trades: Trades::new(alloc.clone()?)?,
             dividends: Dividends::new(alloc.clone()?),
             closed: ClosedDays::new(alloc.clone()?)?,
             notices: Notices::new(alloc.clone()?),

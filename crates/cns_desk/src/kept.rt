@@ -38,7 +38,8 @@ impl<L: Ledger, P: Positions<Global>> Model for Kept<L, P> {
 
     ghost view = { λ k. k.book.log };
 
-    ghost invariant = { λ k. (k.total.total ≡ length k.book.log.history) × (k.gathered.parts ≡ 0) × (k.gathered.amount ≡ 0) };
+    ghost invariant = { λ k.
+        (k.total.total ≡ length k.book.log.history) × (k.gathered.parts ≡ 0) × (k.gathered.amount ≡ 0) };
 }
 
 impl<L: Ledger, P: Positions<Global>> Kept<L, P> {

@@ -86,7 +86,8 @@ fn write_rest<P: Positions<Global>, W: Write>(
     reply: &Reply,
     writer: &mut W,
 ) -> Result<(), WriteFault>
-    ensures { Writes (W.contents writer.old) (W.contents writer.new) (rest_text (state_of book.now.log) reply.now) result }
+    ensures { Writes (W.contents writer.old) (W.contents writer.new)
+        (rest_text (state_of book.now.log) reply.now) result }
 {
     match reply {
         Reply::Closed(closed) => write_batches(book.batches(closed.day), writer),

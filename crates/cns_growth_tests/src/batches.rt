@@ -29,7 +29,8 @@ fn stands(shorts: &[Short], member: Member) -> bool
 fn add(rt: &impl Abort, shorts: &mut Vec<Short, Global>, short: Short) -> Result<(), AllocError>
     requires { (a : Member) → shorts_of a shorts.old.items ≤ 1 }
     ensures distinct { OnOk result ((a : Member) → shorts_of a shorts.new.items ≤ 1) }
-    ensures more { OnOk result (sum_by (λ s. s.shares) shorts.new.items ≡ sum_by (λ s. s.shares) shorts.old.items + short.shares) }
+    ensures more { OnOk result
+        (sum_by (λ s. s.shares) shorts.new.items ≡ sum_by (λ s. s.shares) shorts.old.items + short.shares) }
 {
     if stands(shorts.as_slice(), short.member) {
         panic!(rt; "a member has two shorts");

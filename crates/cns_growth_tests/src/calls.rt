@@ -2,7 +2,7 @@
 use crate::batches::{Choose, Fill};
 use crate::maps::{Prepare, Rebuilt};
 use crate::opening::Opening;
-use crate::parts::{Declare, List, NoteReference, Open};
+use crate::parts::{Declare, List, NoteReference, Open, PendTrade};
 use crate::refusing::{Handle, Refusing, most_growths};
 use crate::statements::Cut;
 use crate::trees::{Copied, FromSorted, Spare};
@@ -22,6 +22,7 @@ fn refuse_each<'a, H: Handle<'a>>(rt: &impl Abort, global: Global, rationed: Ref
     assert!(rt; most_growths::<H, Rebuilt<FlatPositions<H>>>(rt, global, rationed) >= 1);
     assert!(rt; most_growths::<H, List<H>>(rt, global, rationed) >= 1);
     assert!(rt; most_growths::<H, NoteReference<H>>(rt, global, rationed) >= 1);
+    assert!(rt; most_growths::<H, PendTrade<H>>(rt, global, rationed) >= 2);
     assert!(rt; most_growths::<H, Declare<H>>(rt, global, rationed) >= 1);
     assert!(rt; most_growths::<H, Open<H>>(rt, global, rationed) >= 2);
     assert!(rt; most_growths::<H, Choose<H>>(rt, global, rationed) >= 2);

@@ -1,4 +1,4 @@
-// The calls of a book's other parts that take memory: issues, references, dividends, notices, batches.
+// The calls of a book's other parts that take memory: issues, references, trades that wait, dividends, notices, batches.
 ghost use Rattle.std.specs.Prelude.{◌≡◌, ◌+◌, ◌^◌, ◌<◌, ◌≤◌, length, None, true};
 ghost use Rattle.std.specs.Option.{ForSome};
 ghost use Rattle.cns_notices.specs.Noticed.{live_number, notice_at};
@@ -8,9 +8,9 @@ use crate::units::{day, issue, member, price, rate};
 use cns_dividends::Dividends;
 use cns_notices::Notices;
 use cns_prices::Prices;
-use cns_terms::NoMemory;
+use cns_terms::{NoMemory, Trade};
 use cns_trades::Trades;
-use cns_units::{Cusip, Member, Shares};
+use cns_units::{Cusip, Member, Money, Shares};
 use std::alloc::{Allocator, Global};
 use std::process::Abort;
 
@@ -79,7 +79,7 @@ fn reference(number: u16) -> u64 {
 
 impl<H: Allocator + Drop + Clone> Call<H> for NoteReference<H> {
     fn prepared(rt: &impl Abort, _global: Global, alloc: H, size: u16) -> Self {
-        let mut trades = Trades::new(alloc);
+        let mut trades = Trades::new(alloc).expect(rt, "memory");
         for number in 1..=size {
             assert!(rt; trades.note_reference(reference(number)).is_ok());
         }
@@ -99,6 +99,56 @@ impl<H: Allocator + Drop + Clone> Call<H> for NoteReference<H> {
             }
         }
         self.trades.seen(reference(self.used.saturating_add(1))) == made
+    }
+
+    fn left() -> u64 {
+        0
+    }
+}
+
+// Trades that wait, of which one more is taken. Their references are far from one another.
+#[derive(Drop)]
+pub(crate) struct PendTrade<H: Allocator + Drop> {
+    trades: Trades<H>,
+    waiting: u16,
+}
+
+// The trade with a number.
+fn trade(rt: &impl Abort, number: u16) -> Trade {
+    Trade {
+        reference: reference(number),
+        money: Money::new(975).expect(rt, "money"),
+        shares: Shares::new(5).expect(rt, "shares"),
+        buyer: member(rt, 101),
+        seller: member(rt, 202),
+        date: day(rt, "2024-06-04"),
+        issue: issue(rt, 1),
+    }
+}
+
+impl<H: Allocator + Drop + Clone> Call<H> for PendTrade<H> {
+    fn prepared(rt: &impl Abort, _global: Global, alloc: H, size: u16) -> Self {
+        let mut trades = Trades::new(alloc).expect(rt, "memory");
+        for number in 1..=size {
+            assert!(rt; trades.pend(&trade(rt, number)).is_ok());
+        }
+        PendTrade {
+            trades,
+            waiting: size,
+        }
+    }
+
+    fn make(&mut self, rt: &impl Abort) -> bool {
+        self.trades
+            .pend(&trade(rt, self.waiting.saturating_add(1)))
+            .is_ok()
+    }
+
+    fn stands(&self, _rt: &impl Abort, made: bool) -> bool {
+        let pending = self.trades.pending();
+        let taken = usize::from(self.waiting) + usize::from(made);
+        pending.len() == taken
+            && self.trades.seen(reference(self.waiting.saturating_add(1))) == made
     }
 
     fn left() -> u64 {

@@ -63,7 +63,8 @@ fn give<A: Allocator + Drop + Clone>(
     requires nobody { shorts_in calls.old issue ≡ [] }
     requires chosen { (c : Cusip) → ForSome (called_in calls.old c) CanBeChosen }
     ensures chosen { OnOk result ((c : Cusip) → ForSome (called_in calls.new c) CanBeChosen) }
-    ensures others { OnOk result ((c : Cusip) → same_issue issue c ≡ false → called_in calls.new c ≡ called_in calls.old c) }
+    ensures others { OnOk result
+        ((c : Cusip) → same_issue issue c ≡ false → called_in calls.new c ≡ called_in calls.old c) }
 {
     let (first, second) = (short(rt, rows[0]), short(rt, rows[1]));
     if first.member == second.member {

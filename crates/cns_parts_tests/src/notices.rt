@@ -82,7 +82,8 @@ fn execute(rt: &impl Abort, notices: &mut Notices<Global>, k: u32, count: u64) {
 
 // Whether a receipt may be counted: what `received` asks.
 fn may_receive(notices: &Notices<Global>, member: Member, cusip: Cusip) -> bool
-    ensures { result ≡ true → ForSome (live_number notices.now member cusip) (λ k. ForSome (notice_at notices.now k) (λ x. x.received ≤ 1000000000)) }
+    ensures { result ≡ true → ForSome (live_number notices.now member cusip)
+        (λ k. ForSome (notice_at notices.now k) (λ x. x.received ≤ 1000000000)) }
 {
     match notices.live_of(member, cusip) {
         Some(k) => is_there(notices, k) && is_open(notices, k),

@@ -1,9 +1,9 @@
-// Tests of the trades: what is refused, what is booked, and references that are used once.
+// Tests of the trades: what is refused, what is booked, references that are used once, and trades that wait for their date.
 ghost use Rattle.std.specs.Prelude.{◌≤◌, ◌^◌, unsigned_abs};
 ghost use Rattle.std.specs.Option.{ForSome};
 
 use crate::values::{APPLE, cusip, day, member, money, shares};
-use cns_terms::{Entry, Movement, Refusal, Trade};
+use cns_terms::{Entry, Movement, Pend, Refusal, Trade};
 use cns_trades::{MoveFacts, TradeFacts, Trades};
 use std::alloc::Global;
 use std::process::Abort;
@@ -127,7 +127,7 @@ fn facts(rt: &impl Abort, case: &Case) -> TradeFacts {
 
 #[test]
 fn a_trade_is_refused_by_the_least_number(rt: HostRuntime) {
-    let trades = Trades::new(rt.alloc());
+    let trades = Trades::new(rt.alloc()).expect(&rt, "memory");
     for case in &CASES {
         let answered = answer(&trades, &facts(&rt, case), &trade(&rt, case.seller));
         assert!(rt; answered.err() == case.refusal);
@@ -136,7 +136,7 @@ fn a_trade_is_refused_by_the_least_number(rt: HostRuntime) {
 
 #[test]
 fn a_reference_is_used_once_and_only_when_it_is_noted(rt: HostRuntime) {
-    let mut trades = Trades::new(rt.alloc());
+    let mut trades = Trades::new(rt.alloc()).expect(&rt, "memory");
     let (facts, trade) = (facts(&rt, &FINE), trade(&rt, 202));
     assert!(rt; answer(&trades, &facts, &trade).is_ok());
     assert!(rt; !trades.seen(7));
@@ -152,7 +152,7 @@ fn parts(entry: &Entry) -> (u16, i64, i128) {
 
 #[test]
 fn a_trade_books_opposite_entries(rt: HostRuntime) {
-    let trades = Trades::new(rt.alloc());
+    let trades = Trades::new(rt.alloc()).expect(&rt, "memory");
     let Ok(entries) = answer(&trades, &facts(&rt, &FINE), &trade(&rt, 202)) else {
         panic!(rt; "the trade is refused");
     };
@@ -192,7 +192,7 @@ fn moved_from(case: &Moved) -> MoveFacts {
 
 #[test]
 fn movements_are_refused_by_the_least_number(rt: HostRuntime) {
-    let trades = Trades::new(rt.alloc());
+    let trades = Trades::new(rt.alloc()).expect(&rt, "memory");
     let movement = &Movement {
         member: member(&rt, 101),
         issue: cusip(&rt, APPLE),
@@ -241,7 +241,7 @@ const UNNOTED: [u64; 9] = [
 
 #[test]
 fn references_are_seen_once_they_are_noted(rt: HostRuntime) {
-    let mut trades = Trades::new(rt.alloc());
+    let mut trades = Trades::new(rt.alloc()).expect(&rt, "memory");
     for reference in &NOTED {
         assert!(rt; !trades.seen(*reference));
         trades.note_reference(*reference).expect(&rt, "memory");
@@ -257,7 +257,7 @@ fn references_are_seen_once_they_are_noted(rt: HostRuntime) {
 // References that stand far apart, each on a page of its own.
 #[test]
 fn references_of_many_pages_are_noted(rt: HostRuntime) {
-    let mut trades = Trades::new(rt.alloc());
+    let mut trades = Trades::new(rt.alloc()).expect(&rt, "memory");
     for page in 0..1_000u64 {
         trades
             .note_reference(page * 1_000_003)
@@ -266,5 +266,71 @@ fn references_of_many_pages_are_noted(rt: HostRuntime) {
     for page in 0..1_000u64 {
         assert!(rt; trades.seen(page * 1_000_003));
         assert!(rt; !trades.seen(page * 1_000_003 + 1));
+    }
+}
+
+// The reference and the date of each trade that waits, in the order in which they are taken. The dates don't rise.
+const AHEAD: [(u64, &str); 4] = [
+    (9, "2024-06-04"),
+    (3, "2024-06-06"),
+    (7, "2024-06-04"),
+    (5, "2024-06-05"),
+];
+
+// The references that are left after a close that names the day.
+const LEFT: [(&str, &[u64]); 5] = [
+    ("2024-06-03", &[9, 3, 7, 5]),
+    ("2024-06-04", &[3, 5]),
+    ("2024-06-05", &[3]),
+    ("2024-06-06", &[]),
+    ("9999-12-31", &[]),
+];
+
+// The trades of the table, which wait.
+fn ahead(rt: &impl Abort, alloc: Global) -> Trades<Global> {
+    let mut trades = Trades::new(alloc).expect(rt, "memory");
+    for (reference, date) in &AHEAD {
+        let trade = Trade {
+            reference: *reference,
+            date: day(rt, date.as_bytes()),
+            ..trade(rt, 202)
+        };
+        trades.pend(&trade).expect(rt, "memory");
+    }
+    trades
+}
+
+#[test]
+fn a_trade_ahead_of_its_date_waits_as_it_was_given_and_uses_its_reference(rt: HostRuntime) {
+    let mut trades = Trades::new(rt.alloc()).expect(&rt, "memory");
+    let trade = trade(&rt, 202);
+    trades.pend(&trade).expect(&rt, "memory");
+    let wanted = Pend {
+        reference: 7,
+        cents: money(&rt, 975),
+        shares: shares(&rt, 5),
+        buyer: member(&rt, 101),
+        seller: member(&rt, 202),
+        date: day(&rt, b"2024-06-03"),
+        issue: cusip(&rt, APPLE),
+    };
+    assert!(rt; trades.pending().len() == 1);
+    assert!(rt; trades.pending().first() == Some(&wanted));
+    assert!(rt; trades.seen(7));
+    assert!(rt; answer(&trades, &facts(&rt, &FINE), &trade).err() == Some(Refusal::SeenReference));
+}
+
+#[test]
+fn a_close_settles_the_trades_whose_date_has_come(rt: HostRuntime) {
+    for (next, left) in &LEFT {
+        let mut trades = ahead(&rt, rt.alloc());
+        trades.settle(day(&rt, next.as_bytes()));
+        assert!(rt; trades.pending().len() == left.len());
+        for (pend, reference) in trades.pending().iter().zip(*left) {
+            assert!(rt; pend.reference == *reference);
+        }
+        for (reference, _date) in &AHEAD {
+            assert!(rt; trades.seen(*reference));
+        }
     }
 }

@@ -70,7 +70,8 @@ struct Counted {
 
 // Goes through the workers that have a log.
 fn counted_of(alloc: Global, book: &DeskBook, logs: &[Log]) -> Result<Counted, NoMemory>
-    ensures counts { IfOk result (λ t. map view t.counts.items ≡ map whole (counts_to book.now.log (workers_of logs.now))) }
+    ensures counts { IfOk result
+        (λ t. map view t.counts.items ≡ map whole (counts_to book.now.log (workers_of logs.now))) }
     ensures lines { IfOk result (λ t. t.lines ≡ lines_to logs.now (workers_of logs.now)) }
 {
     let mut counts = Vec::new(alloc);

@@ -107,7 +107,8 @@ impl<A: Allocator + Drop + Clone> Calls<A> {
         ensures ok { OnOk result
             ((c : Cusip) → called_in self.new c
             ≡ (if same_issue issue c then Some
-            (record { total = total_in self.old issue + shares; shorts = shorts_in self.old issue }) else called_in self.old c)) }
+            (record { total = total_in self.old issue + shares; shorts = shorts_in self.old issue })
+            else called_in self.old c)) }
         ensures first { OnErr result (called_in self.old issue ≡ None) }
         ensures err { OnErr result (self.new ≡ self.old) }
     {

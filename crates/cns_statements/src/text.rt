@@ -83,7 +83,8 @@ pub fn write_statement<A: Allocator + Drop, W: Write>(
     writer: &mut W,
 ) -> Result<(), WriteFault>
     ensures { Writes (W.contents writer.old) (W.contents writer.new)
-        (statement_text statement.now.account statement.now.date statement.now.rows statement.now.mark statement.now.dividend) result }
+        (statement_text statement.now.account statement.now.date statement.now.rows statement.now.mark
+        statement.now.dividend) result }
 {
     let stated = Stated {
         account: statement.account,

@@ -36,13 +36,10 @@ executed J x (Some k) some ready = execution_balanced J x k some ready
 
 -- the entries of an activity in its ranges that is not refused add up to zero in each issue
 pub entries_balanced : (opening : Day) (J : Journal) (x : Activity) → IsInRange x → NoneHolds (rules opening J x) → IsBalanced (entries opening J x)
-entries_balanced opening J (activity.Member m) r h = none
-entries_balanced opening J (activity.Issue l) r h = none
 entries_balanced opening J (activity.Trade t) r h = record {
   shares = λ c. two_parties (same_issue t.issue c) (pos t.shares) (neg_ℤ (pos t.shares)) (omega (arith, ints));
   cents = λ c. two_parties (same_issue t.issue c) (neg_ℤ (pos t.money)) (pos t.money) (omega (arith, ints));
 }
-entries_balanced opening J (activity.Price l) r h = none
 entries_balanced opening J (activity.Deliver m) r h = record {
   shares = λ c. two_parties (same_issue m.issue c) (pos m.shares) (neg_ℤ (pos m.shares)) (omega (arith, ints));
   cents = λ c. two_parties (same_issue m.issue c) (pos 0) (pos 0) refl;
@@ -51,7 +48,6 @@ entries_balanced opening J (activity.Receive m) r h = record {
   shares = λ c. two_parties (same_issue m.issue c) (neg_ℤ (pos m.shares)) (pos m.shares) (omega (arith, ints));
   cents = λ c. two_parties (same_issue m.issue c) (pos 0) (pos 0) refl;
 }
-entries_balanced opening J (activity.Dividend d) r h = none
 entries_balanced opening J (activity.Split s) r h =
     let q : Account → ℤ = λ a. position J a s.issue in
     against_balanced s.issue (λ a. converted s.ratio (q a) -ℤ q a) (λ a. in_lieu s.ratio s.lieu (q a)) (holders q (members J))
@@ -61,9 +57,7 @@ entries_balanced opening J (activity.Exchange x) r h =
     both_balanced (against_corporation x.old (map (old_entry x q) hs)) (against_corporation x.successor (map (new_entry x q) hs))
     (against_balanced x.old (λ a. neg_ℤ (q a)) (λ a. pos 0) hs)
     (against_balanced x.successor (λ a. converted x.ratio (q a)) (λ a. in_exchange x.ratio x.lieu x.cash (q a)) hs)
-entries_balanced opening J (activity.Notice m) r h = none
-entries_balanced opening J (activity.Withdraw k) r h = none
 entries_balanced opening J (activity.Execute x) r h =
     let fails = all_fail (rules opening J (activity.Execute x)) h in
     executed J x (notice_at J x.notice) r.0 (executable J x (notice_at J x.notice) fails.0 fails.1.1.0 fails.1.1.1.1.0)
-entries_balanced opening J (activity.Close d) r h = none
+entries_balanced opening J _ r h = none

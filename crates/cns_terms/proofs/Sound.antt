@@ -111,18 +111,7 @@ pub grown-post : (p : Posting) (J : Journal) (a : ℕ) → occurs a (accounts J)
 grown-post p J a = by p.activity where
   by : (x : Activity) → occurs a (accounts J) ≤ occurs a (accounts (record { activity = x; entries = p.entries } ∷ J))
   by (activity.Member m) = rw (occurs-put a m (members J)) (omega arith)
-  by (activity.Issue l) = omega arith
-  by (activity.Trade t) = omega arith
-  by (activity.Price l) = omega arith
-  by (activity.Deliver m) = omega arith
-  by (activity.Receive m) = omega arith
-  by (activity.Dividend d) = omega arith
-  by (activity.Split s) = omega arith
-  by (activity.Exchange x) = omega arith
-  by (activity.Notice m) = omega arith
-  by (activity.Withdraw k) = omega arith
-  by (activity.Execute x) = omega arith
-  by (activity.Close d) = omega arith
+  by _ = omega arith
 
 -- those of the closes are there still
 closed_known : (J : Journal) → AllByRecursion (λ K. (a : ℕ) → occurs a (accounts K) ≤ occurs a (accounts J)) (closings J)

@@ -2,6 +2,7 @@ pub mod Sums
 pub mod Postings
 pub mod Keys
 pub mod Days
+pub mod Pending
 pub mod Positions
 pub mod Ages
 pub mod Holdings

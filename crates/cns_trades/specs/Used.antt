@@ -3,6 +3,7 @@ use Rattle.std.specs.Prelude.{ℕ, ◌/◌, ◌%◌, Bool, ◌==◌, List, unwra
 use Rattle.std.specs.Int.{bit_at}
 use Rattle.std.specs.Map.{lookup}
 use Rattle.std.specs.Ordering.{nat_cmp, is_eq}
+use Rattle.cns_terms.specs.declared.pend.Pend.{Pend}
 
 -- the references that were used, by pages of 64 bits: the page that was written last, and the others by their numbers
 pub record Used : Type 0 where
@@ -26,6 +27,7 @@ bits_in u p = if p == u.page then u.bits else page_among u.others p
 unfoldable pub is_used : Used → ℕ → Bool
 is_used u n = has_bit (bits_in u (n / 64)) (n % 64)
 
--- what is kept of trades: the references that accepted ones used
+-- what is kept of trades: the references that accepted ones used, and those that wait, in the order in which they were taken
 pub record Traded : Type 0 where
   pub references : Used
+  pub pending : List Pend

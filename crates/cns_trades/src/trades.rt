@@ -1,7 +1,8 @@
 // The checks, and the references.
-ghost use Rattle.std.specs.Prelude.{◌≡◌, ℕ, ◌≤◌, ◌||◌, ◌==◌, ◌+ℤ◌, OnOk, OnErr, IfOk, IfErr, Some, unsigned_abs, false, true, nat_lt, int_lt, neg_ℤ, pos};
+ghost use Rattle.std.specs.Prelude.{◌≡◌, ℕ, ◌≤◌, ◌||◌, ◌==◌, ◌+ℤ◌, ◌++◌, ◌∷◌, [], filter, not, OnOk, OnErr, IfOk, IfErr, Some, unsigned_abs, false, true, nat_lt, int_lt, neg_ℤ, pos};
 ghost use Rattle.std.specs.Option.{ForSome};
 ghost use Rattle.cns_terms.specs.Limits.{corporation_limit, position_limit};
+ghost use Rattle.cns_terms.specs.Pending.{is_due, pend_of};
 ghost use Rattle.cns_terms.specs.Refusals.{first_refusal, is_beyond, is_exceeded};
 ghost use Rattle.cns_terms.specs.Sums.{short};
 ghost use Rattle.cns_trades.specs.Used.{is_used};
@@ -10,15 +11,16 @@ ghost use Rattle.cns_trades.specs.Checks.{delivery_answer, issue_rules, receipt_
 use crate::entries::{buyer_entry, moved_in, moved_out, seller_entry};
 use crate::facts::{MoveFacts, TradeFacts};
 use crate::references::References;
-use cns_terms::{Entry, Movement, NoMemory, POSITION_LIMIT, Refusal, Trade};
-use cns_units::{Account, Shares};
+use cns_terms::{Entry, Movement, NoMemory, POSITION_LIMIT, Pend, Refusal, Trade};
+use cns_units::{Account, Day, Shares};
 use std::alloc::Allocator;
 use std::marker::Model;
 
-/// The references that accepted trades used, and the checks of trades and movements.
+/// The references that accepted trades used, the trades that wait for their date, and the checks of trades and movements.
 #[derive(Drop)]
 pub struct Trades<A: Allocator + Drop> {
     references: References<A>,
+    pending: Vec<Pend, A>,
 }
 
 impl<A: Allocator + Drop> Model for Trades<A> {
@@ -26,7 +28,7 @@ impl<A: Allocator + Drop> Model for Trades<A> {
 
     ghost Value = { Traded };
 
-    ghost view = { λ t. record { references = t.references } };
+    ghost view = { λ t. record { references = t.references; pending = t.pending.items } };
 }
 
 // Whether a member's position is out of its limits.
@@ -81,14 +83,25 @@ fn is_not_on_hand(corporation: i64, shares: Shares) -> bool
     corporation > -(shares.value() as i64)
 }
 
+// Drops the trades whose date has come at the close that names the next day.
+fn keep_later<A: Allocator>(pending: &mut Vec<Pend, A>, next: Day)
+    ensures { pending.new.items ≡ filter (λ p. not (is_due next p)) pending.old.items }
+{
+    pending.retain(|pend| !pend.is_due(next));
+}
+
 impl<A: Allocator + Drop> Trades<A> {
-    /// No reference was used yet.
-    pub fn new(alloc: A) -> Self
-        ensures { (r : ℕ) → is_used result.references r ≡ false }
+    /// No reference was used yet, and no trade waits. `NoMemory` where the allocator could not be copied.
+    pub fn new(alloc: A) -> Result<Self, NoMemory>
+    where
+        A: Clone,
+        ensures references { IfOk result (λ t. (r : ℕ) → is_used t.references r ≡ false) }
+        ensures pending { IfOk result (λ t. t.pending ≡ []) }
     {
-        Trades {
-            references: References::new(alloc),
-        }
+        Ok(Trades {
+            references: References::new(alloc.clone()?),
+            pending: Vec::new(alloc),
+        })
     }
 
     /// Whether an accepted trade used the reference.
@@ -102,10 +115,44 @@ impl<A: Allocator + Drop> Trades<A> {
     pub fn note_reference(&mut self, reference: u64) -> Result<(), NoMemory>
     where
         A: Clone,
-        ensures ok { OnOk result ((r : ℕ) → is_used self.new.references r ≡ ((reference == r) || is_used self.old.references r)) }
+        ensures ok { OnOk result
+            ((r : ℕ) → is_used self.new.references r ≡ ((reference == r) || is_used self.old.references r)) }
+        ensures pending { self.new.pending ≡ self.old.pending }
         ensures err { OnErr result (self.new ≡ self.old) }
     {
         self.references.insert(reference)
+    }
+
+    /// Uses the trade's reference and keeps the trade, which is to wait for its date, after those that wait already. Where
+    /// memory is refused it does neither (this project's profile).
+    pub fn pend(&mut self, trade: &Trade) -> Result<(), NoMemory>
+    where
+        A: Clone,
+        ensures references { OnOk result
+            ((r : ℕ) → is_used self.new.references r ≡ ((trade.now.reference == r) || is_used self.old.references r)) }
+        ensures pending { OnOk result (self.new.pending ≡ self.old.pending ++ (pend_of trade.now ∷ [])) }
+        ensures err { OnErr result (self.new ≡ self.old) }
+    {
+        self.pending.reserve(1)?;
+        self.references.insert(trade.reference)?;
+        let _ = self.pending.push(Pend::of(trade));
+        Ok(())
+    }
+
+    /// The trades that wait for their date, in the order in which they were taken.
+    pub fn pending(&self) -> &[Pend]
+        ensures { result.now ≡ self.now.pending }
+    {
+        self.pending.as_slice()
+    }
+
+    /// Drops the trades that a close books: those whose date is not after the next day, which it names. The others wait on,
+    /// in the same order. All references stay used. It takes no memory.
+    pub fn settle(&mut self, next: Day)
+        ensures references { self.new.references ≡ self.old.references }
+        ensures pending { self.new.pending ≡ filter (λ p. not (is_due next p)) self.old.pending }
+    {
+        keep_later(&mut self.pending, next);
     }
 
     /// The first refusal of a trade by number, or what it books for its buyer and its seller (NSCC Procedure VII: the

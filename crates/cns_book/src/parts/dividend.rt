@@ -14,7 +14,8 @@ use std::alloc::Allocator;
 
 // Whether a dividend's dates are wrong on a day: the record date is past, or the payable date does not come after it.
 fn has_wrong_dates(declared: &Declared, today: Day) -> bool
-    ensures { result ≡ (is_past declared.now.recorded today || is_not_after declared.now.payable declared.now.recorded) }
+    ensures { result
+        ≡ (is_past declared.now.recorded today || is_not_after declared.now.payable declared.now.recorded) }
 {
     declared.recorded < today || declared.payable <= declared.recorded
 }

@@ -1,0 +1,8 @@
+use Rattle.std.proofs.Common.{rules, filter, not}
+use Rattle.std.proofs.lemmas.Fn.{filter_same}
+use Rattle.cns_terms.specs.Pending.{is_due}
+use Rattle.cns_trades.proofs.trades.keep_later.Goals as goal
+
+-- the closure keeps what is not due, and stays as it was
+pub returns : goal.returns
+returns g c = filter_same _ (λ p. not (is_due c.args.next p)) _ (λ x b f h. (search rules, search rules)) _ _ c.retain.ensures.filtered
