@@ -5,10 +5,11 @@ usage: tests/fuzz.py PROGRAM [--seconds N] [--streams N] [--seed N]
        tests/fuzz.py --model
 
 A stream is made by a seed, which is told, so that a difference can be seen again. It begins as records that a book of
-recompute.py says are likely to be accepted, over few members and issues, so that positions, dividends, notices and
-executions meet; then some streams are mutated: records dropped, repeated, swapped, fields changed, bytes put in. Each is
-replayed by the program; some are taken by `statements` and `run` too. A difference is cut down to few records, which are
-printed with both answers, and the status is 1. It ends after so many seconds, 20 where none are given, or streams.
+recompute.py says are likely to be accepted, over few members and issues, so that positions, trades ahead, dividends,
+notices and executions meet; then some streams are mutated: records dropped, repeated, swapped, fields changed, bytes
+put in. Each is replayed by the program; some are taken by `statements` and `run` too. A difference is cut down to few
+records, which are printed with both answers, and the status is 1. It ends after so many seconds, 20 where none are
+given, or streams.
 
 With --model the program is left out: recompute.py is played over the samples in examples and the case files of cns_cases,
 whose replies were worked out by hand.
@@ -79,9 +80,12 @@ def with_check_digit(body):
 ISSUES = ["037833100", "594918104", "17275R102", with_check_digit("#*@00AZ9"), with_check_digit("00000000")]
 MEMBERS = [1, 2, 3, 7, 101, 4096, 9999]
 
-# How often each kind comes, BUY_IN being a notice and its executions: few streams have all of them.
+# How often each kind comes, AHEAD being trades of one later date and what comes before it, BRINK trades that a split or an
+# exchange takes to the limit, and BUY_IN a notice and its executions: few streams have all of them.
 WEIGHTS = {
     "TRADE": 12,
+    "AHEAD": 2,
+    "BRINK": 0,
     "PRICE": 2,
     "DELIVER": 5,
     "RECEIVE": 5,
@@ -108,11 +112,15 @@ class Stream:
         self.book = recompute.Book(OPENING)
         self.records = []
         self.large = rng.random() < 0.15
+        # How many of the trades have a later date than today's.
+        self.ahead = rng.choice([0, 0.2, 0.6])
         # Each kind is left out of some streams, unless others need it.
         self.kinds = {kind: weight * rng.choice([0, 1, 1, 1, 2]) for kind, weight in WEIGHTS.items()}
         self.kinds["CLOSE"] = max(self.kinds["CLOSE"], 1)
+        if self.ahead:
+            self.kinds["EXCHANGE"] *= 2
         if self.large:
-            self.kinds["TRADE"] = 40
+            self.kinds |= {"TRADE": 40, "BRINK": 2, "SPLIT": 3, "EXCHANGE": 1}
 
     def add(self, *fields):
         record = ",".join(str(it) for it in fields)
@@ -156,11 +164,19 @@ class Stream:
     def today(self):
         return self.book.date_of(self.book.today())
 
+    def moved(self, date, days):
+        """A date so many days away, and no later than the last of the calendar."""
+        return datetime.date.fromordinal(min(date.toordinal() + days, datetime.date.max.toordinal()))
+
     def later(self, date, most):
-        try:
-            return date + datetime.timedelta(days=self.rng.randint(0, most))
-        except OverflowError:
-            return date
+        return self.moved(date, self.rng.randint(0, most))
+
+    def trade_date(self):
+        """Mostly a date that a trade may have: today's, or one up to five days ahead."""
+        if self.rng.random() < 0.04:
+            return self.moved(self.today(), self.rng.choice([-1, 6, 6]))
+        ahead = self.rng.choice([1, 2, 3, 4, 5, 5]) if self.rng.random() < self.ahead else 0
+        return self.moved(self.today(), ahead)
 
     def holding(self, is_wanted):
         """A member and an issue in which its position is wanted, where there is one."""
@@ -189,15 +205,48 @@ class Stream:
     def add_issue(self):
         self.add("ISSUE", self.rng.choice(ISSUES), self.price())
 
-    def add_trade(self):
-        reference = self.rng.choice([len(self.records) + 1] * 8 + [1, 10**18 - self.rng.randint(0, 9)])
-        date = self.today() if self.rng.random() < 0.97 else self.later(self.today(), 3)
+    def parties(self):
         parties = self.member(), self.member()
         if parties[0] == parties[1]:
             parties = self.member(), self.member()
         if self.large and self.rng.random() < 0.8:
             parties = sorted(parties)  # so that positions grow
-        self.add("TRADE", reference, *parties, self.issue(), self.shares(), self.cents(), date)
+        return parties
+
+    def add_trade(self, date=None):
+        reference = self.rng.choice([len(self.records) + 1] * 8 + [1, 10**18 - self.rng.randint(0, 9)])
+        date = date or self.trade_date()
+        self.add("TRADE", reference, *self.parties(), self.issue(), self.shares(), self.cents(), date)
+
+    def add_ahead(self):
+        """Trades of one later date, what comes while they wait, and mostly the close that books them."""
+        date = self.moved(self.today(), self.rng.randint(1, 5))
+        for _ in range(self.rng.randint(1, 12 if self.large else 5)):
+            self.add_trade(date)
+        between = ["trade", "split", "exchange", "notice", "deliver", "receive", "dividend", "execute", "position"]
+        for kind in self.rng.choices(between, k=self.rng.randint(0, 4)):
+            getattr(self, "add_" + kind)()
+        if self.rng.random() < 0.7:
+            self.add("CLOSE", self.moved(date, self.rng.choice([-1, 0, 0, 0, 1, 3])))
+            self.add_position()
+
+    def add_brink(self):
+        """Trades that bring two members to their limits by a split or an exchange, few shares beside that, and it."""
+        old, to = self.issue(), self.issue()
+        parties, times = self.parties(), self.rng.choice([1, 2, 3, 5])
+        booked = self.rng.randint(0, 10 // times)
+        later = self.moved(self.today(), self.rng.randint(1, 5))
+        for count, issue, date in (booked, old, self.today()), (10 - times * booked, to, later):
+            for _ in range(count):
+                self.add("TRADE", len(self.records) + 1, *parties, issue, 10**9, self.cents(), date)
+        for _ in range(self.rng.randint(0, 3)):
+            few = self.rng.sample([*parties, self.member()], 2)
+            date = self.rng.choice([self.today(), later])
+            self.add("TRADE", len(self.records) + 1, *few, self.rng.choice([old, to]), self.rng.randint(1, 3), 0, date)
+        if old == to:
+            self.add("SPLIT", old, times, 1, self.price())
+        else:
+            self.add("EXCHANGE", old, to, times, 1, self.price(), self.price())
 
     def add_price(self):
         self.add("PRICE", self.issue(), self.price())
@@ -276,6 +325,10 @@ class Stream:
             self.add("MEMBER", member)
         for issue in self.rng.sample(ISSUES, self.rng.randint(1, 3)):
             self.add("ISSUE", issue, self.price())
+        if self.rng.random() < 0.05:
+            self.add("CLOSE", self.moved(datetime.date.max, -self.rng.randint(0, 20)))
+        if self.large:
+            self.add_brink()
         kinds, weights = list(self.kinds), list(self.kinds.values())
         for kind in self.rng.choices(kinds, weights, k=count):
             getattr(self, "add_" + kind.lower())()

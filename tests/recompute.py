@@ -5,8 +5,12 @@ usage: tests/recompute.py [replay] --open DATE < RECORDS
        tests/recompute.py statements --open DATE --day DATE < RECORDS
 
 It is written from docs/rules.md and docs/formats.md alone, and shares no code with the book. It keeps the accepted
-activities and what each of them booked, and nothing else: no position, no price, no age, no list of notices. Each figure
-is a sum, a count or a search over that list, done anew for each question. So it is slow, and short.
+activities and what each of them books, and nothing else: no position, no price, no age, no list of notices or of
+trades that wait. Each figure is a sum, a count or a search over that list, done anew for each question. So it is slow,
+and short.
+
+What is booked has a date: that of the open day, or, of a trade ahead, its settlement date. A sum up to a day takes
+what is dated up to that day's date. So a close books nothing here: with its date, more of the list is counted.
 """
 
 import collections
@@ -16,6 +20,7 @@ import sys
 
 CORPORATION = 0
 LARGEST_POSITION = 10**10
+DAYS_AHEAD = 5
 
 # ---- records: bytes to fields -------------------------------------------------------------------------------------
 
@@ -149,8 +154,8 @@ def command_of(record):
 
 # An accepted activity: its place in the list, the number of the day that it was taken on, its kind and its values.
 Accepted = collections.namedtuple("Accepted", "place day kind values")
-# What an activity booked.
-Entry = collections.namedtuple("Entry", "place day account issue shares cents")
+# What an activity books, and from which date on.
+Entry = collections.namedtuple("Entry", "place date account issue shares cents")
 # A notice that was accepted.
 Notice = collections.namedtuple("Notice", "number place day member issue shares")
 # A member that a close made liable.
@@ -190,6 +195,9 @@ class Book:
         closes = self.of_kind("CLOSE")
         return closes[day - 2].values[0] if day > 1 else self.opening
 
+    def date_today(self):
+        return next((it.values[0] for it in reversed(self.accepted) if it.kind == "CLOSE"), self.opening)
+
     def day_on(self, wanted):
         """The number of the closed day that has a date, None where there is none."""
         return next((day for day in range(1, self.today()) if self.date_of(day) == wanted), None)
@@ -216,21 +224,32 @@ class Book:
 
     # -- positions
 
+    def of_key(self, account, issue):
+        return [it for it in self.entries if it.account == account and it.issue == issue]
+
     def position(self, account, issue):
-        return sum(it.shares for it in self.entries if it.account == account and it.issue == issue)
+        today = self.date_today()
+        return sum(it.shares for it in self.of_key(account, issue) if it.date <= today)
 
     def position_at_close(self, account, issue, day):
         """The position at the close of a day by its number, 0 at that of day 0."""
         key = account, issue, day
         if key not in self.closed_positions:
-            booked = [it for it in self.entries if it.account == account and it.issue == issue and it.day <= day]
+            last = self.date_of(day) if day > 0 else datetime.date.min
+            booked = [it for it in self.of_key(account, issue) if day > 0 and it.date <= last]
             self.closed_positions[key] = sum(it.shares for it in booked)
         return self.closed_positions[key]
 
     def cents(self, account, issue, day):
-        """The cents booked on a day."""
-        booked = [it for it in self.entries if it.account == account and it.issue == issue and it.day == day]
-        return sum(it.cents for it in booked)
+        """The cents booked on a day: what is dated after the day before, and not after this one."""
+        last, before = self.date_of(day), self.date_of(day - 1) if day > 1 else datetime.date.min
+        booked = [it.cents for it in self.of_key(account, issue) if it.date <= last and (day == 1 or it.date > before)]
+        return sum(booked)
+
+    def waiting(self, issue):
+        """What trades ahead have yet to book in an issue."""
+        today = self.date_today()
+        return [it for it in self.entries if it.issue == issue and it.date > today]
 
     def age(self, account, issue, day):
         """The closes in a row, from that of a day back, at which the account was short."""
@@ -350,17 +369,21 @@ class Book:
         self.refuse(2, any(it not in self.members() for it in members))
 
     def refuse_large(self, entries):
-        """After all of the entries a member's position would leave its limits."""
-        keys = {(it.account, it.issue) for it in entries if it.account != CORPORATION}
-        for account, issue in keys:
-            booked = sum(it.shares for it in entries if (it.account, it.issue) == (account, issue))
-            self.refuse(18, abs(self.position(account, issue) + booked) > LARGEST_POSITION)
+        """After the entries a member is beyond its limits with what its trades ahead buy, or with what they sell."""
+        after, today = Book(self.opening), self.date_today()
+        after.accepted, after.entries = self.accepted, self.entries + entries
+        for account, issue in {(it.account, it.issue) for it in entries if it.account != CORPORATION}:
+            position = after.position(account, issue)
+            ahead = [it.shares for it in after.of_key(account, issue) if it.date > today]
+            most = max(position, 0) + sum(shares for shares in ahead if shares > 0)
+            least = min(position, 0) + sum(shares for shares in ahead if shares < 0)
+            self.refuse(18, most > LARGEST_POSITION or least < -LARGEST_POSITION)
 
     # -- what activities book
 
-    def booked(self, lines):
-        """Entries of today, by the activity that comes next."""
-        return [Entry(len(self.accepted), self.today(), *line) for line in lines]
+    def booked(self, lines, date=None):
+        """Entries by the activity that comes next, of today where no other date is given."""
+        return [Entry(len(self.accepted), date or self.date_today(), *line) for line in lines]
 
     def converted(self, issue, to, new, old, lieu, cash):
         """What a split or an exchange books for the members, and its opposite for the corporation."""
@@ -393,8 +416,8 @@ class Book:
 
     # -- each kind: refusals in the order of their numbers, then the lines that it books and the reply
 
-    def accept(self, kind, values, lines=()):
-        entries = self.booked(lines)
+    def accept(self, kind, values, lines=(), date=None):
+        entries = self.booked(lines, date)
         self.accepted.append(Accepted(len(self.accepted), self.today(), kind, values))
         self.entries += entries
 
@@ -412,11 +435,11 @@ class Book:
         self.refuse_members(buyer, seller)
         self.refuse_issue(issue)
         self.refuse(6, buyer == seller)
-        self.refuse(8, settles != self.date_of(self.today()))
+        self.refuse(8, not 0 <= (settles - self.date_today()).days <= DAYS_AHEAD)
         self.refuse(9, any(it.values[0] == reference for it in self.of_kind("TRADE")))
         lines = [(buyer, issue, shares, -money), (seller, issue, -shares, money)]
-        self.refuse_large(self.booked(lines))
-        self.accept("TRADE", (reference, buyer, seller, issue, shares, money, settles), lines)
+        self.refuse_large(self.booked(lines, settles))
+        self.accept("TRADE", (reference, buyer, seller, issue, shares, money, settles), lines, settles)
         return ["ok"]
 
     def take_price(self, issue, price):
@@ -444,7 +467,7 @@ class Book:
 
     def take_dividend(self, issue, recorded, payable, rate):
         self.refuse_issue(issue)
-        self.refuse(8, recorded < self.date_of(self.today()) or payable <= recorded)
+        self.refuse(8, recorded < self.date_today() or payable <= recorded)
         self.accept("DIVIDEND", (issue, recorded, payable, rate))
         return ["ok"]
 
@@ -460,6 +483,7 @@ class Book:
         self.refuse(7, issue == to)
         lines = self.converted(issue, to, new, old, lieu, cash)
         self.refuse_large(self.booked(lines))
+        self.refuse(20, self.waiting(issue))
         self.accept("EXCHANGE", (issue, to, new, old, lieu, cash), lines)
         return ["ok"]
 

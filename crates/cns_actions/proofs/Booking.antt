@@ -1,5 +1,5 @@
 -- The entries of a split or an exchange: their order, and that they are those of the definitions.
-use Rattle.std.proofs.Common.{◌≡◌, ◌∙◌, sym, ap, subst, refl, ℕ, zero, suc, ◌^◌, ◌<◌, ◌≤◌, ℤ, pos, ◌+ℤ◌, ◌-ℤ◌, neg_ℤ, Bool, true, false, cond, ◌&&◌, ◌||◌, ◌==◌, nat_lt, unsigned_abs, List, [], ◌∷◌, ◌++◌, append_assoc, map, Ordering, arith}
+use Rattle.std.proofs.Common.{◌≡◌, ◌∙◌, sym, ap, subst, refl, ℕ, zero, suc, ◌^◌, ◌+◌, ◌<◌, ◌≤◌, ℤ, pos, ◌+ℤ◌, ◌-ℤ◌, neg_ℤ, Bool, true, false, cond, ◌&&◌, ◌||◌, ◌==◌, nat_lt, unsigned_abs, List, [], ◌∷◌, ◌++◌, append_assoc, map, Ordering, arith}
 use Rattle.std.specs.Cmp.Lexicographic.{slice_cmp}
 use Rattle.std.specs.FinMap.{is_sorted}
 use Rattle.std.specs.FinMap.Entries.{below_all}
@@ -25,6 +25,8 @@ use Rattle.cns_terms.specs.Entries.{against_corporation, corporation, entry, hol
 use Rattle.cns_terms.specs.Keys.{key_cmp}
 use Rattle.cns_terms.specs.Limits.{corporation_limit, member_limit, position_limit}
 use Rattle.cns_terms.specs.Positions.{cents_for, shares_for}
+use Rattle.cns_terms.specs.declared.pend.Pend.{Pend}
+use Rattle.cns_terms.specs.Pending.{bought_in, sold_in}
 use Rattle.cns_terms.specs.Refusals.{are_too_large, is_beyond}
 use Rattle.cns_terms.specs.Sums.{same_issue, total}
 use Rattle.cns_terms.proofs.Everywhere.{each_append, each_both, each_weaker}
@@ -78,10 +80,10 @@ has_space R can k = record {
 -- ---- their order
 
 -- a comparison that is neither below nor equal is below the other way round
-turned : (o : Ordering) → is_lt o ≡ false → is_eq o ≡ false → is_lt (ordering_reverse o) ≡ true
-turned Less p q = cc
-turned Equal p q = cc
-turned Greater p q = refl
+reversed : (o : Ordering) → is_lt o ≡ false → is_eq o ≡ false → is_lt (ordering_reverse o) ≡ true
+reversed Less p q = cc
+reversed Equal p q = cc
+reversed Greater p q = refl
 
 -- keys of one account are in the order of issues
 account_tied : (a : ℕ) (c d : Cusip) → key_cmp (record { account = a; issue = c }) (record { account = a; issue = d }) ≡ slice_cmp nat_cmp c d
@@ -96,7 +98,7 @@ pair_sorted a e f p q other = by (is_lt (slice_cmp nat_cmp e.issue f.issue)) ref
 
     by : (b : Bool) → is_lt (slice_cmp nat_cmp e.issue f.issue) ≡ b → is_sorted key_cmp (by_key (cond b (e ∷ f ∷ []) (f ∷ e ∷ []))) ≡ true
     by true l = order e f p q l
-    by false l = order f e q p (ap is_lt (nat_list_cmp_total.antisymm f.issue e.issue) ∙ turned _ l (is_eq-slice_cmp e.issue f.issue ∙ other))
+    by false l = order f e q p (ap is_lt (nat_list_cmp_total.antisymm f.issue e.issue) ∙ reversed _ l (is_eq-slice_cmp e.issue f.issue ∙ other))
 
 part_sorted : (x : Action) → IsForAnother x → (a : Account) (c : Change) → is_sorted key_cmp (by_key (entries_for x a c)) ≡ true
 part_sorted (action.Split s) another a c = refl
@@ -299,9 +301,20 @@ module _ (R : Rows) (order : is_sorted key_cmp R ≡ true) (c : Cusip) (ms : Lis
       leg_any R order c ms are t L
       ∙ any_each _ u (shown R order c) (each_weaker _ _ (shown R order c) (λ h p. same h p.0 p.1) (each_both (IsOwn held) (λ h. occurs h.account (holders held ms) ≡ 1) (shown R order c) (own_positions R order c) (shown_named R order c ms are)))
 
--- whether an entry's place is beyond its limits, by what is booked there and what was there
-abbrev takes : (Account → Cusip → ℤ) → (Account → Cusip → ℤ) → Entry → Bool
-takes T now e = nat_lt corporation e.account && is_beyond (T e.account e.issue +ℤ now e.account e.issue)
+-- whether an entry's place is beyond its limits, by what is booked there, what was there and the trades that wait
+abbrev takes : (Account → Cusip → ℤ) → (Account → Cusip → ℤ) → List Pend → Entry → Bool
+takes T now ps e = nat_lt corporation e.account && is_beyond (T e.account e.issue +ℤ now e.account e.issue) (bought_in ps e.account e.issue) (sold_in ps e.account e.issue)
+
+-- the shares that each member is to get by trades, and those that it is to give, are within its limits
+abbrev pub AreFewShares : List Pend → Type 0
+AreFewShares ps = (a : Account) (c : Cusip) → 1 ≤ a → (bought_in ps a c ≤ position_limit) × (sold_in ps a c ≤ position_limit)
+
+-- where nothing is left, no trades within the limits take a member beyond them
+none_beyond : (b s : ℕ) → (b ≤ position_limit) × (s ≤ position_limit) → is_beyond (pos 0) b s ≡ false
+none_beyond b s h = λ i. least b h.0 i || least s h.1 i
+  where
+    least : (n : ℕ) → n ≤ position_limit → nat_lt position_limit (0 + n) ≡ false
+    least n le = grind (arith, nat_tests)
 
 -- a position and its difference to another is the other
 whole : (a b x y : ℤ) → x ≡ a -ℤ b → y ≡ b → x +ℤ y ≡ a
@@ -316,30 +329,30 @@ other_way : (c d : Cusip) → same_issue c d ≡ false → same_issue d c ≡ fa
 other_way c d e = sym (same_test c d) ∙ is_eq-slice_cmp c d ∙ e
 
 -- a split takes a member beyond its limits just where the definitions say so
-split_large : (R : Rows) (order : is_sorted key_cmp R ≡ true) (s : Split) (ms : List Member) → AreHolders (positions_in R s.issue) ms → are_too_large (position_at R) (entries_of (action.Split s) (positions_in R s.issue) ms) ≡ list_any (takes_beyond R (action.Split s)) (shown R order s.issue)
-split_large R order s ms are =
+split_large : (R : Rows) (order : is_sorted key_cmp R ≡ true) (ps : List Pend) (s : Split) (ms : List Member) → AreHolders (positions_in R s.issue) ms → are_too_large (position_at R) ps (entries_of (action.Split s) (positions_in R s.issue) ms) ≡ list_any (takes_beyond R ps (action.Split s)) (shown R order s.issue)
+split_large R order ps s ms are =
     let T = λ (a : Account) (c : Cusip). total (shares_for a c) (entries_of (action.Split s) (positions_in R s.issue) ms) in
-    leg_large R order s.issue ms are (takes T (position_at R)) (split_leg s) (takes_beyond R (action.Split s)) (λ h p once.
+    leg_large R order s.issue ms are (takes T (position_at R) ps) (split_leg s) (takes_beyond R ps (action.Split s)) (λ h p once.
     let booked = leg_shares R order s.issue ms are s.issue s.issue (λ n. converted s.ratio n -ℤ n) (in_lieu s.ratio s.lieu) h p once ∙ ap (λ b. cond b (converted s.ratio h.shares -ℤ h.shares) (pos 0)) (bytes_refl s.issue) in
-    λ i. lt-ltb corporation h.account p.member i && is_beyond (whole (converted s.ratio h.shares) h.shares _ _ booked p.own i))
+    λ i. lt-ltb corporation h.account p.member i && is_beyond (whole (converted s.ratio h.shares) h.shares _ _ booked p.own i) (bought_in ps h.account s.issue) (sold_in ps h.account s.issue))
 
 -- and so does an exchange, in which nobody keeps a position in the old issue
-exchange_large : (R : Rows) (order : is_sorted key_cmp R ≡ true) (x : Exchange) (ms : List Member) → AreHolders (positions_in R x.old) ms → same_issue x.old x.successor ≡ false → are_too_large (position_at R) (entries_of (action.Exchange x) (positions_in R x.old) ms) ≡ list_any (takes_beyond R (action.Exchange x)) (shown R order x.old)
-exchange_large R order x ms are another =
+exchange_large : (R : Rows) (order : is_sorted key_cmp R ≡ true) (ps : List Pend) → AreFewShares ps → (x : Exchange) (ms : List Member) → AreHolders (positions_in R x.old) ms → same_issue x.old x.successor ≡ false → are_too_large (position_at R) ps (entries_of (action.Exchange x) (positions_in R x.old) ms) ≡ list_any (takes_beyond R ps (action.Exchange x)) (shown R order x.old)
+exchange_large R order ps few x ms are another =
     let q = positions_in R x.old in
     let olds = against_corporation x.old (map (old_entry x q) (holders q ms)) in
     let news = against_corporation x.successor (map (new_entry x q) (holders q ms)) in
     let T = λ (a : Account) (c : Cusip). total (shares_for a c) (olds ++ news) in
-    let t = takes T (position_at R) in
+    let t = takes T (position_at R) ps in
     let left = λ (d : Cusip) (h : Holder) (p : IsOwn q h) (once : occurs h.account (holders q ms) ≡ 1). leg_shares R order x.old ms are x.old d neg_ℤ (λ n. pos 0) h p once in
     let come = λ (d : Cusip) (h : Holder) (p : IsOwn q h) (once : occurs h.account (holders q ms) ≡ 1). leg_shares R order x.old ms are x.successor d (converted x.ratio) (in_exchange x.ratio x.lieu x.cash) h p once in
     list_any-append t olds news
     ∙ (λ i. (leg_large R order x.old ms are t (old_leg x) (λ h. false) (λ h p once. λ j. lt-ltb corporation h.account p.member j
-    && is_beyond ((ap (λ z. z +ℤ position_at R h.account x.old) (total-append (shares_for h.account x.old) olds news) ∙ gone h.shares _ _ _ (left x.old h p once ∙ ap (λ b. cond b (neg_ℤ h.shares) (pos 0)) (bytes_refl x.old)) (come x.old h p once ∙ ap (λ b. cond b (converted x.ratio h.shares) (pos 0)) (other_way x.old x.successor another)) p.own) j)) ∙ any_none (shown R order x.old)) i
-    || leg_large R order x.old ms are t (new_leg x) (takes_beyond R (action.Exchange x)) (λ h p once. λ j. lt-ltb corporation h.account p.member j
-    && is_beyond ((total-append (shares_for h.account x.successor) olds news ∙ (λ l. (left x.successor h p once ∙ ap (λ b. cond b (neg_ℤ h.shares) (pos 0)) another) l +ℤ (come x.successor h p once ∙ ap (λ b. cond b (converted x.ratio h.shares) (pos 0)) (bytes_refl x.successor)) l) ∙ zero_add (converted x.ratio h.shares)) j +ℤ position_at R h.account x.successor)) i)
+    && ((λ l. is_beyond ((ap (λ z. z +ℤ position_at R h.account x.old) (total-append (shares_for h.account x.old) olds news) ∙ gone h.shares _ _ _ (left x.old h p once ∙ ap (λ b. cond b (neg_ℤ h.shares) (pos 0)) (bytes_refl x.old)) (come x.old h p once ∙ ap (λ b. cond b (converted x.ratio h.shares) (pos 0)) (other_way x.old x.successor another)) p.own) l) (bought_in ps h.account x.old) (sold_in ps h.account x.old)) ∙ none_beyond _ _ (few h.account x.old p.member)) j) ∙ any_none (shown R order x.old)) i
+    || leg_large R order x.old ms are t (new_leg x) (takes_beyond R ps (action.Exchange x)) (λ h p once. λ j. lt-ltb corporation h.account p.member j
+    && is_beyond ((total-append (shares_for h.account x.successor) olds news ∙ (λ l. (left x.successor h p once ∙ ap (λ b. cond b (neg_ℤ h.shares) (pos 0)) another) l +ℤ (come x.successor h p once ∙ ap (λ b. cond b (converted x.ratio h.shares) (pos 0)) (bytes_refl x.successor)) l) ∙ zero_add (converted x.ratio h.shares)) j +ℤ position_at R h.account x.successor) (bought_in ps h.account x.successor) (sold_in ps h.account x.successor)) i)
 
 -- what is looked for is what the definitions refuse
-pub same_large : (R : Rows) (order : is_sorted key_cmp R ≡ true) (x : Action) → IsForAnother x → (ms : List Member) → AreHolders (positions_in R (issue_of x)) ms → are_too_large (position_at R) (entries_of x (positions_in R (issue_of x)) ms) ≡ list_any (takes_beyond R x) (shown R order (issue_of x))
-same_large R order (action.Split s) another ms are = split_large R order s ms are
-same_large R order (action.Exchange x) another ms are = exchange_large R order x ms are another
+pub same_large : (R : Rows) (order : is_sorted key_cmp R ≡ true) (ps : List Pend) → AreFewShares ps → (x : Action) → IsForAnother x → (ms : List Member) → AreHolders (positions_in R (issue_of x)) ms → are_too_large (position_at R) ps (entries_of x (positions_in R (issue_of x)) ms) ≡ list_any (takes_beyond R ps x) (shown R order (issue_of x))
+same_large R order ps few (action.Split s) another ms are = split_large R order ps s ms are
+same_large R order ps few (action.Exchange x) another ms are = exchange_large R order ps few x ms are another

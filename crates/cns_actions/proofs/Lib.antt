@@ -1,7 +1,10 @@
 pub mod Members
 pub mod Reachable
 pub mod Walking
+pub mod Registers
 pub mod Merges
+pub mod Turning
+pub mod DueAmounts
 pub mod Holders
 pub mod Skipping
 pub mod Summing

@@ -62,7 +62,7 @@ books_nothing es k h b = λ i. record h {
 }
 
 -- where the first entry is at a key, it alone is booked there
-books_first : (e : Entry) (es : List Entry) (k : Key) (h : Holding) → is_eq (key_cmp k (key_of e)) ≡ true → below_all key_cmp (key_of e) (by_key es) ≡ true → books (e ∷ es) k h ≡ entered e h
+pub books_first : (e : Entry) (es : List Entry) (k : Key) (h : Holding) → is_eq (key_cmp k (key_of e)) ≡ true → below_all key_cmp (key_of e) (by_key es) ≡ true → books (e ∷ es) k h ≡ entered e h
 books_first e es k h at b =
     let b' : below_all key_cmp k (by_key es) ≡ true = ap (λ q. below_all key_cmp q (by_key es)) (exact_keys k (key_of e) (equal _ at)) ∙ b in
     λ i. record h {
@@ -71,7 +71,7 @@ books_first e es k h at b =
     }
 
 -- where it is at another key, the others are
-books_other : (e : Entry) (es : List Entry) (k : Key) (h : Holding) → is_eq (key_cmp k (key_of e)) ≡ false → books (e ∷ es) k h ≡ books es k h
+pub books_other : (e : Entry) (es : List Entry) (k : Key) (h : Holding) → is_eq (key_cmp k (key_of e)) ≡ false → books (e ∷ es) k h ≡ books es k h
 books_other e es k h at = λ i. record h {
   now = add_other (is_at k e) e.shares (total (shares_for k.account k.issue) es) h.now (is_at_key k e ∙ at) i;
   contract = add_other (is_at k e) e.cents (total (cents_for k.account k.issue) es) h.contract (is_at_key k e ∙ at) i;

@@ -1,5 +1,5 @@
 -- What entries make of positions.
-use Rattle.std.specs.Prelude.{◌≡◌, ◌≤◌, ℤ, false, List, unsigned_abs}
+use Rattle.std.specs.Prelude.{◌≡◌, ◌≤◌, ℤ, Bool, false, List, unsigned_abs}
 use Rattle.cns_units.specs.declared.account.Account.{Account}
 use Rattle.cns_units.specs.declared.account.Member.{Member}
 use Rattle.cns_units.specs.declared.cusip.Cusip.{Cusip}
@@ -7,6 +7,8 @@ use Rattle.cns_terms.specs.declared.holding.Entry.{Entry}
 use Rattle.cns_terms.specs.declared.holding.Key.{Key}
 use Rattle.cns_terms.specs.Entries.{corporation, exchange_entries, split_entries}
 use Rattle.cns_terms.specs.Limits.{amount_limit, corporation_limit, position_limit}
+use Rattle.cns_terms.specs.declared.pend.Pend.{Pend}
+use Rattle.cns_terms.specs.Pending.{waits_in}
 use Rattle.cns_terms.specs.Sums.{same_issue}
 use Rattle.cns_positions.specs.Rows.{Rows, holding_at}
 use Rattle.cns_actions.specs.declared.action.Action.{Action}
@@ -34,6 +36,11 @@ entries_of (action.Exchange x) q ms = exchange_entries x q ms
 abbrev pub IsForAnother : Action → Type 0
 IsForAnother (action.Split s) = Unit {0}
 IsForAnother (action.Exchange x) = same_issue x.old x.successor ≡ false
+
+-- whether it has to wait for trades: none may wait in an issue that is exchanged
+abbrev pub waits_for : Action → List Pend → Bool
+waits_for (action.Split s) ps = false
+waits_for (action.Exchange x) ps = waits_in ps x.old
 
 -- positions on which a split or an exchange can be booked: none is beyond its limit, and no cents are
 pub record CanBeBooked (rows : Rows) : Type 0 where

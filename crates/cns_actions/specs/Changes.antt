@@ -10,6 +10,8 @@ use Rattle.cns_terms.specs.declared.holding.Holding.{Holding}
 use Rattle.cns_terms.specs.declared.holding.Key.{Key}
 use Rattle.cns_terms.specs.Conversions.{converted, in_exchange, in_lieu}
 use Rattle.cns_terms.specs.Entries.{corporation, entry}
+use Rattle.cns_terms.specs.declared.pend.Pend.{Pend}
+use Rattle.cns_terms.specs.Pending.{bought_in, sold_in}
 use Rattle.cns_terms.specs.Refusals.{is_beyond}
 use Rattle.cns_terms.specs.Sums.{same_issue, total}
 use Rattle.cns_positions.specs.Rows.{Rows, held_above}
@@ -74,11 +76,17 @@ member_entries x hs = flat_map (λ h. entries_for x h.account (change_of x h.sha
 abbrev pub all_entries : Action → List Holder → List Entry
 all_entries x hs = entries_for x corporation (opposite (sum_of x hs)) ++ member_entries x hs
 
+-- the issue of the new shares
+abbrev pub new_issue : Action → Cusip
+new_issue (action.Split s) = s.issue
+new_issue (action.Exchange x) = x.successor
+
 -- a member's position after it, in the issue of the new shares
 abbrev pub position_after : Rows → Action → Holder → ℤ
 position_after rows (action.Split s) h = converted s.ratio h.shares
 position_after rows (action.Exchange x) h = converted x.ratio h.shares +ℤ position_at rows h.account x.successor
 
--- whether it is beyond the member's limits
-abbrev pub takes_beyond : Rows → Action → Holder → Bool
-takes_beyond rows x h = is_beyond (position_after rows x h)
+-- whether it is beyond the member's limits, with the trades in that issue that wait
+abbrev pub takes_beyond : Rows → List Pend → Action → Holder → Bool
+takes_beyond rows ps x h =
+    is_beyond (position_after rows x h) (bought_in ps h.account (new_issue x)) (sold_in ps h.account (new_issue x))

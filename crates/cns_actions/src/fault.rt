@@ -4,9 +4,13 @@ use thiserror::Error;
 /// Why no positions were made. Those that were given have not changed.
 #[derive(Clone, Copy, Debug, PartialEq, Eq, Error)]
 pub enum ActionFault {
-    /// After the whole split or exchange a member's position would be beyond 10^10 shares, long or short.
+    /// After the whole split or exchange a member would be beyond 10^10 shares, long with those that it is to get by trades
+    /// that wait, or short with those that it is to give.
     #[error("position too large")]
     TooLarge,
+    /// Trades wait for their date in the issue that was to be exchanged, which would retire it.
+    #[error("an issue with trades that wait is not exchanged")]
+    PendingTrades,
     /// A growth was refused.
     #[error("out of memory")]
     NoMemory,

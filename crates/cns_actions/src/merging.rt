@@ -1,12 +1,14 @@
 // Entries booked on rows, in one pass over both.
-ghost use Rattle.std.specs.Prelude.{◌≡◌, ◌<◌, ◌+◌, ◌+ℤ◌, [], ◌∷◌, true, length, IfOk, IfSome, MatchOption};
+ghost use Rattle.std.specs.Prelude.{◌≡◌, ◌<◌, ◌+◌, [], ◌∷◌, true, length, IfOk, IfSome, MatchOption};
 ghost use Rattle.std.specs.FinMap.{is_sorted};
 ghost use Rattle.std.specs.List.{AllByRecursion};
 ghost use Rattle.cns_terms.specs.declared.holding.Key.{Key};
 ghost use Rattle.cns_terms.specs.Keys.{key_cmp};
 ghost use Rattle.cns_positions.specs.Rows.{Rows, books, holding_at};
 ghost use Rattle.cns_actions.specs.Merging.{IsMerged, HasSpace, IsSmall, by_key, entered, key_of};
+ghost use Rattle.cns_actions.specs.Turns.{turned};
 
+use crate::turn::Turn;
 use crate::walk::Ahead;
 use cns_positions::Positions;
 use cns_terms::{Entry, Holding, Key, NoMemory};
@@ -30,8 +32,8 @@ impl<'a, P: Positions<A>, A> Model for Merge<'a, P, A> {
     ghost invariant = { λ m. AreMergeable m.rows m.entries.now };
 }
 
-// The key of an entry.
-fn key_of(entry: &Entry) -> Key
+/// The key of an entry.
+pub(crate) fn key_of(entry: &Entry) -> Key
     ensures { result ≡ key_of entry.now }
 {
     Key {
@@ -73,27 +75,28 @@ impl<'a, P: Positions<A>, A> Merge<'a, P, A> {
     }
 }
 
-/// The rows of positions with entries booked on them, in the order of keys. The entries are in the order of their keys
-/// too, with one at most at each key.
+/// The rows of positions with entries booked on what is made of them, in the order of keys. The entries are in the
+/// order of their keys too, with one at most at each key.
 ///
-/// A row with an entry at its key gets its shares and cents; its opening and its age stay. An entry at a key without a
-/// row makes one. Rows and entries are gone through once, side by side. `NoMemory` where a growth of the list was
-/// refused.
+/// A row with an entry at its key gets its shares and cents; its opening and its age are what the turn makes of them.
+/// An entry at a key without a row makes one. Rows and entries are gone through once, side by side. `NoMemory` where a
+/// growth of the list was refused.
 pub(crate) fn merged<P: Positions<B>, B, A: Allocator + Drop>(
     alloc: A,
     positions: &P,
+    turn: Turn,
     entries: &[Entry],
 ) -> Result<Vec<(Key, Holding), A>, NoMemory>
     requires space { (k : Key) → HasSpace (holding_at (P.rows positions.now) k) }
     requires small { AllByRecursion IsSmall entries.now }
     requires rise { is_sorted key_cmp (by_key entries.now) ≡ true }
     ensures booked { IfOk result (λ v. (k : Key) → holding_at v.items k
-        ≡ books entries.now k (holding_at (P.rows positions.now) k)) }
+        ≡ books entries.now k (turned turn (holding_at (P.rows positions.now) k))) }
     ensures order { IfOk result (λ v. is_sorted key_cmp v.items ≡ true) }
 {
     let mut rows = Vec::new(alloc);
     let mut merge = Merge {
-        rows: Ahead::new(positions),
+        rows: Ahead::new(positions, turn),
         entries,
     };
     while let Some(row) = merge.next_row() {

@@ -1,18 +1,20 @@
 // The positions after a split or an exchange.
-ghost use Rattle.std.specs.Prelude.{◌≡◌, ◌↔◌, ◌<◌, ◌≤◌, ◌+ℤ◌, ◌++◌, List, Err, true, false, IfOk, IfNone, IfSome, OnSome, OnOk, unsigned_abs};
+ghost use Rattle.std.specs.Prelude.{◌≡◌, ◌↔◌, ◌≤◌, ◌+ℤ◌, ◌++◌, List, Err, true, false, IfOk, IfNone, IfSome, OnSome, unsigned_abs};
 ghost use Rattle.std.specs.FinMap.{is_sorted};
 ghost use Rattle.std.specs.List.{AllByRecursion, list_any};
+ghost use Rattle.cns_units.specs.declared.account.Account.{Account};
 ghost use Rattle.cns_units.specs.declared.account.Member.{Member};
 ghost use Rattle.cns_units.specs.declared.cusip.Cusip.{Cusip};
 ghost use Rattle.cns_terms.specs.declared.holding.Key.{Key};
 ghost use Rattle.cns_terms.specs.Actions.{AreHolders};
 ghost use Rattle.cns_terms.specs.Entries.{corporation};
 ghost use Rattle.cns_terms.specs.Limits.{member_limit, position_limit};
-ghost use Rattle.cns_terms.specs.Refusals.{are_too_large, is_beyond};
+ghost use Rattle.cns_terms.specs.Pending.{bought_in, sold_in};
+ghost use Rattle.cns_terms.specs.Refusals.{are_too_large};
 ghost use Rattle.cns_terms.specs.Keys.{key_cmp};
 ghost use Rattle.cns_positions.specs.Rows.{books, holding_at};
-ghost use Rattle.cns_actions.specs.Booked.{CanBeBooked, IsForAnother, entries_of, issue_of, position_at, positions_in};
-ghost use Rattle.cns_actions.specs.Changes.{IsFew, all_entries, change_of, entries_for, holders_of, member_entries, opposite, position_after, sum_of, takes_beyond};
+ghost use Rattle.cns_actions.specs.Booked.{CanBeBooked, IsForAnother, entries_of, issue_of, position_at, positions_in, waits_for};
+ghost use Rattle.cns_actions.specs.Changes.{IsFew, all_entries, change_of, entries_for, holders_of, member_entries, new_issue, opposite, position_after, sum_of, takes_beyond};
 ghost use Rattle.cns_actions.specs.Merging.{IsSmall};
 
 use crate::action::Action;
@@ -20,8 +22,10 @@ use crate::change::{Change, push_change};
 use crate::fault::ActionFault;
 use crate::holder::{Holder, next_holder};
 use crate::merging::merged;
+use crate::turn::Turn;
 use cns_positions::Positions;
-use cns_terms::{Entry, Key, NoMemory, POSITION_LIMIT};
+use cns_terms::{Entry, Key, NoMemory};
+use cns_trades::{Pending, is_beyond};
 use cns_units::{Account, Cusip};
 use std::alloc::Allocator;
 
@@ -35,11 +39,24 @@ fn issue_of(action: &Action) -> Cusip
     }
 }
 
-// Whether a position is beyond a member's limits.
-fn is_beyond(position: i64) -> bool
-    ensures { result ≡ is_beyond position }
+// The issue of the new shares.
+fn new_issue(action: &Action) -> Cusip
+    ensures { result ≡ new_issue action.now }
 {
-    position > POSITION_LIMIT || position < -POSITION_LIMIT
+    match action {
+        Action::Split(split) => split.issue,
+        Action::Exchange(exchange) => exchange.successor,
+    }
+}
+
+// Whether a split or an exchange has to wait for trades: a split scales no trade, and never waits.
+fn waits_for<C: Allocator + Drop>(action: &Action, pending: &Pending<C>) -> bool
+    ensures { result ≡ waits_for action.now pending.now }
+{
+    match action {
+        Action::Split(_) => false,
+        Action::Exchange(exchange) => pending.waits_in(&exchange.old),
+    }
 }
 
 // The new shares with what stands in the successor.
@@ -51,9 +68,36 @@ fn joined(change: &Change, position: i64) -> i64
     change.after + position
 }
 
-// Whether a member's position would be beyond its limits: in the old issue of an exchange there is none left.
-fn takes_beyond<P: Positions<B>, B>(
+// A member's position in the issue of the new shares.
+fn position_after<P: Positions<B>, B>(
     positions: &P,
+    action: &Action,
+    holder: &Holder,
+    change: &Change,
+) -> i64
+    requires few { IsFew 1 change.now }
+    requires exact { change.now ≡ change_of action.now holder.now.shares }
+    requires within { (c : Cusip)
+        → unsigned_abs (position_at (P.rows positions.now) holder.now.account c) ≤ position_limit }
+    ensures { result ≡ position_after (P.rows positions.now) action.now holder.now }
+{
+    match action {
+        Action::Split(_) => change.after,
+        Action::Exchange(exchange) => {
+            let holding = positions.get(Key {
+                account: holder.account,
+                issue: exchange.successor,
+            });
+            joined(change, holding.now)
+        }
+    }
+}
+
+// Whether a member would be beyond its limits there, with the trades that wait: in the old issue of an exchange it has
+// nothing left.
+fn takes_beyond<P: Positions<B>, B, C: Allocator + Drop>(
+    positions: &P,
+    pending: &Pending<C>,
     action: &Action,
     holder: &Holder,
     change: &Change,
@@ -62,18 +106,11 @@ fn takes_beyond<P: Positions<B>, B>(
     requires exact { change.now ≡ change_of action.now holder.now.shares }
     requires within { (c : Cusip)
         → unsigned_abs (position_at (P.rows positions.now) holder.now.account c) ≤ position_limit }
-    ensures { result ≡ takes_beyond (P.rows positions.now) action.now holder.now }
+    ensures { result ≡ takes_beyond (P.rows positions.now) pending.now action.now holder.now }
 {
-    match action {
-        Action::Split(_) => is_beyond(change.after),
-        Action::Exchange(exchange) => {
-            let holding = positions.get(Key {
-                account: holder.account,
-                issue: exchange.successor,
-            });
-            is_beyond(joined(change, holding.now))
-        }
-    }
+    let issue = new_issue(action);
+    let position = position_after(positions, action, holder, change);
+    is_beyond(position, &pending.sides(holder.account, issue))
 }
 
 // Rows are in order, which any call that hands some out tells.
@@ -84,11 +121,15 @@ fn in_order<P: Positions<B>, B>(positions: &P)
 }
 
 // What the positions of all members become together; None where one of them would be beyond its limits.
-fn sum_of<P: Positions<B>, B>(positions: &P, action: &Action) -> Option<Change>
+fn sum_of<P: Positions<B>, B, C: Allocator + Drop>(
+    positions: &P,
+    pending: &Pending<C>,
+    action: &Action,
+) -> Option<Change>
     requires { CanBeBooked (P.rows positions.now) }
-    ensures large { IfNone result (list_any (takes_beyond (P.rows positions.now) action.now)
+    ensures large { IfNone result (list_any (takes_beyond (P.rows positions.now) pending.now action.now)
         (holders_of action.now (P.rows positions.now)) ≡ true) }
-    ensures within { OnSome result (list_any (takes_beyond (P.rows positions.now) action.now)
+    ensures within { OnSome result (list_any (takes_beyond (P.rows positions.now) pending.now action.now)
         (holders_of action.now (P.rows positions.now)) ≡ false) }
     ensures sum { IfSome result (λ s. s ≡ sum_of action.now (holders_of action.now (P.rows positions.now))) }
     ensures few { IfSome result (IsFew member_limit) }
@@ -100,7 +141,7 @@ fn sum_of<P: Positions<B>, B>(positions: &P, action: &Action) -> Option<Change>
     in_order(positions);
     while let Some(holder) = next_holder(positions, &issue, &mut passed) {
         let change = Change::of(action, &holder);
-        if takes_beyond(positions, action, &holder, &change) {
+        if takes_beyond(positions, pending, action, &holder, &change) {
             return None;
         }
         sum.add(&change);
@@ -152,7 +193,7 @@ fn booked<P: Positions<B>, B, A: Allocator + Drop + Clone>(
     ensures order { IfOk result (λ p. is_sorted key_cmp (P.rows p) ≡ true) }
 {
     let entries = entries(alloc.clone()?, positions, action, sum)?;
-    let rows = merged(alloc.clone()?, positions, entries.as_slice())?;
+    let rows = merged(alloc.clone()?, positions, Turn::Kept, entries.as_slice())?;
     positions.rebuilt(rows.as_slice())
 }
 
@@ -167,25 +208,41 @@ fn booked<P: Positions<B>, B, A: Allocator + Drop + Clone>(
 /// An exchange is for another issue: where both were one, two entries would have one key, and the position before it
 /// could not be told from what enters. The book refuses such an exchange first.
 ///
-/// `TooLarge` where after all of it a member's position would be beyond 10^10 shares, long or short; this is looked
-/// for first, and takes no memory. `NoMemory` where a growth was refused.
+/// A split scales no trade that waits for its date: it is booked as it was taken. An exchange retires the old issue, in
+/// which then no trade could be booked, so it is refused while one waits there.
+///
+/// `TooLarge` where after all of it a member would be beyond 10^10 shares, long with the shares that it is to get by
+/// trades that wait, or short with those that it is to give (this project's profile); this is looked for first, and
+/// takes no memory. `PendingTrades` where the issue that is exchanged has trades that wait. `NoMemory` where a growth
+/// was refused.
+///
+/// What each member is to get and to give in each issue by the trades that wait is within its limits, which the book
+/// sees to when it takes a trade.
 ///
 /// For any list of members that names nobody twice and leaves nobody out who has a position in the issue, the entries
 /// are those of the definitions (`Entries.antt` in `cns_terms`).
 ///
-/// It looks twice at the place of each account in the issue, for the size and the sums and for the entries, and in an
-/// exchange once at its place in the successor. All rows are gone through once, to merge the entries with them, and built
-/// anew once. Copies of `alloc` keep a list of the entries and one of the rows meanwhile.
-pub fn next_positions<P: Positions<B>, B, A: Allocator + Drop + Clone>(
+/// It looks twice at the place of each account in the issue, for the size and the sums and for the entries, in an
+/// exchange once at its place in the successor, and once at what each member is to get and to give there. All rows are
+/// gone through once, to merge the entries with them, and built anew once. Copies of `alloc` keep a list of the entries
+/// and one of the rows meanwhile.
+pub fn next_positions<P: Positions<B>, B, A: Allocator + Drop + Clone, C: Allocator + Drop>(
     alloc: &A,
     positions: &P,
     action: &Action,
+    pending: &Pending<C>,
 ) -> Result<P, ActionFault>
     requires within { CanBeBooked (P.rows positions.now) }
     requires another { IsForAnother action.now }
+    requires waiting { (a : Account) (c : Cusip) → 1 ≤ a
+        → (bought_in pending.now a c ≤ position_limit) × (sold_in pending.now a c ≤ position_limit) }
     ensures too_large { (ms : List Member) → AreHolders (positions_in (P.rows positions.now) (issue_of action.now)) ms
-        → (result ≡ Err ActionFault.TooLarge) ↔ (are_too_large (position_at (P.rows positions.now))
+        → (result ≡ Err ActionFault.TooLarge) ↔ (are_too_large (position_at (P.rows positions.now)) pending.now
         (entries_of action.now (positions_in (P.rows positions.now) (issue_of action.now)) ms) ≡ true) }
+    ensures pending { (ms : List Member) → AreHolders (positions_in (P.rows positions.now) (issue_of action.now)) ms
+        → (result ≡ Err ActionFault.PendingTrades) ↔ ((are_too_large (position_at (P.rows positions.now)) pending.now
+        (entries_of action.now (positions_in (P.rows positions.now) (issue_of action.now)) ms) ≡ false)
+        × (waits_for action.now pending.now ≡ true)) }
     ensures booked { IfOk result (λ p. (ms : List Member)
         → AreHolders (positions_in (P.rows positions.now) (issue_of action.now)) ms → (k : Key)
         → holding_at (P.rows p) k
@@ -193,9 +250,12 @@ pub fn next_positions<P: Positions<B>, B, A: Allocator + Drop + Clone>(
         (holding_at (P.rows positions.now) k)) }
     ensures order { IfOk result (λ p. is_sorted key_cmp (P.rows p) ≡ true) }
 {
-    let Some(sum) = sum_of(positions, action) else {
+    let Some(sum) = sum_of(positions, pending, action) else {
         return Err(ActionFault::TooLarge);
     };
+    if waits_for(action, pending) {
+        return Err(ActionFault::PendingTrades);
+    }
     match booked(alloc, positions, action, &sum) {
         Ok(next) => Ok(next),
         Err(_) => Err(ActionFault::NoMemory),

@@ -4,9 +4,11 @@ ghost use Rattle.std.specs.FinMap.{is_sorted};
 ghost use Rattle.std.specs.Option.{option_copied};
 ghost use Rattle.cns_terms.specs.Keys.{key_cmp};
 ghost use Rattle.cns_positions.specs.Rows.{AreNext, held_above, present};
+ghost use Rattle.cns_actions.specs.Turns.{turned_rows};
 ghost use Rattle.cns_actions.specs.Walks.{IsTaken, is_before, starts_before};
 
-use cns_positions::{NextRows, Positions};
+use crate::turn::Turn;
+use cns_positions::{NextRows, Positions, rolled};
 use cns_terms::{Holding, Key};
 use std::marker::{Model, PhantomData};
 
@@ -85,11 +87,27 @@ impl<'a, P: Positions<A>, A> Walk<'a, P, A> {
     }
 }
 
-/// A walk whose first row is read ahead. Contracts see the rows that are left, that one first.
+// The next row of a walk, and what is made of it: one that is kept is handed on as it came.
+fn next_turned<P: Positions<A>, A>(rest: &mut Walk<'_, P, A>, turn: Turn) -> Option<(Key, Holding)>
+    ensures { MatchOption result (turned_rows turn rest.old ≡ [])
+        (λ r. turned_rows turn rest.old ≡ r ∷ turned_rows turn rest.new) }
+{
+    match turn {
+        Turn::Kept => rest.next_row(),
+        Turn::Rolled => {
+            let (key, holding) = rest.next_row()?;
+            Some((key, rolled(holding)))
+        }
+    }
+}
+
+/// A walk whose first row is read ahead, with what is made of each row as it is read. Contracts see the rows that are
+/// left, that one first.
 #[derive(Drop)]
 pub(crate) struct Ahead<'a, P: Positions<A>, A> {
     next: Option<(Key, Holding)>,
     rest: Walk<'a, P, A>,
+    turn: Turn,
 }
 
 impl<'a, P: Positions<A>, A> Model for Ahead<'a, P, A> {
@@ -97,24 +115,25 @@ impl<'a, P: Positions<A>, A> Model for Ahead<'a, P, A> {
     ghost use Rattle.std.specs.FinMap.{is_sorted};
     ghost use Rattle.cns_terms.specs.Keys.{key_cmp};
     ghost use Rattle.cns_positions.specs.Rows.{Rows};
+    ghost use Rattle.cns_actions.specs.Turns.{turned_rows};
     ghost use Rattle.cns_actions.specs.Walks.{with_ahead};
 
     ghost Value = { Rows };
 
-    ghost view = { λ a. with_ahead a.next a.rest };
+    ghost view = { λ a. with_ahead a.next (turned_rows a.turn a.rest) };
 
-    ghost invariant = { λ a. is_sorted key_cmp (with_ahead a.next a.rest) ≡ true };
+    ghost invariant = { λ a. is_sorted key_cmp (with_ahead a.next (turned_rows a.turn a.rest)) ≡ true };
 }
 
 impl<'a, P: Positions<A>, A> Ahead<'a, P, A> {
-    /// All rows.
-    pub fn new(positions: &'a P) -> Self
-        ensures rows { result ≡ held_above (P.rows positions.now) None }
+    /// All rows, and what is made of each.
+    pub fn new(positions: &'a P, turn: Turn) -> Self
+        ensures rows { result ≡ turned_rows turn (held_above (P.rows positions.now) None) }
         ensures order { is_sorted key_cmp (P.rows positions.now) ≡ true }
     {
         let mut rest = Walk::new(positions);
-        let next = rest.next_row();
-        Ahead { next, rest }
+        let next = next_turned(&mut rest, turn);
+        Ahead { next, rest, turn }
     }
 
     /// The next row, if it is before a key; without a key, the next of all.
@@ -127,7 +146,7 @@ impl<'a, P: Positions<A>, A> Ahead<'a, P, A> {
         if !is_before(key, &row.0) {
             return None;
         }
-        self.next = self.rest.next_row();
+        self.next = next_turned(&mut self.rest, self.turn);
         Some(row)
     }
 
@@ -142,7 +161,7 @@ impl<'a, P: Positions<A>, A> Ahead<'a, P, A> {
         if !next.is_same(key) {
             return Holding::ZEROS;
         }
-        self.next = self.rest.next_row();
+        self.next = next_turned(&mut self.rest, self.turn);
         holding
     }
 }

@@ -1,8 +1,8 @@
 -- Splits and exchanges.
 -- For `split` and `exchange` of parts/actions.rt, clause step.
-use Rattle.std.proofs.Common.{◌≡◌, ◌∙◌, sym, ap, subst, refl, ℕ, ◌*◌, ◌≤◌, ℤ, Bool, true, false, ◌||◌, ◌==◌, cond, List, ◌∷◌, map, Option, Some, None, arith}
-use Rattle.std.specs.Prelude.{bytes_eq, is_none, is_some, IfOk, IsSome, Result, Ok, Err}
-use Rattle.std.specs.List.{AllByRecursion}
+use Rattle.std.proofs.Common.{◌≡◌, ◌∙◌, sym, ap, subst, refl, ℕ, ◌*◌, ◌≤◌, ℤ, ◌+ℤ◌, Bool, true, false, ◌&&◌, ◌||◌, ◌==◌, cond, List, ◌∷◌, map, reverse, Option, Some, None, arith}
+use Rattle.std.specs.Prelude.{bytes_eq, nat_lt, is_none, is_some, IfOk, IsSome, Result, Ok, Err}
+use Rattle.std.specs.List.{AllByRecursion, list_any}
 use Rattle.std.proofs.lemmas.Bool.Decides.{nat_tests}
 use Rattle.cns_units.specs.declared.account.Account.{Account}
 use Rattle.cns_units.specs.declared.cusip.Cusip.{Cusip}
@@ -11,14 +11,18 @@ use Rattle.cns_terms.specs.declared.action.Split.{Split}
 use Rattle.cns_terms.specs.declared.command.Activity.{Activity}
 use Rattle.cns_terms.specs.declared.command.Activity.TheVariants as activity
 use Rattle.cns_terms.specs.declared.command.Command.TheVariants as command
+use Rattle.cns_terms.specs.declared.holding.Entry.{Entry}
 use Rattle.cns_terms.specs.declared.holding.Key.{Key}
+use Rattle.cns_terms.specs.declared.pend.Pend.{Pend}
 use Rattle.cns_terms.specs.Actions.{AreHolders}
-use Rattle.cns_terms.specs.Entries.{entries, exchange_entries, journal, posting, split_entries}
-use Rattle.cns_terms.specs.Limits.{amount_limit, booking_limit, history_limit, member_limit}
+use Rattle.cns_terms.specs.Entries.{corporation, entries, exchange_entries, journal, posting, split_entries}
+use Rattle.cns_terms.specs.Limits.{amount_limit, booking_limit, history_limit, member_limit, position_limit}
 use Rattle.cns_terms.specs.Listings.{account_lt, members}
-use Rattle.cns_terms.specs.Positions.{position}
+use Rattle.cns_terms.specs.Pending.{bought_in, pending, sold_in, waits_in}
+use Rattle.cns_terms.specs.Positions.{position, shares_for}
 use Rattle.cns_terms.specs.Reached.{IsInRange}
-use Rattle.cns_terms.specs.Refusals.{Rule, are_too_large, first_refusal, is_too_large, refusal}
+use Rattle.cns_terms.specs.Refusals.{Rule, are_too_large, first_refusal, is_beyond, is_too_large, is_too_large_at, refusal}
+use Rattle.cns_terms.specs.Sums.{total}
 use Rattle.cns_terms.proofs.Elsewhere.{no_account_elsewhere, no_position}
 use Rattle.cns_terms.proofs.Everywhere.{each_both, each_in_order}
 use Rattle.cns_terms.proofs.Facts.{and_right}
@@ -28,13 +32,14 @@ use Rattle.cns_notices.specs.Noticed.{ended}
 use Rattle.cns_notices.proofs.Noticing.{changed_each, ended_by}
 use Rattle.cns_positions.specs.Rows.{Rows, books, holding_at}
 use Rattle.cns_prices.specs.Listed.{Listed, price_in, retired_in}
-use Rattle.cns_actions.specs.Booked.{CanBeBooked, entries_of, issue_of, position_at, positions_in}
+use Rattle.cns_actions.specs.Booked.{CanBeBooked, entries_of, issue_of, position_at, positions_in, waits_for}
 use Rattle.cns_actions.specs.declared.action.Action.{Action}
 use Rattle.cns_actions.specs.declared.action.Action.TheVariants as action
 use Rattle.cns_actions.proofs.Members.{rising_distinct}
 use Rattle.cns_book.specs.Contents.{Contents}
-use Rattle.cns_book.specs.Effects.{activity_of}
+use Rattle.cns_book.specs.Effects.{activity_of, is_held_up}
 use Rattle.cns_book.specs.Follows.{Follows, FollowsNotices, HasRoom}
+use Rattle.cns_book.proofs.PendingSteps.{bought-reverse, sold-reverse, waits-reverse}
 use Rattle.cns_book.proofs.PartsStaying.{batches_stay, clock_stays, dividends_stay, rows_booked, sheets_stay}
 use Rattle.cns_book.proofs.PartsWithin.{member_within, rows_within}
 
@@ -43,6 +48,15 @@ use Rattle.cns_book.proofs.PartsWithin.{member_within, rows_within}
 -- cents that are few
 few : (n : ℕ) → n ≤ booking_limit * history_limit → n ≤ amount_limit
 few n h = omega (arith, h)
+
+-- with room for one activity more, no member is to get or to give more than its limit
+pub few_wait : (s : Contents) → HasRoom s → (a : Account) (c : Cusip) → 1 ≤ a → (bought_in s.trades.pending a c ≤ position_limit) × (sold_in s.trades.pending a c ≤ position_limit)
+few_wait s r a c le =
+    let ps = pending s.opening (journal s.opening r.activities) in
+    let w = (limited s.opening r.activities r.follows.reached).within a c le in
+    let bought = ap (λ qs. bought_in qs a c) r.follows.pending ∙ bought-reverse ps a c in
+    let sold = ap (λ qs. sold_in qs a c) r.follows.pending ∙ sold-reverse ps a c in
+    (omega (arith, bought, w.above), omega (arith, sold, w.below))
 
 -- with room for one activity more, positions can be booked
 pub can_be_booked : (s : Contents) → HasRoom s → CanBeBooked s.rows
@@ -74,7 +88,17 @@ members_hold s L c f =
       others = λ a h none. no_position a c J (no_account_elsewhere J a c l.whole.now (no_account a _ h none));
     }
 
+-- an entry is too large whichever way round the trades that wait stand
+same_large : (before : Account → Cusip → ℤ) (ps : List Pend) (es : List Entry) (e : Entry) → is_too_large_at before (reverse ps) es e ≡ is_too_large_at before ps es e
+same_large before ps es e =
+    λ i. nat_lt corporation e.account && is_beyond (total (shares_for e.account e.issue) es +ℤ before e.account e.issue) (bought-reverse ps e.account e.issue i) (sold-reverse ps e.account e.issue i)
+
 module _ (s : Contents) (L : List Activity) (f : Follows L s) where
+  -- a split or an exchange may be too large where it books
+  whole : (x : Action) → are_too_large (position (journal s.opening L)) (pending s.opening (journal s.opening L)) (entries s.opening (journal s.opening L) (activity_of x)) ≡ is_too_large s.opening (journal s.opening L) (activity_of x)
+  whole (action.Split p) = refl
+  whole (action.Exchange x) = refl
+
   -- positions are those of the definitions
   same_positions : position_at s.rows ≡ position (journal s.opening L)
   same_positions i a c = (f.rows (record { account = a; issue = c }) i).now
@@ -88,8 +112,16 @@ module _ (s : Contents) (L : List Activity) (f : Follows L s) where
   entries_are (action.Exchange x) = λ i. exchange_entries x (λ a. same_positions i a x.old) (members (journal s.opening L))
 
   -- and whether they are too large
-  pub size_is : (x : Action) → are_too_large (position_at s.rows) (entries_of x (positions_in s.rows (issue_of x)) (members (journal s.opening L))) ≡ is_too_large s.opening (journal s.opening L) (activity_of x)
-  size_is x = λ i. are_too_large (same_positions i) (entries_are x i)
+  pub size_is : (x : Action) → are_too_large (position_at s.rows) s.trades.pending (entries_of x (positions_in s.rows (issue_of x)) (members (journal s.opening L))) ≡ is_too_large s.opening (journal s.opening L) (activity_of x)
+  size_is x =
+      (λ i. are_too_large (same_positions i) (f.pending i) (entries_are x i))
+      ∙ (λ i. list_any (λ e. same_large (position (journal s.opening L)) (pending s.opening (journal s.opening L)) (entries s.opening (journal s.opening L) (activity_of x)) e i) (entries s.opening (journal s.opening L) (activity_of x)))
+      ∙ whole x
+
+  -- and whether trades that wait hold an exchange up
+  pub held_up_is : (x : Action) → waits_for x s.trades.pending ≡ is_held_up s.opening (journal s.opening L) x
+  held_up_is (action.Split p) = refl
+  held_up_is (action.Exchange x) = ap (λ qs. waits_in qs x.old) f.pending ∙ waits-reverse (pending s.opening (journal s.opening L)) x.old
 
 -- ---- what is refused
 
@@ -135,6 +167,7 @@ exchanged L s x prices rows f range none p r b =
         retired = λ c. r c ∙ ap (λ t. bytes_eq x.old c || t) (f.listings.retired c);
       };
       references = f.references;
+      pending = f.pending;
       dividends = dividends_stay s J (activity.Exchange x) refl f.dividends;
       rows = rows_booked s J (activity.Exchange x) rows refl b f.rows;
       sheets = sheets_stay s J (activity.Exchange x) refl f.sheets;

@@ -1,7 +1,8 @@
 -- The close of a day.
 -- For `close_day` of parts/closing.rt, clause step.
-use Rattle.std.proofs.Common.{◌≡◌, ◌∙◌, sym, ap, subst, refl, ℕ, suc, ◌+◌, ◌-◌, ◌^◌, ◌≤◌, ◌<◌, min, ℤ, pos, Bool, true, false, cond, List, [], ◌∷◌, ◌++◌, length, map, None, arith}
-use Rattle.std.specs.Prelude.{int_le, int_lt}
+use Rattle.std.proofs.Common.{◌≡◌, ◌∙◌, sym, ap, subst, refl, ℕ, suc, ◌+◌, ◌-◌, ◌^◌, ◌≤◌, ◌<◌, min, ℤ, pos, Bool, true, false, cond, not, List, [], ◌∷◌, ◌++◌, filter, flat_map, length, map, reverse, Option, Some, None, MatchOption, arith}
+use Rattle.std.specs.Option.{IfSome}
+use Rattle.std.specs.Prelude.{int_le, int_lt, is_none}
 use Rattle.std.specs.List.{AllByRecursion, prefix_len}
 use Rattle.std.specs.Ordering.{int_cmp, is_le}
 use Rattle.std.proofs.lemmas.Int.{ints}
@@ -11,25 +12,30 @@ use Rattle.cns_terms.specs.declared.command.Activity.{Activity}
 use Rattle.cns_terms.specs.declared.command.Activity.TheVariants as activity
 use Rattle.cns_terms.specs.declared.command.Command.TheVariants as command
 use Rattle.cns_terms.specs.declared.holding.Key.{Key}
-use Rattle.cns_terms.specs.Days.{closes, closings, date, day}
+use Rattle.cns_terms.specs.declared.pend.Pend.{Pend}
+use Rattle.cns_terms.specs.Days.{closes, closings, date, day, is_not_after}
 use Rattle.cns_terms.specs.Batches.{Liables}
-use Rattle.cns_terms.specs.Entries.{journal, posting}
+use Rattle.cns_terms.specs.Entries.{entries, journal, posting, trade_entries}
 use Rattle.cns_terms.specs.Fills.{batches_since}
 use Rattle.cns_terms.specs.Limits.{history_limit}
 use Rattle.cns_terms.specs.Holdings.{holding}
+use Rattle.cns_terms.specs.Pending.{due, is_due, pending, trades as trades_of}
 use Rattle.cns_terms.specs.Positions.{position}
 use Rattle.cns_terms.specs.Postings.{Journal}
-use Rattle.cns_terms.specs.Refusals.{refusal}
+use Rattle.cns_terms.specs.Refusals.{refusal, rules}
 use Rattle.cns_terms.specs.Sheets.{DaySheet, day_sheet}
-use Rattle.cns_terms.proofs.Facts.{journal_len, zero_add}
+use Rattle.cns_terms.proofs.Facts.{journal_len}
 use Rattle.cns_terms.proofs.Reached.{limited}
-use Rattle.cns_terms.proofs.Sound.{IsWhole}
+use Rattle.cns_terms.proofs.Sound.{IsWhole, all_fail}
 use Rattle.cns_notices.specs.Noticed.{expired}
 use Rattle.cns_notices.proofs.Noticing.{changed_each, expired_by}
-use Rattle.cns_positions.specs.Rows.{Rows, holding_at, rolled}
+use Rattle.cns_positions.specs.Rows.{Rows, books, holding_at, rolled}
+use Rattle.cns_trades.specs.Used.{Traded, is_used}
 use Rattle.cns_book.specs.Contents.{Contents}
 use Rattle.cns_book.specs.Dated.{IsAfter}
 use Rattle.cns_book.specs.Follows.{Follows, HasRoom}
+use Rattle.cns_book.proofs.EffectPlaces.{books_none}
+use Rattle.cns_book.proofs.PendingSteps.{filter-reverse, still_later}
 use Rattle.cns_book.proofs.RetransmittalBatches.{batches_more}
 use Rattle.cns_book.proofs.JournalLengths.{closes_le}
 use Rattle.cns_book.proofs.PartsStaying.{listings_stay}
@@ -47,12 +53,12 @@ aged : (b : Bool) (n : ℕ) → n + 1 < 2 ^ 32 → cond b (min (n + 1) (2 ^ 32 -
 aged true n h = omega arith
 aged false n h = refl
 
--- what a close makes of what stands at a key
-pub holding_close : (opening : Day) (J : Journal) (d : Day) (k : Key) → closes J + 1 < history_limit → rolled (holding J k.account k.issue) ≡ holding (posting opening J (activity.Close d) ∷ J) k.account k.issue
+-- what a close makes of what stands at a key: it is rolled, and then what is due is booked
+pub holding_close : (opening : Day) (J : Journal) (d : Day) (k : Key) → closes J + 1 < history_limit → books (entries opening J (activity.Close d)) k (rolled (holding J k.account k.issue)) ≡ holding (posting opening J (activity.Close d) ∷ J) k.account k.issue
 holding_close opening J d k h =
     let short : Journal → Bool = λ K. int_lt (position K k.account k.issue) (pos 0) in
     let few : prefix_len short (closings J) + 1 < 2 ^ 32 = omega (arith, prefix_le short (closings J), h) in
-    rw (aged (short J) (prefix_len short (closings J)) few, zero_add (position J k.account k.issue)) refl
+    rw (aged (short J) (prefix_len short (closings J)) few) refl
 
 -- the day that is open is after the one that was closed last
 pub after_last : (L : List Activity) (s : Contents) → Follows L s → IsAfter s.today s.sheets
@@ -73,26 +79,44 @@ closes_fit s r =
     omega (arith, same, closes_le J, journal_len s.opening r.activities, few)
 
 -- a close that is not refused
-pub day_closed : (L : List Activity) (s : Contents) (d : Day) (rows : Rows) (sheet : DaySheet) (chosen : List Liables) → Follows L s → s.closes + 1 < history_limit → refusal s.opening (journal s.opening L) (command.Activity (activity.Close d)) ≡ None
-    → ((k : Key) → holding_at rows k ≡ rolled (holding_at s.rows k)) → sheet ≡ day_sheet s.opening (journal s.opening L)
+pub day_closed : (L : List Activity) (s : Contents) (d : Day) (trades : Traded) (rows : Rows) (sheet : DaySheet) (chosen : List Liables) → Follows L s → s.closes + 1 < history_limit → refusal s.opening (journal s.opening L) (command.Activity (activity.Close d)) ≡ None
+    → trades.references ≡ s.trades.references → trades.pending ≡ filter (λ p. not (is_due d p)) s.trades.pending
+    → ((k : Key) → holding_at rows k ≡ books (flat_map trade_entries (filter (is_due d) s.trades.pending)) k (rolled (holding_at s.rows k))) → sheet ≡ day_sheet s.opening (journal s.opening L)
     → chosen ≡ batches_since (journal s.opening L) (journal s.opening L)
-    → Follows (activity.Close d ∷ L) (record s { today = d; closes = s.closes + 1; rows = rows; sheets = sheet ∷ s.sheets; notices = map (expired (s.closes + 1)) s.notices; batches = s.batches ++ chosen ∷ [] })
-day_closed L s d rows sheet chosen f few none h is liable =
+    → Follows (activity.Close d ∷ L) (record s { today = d; closes = s.closes + 1; trades = trades; rows = rows; sheets = sheet ∷ s.sheets; notices = map (expired (s.closes + 1)) s.notices; batches = s.batches ++ chosen ∷ [] })
+day_closed L s d trades rows sheet chosen f few none used left h is liable =
     let J = journal s.opening L in
     let l = listings_stay s J (activity.Close d) refl f.listings in
+    let later : is_not_after d (date s.opening J) ≡ false = (all_fail (rules s.opening J (activity.Close d)) (ap is_none none)).0 in
+    let due_are : filter (is_due d) s.trades.pending ≡ due s.opening J d = ap (filter (is_due d)) f.pending ∙ filter-reverse (is_due d) (pending s.opening J) in
     record {
       reached = (tt, none, f.reached);
       clock = record { today = refl; closes = omega (arith, f.clock.closes) };
       listings = record { members = l.members; prices = l.prices; retired = l.retired };
-      references = f.references;
+      references = λ r. ap (λ u. is_used u r) used ∙ f.references r;
+      pending =
+          left ∙ ap (filter (λ p. not (is_due d p))) f.pending
+          ∙ filter-reverse (λ p. not (is_due d p)) (pending s.opening J)
+          ∙ ap reverse (still_later (date s.opening J) d (trades_of J) later);
       dividends = f.dividends;
-      rows = λ k. h k ∙ ap rolled (f.rows k) ∙ holding_close s.opening J d k (subst (λ n. n + 1 < history_limit) f.clock.closes few);
+      rows = λ k.
+          h k ∙ ap (λ ps. books (flat_map trade_entries ps) k (rolled (holding_at s.rows k))) due_are
+          ∙ ap (λ x. books (entries s.opening J (activity.Close d)) k (rolled x)) (f.rows k)
+          ∙ holding_close s.opening J d k (subst (λ n. n + 1 < history_limit) f.clock.closes few);
       sheets = λ i. is i ∷ f.sheets i;
       notices =
           (λ i. map (expired (f.clock.closes i + 1)) (f.notices i))
           ∙ sym (changed_each J (posting s.opening J (activity.Close d)) (expired (day J)) (λ k y. expired_by (day J) y));
       batches = (λ i. f.batches i ++ liable i ∷ []) ∙ sym (batches_more s.opening J d);
     }
+
+-- the rows with which a day opens, be they made anew or rolled in place
+pub opened_rows : {P : Type 0} (R : P → Rows) (o : Option P) (ps : List Pend) (old new : Rows)
+    → MatchOption o (ps ≡ []) (λ p. (k : Key) → holding_at (R p) k ≡ books (flat_map trade_entries ps) k (rolled (holding_at old k)))
+    → (o ≡ None → (k : Key) → holding_at new k ≡ rolled (holding_at old k)) → IfSome o (λ p. new ≡ R p)
+    → (k : Key) → holding_at new k ≡ books (flat_map trade_entries ps) k (rolled (holding_at old k))
+opened_rows R None ps old new none roll taken k = roll refl k ∙ sym (ap (λ qs. books (flat_map trade_entries qs) k (rolled (holding_at old k))) none ∙ books_none k (rolled (holding_at old k)))
+opened_rows R (Some p) ps old new made roll taken k = ap (λ rs. holding_at rs k) taken ∙ made k
 
 -- a comparison in the words of the definitions
 pub le_test : (a b : ℤ) → is_le (int_cmp a b) ≡ int_le a b

@@ -211,6 +211,7 @@ execute_follows L s x k rows f range none from_one is booked =
       clock = record { today = c.today; closes = c.closes };
       listings = record { members = l.members; prices = l.prices; retired = l.retired };
       references = f.references;
+      pending = f.pending;
       dividends = dividends_stay s J (activity.Execute x) refl f.dividends;
       rows = rows_booked s J (activity.Execute x) rows refl (λ key. booked key ∙ ap (λ es. books es key (holding_at s.rows key)) (sym (booked_for s.opening J x k is))) f.rows;
       sheets = sheets_stay s J (activity.Execute x) refl f.sheets;

@@ -3,6 +3,7 @@ pub mod MachineSteps
 pub mod EffectPlaces
 pub mod RetransmittalBatches
 pub mod PartsStaying
+pub mod PendingSteps
 pub mod EffectEntries
 pub mod ListingSteps
 pub mod TradingSteps

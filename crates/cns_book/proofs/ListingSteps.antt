@@ -23,15 +23,15 @@ use Rattle.cns_terms.specs.Listings.{account_lt, members, is_listed, issues, pri
 use Rattle.cns_terms.proofs.Facts.{eqb_sym, price_branch}
 use Rattle.cns_prices.specs.Listed.{Listed, price_in, retired_in}
 use Rattle.cns_book.specs.Contents.{Contents}
-use Rattle.cns_book.specs.Follows.{Follows, FollowsListings, FollowsReferences}
+use Rattle.cns_book.specs.Follows.{Follows, FollowsListings, FollowsPending, FollowsReferences}
 use Rattle.cns_book.specs.Members.{has_member}
 use Rattle.cns_book.proofs.PartsStaying.{batches_stay, clock_stays, dividends_stay, is_dividend, is_execution, is_noticing, listings_stay, notices_stay, rows_stay, sheets_stay}
 
 module _ (L : List Activity) (s : Contents) where
   -- an activity that books nothing and closes no day, where the listings follow it
   entered : (x : Activity) (members : List Bool) (prices : Listed) → Follows L s → IsInRange x → refusal s.opening (journal s.opening L) (command.Activity x) ≡ None → is_close x ≡ false → is_dividend x ≡ false → is_noticing x ≡ false → is_execution x ≡ false → entries s.opening (journal s.opening L) x ≡ []
-      → FollowsReferences (journal s.opening (x ∷ L)) s → FollowsListings (journal s.opening (x ∷ L)) (record s { members = members; prices = prices }) → Follows (x ∷ L) (record s { members = members; prices = prices })
-  entered x members prices f range none still undeclared unnoticed unexecuted books references listings =
+      → FollowsReferences (journal s.opening (x ∷ L)) s → FollowsPending (journal s.opening (x ∷ L)) s → FollowsListings (journal s.opening (x ∷ L)) (record s { members = members; prices = prices }) → Follows (x ∷ L) (record s { members = members; prices = prices })
+  entered x members prices f range none still undeclared unnoticed unexecuted books references pending listings =
       let J = journal s.opening L in
       let c = clock_stays s J x still f.clock in
       record {
@@ -39,6 +39,7 @@ module _ (L : List Activity) (s : Contents) where
         clock = record { today = c.today; closes = c.closes };
         listings = listings;
         references = references;
+        pending = pending;
         dividends = dividends_stay s J x undeclared f.dividends;
         rows = rows_stay s J x still books f.rows;
         sheets = sheets_stay s J x still f.sheets;
@@ -48,7 +49,7 @@ module _ (L : List Activity) (s : Contents) where
 
   -- a member more
   pub member_added : (m : ℕ) (new : List Bool) → Follows L s → m ≤ member_limit → refusal s.opening (journal s.opening L) (command.Activity (activity.Member m)) ≡ None → ((a : ℕ) → has_member new a ≡ (eqb m a || has_member s.members a)) → Follows (activity.Member m ∷ L) (record s { members = new })
-  member_added m new f range none h = entered (activity.Member m) new s.prices f range none refl refl refl refl refl f.references (record {
+  member_added m new f range none h = entered (activity.Member m) new s.prices f range none refl refl refl refl refl f.references f.pending (record {
     members = λ a. h a ∙ (λ i. eqb_sym m a i || f.listings.members a i) ∙ sym (any_put (λ b. eqb a b) account_lt m (members (journal s.opening L)));
     prices = f.listings.prices;
     retired = f.listings.retired;
@@ -67,6 +68,7 @@ dividend_declared L s d new f range none is =
       clock = record { today = c.today; closes = c.closes };
       listings = record { members = l.members; prices = l.prices; retired = l.retired };
       references = f.references;
+      pending = f.pending;
       dividends = is ∙ ap (put pays_before d) f.dividends;
       rows = rows_stay s J x refl refl f.rows;
       sheets = sheets_stay s J x refl f.sheets;
@@ -81,7 +83,7 @@ listed_branch b false p q = refl
 -- an issue more
 pub issue_listed : (L : List Activity) (s : Contents) (l : Listing) (new : Listed) → Follows L s → l.price ≤ price_limit → refusal s.opening (journal s.opening L) (command.Activity (activity.Issue l)) ≡ None → ((c : Cusip) → price_in new c ≡ cond (bytes_eq l.issue c) (Some l.price) (price_in s.prices c))
     → ((c : Cusip) → retired_in new c ≡ retired_in s.prices c) → Follows (activity.Issue l ∷ L) (record s { prices = new })
-issue_listed L s l new f range none h r = entered L s (activity.Issue l) s.members new f range none refl refl refl refl refl f.references (record {
+issue_listed L s l new f range none h r = entered L s (activity.Issue l) s.members new f range none refl refl refl refl refl f.references f.pending (record {
   members = f.listings.members;
   prices = λ c.
       let J = journal s.opening L in
@@ -108,7 +110,7 @@ set_branch false false p q h = refl
 -- a price set anew
 pub price_set : (L : List Activity) (s : Contents) (l : Listing) (new : Listed) → Follows L s → l.price ≤ price_limit → refusal s.opening (journal s.opening L) (command.Activity (activity.Price l)) ≡ None → is_listed (journal s.opening L) l.issue ≡ true → ((c : Cusip) → price_in new c ≡ cond (bytes_eq l.issue c) (Some l.price) (price_in s.prices c))
     → ((c : Cusip) → retired_in new c ≡ retired_in s.prices c) → Follows (activity.Price l ∷ L) (record s { prices = new })
-price_set L s l new f range none there h r = entered L s (activity.Price l) s.members new f range none refl refl refl refl refl f.references (record {
+price_set L s l new f range none there h r = entered L s (activity.Price l) s.members new f range none refl refl refl refl refl f.references f.pending (record {
   members = f.listings.members;
   prices = λ c.
       let J = journal s.opening L in

@@ -33,7 +33,7 @@ use Rattle.cns_notices.specs.Noticed.{at_stage, live_number, notice_at as kept_a
 use Rattle.cns_notices.proofs.NoticeFacts.{kept_found, live_same}
 use Rattle.cns_notices.proofs.Noticing.{changed_each, changed_one, changed_same, notice_found, notice_more, received_by, taken_back, withdrawn_by}
 use Rattle.cns_book.specs.Contents.{Contents}
-use Rattle.cns_book.specs.Follows.{Follows, FollowsNotices, member_position}
+use Rattle.cns_book.specs.Follows.{Follows, FollowsNotices, FollowsPending, member_position}
 use Rattle.cns_book.specs.Retransmittal.{remaining_by}
 use Rattle.cns_book.specs.Shown.{notice_listed, notice_of}
 use Rattle.cns_book.proofs.RetransmittalCalls.{remaining_same}
@@ -44,10 +44,10 @@ use Rattle.cns_book.proofs.TradingSteps.{booked_by}
 
 -- an activity that books nothing, where the notices follow it
 pub noticed_by : (L : List Activity) (s : Contents) (x : Activity) (notices : List Noticed) → Follows L s → IsInRange x → refusal s.opening (journal s.opening L) (command.Activity x) ≡ None → is_close x ≡ false → is_listing x ≡ false → is_dividend x ≡ false → is_execution x ≡ false
-    → entries s.opening (journal s.opening L) x ≡ [] → ((r : ℕ) → is_seen (journal s.opening (x ∷ L)) r ≡ is_seen (journal s.opening L) r)
+    → entries s.opening (journal s.opening L) x ≡ [] → FollowsPending (journal s.opening (x ∷ L)) s → ((r : ℕ) → is_seen (journal s.opening (x ∷ L)) r ≡ is_seen (journal s.opening L) r)
     → FollowsNotices (journal s.opening (x ∷ L)) (record s { notices = notices }) → Follows (x ∷ L) (record s { notices = notices })
-noticed_by L s x notices f range none still unlisted undeclared unexecuted nothing seen n =
-    booked_by L s x s.trades notices s.rows f range none still unlisted undeclared unexecuted (λ r. f.references r ∙ sym (seen r)) n
+noticed_by L s x notices f range none still unlisted undeclared unexecuted nothing waits seen n =
+    booked_by L s x s.trades notices s.rows f range none still unlisted undeclared unexecuted (λ r. f.references r ∙ sym (seen r)) waits n
     (λ k. sym (ap (λ es. books es k (holding_at s.rows k)) nothing ∙ books_none k (holding_at s.rows k)))
 
 -- ---- a receipt
@@ -66,7 +66,7 @@ pub notice_given : (L : List Activity) (s : Contents) (m : Movement) → Follows
 notice_given L s m f range none =
     let J = journal s.opening L in
     let p : Posting = posting s.opening J (activity.Notice m) in
-    noticed_by L s (activity.Notice m) _ f range none refl refl refl refl refl (λ r. refl)
+    noticed_by L s (activity.Notice m) _ f range none refl refl refl refl refl f.pending (λ r. refl)
     ((λ i. f.notices i ++ opened (record { member = m.member; issue = m.issue; shares = m.shares; day = f.clock.closes i + 1 }) ∷ []) ∙ sym (notice_more p J m (λ k y. refl)))
 
 -- a notice in an issue that is not listed or retired is refused for that
@@ -208,7 +208,7 @@ pub notice_withdrawn : (L : List Activity) (s : Contents) (k : ℕ) → Follows 
 notice_withdrawn L s k f none le live =
     let J = journal s.opening L in
     let p : Posting = posting s.opening J (activity.Withdraw k) in
-    noticed_by L s (activity.Withdraw k) _ f tt none refl refl refl refl refl (λ r. refl)
+    noticed_by L s (activity.Withdraw k) _ f tt none refl refl refl refl refl f.pending (λ r. refl)
     (sym (changed_same taken_back (at_stage Withdrawn) (k - 1) s.notices (λ x e. withdrawn_one x (at_once x e)))
     ∙ ap (with_notice taken_back k) f.notices
     ∙ sym (changed_one J p taken_back k le (λ j y. withdrawn_by (k == j) y)))

@@ -9,12 +9,13 @@ use Rattle.cns_terms.specs.Dividends.{declared}
 use Rattle.cns_terms.specs.Entries.{entries, posting}
 use Rattle.cns_terms.specs.Fills.{batches_since}
 use Rattle.cns_terms.specs.Holdings.{holding}
+use Rattle.cns_terms.specs.Listings.{traded}
 use Rattle.cns_terms.specs.Notices.{executed}
 use Rattle.cns_terms.specs.Postings.{Journal, Posting}
 use Rattle.cns_notices.proofs.Noticing.{untouched_by}
 use Rattle.cns_positions.specs.Rows.{Rows, books, holding_at}
 use Rattle.cns_book.specs.Contents.{Contents}
-use Rattle.cns_book.specs.Follows.{FollowsBatches, FollowsClock, FollowsDividends, FollowsListings, FollowsNotices, FollowsRows, FollowsSheets}
+use Rattle.cns_book.specs.Follows.{FollowsBatches, FollowsClock, FollowsDividends, FollowsListings, FollowsNotices, FollowsPending, FollowsRows, FollowsSheets}
 use Rattle.cns_book.proofs.RetransmittalBatches.{batches_same, executes_none}
 use Rattle.cns_book.proofs.EffectPlaces.{books_none, holding-post}
 
@@ -41,6 +42,10 @@ is_noticing _ = false
 abbrev pub is_execution : Activity → Bool
 is_execution x = is_some (executed x)
 
+-- whether an activity is a trade
+abbrev pub is_trade : Activity → Bool
+is_trade x = is_some (traded x)
+
 -- whether an activity declares a dividend
 abbrev pub is_dividend : Activity → Bool
 is_dividend x = is_some (declared x)
@@ -59,6 +64,11 @@ module _ (s : Contents) (J : Journal) where
   listings_stay (activity.Price l) h f = cc
   listings_stay (activity.Exchange x) h f = cc
   listings_stay _ h f = record { members = f.members; prices = f.prices; retired = f.retired }
+
+  pub pending_stays : (x : Activity) → is_close x ≡ false → is_trade x ≡ false → FollowsPending J s → FollowsPending (after x) s
+  pending_stays (activity.Close d) h t f = cc
+  pending_stays (activity.Trade d) h t f = cc
+  pending_stays _ h t f = f
 
   pub dividends_stay : (x : Activity) → is_dividend x ≡ false → FollowsDividends J s → FollowsDividends (after x) s
   dividends_stay (activity.Dividend d) h f = cc

@@ -8,6 +8,7 @@ use Rattle.cns_terms.specs.declared.holding.Key.{Key}
 use Rattle.cns_terms.specs.Entries.{journal}
 use Rattle.cns_terms.specs.Limits.{booking_limit, corporation_limit, history_limit, position_limit}
 use Rattle.cns_terms.specs.Positions.{position}
+use Rattle.cns_terms.proofs.Limits.{near}
 use Rattle.cns_terms.proofs.Reached.{bounded, limited}
 use Rattle.cns_positions.specs.Rows.{Rows, holding_at}
 use Rattle.cns_book.specs.Contents.{Contents}
@@ -41,4 +42,4 @@ same_within old new same w = record {
 pub member_within : (s : Contents) (a : ℕ) (c : Cusip) → 1 ≤ a → HasRoom s → unsigned_abs (holding_at s.rows (record { account = a; issue = c })).now ≤ position_limit
 member_within s a c m r =
     let J = journal s.opening r.activities in
-    subst (λ (h : Holding). unsigned_abs h.now ≤ position_limit) (sym (r.follows.rows (record { account = a; issue = c }))) ((limited s.opening r.activities r.follows.reached).within a c m)
+    subst (λ (h : Holding). unsigned_abs h.now ≤ position_limit) (sym (r.follows.rows (record { account = a; issue = c }))) (near _ _ _ ((limited s.opening r.activities r.follows.reached).within a c m))

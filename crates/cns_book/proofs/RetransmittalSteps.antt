@@ -32,6 +32,7 @@ use Rattle.cns_terms.specs.Sheets.{sheet_rows}
 use Rattle.cns_terms.specs.Sums.{in_order, put, same_issue}
 use Rattle.cns_terms.proofs.BatchSteps.{batch_new, unfilled}
 use Rattle.cns_terms.proofs.Facts.{journal_len}
+use Rattle.cns_terms.proofs.Limits.{near}
 use Rattle.cns_terms.proofs.Reached.{IsLimited, limited, members_few, members_from_one}
 use Rattle.cns_terms.proofs.SheetBounds.{issues_few}
 use Rattle.cns_book.proofs.RetransmittalSheet.{shorts_off_sheet}
@@ -136,7 +137,7 @@ module _ (opening : Day) (J : Journal) (l : IsLimited opening J) (before es : Li
           let same : record { total = called J c; shorts = shorts J c } ≡ y = inside _ _ (sym (in_listed c x some).1 ∙ is) in
           subst CanBeChosen same (record {
             distinct = λ a. let one = shorts_once J c a in let all = l.whole.now.distinct a in omega (arith, one, all);
-            fits = shorts_few J c (λ a m. l.within a c m) (members_from_one opening J l) (members_few opening J l);
+            fits = shorts_few J c (λ a m. near _ _ _ (l.within a c m)) (members_from_one opening J l) (members_few opening J l);
           })
         where
           inside : (u v : CalledIn) → Some u ≡ Some v → u ≡ v

@@ -1,10 +1,15 @@
 -- A trade: what it is refused for, and what it leaves.
 -- For `book_trade` of parts/trading.rt, clause step.
-use Rattle.std.proofs.Common.{◌≡◌, ◌∙◌, sym, ap, refl, ℕ, ◌≤◌, ℤ, pos, ◌+ℤ◌, neg_ℤ, Bool, true, false, not, ◌&&◌, ◌||◌, cond, eqb, List, [], ◌∷◌, Option, Some, None, arith}
+use Rattle.std.proofs.Common.{◌≡◌, ◌∙◌, sym, ap, refl, ℕ, ◌+◌, ◌≤◌, ℤ, pos, ◌+ℤ◌, neg_ℤ, Bool, true, false, not, ◌&&◌, ◌||◌, cond, eqb, List, [], ◌∷◌, ◌++◌, reverse, Option, Some, None, arith}
 use Rattle.std.specs.Prelude.{bytes_eq, is_some, nat_lt, Ok, Err, unwrap_or}
+use Rattle.std.specs.List.{list_any}
 use Rattle.std.specs.Option.{option_map_or}
 use Rattle.std.proofs.lemmas.Int.{ints}
 use Rattle.std.proofs.lemmas.Bool.Decides.{nat_tests}
+use Rattle.std.proofs.lemmas.Grind.{reverse_onto}
+use Rattle.std.proofs.lemmas.List.Sums.{sum_by-cons}
+use Rattle.cns_units.specs.declared.account.Account.{Account}
+use Rattle.cns_units.specs.declared.cusip.Cusip.{Cusip}
 use Rattle.cns_units.specs.declared.day.Day.{Day}
 use Rattle.cns_terms.specs.declared.command.Activity.{Activity}
 use Rattle.cns_terms.specs.declared.command.Activity.TheVariants as activity
@@ -12,31 +17,37 @@ use Rattle.cns_terms.specs.declared.command.Command.TheVariants as command
 use Rattle.cns_terms.specs.declared.command.Trade.{Trade}
 use Rattle.cns_terms.specs.declared.holding.Entry.{Entry}
 use Rattle.cns_terms.specs.declared.holding.Key.{Key}
+use Rattle.cns_terms.specs.declared.pend.Pend.{Pend}
 use Rattle.cns_terms.specs.declared.refusal.Refusal.{Refusal}
 use Rattle.cns_terms.specs.declared.refusal.Refusal.TheVariants.{NoSuchMember, NoSuchIssue, Retired, SameParty, WrongDay, SeenReference, TooLarge}
-use Rattle.cns_terms.specs.Days.{date, is_close, is_same_day}
-use Rattle.cns_terms.specs.Entries.{buyer_entry, entries, journal, posting, seller_entry}
+use Rattle.cns_terms.specs.Days.{date, is_close, is_not_after}
+use Rattle.cns_terms.specs.Entries.{buyer_entry, entries, journal, seller_entry, trade_entries}
 use Rattle.cns_terms.specs.Listings.{is_member, is_listed, is_retired, is_seen}
+use Rattle.cns_terms.specs.Pending.{bought_in, pend_of, pending, sold_in}
 use Rattle.cns_terms.specs.Positions.{position, shares_for}
 use Rattle.cns_terms.specs.Postings.{Journal}
 use Rattle.cns_terms.specs.Reached.{IsInRange}
-use Rattle.cns_terms.specs.Refusals.{first_refusal, refusal, is_beyond, is_too_large}
+use Rattle.cns_terms.specs.Refusals.{first_refusal, refusal, is_beyond, is_past, is_too_far, is_too_large, is_too_large_at}
+use Rattle.cns_terms.specs.Sums.{total}
 use Rattle.cns_terms.proofs.Facts.{bytes_refl, eqb_refl, or_false}
+use Rattle.cns_terms.proofs.Waiting.{bought_by, sold_by}
 use Rattle.cns_notices.specs.declared.noticed.Noticed.{Noticed}
 use Rattle.cns_positions.specs.Rows.{Rows, books, holding_at}
-use Rattle.cns_trades.specs.Checks.{trade_rules}
+use Rattle.cns_trades.specs.Checks.{books_beyond, party, takes_beyond, trade_rules, waits_beyond}
 use Rattle.cns_trades.specs.declared.facts.TradeFacts.{TradeFacts}
-use Rattle.cns_trades.specs.Used.{Traded}
+use Rattle.cns_trades.specs.Used.{Traded, is_used}
 use Rattle.cns_book.specs.Contents.{Contents}
-use Rattle.cns_book.specs.Follows.{AreTradeFacts, Follows, FollowsNotices, FollowsReferences}
+use Rattle.cns_book.specs.Follows.{AreTradeFacts, Follows, FollowsNotices, FollowsPending, FollowsReferences}
+use Rattle.cns_book.proofs.EffectPlaces.{books_none}
+use Rattle.cns_book.proofs.PendingSteps.{bought-reverse, sold-reverse}
 use Rattle.cns_book.proofs.PartsStaying.{batches_stay, clock_stays, dividends_stay, is_dividend, is_execution, is_listing, is_noticing, listings_stay, notices_stay, rows_booked, sheets_stay}
 
 -- what an answer says of the refusal
-pub answer_err : (o : Option Refusal) (es : List Entry) (r : Refusal) → Err r ≡ option_map_or Err o (Ok es) → o ≡ Some r
+pub answer_err : {X : Type 0} (o : Option Refusal) (es : X) (r : Refusal) → Err r ≡ option_map_or Err o (Ok es) → o ≡ Some r
 answer_err None es r e = cc
 answer_err (Some q) es r e = cc
 
-pub answer_ok : (o : Option Refusal) (es fs : List Entry) → Ok fs ≡ option_map_or Err o (Ok es) → (o ≡ None) × (fs ≡ es)
+pub answer_ok : {X : Type 0} (o : Option Refusal) (es fs : X) → Ok fs ≡ option_map_or Err o (Ok es) → (o ≡ None) × (fs ≡ es)
 answer_ok None es fs e = (refl, cc)
 answer_ok (Some q) es fs e = cc
 
@@ -46,12 +57,12 @@ at_member b q = cond b (Some q) None
 
 -- the rules over the journal and over the facts, where the last ones agree once the parties are members and differ
 same_rules : (m n l o s d r x y : Bool) → (m ≡ true → n ≡ true → s ≡ false → x ≡ y) →
-    first_refusal ((NoSuchMember, not (m && n)) ∷ (NoSuchIssue, not l) ∷ (Retired, o) ∷ (SameParty, s) ∷ (WrongDay, not d) ∷ (SeenReference, r) ∷ (TooLarge, x) ∷ [])
-    ≡ first_refusal ((NoSuchMember, not (m && n)) ∷ (NoSuchIssue, not l) ∷ (Retired, o) ∷ (SameParty, s) ∷ (WrongDay, not d) ∷ (SeenReference, r) ∷ (TooLarge, y) ∷ [])
+    first_refusal ((NoSuchMember, not (m && n)) ∷ (NoSuchIssue, not l) ∷ (Retired, o) ∷ (SameParty, s) ∷ (WrongDay, d) ∷ (SeenReference, r) ∷ (TooLarge, x) ∷ [])
+    ≡ first_refusal ((NoSuchMember, not (m && n)) ∷ (NoSuchIssue, not l) ∷ (Retired, o) ∷ (SameParty, s) ∷ (WrongDay, d) ∷ (SeenReference, r) ∷ (TooLarge, y) ∷ [])
 same_rules false n l o s d r x y h = refl
 same_rules true false l o s d r x y h = refl
 same_rules true true l o true d r x y h = refl
-same_rules true true l o false d r x y h = ap (λ z. first_refusal ((NoSuchMember, false) ∷ (NoSuchIssue, not l) ∷ (Retired, o) ∷ (SameParty, false) ∷ (WrongDay, not d) ∷ (SeenReference, r) ∷ (TooLarge, z) ∷ [])) (h refl refl refl)
+same_rules true true l o false d r x y h = ap (λ z. first_refusal ((NoSuchMember, false) ∷ (NoSuchIssue, not l) ∷ (Retired, o) ∷ (SameParty, false) ∷ (WrongDay, d) ∷ (SeenReference, r) ∷ (TooLarge, z) ∷ [])) (h refl refl refl)
 
 eqb_apart : (a b : ℕ) → eqb a b ≡ false → eqb b a ≡ false
 eqb_apart a b h = grind (arith, nat_tests)
@@ -70,17 +81,59 @@ second_part : (a b q : ℤ) → a ≡ pos 0 → (a +ℤ (b +ℤ pos 0)) +ℤ q �
 second_part a b q h = omega (arith, ints, h)
 
 -- the parties' positions after a trade
-buyer_after : (opening : Day) (J : Journal) (t : Trade) → eqb t.buyer t.seller ≡ false → position (posting opening J (activity.Trade t) ∷ J) t.buyer t.issue ≡ position J t.buyer t.issue +ℤ pos t.shares
-buyer_after opening J t h = first_part _ _ (position J t.buyer t.issue) (shares_other t.buyer t.issue (seller_entry t) (eqb_apart t.buyer t.seller h)) ∙ ap (λ n. position J t.buyer t.issue +ℤ n) (shares_own (buyer_entry t))
+buyer_after : (p : Pend) (q : ℤ) → eqb p.buyer p.seller ≡ false → total (shares_for p.buyer p.issue) (trade_entries p) +ℤ q ≡ q +ℤ pos p.shares
+buyer_after p q h = first_part _ _ q (shares_other p.buyer p.issue (seller_entry p) (eqb_apart p.buyer p.seller h)) ∙ ap (λ n. q +ℤ n) (shares_own (buyer_entry p))
 
-seller_after : (opening : Day) (J : Journal) (t : Trade) → eqb t.buyer t.seller ≡ false → position (posting opening J (activity.Trade t) ∷ J) t.seller t.issue ≡ position J t.seller t.issue +ℤ neg_ℤ (pos t.shares)
-seller_after opening J t h = second_part _ _ (position J t.seller t.issue) (shares_other t.seller t.issue (buyer_entry t) h) ∙ ap (λ n. position J t.seller t.issue +ℤ n) (shares_own (seller_entry t))
+seller_after : (p : Pend) (q : ℤ) → eqb p.buyer p.seller ≡ false → total (shares_for p.seller p.issue) (trade_entries p) +ℤ q ≡ q +ℤ neg_ℤ (pos p.shares)
+seller_after p q h = second_part _ _ q (shares_other p.seller p.issue (buyer_entry p) h) ∙ ap (λ n. q +ℤ n) (shares_own (seller_entry p))
+
+-- what the parties are to get and to give with a trade that waits
+module _ (p : Pend) (ps : List Pend) (a : Account) where
+  bought_with : (b : Bool) → eqb p.buyer a ≡ b → bought_in (p ∷ ps) a p.issue ≡ bought_in ps a p.issue + cond b p.shares 0
+  bought_with b e =
+      let one : cond (eqb p.buyer a && bytes_eq p.issue p.issue) p.shares 0 ≡ cond b p.shares 0 = (λ i. cond (e i && bytes_refl p.issue i) p.shares 0) ∙ by b in
+      let more = sum_by-cons (bought_by a p.issue) p ps in
+      omega (arith, one, more)
+    where
+      by : (b : Bool) → cond (b && true) p.shares 0 ≡ cond b p.shares 0
+      by true = refl
+      by false = refl
+
+  sold_with : (b : Bool) → eqb p.seller a ≡ b → sold_in (p ∷ ps) a p.issue ≡ sold_in ps a p.issue + cond b p.shares 0
+  sold_with b e =
+      let one : cond (eqb p.seller a && bytes_eq p.issue p.issue) p.shares 0 ≡ cond b p.shares 0 = (λ i. cond (e i && bytes_refl p.issue i) p.shares 0) ∙ by b in
+      let more = sum_by-cons (sold_by a p.issue) p ps in
+      omega (arith, one, more)
+    where
+      by : (b : Bool) → cond (b && true) p.shares 0 ≡ cond b p.shares 0
+      by true = refl
+      by false = refl
 
 above_zero : (a : ℕ) → 1 ≤ a → nat_lt 0 a ≡ true
 above_zero a h = grind (arith, nat_tests)
 
-too_large : (opening : Day) (J : Journal) (t : Trade) → 1 ≤ t.buyer → 1 ≤ t.seller → eqb t.buyer t.seller ≡ false → is_too_large opening J (activity.Trade t) ≡ (is_beyond (position J t.buyer t.issue +ℤ pos t.shares) || is_beyond (position J t.seller t.issue +ℤ neg_ℤ (pos t.shares)))
-too_large opening J t p q h = λ i. (above_zero t.buyer p i && is_beyond (buyer_after opening J t h i)) || (or_false (above_zero t.seller q i && is_beyond (seller_after opening J t h i)) i)
+-- nothing more, and nothing booked
+none_more : (n : ℕ) → n + 0 ≡ n
+none_more n = omega arith
+
+none_booked : (q : ℤ) → pos 0 +ℤ q ≡ q
+none_booked q = omega (arith, ints)
+
+-- whether a trade is too large, by its parties: whether it books now or is to wait
+module _ (before : Account → Cusip → ℤ) (ps : List Pend) (p : Pend) (b : 1 ≤ p.buyer) (s : 1 ≤ p.seller) (apart : eqb p.buyer p.seller ≡ false) where
+  large_now : list_any (is_too_large_at before ps (trade_entries p)) (trade_entries p) ≡ books_beyond (party ps (before p.buyer p.issue) p.buyer p.issue) (party ps (before p.seller p.issue) p.seller p.issue) p
+  large_now =
+      λ i. (above_zero p.buyer b i && is_beyond (buyer_after p (before p.buyer p.issue) apart i) (bought_in ps p.buyer p.issue) (sold_in ps p.buyer p.issue))
+      || or_false (above_zero p.seller s i && is_beyond (seller_after p (before p.seller p.issue) apart i) (bought_in ps p.seller p.issue) (sold_in ps p.seller p.issue)) i
+
+  large_later : list_any (is_too_large_at before (p ∷ ps) []) (trade_entries p) ≡ waits_beyond (party ps (before p.buyer p.issue) p.buyer p.issue) (party ps (before p.seller p.issue) p.seller p.issue) p
+  large_later =
+      λ i. (above_zero p.buyer b i && is_beyond (none_booked (before p.buyer p.issue) i) (bought_with p ps p.buyer true (eqb_refl p.buyer) i) ((sold_with p ps p.buyer false (eqb_apart p.buyer p.seller apart) ∙ none_more (sold_in ps p.buyer p.issue)) i))
+      || or_false (above_zero p.seller s i && is_beyond (none_booked (before p.seller p.issue) i) ((bought_with p ps p.seller false apart ∙ none_more (bought_in ps p.seller p.issue)) i) (sold_with p ps p.seller true (eqb_refl p.seller) i)) i
+
+  pub large_if : (now : Bool) → list_any (is_too_large_at before (cond (not now) (p ∷ ps) ps) (cond now (trade_entries p) [])) (trade_entries p) ≡ cond now (books_beyond (party ps (before p.buyer p.issue) p.buyer p.issue) (party ps (before p.seller p.issue) p.seller p.issue) p) (waits_beyond (party ps (before p.buyer p.issue) p.buyer p.issue) (party ps (before p.seller p.issue) p.seller p.issue) p)
+  large_if true = large_now
+  large_if false = large_later
 
 pub some_member : (m : Bool) (q : ℤ) (o : Option ℤ) → o ≡ at_member m q → is_some o ≡ m
 some_member true q o e = ap is_some e
@@ -90,17 +143,33 @@ pub at_true : (m : Bool) (q : ℤ) (o : Option ℤ) → o ≡ at_member m q → 
 at_true true q o e h = ap (λ o. unwrap_or o (pos 0)) e
 at_true false q o e h = cc
 
--- what a trade is refused for, over the facts
-pub trade_refusal : (L : List Activity) (opening : Day) (t : Trade) (facts : TradeFacts) (seen : Bool) → AreTradeFacts opening (journal opening L) t facts → seen ≡ is_seen (journal opening L) t.reference → refusal opening (journal opening L) (command.Activity (activity.Trade t)) ≡ first_refusal (trade_rules facts seen t)
-trade_refusal L opening t facts seen a e =
+-- what waits is the same in either order
+party_of : (ps qs : List Pend) (q : ℤ) (a : Account) (c : Cusip) → qs ≡ reverse ps → party qs q a c ≡ party ps q a c
+party_of ps qs q a c h = ap (λ rs. party rs q a c) h ∙ (λ i. record { position = q; waiting = record { bought = bought-reverse ps a c i; sold = sold-reverse ps a c i } })
+
+-- what a trade is refused for, over the facts and the trades that wait
+pub trade_refusal : (L : List Activity) (opening : Day) (t : Trade) (facts : TradeFacts) (seen : Bool) (ps : List Pend) → AreTradeFacts opening (journal opening L) t facts → seen ≡ is_seen (journal opening L) t.reference → ps ≡ reverse (pending opening (journal opening L))
+    → refusal opening (journal opening L) (command.Activity (activity.Trade t)) ≡ first_refusal (trade_rules facts ps seen t)
+trade_refusal L opening t facts seen ps a e w =
     let J = journal opening L in
-    let over : Bool = is_beyond (unwrap_or facts.buyer (pos 0) +ℤ pos t.shares) || is_beyond (unwrap_or facts.seller (pos 0) +ℤ neg_ℤ (pos t.shares)) in
-    same_rules (is_member J t.buyer) (is_member J t.seller) (is_listed J t.issue) (is_retired J t.issue) (eqb t.buyer t.seller) (is_same_day t.date (date opening J)) (is_seen J t.reference) (is_too_large opening J (activity.Trade t)) over
-    (λ m n s. too_large opening J t a.members.0 a.members.1 s ∙ sym (λ i. is_beyond (at_true _ _ _ a.buyer m i +ℤ pos t.shares) || is_beyond (at_true _ _ _ a.seller n i +ℤ neg_ℤ (pos t.shares))))
+    let p = pend_of t in
+    let now : Bool = is_not_after t.date facts.today in
+    let same : now ≡ is_not_after t.date (date opening J) = ap (is_not_after t.date) a.today in
+    same_rules (is_member J t.buyer) (is_member J t.seller) (is_listed J t.issue) (is_retired J t.issue) (eqb t.buyer t.seller) (is_past t.date (date opening J) || is_too_far t.date (date opening J)) (is_seen J t.reference) (is_too_large opening J (activity.Trade t)) (takes_beyond facts ps t)
+    (λ m n s. large_if (position J) (pending opening J) p a.members.0 a.members.1 s (is_not_after t.date (date opening J))
+    ∙ sym (λ i. cond (same i)
+    (books_beyond (buyer J a m w i) (seller J a n w i) p)
+    (waits_beyond (buyer J a m w i) (seller J a n w i) p)))
     ∙ sym (λ i. first_refusal (
     (NoSuchMember, not (some_member (is_member J t.buyer) _ _ a.buyer i && some_member (is_member J t.seller) _ _ a.seller i))
     ∷ (NoSuchIssue, not (a.listed i)) ∷ (Retired, a.retired i) ∷ (SameParty, eqb t.buyer t.seller)
-    ∷ (WrongDay, not (is_same_day t.date (a.today i))) ∷ (SeenReference, e i) ∷ (TooLarge, over) ∷ []))
+    ∷ (WrongDay, is_past t.date (a.today i) || is_too_far t.date (a.today i)) ∷ (SeenReference, e i) ∷ (TooLarge, takes_beyond facts ps t) ∷ []))
+  where
+    buyer : (J : Journal) → AreTradeFacts opening J t facts → is_member J t.buyer ≡ true → ps ≡ reverse (pending opening J) → party ps (unwrap_or facts.buyer (pos 0)) t.buyer t.issue ≡ party (pending opening J) (position J t.buyer t.issue) t.buyer t.issue
+    buyer J a m w = party_of (pending opening J) ps _ t.buyer t.issue w ∙ ap (λ q. party (pending opening J) q t.buyer t.issue) (at_true _ _ _ a.buyer m)
+
+    seller : (J : Journal) → AreTradeFacts opening J t facts → is_member J t.seller ≡ true → ps ≡ reverse (pending opening J) → party ps (unwrap_or facts.seller (pos 0)) t.seller t.issue ≡ party (pending opening J) (position J t.seller t.issue) t.seller t.issue
+    seller J a n w = party_of (pending opening J) ps _ t.seller t.issue w ∙ ap (λ q. party (pending opening J) q t.seller t.issue) (at_true _ _ _ a.seller n)
 
 -- rows that show the same at each key
 pub same_rows : (L : List Activity) (s : Contents) (new : Rows) → Follows L s → ((k : Key) → holding_at new k ≡ holding_at s.rows k) → Follows L (record s { rows = new })
@@ -109,6 +178,7 @@ same_rows L s new f h = record {
   clock = record { today = f.clock.today; closes = f.clock.closes };
   listings = record { members = f.listings.members; prices = f.listings.prices; retired = f.listings.retired };
   references = f.references;
+  pending = f.pending;
   dividends = f.dividends;
   rows = λ k. h k ∙ f.rows k;
   sheets = f.sheets;
@@ -123,10 +193,11 @@ notices_kept {s} L x unnoticed f = notices_stay s (journal s.opening L) x unnoti
 -- an activity that books its entries, where the references and the notices follow it
 pub booked_by : (L : List Activity) (s : Contents) (x : Activity) (trades : Traded) (notices : List Noticed) (rows : Rows) → Follows L s → IsInRange x → refusal s.opening (journal s.opening L) (command.Activity x) ≡ None → is_close x ≡ false → is_listing x ≡ false → is_dividend x ≡ false → is_execution x ≡ false
     → FollowsReferences (journal s.opening (x ∷ L)) (record s { trades = trades })
+    → FollowsPending (journal s.opening (x ∷ L)) (record s { trades = trades })
     → FollowsNotices (journal s.opening (x ∷ L)) (record s { notices = notices })
     → ((k : Key) → holding_at rows k ≡ books (entries s.opening (journal s.opening L) x) k (holding_at s.rows k))
     → Follows (x ∷ L) (record s { trades = trades; rows = rows; notices = notices })
-booked_by L s x trades notices rows f range none still unlisted undeclared unexecuted r n b =
+booked_by L s x trades notices rows f range none still unlisted undeclared unexecuted r w n b =
     let J = journal s.opening L in
     let c = clock_stays s J x still f.clock in
     let l = listings_stay s J x unlisted f.listings in
@@ -135,9 +206,48 @@ booked_by L s x trades notices rows f range none still unlisted undeclared unexe
       clock = record { today = c.today; closes = c.closes };
       listings = record { members = l.members; prices = l.prices; retired = l.retired };
       references = r;
+      pending = w;
       dividends = dividends_stay s J x undeclared f.dividends;
       rows = rows_booked s J x rows still b f.rows;
       sheets = sheets_stay s J x still f.sheets;
       notices = n;
       batches = batches_stay s J x still unexecuted f.batches;
     }
+
+-- what is told of a trade's entries: they are booked now, or it is to wait
+pub told_now : {X : Type 0} (b : Bool) (x y : X) → Some y ≡ cond b (Some x) None → (b ≡ true) × (y ≡ x)
+told_now true x y h = (refl, cc)
+told_now false x y h = cc
+
+pub told_later : {X : Type 0} (b : Bool) (x : X) → None ≡ cond b (Some x) None → b ≡ false
+told_later true x h = cc
+told_later false x h = refl
+
+-- a trade that books now
+pub trade_booked : (L : List Activity) (s : Contents) (t : Trade) (trades : Traded) (rows : Rows) → Follows L s → IsInRange (activity.Trade t) → refusal s.opening (journal s.opening L) (command.Activity (activity.Trade t)) ≡ None
+    → is_not_after t.date (date s.opening (journal s.opening L)) ≡ true → ((r : ℕ) → is_used trades.references r ≡ (eqb t.reference r || is_used s.trades.references r)) → trades.pending ≡ s.trades.pending
+    → ((k : Key) → holding_at rows k ≡ books (trade_entries (pend_of t)) k (holding_at s.rows k)) → Follows (activity.Trade t ∷ L) (record s { trades = trades; rows = rows })
+trade_booked L s t trades rows f range none now used waits b =
+    let J = journal s.opening L in
+    let p = pend_of t in
+    booked_by L s (activity.Trade t) trades s.notices rows f range none refl refl refl refl
+    (λ r. used r ∙ ap (λ b. eqb t.reference r || b) (f.references r))
+    (waits ∙ f.pending ∙ ap (λ b. reverse (cond (not b) (p ∷ pending s.opening J) (pending s.opening J))) (sym now))
+    (notices_kept L (activity.Trade t) refl f)
+    (λ k. b k ∙ ap (λ b. books (cond b (trade_entries p) []) k (holding_at s.rows k)) (sym now))
+
+-- one that is to wait
+pub trade_waits : (L : List Activity) (s : Contents) (t : Trade) (trades : Traded) → Follows L s → IsInRange (activity.Trade t) → refusal s.opening (journal s.opening L) (command.Activity (activity.Trade t)) ≡ None
+    → is_not_after t.date (date s.opening (journal s.opening L)) ≡ false → ((r : ℕ) → is_used trades.references r ≡ (eqb t.reference r || is_used s.trades.references r)) → trades.pending ≡ s.trades.pending ++ pend_of t ∷ []
+    → Follows (activity.Trade t ∷ L) (record s { trades = trades })
+trade_waits L s t trades f range none later used waits =
+    let J = journal s.opening L in
+    let p = pend_of t in
+    booked_by L s (activity.Trade t) trades s.notices s.rows f range none refl refl refl refl
+    (λ r. used r ∙ ap (λ b. eqb t.reference r || b) (f.references r))
+    (
+    waits ∙ ap (λ ps. ps ++ p ∷ []) f.pending ∙ sym (reverse_onto (pending s.opening J) p [])
+    ∙ ap (λ b. reverse (cond (not b) (p ∷ pending s.opening J) (pending s.opening J))) (sym later)
+    )
+    (notices_kept L (activity.Trade t) refl f)
+    (λ k. sym (ap (λ b. books (cond b (trade_entries p) []) k (holding_at s.rows k)) later ∙ books_none k (holding_at s.rows k)))

@@ -1,5 +1,6 @@
 -- Where entries are booked, and what splits and exchanges are checked for.
-use Rattle.std.specs.Prelude.{◌≤◌, ◌*◌, not, ◌&&◌, ◌||◌, List, [], ◌∷◌, map, unsigned_abs}
+use Rattle.std.specs.Prelude.{◌≤◌, ◌*◌, Bool, not, ◌&&◌, ◌||◌, List, [], ◌∷◌, map, unsigned_abs}
+use Rattle.cns_units.specs.declared.day.Day.{Day}
 use Rattle.cns_terms.specs.declared.action.Exchange.{Exchange}
 use Rattle.cns_terms.specs.declared.command.Activity.{Activity}
 use Rattle.cns_terms.specs.declared.command.Activity.TheVariants as activity
@@ -8,12 +9,14 @@ use Rattle.cns_terms.specs.declared.holding.Key.{Key}
 use Rattle.cns_terms.specs.declared.refusal.Refusal.TheVariants.{NoSuchIssue, Retired, SameIssue}
 use Rattle.cns_terms.specs.Limits.{booking_limit, corporation_limit, history_limit}
 use Rattle.cns_terms.specs.Listings.{is_listed, is_retired}
+use Rattle.cns_terms.specs.Pending.{pending}
 use Rattle.cns_terms.specs.Postings.{Journal}
 use Rattle.cns_terms.specs.Refusals.{Rule}
 use Rattle.cns_terms.specs.Sums.{same_issue}
 use Rattle.cns_positions.specs.Rows.{Rows, holding_at}
 use Rattle.cns_actions.specs.declared.action.Action.{Action}
 use Rattle.cns_actions.specs.declared.action.Action.TheVariants as action
+use Rattle.cns_actions.specs.Booked.{waits_for}
 
 -- where an entry is booked
 abbrev pub place_of : Entry → Key
@@ -33,7 +36,11 @@ abbrev pub activity_of : Action → Activity
 activity_of (action.Split s) = activity.Split s
 activity_of (action.Exchange x) = activity.Exchange x
 
--- the rules of an exchange, its size apart
+-- whether trades that wait hold it up: an issue with such trades is not exchanged
+abbrev pub is_held_up : Day → Journal → Action → Bool
+is_held_up opening J x = waits_for x (pending opening J)
+
+-- the rules of an exchange, its size and the trades that wait apart
 abbrev pub exchange_rules : Journal → Exchange → List Rule
 exchange_rules J x =
     (NoSuchIssue, not (is_listed J x.old && is_listed J x.successor))

@@ -22,6 +22,7 @@ use Rattle.cns_terms.specs.Entries.{corporation, journal}
 use Rattle.cns_terms.specs.Limits.{history_limit}
 use Rattle.cns_terms.specs.Holdings.{holding}
 use Rattle.cns_terms.specs.Machine.{accepted_after, answer_to}
+use Rattle.cns_terms.specs.Pending.{pending}
 use Rattle.cns_terms.specs.Positions.{position}
 use Rattle.cns_terms.specs.Postings.{Journal}
 use Rattle.cns_terms.specs.Reached.{IsReached}
@@ -51,6 +52,10 @@ pub record FollowsListings (J : Journal) (s : Contents) : Type 0 where
 -- the references that accepted trades used
 abbrev pub FollowsReferences : Journal → Contents → Type 0
 FollowsReferences J s = (r : ℕ) → is_used s.trades.references r ≡ is_seen J r
+
+-- the trades that wait, in the order in which they were taken
+abbrev pub FollowsPending : Journal → Contents → Type 0
+FollowsPending J s = s.trades.pending ≡ reverse (pending s.opening J)
 
 -- the declared dividends, in the order in which they are paid
 abbrev pub FollowsDividends : Journal → Contents → Type 0
@@ -82,6 +87,7 @@ pub record Follows (L : List Activity) (s : Contents) : Type 0 where
   pub clock : FollowsClock (journal s.opening L) s
   pub listings : FollowsListings (journal s.opening L) s
   pub references : FollowsReferences (journal s.opening L) s
+  pub pending : FollowsPending (journal s.opening L) s
   pub dividends : FollowsDividends (journal s.opening L) s
   pub rows : FollowsRows (journal s.opening L) s
   pub sheets : FollowsSheets (journal s.opening L) s

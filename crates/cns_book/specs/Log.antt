@@ -14,7 +14,7 @@ pub record Log : Type 0 where
   pub limit : ℕ
   pub history : List Taken
 
--- a book: its log, of which all that it answers follows, and how many rows its positions have, of zeros too
+-- a book: its log, from which all that it answers follows, and how many rows its positions have, of zeros too
 pub record BookView : Type 0 where
   pub log : Log
   pub rows : ℕ

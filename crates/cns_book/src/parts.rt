@@ -23,6 +23,7 @@ mod dividend;
 mod execution;
 mod listing;
 mod notice;
+mod opening;
 mod reading;
 mod retransmittal;
 mod trading;

@@ -14,7 +14,7 @@ pub struct Receipt {
     pub reply: Reply,
 }
 
-/// Why a command was not taken. The book is as it was.
+/// Why a command was not taken. The log of the book is as it was.
 #[derive(Clone, Copy, Debug, PartialEq, Eq, Error)]
 pub enum TakeFault {
     /// The history is at its limit.

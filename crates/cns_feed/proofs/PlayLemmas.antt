@@ -1,5 +1,5 @@
 -- A book and a text after lines, and after one more.
-use Rattle.std.proofs.Common.{◌≡◌, ◌≢◌, ℕ, ◌+◌, ◌≤◌, Bool, List, [], ◌∷◌, ◌++◌, length, count_by, cond, Option, Some, None, Result, Ok, Err, IfErr, IfOk, refl, sym, ap, subst, ◌∙◌, append_assoc, append-nil, length-append, arith, IfSome}
+use Rattle.std.proofs.Common.{◌≡◌, ◌≢◌, ℕ, ◌+◌, ◌≤◌, Bool, List, [], ◌∷◌, ◌++◌, length, count_by, cond, Option, Some, None, Result, Ok, Err, IfErr, IfOk, OnOk, refl, sym, ap, subst, ◌∙◌, append_assoc, append-nil, length-append, arith, IfSome}
 use Rattle.std.proofs.lemmas.List.Sums.{sum_by-append, count_by-le-length}
 use Rattle.std.specs.Io.KnownBytes.{Appends, Keeps}
 use Rattle.std.proofs.KnownBytes.{Appends-kept, Appends-nil, Appends-trans, Keeps-refl}
@@ -273,3 +273,11 @@ pub counts-known : {R : Type 0} (rem : R → Option (List ℕ)) (a : Records R) 
 counts-known rem a S None (Ok s) pending counts = tt
 counts-known rem a S (Some input) (Ok s) pending counts = counts (lines_of input) pending
 counts-known rem a S known (Err e) pending counts = tt
+
+-- what a play that ended gives for its lines holds for those of the input, if it is known
+pub ended-known : {R : Type 0} (rem : R → Option (List ℕ)) (a : Records R) (known : Option (List ℕ)) (r : Result Summary ReplayFault) (Holds : List Line → Type 0)
+    → IfSome known (λ input. Pending rem a (lines_of input)) → OnOk r ((all : List Line) → Pending rem a all → Holds all)
+    → OnOk r (IfSome known (λ input. Holds (lines_of input)))
+ended-known rem a None (Ok s) Holds pending ends = tt
+ended-known rem a (Some input) (Ok s) Holds pending ends = ends (lines_of input) pending
+ended-known rem a known (Err e) Holds pending ends = tt

@@ -8,7 +8,7 @@ use crate::units::{day, issue, member, price, rate};
 use cns_dividends::Dividends;
 use cns_notices::Notices;
 use cns_prices::Prices;
-use cns_terms::{NoMemory, Trade};
+use cns_terms::{NoMemory, Pend, Trade};
 use cns_trades::Trades;
 use cns_units::{Cusip, Member, Money, Shares};
 use std::alloc::{Allocator, Global};
@@ -126,6 +126,18 @@ fn trade(rt: &impl Abort, number: u16) -> Trade {
     }
 }
 
+// Whether the trades are those with the numbers from 1 on.
+fn same_trades(rt: &impl Abort, pending: &[Pend]) -> bool {
+    let mut number = 0u16;
+    for pend in pending {
+        number = number.saturating_add(1);
+        if *pend != Pend::of(&trade(rt, number)) {
+            return false;
+        }
+    }
+    true
+}
+
 impl<H: Allocator + Drop + Clone> Call<H> for PendTrade<H> {
     fn prepared(rt: &impl Abort, _global: Global, alloc: H, size: u16) -> Self {
         let mut trades = Trades::new(alloc).expect(rt, "memory");
@@ -144,10 +156,11 @@ impl<H: Allocator + Drop + Clone> Call<H> for PendTrade<H> {
             .is_ok()
     }
 
-    fn stands(&self, _rt: &impl Abort, made: bool) -> bool {
+    fn stands(&self, rt: &impl Abort, made: bool) -> bool {
         let pending = self.trades.pending();
         let taken = usize::from(self.waiting) + usize::from(made);
         pending.len() == taken
+            && same_trades(rt, pending)
             && self.trades.seen(reference(self.waiting.saturating_add(1))) == made
     }
 

@@ -2,11 +2,14 @@
 ghost use Rattle.std.specs.Prelude.{◌≡◌, ◌≤◌, ◌^◌, pos, true, unsigned_abs};
 ghost use Rattle.cns_positions.specs.Rows.{holding_at};
 ghost use Rattle.cns_actions.specs.Booked.{CanBeBooked, IsForAnother};
+ghost use Rattle.cns_parts_tests.specs.Waits.{CanWait};
 
 use crate::values::{APPLE, CISCO, MICROSOFT, cusip, key, price, ratio};
+use crate::waits::none_waits;
 use cns_actions::{Action, ActionFault, Exchange, Split, next_positions};
 use cns_positions::{FlatPositions, Positions, TreePositions};
 use cns_terms::{Holding, Key};
+use cns_trades::Pending;
 use std::alloc::{Allocator, Global};
 use std::process::Abort;
 
@@ -20,7 +23,7 @@ pub(crate) type Balanced = TreePositions<Global>;
 pub(crate) type Held = (u16, &'static [u8], i64, i128);
 
 // Nothing stands anywhere.
-fn empty<P: Positions<A>, A>(alloc: A) -> P
+pub(crate) fn empty<P: Positions<A>, A>(alloc: A) -> P
     ensures { CanBeBooked (P.rows result) }
 {
     P::new(alloc)
@@ -55,11 +58,21 @@ fn book<P: Positions<A>, A>(rt: &impl Abort, positions: &mut P, held: &Held)
 }
 
 // A close of a day.
-fn close<P: Positions<A>, A>(positions: &mut P)
+pub(crate) fn close<P: Positions<A>, A>(positions: &mut P)
     requires { CanBeBooked (P.rows positions.old) }
     ensures { CanBeBooked (P.rows positions.new) }
 {
     positions.roll();
+}
+
+// Books at places that the test says are empty.
+pub(crate) fn book_all<P: Positions<A>, A>(rt: &impl Abort, positions: &mut P, held: &[Held])
+    requires { CanBeBooked (P.rows positions.old) }
+    ensures { CanBeBooked (P.rows positions.new) }
+{
+    for held in held {
+        book(rt, positions, held);
+    }
 }
 
 // Positions with what is booked at empty places.
@@ -67,9 +80,7 @@ pub(crate) fn booked<P: Positions<A>, A>(rt: &impl Abort, alloc: A, held: &[Held
     ensures { CanBeBooked (P.rows result) }
 {
     let mut positions = empty(alloc);
-    for held in held {
-        book(rt, &mut positions, held);
-    }
+    book_all(rt, &mut positions, held);
     positions
 }
 
@@ -118,18 +129,33 @@ fn is_for_another(action: &Action) -> bool
     }
 }
 
-// The positions after a split or an exchange, where the test says that it is for another issue.
+// The positions after a split or an exchange beside trades that wait, where the test says that it is for another issue.
 pub(crate) fn after<P: Positions<A>, A, B: Allocator + Drop + Clone>(
     rt: &impl Abort,
     alloc: B,
     positions: &P,
     given: Given,
+    pending: &Pending<Global>,
 ) -> Result<P, ActionFault>
-    requires { CanBeBooked (P.rows positions.now) }
+    requires can { CanBeBooked (P.rows positions.now) }
+    requires wait { CanWait pending.now }
 {
     let action = action(rt, given);
     assert!(rt; is_for_another(&action));
-    next_positions(&alloc, positions, &action)
+    next_positions(&alloc, positions, &action, pending)
+}
+
+// The same where no trade waits.
+fn after_alone<P: Positions<Global>>(
+    rt: &(impl Abort + AllocGlobal),
+    positions: &P,
+    given: Given,
+    name: &str,
+) -> P
+    requires { CanBeBooked (P.rows positions.now) }
+{
+    let trades = none_waits(rt, rt.alloc());
+    after(rt, rt.alloc(), positions, given, trades.waiting()).expect(rt, name)
 }
 
 // Whether these shares and cents stand at their places.
@@ -154,7 +180,7 @@ struct Case {
 // Checks what stands at places after a split or an exchange of what was booked before.
 fn check_case<P: Positions<Global>>(rt: &(impl Abort + AllocGlobal), case: &Case) {
     let positions: P = booked(rt, rt.alloc(), case.held);
-    let next = after(rt, rt.alloc(), &positions, case.given).expect(rt, case.name);
+    let next = after_alone(rt, &positions, case.given, case.name);
     assert!(rt; stand(rt, &next, case.expected), "after: {}", case.name);
     assert!(rt; stand(rt, &positions, case.held));
 }
@@ -315,7 +341,7 @@ fn have_ages<P: Positions<Global>>(
     rows: &[(u16, i64, i64, u32)],
 ) -> bool {
     let positions: P = twice_closed(rt);
-    let next = after(rt, rt.alloc(), &positions, given).expect(rt, "memory");
+    let next = after_alone(rt, &positions, given, "memory");
     for (number, now, opening, run) in rows {
         let expected = Holding {
             now: *now,
@@ -340,7 +366,7 @@ const FROM_NOTHING: [Given; 2] = [Given::Split(3, 2, 1), Given::Exchange(3, 2, 1
 // Whether no row stands after an action where none stood before.
 fn stays_empty(rt: &(impl Abort + AllocGlobal), given: Given) -> bool {
     let positions: Balanced = booked(rt, rt.alloc(), &[]);
-    let next = after(rt, rt.alloc(), &positions, given).expect(rt, "memory");
+    let next = after_alone(rt, &positions, given, "memory");
     next.next_row(None).is_none()
 }
 

@@ -1,10 +1,10 @@
-//! Tests of the crates below the book: units, terms, the tree, positions, prices, trades, dividends, splits and
-//! exchanges, notices, retransmittal.
+//! Tests of the crates below the book: units, terms, the tree, positions, prices, trades, dividends, splits,
+//! exchanges, openings, notices, retransmittal.
 //!
 //! They use public names alone and stand in a crate of their own, so that no crate below is proved once more for its
 //! tests. They say what no clause says: worked values, that a call succeeds where there is memory, and refused memory.
 //! Cases are tables, `const` where they can be: one in a body would be proved with it. There is a file for each crate,
-//! or for a part of one; `heaps.rt` and `values.rt` are shared. A helper that cannot go on ends the test by `rt`: its
+//! or for a part of one; `heaps.rt`, `values.rt` and `waits.rt` are shared. A helper that cannot go on ends the test by `rt`: its
 //! callers are then proved sooner than with a `?` after each call.
 #![tactic(auto)]
 
@@ -27,6 +27,8 @@ mod heaps;
 #[cfg(test)]
 mod notices;
 #[cfg(test)]
+mod opened;
+#[cfg(test)]
 mod positions;
 #[cfg(test)]
 mod prices;
@@ -40,3 +42,5 @@ mod tree;
 mod units;
 #[cfg(test)]
 mod values;
+#[cfg(test)]
+mod waits;

@@ -2,9 +2,9 @@
 ghost use Rattle.std.specs.Prelude.{◌≤◌, ◌^◌, unsigned_abs};
 ghost use Rattle.std.specs.Option.{ForSome};
 
-use crate::values::{APPLE, cusip, day, member, money, shares};
+use crate::values::{APPLE, CISCO, cusip, day, member, money, shares};
 use cns_terms::{Entry, Movement, Pend, Refusal, Trade};
-use cns_trades::{MoveFacts, TradeFacts, Trades};
+use cns_trades::{MoveFacts, Sides, TradeFacts, Trades};
 use std::alloc::Global;
 use std::process::Abort;
 
@@ -34,7 +34,7 @@ fn answer(
     trades: &Trades<Global>,
     facts: &TradeFacts,
     trade: &Trade,
-) -> Result<[Entry; 2], Refusal> {
+) -> Result<Option<[Entry; 2]>, Refusal> {
     let facts = TradeFacts {
         buyer: within(facts.buyer),
         seller: within(facts.seller),
@@ -44,12 +44,13 @@ fn answer(
 }
 
 // What differs from a trade that is taken, and what it is answered.
+#[derive(Clone, Copy)]
 struct Case {
     seller: u16,
     positions: (Option<i64>, Option<i64>),
     listed: bool,
     retired: bool,
-    late: bool,
+    today: &'static str,
     refusal: Option<Refusal>,
 }
 
@@ -58,11 +59,18 @@ const FINE: Case = Case {
     positions: (Some(0), Some(0)),
     listed: true,
     retired: false,
-    late: false,
+    today: "2024-06-03",
     refusal: None,
 };
 
-const CASES: [Case; 9] = [
+// The trade is dated 2024-06-03: five days and six days before it, and the day after.
+const FIVE_DAYS_BEFORE: &str = "2024-05-29";
+
+const SIX_DAYS_BEFORE: &str = "2024-05-28";
+
+const THE_DAY_AFTER: &str = "2024-06-04";
+
+const CASES: [Case; 14] = [
     FINE,
     Case {
         positions: (None, Some(0)),
@@ -83,14 +91,40 @@ const CASES: [Case; 9] = [
     },
     Case {
         retired: true,
-        late: true,
+        today: THE_DAY_AFTER,
         refusal: Some(Refusal::Retired),
         ..FINE
     },
     Case {
-        late: true,
+        today: THE_DAY_AFTER,
         positions: (Some(10_000_000_000), Some(0)),
         refusal: Some(Refusal::WrongDay),
+        ..FINE
+    },
+    Case {
+        today: SIX_DAYS_BEFORE,
+        refusal: Some(Refusal::WrongDay),
+        ..FINE
+    },
+    Case {
+        today: FIVE_DAYS_BEFORE,
+        ..FINE
+    },
+    Case {
+        today: FIVE_DAYS_BEFORE,
+        positions: (Some(9_999_999_995), Some(-9_999_999_995)),
+        ..FINE
+    },
+    Case {
+        today: FIVE_DAYS_BEFORE,
+        positions: (Some(9_999_999_996), Some(0)),
+        refusal: Some(Refusal::TooLarge),
+        ..FINE
+    },
+    Case {
+        today: FIVE_DAYS_BEFORE,
+        positions: (Some(0), Some(-9_999_999_996)),
+        refusal: Some(Refusal::TooLarge),
         ..FINE
     },
     Case {
@@ -111,17 +145,12 @@ const CASES: [Case; 9] = [
 ];
 
 fn facts(rt: &impl Abort, case: &Case) -> TradeFacts {
-    let today: &[u8] = if case.late {
-        b"2024-06-05"
-    } else {
-        b"2024-06-03"
-    };
     TradeFacts {
         buyer: case.positions.0,
         seller: case.positions.1,
         listed: case.listed,
         retired: case.retired,
-        today: day(rt, today),
+        today: day(rt, case.today.as_bytes()),
     }
 }
 
@@ -153,8 +182,8 @@ fn parts(entry: &Entry) -> (u16, i64, i128) {
 #[test]
 fn a_trade_books_opposite_entries(rt: HostRuntime) {
     let trades = Trades::new(rt.alloc()).expect(&rt, "memory");
-    let Ok(entries) = answer(&trades, &facts(&rt, &FINE), &trade(&rt, 202)) else {
-        panic!(rt; "the trade is refused");
+    let Ok(Some(entries)) = answer(&trades, &facts(&rt, &FINE), &trade(&rt, 202)) else {
+        panic!(rt; "the trade is refused, or waits");
     };
     assert!(rt; parts(&entries[0]) == (101, 5, -975));
     assert!(rt; parts(&entries[1]) == (202, -5, 975));
@@ -332,5 +361,154 @@ fn a_close_settles_the_trades_whose_date_has_come(rt: HostRuntime) {
         for (reference, _date) in &AHEAD {
             assert!(rt; trades.seen(*reference));
         }
+    }
+}
+
+#[test]
+fn a_trade_ahead_of_its_date_books_nothing_yet(rt: HostRuntime) {
+    let trades = Trades::new(rt.alloc()).expect(&rt, "memory");
+    let case = Case {
+        today: FIVE_DAYS_BEFORE,
+        ..FINE
+    };
+    assert!(rt; answer(&trades, &facts(&rt, &case), &trade(&rt, 202)) == Ok(None));
+}
+
+// A trade that waits: its buyer, its seller and its shares.
+type Waits = (u16, u16, u64);
+
+// The trades that wait, the positions of the buyer and the seller, the open day, and what a trade of 5 shares more is answered.
+type Beside = (&'static [Waits], (i64, i64), &'static str, Option<Refusal>);
+
+const BESIDE: [Beside; 12] = [
+    (&[(101, 202, 5)], (9_999_999_990, 0), "2024-06-03", None),
+    (
+        &[(101, 202, 6)],
+        (9_999_999_990, 0),
+        "2024-06-03",
+        Some(Refusal::TooLarge),
+    ),
+    (
+        &[(101, 202, 6)],
+        (0, -9_999_999_990),
+        "2024-06-03",
+        Some(Refusal::TooLarge),
+    ),
+    (
+        &[(101, 202, 6)],
+        (9_999_999_990, 0),
+        FIVE_DAYS_BEFORE,
+        Some(Refusal::TooLarge),
+    ),
+    (
+        &[(101, 202, 5)],
+        (9_999_999_990, -9_999_999_990),
+        FIVE_DAYS_BEFORE,
+        None,
+    ),
+    // What a member is to give is not set off against what it is to get.
+    (
+        &[(101, 303, 6), (303, 101, 6)],
+        (9_999_999_990, 0),
+        "2024-06-03",
+        Some(Refusal::TooLarge),
+    ),
+    (
+        &[(303, 202, 6), (202, 303, 6)],
+        (0, -9_999_999_990),
+        FIVE_DAYS_BEFORE,
+        Some(Refusal::TooLarge),
+    ),
+    // The other side alone.
+    (&[(303, 101, 1_000)], (9_999_999_990, 0), "2024-06-03", None),
+    (
+        &[(202, 303, 1_000)],
+        (0, -9_999_999_990),
+        "2024-06-03",
+        None,
+    ),
+    // A member that gives more than it has is short by the rest.
+    (
+        &[(303, 101, 1_000)],
+        (-9_999_999_000, 0),
+        "2024-06-03",
+        None,
+    ),
+    (
+        &[(303, 101, 1_006)],
+        (-9_999_999_000, 0),
+        "2024-06-03",
+        Some(Refusal::TooLarge),
+    ),
+    // Another member's trades.
+    (
+        &[(303, 404, 1_000)],
+        (9_999_999_990, -9_999_999_990),
+        "2024-06-03",
+        None,
+    ),
+];
+
+// Trades that wait for the day after, with references from 100 on.
+fn waiting(rt: &impl Abort, alloc: Global, waits: &[Waits]) -> Trades<Global> {
+    let mut trades = Trades::new(alloc).expect(rt, "memory");
+    for (place, (buyer, seller, count)) in waits.iter().enumerate() {
+        let trade = Trade {
+            reference: 100u64.saturating_add(place as u64),
+            buyer: member(rt, *buyer),
+            shares: shares(rt, *count),
+            date: day(rt, b"2024-06-04"),
+            ..trade(rt, *seller)
+        };
+        trades.pend(&trade).expect(rt, "memory");
+    }
+    trades
+}
+
+// The refusal of one trade more, if it is refused.
+fn refusal_beside(rt: &(impl Abort + AllocGlobal), case: &Beside) -> Option<Refusal> {
+    let (waits, (buyer, seller), today, _) = *case;
+    let trades = waiting(rt, rt.alloc(), waits);
+    let case = Case {
+        positions: (Some(buyer), Some(seller)),
+        today,
+        ..FINE
+    };
+    answer(&trades, &facts(rt, &case), &trade(rt, 202)).err()
+}
+
+#[test]
+fn what_waits_counts_towards_the_limit_each_side_by_itself(rt: HostRuntime) {
+    for case in &BESIDE {
+        assert!(rt; refusal_beside(&rt, case) == case.3);
+    }
+}
+
+// What is to come of the trades of `AHEAD` for the buyer and the seller, after the closes of `LEFT`: five shares each.
+#[test]
+fn what_is_to_come_is_added_up_by_member_and_issue(rt: HostRuntime) {
+    for (next, left) in &LEFT {
+        let mut trades = ahead(&rt, rt.alloc());
+        trades.settle(day(&rt, next.as_bytes()));
+        let issue = cusip(&rt, APPLE);
+        let shares = 5 * left.len() as u128;
+        let (buyer, seller) = (member(&rt, 101).account(), member(&rt, 202).account());
+        assert!(rt;
+            trades.waiting().sides(buyer, issue)
+                == Sides {
+                    bought: shares,
+                    sold: 0
+                }
+        );
+        assert!(rt;
+            trades.waiting().sides(seller, issue)
+                == Sides {
+                    bought: 0,
+                    sold: shares
+                }
+        );
+        assert!(rt; trades.waiting().sides(buyer, cusip(&rt, CISCO)) == Sides::NONE);
+        assert!(rt; trades.waiting().waits_in(&issue) == (left.len() > 0));
+        assert!(rt; !trades.waiting().waits_in(&cusip(&rt, CISCO)));
     }
 }

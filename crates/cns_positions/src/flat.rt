@@ -11,7 +11,7 @@ ghost use Rattle.cns_terms.specs.declared.holding.Key.{Key};
 ghost use Rattle.cns_positions.specs.Rows.{holding_at, booked, entry_of, held_above, is_held, present, row_at};
 ghost use Rattle.cns_positions.specs.Contents.{has_row, closed_rows};
 
-use crate::holding::{add_to, close, is_held};
+use crate::holding::{add_to, is_held, rolled};
 use crate::positions::{NextRows, Positions, Row};
 use crate::prepared::{Prepared, kept};
 use arrayvec::ArrayVec;
@@ -106,7 +106,7 @@ fn close_all(rows: &mut [Row])
     ensures { rows.new ≡ closed_rows rows.old }
 {
     for row in rows.iter_mut() {
-        row.1 = close(row.1);
+        row.1 = rolled(row.1);
     }
 }
 

@@ -7,8 +7,9 @@ use cns_terms::Holding;
 
 const LONGEST_RUN: u32 = 4_294_967_295;
 
-/// What a close makes of a holding.
-pub(crate) fn close(holding: Holding) -> Holding
+/// What a close makes of a holding: its position is the next day's opening, its cents are gone, and a short is older by one
+/// close, up to the highest number that an age can have (NSCC Rule 11; ages are this project's profile).
+pub fn rolled(holding: Holding) -> Holding
     ensures { result ≡ rolled holding }
 {
     Holding {

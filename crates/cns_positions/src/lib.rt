@@ -15,6 +15,7 @@ mod steps;
 mod tree;
 
 pub use flat::FlatPositions;
+pub use holding::rolled;
 pub use positions::{NextRows, Positions, ROWS_AT_ONCE};
 pub use steps::{Step, run};
 pub use tree::TreePositions;

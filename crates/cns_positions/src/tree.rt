@@ -9,7 +9,7 @@ ghost use Rattle.cns_terms.specs.declared.holding.Key.{Key};
 ghost use Rattle.cns_positions.specs.Rows.{holding_at, booked, entry_of, held_above, is_held, present, row_at};
 ghost use Rattle.cns_positions.specs.Contents.{has_row, closed_rows};
 
-use crate::holding::{add_to, close, is_held};
+use crate::holding::{add_to, is_held, rolled};
 use crate::positions::{NextRows, Positions, Row};
 use crate::prepared::{Prepared, kept};
 use arrayvec::ArrayVec;
@@ -101,7 +101,7 @@ fn book<A: Allocator + Clone + Drop>(
 fn close_all<A: Allocator + Clone + Drop>(rows: &mut Tree<Holding, A>)
     ensures { rows.new ≡ closed_rows rows.old }
 {
-    rows.change_each(|holding| close(holding));
+    rows.change_each(|holding| rolled(holding));
 }
 
 // The first row that isn't zeros of those that a walk has left.

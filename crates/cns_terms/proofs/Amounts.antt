@@ -30,7 +30,7 @@ use Rattle.cns_terms.proofs.Accounts.{occurs}
 use Rattle.cns_terms.proofs.DividendBounds.{dividends_small}
 use Rattle.cns_terms.proofs.Facts.{journal_len}
 use Rattle.cns_terms.proofs.Everywhere.{each_found, each_weaker}
-use Rattle.cns_terms.proofs.Limits.{cents_of}
+use Rattle.cns_terms.proofs.Limits.{cents_of, open_small}
 use Rattle.cns_terms.proofs.Magnitudes.{added, added-all, added-each, added-flat_map, added-kept, added-more, added-swap, added-times, added-zero, front_total, magnitude, total_small}
 use Rattle.cns_terms.proofs.Reached.{IsLimited, bounded, limited, limited_past, members_few, members_from_one}
 use Rattle.cns_terms.proofs.OverAll.{one_issue, over_add, over_all, over_more}
@@ -170,16 +170,6 @@ of_accounts bs p h =
       added-more (λ (e : Entry). added (λ a. unsigned_abs (of_account a e)) bs) (λ e. unsigned_abs e.cents) p.entries (λ e. omega (arith, given_often e.account e.cents bs, at_most_one (occurs e.account bs) (unsigned_abs e.cents) (h e.account))),
     )
 
--- the open day's postings, or none after a close
-open_or_none : (b : Bool) (J : Journal) (n : ℕ) → added cents_of (open_day J) ≤ n → added cents_of (cond b [] (open_day J)) ≤ n
-open_or_none true J n h = omega arith
-open_or_none false J n h = h
-
--- the open day's cents are among the journal's
-open_small : (J : Journal) → added cents_of (open_day J) ≤ added cents_of J
-open_small [] = omega arith
-open_small (p ∷ J) = let rest = open_or_none (is_close p.activity) J (added cents_of J) (open_small J) in omega (arith, rest)
-
 -- the cents of a day, at most
 abbrev pub cents_limit : ℕ
 cents_limit = booking_limit * history_limit
@@ -200,7 +190,7 @@ cents_small opening K l few =
       added-more (λ (p : Posting). added (λ a. magnitude (of_account a) p.entries) (accounts K)) cents_of (open_day K) (λ p. of_accounts (accounts K) p sound.distinct),
       open_small K,
     ))
-    l.booked few
+    (omega (arith, l.booked)) few
 
 -- ---- values
 

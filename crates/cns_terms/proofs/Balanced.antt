@@ -1,5 +1,5 @@
 -- What an activity books adds up to zero in each issue.
-use Rattle.std.proofs.Common.{◌≡◌, ◌≤◌, ℤ, pos, ◌+ℤ◌, ◌-ℤ◌, neg_ℤ, Bool, true, false, cond, List, [], map, Option, Some, None, refl, arith}
+use Rattle.std.proofs.Common.{◌≡◌, ◌≤◌, ℤ, pos, ◌+ℤ◌, ◌-ℤ◌, neg_ℤ, Bool, true, false, cond, List, [], ◌∷◌, flat_map, map, Option, Some, None, refl, arith}
 use Rattle.std.specs.Option.{IfSome, option_map_or}
 use Rattle.std.proofs.lemmas.Int.{ints}
 use Rattle.cns_units.specs.declared.account.Account.{Account}
@@ -7,10 +7,13 @@ use Rattle.cns_units.specs.declared.day.Day.{Day}
 use Rattle.cns_terms.specs.declared.buy_in.Execution.{Execution}
 use Rattle.cns_terms.specs.declared.command.Activity.{Activity}
 use Rattle.cns_terms.specs.declared.command.Activity.TheVariants as activity
+use Rattle.cns_terms.specs.declared.pend.Pend.{Pend}
 use Rattle.cns_terms.specs.Conversions.{converted, in_exchange, in_lieu}
-use Rattle.cns_terms.specs.Entries.{against_corporation, entries, execution_entries, holders, new_entry, old_entry}
+use Rattle.cns_terms.specs.Days.{date, is_not_after}
+use Rattle.cns_terms.specs.Entries.{against_corporation, entries, execution_entries, holders, new_entry, old_entry, trade_entries}
 use Rattle.cns_terms.specs.Listings.{members}
 use Rattle.cns_terms.specs.Notices.{Notice, notice_at}
+use Rattle.cns_terms.specs.Pending.{due, pend_of}
 use Rattle.cns_terms.specs.Positions.{position}
 use Rattle.cns_terms.specs.Postings.{Journal}
 use Rattle.cns_terms.specs.Reached.{IsInRange}
@@ -34,12 +37,26 @@ executed : (J : Journal) (x : Execution) (o : Option Notice) → 1 ≤ x.shares 
 executed J x None some ready = none
 executed J x (Some k) some ready = execution_balanced J x k some ready
 
+-- those of a trade
+trade_balanced : (p : Pend) → IsBalanced (trade_entries p)
+trade_balanced p = record {
+  shares = λ c. two_parties (same_issue p.issue c) (pos p.shares) (neg_ℤ (pos p.shares)) (omega (arith, ints));
+  cents = λ c. two_parties (same_issue p.issue c) (neg_ℤ (pos p.cents)) (pos p.cents) (omega (arith, ints));
+}
+
+-- and of several
+trades_balanced : (ps : List Pend) → IsBalanced (flat_map trade_entries ps)
+trades_balanced [] = none
+trades_balanced (p ∷ ps) = both_balanced (trade_entries p) (flat_map trade_entries ps) (trade_balanced p) (trades_balanced ps)
+
+-- a trade books now or later
+now_or_later : (b : Bool) (p : Pend) → IsBalanced (cond b (trade_entries p) [])
+now_or_later true p = trade_balanced p
+now_or_later false p = none
+
 -- the entries of an activity in its ranges that is not refused add up to zero in each issue
 pub entries_balanced : (opening : Day) (J : Journal) (x : Activity) → IsInRange x → NoneHolds (rules opening J x) → IsBalanced (entries opening J x)
-entries_balanced opening J (activity.Trade t) r h = record {
-  shares = λ c. two_parties (same_issue t.issue c) (pos t.shares) (neg_ℤ (pos t.shares)) (omega (arith, ints));
-  cents = λ c. two_parties (same_issue t.issue c) (neg_ℤ (pos t.money)) (pos t.money) (omega (arith, ints));
-}
+entries_balanced opening J (activity.Trade t) r h = now_or_later (is_not_after t.date (date opening J)) (pend_of t)
 entries_balanced opening J (activity.Deliver m) r h = record {
   shares = λ c. two_parties (same_issue m.issue c) (pos m.shares) (neg_ℤ (pos m.shares)) (omega (arith, ints));
   cents = λ c. two_parties (same_issue m.issue c) (pos 0) (pos 0) refl;
@@ -60,4 +77,5 @@ entries_balanced opening J (activity.Exchange x) r h =
 entries_balanced opening J (activity.Execute x) r h =
     let fails = all_fail (rules opening J (activity.Execute x)) h in
     executed J x (notice_at J x.notice) r.0 (executable J x (notice_at J x.notice) fails.0 fails.1.1.0 fails.1.1.1.1.0)
+entries_balanced opening J (activity.Close d) r h = trades_balanced (due opening J d)
 entries_balanced opening J _ r h = none

@@ -27,6 +27,7 @@ use Rattle.cns_terms.specs.Positions.{position, shares_for}
 use Rattle.cns_terms.specs.Postings.{Journal}
 use Rattle.cns_terms.specs.Sums.{in_order, long, put, same_issue, short, total}
 use Rattle.cns_terms.proofs.Accounts.{occurs}
+use Rattle.cns_terms.proofs.Closer.{IsCloser, as_close, off_long, off_short}
 use Rattle.cns_terms.proofs.Laid.{fills_laid, laid}
 use Rattle.cns_terms.proofs.EntrySums.{IsBalanced, cents_in, shares_in}
 use Rattle.cns_terms.proofs.Everywhere.{each_filter, each_in_order, each_map}
@@ -203,36 +204,36 @@ fill_shares k a c b is (f ∷ fs) = rw (is, fill_shares k a c b is fs) (one (f.m
     one false true s n = omega (arith, ints)
     one false false s n = refl
 
--- an execution leaves a member's position no further from zero
-pub executed_within : (J : Journal) (x : Execution) (k : Notice) (a : Account) (c : Cusip) (m : ℕ) → IsExecutable J x k → occurs a (members (at_close J k.given.day)) ≤ 1 → unsigned_abs (position J a c) ≤ m → unsigned_abs (total (shares_for a c) (execution_entries J x k) +ℤ position J a c) ≤ m
-executed_within J x k a c m ready once h = by (same_issue k.given.issue c) refl
+-- an execution brings a member's position no further from zero
+pub executed_closer : (J : Journal) (x : Execution) (k : Notice) (a : Account) (c : Cusip) → IsExecutable J x k → occurs a (members (at_close J k.given.day)) ≤ 1 → IsCloser (total (shares_for a c) (execution_entries J x k) +ℤ position J a c) (position J a c)
+executed_closer J x k a c ready once = by (same_issue k.given.issue c) refl
   where
-    closer : (q : ℤ) (t : Bool) (n f : ℕ) → (t ≡ true → n ≤ long q) → f ≤ short q → unsigned_abs q ≤ m → unsigned_abs ((cond t (neg_ℤ (pos n)) (pos 0) +ℤ pos f) +ℤ q) ≤ m
-    closer (pos q) true n f g s h = let e = g refl in omega (arith, ints, e, s, h)
-    closer (pos q) false n f g s h = omega (arith, ints, s, h)
-    closer (negsuc q) true n f g s h = let e = g refl in omega (arith, ints, e, s, h)
-    closer (negsuc q) false n f g s h = omega (arith, ints, s, h)
+    closer : (q : ℤ) (t : Bool) (n f : ℕ) → (t ≡ true → n ≤ long q) → f ≤ short q → IsCloser ((cond t (neg_ℤ (pos n)) (pos 0) +ℤ pos f) +ℤ q) q
+    closer (pos q) true n f g s = off_long _ (pos q) n (omega (arith, ints, s)) (g refl)
+    closer (pos q) false n f g s = off_short _ (pos q) f (omega (arith, ints)) s
+    closer (negsuc q) true n f g s = let none = g refl in off_short _ (negsuc q) f (omega (arith, ints, none)) s
+    closer (negsuc q) false n f g s = off_short _ (negsuc q) f (omega (arith, ints)) s
 
-    elsewhere : (t : Bool) (n : ℤ) (q : ℤ) → unsigned_abs q ≤ m → unsigned_abs ((cond (t && false) n (pos 0) +ℤ pos 0) +ℤ q) ≤ m
-    elsewhere true n q h = omega (arith, ints, h)
-    elsewhere false n q h = omega (arith, ints, h)
+    elsewhere : (t : Bool) (n : ℤ) (q : ℤ) → IsCloser ((cond (t && false) n (pos 0) +ℤ pos 0) +ℤ q) q
+    elsewhere true n q = as_close _ q (omega (arith, ints))
+    elsewhere false n q = as_close _ q (omega (arith, ints))
 
     of_true : (t : Bool) → (t && true) ≡ t
     of_true true = refl
     of_true false = refl
 
-    here : (b : Bool) → same_issue k.given.issue c ≡ b → b ≡ true → unsigned_abs (total (shares_for a c) (execution_entries J x k) +ℤ position J a c) ≤ m
+    here : (b : Bool) → same_issue k.given.issue c ≡ b → b ≡ true → IsCloser (total (shares_for a c) (execution_entries J x k) +ℤ position J a c) (position J a c)
     here b is yes_it_is =
         let same : k.given.issue ≡ c = (bytes_eq-Decides k.given.issue c).0 (is ∙ yes_it_is) in
         let few : filled_by (fills J x k) a ≤ short (position J a c) = subst (λ (d : Cusip). filled_by (fills J x k) a ≤ short (position J a d)) same (fill_few J x k a once) in
         let all = ready.enough in
         let remains = remains_long J k in
         let gives : (k.given.member == a) ≡ true → x.shares ≤ long (position J a c) = λ e. subst (λ (d : Cusip). x.shares ≤ long (position J a d)) same (subst (λ (b : Member). x.shares ≤ long (position J b k.given.issue)) (eqb-true k.given.member a e) (omega (arith, all, remains))) in
-        rw (fill_shares k a c b is (fills J x k), is, yes_it_is, of_true (k.given.member == a)) (closer (position J a c) (k.given.member == a) x.shares (filled_by (fills J x k) a) gives few h)
+        rw (fill_shares k a c b is (fills J x k), is, yes_it_is, of_true (k.given.member == a)) (closer (position J a c) (k.given.member == a) x.shares (filled_by (fills J x k) a) gives few)
 
-    by : (b : Bool) → same_issue k.given.issue c ≡ b → unsigned_abs (total (shares_for a c) (execution_entries J x k) +ℤ position J a c) ≤ m
+    by : (b : Bool) → same_issue k.given.issue c ≡ b → IsCloser (total (shares_for a c) (execution_entries J x k) +ℤ position J a c) (position J a c)
     by true is = here true is refl
-    by false is = rw (fill_shares k a c false is (fills J x k), is) (elsewhere (k.given.member == a) (neg_ℤ (pos x.shares)) (position J a c) h)
+    by false is = rw (fill_shares k a c false is (fills J x k), is) (elsewhere (k.given.member == a) (neg_ℤ (pos x.shares)) (position J a c))
 
 -- the shares that fills' entries bring, in an issue
 fill_shares_in : (k : Notice) (c : Cusip) (b : Bool) → same_issue k.given.issue c ≡ b → (fs : List Fill) → total (shares_in c) (map (fill_entry k) fs) ≡ cond b (pos (sum_by (λ f. f.shares) fs)) (pos 0)

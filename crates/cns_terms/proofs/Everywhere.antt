@@ -1,7 +1,8 @@
 -- What holds of each element of a list.
-use Rattle.std.proofs.Common.{ℕ, ◌≤◌, Bool, true, false, cond, ◌≡◌, ◌∙◌, ap, ◌||◌, List, [], ◌∷◌, ◌++◌, map, filter, find, unwrap_or, Option, Some, refl, arith}
+use Rattle.std.proofs.Common.{ℕ, ◌≤◌, Bool, true, false, cond, ◌≡◌, ◌∙◌, ap, subst, sym, ◌||◌, List, [], ◌∷◌, ◌++◌, map, filter, find, reverse, unwrap_or, Option, Some, refl, arith}
 use Rattle.std.specs.List.{AllByRecursion, list_any}
 use Rattle.std.proofs.lemmas.Bool.{eq-eqb}
+use Rattle.std.proofs.lemmas.Grind.{reverse_onto}
 use Rattle.cns_terms.specs.Sums.{put, in_order}
 use Rattle.cns_terms.proofs.Accounts.{occurs}
 
@@ -21,6 +22,10 @@ each_map P f (x ∷ xs) a = (a.0, each_map P f xs a.1)
 pub each_append : {X : Type 0} (P : X → Type 0) (xs ys : List X) → AllByRecursion P xs → AllByRecursion P ys → AllByRecursion P (xs ++ ys)
 each_append P [] ys a b = b
 each_append P (x ∷ xs) ys a b = (a.0, each_append P xs ys a.1 b)
+
+pub each_reverse : {X : Type 0} (P : X → Type 0) (xs : List X) → AllByRecursion P xs → AllByRecursion P (reverse xs)
+each_reverse P [] a = tt
+each_reverse P (x ∷ xs) a = subst (AllByRecursion P) (sym (reverse_onto xs x [])) (each_append P (reverse xs) (x ∷ []) (each_reverse P xs a.1) (a.0, tt))
 
 kept : {X : Type 0} (P : X → Type 0) (b : Bool) (x : X) (xs : List X) → P x → AllByRecursion P xs → AllByRecursion P (cond b (x ∷ xs) xs)
 kept P true x xs p a = (p, a)

@@ -11,6 +11,8 @@ pub mod ZeroSums
 pub mod Laid
 pub mod FillSums
 pub mod Magnitudes
+pub mod Waiting
+pub mod Closer
 pub mod BuyIns
 pub mod Sound
 pub mod Balanced

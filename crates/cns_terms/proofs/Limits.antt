@@ -1,5 +1,5 @@
 -- One accepted activity keeps positions and cents within their limits.
-use Rattle.std.proofs.Common.{◌≡◌, subst, refl, ℕ, suc, ◌+◌, ◌*◌, ◌≤◌, ℤ, pos, negsuc, ◌+ℤ◌, ◌-ℤ◌, ◌*ℤ◌, neg_ℤ, Bool, true, false, not, ◌&&◌, ◌==◌, cond, List, [], ◌∷◌, length, map, Option, Some, None, ◌⊎◌, inl, inr, arith}
+use Rattle.std.proofs.Common.{◌≡◌, ◌∙◌, ap, sym, subst, refl, ℕ, ◌+◌, ◌*◌, ◌≤◌, ℤ, pos, negsuc, ◌+ℤ◌, ◌-ℤ◌, ◌*ℤ◌, neg_ℤ, Bool, true, false, not, ◌&&◌, ◌||◌, ◌==◌, cond, List, [], ◌∷◌, filter, length, map, Option, Some, None, ◌⊎◌, inl, inr, arith}
 use Rattle.std.specs.List.{AllByRecursion, list_any}
 use Rattle.std.specs.Option.{IfSome, option_map_or}
 use Rattle.std.specs.Ordering.{int_eq}
@@ -8,6 +8,7 @@ use Rattle.std.proofs.Math.Nat.{mul-le-mul_left, mul-le-mul_right}
 use Rattle.std.proofs.lemmas.Bool.{eqb-true}
 use Rattle.std.proofs.lemmas.Bool.Decides.{nat_tests}
 use Rattle.std.proofs.lemmas.Int.{ints, unsigned_abs-mul}
+use Rattle.std.proofs.lemmas.List.Sums.{sum_by-cons}
 use Rattle.std.proofs.lemmas.Slice.Eq.{bytes_eq-Decides}
 use Rattle.cns_units.specs.declared.account.Account.{Account}
 use Rattle.cns_units.specs.declared.cusip.Cusip.{Cusip}
@@ -18,20 +19,24 @@ use Rattle.cns_terms.specs.declared.buy_in.Execution.{Execution}
 use Rattle.cns_terms.specs.declared.command.Activity.{Activity}
 use Rattle.cns_terms.specs.declared.command.Activity.TheVariants as activity
 use Rattle.cns_terms.specs.declared.command.Movement.{Movement}
+use Rattle.cns_terms.specs.declared.command.Trade.{Trade}
 use Rattle.cns_terms.specs.declared.holding.Entry.{Entry}
-use Rattle.cns_terms.specs.Days.{at_close, closings, day, is_close, open_day}
+use Rattle.cns_terms.specs.declared.pend.Pend.{Pend}
+use Rattle.cns_terms.specs.Days.{at_close, closings, date, day, is_close, is_not_after, open_day}
 use Rattle.cns_terms.specs.Conversions.{converted, fraction, in_exchange, in_lieu}
-use Rattle.cns_terms.specs.Entries.{against_corporation, corporation, entries, entry, execution_entries, holders, moved_in, moved_out, new_entry, old_entry, posting}
+use Rattle.cns_terms.specs.Entries.{against_corporation, buyer_entry, corporation, entries, entry, execution_entries, holders, moved_in, moved_out, new_entry, old_entry, posting, seller_entry, trade_entries}
 use Rattle.cns_terms.specs.Limits.{booking_limit, member_limit, money_limit, position_limit, price_limit, ratio_limit}
 use Rattle.cns_terms.specs.Listings.{members}
 use Rattle.cns_terms.specs.Notices.{Notice, notice_at}
+use Rattle.cns_terms.specs.Pending.{bought_in, due, is_due, pend_of, pending, sold_in, trades}
 use Rattle.cns_terms.specs.Reached.{IsInRange, IsRatio}
 use Rattle.cns_terms.specs.Positions.{cents_for, money, position, shares_for}
 use Rattle.cns_terms.specs.Postings.{Journal, Posting}
-use Rattle.cns_terms.specs.Refusals.{is_beyond, is_exceeded, is_too_large, rules}
-use Rattle.cns_terms.specs.Sums.{short, total}
+use Rattle.cns_terms.specs.Refusals.{is_beyond, is_exceeded, is_too_large, is_too_large_at, places, rules}
+use Rattle.cns_terms.specs.Sums.{long, short, total}
 use Rattle.cns_terms.proofs.Accounts.{occurs}
-use Rattle.cns_terms.proofs.BuyIns.{IsExecutable, executable, executed_within, execution_cents}
+use Rattle.cns_terms.proofs.BuyIns.{IsExecutable, executable, executed_closer, execution_cents}
+use Rattle.cns_terms.proofs.Closer.{IsCloser, as_close, off_long, off_short}
 use Rattle.cns_terms.proofs.EntrySums.{entries_for}
 use Rattle.cns_terms.proofs.Everywhere.{each_found, each_weaker}
 use Rattle.cns_terms.proofs.Facts.{and_left, and_right, neither}
@@ -39,16 +44,35 @@ use Rattle.cns_terms.proofs.Magnitudes.{added, added-append, added-each, added-f
 use Rattle.cns_terms.proofs.Quotients.{fraction_few, quotient_few}
 use Rattle.cns_terms.proofs.Sound.{IsSound, IsWhole, NoneHolds, all_fail}
 use Rattle.cns_terms.proofs.Totals.{total-map}
+use Rattle.cns_terms.proofs.Waiting.{booked_cents, booked_shares, both_cents, bought_added, bought_by, settled, sold_added, sold_by}
 
--- a position within a member's limits
-abbrev pub IsWithin : ℤ → Type 0
-IsWithin q = unsigned_abs q ≤ position_limit
+-- a position alone is within a member's limits
+abbrev pub IsNear : ℤ → Type 0
+IsNear q = unsigned_abs q ≤ position_limit
 
--- each member's position is within its limits
-abbrev pub AreWithin : Journal → Type 0
-AreWithin J = (a : Account) (c : Cusip) → 1 ≤ a → IsWithin (position J a c)
+-- a member is within its limits: its position, with the shares that it is to get and to give by trades that wait
+pub record IsWithin (q : ℤ) (bought sold : ℕ) : Type 0 where
+  pub above : long q + bought ≤ position_limit
+  pub below : short q + sold ≤ position_limit
 
--- ---- two entries
+-- each member is within its limits
+abbrev pub AreWithin : Day → Journal → Type 0
+AreWithin opening J = (a : Account) (c : Cusip) → 1 ≤ a → IsWithin (position J a c) (bought_in (pending opening J) a c) (sold_in (pending opening J) a c)
+
+-- then its position alone is
+pub near : (q : ℤ) (b s : ℕ) → IsWithin q b s → IsNear q
+near (pos q) b s w = omega (arith, ints, w.above)
+near (negsuc q) b s w = omega (arith, ints, w.below)
+
+-- a position that comes closer to zero
+closer_within : (z q : ℤ) (b s : ℕ) → IsCloser z q → IsWithin q b s → IsWithin z b s
+closer_within z q b s k w = record { above = omega (arith, k.above, w.above); below = omega (arith, k.below, w.below) }
+
+-- nothing is booked
+nothing : (z q : ℤ) (b s : ℕ) → z ≡ pos 0 → IsWithin q b s → IsWithin (z +ℤ q) b s
+nothing z q b s e w = closer_within (z +ℤ q) q b s (as_close (z +ℤ q) q (omega (arith, ints, e))) w
+
+-- ---- places
 
 -- whether an entry is of an account and an issue
 abbrev is_of : Account → Cusip → Entry → Bool
@@ -60,40 +84,84 @@ at_place P a c e h p =
     subst (λ (d : Cusip). P a d) ((bytes_eq-Decides e.issue c).0 (and_right _ _ h))
     (subst (λ (b : Account). P b e.issue) (eqb-true e.account a (and_left _ _ h)) p)
 
+-- what is not refused as too large is within the limits
+not_beyond : (a : ℕ) (q : ℤ) (b s : ℕ) → (nat_lt corporation a && is_beyond q b s) ≡ false → 1 ≤ a → IsWithin q b s
+not_beyond a q b s h m =
+    let both = neither (nat_lt position_limit (long q + b)) _ (of_member (nat_lt corporation a) _ (from_one a m) h) in
+    record { above = no_more position_limit (long q + b) both.0; below = no_more position_limit (short q + s) both.1 }
+  where
+    from_one : (a : ℕ) → 1 ≤ a → nat_lt corporation a ≡ true
+    from_one a h = grind (arith, nat_tests)
+
+    of_member : (t b : Bool) → t ≡ true → (t && b) ≡ false → b ≡ false
+    of_member true b t h = h
+    of_member false b t h = cc
+
+    no_more : (m n : ℕ) → nat_lt m n ≡ false → n ≤ m
+    no_more m n h = grind (arith, nat_tests)
+
+-- entries of other places book nothing at a place
+none_there : (a : Account) (c : Cusip) (es : List Entry) → list_any (is_of a c) es ≡ false → total (shares_for a c) es ≡ pos 0
+none_there a c [] h = refl
+none_there a c (e ∷ es) h =
+    let both = neither (is_of a c e) (list_any (is_of a c) es) h in
+    rw (both.0, none_there a c es both.1) refl
+
+-- where no entry's place is beyond the limits, a member is within them at a place, or no entry is there
+within_or_none : (T : Account → Cusip → ℤ) (B S : Account → Cusip → ℕ) (a : Account) (c : Cusip) (es : List Entry) → 1 ≤ a
+    → list_any (λ e. nat_lt corporation e.account && is_beyond (T e.account e.issue) (B e.account e.issue) (S e.account e.issue)) es ≡ false
+    → IsWithin (T a c) (B a c) (S a c) ⊎ (list_any (is_of a c) es ≡ false)
+within_or_none T B S a c [] m h = inr refl
+within_or_none T B S a c (e ∷ es) m h =
+    let both = neither (nat_lt corporation e.account && is_beyond (T e.account e.issue) (B e.account e.issue) (S e.account e.issue)) _ h in
+    here (is_of a c e) refl both.0 (within_or_none T B S a c es m both.1)
+  where
+    here : (t : Bool) → is_of a c e ≡ t → (nat_lt corporation e.account && is_beyond (T e.account e.issue) (B e.account e.issue) (S e.account e.issue)) ≡ false → IsWithin (T a c) (B a c) (S a c) ⊎ (list_any (is_of a c) es ≡ false) → IsWithin (T a c) (B a c) (S a c) ⊎ (list_any (is_of a c) (e ∷ es) ≡ false)
+    here true is fails rest = inl (not_beyond a (T a c) (B a c) (S a c) (at_place (λ b d. (nat_lt corporation b && is_beyond (T b d) (B b d) (S b d)) ≡ false) a c e is fails) m)
+    here false is fails (inl w) = inl w
+    here false is fails (inr z) = inr (ap (λ b. b || list_any (is_of a c) es) is ∙ z)
+
 -- ---- activities that are looked at as a whole
 
--- nothing added
-nothing : (q : ℤ) → IsWithin q → IsWithin (pos 0 +ℤ q)
-nothing q h = omega (arith, ints, h)
-
--- what is not refused as too large is within the limits
-not_beyond : (a : ℕ) (q : ℤ) → (nat_lt corporation a && is_beyond q) ≡ false → 1 ≤ a → IsWithin q
-not_beyond a q h m = grind (arith, nat_tests)
-
--- no shares at a place, with an entry more that is elsewhere
-none_more : (b : Bool) (n r : ℤ) → b ≡ false → r ≡ pos 0 → cond b n (pos 0) +ℤ r ≡ pos 0
-none_more true n r e z = cc
-none_more false n r e z = omega (arith, ints, z)
-
--- where no entry's place is beyond the limits, a member's position is within them, or nothing is booked there
-within_or_none : (T : Account → Cusip → ℤ) (a : Account) (c : Cusip) (es : List Entry) → 1 ≤ a → list_any (λ e. nat_lt corporation e.account && is_beyond (T e.account e.issue)) es ≡ false → IsWithin (T a c) ⊎ (total (shares_for a c) es ≡ pos 0)
-within_or_none T a c [] m h = inr refl
-within_or_none T a c (e ∷ es) m h =
-    let both = neither (nat_lt corporation e.account && is_beyond (T e.account e.issue)) (list_any (λ e. nat_lt corporation e.account && is_beyond (T e.account e.issue)) es) h in
-    here (is_of a c e) refl both.0 (within_or_none T a c es m both.1)
-  where
-    here : (t : Bool) → is_of a c e ≡ t → (nat_lt corporation e.account && is_beyond (T e.account e.issue)) ≡ false → IsWithin (T a c) ⊎ (total (shares_for a c) es ≡ pos 0) → IsWithin (T a c) ⊎ (total (shares_for a c) (e ∷ es) ≡ pos 0)
-    here true is fails rest = inl (not_beyond a (T a c) (at_place (λ b d. (nat_lt corporation b && is_beyond (T b d)) ≡ false) a c e is fails) m)
-    here false is fails (inl w) = inl w
-    here false is fails (inr z) = inr (none_more (is_of a c e) e.shares (total (shares_for a c) es) is z)
-
--- such an activity keeps each member's position within its limits
-within-whole : (opening : Day) (J : Journal) (x : Activity) → is_too_large opening J x ≡ false → AreWithin J → AreWithin (posting opening J x ∷ J)
-within-whole opening J x fails w a c m =
-    elim (within_or_none (λ a c. total (shares_for a c) (entries opening J x) +ℤ position J a c) a c (entries opening J x) m fails) [
+-- such an activity keeps each member within its limits
+within-whole : (opening : Day) (J : Journal) (x : Activity) → places opening J x ≡ entries opening J x → pending opening (posting opening J x ∷ J) ≡ pending opening J → is_too_large opening J x ≡ false → AreWithin opening J → AreWithin opening (posting opening J x ∷ J)
+within-whole opening J x all still fails w a c m =
+    let ps = pending opening (posting opening J x ∷ J) in
+    let es = entries opening J x in
+    elim (within_or_none (λ a c. total (shares_for a c) es +ℤ position J a c) (bought_in ps) (sold_in ps) a c es m (ap (list_any (is_too_large_at (position J) ps es)) (sym all) ∙ fails)) [
       | inl h ↦ h
-      | inr z ↦ rw z (nothing (position J a c) (w a c m))
+      | inr z ↦ subst (λ qs. IsWithin (total (shares_for a c) es +ℤ position J a c) (bought_in qs a c) (sold_in qs a c)) (sym still)
+          (nothing (total (shares_for a c) es) (position J a c) _ _ (none_there a c es z) (w a c m))
     ]
+
+-- a trade that waits elsewhere changes nothing at a place
+waits_elsewhere : (p : Pend) (ps : List Pend) (a : Account) (c : Cusip) → list_any (is_of a c) (trade_entries p) ≡ false → (bought_in (p ∷ ps) a c ≡ bought_in ps a c) × (sold_in (p ∷ ps) a c ≡ sold_in ps a c)
+waits_elsewhere p ps a c h =
+    let buyer = neither (is_of a c (buyer_entry p)) _ h in
+    let seller = neither (is_of a c (seller_entry p)) false buyer.1 in
+    let bought : bought_in (p ∷ ps) a c ≡ 0 + bought_in ps a c = sum_by-cons (bought_by a c) p ps ∙ ap (λ b. cond b p.shares 0 + bought_in ps a c) buyer.0 in
+    let sold : sold_in (p ∷ ps) a c ≡ 0 + sold_in ps a c = sum_by-cons (sold_by a c) p ps ∙ ap (λ b. cond b p.shares 0 + sold_in ps a c) seller.0 in
+    (omega (arith, bought), omega (arith, sold))
+
+-- a trade keeps each member within its limits, whether it books now or later
+within-trade : (opening : Day) (J : Journal) (t : Trade) → is_too_large opening J (activity.Trade t) ≡ false → AreWithin opening J → AreWithin opening (posting opening J (activity.Trade t) ∷ J)
+within-trade opening J t fails w a c m =
+    let p = pend_of t in
+    let x : Activity = activity.Trade t in
+    let ps = pending opening (posting opening J x ∷ J) in
+    let es = entries opening J x in
+    elim (within_or_none (λ a c. total (shares_for a c) es +ℤ position J a c) (bought_in ps) (sold_in ps) a c (trade_entries p) m fails) [
+      | inl h ↦ h
+      | inr z ↦ elsewhere (is_due (date opening J) p) z
+    ]
+  where
+    elsewhere : (b : Bool) → list_any (is_of a c) (trade_entries (pend_of t)) ≡ false
+        → IsWithin (total (shares_for a c) (cond b (trade_entries (pend_of t)) []) +ℤ position J a c)
+        (bought_in (cond (not b) (pend_of t ∷ pending opening J) (pending opening J)) a c) (sold_in (cond (not b) (pend_of t ∷ pending opening J) (pending opening J)) a c)
+    elsewhere true z = nothing _ (position J a c) _ _ (none_there a c (trade_entries (pend_of t)) z) (w a c m)
+    elsewhere false z =
+        let same = waits_elsewhere (pend_of t) (pending opening J) a c z in
+        rw (same.0, same.1) (nothing (pos 0) (position J a c) _ _ refl (w a c m))
 
 -- ---- a movement
 
@@ -101,40 +169,44 @@ within-whole opening J x fails w a c m =
 apart : (a : Account) → 1 ≤ a → (corporation == a) ≡ false
 apart a h = grind (arith, nat_tests)
 
--- shares that come off a short position leave it within the limits
-off_short : (q : ℤ) (n : ℕ) → nat_lt (short q) n ≡ false → IsWithin q → IsWithin (q +ℤ pos n)
-off_short (pos k) n h le = grind (arith, nat_tests, ints)
-off_short (negsuc k) n h le = grind (arith, nat_tests, ints)
+-- no more shares than a position is short
+few_short : (q : ℤ) (n : ℕ) → nat_lt (short q) n ≡ false → n ≤ short q
+few_short q n h = grind (arith, nat_tests)
 
--- shares that come off a long position leave it within the limits
-off_long : (q : ℤ) (n : ℕ) → is_exceeded q n ≡ false → int_le q (pos 0) ≡ false → IsWithin q → IsWithin (q +ℤ neg_ℤ (pos n))
-off_long (pos k) n h l le = grind (arith, nat_tests, ints)
-off_long (negsuc k) n h l le = absurd (cc)
+-- no more than it is long
+few_long : (q : ℤ) (n : ℕ) → is_exceeded q n ≡ false → int_le q (pos 0) ≡ false → n ≤ long q
+few_long (pos k) n h l = grind (arith, nat_tests, ints)
+few_long (negsuc k) n h l = absurd (cc)
 
--- a movement leaves a position within the limits, where it does so at the member's place
-moved_if : (t : Bool) (s q : ℤ) → (t ≡ true → IsWithin (q +ℤ s)) → IsWithin q → IsWithin ((cond t s (pos 0) +ℤ (pos 0 +ℤ pos 0)) +ℤ q)
-moved_if true s q h le = let e = h refl in omega (arith, ints, e)
-moved_if false s q h le = omega (arith, ints, le)
+-- a movement brings a position closer to zero, where it does so at the member's place
+moved_if : (t : Bool) (s q : ℤ) → (t ≡ true → IsCloser (q +ℤ s) q) → IsCloser ((cond t s (pos 0) +ℤ (pos 0 +ℤ pos 0)) +ℤ q) q
+moved_if true s q h = subst (λ z. IsCloser z q) (other_way s q) (h refl)
+  where
+    other_way : (s q : ℤ) → q +ℤ s ≡ (s +ℤ (pos 0 +ℤ pos 0)) +ℤ q
+    other_way s q = omega (arith, ints)
+moved_if false s q h = as_close _ q (omega (arith, ints))
 
--- a delivery keeps each member's position within its limits
-within-deliver : (opening : Day) (J : Journal) (m : Movement) → NoneHolds (rules opening J (activity.Deliver m)) → AreWithin J → AreWithin (posting opening J (activity.Deliver m) ∷ J)
+-- a delivery keeps each member within its limits
+within-deliver : (opening : Day) (J : Journal) (m : Movement) → NoneHolds (rules opening J (activity.Deliver m)) → AreWithin opening J → AreWithin opening (posting opening J (activity.Deliver m) ∷ J)
 within-deliver opening J m h w a c n =
     let fails = (all_fail (rules opening J (activity.Deliver m)) h).1.1.1 in
     let e = moved_in m.member m in
     let q : ℤ = position J a c in
     rw (apart a n)
-    (moved_if (is_of a c e) e.shares q (λ here. off_short q m.shares (at_place (λ b d. nat_lt (short (position J b d)) m.shares ≡ false) a c e here fails.0) (w a c n)) (w a c n))
+    (closer_within _ q _ _ (moved_if (is_of a c e) e.shares q (λ here. off_short _ q m.shares refl (few_short q m.shares (at_place (λ b d. nat_lt (short (position J b d)) m.shares ≡ false) a c e here fails.0)))) (w a c n))
 
 -- and so does a receipt
-within-receive : (opening : Day) (J : Journal) (m : Movement) → NoneHolds (rules opening J (activity.Receive m)) → AreWithin J → AreWithin (posting opening J (activity.Receive m) ∷ J)
+within-receive : (opening : Day) (J : Journal) (m : Movement) → NoneHolds (rules opening J (activity.Receive m)) → AreWithin opening J → AreWithin opening (posting opening J (activity.Receive m) ∷ J)
 within-receive opening J m h w a c n =
     let fails = (all_fail (rules opening J (activity.Receive m)) h).1.1.1 in
     let e = moved_out m.member m in
     let q : ℤ = position J a c in
     rw (apart a n)
-    (moved_if (is_of a c e) e.shares q (λ here. off_long q m.shares
+    (closer_within _ q _ _ (moved_if (is_of a c e) e.shares q (λ here. off_long _ q m.shares refl (few_long q m.shares
     (at_place (λ b d. is_exceeded (position J b d) m.shares ≡ false) a c e here fails.0)
-    (at_place (λ b d. int_le (position J b d) (pos 0) ≡ false) a c e here fails.1.1.0) (w a c n)) (w a c n))
+    (at_place (λ b d. int_le (position J b d) (pos 0) ≡ false) a c e here fails.1.1.0)))) (w a c n))
+
+-- ---- an execution
 
 -- no member was twice at a close
 once_at : (opening : Day) (J : Journal) (n : ℕ) (a : Account) → IsWhole opening J → occurs a (members (at_close J n)) ≤ 1
@@ -144,27 +216,48 @@ once_at opening J n a w = each_found (λ K. occurs a (members K) ≤ 1) (λ K. d
 ready : (opening : Day) (J : Journal) (x : Execution) → NoneHolds (rules opening J (activity.Execute x)) → IfSome (notice_at J x.notice) (IsExecutable J x)
 ready opening J x h = let fails = all_fail (rules opening J (activity.Execute x)) h in executable J x (notice_at J x.notice) fails.0 fails.1.1.0 fails.1.1.1.1.0
 
--- an execution keeps each member's position within its limits
-within-execute : (opening : Day) (J : Journal) (x : Execution) → IsWhole opening J → AreWithin J → (o : Option Notice) → IfSome o (IsExecutable J x) → (a : Account) (c : Cusip) → 1 ≤ a → IsWithin (total (shares_for a c) (option_map_or (execution_entries J x) o []) +ℤ position J a c)
-within-execute opening J x whole w None h a c m = nothing (position J a c) (w a c m)
-within-execute opening J x whole w (Some k) h a c m = executed_within J x k a c position_limit h (once_at opening J k.given.day a whole) (w a c m)
+-- an execution keeps each member within its limits
+within-execute : (opening : Day) (J : Journal) (x : Execution) → IsWhole opening J → AreWithin opening J → (o : Option Notice) → IfSome o (IsExecutable J x) → (a : Account) (c : Cusip) → 1 ≤ a → IsWithin (total (shares_for a c) (option_map_or (execution_entries J x) o []) +ℤ position J a c) (bought_in (pending opening J) a c) (sold_in (pending opening J) a c)
+within-execute opening J x whole w None h a c m = nothing (pos 0) (position J a c) _ _ refl (w a c m)
+within-execute opening J x whole w (Some k) h a c m = closer_within _ (position J a c) _ _ (executed_closer J x k a c h (once_at opening J k.given.day a whole)) (w a c m)
+
+-- ---- a close
+
+-- shares that waited are booked
+booked_within : (z q : ℤ) (b s bought sold : ℕ) → z ≡ (pos bought -ℤ pos sold) +ℤ q → IsWithin q (b + bought) (s + sold) → IsWithin z b s
+booked_within (pos z) (pos q) b s bought sold e w = record { above = omega (arith, ints, e, w.above); below = omega (arith, ints, e, w.below) }
+booked_within (pos z) (negsuc q) b s bought sold e w = record { above = omega (arith, ints, e, w.above); below = omega (arith, ints, e, w.below) }
+booked_within (negsuc z) (pos q) b s bought sold e w = record { above = omega (arith, ints, e, w.above); below = omega (arith, ints, e, w.below) }
+booked_within (negsuc z) (negsuc q) b s bought sold e w = record { above = omega (arith, ints, e, w.above); below = omega (arith, ints, e, w.below) }
+
+-- a close keeps each member within its limits
+within-close : (opening : Day) (J : Journal) (d : Day) → is_not_after d (date opening J) ≡ false → AreWithin opening J → AreWithin opening (posting opening J (activity.Close d) ∷ J)
+within-close opening J d later w a c m =
+    let left = filter (λ p. not (is_due d p)) (trades J) in
+    let booked = booked_shares a c (due opening J d) in
+    let bought = bought_added (pending opening J) a c ∙ settled (bought_by a c) opening J d later ∙ ap (λ n. n + added (bought_by a c) (due opening J d)) (sym (bought_added left a c)) in
+    let sold = sold_added (pending opening J) a c ∙ settled (sold_by a c) opening J d later ∙ ap (λ n. n + added (sold_by a c) (due opening J d)) (sym (sold_added left a c)) in
+    booked_within _ (position J a c) _ _ (added (bought_by a c) (due opening J d)) (added (sold_by a c) (due opening J d)) (ap (λ z. z +ℤ position J a c) booked)
+    (subst (λ s. IsWithin (position J a c) (bought_in left a c + added (bought_by a c) (due opening J d)) s) sold
+    (subst (λ b. IsWithin (position J a c) b (sold_in (pending opening J) a c)) bought (w a c m)))
 
 -- ---- one more activity
 
--- an activity that is not refused keeps each member's position within its limits
-pub within-post : (opening : Day) (J : Journal) (x : Activity) → NoneHolds (rules opening J x) → IsWhole opening J → AreWithin J → AreWithin (posting opening J x ∷ J)
-within-post opening J (activity.Trade t) h whole w = within-whole opening J (activity.Trade t) (all_fail (rules opening J (activity.Trade t)) h).1.1.1.1.1.1.0 w
+-- an activity that is not refused keeps each member within its limits
+pub within-post : (opening : Day) (J : Journal) (x : Activity) → NoneHolds (rules opening J x) → IsWhole opening J → AreWithin opening J → AreWithin opening (posting opening J x ∷ J)
+within-post opening J (activity.Trade t) h whole w = within-trade opening J t (all_fail (rules opening J (activity.Trade t)) h).1.1.1.1.1.1.0 w
 within-post opening J (activity.Deliver m) h whole w = within-deliver opening J m h w
 within-post opening J (activity.Receive m) h whole w = within-receive opening J m h w
-within-post opening J (activity.Split s) h whole w = within-whole opening J (activity.Split s) (all_fail (rules opening J (activity.Split s)) h).1.1.0 w
-within-post opening J (activity.Exchange x) h whole w = within-whole opening J (activity.Exchange x) (all_fail (rules opening J (activity.Exchange x)) h).1.1.1.0 w
-within-post opening J (activity.Notice m) h whole w = λ a c m. nothing (position J a c) (w a c m)
+within-post opening J (activity.Split s) h whole w = within-whole opening J (activity.Split s) refl refl (all_fail (rules opening J (activity.Split s)) h).1.1.0 w
+within-post opening J (activity.Exchange x) h whole w = within-whole opening J (activity.Exchange x) refl refl (all_fail (rules opening J (activity.Exchange x)) h).1.1.1.0 w
+within-post opening J (activity.Notice m) h whole w = λ a c n. nothing (pos 0) (position J a c) _ _ refl (w a c n)
 within-post opening J (activity.Execute x) h whole w = within-execute opening J x whole w (notice_at J x.notice) (ready opening J x h)
-within-post opening J _ h whole w = λ a c m. nothing (position J a c) (w a c m)
+within-post opening J (activity.Close d) h whole w = within-close opening J d (all_fail (rules opening J (activity.Close d)) h).0 w
+within-post opening J _ h whole w = λ a c m. nothing (pos 0) (position J a c) _ _ refl (w a c m)
 
 -- ---- cents
 
--- the cents of an activity for an account in an issue, and those of the open day, are as few as activities can make them
+-- the open day's cents of an account in an issue are as few as activities can make them
 abbrev pub HasFewCents : Journal → Type 0
 HasFewCents J = (a : Account) (c : Cusip) → unsigned_abs (money J a c) ≤ booking_limit * length J
 
@@ -194,7 +287,7 @@ abbrev holder_limit : ℕ
 holder_limit = ratio_limit * price_limit + position_limit * price_limit
 
 -- those of an exchange
-exchange_few : (r : Ratio) (lieu cash : Price) (q : ℤ) → IsRatio r → lieu ≤ price_limit → cash ≤ price_limit → IsWithin q → unsigned_abs (in_exchange r lieu cash q) ≤ holder_limit
+exchange_few : (r : Ratio) (lieu cash : Price) (q : ℤ) → IsRatio r → lieu ≤ price_limit → cash ≤ price_limit → IsNear q → unsigned_abs (in_exchange r lieu cash q) ≤ holder_limit
 exchange_few r lieu cash q ratio h k w =
     sum_few (in_lieu r lieu q) (q *ℤ pos cash) (lieu_few r lieu q ratio h) (cash_few (unsigned_abs q) cash (unsigned_abs (q *ℤ pos cash)) (unsigned_abs-mul q (pos cash)) w k)
   where
@@ -205,20 +298,20 @@ exchange_few r lieu cash q ratio h k w =
     sum_few x y p q = omega (arith, ints, p, q)
 
 -- who is within the limits of positions, of members that are few
-pub record AreFewHolders (J : Journal) : Type 0 where
-  pub within : AreWithin J
+pub record AreFewHolders (opening : Day) (J : Journal) : Type 0 where
+  pub within : AreWithin opening J
   pub numbers : AllByRecursion (λ a. 1 ≤ a) (members J)
   pub few : length (members J) ≤ member_limit
 
 -- the cents of the corporation and of members with an entry each
-against_few : (J : Journal) (c d : Cusip) (shares : Account → ℤ) (f : ℤ → ℤ) (m : ℕ) → AreFewHolders J → ((q : ℤ) → IsWithin q → unsigned_abs (f q) ≤ m)
+against_few : {opening : Day} (J : Journal) (c d : Cusip) (shares : Account → ℤ) (f : ℤ → ℤ) (m : ℕ) → AreFewHolders opening J → ((q : ℤ) → IsNear q → unsigned_abs (f q) ≤ m)
     → magnitude (λ e. e.cents) (against_corporation c (entries_for c shares (λ a. f (position J a d)) (holders (λ a. position J a d) (members J)))) ≤ 2 * (m * member_limit)
 against_few J c d shares f m are small =
     let q : Account → ℤ = λ a. position J a d in
     let hs : List Account = holders q (members J) in
     let w : Account → ℤ = λ a. f (q a) in
     let g : Account → Entry = λ a. entry a c (shares a) (w a) in
-    let each = each_weaker (λ a. 1 ≤ a) (λ a. unsigned_abs (w a) ≤ m) (members J) (λ a k. small (q a) (are.within a d k)) are.numbers in
+    let each = each_weaker (λ a. 1 ≤ a) (λ a. unsigned_abs (w a) ≤ m) (members J) (λ a k. small (q a) (near (q a) _ _ (are.within a d k))) are.numbers in
     let all = added-each (λ a. unsigned_abs (w a)) m (members J) each in
     let some = added-filter (λ a. unsigned_abs (w a)) (λ a. not (int_eq (q a) (pos 0))) (members J) in
     let few = mul-le-mul_left m are.few in
@@ -237,21 +330,50 @@ execution_few : (J : Journal) (x : Execution) (o : Option Notice) → 1 ≤ x.sh
 execution_few J x None some few h = omega arith
 execution_few J x (Some k) some few h = omega (arith, few, execution_cents J x k some h)
 
--- an activity that is not refused books few cents
-pub booked_few : (opening : Day) (J : Journal) (x : Activity) → IsInRange x → NoneHolds (rules opening J x) → AreFewHolders J → cents_of (posting opening J x) ≤ booking_limit
-booked_few opening J (activity.Trade t) r h are = two_cents t.money (unsigned_abs (neg_ℤ (pos t.money))) r (no_sign t.money)
+-- the cents of trades that wait, on either side
+abbrev pub waiting_cents : Day → Journal → ℕ
+waiting_cents opening J = added both_cents (pending opening J)
+
+-- cents that are booked are few, with those that wait
+with_waiting : (m n : ℕ) → m ≤ booking_limit → m + n ≤ booking_limit + n
+with_waiting m n h = omega (arith, h)
+
+-- a trade's cents are booked now, or wait
+trade_few : (b : Bool) (p : Pend) (ps : List Pend) → p.cents ≤ money_limit → magnitude (λ (e : Entry). e.cents) (cond b (trade_entries p) []) + added both_cents (cond (not b) (p ∷ ps) ps) ≤ booking_limit + added both_cents ps
+trade_few true p ps h = with_waiting _ (added both_cents ps) (two_cents p.cents (unsigned_abs (neg_ℤ (pos p.cents))) h (no_sign p.cents))
+trade_few false p ps h = omega (arith, h)
+
+-- at a close they are booked that waited
+close_few : (opening : Day) (J : Journal) (d : Day) → is_not_after d (date opening J) ≡ false → cents_of (posting opening J (activity.Close d)) + waiting_cents opening (posting opening J (activity.Close d) ∷ J) ≤ booking_limit + waiting_cents opening J
+close_few opening J d later = omega (arith, booked_cents (due opening J d), settled both_cents opening J d later)
+
+-- an activity that is not refused books few cents, but those that waited
+pub booked_few : (opening : Day) (J : Journal) (x : Activity) → IsInRange x → NoneHolds (rules opening J x) → AreFewHolders opening J → cents_of (posting opening J x) + waiting_cents opening (posting opening J x ∷ J) ≤ booking_limit + waiting_cents opening J
+booked_few opening J (activity.Trade t) r h are = trade_few (is_not_after t.date (date opening J)) (pend_of t) (pending opening J) r
 booked_few opening J (activity.Split s) r h are =
     let q : Account → ℤ = λ a. position J a s.issue in
-    omega (arith, against_few J s.issue s.issue (λ a. converted s.ratio (q a) -ℤ q a) (in_lieu s.ratio s.lieu) holder_limit are (λ z w. omega (arith, lieu_few s.ratio s.lieu z r.0 r.1)))
+    with_waiting _ (waiting_cents opening J) (omega (arith, against_few J s.issue s.issue (λ a. converted s.ratio (q a) -ℤ q a) (in_lieu s.ratio s.lieu) holder_limit are (λ z w. omega (arith, lieu_few s.ratio s.lieu z r.0 r.1))))
 booked_few opening J (activity.Exchange x) r h are =
     let q : Account → ℤ = λ a. position J a x.old in
     let hs : List Account = holders q (members J) in
-    both_few _ _ _
+    with_waiting _ (waiting_cents opening J) (both_few _ _ _
     (added-append (λ (e : Entry). unsigned_abs e.cents) (against_corporation x.old (map (old_entry x q) hs)) (against_corporation x.successor (map (new_entry x q) hs)))
     (against_few J x.old x.old (λ a. neg_ℤ (q a)) (λ z. pos 0) 0 are (λ z w. omega arith))
-    (against_few J x.successor x.old (λ a. converted x.ratio (q a)) (in_exchange x.ratio x.lieu x.cash) holder_limit are (λ z w. exchange_few x.ratio x.lieu x.cash z r.0 r.1 r.2 w))
-booked_few opening J (activity.Execute x) r h are = execution_few J x (notice_at J x.notice) r.0 r.2 (ready opening J x h)
-booked_few opening J _ r h are = omega arith
+    (against_few J x.successor x.old (λ a. converted x.ratio (q a)) (in_exchange x.ratio x.lieu x.cash) holder_limit are (λ z w. exchange_few x.ratio x.lieu x.cash z r.0 r.1 r.2 w)))
+booked_few opening J (activity.Execute x) r h are = with_waiting _ (waiting_cents opening J) (execution_few J x (notice_at J x.notice) r.0 r.2 (ready opening J x h))
+booked_few opening J (activity.Close d) r h are = close_few opening J d (all_fail (rules opening J (activity.Close d)) h).0
+booked_few opening J (activity.Notice m) r h are = with_waiting 0 (waiting_cents opening J) (omega arith)
+booked_few opening J _ r h are = with_waiting 0 (waiting_cents opening J) (omega arith)
+
+-- the open day's postings, or none after a close
+open_or_none : (b : Bool) (J : Journal) (n : ℕ) → added cents_of (open_day J) ≤ n → added cents_of (cond b [] (open_day J)) ≤ n
+open_or_none true J n h = omega arith
+open_or_none false J n h = h
+
+-- the open day's cents are among the journal's
+pub open_small : (J : Journal) → added cents_of (open_day J) ≤ added cents_of J
+open_small [] = omega arith
+open_small (p ∷ J) = let rest = open_or_none (is_close p.activity) J (added cents_of J) (open_small J) in omega (arith, rest)
 
 -- the cents at one place are among them
 at_one_place : (a : Account) (c : Cusip) (es : List Entry) → unsigned_abs (total (cents_for a c) es) ≤ magnitude (λ e. e.cents) es
@@ -261,15 +383,12 @@ at_one_place a c es = omega (arith, total_small (cents_for a c) es, added-more (
     given_or_not true z = omega arith
     given_or_not false z = omega arith
 
--- a few cents more, and at a close a new day's
-more_cents : (b : Bool) (e m : ℤ) (n : ℕ) → unsigned_abs e ≤ booking_limit → unsigned_abs m ≤ booking_limit * n → unsigned_abs (e +ℤ cond b (pos 0) m) ≤ booking_limit * suc n
-more_cents true e m n p q = omega (arith, ints, p, q)
-more_cents false e m n p q = omega (arith, ints, p, q)
-
-open_cents : (b : Bool) (a : Account) (c : Cusip) (K : Journal) → total (λ p. total (cents_for a c) p.entries) (cond b [] K) ≡ cond b (pos 0) (total (λ p. total (cents_for a c) p.entries) K)
-open_cents true a c K = refl
-open_cents false a c K = refl
-
-pub cents-post : (opening : Day) (J : Journal) (x : Activity) → cents_of (posting opening J x) ≤ booking_limit → HasFewCents J → HasFewCents (posting opening J x ∷ J)
-cents-post opening J x few h a c =
-    rw (open_cents (is_close x) a c (open_day J)) (more_cents (is_close x) (total (cents_for a c) (entries opening J x)) (money J a c) (length J) (omega (arith, at_one_place a c (entries opening J x), few)) (h a c))
+-- the open day's cents at a place are among the journal's
+pub money_few : (J : Journal) (a : Account) (c : Cusip) → unsigned_abs (money J a c) ≤ added cents_of J
+money_few J a c =
+    omega (
+      arith,
+      total_small (λ p. total (cents_for a c) p.entries) (open_day J),
+      added-more (λ (p : Posting). unsigned_abs (total (cents_for a c) p.entries)) cents_of (open_day J) (λ p. at_one_place a c p.entries),
+      open_small J,
+    )

@@ -28,7 +28,7 @@ use Rattle.cns_terms.specs.Sums.{total}
 use Rattle.cns_terms.proofs.Balanced.{entries_balanced}
 use Rattle.cns_terms.proofs.Facts.{and_left, and_right}
 use Rattle.cns_terms.proofs.Everywhere.{each_in_order, each_weaker}
-use Rattle.cns_terms.proofs.Limits.{AreFewHolders, AreWithin, HasFewCents, IsWithin, booked_few, cents-post, cents_of, within-post}
+use Rattle.cns_terms.proofs.Limits.{AreFewHolders, AreWithin, HasFewCents, IsNear, booked_few, cents_of, money_few, near, waiting_cents, within-post}
 use Rattle.cns_terms.proofs.Magnitudes.{added as added_up}
 use Rattle.cns_terms.proofs.Rising.{above_all, is_rising}
 use Rattle.cns_terms.proofs.Sound.{IsWhole, NoneHolds, whole-post, whole_nil}
@@ -57,10 +57,10 @@ pub record IsLimited (opening : Day) (J : Journal) : Type 0 where
   pub whole : IsWhole opening J
   pub balanced : AreBalanced J
   pub numbered : AreNumbered J
-  pub within : AreWithin J
+  pub within : AreWithin opening J
   pub cents : HasFewCents J
   pub rates : AreSmallRates (dividends J)
-  pub booked : added_up cents_of J ≤ booking_limit * length J
+  pub booked : added_up cents_of J + waiting_cents opening J ≤ booking_limit * length J
 
 -- ---- the corporation's position makes up for the members'
 
@@ -79,11 +79,11 @@ few_rising a n [] h rise most = omega (arith, h)
 few_rising a n (b ∷ bs) h rise most = omega (arith, less_than a b (and_left _ _ (and_left _ _ rise)), few_rising b n bs most.0 (and_right (above_all nat_cmp a (b ∷ bs)) _ rise) most.1)
 
 -- one more within the limits
-one_more : (q r : ℤ) (n : ℕ) → IsWithin q → unsigned_abs r ≤ position_limit * n → unsigned_abs (q +ℤ r) ≤ position_limit * (n + 1)
+one_more : (q r : ℤ) (n : ℕ) → IsNear q → unsigned_abs r ≤ position_limit * n → unsigned_abs (q +ℤ r) ≤ position_limit * (n + 1)
 one_more q r n h k = omega (arith, ints, h, k)
 
 -- what is within the limits each adds up to no more than the limits together
-total_within : (f : ℕ → ℤ) (bs : List ℕ) → AllByRecursion (λ b. IsWithin (f b)) bs → unsigned_abs (total f bs) ≤ position_limit * length bs
+total_within : (f : ℕ → ℤ) (bs : List ℕ) → AllByRecursion (λ b. IsNear (f b)) bs → unsigned_abs (total f bs) ≤ position_limit * length bs
 total_within f [] h = omega (arith, ints)
 total_within f (b ∷ bs) h = omega (arith, one_more (f b) (total f bs) (length bs) h.0 (total_within f bs h.1))
 
@@ -102,11 +102,11 @@ members_few opening J l =
     omega (arith, few)
 
 -- whom splits and exchanges book for
-few_holders : (opening : Day) (J : Journal) → IsLimited opening J → AreFewHolders J
+few_holders : (opening : Day) (J : Journal) → IsLimited opening J → AreFewHolders opening J
 few_holders opening J l = record { within = l.within; numbers = members_from_one opening J l; few = members_few opening J l }
 
--- an activity in its ranges books few cents
-books_few : (opening : Day) (J : Journal) (x : Activity) → IsInRange x → NoneHolds (rules opening J x) → IsLimited opening J → cents_of (posting opening J x) ≤ booking_limit
+-- an activity in its ranges books few cents, but those that waited
+books_few : (opening : Day) (J : Journal) (x : Activity) → IsInRange x → NoneHolds (rules opening J x) → IsLimited opening J → cents_of (posting opening J x) + waiting_cents opening (posting opening J x ∷ J) ≤ booking_limit + waiting_cents opening J
 books_few opening J x r h l = booked_few opening J x r h (few_holders opening J l)
 
 -- each of its postings adds up to zero, and books for its accounts alone
@@ -115,25 +115,27 @@ sound_journal opening J l = sound_of (accounts J) J l.whole.now.known l.balanced
 
 -- a journal of nothing has its limits
 pub limited_nil : {opening : Day} → IsLimited opening []
-limited_nil = record { whole = whole_nil; balanced = tt; numbered = tt; within = λ a c m. omega (arith, ints); cents = λ a c. omega (arith, ints); rates = tt; booked = omega arith }
+limited_nil = record { whole = whole_nil; balanced = tt; numbered = tt; within = λ a c m. record { above = omega arith; below = omega arith }; cents = λ a c. omega (arith, ints); rates = tt; booked = omega arith }
 
 -- and so has one that commands reach
 pub limited : (opening : Day) (L : List Activity) → IsReached opening L → IsLimited opening (journal opening L)
 limited opening [] r = limited_nil
 limited opening (x ∷ L) r =
-    let J = journal opening L in
+    let J : Journal = journal opening L in
+    let J' : Journal = posting opening J x ∷ J in
     let before = limited opening L r.2 in
     let fails = ap is_none r.1 in
     let few = books_few opening J x r.0 fails before in
     let past = before.booked in
+    let booked : added_up cents_of J' + waiting_cents opening J' ≤ booking_limit * length J' = omega (arith, few, past) in
     record {
       whole = whole-post opening J x before.whole fails;
       balanced = (entries_balanced opening J x r.0 fails, before.balanced);
       numbered = numbered-post opening J x r.0 before.numbered;
       within = within-post opening J x fails before.whole before.within;
-      cents = cents-post opening J x few before.cents;
+      cents = λ a c. omega (arith, money_few J' a c, booked);
       rates = rates-post opening J x r.0 before.rates;
-      booked = omega (arith, few, past);
+      booked = booked;
     }
 
 -- the journals of the closes, after an activity that ends a day or not
@@ -149,9 +151,9 @@ limited_past opening (x ∷ L) r = past_if opening (is_close x) (journal opening
 -- positions are within their limits
 pub bounded : (opening : Day) (J : Journal) (c : Cusip) → IsLimited opening J → IsBounded J c
 bounded opening J c l =
-    let each = each_weaker (λ a. 1 ≤ a) (λ a. IsWithin (position J a c)) (members J) (λ a m. l.within a c m) (members_from_one opening J l) in
+    let each = each_weaker (λ a. 1 ≤ a) (λ a. IsNear (position J a c)) (members J) (λ a m. near _ _ _ (l.within a c m)) (members_from_one opening J l) in
     record {
-      members = λ a m. l.within a c m;
+      members = λ a m. near _ _ _ (l.within a c m);
       corporation = made_up (position J 0 c) (total (λ a. position J a c) (members J)) (length (members J)) (positions_zero (accounts J) c J (sound_journal opening J l)) (total_within (λ a. position J a c) (members J) each) (members_few opening J l);
     }
 

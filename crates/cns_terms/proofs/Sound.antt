@@ -1,5 +1,5 @@
 -- What accepted commands keep true of the journal.
-use Rattle.std.proofs.Common.{◌≡◌, ℕ, ◌+◌, ◌≤◌, ℤ, pos, ◌-ℤ◌, neg_ℤ, Bool, true, false, not, cond, ◌&&◌, ◌==◌, List, [], ◌∷◌, find, length, map, is_none, Option, Some, None, slice_get, unwrap_or, refl, sym, ◌∙◌, ap, arith}
+use Rattle.std.proofs.Common.{◌≡◌, ℕ, ◌+◌, ◌≤◌, ℤ, pos, ◌-ℤ◌, neg_ℤ, Bool, true, false, not, cond, ◌&&◌, ◌==◌, List, [], ◌∷◌, find, length, map, is_none, Option, Some, None, slice_get, unwrap_or, filter, flat_map, refl, sym, ◌∙◌, ap, arith}
 use Rattle.std.specs.List.{AllByRecursion, list_any}
 use Rattle.std.specs.Option.{IfSome, option_map_or}
 use Rattle.std.specs.Prelude.{bytes_eq, filter_map, int_lt}
@@ -19,14 +19,16 @@ use Rattle.cns_terms.specs.declared.command.Activity.TheVariants as activity
 use Rattle.cns_terms.specs.declared.command.Command.{Command}
 use Rattle.cns_terms.specs.declared.command.Command.TheVariants as command
 use Rattle.cns_terms.specs.declared.holding.Entry.{Entry}
-use Rattle.cns_terms.specs.Days.{at_close, closings, date, day, is_close, last_close}
+use Rattle.cns_terms.specs.declared.pend.Pend.{Pend}
+use Rattle.cns_terms.specs.Days.{at_close, closings, date, day, is_close, is_not_after, last_close}
 use Rattle.cns_terms.specs.Conversions.{converted, in_exchange, in_lieu}
-use Rattle.cns_terms.specs.Entries.{against_corporation, corporation, entries, entry, execution_entries, fill_entry, holders, journal, new_entry, old_entry, posting}
+use Rattle.cns_terms.specs.Entries.{against_corporation, corporation, entries, entry, execution_entries, fill_entry, holders, journal, new_entry, old_entry, posting, trade_entries}
 use Rattle.cns_terms.specs.Fills.{fills}
 use Rattle.cns_terms.specs.Laws.{journal_of}
 use Rattle.cns_terms.specs.Listings.{accounts, is_listed, issue_lt, is_member, issues, members, price, priced}
 use Rattle.cns_terms.specs.Machine.{State, next, after, opened}
 use Rattle.cns_terms.specs.Notices.{Notice, notice, notice_at, notices}
+use Rattle.cns_terms.specs.Pending.{due, is_due, pend_of, pending, trades}
 use Rattle.cns_terms.specs.Positions.{position}
 use Rattle.cns_terms.specs.Postings.{Posting, Journal, activities}
 use Rattle.cns_terms.specs.Refusals.{Rule, first_refusal, refusal, rules}
@@ -34,7 +36,7 @@ use Rattle.cns_terms.proofs.Facts.{and_left, and_right, both_true, holds, later,
 use Rattle.cns_terms.proofs.Accounts.{occurs, occurs-put, occurs_found, occurs_missing}
 use Rattle.cns_terms.proofs.BuyIns.{each_named, fills_each}
 use Rattle.cns_terms.proofs.EntrySums.{entries_for}
-use Rattle.cns_terms.proofs.Everywhere.{any_put, each_append, each_filter, each_found, each_map, each_stands, each_weaker}
+use Rattle.cns_terms.proofs.Everywhere.{any_put, each_append, each_filter, each_found, each_map, each_reverse, each_stands, each_weaker}
 use Rattle.cns_terms.proofs.Rising.{above_put, is_rising, rising_put}
 use Rattle.cns_terms.proofs.ZeroSums.{AreKnown, AreOf}
 
@@ -50,7 +52,13 @@ AreOfListed J es = AllByRecursion (λ e. is_listed J e.issue ≡ true) es
 abbrev pub IsNoticed : Journal → Notice → Type 0
 IsNoticed J n = IsIn J n.given.member × (is_listed J n.given.issue ≡ true)
 
--- accounts and issues are distinct and in order, and postings and notices are of them alone
+-- a trade is between two of the accounts, in a listed issue
+pub record IsTraded (J : Journal) (p : Pend) : Type 0 where
+  pub buyer : IsIn J p.buyer
+  pub seller : IsIn J p.seller
+  pub listed : is_listed J p.issue ≡ true
+
+-- accounts and issues are distinct and in order, and postings, notices and trades are of them alone
 pub record IsSound (J : Journal) : Type 0 where
   pub distinct : (a : ℕ) → occurs a (accounts J) ≤ 1
   pub known : AreKnown (accounts J) J
@@ -59,6 +67,7 @@ pub record IsSound (J : Journal) : Type 0 where
   pub issued : AllByRecursion (λ p. AreOfListed J p.entries) J
   pub unpriced : (c : Cusip) → is_listed J c ≡ false → price J c ≡ 0
   pub noticed : AllByRecursion (IsNoticed J) (notices J)
+  pub traded : AllByRecursion (IsTraded J) (trades J)
 
 -- the day that is open is later than each closed day
 abbrev pub AreEarlier : Day → Journal → Type 0
@@ -77,7 +86,7 @@ one_account true = omega arith
 one_account false = omega arith
 
 pub sound_nil : IsSound []
-sound_nil = record { distinct = λ a. one_account (a == 0); known = tt; accounts_rise = refl; issues_rise = refl; issued = tt; unpriced = λ c h. refl; noticed = tt }
+sound_nil = record { distinct = λ a. one_account (a == 0); known = tt; accounts_rise = refl; issues_rise = refl; issued = tt; unpriced = λ c h. refl; noticed = tt; traded = tt }
 
 -- ---- what a command that is not refused has met
 
@@ -148,11 +157,25 @@ executed_in : (J : Journal) (x : Execution) (o : Option Notice) → IfSome o (Is
 executed_in J x None h = tt
 executed_in J x (Some k) h = (h.0, each_map (λ (e : Entry). IsIn J e.account) (fill_entry k) (fills J x k) (fills_each (IsIn J) J x k (closed_in J k.given.day)))
 
+-- what holds of each of the entries of a trade, whether it books now or later
+now_or_later : (P : Entry → Type 0) (b : Bool) (p : Pend) → AllByRecursion P (trade_entries p) → AllByRecursion P (cond b (trade_entries p) [])
+now_or_later P true p h = h
+now_or_later P false p h = tt
+
+-- what holds of each trade holds of each that is due
+due_each : (P : Pend → Type 0) (opening : Day) (J : Journal) (next : Day) → AllByRecursion P (trades J) → AllByRecursion P (due opening J next)
+due_each P opening J next h = each_reverse P (filter (is_due next) (pending opening J)) (each_filter P (is_due next) (pending opening J) (each_filter P (λ p. not (is_due (date opening J) p)) (trades J) h))
+
+-- what holds of the entries of each trade holds of all of them
+booked_each : (P : Entry → Type 0) (ps : List Pend) → AllByRecursion (λ p. AllByRecursion P (trade_entries p)) ps → AllByRecursion P (flat_map trade_entries ps)
+booked_each P [] h = tt
+booked_each P (p ∷ ps) h = each_append P (trade_entries p) (flat_map trade_entries ps) h.0 (booked_each P ps h.1)
+
 entries_in : (opening : Day) (J : Journal) (x : Activity) → IsSound J → NoneHolds (rules opening J x) → AreIn J (entries opening J x)
 entries_in opening J (activity.Trade t) s h =
     let fails = all_fail (rules opening J (activity.Trade t)) h in
     let both = both_hold (is_member J t.buyer) (is_member J t.seller) fails.0 in
-    (member_in J t.buyer both.0, (member_in J t.seller both.1, tt))
+    now_or_later (λ e. IsIn J e.account) (is_not_after t.date (date opening J)) (pend_of t) (member_in J t.buyer both.0, (member_in J t.seller both.1, tt))
 entries_in opening J (activity.Deliver m) s h =
     let fails = all_fail (rules opening J (activity.Deliver m)) h in
     (member_in J m.member (holds (is_member J m.member) fails.0), (zero_in J, tt))
@@ -169,6 +192,8 @@ entries_in opening J (activity.Exchange x) s h =
     (against_in J x.old (λ a. neg_ℤ (q a)) (λ a. pos 0) q)
     (against_in J x.successor (λ a. converted x.ratio (q a)) (λ a. in_exchange x.ratio x.lieu x.cash (q a)) q)
 entries_in opening J (activity.Execute x) s h = executed_in J x (notice_at J x.notice) (each_named (IsNoticed J) (λ n. n.number == x.notice) (notices J) s.noticed)
+entries_in opening J (activity.Close d) s h =
+    booked_each (λ e. IsIn J e.account) (due opening J d) (due_each (λ p. AreIn J (trade_entries p)) opening J d (each_weaker (IsTraded J) (λ p. AreIn J (trade_entries p)) (trades J) (λ p k. (k.buyer, (k.seller, tt))) s.traded))
 entries_in opening J _ s h = tt
 
 -- ---- one more activity
@@ -239,7 +264,7 @@ executed_listed J x (Some k) h = (h.1, each_map (λ e. is_listed J e.issue ≡ t
 entries_listed : (opening : Day) (J : Journal) (x : Activity) → IsSound J → NoneHolds (rules opening J x) → AreOfListed J (entries opening J x)
 entries_listed opening J (activity.Trade t) s h =
     let listed = holds (is_listed J t.issue) (all_fail (rules opening J (activity.Trade t)) h).1.0 in
-    (listed, (listed, tt))
+    now_or_later (λ e. is_listed J e.issue ≡ true) (is_not_after t.date (date opening J)) (pend_of t) (listed, (listed, tt))
 entries_listed opening J (activity.Deliver m) s h =
     let listed = holds (is_listed J m.issue) (all_fail (rules opening J (activity.Deliver m)) h).1.0 in
     (listed, (listed, tt))
@@ -258,6 +283,8 @@ entries_listed opening J (activity.Exchange x) s h =
     (against_listed J x.old (λ a. neg_ℤ (q a)) (λ a. pos 0) hs both.0)
     (against_listed J x.successor (λ a. converted x.ratio (q a)) (λ a. in_exchange x.ratio x.lieu x.cash (q a)) hs both.1)
 entries_listed opening J (activity.Execute x) s h = executed_listed J x (notice_at J x.notice) (each_named (IsNoticed J) (λ n. n.number == x.notice) (notices J) s.noticed)
+entries_listed opening J (activity.Close d) s h =
+    booked_each (λ e. is_listed J e.issue ≡ true) (due opening J d) (due_each (λ p. AreOfListed J (trade_entries p)) opening J d (each_weaker (IsTraded J) (λ p. AreOfListed J (trade_entries p)) (trades J) (λ p k. (k.listed, (k.listed, tt))) s.traded))
 entries_listed opening J _ s h = tt
 
 still_listed : (opening : Day) (J : Journal) (x : Activity) (es : List Entry) → AreOfListed J es → AreOfListed (posting opening J x ∷ J) es
@@ -292,6 +319,30 @@ noticed-post opening J (activity.Notice m) s h =
     ((omega (arith, member, grown-post (posting opening J x) J m.member), listed-post opening J x m.issue (holds (is_listed J m.issue) fails.1.0)), tt)
 noticed-post opening J x s h = still_noticed opening J x s
 
+-- trades stay as they were made
+still_traded : (opening : Day) (J : Journal) (x : Activity) → IsSound J → AllByRecursion (IsTraded (posting opening J x ∷ J)) (trades J)
+still_traded opening J x s = each_weaker (IsTraded J) (IsTraded (posting opening J x ∷ J)) (trades J) (λ p k. record {
+  buyer = omega (arith, k.buyer, grown-post (posting opening J x) J p.buyer);
+  seller = omega (arith, k.seller, grown-post (posting opening J x) J p.seller);
+  listed = listed-post opening J x p.issue k.listed;
+}) s.traded
+
+traded-post : (opening : Day) (J : Journal) (x : Activity) → IsSound J → NoneHolds (rules opening J x) → AllByRecursion (IsTraded (posting opening J x ∷ J)) (trades (posting opening J x ∷ J))
+traded-post opening J (activity.Trade t) s h =
+    let x : Activity = activity.Trade t in
+    let fails = all_fail (rules opening J x) h in
+    let both = both_hold (is_member J t.buyer) (is_member J t.seller) fails.0 in
+    let buyer = member_in J t.buyer both.0 in
+    let seller = member_in J t.seller both.1 in (
+      record {
+        buyer = omega (arith, buyer, grown-post (posting opening J x) J t.buyer);
+        seller = omega (arith, seller, grown-post (posting opening J x) J t.seller);
+        listed = listed-post opening J x t.issue (holds (is_listed J t.issue) fails.1.0);
+      },
+      still_traded opening J x s,
+    )
+traded-post opening J x s h = still_traded opening J x s
+
 past-post : (opening : Day) (J : Journal) (x : Activity) → IsWhole opening J → AllByRecursion IsSound (closings (posting opening J x ∷ J))
 past-post opening J (activity.Close d) w = (w.now, w.past)
 past-post opening J _ w = w.past
@@ -322,6 +373,7 @@ whole-post opening J x w h =
         );
         unpriced = unpriced-post opening J x w.now h;
         noticed = noticed-post opening J x w.now h;
+        traded = traded-post opening J x w.now h;
       };
       past = past-post opening J x w;
       earlier = earlier-post opening J x w h;

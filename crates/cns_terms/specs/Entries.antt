@@ -1,5 +1,6 @@
 -- What accepted activities book.
-use Rattle.std.specs.Prelude.{ℤ, pos, ◌-ℤ◌, neg_ℤ, not, List, [], ◌∷◌, ◌++◌, map, filter}
+use Rattle.std.specs.Prelude.{ℤ, pos, ◌-ℤ◌, neg_ℤ, not, List, [], ◌∷◌, ◌++◌, map, filter, if◌then◌else◌}
+use Rattle.std.specs.List.{flat_map}
 use Rattle.std.specs.Option.{option_map_or}
 use Rattle.std.specs.Ordering.{int_eq}
 use Rattle.cns_units.specs.declared.account.Account.{Account}
@@ -13,12 +14,14 @@ use Rattle.cns_terms.specs.declared.buy_in.Fill.{Fill}
 use Rattle.cns_terms.specs.declared.command.Activity.{Activity}
 use Rattle.cns_terms.specs.declared.command.Activity.TheVariants as activity
 use Rattle.cns_terms.specs.declared.command.Movement.{Movement}
-use Rattle.cns_terms.specs.declared.command.Trade.{Trade}
 use Rattle.cns_terms.specs.declared.holding.Entry.{Entry}
+use Rattle.cns_terms.specs.declared.pend.Pend.{Pend}
 use Rattle.cns_terms.specs.Conversions.{converted, in_lieu, in_exchange}
+use Rattle.cns_terms.specs.Days.{date, is_not_after}
 use Rattle.cns_terms.specs.Fills.{fills}
 use Rattle.cns_terms.specs.Listings.{members}
 use Rattle.cns_terms.specs.Notices.{Notice, notice_at}
+use Rattle.cns_terms.specs.Pending.{due, pend_of}
 use Rattle.cns_terms.specs.Positions.{position}
 use Rattle.cns_terms.specs.Postings.{Posting, Journal}
 use Rattle.cns_terms.specs.Sums.{total}
@@ -28,12 +31,16 @@ abbrev pub entry : Account → Cusip → ℤ → ℤ → Entry
 entry a c shares cents = record { account = a; issue = c; shares = shares; cents = cents }
 
 -- what a trade books for its buyer: the shares come in, the money is owed
-abbrev pub buyer_entry : Trade → Entry
-buyer_entry t = entry t.buyer t.issue (pos t.shares) (neg_ℤ (pos t.money))
+abbrev pub buyer_entry : Pend → Entry
+buyer_entry p = entry p.buyer p.issue (pos p.shares) (neg_ℤ (pos p.cents))
 
 -- and for its seller: the shares are owed, the money comes in
-abbrev pub seller_entry : Trade → Entry
-seller_entry t = entry t.seller t.issue (neg_ℤ (pos t.shares)) (pos t.money)
+abbrev pub seller_entry : Pend → Entry
+seller_entry p = entry p.seller p.issue (neg_ℤ (pos p.shares)) (pos p.cents)
+
+-- what a trade books once its date has come
+abbrev pub trade_entries : Pend → List Entry
+trade_entries p = buyer_entry p ∷ seller_entry p ∷ []
 
 -- the number of the corporation's account
 abbrev pub corporation : Account
@@ -89,12 +96,13 @@ fill_entry k f = entry f.member k.given.issue (pos f.shares) (neg_ℤ (pos f.cen
 abbrev pub execution_entries : Journal → Execution → Notice → List Entry
 execution_entries J x k = originator_entry x k ∷ map (fill_entry k) (fills J x k)
 
--- the entries that an activity books: a delivery raises the member's position, a receipt the corporation's; splits and
--- exchanges book for all who have a position
+-- the entries that an activity books: a trade whose date has come books at once, and others with the close that names their
+-- date or a later one; a delivery raises the member's position, a receipt the corporation's; splits and exchanges book for
+-- all who have a position
 abbrev pub entries : Day → Journal → Activity → List Entry
 entries opening J (activity.Member m) = []
 entries opening J (activity.Issue l) = []
-entries opening J (activity.Trade t) = buyer_entry t ∷ seller_entry t ∷ []
+entries opening J (activity.Trade t) = if is_not_after t.date (date opening J) then trade_entries (pend_of t) else []
 entries opening J (activity.Price l) = []
 entries opening J (activity.Deliver m) = moved_in m.member m ∷ moved_out corporation m ∷ []
 entries opening J (activity.Receive m) = moved_out m.member m ∷ moved_in corporation m ∷ []
@@ -104,7 +112,7 @@ entries opening J (activity.Exchange x) = exchange_entries x (λ a. position J a
 entries opening J (activity.Notice m) = []
 entries opening J (activity.Withdraw k) = []
 entries opening J (activity.Execute x) = option_map_or (execution_entries J x) (notice_at J x.notice) []
-entries opening J (activity.Close d) = []
+entries opening J (activity.Close d) = flat_map trade_entries (due opening J d)
 
 -- an activity with the entries that it books on a journal
 abbrev pub posting : Day → Journal → Activity → Posting

@@ -2,11 +2,11 @@ pub mod Sums
 pub mod Postings
 pub mod Keys
 pub mod Days
-pub mod Pending
 pub mod Positions
 pub mod Ages
 pub mod Holdings
 pub mod Listings
+pub mod Pending
 pub mod Conversions
 pub mod Notices
 pub mod Batches

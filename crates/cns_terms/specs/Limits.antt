@@ -21,7 +21,8 @@ shares_limit = 10 ^ 9
 abbrev pub money_limit : ℕ
 money_limit = 10 ^ 18
 
--- the cents that one activity books, whatever their signs: an exchange's for 9,999 members, and for the corporation
+-- the cents that one activity adds to those that are booked and that wait, whatever their signs: an exchange's for 9,999
+-- members, and for the corporation
 abbrev pub booking_limit : ℕ
 booking_limit = 2 * 10 ^ 23
 

@@ -1,9 +1,15 @@
 -- Trades that wait for their date.
-use Rattle.std.specs.Prelude.{Bool}
+use Rattle.std.specs.Prelude.{ℕ, Bool, not, ◌&&◌, ◌==◌, List, filter, filter_map, map, reverse, sum_by, if◌then◌else◌}
+use Rattle.std.specs.List.{list_any}
+use Rattle.cns_units.specs.declared.account.Account.{Account}
+use Rattle.cns_units.specs.declared.cusip.Cusip.{Cusip}
 use Rattle.cns_units.specs.declared.day.Day.{Day}
 use Rattle.cns_terms.specs.declared.command.Trade.{Trade}
 use Rattle.cns_terms.specs.declared.pend.Pend.{Pend}
-use Rattle.cns_terms.specs.Days.{is_not_after}
+use Rattle.cns_terms.specs.Sums.{same_issue}
+use Rattle.cns_terms.specs.Postings.{Journal, activities}
+use Rattle.cns_terms.specs.Days.{date, is_not_after}
+use Rattle.cns_terms.specs.Listings.{traded}
 
 -- a trade as one that waits
 abbrev pub pend_of : Trade → Pend
@@ -17,6 +23,30 @@ pend_of t = record {
   issue = t.issue;
 }
 
--- whether the close that names the next day books it
+-- whether its date has come on a day
 abbrev pub is_due : Day → Pend → Bool
-is_due next p = is_not_after p.date next
+is_due d p = is_not_after p.date d
+
+-- the accepted trades, the newest first
+abbrev pub trades : Journal → List Pend
+trades J = map pend_of (filter_map traded (activities J))
+
+-- those that wait: their date has not come on the open day
+abbrev pub pending : Day → Journal → List Pend
+pending opening J = filter (λ p. not (is_due (date opening J) p)) (trades J)
+
+-- those of them that are due on the next day, in the order in which they were taken
+abbrev pub due : Day → Journal → Day → List Pend
+due opening J next = reverse (filter (is_due next) (pending opening J))
+
+-- the shares that an account is to get in an issue by trades that wait
+abbrev pub bought_in : List Pend → Account → Cusip → ℕ
+bought_in ps a c = sum_by (λ p. if (p.buyer == a) && same_issue p.issue c then p.shares else 0) ps
+
+-- and those that it is to give
+abbrev pub sold_in : List Pend → Account → Cusip → ℕ
+sold_in ps a c = sum_by (λ p. if (p.seller == a) && same_issue p.issue c then p.shares else 0) ps
+
+-- whether a trade in an issue waits
+abbrev pub waits_in : List Pend → Cusip → Bool
+waits_in ps c = list_any (λ p. same_issue p.issue c) ps

@@ -19,6 +19,6 @@ cents_for a c e = if (e.account == a) && same_issue e.issue c then e.cents else 
 abbrev pub position : Journal → Account → Cusip → ℤ
 position J a c = total (λ p. total (shares_for a c) p.entries) J
 
--- the cents booked for it since the last close
+-- the cents booked for it on the open day, with those that the last close booked
 abbrev pub money : Journal → Account → Cusip → ℤ
 money J a c = total (λ p. total (cents_for a c) p.entries) (open_day J)

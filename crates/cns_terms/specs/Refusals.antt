@@ -1,7 +1,8 @@
 -- What is refused, and why.
-use Rattle.std.specs.Prelude.{ℕ, ◌+◌, is_none, is_some, ℤ, pos, ◌+ℤ◌, neg_ℤ, int_lt, int_le, unsigned_abs, Bool, not, ◌&&◌, ◌||◌, ◌==◌, nat_lt, List, [], ◌∷◌, Option, option_map, find}
+use Rattle.std.specs.Prelude.{ℕ, ◌+◌, is_none, is_some, ℤ, pos, ◌+ℤ◌, neg_ℤ, int_lt, int_le, Bool, not, ◌&&◌, ◌||◌, ◌==◌, nat_lt, List, [], ◌∷◌, Option, option_map, find}
 use Rattle.std.specs.List.{list_any}
 use Rattle.std.specs.Option.{option_map_or}
+use Rattle.cns_units.specs.Day.{day_number}
 use Rattle.cns_units.specs.declared.account.Account.{Account}
 use Rattle.cns_units.specs.declared.cusip.Cusip.{Cusip}
 use Rattle.cns_units.specs.declared.day.Day.{Day}
@@ -10,34 +11,48 @@ use Rattle.cns_terms.specs.declared.command.Activity.TheVariants as activity
 use Rattle.cns_terms.specs.declared.command.Command.{Command}
 use Rattle.cns_terms.specs.declared.command.Command.TheVariants as command
 use Rattle.cns_terms.specs.declared.holding.Entry.{Entry}
+use Rattle.cns_terms.specs.declared.pend.Pend.{Pend}
 use Rattle.cns_terms.specs.declared.refusal.Refusal.{Refusal}
-use Rattle.cns_terms.specs.declared.refusal.Refusal.TheVariants.{MemberExists, NoSuchMember, IssueExists, NoSuchIssue, Retired, SameParty, SameIssue, WrongDay, SeenReference, ExceedsPosition, NotOnHand, NotLong, AlreadyNoticed, NoSuchNotice, NotLive, TooEarly, NotLiable, TooLarge, NoSuchDay}
-use Rattle.cns_terms.specs.Sums.{same_issue, short, total}
+use Rattle.cns_terms.specs.declared.refusal.Refusal.TheVariants.{MemberExists, NoSuchMember, IssueExists, NoSuchIssue, Retired, SameParty, SameIssue, WrongDay, SeenReference, ExceedsPosition, NotOnHand, NotLong, AlreadyNoticed, NoSuchNotice, NotLive, TooEarly, NotLiable, TooLarge, NoSuchDay, PendingTrades}
+use Rattle.cns_terms.specs.Sums.{long, same_issue, short, total}
 use Rattle.cns_terms.specs.Postings.{Journal}
-use Rattle.cns_terms.specs.Days.{closed_on, date, day, is_same_day, is_not_after}
+use Rattle.cns_terms.specs.Days.{closed_on, date, day, is_not_after}
 use Rattle.cns_terms.specs.Positions.{position, shares_for}
 use Rattle.cns_terms.specs.Listings.{is_member, is_account, is_listed, is_retired, is_seen}
-use Rattle.cns_terms.specs.Entries.{corporation, entries}
+use Rattle.cns_terms.specs.Entries.{corporation, entries, posting, trade_entries}
 use Rattle.cns_terms.specs.Fills.{room}
 use Rattle.cns_terms.specs.Limits.{position_limit}
+use Rattle.cns_terms.specs.Pending.{bought_in, pend_of, pending, sold_in, waits_in}
 use Rattle.cns_terms.specs.Notices.{is_live, is_so, live_notice, notice_at, remaining, stage}
 
 -- a refusal, and whether its condition holds
 abbrev pub Rule : Type 0
 Rule = Refusal × Bool
 
--- whether a member's position is out of its limits
-abbrev pub is_beyond : ℤ → Bool
-is_beyond q = nat_lt position_limit (unsigned_abs q)
+-- whether a member is beyond its limit on one side or the other: long with the shares that it is to get by trades that wait,
+-- or short with those that it is to give
+abbrev pub is_beyond : ℤ → ℕ → ℕ → Bool
+is_beyond q bought sold = nat_lt position_limit (long q + bought) || nat_lt position_limit (short q + sold)
 
--- whether entries take a member's position out of its limits, by the positions before them
-abbrev pub are_too_large : (Account → Cusip → ℤ) → List Entry → Bool
-are_too_large before es =
-    list_any (λ e. nat_lt corporation e.account && is_beyond (total (shares_for e.account e.issue) es +ℤ before e.account e.issue)) es
+-- whether entries take a member beyond its limit at a place, by the positions before them and the trades that wait then
+abbrev pub is_too_large_at : (Account → Cusip → ℤ) → List Pend → List Entry → Entry → Bool
+is_too_large_at before ps es e =
+    nat_lt corporation e.account
+    && is_beyond (total (shares_for e.account e.issue) es +ℤ before e.account e.issue) (bought_in ps e.account e.issue) (sold_in ps e.account e.issue)
 
--- whether the whole activity would do so
+-- whether they do so anywhere that they book
+abbrev pub are_too_large : (Account → Cusip → ℤ) → List Pend → List Entry → Bool
+are_too_large before ps es = list_any (is_too_large_at before ps es) es
+
+-- where an activity may take a member beyond its limit: a trade also where it books later
+abbrev pub places : Day → Journal → Activity → List Entry
+places opening J (activity.Trade t) = trade_entries (pend_of t)
+places opening J x = entries opening J x
+
+-- whether the whole activity does so
 abbrev pub is_too_large : Day → Journal → Activity → Bool
-is_too_large opening J x = are_too_large (position J) (entries opening J x)
+is_too_large opening J x =
+    list_any (is_too_large_at (position J) (pending opening (posting opening J x ∷ J)) (entries opening J x)) (places opening J x)
 
 -- whether a position is above 0 and less than the shares
 abbrev pub is_exceeded : ℤ → ℕ → Bool
@@ -46,6 +61,14 @@ is_exceeded q shares = int_lt (pos 0) q && int_lt q (pos shares)
 -- whether the first day is before the second, by their numbers
 abbrev pub is_past : Day → Day → Bool
 is_past d today = not (is_not_after today d)
+
+-- how many calendar days after today a trade may settle
+abbrev pub days_ahead : ℕ
+days_ahead = 5
+
+-- whether a day is later than that
+abbrev pub is_too_far : Day → Day → Bool
+is_too_far d today = int_lt (day_number today +ℤ pos days_ahead) (day_number d)
 
 -- the rules of an activity, by the refusal's number
 abbrev pub rules : Day → Journal → Activity → List Rule
@@ -56,7 +79,7 @@ rules opening J (activity.Trade t) =
     ∷ (NoSuchIssue, not (is_listed J t.issue))
     ∷ (Retired, is_retired J t.issue)
     ∷ (SameParty, t.buyer == t.seller)
-    ∷ (WrongDay, not (is_same_day t.date (date opening J)))
+    ∷ (WrongDay, is_past t.date (date opening J) || is_too_far t.date (date opening J))
     ∷ (SeenReference, is_seen J t.reference)
     ∷ (TooLarge, is_too_large opening J (activity.Trade t)) ∷ []
 rules opening J (activity.Price l) = (NoSuchIssue, not (is_listed J l.issue)) ∷ (Retired, is_retired J l.issue) ∷ []
@@ -84,7 +107,8 @@ rules opening J (activity.Exchange x) =
     (NoSuchIssue, not (is_listed J x.old && is_listed J x.successor))
     ∷ (Retired, is_retired J x.old || is_retired J x.successor)
     ∷ (SameIssue, same_issue x.old x.successor)
-    ∷ (TooLarge, is_too_large opening J (activity.Exchange x)) ∷ []
+    ∷ (TooLarge, is_too_large opening J (activity.Exchange x))
+    ∷ (PendingTrades, waits_in (pending opening J) x.old) ∷ []
 rules opening J (activity.Notice m) =
     (NoSuchMember, not (is_member J m.member))
     ∷ (NoSuchIssue, not (is_listed J m.issue))

@@ -45,7 +45,7 @@ pub enum Activity {
     Member(Member),
     /// A new issue, with its first price.
     Issue(Listing),
-    /// A trade that settles today.
+    /// A trade that settles today, or up to five calendar days later.
     Trade(Trade),
     /// The current market price of a listed issue.
     Price(Listing),

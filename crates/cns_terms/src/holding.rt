@@ -71,7 +71,7 @@ pub struct Holding {
     pub now: i64,
     /// The position at the last close, in shares.
     pub opening: i64,
-    /// The cents booked since the last close.
+    /// The cents booked on the open day: since the last close, and by it for trades that were due.
     pub contract: i128,
     /// The age of a short: at how many closes in a row, up to the last, the position was below 0.
     pub run: u32,

@@ -7,7 +7,7 @@
 //!             account 101 -----+
 //!                              +---- holding    now       position in shares: above 0 long, below 0 short
 //!             issue 037833100 -+                opening   position at the last close
-//!                                               contract  cents booked since the last close
+//!                                               contract  cents booked on the open day
 //!                                               run       age of a short: closes in a row at which it was short
 //!
 //! day         opening date            CLOSE names the next date        CLOSE

@@ -20,8 +20,8 @@ pub enum Refusal {
     SameParty,
     /// 7: old issue and successor are the same.
     SameIssue,
-    /// 8: a trade's date is not today, a dividend's record date is before today or its payable date not after the record
-    /// date, or the next date of a close is not after today.
+    /// 8: a trade's date is before today or more than five calendar days after it, a dividend's record date is before today
+    /// or its payable date not after the record date, or the next date of a close is not after today.
     WrongDay,
     /// 9: an accepted trade has the reference.
     SeenReference,
@@ -41,11 +41,12 @@ pub enum Refusal {
     TooEarly,
     /// 17: more shares than the batch has room for.
     NotLiable { room: u64 },
-    /// 18: a member's position would leave -10,000,000,000 to 10,000,000,000.
+    /// 18: a member would be beyond 10,000,000,000 shares in an issue, long with those that it is to get by trades that wait,
+    /// or short with those that it is to give.
     TooLarge,
     /// 19: no closed day has the date.
     NoSuchDay,
-    /// 20: the old issue has a pending trade.
+    /// 20: a trade in the old issue of an exchange waits for its date.
     PendingTrades,
 }
 

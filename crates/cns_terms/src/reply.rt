@@ -36,7 +36,7 @@ pub struct Stated {
 /// What a POSITION tells of an account's place in an issue.
 #[derive(Clone, Copy, Debug, PartialEq, Eq)]
 pub struct Held {
-    /// The cents booked since the last close.
+    /// The cents booked on the open day: since the last close, and by it for trades that were due.
     pub contract: Cents,
     /// The position in shares: above 0 it is due from the corporation, below 0 to it (NSCC Rule 11).
     pub position: i64,

@@ -1,2 +1,3 @@
 pub mod Used
+pub mod Sides
 pub mod Checks

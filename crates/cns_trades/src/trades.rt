@@ -1,26 +1,32 @@
 // The checks, and the references.
-ghost use Rattle.std.specs.Prelude.{◌≡◌, ℕ, ◌≤◌, ◌||◌, ◌==◌, ◌+ℤ◌, ◌++◌, ◌∷◌, [], filter, not, OnOk, OnErr, IfOk, IfErr, Some, unsigned_abs, false, true, nat_lt, int_lt, neg_ℤ, pos};
+ghost use Rattle.std.specs.Prelude.{◌≡◌, ℕ, ◌≤◌, ◌||◌, ◌==◌, ◌&&◌, ◌-ℤ◌, ◌++◌, ◌∷◌, [], filter, not, OnOk, OnErr, IfOk, IfErr, Some, unsigned_abs, false, true, nat_lt, int_le, int_lt, neg_ℤ, pos};
 ghost use Rattle.std.specs.Option.{ForSome};
-ghost use Rattle.cns_terms.specs.Limits.{corporation_limit, position_limit};
+ghost use Rattle.cns_units.specs.Day.{day_number};
+ghost use Rattle.cns_terms.specs.Limits.{position_limit};
 ghost use Rattle.cns_terms.specs.Pending.{is_due, pend_of};
-ghost use Rattle.cns_terms.specs.Refusals.{first_refusal, is_beyond, is_exceeded};
+ghost use Rattle.cns_terms.specs.Refusals.{days_ahead, first_refusal, is_exceeded, is_past, is_too_far};
 ghost use Rattle.cns_terms.specs.Sums.{short};
 ghost use Rattle.cns_trades.specs.Used.{is_used};
-ghost use Rattle.cns_trades.specs.Checks.{delivery_answer, issue_rules, receipt_answer, trade_answer, AreSmallEntries};
+ghost use Rattle.cns_trades.specs.Checks.{delivery_answer, issue_rules, party, receipt_answer, trade_answer, AreSmallEntries};
 
-use crate::entries::{buyer_entry, moved_in, moved_out, seller_entry};
+use crate::entries::{moved_in, moved_out};
 use crate::facts::{MoveFacts, TradeFacts};
+use crate::limits::{Party, book_now, waits_beyond};
+use crate::pending::Pending;
 use crate::references::References;
-use cns_terms::{Entry, Movement, NoMemory, POSITION_LIMIT, Pend, Refusal, Trade};
-use cns_units::{Account, Day, Shares};
+use cns_terms::{Entry, Movement, NoMemory, Pend, Refusal, Trade};
+use cns_units::{Account, Cusip, Day, Member, Shares};
 use std::alloc::Allocator;
 use std::marker::Model;
+
+// How many calendar days after today a trade may settle.
+const DAYS_AHEAD: i64 = 5;
 
 /// The references that accepted trades used, the trades that wait for their date, and the checks of trades and movements.
 #[derive(Drop)]
 pub struct Trades<A: Allocator + Drop> {
     references: References<A>,
-    pending: Vec<Pend, A>,
+    pending: Pending<A>,
 }
 
 impl<A: Allocator + Drop> Model for Trades<A> {
@@ -28,23 +34,28 @@ impl<A: Allocator + Drop> Model for Trades<A> {
 
     ghost Value = { Traded };
 
-    ghost view = { λ t. record { references = t.references; pending = t.pending.items } };
+    ghost view = { λ t. record { references = t.references; pending = t.pending } };
 }
 
-// Whether a member's position is out of its limits.
-fn is_beyond(position: i64) -> bool
-    ensures { result ≡ is_beyond position }
+// How many calendar days after today a date comes; negative where it is past.
+fn days_ahead(date: Day, today: Day) -> i64
+    ensures { result ≡ day_number date -ℤ day_number today }
 {
-    position > POSITION_LIMIT || position < -POSITION_LIMIT
+    i64::from(date.number()) - i64::from(today.number())
 }
 
-// A position after the shares came in.
-fn moved(position: i64, shares: i64) -> i64
-    requires position { unsigned_abs position ≤ position_limit }
-    requires shares { unsigned_abs shares ≤ corporation_limit }
-    ensures { result ≡ position +ℤ shares }
+// Whether a trade may be handed in so many days before it settles.
+fn is_ahead_in_time(ahead: i64) -> bool
+    ensures { result ≡ (int_le (pos 0) ahead && int_le ahead (pos days_ahead)) }
 {
-    position + shares
+    0 <= ahead && ahead <= DAYS_AHEAD
+}
+
+// Whether a trade may settle on a day: on today, or on one of the next five calendar days.
+fn is_in_time(date: Day, today: Day) -> bool
+    ensures { result ≡ not (is_past date today || is_too_far date today) }
+{
+    is_ahead_in_time(days_ahead(date, today))
 }
 
 // Whether a delivery is of more shares than the member is short.
@@ -83,13 +94,6 @@ fn is_not_on_hand(corporation: i64, shares: Shares) -> bool
     corporation > -(shares.value() as i64)
 }
 
-// Drops the trades whose date has come at the close that names the next day.
-fn keep_later<A: Allocator>(pending: &mut Vec<Pend, A>, next: Day)
-    ensures { pending.new.items ≡ filter (λ p. not (is_due next p)) pending.old.items }
-{
-    pending.retain(|pend| !pend.is_due(next));
-}
-
 impl<A: Allocator + Drop> Trades<A> {
     /// No reference was used yet, and no trade waits. `NoMemory` where the allocator could not be copied.
     pub fn new(alloc: A) -> Result<Self, NoMemory>
@@ -100,7 +104,7 @@ impl<A: Allocator + Drop> Trades<A> {
     {
         Ok(Trades {
             references: References::new(alloc.clone()?),
-            pending: Vec::new(alloc),
+            pending: Pending::new(alloc)?,
         })
     }
 
@@ -133,17 +137,21 @@ impl<A: Allocator + Drop> Trades<A> {
         ensures pending { OnOk result (self.new.pending ≡ self.old.pending ++ (pend_of trade.now ∷ [])) }
         ensures err { OnErr result (self.new ≡ self.old) }
     {
-        self.pending.reserve(1)?;
-        self.references.insert(trade.reference)?;
-        let _ = self.pending.push(Pend::of(trade));
-        Ok(())
+        self.pending.push(&Pend::of(trade), &mut self.references)
     }
 
     /// The trades that wait for their date, in the order in which they were taken.
     pub fn pending(&self) -> &[Pend]
         ensures { result.now ≡ self.now.pending }
     {
-        self.pending.as_slice()
+        self.pending.list()
+    }
+
+    /// The trades that wait for their date, with what each member is to get and to give by them.
+    pub fn waiting(&self) -> &Pending<A>
+        ensures { result.now ≡ self.now.pending }
+    {
+        &self.pending
     }
 
     /// Drops the trades that a close books: those whose date is not after the next day, which it names. The others wait on,
@@ -152,16 +160,32 @@ impl<A: Allocator + Drop> Trades<A> {
         ensures references { self.new.references ≡ self.old.references }
         ensures pending { self.new.pending ≡ filter (λ p. not (is_due next p)) self.old.pending }
     {
-        keep_later(&mut self.pending, next);
+        self.pending.settle(next);
     }
 
-    /// The first refusal of a trade by number, or what it books for its buyer and its seller (NSCC Procedure VII: the
-    /// obligations of a trade net into the parties' positions). It takes no memory and uses no reference.
-    pub fn check_trade(&self, facts: &TradeFacts, trade: &Trade) -> Result<[Entry; 2], Refusal>
+    // A party of a trade, with what it is to get and to give by trades that wait.
+    fn party(&self, position: i64, member: Member, issue: Cusip) -> Party
+        ensures { result ≡ party self.now.pending position member issue }
+    {
+        Party {
+            position,
+            waiting: self.pending.sides(member.account(), issue),
+        }
+    }
+
+    /// The first refusal of a trade by number, or what it books for its buyer and its seller; nothing yet where its date is
+    /// later than today, so that it waits (NSCC Procedure VII: the obligations of a trade net into the parties' positions;
+    /// how far ahead trades come is this project's profile). It takes no memory and uses no reference.
+    pub fn check_trade(
+        &self,
+        facts: &TradeFacts,
+        trade: &Trade,
+    ) -> Result<Option<[Entry; 2]>, Refusal>
         requires buyer { ForSome facts.now.buyer (λ q. unsigned_abs q ≤ position_limit) }
         requires seller { ForSome facts.now.seller (λ q. unsigned_abs q ≤ position_limit) }
-        ensures answer { result ≡ trade_answer facts.now (is_used self.now.references trade.now.reference) trade.now }
-        ensures small { IfOk result AreSmallEntries }
+        ensures answer { result
+            ≡ trade_answer facts.now self.now.pending (is_used self.now.references trade.now.reference) trade.now }
+        ensures small { IfOk result (λ o. ForSome o AreSmallEntries) }
     {
         let Some(buyer) = facts.buyer else {
             return Err(Refusal::NoSuchMember);
@@ -173,21 +197,22 @@ impl<A: Allocator + Drop> Trades<A> {
         if trade.buyer == trade.seller {
             return Err(Refusal::SameParty);
         }
-        if trade.date != facts.today {
+        if !is_in_time(trade.date, facts.today) {
             return Err(Refusal::WrongDay);
         }
         if self.seen(trade.reference) {
             return Err(Refusal::SeenReference);
         }
-        let bought = buyer_entry(trade);
-        let sold = seller_entry(trade);
-        if is_beyond(moved(buyer, bought.shares)) {
+        let pend = Pend::of(trade);
+        let buyer = self.party(buyer, trade.buyer, trade.issue);
+        let seller = self.party(seller, trade.seller, trade.issue);
+        if pend.is_due(facts.today) {
+            return book_now(&pend, &buyer, &seller);
+        }
+        if waits_beyond(&pend, &buyer, &seller) {
             return Err(Refusal::TooLarge);
         }
-        if is_beyond(moved(seller, sold.shares)) {
-            return Err(Refusal::TooLarge);
-        }
-        Ok([bought, sold])
+        Ok(None)
     }
 
     /// The first refusal of a delivery by number, or what it books for the member and the corporation: the shares come

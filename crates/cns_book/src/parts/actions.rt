@@ -1,5 +1,5 @@
 // Splits and exchanges.
-ghost use Rattle.std.specs.Prelude.{◌≡◌, ◌↔◌, Err, IfOk, true};
+ghost use Rattle.std.specs.Prelude.{◌≡◌, ◌↔◌, Err, IfOk, false, true};
 ghost use Rattle.cns_terms.specs.declared.command.Activity.TheVariants as activity;
 ghost use Rattle.cns_terms.specs.declared.command.Command.TheVariants as command;
 ghost use Rattle.cns_terms.specs.declared.holding.Key.{Key};
@@ -8,7 +8,7 @@ ghost use Rattle.cns_terms.specs.Refusals.{first_refusal, is_too_large};
 ghost use Rattle.cns_positions.specs.Rows.{books, holding_at};
 ghost use Rattle.cns_actions.specs.Booked.{IsForAnother};
 ghost use Rattle.cns_actions.specs.declared.fault.ActionFault.TheVariants as fault;
-ghost use Rattle.cns_book.specs.Effects.{activity_of, exchange_rules};
+ghost use Rattle.cns_book.specs.Effects.{activity_of, exchange_rules, is_held_up};
 ghost use Rattle.cns_book.specs.Follows.{Answers, HasRoom, Shows};
 
 use crate::parts::Parts;
@@ -24,15 +24,18 @@ impl<P: Positions<A>, A: Allocator + Drop + Clone> Parts<P, A> {
         requires another { IsForAnother action.now }
         ensures too_large { Shows self.now
             (λ J. (result ≡ Err fault.TooLarge) ↔ (is_too_large self.now.opening J (activity_of action.now) ≡ true)) }
+        ensures pending { Shows self.now
+            (λ J. (result ≡ Err fault.PendingTrades) ↔ ((is_too_large self.now.opening J (activity_of action.now) ≡ false)
+            × (is_held_up self.now.opening J action.now ≡ true))) }
         ensures booked { IfOk result
             (λ p. Shows self.now
             (λ J. (k : Key) → holding_at (P.rows p) k
             ≡ books (entries self.now.opening J (activity_of action.now)) k (holding_at self.now.rows k))) }
     {
-        next_positions(&self.alloc, &self.positions, action)
+        next_positions(&self.alloc, &self.positions, action, self.trades.waiting())
     }
 
-    /// SPLIT. The new positions are made beside the old ones, and take their place at once; the notices of the issue end.
+    /// SPLIT. Trades that wait stay as they were made. The new positions are made beside the old ones, and take their place at once; the notices of the issue end.
     pub fn split(&mut self, split: &Split) -> Result<Reply, NoMemory>
         requires { HasRoom self.old }
         ensures opening { self.new.opening ≡ self.old.opening }
@@ -50,11 +53,12 @@ impl<P: Positions<A>, A: Allocator + Drop + Clone> Parts<P, A> {
                 Ok(Reply::Accepted)
             }
             Err(ActionFault::TooLarge) => Ok(Reply::Refused(Refusal::TooLarge)),
+            Err(ActionFault::PendingTrades) => unreachable!(),
             Err(ActionFault::NoMemory) => Err(NoMemory),
         }
     }
 
-    // Why an EXCHANGE is refused, its size apart.
+    // Why an EXCHANGE is refused, its size and the trades that wait apart.
     fn exchange_refusal(&self, exchange: &Exchange) -> Option<Refusal>
         ensures { Shows self.now (λ J. result ≡ first_refusal (exchange_rules J exchange.now)) }
     {
@@ -96,6 +100,7 @@ impl<P: Positions<A>, A: Allocator + Drop + Clone> Parts<P, A> {
                 Ok(Reply::Accepted)
             }
             Err(ActionFault::TooLarge) => Ok(Reply::Refused(Refusal::TooLarge)),
+            Err(ActionFault::PendingTrades) => Ok(Reply::Refused(Refusal::PendingTrades)),
             Err(ActionFault::NoMemory) => Err(NoMemory),
         }
     }

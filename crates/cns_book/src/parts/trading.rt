@@ -54,7 +54,7 @@ impl<P: Positions<A>, A: Allocator + Drop + Clone> Parts<P, A> {
         }
     }
 
-    /// TRADE.
+    /// TRADE. One that comes ahead of its date waits, and books nothing yet.
     pub fn book_trade(&mut self, trade: &Trade) -> Result<Reply, NoMemory>
         requires { HasRoom self.old }
         ensures opening { self.new.opening ≡ self.old.opening }
@@ -62,7 +62,13 @@ impl<P: Positions<A>, A: Allocator + Drop + Clone> Parts<P, A> {
     {
         let facts = self.trade_facts(trade);
         let entries = match self.trades.check_trade(&facts, trade) {
-            Ok(entries) => entries,
+            Ok(Some(entries)) => entries,
+            Ok(None) => {
+                // The money is within its limit; the call tells the prover.
+                let _ = trade.money.value();
+                self.trades.pend(trade)?;
+                return Ok(Reply::Accepted);
+            }
             Err(refusal) => return Ok(Reply::Refused(refusal)),
         };
         prepare(&mut self.positions, &entries)?;

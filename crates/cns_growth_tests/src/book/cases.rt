@@ -5,6 +5,10 @@ const MEMBERS: &str = "MEMBER,1\nMEMBER,2\nMEMBER,3\nISSUE,037833100,19500\nISSU
 const TRADED: &str =
     "TRADE,1,1,2,037833100,60,1170000,2024-06-03\nTRADE,2,1,3,037833100,50,975000,2024-06-03\n";
 
+// Member 1 is to get 60 shares of member 2 and to give 10 to member 3, two days later.
+const AHEAD: &str =
+    "TRADE,21,1,2,037833100,60,1170000,2024-06-05\nTRADE,22,3,1,037833100,10,195000,2024-06-05\n";
+
 const DELIVERED: &str = "DELIVER,2,037833100,60\n";
 
 const NOTICED: &str = "NOTICE,1,037833100,80\n";
@@ -34,7 +38,7 @@ pub(super) struct Case<'c> {
     pub(super) left: u64,
 }
 
-pub(super) const ACCEPTED: [Case<'static>; 15] = [
+pub(super) const ACCEPTED: [Case<'static>; 17] = [
     Case {
         before: &[MEMBERS],
         record: "MEMBER,9999\n",
@@ -51,6 +55,13 @@ pub(super) const ACCEPTED: [Case<'static>; 15] = [
     Case {
         before: &[MEMBERS],
         record: "TRADE,1000,1,2,037833100,60,1170000,2024-06-03\n",
+        growths: 3,
+        left: 2,
+    },
+    // It is to wait, and none does yet. Room for it may stay: on the list, and in the sums of both parties.
+    Case {
+        before: &[MEMBERS],
+        record: "TRADE,1000,1,2,037833100,60,1170000,2024-06-05\n",
         growths: 3,
         left: 2,
     },
@@ -116,6 +127,13 @@ pub(super) const ACCEPTED: [Case<'static>; 15] = [
         growths: 8,
         left: 1,
     },
+    // Two trades are due, so the positions are made anew.
+    Case {
+        before: &[MEMBERS, TRADED, AHEAD],
+        record: "CLOSE,2024-06-05\n",
+        growths: 8,
+        left: 1,
+    },
     Case {
         before: &[MEMBERS, TRADED],
         record: "POSITION,1,037833100\n",
@@ -152,7 +170,7 @@ pub(super) const UNPAID_LATER: Case<'static> = Case {
 };
 
 // Records of a book, and a command that is refused there.
-pub(super) const REFUSED: [(&[&str], &str); 17] = [
+pub(super) const REFUSED: [(&[&str], &str); 21] = [
     (&[MEMBERS], "MEMBER,1\n"),
     (&[MEMBERS], "ISSUE,037833100,19500\n"),
     (
@@ -163,6 +181,11 @@ pub(super) const REFUSED: [(&[&str], &str); 17] = [
         &[MEMBERS, FULL],
         "TRADE,1000,1,3,17275R102,1,0,2024-06-03\n",
     ),
+    (
+        &[MEMBERS, FULL],
+        "TRADE,1000,1,3,17275R102,1,0,2024-06-04\n",
+    ),
+    (&[MEMBERS], "TRADE,1000,1,3,17275R102,1,0,2024-06-09\n"),
     (&[MEMBERS], "PRICE,594918104,19600\n"),
     (&[MEMBERS, TRADED], "DELIVER,2,037833100,61\n"),
     (&[MEMBERS, TRADED], "RECEIVE,1,037833100,40\n"),
@@ -177,6 +200,11 @@ pub(super) const REFUSED: [(&[&str], &str); 17] = [
         &[MEMBERS, FULL],
         "EXCHANGE,17275R102,037833100,2,1,18300,50\n",
     ),
+    (
+        &[MEMBERS, AHEAD],
+        "EXCHANGE,037833100,17275R102,1,6,18300,50\n",
+    ),
+    (&[MEMBERS, AHEAD], "CLOSE,2024-06-03\n"),
     (&[MEMBERS, TRADED], "NOTICE,2,037833100,1\n"),
     (&[MEMBERS, TRADED, NOTICED], "WITHDRAW,2\n"),
     (

@@ -1,19 +1,5 @@
-use Rattle.std.proofs.Common.{◌≡◌, ◌∙◌, ap, ◌^◌, ◌<◌, ℤ, ◌+ℤ◌, unsigned_abs, w64, to_z, of_z, arith}
-use Rattle.std.specs.Int.{w128}
-use Rattle.std.proofs.lemmas.Int.{ints, fits_signed_from_abs, to_z-of_z}
+use Rattle.cns_actions.proofs.Registers.{cents_sum, shares_sum}
 use Rattle.cns_actions.proofs.merging.entered.Goals as goal
-
--- shares that are passed and added
-shares_sum : (x y : ℤ) → unsigned_abs x < 2 ^ 62 → unsigned_abs y < 2 ^ 62 → to_z w64 (of_z w64 (to_z w64 (of_z w64 x) +ℤ to_z w64 (of_z w64 y))) ≡ x +ℤ y
-shares_sum x y p q =
-    let passed = λ (z : ℤ) (h : unsigned_abs z < 2 ^ 63). to_z-of_z w64 z (fits_signed_from_abs w64 z (omega (arith, h))) in
-    ap (λ z. to_z w64 (of_z w64 z)) (λ i. passed x (omega (arith, p)) i +ℤ passed y (omega (arith, q)) i) ∙ passed (x +ℤ y) (omega (arith, ints, p, q))
-
--- and cents
-cents_sum : (x y : ℤ) → unsigned_abs x < 2 ^ 126 → unsigned_abs y < 2 ^ 126 → to_z w128 (of_z w128 (to_z w128 (of_z w128 x) +ℤ to_z w128 (of_z w128 y))) ≡ x +ℤ y
-cents_sum x y p q =
-    let passed = λ (z : ℤ) (h : unsigned_abs z < 2 ^ 127). to_z-of_z w128 z (fits_signed_from_abs w128 z (omega (arith, h))) in
-    ap (λ z. to_z w128 (of_z w128 z)) (λ i. passed x (omega (arith, p)) i +ℤ passed y (omega (arith, q)) i) ∙ passed (x +ℤ y) (omega (arith, ints, p, q))
 
 pub returns : goal.returns
 returns c =

@@ -1,10 +1,11 @@
 use Rattle.std.proofs.Common.{◌++◌, ◌+◌, None, length}
 use Rattle.cns_positions.specs.Rows.{Rows, held_above}
 use Rattle.cns_actions.specs.Merging.{IsMerged}
+use Rattle.cns_actions.specs.Turns.{turned_rows}
 use Rattle.cns_actions.proofs.merging.merged.Given as goal
 
 abbrev pub invariant-loop-row : goal.invariant-loop-row
-invariant-loop-row g l = (m : Rows) → IsMerged l.merge.rows l.merge.entries m → IsMerged (held_above (g.P.Positions.rows l.positions) None) l.fn.entries (l.rows.items ++ m)
+invariant-loop-row g l = (m : Rows) → IsMerged l.merge.rows l.merge.entries m → IsMerged (turned_rows l.fn.turn (held_above (g.P.Positions.rows l.positions) None)) l.fn.entries (l.rows.items ++ m)
 
 abbrev pub decreases-loop-row : goal.decreases-loop-row
 decreases-loop-row g l = length l.merge.rows + length l.merge.entries

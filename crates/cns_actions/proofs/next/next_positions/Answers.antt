@@ -1,7 +1,5 @@
-use Rattle.std.proofs.Common.{◌≡◌, ◌∙◌, refl, Bool, true, false}
-use Rattle.cns_terms.specs.Refusals.{are_too_large}
+use Rattle.std.proofs.Common.{◌≡◌, ◌∙◌, sym, refl, Bool, true, false}
 use Rattle.cns_positions.specs.Rows.{holding_at}
-use Rattle.cns_actions.specs.Booked.{entries_of, issue_of, position_at, positions_in}
 use Rattle.cns_actions.proofs.Booking.{same_books, same_large}
 use Rattle.cns_actions.proofs.next.next_positions.Goals as goal
 
@@ -12,14 +10,34 @@ clash false p q = cc
 pub returns-in_default-clause-too_large : goal.returns-in_default-clause-too_large
 returns-in_default-clause-too_large g c = λ ms are.
     let R = g.P.Positions.rows c.args.positions.now in
-    ((λ h. same_large R c.sum_of.ensures.order c.args.action.now c.requires.another ms are ∙ c.in_default.ensures.large), (λ h. refl))
+    ((λ h. same_large R c.sum_of.ensures.order c.args.pending.now c.requires.waiting c.args.action.now c.requires.another ms are ∙ c.in_default.ensures.large), (λ h. refl))
+
+pub returns-in_default-clause-pending : goal.returns-in_default-clause-pending
+returns-in_default-clause-pending g c = λ ms are.
+    let R = g.P.Positions.rows c.args.positions.now in
+    let large = same_large R c.sum_of.ensures.order c.args.pending.now c.requires.waiting c.args.action.now c.requires.another ms are ∙ c.in_default.ensures.large in
+    ((λ h. cc), (λ h. absurd (clash _ large h.0)))
+
+pub returns-then-waits_for-clause-too_large : goal.returns-then-waits_for-clause-too_large
+returns-then-waits_for-clause-too_large g c = λ ms are.
+    let R = g.P.Positions.rows c.args.positions.now in
+    let within = same_large R c.sum_of.ensures.order c.args.pending.now c.requires.waiting c.args.action.now c.requires.another ms are ∙ c.in-Some.ensures.within in
+    ((λ h. cc), (λ h. absurd (clash _ h within)))
+
+pub returns-then-waits_for-clause-pending : goal.returns-then-waits_for-clause-pending
+returns-then-waits_for-clause-pending g c = λ ms are.
+    let R = g.P.Positions.rows c.args.positions.now in
+    let within = same_large R c.sum_of.ensures.order c.args.pending.now c.requires.waiting c.args.action.now c.requires.another ms are ∙ c.in-Some.ensures.within in
+    ((λ h. (within, sym c.waits_for.ensures ∙ c.if-waits_for.true)), (λ h. refl))
 
 pub returns-in-Ok-clause-too_large : goal.returns-in-Ok-clause-too_large
 returns-in-Ok-clause-too_large g c = λ ms are.
     let R = g.P.Positions.rows c.args.positions.now in
-    let x = c.args.action.now in
-    let within : are_too_large (position_at R) (entries_of x (positions_in R (issue_of x)) ms) ≡ false = same_large R c.sum_of.ensures.order x c.requires.another ms are ∙ c.in-Some.ensures.within in
+    let within = same_large R c.sum_of.ensures.order c.args.pending.now c.requires.waiting c.args.action.now c.requires.another ms are ∙ c.in-Some.ensures.within in
     ((λ h. cc), (λ h. absurd (clash _ h within)))
+
+pub returns-in-Ok-clause-pending : goal.returns-in-Ok-clause-pending
+returns-in-Ok-clause-pending g c = λ ms are. ((λ h. cc), (λ h. absurd (clash _ h.1 (sym c.waits_for.ensures ∙ c.if-waits_for.false))))
 
 pub returns-in-Ok-clause-booked : goal.returns-in-Ok-clause-booked
 returns-in-Ok-clause-booked g c = λ ms are k.
@@ -29,6 +47,8 @@ returns-in-Ok-clause-booked g c = λ ms are k.
 pub returns-in-Err-clause-too_large : goal.returns-in-Err-clause-too_large
 returns-in-Err-clause-too_large g c = λ ms are.
     let R = g.P.Positions.rows c.args.positions.now in
-    let x = c.args.action.now in
-    let within : are_too_large (position_at R) (entries_of x (positions_in R (issue_of x)) ms) ≡ false = same_large R c.sum_of.ensures.order x c.requires.another ms are ∙ c.in-Some.ensures.within in
+    let within = same_large R c.sum_of.ensures.order c.args.pending.now c.requires.waiting c.args.action.now c.requires.another ms are ∙ c.in-Some.ensures.within in
     ((λ h. cc), (λ h. absurd (clash _ h within)))
+
+pub returns-in-Err-clause-pending : goal.returns-in-Err-clause-pending
+returns-in-Err-clause-pending g c = λ ms are. ((λ h. cc), (λ h. absurd (clash _ h.1 (sym c.waits_for.ensures ∙ c.if-waits_for.false))))

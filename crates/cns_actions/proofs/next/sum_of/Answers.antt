@@ -12,6 +12,7 @@ pub loop-holder-init : goal.loop-holder-init
 loop-holder-init g c =
     let R = g.P.Positions.rows c.args.positions.now in
     let x = c.args.action.now in
+    let ps = c.args.pending.now in
     let i = c.issue_of-issue.result in
     let s = sum_of x (holders_in i (held_above R None)) in
     let none : Change = record { before = pos 0; after = pos 0; cents = pos 0 } in
@@ -19,7 +20,7 @@ loop-holder-init g c =
     record {
       up = up_first R i c.requires c.in_order.ensures;
       sum = (λ j. record { before = sym (zero_add s.before) j; after = sym (zero_add s.after) j; cents = sym (zero_add s.cents) j }) ∙ ap (λ hs. plus none (sum_of x hs)) same;
-      fits = ap (list_any (takes_beyond R x)) same;
+      fits = ap (list_any (takes_beyond R ps x)) same;
     }
 
 pub takes_beyond-requires-clause-within : goal.takes_beyond-requires-clause-within
@@ -31,14 +32,16 @@ pub returns-then-takes_beyond-clause-large : goal.returns-then-takes_beyond-clau
 returns-then-takes_beyond-clause-large g c =
     let R = g.P.Positions.rows c.args.positions.now in
     let x = c.args.action.now in
+    let ps = c.args.pending.now in
     let l = c.loop-holder in
-    ap (λ (i : Cusip). list_any (takes_beyond R x) (holders_in i (held_above R None))) (sym c.issue_of-issue.ensures)
-    ∙ beyond_found (takes_beyond R x) _ _ _ _ _ c.in-Some.ensures.next l.invariant.fits (sym c.takes_beyond.ensures) c.if-takes_beyond.true
+    ap (λ (i : Cusip). list_any (takes_beyond R ps x) (holders_in i (held_above R None))) (sym c.issue_of-issue.ensures)
+    ∙ beyond_found (takes_beyond R ps x) _ _ _ _ _ c.in-Some.ensures.next l.invariant.fits (sym c.takes_beyond.ensures) c.if-takes_beyond.true
 
 pub loop-holder-preserved : goal.loop-holder-preserved
 loop-holder-preserved g c =
     let R = g.P.Positions.rows c.args.positions.now in
     let x = c.args.action.now in
+    let ps = c.args.pending.now in
     let l = c.loop-holder in
     let h = c.in-Some.holder in
     let first = c.in-Some.ensures.next in
@@ -47,5 +50,5 @@ loop-holder-preserved g c =
     record {
       up = up_next l.sum _ l.invariant.up h _ first c.add.new.self d.result c.in-Some.ensures.range d.ensures.few e.before e.after e.cents;
       sum = sum_next x _ l.sum c.add.new.self _ h _ first l.invariant.sum (e.before ∙ ap (λ (s : Change). l.sum.before +ℤ s.before) d.ensures.exact) (e.after ∙ ap (λ (s : Change). l.sum.after +ℤ s.after) d.ensures.exact) (e.cents ∙ ap (λ (s : Change). l.sum.cents +ℤ s.cents) d.ensures.exact);
-      fits = fits_next (takes_beyond R x) _ _ _ h _ first l.invariant.fits (sym c.takes_beyond.ensures) c.if-takes_beyond.false;
+      fits = fits_next (takes_beyond R ps x) _ _ _ h _ first l.invariant.fits (sym c.takes_beyond.ensures) c.if-takes_beyond.false;
     }

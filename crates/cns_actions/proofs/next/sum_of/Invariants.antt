@@ -10,7 +10,7 @@ abbrev pub invariant-loop-holder : goal.invariant-loop-holder
 invariant-loop-holder g l = record {
   up : IsUpTo l.sum (holders_after (g.P.Positions.rows l.positions) l.issue l.passed);
   sum : sum_of l.action (holders_in l.issue (held_above (g.P.Positions.rows l.positions) None)) ≡ plus l.sum (sum_of l.action (holders_after (g.P.Positions.rows l.positions) l.issue l.passed));
-  fits : list_any (takes_beyond (g.P.Positions.rows l.positions) l.action) (holders_in l.issue (held_above (g.P.Positions.rows l.positions) None)) ≡ list_any (takes_beyond (g.P.Positions.rows l.positions) l.action) (holders_after (g.P.Positions.rows l.positions) l.issue l.passed);
+  fits : list_any (takes_beyond (g.P.Positions.rows l.positions) l.pending l.action) (holders_in l.issue (held_above (g.P.Positions.rows l.positions) None)) ≡ list_any (takes_beyond (g.P.Positions.rows l.positions) l.pending l.action) (holders_after (g.P.Positions.rows l.positions) l.issue l.passed);
 }
 
 abbrev pub decreases-loop-holder : goal.decreases-loop-holder

@@ -1,5 +1,6 @@
+use Rattle.std.proofs.Common.{◌<◌, length}
 use Rattle.std.proofs.lemmas.Result.{err_from_is_err_and}
-use Rattle.cns_feed.proofs.PlayLemmas.{counts-known, stops-known, stops-unread}
+use Rattle.cns_feed.proofs.PlayLemmas.{counts-known, ended-known, stops-known, stops-unread}
 use Rattle.cns_feed.proofs.player.replay_up_to.Goals as goal
 
 pub returns-in_err-book-clause-fault : goal.returns-in_err-book-clause-fault
@@ -12,3 +13,9 @@ returns-clause-counts g c = counts-known g.R.Read.remaining c.new.result _ (g.R.
 
 pub returns-clause-fault : goal.returns-clause-fault
 returns-clause-fault g c = stops-known g.R.Read.remaining c.new.result _ _ _ (g.R.Read.remaining c.args.reader) _ _ c.new.ensures.pending (rw c.in_ok-book.ensures.book at c.play.ensures.fault)
+
+pub returns-clause-output : goal.returns-clause-output
+returns-clause-output g c = ended-known g.R.Read.remaining c.new.result (g.R.Read.remaining c.args.reader) c.play.result _ c.new.ensures.pending (rw c.in_ok-book.ensures.book at c.play.ensures.text)
+
+pub returns-clause-few : goal.returns-clause-few
+returns-clause-few g c = ended-known g.R.Read.remaining c.new.result (g.R.Read.remaining c.args.reader) c.play.result (λ all. length all < c.args.most) c.new.ensures.pending c.play.ensures.few

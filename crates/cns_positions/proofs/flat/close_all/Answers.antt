@@ -11,5 +11,5 @@ loop-row-preserved c =
     let rows = c.loop-row.rows in
     let i = c.loop-row.row-index in
     let row : Key × Holding = get_or rows i c.row-item.result in
-    ap (λ h. set rows i (row.0, h)) c.close-row.ensures
+    ap (λ h. set rows i (row.0, h)) c.rolled-row.ensures
     ∙ map_over_more f c.args.rows.now rows i row (omega arith) c.loop-row.invariant (ap (get_or rows i) c.row-item.is)

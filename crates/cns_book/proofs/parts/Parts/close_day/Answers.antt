@@ -9,6 +9,7 @@ use Rattle.cns_terms.specs.Dividends.{is_due}
 use Rattle.cns_terms.specs.Entries.{journal}
 use Rattle.cns_terms.specs.Fills.{batches_since}
 use Rattle.cns_terms.specs.declared.refusal.Refusal.TheVariants.{WrongDay}
+use Rattle.cns_terms.specs.Pending.{is_due as due_on}
 use Rattle.cns_terms.specs.Refusals.{first_refusal, rules}
 use Rattle.cns_terms.specs.Sheets.{day_sheet}
 use Rattle.cns_sheets.specs.Build.{prices_of}
@@ -17,7 +18,7 @@ use Rattle.cns_sheets.specs.Payments.{IsCut}
 use Rattle.cns_book.specs.Contents.{Contents}
 use Rattle.cns_book.specs.Dated.{last_dated, payments_by}
 use Rattle.cns_book.specs.Follows.{Follows, HasRoom, Steps}
-use Rattle.cns_book.proofs.ClosingSteps.{after_last, closes_fit, day_closed, le_test}
+use Rattle.cns_book.proofs.ClosingSteps.{after_last, closes_fit, day_closed, le_test, opened_rows}
 use Rattle.cns_book.proofs.MachineSteps.{accepted, no_refusal, refused, stopped}
 use Rattle.cns_book.proofs.RetransmittalSteps.{liable_counted, liable_few}
 use Rattle.cns_book.proofs.ClosingSheet.{can_be_cut, can_be_paid, sheet_is}
@@ -70,6 +71,15 @@ returns-in_err-batches-clause-step g c L f =
     subst (λ (t : Contents). Steps L (command.Activity (activity.Close c.args.next)) c.from_residual-in_err-batches.result t) c.self.view_is
     (stopped L (command.Activity (activity.Close c.args.next)) c.from_residual-in_err-batches.result c.from_residual-in_err-batches.ensures.0 none f')
 
+pub returns-in_err-opened-clause-step : goal.returns-in_err-opened-clause-step
+returns-in_err-opened-clause-step g c L f =
+    let f' = subst (Follows L) (sym c.self.view_is) f in
+    let d = day_number c.args.next in
+    let late = ap (λ t. int_le d (day_number t)) (sym f'.clock.today) ∙ sym (le_test d (day_number c.self.inside.today)) ∙ sym c.le.ensures ∙ c.if-le.false in
+    let none = no_refusal (rules c.self.inside.opening (journal c.self.inside.opening L) (activity.Close c.args.next)) (late, tt) in
+    subst (λ (t : Contents). Steps L (command.Activity (activity.Close c.args.next)) c.from_residual-in_err-opened.result t) c.self.view_is
+    (stopped L (command.Activity (activity.Close c.args.next)) c.from_residual-in_err-opened.result c.from_residual-in_err-opened.ensures.0 none f')
+
 pub count_liable-requires : goal.count_liable-requires
 count_liable-requires g c =
     let room = c.requires in
@@ -108,10 +118,15 @@ returns-clause-step g c L f =
     let count = c.len.ensures ∙ ap (λ s. length s.rows) is in
     let chosen = subst (λ (t : Contents). c.in_ok-batches.batches.items ≡ batches_since (journal t.opening L) (journal t.opening L)) (sym c.self.view_is) (c.in_ok-batches.ensures.batches L f) in
     let liable = c.count_liable.ensures ∙ liable_counted o L c.as_slice.result.now f'.reached (c.as_slice.ensures.value ∙ chosen) in
+    let made = rw (← c.self.view_is) at c.in_ok-opened.ensures in
+    let rows = opened_rows (λ p. g.P.Positions.rows p) c.in_ok-opened.opened (filter (due_on c.args.next) c.self.inside.trades.pending) (g.P.Positions.rows c.self.inside.positions) (g.P.Positions.rows c.open.new.positions) made c.open.ensures.rolled c.open.ensures.taken in
     accepted L (activity.Close c.args.next) (reply.Closed (record { day = c.self.inside.closes + 1; date = c.self.inside.today; rows = c.len.result; liable = c.count_liable.result }))
     none
     (λ i. reply.Closed (record { day = f'.clock.closes i + 1; date = f'.clock.today i; rows = count i; liable = liable i }))
-    (rw (c.in_default.ensures.ok, c.in_ok-keep.ensures.ok, c.expire.ensures) (day_closed L _ c.args.next (g.P.Positions.rows c.roll.new.self) c.in_ok-sheet.sheet c.in_ok-batches.batches.items f' (closes_fit _ room) none c.roll.ensures.rolled is chosen))
+    (rw (c.in_default.ensures.ok, c.in_ok-keep.ensures.ok, c.expire.ensures) (day_closed L _ c.args.next c.settle.new.self (g.P.Positions.rows c.open.new.positions) c.in_ok-sheet.sheet c.in_ok-batches.batches.items f' (closes_fit _ room) none c.settle.ensures.references c.settle.ensures.pending rows is chosen))
 
 pub same-self-in_err-batches : goal.same-self-in_err-batches
 same-self-in_err-batches g c = refl
+
+pub same-self-in_err-opened : goal.same-self-in_err-opened
+same-self-in_err-opened g c = refl

@@ -1,9 +1,12 @@
-use Rattle.std.proofs.Common.{◌≡◌, ◌∙◌, ◌+◌, sym, ap, subst, length, arith}
+use Rattle.std.proofs.Common.{◌≡◌, ◌∙◌, ◌+◌, sym, ap, subst, length, None, arith}
 use Rattle.std.proofs.lemmas.List.{length-append}
 use Rattle.cns_terms.specs.declared.command.Activity.TheVariants as activity
+use Rattle.cns_terms.specs.declared.command.Command.TheVariants as command
 use Rattle.cns_terms.specs.declared.reply.Reply.TheVariants as reply
 use Rattle.cns_terms.specs.Entries.{journal}
 use Rattle.cns_terms.specs.Notices.{notices}
+use Rattle.cns_terms.specs.Refusals.{refusal}
+use Rattle.cns_book.specs.Contents.{Contents}
 use Rattle.cns_book.specs.Follows.{Follows, HasRoom}
 use Rattle.cns_book.proofs.ClosingSteps.{closes_fit}
 use Rattle.cns_book.proofs.MachineSteps.{accepted}
@@ -27,7 +30,7 @@ pub returns-clause-step : goal.returns-clause-step
 returns-clause-step g c L f =
     let f' = subst (Follows L) (sym c.self.view_is) f in
     let m = c.args.movement.now in
-    let none = sym (c.notice_refusal.ensures.refusal L f) ∙ c.in_default.is in
+    let none = subst (λ (t : Contents). refusal t.opening (journal t.opening L) (command.Activity (activity.Notice m)) ≡ None) (sym c.self.view_is) (sym (c.notice_refusal.ensures.refusal L f) ∙ c.in_default.is) in
     let counted : length c.self.inside.notices ≡ length (notices (journal c.self.inside.opening L)) = notices_counted L _ f' in
     let number : c.in_ok-number.number ≡ length (notices (journal c.self.inside.opening L)) + 1 = c.in_ok-number.ensures.number ∙ ap length c.in_ok-number.ensures.ok ∙ length-append c.self.inside.notices _ ∙ ap (λ n. n + 1) counted in
     accepted L (activity.Notice m) (reply.Noticed c.in_ok-number.number) none (ap reply.Noticed number)

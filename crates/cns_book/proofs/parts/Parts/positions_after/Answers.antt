@@ -1,4 +1,4 @@
-use Rattle.std.proofs.Common.{◌≡◌, ◌∙◌, sym, ap, subst, List}
+use Rattle.std.proofs.Common.{◌≡◌, ◌∙◌, ◌↔◌, sym, ap, subst, true, false, List, Err}
 use Rattle.std.specs.Prelude.{IfOk}
 use Rattle.cns_units.specs.declared.account.Member.{Member}
 use Rattle.cns_terms.specs.declared.command.Activity.{Activity}
@@ -8,22 +8,42 @@ use Rattle.cns_terms.specs.Entries.{entries, journal}
 use Rattle.cns_terms.specs.Listings.{members}
 use Rattle.cns_positions.specs.Rows.{books, holding_at}
 use Rattle.cns_book.specs.Follows.{Follows, HasRoom}
-use Rattle.cns_actions.specs.Booked.{entries_of, issue_of, positions_in}
+use Rattle.cns_terms.specs.Refusals.{are_too_large, is_too_large}
+use Rattle.cns_actions.specs.declared.fault.ActionFault.TheVariants as fault
+use Rattle.cns_actions.specs.Booked.{entries_of, issue_of, position_at, positions_in, waits_for}
 use Rattle.cns_book.specs.Contents.{Contents}
-use Rattle.cns_book.specs.Effects.{activity_of}
-use Rattle.cns_book.proofs.ActionSteps.{can_be_booked, entries_are, holders_are, ok_weaker, size_is}
+use Rattle.cns_book.specs.Effects.{activity_of, is_held_up}
+use Rattle.cns_book.proofs.ActionSteps.{can_be_booked, entries_are, few_wait, held_up_is, holders_are, ok_weaker, size_is}
 use Rattle.cns_book.proofs.parts.Parts.positions_after.Goals as goal
 
 pub next_positions-requires-clause-within : goal.next_positions-requires-clause-within
 next_positions-requires-clause-within g c = can_be_booked _ (subst HasRoom (sym c.self.view_is) c.requires.room)
 
+pub next_positions-requires-clause-waiting : goal.next_positions-requires-clause-waiting
+next_positions-requires-clause-waiting g c = rw c.waiting.ensures (few_wait _ (subst HasRoom (sym c.self.view_is) c.requires.room))
+
 pub returns-clause-too_large : goal.returns-clause-too_large
 returns-clause-too_large g c L f =
     let f' = subst (Follows L) (sym c.self.view_is) f in
     let x = c.args.action.now in
-    let both = c.next_positions.ensures.too_large (members (journal c.self.inside.opening L)) (holders_are _ L f' (issue_of x)) in
-    let same = size_is _ L f' x in
+    let R = g.P.Positions.rows c.self.inside.positions in
+    let ms = members (journal c.self.inside.opening L) in
+    let both = c.next_positions.ensures.too_large ms (holders_are _ L f' (issue_of x)) in
+    let same = ap (λ ps. are_too_large (position_at R) ps (entries_of x (positions_in R (issue_of x)) ms)) c.waiting.ensures ∙ size_is _ L f' x in
+    subst (λ (t : Contents). (c.next_positions.result ≡ Err fault.TooLarge) ↔ (is_too_large t.opening (journal t.opening L) (activity_of x) ≡ true)) c.self.view_is
     ((λ e. sym same ∙ both.0 e), (λ e. both.1 (same ∙ e)))
+
+pub returns-clause-pending : goal.returns-clause-pending
+returns-clause-pending g c L f =
+    let f' = subst (Follows L) (sym c.self.view_is) f in
+    let x = c.args.action.now in
+    let R = g.P.Positions.rows c.self.inside.positions in
+    let ms = members (journal c.self.inside.opening L) in
+    let both = c.next_positions.ensures.pending ms (holders_are _ L f' (issue_of x)) in
+    let same = ap (λ ps. are_too_large (position_at R) ps (entries_of x (positions_in R (issue_of x)) ms)) c.waiting.ensures ∙ size_is _ L f' x in
+    let held = ap (waits_for x) c.waiting.ensures ∙ held_up_is _ L f' x in
+    subst (λ (t : Contents). (c.next_positions.result ≡ Err fault.PendingTrades) ↔ ((is_too_large t.opening (journal t.opening L) (activity_of x) ≡ false) × (is_held_up t.opening (journal t.opening L) x ≡ true))) c.self.view_is
+    ((λ e. let p = both.0 e in (sym same ∙ p.0, sym held ∙ p.1)), (λ e. both.1 (same ∙ e.0, held ∙ e.1)))
 
 pub returns-clause-booked : goal.returns-clause-booked
 returns-clause-booked g c =

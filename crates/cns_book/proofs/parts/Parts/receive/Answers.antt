@@ -46,7 +46,7 @@ returns-clause-step g c L f =
     let done = answer_ok (first_refusal (receipt_rules facts m)) (moved_out m.member m ∷ moved_in corporation m ∷ []) c.in-Ok.entries c.in-Ok.ensures.answer in
     let none = receipt_refusal L c.self.inside.opening m facts are ∙ done.0 in
     accepted L (activity.Receive m) reply.Accepted none refl
-    (booked_by L _ (activity.Receive m) c.self.inside.trades c.received.new.self (g.P.Positions.rows c.book.new.positions) f' c.value.ensures.range.1 none refl refl refl refl f'.references (c.received.ensures ∙ receipt_counted L m f')
+    (booked_by L _ (activity.Receive m) c.self.inside.trades c.received.new.self (g.P.Positions.rows c.book.new.positions) f' c.value.ensures.range.1 none refl refl refl refl f'.references f'.pending (c.received.ensures ∙ receipt_counted L m f')
     (λ k. c.book.ensures k ∙ (λ i. books (done.1 i) k (c.in_ok-prepare.ensures.same k i))))
 
 pub received-requires : goal.received-requires

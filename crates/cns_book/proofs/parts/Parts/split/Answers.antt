@@ -1,10 +1,10 @@
-use Rattle.std.proofs.Common.{◌≡◌, ◌∙◌, sym, subst, refl}
+use Rattle.std.proofs.Common.{◌≡◌, ◌∙◌, sym, subst, refl, true}
 use Rattle.cns_terms.specs.declared.command.Activity.TheVariants as activity
 use Rattle.cns_terms.specs.declared.reply.Reply.TheVariants as reply
 use Rattle.cns_terms.specs.declared.holding.Key.{Key}
 use Rattle.cns_terms.specs.Entries.{entries, journal}
 use Rattle.cns_terms.specs.Listings.{is_listed, is_retired}
-use Rattle.cns_terms.specs.Refusals.{is_too_large, rules}
+use Rattle.cns_terms.specs.Refusals.{first_refusal, is_too_large, rules}
 use Rattle.cns_positions.specs.Rows.{books, holding_at}
 use Rattle.cns_trades.specs.Checks.{issue_rules}
 use Rattle.cns_book.specs.Contents.{Contents}
@@ -20,9 +20,11 @@ returns-in-Ok-clause-step g c L f =
     let s = c.args.split.now in
     let x = activity.Split s in
     let J = journal c.self.inside.opening L in
-    let fails = none_fails (issue_rules (is_listed J s.issue) (is_retired J s.issue)) (sym (c.issue_refusal.ensures L f) ∙ c.in_default.is) in
-    let small = not_true (is_too_large c.self.inside.opening J x) (λ e. no_fault _ _ ((c.in-Ok.ensures.too_large L f).1 e)) in
+    let said = subst (λ (t : Contents). c.issue_refusal.result ≡ first_refusal (issue_rules (is_listed (journal t.opening L) s.issue) (is_retired (journal t.opening L) s.issue))) (sym c.self.view_is) (c.issue_refusal.ensures L f) in
+    let fails = none_fails (issue_rules (is_listed J s.issue) (is_retired J s.issue)) (sym said ∙ c.in_default.is) in
+    let size = subst (λ (t : Contents). is_too_large t.opening (journal t.opening L) x ≡ true → ⊥) (sym c.self.view_is) (λ e. no_fault _ _ ((c.in-Ok.ensures.too_large L f).1 e)) in
+    let small = not_true (is_too_large c.self.inside.opening J x) size in
     let none = no_refusal (rules c.self.inside.opening J x) (fails.0, (fails.1.0, (small, tt))) in
     let booked = subst (λ (t : Contents). (k : Key) → holding_at (g.P.Positions.rows c.in-Ok.positions) k ≡ books (entries t.opening (journal t.opening L) x) k (holding_at t.rows k)) (sym c.self.view_is) (c.in-Ok.ensures.booked L f) in
     accepted L x reply.Accepted none refl
-    (booked_by L _ x c.self.inside.trades c.end_issue.new.self (g.P.Positions.rows c.in-Ok.positions) f' (c.parts.ensures.old_range, c.value.ensures.range) none refl refl refl refl f'.references (c.end_issue.ensures ∙ split_ends L s f') booked)
+    (booked_by L _ x c.self.inside.trades c.end_issue.new.self (g.P.Positions.rows c.in-Ok.positions) f' (c.parts.ensures.old_range, c.value.ensures.range) none refl refl refl refl f'.references f'.pending (c.end_issue.ensures ∙ split_ends L s f') booked)

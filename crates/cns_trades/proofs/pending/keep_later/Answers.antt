@@ -1,7 +1,7 @@
-use Rattle.std.proofs.Common.{rules, filter, not}
+use Rattle.std.proofs.Common.{rules, not}
 use Rattle.std.proofs.lemmas.Fn.{filter_same}
 use Rattle.cns_terms.specs.Pending.{is_due}
-use Rattle.cns_trades.proofs.trades.keep_later.Goals as goal
+use Rattle.cns_trades.proofs.pending.keep_later.Goals as goal
 
 -- the closure keeps what is not due, and stays as it was
 pub returns : goal.returns

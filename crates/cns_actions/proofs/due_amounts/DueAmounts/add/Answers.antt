@@ -1,0 +1,33 @@
+use Rattle.std.proofs.Common.{◌≡◌, ◌∙◌, sym, ap, subst}
+use Rattle.std.specs.List.{AllByRecursion}
+use Rattle.cns_terms.specs.declared.holding.Key.{Key}
+use Rattle.cns_terms.proofs.Finds.{sorted_from}
+use Rattle.cns_terms.proofs.Keys.{keys_total}
+use Rattle.cns_actions.specs.declared.due_amounts.Amount.{Amount}
+use Rattle.cns_actions.specs.DueAmounts.{IsSmallAmount, amount_at, with_entry}
+use Rattle.cns_actions.proofs.DueAmounts.{amounts_added, had_is, room_at, small_insert}
+use Rattle.cns_actions.proofs.due_amounts.DueAmounts.add.Goals as goal
+
+pub with-requires-clause-room : goal.with-requires-clause-room
+with-requires-clause-room g c =
+    let es = c.self.inside.amounts.entries in
+    let had : c.unwrap_or-had.result ≡ amount_at es c.key_of-key.result = had_is c.key_of-key.result es _ _ c.unwrap_or-had.ensures (c.copied.ensures ∙ c.get.ensures.value) in
+    subst IsSmallAmount (sym had) (room_at c.key_of-key.result es c.self.invariant.small)
+
+pub invariant_of-self-2 : goal.invariant_of-self-2
+invariant_of-self-2 g c =
+    let es = c.self.inside.amounts.entries in
+    let e = c.args.entry.now in
+    let had : c.unwrap_or-had.result ≡ amount_at es c.key_of-key.result = had_is c.key_of-key.result es _ _ c.unwrap_or-had.ensures (c.copied.ensures ∙ c.get.ensures.value) in
+    let room : IsSmallAmount c.with.result = subst IsSmallAmount (sym (c.with.ensures ∙ ap (λ (a : Amount). with_entry a e) (had ∙ (λ i. amount_at (c.self.view_is i) (c.key_of-key.ensures i))))) c.requires.room in
+    record {
+      order = sorted_from keys_total _ c.insert.ensures.ordered;
+      small = subst (AllByRecursion (λ (x : Key × Amount). IsSmallAmount x.1)) (sym c.in-Ok.ensures.entries) (small_insert c.key_of-key.result c.with.result es room c.self.invariant.small);
+    }
+
+pub returns : goal.returns
+returns g c =
+    let es = c.self.inside.amounts.entries in
+    let e = c.args.entry.now in
+    let had : c.unwrap_or-had.result ≡ amount_at es c.key_of-key.result = had_is c.key_of-key.result es _ _ c.unwrap_or-had.ensures (c.copied.ensures ∙ c.get.ensures.value) in
+    rw (sym c.self.view_is) (amounts_added es c.insert.new.self.entries c.key_of-key.result c.with.result e c.key_of-key.ensures c.in-Ok.ensures.updates.0 (c.with.ensures ∙ ap (λ (a : Amount). with_entry a e) had))

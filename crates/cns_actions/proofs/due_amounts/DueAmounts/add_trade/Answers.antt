@@ -1,0 +1,23 @@
+use Rattle.cns_actions.specs.Merging.{key_of}
+use Rattle.cns_actions.specs.DueAmounts.{amount_at}
+use Rattle.cns_actions.proofs.DueAmounts.{trade_bound, trade_room, trade_sums, where_ok}
+use Rattle.cns_actions.proofs.due_amounts.DueAmounts.add_trade.Goals as goal
+
+pub add-requires-2-clause-room : goal.add-requires-2-clause-room
+add-requires-2-clause-room g c =
+    let b = c.buyer_entry in
+    let s = c.seller_entry in
+    let k = key_of s.result in
+    trade_room c.args.pend.now k b.result s.result b.ensures.entry s.ensures.entry (amount_at c.args.self.now k) (amount_at c.add.new.self k) (c.in_ok-add.ensures k) b.ensures.shares b.ensures.cents (c.requires k)
+
+pub returns-clause-sums : goal.returns-clause-sums
+returns-clause-sums g c =
+    let b = c.buyer_entry in
+    let s = c.seller_entry in
+    where_ok c.add-2.result c.add-2.ensures (λ h k. trade_sums c.args.pend.now k b.result s.result b.ensures.entry s.ensures.entry (amount_at c.args.self.now k) (amount_at c.add.new.self k) (c.in_ok-add.ensures k) (amount_at c.add-2.new.self k) (h k))
+
+pub returns-clause-bound : goal.returns-clause-bound
+returns-clause-bound g c =
+    let b = c.buyer_entry in
+    let s = c.seller_entry in
+    where_ok c.add-2.result c.add-2.ensures (λ h k. trade_bound c.args.pend.now k b.result s.result b.ensures.entry s.ensures.entry (amount_at c.args.self.now k) (amount_at c.add.new.self k) (c.in_ok-add.ensures k) b.ensures.shares b.ensures.cents (amount_at c.add-2.new.self k) (h k))

@@ -1,0 +1,134 @@
+// What trades book once their date has come, added up by key.
+ghost use Rattle.std.specs.Prelude.{◌≡◌, ◌≤◌, ◌^◌, [], length, map, IfOk, OnOk};
+ghost use Rattle.cns_terms.specs.declared.holding.Key.{Key};
+ghost use Rattle.cns_terms.specs.Entries.{trade_entries};
+ghost use Rattle.cns_actions.specs.Merging.{IsSmall, key_of};
+ghost use Rattle.cns_actions.specs.DueAmounts.{AreAmounts, IsSmallAmount, HasRoomForTrade, IsOneTradeMore, amount_at, amount_for, due_entries, as_entry, with_entry, amount_of, with_amount};
+
+use crate::merging::key_of;
+use cns_terms::{Entry, Key, NoMemory, Pend};
+use cns_units::Day;
+use std::alloc::Allocator;
+use std::collections::BTreeMap;
+use std::marker::Model;
+
+/// Shares and cents that are booked together at a key.
+#[derive(Clone, Copy, Debug, PartialEq, Eq)]
+pub(crate) struct Amount {
+    pub shares: i64,
+    pub cents: i128,
+}
+
+impl Amount {
+    /// What is booked at a key that no entry names.
+    pub const NONE: Amount = Amount {
+        shares: 0,
+        cents: 0,
+    };
+
+    /// With what one more entry books.
+    pub fn with(self, entry: &Entry) -> Amount
+        requires room { IsSmallAmount self }
+        requires small { IsSmall entry.now }
+        ensures { result ≡ with_entry self entry.now }
+    {
+        Amount {
+            shares: self.shares + entry.shares,
+            cents: self.cents + entry.cents,
+        }
+    }
+
+    /// As one entry.
+    pub fn entry(self, key: &Key) -> Entry
+        ensures { result ≡ as_entry (key.now, self) }
+    {
+        Entry {
+            account: key.account,
+            issue: key.issue,
+            shares: self.shares,
+            cents: self.cents,
+        }
+    }
+}
+
+/// What entries book, by key. Contracts see the list of it, in the order of keys.
+#[derive(Drop)]
+pub(crate) struct DueAmounts<A: Allocator + Drop> {
+    amounts: BTreeMap<Key, Amount, A>,
+}
+
+impl<A: Allocator + Drop> Model for DueAmounts<A> {
+    ghost use Rattle.cns_actions.specs.DueAmounts.{AreAmounts, AmountsByKey};
+
+    ghost Value = { AmountsByKey };
+
+    ghost view = { λ s. s.amounts.entries };
+
+    ghost invariant = { λ s. AreAmounts s.amounts.entries };
+}
+
+impl<A: Allocator + Drop + Clone> DueAmounts<A> {
+    /// What the trades that are due on a day book. Where none is due it takes no memory.
+    pub fn of(alloc: A, pending: &[Pend], next: Day) -> Result<Self, NoMemory>
+        requires { length pending.now ≤ 2 ^ 32 }
+        ensures { IfOk result (λ s. (k : Key) → amount_at s k ≡ amount_of (due_entries next pending.now) k) }
+    {
+        let mut amounts = DueAmounts::nothing(alloc);
+        for pend in pending {
+            if pend.is_due(next) {
+                amounts.add_trade(pend)?;
+            }
+        }
+        Ok(amounts)
+    }
+
+    // Nothing is booked. It takes no memory.
+    fn nothing(alloc: A) -> Self
+        ensures { result ≡ [] }
+    {
+        DueAmounts {
+            amounts: BTreeMap::new(alloc),
+        }
+    }
+
+    // Books a trade, for its buyer and for its seller.
+    fn add_trade(&mut self, pend: &Pend) -> Result<(), NoMemory>
+        requires { (k : Key) → HasRoomForTrade (amount_at self.old k) }
+        ensures sums { OnOk result ((k : Key)
+            → amount_at self.new k ≡ with_amount (amount_at self.old k) (amount_of (trade_entries pend.now) k)) }
+        ensures bound { OnOk result ((k : Key) → IsOneTradeMore (amount_at self.old k) (amount_at self.new k)) }
+    {
+        self.add(&pend.buyer_entry())?;
+        self.add(&pend.seller_entry())
+    }
+
+    // Books an entry.
+    fn add(&mut self, entry: &Entry) -> Result<(), NoMemory>
+        requires small { IsSmall entry.now }
+        requires room { IsSmallAmount (with_entry (amount_at self.old (key_of entry.now)) entry.now) }
+        ensures { OnOk result ((k : Key)
+            → amount_at self.new k ≡ with_amount (amount_at self.old k) (amount_for entry.now k)) }
+    {
+        let key = key_of(entry);
+        let had = self.amounts.get(&key).copied().unwrap_or(Amount::NONE);
+        let Ok(_) = self.amounts.insert(key, had.with(entry)) else {
+            return Err(NoMemory);
+        };
+        Ok(())
+    }
+
+    /// What is booked, as one entry a key, from the lowest key on.
+    pub fn entries<B: Allocator + Drop>(&self, alloc: B) -> Result<Vec<Entry, B>, NoMemory>
+        ensures entries { IfOk result (λ v. v.items ≡ map as_entry self.now) }
+        ensures amounts { AreAmounts self.now }
+    {
+        let mut entries = Vec::new(alloc);
+        let mut rest = self.amounts.iter();
+        while let Some((key, amount)) = rest.next() {
+            let Ok(()) = entries.push(amount.entry(key)) else {
+                return Err(NoMemory);
+            };
+        }
+        Ok(entries)
+    }
+}

@@ -1,0 +1,133 @@
+-- Trades that wait, in the order in which they were taken.
+-- For `book_trade` of parts/trading.rt, `close_day` of parts/closing.rt, `split` and `exchange` of parts/actions.rt, clause step.
+use Rattle.std.proofs.Common.{◌≡◌, ◌∙◌, sym, ap, refl, ℕ, ◌≤◌, Bool, true, false, not, ◌||◌, cond, List, [], ◌∷◌, ◌++◌, append-nil, filter, length, map, reverse, Option, Some, None, sum_by, arith}
+use Rattle.std.specs.Prelude.{filter_map}
+use Rattle.std.specs.List.{cons_option, list_any}
+use Rattle.std.proofs.lemmas.Grind.{reverse_onto}
+use Rattle.std.proofs.lemmas.Int.{ints}
+use Rattle.std.proofs.lemmas.List.{length-map, length-reverse}
+use Rattle.std.proofs.lemmas.List.Folds.{list_any-append}
+use Rattle.std.proofs.lemmas.List.Sums.{sum_by-cons, sum_by_push}
+use Rattle.cns_units.specs.declared.account.Account.{Account}
+use Rattle.cns_units.specs.declared.cusip.Cusip.{Cusip}
+use Rattle.cns_units.specs.declared.day.Day.{Day}
+use Rattle.cns_terms.specs.declared.command.Activity.{Activity}
+use Rattle.cns_terms.specs.declared.pend.Pend.{Pend}
+use Rattle.cns_terms.specs.Days.{date, is_not_after}
+use Rattle.cns_terms.specs.Entries.{journal}
+use Rattle.cns_terms.specs.Listings.{traded}
+use Rattle.cns_terms.specs.Pending.{bought_in, is_due, pend_of, pending, sold_in, waits_in}
+use Rattle.cns_terms.specs.Postings.{Journal, activities}
+use Rattle.cns_terms.proofs.Facts.{journal_len, neither, or_false}
+use Rattle.cns_terms.proofs.Waiting.{bought_by, sold_by}
+use Rattle.cns_book.specs.Contents.{Contents}
+use Rattle.cns_book.specs.Follows.{Follows}
+
+-- ---- the other way round
+
+-- a sum
+sum-reverse : {X : Type 0} (f : X → ℕ) (xs : List X) → sum_by f (reverse xs) ≡ sum_by f xs
+sum-reverse f [] = refl
+sum-reverse f (x ∷ xs) =
+    let last = sum_by_push f (reverse xs) x in
+    let first = sum_by-cons f x xs in
+    let rest = sum-reverse f xs in
+    rw (reverse_onto xs x []) (omega (arith, last, first, rest))
+
+pub bought-reverse : (ps : List Pend) (a : Account) (c : Cusip) → bought_in (reverse ps) a c ≡ bought_in ps a c
+bought-reverse ps a c = sum-reverse (bought_by a c) ps
+
+pub sold-reverse : (ps : List Pend) (a : Account) (c : Cusip) → sold_in (reverse ps) a c ≡ sold_in ps a c
+sold-reverse ps a c = sum-reverse (sold_by a c) ps
+
+-- whether one of a list passes
+any-reverse : {X : Type 0} (t : X → Bool) (xs : List X) → list_any t (reverse xs) ≡ list_any t xs
+any-reverse t [] = refl
+any-reverse t (x ∷ xs) = ap (list_any t) (reverse_onto xs x []) ∙ list_any-append t (reverse xs) (x ∷ []) ∙ (λ i. any-reverse t xs i || or_false (t x) i) ∙ swap (list_any t xs) (t x)
+  where
+    swap : (a b : Bool) → (a || b) ≡ (b || a)
+    swap true true = refl
+    swap true false = refl
+    swap false true = refl
+    swap false false = refl
+
+pub waits-reverse : (ps : List Pend) (c : Cusip) → waits_in (reverse ps) c ≡ waits_in ps c
+waits-reverse ps c = any-reverse _ ps
+
+-- what a list keeps
+pub filter-append : {X : Type 0} (t : X → Bool) (xs ys : List X) → filter t (xs ++ ys) ≡ filter t xs ++ filter t ys
+filter-append t [] ys = refl
+filter-append t (x ∷ xs) ys = by (t x) (filter-append t xs ys)
+  where
+    by : (b : Bool) → filter t (xs ++ ys) ≡ filter t xs ++ filter t ys → cond b (x ∷ filter t (xs ++ ys)) (filter t (xs ++ ys)) ≡ cond b (x ∷ filter t xs) (filter t xs) ++ filter t ys
+    by true e = ap (λ zs. x ∷ zs) e
+    by false e = e
+
+pub filter-reverse : {X : Type 0} (t : X → Bool) (xs : List X) → filter t (reverse xs) ≡ reverse (filter t xs)
+filter-reverse t [] = refl
+filter-reverse t (x ∷ xs) = ap (filter t) (reverse_onto xs x []) ∙ filter-append t (reverse xs) (x ∷ []) ∙ by (t x) (filter-reverse t xs)
+  where
+    by : (b : Bool) → filter t (reverse xs) ≡ reverse (filter t xs) → filter t (reverse xs) ++ cond b (x ∷ []) [] ≡ reverse (cond b (x ∷ filter t xs) (filter t xs))
+    by true e = ap (λ zs. zs ++ x ∷ []) e ∙ sym (reverse_onto (filter t xs) x [])
+    by false e = append-nil (filter t (reverse xs)) ∙ e
+
+-- ---- what a close leaves
+
+-- what waits for a later day also waited for an earlier one
+pub still_later : (today next : Day) (ps : List Pend) → is_not_after next today ≡ false → filter (λ p. not (is_due next p)) (filter (λ p. not (is_due today p)) ps) ≡ filter (λ p. not (is_due next p)) ps
+still_later today next [] h = refl
+still_later today next (p ∷ ps) h = by (is_not_after p.date today) (is_not_after p.date next) refl (order p.date h) (still_later today next ps h)
+  where
+    order : (d : Day) → is_not_after next today ≡ false → is_not_after d today ≡ true → is_not_after d next ≡ true
+    order d h k = grind (arith, ints)
+
+    by : (b c : Bool) → is_not_after p.date next ≡ c → (b ≡ true → c ≡ true)
+        → filter (λ p. not (is_due next p)) (filter (λ p. not (is_due today p)) ps) ≡ filter (λ p. not (is_due next p)) ps
+        → filter (λ p. not (is_due next p)) (cond (not b) (p ∷ filter (λ p. not (is_due today p)) ps) (filter (λ p. not (is_due today p)) ps))
+        ≡ cond (not c) (p ∷ filter (λ p. not (is_due next p)) ps) (filter (λ p. not (is_due next p)) ps)
+    by true true is o rest = rest
+    by true false is o rest = let e : false ≡ true = o refl in absurd (cc)
+    by false true is o rest = rw is rest
+    by false false is o rest = rw is (ap (λ qs. p ∷ qs) rest)
+
+-- where none is due nothing is kept
+pub none_kept : {X : Type 0} (t : X → Bool) (xs : List X) → list_any t xs ≡ false → filter t xs ≡ []
+none_kept t [] h = refl
+none_kept t (x ∷ xs) h =
+    let both = neither (t x) (list_any t xs) h in
+    ap (λ b. cond b (x ∷ filter t xs) (filter t xs)) both.0 ∙ none_kept t xs both.1
+
+-- ---- how many wait
+
+-- no more are kept than there are
+filter_few : {X : Type 0} (t : X → Bool) (xs : List X) → length (filter t xs) ≤ length xs
+filter_few t [] = omega arith
+filter_few t (x ∷ xs) = by (t x) (filter_few t xs)
+  where
+    by : (b : Bool) → length (filter t xs) ≤ length xs → length (cond b (x ∷ filter t xs) (filter t xs)) ≤ length (x ∷ xs)
+    by true h = omega (arith, h)
+    by false h = omega (arith, h)
+
+chosen_few : {X Y : Type 0} (f : X → Option Y) (xs : List X) → length (filter_map f xs) ≤ length xs
+chosen_few f [] = omega arith
+chosen_few {Y = Y} f (x ∷ xs) = by (f x) (chosen_few f xs)
+  where
+    by : (o : Option Y) → length (filter_map f xs) ≤ length xs → length (cons_option o (filter_map f xs)) ≤ length (x ∷ xs)
+    by None h = omega (arith, h)
+    by (Some y) h = omega (arith, h)
+
+-- no more trades wait than there are activities
+pub pending_few : (s : Contents) (L : List Activity) → Follows L s → length s.trades.pending ≤ length L
+pending_few s L f =
+    let J : Journal = journal s.opening L in
+    let ts = filter_map traded (activities J) in
+    omega (
+      arith,
+      ap (λ (ps : List Pend). length ps) f.pending,
+      length-reverse (pending s.opening J),
+      filter_few (λ p. not (is_due (date s.opening J) p)) (map pend_of ts),
+      length-map ts pend_of,
+      chosen_few traded (activities J),
+      length-map J (λ p. p.activity),
+      journal_len s.opening L,
+    )

@@ -1,0 +1,98 @@
+-- Trades that wait: what they add up to, and what they book.
+use Rattle.std.proofs.Common.{◌≡◌, ◌∙◌, ap, refl, ℕ, ◌+◌, ℤ, pos, ◌+ℤ◌, ◌-ℤ◌, neg_ℤ, Bool, true, false, not, ◌&&◌, ◌==◌, cond, List, [], ◌∷◌, filter, flat_map, reverse, sum_by, arith}
+use Rattle.std.specs.Prelude.{unsigned_abs}
+use Rattle.std.proofs.lemmas.Grind.{reverse_onto}
+use Rattle.std.proofs.lemmas.Int.{ints}
+use Rattle.std.proofs.lemmas.List.Sums.{sum_by-cons}
+use Rattle.cns_units.specs.declared.account.Account.{Account}
+use Rattle.cns_units.specs.declared.cusip.Cusip.{Cusip}
+use Rattle.cns_units.specs.declared.day.Day.{Day}
+use Rattle.cns_terms.specs.declared.holding.Entry.{Entry}
+use Rattle.cns_terms.specs.declared.pend.Pend.{Pend}
+use Rattle.cns_terms.specs.Days.{date, is_not_after}
+use Rattle.cns_terms.specs.Entries.{trade_entries}
+use Rattle.cns_terms.specs.Pending.{bought_in, due, is_due, pending, sold_in, trades}
+use Rattle.cns_terms.specs.Positions.{shares_for}
+use Rattle.cns_terms.specs.Postings.{Journal}
+use Rattle.cns_terms.specs.Sums.{same_issue, total}
+use Rattle.cns_terms.proofs.Magnitudes.{added, added-append, magnitude}
+
+-- a sum, term by term
+sum_added : {X : Type 0} (f : X → ℕ) (xs : List X) → sum_by f xs ≡ added f xs
+sum_added f [] = refl
+sum_added f (x ∷ xs) = sum_by-cons f x xs ∙ ap (λ n. f x + n) (sum_added f xs)
+
+-- the same the other way round
+added-reverse : {X : Type 0} (f : X → ℕ) (xs : List X) → added f (reverse xs) ≡ added f xs
+added-reverse f [] = refl
+added-reverse f (x ∷ xs) = rw (reverse_onto xs x []) (omega (arith, added-append f (reverse xs) (x ∷ []), added-reverse f xs))
+
+-- ---- what is settled at a close
+
+-- what waits on a day is what waits on a later one and what is due on that
+waits_or_due : (f : Pend → ℕ) (today next : Day) (ps : List Pend) → is_not_after next today ≡ false
+    → added f (filter (λ p. not (is_due today p)) ps) ≡ added f (filter (λ p. not (is_due next p)) ps) + added f (filter (is_due next) (filter (λ p. not (is_due today p)) ps))
+waits_or_due f today next [] h = refl
+waits_or_due f today next (p ∷ ps) h = by (is_not_after p.date today) (is_not_after p.date next) refl (order p.date h) (waits_or_due f today next ps h)
+  where
+    order : (d : Day) → is_not_after next today ≡ false → is_not_after d today ≡ true → is_not_after d next ≡ true
+    order d h k = grind (arith, ints)
+
+    later : (n a b : ℕ) (m : ℕ) → m ≡ a + b → n + m ≡ a + (n + b)
+    later n a b m e = omega (arith, e)
+
+    latest : (n a b : ℕ) (m : ℕ) → m ≡ a + b → n + m ≡ (n + a) + b
+    latest n a b m e = omega (arith, e)
+
+    by : (b c : Bool) → is_not_after p.date next ≡ c → (b ≡ true → c ≡ true)
+        → added f (filter (λ p. not (is_due today p)) ps) ≡ added f (filter (λ p. not (is_due next p)) ps) + added f (filter (is_due next) (filter (λ p. not (is_due today p)) ps))
+        → added f (cond (not b) (p ∷ filter (λ p. not (is_due today p)) ps) (filter (λ p. not (is_due today p)) ps))
+        ≡ added f (cond (not c) (p ∷ filter (λ p. not (is_due next p)) ps) (filter (λ p. not (is_due next p)) ps)) + added f (filter (is_due next) (cond (not b) (p ∷ filter (λ p. not (is_due today p)) ps) (filter (λ p. not (is_due today p)) ps)))
+    by true true is o rest = rest
+    by true false is o rest = let e : false ≡ true = o refl in absurd (cc)
+    by false true is o rest = rw is (later (f p) _ _ _ rest)
+    by false false is o rest = rw is (latest (f p) _ _ _ rest)
+
+-- so it is of what waits in a journal, whatever is added up
+pub settled : (f : Pend → ℕ) (opening : Day) (J : Journal) (next : Day) → is_not_after next (date opening J) ≡ false → added f (pending opening J) ≡ added f (filter (λ p. not (is_due next p)) (trades J)) + added f (due opening J next)
+settled f opening J next h = rw (added-reverse f (filter (is_due next) (pending opening J))) (waits_or_due f (date opening J) next (trades J) h)
+
+-- ---- sides
+
+-- what one trade is to bring an account in an issue
+abbrev pub bought_by : Account → Cusip → Pend → ℕ
+bought_by a c p = cond ((p.buyer == a) && same_issue p.issue c) p.shares 0
+
+-- and what it is to take
+abbrev pub sold_by : Account → Cusip → Pend → ℕ
+sold_by a c p = cond ((p.seller == a) && same_issue p.issue c) p.shares 0
+
+pub bought_added : (ps : List Pend) (a : Account) (c : Cusip) → bought_in ps a c ≡ added (bought_by a c) ps
+bought_added ps a c = sum_added (bought_by a c) ps
+
+pub sold_added : (ps : List Pend) (a : Account) (c : Cusip) → sold_in ps a c ≡ added (sold_by a c) ps
+sold_added ps a c = sum_added (sold_by a c) ps
+
+-- ---- what trades book
+
+-- the shares that trades book for an account in an issue
+pub booked_shares : (a : Account) (c : Cusip) (ps : List Pend) → total (shares_for a c) (flat_map trade_entries ps) ≡ pos (added (bought_by a c) ps) -ℤ pos (added (sold_by a c) ps)
+booked_shares a c [] = refl
+booked_shares a c (p ∷ ps) = one ((p.buyer == a) && same_issue p.issue c) ((p.seller == a) && same_issue p.issue c) p.shares (added (bought_by a c) ps) (added (sold_by a c) ps) _ (booked_shares a c ps)
+  where
+    one : (t u : Bool) (n b s : ℕ) (r : ℤ) → r ≡ pos b -ℤ pos s → cond t (pos n) (pos 0) +ℤ (cond u (neg_ℤ (pos n)) (pos 0) +ℤ r) ≡ pos (cond t n 0 + b) -ℤ pos (cond u n 0 + s)
+    one true true n b s r e = omega (arith, ints, e)
+    one true false n b s r e = omega (arith, ints, e)
+    one false true n b s r e = omega (arith, ints, e)
+    one false false n b s r e = omega (arith, ints, e)
+
+-- the cents that they book, whatever their signs
+abbrev pub both_cents : Pend → ℕ
+both_cents p = p.cents + p.cents
+
+pub booked_cents : (ps : List Pend) → magnitude (λ (e : Entry). e.cents) (flat_map trade_entries ps) ≡ added both_cents ps
+booked_cents [] = refl
+booked_cents (p ∷ ps) = one p.cents _ _ (booked_cents ps)
+  where
+    one : (n m k : ℕ) → m ≡ k → unsigned_abs (neg_ℤ (pos n)) + (n + m) ≡ (n + n) + k
+    one n m k e = omega (arith, ints, e)

@@ -1,0 +1,157 @@
+-- Sums of sides by key.
+use Rattle.std.proofs.Common.{◌≡◌, ◌∙◌, sym, ap, subst, refl, ℕ, ◌+◌, ◌-◌, ◌≤◌, Bool, true, false, cond, Option, Some, None, unwrap_or, is_some, ◌*◌, ◌^◌, ◌<◌, ◌&&◌, ◌||◌, ◌==◌, List, ◌∷◌, ◌++◌, append-nil, drop, drop-cons, take, filter, get_or, length, add-one, arith}
+use Rattle.std.specs.List.{AllByRecursion}
+use Rattle.std.specs.Map.{lookup}
+use Rattle.std.specs.Prelude.{bytes_eq}
+use Rattle.std.proofs.lemmas.List.{drop_all, take_all}
+use Rattle.std.proofs.lemmas.Slice.Eq.{bytes_eq-Decides}
+use Rattle.cns_units.specs.declared.cusip.Cusip.{Cusip}
+use Rattle.std.specs.Ordering.{is_eq}
+use Rattle.cns_terms.specs.declared.holding.Key.{Key}
+use Rattle.cns_terms.specs.declared.pend.Pend.{Pend}
+use Rattle.cns_terms.specs.Keys.{key_cmp}
+use Rattle.cns_terms.specs.Limits.{shares_limit}
+use Rattle.cns_terms.specs.Pending.{waits_in}
+use Rattle.cns_terms.specs.Sums.{same_issue}
+use Rattle.cns_terms.proofs.Facts.{equal}
+use Rattle.cns_terms.proofs.Everywhere.{each_weaker}
+use Rattle.cns_terms.proofs.Keys.{exact_keys, same_key}
+use Rattle.cns_terms.proofs.Magnitudes.{added-each}
+use Rattle.cns_terms.proofs.Waiting.{bought_added, bought_by, sold_added, sold_by}
+use Rattle.cns_trades.specs.declared.sides.Sides.{Sides}
+use Rattle.cns_trades.specs.Sides.{AreSummed, SidesByKey, bought_key, has_sides, less, more, no_sides, sides_at, sides_of, sold_key}
+
+-- what stands at a key, if anything
+abbrev pub found : SidesByKey → Key → Option Sides
+found es k = lookup (λ q. is_eq (key_cmp k q)) es
+
+-- the second is the first with something else at one key, or nothing
+abbrev pub Puts : SidesByKey → SidesByKey → Key → Option Sides → Type 0
+Puts old new key o = (q : Key) → found new q ≡ cond (is_eq (key_cmp key q)) o (found old q)
+
+-- keys that compare alike have the same
+same_there : (es : SidesByKey) (key k : Key) → is_eq (key_cmp key k) ≡ true → sides_at es key ≡ sides_at es k
+same_there es key k e = ap (sides_at es) (exact_keys key k (equal _ e))
+
+-- what f makes of the sums at one key
+pub put_at : (f : Sides → Sides) (old new : SidesByKey) (key : Key) (o : Option Sides) → Puts old new key o → unwrap_or o no_sides ≡ f (sides_at old key) → (k : Key) → sides_at new k ≡ cond (is_eq (key_cmp key k)) (f (sides_at old k)) (sides_at old k)
+put_at f old new key o h is k = ap (λ o. unwrap_or o no_sides) (h k) ∙ by (is_eq (key_cmp key k)) refl
+  where
+    by : (b : Bool) → is_eq (key_cmp key k) ≡ b → unwrap_or (cond b o (found old k)) no_sides ≡ cond b (f (sides_at old k)) (sides_at old k)
+    by true e = is ∙ ap f (same_there old key k e)
+    by false e = refl
+
+-- no sums at a key: what f makes of nothing is nothing
+pub none_at : (f : Sides → Sides) (es : SidesByKey) (key : Key) → found es key ≡ None → f no_sides ≡ no_sides → (k : Key) → sides_at es k ≡ cond (is_eq (key_cmp key k)) (f (sides_at es k)) (sides_at es k)
+none_at f es key none is k = by (is_eq (key_cmp key k)) refl
+  where
+    by : (b : Bool) → is_eq (key_cmp key k) ≡ b → sides_at es k ≡ cond b (f (sides_at es k)) (sides_at es k)
+    by true e =
+        let here : sides_at es k ≡ no_sides = sym (same_there es key k e) ∙ ap (λ o. unwrap_or o no_sides) none in
+        here ∙ sym (ap f here ∙ is)
+    by false e = refl
+
+-- what is found at a key stands there
+pub at_found : (es : SidesByKey) (k : Key) (s : Sides) → found es k ≡ Some s → sides_at es k ≡ s
+at_found es k s h = ap (λ o. unwrap_or o no_sides) h
+
+-- where nothing is put in the place of nothing, all sums stay
+pub opened_at : (old new : SidesByKey) (key : Key) → Puts old new key (Some no_sides) → found old key ≡ None → (k : Key) → sides_at new k ≡ sides_at old k
+opened_at old new key h none k = put_at (λ s. no_sides) old new key (Some no_sides) h refl k ∙ sym (none_at (λ s. no_sides) old key none refl k)
+
+-- there is room where there was, and where something is put
+pub has_put : (old new : SidesByKey) (key : Key) (s : Sides) → Puts old new key (Some s) → (k : Key) → has_sides old k ≡ true → has_sides new k ≡ true
+has_put old new key s h k is = ap is_some (h k) ∙ by (is_eq (key_cmp key k))
+  where
+    by : (b : Bool) → is_some (cond b (Some s) (found old k)) ≡ true
+    by true = refl
+    by false = is
+
+-- no room, and nothing there
+pub has_none : (es : SidesByKey) (k : Key) → has_sides es k ≡ false → found es k ≡ None
+has_none es k h = by (found es k) h
+  where
+    by : (o : Option Sides) → is_some o ≡ false → o ≡ None
+    by None h = refl
+    by (Some s) h = cc
+
+-- nothing less what is no more
+pub less_nothing : (es : SidesByKey) (k : Key) (d : Sides) → found es k ≡ None → d.bought ≤ (sides_at es k).bought → d.sold ≤ (sides_at es k).sold → less no_sides d ≡ no_sides
+less_nothing es k d none b s =
+    let here : sides_at es k ≡ no_sides = ap (λ o. unwrap_or o no_sides) none in
+    let bought : d.bought ≤ 0 = subst (λ (t : Sides). d.bought ≤ t.bought) here b in
+    let sold : d.sold ≤ 0 = subst (λ (t : Sides). d.sold ≤ t.sold) here s in
+    λ i. record { bought = none_left d.bought bought i; sold = none_left d.sold sold i }
+  where
+    none_left : (n : ℕ) → n ≤ 0 → 0 - n ≡ 0
+    none_left n h = omega (arith, h)
+
+-- ---- what trades add up to
+
+-- sums that are the same on both sides
+sides_same : (s t : Sides) → s.bought ≡ t.bought → s.sold ≡ t.sold → s ≡ t
+sides_same s t p q = λ i. record { bought = p i; sold = q i }
+
+-- what is done at the buyer's key and then at the seller's, in the words of the definitions
+module _ (f : Sides → Sides → Sides) (p : Pend) (before between after : Key → Sides) where
+  pub both_keys : ((k : Key) → between k ≡ cond (is_eq (key_cmp (bought_key p) k)) (f (before k) (record { bought = p.shares; sold = 0 })) (before k))
+      → ((k : Key) → after k ≡ cond (is_eq (key_cmp (sold_key p) k)) (f (between k) (record { bought = 0; sold = p.shares })) (between k))
+      → (k : Key) → after k ≡ cond ((p.seller == k.account) && same_issue p.issue k.issue) (f (cond ((p.buyer == k.account) && same_issue p.issue k.issue) (f (before k) (record { bought = p.shares; sold = 0 })) (before k)) (record { bought = 0; sold = p.shares }))
+      (cond ((p.buyer == k.account) && same_issue p.issue k.issue) (f (before k) (record { bought = p.shares; sold = 0 })) (before k))
+  both_keys one two k =
+      two k ∙ ap (λ b. cond b (f (between k) (record { bought = 0; sold = p.shares })) (between k)) (same_key (sold_key p) k)
+      ∙ ap (λ s. cond ((p.seller == k.account) && same_issue p.issue k.issue) (f s (record { bought = 0; sold = p.shares })) s)
+      (one k ∙ ap (λ b. cond b (f (before k) (record { bought = p.shares; sold = 0 })) (before k)) (same_key (bought_key p) k))
+
+-- a trade is added
+pub added_both : (t u : Bool) (n : ℕ) (s : Sides) → cond u (more (cond t (more s (record { bought = n; sold = 0 })) s) (record { bought = 0; sold = n })) (cond t (more s (record { bought = n; sold = 0 })) s) ≡ more (record { bought = cond t n 0; sold = cond u n 0 }) s
+added_both true true n s = sides_same _ _ (omega arith) (omega arith)
+added_both true false n s = sides_same _ _ (omega arith) (omega arith)
+added_both false true n s = sides_same _ _ (omega arith) (omega arith)
+added_both false false n s = sides_same _ _ (omega arith) (omega arith)
+
+-- and taken
+pub taken_both : (t u : Bool) (n : ℕ) (s : Sides) → cond u (less (cond t (less s (record { bought = n; sold = 0 })) s) (record { bought = 0; sold = n })) (cond t (less s (record { bought = n; sold = 0 })) s) ≡ less s (record { bought = cond t n 0; sold = cond u n 0 })
+taken_both true true n s = sides_same _ _ (omega arith) (omega arith)
+taken_both true false n s = sides_same _ _ (omega arith) (omega arith)
+taken_both false true n s = sides_same _ _ (omega arith) (omega arith)
+taken_both false false n s = sides_same _ _ (omega arith) (omega arith)
+
+-- the trades' sums are as small as their number allows
+pub few_sides : (ps : List Pend) (k : Key) → AllByRecursion (λ (p : Pend). p.shares ≤ shares_limit) ps → ((sides_of ps k).bought ≤ shares_limit * length ps) × ((sides_of ps k).sold ≤ shares_limit * length ps)
+few_sides ps k small =
+    let bought = added-each (bought_by k.account k.issue) shares_limit ps (each_weaker (λ (p : Pend). p.shares ≤ shares_limit) (λ p. bought_by k.account k.issue p ≤ shares_limit) ps (λ p h. one ((p.buyer == k.account) && same_issue p.issue k.issue) p.shares h) small) in
+    let sold = added-each (sold_by k.account k.issue) shares_limit ps (each_weaker (λ (p : Pend). p.shares ≤ shares_limit) (λ p. sold_by k.account k.issue p ≤ shares_limit) ps (λ p h. one ((p.seller == k.account) && same_issue p.issue k.issue) p.shares h) small) in
+    (omega (arith, bought_added ps k.account k.issue, bought), omega (arith, sold_added ps k.account k.issue, sold))
+  where
+    one : (b : Bool) (n : ℕ) → n ≤ shares_limit → cond b n 0 ≤ shares_limit
+    one true n h = h
+    one false n h = omega arith
+
+-- and so small that sums of them fit in 127 bits
+pub few_fits : (ps : List Pend) (es : SidesByKey) (k : Key) → AreSummed ps es → length ps < 2 ^ 63 → ((sides_at es k).bought < 2 ^ 127) × ((sides_at es k).sold < 2 ^ 127)
+few_fits ps es k are few =
+    let both = few_sides ps k are.small in
+    (subst (λ (s : Sides). s.bought < 2 ^ 127) (sym (are.sums k)) (omega (arith, both.0, few)), subst (λ (s : Sides). s.sold < 2 ^ 127) (sym (are.sums k)) (omega (arith, both.1, few)))
+
+-- ---- the next trade of a list
+
+-- the trade at a place, and those after it
+next_of : (ps : List Pend) (i : ℕ) (p : Pend) → i < length ps → p ≡ get_or ps i p → drop i ps ≡ p ∷ drop (i + 1) ps
+next_of ps i p lt is = rw add-one (drop-cons ps i p lt) ∙ ap (λ q. q ∷ drop (i + 1) ps) (sym is)
+
+-- one in the issue is found
+pub found_in : (ps : List Pend) (i : ℕ) (c : Cusip) (p : Pend) → i < length ps → p ≡ get_or ps i p → p.issue ≡ c → waits_in (drop i ps) c ≡ true
+found_in ps i c p lt is same = ap (λ qs. waits_in qs c) (next_of ps i p lt is) ∙ ap (λ b. b || waits_in (drop (i + 1) ps) c) ((bytes_eq-Decides p.issue c).1 same)
+
+-- one in another is passed
+pub passed_in : (ps : List Pend) (i : ℕ) (c : Cusip) (p : Pend) (b : Bool) → i < length ps → p ≡ get_or ps i p → (p.issue ≡ c → b ≡ true) → b ≡ false → waits_in (drop i ps) c ≡ waits_in (drop (i + 1) ps) c
+passed_in ps i c p b lt is same other = ap (λ qs. waits_in qs c) (next_of ps i p lt is) ∙ ap (λ b. b || waits_in (drop (i + 1) ps) c) (by (bytes_eq p.issue c) refl)
+  where
+    by : (b : Bool) → bytes_eq p.issue c ≡ b → b ≡ false
+    by true e = let yes : b ≡ true = same ((bytes_eq-Decides p.issue c).0 e) in absurd (cc)
+    by false e = refl
+
+-- in the end those are kept whose date is to come
+pub all_kept : (t : Pend → Bool) (ps : List Pend) (i : ℕ) → length ps ≤ i → filter t (take i ps) ++ drop i ps ≡ filter t ps
+all_kept t ps i le = rw (take_all i ps le, drop_all i ps le) (append-nil (filter t ps))

@@ -1,0 +1,16 @@
+use Rattle.std.proofs.Common.{◌≤◌, ap, filter, not, sym, subst, ◌∙◌}
+use Rattle.cns_terms.specs.declared.pend.Pend.{Pend}
+use Rattle.cns_terms.specs.Limits.{shares_limit}
+use Rattle.cns_terms.specs.Pending.{is_due}
+use Rattle.cns_terms.proofs.Everywhere.{each_filter}
+use Rattle.cns_trades.specs.Sides.{AreSummed, sides_of}
+use Rattle.cns_trades.proofs.pending.Pending.settle.Goals as goal
+
+pub invariant_of-self : goal.invariant_of-self
+invariant_of-self g c =
+    let ps = c.self.inside.trades.items in
+    let later = λ (p : Pend). not (is_due c.args.next p) in
+    subst (λ qs. AreSummed qs c.take_due.new.sums) (sym c.keep_later.ensures) (record {
+      sums = λ k. c.take_due.ensures k ∙ ap (λ qs. sides_of (filter later qs) k) c.as_slice.ensures.value;
+      small = each_filter (λ (p : Pend). p.shares ≤ shares_limit) later ps c.self.invariant.small;
+    })
