@@ -6,7 +6,7 @@ SHELL := bash
 PROGRAM := crates/cnsbook/out/cnsbook
 DRIVER := crates/cns_desk_growths/out/cns_desk_growths
 OPENING := 2024-06-03
-SAMPLES := day week actions buy-in
+SAMPLES := day week actions buy-in merger
 
 # The crates that the program stands on, lowest first, and the program: those of crates.txt above its tests.
 BUILT := $(shell sed -n '/^\# tests alone/q; s/^\([a-z_]*\):.*/\1/p' crates.txt)

@@ -178,8 +178,8 @@ class Book:
         self.opening = opening
         self.accepted = []
         self.entries = []
-        # Positions at closes that were asked for. A day that is closed does not change, so a figure of it is kept.
-        self.closed_positions = {}
+        # Positions and ages at closes that were asked for. A day that is closed does not change, so its figures are kept.
+        self.closed_positions, self.closed_ages = {}, {}
 
     # -- days
 
@@ -251,12 +251,25 @@ class Book:
         today = self.date_today()
         return [it for it in self.entries if it.issue == issue and it.date > today]
 
+    def turned_into(self, issue, day):
+        """An issue, with the old issues of a day's exchanges whose successor is among these."""
+        exchanges, found = [it.values[:2] for it in self.of_kind("EXCHANGE") if it.day == day], [issue]
+        for each in found:
+            found += [old for old, successor in exchanges if successor == each and old not in found]
+        return found
+
     def age(self, account, issue, day):
-        """The closes in a row, from that of a day back, at which the account was short."""
-        count = 0
-        while day > count and self.position_at_close(account, issue, day - count) < 0:
-            count += 1
-        return count
+        """The closes in a row, from that of a day back, at which the account was short in the issue or in one that was
+        turned into it: of several, the most."""
+        key = account, issue, day
+        if key not in self.closed_ages:
+            is_short = day > 0 and self.position_at_close(account, issue, day) < 0
+            self.closed_ages[key] = 1 + self.oldest(account, issue, day) if is_short else 0
+        return self.closed_ages[key]
+
+    def oldest(self, account, issue, day):
+        """The greatest age, at the close before a day, of what the issue is at the end of it."""
+        return max(self.age(account, it, day - 1) for it in self.turned_into(issue, day))
 
     # -- dividends
 
@@ -321,7 +334,7 @@ class Book:
         """The members that the close of today makes liable in an issue, if it comes now."""
         called, day = self.called(issue), self.today()
         shorts = [
-            Liable(issue, member, -self.position(member, issue), self.age(member, issue, day - 1) + 1)
+            Liable(issue, member, -self.position(member, issue), self.oldest(member, issue, day) + 1)
             for member in self.members()
             if self.position(member, issue) < 0
         ]

@@ -156,7 +156,7 @@ records 1 037833100 47 >"$room/one.csv"
 records 2 17275R102 47 >"$room/two.csv"
 records 3 594918104 1500 >"$room/long.csv"
 
-for name in day week actions buy-in; do
+for name in day week actions buy-in merger; do
     drive "$name" "$examples/$name.csv" front replay --open 2024-06-03
 done
 drive 'fifteen hundred trades' "$room/long.csv" front replay --open 2024-06-03

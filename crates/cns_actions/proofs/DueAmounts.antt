@@ -1,5 +1,5 @@
 -- What trades book, added up by key.
-use Rattle.std.proofs.Common.{◌≡◌, ◌∙◌, sym, ap, subst, refl, ℕ, ◌+◌, ◌*◌, ◌^◌, ◌<◌, ◌≤◌, ℤ, pos, ◌+ℤ◌, neg_ℤ, unsigned_abs, Bool, true, false, cond, ◌&&◌, List, [], ◌∷◌, ◌==◌, map, filter, flat_map, length, get_or, drop, Option, Some, unwrap_or, Ordering, Result, Ok, Err, IfOk, OnOk, arith}
+use Rattle.std.proofs.Common.{◌≡◌, ◌∙◌, sym, ap, subst, refl, ℕ, max, ◌+◌, ◌*◌, ◌^◌, ◌<◌, ◌≤◌, ℤ, pos, ◌+ℤ◌, neg_ℤ, unsigned_abs, Bool, true, false, cond, ◌&&◌, List, [], ◌∷◌, ◌==◌, map, filter, flat_map, length, get_or, drop, Option, Some, unwrap_or, Ordering, Result, Ok, Err, IfOk, OnOk, arith}
 use Rattle.std.specs.BTreeMap.{insert_entry, is_at}
 use Rattle.std.specs.FinMap.{find, is_sorted}
 use Rattle.std.specs.FinMap.Entries.{below_all}
@@ -21,11 +21,10 @@ use Rattle.cns_terms.specs.Pending.{is_due}
 use Rattle.cns_terms.specs.Sums.{same_issue}
 use Rattle.cns_terms.proofs.Facts.{and_left, and_right, equal, zero_add}
 use Rattle.cns_terms.proofs.Keys.{exact_keys, keys_total}
-use Rattle.cns_positions.specs.Rows.{books}
 use Rattle.cns_actions.specs.declared.due_amounts.Amount.{Amount}
-use Rattle.cns_actions.specs.Merging.{IsSmall, by_key, key_of}
-use Rattle.cns_actions.specs.DueAmounts.{AmountsByKey, IsSmallAmount, HasRoomForTrade, IsOneTradeMore, amount_at, amount_for, due_entries, as_entry, with_entry, no_amount, amount_of, with_amount}
-use Rattle.cns_actions.proofs.Merges.{books_first, books_other, is_at_key}
+use Rattle.cns_actions.specs.Merging.{AreSmall, by_key, key_of, makes}
+use Rattle.cns_actions.specs.DueAmounts.{AmountsByKey, IsSmallAmount, HasRoomForTrade, IsOneTradeMore, amount_at, amount_for, due_entries, as_booking, with_entry, no_amount, amount_of, with_amount}
+use Rattle.cns_actions.proofs.Merges.{is_at_key, makes_first, makes_other}
 
 -- ---- what is booked at a key
 
@@ -86,19 +85,19 @@ amounts_added old new key a e own updates is k =
     ∙ added_branch (is_eq (key_cmp key k)) a (amount_at old k) e (find key_cmp k old) refl (λ t. is ∙ ap (λ q. with_entry (amount_at old q) e) (exact_keys key k (equal _ t)))
     ∙ ap (λ b. with_amount (amount_at old k) (record { shares = cond b e.shares (pos 0); cents = cond b e.cents (pos 0) })) here
 
--- ---- as entries
+-- ---- as bookings
 
-below_entries : (k : Key) (es : AmountsByKey) → below_all key_cmp k (by_key (map as_entry es)) ≡ below_all key_cmp k es
-below_entries k [] = refl
-below_entries k (e ∷ es) = ap (λ b. is_lt (key_cmp k e.0) && b) (below_entries k es)
+below_bookings : (k : Key) (es : AmountsByKey) → below_all key_cmp k (by_key (map as_booking es)) ≡ below_all key_cmp k es
+below_bookings k [] = refl
+below_bookings k (e ∷ es) = ap (λ b. is_lt (key_cmp k e.0) && b) (below_bookings k es)
 
 -- they are in order
-pub sorted_entries : (es : AmountsByKey) → is_sorted key_cmp (by_key (map as_entry es)) ≡ is_sorted key_cmp es
-sorted_entries [] = refl
-sorted_entries (e ∷ es) = λ i. below_entries e.0 es i && sorted_entries es i
+pub sorted_bookings : (es : AmountsByKey) → is_sorted key_cmp (by_key (map as_booking es)) ≡ is_sorted key_cmp es
+sorted_bookings [] = refl
+sorted_bookings (e ∷ es) = λ i. below_bookings e.0 es i && sorted_bookings es i
 
 -- and small
-pub amounts_small : (es : AmountsByKey) → AllByRecursion (λ e. IsSmallAmount e.1) es → AllByRecursion IsSmall (map as_entry es)
+pub amounts_small : (es : AmountsByKey) → AllByRecursion (λ e. IsSmallAmount e.1) es → AreSmall (map as_booking es)
 amounts_small [] h = tt
 amounts_small (e ∷ es) h = (record { shares = h.0.shares; cents = h.0.cents }, amounts_small es h.1)
 
@@ -109,16 +108,20 @@ with_holding a h = record h { now = a.shares +ℤ h.now; contract = a.cents +ℤ
 other_order : (x y : ℤ) → x +ℤ y ≡ y +ℤ x
 other_order x y = omega (arith, ints)
 
+-- no age is above none
+no_age : (n : ℕ) → max n 0 ≡ n
+no_age n = omega arith
+
 -- each key gets its amount
-pub entries_book : (es : AmountsByKey) → is_sorted key_cmp es ≡ true → (k : Key) (h : Holding) → books (map as_entry es) k h ≡ with_holding (amount_at es k) h
-entries_book [] s k h = refl
-entries_book (e ∷ es) s k h = by (is_eq (key_cmp k e.0)) refl (entries_book es (and_right _ _ s) k h)
+pub bookings_make : (es : AmountsByKey) → is_sorted key_cmp es ≡ true → (k : Key) (h : Holding) → makes (map as_booking es) k h ≡ with_holding (amount_at es k) h
+bookings_make [] s k h = λ i. record h { now = pos 0 +ℤ h.now; contract = pos 0 +ℤ h.contract; carried = no_age h.carried i }
+bookings_make (e ∷ es) s k h = by (is_eq (key_cmp k e.0)) refl (bookings_make es (and_right _ _ s) k h)
   where
-    by : (b : Bool) → is_eq (key_cmp k e.0) ≡ b → books (map as_entry es) k h ≡ with_holding (amount_at es k) h → books (map as_entry (e ∷ es)) k h ≡ with_holding (unwrap_or (cond b (Some e.1) (find key_cmp k es)) no_amount) h
+    by : (b : Bool) → is_eq (key_cmp k e.0) ≡ b → makes (map as_booking es) k h ≡ with_holding (amount_at es k) h → makes (map as_booking (e ∷ es)) k h ≡ with_holding (unwrap_or (cond b (Some e.1) (find key_cmp k es)) no_amount) h
     by true at rest =
-        books_first (as_entry e) (map as_entry es) k h at (below_entries e.0 es ∙ and_left _ _ s)
-        ∙ (λ i. record h { now = other_order h.now e.1.shares i; contract = other_order h.contract e.1.cents i })
-    by false at rest = books_other (as_entry e) (map as_entry es) k h at ∙ rest
+        makes_first k h (as_booking e) (map as_booking es) at (below_bookings e.0 es ∙ and_left _ _ s)
+        ∙ (λ i. record h { now = other_order h.now e.1.shares i; contract = other_order h.contract e.1.cents i; carried = no_age h.carried i })
+    by false at rest = makes_other k h (as_booking e) (map as_booking es) at ∙ rest
 
 -- ---- trades
 

@@ -1,4 +1,4 @@
--- The members with a position in an issue, as rows show them and as a list of members names them.
+-- The members with a position or an age in an issue, as rows show them and as a list of members names them.
 use Rattle.std.proofs.Common.{◌≡◌, ◌∙◌, sym, ap, subst, refl, ℕ, ◌+◌, ◌≤◌, ℤ, pos, ◌+ℤ◌, Bool, true, false, cond, not, ◌&&◌, ◌||◌, ◌==◌, nat_lt, unsigned_abs, List, [], ◌∷◌, map, filter, Some, None, unwrap_or, Ordering, zero-add, arith}
 use Rattle.std.specs.Cmp.Lexicographic.{slice_cmp}
 use Rattle.std.specs.FinMap.{find, is_sorted}
@@ -27,10 +27,12 @@ use Rattle.cns_terms.proofs.Keys.{exact_keys, keys_total}
 use Rattle.cns_terms.proofs.Rising.{above_all, is_rising}
 use Rattle.cns_terms.proofs.Totals.{total-map, total-swap}
 use Rattle.cns_positions.specs.Rows.{Rows, held_above, holding_at, zeros}
+use Rattle.cns_positions.proofs.Unheld.{held_same, held_sorted}
 use Rattle.cns_actions.specs.declared.holder.Holder.{Holder}
 use Rattle.cns_actions.specs.Booked.{CanBeBooked, position_at, positions_in}
-use Rattle.cns_actions.specs.Changes.{holder_of, holders_in, is_holder}
-use Rattle.cns_actions.proofs.Walking.{held_own, held_same, held_sorted, nothing_below}
+use Rattle.cns_terms.specs.Holdings.{oldest_of}
+use Rattle.cns_actions.specs.Changes.{has_position, has_position_or_age, holder_of, holders_in, is_holder, with_position}
+use Rattle.cns_actions.proofs.Walking.{held_own, nothing_below}
 
 -- the numbers of members
 abbrev pub accounts : List Holder → List ℕ
@@ -59,8 +61,8 @@ pub record IsOwn (q : Account → ℤ) (h : Holder) : Type 0 where
 -- ---- as rows show them
 
 -- a holder's row is in the issue
-in_issue : (c : Cusip) (r : Key × Holding) → is_holder c r ≡ true → r.0.issue ≡ c
-in_issue c r h = (bytes_eq-Decides r.0.issue c).0 (and_right (nat_lt corporation r.0.account) (same_issue r.0.issue c) (and_left _ _ h))
+in_issue : (kind : Holding → Bool) (c : Cusip) (r : Key × Holding) → is_holder kind c r ≡ true → r.0.issue ≡ c
+in_issue kind c r h = (bytes_eq-Decides r.0.issue c).0 (and_right (nat_lt corporation r.0.account) (same_issue r.0.issue c) (and_left _ _ h))
 
 -- and is a member's
 pub is_member : (a : ℕ) → nat_lt corporation a ≡ true → 1 ≤ a
@@ -76,34 +78,34 @@ then_tie Greater p e = refl
 accounts_less : (k q : Key) → k.issue ≡ q.issue → is_lt (key_cmp k q) ≡ true → is_lt (nat_cmp k.account q.account) ≡ true
 accounts_less k q same l = ap is_lt (sym (then_tie (nat_cmp k.account q.account) _ (ap (λ i. slice_cmp nat_cmp i q.issue) same ∙ tied_itself nat_list_cmp_total q.issue))) ∙ l
 
-module _ (c : Cusip) where
+module _ (kind : Holding → Bool) (idle : kind zeros ≡ false) (c : Cusip) where
   -- one row more
-  each_branch : (Q : Holder → Type 0) (b : Bool) (r : Key × Holding) (rows : Rows) → is_holder c r ≡ b → (is_holder c r ≡ true → Q (holder_of r)) → AllByRecursion Q (map holder_of rows) → AllByRecursion Q (map holder_of (cond b (r ∷ rows) rows))
+  each_branch : (Q : Holder → Type 0) (b : Bool) (r : Key × Holding) (rows : Rows) → is_holder kind c r ≡ b → (is_holder kind c r ≡ true → Q (holder_of r)) → AllByRecursion Q (map holder_of rows) → AllByRecursion Q (map holder_of (cond b (r ∷ rows) rows))
   each_branch Q true r rows e h rest = (h e, rest)
   each_branch Q false r rows e h rest = rest
 
   -- what holds of holders, by what holds of their rows
-  each_holder : (P : Key × Holding → Type 0) (Q : Holder → Type 0) (rows : Rows) → ((r : Key × Holding) → is_holder c r ≡ true → P r → Q (holder_of r)) → AllByRecursion P rows → AllByRecursion Q (holders_in c rows)
+  each_holder : (P : Key × Holding → Type 0) (Q : Holder → Type 0) (rows : Rows) → ((r : Key × Holding) → is_holder kind c r ≡ true → P r → Q (holder_of r)) → AllByRecursion P rows → AllByRecursion Q (holders_in kind c rows)
   each_holder P Q [] h all = tt
-  each_holder P Q (r ∷ rows) h all = each_branch Q (is_holder c r) r (filter (is_holder c) rows) refl (λ e. h r e all.0) (each_holder P Q rows h all.1)
+  each_holder P Q (r ∷ rows) h all = each_branch Q (is_holder kind c r) r (filter (is_holder kind c) rows) refl (λ e. h r e all.0) (each_holder P Q rows h all.1)
 
   -- a holder's number is below those of higher rows
-  above_branch : (b : Bool) (k : Key) (r : Key × Holding) (rows : Rows) → is_holder c r ≡ b → k.issue ≡ c → is_lt (key_cmp k r.0) ≡ true → above_all nat_cmp k.account (accounts (map holder_of rows)) ≡ true → above_all nat_cmp k.account (accounts (map holder_of (cond b (r ∷ rows) rows))) ≡ true
-  above_branch true k r rows e same l h = both_true _ _ (accounts_less k r.0 (same ∙ sym (in_issue c r e)) l) h
+  above_branch : (b : Bool) (k : Key) (r : Key × Holding) (rows : Rows) → is_holder kind c r ≡ b → k.issue ≡ c → is_lt (key_cmp k r.0) ≡ true → above_all nat_cmp k.account (accounts (map holder_of rows)) ≡ true → above_all nat_cmp k.account (accounts (map holder_of (cond b (r ∷ rows) rows))) ≡ true
+  above_branch true k r rows e same l h = both_true _ _ (accounts_less k r.0 (same ∙ sym (in_issue kind c r e)) l) h
   above_branch false k r rows e same l h = h
 
-  above_holders : (k : Key) (rows : Rows) → k.issue ≡ c → below_all key_cmp k rows ≡ true → above_all nat_cmp k.account (accounts (holders_in c rows)) ≡ true
+  above_holders : (k : Key) (rows : Rows) → k.issue ≡ c → below_all key_cmp k rows ≡ true → above_all nat_cmp k.account (accounts (holders_in kind c rows)) ≡ true
   above_holders k [] same b = refl
-  above_holders k (r ∷ rows) same b = above_branch (is_holder c r) k r (filter (is_holder c) rows) refl same (and_left _ _ b) (above_holders k rows same (and_right _ _ b))
+  above_holders k (r ∷ rows) same b = above_branch (is_holder kind c r) k r (filter (is_holder kind c) rows) refl same (and_left _ _ b) (above_holders k rows same (and_right _ _ b))
 
   -- so holders are in the order of their numbers
-  rising_branch : (b : Bool) (r : Key × Holding) (rows : Rows) → (is_holder c r ≡ true → above_all nat_cmp r.0.account (accounts (map holder_of rows)) ≡ true) → is_holder c r ≡ b → is_rising nat_cmp (accounts (map holder_of rows)) ≡ true → is_rising nat_cmp (accounts (map holder_of (cond b (r ∷ rows) rows))) ≡ true
+  rising_branch : (b : Bool) (r : Key × Holding) (rows : Rows) → (is_holder kind c r ≡ true → above_all nat_cmp r.0.account (accounts (map holder_of rows)) ≡ true) → is_holder kind c r ≡ b → is_rising nat_cmp (accounts (map holder_of rows)) ≡ true → is_rising nat_cmp (accounts (map holder_of (cond b (r ∷ rows) rows))) ≡ true
   rising_branch true r rows above e h = both_true _ _ (above e) h
   rising_branch false r rows above e h = h
 
-  rising_holders : (rows : Rows) → is_sorted key_cmp rows ≡ true → is_rising nat_cmp (accounts (holders_in c rows)) ≡ true
+  rising_holders : (rows : Rows) → is_sorted key_cmp rows ≡ true → is_rising nat_cmp (accounts (holders_in kind c rows)) ≡ true
   rising_holders [] s = refl
-  rising_holders (r ∷ rows) s = rising_branch (is_holder c r) r (filter (is_holder c) rows) (λ e. above_holders r.0 rows (in_issue c r e) (and_left _ _ s)) refl (rising_holders rows (and_right _ _ s))
+  rising_holders (r ∷ rows) s = rising_branch (is_holder kind c r) r (filter (is_holder kind c) rows) (λ e. above_holders r.0 rows (in_issue kind c r e) (and_left _ _ s)) refl (rising_holders rows (and_right _ _ s))
 
   -- ---- how often a member is one of them
 
@@ -113,33 +115,53 @@ module _ (c : Cusip) where
   here false z r same = refl
 
   -- one row more, by whether it is a holder's, and the member's own
-  occurs_branch : (x : ℕ) (r : Key × Holding) (rows : Rows) (b e : Bool) → is_holder c r ≡ b → is_eq (key_cmp (record { account = x; issue = c }) r.0) ≡ e → below_all key_cmp r.0 rows ≡ true
-      → occurs x (accounts (holders_in c rows)) ≡ cond (nat_lt corporation x && not (int_eq (position_at rows x c) (pos 0))) 1 0
-      → occurs x (accounts (map holder_of (cond b (r ∷ filter (is_holder c) rows) (filter (is_holder c) rows)))) ≡ cond (nat_lt corporation x && not (int_eq (unwrap_or (cond e (Some r.1) (find key_cmp (record { account = x; issue = c }) rows)) zeros).now (pos 0))) 1 0
+  occurs_branch : (x : ℕ) (r : Key × Holding) (rows : Rows) (b e : Bool) → is_holder kind c r ≡ b → is_eq (key_cmp (record { account = x; issue = c }) r.0) ≡ e → below_all key_cmp r.0 rows ≡ true
+      → occurs x (accounts (holders_in kind c rows)) ≡ cond (nat_lt corporation x && kind (holding_at rows (record { account = x; issue = c }))) 1 0
+      → occurs x (accounts (map holder_of (cond b (r ∷ filter (is_holder kind c) rows) (filter (is_holder kind c) rows)))) ≡ cond (nat_lt corporation x && kind (unwrap_or (cond e (Some r.1) (find key_cmp (record { account = x; issue = c }) rows)) zeros)) 1 0
   occurs_branch x r rows b true p q below rest =
       let same : record { account = x; issue = c } ≡ r.0 = exact_keys _ r.0 (equal _ q) in
-      let none : position_at rows x c ≡ pos 0 = ap (λ h. h.now) (nothing_below (record { account = x; issue = c }) rows (ap (λ (k : Key). below_all key_cmp k rows) same ∙ below)) in
-      let absent : occurs x (accounts (holders_in c rows)) ≡ 0 = rest ∙ ap (λ z. cond (nat_lt corporation x && not (int_eq z (pos 0))) 1 0) none ∙ ap (λ t. cond t 1 0) (and_false (nat_lt corporation x)) in
-      let test : (nat_lt corporation x && not (int_eq r.1.now (pos 0))) ≡ b = ap (λ (k : Key). nat_lt corporation k.account && not (int_eq r.1.now (pos 0))) same ∙ here (nat_lt corporation r.0.account) (not (int_eq r.1.now (pos 0))) r (ap (λ (k : Key). k.issue) (sym same)) ∙ p in
+      let none : kind (holding_at rows (record { account = x; issue = c })) ≡ false = ap kind (nothing_below (record { account = x; issue = c }) rows (ap (λ (k : Key). below_all key_cmp k rows) same ∙ below)) ∙ idle in
+      let absent : occurs x (accounts (holders_in kind c rows)) ≡ 0 = rest ∙ ap (λ b. cond (nat_lt corporation x && b) 1 0) none ∙ ap (λ t. cond t 1 0) (and_false (nat_lt corporation x)) in
+      let test : (nat_lt corporation x && kind r.1) ≡ b = ap (λ (k : Key). nat_lt corporation k.account && kind r.1) same ∙ here (nat_lt corporation r.0.account) (kind r.1) r (ap (λ (k : Key). k.issue) (sym same)) ∙ p in
       by b (ap (λ (k : Key). k.account) same) absent ∙ ap (λ t. cond t 1 0) (sym test)
     where
-      by : (b : Bool) → x ≡ r.0.account → occurs x (accounts (holders_in c rows)) ≡ 0 → occurs x (accounts (map holder_of (cond b (r ∷ filter (is_holder c) rows) (filter (is_holder c) rows)))) ≡ cond b 1 0
+      by : (b : Bool) → x ≡ r.0.account → occurs x (accounts (holders_in kind c rows)) ≡ 0 → occurs x (accounts (map holder_of (cond b (r ∷ filter (is_holder kind c) rows) (filter (is_holder kind c) rows)))) ≡ cond b 1 0
       by true same absent = let e : (x == r.0.account) ≡ true = ap (λ y. x == y) (sym same) ∙ eqb_refl x in rw (e, absent) refl
       by false same absent = absent
-  occurs_branch x r rows true false p q below rest = ap (λ t. cond t 1 0 + occurs x (accounts (holders_in c rows))) other ∙ zero-add _ ∙ rest
+  occurs_branch x r rows true false p q below rest = ap (λ t. cond t 1 0 + occurs x (accounts (holders_in kind c rows))) other ∙ zero-add _ ∙ rest
     where
       other : (x == r.0.account) ≡ false
       other = by (x == r.0.account) refl
         where
           by : (t : Bool) → (x == r.0.account) ≡ t → (x == r.0.account) ≡ false
-          by true e = let no : true ≡ false = sym (ap (λ (k : Key). is_eq (key_cmp k r.0)) (λ i. record { account = eqb-true x r.0.account e i; issue = sym (in_issue c r p) i }) ∙ ap is_eq (tied_itself keys_total r.0)) ∙ q in cc
+          by true e = let no : true ≡ false = sym (ap (λ (k : Key). is_eq (key_cmp k r.0)) (λ i. record { account = eqb-true x r.0.account e i; issue = sym (in_issue kind c r p) i }) ∙ ap is_eq (tied_itself keys_total r.0)) ∙ q in cc
           by false e = e
   occurs_branch x r rows false false p q below rest = rest
 
-  -- a member is one of them once, where it has a position
-  occurs_in : (x : ℕ) (rows : Rows) → is_sorted key_cmp rows ≡ true → occurs x (accounts (holders_in c rows)) ≡ cond (nat_lt corporation x && not (int_eq (position_at rows x c) (pos 0))) 1 0
-  occurs_in x [] s = sym (ap (λ t. cond t 1 0) (and_false (nat_lt corporation x)))
-  occurs_in x (r ∷ rows) s = occurs_branch x r rows (is_holder c r) _ refl refl (and_left _ _ s) (occurs_in x rows (and_right _ _ s))
+  -- a member is one of them once, where it has such a holding
+  occurs_in : (x : ℕ) (rows : Rows) → is_sorted key_cmp rows ≡ true → occurs x (accounts (holders_in kind c rows)) ≡ cond (nat_lt corporation x && kind (holding_at rows (record { account = x; issue = c }))) 1 0
+  occurs_in x [] s = sym (ap (λ b. cond (nat_lt corporation x && b) 1 0) idle ∙ ap (λ t. cond t 1 0) (and_false (nat_lt corporation x)))
+  occurs_in x (r ∷ rows) s = occurs_branch x r rows (is_holder kind c r) _ refl refl (and_left _ _ s) (occurs_in x rows (and_right _ _ s))
+
+-- ---- those with a position among them
+
+-- those with a position are the holders of one
+pub positions_kept : (c : Cusip) (rows : Rows) → with_position (holders_in has_position_or_age c rows) ≡ holders_in has_position c rows
+positions_kept c [] = refl
+positions_kept c (r ∷ rows) = by (nat_lt corporation r.0.account) (same_issue r.0.issue c) (has_position r.1) (not (oldest_of r.1 == 0)) refl (positions_kept c rows)
+  where
+    all : Rows
+    all = filter (is_holder has_position_or_age c) rows
+
+    some : Rows
+    some = filter (is_holder has_position c) rows
+
+    by : (a d p g : Bool) → has_position r.1 ≡ p → with_position (map holder_of all) ≡ map holder_of some → with_position (map holder_of (cond (a && d && (p || g)) (r ∷ all) all)) ≡ map holder_of (cond (a && d && p) (r ∷ some) some)
+    by true true true g e rest = ap (λ b. cond b (holder_of r ∷ with_position (map holder_of all)) (with_position (map holder_of all))) e ∙ ap (λ hs. holder_of r ∷ hs) rest
+    by true true false true e rest = ap (λ b. cond b (holder_of r ∷ with_position (map holder_of all)) (with_position (map holder_of all))) e ∙ rest
+    by true true false false e rest = rest
+    by true false p g e rest = rest
+    by false d p g e rest = rest
 
 -- ---- as a list of members names them
 
@@ -253,26 +275,49 @@ cond_holds false n h = absurd (omega arith)
 module _ (R : Rows) (order : is_sorted key_cmp R ≡ true) (c : Cusip) where
   -- the members that rows show
   abbrev pub shown : List Holder
-  shown = holders_in c (held_above R None)
+  shown = holders_in has_position c (held_above R None)
+
+  -- and those with an age
+  abbrev pub all_shown : List Holder
+  all_shown = holders_in has_position_or_age c (held_above R None)
 
   -- each of them has its position
   pub own_positions : AllByRecursion (IsOwn (positions_in R c)) shown
   own_positions =
-      each_holder c (λ r. holding_at R r.0 ≡ r.1) (IsOwn (positions_in R c)) (held_above R None)
-      (λ r e own. record { member = is_member r.0.account (and_left _ _ (and_left _ _ e)); own = ap (λ i. position_at R r.0.account i) (sym (in_issue c r e)) ∙ ap (λ h. h.now) own; held = and_right (nat_lt corporation r.0.account && same_issue r.0.issue c) _ e })
+      each_holder has_position refl c (λ r. holding_at R r.0 ≡ r.1) (IsOwn (positions_in R c)) (held_above R None)
+      (λ r e own. record { member = is_member r.0.account (and_left _ _ (and_left _ _ e)); own = ap (λ i. position_at R r.0.account i) (sym (in_issue has_position c r e)) ∙ ap (λ h. h.now) own; held = and_right (nat_lt corporation r.0.account && same_issue r.0.issue c) _ e })
       (held_own R order)
 
   -- they are in order, with positions within the limits
   pub shown_listed : CanBeBooked R → AreListed shown
   shown_listed can = record {
-    rising = rising_holders c (held_above R None) (held_sorted R order);
+    rising = rising_holders has_position refl c (held_above R None) (held_sorted R order);
     members = each_weaker (IsOwn (positions_in R c)) (λ h. 1 ≤ h.account) shown (λ h p. p.member) own_positions;
     within = each_weaker (IsOwn (positions_in R c)) (λ h. unsigned_abs h.shares ≤ position_limit) shown (λ h p. subst (λ z. unsigned_abs z ≤ position_limit) p.own (can.members h.account c p.member)) own_positions;
   }
 
+  -- each with an age has it, and its position
+  pub own_holdings : AllByRecursion (λ h. (1 ≤ h.account) × (h ≡ holder_of (record { account = h.account; issue = c }, holding_at R (record { account = h.account; issue = c })))) all_shown
+  own_holdings =
+      each_holder has_position_or_age refl c (λ r. holding_at R r.0 ≡ r.1) (λ h. (1 ≤ h.account) × (h ≡ holder_of (record { account = h.account; issue = c }, holding_at R (record { account = h.account; issue = c })))) (held_above R None)
+      (λ r e own. (is_member r.0.account (and_left _ _ (and_left _ _ e)), ap (λ h. holder_of (r.0, h)) (sym own) ∙ ap (λ d. holder_of (r.0, holding_at R (record { account = r.0.account; issue = d }))) (in_issue has_position_or_age c r e)))
+      (held_own R order)
+
+  -- they are in order too, with positions within the limits
+  pub all_listed : CanBeBooked R → AreListed all_shown
+  all_listed can = record {
+    rising = rising_holders has_position_or_age refl c (held_above R None) (held_sorted R order);
+    members = each_weaker _ (λ h. 1 ≤ h.account) all_shown (λ h p. p.0) own_holdings;
+    within = each_weaker _ (λ h. unsigned_abs h.shares ≤ position_limit) all_shown (λ h p. subst (λ (g : Holder). unsigned_abs g.shares ≤ position_limit) (sym p.1) (can.members h.account c p.0)) own_holdings;
+  }
+
+  -- whoever has an age is one of them
+  pub all_once : (x : ℕ) → occurs x (accounts all_shown) ≡ cond (nat_lt corporation x && has_position_or_age (holding_at R (record { account = x; issue = c }))) 1 0
+  all_once x = occurs_in has_position_or_age refl c x (held_above R None) (held_sorted R order) ∙ ap (λ (h : Holding). cond (nat_lt corporation x && has_position_or_age h) 1 0) (held_same R (record { account = x; issue = c }) order)
+
   -- whoever has a position is one of them
   shown_once : (x : ℕ) → occurs x (accounts shown) ≡ cond (nat_lt corporation x && not (int_eq (position_at R x c) (pos 0))) 1 0
-  shown_once x = occurs_in c x (held_above R None) (held_sorted R order) ∙ ap (λ (h : Holding). cond (nat_lt corporation x && not (int_eq h.now (pos 0))) 1 0) (held_same R (record { account = x; issue = c }) order)
+  shown_once x = occurs_in has_position refl c x (held_above R None) (held_sorted R order) ∙ ap (λ (h : Holding). cond (nat_lt corporation x && not (int_eq h.now (pos 0))) 1 0) (held_same R (record { account = x; issue = c }) order)
 
   module _ (ms : List Member) (are : AreHolders (positions_in R c) ms) where
     -- the members that are named are shown

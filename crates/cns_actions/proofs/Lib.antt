@@ -8,4 +8,6 @@ pub mod DueAmounts
 pub mod Holders
 pub mod Skipping
 pub mod Summing
-pub mod Booking
+pub mod BookingOrder
+pub mod BookingSums
+pub mod BookingLimits

@@ -1,11 +1,12 @@
--- Members with a position in an issue, account by account: all rows of an account but that in the issue are passed over.
+-- Members with a position or an age in an issue, account by account: all rows of an account but that in the issue are passed
+-- over.
 -- For `next_holder` of holder.rt, clause next.
-use Rattle.std.proofs.Common.{◌≡◌, ◌∙◌, sym, ap, subst, refl, ℕ, ◌<◌, ◌≤◌, Bool, true, false, cond, not, ◌&&◌, ◌==◌, nat_lt, pos, List, [], ◌∷◌, length, map, filter, Option, Some, None, unwrap_or, Ordering, arith}
+use Rattle.std.proofs.Common.{◌≡◌, ◌∙◌, sym, ap, subst, refl, ℕ, ◌<◌, ◌≤◌, Bool, true, false, cond, not, ◌&&◌, ◌==◌, nat_lt, List, [], ◌∷◌, length, map, filter, Option, Some, None, unwrap_or, Ordering, arith}
 use Rattle.std.specs.Cmp.Lexicographic.{slice_cmp}
 use Rattle.std.specs.FinMap.{find, is_sorted}
 use Rattle.std.specs.FinMap.Entries.{below_all}
 use Rattle.std.specs.List.{AllByRecursion, cons_option}
-use Rattle.std.specs.Ordering.{int_eq, is_eq, is_lt, nat_cmp, ordering_reverse, ordering_then}
+use Rattle.std.specs.Ordering.{is_eq, is_lt, nat_cmp, ordering_reverse, ordering_then}
 use Rattle.std.specs.declared.cmp.Ordering.TheVariants.{Less, Equal, Greater}
 use Rattle.std.proofs.lemmas.Bool.{eqb-true}
 use Rattle.std.proofs.lemmas.Bool.Decides.{nat_tests}
@@ -21,10 +22,11 @@ use Rattle.cns_terms.proofs.Everywhere.{each_weaker}
 use Rattle.cns_terms.proofs.Facts.{and_false, and_left, and_right, both_true, bytes_refl, equal, holds, less}
 use Rattle.cns_terms.proofs.Keys.{exact_keys, keys_total}
 use Rattle.cns_positions.specs.Rows.{Rows, held_above, holding_at, is_above, is_held, zeros}
+use Rattle.cns_positions.proofs.Unheld.{held_same, held_sorted}
 use Rattle.cns_actions.specs.declared.holder.Holder.{Holder}
-use Rattle.cns_actions.specs.Changes.{holder_of, holders_in, is_holder}
+use Rattle.cns_actions.specs.Changes.{has_position_or_age, holder_of, holders_in, is_holder}
 use Rattle.cns_actions.specs.Holding.{holder_at, holders_after, is_left, is_of_next}
-use Rattle.cns_actions.proofs.Walking.{below_later, first_row, held_same, held_sorted, nothing_below, passed_row}
+use Rattle.cns_actions.proofs.Walking.{below_later, first_row, nothing_below, passed_row}
 
 -- ---- lists
 
@@ -138,47 +140,47 @@ module _ (c : Cusip) (a : Account) (left : Key → Bool) (later : (k : Key) → 
 
   -- the holders of later accounts
   abbrev after : Rows → List Holder
-  after rows = holders_in c (filter (λ r. nat_lt a r.0.account) rows)
+  after rows = holders_in has_position_or_age c (filter (λ r. nat_lt a r.0.account) rows)
 
   -- the account as a holder, by what stands at its place
   abbrev one : Holding → Option Holder
-  one h = cond (nat_lt corporation a && not (int_eq h.now (pos 0))) (Some (record { account = a; shares = h.now })) None
+  one h = cond (nat_lt corporation a && has_position_or_age h) (Some (holder_of (place, h))) None
 
   -- an account at whose place nothing stands is none
   none_here : one zeros ≡ None
-  none_here = ap (λ b. cond b (Some (record { account = a; shares = pos 0 })) None) (and_false (nat_lt corporation a))
+  none_here = ap (λ b. cond b (Some (holder_of (place, zeros))) None) (and_false (nat_lt corporation a))
 
   -- one row more among holders
-  more : (x : Key × Holding) (xs ys : Rows) → holders_in c xs ≡ holders_in c ys → holders_in c (x ∷ xs) ≡ holders_in c (x ∷ ys)
-  more x xs ys e = by (is_holder c x)
+  more : (x : Key × Holding) (xs ys : Rows) → holders_in has_position_or_age c xs ≡ holders_in has_position_or_age c ys → holders_in has_position_or_age c (x ∷ xs) ≡ holders_in has_position_or_age c (x ∷ ys)
+  more x xs ys e = by (is_holder has_position_or_age c x)
     where
-      by : (b : Bool) → map holder_of (cond b (x ∷ filter (is_holder c) xs) (filter (is_holder c) xs)) ≡ map holder_of (cond b (x ∷ filter (is_holder c) ys) (filter (is_holder c) ys))
+      by : (b : Bool) → map holder_of (cond b (x ∷ filter (is_holder has_position_or_age c) xs) (filter (is_holder has_position_or_age c) xs)) ≡ map holder_of (cond b (x ∷ filter (is_holder has_position_or_age c) ys) (filter (is_holder has_position_or_age c) ys))
       by true = ap (λ hs. holder_of x ∷ hs) e
       by false = e
 
   -- the row at the place is that of the holder
-  at_place : (h : Holding) (xs : Rows) (hs : List Holder) → holders_in c xs ≡ hs → holders_in c ((place, h) ∷ xs) ≡ cons_option (one h) hs
-  at_place h xs hs e = ap (λ b. map holder_of (cond b ((place, h) ∷ filter (is_holder c) xs) (filter (is_holder c) xs))) test ∙ by (nat_lt corporation a && not (int_eq h.now (pos 0)))
+  at_place : (h : Holding) (xs : Rows) (hs : List Holder) → holders_in has_position_or_age c xs ≡ hs → holders_in has_position_or_age c ((place, h) ∷ xs) ≡ cons_option (one h) hs
+  at_place h xs hs e = ap (λ b. map holder_of (cond b ((place, h) ∷ filter (is_holder has_position_or_age c) xs) (filter (is_holder has_position_or_age c) xs))) test ∙ by (nat_lt corporation a && has_position_or_age h)
     where
-      test : is_holder c (place, h) ≡ (nat_lt corporation a && not (int_eq h.now (pos 0)))
+      test : is_holder has_position_or_age c (place, h) ≡ (nat_lt corporation a && has_position_or_age h)
       test = by (nat_lt corporation a)
         where
-          by : (b : Bool) → (b && same_issue c c && not (int_eq h.now (pos 0))) ≡ (b && not (int_eq h.now (pos 0)))
-          by true = ap (λ s. s && not (int_eq h.now (pos 0))) (bytes_refl c)
+          by : (b : Bool) → (b && same_issue c c && has_position_or_age h) ≡ (b && has_position_or_age h)
+          by true = ap (λ s. s && has_position_or_age h) (bytes_refl c)
           by false = refl
 
-      by : (b : Bool) → map holder_of (cond b ((place, h) ∷ filter (is_holder c) xs) (filter (is_holder c) xs)) ≡ cons_option (cond b (Some (record { account = a; shares = h.now })) None) hs
-      by true = ap (λ gs. record { account = a; shares = h.now } ∷ gs) e
+      by : (b : Bool) → map holder_of (cond b ((place, h) ∷ filter (is_holder has_position_or_age c) xs) (filter (is_holder has_position_or_age c) xs)) ≡ cons_option (cond b (Some (holder_of (place, h))) None) hs
+      by true = ap (λ gs. holder_of (place, h) ∷ gs) e
       by false = e
 
   -- a row in another issue is no holder's
-  elsewhere : (x : Key × Holding) (xs : Rows) → same_issue x.0.issue c ≡ false → holders_in c (x ∷ xs) ≡ holders_in c xs
-  elsewhere x xs e = ap (λ b. map holder_of (cond b (x ∷ filter (is_holder c) xs) (filter (is_holder c) xs))) other
+  elsewhere : (x : Key × Holding) (xs : Rows) → same_issue x.0.issue c ≡ false → holders_in has_position_or_age c (x ∷ xs) ≡ holders_in has_position_or_age c xs
+  elsewhere x xs e = ap (λ b. map holder_of (cond b (x ∷ filter (is_holder has_position_or_age c) xs) (filter (is_holder has_position_or_age c) xs))) other
     where
-      other : is_holder c x ≡ false
+      other : is_holder has_position_or_age c x ≡ false
       other =
-          ap (λ s. nat_lt corporation x.0.account && s && not (int_eq x.1.now (pos 0))) e
-          ∙ ap (λ b. b && not (int_eq x.1.now (pos 0))) (and_false (nat_lt corporation x.0.account))
+          ap (λ s. nat_lt corporation x.0.account && s && has_position_or_age x.1) e
+          ∙ ap (λ b. b && has_position_or_age x.1) (and_false (nat_lt corporation x.0.account))
 
   -- what stands at the place is past a row in another issue
   past_row : (x : Key × Holding) (rows : Rows) → same_issue x.0.issue c ≡ false → holding_at (x ∷ rows) place ≡ holding_at rows place
@@ -191,7 +193,7 @@ module _ (c : Cusip) (a : Account) (left : Key → Bool) (later : (k : Key) → 
       by false f = ap (λ b. unwrap_or (cond b (Some x.1) (find key_cmp place rows)) zeros) f
 
   -- rows of which none that is left is of an earlier account: the account itself, and those of later ones
-  split : (rows : Rows) → is_sorted key_cmp rows ≡ true → AllByRecursion (λ x. left x.0 ≡ true → a ≤ x.0.account) rows → holders_in c (filter (λ r. left r.0) rows) ≡ cons_option (one (holding_at rows place)) (after rows)
+  split : (rows : Rows) → is_sorted key_cmp rows ≡ true → AllByRecursion (λ x. left x.0 ≡ true → a ≤ x.0.account) rows → holders_in has_position_or_age c (filter (λ r. left r.0) rows) ≡ cons_option (one (holding_at rows place)) (after rows)
   split [] s g = sym (ap (λ o. cons_option o []) none_here)
   split (x ∷ rows) s g = by (left x.0) (nat_lt a x.0.account) refl refl (split rows (and_right _ _ s) g.1)
     where
@@ -199,28 +201,28 @@ module _ (c : Cusip) (a : Account) (left : Key → Bool) (later : (k : Key) → 
       below = and_left _ _ s
 
       -- where the place is below the other rows, none of them is the account's
-      others : below_all key_cmp place rows ≡ true → holders_in c (filter (λ r. left r.0) rows) ≡ cons_option (one (holding_at rows place)) (after rows) → holders_in c (filter (λ r. left r.0) rows) ≡ after rows
+      others : below_all key_cmp place rows ≡ true → holders_in has_position_or_age c (filter (λ r. left r.0) rows) ≡ cons_option (one (holding_at rows place)) (after rows) → holders_in has_position_or_age c (filter (λ r. left r.0) rows) ≡ after rows
       others b ih = ih ∙ ap (λ h. cons_option (one h) (after rows)) (nothing_below place rows b) ∙ ap (λ o. cons_option o (after rows)) none_here
 
       -- a row of the account
-      of_account : (t : Bool) → same_issue x.0.issue c ≡ t → x.0.account ≡ a → holders_in c (filter (λ r. left r.0) rows) ≡ cons_option (one (holding_at rows place)) (after rows) → holders_in c (x ∷ filter (λ r. left r.0) rows) ≡ cons_option (one (holding_at (x ∷ rows) place)) (after rows)
+      of_account : (t : Bool) → same_issue x.0.issue c ≡ t → x.0.account ≡ a → holders_in has_position_or_age c (filter (λ r. left r.0) rows) ≡ cons_option (one (holding_at rows place)) (after rows) → holders_in has_position_or_age c (x ∷ filter (λ r. left r.0) rows) ≡ cons_option (one (holding_at (x ∷ rows) place)) (after rows)
       of_account true e same ih =
           let is : x.0 ≡ place = λ i. record { account = same i; issue = (bytes_eq-Decides x.0.issue c).0 e i } in
           let rest = others (ap (λ (k : Key). below_all key_cmp k rows) (sym is) ∙ below) ih in
-          ap (λ (k : Key). holders_in c ((k, x.1) ∷ filter (λ r. left r.0) rows)) is
+          ap (λ (k : Key). holders_in has_position_or_age c ((k, x.1) ∷ filter (λ r. left r.0) rows)) is
           ∙ at_place x.1 (filter (λ r. left r.0) rows) (after rows) rest
           ∙ ap (λ h. cons_option (one h) (after rows)) (sym (ap (holding_at (x ∷ rows)) (sym is) ∙ first_row x rows))
       of_account false e same ih =
           elsewhere x (filter (λ r. left r.0) rows) e ∙ ih ∙ ap (λ h. cons_option (one h) (after rows)) (sym (past_row x rows e))
 
-      by : (l d : Bool) → left x.0 ≡ l → nat_lt a x.0.account ≡ d → holders_in c (filter (λ r. left r.0) rows) ≡ cons_option (one (holding_at rows place)) (after rows)
-          → holders_in c (cond l (x ∷ filter (λ r. left r.0) rows) (filter (λ r. left r.0) rows)) ≡ cons_option (one (holding_at (x ∷ rows) place)) (holders_in c (cond d (x ∷ filter (λ r. nat_lt a r.0.account) rows) (filter (λ r. nat_lt a r.0.account) rows)))
+      by : (l d : Bool) → left x.0 ≡ l → nat_lt a x.0.account ≡ d → holders_in has_position_or_age c (filter (λ r. left r.0) rows) ≡ cons_option (one (holding_at rows place)) (after rows)
+          → holders_in has_position_or_age c (cond l (x ∷ filter (λ r. left r.0) rows) (filter (λ r. left r.0) rows)) ≡ cons_option (one (holding_at (x ∷ rows) place)) (holders_in has_position_or_age c (cond d (x ∷ filter (λ r. nat_lt a r.0.account) rows) (filter (λ r. nat_lt a r.0.account) rows)))
       by true true e f ih =
           let l : key_cmp place x.0 ≡ Less = account_before place x.0 f in
           let under : below_all key_cmp place rows ≡ true = below_later place x.0 rows l below in
           let none : holding_at (x ∷ rows) place ≡ zeros = nothing_below place (x ∷ rows) (both_true _ _ (ap is_lt l) under) in
           more x (filter (λ r. left r.0) rows) (filter (λ r. nat_lt a r.0.account) rows) (others under ih)
-          ∙ sym (ap (λ h. cons_option (one h) (holders_in c (x ∷ filter (λ r. nat_lt a r.0.account) rows))) none ∙ ap (λ o. cons_option o (holders_in c (x ∷ filter (λ r. nat_lt a r.0.account) rows))) none_here)
+          ∙ sym (ap (λ h. cons_option (one h) (holders_in has_position_or_age c (x ∷ filter (λ r. nat_lt a r.0.account) rows))) none ∙ ap (λ o. cons_option o (holders_in has_position_or_age c (x ∷ filter (λ r. nat_lt a r.0.account) rows))) none_here)
       by true false e f ih = of_account (same_issue x.0.issue c) refl (same_number x.0.account a (g.0 e) f) ih
       by false true e f ih = absurd (apart (sym e ∙ later x.0 (is_above_it a x.0.account f)))
       by false false e f ih =
@@ -255,7 +257,7 @@ module _ (R : Rows) (order : is_sorted key_cmp R ≡ true) (c : Cusip) (passed :
   pub none_left : held_above R passed ≡ [] → holders_after R c passed ≡ []
   none_left e =
       let none = passing (λ (x : Key × Holding). ⊥) (λ r. is_above passed r.0) all (subst (AllByRecursion (λ (x : Key × Holding). ⊥)) (sym e ∙ above_held passed R) tt) in
-      ap (holders_in c) (none_pass (λ (r : Key × Holding). is_left passed r.0) all (each_weaker (λ (x : Key × Holding). is_above passed x.0 ≡ true → ⊥) (λ x. is_left passed x.0 ≡ false) all not_left none))
+      ap (holders_in has_position_or_age c) (none_pass (λ (r : Key × Holding). is_left passed r.0) all (each_weaker (λ (x : Key × Holding). is_above passed x.0 ≡ true → ⊥) (λ x. is_left passed x.0 ≡ false) all not_left none))
 
   module _ (r : Key × Holding) (rest : Rows) (next : held_above R passed ≡ r ∷ rest) (q : Key) (same : q.account ≡ r.0.account) where
     -- the row is above what is passed
@@ -270,7 +272,7 @@ module _ (R : Rows) (order : is_sorted key_cmp R ≡ true) (c : Cusip) (passed :
         by None h = cc
         by (Some p) h =
             let own : p.account ≡ q.account = eqb-true p.account r.0.account (holds _ h) ∙ sym same in
-            ap (λ n. holders_in c (filter (λ (x : Key × Holding). nat_lt n x.0.account) all)) own
+            ap (λ n. holders_in has_position_or_age c (filter (λ (x : Key × Holding). nat_lt n x.0.account) all)) own
 
     -- accounts from that of the row on are left
     from_row : is_of_next passed r.0 ≡ true → (k : Key) → r.0.account ≤ k.account → is_left passed k ≡ true
@@ -301,8 +303,8 @@ module _ (R : Rows) (order : is_sorted key_cmp R ≡ true) (c : Cusip) (passed :
         let gap = passing (λ (x : Key × Holding). a ≤ x.0.account) (λ x. is_above passed x.0) all (subst (AllByRecursion (λ (x : Key × Holding). a ≤ x.0.account)) (sym above) low) in
         split c a (is_left passed) (λ k lt. from_row h k (omega arith)) alike_left (from_row h (record { account = a; issue = c }) (omega arith)) all (held_sorted R order)
         (each_weaker (λ (x : Key × Holding). is_above passed x.0 ≡ true → a ≤ x.0.account) (λ x. is_left passed x.0 ≡ true → a ≤ x.0.account) all (λ x p e. p (left_above passed x.0 e)) gap)
-        ∙ ap (λ (s : Holding). cons_option (one c a (is_left passed) (λ k lt. from_row h k (omega arith)) alike_left (from_row h (record { account = a; issue = c }) (omega arith)) s) (holders_in c (filter (λ (x : Key × Holding). nat_lt a x.0.account) all))) (held_same R (record { account = a; issue = c }) order)
-        ∙ ap (λ n. cons_option (holder_at R a c) (holders_in c (filter (λ (x : Key × Holding). nat_lt n x.0.account) all))) (sym same)
+        ∙ ap (λ (s : Holding). cons_option (one c a (is_left passed) (λ k lt. from_row h k (omega arith)) alike_left (from_row h (record { account = a; issue = c }) (omega arith)) s) (holders_in has_position_or_age c (filter (λ (x : Key × Holding). nat_lt a x.0.account) all))) (held_same R (record { account = a; issue = c }) order)
+        ∙ ap (λ n. cons_option (holder_at R a c) (holders_in has_position_or_age c (filter (λ (x : Key × Holding). nat_lt n x.0.account) all))) (sym same)
 
   -- fewer rows are above a key that is not before one of them
   pub fewer_above : (r : Key × Holding) (q : Key) → held_above R passed ≡ r ∷ held_above R (Some r.0) → is_lt (key_cmp q r.0) ≡ false → length (held_above R (Some q)) < length (held_above R passed)

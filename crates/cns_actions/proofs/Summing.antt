@@ -1,8 +1,8 @@
 -- Sums over the members with a position, as far as they were added up.
-use Rattle.std.proofs.Common.{◌≡◌, ◌∙◌, sym, ap, subst, ℕ, ◌*◌, ◌^◌, ◌<◌, ◌≤◌, ℤ, pos, ◌+ℤ◌, true, false, Bool, ◌||◌, List, ◌∷◌, None, unsigned_abs, arith}
+use Rattle.std.proofs.Common.{◌≡◌, ◌∙◌, sym, ap, subst, ℕ, ◌*◌, ◌^◌, ◌<◌, ◌≤◌, ℤ, pos, ◌+ℤ◌, true, false, cond, not, Bool, ◌||◌, List, ◌∷◌, None, unsigned_abs, arith}
 use Rattle.std.specs.FinMap.{is_sorted}
 use Rattle.std.specs.List.{list_any}
-use Rattle.std.specs.Ordering.{is_lt, nat_cmp}
+use Rattle.std.specs.Ordering.{int_eq, is_lt, nat_cmp}
 use Rattle.std.proofs.lemmas.Bool.Decides.{nat_tests}
 use Rattle.std.proofs.lemmas.Int.{ints}
 use Rattle.cns_units.specs.declared.cusip.Cusip.{Cusip}
@@ -16,8 +16,8 @@ use Rattle.cns_actions.specs.declared.change.Change.{Change}
 use Rattle.cns_actions.specs.declared.holder.Holder.{Holder}
 use Rattle.cns_actions.specs.Booked.{CanBeBooked, position_at}
 use Rattle.cns_actions.specs.Holding.{holders_after}
-use Rattle.cns_actions.specs.Changes.{IsFew, change_of, holders_in, sum_of}
-use Rattle.cns_actions.proofs.Holders.{AreListed, above_zero, accounts, shown_listed}
+use Rattle.cns_actions.specs.Changes.{IsFew, change_of, has_position, has_position_or_age, holders_in, sum_of, with_position}
+use Rattle.cns_actions.proofs.Holders.{AreListed, above_zero, accounts, positions_kept, shown_listed}
 use Rattle.cns_actions.proofs.Skipping.{all_pass}
 
 -- two changes together
@@ -32,21 +32,35 @@ pub record IsUpTo (sum : Change) (left : List Holder) : Type 0 where
   pub above : above_all nat_cmp last (accounts left) ≡ true
   pub listed : AreListed left
 
--- at first all members are left
-pub all_left : (R : Rows) (c : Cusip) → holders_after R c None ≡ holders_in c (held_above R None)
-all_left R c = ap (holders_in c) (all_pass (held_above R None))
+module _ (R : Rows) (c : Cusip) where
+  -- at first all members are left
+  pub all_left : holders_after R c None ≡ holders_in has_position_or_age c (held_above R None)
+  all_left = ap (holders_in has_position_or_age c) (all_pass (held_above R None))
 
--- nothing is added up yet
-pub up_first : (R : Rows) (c : Cusip) → CanBeBooked R → is_sorted key_cmp R ≡ true → IsUpTo (record { before = pos 0; after = pos 0; cents = pos 0 }) (holders_after R c None)
-up_first R c can order =
-    let listed : AreListed (holders_after R c None) = subst AreListed (sym (all_left R c)) (shown_listed R order c can) in
-    record {
-      last = 0;
-      most = omega arith;
-      few = record { before = omega arith; after = omega arith; cents = omega arith };
-      above = above_zero (holders_after R c None) listed.members;
-      listed = listed;
-    }
+  -- and so all with a position
+  pub positions_left : with_position (holders_after R c None) ≡ holders_in has_position c (held_above R None)
+  positions_left = ap with_position all_left ∙ positions_kept c (held_above R None)
+
+  -- nothing is added up yet
+  pub up_first : CanBeBooked R → is_sorted key_cmp R ≡ true → IsUpTo (record { before = pos 0; after = pos 0; cents = pos 0 }) (with_position (holders_after R c None))
+  up_first can order =
+      let listed : AreListed (with_position (holders_after R c None)) = subst AreListed (sym positions_left) (shown_listed R order c can) in
+      record {
+        last = 0;
+        most = omega arith;
+        few = record { before = omega arith; after = omega arith; cents = omega arith };
+        above = above_zero (with_position (holders_after R c None)) listed.members;
+        listed = listed;
+      }
+
+module _ (left : List Holder) (h : Holder) (rest : List Holder) (first : left ≡ h ∷ rest) where
+  -- the next member with a position is the next of those
+  pub next_kept : not (int_eq h.shares (pos 0)) ≡ true → with_position left ≡ h ∷ with_position rest
+  next_kept e = ap with_position first ∙ ap (λ b. cond b (h ∷ with_position rest) (with_position rest)) e
+
+  -- and one without is none of them
+  pub next_passed : not (int_eq h.shares (pos 0)) ≡ false → with_position left ≡ with_position rest
+  next_passed e = ap with_position first ∙ ap (λ b. cond b (h ∷ with_position rest) (with_position rest)) e
 
 -- a number that comes before another is below it
 lower : (a b : ℕ) → is_lt (nat_cmp a b) ≡ true → a < b

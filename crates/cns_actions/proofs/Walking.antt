@@ -1,60 +1,21 @@
 -- The rows of a walk, and what stands at keys before and after it passed some.
-use Rattle.std.proofs.Common.{◌≡◌, ◌∙◌, sym, ap, subst, refl, Bool, true, false, cond, ◌&&◌, ◌==◌, pos, List, ◌∷◌, [], Option, Some, None, unwrap_or, MatchOption, Ordering}
-use Rattle.std.specs.Ordering.{int_eq, is_eq, is_lt, ordering_reverse}
+use Rattle.std.proofs.Common.{◌≡◌, ◌∙◌, sym, ap, subst, refl, true, false, cond, List, ◌∷◌, [], Option, Some, None, unwrap_or, MatchOption, Ordering}
+use Rattle.std.specs.Ordering.{is_eq, is_lt, ordering_reverse}
 use Rattle.std.specs.declared.cmp.Ordering.TheVariants.{Less, Equal, Greater}
 use Rattle.std.specs.FinMap.{find, is_sorted}
 use Rattle.std.specs.FinMap.Entries.{below_all}
 use Rattle.std.specs.List.{AllByRecursion}
-use Rattle.std.proofs.lemmas.Bool.{eqb-true}
-use Rattle.std.proofs.lemmas.Bool.Decides.{Decides-int_eq}
 use Rattle.std.proofs.lemmas.Cmp.{tied_itself}
 use Rattle.cns_terms.specs.declared.holding.Holding.{Holding}
 use Rattle.cns_terms.specs.declared.holding.Key.{Key}
 use Rattle.cns_terms.specs.Keys.{key_cmp}
 use Rattle.cns_terms.proofs.Everywhere.{each_weaker}
-use Rattle.cns_terms.proofs.Facts.{and_left, and_right, both_true, holds, less}
-use Rattle.cns_terms.proofs.Finds.{find_below, find_filter, kept_if, sorted_filter}
+use Rattle.cns_terms.proofs.Facts.{and_left, and_right, both_true, less}
+use Rattle.cns_terms.proofs.Finds.{find_below}
 use Rattle.cns_terms.proofs.Keys.{exact_keys, keys_total}
-use Rattle.cns_positions.specs.Rows.{Rows, held_above, holding_at, is_held, zeros}
+use Rattle.cns_positions.specs.Rows.{Rows, held_above, holding_at, zeros}
+use Rattle.cns_positions.proofs.Unheld.{held_same, held_sorted}
 use Rattle.cns_actions.specs.Walks.{starts_before, with_ahead}
-
--- ---- the rows that aren't zeros
-
--- they are in order
-pub held_sorted : (rows : Rows) → is_sorted key_cmp rows ≡ true → is_sorted key_cmp (held_above rows None) ≡ true
-held_sorted rows s = sorted_filter keys_total is_held rows s
-
--- four tests that all hold
-each_true : (a b c d : Bool) → (a && b && c && d) ≡ true → (a ≡ true) × (b ≡ true) × (c ≡ true) × (d ≡ true)
-each_true true true true true e = (refl, refl, refl, refl)
-each_true true true true false e = cc
-each_true true true false d e = cc
-each_true true false c d e = cc
-each_true false b c d e = cc
-
--- what isn't held is zeros
-unheld : (h : Holding) → is_held h ≡ false → h ≡ zeros
-unheld h e =
-    let all = each_true (int_eq h.now (pos 0)) (int_eq h.opening (pos 0)) (int_eq h.contract (pos 0)) (h.run == 0) (holds _ e) in
-    λ i. record {
-      now = (Decides-int_eq h.now (pos 0)).0 all.0 i;
-      opening = (Decides-int_eq h.opening (pos 0)).0 all.1 i;
-      contract = (Decides-int_eq h.contract (pos 0)).0 all.2 i;
-      run = eqb-true h.run 0 all.3 i;
-    }
-
--- a holding that is left out is zeros
-kept_holding : (o : Option Holding) → unwrap_or (kept_if is_held o) zeros ≡ unwrap_or o zeros
-kept_holding None = refl
-kept_holding (Some h) = by (is_held h) refl
-  where
-    by : (b : Bool) → is_held h ≡ b → unwrap_or (cond (is_held h) (Some h) None) zeros ≡ h
-    by true e = ap (λ b. unwrap_or (cond b (Some h) None) zeros) e
-    by false e = ap (λ b. unwrap_or (cond b (Some h) None) zeros) e ∙ sym (unheld h e)
-
--- and the same stands at each key
-pub held_same : (rows : Rows) (k : Key) → is_sorted key_cmp rows ≡ true → holding_at (held_above rows None) k ≡ holding_at rows k
-held_same rows k s = ap (λ o. unwrap_or o zeros) (find_filter keys_total is_held k rows s) ∙ kept_holding (find key_cmp k rows)
 
 -- ---- the first row
 

@@ -1,11 +1,13 @@
 -- What entries make of positions.
-use Rattle.std.specs.Prelude.{◌≡◌, ◌≤◌, ℤ, Bool, false, List, unsigned_abs}
+use Rattle.std.specs.Prelude.{◌≡◌, ◌≤◌, ℕ, max, ℤ, Bool, false, List, unsigned_abs, if◌then◌else◌}
 use Rattle.cns_units.specs.declared.account.Account.{Account}
 use Rattle.cns_units.specs.declared.account.Member.{Member}
 use Rattle.cns_units.specs.declared.cusip.Cusip.{Cusip}
 use Rattle.cns_terms.specs.declared.holding.Entry.{Entry}
+use Rattle.cns_terms.specs.declared.holding.Holding.{Holding}
 use Rattle.cns_terms.specs.declared.holding.Key.{Key}
 use Rattle.cns_terms.specs.Entries.{corporation, exchange_entries, split_entries}
+use Rattle.cns_terms.specs.Holdings.{oldest_of}
 use Rattle.cns_terms.specs.Limits.{amount_limit, corporation_limit, position_limit}
 use Rattle.cns_terms.specs.declared.pend.Pend.{Pend}
 use Rattle.cns_terms.specs.Pending.{waits_in}
@@ -41,6 +43,16 @@ IsForAnother (action.Exchange x) = same_issue x.old x.successor ≡ false
 abbrev pub waits_for : Action → List Pend → Bool
 waits_for (action.Split s) ps = false
 waits_for (action.Exchange x) ps = waits_in ps x.old
+
+-- the age that is brought to a key: in an exchange the successor gets the oldest of the account's short in the old issue
+abbrev pub age_brought : Rows → Action → Key → ℕ
+age_brought rows (action.Split s) k = 0
+age_brought rows (action.Exchange x) k =
+    if same_issue x.successor k.issue then oldest_of (holding_at rows (record { account = k.account; issue = x.old })) else 0
+
+-- what stands at a key, with an age that is brought there
+abbrev pub with_age : ℕ → Holding → Holding
+with_age n h = record h { carried = max h.carried n }
 
 -- positions on which a split or an exchange can be booked: none is beyond its limit, and no cents are
 pub record CanBeBooked (rows : Rows) : Type 0 where

@@ -1,15 +1,15 @@
 -- What splits and exchanges make of positions.
-use Rattle.std.specs.Prelude.{◌≤◌, ◌*◌, ◌^◌, ℕ, ℤ, pos, ◌+ℤ◌, ◌-ℤ◌, neg_ℤ, Bool, not, ◌&&◌, nat_lt, List, [], ◌∷◌, ◌++◌, map, filter, unsigned_abs, None, if◌then◌else◌}
+use Rattle.std.specs.Prelude.{◌≤◌, ◌*◌, ◌^◌, ℕ, ℤ, pos, ◌+ℤ◌, ◌-ℤ◌, neg_ℤ, Bool, not, ◌&&◌, ◌||◌, ◌==◌, nat_lt, List, [], ◌∷◌, ◌++◌, map, filter, unsigned_abs, None, if◌then◌else◌}
 use Rattle.std.specs.Cmp.Lexicographic.{slice_cmp}
 use Rattle.std.specs.List.{flat_map}
 use Rattle.std.specs.Ordering.{int_eq, is_lt, nat_cmp}
 use Rattle.cns_units.specs.declared.account.Account.{Account}
 use Rattle.cns_units.specs.declared.cusip.Cusip.{Cusip}
-use Rattle.cns_terms.specs.declared.holding.Entry.{Entry}
 use Rattle.cns_terms.specs.declared.holding.Holding.{Holding}
 use Rattle.cns_terms.specs.declared.holding.Key.{Key}
 use Rattle.cns_terms.specs.Conversions.{converted, in_exchange, in_lieu}
 use Rattle.cns_terms.specs.Entries.{corporation, entry}
+use Rattle.cns_terms.specs.Holdings.{oldest_of}
 use Rattle.cns_terms.specs.declared.pend.Pend.{Pend}
 use Rattle.cns_terms.specs.Pending.{bought_in, sold_in}
 use Rattle.cns_terms.specs.Refusals.{is_beyond}
@@ -17,25 +17,43 @@ use Rattle.cns_terms.specs.Sums.{same_issue, total}
 use Rattle.cns_positions.specs.Rows.{Rows, held_above}
 use Rattle.cns_actions.specs.declared.action.Action.{Action}
 use Rattle.cns_actions.specs.declared.action.Action.TheVariants as action
+use Rattle.cns_actions.specs.declared.booking.Booking.{Booking}
 use Rattle.cns_actions.specs.declared.change.Change.{Change}
 use Rattle.cns_actions.specs.declared.holder.Holder.{Holder}
 use Rattle.cns_actions.specs.Booked.{issue_of, position_at}
+use Rattle.cns_actions.specs.Merging.{booking}
 
--- whether a row is that of a member with a position in an issue
-abbrev pub is_holder : Cusip → Key × Holding → Bool
-is_holder c r = nat_lt corporation r.0.account && same_issue r.0.issue c && not (int_eq r.1.now (pos 0))
+-- whether a position stands there
+abbrev pub has_position : Holding → Bool
+has_position h = not (int_eq h.now (pos 0))
 
--- the member, with its position
+-- or the age of a short, be it closed since
+abbrev pub has_position_or_age : Holding → Bool
+has_position_or_age h = has_position h || not (oldest_of h == 0)
+
+-- whether a row is that of a member in an issue with a holding of the kind
+abbrev pub is_holder : (Holding → Bool) → Cusip → Key × Holding → Bool
+is_holder kind c r = nat_lt corporation r.0.account && same_issue r.0.issue c && kind r.1
+
+-- the member, with its position and its age
 abbrev pub holder_of : Key × Holding → Holder
-holder_of r = record { account = r.0.account; shares = r.1.now }
+holder_of r = record { account = r.0.account; shares = r.1.now; oldest = oldest_of r.1 }
 
--- the members with a position in an issue, in the order of rows
-abbrev pub holders_in : Cusip → Rows → List Holder
-holders_in c rows = map holder_of (filter (is_holder c) rows)
+-- the members with such holdings in an issue, in the order of rows
+abbrev pub holders_in : (Holding → Bool) → Cusip → Rows → List Holder
+holders_in kind c rows = map holder_of (filter (is_holder kind c) rows)
 
 -- those that a split or an exchange is booked for
 abbrev pub holders_of : Action → Rows → List Holder
-holders_of x rows = holders_in (issue_of x) (held_above rows None)
+holders_of x rows = holders_in has_position (issue_of x) (held_above rows None)
+
+-- and those with an age, which an exchange brings into the successor
+abbrev pub all_holders_of : Action → Rows → List Holder
+all_holders_of x rows = holders_in has_position_or_age (issue_of x) (held_above rows None)
+
+-- those of holders with a position
+abbrev pub with_position : List Holder → List Holder
+with_position hs = filter (λ h. not (int_eq h.shares (pos 0))) hs
 
 -- what a position becomes
 abbrev pub change_of : Action → ℤ → Change
@@ -59,22 +77,29 @@ pub record IsFew (n : ℕ) (c : Change) : Type 0 where
   pub after : unsigned_abs c.after ≤ 10 ^ 14 * n
   pub cents : unsigned_abs c.cents ≤ 2 * 10 ^ 19 * n
 
--- two entries of an account, in the order of their issues
-abbrev pub in_issue_order : Entry → Entry → List Entry
-in_issue_order e f = if is_lt (slice_cmp nat_cmp e.issue f.issue) then e ∷ f ∷ [] else f ∷ e ∷ []
+-- two bookings of an account, in the order of their issues
+abbrev pub in_issue_order : Booking → Booking → List Booking
+in_issue_order b d = if is_lt (slice_cmp nat_cmp b.entry.issue d.entry.issue) then b ∷ d ∷ [] else d ∷ b ∷ []
 
--- what a change books for an account
-abbrev pub entries_for : Action → Account → Change → List Entry
-entries_for (action.Split s) a c = entry a s.issue (c.after -ℤ c.before) c.cents ∷ []
-entries_for (action.Exchange x) a c = in_issue_order (entry a x.old (neg_ℤ c.before) (pos 0)) (entry a x.successor c.after c.cents)
+-- what a change books for an account, with the age that an exchange brings
+abbrev pub bookings_for : Action → Account → Change → ℕ → List Booking
+bookings_for (action.Split s) a c n = booking (entry a s.issue (c.after -ℤ c.before) c.cents) 0 ∷ []
+bookings_for (action.Exchange x) a c n =
+    in_issue_order (booking (entry a x.old (neg_ℤ c.before) (pos 0)) 0) (booking (entry a x.successor c.after c.cents) n)
 
--- what is booked for members
-abbrev pub member_entries : Action → List Holder → List Entry
-member_entries x hs = flat_map (λ h. entries_for x h.account (change_of x h.shares)) hs
+-- what is booked for an account without a position: the age alone
+abbrev pub age_for : Action → Account → ℕ → List Booking
+age_for (action.Split s) a n = []
+age_for (action.Exchange x) a n = booking (entry a x.successor (pos 0) (pos 0)) n ∷ []
 
--- what is booked for them and for the corporation
-abbrev pub all_entries : Action → List Holder → List Entry
-all_entries x hs = entries_for x corporation (opposite (sum_of x hs)) ++ member_entries x hs
+-- what is booked for a member
+abbrev pub member_bookings : Action → Holder → List Booking
+member_bookings x h =
+    if int_eq h.shares (pos 0) then age_for x h.account h.oldest else bookings_for x h.account (change_of x h.shares) h.oldest
+
+-- what is booked for members, and for the corporation before them, by what their positions become together and its age
+abbrev pub all_bookings : Action → Change → ℕ → List Holder → List Booking
+all_bookings x sum n hs = bookings_for x corporation (opposite sum) n ++ flat_map (member_bookings x) hs
 
 -- the issue of the new shares
 abbrev pub new_issue : Action → Cusip

@@ -12,7 +12,9 @@ use Rattle.cns_terms.specs.Limits.{money_limit, shares_limit}
 use Rattle.cns_terms.specs.Pending.{is_due}
 use Rattle.cns_terms.specs.Positions.{cents_for, shares_for}
 use Rattle.cns_terms.specs.Sums.{total}
+use Rattle.cns_actions.specs.declared.booking.Booking.{Booking}
 use Rattle.cns_actions.specs.declared.due_amounts.Amount.{Amount}
+use Rattle.cns_actions.specs.Merging.{booking}
 
 -- what is booked at each key, in the order of keys
 abbrev pub AmountsByKey : Type 0
@@ -49,9 +51,9 @@ amount_of es k = record {
 abbrev pub due_entries : Day → List Pend → List Entry
 due_entries next ps = flat_map trade_entries (filter (is_due next) ps)
 
--- what is booked at a key, as one entry
-abbrev pub as_entry : Key × Amount → Entry
-as_entry e = entry e.0.account e.0.issue e.1.shares e.1.cents
+-- what is booked at a key, as one entry, which brings no age
+abbrev pub as_booking : Key × Amount → Booking
+as_booking e = booking (entry e.0.account e.0.issue e.1.shares e.1.cents) 0
 
 -- an amount of less than half of what its types hold
 pub record IsSmallAmount (a : Amount) : Type 0 where

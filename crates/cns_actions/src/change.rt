@@ -1,13 +1,15 @@
-// What positions become in a split or an exchange, and the entries that book it.
+// What positions become in a split or an exchange, and what is booked for it.
 ghost use Rattle.std.specs.Prelude.{◌≡◌, ◌≤◌, ◌+ℤ◌, ◌-ℤ◌, neg_ℤ, pos, ◌++◌, OnOk, unsigned_abs};
 ghost use Rattle.cns_terms.specs.Entries.{entry};
 ghost use Rattle.cns_terms.specs.Limits.{member_limit, position_limit};
-ghost use Rattle.cns_actions.specs.Changes.{IsFew, change_of, entries_for, in_issue_order, opposite};
+ghost use Rattle.cns_actions.specs.Changes.{IsFew, age_for, bookings_for, change_of, in_issue_order, opposite};
+ghost use Rattle.cns_actions.specs.Merging.{booking};
 
 use crate::action::Action;
+use crate::booking::Booking;
 use crate::conversion::{exchange_of, split_of};
 use crate::holder::Holder;
-use cns_terms::{Entry, Exchange, NoMemory};
+use cns_terms::{Entry, Exchange, NoMemory, Split};
 use cns_units::Account;
 use std::alloc::Allocator;
 
@@ -77,21 +79,24 @@ impl Change {
     }
 }
 
-// Puts entries after others.
-fn extend<A: Allocator + Drop>(entries: &mut Vec<Entry, A>, more: &[Entry]) -> Result<(), NoMemory>
-    ensures { OnOk result (entries.new.items ≡ entries.old.items ++ more.now) }
+// Puts bookings after others.
+fn extend<A: Allocator + Drop>(
+    bookings: &mut Vec<Booking, A>,
+    more: &[Booking],
+) -> Result<(), NoMemory>
+    ensures { OnOk result (bookings.new.items ≡ bookings.old.items ++ more.now) }
 {
-    match entries.extend_from_slice(more) {
+    match bookings.extend_from_slice(more) {
         Ok(()) => Ok(()),
         Err(_) => Err(NoMemory),
     }
 }
 
-// Two entries of an account, in the order of their issues.
-fn ordered(one: &Entry, other: &Entry) -> [Entry; 2]
+// Two bookings of an account, in the order of their issues.
+fn ordered(one: &Booking, other: &Booking) -> [Booking; 2]
     ensures { result ≡ in_issue_order one.now other.now }
 {
-    if one.issue < other.issue {
+    if one.entry.issue < other.entry.issue {
         [*one, *other]
     } else {
         [*other, *one]
@@ -106,56 +111,87 @@ fn difference(change: &Change) -> i64
     change.after - change.before
 }
 
-// What an exchange books for an account in the old issue.
-fn leaving(exchange: &Exchange, account: Account, change: &Change) -> Entry
+// What a split books for an account.
+fn differing(split: &Split, account: Account, change: &Change) -> Booking
     requires { IsFew member_limit change.now }
-    ensures { result ≡ entry account exchange.now.old (neg_ℤ change.now.before) (pos 0) }
+    ensures { result
+        ≡ booking (entry account split.now.issue (change.now.after -ℤ change.now.before) change.now.cents) 0 }
 {
-    Entry {
+    Booking::of(&Entry {
+        account,
+        issue: split.issue,
+        shares: difference(change),
+        cents: change.cents,
+    })
+}
+
+// What an exchange books for an account in the old issue.
+fn leaving(exchange: &Exchange, account: Account, change: &Change) -> Booking
+    requires { IsFew member_limit change.now }
+    ensures { result ≡ booking (entry account exchange.now.old (neg_ℤ change.now.before) (pos 0)) 0 }
+{
+    Booking::of(&Entry {
         account,
         issue: exchange.old,
         shares: -change.before,
         cents: 0,
-    }
+    })
 }
 
-// What it books in the successor.
-fn entering(exchange: &Exchange, account: Account, change: &Change) -> Entry
-    ensures { result ≡ entry account exchange.now.successor change.now.after change.now.cents }
+// What it books in the successor, with the age that it brings there.
+fn entering(exchange: &Exchange, account: Account, change: &Change, oldest: u32) -> Booking
+    ensures { result ≡ booking (entry account exchange.now.successor change.now.after change.now.cents) oldest }
 {
-    Entry {
-        account,
-        issue: exchange.successor,
-        shares: change.after,
-        cents: change.cents,
+    Booking {
+        entry: Entry {
+            account,
+            issue: exchange.successor,
+            shares: change.after,
+            cents: change.cents,
+        },
+        carried: oldest,
     }
 }
 
-/// Puts the entries of an account after others, in the order of their issues: in a split the difference that it makes,
-/// in an exchange the old shares that leave and the new ones that enter.
+/// Puts what is booked for an account after other bookings, in the order of issues: in a split the difference that it
+/// makes, in an exchange the old shares that leave, and the new ones that enter with the account's age in the old issue.
 pub(crate) fn push_change<A: Allocator + Drop>(
-    entries: &mut Vec<Entry, A>,
+    bookings: &mut Vec<Booking, A>,
     action: &Action,
     account: Account,
     change: &Change,
+    oldest: u32,
 ) -> Result<(), NoMemory>
     requires { IsFew member_limit change.now }
-    ensures { OnOk result (entries.new.items ≡ entries.old.items ++ entries_for action.now account change.now) }
+    ensures { OnOk result
+        (bookings.new.items ≡ bookings.old.items ++ bookings_for action.now account change.now oldest) }
 {
     match action {
-        Action::Split(split) => extend(
-            entries,
-            &[Entry {
-                account,
-                issue: split.issue,
-                shares: difference(change),
-                cents: change.cents,
-            }],
-        ),
+        Action::Split(split) => extend(bookings, &[differing(split, account, change)]),
         Action::Exchange(exchange) => {
             let leaving = leaving(exchange, account, change);
-            let entering = entering(exchange, account, change);
-            extend(entries, &ordered(&leaving, &entering))
+            let entering = entering(exchange, account, change, oldest);
+            extend(bookings, &ordered(&leaving, &entering))
+        }
+    }
+}
+
+/// Puts the age of an account without a position after other bookings, where an exchange brings it into the successor.
+pub(crate) fn push_age<A: Allocator + Drop>(
+    bookings: &mut Vec<Booking, A>,
+    action: &Action,
+    account: Account,
+    oldest: u32,
+) -> Result<(), NoMemory>
+    ensures { OnOk result (bookings.new.items ≡ bookings.old.items ++ age_for action.now account oldest) }
+{
+    match action {
+        Action::Split(_) => Ok(()),
+        Action::Exchange(exchange) => {
+            extend(
+                bookings,
+                &[entering(exchange, account, &Change::NONE, oldest)],
+            )
         }
     }
 }

@@ -3,9 +3,9 @@ ghost use Rattle.std.specs.Prelude.{◌≡◌, ◌≤◌, ◌^◌, [], length, m
 ghost use Rattle.cns_terms.specs.declared.holding.Key.{Key};
 ghost use Rattle.cns_terms.specs.Entries.{trade_entries};
 ghost use Rattle.cns_actions.specs.Merging.{IsSmall, key_of};
-ghost use Rattle.cns_actions.specs.DueAmounts.{AreAmounts, IsSmallAmount, HasRoomForTrade, IsOneTradeMore, amount_at, amount_for, due_entries, as_entry, with_entry, amount_of, with_amount};
+ghost use Rattle.cns_actions.specs.DueAmounts.{AreAmounts, IsSmallAmount, HasRoomForTrade, IsOneTradeMore, amount_at, amount_for, due_entries, as_booking, with_entry, amount_of, with_amount};
 
-use crate::merging::key_of;
+use crate::booking::{Booking, key_of};
 use cns_terms::{Entry, Key, NoMemory, Pend};
 use cns_units::Day;
 use std::alloc::Allocator;
@@ -38,16 +38,16 @@ impl Amount {
         }
     }
 
-    /// As one entry.
-    pub fn entry(self, key: &Key) -> Entry
-        ensures { result ≡ as_entry (key.now, self) }
+    /// As one entry, which brings no age.
+    pub fn booking(self, key: &Key) -> Booking
+        ensures { result ≡ as_booking (key.now, self) }
     {
-        Entry {
+        Booking::of(&Entry {
             account: key.account,
             issue: key.issue,
             shares: self.shares,
             cents: self.cents,
-        }
+        })
     }
 }
 
@@ -118,17 +118,17 @@ impl<A: Allocator + Drop + Clone> DueAmounts<A> {
     }
 
     /// What is booked, as one entry a key, from the lowest key on.
-    pub fn entries<B: Allocator + Drop>(&self, alloc: B) -> Result<Vec<Entry, B>, NoMemory>
-        ensures entries { IfOk result (λ v. v.items ≡ map as_entry self.now) }
+    pub fn bookings<B: Allocator + Drop>(&self, alloc: B) -> Result<Vec<Booking, B>, NoMemory>
+        ensures bookings { IfOk result (λ v. v.items ≡ map as_booking self.now) }
         ensures amounts { AreAmounts self.now }
     {
-        let mut entries = Vec::new(alloc);
+        let mut bookings = Vec::new(alloc);
         let mut rest = self.amounts.iter();
         while let Some((key, amount)) = rest.next() {
-            let Ok(()) = entries.push(amount.entry(key)) else {
+            let Ok(()) = bookings.push(amount.booking(key)) else {
                 return Err(NoMemory);
             };
         }
-        Ok(entries)
+        Ok(bookings)
     }
 }

@@ -1,21 +1,33 @@
-// The members with a position in an issue.
-ghost use Rattle.std.specs.Prelude.{◌≡◌, ◌≤◌, ◌∷◌, [], IfSome, MatchOption, false, true};
+// The members with a position or an age in an issue.
+ghost use Rattle.std.specs.Prelude.{◌≡◌, ◌≤◌, ◌∷◌, [], IfSome, MatchOption, false, true, not, pos};
 ghost use Rattle.std.specs.FinMap.{is_sorted};
-ghost use Rattle.std.specs.Ordering.{is_lt};
+ghost use Rattle.std.specs.Ordering.{int_eq, is_lt};
 ghost use Rattle.cns_terms.specs.Keys.{key_cmp};
 ghost use Rattle.cns_terms.specs.Limits.{member_limit};
+ghost use Rattle.cns_actions.specs.Changes.{has_position_or_age};
 ghost use Rattle.cns_actions.specs.Holding.{holder_at, holders_after, is_of_next};
 
 use cns_positions::Positions;
-use cns_terms::Key;
+use cns_terms::{Holding, Key};
 use cns_units::{Account, Cusip};
 
-/// A member with a position in an issue.
+/// A member with a position in an issue, or with the age of a short that it closed since.
 #[derive(Clone, Copy, Debug, PartialEq, Eq)]
 pub(crate) struct Holder {
     pub account: Account,
-    /// The position in shares, which is not 0.
+    /// The position in shares.
     pub shares: i64,
+    /// The age to which the next close would add itself, in closes.
+    pub oldest: u32,
+}
+
+impl Holder {
+    /// Whether it has a position, and not an age alone.
+    pub fn has_position(&self) -> bool
+        ensures { result ≡ not (int_eq self.now.shares (pos 0)) }
+    {
+        self.shares != 0
+    }
 }
 
 // The issue that comes last in the order of bytes: `Z` has the highest code of all characters that have a value. Only
@@ -49,7 +61,14 @@ fn is_of_next(passed: &Option<Key>, row: &Key) -> bool
     }
 }
 
-// An account as a member with a position in an issue, if it is one.
+// Whether a position or an age stands there.
+fn has_position_or_age(holding: &Holding) -> bool
+    ensures { result ≡ has_position_or_age holding.entry.now }
+{
+    holding.now != 0 || holding.oldest() != 0
+}
+
+// An account as a member with a position or an age in an issue, if it is one.
 fn holder_at<P: Positions<A>, A>(positions: &P, account: Account, issue: &Cusip) -> Option<Holder>
     ensures holder { result ≡ holder_at (P.rows positions.now) account issue.now }
     ensures range { IfSome result (λ h. h.account ≤ member_limit) }
@@ -58,16 +77,18 @@ fn holder_at<P: Positions<A>, A>(positions: &P, account: Account, issue: &Cusip)
         account,
         issue: *issue,
     });
-    if account.value() == 0 || holding.now == 0 {
+    if account.value() == 0 || !has_position_or_age(&holding) {
         return None;
     }
     Some(Holder {
         account,
         shares: holding.now,
+        oldest: holding.oldest(),
     })
 }
 
-/// The next member with a position in an issue, after the accounts that are passed: those up to that of the key.
+/// The next member with a position or an age in an issue, after the accounts that are passed: those up to that of the
+/// key.
 ///
 /// An account costs two ways down, to its first row and to its place in the issue; its other rows are passed over.
 pub(crate) fn next_holder<P: Positions<A>, A>(

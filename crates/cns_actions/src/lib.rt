@@ -3,8 +3,9 @@
 //! `split_of` and `exchange_of` say what one position becomes, with the cents that are paid for what the cut to whole
 //! shares leaves. `next_positions` books a split or an exchange for every member that holds the issue, and the opposite
 //! of the sums for the corporation, beside the positions that it was given: they never change. It finds the members
-//! account by account (`holder.rt`), makes the entries (`change.rt`), and merges them with the rows in the order of
-//! keys into new rows (`merging.rt`, which knows nothing of splits and exchanges).
+//! account by account (`holder.rt`), makes what is booked (`change.rt`), an entry and the age that an exchange brings
+//! (`booking.rt`), and merges that with the rows in the order of keys into new rows (`merging.rt`, which knows nothing
+//! of splits and exchanges).
 //!
 //! `opened` books the trades whose date has come with a close, in the same way: it adds up what they book by key
 //! (`due_amounts.rt`), and merges that with the rows, which the close rolls as they are read (`turn.rt`).
@@ -13,6 +14,7 @@
 #![tactic(auto)]
 
 mod action;
+mod booking;
 mod change;
 mod conversion;
 mod due_amounts;

@@ -1,30 +1,32 @@
 // The positions after a split or an exchange.
-ghost use Rattle.std.specs.Prelude.{◌≡◌, ◌↔◌, ◌≤◌, ◌+ℤ◌, ◌++◌, List, Err, true, false, IfOk, IfNone, IfSome, OnSome, unsigned_abs};
+ghost use Rattle.std.specs.Prelude.{◌≡◌, ◌↔◌, ◌≤◌, ◌+ℤ◌, ◌++◌, List, Err, true, false, IfOk, IfNone, IfSome, OnOk, OnSome, unsigned_abs};
 ghost use Rattle.std.specs.FinMap.{is_sorted};
-ghost use Rattle.std.specs.List.{AllByRecursion, list_any};
+ghost use Rattle.std.specs.List.{list_any};
 ghost use Rattle.cns_units.specs.declared.account.Account.{Account};
 ghost use Rattle.cns_units.specs.declared.account.Member.{Member};
 ghost use Rattle.cns_units.specs.declared.cusip.Cusip.{Cusip};
 ghost use Rattle.cns_terms.specs.declared.holding.Key.{Key};
 ghost use Rattle.cns_terms.specs.Actions.{AreHolders};
 ghost use Rattle.cns_terms.specs.Entries.{corporation};
+ghost use Rattle.cns_terms.specs.Holdings.{oldest_of};
 ghost use Rattle.cns_terms.specs.Limits.{member_limit, position_limit};
 ghost use Rattle.cns_terms.specs.Pending.{bought_in, sold_in};
 ghost use Rattle.cns_terms.specs.Refusals.{are_too_large};
 ghost use Rattle.cns_terms.specs.Keys.{key_cmp};
 ghost use Rattle.cns_positions.specs.Rows.{books, holding_at};
-ghost use Rattle.cns_actions.specs.Booked.{CanBeBooked, IsForAnother, entries_of, issue_of, position_at, positions_in, waits_for};
-ghost use Rattle.cns_actions.specs.Changes.{IsFew, all_entries, change_of, entries_for, holders_of, member_entries, new_issue, opposite, position_after, sum_of, takes_beyond};
-ghost use Rattle.cns_actions.specs.Merging.{IsSmall};
+ghost use Rattle.cns_actions.specs.Booked.{CanBeBooked, IsForAnother, age_brought, entries_of, issue_of, position_at, positions_in, waits_for, with_age};
+ghost use Rattle.cns_actions.specs.Changes.{IsFew, all_bookings, all_holders_of, change_of, holders_of, member_bookings, new_issue, position_after, sum_of, takes_beyond};
+ghost use Rattle.cns_actions.specs.Merging.{AreSmall, makes};
 
 use crate::action::Action;
-use crate::change::{Change, push_change};
+use crate::booking::Booking;
+use crate::change::{Change, push_age, push_change};
 use crate::fault::ActionFault;
 use crate::holder::{Holder, next_holder};
 use crate::merging::merged;
 use crate::turn::Turn;
 use cns_positions::Positions;
-use cns_terms::{Entry, Key, NoMemory};
+use cns_terms::{Key, NoMemory};
 use cns_trades::{Pending, is_beyond};
 use cns_units::{Account, Cusip};
 use std::alloc::Allocator;
@@ -140,6 +142,9 @@ fn sum_of<P: Positions<B>, B, C: Allocator + Drop>(
     let mut passed = None;
     in_order(positions);
     while let Some(holder) = next_holder(positions, &issue, &mut passed) {
+        if !holder.has_position() {
+            continue;
+        }
         let change = Change::of(action, &holder);
         if takes_beyond(positions, pending, action, &holder, &change) {
             return None;
@@ -149,33 +154,68 @@ fn sum_of<P: Positions<B>, B, C: Allocator + Drop>(
     Some(sum)
 }
 
-// The entries of a split or an exchange in the order of their keys: the corporation's, which are the opposite of what
-// the positions of all members become together, and the members'.
-fn entries<P: Positions<B>, B, A: Allocator + Drop>(
+// The age of the corporation's short in an issue.
+fn corporation_age<P: Positions<B>, B>(positions: &P, issue: Cusip) -> u32
+    ensures { result ≡ oldest_of (holding_at (P.rows positions.now) (record { account = corporation; issue = issue })) }
+{
+    let holding = positions.get(Key {
+        account: Account::CORPORATION,
+        issue,
+    });
+    holding.oldest()
+}
+
+// Puts what is booked for a member after other bookings.
+fn push_member<A: Allocator + Drop>(
+    bookings: &mut Vec<Booking, A>,
+    action: &Action,
+    holder: &Holder,
+) -> Result<(), NoMemory>
+    requires within { unsigned_abs holder.now.shares ≤ position_limit }
+    requires small { AreSmall bookings.old.items }
+    ensures bookings { OnOk result (bookings.new.items ≡ bookings.old.items ++ member_bookings action.now holder.now) }
+    ensures small { OnOk result (AreSmall bookings.new.items) }
+{
+    if !holder.has_position() {
+        return push_age(bookings, action, holder.account, holder.oldest);
+    }
+    let change = Change::of(action, holder);
+    push_change(bookings, action, holder.account, &change, holder.oldest)
+}
+
+// What is booked for a split or an exchange, in the order of keys: for the corporation the opposite of what the positions
+// of all members become together, and for the members; with each the age that an exchange brings.
+fn bookings<P: Positions<B>, B, A: Allocator + Drop>(
     alloc: A,
     positions: &P,
     action: &Action,
     sum: &Change,
-) -> Result<Vec<Entry, A>, NoMemory>
+) -> Result<Vec<Booking, A>, NoMemory>
     requires within { CanBeBooked (P.rows positions.now) }
     requires few { IsFew member_limit sum.now }
     requires order { is_sorted key_cmp (P.rows positions.now) ≡ true }
-    ensures entries { IfOk result (λ v. v.items ≡ entries_for action.now corporation (opposite sum.now)
-        ++ member_entries action.now (holders_of action.now (P.rows positions.now))) }
-    ensures small { IfOk result (λ v. AllByRecursion IsSmall v.items) }
+    ensures bookings { IfOk result (λ v. v.items ≡ all_bookings action.now sum.now
+        (oldest_of (holding_at (P.rows positions.now) (record { account = corporation; issue = issue_of action.now })))
+        (all_holders_of action.now (P.rows positions.now))) }
+    ensures small { IfOk result (λ v. AreSmall v.items) }
 {
     let issue = issue_of(action);
-    let mut entries = Vec::new(alloc);
-    push_change(&mut entries, action, Account::CORPORATION, &sum.opposite())?;
+    let mut bookings = Vec::new(alloc);
+    push_change(
+        &mut bookings,
+        action,
+        Account::CORPORATION,
+        &sum.opposite(),
+        corporation_age(positions, issue),
+    )?;
     let mut passed = None;
     while let Some(holder) = next_holder(positions, &issue, &mut passed) {
-        let change = Change::of(action, &holder);
-        push_change(&mut entries, action, holder.account, &change)?;
+        push_member(&mut bookings, action, &holder)?;
     }
-    Ok(entries)
+    Ok(bookings)
 }
 
-// The positions with these entries booked, beside the ones that stand.
+// The positions with these bookings made, beside the ones that stand.
 fn booked<P: Positions<B>, B, A: Allocator + Drop + Clone>(
     alloc: &A,
     positions: &P,
@@ -188,12 +228,14 @@ fn booked<P: Positions<B>, B, A: Allocator + Drop + Clone>(
     requires few { IsFew member_limit sum.now }
     requires order { is_sorted key_cmp (P.rows positions.now) ≡ true }
     ensures booked { IfOk result (λ p. (k : Key) → holding_at (P.rows p) k
-        ≡ books (all_entries action.now (holders_of action.now (P.rows positions.now))) k
+        ≡ makes (all_bookings action.now sum.now
+        (oldest_of (holding_at (P.rows positions.now) (record { account = corporation; issue = issue_of action.now })))
+        (all_holders_of action.now (P.rows positions.now))) k
         (holding_at (P.rows positions.now) k)) }
     ensures order { IfOk result (λ p. is_sorted key_cmp (P.rows p) ≡ true) }
 {
-    let entries = entries(alloc.clone()?, positions, action, sum)?;
-    let rows = merged(alloc.clone()?, positions, Turn::Kept, entries.as_slice())?;
+    let bookings = bookings(alloc.clone()?, positions, action, sum)?;
+    let rows = merged(alloc.clone()?, positions, Turn::Kept, bookings.as_slice())?;
     positions.rebuilt(rows.as_slice())
 }
 
@@ -203,7 +245,11 @@ fn booked<P: Positions<B>, B, A: Allocator + Drop + Clone>(
 /// In a split each member with a position in the issue is booked the difference to its new position, and the cents in
 /// lieu of what the cut to whole shares leaves. In an exchange it is booked the opposite of its position in the old
 /// issue; in the successor what it becomes, with the cents in lieu and the cash for each old share. The corporation,
-/// account 0, is booked the opposite of the sums in each issue. Openings and runs stay, and so does every other key.
+/// account 0, is booked the opposite of the sums in each issue. Openings and ages stay, and so does every other key.
+///
+/// An exchange brings the age of a short into the successor: there the greatest that the day brought is the greater of
+/// what it was and of the account's age in the old issue, or of what exchanges brought there on the same day. It is so
+/// for every account, the corporation's too, whatever its position is (this project's profile).
 ///
 /// An exchange is for another issue: where both were one, two entries would have one key, and the position before it
 /// could not be told from what enters. The book refuses such an exchange first.
@@ -222,10 +268,10 @@ fn booked<P: Positions<B>, B, A: Allocator + Drop + Clone>(
 /// For any list of members that names nobody twice and leaves nobody out who has a position in the issue, the entries
 /// are those of the definitions (`Entries.antt` in `cns_terms`).
 ///
-/// It looks twice at the place of each account in the issue, for the size and the sums and for the entries, in an
+/// It looks twice at the place of each account in the issue, for the size and the sums and for what is booked, in an
 /// exchange once at its place in the successor, and once at what each member is to get and to give there. All rows are
-/// gone through once, to merge the entries with them, and built anew once. Copies of `alloc` keep a list of the entries
-/// and one of the rows meanwhile.
+/// gone through once, to merge the bookings with them, and built anew once. Copies of `alloc` keep a list of the
+/// bookings and one of the rows meanwhile.
 pub fn next_positions<P: Positions<B>, B, A: Allocator + Drop + Clone, C: Allocator + Drop>(
     alloc: &A,
     positions: &P,
@@ -246,8 +292,9 @@ pub fn next_positions<P: Positions<B>, B, A: Allocator + Drop + Clone, C: Alloca
     ensures booked { IfOk result (λ p. (ms : List Member)
         → AreHolders (positions_in (P.rows positions.now) (issue_of action.now)) ms → (k : Key)
         → holding_at (P.rows p) k
-        ≡ books (entries_of action.now (positions_in (P.rows positions.now) (issue_of action.now)) ms) k
-        (holding_at (P.rows positions.now) k)) }
+        ≡ with_age (age_brought (P.rows positions.now) action.now k)
+        (books (entries_of action.now (positions_in (P.rows positions.now) (issue_of action.now)) ms) k
+        (holding_at (P.rows positions.now) k))) }
     ensures order { IfOk result (λ p. is_sorted key_cmp (P.rows p) ≡ true) }
 {
     let Some(sum) = sum_of(positions, pending, action) else {

@@ -1,7 +1,7 @@
 // The positions after a close at which trades are due.
 ghost use Rattle.std.specs.Prelude.{◌≡◌, ◌≤◌, ◌^◌, true, filter, length, IfOk};
 ghost use Rattle.std.specs.FinMap.{is_sorted};
-ghost use Rattle.std.specs.List.{AllByRecursion, flat_map};
+ghost use Rattle.std.specs.List.{flat_map};
 ghost use Rattle.cns_terms.specs.declared.holding.Holding.{Holding};
 ghost use Rattle.cns_terms.specs.declared.holding.Key.{Key};
 ghost use Rattle.cns_terms.specs.Entries.{trade_entries};
@@ -9,31 +9,32 @@ ghost use Rattle.cns_terms.specs.Keys.{key_cmp};
 ghost use Rattle.cns_terms.specs.Pending.{is_due};
 ghost use Rattle.cns_positions.specs.Rows.{books, holding_at, rolled};
 ghost use Rattle.cns_actions.specs.Booked.{CanBeBooked};
-ghost use Rattle.cns_actions.specs.Merging.{IsSmall, by_key};
+ghost use Rattle.cns_actions.specs.Merging.{AreSmall, by_key, makes};
 ghost use Rattle.cns_actions.specs.DueAmounts.{due_entries};
 
+use crate::booking::Booking;
 use crate::due_amounts::DueAmounts;
 use crate::merging::merged;
 use crate::turn::Turn;
 use cns_positions::Positions;
-use cns_terms::{Entry, NoMemory, Pend};
+use cns_terms::{NoMemory, Pend};
 use cns_units::Day;
 use std::alloc::Allocator;
 
 // What the trades that are due on a day book, as one entry a key, in the order of keys.
-fn entries_due<A: Allocator + Drop + Clone>(
+fn bookings_due<A: Allocator + Drop + Clone>(
     alloc: &A,
     pending: &[Pend],
     next: Day,
-) -> Result<Vec<Entry, A>, NoMemory>
+) -> Result<Vec<Booking, A>, NoMemory>
     requires { length pending.now ≤ 2 ^ 32 }
     ensures same { IfOk result (λ v. (k : Key) (h : Holding)
-        → books v.items k h ≡ books (due_entries next pending.now) k h) }
-    ensures small { IfOk result (λ v. AllByRecursion IsSmall v.items) }
+        → makes v.items k h ≡ books (due_entries next pending.now) k h) }
+    ensures small { IfOk result (λ v. AreSmall v.items) }
     ensures rise { IfOk result (λ v. is_sorted key_cmp (by_key v.items) ≡ true) }
 {
     let amounts = DueAmounts::of(alloc.clone()?, pending, next)?;
-    amounts.entries(alloc.clone()?)
+    amounts.bookings(alloc.clone()?)
 }
 
 /// The positions after a close that opens the day `next`, beside the ones before it, which never change: every row as
@@ -62,7 +63,7 @@ pub fn opened<P: Positions<B>, B, A: Allocator + Drop + Clone>(
         (rolled (holding_at (P.rows positions.now) k))) }
     ensures order { IfOk result (λ p. is_sorted key_cmp (P.rows p) ≡ true) }
 {
-    let entries = entries_due(alloc, pending, next)?;
-    let rows = merged(alloc.clone()?, positions, Turn::Rolled, entries.as_slice())?;
+    let bookings = bookings_due(alloc, pending, next)?;
+    let rows = merged(alloc.clone()?, positions, Turn::Rolled, bookings.as_slice())?;
     positions.rebuilt(rows.as_slice())
 }

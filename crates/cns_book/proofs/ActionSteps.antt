@@ -1,8 +1,9 @@
 -- Splits and exchanges.
 -- For `split` and `exchange` of parts/actions.rt, clause step.
-use Rattle.std.proofs.Common.{◌≡◌, ◌∙◌, sym, ap, subst, refl, ℕ, ◌*◌, ◌≤◌, ℤ, ◌+ℤ◌, Bool, true, false, ◌&&◌, ◌||◌, ◌==◌, cond, List, ◌∷◌, map, reverse, Option, Some, None, arith}
+use Rattle.std.proofs.Common.{◌≡◌, ◌∙◌, sym, ap, subst, refl, ℕ, max, ◌*◌, ◌≤◌, ℤ, ◌+ℤ◌, Bool, true, false, ◌&&◌, ◌||◌, ◌==◌, cond, List, ◌∷◌, map, reverse, Option, Some, None, arith}
 use Rattle.std.specs.Prelude.{bytes_eq, nat_lt, is_none, is_some, IfOk, IsSome, Result, Ok, Err}
 use Rattle.std.specs.List.{AllByRecursion, list_any}
+use Rattle.std.proofs.Math.Nat.{max-zero}
 use Rattle.std.proofs.lemmas.Bool.Decides.{nat_tests}
 use Rattle.cns_units.specs.declared.account.Account.{Account}
 use Rattle.cns_units.specs.declared.cusip.Cusip.{Cusip}
@@ -12,17 +13,21 @@ use Rattle.cns_terms.specs.declared.command.Activity.{Activity}
 use Rattle.cns_terms.specs.declared.command.Activity.TheVariants as activity
 use Rattle.cns_terms.specs.declared.command.Command.TheVariants as command
 use Rattle.cns_terms.specs.declared.holding.Entry.{Entry}
+use Rattle.cns_terms.specs.declared.holding.Holding.{Holding}
 use Rattle.cns_terms.specs.declared.holding.Key.{Key}
 use Rattle.cns_terms.specs.declared.pend.Pend.{Pend}
 use Rattle.cns_terms.specs.Actions.{AreHolders}
+use Rattle.cns_terms.specs.Ages.{oldest}
 use Rattle.cns_terms.specs.Entries.{corporation, entries, exchange_entries, journal, posting, split_entries}
+use Rattle.cns_terms.specs.Holdings.{holding, oldest_of}
 use Rattle.cns_terms.specs.Limits.{amount_limit, booking_limit, history_limit, member_limit, position_limit}
 use Rattle.cns_terms.specs.Listings.{account_lt, members}
 use Rattle.cns_terms.specs.Pending.{bought_in, pending, sold_in, waits_in}
 use Rattle.cns_terms.specs.Positions.{position, shares_for}
-use Rattle.cns_terms.specs.Reached.{IsInRange}
+use Rattle.cns_terms.specs.Reached.{IsInRange, IsReached}
 use Rattle.cns_terms.specs.Refusals.{Rule, are_too_large, first_refusal, is_beyond, is_too_large, is_too_large_at, refusal}
-use Rattle.cns_terms.specs.Sums.{total}
+use Rattle.cns_terms.specs.Sums.{same_issue, total}
+use Rattle.cns_terms.proofs.CarriedAges.{carried_on}
 use Rattle.cns_terms.proofs.Elsewhere.{no_account_elsewhere, no_position}
 use Rattle.cns_terms.proofs.Everywhere.{each_both, each_in_order}
 use Rattle.cns_terms.proofs.Facts.{and_right}
@@ -32,15 +37,15 @@ use Rattle.cns_notices.specs.Noticed.{ended}
 use Rattle.cns_notices.proofs.Noticing.{changed_each, ended_by}
 use Rattle.cns_positions.specs.Rows.{Rows, books, holding_at}
 use Rattle.cns_prices.specs.Listed.{Listed, price_in, retired_in}
-use Rattle.cns_actions.specs.Booked.{CanBeBooked, entries_of, issue_of, position_at, positions_in, waits_for}
+use Rattle.cns_actions.specs.Booked.{CanBeBooked, age_brought, entries_of, issue_of, position_at, positions_in, waits_for, with_age}
 use Rattle.cns_actions.specs.declared.action.Action.{Action}
 use Rattle.cns_actions.specs.declared.action.Action.TheVariants as action
 use Rattle.cns_actions.proofs.Members.{rising_distinct}
 use Rattle.cns_book.specs.Contents.{Contents}
 use Rattle.cns_book.specs.Effects.{activity_of, is_held_up}
-use Rattle.cns_book.specs.Follows.{Follows, FollowsNotices, HasRoom}
+use Rattle.cns_book.specs.Follows.{Follows, FollowsNotices, FollowsRows, HasRoom}
 use Rattle.cns_book.proofs.PendingSteps.{bought-reverse, sold-reverse, waits-reverse}
-use Rattle.cns_book.proofs.PartsStaying.{batches_stay, clock_stays, dividends_stay, rows_booked, sheets_stay}
+use Rattle.cns_book.proofs.PartsStaying.{batches_stay, clock_stays, dividends_stay, sheets_stay}
 use Rattle.cns_book.proofs.PartsWithin.{member_within, rows_within}
 
 -- ---- what can be booked
@@ -112,16 +117,16 @@ module _ (s : Contents) (L : List Activity) (f : Follows L s) where
   entries_are (action.Exchange x) = λ i. exchange_entries x (λ a. same_positions i a x.old) (members (journal s.opening L))
 
   -- and whether they are too large
-  pub size_is : (x : Action) → are_too_large (position_at s.rows) s.trades.pending (entries_of x (positions_in s.rows (issue_of x)) (members (journal s.opening L))) ≡ is_too_large s.opening (journal s.opening L) (activity_of x)
-  size_is x =
-      (λ i. are_too_large (same_positions i) (f.pending i) (entries_are x i))
+  pub size_is : (x : Action) (ps : List Pend) → ps ≡ s.trades.pending → are_too_large (position_at s.rows) ps (entries_of x (positions_in s.rows (issue_of x)) (members (journal s.opening L))) ≡ is_too_large s.opening (journal s.opening L) (activity_of x)
+  size_is x ps are =
+      (λ i. are_too_large (same_positions i) ((are ∙ f.pending) i) (entries_are x i))
       ∙ (λ i. list_any (λ e. same_large (position (journal s.opening L)) (pending s.opening (journal s.opening L)) (entries s.opening (journal s.opening L) (activity_of x)) e i) (entries s.opening (journal s.opening L) (activity_of x)))
       ∙ whole x
 
   -- and whether trades that wait hold an exchange up
-  pub held_up_is : (x : Action) → waits_for x s.trades.pending ≡ is_held_up s.opening (journal s.opening L) x
-  held_up_is (action.Split p) = refl
-  held_up_is (action.Exchange x) = ap (λ qs. waits_in qs x.old) f.pending ∙ waits-reverse (pending s.opening (journal s.opening L)) x.old
+  pub held_up_is : (x : Action) (ps : List Pend) → ps ≡ s.trades.pending → waits_for x ps ≡ is_held_up s.opening (journal s.opening L) x
+  held_up_is (action.Split p) ps are = refl
+  held_up_is (action.Exchange x) ps are = ap (λ qs. waits_in qs x.old) (are ∙ f.pending) ∙ waits-reverse (pending s.opening (journal s.opening L)) x.old
 
 -- ---- what is refused
 
@@ -148,14 +153,36 @@ pub price_there : (b : Bool) (p : ℕ) (o : Option ℕ) → o ≡ cond b (Some p
 price_there true p o e h = ap is_some e
 price_there false p o e h = cc
 
--- ---- what stands after an exchange
+-- ---- what stands after a split or an exchange
+
+-- no age is brought by a split
+pub with_no_age : (h : Holding) → with_age 0 h ≡ h
+with_no_age h = λ i. record h { carried = max-zero h.carried i }
+
+-- an age that is brought to one issue alone
+brought_there : (t : Bool) (m n : ℕ) → max m (cond t n 0) ≡ cond t (max m n) m
+brought_there true m n = refl
+brought_there false m n = max-zero m
+
+-- what an exchange books, with the age that it brings
+exchanged_rows : (s : Contents) (L : List Activity) (x : Exchange) (rows : Rows) → IsReached s.opening (activity.Exchange x ∷ L) → FollowsRows (journal s.opening L) s
+    → ((k : Key) → holding_at rows k ≡ with_age (age_brought s.rows (action.Exchange x) k) (books (entries s.opening (journal s.opening L) (activity.Exchange x)) k (holding_at s.rows k)))
+    → FollowsRows (journal s.opening (activity.Exchange x ∷ L)) (record s { rows = rows })
+exchanged_rows s L x rows reached f b k =
+    let J = journal s.opening L in
+    let es = entries s.opening J (activity.Exchange x) in
+    let h = holding J k.account k.issue in
+    let there = same_issue x.successor k.issue in
+    b k
+    ∙ (λ i. with_age (cond there (oldest_of (f (record { account = k.account; issue = x.old }) i)) 0) (books es k (f k i)))
+    ∙ (λ i. record (books es k h) { carried = (brought_there there h.carried (oldest J k.account x.old) ∙ sym (carried_on s.opening L x reached k.account k.issue)) i })
 
 -- an exchange that is not refused
-pub exchanged : (L : List Activity) (s : Contents) (x : Exchange) (prices : Listed) (rows : Rows) → Follows L s → IsInRange (activity.Exchange x) → refusal s.opening (journal s.opening L) (command.Activity (activity.Exchange x)) ≡ None
+pub exchange_follows : (L : List Activity) (s : Contents) (x : Exchange) (prices : Listed) (rows : Rows) → Follows L s → IsInRange (activity.Exchange x) → refusal s.opening (journal s.opening L) (command.Activity (activity.Exchange x)) ≡ None
     → ((c : Cusip) → price_in prices c ≡ price_in s.prices c) → ((c : Cusip) → retired_in prices c ≡ (bytes_eq x.old c || retired_in s.prices c))
-    → ((k : Key) → holding_at rows k ≡ books (entries s.opening (journal s.opening L) (activity.Exchange x)) k (holding_at s.rows k))
+    → ((k : Key) → holding_at rows k ≡ with_age (age_brought s.rows (action.Exchange x) k) (books (entries s.opening (journal s.opening L) (activity.Exchange x)) k (holding_at s.rows k)))
     → Follows (activity.Exchange x ∷ L) (record s { prices = prices; rows = rows; notices = map (ended x.old) s.notices })
-exchanged L s x prices rows f range none p r b =
+exchange_follows L s x prices rows f range none p r b =
     let J = journal s.opening L in
     let c = clock_stays s J (activity.Exchange x) refl f.clock in
     record {
@@ -169,7 +196,7 @@ exchanged L s x prices rows f range none p r b =
       references = f.references;
       pending = f.pending;
       dividends = dividends_stay s J (activity.Exchange x) refl f.dividends;
-      rows = rows_booked s J (activity.Exchange x) rows refl b f.rows;
+      rows = exchanged_rows s L x rows (range, none, f.reached) f.rows b;
       sheets = sheets_stay s J (activity.Exchange x) refl f.sheets;
       notices = ap (map (ended x.old)) f.notices ∙ sym (changed_each J (posting s.opening J (activity.Exchange x)) (ended x.old) (λ k y. ended_by x.old y));
       batches = batches_stay s J (activity.Exchange x) refl refl f.batches;

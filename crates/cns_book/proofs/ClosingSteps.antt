@@ -1,9 +1,9 @@
 -- The close of a day.
 -- For `close_day` of parts/closing.rt, clause step.
-use Rattle.std.proofs.Common.{◌≡◌, ◌∙◌, sym, ap, subst, refl, ℕ, suc, ◌+◌, ◌-◌, ◌^◌, ◌≤◌, ◌<◌, min, ℤ, pos, Bool, true, false, cond, not, List, [], ◌∷◌, ◌++◌, filter, flat_map, length, map, reverse, Option, Some, None, MatchOption, arith}
+use Rattle.std.proofs.Common.{◌≡◌, ◌∙◌, sym, ap, subst, refl, ℕ, ◌+◌, ◌-◌, ◌^◌, ◌<◌, min, ℤ, pos, Bool, true, false, cond, not, List, [], ◌∷◌, ◌++◌, filter, flat_map, map, reverse, Option, Some, None, MatchOption, arith}
 use Rattle.std.specs.Option.{IfSome}
 use Rattle.std.specs.Prelude.{int_le, int_lt, is_none}
-use Rattle.std.specs.List.{AllByRecursion, prefix_len}
+use Rattle.std.specs.List.{AllByRecursion}
 use Rattle.std.specs.Ordering.{int_cmp, is_le}
 use Rattle.std.proofs.lemmas.Int.{ints}
 use Rattle.cns_units.specs.Day.{day_number}
@@ -13,6 +13,7 @@ use Rattle.cns_terms.specs.declared.command.Activity.TheVariants as activity
 use Rattle.cns_terms.specs.declared.command.Command.TheVariants as command
 use Rattle.cns_terms.specs.declared.holding.Key.{Key}
 use Rattle.cns_terms.specs.declared.pend.Pend.{Pend}
+use Rattle.cns_terms.specs.Ages.{oldest}
 use Rattle.cns_terms.specs.Days.{closes, closings, date, day, is_not_after}
 use Rattle.cns_terms.specs.Batches.{Liables}
 use Rattle.cns_terms.specs.Entries.{entries, journal, posting, trade_entries}
@@ -24,6 +25,7 @@ use Rattle.cns_terms.specs.Positions.{position}
 use Rattle.cns_terms.specs.Postings.{Journal}
 use Rattle.cns_terms.specs.Refusals.{refusal, rules}
 use Rattle.cns_terms.specs.Sheets.{DaySheet, day_sheet}
+use Rattle.cns_terms.proofs.CarriedAges.{oldest_le}
 use Rattle.cns_terms.proofs.Facts.{journal_len}
 use Rattle.cns_terms.proofs.Reached.{limited}
 use Rattle.cns_terms.proofs.Sound.{IsWhole, all_fail}
@@ -35,6 +37,7 @@ use Rattle.cns_book.specs.Contents.{Contents}
 use Rattle.cns_book.specs.Dated.{IsAfter}
 use Rattle.cns_book.specs.Follows.{Follows, HasRoom}
 use Rattle.cns_book.proofs.EffectPlaces.{books_none}
+use Rattle.cns_book.proofs.MachineSteps.{no_refusal}
 use Rattle.cns_book.proofs.PendingSteps.{filter-reverse, still_later}
 use Rattle.cns_book.proofs.RetransmittalBatches.{batches_more}
 use Rattle.cns_book.proofs.JournalLengths.{closes_le}
@@ -44,11 +47,6 @@ use Rattle.cns_book.proofs.PartsStaying.{listings_stay}
 pub whole_reached : {s : Contents} (L : List Activity) → Follows L s → IsWhole s.opening (journal s.opening L)
 whole_reached {s} L f = (limited s.opening L f.reached).whole
 
--- a run is no longer than the list
-pub prefix_le : {X : Type 0} (p : X → Bool) (xs : List X) → prefix_len p xs ≤ length xs
-prefix_le p [] = omega arith
-prefix_le p (x ∷ xs) = elim (p x) as (λ b. cond b (1 + prefix_len p xs) 0 ≤ suc (length xs)) [ true ↦ omega (arith, prefix_le p xs) | false ↦ omega arith ]
-
 aged : (b : Bool) (n : ℕ) → n + 1 < 2 ^ 32 → cond b (min (n + 1) (2 ^ 32 - 1)) 0 ≡ cond b (1 + n) 0
 aged true n h = omega arith
 aged false n h = refl
@@ -56,9 +54,8 @@ aged false n h = refl
 -- what a close makes of what stands at a key: it is rolled, and then what is due is booked
 pub holding_close : (opening : Day) (J : Journal) (d : Day) (k : Key) → closes J + 1 < history_limit → books (entries opening J (activity.Close d)) k (rolled (holding J k.account k.issue)) ≡ holding (posting opening J (activity.Close d) ∷ J) k.account k.issue
 holding_close opening J d k h =
-    let short : Journal → Bool = λ K. int_lt (position K k.account k.issue) (pos 0) in
-    let few : prefix_len short (closings J) + 1 < 2 ^ 32 = omega (arith, prefix_le short (closings J), h) in
-    rw (aged (short J) (prefix_len short (closings J)) few) refl
+    let few : oldest J k.account k.issue + 1 < 2 ^ 32 = omega (arith, oldest_le J k.account k.issue, h) in
+    rw (aged (int_lt (position J k.account k.issue) (pos 0)) (oldest J k.account k.issue) few) refl
 
 -- the day that is open is after the one that was closed last
 pub after_last : (L : List Activity) (s : Contents) → Follows L s → IsAfter s.today s.sheets
@@ -121,3 +118,8 @@ opened_rows R (Some p) ps old new made roll taken k = ap (λ rs. holding_at rs k
 -- a comparison in the words of the definitions
 pub le_test : (a b : ℤ) → is_le (int_cmp a b) ≡ int_le a b
 le_test a b = grind (arith, ints)
+
+-- a close that names a later day is not refused
+pub not_late : (L : List Activity) (s : Contents) (next : Day) → Follows L s → is_le (int_cmp (day_number next) (day_number s.today)) ≡ false → refusal s.opening (journal s.opening L) (command.Activity (activity.Close next)) ≡ None
+not_late L s next f late =
+    no_refusal (rules s.opening (journal s.opening L) (activity.Close next)) (ap (λ t. int_le (day_number next) (day_number t)) (sym f.clock.today) ∙ sym (le_test (day_number next) (day_number s.today)) ∙ late, tt)

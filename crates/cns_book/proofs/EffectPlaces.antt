@@ -1,18 +1,30 @@
 -- What one posting more makes of what stands at a key.
 -- For `book` of effect.rt, and every command, clause step.
-use Rattle.std.proofs.Common.{◌≡◌, false, [], ◌∷◌, refl}
+use Rattle.std.proofs.Common.{◌≡◌, false, cond, [], ◌∷◌, None, unwrap_or}
+use Rattle.std.specs.Prelude.{slice_get}
 use Rattle.cns_terms.specs.declared.holding.Holding.{Holding}
 use Rattle.cns_terms.specs.declared.holding.Key.{Key}
-use Rattle.cns_terms.specs.Days.{is_close}
+use Rattle.cns_terms.specs.Ages.{closes_short}
+use Rattle.cns_terms.specs.Days.{closings, is_close, open_day}
 use Rattle.cns_terms.specs.Holdings.{holding}
+use Rattle.cns_terms.specs.Listings.{exchanged}
+use Rattle.cns_terms.specs.Positions.{cents_for, position}
 use Rattle.cns_terms.specs.Postings.{Journal, Posting}
+use Rattle.cns_terms.specs.Sums.{total}
+use Rattle.cns_terms.proofs.CarriedAges.{carried_same}
 use Rattle.cns_terms.proofs.Facts.{zero_add}
 use Rattle.cns_positions.specs.Rows.{books}
 
--- a posting that closes no day books its entries
-pub holding-post : (p : Posting) (J : Journal) (k : Key) → is_close p.activity ≡ false → holding (p ∷ J) k.account k.issue ≡ books p.entries k (holding J k.account k.issue)
-holding-post p J k h = rw h refl
+-- a posting that closes no day and exchanges no issue books its entries
+pub holding-post : (p : Posting) (J : Journal) (k : Key) → is_close p.activity ≡ false → exchanged p.activity ≡ None → holding (p ∷ J) k.account k.issue ≡ books p.entries k (holding J k.account k.issue)
+holding-post p J k still none = λ i. record {
+  now = position (p ∷ J) k.account k.issue;
+  opening = position (unwrap_or (slice_get (cond (still i) (J ∷ closings J) (closings J)) 0) []) k.account k.issue;
+  contract = total (λ (q : Posting). total (cents_for k.account k.issue) q.entries) (p ∷ cond (still i) [] (open_day J));
+  run = closes_short (cond (still i) (J ∷ closings J) (closings J)) k.account k.issue;
+  carried = carried_same p J k.account k.issue still none i;
+}
 
 -- without entries it leaves what stands
 pub books_none : (k : Key) (h : Holding) → books [] k h ≡ h
-books_none k h = rw (zero_add h.now, zero_add h.contract) refl
+books_none k h = λ i. record h { now = zero_add h.now i; contract = zero_add h.contract i }

@@ -213,7 +213,7 @@ execute_follows L s x k rows f range none from_one is booked =
       references = f.references;
       pending = f.pending;
       dividends = dividends_stay s J (activity.Execute x) refl f.dividends;
-      rows = rows_booked s J (activity.Execute x) rows refl (λ key. booked key ∙ ap (λ es. books es key (holding_at s.rows key)) (sym (booked_for s.opening J x k is))) f.rows;
+      rows = rows_booked s J (activity.Execute x) rows refl refl (λ key. booked key ∙ ap (λ es. books es key (holding_at s.rows key)) (sym (booked_for s.opening J x k is))) f.rows;
       sheets = sheets_stay s J (activity.Execute x) refl f.sheets;
       notices = ap (with_notice (executes x.shares) x.notice) f.notices ∙ sym (changed_one J p (executes x.shares) x.notice from_one (λ j y. executed_by (x.notice == j) x.shares y));
       batches = ap (λ V. charged_on V k.given.day k.given.issue (fills J x k)) f.batches ∙ sym (batches_charged s.opening J x k is);

@@ -41,7 +41,7 @@ module _ (L : List Activity) (s : Contents) where
         references = references;
         pending = pending;
         dividends = dividends_stay s J x undeclared f.dividends;
-        rows = rows_stay s J x still books f.rows;
+        rows = rows_stay s J x still unnoticed books f.rows;
         sheets = sheets_stay s J x still f.sheets;
         notices = notices_stay s J x unnoticed f.notices;
         batches = batches_stay s J x still unexecuted f.batches;
@@ -70,7 +70,7 @@ dividend_declared L s d new f range none is =
       references = f.references;
       pending = f.pending;
       dividends = is ∙ ap (put pays_before d) f.dividends;
-      rows = rows_stay s J x refl refl f.rows;
+      rows = rows_stay s J x refl refl refl f.rows;
       sheets = sheets_stay s J x refl f.sheets;
       notices = notices_stay s J x refl f.notices;
       batches = batches_stay s J x refl refl f.batches;

@@ -1,6 +1,6 @@
 -- What an activity leaves: of each group of parts, which activities change it.
 -- For every command, clause step.
-use Rattle.std.proofs.Common.{◌≡◌, ◌∙◌, sym, ap, refl, Bool, true, false, cond, [], ◌∷◌, is_some, map, reverse}
+use Rattle.std.proofs.Common.{◌≡◌, ◌∙◌, sym, ap, refl, Bool, true, false, ◌&&◌, cond, [], ◌∷◌, None, is_some, map, reverse}
 use Rattle.cns_terms.specs.declared.command.Activity.{Activity}
 use Rattle.cns_terms.specs.declared.command.Activity.TheVariants as activity
 use Rattle.cns_terms.specs.declared.holding.Key.{Key}
@@ -9,9 +9,10 @@ use Rattle.cns_terms.specs.Dividends.{declared}
 use Rattle.cns_terms.specs.Entries.{entries, posting}
 use Rattle.cns_terms.specs.Fills.{batches_since}
 use Rattle.cns_terms.specs.Holdings.{holding}
-use Rattle.cns_terms.specs.Listings.{traded}
+use Rattle.cns_terms.specs.Listings.{exchanged, traded}
 use Rattle.cns_terms.specs.Notices.{executed}
 use Rattle.cns_terms.specs.Postings.{Journal, Posting}
+use Rattle.cns_terms.proofs.Facts.{and_false}
 use Rattle.cns_notices.proofs.Noticing.{untouched_by}
 use Rattle.cns_positions.specs.Rows.{Rows, books, holding_at}
 use Rattle.cns_book.specs.Contents.{Contents}
@@ -50,6 +51,11 @@ is_trade x = is_some (traded x)
 abbrev pub is_dividend : Activity → Bool
 is_dividend x = is_some (declared x)
 
+-- an exchange alone changes listings and touches notices
+no_exchange : (x : Activity) → (is_listing x && is_noticing x) ≡ false → exchanged x ≡ None
+no_exchange (activity.Exchange x) h = cc
+no_exchange _ h = refl
+
 module _ (s : Contents) (J : Journal) where
   abbrev after : Activity → Journal
   after x = posting s.opening J x ∷ J
@@ -78,14 +84,14 @@ module _ (s : Contents) (J : Journal) where
   sheets_stay (activity.Close d) h f = cc
   sheets_stay _ h f = f
 
-  -- what an activity books, and no more, is the effect on the rows
-  pub rows_booked : (x : Activity) (rows : Rows) → is_close x ≡ false → ((k : Key) → holding_at rows k ≡ books (entries s.opening J x) k (holding_at s.rows k)) → FollowsRows J s → FollowsRows (after x) (record s { rows = rows })
-  rows_booked x rows still b f k = b k ∙ ap (books (entries s.opening J x) k) (f k) ∙ sym (holding-post (posting s.opening J x) J k still)
+  -- what an activity books that is no exchange, and no more, is the effect on the rows
+  pub rows_booked : (x : Activity) (rows : Rows) → is_close x ≡ false → is_listing x ≡ false → ((k : Key) → holding_at rows k ≡ books (entries s.opening J x) k (holding_at s.rows k)) → FollowsRows J s → FollowsRows (after x) (record s { rows = rows })
+  rows_booked x rows still unlisted b f k = b k ∙ ap (books (entries s.opening J x) k) (f k) ∙ sym (holding-post (posting s.opening J x) J k still (no_exchange x (ap (λ b. b && is_noticing x) unlisted)))
 
-  -- an activity that books nothing leaves them
-  pub rows_stay : (x : Activity) → is_close x ≡ false → entries s.opening J x ≡ [] → FollowsRows J s → FollowsRows (after x) s
-  rows_stay x still none f k =
-      f k ∙ sym (holding-post (posting s.opening J x) J k still ∙ ap (λ es. books es k (holding J k.account k.issue)) none ∙ books_none k (holding J k.account k.issue))
+  -- an activity that books nothing and touches no notice leaves them
+  pub rows_stay : (x : Activity) → is_close x ≡ false → is_noticing x ≡ false → entries s.opening J x ≡ [] → FollowsRows J s → FollowsRows (after x) s
+  rows_stay x still unnoticed nothing f k =
+      f k ∙ sym (holding-post (posting s.opening J x) J k still (no_exchange x (ap (λ b. is_listing x && b) unnoticed ∙ and_false (is_listing x))) ∙ ap (λ es. books es k (holding J k.account k.issue)) nothing ∙ books_none k (holding J k.account k.issue))
 
   -- an activity that touches no notice leaves them
   pub notices_stay : (x : Activity) → is_noticing x ≡ false → FollowsNotices J s → FollowsNotices (after x) s

@@ -15,9 +15,8 @@ use Rattle.cns_units.specs.declared.cusip.Cusip.{Cusip}
 use Rattle.cns_units.specs.declared.day.Day.{Day}
 use Rattle.cns_terms.specs.declared.buy_in.Short.{Short}
 use Rattle.cns_terms.specs.declared.sheet.Row.{Row}
-use Rattle.cns_terms.specs.Ages.{age, closes_short}
+use Rattle.cns_terms.specs.Ages.{oldest}
 use Rattle.cns_terms.specs.Batches.{short_of, shorts}
-use Rattle.cns_terms.specs.Days.{closings}
 use Rattle.cns_terms.specs.Listings.{accounts, is_listed, issues, members}
 use Rattle.cns_terms.specs.Positions.{position}
 use Rattle.cns_terms.specs.Postings.{Journal}
@@ -51,23 +50,23 @@ one_by_one p f (x ∷ xs) = here (p (f x)) (one_by_one p f xs)
 module _ (opening : Day) (J : Journal) (c : Cusip) where
   -- what is read off an account's rows in some issues
   abbrev read_off : Account → List Cusip → List Short
-  read_off a cs = filter_map (short_in (age J) c) (filter (λ r. not (is_idle r)) (map (row opening J a) cs))
+  read_off a cs = filter_map (short_in (oldest J) c) (filter (λ r. not (is_idle r)) (map (row opening J a) cs))
 
   -- a row that says nothing is no short
-  idle_none : (r : Row) → not (is_idle r) ≡ false → short_in (age J) c r ≡ None
-  idle_none r h = ap (λ z. cond (nat_lt 0 r.account && (int_lt z (pos 0) && same_issue r.issue c)) (Some (short_at (age J) r)) None) (idle_parts r h).1 ∙ ap (λ b. cond b (Some (short_at (age J) r)) None) (and_false (nat_lt 0 r.account))
+  idle_none : (r : Row) → not (is_idle r) ≡ false → short_in (oldest J) c r ≡ None
+  idle_none r h = ap (λ z. cond (nat_lt 0 r.account && (int_lt z (pos 0) && same_issue r.issue c)) (Some (short_at (oldest J) r)) None) (idle_parts r h).1 ∙ ap (λ b. cond b (Some (short_at (oldest J) r)) None) (and_false (nat_lt 0 r.account))
 
   -- one issue more
-  read_step : (a : Account) (d : Cusip) (cs : List Cusip) → read_off a (d ∷ cs) ≡ cons_option (short_in (age J) c (row opening J a d)) (read_off a cs)
+  read_step : (a : Account) (d : Cusip) (cs : List Cusip) → read_off a (d ∷ cs) ≡ cons_option (short_in (oldest J) c (row opening J a d)) (read_off a cs)
   read_step a d cs = by (not (is_idle (row opening J a d))) refl
     where
-      by : (b : Bool) → not (is_idle (row opening J a d)) ≡ b → filter_map (short_in (age J) c) (cond b (row opening J a d ∷ filter (λ r. not (is_idle r)) (map (row opening J a) cs)) (filter (λ r. not (is_idle r)) (map (row opening J a) cs))) ≡ cons_option (short_in (age J) c (row opening J a d)) (read_off a cs)
+      by : (b : Bool) → not (is_idle (row opening J a d)) ≡ b → filter_map (short_in (oldest J) c) (cond b (row opening J a d ∷ filter (λ r. not (is_idle r)) (map (row opening J a) cs)) (filter (λ r. not (is_idle r)) (map (row opening J a) cs))) ≡ cons_option (short_in (oldest J) c (row opening J a d)) (read_off a cs)
       by true e = refl
       by false e = ap (λ o. cons_option o (read_off a cs)) (sym (idle_none (row opening J a d) e))
 
   -- a row that is not a member's, or in another issue, is none that is looked for
-  not_short : (a : Account) (d : Cusip) → (nat_lt 0 a && same_issue d c) ≡ false → short_in (age J) c (row opening J a d) ≡ None
-  not_short a d h = ap (λ b. cond b (Some (short_at (age J) (row opening J a d))) None) (fails (nat_lt 0 a) (int_lt (position J a d) (pos 0)) (same_issue d c) h)
+  not_short : (a : Account) (d : Cusip) → (nat_lt 0 a && same_issue d c) ≡ false → short_in (oldest J) c (row opening J a d) ≡ None
+  not_short a d h = ap (λ b. cond b (Some (short_at (oldest J) (row opening J a d))) None) (fails (nat_lt 0 a) (int_lt (position J a d) (pos 0)) (same_issue d c) h)
     where
       fails : (m l s : Bool) → (m && s) ≡ false → (m && (l && s)) ≡ false
       fails true true s h = h
@@ -87,8 +86,8 @@ module _ (opening : Day) (J : Journal) (c : Cusip) where
       read_step a d cs ∙ rw (not_short a d (ap (λ b. nat_lt 0 a && b) apart.0 ∙ and_false (nat_lt 0 a))) (none_elsewhere a cs apart.1)
 
   -- the row in the issue itself
-  here : (a : Account) → 1 ≤ a → cons_option (short_in (age J) c (row opening J a c)) [] ≡ filter (λ s. nat_lt 0 s.shares) (short_of J c a ∷ [])
-  here a m = read (nat_lt 0 a) (same_issue c c) (position J a c) (closes_short (closings J) a c) (above_zero a m) (bytes_refl c)
+  here : (a : Account) → 1 ≤ a → cons_option (short_in (oldest J) c (row opening J a c)) [] ≡ filter (λ s. nat_lt 0 s.shares) (short_of J c a ∷ [])
+  here a m = read (nat_lt 0 a) (same_issue c c) (position J a c) (oldest J a c) (above_zero a m) (bytes_refl c)
     where
       above_zero : (a : ℕ) → 1 ≤ a → nat_lt 0 a ≡ true
       above_zero a h = grind (arith, nat_tests)
@@ -130,8 +129,8 @@ module _ (opening : Day) (J : Journal) (c : Cusip) where
       by true p q more =
           let same : d ≡ c = (bytes_eq-Decides d c).0 p in
           read_step a d cs
-          ∙ ap (cons_option (short_in (age J) c (row opening J a d))) (none_elsewhere a cs (others d cs p (and_left _ _ up)))
-          ∙ ap (λ e. cons_option (short_in (age J) c (row opening J a e)) []) same
+          ∙ ap (cons_option (short_in (oldest J) c (row opening J a d))) (none_elsewhere a cs (others d cs p (and_left _ _ up)))
+          ∙ ap (λ e. cons_option (short_in (oldest J) c (row opening J a e)) []) same
           ∙ here a m
       by false p q more =
           read_step a d cs
@@ -143,9 +142,9 @@ module _ (opening : Day) (J : Journal) (c : Cusip) where
   of_members (a ∷ ms) h up l = rw (once a (issues J) h.0 up l, of_members ms h.1 up l) refl
 
 -- the shorts that are read off a sheet in a listed issue are those of its members, by number
-pub shorts_off_sheet : (opening : Day) (J : Journal) (c : Cusip) → IsSound J → AllByRecursion (λ a. 1 ≤ a) (members J) → is_listed J c ≡ true → filter_map (short_in (age J) c) (sheet_rows opening J) ≡ shorts J c
+pub shorts_off_sheet : (opening : Day) (J : Journal) (c : Cusip) → IsSound J → AllByRecursion (λ a. 1 ≤ a) (members J) → is_listed J c ≡ true → filter_map (short_in (oldest J) c) (sheet_rows opening J) ≡ shorts J c
 shorts_off_sheet opening J c s ms l =
-    filter_map_flat (short_in (age J) c) (rows_of opening J) (accounts J)
-    ∙ ap (λ xs. xs ++ flat_map (λ a. filter_map (short_in (age J) c) (rows_of opening J a)) (members J)) (none_of_corporation opening J c (issues J))
+    filter_map_flat (short_in (oldest J) c) (rows_of opening J) (accounts J)
+    ∙ ap (λ xs. xs ++ flat_map (λ a. filter_map (short_in (oldest J) c) (rows_of opening J a)) (members J)) (none_of_corporation opening J c (issues J))
     ∙ of_members opening J c (members J) ms s.issues_rise l
     ∙ one_by_one (λ s. nat_lt 0 s.shares) (short_of J c) (members J)

@@ -20,17 +20,17 @@ use Rattle.cns_terms.specs.declared.command.Activity.{Activity}
 use Rattle.cns_terms.specs.declared.holding.Holding.{Holding}
 use Rattle.cns_terms.specs.declared.holding.Key.{Key}
 use Rattle.cns_terms.specs.declared.sheet.Row.{Row}
-use Rattle.cns_terms.specs.Ages.{age}
+use Rattle.cns_terms.specs.Ages.{oldest}
 use Rattle.cns_terms.specs.Batches.{short_of, shorts}
-use Rattle.cns_terms.specs.Days.{closings}
 use Rattle.cns_terms.specs.Entries.{journal}
 use Rattle.cns_terms.specs.Limits.{corporation_limit, member_limit, position_limit}
 use Rattle.cns_terms.specs.Listings.{accounts, issues, members}
-use Rattle.cns_terms.specs.Holdings.{holding}
+use Rattle.cns_terms.specs.Holdings.{holding, oldest_of}
 use Rattle.cns_terms.specs.Positions.{position}
 use Rattle.cns_terms.specs.Postings.{Journal}
 use Rattle.cns_terms.specs.Sheets.{is_idle, row, rows_of, sheet_rows}
 use Rattle.cns_terms.specs.Sums.{same_issue, short}
+use Rattle.cns_terms.proofs.CarriedAges.{oldest_le}
 use Rattle.cns_terms.proofs.Accounts.{occurs}
 use Rattle.cns_terms.proofs.Everywhere.{each_append, each_filter, each_weaker}
 use Rattle.cns_terms.proofs.Facts.{eqb_sym, journal_len}
@@ -38,8 +38,7 @@ use Rattle.cns_retransmit.specs.Calls.{CalledIn, with_short}
 use Rattle.cns_retransmit.specs.Chosen.{shorts_of}
 use Rattle.cns_book.specs.Contents.{Contents}
 use Rattle.cns_book.specs.Follows.{Follows, HasRoom}
-use Rattle.cns_book.specs.Retransmittal.{is_short_in, run_at, short_at, short_in, with_shorts}
-use Rattle.cns_book.proofs.ClosingSteps.{prefix_le}
+use Rattle.cns_book.specs.Retransmittal.{is_short_in, oldest_at, short_at, short_in, with_shorts}
 use Rattle.cns_book.proofs.JournalLengths.{closes_le}
 use Rattle.cns_book.proofs.PartsWithin.{rows_within}
 
@@ -181,18 +180,18 @@ at_index P (x ∷ xs) zero d a lt = a.0
 at_index P (x ∷ xs) (suc i) d a lt = at_index P xs i d a.1 (omega (arith, lt))
 
 -- an age counts one close more
-pub ages_fit : (s : Contents) → HasRoom s → (k : Key) (h : Holding) → ((L : List Activity) → Follows L s → h ≡ holding (journal s.opening L) k.account k.issue) → h.run + 1 < 2 ^ 32
+pub ages_fit : (s : Contents) → HasRoom s → (k : Key) (h : Holding) → ((L : List Activity) → Follows L s → h ≡ holding (journal s.opening L) k.account k.issue) → oldest_of h + 1 < 2 ^ 32
 ages_fit s room k h is =
     let J = journal s.opening room.activities in
-    let same : h.run ≡ age J k.account k.issue = ap (λ (x : Holding). x.run) (is room.activities room.follows) in
+    let same : oldest_of h ≡ oldest J k.account k.issue = ap oldest_of (is room.activities room.follows) in
     let few = room.few in
-    omega (arith, same, prefix_le (λ K. int_lt (position K k.account k.issue) (pos 0)) (closings J), closes_le J, journal_len s.opening room.activities, few)
+    omega (arith, same, oldest_le J k.account k.issue, closes_le J, journal_len s.opening room.activities, few)
 
 -- ---- the shorts of an issue by the definitions
 
 -- the ages that stand are those of the definitions
-pub ages_are : (L : List Activity) (s : Contents) → Follows L s → run_at s.rows ≡ age (journal s.opening L)
-ages_are L s f i a c = (f.rows (record { account = a; issue = c }) i).run
+pub ages_are : (L : List Activity) (s : Contents) → Follows L s → oldest_at s.rows ≡ oldest (journal s.opening L)
+ages_are L s f i a c = oldest_of (f.rows (record { account = a; issue = c }) i)
 
 module _ (J : Journal) (c : Cusip) where
   -- no member is short twice

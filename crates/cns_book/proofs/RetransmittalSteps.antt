@@ -18,7 +18,7 @@ use Rattle.cns_terms.specs.declared.buy_in.Liable.{Liable}
 use Rattle.cns_terms.specs.declared.buy_in.Short.{Short}
 use Rattle.cns_terms.specs.declared.command.Activity.{Activity}
 use Rattle.cns_terms.specs.declared.sheet.Row.{Row}
-use Rattle.cns_terms.specs.Ages.{age}
+use Rattle.cns_terms.specs.Ages.{oldest}
 use Rattle.cns_terms.specs.Batches.{Liables, batch_at, called, chosen, fills_before, is_called, liable_at, liable_of, short_of, shorts}
 use Rattle.cns_terms.specs.Days.{day}
 use Rattle.cns_terms.specs.Entries.{journal}
@@ -40,7 +40,7 @@ use Rattle.cns_terms.proofs.Sound.{IsNoticed, IsSound}
 use Rattle.cns_retransmit.specs.Calls.{CalledIn, CanBeChosen, batches_of, called_in, shorts_in, total_in}
 use Rattle.cns_book.specs.Contents.{Contents}
 use Rattle.cns_book.specs.Follows.{Follows}
-use Rattle.cns_book.specs.Retransmittal.{called_by, run_at, short_in, with_shorts}
+use Rattle.cns_book.specs.Retransmittal.{called_by, oldest_at, short_in, with_shorts}
 use Rattle.cns_book.proofs.RetransmittalBatches.{in_issue}
 use Rattle.cns_book.proofs.RetransmittalCalls.{called_is}
 use Rattle.cns_book.proofs.RetransmittalChoice.{AreSameBatches, batches_same}
@@ -96,7 +96,7 @@ pub record AreCalls (J : Journal) (es : List (Cusip × CalledIn)) : Type 0 where
 
 -- the shorts that were given
 abbrev pub AreGiven : Day → Journal → List (Cusip × CalledIn) → List (Cusip × CalledIn) → Type 0
-AreGiven opening J before es = (c : Cusip) → called_in es c ≡ option_map (with_shorts (filter_map (short_in (age J) c) (sheet_rows opening J))) (called_in before c)
+AreGiven opening J before es = (c : Cusip) → called_in es c ≡ option_map (with_shorts (filter_map (short_in (oldest J) c) (sheet_rows opening J))) (called_in before c)
 
 module _ (opening : Day) (J : Journal) (l : IsLimited opening J) (before es : List (Cusip × CalledIn)) (calls : AreCalls J before) (given : AreGiven opening J before es) where
   -- what stands in an issue is called in a listed one, for the shorts of the definitions
@@ -107,7 +107,7 @@ module _ (opening : Day) (J : Journal) (l : IsLimited opening J) (before es : Li
       let some : 1 ≤ x.total = calls.some c x is in
       let listed = listed_if J c l.whole.now (subst (λ n. 1 ≤ n) total some) in
       let all = shorts_off_sheet opening J c l.whole.now (members_from_one opening J l) listed in
-      (listed, given c ∙ ap (option_map (with_shorts (filter_map (short_in (age J) c) (sheet_rows opening J)))) is ∙ (λ i. Some (record { total = total i; shorts = none i ++ all i })))
+      (listed, given c ∙ ap (option_map (with_shorts (filter_map (short_in (oldest J) c) (sheet_rows opening J)))) is ∙ (λ i. Some (record { total = total i; shorts = none i ++ all i })))
 
   -- who is liable is so by the definitions
   same_liable : ((c : Cusip) → batch_since J J c ≡ batch_at J c) → AreSameBatches (batch_since J J) (issues J) es
@@ -120,7 +120,7 @@ module _ (opening : Day) (J : Journal) (l : IsLimited opening J) (before es : Li
       by None is =
           let zero : called J c ≡ 0 = sym (calls.totals c) ∙ ap (λ o. option_map_or (λ (y : CalledIn). y.total) o 0) is in
           let nobody : batch_since J J c ≡ [] = whole c ∙ ap (chosen (shorts J c)) zero ∙ chosen_none (shorts J c) in
-          ap (λ o. option_map_or (λ (y : CalledIn). chosen y.shorts y.total) o []) (given c ∙ ap (option_map (with_shorts (filter_map (short_in (age J) c) (sheet_rows opening J)))) is)
+          ap (λ o. option_map_or (λ (y : CalledIn). chosen y.shorts y.total) o []) (given c ∙ ap (option_map (with_shorts (filter_map (short_in (oldest J) c) (sheet_rows opening J)))) is)
           ∙ none_either (list_any (λ d. same_issue d c) (issues J)) (batch_since J J c) nobody
         where
           none_either : (b : Bool) (ls : List Liable) → ls ≡ [] → [] ≡ cond b ls []
@@ -132,7 +132,7 @@ module _ (opening : Day) (J : Journal) (l : IsLimited opening J) (before es : Li
   can_choose c y is = by (called_in before c) refl
     where
       by : (o : Option CalledIn) → called_in before c ≡ o → CanBeChosen y
-      by None none = absurd (cc (sym is ∙ given c ∙ ap (option_map (with_shorts (filter_map (short_in (age J) c) (sheet_rows opening J)))) none))
+      by None none = absurd (cc (sym is ∙ given c ∙ ap (option_map (with_shorts (filter_map (short_in (oldest J) c) (sheet_rows opening J)))) none))
       by (Some x) some =
           let same : record { total = called J c; shorts = shorts J c } ≡ y = inside _ _ (sym (in_listed c x some).1 ∙ is) in
           subst CanBeChosen same (record {
@@ -239,12 +239,12 @@ pub calls_are : (L : List Activity) (s : Contents) (es : List (Cusip × CalledIn
 calls_are L s es f totals none some = record { totals = λ c. totals c ∙ called_is L s f c; shorts = none; some = some }
 
 -- the shorts on the sheet were given
-pub given_are : (L : List Activity) (s : Contents) (rs : List Row) (before es : List (Cusip × CalledIn)) → Follows L s → rs ≡ sheet_rows s.opening (journal s.opening L) → HasShorts (run_at s.rows) (called_in before) (called_in es) rs → AreGiven s.opening (journal s.opening L) before es
+pub given_are : (L : List Activity) (s : Contents) (rs : List Row) (before es : List (Cusip × CalledIn)) → Follows L s → rs ≡ sheet_rows s.opening (journal s.opening L) → HasShorts (oldest_at s.rows) (called_in before) (called_in es) rs → AreGiven s.opening (journal s.opening L) before es
 given_are L s rs before es f rows h c = h c ∙ (λ i. option_map (with_shorts (filter_map (short_in (ages_are L s f i) c) (rows i))) (called_in before c))
 
 -- where nothing is called there is nothing to give
 pub none_given : (opening : Day) (J : Journal) (es : List (Cusip × CalledIn)) → es ≡ [] → AreGiven opening J es es
-none_given opening J es none c = ap (λ (xs : List (Cusip × CalledIn)). called_in xs c) none ∙ sym (ap (λ (xs : List (Cusip × CalledIn)). option_map (with_shorts (filter_map (short_in (age J) c) (sheet_rows opening J))) (called_in xs c)) none)
+none_given opening J es none c = ap (λ (xs : List (Cusip × CalledIn)). called_in xs c) none ∙ sym (ap (λ (xs : List (Cusip × CalledIn)). option_map (with_shorts (filter_map (short_in (oldest J) c) (sheet_rows opening J))) (called_in xs c)) none)
 
 -- two things that are said of a value that was made
 pub ok_both : {X E Q : Type 0} (r : Result X E) (P R : X → Type 0) → IfOk r P → OnOk r Q → ((x : X) → P x → Q → R x) → IfOk r R

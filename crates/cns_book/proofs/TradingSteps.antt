@@ -1,7 +1,7 @@
 -- A trade: what it is refused for, and what it leaves.
 -- For `book_trade` of parts/trading.rt, clause step.
 use Rattle.std.proofs.Common.{◌≡◌, ◌∙◌, sym, ap, refl, ℕ, ◌+◌, ◌≤◌, ℤ, pos, ◌+ℤ◌, neg_ℤ, Bool, true, false, not, ◌&&◌, ◌||◌, cond, eqb, List, [], ◌∷◌, ◌++◌, reverse, Option, Some, None, arith}
-use Rattle.std.specs.Prelude.{bytes_eq, is_some, nat_lt, Ok, Err, unwrap_or}
+use Rattle.std.specs.Prelude.{bytes_eq, is_some, nat_lt, sum_by, Ok, Err, unwrap_or}
 use Rattle.std.specs.List.{list_any}
 use Rattle.std.specs.Option.{option_map_or}
 use Rattle.std.proofs.lemmas.Int.{ints}
@@ -30,10 +30,9 @@ use Rattle.cns_terms.specs.Reached.{IsInRange}
 use Rattle.cns_terms.specs.Refusals.{first_refusal, refusal, is_beyond, is_past, is_too_far, is_too_large, is_too_large_at}
 use Rattle.cns_terms.specs.Sums.{total}
 use Rattle.cns_terms.proofs.Facts.{bytes_refl, eqb_refl, or_false}
-use Rattle.cns_terms.proofs.Waiting.{bought_by, sold_by}
 use Rattle.cns_notices.specs.declared.noticed.Noticed.{Noticed}
 use Rattle.cns_positions.specs.Rows.{Rows, books, holding_at}
-use Rattle.cns_trades.specs.Checks.{books_beyond, party, takes_beyond, trade_rules, waits_beyond}
+use Rattle.cns_trades.specs.Checks.{booking, books_beyond, party, takes_beyond, trade_answer, trade_rules, waits_beyond}
 use Rattle.cns_trades.specs.declared.facts.TradeFacts.{TradeFacts}
 use Rattle.cns_trades.specs.Used.{Traded, is_used}
 use Rattle.cns_book.specs.Contents.{Contents}
@@ -89,25 +88,22 @@ seller_after p q h = second_part _ _ q (shares_other p.seller p.issue (buyer_ent
 
 -- what the parties are to get and to give with a trade that waits
 module _ (p : Pend) (ps : List Pend) (a : Account) where
-  bought_with : (b : Bool) → eqb p.buyer a ≡ b → bought_in (p ∷ ps) a p.issue ≡ bought_in ps a p.issue + cond b p.shares 0
-  bought_with b e =
-      let one : cond (eqb p.buyer a && bytes_eq p.issue p.issue) p.shares 0 ≡ cond b p.shares 0 = (λ i. cond (e i && bytes_refl p.issue i) p.shares 0) ∙ by b in
-      let more = sum_by-cons (bought_by a p.issue) p ps in
+  -- with one trade more, by whether the account is on that side of it
+  side_with : (side : Pend → ℕ) (b : Bool) → eqb (side p) a ≡ b → sum_by (λ q. cond (eqb (side q) a && bytes_eq q.issue p.issue) q.shares 0) (p ∷ ps) ≡ sum_by (λ q. cond (eqb (side q) a && bytes_eq q.issue p.issue) q.shares 0) ps + cond b p.shares 0
+  side_with side b e =
+      let one : cond (eqb (side p) a && bytes_eq p.issue p.issue) p.shares 0 ≡ cond b p.shares 0 = (λ i. cond (e i && bytes_refl p.issue i) p.shares 0) ∙ by b in
+      let more = sum_by-cons (λ (q : Pend). cond (eqb (side q) a && bytes_eq q.issue p.issue) q.shares 0) p ps in
       omega (arith, one, more)
     where
       by : (b : Bool) → cond (b && true) p.shares 0 ≡ cond b p.shares 0
       by true = refl
       by false = refl
 
+  bought_with : (b : Bool) → eqb p.buyer a ≡ b → bought_in (p ∷ ps) a p.issue ≡ bought_in ps a p.issue + cond b p.shares 0
+  bought_with = side_with (λ q. q.buyer)
+
   sold_with : (b : Bool) → eqb p.seller a ≡ b → sold_in (p ∷ ps) a p.issue ≡ sold_in ps a p.issue + cond b p.shares 0
-  sold_with b e =
-      let one : cond (eqb p.seller a && bytes_eq p.issue p.issue) p.shares 0 ≡ cond b p.shares 0 = (λ i. cond (e i && bytes_refl p.issue i) p.shares 0) ∙ by b in
-      let more = sum_by-cons (sold_by a p.issue) p ps in
-      omega (arith, one, more)
-    where
-      by : (b : Bool) → cond (b && true) p.shares 0 ≡ cond b p.shares 0
-      by true = refl
-      by false = refl
+  sold_with = side_with (λ q. q.seller)
 
 above_zero : (a : ℕ) → 1 ≤ a → nat_lt 0 a ≡ true
 above_zero a h = grind (arith, nat_tests)
@@ -208,11 +204,19 @@ booked_by L s x trades notices rows f range none still unlisted undeclared unexe
       references = r;
       pending = w;
       dividends = dividends_stay s J x undeclared f.dividends;
-      rows = rows_booked s J x rows still b f.rows;
+      rows = rows_booked s J x rows still unlisted b f.rows;
       sheets = sheets_stay s J x still f.sheets;
       notices = n;
       batches = batches_stay s J x still unexecuted f.batches;
     }
+
+-- a trade whose entries are answered is not refused
+pub trade_taken : (L : List Activity) (s : Contents) (t : Trade) (facts : TradeFacts) (es : Option (List Entry)) → Follows L s → AreTradeFacts s.opening (journal s.opening L) t facts
+    → Ok es ≡ trade_answer facts s.trades.pending (is_used s.trades.references t.reference) t → (refusal s.opening (journal s.opening L) (command.Activity (activity.Trade t)) ≡ None) × (es ≡ booking facts.today (pend_of t))
+trade_taken L s t facts es f are answered =
+    let seen = is_used s.trades.references t.reference in
+    let done = answer_ok (first_refusal (trade_rules facts s.trades.pending seen t)) (booking facts.today (pend_of t)) es answered in
+    (trade_refusal L s.opening t facts seen s.trades.pending are (f.references t.reference) f.pending ∙ done.0, done.1)
 
 -- what is told of a trade's entries: they are booked now, or it is to wait
 pub told_now : {X : Type 0} (b : Bool) (x y : X) → Some y ≡ cond b (Some x) None → (b ≡ true) × (y ≡ x)

@@ -4,6 +4,7 @@ use Rattle.cns_units.specs.declared.account.Account.{Account}
 use Rattle.cns_units.specs.declared.cusip.Cusip.{Cusip}
 use Rattle.cns_terms.specs.declared.buy_in.Short.{Short}
 use Rattle.cns_terms.specs.declared.sheet.Row.{Row}
+use Rattle.cns_terms.specs.Holdings.{oldest_of}
 use Rattle.cns_terms.specs.Sums.{same_issue, short}
 use Rattle.cns_notices.specs.declared.noticed.Noticed.{Noticed}
 use Rattle.cns_notices.specs.Noticed.{remaining_of}
@@ -22,9 +23,9 @@ call_of rows n c x = if (x.given.day == n) && same_issue x.given.issue c then re
 abbrev pub called_by : Rows → ℕ → Cusip → List Noticed → ℕ
 called_by rows n c xs = sum_by (call_of rows n c) xs
 
--- for how many closes in a row an account was short
-abbrev pub run_at : Rows → Account → Cusip → ℕ
-run_at rows a c = (holding_at rows (record { account = a; issue = c })).run
+-- the age of an account's short to which the next close adds itself
+abbrev pub oldest_at : Rows → Account → Cusip → ℕ
+oldest_at rows a c = oldest_of (holding_at rows (record { account = a; issue = c }))
 
 -- what is called in an issue, with more shorts
 abbrev pub with_shorts : List Short → CalledIn → CalledIn
@@ -36,7 +37,7 @@ with_shorts ss x = record { total = x.total; shorts = x.shorts ++ ss }
 abbrev pub is_short_in : Cusip → Row → Bool
 is_short_in c r = nat_lt 0 r.account && (int_lt r.closing (pos 0) && same_issue r.issue c)
 
--- the short of a row, with an age before its close
+-- the short of a row, one close older than before its close
 abbrev pub short_at : (Account → Cusip → ℕ) → Row → Short
 short_at age r = record { member = r.account; shares = short r.closing; age = age r.account r.issue + 1 }
 

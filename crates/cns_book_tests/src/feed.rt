@@ -62,6 +62,7 @@ const SOLD: Holding = Holding {
     opening: 0,
     contract: 1_950_000,
     run: 0,
+    carried: 0,
 };
 
 #[test]
@@ -204,6 +205,7 @@ fn a_position_and_a_statement_have_their_texts(rt: HostRuntime) -> Result<(), Fa
         opening: 7,
         contract: -1,
         run: 4,
+        carried: 9,
     };
     let held = Reply::Held(Held::of(key, holding));
     let text = "position 0 17275R102 -10000000000 7 -0.01 4\n";

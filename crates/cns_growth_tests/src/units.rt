@@ -40,9 +40,7 @@ pub(crate) fn key(rt: &impl Abort, number: u16) -> Key {
 pub(crate) fn holding(now: u16) -> Holding {
     Holding {
         now: i64::from(now),
-        opening: 0,
-        contract: 0,
-        run: 0,
+        ..Holding::ZEROS
     }
 }
 

@@ -1,10 +1,9 @@
 // A notice, and what comes to it.
 ghost use Rattle.std.specs.Prelude.{◌≡◌, ◌+◌, ◌^◌, ◌<◌};
 ghost use Rattle.cns_terms.specs.Notices.{is_live};
-ghost use Rattle.cns_terms.specs.Sums.{long};
 ghost use Rattle.cns_notices.specs.Noticed.{brought_to, executes, has_received, opened, remaining_of};
 
-use cns_terms::{Given, Stage};
+use cns_terms::{Given, Stage, long};
 use cns_units::Shares;
 
 /// A notice of intention to buy in, with what came to it.
@@ -17,13 +16,6 @@ pub struct Noticed {
     pub received: u64,
     /// The shares that were bought in on it.
     pub executed: u64,
-}
-
-// How many shares a position is long.
-fn long(position: i64) -> u64
-    ensures { result ≡ long position }
-{
-    if position > 0 { position as u64 } else { 0 }
 }
 
 impl Noticed {

@@ -312,12 +312,17 @@ fn a_split_or_an_exchange_is_booked_for_each_member(rt: HostRuntime) {
 }
 
 #[test]
-fn openings_and_ages_stay(rt: HostRuntime) {
+fn openings_and_ages_stay_and_an_exchange_brings_ages(rt: HostRuntime) {
     check_stay::<Flat>(&rt);
     check_stay::<Balanced>(&rt);
 }
 
-const LONG_AND_SHORT: [Held; 2] = [(1, CISCO, 4, -10), (2, CISCO, -4, 10)];
+const LONG_AND_SHORT: [Held; 4] = [
+    (0, CISCO, -7, 0),
+    (1, CISCO, 4, -10),
+    (2, CISCO, -4, 10),
+    (3, MICROSOFT, -1, 0),
+];
 
 // Positions that were closed twice.
 fn twice_closed<P: Positions<Global>>(rt: &(impl Abort + AllocGlobal)) -> P
@@ -329,27 +334,43 @@ fn twice_closed<P: Positions<Global>>(rt: &(impl Abort + AllocGlobal)) -> P
     positions
 }
 
-// An account, its position and its opening, and how long it was short.
-const AFTER_SPLIT: [(u16, i64, i64, u32); 2] = [(1, 6, 4, 0), (2, -6, -4, 2)];
+// An account's place in an issue: its position and its opening, how long it was short, and the age that was brought.
+type Aged = (u16, &'static [u8], i64, i64, u32, u32);
 
-const AFTER_EXCHANGE: [(u16, i64, i64, u32); 1] = [(2, 0, -4, 2)];
+const AFTER_SPLIT: [Aged; 4] = [
+    (0, CISCO, -7, -7, 2, 0),
+    (1, CISCO, 6, 4, 0, 0),
+    (2, CISCO, -6, -4, 2, 0),
+    (3, MICROSOFT, -1, -1, 2, 0),
+];
 
-// Whether accounts have these positions, openings and ages after a split or an exchange, and no cents.
+const AFTER_EXCHANGE: [Aged; 7] = [
+    (0, CISCO, -7, -7, 2, 0),
+    (0, MICROSOFT, 0, 0, 0, 2),
+    (1, CISCO, 0, 4, 0, 0),
+    (1, MICROSOFT, 6, 0, 0, 0),
+    (2, CISCO, 0, -4, 2, 0),
+    (2, MICROSOFT, -6, 0, 0, 2),
+    (3, MICROSOFT, -1, -1, 2, 0),
+];
+
+// Whether places have these positions, openings and ages after a split or an exchange, and no cents.
 fn have_ages<P: Positions<Global>>(
     rt: &(impl Abort + AllocGlobal),
     given: Given,
-    rows: &[(u16, i64, i64, u32)],
+    rows: &[Aged],
 ) -> bool {
     let positions: P = twice_closed(rt);
     let next = after_alone(rt, &positions, given, "memory");
-    for (number, now, opening, run) in rows {
+    for (number, issue, now, opening, run, carried) in rows {
         let expected = Holding {
             now: *now,
             opening: *opening,
             contract: 0,
             run: *run,
+            carried: *carried,
         };
-        if next.get(key(rt, *number, CISCO)) != expected {
+        if next.get(key(rt, *number, issue)) != expected {
             return false;
         }
     }

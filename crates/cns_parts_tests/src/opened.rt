@@ -72,6 +72,7 @@ fn is_standing<P: Positions<A>, A>(rt: &impl Abort, positions: &P, standing: &St
         opening,
         contract,
         run,
+        carried: 0,
     };
     positions.get(key(rt, number, issue)) == expected
 }

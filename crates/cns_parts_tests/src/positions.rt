@@ -23,6 +23,7 @@ fn holding(now: i64, opening: i64, contract: i128, run: u32) -> Holding {
         opening,
         contract,
         run,
+        carried: 0,
     }
 }
 
@@ -308,6 +309,68 @@ fn check_prepared<P: Positions<Global>>(rt: &(impl Abort + AllocGlobal)) {
     ];
     check_keys::<P>(rt, &keys[..3], &[0, 3, 9999], 1, 10);
     check_keys::<P>(rt, &keys, &[0, 3, 7, 9999], -2, 20);
+}
+
+#[test]
+fn a_close_counts_on_from_the_greater_age(rt: HostRuntime) {
+    check_ages::<Flat>(&rt);
+    check_ages::<Balanced>(&rt);
+}
+
+// A position, its age and what exchanges brought, and the age after a close.
+const AGES: [(i64, u32, u32, u32); 10] = [
+    (-1, 0, 0, 1),
+    (-1, 2, 0, 3),
+    (-1, 0, 2, 3),
+    (-1, 3, 5, 6),
+    (-1, 5, 3, 6),
+    (0, 3, 5, 0),
+    (1, 3, 5, 0),
+    (-1, u32::MAX - 1, 0, u32::MAX),
+    (-1, u32::MAX, 0, u32::MAX),
+    (-1, 0, u32::MAX, u32::MAX),
+];
+
+// Positions of one holding.
+fn with_one<P: Positions<Global>>(
+    rt: &(impl Abort + AllocGlobal),
+    key: &Key,
+    holding: &Holding,
+) -> P {
+    let positions = P::new(rt.alloc());
+    positions.rebuilt(&[(*key, *holding)]).expect(rt, "memory")
+}
+
+fn check_ages<P: Positions<Global>>(rt: &(impl Abort + AllocGlobal)) {
+    let key = &key(rt, 1, APPLE);
+    for (now, run, carried, expected) in &AGES {
+        let before = &Holding {
+            carried: *carried,
+            ..holding(*now, 0, 0, *run)
+        };
+        let mut positions: P = with_one(rt, key, before);
+        positions.roll();
+        assert!(rt; positions.get(*key) == holding(*now, *now, 0, *expected));
+    }
+}
+
+#[test]
+fn an_age_that_was_brought_is_a_row(rt: HostRuntime) {
+    check_brought::<Flat>(&rt);
+    check_brought::<Balanced>(&rt);
+}
+
+const BROUGHT: Holding = Holding {
+    carried: 2,
+    ..Holding::ZEROS
+};
+
+fn check_brought<P: Positions<Global>>(rt: &(impl Abort + AllocGlobal)) {
+    let key = &key(rt, 1, APPLE);
+    let mut positions: P = with_one(rt, key, &BROUGHT);
+    assert!(rt; positions.next_row(None) == Some((*key, BROUGHT)));
+    positions.roll();
+    assert!(rt; positions.next_row(None).is_none());
 }
 
 #[test]

@@ -196,6 +196,7 @@ fn holding(opening: i64) -> Holding {
         opening,
         contract: -1_950_000,
         run: 0,
+        carried: 0,
     }
 }
 

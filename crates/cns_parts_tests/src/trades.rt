@@ -1,10 +1,10 @@
-// Tests of the trades: what is refused, what is booked, references that are used once, and trades that wait for their date.
+// Tests of the trades: what is refused, what is booked, and trades that wait for their date.
 ghost use Rattle.std.specs.Prelude.{◌≤◌, ◌^◌, unsigned_abs};
 ghost use Rattle.std.specs.Option.{ForSome};
 
 use crate::values::{APPLE, CISCO, cusip, day, member, money, shares};
-use cns_terms::{Entry, Movement, Pend, Refusal, Trade};
-use cns_trades::{MoveFacts, Sides, TradeFacts, Trades};
+use cns_terms::{Entry, Pend, Refusal, Trade};
+use cns_trades::{Sides, TradeFacts, Trades};
 use std::alloc::Global;
 use std::process::Abort;
 
@@ -187,115 +187,6 @@ fn a_trade_books_opposite_entries(rt: HostRuntime) {
     };
     assert!(rt; parts(&entries[0]) == (101, 5, -975));
     assert!(rt; parts(&entries[1]) == (202, -5, 975));
-}
-
-// A member's position and the shares on hand, and what a movement is answered.
-type Moved = (Option<i64>, i64, Option<Refusal>);
-
-const DELIVERIES: [Moved; 5] = [
-    (None, 0, Some(Refusal::NoSuchMember)),
-    (Some(-99), 0, Some(Refusal::ExceedsPosition)),
-    (Some(0), 0, Some(Refusal::ExceedsPosition)),
-    (Some(5), 0, Some(Refusal::ExceedsPosition)),
-    (Some(-100), 0, None),
-];
-
-const RECEIPTS: [Moved; 7] = [
-    (None, 0, Some(Refusal::NoSuchMember)),
-    (Some(99), -50, Some(Refusal::ExceedsPosition)),
-    (Some(100), -99, Some(Refusal::NotOnHand)),
-    (Some(0), -99, Some(Refusal::NotOnHand)),
-    (Some(0), -100, Some(Refusal::NotLong)),
-    (Some(-3), -100, Some(Refusal::NotLong)),
-    (Some(100), -100, None),
-];
-
-fn moved_from(case: &Moved) -> MoveFacts {
-    MoveFacts {
-        member: case.0,
-        corporation: case.1,
-        listed: true,
-        retired: false,
-    }
-}
-
-#[test]
-fn movements_are_refused_by_the_least_number(rt: HostRuntime) {
-    let trades = Trades::new(rt.alloc()).expect(&rt, "memory");
-    let movement = &Movement {
-        member: member(&rt, 101),
-        issue: cusip(&rt, APPLE),
-        shares: shares(&rt, 100),
-    };
-    for case in &DELIVERIES {
-        let answered = trades.check_delivery(&moved_from(case), movement);
-        assert!(rt; answered.err() == case.2);
-    }
-    for case in &RECEIPTS {
-        let answered = trades.check_receipt(&moved_from(case), movement);
-        assert!(rt; answered.err() == case.2);
-    }
-}
-
-// Up within a page and into the next, far away and back, the least number and the greatest.
-const NOTED: [u64; 15] = [
-    1,
-    2,
-    62,
-    63,
-    64,
-    65,
-    1_000,
-    3,
-    66,
-    1_000_000_000_000_000_000,
-    127,
-    128,
-    0,
-    u64::MAX,
-    129,
-];
-
-const UNNOTED: [u64; 9] = [
-    4,
-    61,
-    67,
-    126,
-    130,
-    999,
-    1_001,
-    999_999_999_999_999_999,
-    18_446_744_073_709_551_614,
-];
-
-#[test]
-fn references_are_seen_once_they_are_noted(rt: HostRuntime) {
-    let mut trades = Trades::new(rt.alloc()).expect(&rt, "memory");
-    for reference in &NOTED {
-        assert!(rt; !trades.seen(*reference));
-        trades.note_reference(*reference).expect(&rt, "memory");
-    }
-    for reference in &NOTED {
-        assert!(rt; trades.seen(*reference), "{reference}");
-    }
-    for reference in &UNNOTED {
-        assert!(rt; !trades.seen(*reference), "{reference}");
-    }
-}
-
-// References that stand far apart, each on a page of its own.
-#[test]
-fn references_of_many_pages_are_noted(rt: HostRuntime) {
-    let mut trades = Trades::new(rt.alloc()).expect(&rt, "memory");
-    for page in 0..1_000u64 {
-        trades
-            .note_reference(page * 1_000_003)
-            .expect(&rt, "memory");
-    }
-    for page in 0..1_000u64 {
-        assert!(rt; trades.seen(page * 1_000_003));
-        assert!(rt; !trades.seen(page * 1_000_003 + 1));
-    }
 }
 
 // The reference and the date of each trade that waits, in the order in which they are taken. The dates don't rise.

@@ -6,6 +6,7 @@ use Rattle.cns_terms.specs.declared.holding.Key.{Key}
 use Rattle.cns_terms.specs.declared.holding.Holding.{Holding}
 use Rattle.cns_terms.specs.declared.holding.Entry.{Entry}
 use Rattle.cns_terms.specs.Entries.{entry}
+use Rattle.cns_terms.specs.Holdings.{oldest_of}
 use Rattle.cns_terms.specs.Keys.{key_cmp}
 use Rattle.cns_terms.specs.Positions.{shares_for, cents_for}
 use Rattle.cns_terms.specs.Sums.{total}
@@ -14,7 +15,7 @@ abbrev pub Rows : Type 0
 Rows = List (Key × Holding)
 
 abbrev pub zeros : Holding
-zeros = record { now = pos 0; opening = pos 0; contract = pos 0; run = 0 }
+zeros = record { now = pos 0; opening = pos 0; contract = pos 0; run = 0; carried = 0 }
 
 -- what a key's row has, be it zeros; none where the key has no row
 unfoldable pub row_at : Rows → Key → Option Holding
@@ -26,7 +27,7 @@ holding_at rows k = unwrap_or (find key_cmp k rows) zeros
 
 -- whether anything but zeros stands there
 abbrev pub is_held : Holding → Bool
-is_held h = not (int_eq h.now (pos 0) && int_eq h.opening (pos 0) && int_eq h.contract (pos 0) && (h.run == 0))
+is_held h = not (int_eq h.now (pos 0) && int_eq h.opening (pos 0) && int_eq h.contract (pos 0) && (h.run == 0) && (h.carried == 0))
 
 -- the key may be added to without memory
 abbrev pub IsThere : Rows → List Key → Key → Type 0
@@ -44,7 +45,7 @@ entry_of k shares cents = entry k.account k.issue shares cents
 abbrev pub booked : Entry → Key → Holding → Holding
 booked e k h = record h { now = h.now +ℤ shares_for k.account k.issue e; contract = h.contract +ℤ cents_for k.account k.issue e }
 
--- what entries make of it, one after another: its opening and its run stay
+-- what entries make of it, one after another: its opening and its ages stay
 abbrev pub books : List Entry → Key → Holding → Holding
 books es k h = record h { now = total (shares_for k.account k.issue) es +ℤ h.now; contract = total (cents_for k.account k.issue) es +ℤ h.contract }
 
@@ -54,7 +55,8 @@ rolled h = record {
   now = h.now;
   opening = h.now;
   contract = pos 0;
-  run = if int_lt h.now (pos 0) then min (h.run + 1) (2 ^ 32 - 1) else 0;
+  run = if int_lt h.now (pos 0) then min (oldest_of h + 1) (2 ^ 32 - 1) else 0;
+  carried = 0;
 }
 
 -- whether the key is above the other, if there is one

@@ -5,10 +5,9 @@ ghost use Rattle.cns_positions.specs.Rows.{rolled, is_held};
 
 use cns_terms::Holding;
 
-const LONGEST_RUN: u32 = 4_294_967_295;
-
-/// What a close makes of a holding: its position is the next day's opening, its cents are gone, and a short is older by one
-/// close, up to the highest number that an age can have (NSCC Rule 11; ages are this project's profile).
+/// What a close makes of a holding: its position is the next day's opening, its cents are gone, and a short is one close
+/// older than its age and than what exchanges brought on the day, up to the highest number that an age can have (NSCC
+/// Rule 11; ages are this project's profile).
 pub fn rolled(holding: Holding) -> Holding
     ensures { result ≡ rolled holding }
 {
@@ -17,14 +16,11 @@ pub fn rolled(holding: Holding) -> Holding
         opening: holding.now,
         contract: 0,
         run: if holding.now < 0 {
-            if holding.run < LONGEST_RUN {
-                holding.run + 1
-            } else {
-                LONGEST_RUN
-            }
+            holding.oldest().saturating_add(1)
         } else {
             0
         },
+        carried: 0,
     }
 }
 
@@ -43,5 +39,9 @@ pub(crate) fn add_to(holding: &mut Holding, shares: i64, cents: i128)
 pub(crate) fn is_held(holding: Holding) -> bool
     ensures { result ≡ is_held holding }
 {
-    holding.now != 0 || holding.opening != 0 || holding.contract != 0 || holding.run != 0
+    holding.now != 0
+        || holding.opening != 0
+        || holding.contract != 0
+        || holding.run != 0
+        || holding.carried != 0
 }

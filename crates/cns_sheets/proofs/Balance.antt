@@ -23,12 +23,13 @@ use Rattle.cns_terms.proofs.SheetSums.{idle_parts, kept_or_not}
 use Rattle.cns_terms.proofs.Totals.{total-add, total-neg, total-same}
 use Rattle.cns_terms.proofs.ZeroSums.{total-times}
 use Rattle.cns_positions.specs.Rows.{Rows, held_above, holding_at, is_held, zeros}
+use Rattle.cns_positions.proofs.Unheld.{held_same}
 use Rattle.cns_prices.specs.Listed.{Listed, price_in}
 use Rattle.cns_sheets.specs.Build.{AreBalanced, by_key, closing_in, price_on, prices_of, worth}
 use Rattle.cns_sheets.specs.Condition.{CanBeCut, held_in, rows_before}
 use Rattle.cns_sheets.specs.Payments.{Paying}
 use Rattle.cns_sheets.specs.Woven.{CentsByKey, Woven, weave}
-use Rattle.cns_sheets.proofs.Kept.{held_stands, row_from}
+use Rattle.cns_sheets.proofs.Kept.{row_from}
 use Rattle.cns_sheets.proofs.Weaving.{both_at, find_weave, sorted_weave}
 
 -- ---- sums by issue
@@ -244,7 +245,7 @@ module _ (before : Option DaySheet) (prices : Listed) (R : Rows) (ps : List Payi
       found_number (λ v. g v.0) k (pos 0) woven
       ∙ ap (λ o. option_map_or (λ v. g v.0) o (pos 0)) (found k)
       ∙ woven_number g z (find key_cmp k (held_above R None)) (find key_cmp k cs)
-      ∙ ap g (held_stands R sorted k)
+      ∙ ap g (held_same R k sorted)
 
   -- sums in an issue are those over positions
   held_sums : (g : Holding → ℤ) → pos 0 ≡ g zeros → (c : Cusip) → total (λ e. cond (same_issue e.0.issue c) (g e.1.0) (pos 0)) woven ≡ total (held_in g c) R

@@ -1,23 +1,22 @@
 -- What a sheet keeps of the rows that it is built from.
-use Rattle.std.proofs.Common.{◌≡◌, ◌∙◌, ap, sym, refl, ℤ, pos, Bool, true, false, ◌&&◌, cond, List, [], ◌∷◌, map, filter, Option, None, Some, not, unwrap_or, eqb}
+use Rattle.std.proofs.Common.{◌≡◌, ◌∙◌, ap, sym, refl, ℤ, pos, Bool, true, false, cond, List, [], ◌∷◌, map, filter, Option, None, Some, not, unwrap_or}
 use Rattle.std.specs.Prelude.{option_map}
-use Rattle.std.specs.Cmp.{signed_Decides}
 use Rattle.std.specs.Cmp.Lexicographic.{slice_cmp}
 use Rattle.std.specs.FinMap.{find, is_sorted}
 use Rattle.std.specs.FinMap.Entries.{below_all}
-use Rattle.std.specs.Ordering.{int_eq, is_eq, nat_cmp}
-use Rattle.std.proofs.lemmas.Bool.{eqb-true}
+use Rattle.std.specs.Ordering.{is_eq, nat_cmp}
 use Rattle.cns_units.specs.declared.cusip.Cusip.{Cusip}
 use Rattle.cns_terms.specs.declared.holding.Holding.{Holding}
 use Rattle.cns_terms.specs.declared.holding.Key.{Key}
 use Rattle.cns_terms.specs.declared.sheet.Row.{Row}
 use Rattle.cns_terms.specs.Keys.{key_cmp}
 use Rattle.cns_terms.specs.Sheets.{is_idle}
-use Rattle.cns_terms.proofs.Facts.{and_left, and_right, both_true, equal, holds}
+use Rattle.cns_terms.proofs.Facts.{and_left, and_right, both_true, equal}
 use Rattle.cns_terms.proofs.Finds.{find_filter, kept_if, sorted_filter}
 use Rattle.cns_terms.proofs.Keys.{exact_keys, keys_total}
 use Rattle.cns_terms.proofs.SheetRows.{says}
-use Rattle.cns_positions.specs.Rows.{Rows, held_above, holding_at, is_held, zeros}
+use Rattle.cns_positions.specs.Rows.{Rows, held_above, is_held, zeros}
+use Rattle.cns_positions.proofs.Unheld.{held_same}
 use Rattle.cns_prices.specs.Listed.{Listed, listed_above, price_in, quote_in}
 use Rattle.cns_sheets.specs.Build.{PriceList, by_key, key_of, price_on, priced_row}
 use Rattle.cns_sheets.specs.Payments.{IsCut, Paying, dividend_of, said}
@@ -53,34 +52,6 @@ row_from before prices e = priced_row (unwrap_or (price_on before e.0.issue) 0) 
 -- the rows by the list of this close's prices are those by the prices themselves
 pub rows_listed : (before : PriceList) (prices : Listed) (es : Woven) → woven_rows before (listed_above prices None) es ≡ filter says (map (row_from before prices) es)
 rows_listed before prices es i = filter says (map (λ e. priced_row (unwrap_or (price_on before e.0.issue) 0) (unwrap_or (listed_found e.0.issue prices i) 0) e.1.1 (e.0, e.1.0)) es)
-
--- ---- holdings of zeros
-
--- what is not held is zeros
-unheld_zeros : (h : Holding) → is_held h ≡ false → zeros ≡ h
-unheld_zeros h e =
-    let all = holds (int_eq h.now (pos 0) && int_eq h.opening (pos 0) && int_eq h.contract (pos 0) && eqb h.run 0) e in
-    let three = and_left _ _ all in
-    let two = and_left _ _ three in
-    let now = (signed_Decides h.now (pos 0)).0 (and_left _ _ two) in
-    let opening = (signed_Decides h.opening (pos 0)).0 (and_right _ _ two) in
-    let contract = (signed_Decides h.contract (pos 0)).0 (and_right _ _ three) in
-    let run = eqb-true h.run 0 (and_right _ _ all) in
-    λ i. record { now = sym now i; opening = sym opening i; contract = sym contract i; run = sym run i }
-
--- a holding of zeros, or another
-held_branch : (b : Bool) (h : Holding) → is_held h ≡ b → unwrap_or (cond b (Some h) None) zeros ≡ h
-held_branch true h e = refl
-held_branch false h e = unheld_zeros h e
-
--- what is not held counts as zeros
-held_or_zeros : (o : Option Holding) → unwrap_or (kept_if is_held o) zeros ≡ unwrap_or o zeros
-held_or_zeros None = refl
-held_or_zeros (Some h) = held_branch (is_held h) h refl
-
--- what stands at a key among the holdings that aren't zeros
-pub held_stands : (R : Rows) → is_sorted key_cmp R ≡ true → (k : Key) → unwrap_or (find key_cmp k (held_above R None)) zeros ≡ holding_at R k
-held_stands R s k = ap (λ o. unwrap_or o zeros) (find_filter keys_total is_held k R s) ∙ held_or_zeros (find key_cmp k R)
 
 -- ---- rows with their keys
 
@@ -151,5 +122,5 @@ module _ (before : PriceList) (prices : Listed) where
             row_found (row_from before prices) (λ e. refl) k (weave hs cs) order
             ∙ ap (λ o. kept_if says (option_map (λ v. row_from before prices (k, v)) o)) (find_weave k hs cs rise)
             ∙ kept_row k (find key_cmp k hs) (find key_cmp k cs)
-            ∙ (λ i. said (row_from before prices (k, (held_stands R s k i, cents k i))));
+            ∙ (λ i. said (row_from before prices (k, (held_same R k s i, cents k i))));
       }

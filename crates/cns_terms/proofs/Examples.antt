@@ -18,10 +18,10 @@ use Rattle.cns_terms.specs.Refusals.{is_too_far}
 -- ---- activities, questions and replies
 
 -- two issues, the first of which every example is about
-abbrev apple : Cusip
+abbrev pub apple : Cusip
 apple = codes "037833100"
 
-abbrev cisco : Cusip
+abbrev pub cisco : Cusip
 cisco = codes "17275R102"
 
 abbrev member : ℕ → Activity
@@ -65,7 +65,7 @@ same : (d : Day) → is_same_day d d ≡ true
 same d = grind (arith, ints)
 
 -- it has come
-now : (d : Day) → is_not_after d d ≡ true
+pub now : (d : Day) → is_not_after d d ≡ true
 now d = grind (arith, ints)
 
 -- and is not too far ahead

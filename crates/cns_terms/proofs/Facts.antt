@@ -84,6 +84,10 @@ bytes_refl c = sym (is_eq-slice_cmp c c) ∙ ap is_eq (tied_itself nat_list_cmp_
 pub same_test : (c d : Cusip) → is_eq (slice_cmp nat_cmp c d) ≡ bytes_eq d c
 same_test c d = is_eq-slice_cmp c d ∙ nat_list_eq_equiv.symm c d
 
+-- two issues differ both ways
+pub issues_differ : (c d : Cusip) → bytes_eq c d ≡ false → bytes_eq d c ≡ false
+issues_differ c d e = sym (same_test c d) ∙ is_eq-slice_cmp c d ∙ e
+
 -- ---- numbers
 
 pub zero_add : (n : ℤ) → pos 0 +ℤ n ≡ n

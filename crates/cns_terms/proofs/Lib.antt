@@ -30,6 +30,7 @@ pub mod Limits
 pub mod Reached
 pub mod Paid
 pub mod OverAll
+pub mod CarriedAges
 pub mod DividendBounds
 pub mod Amounts
 pub mod SheetLimits
@@ -37,3 +38,4 @@ pub mod Examples
 pub mod ActionExamples
 pub mod BatchSteps
 pub mod BuyInExamples
+pub mod AgeExamples

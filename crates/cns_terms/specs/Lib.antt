@@ -3,9 +3,9 @@ pub mod Postings
 pub mod Keys
 pub mod Days
 pub mod Positions
+pub mod Listings
 pub mod Ages
 pub mod Holdings
-pub mod Listings
 pub mod Pending
 pub mod Conversions
 pub mod Notices

@@ -8,6 +8,7 @@ use Rattle.cns_units.specs.declared.account.Account.{Account}
 use Rattle.cns_units.specs.declared.account.Member.{Member}
 use Rattle.cns_units.specs.declared.cusip.Cusip.{Cusip}
 use Rattle.cns_units.specs.declared.price.Price.{Price}
+use Rattle.cns_terms.specs.declared.action.Exchange.{Exchange}
 use Rattle.cns_terms.specs.declared.command.Activity.{Activity}
 use Rattle.cns_terms.specs.declared.command.Activity.TheVariants as activity
 use Rattle.cns_terms.specs.declared.command.Listing.{Listing}
@@ -35,6 +36,11 @@ priced _ = None
 abbrev pub traded : Activity → Option Trade
 traded (activity.Trade t) = Some t
 traded _ = None
+
+-- the exchange that an activity is
+abbrev pub exchanged : Activity → Option Exchange
+exchanged (activity.Exchange x) = Some x
+exchanged _ = None
 
 -- the issue that an activity replaces by its successor
 abbrev pub replaced : Activity → Option Cusip

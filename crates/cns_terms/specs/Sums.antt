@@ -1,11 +1,16 @@
 -- Sums, lists in order, and lists changed at a place.
-use Rattle.std.specs.Prelude.{ℕ, zero, suc, ℤ, pos, negsuc, ◌+ℤ◌, Bool, List, [], ◌∷◌, bytes_eq, if◌then◌else◌}
+use Rattle.std.specs.Prelude.{ℕ, zero, suc, max, ℤ, pos, negsuc, ◌+ℤ◌, Bool, List, [], ◌∷◌, bytes_eq, if◌then◌else◌}
 use Rattle.cns_units.specs.declared.cusip.Cusip.{Cusip}
 
 -- f of each, added up
 abbrev pub total : {X : Type 0} → (X → ℤ) → List X → ℤ
 total f [] = pos 0
 total f (x ∷ xs) = f x +ℤ total f xs
+
+-- the greatest of f at each; 0 where there is none
+abbrev pub greatest : {X : Type 0} → (X → ℕ) → List X → ℕ
+greatest f [] = 0
+greatest f (x ∷ xs) = max (f x) (greatest f xs)
 
 -- how much a position is below 0
 abbrev pub short : ℤ → ℕ

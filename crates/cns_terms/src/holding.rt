@@ -6,7 +6,9 @@ ghost use Rattle.std.specs.Cmp.{partial_order_from_own_ties};
 ghost use Rattle.std.specs.Cmp.Rules.{comparing};
 ghost use Rattle.std.proofs.Common.{rules};
 ghost use Rattle.cns_units.specs.Cusip.{IsCusip};
+ghost use Rattle.cns_terms.specs.Holdings.{oldest_of};
 ghost use Rattle.cns_terms.specs.Keys.{key_cmp};
+ghost use Rattle.cns_terms.specs.Sums.{long};
 
 use cns_units::{Account, Cusip};
 use std::cmp::Ordering;
@@ -64,6 +66,13 @@ impl PartialOrd for Key {
 /// How many shares a member may be long or short in an issue (this project's profile).
 pub const POSITION_LIMIT: i64 = 10_000_000_000;
 
+/// How many shares a position is long: those above 0, and none of a short.
+pub fn long(position: i64) -> u64
+    ensures { result ≡ long position }
+{
+    if position > 0 { position as u64 } else { 0 }
+}
+
 /// What stands at a key. A key without a holding counts as zeros.
 #[derive(Clone, Copy, Debug, PartialEq, Eq)]
 pub struct Holding {
@@ -73,8 +82,12 @@ pub struct Holding {
     pub opening: i64,
     /// The cents booked on the open day: since the last close, and by it for trades that were due.
     pub contract: i128,
-    /// The age of a short: at how many closes in a row, up to the last, the position was below 0.
+    /// The age of a short: at how many closes in a row, up to the last, the position was below 0, there or in an issue that
+    /// was exchanged for this one.
     pub run: u32,
+    /// The greatest age that the exchanges of the open day brought. The next close counts on from it where it is greater
+    /// than the age.
+    pub carried: u32,
 }
 
 impl Holding {
@@ -84,7 +97,16 @@ impl Holding {
         opening: 0,
         contract: 0,
         run: 0,
+        carried: 0,
     };
+
+    /// The age to which the next close adds itself, where the position is below 0 then: the greater of the age at the last
+    /// close and of what exchanges brought since (this project's profile).
+    pub fn oldest(&self) -> u32
+        ensures { result ≡ oldest_of self.entry.now }
+    {
+        self.run.max(self.carried)
+    }
 
     /// Whether both are the same value. `==` answers so too; this clause speaks of the values themselves.
     pub fn is_same(&self, other: &Holding) -> bool

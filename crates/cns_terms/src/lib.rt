@@ -9,6 +9,7 @@
 //!             issue 037833100 -+                opening   position at the last close
 //!                                               contract  cents booked on the open day
 //!                                               run       age of a short: closes in a row at which it was short
+//!                                               carried   greatest age that the day's exchanges brought there
 //!
 //! day         opening date            CLOSE names the next date        CLOSE
 //!             |                       |                                |
@@ -49,7 +50,7 @@ pub use command::{Activity, Command, Listing, Movement, Trade};
 pub use fault::NoMemory;
 pub use gate::{Gate, NoGate};
 pub use history::Taken;
-pub use holding::{Entry, Holding, Key, POSITION_LIMIT};
+pub use holding::{Entry, Holding, Key, POSITION_LIMIT, long};
 pub use pend::Pend;
 pub use refusal::Refusal;
 pub use reply::{Closed, Held, Reply, Stated};

@@ -3,12 +3,12 @@ ghost use Rattle.std.specs.Prelude.{◌≡◌, ◌≤◌, ◌<◌, ◌+◌, ◌+
 ghost use Rattle.std.specs.Option.{ForSome};
 ghost use Rattle.cns_terms.specs.Limits.{corporation_limit, position_limit, shares_limit};
 ghost use Rattle.cns_terms.specs.Refusals.{is_beyond};
-ghost use Rattle.cns_terms.specs.Sums.{long, short};
+ghost use Rattle.cns_terms.specs.Sums.{short};
 ghost use Rattle.cns_trades.specs.Checks.{AreSmallEntries, book_answer, waits_beyond};
 ghost use Rattle.cns_trades.specs.Sides.{sides_of};
 
 use crate::sides::Sides;
-use cns_terms::{Entry, POSITION_LIMIT, Pend, Refusal};
+use cns_terms::{Entry, POSITION_LIMIT, Pend, Refusal, long};
 
 // Whether shares with those that wait are more than a member may have on one side.
 fn exceeds(shares: u64, waiting: u128) -> bool
@@ -26,17 +26,7 @@ pub fn is_beyond(position: i64, waiting: &Sides) -> bool
     exceeds(long(position), waiting.bought) || exceeds(short(position), waiting.sold)
 }
 
-// How much a position is above 0.
-fn long(position: i64) -> u64
-    ensures { result ≡ long position }
-{
-    if position > 0 {
-        return position as u64;
-    }
-    0
-}
-
-// How much it is below 0.
+// How much a position is below 0.
 fn short(position: i64) -> u64
     ensures { result ≡ short position }
 {

@@ -6,7 +6,7 @@ ghost use Rattle.cns_terms.specs.declared.holding.Key.{Key};
 ghost use Rattle.cns_terms.specs.Entries.{entries};
 ghost use Rattle.cns_terms.specs.Refusals.{first_refusal, is_too_large};
 ghost use Rattle.cns_positions.specs.Rows.{books, holding_at};
-ghost use Rattle.cns_actions.specs.Booked.{IsForAnother};
+ghost use Rattle.cns_actions.specs.Booked.{IsForAnother, age_brought, with_age};
 ghost use Rattle.cns_actions.specs.declared.fault.ActionFault.TheVariants as fault;
 ghost use Rattle.cns_book.specs.Effects.{activity_of, exchange_rules, is_held_up};
 ghost use Rattle.cns_book.specs.Follows.{Answers, HasRoom, Shows};
@@ -29,13 +29,14 @@ impl<P: Positions<A>, A: Allocator + Drop + Clone> Parts<P, A> {
             × (is_held_up self.now.opening J action.now ≡ true))) }
         ensures booked { IfOk result
             (λ p. Shows self.now
-            (λ J. (k : Key) → holding_at (P.rows p) k
-            ≡ books (entries self.now.opening J (activity_of action.now)) k (holding_at self.now.rows k))) }
+            (λ J. (k : Key) → holding_at (P.rows p) k ≡ with_age (age_brought self.now.rows action.now k)
+            (books (entries self.now.opening J (activity_of action.now)) k (holding_at self.now.rows k)))) }
     {
         next_positions(&self.alloc, &self.positions, action, self.trades.waiting())
     }
 
-    /// SPLIT. Trades that wait stay as they were made. The new positions are made beside the old ones, and take their place at once; the notices of the issue end.
+    /// SPLIT. The new positions are made beside the old ones, and take their place at once; the notices of the issue
+    /// end. Trades that wait stay as they were made.
     pub fn split(&mut self, split: &Split) -> Result<Reply, NoMemory>
         requires { HasRoom self.old }
         ensures opening { self.new.opening ≡ self.old.opening }
@@ -76,8 +77,8 @@ impl<P: Positions<A>, A: Allocator + Drop + Clone> Parts<P, A> {
         None
     }
 
-    /// EXCHANGE. The new positions are made beside the old ones, and take their place at once; then
-    /// the old issue is retired, and its notices end.
+    /// EXCHANGE. The new positions, with the ages that the successor takes over, are made beside the old ones, and take
+    /// their place at once; then the old issue is retired, and its notices end.
     pub fn exchange(&mut self, exchange: &Exchange) -> Result<Reply, NoMemory>
         requires { HasRoom self.old }
         ensures opening { self.new.opening ≡ self.old.opening }

@@ -10,7 +10,7 @@ ghost use Rattle.cns_notices.specs.Noticed.{notice_at};
 ghost use Rattle.cns_retransmit.specs.Calls.{called_in, shorts_in, total_in};
 ghost use Rattle.cns_retransmit.specs.Days.{RiseByIssue};
 ghost use Rattle.cns_book.specs.Follows.{HasRoom, Shows};
-ghost use Rattle.cns_book.specs.Retransmittal.{called_by, remaining_by, run_at, short_in, with_shorts};
+ghost use Rattle.cns_book.specs.Retransmittal.{called_by, oldest_at, remaining_by, short_in, with_shorts};
 
 use crate::parts::Parts;
 use cns_positions::Positions;
@@ -79,7 +79,7 @@ impl<P: Positions<A>, A: Allocator + Drop + Clone> Parts<P, A> {
         requires few { AllByRecursion (λ r. unsigned_abs r.closing ≤ corporation_limit) rows }
         ensures { OnOk result
             ((c : Cusip) → called_in calls.new c
-            ≡ option_map (with_shorts (filter_map (short_in (run_at self.now.rows) c) rows.entry))
+            ≡ option_map (with_shorts (filter_map (short_in (oldest_at self.now.rows) c) rows.entry))
             (called_in calls.old c)) }
     {
         for row in rows {
@@ -98,7 +98,7 @@ impl<P: Positions<A>, A: Allocator + Drop + Clone> Parts<P, A> {
                 Short {
                     member,
                     shares: row.closing.unsigned_abs(),
-                    age: holding.run + 1,
+                    age: holding.oldest() + 1,
                 },
             )?;
         }

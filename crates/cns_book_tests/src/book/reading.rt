@@ -96,6 +96,7 @@ const SHORT: Holding = Holding {
     opening: -100,
     contract: 0,
     run: 1,
+    carried: 0,
 };
 
 // What a member holds.

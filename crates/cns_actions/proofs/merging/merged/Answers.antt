@@ -1,11 +1,12 @@
 use Rattle.std.proofs.Common.{◌∙◌, sym, ap, subst, None}
 use Rattle.std.specs.List.{AllByRecursion}
-use Rattle.cns_positions.specs.Rows.{books, held_above}
-use Rattle.cns_actions.specs.Merging.{HasSpace, IsMerged}
+use Rattle.cns_positions.specs.Rows.{held_above}
+use Rattle.cns_positions.proofs.Unheld.{held_same, held_sorted}
+use Rattle.cns_actions.specs.Merging.{HasSpace, IsMerged, makes}
 use Rattle.cns_actions.proofs.Merges.{merged_at, merged_done, merged_sorted}
 use Rattle.cns_actions.specs.Turns.{turned, turned_rows}
 use Rattle.cns_actions.proofs.Turning.{sorted_turned, space_turned, turned_at}
-use Rattle.cns_actions.proofs.Walking.{each_held, held_same, held_sorted}
+use Rattle.cns_actions.proofs.Walking.{each_held}
 use Rattle.cns_actions.proofs.merging.merged.Goals as goal
 
 pub invariant_of-merge : goal.invariant_of-merge
@@ -18,17 +19,17 @@ invariant_of-merge g c = record {
 pub returns-clause-booked : goal.returns-clause-booked
 returns-clause-booked g c =
     let R = g.P.Positions.rows c.args.positions.now in
-    let es = c.args.entries.now in
+    let bs = c.args.bookings.now in
     let l = c.loop-row in
     let read = turned_rows c.args.turn (held_above R None) in
-    let done : IsMerged read es l.rows.items = merged_done read l.merge.rows l.rows.items es l.merge.entries l.invariant c.in_default.ensures.next.0 c.in_default.ensures.next.1 in
-    λ k. merged_at k done c.requires.rise ∙ ap (books es k) (turned_at c.args.turn (held_above R None) k ∙ ap (turned c.args.turn) (held_same R k c.new.ensures.order))
+    let done : IsMerged read bs l.rows.items = merged_done read l.merge.rows l.rows.items bs l.merge.bookings l.invariant c.in_default.ensures.next.0 c.in_default.ensures.next.1 in
+    λ k. merged_at k done c.requires.rise ∙ ap (makes bs k) (turned_at c.args.turn (held_above R None) k ∙ ap (turned c.args.turn) (held_same R k c.new.ensures.order))
 
 pub returns-clause-order : goal.returns-clause-order
 returns-clause-order g c =
     let R = g.P.Positions.rows c.args.positions.now in
-    let es = c.args.entries.now in
+    let bs = c.args.bookings.now in
     let l = c.loop-row in
     let read = turned_rows c.args.turn (held_above R None) in
-    let done : IsMerged read es l.rows.items = merged_done read l.merge.rows l.rows.items es l.merge.entries l.invariant c.in_default.ensures.next.0 c.in_default.ensures.next.1 in
+    let done : IsMerged read bs l.rows.items = merged_done read l.merge.rows l.rows.items bs l.merge.bookings l.invariant c.in_default.ensures.next.0 c.in_default.ensures.next.1 in
     merged_sorted done (sorted_turned c.args.turn (held_above R None) ∙ held_sorted R c.new.ensures.order) c.requires.rise

@@ -1,6 +1,12 @@
-use Rattle.std.proofs.Common.{◌≡◌, ◌∙◌, sym, refl, Bool, true, false}
+use Rattle.std.proofs.Common.{◌≡◌, ◌∙◌, sym, ap, refl, Bool, true, false}
+use Rattle.cns_terms.specs.Entries.{corporation}
+use Rattle.cns_terms.specs.Holdings.{oldest_of}
 use Rattle.cns_positions.specs.Rows.{holding_at}
-use Rattle.cns_actions.proofs.Booking.{same_books, same_large}
+use Rattle.cns_actions.specs.Booked.{issue_of}
+use Rattle.cns_actions.specs.Changes.{all_bookings, all_holders_of}
+use Rattle.cns_actions.specs.Merging.{makes}
+use Rattle.cns_actions.proofs.BookingLimits.{same_large}
+use Rattle.cns_actions.proofs.BookingSums.{same_makes}
 use Rattle.cns_actions.proofs.next.next_positions.Goals as goal
 
 clash : (b : Bool) → b ≡ true → b ≡ false → ⊥
@@ -42,7 +48,8 @@ returns-in-Ok-clause-pending g c = λ ms are. ((λ h. cc), (λ h. absurd (clash 
 pub returns-in-Ok-clause-booked : goal.returns-in-Ok-clause-booked
 returns-in-Ok-clause-booked g c = λ ms are k.
     let R = g.P.Positions.rows c.args.positions.now in
-    c.in-Ok.ensures.booked k ∙ same_books R c.sum_of.ensures.order c.args.action.now ms are k (holding_at R k)
+    let x = c.args.action.now in
+    c.in-Ok.ensures.booked k ∙ ap (λ s. makes (all_bookings x s (oldest_of (holding_at R (record { account = corporation; issue = issue_of x }))) (all_holders_of x R)) k (holding_at R k)) c.in-Some.ensures.sum ∙ same_makes R c.sum_of.ensures.order x ms are k (holding_at R k)
 
 pub returns-in-Err-clause-too_large : goal.returns-in-Err-clause-too_large
 returns-in-Err-clause-too_large g c = λ ms are.

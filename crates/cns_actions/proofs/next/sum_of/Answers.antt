@@ -4,8 +4,8 @@ use Rattle.cns_terms.proofs.Facts.{zero_add}
 use Rattle.cns_positions.specs.Rows.{held_above}
 use Rattle.cns_units.specs.declared.cusip.Cusip.{Cusip}
 use Rattle.cns_actions.specs.declared.change.Change.{Change}
-use Rattle.cns_actions.specs.Changes.{holders_in, sum_of, takes_beyond}
-use Rattle.cns_actions.proofs.Summing.{all_left, beyond_found, fits_next, next_within, plus, sum_next, up_first, up_next}
+use Rattle.cns_actions.specs.Changes.{has_position, holders_in, sum_of, takes_beyond}
+use Rattle.cns_actions.proofs.Summing.{beyond_found, fits_next, next_kept, next_within, plus, positions_left, sum_next, up_first, up_next}
 use Rattle.cns_actions.proofs.next.sum_of.Goals as goal
 
 pub loop-holder-init : goal.loop-holder-init
@@ -14,9 +14,9 @@ loop-holder-init g c =
     let x = c.args.action.now in
     let ps = c.args.pending.now in
     let i = c.issue_of-issue.result in
-    let s = sum_of x (holders_in i (held_above R None)) in
+    let s = sum_of x (holders_in has_position i (held_above R None)) in
     let none : Change = record { before = pos 0; after = pos 0; cents = pos 0 } in
-    let same = sym (all_left R i) in
+    let same = sym (positions_left R i) in
     record {
       up = up_first R i c.requires c.in_order.ensures;
       sum = (λ j. record { before = sym (zero_add s.before) j; after = sym (zero_add s.after) j; cents = sym (zero_add s.cents) j }) ∙ ap (λ hs. plus none (sum_of x hs)) same;
@@ -26,7 +26,7 @@ loop-holder-init g c =
 pub takes_beyond-requires-clause-within : goal.takes_beyond-requires-clause-within
 takes_beyond-requires-clause-within g c =
     let l = c.loop-holder in
-    next_within l.sum _ l.invariant.up c.in-Some.holder _ c.in-Some.ensures.next (g.P.Positions.rows c.args.positions.now) c.requires
+    next_within l.sum _ l.invariant.up c.in-Some.holder _ (next_kept _ c.in-Some.holder _ c.in-Some.ensures.next (sym c.has_position.ensures ∙ c.if-not-has_position.false)) (g.P.Positions.rows c.args.positions.now) c.requires
 
 pub returns-then-takes_beyond-clause-large : goal.returns-then-takes_beyond-clause-large
 returns-then-takes_beyond-clause-large g c =
@@ -34,8 +34,8 @@ returns-then-takes_beyond-clause-large g c =
     let x = c.args.action.now in
     let ps = c.args.pending.now in
     let l = c.loop-holder in
-    ap (λ (i : Cusip). list_any (takes_beyond R ps x) (holders_in i (held_above R None))) (sym c.issue_of-issue.ensures)
-    ∙ beyond_found (takes_beyond R ps x) _ _ _ _ _ c.in-Some.ensures.next l.invariant.fits (sym c.takes_beyond.ensures) c.if-takes_beyond.true
+    ap (λ (i : Cusip). list_any (takes_beyond R ps x) (holders_in has_position i (held_above R None))) (sym c.issue_of-issue.ensures)
+    ∙ beyond_found (takes_beyond R ps x) _ _ _ _ _ (next_kept _ c.in-Some.holder _ c.in-Some.ensures.next (sym c.has_position.ensures ∙ c.if-not-has_position.false)) l.invariant.fits (sym c.takes_beyond.ensures) c.if-takes_beyond.true
 
 pub loop-holder-preserved : goal.loop-holder-preserved
 loop-holder-preserved g c =
@@ -44,7 +44,7 @@ loop-holder-preserved g c =
     let ps = c.args.pending.now in
     let l = c.loop-holder in
     let h = c.in-Some.holder in
-    let first = c.in-Some.ensures.next in
+    let first = next_kept _ h _ c.in-Some.ensures.next (sym c.has_position.ensures ∙ c.if-not-has_position.false) in
     let d = c.of-change in
     let e = c.add.ensures in
     record {

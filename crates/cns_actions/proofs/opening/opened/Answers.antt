@@ -1,10 +1,11 @@
 use Rattle.std.proofs.Common.{◌≡◌, ◌∙◌, ap, subst, IfOk, List}
-use Rattle.cns_terms.specs.declared.holding.Entry.{Entry}
 use Rattle.cns_terms.specs.declared.holding.Holding.{Holding}
 use Rattle.cns_terms.specs.declared.holding.Key.{Key}
 use Rattle.cns_positions.specs.Rows.{Rows, books, holding_at, rolled}
+use Rattle.cns_actions.specs.declared.booking.Booking.{Booking}
 use Rattle.cns_actions.specs.DueAmounts.{due_entries}
-use Rattle.cns_actions.proofs.Booking.{has_space}
+use Rattle.cns_actions.specs.Merging.{makes}
+use Rattle.cns_actions.proofs.BookingOrder.{has_space}
 use Rattle.cns_actions.proofs.opening.opened.Goals as goal
 
 pub merged-requires-clause-space : goal.merged-requires-clause-space
@@ -14,5 +15,5 @@ pub returns-clause-booked : goal.returns-clause-booked
 returns-clause-booked g c =
     let R = g.P.Positions.rows c.args.positions.now in
     let same : (k : Key) → holding_at c.as_slice-2.result.now k ≡ books (due_entries c.args.next c.args.pending.now) k (rolled (holding_at R k)) = λ k.
-    ap (λ (rs : Rows). holding_at rs k) c.as_slice-2.ensures.value ∙ c.in_ok-rows.ensures.booked k ∙ ap (λ (es : List Entry). books es k (rolled (holding_at R k))) c.as_slice.ensures.value ∙ c.in_ok-entries.ensures.same k (rolled (holding_at R k)) in
+    ap (λ (rs : Rows). holding_at rs k) c.as_slice-2.ensures.value ∙ c.in_ok-rows.ensures.booked k ∙ ap (λ (bs : List Booking). makes bs k (rolled (holding_at R k))) c.as_slice.ensures.value ∙ c.in_ok-bookings.ensures.same k (rolled (holding_at R k)) in
     subst (λ (f : Key → Holding). IfOk c.rebuilt.result (λ p. (k : Key) → holding_at (g.P.Positions.rows p) k ≡ f k)) (λ i k. same k i) c.rebuilt.ensures.rows

@@ -3,7 +3,8 @@ use Rattle.std.specs.FinMap.{is_sorted}
 use Rattle.cns_terms.specs.Keys.{key_cmp}
 use Rattle.cns_actions.specs.Turns.{turned_rows}
 use Rattle.cns_actions.proofs.Turning.{sorted_turned}
-use Rattle.cns_actions.proofs.Walking.{ahead_sorted, held_sorted}
+use Rattle.cns_positions.proofs.Unheld.{held_sorted}
+use Rattle.cns_actions.proofs.Walking.{ahead_sorted}
 use Rattle.cns_actions.proofs.walk.Ahead.new.Goals as goal
 
 pub invariant_of-result : goal.invariant_of-result

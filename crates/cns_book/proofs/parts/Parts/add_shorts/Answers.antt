@@ -2,11 +2,11 @@ use Rattle.std.proofs.Common.{◌≡◌, ◌∙◌, ◌+◌, ◌≤◌, ◌++◌
 use Rattle.std.specs.Prelude.{int_lt, unsigned_abs}
 use lib.Signed.{le_z}
 use Rattle.std.specs.List.{AllByRecursion}
-use Rattle.cns_terms.specs.declared.holding.Holding.{Holding}
 use Rattle.cns_terms.specs.declared.sheet.Row.{Row}
+use Rattle.cns_terms.specs.Holdings.{oldest_of}
 use Rattle.cns_terms.specs.Limits.{corporation_limit}
 use Rattle.cns_retransmit.specs.Calls.{called_in}
-use Rattle.cns_book.specs.Retransmittal.{run_at}
+use Rattle.cns_book.specs.Retransmittal.{oldest_at}
 use Rattle.cns_book.proofs.RetransmittalShorts.{ages_fit, below_zero, not_below, not_below_zero, not_member, no_member, read_back, row_given, row_passed, short_is, some_member, uncalled_row}
 use Rattle.cns_book.proofs.parts.Parts.add_shorts.Goals as goal
 use Rattle.cns_book.proofs.parts.Parts.add_shorts.Goals.{then-row-ge0-via-then-row-ge0, then-row-ge0-via-else-row-ge0+then-not-is_called}
@@ -29,7 +29,7 @@ loop-row-preserved-then-row-ge0 g c =
     record {
       left = onward _ _ _ _ _ kept.left c.in-Some.ensures.steps;
       few = few.1;
-      shorts = row_passed (run_at s.rows) (called_in c.args.calls.now) (called_in c.loop-row.calls) c.loop-row.yielded r kept.shorts
+      shorts = row_passed (oldest_at s.rows) (called_in c.args.calls.now) (called_in c.loop-row.calls) c.loop-row.yielded r kept.shorts
           (elim c.then-row-ge0.branch [
             | then-row-ge0-via-then-row-ge0 w ↦ λ d is. absurd (not_below q d r refl (not_below_zero q (subst (λ z. le_z (pos 0) z ≡ true) (read_back q few.0) w.if-row-ge0.true)) is)
             | then-row-ge0-via-else-row-ge0+then-not-is_called w ↦ uncalled_row (called_in c.loop-row.calls) r (sym w.is_called.ensures ∙ w.if-not-is_called.true)
@@ -46,13 +46,13 @@ loop-row-preserved-in_default g c =
     record {
       left = onward _ _ _ _ _ kept.left c.in-Some.ensures.steps;
       few = few.1;
-      shorts = row_passed (run_at s.rows) (called_in c.args.calls.now) (called_in c.loop-row.calls) c.loop-row.yielded r kept.shorts (λ d is. absurd (not_member d r (rw c.value.ensures.value at none) is));
+      shorts = row_passed (oldest_at s.rows) (called_in c.args.calls.now) (called_in c.loop-row.calls) c.loop-row.yielded r kept.shorts (λ d is. absurd (not_member d r (rw c.value.ensures.value at none) is));
     }
 
-pub overflow_add-holding : goal.overflow_add-holding
-overflow_add-holding g c =
+pub overflow_add-oldest : goal.overflow_add-oldest
+overflow_add-oldest g c =
     let few = ages_fit c.args.self.now c.requires.room (record { account = c.in-Some.row.account; issue = c.in-Some.row.issue }) c.holding-holding.result c.holding-holding.ensures.value in
-    omega (arith, few)
+    omega (arith, few, c.oldest.ensures)
 
 pub loop-row-preserved : goal.loop-row-preserved
 loop-row-preserved g c =
@@ -64,10 +64,10 @@ loop-row-preserved g c =
     let member = some_member c.new.result _ c.value.result c.in-Ok.member c.new.ensures c.in-Ok.is in
     let below : int_lt q (pos 0) ≡ true = below_zero q (subst (λ z. le_z (pos 0) z ≡ false) (read_back q few.0) c.if-row-ge0.false) in
     let shares = c.unsigned_abs.ensures.value ∙ ap unsigned_abs (read_back q few.0) ∙ short_is q below in
-    let age = ap (λ (h : Holding). h.run + 1) c.holding-holding.ensures.now in
+    let age = ap (λ n. n + 1) (c.oldest.ensures ∙ ap oldest_of c.holding-holding.ensures.now) in
     record {
       left = onward _ _ _ _ _ kept.left c.in-Some.ensures.steps;
       few = few.1;
-      shorts = row_given (run_at s.rows) (called_in c.args.calls.now) (called_in c.loop-row.calls) (called_in c.short.new.self) c.loop-row.yielded r _ kept.shorts (rw c.value.ensures.value at member.0) below
+      shorts = row_given (oldest_at s.rows) (called_in c.args.calls.now) (called_in c.loop-row.calls) (called_in c.short.new.self) c.loop-row.yielded r _ kept.shorts (rw c.value.ensures.value at member.0) below
           (λ i. record { member = (member.1 ∙ c.value.ensures.value) i; shares = shares i; age = age i }) c.in_ok-short.ensures.ok;
     }

@@ -3,7 +3,7 @@ use Rattle.std.specs.Prelude.{unsigned_abs}
 use Rattle.std.specs.List.{AllByRecursion}
 use Rattle.cns_terms.specs.Limits.{corporation_limit}
 use Rattle.cns_retransmit.specs.Calls.{called_in}
-use Rattle.cns_book.specs.Retransmittal.{run_at}
+use Rattle.cns_book.specs.Retransmittal.{oldest_at}
 use Rattle.cns_book.proofs.RetransmittalShorts.{HasShorts}
 use Rattle.cns_book.proofs.parts.Parts.add_shorts.Given as goal
 
@@ -11,5 +11,5 @@ abbrev pub invariant-loop-row : goal.invariant-loop-row
 invariant-loop-row g l = record {
   left : l.initial.row-iterator ≡ l.yielded ++ l.row-iterator;
   few : AllByRecursion (λ r. unsigned_abs r.closing ≤ corporation_limit) l.row-iterator;
-  shorts : HasShorts (run_at l.self.rows) (called_in l.initial.calls) (called_in l.calls) l.yielded;
+  shorts : HasShorts (oldest_at l.self.rows) (called_in l.initial.calls) (called_in l.calls) l.yielded;
 }

@@ -1,4 +1,4 @@
-use Rattle.std.proofs.Common.{◌≡◌, ◌∙◌, sym, ap, subst, refl, None, Some, Ok}
+use Rattle.std.proofs.Common.{◌∙◌, sym, ap, subst, refl, None, Some, Ok}
 use Rattle.cns_terms.specs.declared.command.Activity.TheVariants as activity
 use Rattle.cns_terms.specs.declared.command.Command.TheVariants as command
 use Rattle.cns_terms.specs.declared.reply.Reply.TheVariants as reply
@@ -7,11 +7,11 @@ use Rattle.cns_terms.specs.Entries.{trade_entries}
 use Rattle.cns_terms.specs.Pending.{is_due, pend_of}
 use Rattle.cns_terms.specs.Refusals.{first_refusal}
 use Rattle.cns_positions.specs.Rows.{books}
-use Rattle.cns_trades.specs.Checks.{AreSmallEntries, booking, trade_answer, trade_rules}
+use Rattle.cns_trades.specs.Checks.{AreSmallEntries, booking, trade_rules}
 use Rattle.cns_trades.specs.Used.{is_used}
 use Rattle.cns_book.specs.Follows.{Follows, HasRoom}
 use Rattle.cns_book.proofs.MachineSteps.{accepted, refused, stopped}
-use Rattle.cns_book.proofs.TradingSteps.{answer_err, answer_ok, same_rows, told_later, told_now, trade_booked, trade_refusal, trade_waits}
+use Rattle.cns_book.proofs.TradingSteps.{answer_err, same_rows, told_later, told_now, trade_booked, trade_refusal, trade_taken, trade_waits}
 use Rattle.cns_book.proofs.PartsWithin.{rows_within, same_within}
 use Rattle.cns_book.proofs.parts.Parts.book_trade.Goals as goal
 
@@ -29,60 +29,36 @@ returns-in-Err-clause-step g c L f =
 pub returns-in_err-pend-in-Ok-None-clause-step : goal.returns-in_err-pend-in-Ok-None-clause-step
 returns-in_err-pend-in-Ok-None-clause-step g c L f =
     let f' = subst (Follows L) (sym c.self.view_is) f in
-    let o = c.self.inside.opening in
     let t = c.args.trade.now in
-    let facts = c.trade_facts-facts.result in
     let are = rw (← c.self.view_is) at (c.trade_facts-facts.ensures.facts L f) in
-    let seen = is_used c.self.inside.trades.references t.reference in
-    let ps = c.self.inside.trades.pending in
-    let answered : Ok None ≡ trade_answer facts ps seen t = sym (c.in-Ok-None.is ∙ ap Ok c.in-Ok-None.field-0-is) ∙ c.check_trade.ensures.answer in
-    let done = answer_ok (first_refusal (trade_rules facts ps seen t)) (booking facts.today (pend_of t)) None answered in
-    let none = trade_refusal L o t facts seen ps are (f'.references t.reference) f'.pending ∙ done.0 in
-    stopped L (command.Activity (activity.Trade t)) c.from_residual.result c.from_residual.ensures.0 none (rw c.in_err-pend-in-Ok-None.ensures.err f')
+    let taken = trade_taken L _ t c.trade_facts-facts.result None f' are (sym (c.in-Ok-None.is ∙ ap Ok c.in-Ok-None.field-0-is) ∙ c.check_trade.ensures.answer) in
+    stopped L (command.Activity (activity.Trade t)) c.from_residual.result c.from_residual.ensures.0 taken.0 (rw c.in_err-pend-in-Ok-None.ensures.err f')
 
 pub returns-in-Ok-None-clause-step : goal.returns-in-Ok-None-clause-step
 returns-in-Ok-None-clause-step g c L f =
     let f' = subst (Follows L) (sym c.self.view_is) f in
-    let o = c.self.inside.opening in
     let t = c.args.trade.now in
-    let facts = c.trade_facts-facts.result in
     let are = rw (← c.self.view_is) at (c.trade_facts-facts.ensures.facts L f) in
-    let seen = is_used c.self.inside.trades.references t.reference in
-    let ps = c.self.inside.trades.pending in
-    let answered : Ok None ≡ trade_answer facts ps seen t = sym (c.in-Ok-None.is ∙ ap Ok c.in-Ok-None.field-0-is) ∙ c.check_trade.ensures.answer in
-    let done = answer_ok (first_refusal (trade_rules facts ps seen t)) (booking facts.today (pend_of t)) None answered in
-    let none = trade_refusal L o t facts seen ps are (f'.references t.reference) f'.pending ∙ done.0 in
-    let later = ap (is_not_after t.date) (sym are.today) ∙ told_later (is_due facts.today (pend_of t)) (trade_entries (pend_of t)) done.1 in
-    accepted L (activity.Trade t) reply.Accepted none refl
-    (trade_waits L _ t c.pend.new.self f' c.value.ensures.range none later c.in_ok-pend-in-Ok-None.ensures.references c.in_ok-pend-in-Ok-None.ensures.pending)
+    let taken = trade_taken L _ t c.trade_facts-facts.result None f' are (sym (c.in-Ok-None.is ∙ ap Ok c.in-Ok-None.field-0-is) ∙ c.check_trade.ensures.answer) in
+    let later = ap (is_not_after t.date) (sym are.today) ∙ told_later (is_due c.trade_facts-facts.result.today (pend_of t)) (trade_entries (pend_of t)) taken.1 in
+    accepted L (activity.Trade t) reply.Accepted taken.0 refl
+    (trade_waits L _ t c.pend.new.self f' c.value.ensures.range taken.0 later c.in_ok-pend-in-Ok-None.ensures.references c.in_ok-pend-in-Ok-None.ensures.pending)
 
 pub returns-in_err-prepare-clause-step : goal.returns-in_err-prepare-clause-step
 returns-in_err-prepare-clause-step g c L f =
     let f' = subst (Follows L) (sym c.self.view_is) f in
-    let o = c.self.inside.opening in
     let t = c.args.trade.now in
-    let facts = c.trade_facts-facts.result in
     let are = rw (← c.self.view_is) at (c.trade_facts-facts.ensures.facts L f) in
-    let seen = is_used c.self.inside.trades.references t.reference in
-    let ps = c.self.inside.trades.pending in
-    let answered : Ok (Some c.in-Ok-Some.entries) ≡ trade_answer facts ps seen t = sym (c.in-Ok-Some.is ∙ ap Ok c.in-Ok-Some.field-0-is) ∙ c.check_trade.ensures.answer in
-    let done = answer_ok (first_refusal (trade_rules facts ps seen t)) (booking facts.today (pend_of t)) (Some c.in-Ok-Some.entries) answered in
-    let none = trade_refusal L o t facts seen ps are (f'.references t.reference) f'.pending ∙ done.0 in
-    stopped L (command.Activity (activity.Trade t)) c.from_residual-in_err-prepare.result c.from_residual-in_err-prepare.ensures.0 none (same_rows L _ _ f' c.in_err-prepare.ensures.same)
+    let taken = trade_taken L _ t c.trade_facts-facts.result (Some c.in-Ok-Some.entries) f' are (sym (c.in-Ok-Some.is ∙ ap Ok c.in-Ok-Some.field-0-is) ∙ c.check_trade.ensures.answer) in
+    stopped L (command.Activity (activity.Trade t)) c.from_residual-in_err-prepare.result c.from_residual-in_err-prepare.ensures.0 taken.0 (same_rows L _ _ f' c.in_err-prepare.ensures.same)
 
 pub returns-in_err-note_reference-clause-step : goal.returns-in_err-note_reference-clause-step
 returns-in_err-note_reference-clause-step g c L f =
     let f' = subst (Follows L) (sym c.self.view_is) f in
-    let o = c.self.inside.opening in
     let t = c.args.trade.now in
-    let facts = c.trade_facts-facts.result in
     let are = rw (← c.self.view_is) at (c.trade_facts-facts.ensures.facts L f) in
-    let seen = is_used c.self.inside.trades.references t.reference in
-    let ps = c.self.inside.trades.pending in
-    let answered : Ok (Some c.in-Ok-Some.entries) ≡ trade_answer facts ps seen t = sym (c.in-Ok-Some.is ∙ ap Ok c.in-Ok-Some.field-0-is) ∙ c.check_trade.ensures.answer in
-    let done = answer_ok (first_refusal (trade_rules facts ps seen t)) (booking facts.today (pend_of t)) (Some c.in-Ok-Some.entries) answered in
-    let none = trade_refusal L o t facts seen ps are (f'.references t.reference) f'.pending ∙ done.0 in
-    stopped L (command.Activity (activity.Trade t)) c.from_residual-in_err-note_reference.result c.from_residual-in_err-note_reference.ensures.0 none
+    let taken = trade_taken L _ t c.trade_facts-facts.result (Some c.in-Ok-Some.entries) f' are (sym (c.in-Ok-Some.is ∙ ap Ok c.in-Ok-Some.field-0-is) ∙ c.check_trade.ensures.answer) in
+    stopped L (command.Activity (activity.Trade t)) c.from_residual-in_err-note_reference.result c.from_residual-in_err-note_reference.ensures.0 taken.0
     (rw c.in_err-note_reference.ensures.err (same_rows L _ _ f' c.in_ok-prepare.ensures.same))
 
 pub book-requires-clause-rows : goal.book-requires-clause-rows
@@ -91,18 +67,12 @@ book-requires-clause-rows g c = same_within _ _ c.in_ok-prepare.ensures.same (ro
 pub returns-clause-step : goal.returns-clause-step
 returns-clause-step g c L f =
     let f' = subst (Follows L) (sym c.self.view_is) f in
-    let o = c.self.inside.opening in
     let t = c.args.trade.now in
-    let facts = c.trade_facts-facts.result in
     let are = rw (← c.self.view_is) at (c.trade_facts-facts.ensures.facts L f) in
-    let seen = is_used c.self.inside.trades.references t.reference in
-    let ps = c.self.inside.trades.pending in
-    let answered : Ok (Some c.in-Ok-Some.entries) ≡ trade_answer facts ps seen t = sym (c.in-Ok-Some.is ∙ ap Ok c.in-Ok-Some.field-0-is) ∙ c.check_trade.ensures.answer in
-    let done = answer_ok (first_refusal (trade_rules facts ps seen t)) (booking facts.today (pend_of t)) (Some c.in-Ok-Some.entries) answered in
-    let none = trade_refusal L o t facts seen ps are (f'.references t.reference) f'.pending ∙ done.0 in
-    let told = told_now (is_due facts.today (pend_of t)) (trade_entries (pend_of t)) c.in-Ok-Some.entries done.1 in
+    let taken = trade_taken L _ t c.trade_facts-facts.result (Some c.in-Ok-Some.entries) f' are (sym (c.in-Ok-Some.is ∙ ap Ok c.in-Ok-Some.field-0-is) ∙ c.check_trade.ensures.answer) in
+    let told = told_now (is_due c.trade_facts-facts.result.today (pend_of t)) (trade_entries (pend_of t)) c.in-Ok-Some.entries taken.1 in
     let now = ap (is_not_after t.date) (sym are.today) ∙ told.0 in
     let small = subst AreSmallEntries told.1 (c.in-Ok-Some.ensures.small c.in-Ok-Some.entries c.in-Ok-Some.field-0-is) in
-    accepted L (activity.Trade t) reply.Accepted none refl
-    (trade_booked L _ t c.note_reference.new.self (g.P.Positions.rows c.book.new.positions) f' small.1.0.cents none now c.in_ok-note_reference.ensures.ok c.note_reference.ensures.pending
+    accepted L (activity.Trade t) reply.Accepted taken.0 refl
+    (trade_booked L _ t c.note_reference.new.self (g.P.Positions.rows c.book.new.positions) f' small.1.0.cents taken.0 now c.in_ok-note_reference.ensures.ok c.note_reference.ensures.pending
     (λ k. c.book.ensures k ∙ (λ i. books (told.1 i) k (c.in_ok-prepare.ensures.same k i))))

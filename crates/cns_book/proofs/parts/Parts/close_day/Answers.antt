@@ -10,7 +10,7 @@ use Rattle.cns_terms.specs.Entries.{journal}
 use Rattle.cns_terms.specs.Fills.{batches_since}
 use Rattle.cns_terms.specs.declared.refusal.Refusal.TheVariants.{WrongDay}
 use Rattle.cns_terms.specs.Pending.{is_due as due_on}
-use Rattle.cns_terms.specs.Refusals.{first_refusal, rules}
+use Rattle.cns_terms.specs.Refusals.{first_refusal}
 use Rattle.cns_terms.specs.Sheets.{day_sheet}
 use Rattle.cns_sheets.specs.Build.{prices_of}
 use Rattle.cns_sheets.specs.Condition.{CanBePaid, IsReady}
@@ -18,8 +18,8 @@ use Rattle.cns_sheets.specs.Payments.{IsCut}
 use Rattle.cns_book.specs.Contents.{Contents}
 use Rattle.cns_book.specs.Dated.{last_dated, payments_by}
 use Rattle.cns_book.specs.Follows.{Follows, HasRoom, Steps}
-use Rattle.cns_book.proofs.ClosingSteps.{after_last, closes_fit, day_closed, le_test, opened_rows}
-use Rattle.cns_book.proofs.MachineSteps.{accepted, no_refusal, refused, stopped}
+use Rattle.cns_book.proofs.ClosingSteps.{after_last, closes_fit, day_closed, le_test, not_late, opened_rows}
+use Rattle.cns_book.proofs.MachineSteps.{accepted, refused, stopped}
 use Rattle.cns_book.proofs.RetransmittalSteps.{liable_counted, liable_few}
 use Rattle.cns_book.proofs.ClosingSheet.{can_be_cut, can_be_paid, sheet_is}
 use Rattle.cns_book.proofs.parts.Parts.close_day.Goals as goal
@@ -65,18 +65,14 @@ choose_batches-requires-clause-cut g c L f =
 pub returns-in_err-batches-clause-step : goal.returns-in_err-batches-clause-step
 returns-in_err-batches-clause-step g c L f =
     let f' = subst (Follows L) (sym c.self.view_is) f in
-    let d = day_number c.args.next in
-    let late = ap (λ t. int_le d (day_number t)) (sym f'.clock.today) ∙ sym (le_test d (day_number c.self.inside.today)) ∙ sym c.le.ensures ∙ c.if-le.false in
-    let none = no_refusal (rules c.self.inside.opening (journal c.self.inside.opening L) (activity.Close c.args.next)) (late, tt) in
+    let none = not_late L _ c.args.next f' (sym c.le.ensures ∙ c.if-le.false) in
     subst (λ (t : Contents). Steps L (command.Activity (activity.Close c.args.next)) c.from_residual-in_err-batches.result t) c.self.view_is
     (stopped L (command.Activity (activity.Close c.args.next)) c.from_residual-in_err-batches.result c.from_residual-in_err-batches.ensures.0 none f')
 
 pub returns-in_err-opened-clause-step : goal.returns-in_err-opened-clause-step
 returns-in_err-opened-clause-step g c L f =
     let f' = subst (Follows L) (sym c.self.view_is) f in
-    let d = day_number c.args.next in
-    let late = ap (λ t. int_le d (day_number t)) (sym f'.clock.today) ∙ sym (le_test d (day_number c.self.inside.today)) ∙ sym c.le.ensures ∙ c.if-le.false in
-    let none = no_refusal (rules c.self.inside.opening (journal c.self.inside.opening L) (activity.Close c.args.next)) (late, tt) in
+    let none = not_late L _ c.args.next f' (sym c.le.ensures ∙ c.if-le.false) in
     subst (λ (t : Contents). Steps L (command.Activity (activity.Close c.args.next)) c.from_residual-in_err-opened.result t) c.self.view_is
     (stopped L (command.Activity (activity.Close c.args.next)) c.from_residual-in_err-opened.result c.from_residual-in_err-opened.ensures.0 none f')
 
@@ -90,17 +86,13 @@ count_liable-requires g c =
 pub returns-in_err-keep-clause-step : goal.returns-in_err-keep-clause-step
 returns-in_err-keep-clause-step g c L f =
     let f' = subst (Follows L) (sym c.self.view_is) f in
-    let d = day_number c.args.next in
-    let late = ap (λ t. int_le d (day_number t)) (sym f'.clock.today) ∙ sym (le_test d (day_number c.self.inside.today)) ∙ sym c.le.ensures ∙ c.if-le.false in
-    let none = no_refusal (rules c.self.inside.opening (journal c.self.inside.opening L) (activity.Close c.args.next)) (late, tt) in
+    let none = not_late L _ c.args.next f' (sym c.le.ensures ∙ c.if-le.false) in
     stopped L (command.Activity (activity.Close c.args.next)) c.from_residual-in_err-keep.result c.from_residual-in_err-keep.ensures.0 none (rw c.in_err-keep.ensures.err f')
 
 pub returns-in-Err-clause-step : goal.returns-in-Err-clause-step
 returns-in-Err-clause-step g c L f =
     let f' = subst (Follows L) (sym c.self.view_is) f in
-    let d = day_number c.args.next in
-    let late = ap (λ t. int_le d (day_number t)) (sym f'.clock.today) ∙ sym (le_test d (day_number c.self.inside.today)) ∙ sym c.le.ensures ∙ c.if-le.false in
-    let none = no_refusal (rules c.self.inside.opening (journal c.self.inside.opening L) (activity.Close c.args.next)) (late, tt) in
+    let none = not_late L _ c.args.next f' (sym c.le.ensures ∙ c.if-le.false) in
     (none, rw (c.in-Err.ensures.err, c.forget_last.ensures.last c.self.inside.batches c.in_ok-batches.batches.items c.in_ok-keep.ensures.ok) f')
 
 pub returns-clause-step : goal.returns-clause-step
@@ -109,9 +101,7 @@ returns-clause-step g c L f =
     let room = subst HasRoom (sym c.self.view_is) c.requires in
     let o = c.self.inside.opening in
     let J = journal o L in
-    let d = day_number c.args.next in
-    let late = ap (λ t. int_le d (day_number t)) (sym f'.clock.today) ∙ sym (le_test d (day_number c.self.inside.today)) ∙ sym c.le.ensures ∙ c.if-le.false in
-    let none = no_refusal (rules o J (activity.Close c.args.next)) (late, tt) in
+    let none = not_late L _ c.args.next f' (sym c.le.ensures ∙ c.if-le.false) in
     let same : c.due-due.result ≡ filter (is_due (last_dated c.self.inside.closed) c.self.inside.today) c.self.inside.dividends = c.due-due.ensures.due ∙ ap (λ o. filter (is_due o c.self.inside.today) c.self.inside.dividends) c.last_date.ensures in
     let cut = subst (λ (ds : List Declared). IsCut (prices_of (slice_get c.self.inside.closed 0)) c.self.inside.prices (g.P.Positions.rows c.self.inside.positions) (payments_by c.self.inside.closed ds) c.in_ok-sheet.sheet.rows) same c.in_ok-sheet.ensures.cut in
     let is : c.in_ok-sheet.sheet ≡ day_sheet o J = sheet_is L _ c.in_ok-sheet.sheet f' c.in_ok-sheet.ensures.prices c.in_ok-sheet.ensures.date c.in_ok-sheet.ensures.listed cut in

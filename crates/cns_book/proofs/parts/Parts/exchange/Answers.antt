@@ -9,10 +9,11 @@ use Rattle.cns_terms.proofs.Facts.{neither}
 use Rattle.cns_terms.proofs.Sound.{both_hold}
 use Rattle.cns_positions.specs.Rows.{books, holding_at}
 use Rattle.cns_actions.specs.declared.action.Action.TheVariants as action
+use Rattle.cns_actions.specs.Booked.{age_brought, with_age}
 use Rattle.cns_book.specs.Contents.{Contents}
 use Rattle.cns_book.specs.Effects.{exchange_rules, is_held_up}
 use Rattle.cns_book.specs.Follows.{Follows, HasRoom}
-use Rattle.cns_book.proofs.ActionSteps.{exchanged, no_fault, none_fails, not_true, price_there}
+use Rattle.cns_book.proofs.ActionSteps.{exchange_follows, no_fault, none_fails, not_true, price_there}
 use Rattle.cns_book.proofs.MachineSteps.{accepted, no_refusal}
 use Rattle.cns_book.proofs.parts.Parts.exchange.Goals as goal
 
@@ -49,6 +50,6 @@ returns-in-Ok-clause-step g c L f =
     let waits = subst (λ (t : Contents). (is_too_large t.opening (journal t.opening L) x ≡ false) × (is_held_up t.opening (journal t.opening L) (action.Exchange e) ≡ true) → ⊥) (sym c.self.view_is) (λ b. no_fault _ _ ((c.in-Ok.ensures.pending L f).1 b)) in
     let held = not_true (is_held_up c.self.inside.opening J (action.Exchange e)) (λ b. waits (small, b)) in
     let none = no_refusal (rules c.self.inside.opening J x) (fails.0, (fails.1.0, (fails.1.1.0, (small, (held, tt))))) in
-    let booked = subst (λ (t : Contents). (k : Key) → holding_at (g.P.Positions.rows c.in-Ok.positions) k ≡ books (entries t.opening (journal t.opening L) x) k (holding_at t.rows k)) (sym c.self.view_is) (c.in-Ok.ensures.booked L f) in
+    let booked = subst (λ (t : Contents). (k : Key) → holding_at (g.P.Positions.rows c.in-Ok.positions) k ≡ with_age (age_brought t.rows (action.Exchange e) k) (books (entries t.opening (journal t.opening L) x) k (holding_at t.rows k))) (sym c.self.view_is) (c.in-Ok.ensures.booked L f) in
     accepted L x reply.Accepted none refl
-    (rw c.end_issue.ensures (exchanged L _ e c.retire.new.self (g.P.Positions.rows c.in-Ok.positions) f' (c.parts.ensures.old_range, c.value.ensures.range, c.value-2.ensures.range) none c.retire.ensures.price c.retire.ensures.retired booked))
+    (rw c.end_issue.ensures (exchange_follows L _ e c.retire.new.self (g.P.Positions.rows c.in-Ok.positions) f' (c.parts.ensures.old_range, c.value.ensures.range, c.value-2.ensures.range) none c.retire.ensures.price c.retire.ensures.retired booked))

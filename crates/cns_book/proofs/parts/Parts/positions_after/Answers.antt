@@ -8,9 +8,9 @@ use Rattle.cns_terms.specs.Entries.{entries, journal}
 use Rattle.cns_terms.specs.Listings.{members}
 use Rattle.cns_positions.specs.Rows.{books, holding_at}
 use Rattle.cns_book.specs.Follows.{Follows, HasRoom}
-use Rattle.cns_terms.specs.Refusals.{are_too_large, is_too_large}
+use Rattle.cns_terms.specs.Refusals.{is_too_large}
 use Rattle.cns_actions.specs.declared.fault.ActionFault.TheVariants as fault
-use Rattle.cns_actions.specs.Booked.{entries_of, issue_of, position_at, positions_in, waits_for}
+use Rattle.cns_actions.specs.Booked.{age_brought, entries_of, issue_of, positions_in, with_age}
 use Rattle.cns_book.specs.Contents.{Contents}
 use Rattle.cns_book.specs.Effects.{activity_of, is_held_up}
 use Rattle.cns_book.proofs.ActionSteps.{can_be_booked, entries_are, few_wait, held_up_is, holders_are, ok_weaker, size_is}
@@ -26,10 +26,8 @@ pub returns-clause-too_large : goal.returns-clause-too_large
 returns-clause-too_large g c L f =
     let f' = subst (Follows L) (sym c.self.view_is) f in
     let x = c.args.action.now in
-    let R = g.P.Positions.rows c.self.inside.positions in
-    let ms = members (journal c.self.inside.opening L) in
-    let both = c.next_positions.ensures.too_large ms (holders_are _ L f' (issue_of x)) in
-    let same = ap (λ ps. are_too_large (position_at R) ps (entries_of x (positions_in R (issue_of x)) ms)) c.waiting.ensures ∙ size_is _ L f' x in
+    let both = c.next_positions.ensures.too_large (members (journal c.self.inside.opening L)) (holders_are _ L f' (issue_of x)) in
+    let same = size_is _ L f' x c.waiting.result.now c.waiting.ensures in
     subst (λ (t : Contents). (c.next_positions.result ≡ Err fault.TooLarge) ↔ (is_too_large t.opening (journal t.opening L) (activity_of x) ≡ true)) c.self.view_is
     ((λ e. sym same ∙ both.0 e), (λ e. both.1 (same ∙ e)))
 
@@ -37,11 +35,9 @@ pub returns-clause-pending : goal.returns-clause-pending
 returns-clause-pending g c L f =
     let f' = subst (Follows L) (sym c.self.view_is) f in
     let x = c.args.action.now in
-    let R = g.P.Positions.rows c.self.inside.positions in
-    let ms = members (journal c.self.inside.opening L) in
-    let both = c.next_positions.ensures.pending ms (holders_are _ L f' (issue_of x)) in
-    let same = ap (λ ps. are_too_large (position_at R) ps (entries_of x (positions_in R (issue_of x)) ms)) c.waiting.ensures ∙ size_is _ L f' x in
-    let held = ap (waits_for x) c.waiting.ensures ∙ held_up_is _ L f' x in
+    let both = c.next_positions.ensures.pending (members (journal c.self.inside.opening L)) (holders_are _ L f' (issue_of x)) in
+    let same = size_is _ L f' x c.waiting.result.now c.waiting.ensures in
+    let held = held_up_is _ L f' x c.waiting.result.now c.waiting.ensures in
     subst (λ (t : Contents). (c.next_positions.result ≡ Err fault.PendingTrades) ↔ ((is_too_large t.opening (journal t.opening L) (activity_of x) ≡ false) × (is_held_up t.opening (journal t.opening L) x ≡ true))) c.self.view_is
     ((λ e. let p = both.0 e in (sym same ∙ p.0, sym held ∙ p.1)), (λ e. both.1 (same ∙ e.0, held ∙ e.1)))
 
@@ -51,7 +47,7 @@ returns-clause-booked g c =
     let x = c.args.action.now in
     let R = s.rows in
     ok_weaker c.next_positions.result
-    (λ p. (ms : List Member) → AreHolders (positions_in R (issue_of x)) ms → (k : Key) → holding_at (g.P.Positions.rows p) k ≡ books (entries_of x (positions_in R (issue_of x)) ms) k (holding_at R k))
-    (λ p. (L : List Activity) → Follows L s → (k : Key) → holding_at (g.P.Positions.rows p) k ≡ books (entries s.opening (journal s.opening L) (activity_of x)) k (holding_at R k))
-    (λ p h L f k. h (members (journal s.opening L)) (holders_are s L f (issue_of x)) k ∙ ap (λ es. books es k (holding_at R k)) (entries_are s L f x))
-    (subst (λ (t : Contents). IfOk c.next_positions.result (λ p. (ms : List Member) → AreHolders (positions_in t.rows (issue_of x)) ms → (k : Key) → holding_at (g.P.Positions.rows p) k ≡ books (entries_of x (positions_in t.rows (issue_of x)) ms) k (holding_at t.rows k))) c.self.view_is c.next_positions.ensures.booked)
+    (λ p. (ms : List Member) → AreHolders (positions_in R (issue_of x)) ms → (k : Key) → holding_at (g.P.Positions.rows p) k ≡ with_age (age_brought R x k) (books (entries_of x (positions_in R (issue_of x)) ms) k (holding_at R k)))
+    (λ p. (L : List Activity) → Follows L s → (k : Key) → holding_at (g.P.Positions.rows p) k ≡ with_age (age_brought R x k) (books (entries s.opening (journal s.opening L) (activity_of x)) k (holding_at R k)))
+    (λ p h L f k. h (members (journal s.opening L)) (holders_are s L f (issue_of x)) k ∙ ap (λ es. with_age (age_brought R x k) (books es k (holding_at R k))) (entries_are s L f x))
+    (subst (λ (t : Contents). IfOk c.next_positions.result (λ p. (ms : List Member) → AreHolders (positions_in t.rows (issue_of x)) ms → (k : Key) → holding_at (g.P.Positions.rows p) k ≡ with_age (age_brought t.rows x k) (books (entries_of x (positions_in t.rows (issue_of x)) ms) k (holding_at t.rows k)))) c.self.view_is c.next_positions.ensures.booked)

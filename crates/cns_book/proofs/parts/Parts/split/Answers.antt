@@ -9,7 +9,7 @@ use Rattle.cns_positions.specs.Rows.{books, holding_at}
 use Rattle.cns_trades.specs.Checks.{issue_rules}
 use Rattle.cns_book.specs.Contents.{Contents}
 use Rattle.cns_book.specs.Follows.{Follows}
-use Rattle.cns_book.proofs.ActionSteps.{no_fault, none_fails, not_true, split_ends}
+use Rattle.cns_book.proofs.ActionSteps.{no_fault, none_fails, not_true, split_ends, with_no_age}
 use Rattle.cns_book.proofs.MachineSteps.{accepted, no_refusal}
 use Rattle.cns_book.proofs.TradingSteps.{booked_by}
 use Rattle.cns_book.proofs.parts.Parts.split.Goals as goal
@@ -25,6 +25,6 @@ returns-in-Ok-clause-step g c L f =
     let size = subst (λ (t : Contents). is_too_large t.opening (journal t.opening L) x ≡ true → ⊥) (sym c.self.view_is) (λ e. no_fault _ _ ((c.in-Ok.ensures.too_large L f).1 e)) in
     let small = not_true (is_too_large c.self.inside.opening J x) size in
     let none = no_refusal (rules c.self.inside.opening J x) (fails.0, (fails.1.0, (small, tt))) in
-    let booked = subst (λ (t : Contents). (k : Key) → holding_at (g.P.Positions.rows c.in-Ok.positions) k ≡ books (entries t.opening (journal t.opening L) x) k (holding_at t.rows k)) (sym c.self.view_is) (c.in-Ok.ensures.booked L f) in
+    let booked = subst (λ (t : Contents). (k : Key) → holding_at (g.P.Positions.rows c.in-Ok.positions) k ≡ books (entries t.opening (journal t.opening L) x) k (holding_at t.rows k)) (sym c.self.view_is) (λ k. c.in-Ok.ensures.booked L f k ∙ with_no_age _) in
     accepted L x reply.Accepted none refl
     (booked_by L _ x c.self.inside.trades c.end_issue.new.self (g.P.Positions.rows c.in-Ok.positions) f' (c.parts.ensures.old_range, c.value.ensures.range) none refl refl refl refl f'.references f'.pending (c.end_issue.ensures ∙ split_ends L s f') booked)

@@ -1,9 +1,0 @@
-use Rattle.std.proofs.Common.{◌≡◌, ◌++◌, map, length}
-use Rattle.cns_actions.specs.DueAmounts.{as_entry}
-use Rattle.cns_actions.proofs.due_amounts.DueAmounts.entries.Given as goal
-
-abbrev pub invariant-loop-key : goal.invariant-loop-key
-invariant-loop-key g l = map as_entry l.self ≡ l.entries.items ++ map as_entry l.rest
-
-abbrev pub decreases-loop-key : goal.decreases-loop-key
-decreases-loop-key g l = length l.rest

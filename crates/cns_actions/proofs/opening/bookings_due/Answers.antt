@@ -1,0 +1,26 @@
+use Rattle.std.proofs.Common.{◌≡◌, ◌∙◌, ap, subst, sym, map, true, List}
+use Rattle.std.specs.FinMap.{is_sorted}
+use Rattle.cns_terms.specs.declared.holding.Holding.{Holding}
+use Rattle.cns_terms.specs.declared.holding.Key.{Key}
+use Rattle.cns_terms.specs.Keys.{key_cmp}
+use Rattle.cns_positions.specs.Rows.{books}
+use Rattle.cns_actions.specs.declared.booking.Booking.{Booking}
+use Rattle.cns_actions.specs.Merging.{AreSmall, by_key, makes}
+use Rattle.cns_actions.specs.DueAmounts.{due_entries, as_booking}
+use Rattle.cns_actions.proofs.DueAmounts.{bookings_make, with_holding, amounts_small, sorted_bookings, value_ok}
+use Rattle.cns_actions.proofs.opening.bookings_due.Goals as goal
+
+pub returns-clause-same : goal.returns-clause-same
+returns-clause-same g c =
+    value_ok (λ v. v.items ≡ map as_booking c.in_ok-amounts.amounts) (λ v. (k : Key) (h : Holding) → makes v.items k h ≡ books (due_entries c.args.next c.args.pending.now) k h) c.bookings.result c.bookings.ensures.bookings
+    (λ v is k h. ap (λ (bs : List Booking). makes bs k h) is ∙ bookings_make c.in_ok-amounts.amounts c.bookings.ensures.amounts.order k h ∙ ap (λ a. with_holding a h) (c.in_ok-amounts.ensures k))
+
+pub returns-clause-small : goal.returns-clause-small
+returns-clause-small g c =
+    value_ok (λ v. v.items ≡ map as_booking c.in_ok-amounts.amounts) (λ v. AreSmall v.items) c.bookings.result c.bookings.ensures.bookings
+    (λ v is. subst AreSmall (sym is) (amounts_small c.in_ok-amounts.amounts c.bookings.ensures.amounts.small))
+
+pub returns-clause-rise : goal.returns-clause-rise
+returns-clause-rise g c =
+    value_ok (λ v. v.items ≡ map as_booking c.in_ok-amounts.amounts) (λ v. is_sorted key_cmp (by_key v.items) ≡ true) c.bookings.result c.bookings.ensures.bookings
+    (λ v is. ap (λ (bs : List Booking). is_sorted key_cmp (by_key bs)) is ∙ sorted_bookings c.in_ok-amounts.amounts ∙ c.bookings.ensures.amounts.order)

@@ -1,0 +1,156 @@
+-- Ages over an exchange: what it brings into the successor, and that it brings nothing anywhere else.
+use Rattle.std.proofs.Common.{◌≡◌, ◌∙◌, sym, ap, refl, ℕ, zero, suc, ◌+◌, ◌≤◌, max, Bool, true, false, cond, ◌||◌, List, [], ◌∷◌, ◌++◌, filter, filter_map, length, Option, None, arith}
+use Rattle.std.specs.Prelude.{is_none, ⊤}
+use Rattle.std.specs.List.{cons_option, flat_map, list_any}
+use Rattle.cns_units.specs.declared.account.Account.{Account}
+use Rattle.cns_units.specs.declared.cusip.Cusip.{Cusip}
+use Rattle.cns_units.specs.declared.day.Day.{Day}
+use Rattle.cns_terms.specs.declared.action.Exchange.{Exchange}
+use Rattle.cns_terms.specs.declared.command.Activity.{Activity}
+use Rattle.cns_terms.specs.declared.command.Activity.TheVariants as activity
+use Rattle.cns_terms.specs.Ages.{age, carried, closes_short, exchanges_today, forerunners, forerunners_today, oldest}
+use Rattle.cns_terms.specs.Days.{closes, closings, is_close, open_day}
+use Rattle.cns_terms.specs.Entries.{journal}
+use Rattle.cns_terms.specs.Listings.{exchanged, is_retired}
+use Rattle.cns_terms.specs.Postings.{Journal, Posting, activities}
+use Rattle.cns_terms.specs.Reached.{IsReached}
+use Rattle.cns_terms.specs.Refusals.{rules}
+use Rattle.cns_terms.specs.Sums.{greatest, same_issue}
+use Rattle.cns_terms.proofs.Facts.{issues_differ, neither}
+use Rattle.cns_terms.proofs.Sound.{all_fail}
+
+-- ---- the greatest
+
+-- of two lists together
+pub greatest-append : {X : Type 0} (f : X → ℕ) (xs ys : List X) → greatest f (xs ++ ys) ≡ max (greatest f xs) (greatest f ys)
+greatest-append f [] ys = omega arith
+greatest-append f (x ∷ xs) ys = let rest = greatest-append f xs ys in omega (arith, rest)
+
+-- no more than what none is above
+pub greatest_le : {X : Type 0} (f : X → ℕ) (n : ℕ) → ((x : X) → f x ≤ n) → (xs : List X) → greatest f xs ≤ n
+greatest_le f n h [] = omega arith
+greatest_le f n h (x ∷ xs) = let rest = greatest_le f n h xs in let first = h x in omega (arith, first, rest)
+
+-- no short is older than there were closes
+pub closes_short_le : (Ks : List Journal) (a : Account) (c : Cusip) → closes_short Ks a c ≤ length Ks
+closes_short_le [] a c = omega arith
+closes_short_le (K ∷ Ks) a c = by _ (greatest_le (closes_short Ks a) (length Ks) (λ d. closes_short_le Ks a d) (c ∷ forerunners_today K c))
+  where
+    by : (b : Bool) {n : ℕ} → n ≤ length Ks → cond b (1 + n) 0 ≤ suc (length Ks)
+    by true h = omega (arith, h)
+    by false h = omega arith
+
+-- and so with what exchanges brought
+pub oldest_le : (J : Journal) (a : Account) (c : Cusip) → oldest J a c ≤ closes J
+oldest_le J a c = greatest_le (age J a) (closes J) (λ d. closes_short_le (closings J) a d) (c ∷ forerunners_today J c)
+
+-- ---- one exchange more
+
+-- no issue is turned into an issue that was exchanged: the successor of the newest is not among the old issues
+abbrev IsFresh : Exchange → List Exchange → Type 0
+IsFresh x xs = list_any (λ y. same_issue y.old x.successor) (x ∷ xs) ≡ false
+
+-- and so with each before it
+abbrev pub AreFresh : List Exchange → Type 0
+AreFresh [] = ⊤
+AreFresh (x ∷ xs) = IsFresh x xs × AreFresh xs
+
+-- the issues behind some exchanges, where those behind each old issue are the same
+each_behind : (F G : Cusip → List Cusip) (s : Cusip) (t : Exchange → Bool) → ((d : Cusip) → same_issue s d ≡ false → F d ≡ G d)
+    → (ys : List Exchange) → list_any (λ y. same_issue y.old s) ys ≡ false → flat_map (λ y. y.old ∷ F y.old) (filter t ys) ≡ flat_map (λ y. y.old ∷ G y.old) (filter t ys)
+each_behind F G s t same [] none = refl
+each_behind F G s t same (y ∷ ys) none = by (t y) (each_behind F G s t same ys apart.1)
+  where
+    apart : (same_issue y.old s ≡ false) × (list_any (λ y. same_issue y.old s) ys ≡ false)
+    apart = neither (same_issue y.old s) (list_any (λ y. same_issue y.old s) ys) none
+
+    by : (b : Bool) → flat_map (λ y. y.old ∷ F y.old) (filter t ys) ≡ flat_map (λ y. y.old ∷ G y.old) (filter t ys) → flat_map (λ y. y.old ∷ F y.old) (cond b (y ∷ filter t ys) (filter t ys)) ≡ flat_map (λ y. y.old ∷ G y.old) (cond b (y ∷ filter t ys) (filter t ys))
+    by true rest = λ i. y.old ∷ same y.old (issues_differ y.old s apart.0) i ++ rest i
+    by false rest = rest
+
+module _ (x : Exchange) (xs : List Exchange) (fresh : IsFresh x xs) where
+  -- the others' old issues are not the successor either
+  apart : (same_issue x.old x.successor ≡ false) × (list_any (λ y. same_issue y.old x.successor) xs ≡ false)
+  apart = neither (same_issue x.old x.successor) (list_any (λ y. same_issue y.old x.successor) xs) fresh
+
+  -- it turns nothing into an issue that is not its successor
+  behind_other : (n : ℕ) (d : Cusip) → same_issue x.successor d ≡ false → forerunners n (x ∷ xs) d ≡ forerunners n xs d
+  behind_other zero d other = refl
+  behind_other (suc n) d other =
+      let t : Exchange → Bool = λ y. same_issue y.successor d in
+      ap (λ b. flat_map (λ y. y.old ∷ forerunners n (x ∷ xs) y.old) (cond b (x ∷ filter t xs) (filter t xs))) other
+      ∙ each_behind (forerunners n (x ∷ xs)) (forerunners n xs) x.successor t (behind_other n) xs apart.1
+
+  -- into the successor it turns its old issue, and what had been turned into that
+  behind_successor : (n : ℕ) (d : Cusip) → same_issue x.successor d ≡ true → forerunners (suc n) (x ∷ xs) d ≡ x.old ∷ forerunners n xs x.old ++ forerunners (suc n) xs d
+  behind_successor n d is =
+      let t : Exchange → Bool = λ y. same_issue y.successor d in
+      ap (λ b. flat_map (λ y. y.old ∷ forerunners n (x ∷ xs) y.old) (cond b (x ∷ filter t xs) (filter t xs))) is
+      ∙ (λ i. x.old ∷ behind_other n x.old (issues_differ x.old x.successor apart.0) i
+      ++ each_behind (forerunners n (x ∷ xs)) (forerunners n xs) x.successor t (behind_other n) xs apart.1 i)
+
+-- no issue has more exchanges behind it than there are
+all_counted : (xs : List Exchange) → AreFresh xs → (n : ℕ) → length xs ≤ n → (d : Cusip) → forerunners (suc n) xs d ≡ forerunners n xs d
+all_counted [] fresh zero le d = refl
+all_counted [] fresh (suc n) le d = refl
+all_counted (x ∷ xs) fresh zero le d = absurd (omega (arith, le))
+all_counted (x ∷ xs) fresh (suc n) le d = by (all_counted xs fresh.1 n (omega (arith, le)) x.old) (all_counted xs fresh.1 (suc n) (omega (arith, le)) d) (same_issue x.successor d) refl
+  where
+    by : forerunners (suc n) xs x.old ≡ forerunners n xs x.old → forerunners (suc (suc n)) xs d ≡ forerunners (suc n) xs d → (b : Bool) → same_issue x.successor d ≡ b → forerunners (suc (suc n)) (x ∷ xs) d ≡ forerunners (suc n) (x ∷ xs) d
+    by old same true is = behind_successor x xs fresh.0 (suc n) d is ∙ (λ i. x.old ∷ old i ++ same i) ∙ sym (behind_successor x xs fresh.0 n d is)
+    by old same false other = behind_other x xs fresh.0 (suc (suc n)) d other ∙ same ∙ sym (behind_other x xs fresh.0 (suc n) d other)
+
+-- what one exchange more makes of the greatest at the issues behind one
+behind_more : (f : Cusip → ℕ) (x : Exchange) (xs : List Exchange) → AreFresh (x ∷ xs) → (d : Cusip)
+    → greatest f (forerunners (suc (length xs)) (x ∷ xs) d) ≡ cond (same_issue x.successor d) (max (greatest f (forerunners (length xs) xs d)) (greatest f (x.old ∷ forerunners (length xs) xs x.old))) (greatest f (forerunners (length xs) xs d))
+behind_more f x xs fresh d = by (same_issue x.successor d) refl
+  where
+    n : ℕ
+    n = length xs
+
+    turned : (p q r : ℕ) → max p (max q r) ≡ max r (max p q)
+    turned p q r = omega arith
+
+    by : (b : Bool) → same_issue x.successor d ≡ b → greatest f (forerunners (suc n) (x ∷ xs) d) ≡ cond b (max (greatest f (forerunners n xs d)) (greatest f (x.old ∷ forerunners n xs x.old))) (greatest f (forerunners n xs d))
+    by true is =
+        ap (greatest f) (behind_successor x xs fresh.0 n d is)
+        ∙ ap (λ m. max (f x.old) m) (greatest-append f (forerunners n xs x.old) (forerunners (suc n) xs d) ∙ ap (λ cs. max (greatest f (forerunners n xs x.old)) (greatest f cs)) (all_counted xs fresh.1 n (omega arith) d))
+        ∙ turned (f x.old) (greatest f (forerunners n xs x.old)) (greatest f (forerunners n xs d))
+    by false other = ap (greatest f) (behind_other x xs fresh.0 (suc n) d other ∙ all_counted xs fresh.1 n (omega arith) d)
+
+-- ---- what brings nothing
+
+-- a posting that closes no day and exchanges no issue
+pub carried_same : (p : Posting) (J : Journal) (a : Account) (c : Cusip) → is_close p.activity ≡ false → exchanged p.activity ≡ None → carried (p ∷ J) a c ≡ carried J a c
+carried_same p J a c still none = λ i. by (still i) (none i)
+  where
+    by : Bool → Option Exchange → ℕ
+    by b o = let xs = cons_option o (filter_map exchanged (activities (cond b [] (open_day J)))) in greatest (closes_short (cond b (J ∷ closings J) (closings J)) a) (forerunners (length xs) xs c)
+
+-- ---- the exchanges that commands reach
+
+module _ (opening : Day) where
+  -- an issue that is not retired is no old issue of the open day
+  unexchanged : (L : List Activity) (c : Cusip) → is_retired (journal opening L) c ≡ false → list_any (λ y. same_issue y.old c) (exchanges_today (journal opening L)) ≡ false
+  unexchanged [] c h = refl
+  unexchanged (activity.Close d ∷ L) c h = refl
+  unexchanged (activity.Exchange x ∷ L) c h =
+      let apart = neither (same_issue x.old c) (is_retired (journal opening L) c) h in
+      λ i. apart.0 i || unexchanged L c apart.1 i
+  unexchanged (x ∷ L) c h = unexchanged L c h
+
+  -- no issue is turned into one that was exchanged
+  pub reached_fresh : (L : List Activity) → IsReached opening L → AreFresh (exchanges_today (journal opening L))
+  reached_fresh [] r = tt
+  reached_fresh (activity.Close d ∷ L) r = tt
+  reached_fresh (activity.Exchange x ∷ L) r =
+      let J = journal opening L in
+      let fails = all_fail (rules opening J (activity.Exchange x)) (ap is_none r.1) in
+      let current = neither (is_retired J x.old) (is_retired J x.successor) fails.1.0 in
+      ((λ i. fails.1.1.0 i || unexchanged L x.successor current.1 i), reached_fresh L r.2)
+  reached_fresh (x ∷ L) r = reached_fresh L r.2
+
+  -- an exchange brings the successor the greatest age of the old issue, and no other issue any
+  pub carried_on : (L : List Activity) (x : Exchange) → IsReached opening (activity.Exchange x ∷ L) → (a : Account) (c : Cusip)
+      → carried (journal opening (activity.Exchange x ∷ L)) a c ≡ cond (same_issue x.successor c) (max (carried (journal opening L) a c) (oldest (journal opening L) a x.old)) (carried (journal opening L) a c)
+  carried_on L x r a c = behind_more (age (journal opening L) a) x (exchanges_today (journal opening L)) (reached_fresh (activity.Exchange x ∷ L) r) c
