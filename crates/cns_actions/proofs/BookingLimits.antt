@@ -1,39 +1,13 @@
 -- Whether a split or an exchange takes a member beyond its limits: just where the definitions say so.
-use Rattle.std.proofs.Common.{◌≡◌, ◌∙◌, ap, refl, ℕ, ◌+◌, ◌≤◌, ℤ, pos, ◌+ℤ◌, ◌-ℤ◌, neg_ℤ, Bool, true, false, cond, ◌&&◌, ◌||◌, ◌==◌, nat_lt, List, [], ◌∷◌, ◌++◌, map, arith}
-use Rattle.std.specs.FinMap.{is_sorted}
-use Rattle.std.specs.List.{AllByRecursion, list_any}
-use Rattle.std.proofs.lemmas.Bool.{lt-ltb}
-use Rattle.std.proofs.lemmas.Bool.Decides.{nat_tests}
-use Rattle.std.proofs.lemmas.Int.{ints}
+use Rattle.std.proofs.Common.{◌≡◌, ◌∙◌, ap, refl, ℕ, ◌+◌, ◌≤◌, ℤ, pos, ◌+ℤ◌, ◌-ℤ◌, neg_ℤ, Bool, true, false, cond, ◌&&◌, ◌||◌, ◌==◌, nat_lt, List, [], ◌∷◌, ◌++◌, map, arith, lt-ltb}
+use Rattle.cns_actions.proofs.Common.{Account, Action, AllByRecursion, AreHolders, Cusip, Entry, Exchange, Holder, IsForAnother, Member, Pend, Rows, Split, against_corporation, bought_in, bytes_refl, converted, corporation, each_both, each_weaker, entries_of, entry, holders, in_exchange, in_lieu, ints, is_beyond, is_sorted, issue_of, key_cmp, list_any, nat_tests, new_entry, occurs, old_entry, position_at, position_limit, positions_in, same_issue, shares_for, sold_in, total, total-append, total-map, zero_add}
 use Rattle.std.proofs.lemmas.List.Folds.{list_any-append}
-use Rattle.cns_units.specs.declared.account.Account.{Account}
-use Rattle.cns_units.specs.declared.account.Member.{Member}
-use Rattle.cns_units.specs.declared.cusip.Cusip.{Cusip}
-use Rattle.cns_terms.specs.declared.action.Exchange.{Exchange}
-use Rattle.cns_terms.specs.declared.action.Split.{Split}
-use Rattle.cns_terms.specs.declared.holding.Entry.{Entry}
-use Rattle.cns_terms.specs.declared.pend.Pend.{Pend}
-use Rattle.cns_terms.specs.Actions.{AreHolders}
-use Rattle.cns_terms.specs.Conversions.{converted, in_exchange, in_lieu}
-use Rattle.cns_terms.specs.Entries.{against_corporation, corporation, entry, holders, new_entry, old_entry}
-use Rattle.cns_terms.specs.Keys.{key_cmp}
-use Rattle.cns_terms.specs.Limits.{position_limit}
-use Rattle.cns_terms.specs.Pending.{bought_in, sold_in}
-use Rattle.cns_terms.specs.Positions.{shares_for}
-use Rattle.cns_terms.specs.Refusals.{are_too_large, is_beyond}
-use Rattle.cns_terms.specs.Sums.{same_issue, total}
-use Rattle.cns_terms.proofs.Accounts.{occurs}
-use Rattle.cns_terms.proofs.Everywhere.{each_both, each_weaker}
-use Rattle.cns_terms.proofs.Facts.{bytes_refl, issues_differ, zero_add}
-use Rattle.cns_terms.proofs.Totals.{total-append, total-map}
-use Rattle.cns_positions.specs.Rows.{Rows}
-use Rattle.cns_actions.specs.declared.action.Action.{Action}
-use Rattle.cns_actions.specs.declared.action.Action.TheVariants as action
-use Rattle.cns_actions.specs.declared.holder.Holder.{Holder}
-use Rattle.cns_actions.specs.Booked.{IsForAnother, entries_of, issue_of, position_at, positions_in}
+use Rattle.cns_terms.specs.Refusals.{are_too_large}
+use Rattle.cns_terms.proofs.Facts.{issues_differ}
 use Rattle.cns_actions.specs.Changes.{takes_beyond}
 use Rattle.cns_actions.proofs.BookingSums.{leg_any, new_leg, old_leg, split_leg}
 use Rattle.cns_actions.proofs.Holders.{IsOwn, given_to, own_positions, shown, shown_named}
+use Rattle.cns_actions.specs.declared.action.Action.TheVariants as action
 
 -- tests that agree
 any_each : (s t : Holder → Bool) (hs : List Holder) → AllByRecursion (λ h. s h ≡ t h) hs → list_any s hs ≡ list_any t hs

@@ -1,35 +1,9 @@
 -- What is booked for a split or an exchange: that its numbers are small, and its order.
-use Rattle.std.proofs.Common.{◌≡◌, ◌∙◌, sym, ap, subst, refl, ℕ, zero, suc, ◌^◌, ◌<◌, ◌≤◌, ℤ, pos, neg_ℤ, Bool, true, false, cond, unsigned_abs, List, [], ◌∷◌, ◌++◌, append_assoc, Ordering, arith}
-use Rattle.std.specs.Cmp.Lexicographic.{slice_cmp}
-use Rattle.std.specs.FinMap.{is_sorted}
-use Rattle.std.specs.FinMap.Entries.{below_all}
-use Rattle.std.specs.List.{AllByRecursion, flat_map}
-use Rattle.std.specs.Ordering.{int_eq, is_eq, is_lt, nat_cmp, ordering_reverse, ordering_then}
-use Rattle.std.specs.declared.cmp.Ordering.TheVariants.{Less, Equal, Greater}
-use Rattle.std.proofs.lemmas.Bool.Decides.{nat_tests}
-use Rattle.std.proofs.lemmas.Cmp.{nat_cmp_total, nat_list_cmp_total, tied_itself}
-use Rattle.std.proofs.lemmas.Int.{ints}
-use Rattle.std.proofs.lemmas.Map.Text.{is_eq-slice_cmp}
-use Rattle.cns_units.specs.declared.account.Account.{Account}
-use Rattle.cns_units.specs.declared.cusip.Cusip.{Cusip}
-use Rattle.cns_terms.specs.declared.holding.Key.{Key}
-use Rattle.cns_terms.specs.Entries.{corporation, entry}
-use Rattle.cns_terms.specs.Keys.{key_cmp}
-use Rattle.cns_terms.specs.Limits.{corporation_limit, member_limit, position_limit}
-use Rattle.cns_terms.specs.Sums.{same_issue}
-use Rattle.cns_terms.proofs.Everywhere.{each_append, each_weaker}
-use Rattle.cns_terms.proofs.Facts.{and_left, and_right, both_true, less}
-use Rattle.cns_terms.proofs.Rising.{above_all, is_rising}
-use Rattle.cns_positions.specs.Rows.{Rows, holding_at}
-use Rattle.cns_actions.specs.declared.action.Action.{Action}
-use Rattle.cns_actions.specs.declared.action.Action.TheVariants as action
-use Rattle.cns_actions.specs.declared.booking.Booking.{Booking}
-use Rattle.cns_actions.specs.declared.change.Change.{Change}
-use Rattle.cns_actions.specs.declared.holder.Holder.{Holder}
-use Rattle.cns_actions.specs.Booked.{CanBeBooked, IsForAnother, position_at}
-use Rattle.cns_actions.specs.Changes.{IsFew, age_for, all_bookings, bookings_for, change_of, in_issue_order, member_bookings, opposite}
-use Rattle.cns_actions.specs.Merging.{AreSmall, HasSpace, IsSmall, booking, by_key, key_of}
+use Rattle.std.proofs.Common.{◌≡◌, ◌∙◌, sym, ap, subst, refl, ℕ, zero, suc, ◌^◌, ◌<◌, ◌≤◌, ℤ, pos, neg_ℤ, Bool, true, false, cond, unsigned_abs, List, [], ◌∷◌, ◌++◌, append_assoc, Ordering, arith, flat_map, int_eq, is_eq, is_lt, nat_cmp, Less, Equal, Greater}
+use Rattle.cns_actions.proofs.Common.{Account, Action, AllByRecursion, AreSmall, Booking, CanBeBooked, Change, Cusip, HasSpace, Holder, IsFew, IsForAnother, Key, Rows, above_all, age_for, all_bookings, and_left, and_right, below_all, bookings_for, both_true, change_of, corporation, corporation_limit, each_append, each_weaker, entry, holding_at, in_issue_order, ints, is_eq-slice_cmp, is_rising, is_sorted, key_cmp, less, member_bookings, member_limit, nat_cmp_total, nat_list_cmp_total, nat_tests, opposite, ordering_reverse, ordering_then, position_at, position_limit, same_issue, slice_cmp, tied_itself}
+use Rattle.cns_actions.specs.Merging.{IsSmall, booking, by_key, key_of}
 use Rattle.cns_actions.proofs.Holders.{AreListed, above_zero, accounts}
+use Rattle.cns_actions.specs.declared.action.Action.TheVariants as action
 
 -- ---- their numbers
 

@@ -1,42 +1,13 @@
 -- What is booked for a split or an exchange: that it makes of every holding what the definitions do.
-use Rattle.std.proofs.Common.{◌≡◌, ◌∙◌, sym, ap, refl, ℕ, zero, suc, ◌+◌, ◌≤◌, max, ℤ, pos, ◌+ℤ◌, ◌-ℤ◌, neg_ℤ, Bool, true, false, cond, not, ◌&&◌, ◌||◌, ◌==◌, ◌⊎◌, inl, inr, List, [], ◌∷◌, map, None, arith}
-use Rattle.std.specs.Cmp.Lexicographic.{slice_cmp}
-use Rattle.std.specs.FinMap.{is_sorted}
-use Rattle.std.specs.List.{AllByRecursion, flat_map, list_any}
-use Rattle.std.specs.Ordering.{int_eq, is_lt, nat_cmp}
-use Rattle.std.proofs.lemmas.Bool.{eqb-true, lt-ltb}
-use Rattle.std.proofs.lemmas.Bool.Decides.{nat_tests}
-use Rattle.std.proofs.lemmas.Int.{ints}
-use Rattle.std.proofs.lemmas.List.{map-append}
-use Rattle.cns_units.specs.declared.account.Account.{Account}
-use Rattle.cns_units.specs.declared.account.Member.{Member}
-use Rattle.cns_units.specs.declared.cusip.Cusip.{Cusip}
-use Rattle.cns_terms.specs.declared.action.Exchange.{Exchange}
-use Rattle.cns_terms.specs.declared.action.Split.{Split}
-use Rattle.cns_terms.specs.declared.holding.Entry.{Entry}
-use Rattle.cns_terms.specs.declared.holding.Holding.{Holding}
-use Rattle.cns_terms.specs.declared.holding.Key.{Key}
-use Rattle.cns_terms.specs.Actions.{AreHolders}
-use Rattle.cns_terms.specs.Entries.{against_corporation, corporation, entry, holders, new_entry, old_entry, split_entry}
-use Rattle.cns_terms.specs.Holdings.{oldest_of}
-use Rattle.cns_terms.specs.Keys.{key_cmp}
-use Rattle.cns_terms.specs.Positions.{cents_for, shares_for}
-use Rattle.cns_terms.specs.Sums.{greatest, same_issue, total}
-use Rattle.cns_terms.proofs.Accounts.{occurs}
+use Rattle.std.proofs.Common.{◌≡◌, ◌∙◌, sym, ap, refl, ℕ, zero, suc, ◌+◌, ◌≤◌, max, ℤ, pos, ◌+ℤ◌, ◌-ℤ◌, neg_ℤ, Bool, true, false, cond, not, ◌&&◌, ◌||◌, ◌==◌, ◌⊎◌, inl, inr, List, [], ◌∷◌, map, None, arith, flat_map, int_eq, is_lt, nat_cmp, eqb-true, lt-ltb}
+use Rattle.cns_actions.proofs.Common.{Account, Action, AllByRecursion, AreHolders, Booking, Change, Cusip, Entry, Exchange, Holder, Holding, Key, Member, Rows, Split, against_corporation, age_for, all_bookings, bookings_for, books, carried_to, cents_for, change_of, corporation, each_weaker, entries_in, entries_of, entry, eqb_refl, greatest, has_position, has_position_or_age, held_above, holders, holding_at, in_issue_order, ints, is_sorted, issue_of, key_cmp, list_any, makes, map-append, member_bookings, nat_tests, new_entry, occurs, old_entry, oldest_of, opposite, positions_in, same_issue, shares_for, slice_cmp, total, total-add, total-append, total-map, total-neg, total-same, total-zero, with_position, zero_add}
+use Rattle.cns_terms.specs.Entries.{split_entry}
 use Rattle.cns_terms.proofs.CarriedAges.{greatest-append}
-use Rattle.cns_terms.proofs.Everywhere.{each_weaker}
-use Rattle.cns_terms.proofs.Facts.{eqb_refl, zero_add}
-use Rattle.cns_terms.proofs.Totals.{total-add, total-append, total-map, total-neg, total-same, total-zero}
-use Rattle.cns_positions.specs.Rows.{Rows, books, held_above, holding_at}
-use Rattle.cns_actions.specs.declared.action.Action.{Action}
-use Rattle.cns_actions.specs.declared.action.Action.TheVariants as action
-use Rattle.cns_actions.specs.declared.booking.Booking.{Booking}
-use Rattle.cns_actions.specs.declared.change.Change.{Change}
-use Rattle.cns_actions.specs.declared.holder.Holder.{Holder}
-use Rattle.cns_actions.specs.Booked.{age_brought, entries_of, issue_of, positions_in, with_age}
-use Rattle.cns_actions.specs.Changes.{age_for, all_bookings, bookings_for, change_of, has_position, has_position_or_age, in_issue_order, member_bookings, opposite, sum_of, with_position}
-use Rattle.cns_actions.specs.Merging.{booking, carried_to, entries_in, makes}
+use Rattle.cns_actions.specs.Booked.{age_brought, with_age}
+use Rattle.cns_actions.specs.Changes.{sum_of}
+use Rattle.cns_actions.specs.Merging.{booking}
 use Rattle.cns_actions.proofs.Holders.{accounts, all_once, all_shown, any_holder, over_holders, own_holdings, positions_kept, shown}
+use Rattle.cns_actions.specs.declared.action.Action.TheVariants as action
 
 one_more : (z : ℤ) → z +ℤ pos 0 ≡ z
 one_more z = omega (arith, ints)

@@ -1,29 +1,12 @@
 -- What trades book, added up by key.
-use Rattle.std.proofs.Common.{◌≡◌, ◌∙◌, sym, ap, subst, refl, ℕ, max, ◌+◌, ◌*◌, ◌^◌, ◌<◌, ◌≤◌, ℤ, pos, ◌+ℤ◌, neg_ℤ, unsigned_abs, Bool, true, false, cond, ◌&&◌, List, [], ◌∷◌, ◌==◌, map, filter, flat_map, length, get_or, drop, Option, Some, unwrap_or, Ordering, Result, Ok, Err, IfOk, OnOk, arith}
-use Rattle.std.specs.BTreeMap.{insert_entry, is_at}
-use Rattle.std.specs.FinMap.{find, is_sorted}
-use Rattle.std.specs.FinMap.Entries.{below_all}
-use Rattle.std.specs.List.{AllByRecursion}
-use Rattle.std.specs.Map.{lookup}
-use Rattle.std.specs.Ordering.{is_eq, is_lt, match_ordering, ordering_reverse}
-use Rattle.std.specs.declared.cmp.Ordering.TheVariants.{Less, Equal, Greater}
-use Rattle.std.proofs.lemmas.Int.{ints}
-use Rattle.std.proofs.lemmas.List.{drop_all, drop_more}
-use Rattle.cns_units.specs.declared.day.Day.{Day}
-use Rattle.cns_terms.specs.declared.holding.Entry.{Entry}
-use Rattle.cns_terms.specs.declared.holding.Holding.{Holding}
-use Rattle.cns_terms.specs.declared.holding.Key.{Key}
-use Rattle.cns_terms.specs.declared.pend.Pend.{Pend}
-use Rattle.cns_terms.specs.Entries.{buyer_entry, seller_entry, trade_entries}
-use Rattle.cns_terms.specs.Keys.{key_cmp}
-use Rattle.cns_terms.specs.Limits.{money_limit, shares_limit}
+use Rattle.std.proofs.Common.{◌≡◌, ◌∙◌, sym, ap, subst, refl, ℕ, max, ◌+◌, ◌*◌, ◌^◌, ◌<◌, ◌≤◌, ℤ, pos, ◌+ℤ◌, neg_ℤ, unsigned_abs, Bool, true, false, cond, ◌&&◌, List, [], ◌∷◌, ◌==◌, map, filter, flat_map, length, get_or, drop, Option, Some, unwrap_or, Ordering, Result, Ok, Err, IfOk, OnOk, arith, is_eq, is_lt, Less, Equal, Greater}
+use Rattle.cns_actions.proofs.Common.{AllByRecursion, Amount, AreSmall, Day, Entry, Holding, IsSmallAmount, Key, Pend, amount_at, amount_of, and_left, and_right, as_booking, below_all, buyer_entry, drop_all, due_entries, equal, exact_keys, insert_entry, ints, is_sorted, key_cmp, keys_total, lookup, makes, match_ordering, money_limit, ordering_reverse, same_issue, seller_entry, shares_limit, trade_entries, with_amount, with_entry, zero_add}
+use Rattle.std.specs.BTreeMap.{is_at}
+use Rattle.std.specs.FinMap.{find}
+use Rattle.std.proofs.lemmas.List.{drop_more}
 use Rattle.cns_terms.specs.Pending.{is_due}
-use Rattle.cns_terms.specs.Sums.{same_issue}
-use Rattle.cns_terms.proofs.Facts.{and_left, and_right, equal, zero_add}
-use Rattle.cns_terms.proofs.Keys.{exact_keys, keys_total}
-use Rattle.cns_actions.specs.declared.due_amounts.Amount.{Amount}
-use Rattle.cns_actions.specs.Merging.{AreSmall, by_key, key_of, makes}
-use Rattle.cns_actions.specs.DueAmounts.{AmountsByKey, IsSmallAmount, HasRoomForTrade, IsOneTradeMore, amount_at, amount_for, due_entries, as_booking, with_entry, no_amount, amount_of, with_amount}
+use Rattle.cns_actions.specs.Merging.{by_key, key_of}
+use Rattle.cns_actions.specs.DueAmounts.{AmountsByKey, HasRoomForTrade, IsOneTradeMore, amount_for, no_amount}
 use Rattle.cns_actions.proofs.Merges.{is_at_key, makes_first, makes_other}
 
 -- ---- what is booked at a key

@@ -1,37 +1,11 @@
 -- The members with a position or an age in an issue, as rows show them and as a list of members names them.
-use Rattle.std.proofs.Common.{◌≡◌, ◌∙◌, sym, ap, subst, refl, ℕ, ◌+◌, ◌≤◌, ℤ, pos, ◌+ℤ◌, Bool, true, false, cond, not, ◌&&◌, ◌||◌, ◌==◌, nat_lt, unsigned_abs, List, [], ◌∷◌, map, filter, Some, None, unwrap_or, Ordering, zero-add, arith}
-use Rattle.std.specs.Cmp.Lexicographic.{slice_cmp}
-use Rattle.std.specs.FinMap.{find, is_sorted}
-use Rattle.std.specs.FinMap.Entries.{below_all}
-use Rattle.std.specs.List.{AllByRecursion, list_any}
-use Rattle.std.specs.Ordering.{int_eq, is_eq, is_lt, nat_cmp, ordering_then}
-use Rattle.std.specs.declared.cmp.Ordering.TheVariants.{Less, Equal, Greater}
-use Rattle.std.proofs.lemmas.Bool.{eqb-true, lt-ltb}
-use Rattle.std.proofs.lemmas.Bool.Decides.{Decides-int_eq, nat_tests}
-use Rattle.std.proofs.lemmas.Cmp.{nat_list_cmp_total, tied_itself}
-use Rattle.std.proofs.lemmas.Slice.Eq.{bytes_eq-Decides}
-use Rattle.cns_units.specs.declared.account.Account.{Account}
-use Rattle.cns_units.specs.declared.account.Member.{Member}
-use Rattle.cns_units.specs.declared.cusip.Cusip.{Cusip}
-use Rattle.cns_terms.specs.declared.holding.Holding.{Holding}
-use Rattle.cns_terms.specs.declared.holding.Key.{Key}
-use Rattle.cns_terms.specs.Actions.{AreHolders, are_distinct}
-use Rattle.cns_terms.specs.Entries.{corporation, holders}
-use Rattle.cns_terms.specs.Keys.{key_cmp}
-use Rattle.cns_terms.specs.Limits.{position_limit}
-use Rattle.cns_terms.specs.Sums.{same_issue, total}
-use Rattle.cns_terms.proofs.Accounts.{given_once, occurs, occurs_found, occurs_missing}
-use Rattle.cns_terms.proofs.Everywhere.{each_filter, each_map, each_stands, each_weaker}
-use Rattle.cns_terms.proofs.Facts.{and_false, and_left, and_right, both_true, bytes_refl, eqb_refl, eqb_sym, equal, or_right}
-use Rattle.cns_terms.proofs.Keys.{exact_keys, keys_total}
-use Rattle.cns_terms.proofs.Rising.{above_all, is_rising}
-use Rattle.cns_terms.proofs.Totals.{total-map, total-swap}
-use Rattle.cns_positions.specs.Rows.{Rows, held_above, holding_at, zeros}
-use Rattle.cns_positions.proofs.Unheld.{held_same, held_sorted}
-use Rattle.cns_actions.specs.declared.holder.Holder.{Holder}
-use Rattle.cns_actions.specs.Booked.{CanBeBooked, position_at, positions_in}
-use Rattle.cns_terms.specs.Holdings.{oldest_of}
-use Rattle.cns_actions.specs.Changes.{has_position, has_position_or_age, holder_of, holders_in, is_holder, with_position}
+use Rattle.std.proofs.Common.{◌≡◌, ◌∙◌, sym, ap, subst, refl, ℕ, ◌+◌, ◌≤◌, ℤ, pos, ◌+ℤ◌, Bool, true, false, cond, not, ◌&&◌, ◌||◌, ◌==◌, nat_lt, unsigned_abs, List, [], ◌∷◌, map, filter, Some, None, unwrap_or, Ordering, zero-add, arith, int_eq, is_eq, is_lt, nat_cmp, Less, Equal, Greater, eqb-true, lt-ltb}
+use Rattle.cns_actions.proofs.Common.{Account, AllByRecursion, AreHolders, CanBeBooked, Cusip, Holder, Holding, Key, Member, Rows, above_all, and_false, and_left, and_right, below_all, both_true, bytes_eq-Decides, bytes_refl, corporation, each_filter, each_map, each_weaker, eqb_refl, eqb_sym, equal, exact_keys, has_position, has_position_or_age, held_above, held_same, held_sorted, holder_of, holders, holders_in, holding_at, is_holder, is_rising, is_sorted, key_cmp, keys_total, list_any, nat_list_cmp_total, nat_tests, occurs, occurs_found, occurs_missing, oldest_of, or_right, ordering_then, position_at, position_limit, positions_in, same_issue, slice_cmp, tied_itself, total, total-map, total-swap, with_position, zeros}
+use Rattle.std.specs.FinMap.{find}
+use Rattle.std.proofs.lemmas.Bool.Decides.{Decides-int_eq}
+use Rattle.cns_terms.specs.Actions.{are_distinct}
+use Rattle.cns_terms.proofs.Accounts.{given_once}
+use Rattle.cns_terms.proofs.Everywhere.{each_stands}
 use Rattle.cns_actions.proofs.Walking.{held_own, nothing_below}
 
 -- the numbers of members

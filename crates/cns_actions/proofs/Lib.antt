@@ -11,3 +11,4 @@ pub mod Summing
 pub mod BookingOrder
 pub mod BookingSums
 pub mod BookingLimits
+pub mod Common

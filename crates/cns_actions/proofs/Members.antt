@@ -1,11 +1,7 @@
 -- Lists of members in order.
-use Rattle.std.proofs.Common.{◌≡◌, ap, refl, ℕ, true, false, not, ◌==◌, ◌||◌, List, [], ◌∷◌, arith}
-use Rattle.std.specs.List.{list_any}
-use Rattle.std.specs.Ordering.{is_lt, nat_cmp}
-use Rattle.std.proofs.lemmas.Bool.Decides.{nat_tests}
+use Rattle.std.proofs.Common.{◌≡◌, ap, refl, ℕ, true, false, not, ◌==◌, ◌||◌, List, [], ◌∷◌, arith, is_lt, nat_cmp}
+use Rattle.cns_actions.proofs.Common.{above_all, and_left, and_right, both_true, is_rising, list_any, nat_tests}
 use Rattle.cns_terms.specs.Actions.{are_distinct}
-use Rattle.cns_terms.proofs.Facts.{and_left, and_right, both_true}
-use Rattle.cns_terms.proofs.Rising.{above_all, is_rising}
 
 -- a number below all of a list is none of it
 above_none : (a : ℕ) (ms : List ℕ) → above_all nat_cmp a ms ≡ true → list_any (λ b. a == b) ms ≡ false

@@ -1,23 +1,10 @@
 -- Rows merged with bookings: their order, and what stands at each key.
-use Rattle.std.proofs.Common.{◌≡◌, ◌∙◌, sym, ap, subst, refl, ℕ, max, ℤ, pos, ◌+ℤ◌, Bool, true, false, cond, ◌&&◌, ◌==◌, List, [], ◌∷◌, ◌++◌, append-nil, inl, inr, MatchOption, Option, Some, None, unwrap_or, Ordering, arith}
-use Rattle.std.specs.Ordering.{is_eq, is_lt, ordering_reverse}
-use Rattle.std.specs.declared.cmp.Ordering.TheVariants.{Less, Equal, Greater}
-use Rattle.std.specs.FinMap.{find, is_sorted}
-use Rattle.std.specs.FinMap.Entries.{below_all}
-use Rattle.std.proofs.lemmas.Int.{ints}
-use Rattle.cns_terms.specs.declared.holding.Entry.{Entry}
-use Rattle.cns_terms.specs.declared.holding.Holding.{Holding}
-use Rattle.cns_terms.specs.declared.holding.Key.{Key}
-use Rattle.cns_terms.specs.Keys.{key_cmp}
-use Rattle.cns_terms.specs.Positions.{cents_for, shares_for}
-use Rattle.cns_terms.specs.Sums.{greatest, same_issue, total}
-use Rattle.cns_terms.proofs.Facts.{and_left, and_right, both_true, equal, less}
-use Rattle.cns_terms.proofs.Keys.{exact_keys, keys_total, same_key}
-use Rattle.cns_positions.specs.Rows.{Rows, holding_at, zeros}
-use Rattle.cns_actions.specs.declared.booking.Booking.{Booking}
-use Rattle.cns_actions.specs.Merging.{IsMerged, by_key, carried_to, entered, entries_in, key_of, makes}
+use Rattle.std.proofs.Common.{◌≡◌, ◌∙◌, sym, ap, subst, refl, ℕ, max, ℤ, pos, ◌+ℤ◌, Bool, true, false, cond, ◌&&◌, ◌==◌, List, [], ◌∷◌, ◌++◌, append-nil, inl, inr, MatchOption, Option, Some, None, unwrap_or, Ordering, arith, is_eq, is_lt, Less, Equal, Greater}
+use Rattle.cns_actions.proofs.Common.{Booking, Entry, Holding, IsMerged, IsTaken, Key, Rows, and_left, and_right, below_all, both_true, carried_to, cents_for, entries_in, equal, exact_keys, greatest, holding_at, ints, is_sorted, key_cmp, keys_total, less, makes, ordering_reverse, same_issue, same_key, shares_for, starts_before, total, zeros}
+use Rattle.std.specs.FinMap.{find}
+use Rattle.cns_actions.specs.Merging.{by_key, entered, key_of}
 use Rattle.cns_actions.specs.Merging.IsMerged.{nothing, row, booked, both}
-use Rattle.cns_actions.specs.Walks.{IsTaken, is_before, starts_before}
+use Rattle.cns_actions.specs.Walks.{is_before}
 use Rattle.cns_actions.proofs.Walking.{below_later, nothing_below}
 
 -- ---- what bookings make at a key

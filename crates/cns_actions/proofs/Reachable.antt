@@ -1,16 +1,7 @@
 -- Positions that can be booked stay so, where small numbers are added at an empty place.
-use Rattle.std.proofs.Common.{◌≡◌, ◌∙◌, sym, ap, refl, subst, ℕ, ◌≤◌, ℤ, pos, ◌+ℤ◌, unsigned_abs, Bool, true, false, cond, ◌&&◌, ◌==◌, [], arith}
-use Rattle.std.proofs.lemmas.Bool.{eqb-true}
-use Rattle.std.proofs.lemmas.Int.{ints}
-use Rattle.std.proofs.lemmas.Slice.Eq.{bytes_eq-Decides}
-use Rattle.cns_terms.specs.declared.holding.Holding.{Holding}
-use Rattle.cns_terms.specs.declared.holding.Key.{Key}
-use Rattle.cns_terms.specs.Entries.{corporation}
-use Rattle.cns_terms.specs.Limits.{amount_limit, corporation_limit, position_limit}
-use Rattle.cns_terms.specs.Sums.{same_issue}
-use Rattle.cns_terms.proofs.Facts.{and_left, and_right}
-use Rattle.cns_positions.specs.Rows.{Rows, booked, entry_of, holding_at, rolled}
-use Rattle.cns_actions.specs.Booked.{CanBeBooked}
+use Rattle.std.proofs.Common.{◌≡◌, ◌∙◌, sym, ap, refl, subst, ℕ, ◌≤◌, ℤ, pos, ◌+ℤ◌, unsigned_abs, Bool, true, false, cond, ◌&&◌, ◌==◌, [], arith, eqb-true}
+use Rattle.cns_actions.proofs.Common.{CanBeBooked, Holding, Key, Rows, amount_limit, and_left, and_right, bytes_eq-Decides, corporation, corporation_limit, holding_at, ints, position_limit, rolled, same_issue}
+use Rattle.cns_positions.specs.Rows.{booked, entry_of}
 
 -- keys with the same account and issue are the same
 same_place : (k q : Key) → ((k.account == q.account) && same_issue k.issue q.issue) ≡ true → k ≡ q

@@ -1,7 +1,7 @@
 -- Small numbers, passed and added in registers.
 use Rattle.std.proofs.Common.{◌≡◌, ◌∙◌, ap, ◌^◌, ◌<◌, ℤ, ◌+ℤ◌, unsigned_abs, w64, to_z, of_z, arith}
-use Rattle.std.specs.Int.{w128}
-use Rattle.std.proofs.lemmas.Int.{ints, fits_signed_from_abs, to_z-of_z}
+use Rattle.cns_actions.proofs.Common.{fits_signed_from_abs, ints, w128}
+use Rattle.std.proofs.lemmas.Int.{to_z-of_z}
 
 -- shares that are passed and added
 pub shares_sum : (x y : ℤ) → unsigned_abs x < 2 ^ 62 → unsigned_abs y < 2 ^ 62 → to_z w64 (of_z w64 (to_z w64 (of_z w64 x) +ℤ to_z w64 (of_z w64 y))) ≡ x +ℤ y

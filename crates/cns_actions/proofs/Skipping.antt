@@ -1,31 +1,11 @@
 -- Members with a position or an age in an issue, account by account: all rows of an account but that in the issue are passed
 -- over.
 -- For `next_holder` of holder.rt, clause next.
-use Rattle.std.proofs.Common.{◌≡◌, ◌∙◌, sym, ap, subst, refl, ℕ, ◌<◌, ◌≤◌, Bool, true, false, cond, not, ◌&&◌, ◌==◌, nat_lt, List, [], ◌∷◌, length, map, filter, Option, Some, None, unwrap_or, Ordering, arith}
-use Rattle.std.specs.Cmp.Lexicographic.{slice_cmp}
-use Rattle.std.specs.FinMap.{find, is_sorted}
-use Rattle.std.specs.FinMap.Entries.{below_all}
-use Rattle.std.specs.List.{AllByRecursion, cons_option}
-use Rattle.std.specs.Ordering.{is_eq, is_lt, nat_cmp, ordering_reverse, ordering_then}
-use Rattle.std.specs.declared.cmp.Ordering.TheVariants.{Less, Equal, Greater}
-use Rattle.std.proofs.lemmas.Bool.{eqb-true}
-use Rattle.std.proofs.lemmas.Bool.Decides.{nat_tests}
-use Rattle.std.proofs.lemmas.Slice.Eq.{bytes_eq-Decides}
-use Rattle.cns_units.specs.declared.account.Account.{Account}
-use Rattle.cns_units.specs.declared.cusip.Cusip.{Cusip}
-use Rattle.cns_terms.specs.declared.holding.Holding.{Holding}
-use Rattle.cns_terms.specs.declared.holding.Key.{Key}
-use Rattle.cns_terms.specs.Entries.{corporation}
-use Rattle.cns_terms.specs.Keys.{key_cmp}
-use Rattle.cns_terms.specs.Sums.{same_issue}
-use Rattle.cns_terms.proofs.Everywhere.{each_weaker}
-use Rattle.cns_terms.proofs.Facts.{and_false, and_left, and_right, both_true, bytes_refl, equal, holds, less}
-use Rattle.cns_terms.proofs.Keys.{exact_keys, keys_total}
-use Rattle.cns_positions.specs.Rows.{Rows, held_above, holding_at, is_above, is_held, zeros}
-use Rattle.cns_positions.proofs.Unheld.{held_same, held_sorted}
-use Rattle.cns_actions.specs.declared.holder.Holder.{Holder}
-use Rattle.cns_actions.specs.Changes.{has_position_or_age, holder_of, holders_in, is_holder}
-use Rattle.cns_actions.specs.Holding.{holder_at, holders_after, is_left, is_of_next}
+use Rattle.std.proofs.Common.{◌≡◌, ◌∙◌, sym, ap, subst, refl, ℕ, ◌<◌, ◌≤◌, Bool, true, false, cond, not, ◌&&◌, ◌==◌, nat_lt, List, [], ◌∷◌, length, map, filter, Option, Some, None, unwrap_or, Ordering, arith, is_eq, is_lt, nat_cmp, Less, Equal, Greater, eqb-true}
+use Rattle.cns_actions.proofs.Common.{Account, AllByRecursion, Cusip, Holder, Holding, Key, Rows, and_false, and_left, and_right, below_all, both_true, bytes_eq-Decides, bytes_refl, cons_option, corporation, each_weaker, equal, exact_keys, has_position_or_age, held_above, held_same, held_sorted, holder_of, holders_after, holders_in, holding_at, holds, is_holder, is_sorted, key_cmp, keys_total, less, nat_tests, ordering_reverse, ordering_then, same_issue, slice_cmp, zeros}
+use Rattle.std.specs.FinMap.{find}
+use Rattle.cns_positions.specs.Rows.{is_above, is_held}
+use Rattle.cns_actions.specs.Holding.{holder_at, is_left, is_of_next}
 use Rattle.cns_actions.proofs.Walking.{below_later, first_row, nothing_below, passed_row}
 
 -- ---- lists

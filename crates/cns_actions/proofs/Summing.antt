@@ -1,22 +1,7 @@
 -- Sums over the members with a position, as far as they were added up.
-use Rattle.std.proofs.Common.{◌≡◌, ◌∙◌, sym, ap, subst, ℕ, ◌*◌, ◌^◌, ◌<◌, ◌≤◌, ℤ, pos, ◌+ℤ◌, true, false, cond, not, Bool, ◌||◌, List, ◌∷◌, None, unsigned_abs, arith}
-use Rattle.std.specs.FinMap.{is_sorted}
-use Rattle.std.specs.List.{list_any}
-use Rattle.std.specs.Ordering.{int_eq, is_lt, nat_cmp}
-use Rattle.std.proofs.lemmas.Bool.Decides.{nat_tests}
-use Rattle.std.proofs.lemmas.Int.{ints}
-use Rattle.cns_units.specs.declared.cusip.Cusip.{Cusip}
-use Rattle.cns_terms.specs.Keys.{key_cmp}
-use Rattle.cns_terms.specs.Limits.{member_limit, position_limit}
-use Rattle.cns_terms.proofs.Facts.{and_left, and_right}
-use Rattle.cns_terms.proofs.Rising.{above_all}
-use Rattle.cns_positions.specs.Rows.{Rows, held_above}
-use Rattle.cns_actions.specs.declared.action.Action.{Action}
-use Rattle.cns_actions.specs.declared.change.Change.{Change}
-use Rattle.cns_actions.specs.declared.holder.Holder.{Holder}
-use Rattle.cns_actions.specs.Booked.{CanBeBooked, position_at}
-use Rattle.cns_actions.specs.Holding.{holders_after}
-use Rattle.cns_actions.specs.Changes.{IsFew, change_of, has_position, has_position_or_age, holders_in, sum_of, with_position}
+use Rattle.std.proofs.Common.{◌≡◌, ◌∙◌, sym, ap, subst, ℕ, ◌*◌, ◌^◌, ◌<◌, ◌≤◌, ℤ, pos, ◌+ℤ◌, true, false, cond, not, Bool, ◌||◌, List, ◌∷◌, None, unsigned_abs, arith, int_eq, is_lt, nat_cmp}
+use Rattle.cns_actions.proofs.Common.{Action, CanBeBooked, Change, Cusip, Holder, IsFew, Rows, above_all, and_left, and_right, change_of, has_position, has_position_or_age, held_above, holders_after, holders_in, ints, is_sorted, key_cmp, list_any, member_limit, nat_tests, position_at, position_limit, with_position}
+use Rattle.cns_actions.specs.Changes.{sum_of}
 use Rattle.cns_actions.proofs.Holders.{AreListed, above_zero, accounts, positions_kept, shown_listed}
 use Rattle.cns_actions.proofs.Skipping.{all_pass}
 

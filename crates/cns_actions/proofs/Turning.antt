@@ -1,17 +1,9 @@
 -- Rows that are rolled or kept as they are read.
-use Rattle.std.proofs.Common.{◌≡◌, ◌∙◌, None, sym, ap, refl, Bool, true, false, cond, ◌&&◌, [], ◌∷◌, MatchOption, Option, Some, unwrap_or, arith}
-use Rattle.std.specs.FinMap.{is_sorted}
-use Rattle.std.specs.FinMap.Entries.{below_all}
-use Rattle.std.specs.List.{AllByRecursion}
-use Rattle.std.specs.Ordering.{is_eq, is_lt}
-use Rattle.cns_terms.specs.declared.holding.Holding.{Holding}
-use Rattle.cns_terms.specs.declared.holding.Key.{Key}
-use Rattle.cns_terms.specs.Keys.{key_cmp}
-use Rattle.cns_positions.specs.Rows.{Rows, holding_at, zeros}
+use Rattle.std.proofs.Common.{◌≡◌, ◌∙◌, None, sym, ap, refl, Bool, true, false, cond, ◌&&◌, [], ◌∷◌, MatchOption, Option, Some, unwrap_or, arith, is_eq, is_lt}
+use Rattle.cns_actions.proofs.Common.{AllByRecursion, HasSpace, Holding, Key, Rows, below_all, holding_at, is_sorted, key_cmp, turned_rows, zeros}
 use Rattle.cns_actions.specs.declared.turn.Turn.{Turn}
+use Rattle.cns_actions.specs.Turns.{turned}
 use Rattle.cns_actions.specs.declared.turn.Turn.TheVariants as turn
-use Rattle.cns_actions.specs.Merging.{HasSpace}
-use Rattle.cns_actions.specs.Turns.{turned, turned_rows}
 
 -- zeros stay zeros
 turned_zeros : (t : Turn) → turned t zeros ≡ zeros

@@ -1,21 +1,7 @@
 -- The rows of a walk, and what stands at keys before and after it passed some.
-use Rattle.std.proofs.Common.{◌≡◌, ◌∙◌, sym, ap, subst, refl, true, false, cond, List, ◌∷◌, [], Option, Some, None, unwrap_or, MatchOption, Ordering}
-use Rattle.std.specs.Ordering.{is_eq, is_lt, ordering_reverse}
-use Rattle.std.specs.declared.cmp.Ordering.TheVariants.{Less, Equal, Greater}
-use Rattle.std.specs.FinMap.{find, is_sorted}
-use Rattle.std.specs.FinMap.Entries.{below_all}
-use Rattle.std.specs.List.{AllByRecursion}
-use Rattle.std.proofs.lemmas.Cmp.{tied_itself}
-use Rattle.cns_terms.specs.declared.holding.Holding.{Holding}
-use Rattle.cns_terms.specs.declared.holding.Key.{Key}
-use Rattle.cns_terms.specs.Keys.{key_cmp}
-use Rattle.cns_terms.proofs.Everywhere.{each_weaker}
-use Rattle.cns_terms.proofs.Facts.{and_left, and_right, both_true, less}
-use Rattle.cns_terms.proofs.Finds.{find_below}
-use Rattle.cns_terms.proofs.Keys.{exact_keys, keys_total}
-use Rattle.cns_positions.specs.Rows.{Rows, held_above, holding_at, zeros}
-use Rattle.cns_positions.proofs.Unheld.{held_same, held_sorted}
-use Rattle.cns_actions.specs.Walks.{starts_before, with_ahead}
+use Rattle.std.proofs.Common.{◌≡◌, ◌∙◌, sym, ap, subst, refl, true, false, cond, List, ◌∷◌, [], Option, Some, None, unwrap_or, MatchOption, Ordering, is_eq, is_lt, Less, Equal, Greater}
+use Rattle.cns_actions.proofs.Common.{AllByRecursion, Holding, Key, Rows, and_left, and_right, below_all, both_true, each_weaker, exact_keys, find_below, held_above, held_same, held_sorted, holding_at, is_sorted, key_cmp, keys_total, less, ordering_reverse, starts_before, tied_itself, with_ahead, zeros}
+use Rattle.std.specs.FinMap.{find}
 
 -- ---- the first row
 

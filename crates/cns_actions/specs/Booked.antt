@@ -1,17 +1,11 @@
 -- What entries make of positions.
 use Rattle.std.specs.Prelude.{◌≡◌, ◌≤◌, ℕ, max, ℤ, Bool, false, List, unsigned_abs, if◌then◌else◌}
-use Rattle.cns_units.specs.declared.account.Account.{Account}
-use Rattle.cns_units.specs.declared.account.Member.{Member}
-use Rattle.cns_units.specs.declared.cusip.Cusip.{Cusip}
+use Rattle.cns_terms.specs.Common.{Account, Cusip, Member, amount_limit, corporation, corporation_limit, oldest_of, position_limit, same_issue, waits_in}
 use Rattle.cns_terms.specs.declared.holding.Entry.{Entry}
 use Rattle.cns_terms.specs.declared.holding.Holding.{Holding}
 use Rattle.cns_terms.specs.declared.holding.Key.{Key}
-use Rattle.cns_terms.specs.Entries.{corporation, exchange_entries, split_entries}
-use Rattle.cns_terms.specs.Holdings.{oldest_of}
-use Rattle.cns_terms.specs.Limits.{amount_limit, corporation_limit, position_limit}
+use Rattle.cns_terms.specs.Entries.{exchange_entries, split_entries}
 use Rattle.cns_terms.specs.declared.pend.Pend.{Pend}
-use Rattle.cns_terms.specs.Pending.{waits_in}
-use Rattle.cns_terms.specs.Sums.{same_issue}
 use Rattle.cns_positions.specs.Rows.{Rows, holding_at}
 use Rattle.cns_actions.specs.declared.action.Action.{Action}
 use Rattle.cns_actions.specs.declared.action.Action.TheVariants as action

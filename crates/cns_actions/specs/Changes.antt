@@ -1,27 +1,18 @@
 -- What splits and exchanges make of positions.
-use Rattle.std.specs.Prelude.{◌≤◌, ◌*◌, ◌^◌, ℕ, ℤ, pos, ◌+ℤ◌, ◌-ℤ◌, neg_ℤ, Bool, not, ◌&&◌, ◌||◌, ◌==◌, nat_lt, List, [], ◌∷◌, ◌++◌, map, filter, unsigned_abs, None, if◌then◌else◌}
-use Rattle.std.specs.Cmp.Lexicographic.{slice_cmp}
-use Rattle.std.specs.List.{flat_map}
-use Rattle.std.specs.Ordering.{int_eq, is_lt, nat_cmp}
-use Rattle.cns_units.specs.declared.account.Account.{Account}
-use Rattle.cns_units.specs.declared.cusip.Cusip.{Cusip}
+use Rattle.std.specs.Prelude.{◌≤◌, ◌*◌, ◌^◌, ℕ, ℤ, pos, ◌+ℤ◌, ◌-ℤ◌, neg_ℤ, Bool, not, ◌&&◌, ◌||◌, ◌==◌, nat_lt, List, [], ◌∷◌, ◌++◌, map, filter, unsigned_abs, None, if◌then◌else◌, flat_map}
+use Rattle.cns_terms.specs.Common.{Account, Cusip, bought_in, converted, corporation, entry, in_exchange, in_lieu, is_beyond, is_lt, nat_cmp, oldest_of, same_issue, slice_cmp, sold_in, total}
+use Rattle.std.specs.Ordering.{int_eq}
 use Rattle.cns_terms.specs.declared.holding.Holding.{Holding}
 use Rattle.cns_terms.specs.declared.holding.Key.{Key}
-use Rattle.cns_terms.specs.Conversions.{converted, in_exchange, in_lieu}
-use Rattle.cns_terms.specs.Entries.{corporation, entry}
-use Rattle.cns_terms.specs.Holdings.{oldest_of}
 use Rattle.cns_terms.specs.declared.pend.Pend.{Pend}
-use Rattle.cns_terms.specs.Pending.{bought_in, sold_in}
-use Rattle.cns_terms.specs.Refusals.{is_beyond}
-use Rattle.cns_terms.specs.Sums.{same_issue, total}
 use Rattle.cns_positions.specs.Rows.{Rows, held_above}
 use Rattle.cns_actions.specs.declared.action.Action.{Action}
-use Rattle.cns_actions.specs.declared.action.Action.TheVariants as action
 use Rattle.cns_actions.specs.declared.booking.Booking.{Booking}
 use Rattle.cns_actions.specs.declared.change.Change.{Change}
 use Rattle.cns_actions.specs.declared.holder.Holder.{Holder}
 use Rattle.cns_actions.specs.Booked.{issue_of, position_at}
 use Rattle.cns_actions.specs.Merging.{booking}
+use Rattle.cns_actions.specs.declared.action.Action.TheVariants as action
 
 -- whether a position stands there
 abbrev pub has_position : Holding → Bool

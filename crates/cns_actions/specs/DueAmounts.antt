@@ -1,17 +1,11 @@
 -- What trades book once their date has come, added up by key.
-use Rattle.std.specs.Prelude.{◌≡◌, ◌<◌, ◌≤◌, ◌+◌, ◌^◌, pos, ◌+ℤ◌, true, List, filter, unwrap_or, unsigned_abs}
-use Rattle.std.specs.FinMap.{find, is_sorted}
-use Rattle.std.specs.List.{AllByRecursion, flat_map}
-use Rattle.cns_units.specs.declared.day.Day.{Day}
+use Rattle.std.specs.Prelude.{◌≡◌, ◌<◌, ◌≤◌, ◌+◌, ◌^◌, pos, ◌+ℤ◌, true, List, filter, unwrap_or, unsigned_abs, flat_map}
+use Rattle.cns_terms.specs.Common.{AllByRecursion, Day, cents_for, entry, is_sorted, key_cmp, money_limit, shares_for, shares_limit, total, trade_entries}
+use Rattle.std.specs.FinMap.{find}
 use Rattle.cns_terms.specs.declared.holding.Entry.{Entry}
 use Rattle.cns_terms.specs.declared.holding.Key.{Key}
 use Rattle.cns_terms.specs.declared.pend.Pend.{Pend}
-use Rattle.cns_terms.specs.Entries.{entry, trade_entries}
-use Rattle.cns_terms.specs.Keys.{key_cmp}
-use Rattle.cns_terms.specs.Limits.{money_limit, shares_limit}
 use Rattle.cns_terms.specs.Pending.{is_due}
-use Rattle.cns_terms.specs.Positions.{cents_for, shares_for}
-use Rattle.cns_terms.specs.Sums.{total}
 use Rattle.cns_actions.specs.declared.booking.Booking.{Booking}
 use Rattle.cns_actions.specs.declared.due_amounts.Amount.{Amount}
 use Rattle.cns_actions.specs.Merging.{booking}

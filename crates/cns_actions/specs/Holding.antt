@@ -1,9 +1,7 @@
 -- The members with a position or an age in an issue, account by account.
 use Rattle.std.specs.Prelude.{Bool, true, not, ◌&&◌, ◌==◌, nat_lt, List, filter, Option, Some, None, if◌then◌else◌}
-use Rattle.cns_units.specs.declared.account.Account.{Account}
-use Rattle.cns_units.specs.declared.cusip.Cusip.{Cusip}
+use Rattle.cns_terms.specs.Common.{Account, Cusip, corporation}
 use Rattle.cns_terms.specs.declared.holding.Key.{Key}
-use Rattle.cns_terms.specs.Entries.{corporation}
 use Rattle.cns_positions.specs.Rows.{Rows, held_above, holding_at}
 use Rattle.cns_actions.specs.declared.holder.Holder.{Holder}
 use Rattle.cns_actions.specs.Changes.{has_position_or_age, holder_of, holders_in}

@@ -1,13 +1,9 @@
 -- Rows, and what is booked on them.
 use Rattle.std.specs.Prelude.{◌≡◌, ◌<◌, ◌^◌, ℕ, ◌+ℤ◌, true, ◌&&◌, ◌==◌, List, [], ◌∷◌, map, unsigned_abs, if◌then◌else◌}
-use Rattle.std.specs.FinMap.{is_sorted}
-use Rattle.std.specs.FinMap.Entries.{below_all}
-use Rattle.std.specs.List.{AllByRecursion}
+use Rattle.cns_terms.specs.Common.{AllByRecursion, below_all, greatest, is_sorted, key_cmp, same_issue}
 use Rattle.cns_terms.specs.declared.holding.Entry.{Entry}
 use Rattle.cns_terms.specs.declared.holding.Holding.{Holding}
 use Rattle.cns_terms.specs.declared.holding.Key.{Key}
-use Rattle.cns_terms.specs.Keys.{key_cmp}
-use Rattle.cns_terms.specs.Sums.{greatest, same_issue}
 use Rattle.cns_positions.specs.Rows.{Rows, books, zeros}
 use Rattle.cns_actions.specs.declared.booking.Booking.{Booking}
 use Rattle.cns_actions.specs.Booked.{with_age}

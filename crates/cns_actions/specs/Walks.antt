@@ -1,10 +1,8 @@
 -- Walks over rows, and what they pass.
 use Rattle.std.specs.Prelude.{◌≡◌, ◌⊎◌, ℕ, Bool, true, false, List, [], ◌∷◌, ◌++◌, drop, Option, Some, None}
-use Rattle.std.specs.FinMap.Entries.{below_all}
-use Rattle.std.specs.Ordering.{is_lt}
+use Rattle.cns_terms.specs.Common.{below_all, is_lt, key_cmp}
 use Rattle.cns_terms.specs.declared.holding.Holding.{Holding}
 use Rattle.cns_terms.specs.declared.holding.Key.{Key}
-use Rattle.cns_terms.specs.Keys.{key_cmp}
 use Rattle.cns_positions.specs.Rows.{Rows, held_above, last_of, present, zeros}
 
 -- the rows of a walk that are left: those that were given and not passed, and those above them

@@ -1,52 +1,26 @@
 -- Splits and exchanges.
 -- For `split` and `exchange` of parts/actions.rt, clause step.
-use Rattle.std.proofs.Common.{◌≡◌, ◌∙◌, sym, ap, subst, refl, ℕ, max, ◌*◌, ◌≤◌, ℤ, ◌+ℤ◌, Bool, true, false, ◌&&◌, ◌||◌, ◌==◌, cond, List, ◌∷◌, map, reverse, Option, Some, None, arith}
-use Rattle.std.specs.Prelude.{bytes_eq, nat_lt, is_none, is_some, IfOk, IsSome, Result, Ok, Err}
-use Rattle.std.specs.List.{AllByRecursion, list_any}
+use Rattle.std.proofs.Common.{◌≡◌, ◌∙◌, sym, ap, subst, refl, ℕ, max, ◌*◌, ◌≤◌, ℤ, ◌+ℤ◌, Bool, true, false, ◌&&◌, ◌||◌, ◌==◌, cond, List, ◌∷◌, map, reverse, Option, Some, None, arith, bytes_eq, nat_lt, is_none, is_some, IfOk, IsSome, Result, Ok, Err}
+use Rattle.cns_book.proofs.Common.{Account, Activity, AllByRecursion, AreHolders, Contents, Cusip, Entry, Follows, FollowsNotices, FollowsRows, HasRoom, Holding, IsInRange, IsLimited, IsReached, Key, Listed, Pend, Rows, Rule, account_lt, activity_of, age_brought, all_fail, amount_limit, and_right, booking_limit, books, bought_in, changed_each, corporation, each_both, each_in_order, entries, entries_of, first_refusal, history_limit, holding, holding_at, is_beyond, is_held_up, is_too_large, is_too_large_at, issue_of, journal, limited, list_any, member_limit, members, members_from_one, nat_tests, oldest, oldest_of, pending, position_limit, positions_in, posting, price_in, refusal, retired_in, same_issue, shares_for, sold_in, total, waits_in, with_age}
 use Rattle.std.proofs.Math.Nat.{max-zero}
-use Rattle.std.proofs.lemmas.Bool.Decides.{nat_tests}
-use Rattle.cns_units.specs.declared.account.Account.{Account}
-use Rattle.cns_units.specs.declared.cusip.Cusip.{Cusip}
 use Rattle.cns_terms.specs.declared.action.Exchange.{Exchange}
 use Rattle.cns_terms.specs.declared.action.Split.{Split}
-use Rattle.cns_terms.specs.declared.command.Activity.{Activity}
-use Rattle.cns_terms.specs.declared.command.Activity.TheVariants as activity
-use Rattle.cns_terms.specs.declared.command.Command.TheVariants as command
-use Rattle.cns_terms.specs.declared.holding.Entry.{Entry}
-use Rattle.cns_terms.specs.declared.holding.Holding.{Holding}
-use Rattle.cns_terms.specs.declared.holding.Key.{Key}
-use Rattle.cns_terms.specs.declared.pend.Pend.{Pend}
-use Rattle.cns_terms.specs.Actions.{AreHolders}
-use Rattle.cns_terms.specs.Ages.{oldest}
-use Rattle.cns_terms.specs.Entries.{corporation, entries, exchange_entries, journal, posting, split_entries}
-use Rattle.cns_terms.specs.Holdings.{holding, oldest_of}
-use Rattle.cns_terms.specs.Limits.{amount_limit, booking_limit, history_limit, member_limit, position_limit}
-use Rattle.cns_terms.specs.Listings.{account_lt, members}
-use Rattle.cns_terms.specs.Pending.{bought_in, pending, sold_in, waits_in}
-use Rattle.cns_terms.specs.Positions.{position, shares_for}
-use Rattle.cns_terms.specs.Reached.{IsInRange, IsReached}
-use Rattle.cns_terms.specs.Refusals.{Rule, are_too_large, first_refusal, is_beyond, is_too_large, is_too_large_at, refusal}
-use Rattle.cns_terms.specs.Sums.{same_issue, total}
+use Rattle.cns_terms.specs.Entries.{exchange_entries, split_entries}
+use Rattle.cns_terms.specs.Positions.{position}
+use Rattle.cns_terms.specs.Refusals.{are_too_large}
 use Rattle.cns_terms.proofs.CarriedAges.{carried_on}
 use Rattle.cns_terms.proofs.Elsewhere.{no_account_elsewhere, no_position}
-use Rattle.cns_terms.proofs.Everywhere.{each_both, each_in_order}
-use Rattle.cns_terms.proofs.Facts.{and_right}
-use Rattle.cns_terms.proofs.Reached.{IsLimited, limited, members_from_one}
-use Rattle.cns_terms.proofs.Sound.{all_fail}
+use Rattle.cns_terms.specs.declared.command.Activity.TheVariants as activity
+use Rattle.cns_terms.specs.declared.command.Command.TheVariants as command
 use Rattle.cns_notices.specs.Noticed.{ended}
-use Rattle.cns_notices.proofs.Noticing.{changed_each, ended_by}
-use Rattle.cns_positions.specs.Rows.{Rows, books, holding_at}
-use Rattle.cns_prices.specs.Listed.{Listed, price_in, retired_in}
-use Rattle.cns_actions.specs.Booked.{CanBeBooked, age_brought, entries_of, issue_of, position_at, positions_in, waits_for, with_age}
+use Rattle.cns_notices.proofs.Noticing.{ended_by}
+use Rattle.cns_actions.specs.Booked.{CanBeBooked, position_at, waits_for}
 use Rattle.cns_actions.specs.declared.action.Action.{Action}
-use Rattle.cns_actions.specs.declared.action.Action.TheVariants as action
 use Rattle.cns_actions.proofs.Members.{rising_distinct}
-use Rattle.cns_book.specs.Contents.{Contents}
-use Rattle.cns_book.specs.Effects.{activity_of, is_held_up}
-use Rattle.cns_book.specs.Follows.{Follows, FollowsNotices, FollowsRows, HasRoom}
 use Rattle.cns_book.proofs.PendingSteps.{bought-reverse, sold-reverse, waits-reverse}
 use Rattle.cns_book.proofs.PartsStaying.{batches_stay, clock_stays, dividends_stay, sheets_stay}
 use Rattle.cns_book.proofs.PartsWithin.{member_within, rows_within}
+use Rattle.cns_actions.specs.declared.action.Action.TheVariants as action
 
 -- ---- what can be booked
 

@@ -1,11 +1,11 @@
 -- A book may go to another thread, where its positions may. Rattle shows as much by itself of a type that nothing below it
 -- holds itself; a tree's boxes do, so it is shown here of what a sheet stands in.
 -- For the struct Book of book.rt and the struct Parts of parts.rt.
+use Rattle.cns_book.proofs.Common.{IsSend, crosses, sendable}
 use denote.RattleType.{RattleType}
-use denote.Param.Send.{IsSend, sendable, view_send}
-use denote.Param.SendFields.{declared_send}
+use denote.Param.Send.{view_send}
 use Rattle.std.below.core.specs.contracts.clone.Clone+copy.TheImpl as copied
-use Rattle.std.proofs.Crossing.{crosses, frees, send}
+use denote.Param.SendFields.{declared_send}
 use Rattle.std.specs.contracts.alloc.Global
 use Rattle.std.specs.contracts.impls.GlobalAllocator.TheImpl as allocates
 use Rattle.cns_units.proofs.day.Day.TheSendSync as day
@@ -16,6 +16,7 @@ use Rattle.cns_dividends.proofs.dividends.Dividends.TheSendSync as dividends
 use Rattle.cns_notices.proofs.notices.Notices.TheSendSync as notices
 use Rattle.cns_retransmit.proofs.batches.Batches.TheSendSync as batches
 use Rattle.cns_positions.specs.declared.positions.Positions as positions
+use Rattle.std.proofs.Crossing.{frees, send}
 use Rattle.cns_sheets.proofs.Crossing.{sheet_send, sheet_sync}
 use Rattle.cns_book.specs.contracts.members.Members
 use Rattle.cns_book.specs.contracts.closed_days.ClosedDays

@@ -1,23 +1,13 @@
 -- One command more in the history.
 -- For `take` of book.rt, clause ok.
-use Rattle.std.proofs.Common.{◌≡◌, ◌∙◌, sym, ap, subst, refl, ℕ, suc, ◌+◌, ◌-◌, ◌≤◌, ◌<◌, Bool, true, false, cond, eqb, List, [], ◌∷◌, ◌++◌, length, set, get_or, reverse, Ok, arith}
-use Rattle.std.proofs.lemmas.List.{reverse-append, get_or-set_other}
-use Rattle.std.proofs.lemmas.List.Sums.{sum_by-cons}
+use Rattle.std.proofs.Common.{◌≡◌, ◌∙◌, sym, ap, subst, refl, ℕ, suc, ◌+◌, ◌-◌, ◌≤◌, ◌<◌, Bool, true, false, cond, eqb, List, [], ◌∷◌, ◌++◌, length, set, get_or, reverse, Ok, arith, get_or-set_other}
+use Rattle.cns_book.proofs.Common.{Activity, Command, Contents, Day, Follows, HasRoom, IsLegal, Reply, Taken, accepted, answer_to, count, history_limit, nat_tests, reverse-append, sum_by-cons}
 use Rattle.std.proofs.lemmas.Grind.{get_or-set_at}
-use Rattle.std.proofs.lemmas.Bool.Decides.{nat_tests}
-use Rattle.cns_units.specs.declared.day.Day.{Day}
-use Rattle.cns_terms.specs.declared.command.Activity.{Activity}
-use Rattle.cns_terms.specs.declared.command.Command.{Command}
-use Rattle.cns_terms.specs.declared.command.Command.TheVariants as command
-use Rattle.cns_terms.specs.declared.reply.Reply.{Reply}
-use Rattle.cns_terms.specs.declared.history.Taken.{Taken}
 use Rattle.cns_terms.specs.declared.worker.Worker.{Worker}
-use Rattle.cns_terms.specs.History.{accepted, count, IsLegal}
-use Rattle.cns_terms.specs.Limits.{history_limit}
-use Rattle.cns_terms.specs.Machine.{accepted_after, answer_to}
-use Rattle.cns_book.specs.Contents.{Contents}
-use Rattle.cns_book.specs.Follows.{Follows, Steps, HasRoom}
+use Rattle.cns_terms.specs.Machine.{accepted_after}
+use Rattle.cns_book.specs.Follows.{Steps}
 use Rattle.cns_book.specs.Legal.{IsBook}
+use Rattle.cns_terms.specs.declared.command.Command.TheVariants as command
 
 one_more : (b : Bool) (x : Activity) (L : List Activity) (n : ℕ) → length L ≤ n → length (cond b (x ∷ L) L) ≤ suc n
 one_more true x L n h = omega (arith, h)

@@ -1,26 +1,10 @@
 -- The entries of an execution, booked one after another.
 -- For `book_fills` of buy_in.rt.
-use Rattle.std.proofs.Common.{◌≡◌, ◌∙◌, sym, ap, subst, refl, ℕ, zero, suc, ◌+◌, ◌<◌, ℤ, pos, negsuc, ◌+ℤ◌, Bool, true, false, ◌&&◌, ◌==◌, cond, List, [], ◌∷◌, ◌++◌, length, map, take, get_or, arith}
-use Rattle.std.specs.List.{AllByRecursion}
-use Rattle.std.specs.Prelude.{int_lt, nat_lt}
-use Rattle.std.proofs.lemmas.Bool.{eqb-true}
-use Rattle.std.proofs.lemmas.Bool.Decides.{nat_tests}
-use Rattle.std.proofs.lemmas.Int.{ints}
-use Rattle.std.proofs.lemmas.List.{map-append, take_more}
-use Rattle.cns_units.specs.declared.account.Member.{Member}
-use Rattle.cns_terms.specs.declared.buy_in.Execution.{Execution}
-use Rattle.cns_terms.specs.declared.buy_in.Fill.{Fill}
+use Rattle.std.proofs.Common.{◌≡◌, ◌∙◌, sym, ap, subst, refl, ℕ, zero, suc, ◌+◌, ◌<◌, ℤ, pos, negsuc, ◌+ℤ◌, Bool, true, false, ◌&&◌, ◌==◌, cond, List, [], ◌∷◌, ◌++◌, length, map, take, get_or, arith, int_lt, nat_lt, eqb-true}
+use Rattle.cns_book.proofs.Common.{AllByRecursion, AreApart, CanBeExecuted, CanBeFilled, Entry, Execution, Fill, Holding, Key, Member, Notice, Rows, books, cents_for, entries_by, eqb_sym, fill_entry, filled_at, holding_at, ints, map-append, nat_tests, originator_at, originator_entry, same_issue, shares_for, take_more, total}
 use Rattle.cns_terms.specs.declared.buy_in.Given.{Given}
-use Rattle.cns_terms.specs.declared.holding.Entry.{Entry}
-use Rattle.cns_terms.specs.declared.holding.Holding.{Holding}
-use Rattle.cns_terms.specs.declared.holding.Key.{Key}
-use Rattle.cns_terms.specs.Entries.{fill_entry, originator_entry}
-use Rattle.cns_terms.specs.Notices.{Notice}
-use Rattle.cns_terms.specs.Positions.{cents_for, shares_for}
-use Rattle.cns_terms.specs.Sums.{same_issue, total}
-use Rattle.cns_terms.proofs.Facts.{eqb_sym}
-use Rattle.cns_positions.specs.Rows.{Rows, booked, books, holding_at}
-use Rattle.cns_book.specs.Executions.{AreApart, CanBeBought, CanBeExecuted, CanBeFilled, entries_by, filled_at, notice_of, originator_at}
+use Rattle.cns_positions.specs.Rows.{booked}
+use Rattle.cns_book.specs.Executions.{CanBeBought, notice_of}
 use Rattle.cns_book.proofs.EffectEntries.{books_more}
 use Rattle.cns_book.proofs.EffectPlaces.{books_none}
 

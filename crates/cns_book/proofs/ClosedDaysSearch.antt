@@ -1,33 +1,13 @@
 -- Searches for a closed day by its date.
 -- For closed_days.rt, and `sheet` of parts/reading.rt.
-use Rattle.std.proofs.Common.{◌≡◌, ◌∙◌, sym, ap, subst, refl, ℕ, zero, suc, ◌+◌, ◌-◌, ◌<◌, ◌≤◌, ℤ, Bool, true, false, cond, List, [], ◌∷◌, length, get_or, map, reverse, find, Option, Some, None, Result, Ok, Err, IfOk, IfErr, inl, inr, arith}
-use Rattle.std.specs.Prelude.{int_le, int_lt, not, option_map}
-use Rattle.std.specs.List.{AllWithin, HoldsAt}
-use Rattle.std.specs.List.Sorted.{IsBinarySearchResult, IsNonDecreasingBy, IsPartitionedBy, IsPartitionPoint}
-use Rattle.std.specs.Ordering.{int_cmp, int_eq, ordering_index}
-use Rattle.std.specs.declared.cmp.Ordering.{Ordering}
-use Rattle.std.specs.declared.cmp.Ordering.TheVariants.{Less, Equal, Greater}
-use Rattle.std.proofs.lemmas.Bool.{cases_lt}
-use Rattle.std.proofs.lemmas.Int.{ints}
-use Rattle.std.proofs.lemmas.List.{get_or-map, get_or-reverse, length-map, length-reverse}
-use Rattle.std.proofs.lemmas.List.Sorted.{IsNonDecreasingBy-from_default}
-use Rattle.cns_units.specs.Day.{day_number}
-use Rattle.cns_units.specs.declared.day.Day.{Day}
-use Rattle.std.specs.Prelude.{is_none, unwrap_or}
-use Rattle.std.specs.Option.{option_map_or}
-use Rattle.cns_units.specs.declared.account.Account.{Account}
-use Rattle.cns_terms.specs.declared.command.Activity.{Activity}
-use Rattle.cns_terms.specs.declared.refusal.Refusal.TheVariants.{NoSuchMember, NoSuchDay}
-use Rattle.cns_terms.specs.declared.reply.Reply.TheVariants as reply
-use Rattle.cns_terms.specs.Days.{closings, is_same_day}
-use Rattle.cns_terms.specs.Entries.{journal}
-use Rattle.cns_terms.specs.Refusals.{first_refusal}
-use Rattle.cns_terms.specs.Postings.{Journal}
-use Rattle.cns_terms.specs.Sheets.{DaySheet, day_sheet, sheet_on, statement}
+use Rattle.std.proofs.Common.{◌≡◌, ◌∙◌, sym, ap, subst, refl, ℕ, zero, suc, ◌+◌, ◌-◌, ◌<◌, ◌≤◌, ℤ, Bool, true, false, cond, List, [], ◌∷◌, length, get_or, map, reverse, find, Option, Some, None, Result, Ok, Err, IfOk, IfErr, inl, inr, arith, int_le, int_lt, not, option_map, HoldsAt, int_cmp, int_eq, Ordering, Less, Equal, Greater, is_none, unwrap_or}
+use Rattle.cns_book.proofs.Common.{Account, Activity, AllWithin, Contents, Day, DaySheet, Follows, IsAfter, IsBinarySearchResult, IsNonDecreasingBy, IsNonDecreasingBy-from_default, IsPartitionPoint, Journal, NoSuchMember, cases_lt, closings, day_number, day_sheet, first_refusal, ints, is_dated, is_dated_by, is_same_day, journal, length-map, length-reverse, option_map_or, ordering_index, sheet_as_of, sheet_on, statement}
+use Rattle.std.specs.List.Sorted.{IsPartitionedBy}
+use Rattle.std.proofs.lemmas.List.{get_or-map, get_or-reverse}
+use Rattle.cns_terms.specs.declared.refusal.Refusal.TheVariants.{NoSuchDay}
 use Rattle.cns_terms.proofs.Facts.{less_less}
-use Rattle.cns_book.specs.Contents.{Contents}
-use Rattle.cns_book.specs.Dated.{AreFalling, IsAfter, dated_sheet, is_dated, is_dated_by, sheet_as_of}
-use Rattle.cns_book.specs.Follows.{Follows}
+use Rattle.cns_book.specs.Dated.{AreFalling, dated_sheet}
+use Rattle.cns_terms.specs.declared.reply.Reply.TheVariants as reply
 
 -- the number of a sheet's day
 abbrev pub number : DaySheet → ℤ

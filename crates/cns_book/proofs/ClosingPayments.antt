@@ -1,46 +1,18 @@
 -- What a close pays by the sheets of the record dates is what the definitions say.
 -- For `close_day` of parts/closing.rt, clause step.
-use Rattle.std.proofs.Common.{◌≡◌, ◌∙◌, sym, ap, refl, ℕ, ◌≤◌, ℤ, pos, ◌+ℤ◌, neg_ℤ, Bool, true, false, not, ◌&&◌, ◌||◌, ◌==◌, cond, List, [], ◌∷◌, map, filter, find, Option, Some, None, unwrap_or, arith}
-use Rattle.std.specs.Prelude.{bytes_eq, filter_map, option_map}
-use Rattle.std.specs.FinMap.{is_sorted}
+use Rattle.std.proofs.Common.{◌≡◌, ◌∙◌, sym, ap, refl, ℕ, ◌≤◌, ℤ, pos, ◌+ℤ◌, neg_ℤ, Bool, true, false, not, ◌&&◌, ◌||◌, ◌==◌, cond, List, [], ◌∷◌, map, filter, find, Option, Some, None, unwrap_or, arith, bytes_eq, filter_map, option_map}
+use Rattle.cns_book.proofs.Common.{Account, AllByRecursion, Cusip, Day, DaySheet, Declared, IsSound, Journal, Key, Paying, Row, accounts, and_right, as_of, bytes_eq-Decides, cash, closings, cons_option, corporation, date, day_sheet, dividend, dividend_of, dividends, exact_keys, find_filter, found_number, idle_parts, in_order, ints, is_account, is_idle, is_not_after, is_sorted, issues, kept_if, key_cmp, keys_total, last_date, list_any, member_dividend, members, numbers, occurs, occurs_found, occurs_missing, option_map_or, payments_by, pays_before, row, said, same_issue, same_lists, same_sums, says, sheet_as_of, sheet_rows, sorted_numbers, total, total-map, total-neg, total-same, total-swap, total-zero, total_numbers}
+use Rattle.cns_terms.specs.Dividends.{due, is_due}
 use Rattle.std.specs.FinMap as finmap
-use Rattle.std.specs.List.{AllByRecursion, cons_option, list_any}
-use Rattle.std.specs.Option.{option_map_or}
-use Rattle.std.proofs.lemmas.Int.{ints}
-use Rattle.std.proofs.lemmas.Slice.Eq.{bytes_eq-Decides}
-use Rattle.cns_units.specs.declared.account.Account.{Account}
-use Rattle.cns_units.specs.declared.cusip.Cusip.{Cusip}
-use Rattle.cns_units.specs.declared.day.Day.{Day}
-use Rattle.cns_terms.specs.declared.action.Declared.{Declared}
-use Rattle.cns_terms.specs.declared.holding.Key.{Key}
-use Rattle.cns_terms.specs.declared.sheet.Row.{Row}
-use Rattle.cns_terms.specs.Days.{closings, date, is_not_after}
-use Rattle.cns_terms.specs.Dividends.{as_of, cash, dividend, dividends, due, is_due, last_date, member_dividend, pays_before}
-use Rattle.cns_terms.specs.Entries.{corporation}
-use Rattle.cns_terms.specs.Keys.{key_cmp}
-use Rattle.cns_terms.specs.Listings.{accounts, is_account, issues, members}
 use Rattle.cns_terms.specs.Positions.{position}
-use Rattle.cns_terms.specs.Postings.{Journal}
-use Rattle.cns_terms.specs.Sheets.{DaySheet, day_sheet, is_idle, row, sheet_rows}
-use Rattle.cns_terms.specs.Sums.{in_order, same_issue, total}
-use Rattle.cns_terms.proofs.Accounts.{occurs, occurs_found, occurs_missing}
 use Rattle.cns_terms.proofs.Cells.{cells, find_cells, sorted_cells}
 use Rattle.cns_terms.proofs.Elsewhere.{idle_at, no_account_elsewhere, no_position}
-use Rattle.cns_terms.proofs.Facts.{and_right}
-use Rattle.cns_terms.proofs.Finds.{find_filter, kept_if, same_lists}
-use Rattle.cns_terms.proofs.Keys.{exact_keys, keys_total}
 use Rattle.cns_terms.proofs.Paid.{no_cash}
 use Rattle.cns_terms.proofs.SheetLimits.{total-due}
-use Rattle.cns_terms.proofs.SheetRows.{says}
-use Rattle.cns_terms.proofs.SheetSums.{idle_parts}
-use Rattle.cns_terms.proofs.Sound.{IsSound}
-use Rattle.cns_terms.proofs.Totals.{total-map, total-neg, total-same, total-swap, total-zero}
 use Rattle.cns_sheets.specs.Build.{by_key, key_of}
 use Rattle.cns_sheets.specs.Search.{row_at}
-use Rattle.cns_sheets.specs.Payments.{Paying, dividend_of, member_cash, paid, said}
-use Rattle.cns_book.specs.Dated.{payments_by, sheet_as_of}
+use Rattle.cns_sheets.specs.Payments.{member_cash, paid}
 use Rattle.cns_book.proofs.ClosingRows.{closing_found, number_found, of_all, shown_rise}
-use Rattle.cns_sheets.proofs.Balance.{found_number, numbers, same_sums, sorted_numbers, total_numbers}
 
 -- ---- who is not there
 

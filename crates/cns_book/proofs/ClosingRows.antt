@@ -1,31 +1,12 @@
 -- What a closed day's sheet of the definitions shows at each key.
 -- For `close_day` of parts/closing.rt, clause step.
-use Rattle.std.proofs.Common.{◌≡◌, ◌∙◌, sym, ap, refl, ℤ, pos, Bool, true, false, ◌&&◌, cond, List, [], ◌∷◌, ◌++◌, map, filter, flat_map, Some, None}
-use Rattle.std.specs.Prelude.{bytes_eq}
-use Rattle.std.specs.FinMap.{find, is_sorted}
-use Rattle.std.specs.List.{list_any}
-use Rattle.std.specs.Option.{option_map_or}
-use Rattle.std.proofs.lemmas.List.{map-append}
-use Rattle.std.proofs.lemmas.List.Elements.{filter-append}
-use Rattle.cns_units.specs.declared.account.Account.{Account}
-use Rattle.cns_units.specs.declared.cusip.Cusip.{Cusip}
-use Rattle.cns_units.specs.declared.day.Day.{Day}
-use Rattle.cns_terms.specs.declared.holding.Key.{Key}
-use Rattle.cns_terms.specs.declared.sheet.Row.{Row}
-use Rattle.cns_terms.specs.Keys.{key_cmp}
-use Rattle.cns_terms.specs.Listings.{accounts, is_account, issues}
-use Rattle.cns_terms.specs.Positions.{money, position}
-use Rattle.cns_terms.specs.Postings.{Journal}
-use Rattle.cns_terms.specs.Sheets.{row, rows_of, sheet_rows}
+use Rattle.std.proofs.Common.{◌≡◌, ◌∙◌, sym, ap, refl, ℤ, pos, Bool, true, false, ◌&&◌, cond, List, [], ◌∷◌, ◌++◌, map, filter, flat_map, Some, None, bytes_eq}
+use Rattle.cns_book.proofs.Common.{Account, Cusip, Day, IsSound, Journal, Key, Row, accounts, closing_at, filter-append, find_filter, idle_parts, is_account, is_sorted, issues, kept_if, key_cmp, keys_total, list_any, map-append, money, option_map_or, row, rows_of, says, sheet_rows, sorted_filter}
+use Rattle.std.specs.FinMap.{find}
+use Rattle.cns_terms.specs.Positions.{position}
 use Rattle.cns_terms.proofs.Cells.{cells, cells_of, find_cells, sorted_cells}
 use Rattle.cns_terms.proofs.Elsewhere.{idle_at}
-use Rattle.cns_terms.proofs.Finds.{find_filter, kept_if, sorted_filter}
-use Rattle.cns_terms.proofs.Keys.{keys_total}
-use Rattle.cns_terms.proofs.SheetRows.{says}
-use Rattle.cns_terms.proofs.SheetSums.{idle_parts}
-use Rattle.cns_terms.proofs.Sound.{IsSound}
 use Rattle.cns_sheets.specs.Build.{by_key, key_of}
-use Rattle.cns_sheets.specs.Payments.{closing_at}
 
 -- one row more, or not, with its key
 with_key : (b : Bool) (r : Row) (rs : List Row) (es : List (Key × Row)) → by_key rs ≡ es → by_key (cond b (r ∷ rs) rs) ≡ cond b ((key_of r, r) ∷ es) es

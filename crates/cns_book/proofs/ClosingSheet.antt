@@ -1,53 +1,25 @@
 -- The sheet that a close cuts is the one of the definitions.
 -- For `close_day` of parts/closing.rt, clause step.
-use Rattle.std.proofs.Common.{◌≡◌, ◌∙◌, sym, ap, subst, refl, ℕ, ◌+◌, ◌*◌, ◌≤◌, ◌<◌, ℤ, pos, Bool, true, false, cond, List, [], ◌∷◌, length, map, filter, Option, Some, None, unwrap_or, arith}
-use Rattle.std.specs.Prelude.{option_map, slice_get, unsigned_abs}
-use Rattle.std.specs.Cmp.Lexicographic.{slice_cmp}
-use Rattle.std.specs.FinMap.{find, is_sorted}
-use Rattle.std.specs.List.{AllByRecursion, cons_option}
-use Rattle.std.specs.Option.{option_map_or}
-use Rattle.std.specs.Ordering.{is_eq, nat_cmp}
-use Rattle.std.proofs.lemmas.Cmp.{nat_list_cmp_total, tied_itself}
-use Rattle.std.proofs.lemmas.Map.Lookups.{exact_bytes}
-use Rattle.cns_units.specs.declared.cusip.Cusip.{Cusip}
-use Rattle.cns_units.specs.declared.day.Day.{Day}
-use Rattle.cns_terms.specs.declared.action.Declared.{Declared}
-use Rattle.cns_terms.specs.declared.command.Activity.{Activity}
-use Rattle.cns_terms.specs.declared.holding.Holding.{Holding}
-use Rattle.cns_terms.specs.declared.holding.Key.{Key}
-use Rattle.cns_terms.specs.declared.sheet.Row.{Row}
-use Rattle.cns_terms.specs.Days.{closings, date, is_not_after, last_close}
-use Rattle.cns_terms.specs.Dividends.{dividend, dividends, is_due, last_date, pays_before}
-use Rattle.cns_terms.specs.Entries.{journal}
-use Rattle.cns_terms.specs.Keys.{key_cmp}
-use Rattle.cns_terms.specs.Limits.{amount_limit, booking_limit, history_limit, rate_limit}
-use Rattle.cns_terms.specs.Listings.{accounts, is_listed, issues, price}
-use Rattle.cns_terms.specs.Positions.{money, position}
-use Rattle.cns_terms.specs.Postings.{Journal}
-use Rattle.cns_terms.specs.Sheets.{DaySheet, day_sheet, row, rows_for, sheet_prices, sheet_rows}
-use Rattle.cns_terms.specs.Sums.{in_order, same_issue, total}
-use Rattle.cns_terms.proofs.Accounts.{occurs}
-use Rattle.cns_terms.proofs.Everywhere.{each_both, each_filter, each_in_order}
-use Rattle.cns_terms.proofs.Facts.{and_left, and_right, equal, journal_len}
-use Rattle.cns_terms.proofs.Finds.{find_below, same_lists, tied_below}
-use Rattle.cns_terms.proofs.Keys.{keys_total}
+use Rattle.std.proofs.Common.{◌≡◌, ◌∙◌, sym, ap, subst, refl, ℕ, ◌+◌, ◌*◌, ◌≤◌, ◌<◌, ℤ, pos, Bool, true, false, cond, List, [], ◌∷◌, length, map, filter, Option, Some, None, unwrap_or, arith, option_map, slice_get, unsigned_abs, is_eq, nat_cmp}
+use Rattle.cns_book.proofs.Common.{Activity, AllByRecursion, CanBePaid, Contents, Cusip, Day, DaySheet, Declared, Follows, Holding, IsCut, IsLimited, IsReady, IsSound, Journal, Key, Listed, Paying, Row, Rows, accounts, amount_limit, and_left, and_right, booking_limit, closing_at, closings, cons_option, date, day_sheet, dividend, dividend_of, dividends, each_both, each_filter, each_in_order, equal, exact_bytes, find_below, find_with, found_number, history_limit, holding_at, in_order, is_listed, is_not_after, is_sorted, issues, issues_few, journal, journal_len, key_cmp, keys_total, last_close, last_date, last_dated, limited, limited_past, money, nat_list_cmp_total, numbers, occurs, option_map_or, payments_by, pays_before, price, price_in, prices_of, rate_limit, row, rows_for, said, same_issue, same_lists, same_sums, sheet_as_of, sheet_rows, slice_cmp, sorted_numbers, tied_itself, total, total-map, total_numbers}
+use Rattle.std.specs.FinMap.{find}
+use Rattle.cns_terms.specs.Dividends.{is_due}
+use Rattle.cns_terms.specs.Positions.{position}
+use Rattle.cns_terms.specs.Sheets.{sheet_prices}
+use Rattle.cns_terms.proofs.Finds.{tied_below}
 use Rattle.cns_terms.proofs.PriceLists.{price_or_zero, sheet_price}
-use Rattle.cns_terms.proofs.Valued.{find_with, sorted_with}
-use Rattle.cns_terms.proofs.Reached.{AreSmallRates, IsLimited, limited, limited_past}
-use Rattle.cns_terms.proofs.SheetBounds.{closings_zero, issues_few, moneys_zero, rows_few}
+use Rattle.cns_terms.proofs.Valued.{sorted_with}
+use Rattle.cns_terms.proofs.Reached.{AreSmallRates}
+use Rattle.cns_terms.proofs.SheetBounds.{closings_zero, moneys_zero, rows_few}
 use Rattle.cns_terms.proofs.SheetLimits.{account_cents_small, account_dividends_small, accounts_grew, due_few, payable}
-use Rattle.cns_terms.proofs.Sound.{IsSound, sound_last}
-use Rattle.cns_terms.proofs.Totals.{total-map}
-use Rattle.cns_positions.specs.Rows.{Rows, holding_at, zeros}
-use Rattle.cns_prices.specs.Listed.{Listed, listed_above, price_in}
-use Rattle.cns_sheets.specs.Build.{HaveSmallAmounts, by_key, key_of, priced_row, prices_of}
-use Rattle.cns_sheets.specs.Condition.{CanBePaid, IsReady, held_in, rows_before}
-use Rattle.cns_sheets.specs.Payments.{IsCut, IsPayable, Paying, closing_at, cut_row, dividend_of, said}
-use Rattle.cns_sheets.proofs.Balance.{found_number, none_in, numbers, numbers_in, same_sums, sorted_numbers, total_numbers}
+use Rattle.cns_terms.proofs.Sound.{sound_last}
+use Rattle.cns_positions.specs.Rows.{zeros}
+use Rattle.cns_prices.specs.Listed.{listed_above}
+use Rattle.cns_sheets.specs.Build.{HaveSmallAmounts, by_key, key_of, priced_row}
+use Rattle.cns_sheets.specs.Condition.{held_in, rows_before}
+use Rattle.cns_sheets.specs.Payments.{IsPayable, cut_row}
+use Rattle.cns_sheets.proofs.Balance.{none_in, numbers_in}
 use Rattle.cns_sheets.proofs.Kept.{listed_found, prices_rise}
-use Rattle.cns_book.specs.Contents.{Contents}
-use Rattle.cns_book.specs.Dated.{last_dated, payments_by, sheet_as_of}
-use Rattle.cns_book.specs.Follows.{Follows}
 use Rattle.cns_book.proofs.ClosingSteps.{whole_reached}
 use Rattle.cns_book.proofs.ClosingPayments.{IsEarlier, dividends_are, rows_are_cut}
 use Rattle.cns_book.proofs.ClosingRows.{closing_found, money_found, shown_rise}

@@ -1,41 +1,16 @@
 -- The close of a day.
 -- For `close_day` of parts/closing.rt, clause step.
-use Rattle.std.proofs.Common.{◌≡◌, ◌∙◌, sym, ap, subst, refl, ℕ, ◌+◌, ◌-◌, ◌^◌, ◌<◌, min, ℤ, pos, Bool, true, false, cond, not, List, [], ◌∷◌, ◌++◌, filter, flat_map, map, reverse, Option, Some, None, MatchOption, arith}
-use Rattle.std.specs.Option.{IfSome}
-use Rattle.std.specs.Prelude.{int_le, int_lt, is_none}
-use Rattle.std.specs.List.{AllByRecursion}
-use Rattle.std.specs.Ordering.{int_cmp, is_le}
-use Rattle.std.proofs.lemmas.Int.{ints}
-use Rattle.cns_units.specs.Day.{day_number}
-use Rattle.cns_units.specs.declared.day.Day.{Day}
-use Rattle.cns_terms.specs.declared.command.Activity.{Activity}
+use Rattle.std.proofs.Common.{◌≡◌, ◌∙◌, sym, ap, subst, refl, ℕ, ◌+◌, ◌-◌, ◌^◌, ◌<◌, min, ℤ, pos, Bool, true, false, cond, not, List, [], ◌∷◌, ◌++◌, filter, flat_map, map, reverse, Option, Some, None, MatchOption, arith, IfSome, int_le, int_lt, is_none, int_cmp, is_le}
+use Rattle.cns_book.proofs.Common.{Activity, AllByRecursion, Contents, Day, DaySheet, Follows, HasRoom, IsAfter, IsWhole, Journal, Key, Liables, Pend, Rows, Traded, all_fail, batches_since, books, changed_each, closes, closings, date, day, day_number, day_sheet, entries, history_limit, holding, holding_at, ints, is_not_after, journal, journal_len, limited, oldest, pending, posting, refusal, rolled, trade_entries}
+use Rattle.cns_terms.specs.Pending.{due, is_due, trades as trades_of}
+use Rattle.cns_terms.specs.Positions.{position}
+use Rattle.cns_terms.specs.Refusals.{rules}
+use Rattle.cns_terms.proofs.CarriedAges.{oldest_le}
+use Rattle.cns_notices.specs.Noticed.{expired}
+use Rattle.cns_notices.proofs.Noticing.{expired_by}
+use Rattle.cns_trades.specs.Used.{is_used}
 use Rattle.cns_terms.specs.declared.command.Activity.TheVariants as activity
 use Rattle.cns_terms.specs.declared.command.Command.TheVariants as command
-use Rattle.cns_terms.specs.declared.holding.Key.{Key}
-use Rattle.cns_terms.specs.declared.pend.Pend.{Pend}
-use Rattle.cns_terms.specs.Ages.{oldest}
-use Rattle.cns_terms.specs.Days.{closes, closings, date, day, is_not_after}
-use Rattle.cns_terms.specs.Batches.{Liables}
-use Rattle.cns_terms.specs.Entries.{entries, journal, posting, trade_entries}
-use Rattle.cns_terms.specs.Fills.{batches_since}
-use Rattle.cns_terms.specs.Limits.{history_limit}
-use Rattle.cns_terms.specs.Holdings.{holding}
-use Rattle.cns_terms.specs.Pending.{due, is_due, pending, trades as trades_of}
-use Rattle.cns_terms.specs.Positions.{position}
-use Rattle.cns_terms.specs.Postings.{Journal}
-use Rattle.cns_terms.specs.Refusals.{refusal, rules}
-use Rattle.cns_terms.specs.Sheets.{DaySheet, day_sheet}
-use Rattle.cns_terms.proofs.CarriedAges.{oldest_le}
-use Rattle.cns_terms.proofs.Facts.{journal_len}
-use Rattle.cns_terms.proofs.Reached.{limited}
-use Rattle.cns_terms.proofs.Sound.{IsWhole, all_fail}
-use Rattle.cns_notices.specs.Noticed.{expired}
-use Rattle.cns_notices.proofs.Noticing.{changed_each, expired_by}
-use Rattle.cns_positions.specs.Rows.{Rows, books, holding_at, rolled}
-use Rattle.cns_trades.specs.Used.{Traded, is_used}
-use Rattle.cns_book.specs.Contents.{Contents}
-use Rattle.cns_book.specs.Dated.{IsAfter}
-use Rattle.cns_book.specs.Follows.{Follows, HasRoom}
 use Rattle.cns_book.proofs.EffectPlaces.{books_none}
 use Rattle.cns_book.proofs.MachineSteps.{no_refusal}
 use Rattle.cns_book.proofs.PendingSteps.{filter-reverse, still_later}

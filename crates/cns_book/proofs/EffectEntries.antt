@@ -1,19 +1,9 @@
 -- Entries, booked one after another.
 -- For `book` of effect.rt.
-use Rattle.std.proofs.Common.{◌≡◌, ◌∙◌, sym, ap, subst, refl, ℕ, suc, zero, ◌+◌, ◌*◌, ◌^◌, ◌≤◌, ◌<◌, ℤ, pos, ◌+ℤ◌, Bool, true, false, cond, List, [], ◌∷◌, ◌++◌, length, map, take, get_or, arith}
-use Rattle.std.specs.Prelude.{unsigned_abs, Contains}
-use Rattle.std.proofs.lemmas.Int.{ints}
-use Rattle.std.proofs.lemmas.List.{get_or-map, length-map, take_more}
-use Rattle.std.proofs.lemmas.List.Elements.{Contains-get_or}
-use Rattle.cns_terms.specs.declared.holding.Entry.{Entry}
-use Rattle.cns_terms.specs.declared.holding.Holding.{Holding}
-use Rattle.cns_terms.specs.declared.holding.Key.{Key}
-use Rattle.cns_terms.specs.Limits.{booking_limit, corporation_limit, history_limit}
-use Rattle.cns_terms.specs.Positions.{cents_for, shares_for}
-use Rattle.cns_terms.specs.Sums.{total}
-use Rattle.cns_terms.proofs.Totals.{total-append}
-use Rattle.cns_positions.specs.Rows.{Rows, booked, books, holding_at}
-use Rattle.cns_trades.specs.Checks.{AreSmallEntries, IsSmallEntry}
+use Rattle.std.proofs.Common.{◌≡◌, ◌∙◌, sym, ap, subst, refl, ℕ, suc, zero, ◌+◌, ◌*◌, ◌^◌, ◌≤◌, ◌<◌, ℤ, pos, ◌+ℤ◌, Bool, true, false, cond, List, [], ◌∷◌, ◌++◌, length, map, take, get_or, arith, unsigned_abs, Contains}
+use Rattle.cns_book.proofs.Common.{AreSmallEntries, Contains-get_or, Entry, Holding, IsSmallEntry, Key, Rows, booking_limit, books, cents_for, corporation_limit, history_limit, holding_at, ints, length-map, shares_for, take_more, total, total-append}
+use Rattle.std.proofs.lemmas.List.{get_or-map}
+use Rattle.cns_positions.specs.Rows.{booked}
 use Rattle.cns_book.specs.Effects.{AreWithin, place_of, places_of}
 
 one_last : (a b q : ℤ) → (a +ℤ (b +ℤ pos 0)) +ℤ q ≡ (a +ℤ q) +ℤ b

@@ -1,19 +1,10 @@
 -- What one posting more makes of what stands at a key.
 -- For `book` of effect.rt, and every command, clause step.
-use Rattle.std.proofs.Common.{◌≡◌, false, cond, [], ◌∷◌, None, unwrap_or}
-use Rattle.std.specs.Prelude.{slice_get}
-use Rattle.cns_terms.specs.declared.holding.Holding.{Holding}
-use Rattle.cns_terms.specs.declared.holding.Key.{Key}
+use Rattle.std.proofs.Common.{◌≡◌, false, cond, [], ◌∷◌, None, unwrap_or, slice_get}
+use Rattle.cns_book.proofs.Common.{Holding, Journal, Key, Posting, books, cents_for, closings, exchanged, holding, is_close, open_day, total, zero_add}
 use Rattle.cns_terms.specs.Ages.{closes_short}
-use Rattle.cns_terms.specs.Days.{closings, is_close, open_day}
-use Rattle.cns_terms.specs.Holdings.{holding}
-use Rattle.cns_terms.specs.Listings.{exchanged}
-use Rattle.cns_terms.specs.Positions.{cents_for, position}
-use Rattle.cns_terms.specs.Postings.{Journal, Posting}
-use Rattle.cns_terms.specs.Sums.{total}
+use Rattle.cns_terms.specs.Positions.{position}
 use Rattle.cns_terms.proofs.CarriedAges.{carried_same}
-use Rattle.cns_terms.proofs.Facts.{zero_add}
-use Rattle.cns_positions.specs.Rows.{books}
 
 -- a posting that closes no day and exchanges no issue books its entries
 pub holding-post : (p : Posting) (J : Journal) (k : Key) → is_close p.activity ≡ false → exchanged p.activity ≡ None → holding (p ∷ J) k.account k.issue ≡ books p.entries k (holding J k.account k.issue)

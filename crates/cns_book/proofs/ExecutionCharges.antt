@@ -1,29 +1,11 @@
 -- The batches of the closed days after an execution.
 -- For `execute` of parts/execution.rt, clause step.
-use Rattle.std.proofs.Common.{◌≡◌, ◌∙◌, ap, refl, ℕ, zero, suc, ◌+◌, ◌<◌, Bool, true, false, cond, ◌&&◌, ◌==◌, List, [], ◌∷◌, ◌++◌, filter, length, map, Some, reverse, arith}
-use Rattle.std.specs.Option.{option_map_or}
-use Rattle.std.specs.Prelude.{nat_lt}
-use Rattle.std.proofs.lemmas.Bool.Decides.{nat_tests}
-use Rattle.std.proofs.lemmas.Cmp.{nat_list_eq_equiv}
-use Rattle.std.proofs.lemmas.List.{length-map, length-reverse, reverse-append}
-use Rattle.cns_units.specs.declared.cusip.Cusip.{Cusip}
-use Rattle.cns_units.specs.declared.day.Day.{Day}
-use Rattle.cns_terms.specs.declared.buy_in.Execution.{Execution}
-use Rattle.cns_terms.specs.declared.buy_in.Fill.{Fill}
-use Rattle.cns_terms.specs.declared.command.Activity.TheVariants as activity
-use Rattle.cns_terms.specs.Batches.{Liables}
-use Rattle.cns_terms.specs.Days.{closings, day, is_close}
-use Rattle.cns_terms.specs.Entries.{entries, execution_entries, posting}
-use Rattle.cns_terms.specs.Fills.{batch_since, batches_since, charged, executes, fills}
-use Rattle.cns_terms.specs.Listings.{issues}
-use Rattle.cns_terms.specs.Notices.{Notice, notice_at}
-use Rattle.cns_terms.specs.Postings.{Journal, Posting}
-use Rattle.cns_terms.specs.Sums.{changed_at, same_issue}
+use Rattle.std.proofs.Common.{◌≡◌, ◌∙◌, ap, refl, ℕ, zero, suc, ◌+◌, ◌<◌, Bool, true, false, cond, ◌&&◌, ◌==◌, List, [], ◌∷◌, ◌++◌, filter, length, map, Some, reverse, arith, nat_lt}
+use Rattle.cns_book.proofs.Common.{Cusip, Day, Execution, Fill, Journal, Liables, Notice, Posting, batch_since, batches_since, changed_at, charged, charged_on, closings, day, entries, eqb_sym, executes, execution_entries, fills, is_close, issues, kept_batches, length-map, length-reverse, nat_list_eq_equiv, nat_tests, notice_at, option_map_or, posting, reverse-append, same_issue}
 use Rattle.cns_terms.proofs.BatchSteps.{batch_charged, batch_same}
-use Rattle.cns_terms.proofs.Facts.{eqb_sym}
-use Rattle.cns_retransmit.specs.Days.{charged_if, charged_in, charged_on}
-use Rattle.cns_book.specs.Follows.{kept_batches}
+use Rattle.cns_retransmit.specs.Days.{charged_if, charged_in}
 use Rattle.cns_book.proofs.RetransmittalBatches.{in_issue, since_same}
+use Rattle.cns_terms.specs.declared.command.Activity.TheVariants as activity
 
 -- ---- the days of the closings
 

@@ -1,34 +1,13 @@
 -- The fills of an execution that is not refused can be booked.
 -- For `make_fills` of parts/execution.rt, clause booked.
-use Rattle.std.proofs.Common.{◌≡◌, ◌∙◌, ap, refl, subst, sym, ℕ, ◌+◌, ◌-◌, ◌≤◌, min, ℤ, pos, negsuc, Bool, true, false, cond, List, [], ◌∷◌, filter, sum_by, arith}
-use Rattle.std.specs.List.{AllByRecursion}
-use Rattle.std.specs.Prelude.{◌==◌, int_lt, nat_lt}
+use Rattle.std.proofs.Common.{◌≡◌, ◌∙◌, ap, refl, subst, sym, ℕ, ◌+◌, ◌-◌, ◌≤◌, min, ℤ, pos, negsuc, Bool, true, false, cond, List, [], ◌∷◌, filter, sum_by, arith, ◌==◌, int_lt, nat_lt}
+use Rattle.cns_book.proofs.Common.{Activity, AllByRecursion, AreApart, CanBeExecuted, CanBeFilled, Contents, Execution, Fill, Follows, IsExecutable, IsInRange, Key, Liable, Member, Notice, batch, capacity, cents_of_fills, each_both, each_filter, each_weaker, eqb_refl, eqb_sym, filled_at, fills, fills_laid, holding_at, journal, laid, long, nat_tests, originator_at, shares_of_fills, short, stretch, sum_by-cons}
 use Rattle.std.proofs.Math.Nat.{min-le_right}
-use Rattle.std.proofs.lemmas.Bool.Decides.{nat_tests}
-use Rattle.std.proofs.lemmas.List.Sums.{sum_by-cons}
-use Rattle.cns_units.specs.declared.account.Member.{Member}
-use Rattle.cns_terms.specs.declared.buy_in.Execution.{Execution}
-use Rattle.cns_terms.specs.declared.buy_in.Fill.{Fill}
-use Rattle.cns_terms.specs.declared.buy_in.Liable.{Liable}
-use Rattle.cns_terms.specs.declared.command.Activity.{Activity}
-use Rattle.cns_terms.specs.declared.command.Activity.TheVariants as activity
-use Rattle.cns_terms.specs.declared.holding.Key.{Key}
-use Rattle.cns_terms.specs.Entries.{journal}
-use Rattle.cns_terms.specs.Fills.{batch, capacity, fills, stretch}
-use Rattle.cns_terms.proofs.Laid.{fills_laid, laid}
-use Rattle.cns_terms.specs.Notices.{Notice}
 use Rattle.cns_terms.specs.Positions.{position}
-use Rattle.cns_terms.specs.Reached.{IsInRange}
-use Rattle.cns_terms.specs.Sums.{long, short}
-use Rattle.cns_terms.proofs.BuyIns.{IsExecutable, batch_once, remains_long, times}
-use Rattle.cns_terms.proofs.Everywhere.{each_both, each_filter, each_weaker}
-use Rattle.cns_terms.proofs.Facts.{eqb_refl, eqb_sym}
-use Rattle.cns_terms.proofs.FillSums.{cents_of_fills, shares_of_fills}
-use Rattle.cns_positions.specs.Rows.{holding_at}
-use Rattle.cns_book.specs.Contents.{Contents}
-use Rattle.cns_book.specs.Executions.{AreApart, CanBeExecuted, CanBeFilled, IsWithin, filled_at, originator_at}
-use Rattle.cns_book.specs.Follows.{Follows}
+use Rattle.cns_terms.proofs.BuyIns.{batch_once, remains_long, times}
+use Rattle.cns_book.specs.Executions.{IsWithin}
 use Rattle.cns_book.proofs.ExecutionRoom.{sound_at}
+use Rattle.cns_terms.specs.declared.command.Activity.TheVariants as activity
 
 -- ---- members that are filled are short
 

@@ -1,45 +1,18 @@
 -- An execution: what it is refused for, and what it leaves.
 -- For `check_execution` of parts/execution.rt, clauses refused and accepted.
-use Rattle.std.proofs.Common.{◌≡◌, ◌∙◌, ap, sym, subst, refl, ℕ, zero, suc, ◌+◌, ◌-◌, ◌≤◌, ◌<◌, Bool, true, false, not, cond, ◌&&◌, ◌⊎◌, inl, inr, List, [], ◌∷◌, length, Option, Some, None, is_none, arith}
-use Rattle.std.specs.List.{slice_get}
-use Rattle.std.specs.Option.{IfSome, option_map_or}
-use Rattle.std.specs.Prelude.{◌==◌, nat_lt, option_map, unsigned_abs}
-use Rattle.std.proofs.lemmas.Bool.Decides.{nat_tests}
-use Rattle.cns_units.specs.declared.day.Day.{Day}
-use Rattle.cns_terms.specs.declared.buy_in.Execution.{Execution}
+use Rattle.std.proofs.Common.{◌≡◌, ◌∙◌, ap, sym, subst, refl, ℕ, zero, suc, ◌+◌, ◌-◌, ◌≤◌, ◌<◌, Bool, true, false, not, cond, ◌&&◌, ◌⊎◌, inl, inr, List, [], ◌∷◌, length, Option, Some, None, is_none, arith, slice_get, IfSome, ◌==◌, nat_lt, option_map, unsigned_abs}
+use Rattle.cns_book.proofs.Common.{Activity, Contents, Day, Ended, ExceedsPosition, Execution, Expired, Follows, IsExecutable, IsInRange, Journal, Key, Live, NoSuchNotice, NotLive, Notice, Noticed, Posting, Refusal, Rows, Stage, Withdrawn, all_fail, batch_on, books, capped_short, changed_one, charged_on, corporation_limit, day, entries_by, executable, fills, fills_of, first_refusal, holding_at, is_live, is_so, journal, kept_found, nat_tests, notice_at, option_map_or, posting, refusal, remaining, remaining_by, room, room_of, stage, with_notice}
 use Rattle.cns_terms.specs.declared.buy_in.Given.{Given}
-use Rattle.cns_terms.specs.declared.buy_in.Stage.{Stage}
-use Rattle.cns_terms.specs.declared.buy_in.Stage.TheVariants.{Ended, Expired, Live, Withdrawn}
-use Rattle.cns_terms.specs.declared.command.Activity.{Activity}
-use Rattle.cns_terms.specs.declared.command.Activity.TheVariants as activity
-use Rattle.cns_terms.specs.declared.command.Command.TheVariants as command
-use Rattle.cns_terms.specs.declared.holding.Key.{Key}
-use Rattle.cns_terms.specs.declared.refusal.Refusal.{Refusal}
-use Rattle.cns_terms.specs.declared.refusal.Refusal.TheVariants.{ExceedsPosition, NoSuchNotice, NotLiable, NotLive, TooEarly}
-use Rattle.cns_terms.specs.Days.{day}
-use Rattle.cns_terms.specs.Entries.{journal, posting}
-use Rattle.cns_terms.specs.Fills.{fills, fills_of, room, room_of}
-use Rattle.cns_terms.specs.Limits.{corporation_limit}
-use Rattle.cns_terms.specs.Notices.{Notice, is_live, is_so, notice_at, remaining, stage}
-use Rattle.cns_terms.specs.Postings.{Journal, Posting}
-use Rattle.cns_terms.specs.Reached.{IsInRange}
-use Rattle.cns_terms.specs.Refusals.{first_refusal, refusal, rules}
-use Rattle.cns_terms.proofs.BuyIns.{IsExecutable, executable}
-use Rattle.cns_terms.proofs.Sound.{all_fail}
-use Rattle.cns_notices.specs.declared.noticed.Noticed.{Noticed}
+use Rattle.cns_terms.specs.declared.refusal.Refusal.TheVariants.{NotLiable, TooEarly}
+use Rattle.cns_terms.specs.Refusals.{rules}
 use Rattle.cns_notices.specs.Kept.{kept}
-use Rattle.cns_notices.specs.Noticed.{executes, notice_at as kept_at, with_notice}
-use Rattle.cns_notices.proofs.NoticeFacts.{kept_found}
-use Rattle.cns_notices.proofs.Noticing.{changed_one, executed_by}
-use Rattle.cns_positions.specs.Rows.{Rows, books, holding_at}
-use Rattle.cns_retransmit.specs.Days.{batch_on, charged_on}
-use Rattle.cns_book.specs.Contents.{Contents}
-use Rattle.cns_book.specs.Executions.{capped_short, entries_by}
-use Rattle.cns_book.specs.Follows.{Follows}
-use Rattle.cns_book.specs.Retransmittal.{remaining_by}
+use Rattle.cns_notices.specs.Noticed.{executes, notice_at as kept_at}
+use Rattle.cns_notices.proofs.Noticing.{executed_by}
 use Rattle.cns_book.proofs.RetransmittalCalls.{remaining_same}
 use Rattle.cns_book.proofs.ExecutionCharges.{batches_charged, booked_for}
 use Rattle.cns_book.proofs.ExecutionRoom.{batch_members, members_of, shorts_now}
+use Rattle.cns_terms.specs.declared.command.Activity.TheVariants as activity
+use Rattle.cns_terms.specs.declared.command.Command.TheVariants as command
 use Rattle.cns_book.proofs.PartsStaying.{clock_stays, dividends_stay, listings_stay, rows_booked, sheets_stay}
 
 -- ---- the notice that is named

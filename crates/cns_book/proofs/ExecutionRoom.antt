@@ -1,36 +1,11 @@
 -- The batch of a notice, and what it can be given, as the parts show them.
 -- For `check_execution` of parts/execution.rt, clause refused, and `batch` and `batches` of parts/reading.rt.
-use Rattle.std.proofs.Common.{◌≡◌, ◌∙◌, ap, sym, refl, ℕ, zero, suc, ◌+◌, ◌^◌, ◌-◌, ◌≤◌, min, ℤ, pos, negsuc, Bool, true, false, cond, ◌||◌, ◌==◌, List, [], ◌∷◌, ◌++◌, filter, find, length, map, Option, Some, None, reverse, arith}
-use Rattle.std.specs.List.{list_any, slice_get}
-use Rattle.std.specs.Option.{IfSome, option_map_or, unwrap_or}
-use Rattle.std.specs.Prelude.{nat_lt, option_map, unsigned_abs}
-use Rattle.std.proofs.lemmas.Bool.Decides.{nat_tests}
-use Rattle.std.proofs.lemmas.Int.{ints}
-use Rattle.std.proofs.lemmas.List.{length-reverse, reverse-append}
+use Rattle.std.proofs.Common.{◌≡◌, ◌∙◌, ap, sym, refl, ℕ, zero, suc, ◌+◌, ◌^◌, ◌-◌, ◌≤◌, min, ℤ, pos, negsuc, Bool, true, false, cond, ◌||◌, ◌==◌, List, [], ◌∷◌, ◌++◌, filter, find, length, map, Option, Some, None, reverse, arith, slice_get, IfSome, unwrap_or, nat_lt, option_map, unsigned_abs}
+use Rattle.cns_book.proofs.Common.{Activity, Contents, Cusip, Day, Follows, IsSound, Journal, Key, Liable, Liables, at_close, batch, batch_in, batch_on, batch_since, batches, batches_on, batches_since, bytes_eq-Decides, capped_short, chosen, closes, closings, corporation_limit, day, holding_at, ints, is_close, is_listed, issues, journal, kept_batches, left_of, length-reverse, limited, list_any, nat_tests, option_map_or, reverse-append, same_issue, short, shorts}
 use Rattle.std.proofs.lemmas.Option.{slice_get-map}
-use Rattle.std.proofs.lemmas.Slice.Eq.{bytes_eq-Decides}
-use Rattle.cns_units.specs.declared.cusip.Cusip.{Cusip}
-use Rattle.cns_units.specs.declared.day.Day.{Day}
-use Rattle.cns_terms.specs.declared.buy_in.Liable.{Liable}
-use Rattle.cns_terms.specs.declared.command.Activity.{Activity}
-use Rattle.cns_terms.specs.declared.holding.Key.{Key}
-use Rattle.cns_terms.specs.Batches.{Liables, chosen, shorts}
-use Rattle.cns_terms.specs.Days.{at_close, closes, closings, day, is_close}
-use Rattle.cns_terms.specs.Entries.{journal}
-use Rattle.cns_terms.specs.Fills.{batch, batch_since, batches, batches_since, left_of}
-use Rattle.cns_terms.specs.Limits.{corporation_limit}
-use Rattle.cns_terms.specs.Listings.{is_listed, issues}
 use Rattle.cns_terms.specs.Positions.{position}
-use Rattle.cns_terms.specs.Postings.{Journal}
-use Rattle.cns_terms.specs.Sums.{same_issue, short}
 use Rattle.cns_terms.proofs.BuyIns.{each_named}
-use Rattle.cns_terms.proofs.Reached.{limited}
-use Rattle.cns_terms.proofs.Sound.{IsSound, whole_nil}
-use Rattle.cns_positions.specs.Rows.{holding_at}
-use Rattle.cns_retransmit.specs.Days.{batch_in, batch_on, batches_on}
-use Rattle.cns_book.specs.Contents.{Contents}
-use Rattle.cns_book.specs.Executions.{capped_short}
-use Rattle.cns_book.specs.Follows.{Follows, kept_batches}
+use Rattle.cns_terms.proofs.Sound.{whole_nil}
 use Rattle.cns_book.proofs.RetransmittalBatches.{in_issue}
 use Rattle.cns_book.proofs.RetransmittalSteps.{chosen_none, uncalled}
 

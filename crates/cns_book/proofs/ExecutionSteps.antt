@@ -1,29 +1,15 @@
 -- What an accepted execution fills.
 -- For `make_fills` and `execute` of parts/execution.rt, clauses fills, booked and step.
 use Rattle.std.proofs.Common.{◌≡◌, ◌∙◌, ap, sym, subst, ℕ, ◌≤◌, List, [], ◌∷◌, length, Ok, Option, Some}
-use Rattle.std.specs.Option.{option_map_or}
-use Rattle.cns_terms.specs.declared.buy_in.Execution.{Execution}
-use Rattle.cns_terms.specs.declared.buy_in.Fill.{Fill}
+use Rattle.cns_book.proofs.Common.{Activity, CanBeExecuted, Contents, Execution, Fill, Follows, HasRoom, IsAccepted, IsExecutable, Key, Liables, Notice, Noticed, Rows, batch_on, books, capped_short, charged_on, entries_by, fills, fills_by, fills_of, holding_at, journal, notice_at, option_map_or, room, room_of, with_notice}
 use Rattle.cns_terms.specs.declared.buy_in.Given.{Given}
-use Rattle.cns_terms.specs.declared.command.Activity.{Activity}
+use Rattle.cns_notices.specs.Kept.{kept}
+use Rattle.cns_notices.specs.Noticed.{executes, notice_at as kept_at}
+use Rattle.cns_book.specs.Follows.{Steps}
 use Rattle.cns_terms.specs.declared.command.Activity.TheVariants as activity
 use Rattle.cns_terms.specs.declared.command.Command.TheVariants as command
-use Rattle.cns_terms.specs.declared.holding.Key.{Key}
-use Rattle.cns_terms.specs.declared.reply.Reply.TheVariants as reply
-use Rattle.cns_terms.specs.Batches.{Liables}
-use Rattle.cns_terms.specs.Entries.{journal}
-use Rattle.cns_terms.specs.Fills.{fills, fills_of, room, room_of}
-use Rattle.cns_terms.specs.Notices.{Notice, notice_at}
-use Rattle.cns_terms.proofs.BuyIns.{IsExecutable}
-use Rattle.cns_notices.specs.Kept.{kept}
-use Rattle.cns_notices.specs.declared.noticed.Noticed.{Noticed}
-use Rattle.cns_notices.specs.Noticed.{executes, notice_at as kept_at, with_notice}
-use Rattle.cns_positions.specs.Rows.{Rows, books, holding_at}
-use Rattle.cns_retransmit.specs.Days.{batch_on, charged_on}
-use Rattle.cns_book.specs.Contents.{Contents}
-use Rattle.cns_book.specs.Executions.{CanBeExecuted, IsAccepted, capped_short, entries_by, fills_by}
-use Rattle.cns_book.specs.Follows.{Follows, HasRoom, Steps}
 use Rattle.cns_book.proofs.ExecutionRefusals.{AreShort, executable_one, execute_follows, fills_same, named, read_of, room_by, room_same}
+use Rattle.cns_terms.specs.declared.reply.Reply.TheVariants as reply
 use Rattle.cns_book.proofs.ExecutionFills.{can_execute}
 use Rattle.cns_book.proofs.MachineSteps.{accepted}
 use Rattle.cns_book.proofs.ExecutionRoom.{members_of}

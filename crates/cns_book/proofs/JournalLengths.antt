@@ -1,8 +1,7 @@
 -- How many postings and closes there are.
 -- For `close_day` of parts/closing.rt.
 use Rattle.std.proofs.Common.{suc, ◌≤◌, Bool, true, false, cond, [], ◌∷◌, length, arith}
-use Rattle.cns_terms.specs.Days.{closes, closings, is_close}
-use Rattle.cns_terms.specs.Postings.{Journal}
+use Rattle.cns_book.proofs.Common.{Journal, closes, closings, is_close}
 
 prefix_le : (b : Bool) (J : Journal) → length (closings J) ≤ length J → length (cond b (J ∷ closings J) (closings J)) ≤ suc (length J)
 prefix_le true J h = omega (arith, h)

@@ -1,32 +1,17 @@
 -- A close tells the date of its day, and how many rows its sheet and how many members its batches have.
 -- For `close_counts` of laws.rt.
-use Rattle.std.proofs.Common.{◌≡◌, ◌∙◌, ap, sym, subst, refl, ℕ, ◌≤◌, true, cond, ◌==◌, List, [], ◌∷◌, flat_map, length, Option, Some, None, arith}
-use Rattle.std.specs.Option.{option_map_or}
-use Rattle.std.specs.Prelude.{find, is_none, unwrap_or}
-use Rattle.std.proofs.lemmas.Bool.Decides.{nat_tests}
-use Rattle.std.proofs.lemmas.List.{length-append, length-map}
-use Rattle.cns_units.specs.declared.cusip.Cusip.{Cusip}
-use Rattle.cns_units.specs.declared.day.Day.{Day}
-use Rattle.cns_terms.specs.declared.command.Activity.TheVariants as activity
-use Rattle.cns_terms.specs.declared.command.Command.{Command}
-use Rattle.cns_terms.specs.declared.command.Command.TheVariants as command
-use Rattle.cns_terms.specs.declared.refusal.Refusal.{Refusal}
+use Rattle.std.proofs.Common.{◌≡◌, ◌∙◌, ap, sym, subst, refl, ℕ, ◌≤◌, true, cond, ◌==◌, List, [], ◌∷◌, flat_map, length, Option, Some, None, arith, find, is_none, unwrap_or, length-append}
+use Rattle.cns_book.proofs.Common.{Command, Cusip, Day, IsWhole, Journal, Refusal, State, after, at_close, batch_at, batch_since, batches_since, closings, date, day, issues, journal, journal_of, left_of, length-map, nat_tests, next, opened, option_map_or, posting, refusal, sheet_rows}
 use Rattle.cns_terms.specs.declared.reply.Closed.{Closed}
-use Rattle.cns_terms.specs.declared.reply.Reply.TheVariants as reply
-use Rattle.cns_terms.specs.Batches.{batch_at, liable_at}
-use Rattle.cns_terms.specs.Days.{at_close, closings, date, day}
-use Rattle.cns_terms.specs.Entries.{journal, posting}
-use Rattle.cns_terms.specs.Fills.{batch_since, batches_since, left_of}
-use Rattle.cns_terms.specs.Laws.{journal_of}
-use Rattle.cns_terms.specs.Listings.{issues}
-use Rattle.cns_terms.specs.Machine.{State, activity_reply, after, next, opened}
-use Rattle.cns_terms.specs.Postings.{Journal}
-use Rattle.cns_terms.specs.Refusals.{refusal}
-use Rattle.cns_terms.specs.Sheets.{sheet_rows}
+use Rattle.cns_terms.specs.Batches.{liable_at}
+use Rattle.cns_terms.specs.Machine.{activity_reply}
 use Rattle.cns_terms.proofs.ClosedDays.{keeps-after}
-use Rattle.cns_terms.proofs.Sound.{IsWhole, opening_stays, whole-after, whole-next}
+use Rattle.cns_terms.proofs.Sound.{opening_stays, whole-after, whole-next}
+use Rattle.cns_terms.specs.declared.command.Activity.TheVariants as activity
 use Rattle.cns_book.specs.Closes.{CloseCounts, TellsDay, liable_in}
+use Rattle.cns_terms.specs.declared.command.Command.TheVariants as command
 use Rattle.cns_book.proofs.RetransmittalSteps.{sum_of}
+use Rattle.cns_terms.specs.declared.reply.Reply.TheVariants as reply
 
 -- executions leave the members in their batches
 still_liable : (J K : Journal) (cs : List Cusip) → length (flat_map (batch_since J K) cs) ≡ length (flat_map (batch_at K) cs)

@@ -31,3 +31,4 @@ pub mod ActionSteps
 pub mod ClosedDaysSearch
 pub mod BookTaking
 pub mod BookCrossing
+pub mod Common

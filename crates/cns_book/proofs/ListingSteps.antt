@@ -1,31 +1,15 @@
 -- A member, an issue or a price more: each leaves all parts but its own.
 -- For parts/listing.rt, and `declare_dividend` of parts/dividend.rt, clause step.
-use Rattle.std.proofs.Common.{◌≡◌, ◌∙◌, sym, ap, ℕ, ◌≤◌, Bool, true, false, ◌||◌, cond, eqb, List, [], ◌∷◌, refl}
-use Rattle.std.specs.Prelude.{bytes_eq, is_some, Option, Some, None, find, filter_map}
-use Rattle.cns_units.specs.declared.cusip.Cusip.{Cusip}
-use Rattle.cns_terms.specs.Postings.{activities}
-use Rattle.cns_terms.specs.Listings.{priced}
-use Rattle.std.proofs.lemmas.Slice.Eq.{bytes_eq-Decides}
-use Rattle.cns_terms.specs.declared.action.Declared.{Declared}
-use Rattle.cns_terms.specs.declared.command.Activity.{Activity}
-use Rattle.cns_terms.specs.declared.command.Activity.TheVariants as activity
-use Rattle.cns_terms.specs.declared.command.Command.TheVariants as command
+use Rattle.std.proofs.Common.{◌≡◌, ◌∙◌, sym, ap, ℕ, ◌≤◌, Bool, true, false, ◌||◌, cond, eqb, List, [], ◌∷◌, refl, bytes_eq, is_some, Option, Some, None, find, filter_map}
+use Rattle.cns_book.proofs.Common.{Activity, Contents, Cusip, Declared, Follows, FollowsListings, FollowsPending, FollowsReferences, IsInRange, Listed, account_lt, activities, bytes_eq-Decides, entries, eqb_sym, is_close, is_listed, issue_lt, issues, journal, member_limit, members, pays_before, price, price_in, price_limit, priced, rate_limit, refusal, retired_in}
 use Rattle.cns_terms.specs.declared.command.Listing.{Listing}
 use Rattle.cns_terms.proofs.Everywhere.{any_put}
-use Rattle.cns_terms.specs.Dividends.{pays_before}
 use Rattle.cns_terms.specs.Sums.{put}
-use Rattle.cns_terms.specs.Entries.{entries, journal}
-use Rattle.cns_terms.specs.Limits.{member_limit, price_limit, rate_limit}
-use Rattle.cns_terms.specs.Reached.{IsInRange}
-use Rattle.cns_terms.specs.Refusals.{refusal}
-use Rattle.cns_terms.specs.Days.{is_close}
-use Rattle.cns_terms.specs.Listings.{account_lt, members, is_listed, issues, price, issue_lt}
-use Rattle.cns_terms.proofs.Facts.{eqb_sym, price_branch}
-use Rattle.cns_prices.specs.Listed.{Listed, price_in, retired_in}
-use Rattle.cns_book.specs.Contents.{Contents}
-use Rattle.cns_book.specs.Follows.{Follows, FollowsListings, FollowsPending, FollowsReferences}
+use Rattle.cns_terms.proofs.Facts.{price_branch}
 use Rattle.cns_book.specs.Members.{has_member}
 use Rattle.cns_book.proofs.PartsStaying.{batches_stay, clock_stays, dividends_stay, is_dividend, is_execution, is_noticing, listings_stay, notices_stay, rows_stay, sheets_stay}
+use Rattle.cns_terms.specs.declared.command.Activity.TheVariants as activity
+use Rattle.cns_terms.specs.declared.command.Command.TheVariants as command
 
 module _ (L : List Activity) (s : Contents) where
   -- an activity that books nothing and closes no day, where the listings follow it

@@ -1,21 +1,12 @@
 -- The machine's reply and step, by whether a command is refused.
 -- For every command, clause step.
-use Rattle.std.proofs.Common.{◌≡◌, ◌∙◌, sym, ap, subst, refl, cond, Bool, true, false, not, List, [], ◌∷◌, ◌++◌, Some, None, Ok}
-use Rattle.std.specs.Prelude.{find, option_map, is_none, Result, Err, IsErr}
-use Rattle.std.specs.List.{AllByRecursion}
-use Rattle.std.specs.Option.{option_map_or}
-use Rattle.cns_terms.specs.declared.command.Activity.{Activity}
-use Rattle.cns_terms.specs.declared.command.Command.{Command}
-use Rattle.cns_terms.specs.declared.command.Command.TheVariants as command
+use Rattle.std.proofs.Common.{◌≡◌, ◌∙◌, sym, ap, subst, refl, cond, Bool, true, false, not, List, [], ◌∷◌, ◌++◌, Some, None, Ok, find, option_map, is_none, Result, Err, IsErr}
+use Rattle.cns_book.proofs.Common.{Activity, AllByRecursion, Command, Contents, Follows, Refusal, Reply, Rule, first_refusal, journal, option_map_or, refusal}
 use Rattle.cns_terms.specs.declared.fault.NoMemory.{NoMemory}
-use Rattle.cns_terms.specs.declared.refusal.Refusal.{Refusal}
-use Rattle.cns_terms.specs.declared.reply.Reply.{Reply}
-use Rattle.cns_terms.specs.declared.reply.Reply.TheVariants as reply
-use Rattle.cns_terms.specs.Entries.{journal}
 use Rattle.cns_terms.specs.Machine.{activity_reply}
-use Rattle.cns_terms.specs.Refusals.{Rule, first_refusal, refusal}
-use Rattle.cns_book.specs.Contents.{Contents}
-use Rattle.cns_book.specs.Follows.{Follows, Steps}
+use Rattle.cns_book.specs.Follows.{Steps}
+use Rattle.cns_terms.specs.declared.command.Command.TheVariants as command
+use Rattle.cns_terms.specs.declared.reply.Reply.TheVariants as reply
 
 -- an accepted activity
 pub accepted : {s : Contents} (L : List Activity) (x : Activity) (r : Reply) → refusal s.opening (journal s.opening L) (command.Activity x) ≡ None → r ≡ activity_reply s.opening (journal s.opening L) x → Follows (x ∷ L) s → Steps L (command.Activity x) (Ok r) s

@@ -1,28 +1,11 @@
 -- How much is received and bought in on a notice, and of which days notices are.
 -- For parts/notice.rt, and `execute` of parts/execution.rt: what the calls of notices require.
-use Rattle.std.proofs.Common.{◌≡◌, ◌∙◌, ap, sym, subst, refl, ℕ, zero, suc, ◌+◌, ◌*◌, ◌-◌, ◌^◌, ◌≤◌, ◌<◌, Bool, true, false, cond, ◌&&◌, ◌==◌, List, [], ◌∷◌, ◌++◌, length, map, Option, Some, None, arith}
-use Rattle.std.specs.List.{AllByRecursion, slice_get}
-use Rattle.std.specs.Option.{ForSome, option_map_or}
-use Rattle.std.proofs.lemmas.List.{length-map}
-use Rattle.cns_units.specs.declared.day.Day.{Day}
-use Rattle.cns_terms.specs.declared.command.Activity.{Activity}
-use Rattle.cns_terms.specs.declared.command.Activity.TheVariants as activity
-use Rattle.cns_terms.specs.declared.command.Movement.{Movement}
-use Rattle.cns_terms.specs.Days.{day}
-use Rattle.cns_terms.specs.Entries.{journal}
-use Rattle.cns_terms.specs.Limits.{history_limit, shares_limit}
-use Rattle.cns_terms.specs.Notices.{Notice, execution, is_given, is_live, notice, noticed, notices, receipt, shares_executed, stage}
-use Rattle.cns_terms.specs.Postings.{Journal}
-use Rattle.cns_terms.specs.Reached.{IsInRange, IsReached}
-use Rattle.cns_terms.specs.Sums.{same_issue}
-use Rattle.cns_terms.proofs.Everywhere.{each_append, each_map}
-use Rattle.cns_terms.proofs.Facts.{journal_len}
-use Rattle.cns_notices.specs.declared.noticed.Noticed.{Noticed}
-use Rattle.cns_notices.specs.Kept.{kept, kept_notices, received_live}
+use Rattle.std.proofs.Common.{◌≡◌, ◌∙◌, ap, sym, subst, refl, ℕ, zero, suc, ◌+◌, ◌*◌, ◌-◌, ◌^◌, ◌≤◌, ◌<◌, Bool, true, false, cond, ◌&&◌, ◌==◌, List, [], ◌∷◌, ◌++◌, length, map, Option, Some, None, arith, slice_get}
+use Rattle.cns_book.proofs.Common.{Activity, AllByRecursion, Contents, Day, ForSome, HasRoom, IsInRange, IsReached, Journal, Movement, Notice, Noticed, day, days_by, each_append, each_map, execution, history_limit, is_given, is_live, journal, journal_len, kept_notices, length-map, notice, noticed, notices, option_map_or, receipt, received_live, same_issue, shares_executed, shares_limit, stage}
+use Rattle.cns_notices.specs.Kept.{kept}
 use Rattle.cns_notices.specs.Noticed.{notice_at}
-use Rattle.cns_notices.proofs.NoticeFacts.{days_by, notices_few}
-use Rattle.cns_book.specs.Contents.{Contents}
-use Rattle.cns_book.specs.Follows.{HasRoom}
+use Rattle.cns_notices.proofs.NoticeFacts.{notices_few}
+use Rattle.cns_terms.specs.declared.command.Activity.TheVariants as activity
 
 -- ---- one activity
 

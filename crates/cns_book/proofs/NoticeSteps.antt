@@ -1,40 +1,18 @@
 -- Notices and withdrawals: what they are refused for, and what they leave.
 -- For parts/notice.rt, clauses refusal and step.
-use Rattle.std.proofs.Common.{◌≡◌, ◌∙◌, ap, sym, refl, ℕ, zero, suc, ◌+◌, ◌-◌, ◌≤◌, ℤ, pos, Bool, true, false, not, cond, List, [], ◌∷◌, ◌++◌, length, map, Option, Some, None, ◌⊎◌, inl, inr, is_none, is_some, arith}
-use Rattle.std.specs.List.{slice_get}
-use Rattle.std.specs.Option.{IsSomeAnd, option_map_or}
-use Rattle.std.specs.Prelude.{◌==◌, find, int_le, nat_le, option_map}
-use Rattle.std.proofs.lemmas.Bool.Decides.{nat_tests}
-use Rattle.std.proofs.lemmas.List.{length-map}
-use Rattle.cns_units.specs.declared.day.Day.{Day}
+use Rattle.std.proofs.Common.{◌≡◌, ◌∙◌, ap, sym, refl, ℕ, zero, suc, ◌+◌, ◌-◌, ◌≤◌, ℤ, pos, Bool, true, false, not, cond, List, [], ◌∷◌, ◌++◌, length, map, Option, Some, None, ◌⊎◌, inl, inr, is_none, is_some, arith, slice_get, IsSomeAnd, ◌==◌, find, int_le, nat_le, option_map}
+use Rattle.cns_book.proofs.Common.{Activity, AlreadyNoticed, Contents, Day, Ended, ExceedsPosition, Expired, Follows, FollowsNotices, FollowsPending, IsInRange, Journal, Live, Movement, NoSuchIssue, NoSuchMember, NoSuchNotice, NotLive, NotLong, Notice, Noticed, Posting, Refusal, Retired, Rule, Stage, Withdrawn, books, changed_each, changed_one, entries, first_reached, first_refusal, holding_at, is_close, is_exceeded, is_listed, is_live, is_member, is_retired, is_seen, is_so, issue_rules, journal, kept_found, length-map, live_number, nat_tests, notice_at, notices, option_map_or, posting, refusal, remaining_by, stage, with_notice}
 use Rattle.cns_terms.specs.declared.buy_in.Given.{Given}
-use Rattle.cns_terms.specs.declared.buy_in.Stage.{Stage}
-use Rattle.cns_terms.specs.declared.buy_in.Stage.TheVariants.{Live, Withdrawn, Ended, Expired}
-use Rattle.cns_terms.specs.declared.command.Activity.{Activity}
+use Rattle.cns_terms.specs.Notices.{live_notice}
+use Rattle.cns_terms.specs.Positions.{position}
+use Rattle.cns_notices.proofs.NoticeSteps.{AreNumberedFrom, numbered}
+use Rattle.cns_notices.specs.Kept.{kept}
+use Rattle.cns_notices.specs.Noticed.{at_stage, notice_at as kept_at, opened, receives}
+use Rattle.cns_notices.proofs.NoticeFacts.{live_same}
+use Rattle.cns_notices.proofs.Noticing.{changed_same, notice_found, notice_more, received_by, taken_back, withdrawn_by}
+use Rattle.cns_book.specs.Follows.{member_position}
 use Rattle.cns_terms.specs.declared.command.Activity.TheVariants as activity
 use Rattle.cns_terms.specs.declared.command.Command.TheVariants as command
-use Rattle.cns_terms.specs.declared.command.Movement.{Movement}
-use Rattle.cns_terms.specs.declared.refusal.Refusal.{Refusal}
-use Rattle.cns_terms.specs.declared.refusal.Refusal.TheVariants.{AlreadyNoticed, ExceedsPosition, NoSuchIssue, NoSuchMember, NoSuchNotice, NotLive, NotLong, Retired}
-use Rattle.cns_terms.specs.Days.{is_close}
-use Rattle.cns_terms.specs.Entries.{entries, journal, posting}
-use Rattle.cns_terms.specs.Listings.{is_listed, is_member, is_retired, is_seen}
-use Rattle.cns_terms.specs.Notices.{Notice, first_reached, is_live, is_so, live_notice, notice_at, notices, stage}
-use Rattle.cns_terms.specs.Positions.{position}
-use Rattle.cns_terms.specs.Postings.{Journal, Posting}
-use Rattle.cns_terms.specs.Reached.{IsInRange}
-use Rattle.cns_terms.specs.Refusals.{Rule, first_refusal, is_exceeded, refusal}
-use Rattle.cns_notices.proofs.NoticeSteps.{AreNumberedFrom, numbered}
-use Rattle.cns_positions.specs.Rows.{books, holding_at}
-use Rattle.cns_trades.specs.Checks.{issue_rules}
-use Rattle.cns_notices.specs.declared.noticed.Noticed.{Noticed}
-use Rattle.cns_notices.specs.Kept.{kept}
-use Rattle.cns_notices.specs.Noticed.{at_stage, live_number, notice_at as kept_at, opened, receives, with_notice}
-use Rattle.cns_notices.proofs.NoticeFacts.{kept_found, live_same}
-use Rattle.cns_notices.proofs.Noticing.{changed_each, changed_one, changed_same, notice_found, notice_more, received_by, taken_back, withdrawn_by}
-use Rattle.cns_book.specs.Contents.{Contents}
-use Rattle.cns_book.specs.Follows.{Follows, FollowsNotices, FollowsPending, member_position}
-use Rattle.cns_book.specs.Retransmittal.{remaining_by}
 use Rattle.cns_book.specs.Shown.{notice_listed, notice_of}
 use Rattle.cns_book.proofs.RetransmittalCalls.{remaining_same}
 use Rattle.cns_book.proofs.EffectPlaces.{books_none}

@@ -1,22 +1,13 @@
 -- What an activity leaves: of each group of parts, which activities change it.
 -- For every command, clause step.
 use Rattle.std.proofs.Common.{◌≡◌, ◌∙◌, sym, ap, refl, Bool, true, false, ◌&&◌, cond, [], ◌∷◌, None, is_some, map, reverse}
-use Rattle.cns_terms.specs.declared.command.Activity.{Activity}
+use Rattle.cns_book.proofs.Common.{Activity, Contents, FollowsListings, FollowsNotices, FollowsPending, FollowsRows, Journal, Key, Posting, Rows, and_false, batches_since, books, closings, entries, exchanged, holding, holding_at, is_close, posting}
 use Rattle.cns_terms.specs.declared.command.Activity.TheVariants as activity
-use Rattle.cns_terms.specs.declared.holding.Key.{Key}
-use Rattle.cns_terms.specs.Days.{closings, is_close}
 use Rattle.cns_terms.specs.Dividends.{declared}
-use Rattle.cns_terms.specs.Entries.{entries, posting}
-use Rattle.cns_terms.specs.Fills.{batches_since}
-use Rattle.cns_terms.specs.Holdings.{holding}
-use Rattle.cns_terms.specs.Listings.{exchanged, traded}
+use Rattle.cns_terms.specs.Listings.{traded}
 use Rattle.cns_terms.specs.Notices.{executed}
-use Rattle.cns_terms.specs.Postings.{Journal, Posting}
-use Rattle.cns_terms.proofs.Facts.{and_false}
 use Rattle.cns_notices.proofs.Noticing.{untouched_by}
-use Rattle.cns_positions.specs.Rows.{Rows, books, holding_at}
-use Rattle.cns_book.specs.Contents.{Contents}
-use Rattle.cns_book.specs.Follows.{FollowsBatches, FollowsClock, FollowsDividends, FollowsListings, FollowsNotices, FollowsPending, FollowsRows, FollowsSheets}
+use Rattle.cns_book.specs.Follows.{FollowsBatches, FollowsClock, FollowsDividends, FollowsSheets}
 use Rattle.cns_book.proofs.RetransmittalBatches.{batches_same, executes_none}
 use Rattle.cns_book.proofs.EffectPlaces.{books_none, holding-post}
 

@@ -1,19 +1,9 @@
 -- With room for one activity more, all numbers are small enough.
 -- For every call of positions: what it requires.
-use Rattle.std.proofs.Common.{◌≡◌, sym, subst, ℕ, zero, suc, ◌*◌, ◌≤◌, ℤ, refl, arith}
-use Rattle.std.specs.Prelude.{unsigned_abs}
-use Rattle.cns_units.specs.declared.cusip.Cusip.{Cusip}
-use Rattle.cns_terms.specs.declared.holding.Holding.{Holding}
-use Rattle.cns_terms.specs.declared.holding.Key.{Key}
-use Rattle.cns_terms.specs.Entries.{journal}
-use Rattle.cns_terms.specs.Limits.{booking_limit, corporation_limit, history_limit, position_limit}
+use Rattle.std.proofs.Common.{◌≡◌, sym, subst, ℕ, zero, suc, ◌*◌, ◌≤◌, ℤ, refl, arith, unsigned_abs}
+use Rattle.cns_book.proofs.Common.{Contents, Cusip, HasRoom, Holding, Key, Rows, booking_limit, bounded, corporation_limit, history_limit, holding_at, journal, limited, near, position_limit}
 use Rattle.cns_terms.specs.Positions.{position}
-use Rattle.cns_terms.proofs.Limits.{near}
-use Rattle.cns_terms.proofs.Reached.{bounded, limited}
-use Rattle.cns_positions.specs.Rows.{Rows, holding_at}
-use Rattle.cns_book.specs.Contents.{Contents}
 use Rattle.cns_book.specs.Effects.{AreWithin}
-use Rattle.cns_book.specs.Follows.{HasRoom}
 use Rattle.cns_book.proofs.ClosingSheet.{cents_few}
 
 member_or_corporation : (a : ℕ) (q : ℤ) → (1 ≤ a → unsigned_abs q ≤ position_limit) → (a ≡ 0 → unsigned_abs q ≤ corporation_limit) → unsigned_abs q ≤ corporation_limit

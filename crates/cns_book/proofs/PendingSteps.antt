@@ -1,27 +1,11 @@
 -- Trades that wait, in the order in which they were taken.
 -- For `book_trade` of parts/trading.rt, `close_day` of parts/closing.rt, `split` and `exchange` of parts/actions.rt, clause step.
-use Rattle.std.proofs.Common.{◌≡◌, ◌∙◌, sym, ap, refl, ℕ, ◌≤◌, Bool, true, false, not, ◌||◌, cond, List, [], ◌∷◌, ◌++◌, append-nil, filter, length, map, reverse, Option, Some, None, sum_by, arith}
-use Rattle.std.specs.Prelude.{filter_map}
-use Rattle.std.specs.List.{cons_option, list_any}
-use Rattle.std.proofs.lemmas.Grind.{reverse_onto}
-use Rattle.std.proofs.lemmas.Int.{ints}
-use Rattle.std.proofs.lemmas.List.{length-map, length-reverse}
+use Rattle.std.proofs.Common.{◌≡◌, ◌∙◌, sym, ap, refl, ℕ, ◌≤◌, Bool, true, false, not, ◌||◌, cond, List, [], ◌∷◌, ◌++◌, append-nil, filter, length, map, reverse, Option, Some, None, sum_by, arith, filter_map}
+use Rattle.cns_book.proofs.Common.{Account, Activity, Contents, Cusip, Day, Follows, Journal, Pend, activities, bought_by, bought_in, cons_option, date, ints, is_not_after, journal, journal_len, length-map, length-reverse, list_any, neither, pend_of, pending, reverse_onto, sold_by, sold_in, sum_by-cons, sum_by_push, waits_in}
 use Rattle.std.proofs.lemmas.List.Folds.{list_any-append}
-use Rattle.std.proofs.lemmas.List.Sums.{sum_by-cons, sum_by_push}
-use Rattle.cns_units.specs.declared.account.Account.{Account}
-use Rattle.cns_units.specs.declared.cusip.Cusip.{Cusip}
-use Rattle.cns_units.specs.declared.day.Day.{Day}
-use Rattle.cns_terms.specs.declared.command.Activity.{Activity}
-use Rattle.cns_terms.specs.declared.pend.Pend.{Pend}
-use Rattle.cns_terms.specs.Days.{date, is_not_after}
-use Rattle.cns_terms.specs.Entries.{journal}
 use Rattle.cns_terms.specs.Listings.{traded}
-use Rattle.cns_terms.specs.Pending.{bought_in, is_due, pend_of, pending, sold_in, waits_in}
-use Rattle.cns_terms.specs.Postings.{Journal, activities}
-use Rattle.cns_terms.proofs.Facts.{journal_len, neither, or_false}
-use Rattle.cns_terms.proofs.Waiting.{bought_by, sold_by}
-use Rattle.cns_book.specs.Contents.{Contents}
-use Rattle.cns_book.specs.Follows.{Follows}
+use Rattle.cns_terms.specs.Pending.{is_due}
+use Rattle.cns_terms.proofs.Facts.{or_false}
 
 -- ---- the other way round
 

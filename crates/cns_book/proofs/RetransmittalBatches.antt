@@ -1,27 +1,10 @@
 -- The batches of the closed days after one activity more.
 -- For every command, clause step.
-use Rattle.std.proofs.Common.{◌≡◌, ◌∙◌, ap, refl, ℕ, false, List, [], ◌∷◌, ◌++◌, length, map, filter, is_some, Option, Some, None, reverse}
-use Rattle.std.specs.List.{AllByRecursion}
-use Rattle.std.specs.Option.{option_map_or}
-use Rattle.std.specs.Prelude.{nat_lt, ◌&&◌, ◌==◌}
-use Rattle.std.proofs.lemmas.List.{map-append, reverse-append}
-use Rattle.cns_units.specs.declared.cusip.Cusip.{Cusip}
-use Rattle.cns_units.specs.declared.day.Day.{Day}
-use Rattle.cns_terms.specs.declared.buy_in.Execution.{Execution}
-use Rattle.cns_terms.specs.declared.buy_in.Liable.{Liable}
-use Rattle.cns_terms.specs.declared.command.Activity.{Activity}
-use Rattle.cns_terms.specs.declared.command.Activity.TheVariants as activity
-use Rattle.cns_terms.specs.Batches.{Liables}
-use Rattle.cns_terms.specs.Days.{closings, day}
-use Rattle.cns_terms.specs.Entries.{posting}
-use Rattle.cns_terms.specs.Fills.{batch_since, batches_since, executes}
-use Rattle.cns_terms.specs.Listings.{issues}
-use Rattle.cns_terms.specs.Notices.{executed, notice_at}
-use Rattle.cns_terms.specs.Postings.{Journal, Posting}
-use Rattle.cns_terms.specs.Sums.{same_issue}
+use Rattle.std.proofs.Common.{◌≡◌, ◌∙◌, ap, refl, ℕ, false, List, [], ◌∷◌, ◌++◌, length, map, filter, is_some, Option, Some, None, reverse, nat_lt, ◌&&◌, ◌==◌}
+use Rattle.cns_book.proofs.Common.{Activity, AllByRecursion, Cusip, Day, Execution, Journal, Liable, Liables, Posting, batch_since, batches_since, closings, day, executes, issues, kept_batches, map-append, map_each, notice_at, option_map_or, posting, reverse-append, same_issue}
+use Rattle.cns_terms.specs.Notices.{executed}
 use Rattle.cns_terms.proofs.BatchSteps.{batch_same}
-use Rattle.cns_terms.proofs.Facts.{map_each}
-use Rattle.cns_book.specs.Follows.{kept_batches}
+use Rattle.cns_terms.specs.declared.command.Activity.TheVariants as activity
 
 -- an activity that is no execution executes no notice
 pub executes_none : (J : Journal) (n : ℕ) (c : Cusip) (x : Activity) → is_some (executed x) ≡ false → executes J n c x ≡ false

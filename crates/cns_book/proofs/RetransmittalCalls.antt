@@ -1,37 +1,14 @@
 -- What the notices of the open day call for.
 -- For `calls_of_day` of parts/retransmittal.rt.
-use Rattle.std.proofs.Common.{◌≡◌, ◌∙◌, ap, sym, subst, refl, ℕ, zero, suc, ◌+◌, ◌*◌, ◌-◌, ◌^◌, ◌≤◌, ◌<◌, min, ℤ, Bool, true, false, cond, ◌&&◌, ◌==◌, List, [], ◌∷◌, ◌++◌, drop, filter, length, map, Option, Some, None, sum_by, arith}
-use Rattle.std.specs.List.{AllByRecursion, slice_get}
-use Rattle.std.specs.Option.{ForSome, IsSomeAnd, option_map_or}
-use Rattle.std.specs.Prelude.{option_map}
+use Rattle.std.proofs.Common.{◌≡◌, ◌∙◌, ap, sym, subst, refl, ℕ, zero, suc, ◌+◌, ◌*◌, ◌-◌, ◌^◌, ◌≤◌, ◌<◌, min, ℤ, Bool, true, false, cond, ◌&&◌, ◌==◌, List, [], ◌∷◌, ◌++◌, drop, filter, length, map, Option, Some, None, sum_by, arith, slice_get, IsSomeAnd, option_map}
+use Rattle.cns_book.proofs.Common.{Activity, AllByRecursion, CalledIn, Contents, Cusip, Follows, ForSome, HasRoom, Holding, Journal, Movement, Notice, Noticed, Rows, Stage, bytes_eq-Decides, called, called_by, called_in, day, days_by, each_map, history_limit, holding_at, is_live, journal, kept_notices, long, nat_tests, notice, noticed, notices, option_map_or, received_live, remaining, remaining_by, same_issue, shares_executed, shares_limit, shorts_in, stage, sum_by-cons, total_in, what_remains}
 use Rattle.std.proofs.Math.Nat.{min-le_left}
-use Rattle.std.proofs.lemmas.Bool.Decides.{nat_tests}
-use Rattle.std.proofs.lemmas.List.Sums.{sum_by-cons}
-use Rattle.std.proofs.lemmas.Slice.Eq.{bytes_eq-Decides}
-use Rattle.cns_units.specs.declared.cusip.Cusip.{Cusip}
 use Rattle.cns_terms.specs.declared.buy_in.Given.{Given}
-use Rattle.cns_terms.specs.declared.buy_in.Stage.{Stage}
-use Rattle.cns_terms.specs.declared.command.Activity.{Activity}
-use Rattle.cns_terms.specs.declared.command.Movement.{Movement}
-use Rattle.cns_terms.specs.declared.holding.Holding.{Holding}
-use Rattle.cns_terms.specs.Batches.{called}
-use Rattle.cns_terms.specs.Days.{day}
-use Rattle.cns_terms.specs.Entries.{journal}
-use Rattle.cns_terms.specs.Limits.{history_limit, shares_limit}
-use Rattle.cns_terms.specs.Notices.{Notice, is_live, notice, noticed, notices, remaining, shares_executed, shares_received, stage, what_remains}
-use Rattle.cns_terms.specs.Postings.{Journal}
-use Rattle.cns_terms.specs.Sums.{long, same_issue}
-use Rattle.cns_terms.proofs.Everywhere.{each_map}
+use Rattle.cns_terms.specs.Notices.{shares_received}
 use Rattle.cns_notices.proofs.NoticeSteps.{live_received}
-use Rattle.cns_positions.specs.Rows.{Rows, holding_at}
-use Rattle.cns_notices.specs.declared.noticed.Noticed.{Noticed}
-use Rattle.cns_notices.specs.Kept.{kept, kept_notices, received_live}
+use Rattle.cns_notices.specs.Kept.{kept}
 use Rattle.cns_notices.specs.Noticed.{notice_at}
-use Rattle.cns_notices.proofs.NoticeFacts.{days_by}
-use Rattle.cns_retransmit.specs.Calls.{CalledIn, called_in, shorts_in, total_in}
-use Rattle.cns_book.specs.Contents.{Contents}
-use Rattle.cns_book.specs.Follows.{Follows, HasRoom}
-use Rattle.cns_book.specs.Retransmittal.{call_of, called_by, remaining_by}
+use Rattle.cns_book.specs.Retransmittal.{call_of}
 use Rattle.cns_book.proofs.NoticeBounds.{each_at, given_few, notices_fit}
 
 -- ---- days rise along the notices

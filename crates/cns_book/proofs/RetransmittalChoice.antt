@@ -1,24 +1,10 @@
 -- The batches that a close chooses are those of the definitions.
 -- For `choose_batches` of parts/retransmittal.rt, clause batches.
-use Rattle.std.proofs.Common.{◌≡◌, ◌∙◌, ap, sym, refl, Bool, true, false, cond, List, [], ◌∷◌, filter, length, map, Option, Some, None}
-use Rattle.std.specs.Cmp.Lexicographic.{slice_cmp}
-use Rattle.std.specs.FinMap.{find, is_sorted}
-use Rattle.std.specs.FinMap.Entries.{below_all}
-use Rattle.std.specs.List.{list_any}
-use Rattle.std.specs.Option.{option_map_or}
-use Rattle.std.specs.Ordering.{is_eq, nat_cmp}
-use Rattle.std.specs.Prelude.{bytes_eq, nat_lt, option_map}
-use Rattle.std.proofs.lemmas.Cmp.{nat_list_cmp_total}
-use Rattle.std.proofs.lemmas.Map.Lookups.{exact_bytes}
-use Rattle.std.proofs.lemmas.Slice.Eq.{bytes_eq-Decides}
-use Rattle.cns_units.specs.declared.cusip.Cusip.{Cusip}
-use Rattle.cns_terms.specs.declared.buy_in.Liable.{Liable}
-use Rattle.cns_terms.specs.Batches.{Liables, chosen}
-use Rattle.cns_terms.proofs.Facts.{and_left, and_right, both_true, same_test}
-use Rattle.cns_terms.proofs.Finds.{find_filter, kept_if, same_lists, sorted_filter}
-use Rattle.cns_terms.proofs.Rising.{is_rising}
-use Rattle.cns_terms.proofs.Valued.{find_with, sorted_with}
-use Rattle.cns_retransmit.specs.Calls.{CalledIn, batch_of, batches_of, called_in}
+use Rattle.std.proofs.Common.{◌≡◌, ◌∙◌, ap, sym, refl, Bool, true, false, cond, List, [], ◌∷◌, filter, length, map, Option, Some, None, is_eq, nat_cmp, bytes_eq, nat_lt, option_map}
+use Rattle.cns_book.proofs.Common.{CalledIn, Cusip, Liable, Liables, and_left, and_right, batches_of, below_all, both_true, bytes_eq-Decides, called_in, chosen, exact_bytes, find_filter, find_with, is_rising, is_sorted, kept_if, list_any, nat_list_cmp_total, option_map_or, same_lists, same_test, slice_cmp, sorted_filter}
+use Rattle.std.specs.FinMap.{find}
+use Rattle.cns_terms.proofs.Valued.{sorted_with}
+use Rattle.cns_retransmit.specs.Calls.{batch_of}
 
 -- whether anybody is liable
 abbrev has_members : Liables → Bool

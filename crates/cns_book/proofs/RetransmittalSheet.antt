@@ -1,33 +1,9 @@
 -- The members that are short in an issue, read off a sheet.
 -- For `choose_batches` of parts/retransmittal.rt, clause batches.
-use Rattle.std.proofs.Common.{◌≡◌, ◌∙◌, ap, sym, refl, ℕ, suc, ◌+◌, ◌≤◌, ℤ, pos, negsuc, Bool, true, false, not, cond, ◌&&◌, ◌||◌, List, [], ◌∷◌, ◌++◌, map, filter, flat_map, Option, Some, None, arith}
-use Rattle.std.specs.List.{AllByRecursion, cons_option, list_any}
-use Rattle.std.specs.Cmp.Lexicographic.{slice_cmp}
-use Rattle.std.specs.Ordering.{is_lt, nat_cmp}
-use Rattle.std.specs.Prelude.{filter_map, int_lt, nat_lt}
-use Rattle.std.proofs.lemmas.Bool.Decides.{nat_tests}
-use Rattle.std.proofs.lemmas.Cmp.{nat_list_cmp_total}
-use Rattle.std.proofs.lemmas.List.Elements.{filter_map-append}
-use Rattle.std.proofs.lemmas.Slice.Eq.{bytes_eq-Decides}
-use Rattle.cns_units.specs.declared.account.Account.{Account}
-use Rattle.cns_units.specs.declared.account.Member.{Member}
-use Rattle.cns_units.specs.declared.cusip.Cusip.{Cusip}
-use Rattle.cns_units.specs.declared.day.Day.{Day}
-use Rattle.cns_terms.specs.declared.buy_in.Short.{Short}
-use Rattle.cns_terms.specs.declared.sheet.Row.{Row}
-use Rattle.cns_terms.specs.Ages.{oldest}
-use Rattle.cns_terms.specs.Batches.{short_of, shorts}
-use Rattle.cns_terms.specs.Listings.{accounts, is_listed, issues, members}
+use Rattle.std.proofs.Common.{◌≡◌, ◌∙◌, ap, sym, refl, ℕ, suc, ◌+◌, ◌≤◌, ℤ, pos, negsuc, Bool, true, false, not, cond, ◌&&◌, ◌||◌, List, [], ◌∷◌, ◌++◌, map, filter, flat_map, Option, Some, None, arith, is_lt, nat_cmp, filter_map, int_lt, nat_lt}
+use Rattle.cns_book.proofs.Common.{Account, AllByRecursion, Cusip, Day, IsSound, Journal, Member, Row, Short, above_all, accounts, and_false, and_left, and_right, bytes_eq-Decides, bytes_refl, cons_option, filter_map-append, idle_parts, is_idle, is_listed, is_rising, issues, list_any, members, nat_list_cmp_total, nat_tests, neither, oldest, row, rows_of, same_issue, sheet_rows, short, short_at, short_in, short_of, shorts, slice_cmp}
 use Rattle.cns_terms.specs.Positions.{position}
-use Rattle.cns_terms.specs.Postings.{Journal}
-use Rattle.cns_terms.specs.Sheets.{is_idle, row, rows_of, sheet_rows}
-use Rattle.cns_terms.specs.Sums.{same_issue, short}
-use Rattle.cns_terms.proofs.Facts.{and_false, and_left, and_right, bytes_refl, neither}
 use Rattle.cns_terms.proofs.Finds.{not_itself}
-use Rattle.cns_terms.proofs.Rising.{above_all, is_rising}
-use Rattle.cns_terms.proofs.SheetSums.{idle_parts}
-use Rattle.cns_terms.proofs.Sound.{IsSound}
-use Rattle.cns_book.specs.Retransmittal.{short_at, short_in}
 
 -- ---- lists
 

@@ -1,44 +1,14 @@
 -- The shorts of a close, given to what is called.
 -- For `add_shorts` of parts/retransmittal.rt.
-use Rattle.std.proofs.Common.{◌≡◌, ◌∙◌, ap, sym, subst, refl, ℕ, suc, ◌+◌, ◌*◌, ◌^◌, ◌≤◌, ◌<◌, ℤ, pos, negsuc, Bool, true, false, cond, ◌&&◌, ◌==◌, List, [], ◌∷◌, ◌++◌, filter, flat_map, get_or, length, map, not, of_z, to_z, zero, Option, Some, None, sum_by, arith}
-use Rattle.std.specs.List.{AllByRecursion, cons_option}
-use Rattle.std.specs.Prelude.{filter_map, int_lt, is_some, nat_le, nat_lt, option_map, unsigned_abs, Result, Ok, Err}
-use Rattle.std.specs.Int.{w64}
-use Rattle.std.proofs.lemmas.Bool.Decides.{nat_tests}
-use Rattle.std.proofs.lemmas.Int.{fits_signed_from_abs, ints, to_z-of_z}
-use Rattle.std.proofs.lemmas.List.{append_assoc, append-nil}
-use Rattle.std.proofs.lemmas.List.Elements.{filter_map-append}
-use Rattle.std.proofs.lemmas.List.Sums.{sum_by-cons}
-use Rattle.std.proofs.lemmas.Slice.Eq.{bytes_eq-Decides}
+use Rattle.std.proofs.Common.{◌≡◌, ◌∙◌, ap, sym, subst, refl, ℕ, suc, ◌+◌, ◌*◌, ◌^◌, ◌≤◌, ◌<◌, ℤ, pos, negsuc, Bool, true, false, cond, ◌&&◌, ◌==◌, List, [], ◌∷◌, ◌++◌, filter, flat_map, get_or, length, map, not, of_z, to_z, zero, Option, Some, None, sum_by, arith, filter_map, int_lt, is_some, nat_le, nat_lt, option_map, unsigned_abs, Result, Ok, Err, w64, append_assoc, append-nil}
+use Rattle.cns_book.proofs.Common.{Account, Activity, AllByRecursion, CalledIn, Contents, Cusip, Day, Follows, HasRoom, Holding, Journal, Key, Member, Row, Short, accounts, bytes_eq-Decides, cons_option, corporation_limit, each_append, each_filter, each_weaker, eqb_sym, filter_map-append, fits_signed_from_abs, holding, ints, is_idle, issues, journal, journal_len, member_limit, members, nat_tests, occurs, oldest, oldest_at, oldest_of, position_limit, row, rows_of, same_issue, sheet_rows, short, short_at, short_in, short_of, shorts, sum_by-cons, with_shorts}
+use Rattle.std.proofs.lemmas.Int.{to_z-of_z}
 use lib.Signed.{le_z}
-use Rattle.cns_units.specs.declared.account.Account.{Account}
-use Rattle.cns_units.specs.declared.account.Member.{Member}
-use Rattle.cns_units.specs.declared.cusip.Cusip.{Cusip}
-use Rattle.cns_units.specs.declared.day.Day.{Day}
-use Rattle.cns_terms.specs.declared.buy_in.Short.{Short}
-use Rattle.cns_terms.specs.declared.command.Activity.{Activity}
-use Rattle.cns_terms.specs.declared.holding.Holding.{Holding}
-use Rattle.cns_terms.specs.declared.holding.Key.{Key}
-use Rattle.cns_terms.specs.declared.sheet.Row.{Row}
-use Rattle.cns_terms.specs.Ages.{oldest}
-use Rattle.cns_terms.specs.Batches.{short_of, shorts}
-use Rattle.cns_terms.specs.Entries.{journal}
-use Rattle.cns_terms.specs.Limits.{corporation_limit, member_limit, position_limit}
-use Rattle.cns_terms.specs.Listings.{accounts, issues, members}
-use Rattle.cns_terms.specs.Holdings.{holding, oldest_of}
 use Rattle.cns_terms.specs.Positions.{position}
-use Rattle.cns_terms.specs.Postings.{Journal}
-use Rattle.cns_terms.specs.Sheets.{is_idle, row, rows_of, sheet_rows}
-use Rattle.cns_terms.specs.Sums.{same_issue, short}
 use Rattle.cns_terms.proofs.CarriedAges.{oldest_le}
-use Rattle.cns_terms.proofs.Accounts.{occurs}
-use Rattle.cns_terms.proofs.Everywhere.{each_append, each_filter, each_weaker}
-use Rattle.cns_terms.proofs.Facts.{eqb_sym, journal_len}
-use Rattle.cns_retransmit.specs.Calls.{CalledIn, with_short}
+use Rattle.cns_retransmit.specs.Calls.{with_short}
 use Rattle.cns_retransmit.specs.Chosen.{shorts_of}
-use Rattle.cns_book.specs.Contents.{Contents}
-use Rattle.cns_book.specs.Follows.{Follows, HasRoom}
-use Rattle.cns_book.specs.Retransmittal.{is_short_in, oldest_at, short_at, short_in, with_shorts}
+use Rattle.cns_book.specs.Retransmittal.{is_short_in}
 use Rattle.cns_book.proofs.JournalLengths.{closes_le}
 use Rattle.cns_book.proofs.PartsWithin.{rows_within}
 

@@ -1,46 +1,13 @@
 -- Whom a close makes liable, from what is called and who is short.
 -- For `choose_batches` of parts/retransmittal.rt and `close_day` of parts/closing.rt, clause step.
-use Rattle.std.proofs.Common.{◌≡◌, ◌∙◌, ap, sym, subst, refl, ℕ, suc, ◌+◌, ◌*◌, ◌^◌, ◌≤◌, ◌<◌, Bool, true, false, cond, ◌&&◌, ◌==◌, List, [], ◌∷◌, ◌++◌, filter, flat_map, length, map, Option, Some, None, sum_by, arith}
-use Rattle.std.specs.Cmp.Lexicographic.{slice_cmp}
-use Rattle.std.specs.FinMap.{is_sorted}
-use Rattle.std.specs.List.{AllByRecursion, list_any}
-use Rattle.std.specs.Option.{ForSome, option_map_or}
-use Rattle.std.specs.Ordering.{nat_cmp}
-use Rattle.std.specs.Prelude.{filter_map, nat_lt, option_map, IfOk, OnOk, Result, Ok, Err}
-use Rattle.std.proofs.Math.Nat.{mul-le-mul_right}
-use Rattle.std.proofs.lemmas.Bool.Decides.{nat_tests}
-use Rattle.std.proofs.lemmas.List.{length-append, length-map}
-use Rattle.std.proofs.lemmas.List.Sums.{sum_by-cons}
-use Rattle.std.proofs.lemmas.Slice.Eq.{bytes_eq-Decides}
-use Rattle.cns_units.specs.declared.cusip.Cusip.{Cusip}
-use Rattle.cns_units.specs.declared.day.Day.{Day}
-use Rattle.cns_terms.specs.declared.buy_in.Liable.{Liable}
-use Rattle.cns_terms.specs.declared.buy_in.Short.{Short}
-use Rattle.cns_terms.specs.declared.command.Activity.{Activity}
-use Rattle.cns_terms.specs.declared.sheet.Row.{Row}
-use Rattle.cns_terms.specs.Ages.{oldest}
-use Rattle.cns_terms.specs.Batches.{Liables, batch_at, called, chosen, fills_before, is_called, liable_at, liable_of, short_of, shorts}
-use Rattle.cns_terms.specs.Days.{day}
-use Rattle.cns_terms.specs.Entries.{journal}
-use Rattle.cns_terms.specs.Fills.{batch_since, batches_since}
-use Rattle.cns_terms.specs.Limits.{history_limit, member_limit}
-use Rattle.cns_terms.specs.Listings.{is_listed, issues, members}
-use Rattle.cns_terms.specs.Notices.{Notice, notices, remaining}
-use Rattle.cns_terms.specs.Postings.{Journal}
-use Rattle.cns_terms.specs.Reached.{IsReached}
-use Rattle.cns_terms.specs.Sheets.{sheet_rows}
-use Rattle.cns_terms.specs.Sums.{in_order, put, same_issue}
+use Rattle.std.proofs.Common.{◌≡◌, ◌∙◌, ap, sym, subst, refl, ℕ, suc, ◌+◌, ◌*◌, ◌^◌, ◌≤◌, ◌<◌, Bool, true, false, cond, ◌&&◌, ◌==◌, List, [], ◌∷◌, ◌++◌, filter, flat_map, length, map, Option, Some, None, sum_by, arith, nat_cmp, filter_map, nat_lt, option_map, IfOk, OnOk, Result, Ok, Err, mul-le-mul_right, length-append}
+use Rattle.cns_book.proofs.Common.{Activity, AllByRecursion, CalledIn, Contents, Cusip, Day, Follows, ForSome, IsLimited, IsReached, IsSound, Journal, Liable, Liables, Notice, Row, Short, batch_at, batch_since, batches_of, batches_since, bytes_eq-Decides, called, called_by, called_in, chosen, day, fills_before, history_limit, in_order, is_called, is_listed, is_sorted, issues, issues_few, journal, journal_len, length-map, liable_of, limited, list_any, member_limit, members, members_few, members_from_one, nat_tests, near, notices, oldest, oldest_at, option_map_or, remaining, same_issue, sheet_rows, short_in, short_of, shorts, shorts_in, slice_cmp, sum_by-cons, total_in, with_shorts}
+use Rattle.cns_terms.specs.Batches.{liable_at}
+use Rattle.cns_terms.specs.Sums.{put}
 use Rattle.cns_terms.proofs.BatchSteps.{batch_new, unfilled}
-use Rattle.cns_terms.proofs.Facts.{journal_len}
-use Rattle.cns_terms.proofs.Limits.{near}
-use Rattle.cns_terms.proofs.Reached.{IsLimited, limited, members_few, members_from_one}
-use Rattle.cns_terms.proofs.SheetBounds.{issues_few}
 use Rattle.cns_book.proofs.RetransmittalSheet.{shorts_off_sheet}
-use Rattle.cns_terms.proofs.Sound.{IsNoticed, IsSound}
-use Rattle.cns_retransmit.specs.Calls.{CalledIn, CanBeChosen, batches_of, called_in, shorts_in, total_in}
-use Rattle.cns_book.specs.Contents.{Contents}
-use Rattle.cns_book.specs.Follows.{Follows}
-use Rattle.cns_book.specs.Retransmittal.{called_by, oldest_at, short_in, with_shorts}
+use Rattle.cns_terms.proofs.Sound.{IsNoticed}
+use Rattle.cns_retransmit.specs.Calls.{CanBeChosen}
 use Rattle.cns_book.proofs.RetransmittalBatches.{in_issue}
 use Rattle.cns_book.proofs.RetransmittalCalls.{called_is}
 use Rattle.cns_book.proofs.RetransmittalChoice.{AreSameBatches, batches_same}

@@ -1,19 +1,11 @@
 -- What a delivery or a receipt is refused for.
 -- For `deliver` and `receive` of parts/trading.rt, clause step.
-use Rattle.std.proofs.Common.{◌≡◌, ◌∙◌, sym, ap, refl, ℤ, pos, neg_ℤ, Bool, true, false, not, List, [], ◌∷◌}
-use Rattle.std.specs.Prelude.{int_le, int_lt, nat_lt, unwrap_or}
-use Rattle.cns_units.specs.declared.day.Day.{Day}
-use Rattle.cns_terms.specs.declared.command.Activity.{Activity}
+use Rattle.std.proofs.Common.{◌≡◌, ◌∙◌, sym, ap, refl, ℤ, pos, neg_ℤ, Bool, true, false, not, List, [], ◌∷◌, int_le, int_lt, nat_lt, unwrap_or}
+use Rattle.cns_book.proofs.Common.{Activity, Day, ExceedsPosition, Movement, NoSuchIssue, NoSuchMember, NotLong, Retired, corporation, delivery_rules, first_refusal, is_exceeded, is_listed, is_member, is_retired, journal, receipt_rules, refusal, short}
+use Rattle.cns_terms.specs.declared.refusal.Refusal.TheVariants.{NotOnHand}
+use Rattle.cns_terms.specs.Positions.{position}
 use Rattle.cns_terms.specs.declared.command.Activity.TheVariants as activity
 use Rattle.cns_terms.specs.declared.command.Command.TheVariants as command
-use Rattle.cns_terms.specs.declared.command.Movement.{Movement}
-use Rattle.cns_terms.specs.declared.refusal.Refusal.TheVariants.{NoSuchMember, NoSuchIssue, Retired, ExceedsPosition, NotOnHand, NotLong}
-use Rattle.cns_terms.specs.Entries.{corporation, journal}
-use Rattle.cns_terms.specs.Listings.{is_member, is_listed, is_retired}
-use Rattle.cns_terms.specs.Positions.{position}
-use Rattle.cns_terms.specs.Refusals.{first_refusal, refusal, is_exceeded}
-use Rattle.cns_terms.specs.Sums.{short}
-use Rattle.cns_trades.specs.Checks.{delivery_rules, receipt_rules}
 use Rattle.cns_trades.specs.declared.facts.MoveFacts.{MoveFacts}
 use Rattle.cns_book.specs.Follows.{AreMoveFacts}
 use Rattle.cns_book.proofs.TradingSteps.{at_true, some_member}

@@ -1,44 +1,19 @@
 -- A trade: what it is refused for, and what it leaves.
 -- For `book_trade` of parts/trading.rt, clause step.
-use Rattle.std.proofs.Common.{◌≡◌, ◌∙◌, sym, ap, refl, ℕ, ◌+◌, ◌≤◌, ℤ, pos, ◌+ℤ◌, neg_ℤ, Bool, true, false, not, ◌&&◌, ◌||◌, cond, eqb, List, [], ◌∷◌, ◌++◌, reverse, Option, Some, None, arith}
-use Rattle.std.specs.Prelude.{bytes_eq, is_some, nat_lt, sum_by, Ok, Err, unwrap_or}
-use Rattle.std.specs.List.{list_any}
-use Rattle.std.specs.Option.{option_map_or}
-use Rattle.std.proofs.lemmas.Int.{ints}
-use Rattle.std.proofs.lemmas.Bool.Decides.{nat_tests}
-use Rattle.std.proofs.lemmas.Grind.{reverse_onto}
-use Rattle.std.proofs.lemmas.List.Sums.{sum_by-cons}
-use Rattle.cns_units.specs.declared.account.Account.{Account}
-use Rattle.cns_units.specs.declared.cusip.Cusip.{Cusip}
-use Rattle.cns_units.specs.declared.day.Day.{Day}
-use Rattle.cns_terms.specs.declared.command.Activity.{Activity}
-use Rattle.cns_terms.specs.declared.command.Activity.TheVariants as activity
-use Rattle.cns_terms.specs.declared.command.Command.TheVariants as command
+use Rattle.std.proofs.Common.{◌≡◌, ◌∙◌, sym, ap, refl, ℕ, ◌+◌, ◌≤◌, ℤ, pos, ◌+ℤ◌, neg_ℤ, Bool, true, false, not, ◌&&◌, ◌||◌, cond, eqb, List, [], ◌∷◌, ◌++◌, reverse, Option, Some, None, arith, bytes_eq, is_some, nat_lt, sum_by, Ok, Err, unwrap_or}
+use Rattle.cns_book.proofs.Common.{Account, Activity, Contents, Cusip, Day, Entry, Follows, FollowsNotices, FollowsPending, FollowsReferences, IsInRange, Journal, Key, NoSuchIssue, NoSuchMember, Noticed, Pend, Refusal, Retired, Rows, Traded, WrongDay, books, bought_in, buyer_entry, bytes_refl, date, entries, eqb_refl, first_refusal, holding_at, ints, is_beyond, is_close, is_listed, is_member, is_not_after, is_past, is_retired, is_seen, is_too_far, is_too_large, is_too_large_at, journal, list_any, nat_tests, option_map_or, pend_of, pending, refusal, reverse_onto, seller_entry, shares_for, sold_in, sum_by-cons, total, trade_entries, trade_rules}
 use Rattle.cns_terms.specs.declared.command.Trade.{Trade}
-use Rattle.cns_terms.specs.declared.holding.Entry.{Entry}
-use Rattle.cns_terms.specs.declared.holding.Key.{Key}
-use Rattle.cns_terms.specs.declared.pend.Pend.{Pend}
-use Rattle.cns_terms.specs.declared.refusal.Refusal.{Refusal}
-use Rattle.cns_terms.specs.declared.refusal.Refusal.TheVariants.{NoSuchMember, NoSuchIssue, Retired, SameParty, WrongDay, SeenReference, TooLarge}
-use Rattle.cns_terms.specs.Days.{date, is_close, is_not_after}
-use Rattle.cns_terms.specs.Entries.{buyer_entry, entries, journal, seller_entry, trade_entries}
-use Rattle.cns_terms.specs.Listings.{is_member, is_listed, is_retired, is_seen}
-use Rattle.cns_terms.specs.Pending.{bought_in, pend_of, pending, sold_in}
-use Rattle.cns_terms.specs.Positions.{position, shares_for}
-use Rattle.cns_terms.specs.Postings.{Journal}
-use Rattle.cns_terms.specs.Reached.{IsInRange}
-use Rattle.cns_terms.specs.Refusals.{first_refusal, refusal, is_beyond, is_past, is_too_far, is_too_large, is_too_large_at}
-use Rattle.cns_terms.specs.Sums.{total}
-use Rattle.cns_terms.proofs.Facts.{bytes_refl, eqb_refl, or_false}
-use Rattle.cns_notices.specs.declared.noticed.Noticed.{Noticed}
-use Rattle.cns_positions.specs.Rows.{Rows, books, holding_at}
-use Rattle.cns_trades.specs.Checks.{booking, books_beyond, party, takes_beyond, trade_answer, trade_rules, waits_beyond}
+use Rattle.cns_terms.specs.declared.refusal.Refusal.TheVariants.{SameParty, SeenReference, TooLarge}
+use Rattle.cns_terms.specs.Positions.{position}
+use Rattle.cns_terms.proofs.Facts.{or_false}
+use Rattle.cns_trades.specs.Checks.{booking, books_beyond, party, takes_beyond, trade_answer, waits_beyond}
 use Rattle.cns_trades.specs.declared.facts.TradeFacts.{TradeFacts}
-use Rattle.cns_trades.specs.Used.{Traded, is_used}
-use Rattle.cns_book.specs.Contents.{Contents}
-use Rattle.cns_book.specs.Follows.{AreTradeFacts, Follows, FollowsNotices, FollowsPending, FollowsReferences}
+use Rattle.cns_trades.specs.Used.{is_used}
+use Rattle.cns_book.specs.Follows.{AreTradeFacts}
 use Rattle.cns_book.proofs.EffectPlaces.{books_none}
 use Rattle.cns_book.proofs.PendingSteps.{bought-reverse, sold-reverse}
+use Rattle.cns_terms.specs.declared.command.Activity.TheVariants as activity
+use Rattle.cns_terms.specs.declared.command.Command.TheVariants as command
 use Rattle.cns_book.proofs.PartsStaying.{batches_stay, clock_stays, dividends_stay, is_dividend, is_execution, is_listing, is_noticing, listings_stay, notices_stay, rows_booked, sheets_stay}
 
 -- what an answer says of the refusal

@@ -1,15 +1,11 @@
 -- The law of what a close tells, over any list of commands.
 use Rattle.std.specs.Prelude.{ℕ, ◌≡◌, List, length, sum_by}
-use Rattle.cns_units.specs.declared.day.Day.{Day}
+use Rattle.cns_terms.specs.Common.{Day, Liables, State, after, answer, batches, journal_of, next, opened}
 use Rattle.cns_terms.specs.declared.command.Activity.TheVariants as activity
 use Rattle.cns_terms.specs.declared.command.Command.{Command}
 use Rattle.cns_terms.specs.declared.command.Command.TheVariants as command
 use Rattle.cns_terms.specs.declared.reply.Closed.{Closed}
 use Rattle.cns_terms.specs.declared.reply.Reply.TheVariants as reply
-use Rattle.cns_terms.specs.Batches.{Liables}
-use Rattle.cns_terms.specs.Fills.{batches}
-use Rattle.cns_terms.specs.Laws.{journal_of}
-use Rattle.cns_terms.specs.Machine.{State, after, answer, next, opened}
 use Rattle.cns_terms.specs.Sheets.{sheet_at}
 
 -- how many members batches have

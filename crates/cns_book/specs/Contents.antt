@@ -1,11 +1,9 @@
 -- What each part of a book shows.
 use Rattle.std.specs.Prelude.{ℕ, Bool, List}
-use Rattle.cns_units.specs.declared.day.Day.{Day}
+use Rattle.cns_terms.specs.Common.{Day, DaySheet, Liables}
 use Rattle.cns_terms.specs.declared.action.Declared.{Declared}
 use Rattle.cns_terms.specs.declared.holding.Holding.{Holding}
 use Rattle.cns_terms.specs.declared.holding.Key.{Key}
-use Rattle.cns_terms.specs.Batches.{Liables}
-use Rattle.cns_terms.specs.Sheets.{DaySheet}
 use Rattle.cns_notices.specs.declared.noticed.Noticed.{Noticed}
 use Rattle.cns_prices.specs.Listed.{Listed}
 use Rattle.cns_trades.specs.Used.{Traded}

@@ -1,22 +1,16 @@
 -- Where entries are booked, and what splits and exchanges are checked for.
 use Rattle.std.specs.Prelude.{◌≤◌, ◌*◌, Bool, not, ◌&&◌, ◌||◌, List, [], ◌∷◌, map, unsigned_abs}
-use Rattle.cns_units.specs.declared.day.Day.{Day}
+use Rattle.cns_terms.specs.Common.{Day, Journal, Rule, booking_limit, corporation_limit, history_limit, is_listed, is_retired, pending, same_issue}
 use Rattle.cns_terms.specs.declared.action.Exchange.{Exchange}
 use Rattle.cns_terms.specs.declared.command.Activity.{Activity}
 use Rattle.cns_terms.specs.declared.command.Activity.TheVariants as activity
 use Rattle.cns_terms.specs.declared.holding.Entry.{Entry}
 use Rattle.cns_terms.specs.declared.holding.Key.{Key}
 use Rattle.cns_terms.specs.declared.refusal.Refusal.TheVariants.{NoSuchIssue, Retired, SameIssue}
-use Rattle.cns_terms.specs.Limits.{booking_limit, corporation_limit, history_limit}
-use Rattle.cns_terms.specs.Listings.{is_listed, is_retired}
-use Rattle.cns_terms.specs.Pending.{pending}
-use Rattle.cns_terms.specs.Postings.{Journal}
-use Rattle.cns_terms.specs.Refusals.{Rule}
-use Rattle.cns_terms.specs.Sums.{same_issue}
 use Rattle.cns_positions.specs.Rows.{Rows, holding_at}
 use Rattle.cns_actions.specs.declared.action.Action.{Action}
-use Rattle.cns_actions.specs.declared.action.Action.TheVariants as action
 use Rattle.cns_actions.specs.Booked.{waits_for}
+use Rattle.cns_actions.specs.declared.action.Action.TheVariants as action
 
 -- where an entry is booked
 abbrev pub place_of : Entry → Key

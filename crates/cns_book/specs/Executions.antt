@@ -1,26 +1,15 @@
 -- What an execution is booked by.
 use Rattle.std.specs.Prelude.{◌≡◌, ℕ, ◌-◌, ◌*◌, ◌^◌, ◌≤◌, min, pos, int_lt, true, false, ◌==◌, List, [], ◌∷◌, length, map, None, Some, option_map, unsigned_abs}
-use Rattle.std.specs.List.{AllByRecursion}
-use Rattle.std.specs.Option.{option_map_or}
-use Rattle.cns_units.specs.declared.account.Member.{Member}
-use Rattle.cns_units.specs.declared.cusip.Cusip.{Cusip}
+use Rattle.cns_terms.specs.Common.{AllByRecursion, Cusip, IsInRange, Journal, Member, Notice, booking_limit, corporation_limit, fill_entry, fills, history_limit, journal, money_limit, notice_at, option_map_or, originator_entry, refusal, shares_limit, short}
 use Rattle.cns_terms.specs.declared.buy_in.Execution.{Execution}
 use Rattle.cns_terms.specs.declared.buy_in.Fill.{Fill}
 use Rattle.cns_terms.specs.declared.buy_in.Given.{Given}
 use Rattle.cns_terms.specs.declared.command.Activity.{Activity}
-use Rattle.cns_terms.specs.declared.command.Activity.TheVariants as activity
-use Rattle.cns_terms.specs.declared.command.Command.TheVariants as command
 use Rattle.cns_terms.specs.declared.holding.Entry.{Entry}
 use Rattle.cns_terms.specs.declared.holding.Holding.{Holding}
 use Rattle.cns_terms.specs.declared.holding.Key.{Key}
-use Rattle.cns_terms.specs.Entries.{fill_entry, journal, originator_entry}
-use Rattle.cns_terms.specs.Fills.{fills}
-use Rattle.cns_terms.specs.Limits.{booking_limit, corporation_limit, history_limit, money_limit, shares_limit}
-use Rattle.cns_terms.specs.Notices.{Notice, notice_at}
-use Rattle.cns_terms.specs.Postings.{Journal}
-use Rattle.cns_terms.specs.Reached.{IsInRange}
-use Rattle.cns_terms.specs.Refusals.{refusal}
-use Rattle.cns_terms.specs.Sums.{short}
+use Rattle.cns_terms.specs.declared.command.Activity.TheVariants as activity
+use Rattle.cns_terms.specs.declared.command.Command.TheVariants as command
 use Rattle.cns_notices.specs.Noticed.{notice_at as kept_at}
 use Rattle.cns_positions.specs.Rows.{Rows, holding_at}
 use Rattle.cns_book.specs.Contents.{Contents}

@@ -1,34 +1,18 @@
 -- What ties the parts of a book to the accepted activities, by what changes together.
 use Rattle.std.specs.Prelude.{◌≡◌, ℕ, ℤ, ◌+◌, ◌≤◌, ◌<◌, Bool, true, false, List, map, length, reverse, Option, Some, None, Result, Ok, Err, if◌then◌else◌}
-use Rattle.cns_units.specs.declared.account.Member.{Member}
-use Rattle.cns_units.specs.declared.cusip.Cusip.{Cusip}
-use Rattle.cns_units.specs.declared.day.Day.{Day}
+use Rattle.cns_terms.specs.Common.{Cusip, Day, IsReached, Journal, Liables, Member, answer_to, batches_since, closes, closings, corporation, date, day_sheet, dividends, history_limit, holding, in_order, is_listed, is_member, is_retired, is_seen, journal, pays_before, pending, price, refusal}
 use Rattle.cns_terms.specs.declared.command.Activity.{Activity}
-use Rattle.cns_terms.specs.declared.command.Activity.TheVariants as activity
 use Rattle.cns_terms.specs.declared.command.Command.{Command}
-use Rattle.cns_terms.specs.declared.command.Command.TheVariants as command
 use Rattle.cns_terms.specs.declared.command.Movement.{Movement}
+use Rattle.cns_terms.specs.declared.command.Activity.TheVariants as activity
 use Rattle.cns_terms.specs.declared.command.Trade.{Trade}
+use Rattle.cns_terms.specs.declared.command.Command.TheVariants as command
 use Rattle.cns_terms.specs.declared.fault.NoMemory.{NoMemory}
 use Rattle.cns_terms.specs.declared.holding.Key.{Key}
 use Rattle.cns_terms.specs.declared.refusal.Refusal.{Refusal}
 use Rattle.cns_terms.specs.declared.reply.Reply.{Reply}
-use Rattle.cns_terms.specs.Batches.{Liables}
-use Rattle.cns_terms.specs.Days.{date, closes, closings}
-use Rattle.cns_terms.specs.Dividends.{dividends, pays_before}
-use Rattle.cns_terms.specs.Fills.{batches_since}
-use Rattle.cns_terms.specs.Listings.{is_member, is_listed, is_retired, is_seen, price}
-use Rattle.cns_terms.specs.Entries.{corporation, journal}
-use Rattle.cns_terms.specs.Limits.{history_limit}
-use Rattle.cns_terms.specs.Holdings.{holding}
-use Rattle.cns_terms.specs.Machine.{accepted_after, answer_to}
-use Rattle.cns_terms.specs.Pending.{pending}
+use Rattle.cns_terms.specs.Machine.{accepted_after}
 use Rattle.cns_terms.specs.Positions.{position}
-use Rattle.cns_terms.specs.Postings.{Journal}
-use Rattle.cns_terms.specs.Reached.{IsReached}
-use Rattle.cns_terms.specs.Refusals.{refusal}
-use Rattle.cns_terms.specs.Sheets.{day_sheet}
-use Rattle.cns_terms.specs.Sums.{in_order}
 use Rattle.cns_notices.specs.Kept.{kept_notices}
 use Rattle.cns_positions.specs.Rows.{holding_at}
 use Rattle.cns_prices.specs.Listed.{price_in, retired_in}

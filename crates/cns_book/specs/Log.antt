@@ -1,11 +1,10 @@
 -- What contracts see of a book, and what a command does to it.
 use Rattle.std.specs.Prelude.{◌≡◌, ℕ, ◌+◌, List, [], ◌∷◌, length}
-use Rattle.cns_units.specs.declared.day.Day.{Day}
+use Rattle.cns_terms.specs.Common.{Day, State, answer, count}
 use Rattle.cns_terms.specs.declared.command.Command.{Command}
 use Rattle.cns_terms.specs.declared.history.Taken.{Taken}
 use Rattle.cns_terms.specs.declared.worker.Worker.{Worker}
-use Rattle.cns_terms.specs.History.{count, state}
-use Rattle.cns_terms.specs.Machine.{State, answer}
+use Rattle.cns_terms.specs.History.{state}
 use Rattle.cns_book.specs.declared.receipt.Receipt.{Receipt}
 
 -- what a book remembers: its opening date, the most commands that it takes, and its history, the newest first

@@ -1,21 +1,11 @@
 -- What the reading calls of a book show.
 use Rattle.std.specs.Prelude.{ℕ, suc, zero, List, Option, Some, None, is_none, option_map, slice_get, reverse, if◌then◌else◌}
-use Rattle.cns_units.specs.declared.cusip.Cusip.{Cusip}
-use Rattle.cns_units.specs.declared.day.Day.{Day}
-use Rattle.cns_units.specs.declared.price.Price.{Price}
-use Rattle.cns_terms.specs.declared.command.Command.TheVariants as command
+use Rattle.cns_terms.specs.Common.{Cusip, Day, Journal, Liables, Price, State, batches, holding, is_listed, journal, notice_at, price, refusal, remaining, stage}
 use Rattle.cns_terms.specs.declared.history.Taken.{Taken}
 use Rattle.cns_terms.specs.declared.holding.Holding.{Holding}
+use Rattle.cns_terms.specs.declared.command.Command.TheVariants as command
 use Rattle.cns_terms.specs.declared.holding.Key.{Key}
-use Rattle.cns_terms.specs.Batches.{Liables}
-use Rattle.cns_terms.specs.Entries.{journal}
-use Rattle.cns_terms.specs.Fills.{batches}
-use Rattle.cns_terms.specs.Listings.{is_listed, price}
-use Rattle.cns_terms.specs.Notices.{Notice as Listed, notice_at, remaining, stage}
-use Rattle.cns_terms.specs.Postings.{Journal}
-use Rattle.cns_terms.specs.Holdings.{holding}
-use Rattle.cns_terms.specs.Machine.{State}
-use Rattle.cns_terms.specs.Refusals.{refusal}
+use Rattle.cns_terms.specs.Notices.{Notice as Listed}
 use Rattle.cns_retransmit.specs.Days.{batch_in}
 use Rattle.cns_book.specs.declared.notice.Notice.{Notice}
 

@@ -34,7 +34,7 @@ pub struct Book<P: Positions<A>, A: Allocator + Drop + Clone> {
     limit: u32,
     history: Vec<Taken, A>,
     counts: [u32; 64],
-    parts: Parts<P, A>,
+    pub(crate) parts: Parts<P, A>,
 }
 
 impl<P: Positions<A>, A: Allocator + Drop + Clone> Model for Book<P, A> {

@@ -10,6 +10,7 @@
 mod book;
 mod buy_in;
 mod closed_days;
+mod counted;
 mod effect;
 pub mod laws;
 mod members;

@@ -19,6 +19,7 @@ use std::marker::Model;
 
 mod actions;
 mod closing;
+mod counted;
 mod dividend;
 mod execution;
 mod listing;

@@ -1,6 +1,7 @@
 // What only a book's own calls show: its limit, each worker's numbers, the calls that read it, and want of memory. What each
 // command is answered is shown by the cases of cns_cases.
 mod buy_ins;
+mod counted;
 mod heap;
 mod reading;
 

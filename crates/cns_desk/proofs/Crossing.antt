@@ -1,12 +1,12 @@
 -- What a worker is given may go to another thread, and so may what it hands back.
+use Rattle.cns_terms.proofs.Common.{IsSend, crosses, sendable}
 use denote.Hole.{as_row}
 use denote.RattleType.{RattleType}
-use denote.Param.Send.{IsSend, IsSync, sendable, view_send}
+use denote.Param.Send.{IsSync, view_send}
 use denote.Param.SendFields.{declared_send, declared_sync}
 use Rattle.std.below.core.proofs.ledger.Sent.{book_send as total_send, share_send}
-use Rattle.std.below.core.proofs.sync.Sent.{Mutex-sync}
 use Rattle.std.below.core.specs.declared.ledger.Ledger as ledger
-use Rattle.std.proofs.Crossing.{crosses}
+use Rattle.std.below.core.proofs.sync.Sent.{Mutex-sync}
 use Rattle.std.specs.contracts.alloc.Global
 use Rattle.cns_terms.proofs.command.Command.TheSendSync as command
 use Rattle.cns_terms.proofs.worker.Worker.TheSendSync as worker

@@ -1,20 +1,12 @@
 -- The sheet that is handed out with a statement.
 use Rattle.std.proofs.Common.{◌≡◌, ◌∙◌, sym, ap, refl, subst, cond, Bool, true, false, not, List, [], ◌∷◌, Some, None, Option, option_map, find, is_none, unwrap_or}
-use Rattle.std.specs.Option.{option_map_or}
-use Rattle.cns_units.specs.declared.day.Day.{Day}
-use Rattle.cns_terms.specs.declared.command.Command.TheVariants as command
+use Rattle.cns_terms.proofs.Common.{Day, DaySheet, Journal, accepted, answer_to, closed_on, closings, date, day_sheet, first_refusal, is_same_day, journal, option_map_or, sheet_on, statement}
 use Rattle.cns_terms.specs.declared.history.Taken.{Taken}
+use Rattle.cns_terms.specs.declared.command.Command.TheVariants as command
 use Rattle.cns_terms.specs.declared.refusal.Refusal.TheVariants.{NoSuchDay, NoSuchMember}
 use Rattle.cns_terms.specs.declared.reply.Reply.{Reply}
-use Rattle.cns_terms.specs.declared.reply.Reply.TheVariants as reply
-use Rattle.cns_terms.specs.Days.{closed_on, closings, date, is_same_day}
-use Rattle.cns_terms.specs.Entries.{journal}
-use Rattle.cns_terms.specs.History.{accepted}
-use Rattle.cns_terms.specs.Postings.{Journal}
-use Rattle.cns_terms.specs.Refusals.{first_refusal}
-use Rattle.cns_terms.specs.Sheets.{DaySheet, day_sheet, sheet_on, statement}
-use Rattle.cns_terms.specs.Machine.{answer_to}
 use Rattle.cns_desk.specs.Handed.{Hands}
+use Rattle.cns_terms.specs.declared.reply.Reply.TheVariants as reply
 
 -- ---- what is found
 

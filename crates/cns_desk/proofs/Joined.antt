@@ -1,10 +1,6 @@
 -- One worker more that was joined.
-use Rattle.std.proofs.Common.{◌≡◌, ◌∙◌, sym, ap, refl, Bool, ℕ, suc, ◌≤◌, ◌⊎◌, ◌↔◌, inl, inr, ◌<◌, List, [], ◌∷◌, ◌++◌, length, drop, Option, arith, append_assoc}
-use Rattle.std.specs.Prelude.{IfSome, slice_index_or}
-use Rattle.std.specs.List.{AllByRecursion}
-use Rattle.std.proofs.lemmas.Bool.{cases_lt}
-use Rattle.std.specs.declared.thread.PromisedHandle.{PromisedHandle}
-use Rattle.cns_terms.specs.Sources.{Told}
+use Rattle.std.proofs.Common.{◌≡◌, ◌∙◌, sym, ap, refl, Bool, ℕ, suc, ◌≤◌, ◌⊎◌, ◌↔◌, inl, inr, ◌<◌, List, [], ◌∷◌, ◌++◌, length, drop, Option, arith, append_assoc, IfSome, slice_index_or}
+use Rattle.cns_terms.proofs.Common.{AllByRecursion, PromisedHandle, Told, cases_lt}
 use Rattle.cns_desk.specs.Logged.{Logged}
 use Rattle.cns_desk.specs.Promised.{promised}
 use Rattle.cns_desk.specs.Worked.{HaveRun, Worked}

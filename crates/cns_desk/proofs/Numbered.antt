@@ -1,6 +1,5 @@
 -- Workers by their numbers.
-use Rattle.std.proofs.Common.{◌≡◌, ℕ, Bool, true, false, Ok, Err}
-use Rattle.std.specs.Prelude.{◌&&◌, nat_le, if◌then◌else◌}
+use Rattle.std.proofs.Common.{◌≡◌, ℕ, Bool, true, false, Ok, Err, ◌&&◌, nat_le, if◌then◌else◌}
 use Rattle.cns_units.specs.Ranges.{within}
 use Rattle.cns_units.specs.declared.fault.UnitFault.TheVariants as fault
 

@@ -1,9 +1,7 @@
 -- One record more.
-use Rattle.std.proofs.Common.{◌≡◌, ◌∙◌, sym, ap, subst, refl, ℕ, ◌+◌, Bool, List, [], ◌∷◌, ◌++◌, map, Some, None, Option, append_assoc, length, length-append}
-use Rattle.std.specs.Prelude.{IfSome}
-use Rattle.std.specs.List.{AllByRecursion}
+use Rattle.std.proofs.Common.{◌≡◌, ◌∙◌, sym, ap, subst, refl, ℕ, ◌+◌, Bool, List, [], ◌∷◌, ◌++◌, map, Some, None, Option, append_assoc, length, length-append, IfSome}
+use Rattle.cns_terms.proofs.Common.{AllByRecursion, Told}
 use Rattle.cns_terms.specs.declared.command.Command.{Command}
-use Rattle.cns_terms.specs.Sources.{Told}
 use Rattle.cns_desk.specs.Logged.{Logged}
 use Rattle.cns_desk.specs.Worked.{Adds, HasNoSheet, Logs, Steps, commands_in, lines_in}
 use Rattle.cns_desk.specs.declared.log.LogItem.{LogItem}

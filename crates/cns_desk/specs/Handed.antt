@@ -1,11 +1,9 @@
 -- What comes with the reply to a statement.
 use Rattle.std.specs.Prelude.{◌≡◌, true, Option, Some, None}
-use Rattle.cns_units.specs.declared.day.Day.{Day}
+use Rattle.cns_terms.specs.Common.{Day, DaySheet, is_same_day, statement}
 use Rattle.cns_terms.specs.declared.reply.Reply.{Reply}
 use Rattle.cns_terms.specs.declared.reply.Reply.TheVariants as reply
 use Rattle.cns_terms.specs.declared.reply.Stated.{Stated}
-use Rattle.cns_terms.specs.Days.{is_same_day}
-use Rattle.cns_terms.specs.Sheets.{DaySheet, statement}
 
 -- the sheet has the date, and the reply tells of its rows of the corporation
 pub record IsStated (date : Day) (s : Stated) (o : Option DaySheet) : Type 0 where

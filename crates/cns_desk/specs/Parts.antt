@@ -1,12 +1,9 @@
 -- When logs are the workers' parts of a history.
 use Rattle.std.specs.Prelude.{◌≡◌, ℕ, ◌+◌, ◌-◌, ◌<◌, ◌≤◌, ◌⊎◌, List, length, Option, Some, None, option_map, slice_get, slice_index_or, ⊤}
-use Rattle.std.specs.Arc.{arc_value}
+use Rattle.cns_terms.specs.Common.{DaySheet, arc_value, count, journal_of, sheet_on}
 use Rattle.cns_terms.specs.declared.command.Command.{Command}
 use Rattle.cns_terms.specs.declared.command.Command.TheVariants as command
-use Rattle.cns_terms.specs.Sheets.{DaySheet, sheet_on}
 use Rattle.cns_terms.specs.declared.worker.Worker.{Worker}
-use Rattle.cns_terms.specs.History.{count}
-use Rattle.cns_terms.specs.Laws.{journal_of}
 use Rattle.cns_book.specs.Log.{Log, state_of}
 use Rattle.cns_book.specs.Shown.{entry_at}
 use Rattle.cns_desk.specs.Logged.{Logged, empty_logged}

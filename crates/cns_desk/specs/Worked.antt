@@ -1,10 +1,10 @@
 -- What a worker makes of what its source tells.
 use Rattle.std.specs.Prelude.{◌≡◌, ℕ, ◌+◌, ◌-◌, ◌<◌, ◌^◌, ◌⊎◌, Bool, true, List, [], ◌∷◌, ◌++◌, length, map, Option, Some, None, Ok, Err, ⊤, IfSome}
-use Rattle.std.specs.List.{AllByRecursion}
+use Rattle.cns_terms.specs.Common.{AllByRecursion, Told}
 use Rattle.cns_terms.specs.declared.command.Command.{Command}
 use Rattle.cns_terms.specs.declared.source.Item.TheVariants as item
 use Rattle.cns_terms.specs.declared.source.SourceFault.TheVariants as fault
-use Rattle.cns_terms.specs.Sources.{GivesFirst, Told}
+use Rattle.cns_terms.specs.Sources.{GivesFirst}
 use Rattle.cns_desk.specs.Logged.{Logged}
 use Rattle.cns_desk.specs.declared.end.End.{End}
 use Rattle.cns_desk.specs.declared.end.End.TheVariants as ended

@@ -1,16 +1,11 @@
 -- The dividends that a close pays.
-use Rattle.std.proofs.Common.{◌≡◌, ◌∙◌, sym, ap, subst, refl, ℕ, ◌<◌, ℤ, Bool, true, false, cond, not, ◌&&◌, [], ◌∷◌, length, filter, Option, Some, None, arith}
-use Rattle.std.specs.Prelude.{int_le, int_lt}
-use Rattle.std.specs.BTreeMap.Range.{range_contains, IsLeBy, IsLtBy}
+use Rattle.std.proofs.Common.{◌≡◌, ◌∙◌, sym, ap, subst, refl, ℕ, ◌<◌, ℤ, Bool, true, false, cond, not, ◌&&◌, [], ◌∷◌, length, filter, Option, Some, None, arith, int_le, int_lt, int_cmp, is_gt, is_lt, nat_cmp, Less, Equal, Greater}
+use Rattle.cns_terms.proofs.Common.{Day, Included, day_number, ints, nat_tests, ordering_then, range_contains}
+use Rattle.std.specs.BTreeMap.Range.{IsLeBy, IsLtBy}
 use Rattle.std.specs.Bound.{IsForward}
-use Rattle.std.specs.Ordering.{int_cmp, is_gt, is_lt, nat_cmp, on, ord_min, ordering_then}
-use Rattle.std.specs.declared.cmp.Ordering.TheVariants.{Less, Equal, Greater}
+use Rattle.std.specs.Ordering.{on, ord_min}
 use Rattle.std.specs.declared.ops.Bound.{Bound}
-use Rattle.std.specs.declared.ops.Bound.TheVariants.{Excluded, Included, Unbounded}
-use Rattle.std.proofs.lemmas.Bool.Decides.{nat_tests}
-use Rattle.std.proofs.lemmas.Int.{ints}
-use Rattle.cns_units.specs.Day.{day_number}
-use Rattle.cns_units.specs.declared.day.Day.{Day}
+use Rattle.std.specs.declared.ops.Bound.TheVariants.{Excluded, Unbounded}
 use Rattle.cns_terms.specs.declared.action.Declared.{Declared}
 use Rattle.cns_terms.specs.Dividends.{is_due}
 use Rattle.cns_dividends.specs.Placed.{AreBelow, Placed, dividends_of}

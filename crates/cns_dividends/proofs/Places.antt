@@ -1,15 +1,8 @@
 -- Dividends in their places.
-use Rattle.std.proofs.Common.{◌≡◌, ◌∙◌, sym, ap, subst, refl, ℕ, suc, ◌<◌, Bool, true, false, cond, [], ◌∷◌, length, arith}
-use Rattle.std.specs.Prelude.{int_lt}
-use Rattle.std.specs.BTreeMap.{insert_entry}
-use Rattle.std.specs.Ordering.{int_cmp, match_ordering, nat_cmp, on, ordering_then}
-use Rattle.std.specs.declared.cmp.Ordering.{Ordering}
-use Rattle.std.specs.declared.cmp.Ordering.TheVariants.{Less, Equal, Greater}
-use Rattle.std.proofs.lemmas.Bool.Decides.{nat_tests}
-use Rattle.cns_units.specs.Day.{day_number}
-use Rattle.cns_units.specs.declared.day.Day.{Day}
+use Rattle.std.proofs.Common.{◌≡◌, ◌∙◌, sym, ap, subst, refl, ℕ, suc, ◌<◌, Bool, true, false, cond, [], ◌∷◌, length, arith, int_lt, int_cmp, nat_cmp, Ordering, Less, Equal, Greater}
+use Rattle.cns_terms.proofs.Common.{Day, day_number, insert_entry, match_ordering, nat_tests, ordering_then, pays_before}
+use Rattle.std.specs.Ordering.{on}
 use Rattle.cns_terms.specs.declared.action.Declared.{Declared}
-use Rattle.cns_terms.specs.Dividends.{pays_before}
 use Rattle.cns_terms.specs.Sums.{put}
 use Rattle.cns_dividends.specs.Placed.{AreBelow, Placed, dividends_of}
 

@@ -1,6 +1,6 @@
 -- The declared dividends, each with its place.
 use Rattle.std.specs.Prelude.{◌≡◌, ℕ, ◌<◌, List, [], ◌∷◌, map, ⊤}
-use Rattle.cns_units.specs.declared.day.Day.{Day}
+use Rattle.cns_terms.specs.Common.{Day}
 use Rattle.cns_terms.specs.declared.action.Declared.{Declared}
 
 -- dividends by their places: the payable date, and a number of their own

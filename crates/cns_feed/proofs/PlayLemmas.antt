@@ -1,17 +1,16 @@
 -- A book and a text after lines, and after one more.
 use Rattle.std.proofs.Common.{◌≡◌, ◌≢◌, ℕ, ◌+◌, ◌≤◌, Bool, List, [], ◌∷◌, ◌++◌, length, count_by, cond, Option, Some, None, Result, Ok, Err, IfErr, IfOk, OnOk, refl, sym, ap, subst, ◌∙◌, append_assoc, append-nil, length-append, arith, IfSome}
-use Rattle.std.proofs.lemmas.List.Sums.{sum_by-append, count_by-le-length}
-use Rattle.std.specs.Io.KnownBytes.{Appends, Keeps}
+use Rattle.cns_terms.proofs.Common.{Appends, Keeps, State, sum_by-append}
+use Rattle.std.proofs.lemmas.List.Sums.{count_by-le-length}
 use Rattle.std.proofs.KnownBytes.{Appends-kept, Appends-nil, Appends-trans, Keeps-refl}
-use Rattle.cns_terms.specs.Machine.{State}
 use Rattle.cns_book.specs.Log.{Log, state_of}
 use Rattle.cns_feed.specs.Line.{Line}
 use Rattle.cns_feed.specs.Output.{Adds, Counts, is_accepted_close, is_at_fault, is_command, line_text, lines_of, no_counts, response_of, responses, state_after, state_after_line, texts}
 use Rattle.cns_feed.specs.Records.{Gives, Pending}
-use Rattle.cns_feed.specs.Replay.{HasRoomFor, IsUpTo, Leaves, LeavesAt, Stops, log_after, log_after_line}
+use Rattle.cns_feed.specs.Replay.{HasRoomFor, IsUpTo, LeavesAt, Stops, log_after, log_after_line}
 use Rattle.cns_feed.specs.declared.fault.ReplayFault.{ReplayFault}
-use Rattle.cns_feed.specs.declared.fault.ReplayFault.TheVariants as fault
 use Rattle.cns_feed.specs.declared.response.Response.{Response}
+use Rattle.cns_feed.specs.declared.fault.ReplayFault.TheVariants as fault
 use Rattle.cns_feed.specs.declared.records.Records.{Records}
 use Rattle.cns_feed.specs.declared.summary.Summary.{Summary}
 

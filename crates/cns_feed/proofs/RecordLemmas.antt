@@ -1,24 +1,23 @@
 -- The records that a reader has left, and what a read takes of them.
-use Rattle.std.proofs.Common.{◌≡◌, ◌≢◌, ℕ, zero, suc, ◌+◌, ◌<◌, ◌≤◌, Bool, true, false, List, [], ◌∷◌, ◌++◌, length, map, Option, Some, None, refl, sym, ap, ◌∙◌, arith, inl, inr}
-use Rattle.std.specs.Prelude.{if◌then◌else◌, ◌==◌, ◌&&◌}
+use Rattle.std.proofs.Common.{◌≡◌, ◌≢◌, ℕ, zero, suc, ◌+◌, ◌<◌, ◌≤◌, Bool, true, false, List, [], ◌∷◌, ◌++◌, length, map, Option, Some, None, refl, sym, ap, ◌∙◌, arith, inl, inr, if◌then◌else◌, ◌==◌, ◌&&◌}
 use Rattle.csv.specs.Machine.{Read, after_end, ends_with, ends_at_end, in_field, start_field, start_record, is_byte, is_end, next_record, step}
 use Rattle.csv.specs.Reading.{ExplainsRead, Reached, ReadRecord, default_config, has_failed, records_from, records_next, stops_reader}
 use Rattle.csv.specs.declared.error.ErrorKind.{ErrorKind}
-use Rattle.csv.specs.declared.error.ErrorKind.TheVariants as kind
 use Rattle.csv.specs.declared.parser.Action.{Action}
-use Rattle.csv.specs.declared.parser.Action.TheVariants as act
+use Rattle.csv.specs.declared.error.ErrorKind.TheVariants as kind
 use Rattle.csv.specs.declared.parser.Config.{Config}
+use Rattle.csv.specs.declared.parser.Action.TheVariants as act
 use Rattle.csv.specs.declared.parser.State.{State}
-use Rattle.csv.specs.declared.parser.State.TheVariants as st
 use Rattle.csv.specs.declared.parser.Terminator.{Terminator}
-use Rattle.csv.specs.declared.parser.Terminator.TheVariants as term
+use Rattle.csv.specs.declared.parser.State.TheVariants as st
 use Rattle.csv.specs.declared.reader.Reader.{Reader}
+use Rattle.csv.specs.declared.parser.Terminator.TheVariants as term
 use Rattle.csv.proofs.ReadFacts.{rows-end, rows-more}
 use Rattle.cns_feed.specs.Line.{Line, Record, line_of}
 use Rattle.cns_feed.specs.Records.{EndsReading, Gives, Pending, Setup, fault_of, given_remaining}
 use Rattle.cns_feed.specs.declared.fault.ReplayFault.{ReplayFault}
-use Rattle.cns_feed.specs.declared.fault.ReplayFault.TheVariants as fault
 use Rattle.cns_feed.specs.declared.given.Given.{Given}
+use Rattle.cns_feed.specs.declared.fault.ReplayFault.TheVariants as fault
 use Rattle.cns_feed.specs.declared.records.Records.{Records}
 
 pick : {A : Type 0} (P : A → Type 0) (b : Bool) (x y : A) → (b ≡ true → P x) → (b ≡ false → P y) → P (if b then x else y)

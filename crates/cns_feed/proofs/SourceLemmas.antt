@@ -1,15 +1,14 @@
 -- What a source over records tells, and what a read takes of it.
-use Rattle.std.proofs.Common.{◌≡◌, ℕ, zero, suc, ◌+◌, ◌-◌, ◌<◌, Bool, true, false, List, [], ◌∷◌, length, map, take, Option, Some, None, IfSome, Ok, Err, refl, ap, arith, inl}
-use Rattle.std.specs.Prelude.{if◌then◌else◌, nat_lt, option_map}
-use Rattle.std.proofs.lemmas.Bool.Decides.{nat_tests}
+use Rattle.std.proofs.Common.{◌≡◌, ℕ, zero, suc, ◌+◌, ◌-◌, ◌<◌, Bool, true, false, List, [], ◌∷◌, length, map, take, Option, Some, None, IfSome, Ok, Err, refl, ap, arith, inl, if◌then◌else◌, nat_lt, option_map}
+use Rattle.cns_terms.proofs.Common.{Told, nat_tests}
 use Rattle.csv.specs.Machine.{ends_at_end}
 use Rattle.csv.specs.Reading.{default_config, reader_state, records_from, source_of}
-use Rattle.cns_terms.specs.Sources.{Answer, Gives as GivesAnswer, GivesEnd, GivesFirst, GivesTold, Told}
+use Rattle.cns_terms.specs.Sources.{Answer, Gives as GivesAnswer, GivesEnd, GivesFirst, GivesTold}
 use Rattle.cns_terms.specs.declared.command.Command.{Command}
-use Rattle.cns_terms.specs.declared.source.Item.TheVariants as item
 use Rattle.cns_terms.specs.declared.source.SourceFault.{SourceFault}
-use Rattle.cns_terms.specs.declared.source.SourceFault.TheVariants as fault
+use Rattle.cns_terms.specs.declared.source.Item.TheVariants as item
 use Rattle.cns_feed.specs.Line.{Line, line_of}
+use Rattle.cns_terms.specs.declared.source.SourceFault.TheVariants as fault
 use Rattle.cns_feed.specs.Records.{Gives, Pending, Setup, given_remaining}
 use Rattle.cns_feed.specs.Source.{GivesItem, ReadsItem, end_of, given_of, lines_left, told_at, told_of}
 use Rattle.cns_feed.specs.declared.records.Records.{Records}

@@ -1,9 +1,7 @@
 -- Fields of digits.
 use Rattle.std.specs.Prelude.{ℕ, Bool, ◌&&◌, nat_lt, min, length, if◌then◌else◌, List, Result, Ok, Err}
-use Rattle.std.specs.Str.{all_ascii_digits}
-use Rattle.std.specs.Str.Parse.{digits_value}
+use Rattle.cns_terms.specs.Common.{UnitFault, all_ascii_digits, digits_value}
 use Rattle.cns_units.specs.Ranges.{within}
-use Rattle.cns_units.specs.declared.fault.UnitFault.{UnitFault}
 use Rattle.cns_feed.specs.declared.fault.LineFault.{LineFault}
 use Rattle.cns_feed.specs.declared.fault.LineFault.TheVariants as fault
 

@@ -1,27 +1,19 @@
 -- The command that a record is, or its first fault.
-use Rattle.std.specs.Prelude.{ℕ, ◌-◌, ◌^◌, ◌==◌, if◌then◌else◌, List, [], length, codes, unwrap_or, Result, Ok, Err}
-use Rattle.std.specs.Str.{bytes_eq}
+use Rattle.std.specs.Prelude.{ℕ, ◌-◌, ◌^◌, ◌==◌, if◌then◌else◌, List, [], length, codes, unwrap_or, Result, Ok, Err, bytes_eq}
+use Rattle.cns_terms.specs.Common.{Account, Cusip, Day, Member, Price, Rate, Ratio, UnitFault}
 use Rattle.csv.specs.Records.{field_at}
 use Rattle.cns_units.specs.Cusip.{cusip_of}
 use Rattle.cns_units.specs.Day.{day_of}
 use Rattle.cns_units.specs.Ranges.{ratio_of}
-use Rattle.cns_units.specs.declared.account.Account.{Account}
-use Rattle.cns_units.specs.declared.account.Member.{Member}
-use Rattle.cns_units.specs.declared.cusip.Cusip.{Cusip}
-use Rattle.cns_units.specs.declared.day.Day.{Day}
-use Rattle.cns_units.specs.declared.fault.UnitFault.{UnitFault}
 use Rattle.cns_units.specs.declared.money.Money.{Money}
-use Rattle.cns_units.specs.declared.price.Price.{Price}
-use Rattle.cns_units.specs.declared.rate.Rate.{Rate}
-use Rattle.cns_units.specs.declared.ratio.Ratio.{Ratio}
 use Rattle.cns_units.specs.declared.shares.Shares.{Shares}
-use Rattle.cns_terms.specs.declared.command.Activity.TheVariants as activity
 use Rattle.cns_terms.specs.declared.command.Command.{Command}
-use Rattle.cns_terms.specs.declared.command.Command.TheVariants as command
 use Rattle.cns_terms.specs.declared.command.Listing.{Listing}
 use Rattle.cns_terms.specs.declared.command.Movement.{Movement}
 use Rattle.cns_feed.specs.Digits.{in_range, number_in}
 use Rattle.cns_feed.specs.declared.fault.LineFault.{LineFault}
+use Rattle.cns_terms.specs.declared.command.Activity.TheVariants as activity
+use Rattle.cns_terms.specs.declared.command.Command.TheVariants as command
 use Rattle.cns_feed.specs.declared.fault.LineFault.TheVariants as fault
 
 -- a record: its fields, each a list of bytes

@@ -1,21 +1,18 @@
 -- What a replay makes of lines: their responses and the text that is written.
 use Rattle.std.specs.Prelude.{◌≡◌, ℕ, ◌+◌, Bool, true, false, count_by, map, List, [], ◌∷◌, ◌++◌, Ok, Err}
+use Rattle.cns_terms.specs.Common.{Day, State, answer, batches, journal_of, next, opened, rows_for}
 use Rattle.csv.specs.Reading.{records, default_config, strip_bom}
-use Rattle.cns_units.specs.declared.day.Day.{Day}
 use Rattle.cns_terms.specs.declared.reply.Reply.{Reply}
 use Rattle.cns_terms.specs.declared.reply.Reply.TheVariants as reply
 use Rattle.cns_terms.specs.declared.reply.Stated.{Stated}
 use Rattle.cns_terms.specs.declared.sheet.Row.{Row}
-use Rattle.cns_terms.specs.Fills.{batches}
-use Rattle.cns_terms.specs.Laws.{journal_of}
-use Rattle.cns_terms.specs.Machine.{State, opened, answer, next}
-use Rattle.cns_terms.specs.Sheets.{rows_for, sheet_named}
+use Rattle.cns_terms.specs.Sheets.{sheet_named}
 use Rattle.cns_statements.specs.Texts.{rows_text}
 use Rattle.cns_feed.specs.Line.{Line, line_of}
 use Rattle.cns_feed.specs.Text.{batches_text, reply_line, fault_line}
 use Rattle.cns_feed.specs.declared.response.Response.{Response}
-use Rattle.cns_feed.specs.declared.response.Response.TheVariants as response
 use Rattle.cns_feed.specs.declared.summary.Summary.{Summary}
+use Rattle.cns_feed.specs.declared.response.Response.TheVariants as response
 
 -- the lines of an input, after a byte order mark where there is one
 abbrev pub lines_of : List ℕ → List Line

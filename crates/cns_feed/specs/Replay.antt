@@ -1,18 +1,13 @@
 -- What a replay does to its book, and where it stops.
-use Rattle.std.specs.Prelude.{◌≡◌, ℕ, ◌+◌, ◌-◌, ◌^◌, ◌≤◌, List, [], ◌∷◌, ◌++◌, length, Option, Some, None, Ok, Err}
-use Rattle.std.specs.Option.{option_to_list}
-use Rattle.std.specs.Io.KnownBytes.{Appends, Keeps}
-use Rattle.cns_units.specs.Output.{AppendsFront}
-use Rattle.cns_units.specs.declared.day.Day.{Day}
+use Rattle.std.specs.Prelude.{◌≡◌, ℕ, ◌+◌, ◌-◌, ◌^◌, ◌≤◌, List, [], ◌∷◌, ◌++◌, length, Option, Some, None, Ok, Err, option_to_list}
+use Rattle.cns_terms.specs.Common.{Appends, AppendsFront, Day, Keeps, State, answer, count, opened}
 use Rattle.cns_terms.specs.declared.command.Command.{Command}
-use Rattle.cns_terms.specs.History.{count}
-use Rattle.cns_terms.specs.Machine.{State, answer, opened}
 use Rattle.cns_book.specs.Log.{Log, empty_log, state_of, with_taken}
 use Rattle.cns_feed.specs.Line.{Line}
 use Rattle.cns_feed.specs.Output.{line_text, lines_of, state_after, texts}
 use Rattle.cns_feed.specs.declared.fault.ReplayFault.{ReplayFault}
-use Rattle.cns_feed.specs.declared.fault.ReplayFault.TheVariants as fault
 use Rattle.cns_feed.specs.declared.summary.Summary.{Summary}
+use Rattle.cns_feed.specs.declared.fault.ReplayFault.TheVariants as fault
 
 -- what a fault at a record leaves of its text: a front that is not all of it, or nothing; no other fault comes at a record
 abbrev pub LeavesAt : ReplayFault → Option (List ℕ) → Option (List ℕ) → List ℕ → Type 0

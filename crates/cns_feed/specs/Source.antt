@@ -1,11 +1,12 @@
 -- What a source over the records of a reader tells, and when it reads no more.
 use Rattle.std.specs.Prelude.{◌≡◌, ◌⊎◌, ℕ, ◌+◌, ◌<◌, Bool, true, nat_lt, if◌then◌else◌, length, map, take, List, [], ◌∷◌, Option, Some, None, IfSome, option_map, Ok, Err, ⊤}
+use Rattle.cns_terms.specs.Common.{Told}
 use Rattle.csv.specs.Machine.{ends_at_end}
 use Rattle.csv.specs.Reading.{default_config, has_failed, reader_state, records_from, source_of}
-use Rattle.cns_terms.specs.Sources.{Answer, Told}
-use Rattle.cns_terms.specs.declared.command.Command.{Command}
+use Rattle.cns_terms.specs.Sources.{Answer}
 use Rattle.cns_terms.specs.declared.source.Item.TheVariants as item
 use Rattle.cns_terms.specs.declared.source.SourceFault.TheVariants as fault
+use Rattle.cns_terms.specs.declared.command.Command.{Command}
 use Rattle.cns_feed.specs.Line.{Line, line_of}
 use Rattle.cns_feed.specs.Records.{Setup, given_remaining}
 use Rattle.cns_feed.specs.declared.records.Records.{Records}

@@ -1,22 +1,18 @@
 -- The texts of replies and of records at fault.
-use Rattle.std.specs.Prelude.{ℕ, ◌∷◌, [], List, codes}
-use Rattle.std.specs.Fmt.{decimal, signed_decimal}
-use Rattle.std.specs.List.{flat_map}
-use Rattle.cns_units.specs.Cents.{cents_text}
+use Rattle.std.specs.Prelude.{ℕ, ◌∷◌, [], List, codes, decimal, flat_map}
+use Rattle.cns_terms.specs.Common.{Cusip, Liables, cents_text, text_line}
+use Rattle.std.specs.Fmt.{signed_decimal}
 use Rattle.cns_units.specs.Day.{day_text}
-use Rattle.cns_units.specs.declared.cusip.Cusip.{Cusip}
-use Rattle.cns_terms.specs.Batches.{Liables}
 use Rattle.cns_terms.specs.Numbers.{refusal_number}
 use Rattle.cns_terms.specs.declared.buy_in.Liable.{Liable}
 use Rattle.cns_terms.specs.declared.refusal.Refusal.{Refusal}
-use Rattle.cns_terms.specs.declared.refusal.Refusal.TheVariants as refusal
 use Rattle.cns_terms.specs.declared.reply.Closed.{Closed}
 use Rattle.cns_terms.specs.declared.reply.Held.{Held}
 use Rattle.cns_terms.specs.declared.reply.Reply.{Reply}
-use Rattle.cns_terms.specs.declared.reply.Reply.TheVariants as reply
+use Rattle.cns_terms.specs.declared.refusal.Refusal.TheVariants as refusal
 use Rattle.cns_statements.specs.Texts.{stated_line}
-use Rattle.cns_units.specs.Words.{text_line}
 use Rattle.cns_feed.specs.declared.fault.LineFault.{LineFault}
+use Rattle.cns_terms.specs.declared.reply.Reply.TheVariants as reply
 use Rattle.cns_feed.specs.declared.fault.LineFault.TheVariants as fault
 
 -- `notice NUMBER`

@@ -1,22 +1,10 @@
 -- The notices of an issue, ended one after another.
-use Rattle.std.proofs.Common.{◌≡◌, ◌∙◌, sym, ap, subst, refl, ℕ, zero, suc, ◌-◌, ◌<◌, ◌≤◌, Bool, true, false, cond, ◌||◌, eqb, List, [], ◌∷◌, length, get_or, set, map, Some, arith}
-use Rattle.std.specs.List.{All, AllByRecursion, list_any, slice_get}
-use Rattle.std.specs.Option.{IsSomeAnd}
-use Rattle.std.specs.Ordering.{is_eq}
-use Rattle.std.proofs.lemmas.Bool.{eqb-true}
-use Rattle.std.proofs.lemmas.List.{length-set}
+use Rattle.std.proofs.Common.{◌≡◌, ◌∙◌, sym, ap, subst, refl, ℕ, zero, suc, ◌-◌, ◌<◌, ◌≤◌, Bool, true, false, cond, ◌||◌, eqb, List, [], ◌∷◌, length, get_or, set, map, Some, arith, All, slice_get, IsSomeAnd, is_eq, eqb-true, length-set}
+use Rattle.cns_notices.proofs.Common.{AllByRecursion, Cusip, Ended, Leads, Noticed, Numbers, Place, at_stage, brought_to, changed_at, ended, ended_each, eqb_refl, equal, is_live, list_any, number_at, or_right, same_issue, slice_get_within, with_notice}
 use Rattle.std.proofs.lemmas.List.Elements.{filter_passes, recursion_from_All}
-use Rattle.std.proofs.lemmas.Option.{same_Some, slice_get_within}
-use Rattle.cns_units.specs.declared.cusip.Cusip.{Cusip}
-use Rattle.cns_terms.proofs.Facts.{equal, eqb_refl, or_right}
+use Rattle.std.proofs.lemmas.Option.{same_Some}
 use Rattle.cns_terms.specs.declared.buy_in.Given.{Given}
-use Rattle.cns_terms.specs.declared.buy_in.Stage.TheVariants.{Ended}
-use Rattle.cns_terms.specs.Notices.{is_live}
-use Rattle.cns_terms.specs.Sums.{same_issue}
-use Rattle.cns_notices.specs.declared.noticed.Noticed.{Noticed}
-use Rattle.cns_notices.specs.Latest.{Leads, Numbers, Place, ended_each, in_issue, number_at, place_cmp, place_of}
-use Rattle.cns_notices.specs.Noticed.{at_stage, brought_to, ended, with_notice}
-use Rattle.cns_terms.specs.Sums.{changed_at}
+use Rattle.cns_notices.specs.Latest.{in_issue, place_cmp, place_of}
 use Rattle.cns_notices.proofs.Led.{Keeps, back, brought_stays, changed_keeps, forth, set_is}
 use Rattle.cns_notices.proofs.Listed.{some_and}
 use Rattle.cns_notices.proofs.Places.{exact_places}

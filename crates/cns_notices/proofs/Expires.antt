@@ -1,15 +1,8 @@
 -- The notices of one day, among those whose days never fall.
-use Rattle.std.proofs.Common.{◌≡◌, ◌∙◌, sym, ap, subst, refl, ℕ, ◌+◌, ◌-◌, ◌<◌, ◌≤◌, true, false, cond, eqb, ltb, leb, List, [], ◌∷◌, ◌++◌, length, get_or, take, drop, map, arith, inl, inr}
-use Rattle.std.specs.List.{All, AllWithin}
-use Rattle.std.specs.List.Sorted.{IsPartitionPoint}
-use Rattle.std.proofs.lemmas.Bool.{cases_lt}
-use Rattle.std.proofs.lemmas.Bool.Decides.{nat_tests}
-use Rattle.std.proofs.lemmas.List.{drop-drop, get_or-drop, get_or-take, length-drop, length-take, map-append, map-id, take-append-drop}
+use Rattle.std.proofs.Common.{◌≡◌, ◌∙◌, sym, ap, subst, refl, ℕ, ◌+◌, ◌-◌, ◌<◌, ◌≤◌, true, false, cond, eqb, ltb, leb, List, [], ◌∷◌, ◌++◌, length, get_or, take, drop, map, arith, inl, inr, All, drop-drop, get_or-drop, get_or-take, length-drop, length-take, map-id, take-append-drop}
+use Rattle.cns_notices.proofs.Common.{AllWithin, Expired, IsPartitionPoint, Noticed, brought_to, cases_lt, expired, expired_from, map-append, nat_tests}
 use Rattle.std.proofs.lemmas.List.Elements.{All-head, All-tail}
 use borrow.Rule.Slice.PartMut.{mid_of, put_mid}
-use Rattle.cns_terms.specs.declared.buy_in.Stage.TheVariants.{Expired}
-use Rattle.cns_notices.specs.declared.noticed.Noticed.{Noticed}
-use Rattle.cns_notices.specs.Noticed.{brought_to, expired, expired_from}
 
 -- two changes that agree on each
 agree : (f g : Noticed → Noticed) (ys : List Noticed) → All (λ y. f y ≡ g y) ys → map f ys ≡ map g ys

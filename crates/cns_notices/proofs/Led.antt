@@ -1,24 +1,12 @@
 -- The numbers that lead to the notices.
-use Rattle.std.proofs.Common.{◌≡◌, ◌∙◌, sym, ap, subst, refl, ℕ, zero, suc, ◌+◌, ◌-◌, ◌<◌, ◌≤◌, ◌^◌, Bool, true, false, cond, ◌&&◌, eqb, List, [], ◌∷◌, length, get_or, set, map, Some, None, arith}
-use Rattle.std.specs.List.{AllZip, slice_get}
-use Rattle.std.specs.Option.{IsSomeAnd}
-use Rattle.std.specs.Prelude.{bytes_eq}
-use Rattle.std.proofs.lemmas.Bool.{eqb-true}
+use Rattle.std.proofs.Common.{◌≡◌, ◌∙◌, sym, ap, subst, refl, ℕ, zero, suc, ◌+◌, ◌-◌, ◌<◌, ◌≤◌, ◌^◌, Bool, true, false, cond, ◌&&◌, eqb, List, [], ◌∷◌, length, get_or, set, map, Some, None, arith, slice_get, IsSomeAnd, bytes_eq, eqb-true}
+use Rattle.cns_notices.proofs.Common.{Cusip, Ended, Expired, Leads, Member, Noticed, Numbers, Place, Stage, Withdrawn, and_left, and_right, at_stage, both_true, brought_to, bytes_eq-Decides, bytes_refl, changed_at, ended, eqb_refl, expired, has_received, is_live, is_live_of, live_number, number_at, receives, same_issue, slice_get_read, slice_get_within}
+use Rattle.std.specs.List.{AllZip}
 use Rattle.std.proofs.lemmas.List.Elements.{AllZip-get_or, length_all_zip}
-use Rattle.std.proofs.lemmas.Option.{same_Some, slice_get_read, slice_get_within}
-use Rattle.std.proofs.lemmas.Slice.Eq.{bytes_eq-Decides}
-use Rattle.cns_units.specs.declared.account.Member.{Member}
-use Rattle.cns_units.specs.declared.cusip.Cusip.{Cusip}
-use Rattle.cns_terms.proofs.Facts.{and_left, and_right, both_true, bytes_refl, eqb_refl}
+use Rattle.std.proofs.lemmas.Option.{same_Some}
 use Rattle.cns_terms.specs.declared.buy_in.Given.{Given}
-use Rattle.cns_terms.specs.declared.buy_in.Stage.{Stage}
-use Rattle.cns_terms.specs.declared.buy_in.Stage.TheVariants.{Ended, Expired, Withdrawn}
-use Rattle.cns_terms.specs.Notices.{is_live}
-use Rattle.cns_terms.specs.Sums.{same_issue}
-use Rattle.cns_notices.specs.declared.noticed.Noticed.{Noticed}
-use Rattle.cns_notices.specs.Latest.{Leads, Numbers, Place, number_at, place_of}
-use Rattle.cns_notices.specs.Noticed.{at_stage, brought_to, ended, executes, expired, has_received, is_live_of, live_number, receives}
-use Rattle.cns_terms.specs.Sums.{changed_at}
+use Rattle.cns_notices.specs.Latest.{place_of}
+use Rattle.cns_notices.specs.Noticed.{executes}
 use Rattle.cns_notices.proofs.Listed.{found_at, map_none, map_one, none_at, none_from, not_true, one_from, some_and, written}
 
 -- a member's live notice in an issue, by its parts

@@ -7,3 +7,4 @@ pub mod Expires
 pub mod NoticeSteps
 pub mod Noticing
 pub mod NoticeFacts
+pub mod Common

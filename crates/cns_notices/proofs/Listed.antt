@@ -1,9 +1,6 @@
 -- Lists of which one item changes, and those that pass a test.
-use Rattle.std.proofs.Common.{◌≡◌, ◌∙◌, sym, ap, refl, ℕ, zero, suc, ◌+◌, Bool, true, false, cond, List, [], ◌∷◌, ◌++◌, length, set, take, drop, map, Option, Some, None, arith}
-use Rattle.std.specs.List.{position_from, slice_get}
-use Rattle.std.specs.Option.{IsSomeAnd}
-use Rattle.std.proofs.lemmas.List.{take_at}
-use Rattle.cns_terms.specs.Sums.{changed_at}
+use Rattle.std.proofs.Common.{◌≡◌, ◌∙◌, sym, ap, refl, ℕ, zero, suc, ◌+◌, Bool, true, false, cond, List, [], ◌∷◌, ◌++◌, length, set, take, drop, map, Option, Some, None, arith, slice_get, IsSomeAnd, take_at}
+use Rattle.cns_notices.proofs.Common.{changed_at, position_from}
 
 -- what is not true is false
 pub not_true : (b : Bool) → (b ≡ true → ⊥) → b ≡ false

@@ -1,21 +1,11 @@
 -- How many notices there are, of which days, and where one is found.
-use Rattle.std.proofs.Common.{◌≡◌, ◌∙◌, ap, sym, subst, refl, ℕ, suc, ◌+◌, ◌-◌, ◌≤◌, Bool, true, false, cond, ◌&&◌, ◌==◌, List, [], ◌∷◌, ◌++◌, length, map, find, Option, Some, None, arith}
-use Rattle.std.specs.List.{AllByRecursion, position_from}
-use Rattle.std.specs.Option.{option_map_or}
-use Rattle.std.specs.Prelude.{option_map}
-use Rattle.std.proofs.lemmas.List.{length-append}
+use Rattle.std.proofs.Common.{◌≡◌, ◌∙◌, ap, sym, subst, refl, ℕ, suc, ◌+◌, ◌-◌, ◌≤◌, Bool, true, false, cond, ◌&&◌, ◌==◌, List, [], ◌∷◌, ◌++◌, length, map, find, Option, Some, None, arith, option_map, length-append}
+use Rattle.cns_notices.proofs.Common.{AllByRecursion, Cusip, Journal, Member, Movement, Notice, Posting, closes, closings, day, each_append, each_weaker, is_close, is_live, is_live_of, kept_notices, live_number, notice, notice_at, noticed, notices, option_map_or, position_from, same_issue, stage}
 use Rattle.std.proofs.lemmas.Option.{slice_get-map}
-use Rattle.cns_units.specs.declared.account.Member.{Member}
-use Rattle.cns_units.specs.declared.cusip.Cusip.{Cusip}
-use Rattle.cns_terms.specs.declared.command.Movement.{Movement}
-use Rattle.cns_terms.specs.Days.{closes, closings, day, is_close}
-use Rattle.cns_terms.specs.Notices.{Notice, is_live, live_notice, notice, notice_at, noticed, notices, stage}
-use Rattle.cns_terms.specs.Postings.{Journal, Posting}
-use Rattle.cns_terms.specs.Sums.{same_issue}
-use Rattle.cns_terms.proofs.Everywhere.{each_append, each_weaker}
+use Rattle.cns_terms.specs.Notices.{live_notice}
 use Rattle.cns_notices.proofs.NoticeSteps.{AreNumberedFrom, numbered}
-use Rattle.cns_notices.specs.Noticed.{is_live_of, live_number, notice_at as kept_at}
-use Rattle.cns_notices.specs.Kept.{kept, kept_notices}
+use Rattle.cns_notices.specs.Noticed.{notice_at as kept_at}
+use Rattle.cns_notices.specs.Kept.{kept}
 use Rattle.cns_notices.proofs.Noticing.{notice_found}
 
 -- ---- how many, and of which days

@@ -1,16 +1,7 @@
 -- How notices stand after one more activity.
-use Rattle.std.proofs.Common.{◌≡◌, ap, refl, ℕ, suc, ◌+◌, ◌≤◌, ◌<◌, Bool, true, false, cond, ◌&&◌, List, [], ◌∷◌, ◌++◌, length, Option, Some, None, arith}
-use Rattle.std.specs.List.{AllByRecursion}
-use Rattle.std.specs.Option.{option_map_or}
-use Rattle.std.specs.Prelude.{nat_le}
-use Rattle.std.proofs.lemmas.Bool.Decides.{nat_tests}
-use Rattle.std.proofs.lemmas.List.{length-append}
-use Rattle.cns_terms.specs.declared.buy_in.Stage.{Stage}
-use Rattle.cns_terms.specs.declared.buy_in.Stage.TheVariants.{Live, Withdrawn, Ended, Expired}
-use Rattle.cns_terms.specs.declared.command.Movement.{Movement}
-use Rattle.cns_terms.specs.Days.{day}
-use Rattle.cns_terms.specs.Notices.{Notice, execution, first_reached, is_given, is_live, notice, noticed, notices, receipt, shares_executed, shares_received, stage, stage_by}
-use Rattle.cns_terms.specs.Postings.{Journal, Posting}
+use Rattle.std.proofs.Common.{◌≡◌, ap, refl, ℕ, suc, ◌+◌, ◌≤◌, ◌<◌, Bool, true, false, cond, ◌&&◌, List, [], ◌∷◌, ◌++◌, length, Option, Some, None, arith, nat_le, length-append}
+use Rattle.cns_notices.proofs.Common.{AllByRecursion, Ended, Expired, Journal, Live, Movement, Notice, Posting, Stage, Withdrawn, day, execution, first_reached, is_given, is_live, nat_tests, notice, noticed, notices, option_map_or, receipt, shares_executed, stage}
+use Rattle.cns_terms.specs.Notices.{shares_received, stage_by}
 use Rattle.cns_notices.specs.Kept.{received_live}
 
 -- ---- numbers

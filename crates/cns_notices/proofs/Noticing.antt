@@ -1,26 +1,12 @@
 -- What each activity makes of the notices, in the words of the list.
-use Rattle.std.proofs.Common.{◌≡◌, ◌∙◌, ap, refl, ℕ, zero, suc, ◌+◌, ◌-◌, ◌≤◌, ◌<◌, Bool, true, false, cond, ◌&&◌, ◌==◌, List, [], ◌∷◌, ◌++◌, length, map, find, Some, arith}
-use Rattle.std.specs.List.{slice_get}
-use Rattle.std.specs.Prelude.{bytes_eq}
-use Rattle.std.proofs.lemmas.Bool.Decides.{nat_tests}
-use Rattle.std.proofs.lemmas.Cmp.{nat_list_eq_equiv}
-use Rattle.cns_units.specs.declared.cusip.Cusip.{Cusip}
+use Rattle.std.proofs.Common.{◌≡◌, ◌∙◌, ap, refl, ℕ, zero, suc, ◌+◌, ◌-◌, ◌≤◌, ◌<◌, Bool, true, false, cond, ◌&&◌, ◌==◌, List, [], ◌∷◌, ◌++◌, length, map, find, Some, arith, slice_get, bytes_eq}
+use Rattle.cns_notices.proofs.Common.{Cusip, Ended, Expired, Journal, Live, Movement, Notice, Noticed, Posting, Stage, Withdrawn, brought_to, changed_at, day, each_weaker, ended, eqb_sym, execution, expired, first_reached, is_given, is_live, kept_notices, map_each, nat_list_eq_equiv, nat_tests, notice, notice_at, notices, receipt, receives, with_notice}
 use Rattle.cns_terms.specs.declared.buy_in.Given.{Given}
-use Rattle.cns_terms.specs.declared.buy_in.Stage.{Stage}
-use Rattle.cns_terms.specs.declared.buy_in.Stage.TheVariants.{Live, Withdrawn, Ended, Expired}
 use Rattle.cns_terms.specs.declared.command.Activity.{Activity}
-use Rattle.cns_terms.specs.declared.command.Movement.{Movement}
-use Rattle.cns_terms.specs.Days.{day}
-use Rattle.cns_terms.specs.Notices.{Notice, execution, first_reached, is_given, is_live, notice, notice_at, notices, receipt, stage_by}
-use Rattle.cns_terms.specs.Postings.{Journal, Posting}
-use Rattle.cns_terms.proofs.Everywhere.{each_weaker}
-use Rattle.cns_terms.proofs.Facts.{eqb_sym}
-use Rattle.cns_terms.proofs.Facts.{map_each}
+use Rattle.cns_terms.specs.Notices.{stage_by}
 use Rattle.cns_notices.proofs.NoticeSteps.{AreNumberedFrom, each_given, executed_next, given_now, numbered, received_next, stage_next}
-use Rattle.cns_notices.specs.declared.noticed.Noticed.{Noticed}
-use Rattle.cns_notices.specs.Noticed.{brought_to, ended, executes, expired, opened, receives, with_notice}
-use Rattle.cns_terms.specs.Sums.{changed_at}
-use Rattle.cns_notices.specs.Kept.{kept, kept_notices}
+use Rattle.cns_notices.specs.Noticed.{executes, opened}
+use Rattle.cns_notices.specs.Kept.{kept}
 
 -- ---- one notice
 

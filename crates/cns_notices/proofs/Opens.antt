@@ -1,17 +1,11 @@
 -- One notice more.
-use Rattle.std.proofs.Common.{◌≡◌, ◌∙◌, sym, ap, subst, refl, ℕ, zero, suc, ◌+◌, ◌-◌, ◌<◌, ◌≤◌, ◌^◌, Bool, true, false, cond, List, [], ◌∷◌, ◌++◌, length, get_or, length-append, Some, None, arith, inl, inr, ◌⊎◌}
-use Rattle.std.specs.List.{slice_get}
-use Rattle.std.specs.Option.{IsSomeAnd}
-use Rattle.std.specs.Ordering.{is_eq}
-use Rattle.std.proofs.lemmas.Cmp.{tied_itself}
+use Rattle.std.proofs.Common.{◌≡◌, ◌∙◌, sym, ap, subst, refl, ℕ, zero, suc, ◌+◌, ◌-◌, ◌<◌, ◌≤◌, ◌^◌, Bool, true, false, cond, List, [], ◌∷◌, ◌++◌, length, get_or, length-append, Some, None, arith, inl, inr, ◌⊎◌, slice_get, IsSomeAnd, is_eq}
+use Rattle.cns_notices.proofs.Common.{Leads, Noticed, Numbers, Place, equal, is_live, is_live_of, live_number, number_at, tied_itself}
 use Rattle.std.proofs.lemmas.List.Sorted.{IsNonDecreasingBy-push}
 use Rattle.std.proofs.lemmas.Option.{slice_get-get_or}
-use Rattle.cns_terms.proofs.Facts.{equal}
 use Rattle.cns_terms.specs.declared.buy_in.Given.{Given}
-use Rattle.cns_terms.specs.Notices.{is_live}
-use Rattle.cns_notices.specs.declared.noticed.Noticed.{Noticed}
-use Rattle.cns_notices.specs.Latest.{Leads, Numbers, Place, number_at, place_cmp, place_of}
-use Rattle.cns_notices.specs.Noticed.{is_live_of, live_number, notice_at, opened}
+use Rattle.cns_notices.specs.Latest.{place_cmp, place_of}
+use Rattle.cns_notices.specs.Noticed.{notice_at, opened}
 use Rattle.cns_notices.proofs.Led.{live_from}
 use Rattle.cns_notices.proofs.Listed.{none_at, not_true, some_and}
 use Rattle.cns_notices.proofs.Places.{exact_places, places_total}

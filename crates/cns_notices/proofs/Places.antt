@@ -1,23 +1,12 @@
 -- Places of members in issues, and the numbers at them.
-use Rattle.std.proofs.Common.{◌≡◌, ◌∙◌, sym, ap, refl, subst, ℕ, ◌<◌, true, false, cond, not, ◌&&◌, [], ◌∷◌, filter, arith}
-use Rattle.std.specs.BTreeMap.{insert_entry}
+use Rattle.std.proofs.Common.{◌≡◌, ◌∙◌, sym, ap, refl, subst, ℕ, ◌<◌, true, false, cond, not, ◌&&◌, [], ◌∷◌, filter, arith, is_eq, is_gt, is_le, is_lt, nat_cmp, Ordering, Less, Equal, Greater}
+use Rattle.cns_notices.proofs.Common.{Cusip, Included, IsTotalOrder, Numbers, Place, exact_bytes, insert_entry, is_eq-slice_cmp, nat_cmp_total, nat_list_cmp_total, nat_tests, ordering_then, range_contains, same_issue, slice_cmp, tied_itself}
 use Rattle.std.proofs.lemmas.Map.Views.{All-keys-insert_entry}
-use Rattle.std.specs.BTreeMap.Range.{range_contains}
-use Rattle.std.specs.Cmp.{IsTotalOrder}
 use Rattle.std.specs.Map.{keys_of}
-use Rattle.std.specs.Ordering.{is_eq, is_gt, is_le, is_lt, nat_cmp, ordering_then}
-use Rattle.std.specs.Cmp.Lexicographic.{slice_cmp}
-use Rattle.std.specs.declared.cmp.Ordering.{Ordering}
-use Rattle.std.specs.declared.cmp.Ordering.TheVariants.{Less, Equal, Greater}
-use Rattle.std.specs.declared.ops.Bound.TheVariants.{Included}
-use Rattle.std.proofs.lemmas.Bool.Decides.{nat_tests}
-use Rattle.std.proofs.lemmas.Cmp.{nat_cmp_total, nat_list_cmp_total, then_total, tied_itself, on_total}
+use Rattle.std.proofs.lemmas.Cmp.{then_total, on_total}
 use Rattle.std.proofs.lemmas.List.Elements.{All-head, All-tail}
-use Rattle.std.proofs.lemmas.Map.Lookups.{CmpEqualImpliesEq, exact_pairs, exact_unsigned, exact_bytes}
-use Rattle.std.proofs.lemmas.Map.Text.{is_eq-slice_cmp}
-use Rattle.cns_units.specs.declared.cusip.Cusip.{Cusip}
-use Rattle.cns_terms.specs.Sums.{same_issue}
-use Rattle.cns_notices.specs.Latest.{HaveSmallMembers, Numbers, Place, in_issue, place_cmp}
+use Rattle.std.proofs.lemmas.Map.Lookups.{CmpEqualImpliesEq, exact_pairs, exact_unsigned}
+use Rattle.cns_notices.specs.Latest.{HaveSmallMembers, in_issue, place_cmp}
 
 -- the order of places is total, and tells them apart
 pub places_total : IsTotalOrder place_cmp

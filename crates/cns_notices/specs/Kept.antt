@@ -1,7 +1,6 @@
 -- Notices by the definitions, as the list has them.
 use Rattle.std.specs.Prelude.{ℕ, ◌+◌, ◌&&◌, List, [], ◌∷◌, map, if◌then◌else◌}
-use Rattle.cns_terms.specs.Notices.{Notice, is_given, is_live, notices, receipt, shares_executed, stage}
-use Rattle.cns_terms.specs.Postings.{Journal}
+use Rattle.cns_terms.specs.Common.{Journal, Notice, is_given, is_live, notices, receipt, shares_executed, stage}
 use Rattle.cns_notices.specs.declared.noticed.Noticed.{Noticed}
 
 -- what the member of a notice received while it was live, as a counter has it: of a live notice, all since it was given

@@ -1,16 +1,10 @@
 -- The number of the last notice of each member in each issue.
-use Rattle.std.specs.Prelude.{◌≡◌, ℕ, suc, ◌-◌, ◌^◌, ◌<◌, true, List, [], ◌∷◌, length, Option, Some, None, IsSomeAnd, filter}
-use Rattle.std.specs.List.{All, slice_get}
-use Rattle.std.specs.List.Sorted.{IsNonDecreasingBy}
-use Rattle.std.specs.Map.{keys_of, lookup}
-use Rattle.std.specs.Ordering.{is_eq, nat_cmp, ordering_then}
-use Rattle.std.specs.Cmp.Lexicographic.{slice_cmp}
+use Rattle.std.specs.Prelude.{◌≡◌, ℕ, suc, ◌-◌, ◌^◌, ◌<◌, true, List, [], ◌∷◌, length, Option, Some, None, IsSomeAnd, filter, All, slice_get}
+use Rattle.cns_terms.specs.Common.{Cusip, IsNonDecreasingBy, is_eq, is_live, lookup, nat_cmp, ordering_then, same_issue, slice_cmp}
+use Rattle.std.specs.Map.{keys_of}
 use Rattle.std.specs.declared.cmp.Ordering.{Ordering}
-use Rattle.cns_units.specs.declared.cusip.Cusip.{Cusip}
 use Rattle.cns_terms.specs.declared.buy_in.Stage.TheVariants.{Ended}
-use Rattle.cns_terms.specs.Notices.{is_live}
 use Rattle.cns_notices.specs.Noticed.{brought_to, with_notice}
-use Rattle.cns_terms.specs.Sums.{same_issue}
 use Rattle.cns_notices.specs.declared.noticed.Noticed.{Noticed}
 use Rattle.std.specs.BTreeMap.{BTreeMap}
 

@@ -1,13 +1,9 @@
 -- The notices in the order in which they were accepted: notice k stands at place k - 1.
-use Rattle.std.specs.Prelude.{ℕ, ◌+◌, ◌-◌, ℤ, Bool, ◌&&◌, ◌==◌, List, Option, if◌then◌else◌}
-use Rattle.std.specs.List.{position_from, slice_get}
-use Rattle.cns_units.specs.declared.account.Member.{Member}
-use Rattle.cns_units.specs.declared.cusip.Cusip.{Cusip}
+use Rattle.std.specs.Prelude.{ℕ, ◌+◌, ◌-◌, ℤ, Bool, ◌&&◌, ◌==◌, List, Option, if◌then◌else◌, slice_get}
+use Rattle.cns_terms.specs.Common.{Cusip, Member, changed_at, is_live, position_from, same_issue, what_remains}
 use Rattle.cns_terms.specs.declared.buy_in.Given.{Given}
 use Rattle.cns_terms.specs.declared.buy_in.Stage.{Stage}
 use Rattle.cns_terms.specs.declared.buy_in.Stage.TheVariants.{Live, Ended, Expired}
-use Rattle.cns_terms.specs.Notices.{is_live, what_remains}
-use Rattle.cns_terms.specs.Sums.{changed_at, same_issue}
 use Rattle.cns_notices.specs.declared.noticed.Noticed.{Noticed}
 
 -- ---- one notice

@@ -1,10 +1,7 @@
 -- Trades that wait beside splits and exchanges.
 use Rattle.std.specs.Prelude.{◌≤◌, List}
-use Rattle.cns_units.specs.declared.account.Account.{Account}
-use Rattle.cns_units.specs.declared.cusip.Cusip.{Cusip}
+use Rattle.cns_terms.specs.Common.{Account, Cusip, bought_in, position_limit, sold_in}
 use Rattle.cns_terms.specs.declared.pend.Pend.{Pend}
-use Rattle.cns_terms.specs.Limits.{position_limit}
-use Rattle.cns_terms.specs.Pending.{bought_in, sold_in}
 
 -- no member is to get or to give more by them in an issue than it may have
 abbrev pub CanWait : List Pend → Type 0

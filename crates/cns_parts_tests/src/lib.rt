@@ -21,6 +21,8 @@ mod calls;
 #[cfg(test)]
 mod conversions;
 #[cfg(test)]
+mod counted;
+#[cfg(test)]
 mod dividends;
 #[cfg(test)]
 mod heaps;

@@ -480,3 +480,23 @@ fn check_many_issues<P: Positions<Global>>(rt: &(impl Abort + AllocGlobal)) {
     }
     assert!(rt; passed(rt, &positions).len() == 65_537);
 }
+
+// Pairs of accounts: both have rows, in either order, the same twice, one alone, none.
+const PAIRS: [(u16, u16); 6] = [(1, 2), (2, 1), (1, 1), (2, 3), (3, 2), (3, 4)];
+
+fn check_pairs<P: Positions<Global>>(rt: &(impl Abort + AllocGlobal)) {
+    let mut positions = P::new(rt.alloc());
+    book(rt, &mut positions, &[key(rt, 1, APPLE)], 5, -10);
+    book(rt, &mut positions, &[key(rt, 2, APPLE)], -5, 10);
+    for (first, second) in &PAIRS {
+        let (first, second) = (&key(rt, *first, APPLE), &key(rt, *second, APPLE));
+        let both = positions.get_two(*first, *second);
+        assert!(rt; both == (positions.get(*first), positions.get(*second)));
+    }
+}
+
+#[test]
+fn two_keys_are_looked_up_as_each_alone(rt: HostRuntime) {
+    check_pairs::<Flat>(&rt);
+    check_pairs::<Balanced>(&rt);
+}

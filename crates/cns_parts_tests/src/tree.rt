@@ -67,9 +67,24 @@ const LOOK_UPS: [(u16, Option<u16>, Option<u16>); 3] = [
     (1001, None, None),
 ];
 
+// Two numbers: both are there, in either order, the same, far up and far down, one alone, none.
+const PAIRS: [(u16, u16); 7] = [
+    (1, 1000),
+    (1000, 1),
+    (500, 500),
+    (512, 3),
+    (7, 1001),
+    (1001, 7),
+    (1001, 1002),
+];
+
 fn look_ups<A: Allocator + Clone>(rt: &impl Abort, tree: &Tree<u64, A>) {
     assert!(rt; tree.get(key(rt, 500, APPLE)) == Some(500));
     assert!(rt; tree.get(key(rt, 1001, APPLE)).is_none());
+    for (first, second) in &PAIRS {
+        let (first, second) = (&key(rt, *first, APPLE), &key(rt, *second, APPLE));
+        assert!(rt; tree.get_two(*first, *second) == (tree.get(*first), tree.get(*second)));
+    }
     for (number, from, above) in &LOOK_UPS {
         let key = &key(rt, *number, APPLE);
         assert!(rt; tree.first_at_or_after(*key) == row(rt, *from));
@@ -327,9 +342,9 @@ fn a_refused_growth_leaves_the_tree_as_it_was(rt: HostRuntime) {
     }
 }
 
-// How the keys of a large tree come.
+// How the keys of a tree come.
 #[derive(Clone, Copy)]
-enum Order {
+pub(crate) enum Order {
     Rising,
     Falling,
     Scattered,
@@ -337,13 +352,14 @@ enum Order {
 
 const ROWS: u32 = 100_000;
 
-// The key that comes at a place: a hundred issues for each account.
-fn large_key(rt: &impl Abort, order: Order, place: u32) -> Key {
+// The key that comes at a place among so many: a hundred issues for each account.
+pub(crate) fn placed_key(rt: &impl Abort, order: Order, rows: u32, place: u32) -> Key {
+    let rows = rows.max(1);
     let number = match order {
         Order::Rising => place,
-        Order::Falling => ROWS - 1 - place % ROWS,
-        // 70,001 has no divisor in common with the number of rows
-        Order::Scattered => (u64::from(place) * 70_001 % u64::from(ROWS)) as u32,
+        Order::Falling => rows - 1 - place % rows,
+        // 70,001 has no divisor in common with the numbers of rows of the tests
+        Order::Scattered => (u64::from(place) * 70_001 % u64::from(rows)) as u32,
     };
     Key {
         account: account(rt, (number / 100 % 10_000) as u16),
@@ -351,11 +367,17 @@ fn large_key(rt: &impl Abort, order: Order, place: u32) -> Key {
     }
 }
 
-fn large_tree(rt: &impl Abort, alloc: Global, order: Order) -> Tree<u32, Global> {
+// A tree of so many rows, with their places as values.
+pub(crate) fn placed_tree(
+    rt: &impl Abort,
+    alloc: Global,
+    order: Order,
+    rows: u32,
+) -> Tree<u32, Global> {
     let mut tree = Tree::new(alloc);
-    for place in 0..ROWS {
+    for place in 0..rows {
         let mut spare = tree.spare(1, 0).expect(rt, "memory");
-        tree.put(large_key(rt, order, place), place, &mut spare);
+        tree.put(placed_key(rt, order, rows, place), place, &mut spare);
     }
     tree
 }
@@ -387,17 +409,17 @@ const PLACES: [u32; 4] = [0, 1, 50_000, 99_999];
 // Whether keys have their places as values.
 fn has_places(rt: &impl Abort, tree: &Tree<u32, Global>, order: Order) -> bool {
     for place in &PLACES {
-        if tree.get(large_key(rt, order, *place)) != Some(*place) {
+        if tree.get(placed_key(rt, order, ROWS, *place)) != Some(*place) {
             return false;
         }
     }
     true
 }
 
-const ORDERS: [Order; 3] = [Order::Rising, Order::Falling, Order::Scattered];
+pub(crate) const ORDERS: [Order; 3] = [Order::Rising, Order::Falling, Order::Scattered];
 
 fn check_large(rt: &impl Abort, alloc: Global, order: Order) {
-    let tree = large_tree(rt, alloc, order);
+    let tree = placed_tree(rt, alloc, order, ROWS);
     assert!(rt; tree.len() == 100_000);
     assert!(rt; sum_of_walk(&tree) == 704_982_704);
     assert!(rt; keys_rise(&tree));

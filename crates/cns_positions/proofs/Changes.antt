@@ -1,15 +1,8 @@
 -- What changes of a tree's rows make of the holdings.
-use Rattle.std.proofs.Common.{◌≡◌, ◌∙◌, ap, refl, Bool, true, false, is_some, ◌&&◌, cond, [], ◌∷◌, ◌++◌, Option, Some, None}
-use Rattle.std.specs.Prelude.{MatchOption, ℤ, unwrap_or}
-use Rattle.std.specs.Ordering.{is_lt}
-use Rattle.std.specs.List.{filter}
+use Rattle.std.proofs.Common.{◌≡◌, ◌∙◌, ap, refl, Bool, true, false, is_some, ◌&&◌, cond, [], ◌∷◌, ◌++◌, Option, Some, None, MatchOption, ℤ, unwrap_or, is_lt, filter}
+use Rattle.cns_positions.proofs.Common.{Holding, Key, Rows, closed_rows, filter-append, has_row, held_above, holding_at, is_held, key_cmp, rolled, zeros}
 use Rattle.std.specs.FinMap.{put, find}
-use Rattle.std.proofs.lemmas.List.Elements.{filter-append}
-use Rattle.cns_terms.specs.Keys.{key_cmp}
-use Rattle.cns_terms.specs.declared.holding.Key.{Key}
-use Rattle.cns_terms.specs.declared.holding.Holding.{Holding}
-use Rattle.cns_positions.specs.Rows.{Rows, held_above, holding_at, is_above, is_held, rolled, zeros}
-use Rattle.cns_positions.specs.Contents.{closed_rows, has_row}
+use Rattle.cns_positions.specs.Rows.{is_above}
 use Rattle.cns_positions.proofs.Holdings.{with_booked}
 use Rattle.cns_tree.specs.Changes.{ChangesAt, ChangesEach}
 use Rattle.cns_tree.specs.Search.{is_after}

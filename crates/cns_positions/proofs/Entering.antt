@@ -1,12 +1,9 @@
 -- Keys that are given rows one after another.
-use Rattle.std.proofs.Common.{◌≡◌, ◌≢◌, ◌∙◌, sym, ap, subst, refl, true, List, [], ◌∷◌, ◌++◌, ℕ, ◌<◌, ◌+◌, length, get_or, take, drop, inl, inr, Option, None, Some, is_some, Result, Ok, Err, OnErr}
-use Rattle.std.specs.List.{Any, Contains}
-use Rattle.std.proofs.lemmas.List.{take-append-drop, take_more}
-use Rattle.std.proofs.lemmas.List.Elements.{Contains-append_left, Contains-get_or, Contains-push, Contains-push_cases}
-use Rattle.cns_terms.specs.declared.holding.Holding.{Holding}
-use Rattle.cns_terms.specs.declared.holding.Key.{Key}
-use Rattle.cns_positions.specs.Rows.{LacksRoom, Rows, row_at}
-use Rattle.cns_positions.specs.Contents.{IsKept, has_row}
+use Rattle.std.proofs.Common.{◌≡◌, ◌≢◌, ◌∙◌, sym, ap, subst, refl, true, List, [], ◌∷◌, ◌++◌, ℕ, ◌<◌, ◌+◌, length, get_or, take, drop, inl, inr, Option, None, Some, is_some, Result, Ok, Err, OnErr, Any, Contains, take-append-drop}
+use Rattle.cns_positions.proofs.Common.{Contains-get_or, Holding, Key, Rows, has_row, take_more}
+use Rattle.std.proofs.lemmas.List.Elements.{Contains-append_left, Contains-push, Contains-push_cases}
+use Rattle.cns_positions.specs.Rows.{LacksRoom, row_at}
+use Rattle.cns_positions.specs.Contents.{IsKept}
 
 -- what holds at all holds at an error
 pub at_error : {T E P : Type 0} (r : Result T E) → P → OnErr r P

@@ -1,21 +1,11 @@
 -- The rows that aren't zeros, above a key.
-use Rattle.std.proofs.Common.{◌≡◌, ◌∙◌, sym, ap, refl, Bool, true, false, ◌&&◌, cond, leb, ℕ, ◌+◌, ◌<◌, ◌≤◌, List, [], ◌∷◌, ◌++◌, filter, length, length-append, get_or, take, drop, subst, Option, Some, None, MatchOption, Ordering}
-use Rattle.std.specs.Ordering.{is_le, is_lt, ordering_index, ordering_reverse}
-use Rattle.std.specs.declared.cmp.Ordering.TheVariants.{Less, Equal, Greater}
-use Rattle.std.specs.List.Sorted.{IsPartitionedBy, IsPartitionPoint}
+use Rattle.std.proofs.Common.{◌≡◌, ◌∙◌, sym, ap, refl, Bool, true, false, ◌&&◌, cond, leb, ℕ, ◌+◌, ◌<◌, ◌≤◌, List, [], ◌∷◌, ◌++◌, filter, length, length-append, get_or, take, drop, subst, Option, Some, None, MatchOption, Ordering, is_le, is_lt, Less, Equal, Greater, take-append-drop, find}
+use Rattle.cns_positions.proofs.Common.{Holding, IsPartitionPoint, Key, Rows, filter-append, filter_map-append, held_above, is_held, is_sorted, key_cmp, keys_total, less, next_above, ordering_index, ordering_reverse, present, sorted_filter, take_more, zeros}
+use Rattle.std.specs.List.Sorted.{IsPartitionedBy}
 use Rattle.std.proofs.lemmas.List.Sorted.{IsPartitionedBy-leb}
-use Rattle.std.specs.FinMap.{is_sorted}
-use Rattle.std.proofs.lemmas.List.Elements.{filter-append, filter_map-append, filter_more}
-use Rattle.std.proofs.lemmas.List.{take-append-drop, take_more}
+use Rattle.std.proofs.lemmas.List.Elements.{filter_more}
 use Rattle.std.proofs.Math.Bool.{and_comm}
-use Rattle.cns_terms.specs.declared.holding.Key.{Key}
-use Rattle.cns_terms.specs.declared.holding.Holding.{Holding}
-use Rattle.cns_terms.specs.Keys.{key_cmp}
-use Rattle.cns_terms.proofs.Facts.{less}
-use Rattle.cns_terms.proofs.Finds.{next_above, sorted_filter}
-use Rattle.cns_terms.proofs.Keys.{keys_total}
-use Rattle.std.specs.List.{find}
-use Rattle.cns_positions.specs.Rows.{AreNext, Rows, held_above, is_above, is_held, last_of, present, zeros}
+use Rattle.cns_positions.specs.Rows.{AreNext, is_above, last_of}
 use Rattle.cns_positions.proofs.Parted.{filter_back}
 use Rattle.cns_positions.proofs.Puts.{comparisons_rise}
 

@@ -1,24 +1,12 @@
 -- What stands at a key after a row is put.
-use lib.Dec.{T}
-use Rattle.std.proofs.Common.{◌≡◌, ◌≢◌, ℕ, ℤ, pos, ◌+ℤ◌, Bool, true, false, cond, ◌&&◌, eqb, [], ◌∷◌, ◌++◌, length, get_or, set, take, drop, ◌<◌, Option, Some, None, is_some, unwrap_or, refl, sym, ap, ◌∙◌, arith}
-use Rattle.std.specs.Prelude.{bytes_eq}
+use Rattle.std.proofs.Common.{T, ◌≡◌, ◌≢◌, ℕ, ℤ, pos, ◌+ℤ◌, Bool, true, false, cond, ◌&&◌, eqb, [], ◌∷◌, ◌++◌, length, get_or, set, take, drop, ◌<◌, Option, Some, None, is_some, unwrap_or, refl, sym, ap, ◌∙◌, arith, bytes_eq, is_eq, is_lt, HoldsAt, Less, Equal, Greater}
+use Rattle.cns_positions.proofs.Common.{Holding, IsPartitionPoint, Key, Rows, below_all, closed_rows, equal, exact_keys, has_row, holding_at, ints, is_sorted, key_cmp, keys_total, rolled, same_key, zeros}
 use Rattle.std.proofs.Math.Seq.{take-append_seam}
-use Rattle.std.specs.Ordering.{is_eq, is_lt}
-use Rattle.std.specs.List.{HoldsAt}
-use Rattle.std.specs.List.Sorted.{IsPartitionPoint}
 use Rattle.cns_positions.proofs.Puts.{set_is_put, find_at, find_gap}
-use Rattle.std.specs.FinMap.{put, find, is_sorted}
-use Rattle.std.specs.FinMap.Entries.{find-put, is_sorted-put, below_all}
+use Rattle.std.specs.FinMap.{put, find}
+use Rattle.std.specs.FinMap.Entries.{find-put, is_sorted-put}
 use Rattle.std.proofs.lemmas.Cmp.{eq_by_cmp_equiv}
-use Rattle.std.proofs.lemmas.Int.{ints}
-use Rattle.std.specs.declared.cmp.Ordering.TheVariants.{Less, Equal, Greater}
-use Rattle.cns_terms.specs.declared.holding.Key.{Key}
-use Rattle.cns_terms.specs.declared.holding.Holding.{Holding}
-use Rattle.cns_positions.specs.Rows.{Rows, holding_at, zeros, booked, entry_of, rolled, row_at}
-use Rattle.cns_terms.specs.Keys.{key_cmp}
-use Rattle.cns_terms.proofs.Facts.{equal}
-use Rattle.cns_positions.specs.Contents.{has_row, closed_rows}
-use Rattle.cns_terms.proofs.Keys.{keys_total, exact_keys, same_key}
+use Rattle.cns_positions.specs.Rows.{booked, entry_of, row_at}
 
 -- the two spellings of a true test
 as_T : (b : Bool) → b ≡ true → T b

@@ -1,7 +1,6 @@
 -- What a test keeps of a list that it parts.
-use Rattle.std.proofs.Common.{◌≡◌, ◌∙◌, sym, ap, subst, refl, ℕ, zero, suc, ◌+◌, ◌≤◌, Bool, true, false, cond, List, [], ◌∷◌, filter, length, take, drop, length-drop, arith}
-use Rattle.std.proofs.lemmas.List.{get_or-drop}
-use Rattle.std.specs.List.{AllWithin}
+use Rattle.std.proofs.Common.{◌≡◌, ◌∙◌, sym, ap, subst, refl, ℕ, zero, suc, ◌+◌, ◌≤◌, Bool, true, false, cond, List, [], ◌∷◌, filter, length, take, drop, length-drop, arith, get_or-drop}
+use Rattle.cns_positions.proofs.Common.{AllWithin}
 
 module _ {X : Type 0} (t : X → Bool) where
   -- what fails before a place is not kept

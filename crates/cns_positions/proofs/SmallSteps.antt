@@ -1,13 +1,8 @@
 -- Steps no larger than commands: their sums fit.
-use Rattle.std.proofs.Common.{ℕ, suc, ◌+◌, ◌*◌, ◌^◌, ◌≤◌, ℤ, pos, ◌+ℤ◌, ◌&&◌, ◌==◌, Bool, true, false, cond, List, [], ◌∷◌, length, arith}
-use Rattle.std.specs.Prelude.{unsigned_abs}
-use Rattle.std.specs.List.{AllByRecursion}
-use Rattle.std.proofs.lemmas.Int.{ints}
-use Rattle.cns_terms.specs.declared.holding.Key.{Key}
-use Rattle.cns_terms.specs.Sums.{same_issue}
-use Rattle.cns_positions.specs.declared.steps.Step.{Step}
+use Rattle.std.proofs.Common.{ℕ, suc, ◌+◌, ◌*◌, ◌^◌, ◌≤◌, ℤ, pos, ◌+ℤ◌, ◌&&◌, ◌==◌, Bool, true, false, cond, List, [], ◌∷◌, length, arith, unsigned_abs}
+use Rattle.cns_positions.proofs.Common.{AllByRecursion, Key, Map, Step, StepFits, after_step, ints, nowhere, same_issue}
 use Rattle.cns_positions.specs.declared.steps.Step.TheVariants.{Get, Add, Roll}
-use Rattle.cns_positions.specs.Steps.{Map, SumsFit, StepFits, after_step, nowhere}
+use Rattle.cns_positions.specs.Steps.{SumsFit}
 
 -- a step adds no more than a command can
 abbrev pub IsSmallStep : Step → Type 0

@@ -1,9 +1,7 @@
 -- Steps, one after another.
 use Rattle.std.proofs.Common.{◌≡◌, ◌∙◌, sym, ap, subst, ℕ, ◌+◌, ◌<◌, List, ◌∷◌, ◌++◌, append_assoc, length, drop, drop-cons, get_or, add-one}
-use Rattle.cns_terms.specs.declared.holding.Holding.{Holding}
-use Rattle.cns_terms.specs.declared.holding.Key.{Key}
-use Rattle.cns_positions.specs.declared.steps.Step.{Step}
-use Rattle.cns_positions.specs.Steps.{Map, StepFits, SumsFit, after_step, replies, reply_to}
+use Rattle.cns_positions.proofs.Common.{Holding, Key, Map, Step, StepFits, after_step}
+use Rattle.cns_positions.specs.Steps.{SumsFit, replies, reply_to}
 
 -- the steps that are left begin with the next one
 here : (ss : List Step) (i : ℕ) (s : Step) → i < length ss → s ≡ get_or ss i s → drop i ss ≡ s ∷ drop (i + 1) ss

@@ -1,16 +1,8 @@
 -- Rows of zeros: they may be left out.
-use Rattle.std.proofs.Common.{◌≡◌, ◌∙◌, sym, ap, refl, Bool, true, false, ◌&&◌, ◌==◌, cond, pos, Option, Some, None, unwrap_or}
-use Rattle.std.specs.FinMap.{find, is_sorted}
-use Rattle.std.specs.Ordering.{int_eq}
-use Rattle.std.proofs.lemmas.Bool.{eqb-true}
+use Rattle.std.proofs.Common.{◌≡◌, ◌∙◌, sym, ap, refl, Bool, true, false, ◌&&◌, ◌==◌, cond, pos, Option, Some, None, unwrap_or, int_eq, eqb-true}
+use Rattle.cns_positions.proofs.Common.{Holding, Key, Rows, find_filter, held_above, holding_at, holds, is_held, is_sorted, kept_if, key_cmp, keys_total, sorted_filter, zeros}
+use Rattle.std.specs.FinMap.{find}
 use Rattle.std.proofs.lemmas.Bool.Decides.{Decides-int_eq}
-use Rattle.cns_terms.specs.declared.holding.Holding.{Holding}
-use Rattle.cns_terms.specs.declared.holding.Key.{Key}
-use Rattle.cns_terms.specs.Keys.{key_cmp}
-use Rattle.cns_terms.proofs.Facts.{holds}
-use Rattle.cns_terms.proofs.Finds.{find_filter, kept_if, sorted_filter}
-use Rattle.cns_terms.proofs.Keys.{keys_total}
-use Rattle.cns_positions.specs.Rows.{Rows, held_above, holding_at, is_held, zeros}
 
 -- five tests that all hold
 each_true : (a b c d e : Bool) → (a && b && c && d && e) ≡ true → (a ≡ true) × (b ≡ true) × (c ≡ true) × (d ≡ true) × (e ≡ true)

@@ -1,9 +1,9 @@
 -- What contracts see of positions, and what a form keeps.
 use Rattle.std.specs.Prelude.{◌≡◌, Bool, true, List, Contains, is_some, map}
-use Rattle.std.specs.FinMap.{find, is_sorted}
+use Rattle.cns_terms.specs.Common.{is_sorted, key_cmp}
+use Rattle.std.specs.FinMap.{find}
 use Rattle.cns_terms.specs.declared.holding.Key.{Key}
 use Rattle.cns_terms.specs.declared.holding.Holding.{Holding}
-use Rattle.cns_terms.specs.Keys.{key_cmp}
 use Rattle.cns_positions.specs.Rows.{Rows, rolled}
 
 -- what contracts see

@@ -1,15 +1,11 @@
 -- Rows of positions: what stands at each key, in the order of keys.
 use Rattle.std.specs.Prelude.{◌≡◌, ◌+◌, ◌-◌, ◌^◌, ℤ, pos, ◌+ℤ◌, int_lt, Bool, true, ◌&&◌, not, ◌==◌, min, List, [], ◌∷◌, ◌++◌, filter, filter_map, Option, Some, None, unwrap_or, Contains, ◌⊎◌, if◌then◌else◌}
-use Rattle.std.specs.Ordering.{int_eq, is_lt}
+use Rattle.cns_terms.specs.Common.{cents_for, entry, is_lt, key_cmp, oldest_of, shares_for, total}
+use Rattle.std.specs.Ordering.{int_eq}
 use Rattle.std.specs.FinMap.{find}
 use Rattle.cns_terms.specs.declared.holding.Key.{Key}
 use Rattle.cns_terms.specs.declared.holding.Holding.{Holding}
 use Rattle.cns_terms.specs.declared.holding.Entry.{Entry}
-use Rattle.cns_terms.specs.Entries.{entry}
-use Rattle.cns_terms.specs.Holdings.{oldest_of}
-use Rattle.cns_terms.specs.Keys.{key_cmp}
-use Rattle.cns_terms.specs.Positions.{shares_for, cents_for}
-use Rattle.cns_terms.specs.Sums.{total}
 
 abbrev pub Rows : Type 0
 Rows = List (Key × Holding)

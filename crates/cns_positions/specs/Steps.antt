@@ -1,6 +1,7 @@
 -- What steps on an empty map reply.
 use Rattle.std.specs.Prelude.{◌+ℤ◌, List, [], ◌∷◌, ◌++◌, FitsSigned}
-use Rattle.std.specs.Int.{w64, w128}
+use Rattle.cns_terms.specs.Common.{w128}
+use Rattle.std.specs.Int.{w64}
 use Rattle.cns_terms.specs.declared.holding.Holding.{Holding}
 use Rattle.cns_terms.specs.declared.holding.Key.{Key}
 use Rattle.cns_positions.specs.Rows.{booked, entry_of, rolled, zeros}

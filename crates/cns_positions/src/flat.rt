@@ -164,6 +164,10 @@ impl<A: Allocator + Drop + Clone> Positions<A> for FlatPositions<A> {
         }
     }
 
+    fn get_two(&self, first: Key, second: Key) -> (Holding, Holding) {
+        (self.get(first), self.get(second))
+    }
+
     fn prepare(&mut self, keys: &[Key]) -> Result<(), NoMemory> {
         enter_all(&mut self.rows, keys)?;
         self.prepared = kept(keys);

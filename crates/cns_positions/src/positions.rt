@@ -39,6 +39,11 @@ pub trait Positions<A>: Drop {
     fn get(&self, key: Key) -> Holding
         ensures { result ≡ holding_at (rows self.now) key };
 
+    /// What stands at two keys, as `get` gives it for each. A form may look for both at once.
+    fn get_two(&self, first: Key, second: Key) -> (Holding, Holding)
+        ensures first { result.0 ≡ holding_at (rows self.now) first }
+        ensures second { result.1 ≡ holding_at (rows self.now) second };
+
     /// Makes room for the keys, so that `add` takes no memory at them. What stands at each key stays, and no key but these
     /// gets a row or loses one.
     ///

@@ -1,19 +1,20 @@
 // Positions in a balanced tree.
-ghost use Rattle.std.specs.Prelude.{◌≡◌, ◌≢◌, ◌+ℤ◌, List, [], ◌∷◌, ◌++◌, length, OnOk, OnErr, IfOk, FitsSigned, true, Some, None, Contains, Any};
+ghost use Rattle.std.specs.Prelude.{◌≡◌, ◌≢◌, ◌+◌, ◌*◌, ◌≤◌, ◌+ℤ◌, List, [], ◌∷◌, ◌++◌, length, min, OnOk, OnErr, IfOk, FitsSigned, true, Some, None, Contains, Any};
 ghost use Rattle.std.specs.Int.{w64, w128};
 ghost use Rattle.std.specs.FinMap.{is_sorted};
 ghost use Rattle.std.specs.List.{filter, find};
+ghost use Rattle.cns_terms.specs.Digits.{binary_digits};
 ghost use Rattle.cns_terms.specs.Keys.{key_cmp};
 ghost use Rattle.cns_terms.specs.declared.holding.Holding.{Holding};
 ghost use Rattle.cns_terms.specs.declared.holding.Key.{Key};
-ghost use Rattle.cns_positions.specs.Rows.{holding_at, booked, entry_of, held_above, is_held, present, row_at};
+ghost use Rattle.cns_positions.specs.Rows.{IsThere, holding_at, booked, entry_of, held_above, is_held, present, row_at};
 ghost use Rattle.cns_positions.specs.Contents.{has_row, closed_rows};
 
 use crate::holding::{add_to, is_held, rolled};
 use crate::positions::{NextRows, Positions, Row};
 use crate::prepared::{Prepared, kept};
 use arrayvec::ArrayVec;
-use cns_terms::{Holding, Key, NoMemory};
+use cns_terms::{Holding, Key, NoMemory, Probe};
 use cns_tree::{Tree, Walk};
 use std::alloc::Allocator;
 use std::marker::Model;
@@ -76,22 +77,25 @@ fn enter_all<A: Allocator + Clone + Drop>(
     Ok(())
 }
 
-// Books shares and cents in the key's row.
+// Books shares and cents in the row of a probe's key.
 fn book<A: Allocator + Clone + Drop>(
     rows: &mut Tree<Holding, A>,
-    key: Key,
+    probe: &mut Probe,
     shares: i64,
     cents: i128,
 )
-    requires there { has_row rows.old key ≡ true }
-    requires shares_fit { FitsSigned w64 ((holding_at rows.old key).now +ℤ shares) }
-    requires cents_fit { FitsSigned w128 ((holding_at rows.old key).contract +ℤ cents) }
+    requires there { has_row rows.old probe.old.0 ≡ true }
+    requires shares_fit { FitsSigned w64 ((holding_at rows.old probe.old.0).now +ℤ shares) }
+    requires cents_fit { FitsSigned w128 ((holding_at rows.old probe.old.0).contract +ℤ cents) }
     ensures sorted { is_sorted key_cmp rows.new ≡ true }
     ensures kept { (k : Key) → has_row rows.old k ≡ true → has_row rows.new k ≡ true }
-    ensures others { (k : Key) → k ≢ key → row_at rows.new k ≡ row_at rows.old k }
-    ensures booked { (k : Key) → holding_at rows.new k ≡ booked (entry_of key shares cents) k (holding_at rows.old k) }
+    ensures others { (k : Key) → k ≢ probe.old.0 → row_at rows.new k ≡ row_at rows.old k }
+    ensures booked { (k : Key) → holding_at rows.new k
+        ≡ booked (entry_of probe.old.0 shares cents) k (holding_at rows.old k) }
+    ensures key { probe.new.0 ≡ probe.old.0 }
+    ensures count { probe.new.1 ≤ probe.old.1 + 2 * binary_digits (length rows.old) }
 {
-    let _ = rows.change(key, |mut holding| {
+    let _ = rows.change_counted(probe, |mut holding| {
         add_to(&mut holding, shares, cents);
         holding
     });
@@ -128,6 +132,42 @@ fn first_rows<A: Allocator + Clone + Drop>(walk: Walk<Holding, A>) -> NextRows
     given
 }
 
+impl<A: Allocator + Clone + Drop> TreePositions<A> {
+    /// How many rows there are, those of zeros too; past `usize::MAX`, which no memory holds, that number.
+    pub fn len(&self) -> usize
+        ensures { result ≡ min (length self.now.rows) usize.MAX }
+    {
+        self.rows.len()
+    }
+
+    /// What stands at a probe's key, as `get` gives it, after at most two comparisons for each binary digit of the number of
+    /// rows.
+    pub fn get_counted(&self, probe: &mut Probe) -> Holding
+        ensures value { result ≡ holding_at self.now.rows probe.old.0 }
+        ensures key { probe.new.0 ≡ probe.old.0 }
+        ensures count { probe.new.1 ≤ probe.old.1 + 2 * binary_digits (length self.now.rows) }
+    {
+        self.rows.get_counted(probe).unwrap_or(Holding::ZEROS)
+    }
+
+    /// Books shares and cents at a probe's key, as `add` does, after at most two comparisons for each binary digit of the
+    /// number of rows.
+    pub fn add_counted(&mut self, probe: &mut Probe, shares: i64, cents: i128)
+        requires there { IsThere self.old.rows self.old.prepared probe.old.0 }
+        requires shares_fit { FitsSigned w64 ((holding_at self.old.rows probe.old.0).now +ℤ shares) }
+        requires cents_fit { FitsSigned w128 ((holding_at self.old.rows probe.old.0).contract +ℤ cents) }
+        ensures booked { (k : Key) → holding_at self.new.rows k
+            ≡ booked (entry_of probe.old.0 shares cents) k (holding_at self.old.rows k) }
+        ensures others { (k : Key) → k ≢ probe.old.0 → row_at self.new.rows k ≡ row_at self.old.rows k }
+        ensures order { is_sorted key_cmp self.new.rows ≡ true }
+        ensures prepared { self.new.prepared ≡ self.old.prepared }
+        ensures key { probe.new.0 ≡ probe.old.0 }
+        ensures count { probe.new.1 ≤ probe.old.1 + 2 * binary_digits (length self.old.rows) }
+    {
+        book(&mut self.rows, probe, shares, cents);
+    }
+}
+
 impl<A: Allocator + Clone + Drop> Positions<A> for TreePositions<A> {
     ghost rows = { λ p. p.rows };
 
@@ -141,7 +181,15 @@ impl<A: Allocator + Clone + Drop> Positions<A> for TreePositions<A> {
     }
 
     fn get(&self, key: Key) -> Holding {
-        self.rows.get(key).unwrap_or(Holding::ZEROS)
+        self.get_counted(&mut Probe::new(key))
+    }
+
+    fn get_two(&self, first: Key, second: Key) -> (Holding, Holding) {
+        let (first, second) = self.rows.get_two(first, second);
+        (
+            first.unwrap_or(Holding::ZEROS),
+            second.unwrap_or(Holding::ZEROS),
+        )
     }
 
     fn prepare(&mut self, keys: &[Key]) -> Result<(), NoMemory> {
@@ -151,7 +199,7 @@ impl<A: Allocator + Clone + Drop> Positions<A> for TreePositions<A> {
     }
 
     fn add(&mut self, key: Key, shares: i64, cents: i128) {
-        book(&mut self.rows, key, shares, cents);
+        self.add_counted(&mut Probe::new(key), shares, cents);
     }
 
     fn roll(&mut self) {

@@ -1,16 +1,8 @@
 -- The first listed issue above another.
-use Rattle.std.proofs.Common.{◌≡◌, ◌∙◌, sym, ap, refl, Bool, true, false, ◌&&◌, ◌∷◌, map, filter, Option, Some, None}
-use Rattle.std.specs.BTreeMap.Range.{range_contains}
-use Rattle.std.specs.Cmp.Lexicographic.{slice_cmp}
-use Rattle.std.specs.FinMap.{is_sorted}
-use Rattle.std.specs.Ordering.{is_lt, nat_cmp}
-use Rattle.std.specs.declared.cmp.Ordering.TheVariants.{Less}
+use Rattle.std.proofs.Common.{◌≡◌, ◌∙◌, sym, ap, refl, Bool, true, false, ◌&&◌, ◌∷◌, map, filter, Option, Some, None, is_lt, nat_cmp, Less}
+use Rattle.cns_terms.proofs.Common.{Cusip, is_sorted, less, nat_list_cmp_total, next_above, range_contains, slice_cmp}
 use Rattle.std.specs.declared.ops.Bound.{Bound}
 use Rattle.std.specs.declared.ops.Bound.TheVariants.{Excluded, Unbounded}
-use Rattle.std.proofs.lemmas.Cmp.{nat_list_cmp_total}
-use Rattle.cns_units.specs.declared.cusip.Cusip.{Cusip}
-use Rattle.cns_terms.proofs.Facts.{less}
-use Rattle.cns_terms.proofs.Finds.{next_above}
 use Rattle.cns_prices.specs.declared.prices.Quote.{Quote}
 use Rattle.cns_prices.specs.Listed.{Listed, is_after, listed_above}
 

@@ -1,12 +1,6 @@
 -- One quote more, or another.
-use Rattle.std.proofs.Common.{◌≡◌, ◌∙◌, sym, ap, refl, Bool, true, false, cond, Option, Some, None}
-use Rattle.std.specs.Prelude.{bytes_eq, option_map, ◌||◌, Result, Ok, Err, OnOk, OnErr}
-use Rattle.std.specs.Option.{option_map_or, IsSome}
-use Rattle.std.specs.Ordering.{nat_cmp, is_eq}
-use Rattle.std.specs.Cmp.Lexicographic.{slice_cmp}
-use Rattle.std.proofs.lemmas.Map.Text.{is_eq-slice_cmp}
-use Rattle.std.proofs.lemmas.Slice.Eq.{bytes_eq-Decides}
-use Rattle.cns_units.specs.declared.cusip.Cusip.{Cusip}
+use Rattle.std.proofs.Common.{◌≡◌, ◌∙◌, sym, ap, refl, Bool, true, false, cond, Option, Some, None, bytes_eq, option_map, ◌||◌, Result, Ok, Err, OnOk, OnErr, IsSome, nat_cmp, is_eq}
+use Rattle.cns_terms.proofs.Common.{Cusip, bytes_eq-Decides, is_eq-slice_cmp, option_map_or, slice_cmp}
 use Rattle.cns_prices.specs.declared.prices.Quote.{Quote}
 use Rattle.cns_prices.specs.Listed.{Listed, Quotes, quote_in, price_in, retired_in}
 

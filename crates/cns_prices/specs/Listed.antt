@@ -1,11 +1,6 @@
 -- The listed issues, as a finite map in the order of the bytes of their CUSIPs.
 use Rattle.std.specs.Prelude.{◌≡◌, if◌then◌else◌, Bool, true, false, List, map, filter, Option, Some, None, option_map}
-use Rattle.std.specs.Map.{lookup}
-use Rattle.std.specs.Option.{option_map_or}
-use Rattle.std.specs.Ordering.{nat_cmp, is_eq, is_lt}
-use Rattle.std.specs.Cmp.Lexicographic.{slice_cmp}
-use Rattle.cns_units.specs.declared.cusip.Cusip.{Cusip}
-use Rattle.cns_units.specs.declared.price.Price.{Price}
+use Rattle.cns_terms.specs.Common.{Cusip, Price, is_eq, is_lt, lookup, nat_cmp, option_map_or, slice_cmp}
 use Rattle.cns_prices.specs.declared.prices.Quote.{Quote}
 
 -- the issues, each with what is known of it

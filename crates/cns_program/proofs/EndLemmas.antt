@@ -1,19 +1,16 @@
 -- How the program ends.
-use Rattle.std.proofs.Common.{◌≡◌, ◌∷◌, ◌++◌, ℕ, List, Option, Some, None, Result, Ok, Err, IfErr, IfSome, OnOk, inl, inr}
-use Rattle.std.specs.Option.{option_to_list}
-use Rattle.std.specs.Io.KnownBytes.{Appends, Keeps}
+use Rattle.std.proofs.Common.{◌≡◌, ◌∷◌, ◌++◌, ℕ, List, Option, Some, None, Result, Ok, Err, IfErr, IfSome, OnOk, inl, inr, option_to_list}
+use Rattle.cns_terms.proofs.Common.{Appends, Day, Keeps, State}
 use Rattle.std.proofs.KnownBytes.{Appends-kept, Keeps-trans}
 use Rattle.cns_units.specs.Output.{Writes}
-use Rattle.cns_units.specs.declared.day.Day.{Day}
-use Rattle.cns_terms.specs.Machine.{State}
 use Rattle.cns_feed.specs.Line.{Line}
 use Rattle.cns_feed.specs.Output.{output, state_after, texts}
 use Rattle.cns_feed.specs.Replay.{Leaves, Stops, StopsReplay}
 use Rattle.cns_feed.specs.declared.fault.ReplayFault.{ReplayFault}
-use Rattle.cns_feed.specs.declared.fault.ReplayFault.TheVariants as fault
 use Rattle.cns_feed.proofs.PlayLemmas.{stops-end}
 use Rattle.cns_program.specs.Ends.{FailsReplay}
 use Rattle.cns_program.specs.Lines.{IsTold}
+use Rattle.cns_feed.specs.declared.fault.ReplayFault.TheVariants as fault
 
 -- a whole replay whose output could not be flushed
 fails-unflushed : (opening : Day) (input old mid new : Option (List ℕ))

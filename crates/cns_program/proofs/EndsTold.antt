@@ -1,9 +1,8 @@
 -- The lines of workers, written one after another.
 use Rattle.std.proofs.Common.{◌≡◌, ℕ, ◌+◌, ◌<◌, List, ◌++◌, Option, get_or, length, drop, add-one, drop-cons, append_assoc, refl, sym, ◌∙◌}
-use Rattle.std.specs.Io.KnownBytes.{Appends}
+use Rattle.cns_terms.proofs.Common.{Appends, AppendsFront, front_longer}
 use Rattle.std.proofs.KnownBytes.{Appends-trans}
-use Rattle.cns_units.specs.Output.{AppendsFront}
-use Rattle.cns_units.proofs.OutputLemmas.{front_later, front_longer}
+use Rattle.cns_units.proofs.OutputLemmas.{front_later}
 use Rattle.cns_desk.specs.declared.end.End.{End}
 use Rattle.cns_program.specs.Lines.{end_line, end_lines}
 

@@ -1,19 +1,14 @@
 -- What a tally says of the workers, worker by worker.
-use Rattle.std.proofs.Common.{◌≡◌, ℕ, zero, suc, false, ◌+◌, ◌-◌, ◌<◌, arith, codes, List, [], ◌∷◌, ◌++◌, map, length, get_or, add-one, refl, sym, ap, ◌∙◌}
-use Rattle.std.proofs.lemmas.List.{map-append, get_or_default}
+use Rattle.std.proofs.Common.{◌≡◌, ℕ, zero, suc, false, ◌+◌, ◌-◌, ◌<◌, arith, codes, List, [], ◌∷◌, ◌++◌, map, length, get_or, add-one, refl, sym, ap, ◌∙◌, decimal, slice_index, IsUtf8}
+use Rattle.cns_terms.proofs.Common.{count, day, journal_of, map-append}
+use Rattle.std.proofs.lemmas.List.{get_or_default}
 use Rattle.std.proofs.lemmas.Fmt.{IsAscii-decimal_wide}
 use Rattle.std.proofs.lemmas.Str.{IsAscii-append, IsUtf8-from_ascii}
-use Rattle.std.specs.Fmt.{decimal}
-use Rattle.std.specs.Prelude.{slice_index}
-use Rattle.std.specs.Str.{IsUtf8}
 use Rattle.serde_json.specs.View.{items_of, view}
 use Rattle.serde_json.specs.Data.{array, member, no_members, object, string}
 use Rattle.serde_json.specs.Written.{compact_text, has_float, items_have_float}
 use Rattle.serde_json.specs.declared.value.Value.{Value}
-use Rattle.cns_terms.specs.History.{count}
 use Rattle.cns_book.specs.Log.{Log, state_of}
-use Rattle.cns_terms.specs.Days.{day}
-use Rattle.cns_terms.specs.Laws.{journal_of}
 use Rattle.cns_desk.specs.Logged.{Logged, empty_logged}
 use Rattle.cns_program.specs.Tally.{counts_to, lines_to, tally_of, total_text, whole, workers_of}
 

@@ -1,11 +1,7 @@
 -- The statements of a day, as the program writes them.
-use Rattle.std.specs.Prelude.{◌≡◌, ℕ, List, Option, None, MatchOption}
-use Rattle.std.specs.Io.KnownBytes.{Appends}
-use Rattle.std.specs.List.{flat_map}
+use Rattle.std.specs.Prelude.{◌≡◌, ℕ, List, Option, None, MatchOption, flat_map}
+use Rattle.cns_terms.specs.Common.{Appends, Day, DaySheet, journal_of, sheet_on}
 use Rattle.std.specs.declared.alloc.Global.{Global}
-use Rattle.cns_units.specs.declared.day.Day.{Day}
-use Rattle.cns_terms.specs.Laws.{journal_of}
-use Rattle.cns_terms.specs.Sheets.{DaySheet, sheet_on}
 use Rattle.cns_book.specs.Log.{Log, state_of}
 use Rattle.cns_feed.specs.Output.{lines_of}
 use Rattle.cns_feed.specs.Replay.{blank_log, log_after}

@@ -1,23 +1,21 @@
 -- How the program ends, by what its line asks for.
 use Rattle.std.specs.Prelude.{◌≡◌, ◌≢◌, ◌⊎◌, ℕ, List, Option, Result, IfSome, vec_len}
-use Rattle.std.specs.List.{AllByRecursion}
-use Rattle.std.specs.Io.KnownBytes.{Appends}
+use Rattle.cns_terms.specs.Common.{AllByRecursion, Appends, Day}
 use Rattle.cns_units.specs.Output.{Writes}
-use Rattle.cns_units.specs.declared.day.Day.{Day}
 use Rattle.cns_feed.specs.Output.{output}
 use Rattle.cns_feed.specs.Replay.{StopsReplay}
 use Rattle.cns_feed.specs.declared.fault.ReplayFault.{ReplayFault}
-use Rattle.cns_feed.specs.declared.fault.ReplayFault.TheVariants as replays
 use Rattle.cns_desk.specs.Parts.{AreParts}
 use Rattle.cns_desk.specs.declared.end.End.{End}
-use Rattle.cns_desk.specs.declared.end.End.TheVariants as ended
+use Rattle.cns_feed.specs.declared.fault.ReplayFault.TheVariants as replays
 use Rattle.cns_desk.specs.declared.run.Outcome.{Outcome}
 use Rattle.cns_program.specs.declared.fault.Fault.{Fault}
-use Rattle.cns_program.specs.declared.fault.Fault.TheVariants as fault
+use Rattle.cns_desk.specs.declared.end.End.TheVariants as ended
 use Rattle.cns_program.specs.declared.asked.Asked.{Asked}
-use Rattle.cns_program.specs.declared.asked.Asked.TheVariants as asked
 use Rattle.cns_program.specs.Faults.{IsOfRun, of_replay}
+use Rattle.cns_program.specs.declared.fault.Fault.TheVariants as fault
 use Rattle.cns_program.specs.Lines.{IsTold, end_lines, fault_line}
+use Rattle.cns_program.specs.declared.asked.Asked.TheVariants as asked
 use Rattle.cns_program.specs.Days.{FailsDay, WritesDay, loaded}
 use Rattle.cns_program.specs.Tally.{tally_line}
 

@@ -1,13 +1,10 @@
 -- What the program writes to standard error.
-use Rattle.std.specs.Prelude.{ℕ, ◌+◌, ◌++◌, ◌∷◌, [], List, Option, Some, None, ◌⊎◌, codes}
-use Rattle.std.specs.Fmt.{decimal}
-use Rattle.std.specs.Io.KnownBytes.{Appends}
-use Rattle.cns_units.specs.Output.{AppendsFront}
-use Rattle.cns_terms.specs.declared.source.SourceFault.TheVariants as source
+use Rattle.std.specs.Prelude.{ℕ, ◌+◌, ◌++◌, ◌∷◌, [], List, Option, Some, None, ◌⊎◌, codes, decimal}
+use Rattle.cns_terms.specs.Common.{Appends, AppendsFront, text_line}
 use Rattle.cns_desk.specs.declared.end.End.{End}
-use Rattle.cns_desk.specs.declared.end.End.TheVariants as ended
-use Rattle.cns_units.specs.Words.{text_line}
 use Rattle.cns_program.specs.declared.fault.Fault.{Fault}
+use Rattle.cns_terms.specs.declared.source.SourceFault.TheVariants as source
+use Rattle.cns_desk.specs.declared.end.End.TheVariants as ended
 use Rattle.cns_program.specs.declared.fault.Fault.TheVariants as fault
 
 -- the usage, for a refused line

@@ -1,21 +1,7 @@
 -- What calls and shorts change, and the batches that come of them.
-use Rattle.std.proofs.Common.{◌≡◌, ◌∙◌, sym, ap, refl, subst, ℕ, suc, ◌+◌, Bool, true, false, cond, nat_lt, List, [], ◌∷◌, ◌++◌, length, Option, Some, arith}
-use Rattle.std.specs.Prelude.{bytes_eq, option_map, Result, Ok, Err, IfOk, OnOk, OnErr}
-use Rattle.std.proofs.lemmas.List.{append_assoc}
-use Rattle.std.specs.List.{All, AllByRecursion}
-use Rattle.std.specs.Option.{ForSome, option_map_or, option_to_list}
-use Rattle.std.specs.FinMap.{is_sorted}
-use Rattle.std.specs.FinMap.Entries.{below_all}
-use Rattle.std.specs.Ordering.{nat_cmp, is_eq}
-use Rattle.std.specs.Cmp.Lexicographic.{slice_cmp}
-use Rattle.std.proofs.lemmas.Map.Text.{is_eq-slice_cmp}
-use Rattle.std.proofs.lemmas.Slice.Eq.{bytes_eq-Decides}
-use Rattle.cns_units.specs.declared.cusip.Cusip.{Cusip}
-use Rattle.cns_terms.specs.declared.buy_in.Short.{Short}
-use Rattle.cns_terms.specs.Batches.{Liables, chosen}
-use Rattle.cns_terms.proofs.Facts.{and_left, and_right, both_true}
-use Rattle.cns_retransmit.specs.Calls.{CalledIn, CanBeChosen, batch_of, batches_of, called_in, shorts_in, total_in, with_shares, with_short}
-use Rattle.cns_retransmit.specs.Days.{RiseByIssue, by_issue}
+use Rattle.std.proofs.Common.{◌≡◌, ◌∙◌, sym, ap, refl, subst, ℕ, suc, ◌+◌, Bool, true, false, cond, nat_lt, List, [], ◌∷◌, ◌++◌, length, Option, Some, arith, bytes_eq, option_map, Result, Ok, Err, IfOk, OnOk, OnErr, append_assoc, All, option_to_list, nat_cmp, is_eq}
+use Rattle.cns_retransmit.proofs.Common.{AllByRecursion, CalledIn, CanBeChosen, Cusip, ForSome, Liables, RiseByIssue, Short, and_left, and_right, batches_of, below_all, both_true, by_issue, bytes_eq-Decides, called_in, chosen, is_eq-slice_cmp, is_sorted, option_map_or, slice_cmp}
+use Rattle.cns_retransmit.specs.Calls.{batch_of, shorts_in, total_in, with_shares, with_short}
 
 -- the entries of a map of issues
 abbrev pub Entries : Type 0

@@ -1,9 +1,7 @@
 -- What a batch can be given.
 use Rattle.std.proofs.Common.{◌≡◌, ◌∙◌, ap, ℕ, ◌+◌, ◌<◌, ◌≤◌, List, [], ◌∷◌, take, get_or, length, sum_by, arith}
-use Rattle.std.proofs.lemmas.List.Sums.{sum_by-cons, sum_by_push, sum_by-take-le}
-use Rattle.cns_units.specs.declared.account.Member.{Member}
-use Rattle.cns_terms.specs.declared.buy_in.Liable.{Liable}
-use Rattle.cns_terms.specs.Fills.{capacity}
+use Rattle.cns_retransmit.proofs.Common.{Liable, Member, capacity, sum_by-cons, sum_by_push}
+use Rattle.std.proofs.lemmas.List.Sums.{sum_by-take-le}
 use Rattle.cns_retransmit.proofs.Lists.{take_next}
 
 -- what a batch can be given is no more than is left

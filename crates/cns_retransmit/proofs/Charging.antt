@@ -1,17 +1,12 @@
 -- Fills charged to a batch one after another, in any order.
-use Rattle.std.proofs.Common.{◌≡◌, ◌∙◌, sym, ap, subst, refl, ℕ, zero, suc, ◌+◌, ◌-◌, ◌<◌, ◌≤◌, Bool, true, false, cond, List, [], ◌∷◌, ◌++◌, get_or, set, take, length, map, nat_eq, nat_lt, eq-eqb, arith}
-use Rattle.std.proofs.lemmas.Bool.{cond-true, cond-false}
+use Rattle.std.proofs.Common.{◌≡◌, ◌∙◌, sym, ap, subst, refl, ℕ, zero, suc, ◌+◌, ◌-◌, ◌<◌, ◌≤◌, Bool, true, false, cond, List, [], ◌∷◌, ◌++◌, get_or, set, take, length, map, nat_eq, nat_lt, eq-eqb, arith, All}
+use Rattle.cns_retransmit.proofs.Common.{CanBeCharged, Fill, Liable, Member, capacity, charged, cond-false, cond-true, fills_laid, fills_of, stretch, sum_by-cons, sum_by_push}
 use Rattle.std.proofs.lemmas.List.{get_or_default}
-use Rattle.std.proofs.lemmas.List.Sums.{sum_by-cons, sum_by_push, sum_by-take-le}
+use Rattle.std.proofs.lemmas.List.Sums.{sum_by-take-le}
 use Rattle.std.proofs.lemmas.List.Elements.{All-cons, All-get_or, All-nil, All-weaker}
-use Rattle.std.specs.List.{All}
-use Rattle.cns_units.specs.declared.account.Member.{Member}
-use Rattle.cns_terms.specs.declared.buy_in.Fill.{Fill}
-use Rattle.cns_terms.specs.declared.buy_in.Liable.{Liable}
-use Rattle.cns_terms.specs.Fills.{capacity, charged, fills_of, given_to, stretch}
-use Rattle.cns_terms.proofs.Laid.{fills_laid}
+use Rattle.cns_terms.specs.Fills.{given_to}
 use Rattle.cns_retransmit.specs.Members.{left_of, members_of}
-use Rattle.cns_retransmit.specs.Charges.{CanBeCharged, IsWithin, fills_for}
+use Rattle.cns_retransmit.specs.Charges.{IsWithin, fills_for}
 use Rattle.cns_retransmit.proofs.Lists.{one_if, take_next}
 use Rattle.cns_retransmit.proofs.Lefts.{members_of_charged}
 use Rattle.cns_retransmit.proofs.FillSteps.{fills_from}

@@ -1,12 +1,7 @@
 -- A loop that chooses the members of a batch.
-use Rattle.std.proofs.Common.{◌≡◌, ◌∙◌, sym, ap, subst, refl, ◌⊎◌, inl, inr, ◌≢◌, ℕ, ◌+◌, ◌<◌, ◌≤◌, Bool, true, false, cond, List, [], ◌∷◌, ◌++◌, append_assoc, map, filter, sum_by, nat_lt, arith}
-use Rattle.std.specs.Prelude.{⊤}
-use Rattle.std.proofs.lemmas.Bool.{le-ltb, lt-ltb, cond-false, cond-true}
-use Rattle.std.proofs.lemmas.List.Sums.{sum_by-append, sum_by-cons, sum_by_push}
-use Rattle.cns_terms.specs.declared.buy_in.Short.{Short}
-use Rattle.cns_terms.specs.declared.buy_in.Liable.{Liable}
-use Rattle.cns_terms.specs.Batches.{if_older, is_called, liable_of}
-use Rattle.cns_retransmit.specs.Chosen.{NoneOlder, IsOldestFirst}
+use Rattle.std.proofs.Common.{◌≡◌, ◌∙◌, sym, ap, subst, refl, ◌⊎◌, inl, inr, ◌≢◌, ℕ, ◌+◌, ◌<◌, ◌≤◌, Bool, true, false, cond, List, [], ◌∷◌, ◌++◌, append_assoc, map, filter, sum_by, nat_lt, arith, le-ltb, lt-ltb}
+use Rattle.cns_retransmit.proofs.Common.{⊤, IsOldestFirst, Liable, NoneOlder, Short, cond-false, cond-true, is_called, liable_of, sum_by-append, sum_by-cons, sum_by_push}
+use Rattle.cns_terms.specs.Batches.{if_older}
 
 -- none is younger than an age
 abbrev pub NoneYounger : ℕ → List Short → Type 0

@@ -1,12 +1,7 @@
 -- A loop that makes the fills of an execution.
-use Rattle.std.proofs.Common.{◌≡◌, ◌∙◌, sym, ap, ℕ, ◌+◌, ◌-◌, ◌*◌, ◌/◌, ◌<◌, min, true, false, List, [], ◌∷◌, ◌++◌, append_assoc, append-nil, filter, nat_lt, arith}
-use Rattle.std.proofs.lemmas.Bool.{le-ltb, lt-ltb, cond-false, cond-true}
-use Rattle.cns_terms.specs.declared.buy_in.Fill.{Fill}
-use Rattle.cns_terms.specs.declared.buy_in.Liable.{Liable}
-use Rattle.std.proofs.Math.Nat.{mul-zero, zero-div}
-use Rattle.cns_units.specs.declared.account.Member.{Member}
-use Rattle.cns_terms.specs.Fills.{capacity, fills_of, stretch}
-use Rattle.cns_terms.proofs.Laid.{fills_laid, laid}
+use Rattle.std.proofs.Common.{◌≡◌, ◌∙◌, sym, ap, ℕ, ◌+◌, ◌-◌, ◌*◌, ◌/◌, ◌<◌, min, true, false, List, [], ◌∷◌, ◌++◌, append_assoc, append-nil, filter, nat_lt, arith, le-ltb, lt-ltb, mul-zero}
+use Rattle.cns_retransmit.proofs.Common.{Fill, Liable, Member, capacity, cond-false, cond-true, fills_laid, fills_of, laid, stretch}
+use Rattle.std.proofs.Math.Nat.{zero-div}
 
 -- the fills that are left to make
 abbrev pub fills_from : (Liable → ℕ) → ℕ → ℕ → ℕ → List Liable → List Fill

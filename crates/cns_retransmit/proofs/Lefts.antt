@@ -1,16 +1,7 @@
 -- What is left of the liabilities of a batch.
-use Rattle.std.proofs.Common.{◌≡◌, ◌∙◌, ap, refl, ℕ, ◌+◌, ◌<◌, ◌≤◌, ◌^◌, Bool, true, false, cond, List, [], ◌∷◌, drop, filter, get_or, length, map, nat_eq, eqb, sum_by, arith}
-use Rattle.std.proofs.lemmas.Bool.{cond-true, cond-false, le-ltb}
-use Rattle.std.proofs.lemmas.List.Sums.{sum_by-cons}
-use Rattle.cns_units.specs.declared.account.Member.{Member}
-use Rattle.cns_terms.specs.declared.buy_in.Fill.{Fill}
-use Rattle.cns_terms.specs.declared.buy_in.Liable.{Liable}
-use Rattle.cns_terms.specs.declared.buy_in.Short.{Short}
-use Rattle.cns_terms.specs.Batches.{chosen, fills_before, is_called, liable_of}
-use Rattle.cns_terms.specs.Fills.{charged}
-use Rattle.cns_terms.specs.Sums.{in_order}
-use Rattle.cns_retransmit.specs.Chosen.{shorts_of}
-use Rattle.cns_retransmit.specs.Members.{IsBatch, left_of, members_of}
+use Rattle.std.proofs.Common.{◌≡◌, ◌∙◌, ap, refl, ℕ, ◌+◌, ◌<◌, ◌≤◌, ◌^◌, Bool, true, false, cond, List, [], ◌∷◌, drop, filter, get_or, length, map, nat_eq, eqb, sum_by, arith, le-ltb}
+use Rattle.cns_retransmit.proofs.Common.{Fill, IsBatch, Liable, Member, Short, charged, chosen, cond-false, cond-true, fills_before, in_order, is_called, liable_of, shorts_of, sum_by-cons}
+use Rattle.cns_retransmit.specs.Members.{left_of, members_of}
 use Rattle.cns_retransmit.proofs.Lists.{drop_next}
 use Rattle.cns_retransmit.proofs.Ordered.{sum_in_order}
 

@@ -8,3 +8,4 @@ pub mod Choosing
 pub mod Ordered
 pub mod Sorted
 pub mod Lefts
+pub mod Common

@@ -1,7 +1,6 @@
 -- Lists that a loop goes over.
-use Rattle.std.proofs.Common.{◌≡◌, ◌∙◌, sym, ap, refl, Bool, cond, ℕ, zero, suc, ◌+◌, ◌<◌, List, [], ◌∷◌, ◌++◌, add-one, take, drop, get_or, set, length, arith}
-use Rattle.std.proofs.lemmas.List.{take_more}
-use Rattle.std.proofs.Math.Seq.{drop-cons}
+use Rattle.std.proofs.Common.{◌≡◌, ◌∙◌, sym, ap, refl, Bool, cond, ℕ, zero, suc, ◌+◌, ◌<◌, List, [], ◌∷◌, ◌++◌, add-one, take, drop, get_or, set, length, arith, drop-cons}
+use Rattle.cns_retransmit.proofs.Common.{take_more}
 
 -- 1 for what is counted, 0 for what is not
 abbrev pub one_if : Bool → ℕ

@@ -1,13 +1,8 @@
 -- Shorts in the order of filling.
 use Rattle.std.proofs.Common.{◌≡◌, ◌∙◌, sym, ap, refl, ℕ, ◌+◌, ◌≤◌, Bool, true, false, cond, List, [], ◌∷◌, eq-eqb, filter, map, nat_eq, nat_lt, sum_by, arith}
-use Rattle.std.specs.Prelude.{⊤}
-use Rattle.std.proofs.lemmas.Bool.{cond-true}
-use Rattle.std.proofs.lemmas.List.Sums.{sum_by-cons}
-use Rattle.cns_units.specs.declared.account.Member.{Member}
-use Rattle.cns_terms.specs.declared.buy_in.Short.{Short}
-use Rattle.cns_terms.specs.Batches.{chosen, fills_before, if_older, is_called, liable_of}
-use Rattle.cns_terms.specs.Sums.{in_order, put}
-use Rattle.cns_retransmit.specs.Chosen.{IsOldestFirst, NoneOlder, chosen_of, shorts_of}
+use Rattle.cns_retransmit.proofs.Common.{⊤, IsOldestFirst, Member, NoneOlder, Short, chosen, chosen_of, cond-true, fills_before, in_order, is_called, liable_of, shorts_of, sum_by-cons}
+use Rattle.cns_terms.specs.Batches.{if_older}
+use Rattle.cns_terms.specs.Sums.{put}
 use Rattle.cns_retransmit.proofs.Lists.{one_if}
 
 -- putting one in adds what is its

@@ -1,16 +1,7 @@
 -- A sort by the order of filling.
-use Rattle.std.proofs.Common.{◌≡◌, ◌∙◌, sym, ap, subst, refl, add-one, ◌⊎◌, inl, inr, ℕ, suc, ◌+◌, ◌<◌, ◌≤◌, Bool, true, false, ◌&&◌, true≢false, List, [], ◌∷◌, get_or, length, nat_eq, sum_by, arith}
-use Rattle.std.specs.List.Sorted.{IsPermutation}
-use Rattle.std.specs.Ordering.{is_lt, nat_cmp, ordering_then}
-use Rattle.std.proofs.lemmas.Bool.{cond-true, cond-false}
-use Rattle.std.proofs.lemmas.Bool.Decides.{nat_tests}
+use Rattle.std.proofs.Common.{◌≡◌, ◌∙◌, sym, ap, subst, refl, add-one, ◌⊎◌, inl, inr, ℕ, suc, ◌+◌, ◌<◌, ◌≤◌, Bool, true, false, ◌&&◌, true≢false, List, [], ◌∷◌, get_or, length, nat_eq, sum_by, arith, IsPermutation, is_lt, nat_cmp}
+use Rattle.cns_retransmit.proofs.Common.{Member, Short, cond-false, cond-true, fills_before, in_order, nat_tests, ordering_then, shorts_of, sum_by-cons}
 use Rattle.std.proofs.lemmas.List.Sorted.{sum_by-IsPermutation}
-use Rattle.std.proofs.lemmas.List.Sums.{sum_by-cons}
-use Rattle.cns_units.specs.declared.account.Member.{Member}
-use Rattle.cns_terms.specs.declared.buy_in.Short.{Short}
-use Rattle.cns_terms.specs.Batches.{fills_before}
-use Rattle.cns_terms.specs.Sums.{in_order}
-use Rattle.cns_retransmit.specs.Chosen.{shorts_of}
 use Rattle.cns_retransmit.proofs.Ordered.{BeforeAll, IsInOrder, before_all, first_once, not_both, order_is, rest_once, sum_in_order}
 use Rattle.cns_retransmit.proofs.Lists.{one_if}
 

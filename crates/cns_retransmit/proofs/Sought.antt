@@ -1,23 +1,7 @@
 -- What a search finds among batches whose issues rise, and what a charge changes there.
-use Rattle.std.proofs.Common.{◌≡◌, ◌∙◌, sym, ap, refl, subst, ℕ, zero, suc, ◌-◌, ◌<◌, ◌≤◌, Bool, true, false, cond, List, [], ◌∷◌, length, get_or, set, Some, None, Ordering, inl, inr, arith}
-use Rattle.std.specs.declared.cmp.Ordering.TheVariants.{Less, Equal, Greater}
-use Rattle.std.specs.List.{AllWithin}
-use Rattle.std.specs.List.Sorted.{IsNonDecreasingBy}
-use Rattle.std.specs.FinMap.Entries.{below_all}
-use Rattle.std.specs.Ordering.{is_eq, is_lt, nat_cmp, ordering_index, ordering_reverse}
-use Rattle.std.specs.Cmp.Lexicographic.{slice_cmp}
-use Rattle.std.specs.Prelude.{bytes_eq}
-use Rattle.std.proofs.lemmas.Bool.{cases_lt}
-use Rattle.std.proofs.lemmas.Cmp.{nat_list_cmp_total}
-use Rattle.std.proofs.lemmas.List.Sorted.{IsNonDecreasingBy-from_default}
-use Rattle.std.proofs.lemmas.Map.Text.{is_eq-slice_cmp}
-use Rattle.std.proofs.lemmas.Slice.Eq.{bytes_eq-Decides}
-use Rattle.cns_units.specs.declared.cusip.Cusip.{Cusip}
-use Rattle.cns_terms.specs.declared.buy_in.Fill.{Fill}
-use Rattle.cns_terms.specs.Batches.{Liables}
-use Rattle.cns_terms.proofs.Facts.{and_left, and_right, both_true, less}
-use Rattle.cns_retransmit.specs.Days.{batch_in, by_issue, charged_by, charged_if, charged_in, charged_on, RiseByIssue}
-use Rattle.cns_terms.specs.Sums.{changed_at}
+use Rattle.std.proofs.Common.{◌≡◌, ◌∙◌, sym, ap, refl, subst, ℕ, zero, suc, ◌-◌, ◌<◌, ◌≤◌, Bool, true, false, cond, List, [], ◌∷◌, length, get_or, set, Some, None, Ordering, inl, inr, arith, Less, Equal, Greater, is_eq, is_lt, nat_cmp, bytes_eq}
+use Rattle.cns_retransmit.proofs.Common.{AllWithin, Cusip, Fill, IsNonDecreasingBy, IsNonDecreasingBy-from_default, Liables, RiseByIssue, and_left, and_right, batch_in, below_all, both_true, by_issue, bytes_eq-Decides, cases_lt, changed_at, charged_in, is_eq-slice_cmp, less, nat_list_cmp_total, ordering_index, ordering_reverse, slice_cmp}
+use Rattle.cns_retransmit.specs.Days.{charged_by, charged_if, charged_on}
 
 -- the order of issues
 abbrev pub issue_cmp : Cusip → Cusip → Ordering

@@ -1,13 +1,7 @@
 -- What is called at a close in each issue, and who is short there.
 use Rattle.std.specs.Prelude.{ℕ, ◌+◌, ◌^◌, ◌<◌, ◌≤◌, nat_lt, List, [], ◌∷◌, ◌++◌, filter, length, map, sum_by, Option}
-use Rattle.std.specs.Map.{lookup}
-use Rattle.std.specs.Option.{option_map_or}
-use Rattle.std.specs.Ordering.{nat_cmp, is_eq}
-use Rattle.std.specs.Cmp.Lexicographic.{slice_cmp}
-use Rattle.cns_units.specs.declared.account.Member.{Member}
-use Rattle.cns_units.specs.declared.cusip.Cusip.{Cusip}
+use Rattle.cns_terms.specs.Common.{Cusip, Liables, Member, chosen, is_eq, lookup, nat_cmp, option_map_or, slice_cmp}
 use Rattle.cns_terms.specs.declared.buy_in.Short.{Short}
-use Rattle.cns_terms.specs.Batches.{Liables, chosen}
 use Rattle.cns_retransmit.specs.Chosen.{shorts_of}
 
 -- ---- one issue

@@ -1,7 +1,6 @@
 -- The shorts from which a batch is chosen.
 use Rattle.std.specs.Prelude.{ℕ, ◌≤◌, ◌==◌, List, [], ◌∷◌, filter, map, sum_by, ⊤, if◌then◌else◌}
-use Rattle.cns_units.specs.declared.account.Member.{Member}
-use Rattle.cns_terms.specs.Batches.{is_called, liable_of}
+use Rattle.cns_terms.specs.Common.{Member, is_called, liable_of}
 use Rattle.cns_terms.specs.declared.buy_in.Liable.{Liable}
 use Rattle.cns_terms.specs.declared.buy_in.Short.{Short}
 

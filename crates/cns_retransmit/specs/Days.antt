@@ -1,15 +1,7 @@
 -- The batches of the closed days.
-use Rattle.std.specs.Prelude.{◌≡◌, ℕ, zero, suc, true, List, [], map, Option, None, if◌then◌else◌}
-use Rattle.std.specs.List.{find, slice_get}
-use Rattle.std.specs.Option.{unwrap_or}
-use Rattle.std.specs.FinMap.{is_sorted}
-use Rattle.std.specs.Ordering.{nat_cmp}
-use Rattle.std.specs.Cmp.Lexicographic.{slice_cmp}
-use Rattle.cns_units.specs.declared.cusip.Cusip.{Cusip}
+use Rattle.std.specs.Prelude.{◌≡◌, ℕ, zero, suc, true, List, [], map, Option, None, if◌then◌else◌, find, slice_get, unwrap_or}
+use Rattle.cns_terms.specs.Common.{Cusip, Liables, changed_at, charged, is_sorted, nat_cmp, same_issue, slice_cmp}
 use Rattle.cns_terms.specs.declared.buy_in.Fill.{Fill}
-use Rattle.cns_terms.specs.Batches.{Liables}
-use Rattle.cns_terms.specs.Fills.{charged}
-use Rattle.cns_terms.specs.Sums.{changed_at, same_issue}
 
 -- ---- the batches of one day
 

@@ -1,6 +1,6 @@
 -- A batch, as contracts see it.
 use Rattle.std.specs.Prelude.{ℕ, ◌≤◌, ◌<◌, ◌^◌, ◌==◌, List, [], ◌∷◌, sum_by, if◌then◌else◌}
-use Rattle.cns_units.specs.declared.account.Member.{Member}
+use Rattle.cns_terms.specs.Common.{Member}
 use Rattle.cns_terms.specs.declared.buy_in.Liable.{Liable}
 
 -- how many of the liabilities are a member's

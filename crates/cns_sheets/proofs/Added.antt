@@ -1,13 +1,8 @@
 -- Rows that are added up one after another, in sums that wrap.
-use Rattle.std.proofs.Common.{◌≡◌, ◌∙◌, sym, ap, refl, subst, ℕ, ◌+◌, ◌^◌, ◌<◌, ◌≤◌, ℤ, pos, ◌+ℤ◌, FitsSigned, List, [], ◌∷◌, ◌++◌, length, take, append-nil, arith}
-use Rattle.std.specs.Prelude.{unsigned_abs}
-use Rattle.std.specs.Int.{int_wrap, w128}
-use Rattle.std.proofs.lemmas.Int.{int_wrap-add_left, int_wrap_fits, ints}
-use Rattle.std.proofs.lemmas.List.{take_all}
-use Rattle.cns_terms.specs.declared.sheet.Row.{Row}
-use Rattle.cns_terms.specs.Sums.{total}
-use Rattle.cns_terms.proofs.Totals.{total-append}
-use Rattle.cns_sheets.specs.Build.{sum_limit}
+use Rattle.std.proofs.Common.{◌≡◌, ◌∙◌, sym, ap, refl, subst, ℕ, ◌+◌, ◌^◌, ◌<◌, ◌≤◌, ℤ, pos, ◌+ℤ◌, FitsSigned, List, [], ◌∷◌, ◌++◌, length, take, append-nil, arith, unsigned_abs, take_all}
+use Rattle.cns_sheets.proofs.Common.{Row, ints, sum_limit, total, total-append, w128}
+use Rattle.std.specs.Int.{int_wrap}
+use Rattle.std.proofs.lemmas.Int.{int_wrap-add_left, int_wrap_fits}
 use Rattle.cns_sheets.specs.declared.sums.Totals.{Totals}
 use Rattle.cns_sheets.proofs.RowSums.{behind, one_more, onward}
 

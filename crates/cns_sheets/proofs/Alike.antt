@@ -1,13 +1,7 @@
 -- Tests of prices and rows that tell whether they are the same.
-use Rattle.std.proofs.Common.{◌≡◌, ap, Bool, ◌&&◌, eqb}
-use Rattle.std.specs.Bool.{Decides}
-use Rattle.std.specs.Cmp.Lexicographic.{slice_cmp}
-use Rattle.std.specs.Ordering.{is_eq, nat_cmp}
+use Rattle.std.proofs.Common.{◌≡◌, ap, Bool, ◌&&◌, eqb, Decides, is_eq, nat_cmp}
+use Rattle.cns_sheets.proofs.Common.{Cusip, Price, bytes_eq-Decides, is_eq-slice_cmp, slice_cmp}
 use Rattle.std.proofs.lemmas.Bool.Decides.{Decides-and, Decides-at, Decides-eqb}
-use Rattle.std.proofs.lemmas.Map.Text.{is_eq-slice_cmp}
-use Rattle.std.proofs.lemmas.Slice.Eq.{bytes_eq-Decides}
-use Rattle.cns_units.specs.declared.cusip.Cusip.{Cusip}
-use Rattle.cns_units.specs.declared.price.Price.{Price}
 
 -- whether issues are the same
 abbrev same_issues : Cusip → Cusip → Bool

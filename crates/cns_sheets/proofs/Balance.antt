@@ -1,34 +1,12 @@
 -- The marks of a sheet add up to zero.
-use Rattle.std.proofs.Common.{◌≡◌, ◌∙◌, sym, ap, refl, ℕ, zero, suc, ◌≤◌, ℤ, pos, ◌+ℤ◌, ◌-ℤ◌, ◌*ℤ◌, neg_ℤ, Bool, true, false, not, cond, List, [], ◌∷◌, length, map, filter, Option, Some, None, unwrap_or, arith, int_eq}
-use Rattle.std.specs.FinMap.{find, is_sorted}
-use Rattle.std.specs.FinMap.Entries.{below_all}
-use Rattle.std.specs.Option.{option_map_or}
-use Rattle.std.specs.Ordering.{is_eq}
+use Rattle.std.proofs.Common.{◌≡◌, ◌∙◌, sym, ap, refl, ℕ, zero, suc, ◌≤◌, ℤ, pos, ◌+ℤ◌, ◌-ℤ◌, ◌*ℤ◌, neg_ℤ, Bool, true, false, not, cond, List, [], ◌∷◌, length, map, filter, Option, Some, None, unwrap_or, arith, int_eq, is_eq}
+use Rattle.cns_sheets.proofs.Common.{CanBeCut, CentsByKey, Cusip, DaySheet, Holding, Key, Listed, Paying, Row, Rows, Woven, and_left, and_right, below_all, both_true, bytes_eq-Decides, exact_keys, find_filter, held_above, held_same, holding_at, idle_parts, ints, is_held, is_sorted, kept_if, key_cmp, keys_total, option_map_or, price_in, price_on, prices_of, same_issue, same_lists, says, sorted_filter, total, total-add, total-neg, total-same, weave, zero-*ℤ, zeros}
+use Rattle.std.specs.FinMap.{find}
 use Rattle.std.specs.Cmp.{signed_Decides}
-use Rattle.std.proofs.lemmas.Int.{ints}
-use Rattle.std.proofs.lemmas.Slice.Eq.{bytes_eq-Decides}
-use lib.IntN.{zero-*ℤ}
-use Rattle.cns_units.specs.declared.cusip.Cusip.{Cusip}
-use Rattle.cns_terms.specs.declared.holding.Holding.{Holding}
-use Rattle.cns_terms.specs.declared.holding.Key.{Key}
-use Rattle.cns_terms.specs.declared.sheet.Row.{Row}
-use Rattle.cns_terms.specs.Keys.{key_cmp}
-use Rattle.cns_terms.specs.Sheets.{DaySheet}
-use Rattle.cns_terms.specs.Sums.{same_issue, total}
-use Rattle.cns_terms.proofs.Facts.{and_left, and_right, both_true}
-use Rattle.cns_terms.proofs.Finds.{find_filter, kept_if, same_lists, sorted_filter}
-use Rattle.cns_terms.proofs.Keys.{exact_keys, keys_total}
-use Rattle.cns_terms.proofs.SheetRows.{says}
-use Rattle.cns_terms.proofs.SheetSums.{idle_parts, kept_or_not}
-use Rattle.cns_terms.proofs.Totals.{total-add, total-neg, total-same}
+use Rattle.cns_terms.proofs.SheetSums.{kept_or_not}
 use Rattle.cns_terms.proofs.ZeroSums.{total-times}
-use Rattle.cns_positions.specs.Rows.{Rows, held_above, holding_at, is_held, zeros}
-use Rattle.cns_positions.proofs.Unheld.{held_same}
-use Rattle.cns_prices.specs.Listed.{Listed, price_in}
-use Rattle.cns_sheets.specs.Build.{AreBalanced, by_key, closing_in, price_on, prices_of, worth}
-use Rattle.cns_sheets.specs.Condition.{CanBeCut, held_in, rows_before}
-use Rattle.cns_sheets.specs.Payments.{Paying}
-use Rattle.cns_sheets.specs.Woven.{CentsByKey, Woven, weave}
+use Rattle.cns_sheets.specs.Build.{AreBalanced, by_key, closing_in, worth}
+use Rattle.cns_sheets.specs.Condition.{held_in, rows_before}
 use Rattle.cns_sheets.proofs.Kept.{row_from}
 use Rattle.cns_sheets.proofs.Weaving.{both_at, find_weave, sorted_weave}
 

@@ -1,37 +1,15 @@
 -- What payments book.
-use Rattle.std.proofs.Common.{◌≡◌, ◌∙◌, sym, ap, subst, refl, ℕ, ◌+◌, ◌*◌, ◌^◌, zero, suc, ◌<◌, ◌≤◌, ◌==◌, ℤ, pos, ◌+ℤ◌, ◌-ℤ◌, neg_ℤ, of_z, to_z, Bool, true, false, not, cond, ◌&&◌, List, [], ◌∷◌, length, get_or, take, map, Option, Some, None, unwrap_or, Ordering, arith, FitsSigned}
-use Rattle.std.specs.Prelude.{int_div, unsigned_abs}
-use Rattle.std.specs.BTreeMap.{insert_entry, is_at}
-use Rattle.std.specs.FinMap.{find, is_sorted}
-use Rattle.std.specs.FinMap.Entries.{below_all}
-use Rattle.std.specs.Int.{w128}
-use Rattle.std.specs.List.{AllByRecursion, sum_by}
-use Rattle.std.specs.Map.{lookup}
-use Rattle.std.specs.Option.{option_map_or}
-use Rattle.std.specs.Ordering.{is_eq, match_ordering, ordering_reverse}
-use Rattle.std.specs.declared.cmp.Ordering.TheVariants.{Less, Equal, Greater}
-use Rattle.std.proofs.lemmas.Int.{ints, to_z-of_z}
-use Rattle.std.proofs.lemmas.List.{take_all}
-use Rattle.std.proofs.lemmas.List.Sums.{sum_by-cons}
+use Rattle.std.proofs.Common.{◌≡◌, ◌∙◌, sym, ap, subst, refl, ℕ, ◌+◌, ◌*◌, ◌^◌, zero, suc, ◌<◌, ◌≤◌, ◌==◌, ℤ, pos, ◌+ℤ◌, ◌-ℤ◌, neg_ℤ, of_z, to_z, Bool, true, false, not, cond, ◌&&◌, List, [], ◌∷◌, length, get_or, take, map, Option, Some, None, unwrap_or, Ordering, arith, FitsSigned, int_div, unsigned_abs, sum_by, is_eq, Less, Equal, Greater, take_all}
+use Rattle.cns_sheets.proofs.Common.{AllByRecursion, CentsByKey, IsPayable, Key, Row, added-more, and_left, and_right, below_all, cash, cents_at, corporation, equal, exact_keys, find_below, front_total, insert_entry, ints, is_sorted, key_cmp, keys_total, lookup, magnitude, match_ordering, member_cash, option_map_or, ordering_reverse, paid, same_issue, same_key, sum_by-cons, sum_limit, total, total-map, total_small, w128, zero-*ℤ}
+use Rattle.std.specs.BTreeMap.{is_at}
+use Rattle.std.specs.FinMap.{find}
+use Rattle.std.proofs.lemmas.Int.{to_z-of_z}
 use mir.Val.{hbits}
 use lib.Signed.{mag}
-use lib.IntN.{zero-*ℤ}
 use Rattle.cns_terms.specs.declared.action.Declared.{Declared}
-use Rattle.cns_terms.specs.declared.holding.Key.{Key}
-use Rattle.cns_terms.specs.declared.sheet.Row.{Row}
-use Rattle.cns_terms.specs.Dividends.{cash}
-use Rattle.cns_terms.specs.Entries.{corporation}
-use Rattle.cns_terms.specs.Keys.{key_cmp}
-use Rattle.cns_terms.specs.Sums.{same_issue, total}
-use Rattle.cns_terms.proofs.Facts.{and_left, and_right, equal}
-use Rattle.cns_terms.proofs.Finds.{find_below}
-use Rattle.cns_terms.proofs.Keys.{exact_keys, keys_total, same_key}
-use Rattle.cns_terms.proofs.Totals.{total-map}
-use Rattle.cns_terms.proofs.Magnitudes.{added-more, front_total, magnitude, total_small}
-use Rattle.cns_sheets.specs.Build.{by_key, key_of, sum_limit}
-use Rattle.cns_sheets.specs.Payments.{IsPayable, closing_at, member_cash, paid}
+use Rattle.cns_sheets.specs.Build.{by_key, key_of}
+use Rattle.cns_sheets.specs.Payments.{closing_at}
 use Rattle.cns_sheets.specs.Search.{row_at}
-use Rattle.cns_sheets.specs.Woven.{CentsByKey, cents_at}
 use Rattle.cns_sheets.proofs.RowSums.{sum_more}
 use Rattle.cns_sheets.proofs.Weaving.{below_later, gap_cents}
 

@@ -1,7 +1,7 @@
 -- A sheet may go to another thread, and be read by several.
-use denote.Param.Send.{IsSend, IsSync, sendable}
+use Rattle.cns_sheets.proofs.Common.{IsSend, crosses, sendable}
 use Rattle.std.below.core.specs.contracts.clone.Clone+copy.TheImpl as copied
-use Rattle.std.proofs.Crossing.{crosses}
+use denote.Param.Send.{IsSync}
 use Rattle.std.specs.contracts.alloc.Global
 use Rattle.std.specs.contracts.impls.GlobalAllocator.TheImpl as allocates
 use Rattle.cns_units.proofs.cusip.Cusip.TheSendSync as cusip

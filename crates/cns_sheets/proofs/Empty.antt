@@ -1,20 +1,8 @@
 -- A close without positions and payments.
-use Rattle.std.proofs.Common.{◌≡◌, ◌∙◌, ap, refl, sym, subst, ◌≤◌, cond, List, [], ◌∷◌, ℕ, zero, suc, ℤ, None, Some, take, arith}
-use Rattle.std.specs.Prelude.{unsigned_abs}
+use Rattle.std.proofs.Common.{◌≡◌, ◌∙◌, ap, refl, sym, subst, ◌≤◌, cond, List, [], ◌∷◌, ℕ, zero, suc, ℤ, None, Some, take, arith, unsigned_abs, is_eq}
+use Rattle.cns_sheets.proofs.Common.{CanBeCut, IsCut, Listed, Row, Rows, amount_limit, ints, key_cmp, keys_total, tied_itself, total}
 use Rattle.std.specs.FinMap.{find}
-use Rattle.std.specs.Ordering.{is_eq}
-use Rattle.std.proofs.lemmas.Cmp.{tied_itself}
-use Rattle.std.proofs.lemmas.Int.{ints}
-use Rattle.cns_terms.specs.declared.sheet.Row.{Row}
-use Rattle.cns_terms.specs.Keys.{key_cmp}
-use Rattle.cns_terms.specs.Limits.{amount_limit}
-use Rattle.cns_terms.specs.Sums.{total}
-use Rattle.cns_terms.proofs.Keys.{keys_total}
-use Rattle.cns_positions.specs.Rows.{Rows}
-use Rattle.cns_prices.specs.Listed.{Listed}
 use Rattle.cns_sheets.specs.Build.{AreFew, by_key, key_of}
-use Rattle.cns_sheets.specs.Condition.{CanBeCut}
-use Rattle.cns_sheets.specs.Payments.{IsCut}
 
 -- it cuts no row
 nothing_cut : (prices : Listed) (cut : List Row) → IsCut [] prices [] [] cut → cut ≡ []

@@ -1,12 +1,7 @@
 -- Holdings that are handed out in several parts.
 use Rattle.std.proofs.Common.{◌≡◌, ◌∙◌, ap, sym, ◌&&◌, List, [], ◌∷◌, ◌++◌, ℕ, suc, ◌+◌, ◌<◌, subst, get_or, length, length-append, arith, drop, drop-cons, add-one, None, Some, Option}
-use Rattle.std.specs.List.{AllByRecursion}
-use Rattle.cns_terms.specs.declared.holding.Holding.{Holding}
-use Rattle.cns_terms.specs.declared.holding.Key.{Key}
-use Rattle.cns_terms.proofs.Everywhere.{each_filter}
-use Rattle.cns_positions.specs.Rows.{AreNext, Rows, held_above, is_above, is_held, last_of, present}
-use Rattle.cns_positions.proofs.Held.{last_given}
-use Rattle.cns_sheets.specs.Build.{HasSmallCents}
+use Rattle.cns_sheets.proofs.Common.{AllByRecursion, AreNext, HasSmallCents, Holding, Key, Rows, each_filter, held_above, is_held, last_given, last_of, present}
+use Rattle.cns_positions.specs.Rows.{is_above}
 
 -- what holds of all holdings holds of those that are given
 pub given_small : (R given rest : Rows) (after : Option Key) → AllByRecursion HasSmallCents R → held_above R after ≡ given ++ rest → AllByRecursion HasSmallCents given

@@ -1,27 +1,11 @@
 -- What a sheet keeps of the rows that it is built from.
-use Rattle.std.proofs.Common.{◌≡◌, ◌∙◌, ap, sym, refl, ℤ, pos, Bool, true, false, cond, List, [], ◌∷◌, map, filter, Option, None, Some, not, unwrap_or}
-use Rattle.std.specs.Prelude.{option_map}
-use Rattle.std.specs.Cmp.Lexicographic.{slice_cmp}
-use Rattle.std.specs.FinMap.{find, is_sorted}
-use Rattle.std.specs.FinMap.Entries.{below_all}
-use Rattle.std.specs.Ordering.{is_eq, nat_cmp}
-use Rattle.cns_units.specs.declared.cusip.Cusip.{Cusip}
-use Rattle.cns_terms.specs.declared.holding.Holding.{Holding}
-use Rattle.cns_terms.specs.declared.holding.Key.{Key}
-use Rattle.cns_terms.specs.declared.sheet.Row.{Row}
-use Rattle.cns_terms.specs.Keys.{key_cmp}
-use Rattle.cns_terms.specs.Sheets.{is_idle}
-use Rattle.cns_terms.proofs.Facts.{and_left, and_right, both_true, equal}
-use Rattle.cns_terms.proofs.Finds.{find_filter, kept_if, sorted_filter}
-use Rattle.cns_terms.proofs.Keys.{exact_keys, keys_total}
-use Rattle.cns_terms.proofs.SheetRows.{says}
-use Rattle.cns_positions.specs.Rows.{Rows, held_above, is_held, zeros}
-use Rattle.cns_positions.proofs.Unheld.{held_same}
-use Rattle.cns_prices.specs.Listed.{Listed, listed_above, price_in, quote_in}
-use Rattle.cns_sheets.specs.Build.{PriceList, by_key, key_of, price_on, priced_row}
-use Rattle.cns_sheets.specs.Payments.{IsCut, Paying, dividend_of, said}
+use Rattle.std.proofs.Common.{◌≡◌, ◌∙◌, ap, sym, refl, ℤ, pos, Bool, true, false, cond, List, [], ◌∷◌, map, filter, Option, None, Some, not, unwrap_or, option_map, is_eq, nat_cmp}
+use Rattle.cns_sheets.proofs.Common.{CentsByKey, Cusip, Holding, IsCut, Key, Listed, Paying, PriceList, Row, Rows, Woven, and_left, and_right, below_all, both_true, cents_at, equal, exact_keys, find_filter, held_above, held_same, is_held, is_idle, is_sorted, kept_if, key_cmp, keys_total, listed_above, price_in, price_on, priced_row, says, slice_cmp, sorted_filter, weave, woven_rows, zeros}
+use Rattle.std.specs.FinMap.{find}
+use Rattle.cns_prices.specs.Listed.{quote_in}
+use Rattle.cns_sheets.specs.Build.{by_key, key_of}
+use Rattle.cns_sheets.specs.Payments.{dividend_of, said}
 use Rattle.cns_sheets.specs.Search.{row_at}
-use Rattle.cns_sheets.specs.Woven.{CentsByKey, Woven, cents_at, weave, woven_rows}
 use Rattle.cns_sheets.proofs.Weaving.{both_at, find_weave, sorted_weave}
 
 -- ---- prices

@@ -13,3 +13,4 @@ pub mod LowestCusip
 pub mod Walked
 pub mod Crossing
 pub mod Added
+pub mod Common

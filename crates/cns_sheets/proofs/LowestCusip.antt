@@ -1,16 +1,9 @@
 -- No CUSIP comes before the lowest.
-use Rattle.std.proofs.Common.{◌≡◌, sym, refl, subst, ℕ, ◌≤◌, ◌==◌, Bool, true, false, not, cond, List, [], ◌∷◌, ◌++◌, take, length, Option, Some, None, inl, inr, arith}
-use Rattle.std.specs.Prelude.{is_some, slice_index}
-use Rattle.std.proofs.lemmas.Bool.{cases_lt, eqb-true}
-use Rattle.std.proofs.lemmas.Bool.Decides.{nat_tests}
-use Rattle.std.specs.Cmp.Lexicographic.{slice_cmp}
-use Rattle.std.specs.Ordering.{is_lt, nat_cmp, ordering_then}
-use Rattle.std.specs.declared.cmp.Ordering.{Ordering}
-use Rattle.cns_units.specs.declared.cusip.Cusip.{Cusip}
-use Rattle.cns_units.specs.declared.fault.UnitFault.{UnitFault}
-use Rattle.cns_units.specs.declared.fault.UnitFault.TheVariants as fault
+use Rattle.std.proofs.Common.{◌≡◌, sym, refl, subst, ℕ, ◌≤◌, ◌==◌, Bool, true, false, not, cond, List, [], ◌∷◌, ◌++◌, take, length, Option, Some, None, inl, inr, arith, is_some, slice_index, eqb-true, is_lt, nat_cmp, Ordering}
+use Rattle.cns_sheets.proofs.Common.{Cusip, UnitFault, cases_lt, nat_tests, ordering_then, slice_cmp}
 use Rattle.cns_units.specs.Cusip.{IsCusip, after_value, character_value, last_fault, sum_of}
 use Rattle.cns_sheets.specs.LowestCusip.{IsFromLowest}
+use Rattle.cns_units.specs.declared.fault.UnitFault.TheVariants as fault
 
 -- a character with a value is not below `#`
 valued : (c : ℕ) → is_some (character_value c) ≡ true → 35 ≤ c

@@ -1,18 +1,8 @@
 -- Sums over rows, one row after another.
-use Rattle.std.proofs.Common.{◌≡◌, ◌∙◌, sym, ap, ℕ, suc, ◌+◌, ◌*◌, ◌^◌, ◌<◌, ◌≤◌, ℤ, ◌+ℤ◌, ◌-ℤ◌, of_z, to_z, refl, List, [], ◌∷◌, ◌++◌, length, get_or, take, add-one, FitsSigned, append-nil, append_assoc, arith}
-use Rattle.std.specs.Prelude.{unsigned_abs}
-use Rattle.std.specs.Int.{w128}
-use Rattle.std.specs.List.{AllByRecursion}
-use Rattle.std.proofs.Math.Seq.{get_or-append_seam, take-suc}
-use Rattle.std.proofs.lemmas.List.{length-append}
-use Rattle.std.proofs.lemmas.Int.{ints, to_z-of_z}
-use Rattle.cns_terms.specs.declared.sheet.Row.{Row}
-use Rattle.cns_terms.specs.Limits.{amount_limit}
-use Rattle.cns_terms.specs.Sums.{total}
-use Rattle.cns_terms.proofs.Everywhere.{each_weaker}
-use Rattle.cns_terms.proofs.Magnitudes.{added, added-each, front_total}
-use Rattle.cns_terms.proofs.Totals.{total-add, total-append, total-same}
-use Rattle.cns_sheets.specs.Build.{IsMarked, sum_limit}
+use Rattle.std.proofs.Common.{◌≡◌, ◌∙◌, sym, ap, ℕ, suc, ◌+◌, ◌*◌, ◌^◌, ◌<◌, ◌≤◌, ℤ, ◌+ℤ◌, ◌-ℤ◌, of_z, to_z, refl, List, [], ◌∷◌, ◌++◌, length, get_or, take, add-one, FitsSigned, append-nil, append_assoc, arith, unsigned_abs, take-suc, length-append}
+use Rattle.cns_sheets.proofs.Common.{AllByRecursion, IsMarked, Row, added, added-each, amount_limit, each_weaker, front_total, ints, sum_limit, total, total-add, total-append, total-same, w128}
+use Rattle.std.proofs.Math.Seq.{get_or-append_seam}
+use Rattle.std.proofs.lemmas.Int.{to_z-of_z}
 
 -- one term more
 pub sum_more : {X : Type 0} (f : X → ℤ) (xs : List X) (i : ℕ) (x : X) → i < length xs → x ≡ get_or xs i x → total f (take i xs) +ℤ f x ≡ total f (take (i + 1) xs)

@@ -1,24 +1,10 @@
 -- What a search in sorted rows or prices finds.
-use Rattle.std.proofs.Common.{◌≡◌, ◌∙◌, sym, ap, subst, refl, ℕ, suc, ◌+◌, ◌<◌, ◌≤◌, true, false, [], ◌∷◌, length, get_or, drop, drop-cons, Option, Some, None, inl, inr, arith}
-use Rattle.std.proofs.lemmas.Bool.{cases_lt}
-use Rattle.std.proofs.lemmas.Cmp.{nat_list_cmp_total}
-use Rattle.std.proofs.lemmas.List.{drop_all}
-use Rattle.std.specs.Cmp.Lexicographic.{slice_cmp}
-use Rattle.std.specs.FinMap.{is_sorted}
-use Rattle.std.specs.Option.{MatchOption, option_copied}
+use Rattle.std.proofs.Common.{◌≡◌, ◌∙◌, sym, ap, subst, refl, ℕ, suc, ◌+◌, ◌<◌, ◌≤◌, true, false, [], ◌∷◌, length, get_or, drop, drop-cons, Option, Some, None, inl, inr, arith, MatchOption, option_copied, HoldsAt, is_lt, nat_cmp, Less, Equal, Greater}
+use Rattle.cns_sheets.proofs.Common.{AllWithin, Cusip, IsPartitionPoint, Price, PriceList, cases_lt, drop_all, is_sorted, less, nat_list_cmp_total, next_above, ordering_reverse, slice_cmp}
 use denote.Bor.{Bor}
-use Rattle.std.specs.List.{AllWithin, HoldsAt}
-use Rattle.std.specs.List.Sorted.{IsPartitionPoint}
-use Rattle.std.specs.Ordering.{is_lt, nat_cmp, ordering_reverse}
-use Rattle.std.specs.declared.cmp.Ordering.TheVariants.{Less, Equal, Greater}
-use Rattle.cns_units.specs.declared.cusip.Cusip.{Cusip}
-use Rattle.cns_units.specs.declared.price.Price.{Price}
-use Rattle.cns_terms.proofs.Finds.{next_above}
 use Rattle.cns_positions.proofs.Parted.{filter_back, filter_whole}
 use Rattle.cns_positions.proofs.Puts.{below_later}
 use Rattle.cns_prices.specs.Listed.{is_after}
-use Rattle.cns_terms.proofs.Facts.{less}
-use Rattle.cns_sheets.specs.Build.{PriceList}
 use Rattle.cns_sheets.specs.Search.{prices_above}
 
 -- all prices

@@ -1,21 +1,7 @@
 -- What tests of cutting rows show of their positions and dividends.
-use Rattle.std.proofs.Common.{◌≡◌, ◌∙◌, ap, refl, sym, ◌≤◌, ℤ, pos, ◌+ℤ◌, Bool, true, false, cond, [], ◌∷◌, Some, unwrap_or, arith}
-use Rattle.std.specs.Prelude.{unsigned_abs}
-use Rattle.std.specs.FinMap.{find, is_sorted}
-use Rattle.std.specs.FinMap.Entries.{below_all}
-use Rattle.std.specs.List.{AllByRecursion}
-use Rattle.std.specs.Ordering.{is_eq}
-use Rattle.std.proofs.lemmas.Cmp.{tied_itself}
-use Rattle.std.proofs.lemmas.Int.{ints}
-use Rattle.cns_terms.specs.declared.holding.Holding.{Holding}
-use Rattle.cns_terms.specs.declared.holding.Key.{Key}
-use Rattle.cns_terms.specs.Limits.{amount_limit}
-use Rattle.cns_terms.specs.Keys.{key_cmp}
-use Rattle.cns_terms.proofs.Facts.{and_left, and_right, equal}
-use Rattle.cns_terms.proofs.Finds.{find_below}
-use Rattle.cns_terms.proofs.Keys.{exact_keys, keys_total}
-use Rattle.cns_positions.specs.Rows.{Rows, holding_at, zeros}
-use Rattle.cns_sheets.specs.Build.{HasSmallCents}
+use Rattle.std.proofs.Common.{◌≡◌, ◌∙◌, ap, refl, sym, ◌≤◌, ℤ, pos, ◌+ℤ◌, Bool, true, false, cond, [], ◌∷◌, Some, unwrap_or, arith, unsigned_abs, is_eq}
+use Rattle.cns_sheets.proofs.Common.{AllByRecursion, HasSmallCents, Holding, Key, Rows, amount_limit, and_left, and_right, below_all, equal, exact_keys, find_below, holding_at, ints, is_sorted, key_cmp, keys_total, tied_itself, zeros}
+use Rattle.std.specs.FinMap.{find}
 
 -- a key that is the first, or not
 rest_branch : (b : Bool) (k : Key) (e : Key × Holding) (R : Rows) → is_eq (key_cmp k e.0) ≡ b → below_all key_cmp e.0 R ≡ true → (unwrap_or (cond b (Some e.1) (find key_cmp k R)) zeros).contract ≡ pos 0 → (holding_at R k).contract ≡ pos 0

@@ -1,24 +1,10 @@
 -- The rows of an account, found from its first row on.
-use Rattle.std.proofs.Common.{◌≡◌, ◌∙◌, sym, ap, refl, subst, ℕ, ◌^◌, ◌<◌, ◌≤◌, ◌==◌, Bool, true, false, not, cond, List, [], ◌∷◌, filter, length, Option, Some, None, arith}
-use Rattle.std.proofs.lemmas.Bool.Decides.{nat_tests}
-use Rattle.std.proofs.lemmas.List.{length-map}
-use Rattle.std.specs.FinMap.{is_sorted}
-use Rattle.std.specs.FinMap.Entries.{below_all}
-use Rattle.std.specs.List.{AllByRecursion, find as first}
-use Rattle.std.specs.Ordering.{is_lt, nat_cmp, ordering_then}
-use Rattle.std.specs.declared.cmp.Ordering.{Ordering}
-use Rattle.std.specs.declared.cmp.Ordering.TheVariants.{Less, Equal, Greater}
-use Rattle.cns_units.specs.declared.account.Account.{Account}
-use Rattle.cns_terms.specs.declared.holding.Key.{Key}
-use Rattle.cns_terms.specs.declared.sheet.Row.{Row}
-use Rattle.cns_terms.specs.Keys.{key_cmp}
-use Rattle.cns_terms.specs.Sheets.{rows_for}
-use Rattle.cns_terms.proofs.Facts.{and_left, and_right}
-use Rattle.cns_terms.proofs.Finds.{next_above, sorted_filter}
-use Rattle.cns_terms.proofs.Keys.{keys_total}
-use Rattle.cns_tree.specs.Search.{is_after, is_at_or_after}
-use Rattle.cns_sheets.specs.Build.{IsMarked, IsPlanted, IsSheet, PriceList, by_key, key_of, without_keys}
-use Rattle.cns_sheets.specs.Walking.{AreFrom, ahead_of, if_of, lowest_of, passed}
+use Rattle.std.proofs.Common.{◌≡◌, ◌∙◌, sym, ap, refl, subst, ℕ, ◌^◌, ◌<◌, ◌≤◌, ◌==◌, Bool, true, false, not, cond, List, [], ◌∷◌, filter, length, Option, Some, None, arith, is_lt, nat_cmp, Ordering, Less, Equal, Greater}
+use Rattle.cns_sheets.proofs.Common.{Account, AllByRecursion, AreFrom, IsMarked, Key, PriceList, Row, ahead_of, and_left, and_right, below_all, if_of, is_at_or_after, is_sorted, key_cmp, keys_total, length-map, lowest_of, nat_tests, next_above, ordering_then, rows_for, sorted_filter, without_keys}
+use Rattle.std.specs.List.{find as first}
+use Rattle.cns_tree.specs.Search.{is_after}
+use Rattle.cns_sheets.specs.Build.{IsPlanted, IsSheet, by_key, key_of}
+use Rattle.cns_sheets.specs.Walking.{passed}
 
 -- ---- rows with their keys
 

@@ -1,20 +1,8 @@
 -- Cents by key, and holdings that are woven with them.
-use Rattle.std.proofs.Common.{◌≡◌, ◌∙◌, sym, ap, refl, ℤ, pos, Bool, true, false, not, cond, List, [], ◌∷◌, ◌++◌, filter, Option, Some, None, unwrap_or, Ordering, MatchOption}
-use Rattle.std.specs.Prelude.{option_map}
-use Rattle.std.specs.FinMap.{find, is_sorted}
-use Rattle.std.specs.FinMap.Entries.{below_all}
-use Rattle.std.specs.List.{AllByRecursion}
-use Rattle.std.specs.Ordering.{is_eq, is_lt, ordering_reverse}
-use Rattle.std.specs.declared.cmp.Ordering.TheVariants.{Less, Equal, Greater}
-use Rattle.std.proofs.lemmas.Cmp.{tied_itself}
-use Rattle.cns_terms.specs.declared.holding.Holding.{Holding}
-use Rattle.cns_terms.specs.declared.holding.Key.{Key}
-use Rattle.cns_terms.specs.Keys.{key_cmp}
-use Rattle.cns_terms.proofs.Facts.{and_left, and_right, both_true, equal, less}
-use Rattle.cns_terms.proofs.Finds.{find_below}
-use Rattle.cns_terms.proofs.Keys.{exact_keys, keys_total}
-use Rattle.cns_positions.specs.Rows.{Rows, zeros}
-use Rattle.cns_sheets.specs.Woven.{CentsByKey, Woven, cents_at, higher, is_below, left_of, lower, past, unheld, weave}
+use Rattle.std.proofs.Common.{◌≡◌, ◌∙◌, sym, ap, refl, ℤ, pos, Bool, true, false, not, cond, List, [], ◌∷◌, ◌++◌, filter, Option, Some, None, unwrap_or, Ordering, MatchOption, option_map, is_eq, is_lt, Less, Equal, Greater}
+use Rattle.cns_sheets.proofs.Common.{AllByRecursion, CentsByKey, Holding, Key, Rows, Woven, and_left, and_right, below_all, both_true, cents_at, equal, exact_keys, find_below, higher, is_sorted, key_cmp, keys_total, less, lower, ordering_reverse, past, tied_itself, unheld, weave, zeros}
+use Rattle.std.specs.FinMap.{find}
+use Rattle.cns_sheets.specs.Woven.{is_below, left_of}
 
 -- ---- cents of lower and higher keys
 

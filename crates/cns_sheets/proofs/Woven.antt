@@ -1,17 +1,7 @@
 -- The rows that are made of woven holdings and cents.
-use Rattle.std.proofs.Common.{◌≡◌, ◌∙◌, ap, sym, ℤ, true, false, not, cond, List, [], ◌∷◌, ◌++◌, append-nil, append_assoc, ℕ, suc, ◌+◌, ◌<◌, length, get_or, drop, drop-cons, add-one, map, filter, None, Some, Option, unwrap_or}
-use Rattle.std.specs.Prelude.{Result, Ok, Err, OnOk}
-use Rattle.std.proofs.lemmas.List.{map-append}
-use Rattle.std.proofs.lemmas.List.Elements.{filter-append}
-use Rattle.cns_units.specs.declared.price.Price.{Price}
-use Rattle.cns_terms.specs.declared.holding.Holding.{Holding}
-use Rattle.cns_terms.specs.declared.holding.Key.{Key}
-use Rattle.cns_terms.specs.declared.sheet.Row.{Row}
-use Rattle.cns_terms.specs.Sheets.{is_idle}
-use Rattle.cns_positions.specs.Rows.{AreNext, Rows, held_above, last_of, present}
-use Rattle.cns_positions.proofs.Held.{last_given, none_given}
-use Rattle.cns_sheets.specs.Build.{PriceList, price_on, priced_row}
-use Rattle.cns_sheets.specs.Woven.{CentsByKey, Woven, cents_at, higher, lower, past, unheld, weave, woven_row, woven_rows}
+use Rattle.std.proofs.Common.{◌≡◌, ◌∙◌, ap, sym, ℤ, true, false, not, cond, List, [], ◌∷◌, ◌++◌, append-nil, append_assoc, ℕ, suc, ◌+◌, ◌<◌, length, get_or, drop, drop-cons, add-one, map, filter, None, Some, Option, unwrap_or, Result, Ok, Err, OnOk}
+use Rattle.cns_sheets.proofs.Common.{AreNext, CentsByKey, Holding, Key, Price, PriceList, Row, Rows, Woven, cents_at, filter-append, held_above, higher, is_idle, last_given, last_of, lower, map-append, past, present, price_on, priced_row, unheld, weave, woven_row, woven_rows}
+use Rattle.cns_positions.proofs.Held.{none_given}
 use Rattle.cns_sheets.proofs.Weaving.{all_lower, all_past, cents_past, higher_past}
 
 -- ---- one row

@@ -1,19 +1,10 @@
 -- A row of a sheet, and what a sheet keeps.
 use Rattle.std.specs.Prelude.{◌≡◌, ℕ, ◌*◌, ◌^◌, ◌<◌, ◌≤◌, ℤ, pos, ◌+ℤ◌, ◌-ℤ◌, ◌*ℤ◌, true, List, [], length, map, take, Option, Some, None, unsigned_abs, if◌then◌else◌}
-use Rattle.std.specs.Cmp.Lexicographic.{slice_cmp}
-use Rattle.std.specs.FinMap.{find, is_sorted}
-use Rattle.std.specs.List.{AllByRecursion}
-use Rattle.std.specs.Ordering.{nat_cmp}
-use Rattle.cns_units.specs.declared.account.Account.{Account}
-use Rattle.cns_units.specs.declared.cusip.Cusip.{Cusip}
-use Rattle.cns_units.specs.declared.price.Price.{Price}
+use Rattle.cns_terms.specs.Common.{Account, AllByRecursion, Cusip, DaySheet, Price, amount_limit, is_sorted, key_cmp, nat_cmp, rows_for, same_issue, slice_cmp, total}
+use Rattle.std.specs.FinMap.{find}
 use Rattle.cns_terms.specs.declared.holding.Holding.{Holding}
 use Rattle.cns_terms.specs.declared.holding.Key.{Key}
 use Rattle.cns_terms.specs.declared.sheet.Row.{Row}
-use Rattle.cns_terms.specs.Keys.{key_cmp}
-use Rattle.cns_terms.specs.Limits.{amount_limit}
-use Rattle.cns_terms.specs.Sheets.{DaySheet, rows_for}
-use Rattle.cns_terms.specs.Sums.{total, same_issue}
 use Rattle.cns_sheets.specs.LowestCusip.{IsFromLowest}
 
 -- issues with their prices, in the order of the bytes of the issues

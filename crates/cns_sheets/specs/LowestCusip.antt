@@ -1,8 +1,6 @@
 -- The lowest CUSIP.
 use Rattle.std.specs.Prelude.{[], ◌∷◌, ◌≡◌, false}
-use Rattle.std.specs.Cmp.Lexicographic.{slice_cmp}
-use Rattle.std.specs.Ordering.{is_lt, nat_cmp}
-use Rattle.cns_units.specs.declared.cusip.Cusip.{Cusip}
+use Rattle.cns_terms.specs.Common.{Cusip, is_lt, nat_cmp, slice_cmp}
 
 -- `########4`: eight times the character of the lowest code that has a value, and the check digit
 abbrev pub lowest : Cusip

@@ -1,10 +1,9 @@
 -- What is looked up in a sheet.
 use Rattle.std.specs.Prelude.{List, filter, Option}
+use Rattle.cns_terms.specs.Common.{Cusip, key_cmp}
 use Rattle.std.specs.FinMap.{find}
-use Rattle.cns_units.specs.declared.cusip.Cusip.{Cusip}
 use Rattle.cns_terms.specs.declared.holding.Key.{Key}
 use Rattle.cns_terms.specs.declared.sheet.Row.{Row}
-use Rattle.cns_terms.specs.Keys.{key_cmp}
 use Rattle.cns_prices.specs.Listed.{is_after}
 use Rattle.cns_sheets.specs.Build.{PriceList, by_key}
 

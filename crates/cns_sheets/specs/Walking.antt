@@ -1,12 +1,8 @@
 -- The rows of an account, found from its first row on.
 use Rattle.std.specs.Prelude.{◌≡◌, ◌≤◌, ◌==◌, true, if◌then◌else◌, List, [], ◌∷◌, Option, Some, None}
-use Rattle.std.specs.FinMap.{is_sorted}
-use Rattle.std.specs.List.{AllByRecursion}
-use Rattle.cns_units.specs.declared.account.Account.{Account}
+use Rattle.cns_terms.specs.Common.{Account, AllByRecursion, is_sorted, key_cmp, rows_for}
 use Rattle.cns_terms.specs.declared.holding.Key.{Key}
 use Rattle.cns_terms.specs.declared.sheet.Row.{Row}
-use Rattle.cns_terms.specs.Keys.{key_cmp}
-use Rattle.cns_terms.specs.Sheets.{rows_for}
 use Rattle.cns_sheets.specs.Build.{by_key, key_of}
 use Rattle.cns_sheets.specs.LowestCusip.{lowest}
 

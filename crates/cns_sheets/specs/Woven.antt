@@ -1,12 +1,10 @@
 -- Holdings and cents of dividends, woven into one list by their keys.
 use Rattle.std.specs.Prelude.{ℤ, pos, Bool, true, not, List, [], ◌∷◌, ◌++◌, map, filter, Option, Some, None, unwrap_or}
+use Rattle.cns_terms.specs.Common.{is_idle, is_lt, key_cmp}
 use Rattle.std.specs.FinMap.{find}
-use Rattle.std.specs.Ordering.{is_lt}
 use Rattle.cns_terms.specs.declared.holding.Holding.{Holding}
 use Rattle.cns_terms.specs.declared.holding.Key.{Key}
 use Rattle.cns_terms.specs.declared.sheet.Row.{Row}
-use Rattle.cns_terms.specs.Keys.{key_cmp}
-use Rattle.cns_terms.specs.Sheets.{is_idle}
 use Rattle.cns_positions.specs.Rows.{Rows, zeros}
 use Rattle.cns_sheets.specs.Build.{PriceList, price_on, priced_row}
 

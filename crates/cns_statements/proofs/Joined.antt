@@ -1,12 +1,7 @@
 -- Workers of a packing, one after another.
-use Rattle.std.proofs.Common.{◌≡◌, ◌∙◌, sym, ap, refl, ◌<◌, List, [], ◌∷◌, ◌++◌, Vec, length, drop, map, arith, append_assoc}
-use Rattle.std.specs.Prelude.{slice_index_or}
-use Rattle.std.specs.List.{flat_map}
+use Rattle.std.proofs.Common.{◌≡◌, ◌∙◌, sym, ap, refl, ◌<◌, List, [], ◌∷◌, ◌++◌, Vec, length, drop, map, arith, append_assoc, slice_index_or, flat_map}
+use Rattle.cns_terms.proofs.Common.{Account, DaySheet, PromisedHandle, map-append}
 use Rattle.std.specs.declared.alloc.Global.{Global}
-use Rattle.std.specs.declared.thread.PromisedHandle.{PromisedHandle}
-use Rattle.std.proofs.lemmas.List.{map-append}
-use Rattle.cns_terms.specs.Sheets.{DaySheet}
-use Rattle.cns_units.specs.declared.account.Account.{Account}
 use Rattle.cns_statements.specs.Packs.{statement_on}
 use Rattle.cns_statements.specs.Promised.{AllAre, told, told_by}
 use Rattle.cns_statements.specs.declared.contents.Statement.{Statement}

@@ -1,10 +1,8 @@
 -- The statements of all accounts of a day.
 use Rattle.std.specs.Prelude.{◌==◌, List, [], ◌∷◌, ◌++◌, Bool, true, not, if◌then◌else◌, Option, Some, None, map}
+use Rattle.cns_terms.specs.Common.{Account, DaySheet, rows_for, total}
 use Rattle.std.specs.declared.alloc.Global.{Global}
-use Rattle.cns_terms.specs.Sheets.{DaySheet, rows_for}
-use Rattle.cns_terms.specs.Sums.{total}
 use Rattle.cns_terms.specs.declared.sheet.Row.{Row}
-use Rattle.cns_units.specs.declared.account.Account.{Account}
 use Rattle.cns_statements.specs.declared.contents.Statement.{Statement}
 
 -- an account's statement on a sheet

@@ -1,15 +1,12 @@
 -- What the workers of a packing promise.
-use Rattle.std.specs.Prelude.{◌≡◌, List, [], ◌∷◌, map, Vec, ⊤}
-use Rattle.std.specs.List.{flat_map}
+use Rattle.std.specs.Prelude.{◌≡◌, List, [], ◌∷◌, map, Vec, ⊤, flat_map}
+use Rattle.cns_terms.specs.Common.{Account, DaySheet, PromisedHandle}
 use Rattle.std.specs.declared.alloc.Global.{Global}
-use Rattle.std.specs.declared.thread.PromisedHandle.{PromisedHandle}
-use Rattle.cns_terms.specs.Sheets.{DaySheet}
-use Rattle.cns_units.specs.declared.account.Account.{Account}
 use Rattle.cns_statements.specs.Packs.{statement_on}
 use Rattle.cns_statements.specs.declared.contents.Statement.{Statement}
 use Rattle.cns_statements.specs.declared.fault.PackFault.{PackFault}
-use Rattle.cns_statements.specs.declared.fault.PackFault.TheVariants as faults
 use Rattle.cns_statements.specs.declared.workers.Makes.{Makes}
+use Rattle.cns_statements.specs.declared.fault.PackFault.TheVariants as faults
 
 -- a fault of a packing that was begun
 abbrev pub IsLate : PackFault → Type 0

@@ -1,14 +1,10 @@
 -- The text of a statement.
-use Rattle.std.specs.Prelude.{ℕ, ℤ, pos, ◌∷◌, ◌++◌, [], List, codes, length}
-use Rattle.std.specs.Fmt.{decimal, signed_decimal}
-use Rattle.std.specs.List.{flat_map}
-use Rattle.cns_units.specs.Cents.{cents_text}
+use Rattle.std.specs.Prelude.{ℕ, ℤ, pos, ◌∷◌, ◌++◌, [], List, codes, length, decimal, flat_map}
+use Rattle.cns_terms.specs.Common.{Account, Day, cents_text, text_line}
+use Rattle.std.specs.Fmt.{signed_decimal}
 use Rattle.cns_units.specs.Day.{day_text}
-use Rattle.cns_units.specs.declared.account.Account.{Account}
-use Rattle.cns_units.specs.declared.day.Day.{Day}
 use Rattle.cns_terms.specs.declared.reply.Stated.{Stated}
 use Rattle.cns_terms.specs.declared.sheet.Row.{Row}
-use Rattle.cns_units.specs.Words.{text_line}
 
 -- `statement ACCOUNT DATE ROWS MARK DIVIDEND`
 abbrev pub stated_line : Stated → List ℕ

@@ -1,9 +1,8 @@
 -- How often an account stands among the accounts.
 use Rattle.std.proofs.Common.{◌≡◌, ℕ, ◌+◌, ◌≤◌, ℤ, pos, ◌+ℤ◌, Bool, true, false, cond, ◌&&◌, ◌||◌, ◌==◌, List, [], ◌∷◌, refl, arith}
-use Rattle.std.specs.List.{list_any}
+use Rattle.cns_terms.specs.Common.{account_lt, list_any, total}
 use Rattle.std.proofs.lemmas.Int.{ints}
-use Rattle.cns_terms.specs.Listings.{account_lt}
-use Rattle.cns_terms.specs.Sums.{total, put}
+use Rattle.cns_terms.specs.Sums.{put}
 
 -- how often a number stands in a list
 abbrev pub occurs : ℕ → List ℕ → ℕ

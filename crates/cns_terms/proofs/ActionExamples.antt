@@ -1,8 +1,6 @@
 -- Worked examples of dividends and splits, computed from the definitions.
 use Rattle.std.proofs.Common.{◌≡◌, refl, pos, neg_ℤ}
-use Rattle.cns_units.specs.declared.ratio.Ratio.{Ratio}
-use Rattle.cns_terms.specs.Conversions.{converted, in_exchange, in_lieu}
-use Rattle.cns_terms.specs.Dividends.{cash}
+use Rattle.cns_terms.proofs.Common.{Ratio, cash, converted, in_exchange, in_lieu}
 
 -- ---- dividends of half a cent a share, cut towards zero
 

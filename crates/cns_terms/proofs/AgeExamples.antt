@@ -1,17 +1,10 @@
 -- Worked examples of ages over exchanges, computed from the definitions, whatever the days are.
-use Rattle.std.proofs.Common.{◌≡◌, refl, ℕ, true, List, [], ◌∷◌}
-use Rattle.std.specs.Prelude.{codes}
-use Rattle.cns_units.specs.declared.cusip.Cusip.{Cusip}
-use Rattle.cns_units.specs.declared.day.Day.{Day}
+use Rattle.std.proofs.Common.{◌≡◌, refl, ℕ, true, List, [], ◌∷◌, codes}
+use Rattle.cns_terms.proofs.Common.{Activity, Cusip, Day, Journal, batch_at, is_not_after, journal}
 use Rattle.cns_terms.specs.declared.action.Exchange.{Exchange}
-use Rattle.cns_terms.specs.declared.command.Activity.{Activity}
-use Rattle.cns_terms.specs.declared.command.Activity.TheVariants as activity
 use Rattle.cns_terms.specs.Ages.{age, carried, forerunners}
-use Rattle.cns_terms.specs.Batches.{batch_at}
-use Rattle.cns_terms.specs.Days.{is_not_after}
-use Rattle.cns_terms.specs.Entries.{journal}
-use Rattle.cns_terms.specs.Postings.{Journal}
 use Rattle.cns_terms.proofs.Examples.{apple, cisco, now}
+use Rattle.cns_terms.specs.declared.command.Activity.TheVariants as activity
 
 abbrev microsoft : Cusip
 microsoft = codes "594918104"

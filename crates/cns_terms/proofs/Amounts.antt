@@ -1,41 +1,16 @@
 -- No sum of a day leaves the limit of amounts.
-use Rattle.std.proofs.Common.{◌≡◌, ℕ, ◌+◌, ◌*◌, ◌≤◌, ◌<◌, ℤ, pos, ◌+ℤ◌, ◌-ℤ◌, ◌*ℤ◌, Bool, true, false, ◌&&◌, ◌==◌, cond, not, slice_get, unwrap_or, find, Option, Some, List, [], ◌∷◌, length, arith}
-use Rattle.std.specs.Cmp.Lexicographic.{slice_cmp}
-use Rattle.std.specs.List.{AllByRecursion}
-use Rattle.std.specs.Option.{option_map_or}
-use Rattle.std.specs.Ordering.{nat_cmp}
-use Rattle.std.specs.Prelude.{bytes_eq, filter_map, unsigned_abs}
-use Rattle.std.proofs.lemmas.Int.{ints, unsigned_abs-mul}
-use Rattle.std.proofs.Math.Nat.{mul-le-mul_right}
-use Rattle.cns_units.specs.declared.account.Account.{Account}
-use Rattle.cns_units.specs.declared.cusip.Cusip.{Cusip}
-use Rattle.cns_units.specs.declared.day.Day.{Day}
-use Rattle.cns_terms.specs.declared.command.Activity.{Activity}
-use Rattle.cns_terms.specs.declared.command.Activity.TheVariants as activity
+use Rattle.std.proofs.Common.{◌≡◌, ℕ, ◌+◌, ◌*◌, ◌≤◌, ◌<◌, ℤ, pos, ◌+ℤ◌, ◌-ℤ◌, ◌*ℤ◌, Bool, true, false, ◌&&◌, ◌==◌, cond, not, slice_get, unwrap_or, find, Option, Some, List, [], ◌∷◌, length, arith, nat_cmp, bytes_eq, filter_map, unsigned_abs, mul-le-mul_right}
+use Rattle.cns_terms.proofs.Common.{Account, Activity, AllByRecursion, Cusip, Day, Entry, IsInRange, IsLimited, IsReached, Journal, Posting, Row, accounts, activities, added, added-all, added-each, added-more, amount_limit, at_close, booking_limit, bounded, cents_for, closings, corporation_limit, day, day_sheet, each_found, each_weaker, front_total, history_limit, ints, is_close, is_idle, is_rising, issues, issues_few, journal, journal_len, last_close, limited, limited_past, magnitude, mark, member_limit, members, members_few, members_from_one, money, occurs, one_issue, open_day, option_map_or, over_all, position_limit, posting, price, price_limit, priced, row, rows_of, sheet_rows, slice_cmp, total, total_small, unsigned_abs-mul}
 use Rattle.cns_terms.specs.declared.command.Listing.{Listing}
-use Rattle.cns_terms.specs.declared.holding.Entry.{Entry}
-use Rattle.cns_terms.specs.declared.sheet.Row.{Row}
-use Rattle.cns_terms.specs.Days.{at_close, closings, day, is_close, last_close, open_day}
-use Rattle.cns_terms.specs.Entries.{journal, posting}
 use Rattle.cns_terms.specs.Laws.{Amounts, HasSmallAmounts, HasSmallSums, StaysSmall}
-use Rattle.cns_terms.specs.Limits.{amount_limit, booking_limit, corporation_limit, history_limit, member_limit, position_limit, price_limit}
-use Rattle.cns_terms.specs.Listings.{accounts, issues, members, price, priced}
-use Rattle.cns_terms.specs.Marks.{mark, value}
-use Rattle.cns_terms.specs.Positions.{cents_for, money, position}
-use Rattle.cns_terms.specs.Postings.{Journal, Posting, activities}
-use Rattle.cns_terms.specs.Reached.{IsInRange, IsReached}
-use Rattle.cns_terms.specs.Sheets.{day_sheet, is_idle, row, rows_of, sheet_rows}
-use Rattle.cns_terms.specs.Sums.{total}
-use Rattle.cns_terms.proofs.Accounts.{occurs}
+use Rattle.cns_terms.specs.Marks.{value}
+use Rattle.cns_terms.specs.Positions.{position}
 use Rattle.cns_terms.proofs.DividendBounds.{dividends_small}
-use Rattle.cns_terms.proofs.Facts.{journal_len}
-use Rattle.cns_terms.proofs.Everywhere.{each_found, each_weaker}
 use Rattle.cns_terms.proofs.Limits.{cents_of, open_small}
-use Rattle.cns_terms.proofs.Magnitudes.{added, added-all, added-each, added-flat_map, added-kept, added-more, added-swap, added-times, added-zero, front_total, magnitude, total_small}
-use Rattle.cns_terms.proofs.Reached.{IsLimited, bounded, limited, limited_past, members_few, members_from_one}
-use Rattle.cns_terms.proofs.OverAll.{one_issue, over_add, over_all, over_more}
-use Rattle.cns_terms.proofs.Rising.{is_rising}
-use Rattle.cns_terms.proofs.SheetBounds.{at_most_one, issues_few}
+use Rattle.cns_terms.proofs.Magnitudes.{added-flat_map, added-kept, added-swap, added-times, added-zero}
+use Rattle.cns_terms.proofs.OverAll.{over_add, over_more}
+use Rattle.cns_terms.proofs.SheetBounds.{at_most_one}
+use Rattle.cns_terms.specs.declared.command.Activity.TheVariants as activity
 
 -- a journal with its limits: few postings, and small prices
 pub record IsSmall (opening : Day) (J : Journal) : Type 0 where

@@ -1,25 +1,12 @@
 -- What an activity books adds up to zero in each issue.
-use Rattle.std.proofs.Common.{◌≡◌, ◌≤◌, ℤ, pos, ◌+ℤ◌, ◌-ℤ◌, neg_ℤ, Bool, true, false, cond, List, [], ◌∷◌, flat_map, map, Option, Some, None, refl, arith}
-use Rattle.std.specs.Option.{IfSome, option_map_or}
+use Rattle.std.proofs.Common.{◌≡◌, ◌≤◌, ℤ, pos, ◌+ℤ◌, ◌-ℤ◌, neg_ℤ, Bool, true, false, cond, List, [], ◌∷◌, flat_map, map, Option, Some, None, refl, arith, IfSome}
+use Rattle.cns_terms.specs.Common.{Account, Activity, Day, Execution, IsInRange, Journal, Notice, Pend, against_corporation, converted, date, entries, execution_entries, holders, in_exchange, in_lieu, is_not_after, members, new_entry, notice_at, old_entry, option_map_or, pend_of, same_issue, trade_entries}
 use Rattle.std.proofs.lemmas.Int.{ints}
-use Rattle.cns_units.specs.declared.account.Account.{Account}
-use Rattle.cns_units.specs.declared.day.Day.{Day}
-use Rattle.cns_terms.specs.declared.buy_in.Execution.{Execution}
-use Rattle.cns_terms.specs.declared.command.Activity.{Activity}
-use Rattle.cns_terms.specs.declared.command.Activity.TheVariants as activity
-use Rattle.cns_terms.specs.declared.pend.Pend.{Pend}
-use Rattle.cns_terms.specs.Conversions.{converted, in_exchange, in_lieu}
-use Rattle.cns_terms.specs.Days.{date, is_not_after}
-use Rattle.cns_terms.specs.Entries.{against_corporation, entries, execution_entries, holders, new_entry, old_entry, trade_entries}
-use Rattle.cns_terms.specs.Listings.{members}
-use Rattle.cns_terms.specs.Notices.{Notice, notice_at}
-use Rattle.cns_terms.specs.Pending.{due, pend_of}
+use Rattle.cns_terms.specs.Pending.{due}
 use Rattle.cns_terms.specs.Positions.{position}
-use Rattle.cns_terms.specs.Postings.{Journal}
-use Rattle.cns_terms.specs.Reached.{IsInRange}
 use Rattle.cns_terms.specs.Refusals.{rules}
-use Rattle.cns_terms.specs.Sums.{same_issue}
 use Rattle.cns_terms.proofs.BuyIns.{IsExecutable, executable, execution_balanced}
+use Rattle.cns_terms.specs.declared.command.Activity.TheVariants as activity
 use Rattle.cns_terms.proofs.EntrySums.{IsBalanced, against_balanced, both_balanced}
 use Rattle.cns_terms.proofs.Sound.{NoneHolds, all_fail}
 

@@ -1,31 +1,9 @@
 -- How batches stand after one more activity.
-use Rattle.std.proofs.Common.{◌≡◌, ◌∙◌, ap, refl, ℕ, zero, suc, ◌+◌, ◌-◌, ◌≤◌, pos, neg_ℤ, Bool, true, false, cond, ◌&&◌, ◌==◌, List, [], ◌∷◌, length, map, filter, is_none, Option, Some, None, sum_by, arith}
-use Rattle.std.specs.List.{AllByRecursion}
-use Rattle.std.specs.Option.{option_map_or}
-use Rattle.std.specs.Prelude.{nat_lt}
-use Rattle.std.proofs.lemmas.Bool.Decides.{nat_tests}
-use Rattle.std.proofs.lemmas.List.Sums.{sum_by-cons}
-use Rattle.cns_units.specs.declared.account.Member.{Member}
-use Rattle.cns_units.specs.declared.cusip.Cusip.{Cusip}
-use Rattle.cns_units.specs.declared.day.Day.{Day}
-use Rattle.cns_terms.specs.declared.buy_in.Execution.{Execution}
-use Rattle.cns_terms.specs.declared.buy_in.Fill.{Fill}
-use Rattle.cns_terms.specs.declared.buy_in.Liable.{Liable}
-use Rattle.cns_terms.specs.declared.buy_in.Short.{Short}
-use Rattle.cns_terms.specs.declared.command.Activity.{Activity}
-use Rattle.cns_terms.specs.declared.command.Activity.TheVariants as activity
-use Rattle.cns_terms.specs.Batches.{batch_at, called, fills_before, is_called, liable_of, shorts}
-use Rattle.cns_terms.specs.Days.{closes, closings, day, is_close}
-use Rattle.cns_terms.specs.Entries.{execution_entries, fill_entry, journal, originator_entry, posting}
-use Rattle.cns_terms.specs.Fills.{batch_since, brought, charged, executes, filled, fills, given_to, left_of}
-use Rattle.cns_terms.specs.Notices.{Notice, is_so, notice_at}
-use Rattle.cns_terms.specs.Positions.{shares_for}
-use Rattle.cns_terms.specs.Postings.{Journal, Posting}
-use Rattle.cns_terms.specs.Reached.{IsReached}
+use Rattle.std.proofs.Common.{◌≡◌, ◌∙◌, ap, refl, ℕ, zero, suc, ◌+◌, ◌-◌, ◌≤◌, pos, neg_ℤ, Bool, true, false, cond, ◌&&◌, ◌==◌, List, [], ◌∷◌, length, map, filter, is_none, Option, Some, None, sum_by, arith, nat_lt}
+use Rattle.cns_terms.proofs.Common.{Activity, AllByRecursion, Cusip, Day, Execution, Fill, IsReached, Journal, Liable, Member, NoneHolds, Notice, Posting, Short, all_fail, batch_at, batch_since, called, charged, closes, closings, day, executes, execution_entries, fill_entry, fills, fills_before, in_order, is_called, is_close, is_so, journal, left_of, liable_of, long, map_each, nat_tests, notice_at, option_map_or, originator_entry, posting, same_issue, shares_for, shorts, sum_by-cons}
+use Rattle.cns_terms.specs.Fills.{brought, filled, given_to}
 use Rattle.cns_terms.specs.Refusals.{rules}
-use Rattle.cns_terms.specs.Sums.{in_order, long, same_issue}
-use Rattle.cns_terms.proofs.Facts.{map_each}
-use Rattle.cns_terms.proofs.Sound.{NoneHolds, all_fail}
+use Rattle.cns_terms.specs.declared.command.Activity.TheVariants as activity
 
 -- ---- what executions filled
 

@@ -1,12 +1,7 @@
 -- Worked examples of buy-ins, computed from the definitions.
 use Rattle.std.proofs.Common.{◌≡◌, ◌==◌, if◌then◌else◌, ℕ, refl, pos, neg_ℤ, List, [], ◌∷◌, map}
-use Rattle.cns_terms.specs.declared.buy_in.Fill.{Fill}
-use Rattle.cns_terms.specs.declared.buy_in.Liable.{Liable}
-use Rattle.cns_terms.specs.declared.buy_in.Short.{Short}
+use Rattle.cns_terms.proofs.Common.{Fill, Liable, Short, charged, chosen, fills_of, room_of, what_remains}
 use Rattle.cns_terms.specs.declared.buy_in.Stage.TheVariants.{Live, Withdrawn}
-use Rattle.cns_terms.specs.Batches.{chosen}
-use Rattle.cns_terms.specs.Fills.{charged, fills_of, room_of}
-use Rattle.cns_terms.specs.Notices.{what_remains}
 
 -- a member that is short, and for how many closes
 abbrev short : ℕ → ℕ → ℕ → Short

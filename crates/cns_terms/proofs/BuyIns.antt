@@ -1,31 +1,13 @@
 -- Whom executions book for, and how much.
-use Rattle.std.proofs.Common.{◌≡◌, ◌∙◌, ap, subst, refl, ℕ, zero, suc, ◌+◌, ◌-◌, ◌*◌, ◌≤◌, min, ℤ, pos, negsuc, ◌+ℤ◌, neg_ℤ, Bool, true, false, not, cond, ◌&&◌, ◌==◌, List, [], ◌∷◌, map, filter, find, Option, Some, None, sum_by, arith}
-use Rattle.std.specs.List.{AllByRecursion}
-use Rattle.std.specs.Option.{IfSome}
-use Rattle.std.specs.Prelude.{nat_lt, unsigned_abs}
+use Rattle.std.proofs.Common.{◌≡◌, ◌∙◌, ap, subst, refl, ℕ, zero, suc, ◌+◌, ◌-◌, ◌*◌, ◌≤◌, min, ℤ, pos, negsuc, ◌+ℤ◌, neg_ℤ, Bool, true, false, not, cond, ◌&&◌, ◌==◌, List, [], ◌∷◌, map, filter, find, Option, Some, None, sum_by, arith, IfSome, nat_lt, unsigned_abs, eqb-true}
+use Rattle.cns_terms.specs.Common.{Account, AllByRecursion, Cusip, Entry, Execution, Fill, Journal, Liable, Member, Notice, Short, at_close, batch, batch_at, called, capacity, day, execution_entries, fill_entry, fills, fills_before, in_order, is_called, is_live, is_so, left_of, liable_of, long, members, remaining, room, same_issue, shares_for, short, short_of, shorts, stage, stretch, total}
 use Rattle.std.proofs.Math.Nat.{min-le_right}
-use Rattle.std.proofs.lemmas.Bool.{eqb-true}
 use Rattle.std.proofs.lemmas.Bool.Decides.{nat_tests}
 use Rattle.std.proofs.lemmas.Int.{ints}
 use Rattle.std.proofs.lemmas.List.Sums.{sum_by-cons}
 use Rattle.std.proofs.lemmas.Slice.Eq.{bytes_eq-Decides}
-use Rattle.cns_units.specs.declared.account.Account.{Account}
-use Rattle.cns_units.specs.declared.account.Member.{Member}
-use Rattle.cns_units.specs.declared.cusip.Cusip.{Cusip}
-use Rattle.cns_terms.specs.declared.buy_in.Execution.{Execution}
-use Rattle.cns_terms.specs.declared.buy_in.Fill.{Fill}
-use Rattle.cns_terms.specs.declared.buy_in.Liable.{Liable}
-use Rattle.cns_terms.specs.declared.buy_in.Short.{Short}
-use Rattle.cns_terms.specs.declared.holding.Entry.{Entry}
-use Rattle.cns_terms.specs.Batches.{batch_at, called, fills_before, is_called, liable_of, short_of, shorts}
-use Rattle.cns_terms.specs.Days.{at_close, day}
-use Rattle.cns_terms.specs.Entries.{execution_entries, fill_entry}
-use Rattle.cns_terms.specs.Fills.{batch, capacity, fills, left_of, room, stretch}
-use Rattle.cns_terms.specs.Listings.{members}
-use Rattle.cns_terms.specs.Notices.{Notice, is_so, is_live, remaining, stage}
-use Rattle.cns_terms.specs.Positions.{position, shares_for}
-use Rattle.cns_terms.specs.Postings.{Journal}
-use Rattle.cns_terms.specs.Sums.{in_order, long, put, same_issue, short, total}
+use Rattle.cns_terms.specs.Positions.{position}
+use Rattle.cns_terms.specs.Sums.{put}
 use Rattle.cns_terms.proofs.Accounts.{occurs}
 use Rattle.cns_terms.proofs.Closer.{IsCloser, as_close, off_long, off_short}
 use Rattle.cns_terms.proofs.Laid.{fills_laid, laid}

@@ -1,23 +1,11 @@
 -- Ages over an exchange: what it brings into the successor, and that it brings nothing anywhere else.
-use Rattle.std.proofs.Common.{◌≡◌, ◌∙◌, sym, ap, refl, ℕ, zero, suc, ◌+◌, ◌≤◌, max, Bool, true, false, cond, ◌||◌, List, [], ◌∷◌, ◌++◌, filter, filter_map, length, Option, None, arith}
-use Rattle.std.specs.Prelude.{is_none, ⊤}
-use Rattle.std.specs.List.{cons_option, flat_map, list_any}
-use Rattle.cns_units.specs.declared.account.Account.{Account}
-use Rattle.cns_units.specs.declared.cusip.Cusip.{Cusip}
-use Rattle.cns_units.specs.declared.day.Day.{Day}
+use Rattle.std.proofs.Common.{◌≡◌, ◌∙◌, sym, ap, refl, ℕ, zero, suc, ◌+◌, ◌≤◌, max, Bool, true, false, cond, ◌||◌, List, [], ◌∷◌, ◌++◌, filter, filter_map, length, Option, None, arith, is_none, flat_map}
+use Rattle.cns_terms.proofs.Common.{⊤, Account, Activity, Cusip, Day, IsReached, Journal, Posting, activities, all_fail, closes, closings, cons_option, exchanged, greatest, is_close, is_retired, journal, list_any, neither, oldest, open_day, same_issue}
 use Rattle.cns_terms.specs.declared.action.Exchange.{Exchange}
-use Rattle.cns_terms.specs.declared.command.Activity.{Activity}
-use Rattle.cns_terms.specs.declared.command.Activity.TheVariants as activity
-use Rattle.cns_terms.specs.Ages.{age, carried, closes_short, exchanges_today, forerunners, forerunners_today, oldest}
-use Rattle.cns_terms.specs.Days.{closes, closings, is_close, open_day}
-use Rattle.cns_terms.specs.Entries.{journal}
-use Rattle.cns_terms.specs.Listings.{exchanged, is_retired}
-use Rattle.cns_terms.specs.Postings.{Journal, Posting, activities}
-use Rattle.cns_terms.specs.Reached.{IsReached}
+use Rattle.cns_terms.specs.Ages.{age, carried, closes_short, exchanges_today, forerunners, forerunners_today}
 use Rattle.cns_terms.specs.Refusals.{rules}
-use Rattle.cns_terms.specs.Sums.{greatest, same_issue}
-use Rattle.cns_terms.proofs.Facts.{issues_differ, neither}
-use Rattle.cns_terms.proofs.Sound.{all_fail}
+use Rattle.cns_terms.proofs.Facts.{issues_differ}
+use Rattle.cns_terms.specs.declared.command.Activity.TheVariants as activity
 
 -- ---- the greatest
 

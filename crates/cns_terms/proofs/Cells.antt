@@ -1,22 +1,7 @@
 -- All places of some accounts in some issues, in the order of keys.
-use Rattle.std.proofs.Common.{◌≡◌, ◌∙◌, sym, ap, refl, Bool, true, false, ◌&&◌, ◌||◌, cond, eqb, List, [], ◌∷◌, ◌++◌, map, flat_map, Option, Some, None}
-use Rattle.std.specs.Prelude.{bytes_eq}
-use Rattle.std.specs.FinMap.{find, is_sorted}
-use Rattle.std.specs.FinMap.Entries.{below_all}
-use Rattle.std.specs.List.{list_any}
-use Rattle.std.specs.Cmp.Lexicographic.{slice_cmp}
-use Rattle.std.specs.Ordering.{is_eq, is_lt, nat_cmp, ordering_then}
-use Rattle.std.specs.declared.cmp.Ordering.TheVariants.{Less}
-use Rattle.std.proofs.lemmas.Bool.{eqb-true}
-use Rattle.std.proofs.lemmas.Cmp.{nat_cmp_total, tied_itself}
-use Rattle.std.proofs.lemmas.Slice.Eq.{bytes_eq-Decides}
-use Rattle.cns_units.specs.declared.account.Account.{Account}
-use Rattle.cns_units.specs.declared.cusip.Cusip.{Cusip}
-use Rattle.cns_terms.specs.declared.holding.Key.{Key}
-use Rattle.cns_terms.specs.Keys.{key_cmp}
-use Rattle.cns_terms.proofs.Facts.{and_left, and_right, both_true, less}
-use Rattle.cns_terms.proofs.Keys.{same_key}
-use Rattle.cns_terms.proofs.Rising.{above_all, is_rising}
+use Rattle.std.proofs.Common.{◌≡◌, ◌∙◌, sym, ap, refl, Bool, true, false, ◌&&◌, ◌||◌, cond, eqb, List, [], ◌∷◌, ◌++◌, map, flat_map, Option, Some, None, bytes_eq, is_eq, is_lt, nat_cmp, Less, eqb-true}
+use Rattle.cns_terms.proofs.Common.{Account, Cusip, Key, above_all, and_left, and_right, below_all, both_true, bytes_eq-Decides, is_rising, is_sorted, key_cmp, less, list_any, nat_cmp_total, ordering_then, same_key, slice_cmp, tied_itself}
+use Rattle.std.specs.FinMap.{find}
 
 -- an account's place in an issue
 abbrev pub key : Account → Cusip → Key

@@ -1,22 +1,10 @@
 -- A closed day keeps its sheet.
-use Rattle.std.proofs.Common.{◌≡◌, ℕ, ◌≤◌, ℤ, Bool, true, false, List, [], ◌∷◌, length, refl, sym, ◌∙◌, ap, subst, arith, cond, find, unwrap_or, ◌==◌, Option, Some, None}
-use Rattle.std.specs.List.{AllByRecursion}
-use Rattle.std.specs.Prelude.{int_lt, option_map}
-use Rattle.std.specs.Ordering.{int_eq}
-use Rattle.std.proofs.lemmas.Bool.{ne_eqb}
-use Rattle.std.proofs.lemmas.Int.{ints}
-use Rattle.cns_units.specs.Day.{day_number}
-use Rattle.cns_units.specs.declared.day.Day.{Day}
-use Rattle.cns_terms.specs.declared.command.Activity.{Activity}
-use Rattle.cns_terms.specs.declared.command.Command.{Command}
+use Rattle.std.proofs.Common.{◌≡◌, ℕ, ◌≤◌, ℤ, Bool, true, false, List, [], ◌∷◌, length, refl, sym, ◌∙◌, ap, subst, arith, cond, find, unwrap_or, ◌==◌, Option, Some, None, int_lt, option_map, int_eq, ne_eqb}
+use Rattle.cns_terms.proofs.Common.{Activity, AllByRecursion, Command, Day, DaySheet, IsWhole, Journal, State, after, at_close, closed_on, closes, closings, date, day, day_number, day_sheet, ints, is_close, is_same_day, journal, journal_of, next, opened, rows_for, statement}
+use Rattle.cns_terms.specs.Laws.{ClosedDays}
+use Rattle.cns_terms.specs.Sheets.{sheet_at}
+use Rattle.cns_terms.proofs.Sound.{AreEarlier, opening_stays, whole-after, whole-next}
 use Rattle.cns_terms.specs.declared.command.Command.TheVariants as command
-use Rattle.cns_terms.specs.Postings.{Journal}
-use Rattle.cns_terms.specs.Days.{closed_on, closings, closes, date, day, at_close, is_close, is_same_day}
-use Rattle.cns_terms.specs.Entries.{journal}
-use Rattle.cns_terms.specs.Laws.{ClosedDays, journal_of}
-use Rattle.cns_terms.specs.Machine.{State, opened, next, after}
-use Rattle.cns_terms.specs.Sheets.{DaySheet, day_sheet, rows_for, sheet_at, statement}
-use Rattle.cns_terms.proofs.Sound.{AreEarlier, IsWhole, opening_stays, whole-after, whole-next}
 
 -- ---- by place
 

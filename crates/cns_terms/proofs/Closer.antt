@@ -1,7 +1,7 @@
 -- Positions that come closer to zero.
 use Rattle.std.proofs.Common.{◌≡◌, ℕ, ◌≤◌, ℤ, pos, negsuc, ◌+ℤ◌, neg_ℤ, arith}
+use Rattle.cns_terms.specs.Common.{long, short}
 use Rattle.std.proofs.lemmas.Int.{ints}
-use Rattle.cns_terms.specs.Sums.{long, short}
 
 -- a position is no longer than another, and no shorter
 pub record IsCloser (z q : ℤ) : Type 0 where

@@ -1,32 +1,11 @@
 -- No dividends of a day leave the limit of amounts.
-use Rattle.std.proofs.Common.{◌≡◌, ℕ, ◌+◌, ◌*◌, ◌^◌, ◌≤◌, ◌<◌, ℤ, pos, negsuc, neg_ℤ, suc, ◌/◌, ◌*ℤ◌, Bool, true, false, ◌&&◌, ◌==◌, cond, filter, List, [], ◌∷◌, length, arith}
-use Rattle.std.specs.List.{AllByRecursion}
-use Rattle.std.specs.Cmp.Lexicographic.{slice_cmp}
-use Rattle.std.specs.Ordering.{nat_cmp}
-use Rattle.std.specs.Prelude.{bytes_eq, int_div, unsigned_abs}
-use Rattle.std.proofs.lemmas.Bool.Decides.{nat_tests}
-use Rattle.std.proofs.lemmas.Int.{ints, unsigned_abs-mul}
-use Rattle.std.proofs.Math.Nat.{mul-le-mul_right}
-use Rattle.cns_units.specs.declared.account.Account.{Account}
-use Rattle.cns_units.specs.declared.cusip.Cusip.{Cusip}
-use Rattle.cns_units.specs.declared.day.Day.{Day}
-use Rattle.cns_units.specs.declared.rate.Rate.{Rate}
-use Rattle.cns_terms.specs.declared.action.Declared.{Declared}
-use Rattle.cns_terms.specs.declared.command.Activity.{Activity}
-use Rattle.cns_terms.specs.declared.command.Activity.TheVariants as activity
-use Rattle.cns_terms.specs.declared.holding.Entry.{Entry}
-use Rattle.cns_terms.specs.Days.{closings, date, is_not_after}
-use Rattle.cns_terms.specs.Dividends.{as_of, cash, dividend, dividends, due, is_due, last_date, member_dividend}
-use Rattle.cns_terms.specs.Limits.{amount_limit, history_limit, position_limit, rate_limit}
-use Rattle.cns_terms.specs.Listings.{issues, members}
+use Rattle.std.proofs.Common.{◌≡◌, ℕ, ◌+◌, ◌*◌, ◌^◌, ◌≤◌, ◌<◌, ℤ, pos, negsuc, neg_ℤ, suc, ◌/◌, ◌*ℤ◌, Bool, true, false, ◌&&◌, ◌==◌, cond, filter, List, [], ◌∷◌, length, arith, nat_cmp, bytes_eq, int_div, unsigned_abs, mul-le-mul_right}
+use Rattle.cns_terms.proofs.Common.{Account, Activity, AllByRecursion, Cusip, Day, Declared, Entry, IsLimited, Journal, Rate, added, added-all, added-each, added-more, amount_limit, as_of, bounded, cash, closings, date, dividend, dividends, each_found, each_weaker, history_limit, ints, is_not_after, is_rising, issues, last_date, limited, member_dividend, members, members_few, members_from_one, nat_tests, one_issue, over_all, position_limit, rate_limit, slice_cmp, total, total_small, unsigned_abs-mul}
+use Rattle.cns_terms.specs.Dividends.{due, is_due}
 use Rattle.cns_terms.specs.Positions.{position}
-use Rattle.cns_terms.specs.Postings.{Journal}
-use Rattle.cns_terms.specs.Sums.{total}
-use Rattle.cns_terms.proofs.Everywhere.{each_found, each_weaker}
-use Rattle.cns_terms.proofs.Magnitudes.{added, added-all, added-each, added-more, added-swap, total_small}
-use Rattle.cns_terms.proofs.OverAll.{one_issue, over_all}
-use Rattle.cns_terms.proofs.Reached.{AreSmallRates, IsLimited, bounded, limited, members_few, members_from_one}
-use Rattle.cns_terms.proofs.Rising.{is_rising}
+use Rattle.cns_terms.proofs.Magnitudes.{added-swap}
+use Rattle.cns_terms.proofs.Reached.{AreSmallRates}
+use Rattle.cns_terms.specs.declared.command.Activity.TheVariants as activity
 
 -- the most cents that a dividend pays on a member's position
 abbrev pub cash_limit : ℕ

@@ -1,28 +1,9 @@
 -- A place at which nothing was booked has no row.
-use Rattle.std.proofs.Common.{◌≡◌, ◌∙◌, ap, refl, ℕ, ℤ, pos, ◌+ℤ◌, Bool, true, false, not, cond, ◌&&◌, ◌==◌, List, [], ◌∷◌, slice_get, unwrap_or, arith}
-use Rattle.std.specs.Prelude.{bytes_eq}
-use Rattle.std.specs.List.{AllByRecursion, list_any}
-use Rattle.std.specs.Ordering.{int_eq}
-use Rattle.std.proofs.lemmas.Bool.{eqb-true}
-use Rattle.std.proofs.lemmas.Cmp.{nat_list_eq_equiv}
-use Rattle.std.proofs.lemmas.Slice.Eq.{bytes_eq-Decides}
-use Rattle.cns_units.specs.declared.account.Account.{Account}
-use Rattle.cns_units.specs.declared.cusip.Cusip.{Cusip}
-use Rattle.cns_units.specs.declared.day.Day.{Day}
-use Rattle.cns_terms.specs.declared.holding.Entry.{Entry}
-use Rattle.cns_terms.specs.declared.holding.Key.{Key}
-use Rattle.cns_terms.specs.Days.{closings, date, is_close, is_not_after, last_close, open_day}
-use Rattle.cns_terms.specs.Dividends.{as_of, dividend}
-use Rattle.cns_terms.specs.Listings.{accounts, is_account, is_listed, issues}
-use Rattle.cns_terms.specs.Positions.{cents_for, money, position, shares_for}
-use Rattle.cns_terms.specs.Postings.{Journal, Posting}
-use Rattle.cns_terms.specs.Sheets.{is_idle, row}
-use Rattle.cns_terms.specs.Sums.{total, same_issue}
-use Rattle.cns_terms.proofs.Accounts.{occurs, occurs_missing}
-use Rattle.cns_terms.proofs.Everywhere.{each_found}
-use Rattle.cns_terms.proofs.Facts.{neither}
+use Rattle.std.proofs.Common.{◌≡◌, ◌∙◌, ap, refl, ℕ, ℤ, pos, ◌+ℤ◌, Bool, true, false, not, cond, ◌&&◌, ◌==◌, List, [], ◌∷◌, slice_get, unwrap_or, arith, bytes_eq, int_eq, eqb-true}
+use Rattle.cns_terms.proofs.Common.{Account, AllByRecursion, Cusip, Day, Entry, IsSound, Journal, Key, Posting, accounts, as_of, bytes_eq-Decides, cents_for, closings, date, dividend, each_found, is_account, is_close, is_idle, is_listed, is_not_after, issues, last_close, list_any, money, nat_list_eq_equiv, neither, occurs, occurs_missing, open_day, row, same_issue, shares_for, total}
+use Rattle.cns_terms.specs.Positions.{position}
 use Rattle.cns_terms.proofs.Paid.{no_dividend-account, no_dividend-issue}
-use Rattle.cns_terms.proofs.Sound.{AreOfListed, IsSound}
+use Rattle.cns_terms.proofs.Sound.{AreOfListed}
 use Rattle.cns_terms.proofs.ZeroSums.{AreKnown, AreOf}
 
 -- whether an entry is booked at a place

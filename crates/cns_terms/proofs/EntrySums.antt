@@ -1,11 +1,7 @@
 -- Entries that add up to zero in each issue.
 use Rattle.std.proofs.Common.{◌≡◌, ◌∙◌, ℤ, pos, ◌+ℤ◌, neg_ℤ, Bool, true, false, cond, List, ◌++◌, map, arith}
+use Rattle.cns_terms.specs.Common.{Account, Cusip, Entry, against_corporation, entry, same_issue, total}
 use Rattle.std.proofs.lemmas.Int.{ints}
-use Rattle.cns_units.specs.declared.account.Account.{Account}
-use Rattle.cns_units.specs.declared.cusip.Cusip.{Cusip}
-use Rattle.cns_terms.specs.declared.holding.Entry.{Entry}
-use Rattle.cns_terms.specs.Entries.{against_corporation, entry}
-use Rattle.cns_terms.specs.Sums.{total, same_issue}
 use Rattle.cns_terms.proofs.Totals.{total-append, total-map, total-zero}
 
 -- an entry's shares, if it is of the issue

@@ -1,9 +1,8 @@
 -- What holds of each element of a list.
-use Rattle.std.proofs.Common.{ℕ, ◌≤◌, Bool, true, false, cond, ◌≡◌, ◌∙◌, ap, subst, sym, ◌||◌, List, [], ◌∷◌, ◌++◌, map, filter, find, reverse, unwrap_or, Option, Some, refl, arith}
-use Rattle.std.specs.List.{AllByRecursion, list_any}
-use Rattle.std.proofs.lemmas.Bool.{eq-eqb}
+use Rattle.std.proofs.Common.{ℕ, ◌≤◌, Bool, true, false, cond, ◌≡◌, ◌∙◌, ap, subst, sym, ◌||◌, List, [], ◌∷◌, ◌++◌, map, filter, find, reverse, unwrap_or, Option, Some, refl, arith, eq-eqb}
+use Rattle.cns_terms.specs.Common.{AllByRecursion, in_order, list_any}
 use Rattle.std.proofs.lemmas.Grind.{reverse_onto}
-use Rattle.cns_terms.specs.Sums.{put, in_order}
+use Rattle.cns_terms.specs.Sums.{put}
 use Rattle.cns_terms.proofs.Accounts.{occurs}
 
 pub each_weaker : {X : Type 0} (P Q : X → Type 0) (xs : List X) → ((x : X) → P x → Q x) → AllByRecursion P xs → AllByRecursion Q xs

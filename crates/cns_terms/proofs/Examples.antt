@@ -1,19 +1,11 @@
 -- Worked examples: what the machine answers over accepted activities, computed from the definitions, whatever the days are.
-use Rattle.std.proofs.Common.{◌≡◌, refl, ℕ, ℤ, pos, neg_ℤ, true, false, List, [], ◌∷◌, arith}
-use Rattle.std.specs.Prelude.{codes}
-use Rattle.std.proofs.lemmas.Int.{ints}
-use Rattle.cns_units.specs.declared.cusip.Cusip.{Cusip}
-use Rattle.cns_units.specs.declared.day.Day.{Day}
-use Rattle.cns_terms.specs.declared.command.Activity.{Activity}
-use Rattle.cns_terms.specs.declared.command.Activity.TheVariants as activity
-use Rattle.cns_terms.specs.declared.command.Command.{Command}
-use Rattle.cns_terms.specs.declared.command.Command.TheVariants as command
+use Rattle.std.proofs.Common.{◌≡◌, refl, ℕ, ℤ, pos, neg_ℤ, true, false, List, [], ◌∷◌, arith, codes}
+use Rattle.cns_terms.proofs.Common.{Activity, Command, Cusip, Day, answer_to, ints, is_not_after, is_same_day, is_too_far}
 use Rattle.cns_terms.specs.declared.refusal.Refusal.TheVariants.{MemberExists, NoSuchMember, IssueExists, NoSuchIssue, SameParty, WrongDay, SeenReference, ExceedsPosition, NotOnHand, NotLong, TooLarge, NoSuchDay}
 use Rattle.cns_terms.specs.declared.reply.Reply.{Reply}
+use Rattle.cns_terms.specs.declared.command.Activity.TheVariants as activity
+use Rattle.cns_terms.specs.declared.command.Command.TheVariants as command
 use Rattle.cns_terms.specs.declared.reply.Reply.TheVariants as reply
-use Rattle.cns_terms.specs.Days.{is_not_after, is_same_day}
-use Rattle.cns_terms.specs.Machine.{answer_to}
-use Rattle.cns_terms.specs.Refusals.{is_too_far}
 
 -- ---- activities, questions and replies
 

@@ -1,13 +1,10 @@
 -- The fills of an execution are its shares and its money, whole.
-use Rattle.std.proofs.Common.{add_assoc, le_trans, ◌≡◌, ℕ, ◌+◌, ◌-◌, ◌*◌, ◌/◌, ◌<◌, ◌≤◌, min, Bool, true, false, cond, List, [], ◌∷◌, filter, sum_by, nat_lt, refl, ◌∙◌, ap, arith}
+use Rattle.std.proofs.Common.{add_assoc, le_trans, ◌≡◌, ℕ, ◌+◌, ◌-◌, ◌*◌, ◌/◌, ◌<◌, ◌≤◌, min, Bool, true, false, cond, List, [], ◌∷◌, filter, sum_by, nat_lt, refl, ◌∙◌, ap, arith, mul-zero, div-mul-le_self, mul-le-mul_left, le-ltb, ltb-true, ltb-false}
+use Rattle.cns_terms.specs.Common.{Fill, Liable, Member, capacity, fills_of, room_of, stretch}
 use Rattle.std.proofs.lemmas.Nat.{le-div}
-use Rattle.std.proofs.Math.Nat.{mul-div_left, zero-div, mul-zero, div-mul-le_self, mul-le-mul_left}
-use Rattle.std.proofs.lemmas.Bool.{le-ltb, cond-false, ltb-true, ltb-false}
+use Rattle.std.proofs.Math.Nat.{mul-div_left, zero-div}
+use Rattle.std.proofs.lemmas.Bool.{cond-false}
 use Rattle.std.proofs.lemmas.List.Sums.{sum_by-cons}
-use Rattle.cns_units.specs.declared.account.Member.{Member}
-use Rattle.cns_terms.specs.declared.buy_in.Fill.{Fill}
-use Rattle.cns_terms.specs.declared.buy_in.Liable.{Liable}
-use Rattle.cns_terms.specs.Fills.{room_of, capacity, stretch, fills_of}
 use Rattle.cns_terms.proofs.Laid.{fills_laid, laid}
 
 -- dropping what adds nothing leaves a sum as it is

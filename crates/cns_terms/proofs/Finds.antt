@@ -1,15 +1,8 @@
 -- Searches in lists whose keys strictly rise.
-use Rattle.std.proofs.Common.{◌≡◌, ◌∙◌, sym, ap, refl, Bool, true, false, cond, List, [], ◌∷◌, map, filter, Option, Some, None}
-use Rattle.std.specs.Cmp.{IsTotalOrder}
-use Rattle.std.specs.FinMap.{FinMap, entries, entries-from_sorted, find, from_sorted, get-from_sorted, is_sorted, same_map, IsAntisymmetric}
-use Rattle.std.specs.FinMap.Entries.{below_all}
-use Rattle.std.specs.List.{AllByRecursion}
+use Rattle.std.proofs.Common.{◌≡◌, ◌∙◌, sym, ap, refl, Bool, true, false, cond, List, [], ◌∷◌, map, filter, Option, Some, None, is_eq, is_lt, Ordering, Less, Equal, Greater, T}
+use Rattle.cns_terms.specs.Common.{AllByRecursion, IsTotalOrder, below_all, is_sorted, ordering_reverse, tied_itself}
+use Rattle.std.specs.FinMap.{FinMap, entries, entries-from_sorted, find, from_sorted, get-from_sorted, same_map, IsAntisymmetric}
 use Rattle.std.specs.List.Sorted.{IsStrictlySortedBy}
-use Rattle.std.specs.Ordering.{is_eq, is_lt, ordering_reverse}
-use Rattle.std.proofs.lemmas.Cmp.{tied_itself}
-use Rattle.std.specs.declared.cmp.Ordering.{Ordering}
-use Rattle.std.specs.declared.cmp.Ordering.TheVariants.{Less, Equal, Greater}
-use lib.Dec.{T}
 use Rattle.cns_terms.proofs.Facts.{and_left, and_right, both_true, less}
 
 -- an option kept where its value passes a test

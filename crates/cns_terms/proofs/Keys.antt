@@ -1,17 +1,11 @@
 -- The order of keys.
-use Rattle.std.proofs.Common.{◌≡◌, ℕ, ◌+◌, ◌*◌, ◌^◌, ◌<◌, ◌&&◌, eqb, List, Ordering, refl, sym, ap, ◌∙◌, inl, inr}
-use Rattle.std.specs.Prelude.{bytes_eq}
-use Rattle.std.specs.declared.cmp.Ordering.TheVariants.{Less, Equal, Greater}
-use Rattle.std.specs.Cmp.{IsTotalOrder, nat_cmp_is}
-use Rattle.std.specs.Cmp.Lexicographic.{slice_cmp}
-use Rattle.std.specs.Ordering.{nat_cmp, ordering_then, is_eq}
+use Rattle.std.proofs.Common.{◌≡◌, ℕ, ◌+◌, ◌*◌, ◌^◌, ◌<◌, ◌&&◌, eqb, List, Ordering, refl, sym, ap, ◌∙◌, inl, inr, bytes_eq, Less, Equal, Greater, nat_cmp, is_eq, arith}
+use Rattle.cns_terms.specs.Common.{IsTotalOrder, Key, key_cmp, ordering_then, slice_cmp}
+use Rattle.std.specs.Cmp.{nat_cmp_is}
 use Rattle.std.proofs.lemmas.Cmp.{on_total, then_total, nat_cmp_total, nat_list_cmp_total}
 use Rattle.std.proofs.lemmas.Map.Lookups.{CmpEqualImpliesEq, exact_pairs, exact_unsigned, exact_bytes}
 use Rattle.std.proofs.lemmas.Map.Text.{is_eq-slice_cmp}
 use Rattle.std.proofs.lemmas.Bool.{cases_order}
-use Rattle.std.proofs.Common.{arith}
-use Rattle.cns_terms.specs.declared.holding.Key.{Key}
-use Rattle.cns_terms.specs.Keys.{key_cmp}
 use Rattle.cns_terms.proofs.Facts.{nat_eq_test}
 
 pub keys_total : IsTotalOrder key_cmp

@@ -1,13 +1,10 @@
 -- Stretches laid end to end, each from where the one before it ends: a form that proofs walk along.
-use Rattle.std.proofs.Common.{◌≡◌, ◌∙◌, sym, ap, refl, ℕ, ◌+◌, List, [], ◌∷◌, ◌++◌, append_assoc, filter, length, map, nat_lt, sum_by, arith}
+use Rattle.std.proofs.Common.{◌≡◌, ◌∙◌, sym, ap, refl, ℕ, ◌+◌, List, [], ◌∷◌, ◌++◌, append_assoc, filter, length, map, nat_lt, sum_by, arith, length-append}
+use Rattle.cns_terms.specs.Common.{Fill, Liable, Member, capacity, fills_of, stretch}
 use Rattle.std.specs.List.{enumerate_from}
 use Rattle.std.proofs.Math.Seq.{take-append_seam}
-use Rattle.std.proofs.lemmas.List.{length-append}
 use Rattle.std.proofs.lemmas.List.Sums.{sum_by-append, sum_by-cons}
-use Rattle.cns_units.specs.declared.account.Member.{Member}
-use Rattle.cns_terms.specs.declared.buy_in.Fill.{Fill}
-use Rattle.cns_terms.specs.declared.buy_in.Liable.{Liable}
-use Rattle.cns_terms.specs.Fills.{capacity, fills_of, start, stretch, stretch_at}
+use Rattle.cns_terms.specs.Fills.{start, stretch_at}
 
 -- the stretches of members, laid end to end from a share on
 abbrev pub laid : (Liable → ℕ) → ℕ → ℕ → ℕ → List Liable → List Fill

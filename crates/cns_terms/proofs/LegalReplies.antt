@@ -1,10 +1,9 @@
 -- A legal history has the replies of the machine to its commands, one after another.
 use Rattle.std.proofs.Common.{◌≡◌, ◌∙◌, sym, ap, refl, List, [], ◌∷◌, ◌++◌}
-use Rattle.cns_units.specs.declared.day.Day.{Day}
-use Rattle.cns_terms.specs.declared.command.Command.{Command}
+use Rattle.cns_terms.proofs.Common.{Command, Day, IsLegal, State, after, answer, next, opened}
 use Rattle.cns_terms.specs.declared.history.Taken.{Taken}
-use Rattle.cns_terms.specs.History.{IsLegal, commands_of, replies_of, state}
-use Rattle.cns_terms.specs.Machine.{State, after, answer, next, opened, replies}
+use Rattle.cns_terms.specs.History.{commands_of, replies_of, state}
+use Rattle.cns_terms.specs.Machine.{replies}
 
 after_one : (S : State) (cmds : List Command) (cmd : Command) → after S (cmds ++ cmd ∷ []) ≡ next (after S cmds) cmd
 after_one S [] cmd = refl

@@ -39,3 +39,4 @@ pub mod ActionExamples
 pub mod BatchSteps
 pub mod BuyInExamples
 pub mod AgeExamples
+pub mod Common

@@ -1,43 +1,23 @@
 -- One accepted activity keeps positions and cents within their limits.
-use Rattle.std.proofs.Common.{◌≡◌, ◌∙◌, ap, sym, subst, refl, ℕ, ◌+◌, ◌*◌, ◌≤◌, ℤ, pos, negsuc, ◌+ℤ◌, ◌-ℤ◌, ◌*ℤ◌, neg_ℤ, Bool, true, false, not, ◌&&◌, ◌||◌, ◌==◌, cond, List, [], ◌∷◌, filter, length, map, Option, Some, None, ◌⊎◌, inl, inr, arith}
-use Rattle.std.specs.List.{AllByRecursion, list_any}
-use Rattle.std.specs.Option.{IfSome, option_map_or}
-use Rattle.std.specs.Ordering.{int_eq}
-use Rattle.std.specs.Prelude.{bytes_eq, int_le, nat_lt, unsigned_abs}
-use Rattle.std.proofs.Math.Nat.{mul-le-mul_left, mul-le-mul_right}
-use Rattle.std.proofs.lemmas.Bool.{eqb-true}
+use Rattle.std.proofs.Common.{◌≡◌, ◌∙◌, ap, sym, subst, refl, ℕ, ◌+◌, ◌*◌, ◌≤◌, ℤ, pos, negsuc, ◌+ℤ◌, ◌-ℤ◌, ◌*ℤ◌, neg_ℤ, Bool, true, false, not, ◌&&◌, ◌||◌, ◌==◌, cond, List, [], ◌∷◌, filter, length, map, Option, Some, None, ◌⊎◌, inl, inr, arith, IfSome, int_eq, bytes_eq, int_le, nat_lt, unsigned_abs, mul-le-mul_left, mul-le-mul_right, eqb-true}
+use Rattle.cns_terms.specs.Common.{Account, Activity, AllByRecursion, Cusip, Day, Entry, Execution, IsInRange, Journal, Notice, Pend, Posting, Price, Ratio, against_corporation, at_close, booking_limit, bought_in, buyer_entry, cents_for, closings, converted, corporation, date, day, entries, entry, execution_entries, holders, in_exchange, in_lieu, is_beyond, is_close, is_exceeded, is_not_after, is_too_large, is_too_large_at, list_any, long, member_limit, members, money, money_limit, moved_in, moved_out, new_entry, notice_at, old_entry, open_day, option_map_or, pend_of, pending, position_limit, posting, price_limit, seller_entry, shares_for, short, sold_in, total, trade_entries, trades}
 use Rattle.std.proofs.lemmas.Bool.Decides.{nat_tests}
 use Rattle.std.proofs.lemmas.Int.{ints, unsigned_abs-mul}
 use Rattle.std.proofs.lemmas.List.Sums.{sum_by-cons}
 use Rattle.std.proofs.lemmas.Slice.Eq.{bytes_eq-Decides}
-use Rattle.cns_units.specs.declared.account.Account.{Account}
-use Rattle.cns_units.specs.declared.cusip.Cusip.{Cusip}
-use Rattle.cns_units.specs.declared.day.Day.{Day}
-use Rattle.cns_units.specs.declared.price.Price.{Price}
-use Rattle.cns_units.specs.declared.ratio.Ratio.{Ratio}
-use Rattle.cns_terms.specs.declared.buy_in.Execution.{Execution}
-use Rattle.cns_terms.specs.declared.command.Activity.{Activity}
-use Rattle.cns_terms.specs.declared.command.Activity.TheVariants as activity
 use Rattle.cns_terms.specs.declared.command.Movement.{Movement}
 use Rattle.cns_terms.specs.declared.command.Trade.{Trade}
-use Rattle.cns_terms.specs.declared.holding.Entry.{Entry}
-use Rattle.cns_terms.specs.declared.pend.Pend.{Pend}
-use Rattle.cns_terms.specs.Days.{at_close, closings, date, day, is_close, is_not_after, open_day}
-use Rattle.cns_terms.specs.Conversions.{converted, fraction, in_exchange, in_lieu}
-use Rattle.cns_terms.specs.Entries.{against_corporation, buyer_entry, corporation, entries, entry, execution_entries, holders, moved_in, moved_out, new_entry, old_entry, posting, seller_entry, trade_entries}
-use Rattle.cns_terms.specs.Limits.{booking_limit, member_limit, money_limit, position_limit, price_limit, ratio_limit}
-use Rattle.cns_terms.specs.Listings.{members}
-use Rattle.cns_terms.specs.Notices.{Notice, notice_at}
-use Rattle.cns_terms.specs.Pending.{bought_in, due, is_due, pend_of, pending, sold_in, trades}
-use Rattle.cns_terms.specs.Reached.{IsInRange, IsRatio}
-use Rattle.cns_terms.specs.Positions.{cents_for, money, position, shares_for}
-use Rattle.cns_terms.specs.Postings.{Journal, Posting}
-use Rattle.cns_terms.specs.Refusals.{is_beyond, is_exceeded, is_too_large, is_too_large_at, places, rules}
-use Rattle.cns_terms.specs.Sums.{long, short, total}
+use Rattle.cns_terms.specs.Conversions.{fraction}
+use Rattle.cns_terms.specs.Limits.{ratio_limit}
+use Rattle.cns_terms.specs.Pending.{due, is_due}
+use Rattle.cns_terms.specs.Reached.{IsRatio}
+use Rattle.cns_terms.specs.Positions.{position}
+use Rattle.cns_terms.specs.Refusals.{places, rules}
 use Rattle.cns_terms.proofs.Accounts.{occurs}
 use Rattle.cns_terms.proofs.BuyIns.{IsExecutable, executable, executed_closer, execution_cents}
 use Rattle.cns_terms.proofs.Closer.{IsCloser, as_close, off_long, off_short}
 use Rattle.cns_terms.proofs.EntrySums.{entries_for}
+use Rattle.cns_terms.specs.declared.command.Activity.TheVariants as activity
 use Rattle.cns_terms.proofs.Everywhere.{each_found, each_weaker}
 use Rattle.cns_terms.proofs.Facts.{and_left, and_right, neither}
 use Rattle.cns_terms.proofs.Magnitudes.{added, added-append, added-each, added-filter, added-map, added-more, magnitude, total_small}

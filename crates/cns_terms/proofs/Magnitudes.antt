@@ -1,9 +1,7 @@
 -- Sums of absolute values, which bound sums of numbers with a sign.
-use Rattle.std.proofs.Common.{◌≡◌, ap, refl, ℕ, zero, suc, ◌+◌, ◌*◌, ◌≤◌, ℤ, ◌+ℤ◌, Bool, true, false, cond, List, [], ◌∷◌, ◌++◌, length, map, filter, flat_map, take, arith}
-use Rattle.std.specs.List.{AllByRecursion}
-use Rattle.std.specs.Prelude.{unsigned_abs}
+use Rattle.std.proofs.Common.{◌≡◌, ap, refl, ℕ, zero, suc, ◌+◌, ◌*◌, ◌≤◌, ℤ, ◌+ℤ◌, Bool, true, false, cond, List, [], ◌∷◌, ◌++◌, length, map, filter, flat_map, take, arith, unsigned_abs}
+use Rattle.cns_terms.specs.Common.{AllByRecursion, total}
 use Rattle.std.proofs.lemmas.Int.{ints}
-use Rattle.cns_terms.specs.Sums.{total}
 
 -- f of each, added up
 abbrev pub added : {X : Type 0} → (X → ℕ) → List X → ℕ

@@ -1,16 +1,8 @@
 -- A number for each account in each issue.
-use Rattle.std.proofs.Common.{◌≡◌, ◌∙◌, ap, refl, sym, ℕ, ◌+◌, ◌≤◌, ℤ, pos, Bool, true, false, ◌&&◌, cond, List, [], ◌∷◌, arith}
-use Rattle.std.specs.Cmp.Lexicographic.{slice_cmp}
-use Rattle.std.specs.Ordering.{is_eq, is_lt, nat_cmp}
-use Rattle.std.specs.declared.cmp.Ordering.{Ordering}
-use Rattle.std.specs.declared.cmp.Ordering.TheVariants.{Less, Equal, Greater}
-use Rattle.std.specs.Prelude.{bytes_eq, unsigned_abs}
+use Rattle.std.proofs.Common.{◌≡◌, ◌∙◌, ap, refl, sym, ℕ, ◌+◌, ◌≤◌, ℤ, pos, Bool, true, false, ◌&&◌, cond, List, [], ◌∷◌, arith, is_eq, is_lt, nat_cmp, Ordering, Less, Equal, Greater, bytes_eq, unsigned_abs}
+use Rattle.cns_terms.specs.Common.{Account, Cusip, Journal, accounts, issues, slice_cmp}
 use Rattle.std.proofs.lemmas.Map.Text.{is_eq-slice_cmp}
 use Rattle.std.proofs.lemmas.Slice.Eq.{bytes_eq-Decides}
-use Rattle.cns_units.specs.declared.account.Account.{Account}
-use Rattle.cns_units.specs.declared.cusip.Cusip.{Cusip}
-use Rattle.cns_terms.specs.Listings.{accounts, issues}
-use Rattle.cns_terms.specs.Postings.{Journal}
 use Rattle.cns_terms.proofs.Facts.{and_left, and_right}
 use Rattle.cns_terms.proofs.Magnitudes.{added, added-add, added-more}
 use Rattle.cns_terms.proofs.Rising.{above_all, is_rising}

@@ -1,21 +1,11 @@
 -- Dividends add up to zero.
-use Rattle.std.proofs.Common.{◌≡◌, ◌∙◌, ap, refl, ℕ, ℤ, pos, Bool, true, false, ◌==◌, cond, List, [], ◌∷◌, arith}
-use Rattle.std.specs.List.{AllByRecursion}
-use Rattle.std.specs.Ordering.{is_lt, nat_cmp}
-use Rattle.std.specs.Prelude.{int_div}
+use Rattle.std.proofs.Common.{◌≡◌, ◌∙◌, ap, refl, ℕ, ℤ, pos, Bool, true, false, ◌==◌, cond, List, [], ◌∷◌, arith, is_lt, nat_cmp, int_div}
+use Rattle.cns_terms.specs.Common.{Account, AllByRecursion, Cusip, Day, Declared, Journal, Rate, accounts, as_of, cash, dividend, member_dividend, members, total}
 use Rattle.std.proofs.lemmas.Int.{ints}
 use Rattle.std.proofs.lemmas.Bool.Decides.{nat_tests}
 use lib.IntN.{zero-*ℤ}
-use Rattle.cns_units.specs.declared.account.Account.{Account}
-use Rattle.cns_units.specs.declared.cusip.Cusip.{Cusip}
-use Rattle.cns_units.specs.declared.day.Day.{Day}
-use Rattle.cns_units.specs.declared.rate.Rate.{Rate}
-use Rattle.cns_terms.specs.declared.action.Declared.{Declared}
-use Rattle.cns_terms.specs.Dividends.{as_of, cash, dividend, due, member_dividend}
-use Rattle.cns_terms.specs.Listings.{accounts, members}
+use Rattle.cns_terms.specs.Dividends.{due}
 use Rattle.cns_terms.specs.Positions.{position}
-use Rattle.cns_terms.specs.Postings.{Journal}
-use Rattle.cns_terms.specs.Sums.{total}
 use Rattle.cns_terms.proofs.Facts.{and_left, and_right}
 use Rattle.cns_terms.proofs.Rising.{above_all, is_rising}
 use Rattle.cns_terms.proofs.Totals.{total-same, total-zero}

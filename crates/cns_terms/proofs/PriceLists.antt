@@ -1,14 +1,8 @@
 -- The prices of a sheet.
-use Rattle.std.proofs.Common.{◌≡◌, ◌∙◌, sym, ap, refl, ℕ, Bool, true, false, cond, Some, None, unwrap_or}
-use Rattle.std.specs.Cmp.Lexicographic.{slice_cmp}
+use Rattle.std.proofs.Common.{◌≡◌, ◌∙◌, sym, ap, refl, ℕ, Bool, true, false, cond, Some, None, unwrap_or, nat_cmp}
+use Rattle.cns_terms.proofs.Common.{Cusip, IsSound, Journal, find_with, is_listed, issues, price, slice_cmp}
 use Rattle.std.specs.FinMap.{find}
-use Rattle.std.specs.Ordering.{nat_cmp}
-use Rattle.cns_units.specs.declared.cusip.Cusip.{Cusip}
-use Rattle.cns_terms.specs.Listings.{is_listed, issues, price}
-use Rattle.cns_terms.specs.Postings.{Journal}
 use Rattle.cns_terms.specs.Sheets.{sheet_prices}
-use Rattle.cns_terms.proofs.Sound.{IsSound}
-use Rattle.cns_terms.proofs.Valued.{find_with}
 
 or_zero : (b : Bool) (p : ℕ) → (b ≡ false → p ≡ 0) → unwrap_or (cond b (Some p) None) 0 ≡ p
 or_zero true p h = refl

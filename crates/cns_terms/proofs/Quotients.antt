@@ -1,9 +1,7 @@
 -- What a division that is cut towards zero leaves.
-use Rattle.std.proofs.Common.{◌≡◌, subst, ℕ, suc, ◌/◌, ◌≤◌, ◌<◌, ℤ, pos, negsuc, neg_ℤ, ◌+ℤ◌, ◌-ℤ◌, ◌*ℤ◌, int_div, int_rem, arith}
-use Rattle.std.specs.Prelude.{unsigned_abs}
-use Rattle.std.proofs.Math.Nat.{div-le_self}
+use Rattle.std.proofs.Common.{◌≡◌, subst, ℕ, suc, ◌/◌, ◌≤◌, ◌<◌, ℤ, pos, negsuc, neg_ℤ, ◌+ℤ◌, ◌-ℤ◌, ◌*ℤ◌, int_div, int_rem, arith, unsigned_abs, div-le_self}
+use Rattle.cns_terms.specs.Common.{Ratio}
 use Rattle.std.proofs.lemmas.Int.{ints, quot-rem, rem_below}
-use Rattle.cns_units.specs.declared.ratio.Ratio.{Ratio}
 use Rattle.cns_terms.specs.Conversions.{fraction}
 
 -- what is left of a sum

@@ -1,31 +1,17 @@
 -- What is so of each journal that commands reach.
-use Rattle.std.proofs.Common.{◌≡◌, ap, refl, ℕ, ◌+◌, ◌*◌, ◌≤◌, ℤ, pos, ◌+ℤ◌, Bool, true, false, cond, List, [], ◌∷◌, length, is_none, Option, Some, None, arith}
-use Rattle.std.specs.List.{AllByRecursion}
-use Rattle.std.specs.Prelude.{filter_map, unsigned_abs}
-use Rattle.std.specs.Ordering.{is_lt, nat_cmp}
+use Rattle.std.proofs.Common.{◌≡◌, ap, refl, ℕ, ◌+◌, ◌*◌, ◌≤◌, ℤ, pos, ◌+ℤ◌, Bool, true, false, cond, List, [], ◌∷◌, length, is_none, Option, Some, None, arith, filter_map, unsigned_abs, is_lt, nat_cmp}
+use Rattle.cns_terms.specs.Common.{Activity, AllByRecursion, Command, Cusip, Day, Declared, IsInRange, IsReached, Journal, State, account_lt, accounts, activities, after, booking_limit, closings, corporation_limit, dividends, is_close, journal, member_limit, members, next, opened, position_limit, posting, rate_limit, refusal, total}
 use Rattle.std.proofs.lemmas.Bool.Decides.{nat_tests}
 use Rattle.std.proofs.lemmas.Int.{ints}
-use Rattle.cns_units.specs.declared.cusip.Cusip.{Cusip}
-use Rattle.cns_units.specs.declared.day.Day.{Day}
-use Rattle.cns_terms.specs.declared.action.Declared.{Declared}
-use Rattle.cns_terms.specs.declared.command.Activity.{Activity}
-use Rattle.cns_terms.specs.declared.command.Activity.TheVariants as activity
-use Rattle.cns_terms.specs.declared.command.Command.{Command}
-use Rattle.cns_terms.specs.declared.command.Command.TheVariants as command
 use Rattle.cns_terms.specs.declared.refusal.Refusal.{Refusal}
-use Rattle.cns_terms.specs.Days.{closings, is_close}
-use Rattle.cns_terms.specs.Dividends.{dividends}
-use Rattle.cns_terms.specs.Entries.{journal, posting}
 use Rattle.cns_terms.specs.Laws.{Bounds, IsBounded, Reaches}
-use Rattle.cns_terms.specs.Limits.{booking_limit, corporation_limit, member_limit, position_limit, rate_limit}
-use Rattle.cns_terms.specs.Listings.{account_lt, accounts, added, members}
-use Rattle.cns_terms.specs.Machine.{State, after, next, opened}
+use Rattle.cns_terms.specs.Listings.{added}
 use Rattle.cns_terms.specs.Positions.{position}
-use Rattle.cns_terms.specs.Postings.{Journal, activities}
-use Rattle.cns_terms.specs.Reached.{IsCommandInRange, IsInRange, IsReached}
-use Rattle.cns_terms.specs.Refusals.{refusal, rules}
-use Rattle.cns_terms.specs.Sums.{total}
+use Rattle.cns_terms.specs.Reached.{IsCommandInRange}
+use Rattle.cns_terms.specs.Refusals.{rules}
+use Rattle.cns_terms.specs.declared.command.Activity.TheVariants as activity
 use Rattle.cns_terms.proofs.Balanced.{entries_balanced}
+use Rattle.cns_terms.specs.declared.command.Command.TheVariants as command
 use Rattle.cns_terms.proofs.Facts.{and_left, and_right}
 use Rattle.cns_terms.proofs.Everywhere.{each_in_order, each_weaker}
 use Rattle.cns_terms.proofs.Limits.{AreFewHolders, AreWithin, HasFewCents, IsNear, booked_few, cents_of, money_few, near, waiting_cents, within-post}

@@ -1,10 +1,6 @@
 -- Lists that strictly rise.
-use Rattle.std.proofs.Common.{◌≡◌, ◌∙◌, ap, refl, Bool, true, false, ◌&&◌, cond, List, [], ◌∷◌}
-use Rattle.std.specs.Cmp.{IsTotalOrder}
-use Rattle.std.specs.List.{list_any}
-use Rattle.std.specs.Ordering.{is_eq, is_lt, ordering_reverse}
-use Rattle.std.specs.declared.cmp.Ordering.{Ordering}
-use Rattle.std.specs.declared.cmp.Ordering.TheVariants.{Less, Equal, Greater}
+use Rattle.std.proofs.Common.{◌≡◌, ◌∙◌, ap, refl, Bool, true, false, ◌&&◌, cond, List, [], ◌∷◌, is_eq, is_lt, Ordering, Less, Equal, Greater}
+use Rattle.cns_terms.specs.Common.{IsTotalOrder, list_any, ordering_reverse}
 use Rattle.cns_terms.specs.Sums.{put}
 use Rattle.cns_terms.proofs.Facts.{and_left, and_right, both_true, less, neither}
 

@@ -1,22 +1,12 @@
 -- Sums and counts over the rows of a sheet.
-use Rattle.std.proofs.Common.{◌≡◌, ◌∙◌, ap, refl, ℕ, ◌+◌, ◌*◌, ◌≤◌, ℤ, pos, ◌+ℤ◌, Bool, true, false, not, cond, ◌==◌, suc, zero, List, [], ◌∷◌, length, map, filter, flat_map, arith}
-use Rattle.std.proofs.lemmas.List.{length-append}
+use Rattle.std.proofs.Common.{◌≡◌, ◌∙◌, ap, refl, ℕ, ◌+◌, ◌*◌, ◌≤◌, ℤ, pos, ◌+ℤ◌, Bool, true, false, not, cond, ◌==◌, suc, zero, List, [], ◌∷◌, length, map, filter, flat_map, arith, length-append}
+use Rattle.cns_terms.specs.Common.{Account, Activity, Cusip, Day, Entry, Journal, Row, accounts, is_idle, issue_lt, issues, open_day, row, rows_of, same_issue, sheet_rows, total}
 use Rattle.std.proofs.lemmas.List.Elements.{filter-append}
-use Rattle.cns_units.specs.declared.account.Account.{Account}
-use Rattle.cns_units.specs.declared.cusip.Cusip.{Cusip}
-use Rattle.cns_units.specs.declared.day.Day.{Day}
-use Rattle.cns_terms.specs.declared.command.Activity.{Activity}
-use Rattle.cns_terms.specs.declared.command.Activity.TheVariants as activity
-use Rattle.cns_terms.specs.declared.holding.Entry.{Entry}
-use Rattle.cns_terms.specs.declared.sheet.Row.{Row}
-use Rattle.cns_terms.specs.Listings.{accounts, issue_lt, issues}
-use Rattle.cns_terms.specs.Days.{open_day}
-use Rattle.cns_terms.specs.Postings.{Journal}
-use Rattle.cns_terms.specs.Sheets.{is_idle, row, rows_of, sheet_rows}
-use Rattle.cns_terms.specs.Sums.{put, same_issue, total}
+use Rattle.cns_terms.specs.Sums.{put}
 use Rattle.cns_terms.proofs.Facts.{eqb_sym}
 use Rattle.cns_terms.proofs.Accounts.{occurs}
 use Rattle.cns_terms.proofs.Reached.{IsLimited, sound_journal}
+use Rattle.cns_terms.specs.declared.command.Activity.TheVariants as activity
 use Rattle.cns_terms.proofs.SheetSums.{idle_parts, kept_or_not, total-flat_map}
 use Rattle.cns_terms.proofs.Sound.{IsSound}
 use Rattle.cns_terms.proofs.Totals.{total-same, total-swap, total-zero}

@@ -1,33 +1,11 @@
 -- What the sheet of a close asks of its amounts, and of the dividends that it pays.
-use Rattle.std.proofs.Common.{◌≡◌, ◌∙◌, sym, ap, refl, ℕ, suc, ◌+◌, ◌*◌, ◌^◌, ◌≤◌, ◌<◌, ℤ, pos, ◌+ℤ◌, Bool, true, false, not, ◌&&◌, ◌==◌, cond, List, [], ◌∷◌, length, filter, take, arith}
-use Rattle.std.specs.Prelude.{bytes_eq, unsigned_abs}
-use Rattle.std.specs.List.{AllByRecursion, sum_by}
-use Rattle.std.proofs.lemmas.Bool.Decides.{nat_tests}
-use Rattle.std.proofs.lemmas.Cmp.{nat_list_eq_equiv}
-use Rattle.std.proofs.lemmas.Int.{ints}
-use Rattle.std.proofs.lemmas.List.Sums.{sum_by-cons}
-use Rattle.std.proofs.lemmas.Slice.Eq.{bytes_eq-Decides}
-use Rattle.cns_units.specs.declared.account.Account.{Account}
-use Rattle.cns_units.specs.declared.cusip.Cusip.{Cusip}
-use Rattle.cns_units.specs.declared.day.Day.{Day}
-use Rattle.cns_units.specs.declared.rate.Rate.{Rate}
-use Rattle.cns_terms.specs.declared.action.Declared.{Declared}
-use Rattle.cns_terms.specs.declared.sheet.Row.{Row}
-use Rattle.cns_terms.specs.Days.{closings, is_close}
-use Rattle.cns_terms.specs.Dividends.{cash, dividends, pays_before}
-use Rattle.cns_terms.specs.Limits.{amount_limit, history_limit, rate_limit}
-use Rattle.cns_terms.specs.Listings.{accounts, issues, members}
+use Rattle.std.proofs.Common.{◌≡◌, ◌∙◌, sym, ap, refl, ℕ, suc, ◌+◌, ◌*◌, ◌^◌, ◌≤◌, ◌<◌, ℤ, pos, ◌+ℤ◌, Bool, true, false, not, ◌&&◌, ◌==◌, cond, List, [], ◌∷◌, length, filter, take, arith, bytes_eq, unsigned_abs, sum_by}
+use Rattle.cns_terms.proofs.Common.{Account, AllByRecursion, Cusip, Day, Declared, IsLimited, Journal, Posting, Rate, Row, accounts, added, added-all, added-more, amount_limit, bounded, bytes_eq-Decides, cash, closings, dividends, each_weaker, front_total, history_limit, in_order, ints, is_close, issues, members, members_few, nat_list_eq_equiv, nat_tests, occurs, one_issue, over_all, pays_before, rate_limit, row, rows_for, sheet_rows, sum_by-cons, total}
 use Rattle.cns_terms.specs.Positions.{position}
-use Rattle.cns_terms.specs.Postings.{Journal, Posting}
-use Rattle.cns_terms.specs.Sheets.{row, rows_for, sheet_rows}
-use Rattle.cns_terms.specs.Sums.{in_order, put, total}
-use Rattle.cns_terms.proofs.Accounts.{occurs}
+use Rattle.cns_terms.specs.Sums.{put}
 use Rattle.cns_terms.proofs.Amounts.{cents_small, rows_small}
 use Rattle.cns_terms.proofs.DividendBounds.{cash_limit, cash_small, dividends_few, dividends_small}
-use Rattle.cns_terms.proofs.Everywhere.{each_weaker}
-use Rattle.cns_terms.proofs.Magnitudes.{added, added-all, added-filter, added-more, front_total}
-use Rattle.cns_terms.proofs.OverAll.{one_issue, over_all}
-use Rattle.cns_terms.proofs.Reached.{IsLimited, bounded, members_few}
+use Rattle.cns_terms.proofs.Magnitudes.{added-filter}
 use Rattle.cns_terms.proofs.Sound.{grown-post}
 
 -- ---- the rows of one account

@@ -1,7 +1,6 @@
 -- Rows that say something.
 use Rattle.std.proofs.Common.{Bool, not}
-use Rattle.cns_terms.specs.declared.sheet.Row.{Row}
-use Rattle.cns_terms.specs.Sheets.{is_idle}
+use Rattle.cns_terms.specs.Common.{Row, is_idle}
 
 -- whether a row says something
 abbrev pub says : Row → Bool

@@ -1,27 +1,15 @@
 -- The sheets of closed days add up to zero.
-use Rattle.std.proofs.Common.{◌≡◌, ℤ, pos, ◌+ℤ◌, Bool, true, false, not, cond, ◌&&◌, ◌==◌, slice_get, unwrap_or, Option, Some, None, List, [], ◌∷◌, map, filter, flat_map, refl, ◌∙◌, ap, subst, arith, int_eq}
-use Rattle.std.specs.Prelude.{option_map}
+use Rattle.std.proofs.Common.{◌≡◌, ℤ, pos, ◌+ℤ◌, Bool, true, false, not, cond, ◌&&◌, ◌==◌, slice_get, unwrap_or, Option, Some, None, List, [], ◌∷◌, map, filter, flat_map, refl, ◌∙◌, ap, subst, arith, int_eq, option_map}
+use Rattle.cns_terms.specs.Common.{Account, Cusip, Day, DaySheet, Journal, Row, accounts, at_close, closed_on, closings, date, day, day_sheet, dividend, is_close, is_idle, is_same_day, issues, journal, last_close, mark, open_day, price, row, rows_of, total}
 use Rattle.std.specs.Cmp.{signed_Decides}
 use Rattle.std.proofs.lemmas.Int.{ints}
 use Rattle.std.proofs.lemmas.Bool.{and_parts, not-false}
 use lib.IntN.{zero-*ℤ}
-use Rattle.cns_units.specs.declared.account.Account.{Account}
-use Rattle.cns_units.specs.declared.cusip.Cusip.{Cusip}
-use Rattle.cns_units.specs.declared.day.Day.{Day}
-use Rattle.cns_terms.specs.declared.sheet.Row.{Row}
-use Rattle.cns_terms.specs.Sums.{total}
-use Rattle.cns_terms.specs.Postings.{Journal}
-use Rattle.cns_terms.specs.Days.{at_close, closed_on, closings, date, day, is_close, is_same_day, last_close, open_day}
-use Rattle.cns_terms.specs.Listings.{accounts, issues, price}
-use Rattle.cns_terms.specs.Marks.{mark}
-use Rattle.cns_terms.specs.Dividends.{dividend}
-use Rattle.cns_terms.specs.Sheets.{DaySheet, day_sheet, row, is_idle, rows_of}
 use Rattle.cns_terms.specs.Laws.{AddsUpToZero, Positions, ZeroSums}
 use Rattle.cns_terms.proofs.Paid.{dividends_zero}
 use Rattle.cns_terms.proofs.Totals.{total-append, total-same, total-zero, total-swap}
 use Rattle.cns_terms.proofs.Everywhere.{each_found}
 use Rattle.cns_terms.proofs.ZeroSums.{AreSound, cents_zero, marks_zero, positions_zero, sound_open_day}
-use Rattle.cns_terms.specs.Entries.{journal}
 use Rattle.cns_terms.proofs.Reached.{IsLimited, limited, limited_nil, limited_past, sound_journal}
 
 pub total-flat_map : {X Y : Type 0} (f : Y → ℤ) (g : X → List Y) (xs : List X) → total f (flat_map g xs) ≡ total (λ x. total f (g x)) xs

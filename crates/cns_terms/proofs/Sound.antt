@@ -1,37 +1,12 @@
 -- What accepted commands keep true of the journal.
-use Rattle.std.proofs.Common.{◌≡◌, ℕ, ◌+◌, ◌≤◌, ℤ, pos, ◌-ℤ◌, neg_ℤ, Bool, true, false, not, cond, ◌&&◌, ◌==◌, List, [], ◌∷◌, find, length, map, is_none, Option, Some, None, slice_get, unwrap_or, filter, flat_map, refl, sym, ◌∙◌, ap, arith}
-use Rattle.std.specs.List.{AllByRecursion, list_any}
-use Rattle.std.specs.Option.{IfSome, option_map_or}
-use Rattle.std.specs.Prelude.{bytes_eq, filter_map, int_lt}
-use Rattle.std.specs.Cmp.Lexicographic.{slice_cmp}
-use Rattle.std.specs.Ordering.{is_lt, nat_cmp}
-use Rattle.std.proofs.lemmas.Bool.{eqb-true}
+use Rattle.std.proofs.Common.{◌≡◌, ℕ, ◌+◌, ◌≤◌, ℤ, pos, ◌-ℤ◌, neg_ℤ, Bool, true, false, not, cond, ◌&&◌, ◌==◌, List, [], ◌∷◌, find, length, map, is_none, Option, Some, None, slice_get, unwrap_or, filter, flat_map, refl, sym, ◌∙◌, ap, arith, IfSome, bytes_eq, filter_map, int_lt, is_lt, nat_cmp, eqb-true}
+use Rattle.cns_terms.specs.Common.{Account, Activity, AllByRecursion, Command, Cusip, Day, Entry, Execution, Journal, Notice, Pend, Posting, Rule, State, accounts, activities, after, against_corporation, at_close, closings, converted, corporation, date, day, day_number, entries, entry, execution_entries, fill_entry, fills, first_refusal, holders, in_exchange, in_lieu, is_close, is_listed, is_member, is_not_after, issue_lt, issues, journal, journal_of, last_close, list_any, members, new_entry, next, notice, notice_at, notices, old_entry, opened, option_map_or, pend_of, pending, posting, price, priced, refusal, slice_cmp, trade_entries, trades}
 use Rattle.std.proofs.lemmas.Bool.Decides.{nat_tests}
 use Rattle.std.proofs.lemmas.Slice.Eq.{bytes_eq-Decides}
 use Rattle.std.proofs.lemmas.Cmp.{nat_cmp_total, nat_list_cmp_total}
-use Rattle.cns_units.specs.Day.{day_number}
-use Rattle.cns_units.specs.declared.account.Account.{Account}
-use Rattle.cns_units.specs.declared.cusip.Cusip.{Cusip}
-use Rattle.cns_units.specs.declared.day.Day.{Day}
-use Rattle.cns_terms.specs.declared.buy_in.Execution.{Execution}
-use Rattle.cns_terms.specs.declared.command.Activity.{Activity}
-use Rattle.cns_terms.specs.declared.command.Activity.TheVariants as activity
-use Rattle.cns_terms.specs.declared.command.Command.{Command}
-use Rattle.cns_terms.specs.declared.command.Command.TheVariants as command
-use Rattle.cns_terms.specs.declared.holding.Entry.{Entry}
-use Rattle.cns_terms.specs.declared.pend.Pend.{Pend}
-use Rattle.cns_terms.specs.Days.{at_close, closings, date, day, is_close, is_not_after, last_close}
-use Rattle.cns_terms.specs.Conversions.{converted, in_exchange, in_lieu}
-use Rattle.cns_terms.specs.Entries.{against_corporation, corporation, entries, entry, execution_entries, fill_entry, holders, journal, new_entry, old_entry, posting, trade_entries}
-use Rattle.cns_terms.specs.Fills.{fills}
-use Rattle.cns_terms.specs.Laws.{journal_of}
-use Rattle.cns_terms.specs.Listings.{accounts, is_listed, issue_lt, is_member, issues, members, price, priced}
-use Rattle.cns_terms.specs.Machine.{State, next, after, opened}
-use Rattle.cns_terms.specs.Notices.{Notice, notice, notice_at, notices}
-use Rattle.cns_terms.specs.Pending.{due, is_due, pend_of, pending, trades}
+use Rattle.cns_terms.specs.Pending.{due, is_due}
 use Rattle.cns_terms.specs.Positions.{position}
-use Rattle.cns_terms.specs.Postings.{Posting, Journal, activities}
-use Rattle.cns_terms.specs.Refusals.{Rule, first_refusal, refusal, rules}
+use Rattle.cns_terms.specs.Refusals.{rules}
 use Rattle.cns_terms.proofs.Facts.{and_left, and_right, both_true, holds, later, less_less, nat_eq_test, neither, or_right, price_branch, same_test}
 use Rattle.cns_terms.proofs.Accounts.{occurs, occurs-put, occurs_found, occurs_missing}
 use Rattle.cns_terms.proofs.BuyIns.{each_named, fills_each}
@@ -39,6 +14,8 @@ use Rattle.cns_terms.proofs.EntrySums.{entries_for}
 use Rattle.cns_terms.proofs.Everywhere.{any_put, each_append, each_filter, each_found, each_map, each_reverse, each_stands, each_weaker}
 use Rattle.cns_terms.proofs.Rising.{above_put, is_rising, rising_put}
 use Rattle.cns_terms.proofs.ZeroSums.{AreKnown, AreOf}
+use Rattle.cns_terms.specs.declared.command.Activity.TheVariants as activity
+use Rattle.cns_terms.specs.declared.command.Command.TheVariants as command
 
 -- a number is one of the accounts
 abbrev pub IsIn : Journal → ℕ → Type 0

@@ -1,7 +1,7 @@
 -- Sums of numbers with a sign.
 use Rattle.std.proofs.Common.{◌≡◌, ℤ, pos, ◌+ℤ◌, neg_ℤ, List, [], ◌∷◌, ◌++◌, map, refl, sym, ◌∙◌, ap, arith}
+use Rattle.cns_terms.specs.Common.{total}
 use Rattle.std.proofs.lemmas.Int.{ints}
-use Rattle.cns_terms.specs.Sums.{total}
 
 pub total-append : {X : Type 0} (f : X → ℤ) (xs ys : List X) → total f (xs ++ ys) ≡ total f xs +ℤ total f ys
 total-append f [] ys = omega (arith, ints)

@@ -1,13 +1,8 @@
 -- A value for each of some issues.
-use Rattle.std.proofs.Common.{◌≡◌, ◌∙◌, ap, refl, Bool, true, false, ◌||◌, cond, List, [], ◌∷◌, map, Some, None}
-use Rattle.std.specs.Prelude.{bytes_eq}
-use Rattle.std.specs.Cmp.Lexicographic.{slice_cmp}
-use Rattle.std.specs.FinMap.{find, is_sorted}
-use Rattle.std.specs.FinMap.Entries.{below_all}
-use Rattle.std.specs.List.{list_any}
-use Rattle.std.specs.Ordering.{nat_cmp}
+use Rattle.std.proofs.Common.{◌≡◌, ◌∙◌, ap, refl, Bool, true, false, ◌||◌, cond, List, [], ◌∷◌, map, Some, None, bytes_eq, nat_cmp}
+use Rattle.cns_terms.specs.Common.{Cusip, below_all, is_sorted, list_any, slice_cmp}
+use Rattle.std.specs.FinMap.{find}
 use Rattle.std.proofs.lemmas.Slice.Eq.{bytes_eq-Decides}
-use Rattle.cns_units.specs.declared.cusip.Cusip.{Cusip}
 use Rattle.cns_terms.proofs.Facts.{and_left, and_right, both_true, same_test}
 use Rattle.cns_terms.proofs.Rising.{above_all, is_rising}
 

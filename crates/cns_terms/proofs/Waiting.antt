@@ -1,20 +1,10 @@
 -- Trades that wait: what they add up to, and what they book.
-use Rattle.std.proofs.Common.{◌≡◌, ◌∙◌, ap, refl, ℕ, ◌+◌, ℤ, pos, ◌+ℤ◌, ◌-ℤ◌, neg_ℤ, Bool, true, false, not, ◌&&◌, ◌==◌, cond, List, [], ◌∷◌, filter, flat_map, reverse, sum_by, arith}
-use Rattle.std.specs.Prelude.{unsigned_abs}
+use Rattle.std.proofs.Common.{◌≡◌, ◌∙◌, ap, refl, ℕ, ◌+◌, ℤ, pos, ◌+ℤ◌, ◌-ℤ◌, neg_ℤ, Bool, true, false, not, ◌&&◌, ◌==◌, cond, List, [], ◌∷◌, filter, flat_map, reverse, sum_by, arith, unsigned_abs}
+use Rattle.cns_terms.specs.Common.{Account, Cusip, Day, Entry, Journal, Pend, bought_in, date, is_not_after, pending, same_issue, shares_for, sold_in, total, trade_entries, trades}
 use Rattle.std.proofs.lemmas.Grind.{reverse_onto}
 use Rattle.std.proofs.lemmas.Int.{ints}
 use Rattle.std.proofs.lemmas.List.Sums.{sum_by-cons}
-use Rattle.cns_units.specs.declared.account.Account.{Account}
-use Rattle.cns_units.specs.declared.cusip.Cusip.{Cusip}
-use Rattle.cns_units.specs.declared.day.Day.{Day}
-use Rattle.cns_terms.specs.declared.holding.Entry.{Entry}
-use Rattle.cns_terms.specs.declared.pend.Pend.{Pend}
-use Rattle.cns_terms.specs.Days.{date, is_not_after}
-use Rattle.cns_terms.specs.Entries.{trade_entries}
-use Rattle.cns_terms.specs.Pending.{bought_in, due, is_due, pending, sold_in, trades}
-use Rattle.cns_terms.specs.Positions.{shares_for}
-use Rattle.cns_terms.specs.Postings.{Journal}
-use Rattle.cns_terms.specs.Sums.{same_issue, total}
+use Rattle.cns_terms.specs.Pending.{due, is_due}
 use Rattle.cns_terms.proofs.Magnitudes.{added, added-append, magnitude}
 
 -- a sum, term by term

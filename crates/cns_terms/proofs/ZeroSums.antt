@@ -1,17 +1,10 @@
 -- Positions, cents and marks of all accounts add up to zero.
 use Rattle.std.proofs.Common.{◌≡◌, ℕ, ℤ, pos, ◌+ℤ◌, ◌-ℤ◌, ◌*ℤ◌, neg_ℤ, Bool, true, false, cond, suc, zero, List, [], ◌∷◌, refl, sym, ◌∙◌, ap, arith}
-use Rattle.std.specs.List.{AllByRecursion}
+use Rattle.cns_terms.specs.Common.{Account, AllByRecursion, Cusip, Entry, Journal, Posting, cents_for, is_close, last_close, mark, money, open_day, price, same_issue, shares_for, total}
 use Rattle.std.proofs.lemmas.Int.{ints}
 use lib.IntN.{zero-*ℤ, *ℤ_comm, suc_ℤ-*ℤ, *ℤ-zero}
-use Rattle.cns_units.specs.declared.account.Account.{Account}
-use Rattle.cns_units.specs.declared.cusip.Cusip.{Cusip}
-use Rattle.cns_terms.specs.declared.holding.Entry.{Entry}
-use Rattle.cns_terms.specs.Sums.{total, same_issue}
-use Rattle.cns_terms.specs.Postings.{Posting, Journal}
-use Rattle.cns_terms.specs.Days.{last_close, open_day, is_close}
-use Rattle.cns_terms.specs.Positions.{position, money, shares_for, cents_for}
-use Rattle.cns_terms.specs.Listings.{price}
-use Rattle.cns_terms.specs.Marks.{mark, value}
+use Rattle.cns_terms.specs.Positions.{position}
+use Rattle.cns_terms.specs.Marks.{value}
 use Rattle.cns_terms.proofs.Totals.{total-zero, total-add, total-neg, total-swap}
 use Rattle.cns_terms.proofs.EntrySums.{IsBalanced, shares_in, cents_in}
 use Rattle.cns_terms.proofs.Accounts.{occurs, given_once}

@@ -1,6 +1,5 @@
 -- Ages of shorts, which exchanges carry into the successor.
-use Rattle.std.specs.Prelude.{ℕ, zero, suc, ◌+◌, max, pos, int_lt, List, [], ◌∷◌, filter, filter_map, length, if◌then◌else◌}
-use Rattle.std.specs.List.{flat_map}
+use Rattle.std.specs.Prelude.{ℕ, zero, suc, ◌+◌, max, pos, int_lt, List, [], ◌∷◌, filter, filter_map, length, if◌then◌else◌, flat_map}
 use Rattle.cns_units.specs.declared.account.Account.{Account}
 use Rattle.cns_units.specs.declared.cusip.Cusip.{Cusip}
 use Rattle.cns_terms.specs.declared.action.Exchange.{Exchange}

@@ -1,6 +1,5 @@
 -- What accepted activities book.
-use Rattle.std.specs.Prelude.{ℤ, pos, ◌-ℤ◌, neg_ℤ, not, List, [], ◌∷◌, ◌++◌, map, filter, if◌then◌else◌}
-use Rattle.std.specs.List.{flat_map}
+use Rattle.std.specs.Prelude.{ℤ, pos, ◌-ℤ◌, neg_ℤ, not, List, [], ◌∷◌, ◌++◌, map, filter, if◌then◌else◌, flat_map}
 use Rattle.std.specs.Option.{option_map_or}
 use Rattle.std.specs.Ordering.{int_eq}
 use Rattle.cns_units.specs.declared.account.Account.{Account}
@@ -12,8 +11,8 @@ use Rattle.cns_terms.specs.declared.action.Split.{Split}
 use Rattle.cns_terms.specs.declared.buy_in.Execution.{Execution}
 use Rattle.cns_terms.specs.declared.buy_in.Fill.{Fill}
 use Rattle.cns_terms.specs.declared.command.Activity.{Activity}
-use Rattle.cns_terms.specs.declared.command.Activity.TheVariants as activity
 use Rattle.cns_terms.specs.declared.command.Movement.{Movement}
+use Rattle.cns_terms.specs.declared.command.Activity.TheVariants as activity
 use Rattle.cns_terms.specs.declared.holding.Entry.{Entry}
 use Rattle.cns_terms.specs.declared.pend.Pend.{Pend}
 use Rattle.cns_terms.specs.Conversions.{converted, in_lieu, in_exchange}

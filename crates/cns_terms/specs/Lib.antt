@@ -15,6 +15,7 @@ pub mod Entries
 pub mod Actions
 pub mod Refusals
 pub mod Marks
+pub mod Digits
 pub mod Dividends
 pub mod Sheets
 pub mod Machine
@@ -24,3 +25,4 @@ pub mod Reached
 pub mod Laws
 pub mod Numbers
 pub mod Sources
+pub mod Common

@@ -1,20 +1,13 @@
 -- The checks of trades.
-use Rattle.std.proofs.Common.{◌≡◌, refl, ◌≤◌, ◌^◌, ◌<◌, FitsSigned, of_z, to_z, ℤ, pos, ◌-ℤ◌, Bool, true, false, not, ◌&&◌, ◌||◌, ◌==◌, cond, List, [], ◌∷◌, Some, Ok, Err, arith}
-use Rattle.std.specs.Int.{w64}
-use Rattle.std.specs.Prelude.{int_le, unsigned_abs}
-use Rattle.std.proofs.lemmas.Int.{ints, fits_signed_from_abs, to_z-of_z}
+use Rattle.std.proofs.Common.{◌≡◌, refl, ◌≤◌, ◌^◌, ◌<◌, FitsSigned, of_z, to_z, ℤ, pos, ◌-ℤ◌, Bool, true, false, not, ◌&&◌, ◌||◌, ◌==◌, cond, List, [], ◌∷◌, Some, Ok, Err, arith, w64, int_le, unsigned_abs}
+use Rattle.cns_terms.proofs.Common.{Day, day_number, fits_signed_from_abs, ints, is_not_after, is_past, is_too_far, pend_of, position_limit, trade_entries}
+use Rattle.std.proofs.lemmas.Int.{to_z-of_z}
 use mir.Val.{hbits}
 use lib.Signed.{mag}
-use Rattle.cns_units.specs.Day.{day_number}
-use Rattle.cns_units.specs.declared.day.Day.{Day}
 use Rattle.cns_terms.specs.declared.command.Trade.{Trade}
 use Rattle.cns_terms.specs.declared.pend.Pend.{Pend}
 use Rattle.cns_terms.specs.declared.refusal.Refusal.TheVariants.{TooLarge}
-use Rattle.cns_terms.specs.Days.{is_not_after}
-use Rattle.cns_terms.specs.Limits.{position_limit}
-use Rattle.cns_terms.specs.Entries.{trade_entries}
-use Rattle.cns_terms.specs.Pending.{pend_of}
-use Rattle.cns_terms.specs.Refusals.{days_ahead, is_past, is_too_far}
+use Rattle.cns_terms.specs.Refusals.{days_ahead}
 use Rattle.cns_trades.specs.declared.facts.TradeFacts.{TradeFacts}
 use Rattle.cns_trades.specs.Checks.{book_answer, books_beyond, party, refusal_or, trade_answer}
 

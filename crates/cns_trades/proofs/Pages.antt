@@ -1,11 +1,7 @@
 -- Pages of bits.
-use Rattle.std.proofs.Common.{◌≡◌, ◌∙◌, sym, ap, ℕ, ◌*◌, ◌^◌, ◌<◌, ◌%◌, max, Bool, true, false, cond, eqb, ◌||◌, refl, arith, List, Some, unwrap_or}
-use Rattle.std.specs.Int.Bits.{bit_or}
+use Rattle.std.proofs.Common.{◌≡◌, ◌∙◌, sym, ap, ℕ, ◌*◌, ◌^◌, ◌<◌, ◌%◌, max, Bool, true, false, cond, eqb, ◌||◌, refl, arith, List, Some, unwrap_or, bit_or, nat_cmp, is_eq, eqb-true}
+use Rattle.cns_terms.proofs.Common.{lookup, nat_tests}
 use Rattle.std.specs.Int.{bit_at}
-use Rattle.std.specs.Map.{lookup}
-use Rattle.std.specs.Ordering.{nat_cmp, is_eq}
-use Rattle.std.proofs.lemmas.Bool.{eqb-true}
-use Rattle.std.proofs.lemmas.Bool.Decides.{nat_tests}
 use Rattle.std.proofs.lemmas.Nat.{one_shl}
 use Rattle.std.proofs.lemmas.Nat.Bits.{bit_at_or, bit_at-pow_same, bit_at-pow_other, bit_at-lt}
 use Rattle.cns_trades.specs.Used.{bits_in, has_bit, page_among}

@@ -1,23 +1,9 @@
 -- Sums of sides by key.
-use Rattle.std.proofs.Common.{◌≡◌, ◌∙◌, sym, ap, subst, refl, ℕ, ◌+◌, ◌-◌, ◌≤◌, Bool, true, false, cond, Option, Some, None, unwrap_or, is_some, ◌*◌, ◌^◌, ◌<◌, ◌&&◌, ◌||◌, ◌==◌, List, ◌∷◌, ◌++◌, append-nil, drop, drop-cons, take, filter, get_or, length, add-one, arith}
-use Rattle.std.specs.List.{AllByRecursion}
-use Rattle.std.specs.Map.{lookup}
-use Rattle.std.specs.Prelude.{bytes_eq}
-use Rattle.std.proofs.lemmas.List.{drop_all, take_all}
-use Rattle.std.proofs.lemmas.Slice.Eq.{bytes_eq-Decides}
-use Rattle.cns_units.specs.declared.cusip.Cusip.{Cusip}
-use Rattle.std.specs.Ordering.{is_eq}
+use Rattle.std.proofs.Common.{◌≡◌, ◌∙◌, sym, ap, subst, refl, ℕ, ◌+◌, ◌-◌, ◌≤◌, Bool, true, false, cond, Option, Some, None, unwrap_or, is_some, ◌*◌, ◌^◌, ◌<◌, ◌&&◌, ◌||◌, ◌==◌, List, ◌∷◌, ◌++◌, append-nil, drop, drop-cons, take, filter, get_or, length, add-one, arith, bytes_eq, take_all, is_eq}
+use Rattle.cns_terms.proofs.Common.{AllByRecursion, Cusip, added-each, bought_by, bytes_eq-Decides, drop_all, each_weaker, equal, exact_keys, key_cmp, keys_total, lookup, same_issue, same_key, shares_limit, sold_by, tied_itself, waits_in}
 use Rattle.cns_terms.specs.declared.holding.Key.{Key}
 use Rattle.cns_terms.specs.declared.pend.Pend.{Pend}
-use Rattle.cns_terms.specs.Keys.{key_cmp}
-use Rattle.cns_terms.specs.Limits.{shares_limit}
-use Rattle.cns_terms.specs.Pending.{waits_in}
-use Rattle.cns_terms.specs.Sums.{same_issue}
-use Rattle.cns_terms.proofs.Facts.{equal}
-use Rattle.cns_terms.proofs.Everywhere.{each_weaker}
-use Rattle.cns_terms.proofs.Keys.{exact_keys, same_key}
-use Rattle.cns_terms.proofs.Magnitudes.{added-each}
-use Rattle.cns_terms.proofs.Waiting.{bought_added, bought_by, sold_added, sold_by}
+use Rattle.cns_terms.proofs.Waiting.{bought_added, sold_added}
 use Rattle.cns_trades.specs.declared.sides.Sides.{Sides}
 use Rattle.cns_trades.specs.Sides.{AreSummed, SidesByKey, bought_key, has_sides, less, more, no_sides, sides_at, sides_of, sold_key}
 
@@ -75,6 +61,18 @@ has_none es k h = by (found es k) h
     by None h = refl
     by (Some s) h = cc
 
+-- sums that are the same on both sides
+sides_same : (s t : Sides) → s.bought ≡ t.bought → s.sold ≡ t.sold → s ≡ t
+sides_same s t p q = λ i. record { bought = p i; sold = q i }
+
+-- no room where nothing is put
+pub gone : (old new : SidesByKey) (key : Key) → Puts old new key None → has_sides new key ≡ false
+gone old new key h = ap is_some (h key ∙ ap (λ o. cond (is_eq o) None (found old key)) (tied_itself keys_total key))
+
+-- sums less themselves
+pub less_itself : (s : Sides) → less s s ≡ no_sides
+less_itself s = sides_same _ _ (omega arith) (omega arith)
+
 -- nothing less what is no more
 pub less_nothing : (es : SidesByKey) (k : Key) (d : Sides) → found es k ≡ None → d.bought ≤ (sides_at es k).bought → d.sold ≤ (sides_at es k).sold → less no_sides d ≡ no_sides
 less_nothing es k d none b s =
@@ -87,10 +85,6 @@ less_nothing es k d none b s =
     none_left n h = omega (arith, h)
 
 -- ---- what trades add up to
-
--- sums that are the same on both sides
-sides_same : (s t : Sides) → s.bought ≡ t.bought → s.sold ≡ t.sold → s ≡ t
-sides_same s t p q = λ i. record { bought = p i; sold = q i }
 
 -- what is done at the buyer's key and then at the seller's, in the words of the definitions
 module _ (f : Sides → Sides → Sides) (p : Pend) (before between after : Key → Sides) where

@@ -1,22 +1,13 @@
 -- The rules of trades and movements over plain facts, by the refusal's number.
 use Rattle.std.specs.Prelude.{◌≤◌, ◌+◌, ℤ, pos, ◌+ℤ◌, neg_ℤ, int_lt, int_le, unsigned_abs, Bool, not, ◌&&◌, ◌||◌, ◌==◌, nat_lt, List, [], ◌∷◌, Option, Some, None, is_some, unwrap_or, Result, Ok, Err, if◌then◌else◌}
-use Rattle.std.specs.List.{AllByRecursion}
-use Rattle.std.specs.Option.{option_map_or}
-use Rattle.cns_units.specs.declared.account.Member.{Member}
-use Rattle.cns_units.specs.declared.cusip.Cusip.{Cusip}
-use Rattle.cns_units.specs.declared.day.Day.{Day}
+use Rattle.cns_terms.specs.Common.{AllByRecursion, Cusip, Day, Member, Rule, corporation, corporation_limit, first_refusal, is_beyond, is_exceeded, is_not_after, is_past, is_too_far, money_limit, moved_in, moved_out, option_map_or, pend_of, short, trade_entries}
 use Rattle.cns_terms.specs.declared.command.Movement.{Movement}
 use Rattle.cns_terms.specs.declared.command.Trade.{Trade}
 use Rattle.cns_terms.specs.declared.holding.Entry.{Entry}
 use Rattle.cns_terms.specs.declared.pend.Pend.{Pend}
 use Rattle.cns_terms.specs.declared.refusal.Refusal.{Refusal}
 use Rattle.cns_terms.specs.declared.refusal.Refusal.TheVariants.{NoSuchMember, NoSuchIssue, Retired, SameParty, WrongDay, SeenReference, ExceedsPosition, NotOnHand, NotLong, TooLarge}
-use Rattle.cns_terms.specs.Days.{is_not_after}
-use Rattle.cns_terms.specs.Entries.{corporation, moved_in, moved_out, trade_entries}
-use Rattle.cns_terms.specs.Limits.{corporation_limit, money_limit}
-use Rattle.cns_terms.specs.Pending.{is_due, pend_of}
-use Rattle.cns_terms.specs.Refusals.{Rule, first_refusal, is_beyond, is_exceeded, is_past, is_too_far}
-use Rattle.cns_terms.specs.Sums.{short}
+use Rattle.cns_terms.specs.Pending.{is_due}
 use Rattle.cns_trades.specs.declared.facts.MoveFacts.{MoveFacts}
 use Rattle.cns_trades.specs.declared.facts.TradeFacts.{TradeFacts}
 use Rattle.cns_trades.specs.declared.limits.Party.{Party}

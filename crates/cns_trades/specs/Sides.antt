@@ -1,14 +1,8 @@
 -- What members are to get and to give by trades that wait.
 use Rattle.std.specs.Prelude.{◌≡◌, ◌+◌, ◌-◌, ◌≤◌, Bool, true, ◌&&◌, ◌==◌, List, is_some, unwrap_or, if◌then◌else◌}
-use Rattle.std.specs.List.{AllByRecursion}
-use Rattle.std.specs.Map.{lookup}
-use Rattle.std.specs.Ordering.{is_eq}
+use Rattle.cns_terms.specs.Common.{AllByRecursion, bought_in, is_eq, key_cmp, lookup, same_issue, shares_limit, sold_in}
 use Rattle.cns_terms.specs.declared.holding.Key.{Key}
 use Rattle.cns_terms.specs.declared.pend.Pend.{Pend}
-use Rattle.cns_terms.specs.Keys.{key_cmp}
-use Rattle.cns_terms.specs.Limits.{shares_limit}
-use Rattle.cns_terms.specs.Pending.{bought_in, sold_in}
-use Rattle.cns_terms.specs.Sums.{same_issue}
 use Rattle.cns_trades.specs.declared.sides.Sides.{Sides}
 
 -- sums by key

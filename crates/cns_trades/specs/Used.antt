@@ -1,8 +1,7 @@
 -- The references of trades.
 use Rattle.std.specs.Prelude.{ℕ, ◌/◌, ◌%◌, Bool, ◌==◌, List, unwrap_or, if◌then◌else◌}
+use Rattle.cns_terms.specs.Common.{is_eq, lookup, nat_cmp}
 use Rattle.std.specs.Int.{bit_at}
-use Rattle.std.specs.Map.{lookup}
-use Rattle.std.specs.Ordering.{nat_cmp, is_eq}
 use Rattle.cns_terms.specs.declared.pend.Pend.{Pend}
 
 -- the references that were used, by pages of 64 bits: the page that was written last, and the others by their numbers

@@ -1,5 +1,5 @@
 // What members are to get and to give by trades that wait, added up by member and issue.
-ghost use Rattle.std.specs.Prelude.{◌≡◌, ◌≤◌, ◌+◌, ◌<◌, ◌^◌, ◌↔◌, if◌then◌else◌, true, OnOk};
+ghost use Rattle.std.specs.Prelude.{◌≡◌, ◌≤◌, ◌+◌, ◌<◌, ◌^◌, ◌↔◌, if◌then◌else◌, false, true, OnOk};
 ghost use Rattle.std.specs.Ordering.{is_eq};
 ghost use Rattle.cns_terms.specs.declared.holding.Key.{Key};
 ghost use Rattle.cns_terms.specs.Keys.{key_cmp};
@@ -120,8 +120,9 @@ impl<A: Allocator + Drop> SideSums<A> {
     pub fn take(&mut self, key: Key, other: &Sides)
         requires bought { other.now.bought ≤ (sides_at self.old key).bought }
         requires sold { other.now.sold ≤ (sides_at self.old key).sold }
-        ensures { (k : Key) → sides_at self.new k
+        ensures sums { (k : Key) → sides_at self.new k
             ≡ (if is_eq (key_cmp key k) then less (sides_at self.old k) other.now else sides_at self.old k) }
+        ensures none { sides_at self.old key ≡ other.now → has_sides self.new key ≡ false }
     {
         let left = self.at(key).less(other);
         if left.is_none() {

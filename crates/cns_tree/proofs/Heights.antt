@@ -1,9 +1,51 @@
--- Heights of trees that are built by halves.
-use Rattle.std.proofs.Common.{◌≡◌, ℕ, List, ◌∷◌, ◌++◌, suc, ◌+◌, ◌*◌, ◌^◌, ◌<◌, ◌≤◌, max, arith}
+-- Heights of trees: of any, and of those that are built by halves.
+use Rattle.std.proofs.Common.{◌≡◌, ℕ, List, ◌∷◌, ◌++◌, zero, suc, ◌+◌, ◌*◌, ◌^◌, ◌<◌, ◌≤◌, max, length, length-append, arith, pow_mono, inl, inr}
+use Rattle.cns_terms.proofs.Common.{binary_digits, cases_lt}
 use Rattle.std.proofs.Math.Nat.{two-pow-succ}
-use Rattle.std.proofs.Math.Pow.{pow_mono}
-use Rattle.std.proofs.lemmas.Bool.{cases_lt}
-use Rattle.std.proofs.Common.{inl, inr}
+use Rattle.std.proofs.lemmas.Int.Digits.{all_below_base_digits_of, number_digits_of, number_lt}
+use Rattle.std.specs.Int.Digits.{digits_of}
+use Rattle.cns_tree.specs.Shape.{IsLean, IsShallow}
+use Rattle.cns_tree.specs.declared.node.Lean.{Lean}
+use Rattle.cns_tree.specs.declared.node.Lean.TheVariants.{Left, Even, Right}
+
+-- sides that lean are within one level
+pub within_one : (lean : Lean) (a b : ℕ) → IsLean lean a b → (a ≤ b + 1) × (b ≤ a + 1)
+within_one Left a b p = (omega (arith, p), omega (arith, p))
+within_one Even a b p = (omega (arith, p), omega (arith, p))
+within_one Right a b p = (omega (arith, p), omega (arith, p))
+
+-- no rows are few levels
+pub shallow_none : IsShallow 0 0
+shallow_none = record { levels = λ d few. omega arith }
+
+-- two sides with a node above them
+levels : (n m a b : ℕ) → a ≤ b + 1 → b ≤ a + 1 → IsShallow n a → IsShallow m b → (d : ℕ) → n + m + 1 < 2 ^ d → max a b + 1 ≤ 2 * d
+levels n m a b le ge p q zero few = absurd (omega (arith, few))
+levels n m a b le ge p q (suc d) few =
+    let twice = two-pow-succ d in
+    elim (cases_lt n (2 ^ d)) [
+      | inl lt ↦ let low = p.levels d lt in omega arith
+      | inr more ↦ let low = q.levels d (omega arith) in omega arith
+    ]
+
+-- are few levels of their rows
+pub shallow_joined : {E : Type 0} (l : List E) (e : E) (r : List E) (a b : ℕ) → a ≤ b + 1 → b ≤ a + 1 → IsShallow (length l) a → IsShallow (length r) b → IsShallow (length (l ++ e ∷ r)) (max a b + 1)
+shallow_joined l e r a b le ge p q = record { levels = λ d few. levels (length l) (length r) a b le ge p q d (omega (arith, few, length-append l (e ∷ r))) }
+
+-- as many rows in as many levels
+pub shallow_kept : (n m a b : ℕ) → IsShallow n a → m ≡ n → b ≡ a → IsShallow m b
+shallow_kept n m a b p count height = record { levels = λ d few. let low = p.levels d (omega (arith, few, count)) in omega (arith, low, height) }
+
+-- a number is below the power of two by its binary digits
+below_digits : (n : ℕ) → n < 2 ^ binary_digits n
+below_digits n =
+    let is = number_digits_of 2 n (omega arith) in
+    let lt = number_lt 2 (digits_of 2 n) (all_below_base_digits_of 2 n (omega arith)) in
+    omega (arith, is, lt)
+
+-- so few levels are at most two for each of them
+pub few_digits : (n a : ℕ) → IsShallow n a → a ≤ 2 * binary_digits n
+few_digits n a p = p.levels (binary_digits n) (below_digits n)
 
 -- n rows in a tree of the height a, the least that holds them
 pub record IsFull (n a : ℕ) : Type 0 where

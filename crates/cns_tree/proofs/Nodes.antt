@@ -1,8 +1,12 @@
 -- What is known of a subtree d once its top is a node.
-use Rattle.std.proofs.Common.{◌≡◌, ℕ, List, Box, Option, Some, sym, ap, ◌∙◌, subst}
+use Rattle.std.proofs.Common.{◌≡◌, ℕ, List, length, Box, Option, None, Some, Ordering, false, cond, is_eq, is_lt, sym, ap, ◌∙◌, subst, Less, Equal, Greater}
+use Rattle.cns_terms.proofs.Common.{key_cmp, keys_total}
+use Rattle.std.specs.FinMap.{find}
 use Rattle.cns_terms.specs.declared.holding.Key.{Key}
-use Rattle.cns_tree.specs.Shape.{rows, height, rows_and_height, IsBalanced, IsBalancedNode}
+use Rattle.cns_tree.specs.Shape.{rows, height, rows_and_height, IsBalanced, IsBalancedNode, IsShallow}
 use Rattle.cns_tree.specs.declared.node.Node.{Node}
+use Rattle.cns_tree.proofs.Heights.{shallow_none}
+use Rattle.cns_tree.proofs.Rows.{find_left, find_right}
 
 -- the rows and the height of d are the node's, and the node is balanced
 pub record AtNode {V A : Type 0} (d : List (Key × V) × ℕ) (n : Node V A) : Type 0 where
@@ -19,3 +23,14 @@ at_box view_is balanced is =
 -- and at the node in it
 pub at_node : {V A : Type 0} {top : Option (Box (Node V A) A)} {d : List (Key × V) × ℕ} {b : Box (Node V A) A} {n : Node V A} → rows_and_height top ≡ d → IsBalanced top → top ≡ Some b → n ≡ b.value → AtNode d n
 at_node {d = d} view_is balanced is same = subst (AtNode d) (sym same) (at_box view_is balanced is)
+
+-- a subtree has few levels
+pub shallow_top : {V A : Type 0} {d : List (Key × V) × ℕ} (top : Option (Box (Node V A) A)) → rows_and_height top ≡ d → IsBalanced top → IsShallow (length d.0) d.1
+shallow_top None view_is balanced = subst (λ d. IsShallow (length d.0) d.1) view_is shallow_none
+shallow_top (Some b) view_is balanced = subst (λ d. IsShallow (length d.0) d.1) view_is balanced.shallow
+
+-- a key that isn't the node's is found on the side to which it stands
+pub found_aside : {V A : Type 0} (k : Key) {d : List (Key × V) × ℕ} (n : Node V A) (s : List (Key × V) × ℕ) (r : Ordering) → AtNode d n → r ≡ key_cmp k n.key → is_eq r ≡ false → s ≡ cond (is_lt r) n.left n.right → find key_cmp k d.0 ≡ find key_cmp k s.0
+found_aside k n s Less at order apart side = ap (find key_cmp k) at.rows_are ∙ find_left key_cmp keys_total k _ _ _ (sym order) at.balanced.rises ∙ ap (λ s. find key_cmp k s.0) (sym side)
+found_aside k n s Equal at order apart side = cc
+found_aside k n s Greater at order apart side = ap (find key_cmp k) at.rows_are ∙ find_right key_cmp keys_total k _ _ _ (sym order) at.balanced.rises ∙ ap (λ s. find key_cmp k s.0) (sym side)

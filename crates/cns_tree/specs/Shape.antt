@@ -1,8 +1,7 @@
 -- What a node is seen as, and what holds of it.
-use Rattle.std.specs.Prelude.{◌≡◌, ℕ, Box, ◌+◌, max, List, [], ◌∷◌, ◌++◌, Option, Some, None, Bool, true, if◌then◌else◌}
-use Rattle.std.specs.FinMap.{is_sorted}
+use Rattle.std.specs.Prelude.{◌≡◌, ℕ, Box, ◌+◌, ◌*◌, ◌^◌, ◌<◌, ◌≤◌, max, List, [], ◌∷◌, ◌++◌, length, Option, Some, None, Bool, true, if◌then◌else◌}
+use Rattle.cns_terms.specs.Common.{is_sorted, key_cmp}
 use Rattle.cns_terms.specs.declared.holding.Key.{Key}
-use Rattle.cns_terms.specs.Keys.{key_cmp}
 use Rattle.cns_tree.specs.declared.node.Node.{Node}
 use Rattle.cns_tree.specs.declared.node.Lean.{Lean}
 use Rattle.cns_tree.specs.declared.node.Lean.TheVariants.{Left, Even, Right}
@@ -36,10 +35,15 @@ SplitsLean Left l r = (l ≡ Even) × (r ≡ Right)
 SplitsLean Even l r = (l ≡ Even) × (r ≡ Even)
 SplitsLean Right l r = (l ≡ Left) × (r ≡ Even)
 
--- a node's keys strictly rise, and its sides' heights are the same or differ by one, as it says
+-- at most two levels for each binary digit of the count of rows
+pub record IsShallow (count height : ℕ) : Type 0 where
+  pub levels : (d : ℕ) → count < 2 ^ d → height ≤ 2 * d
+
+-- a node's keys strictly rise, and its sides' heights are the same or differ by one, as it says; so it has few levels
 pub record IsBalancedNode {V A : Type 0} (n : Node V A) : Type 0 where
   pub rises : is_sorted key_cmp (rows n) ≡ true
   pub leans : IsLean n.lean n.left.1 n.right.1
+  pub shallow : IsShallow (length (rows n)) (height n)
 
 -- so is a subtree's top
 abbrev pub IsBalanced : {V A : Type 0} → Option (Box (Node V A) A) → Type 0

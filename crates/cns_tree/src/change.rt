@@ -1,34 +1,39 @@
 // Values changed where they stand.
-ghost use Rattle.std.specs.Prelude.{◌≡◌, is_some, IfSome};
+ghost use Rattle.std.specs.Prelude.{◌≡◌, ◌+◌, ◌≤◌, length, is_some, IfSome};
 ghost use Rattle.std.specs.FinMap.{find};
 ghost use Rattle.cns_terms.specs.Keys.{key_cmp};
 ghost use Rattle.cns_tree.specs.Changes.{ChangesAt, ChangesEach};
+ghost use Rattle.cns_tree.specs.Shape.{IsShallow};
 
 use crate::node::{Node, Subtree};
-use cns_terms::Key;
+use cns_terms::Probe;
 use std::alloc::Allocator;
 
 impl<V: Copy, A: Allocator> Subtree<V, A> {
-    /// Gives the value at a key, if the key has a row, what `change` makes of it. One way down; nothing moves.
-    pub(crate) fn change<F: FnOnce(V) -> V>(&mut self, key: Key, change: F) -> bool
-        requires { IfSome (find key_cmp key self.old.0) (F.pre change) }
-        ensures found { result ≡ is_some (find key_cmp key self.old.0) }
-        ensures rows { ChangesAt (F.post change) key self.old.0 self.new.0 }
+    /// Gives the value at a probe's key, if the key has a row, what `change` makes of it. One way down, with at most one
+    /// comparison for each level; nothing moves.
+    pub(crate) fn change<F: FnOnce(V) -> V>(&mut self, probe: &mut Probe, change: F) -> bool
+        requires { IfSome (find key_cmp probe.old.0 self.old.0) (F.pre change) }
+        ensures found { result ≡ is_some (find key_cmp probe.old.0 self.old.0) }
+        ensures rows { ChangesAt (F.post change) probe.old.0 self.old.0 self.new.0 }
         ensures height { self.new.1 ≡ self.old.1 }
+        ensures key { probe.new.0 ≡ probe.old.0 }
+        ensures count { probe.new.1 ≤ probe.old.1 + self.old.1 }
+        ensures shallow { IsShallow (length self.old.0) self.old.1 }
     {
         let Some(node) = &mut self.top else {
             return false;
         };
         let node: &mut Node<V, A> = node;
-        let order = key.cmp(&node.key);
+        let order = probe.compare(&node.key);
         if order.is_eq() {
             node.value = change(node.value);
             return true;
         }
         if order.is_lt() {
-            return node.left.change(key, change);
+            return node.left.change(probe, change);
         }
-        node.right.change(key, change)
+        node.right.change(probe, change)
     }
 
     /// Gives each value what `change` makes of it, in the order of keys.

@@ -1,14 +1,16 @@
 // The nodes of a tree.
-ghost use Rattle.std.specs.Prelude.{◌≡◌, [], ◌∷◌, ◌++◌, ◌+◌, max, true, MatchOption};
+ghost use Rattle.std.specs.Prelude.{◌≡◌, [], ◌∷◌, ◌++◌, ◌+◌, ◌≤◌, length, max, true, MatchOption, if◌then◌else◌};
 ghost use Rattle.std.specs.FinMap.{find, is_sorted};
+ghost use Rattle.std.specs.Ordering.{is_lt};
 ghost use Rattle.cns_tree.specs.Apart.{IsApart};
 ghost use Rattle.cns_terms.specs.Keys.{key_cmp};
 ghost use Rattle.cns_tree.specs.Search.{is_at_or_after, is_above};
-ghost use Rattle.cns_tree.specs.Shape.{IsLean};
+ghost use Rattle.cns_tree.specs.Shape.{IsLean, IsShallow};
 ghost use Rattle.std.specs.List.{find as first};
 
-use cns_terms::Key;
+use cns_terms::{Key, Probe};
 use std::alloc::Allocator;
+use std::cmp::Ordering;
 use std::marker::Model;
 use std::mem;
 
@@ -66,6 +68,19 @@ pub(crate) struct Parts<V: Copy, A: Allocator> {
     pub(crate) right: Subtree<V, A>,
 }
 
+impl<V: Copy, A: Allocator> Node<V, A> {
+    // The side of the keys that stand so to the node's.
+    fn side(&self, order: Ordering) -> &Subtree<V, A>
+        ensures { result.now ≡ (if is_lt order then self.now.left else self.now.right) }
+    {
+        if order.is_lt() {
+            &self.left
+        } else {
+            &self.right
+        }
+    }
+}
+
 impl<V: Copy, A: Allocator> Subtree<V, A> {
     /// No rows.
     pub(crate) fn empty() -> Self
@@ -90,14 +105,18 @@ impl<V: Copy, A: Allocator> Subtree<V, A> {
         })
     }
 
-    /// The value at a key.
-    pub fn get(&self, key: Key) -> Option<V>
-        ensures { result ≡ find key_cmp key self.now.0 }
+    /// The value at a probe's key, after at most one comparison for each level.
+    pub(crate) fn get(&self, probe: &mut Probe) -> Option<V>
+        ensures value { result ≡ find key_cmp probe.old.0 self.now.0 }
+        ensures key { probe.new.0 ≡ probe.old.0 }
+        ensures count { probe.new.1 ≤ probe.old.1 + self.now.1 }
+        ensures shallow { IsShallow (length self.now.0) self.now.1 }
     {
+        let _ = &self.top;
         let mut side = self;
         while let Some(node) = &side.top {
             let node: &Node<V, A> = node;
-            let order = key.cmp(&node.key);
+            let order = probe.compare(&node.key);
             if order.is_eq() {
                 return Some(node.value);
             }
@@ -108,6 +127,31 @@ impl<V: Copy, A: Allocator> Subtree<V, A> {
             };
         }
         None
+    }
+
+    /// The values at two keys. Both ways down are gone at once as far as both lead on, so that neither waits for the
+    /// memory that the other reads.
+    pub(crate) fn get_two(&self, first: Key, second: Key) -> (Option<V>, Option<V>)
+        ensures first { result.0 ≡ find key_cmp first self.now.0 }
+        ensures second { result.1 ≡ find key_cmp second self.now.0 }
+    {
+        let mut first_side = self;
+        let mut second_side = self;
+        while let (Some(first_node), Some(second_node)) = (&first_side.top, &second_side.top) {
+            let first_node: &Node<V, A> = first_node;
+            let second_node: &Node<V, A> = second_node;
+            let first_order = first.cmp(&first_node.key);
+            let second_order = second.cmp(&second_node.key);
+            if first_order.is_eq() || second_order.is_eq() {
+                break;
+            }
+            first_side = first_node.side(first_order);
+            second_side = second_node.side(second_order);
+        }
+        (
+            first_side.get(&mut Probe::new(first)),
+            second_side.get(&mut Probe::new(second)),
+        )
     }
 
     /// The first row whose key is the key or above it.
@@ -158,6 +202,8 @@ pub(crate) fn join<V: Copy, A: Allocator>(
     requires leans { IsLean lean left.1 right.1 }
     ensures { result ≡ (left.0 ++ (node.value.key, node.value.value) ∷ right.0, max left.1 right.1 + 1) }
 {
+    let _ = &left.top;
+    let _ = &right.top;
     node.left = left;
     node.lean = lean;
     node.right = right;

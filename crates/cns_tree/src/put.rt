@@ -1,14 +1,14 @@
 // The way down to a key's place, and back.
-ghost use Rattle.std.specs.Prelude.{◌≡◌, ◌+◌, ◌<◌, ◌⊎◌, [], ◌∷◌, is_some, true, if◌then◌else◌};
+ghost use Rattle.std.specs.Prelude.{◌≡◌, ◌+◌, ◌<◌, ◌≤◌, ◌⊎◌, [], ◌∷◌, length, is_some, true, if◌then◌else◌};
 ghost use Rattle.std.specs.FinMap.{find};
 ghost use Rattle.std.specs.FinMap as rows;
 ghost use Rattle.cns_terms.specs.Keys.{key_cmp};
-ghost use Rattle.cns_tree.specs.Shape.{rise};
+ghost use Rattle.cns_tree.specs.Shape.{IsShallow, rise};
 
 use crate::node::{Lean, Node, Parts, Subtree, join};
 use crate::rotate::{Changed, join_left, join_right};
 use crate::spare::Spare;
-use cns_terms::Key;
+use cns_terms::{Key, Probe};
 use std::alloc::Allocator;
 use std::cmp::Ordering;
 
@@ -22,12 +22,23 @@ fn leaf<V: Copy, A: Allocator>(mut node: Box<Node<V, A>, A>, key: Key, value: V)
 }
 
 impl<V: Copy, A: Allocator> Subtree<V, A> {
-    /// Puts a value at a key, which takes a spare box where the key isn't there.
-    pub(crate) fn put(self, key: Key, value: V, spare: &mut Spare<V, A>) -> Changed<V, A>
-        requires { (is_some (find key_cmp key self.0) ≡ true) ⊎ (0 < spare.old) }
+    /// Puts a value at a key, which takes a spare box where the key isn't there. The probe is of the same key; there is at
+    /// most one comparison for each level.
+    pub(crate) fn put(
+        self,
+        key: Key,
+        value: V,
+        spare: &mut Spare<V, A>,
+        probe: &mut Probe,
+    ) -> Changed<V, A>
+        requires room { (is_some (find key_cmp key self.0) ≡ true) ⊎ (0 < spare.old) }
+        requires same { probe.old.0 ≡ key }
         ensures rows { result.side.0 ≡ rows.put key_cmp key value self.0 }
         ensures height { result.side.1 ≡ self.1 + rise result.is_higher }
         ensures spare { spare.new + (if is_some (find key_cmp key self.0) then 0 else 1) ≡ spare.old }
+        ensures key { probe.new.0 ≡ probe.old.0 }
+        ensures count { probe.new.1 ≤ probe.old.1 + self.1 }
+        ensures shallow { IsShallow (length self.0) self.1 }
     {
         let Some(
             Parts {
@@ -46,9 +57,9 @@ impl<V: Copy, A: Allocator> Subtree<V, A> {
                 is_higher: true,
             };
         };
-        match key.cmp(&node.key) {
+        match probe.compare(&node.key) {
             Ordering::Less => {
-                let left = left.put(key, value, spare);
+                let left = left.put(key, value, spare, probe);
                 join_left(left, node, lean, right)
             }
             Ordering::Equal => {
@@ -59,7 +70,7 @@ impl<V: Copy, A: Allocator> Subtree<V, A> {
                 }
             }
             Ordering::Greater => {
-                let right = right.put(key, value, spare);
+                let right = right.put(key, value, spare, probe);
                 join_right(left, node, lean, right)
             }
         }

@@ -1,8 +1,9 @@
 // The tree and its public calls.
-ghost use Rattle.std.specs.Prelude.{◌≡◌, ◌+◌, ◌<◌, ◌≤◌, ◌⊎◌, [], true, is_some, length, min, IfOk, IfSome, OnErr, if◌then◌else◌};
+ghost use Rattle.std.specs.Prelude.{◌≡◌, ◌+◌, ◌*◌, ◌<◌, ◌≤◌, ◌⊎◌, [], true, is_some, length, min, IfOk, IfSome, OnErr, if◌then◌else◌};
 ghost use Rattle.std.specs.FinMap.{find, is_sorted};
 ghost use Rattle.std.specs.FinMap as rows;
 ghost use Rattle.std.specs.List.{filter, find as first};
+ghost use Rattle.cns_terms.specs.Digits.{binary_digits};
 ghost use Rattle.cns_terms.specs.Keys.{key_cmp};
 ghost use Rattle.cns_tree.specs.Changes.{ChangesAt, ChangesEach};
 ghost use Rattle.cns_tree.specs.Search.{is_at_or_after, is_above, is_after};
@@ -11,7 +12,7 @@ use crate::build::{boxed, build};
 use crate::node::Subtree;
 use crate::spare::Spare;
 use crate::walk::Walk;
-use cns_terms::{Key, NoMemory};
+use cns_terms::{Key, NoMemory, Probe};
 use cns_units::{Account, Cusip};
 use std::alloc::Allocator;
 use std::marker::Model;
@@ -115,7 +116,26 @@ impl<V: Copy, A: Allocator + Clone> Tree<V, A> {
         ensures value { result ≡ find key_cmp key self.now }
         ensures rises { is_sorted key_cmp self.now ≡ true }
     {
-        self.root.get(key)
+        self.get_counted(&mut Probe::new(key))
+    }
+
+    /// The value at a probe's key, as `get` gives it, after at most two comparisons for each binary digit of the number of
+    /// rows.
+    pub fn get_counted(&self, probe: &mut Probe) -> Option<V>
+        ensures value { result ≡ find key_cmp probe.old.0 self.now }
+        ensures rises { is_sorted key_cmp self.now ≡ true }
+        ensures key { probe.new.0 ≡ probe.old.0 }
+        ensures count { probe.new.1 ≤ probe.old.1 + 2 * binary_digits (length self.now) }
+    {
+        self.root.get(probe)
+    }
+
+    /// The values at two keys, as `get` gives them one by one, for little more than the time of one.
+    pub fn get_two(&self, first: Key, second: Key) -> (Option<V>, Option<V>)
+        ensures first { result.0 ≡ find key_cmp first self.now }
+        ensures second { result.1 ≡ find key_cmp second self.now }
+    {
+        self.root.get_two(first, second)
     }
 
     /// Gives a key the value. Where the key has no row, that takes one box out of the spare; all other rows stay.
@@ -125,9 +145,24 @@ impl<V: Copy, A: Allocator + Clone> Tree<V, A> {
         ensures rises { is_sorted key_cmp self.new ≡ true }
         ensures spare { spare.new + (if is_some (find key_cmp key self.old) then 0 else 1) ≡ spare.old }
     {
+        let key = &key;
+        self.put_counted(*key, value, spare, &mut Probe::new(*key));
+    }
+
+    /// Gives a probe's key the value, as `put` does, after at most two comparisons for each binary digit of the number of
+    /// rows that there were.
+    pub fn put_counted(&mut self, key: Key, value: V, spare: &mut Spare<V, A>, probe: &mut Probe)
+        requires room { (is_some (find key_cmp key self.old) ≡ true) ⊎ (0 < spare.old) }
+        requires same { probe.old.0 ≡ key }
+        ensures rows { self.new ≡ rows.put key_cmp key value self.old }
+        ensures rises { is_sorted key_cmp self.new ≡ true }
+        ensures spare { spare.new + (if is_some (find key_cmp key self.old) then 0 else 1) ≡ spare.old }
+        ensures key { probe.new.0 ≡ probe.old.0 }
+        ensures count { probe.new.1 ≤ probe.old.1 + 2 * binary_digits (length self.old) }
+    {
         let held = spare.len();
         let root = mem::replace(&mut self.root, Subtree::empty());
-        self.root = root.put(key, value, spare).side;
+        self.root = root.put(key, value, spare, probe).side;
         if spare.len() < held {
             self.count = self.count.saturating_add(1);
         }
@@ -141,7 +176,20 @@ impl<V: Copy, A: Allocator + Clone> Tree<V, A> {
         ensures rows { ChangesAt (F.post change) key self.old self.new }
         ensures rises { is_sorted key_cmp self.new ≡ true }
     {
-        self.root.change(key, change)
+        self.change_counted(&mut Probe::new(key), change)
+    }
+
+    /// Changes the value at a probe's key, as `change` does, after at most two comparisons for each binary digit of the
+    /// number of rows.
+    pub fn change_counted<F: FnOnce(V) -> V>(&mut self, probe: &mut Probe, change: F) -> bool
+        requires { IfSome (find key_cmp probe.old.0 self.old) (F.pre change) }
+        ensures found { result ≡ is_some (find key_cmp probe.old.0 self.old) }
+        ensures rows { ChangesAt (F.post change) probe.old.0 self.old self.new }
+        ensures rises { is_sorted key_cmp self.new ≡ true }
+        ensures key { probe.new.0 ≡ probe.old.0 }
+        ensures count { probe.new.1 ≤ probe.old.1 + 2 * binary_digits (length self.old) }
+    {
+        self.root.change(probe, change)
     }
 
     /// Gives each value what `change` makes of it. It costs one pass over the rows.

@@ -1,5 +1,5 @@
 // The positions with which a day opens.
-ghost use Rattle.std.specs.Prelude.{◌≡◌, [], IfOk, IfSome, MatchOption, None, filter};
+ghost use Rattle.std.specs.Prelude.{◌≡◌, [], IfOk, IfSome, MatchOption, None, OnErr, filter, true};
 ghost use Rattle.std.specs.List.{flat_map, list_any};
 ghost use Rattle.cns_terms.specs.declared.holding.Key.{Key};
 ghost use Rattle.cns_terms.specs.Entries.{trade_entries};
@@ -44,10 +44,12 @@ impl<P: Positions<A>, A: Allocator + Drop + Clone> Parts<P, A> {
     // is: most days are opened so, and then no memory is asked for.
     pub(super) fn opened(&self, next: Day) -> Result<Option<P>, NoMemory>
         requires { HasRoom self.now }
-        ensures { IfOk result (λ o. MatchOption o (filter (is_due next) self.now.trades.pending ≡ [])
+        ensures opened { IfOk result (λ o. MatchOption o (filter (is_due next) self.now.trades.pending ≡ [])
             (λ p. (k : Key) → holding_at (P.rows p) k
             ≡ books (flat_map trade_entries (filter (is_due next) self.now.trades.pending)) k
             (rolled (holding_at self.now.rows k)))) }
+        ensures due { IfOk result (λ o. IfSome o (λ _. list_any (is_due next) self.now.trades.pending ≡ true)) }
+        ensures memory { OnErr result (list_any (is_due next) self.now.trades.pending ≡ true) }
     {
         let pending = self.trades.pending();
         if !is_any_due(pending, next) {

@@ -1,12 +1,12 @@
 // What the parts show.
-ghost use Rattle.std.specs.Prelude.{◌≡◌, ◌≤◌, Some, None, option_map, unsigned_abs};
+ghost use Rattle.std.specs.Prelude.{◌≡◌, ◌≤◌, Some, None, option_map, unsigned_abs, if◌then◌else◌};
 ghost use Rattle.std.specs.Arc.{arc_value};
 ghost use Rattle.std.specs.Option.{ForSome, option_copied};
 ghost use Rattle.cns_terms.specs.declared.command.Command.TheVariants as command;
 ghost use Rattle.cns_terms.specs.Days.{date, day};
 ghost use Rattle.cns_terms.specs.Fills.{batches};
 ghost use Rattle.cns_terms.specs.Limits.{position_limit};
-ghost use Rattle.cns_terms.specs.Listings.{is_account, is_listed, is_retired};
+ghost use Rattle.cns_terms.specs.Listings.{is_account, is_listed, is_member, is_retired};
 ghost use Rattle.cns_terms.specs.Holdings.{holding};
 ghost use Rattle.cns_terms.specs.Machine.{answer_over};
 ghost use Rattle.cns_terms.specs.Refusals.{first_refusal};
@@ -96,6 +96,40 @@ impl<P: Positions<A>, A: Allocator + Drop + Clone> Parts<P, A> {
         self.positions.get(key)
     }
 
+    /// What stands at two accounts' places in an issue, which are looked up at once.
+    #[inline(always)]
+    pub fn two_holdings(&self, first: Account, second: Account, issue: Cusip) -> (Holding, Holding)
+        ensures first { Shows self.now (λ J. result.0 ≡ holding J first issue) }
+        ensures second { Shows self.now (λ J. result.1 ≡ holding J second issue) }
+        ensures first_member { HasRoom self.now → 1 ≤ first → unsigned_abs result.0.now ≤ position_limit }
+        ensures second_member { HasRoom self.now → 1 ≤ second → unsigned_abs result.1.now ≤ position_limit }
+    {
+        let issue = &issue;
+        self.positions.get_two(
+            Key {
+                account: first,
+                issue: *issue,
+            },
+            Key {
+                account: second,
+                issue: *issue,
+            },
+        )
+    }
+
+    /// A position, None where the account that has it is no member's.
+    pub fn if_member(&self, member: Member, position: i64) -> Option<i64>
+        ensures value { Shows self.now (λ J. result ≡ (if is_member J member then Some position else None)) }
+        ensures member { 1 ≤ member }
+        ensures same { ForSome result (λ q. q ≡ position) }
+    {
+        if self.members.contains(member.account()) {
+            Some(position)
+        } else {
+            None
+        }
+    }
+
     /// A member's position, None where it is no member.
     pub fn member_position(&self, member: Member, issue: Cusip) -> Option<i64>
         ensures value { Shows self.now (λ J. result ≡ member_position J member issue) }
@@ -110,8 +144,8 @@ impl<P: Positions<A>, A: Allocator + Drop + Clone> Parts<P, A> {
         }
     }
 
-    // Why a POSITION is refused.
-    fn position_refusal(&self, key: Key) -> Option<Refusal>
+    /// Why a POSITION is refused.
+    pub fn position_refusal(&self, key: Key) -> Option<Refusal>
         ensures { Refuses self.now (command.Position key) result }
     {
         if !self.is_account(key.account) {

@@ -9,7 +9,7 @@ ghost use Rattle.cns_book.specs.Follows.{AreMoveFacts, AreTradeFacts, Answers, H
 use crate::effect::{book, prepare};
 use crate::parts::Parts;
 use cns_positions::Positions;
-use cns_terms::{Key, Movement, NoMemory, Reply, Trade};
+use cns_terms::{Movement, NoMemory, Reply, Trade};
 use cns_trades::{MoveFacts, TradeFacts};
 use cns_units::Account;
 use std::alloc::Allocator;
@@ -23,12 +23,15 @@ impl<P: Positions<A>, A: Allocator + Drop + Clone> Parts<P, A> {
         ensures seller { ForSome result.seller (λ q. unsigned_abs q ≤ position_limit) }
     {
         // The positions first: their rows may be far away, and what follows needn't wait for them.
-        let buyer = self.member_position(trade.buyer, trade.issue);
-        let seller = self.member_position(trade.seller, trade.issue);
+        let (buyer, seller) = self.two_holdings(
+            trade.buyer.account(),
+            trade.seller.account(),
+            trade.issue,
+        );
         let (listed, retired) = self.listed_and_retired(trade.issue);
         TradeFacts {
-            buyer,
-            seller,
+            buyer: self.if_member(trade.buyer, buyer.now),
+            seller: self.if_member(trade.seller, seller.now),
             listed,
             retired,
             today: self.today,
@@ -39,16 +42,15 @@ impl<P: Positions<A>, A: Allocator + Drop + Clone> Parts<P, A> {
     fn move_facts(&self, movement: &Movement) -> MoveFacts
         ensures facts { Shows self.now (λ J. AreMoveFacts J movement.now result) }
     {
-        let corporation = Key {
-            account: Account::CORPORATION,
-            issue: movement.issue,
-        };
-        let member = self.member_position(movement.member, movement.issue);
-        let corporation = self.holding(corporation).now;
+        let (member, corporation) = self.two_holdings(
+            movement.member.account(),
+            Account::CORPORATION,
+            movement.issue,
+        );
         let (listed, retired) = self.listed_and_retired(movement.issue);
         MoveFacts {
-            member,
-            corporation,
+            member: self.if_member(movement.member, member.now),
+            corporation: corporation.now,
             listed,
             retired,
         }

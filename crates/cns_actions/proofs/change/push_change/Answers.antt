@@ -1,8 +1,5 @@
-use Rattle.std.proofs.Common.{◌≡◌, ◌∙◌, ◌++◌, ap, sym, subst, List}
-use Rattle.std.specs.Prelude.{OnOk}
-use Rattle.cns_actions.specs.declared.action.Action.{Action}
-use Rattle.cns_actions.specs.declared.booking.Booking.{Booking}
-use Rattle.cns_actions.specs.Changes.{bookings_for, in_issue_order}
+use Rattle.std.proofs.Common.{◌≡◌, ◌∙◌, ◌++◌, ap, sym, subst, List, OnOk}
+use Rattle.cns_actions.proofs.Common.{Action, Booking, bookings_for, in_issue_order}
 use Rattle.cns_actions.proofs.change.push_change.Goals as goal
 
 pub returns-in-Exchange : goal.returns-in-Exchange

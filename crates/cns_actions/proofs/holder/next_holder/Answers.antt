@@ -1,9 +1,5 @@
 use Rattle.std.proofs.Common.{◌∙◌, Some, ap, sym}
-use Rattle.std.specs.List.{cons_option}
-use Rattle.cns_terms.specs.declared.holding.Holding.{Holding}
-use Rattle.cns_terms.specs.declared.holding.Key.{Key}
-use Rattle.cns_positions.specs.Rows.{Rows}
-use Rattle.cns_actions.specs.Holding.{holders_after}
+use Rattle.cns_actions.proofs.Common.{Holding, Key, Rows, cons_option, holders_after}
 use Rattle.cns_actions.proofs.Skipping.{fewer_above, next_left, none_left, same_left}
 use Rattle.cns_actions.proofs.holder.next_holder.Goals as goal
 

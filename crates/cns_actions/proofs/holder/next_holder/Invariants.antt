@@ -1,6 +1,5 @@
 use Rattle.std.proofs.Common.{◌≡◌, length}
-use Rattle.cns_positions.specs.Rows.{held_above}
-use Rattle.cns_actions.specs.Holding.{holders_after}
+use Rattle.cns_actions.proofs.Common.{held_above, holders_after}
 use Rattle.cns_actions.proofs.holder.next_holder.Given as goal
 
 abbrev pub invariant-loop-row : goal.invariant-loop-row

@@ -1,10 +1,7 @@
 use Rattle.std.proofs.Common.{◌∙◌, sym, ap, subst, None}
-use Rattle.std.specs.List.{AllByRecursion}
-use Rattle.cns_positions.specs.Rows.{held_above}
-use Rattle.cns_positions.proofs.Unheld.{held_same, held_sorted}
-use Rattle.cns_actions.specs.Merging.{HasSpace, IsMerged, makes}
+use Rattle.cns_actions.proofs.Common.{AllByRecursion, HasSpace, IsMerged, held_above, held_same, held_sorted, makes, turned_rows}
 use Rattle.cns_actions.proofs.Merges.{merged_at, merged_done, merged_sorted}
-use Rattle.cns_actions.specs.Turns.{turned, turned_rows}
+use Rattle.cns_actions.specs.Turns.{turned}
 use Rattle.cns_actions.proofs.Turning.{sorted_turned, space_turned, turned_at}
 use Rattle.cns_actions.proofs.Walking.{each_held}
 use Rattle.cns_actions.proofs.merging.merged.Goals as goal

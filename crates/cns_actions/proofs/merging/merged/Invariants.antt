@@ -1,7 +1,5 @@
 use Rattle.std.proofs.Common.{◌++◌, ◌+◌, None, length}
-use Rattle.cns_positions.specs.Rows.{Rows, held_above}
-use Rattle.cns_actions.specs.Merging.{IsMerged}
-use Rattle.cns_actions.specs.Turns.{turned_rows}
+use Rattle.cns_actions.proofs.Common.{IsMerged, Rows, held_above, turned_rows}
 use Rattle.cns_actions.proofs.merging.merged.Given as goal
 
 abbrev pub invariant-loop-row : goal.invariant-loop-row

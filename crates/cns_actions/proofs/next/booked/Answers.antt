@@ -1,12 +1,6 @@
 use Rattle.std.proofs.Common.{◌≡◌, ◌∙◌, ap, subst, List, IfOk}
-use Rattle.std.specs.FinMap.{is_sorted}
-use Rattle.cns_terms.specs.declared.holding.Holding.{Holding}
-use Rattle.cns_terms.specs.declared.holding.Key.{Key}
-use Rattle.cns_terms.specs.Keys.{key_cmp}
-use Rattle.cns_positions.specs.Rows.{Rows, holding_at}
-use Rattle.cns_actions.specs.declared.booking.Booking.{Booking}
-use Rattle.cns_actions.specs.Booked.{issue_of}
-use Rattle.cns_actions.specs.Merging.{by_key, makes}
+use Rattle.cns_actions.proofs.Common.{Booking, Holding, Key, Rows, holding_at, is_sorted, issue_of, key_cmp, makes}
+use Rattle.cns_actions.specs.Merging.{by_key}
 use Rattle.cns_actions.proofs.BookingOrder.{all_sorted, has_space}
 use Rattle.cns_actions.proofs.Holders.{all_listed, all_shown}
 use Rattle.cns_actions.proofs.next.booked.Goals as goal

@@ -1,12 +1,5 @@
 use Rattle.std.proofs.Common.{◌≡◌, ◌∙◌, ◌++◌, sym, ap, subst, unsigned_abs, ◌≤◌, flat_map}
-use Rattle.std.specs.List.{AllByRecursion}
-use Rattle.cns_terms.specs.Entries.{corporation}
-use Rattle.cns_terms.specs.Holdings.{oldest_of}
-use Rattle.cns_terms.specs.Limits.{position_limit}
-use Rattle.cns_positions.specs.Rows.{holding_at}
-use Rattle.cns_actions.specs.declared.holder.Holder.{Holder}
-use Rattle.cns_actions.specs.Changes.{bookings_for, member_bookings, opposite}
-use Rattle.cns_actions.specs.Merging.{AreSmall}
+use Rattle.cns_actions.proofs.Common.{AllByRecursion, AreSmall, Holder, bookings_for, corporation, holding_at, member_bookings, oldest_of, opposite, position_limit}
 use Rattle.cns_actions.proofs.BookingOrder.{bookings_next, small_bookings}
 use Rattle.cns_actions.proofs.Holders.{all_listed}
 use Rattle.cns_actions.proofs.Summing.{all_left}

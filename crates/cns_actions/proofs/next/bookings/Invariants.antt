@@ -1,12 +1,5 @@
 use Rattle.std.proofs.Common.{◌≡◌, ◌≤◌, ◌++◌, None, length, unsigned_abs, flat_map}
-use Rattle.std.specs.List.{AllByRecursion}
-use Rattle.cns_terms.specs.Entries.{corporation}
-use Rattle.cns_terms.specs.Holdings.{oldest_of}
-use Rattle.cns_terms.specs.Limits.{position_limit}
-use Rattle.cns_positions.specs.Rows.{held_above, holding_at}
-use Rattle.cns_actions.specs.Changes.{all_bookings, has_position_or_age, holders_in, member_bookings}
-use Rattle.cns_actions.specs.Holding.{holders_after}
-use Rattle.cns_actions.specs.Merging.{AreSmall}
+use Rattle.cns_actions.proofs.Common.{AllByRecursion, AreSmall, all_bookings, corporation, has_position_or_age, held_above, holders_after, holders_in, holding_at, member_bookings, oldest_of, position_limit}
 use Rattle.cns_actions.proofs.next.bookings.Given as goal
 
 abbrev pub invariant-loop-holder : goal.invariant-loop-holder

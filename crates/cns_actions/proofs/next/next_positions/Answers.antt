@@ -1,10 +1,6 @@
 use Rattle.std.proofs.Common.{◌≡◌, ◌∙◌, sym, ap, refl, Bool, true, false}
-use Rattle.cns_terms.specs.Entries.{corporation}
-use Rattle.cns_terms.specs.Holdings.{oldest_of}
-use Rattle.cns_positions.specs.Rows.{holding_at}
-use Rattle.cns_actions.specs.Booked.{issue_of}
-use Rattle.cns_actions.specs.Changes.{all_bookings, all_holders_of}
-use Rattle.cns_actions.specs.Merging.{makes}
+use Rattle.cns_actions.proofs.Common.{all_bookings, corporation, holding_at, issue_of, makes, oldest_of}
+use Rattle.cns_actions.specs.Changes.{all_holders_of}
 use Rattle.cns_actions.proofs.BookingLimits.{same_large}
 use Rattle.cns_actions.proofs.BookingSums.{same_makes}
 use Rattle.cns_actions.proofs.next.next_positions.Goals as goal

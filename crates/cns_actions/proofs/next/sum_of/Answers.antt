@@ -1,10 +1,6 @@
 use Rattle.std.proofs.Common.{◌∙◌, pos, ◌+ℤ◌, sym, ap, None}
-use Rattle.std.specs.List.{list_any}
-use Rattle.cns_terms.proofs.Facts.{zero_add}
-use Rattle.cns_positions.specs.Rows.{held_above}
-use Rattle.cns_units.specs.declared.cusip.Cusip.{Cusip}
-use Rattle.cns_actions.specs.declared.change.Change.{Change}
-use Rattle.cns_actions.specs.Changes.{has_position, holders_in, sum_of, takes_beyond}
+use Rattle.cns_actions.proofs.Common.{Change, Cusip, has_position, held_above, holders_in, list_any, zero_add}
+use Rattle.cns_actions.specs.Changes.{sum_of, takes_beyond}
 use Rattle.cns_actions.proofs.Summing.{beyond_found, fits_next, next_kept, next_within, plus, positions_left, sum_next, up_first, up_next}
 use Rattle.cns_actions.proofs.next.sum_of.Goals as goal
 

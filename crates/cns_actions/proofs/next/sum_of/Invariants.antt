@@ -1,8 +1,6 @@
 use Rattle.std.proofs.Common.{◌≡◌, None, length}
-use Rattle.std.specs.List.{list_any}
-use Rattle.cns_positions.specs.Rows.{held_above}
-use Rattle.cns_actions.specs.Changes.{has_position, holders_in, sum_of, takes_beyond, with_position}
-use Rattle.cns_actions.specs.Holding.{holders_after}
+use Rattle.cns_actions.proofs.Common.{has_position, held_above, holders_after, holders_in, list_any, with_position}
+use Rattle.cns_actions.specs.Changes.{sum_of, takes_beyond}
 use Rattle.cns_actions.proofs.Summing.{IsUpTo, plus}
 use Rattle.cns_actions.proofs.next.sum_of.Given as goal
 

@@ -1,12 +1,6 @@
 use Rattle.std.proofs.Common.{◌≡◌, ◌∙◌, ap, subst, sym, map, true, List}
-use Rattle.std.specs.FinMap.{is_sorted}
-use Rattle.cns_terms.specs.declared.holding.Holding.{Holding}
-use Rattle.cns_terms.specs.declared.holding.Key.{Key}
-use Rattle.cns_terms.specs.Keys.{key_cmp}
-use Rattle.cns_positions.specs.Rows.{books}
-use Rattle.cns_actions.specs.declared.booking.Booking.{Booking}
-use Rattle.cns_actions.specs.Merging.{AreSmall, by_key, makes}
-use Rattle.cns_actions.specs.DueAmounts.{due_entries, as_booking}
+use Rattle.cns_actions.proofs.Common.{AreSmall, Booking, Holding, Key, as_booking, books, due_entries, is_sorted, key_cmp, makes}
+use Rattle.cns_actions.specs.Merging.{by_key}
 use Rattle.cns_actions.proofs.DueAmounts.{bookings_make, with_holding, amounts_small, sorted_bookings, value_ok}
 use Rattle.cns_actions.proofs.opening.bookings_due.Goals as goal
 

@@ -1,10 +1,5 @@
 use Rattle.std.proofs.Common.{◌≡◌, ◌∙◌, ap, subst, IfOk, List}
-use Rattle.cns_terms.specs.declared.holding.Holding.{Holding}
-use Rattle.cns_terms.specs.declared.holding.Key.{Key}
-use Rattle.cns_positions.specs.Rows.{Rows, books, holding_at, rolled}
-use Rattle.cns_actions.specs.declared.booking.Booking.{Booking}
-use Rattle.cns_actions.specs.DueAmounts.{due_entries}
-use Rattle.cns_actions.specs.Merging.{makes}
+use Rattle.cns_actions.proofs.Common.{Booking, Holding, Key, Rows, books, due_entries, holding_at, makes, rolled}
 use Rattle.cns_actions.proofs.BookingOrder.{has_space}
 use Rattle.cns_actions.proofs.opening.opened.Goals as goal
 

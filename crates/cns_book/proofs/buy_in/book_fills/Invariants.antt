@@ -1,7 +1,5 @@
 use Rattle.std.proofs.Common.{◌≡◌, take}
-use Rattle.cns_terms.specs.declared.holding.Key.{Key}
-use Rattle.cns_positions.specs.Rows.{books, holding_at}
-use Rattle.cns_book.specs.Executions.{entries_by}
+use Rattle.cns_book.proofs.Common.{Key, books, entries_by, holding_at}
 use Rattle.cns_book.proofs.buy_in.book_fills.Given as goal
 
 abbrev pub invariant-loop-fill : goal.invariant-loop-fill

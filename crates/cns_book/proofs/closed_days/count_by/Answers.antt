@@ -1,7 +1,5 @@
 use Rattle.std.proofs.Common.{rules}
-use Rattle.std.specs.Arc.{arc_value}
-use Rattle.std.proofs.lemmas.List.Sorted.{IsPartitionPoint-from_clause}
-use Rattle.cns_book.specs.Dated.{is_dated_by}
+use Rattle.cns_book.proofs.Common.{IsPartitionPoint-from_clause, arc_value, is_dated_by}
 use Rattle.cns_book.proofs.ClosingSteps.{le_test}
 use Rattle.cns_book.proofs.ClosedDaysSearch.{dated_parted}
 use Rattle.cns_book.proofs.closed_days.count_by.Goals as goal

@@ -1,9 +1,6 @@
-use Rattle.std.proofs.Common.{◌∙◌, ◌^◌, ◌≤◌, sym, ap, refl, subst}
-use Rattle.std.specs.Prelude.{unsigned_abs}
-use Rattle.std.proofs.lemmas.List.{take_all}
-use Rattle.cns_terms.specs.declared.holding.Holding.{Holding}
-use Rattle.cns_positions.specs.Rows.{booked, books, holding_at}
-use Rattle.cns_trades.specs.Checks.{IsSmallEntry}
+use Rattle.std.proofs.Common.{◌∙◌, ◌^◌, ◌≤◌, sym, ap, refl, subst, unsigned_abs, take_all}
+use Rattle.cns_book.proofs.Common.{Holding, IsSmallEntry, books, holding_at}
+use Rattle.cns_positions.specs.Rows.{booked}
 use Rattle.cns_book.specs.Effects.{place_of}
 use Rattle.cns_book.proofs.EffectEntries.{books_step, cents_fit, place_at, shares_fit, small_at}
 use Rattle.cns_book.proofs.EffectPlaces.{books_none}

@@ -1,6 +1,5 @@
 use Rattle.std.proofs.Common.{◌≡◌, take}
-use Rattle.cns_terms.specs.declared.holding.Key.{Key}
-use Rattle.cns_positions.specs.Rows.{books, holding_at}
+use Rattle.cns_book.proofs.Common.{Key, books, holding_at}
 use Rattle.cns_book.proofs.effect.book.Given as goal
 
 abbrev pub invariant-loop-entry : goal.invariant-loop-entry

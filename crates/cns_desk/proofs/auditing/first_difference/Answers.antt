@@ -1,5 +1,5 @@
 use Rattle.std.proofs.Common.{arith, rules, ◌<◌}
-use Rattle.cns_terms.specs.History.{count}
+use Rattle.cns_terms.proofs.Common.{count}
 use Rattle.cns_desk.proofs.Differences.{same_more, too_many, misfit, too_few, whole}
 use Rattle.cns_desk.proofs.auditing.first_difference.Goals as goal
 

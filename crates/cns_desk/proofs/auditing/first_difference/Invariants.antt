@@ -1,5 +1,5 @@
 use Rattle.std.proofs.Common.{◌≤◌, ℕ}
-use Rattle.cns_terms.specs.History.{count}
+use Rattle.cns_terms.proofs.Common.{count}
 use Rattle.cns_desk.specs.Parts.{SameAt}
 use Rattle.cns_desk.proofs.auditing.first_difference.Given as goal
 

@@ -1,5 +1,4 @@
-use denote.Param.Send.{sendable}
-use Rattle.std.proofs.Crossing.{crosses}
+use Rattle.cns_terms.proofs.Common.{crosses, sendable}
 use Rattle.cns_desk.proofs.Crossing.{desk_sync, done_send, seat_send}
 use Rattle.cns_desk.proofs.threads.start.Goals as goal
 

@@ -1,5 +1,5 @@
 use Rattle.std.proofs.Common.{◌≡◌, ◌∙◌, sym, rules, refl, false}
-use Rattle.std.specs.Str.{all_ascii_digits}
+use Rattle.cns_terms.proofs.Common.{all_ascii_digits}
 use Rattle.cns_feed.proofs.DigitLemmas.{digits-step, digits-stop, saturated-step}
 use Rattle.cns_feed.proofs.digits.capped.Goals as goal
 

@@ -1,6 +1,5 @@
 use Rattle.std.proofs.Common.{◌≡◌, ◌^◌, ◌<◌, take, drop}
-use Rattle.std.specs.Str.{all_ascii_digits}
-use Rattle.std.specs.Str.Parse.{digits_value}
+use Rattle.cns_terms.proofs.Common.{all_ascii_digits, digits_value}
 use Rattle.cns_feed.proofs.digits.exact.Given as goal
 
 abbrev pub invariant-loop-byte : goal.invariant-loop-byte

@@ -1,6 +1,6 @@
 -- The buffer keeps its length, and a call that was interrupted consumes nothing.
 use Rattle.std.proofs.Common.{◌≡◌, length}
-use Rattle.std.specs.Io.KnownBytes.{Keeps}
+use Rattle.cns_terms.proofs.Common.{Keeps}
 use Rattle.cns_feed.proofs.given.read_some.Given as goal
 
 abbrev pub invariant-loop : goal.invariant-loop

@@ -1,6 +1,5 @@
-use Rattle.std.proofs.Common.{◌≡◌, ℕ, List, ◌++◌, drop}
-use Rattle.std.specs.List.{flat_map}
-use Rattle.std.specs.Io.KnownBytes.{Appends}
+use Rattle.std.proofs.Common.{◌≡◌, ℕ, List, ◌++◌, drop, flat_map}
+use Rattle.cns_terms.proofs.Common.{Appends}
 use Rattle.cns_feed.specs.Text.{liable_line}
 use Rattle.cns_feed.proofs.liable.write_batch.Given as goal
 

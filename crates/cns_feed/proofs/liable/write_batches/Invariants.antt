@@ -1,5 +1,5 @@
 use Rattle.std.proofs.Common.{◌≡◌, ℕ, List, ◌++◌, drop}
-use Rattle.std.specs.Io.KnownBytes.{Appends}
+use Rattle.cns_terms.proofs.Common.{Appends}
 use Rattle.cns_feed.specs.Text.{batches_text}
 use Rattle.cns_feed.proofs.liable.write_batches.Given as goal
 

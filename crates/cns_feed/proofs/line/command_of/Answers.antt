@@ -1,5 +1,5 @@
 use Rattle.std.proofs.Common.{◌≡◌, ◌∙◌, codes, sym, refl}
-use Rattle.std.proofs.lemmas.Slice.Eq.{bytes_eq-Decides}
+use Rattle.cns_terms.proofs.Common.{bytes_eq-Decides}
 use Rattle.csv.specs.Records.{fields_of}
 use Rattle.cns_feed.specs.Line.{Record, field, line_of, trade_line}
 use Rattle.cns_feed.proofs.line.command_of.Goals as goal

@@ -1,5 +1,5 @@
 use Rattle.std.proofs.Common.{◌≡◌, ◌+◌, ◌-◌, arith, inr, None}
-use Rattle.std.proofs.lemmas.Result.{err_from_is_err_and}
+use Rattle.cns_terms.proofs.Common.{err_from_is_err_and}
 use Rattle.cns_feed.proofs.PlayLemmas.{along-all, along-line, along-longer, along-none, room-line, up_to-less, up_to-line, up_to-none}
 use Rattle.cns_feed.proofs.RecordLemmas.{ends-any}
 use Rattle.cns_feed.proofs.loader.take_all.Goals as goal

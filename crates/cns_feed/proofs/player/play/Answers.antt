@@ -1,6 +1,6 @@
 use Rattle.std.proofs.Common.{◌≡◌, ◌+◌, ◌-◌, arith, inl, inr}
+use Rattle.cns_terms.proofs.Common.{err_from_is_err_and}
 use Rattle.std.proofs.KnownBytes.{Keeps-refl}
-use Rattle.std.proofs.lemmas.Result.{err_from_is_err_and}
 use Rattle.cns_feed.proofs.PlayLemmas.{along-all, along-at, along-between, along-kept, along-line, along-none, leaves-not_full, room-line, up_to-less, up_to-line, up_to-none}
 use Rattle.cns_feed.proofs.RecordLemmas.{ends-any, ends-not_full}
 use Rattle.cns_feed.proofs.player.play.Goals as goal

@@ -1,5 +1,5 @@
 use Rattle.std.proofs.Common.{◌<◌, length}
-use Rattle.std.proofs.lemmas.Result.{err_from_is_err_and}
+use Rattle.cns_terms.proofs.Common.{err_from_is_err_and}
 use Rattle.cns_feed.proofs.PlayLemmas.{counts-known, ended-known, stops-known, stops-unread}
 use Rattle.cns_feed.proofs.player.replay_up_to.Goals as goal
 

@@ -1,5 +1,5 @@
-use Rattle.std.proofs.lemmas.Result.{err_from_is_err_and}
-use Rattle.cns_units.proofs.OutputLemmas.{front_longer, writes_then}
+use Rattle.cns_terms.proofs.Common.{err_from_is_err_and, front_longer}
+use Rattle.cns_units.proofs.OutputLemmas.{writes_then}
 use Rattle.cns_book.specs.Log.{state_of}
 use Rattle.cns_feed.specs.Output.{rest_text}
 use Rattle.cns_feed.specs.Text.{reply_line}

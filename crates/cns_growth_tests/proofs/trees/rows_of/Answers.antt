@@ -1,7 +1,6 @@
 use Rattle.std.proofs.Common.{length, ap}
-use Rattle.std.specs.Iterator.{YieldsFirst}
+use Rattle.cns_terms.proofs.Common.{YieldsFirst, YieldsList-from_shown}
 use Rattle.std.proofs.lemmas.Iterator.{items_from_collect}
-use Rattle.std.proofs.lemmas.Iterator.Consumers.{YieldsList-from_shown}
 use Rattle.cns_growth_tests.proofs.trees.rows_of.Goals as goal
 
 pub returns : goal.returns

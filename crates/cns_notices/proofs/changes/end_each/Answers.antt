@@ -1,5 +1,5 @@
 use Rattle.std.proofs.Common.{ℕ, ◌-◌, ap, get_or}
-use Rattle.cns_notices.specs.Latest.{Place}
+use Rattle.cns_notices.proofs.Common.{Place}
 use Rattle.cns_notices.proofs.Ends.{step_same, step_within}
 use Rattle.cns_notices.proofs.changes.end_each.Goals as goal
 

@@ -1,6 +1,5 @@
 use Rattle.std.proofs.Common.{◌≡◌, ◌<◌, ◌≤◌, length}
-use Rattle.std.specs.List.{AllByRecursion}
-use Rattle.cns_notices.specs.Latest.{ended_each}
+use Rattle.cns_notices.proofs.Common.{AllByRecursion, ended_each}
 use Rattle.cns_notices.proofs.changes.end_each.Given as goal
 
 abbrev pub invariant-loop-number : goal.invariant-loop-number

@@ -1,7 +1,6 @@
 use Rattle.std.proofs.Common.{◌∙◌, ap, get_or, set, arith}
+use Rattle.cns_notices.proofs.Common.{Expired, brought_to}
 use Rattle.std.proofs.lemmas.List.Edits.{map_over_more}
-use Rattle.cns_terms.specs.declared.buy_in.Stage.TheVariants.{Expired}
-use Rattle.cns_notices.specs.Noticed.{brought_to}
 use Rattle.cns_notices.proofs.changes.expire_each.Goals as goal
 
 pub loop-noticed-preserved : goal.loop-noticed-preserved

@@ -1,6 +1,5 @@
 use Rattle.std.proofs.Common.{◌≡◌, take, drop, map, ◌++◌}
-use Rattle.cns_terms.specs.declared.buy_in.Stage.TheVariants.{Expired}
-use Rattle.cns_notices.specs.Noticed.{brought_to}
+use Rattle.cns_notices.proofs.Common.{Expired, brought_to}
 use Rattle.cns_notices.proofs.changes.expire_each.Given as goal
 
 abbrev pub invariant-loop-noticed : goal.invariant-loop-noticed

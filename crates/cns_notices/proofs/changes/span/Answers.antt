@@ -1,6 +1,6 @@
 use Rattle.std.proofs.Common.{ltb, leb, rules}
-use Rattle.std.proofs.lemmas.List.Sorted.{IsPartitionedBy-leb, IsPartitionedBy-ltb, IsPartitionPoint-from_clause}
-use Rattle.cns_notices.specs.declared.noticed.Noticed.{Noticed}
+use Rattle.cns_notices.proofs.Common.{IsPartitionPoint-from_clause, Noticed}
+use Rattle.std.proofs.lemmas.List.Sorted.{IsPartitionedBy-leb, IsPartitionedBy-ltb}
 use Rattle.cns_notices.proofs.Expires.{in_order}
 use Rattle.cns_notices.proofs.changes.span.Goals as goal
 

@@ -1,5 +1,5 @@
 use Rattle.std.proofs.Common.{◌∙◌, w64, arith}
-use Rattle.std.specs.Int.{w128}
+use Rattle.cns_terms.proofs.Common.{w128}
 use Rattle.std.proofs.lemmas.Int.{to_z-of_z}
 use Rattle.cns_positions.specs.Rows.{booked, entry_of}
 use Rattle.cns_actions.proofs.Reachable.{can_added}

@@ -1,7 +1,5 @@
 use Rattle.std.proofs.Common.{◌≡◌, ◌↔◌, refl, subst, sym, Bool, true, false, not}
-use Rattle.std.proofs.lemmas.Slice.Eq.{bytes_eq-Decides}
-use Rattle.cns_units.specs.declared.cusip.Cusip.{Cusip}
-use Rattle.cns_terms.specs.Sums.{same_issue}
+use Rattle.cns_terms.proofs.Common.{Cusip, bytes_eq-Decides, same_issue}
 use Rattle.cns_actions.specs.Booked.{IsForAnother}
 use Rattle.cns_parts_tests.proofs.actions.is_for_another.Goals as goal
 

@@ -1,6 +1,5 @@
-use Rattle.std.proofs.Common.{◌≡◌, ◌∙◌, sym, ap, subst, ℕ, ◌+◌, ◌<◌, ◌≤◌, ◌^◌, ◌==◌, Bool, true, false, cond, [], ◌∷◌, Option, Some, None, arith}
-use Rattle.std.specs.Prelude.{bytes_eq, option_map}
-use Rattle.std.proofs.lemmas.List.Sums.{sum_by-cons}
+use Rattle.std.proofs.Common.{◌≡◌, ◌∙◌, sym, ap, subst, ℕ, ◌+◌, ◌<◌, ◌≤◌, ◌^◌, ◌==◌, Bool, true, false, cond, [], ◌∷◌, Option, Some, None, arith, bytes_eq, option_map}
+use Rattle.cns_terms.proofs.Common.{sum_by-cons}
 use Rattle.cns_terms.specs.declared.buy_in.Short.{Short}
 use Rattle.cns_retransmit.specs.Calls.{CalledIn, CanBeChosen, called_in, shorts_in, total_in, with_short}
 use Rattle.cns_parts_tests.proofs.batch_days.called.Goals as goal

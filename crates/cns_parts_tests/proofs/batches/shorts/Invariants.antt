@@ -1,5 +1,5 @@
 use Rattle.std.proofs.Common.{◌≡◌, ◌+◌, ◌≤◌, ◌^◌, sum_by}
-use Rattle.cns_units.specs.declared.account.Member.{Member}
+use Rattle.cns_terms.proofs.Common.{Member}
 use Rattle.cns_retransmit.specs.Chosen.{shorts_of}
 use Rattle.cns_parts_tests.proofs.batches.shorts.Given as goal
 

@@ -1,9 +1,5 @@
-use Rattle.std.proofs.Common.{◌≡◌, ◌∙◌, refl, sym, ap, subst, ℕ, ◌+◌, ◌<◌, ◌≤◌, ◌^◌, ◌==◌, Bool, true, false, cond, List, [], ◌∷◌, ◌++◌, Option, Some, None, arith}
-use Rattle.std.specs.Prelude.{bytes_eq, option_map}
-use Rattle.std.specs.Option.{ForSome, option_map_or}
-use Rattle.std.proofs.lemmas.Bool.{eqb-true, eq-eqb}
-use Rattle.std.proofs.lemmas.List.Sums.{sum_by-cons}
-use Rattle.std.proofs.lemmas.Slice.Eq.{bytes_eq-Decides}
+use Rattle.std.proofs.Common.{◌≡◌, ◌∙◌, refl, sym, ap, subst, ℕ, ◌+◌, ◌<◌, ◌≤◌, ◌^◌, ◌==◌, Bool, true, false, cond, List, [], ◌∷◌, ◌++◌, Option, Some, None, arith, bytes_eq, option_map, eqb-true, eq-eqb}
+use Rattle.cns_terms.proofs.Common.{ForSome, bytes_eq-Decides, option_map_or, sum_by-cons}
 use Rattle.cns_terms.specs.declared.buy_in.Short.{Short}
 use Rattle.cns_retransmit.specs.Calls.{CalledIn, CanBeChosen, called_in, shorts_in, with_short}
 use Rattle.cns_parts_tests.proofs.calls.give.Goals as goal

@@ -1,6 +1,5 @@
-use Rattle.std.proofs.Common.{inr, subst, sym}
-use Rattle.std.specs.List.{Contains}
-use Rattle.std.proofs.lemmas.List.Elements.{Contains-get_or}
+use Rattle.std.proofs.Common.{inr, subst, sym, Contains}
+use Rattle.cns_terms.proofs.Common.{Contains-get_or}
 use Rattle.cns_terms.specs.declared.holding.Key.{Key}
 use Rattle.cns_parts_tests.proofs.positions.book.Goals as goal
 

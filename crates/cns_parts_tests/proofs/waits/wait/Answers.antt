@@ -1,14 +1,6 @@
-use Rattle.std.proofs.Common.{◌≡◌, ◌∙◌, refl, sym, ap, subst, ℕ, ◌+◌, ◌≤◌, Bool, true, false, cond, ◌&&◌, ◌==◌, List, [], ◌∷◌, ◌++◌, arith}
-use Rattle.std.specs.Result.{OnOk}
-use Rattle.std.proofs.lemmas.Bool.{eqb-true}
-use Rattle.std.proofs.lemmas.List.Sums.{sum_by_push}
-use Rattle.std.proofs.lemmas.Slice.Eq.{bytes_eq-Decides}
+use Rattle.std.proofs.Common.{◌≡◌, ◌∙◌, refl, sym, ap, subst, ℕ, ◌+◌, ◌≤◌, Bool, true, false, cond, ◌&&◌, ◌==◌, List, [], ◌∷◌, ◌++◌, arith, OnOk, eqb-true}
+use Rattle.cns_terms.proofs.Common.{and_left, and_right, bought_by, bought_in, bytes_eq-Decides, pend_of, position_limit, same_issue, sold_by, sold_in, sum_by_push}
 use Rattle.cns_terms.specs.declared.pend.Pend.{Pend}
-use Rattle.cns_terms.specs.Limits.{position_limit}
-use Rattle.cns_terms.specs.Pending.{bought_in, pend_of, sold_in}
-use Rattle.cns_terms.specs.Sums.{same_issue}
-use Rattle.cns_terms.proofs.Facts.{and_left, and_right}
-use Rattle.cns_terms.proofs.Waiting.{bought_by, sold_by}
 use Rattle.cns_parts_tests.specs.Waits.{CanWait}
 use Rattle.cns_parts_tests.proofs.waits.wait.Goals as goal
 

@@ -1,8 +1,6 @@
 use Rattle.std.proofs.Common.{◌∙◌, ap, get_or, set, arith}
+use Rattle.cns_positions.proofs.Common.{Holding, Key, rolled}
 use Rattle.std.proofs.lemmas.List.Edits.{map_over_more}
-use Rattle.cns_terms.specs.declared.holding.Key.{Key}
-use Rattle.cns_terms.specs.declared.holding.Holding.{Holding}
-use Rattle.cns_positions.specs.Rows.{rolled}
 use Rattle.cns_positions.proofs.flat.close_all.Goals as goal
 
 pub loop-row-preserved : goal.loop-row-preserved

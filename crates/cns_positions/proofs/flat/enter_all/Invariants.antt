@@ -1,10 +1,6 @@
-use Rattle.std.proofs.Common.{◌≡◌, true, take}
-use Rattle.std.specs.FinMap.{is_sorted}
-use Rattle.std.specs.List.{Contains}
-use Rattle.cns_terms.specs.declared.holding.Key.{Key}
-use Rattle.cns_terms.specs.Keys.{key_cmp}
-use Rattle.cns_positions.specs.Rows.{holding_at, row_at}
-use Rattle.cns_positions.specs.Contents.{has_row}
+use Rattle.std.proofs.Common.{◌≡◌, true, take, Contains}
+use Rattle.cns_positions.proofs.Common.{Key, has_row, holding_at, is_sorted, key_cmp}
+use Rattle.cns_positions.specs.Rows.{row_at}
 use Rattle.cns_positions.proofs.flat.enter_all.Given as goal
 
 abbrev pub invariant-loop-key : goal.invariant-loop-key

@@ -1,5 +1,5 @@
 use Rattle.std.proofs.Common.{Bool, true, false, ◌≡◌, ◌∙◌, ◌++◌, None, sym, ap, drop, append-nil}
-use Rattle.cns_positions.specs.Rows.{held_above, is_held}
+use Rattle.cns_positions.proofs.Common.{held_above, is_held}
 use Rattle.cns_positions.proofs.Held.{each_push, held_more, held_split, present-push}
 use Rattle.cns_positions.proofs.flat.first_rows.Goals as goal
 use Rattle.cns_positions.proofs.flat.first_rows.Goals.{then-is_held, else-is_held}

@@ -1,13 +1,6 @@
-use Rattle.std.proofs.Common.{rules, ◌≡◌, ℕ, Result, Ok, Err, IfOk, IfErr, true}
-use Rattle.std.specs.declared.cmp.Ordering.TheVariants.{Less, Equal, Greater}
-use Rattle.std.specs.FinMap.{is_sorted}
-use Rattle.std.specs.List.{HoldsAt}
-use Rattle.std.specs.List.Sorted.{IsBinarySearchResult, IsPartitionPoint}
+use Rattle.std.proofs.Common.{rules, ◌≡◌, ℕ, Result, Ok, Err, IfOk, IfErr, true, Less, Equal, Greater, HoldsAt}
+use Rattle.cns_positions.proofs.Common.{IsBinarySearchResult, IsPartitionPoint, Key, Rows, is_sorted, key_cmp, keys_total, zeros}
 use Rattle.std.proofs.lemmas.Fn.{always_returns_same}
-use Rattle.cns_terms.specs.declared.holding.Key.{Key}
-use Rattle.cns_terms.specs.Keys.{key_cmp}
-use Rattle.cns_terms.proofs.Keys.{keys_total}
-use Rattle.cns_positions.specs.Rows.{Rows, zeros}
 use Rattle.cns_positions.proofs.Puts.{comparisons_rise}
 use Rattle.cns_positions.proofs.flat.place.Goals as goal
 

@@ -1,10 +1,6 @@
-use Rattle.std.proofs.Common.{rules}
+use Rattle.std.proofs.Common.{rules, is_le}
+use Rattle.cns_positions.proofs.Common.{Holding, IsPartitionPoint-from_clause, Key, key_cmp}
 use Rattle.std.proofs.lemmas.List.{take_rest}
-use Rattle.std.proofs.lemmas.List.Sorted.{IsPartitionPoint-from_clause}
-use Rattle.std.specs.Ordering.{is_le}
-use Rattle.cns_terms.specs.declared.holding.Key.{Key}
-use Rattle.cns_terms.specs.declared.holding.Holding.{Holding}
-use Rattle.cns_terms.specs.Keys.{key_cmp}
 use Rattle.cns_positions.proofs.Held.{above_parted, parted_at}
 use Rattle.cns_positions.proofs.flat.rows_above.Goals as goal
 

@@ -1,5 +1,5 @@
 use Rattle.std.proofs.Common.{◌≡◌, take, length}
-use Rattle.cns_positions.specs.Rows.{present}
+use Rattle.cns_positions.proofs.Common.{present}
 use Rattle.cns_positions.proofs.prepared.kept.Given as goal
 
 abbrev pub invariant-loop-key : goal.invariant-loop-key

@@ -1,6 +1,6 @@
 use Rattle.std.proofs.Common.{◌≡◌, ◌++◌, drop}
-use Rattle.cns_positions.specs.Rows.{holding_at}
-use Rattle.cns_positions.specs.Steps.{SumsFit, nowhere, replies}
+use Rattle.cns_positions.proofs.Common.{holding_at, nowhere}
+use Rattle.cns_positions.specs.Steps.{SumsFit, replies}
 use Rattle.cns_positions.proofs.steps.run.Given as goal
 
 abbrev pub invariant-loop-step : goal.invariant-loop-step

@@ -1,5 +1,6 @@
 use Rattle.std.proofs.Common.{◌≡◌, Option, None, Some, is_some, false, refl, sym, ◌∙◌}
-use Rattle.cns_positions.specs.Rows.{row_at, zeros}
+use Rattle.cns_positions.proofs.Common.{zeros}
+use Rattle.cns_positions.specs.Rows.{row_at}
 use Rattle.cns_positions.proofs.Entering.{at_error}
 use Rattle.cns_positions.proofs.Holdings.{row_put, row_stays, entered, other_row}
 use Rattle.cns_positions.proofs.tree.enter.Goals as goal

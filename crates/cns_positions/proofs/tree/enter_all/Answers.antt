@@ -1,6 +1,4 @@
-use Rattle.std.proofs.Common.{◌∙◌, sym, subst}
-use Rattle.std.specs.List.{Contains}
-use Rattle.std.proofs.lemmas.List.{take_all}
+use Rattle.std.proofs.Common.{◌∙◌, sym, subst, Contains, take_all}
 use Rattle.cns_positions.proofs.Entering.{absent_at, at_error, entered_more, others_all, others_more}
 use Rattle.cns_positions.proofs.tree.enter_all.Goals as goal
 

@@ -1,11 +1,6 @@
-use Rattle.std.proofs.Common.{◌≡◌, ◌∙◌, rules, length, ap, sym, refl, Option, None, Some}
-use Rattle.std.specs.Prelude.{option_map}
-use Rattle.std.specs.Iterator.{YieldsFirst}
+use Rattle.std.proofs.Common.{◌≡◌, ◌∙◌, rules, length, ap, sym, refl, Option, None, Some, option_map}
+use Rattle.cns_positions.proofs.Common.{Holding, Key, YieldsFirst, YieldsList-from_shown, is_held}
 use Rattle.std.proofs.lemmas.Iterator.Search.{find_from_yields_List}
-use Rattle.std.proofs.lemmas.Iterator.Consumers.{YieldsList-from_shown}
-use Rattle.cns_terms.specs.declared.holding.Key.{Key}
-use Rattle.cns_terms.specs.declared.holding.Holding.{Holding}
-use Rattle.cns_positions.specs.Rows.{is_held}
 use Rattle.cns_positions.proofs.tree.first_held.Goals as goal
 
 -- a map that changes nothing

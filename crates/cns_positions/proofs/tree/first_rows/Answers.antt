@@ -1,5 +1,5 @@
 use Rattle.std.proofs.Common.{true, ◌∙◌, ◌++◌, ◌∷◌, [], None, sym, ap, append_assoc}
-use Rattle.cns_positions.specs.Rows.{held_above}
+use Rattle.cns_positions.proofs.Common.{held_above}
 use Rattle.cns_positions.proofs.Changes.{held_append, held_push}
 use Rattle.cns_positions.proofs.Held.{each_push, present-push}
 use Rattle.cns_positions.proofs.tree.first_rows.Goals as goal

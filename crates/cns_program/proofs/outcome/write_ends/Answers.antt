@@ -1,4 +1,4 @@
-use Rattle.std.proofs.lemmas.Result.{err_from_is_err_and}
+use Rattle.cns_terms.proofs.Common.{err_from_is_err_and}
 use Rattle.cns_program.proofs.EndsTold.{lines_more, lines_failed}
 use Rattle.cns_program.proofs.outcome.write_ends.Goals as goal
 

@@ -1,5 +1,5 @@
 use Rattle.std.proofs.Common.{◌≡◌, ℕ, ◌+◌, List, ◌++◌, drop}
-use Rattle.std.specs.Io.KnownBytes.{Appends}
+use Rattle.cns_terms.proofs.Common.{Appends}
 use Rattle.cns_program.specs.Lines.{end_lines}
 use Rattle.cns_program.proofs.outcome.write_ends.Given as goal
 

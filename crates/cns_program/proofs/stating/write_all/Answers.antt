@@ -1,5 +1,4 @@
-use Rattle.std.proofs.lemmas.Result.{err_from_is_err_and}
-use Rattle.cns_units.proofs.Parts.{parts_more, parts_failed}
+use Rattle.cns_terms.proofs.Common.{err_from_is_err_and, parts_failed, parts_more}
 use Rattle.cns_program.specs.Days.{text_of_one}
 use Rattle.cns_program.proofs.stating.write_all.Goals as goal
 

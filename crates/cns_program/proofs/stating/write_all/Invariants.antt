@@ -1,5 +1,5 @@
 use Rattle.std.proofs.Common.{◌≡◌, ℕ, List, ◌++◌, drop}
-use Rattle.std.specs.Io.KnownBytes.{Appends}
+use Rattle.cns_terms.proofs.Common.{Appends}
 use Rattle.cns_program.specs.Days.{statements_text}
 use Rattle.cns_program.proofs.stating.write_all.Given as goal
 

@@ -1,5 +1,4 @@
-use Rattle.std.proofs.Common.{◌≡◌, rules}
-use Rattle.std.specs.Str.{IsUtf8}
+use Rattle.std.proofs.Common.{◌≡◌, rules, IsUtf8}
 use Rattle.cns_program.specs.Tally.{total_text}
 use Rattle.cns_program.proofs.Tallied.{total_is_text}
 use Rattle.cns_program.proofs.tally.amount.Goals as goal

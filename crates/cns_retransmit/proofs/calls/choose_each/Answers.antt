@@ -1,8 +1,5 @@
-use Rattle.std.proofs.Common.{◌∙◌, sym, ap, subst, Some}
-use Rattle.std.specs.List.{AllByRecursion}
-use Rattle.std.specs.Option.{option_to_list}
-use Rattle.cns_units.specs.declared.cusip.Cusip.{Cusip}
-use Rattle.cns_retransmit.specs.Calls.{CalledIn, CanBeChosen}
+use Rattle.std.proofs.Common.{◌∙◌, sym, ap, subst, Some, option_to_list}
+use Rattle.cns_retransmit.proofs.Common.{AllByRecursion, CalledIn, CanBeChosen, Cusip}
 use Rattle.cns_retransmit.proofs.Calling.{step_same}
 use Rattle.cns_retransmit.proofs.calls.choose_each.Goals as goal
 

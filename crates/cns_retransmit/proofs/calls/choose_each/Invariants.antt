@@ -1,6 +1,5 @@
 use Rattle.std.proofs.Common.{◌≡◌, ◌++◌}
-use Rattle.std.specs.List.{AllByRecursion}
-use Rattle.cns_retransmit.specs.Calls.{CanBeChosen, batches_of}
+use Rattle.cns_retransmit.proofs.Common.{AllByRecursion, CanBeChosen, batches_of}
 use Rattle.cns_retransmit.proofs.calls.choose_each.Given as goal
 
 abbrev pub invariant-loop-issue : goal.invariant-loop-issue

@@ -1,8 +1,5 @@
 use Rattle.std.proofs.Common.{◌≡◌, ◌∙◌, IfOk, sum_by, ap, subst, arith}
-use Rattle.cns_terms.specs.declared.buy_in.Short.{Short}
-use Rattle.cns_terms.specs.Batches.{chosen, fills_before}
-use Rattle.cns_terms.specs.Sums.{in_order}
-use Rattle.cns_retransmit.specs.Chosen.{chosen_of}
+use Rattle.cns_retransmit.proofs.Common.{Short, chosen, chosen_of, fills_before, in_order}
 use Rattle.cns_retransmit.proofs.Ordered.{chosen_in_order, oldest_first, order_is, sum_in_order}
 use Rattle.cns_retransmit.proofs.choice.choose.Goals as goal
 

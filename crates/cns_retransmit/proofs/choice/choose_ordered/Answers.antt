@@ -1,12 +1,9 @@
-use Rattle.std.proofs.Common.{◌≡◌, ℕ, ◌+◌, true, false, cond, nat_lt, List, [], ◌∷◌, ◌++◌, take, drop, subst, ap, sym, ◌∙◌, arith}
-use Rattle.std.proofs.lemmas.Bool.{le-ltb, lt-ltb, cond-false, cond-true}
-use Rattle.std.proofs.lemmas.List.{append-nil}
-use Rattle.cns_terms.specs.declared.buy_in.Short.{Short}
-use Rattle.cns_terms.specs.Batches.{liable_of}
+use Rattle.std.proofs.Common.{◌≡◌, ℕ, ◌+◌, true, false, cond, nat_lt, List, [], ◌∷◌, ◌++◌, take, drop, subst, ap, sym, ◌∙◌, arith, le-ltb, lt-ltb, append-nil}
+use Rattle.cns_retransmit.proofs.Common.{Short, cond-false, cond-true, liable_of}
 use Rattle.cns_retransmit.proofs.Choosing.{Choosing, choosing_starts, choosing_fits, choosing_more, older_next}
 use Rattle.cns_retransmit.proofs.Lists.{drop_next, take_next}
-use Rattle.cns_retransmit.proofs.choice.choose_ordered.Goals as goal
 use Rattle.cns_retransmit.proofs.choice.choose_ordered.Goals.{then-short-age, else-short-age, then-older-called+in_ok-push, else-older-called}
+use Rattle.cns_retransmit.proofs.choice.choose_ordered.Goals as goal
 
 pub loop-short-init : goal.loop-short-init
 loop-short-init g c = rw c.new-liables.ensures.items (choosing_starts c.args.shorts.now c.args.called 4294967295 c.requires.order)

@@ -1,5 +1,5 @@
 use Rattle.std.proofs.Common.{sym, rules, arith}
-use Rattle.std.proofs.lemmas.List.Sorted.{answers_always}
+use Rattle.cns_retransmit.proofs.Common.{answers_always}
 use Rattle.cns_retransmit.proofs.Sorted.{comes_first, says_before, sorted_is}
 use Rattle.cns_retransmit.proofs.choice.in_filling_order.Goals as goal
 

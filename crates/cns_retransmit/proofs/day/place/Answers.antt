@@ -1,11 +1,5 @@
-use Rattle.std.proofs.Common.{rules, ◌≡◌, ℕ, List, [], Result, Ok, Err, IfOk, IfErr}
-use Rattle.std.specs.declared.cmp.Ordering.TheVariants.{Less, Equal, Greater}
-use Rattle.std.specs.List.{HoldsAt}
-use Rattle.std.specs.List.Sorted.{IsBinarySearchResult, IsPartitionPoint}
-use Rattle.std.proofs.lemmas.List.Sorted.{answers_always}
-use Rattle.cns_units.specs.declared.cusip.Cusip.{Cusip}
-use Rattle.cns_terms.specs.Batches.{Liables}
-use Rattle.cns_retransmit.specs.Days.{RiseByIssue}
+use Rattle.std.proofs.Common.{rules, ◌≡◌, ℕ, List, [], Result, Ok, Err, IfOk, IfErr, Less, Equal, Greater, HoldsAt}
+use Rattle.cns_retransmit.proofs.Common.{Cusip, IsBinarySearchResult, IsPartitionPoint, Liables, RiseByIssue, answers_always}
 use Rattle.cns_retransmit.proofs.Sought.{comparisons_rise, issue_cmp}
 use Rattle.cns_retransmit.proofs.day.place.Goals as goal
 

@@ -1,5 +1,5 @@
 use Rattle.std.proofs.Common.{◌≡◌, map, take}
-use Rattle.cns_terms.specs.Fills.{charged}
+use Rattle.cns_retransmit.proofs.Common.{charged}
 use Rattle.cns_retransmit.proofs.filling.charge.Given as goal
 
 abbrev pub invariant-loop-fill : goal.invariant-loop-fill

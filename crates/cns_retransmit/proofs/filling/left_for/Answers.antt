@@ -1,5 +1,5 @@
 use Rattle.std.proofs.Common.{◌∙◌, ap, sym}
-use Rattle.std.proofs.lemmas.List.{drop_all}
+use Rattle.cns_retransmit.proofs.Common.{drop_all}
 use Rattle.cns_retransmit.specs.Members.{left_of}
 use Rattle.cns_retransmit.proofs.Lefts.{left_found, left_passed}
 use Rattle.cns_retransmit.proofs.filling.left_for.Goals as goal

@@ -1,11 +1,9 @@
 use Rattle.std.proofs.Common.{◌≡◌, ◌∙◌, ap, subst, ℕ, ◌+◌, ◌-◌, min, List, [], ◌∷◌, ◌++◌, drop, arith}
-use Rattle.cns_terms.specs.declared.buy_in.Fill.{Fill}
-use Rattle.cns_terms.specs.declared.buy_in.Liable.{Liable}
-use Rattle.cns_terms.specs.Fills.{capacity, fills_of}
+use Rattle.cns_retransmit.proofs.Common.{Fill, Liable, capacity, fills_of}
 use Rattle.cns_retransmit.proofs.FillSteps.{Filling, made, fill_first, fill_some, fill_none}
 use Rattle.cns_retransmit.proofs.Lists.{drop_next}
-use Rattle.cns_retransmit.proofs.filling.make_fills.Goals as goal
 use Rattle.cns_retransmit.proofs.filling.make_fills.Goals.{then-more-gt0+in_ok-push, else-more-gt0}
+use Rattle.cns_retransmit.proofs.filling.make_fills.Goals as goal
 
 pub loop-liable-init : goal.loop-liable-init
 loop-liable-init g c = rw c.new-fills.ensures.items (fill_first (g.S.Shorts.short_now c.args.now.now) c.args.shares c.args.money c.args.liables.now)

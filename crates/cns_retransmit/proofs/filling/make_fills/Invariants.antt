@@ -1,5 +1,5 @@
 use Rattle.std.proofs.Common.{drop}
-use Rattle.cns_terms.specs.Fills.{capacity, fills_of}
+use Rattle.cns_retransmit.proofs.Common.{capacity, fills_of}
 use Rattle.cns_retransmit.proofs.FillSteps.{Filling}
 use Rattle.cns_retransmit.proofs.filling.make_fills.Given as goal
 

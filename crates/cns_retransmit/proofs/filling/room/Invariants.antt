@@ -1,5 +1,5 @@
 use Rattle.std.proofs.Common.{◌≡◌, take, sum_by}
-use Rattle.cns_terms.specs.Fills.{capacity}
+use Rattle.cns_retransmit.proofs.Common.{capacity}
 use Rattle.cns_retransmit.proofs.filling.room.Given as goal
 
 abbrev pub invariant-loop-liable : goal.invariant-loop-liable

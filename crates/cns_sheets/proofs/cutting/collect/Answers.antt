@@ -1,5 +1,5 @@
 use Rattle.std.proofs.Common.{◌≡◌, ◌∙◌, None, Some, sym}
-use Rattle.cns_positions.specs.Rows.{last_of, present}
+use Rattle.cns_sheets.proofs.Common.{last_of, present}
 use Rattle.cns_sheets.proofs.HeldRows.{given_small, pass_smaller}
 use Rattle.cns_sheets.proofs.Woven.{pass_done, pass_more}
 use Rattle.cns_sheets.proofs.cutting.collect.Goals as goal

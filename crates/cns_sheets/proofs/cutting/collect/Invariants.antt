@@ -1,8 +1,5 @@
 use Rattle.std.proofs.Common.{◌≡◌, ◌++◌, None, length}
-use Rattle.std.specs.List.{AllByRecursion}
-use Rattle.cns_positions.specs.Rows.{held_above}
-use Rattle.cns_sheets.specs.Build.{IsMarked}
-use Rattle.cns_sheets.specs.Woven.{weave, woven_rows}
+use Rattle.cns_sheets.proofs.Common.{AllByRecursion, IsMarked, held_above, weave, woven_rows}
 use Rattle.cns_sheets.proofs.cutting.collect.Given as goal
 
 abbrev pub invariant-loop-rows : goal.invariant-loop-rows

@@ -1,6 +1,5 @@
-use Rattle.std.proofs.Common.{◌∙◌}
-use Rattle.std.specs.Option.{option_copied}
-use Rattle.cns_sheets.specs.Woven.{past}
+use Rattle.std.proofs.Common.{◌∙◌, option_copied}
+use Rattle.cns_sheets.proofs.Common.{past}
 use Rattle.cns_sheets.proofs.Woven.{left_done}
 use Rattle.cns_sheets.proofs.cutting.push_paid.Goals as goal
 

@@ -1,8 +1,5 @@
-use Rattle.std.proofs.Common.{◌≡◌, ◌++◌, length}
-use Rattle.std.specs.List.{AllByRecursion}
-use Rattle.std.specs.Option.{option_copied}
-use Rattle.cns_sheets.specs.Build.{IsMarked}
-use Rattle.cns_sheets.specs.Woven.{lower, past, unheld, woven_rows}
+use Rattle.std.proofs.Common.{◌≡◌, ◌++◌, length, option_copied}
+use Rattle.cns_sheets.proofs.Common.{AllByRecursion, IsMarked, lower, past, unheld, woven_rows}
 use Rattle.cns_sheets.proofs.cutting.push_paid.Given as goal
 
 abbrev pub invariant-loop-key : goal.invariant-loop-key

@@ -1,7 +1,5 @@
 use Rattle.std.proofs.Common.{◌≡◌, ◌∙◌, sym, ℤ}
-use Rattle.cns_terms.specs.declared.holding.Key.{Key}
-use Rattle.cns_terms.specs.declared.holding.Holding.{Holding}
-use Rattle.cns_sheets.specs.Woven.{woven_row}
+use Rattle.cns_sheets.proofs.Common.{Holding, Key, woven_row}
 use Rattle.cns_sheets.proofs.Woven.{row_priced, row_said, row_silent, where_ok}
 use Rattle.cns_sheets.proofs.cutting.push_row.Goals as goal
 

@@ -1,15 +1,10 @@
 use Rattle.std.proofs.Common.{◌≡◌, ◌∙◌, ◌++◌, ◌∷◌, [], ◌+◌, Option, None, sym, ap, append-nil, subst, take, drop}
-use Rattle.std.specs.List.{AllByRecursion}
-use Rattle.cns_terms.specs.declared.holding.Key.{Key}
-use Rattle.cns_terms.specs.declared.holding.Holding.{Holding}
-use Rattle.cns_positions.specs.Rows.{Rows, last_of, present}
+use Rattle.cns_sheets.proofs.Common.{AllByRecursion, HasSmallCents, Holding, Key, Rows, last_of, present, weave, woven_rows}
 use Rattle.cns_positions.proofs.Held.{last_more, present_more}
-use Rattle.cns_sheets.specs.Build.{HasSmallCents}
-use Rattle.cns_sheets.specs.Woven.{weave, woven_rows}
 use Rattle.cns_sheets.proofs.HeldRows.{rest_small}
 use Rattle.cns_sheets.proofs.Woven.{given_from, given_step}
-use Rattle.cns_sheets.proofs.cutting.push_rows.Goals as goal
 use Rattle.cns_sheets.proofs.cutting.push_rows.Goals.{in-Some+in_ok-push_holding, in_default}
+use Rattle.cns_sheets.proofs.cutting.push_rows.Goals as goal
 
 pub loop-held-preserved : goal.loop-held-preserved
 loop-held-preserved g c =

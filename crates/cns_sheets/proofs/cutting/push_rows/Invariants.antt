@@ -1,8 +1,5 @@
 use Rattle.std.proofs.Common.{◌≡◌, ◌++◌, None, drop, take}
-use Rattle.std.specs.List.{AllByRecursion}
-use Rattle.cns_positions.specs.Rows.{Rows, last_of, present}
-use Rattle.cns_sheets.specs.Build.{HasSmallCents, IsMarked}
-use Rattle.cns_sheets.specs.Woven.{weave, woven_rows}
+use Rattle.cns_sheets.proofs.Common.{AllByRecursion, HasSmallCents, IsMarked, Rows, last_of, present, weave, woven_rows}
 use Rattle.cns_sheets.proofs.cutting.push_rows.Given as goal
 
 abbrev pub invariant-loop-held : goal.invariant-loop-held

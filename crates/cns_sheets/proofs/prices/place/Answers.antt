@@ -1,15 +1,7 @@
-use Rattle.std.proofs.Common.{rules, ◌≡◌, ℕ, Result, Ok, Err, IfOk, IfErr, true}
-use Rattle.std.specs.Cmp.Lexicographic.{slice_cmp}
-use Rattle.std.specs.declared.cmp.Ordering.TheVariants.{Less, Equal, Greater}
-use Rattle.std.specs.FinMap.{is_sorted}
-use Rattle.std.specs.List.{HoldsAt}
-use Rattle.std.specs.List.Sorted.{IsBinarySearchResult, IsPartitionPoint}
-use Rattle.std.specs.Ordering.{nat_cmp}
-use Rattle.std.proofs.lemmas.Cmp.{nat_list_cmp_total}
+use Rattle.std.proofs.Common.{rules, ◌≡◌, ℕ, Result, Ok, Err, IfOk, IfErr, true, Less, Equal, Greater, HoldsAt, nat_cmp}
+use Rattle.cns_sheets.proofs.Common.{Cusip, IsBinarySearchResult, IsPartitionPoint, PriceList, is_sorted, nat_list_cmp_total, slice_cmp}
 use Rattle.std.proofs.lemmas.Fn.{always_returns_same}
-use Rattle.cns_units.specs.declared.cusip.Cusip.{Cusip}
 use Rattle.cns_positions.proofs.Puts.{comparisons_rise}
-use Rattle.cns_sheets.specs.Build.{PriceList}
 use Rattle.cns_sheets.proofs.prices.place.Goals as goal
 
 found : (es : PriceList) (c : Cusip) (r : Result ℕ ℕ) → IsBinarySearchResult (λ e. slice_cmp nat_cmp e.0 c) es r → IfOk r (HoldsAt (λ e. slice_cmp nat_cmp e.0 c ≡ Equal) es)

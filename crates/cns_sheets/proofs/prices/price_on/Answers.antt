@@ -1,6 +1,5 @@
 use Rattle.std.proofs.Common.{sym}
-use Rattle.std.proofs.lemmas.Cmp.{nat_list_cmp_total}
-use Rattle.cns_positions.proofs.Puts.{find_at, find_gap}
+use Rattle.cns_sheets.proofs.Common.{find_at, find_gap, nat_list_cmp_total}
 use Rattle.cns_sheets.proofs.prices.price_on.Goals as goal
 
 pub returns-in-Ok : goal.returns-in-Ok

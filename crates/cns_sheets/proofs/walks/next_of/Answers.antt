@@ -1,9 +1,5 @@
 use Rattle.std.proofs.Common.{◌∙◌, sym, ap, subst, List}
-use Rattle.cns_terms.specs.declared.holding.Key.{Key}
-use Rattle.cns_terms.specs.declared.sheet.Row.{Row}
-use Rattle.cns_terms.specs.Sheets.{rows_for}
-use Rattle.cns_sheets.specs.Build.{without_keys}
-use Rattle.cns_sheets.specs.Walking.{AreFrom}
+use Rattle.cns_sheets.proofs.Common.{AreFrom, Key, Row, rows_for, without_keys}
 use Rattle.cns_sheets.proofs.Walked.{none_is}
 use Rattle.cns_sheets.proofs.walks.next_of.Goals as goal
 

@@ -1,6 +1,5 @@
-use Rattle.std.proofs.lemmas.Result.{err_from_is_err_and}
+use Rattle.cns_terms.proofs.Common.{err_from_is_err_and, parts_failed, parts_more}
 use Rattle.cns_statements.specs.Texts.{row_line}
-use Rattle.cns_units.proofs.Parts.{parts_more, parts_failed}
 use Rattle.cns_statements.proofs.text.write_kept.Goals as goal
 
 pub loop-row-preserved : goal.loop-row-preserved

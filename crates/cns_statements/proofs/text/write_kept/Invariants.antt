@@ -1,5 +1,5 @@
 use Rattle.std.proofs.Common.{◌≡◌, ℕ, List, ◌++◌, drop}
-use Rattle.std.specs.Io.KnownBytes.{Appends}
+use Rattle.cns_terms.proofs.Common.{Appends}
 use Rattle.cns_statements.specs.Texts.{rows_text}
 use Rattle.cns_statements.proofs.text.write_kept.Given as goal
 

@@ -1,6 +1,6 @@
 use Rattle.std.proofs.Common.{◌≡◌, ◌+◌, ◌++◌, List, Vec, vec_len}
+use Rattle.cns_terms.proofs.Common.{Account}
 use Rattle.std.specs.declared.alloc.Global.{Global}
-use Rattle.cns_units.specs.declared.account.Account.{Account}
 use Rattle.cns_statements.specs.Promised.{AllAre}
 use Rattle.cns_statements.proofs.workers.start_all.Given as goal
 

@@ -1,8 +1,6 @@
-use Rattle.std.proofs.Common.{◌∙◌, ap, cond, ◌&&◌, ◌==◌}
-use Rattle.std.specs.Ordering.{is_eq}
+use Rattle.std.proofs.Common.{◌∙◌, ap, cond, ◌&&◌, ◌==◌, is_eq}
+use Rattle.cns_terms.proofs.Common.{key_cmp, same_issue}
 use Rattle.cns_terms.specs.declared.holding.Key.{Key}
-use Rattle.cns_terms.specs.Keys.{key_cmp}
-use Rattle.cns_terms.specs.Sums.{same_issue}
 use Rattle.cns_trades.specs.declared.sides.Sides.{Sides}
 use Rattle.cns_trades.specs.Sides.{less, sides_at}
 use Rattle.cns_trades.proofs.Summed.{taken_both, both_keys}
@@ -14,6 +12,6 @@ returns g c = λ k.
     let s0 = sides_at c.args.sums.now in
     let s1 = sides_at c.take.new.self in
     both_keys less p s0 s1 (sides_at c.take-2.new.self)
-    (λ k. c.take.ensures k ∙ ap (λ (q : Key). cond (is_eq (key_cmp q k)) (less (s0 k) c.bought.result) (s0 k)) c.bought_key.ensures ∙ ap (λ (d : Sides). cond (is_eq (key_cmp (record { account = p.buyer; issue = p.issue }) k)) (less (s0 k) d) (s0 k)) c.bought.ensures.exact)
-    (λ k. c.take-2.ensures k ∙ ap (λ (q : Key). cond (is_eq (key_cmp q k)) (less (s1 k) c.sold.result) (s1 k)) c.sold_key.ensures ∙ ap (λ (d : Sides). cond (is_eq (key_cmp (record { account = p.seller; issue = p.issue }) k)) (less (s1 k) d) (s1 k)) c.sold.ensures.exact) k
+    (λ k. c.take.ensures.sums k ∙ ap (λ (q : Key). cond (is_eq (key_cmp q k)) (less (s0 k) c.bought.result) (s0 k)) c.bought_key.ensures ∙ ap (λ (d : Sides). cond (is_eq (key_cmp (record { account = p.buyer; issue = p.issue }) k)) (less (s0 k) d) (s0 k)) c.bought.ensures.exact)
+    (λ k. c.take-2.ensures.sums k ∙ ap (λ (q : Key). cond (is_eq (key_cmp q k)) (less (s1 k) c.sold.result) (s1 k)) c.sold_key.ensures ∙ ap (λ (d : Sides). cond (is_eq (key_cmp (record { account = p.seller; issue = p.issue }) k)) (less (s1 k) d) (s1 k)) c.sold.ensures.exact) k
     ∙ taken_both ((p.buyer == k.account) && same_issue p.issue k.issue) ((p.seller == k.account) && same_issue p.issue k.issue) p.shares (s0 k)

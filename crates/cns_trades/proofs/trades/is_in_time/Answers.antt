@@ -1,6 +1,4 @@
-use Rattle.std.proofs.Common.{◌∙◌, ◌&&◌, ap, pos}
-use Rattle.std.specs.Int.{w64}
-use Rattle.std.specs.Prelude.{int_le}
+use Rattle.std.proofs.Common.{◌∙◌, ◌&&◌, ap, pos, w64, int_le}
 use Rattle.std.proofs.lemmas.Int.{to_z-of_z}
 use Rattle.cns_terms.specs.Refusals.{days_ahead}
 use Rattle.cns_trades.proofs.Checking.{in_time, wide_fits}

@@ -1,10 +1,5 @@
 use Rattle.std.proofs.Common.{◌≡◌, ◌∙◌, sym, ap, subst}
-use Rattle.std.specs.List.{AllByRecursion}
-use Rattle.cns_terms.specs.declared.holding.Key.{Key}
-use Rattle.cns_terms.proofs.Finds.{sorted_from}
-use Rattle.cns_terms.proofs.Keys.{keys_total}
-use Rattle.cns_actions.specs.declared.due_amounts.Amount.{Amount}
-use Rattle.cns_actions.specs.DueAmounts.{IsSmallAmount, amount_at, with_entry}
+use Rattle.cns_actions.proofs.Common.{AllByRecursion, Amount, IsSmallAmount, Key, amount_at, keys_total, sorted_from, with_entry}
 use Rattle.cns_actions.proofs.DueAmounts.{amounts_added, had_is, room_at, small_insert}
 use Rattle.cns_actions.proofs.due_amounts.DueAmounts.add.Goals as goal
 

@@ -1,7 +1,5 @@
 use Rattle.std.proofs.Common.{◌+◌, ◌∙◌, sym, ap, drop, List, arith}
-use Rattle.cns_terms.specs.declared.holding.Key.{Key}
-use Rattle.cns_terms.specs.declared.pend.Pend.{Pend}
-use Rattle.cns_actions.specs.DueAmounts.{amount_at, due_entries, amount_of, with_amount}
+use Rattle.cns_actions.proofs.Common.{Key, Pend, amount_at, amount_of, due_entries, with_amount}
 use Rattle.cns_actions.proofs.DueAmounts.{all_are_left, left_at, no_trade_more, all_booked, one_trade_more, room_left, trade_passed, trade_step}
 use Rattle.cns_actions.proofs.due_amounts.DueAmounts.of.Goals.{then-is_due+in_ok-add_trade, else-is_due}
 use Rattle.cns_actions.proofs.due_amounts.DueAmounts.of.Goals as goal

@@ -1,6 +1,5 @@
 use Rattle.std.proofs.Common.{◌≡◌, drop}
-use Rattle.cns_terms.specs.declared.holding.Key.{Key}
-use Rattle.cns_actions.specs.DueAmounts.{amount_at, due_entries, amount_of, with_amount}
+use Rattle.cns_actions.proofs.Common.{Key, amount_at, amount_of, due_entries, with_amount}
 use Rattle.cns_actions.proofs.DueAmounts.{IsOfTrades}
 use Rattle.cns_actions.proofs.due_amounts.DueAmounts.of.Given as goal
 

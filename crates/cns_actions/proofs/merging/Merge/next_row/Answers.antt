@@ -1,11 +1,7 @@
-use Rattle.std.proofs.Common.{◌≡◌, ◌∙◌, ◌∷◌, [], sym, ap, subst, MatchOption}
-use Rattle.std.specs.Ordering.{is_lt}
+use Rattle.std.proofs.Common.{◌≡◌, ◌∙◌, ◌∷◌, [], sym, ap, subst, MatchOption, is_lt}
+use Rattle.cns_actions.proofs.Common.{IsMerged, IsTaken, Key, Rows, key_cmp}
 use Rattle.std.proofs.lemmas.List.{nil_from_length}
-use Rattle.cns_terms.specs.declared.holding.Key.{Key}
-use Rattle.cns_terms.specs.Keys.{key_cmp}
-use Rattle.cns_positions.specs.Rows.{Rows}
-use Rattle.cns_actions.specs.Merging.{IsMerged, Merging, entered, key_of}
-use Rattle.cns_actions.specs.Walks.{IsTaken}
+use Rattle.cns_actions.specs.Merging.{Merging, entered, key_of}
 use Rattle.cns_actions.proofs.Merges.{before_step, booking_step, row_step}
 use Rattle.cns_actions.proofs.merging.Merge.next_row.Goals as goal
 

@@ -1,9 +1,6 @@
 use Rattle.std.proofs.Common.{◌∙◌, ap}
-use Rattle.std.specs.FinMap.{is_sorted}
-use Rattle.cns_terms.specs.Keys.{key_cmp}
-use Rattle.cns_actions.specs.Turns.{turned_rows}
+use Rattle.cns_actions.proofs.Common.{held_sorted, is_sorted, key_cmp, turned_rows}
 use Rattle.cns_actions.proofs.Turning.{sorted_turned}
-use Rattle.cns_positions.proofs.Unheld.{held_sorted}
 use Rattle.cns_actions.proofs.Walking.{ahead_sorted}
 use Rattle.cns_actions.proofs.walk.Ahead.new.Goals as goal
 

@@ -1,10 +1,5 @@
 use Rattle.std.proofs.Common.{◌≡◌, ◌∙◌, ◌∷◌, sym, ap, refl, true, false, inr}
-use Rattle.std.specs.FinMap.{is_sorted}
-use Rattle.cns_terms.specs.declared.holding.Holding.{Holding}
-use Rattle.cns_terms.specs.declared.holding.Key.{Key}
-use Rattle.cns_terms.specs.Keys.{key_cmp}
-use Rattle.cns_actions.specs.Turns.{turned_rows}
-use Rattle.cns_actions.specs.Walks.{with_ahead}
+use Rattle.cns_actions.proofs.Common.{Holding, Key, is_sorted, key_cmp, turned_rows, with_ahead}
 use Rattle.cns_actions.proofs.Walking.{gap}
 use Rattle.cns_actions.proofs.walk.Ahead.take.Goals as goal
 

@@ -1,9 +1,5 @@
-use Rattle.std.proofs.Common.{◌≡◌, ◌∙◌, ap, reverse, length, arith, ◌<◌, ◌+◌, ◌-◌, ◌∷◌, [], ◌++◌, get_or}
-use Rattle.std.proofs.lemmas.List.{length-reverse}
-use Rattle.cns_terms.specs.History.{accepted}
-use Rattle.cns_terms.specs.declared.history.Taken.{Taken}
-use Rattle.cns_terms.specs.Machine.{answer_to}
-use Rattle.std.proofs.Common.{rules}
+use Rattle.std.proofs.Common.{◌≡◌, ◌∙◌, ap, reverse, length, arith, ◌<◌, ◌+◌, ◌-◌, ◌∷◌, [], ◌++◌, get_or, rules}
+use Rattle.cns_book.proofs.Common.{Taken, accepted, answer_to, length-reverse}
 use Rattle.cns_book.proofs.BookTaking.{has_room, book_stays, book_grows, reverse_push}
 use Rattle.cns_book.proofs.book.Book.take.Goals as goal
 

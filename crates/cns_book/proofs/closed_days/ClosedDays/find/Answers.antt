@@ -1,6 +1,5 @@
 use Rattle.std.proofs.Common.{◌∙◌, ◌<◌, ap, length, Some}
-use Rattle.std.specs.Arc.{arc_value}
-use Rattle.cns_book.specs.Dated.{is_dated}
+use Rattle.cns_book.proofs.Common.{arc_value, is_dated}
 use Rattle.cns_book.proofs.ClosedDaysSearch.{nowhere_back, sheet_at}
 use Rattle.cns_book.proofs.closed_days.ClosedDays.find.Goals as goal
 

@@ -1,5 +1,5 @@
 use Rattle.std.proofs.Common.{◌≡◌, ◌++◌, map}
-use Rattle.cns_book.specs.Dated.{payments_by}
+use Rattle.cns_book.proofs.Common.{payments_by}
 use Rattle.cns_book.proofs.closed_days.ClosedDays.payments.Given as goal
 
 abbrev pub invariant-loop-declared : goal.invariant-loop-declared

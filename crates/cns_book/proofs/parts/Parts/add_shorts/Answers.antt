@@ -1,15 +1,9 @@
-use Rattle.std.proofs.Common.{◌≡◌, ◌∙◌, ◌+◌, ◌≤◌, ◌++◌, ◌∷◌, [], List, pos, true, false, refl, sym, ap, append_assoc, subst, arith}
-use Rattle.std.specs.Prelude.{int_lt, unsigned_abs}
+use Rattle.std.proofs.Common.{◌≡◌, ◌∙◌, ◌+◌, ◌≤◌, ◌++◌, ◌∷◌, [], List, pos, true, false, refl, sym, ap, append_assoc, subst, arith, int_lt, unsigned_abs}
+use Rattle.cns_book.proofs.Common.{AllByRecursion, Row, called_in, corporation_limit, oldest_at, oldest_of}
 use lib.Signed.{le_z}
-use Rattle.std.specs.List.{AllByRecursion}
-use Rattle.cns_terms.specs.declared.sheet.Row.{Row}
-use Rattle.cns_terms.specs.Holdings.{oldest_of}
-use Rattle.cns_terms.specs.Limits.{corporation_limit}
-use Rattle.cns_retransmit.specs.Calls.{called_in}
-use Rattle.cns_book.specs.Retransmittal.{oldest_at}
 use Rattle.cns_book.proofs.RetransmittalShorts.{ages_fit, below_zero, not_below, not_below_zero, not_member, no_member, read_back, row_given, row_passed, short_is, some_member, uncalled_row}
-use Rattle.cns_book.proofs.parts.Parts.add_shorts.Goals as goal
 use Rattle.cns_book.proofs.parts.Parts.add_shorts.Goals.{then-row-ge0-via-then-row-ge0, then-row-ge0-via-else-row-ge0+then-not-is_called}
+use Rattle.cns_book.proofs.parts.Parts.add_shorts.Goals as goal
 
 -- each row is within its limit
 abbrev AreFew : List Row → Type 0

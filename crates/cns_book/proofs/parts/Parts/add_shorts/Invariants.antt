@@ -1,9 +1,5 @@
-use Rattle.std.proofs.Common.{◌≡◌, ◌≤◌, ◌++◌}
-use Rattle.std.specs.Prelude.{unsigned_abs}
-use Rattle.std.specs.List.{AllByRecursion}
-use Rattle.cns_terms.specs.Limits.{corporation_limit}
-use Rattle.cns_retransmit.specs.Calls.{called_in}
-use Rattle.cns_book.specs.Retransmittal.{oldest_at}
+use Rattle.std.proofs.Common.{◌≡◌, ◌≤◌, ◌++◌, unsigned_abs}
+use Rattle.cns_book.proofs.Common.{AllByRecursion, called_in, corporation_limit, oldest_at}
 use Rattle.cns_book.proofs.RetransmittalShorts.{HasShorts}
 use Rattle.cns_book.proofs.parts.Parts.add_shorts.Given as goal
 

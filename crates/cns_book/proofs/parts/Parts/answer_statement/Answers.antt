@@ -1,9 +1,6 @@
 use Rattle.std.proofs.Common.{◌≡◌, ◌∙◌, sym, ap, true, Some}
 use Rattle.cns_terms.specs.declared.reply.Reply.TheVariants as reply
-use Rattle.cns_terms.specs.Days.{closed_on}
-use Rattle.cns_terms.specs.Entries.{journal}
-use Rattle.cns_terms.specs.Listings.{is_account}
-use Rattle.cns_terms.specs.Sheets.{DaySheet}
+use Rattle.cns_book.proofs.Common.{DaySheet, closed_on, is_account, journal}
 use Rattle.cns_book.proofs.ClosedDaysSearch.{answer_stated}
 use Rattle.cns_book.proofs.parts.Parts.answer_statement.Goals as goal
 

@@ -1,10 +1,5 @@
-use Rattle.std.proofs.Common.{◌≡◌, ◌∙◌, sym, ap, subst, List}
-use Rattle.std.specs.Option.{option_copied}
-use Rattle.cns_terms.specs.Batches.{Liables}
-use Rattle.cns_terms.specs.Entries.{journal}
-use Rattle.cns_retransmit.specs.Days.{batch_in, batch_on}
-use Rattle.cns_book.specs.Contents.{Contents}
-use Rattle.cns_book.specs.Follows.{Follows}
+use Rattle.std.proofs.Common.{◌≡◌, ◌∙◌, sym, ap, subst, List, option_copied}
+use Rattle.cns_book.proofs.Common.{Contents, Follows, Liables, batch_in, batch_on, journal}
 use Rattle.cns_book.specs.Shown.{batch_listed}
 use Rattle.cns_book.proofs.ExecutionRoom.{on_day}
 use Rattle.cns_book.proofs.parts.Parts.batch.Goals as goal

@@ -1,10 +1,5 @@
 use Rattle.std.proofs.Common.{◌≡◌, ◌∙◌, sym, ap, subst, List}
-use Rattle.cns_terms.specs.Batches.{Liables}
-use Rattle.cns_terms.specs.Entries.{journal}
-use Rattle.cns_terms.specs.Fills.{batches}
-use Rattle.cns_retransmit.specs.Days.{batches_on}
-use Rattle.cns_book.specs.Contents.{Contents}
-use Rattle.cns_book.specs.Follows.{Follows}
+use Rattle.cns_book.proofs.Common.{Contents, Follows, Liables, batches, batches_on, journal}
 use Rattle.cns_book.proofs.ExecutionRoom.{on_day}
 use Rattle.cns_book.proofs.parts.Parts.batches.Goals as goal
 

@@ -2,14 +2,10 @@ use Rattle.std.proofs.Common.{◌∙◌, sym, ap, subst, refl, None, Some, Ok}
 use Rattle.cns_terms.specs.declared.command.Activity.TheVariants as activity
 use Rattle.cns_terms.specs.declared.command.Command.TheVariants as command
 use Rattle.cns_terms.specs.declared.reply.Reply.TheVariants as reply
-use Rattle.cns_terms.specs.Days.{is_not_after}
-use Rattle.cns_terms.specs.Entries.{trade_entries}
-use Rattle.cns_terms.specs.Pending.{is_due, pend_of}
-use Rattle.cns_terms.specs.Refusals.{first_refusal}
-use Rattle.cns_positions.specs.Rows.{books}
-use Rattle.cns_trades.specs.Checks.{AreSmallEntries, booking, trade_rules}
+use Rattle.cns_book.proofs.Common.{AreSmallEntries, Follows, HasRoom, books, first_refusal, is_not_after, pend_of, trade_entries, trade_rules}
+use Rattle.cns_terms.specs.Pending.{is_due}
+use Rattle.cns_trades.specs.Checks.{booking}
 use Rattle.cns_trades.specs.Used.{is_used}
-use Rattle.cns_book.specs.Follows.{Follows, HasRoom}
 use Rattle.cns_book.proofs.MachineSteps.{accepted, refused, stopped}
 use Rattle.cns_book.proofs.TradingSteps.{answer_err, same_rows, told_later, told_now, trade_booked, trade_refusal, trade_taken, trade_waits}
 use Rattle.cns_book.proofs.PartsWithin.{rows_within, same_within}

@@ -1,14 +1,10 @@
-use Rattle.std.proofs.Common.{◌≡◌, ◌∙◌, ◌+◌, ◌==◌, true, sym, ap, subst, Some, arith}
-use Rattle.std.specs.Prelude.{option_map}
-use Rattle.std.proofs.lemmas.Bool.{eq-eqb, ne_eqb}
-use Rattle.cns_notices.specs.declared.noticed.Noticed.{Noticed}
+use Rattle.std.proofs.Common.{◌≡◌, ◌∙◌, ◌+◌, ◌==◌, true, sym, ap, subst, Some, arith, option_map, eq-eqb, ne_eqb}
+use Rattle.cns_book.proofs.Common.{Contents, HasRoom, Noticed}
 use Rattle.cns_notices.specs.Noticed.{notice_at}
-use Rattle.cns_book.specs.Contents.{Contents}
-use Rattle.cns_book.specs.Follows.{HasRoom}
 use Rattle.cns_book.proofs.RetransmittalCalls.{call_added, call_fits, call_passed, called_whole, notice_told, other_day}
 use Rattle.cns_book.proofs.ClosingSteps.{closes_fit}
-use Rattle.cns_book.proofs.parts.Parts.calls_of_day.Goals as goal
 use Rattle.cns_book.proofs.parts.Parts.calls_of_day.Goals.{else-loop-number-test, then-loop-number-test+then-given-today, then-shares-gt0+in_ok-call, else-shares-gt0}
+use Rattle.cns_book.proofs.parts.Parts.calls_of_day.Goals as goal
 
 pub overflow_add-today : goal.overflow_add-today
 overflow_add-today g c = let few = closes_fit _ (subst HasRoom (sym c.self.view_is) c.requires) in omega (arith, few)

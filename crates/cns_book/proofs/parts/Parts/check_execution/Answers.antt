@@ -1,12 +1,6 @@
-use Rattle.std.proofs.Common.{◌≡◌, ◌∙◌, ap, sym, subst, Option, Some, None, arith}
-use Rattle.std.specs.Prelude.{option_map}
-use Rattle.cns_terms.specs.Batches.{Liables}
-use Rattle.cns_terms.specs.Fills.{room_of}
-use Rattle.cns_notices.specs.declared.noticed.Noticed.{Noticed}
+use Rattle.std.proofs.Common.{◌≡◌, ◌∙◌, ap, sym, subst, Option, Some, None, arith, option_map}
+use Rattle.cns_book.proofs.Common.{Contents, Liables, Noticed, batch_on, capped_short, room_of}
 use Rattle.cns_notices.specs.Noticed.{notice_at}
-use Rattle.cns_retransmit.specs.Days.{batch_on}
-use Rattle.cns_book.specs.Contents.{Contents}
-use Rattle.cns_book.specs.Executions.{capped_short}
 use Rattle.cns_book.proofs.ExecutionRefusals.{dead, execute_accepted, execute_early, execute_exceeds, execute_missing, execute_not_live, execute_over, read_live, room_by}
 use Rattle.cns_book.proofs.NoticeSteps.{notice_missing}
 use Rattle.cns_book.proofs.ExecutionRoom.{members_of}

@@ -1,15 +1,9 @@
 use Rattle.std.proofs.Common.{◌≡◌, ◌∙◌, ap, arith, List}
-use Rattle.cns_terms.specs.declared.command.Activity.{Activity}
-use Rattle.cns_terms.specs.Entries.{journal}
-use Rattle.cns_terms.specs.Fills.{batches_since}
-use Rattle.cns_terms.specs.Sheets.{DaySheet}
-use Rattle.cns_terms.proofs.Reached.{limited}
-use Rattle.cns_retransmit.specs.Calls.{batches_of}
-use Rattle.cns_book.specs.Follows.{Follows}
+use Rattle.cns_book.proofs.Common.{Activity, DaySheet, Follows, batches_of, batches_since, journal, limited}
 use Rattle.cns_book.proofs.RetransmittalSteps.{AreGiven, calls_are, can_choose, chosen_same, given_are, none_given, ok_both}
 use Rattle.cns_book.proofs.RetransmittalShorts.{closings_few}
-use Rattle.cns_book.proofs.parts.Parts.choose_batches.Goals as goal
 use Rattle.cns_book.proofs.parts.Parts.choose_batches.Goals.{then-not-is_empty+in_ok-add_shorts, else-not-is_empty}
+use Rattle.cns_book.proofs.parts.Parts.choose_batches.Goals as goal
 
 pub add_shorts-requires : goal.add_shorts-requires
 add_shorts-requires g c =

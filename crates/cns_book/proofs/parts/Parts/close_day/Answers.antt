@@ -1,23 +1,11 @@
-use Rattle.std.proofs.Common.{◌≡◌, ◌∙◌, ◌+◌, refl, sym, ap, subst, length, filter, List, [], ◌∷◌, arith}
-use Rattle.std.specs.Prelude.{int_le, slice_get}
-use Rattle.cns_units.specs.Day.{day_number}
-use Rattle.cns_terms.specs.declared.action.Declared.{Declared}
+use Rattle.std.proofs.Common.{◌≡◌, ◌∙◌, ◌+◌, refl, sym, ap, subst, length, filter, List, [], ◌∷◌, arith, int_le, slice_get}
+use Rattle.cns_book.proofs.Common.{CanBePaid, Contents, Declared, Follows, HasRoom, IsCut, IsReady, WrongDay, batches_since, day_number, day_sheet, first_refusal, journal, last_dated, payments_by, prices_of}
+use Rattle.cns_terms.specs.Dividends.{is_due}
+use Rattle.cns_terms.specs.Pending.{is_due as due_on}
 use Rattle.cns_terms.specs.declared.command.Activity.TheVariants as activity
 use Rattle.cns_terms.specs.declared.command.Command.TheVariants as command
 use Rattle.cns_terms.specs.declared.reply.Reply.TheVariants as reply
-use Rattle.cns_terms.specs.Dividends.{is_due}
-use Rattle.cns_terms.specs.Entries.{journal}
-use Rattle.cns_terms.specs.Fills.{batches_since}
-use Rattle.cns_terms.specs.declared.refusal.Refusal.TheVariants.{WrongDay}
-use Rattle.cns_terms.specs.Pending.{is_due as due_on}
-use Rattle.cns_terms.specs.Refusals.{first_refusal}
-use Rattle.cns_terms.specs.Sheets.{day_sheet}
-use Rattle.cns_sheets.specs.Build.{prices_of}
-use Rattle.cns_sheets.specs.Condition.{CanBePaid, IsReady}
-use Rattle.cns_sheets.specs.Payments.{IsCut}
-use Rattle.cns_book.specs.Contents.{Contents}
-use Rattle.cns_book.specs.Dated.{last_dated, payments_by}
-use Rattle.cns_book.specs.Follows.{Follows, HasRoom, Steps}
+use Rattle.cns_book.specs.Follows.{Steps}
 use Rattle.cns_book.proofs.ClosingSteps.{after_last, closes_fit, day_closed, le_test, not_late, opened_rows}
 use Rattle.cns_book.proofs.MachineSteps.{accepted, refused, stopped}
 use Rattle.cns_book.proofs.RetransmittalSteps.{liable_counted, liable_few}
@@ -108,7 +96,7 @@ returns-clause-step g c L f =
     let count = c.len.ensures ∙ ap (λ s. length s.rows) is in
     let chosen = subst (λ (t : Contents). c.in_ok-batches.batches.items ≡ batches_since (journal t.opening L) (journal t.opening L)) (sym c.self.view_is) (c.in_ok-batches.ensures.batches L f) in
     let liable = c.count_liable.ensures ∙ liable_counted o L c.as_slice.result.now f'.reached (c.as_slice.ensures.value ∙ chosen) in
-    let made = rw (← c.self.view_is) at c.in_ok-opened.ensures in
+    let made = rw (← c.self.view_is) at c.in_ok-opened.ensures.opened in
     let rows = opened_rows (λ p. g.P.Positions.rows p) c.in_ok-opened.opened (filter (due_on c.args.next) c.self.inside.trades.pending) (g.P.Positions.rows c.self.inside.positions) (g.P.Positions.rows c.open.new.positions) made c.open.ensures.rolled c.open.ensures.taken in
     accepted L (activity.Close c.args.next) (reply.Closed (record { day = c.self.inside.closes + 1; date = c.self.inside.today; rows = c.len.result; liable = c.count_liable.result }))
     none

@@ -2,16 +2,12 @@ use Rattle.std.proofs.Common.{◌∙◌, sym, subst, refl, [], ◌∷◌}
 use Rattle.cns_terms.specs.declared.command.Activity.TheVariants as activity
 use Rattle.cns_terms.specs.declared.command.Command.TheVariants as command
 use Rattle.cns_terms.specs.declared.reply.Reply.TheVariants as reply
-use Rattle.cns_terms.specs.Entries.{corporation, moved_in, moved_out}
-use Rattle.cns_terms.specs.Refusals.{first_refusal}
-use Rattle.cns_trades.specs.Checks.{delivery_rules}
-use Rattle.cns_book.specs.Follows.{Follows, HasRoom}
+use Rattle.cns_book.proofs.Common.{Follows, HasRoom, books, corporation, delivery_rules, first_refusal, moved_in, moved_out}
 use Rattle.cns_book.proofs.MachineSteps.{accepted, refused, stopped}
 use Rattle.cns_book.proofs.TradingMovements.{delivery_refusal}
 use Rattle.cns_book.proofs.TradingSteps.{answer_err, answer_ok, booked_by, notices_kept, same_rows}
 use Rattle.cns_book.proofs.PartsWithin.{rows_within, same_within}
 use Rattle.cns_book.proofs.parts.Parts.deliver.Goals as goal
-use Rattle.cns_positions.specs.Rows.{books}
 
 pub returns-in-Err-clause-step : goal.returns-in-Err-clause-step
 returns-in-Err-clause-step g c L f =

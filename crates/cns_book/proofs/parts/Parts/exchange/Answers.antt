@@ -1,20 +1,13 @@
 use Rattle.std.proofs.Common.{◌≡◌, ◌∙◌, sym, subst, refl, true, false}
 use Rattle.cns_terms.specs.declared.command.Activity.TheVariants as activity
 use Rattle.cns_terms.specs.declared.reply.Reply.TheVariants as reply
-use Rattle.cns_terms.specs.declared.holding.Key.{Key}
-use Rattle.cns_terms.specs.Entries.{entries, journal}
-use Rattle.cns_terms.specs.Listings.{is_listed, is_retired}
-use Rattle.cns_terms.specs.Refusals.{first_refusal, is_too_large, rules}
-use Rattle.cns_terms.proofs.Facts.{neither}
+use Rattle.cns_book.proofs.Common.{Contents, Follows, HasRoom, Key, age_brought, books, entries, first_refusal, holding_at, is_held_up, is_listed, is_retired, is_too_large, journal, neither, with_age}
+use Rattle.cns_terms.specs.Refusals.{rules}
 use Rattle.cns_terms.proofs.Sound.{both_hold}
-use Rattle.cns_positions.specs.Rows.{books, holding_at}
-use Rattle.cns_actions.specs.declared.action.Action.TheVariants as action
-use Rattle.cns_actions.specs.Booked.{age_brought, with_age}
-use Rattle.cns_book.specs.Contents.{Contents}
-use Rattle.cns_book.specs.Effects.{exchange_rules, is_held_up}
-use Rattle.cns_book.specs.Follows.{Follows, HasRoom}
+use Rattle.cns_book.specs.Effects.{exchange_rules}
 use Rattle.cns_book.proofs.ActionSteps.{exchange_follows, no_fault, none_fails, not_true, price_there}
 use Rattle.cns_book.proofs.MachineSteps.{accepted, no_refusal}
+use Rattle.cns_actions.specs.declared.action.Action.TheVariants as action
 use Rattle.cns_book.proofs.parts.Parts.exchange.Goals as goal
 
 pub retire-requires-clause-listed : goal.retire-requires-clause-listed

@@ -1,8 +1,5 @@
 use Rattle.std.proofs.Common.{◌≡◌, ◌∙◌, sym, subst}
-use Rattle.cns_terms.specs.Entries.{journal}
-use Rattle.cns_book.specs.Contents.{Contents}
-use Rattle.cns_book.specs.Executions.{IsAccepted, fills_by}
-use Rattle.cns_book.specs.Follows.{Follows, HasRoom}
+use Rattle.cns_book.proofs.Common.{Contents, Follows, HasRoom, IsAccepted, fills_by, journal}
 use Rattle.cns_book.proofs.ExecutionSteps.{accepted_steps}
 use Rattle.cns_book.proofs.NoticeBounds.{executions_fit}
 use Rattle.cns_book.proofs.parts.Parts.execute.Goals as goal

@@ -1,8 +1,5 @@
-use Rattle.std.proofs.Common.{◌≤◌, sym, subst}
-use Rattle.std.specs.Prelude.{unsigned_abs}
-use Rattle.cns_terms.specs.Limits.{position_limit}
-use Rattle.cns_terms.specs.declared.holding.Holding.{Holding}
-use Rattle.cns_book.specs.Follows.{HasRoom}
+use Rattle.std.proofs.Common.{◌≤◌, sym, subst, unsigned_abs}
+use Rattle.cns_book.proofs.Common.{HasRoom, Holding, position_limit}
 use Rattle.cns_book.proofs.PartsWithin.{member_within}
 use Rattle.cns_book.proofs.parts.Parts.holding.Goals as goal
 

@@ -1,10 +1,6 @@
 use Rattle.std.proofs.Common.{◌≡◌, ◌∙◌, ap, sym, subst, false}
-use Rattle.std.specs.Option.{option_map_or}
-use Rattle.cns_terms.specs.Entries.{journal}
-use Rattle.cns_terms.specs.Listings.{is_retired}
+use Rattle.cns_book.proofs.Common.{Contents, Follows, is_retired, journal, option_map_or}
 use Rattle.cns_prices.specs.declared.prices.Quote.{Quote}
-use Rattle.cns_book.specs.Contents.{Contents}
-use Rattle.cns_book.specs.Follows.{Follows}
 use Rattle.cns_book.proofs.parts.Parts.listed_and_retired.Goals as goal
 
 pub returns-in-Some-clause-retired : goal.returns-in-Some-clause-retired

@@ -1,9 +1,6 @@
-use Rattle.std.proofs.Common.{◌≡◌, sym, ap, subst, Some}
-use Rattle.std.specs.Prelude.{option_map}
-use Rattle.cns_terms.specs.Entries.{journal}
-use Rattle.cns_notices.specs.declared.noticed.Noticed.{Noticed}
+use Rattle.std.proofs.Common.{◌≡◌, sym, ap, subst, Some, option_map}
+use Rattle.cns_book.proofs.Common.{Contents, Noticed, journal}
 use Rattle.cns_notices.specs.Noticed.{notice_at}
-use Rattle.cns_book.specs.Contents.{Contents}
 use Rattle.cns_book.specs.Shown.{notice_of}
 use Rattle.cns_book.proofs.NoticeSteps.{notice_missing, notice_read}
 use Rattle.cns_book.proofs.parts.Parts.notice.Goals as goal

@@ -1,12 +1,5 @@
-use Rattle.std.proofs.Common.{◌≡◌, ◌∙◌, sym, ap, subst, Some, None, of_z, to_z, arith}
-use Rattle.std.specs.Int.{w64}
-use Rattle.std.specs.Prelude.{option_map}
-use Rattle.cns_terms.specs.declared.refusal.Refusal.TheVariants.{AlreadyNoticed}
-use Rattle.cns_terms.specs.Entries.{journal}
-use Rattle.cns_terms.specs.Listings.{is_listed, is_retired}
-use Rattle.cns_notices.specs.Noticed.{live_number}
-use Rattle.cns_trades.specs.Checks.{issue_rules}
-use Rattle.cns_book.specs.Contents.{Contents}
+use Rattle.std.proofs.Common.{◌≡◌, ◌∙◌, sym, ap, subst, Some, None, of_z, to_z, arith, w64, option_map}
+use Rattle.cns_book.proofs.Common.{AlreadyNoticed, Contents, is_listed, is_retired, issue_rules, journal, live_number}
 use Rattle.cns_book.proofs.ActionSteps.{none_fails}
 use Rattle.cns_book.proofs.MachineSteps.{so}
 use Rattle.cns_book.proofs.NoticeSteps.{notice_answer, notice_issue}

@@ -1,19 +1,7 @@
-use Rattle.std.proofs.Common.{◌≡◌, ◌∙◌, ◌↔◌, sym, ap, subst, true, false, List, Err}
-use Rattle.std.specs.Prelude.{IfOk}
-use Rattle.cns_units.specs.declared.account.Member.{Member}
-use Rattle.cns_terms.specs.declared.command.Activity.{Activity}
-use Rattle.cns_terms.specs.declared.holding.Key.{Key}
-use Rattle.cns_terms.specs.Actions.{AreHolders}
-use Rattle.cns_terms.specs.Entries.{entries, journal}
-use Rattle.cns_terms.specs.Listings.{members}
-use Rattle.cns_positions.specs.Rows.{books, holding_at}
-use Rattle.cns_book.specs.Follows.{Follows, HasRoom}
-use Rattle.cns_terms.specs.Refusals.{is_too_large}
-use Rattle.cns_actions.specs.declared.fault.ActionFault.TheVariants as fault
-use Rattle.cns_actions.specs.Booked.{age_brought, entries_of, issue_of, positions_in, with_age}
-use Rattle.cns_book.specs.Contents.{Contents}
-use Rattle.cns_book.specs.Effects.{activity_of, is_held_up}
+use Rattle.std.proofs.Common.{◌≡◌, ◌∙◌, ◌↔◌, sym, ap, subst, true, false, List, Err, IfOk}
+use Rattle.cns_book.proofs.Common.{Activity, AreHolders, Contents, Follows, HasRoom, Key, Member, activity_of, age_brought, books, entries, entries_of, holding_at, is_held_up, is_too_large, issue_of, journal, members, positions_in, with_age}
 use Rattle.cns_book.proofs.ActionSteps.{can_be_booked, entries_are, few_wait, held_up_is, holders_are, ok_weaker, size_is}
+use Rattle.cns_actions.specs.declared.fault.ActionFault.TheVariants as fault
 use Rattle.cns_book.proofs.parts.Parts.positions_after.Goals as goal
 
 pub next_positions-requires-clause-within : goal.next_positions-requires-clause-within

@@ -1,12 +1,8 @@
 use Rattle.std.proofs.Common.{◌≡◌, ◌∙◌, sym, subst, refl}
 use Rattle.cns_terms.specs.declared.command.Activity.TheVariants as activity
 use Rattle.cns_terms.specs.declared.reply.Reply.TheVariants as reply
-use Rattle.cns_terms.specs.Entries.{journal}
-use Rattle.cns_terms.specs.Listings.{is_listed, is_retired}
-use Rattle.cns_terms.specs.Refusals.{first_refusal, rules}
-use Rattle.cns_trades.specs.Checks.{issue_rules}
-use Rattle.cns_book.specs.Contents.{Contents}
-use Rattle.cns_book.specs.Follows.{Follows, HasRoom}
+use Rattle.cns_book.proofs.Common.{Contents, Follows, HasRoom, first_refusal, is_listed, is_retired, issue_rules, journal}
+use Rattle.cns_terms.specs.Refusals.{rules}
 use Rattle.cns_book.proofs.ActionSteps.{none_fails, price_there}
 use Rattle.cns_book.proofs.ListingSteps.{price_set}
 use Rattle.cns_book.proofs.MachineSteps.{accepted, no_refusal, so}

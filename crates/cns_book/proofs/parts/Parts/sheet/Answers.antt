@@ -1,5 +1,5 @@
 use Rattle.std.proofs.Common.{◌∙◌, sym, subst}
-use Rattle.cns_book.specs.Follows.{Follows}
+use Rattle.cns_book.proofs.Common.{Follows}
 use Rattle.cns_book.proofs.ClosedDaysSearch.{sheet_found}
 use Rattle.cns_book.proofs.parts.Parts.sheet.Goals as goal
 

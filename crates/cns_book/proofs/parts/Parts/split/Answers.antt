@@ -1,14 +1,8 @@
 use Rattle.std.proofs.Common.{◌≡◌, ◌∙◌, sym, subst, refl, true}
 use Rattle.cns_terms.specs.declared.command.Activity.TheVariants as activity
 use Rattle.cns_terms.specs.declared.reply.Reply.TheVariants as reply
-use Rattle.cns_terms.specs.declared.holding.Key.{Key}
-use Rattle.cns_terms.specs.Entries.{entries, journal}
-use Rattle.cns_terms.specs.Listings.{is_listed, is_retired}
-use Rattle.cns_terms.specs.Refusals.{first_refusal, is_too_large, rules}
-use Rattle.cns_positions.specs.Rows.{books, holding_at}
-use Rattle.cns_trades.specs.Checks.{issue_rules}
-use Rattle.cns_book.specs.Contents.{Contents}
-use Rattle.cns_book.specs.Follows.{Follows}
+use Rattle.cns_book.proofs.Common.{Contents, Follows, Key, books, entries, first_refusal, holding_at, is_listed, is_retired, is_too_large, issue_rules, journal}
+use Rattle.cns_terms.specs.Refusals.{rules}
 use Rattle.cns_book.proofs.ActionSteps.{no_fault, none_fails, not_true, split_ends, with_no_age}
 use Rattle.cns_book.proofs.MachineSteps.{accepted, no_refusal}
 use Rattle.cns_book.proofs.TradingSteps.{booked_by}

@@ -2,10 +2,7 @@ use Rattle.std.proofs.Common.{◌≡◌, ◌∙◌, sym, subst, refl, None}
 use Rattle.cns_terms.specs.declared.command.Activity.TheVariants as activity
 use Rattle.cns_terms.specs.declared.command.Command.TheVariants as command
 use Rattle.cns_terms.specs.declared.reply.Reply.TheVariants as reply
-use Rattle.cns_terms.specs.Entries.{journal}
-use Rattle.cns_terms.specs.Refusals.{refusal}
-use Rattle.cns_book.specs.Contents.{Contents}
-use Rattle.cns_book.specs.Follows.{Follows}
+use Rattle.cns_book.proofs.Common.{Contents, Follows, journal, refusal}
 use Rattle.cns_book.proofs.MachineSteps.{accepted}
 use Rattle.cns_book.proofs.NoticeSteps.{notice_withdrawn}
 use Rattle.cns_book.proofs.parts.Parts.withdraw.Goals as goal

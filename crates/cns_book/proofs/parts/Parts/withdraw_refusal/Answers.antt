@@ -1,12 +1,7 @@
 use Rattle.std.proofs.Common.{◌≡◌, ◌∙◌, sym, ap, subst, cond, Some, None}
 use Rattle.cns_terms.specs.declared.command.Activity.TheVariants as activity
 use Rattle.cns_terms.specs.declared.command.Command.TheVariants as command
-use Rattle.cns_terms.specs.declared.refusal.Refusal.TheVariants.{NotLive}
-use Rattle.cns_terms.specs.Entries.{journal}
-use Rattle.cns_terms.specs.Notices.{is_live}
-use Rattle.cns_terms.specs.Refusals.{refusal}
-use Rattle.cns_book.specs.Contents.{Contents}
-use Rattle.cns_book.specs.Follows.{Follows}
+use Rattle.cns_book.proofs.Common.{Contents, Follows, NotLive, is_live, journal, refusal}
 use Rattle.cns_book.proofs.NoticeSteps.{not_live, notice_missing, withdraw_by_stage, withdraw_missing}
 use Rattle.cns_book.proofs.parts.Parts.withdraw_refusal.Goals as goal
 

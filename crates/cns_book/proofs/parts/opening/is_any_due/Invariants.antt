@@ -1,5 +1,5 @@
 use Rattle.std.proofs.Common.{◌≡◌, drop}
-use Rattle.std.specs.List.{list_any}
+use Rattle.cns_book.proofs.Common.{list_any}
 use Rattle.cns_terms.specs.Pending.{is_due}
 use Rattle.cns_book.proofs.parts.opening.is_any_due.Given as goal
 

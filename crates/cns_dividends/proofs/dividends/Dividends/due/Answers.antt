@@ -1,7 +1,7 @@
 use Rattle.std.proofs.Common.{◌≡◌, ◌∙◌, sym, ap, subst}
+use Rattle.cns_terms.proofs.Common.{Included}
 use Rattle.std.specs.Bound.{IsForward}
 use Rattle.std.specs.BTreeMap.Range.{IsLeBy, IsLtBy}
-use Rattle.std.specs.declared.ops.Bound.TheVariants.{Included}
 use Rattle.cns_dividends.proofs.Chosen.{forward, found, start_is, start_of}
 use Rattle.cns_dividends.proofs.Places.{place_cmp}
 use Rattle.cns_dividends.specs.Placed.{dividends_of}

@@ -1,6 +1,6 @@
 use Rattle.std.proofs.Common.{◌≡◌, sym, ap, rules}
+use Rattle.cns_notices.proofs.Common.{numbers_of}
 use Rattle.cns_notices.proofs.Places.{forward, found_in_issue}
-use Rattle.cns_notices.specs.Latest.{numbers_of}
 use Rattle.cns_notices.proofs.latest.Latest.of_issue.Goals as goal
 
 pub range-requires : goal.range-requires

@@ -1,7 +1,7 @@
-use Rattle.std.proofs.Common.{◌≡◌, ◌∙◌, sym, ap, Some, cond}
-use Rattle.std.specs.Ordering.{is_eq}
+use Rattle.std.proofs.Common.{◌≡◌, ◌∙◌, sym, ap, Some, cond, is_eq}
+use Rattle.cns_notices.proofs.Common.{Numbers, number_at, numbers_of}
 use Rattle.cns_notices.proofs.Places.{put_there}
-use Rattle.cns_notices.specs.Latest.{Numbers, number_at, numbers_of, place_cmp}
+use Rattle.cns_notices.specs.Latest.{place_cmp}
 use Rattle.cns_notices.proofs.latest.Latest.put.Goals as goal
 use Rattle.cns_notices.proofs.latest.Latest.put.Goals.{in-Some, in-None+in_ok-clone-in-None, in-Ok, in-Err}
 

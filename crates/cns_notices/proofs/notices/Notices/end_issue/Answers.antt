@@ -1,6 +1,5 @@
 use Rattle.std.proofs.Common.{◌≡◌, ◌∙◌, ◌++◌, drop, length, map, refl, sym, ap, take}
-use Rattle.cns_notices.specs.Latest.{ended_each}
-use Rattle.cns_notices.specs.Noticed.{ended}
+use Rattle.cns_notices.proofs.Common.{ended, ended_each}
 use Rattle.cns_notices.proofs.Ends.{ends_issue, ends_none, within_all}
 use Rattle.cns_notices.proofs.Led.{ended_keeps, kept, map_keeps}
 use Rattle.cns_notices.proofs.Listed.{written_over}

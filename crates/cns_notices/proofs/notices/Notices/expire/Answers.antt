@@ -1,5 +1,5 @@
 use Rattle.std.proofs.Common.{◌≡◌, ◌<◌, ◌≤◌, arith, ◌∙◌, ◌++◌, drop, length, sym, ap, refl, take, map}
-use Rattle.cns_notices.specs.Noticed.{expired, expired_from}
+use Rattle.cns_notices.proofs.Common.{expired, expired_from}
 use Rattle.cns_notices.proofs.Expires.{expired_before, none_expired}
 use Rattle.cns_notices.proofs.Led.{expired_keeps, kept, map_keeps}
 use Rattle.cns_notices.proofs.Listed.{written_over}

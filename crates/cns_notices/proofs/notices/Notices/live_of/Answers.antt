@@ -1,5 +1,5 @@
 use Rattle.std.proofs.Common.{◌∙◌, ◌<◌, ◌-◌, sym, refl, subst}
-use Rattle.std.proofs.lemmas.Option.{slice_get_read}
+use Rattle.cns_notices.proofs.Common.{slice_get_read}
 use Rattle.cns_notices.proofs.Led.{no_number, number_within, live_there, none_there}
 use Rattle.cns_notices.proofs.notices.Notices.live_of.Goals as goal
 

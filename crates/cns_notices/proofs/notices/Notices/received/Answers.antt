@@ -1,5 +1,5 @@
 use Rattle.std.proofs.Common.{◌∙◌, ◌<◌, ◌-◌, sym, subst}
-use Rattle.cns_notices.specs.Noticed.{has_received}
+use Rattle.cns_notices.proofs.Common.{has_received}
 use Rattle.cns_notices.proofs.Led.{live_item, live_within, received_keeps, received_none, received_one, set_led}
 use Rattle.cns_notices.proofs.notices.Notices.received.Goals as goal
 

@@ -1,6 +1,5 @@
 use Rattle.std.proofs.Common.{◌<◌, ◌-◌, length, sym, refl, arith}
-use Rattle.cns_terms.specs.declared.buy_in.Stage.TheVariants.{Withdrawn}
-use Rattle.cns_notices.specs.Noticed.{at_stage}
+use Rattle.cns_notices.proofs.Common.{Withdrawn, at_stage}
 use Rattle.cns_notices.proofs.Led.{set_is, set_led, withdrawn_keeps}
 use Rattle.cns_notices.proofs.notices.Notices.withdraw.Goals as goal
 

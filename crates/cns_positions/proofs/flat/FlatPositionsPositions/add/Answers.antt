@@ -1,5 +1,5 @@
 use Rattle.std.proofs.Common.{◌∙◌, sym, w64}
-use Rattle.std.specs.Int.{w128}
+use Rattle.cns_positions.proofs.Common.{w128}
 use Rattle.std.proofs.lemmas.Int.{to_z-of_z}
 use Rattle.cns_positions.proofs.Holdings.{written}
 use Rattle.cns_positions.proofs.flat.FlatPositionsPositions.add.Goals as goal

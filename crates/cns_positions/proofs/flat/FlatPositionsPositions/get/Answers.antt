@@ -1,8 +1,5 @@
 use Rattle.std.proofs.Common.{◌∙◌, sym, ap, unwrap_or}
-use Rattle.cns_terms.specs.declared.holding.Key.{Key}
-use Rattle.cns_terms.specs.declared.holding.Holding.{Holding}
-use Rattle.cns_terms.proofs.Keys.{keys_total}
-use Rattle.cns_positions.specs.Rows.{zeros}
+use Rattle.cns_positions.proofs.Common.{Holding, Key, keys_total, zeros}
 use Rattle.cns_positions.proofs.Puts.{find_gap}
 use Rattle.cns_positions.proofs.Holdings.{found_here}
 use Rattle.cns_positions.proofs.flat.FlatPositionsPositions.get.Goals as goal

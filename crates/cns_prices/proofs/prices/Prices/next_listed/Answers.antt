@@ -1,7 +1,6 @@
 use Rattle.std.proofs.Common.{◌≡◌, ◌∙◌, ap, sym}
-use Rattle.cns_terms.proofs.Finds.{sorted_from}
+use Rattle.cns_terms.proofs.Common.{nat_list_cmp_total, sorted_from}
 use Rattle.cns_prices.proofs.Next.{next_listed, start_of}
-use Rattle.std.proofs.lemmas.Cmp.{nat_list_cmp_total}
 use Rattle.cns_prices.proofs.prices.Prices.next_listed.Goals.{in-Some, in-None}
 use Rattle.cns_prices.proofs.prices.Prices.next_listed.Goals as goal
 

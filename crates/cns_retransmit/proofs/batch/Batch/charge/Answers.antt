@@ -1,8 +1,5 @@
-use Rattle.std.proofs.Common.{◌≡◌, ◌∙◌, ◌++◌, ap, sym, subst, ℕ, List, length, take, drop, map, arith}
-use Rattle.std.proofs.lemmas.List.{take_all, drop_all, append-nil}
-use Rattle.cns_terms.specs.declared.buy_in.Liable.{Liable}
-use Rattle.cns_terms.specs.Fills.{charged}
-use Rattle.cns_retransmit.specs.Members.{IsBatch}
+use Rattle.std.proofs.Common.{◌≡◌, ◌∙◌, ◌++◌, ap, sym, subst, ℕ, List, length, take, drop, map, arith, take_all, append-nil}
+use Rattle.cns_retransmit.proofs.Common.{IsBatch, Liable, charged, drop_all}
 use Rattle.cns_retransmit.proofs.Lefts.{charged_is_batch}
 use Rattle.cns_retransmit.proofs.batch.Batch.charge.Goals as goal
 

@@ -1,5 +1,5 @@
 use Rattle.std.proofs.Common.{◌∙◌, ap, sym}
-use Rattle.cns_terms.specs.Batches.{chosen}
+use Rattle.cns_retransmit.proofs.Common.{chosen}
 use Rattle.cns_retransmit.proofs.Lefts.{chosen_is_batch, none_called, none_short}
 use Rattle.cns_retransmit.proofs.batch.Batch.choose.Goals as goal
 use Rattle.cns_retransmit.proofs.batch.Batch.choose.Goals.{then-total-eq0-via-then-total-eq0, then-total-eq0-via-else-total-eq0+then-is_empty}

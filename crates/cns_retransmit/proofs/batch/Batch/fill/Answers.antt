@@ -1,11 +1,6 @@
 use Rattle.std.proofs.Common.{◌≡◌, ◌∙◌, ap, sym, subst, sum_by, ◌≤◌}
-use Rattle.cns_units.specs.declared.account.Member.{Member}
-use Rattle.cns_terms.specs.Batches.{Liables}
-use Rattle.cns_terms.specs.declared.buy_in.Fill.{Fill}
+use Rattle.cns_retransmit.proofs.Common.{CanBeCharged, Fill, Liables, Member, cents_of_fills, fills_of, shares_of_fills}
 use Rattle.cns_retransmit.specs.Members.{members_of}
-use Rattle.cns_terms.specs.Fills.{fills_of}
-use Rattle.cns_terms.proofs.FillSums.{shares_of_fills, cents_of_fills}
-use Rattle.cns_retransmit.specs.Charges.{CanBeCharged}
 use Rattle.cns_retransmit.proofs.Charging.{fills_chargeable}
 use Rattle.cns_retransmit.proofs.batch.Batch.fill.Goals as goal
 

@@ -1,5 +1,5 @@
 use Rattle.std.proofs.Common.{◌<◌, ◌≤◌, length, List, arith}
-use Rattle.cns_terms.specs.Batches.{Liables}
+use Rattle.cns_retransmit.proofs.Common.{Liables}
 use Rattle.cns_retransmit.proofs.Sought.{day_charged, day_uncharged}
 use Rattle.cns_retransmit.proofs.batches.Batches.charge.Goals as goal
 

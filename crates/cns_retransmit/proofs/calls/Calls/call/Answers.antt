@@ -1,6 +1,5 @@
-use Rattle.std.proofs.Common.{◌≡◌, ◌+◌, ◌<◌, ◌^◌, refl, sym, ap, subst, Some}
-use Rattle.std.specs.Option.{IsSome, option_map_or}
-use Rattle.cns_retransmit.specs.Calls.{CalledIn, called_in}
+use Rattle.std.proofs.Common.{◌≡◌, ◌+◌, ◌<◌, ◌^◌, refl, sym, ap, subst, Some, IsSome}
+use Rattle.cns_retransmit.proofs.Common.{CalledIn, called_in, option_map_or}
 use Rattle.cns_retransmit.proofs.Calling.{called_more}
 use Rattle.cns_retransmit.proofs.calls.Calls.call.Goals as goal
 

@@ -1,6 +1,5 @@
 use Rattle.std.proofs.Common.{sym}
-use Rattle.std.proofs.lemmas.Cmp.{nat_list_cmp_total}
-use Rattle.cns_terms.proofs.Finds.{sorted_from}
+use Rattle.cns_retransmit.proofs.Common.{nat_list_cmp_total, sorted_from}
 use Rattle.cns_retransmit.proofs.Calling.{each_chosen, ok_too, rise_ok}
 use Rattle.cns_retransmit.proofs.calls.Calls.choose.Goals as goal
 

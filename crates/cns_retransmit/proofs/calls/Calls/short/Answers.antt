@@ -1,10 +1,6 @@
-use Rattle.std.proofs.Common.{◌≡◌, ◌∙◌, refl, sym, ap, subst, Some}
-use Rattle.std.specs.Option.{IsSome}
-use Rattle.std.specs.Ordering.{is_eq, nat_cmp}
-use Rattle.std.specs.Cmp.Lexicographic.{slice_cmp}
+use Rattle.std.proofs.Common.{◌≡◌, ◌∙◌, refl, sym, ap, subst, Some, IsSome, is_eq, nat_cmp}
+use Rattle.cns_retransmit.proofs.Common.{Cusip, called_in, slice_cmp}
 use Rattle.std.proofs.lemmas.Map.Steps.{set_value_same}
-use Rattle.cns_units.specs.declared.cusip.Cusip.{Cusip}
-use Rattle.cns_retransmit.specs.Calls.{called_in}
 use Rattle.cns_retransmit.proofs.Calling.{err_so, err_too, ok_so, short_more}
 use Rattle.cns_retransmit.proofs.calls.Calls.short.Goals as goal
 

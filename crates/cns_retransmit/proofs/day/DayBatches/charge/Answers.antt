@@ -1,6 +1,5 @@
 use Rattle.std.proofs.Common.{◌≡◌, ◌∙◌, ◌<◌, ap, sym, subst, length, set, List, Some}
-use Rattle.cns_terms.specs.Batches.{Liables}
-use Rattle.cns_retransmit.specs.Days.{batch_in, charged_in, RiseByIssue}
+use Rattle.cns_retransmit.proofs.Common.{Liables, RiseByIssue, batch_in, charged_in}
 use Rattle.cns_retransmit.proofs.Sought.{batch_found, batch_missing, charged_rise, nothing_charged, written_charged}
 use Rattle.cns_retransmit.proofs.day.DayBatches.charge.Goals as goal
 

@@ -1,5 +1,5 @@
 use Rattle.std.proofs.Common.{◌∙◌, ◌<◌, ap, sym, length, List, Some}
-use Rattle.cns_terms.specs.Batches.{Liables}
+use Rattle.cns_retransmit.proofs.Common.{Liables}
 use Rattle.cns_retransmit.proofs.Sought.{batch_found, batch_missing}
 use Rattle.cns_retransmit.proofs.day.DayBatches.find.Goals as goal
 

@@ -1,9 +1,7 @@
-use Rattle.std.proofs.Common.{◌∙◌, ap, refl, sym}
+use Rattle.std.proofs.Common.{◌∙◌, ap, refl, sym, option_copied}
+use Rattle.cns_sheets.proofs.Common.{is_sorted, key_cmp, lower}
 use Rattle.cns_sheets.proofs.Weaving.{none_lower}
-use Rattle.std.specs.FinMap.{is_sorted}
-use Rattle.std.specs.Option.{option_copied}
-use Rattle.cns_terms.specs.Keys.{key_cmp}
-use Rattle.cns_sheets.specs.Woven.{left_of, lower}
+use Rattle.cns_sheets.specs.Woven.{left_of}
 use Rattle.cns_sheets.proofs.in_order.InOrder.next_below.Goals as goal
 
 pub returns-then-not-is_below : goal.returns-then-not-is_below

@@ -1,7 +1,5 @@
 use Rattle.std.proofs.Common.{◌≡◌, ◌∙◌, ◌+ℤ◌, ap, sym}
-use Rattle.cns_terms.proofs.Finds.{sorted_from}
-use Rattle.cns_terms.proofs.Keys.{keys_total}
-use Rattle.cns_sheets.specs.Woven.{cents_at}
+use Rattle.cns_sheets.proofs.Common.{cents_at, keys_total, sorted_from}
 use Rattle.cns_sheets.proofs.Booked.{cents_added, had_is, sum_added, sum_fits, sum_is, wide_fits}
 use Rattle.cns_sheets.proofs.payments.Paid.add.Goals as goal
 

@@ -1,10 +1,6 @@
 use Rattle.std.proofs.Common.{◌∙◌, ◌+ℤ◌, List, ap, subst, sym, arith}
-use Rattle.std.specs.FinMap.{is_sorted}
-use Rattle.cns_terms.specs.declared.sheet.Row.{Row}
-use Rattle.cns_terms.specs.Keys.{key_cmp}
+use Rattle.cns_sheets.proofs.Common.{IsPayable, Row, cents_at, is_sorted, key_cmp, paid}
 use Rattle.cns_sheets.specs.Build.{by_key}
-use Rattle.cns_sheets.specs.Payments.{IsPayable, paid}
-use Rattle.cns_sheets.specs.Woven.{cents_at}
 use Rattle.cns_sheets.proofs.Booked.{all_payments, few_small, one_payment_more, payable_at, payment_step, seldom}
 use Rattle.cns_sheets.proofs.payments.Paid.new.Goals as goal
 

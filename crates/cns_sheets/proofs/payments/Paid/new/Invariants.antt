@@ -1,9 +1,5 @@
-use Rattle.std.proofs.Common.{◌≡◌, ◌*◌, ◌^◌, ◌≤◌, pos, take}
-use Rattle.std.specs.Prelude.{unsigned_abs}
-use Rattle.cns_terms.specs.declared.holding.Key.{Key}
-use Rattle.cns_terms.specs.Sums.{total}
-use Rattle.cns_sheets.specs.Payments.{paid}
-use Rattle.cns_sheets.specs.Woven.{cents_at}
+use Rattle.std.proofs.Common.{◌≡◌, ◌*◌, ◌^◌, ◌≤◌, pos, take, unsigned_abs}
+use Rattle.cns_sheets.proofs.Common.{Key, cents_at, paid, total}
 use Rattle.cns_sheets.proofs.payments.Paid.new.Given as goal
 
 abbrev pub invariant-loop-payment : goal.invariant-loop-payment

@@ -1,8 +1,5 @@
-use Rattle.std.proofs.Common.{◌∙◌, ◌+ℤ◌, ap, cond, pos, refl}
-use Rattle.std.specs.Ordering.{is_eq}
-use Rattle.cns_terms.specs.declared.holding.Key.{Key}
-use Rattle.cns_terms.specs.Keys.{key_cmp}
-use Rattle.cns_sheets.specs.Woven.{cents_at}
+use Rattle.std.proofs.Common.{◌∙◌, ◌+ℤ◌, ap, cond, pos, refl, is_eq}
+use Rattle.cns_sheets.proofs.Common.{Key, cents_at, key_cmp}
 use Rattle.cns_sheets.proofs.Booked.{all_booked_small, all_small, booked_is, both_small, cancelled, neg_fits, neg_is, part_small}
 use Rattle.cns_sheets.proofs.Woven.{where_ok}
 use Rattle.cns_sheets.proofs.payments.Paid.pay.Goals as goal

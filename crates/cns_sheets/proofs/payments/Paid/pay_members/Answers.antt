@@ -1,9 +1,6 @@
 use Rattle.std.proofs.Common.{◌∙◌, ◌+ℤ◌, ap, length}
-use Rattle.std.specs.Int.{w128}
+use Rattle.cns_sheets.proofs.Common.{IsPayable, cents_at, member_cash, total, w128}
 use Rattle.std.proofs.lemmas.Int.{to_z-of_z}
-use Rattle.cns_terms.specs.Sums.{total}
-use Rattle.cns_sheets.specs.Payments.{IsPayable, member_cash}
-use Rattle.cns_sheets.specs.Woven.{cents_at}
 use Rattle.cns_sheets.proofs.Booked.{can_add, cents_step, sum_of_all, sum_step, sums_small, wide_fits}
 use Rattle.cns_sheets.proofs.RowSums.{all_given, behind, bounded_fits, bounded_step, one_more, onward, stands}
 use Rattle.cns_sheets.proofs.payments.Paid.pay_members.Goals as goal

@@ -1,11 +1,6 @@
-use Rattle.std.proofs.Common.{◌≡◌, ◌+ℤ◌, ◌++◌, if◌then◌else◌, length, pos, take}
-use Rattle.std.specs.Ordering.{is_eq}
-use Rattle.cns_terms.specs.declared.holding.Key.{Key}
-use Rattle.cns_terms.specs.Keys.{key_cmp}
-use Rattle.cns_terms.specs.Sums.{total}
+use Rattle.std.proofs.Common.{◌≡◌, ◌+ℤ◌, ◌++◌, if◌then◌else◌, length, pos, take, is_eq}
+use Rattle.cns_sheets.proofs.Common.{Key, cents_at, key_cmp, member_cash, total}
 use Rattle.cns_sheets.specs.Build.{key_of}
-use Rattle.cns_sheets.specs.Payments.{member_cash}
-use Rattle.cns_sheets.specs.Woven.{cents_at}
 use Rattle.cns_sheets.proofs.payments.Paid.pay_members.Given as goal
 
 abbrev pub invariant-loop-row : goal.invariant-loop-row

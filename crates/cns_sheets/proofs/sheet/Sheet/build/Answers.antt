@@ -1,12 +1,5 @@
-use Rattle.std.proofs.Common.{◌≡◌, ℕ, ◌≤◌, ◌==◌, None, Result, Ok, Err, IfOk, filter, map, subst, sym, arith}
-use Rattle.std.specs.Option.{option_copied}
-use Rattle.cns_terms.proofs.SheetRows.{says}
-use Rattle.cns_positions.specs.Rows.{held_above}
-use Rattle.cns_terms.specs.Limits.{amount_limit}
-use Rattle.cns_terms.specs.Sheets.{rows_for}
-use Rattle.cns_terms.proofs.Everywhere.{each_filter}
-use Rattle.cns_sheets.specs.Build.{IsMarked, prices_of, sum_limit}
-use Rattle.cns_sheets.specs.Woven.{weave}
+use Rattle.std.proofs.Common.{◌≡◌, ℕ, ◌≤◌, ◌==◌, None, Result, Ok, Err, IfOk, filter, map, subst, sym, arith, option_copied}
+use Rattle.cns_sheets.proofs.Common.{IsMarked, amount_limit, each_filter, held_above, prices_of, rows_for, says, sum_limit, weave}
 use Rattle.cns_sheets.proofs.Balance.{cut_balanced}
 use Rattle.cns_sheets.proofs.Kept.{prices_rise, row_from, rows_cut, rows_listed}
 use Rattle.cns_sheets.proofs.RowSums.{marks_stay}

@@ -1,15 +1,13 @@
 use Rattle.std.proofs.Common.{◌≡◌, ◌∙◌, sym, ap, subst, filter, List, Some, arith}
+use Rattle.cns_sheets.proofs.Common.{AreFrom, DaySheet, Key, Row, ahead_of, if_of, is_at_or_after, lowest_of, rows_for, without_keys}
 use Rattle.std.specs.List.{find as first}
-use Rattle.cns_terms.specs.declared.holding.Key.{Key}
-use Rattle.cns_terms.specs.declared.sheet.Row.{Row}
-use Rattle.cns_terms.specs.Sheets.{DaySheet, rows_for}
-use Rattle.cns_tree.specs.Search.{is_after, is_at_or_after}
-use Rattle.cns_sheets.specs.Build.{by_key, without_keys}
-use Rattle.cns_sheets.specs.Walking.{AreFrom, ahead_of, if_of, lowest_of, passed}
+use Rattle.cns_tree.specs.Search.{is_after}
+use Rattle.cns_sheets.specs.Build.{by_key}
+use Rattle.cns_sheets.specs.Walking.{passed}
 use Rattle.cns_sheets.proofs.Walked.{account_walk}
-use Rattle.cns_sheets.proofs.sheet.Sheet.rows_of.Goals as goal
 use Rattle.cns_sheets.proofs.sheet.Sheet.rows_of.Goals.{After-walk_above-rest}
 use Rattle.cns_sheets.proofs.sheet.Sheet.rows_of.Given.{Over}
+use Rattle.cns_sheets.proofs.sheet.Sheet.rows_of.Goals as goal
 
 -- what was found, and what the walk has left
 walked : (g : Over) (c : After-walk_above-rest g) → AreFrom c.args.account (without_keys c.walk_above-rest.result) × (rows_for (without_keys c.self.inside.rows) c.args.account ≡ ahead_of c.of_account-first.result (without_keys c.walk_above-rest.result) c.args.account)

@@ -1,5 +1,5 @@
 use Rattle.std.proofs.Common.{arith}
-use Rattle.std.proofs.lemmas.List.{length-map}
+use Rattle.cns_sheets.proofs.Common.{length-map}
 use Rattle.cns_sheets.proofs.Added.{zero_fits}
 use Rattle.cns_sheets.proofs.sheet.Sheet.totals.Goals as goal
 

@@ -1,8 +1,7 @@
 use Rattle.std.proofs.Common.{◌≤◌, ap, filter, not, sym, subst, ◌∙◌}
+use Rattle.cns_terms.proofs.Common.{each_filter, shares_limit}
 use Rattle.cns_terms.specs.declared.pend.Pend.{Pend}
-use Rattle.cns_terms.specs.Limits.{shares_limit}
 use Rattle.cns_terms.specs.Pending.{is_due}
-use Rattle.cns_terms.proofs.Everywhere.{each_filter}
 use Rattle.cns_trades.specs.Sides.{AreSummed, sides_of}
 use Rattle.cns_trades.proofs.pending.Pending.settle.Goals as goal
 

@@ -1,0 +1,9 @@
+use Rattle.std.proofs.Common.{◌*◌, ◌≤◌, length, subst, arith}
+use Rattle.cns_terms.proofs.Common.{binary_digits}
+use Rattle.cns_tree.proofs.Heights.{few_digits}
+use Rattle.cns_tree.proofs.tree.Tree.get_counted.Goals as goal
+
+pub returns-clause-count : goal.returns-clause-count
+returns-clause-count g c =
+    let few = subst (λ rows. c.self.inside.root.1 ≤ 2 * binary_digits (length rows)) c.self.view_is (few_digits _ _ c.get.ensures.shallow) in
+    omega (arith, c.get.ensures.count, few)
