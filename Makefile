@@ -1,4 +1,4 @@
-# The commands of README.md; `make help` lists them. They need Bash, GNU make, Python 3 and the toolchain's `rt` on the path.
+# The commands of README.md and docs/contributing.md; `make help` lists them. They need Bash, GNU make, Python 3 and the toolchain's `rt` on the path.
 
 SHELL := bash
 .SHELLFLAGS := -eu -o pipefail -c
@@ -13,7 +13,9 @@ BUILT := $(shell sed -n '/^\# tests alone/q; s/^\([a-z_]*\):.*/\1/p' crates.txt)
 
 CRATES :=
 
-.PHONY: help try build sample compare test fuzz trials times bench
+CRATE := cnsbook
+
+.PHONY: help try build check sample compare test fuzz trials times bench
 
 help:
 	@grep -E '^# [a-z]+:' Makefile | sed 's/^# //'
@@ -45,6 +47,10 @@ build:
 	        echo " proved in $$((SECONDS - begun)) s"; \
 	    done
 
+# check: proves one crate and those below it, as CRATE=cns_prices
+check:
+	@cd crates/$(CRATE) && rt check
+
 # sample: builds the program and replays the samples
 sample: build compare
 
@@ -55,9 +61,7 @@ compare:
 	done
 	@echo "samples passed: $(SAMPLES)"
 
-# test: the gate: every proof, the edits that the check must refuse, all tests and cases, the program driven through a pipe,
-# to each of its statuses, with each growth of its memory refused, over bytes that are no text, over the samples and beside
-# a recomputation; tells where its processor time went
+# test: the gate, then the program by all scripts of tests; tells where the gate's processor time went
 test:
 	@python3 tests/times.py env RT_JOBS="$$(nproc)" rt ci; \
 	    bash tests/pipe.sh $(PROGRAM); \
@@ -68,6 +72,7 @@ test:
 	    python3 tests/fuzz.py --model; \
 	    python3 tests/fuzz.py $(PROGRAM) --seconds 20; \
 	    bash tests/trials.sh --apply; \
+	    python3 tests/documents.py $(PROGRAM); \
 	    $(MAKE) --no-print-directory compare; \
 	    echo "the gate passed in $$((SECONDS / 60)) minutes; the line 'rt: ok' above says what it took from kept work"
 

@@ -1,5 +1,8 @@
 // Tests of counted comparisons: what a probe counts, and at most two comparisons for each binary digit of the number of rows,
 // whatever the order in which the rows came.
+ghost use Rattle.std.specs.Prelude.{◌≡◌};
+ghost use Rattle.cns_positions.specs.Rows.{IsThere};
+
 use crate::tree::{ORDERS, Order, placed_key, placed_tree};
 use crate::values::{APPLE, CISCO, key};
 use cns_positions::{Positions, TreePositions};
@@ -105,18 +108,32 @@ fn nothing_is_compared_in_an_empty_tree(rt: HostRuntime) {
     assert!(rt; tree.get(*key) == Some(7));
 }
 
-// Books one share more, and one less, at a key that was prepared, by counted bookings.
-fn book_and_unbook(rt: &impl Abort, positions: &mut TreePositions<Global>, key: &Key) -> u64 {
-    positions.prepare(&[*key]).expect(rt, "memory");
+// Books a share at a prepared key where none stands, and takes it back where one does. How many comparisons that took.
+fn turn_share(positions: &mut TreePositions<Global>, key: &Key) -> u64
+    requires { IsThere positions.old.rows positions.old.prepared key.now }
+    ensures { positions.new.prepared ≡ positions.old.prepared }
+{
     let mut probe = Probe::new(*key);
-    if positions.get(*key) == Holding::ZEROS {
-        positions.add_counted(&mut probe, 1, 0);
+    let held = positions.get(*key);
+    if held.contract != 0 {
+        return 0;
     }
-    let held = positions.get_counted(&mut probe);
-    if held.now == 1 && held.contract == 0 {
+    if held.now == 0 {
+        positions.add_counted(&mut probe, 1, 0);
+        return probe.count();
+    }
+    if held.now == 1 {
         positions.add_counted(&mut probe, -1, 0);
     }
     probe.count()
+}
+
+// Books a share at a key that is prepared first, and takes it back.
+fn book_and_unbook(rt: &impl Abort, positions: &mut TreePositions<Global>, key: &Key) {
+    positions.prepare(&[*key]).expect(rt, "memory");
+    assert!(rt; is_few(turn_share(positions, key), 2));
+    assert!(rt; positions.get(*key).now == 1);
+    assert!(rt; is_few(turn_share(positions, key), 2));
 }
 
 #[test]
@@ -124,7 +141,7 @@ fn a_prepared_key_has_a_row_of_zeros_which_no_pass_gives(rt: HostRuntime) {
     let mut positions: TreePositions<Global> = TreePositions::new(rt.alloc());
     let key = &key(&rt, 1, APPLE);
     assert!(rt; positions.len() == 0);
-    assert!(rt; is_few(book_and_unbook(&rt, &mut positions, key), 6));
+    book_and_unbook(&rt, &mut positions, key);
     positions.roll();
     assert!(rt; positions.next_row(None).is_none());
     assert!(rt; positions.len() == 1);
