@@ -148,7 +148,7 @@ def main():
         print("documents:", fault, file=sys.stderr)
     if checked.faults:
         sys.exit(1)
-    print("documents agree:", ", ".join(f"{count} {what}" for what, count in checked.counts.items()))
+    print("documents agree:", ", ".join(f"{what} {count}" for what, count in checked.counts.items()))
 
 
 main()
