@@ -1,4 +1,4 @@
-//! The program `cnsbook`: the books of Continuous Net Settlement from a command line.
+//! The program `cnsbook`, version 0.1.0: the books of Continuous Net Settlement from a command line.
 //!
 //! `main` gathers the words of the line and lends standard input, output and error; `program` of `cns_program`, where to
 //! start, does the rest.
