@@ -9,7 +9,7 @@ pub use Rattle.cns_positions.proofs.Held.{last_given}
 pub use Rattle.cns_positions.proofs.Puts.{find_at, find_gap}
 pub use Rattle.cns_positions.proofs.Unheld.{held_same}
 pub use Rattle.cns_prices.specs.Listed.{Listed, listed_above, price_in}
-pub use Rattle.cns_sheets.specs.Build.{HasSmallCents, IsMarked, PriceList, price_on, priced_row, prices_of, sum_limit, without_keys}
+pub use Rattle.cns_sheets.specs.Build.{Columns, HasSmallCents, IsMarked, PriceList, full_row, full_rows, price_on, priced_row, prices_of, sum_limit}
 pub use Rattle.cns_sheets.specs.Condition.{CanBeCut}
 pub use Rattle.cns_sheets.specs.Payments.{IsCut, IsPayable, Paying, member_cash, paid}
 pub use Rattle.cns_sheets.specs.Walking.{AreFrom, ahead_of, if_of, lowest_of}

@@ -13,4 +13,7 @@ pub mod LowestCusip
 pub mod Walked
 pub mod Crossing
 pub mod Added
+pub mod Gained
+pub mod InIssue
+pub mod PaidIn
 pub mod Common

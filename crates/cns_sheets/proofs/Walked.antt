@@ -1,9 +1,11 @@
 -- The rows of an account, found from its first row on.
-use Rattle.std.proofs.Common.{◌≡◌, ◌∙◌, sym, ap, refl, subst, ℕ, ◌^◌, ◌<◌, ◌≤◌, ◌==◌, Bool, true, false, not, cond, List, [], ◌∷◌, filter, length, Option, Some, None, arith, is_lt, nat_cmp, Ordering, Less, Equal, Greater}
-use Rattle.cns_sheets.proofs.Common.{Account, AllByRecursion, AreFrom, IsMarked, Key, PriceList, Row, ahead_of, and_left, and_right, below_all, if_of, is_at_or_after, is_sorted, key_cmp, keys_total, length-map, lowest_of, nat_tests, next_above, ordering_then, rows_for, sorted_filter, without_keys}
+use Rattle.std.proofs.Common.{◌≡◌, ◌∙◌, sym, ap, refl, subst, ℕ, ◌^◌, ◌<◌, ◌≤◌, ◌==◌, ◌&&◌, map, option_map, is_eq, Bool, true, false, not, cond, List, [], ◌∷◌, filter, length, Option, Some, None, arith, is_lt, nat_cmp, Ordering, Less, Equal, Greater}
+use Rattle.cns_sheets.proofs.Common.{Account, AllByRecursion, AreFrom, IsMarked, Key, PriceList, Row, ahead_of, and_left, and_right, below_all, equal, exact_keys, if_of, is_at_or_after, is_sorted, key_cmp, keys_total, length-map, lowest_of, nat_tests, next_above, ordering_then, rows_for, sorted_filter}
 use Rattle.std.specs.List.{find as first}
 use Rattle.cns_tree.specs.Search.{is_after}
-use Rattle.cns_sheets.specs.Build.{IsPlanted, IsSheet, by_key, key_of}
+use Rattle.std.specs.FinMap.{find}
+use Rattle.cns_sheets.specs.Build.{Columns, IsPlanted, IsSheet, by_key, full_row, full_rows, key_of}
+use Rattle.cns_sheets.specs.Search.{row_at}
 use Rattle.cns_sheets.specs.Walking.{passed}
 
 -- ---- rows with their keys
@@ -12,22 +14,54 @@ use Rattle.cns_sheets.specs.Walking.{passed}
 abbrev with_key : Row → Key × Row
 with_key r = (key_of r, r)
 
+-- a key and columns make a row with that key
+abbrev filled : Key × Columns → Key × Row
+filled e = (e.0, full_row e)
+
+-- rows that are made of keys and columns, with their keys
+by_filled : (es : List (Key × Columns)) → by_key (full_rows es) ≡ map filled es
+by_filled [] = refl
+by_filled (e ∷ es) = ap (λ ys. filled e ∷ ys) (by_filled es)
+
+-- keys below which none of some entries is, with the rows as with the columns
+below_filled : (k : Key) (es : List (Key × Columns)) → below_all key_cmp k (by_key (full_rows es)) ≡ below_all key_cmp k es
+below_filled k [] = refl
+below_filled k (e ∷ es) = ap (λ b. is_lt (key_cmp k e.0) && b) (below_filled k es)
+
+-- the keys of rows rise where those of their columns do
+pub sorted_filled : (es : List (Key × Columns)) → is_sorted key_cmp (by_key (full_rows es)) ≡ is_sorted key_cmp es
+sorted_filled [] = refl
+sorted_filled (e ∷ es) = λ i. below_filled e.0 es i && sorted_filled es i
+
+-- a tree of columns that make the rows of a sheet keeps what a sheet keeps
+pub planted : (prices : PriceList) (es : List (Key × Columns)) (rows : List Row) → full_rows es ≡ rows → IsSheet prices rows → length rows < 2 ^ 64 → IsPlanted prices es
+planted prices es rows h kept few = record {
+  sheet = rw h kept;
+  countable = rw (← length-map es full_row, h) few;
+}
+
+-- the row at a key is made of the columns there
+row_filled : (k : Key) (es : List (Key × Columns)) → find key_cmp k (by_key (full_rows es)) ≡ option_map (λ v. full_row (k, v)) (find key_cmp k es)
+row_filled k [] = refl
+row_filled k (e ∷ es) = branch (is_eq (key_cmp k e.0)) (λ h. exact_keys k e.0 (equal _ h)) (row_filled k es)
+  where
+    branch : (b : Bool) → (b ≡ true → k ≡ e.0) → find key_cmp k (by_key (full_rows es)) ≡ option_map (λ v. full_row (k, v)) (find key_cmp k es)
+        → cond b (Some (full_row e)) (find key_cmp k (by_key (full_rows es))) ≡ option_map (λ v. full_row (k, v)) (cond b (Some e.1) (find key_cmp k es))
+    branch true same h = ap (λ q. Some (full_row (q, e.1))) (sym (same refl))
+    branch false same h = h
+
+-- rows without their keys
+abbrev without_keys : List (Key × Row) → List Row
+without_keys es = map (λ e. e.1) es
+
 -- rows that were given their keys, without them
-pub unkeyed : (rows : List Row) → without_keys (by_key rows) ≡ rows
+unkeyed : (rows : List Row) → without_keys (by_key rows) ≡ rows
 unkeyed [] = refl
 unkeyed (r ∷ rs) = ap (λ ys. r ∷ ys) (unkeyed rs)
 
--- the rows of a tree that was made of rows with their keys
-pub of_tree : (es : List (Key × Row)) (rows : List Row) → es ≡ by_key rows → without_keys es ≡ rows
-of_tree es rows h = ap without_keys h ∙ unkeyed rows
-
--- such a tree keeps what a sheet keeps
-pub planted : (prices : PriceList) (es : List (Key × Row)) (rows : List Row) → es ≡ by_key rows → IsSheet prices rows → length rows < 2 ^ 64 → IsPlanted prices es
-planted prices es rows h kept few = record {
-  sheet = rw (of_tree es rows h) kept;
-  keyed = rw (of_tree es rows h) h;
-  countable = rw (h, length-map rows with_key) few;
-}
+-- what is found among the columns, as a row
+pub row_found : (k : Key) (es : List (Key × Columns)) (o : Option Columns) → o ≡ find key_cmp k es → option_map (λ v. full_row (k, v)) o ≡ row_at (full_rows es) k
+row_found k es o h = ap (option_map (λ v. full_row (k, v))) h ∙ sym (row_filled k es)
 
 -- what a test of rows keeps, with the keys
 kept_rows : (p : Row → Bool) (rows : List Row) → filter (λ e. p e.1) (by_key rows) ≡ by_key (filter p rows)
@@ -47,9 +81,26 @@ kept_keys t (r ∷ rs) = branch (t (key_of r)) (kept_keys t rs)
     branch true h = ap (λ ys. with_key r ∷ ys) h
     branch false h = h
 
--- the same without the keys
-pub kept_unkeyed : (t : Key → Bool) (rows : List Row) → without_keys (filter (λ e. t e.0) (by_key rows)) ≡ filter (λ r. t (key_of r)) rows
-kept_unkeyed t rows = ap without_keys (kept_keys t rows) ∙ unkeyed (filter (λ r. t (key_of r)) rows)
+-- the rows above a key
+abbrev above : Key → List Row → List Row
+above k rows = filter (λ r. is_lt (key_cmp k (key_of r))) rows
+
+-- the columns whose keys a test lets pass make the rows whose keys it lets pass
+pub kept_filled : (t : Key → Bool) (es : List (Key × Columns)) → full_rows (filter (λ e. t e.0) es) ≡ filter (λ r. t (key_of r)) (full_rows es)
+kept_filled t [] = refl
+kept_filled t (e ∷ es) = branch (t e.0) (kept_filled t es)
+  where
+    branch : (b : Bool) → full_rows (filter (λ e. t e.0) es) ≡ filter (λ r. t (key_of r)) (full_rows es) → full_rows (cond b (e ∷ filter (λ e. t e.0) es) (filter (λ e. t e.0) es)) ≡ cond b (full_row e ∷ filter (λ r. t (key_of r)) (full_rows es)) (filter (λ r. t (key_of r)) (full_rows es))
+    branch true h = ap (λ ys. full_row e ∷ ys) h
+    branch false h = h
+
+-- the columns above a key make the rows above it
+above_filled : (k : Key) (es : List (Key × Columns)) → full_rows (filter (is_after (Some k)) es) ≡ above k (full_rows es)
+above_filled k es = kept_filled (λ q. is_lt (key_cmp k q)) es
+
+-- rows that a test keeps are in order, where all are
+pub sorted_kept : (p : Row → Bool) (rows : List Row) → is_sorted key_cmp (by_key rows) ≡ true → is_sorted key_cmp (by_key (filter p rows)) ≡ true
+sorted_kept p rows s = ap (is_sorted key_cmp) (sym (kept_rows p rows)) ∙ sorted_filter keys_total p (by_key rows) s
 
 -- ---- rows from an account on
 
@@ -65,7 +116,7 @@ each_kept p P (r ∷ rs) h = branch (p r) refl (each_kept p P rs h)
 -- what a test of keys keeps of rows in order, where it keeps no lower account
 from_kept : (a : Account) (t : Key → Bool) (rows : List Row) → ((k : Key) → t k ≡ true → a ≤ k.account) → is_sorted key_cmp (by_key rows) ≡ true → AreFrom a (filter (λ r. t (key_of r)) rows)
 from_kept a t rows h s = record {
-  rise = ap (is_sorted key_cmp) (sym (kept_rows (λ r. t (key_of r)) rows)) ∙ sorted_filter keys_total (λ r. t (key_of r)) (by_key rows) s;
+  rise = sorted_kept (λ r. t (key_of r)) rows s;
   past = each_kept (λ r. t (key_of r)) (λ r. a ≤ r.account) rows (λ r e. h (key_of r) e);
 }
 
@@ -78,8 +129,8 @@ from_le : (a b : ℕ) (o : Ordering) → not (is_lt (ordering_then (nat_cmp b a)
 from_le a b o h = grind (arith, nat_tests)
 
 -- the rows above a key are from its account on
-pub from_above : (k : Key) (rows : List Row) → is_sorted key_cmp (by_key rows) ≡ true → AreFrom k.account (without_keys (filter (is_after (Some k)) (by_key rows)))
-from_above k rows s = subst (λ (rs : List Row). AreFrom k.account rs) (sym (kept_unkeyed (λ q. is_lt (key_cmp k q)) rows)) (from_kept k.account (λ q. is_lt (key_cmp k q)) rows (λ q e. above_le k.account q.account _ e) s)
+pub from_above : (k : Key) (rows : List Row) → is_sorted key_cmp (by_key rows) ≡ true → AreFrom k.account (above k rows)
+from_above k rows s = from_kept k.account (λ q. is_lt (key_cmp k q)) rows (λ q e. above_le k.account q.account _ e) s
 
 -- a higher account is another
 apart : (a b c : ℕ) → a ≤ b → (b == a) ≡ false → b ≤ c → (c == a) ≡ false
@@ -121,12 +172,12 @@ all_from a (r ∷ rs) m = branch (is_from a (key_of r)) refl (all_from a rs m.1)
     branch false e h = ap (λ c. cond c (r ∷ rows_for rs a) (rows_for rs a)) (not_its a r.account _ m.0.issue e) ∙ h
 
 -- the first of a list
-abbrev first_of : {X : Type 0} → List X → Option X
+abbrev pub first_of : {X : Type 0} → List X → Option X
 first_of [] = None
 first_of (x ∷ xs) = Some x
 
 -- the first that passes a test is the first of all that do
-first_kept : {X : Type 0} (t : X → Bool) (xs : List X) → first t xs ≡ first_of (filter t xs)
+pub first_kept : {X : Type 0} (t : X → Bool) (xs : List X) → first t xs ≡ first_of (filter t xs)
 first_kept t [] = refl
 first_kept t (x ∷ xs) = branch (t x) (first_kept t xs)
   where
@@ -134,18 +185,23 @@ first_kept t (x ∷ xs) = branch (t x) (first_kept t xs)
     branch true h = refl
     branch false h = h
 
--- what comes after a key that is not below the lowest of an account is not either
-from_later : (a : Account) (k q : Key) → is_from a k ≡ true → key_cmp k q ≡ Less → is_from a q ≡ true
-from_later a k q p l = cases (key_cmp q (lowest_of a)) refl
+-- what comes after a key that is not below another is not either
+pub from_later : (low k q : Key) → not (is_lt (key_cmp k low)) ≡ true → key_cmp k q ≡ Less → not (is_lt (key_cmp q low)) ≡ true
+from_later low k q p l = cases (key_cmp q low) refl
   where
-    cases : (o : Ordering) → key_cmp q (lowest_of a) ≡ o → not (is_lt o) ≡ true
-    cases Less e = sym (ap (λ o. not (is_lt o)) (keys_total.trans k q (lowest_of a) l e)) ∙ p
+    cases : (o : Ordering) → key_cmp q low ≡ o → not (is_lt o) ≡ true
+    cases Less e = sym (ap (λ o. not (is_lt o)) (keys_total.trans k q low l e)) ∙ p
     cases Equal e = refl
     cases Greater e = refl
 
 -- equal numbers
 same_account : (a b : ℕ) → (b == a) ≡ true → b ≡ a
 same_account a b h = grind (arith, nat_tests)
+
+-- a row that was found with its key, if it is of the account
+abbrev of_found : Account → Option (Key × Row) → Option Row
+of_found a None = None
+of_found a (Some e) = cond (e.1.account == a) (Some e.1) None
 
 module _ (a : Account) (rows : List Row) (s : is_sorted key_cmp (by_key rows) ≡ true) (m : AllByRecursion IsMarked rows) where
   -- the rows that are not below the lowest key of the account
@@ -159,8 +215,8 @@ module _ (a : Account) (rows : List Row) (s : is_sorted key_cmp (by_key rows) �
   -- those above the first of them are the others
   others : (r : Row) (rs : List Row) → from ≡ r ∷ rs → filter (λ q. is_lt (key_cmp (key_of r) (key_of q))) rows ≡ rs
   others r rs e =
-      sym (kept_unkeyed (λ q. is_lt (key_cmp (key_of r) q)) rows)
-      ∙ ap without_keys (next_above keys_total (is_from a) (by_key rows) (with_key r) (by_key rs) (from_later a) s (kept_keys (is_from a) rows ∙ ap by_key e))
+      sym (unkeyed (above (key_of r) rows))
+      ∙ ap without_keys (sym (kept_keys (λ q. is_lt (key_cmp (key_of r) q)) rows) ∙ next_above keys_total (is_from a) (by_key rows) (with_key r) (by_key rs) (from_later (lowest_of a)) s (kept_keys (is_from a) rows ∙ ap by_key e))
       ∙ unkeyed rs
 
   -- the row that a search finds is the first of them
@@ -181,7 +237,7 @@ module _ (a : Account) (rows : List Row) (s : is_sorted key_cmp (by_key rows) �
       same f = cc
   its_first false q rs r e h f = cc
 
-  first_in : (K : List Row) (r : Row) → from ≡ K → if_of a (first_of (by_key K)) ≡ Some r → IsFirst r
+  first_in : (K : List Row) (r : Row) → from ≡ K → of_found a (first_of (by_key K)) ≡ Some r → IsFirst r
   first_in [] r e f = cc
   first_in (q ∷ rs) r e f = its_first (q.account == a) q rs r e refl f
 
@@ -189,24 +245,40 @@ module _ (a : Account) (rows : List Row) (s : is_sorted key_cmp (by_key rows) �
   none_first true q rs e h f = cc
   none_first false q rs e h f = ap (λ ys. rows_for ys a) e ∙ none_is a q rs (subst (λ (ys : List Row). AreFrom a ys) e from_rows) h
 
-  none_in : (K : List Row) → from ≡ K → if_of a (first_of (by_key K)) ≡ None → rows_for from a ≡ []
+  none_in : (K : List Row) → from ≡ K → of_found a (first_of (by_key K)) ≡ None → rows_for from a ≡ []
   none_in [] e f = ap (λ ys. rows_for ys a) e
   none_in (q ∷ rs) e f = none_first (q.account == a) q rs e refl f
 
   -- where the search found a row, it comes first, and those above it follow
-  found_first : (r : Row) → if_of a (first (is_at_or_after (lowest_of a)) (by_key rows)) ≡ Some r → IsFirst r
-  found_first r f = first_in from r refl (ap (if_of a) (sym (searched from refl)) ∙ f)
+  found_first : (r : Row) → of_found a (first (is_at_or_after (lowest_of a)) (by_key rows)) ≡ Some r → IsFirst r
+  found_first r f = first_in from r refl (ap (of_found a) (sym (searched from refl)) ∙ f)
 
   -- where it found none there is none
-  found_none : if_of a (first (is_at_or_after (lowest_of a)) (by_key rows)) ≡ None → rows_for rows a ≡ []
-  found_none f = all_from a rows m ∙ none_in from refl (ap (if_of a) (sym (searched from refl)) ∙ f)
+  found_none : of_found a (first (is_at_or_after (lowest_of a)) (by_key rows)) ≡ None → rows_for rows a ≡ []
+  found_none f = all_from a rows m ∙ none_in from refl (ap (of_found a) (sym (searched from refl)) ∙ f)
 
--- what a search in a tree of rows finds of an account: its first row, followed by those above
-pub account_walk : (a : Account) (rows : List Row) (o : Option Row) → is_sorted key_cmp (by_key rows) ≡ true → AllByRecursion IsMarked rows → if_of a (first (is_at_or_after (lowest_of a)) (by_key rows)) ≡ o
-    → AreFrom a (without_keys (filter (is_after (Some (passed a o))) (by_key rows))) × (rows_for rows a ≡ ahead_of o (without_keys (filter (is_after (Some (passed a o))) (by_key rows))) a)
-account_walk a rows None s m f = (from_above (lowest_of a) rows s, found_none a rows s m f)
-account_walk a rows (Some r) s m f =
-    let found = found_first a rows s m r f in (
-      subst (λ (b : Account). AreFrom b (without_keys (filter (is_after (Some (key_of r))) (by_key rows)))) found.0 (from_above (key_of r) rows s),
-      found.1 ∙ ap (λ ys. r ∷ rows_for ys a) (sym (kept_unkeyed (λ q. is_lt (key_cmp (key_of r) q)) rows)),
-    )
+-- what a search in a list of rows finds of an account: its first row, followed by those above
+walk_rows : (a : Account) (rows : List Row) (o : Option Row) → is_sorted key_cmp (by_key rows) ≡ true → AllByRecursion IsMarked rows → of_found a (first (is_at_or_after (lowest_of a)) (by_key rows)) ≡ o
+    → AreFrom a (above (passed a o) rows) × (rows_for rows a ≡ ahead_of o (above (passed a o) rows) a)
+walk_rows a rows None s m f = (from_above (lowest_of a) rows s, found_none a rows s m f)
+walk_rows a rows (Some r) s m f =
+    let found = found_first a rows s m r f in
+    (subst (λ (b : Account). AreFrom b (above (key_of r) rows)) found.0 (from_above (key_of r) rows s), found.1)
+
+-- the first columns that a test of keys lets pass make the first such row
+first_filled : (t : Key → Bool) (es : List (Key × Columns)) (a : Account) → if_of a (first (λ e. t e.0) es) ≡ of_found a (first (λ e. t e.0) (by_key (full_rows es)))
+first_filled t [] a = refl
+first_filled t (e ∷ es) a = branch (t e.0) (first_filled t es a)
+  where
+    branch : (b : Bool) → if_of a (first (λ e. t e.0) es) ≡ of_found a (first (λ e. t e.0) (by_key (full_rows es)))
+        → if_of a (cond b (Some e) (first (λ e. t e.0) es)) ≡ of_found a (cond b (Some (filled e)) (first (λ e. t e.0) (by_key (full_rows es))))
+    branch true h = refl
+    branch false h = h
+
+-- the same in a tree of columns
+pub account_walk : (a : Account) (es : List (Key × Columns)) (o : Option Row) → is_sorted key_cmp (by_key (full_rows es)) ≡ true → AllByRecursion IsMarked (full_rows es) → if_of a (first (is_at_or_after (lowest_of a)) es) ≡ o
+    → AreFrom a (full_rows (filter (is_after (Some (passed a o))) es)) × (rows_for (full_rows es) a ≡ ahead_of o (full_rows (filter (is_after (Some (passed a o))) es)) a)
+account_walk a es o s m f =
+    let walked = walk_rows a (full_rows es) o s m (sym (first_filled (λ k. not (is_lt (key_cmp k (lowest_of a)))) es a) ∙ f) in
+    let same : above (passed a o) (full_rows es) ≡ full_rows (filter (is_after (Some (passed a o))) es) = sym (above_filled (passed a o) es) in
+    subst (λ (rs : List Row). AreFrom a rs × (rows_for (full_rows es) a ≡ ahead_of o rs a)) same walked

@@ -1,6 +1,6 @@
 -- A row of a sheet, and what a sheet keeps.
 use Rattle.std.specs.Prelude.{◌≡◌, ℕ, ◌*◌, ◌^◌, ◌<◌, ◌≤◌, ℤ, pos, ◌+ℤ◌, ◌-ℤ◌, ◌*ℤ◌, true, List, [], length, map, take, Option, Some, None, unsigned_abs, if◌then◌else◌}
-use Rattle.cns_terms.specs.Common.{Account, AllByRecursion, Cusip, DaySheet, Price, amount_limit, is_sorted, key_cmp, nat_cmp, rows_for, same_issue, slice_cmp, total}
+use Rattle.cns_terms.specs.Common.{Account, AllByRecursion, Cusip, DaySheet, Price, amount_limit, is_sorted, key_cmp, member_limit, nat_cmp, rows_for, same_issue, slice_cmp, total}
 use Rattle.std.specs.FinMap.{find}
 use Rattle.cns_terms.specs.declared.holding.Holding.{Holding}
 use Rattle.cns_terms.specs.declared.holding.Key.{Key}
@@ -28,19 +28,47 @@ worth q p = q *ℤ pos p
 abbrev pub marked : ℤ → ℤ → Price → Price → ℤ → ℤ
 marked opening closing opening_price price money = (worth closing price -ℤ worth opening opening_price) +ℤ money
 
--- the row that a holding and the cents of dividends make, by its issue's price at the close before and at this one
-abbrev pub priced_row : Price → Price → ℤ → Key × Holding → Row
-priced_row opening_price price dividend e = record {
+-- the columns of a row that neither its key nor the rule of the mark gives
+pub record Columns : Type 0 where
+  pub opening : ℤ
+  pub closing : ℤ
+  pub opening_price : Price
+  pub price : Price
+  pub money : ℤ
+  pub dividend : ℤ
+
+-- the row of a key and its columns, marked by the rule
+abbrev pub full_row : Key × Columns → Row
+full_row e = record {
   account = e.0.account;
   issue = e.0.issue;
   opening = e.1.opening;
-  closing = e.1.now;
+  closing = e.1.closing;
+  opening_price = e.1.opening_price;
+  price = e.1.price;
+  money = e.1.money;
+  mark = marked e.1.opening e.1.closing e.1.opening_price e.1.price e.1.money;
+  dividend = e.1.dividend;
+}
+
+-- the rows of keys and their columns
+abbrev pub full_rows : List (Key × Columns) → List Row
+full_rows es = map full_row es
+
+-- the columns of a holding and the cents of dividends, by its issue's price at the close before and at this one
+abbrev pub columns_of : Price → Price → ℤ → Holding → Columns
+columns_of opening_price price dividend h = record {
+  opening = h.opening;
+  closing = h.now;
   opening_price = opening_price;
   price = price;
-  money = e.1.contract;
-  mark = marked e.1.opening e.1.now opening_price price e.1.contract;
+  money = h.contract;
   dividend = dividend;
 }
+
+-- the row that they make at a key
+abbrev pub priced_row : Price → Price → ℤ → Key × Holding → Row
+priced_row opening_price price dividend e = full_row (e.0, columns_of opening_price price dividend e.1)
 
 -- the key of a row
 abbrev pub key_of : Row → Key
@@ -50,24 +78,17 @@ key_of r = record { account = r.account; issue = r.issue }
 abbrev pub by_key : List Row → List (Key × Row)
 by_key rows = map (λ r. (key_of r, r)) rows
 
--- rows without their keys
-abbrev pub without_keys : List (Key × Row) → List Row
-without_keys es = map (λ e. e.1) es
-
--- each row stands under its own key
-abbrev pub AreKeyed : List (Key × Row) → Type 0
-AreKeyed es = es ≡ by_key (without_keys es)
-
 -- a row's closing position, if it is in the issue
 abbrev pub closing_in : Cusip → Row → ℤ
 closing_in c r = if same_issue r.issue c then r.closing else pos 0
 
--- a row's mark follows its other columns, what it gains beside the cents booked is small enough to be added up, and its
--- issue is not below the lowest
+-- a row's mark follows its other columns, what it gains beside the cents booked is small enough to be added up, its issue
+-- is not below the lowest, and its account is one
 pub record IsMarked (r : Row) : Type 0 where
   pub rule : r.mark ≡ marked r.opening r.closing r.opening_price r.price r.money
   pub gained : unsigned_abs (r.mark -ℤ r.money) ≤ 2 ^ 64 * 10 ^ 9
   pub issue : IsFromLowest r.issue
+  pub account : r.account ≤ member_limit
 
 -- rows whose closings add up to zero in each issue, and their marks and dividends over all
 pub record AreBalanced (rows : List Row) : Type 0 where
@@ -102,10 +123,9 @@ pub record IsSheet (prices : PriceList) (rows : List Row) : Type 0 where
   pub small_marks : StaysSmall (λ r. r.mark) sum_limit rows
   pub small_dividends : StaysSmall (λ r. r.dividend) sum_limit rows
 
--- the same of the rows in a tree, each under its own key, and no more of them than a machine counts
-pub record IsPlanted (prices : PriceList) (es : List (Key × Row)) : Type 0 where
-  pub sheet : IsSheet prices (without_keys es)
-  pub keyed : AreKeyed es
+-- the same of the rows whose columns stand in a tree, and no more of them than a machine counts
+pub record IsPlanted (prices : PriceList) (es : List (Key × Columns)) : Type 0 where
+  pub sheet : IsSheet prices (full_rows es)
   pub countable : length es < 2 ^ 64
 
 -- the cents of a holding are small enough to be marked

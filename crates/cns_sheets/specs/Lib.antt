@@ -5,3 +5,4 @@ pub mod Condition
 pub mod Woven
 pub mod LowestCusip
 pub mod Walking
+pub mod InIssue

@@ -3,7 +3,7 @@ use Rattle.std.specs.Prelude.{◌≡◌, ◌≤◌, ◌==◌, true, if◌then◌
 use Rattle.cns_terms.specs.Common.{Account, AllByRecursion, is_sorted, key_cmp, rows_for}
 use Rattle.cns_terms.specs.declared.holding.Key.{Key}
 use Rattle.cns_terms.specs.declared.sheet.Row.{Row}
-use Rattle.cns_sheets.specs.Build.{by_key, key_of}
+use Rattle.cns_sheets.specs.Build.{Columns, by_key, full_row, key_of}
 use Rattle.cns_sheets.specs.LowestCusip.{lowest}
 
 -- a row that was read ahead, with those of the account that follow; without one nothing is left
@@ -16,10 +16,10 @@ pub record AreFrom (a : Account) (rows : List Row) : Type 0 where
   pub rise : is_sorted key_cmp (by_key rows) ≡ true
   pub past : AllByRecursion (λ r. a ≤ r.account) rows
 
--- a row that was found, if it is of the account
-abbrev pub if_of : Account → Option (Key × Row) → Option Row
+-- the row of a key and columns that were found, if it is of the account
+abbrev pub if_of : Account → Option (Key × Columns) → Option Row
 if_of a None = None
-if_of a (Some e) = if e.1.account == a then Some e.1 else None
+if_of a (Some e) = if e.0.account == a then Some (full_row e) else None
 
 -- the lowest key of an account
 abbrev pub lowest_of : Account → Key

@@ -1,5 +1,5 @@
 // Rows, cut from what stands at each key.
-ghost use Rattle.std.specs.Prelude.{◌≡◌, ◌*◌, ◌^◌, ◌≤◌, ◌+ℤ◌, ◌-ℤ◌, ℤ, ◌∷◌, [], ◌++◌, IfOk, OnOk, true, not, unsigned_abs, unwrap_or, None, Some};
+ghost use Rattle.std.specs.Prelude.{◌≡◌, ℤ, ◌∷◌, [], ◌++◌, IfOk, OnOk, true, unwrap_or, None, Some};
 ghost use Rattle.std.specs.Cmp.Lexicographic.{slice_cmp};
 ghost use Rattle.std.specs.FinMap.{is_sorted};
 ghost use Rattle.std.specs.List.{AllByRecursion};
@@ -7,95 +7,27 @@ ghost use Rattle.std.specs.Option.{option_copied};
 ghost use Rattle.std.specs.Ordering.{nat_cmp};
 ghost use Rattle.cns_terms.specs.declared.holding.Key.{Key};
 ghost use Rattle.cns_terms.specs.Keys.{key_cmp};
-ghost use Rattle.cns_terms.specs.Limits.{amount_limit};
 ghost use Rattle.cns_terms.specs.Sheets.{is_idle};
 ghost use Rattle.cns_units.specs.declared.price.Price.{Price};
 ghost use Rattle.cns_positions.specs.Rows.{Rows, held_above, last_of, present, zeros};
-ghost use Rattle.cns_sheets.specs.Build.{HasSmallCents, IsMarked, priced_row, worth, marked};
+ghost use Rattle.cns_sheets.specs.Build.{HasSmallCents, IsMarked, priced_row};
 ghost use Rattle.cns_sheets.specs.Woven.{cents_at, higher, lower, past, unheld, weave, woven_rows};
 
+use crate::columns::Columns;
 use crate::in_order::InOrder;
 use crate::keyed::KeyedRows;
 use crate::payments::Paid;
 use crate::quotes::Quotes;
 use cns_positions::{NextRows, Positions};
-use cns_terms::{Holding, Key, NoMemory, Row};
+use cns_terms::{Holding, Key, NoMemory};
 use cns_units::{Cents, Cusip, Price};
 use std::alloc::Allocator;
-
-// What a position is worth at a price, in cents.
-fn worth(shares: i64, price: Price) -> i128
-    ensures exact { result ≡ worth shares price }
-    ensures small { unsigned_abs result ≤ 2 ^ 63 * 10 ^ 9 }
-{
-    i128::from(shares) * price.value() as i128
-}
-
-// The mark of a day: what a position is worth now, less what it was worth at the close before, and the cents booked.
-fn marked(opening: i64, closing: i64, opening_price: Price, price: Price, money: i128) -> i128
-    requires { unsigned_abs money ≤ amount_limit }
-    ensures exact { result ≡ marked opening closing opening_price price money }
-    ensures gained { unsigned_abs (result -ℤ money) ≤ 2 ^ 64 * 10 ^ 9 }
-    ensures small { unsigned_abs result ≤ 2 * amount_limit }
-{
-    let gained = less(worth(closing, price), worth(opening, opening_price));
-    plus(gained, money)
-}
-
-// One amount less another.
-fn less(now: i128, then: i128) -> i128
-    requires now { unsigned_abs now ≤ 2 ^ 63 * 10 ^ 9 }
-    requires then { unsigned_abs then ≤ 2 ^ 63 * 10 ^ 9 }
-    ensures exact { result ≡ now -ℤ then }
-    ensures small { unsigned_abs result ≤ 2 ^ 64 * 10 ^ 9 }
-{
-    now - then
-}
-
-// An amount and the cents booked.
-fn plus(amount: i128, money: i128) -> i128
-    requires amount { unsigned_abs amount ≤ 2 ^ 64 * 10 ^ 9 }
-    requires money { unsigned_abs money ≤ amount_limit }
-    ensures exact { result ≡ amount +ℤ money }
-    ensures small { unsigned_abs result ≤ 2 * amount_limit }
-{
-    amount + money
-}
 
 // A price of an issue that may not be there.
 fn or_zero(price: Option<Price>) -> Price
     ensures { result ≡ unwrap_or price 0 }
 {
     price.unwrap_or(Price::ZERO)
-}
-
-// The row that a holding and the cents of dividends make, by its issue's price at the close before and at this one.
-#[tactic(auto, using(crate::proofs::LowestCusip::from_lowest))]
-fn row_of(key: &Key, holding: &Holding, dividend: Cents, opening_price: Price, price: Price) -> Row
-    requires { HasSmallCents (key.now, holding.now) }
-    ensures row { result ≡ priced_row opening_price price dividend (key.now, holding.entry.now) }
-    ensures marked { IsMarked result }
-{
-    // The call lets the proof use what the type of an issue keeps: that it is a CUSIP.
-    let _ = key.issue.bytes();
-    let mark = marked(
-        holding.opening,
-        holding.now,
-        opening_price,
-        price,
-        holding.contract,
-    );
-    Row {
-        account: key.account,
-        issue: key.issue,
-        opening: holding.opening,
-        closing: holding.now,
-        opening_price,
-        price,
-        money: Cents::of(holding.contract),
-        mark: Cents::of(mark),
-        dividend,
-    }
 }
 
 // Whether the row of a holding and the cents of dividends says nothing, whatever the prices. A holding that is no more
@@ -129,7 +61,8 @@ fn push_row<A: Allocator + Drop>(
     }
     let opening_price = or_zero(before.price(&key.issue, 0));
     let price = or_zero(now.price(&key.issue, before.passed()));
-    rows.push(row_of(key, holding, dividend, opening_price, price))
+    let columns = Columns::new(key, holding, dividend, opening_price, price);
+    rows.push(*key, columns)
 }
 
 // Puts the rows of the dividends of lower keys after others, or of all that are left where no key is given. None of

@@ -1,7 +1,8 @@
-// Rows with their keys, of which a tree is made.
+// Keys and the columns of their rows, of which a tree is made.
 ghost use Rattle.std.specs.Prelude.{◌≡◌, ◌<◌, ◌^◌, ◌∷◌, ◌++◌, [], IfOk, OnOk, length};
-ghost use Rattle.cns_sheets.specs.Build.{by_key, key_of};
+ghost use Rattle.cns_sheets.specs.Build.{full_row, full_rows, key_of};
 
+use crate::columns::Columns;
 use cns_terms::{Key, NoMemory, Row};
 use std::alloc::Allocator;
 use std::marker::Model;
@@ -16,22 +17,20 @@ pub fn key_of(row: &Row) -> Key
     }
 }
 
-/// Rows in the order in which they were pushed, each with its key. Contracts see the rows.
+/// Rows in the order in which they were pushed, each as its key and its columns. Contracts see the rows.
 #[derive(Drop)]
 pub struct KeyedRows<A: Allocator + Drop> {
-    items: Vec<(Key, Row), A>,
+    items: Vec<(Key, Columns), A>,
 }
 
 impl<A: Allocator + Drop> Model for KeyedRows<A> {
     ghost use Rattle.std.specs.Prelude.{List};
     ghost use Rattle.cns_terms.specs.declared.sheet.Row.{Row};
-    ghost use Rattle.cns_sheets.specs.Build.{AreKeyed, without_keys};
+    ghost use Rattle.cns_sheets.specs.Build.{full_rows};
 
     ghost Value = { List Row };
 
-    ghost view = { λ k. without_keys k.items.items };
-
-    ghost invariant = { λ k. AreKeyed k.items.items };
+    ghost view = { λ k. full_rows k.items.items };
 }
 
 impl<A: Allocator + Drop> KeyedRows<A> {
@@ -44,19 +43,19 @@ impl<A: Allocator + Drop> KeyedRows<A> {
         })
     }
 
-    /// Puts a row after the others.
-    pub fn push(&mut self, row: Row) -> Result<(), NoMemory>
-        ensures { OnOk result (self.new ≡ self.old ++ row ∷ []) }
+    /// Puts the row of a key after the others.
+    pub fn push(&mut self, key: Key, columns: Columns) -> Result<(), NoMemory>
+        ensures { OnOk result (self.new ≡ self.old ++ full_row (key, columns) ∷ []) }
     {
-        match self.items.push((key_of(&row), row)) {
+        match self.items.push((key, columns)) {
             Ok(()) => Ok(()),
             Err(_) => Err(NoMemory),
         }
     }
 
-    /// The rows with their keys.
-    pub fn as_slice(&self) -> &[(Key, Row)]
-        ensures rows { result.now ≡ by_key self.now }
+    /// The keys and the columns of the rows.
+    pub fn as_slice(&self) -> &[(Key, Columns)]
+        ensures rows { full_rows result.now ≡ self.now }
         ensures few { length self.now < 2 ^ 64 }
     {
         self.items.as_slice()

@@ -4,10 +4,13 @@
 //! keeps that its rows are in the order of accounts and then of the bytes of the issues, that each row's mark follows
 //! from its other columns, that in each issue the closing positions of all accounts add up to zero, and that all marks,
 //! and all dividends, add up to zero cents. Its rows stand in a balanced tree, where a row, or the first of an account, is
-//! one way down; a price is found by halving. Start with `Sheet`; `Payment` is a dividend that a close pays.
+//! one way down; of each the tree keeps the columns that neither its key nor the rule of the mark gives. A price is found
+//! by halving. Start with `Sheet`; `Payment` is a dividend that a close pays.
 #![tactic(auto)]
 
+mod columns;
 mod cutting;
+mod in_issue;
 mod in_order;
 mod keyed;
 mod lowest;

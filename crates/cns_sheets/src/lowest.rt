@@ -3,6 +3,7 @@ ghost use Rattle.std.specs.Prelude.{◌≡◌};
 ghost use Rattle.cns_sheets.specs.LowestCusip.{lowest};
 ghost use Rattle.cns_sheets.specs.Walking.{if_of, lowest_of, passed};
 
+use crate::columns::Columns;
 use crate::keyed::key_of;
 use cns_terms::{Key, Row};
 use cns_units::{Account, Cusip};
@@ -25,13 +26,13 @@ pub fn lowest_of(account: Account) -> Key
     Key { account, issue }
 }
 
-/// A row that was found, if it is of an account.
-pub fn of_account(found: Option<(Key, Row)>, account: Account) -> Option<Row>
+/// The row of a key and columns that were found, if it is of an account.
+pub fn of_account(found: Option<(Key, Columns)>, account: Account) -> Option<Row>
     ensures { result ≡ if_of account found }
 {
-    let (_key, row) = found?;
-    if row.account == account {
-        Some(row)
+    let (key, columns) = found?;
+    if key.account == account {
+        Some(columns.row(&key))
     } else {
         None
     }

@@ -10,10 +10,10 @@ ghost use Rattle.cns_sheets.specs.Build.{by_key, key_of};
 ghost use Rattle.cns_sheets.specs.Payments.{IsPayable, dividend_of, member_cash, paid, paying};
 ghost use Rattle.cns_sheets.specs.Woven.{cents_at};
 
+use crate::in_issue::IssueRows;
 use crate::in_order::InOrder;
 use crate::keyed::key_of;
 use crate::sheet::Sheet;
-use crate::walks::SheetRows;
 use cns_dividends::{Declared, cash};
 use cns_terms::{Key, NoMemory, Row};
 use cns_units::{Account, Cents};
@@ -22,7 +22,7 @@ use std::collections::BTreeMap;
 use std::marker::Model;
 
 /// A dividend that a close pays, with the sheet of the close of its record date, whose closing positions it is paid on.
-/// A close reads each row of that sheet once for each payment.
+/// For each payment a close looks up each account's row in the issue on that sheet.
 #[derive(Drop)]
 pub struct Payment<'a, A: Allocator + Drop + Clone> {
     pub declared: Declared,
@@ -69,7 +69,8 @@ impl<A: Allocator + Drop + Clone> Paid<A> {
     {
         let mut booked = Paid::nothing(alloc);
         for payment in payments {
-            booked.pay(&payment.declared, payment.sheet.rows())?;
+            let rows = payment.sheet.rows_in(payment.declared.issue);
+            booked.pay(&payment.declared, rows)?;
         }
         Ok(booked)
     }
@@ -83,12 +84,12 @@ impl<A: Allocator + Drop + Clone> Paid<A> {
         }
     }
 
-    /// Books a dividend on the rows of the sheet of its record date. The corporation gets the opposite of what all members
+    /// Books a dividend on the rows in its issue on the sheet of its record date. The corporation gets the opposite of what all members
     /// get, so the cents add up to what they did.
     pub fn pay<B: Allocator + Clone>(
         &mut self,
         declared: &Declared,
-        rows: SheetRows<'_, B>,
+        rows: IssueRows<'_, B>,
     ) -> Result<(), NoMemory>
         requires small { (k : Key) → unsigned_abs (cents_at self.old k) ≤ 10 ^ 33 }
         requires payable { IsPayable (declared.now, rows) }
@@ -108,7 +109,7 @@ impl<A: Allocator + Drop + Clone> Paid<A> {
     fn pay_members<B: Allocator + Clone>(
         &mut self,
         declared: &Declared,
-        rows: SheetRows<'_, B>,
+        rows: IssueRows<'_, B>,
     ) -> Result<i128, NoMemory>
         requires small { (k : Key) → unsigned_abs (cents_at self.old k) ≤ 10 ^ 33 }
         requires payable { IsPayable (declared.now, rows) }

@@ -2,19 +2,21 @@
 ghost use Rattle.std.specs.Prelude.{◌≡◌, ◌↔◌, ◌∷◌, [], IfOk, length, MatchOption, None, OnOk, pos, Some, true};
 ghost use Rattle.std.specs.Cmp.Lexicographic.{slice_cmp};
 ghost use Rattle.std.specs.FinMap.{is_sorted};
-ghost use Rattle.std.specs.List.{AllByRecursion};
+ghost use Rattle.std.specs.List.{AllByRecursion, filter};
 ghost use Rattle.std.specs.Ordering.{nat_cmp};
 ghost use Rattle.cns_terms.specs.Keys.{key_cmp};
 ghost use Rattle.std.specs.Option.{option_copied};
 ghost use Rattle.cns_terms.specs.Sheets.{rows_for, statement};
-ghost use Rattle.cns_terms.specs.Sums.{total};
+ghost use Rattle.cns_terms.specs.Sums.{same_issue, total};
 ghost use Rattle.cns_sheets.specs.Build.{IsMarked, IsSheet, by_key, closing_in, price_on, prices_of};
 ghost use Rattle.cns_sheets.specs.Condition.{CanBePaid, IsReady, rows_before};
 ghost use Rattle.cns_sheets.specs.Payments.{IsCut, paying};
 ghost use Rattle.cns_prices.specs.Listed.{listed_above};
 ghost use Rattle.cns_sheets.specs.Search.{prices_above, row_at};
 
+use crate::columns::Columns;
 use crate::cutting::collect;
+use crate::in_issue::IssueRows;
 use crate::keyed::KeyedRows;
 use crate::lowest::{lowest_of, of_account, passed};
 use crate::payments::{Paid, Payment};
@@ -36,16 +38,16 @@ use std::marker::Model;
 pub struct Sheet<A: Allocator + Drop + Clone> {
     date: Day,
     prices: Vec<(Cusip, Price), A>,
-    rows: Tree<Row, A>,
+    rows: Tree<Columns, A>,
 }
 
 impl<A: Allocator + Drop + Clone> Model for Sheet<A> {
     ghost use Rattle.cns_terms.specs.Sheets.{DaySheet};
-    ghost use Rattle.cns_sheets.specs.Build.{IsPlanted, without_keys};
+    ghost use Rattle.cns_sheets.specs.Build.{IsPlanted, full_rows};
 
     ghost Value = { DaySheet };
 
-    ghost view = { λ s. record { date = s.date; prices = s.prices.items; rows = without_keys s.rows } };
+    ghost view = { λ s. record { date = s.date; prices = s.prices.items; rows = full_rows s.rows } };
 
     ghost invariant = { λ s. IsPlanted s.prices.items s.rows };
 }
@@ -152,7 +154,8 @@ impl<A: Allocator + Drop + Clone> Sheet<A> {
     pub fn row(&self, key: Key) -> Option<Row>
         ensures { result ≡ row_at self.now.rows key }
     {
-        self.rows.get(key)
+        let columns = self.rows.get(key)?;
+        Some(columns.row(&key))
     }
 
     /// The rows of an account, in the order of the bytes of their issues.
@@ -162,6 +165,14 @@ impl<A: Allocator + Drop + Clone> Sheet<A> {
         let first = of_account(self.rows.first_at_or_after(lowest_of(account)), account);
         let rest = self.rows.walk_above(Some(passed(&first, account)));
         AccountRows::new(first, rest, account)
+    }
+
+    /// The rows in an issue, in the order of accounts.
+    pub(crate) fn rows_in(&self, issue: Cusip) -> IssueRows<'_, A>
+        ensures rows { result ≡ filter (λ r. same_issue r.issue issue) self.now.rows }
+        ensures order { is_sorted key_cmp (by_key result) ≡ true }
+    {
+        IssueRows::new(&self.rows, issue)
     }
 
     /// The price of an issue at the close, in cents; None where it was not listed then.

@@ -1,9 +1,10 @@
 // Rows of a sheet, one after another.
 ghost use Rattle.std.specs.Prelude.{◌≡◌, Option, MatchOption};
 ghost use Rattle.cns_terms.specs.Sheets.{rows_for};
-ghost use Rattle.cns_sheets.specs.Build.{without_keys};
+ghost use Rattle.cns_sheets.specs.Build.{full_rows};
 ghost use Rattle.cns_sheets.specs.Walking.{AreFrom, ahead_of};
 
+use crate::columns::Columns;
 use cns_terms::Row;
 use cns_tree::Walk;
 use cns_units::Account;
@@ -13,23 +14,23 @@ use std::marker::Model;
 /// An iterator over the rows of a sheet, in the order of keys. Contracts see the rows that it has left.
 #[derive(Drop)]
 pub struct SheetRows<'a, A: Allocator + Clone> {
-    walk: Walk<'a, Row, A>,
+    walk: Walk<'a, Columns, A>,
 }
 
 impl<'a, A: Allocator + Clone> Model for SheetRows<'a, A> {
     ghost use Rattle.std.specs.Prelude.{List};
     ghost use Rattle.cns_terms.specs.declared.sheet.Row.{Row};
-    ghost use Rattle.cns_sheets.specs.Build.{without_keys};
+    ghost use Rattle.cns_sheets.specs.Build.{full_rows};
 
     ghost Value = { List Row };
 
-    ghost view = { λ r. without_keys r.walk };
+    ghost view = { λ r. full_rows r.walk };
 }
 
 impl<'a, A: Allocator + Clone> SheetRows<'a, A> {
     // The rows that a walk has left.
-    pub(crate) fn new(walk: Walk<'a, Row, A>) -> Self
-        ensures { result ≡ without_keys walk.entry }
+    pub(crate) fn new(walk: Walk<'a, Columns, A>) -> Self
+        ensures { result ≡ full_rows walk.entry }
     {
         SheetRows { walk }
     }
@@ -45,8 +46,8 @@ impl<'a, A: Allocator + Clone> Iterator for SheetRows<'a, A> {
     ghost remaining = { item_count (λ r. r) };
 
     fn next(&mut self) -> Option<Row> {
-        let (_key, row) = self.walk.next()?;
-        Some(row)
+        let (key, columns) = self.walk.next()?;
+        Some(columns.row(&key))
     }
 }
 
@@ -56,32 +57,32 @@ impl<'a, A: Allocator + Clone> Iterator for SheetRows<'a, A> {
 pub struct AccountRows<'a, A: Allocator + Clone> {
     // The row that comes next, read ahead.
     next: Option<Row>,
-    rest: Walk<'a, Row, A>,
+    rest: Walk<'a, Columns, A>,
     account: Account,
 }
 
 impl<'a, A: Allocator + Clone> Model for AccountRows<'a, A> {
     ghost use Rattle.std.specs.Prelude.{List};
     ghost use Rattle.cns_terms.specs.declared.sheet.Row.{Row};
-    ghost use Rattle.cns_sheets.specs.Build.{without_keys};
+    ghost use Rattle.cns_sheets.specs.Build.{full_rows};
     ghost use Rattle.cns_sheets.specs.Walking.{AreFrom, ahead_of};
 
     ghost Value = { List Row };
 
-    ghost view = { λ r. ahead_of r.next (without_keys r.rest) r.account };
+    ghost view = { λ r. ahead_of r.next (full_rows r.rest) r.account };
 
-    ghost invariant = { λ r. AreFrom r.account (without_keys r.rest) };
+    ghost invariant = { λ r. AreFrom r.account (full_rows r.rest) };
 }
 
 // The first row of a walk, if it is of the account, whose rows come first in it.
-fn next_of<A: Allocator + Clone>(rest: &mut Walk<'_, Row, A>, account: Account) -> Option<Row>
-    requires { AreFrom account (without_keys rest.old) }
-    ensures from { AreFrom account (without_keys rest.new) }
-    ensures next { rows_for (without_keys rest.old) account ≡ ahead_of result (without_keys rest.new) account }
+fn next_of<A: Allocator + Clone>(rest: &mut Walk<'_, Columns, A>, account: Account) -> Option<Row>
+    requires { AreFrom account (full_rows rest.old) }
+    ensures from { AreFrom account (full_rows rest.new) }
+    ensures next { rows_for (full_rows rest.old) account ≡ ahead_of result (full_rows rest.new) account }
 {
-    let (_key, row) = rest.next()?;
-    if row.account == account {
-        Some(row)
+    let (key, columns) = rest.next()?;
+    if key.account == account {
+        Some(columns.row(&key))
     } else {
         None
     }
@@ -89,9 +90,9 @@ fn next_of<A: Allocator + Clone>(rest: &mut Walk<'_, Row, A>, account: Account) 
 
 impl<'a, A: Allocator + Clone> AccountRows<'a, A> {
     // The next row, with those of the account that a walk has left.
-    pub(crate) fn new(next: Option<Row>, rest: Walk<'a, Row, A>, account: Account) -> Self
-        requires { AreFrom account (without_keys rest) }
-        ensures { result ≡ ahead_of next (without_keys rest.entry) account }
+    pub(crate) fn new(next: Option<Row>, rest: Walk<'a, Columns, A>, account: Account) -> Self
+        requires { AreFrom account (full_rows rest) }
+        ensures { result ≡ ahead_of next (full_rows rest.entry) account }
     {
         AccountRows {
             next,

@@ -1,24 +1,24 @@
-use Rattle.std.proofs.Common.{◌∙◌, ◌+ℤ◌, List, ap, subst, sym, arith}
-use Rattle.cns_sheets.proofs.Common.{IsPayable, Row, cents_at, is_sorted, key_cmp, paid}
-use Rattle.cns_sheets.specs.Build.{by_key}
+use Rattle.std.proofs.Common.{◌∙◌, ◌+ℤ◌, List, ap, subst, sym}
+use Rattle.cns_sheets.proofs.Common.{IsPayable, Row, cents_at, paid}
+use Rattle.cns_sheets.proofs.PaidIn.{paid_in, payable_in}
 use Rattle.cns_sheets.proofs.Booked.{all_payments, few_small, one_payment_more, payable_at, payment_step, seldom}
 use Rattle.cns_sheets.proofs.payments.Paid.new.Goals as goal
 
-pub pay-requires : goal.pay-requires
-pay-requires g c = (
-  omega arith,
-  (
-    λ k. few_small _ c.loop-payment.payment-index (c.loop-payment.invariant.small k) (seldom c.loop-payment-test.true c.requires.few),
-    subst (λ (rs : List Row). IsPayable (c.payment-item.result.declared, rs)) (sym c.rows.ensures.rows) (payable_at (λ p. p.declared) (λ p. p.sheet.now.rows) c.args.payments.now c.loop-payment.payment-index _ c.requires.payable c.loop-payment-test.true c.payment-item.is),
-  ),
-)
+pub pay-requires-clause-small : goal.pay-requires-clause-small
+pay-requires-clause-small g c = λ k. few_small _ c.loop-payment.payment-index (c.loop-payment.invariant.small k) (seldom c.loop-payment-test.true c.requires.few)
+
+pub pay-requires-clause-payable : goal.pay-requires-clause-payable
+pay-requires-clause-payable g c =
+    let d = c.payment-item.result.declared in
+    subst (λ (rs : List Row). IsPayable (d, rs)) (sym c.rows_in-rows.ensures.rows)
+    (payable_in d _ (payable_at (λ p. p.declared) (λ p. p.sheet.now.rows) c.args.payments.now c.loop-payment.payment-index _ c.requires.payable c.loop-payment-test.true c.payment-item.is))
 
 pub loop-payment-preserved : goal.loop-payment-preserved
 loop-payment-preserved g c =
-    let order = ap (λ (rs : List Row). is_sorted key_cmp (by_key rs)) c.rows.ensures.rows ∙ c.rows.ensures.order in
+    let d = c.payment-item.result.declared in
     record {
       cents = λ k. payment_step (λ p. p.declared) (λ p. p.sheet.now.rows) c.args.payments.now k c.loop-payment.payment-index _ _ _ c.loop-payment-test.true c.payment-item.is (c.loop-payment.invariant.cents k)
-          (c.in_ok-pay.ensures.cents order k ∙ ap (λ (rs : List Row). cents_at c.loop-payment.booked k +ℤ paid c.payment-item.result.declared rs k) c.rows.ensures.rows);
+          (c.in_ok-pay.ensures.cents c.rows_in-rows.ensures.order k ∙ ap (λ n. cents_at c.loop-payment.booked k +ℤ n) (ap (λ (rs : List Row). paid d rs k) c.rows_in-rows.ensures.rows ∙ paid_in d c.payment-item.result.sheet.now.rows k));
       small = λ k. one_payment_more _ _ c.loop-payment.payment-index (c.loop-payment.invariant.small k) (c.in_ok-pay.ensures.bound k);
       zero = c.in_ok-pay.ensures.sum ∙ c.loop-payment.invariant.zero;
     }
