@@ -148,20 +148,21 @@ fn are_liable<P: Positions<A>, A: Allocator + Drop + Clone>(
     }
 }
 
-fn are_these(members: &[Liable], left: [u64; 2]) -> bool {
-    match members {
-        [two, three] => is_liable(two, (2, 60, left[0])) && is_liable(three, (3, 50, left[1])),
-        _ => false,
-    }
+// A liable member by its number, with its age, its closing position, and what is left of it.
+fn told(liable: &Liable) -> (u16, u32, u64, u64) {
+    (
+        liable.member.value(),
+        liable.age,
+        liable.closing,
+        liable.left,
+    )
 }
 
-// Whether it is this member with this closing position, so much of which is left, after one close.
-fn is_liable(liable: &Liable, is: (u16, u64, u64)) -> bool {
-    let (number, closing, left) = is;
-    liable.member.value() == number
-        && liable.age == 1
-        && liable.closing == closing
-        && liable.left == left
+fn are_these(members: &[Liable], left: [u64; 2]) -> bool {
+    match members {
+        [two, three] => told(two) == (2, 1, 60, left[0]) && told(three) == (3, 1, 50, left[1]),
+        _ => false,
+    }
 }
 
 // Looks at the batches of the days, before and after an execution.
