@@ -52,10 +52,11 @@ impl Log {
     }
 
     /// Makes room for an item, so that the next `push` takes no memory. The items and the count of lines stay; at
-    /// `NoMemory` so does the room.
+    /// `NoMemory` so does the room. Where there is room already it takes no memory.
     pub fn reserve(&mut self) -> Result<(), NoMemory>
         ensures ok { OnOk result (1 ≤ self.new.spare) }
         ensures err { OnErr result (self.new ≡ self.old) }
+        ensures full { OnErr result (self.old.spare ≡ 0) }
         ensures items { self.new.items ≡ self.old.items }
         ensures lines { self.new.lines ≡ self.old.lines }
     {
