@@ -1,3 +1,5 @@
 pub mod EndLemmas
 pub mod EndsTold
 pub mod Tallied
+pub mod CommandLine
+pub mod Workers

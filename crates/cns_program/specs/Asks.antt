@@ -1,5 +1,11 @@
 -- What a line asks for.
-use Rattle.std.specs.Prelude.{◌≤◌, ⊤, vec_len}
+use Rattle.std.specs.Prelude.{◌≡◌, ◌≤◌, ℕ, ◌&&◌, nat_le, if◌then◌else◌, List, length, map, Option, Some, None, option_and_then, option_map, codes, vec_len, ⊤}
+use Rattle.std.specs.Result.{result_ok}
+use Rattle.std.specs.Str.{bytes_eq}
+use Rattle.cns_terms.specs.Common.{Day, all_ascii_digits, digits_value}
+use Rattle.clap.specs.Words.{Row, Text, all_of, first_of}
+use Rattle.cns_units.specs.Day.{day_of}
+use Rattle.cns_program.specs.CommandLine.{found_by}
 use Rattle.cns_program.specs.declared.asked.Asked.{Asked}
 use Rattle.cns_program.specs.declared.asked.Asked.TheVariants as asked
 
@@ -8,3 +14,64 @@ abbrev pub HasWorkers : Asked → Type 0
 HasWorkers (asked.Replay opening) = ⊤
 HasWorkers (asked.Run opening files) = (1 ≤ vec_len files) × (vec_len files ≤ 64)
 HasWorkers (asked.Statements opening day workers) = (1 ≤ workers) × (workers ≤ 64)
+
+-- a replay that opens on a date; a run that opens on a date, of files by their names; the statements of the second date by
+-- a book that opens on the first, made by so many workers
+pub data Question : Type 0 where
+  replay : Day → Question
+  run : Day → List Text → Question
+  statements : Day → Day → ℕ → Question
+
+-- the same of what the program was asked
+abbrev pub question_of : Asked → Question
+question_of (asked.Replay opening) = replay opening
+question_of (asked.Run opening files) = run opening (map (λ f. f.now) files.items)
+question_of (asked.Statements opening day workers) = statements opening day workers
+
+-- the date of an option
+abbrev pub date_in : List Row → Text → Option Day
+date_in rows name = option_and_then (λ t. result_ok (day_of t)) (first_of name rows)
+
+-- digits alone, for a number from 1 to 64
+abbrev pub workers_read : Text → Option ℕ
+workers_read t =
+    if all_ascii_digits t && (nat_le 1 (digits_value 10 t) && nat_le (digits_value 10 t) 64) then Some (digits_value 10 t) else None
+
+-- how many workers are to be started
+abbrev pub workers_in : List Row → Option ℕ
+workers_in rows = option_and_then workers_read (first_of (codes "workers") rows)
+
+-- at least one name, and no more than 64
+abbrev pub names_read : List Text → Option (List Text)
+names_read names = if nat_le 1 (length names) && nat_le (length names) 64 then Some names else None
+
+-- the names of the files
+abbrev pub files_in : List Row → Option (List Text)
+files_in rows = option_and_then names_read (all_of (codes "files") rows)
+
+abbrev pub replay_in : List Row → Option Question
+replay_in rows = option_map replay (date_in rows (codes "open"))
+
+abbrev pub run_in : List Row → Option Question
+run_in rows = option_and_then (λ opening. option_map (run opening) (files_in rows)) (date_in rows (codes "open"))
+
+abbrev pub statements_in : List Row → Option Question
+statements_in rows = option_and_then
+    (λ opening. option_and_then (λ day. option_map (statements opening day) (workers_in rows)) (date_in rows (codes "day")))
+    (date_in rows (codes "open"))
+
+-- what a subcommand asks for, by what was found for its arguments
+abbrev pub question_in : Text × List Row → Option Question
+question_in p =
+    if bytes_eq p.0 (codes "replay") then replay_in p.1
+    else if bytes_eq p.0 (codes "run") then run_in p.1
+    else if bytes_eq p.0 (codes "statements") then statements_in p.1
+    else None
+
+-- what the words of a line ask for; None where the line is refused
+abbrev pub question : List Text → Option Question
+question words = option_and_then question_in (found_by words)
+
+-- this is what the words ask for
+abbrev pub Asks : List Text → Option Asked → Type 0
+Asks words a = option_map question_of a ≡ question words

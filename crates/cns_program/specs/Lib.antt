@@ -1,3 +1,4 @@
+pub mod CommandLine
 pub mod Asks
 pub mod Faults
 pub mod Lines

@@ -1,6 +1,9 @@
 // The line of the program, and what it asks for.
-ghost use Rattle.std.specs.Prelude.{◌≤◌, IfOk, IfSome, vec_len};
-ghost use Rattle.cns_program.specs.Asks.{HasWorkers};
+ghost use Rattle.std.specs.Prelude.{◌≡◌, ◌≤◌, IfOk, IfSome, false, map, option_and_then, option_map, vec_len};
+ghost use Rattle.cns_terms.specs.Common.{all_ascii_digits};
+ghost use Rattle.clap.specs.Words.{all_of, app_of, first_of, found_of, rows_of, rule_of, subcommand_rows_of};
+ghost use Rattle.cns_program.specs.Asks.{Asks, HasWorkers, date_in, files_in, question_of, replay_in, run_in, statements_in, workers_in, workers_read};
+ghost use Rattle.cns_program.specs.CommandLine.{found_by, opening_command, option_rule, program_line, run_command, statements_command};
 
 use clap::error::ErrorKind;
 use clap::{Arg, ArgAction, ArgMatches, Command, Error};
@@ -22,7 +25,10 @@ pub enum Asked<'a> {
 }
 
 // A required option with one value.
-fn option<'a>(alloc: Global, name: &'a str) -> Arg<'a> {
+fn option<'a>(alloc: Global, name: &'a str) -> Arg<'a>
+    ensures rule { rule_of result ≡ option_rule name.now }
+    ensures local { result.global ≡ false }
+{
     Arg::new(alloc, name)
         .long(name)
         .required(true)
@@ -30,7 +36,9 @@ fn option<'a>(alloc: Global, name: &'a str) -> Arg<'a> {
 }
 
 // A subcommand with a required `--open`.
-fn subcommand<'a>(alloc: Global, name: &'a str) -> Result<Command<'a>, AllocError> {
+fn subcommand<'a>(alloc: Global, name: &'a str) -> Result<Command<'a>, AllocError>
+    ensures { IfOk result (λ c. app_of c ≡ opening_command name.now) }
+{
     Command::new(alloc, name)
         .disable_help_flag(true)
         .disable_version_flag(true)
@@ -38,32 +46,49 @@ fn subcommand<'a>(alloc: Global, name: &'a str) -> Result<Command<'a>, AllocErro
         .arg(option(alloc, "open"))
 }
 
-// The lines that are taken: a subcommand with its options, and no help or version.
-fn command_line<'a>(alloc: Global) -> Result<Command<'a>, AllocError> {
+// The subcommand `run`, with one file or more.
+fn run_command<'a>(alloc: Global) -> Result<Command<'a>, AllocError>
+    ensures { IfOk result (λ c. app_of c ≡ run_command) }
+{
     let files = Arg::new(alloc, "files")
         .required(true)
         .action(ArgAction::Append)
         .num_args(1..);
+    subcommand(alloc, "run")?.arg(files)
+}
+
+// The subcommand `statements`.
+fn statements_command<'a>(alloc: Global) -> Result<Command<'a>, AllocError>
+    ensures { IfOk result (λ c. app_of c ≡ statements_command) }
+{
+    subcommand(alloc, "statements")?
+        .arg(option(alloc, "day"))?
+        .arg(option(alloc, "workers"))
+}
+
+// The lines that are taken: a subcommand with its options, and no help or version.
+fn command_line<'a>(alloc: Global) -> Result<Command<'a>, AllocError>
+    ensures { IfOk result (λ c. app_of c ≡ program_line) }
+{
     Command::new(alloc, "cnsbook")
         .disable_help_flag(true)
         .disable_version_flag(true)
         .disable_help_subcommand(true)
         .subcommand_required(true)
         .subcommand(subcommand(alloc, "replay")?)?
-        .subcommand(subcommand(alloc, "run")?.arg(files)?)?
-        .subcommand(
-            subcommand(alloc, "statements")?
-                .arg(option(alloc, "day"))?
-                .arg(option(alloc, "workers"))?,
-        )
+        .subcommand(run_command(alloc)?)?
+        .subcommand(statements_command(alloc)?)
 }
 
 // What clap makes of the words; None where it refuses them.
 fn matches_of<'a, S: AsStr>(
     alloc: Global,
     words: &'a [S],
-) -> Result<Option<ArgMatches<'a>>, NoMemory> {
-    match command_line(alloc)?.try_get_matches_from(words) {
+) -> Result<Option<ArgMatches<'a>>, NoMemory>
+    ensures { IfOk result (λ o. option_and_then subcommand_rows_of o ≡ found_by (map S.text words.now)) }
+{
+    let line = command_line(alloc)?;
+    match line.try_get_matches_from(words) {
         Ok(matches) => Ok(Some(matches)),
         Err(error) => match error.kind() {
             ErrorKind::OutOfMemory => Err(NoMemory),
@@ -72,19 +97,46 @@ fn matches_of<'a, S: AsStr>(
     }
 }
 
+// The subcommand that was used, and what was found for it.
+fn entered<'m, 'a>(matches: &'m ArgMatches<'a>) -> Option<(&'a str, &'m ArgMatches<'a>)>
+    ensures { option_map (λ p. (p.0.now, rows_of (found_of p.1.now))) result ≡ subcommand_rows_of matches.now }
+{
+    matches.subcommand()
+}
+
+// The value of an option.
+fn value<'a>(matches: &ArgMatches<'a>, name: &str) -> Option<&'a str>
+    ensures { option_map (λ s. s.now) result ≡ first_of name.now (rows_of (found_of matches.now)) }
+{
+    matches.get_str(name)
+}
+
 // The date of an option; None where it is none.
-fn date_of(matches: &ArgMatches<'_>, name: &str) -> Option<Day> {
-    let text = matches.get_str(name)?;
+fn date_of(matches: &ArgMatches<'_>, name: &str) -> Option<Day>
+    ensures { result ≡ date_in (rows_of (found_of matches.now)) name.now }
+{
+    let text = value(matches, name)?;
     Day::parse(text.as_bytes()).ok()
 }
 
-// How many workers are asked for, in digits; None where they are not 1 to 64.
-fn workers_of(matches: &ArgMatches<'_>) -> Option<usize>
-    ensures { IfSome result (λ n. (1 ≤ n) × (n ≤ 64)) }
+// Whether all bytes are digits.
+fn are_digits(bytes: &[u8]) -> bool
+    ensures { result ≡ all_ascii_digits bytes.now }
 {
-    let text = matches.get_str("workers")?;
-    // A number may have leading zeros, and no sign.
-    if !text.bytes().all(|digit| digit.is_ascii_digit()) {
+    for byte in bytes {
+        if !byte.is_ascii_digit() {
+            return false;
+        }
+    }
+    true
+}
+
+// A number of workers in digits, with leading zeros too, and no sign; None where they are not 1 to 64.
+fn workers_read(text: &str) -> Option<usize>
+    ensures value { result ≡ workers_read text.now }
+    ensures range { IfSome result (λ n. (1 ≤ n) × (n ≤ 64)) }
+{
+    if !are_digits(text.as_bytes()) {
         return None;
     }
     let Ok(workers) = text.parse::<usize>() else {
@@ -96,11 +148,28 @@ fn workers_of(matches: &ArgMatches<'_>) -> Option<usize>
     Some(workers)
 }
 
+// How many workers are asked for.
+fn workers_of(matches: &ArgMatches<'_>) -> Option<usize>
+    ensures value { result ≡ workers_in (rows_of (found_of matches.now)) }
+    ensures range { IfSome result (λ n. (1 ≤ n) × (n ≤ 64)) }
+{
+    workers_read(value(matches, "workers")?)
+}
+
+// The values of words that are no options.
+fn values<'m, 'a>(matches: &'m ArgMatches<'a>, name: &str) -> Option<&'m [&'a str]>
+    ensures { option_map (λ s. map (λ v. v.now) s.now) result ≡ all_of name.now (rows_of (found_of matches.now)) }
+{
+    matches.get_strs(name)
+}
+
 // The names of the files, where there are 1 to 64.
 fn files_of<'a>(alloc: Global, matches: &ArgMatches<'a>) -> Result<Option<Vec<&'a str>>, NoMemory>
-    ensures { IfOk result (λ r. IfSome r (λ v. (1 ≤ vec_len v) × (vec_len v ≤ 64))) }
+    ensures names { IfOk result
+        (λ r. option_map (λ v. map (λ f. f.now) v.items) r ≡ files_in (rows_of (found_of matches.now))) }
+    ensures range { IfOk result (λ r. IfSome r (λ v. (1 ≤ vec_len v) × (vec_len v ≤ 64))) }
 {
-    let Some(files) = matches.get_strs("files") else {
+    let Some(files) = values(matches, "files") else {
         return Ok(None);
     };
     if files.is_empty() || files.len() > 64 {
@@ -112,14 +181,16 @@ fn files_of<'a>(alloc: Global, matches: &ArgMatches<'a>) -> Result<Option<Vec<&'
 }
 
 fn replay_of<'a>(matches: &ArgMatches<'_>) -> Option<Asked<'a>>
-    ensures { IfSome result HasWorkers }
+    ensures question { option_map question_of result ≡ replay_in (rows_of (found_of matches.now)) }
+    ensures workers { IfSome result HasWorkers }
 {
     let opening = date_of(matches, "open")?;
     Some(Asked::Replay(opening))
 }
 
 fn run_of<'a>(alloc: Global, matches: &ArgMatches<'a>) -> Result<Option<Asked<'a>>, NoMemory>
-    ensures { IfOk result (λ r. IfSome r HasWorkers) }
+    ensures question { IfOk result (λ r. option_map question_of r ≡ run_in (rows_of (found_of matches.now))) }
+    ensures workers { IfOk result (λ r. IfSome r HasWorkers) }
 {
     let Some(opening) = date_of(matches, "open") else {
         return Ok(None);
@@ -131,7 +202,8 @@ fn run_of<'a>(alloc: Global, matches: &ArgMatches<'a>) -> Result<Option<Asked<'a
 }
 
 fn statements_of<'a>(matches: &ArgMatches<'_>) -> Option<Asked<'a>>
-    ensures { IfSome result HasWorkers }
+    ensures question { option_map question_of result ≡ statements_in (rows_of (found_of matches.now)) }
+    ensures workers { IfSome result HasWorkers }
 {
     let opening = date_of(matches, "open")?;
     let day = date_of(matches, "day")?;
@@ -142,19 +214,22 @@ fn statements_of<'a>(matches: &ArgMatches<'_>) -> Option<Asked<'a>>
 /// What the words of a line ask for, the name of the program first; None where the line, a date or a number is refused.
 /// `NoMemory` where a growth was refused.
 pub fn asked_of<'a, S: AsStr>(alloc: Global, words: &'a [S]) -> Result<Option<Asked<'a>>, NoMemory>
-    ensures { IfOk result (λ r. IfSome r HasWorkers) }
+    ensures asks { IfOk result (λ r. Asks (map S.text words.now) r) }
+    ensures workers { IfOk result (λ r. IfSome r HasWorkers) }
 {
     let Some(matches) = matches_of(alloc, words)? else {
         return Ok(None);
     };
-    if let Some(matches) = matches.subcommand_matches("replay") {
-        return Ok(replay_of(matches));
+    let Some((name, matches)) = entered(&matches) else {
+        return Ok(None);
+    };
+    if name == "replay" {
+        Ok(replay_of(matches))
+    } else if name == "run" {
+        run_of(alloc, matches)
+    } else if name == "statements" {
+        Ok(statements_of(matches))
+    } else {
+        Ok(None)
     }
-    if let Some(matches) = matches.subcommand_matches("run") {
-        return run_of(alloc, matches);
-    }
-    if let Some(matches) = matches.subcommand_matches("statements") {
-        return Ok(statements_of(matches));
-    }
-    Ok(None)
 }

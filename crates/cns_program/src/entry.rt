@@ -1,10 +1,10 @@
 // The line of the program, done.
-ghost use Rattle.std.specs.Prelude.{◌≡◌, ◌⊎◌, ◌≤◌, Result, ⊤};
+ghost use Rattle.std.specs.Prelude.{◌≡◌, ◌⊎◌, ◌≤◌, None, Result, Some, map, ⊤};
 ghost use Rattle.cns_units.specs.Output.{Writes};
 ghost use Rattle.cns_units.specs.declared.fault.WriteFault.{WriteFault};
 ghost use Rattle.cns_program.specs.declared.fault.Fault.TheVariants as faults;
 ghost use Rattle.cns_program.specs.declared.asked.Asked.{Asked};
-ghost use Rattle.cns_program.specs.Asks.{HasWorkers};
+ghost use Rattle.cns_program.specs.Asks.{Asks, HasWorkers};
 ghost use Rattle.cns_program.specs.Ends.{IsDone, TellsWork};
 ghost use Rattle.cns_program.specs.Lines.{IsTold, fault_line, usage_line};
 
@@ -56,16 +56,17 @@ pub fn run_words<
     E: Write,
 >(rt: &R, words: &[S], input: I, output: &mut O, errors: &mut E) -> Ended
     ensures status { result.status ≤ 2 }
-    ensures done { result.status ≡ 0 → (a : Asked)
+    ensures done { result.status ≡ 0 → (a : Asked) × Asks (map S.text words.now) (Some a)
         × IsDone a (I.remaining input) (O.contents output.old) (O.contents output.new) }
     ensures quiet { result.status ≡ 0 → errors.new ≡ errors.old }
     // The fault is that of the work, or memory was refused before there was any.
     ensures told { result.status ≡ 1
-        → ((a : Asked) × TellsWork a (I.remaining input) (O.contents output.old) (O.contents output.new)
+        → ((a : Asked) × Asks (map S.text words.now) (Some a)
+        × TellsWork a (I.remaining input) (O.contents output.old) (O.contents output.new)
         (E.contents errors.old) (E.contents errors.new) result.told)
         ⊎ (Writes (E.contents errors.old) (E.contents errors.new) (fault_line faults.NoMemory) result.told
         × (output.new ≡ output.old)) }
-    ensures refused { result.status ≡ 2 → output.new ≡ output.old }
+    ensures refused { result.status ≡ 2 → Asks (map S.text words.now) None × (output.new ≡ output.old) }
     ensures usage { result.status ≡ 2 → Writes (E.contents errors.old) (E.contents errors.new) usage_line result.told }
 {
     match asked_of(rt.alloc(), words) {
@@ -77,9 +78,10 @@ pub fn run_words<
 
 /// Runs the program on the words of its line, its name first, and answers its status.
 ///
-/// 0: the work was done, all of the output is written and flushed, and nothing went to `errors`. 1: a fault, whose line
-/// went to `errors`; what was written before stands in `output`. 2: the line is refused, or its date is none, so nothing
-/// was read, nothing went to `output`, and the usage line to `errors`. A failure to write to `errors` changes no status.
+/// 0: the work that the line asks for was done, all of the output is written and flushed, and nothing went to `errors`. 1: a
+/// fault, whose line went to `errors`; what was written before stands in `output`. 2: the line is refused, or its date is
+/// none, so nothing was read, nothing went to `output`, and the usage line to `errors`. A failure to write to `errors`
+/// changes no status. `Asks` in `specs/Asks.antt` says what a line asks for.
 pub fn program<
     F: Read + Send + Drop,
     R: AllocGlobal + Files<File = F> + Threads + Wait + Sync,
@@ -89,16 +91,18 @@ pub fn program<
     E: Write,
 >(rt: &R, words: &[S], input: I, output: &mut O, errors: &mut E) -> u8
     ensures status { result ≤ 2 }
-    ensures done { result ≡ 0 → (a : Asked)
+    // The work is what the words of the line ask for.
+    ensures done { result ≡ 0 → (a : Asked) × Asks (map S.text words.now) (Some a)
         × IsDone a (I.remaining input) (O.contents output.old) (O.contents output.new) }
     ensures quiet { result ≡ 0 → errors.new ≡ errors.old }
     // The fault is that of the work, or memory was refused before there was any.
     ensures told { result ≡ 1 → (told : Result ⊤ WriteFault)
-        × (((a : Asked) × TellsWork a (I.remaining input) (O.contents output.old) (O.contents output.new)
+        × (((a : Asked) × Asks (map S.text words.now) (Some a)
+        × TellsWork a (I.remaining input) (O.contents output.old) (O.contents output.new)
         (E.contents errors.old) (E.contents errors.new) told)
         ⊎ (Writes (E.contents errors.old) (E.contents errors.new) (fault_line faults.NoMemory) told
         × (output.new ≡ output.old))) }
-    ensures refused { result ≡ 2 → output.new ≡ output.old }
+    ensures refused { result ≡ 2 → Asks (map S.text words.now) None × (output.new ≡ output.old) }
     ensures usage { result ≡ 2 → IsTold (E.contents errors.old) (E.contents errors.new) usage_line }
 {
     run_words(rt, words, input, output, errors).status

@@ -1,0 +1,58 @@
+-- What is known of the program's line, for the functions that build it and read what clap makes of words.
+use Rattle.std.proofs.Common.{◌≡◌, ◌&&◌, Bool, true, false, not, refl, sym, arith, subst, List, [], ◌∷◌, Option, Some, None, option_map}
+use Rattle.std.specs.Option.{IsSomeAnd}
+use Rattle.std.proofs.lemmas.Bool.{ne_eqb}
+use Rattle.clap.proofs.OnLiterals.{clap_on_literals}
+use Rattle.clap.specs.Kinds.{IsAmong, Kinds}
+use Rattle.clap.specs.Walk.{is_empty}
+use Rattle.clap.specs.Words.{App, Row, Text, fault_of, is_simple, is_simple_and_free, subcommand_of}
+use Rattle.clap.specs.declared.error.kind.ErrorKind.{ErrorKind}
+use Rattle.cns_program.specs.CommandLine.{found_by, program_line}
+
+-- the third of the settings of a plain command, by which it has no argument for all its subcommands
+pub third_is_off : (a b c rest : Bool) → (a && (not b && (not c && rest))) ≡ true → c ≡ false
+third_is_off true false false rest h = refl
+third_is_off true false true rest h = cc
+third_is_off true true c rest h = cc
+third_is_off false b c rest h = cc
+
+-- clap tells of lines of this form what they give
+pub line_is_simple : is_simple program_line ≡ true
+unfolding program_line clap_on_literals
+line_is_simple = refl
+
+pub line_is_free : is_simple_and_free program_line ≡ true
+unfolding program_line clap_on_literals
+line_is_free = refl
+
+abbrev both : {A B C : Type 0} → (A → B) → (A → C) → A → B × C
+both f g a = (f a, g a)
+
+-- two readings of one thing, together
+pub paired : {A B C D : Type 0} (f : A → B) (g : A → C) (n : D → B) (w : D → C) (r : Option D) (o : Option A)
+    → option_map n r ≡ option_map f o → option_map w r ≡ option_map (λ (p : B × C). p.1) (option_map (both f g) o)
+    → option_map (both n w) r ≡ option_map (both f g) o
+paired f g n w None None one two = refl
+paired f g n w None (Some a) one two = cc
+paired f g n w (Some d) None one two = cc
+paired f g n w (Some d) (Some a) one two = cc
+
+-- a value that has to be a given one
+pub only_value : {A : Type 0} (o : Option A) (a : A) → IsSomeAnd o (λ x. x ≡ a) → o ≡ Some a
+only_value None a h = absurd h
+only_value (Some x) a h = cc
+
+-- a line that clap takes
+pub taken : (a : App) (words : List Text) (rows : Option (Text × List Row)) → a ≡ program_line
+    → fault_of a words ≡ [] → rows ≡ subcommand_of a words → rows ≡ found_by words
+taken a words rows is none e =
+    subst (λ (l : App). fault_of l words ≡ [] → rows ≡ subcommand_of l words → rows ≡ found_by words) (sym is) (λ n s. rw n s) none e
+
+some_kind : (k : ErrorKind) (kinds : Kinds) → IsAmong k kinds → is_empty kinds ≡ false
+some_kind k [] h = absurd h
+some_kind k (x ∷ xs) h = ne_eqb _ _ (λ e. omega (arith, e))
+
+-- a line that it refuses
+pub refused : (a : App) (words : List Text) (k : ErrorKind) → a ≡ program_line → IsAmong k (fault_of a words) → None ≡ found_by words
+refused a words k is among =
+    subst (λ (l : App). is_empty (fault_of l words) ≡ false → None ≡ found_by words) (sym is) (λ n. rw n refl) (some_kind k _ among)
