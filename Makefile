@@ -4,6 +4,7 @@ SHELL := bash
 .SHELLFLAGS := -eu -o pipefail -c
 
 PROGRAM := crates/cnsbook/out/cnsbook
+PAGE := crates/cnspage/out/cnspage
 DRIVER := crates/cns_desk_growths/out/cns_desk_growths
 OPENING := 2024-06-03
 SAMPLES := day week actions buy-in merger
@@ -41,9 +42,10 @@ build:
 	        printf '[%s/%s] %s ...' "$$number" $(words $(BUILT)) "$$crate"; \
 	        case $$crate in \
 	            cnsbook) verb='run -- replay --open $(OPENING)';; \
+	            cnspage) verb='run -- --open $(OPENING)';; \
 	            *) verb=lib;; \
 	        esac; \
-	        (cd "crates/$$crate" && rt $$verb) < /dev/null > "$$log" 2>&1 || { echo; cat "$$log"; exit 1; }; \
+	        (cd "crates/$$crate" && rt $$verb) < examples/day.csv > "$$log" 2>&1 || { echo; cat "$$log"; exit 1; }; \
 	        echo " proved in $$((SECONDS - begun)) s"; \
 	    done
 
@@ -71,8 +73,9 @@ test:
 	    bash tests/quoted.sh $(PROGRAM); \
 	    python3 tests/fuzz.py --model; \
 	    python3 tests/fuzz.py $(PROGRAM) --seconds 20; \
+	    bash tests/page.sh $(PAGE); \
 	    bash tests/trials.sh --apply; \
-	    python3 tests/documents.py $(PROGRAM); \
+	    python3 tests/documents.py $(PROGRAM) $(PAGE); \
 	    $(MAKE) --no-print-directory compare; \
 	    echo "the gate passed in $$((SECONDS / 60)) minutes; the line 'rt: ok' above says what it took from kept work"
 

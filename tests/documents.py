@@ -1,13 +1,13 @@
 #!/usr/bin/env python3
 """Whether the documents tell what the program does.
 
-usage: tests/documents.py PROGRAM
+usage: tests/documents.py PROGRAM PAGE
 
 - A table that begins with `Record | Reply` is a session: its records get these replies, in this order, in the replay of
   one of the samples in `examples`, or, where no sample has them all, each on an empty book.
 - A block of text that begins with `statement` stands in the statements of a closed day of a sample.
-- A block of commands that begin with the program's path, `grep` or `printf` is run, in a folder with the samples and with
-  the files that it names; each ends with status 0.
+- A block of commands that begin with the path of the program, or of the one that writes pages, with `grep` or `printf` is
+  run, in a folder with the samples and with the files that it names; each ends with status 0.
 
 Tells how many of each there were, or what is not so, and exits with status 1 then.
 """
@@ -22,8 +22,9 @@ from pathlib import Path
 
 ROOT = Path(__file__).resolve().parent.parent
 OPENING = "2024-06-03"
-BUILT = "crates/cnsbook/out/cnsbook"
-RUN = (BUILT + " ", "grep ", "printf ")
+# the program, and the one that writes a day as a page
+BUILT = ("crates/cnsbook/out/cnsbook", "crates/cnspage/out/cnspage")
+RUN = (*(path + " " for path in BUILT), "grep ", "printf ")
 # the kinds of records in each of the files that a run is shown with
 FILES = {
     "trades.csv": ("MEMBER", "TRADE"),
@@ -119,10 +120,11 @@ class Checked:
             self.faults.append(f"{place}: ends with status {ran.returncode}: {ran.stderr}")
 
 
-def lay_out(room, program):
+def lay_out(room, programs):
     """What a clone has after it was built, and files for a run."""
-    (room / BUILT).parent.mkdir(parents=True)
-    os.symlink(program, room / BUILT)
+    for path, program in zip(BUILT, programs, strict=True):
+        (room / path).parent.mkdir(parents=True)
+        os.symlink(program, room / path)
     shutil.copytree(ROOT / "examples", room / "examples")
     records = (ROOT / "examples/week.csv").read_text().splitlines(keepends=True)
     for name, kinds in FILES.items():
@@ -130,11 +132,11 @@ def lay_out(room, program):
 
 
 def main():
-    program = os.path.abspath(sys.argv[1])
-    checked = Checked(program)
+    programs = [os.path.abspath(path) for path in sys.argv[1:]]
+    checked = Checked(programs[0])
     with tempfile.TemporaryDirectory() as folder:
         room = Path(folder)
-        lay_out(room, program)
+        lay_out(room, programs)
         for path in [ROOT / "README.md", *sorted((ROOT / "docs").glob("*.md")), ROOT / "examples/README.md"]:
             text = path.read_text()
             for number, session in sessions(text):

@@ -1,0 +1,5 @@
+pub mod ContainsLemmas
+pub mod Grouped
+pub mod Adding
+pub mod Figured
+pub mod EscapeLemmas

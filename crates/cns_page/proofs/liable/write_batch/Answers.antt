@@ -1,0 +1,16 @@
+use Rattle.std.proofs.lemmas.Result.{err_from_is_err_and}
+use Rattle.cns_units.proofs.Parts.{parts_failed, parts_more}
+use Rattle.cns_page.specs.Lists.{liable_html}
+use Rattle.cns_page.proofs.liable.write_batch.Goals as goal
+
+pub loop-liable-preserved : goal.loop-liable-preserved
+loop-liable-preserved g c =
+    let inv = c.loop-liable.invariant in
+    parts_more _ _ _ (liable_html c.args.day c.cusip-issue.result) _ _ c.liable-item.result inv.0 c.loop-liable-test.true inv.1 inv.2 (rw (← c.liable-item.is) c.in_ok-write_member.ensures)
+
+pub returns-in_err-write_member : goal.returns-in_err-write_member
+returns-in_err-write_member g c =
+    let p = err_from_is_err_and c.from_residual.result c.from_residual.ensures.1 in
+    let inv = c.loop-liable.invariant in
+    rw (p.1, ← c.cusip-issue.ensures, ← c.members-liable-items.ensures)
+    (parts_failed _ _ (g.W.Write.contents c.write_member.new.writer) (liable_html c.args.day c.cusip-issue.result) _ _ c.liable-item.result inv.0 c.loop-liable-test.true inv.1 inv.2 (rw (← c.liable-item.is) c.in_err-write_member.ensures))

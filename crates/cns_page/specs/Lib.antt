@@ -1,0 +1,11 @@
+pub mod Escape
+pub mod Pieces
+pub mod Contains
+pub mod Split
+pub mod Figures
+pub mod Words
+pub mod Accounts
+pub mod Lists
+pub mod Findings
+pub mod Facts
+pub mod Usage

@@ -1,0 +1,81 @@
+// The figures of a closed day for the line of days.
+ghost use Rattle.std.specs.Prelude.{◌≡◌, ◌-◌, ◌^◌, min, sum_by, unsigned_abs};
+ghost use Rattle.cns_page.specs.Figures.{is_short};
+
+use crate::survey::Close;
+use cns_feed::ReplayBook;
+use cns_sheets::Sheet;
+use cns_terms::{NoMemory, Row};
+use cns_units::{Account, Day};
+use std::alloc::Global;
+
+/// What the line of days shows of a closed day.
+#[derive(Clone, Copy, Debug, PartialEq, Eq)]
+pub struct Figures {
+    /// The day's number, from 1.
+    pub day: u32,
+    pub date: Day,
+    /// The sum of the amounts of all marks, in cents.
+    pub marks: u128,
+    /// How many members' positions are below 0.
+    pub shorts: u64,
+}
+
+/// Whether a row is a member's, and short at the close. The corporation's position below 0 is shares on hand.
+pub fn is_short(row: &Row) -> bool
+    ensures { result ≡ is_short row.now }
+{
+    row.closing < 0 && row.account != Account::CORPORATION
+}
+
+// The sum of the amounts of a sheet's marks. It stops at 2^128 - 1.
+fn marks_of(sheet: &Sheet<Global>) -> u128
+    ensures { result ≡ min (sum_by (λ r. unsigned_abs r.mark) sheet.now.rows) (2 ^ 128 - 1) }
+{
+    let mut marks: u128 = 0;
+    for row in sheet.rows() {
+        marks = marks.saturating_add(row.mark.value().unsigned_abs());
+    }
+    marks
+}
+
+// How many members are short on a sheet.
+fn shorts_of(sheet: &Sheet<Global>) -> u64 {
+    let mut shorts: u64 = 0;
+    for row in sheet.rows() {
+        shorts = shorts.saturating_add(u64::from(is_short(&row)));
+    }
+    shorts
+}
+
+/// The figures of a sheet of the day with the number. The sum of the amounts of its marks stops at 2^128 - 1.
+pub fn figures_of(sheet: &Sheet<Global>, day: u32) -> Figures
+    ensures day { result.day ≡ day }
+    ensures date { result.date ≡ sheet.now.date }
+    ensures marks { result.marks ≡ min (sum_by (λ r. unsigned_abs r.mark) sheet.now.rows) (2 ^ 128 - 1) }
+{
+    Figures {
+        day,
+        date: sheet.date(),
+        marks: marks_of(sheet),
+        shorts: shorts_of(sheet),
+    }
+}
+
+/// The figures of closed days, in order; of those that the book has a sheet of.
+pub fn line_of_days(
+    alloc: Global,
+    book: &ReplayBook,
+    closes: &[Close],
+) -> Result<Vec<Figures>, NoMemory> {
+    let mut line = Vec::new(alloc);
+    for close in closes {
+        let Some(sheet) = book.sheet(close.date) else {
+            continue;
+        };
+        let Ok(()) = line.push(figures_of(sheet, close.day)) else {
+            return Err(NoMemory);
+        };
+    }
+    Ok(line)
+}

@@ -1,0 +1,64 @@
+// What wants a person: a record at fault, or a refused command.
+use crate::count::Count;
+use cns_book::Notice;
+use cns_feed::LineFault;
+use cns_terms::Refusal;
+use cns_units::{Account, Cusip, Day};
+
+/// A record that is no command, or a command that was refused.
+#[derive(Drop)]
+pub struct Finding {
+    /// The number of the record, from 1. Empty lines are no records.
+    pub record: u64,
+    /// The record as it was given, without its line end; bytes that are no text are U+FFFD.
+    pub text: String,
+    pub outcome: Outcome,
+}
+
+/// What a record came to that wants a person.
+#[derive(Clone, Copy, Debug, PartialEq, Eq)]
+pub enum Outcome {
+    AtFault(LineFault),
+    Refused(Refusal, Facts),
+}
+
+/// What decided a refusal, as the book stood then, so far as the book's calls tell it.
+#[derive(Clone, Copy, Debug, PartialEq, Eq)]
+pub struct Facts {
+    pub today: Day,
+    /// The open day's number, from 1.
+    pub day: u64,
+    /// The issue that the command names, where the refusal looks at which issues are listed.
+    pub quote: Option<Quote>,
+    /// The same of an exchange's successor.
+    pub successor: Option<Quote>,
+    /// The first account that the refusal looks at, in the issue that the command names.
+    pub stand: Option<Stand>,
+    /// The same of a second account: a trade's seller, or the corporation where shares are to be on hand.
+    pub other: Option<Stand>,
+    /// The notice that the command or the refusal names.
+    pub notice: Option<Numbered>,
+}
+
+/// An issue with its price in cents; None where it is not listed.
+#[derive(Clone, Copy, Debug, PartialEq, Eq)]
+pub struct Quote {
+    pub issue: Cusip,
+    pub price: Option<u64>,
+}
+
+/// An account's position in an issue, in shares; None where the account is no member's nor the corporation's, or the
+/// issue is not listed.
+#[derive(Clone, Copy, Debug, PartialEq, Eq)]
+pub struct Stand {
+    pub account: Account,
+    pub issue: Cusip,
+    pub position: Option<Count>,
+}
+
+/// A notice with its number, from 1.
+#[derive(Clone, Copy, Debug, PartialEq, Eq)]
+pub struct Numbered {
+    pub number: u32,
+    pub notice: Notice,
+}

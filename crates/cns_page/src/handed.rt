@@ -1,0 +1,130 @@
+// The head of a page, and what was handed in.
+use crate::page::Page;
+use crate::piece::{Piece, write_pieces, write_row};
+use crate::style::STYLE;
+use cns_units::WriteFault;
+use std::io::Write;
+
+const CONTENTS: &str = "<nav aria-label=Contents><ul>
+<li><a href=#wants>What wants a person</a>
+<li><a href=#accounts>Accounts by issues</a>
+<li><a href=#shorts>Shorts</a>
+<li><a href=#liable>Liable members</a>
+<li><a href=#notices>Live notices</a>
+<li><a href=#ahead>Trades ahead</a>
+<li><a href=#days>The line of days</a>
+<li><a href=#handed>What was handed in</a>
+</ul></nav>
+</header>
+<main id=main>
+";
+
+/// Writes the head of a page, up to its first section.
+pub(crate) fn write_head<W: Write>(page: &Page<'_>, writer: &mut W) -> Result<(), WriteFault> {
+    let pieces = [
+        Piece::Markup("<!DOCTYPE html>\n<html lang=en>\n<meta charset=utf-8>\n"),
+        Piece::Markup(
+            "<meta name=viewport content=\"width=device-width, initial-scale=1\">\n<title>Closed day ",
+        ),
+        Piece::Date(page.close.date),
+        Piece::Markup("</title>\n"),
+        Piece::Markup(STYLE),
+        Piece::Markup("<a class=skip href=#main>Skip to the day</a>\n<header>\n<h1>Closed day "),
+        Piece::Date(page.close.date),
+        Piece::Markup("</h1>\n<p>Day "),
+        Piece::Number(u64::from(page.close.day)),
+        Piece::Markup(" of the book, as its close left it: records "),
+        Piece::Number(page.first_record()),
+        Piece::Markup(" to "),
+        Piece::Number(page.close.record),
+        Piece::Markup(", of which "),
+        Piece::Number(page.findings().len() as u64),
+        Piece::Markup(" want a person. The next day is "),
+        Piece::Date(page.book.today()),
+        Piece::Markup(".</p>\n"),
+        Piece::Markup(CONTENTS),
+    ];
+    write_pieces(&pieces, writer)
+}
+
+const HEAD: &str = "<section aria-labelledby=handed>
+<h2 id=handed>What was handed in</h2>
+<div class=wide tabindex=0 role=region aria-label=\"What was handed in\">
+<table>
+<caption>Records of standard input, by number; empty lines are no records</caption>
+<thead><tr><th scope=col>Records<th scope=col>First<th scope=col>Last<th scope=col>At fault or refused
+</thead><tbody>
+";
+
+// A row of records from one number to another.
+fn write_span<W: Write>(
+    name: &'static str,
+    first: u64,
+    last: u64,
+    findings: usize,
+    writer: &mut W,
+) -> Result<(), WriteFault> {
+    let cells = [
+        Piece::Number(first),
+        Piece::Number(last),
+        Piece::Number(findings as u64),
+    ];
+    write_row(&Piece::Markup(name), &cells, writer)
+}
+
+// The records before the day, of the day and after it.
+fn write_spans<W: Write>(page: &Page<'_>, writer: &mut W) -> Result<(), WriteFault> {
+    let first = page.first_record();
+    let last = page.close.record;
+    let all = page.survey.records;
+    if first > 1 {
+        write_span(
+            "Before this day",
+            1,
+            first - 1,
+            page.earlier().len(),
+            writer,
+        )?;
+    }
+    write_span(
+        "This day, its close the last",
+        first,
+        last,
+        page.findings().len(),
+        writer,
+    )?;
+    if all > last {
+        write_span(
+            "After its close",
+            last.saturating_add(1),
+            all,
+            page.later().len(),
+            writer,
+        )?;
+    }
+    write_span("All", 1, all, page.survey.findings.len(), writer)
+}
+
+/// Writes what was handed in, and the line that makes the page again.
+pub(crate) fn write_handed<W: Write>(page: &Page<'_>, writer: &mut W) -> Result<(), WriteFault> {
+    write_pieces(&[Piece::Markup(HEAD)], writer)?;
+    write_spans(page, writer)?;
+    let pieces = [
+        Piece::Markup("</table>\n</div>\n<p>In all "),
+        Piece::Number(page.bytes),
+        Piece::Markup(" bytes. The book was opened on "),
+        Piece::Date(page.opening),
+        Piece::Markup(", and of "),
+        Piece::Number(page.survey.closes.len() as u64),
+        Piece::Markup(" closed days this is day "),
+        Piece::Number(u64::from(page.close.day)),
+        Piece::Markup(
+            ".</p>\n<p>This line makes the page again, from the same records:</p>\n<pre tabindex=0><code>cnspage --open ",
+        ),
+        Piece::Date(page.opening),
+        Piece::Markup(" --day "),
+        Piece::Date(page.close.date),
+        Piece::Markup(" &lt; records &gt; day.html</code></pre>\n</section>\n</main>\n</html>\n"),
+    ];
+    write_pieces(&pieces, writer)
+}

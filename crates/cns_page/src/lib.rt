@@ -1,0 +1,39 @@
+//! A closed day as a page for a browser: one HTML file that stands by itself.
+//!
+//! `run_words` takes the words of a line, a reader of records and two writers. It keeps the records in memory, and plays
+//! them twice: once through, to find the closes and what wants a person (`survey.rt`), and then, by `load` of `cns_feed`,
+//! up to the close that the page is of. So the page shows the book as that close left it; of later records it tells what
+//! wants a person, and nothing else. `page.rt` has the sections in their order.
+//!
+//! All that is written goes through `Piece`. Markup lives as long as the program, so no byte of a record is among it;
+//! texts and issues are escaped. Contracts say of each row and entry its text (`specs/Accounts.antt`, `specs/Lists.antt`,
+//! `specs/Findings.antt`), and of each section that it has its rows' texts in it. Start with `page.rt`.
+#![tactic(auto)]
+
+mod accounts;
+mod ahead;
+mod asked;
+mod attention;
+mod count;
+mod days;
+mod entry;
+mod escape;
+mod facts;
+mod fault;
+mod figures;
+mod finding;
+mod handed;
+mod liable;
+mod notices;
+mod page;
+mod picture;
+mod piece;
+mod section;
+mod shorts;
+mod split;
+mod style;
+mod sums;
+mod survey;
+mod words;
+
+pub use entry::{refuse_words, run_words};

@@ -1,0 +1,99 @@
+// Shorts with their ages.
+ghost use Rattle.std.specs.Prelude.{OnOk};
+ghost use Rattle.cns_units.specs.Output.{Writes};
+ghost use Rattle.cns_page.specs.Contains.{Contains};
+ghost use Rattle.cns_page.specs.Lists.{short_html, shorts_html};
+
+use crate::figures::is_short;
+use crate::piece::{Piece, write_row};
+use crate::section::{Section, TABLE_END, begin, end};
+use cns_feed::ReplayBook;
+use cns_sheets::Sheet;
+use cns_terms::{NoMemory, Row};
+use cns_units::WriteFault;
+use std::alloc::Global;
+use std::io::Write;
+
+/// A member's short at a close.
+#[derive(Clone, Copy, Debug, PartialEq, Eq)]
+pub struct Aged {
+    pub row: Row,
+    /// At how many closes in a row it was short, this one included.
+    pub age: u32,
+}
+
+// The age of an account's short in the issue of a row, at the last close of the book.
+fn age_of(book: &ReplayBook, row: &Row) -> u32 {
+    match book.position(row.account, row.issue) {
+        Some(holding) => holding.run,
+        None => 0,
+    }
+}
+
+/// The members' shorts on the sheet of the book's last close, the oldest first, and those of one age in the order of the
+/// sheet.
+pub fn shorts_of(
+    alloc: Global,
+    book: &ReplayBook,
+    sheet: &Sheet<Global>,
+) -> Result<Vec<Aged>, NoMemory> {
+    let mut shorts = Vec::new(alloc);
+    for row in sheet.rows() {
+        if !is_short(&row) {
+            continue;
+        }
+        let age = age_of(book, &row);
+        let Ok(()) = shorts.push(Aged { row, age }) else {
+            return Err(NoMemory);
+        };
+    }
+    shorts.sort_by_key(|short| u32::MAX - short.age)?;
+    Ok(shorts)
+}
+
+const SECTION: Section = Section {
+    head: "<section aria-labelledby=shorts>
+<h2 id=shorts>Shorts, the oldest first</h2>
+",
+    none: "<p>No member is short.</p>\n",
+    begin: "<div class=wide tabindex=0 role=region aria-label=\"Shorts, the oldest first\">
+<table>
+<caption>Members' positions below 0 at the close. The age is the number of closes in a row (shares)</caption>
+<thead><tr><th scope=col>Issue<th scope=col>Member<th scope=col>Age<th scope=col>Opening<th scope=col>Closing
+</thead><tbody>
+",
+    end: TABLE_END,
+};
+
+fn write_short<W: Write>(short: &Aged, writer: &mut W) -> Result<(), WriteFault>
+    ensures { Writes (W.contents writer.old) (W.contents writer.new) (short_html short.now) result }
+{
+    let cells = [
+        Piece::Number(u64::from(short.row.account.value())),
+        Piece::Number(u64::from(short.age)),
+        Piece::Signed(short.row.opening),
+        Piece::Signed(short.row.closing),
+    ];
+    write_row(&Piece::Issue(short.row.issue), &cells, writer)
+}
+
+fn write_list<W: Write>(shorts: &[Aged], writer: &mut W) -> Result<(), WriteFault>
+    ensures { Writes (W.contents writer.old) (W.contents writer.new) (shorts_html shorts.now) result }
+{
+    for short in shorts {
+        write_short(short, writer)?;
+    }
+    Ok(())
+}
+
+/// Writes shorts, in order.
+///
+/// Where the writer fails or takes no byte it answers `WriteFault`.
+pub fn write_shorts<W: Write>(shorts: &[Aged], writer: &mut W) -> Result<(), WriteFault>
+    ensures { OnOk result (Contains (W.contents writer.old) (W.contents writer.new) (shorts_html shorts.now)) }
+{
+    let is_empty = shorts.is_empty();
+    begin(&SECTION, is_empty, writer)?;
+    write_list(shorts, writer)?;
+    end(&SECTION, is_empty, writer)
+}

@@ -1,0 +1,65 @@
+#!/usr/bin/env bash
+# Runs the program that writes a day as a page: to each of its statuses, and over each closed day of the samples.
+#
+# usage: tests/page.sh PROGRAM
+# Prints one line of what failed, and exits with status 1 then.
+set -u
+
+program=${1:?usage: tests/page.sh PROGRAM}
+usage='usage: cnspage --open DATE [--day DATE] < RECORDS'
+room=$(mktemp -d)
+trap 'rm -rf "$room"' EXIT
+
+fail() {
+    echo "page: $1" >&2
+    exit 1
+}
+
+# A run's status and its line on standard error; of its output nothing was written.
+expect() {
+    local name=$1 status=$2 line=$3 ended=$4
+    [ "$ended" = "$status" ] || fail "$name: status $ended, where $status was due"
+    [ "$(cat "$room/errors")" = "$line" ] || fail "$name: '$(cat "$room/errors")' on standard error"
+    [ ! -s "$room/output" ] || fail "$name: something on standard output"
+}
+
+refuse() {
+    "$program" "$@" < examples/day.csv > "$room/output" 2> "$room/errors"
+    expect "words '$*'" 2 "$usage" "$?"
+}
+
+refuse
+refuse --day 2024-06-03
+refuse --open
+refuse --open 2024-02-30
+refuse --open 2024-06-03 --day 2024-6-3
+refuse --open 2024-06-03 more
+refuse --help
+
+"$program" --open 2024-06-03 < /dev/null > "$room/output" 2> "$room/errors"
+expect 'no records' 1 'fault NoSuchDay' "$?"
+"$program" --open 2024-06-03 --day 2024-06-30 < examples/day.csv > "$room/output" 2> "$room/errors"
+expect 'a day that is not closed' 1 'fault NoSuchDay' "$?"
+: > "$room/output"
+"$program" --open 2024-06-03 < examples/day.csv > /dev/full 2> "$room/errors"
+expect 'a full disk' 1 'fault Write' "$?"
+
+# Each closed day of each sample: a whole page, which names its day; the last one also without the day's date.
+pages=0
+for sample in examples/*.csv; do
+    for day in $(sed -n 's/^closed [0-9]* \([0-9-]*\) .*/\1/p' "${sample%.csv}.replies"); do
+        "$program" --open 2024-06-03 --day "$day" < "$sample" > "$room/page" || fail "$sample, $day: status $?"
+        grep -q "<title>Closed day $day</title>" "$room/page" || fail "$sample, $day: another title"
+        tail -n 1 "$room/page" | grep -q '</html>' || fail "$sample, $day: no end"
+        pages=$((pages + 1))
+    done
+    "$program" --open 2024-06-03 < "$sample" | cmp -s - "$room/page" || fail "$sample: the last day is another"
+done
+
+# A record is a stranger's bytes.
+printf '<script>"&\n\xff\x1b\nCLOSE,2024-06-04\n' | "$program" --open 2024-06-03 > "$room/page" || fail "bytes: status $?"
+grep -q '&lt;script&gt;&quot;&amp;' "$room/page" || fail 'a record is not escaped'
+! grep -q '<script' "$room/page" || fail 'a record is markup'
+iconv -f UTF-8 -t UTF-8 "$room/page" > /dev/null || fail 'a page is not UTF-8'
+
+echo "pages passed: $pages"
