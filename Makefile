@@ -77,6 +77,8 @@ test:
 	    bash tests/trials.sh --apply; \
 	    python3 tests/documents.py $(PROGRAM) $(PAGE); \
 	    $(MAKE) --no-print-directory compare; \
+	    $(MAKE) --no-print-directory help > /dev/null; \
+	    $(MAKE) --no-print-directory check CRATE=cns_prices > /dev/null; \
 	    echo "the gate passed in $$((SECONDS / 60)) minutes; the line 'rt: ok' above says what it took from kept work"
 
 # fuzz: random and mutated streams of records, by the program as it is built and by a recomputation, for ten minutes

@@ -6,6 +6,7 @@ usage: tests/documents.py PROGRAM PAGE
 - A table that begins with `Record | Reply` is a session: its records get these replies, in this order, in the replay of
   one of the samples in `examples`, or, where no sample has them all, each on an empty book.
 - A block of text that begins with `statement` stands in the statements of a closed day of a sample.
+- A block that begins with a brace is the tally of a run of a sample.
 - A block of commands that begin with the path of the program, or of the one that writes pages, with `grep` or `printf` is
   run, in a folder with the samples and with the files that it names; each ends with status 0.
 
@@ -57,6 +58,12 @@ def statements(program, records, day):
     ).stdout
 
 
+def tally(program, sample):
+    """The tally of a run of a sample, one file."""
+    words = [program, "run", "--open", OPENING, ROOT / "examples" / sample]
+    return subprocess.run(words, capture_output=True, text=True, check=True).stdout
+
+
 def follow(session, sample):
     """Whether the session's records get their replies one after another among those of the sample."""
     left = iter(sample)
@@ -92,7 +99,7 @@ class Checked:
         self.samples = {
             path.name: replies(program, path.read_text().splitlines()) for path in sorted((ROOT / "examples").glob("*.csv"))
         }
-        self.counts = {"sessions": 0, "statements": 0, "commands": 0}
+        self.counts = {"sessions": 0, "statements": 0, "tallies": 0, "commands": 0}
         self.faults = []
 
     def session(self, place, session):
@@ -112,6 +119,11 @@ class Checked:
             if any(block in statements(self.program, records, day) for day in days):
                 return
         self.faults.append(f"{place}: no closed day of a sample has these statements")
+
+    def tally(self, place, block):
+        self.counts["tallies"] += 1
+        if block not in [tally(self.program, sample) for sample in self.samples]:
+            self.faults.append(f"{place}: no sample has this tally")
 
     def commands(self, place, block, room):
         self.counts["commands"] += block.count("\n")
@@ -144,6 +156,8 @@ def main():
             for number, block in blocks(text):
                 if block.startswith("statement "):
                     checked.statements(f"{path.name}:{number}", block)
+                if block.startswith("{"):
+                    checked.tally(f"{path.name}:{number}", block)
                 if block.startswith(RUN):
                     checked.commands(f"{path.name}:{number}", block, room)
     for fault in checked.faults:
