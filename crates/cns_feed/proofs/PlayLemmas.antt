@@ -16,7 +16,8 @@ use Rattle.cns_feed.specs.declared.summary.Summary.{Summary}
 
 -- ---- lines after lines
 
-log_after-append : (k : Log) (a b : List Line) → log_after k (a ++ b) ≡ log_after (log_after k a) b
+-- a book after lines, and after others behind them
+pub log_after-append : (k : Log) (a b : List Line) → log_after k (a ++ b) ≡ log_after (log_after k a) b
 unfolding log_after
 log_after-append k [] b = refl
 log_after-append k (l ∷ a) b = log_after-append (log_after_line k l) a b
@@ -41,7 +42,7 @@ state_of-line k (Ok cmd) = refl
 state_of-line k (Err f) = refl
 
 -- the state of a book after lines
-state_of-after : (k : Log) (ls : List Line) → state_of (log_after k ls) ≡ state_after (state_of k) ls
+pub state_of-after : (k : Log) (ls : List Line) → state_of (log_after k ls) ≡ state_after (state_of k) ls
 unfolding log_after state_after
 state_of-after k [] = refl
 state_of-after k (l ∷ ls) = state_of-after (log_after_line k l) ls ∙ ap (λ S. state_after S ls) (state_of-line k l)

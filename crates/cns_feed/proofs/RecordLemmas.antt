@@ -14,9 +14,8 @@ use Rattle.csv.specs.declared.reader.Reader.{Reader}
 use Rattle.csv.specs.declared.parser.Terminator.TheVariants as term
 use Rattle.csv.proofs.ReadFacts.{rows-end, rows-more}
 use Rattle.cns_feed.specs.Line.{Line, Record, line_of}
-use Rattle.cns_feed.specs.Records.{EndsReading, Gives, Pending, Setup, fault_of, given_remaining}
+use Rattle.cns_feed.specs.Records.{EndsReading, Left, Setup, fault_of, given_remaining}
 use Rattle.cns_feed.specs.declared.fault.ReplayFault.{ReplayFault}
-use Rattle.cns_feed.specs.declared.given.Given.{Given}
 use Rattle.cns_feed.specs.declared.fault.ReplayFault.TheVariants as fault
 use Rattle.cns_feed.specs.declared.records.Records.{Records}
 
@@ -123,23 +122,23 @@ pub setup_kept : {R : Type 0} (rem : R → Option (List ℕ)) (a b : Reader R) (
     → Setup a → ReadRecord rem a b found fields → b.first ≡ true → b.flexible ≡ a.flexible → Setup b
 setup_kept rem a b found fields s r first flexible = record { no_trim = r.3 ∙ s.no_trim; ready = inl first; config = r.2 ∙ s.config; flexible = flexible ∙ s.flexible }
 
--- a record was read
-pub gives-line : {R : Type 0} (rem : R → Option (List ℕ)) (a b : Records R) (fields : Record) (line : Line)
-    → line ≡ line_of fields → Setup a.rows → ReadRecord (given_remaining rem) a.rows b.rows true fields → Gives rem a b line
+-- the line that was read, and those after it
+pub next_line : {R : Type 0} (rem : R → Option (List ℕ)) (a b : Reader R) (fields : Record) (line : Line)
+    → line ≡ line_of fields → Setup a → ReadRecord rem a b true fields → (all : List Line) → Left rem a all → (rest : List Line) × (all ≡ line ∷ rest) × Left rem b rest
 unfolding Reached
-gives-line rem a b fields line is setup r all p =
-    let (left, source, (q, e, first, there)) = rows-more (given_remaining rem) a.rows b.rows fields default_config a.rows.state p.bytes p.bytes [] setup.config p.source (refl, refl) r in
-    let (records_are, between) = first_record default_config a.rows.state p.bytes q p.between e in (
-      map line_of (records_from default_config (length left + 1) b.rows.state left),
-      p.lines_are ∙ ap (map line_of) (records_are ∙ (λ i. sym first i ∷ records_from default_config (length (there.1 i) + 1) (there.0 i) (there.1 i))) ∙ ap (λ l. l ∷ map line_of (records_from default_config (length left + 1) b.rows.state left)) (sym is),
+next_line rem a b fields line is setup r all p =
+    let (left, source, (q, e, first, there)) = rows-more rem a b fields default_config a.state p.bytes p.bytes [] setup.config p.source (refl, refl) r in
+    let (records_are, between) = first_record default_config a.state p.bytes q p.between e in (
+      map line_of (records_from default_config (length left + 1) b.state left),
+      p.lines_are ∙ ap (map line_of) (records_are ∙ (λ i. sym first i ∷ records_from default_config (length (there.1 i) + 1) (there.0 i) (there.1 i))) ∙ ap (λ l. l ∷ map line_of (records_from default_config (length left + 1) b.state left)) (sym is),
       record { bytes = left; source = source; between = rw (sym there.0) between; lines_are = refl },
     )
 
--- no record was left
-pub gives-none : {R : Type 0} (rem : R → Option (List ℕ)) (a : Records R) (b : Reader (Given R)) (fields : Record)
-    → Setup a.rows → ReadRecord (given_remaining rem) a.rows b false fields → (all : List Line) → Pending rem a all → all ≡ []
-gives-none rem a b fields setup r all p =
-    p.lines_are ∙ ap (map line_of) (no_record default_config a.rows.state p.bytes (rows-end (given_remaining rem) a.rows b fields default_config p.bytes setup.config p.source r))
+-- no line was left
+pub no_line : {R : Type 0} (rem : R → Option (List ℕ)) (a b : Reader R) (fields : Record)
+    → Setup a → ReadRecord rem a b false fields → (all : List Line) → Left rem a all → all ≡ []
+no_line rem a b fields setup r all p =
+    p.lines_are ∙ ap (map line_of) (no_record default_config a.state p.bytes (rows-end rem a b fields default_config p.bytes setup.config p.source r))
 
 -- ---- a read that failed
 

@@ -23,12 +23,16 @@ pub record Setup {R : Type 0} (rdr : Reader R) : Type 0 where
   pub config : reader_config rdr ≡ default_config
   pub flexible : is_flexible rdr ≡ true
 
--- these are the lines that are left, where the bytes are known
-pub record Pending {R : Type 0} (rem : R → Option (List ℕ)) (rs : Records R) (lines : List Line) : Type 0 where
+-- these are the lines that a reader of records has left, where the bytes are known
+pub record Left {R : Type 0} (rem : R → Option (List ℕ)) (rdr : Reader R) (lines : List Line) : Type 0 where
   pub bytes : List ℕ
-  pub source : source_of (given_remaining rem) rs.rows ≡ Some bytes
-  pub between : ends_at_end (reader_state rs.rows) ≡ false
-  pub lines_are : lines ≡ map line_of (records_from default_config (length bytes + 1) (reader_state rs.rows) bytes)
+  pub source : source_of rem rdr ≡ Some bytes
+  pub between : ends_at_end (reader_state rdr) ≡ false
+  pub lines_are : lines ≡ map line_of (records_from default_config (length bytes + 1) (reader_state rdr) bytes)
+
+-- the same of the records of a reader
+abbrev pub Pending : {R : Type 0} → (R → Option (List ℕ)) → Records R → List Line → Type 0
+Pending rem rs lines = Left (given_remaining rem) rs.rows lines
 
 -- what an error of the reader is to a replay
 abbrev pub fault_of : ErrorKind → ReplayFault
