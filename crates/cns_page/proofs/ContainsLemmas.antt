@@ -1,8 +1,8 @@
 -- Texts that are written among others.
 use Rattle.std.proofs.Common.{ℕ, List, [], ◌++◌, Option, None, Some, Result, Ok, Err, append-nil, append_assoc, sym}
 use Rattle.std.specs.Prelude.{OnOk}
-use Rattle.std.specs.Io.KnownBytes.{Appends}
-use Rattle.std.proofs.KnownBytes.{Appends-trans}
+use Rattle.std.specs.Io.KnownBytes.{Appends, Keeps}
+use Rattle.std.proofs.KnownBytes.{Appends-kept, Appends-trans}
 use Rattle.cns_page.specs.Contains.{Contains, Grows}
 
 -- one text after another
@@ -51,3 +51,17 @@ grown old mid new (Err e) first last = tt
 pub grows_none : (old : Option (List ℕ)) → Grows old old
 grows_none None = ([], tt)
 grows_none (Some xs) = ([], sym (append-nil xs))
+
+-- all that the last call wrote
+pub whole_written : {T E : Type 0} (old new : Option (List ℕ)) (text : List ℕ) (r : Result T E) → OnOk r (Contains old new text) → OnOk r (Grows old new)
+whole_written old new text (Ok x) c = whole old new text c
+whole_written old new text (Err e) c = tt
+
+-- a text before others, the last of which is what the last call wrote
+pub begun : {T E : Type 0} (old a b new : Option (List ℕ)) (text : List ℕ) (r : Result T E) → Contains old a text → Grows a b → OnOk r (Grows b new) → OnOk r (Contains old new text)
+begun old a b new text (Ok x) first mid last = contains_longer old a new text first (grows_trans a b new mid last)
+begun old a b new text (Err e) first mid last = tt
+
+-- all of it was handed on
+pub grows_kept : (old mid new : Option (List ℕ)) → Grows old mid → Keeps mid new → Grows old new
+grows_kept old mid new first kept = (first.0, Appends-kept old mid new first.0 first.1 kept)

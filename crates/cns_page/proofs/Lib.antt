@@ -3,3 +3,14 @@ pub mod Grouped
 pub mod Adding
 pub mod Figured
 pub mod EscapeLemmas
+pub mod CommandLine
+pub mod PlayLemmas
+pub mod Walked
+pub mod Counted
+pub mod Lined
+pub mod Numbering
+pub mod Ordered
+pub mod Waiting
+pub mod Oldest
+pub mod ShownLemmas
+pub mod MakeLemmas

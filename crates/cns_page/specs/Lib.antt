@@ -8,4 +8,8 @@ pub mod Accounts
 pub mod Lists
 pub mod Findings
 pub mod Facts
+pub mod Listed
 pub mod Usage
+pub mod Asks
+pub mod Survey
+pub mod Shown

@@ -1,7 +1,13 @@
 // Trades that wait for their dates.
-ghost use Rattle.std.specs.Prelude.{OnOk};
+ghost use Rattle.std.specs.Prelude.{◌≡◌, [], ◌∷◌, IfOk, OnOk};
+ghost use Rattle.std.specs.Option.{option_to_list};
+ghost use Rattle.std.specs.Ordering.{int_cmp};
+ghost use Rattle.cns_units.specs.Day.{day_number};
 ghost use Rattle.cns_units.specs.Output.{Writes};
+ghost use Rattle.cns_terms.specs.Common.{date, journal_of};
+ghost use Rattle.cns_book.specs.Log.{state_of};
 ghost use Rattle.cns_page.specs.Contains.{Contains};
+ghost use Rattle.cns_page.specs.Listed.{IsInOrderOf, looked_at, waiting_among};
 ghost use Rattle.cns_page.specs.Lists.{trade_html, trades_html};
 
 use crate::piece::{Piece, cents_of, write_row};
@@ -13,7 +19,9 @@ use std::alloc::Global;
 use std::io::Write;
 
 // The trade of an entry of the history, where it was accepted and is dated after the day.
-fn waiting(entry: &Taken, today: Day) -> Option<Trade> {
+fn waiting(entry: &Taken, today: Day) -> Option<Trade>
+    ensures { waiting_among today (entry.now ∷ []) ≡ option_to_list result }
+{
     match (&entry.command, &entry.reply) {
         (Command::Activity(Activity::Trade(trade)), Reply::Accepted) => {
             if trade.date.number() <= today.number() {
@@ -25,21 +33,33 @@ fn waiting(entry: &Taken, today: Day) -> Option<Trade> {
     }
 }
 
-/// The trades of a book that wait for their dates: those that were accepted and are dated after today. They stand by
-/// date, and those of one date in the order in which they were taken.
-pub fn trades_ahead(alloc: Global, book: &ReplayBook) -> Result<Vec<Trade>, NoMemory> {
-    let today = book.today();
+// The trades of a book that are dated after a day, in the order in which they were taken.
+fn gather(alloc: Global, book: &ReplayBook, today: Day) -> Result<Vec<Trade>, NoMemory>
+    ensures { IfOk result (λ v. v.items ≡ waiting_among today (looked_at book.now.log.history)) }
+{
     let mut trades = Vec::new(alloc);
     for place in 1..u32::MAX {
         let Some(entry) = book.entry(place) else {
-            break;
+            return Ok(trades);
         };
-        if let Some(trade) = waiting(&entry, today) {
-            let Ok(()) = trades.push(trade) else {
-                return Err(NoMemory);
-            };
-        }
+        let Some(trade) = waiting(&entry, today) else {
+            continue;
+        };
+        let Ok(()) = trades.push(trade) else {
+            return Err(NoMemory);
+        };
     }
+    Ok(trades)
+}
+
+/// The trades of a book that wait for their dates: those that were accepted and are dated after today. They stand by
+/// date, and those of one date in the order in which they were taken.
+pub fn trades_ahead(alloc: Global, book: &ReplayBook) -> Result<Vec<Trade>, NoMemory>
+    ensures { IfOk result (λ v. IsInOrderOf (λ t. day_number t.date) int_cmp
+        (waiting_among (date book.now.log.opening (journal_of (state_of book.now.log)))
+        (looked_at book.now.log.history)) v.items) }
+{
+    let mut trades = gather(alloc, book, book.today())?;
     trades.sort_by_key(|trade| trade.date.number())?;
     Ok(trades)
 }

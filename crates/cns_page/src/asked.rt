@@ -1,4 +1,10 @@
 // The line of the program, and what it asks for.
+ghost use Rattle.std.specs.Prelude.{◌≡◌, IfOk, codes, false, map, option_map};
+ghost use Rattle.clap.specs.Words.{app_of, first_of, found_of, rows_of, rule_of};
+ghost use Rattle.cns_program.specs.Asks.{date_in};
+ghost use Rattle.cns_program.specs.CommandLine.{option_rule};
+ghost use Rattle.cns_page.specs.Asks.{asked_in, day_read, found_by, free_rule, page_line, question};
+
 use clap::error::ErrorKind;
 use clap::{Arg, ArgAction, ArgMatches, Command};
 use cns_terms::NoMemory;
@@ -16,16 +22,31 @@ pub struct Asked {
 }
 
 // An option with one value.
-fn option<'a>(alloc: Global, name: &'a str) -> Arg<'a> {
+fn option<'a>(alloc: Global, name: &'a str) -> Arg<'a>
+    ensures rule { rule_of result ≡ free_rule name.now }
+    ensures local { result.global ≡ false }
+{
     Arg::new(alloc, name).long(name).action(ArgAction::Set)
 }
 
+// One that has to be given.
+fn required_option<'a>(alloc: Global, name: &'a str) -> Arg<'a>
+    ensures rule { rule_of result ≡ option_rule name.now }
+    ensures local { result.global ≡ false }
+{
+    option(alloc, name).required(true)
+}
+
 // The lines that are taken, with no help or version.
-fn command_line<'a>(alloc: Global) -> Result<Command<'a>, AllocError> {
+#[tactic(auto, unfolding(crate::specs::Asks::page_line))]
+fn command_line<'a>(alloc: Global) -> Result<Command<'a>, AllocError>
+    ensures { IfOk result (λ c. app_of c ≡ page_line) }
+{
     Command::new(alloc, "cnspage")
         .disable_help_flag(true)
         .disable_version_flag(true)
-        .arg(option(alloc, "open").required(true))?
+        .disable_help_subcommand(true)
+        .arg(required_option(alloc, "open"))?
         .arg(option(alloc, "day"))
 }
 
@@ -33,8 +54,11 @@ fn command_line<'a>(alloc: Global) -> Result<Command<'a>, AllocError> {
 fn matches_of<'a, S: AsStr>(
     alloc: Global,
     words: &'a [S],
-) -> Result<Option<ArgMatches<'a>>, NoMemory> {
-    match command_line(alloc)?.try_get_matches_from(words) {
+) -> Result<Option<ArgMatches<'a>>, NoMemory>
+    ensures { IfOk result (λ o. option_map (λ m. rows_of (found_of m)) o ≡ found_by (map S.text words.now)) }
+{
+    let line = command_line(alloc)?;
+    match line.try_get_matches_from(words) {
         Ok(matches) => Ok(Some(matches)),
         Err(error) => match error.kind() {
             ErrorKind::OutOfMemory => Err(NoMemory),
@@ -43,19 +67,46 @@ fn matches_of<'a, S: AsStr>(
     }
 }
 
-// What the options ask for; None where a date is none.
-fn asked_in(matches: &ArgMatches<'_>) -> Option<Asked> {
-    let opening = Day::parse(matches.get_str("open")?.as_bytes()).ok()?;
-    let day = match matches.get_str("day") {
-        Some(text) => Some(Day::parse(text.as_bytes()).ok()?),
-        None => None,
+// The value of an option.
+fn value<'a>(matches: &ArgMatches<'a>, name: &str) -> Option<&'a str>
+    ensures { option_map (λ s. s.now) result ≡ first_of name.now (rows_of (found_of matches.now)) }
+{
+    matches.get_str(name)
+}
+
+// The date on which the book opens; None where it is none.
+fn opening_of(matches: &ArgMatches<'_>) -> Option<Day>
+    ensures { result ≡ date_in (rows_of (found_of matches.now)) (codes "open") }
+{
+    let text = value(matches, "open")?;
+    Day::parse(text.as_bytes()).ok()
+}
+
+// The day that is asked for, None inside where none is; None where it is no date.
+fn day_of(text: Option<&str>) -> Option<Option<Day>>
+    ensures { result ≡ day_read (option_map (λ s. s.now) text.entry) }
+{
+    let Some(text) = text else {
+        return Some(None);
     };
+    let day = Day::parse(text.as_bytes()).ok()?;
+    Some(Some(day))
+}
+
+// What the options ask for; None where a date is none.
+fn asked_in(matches: &ArgMatches<'_>) -> Option<Asked>
+    ensures { result ≡ asked_in (rows_of (found_of matches.now)) }
+{
+    let opening = opening_of(matches)?;
+    let day = day_of(value(matches, "day"))?;
     Some(Asked { opening, day })
 }
 
 /// What the words of a line ask for, the name of the program first; None where the line or a date is refused. `NoMemory`
 /// where a growth was refused.
-pub fn asked_of<S: AsStr>(alloc: Global, words: &[S]) -> Result<Option<Asked>, NoMemory> {
+pub fn asked_of<S: AsStr>(alloc: Global, words: &[S]) -> Result<Option<Asked>, NoMemory>
+    ensures { IfOk result (λ r. r ≡ question (map S.text words.now)) }
+{
     let Some(matches) = matches_of(alloc, words)? else {
         return Ok(None);
     };

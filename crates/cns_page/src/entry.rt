@@ -1,20 +1,20 @@
 // The line of the program, done.
-ghost use Rattle.std.specs.Prelude.{◌≡◌, ◌≢◌, ◌≤◌};
+ghost use Rattle.std.specs.Prelude.{◌≡◌, ◌≢◌, ◌≤◌, IfOk, IfSome, None, OnOk, Some, map};
 ghost use Rattle.std.specs.IoError.{error_kind};
 ghost use Rattle.cns_units.specs.Output.{Writes};
 ghost use Rattle.cns_program.specs.Lines.{fault_line};
 ghost use Rattle.cns_program.specs.declared.fault.Fault.{Fault};
 ghost use Rattle.cns_program.specs.declared.fault.Fault.TheVariants as faults;
+ghost use Rattle.cns_page.specs.Asks.{question};
+ghost use Rattle.cns_page.specs.Shown.{HasPage};
 ghost use Rattle.cns_page.specs.Usage.{usage_line};
 
 use crate::asked::{Asked, asked_of};
-use crate::page::{Page, write_page};
-use crate::survey::{place_of, survey_of};
-use cns_feed::load;
+use crate::make::make;
 use cns_program::{Ended, Fault, fail};
 use cns_units::write_bytes;
 use std::alloc::Global;
-use std::convert::{AsStr, From};
+use std::convert::AsStr;
 use std::io;
 use std::io::{ErrorKind, Read, Write};
 
@@ -48,7 +48,9 @@ pub fn refuse_words<E: Write>(error: &io::Error, errors: &mut E) -> Ended
 }
 
 // All bytes of the input.
-fn bytes_of<I: Read>(alloc: Global, input: &mut I) -> Result<Vec<u8>, Fault> {
+fn bytes_of<I: Read>(alloc: Global, input: &mut I) -> Result<Vec<u8>, Fault>
+    ensures { IfOk result (λ v. IfSome (I.remaining input.old) (λ bytes. v.items ≡ bytes)) }
+{
     let mut bytes = Vec::new(alloc);
     match input.read_to_end(&mut bytes) {
         Ok(_) => Ok(bytes),
@@ -59,57 +61,23 @@ fn bytes_of<I: Read>(alloc: Global, input: &mut I) -> Result<Vec<u8>, Fault> {
     }
 }
 
-// Writes the page that is asked for, of the records of an input, and hands it on.
-fn make<O: Write>(alloc: Global, asked: &Asked, input: &[u8], output: &mut O) -> Result<(), Fault> {
-    let survey = match survey_of(alloc, input, asked.opening) {
-        Ok(survey) => survey,
-        Err(fault) => return Err(Fault::from(fault)),
-    };
-    let Some(place) = place_of(survey.closes.as_slice(), asked.day) else {
-        return Err(Fault::NoSuchDay);
-    };
-    let close = survey.closes[place];
-    let front = &input[..close.end.min(input.len())];
-    let (book, _summary) = match load(alloc, front, asked.opening) {
-        Ok(loaded) => loaded,
-        Err(fault) => return Err(Fault::from(fault)),
-    };
-    let Some(sheet) = book.sheet(close.date) else {
-        return Err(Fault::NoSuchDay);
-    };
-    let page = Page {
-        opening: asked.opening,
-        bytes: input.len() as u64,
-        survey: &survey,
-        place,
-        close,
-        book: &book,
-        sheet,
-    };
-    match write_page(alloc, &page, output) {
-        Ok(()) => {}
-        Err(fault) => return Err(Fault::from(fault)),
-    }
-    match output.flush() {
-        Ok(()) => Ok(()),
-        Err(_) => Err(Fault::Write),
-    }
-}
-
-// The same of all that a reader gives.
+// Writes the page that is asked for, of all that a reader gives.
 fn make_of<I: Read, O: Write>(
     alloc: Global,
     asked: &Asked,
     input: &mut I,
     output: &mut O,
-) -> Result<(), Fault> {
+) -> Result<(), Fault>
+    ensures { OnOk result (IfSome (I.remaining input.old)
+        (λ bytes. HasPage asked.now bytes (O.contents output.old) (O.contents output.new))) }
+{
     let bytes = bytes_of(alloc, input)?;
     make(alloc, asked, bytes.as_slice(), output)
 }
 
 /// Runs the program on the words of its line, its name first, and tells what writing its line to `errors` came to.
 ///
-/// Status 0: the page is written and flushed, and nothing went to `errors`. 1: a fault, whose line went to `errors`; what
+/// Status 0: the page of the day that the words ask for is written and flushed, and nothing went to `errors`. 1: a fault, whose line went to `errors`; what
 /// was written before stands in `output`. 2: the line is refused, or a date is none, so nothing was read, nothing went to
 /// `output`, and the usage line to `errors`.
 pub fn run_words<S: AsStr, I: Read, O: Write, E: Write>(
@@ -120,9 +88,13 @@ pub fn run_words<S: AsStr, I: Read, O: Write, E: Write>(
     errors: &mut E,
 ) -> Ended
     ensures status { result.status ≤ 2 }
+    ensures page { result.status ≡ 0 → IfSome (I.remaining input.old) (λ bytes. (asked : Asked)
+        × (question (map S.text words.now) ≡ Some asked)
+        × HasPage asked bytes (O.contents output.old) (O.contents output.new)) }
     ensures quiet { result.status ≡ 0 → errors.new ≡ errors.old }
     ensures told { result.status ≡ 1
         → (f : Fault) × Writes (E.contents errors.old) (E.contents errors.new) (fault_line f) result.told }
+    ensures asks { result.status ≡ 2 → question (map S.text words.now) ≡ None }
     ensures refused { result.status ≡ 2 → (output.new ≡ output.old) × (input.new ≡ input.old) }
     ensures usage { result.status ≡ 2
         → Writes (E.contents errors.old) (E.contents errors.new) usage_line result.told }

@@ -1,6 +1,8 @@
 // The figures of a closed day for the line of days.
-ghost use Rattle.std.specs.Prelude.{◌≡◌, ◌-◌, ◌^◌, min, sum_by, unsigned_abs};
+ghost use Rattle.std.specs.Prelude.{◌≡◌, ◌-◌, ◌^◌, count_by, IfOk, min, sum_by, unsigned_abs};
+ghost use Rattle.cns_book.specs.Log.{state_of};
 ghost use Rattle.cns_page.specs.Figures.{is_short};
+ghost use Rattle.cns_page.specs.Listed.{figures_shown};
 
 use crate::survey::Close;
 use cns_feed::ReplayBook;
@@ -39,8 +41,10 @@ fn marks_of(sheet: &Sheet<Global>) -> u128
     marks
 }
 
-// How many members are short on a sheet.
-fn shorts_of(sheet: &Sheet<Global>) -> u64 {
+// How many members are short on a sheet. The count stops at 2^64 - 1.
+fn shorts_of(sheet: &Sheet<Global>) -> u64
+    ensures { result ≡ min (count_by is_short sheet.now.rows) (2 ^ 64 - 1) }
+{
     let mut shorts: u64 = 0;
     for row in sheet.rows() {
         shorts = shorts.saturating_add(u64::from(is_short(&row)));
@@ -53,6 +57,7 @@ pub fn figures_of(sheet: &Sheet<Global>, day: u32) -> Figures
     ensures day { result.day ≡ day }
     ensures date { result.date ≡ sheet.now.date }
     ensures marks { result.marks ≡ min (sum_by (λ r. unsigned_abs r.mark) sheet.now.rows) (2 ^ 128 - 1) }
+    ensures shorts { result.shorts ≡ min (count_by is_short sheet.now.rows) (2 ^ 64 - 1) }
 {
     Figures {
         day,
@@ -67,7 +72,9 @@ pub fn line_of_days(
     alloc: Global,
     book: &ReplayBook,
     closes: &[Close],
-) -> Result<Vec<Figures>, NoMemory> {
+) -> Result<Vec<Figures>, NoMemory>
+    ensures { IfOk result (λ line. line.items ≡ figures_shown (state_of book.now.log) closes.now) }
+{
     let mut line = Vec::new(alloc);
     for close in closes {
         let Some(sheet) = book.sheet(close.date) else {

@@ -1,6 +1,10 @@
 // The head of a page, and what was handed in.
+ghost use Rattle.std.specs.Prelude.{OnOk};
+ghost use Rattle.cns_page.specs.Contains.{Grows};
+
 use crate::page::Page;
 use crate::piece::{Piece, write_pieces, write_row};
+use crate::section::write_markup;
 use crate::style::STYLE;
 use cns_units::WriteFault;
 use std::io::Write;
@@ -20,7 +24,9 @@ const CONTENTS: &str = "<nav aria-label=Contents><ul>
 ";
 
 /// Writes the head of a page, up to its first section.
-pub(crate) fn write_head<W: Write>(page: &Page<'_>, writer: &mut W) -> Result<(), WriteFault> {
+pub(crate) fn write_head<W: Write>(page: &Page<'_>, writer: &mut W) -> Result<(), WriteFault>
+    ensures { OnOk result (Grows (W.contents writer.old) (W.contents writer.new)) }
+{
     let pieces = [
         Piece::Markup("<!DOCTYPE html>\n<html lang=en>\n<meta charset=utf-8>\n"),
         Piece::Markup(
@@ -63,7 +69,9 @@ fn write_span<W: Write>(
     last: u64,
     findings: usize,
     writer: &mut W,
-) -> Result<(), WriteFault> {
+) -> Result<(), WriteFault>
+    ensures { OnOk result (Grows (W.contents writer.old) (W.contents writer.new)) }
+{
     let cells = [
         Piece::Number(first),
         Piece::Number(last),
@@ -72,43 +80,73 @@ fn write_span<W: Write>(
     write_row(&Piece::Markup(name), &cells, writer)
 }
 
-// The records before the day, of the day and after it.
-fn write_spans<W: Write>(page: &Page<'_>, writer: &mut W) -> Result<(), WriteFault> {
+// The records before the day, where there are any.
+fn write_earlier<W: Write>(page: &Page<'_>, writer: &mut W) -> Result<(), WriteFault>
+    ensures { OnOk result (Grows (W.contents writer.old) (W.contents writer.new)) }
+{
     let first = page.first_record();
-    let last = page.close.record;
-    let all = page.survey.records;
-    if first > 1 {
-        write_span(
-            "Before this day",
-            1,
-            first - 1,
-            page.earlier().len(),
-            writer,
-        )?;
+    if first <= 1 {
+        return Ok(());
     }
     write_span(
-        "This day, its close the last",
-        first,
-        last,
-        page.findings().len(),
+        "Before this day",
+        1,
+        first - 1,
+        page.earlier().len(),
         writer,
-    )?;
-    if all > last {
-        write_span(
-            "After its close",
-            last.saturating_add(1),
-            all,
-            page.later().len(),
-            writer,
-        )?;
-    }
-    write_span("All", 1, all, page.survey.findings.len(), writer)
+    )
 }
 
-/// Writes what was handed in, and the line that makes the page again.
-pub(crate) fn write_handed<W: Write>(page: &Page<'_>, writer: &mut W) -> Result<(), WriteFault> {
-    write_pieces(&[Piece::Markup(HEAD)], writer)?;
-    write_spans(page, writer)?;
+// The records of the day.
+fn write_day<W: Write>(page: &Page<'_>, writer: &mut W) -> Result<(), WriteFault>
+    ensures { OnOk result (Grows (W.contents writer.old) (W.contents writer.new)) }
+{
+    write_span(
+        "This day, its close the last",
+        page.first_record(),
+        page.close.record,
+        page.findings().len(),
+        writer,
+    )
+}
+
+// The records after the day, where there are any.
+fn write_later<W: Write>(page: &Page<'_>, writer: &mut W) -> Result<(), WriteFault>
+    ensures { OnOk result (Grows (W.contents writer.old) (W.contents writer.new)) }
+{
+    let last = page.close.record;
+    if page.survey.records <= last {
+        return Ok(());
+    }
+    write_span(
+        "After its close",
+        last.saturating_add(1),
+        page.survey.records,
+        page.later().len(),
+        writer,
+    )
+}
+
+// The records before the day, of the day, after it, and all.
+fn write_spans<W: Write>(page: &Page<'_>, writer: &mut W) -> Result<(), WriteFault>
+    ensures { OnOk result (Grows (W.contents writer.old) (W.contents writer.new)) }
+{
+    write_earlier(page, writer)?;
+    write_day(page, writer)?;
+    write_later(page, writer)?;
+    write_span(
+        "All",
+        1,
+        page.survey.records,
+        page.survey.findings.len(),
+        writer,
+    )
+}
+
+// The line that makes the page again, and the end of the page.
+fn write_line<W: Write>(page: &Page<'_>, writer: &mut W) -> Result<(), WriteFault>
+    ensures { OnOk result (Grows (W.contents writer.old) (W.contents writer.new)) }
+{
     let pieces = [
         Piece::Markup("</table>\n</div>\n<p>In all "),
         Piece::Number(page.bytes),
@@ -127,4 +165,15 @@ pub(crate) fn write_handed<W: Write>(page: &Page<'_>, writer: &mut W) -> Result<
         Piece::Markup(" &lt; records &gt; day.html</code></pre>\n</section>\n</main>\n</html>\n"),
     ];
     write_pieces(&pieces, writer)
+}
+
+/// Writes what was handed in, and the line that makes the page again.
+///
+/// Where the writer fails or takes no byte it answers `WriteFault`.
+pub(crate) fn write_handed<W: Write>(page: &Page<'_>, writer: &mut W) -> Result<(), WriteFault>
+    ensures { OnOk result (Grows (W.contents writer.old) (W.contents writer.new)) }
+{
+    write_markup(HEAD, writer)?;
+    write_spans(page, writer)?;
+    write_line(page, writer)
 }

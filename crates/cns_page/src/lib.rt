@@ -1,9 +1,10 @@
 //! A closed day as a page for a browser: one HTML file that stands by itself.
 //!
 //! `run_words` takes the words of a line, a reader of records and two writers. It keeps the records in memory, and plays
-//! them twice: once through, to find the closes and what wants a person (`survey.rt`), and then, by `load` of `cns_feed`,
-//! up to the close that the page is of. So the page shows the book as that close left it; of later records it tells what
-//! wants a person, and nothing else. `page.rt` has the sections in their order.
+//! them twice (`play.rt`): once through, to find the closes and what wants a person, and then up to the close that the page
+//! is of. So the page shows the book as that close left it; of later records it tells what wants a person, and nothing else.
+//! At status 0 the page has what `HasPage` in `specs/Shown.antt` says: the day that was asked for, with all its findings and
+//! lists. `page.rt` has the sections in their order.
 //!
 //! All that is written goes through `Piece`. Markup lives as long as the program, so no byte of a record is among it;
 //! texts and issues are escaped. Contracts say of each row and entry its text (`specs/Accounts.antt`, `specs/Lists.antt`,
@@ -24,10 +25,12 @@ mod figures;
 mod finding;
 mod handed;
 mod liable;
+mod make;
 mod notices;
 mod page;
 mod picture;
 mod piece;
+mod play;
 mod section;
 mod shorts;
 mod split;

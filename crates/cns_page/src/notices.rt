@@ -1,7 +1,10 @@
 // Live notices of intention to buy in.
-ghost use Rattle.std.specs.Prelude.{OnOk};
+ghost use Rattle.std.specs.Prelude.{◌≡◌, IfOk, OnOk};
 ghost use Rattle.cns_units.specs.Output.{Writes};
+ghost use Rattle.cns_terms.specs.Common.{is_live};
+ghost use Rattle.cns_book.specs.Log.{state_of};
 ghost use Rattle.cns_page.specs.Contains.{Contains};
+ghost use Rattle.cns_page.specs.Listed.{live_shown};
 ghost use Rattle.cns_page.specs.Lists.{notice_html, notices_html};
 
 use crate::finding::Numbered;
@@ -14,14 +17,24 @@ use cns_units::WriteFault;
 use std::alloc::Global;
 use std::io::Write;
 
+fn is_live(stage: Stage) -> bool
+    ensures { result ≡ is_live stage }
+{
+    stage == Stage::Live
+}
+
 /// The notices of a book that are live, by number.
-pub fn live_notices(alloc: Global, book: &ReplayBook) -> Result<Vec<Numbered>, NoMemory> {
+pub fn live_notices(alloc: Global, book: &ReplayBook) -> Result<Vec<Numbered>, NoMemory>
+    ensures { IfOk result (λ v. v.items ≡ live_shown (state_of book.now.log)) }
+{
+    // Its clauses say that there are fewer notices than numbers; the proof rests on that.
+    let _entries = book.history_len();
     let mut live = Vec::new(alloc);
     for number in 1..u32::MAX {
         let Some(notice) = book.notice(number) else {
             return Ok(live);
         };
-        if notice.stage != Stage::Live {
+        if !is_live(notice.stage) {
             continue;
         }
         let Ok(()) = live.push(Numbered { number, notice }) else {

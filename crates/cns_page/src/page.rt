@@ -1,20 +1,27 @@
 // The page of a closed day.
+ghost use Rattle.std.specs.Prelude.{◌≡◌, ◌+◌, IfOk, OnOk, drop, option_map, take};
+ghost use Rattle.cns_page.specs.Contains.{Contains, Grows};
+ghost use Rattle.cns_page.specs.Findings.{findings_html};
+ghost use Rattle.cns_page.specs.Shown.{AreListed, ShowsDay, close_before, day_findings, findings_before, liable_shown};
+
 use crate::accounts::write_accounts;
 use crate::ahead::{trades_ahead, write_ahead};
 use crate::attention::{DAY, OPEN, write_findings, write_numbers};
 use crate::days::write_days;
 use crate::fault::PageFault;
-use crate::figures::line_of_days;
-use crate::finding::Finding;
+use crate::figures::{Figures, line_of_days};
+use crate::finding::{Finding, Numbered};
 use crate::handed::{write_handed, write_head};
 use crate::liable::{Chosen, write_liable};
 use crate::notices::{live_notices, write_notices};
-use crate::shorts::{shorts_of, write_shorts};
+use crate::shorts::{Aged, shorts_of, write_shorts};
 use crate::survey::{Close, Survey};
 use cns_feed::ReplayBook;
 use cns_sheets::Sheet;
+use cns_terms::{NoMemory, Trade};
 use cns_units::{Day, WriteFault};
 use std::alloc::Global;
+use std::convert::From;
 use std::io::Write;
 
 /// What a page is of: a closed day, with the book as its close left it.
@@ -34,9 +41,26 @@ pub struct Page<'a> {
     pub sheet: &'a Sheet<Global>,
 }
 
+// Findings after the first, so many.
+fn after(findings: &[Finding], count: usize) -> &[Finding]
+    ensures { result.now ≡ drop count findings.now }
+{
+    &findings[count.min(findings.len())..]
+}
+
 impl Page<'_> {
+    // The closes up to the day's.
+    fn closes(&self) -> &[Close]
+        ensures { result.now ≡ take (self.now.place + 1) self.now.survey.now.closes.items }
+    {
+        let closes = self.survey.closes.as_slice();
+        &closes[..self.place.saturating_add(1).min(closes.len())]
+    }
+
     // The close before, if there is one.
-    fn close_before(&self) -> Option<&Close> {
+    fn close_before(&self) -> Option<&Close>
+        ensures { option_map (λ c. c.now) result ≡ close_before self.now.survey.now.closes.items self.now.place }
+    {
         let place = self.place.checked_sub(1)?;
         self.survey.closes.get(place)
     }
@@ -50,30 +74,45 @@ impl Page<'_> {
     }
 
     // How many findings there are before the day.
-    fn findings_before(&self) -> usize {
+    fn findings_before(&self) -> usize
+        ensures { result ≡ findings_before self.now.survey.now self.now.place }
+    {
         match self.close_before() {
             Some(close) => close.findings,
             None => 0,
         }
     }
 
-    /// The findings before the day.
-    pub(crate) fn earlier(&self) -> &[Finding] {
+    // The first findings, so many.
+    fn first_findings(&self, count: usize) -> &[Finding]
+        ensures { result.now ≡ take count self.now.survey.now.findings.items }
+    {
         let findings = self.survey.findings.as_slice();
-        &findings[..self.findings_before().min(findings.len())]
+        &findings[..count.min(findings.len())]
+    }
+
+    /// The findings before the day.
+    pub(crate) fn earlier(&self) -> &[Finding]
+        ensures { result.now ≡ take (findings_before self.now.survey.now self.now.place) self.now.survey.now.findings.items }
+    {
+        self.first_findings(self.findings_before())
     }
 
     /// The day's findings.
-    pub(crate) fn findings(&self) -> &[Finding] {
-        let findings = self.survey.findings.as_slice();
-        let end = self.close.findings.min(findings.len());
-        &findings[self.findings_before().min(end)..end]
+    pub(crate) fn findings(&self) -> &[Finding]
+        ensures { result.now ≡ day_findings self.now.survey.now self.now.place self.now.close }
+    {
+        after(
+            self.first_findings(self.close.findings),
+            self.findings_before(),
+        )
     }
 
     /// The findings after the close.
-    pub(crate) fn later(&self) -> &[Finding] {
-        let findings = self.survey.findings.as_slice();
-        &findings[self.close.findings.min(findings.len())..]
+    pub(crate) fn later(&self) -> &[Finding]
+        ensures { result.now ≡ drop self.now.close.findings self.now.survey.now.findings.items }
+    {
+        after(self.survey.findings.as_slice(), self.close.findings)
     }
 
     /// Whether no later day is closed.
@@ -82,19 +121,32 @@ impl Page<'_> {
     }
 }
 
-// What wants a person: on the day, and on the day that is open where the page's is the last closed one.
-fn write_wants<W: Write>(page: &Page<'_>, writer: &mut W) -> Result<(), WriteFault> {
-    write_findings(&DAY, page.findings(), writer)?;
+// What wants a person after the close: all of it on the page of the last closed day, and else the numbers of the records.
+fn write_open<W: Write>(page: &Page<'_>, writer: &mut W) -> Result<(), WriteFault>
+    ensures { OnOk result (Grows (W.contents writer.old) (W.contents writer.new)) }
+{
     if page.is_last() && page.survey.records > page.close.record {
-        write_findings(&OPEN, page.later(), writer)?;
+        write_findings(&OPEN, page.later(), writer)
     } else {
-        write_numbers("after the close of this day", page.later(), writer)?;
+        write_numbers("after the close of this day", page.later(), writer)
     }
+}
+
+// What wants a person: on the day, after its close, and before it.
+fn write_wants<W: Write>(page: &Page<'_>, writer: &mut W) -> Result<(), WriteFault>
+    ensures { OnOk result (Contains (W.contents writer.old) (W.contents writer.new)
+        (findings_html (day_findings page.now.survey.now page.now.place page.now.close))) }
+{
+    write_findings(&DAY, page.findings(), writer)?;
+    write_open(page, writer)?;
     write_numbers("before this day", page.earlier(), writer)
 }
 
 // The liable members of the day and of the day before.
-fn write_batches<W: Write>(page: &Page<'_>, writer: &mut W) -> Result<(), WriteFault> {
+fn write_batches<W: Write>(page: &Page<'_>, writer: &mut W) -> Result<(), WriteFault>
+    ensures { OnOk result (Contains (W.contents writer.old) (W.contents writer.new)
+        (liable_shown page.now.book.now.log page.now.close.day)) }
+{
     let day = page.close.day;
     let before = day.saturating_sub(1);
     write_liable(
@@ -110,29 +162,78 @@ fn write_batches<W: Write>(page: &Page<'_>, writer: &mut W) -> Result<(), WriteF
     )
 }
 
-/// Writes the page.
-///
-/// `NoMemory` where a growth was refused, and `Write` where the writer fails or takes no byte. What was written before
-/// stands.
-pub fn write_page<W: Write>(
-    alloc: Global,
-    page: &Page<'_>,
-    writer: &mut W,
-) -> Result<(), PageFault> {
-    let closes = page.survey.closes.as_slice();
-    let closes = closes.get(..=page.place).unwrap_or(&[]);
+/// What a page lists beside findings, the sheet and liable members.
+#[derive(Drop)]
+pub struct Lists {
+    /// Shorts, the oldest first.
+    pub shorts: Vec<Aged>,
+    /// Live notices, by number.
+    pub notices: Vec<Numbered>,
+    /// Trades that wait, by date.
+    pub trades: Vec<Trade>,
+    /// The closed days, in order.
+    pub line: Vec<Figures>,
+}
+
+// The last section. Then all that was written is handed on.
+fn write_last<W: Write>(page: &Page<'_>, writer: &mut W) -> Result<(), WriteFault>
+    ensures { OnOk result (Grows (W.contents writer.old) (W.contents writer.new)) }
+{
+    write_handed(page, writer)?;
+    match writer.flush() {
+        Ok(()) => Ok(()),
+        Err(_) => Err(WriteFault),
+    }
+}
+
+// The lists of a page.
+fn lists_of(alloc: Global, page: &Page<'_>) -> Result<Lists, NoMemory>
+    ensures { IfOk result (AreListed page.now.book.now.log page.now.survey.now page.now.place page.now.sheet.now) }
+{
     let shorts = shorts_of(alloc, page.book, page.sheet)?;
     let notices = live_notices(alloc, page.book)?;
     let trades = trades_ahead(alloc, page.book)?;
-    let line = line_of_days(alloc, page.book, closes)?;
+    let line = line_of_days(alloc, page.book, page.closes())?;
+    Ok(Lists {
+        shorts,
+        notices,
+        trades,
+        line,
+    })
+}
+
+// The sections of a page.
+fn write_sections<W: Write>(
+    page: &Page<'_>,
+    lists: &Lists,
+    writer: &mut W,
+) -> Result<(), WriteFault>
+    requires { AreListed page.now.book.now.log page.now.survey.now page.now.place page.now.sheet.now lists.now }
+    ensures { OnOk result (ShowsDay page.now.book.now.log page.now.survey.now page.now.place page.now.close page.now.sheet.now
+        (W.contents writer.old) (W.contents writer.new)) }
+{
     write_head(page, writer)?;
     write_wants(page, writer)?;
     write_accounts(page.sheet, writer)?;
-    write_shorts(shorts.as_slice(), writer)?;
+    write_shorts(lists.shorts.as_slice(), writer)?;
     write_batches(page, writer)?;
-    write_notices(notices.as_slice(), writer)?;
-    write_ahead(trades.as_slice(), writer)?;
-    write_days(line.as_slice(), writer)?;
-    write_handed(page, writer)?;
-    Ok(())
+    write_notices(lists.notices.as_slice(), writer)?;
+    write_ahead(lists.trades.as_slice(), writer)?;
+    write_days(lists.line.as_slice(), writer)?;
+    write_last(page, writer)
+}
+
+/// Writes the page, and hands it on.
+///
+/// `NoMemory` where a growth was refused, and `Write` where the writer fails, takes no byte or cannot be flushed.
+/// What was written before stands.
+pub fn write_page<W: Write>(alloc: Global, page: &Page<'_>, writer: &mut W) -> Result<(), PageFault>
+    ensures { OnOk result (ShowsDay page.now.book.now.log page.now.survey.now page.now.place page.now.close page.now.sheet.now
+        (W.contents writer.old) (W.contents writer.new)) }
+{
+    let lists = lists_of(alloc, page)?;
+    match write_sections(page, &lists, writer) {
+        Ok(()) => Ok(()),
+        Err(fault) => Err(PageFault::from(fault)),
+    }
 }

@@ -1,7 +1,10 @@
 // Shorts with their ages.
-ghost use Rattle.std.specs.Prelude.{OnOk};
+ghost use Rattle.std.specs.Prelude.{◌≡◌, ◌<◌, ◌^◌, All, IfOk, OnOk};
+ghost use Rattle.std.specs.Ordering.{nat_cmp};
 ghost use Rattle.cns_units.specs.Output.{Writes};
+ghost use Rattle.cns_book.specs.Log.{state_of};
 ghost use Rattle.cns_page.specs.Contains.{Contains};
+ghost use Rattle.cns_page.specs.Listed.{IsInOrderOf, age_shown, shorts_among};
 ghost use Rattle.cns_page.specs.Lists.{short_html, shorts_html};
 
 use crate::figures::is_short;
@@ -23,20 +26,20 @@ pub struct Aged {
 }
 
 // The age of an account's short in the issue of a row, at the last close of the book.
-fn age_of(book: &ReplayBook, row: &Row) -> u32 {
+fn age_of(book: &ReplayBook, row: &Row) -> u32
+    ensures { result ≡ age_shown (state_of book.now.log) row.now }
+{
     match book.position(row.account, row.issue) {
         Some(holding) => holding.run,
         None => 0,
     }
 }
 
-/// The members' shorts on the sheet of the book's last close, the oldest first, and those of one age in the order of the
-/// sheet.
-pub fn shorts_of(
-    alloc: Global,
-    book: &ReplayBook,
-    sheet: &Sheet<Global>,
-) -> Result<Vec<Aged>, NoMemory> {
+// The members' shorts on a sheet, in its order.
+fn gather(alloc: Global, book: &ReplayBook, sheet: &Sheet<Global>) -> Result<Vec<Aged>, NoMemory>
+    ensures shorts { IfOk result (λ v. v.items ≡ shorts_among (state_of book.now.log) sheet.now.rows) }
+    ensures ages { IfOk result (λ v. All (λ s. s.age < 2 ^ 32) v.items) }
+{
     let mut shorts = Vec::new(alloc);
     for row in sheet.rows() {
         if !is_short(&row) {
@@ -47,6 +50,20 @@ pub fn shorts_of(
             return Err(NoMemory);
         };
     }
+    Ok(shorts)
+}
+
+/// The members' shorts on the sheet of the book's last close, the oldest first, and those of one age in the order of the
+/// sheet.
+pub fn shorts_of(
+    alloc: Global,
+    book: &ReplayBook,
+    sheet: &Sheet<Global>,
+) -> Result<Vec<Aged>, NoMemory>
+    ensures { IfOk result (λ v. IsInOrderOf (λ s. s.age) (λ a b. nat_cmp b a)
+        (shorts_among (state_of book.now.log) sheet.now.rows) v.items) }
+{
+    let mut shorts = gather(alloc, book, sheet)?;
     shorts.sort_by_key(|short| u32::MAX - short.age)?;
     Ok(shorts)
 }

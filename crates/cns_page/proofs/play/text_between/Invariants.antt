@@ -1,5 +1,5 @@
 use Rattle.std.proofs.Common.{◌-◌, ◌≤◌, length}
-use Rattle.cns_page.proofs.survey.text_between.Given as goal
+use Rattle.cns_page.proofs.play.text_between.Given as goal
 
 abbrev pub invariant-front : goal.invariant-front
 invariant-front l = (l.first ≤ l.last) × (l.last ≤ length l.text)

@@ -1,0 +1,42 @@
+-- The shorts of a sheet, row by row.
+use Rattle.std.proofs.Common.{◌≡◌, ◌∙◌, sym, ap, ℕ, ◌-◌, ◌^◌, ◌<◌, true, cond, List, [], ◌∷◌, ◌++◌, min, filter, map}
+use Rattle.std.specs.Prelude.{All, count_by}
+use Rattle.std.proofs.lemmas.List.{map-append}
+use Rattle.std.proofs.lemmas.List.Elements.{All-push, filter-append}
+use Rattle.cns_terms.specs.Common.{State}
+use Rattle.cns_terms.specs.declared.sheet.Row.{Row}
+use Rattle.cns_sheets.proofs.RowSums.{onward}
+use Rattle.cns_page.specs.Figures.{is_short}
+use Rattle.cns_page.specs.Listed.{aged, shorts_among}
+use Rattle.cns_page.specs.declared.shorts.Aged.{Aged}
+
+-- ---- how many they are
+
+-- how far a loop over rows has come: the rows that it was given, and the count of shorts, as far as it goes
+pub record Counting (all given left : List Row) (shorts : ℕ) : Type 0 where
+  pub parts : all ≡ given ++ left
+  pub shorts_are : shorts ≡ min (count_by is_short given) (2 ^ 64 - 1)
+
+-- ---- which they are
+
+-- how far a loop over rows has come: the rows that it was given, and the shorts among them with their ages
+pub record Aging (S : State) (all given left : List Row) (items : List Aged) : Type 0 where
+  pub parts : all ≡ given ++ left
+  pub items_are : items ≡ shorts_among S given
+  pub small : All (λ s. s.age < 2 ^ 32) items
+
+-- of some rows and others
+append : (S : State) (rs us : List Row) → shorts_among S (rs ++ us) ≡ shorts_among S rs ++ shorts_among S us
+append S rs us = ap (map (aged S)) (filter-append is_short rs us) ∙ map-append (aged S) (filter is_short rs) (filter is_short us)
+
+module _ (S : State) (all given left rest : List Row) (row : Row) (items : List Aged) (was : Aging S all given left items) (next : left ≡ row ∷ rest) where
+  more : (new : List Aged) → new ≡ items ++ shorts_among S (row ∷ []) → All (λ s. s.age < 2 ^ 32) new → Aging S all (given ++ row ∷ []) rest new
+  more new is fit = record {
+    parts = onward all given left row rest was.parts next;
+    items_are = is ∙ ap (λ xs. xs ++ shorts_among S (row ∷ [])) was.items_are ∙ sym (append S given (row ∷ []));
+    small = fit;
+  }
+
+  -- a short
+  pub aging_more : (a : Aged) → is_short row ≡ true → a ≡ aged S row → a.age < 2 ^ 32 → Aging S all (given ++ row ∷ []) rest (items ++ a ∷ [])
+  aging_more a short is fit = more (items ++ a ∷ []) (ap (λ x. items ++ x ∷ []) is ∙ ap (λ b. items ++ map (aged S) (cond b (row ∷ []) [])) (sym short)) (All-push (λ s. s.age < 2 ^ 32) items a was.small fit)

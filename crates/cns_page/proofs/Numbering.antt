@@ -1,0 +1,138 @@
+-- The notices of a journal, by number.
+use Rattle.std.proofs.Common.{◌≡◌, ◌∙◌, sym, ap, refl, ℕ, zero, suc, ◌+◌, ◌-◌, ◌^◌, ◌≤◌, ◌<◌, ◌==◌, true, false, cond, List, [], ◌∷◌, ◌++◌, length, map, filter, find, Option, Some, None, append-nil, take, option_map, slice_get, length-append, arith}
+use Rattle.std.specs.Option.{option_map_or}
+use Rattle.std.proofs.lemmas.Bool.Decides.{nat_tests}
+use Rattle.std.proofs.lemmas.List.{map-append, take_all}
+use Rattle.std.proofs.lemmas.List.Elements.{filter-append}
+use Rattle.cns_terms.specs.Common.{Day, IsReached, Journal, Notice, day, is_live, journal, notice, notice_at, noticed, notices, refusal, stage}
+use Rattle.cns_terms.specs.declared.command.Activity.{Activity}
+use Rattle.cns_terms.specs.declared.command.Activity.TheVariants as activity
+use Rattle.cns_terms.specs.declared.command.Command.TheVariants as command
+use Rattle.cns_terms.specs.declared.command.Movement.{Movement}
+use Rattle.cns_book.specs.Shown.{notice_listed, notice_of}
+use Rattle.cns_book.specs.declared.notice.Notice.{Notice as Shown}
+use Rattle.cns_page.specs.Listed.{live_among, numbered}
+use Rattle.cns_page.specs.declared.finding.Numbered.{Numbered}
+use Rattle.cns_page.proofs.Walked.{take_next, take_past}
+
+-- the notices are numbered on from a number
+abbrev AreNumbered : ℕ → List Notice → Type 0
+AreNumbered k [] = Unit
+AreNumbered k (n ∷ ns) = (n.number ≡ k + 1) × AreNumbered (k + 1) ns
+
+-- with one more
+push : (k : ℕ) (ns : List Notice) (n : Notice) → AreNumbered k ns → n.number ≡ k + length ns + 1 → AreNumbered k (ns ++ n ∷ [])
+push k [] n all is = (omega (arith, is), tt)
+push k (m ∷ ns) n all is = (all.0, push (k + 1) ns n all.1 (omega (arith, is)))
+
+-- those of a journal
+all_numbered : (J : Journal) → AreNumbered 0 (notices J)
+all_numbered [] = tt
+all_numbered (p ∷ J) = by (noticed p.activity) (all_numbered J)
+  where
+    by : (o : Option Movement) → AreNumbered 0 (notices J) → AreNumbered 0 (option_map_or (λ m. notices J ++ (notice (length (notices J) + 1) (day J) m ∷ [])) o (notices J))
+    by None all = all
+    by (Some m) all = push 0 (notices J) (notice (length (notices J) + 1) (day J) m) all (omega arith)
+
+alike : (a b : ℕ) → a ≡ b → (a == b) ≡ true
+alike a b e = grind (arith, nat_tests)
+
+unlike : (a b : ℕ) → a < b → (a == b) ≡ false
+unlike a b lt = grind (arith, nat_tests)
+
+-- the one with a number, by its place
+find_numbered : (k i t : ℕ) (ns : List Notice) → t ≡ k + i + 1 → AreNumbered k ns → find (λ n. n.number == t) ns ≡ slice_get ns i
+find_numbered k i t [] e all = refl
+find_numbered k zero t (n ∷ ns) e all = ap (λ b. cond b (Some n) (find (λ m. m.number == t) ns)) (alike n.number t (omega (arith, e, all.0)))
+find_numbered k (suc i) t (n ∷ ns) e all =
+    ap (λ b. cond b (Some n) (find (λ m. m.number == t) ns)) (unlike n.number t (omega (arith, e, all.0))) ∙ find_numbered (k + 1) i t ns (omega (arith, e)) all.1
+
+-- the number of the one at a place
+number_at : (k i : ℕ) (ns : List Notice) (n : Notice) → AreNumbered k ns → slice_get ns i ≡ Some n → n.number ≡ k + i + 1
+number_at k i [] n all is = cc
+number_at k zero (m ∷ ns) n all is = let same : m ≡ n = cc in ap (λ x. x.number) (sym same) ∙ (omega (arith, all.0))
+number_at k (suc i) (m ∷ ns) n all is = let later = number_at (k + 1) i ns n all.1 is in omega (arith, later)
+
+-- ---- how many they are
+
+-- an activity gives notice once
+length_by : (J : Journal) (o : Option Movement) → length (option_map_or (λ m. notices J ++ (notice (length (notices J) + 1) (day J) m ∷ [])) o (notices J)) ≤ length (notices J) + 1
+length_by J None = omega arith
+length_by J (Some m) = omega (arith, length-append (notices J) (notice (length (notices J) + 1) (day J) m ∷ []))
+
+-- the first activity is no notice
+first_is_none : (opening : Day) (x : Activity) → refusal opening [] (command.Activity x) ≡ None → noticed x ≡ None
+first_is_none opening (activity.Notice m) e = cc
+first_is_none opening _ e = refl
+
+-- fewer than the activities
+fewer : (opening : Day) (x : Activity) (L : List Activity) → IsReached opening (x ∷ L) → length (notices (journal opening (x ∷ L))) ≤ length L
+fewer opening x [] r = let none = first_is_none opening x r.1 in rw none (omega arith)
+fewer opening x (y ∷ L) r = let before = fewer opening y L r.2 in let more = length_by (journal opening (y ∷ L)) (noticed x) in omega (arith, before, more)
+
+-- each has a number that a loop comes to
+few_notices : (opening : Day) (L : List Activity) → IsReached opening L → length L < 2 ^ 32 → length (notices (journal opening L)) ≤ 2 ^ 32 - 2
+few_notices opening [] r lt = omega arith
+few_notices opening (x ∷ L) r lt = let few = fewer opening x L r in omega (arith, few, lt)
+
+-- all of them
+pub live_whole : (opening : Day) (L : List Activity) (items : List Numbered) → IsReached opening L → length L < 2 ^ 32
+    → items ≡ live_among (journal opening L) (take (2 ^ 32 - 2) (notices (journal opening L))) → items ≡ live_among (journal opening L) (notices (journal opening L))
+live_whole opening L items r lt is = is ∙ ap (live_among (journal opening L)) (take_all (2 ^ 32 - 2) (notices (journal opening L)) (few_notices opening L r lt))
+
+-- ---- a loop over them
+
+module _ (J : Journal) (number : ℕ) (le : 1 ≤ number) where
+  -- the notice with a number, by its place
+  there : notice_at J number ≡ slice_get (notices J) (number - 1)
+  there = find_numbered 0 (number - 1) number (notices J) (omega arith) (all_numbered J)
+
+  -- what is shown of none
+  unmapped : (o : Option Notice) → option_map (notice_of J) o ≡ None → o ≡ None
+  unmapped None is = refl
+  unmapped (Some n) is = cc
+
+  -- no notice is left
+  pub live_ends : (n : ℕ) (items : List Numbered) → number - 1 ≤ n → notice_listed J number ≡ None → items ≡ live_among J (take (number - 1) (notices J)) → items ≡ live_among J (take n (notices J))
+  live_ends n items few none was = was ∙ ap (live_among J) (take_past (notices J) (number - 1) n (sym there ∙ unmapped (notice_at J number) none) few)
+
+  -- of some and others
+  append : (ns ms : List Notice) → live_among J (ns ++ ms) ≡ live_among J ns ++ live_among J ms
+  append ns ms =
+      ap (map (numbered J)) (filter-append (λ n. is_live (stage J n)) ns ms)
+      ∙ map-append (numbered J) (filter (λ n. is_live (stage J n)) ns) (filter (λ n. is_live (stage J n)) ms)
+
+  -- one more
+  onward : (n : Notice) (items : List Numbered) → notice_at J number ≡ Some n → items ≡ live_among J (take (number - 1) (notices J))
+      → items ++ live_among J (n ∷ []) ≡ live_among J (take (number + 1 - 1) (notices J))
+  onward n items is was =
+      let later : suc (number - 1) ≡ number + 1 - 1 = omega arith in
+      ap (λ ns. ns ++ live_among J (n ∷ [])) was ∙ sym (append (take (number - 1) (notices J)) (n ∷ []))
+      ∙ ap (live_among J) (sym (take_next (notices J) (number - 1) n (sym there ∙ is)) ∙ ap (λ k. take k (notices J)) later)
+
+  -- one that is not live
+  pub live_passed : (s : Shown) (items : List Numbered) → notice_listed J number ≡ Some s → is_live s.stage ≡ false → items ≡ live_among J (take (number - 1) (notices J))
+      → items ≡ live_among J (take (number + 1 - 1) (notices J))
+  live_passed s items shown dead was = by (notice_at J number) refl shown
+    where
+      by : (o : Option Notice) → notice_at J number ≡ o → option_map (notice_of J) o ≡ Some s → items ≡ live_among J (take (number + 1 - 1) (notices J))
+      by None is shown = cc
+      by (Some n) is shown =
+          let same : notice_of J n ≡ s = cc in
+          let none : is_live (stage J n) ≡ false = ap (λ x. is_live x.stage) same ∙ dead in
+          sym (append-nil items) ∙ ap (λ b. items ++ map (numbered J) (cond b (n ∷ []) [])) (sym none) ∙ onward n items is was
+
+  -- one that is live
+  pub live_added : (s : Shown) (items : List Numbered) → notice_listed J number ≡ Some s → is_live s.stage ≡ true → items ≡ live_among J (take (number - 1) (notices J))
+      → items ++ record { number = number; notice = s } ∷ [] ≡ live_among J (take (number + 1 - 1) (notices J))
+  live_added s items shown live was = by (notice_at J number) refl shown
+    where
+      by : (o : Option Notice) → notice_at J number ≡ o → option_map (notice_of J) o ≡ Some s → items ++ record { number = number; notice = s } ∷ [] ≡ live_among J (take (number + 1 - 1) (notices J))
+      by None is shown = cc
+      by (Some n) is shown =
+          let same : notice_of J n ≡ s = cc in
+          let alive : is_live (stage J n) ≡ true = ap (λ x. is_live x.stage) same ∙ live in
+          let at = number_at 0 (number - 1) (notices J) n (all_numbered J) (sym there ∙ is) in
+          let its : n.number ≡ number = omega (arith, at) in
+          let pushed : numbered J n ≡ record { number = number; notice = s } = λ i. record { number = its i; notice = same i } in
+          ap (λ x. items ++ x ∷ []) (sym pushed) ∙ ap (λ b. items ++ map (numbered J) (cond b (n ∷ []) [])) (sym alive) ∙ onward n items is was

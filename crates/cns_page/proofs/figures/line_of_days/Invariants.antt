@@ -1,0 +1,7 @@
+use Rattle.std.proofs.Common.{◌≡◌, take}
+use Rattle.cns_book.specs.Log.{state_of}
+use Rattle.cns_page.specs.Listed.{figures_shown}
+use Rattle.cns_page.proofs.figures.line_of_days.Given as goal
+
+abbrev pub invariant-loop-close : goal.invariant-loop-close
+invariant-loop-close l = l.line.items ≡ figures_shown (state_of l.book.log) (take l.close-index l.closes)

@@ -1,0 +1,8 @@
+use Rattle.std.proofs.Common.{◌≡◌, ◌-◌, take}
+use Rattle.cns_terms.specs.Common.{journal_of, notices}
+use Rattle.cns_book.specs.Log.{state_of}
+use Rattle.cns_page.specs.Listed.{live_among}
+use Rattle.cns_page.proofs.notices.live_notices.Given as goal
+
+abbrev pub invariant-loop-number : goal.invariant-loop-number
+invariant-loop-number l = let J = journal_of (state_of l.book.log) in l.live.items ≡ live_among J (take (l.number - 1) (notices J))

@@ -1,0 +1,117 @@
+-- What is known of the records of an input: which of them want a person, and which closed a day.
+use Rattle.std.specs.Prelude.{◌≡◌, ◌<◌, ℕ, ◌+◌, List, [], ◌∷◌, ◌++◌, length, map, slice_get, Option, Some, None, IfSome, Ok, Err}
+use Rattle.csv.specs.declared.reader.Reader.{Reader}
+use Rattle.cns_terms.specs.Common.{Day, State, answer, opened}
+use Rattle.cns_terms.specs.declared.refusal.Refusal.{Refusal}
+use Rattle.cns_terms.specs.declared.reply.Closed.{Closed}
+use Rattle.cns_terms.specs.declared.reply.Reply.{Reply}
+use Rattle.cns_terms.specs.declared.reply.Reply.TheVariants as reply
+use Rattle.cns_book.specs.Log.{Log, state_of}
+use Rattle.cns_feed.specs.Line.{Line}
+use Rattle.cns_feed.specs.Output.{state_after_line}
+use Rattle.cns_feed.specs.Replay.{blank_log, log_after, log_after_line}
+use Rattle.cns_feed.specs.Records.{Left, Setup}
+use Rattle.cns_feed.specs.declared.fault.LineFault.{LineFault}
+use Rattle.cns_page.specs.declared.finding.Finding.{Finding}
+use Rattle.cns_page.specs.declared.finding.Outcome.{Outcome}
+use Rattle.cns_page.specs.declared.finding.Outcome.TheVariants as outcome
+use Rattle.cns_page.specs.declared.survey.Close.{Close}
+use Rattle.cns_page.specs.declared.survey.Survey.{Survey}
+
+-- a closed day: its number and date, the number of the record that closed it, and how many records up to it want a person
+pub record Closing : Type 0 where
+  pub day : ℕ
+  pub date : Day
+  pub number : ℕ
+  pub wanting : ℕ
+
+-- why a record wants a person: it is at fault, or its command is refused
+pub data Why : Type 0 where
+  at_fault : LineFault → Why
+  refused : Refusal → Why
+
+-- what is known of records: how many there are, those that want a person by their numbers from 1, and the accepted closes
+pub record Known : Type 0 where
+  pub records : ℕ
+  pub wanting : List (ℕ × Why)
+  pub closes : List Closing
+
+-- of no records
+abbrev pub nothing : Known
+nothing = record { records = 0; wanting = []; closes = [] }
+
+-- one record more
+abbrev pub counted : Known → Known
+counted k = record k { records = k.records + 1 }
+
+-- it wants a person
+abbrev pub wanted : Known → Why → Known
+wanted k w = record k { wanting = k.wanting ++ (k.records, w) ∷ [] }
+
+-- it closed a day
+abbrev pub day_closed : Known → Closed → Known
+day_closed k c = record k { closes = k.closes ++ record { day = c.day; date = c.date; number = k.records; wanting = length k.wanting } ∷ [] }
+
+-- what the reply to its command tells
+abbrev pub replied : Known → Reply → Known
+replied k (reply.Closed c) = day_closed k c
+replied k (reply.Refused r) = wanted k (refused r)
+replied k _ = k
+
+-- what it tells, in the state before it
+abbrev pub told_by : Known → State → Line → Known
+told_by k S (Ok cmd) = replied k (answer S cmd)
+told_by k S (Err f) = wanted k (at_fault f)
+
+-- one record more, and what it tells
+abbrev pub noted : Known → State → Line → Known
+noted k S l = told_by (counted k) S l
+
+-- the same of records in order
+unfoldable pub noted_all : Known → State → List Line → Known
+noted_all k S [] = k
+noted_all k S (l ∷ ls) = noted_all (noted k S l) (state_after_line S l) ls
+
+-- why a finding's record wants a person
+abbrev pub why : Outcome → Why
+why (outcome.AtFault f) = at_fault f
+why (outcome.Refused r f) = refused r
+
+-- a finding without its text and what decided it
+abbrev pub told : Finding → ℕ × Why
+told f = (f.record, why f.outcome)
+
+-- a close without the place of its record
+abbrev pub closing : Close → Closing
+closing c = record { day = c.day; date = c.date; number = c.record; wanting = c.findings }
+
+-- what a survey knows
+abbrev pub known : Survey → Known
+known s = record { records = s.records; wanting = map told s.findings.items; closes = map closing s.closes.items }
+
+-- the place of a close: of the one that closed the day with the date, or of the last one where no date is given
+pub record IsChosen (closes : List Close) (day : Option Day) (place : ℕ) : Type 0 where
+  pub there : place < length closes
+  pub dated : IfSome day (λ d. IfSome (slice_get closes place) (λ c. c.date ≡ d))
+  pub last : day ≡ None → place + 1 ≡ length closes
+
+-- the first of some lines was taken and noted, and the others are left
+pub record Takes {R : Type 0} (rem : R → Option (List ℕ)) (rdr : Reader R) (before after : Log) (s t : Survey) (all : List Line) : Type 0 where
+  pub line : Line
+  pub rest : List Line
+  pub first : all ≡ line ∷ rest
+  pub left : Left rem rdr rest
+  pub log : after ≡ log_after_line before line
+  pub knows : known t ≡ noted (known s) (state_of before) line
+
+-- what a read did to a reader, a book and a survey: where it answers that a record ends there, the next line was taken and
+-- noted; where it answers None, no line was left
+abbrev pub Steps : {R : Type 0} → (R → Option (List ℕ)) → Reader R → Reader R → Log → Log → Survey → Survey → Option ℕ → Type 0
+Steps rem a b before after s t (Some end) =
+    Setup b × (t.records ≡ s.records + 1) × ((all : List Line) → Left rem a all → Takes rem b before after s t all)
+Steps rem a b before after s t None = (after ≡ before) × (t ≡ s) × ((all : List Line) → Left rem a all → all ≡ [])
+
+-- a book and a survey after lines, which began on a date
+pub record ComesTo (opening : Day) (lines : List Line) (log : Log) (s : Survey) : Type 0 where
+  pub book : log ≡ log_after (blank_log opening) lines
+  pub all_known : known s ≡ noted_all nothing (opened opening) lines
