@@ -1,5 +1,9 @@
 // What the accepted activities amount to, part by part.
-ghost use Rattle.std.specs.Prelude.{◌≡◌, IfOk, OnErr, [], true};
+ghost use Rattle.std.specs.Prelude.{◌≡◌, ℕ, IfOk, OnErr, [], None, false, true};
+ghost use Rattle.cns_units.specs.declared.cusip.Cusip.{Cusip};
+ghost use Rattle.cns_prices.specs.Listed.{price_in, retired_in};
+ghost use Rattle.cns_trades.specs.Used.{is_used};
+ghost use Rattle.cns_book.specs.Members.{has_member};
 ghost use Rattle.cns_terms.specs.declared.command.Activity.{Activity};
 ghost use Rattle.cns_terms.specs.declared.command.Command.TheVariants as command;
 ghost use Rattle.cns_book.specs.Follows.{Answers, Follows, HasRoom, may_grow};
@@ -70,24 +74,54 @@ impl<P: Positions<A>, A: Allocator + Drop + Clone> Model for Parts<P, A> {
 }
 
 impl<P: Positions<A>, A: Allocator + Drop + Clone> Parts<P, A> {
+    // What is listed before anything was accepted.
+    fn new_listings(alloc: &A) -> Result<(Members<A>, Prices<A>, Trades<A>), NoMemory>
+        ensures members { IfOk result (λ t. (m : ℕ) → has_member t.0 m ≡ false) }
+        ensures price { IfOk result (λ t. (c : Cusip) → price_in t.1 c ≡ None) }
+        ensures retired { IfOk result (λ t. (c : Cusip) → retired_in t.1 c ≡ false) }
+        ensures references { IfOk result (λ t. (r : ℕ) → is_used t.2.references r ≡ false) }
+        ensures pending { IfOk result (λ t. t.2.pending ≡ []) }
+    {
+        let members = Members::new(alloc.clone()?);
+        let prices = Prices::new(alloc.clone()?);
+        let trades = Trades::new(alloc.clone()?)?;
+        Ok((members, prices, trades))
+    }
+
+    // What closes leave before anything was accepted.
+    fn new_closings(alloc: &A) -> Result<(ClosedDays<A>, Notices<A>, Batches<A>), NoMemory>
+        ensures closed { IfOk result (λ t. t.0 ≡ []) }
+        ensures notices { IfOk result (λ t. t.1 ≡ []) }
+        ensures batches { IfOk result (λ t. t.2 ≡ []) }
+    {
+        let closed = ClosedDays::new(alloc.clone()?)?;
+        let notices = Notices::new(alloc.clone()?);
+        let batches = Batches::new(alloc.clone()?);
+        Ok((closed, notices, batches))
+    }
+
     /// The parts before anything was accepted.
     pub fn new(alloc: A, opening: Day) -> Result<Self, NoMemory>
         ensures opening { IfOk result (λ s. s.opening ≡ opening) }
         ensures rows { IfOk result (λ s. s.rows ≡ []) }
         ensures follows { IfOk result (λ s. Follows [] s) }
     {
+        let (members, prices, trades) = Parts::<P, A>::new_listings(&alloc)?;
+        let (closed, notices, batches) = Parts::<P, A>::new_closings(&alloc)?;
+        let dividends = Dividends::new(alloc.clone()?);
+        let positions = P::new(alloc.clone()?);
         Ok(Parts {
             opening,
             today: opening,
             closes: 0,
-            members: Members::new(alloc.clone()?),
-            prices: Prices::new(alloc.clone()?),
-            trades: Trades::new(alloc.clone()?)?,
-            dividends: Dividends::new(alloc.clone()?),
-            closed: ClosedDays::new(alloc.clone()?)?,
-            notices: Notices::new(alloc.clone()?),
-            batches: Batches::new(alloc.clone()?),
-            positions: P::new(alloc.clone()?),
+            members,
+            prices,
+            trades,
+            dividends,
+            closed,
+            notices,
+            batches,
+            positions,
             alloc,
         })
     }

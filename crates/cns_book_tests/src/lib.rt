@@ -1,19 +1,17 @@
-//! Tests of the book and of the crates above it: statements, the feed, the desk.
+//! Tests of the book and of packs of statements.
 //!
-//! They use public names alone and stand in a crate of their own, so that no crate below is proved once more for its
-//! tests. They say what neither a clause nor a case file of `cns_cases` says: refused memory, readers and writers that
-//! fail, gates and threads. There is a file for each crate, or for a part of one.
+//! They use public names alone and stand in a crate of their own, so that no crate below is proved once more for its tests.
+//! They say what neither a clause nor a case file of `cns_cases` says: a limit of a history, a small heap, counted look-ups
+//! beside plain ones, and statements that are made at once.
 #![tactic(auto)]
 
 #[cfg(test)]
-mod book;
+mod counted;
 #[cfg(test)]
-mod desk;
+mod heap;
 #[cfg(test)]
-mod feed;
+mod limits;
+#[cfg(test)]
+mod packs;
 #[cfg(test)]
 mod script;
-#[cfg(test)]
-mod sheets;
-#[cfg(test)]
-mod statements;

@@ -1,146 +1,72 @@
-// Commands, replies and statements as the texts that a clerk reads.
+// Books and commands from the records that a clerk writes.
 use cns_book::{Book, Receipt};
 use cns_feed::{CsvSource, load_on, reply_text};
 use cns_positions::{Positions, TreePositions};
 use cns_sheets::Sheet;
-use cns_statements::{statement, write_statement};
-use cns_terms::{Command, Item, Reply, Source, Worker};
-use cns_units::{Account, Cusip, Day};
+use cns_terms::{Activity, Command, Item, Source, Trade, Worker};
+use cns_units::Day;
 use std::alloc::{Allocator, Global};
 use std::process::Abort;
 use std::sync::Arc;
-use std::test::Fail;
 
-// The day on which each book opens, and the next one.
-pub(crate) const FIRST: &str = "2024-06-03";
-
-pub(crate) const SECOND: &str = "2024-06-04";
-
-// The issue that is traded.
-pub(crate) const APPLE: &str = "037833100";
-
-pub(crate) fn day(text: &str) -> Result<Day, Fail> {
-    match Day::parse(text.as_bytes()) {
-        Ok(day) => Ok(day),
-        Err(_) => Err(Fail::new("no date")),
-    }
-}
+// The book of each test. All else is told over any form of positions, which is less to check than over this one.
+pub(crate) type TreeBook = Book<TreePositions<Global>, Global>;
 
 pub(crate) fn first_day(rt: &impl Abort) -> Day {
-    Day::parse(FIRST.as_bytes()).expect(rt, "a date")
-}
-
-pub(crate) fn cusip(text: &str) -> Result<Cusip, Fail> {
-    match Cusip::parse(text.as_bytes()) {
-        Ok(cusip) => Ok(cusip),
-        Err(_) => Err(Fail::new("no issue")),
-    }
-}
-
-pub(crate) fn account(number: u16) -> Result<Account, Fail> {
-    match Account::new(number) {
-        Ok(account) => Ok(account),
-        Err(_) => Err(Fail::new("no account")),
-    }
-}
-
-// The commands of a text of records, none of which is at fault.
-pub(crate) fn commands(alloc: Global, records: &str) -> Result<Vec<Command>, Fail> {
-    let mut source = CsvSource::new(alloc, records.as_bytes());
-    let mut commands = Vec::new(alloc);
-    for _record in 0..=records.len() {
-        match source.next() {
-            Ok(Item::Given(command)) => commands.push(command)?,
-            Ok(Item::Finished) => return Ok(commands),
-            _ => return Err(Fail::new("no command")),
-        }
-    }
-    Err(Fail::new("no end of the records"))
+    Day::parse(b"2024-06-03".as_slice()).expect(rt, "a date")
 }
 
 // The command of a record.
-pub(crate) fn command(alloc: Global, record: &str) -> Result<Command, Fail> {
+pub(crate) fn command(rt: &impl Abort, alloc: Global, record: &str) -> Command {
     match CsvSource::new(alloc, record.as_bytes()).next() {
-        Ok(Item::Given(command)) => Ok(command),
-        _ => Err(Fail::new("no command")),
+        Ok(Item::Given(command)) => command,
+        _ => panic!(rt; "no command: {record}"),
     }
 }
 
-// Gives a book a worker's command. A check of a caller need not go through all that a book promises of it.
+// The trade of a record.
+pub(crate) fn trade(rt: &impl Abort, alloc: Global, record: &str) -> Trade {
+    match command(rt, alloc, record) {
+        Command::Activity(Activity::Trade(trade)) => trade,
+        _ => panic!(rt; "no trade: {record}"),
+    }
+}
+
+// Gives a book a command. A check of a caller need not go through all that a book promises of it.
 pub(crate) fn take<P: Positions<A>, A: Allocator + Drop + Clone>(
+    rt: &impl Abort,
     book: &mut Book<P, A>,
-    worker: Worker,
     command: Command,
-) -> Result<Receipt, Fail> {
-    match book.take(worker, command) {
-        Ok(receipt) => Ok(receipt),
-        Err(_) => Err(Fail::new("not taken")),
-    }
+) -> Receipt {
+    book.take(Worker::FIRST, command).expect(rt, "taken")
 }
 
-// The book that has taken the commands of the records.
-pub(crate) fn loaded<P: Positions<Global>>(
+// Gives a book the command of each record, which has to get the reply beside it.
+pub(crate) fn play<P: Positions<A>, A: Allocator + Drop + Clone>(
+    rt: &impl Abort,
     alloc: Global,
-    records: &[u8],
-) -> Result<Book<P, Global>, Fail> {
-    match load_on::<P, &[u8]>(alloc, records, day(FIRST)?) {
-        Ok((book, _)) => Ok(book),
-        Err(_) => Err(Fail::new("no book")),
+    book: &mut Book<P, A>,
+    records: &[(&str, &str)],
+) {
+    for (record, reply) in records {
+        let receipt = take(rt, book, command(rt, alloc, record));
+        let mut told = Vec::new(alloc);
+        assert!(rt; reply_text(&receipt.reply, &mut told).is_ok());
+        assert!(rt; told.as_slice() == reply.as_bytes(), "{record}");
     }
 }
 
-// The sheet of a date.
-pub(crate) fn sheet_of<P: Positions<Global>>(
-    book: &Book<P, Global>,
-    date: &str,
-) -> Result<Arc<Sheet<Global>>, Fail> {
-    match book.sheet(day(date)?) {
-        Some(sheet) => copied(sheet),
-        None => Err(Fail::new("no sheet")),
-    }
+// The book after a text of records. It is lent to what may fail: each way out of a function that owns a book is checked with
+// all that the book promises.
+pub(crate) fn book_of(rt: &impl Abort, alloc: Global, records: &str) -> TreeBook {
+    let (book, _summary) = load_on(alloc, records.as_bytes(), first_day(rt)).expect(rt, "a load");
+    book
 }
 
-fn sheet_after<P: Positions<Global>>(
-    alloc: Global,
-    records: &[u8],
-) -> Result<Arc<Sheet<Global>>, Fail> {
-    let book: Book<P, Global> = loaded(alloc, records)?;
-    sheet_of(&book, FIRST)
-}
-
-// The sheet of the first day after the records.
-pub(crate) fn first_sheet(alloc: Global, records: &[u8]) -> Result<Arc<Sheet<Global>>, Fail> {
-    sheet_after::<TreePositions<Global>>(alloc, records)
-}
-
-fn copied(sheet: &Arc<Sheet<Global>>) -> Result<Arc<Sheet<Global>>, Fail> {
-    match Arc::try_clone(sheet) {
-        Ok(copy) => Ok(copy),
-        Err(_) => Err(Fail::new("no memory")),
-    }
-}
-
-// Whether two replies are the same. A check of a caller need not go through all that a reply may be.
-pub(crate) fn are_same(one: &Reply, other: &Reply) -> bool {
-    one == other
-}
-
-// Puts the line of a reply after a text.
-pub(crate) fn tell(text: &mut Vec<u8>, reply: &Reply) -> Result<(), Fail> {
-    match reply_text(reply, text) {
-        Ok(()) => Ok(()),
-        Err(_) => Err(Fail::new("no text")),
-    }
-}
-
-// The text of an account's statement.
-pub(crate) fn stated(alloc: Global, sheet: &Sheet<Global>, number: u16) -> Result<Vec<u8>, Fail> {
-    let mut text = Vec::new(alloc);
-    let Ok(statement) = statement(alloc, sheet, account(number)?) else {
-        return Err(Fail::new("no statement"));
-    };
-    match write_statement(&statement, &mut text) {
-        Ok(()) => Ok(text),
-        Err(_) => Err(Fail::new("no text")),
+// The sheet of a book's first day.
+pub(crate) fn first_sheet(rt: &impl Abort, book: &TreeBook) -> Arc<Sheet<Global>> {
+    match book.sheet(first_day(rt)) {
+        Some(sheet) => Arc::try_clone(sheet).expect(rt, "memory"),
+        None => panic!(rt; "no sheet"),
     }
 }

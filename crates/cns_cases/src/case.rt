@@ -1,4 +1,5 @@
 // A case: records, and what a replay of them has to write and to count.
+use crate::bytes::push_bytes;
 use crate::failure::Failure;
 use cns_feed::Summary;
 use cns_units::Day;
@@ -15,7 +16,7 @@ pub(crate) struct ReplyLine<'a> {
 #[derive(Drop)]
 pub(crate) struct Case<'a> {
     pub(crate) opening: Day,
-    pub(crate) input: String,
+    pub(crate) input: Vec<u8>,
     pub(crate) replies: Vec<ReplyLine<'a>>,
     // The reply lines, each with its line end.
     pub(crate) output: String,
@@ -44,23 +45,23 @@ pub(crate) fn base_of(text: &str) -> Option<&str> {
 }
 
 // The date that the book of a case opens on.
-fn opening_of(alloc: Global, text: &str) -> Result<Day, Failure> {
-    let head = head_of(text);
-    let date = head.strip_prefix("open ").unwrap_or("");
+fn opening_of(alloc: Global, date: &str) -> Result<Day, Failure> {
     match Day::parse(date.as_bytes()) {
         Ok(date) => Ok(date),
-        Err(_) => Err(Failure::told(
-            alloc,
-            &["'", head, "' is neither `open DATE` nor `after NAME`"],
-        )),
+        Err(_) => Err(Failure::told(alloc, &["'", date, "' is no date"])),
     }
+}
+
+// Whether a line of a reply stands under another one: a row or a liable member.
+fn is_further(reply: &str) -> bool {
+    reply.starts_with("row ") || reply.starts_with("liable ")
 }
 
 impl<'a> Case<'a> {
     fn new(alloc: Global, opening: Day) -> Case<'a> {
         Case {
             opening,
-            input: String::new(alloc),
+            input: Vec::new(alloc),
             replies: Vec::new(alloc),
             output: String::new(alloc),
             counts: Summary {
@@ -72,9 +73,12 @@ impl<'a> Case<'a> {
         }
     }
 
-    // Counts the first line of a reply.
+    // Counts a line of the replies.
     fn count(&mut self, reply: &str) {
         let counts = &mut self.counts;
+        if is_further(reply) {
+            return;
+        }
         if reply.starts_with("line ") {
             counts.lines = counts.lines.saturating_add(1);
             return;
@@ -85,10 +89,14 @@ impl<'a> Case<'a> {
         }
     }
 
-    fn read_record(&mut self, record: &'a str) -> Result<(), AllocError> {
+    // Hands in a record with a line end, or bytes as they are.
+    fn read_record(&mut self, record: &'a str) -> Result<(), Failure> {
         self.record = record;
-        self.input.push_str(record)?;
-        self.input.push_str("\n")?;
+        if let Some(bytes) = record.strip_prefix("bytes ") {
+            return push_bytes(&mut self.input, bytes);
+        }
+        self.input.extend_from_slice(record.as_bytes())?;
+        self.input.push(b'\n')?;
         Ok(())
     }
 
@@ -102,38 +110,43 @@ impl<'a> Case<'a> {
         Ok(())
     }
 
-    // Reads a line below the head: a record with its reply, a further line of a reply, or an empty line.
+    // Reads a line below the head: a record or bytes with a line of the replies, a further line of them, or an empty line.
     fn read_line(&mut self, line: &'a str) -> Result<(), Failure> {
-        if line.is_empty() {
-            self.read_record(line)?;
-            return Ok(());
-        }
-        let Some((record, reply)) = line.split_once("  ") else {
-            let alloc = *self.input.allocator();
-            return Err(Failure::told(alloc, &["no reply to ", line]));
-        };
+        let (record, reply) = line.split_once("  ").unwrap_or((line, ""));
         let reply = reply.trim_start();
-        if !record.is_empty() {
+        if !record.is_empty() || reply.is_empty() {
             self.read_record(record)?;
-            self.count(reply);
         }
-        self.read_reply(reply)?;
+        if !reply.is_empty() {
+            self.count(reply);
+            self.read_reply(reply)?;
+        } else if !record.is_empty() && !record.starts_with("bytes ") {
+            let alloc = *self.input.allocator();
+            return Err(Failure::told(alloc, &["no reply to ", record]));
+        }
         Ok(())
     }
 
-    fn read_text(&mut self, text: &'a str) -> Result<(), Failure> {
-        for line in text.lines().filter(|line| !is_prose(line)).skip(1) {
+    // Reads the lines of a text, behind so many first ones that are no prose.
+    fn read_text(&mut self, text: &'a str, heads: usize) -> Result<(), Failure> {
+        for line in text.lines().filter(|line| !is_prose(line)).skip(heads) {
             self.read_line(line)?;
         }
         Ok(())
     }
 
-    /// The case of a file: its text, then that of the file that it begins with, and so on. The last one opens the book.
-    pub(crate) fn parse(alloc: Global, texts: &'a [String]) -> Result<Case<'a>, Failure> {
-        let base = texts.last().map_or("", |text| text.as_str());
-        let mut case = Case::new(alloc, opening_of(alloc, base)?);
-        for text in texts.iter().rev() {
-            case.read_text(text.as_str())?;
+    /// The case of a book, whose text begins with the date that it opens on, and of the files that begin with it, the last
+    /// one first.
+    pub(crate) fn parse(
+        alloc: Global,
+        book: &'a str,
+        later: &'a [String],
+    ) -> Result<Case<'a>, Failure> {
+        let (date, text) = book.split_once('\n').unwrap_or((book, ""));
+        let mut case = Case::new(alloc, opening_of(alloc, date)?);
+        case.read_text(text, 0)?;
+        for text in later.iter().rev() {
+            case.read_text(text.as_str(), 1)?;
         }
         Ok(case)
     }

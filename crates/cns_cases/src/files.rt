@@ -1,6 +1,7 @@
 // The files of the folder.
 use crate::case::base_of;
 use crate::failure::Failure;
+use std::alloc::Global;
 use std::rt::{Files, Runtime};
 use std::{fs, io};
 
@@ -30,6 +31,14 @@ fn read_text<R: Files + AllocGlobal>(rt: &R, name: &str) -> Result<String, Failu
     }
 }
 
+// Whether a file that begins with no other opens a book below its first line.
+fn check_opens(alloc: Global, text: &str) -> Result<(), Failure> {
+    if text.contains("\nopen ") {
+        return Ok(());
+    }
+    Err(Failure::told(alloc, &["neither `open DATE` nor `after NAME`"]))
+}
+
 /// The text of the case, then of the one that it begins with, and so on; the last opens the book.
 pub(crate) fn read_texts<R: Files + AllocGlobal>(
     rt: &R,
@@ -40,6 +49,7 @@ pub(crate) fn read_texts<R: Files + AllocGlobal>(
     for _ in 0..MOST_FILES {
         let text = read_text(rt, name.as_str())?;
         let Some(base) = base_of(text.as_str()) else {
+            check_opens(rt.alloc(), text.as_str())?;
             texts.push(text)?;
             return Ok(texts);
         };

@@ -10,14 +10,20 @@
 //! - The first other line is `open DATE`, the date that the book opens on, or `after NAME`: the file begins with the
 //!   records and replies of another case, which are played again.
 //! - Each line after it is a record, two blanks or more, and its reply. A record has no two blanks in a row.
-//! - A line that begins with two blanks is a further line of the reply above it: a liable member or a row.
+//! - A line that begins with two blanks is a further line of the replies: a liable member, a row, or a reply of its own where
+//!   the line above it is bytes of several records.
 //! - An empty line is handed in as an empty line, and gets no reply.
+//! - `bytes TEXT` hands in the bytes of the text as they are, with no line end after them: `\n`, `\r`, `\t`, `\\` and `\x` with
+//!   two hexadecimal digits are written as `printf` takes them. Two blanks or more, and the first line of the replies, may
+//!   follow.
+//! - A later line `open DATE` begins another book with an input of its own. An empty line before it belongs to neither.
 //!
 //! The replies are what a replay has to write, to the byte. What it has to count follows from them: a reply `line ..` is
 //! a record at fault, each other one a command, and each reply `closed ..` a close. A load of the same records has to
 //! count the same. Start with `playing`.
 #![tactic(auto)]
 
+mod bytes;
 mod case;
 mod failure;
 mod files;
@@ -32,11 +38,21 @@ use std::process::ExitCode;
 use std::rt::{Files, Runtime};
 
 // Plays a case over each form of positions.
+fn play_case(alloc: Global, case: &Case<'_>) -> Result<(), Failure> {
+    playing::play_on::<FlatPositions<Global>>(alloc, case, "flat positions")?;
+    playing::play_on::<TreePositions<Global>>(alloc, case, "positions in a tree")
+}
+
+// Plays the cases of the books that a file opens, or of those of the file that it begins with.
 fn play_file<R: Files + AllocGlobal>(rt: &R, name: &str) -> Result<(), Failure> {
     let texts = files::read_texts(rt, name)?;
-    let case = Case::parse(rt.alloc(), texts.as_slice())?;
-    playing::play_on::<FlatPositions<Global>>(rt.alloc(), &case, "flat positions")?;
-    playing::play_on::<TreePositions<Global>>(rt.alloc(), &case, "positions in a tree")
+    let Some((first, later)) = texts.as_slice().split_last() else {
+        return Ok(());
+    };
+    for book in first.as_str().split("\nopen ").skip(1) {
+        play_case(rt.alloc(), &Case::parse(rt.alloc(), book, later)?)?;
+    }
+    Ok(())
 }
 
 fn tell(rt: &impl Print, name: &str, failure: &Failure) -> io::Result<()> {

@@ -51,7 +51,7 @@ fn fault_failure(alloc: Global, call: &str, fault: ReplayFault) -> Result<(), Fa
 
 fn check_replay<P: Positions<Global>>(alloc: Global, case: &Case<'_>) -> Result<(), Failure> {
     let mut output = Vec::new(alloc);
-    let input = case.input.as_bytes();
+    let input = case.input.as_slice();
     match replay_on::<P, &[u8], Vec<u8>>(alloc, input, &mut output, case.opening) {
         Ok(counts) => {
             check_output(alloc, case, output.as_slice())?;
@@ -72,7 +72,7 @@ fn counts_of<P: Positions<Global>>(book: &Book<P, Global>, lines: u64) -> Summar
 
 fn check_load<P: Positions<Global>>(alloc: Global, case: &Case<'_>) -> Result<(), Failure> {
     let expected = case.counts;
-    match load_on::<P, &[u8]>(alloc, case.input.as_bytes(), case.opening) {
+    match load_on::<P, &[u8]>(alloc, case.input.as_slice(), case.opening) {
         Ok((book, counts)) => {
             check_counts(alloc, "load", expected, counts)?;
             check_counts(alloc, "book", expected, counts_of(&book, counts.lines))?;

@@ -84,7 +84,12 @@ impl<H: Allocator + Drop + Clone, P: Positions<H>> Call<H> for Prepare<P> {
     }
 
     fn make(&mut self, rt: &impl Abort) -> bool {
-        let keys = [key(rt, 30), key(rt, 40), key(rt, 50), key(rt, 60)];
+        let keys = [
+            key(rt, 3_030),
+            key(rt, 3_040),
+            key(rt, 3_050),
+            key(rt, 3_060),
+        ];
         self.positions.prepare(&keys).is_ok()
     }
 

@@ -106,7 +106,7 @@ impl<H: Allocator + Drop + Clone> Call<H> for NoteReference<H> {
     }
 }
 
-// Trades that wait, of which one more is taken. Their references are far from one another.
+// Pending trades, of which one more is taken. Each has other parties, and their references are far from one another.
 #[derive(Drop)]
 pub(crate) struct PendTrade<H: Allocator + Drop> {
     trades: Trades<H>,
@@ -119,8 +119,8 @@ fn trade(rt: &impl Abort, number: u16) -> Trade {
         reference: reference(number),
         money: Money::new(975).expect(rt, "money"),
         shares: Shares::new(5).expect(rt, "shares"),
-        buyer: member(rt, 101),
-        seller: member(rt, 202),
+        buyer: member(rt, number),
+        seller: member(rt, number.saturating_add(1)),
         date: day(rt, "2024-06-04"),
         issue: issue(rt, 1),
     }
@@ -164,8 +164,9 @@ impl<H: Allocator + Drop + Clone> Call<H> for PendTrade<H> {
             && self.trades.seen(reference(self.waiting.saturating_add(1))) == made
     }
 
+    // Rows of zeros in the sums of both parties.
     fn left() -> u64 {
-        0
+        2
     }
 }
 

@@ -29,7 +29,7 @@ impl<'a> Handle<'a> for Rationed<Refusing<'a>> {
 
 // A call that takes memory, with its arguments.
 pub(crate) trait Call<H>: Drop {
-    // Arguments of a size, on an allocator.
+    // Arguments of a size, which is at most 3,000, on an allocator.
     fn prepared(rt: &impl Abort, global: Global, alloc: H, size: u16) -> Self;
 
     // Makes the call: whether it found its memory. What it hands out is looked at and dropped.
@@ -85,10 +85,25 @@ fn growths_of<'a, H: Handle<'a>, C: Call<H>>(
     panic!(rt; "no end of growths");
 }
 
+// Makes a call with no growth refused.
+fn is_made<'a, H: Handle<'a>, C: Call<H>>(
+    rt: &impl Abort,
+    global: Global,
+    rationed: Refusing<'a>,
+    size: u16,
+) {
+    let mut call = C::prepared(rt, global, H::over(rationed), size);
+    assert!(rt; call.make(rt), "size {size}");
+    assert!(rt; call.stands(rt, true), "size {size}");
+}
+
 // Sizes at which lists are full, and nodes of maps.
 const SIZES: [u16; 6] = [1, 4, 8, 15, 16, 24];
 
-// The most growths of a call, whose arguments have each of these sizes.
+// Sizes at which no growth is refused: a call must not give up because it has much to keep.
+const LARGE_SIZES: [u16; 3] = [100, 400, 3_000];
+
+// The most growths of a call, whose arguments have each of the first sizes. It is made at the large ones too.
 pub(crate) fn most_growths<'a, H: Handle<'a>, C: Call<H>>(
     rt: &impl Abort,
     global: Global,
@@ -97,6 +112,9 @@ pub(crate) fn most_growths<'a, H: Handle<'a>, C: Call<H>>(
     let mut most = 0;
     for size in &SIZES {
         most = growths_of::<H, C>(rt, global, rationed, *size).max(most);
+    }
+    for size in &LARGE_SIZES {
+        is_made::<H, C>(rt, global, rationed, *size);
     }
     most
 }

@@ -3,9 +3,11 @@ use cns_terms::{Holding, Key};
 use cns_units::{Account, Cusip, Day, Member, Price, Rate};
 use std::process::Abort;
 
-// The issue with a number below 100.
+// The issue with a number below 10,000.
 pub(crate) fn issue(rt: &impl Abort, number: u16) -> Cusip {
-    let mut text = *b"037833000";
+    let mut text = *b"037800000";
+    text[4] = b'0' + (number / 1_000 % 10) as u8;
+    text[5] = b'0' + (number / 100 % 10) as u8;
     text[6] = b'0' + (number / 10 % 10) as u8;
     text[7] = b'0' + (number % 10) as u8;
     // the check digit is the one that is taken

@@ -32,7 +32,7 @@ const SIZES: [(u32, u64); 8] = [
     (7, 6),
     (8, 8),
     (1_000, 20),
-    (65_536, 34),
+    (4_096, 26),
 ];
 
 // Whether so many comparisons are some, and at most so many.

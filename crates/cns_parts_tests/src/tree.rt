@@ -1,4 +1,5 @@
-// Tests of the tree: many rows on each allocator, walks, memory that is given back, and memory that is refused.
+// Tests of the tree: many rows on each allocator, and memory that is given back. What a refused growth leaves is shown by
+// cns_growth_tests.
 ghost use Rattle.std.specs.Prelude.{◌≡◌, IfOk, true};
 ghost use Rattle.std.specs.FinMap.{is_sorted};
 ghost use Rattle.cns_terms.specs.Keys.{key_cmp};
@@ -35,17 +36,12 @@ fn rows_of<A: Allocator + Clone>(
     tree.walk().collect(alloc)
 }
 
-// Whether there are so many rows, and a walk gives the keys 1 to `count`, each with its number as value, under a mask.
-fn counts_to<A: Allocator + Clone>(
-    rt: &impl Abort,
-    tree: &Tree<u64, A>,
-    count: u16,
-    mask: u64,
-) -> bool {
+// Whether there are so many rows, and a walk gives the keys 1 to `count`, each with its number as value.
+fn counts_to<A: Allocator + Clone>(rt: &impl Abort, tree: &Tree<u64, A>, count: u16) -> bool {
     let mut number = 0u16;
     for row in tree.walk() {
         number = number.saturating_add(1);
-        if row != (key(rt, number, APPLE), u64::from(number) ^ mask) {
+        if row != (key(rt, number, APPLE), u64::from(number)) {
             return false;
         }
     }
@@ -67,24 +63,9 @@ const LOOK_UPS: [(u16, Option<u16>, Option<u16>); 3] = [
     (1001, None, None),
 ];
 
-// Two numbers: both are there, in either order, the same, far up and far down, one alone, none.
-const PAIRS: [(u16, u16); 7] = [
-    (1, 1000),
-    (1000, 1),
-    (500, 500),
-    (512, 3),
-    (7, 1001),
-    (1001, 7),
-    (1001, 1002),
-];
-
 fn look_ups<A: Allocator + Clone>(rt: &impl Abort, tree: &Tree<u64, A>) {
     assert!(rt; tree.get(key(rt, 500, APPLE)) == Some(500));
     assert!(rt; tree.get(key(rt, 1001, APPLE)).is_none());
-    for (first, second) in &PAIRS {
-        let (first, second) = (&key(rt, *first, APPLE), &key(rt, *second, APPLE));
-        assert!(rt; tree.get_two(*first, *second) == (tree.get(*first), tree.get(*second)));
-    }
     for (number, from, above) in &LOOK_UPS {
         let key = &key(rt, *number, APPLE);
         assert!(rt; tree.first_at_or_after(*key) == row(rt, *from));
@@ -104,7 +85,7 @@ fn copies<A: Allocator + Clone>(
     count: u16,
 ) -> Result<(), NoMemory> {
     let copy = tree.copied()?;
-    assert!(rt; counts_to(rt, &copy, count, 0));
+    assert!(rt; counts_to(rt, &copy, count));
     Ok(())
 }
 
@@ -117,7 +98,7 @@ fn rebuilt<A: Allocator + Clone>(
     requires { is_sorted key_cmp rows.now ≡ true }
 {
     let built = Tree::from_sorted(alloc, rows)?;
-    assert!(rt; counts_to(rt, &built, count, 0));
+    assert!(rt; counts_to(rt, &built, count));
     Ok(())
 }
 
@@ -154,27 +135,16 @@ fn is_changed<A: Allocator + Clone>(rt: &impl Abort, tree: &Tree<u64, A>) -> boo
     number == 1000
 }
 
-// Changes one value and then each, and looks at what the rows are then.
-fn change<A: Allocator + Clone>(rt: &impl Abort, tree: &mut Tree<u64, A>) {
-    put_again(rt, tree, 7);
-    assert!(rt; is_changed(rt, tree));
-    assert!(rt; tree.change(key(rt, 500, APPLE), |value| value ^ 7 ^ 500));
-    assert!(rt; counts_to(rt, tree, 1000, 0));
-    assert!(rt; !tree.change(key(rt, 1001, APPLE), |value| value ^ 1));
-    assert!(rt; counts_to(rt, tree, 1000, 0));
-    tree.change_each(|value| value ^ 1024);
-    assert!(rt; counts_to(rt, tree, 1000, 1024));
-}
-
 fn thousand_rows<A: Allocator + Clone>(rt: &impl Abort, alloc: A, global: Global) {
     let other = alloc.clone().expect(rt, "memory");
     let mut tree = filled(rt, other, 1000);
-    assert!(rt; counts_to(rt, &tree, 1000, 0));
+    assert!(rt; counts_to(rt, &tree, 1000));
     look_ups(rt, &tree);
     four_boxes(rt, &tree).expect(rt, "memory");
     copies(rt, &tree, 1000).expect(rt, "memory");
     rebuilt_of(rt, alloc, &tree, global);
-    change(rt, &mut tree);
+    put_again(rt, &mut tree, 7);
+    assert!(rt; is_changed(rt, &tree));
 }
 
 #[test]
@@ -194,151 +164,9 @@ fn a_dropped_tree_gives_its_memory_back(rt: HostRuntime) {
     let heap = LocalHeap::new(rt.alloc(), 65536).expect(&rt, "memory");
     for _ in 0..100 {
         let tree = filled(&rt, &heap, 100);
-        assert!(rt; counts_to(&rt, &tree, 100, 0));
+        assert!(rt; counts_to(&rt, &tree, 100));
         drop(tree);
         assert!(rt; heap.used() == 0);
-    }
-}
-
-// A number, or none, and the values above it.
-const ABOVE: [(Option<u16>, &[u64]); 6] = [
-    (None, &[2, 4, 6, 8]),
-    (Some(1), &[2, 4, 6, 8]),
-    (Some(2), &[4, 6, 8]),
-    (Some(5), &[6, 8]),
-    (Some(8), &[]),
-    (Some(9), &[]),
-];
-
-// A tree with the values 2, 4, 6 and 8 at the keys of these numbers.
-fn even_numbers(rt: &(impl Abort + AllocGlobal)) -> Tree<u64, Global> {
-    let mut tree = Tree::new(rt.alloc());
-    for half in 1..=4u16 {
-        put(rt, &mut tree, half * 2, u64::from(half) * 2);
-    }
-    tree
-}
-
-// Whether a walk above a key gives these values.
-fn is_walk(rt: &impl Abort, tree: &Tree<u64, Global>, above: Option<u16>, values: &[u64]) -> bool {
-    let above = match above {
-        Some(number) => Some(key(rt, number, APPLE)),
-        None => None,
-    };
-    let mut left = values.iter();
-    for (_, value) in tree.walk_above(above) {
-        if left.next() != Some(&value) {
-            return false;
-        }
-    }
-    left.next().is_none()
-}
-
-#[test]
-fn a_walk_begins_above_a_key(rt: HostRuntime) {
-    let tree = even_numbers(&rt);
-    for (above, expected) in &ABOVE {
-        assert!(rt; is_walk(&rt, &tree, *above, expected));
-    }
-}
-
-#[test]
-fn nothing_makes_an_empty_tree(rt: HostRuntime) {
-    let mut none: Tree<u64, Global> = Tree::from_sorted(rt.alloc(), &[]).expect(&rt, "memory");
-    assert!(rt; counts_to(&rt, &none, 0, 0));
-    copies(&rt, &none, 0).expect(&rt, "memory");
-    assert!(rt; !none.change(key(&rt, 1, APPLE), |value| value ^ 1));
-    none.change_each(|value| value ^ 1);
-    assert!(rt; counts_to(&rt, &none, 0, 0));
-}
-
-// The calls that take memory.
-#[derive(Clone, Copy)]
-enum Growth {
-    Spare,
-    FromSorted,
-    Copied,
-}
-
-// Whether a call finds its memory on the heap.
-fn grows(
-    rt: &impl Abort,
-    growth: Growth,
-    tree: &Tree<u64, &LocalHeap>,
-    heap: &LocalHeap,
-    rows: &[(Key, u64)],
-) -> bool
-    requires { is_sorted key_cmp rows.now ≡ true }
-{
-    let grown = match growth {
-        Growth::Spare => four_boxes(rt, tree),
-        Growth::FromSorted => rebuilt(rt, heap, rows, 20),
-        Growth::Copied => copies(rt, tree, 20),
-    };
-    grown.is_ok()
-}
-
-// Takes all of a heap but so many bytes.
-fn ballast(heap: &LocalHeap, left: usize) -> Result<Vec<u8, &LocalHeap>, NoMemory> {
-    let free = heap.free();
-    if free > left {
-        Ok(Vec::with_capacity(heap, free - left)?)
-    } else {
-        Ok(Vec::new(heap))
-    }
-}
-
-// Whether a call finds its memory where the heap has so many bytes left. If not, the same call does with more.
-fn grows_beside(
-    rt: &impl Abort,
-    growth: Growth,
-    tree: &Tree<u64, &LocalHeap>,
-    heap: &LocalHeap,
-    rows: &[(Key, u64)],
-    left: usize,
-) -> bool
-    requires { is_sorted key_cmp rows.now ≡ true }
-{
-    let kept = ballast(heap, left).expect(rt, "memory");
-    let used = heap.used();
-    let is_grown = grows(rt, growth, tree, heap, rows);
-    assert!(rt; heap.used() == used && counts_to(rt, tree, 20, 0));
-    drop(kept);
-    assert!(rt; grows(rt, growth, tree, heap, rows));
-    is_grown
-}
-
-// The same with a tree of twenty rows.
-fn grows_within(rt: &impl Abort, growth: Growth, alloc: Global, left: usize) -> bool {
-    let heap = LocalHeap::new(alloc, 16384).expect(rt, "memory");
-    let tree = filled(rt, &heap, 20);
-    let rows = rows_of(&tree, alloc).expect(rt, "memory");
-    grows_beside(rt, growth, &tree, &heap, rows.as_slice(), left)
-}
-
-// How many times a growth is refused as the heap has more and more bytes left.
-fn refusals(rt: &impl Abort, alloc: Global, growth: Growth) -> u32 {
-    let mut refused = 0u32;
-    for step in 0..200usize {
-        if grows_within(rt, growth, alloc, step * 16) {
-            return refused;
-        }
-        refused = refused.saturating_add(1);
-    }
-    panic!(rt; "each call is refused");
-}
-
-// Each growth and how many boxes it takes.
-const GROWTHS: [(Growth, u32); 3] = [
-    (Growth::Spare, 4),
-    (Growth::FromSorted, 20),
-    (Growth::Copied, 20),
-];
-
-#[test]
-fn a_refused_growth_leaves_the_tree_as_it_was(rt: HostRuntime) {
-    for (growth, boxes) in &GROWTHS {
-        assert!(rt; refusals(&rt, rt.alloc(), *growth) >= *boxes);
     }
 }
 

@@ -1,4 +1,0 @@
-use Rattle.cns_book_tests.proofs.desk.seats.a_seat_takes_a_day_of_commands.Given as goal
-
-abbrev pub ghosts-check_kept : goal.ghosts-check_kept
-ghosts-check_kept g a = record { name = a.blank.name; parts = a.blank.parts }

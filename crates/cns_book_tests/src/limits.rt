@@ -1,0 +1,45 @@
+// A book with a limit of its history.
+use crate::script::{TreeBook, command, first_day, play};
+use cns_book::{Book, TakeFault};
+use cns_positions::Positions;
+use cns_terms::Worker;
+use std::alloc::{Allocator, Global};
+use std::process::Abort;
+
+// Whether a book is full, and stays as it was.
+fn is_full<P: Positions<A>, A: Allocator + Drop + Clone>(
+    rt: &impl Abort,
+    alloc: Global,
+    book: &mut Book<P, A>,
+) -> bool {
+    let entries = book.history_len();
+    let question = command(rt, alloc, "POSITION,0,037833100\n");
+    let answer = book.take(Worker::FIRST, question);
+    answer == Err(TakeFault::Full) && book.history_len() == entries
+}
+
+// How many entries a copy of a history has.
+fn copied_entries<P: Positions<A>, A: Allocator + Drop + Clone>(
+    rt: &impl Abort,
+    book: &Book<P, A>,
+) -> usize {
+    book.copy_history().expect(rt, "memory").len()
+}
+
+const TWO_RECORDS: [(&str, &str); 2] = [("MEMBER,1\n", "ok\n"), ("MEMBER,1\n", "refused 1\n")];
+
+#[test]
+fn a_book_at_its_limit_takes_nothing_more(rt: HostRuntime) {
+    let limited = Book::with_limit(rt.alloc(), first_day(&rt), 2);
+    let mut book: TreeBook = limited.expect(&rt, "memory");
+    play(&rt, rt.alloc(), &mut book, &TWO_RECORDS);
+    assert!(&rt; is_full(&rt, rt.alloc(), &mut book));
+    assert!(&rt; copied_entries(&rt, &book) == 2);
+}
+
+#[test]
+fn a_book_with_the_limit_zero_is_full_at_once(rt: HostRuntime) {
+    let limited = Book::with_limit(rt.alloc(), first_day(&rt), 0);
+    let mut book: TreeBook = limited.expect(&rt, "memory");
+    assert!(&rt; is_full(&rt, rt.alloc(), &mut book));
+}
