@@ -18,10 +18,41 @@ CRATE := cnsbook
 
 FUZZ_SECONDS := 600
 
-.PHONY: help try build check sample compare test fuzz trials times bench
+.PHONY: help run try build check sample compare test fuzz trials times bench
 
 help:
 	@grep -E '^# [a-z]+:' Makefile | sed 's/^# //'
+
+# run: answers a file of records without a proof, in about a minute, as FILE=examples/day.csv OPEN=2024-06-03
+#
+# Replies alone are on standard output. The kit's remarks on a run that ended are dropped; what the program wrote to standard
+# error is passed on.
+run:
+	@say() { echo "make run: $$1" >&2; }; \
+	    if [ -z "$${FILE:-}" ] || [ -z "$${OPEN:-}" ]; then \
+	        say 'give FILE, the file of records, and OPEN, its first day: make run FILE=examples/day.csv OPEN=2024-06-03'; \
+	        exit 2; \
+	    elif [ ! -r "$$FILE" ] || [ -d "$$FILE" ]; then \
+	        say "FILE cannot be read: $$FILE"; exit 2; \
+	    elif [[ ! $$OPEN =~ ^[0-9]{4}-[0-9]{2}-[0-9]{2}$$ ]] || ! date -u -d "$$OPEN" > /dev/null 2>&1; then \
+	        say "OPEN is not a date in the form YYYY-MM-DD: $$OPEN"; exit 2; \
+	    elif ! command -v rt > /dev/null; then \
+	        say "the kit's command rt is not on the path"; exit 2; \
+	    fi; \
+	    log=$$(mktemp); trap 'rm -f "$$log"' EXIT; \
+	    say 'building without a proof, which takes a minute or two ...'; \
+	    status=0; (cd crates/cnsbook && rt try -- replay --open "$$OPEN") < "$$FILE" 2> "$$log" || status=$$?; \
+	    case $$(tail -n 1 "$$log") in \
+	        'run=ended '*) \
+	            grep -vE '^(interpreter|checked|races): |^run=' "$$log" >&2 || true; \
+	            say 'nothing was proved; make build proves and builds the program'; \
+	            [ "$$status" = 0 ] || say "the program ended with status $$status";; \
+	        'run=no-answer '*) \
+	            sed -n 's/^checked: no-answer: /make run: no reply was written: /p' "$$log" >&2; \
+	            say 'make build makes the program, which has no such limit';; \
+	        *) cat "$$log" >&2;; \
+	    esac; \
+	    exit "$$status"
 
 # try: plays the samples without a proof, in a minute and a half
 try:
@@ -78,6 +109,7 @@ test:
 	    bash tests/quoted.sh $(PROGRAM); \
 	    python3 tests/fuzz.py --model; \
 	    bash tests/page.sh $(PAGE); \
+	    bash tests/run.sh; \
 	    bash tests/trials.sh --apply; \
 	    python3 tests/documents.py $(PROGRAM) $(PAGE); \
 	    $(MAKE) --no-print-directory -o build sample fuzz bench FUZZ_SECONDS=20; \
