@@ -7,6 +7,14 @@ PROGRAM := crates/cnsbook/out/cnsbook
 PAGE := crates/cnspage/out/cnspage
 DRIVER := crates/cns_desk_growths/out/cns_desk_growths
 OPENING := 2024-06-03
+
+# Where `install` puts the programs and their manual pages, and a folder before it, as packages want one.
+PREFIX ?= /usr/local
+DESTDIR ?=
+BIN = $(DESTDIR)$(PREFIX)/bin
+MAN = $(DESTDIR)$(PREFIX)/share/man/man1
+MANUAL := docs/man/cnsbook.1 docs/man/cnspage.1
+
 SAMPLES := day week actions buy-in merger
 
 # The crates that the program stands on, lowest first, and the program: those of crates.txt above its tests.
@@ -18,7 +26,7 @@ CRATE := cnsbook
 
 FUZZ_SECONDS := 600
 
-.PHONY: help run try build check sample compare test fuzz trials times bench
+.PHONY: help run try build install uninstall check sample compare test fuzz trials times bench
 
 help:
 	@grep -E '^# [a-z]+:' Makefile | sed 's/^# //'
@@ -82,6 +90,19 @@ build:
 	        echo " proved in $$((SECONDS - begun)) s"; \
 	    done
 
+# install: puts the proved programs and their manual pages under PREFIX (/usr/local), below DESTDIR where that is given
+install:
+	@for program in $(PROGRAM) $(PAGE); do \
+	        [ -x "$$program" ] || { echo "make install: $$program is not there; run make build first" >&2; exit 1; }; \
+	    done; \
+	    install -d "$(BIN)" "$(MAN)"; \
+	    install -m 755 $(PROGRAM) $(PAGE) "$(BIN)"; \
+	    install -m 644 $(MANUAL) "$(MAN)"
+
+# uninstall: takes away what install put there, by the same PREFIX and DESTDIR
+uninstall:
+	@rm -f "$(BIN)/cnsbook" "$(BIN)/cnspage" "$(MAN)/cnsbook.1" "$(MAN)/cnspage.1"
+
 # check: proves one crate and those below it, as CRATE=cns_prices
 check:
 	@cd crates/$(CRATE) && rt check
@@ -109,6 +130,7 @@ test:
 	    bash tests/quoted.sh $(PROGRAM); \
 	    python3 tests/fuzz.py --model; \
 	    bash tests/page.sh $(PAGE); \
+	    bash tests/install.sh; \
 	    bash tests/run.sh; \
 	    bash tests/trials.sh --apply; \
 	    python3 tests/documents.py $(PROGRAM) $(PAGE); \
