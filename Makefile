@@ -15,6 +15,7 @@ BIN = $(DESTDIR)$(PREFIX)/bin
 MAN = $(DESTDIR)$(PREFIX)/share/man/man1
 MANUAL := docs/man/cnsbook.1 docs/man/cnspage.1
 
+CHROMIUM := chromium
 SAMPLES := day week actions buy-in merger
 
 # The crates that the program stands on, lowest first, and the program: those of crates.txt above its tests.
@@ -26,7 +27,7 @@ CRATE := cnsbook
 
 FUZZ_SECONDS := 600
 
-.PHONY: help run try build install uninstall check sample compare test fuzz trials times bench
+.PHONY: help run try build install uninstall check sample compare test fuzz trials times bench picture
 
 help:
 	@grep -E '^# [a-z]+:' Makefile | sed 's/^# //'
@@ -158,3 +159,14 @@ times:
 # bench: records a second and bytes of memory a command, at 10^4, 10^5 and 10^6 records
 bench: build
 	@python3 bench/bench.py $(PROGRAM)
+
+# picture: draws the picture of README.md anew, by the built cnspage and Chromium: a day of examples/week.csv with exceptions
+picture:
+	@[ -x $(PAGE) ] || { echo "make picture: $(PAGE) is not there; run make build first" >&2; exit 1; }; \
+	    room=$$(mktemp -d); trap 'rm -rf "$$room"' EXIT; \
+	    $(PAGE) --open $(OPENING) --day 2024-06-05 < examples/week.csv > "$$room/day.html"; \
+	    sandbox=; [ "$$(id -u)" != 0 ] || sandbox=--no-sandbox; \
+	    $(CHROMIUM) --headless $$sandbox --disable-gpu --hide-scrollbars --user-data-dir="$$room/profile" \
+	        --window-size=1100,1117 --screenshot="$$room/day.png" "file://$$room/day.html" 2> "$$room/log" \
+	        || { cat "$$room/log" >&2; exit 1; }; \
+	    cp "$$room/day.png" docs/day.png
