@@ -7,8 +7,14 @@ usage: tests/documents.py PROGRAM PAGE
   one of the samples in `examples`, or, where no sample has them all, each on an empty book.
 - A block of text that begins with `statement` stands in the statements of a closed day of a sample.
 - A block that begins with a brace is the tally of a run of a sample.
-- A block of commands that begin with the path of the program, or of the one that writes pages, with `grep` or `printf` is
-  run, in a folder with the samples and with the files that it names; each ends with status 0.
+- A block of commands that begin with a program, with `grep`, `printf` or `sed` is run, in a folder with the samples and with
+  the files that it names, and after the blocks before it; each ends with status 0. A block marked `text` right after it is
+  what it writes.
+- A block marked `csv` is records, and the next one, marked `text`, is what a replay answers. After a command
+  `make run FILE=..` the records are those of that file.
+- A block that begins with `Kind,` is the file `sheet.csv`, as a spreadsheet saves it.
+- A command `make NAME` is one of the Makefile's; the kit is the one that `rt` says it is; a link leads to a file of the
+  repository, and to a heading of it; the README has at most 600 words; packages that it names are commands of this machine.
 
 Tells how many of each there were, or what is not so, and exits with status 1 then.
 """
@@ -25,7 +31,9 @@ ROOT = Path(__file__).resolve().parent.parent
 OPENING = "2024-06-03"
 # the program, and the one that writes a day as a page
 BUILT = ("crates/cnsbook/out/cnsbook", "crates/cnspage/out/cnspage")
-RUN = (*(path + " " for path in BUILT), "grep ", "printf ")
+# how a block of commands begins, on a line without places to fill in
+RUN = re.compile(r"(crates/\w+/out/|(cnsbook (replay|run|statements)|cnspage) --open \d|(grep|printf|sed) )")
+WORDS = 600
 # the kinds of records in each of the files that a run is shown with
 FILES = {
     "trades.csv": ("MEMBER", "TRADE"),
@@ -86,9 +94,16 @@ def sessions(text):
 
 
 def blocks(text):
-    """The blocks between fences, each with the number of its first line."""
-    for match in re.finditer(r"^```[a-z]*\n(.*?)^```$", text, re.MULTILINE | re.DOTALL):
-        yield text.count("\n", 0, match.start()) + 1, match.group(1)
+    """The blocks between fences, each with the number of its first line, and its mark."""
+    for match in re.finditer(r"^```([a-z]*)\n(.*?)^```$", text, re.MULTILINE | re.DOTALL):
+        yield text.count("\n", 0, match.start()) + 1, match.group(1), match.group(2)
+
+
+def anchors(text):
+    """The names by which the headings of a document are linked to."""
+    prose = re.sub(r"^```.*?^```$", "", text, flags=re.MULTILINE | re.DOTALL)
+    headings = re.findall(r"^#+ (.*)$", prose, re.MULTILINE)
+    return {re.sub(r"[^a-z0-9 _-]", "", heading.lower()).replace(" ", "-") for heading in headings}
 
 
 class Checked:
@@ -99,7 +114,9 @@ class Checked:
         self.samples = {
             path.name: replies(program, path.read_text().splitlines()) for path in sorted((ROOT / "examples").glob("*.csv"))
         }
-        self.counts = {"sessions": 0, "statements": 0, "tallies": 0, "commands": 0}
+        self.counts = {"sessions": 0, "statements": 0, "tallies": 0, "commands": 0, "records": 0, "outputs": 0, "links": 0}
+        self.rules = re.findall(r"^([a-z]+):(?!=)", (ROOT / "Makefile").read_text(), re.MULTILINE)
+        self.kit = subprocess.run(["rt", "version"], capture_output=True, text=True, check=True).stdout.strip()
         self.faults = []
 
     def session(self, place, session):
@@ -126,17 +143,80 @@ class Checked:
             self.faults.append(f"{place}: no sample has this tally")
 
     def commands(self, place, block, room):
+        """What the commands write to standard output."""
         self.counts["commands"] += block.count("\n")
-        ran = subprocess.run(["bash", "-euo", "pipefail", "-c", block], cwd=room, capture_output=True, text=True)
+        path = f"{room}/bin:{os.environ['PATH']}"
+        words = ["bash", "-euo", "pipefail", "-c", block]
+        ran = subprocess.run(words, cwd=room, env={**os.environ, "PATH": path}, capture_output=True, text=True)
         if ran.returncode != 0:
             self.faults.append(f"{place}: ends with status {ran.returncode}: {ran.stderr}")
+        return ran.stdout
+
+    def records(self, place, block, shown):
+        """The replies to a block of records, which are those of the file that is shown, if one is."""
+        self.counts["records"] += 1
+        if shown and block != (ROOT / shown[1]).read_text():
+            self.faults.append(f"{place}: these are not the records of {shown[1]}")
+        return "".join(f"{line}\n" for _, reply in replies(self.program, block.splitlines()) for line in reply)
+
+    def output(self, place, block, due):
+        self.counts["outputs"] += 1
+        if due is None:
+            self.faults.append(f"{place}: nothing is before this output that writes it")
+        elif block != due:
+            self.faults.append(f"{place}: what is written is: {due}")
+
+    def blocks(self, path, text, room):
+        due = shown = None
+        for number, mark, block in blocks(text):
+            place = f"{path.name}:{number}"
+            if mark == "text":
+                self.output(place, block, due)
+            due = None
+            if mark == "csv":
+                due = self.records(place, block, shown)
+            shown = re.match(r"make run FILE=(examples/\S+)", block)
+            if mark:
+                continue
+            if block.startswith("statement "):
+                self.statements(place, block)
+            if block.startswith("{"):
+                self.tally(place, block)
+            if block.startswith("Kind,"):
+                (room / "sheet.csv").write_text(block)
+            if RUN.match(block):
+                due = self.commands(place, block, room)
+
+    def words(self, path, text):
+        """The Makefile's commands, the kit, the links and the length of a document."""
+        commands = re.findall(r"`make ([a-z]+)[^`\n]*`", text)
+        for _, _, block in blocks(text):
+            commands += re.findall(r"^(?:sudo )?make ([a-z]+)", block, re.MULTILINE)
+        self.faults += [f"{path.name}: the Makefile has no {name}" for name in commands if name not in self.rules]
+        for kit in re.findall(r"rattle-kit-\S+ logic [0-9a-f]+", text):
+            if kit != self.kit:
+                self.faults.append(f"{path.name}: the kit is {self.kit}")
+        for target, _, anchor in (link.partition("#") for link in re.findall(r"\]\(([^):]*)\)", text)):
+            self.counts["links"] += 1
+            file = path.parent / target if target else path
+            if not file.exists():
+                self.faults.append(f"{path.name}: no file {target}")
+            elif anchor and anchor not in anchors(file.read_text()):
+                self.faults.append(f"{path.name}: {file.name} has no heading {anchor}")
+        for packages in re.findall(r"^sudo apt-get install --yes (.*)$", text, re.MULTILINE):
+            missing = [package for package in packages.split() if not shutil.which(package)]
+            self.faults += [f"{path.name}: no command {package} on this machine" for package in missing]
+        if path == ROOT / "README.md" and len(text.split()) > WORDS:
+            self.faults.append(f"{path.name}: {len(text.split())} words, where {WORDS} are the most")
 
 
 def lay_out(room, programs):
-    """What a clone has after it was built, and files for a run."""
+    """What a clone has after it was built and installed, and files for a run."""
     for path, program in zip(BUILT, programs, strict=True):
         (room / path).parent.mkdir(parents=True)
         os.symlink(program, room / path)
+        (room / "bin").mkdir(exist_ok=True)
+        os.symlink(program, room / "bin" / Path(path).name)
     shutil.copytree(ROOT / "examples", room / "examples")
     records = (ROOT / "examples/week.csv").read_text().splitlines(keepends=True)
     for name, kinds in FILES.items():
@@ -153,13 +233,8 @@ def main():
             text = path.read_text()
             for number, session in sessions(text):
                 checked.session(f"{path.name}:{number}", session)
-            for number, block in blocks(text):
-                if block.startswith("statement "):
-                    checked.statements(f"{path.name}:{number}", block)
-                if block.startswith("{"):
-                    checked.tally(f"{path.name}:{number}", block)
-                if block.startswith(RUN):
-                    checked.commands(f"{path.name}:{number}", block, room)
+            checked.blocks(path, text, room)
+            checked.words(path, text)
     for fault in checked.faults:
         print("documents:", fault, file=sys.stderr)
     if checked.faults:
