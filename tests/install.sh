@@ -52,7 +52,8 @@ for page in cnsbook cnspage; do
     [ -s "$page.sh" ] || fail "$page.1 has no examples"
     PATH=$bin:$PATH bash -euo pipefail "$page.sh" > "$page.output" || fail "an example of $page.1 ends with status $?"
 done
-[ -s cnsbook.output ] && [ -s day.html ] || fail 'the examples wrote nothing'
+[ -s cnsbook.output ] || fail 'the examples of cnsbook.1 wrote nothing'
+[ -s day.html ] || fail 'the examples of cnspage.1 wrote nothing'
 
 # Each fault of the formats is in the page.
 words "$man/cnsbook.1" > cnsbook.words
@@ -64,10 +65,11 @@ done < faults
 
 readers=
 if command -v man > /dev/null; then
-    readers=man
+    readers='man'
     for page in cnsbook cnspage; do
         man --warnings -l "$man/$page.1" > "$page.text" 2> warnings || fail "man ends with status $? on $page.1: $(cat warnings)"
-        [ -s "$page.text" ] && [ ! -s warnings ] || fail "man on $page.1: $(cat warnings)"
+        [ ! -s warnings ] || fail "man on $page.1: $(cat warnings)"
+        [ -s "$page.text" ] || fail "man renders nothing of $page.1"
     done
 fi
 if command -v mandoc > /dev/null; then
