@@ -28,18 +28,34 @@ refuse() {
     expect "words '$*'" 2 "$usage" "$?"
 }
 
-refuse
-refuse --day 2024-06-03
-refuse --open
-refuse --open 2024-02-30
-refuse --open 2024-06-03 --day 2024-6-3
-refuse --open 2024-06-03 more
-refuse --help
+while read -r words; do
+    eval "refuse $words"
+done <<'LINES'
+
+--open
+2024-06-03
+--open 2024-02-30
+--open 2024-6-3
+--open ''
+--open 2024-06-03 more
+--open 2024-06-03 --open 2024-06-03
+--open 2024-06-03 --day
+--open 2024-06-03 --day 2024-06-31
+--open 2024-06-03 --day 2024-6-3
+--open 2024-06-03 --day last
+--day 2024-06-03
+--open 2024-06-03 --help
+--help
+--version
+replay --open 2024-06-03
+LINES
 
 "$program" --open 2024-06-03 < /dev/null > "$room/output" 2> "$room/errors"
 expect 'no records' 1 'fault NoSuchDay' "$?"
-"$program" --open 2024-06-03 --day 2024-06-30 < examples/day.csv > "$room/output" 2> "$room/errors"
-expect 'a day that is not closed' 1 'fault NoSuchDay' "$?"
+for day in 2024-06-30 2024-06-02; do
+    "$program" --open 2024-06-03 --day "$day" < examples/day.csv > "$room/output" 2> "$room/errors"
+    expect 'a day that is not closed' 1 'fault NoSuchDay' "$?"
+done
 : > "$room/output"
 "$program" --open 2024-06-03 < examples/day.csv > /dev/full 2> "$room/errors"
 expect 'a full disk' 1 'fault Write' "$?"

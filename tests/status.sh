@@ -29,20 +29,58 @@ refuse() {
     expect "words '$*'" 2 '' "$usage"$'\n' "$?"
 }
 
-refuse
-refuse replay
-refuse replay --open 2024-02-30
-refuse replay --open 2024-06-03 more
-refuse run --open 2024-06-03
-refuse run --open 2024-02-30 "$room/no-such-file"
-refuse run --open 2024-06-03 $(printf 'FILE%.0s ' {1..65})
-refuse statements --open 2024-06-03 --day 2024-06-03 --workers 0
-refuse statements --open 2024-06-03 --day 2024-06-03 --workers 65
-refuse statements --open 2024-06-03 --workers 1
-refuse help
+while read -r words; do
+    eval "refuse $words"
+done <<'LINES'
+
+replay
+replay --open
+replay --open 2024-02-30
+replay --open 2024-6-3
+replay --open ''
+replay 2024-06-03
+replay -o
+replay -o 2024-06-03
+replay -o2024-06-03
+replay -open 2024-06-03
+replay --open 2024-06-03 more
+replay --open 2024-06-03 --open 2024-06-03
+replay --open 2024-06-03 --help
+replay --help
+replay -h
+replay --version
+replay help
+--open 2024-06-03 replay
+--help
+help
+--version
+Replay --open 2024-06-03
+run
+run FILE
+run --open 2024-06-03
+run --open 2024-06-31 FILE
+run --open 2024-06-03 FILE --help
+run --open 2024-06-03 FILE{1..65}
+statements --open 2024-06-03
+statements --open 2024-06-03 --workers 1
+statements --open 2024-06-03 --day 2024-06-03
+statements --open 2024-06-03 --day 2024-06-31 --workers 1
+statements --open 2024-06-03 --day 2024-06-03 --workers 1 more
+statements --open 2024-06-03 --day 2024-06-03 --workers 0
+statements --open 2024-06-03 --day 2024-06-03 --workers 65
+statements --open 2024-06-03 --day 2024-06-03 --workers ''
+statements --open 2024-06-03 --day 2024-06-03 --workers +1
+statements --open 2024-06-03 --day 2024-06-03 --workers -1
+statements --open 2024-06-03 --day 2024-06-03 --workers ' 1'
+statements --open 2024-06-03 --day 2024-06-03 --workers 1.0
+statements --open 2024-06-03 --day 2024-06-03 --workers x
+statements --open 2024-06-03 --day 2024-06-03 --workers 18446744073709551617
+LINES
 
 printf 'MEMBER,101\nMEMBER,x\n' | "$program" replay --open 2024-06-03 >"$room/output" 2>"$room/errors"
 expect 'a replay' 0 $'ok\nline Number\n' '' "$?"
+printf 'MEMBER,101\n' | "$program" replay --open=2024-06-03 >"$room/output" 2>"$room/errors"
+expect 'a date behind an equals sign' 0 $'ok\n' '' "$?"
 
 # A folder cannot be read.
 "$program" replay --open 2024-06-03 <"$room" >"$room/output" 2>"$room/errors"
@@ -76,6 +114,12 @@ for _ in $(seq 2 64); do counts+=,1; done
 tally='{"closes":0,"commands":64,"counts":['"$counts"'],"dividends":"0.00","lines":64,"marks":"0.00"}'
 "$program" run --open 2024-06-03 "${files[@]}" >"$room/output" 2>"$room/errors" </dev/null
 expect 'a run of 64 files' 0 "$tally"$'\n' '' "$?"
+
+# Accepted closes and records at fault are counted; an empty file has no command.
+printf 'MEMBER,101\nCLOSE,2024-06-04\nCLOSE,2024-06-03\nMEMBER,x\nCLOSE,2024-06-05\n' >"$room/closes.csv"
+tally='{"closes":2,"commands":4,"counts":[4,0],"dividends":"0.00","lines":1,"marks":"0.00"}'
+"$program" run --open 2024-06-03 "$room/closes.csv" /dev/null >"$room/output" 2>"$room/errors" </dev/null
+expect 'a run with closes and an empty file' 0 "$tally"$'\n' '' "$?"
 
 # No worker is started where a file is missing.
 "$program" run --open 2024-06-03 "$room/one.csv" "$room/missing.csv" >"$room/output" 2>"$room/errors" </dev/null
@@ -117,12 +161,18 @@ row 037833100 0 -140 0.00 196.00 27340.00 -100.00 0.00
 statement 303 2024-06-03 1 0.00 0.00
 row 037833100 0 40 0.00 196.00 -7840.00 0.00 0.00
 '
-for workers in 1 2 64; do
+for workers in 1 2 0003 64; do
     "$program" statements --open 2024-06-03 --day 2024-06-03 --workers "$workers" <"$day" >"$room/output" 2>"$room/errors"
     expect "statements by $workers workers" 0 "$statements" '' "$?"
 done
-"$program" statements --open 2024-06-03 --day 2024-06-09 --workers 2 <"$day" >"$room/output" 2>"$room/errors"
-expect 'statements of a day that is not closed' 1 '' $'fault NoSuchDay\n' "$?"
+for closed in 2024-06-09 2024-05-31; do
+    "$program" statements --open 2024-06-03 --day "$closed" --workers 2 <"$day" >"$room/output" 2>"$room/errors"
+    expect 'statements of a day that is not closed' 1 '' $'fault NoSuchDay\n' "$?"
+done
+"$program" statements --open 2024-06-03 --day 2024-06-09 --workers 2 <"$room" >"$room/output" 2>"$room/errors"
+expect 'statements of records that cannot be read' 1 '' $'fault Read\n' "$?"
+printf 'CLOSE,2024-06-04\n' | "$program" statements --open 2024-06-03 --day 2024-06-03 --workers 2 >"$room/output" 2>"$room/errors"
+expect 'statements of a day without rows' 0 '' '' "$?"
 
 # The sheet of the first day has the date of the line.
 printf 'CLOSE,2024-06-04\nSTATEMENT,0,2024-06-02\n' | "$program" replay --open 2024-06-02 >"$room/output" 2>"$room/errors"

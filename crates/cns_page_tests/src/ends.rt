@@ -1,8 +1,7 @@
-// Readers and writers that fail, and days that are not closed.
+// Readers and writers that fail.
 use cns_page::run_words;
 use std::io;
 use std::io::{Error, ErrorKind, Read, Write};
-use std::test::Fail;
 
 // A reader that gives its bytes, and then ends or fails.
 #[derive(Drop)]
@@ -46,9 +45,8 @@ impl Write for Stuck {
     }
 }
 
-// An end: the day that is asked for, whether reading fails, the writer, and what comes of it.
+// An end: whether reading fails, the writer, and what comes of it.
 struct End {
-    day: Option<&'static str>,
     fails: bool,
     room: usize,
     is_flushed: bool,
@@ -59,25 +57,18 @@ struct End {
 const RECORDS: &[u8] = b"MEMBER,1\nCLOSE,2024-06-04\nMEMBER,1\n";
 
 #[rattlefmt::skip]
-const ENDS: [End; 8] = [
-    End { day: None, fails: false, room: 1_000_000, is_flushed: true, status: 0, errors: "" },
-    End { day: Some("2024-06-03"), fails: false, room: 1_000_000, is_flushed: true, status: 0, errors: "" },
-    End { day: Some("2024-06-04"), fails: false, room: 1_000_000, is_flushed: true, status: 1, errors: "fault NoSuchDay\n" },
-    End { day: Some("2024-06-02"), fails: false, room: 1_000_000, is_flushed: true, status: 1, errors: "fault NoSuchDay\n" },
-    End { day: None, fails: true, room: 1_000_000, is_flushed: true, status: 1, errors: "fault Read\n" },
-    End { day: None, fails: false, room: 0, is_flushed: true, status: 1, errors: "fault Write\n" },
-    End { day: None, fails: false, room: 3_000, is_flushed: true, status: 1, errors: "fault Write\n" },
-    End { day: None, fails: false, room: 1_000_000, is_flushed: false, status: 1, errors: "fault Write\n" },
+const ENDS: [End; 5] = [
+    End { fails: false, room: 1_000_000, is_flushed: true, status: 0, errors: "" },
+    End { fails: true, room: 1_000_000, is_flushed: true, status: 1, errors: "fault Read\n" },
+    End { fails: false, room: 0, is_flushed: true, status: 1, errors: "fault Write\n" },
+    End { fails: false, room: 3_000, is_flushed: true, status: 1, errors: "fault Write\n" },
+    End { fails: false, room: 1_000_000, is_flushed: false, status: 1, errors: "fault Write\n" },
 ];
 
 #[test]
-fn each_end_has_its_status_and_its_line(rt: HostRuntime) -> Result<(), Fail> {
+fn each_end_has_its_status_and_its_line(rt: HostRuntime) {
+    let words = ["cnspage", "--open", "2024-06-03"];
     for (at, end) in ENDS.iter().enumerate() {
-        let mut words = vec![in rt.alloc(); "cnspage", "--open", "2024-06-03"]?;
-        if let Some(day) = end.day {
-            words.push("--day")?;
-            words.push(day)?;
-        }
         let mut input = Part {
             bytes: RECORDS,
             fails: end.fails,
@@ -87,28 +78,8 @@ fn each_end_has_its_status_and_its_line(rt: HostRuntime) -> Result<(), Fail> {
             is_flushed: end.is_flushed,
         };
         let mut errors = Vec::new(rt.alloc());
-        let ended = run_words(
-            rt.alloc(),
-            words.as_slice(),
-            &mut input,
-            &mut output,
-            &mut errors,
-        );
+        let ended = run_words(rt.alloc(), &words, &mut input, &mut output, &mut errors);
         assert_eq!(rt; ended.status, end.status, "end {at}");
         assert_eq!(rt; errors.as_slice(), end.errors.as_bytes(), "end {at}");
     }
-    Ok(())
-}
-
-#[test]
-fn no_day_is_closed_where_there_is_no_record(rt: HostRuntime) -> Result<(), Fail> {
-    let words = ["cnspage", "--open", "2024-06-03"];
-    let mut input = b"".as_slice();
-    let mut output = Vec::new(rt.alloc());
-    let mut errors = Vec::new(rt.alloc());
-    let ended = run_words(rt.alloc(), &words, &mut input, &mut output, &mut errors);
-    assert_eq!(rt; ended.status, 1);
-    assert!(rt; output.is_empty());
-    assert_eq!(rt; errors.as_slice(), b"fault NoSuchDay\n".as_slice());
-    Ok(())
 }

@@ -1,7 +1,7 @@
-//! Tests of the program: what it writes and answers, by its line, its input and its writers.
+//! Tests of the program over readers and writers that fail, and workers that end early.
 //!
 //! They use public names alone and stand in a crate of their own, so that the program is not proved once more for its
-//! tests. They say what no clause and no run of the built program says: refused memory, readers and writers that fail.
+//! tests. What a line comes to otherwise `tests/status.sh` shows, on the built program.
 #![tactic(auto)]
 
 #[cfg(test)]

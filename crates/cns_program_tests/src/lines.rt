@@ -1,4 +1,4 @@
-// Lines that are refused or taken, and ends that fail in a replay.
+// Words that cannot be read, and ends that fail in a replay.
 use crate::ends::{Part, Stuck, USAGE, tell, tell_into};
 use cns_program::{refuse_words, run_words};
 use std::io::{Error, ErrorKind};
@@ -7,83 +7,6 @@ use std::test::Fail;
 const REPLAY: &[&str] = &["cnsbook", "replay", "--open", "2024-06-03"];
 
 const MEMBER: &[u8] = b"MEMBER,1\n";
-
-const REFUSED: [&[&str]; 33] = [
-    &[],
-    &["cnsbook"],
-    &["cnsbook", "replay"],
-    &["cnsbook", "replay", "--open"],
-    &["cnsbook", "replay", "--open", "2024-02-30"],
-    &["cnsbook", "replay", "--open", "2024-6-3"],
-    &["cnsbook", "replay", "--open", ""],
-    &["cnsbook", "replay", "2024-06-03"],
-    &["cnsbook", "replay", "-o"],
-    &["cnsbook", "replay", "-o", "2024-06-03"],
-    &["cnsbook", "replay", "-o2024-06-03"],
-    &["cnsbook", "replay", "-open", "2024-06-03"],
-    &["cnsbook", "replay", "--open", "2024-06-03", "more"],
-    &[
-        "cnsbook",
-        "replay",
-        "--open",
-        "2024-06-03",
-        "--open",
-        "2024-06-03",
-    ],
-    &["cnsbook", "replay", "--open", "2024-06-03", "--help"],
-    &["cnsbook", "replay", "--help"],
-    &["cnsbook", "replay", "-h"],
-    &["cnsbook", "replay", "--version"],
-    &["cnsbook", "replay", "help"],
-    &["cnsbook", "--open", "2024-06-03", "replay"],
-    &["cnsbook", "--help"],
-    &["cnsbook", "help"],
-    &["cnsbook", "--version"],
-    &["cnsbook", "Replay", "--open", "2024-06-03"],
-    &["cnsbook", "run"],
-    &["cnsbook", "run", "FILE"],
-    &["cnsbook", "run", "--open", "2024-06-03"],
-    &["cnsbook", "run", "--open", "2024-06-31", "FILE"],
-    &["cnsbook", "run", "--open", "2024-06-03", "FILE", "--help"],
-    &["cnsbook", "statements", "--open", "2024-06-03"],
-    &[
-        "cnsbook",
-        "statements",
-        "--open",
-        "2024-06-03",
-        "--day",
-        "2024-06-03",
-    ],
-    &[
-        "cnsbook",
-        "statements",
-        "--open",
-        "2024-06-03",
-        "--day",
-        "2024-06-31",
-        "--workers",
-        "1",
-    ],
-    &[
-        "cnsbook",
-        "statements",
-        "--open",
-        "2024-06-03",
-        "--day",
-        "2024-06-03",
-        "--workers",
-        "1",
-        "more",
-    ],
-];
-
-#[test]
-fn a_refused_line_gets_the_usage(rt: HostRuntime) -> Result<(), Fail> {
-    for (at, words) in REFUSED.iter().enumerate() {
-        assert!(rt; tell(&rt, words, MEMBER).is(2, "", USAGE), "line {at}");
-    }
-    Ok(())
-}
 
 // The kind of an error of the words, the status and the line.
 const WORDS: [(ErrorKind, u8, &str); 2] = [
@@ -100,18 +23,6 @@ fn want_of_memory_for_the_words_is_a_fault_and_other_errors_refuse_the_line(
         let ended = refuse_words(&Error::from(*kind), &mut errors);
         assert_eq!(rt; ended.status, *status);
         assert_eq!(rt; errors.as_slice(), text.as_bytes());
-    }
-    Ok(())
-}
-
-const TAKEN: [&[&str]; 2] = [REPLAY, &["cnsbook", "replay", "--open=2024-06-03"]];
-
-#[test]
-fn a_replay_opens_on_its_date_and_writes_the_replies(rt: HostRuntime) -> Result<(), Fail> {
-    let input = b"MEMBER,1\nCLOSE\nCLOSE,2024-06-04\n".as_slice();
-    let replies = "ok\nline Count\nclosed 1 2024-06-03 0 0\n";
-    for (at, words) in TAKEN.iter().enumerate() {
-        assert!(rt; tell(&rt, words, input).is(0, replies, ""), "line {at}");
     }
     Ok(())
 }

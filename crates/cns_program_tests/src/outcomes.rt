@@ -72,45 +72,6 @@ fn told_short<R: Threads + Wait + Sync>(
     Ok((told, is_left_alone))
 }
 
-// The texts of the workers, and the tally.
-const RUNS: [(&[&str], &str); 4] = [
-    (
-        &[""],
-        "{\"closes\":0,\"commands\":0,\"counts\":[0],\"dividends\":\"0.00\",\"lines\":0,\"marks\":\"0.00\"}\n",
-    ),
-    (
-        &["MEMBER,101\nCLOSE,2024-06-04\nCLOSE,2024-06-03\nCLOSE,2024-06-05\n"],
-        "{\"closes\":2,\"commands\":4,\"counts\":[4],\"dividends\":\"0.00\",\"lines\":0,\"marks\":\"0.00\"}\n",
-    ),
-    (
-        &[
-            "MEMBER,101\nMEMBER,x\nMEMBER,101\n",
-            "MEMBER,202\n",
-            "no,kind\n",
-        ],
-        "{\"closes\":0,\"commands\":3,\"counts\":[2,1,0],\"dividends\":\"0.00\",\"lines\":2,\"marks\":\"0.00\"}\n",
-    ),
-    (
-        &[
-            "MEMBER,1\n",
-            "MEMBER,2\n",
-            "MEMBER,3\n",
-            "MEMBER,4\n",
-            "MEMBER,5\n",
-        ],
-        "{\"closes\":0,\"commands\":5,\"counts\":[1,1,1,1,1],\"dividends\":\"0.00\",\"lines\":0,\"marks\":\"0.00\"}\n",
-    ),
-];
-
-#[test]
-fn a_run_whose_sources_come_to_their_ends_tells_its_tally(rt: HostRuntime) -> Result<(), Fail> {
-    for (texts, tally) in &RUNS {
-        let told = told(&rt, rt.alloc(), texts, &[])?;
-        assert!(rt; told.is(0, tally, ""), "{tally}");
-    }
-    Ok(())
-}
-
 const EARLY: &str =
     "{\"closes\":0,\"commands\":3,\"counts\":[1,2,0],\"dividends\":\"0.00\",\"lines\":1,\"marks\":\"0.00\"}\n";
 
