@@ -2,7 +2,7 @@
 mod cases;
 mod same;
 
-use crate::refusing::{Handle, MOST, Refusing};
+use crate::refusing::{Handle, MOST, Rations, Refusing};
 use cases::{ACCEPTED, Case, REFUSED, UNPAID_DUE, UNPAID_LATER};
 use cns_book::{Book, Receipt, TakeFault};
 use cns_feed::CsvSource;
@@ -71,7 +71,7 @@ fn command(rt: &impl Abort, global: Global, record: &str) -> Command {
 fn prepared<'a, P: Positions<H>, H: Handle<'a>>(
     rt: &impl Abort,
     global: Global,
-    rationed: Refusing<'a>,
+    rationed: Rations<'a>,
     before: &[&str],
     questions: u32,
 ) -> Book<P, H> {
@@ -102,7 +102,7 @@ struct Untouched<P: Positions<H>, H: Allocator + Drop + Clone> {
 fn untouched_by<'a, P: Positions<H>, H: Handle<'a>>(
     rt: &impl Abort,
     global: Global,
-    rationed: Refusing<'a>,
+    rationed: Rations<'a>,
     case: &Case<'_>,
     questions: u32,
 ) -> Untouched<P, H> {
@@ -126,7 +126,7 @@ fn untouched_by<'a, P: Positions<H>, H: Handle<'a>>(
 // Whether two books answer each reading call alike. None of these calls asks for memory.
 fn read_alike<'a, P: Positions<H>, H: Handle<'a>>(
     rt: &impl Abort,
-    rationed: Refusing<'a>,
+    rationed: Rations<'a>,
     one: &Book<P, H>,
     other: &Book<P, H>,
 ) -> bool {
@@ -141,7 +141,7 @@ fn read_alike<'a, P: Positions<H>, H: Handle<'a>>(
 // and the book answers as before; given once more, the command gets the reply that it would have got at once.
 fn is_refused<'a, P: Positions<H>, H: Handle<'a>>(
     rt: &impl Abort,
-    rationed: Refusing<'a>,
+    rationed: Rations<'a>,
     book: &mut Book<P, H>,
     untouched: &Untouched<P, H>,
     case: &Case<'_>,
@@ -193,7 +193,7 @@ fn is_refused<'a, P: Positions<H>, H: Handle<'a>>(
 fn growths_of<'a, P: Positions<H>, H: Handle<'a>>(
     rt: &impl Abort,
     global: Global,
-    rationed: Refusing<'a>,
+    rationed: Rations<'a>,
     case: &Case<'_>,
     questions: u32,
 ) -> u64 {
@@ -215,7 +215,7 @@ fn growths_of<'a, P: Positions<H>, H: Handle<'a>>(
 fn span_of_growths<'a, P: Positions<H>, H: Handle<'a>>(
     rt: &impl Abort,
     global: Global,
-    rationed: Refusing<'a>,
+    rationed: Rations<'a>,
     case: &Case<'_>,
 ) -> (u64, u64) {
     let mut fewest = MOST;
@@ -235,7 +235,7 @@ fn span_of_growths<'a, P: Positions<H>, H: Handle<'a>>(
 fn is_against_rules<'a, P: Positions<H>, H: Handle<'a>>(
     rt: &impl Abort,
     global: Global,
-    rationed: Refusing<'a>,
+    rationed: Rations<'a>,
     case: &Case<'_>,
 ) -> bool {
     let untouched: Untouched<P, H> = untouched_by(rt, global, rationed, case, 0);
@@ -264,21 +264,6 @@ fn each_growth_of_each_command_is_refused_in_turn(rt: HostRuntime) {
 }
 
 #[test]
-fn each_copy_of_the_allocator_is_refused_in_turn(rt: HostRuntime) {
-    let rationed = Rationed::new(rt.alloc());
-    for case in &ACCEPTED {
-        let growths = growths_of::<Tree<Rationed<Refusing>>, Rationed<Refusing>>(
-            &rt,
-            rt.alloc(),
-            &rationed,
-            case,
-            0,
-        );
-        assert!(rt; growths >= case.growths, "{}: {growths}", case.record);
-    }
-}
-
-#[test]
 fn a_command_that_breaks_a_rule_asks_for_room_in_the_history_alone(rt: HostRuntime) {
     let rationed = Rationed::new(rt.alloc());
     for (before, record) in &REFUSED {
@@ -289,20 +274,10 @@ fn a_command_that_breaks_a_rule_asks_for_room_in_the_history_alone(rt: HostRunti
             left: 0,
         };
         assert!(rt;
-            is_against_rules::<Tree<Rationed<Refusing>>, Rationed<Refusing>>(
-                &rt,
-                rt.alloc(),
-                &rationed,
-                &case
-            ),
+            is_against_rules::<Tree<Refusing>, Refusing>(&rt, rt.alloc(), &rationed, &case),
             "{record}"
         );
-        let span = span_of_growths::<Tree<Rationed<Refusing>>, Rationed<Refusing>>(
-            &rt,
-            rt.alloc(),
-            &rationed,
-            &case,
-        );
+        let span = span_of_growths::<Tree<Refusing>, Refusing>(&rt, rt.alloc(), &rationed, &case);
         assert_eq!(rt; span, (0, 1), "{record}");
     }
 }

@@ -3,7 +3,7 @@ use crate::batches::{Choose, Fill};
 use crate::maps::{Prepare, Rebuilt};
 use crate::opening::Opening;
 use crate::parts::{Declare, List, NoteReference, Open, PendTrade};
-use crate::refusing::{Handle, Refusing, most_growths};
+use crate::refusing::{Handle, Rations, Refusing, most_growths};
 use crate::statements::Cut;
 use crate::trees::{Copied, FromSorted, Spare};
 use cns_positions::{FlatPositions, TreePositions};
@@ -12,7 +12,7 @@ use std::alloc::Global;
 use std::process::Abort;
 
 // The number beside a call is the least that its growths can be where its arguments have 24 items: its boxes, or one block.
-fn refuse_each<'a, H: Handle<'a>>(rt: &impl Abort, global: Global, rationed: Refusing<'a>) {
+fn refuse_each<'a, H: Handle<'a>>(rt: &impl Abort, global: Global, rationed: Rations<'a>) {
     assert!(rt; most_growths::<H, Spare<H>>(rt, global, rationed) >= 4);
     assert!(rt; most_growths::<H, Copied<H>>(rt, global, rationed) >= 24);
     assert!(rt; most_growths::<H, FromSorted<H>>(rt, global, rationed) >= 24);
@@ -34,16 +34,6 @@ fn refuse_each<'a, H: Handle<'a>>(rt: &impl Abort, global: Global, rationed: Ref
 fn each_growth_of_each_call_below_the_book_is_refused_in_turn(rt: HostRuntime) {
     let rationed = Rationed::new(rt.alloc());
     refuse_each::<Refusing>(&rt, rt.alloc(), &rationed);
-}
-
-#[test]
-fn each_copy_of_the_allocator_below_the_book_is_refused_in_turn(rt: HostRuntime) {
-    let rationed = Rationed::new(rt.alloc());
-    refuse_each::<Rationed<Refusing>>(&rt, rt.alloc(), &rationed);
-    let copies = most_growths::<Rationed<Refusing>, Opening<Rationed<Refusing>>>(
-        &rt,
-        rt.alloc(),
-        &rationed,
-    );
+    let copies = most_growths::<Refusing, Opening<Refusing>>(&rt, rt.alloc(), &rationed);
     assert!(rt; copies >= 2);
 }

@@ -3,26 +3,21 @@ use cns_rationed::Rationed;
 use std::alloc::{Allocator, Global};
 use std::process::Abort;
 
-pub(crate) type Refusing<'a> = &'a Rationed<Global>;
+pub(crate) type Rations<'a> = &'a Rationed<Global>;
+
+// A handle whose copy is a growth too, which may be refused.
+pub(crate) type Refusing<'a> = Rationed<Rations<'a>>;
 
 // More growths than any call here asks for.
 pub(crate) const MOST: u64 = 200;
 
 // A handle on an allocator that refuses.
 pub(crate) trait Handle<'a>: Allocator + Drop + Clone {
-    fn over(rationed: Refusing<'a>) -> Self;
+    fn over(rationed: Rations<'a>) -> Self;
 }
 
-// A copy of this handle takes no memory.
 impl<'a> Handle<'a> for Refusing<'a> {
-    fn over(rationed: Refusing<'a>) -> Self {
-        rationed
-    }
-}
-
-// A copy of this handle is a growth, which may be refused.
-impl<'a> Handle<'a> for Rationed<Refusing<'a>> {
-    fn over(rationed: Refusing<'a>) -> Self {
+    fn over(rationed: Rations<'a>) -> Self {
         Rationed::new(rationed)
     }
 }
@@ -47,7 +42,7 @@ pub(crate) trait Call<H>: Drop {
 fn is_refused<'a, H: Handle<'a>, C: Call<H>>(
     rt: &impl Abort,
     global: Global,
-    rationed: Refusing<'a>,
+    rationed: Rations<'a>,
     size: u16,
     growths: u64,
 ) -> bool {
@@ -72,7 +67,7 @@ fn is_refused<'a, H: Handle<'a>, C: Call<H>>(
 fn growths_of<'a, H: Handle<'a>, C: Call<H>>(
     rt: &impl Abort,
     global: Global,
-    rationed: Refusing<'a>,
+    rationed: Rations<'a>,
     size: u16,
 ) -> u64 {
     for growths in 0..MOST {
@@ -89,7 +84,7 @@ fn growths_of<'a, H: Handle<'a>, C: Call<H>>(
 fn is_made<'a, H: Handle<'a>, C: Call<H>>(
     rt: &impl Abort,
     global: Global,
-    rationed: Refusing<'a>,
+    rationed: Rations<'a>,
     size: u16,
 ) {
     let mut call = C::prepared(rt, global, H::over(rationed), size);
@@ -107,7 +102,7 @@ const LARGE_SIZES: [u16; 3] = [100, 400, 3_000];
 pub(crate) fn most_growths<'a, H: Handle<'a>, C: Call<H>>(
     rt: &impl Abort,
     global: Global,
-    rationed: Refusing<'a>,
+    rationed: Rations<'a>,
 ) -> u64 {
     let mut most = 0;
     for size in &SIZES {
