@@ -3,7 +3,7 @@ use crate::gates::Meeting;
 use crate::inputs::ending;
 use crate::lots::{Lot, closing};
 use crate::runs::run;
-use crate::script::{FIRST, are_same, day, take};
+use crate::script::{are_same, first_day, take};
 use cns_book::Book;
 use cns_desk::{DeskBook, End, Outcome};
 use cns_positions::Positions;
@@ -82,24 +82,23 @@ fn texts(alloc: Global, size: Size, seed: u64) -> Result<Vec<Vec<u8>>, Fail> {
 
 // Whether a book that has taken nothing gives the replies of a history.
 fn gives_replies<P: Positions<Global>>(
+    rt: &impl Abort,
     book: &mut Book<P, Global>,
     history: &[Taken],
-) -> Result<bool, Fail> {
+) -> bool {
     for entry in history {
-        let receipt = take(book, entry.worker, entry.command)?;
+        let receipt = take(rt, book, entry.worker, entry.command);
         if receipt.seq != entry.seq || !are_same(&receipt.reply, &entry.reply) {
-            return Ok(false);
+            return false;
         }
     }
-    Ok(true)
+    true
 }
 
 // Whether the history has the replies that one caller is given who takes its commands in its order.
-fn is_one_callers(alloc: Global, history: &[Taken]) -> Result<bool, Fail> {
-    match DeskBook::new(alloc, day(FIRST)?) {
-        Ok(mut book) => gives_replies(&mut book, history),
-        Err(_) => Err(Fail::new("no book")),
-    }
+fn is_one_callers(rt: &impl Abort, alloc: Global, history: &[Taken]) -> bool {
+    let mut book = DeskBook::new(alloc, first_day(rt)).expect(rt, "a book");
+    gives_replies(rt, &mut book, history)
 }
 
 // How many commands and how many records at fault the logs have.
@@ -113,38 +112,33 @@ fn counts(outcome: &Outcome) -> (usize, usize) {
 }
 
 // Checks that each worker came to the end of its records, that nothing else was taken, and the history.
-fn check_outcome<A: Abort>(
-    rt: &A,
-    alloc: Global,
-    outcome: &Outcome,
-    size: Size,
-) -> Result<(), Fail> {
+fn check_outcome<A: Abort>(rt: &A, alloc: Global, outcome: &Outcome, size: Size) {
     let (taken, lines) = counts(outcome);
     assert!(rt; outcome.book.history_len() == taken);
     assert!(rt; taken.saturating_add(lines) == size.records());
     for end in outcome.ends.as_slice() {
         assert!(rt; *end == End::Complete);
     }
-    let history = outcome.book.copy_history()?;
-    assert!(rt; is_one_callers(alloc, history.as_slice())?);
-    Ok(())
+    let history = outcome.book.copy_history().expect(rt, "memory");
+    assert!(rt; is_one_callers(rt, alloc, history.as_slice()));
 }
 
-// Runs the workers at once.
+// Runs a worker for each text, all at once.
 fn check_run<R: Abort + Clock + Threads + Wait + Sync>(
     rt: &R,
     alloc: Global,
     size: Size,
-    seed: u64,
-) -> Result<(), Fail> {
-    let texts = texts(alloc, size, seed)?;
+    texts: &[Vec<u8>],
+) {
     let mut sources = Vec::new(alloc);
-    for text in texts.as_slice() {
-        sources.push(ending(alloc, text.as_slice()))?;
+    for text in texts {
+        sources
+            .push(ending(alloc, text.as_slice()))
+            .expect(rt, "memory");
     }
     let gate = Meeting::new(rt, size.workers as u64);
     let outcome = run(rt, alloc, sources, &gate);
-    check_outcome(rt, alloc, &outcome, size)
+    check_outcome(rt, alloc, &outcome, size);
 }
 
 // Two, eight and sixty-four workers, and how many runs each, all drawn from other seeds.
@@ -181,7 +175,8 @@ fn two_eight_and_sixty_four_workers_are_answered_as_one_caller_is(
 ) -> Result<(), Fail> {
     for (size, runs) in &SIZES {
         for seed in 0..*runs {
-            check_run(&rt, rt.alloc(), *size, seed)?;
+            let texts = texts(rt.alloc(), *size, seed)?;
+            check_run(&rt, rt.alloc(), *size, texts.as_slice());
         }
     }
     Ok(())

@@ -8,7 +8,6 @@ use cns_terms::{Command, Item, Reply, Source, Worker};
 use cns_units::{Account, Day};
 use std::alloc::{Allocator, Global};
 use std::process::Abort;
-use std::test::Fail;
 
 // The day on which each book opens, and the next one.
 pub(crate) const FIRST: &str = "2024-06-03";
@@ -18,41 +17,36 @@ pub(crate) const SECOND: &str = "2024-06-04";
 // The issue that is traded.
 pub(crate) const APPLE: &str = "037833100";
 
-pub(crate) fn day(text: &str) -> Result<Day, Fail> {
-    match Day::parse(text.as_bytes()) {
-        Ok(day) => Ok(day),
-        Err(_) => Err(Fail::new("no date")),
-    }
+pub(crate) fn day(rt: &impl Abort, text: &str) -> Day {
+    Day::parse(text.as_bytes()).expect(rt, "a date")
 }
 
 pub(crate) fn first_day(rt: &impl Abort) -> Day {
-    Day::parse(FIRST.as_bytes()).expect(rt, "a date")
+    day(rt, FIRST)
 }
 
 // The commands of a text of records, none of which is at fault.
-pub(crate) fn commands(alloc: Global, records: &str) -> Result<Vec<Command>, Fail> {
+pub(crate) fn commands(rt: &impl Abort, alloc: Global, records: &str) -> Vec<Command> {
     let mut source = CsvSource::new(alloc, records.as_bytes());
     let mut commands = Vec::new(alloc);
     for _record in 0..=records.len() {
         match source.next() {
-            Ok(Item::Given(command)) => commands.push(command)?,
-            Ok(Item::Finished) => return Ok(commands),
-            _ => return Err(Fail::new("no command")),
+            Ok(Item::Given(command)) => commands.push(command).expect(rt, "memory"),
+            Ok(Item::Finished) => return commands,
+            _ => panic!(rt; "no command"),
         }
     }
-    Err(Fail::new("no end of the records"))
+    panic!(rt; "no end of the records");
 }
 
 // Gives a book a worker's command. A check of a caller need not go through all that a book promises of it.
 pub(crate) fn take<P: Positions<A>, A: Allocator + Drop + Clone>(
+    rt: &impl Abort,
     book: &mut Book<P, A>,
     worker: Worker,
     command: Command,
-) -> Result<Receipt, Fail> {
-    match book.take(worker, command) {
-        Ok(receipt) => Ok(receipt),
-        Err(_) => Err(Fail::new("not taken")),
-    }
+) -> Receipt {
+    book.take(worker, command).expect(rt, "taken")
 }
 
 // Whether two replies are the same. A check of a caller need not go through all that a reply may be.
@@ -61,24 +55,20 @@ pub(crate) fn are_same(one: &Reply, other: &Reply) -> bool {
 }
 
 // Puts the line of a reply after a text.
-pub(crate) fn tell(text: &mut Vec<u8>, reply: &Reply) -> Result<(), Fail> {
-    match reply_text(reply, text) {
-        Ok(()) => Ok(()),
-        Err(_) => Err(Fail::new("no text")),
-    }
+pub(crate) fn tell(rt: &impl Abort, text: &mut Vec<u8>, reply: &Reply) {
+    reply_text(reply, text).expect(rt, "a text");
 }
 
 // The text of an account's statement.
-pub(crate) fn stated(alloc: Global, sheet: &Sheet<Global>, number: u16) -> Result<Vec<u8>, Fail> {
+pub(crate) fn stated(
+    rt: &impl Abort,
+    alloc: Global,
+    sheet: &Sheet<Global>,
+    number: u16,
+) -> Vec<u8> {
     let mut text = Vec::new(alloc);
-    let Ok(account) = Account::new(number) else {
-        return Err(Fail::new("no account"));
-    };
-    let Ok(statement) = statement(alloc, sheet, account) else {
-        return Err(Fail::new("no statement"));
-    };
-    match write_statement(&statement, &mut text) {
-        Ok(()) => Ok(text),
-        Err(_) => Err(Fail::new("no text")),
-    }
+    let account = Account::new(number).expect(rt, "an account");
+    let statement = statement(alloc, sheet, account).expect(rt, "a statement");
+    write_statement(&statement, &mut text).expect(rt, "a text");
+    text
 }

@@ -1,7 +1,7 @@
 // Commands under a seat, by one caller.
 ghost use Rattle.std.specs.Prelude.{◌≡◌};
 
-use crate::script::{FIRST, SECOND, are_same, commands, day, stated, tell};
+use crate::script::{FIRST, SECOND, are_same, commands, day, first_day, stated, tell};
 use cns_desk::{Desk, Kept, OpenFault, Seat};
 use cns_positions::TreePositions;
 use cns_sheets::Sheet;
@@ -11,7 +11,6 @@ use std::marker::Brand;
 use std::process::Abort;
 use std::sync::ledger::{Blank, Ledger};
 use std::sync::{Arc, Wait};
-use std::test::Fail;
 
 type Tree = TreePositions<Global>;
 
@@ -33,67 +32,45 @@ const LATER_REPLIES: &str = "ok\nok\nclosed 2 2024-06-04 2 0\n";
 const STATEMENT: &str = "statement 101 2024-06-03 1 100.00 0.00\n\
 row 037833100 0 100 0.00 196.00 -19500.00 100.00 0.00\n";
 
-// What a command is answered under the seat.
-fn take_one<L: Ledger>(
-    kept: &mut Kept<L, Tree>,
-    seat: &mut Seat<L>,
-    command: Command,
-) -> Result<Reply, Fail> {
-    match kept.take(seat, command) {
-        Ok(receipt) => Ok(receipt.reply),
-        Err(_) => Err(Fail::new("not taken")),
-    }
-}
-
 // Gives the commands of a day under the seat, and tells what they are answered.
 fn take_day<L: Ledger>(
+    rt: &impl Abort,
     alloc: Global,
     kept: &mut Kept<L, Tree>,
     seat: &mut Seat<L>,
-) -> Result<Vec<u8>, Fail> {
+) -> Vec<u8> {
     let mut text = Vec::new(alloc);
-    for command in commands(alloc, DAY)? {
-        tell(&mut text, &take_one(kept, seat, command)?)?;
+    for command in commands(rt, alloc, DAY) {
+        let receipt = kept.take(seat, command).expect(rt, "taken");
+        tell(rt, &mut text, &receipt.reply);
     }
-    Ok(text)
+    text
 }
 
-fn check_kept<A: Abort, L: Ledger>(rt: &A, alloc: Global, blank: Blank) -> Result<(), Fail>
+// The first of some seats.
+fn first<'a, L: Ledger>(rt: &impl Abort, seats: &'a mut [Seat<L>]) -> &'a mut Seat<L> {
+    seats.first_mut().expect(rt, "a seat")
+}
+
+fn check_kept<A: Abort, L: Ledger>(rt: &A, alloc: Global, blank: Blank)
     requires name { blank.name ≡ L.name }
     requires parts { blank.parts ≡ L.parts }
     requires one { blank.parts ≡ 1 }
 {
-    let Ok((mut kept, mut seats)) = Kept::<L, Tree>::open(alloc, blank, day(FIRST)?, 1) else {
-        return Err(Fail::new("no book"));
-    };
-    let Some(seat) = seats.as_mut_slice().first_mut() else {
-        return Err(Fail::new("no seat"));
-    };
-    let replies = take_day(alloc, &mut kept, seat)?;
+    let opened = Kept::<L, Tree>::open(alloc, blank, first_day(rt), 1);
+    let (mut kept, mut seats) = opened.expect(rt, "a book");
+    let seat = first(rt, seats.as_mut_slice());
+    let replies = take_day(rt, alloc, &mut kept, seat);
     assert!(rt; replies.as_slice() == DAY_REPLIES.as_bytes());
     assert!(rt; kept.book().history_len() == 8);
     assert!(rt; seat.count() == 8);
     let book = kept.finish(seats);
     assert!(rt; book.history_len() == 8);
-    Ok(())
 }
 
 #[test]
-fn a_seat_takes_a_day_of_commands(rt: HostRuntime) -> Result<(), Fail> {
-    check_kept::<HostRuntime, Brand>(&rt, rt.alloc(), Blank::new(1))
-}
-
-// What a command is answered at the desk.
-fn submit_one<R: Abort + Wait, L: Ledger>(
-    rt: &R,
-    desk: &TreeDesk<L>,
-    seat: &mut Seat<L>,
-    command: Command,
-) -> Result<Reply, Fail> {
-    match desk.submit(rt, seat, command) {
-        Ok(receipt) => Ok(receipt.reply),
-        Err(_) => Err(Fail::new("not taken")),
-    }
+fn a_seat_takes_a_day_of_commands(rt: HostRuntime) {
+    check_kept::<HostRuntime, Brand>(&rt, rt.alloc(), Blank::new(1));
 }
 
 // Submits the commands of the records under a seat, which get these replies.
@@ -104,15 +81,13 @@ fn submit<R: Abort + Wait, L: Ledger>(
     seat: &mut Seat<L>,
     records: &'static str,
     replies: &str,
-) -> Result<(), Fail> {
+) {
     let mut text = Vec::new(alloc);
-    for command in commands(alloc, records)? {
-        tell(&mut text, &submit_one(rt, desk, seat, command)?)?;
+    for command in commands(rt, alloc, records) {
+        let receipt = desk.submit(rt, seat, command).expect(rt, "taken");
+        tell(rt, &mut text, &receipt.reply);
     }
-    if text.as_slice() != replies.as_bytes() {
-        return Err(Fail::new(records));
-    }
-    Ok(())
+    assert!(rt; text.as_slice() == replies.as_bytes(), "{records}");
 }
 
 // The reply to a question for the sheet of a date, and the sheet.
@@ -121,16 +96,14 @@ fn handed<R: Abort + Wait, L: Ledger>(
     desk: &TreeDesk<L>,
     seat: &mut Seat<L>,
     date: &str,
-) -> Result<(Reply, Option<Arc<Sheet<Global>>>), Fail> {
-    match desk.sheet(rt, seat, day(date)?) {
-        Ok((receipt, sheet)) => Ok((receipt.reply, sheet)),
-        Err(_) => Err(Fail::new("not taken")),
-    }
+) -> (Reply, Option<Arc<Sheet<Global>>>) {
+    let (receipt, sheet) = desk.sheet(rt, seat, day(rt, date)).expect(rt, "taken");
+    (receipt.reply, sheet)
 }
 
 // Whether the statement of member 101 on the sheet is that of the day.
-fn is_as_closed(alloc: Global, sheet: &Sheet<Global>) -> Result<bool, Fail> {
-    Ok(stated(alloc, sheet, 101)?.as_slice() == STATEMENT.as_bytes())
+fn is_as_closed(rt: &impl Abort, alloc: Global, sheet: &Sheet<Global>) -> bool {
+    stated(rt, alloc, sheet, 101).as_slice() == STATEMENT.as_bytes()
 }
 
 // Closes a day, asks for its sheet and for that of the open day, and goes on under the same seat.
@@ -139,44 +112,37 @@ fn check_seat<R: Abort + Wait, L: Ledger>(
     alloc: Global,
     desk: &TreeDesk<L>,
     seat: &mut Seat<L>,
-) -> Result<(), Fail> {
-    submit(rt, alloc, desk, seat, DAY, DAY_REPLIES)?;
-    let (reply, Some(sheet)) = handed(rt, desk, seat, FIRST)? else {
-        return Err(Fail::new("no sheet"));
-    };
+) {
+    submit(rt, alloc, desk, seat, DAY, DAY_REPLIES);
+    let (reply, sheet) = handed(rt, desk, seat, FIRST);
+    let sheet = sheet.expect(rt, "a sheet");
     let mut text = Vec::new(alloc);
-    tell(&mut text, &reply)?;
+    tell(rt, &mut text, &reply);
     assert!(rt; text.as_slice() == b"statement 0 2024-06-03 0 0.00 0.00\n".as_slice());
-    assert!(rt; is_as_closed(alloc, &sheet)?);
-    let (reply, none) = handed(rt, desk, seat, SECOND)?;
+    assert!(rt; is_as_closed(rt, alloc, &sheet));
+    let (reply, none) = handed(rt, desk, seat, SECOND);
     assert!(rt; are_same(&reply, &Reply::Refused(Refusal::NoSuchDay)));
     assert!(rt; none.is_none());
-    submit(rt, alloc, desk, seat, LATER, LATER_REPLIES)?;
-    assert!(rt; is_as_closed(alloc, &sheet)?);
+    submit(rt, alloc, desk, seat, LATER, LATER_REPLIES);
+    assert!(rt; is_as_closed(rt, alloc, &sheet));
     assert!(rt; seat.count() == 13);
-    Ok(())
 }
 
-fn check_desk<R: Abort + Wait, L: Ledger>(rt: &R, alloc: Global, blank: Blank) -> Result<(), Fail>
+fn check_desk<R: Abort + Wait, L: Ledger>(rt: &R, alloc: Global, blank: Blank)
     requires name { blank.name ≡ L.name }
     requires parts { blank.parts ≡ L.parts }
     requires one { blank.parts ≡ 1 }
 {
-    let Ok((desk, mut seats)) = TreeDesk::<L>::open(alloc, blank, day(FIRST)?, 1) else {
-        return Err(Fail::new("no desk"));
-    };
-    let Some(seat) = seats.as_mut_slice().first_mut() else {
-        return Err(Fail::new("no seat"));
-    };
-    check_seat(rt, alloc, &desk, seat)?;
+    let opened = TreeDesk::<L>::open(alloc, blank, first_day(rt), 1);
+    let (desk, mut seats) = opened.expect(rt, "a desk");
+    check_seat(rt, alloc, &desk, first(rt, seats.as_mut_slice()));
     let book = desk.finish(seats);
     assert!(rt; book.history_len() == 13);
-    Ok(())
 }
 
 #[test]
-fn a_desk_hands_out_the_sheet_of_a_closed_day_as_it_stays(rt: HostRuntime) -> Result<(), Fail> {
-    check_desk::<HostRuntime, Brand>(&rt, rt.alloc(), Blank::new(1))
+fn a_desk_hands_out_the_sheet_of_a_closed_day_as_it_stays(rt: HostRuntime) {
+    check_desk::<HostRuntime, Brand>(&rt, rt.alloc(), Blank::new(1));
 }
 
 // Has one worker close a day and ask for its sheet, and then another one go on.
@@ -185,63 +151,58 @@ fn check_seats<R: Abort + Wait, L: Ledger>(
     alloc: Global,
     desk: &TreeDesk<L>,
     seats: &mut [Seat<L>],
-) -> Result<(), Fail> {
+) {
     let [one, other] = seats else {
-        return Err(Fail::new("not two seats"));
+        panic!(rt; "not two seats");
     };
-    submit(rt, alloc, desk, one, DAY, DAY_REPLIES)?;
-    let (_, Some(sheet)) = handed(rt, desk, one, FIRST)? else {
-        return Err(Fail::new("no sheet"));
-    };
-    assert!(rt; is_as_closed(alloc, &sheet)?);
-    submit(rt, alloc, desk, other, LATER, LATER_REPLIES)?;
-    assert!(rt; is_as_closed(alloc, &sheet)?);
-    Ok(())
+    submit(rt, alloc, desk, one, DAY, DAY_REPLIES);
+    let (_, sheet) = handed(rt, desk, one, FIRST);
+    let sheet = sheet.expect(rt, "a sheet");
+    assert!(rt; is_as_closed(rt, alloc, &sheet));
+    submit(rt, alloc, desk, other, LATER, LATER_REPLIES);
+    assert!(rt; is_as_closed(rt, alloc, &sheet));
 }
 
-fn check_two<R: Abort + Wait, L: Ledger>(rt: &R, alloc: Global, blank: Blank) -> Result<(), Fail>
+fn check_two<R: Abort + Wait, L: Ledger>(rt: &R, alloc: Global, blank: Blank)
     requires name { blank.name ≡ L.name }
     requires parts { blank.parts ≡ L.parts }
     requires two { blank.parts ≡ 2 }
 {
-    let Ok((desk, mut seats)) = TreeDesk::<L>::open(alloc, blank, day(FIRST)?, 2) else {
-        return Err(Fail::new("no desk"));
-    };
-    check_seats(rt, alloc, &desk, seats.as_mut_slice())
+    let opened = TreeDesk::<L>::open(alloc, blank, first_day(rt), 2);
+    let (desk, mut seats) = opened.expect(rt, "a desk");
+    check_seats(rt, alloc, &desk, seats.as_mut_slice());
 }
 
 #[test]
-fn a_sheet_gives_the_same_statement_after_another_workers_split_and_close(
-    rt: HostRuntime,
-) -> Result<(), Fail> {
-    check_two::<HostRuntime, Brand>(&rt, rt.alloc(), Blank::new(2))
+fn a_sheet_gives_the_same_statement_after_another_workers_split_and_close(rt: HostRuntime) {
+    check_two::<HostRuntime, Brand>(&rt, rt.alloc(), Blank::new(2));
 }
 
 // Why no desk is opened for so many workers, and why not what a desk locks.
 fn desk_refused<L: Ledger>(
+    rt: &impl Abort,
     alloc: Global,
     blank: Blank,
     workers: usize,
-) -> Result<Option<OpenFault>, Fail>
+) -> Option<OpenFault>
     requires name { blank.name ≡ L.name }
     requires parts { blank.parts ≡ L.parts }
     requires one_each { blank.parts ≡ workers }
 {
-    let opened = TreeDesk::<L>::open(alloc, blank, day(FIRST)?, workers);
-    Ok(opened.err())
+    TreeDesk::<L>::open(alloc, blank, first_day(rt), workers).err()
 }
 
 fn kept_refused<L: Ledger>(
+    rt: &impl Abort,
     alloc: Global,
     blank: Blank,
     workers: usize,
-) -> Result<Option<OpenFault>, Fail>
+) -> Option<OpenFault>
     requires name { blank.name ≡ L.name }
     requires parts { blank.parts ≡ L.parts }
     requires one_each { blank.parts ≡ workers }
 {
-    let opened = Kept::<L, Tree>::open(alloc, blank, day(FIRST)?, workers);
-    Ok(opened.err())
+    Kept::<L, Tree>::open(alloc, blank, first_day(rt), workers).err()
 }
 
 // Numbers of workers, and why no desk is opened for so many.
@@ -253,16 +214,15 @@ const NUMBERS: [(usize, Option<OpenFault>); 4] = [
 ];
 
 #[test]
-fn a_desk_has_1_to_64_seats(rt: HostRuntime) -> Result<(), Fail> {
+fn a_desk_has_1_to_64_seats(rt: HostRuntime) {
     let alloc = rt.alloc();
     for (workers, wanted) in &NUMBERS {
         let workers = *workers;
         let blank = Blank::new(workers as u64);
-        let refused = desk_refused::<Brand>(alloc, blank, workers)?;
+        let refused = desk_refused::<Brand>(&rt, alloc, blank, workers);
         assert!(rt; refused == *wanted, "{workers}");
         let blank = Blank::new(workers as u64);
-        let refused = kept_refused::<Brand>(alloc, blank, workers)?;
+        let refused = kept_refused::<Brand>(&rt, alloc, blank, workers);
         assert!(rt; refused == *wanted, "{workers}");
     }
-    Ok(())
 }
