@@ -1,5 +1,5 @@
-// A book with a limit of its history.
-use crate::script::{TreeBook, command, first_day, play};
+// A book with a limit of its history, and with a long one.
+use crate::script::{TreeBook, command, first_day, play, take};
 use cns_book::{Book, TakeFault};
 use cns_positions::Positions;
 use cns_terms::Worker;
@@ -42,4 +42,25 @@ fn a_book_with_the_limit_zero_is_full_at_once(rt: HostRuntime) {
     let limited = Book::with_limit(rt.alloc(), first_day(&rt), 0);
     let mut book: TreeBook = limited.expect(&rt, "memory");
     assert!(&rt; is_full(&rt, rt.alloc(), &mut book));
+}
+
+// Has a book take so many questions.
+fn ask<P: Positions<A>, A: Allocator + Drop + Clone>(
+    rt: &impl Abort,
+    alloc: Global,
+    book: &mut Book<P, A>,
+    questions: u32,
+) {
+    let question = command(rt, alloc, "POSITION,0,037833100\n");
+    for _ in 0..questions {
+        take(rt, book, question);
+    }
+}
+
+#[test]
+fn a_long_history_is_copied(rt: HostRuntime) {
+    let opened = Book::new(rt.alloc(), first_day(&rt));
+    let mut book: TreeBook = opened.expect(&rt, "memory");
+    ask(&rt, rt.alloc(), &mut book, 3_000);
+    assert!(&rt; copied_entries(&rt, &book) == 3_000);
 }

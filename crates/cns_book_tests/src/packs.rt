@@ -115,22 +115,23 @@ fn there_are_1_to_64_workers(rt: HostRuntime) -> Result<(), Fail> {
 // The most turns of a millisecond that a worker is held.
 const MOST_TURNS: u32 = 10_000;
 
-// Holds each worker's first statement until the other's first has begun.
+// Holds each worker's first statement until the first ones of so many workers have begun.
 #[derive(Drop)]
-struct Pair<C> {
+struct Meeting<C> {
     clock: C,
+    wanted: u64,
     came: AtomicU64,
     late: AtomicU64,
 }
 
-impl<C: Clock> Gate for Pair<C> {
+impl<C: Clock> Gate for Meeting<C> {
     fn before<R: Wait>(&self, _rt: &R, _worker: Worker, seq: u32) {
         if seq != 1 {
             return;
         }
         self.came.fetch_add(1, SeqCst);
         for _turn in 0..MOST_TURNS {
-            if self.came.load(SeqCst) >= 2 {
+            if self.came.load(SeqCst) >= self.wanted {
                 return;
             }
             thread::sleep(&self.clock, Duration::from_millis(1));
@@ -141,19 +142,21 @@ impl<C: Clock> Gate for Pair<C> {
     fn answered<R: Wait>(&self, _rt: &R, _worker: Worker, _seq: u32) {}
 }
 
+// How many workers make as many statements.
+const AT_ONCE: [u16; 3] = [2, 8, 64];
+
 #[test]
 fn statements_are_made_at_once(rt: HostRuntime) -> Result<(), Fail> {
-    let gate = Pair {
-        clock: &rt,
-        came: AtomicU64::new(0),
-        late: AtomicU64::new(0),
-    };
-    let sheet = sheet_with(&rt, rt.alloc(), 2)?;
-    let packed = pack(&rt, rt.alloc(), &sheet, 2, &gate);
-    let Ok(statements) = packed else {
-        return Err(Fail::new("not packed"));
-    };
-    assert!(&rt; statements.len() == 2);
-    assert!(&rt; gate.late.load(SeqCst) == 0);
+    for workers in &AT_ONCE {
+        let gate = Meeting {
+            clock: &rt,
+            wanted: u64::from(*workers),
+            came: AtomicU64::new(0),
+            late: AtomicU64::new(0),
+        };
+        let sheet = sheet_with(&rt, rt.alloc(), *workers)?;
+        assert!(&rt; pack(&rt, rt.alloc(), &sheet, usize::from(*workers), &gate).is_ok());
+        assert!(&rt; gate.late.load(SeqCst) == 0, "{workers}");
+    }
     Ok(())
 }

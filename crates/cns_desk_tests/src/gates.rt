@@ -43,6 +43,11 @@ impl<C> Meeting<C> {
             late: AtomicU64::new(0),
         }
     }
+
+    // Whether no worker waited in vain.
+    pub(crate) fn is_in_time(&self) -> bool {
+        self.late.load(SeqCst) == 0
+    }
 }
 
 impl<C: Clock> Gate for Meeting<C> {
@@ -138,7 +143,7 @@ const THREE_MEMBERS: [&[u8]; 2] = [b"MEMBER,101\nMEMBER,202\n", b"MEMBER,303\n"]
 fn workers_run_at_once(rt: HostRuntime) {
     let gate = Meeting::new(&rt, 2);
     let outcome = run_two(&rt, rt.alloc(), THREE_MEMBERS, &gate);
-    assert!(&rt; gate.late.load(SeqCst) == 0);
+    assert!(&rt; gate.is_in_time());
     assert!(&rt; entries(&outcome) == 3);
 }
 

@@ -138,6 +138,7 @@ fn check_run<R: Abort + Clock + Threads + Wait + Sync>(
     }
     let gate = Meeting::new(rt, size.workers as u64);
     let outcome = run(rt, alloc, sources, &gate);
+    assert!(rt; gate.is_in_time());
     check_outcome(rt, alloc, &outcome, size);
 }
 

@@ -42,26 +42,28 @@ impl Watch {
     }
 }
 
-// Interrupts each second call, the first one too, or none.
+// Interrupts two calls of each three, the first two too, or none.
 #[derive(Clone, Copy)]
 pub(crate) struct Signals {
-    is_due: bool,
+    due: u8,
     goes_on: bool,
 }
 
 impl Signals {
     pub(crate) fn new(interrupts: bool) -> Signals {
         Signals {
-            is_due: interrupts,
+            due: if interrupts { 2 } else { 0 },
             goes_on: interrupts,
         }
     }
 
     fn call(&mut self) -> io::Result<()> {
-        let is_due = self.is_due;
-        self.is_due = self.goes_on && !is_due;
-        if is_due {
+        if self.due > 0 {
+            self.due -= 1;
             return Err(Error::from(ErrorKind::Interrupted));
+        }
+        if self.goes_on {
+            self.due = 2;
         }
         Ok(())
     }

@@ -15,7 +15,7 @@ const POSITION_INPUT: &str = "MEMBER,101\n\
 const POSITION_OUTPUT: &str = "ok\nok\nok\nok\nposition 101 037833100 100 0 -19500.00 0\n";
 
 // How many bytes a writer takes a call and in all, whether a call without room is an error, how often it can be flushed,
-// and whether each second call of the reader and of the writer is interrupted.
+// and whether two of three calls of the reader and of the writer are interrupted.
 #[derive(Clone, Copy)]
 struct Limits {
     step: usize,

@@ -258,6 +258,7 @@ fn each_growth_of_each_command_is_refused_in_turn(rt: HostRuntime) {
             case,
         );
         assert!(rt; fewest >= case.growths, "{record}: {fewest}");
+        assert!(rt; case.growths > 0 || fewest == 0, "{record}: {fewest}");
         assert_eq!(rt; most, fewest.saturating_add(1), "{record}");
         assert_eq!(rt; rationed.held(), 0, "{record}");
     }

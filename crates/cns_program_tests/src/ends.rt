@@ -32,6 +32,8 @@ pub(crate) struct Stuck {
     pub(crate) taken: Vec<u8>,
     pub(crate) room: usize,
     pub(crate) flushes: usize,
+    // How many bytes were flushed.
+    flushed: usize,
     has_failed: bool,
     pub(crate) is_left_alone: bool,
 }
@@ -42,6 +44,7 @@ impl Stuck {
             taken,
             room,
             flushes,
+            flushed: 0,
             has_failed: false,
             is_left_alone: true,
         }
@@ -80,6 +83,7 @@ impl Write for Stuck {
             return Err(self.fail());
         }
         self.flushes -= 1;
+        self.flushed = self.taken.len();
         Ok(())
     }
 }
@@ -90,6 +94,8 @@ pub(crate) struct Told {
     pub(crate) status: u8,
     pub(crate) output: Vec<u8>,
     pub(crate) errors: Vec<u8>,
+    // How many bytes of the output were flushed.
+    pub(crate) flushed: usize,
 }
 
 impl Told {
@@ -97,22 +103,6 @@ impl Told {
         self.status == status
             && self.output.as_slice() == output.as_bytes()
             && self.errors.as_slice() == errors.as_bytes()
-    }
-}
-
-// Runs a line over an input.
-pub(crate) fn tell<
-    F: Read + Send + Drop,
-    R: AllocGlobal + Files<File = F> + Threads + Wait + Sync,
-    I: Read + Drop,
->(rt: &R, words: &[&str], input: I) -> Told {
-    let mut output = Vec::new(rt.alloc());
-    let mut errors = Vec::new(rt.alloc());
-    let status = program(rt, words, input, &mut output, &mut errors);
-    Told {
-        status,
-        output,
-        errors,
     }
 }
 
@@ -127,6 +117,7 @@ pub(crate) fn tell_into<
     let is_left_alone = output.is_left_alone;
     let told = Told {
         status,
+        flushed: output.flushed,
         output: output.taken,
         errors,
     };

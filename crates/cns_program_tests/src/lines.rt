@@ -1,5 +1,5 @@
 // Words that cannot be read, and ends that fail in a replay.
-use crate::ends::{Part, Stuck, USAGE, tell, tell_into};
+use crate::ends::{Part, Stuck, USAGE, tell_into};
 use cns_program::{refuse_words, run_words};
 use std::io::{Error, ErrorKind};
 use std::test::Fail;
@@ -78,8 +78,10 @@ const BROKEN: [(&[u8], &str); 4] = [
 fn what_was_answered_before_a_fault_stands_in_the_output(rt: HostRuntime) -> Result<(), Fail> {
     for (bytes, replies) in &BROKEN {
         let input = Part { bytes, fails: true };
-        let told = tell(&rt, REPLAY, input);
+        let output = Stuck::new(Vec::new(rt.alloc()), usize::MAX, usize::MAX);
+        let (told, _) = tell_into(&rt, REPLAY, input, output);
         assert!(rt; told.is(1, replies, "fault Read\n"), "{replies}");
+        assert!(rt; told.flushed == replies.len(), "{replies}");
     }
     Ok(())
 }

@@ -48,6 +48,7 @@ fn told<R: Threads + Wait + Sync>(
         status,
         output,
         errors,
+        flushed: 0,
     })
 }
 
@@ -68,6 +69,7 @@ fn told_short<R: Threads + Wait + Sync>(
         status,
         output: output.taken,
         errors,
+        flushed: 0,
     };
     Ok((told, is_left_alone))
 }

@@ -32,7 +32,7 @@ TRADE,12,1,2,17275R102,1000000000,0,2024-06-03\n";
 pub(super) struct Case<'c> {
     pub(super) before: &'c [&'c str],
     pub(super) record: &'c str,
-    // It makes at least so many growths beside that of the history.
+    // It makes at least so many growths beside that of the history; where this is 0, none.
     pub(super) growths: u64,
     // Blocks that a refused growth may leave behind: rows of zeros, and room for what comes next.
     pub(super) left: u64,
