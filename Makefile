@@ -128,7 +128,7 @@ test:
 	    bash tests/status.sh $(PROGRAM); \
 	    bash tests/refused.sh $(PROGRAM) $(DRIVER); \
 	    bash tests/bytes.sh $(PROGRAM); \
-	    python3 tests/large.py $(PROGRAM); \
+	    python3 tests/large.py $(PROGRAM) $(PAGE); \
 	    bash tests/quoted.sh $(PROGRAM); \
 	    python3 tests/fuzz.py --model; \
 	    bash tests/page.sh $(PAGE); \

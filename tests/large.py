@@ -1,7 +1,7 @@
 #!/usr/bin/env python3
-"""Gives the program inputs in which there is much of each thing, and compares all that it writes.
+"""Gives the programs inputs in which there is much of each thing, and compares what they write.
 
-usage: tests/large.py PROGRAM
+usage: tests/large.py PROGRAM PAGE
 
 A contract lets a call find no memory at any time. That no command gives up because there is much to keep is shown here: a
 hundred thousand issues, more than a million rows, thousands of pending trades, notices, dividends, closed days. What is due
@@ -16,6 +16,9 @@ import tempfile
 
 OPENING = datetime.date(2024, 6, 3)
 ISSUE, OTHER = "17275R102", "594918104"
+
+# What stands on the page of many things, and how often.
+PAGE_MARKS = {b"<li><p>Record ": 1_000}
 
 
 def cusip(number):
@@ -206,7 +209,8 @@ def closed_days():
     it.close(1, 2)
     for day in range(2, 4_001):
         it.close(day, 2)
-    it.position(2, ISSUE, -10, -10, 4_000)
+    it.trade(1, 2, ISSUE, 1, day=4_001)
+    it.position(2, ISSUE, -11, -10, 4_000)
     it.ask(f"STATEMENT,1,{date(2_500)}", f"statement 1 {date(2_500)} 1 0.00 0.00",
            f"row {ISSUE} 10 10 1.00 1.00 0.00 0.00 0.00")
     return it
@@ -253,10 +257,11 @@ def run_files(program):
 
 
 def statements(program):
-    """The statements of all members, by as many workers as there may be."""
+    """The statements of all members, the last of whom has many rows, by as many workers as there may be."""
     session = Session()
-    session.members(range(1, 9_999))
-    session.accept(f"ISSUE,{ISSUE},100")
+    session.members(range(1, 10_000))
+    session.accept(f"ISSUE,{ISSUE},100", *(f"ISSUE,{cusip(number)},100" for number in range(2_000)))
+    session.accept(*["PRICE,17275R102,100"] * 60_000)
     due = []
     for member in range(1, 9_999):
         if member % 2:
@@ -264,11 +269,40 @@ def statements(program):
         shares = member if member % 2 else 1 - member
         due += [f"statement {member} {date(1)} 1 {shares}.00 0.00",
                 f"row {ISSUE} 0 {shares} 0.00 1.00 0.00 {shares}.00 0.00"]
-    session.close(1, 9_998)
+    due[2:4] = ["statement 2 2024-06-03 2001 -2001.00 0.00",
+                *(f"row {cusip(number)} 0 -1 0.00 1.00 0.00 -1.00 0.00" for number in range(2_000)), due[3]]
+    due += ["statement 9999 2024-06-03 2000 2000.00 0.00"]
+    for number in range(2_000):
+        session.trade(9_999, 2, cusip(number), 1)
+        due += [f"row {cusip(number)} 0 1 0.00 1.00 0.00 1.00 0.00"]
+    session.close(1, 13_998)
     for workers in "1", "64":
         words = ["statements", "--open", date(1), "--day", date(1), "--workers", workers]
         run = subprocess.run([program, *words], input=text(session.records), capture_output=True)
-        check(f"statements of 9,998 members by {workers}", run, text(due))
+        check(f"statements of 9,999 members by {workers}", run, text(due))
+
+
+def page(program):
+    """A page of the last of a hundred days, with a thousand refused records, and as many shorts, notices and pending trades."""
+    it = Session()
+    it.members(range(1, 2_001))
+    it.accept(f"ISSUE,{ISSUE},100")
+    for member in range(1, 1_001):
+        it.trade(member, 1_000 + member, ISSUE, member)
+        it.trade(1_000 + member, member, ISSUE, 1, day=2)
+    for day in range(1, 100):
+        it.close(day, 2_000)
+    for member in range(1, 1_001):
+        it.ask(f"MEMBER,{member}", "refused 1")
+        it.ask(f"NOTICE,{member},{ISSUE},1", "..")
+        it.trade(member, 2_000, ISSUE, 1, day=101)
+    it.accept(*["PRICE,17275R102,100"] * 60_000)
+    it.close(100, 2_000)
+    run = subprocess.run([program, "--open", date(1), "--day", date(100)], input=text(it.records), capture_output=True)
+    counts = [run.stdout.count(mark) for mark in PAGE_MARKS]
+    if run.returncode or run.stderr or not run.stdout.endswith(b"</html>\n") or counts != list(PAGE_MARKS.values()):
+        sys.exit(f"large: a page: status {run.returncode}, {run.stderr[:200]!r}, counts {counts}")
+    print("large: a page of a hundred days and a thousand refused records")
 
 
 def main():
@@ -277,6 +311,7 @@ def main():
         replay(program, make)
     run_files(program)
     statements(program)
+    page(sys.argv[2])
 
 
 if __name__ == "__main__":
