@@ -210,6 +210,7 @@ def closed_days():
     for day in range(2, 4_001):
         it.close(day, 2)
     it.trade(1, 2, ISSUE, 1, day=4_001)
+    it.ask(f"NOTICE,1,{ISSUE},5", "notice 1")
     it.position(2, ISSUE, -11, -10, 4_000)
     it.ask(f"STATEMENT,1,{date(2_500)}", f"statement 1 {date(2_500)} 1 0.00 0.00",
            f"row {ISSUE} 10 10 1.00 1.00 0.00 0.00 0.00")
