@@ -12,6 +12,10 @@ import recompute
 # ---- what is looked for -------------------------------------------------------------------------------------------
 
 
+# An accepted execution: its place in the list, its notice, its money and what it books for each member that it fills.
+Execution = collections.namedtuple("Execution", "place notice money fills")
+
+
 class Played:
     """What the lines of the list below ask of a stream."""
 
@@ -42,30 +46,24 @@ class Played:
         return any(it.values[0] == issue and it.day <= day for it in self.exchanges)
 
     def execution(self, accepted):
-        """An execution: its place, its notice, its money and what it books for each member that it fills."""
-        notice = self.book.notices()[accepted.values[0] - 1]
         fills = [it for it in self.book.entries if it.place == accepted.place and it.shares > 0]
-        return accepted.place, notice, accepted.values[2], fills
+        return Execution(accepted.place, self.book.notices()[accepted.values[0] - 1], accepted.values[2], fills)
 
-    def with_earlier(self):
-        """Each execution with those before it of the same batch."""
-        for place, notice, money, fills in self.executions:
-            batch = notice.day, notice.issue
-            yield notice, fills, [it for it in self.executions if it[0] < place and (it[1].day, it[1].issue) == batch]
+    def earlier(self, execution):
+        """Those of the same batch before it."""
+        batch = batch_of(execution.notice)
+        return [it for it in self.executions if it.place < execution.place and batch_of(it.notice) == batch]
 
-    def filled_twice(self, is_wanted):
-        """Executions that fill a member whom an earlier one filled, of a notice that is wanted beside the later one."""
-        return sum(
-            any(one.account == other.account for it in earlier if is_wanted(it[1], notice) for one in it[3] for other in fills)
-            for notice, fills, earlier in self.with_earlier()
-        )
+    def after_others(self, is_wanted):
+        """Executions with earlier ones of the same batch that are wanted beside them."""
+        return sum(any(is_wanted(other, it) for other in self.earlier(it)) for it in self.executions)
 
     def used_up(self):
         """Executions beside a liable member of whose liability an earlier one left less than it is short now."""
         count = 0
-        for place, notice, _, _ in self.executions:
-            then = self.before(place)
-            filled = [(it, then.filled(it, notice.day)) for it in then.liable(notice.day) if it.issue == notice.issue]
+        for execution in self.executions:
+            then, (day, issue) = self.before(execution.place), batch_of(execution.notice)
+            filled = [(it, then.filled(it, day)) for it in then.liable(day) if it.issue == issue]
             count += any(given > 0 and it.shares - given < -then.position(it.member, it.issue) for it, given in filled)
         return count
 
@@ -82,26 +80,28 @@ class Played:
                 count += older >= most > 0
         return count
 
-    def beside_withdrawn(self):
-        """Executions beside a notice of the same batch that was withdrawn after it had been chosen."""
-        notices, withdrawn = self.book.notices(), self.book.of_kind("WITHDRAW")
-        return sum(
-            any(
-                it.place < place and it.day > notice.day and notices[it.values[0] - 1][2:5:2] == notice[2:5:2]
-                for it in withdrawn
+    def beside_withdrawn(self, is_wanted):
+        """Executions beside a notice of the same batch that was withdrawn after the batch was chosen, and is wanted beside
+        what was executed before."""
+        notices, count = self.book.notices(), 0
+        withdrawn = [(it, notices[it.values[0] - 1]) for it in self.book.of_kind("WITHDRAW")]
+        for execution in self.executions:
+            before = [other.notice for other in self.earlier(execution)]
+            count += any(
+                it.place < execution.place and it.day > notice.day and batch_of(notice) == batch_of(execution.notice)
+                and is_wanted(notice, before)
+                for it, notice in withdrawn
             )
-            for place, notice, _, _ in self.executions
-        )
+        return count
 
     def pairs(self, is_wanted):
         """Pairs of exchanges that are wanted, the earlier first."""
         return [(one, other) for one in self.exchanges for other in self.exchanges
                 if one.place < other.place and is_wanted(one, other)]
 
-    def with_ages(self, pairs, is_wanted):
-        """Those pairs of exchanges of a closed day for which the ages of some account at the close before are wanted: in
-        the old issue of the first, in that of the second, and in the successor of the second."""
-        accounts = [0, *self.book.members()]
+    def with_ages(self, pairs, accounts, is_wanted):
+        """Those pairs of exchanges of a closed day for which the ages of an account at the close before are wanted: in the
+        old issue of the first, in that of the second, and in the successor of the second."""
         return sum(
             one.day < self.book.today() and any(
                 self.book.age(account, other.values[1], one.day) and is_wanted(*(
@@ -114,10 +114,18 @@ class Played:
         )
 
 
-def are_cut(money, fills, which):
+def batch_of(notice):
+    return notice.day, notice.issue
+
+
+def fill_the_same(one, other):
+    return bool({it.account for it in one.fills} & {it.account for it in other.fills})
+
+
+def leaves_more(execution, which):
     """Whether some of the fills pay another sum than their part of the money, cut by itself."""
-    shares = sum(it.shares for it in fills)
-    return any(-it.cents != money * it.shares // shares for it in fills[which])
+    shares = sum(it.shares for it in execution.fills)
+    return any(-it.cents != execution.money * it.shares // shares for it in execution.fills[which])
 
 
 def into_one(one, other):
@@ -171,28 +179,30 @@ LIST = {
     "an execution of 10^18 cents": lambda it: it.accepted("EXECUTE", lambda values: values[2] == 10**18),
     "a split by 10,000": lambda it: it.accepted("SPLIT", lambda values: 10**4 in values[1:3] and values[1] != values[2]),
     "an exchange by 10,000": lambda it: it.accepted("EXCHANGE", lambda values: 10**4 in values[2:4]),
-    "three fills of one execution": lambda it: sum(len(fills) >= 3 for *_, fills in it.executions),
-    "a last fill that pays what the others leave": lambda it: sum(
-        are_cut(money, fills, slice(1, None)) for _, _, money, fills in it.executions
-    ),
-    "one between others that does": lambda it: sum(
-        are_cut(money, fills, slice(1, -1)) for _, _, money, fills in it.executions
-    ),
+    "three fills of one execution": lambda it: sum(len(execution.fills) >= 3 for execution in it.executions),
+    "a last fill that pays what the others leave": lambda it: sum(leaves_more(each, slice(-1, None)) for each in it.executions),
+    "one between others that does": lambda it: sum(leaves_more(each, slice(1, -1)) for each in it.executions),
     "a batch for more than one notice calls for": lambda it: it.widened(),
-    "executions of two notices of a batch": lambda it: sum(
-        any(other[1] != notice for other in earlier) for notice, _, earlier in it.with_earlier()
+    "executions of two notices of a batch": lambda it: it.after_others(lambda one, other: one.notice != other.notice),
+    "a member filled twice by a notice": lambda it: it.after_others(
+        lambda one, other: one.notice == other.notice and fill_the_same(one, other)
     ),
-    "a member filled twice by a notice": lambda it: it.filled_twice(lambda one, other: one == other),
-    "a member filled by two notices": lambda it: it.filled_twice(lambda one, other: one != other),
+    "a member filled by two notices": lambda it: it.after_others(
+        lambda one, other: one.notice != other.notice and fill_the_same(one, other)
+    ),
     "a fill that what is left of a liability stops": lambda it: it.used_up(),
-    "an execution beside a withdrawn notice": lambda it: it.beside_withdrawn(),
+    "an execution beside a withdrawn notice": lambda it: it.beside_withdrawn(lambda notice, before: True),
+    "one beside a notice executed and withdrawn": lambda it: it.beside_withdrawn(lambda notice, before: notice in before),
     "two exchanges of a day into one issue": lambda it: len(it.pairs(into_one)),
     "two that bring ages there, the younger last": lambda it: it.with_ages(
-        it.pairs(into_one), lambda first, second, own: first > second > 0 and first > own
+        it.pairs(into_one), it.book.members(), lambda first, second, own: first > second > 0 and first > own
     ),
     "exchanges of a day in a row": lambda it: len(it.pairs(in_a_row_today)),
     "an age carried through both": lambda it: it.with_ages(
-        it.pairs(in_a_row_today), lambda first, second, own: first > max(second, own)
+        it.pairs(in_a_row_today), it.book.members(), lambda first, second, own: first > max(second, own)
+    ),
+    "the corporation's carried so": lambda it: it.with_ages(
+        it.pairs(in_a_row_today), [0], lambda first, second, own: first > max(second, own)
     ),
     "exchanges of several days in a row": lambda it: len(it.pairs(in_a_row)) - len(it.pairs(in_a_row_today)),
 }

@@ -340,21 +340,21 @@ class Stream:
         self.short_more(longs, shorts, issue, 40)
         self.notice_all(longs, issue)
         for _ in range(2):
-            if self.rng.random() < 0.2:
-                self.add_execute()
             self.end_day()
             self.short_more(longs, shorts, issue, 60)
+            if self.rng.random() < 0.3:
+                self.rng.choice([self.add_execute, self.add_withdraw])()
         for _ in range(self.rng.randint(3, 6)):
             for number in range(1, len(self.book.notices()) + 1):
                 self.execute_some(number, self.rng.choice([self.rng.randint(1, 9999), self.cents()]))
-                if self.rng.random() < 0.1:
+                if self.rng.random() < 0.15:
                     self.add("WITHDRAW", self.rng.randint(1, number))
             if self.rng.random() < 0.4:
                 self.short_more(longs, shorts, issue, 60)
         self.end_day()
 
-    def lead_to_ages(self):
-        """Exchanges on one day or on days in a row, one after another or into one successor, of shorts of several ages."""
+    def exchange_shorts(self, pairs_of):
+        """Shorts of several ages, exchanges by pairs of issues on one day or on days in a row, and a notice after them."""
         members, issues = self.begin(self.rng.randint(4, 6), self.rng.randint(3, 4))
         last, days = issues[-1], self.rng.randint(3, 4)
         begins = self.rng.sample(range(days + 1), len(issues))
@@ -364,9 +364,11 @@ class Stream:
             for issue, begun in zip(issues, begins):
                 if day >= begun:
                     self.short_more(members[:2], members[2:], issue, 40)
+            if self.rng.random() < 0.4:
+                self.add_deliver()
             self.end_day()
-        each_day = self.rng.random() < 0.3
-        for old, to in self.rng.choice([list(zip(issues, issues[1:])), [(it, last) for it in issues[:-1]]]):
+        each_day = self.rng.random() < 0.2
+        for old, to in pairs_of(issues):
             ratio = self.rng.choice([(1, 1), (1, 1), (3, 2), (self.side(), self.side())])
             self.add("EXCHANGE", old, to, *ratio, self.price(), self.price())
             if each_day:
@@ -379,6 +381,12 @@ class Stream:
                 self.add("POSITION", account, last)
         for number in range(1, len(self.book.notices()) + 1):
             self.execute_some(number, self.cents())
+
+    def lead_to_exchanges_in_a_row(self):
+        self.exchange_shorts(lambda issues: zip(issues, issues[1:]))
+
+    def lead_to_exchanges_into_one(self):
+        self.exchange_shorts(lambda issues: [(it, issues[-1]) for it in issues[:-1]])
 
     def lead_to_dates(self):
         """A trade of each date, dividends, closes and statements, where a month or the calendar ends."""
@@ -424,9 +432,11 @@ class Stream:
                 self.rng.choice([self.add_deliver, self.add_receive, self.add_dividend, self.add_price, self.add_split])()
 
 
+# In turn; what some lead to is seldom reached even so, and they come more than once.
 DIRECTED = [
-    Stream.lead_to_executions, Stream.lead_to_ages, Stream.lead_to_dates, Stream.lead_to_executions, Stream.lead_to_ages,
-    Stream.lead_to_ends_of_ranges, Stream.lead_to_executions, Stream.lead_to_many_rows,
+    Stream.lead_to_executions, Stream.lead_to_exchanges_in_a_row, Stream.lead_to_exchanges_into_one, Stream.lead_to_dates,
+    Stream.lead_to_executions, Stream.lead_to_ends_of_ranges, Stream.lead_to_exchanges_in_a_row,
+    Stream.lead_to_exchanges_into_one, Stream.lead_to_executions, Stream.lead_to_many_rows,
 ]
 
 
