@@ -136,7 +136,7 @@ test:
 	    bash tests/run.sh; \
 	    bash tests/trials.sh --apply; \
 	    python3 tests/documents.py $(PROGRAM) $(PAGE); \
-	    $(MAKE) --no-print-directory -o build sample fuzz bench FUZZ="--seeds 1 360 --reach"; \
+	    $(MAKE) --no-print-directory -o build sample fuzz bench FUZZ="--seeds 1 320 --reach"; \
 	    $(MAKE) --no-print-directory help > /dev/null; \
 	    $(MAKE) --no-print-directory check CRATE=cns_prices > /dev/null; \
 	    $(MAKE) --no-print-directory build BUILT="cns_units cns_terms cns_prices"; \
