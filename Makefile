@@ -25,7 +25,7 @@ CRATES :=
 
 CRATE := cnsbook
 
-FUZZ_SECONDS := 600
+FUZZ := --seconds 600
 
 .PHONY: help run try build install uninstall check sample compare test fuzz trials times bench picture
 
@@ -136,7 +136,7 @@ test:
 	    bash tests/run.sh; \
 	    bash tests/trials.sh --apply; \
 	    python3 tests/documents.py $(PROGRAM) $(PAGE); \
-	    $(MAKE) --no-print-directory -o build sample fuzz bench FUZZ_SECONDS=20; \
+	    $(MAKE) --no-print-directory -o build sample fuzz bench FUZZ="--seeds 1 320 --reach"; \
 	    $(MAKE) --no-print-directory help > /dev/null; \
 	    $(MAKE) --no-print-directory check CRATE=cns_prices > /dev/null; \
 	    $(MAKE) --no-print-directory build BUILT="cns_units cns_terms cns_prices"; \
@@ -144,9 +144,9 @@ test:
 	    $(MAKE) --no-print-directory try; \
 	    echo "the gate passed in $$((SECONDS / 60)) minutes; the line 'rt: ok' above says what it took from kept work"
 
-# fuzz: random and mutated streams of records, by the program as it is built and by a recomputation, for ten minutes
+# fuzz: random, directed and mutated streams of records, by the program as it is built and by a recomputation, for ten minutes
 fuzz: build
-	@python3 tests/fuzz.py $(PROGRAM) --seconds $(FUZZ_SECONDS)
+	@python3 tests/fuzz.py $(PROGRAM) $(FUZZ)
 
 # trials: the further edits of each crate that the check must refuse; CRATES="cns_tree cns_feed" tries those of some crates
 trials:

@@ -1,5 +1,6 @@
 #!/usr/bin/env bash
-# Runs the program that writes a day as a page: to each of its statuses, and over each closed day of the samples.
+# Runs the program that writes a day as a page: to each of its statuses, over each closed day of the samples, and over a day
+# whose page is kept.
 #
 # usage: tests/page.sh PROGRAM
 # Prints one line of what failed, and exits with status 1 then.
@@ -71,6 +72,12 @@ for sample in examples/*.csv; do
     done
     "$program" --open 2024-06-03 < "$sample" | cmp -s - "$room/page" || fail "$sample: the last day is another"
 done
+
+# A day before the last, with exchanges and questions that are refused, byte for byte. Where cnspage writes another page by
+# intent, look at each figure before it is kept: those of this one were compared with tests/recompute.py.
+"$program" --open 2024-02-27 --day 2024-02-29 < tests/pages/exchange.csv > "$room/page" || fail "exchange.csv: status $?"
+cmp -s "$room/page" tests/pages/exchange.html || fail "exchange.csv: $(diff "$room/page" tests/pages/exchange.html | head -n 2)"
+pages=$((pages + 1))
 
 # A record is a stranger's bytes.
 printf '<script>"&\n\xff\x1b\nCLOSE,2024-06-04\n' | "$program" --open 2024-06-03 > "$room/page" || fail "bytes: status $?"
