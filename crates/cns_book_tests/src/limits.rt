@@ -51,9 +51,9 @@ fn ask<P: Positions<A>, A: Allocator + Drop + Clone>(
     book: &mut Book<P, A>,
     questions: u32,
 ) {
-    let question = command(rt, alloc, "POSITION,0,037833100\n");
+    let question = &command(rt, alloc, "POSITION,0,037833100\n");
     for _ in 0..questions {
-        take(rt, book, question);
+        take(rt, book, *question);
     }
 }
 

@@ -138,23 +138,6 @@ fn check_steps<P: Positions<Global>>(rt: &(impl Abort + AllocGlobal)) {
 }
 
 #[test]
-fn three_thousand_steps_are_replied_to(rt: HostRuntime) {
-    check_many_steps::<Flat>(&rt);
-    check_many_steps::<Balanced>(&rt);
-}
-
-fn check_many_steps<P: Positions<Global>>(rt: &(impl Abort + AllocGlobal)) {
-    let mut steps = Vec::new(rt.alloc());
-    for account in 1..=3_000 {
-        steps
-            .push(Step::Get(key(rt, account, APPLE)))
-            .expect(rt, "memory");
-    }
-    let found = run::<P, Global>(rt.alloc(), steps.as_slice()).expect(rt, "memory");
-    assert!(rt; found.len() == 3_000);
-}
-
-#[test]
 fn a_booking_stands_is_closed_and_is_rebuilt(rt: HostRuntime) {
     check_booking::<Flat>(&rt);
     check_booking::<Balanced>(&rt);
