@@ -1,6 +1,6 @@
 // Audits of the logs of two workers, as they are and with a command changed.
 use crate::runs::{hundred, run_two};
-use cns_desk::{Log, LogItem, Outcome, audit};
+use cns_desk::{DeskBook, Log, LogItem, Outcome, audit};
 use cns_terms::{Activity, Command, NoGate};
 use std::alloc::Global;
 use std::process::Abort;
@@ -24,6 +24,13 @@ fn copied(rt: &impl Abort, alloc: Global, log: &Log, changed: usize) -> Log {
     copy
 }
 
+// The worker and the place that an audit of these logs finds.
+fn found_by_audit(rt: &impl Abort, book: &DeskBook, logs: &[Log]) -> Option<(u8, usize)> {
+    assert!(rt; logs.len() <= 64);
+    let mismatch = audit(book, logs).err()?;
+    Some((mismatch.worker.value(), mismatch.place))
+}
+
 // The worker and the place that an audit finds where each worker's log is changed at a place.
 fn found(
     rt: &impl Abort,
@@ -36,9 +43,7 @@ fn found(
         logs.push(copied(rt, alloc, log, *place))
             .expect(rt, "memory");
     }
-    assert!(rt; logs.len() <= 64);
-    let mismatch = audit(&outcome.book, logs.as_slice()).err()?;
-    Some((mismatch.worker.value(), mismatch.place))
+    found_by_audit(rt, &outcome.book, logs.as_slice())
 }
 
 // Where the logs of two workers with fifty items each are changed, 0 for nowhere, and what an audit finds.

@@ -128,7 +128,7 @@ impl Gate for Tally {
 }
 
 // The length of the history.
-fn entries(outcome: &Outcome) -> usize {
+pub(crate) fn entries(outcome: &Outcome) -> usize {
     outcome.book.history_len()
 }
 

@@ -1,5 +1,5 @@
 // Runs of many workers, held against one caller who takes the same commands in the same order.
-use crate::gates::Meeting;
+use crate::gates::{Meeting, entries};
 use crate::inputs::ending;
 use crate::lots::{Lot, closing};
 use crate::runs::run;
@@ -111,15 +111,19 @@ fn counts(outcome: &Outcome) -> (usize, usize) {
     (taken, lines)
 }
 
+fn history_of(rt: &impl Abort, outcome: &Outcome) -> Vec<Taken> {
+    outcome.book.copy_history().expect(rt, "memory")
+}
+
 // Checks that each worker came to the end of its records, that nothing else was taken, and the history.
 fn check_outcome<A: Abort>(rt: &A, alloc: Global, outcome: &Outcome, size: Size) {
     let (taken, lines) = counts(outcome);
-    assert!(rt; outcome.book.history_len() == taken);
+    assert!(rt; entries(outcome) == taken);
     assert!(rt; taken.saturating_add(lines) == size.records());
     for end in outcome.ends.as_slice() {
         assert!(rt; *end == End::Complete);
     }
-    let history = outcome.book.copy_history().expect(rt, "memory");
+    let history = history_of(rt, outcome);
     assert!(rt; is_one_callers(rt, alloc, history.as_slice()));
 }
 

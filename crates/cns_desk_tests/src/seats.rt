@@ -32,6 +32,16 @@ const LATER_REPLIES: &str = "ok\nok\nclosed 2 2024-06-04 2 0\n";
 const STATEMENT: &str = "statement 101 2024-06-03 1 100.00 0.00\n\
 row 037833100 0 100 0.00 196.00 -19500.00 100.00 0.00\n";
 
+// What a command is answered under the seat.
+fn take_one<L: Ledger>(
+    rt: &impl Abort,
+    kept: &mut Kept<L, Tree>,
+    seat: &mut Seat<L>,
+    command: Command,
+) -> Reply {
+    kept.take(seat, command).expect(rt, "taken").reply
+}
+
 // Gives the commands of a day under the seat, and tells what they are answered.
 fn take_day<L: Ledger>(
     rt: &impl Abort,
@@ -41,8 +51,8 @@ fn take_day<L: Ledger>(
 ) -> Vec<u8> {
     let mut text = Vec::new(alloc);
     for command in commands(rt, alloc, DAY) {
-        let receipt = kept.take(seat, command).expect(rt, "taken");
-        tell(rt, &mut text, &receipt.reply);
+        let reply = take_one(rt, kept, seat, command);
+        tell(rt, &mut text, &reply);
     }
     text
 }
@@ -73,6 +83,16 @@ fn a_seat_takes_a_day_of_commands(rt: HostRuntime) {
     check_kept::<HostRuntime, Brand>(&rt, rt.alloc(), Blank::new(1));
 }
 
+// What a command is answered at the desk.
+fn submit_one<R: Abort + Wait, L: Ledger>(
+    rt: &R,
+    desk: &TreeDesk<L>,
+    seat: &mut Seat<L>,
+    command: Command,
+) -> Reply {
+    desk.submit(rt, seat, command).expect(rt, "taken").reply
+}
+
 // Submits the commands of the records under a seat, which get these replies.
 fn submit<R: Abort + Wait, L: Ledger>(
     rt: &R,
@@ -84,8 +104,8 @@ fn submit<R: Abort + Wait, L: Ledger>(
 ) {
     let mut text = Vec::new(alloc);
     for command in commands(rt, alloc, records) {
-        let receipt = desk.submit(rt, seat, command).expect(rt, "taken");
-        tell(rt, &mut text, &receipt.reply);
+        let reply = submit_one(rt, desk, seat, command);
+        tell(rt, &mut text, &reply);
     }
     assert!(rt; text.as_slice() == replies.as_bytes(), "{records}");
 }
