@@ -156,6 +156,8 @@ def notices():
     it.position(6_000, OTHER, 0, -10, 2)
     it.close(3, 9_001)
     it.ask("WITHDRAW,1", "refused 15")
+    it.accept(f"SPLIT,{ISSUE},2,1,0")
+    it.position(1, ISSUE, 20, 10)
     return it
 
 
