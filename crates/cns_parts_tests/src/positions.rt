@@ -4,7 +4,7 @@
 ghost use Rattle.std.specs.Prelude.{◌≡◌, ◌<◌, ◌≤◌, length};
 ghost use Rattle.cns_positions.specs.Rows.{IsThere};
 
-use crate::values::{APPLE, CISCO, MICROSOFT, key};
+use crate::values::{APPLE, key};
 use cns_positions::{FlatPositions, NextRows, Positions, Step, TreePositions, run};
 use cns_terms::{Holding, Key};
 use std::alloc::Global;

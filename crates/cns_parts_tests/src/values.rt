@@ -1,20 +1,14 @@
 // What tests of several crates share: issues, and values by their numbers.
 use cns_terms::Key;
-use cns_units::{Account, Cusip, Day, Member, Money, Price, Ratio, Shares};
+use cns_units::{Account, Cusip, Day};
 use std::process::Abort;
 
 pub(crate) const APPLE: &[u8] = b"037833100";
 
 pub(crate) const CISCO: &[u8] = b"17275R102";
 
-pub(crate) const MICROSOFT: &[u8] = b"594918104";
-
 pub(crate) fn account(rt: &impl Abort, number: u16) -> Account {
     Account::new(number).expect(rt, "an account")
-}
-
-pub(crate) fn member(rt: &impl Abort, number: u16) -> Member {
-    Member::new(number).expect(rt, "a member")
 }
 
 pub(crate) fn cusip(rt: &impl Abort, text: &[u8]) -> Cusip {
@@ -30,22 +24,6 @@ pub(crate) fn key(rt: &impl Abort, number: u16, issue: &[u8]) -> Key {
 
 pub(crate) fn day(rt: &impl Abort, text: &[u8]) -> Day {
     Day::parse(text).expect(rt, "a day")
-}
-
-pub(crate) fn shares(rt: &impl Abort, count: u64) -> Shares {
-    Shares::new(count).expect(rt, "shares")
-}
-
-pub(crate) fn money(rt: &impl Abort, cents: u64) -> Money {
-    Money::new(cents).expect(rt, "money")
-}
-
-pub(crate) fn price(rt: &impl Abort, cents: u64) -> Price {
-    Price::new(cents).expect(rt, "a price")
-}
-
-pub(crate) fn ratio(rt: &impl Abort, new: u16, old: u16) -> Ratio {
-    Ratio::new(new, old).expect(rt, "a ratio")
 }
 
 // The issue whose CUSIP is a number of three digits behind `037833`, with the check digit that is taken.
