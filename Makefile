@@ -123,7 +123,8 @@ compare:
 # What `build` proves and `times` runs is the gate itself, so the first is run for three crates alone, and the second is not.
 # A command that builds takes the programs that the gate left.
 test:
-	@python3 tests/times.py env RT_JOBS="$$(nproc)" rt ci; \
+	@python3 tests/lemmas.py; \
+	    python3 tests/times.py env RT_JOBS="$$(nproc)" rt ci; \
 	    bash tests/pipe.sh $(PROGRAM); \
 	    bash tests/status.sh $(PROGRAM); \
 	    bash tests/refused.sh $(PROGRAM) $(DRIVER); \

@@ -6,15 +6,13 @@ pub use Rattle.cns_terms.specs.declared.holding.Entry.{Entry}
 pub use Rattle.cns_terms.specs.declared.holding.Holding.{Holding}
 pub use Rattle.cns_terms.specs.declared.holding.Key.{Key}
 pub use Rattle.cns_terms.specs.declared.pend.Pend.{Pend}
-pub use Rattle.cns_positions.specs.Rows.{Rows, books, held_above, holding_at, rolled, zeros}
+pub use Rattle.cns_positions.specs.Rows.{Rows, books, has_row, held_above, holding_at, rolled, with_age, zeros}
 pub use Rattle.cns_positions.proofs.Unheld.{held_same, held_sorted}
 pub use Rattle.cns_actions.specs.Booked.{CanBeBooked, IsForAnother, entries_of, issue_of, position_at, positions_in}
 pub use Rattle.cns_actions.specs.Changes.{IsFew, age_for, all_bookings, bookings_for, change_of, has_position, has_position_or_age, holder_of, holders_in, in_issue_order, is_holder, member_bookings, opposite, with_position}
 pub use Rattle.cns_actions.specs.DueAmounts.{IsSmallAmount, amount_at, amount_of, as_booking, due_entries, with_amount, with_entry}
 pub use Rattle.cns_actions.specs.Holding.{holders_after}
-pub use Rattle.cns_actions.specs.Merging.{AreSmall, HasSpace, IsMerged, carried_to, entries_in, makes}
-pub use Rattle.cns_actions.specs.Turns.{turned_rows}
-pub use Rattle.cns_actions.specs.Walks.{IsTaken, starts_before, with_ahead}
+pub use Rattle.cns_actions.specs.Bookings.{AreEntered, AreSmall, HasSpace, carried_to, entries_in, made, makes}
 pub use Rattle.cns_actions.specs.declared.action.Action.{Action}
 pub use Rattle.cns_actions.specs.declared.booking.Booking.{Booking}
 pub use Rattle.cns_actions.specs.declared.change.Change.{Change}

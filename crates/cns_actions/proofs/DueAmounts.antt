@@ -5,9 +5,9 @@ use Rattle.std.specs.BTreeMap.{is_at}
 use Rattle.std.specs.FinMap.{find}
 use Rattle.std.proofs.lemmas.List.{drop_more}
 use Rattle.cns_terms.specs.Pending.{is_due}
-use Rattle.cns_actions.specs.Merging.{by_key, key_of}
+use Rattle.cns_actions.specs.Bookings.{by_key, key_of}
 use Rattle.cns_actions.specs.DueAmounts.{AmountsByKey, HasRoomForTrade, IsOneTradeMore, amount_for, no_amount}
-use Rattle.cns_actions.proofs.Merges.{is_at_key, makes_first, makes_other}
+use Rattle.cns_actions.proofs.Making.{is_at_key, makes_first, makes_other}
 
 -- ---- what is booked at a key
 

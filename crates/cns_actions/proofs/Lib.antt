@@ -2,8 +2,7 @@ pub mod Members
 pub mod Reachable
 pub mod Walking
 pub mod Registers
-pub mod Merges
-pub mod Turning
+pub mod Making
 pub mod DueAmounts
 pub mod Holders
 pub mod Skipping

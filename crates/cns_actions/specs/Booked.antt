@@ -1,8 +1,7 @@
 -- What entries make of positions.
-use Rattle.std.specs.Prelude.{◌≡◌, ◌≤◌, ℕ, max, ℤ, Bool, false, List, unsigned_abs, if◌then◌else◌}
+use Rattle.std.specs.Prelude.{◌≡◌, ◌≤◌, ℕ, ℤ, Bool, false, List, unsigned_abs, if◌then◌else◌}
 use Rattle.cns_terms.specs.Common.{Account, Cusip, Member, amount_limit, corporation, corporation_limit, oldest_of, position_limit, same_issue, waits_in}
 use Rattle.cns_terms.specs.declared.holding.Entry.{Entry}
-use Rattle.cns_terms.specs.declared.holding.Holding.{Holding}
 use Rattle.cns_terms.specs.declared.holding.Key.{Key}
 use Rattle.cns_terms.specs.Entries.{exchange_entries, split_entries}
 use Rattle.cns_terms.specs.declared.pend.Pend.{Pend}
@@ -43,10 +42,6 @@ abbrev pub age_brought : Rows → Action → Key → ℕ
 age_brought rows (action.Split s) k = 0
 age_brought rows (action.Exchange x) k =
     if same_issue x.successor k.issue then oldest_of (holding_at rows (record { account = k.account; issue = x.old })) else 0
-
--- what stands at a key, with an age that is brought there
-abbrev pub with_age : ℕ → Holding → Holding
-with_age n h = record h { carried = max h.carried n }
 
 -- positions on which a split or an exchange can be booked: none is beyond its limit, and no cents are
 pub record CanBeBooked (rows : Rows) : Type 0 where

@@ -11,7 +11,7 @@ use Rattle.cns_actions.specs.declared.booking.Booking.{Booking}
 use Rattle.cns_actions.specs.declared.change.Change.{Change}
 use Rattle.cns_actions.specs.declared.holder.Holder.{Holder}
 use Rattle.cns_actions.specs.Booked.{issue_of, position_at}
-use Rattle.cns_actions.specs.Merging.{booking}
+use Rattle.cns_actions.specs.Bookings.{booking}
 use Rattle.cns_actions.specs.declared.action.Action.TheVariants as action
 
 -- whether a position stands there

@@ -8,7 +8,7 @@ use Rattle.cns_terms.specs.declared.pend.Pend.{Pend}
 use Rattle.cns_terms.specs.Pending.{is_due}
 use Rattle.cns_actions.specs.declared.booking.Booking.{Booking}
 use Rattle.cns_actions.specs.declared.due_amounts.Amount.{Amount}
-use Rattle.cns_actions.specs.Merging.{booking}
+use Rattle.cns_actions.specs.Bookings.{booking}
 
 -- what is booked at each key, in the order of keys
 abbrev pub AmountsByKey : Type 0

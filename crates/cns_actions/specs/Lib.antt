@@ -1,7 +1,5 @@
 pub mod Booked
-pub mod Turns
-pub mod Walks
-pub mod Merging
+pub mod Bookings
 pub mod Changes
 pub mod Holding
 pub mod DueAmounts

@@ -1,6 +1,6 @@
 // What is booked at a key.
 ghost use Rattle.std.specs.Prelude.{◌≡◌};
-ghost use Rattle.cns_actions.specs.Merging.{booking, key_of};
+ghost use Rattle.cns_actions.specs.Bookings.{booking, key_of};
 
 use cns_terms::{Entry, Key};
 

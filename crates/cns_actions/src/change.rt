@@ -3,7 +3,7 @@ ghost use Rattle.std.specs.Prelude.{◌≡◌, ◌≤◌, ◌+ℤ◌, ◌-ℤ◌
 ghost use Rattle.cns_terms.specs.Entries.{entry};
 ghost use Rattle.cns_terms.specs.Limits.{member_limit, position_limit};
 ghost use Rattle.cns_actions.specs.Changes.{IsFew, age_for, bookings_for, change_of, in_issue_order, opposite};
-ghost use Rattle.cns_actions.specs.Merging.{booking};
+ghost use Rattle.cns_actions.specs.Bookings.{booking};
 
 use crate::action::Action;
 use crate::booking::Booking;
@@ -86,10 +86,8 @@ fn extend<A: Allocator + Drop>(
 ) -> Result<(), NoMemory>
     ensures { OnOk result (bookings.new.items ≡ bookings.old.items ++ more.now) }
 {
-    match bookings.extend_from_slice(more) {
-        Ok(()) => Ok(()),
-        Err(_) => Err(NoMemory),
-    }
+    bookings.extend_from_slice(more)?;
+    Ok(())
 }
 
 // Two bookings of an account, in the order of their issues.

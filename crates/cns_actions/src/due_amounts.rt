@@ -2,7 +2,7 @@
 ghost use Rattle.std.specs.Prelude.{◌≡◌, ◌≤◌, ◌^◌, [], length, map, IfOk, OnOk};
 ghost use Rattle.cns_terms.specs.declared.holding.Key.{Key};
 ghost use Rattle.cns_terms.specs.Entries.{trade_entries};
-ghost use Rattle.cns_actions.specs.Merging.{IsSmall, key_of};
+ghost use Rattle.cns_actions.specs.Bookings.{IsSmall, key_of};
 ghost use Rattle.cns_actions.specs.DueAmounts.{AreAmounts, IsSmallAmount, HasRoomForTrade, IsOneTradeMore, amount_at, amount_for, due_entries, as_booking, with_entry, amount_of, with_amount};
 
 use crate::booking::{Booking, key_of};
@@ -111,9 +111,7 @@ impl<A: Allocator + Drop + Clone> DueAmounts<A> {
     {
         let key = key_of(entry);
         let had = self.amounts.get(&key).copied().unwrap_or(Amount::NONE);
-        let Ok(_) = self.amounts.insert(key, had.with(entry)) else {
-            return Err(NoMemory);
-        };
+        self.amounts.insert(key, had.with(entry))?;
         Ok(())
     }
 
@@ -125,9 +123,7 @@ impl<A: Allocator + Drop + Clone> DueAmounts<A> {
         let mut bookings = Vec::new(alloc);
         let mut rest = self.amounts.iter();
         while let Some((key, amount)) = rest.next() {
-            let Ok(()) = bookings.push(amount.booking(key)) else {
-                return Err(NoMemory);
-            };
+            bookings.push(amount.booking(key))?;
         }
         Ok(bookings)
     }

@@ -1,4 +1,5 @@
 // Faults of splits and exchanges.
+use cns_terms::NoMemory;
 use thiserror::Error;
 
 /// Why no positions were made. Those that were given have not changed.
@@ -14,4 +15,15 @@ pub enum ActionFault {
     /// A growth was refused.
     #[error("out of memory")]
     NoMemory,
+}
+
+impl From<NoMemory> for ActionFault {
+    ghost use Rattle.std.specs.Prelude.{◌≡◌};
+    ghost use Rattle.cns_actions.specs.declared.fault.ActionFault.TheVariants as fault;
+
+    ghost from_gives = { λ _ e. e ≡ fault.NoMemory };
+
+    fn from(_missed: NoMemory) -> ActionFault {
+        ActionFault::NoMemory
+    }
 }

@@ -1,34 +1,33 @@
-//! Splits, exchanges and openings: what shares become, and the positions after one.
+//! Splits, exchanges and openings: what shares become, and what is booked for it.
 //!
 //! `split_of` and `exchange_of` say what one position becomes, with the cents that are paid for what the cut to whole
-//! shares leaves. `next_positions` books a split or an exchange for every member that holds the issue, and the opposite
-//! of the sums for the corporation, beside the positions that it was given: they never change. It finds the members
-//! account by account (`holder.rt`), makes what is booked (`change.rt`), an entry and the age that an exchange brings
-//! (`booking.rt`), and merges that with the rows in the order of keys into new rows (`merging.rt`, which knows nothing
-//! of splits and exchanges).
+//! shares leaves. `bookings_for` makes what a split or an exchange books, for every member that holds the issue, and the
+//! opposite of the sums for the corporation: it finds the members account by account (`holder.rt`), and makes for each
+//! (`change.rt`) an entry and the age that an exchange brings (`booking.rt`). `bookings_due` makes what the trades book
+//! whose date has come with a close, added up by key (`due_amounts.rt`). Both give `Bookings`, which are then made in
+//! positions: `enter` finds the rows, and `book` only writes. `next_positions` and `opened` make them in a copy, beside
+//! the positions that they were given.
 //!
-//! `opened` books the trades whose date has come with a close, in the same way: it adds up what they book by key
-//! (`due_amounts.rt`), and merges that with the rows, which the close rolls as they are read (`turn.rt`).
-//!
-//! The crate knows positions by their trait alone. Start with `next_positions`.
+//! The crate knows positions by their trait alone. Start with `Bookings`.
 #![tactic(auto)]
 
+mod acting;
 mod action;
+mod beside;
 mod booking;
+mod bookings;
 mod change;
 mod conversion;
 mod due_amounts;
+mod due_bookings;
 mod fault;
 mod holder;
-mod merging;
-mod next;
-mod opening;
-mod turn;
-mod walk;
 
+pub use acting::bookings_for;
 pub use action::Action;
+pub use beside::{next_positions, opened};
+pub use bookings::Bookings;
 pub use cns_terms::{Exchange, Split};
 pub use conversion::{exchange_of, split_of};
+pub use due_bookings::bookings_due;
 pub use fault::ActionFault;
-pub use next::next_positions;
-pub use opening::opened;

@@ -1,13 +1,14 @@
 -- Splits and exchanges.
 -- For `split` and `exchange` of parts/actions.rt, clause step.
 use Rattle.std.proofs.Common.{◌≡◌, ◌∙◌, sym, ap, subst, refl, ℕ, max, ◌*◌, ◌≤◌, ℤ, ◌+ℤ◌, Bool, true, false, ◌&&◌, ◌||◌, ◌==◌, cond, List, ◌∷◌, map, reverse, Option, Some, None, arith, bytes_eq, nat_lt, is_none, is_some, IfOk, IsSome, Result, Ok, Err}
-use Rattle.cns_book.proofs.Common.{Account, Activity, AllByRecursion, AreHolders, Contents, Cusip, Entry, Follows, FollowsNotices, FollowsRows, HasRoom, Holding, IsInRange, IsLimited, IsReached, Key, Listed, Pend, Rows, Rule, account_lt, activity_of, age_brought, all_fail, amount_limit, and_right, booking_limit, books, bought_in, changed_each, corporation, each_both, each_in_order, entries, entries_of, first_refusal, history_limit, holding, holding_at, is_beyond, is_held_up, is_too_large, is_too_large_at, issue_of, journal, limited, list_any, member_limit, members, members_from_one, nat_tests, oldest, oldest_of, pending, position_limit, positions_in, posting, price_in, refusal, retired_in, same_issue, shares_for, sold_in, total, waits_in, with_age}
+use Rattle.cns_book.proofs.Common.{Account, Activity, AllByRecursion, AreHolders, Contents, Cusip, Entry, Follows, FollowsNotices, FollowsRows, HasRoom, Holding, IsInRange, IsLimited, IsReached, Key, Listed, Pend, Rows, Rule, account_lt, activity_of, age_brought, all_fail, amount_limit, and_right, booking_limit, books, bought_in, changed_each, corporation, each_both, each_in_order, entries, entries_of, first_refusal, history_limit, holding, holding_at, is_beyond, is_held_up, is_listed, is_retired, is_too_large, is_too_large_at, issue_of, issue_rules, journal, limited, list_any, member_limit, members, members_from_one, nat_tests, oldest, oldest_of, pending, position_limit, positions_in, posting, price_in, refusal, retired_in, same_issue, shares_for, sold_in, total, waits_in, with_age}
 use Rattle.std.proofs.Math.Nat.{max-zero}
 use Rattle.cns_terms.specs.declared.action.Exchange.{Exchange}
 use Rattle.cns_terms.specs.declared.action.Split.{Split}
 use Rattle.cns_terms.specs.Entries.{exchange_entries, split_entries}
 use Rattle.cns_terms.specs.Positions.{position}
-use Rattle.cns_terms.specs.Refusals.{are_too_large}
+use Rattle.cns_terms.specs.declared.refusal.Refusal.{Refusal}
+use Rattle.cns_terms.specs.Refusals.{are_too_large, rules}
 use Rattle.cns_terms.proofs.CarriedAges.{carried_on}
 use Rattle.cns_terms.proofs.Elsewhere.{no_account_elsewhere, no_position}
 use Rattle.cns_terms.specs.declared.command.Activity.TheVariants as activity
@@ -17,6 +18,8 @@ use Rattle.cns_notices.proofs.Noticing.{ended_by}
 use Rattle.cns_actions.specs.Booked.{CanBeBooked, position_at, waits_for}
 use Rattle.cns_actions.specs.declared.action.Action.{Action}
 use Rattle.cns_actions.proofs.Members.{rising_distinct}
+use Rattle.cns_book.specs.Effects.{exchange_rules}
+use Rattle.cns_book.proofs.MachineSteps.{no_refusal}
 use Rattle.cns_book.proofs.PendingSteps.{bought-reverse, sold-reverse, waits-reverse}
 use Rattle.cns_book.proofs.PartsStaying.{batches_stay, clock_stays, dividends_stay, sheets_stay}
 use Rattle.cns_book.proofs.PartsWithin.{member_within, rows_within}
@@ -121,6 +124,22 @@ ok_weaker (Err e) P Q h p = p
 -- of rules that refuse nothing, none holds
 pub none_fails : (rs : List Rule) → first_refusal rs ≡ None → AllByRecursion (λ r. r.1 ≡ false) rs
 none_fails rs e = all_fail rs (ap is_none e)
+
+-- a split is not refused where its issue's rules don't refuse it and it is not too large
+pub split_unrefused : (L : List Activity) (s : Contents) (x : Split) (r : Option Refusal) → r ≡ first_refusal (issue_rules (is_listed (journal s.opening L) x.issue) (is_retired (journal s.opening L) x.issue)) → r ≡ None → (is_too_large s.opening (journal s.opening L) (activity.Split x) ≡ true → ⊥) → refusal s.opening (journal s.opening L) (command.Activity (activity.Split x)) ≡ None
+split_unrefused L s x r said is size =
+    let J = journal s.opening L in
+    let fails = none_fails (issue_rules (is_listed J x.issue) (is_retired J x.issue)) (sym said ∙ is) in
+    no_refusal (rules s.opening J (activity.Split x)) (fails.0, (fails.1.0, (not_true _ size, tt)))
+
+-- and so an exchange, where no trades hold it up
+pub exchange_unrefused : (L : List Activity) (s : Contents) (x : Exchange) (r : Option Refusal) → r ≡ first_refusal (exchange_rules (journal s.opening L) x) → r ≡ None → (is_too_large s.opening (journal s.opening L) (activity.Exchange x) ≡ true → ⊥) → ((is_too_large s.opening (journal s.opening L) (activity.Exchange x) ≡ false) × (is_held_up s.opening (journal s.opening L) (action.Exchange x) ≡ true) → ⊥) → refusal s.opening (journal s.opening L) (command.Activity (activity.Exchange x)) ≡ None
+exchange_unrefused L s x r said is size waits =
+    let J = journal s.opening L in
+    let fails = none_fails (exchange_rules J x) (sym said ∙ is) in
+    let small = not_true (is_too_large s.opening J (activity.Exchange x)) size in
+    let held = not_true (is_held_up s.opening J (action.Exchange x)) (λ b. waits (small, b)) in
+    no_refusal (rules s.opening J (activity.Exchange x)) (fails.0, (fails.1.0, (fails.1.1.0, (small, (held, tt)))))
 
 -- a listed issue has a price
 pub price_there : (b : Bool) (p : ℕ) (o : Option ℕ) → o ≡ cond b (Some p) None → b ≡ true → IsSome o

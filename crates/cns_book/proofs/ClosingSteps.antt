@@ -6,6 +6,9 @@ use Rattle.cns_terms.specs.Pending.{due, is_due, trades as trades_of}
 use Rattle.cns_terms.specs.Positions.{position}
 use Rattle.cns_terms.specs.Refusals.{rules}
 use Rattle.cns_terms.proofs.CarriedAges.{oldest_le}
+use Rattle.cns_terms.specs.declared.holding.Holding.{Holding}
+use Rattle.cns_actions.specs.declared.booking.Booking.{Booking}
+use Rattle.cns_actions.specs.Bookings.{makes}
 use Rattle.cns_notices.specs.Noticed.{expired}
 use Rattle.cns_notices.proofs.Noticing.{expired_by}
 use Rattle.cns_trades.specs.Used.{is_used}
@@ -82,13 +85,13 @@ day_closed L s d trades rows sheet chosen f few none used left h is liable =
       batches = (λ i. f.batches i ++ liable i ∷ []) ∙ sym (batches_more s.opening J d);
     }
 
--- the rows with which a day opens, be they made anew or rolled in place
-pub opened_rows : {P : Type 0} (R : P → Rows) (o : Option P) (ps : List Pend) (old new : Rows)
-    → MatchOption o (ps ≡ []) (λ p. (k : Key) → holding_at (R p) k ≡ books (flat_map trade_entries ps) k (rolled (holding_at old k)))
-    → (o ≡ None → (k : Key) → holding_at new k ≡ rolled (holding_at old k)) → IfSome o (λ p. new ≡ R p)
+-- the rows with which a day opens: rolled, and with what is due booked, if anything is
+pub opened_rows : (o : Option (List Booking)) (ps : List Pend) (old new : Rows)
+    → MatchOption o (ps ≡ []) (λ b. (k : Key) (h : Holding) → makes b k h ≡ books (flat_map trade_entries ps) k h)
+    → (o ≡ None → (k : Key) → holding_at new k ≡ rolled (holding_at old k)) → IfSome o (λ b. (k : Key) → holding_at new k ≡ makes b k (rolled (holding_at old k)))
     → (k : Key) → holding_at new k ≡ books (flat_map trade_entries ps) k (rolled (holding_at old k))
-opened_rows R None ps old new none roll taken k = roll refl k ∙ sym (ap (λ qs. books (flat_map trade_entries qs) k (rolled (holding_at old k))) none ∙ books_none k (rolled (holding_at old k)))
-opened_rows R (Some p) ps old new made roll taken k = ap (λ rs. holding_at rs k) taken ∙ made k
+opened_rows None ps old new none roll book k = roll refl k ∙ sym (ap (λ qs. books (flat_map trade_entries qs) k (rolled (holding_at old k))) none ∙ books_none k (rolled (holding_at old k)))
+opened_rows (Some b) ps old new made roll book k = book k ∙ made k (rolled (holding_at old k))
 
 -- a comparison in the words of the definitions
 pub le_test : (a b : ℤ) → is_le (int_cmp a b) ≡ int_le a b

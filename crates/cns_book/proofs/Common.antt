@@ -19,7 +19,7 @@ pub use Rattle.cns_terms.specs.declared.refusal.Refusal.{Refusal}
 pub use Rattle.cns_terms.specs.declared.refusal.Refusal.TheVariants.{AlreadyNoticed, ExceedsPosition, NoSuchIssue, NoSuchMember, NoSuchNotice, NotLive, NotLong, Retired, WrongDay}
 pub use Rattle.cns_terms.specs.declared.reply.Reply.{Reply}
 pub use Rattle.cns_terms.specs.declared.sheet.Row.{Row}
-pub use Rattle.cns_positions.specs.Rows.{Rows, books, holding_at, rolled}
+pub use Rattle.cns_positions.specs.Rows.{Rows, books, holding_at, rolled, with_age}
 pub use Rattle.cns_notices.specs.Kept.{kept_notices, received_live}
 pub use Rattle.cns_notices.specs.Noticed.{live_number, with_notice}
 pub use Rattle.cns_notices.specs.declared.noticed.Noticed.{Noticed}
@@ -30,7 +30,7 @@ pub use Rattle.cns_retransmit.specs.Days.{batch_in, batch_on, batches_on, charge
 pub use Rattle.cns_prices.specs.Listed.{Listed, price_in, retired_in}
 pub use Rattle.cns_trades.specs.Checks.{AreSmallEntries, IsSmallEntry, delivery_rules, issue_rules, receipt_rules, trade_rules}
 pub use Rattle.cns_trades.specs.Used.{Traded}
-pub use Rattle.cns_actions.specs.Booked.{age_brought, entries_of, issue_of, positions_in, with_age}
+pub use Rattle.cns_actions.specs.Booked.{age_brought, entries_of, issue_of, positions_in}
 pub use Rattle.cns_sheets.specs.Build.{prices_of}
 pub use Rattle.cns_sheets.specs.Condition.{CanBePaid, IsReady}
 pub use Rattle.cns_sheets.specs.Payments.{IsCut, Paying, closing_at, dividend_of, said}

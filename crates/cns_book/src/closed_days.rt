@@ -172,12 +172,8 @@ impl<A: Allocator + Drop + Clone> ClosedDays<A> {
         ensures ok { OnOk result (self.new ≡ sheet ∷ self.old) }
         ensures err { OnErr result (self.new ≡ self.old) }
     {
-        let Ok(shared) = Arc::new(self.alloc.clone()?, sheet) else {
-            return Err(NoMemory);
-        };
-        let Ok(()) = self.sheets.push(shared) else {
-            return Err(NoMemory);
-        };
+        let shared = Arc::new(self.alloc.clone()?, sheet)?;
+        self.sheets.push(shared)?;
         Ok(())
     }
 }

@@ -50,9 +50,7 @@ impl<A: Allocator + Drop> Members<A> {
     {
         let place = account.value() as usize;
         if self.marks.len() <= place {
-            let Ok(()) = self.marks.resize(place + 1, false) else {
-                return Err(NoMemory);
-            };
+            self.marks.resize(place + 1, false)?;
         }
         self.marks[place] = true;
         Ok(())

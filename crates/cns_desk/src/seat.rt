@@ -74,9 +74,7 @@ pub(crate) fn seats_of<L: Ledger>(
             count: 0,
             share: rest.split_off(1, 0),
         };
-        let Ok(()) = seats.push(seat) else {
-            return Err(NoMemory);
-        };
+        seats.push(seat)?;
     }
     Ok(seats)
 }

@@ -70,9 +70,7 @@ impl<A: Allocator + Drop> Dividends<A> {
             payable,
             rate,
         };
-        let Ok(_) = self.placed.insert(place, declared) else {
-            return Err(NoMemory);
-        };
+        self.placed.insert(place, declared)?;
         Ok(())
     }
 

@@ -241,12 +241,13 @@ fn statement_of(row: &ByteRecord) -> Result<Command, LineFault>
     Ok(Command::Statement { account, date })
 }
 
-// The command of a record that is no trade, or its first fault. It stands apart, so that the code for trades, which most
+// The command of a record of a rarer kind, or its first fault. It stands apart, so that the code for trades, which most
 // records are, stays small.
 #[inline(never)]
 #[tactic(auto, unfolding(crate::specs::Line::line_of))]
 fn other_of(row: &ByteRecord) -> Result<Command, LineFault>
-    requires { bytes_eq (field (fields_of row.now) 0) (codes "TRADE") ≡ false }
+    requires trade { bytes_eq (field (fields_of row.now) 0) (codes "TRADE") ≡ false }
+    requires position { bytes_eq (field (fields_of row.now) 0) (codes "POSITION") ≡ false }
     ensures { result ≡ line_of (fields_of row.now) }
 {
     let kind = field(row, 0);
@@ -274,8 +275,6 @@ fn other_of(row: &ByteRecord) -> Result<Command, LineFault>
         execute_of(row)
     } else if kind == b"CLOSE".as_slice() {
         close_of(row)
-    } else if kind == b"POSITION".as_slice() {
-        position_of(row)
     } else if kind == b"STATEMENT".as_slice() {
         statement_of(row)
     } else {
@@ -289,8 +288,11 @@ fn other_of(row: &ByteRecord) -> Result<Command, LineFault>
 pub fn command_of(row: &ByteRecord) -> Result<Command, LineFault>
     ensures { result ≡ line_of (fields_of row.now) }
 {
-    if field(row, 0) == b"TRADE".as_slice() {
+    let kind = field(row, 0);
+    if kind == b"TRADE".as_slice() {
         trade_of(row)
+    } else if kind == b"POSITION".as_slice() {
+        position_of(row)
     } else {
         other_of(row)
     }

@@ -1,8 +1,9 @@
 // How many records are read: fewer than the most that may be, and as many as an input has, however long it is.
 use crate::faults::first_day;
+use crate::sources::next;
 use cns_feed::{CsvSource, ReplayFault, Summary, load, load_up_to, replay, replay_up_to};
 use cns_positions::TreePositions;
-use cns_terms::{Item, Source, SourceFault};
+use cns_terms::{Item, SourceFault};
 use std::alloc::Global;
 use std::test::Fail;
 
@@ -30,9 +31,9 @@ fn records(alloc: Global, count: u32, is_ended: bool) -> Result<Vec<u8>, Fail> {
 fn drained(alloc: Global, input: &[u8], most: u32) -> Option<(u32, Result<Item, SourceFault>)> {
     let mut source = CsvSource::up_to(alloc, input, most);
     for given in 0..=most {
-        let answer = source.next();
+        let answer = next(&mut source);
         if !matches!(answer, Ok(Item::Given(_))) {
-            return (source.next() == answer).then_some((given, answer));
+            return (next(&mut source) == answer).then_some((given, answer));
         }
     }
     None
@@ -66,6 +67,11 @@ fn replayed(
     Ok((fault, output))
 }
 
+// The fault of a load of at most so many records, if it ends with one.
+fn fault_of_load(alloc: Global, input: &[u8], most: u32) -> Result<Option<ReplayFault>, Fail> {
+    Ok(load_up_to::<Tree, &[u8]>(alloc, input, first_day()?, most).err())
+}
+
 // Whether an input of so many records is read up to the limit by a replay, a load and a source.
 fn ends_at_limit(alloc: Global, input: &[u8], count: u32, most: u32) -> Result<bool, Fail> {
     let read = count.min(most);
@@ -76,7 +82,7 @@ fn ends_at_limit(alloc: Global, input: &[u8], count: u32, most: u32) -> Result<b
     };
     let (replayed, output) = replayed(alloc, input, most)?;
     let replies = times(alloc, "refused 14\n", read)?;
-    let loaded = load_up_to::<Tree, &[u8]>(alloc, input, first_day()?, most).err();
+    let loaded = fault_of_load(alloc, input, most)?;
     let is_replayed = replayed == fault && output.as_slice() == replies.as_slice();
     Ok(is_replayed && loaded == fault && drained(alloc, input, most) == Some((read, end)))
 }
@@ -95,6 +101,20 @@ fn an_input_is_read_whole_where_it_has_fewer_records_than_may_be_read(
     Ok(())
 }
 
+// The counts of a replay, if it ends without a fault.
+fn counts_of_replay(
+    alloc: Global,
+    input: &[u8],
+    output: &mut Vec<u8>,
+) -> Result<Option<Summary>, Fail> {
+    Ok(replay(alloc, input, output, first_day()?).ok())
+}
+
+// The same of a load.
+fn counts_of_load(alloc: Global, input: &[u8]) -> Result<Option<Summary>, Fail> {
+    Ok(load(alloc, input, first_day()?).ok().map(|pair| pair.1))
+}
+
 // More records than a thousand, in more bytes than 64 KiB.
 const MANY: u32 = 7_000;
 
@@ -108,11 +128,10 @@ fn a_long_input_is_read_to_its_end(rt: HostRuntime) -> Result<(), Fail> {
         closes: 0,
     };
     let mut output = Vec::new(alloc);
-    let replayed = replay(alloc, input.as_slice(), &mut output, first_day()?);
-    assert!(rt; replayed == Ok(counts));
+    let replayed = counts_of_replay(alloc, input.as_slice(), &mut output)?;
+    assert!(rt; replayed == Some(counts));
     assert!(rt; output.as_slice() == times(alloc, "refused 14\n", MANY)?.as_slice());
-    let loaded = load(alloc, input.as_slice(), first_day()?);
-    assert!(rt; loaded.ok().map(|pair| pair.1) == Some(counts));
+    assert!(rt; counts_of_load(alloc, input.as_slice())? == Some(counts));
     let drained = drained(alloc, input.as_slice(), u32::MAX);
     assert!(rt; drained == Some((MANY, Ok(Item::Finished))));
     Ok(())

@@ -1,4 +1,5 @@
 // Each call below the book that takes memory, with each of its growths refused in turn.
+use crate::actions::Opened;
 use crate::batches::{Choose, Fill};
 use crate::maps::{Prepare, Rebuilt};
 use crate::opening::Opening;
@@ -20,6 +21,8 @@ fn refuse_each<'a, H: Handle<'a>>(rt: &impl Abort, global: Global, rationed: Rat
     assert!(rt; most_growths::<H, Prepare<FlatPositions<H>>>(rt, global, rationed) >= 1);
     assert!(rt; most_growths::<H, Rebuilt<TreePositions<H>>>(rt, global, rationed) >= 24);
     assert!(rt; most_growths::<H, Rebuilt<FlatPositions<H>>>(rt, global, rationed) >= 1);
+    assert!(rt; most_growths::<H, Opened<TreePositions<H>, H>>(rt, global, rationed) >= 25);
+    assert!(rt; most_growths::<H, Opened<FlatPositions<H>, H>>(rt, global, rationed) >= 3);
     assert!(rt; most_growths::<H, List<H>>(rt, global, rationed) >= 1);
     assert!(rt; most_growths::<H, NoteReference<H>>(rt, global, rationed) >= 1);
     assert!(rt; most_growths::<H, PendTrade<H>>(rt, global, rationed) >= 2);

@@ -114,7 +114,7 @@ pub(crate) struct PendTrade<H: Allocator + Drop> {
 }
 
 // The trade with a number.
-fn trade(rt: &impl Abort, number: u16) -> Trade {
+pub(crate) fn trade(rt: &impl Abort, number: u16) -> Trade {
     Trade {
         reference: reference(number),
         money: Money::new(975).expect(rt, "money"),

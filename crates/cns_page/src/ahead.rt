@@ -45,9 +45,7 @@ fn gather(alloc: Global, book: &ReplayBook, today: Day) -> Result<Vec<Trade>, No
         let Some(trade) = waiting(&entry, today) else {
             continue;
         };
-        let Ok(()) = trades.push(trade) else {
-            return Err(NoMemory);
-        };
+        trades.push(trade)?;
     }
     Ok(trades)
 }

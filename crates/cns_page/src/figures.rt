@@ -80,9 +80,7 @@ pub fn line_of_days(
         let Some(sheet) = book.sheet(close.date) else {
             continue;
         };
-        let Ok(()) = line.push(figures_of(sheet, close.day)) else {
-            return Err(NoMemory);
-        };
+        line.push(figures_of(sheet, close.day))?;
     }
     Ok(line)
 }

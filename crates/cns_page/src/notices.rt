@@ -37,9 +37,7 @@ pub fn live_notices(alloc: Global, book: &ReplayBook) -> Result<Vec<Numbered>, N
         if !is_live(notice.stage) {
             continue;
         }
-        let Ok(()) = live.push(Numbered { number, notice }) else {
-            return Err(NoMemory);
-        };
+        live.push(Numbered { number, notice })?;
     }
     Ok(live)
 }

@@ -46,9 +46,7 @@ fn gather(alloc: Global, book: &ReplayBook, sheet: &Sheet<Global>) -> Result<Vec
             continue;
         }
         let age = age_of(book, &row);
-        let Ok(()) = shorts.push(Aged { row, age }) else {
-            return Err(NoMemory);
-        };
+        shorts.push(Aged { row, age })?;
     }
     Ok(shorts)
 }

@@ -1,19 +1,18 @@
 -- What changes of a tree's rows make of the holdings.
-use Rattle.std.proofs.Common.{◌≡◌, ◌∙◌, ap, refl, Bool, true, false, is_some, ◌&&◌, cond, [], ◌∷◌, ◌++◌, Option, Some, None, MatchOption, ℤ, unwrap_or, is_lt, filter}
+use Rattle.std.proofs.Common.{◌≡◌, ◌∙◌, ap, refl, Bool, true, false, is_some, ◌&&◌, cond, [], ◌∷◌, ◌++◌, Option, Some, None, MatchOption, unwrap_or, is_lt, filter}
 use Rattle.cns_positions.proofs.Common.{Holding, Key, Rows, closed_rows, filter-append, has_row, held_above, holding_at, is_held, key_cmp, rolled, zeros}
 use Rattle.std.specs.FinMap.{put, find}
 use Rattle.cns_positions.specs.Rows.{is_above}
-use Rattle.cns_positions.proofs.Holdings.{with_booked}
 use Rattle.cns_tree.specs.Changes.{ChangesAt, ChangesEach}
 use Rattle.cns_tree.specs.Search.{is_after}
 
--- a change at a key that has a row, which books shares and cents, is a put
-pub booked_change : {P : Holding → Holding → Type 0} (es new : Rows) (k : Key) (s c : ℤ) → has_row es k ≡ true → ((v w : Holding) → P v w → w ≡ with_booked v s c) → ChangesAt P k es new → new ≡ put key_cmp k (with_booked (holding_at es k) s c) es
-booked_change {P} es new k s c there books = by (find key_cmp k es) there
+-- a change at a key that has a row is a put
+pub changed_at : {P : Holding → Holding → Type 0} (f : Holding → Holding) (es new : Rows) (k : Key) → has_row es k ≡ true → ((v w : Holding) → P v w → w ≡ f v) → ChangesAt P k es new → new ≡ put key_cmp k (f (holding_at es k)) es
+changed_at {P} f es new k there makes = by (find key_cmp k es) there
   where
-    by : (o : Option Holding) → is_some o ≡ true → MatchOption o (new ≡ es) (λ v. (w : Holding) × P v w × (new ≡ put key_cmp k w es)) → new ≡ put key_cmp k (with_booked (unwrap_or o zeros) s c) es
+    by : (o : Option Holding) → is_some o ≡ true → MatchOption o (new ≡ es) (λ v. (w : Holding) × P v w × (new ≡ put key_cmp k w es)) → new ≡ put key_cmp k (f (unwrap_or o zeros)) es
     by None some h = cc
-    by (Some v) some (w, p, put_is) = put_is ∙ ap (λ x. put key_cmp k x es) (books v w p)
+    by (Some v) some (w, p, put_is) = put_is ∙ ap (λ x. put key_cmp k x es) (makes v w p)
 
 -- a change of each value that rolls it closes the rows
 pub rolled_each : {P : Holding → Holding → Type 0} (es new : Rows) → ((v w : Holding) → P v w → w ≡ rolled v) → ChangesEach P es new → new ≡ closed_rows es

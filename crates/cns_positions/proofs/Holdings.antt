@@ -6,7 +6,7 @@ use Rattle.cns_positions.proofs.Puts.{set_is_put, find_at, find_gap}
 use Rattle.std.specs.FinMap.{put, find}
 use Rattle.std.specs.FinMap.Entries.{find-put, is_sorted-put}
 use Rattle.std.proofs.lemmas.Cmp.{eq_by_cmp_equiv}
-use Rattle.cns_positions.specs.Rows.{booked, entry_of, row_at}
+use Rattle.cns_positions.specs.Rows.{aged, booked, entry_of, row_at, with_age}
 
 -- the two spellings of a true test
 as_T : (b : Bool) → b ≡ true → T b
@@ -75,6 +75,16 @@ booked_put es k s c q =
     let test : is_eq (key_cmp q k) ≡ (eqb k.account q.account && bytes_eq k.issue q.issue) = (eq_by_cmp_equiv keys_total).symm q k ∙ same_key k q in
     holding_put es k _ q ∙ chosen _ es k q s c refl ∙ ap (λ b. with_booked (holding_at es q) (cond b s (pos 0)) (cond b c (pos 0))) test
 
+aged_tied : (b : Bool) (es : Rows) (k q : Key) (n : ℕ) → is_eq (key_cmp q k) ≡ b → cond b (with_age n (holding_at es k)) (holding_at es q) ≡ cond b (with_age n (holding_at es q)) (holding_at es q)
+aged_tied true es k q n t = ap (λ x. with_age n (holding_at es x)) (sym (exact_keys q k (equal _ t)))
+aged_tied false es k q n t = refl
+
+-- an age in the key's row is brought to it
+pub aged_put : (es : Rows) (k : Key) (n : ℕ) (q : Key) → holding_at (put key_cmp k (with_age n (holding_at es k)) es) q ≡ aged k n q (holding_at es q)
+aged_put es k n q =
+    let test : is_eq (key_cmp q k) ≡ (eqb k.account q.account && bytes_eq k.issue q.issue) = (eq_by_cmp_equiv keys_total).symm q k ∙ same_key k q in
+    holding_put es k _ q ∙ aged_tied _ es k q n refl ∙ ap (λ b. cond b (with_age n (holding_at es q)) (holding_at es q)) test
+
 -- what stands in the row that a search found
 pub found_here : (es : Rows) (i : ℕ) (k : Key) (d : Key × Holding) → is_sorted key_cmp es ≡ true → i < length es → HoldsAt (λ e. key_cmp e.0 k ≡ Equal) es i → holding_at es k ≡ (get_or es i d).1
 found_here es i k d s lt at = ap (λ o. unwrap_or o zeros) (find_at keys_total es i k d s lt (at d))
@@ -111,11 +121,11 @@ pub sorted_closed : (es : Rows) → is_sorted key_cmp (closed_rows es) ≡ is_so
 sorted_closed [] = refl
 sorted_closed (e ∷ es) = λ i. below_closed e.0 es i && sorted_closed es i
 
--- booking in the row that a search found
-pub booked_here : (es : Rows) (i : ℕ) (k : Key) (d : Key × Holding) (v : Holding) (s c : ℤ) → is_sorted key_cmp es ≡ true → i < length es → HoldsAt (λ e. key_cmp e.0 k ≡ Equal) es i → v ≡ with_booked (get_or es i d).1 s c → set es i ((get_or es i d).0, v) ≡ put key_cmp k (with_booked (holding_at es k) s c) es
-booked_here es i k d v s c sorted lt at e =
+-- a change of the row that a search found
+pub changed_here : (f : Holding → Holding) (es : Rows) (i : ℕ) (k : Key) (d : Key × Holding) (v : Holding) → is_sorted key_cmp es ≡ true → i < length es → HoldsAt (λ e. key_cmp e.0 k ≡ Equal) es i → v ≡ f (get_or es i d).1 → set es i ((get_or es i d).0, v) ≡ put key_cmp k (f (holding_at es k)) es
+changed_here f es i k d v sorted lt at e =
     set_is_put keys_total es i k v d sorted lt (at d)
-    ∙ ap (λ w. put key_cmp k w es) (e ∙ ap (λ h. with_booked h s c) (sym (found_here es i k d sorted lt at)))
+    ∙ ap (λ w. put key_cmp k w es) (e ∙ ap f (sym (found_here es i k d sorted lt at)))
 
 -- a slice that is written over, whole
 pub written : (n : ℕ) (new old : Rows) → n ≡ length new → take n (new ++ drop (length new) old) ≡ new

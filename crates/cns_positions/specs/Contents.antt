@@ -1,19 +1,14 @@
 -- What contracts see of positions, and what a form keeps.
-use Rattle.std.specs.Prelude.{◌≡◌, Bool, true, List, Contains, is_some, map}
+use Rattle.std.specs.Prelude.{◌≡◌, Bool, true, List, Contains, map}
 use Rattle.cns_terms.specs.Common.{is_sorted, key_cmp}
-use Rattle.std.specs.FinMap.{find}
 use Rattle.cns_terms.specs.declared.holding.Key.{Key}
 use Rattle.cns_terms.specs.declared.holding.Holding.{Holding}
-use Rattle.cns_positions.specs.Rows.{Rows, rolled}
+use Rattle.cns_positions.specs.Rows.{Rows, has_row, rolled}
 
 -- what contracts see
 pub record Contents : Type 0 where
   pub rows : List (Key × Holding)
   pub prepared : List Key
-
--- whether the key has a row, be it of zeros
-abbrev pub has_row : Rows → Key → Bool
-has_row rows k = is_some (find key_cmp k rows)
 
 -- what a close makes of the rows
 abbrev pub closed_rows : Rows → Rows

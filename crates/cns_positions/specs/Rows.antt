@@ -1,6 +1,6 @@
 -- Rows of positions: what stands at each key, in the order of keys.
-use Rattle.std.specs.Prelude.{◌≡◌, ◌+◌, ◌-◌, ◌^◌, ℤ, pos, ◌+ℤ◌, int_lt, Bool, true, ◌&&◌, not, ◌==◌, min, List, [], ◌∷◌, ◌++◌, filter, filter_map, Option, Some, None, unwrap_or, Contains, ◌⊎◌, if◌then◌else◌}
-use Rattle.cns_terms.specs.Common.{cents_for, entry, is_lt, key_cmp, oldest_of, shares_for, total}
+use Rattle.std.specs.Prelude.{◌≡◌, ◌+◌, ◌-◌, ◌^◌, ℕ, ℤ, pos, ◌+ℤ◌, int_lt, Bool, true, ◌&&◌, not, ◌==◌, min, max, List, [], ◌∷◌, ◌++◌, filter, filter_map, Option, Some, None, is_some, unwrap_or, Contains, ◌⊎◌, if◌then◌else◌}
+use Rattle.cns_terms.specs.Common.{cents_for, entry, is_lt, key_cmp, oldest_of, same_issue, shares_for, total}
 use Rattle.std.specs.Ordering.{int_eq}
 use Rattle.std.specs.FinMap.{find}
 use Rattle.cns_terms.specs.declared.holding.Key.{Key}
@@ -17,6 +17,10 @@ zeros = record { now = pos 0; opening = pos 0; contract = pos 0; run = 0; carrie
 unfoldable pub row_at : Rows → Key → Option Holding
 row_at rows k = find key_cmp k rows
 
+-- whether the key has a row, be it of zeros
+abbrev pub has_row : Rows → Key → Bool
+has_row rows k = is_some (find key_cmp k rows)
+
 -- what stands at a key; zeros where it has no row
 abbrev pub holding_at : Rows → Key → Holding
 holding_at rows k = unwrap_or (find key_cmp k rows) zeros
@@ -27,7 +31,7 @@ is_held h = not (int_eq h.now (pos 0) && int_eq h.opening (pos 0) && int_eq h.co
 
 -- the key may be added to without memory
 abbrev pub IsThere : Rows → List Key → Key → Type 0
-IsThere rows prepared k = (is_held (holding_at rows k) ≡ true) ⊎ Contains prepared k
+IsThere rows prepared k = (has_row rows k ≡ true) ⊎ Contains prepared k
 
 -- room has to be made for the key: it has no row and is not prepared
 pub record LacksRoom (rows : Rows) (prepared : List Key) (k : Key) : Type 0 where
@@ -40,6 +44,14 @@ entry_of k shares cents = entry k.account k.issue shares cents
 -- what an entry makes of what stands at a key
 abbrev pub booked : Entry → Key → Holding → Holding
 booked e k h = record h { now = h.now +ℤ shares_for k.account k.issue e; contract = h.contract +ℤ cents_for k.account k.issue e }
+
+-- what stands at a key, with an age that is brought there
+abbrev pub with_age : ℕ → Holding → Holding
+with_age n h = record h { carried = max h.carried n }
+
+-- what an age that is brought to a key makes of what stands at a key
+abbrev pub aged : Key → ℕ → Key → Holding → Holding
+aged q n k h = if (q.account == k.account) && same_issue q.issue k.issue then with_age n h else h
 
 -- what entries make of it, one after another: its opening and its ages stay
 abbrev pub books : List Entry → Key → Holding → Holding

@@ -8,10 +8,10 @@ ghost use Rattle.std.specs.declared.cmp.Ordering.{Ordering};
 ghost use Rattle.cns_terms.specs.Keys.{key_cmp};
 ghost use Rattle.cns_terms.specs.declared.holding.Holding.{Holding};
 ghost use Rattle.cns_terms.specs.declared.holding.Key.{Key};
-ghost use Rattle.cns_positions.specs.Rows.{holding_at, booked, entry_of, held_above, is_held, present, row_at};
-ghost use Rattle.cns_positions.specs.Contents.{has_row, closed_rows};
+ghost use Rattle.cns_positions.specs.Rows.{aged, has_row, holding_at, booked, entry_of, held_above, is_held, present, row_at};
+ghost use Rattle.cns_positions.specs.Contents.{closed_rows};
 
-use crate::holding::{add_to, is_held, rolled};
+use crate::holding::{add_to, carry_to, is_held, rolled};
 use crate::positions::{NextRows, Positions, Row};
 use crate::prepared::{Prepared, kept};
 use arrayvec::ArrayVec;
@@ -61,10 +61,10 @@ fn enter<A: Allocator + Drop>(rows: &mut Vec<Row, A>, key: &Key) -> Result<(), N
 {
     match place(rows.as_slice(), key) {
         Ok(_) => Ok(()),
-        Err(at) => match rows.insert(at, (*key, Holding::ZEROS)) {
-            Ok(()) => Ok(()),
-            Err(_) => Err(NoMemory),
-        },
+        Err(at) => {
+            rows.insert(at, (*key, Holding::ZEROS))?;
+            Ok(())
+        }
     }
 }
 
@@ -98,6 +98,20 @@ fn book(rows: &mut [Row], key: &Key, shares: i64, cents: i128)
 {
     if let Ok(at) = place(rows, key) {
         add_to(&mut rows[at].1, shares, cents);
+    }
+}
+
+// Brings an age to the key's row.
+fn carry(rows: &mut [Row], key: &Key, age: u32)
+    requires sorted { is_sorted key_cmp rows.old ≡ true }
+    requires there { has_row rows.old key.now ≡ true }
+    ensures sorted { is_sorted key_cmp rows.new ≡ true }
+    ensures kept { (k : Key) → has_row rows.old k ≡ true → has_row rows.new k ≡ true }
+    ensures others { (k : Key) → k ≢ key.now → row_at rows.new k ≡ row_at rows.old k }
+    ensures carried { (k : Key) → holding_at rows.new k ≡ aged key.now age k (holding_at rows.old k) }
+{
+    if let Ok(at) = place(rows, key) {
+        carry_to(&mut rows[at].1, age);
     }
 }
 
@@ -157,6 +171,10 @@ impl<A: Allocator + Drop + Clone> Positions<A> for FlatPositions<A> {
         }
     }
 
+    fn in_order(&self) {
+        let _ = self.rows.as_slice();
+    }
+
     fn get(&self, key: Key) -> Holding {
         match place(self.rows.as_slice(), &key) {
             Ok(at) => self.rows[at].1,
@@ -174,8 +192,16 @@ impl<A: Allocator + Drop + Clone> Positions<A> for FlatPositions<A> {
         Ok(())
     }
 
+    fn enter(&mut self, key: Key) -> Result<(), NoMemory> {
+        enter(&mut self.rows, &key)
+    }
+
     fn add(&mut self, key: Key, shares: i64, cents: i128) {
         book(self.rows.as_mut_slice(), &key, shares, cents);
+    }
+
+    fn carry(&mut self, key: Key, age: u32) {
+        carry(self.rows.as_mut_slice(), &key, age);
     }
 
     fn roll(&mut self) {

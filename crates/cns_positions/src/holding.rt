@@ -1,7 +1,7 @@
 // What bookings and closes make of a holding.
 ghost use Rattle.std.specs.Prelude.{◌≡◌, ◌+ℤ◌, FitsSigned};
 ghost use Rattle.std.specs.Int.{w64, w128};
-ghost use Rattle.cns_positions.specs.Rows.{rolled, is_held};
+ghost use Rattle.cns_positions.specs.Rows.{rolled, is_held, with_age};
 
 use cns_terms::Holding;
 
@@ -33,6 +33,13 @@ pub(crate) fn add_to(holding: &mut Holding, shares: i64, cents: i128)
 {
     holding.now += shares;
     holding.contract += cents;
+}
+
+/// Brings the age of a short to a holding, where the greatest that came on the day stays.
+pub(crate) fn carry_to(holding: &mut Holding, age: u32)
+    ensures { holding.new ≡ with_age age holding.old }
+{
+    holding.carried = holding.carried.max(age);
 }
 
 /// Whether anything but zeros stands there.

@@ -5,7 +5,7 @@ ghost use Rattle.std.specs.Int.{w64, w128};
 ghost use Rattle.cns_terms.specs.Keys.{key_cmp};
 ghost use Rattle.cns_terms.specs.declared.holding.Key.{Key};
 ghost use Rattle.cns_terms.specs.declared.holding.Holding.{Holding};
-ghost use Rattle.cns_positions.specs.Rows.{AreNext, holding_at, booked, entry_of, rolled, row_at, IsThere, LacksRoom, held_above, present};
+ghost use Rattle.cns_positions.specs.Rows.{AreNext, aged, holding_at, booked, entry_of, has_row, rolled, row_at, IsThere, LacksRoom, held_above, present};
 
 use arrayvec::ArrayVec;
 use cns_terms::{Holding, Key, NoMemory};
@@ -35,6 +35,10 @@ pub trait Positions<A>: Drop {
         ensures rows { rows result ≡ [] }
         ensures prepared { prepared result ≡ [] };
 
+    /// The rows are in the order of their keys. It does nothing; a caller's proof may want to know.
+    fn in_order(&self)
+        ensures { is_sorted key_cmp (rows self.now) ≡ true };
+
     /// What stands at a key.
     fn get(&self, key: Key) -> Holding
         ensures { result ≡ holding_at (rows self.now) key };
@@ -57,7 +61,20 @@ pub trait Positions<A>: Drop {
         ensures err { OnErr result (prepared self.new ≡ prepared self.old) }
         ensures memory { OnErr result (Any (LacksRoom (rows self.old) (prepared self.old)) keys.now) };
 
-    /// Books shares and cents at a key that is there or prepared. No other key gets a row or loses one.
+    /// Gives a key a row for good, of zeros where it has none, so that `add` and `carry` take no memory at it. What stands at
+    /// each key stays, and no other key gets a row or loses one.
+    ///
+    /// `NoMemory` where a growth was refused, which a key that has a row doesn't ask for.
+    fn enter(&mut self, key: Key) -> Result<(), NoMemory>
+        ensures same { (k : Key) → holding_at (rows self.new) k ≡ holding_at (rows self.old) k }
+        ensures others { (k : Key) → k ≢ key → row_at (rows self.new) k ≡ row_at (rows self.old) k }
+        ensures kept { (k : Key) → has_row (rows self.old) k ≡ true → has_row (rows self.new) k ≡ true }
+        ensures order { is_sorted key_cmp (rows self.new) ≡ true }
+        ensures prepared { prepared self.new ≡ prepared self.old }
+        ensures ok { OnOk result (has_row (rows self.new) key ≡ true) }
+        ensures memory { OnErr result (row_at (rows self.old) key ≡ None) };
+
+    /// Books shares and cents at a key that has a row or is prepared. No other key gets a row, and none loses one.
     fn add(&mut self, key: Key, shares: i64, cents: i128)
         requires there { IsThere (rows self.old) (prepared self.old) key }
         requires shares_fit { FitsSigned w64 ((holding_at (rows self.old) key).now +ℤ shares) }
@@ -65,11 +82,23 @@ pub trait Positions<A>: Drop {
         ensures booked { (k : Key) → holding_at (rows self.new) k
             ≡ booked (entry_of key shares cents) k (holding_at (rows self.old) k) }
         ensures others { (k : Key) → k ≢ key → row_at (rows self.new) k ≡ row_at (rows self.old) k }
+        ensures kept { (k : Key) → has_row (rows self.old) k ≡ true → has_row (rows self.new) k ≡ true }
+        ensures order { is_sorted key_cmp (rows self.new) ≡ true }
+        ensures prepared { prepared self.new ≡ prepared self.old };
+
+    /// Brings the age of a short to a key that has a row or is prepared: the greatest that exchanges brought there on the
+    /// day stays (this project's profile). No other key gets a row, and none loses one.
+    fn carry(&mut self, key: Key, age: u32)
+        requires { IsThere (rows self.old) (prepared self.old) key }
+        ensures carried { (k : Key) → holding_at (rows self.new) k ≡ aged key age k (holding_at (rows self.old) k) }
+        ensures others { (k : Key) → k ≢ key → row_at (rows self.new) k ≡ row_at (rows self.old) k }
+        ensures kept { (k : Key) → has_row (rows self.old) k ≡ true → has_row (rows self.new) k ≡ true }
         ensures order { is_sorted key_cmp (rows self.new) ≡ true }
         ensures prepared { prepared self.new ≡ prepared self.old };
 
     /// What a close does to every holding.
     fn roll(&mut self)
+        ensures kept { (k : Key) → has_row (rows self.old) k ≡ true → has_row (rows self.new) k ≡ true }
         ensures rolled { (k : Key) → holding_at (rows self.new) k ≡ rolled (holding_at (rows self.old) k) }
         ensures order { is_sorted key_cmp (rows self.new) ≡ true }
         ensures prepared { prepared self.new ≡ prepared self.old };

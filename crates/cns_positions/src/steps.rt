@@ -52,9 +52,7 @@ fn take_step<P: Positions<A>, A, B: Allocator + Drop>(
 {
     match step {
         Step::Get(key) => {
-            let Ok(()) = holdings.push(positions.get(*key)) else {
-                return Err(NoMemory);
-            };
+            holdings.push(positions.get(*key))?;
         }
         Step::Add { key, shares, cents } => add(positions, key, *shares, *cents)?,
         Step::Roll => positions.roll(),

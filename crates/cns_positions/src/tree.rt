@@ -7,10 +7,10 @@ ghost use Rattle.cns_terms.specs.Digits.{binary_digits};
 ghost use Rattle.cns_terms.specs.Keys.{key_cmp};
 ghost use Rattle.cns_terms.specs.declared.holding.Holding.{Holding};
 ghost use Rattle.cns_terms.specs.declared.holding.Key.{Key};
-ghost use Rattle.cns_positions.specs.Rows.{IsThere, holding_at, booked, entry_of, held_above, is_held, present, row_at};
-ghost use Rattle.cns_positions.specs.Contents.{has_row, closed_rows};
+ghost use Rattle.cns_positions.specs.Rows.{IsThere, aged, has_row, holding_at, booked, entry_of, held_above, is_held, present, row_at};
+ghost use Rattle.cns_positions.specs.Contents.{closed_rows};
 
-use crate::holding::{add_to, is_held, rolled};
+use crate::holding::{add_to, carry_to, is_held, rolled};
 use crate::positions::{NextRows, Positions, Row};
 use crate::prepared::{Prepared, kept};
 use arrayvec::ArrayVec;
@@ -101,6 +101,20 @@ fn book<A: Allocator + Clone + Drop>(
     });
 }
 
+// Brings an age to the key's row.
+fn carry<A: Allocator + Clone + Drop>(rows: &mut Tree<Holding, A>, key: &Key, age: u32)
+    requires { has_row rows.old key.now ≡ true }
+    ensures sorted { is_sorted key_cmp rows.new ≡ true }
+    ensures kept { (k : Key) → has_row rows.old k ≡ true → has_row rows.new k ≡ true }
+    ensures others { (k : Key) → k ≢ key.now → row_at rows.new k ≡ row_at rows.old k }
+    ensures carried { (k : Key) → holding_at rows.new k ≡ aged key.now age k (holding_at rows.old k) }
+{
+    rows.change(*key, |mut holding| {
+        carry_to(&mut holding, age);
+        holding
+    });
+}
+
 // What a close makes of each row.
 fn close_all<A: Allocator + Clone + Drop>(rows: &mut Tree<Holding, A>)
     ensures { rows.new ≡ closed_rows rows.old }
@@ -159,6 +173,7 @@ impl<A: Allocator + Clone + Drop> TreePositions<A> {
         ensures booked { (k : Key) → holding_at self.new.rows k
             ≡ booked (entry_of probe.old.0 shares cents) k (holding_at self.old.rows k) }
         ensures others { (k : Key) → k ≢ probe.old.0 → row_at self.new.rows k ≡ row_at self.old.rows k }
+        ensures kept { (k : Key) → has_row self.old.rows k ≡ true → has_row self.new.rows k ≡ true }
         ensures order { is_sorted key_cmp self.new.rows ≡ true }
         ensures prepared { self.new.prepared ≡ self.old.prepared }
         ensures key { probe.new.0 ≡ probe.old.0 }
@@ -180,6 +195,10 @@ impl<A: Allocator + Clone + Drop> Positions<A> for TreePositions<A> {
         }
     }
 
+    fn in_order(&self) {
+        let _ = self.rows.len();
+    }
+
     fn get(&self, key: Key) -> Holding {
         self.get_counted(&mut Probe::new(key))
     }
@@ -198,8 +217,16 @@ impl<A: Allocator + Clone + Drop> Positions<A> for TreePositions<A> {
         Ok(())
     }
 
+    fn enter(&mut self, key: Key) -> Result<(), NoMemory> {
+        enter(&mut self.rows, &key)
+    }
+
     fn add(&mut self, key: Key, shares: i64, cents: i128) {
         self.add_counted(&mut Probe::new(key), shares, cents);
+    }
+
+    fn carry(&mut self, key: Key, age: u32) {
+        carry(&mut self.rows, &key, age);
     }
 
     fn roll(&mut self) {

@@ -85,9 +85,7 @@ impl<A: Allocator + Drop> Prices<A> {
             price,
             retired: false,
         };
-        let Ok(_) = self.issues.insert(cusip, quote) else {
-            return Err(NoMemory);
-        };
+        self.issues.insert(cusip, quote)?;
         Ok(())
     }
 

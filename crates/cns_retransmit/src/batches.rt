@@ -47,9 +47,7 @@ impl<A: Allocator + Drop> Batches<A> {
         ensures ok { OnOk result (self.new ≡ self.old ++ day.items ∷ []) }
         ensures err { OnErr result (self.new ≡ self.old) }
     {
-        let Ok(()) = self.days.push(DayBatches::new(day)) else {
-            return Err(NoMemory);
-        };
+        self.days.push(DayBatches::new(day))?;
         Ok(())
     }
 

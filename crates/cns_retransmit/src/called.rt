@@ -48,9 +48,7 @@ impl<A: Allocator + Drop> Called<A> {
         ensures ok { OnOk result (self.new ≡ with_short short self.old) }
         ensures err { OnErr result (self.new ≡ self.old) }
     {
-        let Ok(()) = self.shorts.push(short) else {
-            return Err(NoMemory);
-        };
+        self.shorts.push(short)?;
         Ok(())
     }
 }

@@ -52,9 +52,7 @@ fn choose_each<A: Allocator + Drop + Clone>(
         let Some(batch) = called.choose(alloc.clone()?, *issue)? else {
             continue;
         };
-        let Ok(()) = batches.push(batch) else {
-            return Err(NoMemory);
-        };
+        batches.push(batch)?;
     }
     Ok(batches)
 }
@@ -78,9 +76,7 @@ impl<A: Allocator + Drop + Clone> Calls<A> {
         ensures err { OnErr result (self.new ≡ self.old) }
     {
         let called = Called::new(self.alloc.clone()?, shares);
-        let Ok(_) = self.issues.insert(issue, called) else {
-            return Err(NoMemory);
-        };
+        self.issues.insert(issue, called)?;
         Ok(())
     }
 

@@ -4,8 +4,6 @@ pub mod Booked
 pub mod Balance
 pub mod HeldRows
 pub mod Kept
-pub mod Empty
-pub mod Tested
 pub mod RowSums
 pub mod Searched
 pub mod Alike

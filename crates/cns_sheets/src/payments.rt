@@ -142,9 +142,7 @@ impl<A: Allocator + Drop + Clone> Paid<A> {
             return Ok(());
         }
         let had = self.cents.get(&key).copied().unwrap_or(Cents::ZERO);
-        let Ok(_) = self.cents.insert(key, Cents::of(had.value() + cents)) else {
-            return Err(NoMemory);
-        };
+        self.cents.insert(key, Cents::of(had.value() + cents))?;
         Ok(())
     }
 }

@@ -51,9 +51,7 @@ pub fn listed<A: Allocator + Drop>(
     let mut after = None;
     while let Some((issue, price)) = prices.next_listed(after) {
         let issue = &issue;
-        let Ok(()) = list.push((*issue, price)) else {
-            return Err(NoMemory);
-        };
+        list.push((*issue, price))?;
         after = Some(*issue);
     }
     Ok(list)

@@ -29,9 +29,7 @@ pub(crate) fn accounts(alloc: Global, rows: SheetRows<'_, Global>) -> Result<Vec
     let mut before = None;
     for row in rows {
         if is_next(before, row.account) {
-            let Ok(()) = accounts.push(row.account) else {
-                return Err(NoMemory);
-            };
+            accounts.push(row.account)?;
         }
         before = Some(row.account);
     }
@@ -53,9 +51,7 @@ pub(crate) fn parts_of(
     for taken in 0..workers {
         let (part, more) = rest.split_at(rest.len() / (workers - taken));
         let part = Vec::from_slice(alloc, part)?;
-        let Ok(()) = parts.push(part) else {
-            return Err(NoMemory);
-        };
+        parts.push(part)?;
         rest = more;
     }
     Ok(parts)
@@ -80,9 +76,7 @@ pub(crate) fn make<G: Gate, R: Wait>(
         gate.before(rt, worker, seq);
         let answer = statement(alloc, sheet, *account);
         gate.answered(rt, worker, seq);
-        let Ok(()) = made.push(answer?) else {
-            return Err(NoMemory);
-        };
+        made.push(answer?)?;
     }
     Ok(made)
 }

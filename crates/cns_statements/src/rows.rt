@@ -42,9 +42,7 @@ impl<A: Allocator + Drop> Rows<A> {
         let mut items = Vec::new(alloc);
         items.reserve_exact(count as usize)?;
         for row in rows {
-            let Ok(()) = items.push(row) else {
-                return Err(NoMemory);
-            };
+            items.push(row)?;
         }
         Ok(Rows { items })
     }

@@ -1,5 +1,5 @@
 // Want of memory.
-use std::alloc::AllocError;
+use std::alloc::{AllocError, AllocFailed};
 use std::convert::From;
 use thiserror::Error;
 
@@ -10,6 +10,12 @@ pub struct NoMemory;
 
 impl From<AllocError> for NoMemory {
     fn from(_refused: AllocError) -> NoMemory {
+        NoMemory
+    }
+}
+
+impl<T: Drop> From<AllocFailed<T>> for NoMemory {
+    fn from(_refused: AllocFailed<T>) -> NoMemory {
         NoMemory
     }
 }

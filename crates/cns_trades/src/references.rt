@@ -91,9 +91,7 @@ impl<A: Allocator + Drop> References<A> {
             return Ok(());
         }
         let bits = self.bits_of(page);
-        let Ok(_) = self.others.insert(self.page, self.bits) else {
-            return Err(NoMemory);
-        };
+        self.others.insert(self.page, self.bits)?;
         self.page = page;
         self.bits = bits;
         Ok(())

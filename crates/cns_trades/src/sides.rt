@@ -95,9 +95,7 @@ impl<A: Allocator + Drop> SideSums<A> {
         if self.sums.contains_key(&key) {
             return Ok(());
         }
-        let Ok(_) = self.sums.insert(key, Sides::NONE) else {
-            return Err(NoMemory);
-        };
+        self.sums.insert(key, Sides::NONE)?;
         Ok(())
     }
 

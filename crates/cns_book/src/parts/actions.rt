@@ -5,21 +5,22 @@ ghost use Rattle.cns_terms.specs.declared.command.Command.TheVariants as command
 ghost use Rattle.cns_terms.specs.declared.holding.Key.{Key};
 ghost use Rattle.cns_terms.specs.Entries.{entries};
 ghost use Rattle.cns_terms.specs.Refusals.{first_refusal, is_too_large};
-ghost use Rattle.cns_positions.specs.Rows.{books, holding_at};
-ghost use Rattle.cns_actions.specs.Booked.{IsForAnother, age_brought, with_age};
+ghost use Rattle.cns_positions.specs.Rows.{books, holding_at, with_age};
+ghost use Rattle.cns_actions.specs.Booked.{IsForAnother, age_brought};
+ghost use Rattle.cns_actions.specs.Bookings.{makes};
 ghost use Rattle.cns_actions.specs.declared.fault.ActionFault.TheVariants as fault;
 ghost use Rattle.cns_book.specs.Effects.{activity_of, exchange_rules, is_held_up};
 ghost use Rattle.cns_book.specs.Follows.{Answers, HasRoom, Shows};
 
 use crate::parts::Parts;
-use cns_actions::{Action, ActionFault, next_positions};
+use cns_actions::{Action, ActionFault, Bookings, bookings_for};
 use cns_positions::Positions;
 use cns_terms::{Exchange, NoMemory, Refusal, Reply, Split};
 use std::alloc::Allocator;
 
 impl<P: Positions<A>, A: Allocator + Drop + Clone> Parts<P, A> {
-    // The positions after a split or an exchange, beside those that stand.
-    fn positions_after(&self, action: &Action) -> Result<P, ActionFault>
+    // What a split or an exchange books.
+    fn bookings_for(&self, action: &Action) -> Result<Bookings<A>, ActionFault>
         requires room { HasRoom self.now }
         requires another { IsForAnother action.now }
         ensures too_large { Shows self.now
@@ -28,15 +29,15 @@ impl<P: Positions<A>, A: Allocator + Drop + Clone> Parts<P, A> {
             (λ J. (result ≡ Err fault.PendingTrades) ↔ ((is_too_large self.now.opening J (activity_of action.now) ≡ false)
             × (is_held_up self.now.opening J action.now ≡ true))) }
         ensures booked { IfOk result
-            (λ p. Shows self.now
-            (λ J. (k : Key) → holding_at (P.rows p) k ≡ with_age (age_brought self.now.rows action.now k)
+            (λ b. Shows self.now
+            (λ J. (k : Key) → makes b k (holding_at self.now.rows k) ≡ with_age (age_brought self.now.rows action.now k)
             (books (entries self.now.opening J (activity_of action.now)) k (holding_at self.now.rows k)))) }
     {
-        next_positions(&self.alloc, &self.positions, action, self.trades.waiting())
+        bookings_for(&self.alloc, &self.positions, action, self.trades.waiting())
     }
 
-    /// SPLIT. The new positions are made beside the old ones, and take their place at once; the notices of the issue
-    /// end. Trades that wait stay as they were made.
+    /// SPLIT. What it books is made first, and then booked at once; the notices of the issue end. Trades that wait stay as
+    /// they were made.
     pub fn split(&mut self, split: &Split) -> Result<Reply, NoMemory>
         requires { HasRoom self.old }
         ensures opening { self.new.opening ≡ self.old.opening }
@@ -47,9 +48,9 @@ impl<P: Positions<A>, A: Allocator + Drop + Clone> Parts<P, A> {
         }
         // Each number is within its limit; the calls tell the prover.
         let _ = (split.ratio.parts(), split.lieu.value());
-        match self.positions_after(&Action::Split(*split)) {
-            Ok(positions) => {
-                self.positions = positions;
+        match self.bookings_for(&Action::Split(*split)) {
+            Ok(bookings) => {
+                bookings.make(&mut self.positions)?;
                 self.notices.end_issue(split.issue);
                 Ok(Reply::Accepted)
             }
@@ -77,8 +78,8 @@ impl<P: Positions<A>, A: Allocator + Drop + Clone> Parts<P, A> {
         None
     }
 
-    /// EXCHANGE. The new positions, with the ages that the successor takes over, are made beside the old ones, and take
-    /// their place at once; then the old issue is retired, and its notices end.
+    /// EXCHANGE. What it books, with the ages that the successor takes over, is made first, and then booked at once; then the
+    /// old issue is retired, and its notices end.
     pub fn exchange(&mut self, exchange: &Exchange) -> Result<Reply, NoMemory>
         requires { HasRoom self.old }
         ensures opening { self.new.opening ≡ self.old.opening }
@@ -93,9 +94,9 @@ impl<P: Positions<A>, A: Allocator + Drop + Clone> Parts<P, A> {
             exchange.lieu.value(),
             exchange.cash.value(),
         );
-        match self.positions_after(&Action::Exchange(*exchange)) {
-            Ok(positions) => {
-                self.positions = positions;
+        match self.bookings_for(&Action::Exchange(*exchange)) {
+            Ok(bookings) => {
+                bookings.make(&mut self.positions)?;
                 self.prices.retire(exchange.old);
                 self.notices.end_issue(exchange.old);
                 Ok(Reply::Accepted)

@@ -5,7 +5,7 @@ ghost use Rattle.cns_terms.specs.declared.command.Command.TheVariants as command
 ghost use Rattle.cns_book.specs.Follows.{Answers, HasRoom};
 
 use crate::parts::Parts;
-use crate::parts::opening::open;
+use crate::parts::opening::{enter, open};
 use crate::parts::retransmittal::count_liable;
 use cns_positions::Positions;
 use cns_terms::{Closed, NoMemory, Refusal, Reply};
@@ -13,8 +13,8 @@ use cns_units::Day;
 use std::alloc::Allocator;
 
 impl<P: Positions<A>, A: Allocator + Drop + Clone> Parts<P, A> {
-    /// CLOSE. The sheet, with the dividends that are due, the batches for the day's notices and the positions with which the
-    /// next day opens are made before anything changes. Notices of two days ago expire after the batches are chosen, and
+    /// CLOSE. The sheet, with the dividends that are due, the batches for the day's notices and what is booked as the next day
+    /// opens are made before anything changes. Notices of two days ago expire after the batches are chosen, and
     /// trades that are due on the next day are booked after all of the day that ends.
     pub fn close_day(&mut self, next: Day) -> Result<Reply, NoMemory>
         requires { HasRoom self.old }
@@ -35,13 +35,14 @@ impl<P: Positions<A>, A: Allocator + Drop + Clone> Parts<P, A> {
             rows: sheet.len() as u64,
             liable: count_liable(batches.as_slice()),
         };
-        let opened = self.opened(next)?;
+        let opening = self.due_bookings(next)?;
+        enter(&mut self.positions, &opening)?;
         self.batches.keep(batches)?;
         if let Err(NoMemory) = self.closed.keep(sheet) {
             self.batches.forget_last();
             return Err(NoMemory);
         }
-        open(&mut self.positions, opened);
+        open(&mut self.positions, &opening);
         self.trades.settle(next);
         self.closes += 1;
         self.notices.expire(self.closes);

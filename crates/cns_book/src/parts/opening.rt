@@ -1,14 +1,17 @@
-// The positions with which a day opens.
-ghost use Rattle.std.specs.Prelude.{◌≡◌, [], IfOk, IfSome, MatchOption, None, OnErr, filter, true};
+// The day that a close opens: positions are rolled, and the trades that are due are booked.
+ghost use Rattle.std.specs.Prelude.{◌≡◌, [], IfOk, IfSome, IsSome, MatchOption, None, OnErr, OnOk, filter, true};
 ghost use Rattle.std.specs.List.{flat_map, list_any};
+ghost use Rattle.cns_terms.specs.declared.holding.Holding.{Holding};
 ghost use Rattle.cns_terms.specs.declared.holding.Key.{Key};
 ghost use Rattle.cns_terms.specs.Entries.{trade_entries};
 ghost use Rattle.cns_terms.specs.Pending.{is_due};
 ghost use Rattle.cns_positions.specs.Rows.{books, holding_at, rolled};
+ghost use Rattle.cns_actions.specs.Booked.{CanBeBooked};
+ghost use Rattle.cns_actions.specs.Bookings.{AreEntered, makes};
 ghost use Rattle.cns_book.specs.Follows.{HasRoom};
 
 use crate::parts::Parts;
-use cns_actions::opened;
+use cns_actions::{Bookings, bookings_due};
 use cns_positions::Positions;
 use cns_terms::{NoMemory, Pend};
 use cns_units::Day;
@@ -26,28 +29,46 @@ fn is_any_due(pending: &[Pend], day: Day) -> bool
     false
 }
 
-/// Puts positions that were opened in the place of those that stand. Where none were made, no trade is due, and those that
-/// stand are rolled in place.
-pub(super) fn open<P: Positions<A>, A>(positions: &mut P, opened: Option<P>)
-    ensures rolled { opened ≡ None
-        → (k : Key) → holding_at (P.rows positions.new) k ≡ rolled (holding_at (P.rows positions.old) k) }
-    ensures taken { IfSome opened (λ p. P.rows positions.new ≡ P.rows p) }
+/// Finds a row for each key at which something is due. What stands at each key stays.
+pub(super) fn enter<P: Positions<B>, B, A: Allocator + Drop>(
+    positions: &mut P,
+    due: &Option<Bookings<A>>,
+) -> Result<(), NoMemory>
+    ensures same { (k : Key) → holding_at (P.rows positions.new) k ≡ holding_at (P.rows positions.old) k }
+    ensures there { OnOk result (IfSome due.now (λ b. AreEntered (P.rows positions.new) b)) }
 {
-    match opened {
-        Some(opened) => *positions = opened,
-        None => positions.roll(),
+    match due {
+        Some(bookings) => bookings.enter(positions),
+        None => Ok(()),
+    }
+}
+
+/// Rolls positions, and books what is due, for which there are rows. It takes no memory.
+pub(super) fn open<P: Positions<B>, B, A: Allocator + Drop>(
+    positions: &mut P,
+    due: &Option<Bookings<A>>,
+)
+    requires there { IfSome due.now (λ b. AreEntered (P.rows positions.old) b) }
+    requires within { CanBeBooked (P.rows positions.old) }
+    ensures rolled { due.now ≡ None
+        → (k : Key) → holding_at (P.rows positions.new) k ≡ rolled (holding_at (P.rows positions.old) k) }
+    ensures booked { IfSome due.now (λ b. (k : Key)
+        → holding_at (P.rows positions.new) k ≡ makes b k (rolled (holding_at (P.rows positions.old) k))) }
+{
+    positions.roll();
+    if let Some(bookings) = due {
+        bookings.book(positions);
     }
 }
 
 impl<P: Positions<A>, A: Allocator + Drop + Clone> Parts<P, A> {
-    // The positions with which the next day opens, made beside those that stand, where trades are due on it. None where none
-    // is: most days are opened so, and then no memory is asked for.
-    pub(super) fn opened(&self, next: Day) -> Result<Option<P>, NoMemory>
+    // What the trades book that are due on the next day. None where none is: most days are opened so, and then no memory is
+    // asked for.
+    pub(super) fn due_bookings(&self, next: Day) -> Result<Option<Bookings<A>>, NoMemory>
         requires { HasRoom self.now }
-        ensures opened { IfOk result (λ o. MatchOption o (filter (is_due next) self.now.trades.pending ≡ [])
-            (λ p. (k : Key) → holding_at (P.rows p) k
-            ≡ books (flat_map trade_entries (filter (is_due next) self.now.trades.pending)) k
-            (rolled (holding_at self.now.rows k)))) }
+        ensures booked { IfOk result (λ o. MatchOption o (filter (is_due next) self.now.trades.pending ≡ [])
+            (λ b. (k : Key) (h : Holding) → makes b k h
+            ≡ books (flat_map trade_entries (filter (is_due next) self.now.trades.pending)) k h)) }
         ensures due { IfOk result (λ o. IfSome o (λ _. list_any (is_due next) self.now.trades.pending ≡ true)) }
         ensures memory { OnErr result (list_any (is_due next) self.now.trades.pending ≡ true) }
     {
@@ -55,7 +76,6 @@ impl<P: Positions<A>, A: Allocator + Drop + Clone> Parts<P, A> {
         if !is_any_due(pending, next) {
             return Ok(None);
         }
-        let positions = opened(&self.alloc, &self.positions, pending, next)?;
-        Ok(Some(positions))
+        Ok(Some(bookings_due(&self.alloc, pending, next)?))
     }
 }

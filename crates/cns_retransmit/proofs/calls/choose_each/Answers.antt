@@ -10,6 +10,6 @@ pub loop-issue-preserved : goal.loop-issue-preserved
 loop-issue-preserved g c =
     let e : Cusip × CalledIn = (c.in-Some.issue.now, c.in-Some.called.now) in
     record {
-      same = step_same c.loop-issue.issue-iterator c.next.new.self c.args.issues e c.loop-issue.batches.items c.push.new.self.items (Some c.in-Some-2.batch) c.in-Some.ensures.steps c.loop-issue.invariant.same (ap option_to_list (sym c.in-Some-2.is) ∙ c.in_ok-batch.ensures) c.in-Ok.ensures.items;
+      same = step_same c.loop-issue.issue-iterator c.next.new.self c.args.issues e c.loop-issue.batches.items c.push.new.self.items (Some c.in-Some-2.batch) c.in-Some.ensures.steps c.loop-issue.invariant.same (ap option_to_list (sym c.in-Some-2.is) ∙ c.in_ok-batch.ensures) c.in_ok-push.ensures.items;
       can = (subst (λ xs. AllByRecursion (λ (e : Cusip × CalledIn). CanBeChosen e.1) xs) c.in-Some.ensures.steps c.loop-issue.invariant.can).1;
     }

@@ -17,7 +17,7 @@ invariant_of-self-2 g c =
     let room : IsSmallAmount c.with.result = subst IsSmallAmount (sym (c.with.ensures ∙ ap (λ (a : Amount). with_entry a e) (had ∙ (λ i. amount_at (c.self.view_is i) (c.key_of-key.ensures i))))) c.requires.room in
     record {
       order = sorted_from keys_total _ c.insert.ensures.ordered;
-      small = subst (AllByRecursion (λ (x : Key × Amount). IsSmallAmount x.1)) (sym c.in-Ok.ensures.entries) (small_insert c.key_of-key.result c.with.result es room c.self.invariant.small);
+      small = subst (AllByRecursion (λ (x : Key × Amount). IsSmallAmount x.1)) (sym c.in_ok-insert.ensures.entries) (small_insert c.key_of-key.result c.with.result es room c.self.invariant.small);
     }
 
 pub returns : goal.returns
@@ -25,4 +25,4 @@ returns g c =
     let es = c.self.inside.amounts.entries in
     let e = c.args.entry.now in
     let had : c.unwrap_or-had.result ≡ amount_at es c.key_of-key.result = had_is c.key_of-key.result es _ _ c.unwrap_or-had.ensures (c.copied.ensures ∙ c.get.ensures.value) in
-    rw (sym c.self.view_is) (amounts_added es c.insert.new.self.entries c.key_of-key.result c.with.result e c.key_of-key.ensures c.in-Ok.ensures.updates.0 (c.with.ensures ∙ ap (λ (a : Amount). with_entry a e) had))
+    rw (sym c.self.view_is) (amounts_added es c.insert.new.self.entries c.key_of-key.result c.with.result e c.key_of-key.ensures c.in_ok-insert.ensures.updates.0 (c.with.ensures ∙ ap (λ (a : Amount). with_entry a e) had))

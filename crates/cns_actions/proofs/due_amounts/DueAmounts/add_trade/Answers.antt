@@ -1,5 +1,5 @@
 use Rattle.cns_actions.proofs.Common.{amount_at}
-use Rattle.cns_actions.specs.Merging.{key_of}
+use Rattle.cns_actions.specs.Bookings.{key_of}
 use Rattle.cns_actions.proofs.DueAmounts.{trade_bound, trade_room, trade_sums, where_ok}
 use Rattle.cns_actions.proofs.due_amounts.DueAmounts.add_trade.Goals as goal
 

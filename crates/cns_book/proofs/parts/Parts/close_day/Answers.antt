@@ -1,11 +1,14 @@
-use Rattle.std.proofs.Common.{◌≡◌, ◌∙◌, ◌+◌, refl, sym, ap, subst, length, filter, List, [], ◌∷◌, arith, int_le, slice_get}
-use Rattle.cns_book.proofs.Common.{CanBePaid, Contents, Declared, Follows, HasRoom, IsCut, IsReady, WrongDay, batches_since, day_number, day_sheet, first_refusal, journal, last_dated, payments_by, prices_of}
+use Rattle.std.proofs.Common.{◌≡◌, ◌∙◌, ◌+◌, refl, sym, ap, subst, length, filter, flat_map, List, [], ◌∷◌, arith, int_le, slice_get}
+use Rattle.cns_book.proofs.Common.{CanBePaid, Contents, Declared, Follows, HasRoom, IsCut, IsReady, Key, WrongDay, batches_since, books, day_number, day_sheet, first_refusal, holding_at, journal, last_dated, payments_by, prices_of, rolled, trade_entries}
 use Rattle.cns_terms.specs.Dividends.{is_due}
 use Rattle.cns_terms.specs.Pending.{is_due as due_on}
 use Rattle.cns_terms.specs.declared.command.Activity.TheVariants as activity
 use Rattle.cns_terms.specs.declared.command.Command.TheVariants as command
 use Rattle.cns_terms.specs.declared.reply.Reply.TheVariants as reply
 use Rattle.cns_book.specs.Follows.{Steps}
+use Rattle.cns_actions.proofs.Reachable.{can_same}
+use Rattle.cns_book.proofs.ActionSteps.{can_be_booked}
+use Rattle.cns_book.proofs.TradingSteps.{same_rows}
 use Rattle.cns_book.proofs.ClosingSteps.{after_last, closes_fit, day_closed, le_test, not_late, opened_rows}
 use Rattle.cns_book.proofs.MachineSteps.{accepted, refused, stopped}
 use Rattle.cns_book.proofs.RetransmittalSteps.{liable_counted, liable_few}
@@ -57,12 +60,21 @@ returns-in_err-batches-clause-step g c L f =
     subst (λ (t : Contents). Steps L (command.Activity (activity.Close c.args.next)) c.from_residual-in_err-batches.result t) c.self.view_is
     (stopped L (command.Activity (activity.Close c.args.next)) c.from_residual-in_err-batches.result c.from_residual-in_err-batches.ensures.0 none f')
 
-pub returns-in_err-opened-clause-step : goal.returns-in_err-opened-clause-step
-returns-in_err-opened-clause-step g c L f =
+pub returns-in_err-opening-clause-step : goal.returns-in_err-opening-clause-step
+returns-in_err-opening-clause-step g c L f =
     let f' = subst (Follows L) (sym c.self.view_is) f in
     let none = not_late L _ c.args.next f' (sym c.le.ensures ∙ c.if-le.false) in
-    subst (λ (t : Contents). Steps L (command.Activity (activity.Close c.args.next)) c.from_residual-in_err-opened.result t) c.self.view_is
-    (stopped L (command.Activity (activity.Close c.args.next)) c.from_residual-in_err-opened.result c.from_residual-in_err-opened.ensures.0 none f')
+    subst (λ (t : Contents). Steps L (command.Activity (activity.Close c.args.next)) c.from_residual-in_err-opening.result t) c.self.view_is
+    (stopped L (command.Activity (activity.Close c.args.next)) c.from_residual-in_err-opening.result c.from_residual-in_err-opening.ensures.0 none f')
+
+pub returns-in_err-enter-clause-step : goal.returns-in_err-enter-clause-step
+returns-in_err-enter-clause-step g c L f =
+    let f' = subst (Follows L) (sym c.self.view_is) f in
+    let none = not_late L _ c.args.next f' (sym c.le.ensures ∙ c.if-le.false) in
+    stopped L (command.Activity (activity.Close c.args.next)) c.from_residual-in_err-enter.result c.from_residual-in_err-enter.ensures.0 none (same_rows L _ _ f' c.enter.ensures.same)
+
+pub open-requires-clause-within : goal.open-requires-clause-within
+open-requires-clause-within g c = can_same (g.P.Positions.rows c.self.inside.positions) _ (can_be_booked _ (subst HasRoom (sym c.self.view_is) c.requires)) c.enter.ensures.same
 
 pub count_liable-requires : goal.count_liable-requires
 count_liable-requires g c =
@@ -75,13 +87,13 @@ pub returns-in_err-keep-clause-step : goal.returns-in_err-keep-clause-step
 returns-in_err-keep-clause-step g c L f =
     let f' = subst (Follows L) (sym c.self.view_is) f in
     let none = not_late L _ c.args.next f' (sym c.le.ensures ∙ c.if-le.false) in
-    stopped L (command.Activity (activity.Close c.args.next)) c.from_residual-in_err-keep.result c.from_residual-in_err-keep.ensures.0 none (rw c.in_err-keep.ensures.err f')
+    stopped L (command.Activity (activity.Close c.args.next)) c.from_residual-in_err-keep.result c.from_residual-in_err-keep.ensures.0 none (rw c.in_err-keep.ensures.err (same_rows L _ _ f' c.enter.ensures.same))
 
 pub returns-in-Err-clause-step : goal.returns-in-Err-clause-step
 returns-in-Err-clause-step g c L f =
     let f' = subst (Follows L) (sym c.self.view_is) f in
     let none = not_late L _ c.args.next f' (sym c.le.ensures ∙ c.if-le.false) in
-    (none, rw (c.in-Err.ensures.err, c.forget_last.ensures.last c.self.inside.batches c.in_ok-batches.batches.items c.in_ok-keep.ensures.ok) f')
+    (none, rw (c.in-Err.ensures.err, c.forget_last.ensures.last c.self.inside.batches c.in_ok-batches.batches.items c.in_ok-keep.ensures.ok) (same_rows L _ _ f' c.enter.ensures.same))
 
 pub returns-clause-step : goal.returns-clause-step
 returns-clause-step g c L f =
@@ -96,8 +108,11 @@ returns-clause-step g c L f =
     let count = c.len.ensures ∙ ap (λ s. length s.rows) is in
     let chosen = subst (λ (t : Contents). c.in_ok-batches.batches.items ≡ batches_since (journal t.opening L) (journal t.opening L)) (sym c.self.view_is) (c.in_ok-batches.ensures.batches L f) in
     let liable = c.count_liable.ensures ∙ liable_counted o L c.as_slice.result.now f'.reached (c.as_slice.ensures.value ∙ chosen) in
-    let made = rw (← c.self.view_is) at c.in_ok-opened.ensures.opened in
-    let rows = opened_rows (λ p. g.P.Positions.rows p) c.in_ok-opened.opened (filter (due_on c.args.next) c.self.inside.trades.pending) (g.P.Positions.rows c.self.inside.positions) (g.P.Positions.rows c.open.new.positions) made c.open.ensures.rolled c.open.ensures.taken in
+    let made = rw (← c.self.view_is) at c.in_ok-opening.ensures.booked in
+    let due = filter (due_on c.args.next) c.self.inside.trades.pending in
+    let rows : (k : Key) → holding_at (g.P.Positions.rows c.open.new.positions) k ≡ books (flat_map trade_entries due) k (rolled (holding_at (g.P.Positions.rows c.self.inside.positions) k)) = λ k.
+    opened_rows c.in_ok-opening.opening due (g.P.Positions.rows c.enter.new.positions) (g.P.Positions.rows c.open.new.positions) made c.open.ensures.rolled c.open.ensures.booked k
+    ∙ ap (λ h. books (flat_map trade_entries due) k (rolled h)) (c.enter.ensures.same k) in
     accepted L (activity.Close c.args.next) (reply.Closed (record { day = c.self.inside.closes + 1; date = c.self.inside.today; rows = c.len.result; liable = c.count_liable.result }))
     none
     (λ i. reply.Closed (record { day = f'.clock.closes i + 1; date = f'.clock.today i; rows = count i; liable = liable i }))
@@ -106,5 +121,5 @@ returns-clause-step g c L f =
 pub same-self-in_err-batches : goal.same-self-in_err-batches
 same-self-in_err-batches g c = refl
 
-pub same-self-in_err-opened : goal.same-self-in_err-opened
-same-self-in_err-opened g c = refl
+pub same-self-in_err-opening : goal.same-self-in_err-opening
+same-self-in_err-opening g c = refl

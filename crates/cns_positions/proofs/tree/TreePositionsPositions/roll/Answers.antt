@@ -13,3 +13,6 @@ returns-clause-rolled g c k = rw (c.close_all.ensures, ← c.self.view_is) (hold
 
 pub returns-clause-order : goal.returns-clause-order
 returns-clause-order g c = rw c.close_all.ensures (sorted_closed c.self.inside.rows ∙ c.self.invariant.sorted)
+
+pub returns-clause-kept : goal.returns-clause-kept
+returns-clause-kept g c k was = rw c.close_all.ensures (row_closed c.self.inside.rows k ∙ rw (← c.self.view_is) at was)

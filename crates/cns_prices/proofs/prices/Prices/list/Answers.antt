@@ -4,8 +4,8 @@ use Rattle.cns_prices.proofs.Quoted.{priced, unmarked, unlisted}
 use Rattle.cns_prices.proofs.prices.Prices.list.Goals as goal
 
 pub returns-clause-price : goal.returns-clause-price
-returns-clause-price g c = rw (sym c.self.view_is) (priced c.self.inside.issues.entries c.insert.new.self.entries c.args.cusip _ c.in-Ok.ensures.updates.0)
+returns-clause-price g c = rw (sym c.self.view_is) (priced c.self.inside.issues.entries c.insert.new.self.entries c.args.cusip _ c.in_ok-insert.ensures.updates.0)
 
 pub returns-clause-retired : goal.returns-clause-retired
-returns-clause-retired g c = rw (sym c.self.view_is) (unmarked c.self.inside.issues.entries c.insert.new.self.entries c.args.cusip _ c.in-Ok.ensures.updates.0
+returns-clause-retired g c = rw (sym c.self.view_is) (unmarked c.self.inside.issues.entries c.insert.new.self.entries c.args.cusip _ c.in_ok-insert.ensures.updates.0
     (unlisted (quote_in c.self.inside.issues.entries c.args.cusip) (rw c.self.view_is c.requires)))

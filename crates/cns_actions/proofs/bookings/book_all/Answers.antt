@@ -1,0 +1,18 @@
+use Rattle.std.proofs.Common.{◌∙◌, ◌+◌, drop, sym, ap, subst, List}
+use Rattle.cns_actions.proofs.Common.{Booking, holding_at, makes}
+use Rattle.cns_actions.proofs.Making.{AreReady, left_first, next_made, next_ready}
+use Rattle.cns_actions.proofs.bookings.book_all.Goals as goal
+
+pub loop-booking-preserved : goal.loop-booking-preserved
+loop-booking-preserved g c =
+    let l = c.loop-booking in
+    let b = c.booking-item.result in
+    let rest = drop (l.booking-index + 1) c.args.bookings.now in
+    let old = g.P.Positions.rows l.positions in
+    let new = g.P.Positions.rows c.book_one.new.positions in
+    let first = left_first c.args.bookings.now l.booking-index b c.loop-booking-test.true c.booking-item.is in
+    let ready = subst (AreReady old) first l.invariant.ready in
+    record {
+      made = λ k. next_made b rest old new c.book_one.ensures.made c.book_one.ensures.kept ready k ∙ ap (λ (bs : List Booking). makes bs k (holding_at old k)) (sym first) ∙ l.invariant.made k;
+      ready = next_ready b rest old new c.book_one.ensures.made c.book_one.ensures.kept ready;
+    }
