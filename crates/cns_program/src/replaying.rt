@@ -40,6 +40,8 @@ fn replay_input<I: Read + Drop, O: Write>(
 }
 
 /// Replays the input by a book that opens on the date, and tells a fault.
+// It is not put in line: its frame has the reader, 16 KiB and more, and the other subcommands would have that in theirs.
+#[inline(never)]
 pub fn tell_replay<I: Read + Drop, O: Write, E: Write>(
     alloc: Global,
     opening: Day,

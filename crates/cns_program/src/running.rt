@@ -8,19 +8,64 @@ use crate::fault::Fault;
 use crate::outcome::tell_outcome;
 use cns_desk::{Outcome, run_workers};
 use cns_feed::CsvSource;
-use cns_terms::NoGate;
+use cns_terms::{Item, NoGate, Source, SourceFault};
 use cns_units::Day;
+use std::alloc::Global;
 use std::fs;
 use std::io::{Read, Write};
 use std::rt::Files;
 use std::sync::Wait;
 use std::thread::Threads;
 
-// Opens the files, from left to right, as the sources of the workers.
+// The source over a file. The tables and the buffer of its reader, 16 KiB, are on the heap, so that each frame that a source
+// moves through has a pointer, and no copy of them.
+struct FileSource<F: Read> {
+    records: Box<CsvSource<F>>,
+}
+
+impl<F: Read + Drop> FileSource<F> {
+    // No record was read yet. It is not put in line: its frame has the copy that the box is filled from.
+    #[inline(never)]
+    fn new(alloc: Global, file: F) -> Result<FileSource<F>, Fault>
+        ensures { IfErr result (λ f. f ≡ Fault.NoMemory) }
+    {
+        let Ok(records) = Box::new(alloc, CsvSource::new(alloc, file)) else {
+            return Err(Fault::NoMemory);
+        };
+        Ok(FileSource { records })
+    }
+}
+
+impl<F: Read + Drop> Drop for FileSource<F> {
+    // It is not put in line: a caller's frame would have what the box hands out.
+    #[inline(never)]
+    fn drop(self) {
+        let FileSource { records } = self;
+        drop(records);
+    }
+}
+
+impl<F: Read> Source for FileSource<F> {
+    ghost use Rattle.std.specs.Prelude.{true};
+
+    ghost told = { λ s. s.records.value.told };
+
+    ghost ended = { λ s. s.records.value.ended };
+
+    ghost may_fail = { true };
+
+    fn next(&mut self) -> Result<Item, SourceFault> {
+        self.records.next()
+    }
+}
+
+// Opens the files, from left to right, as the sources of the workers. It is not put in line: its frame has the copy of a
+// name that is opened, 8 KiB, and is gone when the workers run.
+#[inline(never)]
 fn open_files<F: Read + Drop, R: AllocGlobal + Files<File = F>>(
     rt: &R,
     files: &[&str],
-) -> Result<Vec<CsvSource<F>>, Fault>
+) -> Result<Vec<FileSource<F>>, Fault>
     ensures ok { IfOk result (λ v. vec_len v ≡ length files.now) }
     ensures err { IfErr result (λ f. IsOfOpening (length files.now) f) }
 {
@@ -29,7 +74,8 @@ fn open_files<F: Read + Drop, R: AllocGlobal + Files<File = F>>(
         let Ok(file) = fs::open(rt, *name) else {
             return Err(Fault::Open(place as u64 + 1));
         };
-        let Ok(()) = sources.push(CsvSource::new(rt.alloc(), file)) else {
+        let source = FileSource::new(rt.alloc(), file)?;
+        let Ok(()) = sources.push(source) else {
             return Err(Fault::NoMemory);
         };
     }

@@ -78,6 +78,8 @@ fn write_statements<R: AllocGlobal + Threads + Wait + Sync, I: Read + Drop, O: W
 /// Loads the input by a book that opens on a date, and writes the statements of all accounts that have a row on a closed
 /// day, in the order of accounts; a fault is told. They are made by so many workers, 1 to 64, and are the same for any
 /// number of them.
+// It is not put in line: its frame has the reader, 16 KiB and more, and the other subcommands would have that in theirs.
+#[inline(never)]
 pub fn tell_statements<R: AllocGlobal + Threads + Wait + Sync, I: Read + Drop, O: Write, E: Write>(
     rt: &R,
     opening: Day,

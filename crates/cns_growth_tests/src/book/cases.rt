@@ -92,14 +92,14 @@ pub(super) const ACCEPTED: [Case<'static>; 17] = [
     Case {
         before: &[MEMBERS, TRADED],
         record: "SPLIT,037833100,3,2,3101\n",
-        growths: 5,
-        left: 0,
+        growths: 3,
+        left: 1,
     },
     Case {
         before: &[MEMBERS, TRADED],
         record: "EXCHANGE,037833100,17275R102,1,6,18300,50\n",
-        growths: 5,
-        left: 0,
+        growths: 6,
+        left: 5,
     },
     Case {
         before: &[MEMBERS, TRADED],
@@ -127,7 +127,7 @@ pub(super) const ACCEPTED: [Case<'static>; 17] = [
         growths: 8,
         left: 1,
     },
-    // Two trades are due, so the positions are made anew.
+    // Two trades are due, at three keys.
     Case {
         before: &[MEMBERS, TRADED, AHEAD],
         record: "CLOSE,2024-06-05\n",

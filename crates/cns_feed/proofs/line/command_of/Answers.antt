@@ -16,3 +16,8 @@ pub returns-then-eq : goal.returns-then-eq
 returns-then-eq c =
     let same = (bytes_eq-Decides c.field-kind.result.now c.as_slice.result.now).0 (sym c.eq.ensures ∙ c.if-eq.true) in
     c.trade_of.ensures ∙ trade_is (fields_of c.args.row.now) (sym c.field-kind.ensures ∙ same ∙ c.as_slice.ensures)
+
+pub returns-then-eq-2 : goal.returns-then-eq-2
+returns-then-eq-2 c =
+    let same = (bytes_eq-Decides c.field-kind.result.now c.as_slice-else-eq.result.now).0 (sym c.eq-else-eq.ensures ∙ c.if-eq-2.true) in
+    c.position_of.ensures ∙ position_is (fields_of c.args.row.now) (sym c.field-kind.ensures ∙ same ∙ c.as_slice-else-eq.ensures)
