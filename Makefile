@@ -129,6 +129,7 @@ test:
 	    bash tests/status.sh $(PROGRAM); \
 	    bash tests/refused.sh $(PROGRAM) $(DRIVER); \
 	    bash tests/bytes.sh $(PROGRAM); \
+	    bash tests/stack.sh $(PROGRAM); \
 	    python3 tests/large.py $(PROGRAM) $(PAGE); \
 	    bash tests/quoted.sh $(PROGRAM); \
 	    python3 tests/fuzz.py --model; \

@@ -1,4 +1,5 @@
 -- Whether a split or an exchange takes a member beyond its limits: just where the definitions say so.
+-- For `bookings_for` of acting.rt.
 use Rattle.std.proofs.Common.{◌≡◌, ◌∙◌, ap, refl, ℕ, ◌+◌, ◌≤◌, ℤ, pos, ◌+ℤ◌, ◌-ℤ◌, neg_ℤ, Bool, true, false, cond, ◌&&◌, ◌||◌, ◌==◌, nat_lt, List, [], ◌∷◌, ◌++◌, map, arith, lt-ltb}
 use Rattle.cns_actions.proofs.Common.{Account, Action, AllByRecursion, AreHolders, Cusip, Entry, Exchange, Holder, IsForAnother, Member, Pend, Rows, Split, against_corporation, bought_in, bytes_refl, converted, corporation, each_both, each_weaker, entries_of, entry, holders, in_exchange, in_lieu, ints, is_beyond, is_sorted, issue_of, key_cmp, list_any, nat_tests, new_entry, occurs, old_entry, position_at, position_limit, positions_in, same_issue, shares_for, sold_in, total, total-append, total-map, zero_add}
 use Rattle.std.proofs.lemmas.List.Folds.{list_any-append}

@@ -1,4 +1,5 @@
 -- What is booked for a split or an exchange: that its numbers are small, and its order.
+-- For `all_bookings` and `bookings_for` of acting.rt, `book` of bookings.rt.
 use Rattle.std.proofs.Common.{◌≡◌, ◌∙◌, sym, ap, subst, refl, ℕ, zero, suc, ◌^◌, ◌<◌, ◌≤◌, ℤ, pos, neg_ℤ, Bool, true, false, cond, unsigned_abs, List, [], ◌∷◌, ◌++◌, append_assoc, Ordering, arith, flat_map, int_eq, is_eq, is_lt, nat_cmp, Less, Equal, Greater}
 use Rattle.cns_actions.proofs.Common.{Account, Action, AllByRecursion, AreSmall, Booking, CanBeBooked, Change, Cusip, HasSpace, Holder, IsFew, IsForAnother, Key, Rows, above_all, age_for, all_bookings, and_left, and_right, below_all, bookings_for, both_true, change_of, corporation, corporation_limit, each_append, each_weaker, entry, holding_at, in_issue_order, ints, is_eq-slice_cmp, is_rising, is_sorted, key_cmp, less, member_bookings, member_limit, nat_cmp_total, nat_list_cmp_total, nat_tests, opposite, ordering_reverse, ordering_then, position_at, position_limit, same_issue, slice_cmp, tied_itself}
 use Rattle.cns_actions.specs.Bookings.{IsSmall, booking, by_key, key_of}

@@ -1,4 +1,5 @@
 -- What is booked for a split or an exchange: that it makes of every holding what the definitions do.
+-- For `bookings_for` of acting.rt.
 use Rattle.std.proofs.Common.{◌≡◌, ◌∙◌, sym, ap, refl, ℕ, zero, suc, ◌+◌, ◌≤◌, max, ℤ, pos, ◌+ℤ◌, ◌-ℤ◌, neg_ℤ, Bool, true, false, cond, not, ◌&&◌, ◌||◌, ◌==◌, ◌⊎◌, inl, inr, List, [], ◌∷◌, map, None, arith, flat_map, int_eq, is_lt, nat_cmp, eqb-true, lt-ltb}
 use Rattle.cns_actions.proofs.Common.{Account, Action, AllByRecursion, AreHolders, Booking, Change, Cusip, Entry, Exchange, Holder, Holding, Key, Member, Rows, Split, against_corporation, age_for, all_bookings, bookings_for, books, carried_to, cents_for, change_of, corporation, each_weaker, entries_in, entries_of, entry, eqb_refl, greatest, has_position, has_position_or_age, held_above, holders, holding_at, in_issue_order, ints, is_sorted, issue_of, key_cmp, list_any, makes, map-append, member_bookings, nat_tests, new_entry, occurs, old_entry, oldest_of, opposite, positions_in, same_issue, shares_for, slice_cmp, total, total-add, total-append, total-map, total-neg, total-same, total-zero, with_age, with_position, zero_add}
 use Rattle.cns_terms.specs.Entries.{split_entry}

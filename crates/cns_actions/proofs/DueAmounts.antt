@@ -1,4 +1,5 @@
 -- What trades book, added up by key.
+-- For `listed` of due_bookings.rt, `add`, `add_trade` and `of` of due_amounts.rt.
 use Rattle.std.proofs.Common.{◌≡◌, ◌∙◌, sym, ap, subst, refl, ℕ, max, ◌+◌, ◌*◌, ◌^◌, ◌<◌, ◌≤◌, ℤ, pos, ◌+ℤ◌, neg_ℤ, unsigned_abs, Bool, true, false, cond, ◌&&◌, List, [], ◌∷◌, ◌==◌, map, filter, flat_map, length, get_or, drop, Option, Some, unwrap_or, Ordering, Result, Ok, Err, IfOk, OnOk, arith, is_eq, is_lt, Less, Equal, Greater}
 use Rattle.cns_actions.proofs.Common.{AllByRecursion, Amount, AreSmall, Day, Entry, Holding, IsSmallAmount, Key, Pend, amount_at, amount_of, and_left, and_right, as_booking, below_all, buyer_entry, drop_all, due_entries, equal, exact_keys, insert_entry, ints, is_sorted, key_cmp, keys_total, lookup, makes, match_ordering, money_limit, ordering_reverse, same_issue, seller_entry, shares_limit, trade_entries, with_amount, with_entry, zero_add}
 use Rattle.std.specs.BTreeMap.{is_at}

@@ -1,4 +1,5 @@
 -- The members with a position or an age in an issue, as rows show them and as a list of members names them.
+-- For `all_bookings` and `bookings_for` of acting.rt.
 use Rattle.std.proofs.Common.{◌≡◌, ◌∙◌, sym, ap, subst, refl, ℕ, ◌+◌, ◌≤◌, ℤ, pos, ◌+ℤ◌, Bool, true, false, cond, not, ◌&&◌, ◌||◌, ◌==◌, nat_lt, unsigned_abs, List, [], ◌∷◌, map, filter, Some, None, unwrap_or, Ordering, zero-add, arith, int_eq, is_eq, is_lt, nat_cmp, Less, Equal, Greater, eqb-true, lt-ltb}
 use Rattle.cns_actions.proofs.Common.{Account, AllByRecursion, AreHolders, CanBeBooked, Cusip, Holder, Holding, Key, Member, Rows, above_all, and_false, and_left, and_right, below_all, both_true, bytes_eq-Decides, bytes_refl, corporation, each_filter, each_map, each_weaker, eqb_refl, eqb_sym, equal, exact_keys, has_position, has_position_or_age, held_above, held_same, held_sorted, holder_of, holders, holders_in, holding_at, is_holder, is_rising, is_sorted, key_cmp, keys_total, list_any, nat_list_cmp_total, nat_tests, occurs, occurs_found, occurs_missing, oldest_of, or_right, ordering_then, position_at, position_limit, positions_in, same_issue, slice_cmp, tied_itself, total, total-map, total-swap, with_position, zeros}
 use Rattle.std.specs.FinMap.{find}

@@ -1,7 +1,7 @@
 -- Bookings that are made one after another: what stands at each key.
 -- For `enter_all`, `make` and `book_all` of bookings.rt.
 use Rattle.std.proofs.Common.{◌≡◌, ◌∙◌, sym, ap, subst, refl, ℕ, ◌+◌, ◌<◌, max, ℤ, pos, ◌+ℤ◌, Bool, true, false, cond, ◌&&◌, ◌==◌, List, [], ◌∷◌, ◌++◌, length, get_or, take, drop, Ordering, arith, is_eq, is_lt, Less, Equal, Greater}
-use Rattle.cns_actions.proofs.Common.{AllByRecursion, AreEntered, AreSmall, Booking, Entry, HasSpace, Holding, Key, Rows, and_left, and_right, below_all, carried_to, cents_for, each_append, each_weaker, entries_in, equal, exact_keys, greatest, has_row, holding_at, ints, is_sorted, key_cmp, keys_total, less, made, makes, ordering_reverse, same_issue, same_key, shares_for, take_more, total, with_age}
+use Rattle.cns_actions.proofs.Common.{AreEntered, AreSmall, Booking, Entry, HasSpace, Holding, Key, Rows, and_left, and_right, below_all, carried_to, cents_for, each_append, each_weaker, entries_in, equal, exact_keys, greatest, has_row, holding_at, ints, is_sorted, key_cmp, keys_total, less, made, makes, ordering_reverse, same_issue, same_key, shares_for, take_more, total, with_age}
 use Rattle.std.proofs.lemmas.List.{drop_more}
 use Rattle.std.proofs.Math.Nat.{max-zero}
 use Rattle.cns_positions.specs.Rows.{aged, booked, entry_of}

@@ -1,4 +1,5 @@
 -- Lists of members in order.
+-- For `split`, `exchange` and `bookings_for` of parts/actions.rt in cns_book, `close_day` of parts/closing.rt in cns_book and others.
 use Rattle.std.proofs.Common.{◌≡◌, ap, refl, ℕ, true, false, not, ◌==◌, ◌||◌, List, [], ◌∷◌, arith, is_lt, nat_cmp}
 use Rattle.cns_actions.proofs.Common.{above_all, and_left, and_right, both_true, is_rising, list_any, nat_tests}
 use Rattle.cns_terms.specs.Actions.{are_distinct}

@@ -1,6 +1,6 @@
 -- Positions that can be booked stay so.
 -- For `Bookings::make` of bookings.rt, `with_bookings` and `opened` of beside.rt, and the book's `open`.
-use Rattle.std.proofs.Common.{◌≡◌, sym, subst, ℕ, ◌≤◌, unsigned_abs, [], arith}
+use Rattle.std.proofs.Common.{◌≡◌, sym, subst, ◌≤◌, unsigned_abs, [], arith}
 use Rattle.cns_actions.proofs.Common.{CanBeBooked, Holding, Key, Rows, amount_limit, corporation, corporation_limit, holding_at, position_limit, rolled}
 
 -- nothing stands anywhere yet

@@ -1,4 +1,5 @@
 -- Small numbers, passed and added in registers.
+-- For `with` of due_amounts.rt.
 use Rattle.std.proofs.Common.{◌≡◌, ◌∙◌, ap, ◌^◌, ◌<◌, ℤ, ◌+ℤ◌, unsigned_abs, w64, to_z, of_z, arith}
 use Rattle.cns_actions.proofs.Common.{fits_signed_from_abs, ints, w128}
 use Rattle.std.proofs.lemmas.Int.{to_z-of_z}

@@ -1,4 +1,5 @@
 -- Sums over the members with a position, as far as they were added up.
+-- For `all_bookings` and `sum_of` of acting.rt.
 use Rattle.std.proofs.Common.{◌≡◌, ◌∙◌, sym, ap, subst, ℕ, ◌*◌, ◌^◌, ◌<◌, ◌≤◌, ℤ, pos, ◌+ℤ◌, true, false, cond, not, Bool, ◌||◌, List, ◌∷◌, None, unsigned_abs, arith, int_eq, is_lt, nat_cmp}
 use Rattle.cns_actions.proofs.Common.{Action, CanBeBooked, Change, Cusip, Holder, IsFew, Rows, above_all, and_left, and_right, change_of, has_position, has_position_or_age, held_above, holders_after, holders_in, ints, is_sorted, key_cmp, list_any, member_limit, nat_tests, position_at, position_limit, with_position}
 use Rattle.cns_actions.specs.Changes.{sum_of}

@@ -1,5 +1,5 @@
 -- What is booked at several keys, and what it makes of rows.
-use Rattle.std.specs.Prelude.{◌≡◌, ◌<◌, ◌^◌, ℕ, ◌+ℤ◌, true, ◌&&◌, ◌==◌, List, [], ◌∷◌, map, unsigned_abs, if◌then◌else◌}
+use Rattle.std.specs.Prelude.{◌≡◌, ◌<◌, ◌^◌, ℕ, ◌+ℤ◌, true, ◌&&◌, ◌==◌, List, map, unsigned_abs, if◌then◌else◌}
 use Rattle.cns_terms.specs.Common.{AllByRecursion, greatest, is_sorted, key_cmp, same_issue}
 use Rattle.cns_terms.specs.declared.holding.Entry.{Entry}
 use Rattle.cns_terms.specs.declared.holding.Holding.{Holding}

@@ -1,6 +1,7 @@
 -- A book may go to another thread, where its positions may. Rattle shows as much by itself of a type that nothing below it
 -- holds itself; a tree's boxes do, so it is shown here of what a sheet stands in.
 -- For the struct Book of book.rt and the struct Parts of parts.rt.
+-- For `start` of threads.rt in cns_desk.
 use Rattle.cns_book.proofs.Common.{IsSend, crosses, sendable}
 use denote.RattleType.{RattleType}
 use denote.Param.Send.{view_send}

@@ -1,5 +1,6 @@
 -- Searches for a closed day by its date.
 -- For closed_days.rt, and `sheet` of parts/reading.rt.
+-- For `place`, `count_by`, `as_of` and `find` of closed_days.rt and others.
 use Rattle.std.proofs.Common.{◌≡◌, ◌∙◌, sym, ap, subst, refl, ℕ, zero, suc, ◌+◌, ◌-◌, ◌<◌, ◌≤◌, ℤ, Bool, true, false, cond, List, [], ◌∷◌, length, get_or, map, reverse, find, Option, Some, None, Result, Ok, Err, IfOk, IfErr, inl, inr, arith, int_le, int_lt, not, option_map, HoldsAt, int_cmp, int_eq, Ordering, Less, Equal, Greater, is_none, unwrap_or}
 use Rattle.cns_book.proofs.Common.{Account, Activity, AllWithin, Contents, Day, DaySheet, Follows, IsAfter, IsBinarySearchResult, IsNonDecreasingBy, IsNonDecreasingBy-from_default, IsPartitionPoint, Journal, NoSuchMember, cases_lt, closings, day_number, day_sheet, first_refusal, ints, is_dated, is_dated_by, is_same_day, journal, length-map, length-reverse, option_map_or, ordering_index, sheet_as_of, sheet_on, statement}
 use Rattle.std.specs.List.Sorted.{IsPartitionedBy}

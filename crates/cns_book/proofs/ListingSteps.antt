@@ -1,5 +1,6 @@
 -- A member, an issue or a price more: each leaves all parts but its own.
 -- For parts/listing.rt, and `declare_dividend` of parts/dividend.rt, clause step.
+-- For `declare_dividend` of parts/dividend.rt, `list_issue`, `add_member` and `set_price` of parts/listing.rt.
 use Rattle.std.proofs.Common.{◌≡◌, ◌∙◌, sym, ap, ℕ, ◌≤◌, Bool, true, false, ◌||◌, cond, eqb, List, [], ◌∷◌, refl, bytes_eq, is_some, Option, Some, None, find, filter_map}
 use Rattle.cns_book.proofs.Common.{Activity, Contents, Cusip, Declared, Follows, FollowsListings, FollowsPending, FollowsReferences, IsInRange, Listed, account_lt, activities, bytes_eq-Decides, entries, eqb_sym, is_close, is_listed, issue_lt, issues, journal, member_limit, members, pays_before, price, price_in, price_limit, priced, rate_limit, refusal, retired_in}
 use Rattle.cns_terms.specs.declared.command.Listing.{Listing}

@@ -1,5 +1,6 @@
 -- The machine's reply and step, by whether a command is refused.
 -- For every command, clause step.
+-- For `give_notice`, `notice_refusal` and `withdraw` of parts/notice.rt, `split` of parts/actions.rt and others.
 use Rattle.std.proofs.Common.{◌≡◌, ◌∙◌, sym, ap, subst, refl, cond, Bool, true, false, not, List, [], ◌∷◌, ◌++◌, Some, None, Ok, find, option_map, is_none, Result, Err, IsErr}
 use Rattle.cns_book.proofs.Common.{Activity, AllByRecursion, Command, Contents, Follows, Refusal, Reply, Rule, first_refusal, journal, option_map_or, refusal}
 use Rattle.cns_terms.specs.declared.fault.NoMemory.{NoMemory}

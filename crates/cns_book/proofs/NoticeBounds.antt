@@ -1,5 +1,6 @@
 -- How much is received and bought in on a notice, and of which days notices are.
 -- For parts/notice.rt, and `execute` of parts/execution.rt: what the calls of notices require.
+-- For `give_notice` of parts/notice.rt, `receive` of parts/trading.rt, `execute` of parts/execution.rt.
 use Rattle.std.proofs.Common.{◌≡◌, ◌∙◌, ap, sym, subst, refl, ℕ, zero, suc, ◌+◌, ◌*◌, ◌-◌, ◌^◌, ◌≤◌, ◌<◌, Bool, true, false, cond, ◌&&◌, ◌==◌, List, [], ◌∷◌, ◌++◌, length, map, Option, Some, None, arith, slice_get}
 use Rattle.cns_book.proofs.Common.{Activity, AllByRecursion, Contents, Day, ForSome, HasRoom, IsInRange, IsReached, Journal, Movement, Notice, Noticed, day, days_by, each_append, each_map, execution, history_limit, is_given, is_live, journal, journal_len, kept_notices, length-map, notice, noticed, notices, option_map_or, receipt, received_live, same_issue, shares_executed, shares_limit, stage}
 use Rattle.cns_notices.specs.Kept.{kept}

@@ -1,5 +1,6 @@
 -- Notices and withdrawals: what they are refused for, and what they leave.
 -- For parts/notice.rt, clauses refusal and step.
+-- For `give_notice`, `withdraw_refusal`, `notice_refusal` and `withdraw` of parts/notice.rt and others.
 use Rattle.std.proofs.Common.{◌≡◌, ◌∙◌, ap, sym, refl, ℕ, zero, suc, ◌+◌, ◌-◌, ◌≤◌, ℤ, pos, Bool, true, false, not, cond, List, [], ◌∷◌, ◌++◌, length, map, Option, Some, None, ◌⊎◌, inl, inr, is_none, is_some, arith, slice_get, IsSomeAnd, ◌==◌, find, int_le, nat_le, option_map}
 use Rattle.cns_book.proofs.Common.{Activity, AlreadyNoticed, Contents, Day, Ended, ExceedsPosition, Expired, Follows, FollowsNotices, FollowsPending, IsInRange, Journal, Live, Movement, NoSuchIssue, NoSuchMember, NoSuchNotice, NotLive, NotLong, Notice, Noticed, Posting, Refusal, Retired, Rule, Stage, Withdrawn, books, changed_each, changed_one, entries, first_reached, first_refusal, holding_at, is_close, is_exceeded, is_listed, is_live, is_member, is_retired, is_seen, is_so, issue_rules, journal, kept_found, length-map, live_number, nat_tests, notice_at, notices, option_map_or, posting, refusal, remaining_by, stage, with_notice}
 use Rattle.cns_terms.specs.declared.buy_in.Given.{Given}

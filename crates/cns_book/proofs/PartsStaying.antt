@@ -1,5 +1,6 @@
 -- What an activity leaves: of each group of parts, which activities change it.
 -- For every command, clause step.
+-- For `declare_dividend` of parts/dividend.rt, `list_issue`, `add_member` and `set_price` of parts/listing.rt and others.
 use Rattle.std.proofs.Common.{◌≡◌, ◌∙◌, sym, ap, refl, Bool, true, false, ◌&&◌, cond, [], ◌∷◌, None, is_some, map, reverse}
 use Rattle.cns_book.proofs.Common.{Activity, Contents, FollowsListings, FollowsNotices, FollowsPending, FollowsRows, Journal, Key, Posting, Rows, and_false, batches_since, books, closings, entries, exchanged, holding, holding_at, is_close, posting}
 use Rattle.cns_terms.specs.declared.command.Activity.TheVariants as activity

@@ -1,5 +1,6 @@
 -- With room for one activity more, all numbers are small enough.
 -- For every call of positions: what it requires.
+-- For `make_fills` and `check_execution` of parts/execution.rt, `two_holdings` and `holding` of parts/reading.rt and others.
 use Rattle.std.proofs.Common.{◌≡◌, sym, subst, ℕ, zero, suc, ◌*◌, ◌≤◌, ℤ, refl, arith, unsigned_abs}
 use Rattle.cns_book.proofs.Common.{Contents, Cusip, HasRoom, Holding, Key, Rows, booking_limit, bounded, corporation_limit, history_limit, holding_at, journal, limited, near, position_limit}
 use Rattle.cns_terms.specs.Positions.{position}

@@ -1,5 +1,6 @@
 -- The batches of the closed days after one activity more.
 -- For every command, clause step.
+-- For `count_by` of closed_days.rt, `give_notice`, `withdraw_refusal` and `notice_refusal` of parts/notice.rt and others.
 use Rattle.std.proofs.Common.{◌≡◌, ◌∙◌, ap, refl, ℕ, false, List, [], ◌∷◌, ◌++◌, length, map, filter, is_some, Option, Some, None, reverse, nat_lt, ◌&&◌, ◌==◌}
 use Rattle.cns_book.proofs.Common.{Activity, AllByRecursion, Cusip, Day, Execution, Journal, Liable, Liables, Posting, batch_since, batches_since, closings, day, executes, issues, kept_batches, map-append, map_each, notice_at, option_map_or, posting, reverse-append, same_issue}
 use Rattle.cns_terms.specs.Notices.{executed}

@@ -1,6 +1,7 @@
 -- The sheet that is handed out with a statement.
-use Rattle.std.proofs.Common.{◌≡◌, ◌∙◌, sym, ap, refl, subst, cond, Bool, true, false, not, List, [], ◌∷◌, Some, None, Option, option_map, find, is_none, unwrap_or}
-use Rattle.cns_terms.proofs.Common.{Day, DaySheet, Journal, accepted, answer_to, closed_on, closings, date, day_sheet, first_refusal, is_same_day, journal, option_map_or, sheet_on, statement}
+-- For `sheet` of kept.rt.
+use Rattle.std.proofs.Common.{◌≡◌, refl, cond, Bool, true, not, List, [], ◌∷◌, Some, None, Option, option_map, find, is_none, unwrap_or, arith}
+use Rattle.cns_terms.proofs.Common.{Day, DaySheet, Journal, accepted, answer_to, date, day_sheet, first_refusal, is_same_day, journal, option_map_or, sheet_on, statement}
 use Rattle.cns_terms.specs.declared.history.Taken.{Taken}
 use Rattle.cns_terms.specs.declared.command.Command.TheVariants as command
 use Rattle.cns_terms.specs.declared.refusal.Refusal.TheVariants.{NoSuchDay, NoSuchMember}
@@ -13,17 +14,13 @@ use Rattle.cns_terms.specs.declared.reply.Reply.TheVariants as reply
 some_same : {X : Type 0} (x y : X) → Some x ≡ Some y → x ≡ y
 some_same x y h = cc
 
-none_some : {X : Type 0} (x : X) → None ≡ Some x → ⊥
-none_some x h = cc
-
 module _ {X : Type 0} (p : X → Bool) where
   found_branch : (b : Bool) (y : X) (rest : Option X) (x : X) → p y ≡ b → (rest ≡ Some x → p x ≡ true) → cond b (Some y) rest ≡ Some x → p x ≡ true
-  found_branch true y rest x e more h = ap p (sym (some_same y x h)) ∙ e
-  found_branch false y rest x e more h = more h
+  found_branch b y rest x e more h = grind (arith, some_same)
 
   -- what is found meets the test
   find_meets : (xs : List X) (x : X) → find p xs ≡ Some x → p x ≡ true
-  find_meets [] x h = absurd (none_some x h)
+  find_meets [] x h = grind arith
   find_meets (y ∷ ys) x h = found_branch (p y) y (find p ys) x refl (find_meets ys x) h
 
 -- the sheet of a day that was looked for, and the reply to the statement of the corporation on it
@@ -34,9 +31,4 @@ hands_found o d (Some K) same = record { sheet = day_sheet o K; is = refl; dated
 
 -- with the reply to the statement of the corporation goes the sheet of the day
 pub hands : (o : Day) (H : List Taken) (d : Day) (r : Reply) (s : Option DaySheet) → r ≡ answer_to o (accepted o H) (command.Statement 0 d) → s ≡ sheet_on o (journal o (accepted o H)) d → Hands d r s
-hands o H d r s p q =
-    let L = accepted o H in
-    let J = journal o L in
-    let P : Reply → Type 0 = λ x. Hands d x s in
-    let Q : Option DaySheet → Type 0 = λ x. Hands d (answer_to o L (command.Statement 0 d)) x in
-    subst P (sym p) (subst Q (sym q) (hands_found o d (closed_on o J d) (λ K is. find_meets (λ K. is_same_day (date o K) d) (closings J) K is)))
+hands o H d r s p q = grind (arith, hands_found, find_meets)

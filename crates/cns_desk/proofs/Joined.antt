@@ -1,5 +1,6 @@
 -- One worker more that was joined.
-use Rattle.std.proofs.Common.{◌≡◌, ◌∙◌, sym, ap, refl, Bool, ℕ, suc, ◌≤◌, ◌⊎◌, ◌↔◌, inl, inr, ◌<◌, List, [], ◌∷◌, ◌++◌, length, drop, Option, arith, append_assoc, IfSome, slice_index_or}
+-- For `join_all` of threads.rt, `run_audited` of run.rt.
+use Rattle.std.proofs.Common.{◌≡◌, ap, refl, Bool, ℕ, suc, ◌≤◌, ◌⊎◌, ◌↔◌, inl, inr, ◌<◌, List, [], ◌∷◌, ◌++◌, length, drop, Option, arith, append_assoc, IfSome, slice_index_or}
 use Rattle.cns_terms.proofs.Common.{AllByRecursion, PromisedHandle, Told, cases_lt}
 use Rattle.cns_desk.specs.Logged.{Logged}
 use Rattle.cns_desk.specs.Promised.{promised}
@@ -17,16 +18,10 @@ run_more fails told [] (b ∷ ls) es s l e h k = absurd h
 run_more fails told (a ∷ ss) [] es s l e h k = absurd h
 run_more fails told (a ∷ ss) (b ∷ ls) [] s l e h k = absurd h
 
--- a list that is not empty is its first and the rest
-first_of : {X : Type 0} (xs : List X) (x : X) → 0 < length xs → x ≡ slice_index_or xs 0 x → xs ≡ x ∷ drop 1 xs
-first_of [] x some is = absurd (omega (arith, some))
-first_of (y ∷ ys) x some is = ap (λ z. z ∷ ys) (sym is)
-
 -- the sources of what was joined and of what is left
 pub sources_same : {T S : Type 0} (done all : List S) (old new : List (PromisedHandle T (Works S))) (h : PromisedHandle T (Works S)) → done ++ promised old ≡ all → 0 < length old → h ≡ slice_index_or old 0 h → new ≡ drop 1 old
     → (done ++ h.promise.0.value ∷ []) ++ promised new ≡ all
-sources_same done all old new h is some first rest =
-    append_assoc done (h.promise.0.value ∷ []) (promised new) ∙ ap (λ hs. done ++ h.promise.0.value ∷ promised hs) rest ∙ sym (ap (λ hs. done ++ promised hs) (first_of old h some first)) ∙ is
+sources_same done all old new h is some first rest = grind (arith, append_assoc)
 
 -- there is a log for each source
 pub run_len : {S : Type 0} (fails : Bool) (told : S → Option Told) (ss : List S) (ls : List Logged) (es : List End) → HaveRun fails told ss ls es → length ls ≡ length ss

@@ -1,5 +1,6 @@
 -- One record more.
-use Rattle.std.proofs.Common.{◌≡◌, ◌∙◌, sym, ap, subst, refl, ℕ, ◌+◌, Bool, List, [], ◌∷◌, ◌++◌, map, Some, None, Option, append_assoc, length, length-append, IfSome}
+-- For `work` of worker.rt.
+use Rattle.std.proofs.Common.{◌≡◌, ◌∙◌, sym, ap, subst, refl, ℕ, ◌+◌, Bool, List, [], ◌∷◌, ◌++◌, map, Some, None, Option, append_assoc, length, length-append, IfSome, arith}
 use Rattle.cns_terms.proofs.Common.{AllByRecursion, Told}
 use Rattle.cns_terms.specs.declared.command.Command.{Command}
 use Rattle.cns_desk.specs.Logged.{Logged}
@@ -18,26 +19,22 @@ pub record SoFar (t : Told) (now : Option Told) (log : Logged) (turns : ℕ) : T
 -- a command more
 commands_more : (given : List (Option Command)) (c : Command) → commands_in (given ++ Some c ∷ []) ≡ commands_in given ++ c ∷ []
 commands_more [] c = refl
-commands_more ((Some d) ∷ given) c = ap (λ xs. d ∷ xs) (commands_more given c)
-commands_more (None ∷ given) c = commands_more given c
+commands_more (o ∷ given) c = grind (arith, commands_more given c)
 
 -- a record at fault adds no command
 commands_same : (given : List (Option Command)) → commands_in (given ++ None ∷ []) ≡ commands_in given
 commands_same [] = refl
-commands_same ((Some d) ∷ given) = ap (λ xs. d ∷ xs) (commands_same given)
-commands_same (None ∷ given) = commands_same given
+commands_same (o ∷ given) = grind (arith, commands_same given)
 
 -- a command adds no record at fault
 lines_same : (given : List (Option Command)) (c : Command) → lines_in (given ++ Some c ∷ []) ≡ lines_in given
 lines_same [] c = refl
-lines_same ((Some d) ∷ given) c = lines_same given c
-lines_same (None ∷ given) c = ap (λ n. n + 1) (lines_same given c)
+lines_same (o ∷ given) c = grind (arith, lines_same given c)
 
 -- a record at fault more
 lines_more : (given : List (Option Command)) → lines_in (given ++ None ∷ []) ≡ lines_in given + 1
 lines_more [] = refl
-lines_more ((Some d) ∷ given) = lines_more given
-lines_more (None ∷ given) = ap (λ n. n + 1) (lines_more given)
+lines_more (o ∷ given) = grind (arith, lines_more given)
 
 -- the commands of one item more
 mapped_more : (items : List LogItem) (i : LogItem) → map (λ (j : LogItem). j.command) (items ++ i ∷ []) ≡ map (λ (j : LogItem). j.command) items ++ i.command ∷ []
@@ -51,16 +48,7 @@ sheets_more (j ∷ items) i all is = (all.0, sheets_more items i all.1 is)
 
 -- the log of one record more
 logs_more : (given : List (Option Command)) (old new : Logged) (x : Option Command) → Logs given old → Adds old new x → Logs (given ++ x ∷ []) new
-logs_more given old new None l (items, lines) = record {
-  commands = ap (map (λ (j : LogItem). j.command)) items ∙ l.commands ∙ sym (commands_same given);
-  sheets = subst (AllByRecursion HasNoSheet) (sym items) l.sheets;
-  lines = lines ∙ ap (λ n. n + 1) l.lines ∙ sym (lines_more given);
-}
-logs_more given old new (Some c) l (i, is, none, items, lines) = record {
-  commands = ap (map (λ (j : LogItem). j.command)) items ∙ mapped_more old.items i ∙ ap (λ xs. xs ++ i.command ∷ []) l.commands ∙ ap (λ d. commands_in given ++ d ∷ []) is ∙ sym (commands_more given c);
-  sheets = subst (AllByRecursion HasNoSheet) (sym items) (sheets_more old.items i l.sheets none);
-  lines = lines ∙ l.lines ∙ sym (lines_same given c);
-}
+logs_more given old new x l adds = grind (arith, commands_same, lines_more, mapped_more, commands_more, sheets_more, lines_same)
 
 -- one record more of a source that tells
 step_more : (fails : Bool) (t : Told) (now new : Option Told) (old log : Logged) (n : ℕ) → SoFar t now old n → IfSome now (λ u. Steps fails u None new old log) → SoFar t new log (n + 1)
@@ -79,5 +67,4 @@ step_more fails t now new old log n s step =
 
 -- one record more of any source
 pub more : (fails : Bool) (o now new : Option Told) (old log : Logged) (n : ℕ) → IfSome o (λ t. SoFar t now old n) → IfSome now (λ u. Steps fails u None new old log) → IfSome o (λ t. SoFar t new log (n + 1))
-more fails None now new old log n s step = tt
-more fails (Some t) now new old log n s step = step_more fails t now new old log n s step
+more fails o now new old log n s step = grind (arith, step_more)

@@ -1,4 +1,5 @@
 -- The dividends that a close pays.
+-- For `due` of dividends.rt.
 use Rattle.std.proofs.Common.{◌≡◌, ◌∙◌, sym, ap, subst, refl, ℕ, ◌<◌, ℤ, Bool, true, false, cond, not, ◌&&◌, [], ◌∷◌, length, filter, Option, Some, None, arith, int_le, int_lt, int_cmp, is_gt, is_lt, nat_cmp, Less, Equal, Greater}
 use Rattle.cns_terms.proofs.Common.{Day, Included, day_number, ints, nat_tests, ordering_then, range_contains}
 use Rattle.std.specs.BTreeMap.Range.{IsLeBy, IsLtBy}

@@ -1,4 +1,5 @@
 -- Dividends in their places.
+-- For `declare` and `due` of dividends.rt.
 use Rattle.std.proofs.Common.{◌≡◌, ◌∙◌, sym, ap, subst, refl, ℕ, suc, ◌<◌, Bool, true, false, cond, [], ◌∷◌, length, arith, int_lt, int_cmp, nat_cmp, Ordering, Less, Equal, Greater}
 use Rattle.cns_terms.proofs.Common.{Day, day_number, insert_entry, match_ordering, nat_tests, ordering_then, pays_before}
 use Rattle.std.specs.Ordering.{on}

@@ -1,11 +1,11 @@
 -- A book and a text after lines, and after one more.
-use Rattle.std.proofs.Common.{◌≡◌, ◌≢◌, ℕ, ◌+◌, ◌≤◌, Bool, List, [], ◌∷◌, ◌++◌, length, count_by, cond, Option, Some, None, Result, Ok, Err, IfErr, IfOk, OnOk, refl, sym, ap, subst, ◌∙◌, append_assoc, append-nil, length-append, arith, IfSome}
+-- For `replay_up_to` and `play` of player.rt, `take_all` of loader.rt.
+use Rattle.std.proofs.Common.{◌≡◌, ◌≢◌, ℕ, ◌+◌, ◌≤◌, List, [], ◌∷◌, ◌++◌, length, Option, Some, None, Result, IfErr, IfOk, OnOk, refl, sym, ap, subst, ◌∙◌, append_assoc, append-nil, length-append, arith, IfSome}
 use Rattle.cns_terms.proofs.Common.{Appends, Keeps, State, sum_by-append}
-use Rattle.std.proofs.lemmas.List.Sums.{count_by-le-length}
 use Rattle.std.proofs.KnownBytes.{Appends-kept, Appends-nil, Appends-trans, Keeps-refl}
 use Rattle.cns_book.specs.Log.{Log, state_of}
 use Rattle.cns_feed.specs.Line.{Line}
-use Rattle.cns_feed.specs.Output.{Adds, Counts, is_accepted_close, is_at_fault, is_command, line_text, lines_of, no_counts, response_of, responses, state_after, state_after_line, texts}
+use Rattle.cns_feed.specs.Output.{Adds, Counts, line_text, lines_of, no_counts, response_of, responses, state_after, state_after_line, texts}
 use Rattle.cns_feed.specs.Records.{Gives, Pending}
 use Rattle.cns_feed.specs.Replay.{HasRoomFor, IsUpTo, LeavesAt, Stops, log_after, log_after_line}
 use Rattle.cns_feed.specs.declared.fault.ReplayFault.{ReplayFault}
@@ -22,11 +22,6 @@ unfolding log_after
 log_after-append k [] b = refl
 log_after-append k (l ∷ a) b = log_after-append (log_after_line k l) a b
 
-state_after-append : (S : State) (a b : List Line) → state_after S (a ++ b) ≡ state_after (state_after S a) b
-unfolding state_after
-state_after-append S [] b = refl
-state_after-append S (l ∷ a) b = state_after-append (state_after_line S l) a b
-
 responses-append : (S : State) (a b : List Line) → responses S (a ++ b) ≡ responses S a ++ responses (state_after S a) b
 unfolding responses state_after
 responses-append S [] b = refl
@@ -37,49 +32,26 @@ unfolding texts state_after
 texts-append S [] b = refl
 texts-append S (l ∷ a) b = ap (λ t. line_text S l ++ t) (texts-append (state_after_line S l) a b) ∙ sym (append_assoc (line_text S l) _ _)
 
-state_of-line : (k : Log) (l : Line) → state_of (log_after_line k l) ≡ state_after_line (state_of k) l
-state_of-line k (Ok cmd) = refl
-state_of-line k (Err f) = refl
-
 -- the state of a book after lines
 pub state_of-after : (k : Log) (ls : List Line) → state_of (log_after k ls) ≡ state_after (state_of k) ls
 unfolding log_after state_after
 state_of-after k [] = refl
-state_of-after k (l ∷ ls) = state_of-after (log_after_line k l) ls ∙ ap (λ S. state_after S ls) (state_of-line k l)
+state_of-after k (l ∷ ls) = grind (arith, state_of-after (log_after_line k l) ls)
 
 -- ---- counts
 
 adds-more : (a b c : Summary) (x y : List Response) → Adds a b x → Adds b c y → Adds a c (x ++ y)
-adds-more a b c x y p q = record {
-  commands = more is_command a.commands b.commands c.commands p.commands q.commands;
-  lines = more is_at_fault a.lines b.lines c.lines p.lines q.lines;
-  closes = more is_accepted_close a.closes b.closes c.closes p.closes q.closes;
-}
-  where
-    more : (test : Response → Bool) (k m n : ℕ) → m ≡ k + count_by test x → n ≡ m + count_by test y → n ≡ k + count_by test (x ++ y)
-    more test k m n e f = let both = sum_by-append (λ o. cond (test o) 1 0) x y in omega (arith, both, e, f)
-
--- at most so many more
-up_to_more : (test : Response → Bool) (os : List Response) (k m n : ℕ) → m ≡ k + count_by test os → k ≤ n → m ≤ n + length os
-up_to_more test os k m n e le = let few = count_by-le-length test os in omega (arith, e, le, few)
+adds-more a b c x y p q = grind (arith, sum_by-append)
 
 pub up_to-none : (s : Summary) → s ≡ no_counts → IsUpTo s 0
 up_to-none s zero = rw zero (record { commands = omega arith; lines = omega arith; closes = omega arith })
 
 -- the counts after one more line
 pub up_to-line : (s t : Summary) (o : Response) (n : ℕ) → Adds s t (o ∷ []) → IsUpTo s n → IsUpTo t (n + 1)
-up_to-line s t o n adds le = record {
-  commands = up_to_more is_command (o ∷ []) s.commands t.commands n adds.commands le.commands;
-  lines = up_to_more is_at_fault (o ∷ []) s.lines t.lines n adds.lines le.lines;
-  closes = up_to_more is_accepted_close (o ∷ []) s.closes t.closes n adds.closes le.closes;
-}
+up_to-line s t o n adds le = grind arith
 
 pub up_to-less : (s : Summary) (m n : ℕ) → m ≤ n → IsUpTo s m → IsUpTo s n
-up_to-less s m n le p = record {
-  commands = let h = p.commands in omega (arith, h, le);
-  lines = let h = p.lines in omega (arith, h, le);
-  closes = let h = p.closes in omega (arith, h, le);
-}
+up_to-less s m n le p = grind arith
 
 -- ---- a book and its counts
 
@@ -127,11 +99,7 @@ text-more k m a b old mid new x y p one two =
 
 -- the room that is left after a line
 pub room-line : (k more : Log) (l : Line) (n : ℕ) → more ≡ log_after_line k l → HasRoomFor k (n + 1) → HasRoomFor more n
-room-line k more l n after room = rw after (left l)
-  where
-    left : (l : Line) → HasRoomFor (log_after_line k l) n
-    left (Ok cmd) = omega (arith, room)
-    left (Err f) = omega (arith, room)
+room-line k more l n after room = grind arith
 
 -- ---- record after record of a reader
 
@@ -160,15 +128,7 @@ along-none rem rs first s old all zero p = record {
 -- what was written was flushed
 pub along-kept : {R : Type 0} (rem : R → Option (List ℕ)) (rs : Records R) (first now : Log) (s : Summary) (old mid new : Option (List ℕ)) (turns : ℕ) (all : List Line)
     → Keeps mid new → Along rem rs first now s old mid turns all → Along rem rs first now s old new turns all
-along-kept rem rs first now s old mid new turns all kept p = record {
-  done = p.done;
-  rest = p.rest;
-  whole = p.whole;
-  pending = p.pending;
-  count = p.count;
-  takes = p.takes;
-  text = Appends-kept old mid new _ p.text kept;
-}
+along-kept rem rs first now s old mid new turns all kept p = grind arith
 
 -- one line more
 pub along-line : {R : Type 0} (rem : R → Option (List ℕ)) (rs more : Records R) (first now then : Log) (s t : Summary) (old mid new : Option (List ℕ)) (turns : ℕ) (l : Line) (o : Response) (all : List Line)
@@ -189,8 +149,7 @@ along-line rem rs more first now then s t old mid new turns l o all gives after 
 -- as many lines as there were turns
 pub along-longer : {R : Type 0} (rem : R → Option (List ℕ)) (rs : Records R) (first now : Log) (s : Summary) (old new : Option (List ℕ)) (turns : ℕ) (all : List Line)
     → Along rem rs first now s old new turns all → turns ≤ length all
-along-longer rem rs first now s old new turns all p =
-    let whole = ap length p.whole in let both = length-append p.done p.rest in let count = p.count in omega (arith, whole, both, count)
+along-longer rem rs first now s old new turns all p = grind (arith, length-append)
 
 -- all lines, and what they came to
 pub record Ended (turns : ℕ) (first now : Log) (s : Summary) (old new : Option (List ℕ)) (all : List Line) : Type 0 where
@@ -246,10 +205,7 @@ stops-end old mid new S ls text kept = record { answered = ls; waiting = None; u
 
 -- a fault at a line is not that the book is full
 pub leaves-not_full : (e : ReplayFault) (old new : Option (List ℕ)) (text : List ℕ) → LeavesAt e old new text → e ≢ fault.Full
-leaves-not_full fault.Write old new text h is = cc is
-leaves-not_full fault.NoMemory old new text h is = cc is
-leaves-not_full fault.Read old new text h is = absurd h
-leaves-not_full fault.Full old new text h is = absurd h
+leaves-not_full e old new text h = grind arith
 
 -- ---- before the first read
 
@@ -262,22 +218,16 @@ stops-unread old S (Some input) = record { answered = []; waiting = None; unread
 pub stops-known : {R : Type 0} (rem : R → Option (List ℕ)) (rs : Records R) (S : State) (old new : Option (List ℕ)) (known : Option (List ℕ)) (r : Result Summary ReplayFault) (Why : ReplayFault → List Line → Type 0)
     → IfSome known (λ input. Pending rem rs (lines_of input)) → IfErr r (λ e. (all : List Line) → Pending rem rs all → StopsAt e old new S all (Why e))
     → IfErr r (λ e. IfSome known (λ input. Stops e old new S (lines_of input)))
-stops-known rem rs S old new known (Ok s) Why pending stops = tt
-stops-known rem rs S old new None (Err e) Why pending stops = tt
-stops-known rem rs S old new (Some input) (Err e) Why pending stops = (stops (lines_of input) pending).0
+stops-known rem rs S old new known r Why pending stops = grind arith
 
 -- what a play counts is what its replay counts, if the input is known
 pub counts-known : {R : Type 0} (rem : R → Option (List ℕ)) (a : Records R) (S : State) (known : Option (List ℕ)) (r : Result Summary ReplayFault)
     → IfSome known (λ input. Pending rem a (lines_of input)) → IfOk r (λ s. (all : List Line) → Pending rem a all → Counts s (responses S all))
     → IfOk r (λ s. IfSome known (λ input. Counts s (responses S (lines_of input))))
-counts-known rem a S None (Ok s) pending counts = tt
-counts-known rem a S (Some input) (Ok s) pending counts = counts (lines_of input) pending
-counts-known rem a S known (Err e) pending counts = tt
+counts-known rem a S known r pending counts = grind arith
 
 -- what a play that ended gives for its lines holds for those of the input, if it is known
 pub ended-known : {R : Type 0} (rem : R → Option (List ℕ)) (a : Records R) (known : Option (List ℕ)) (r : Result Summary ReplayFault) (Holds : List Line → Type 0)
     → IfSome known (λ input. Pending rem a (lines_of input)) → OnOk r ((all : List Line) → Pending rem a all → Holds all)
     → OnOk r (IfSome known (λ input. Holds (lines_of input)))
-ended-known rem a None (Ok s) Holds pending ends = tt
-ended-known rem a (Some input) (Ok s) Holds pending ends = ends (lines_of input) pending
-ended-known rem a known (Err e) Holds pending ends = tt
+ended-known rem a known r Holds pending ends = grind arith

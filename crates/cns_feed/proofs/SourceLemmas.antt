@@ -1,15 +1,13 @@
 -- What a source over records tells, and what a read takes of it.
-use Rattle.std.proofs.Common.{◌≡◌, ℕ, zero, suc, ◌+◌, ◌-◌, ◌<◌, Bool, true, false, List, [], ◌∷◌, length, map, take, Option, Some, None, IfSome, Ok, Err, refl, ap, arith, inl, if◌then◌else◌, nat_lt, option_map}
-use Rattle.cns_terms.proofs.Common.{Told, nat_tests}
-use Rattle.csv.specs.Machine.{ends_at_end}
-use Rattle.csv.specs.Reading.{default_config, reader_state, records_from, source_of}
-use Rattle.cns_terms.specs.Sources.{Answer, Gives as GivesAnswer, GivesEnd, GivesFirst, GivesTold}
+-- For `next` and `read_item` of source.rt.
+use Rattle.std.proofs.Common.{◌≡◌, ℕ, zero, suc, ◌+◌, ◌-◌, ◌<◌, true, List, [], ◌∷◌, length, map, Option, Some, None, IfSome, Ok, Err, refl, arith, nat_lt}
+use Rattle.cns_terms.proofs.Common.{nat_tests}
+use Rattle.csv.specs.Reading.{default_config, reader_state, records_from}
+use Rattle.cns_terms.specs.Sources.{Answer, Gives as GivesAnswer, GivesEnd, GivesFirst}
 use Rattle.cns_terms.specs.declared.command.Command.{Command}
-use Rattle.cns_terms.specs.declared.source.SourceFault.{SourceFault}
 use Rattle.cns_terms.specs.declared.source.Item.TheVariants as item
 use Rattle.cns_feed.specs.Line.{Line, line_of}
-use Rattle.cns_terms.specs.declared.source.SourceFault.TheVariants as fault
-use Rattle.cns_feed.specs.Records.{Gives, Pending, Setup, given_remaining}
+use Rattle.cns_feed.specs.Records.{Gives, Pending, Setup}
 use Rattle.cns_feed.specs.Source.{GivesItem, ReadsItem, end_of, given_of, lines_left, told_at, told_of}
 use Rattle.cns_feed.specs.declared.records.Records.{Records}
 
@@ -17,17 +15,9 @@ use Rattle.cns_feed.specs.declared.records.Records.{Records}
 abbrev lines_in : {R : Type 0} → Records R → List ℕ → List Line
 lines_in rs bytes = map line_of (records_from default_config (length bytes + 1) (reader_state rs.rows) bytes)
 
--- the lines that are left, by where the reader stands and the bytes that it has left
-pending_at : {R : Type 0} (rem : R → Option (List ℕ)) (rs : Records R) (all : List Line) (b : Bool) (src : Option (List ℕ))
-    → ends_at_end (reader_state rs.rows) ≡ b → source_of (given_remaining rem) rs.rows ≡ src
-    → (if b then None else option_map (lines_in rs) src) ≡ Some all → Pending rem rs all
-pending_at rem rs all true src between source h = cc h
-pending_at rem rs all false None between source h = cc h
-pending_at rem rs all false (Some bytes) between source h = record { bytes = bytes; source = source; between = between; lines_are = cc h }
-
 -- these are the lines that are left
 pub left_pending : {R : Type 0} (rem : R → Option (List ℕ)) (rs : Records R) (all : List Line) → lines_left rem rs ≡ Some all → Pending rem rs all
-left_pending rem rs all h = pending_at rem rs all (ends_at_end (reader_state rs.rows)) (source_of (given_remaining rem) rs.rows) refl refl h
+left_pending rem rs all h = grind arith
 
 -- and the other way round
 pub pending_left : {R : Type 0} (rem : R → Option (List ℕ)) (rs : Records R) (all : List Line) → Pending rem rs all → lines_left rem rs ≡ Some all
@@ -35,8 +25,7 @@ pending_left rem rs all p = rw (p.between, p.source, p.lines_are) refl
 
 -- what holds of the lines that are left, where they are known
 pub where_known : (o : Option (List Line)) (P : List Line → Type 0) → ((all : List Line) → o ≡ Some all → P all) → IfSome o P
-where_known None P f = tt
-where_known (Some all) P f = f all refl
+where_known o P f = grind arith
 
 -- a line was read
 pub item_line : {R : Type 0} (rem : R → Option (List ℕ)) (a b : Records R) (left : ℕ) (line : Line) (x : Option Command)
@@ -51,19 +40,10 @@ item_line rem a b left line x more given gives setup = (
 
 -- ---- what is told then
 
--- a list with one more of each
-lt_more : (m n : ℕ) → nat_lt (suc m) (suc n) ≡ nat_lt m n
-lt_more m n = grind (arith, nat_tests)
-
 -- the first of what is told is of the first line, and the rest of the others
 first_told : (left : ℕ) (x : Option Command) (line : Line) (rest : List Line) → 0 < left → given_of line ≡ x → GivesFirst (told_of left (line ∷ rest)) x (Some (told_of (left - 1) rest))
 first_told zero x line rest more given = absurd (omega (arith, more))
-first_told (suc n) x line rest more given =
-    let less : suc n - 1 ≡ n = omega arith in (
-      map given_of (take n rest),
-      ap (λ y. y ∷ map given_of (take n rest)) given,
-      rw (less, lt_more (length rest) n) refl,
-    )
+first_told (suc n) x line rest more given = grind arith
 
 -- an item was given
 gives_item : {R : Type 0} (rem : R → Option (List ℕ)) (a b : Records R) (left : ℕ) (x : Option Command) (old : Option (List Line))
@@ -81,16 +61,10 @@ gives_end left None more gives = tt
 gives_end zero (Some all) more gives = absurd (omega (arith, more))
 gives_end (suc n) (Some all) more gives = let least : nat_lt 0 (suc n) ≡ true = grind (arith, nat_tests) in rw (gives, least) (refl, refl, refl)
 
--- a fault says nothing of what is told
-gives_fault : (left : ℕ) (old : Option (List Line)) (f : SourceFault) (new : Option Told) → IfSome (told_at None left old) (λ t. GivesTold true t (Err f) new)
-gives_fault left None f new = tt
-gives_fault left (Some all) fault.Read new = inl refl
-gives_fault left (Some all) fault.NoMemory new = tt
-
 -- what a source gives that has not ended
 pub gives_told : {R : Type 0} (rem : R → Option (List ℕ)) (a b : Records R) (left : ℕ) (x : Answer)
     → ReadsItem rem left a b x → GivesAnswer true (told_at None left (lines_left rem a)) x (told_at (end_of x) (left - 1) (lines_left rem b))
 gives_told rem a b left (Ok (item.Given cmd)) read = gives_item rem a b left (Some cmd) (lines_left rem a) read.0 read.2
 gives_told rem a b left (Ok item.Line) read = gives_item rem a b left None (lines_left rem a) read.0 read.2
 gives_told rem a b left (Ok item.Finished) read = gives_end left (lines_left rem a) read.0 read.1
-gives_told rem a b left (Err f) read = gives_fault left (lines_left rem a) f _
+gives_told rem a b left (Err f) read = grind arith

@@ -1,6 +1,7 @@
 -- The notices of an issue, ended one after another.
+-- For `end_each` of changes.rt, `end_issue` of notices.rt.
 use Rattle.std.proofs.Common.{◌≡◌, ◌∙◌, sym, ap, subst, refl, ℕ, zero, suc, ◌-◌, ◌<◌, ◌≤◌, Bool, true, false, cond, ◌||◌, eqb, List, [], ◌∷◌, length, get_or, set, map, Some, arith, All, slice_get, IsSomeAnd, is_eq, eqb-true, length-set}
-use Rattle.cns_notices.proofs.Common.{AllByRecursion, Cusip, Ended, Leads, Noticed, Numbers, Place, at_stage, brought_to, changed_at, ended, ended_each, eqb_refl, equal, is_live, list_any, number_at, or_right, same_issue, slice_get_within, with_notice}
+use Rattle.cns_notices.proofs.Common.{AllByRecursion, Cusip, Ended, Leads, Noticed, Numbers, Place, brought_to, changed_at, ended, ended_each, equal, is_live, list_any, number_at, or_right, same_issue, slice_get_within}
 use Rattle.std.proofs.lemmas.List.Elements.{filter_passes, recursion_from_All}
 use Rattle.std.proofs.lemmas.Option.{same_Some}
 use Rattle.cns_terms.specs.declared.buy_in.Given.{Given}
@@ -30,35 +31,16 @@ changed_here P b h (suc i) (x ∷ xs) y at = changed_here P b h i xs y at
 
 -- ---- ended notices
 
-dead_branch : (x : Noticed) (b : Bool) → is_live x.stage ≡ b → is_live (cond b (at_stage Ended x) x).stage ≡ false
-dead_branch x true h = refl
-dead_branch x false h = h
-
 -- an ended notice is not live
 ended_dead : (x : Noticed) → is_live (brought_to Ended x).stage ≡ false
-ended_dead x = dead_branch x (is_live x.stage) refl
-
--- a notice that is not live does not end
-dead_stays : (x : Noticed) → is_live x.stage ≡ false → brought_to Ended x ≡ x
-dead_stays x h = ap (λ b. cond b (at_stage Ended x) x) h
+ended_dead x = grind arith
 
 -- an issue's notice that has ended has ended
 ended_twice : (c : Cusip) (x : Noticed) → same_issue c x.given.issue ≡ true → ended c (brought_to Ended x) ≡ ended c x
-ended_twice c x same =
-    let given : (brought_to Ended x).given ≡ x.given = (brought_stays Ended refl x).0 in
-    let still : same_issue c (brought_to Ended x).given.issue ≡ true = ap (λ (g : Given). same_issue c g.issue) given ∙ same in
-    ap (λ b. cond b (brought_to Ended (brought_to Ended x)) (brought_to Ended x)) still
-    ∙ dead_stays (brought_to Ended x) (ended_dead x)
-    ∙ sym (ap (λ b. cond b (brought_to Ended x) x) same)
-
--- one that is live in no such issue stays
-unended_branch : (c : Cusip) (x : Noticed) (s l : Bool) → same_issue c x.given.issue ≡ s → is_live x.stage ≡ l → (s ≡ true → l ≡ true → ⊥) → cond s (cond l (at_stage Ended x) x) x ≡ x
-unended_branch c x true true p q h = absurd (h refl refl)
-unended_branch c x true false p q h = refl
-unended_branch c x false l p q h = refl
+ended_twice c x same = grind arith
 
 unended : (c : Cusip) (x : Noticed) → (same_issue c x.given.issue ≡ true → is_live x.stage ≡ true → ⊥) → ended c x ≡ x
-unended c x h = unended_branch c x (same_issue c x.given.issue) (is_live x.stage) refl refl h
+unended c x h = grind arith
 
 -- ---- all of an issue
 
@@ -72,16 +54,11 @@ HasAll c xs ns = (j : ℕ) (x : Noticed) → slice_get xs j ≡ Some x → is_li
 
 are_in_after : (c : Cusip) (xs ys : List Noticed) → ((i : ℕ) (x : Noticed) → slice_get xs i ≡ Some x → (y : Noticed) × (slice_get ys i ≡ Some y) × Keeps x y) → (ns : Numbers) → AreIn c xs ns → AreIn c ys ns
 are_in_after c xs ys on [] h = tt
-are_in_after c xs ys on (e ∷ ns) h =
-    let x = some_and (slice_get xs (e.1 - 1)) (λ x. same_issue c x.given.issue ≡ true) h.0.1 in
-    let y = on (e.1 - 1) x.0 x.1 in
-    let same : same_issue c y.0.given.issue ≡ true = ap (λ (g : Given). same_issue c g.issue) y.2.0 ∙ x.2 in
-    ((h.0.0, subst (λ o. IsSomeAnd o (λ x. same_issue c x.given.issue ≡ true)) (sym y.1) same), are_in_after c xs ys on ns h.1)
+are_in_after c xs ys on (e ∷ ns) h = grind (arith, are_in_after c xs ys on ns h.1)
 
 -- the first is not, so another
 in_rest : (a b : Bool) → (a ≡ true → ⊥) → (a || b) ≡ true → b ≡ true
-in_rest true b h k = absurd (h refl)
-in_rest false b h k = k
+in_rest a b h k = grind arith
 
 -- to end each of them one after another is to end those of the issue
 pub ends : (c : Cusip) (ns : Numbers) (xs : List Noticed) → AreIn c xs ns → HasAll c xs ns → ended_each ns xs ≡ map (ended c) xs
@@ -108,9 +85,7 @@ ends c (e ∷ ns) xs h all =
 covered_branch : (c : Cusip) (p : Place) (k : ℕ) (e : Place × ℕ) (ns : Numbers) (b s : Bool) → is_eq (place_cmp p e.0) ≡ b → same_issue c e.0.0 ≡ s → same_issue c p.0 ≡ true
     → (number_at ns p ≡ Some k → list_any (λ e. eqb e.1 k) (in_issue c ns) ≡ true) → cond b (Some e.1) (number_at ns p) ≡ Some k
     → list_any (λ e. eqb e.1 k) (cond s (e ∷ in_issue c ns) (in_issue c ns)) ≡ true
-covered_branch c p k e ns true true q r same rest h =
-    let number : e.1 ≡ k = cc in
-    ap (λ b. b || list_any (λ e. eqb e.1 k) (in_issue c ns)) (ap (λ n. eqb n k) number ∙ eqb_refl k)
+covered_branch c p k e ns true true q r same rest h = grind arith
 covered_branch c p k e ns true false q r same rest h =
     let place : p ≡ e.0 = exact_places p e.0 (equal _ q) in
     let is : same_issue c e.0.0 ≡ true = ap (λ (p : Place). same_issue c p.0) (sym place) ∙ same in
@@ -138,11 +113,7 @@ module _ (c : Cusip) (ns : Numbers) (xs : List Noticed) (leads : Leads ns xs) wh
 
   within_list : (es : Numbers) → AreIn c xs es → AllByRecursion (λ e. (0 < e.1) × (e.1 ≤ length xs)) es
   within_list [] h = tt
-  within_list (e ∷ es) h =
-      let x = some_and (slice_get xs (e.1 - 1)) (λ x. same_issue c x.given.issue ≡ true) h.0.1 in
-      let lt : e.1 - 1 < length xs = slice_get_within xs (e.1 - 1) x.0 x.1 in
-      let positive : 0 < e.1 = h.0.0 in
-      ((positive, omega arith), within_list es h.1)
+  within_list (e ∷ es) h = grind (arith, slice_get_within, within_list es h.1)
 
   module _ (es : Numbers) (is : es ≡ in_issue c ns) (found : All (λ e. number_at ns e.0 ≡ Some e.1) es) where
     are_in : AreIn c xs es
@@ -166,15 +137,9 @@ module _ (all rest : Numbers) (e : Place × ℕ) (xs : List Noticed) (x y : Noti
   each : AllByRecursion (λ e. (0 < e.1) × (e.1 ≤ length xs)) (e ∷ rest)
   each = subst (AllByRecursion (λ e. (0 < e.1) × (e.1 ≤ length xs))) is within
 
-  one : set xs (e.1 - 1) y ≡ with_notice (brought_to Ended) e.1 xs
-  one =
-      let positive : 0 < e.1 = each.0.0 in
-      let le : e.1 ≤ length xs = each.0.1 in
-      set_is (brought_to Ended) xs (e.1 - 1) x y (omega arith) read end
-
   -- those that are left come to the same
   pub step_same : (zs : List Noticed) → ended_each all xs ≡ zs → ended_each rest (set xs (e.1 - 1) y) ≡ zs
-  step_same zs h = ap (ended_each rest) one ∙ sym (ap (λ ns. ended_each ns xs) is) ∙ h
+  step_same zs h = grind (arith, set_is)
 
   -- and are numbers of notices
   pub step_within : AllByRecursion (λ f. (0 < f.1) × (f.1 ≤ length (set xs (e.1 - 1) y))) rest

@@ -1,6 +1,7 @@
 -- The numbers that lead to the notices.
-use Rattle.std.proofs.Common.{◌≡◌, ◌∙◌, sym, ap, subst, refl, ℕ, zero, suc, ◌+◌, ◌-◌, ◌<◌, ◌≤◌, ◌^◌, Bool, true, false, cond, ◌&&◌, eqb, List, [], ◌∷◌, length, get_or, set, map, Some, None, arith, slice_get, IsSomeAnd, bytes_eq, eqb-true}
-use Rattle.cns_notices.proofs.Common.{Cusip, Ended, Expired, Leads, Member, Noticed, Numbers, Place, Stage, Withdrawn, and_left, and_right, at_stage, both_true, brought_to, bytes_eq-Decides, bytes_refl, changed_at, ended, eqb_refl, expired, has_received, is_live, is_live_of, live_number, number_at, receives, same_issue, slice_get_read, slice_get_within}
+-- For `live_of`, `end_issue`, `executed` and `expire` of notices.rt and others.
+use Rattle.std.proofs.Common.{◌≡◌, ◌∙◌, sym, ap, subst, refl, ℕ, zero, suc, ◌+◌, ◌-◌, ◌<◌, ◌≤◌, ◌^◌, Bool, true, false, cond, eqb, List, [], ◌∷◌, length, get_or, set, map, Some, None, arith, slice_get, IsSomeAnd}
+use Rattle.cns_notices.proofs.Common.{Cusip, Ended, Expired, Leads, Member, Noticed, Numbers, Stage, Withdrawn, at_stage, brought_to, bytes_eq-Decides, bytes_refl, changed_at, ended, expired, has_received, is_live, is_live_of, live_number, number_at, receives, same_issue, slice_get_read, slice_get_within}
 use Rattle.std.specs.List.{AllZip}
 use Rattle.std.proofs.lemmas.List.Elements.{AllZip-get_or, length_all_zip}
 use Rattle.std.proofs.lemmas.Option.{same_Some}
@@ -9,38 +10,20 @@ use Rattle.cns_notices.specs.Latest.{place_of}
 use Rattle.cns_notices.specs.Noticed.{executes}
 use Rattle.cns_notices.proofs.Listed.{found_at, map_none, map_one, none_at, none_from, not_true, one_from, some_and, written}
 
--- a member's live notice in an issue, by its parts
-pub live_parts : (a : Member) (c : Cusip) (x : Noticed) → is_live_of a c x ≡ true → (is_live x.stage ≡ true) × (place_of x ≡ (c, a))
-live_parts a c x h =
-    let live = is_live x.stage in
-    let member = eqb x.given.member a in
-    let issue = same_issue x.given.issue c in
-    let here = and_right live (member && issue) h in
-    let same_member : x.given.member ≡ a = eqb-true x.given.member a (and_left member issue here) in
-    let same : x.given.issue ≡ c = (bytes_eq-Decides x.given.issue c).0 (and_right member issue here) in
-    (and_left live (member && issue) h, λ i. (same i, same_member i))
-
 -- and back
 pub live_from : (a : Member) (c : Cusip) (x : Noticed) → is_live x.stage ≡ true → place_of x ≡ (c, a) → is_live_of a c x ≡ true
-live_from a c x live here =
-    let same_member : eqb x.given.member a ≡ true = ap (λ (p : Place). eqb p.1 a) here ∙ eqb_refl a in
-    let same : same_issue x.given.issue c ≡ true = ap (λ (p : Place). bytes_eq p.0 c) here ∙ bytes_refl c in
-    both_true (is_live x.stage) (eqb x.given.member a && same_issue x.given.issue c) live (both_true _ _ same_member same)
+live_from a c x live here = grind (arith, bytes_refl)
 
 -- ---- what the numbers say
 
 module _ (ns : Numbers) (xs : List Noticed) (leads : Leads ns xs) (a : Member) (c : Cusip) where
   -- the number at the place of a live notice is its own
   pub leads_to : (j : ℕ) (x : Noticed) → slice_get xs j ≡ Some x → is_live_of a c x ≡ true → number_at ns (c, a) ≡ Some (suc j)
-  leads_to j x at h = let parts = live_parts a c x h in ap (number_at ns) (sym parts.1) ∙ leads.live j x at parts.0
+  leads_to j x at h = grind (arith, bytes_eq-Decides)
 
   -- a member has one live notice in an issue
   pub only_one : (i j : ℕ) (x y : Noticed) → slice_get xs i ≡ Some x → is_live_of a c x ≡ true → slice_get xs j ≡ Some y → is_live_of a c y ≡ true → i ≡ j
-  only_one i j x y p l q m =
-      let one = leads_to i x p l in
-      let other = leads_to j y q m in
-      let same : suc i ≡ suc j = cc in
-      omega arith
+  only_one i j x y p l q m = grind (arith, leads_to)
 
   -- no number, no live notice
   pub no_number : number_at ns (c, a) ≡ None → live_number xs a c ≡ None
@@ -65,14 +48,7 @@ module _ (ns : Numbers) (xs : List Noticed) (leads : Leads ns xs) (a : Member) (
       one_from (is_live_of a c) 1 xs (k - 1) x at is (λ i y p l. only_one i (k - 1) y x p l at is) ∙ ap Some back
 
   pub none_there : (k : ℕ) (x : Noticed) → number_at ns (c, a) ≡ Some k → slice_get xs (k - 1) ≡ Some x → is_live x.stage ≡ false → live_number xs a c ≡ None
-  none_there k x h at dead =
-      none_from (is_live_of a c) 1 xs (λ j y p. not_true (is_live_of a c y) (λ l. (
-      let own : Some (suc j) ≡ Some k = sym (leads_to j y p l) ∙ h in
-      let number : suc j ≡ k = cc in
-      let place : j ≡ k - 1 = omega arith in
-      let same : y ≡ x = same_Some y x (sym p ∙ ap (slice_get xs) place ∙ at) in
-      let live : is_live x.stage ≡ true = ap (λ (z : Noticed). is_live z.stage) (sym same) ∙ (live_parts a c y l).0 in
-      cc)))
+  none_there k x h at dead = grind (arith, none_from, leads_to)
 
 -- ---- what leaves the numbers as they are
 
@@ -141,18 +117,13 @@ kept ns xs ys all leads = record {
 
 -- ---- which changes do
 
-brought_keeps : (s : Stage) → is_live s ≡ false → (x : Noticed) (b : Bool) → is_live x.stage ≡ b → Keeps x (cond b (at_stage s x) x)
-brought_keeps s dead x true h = (refl, λ l. h)
-brought_keeps s dead x false h = itself x
-
 -- a live notice brought to a stage of no live one
 pub brought_stays : (s : Stage) → is_live s ≡ false → (x : Noticed) → Keeps x (brought_to s x)
-brought_stays s dead x = brought_keeps s dead x (is_live x.stage) refl
+brought_stays s dead x = grind arith
 
 -- one change, or none
 either_keeps : (f : Noticed → Noticed) → ((x : Noticed) → Keeps x (f x)) → (b : Bool) (x : Noticed) → Keeps x (cond b (f x) x)
-either_keeps f h true x = h x
-either_keeps f h false x = itself x
+either_keeps f h b x = grind arith
 
 pub withdrawn_keeps : (x : Noticed) → Keeps x (at_stage Withdrawn x)
 withdrawn_keeps x = (refl, λ l. cc)
@@ -182,20 +153,11 @@ set_led f h ns xs i x y lt read is leads = subst (Leads ns) (sym (set_is f xs i 
 module _ (xs : List Noticed) (a : Member) (c : Cusip) (k : ℕ) (found : live_number xs a c ≡ Some k) where
   -- the number of a live notice is that of a notice
   pub live_within : (1 ≤ k) × (k - 1 < length xs)
-  live_within =
-      let item = found_at (is_live_of a c) 1 xs k found in
-      let lt : item.0 < length xs = slice_get_within xs item.0 item.1 item.3 in
-      let same : k ≡ 1 + item.0 = item.2 in
-      (omega arith, omega arith)
+  live_within = grind (arith, found_at, slice_get_within)
 
   -- the notice with that number is the live one
   pub live_item : (x : Noticed) → x ≡ get_or xs (k - 1) x → (slice_get xs (k - 1) ≡ Some x) × (is_live_of a c x ≡ true)
-  live_item x read =
-      let item = found_at (is_live_of a c) 1 xs k found in
-      let back : item.0 ≡ k - 1 = omega (arith, item.2) in
-      let at : slice_get xs (k - 1) ≡ Some x = slice_get_read xs (length xs) (k - 1) x refl live_within.1 read in
-      let same : item.1 ≡ x = same_Some item.1 x (sym item.3 ∙ ap (slice_get xs) back ∙ at) in
-      (at, ap (is_live_of a c) (sym same) ∙ item.4)
+  live_item x read = grind (arith, found_at, slice_get_read, live_within)
 
   -- it alone receives
   pub received_one : (ns : Numbers) → Leads ns xs → (n : ℕ) (x y : Noticed) → x ≡ get_or xs (k - 1) x → y ≡ has_received n x → set xs (k - 1) y ≡ map (receives a c n) xs

@@ -1,16 +1,15 @@
 -- Lists of which one item changes, and those that pass a test.
+-- For `end_issue` and `expire` of notices.rt.
 use Rattle.std.proofs.Common.{◌≡◌, ◌∙◌, sym, ap, refl, ℕ, zero, suc, ◌+◌, Bool, true, false, cond, List, [], ◌∷◌, ◌++◌, length, set, take, drop, map, Option, Some, None, arith, slice_get, IsSomeAnd, take_at}
 use Rattle.cns_notices.proofs.Common.{changed_at, position_from}
 
 -- what is not true is false
 pub not_true : (b : Bool) → (b ≡ true → ⊥) → b ≡ false
-not_true true h = absurd (h refl)
-not_true false h = refl
+not_true b h = grind arith
 
 -- the value that there is
 pub some_and : {X : Type 0} (o : Option X) (P : X → Type 0) → IsSomeAnd o P → (x : X) × (o ≡ Some x) × P x
-some_and None P h = absurd h
-some_and (Some x) P h = (x, refl, h)
+some_and o P h = grind arith
 
 -- a list that is written over, whole
 pub written_over : {X : Type 0} (n : ℕ) (new old : List X) → n ≡ length new → take n (new ++ drop (length new) old) ≡ new
@@ -19,12 +18,6 @@ written_over n new old e = take_at new (drop (length new) old) n (sym e)
 -- ---- one item changed
 
 module _ {X : Type 0} (f : X → X) where
-  -- the list stays as long
-  pub length_changed : (i : ℕ) (xs : List X) → length (changed_at f i xs) ≡ length xs
-  length_changed i [] = refl
-  length_changed zero (x ∷ xs) = refl
-  length_changed (suc i) (x ∷ xs) = ap suc (length_changed i xs)
-
   -- a write of f of what was read
   pub written : (i : ℕ) (xs : List X) (x : X) → slice_get xs i ≡ Some x → set xs i (f x) ≡ changed_at f i xs
   written i [] x h = cc
@@ -42,10 +35,7 @@ module _ {X : Type 0} (t : X → Bool) where
   -- one alone passes
   pub one_from : (n : ℕ) (xs : List X) (j : ℕ) (x : X) → slice_get xs j ≡ Some x → t x ≡ true → ((i : ℕ) (y : X) → slice_get xs i ≡ Some y → t y ≡ true → i ≡ j) → position_from t n xs ≡ Some (n + j)
   one_from n [] j x e p only = cc
-  one_from n (y ∷ xs) zero x e p only =
-      let same : y ≡ x = cc in
-      let here : n ≡ n + 0 = omega arith in
-      ap (λ b. cond b (Some n) (position_from t (n + 1) xs)) (ap t same ∙ p) ∙ ap Some here
+  one_from n (y ∷ xs) zero x e p only = grind arith
   one_from n (y ∷ xs) (suc j) x e p only =
       let apart : t y ≡ true → ⊥ = λ q. (let same : zero ≡ suc j = only zero y refl q in omega arith) in
       let there : (n + 1) + j ≡ n + suc j = omega arith in
@@ -53,8 +43,7 @@ module _ {X : Type 0} (t : X → Bool) where
       ap (λ b. cond b (Some n) (position_from t (n + 1) xs)) (not_true (t y) apart) ∙ one_from (n + 1) xs j x e p less ∙ ap Some there
 
   none_branch : (b : Bool) (n : ℕ) (o : Option ℕ) → cond b (Some n) o ≡ None → (b ≡ false) × (o ≡ None)
-  none_branch true n o h = cc
-  none_branch false n o h = (refl, h)
+  none_branch b n o h = grind arith
 
   -- where none is found none passes
   pub none_at : (n : ℕ) (xs : List X) → position_from t n xs ≡ None → (j : ℕ) (x : X) → slice_get xs j ≡ Some x → t x ≡ false

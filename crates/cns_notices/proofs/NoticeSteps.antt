@@ -1,6 +1,7 @@
 -- How notices stand after one more activity.
-use Rattle.std.proofs.Common.{◌≡◌, ap, refl, ℕ, suc, ◌+◌, ◌≤◌, ◌<◌, Bool, true, false, cond, ◌&&◌, List, [], ◌∷◌, ◌++◌, length, Option, Some, None, arith, nat_le, length-append}
-use Rattle.cns_notices.proofs.Common.{AllByRecursion, Ended, Expired, Journal, Live, Movement, Notice, Posting, Stage, Withdrawn, day, execution, first_reached, is_given, is_live, nat_tests, notice, noticed, notices, option_map_or, receipt, shares_executed, stage}
+-- For `calls_of_day` of parts/retransmittal.rt in cns_book, `give_notice`, `withdraw_refusal` and `notice_refusal` of parts/notice.rt in cns_book and others.
+use Rattle.std.proofs.Common.{◌≡◌, ap, refl, ℕ, suc, ◌+◌, ◌≤◌, ◌<◌, Bool, true, false, cond, ◌&&◌, List, [], ◌∷◌, ◌++◌, length, arith, nat_le, length-append}
+use Rattle.cns_notices.proofs.Common.{AllByRecursion, Journal, Live, Movement, Notice, Posting, Stage, day, execution, first_reached, is_given, is_live, notice, notices, receipt, shares_executed, stage}
 use Rattle.cns_terms.specs.Notices.{shares_received, stage_by}
 use Rattle.cns_notices.specs.Kept.{received_live}
 
@@ -18,19 +19,12 @@ numbered_push k (m ∷ ns) n h e = (h.0, numbered_push (suc k) ns n h.1 (omega (
 -- notices are numbered 1, 2, 3
 pub numbered : (J : Journal) → AreNumberedFrom 1 (notices J)
 numbered [] = tt
-numbered (p ∷ J) = by (noticed p.activity) (numbered J)
-  where
-    by : (o : Option Movement) → AreNumberedFrom 1 (notices J) → AreNumberedFrom 1 (option_map_or (λ m. notices J ++ (notice (length (notices J) + 1) (day J) m ∷ [])) o (notices J))
-    by None before = before
-    by (Some m) before = numbered_push 1 (notices J) (notice (length (notices J) + 1) (day J) m) before refl
+numbered (p ∷ J) = grind (arith, numbered_push, numbered J)
 
 -- a number below a bound
 below : (k n : ℕ) (ns : List Notice) → AreNumberedFrom k ns → length ns + k ≤ n + 1 → AllByRecursion (λ m. nat_le m.number n ≡ true) ns
 below k n [] h le = tt
-below k n (m ∷ ns) h le = (no_more m.number k n h.0 (omega (arith, le)), below (suc k) n ns h.1 (omega (arith, le)))
-  where
-    no_more : (a b n : ℕ) → a ≡ b → b ≤ n → nat_le a n ≡ true
-    no_more a b n e h = grind (arith, nat_tests)
+below k n (m ∷ ns) h le = grind (arith, below (suc k) n ns h.1 (omega (arith, le)))
 
 -- each notice of a journal was given in it
 pub each_given : (J : Journal) → AllByRecursion (λ n. is_given J n ≡ true) (notices J)
@@ -50,59 +44,28 @@ executed_next p J n h = ap (λ b. cond b (execution n p.activity) 0 + shares_exe
 pub received_next : (p : Posting) (J : Journal) (n : Notice) → is_given J n ≡ true → received_live (p ∷ J) n ≡ cond (is_live (stage J n)) (receipt n p.activity) 0 + received_live J n
 received_next p J n h = ap (λ b. cond (b && is_live (stage J n)) (receipt n p.activity) 0 + received_live J n) h
 
--- a stage that was reached is not left
-live_before : (s t : Stage) → is_live (first_reached s t) ≡ true → is_live s ≡ true
-live_before Live t h = refl
-live_before Withdrawn t h = cc
-live_before Ended t h = cc
-live_before Expired t h = cc
-
 -- of a live notice that is all that its member received
 pub live_received : (J : Journal) (n : Notice) → is_live (stage J n) ≡ true → received_live J n ≡ shares_received J n
 live_received [] n h = refl
-live_received (p ∷ J) n h =
-    let before = live_before (stage J n) (cond (is_given J n) (stage_by n (day J) p.activity) Live) h in
-    here (is_given J n) (is_live (stage J n)) (receipt n p.activity) before (live_received J n before)
-  where
-    here : (g l : Bool) (r : ℕ) → l ≡ true → received_live J n ≡ shares_received J n → cond (g && l) r 0 + received_live J n ≡ cond g r 0 + shares_received J n
-    here true true r e same = omega (arith, same)
-    here false true r e same = omega (arith, same)
-    here g false r e same = cc
+live_received (p ∷ J) n h = grind (arith, live_received J n)
 
 -- ---- a notice that was not given yet
 
--- notices stay
-more_notices : (p : Posting) (J : Journal) → length (notices J) ≤ length (notices (p ∷ J))
-more_notices p J = by (noticed p.activity)
-  where
-    by : (o : Option Movement) → length (notices J) ≤ length (option_map_or (λ m. notices J ++ (notice (length (notices J) + 1) (day J) m ∷ [])) o (notices J))
-    by None = omega arith
-    by (Some m) = omega (arith, length-append (notices J) (notice (length (notices J) + 1) (day J) m ∷ []))
-
 not_given : (J : Journal) (n : Notice) → length (notices J) < n.number → is_given J n ≡ false
-not_given J n h = above n.number (length (notices J)) h
-  where
-    above : (a b : ℕ) → b < a → nat_le a b ≡ false
-    above a b h = grind (arith, nat_tests)
+not_given J n h = grind arith
 
 -- an activity before which it was not given leaves it live
 live_still : (g : Bool) (t s : Stage) → g ≡ false → t ≡ Live → first_reached t (cond g s Live) ≡ Live
-live_still true t s e h = cc
-live_still false t s e h = ap (λ u. first_reached u Live) h
+live_still g t s e h = grind arith
 
 -- and its sums at 0
 no_more : (g l : Bool) (r x a b : ℕ) → g ≡ false → a ≡ 0 → b ≡ 0 → (cond (g && l) r 0 + a ≡ 0) × (cond g x 0 + b ≡ 0)
-no_more true l r x a b e h k = cc
-no_more false l r x a b e h k = (omega (arith, h), omega (arith, k))
+no_more g l r x a b e h k = grind arith
 
 -- nothing became of it
 pub untouched : (J : Journal) (n : Notice) → length (notices J) < n.number → (stage J n ≡ Live) × (received_live J n ≡ 0) × (shares_executed J n ≡ 0)
 untouched [] n h = (refl, refl, refl)
-untouched (p ∷ J) n h =
-    let less : length (notices J) < n.number = omega (arith, h, more_notices p J) in
-    let before = untouched J n less in
-    let sums = no_more (is_given J n) (is_live (stage J n)) (receipt n p.activity) (execution n p.activity) (received_live J n) (shares_executed J n) (not_given J n less) before.1 before.2 in
-    (live_still (is_given J n) (stage J n) (stage_by n (day J) p.activity) (not_given J n less) before.0, sums.0, sums.1)
+untouched (p ∷ J) n h = grind (arith, length-append, untouched J n)
 
 -- nor of one that the activity itself gives
 pub given_now : (p : Posting) (J : Journal) (m : Movement) → let n = notice (length (notices J) + 1) (day J) m in

@@ -1,4 +1,5 @@
 -- One notice more.
+-- For `open` of notices.rt.
 use Rattle.std.proofs.Common.{◌≡◌, ◌∙◌, sym, ap, subst, refl, ℕ, zero, suc, ◌+◌, ◌-◌, ◌<◌, ◌≤◌, ◌^◌, Bool, true, false, cond, List, [], ◌∷◌, ◌++◌, length, get_or, length-append, Some, None, arith, inl, inr, ◌⊎◌, slice_get, IsSomeAnd, is_eq}
 use Rattle.cns_notices.proofs.Common.{Leads, Noticed, Numbers, Place, equal, is_live, is_live_of, live_number, number_at, tied_itself}
 use Rattle.std.proofs.lemmas.List.Sorted.{IsNonDecreasingBy-push}

@@ -1,5 +1,6 @@
 -- Places of members in issues, and the numbers at them.
-use Rattle.std.proofs.Common.{◌≡◌, ◌∙◌, sym, ap, refl, subst, ℕ, ◌<◌, true, false, cond, not, ◌&&◌, [], ◌∷◌, filter, arith, is_eq, is_gt, is_le, is_lt, nat_cmp, Ordering, Less, Equal, Greater}
+-- For `put` and `of_issue` of latest.rt.
+use Rattle.std.proofs.Common.{◌≡◌, ◌∙◌, sym, ap, refl, subst, ℕ, ◌<◌, true, false, cond, not, ◌&&◌, [], ◌∷◌, filter, arith, is_eq, is_gt, is_le, is_lt, nat_cmp, Ordering, Less}
 use Rattle.cns_notices.proofs.Common.{Cusip, Included, IsTotalOrder, Numbers, Place, exact_bytes, insert_entry, is_eq-slice_cmp, nat_cmp_total, nat_list_cmp_total, nat_tests, ordering_then, range_contains, same_issue, slice_cmp, tied_itself}
 use Rattle.std.proofs.lemmas.Map.Views.{All-keys-insert_entry}
 use Rattle.std.specs.Map.{keys_of}
@@ -28,9 +29,7 @@ largest m h = grind (arith, nat_tests)
 
 -- a place is between them exactly if it is in the issue
 between_branch : (r low high : Ordering) → is_le low ≡ true → is_lt high ≡ false → (is_le (ordering_then r low) && not (is_lt (ordering_then r high))) ≡ is_eq r
-between_branch Less low high p q = refl
-between_branch Equal low high p q = (λ i. p i && not (q i))
-between_branch Greater low high p q = refl
+between_branch r low high p q = grind arith
 
 is_between : (c : Cusip) (p : Place) → p.1 < 65536 → range_contains place_cmp (Included (c, 0)) (Included (c, 65535)) p ≡ same_issue c p.0
 is_between c p h = between_branch (slice_cmp nat_cmp c p.0) (nat_cmp 0 p.1) (nat_cmp 65535 p.1) (least p.1) (largest p.1 h) ∙ is_eq-slice_cmp c p.0

@@ -1,4 +1,5 @@
 -- Columns that are added up row by row, in sums that wrap.
+-- For `sums_of` of sums.rt.
 use Rattle.std.proofs.Common.{◌≡◌, ◌∙◌, sym, ap, refl, ℤ, pos, ◌+ℤ◌, List, [], ◌∷◌, ◌++◌, append-nil, arith}
 use Rattle.cns_terms.specs.declared.sheet.Row.{Row}
 use Rattle.cns_terms.proofs.Common.{ints, total, total-append, w128}

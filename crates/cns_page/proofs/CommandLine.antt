@@ -1,4 +1,5 @@
 -- What is known of the program's line.
+-- For `matches_of` of asked.rt.
 use Rattle.std.proofs.Common.{◌≡◌, true, false, refl, sym, arith, subst, List, [], ◌∷◌, Some, None}
 use Rattle.std.proofs.lemmas.Bool.{ne_eqb}
 use Rattle.clap.proofs.OnLiterals.{clap_on_literals}

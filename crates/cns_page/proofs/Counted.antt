@@ -1,4 +1,5 @@
 -- The shorts of a sheet, row by row.
+-- For `shorts_of` of figures.rt, `gather` of shorts.rt.
 use Rattle.std.proofs.Common.{◌≡◌, ◌∙◌, sym, ap, ℕ, ◌-◌, ◌^◌, ◌<◌, true, cond, List, [], ◌∷◌, ◌++◌, min, filter, map}
 use Rattle.std.specs.Prelude.{All, count_by}
 use Rattle.std.proofs.lemmas.List.{map-append}

@@ -1,4 +1,5 @@
 -- The rows of a sheet, written one after another under their accounts.
+-- For `write_rows` of accounts.rt.
 use Rattle.std.proofs.Common.{◌≡◌, ℕ, List, ◌∷◌, ◌++◌, Option, Some, append_assoc, ap, sym, ◌∙◌}
 use Rattle.std.specs.Io.KnownBytes.{Appends}
 use Rattle.std.proofs.KnownBytes.{Appends-trans}

@@ -1,4 +1,5 @@
 -- A page that was made, whatever the input is.
+-- For `survey_of` and `make` of make.rt, `make_of` of entry.rt.
 use Rattle.std.proofs.Common.{◌≡◌, ◌≤◌, ◌∙◌, ap, ℕ, List, Option, Some, None, Result, Ok, Err, IfSome, OnOk, length, take}
 use Rattle.std.proofs.lemmas.List.{take_all}
 use Rattle.cns_terms.specs.Common.{Day, opened}

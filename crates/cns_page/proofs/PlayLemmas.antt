@@ -1,4 +1,5 @@
 -- A book and what is known of its records, line after line.
+-- For `play_with` and `step` of play.rt.
 use Rattle.std.proofs.Common.{◌≡◌, ℕ, ◌+◌, ◌≤◌, List, [], ◌∷◌, ◌++◌, length, take, Option, Ok, Err, refl, sym, ap, ◌∙◌, append_assoc, append-nil, length-append, arith}
 use Rattle.std.proofs.lemmas.List.{take_all}
 use Rattle.csv.specs.declared.reader.Reader.{Reader}

@@ -1,4 +1,5 @@
 -- A day whose sections were written one after another.
+-- For `write_sections` of page.rt.
 use Rattle.std.proofs.Common.{ℕ, ◌++◌, List, Option, Result, Ok, Err, OnOk, sym}
 use Rattle.cns_terms.specs.Common.{DaySheet}
 use Rattle.cns_book.specs.Log.{Log}

@@ -1,4 +1,5 @@
 -- What changes of a tree's rows make of the holdings.
+-- For `first_rows`, `book`, `next_row` and `next_rows` of tree.rt and others.
 use Rattle.std.proofs.Common.{◌≡◌, ◌∙◌, ap, refl, Bool, true, false, is_some, ◌&&◌, cond, [], ◌∷◌, ◌++◌, Option, Some, None, MatchOption, unwrap_or, is_lt, filter}
 use Rattle.cns_positions.proofs.Common.{Holding, Key, Rows, closed_rows, filter-append, has_row, held_above, holding_at, is_held, key_cmp, rolled, zeros}
 use Rattle.std.specs.FinMap.{put, find}

@@ -1,4 +1,5 @@
 -- Keys that are given rows one after another.
+-- For `enter`, `enter_all` and `prepare` of flat.rt, `prepare` of tree.rt and others.
 use Rattle.std.proofs.Common.{◌≡◌, ◌≢◌, ◌∙◌, sym, ap, subst, refl, true, List, [], ◌∷◌, ◌++◌, ℕ, ◌<◌, ◌+◌, length, get_or, take, drop, inl, inr, Option, None, Some, is_some, Result, Ok, Err, OnErr, Any, Contains, take-append-drop}
 use Rattle.cns_positions.proofs.Common.{Contains-get_or, Holding, Key, Rows, has_row, take_more}
 use Rattle.std.proofs.lemmas.List.Elements.{Contains-append_left, Contains-push, Contains-push_cases}

@@ -1,4 +1,5 @@
 -- The rows that aren't zeros, above a key.
+-- For `first_rows`, `rows_above`, `next_row` and `next_rows` of flat.rt and others.
 use Rattle.std.proofs.Common.{◌≡◌, ◌∙◌, sym, ap, refl, Bool, true, false, ◌&&◌, cond, leb, ℕ, ◌+◌, ◌<◌, ◌≤◌, List, [], ◌∷◌, ◌++◌, filter, length, length-append, get_or, take, drop, subst, Option, Some, None, MatchOption, Ordering, is_le, is_lt, Less, Equal, Greater, take-append-drop, find}
 use Rattle.cns_positions.proofs.Common.{Holding, IsPartitionPoint, Key, Rows, filter-append, filter_map-append, held_above, is_held, is_sorted, key_cmp, keys_total, less, next_above, ordering_index, ordering_reverse, present, sorted_filter, take_more, zeros}
 use Rattle.std.specs.List.Sorted.{IsPartitionedBy}

@@ -1,4 +1,5 @@
 -- What stands at a key after a row is put.
+-- For `book`, `carry`, `enter` and `add` of flat.rt and others.
 use Rattle.std.proofs.Common.{T, ◌≡◌, ◌≢◌, ℕ, ℤ, pos, ◌+ℤ◌, Bool, true, false, cond, ◌&&◌, eqb, [], ◌∷◌, ◌++◌, length, get_or, set, take, drop, ◌<◌, Option, Some, None, is_some, unwrap_or, refl, sym, ap, ◌∙◌, arith, bytes_eq, is_eq, is_lt, HoldsAt, Less, Equal, Greater}
 use Rattle.cns_positions.proofs.Common.{Holding, IsPartitionPoint, Key, Rows, below_all, closed_rows, equal, exact_keys, has_row, holding_at, ints, is_sorted, key_cmp, keys_total, rolled, same_key, zeros}
 use Rattle.std.proofs.Math.Seq.{take-append_seam}

@@ -1,4 +1,5 @@
 -- What a test keeps of a list that it parts.
+-- For `first_rows`, `rows_above`, `next_row` and `next_rows` of flat.rt and others.
 use Rattle.std.proofs.Common.{◌≡◌, ◌∙◌, sym, ap, subst, refl, ℕ, zero, suc, ◌+◌, ◌≤◌, Bool, true, false, cond, List, [], ◌∷◌, filter, length, take, drop, length-drop, arith, get_or-drop}
 use Rattle.cns_positions.proofs.Common.{AllWithin}
 

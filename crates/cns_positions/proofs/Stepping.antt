@@ -1,4 +1,5 @@
 -- Steps, one after another.
+-- For `run` of steps.rt.
 use Rattle.std.proofs.Common.{◌≡◌, ◌∙◌, sym, ap, subst, ℕ, ◌+◌, ◌<◌, List, ◌∷◌, ◌++◌, append_assoc, length, drop, drop-cons, get_or, add-one}
 use Rattle.cns_positions.proofs.Common.{Holding, Key, Map, Step, StepFits, after_step}
 use Rattle.cns_positions.specs.Steps.{SumsFit, replies, reply_to}

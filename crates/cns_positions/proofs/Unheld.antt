@@ -1,4 +1,5 @@
 -- Rows of zeros: they may be left out.
+-- For `copied` of beside.rt in cns_actions.
 use Rattle.std.proofs.Common.{◌≡◌, ◌∙◌, sym, ap, refl, Bool, true, false, ◌&&◌, ◌==◌, cond, pos, Option, Some, None, unwrap_or, int_eq, eqb-true}
 use Rattle.cns_positions.proofs.Common.{Holding, Key, Rows, find_filter, held_above, holding_at, holds, is_held, is_sorted, kept_if, key_cmp, keys_total, sorted_filter, zeros}
 use Rattle.std.specs.FinMap.{find}

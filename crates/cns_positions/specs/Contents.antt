@@ -1,5 +1,5 @@
 -- What contracts see of positions, and what a form keeps.
-use Rattle.std.specs.Prelude.{◌≡◌, Bool, true, List, Contains, map}
+use Rattle.std.specs.Prelude.{◌≡◌, true, List, Contains, map}
 use Rattle.cns_terms.specs.Common.{is_sorted, key_cmp}
 use Rattle.cns_terms.specs.declared.holding.Key.{Key}
 use Rattle.cns_terms.specs.declared.holding.Holding.{Holding}

@@ -1,4 +1,5 @@
 -- The first listed issue above another.
+-- For `next_listed` of prices.rt.
 use Rattle.std.proofs.Common.{◌≡◌, ◌∙◌, sym, ap, refl, Bool, true, false, ◌&&◌, ◌∷◌, map, filter, Option, Some, None, is_lt, nat_cmp, Less}
 use Rattle.cns_terms.proofs.Common.{Cusip, is_sorted, less, nat_list_cmp_total, next_above, range_contains, slice_cmp}
 use Rattle.std.specs.declared.ops.Bound.{Bound}

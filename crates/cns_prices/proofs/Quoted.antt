@@ -1,4 +1,5 @@
 -- One quote more, or another.
+-- For `list`, `requote`, `retire` and `set` of prices.rt.
 use Rattle.std.proofs.Common.{◌≡◌, ◌∙◌, sym, ap, refl, Bool, true, false, cond, Option, Some, None, bytes_eq, option_map, ◌||◌, Result, Ok, Err, OnOk, OnErr, IsSome, nat_cmp, is_eq}
 use Rattle.cns_terms.proofs.Common.{Cusip, bytes_eq-Decides, is_eq-slice_cmp, option_map_or, slice_cmp}
 use Rattle.cns_prices.specs.declared.prices.Quote.{Quote}

@@ -1,4 +1,5 @@
 -- What is known of the program's line, for the functions that build it and read what clap makes of words.
+-- For `entered`, `run_command`, `matches_of` and `command_line` of asked.rt.
 use Rattle.std.proofs.Common.{◌≡◌, ◌&&◌, Bool, true, false, not, refl, sym, arith, subst, List, [], ◌∷◌, Option, Some, None, option_map}
 use Rattle.std.specs.Option.{IsSomeAnd}
 use Rattle.std.proofs.lemmas.Bool.{ne_eqb}

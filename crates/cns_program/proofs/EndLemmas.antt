@@ -1,4 +1,5 @@
 -- How the program ends.
+-- For `replay_input` of replaying.rt, `program` of entry.rt.
 use Rattle.std.proofs.Common.{◌≡◌, ◌∷◌, ◌++◌, ℕ, List, Option, Some, None, Result, Ok, Err, IfErr, IfSome, OnOk, inl, inr, option_to_list}
 use Rattle.cns_terms.proofs.Common.{Appends, Day, Keeps, State}
 use Rattle.std.proofs.KnownBytes.{Appends-kept, Keeps-trans}

@@ -1,4 +1,5 @@
 -- The lines of workers, written one after another.
+-- For `write_ends` of outcome.rt.
 use Rattle.std.proofs.Common.{◌≡◌, ℕ, ◌+◌, ◌<◌, List, ◌++◌, Option, get_or, length, drop, add-one, drop-cons, append_assoc, refl, sym, ◌∙◌}
 use Rattle.cns_terms.proofs.Common.{Appends, AppendsFront, front_longer}
 use Rattle.std.proofs.KnownBytes.{Appends-trans}

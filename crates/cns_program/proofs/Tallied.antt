@@ -1,4 +1,5 @@
 -- What a tally says of the workers, worker by worker.
+-- For `tally_line`, `amount` and `counted_of` of tally.rt.
 use Rattle.std.proofs.Common.{◌≡◌, ℕ, zero, suc, false, ◌+◌, ◌-◌, ◌<◌, arith, codes, List, [], ◌∷◌, ◌++◌, map, length, get_or, add-one, refl, sym, ap, ◌∙◌, decimal, slice_index, IsUtf8}
 use Rattle.cns_terms.proofs.Common.{count, day, journal_of, map-append}
 use Rattle.std.proofs.lemmas.List.{get_or_default}

@@ -1,4 +1,5 @@
 -- Numbers of workers, for the function that reads one.
+-- For `workers_read` of asked.rt.
 use Rattle.std.proofs.Common.{◌≡◌, ◌&&◌, ◌<◌, ◌≤◌, ◌^◌, ℕ, Bool, true, false, refl, sym, arith, List, [], ◌∷◌, length, Some, None, nat_le, if◌then◌else◌}
 use Rattle.std.proofs.lemmas.Bool.{leb-true}
 use Rattle.cns_terms.specs.Common.{all_ascii_digits, digits_value}

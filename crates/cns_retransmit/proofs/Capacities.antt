@@ -1,4 +1,5 @@
 -- What a batch can be given.
+-- For `room` of filling.rt.
 use Rattle.std.proofs.Common.{◌≡◌, ◌∙◌, ap, ℕ, ◌+◌, ◌<◌, ◌≤◌, List, [], ◌∷◌, take, get_or, length, sum_by, arith}
 use Rattle.cns_retransmit.proofs.Common.{Liable, Member, capacity, sum_by-cons, sum_by_push}
 use Rattle.std.proofs.lemmas.List.Sums.{sum_by-take-le}
@@ -7,9 +8,7 @@ use Rattle.cns_retransmit.proofs.Lists.{take_next}
 -- what a batch can be given is no more than is left
 capacities_below : (short : Member → ℕ) (ss : List Liable) → sum_by (capacity short) ss ≤ sum_by (λ s. s.left) ss
 capacities_below short [] = omega arith
-capacities_below short (s ∷ ss) =
-    let rest = capacities_below short ss in
-    rw (sum_by-cons (capacity short) s ss, sum_by-cons (λ t. t.left) s ss) (omega arith)
+capacities_below short (s ∷ ss) = search (arith, sum_by-cons, capacities_below short ss)
 
 -- the room of those that are done and of one more is no more than what is left of all
 pub room_fits : (short : Member → ℕ) (ls : List Liable) (i : ℕ) (l : Liable) → i < length ls → l ≡ get_or ls i l → sum_by (capacity short) (take i ls) + capacity short l ≤ sum_by (λ s. s.left) ls

@@ -1,6 +1,7 @@
 -- A loop that chooses the members of a batch.
-use Rattle.std.proofs.Common.{◌≡◌, ◌∙◌, sym, ap, subst, refl, ◌⊎◌, inl, inr, ◌≢◌, ℕ, ◌+◌, ◌<◌, ◌≤◌, Bool, true, false, cond, List, [], ◌∷◌, ◌++◌, append_assoc, map, filter, sum_by, nat_lt, arith, le-ltb, lt-ltb}
-use Rattle.cns_retransmit.proofs.Common.{⊤, IsOldestFirst, Liable, NoneOlder, Short, cond-false, cond-true, is_called, liable_of, sum_by-append, sum_by-cons, sum_by_push}
+-- For `choose_ordered` of choice.rt.
+use Rattle.std.proofs.Common.{◌≡◌, ◌∙◌, sym, refl, ◌⊎◌, inl, inr, ◌≢◌, ℕ, ◌+◌, ◌<◌, ◌≤◌, Bool, cond, List, [], ◌∷◌, ◌++◌, append_assoc, map, filter, sum_by, nat_lt, arith, lt-ltb}
+use Rattle.cns_retransmit.proofs.Common.{⊤, IsOldestFirst, Liable, NoneOlder, Short, cond-true, is_called, liable_of, sum_by-append, sum_by-cons, sum_by_push}
 use Rattle.cns_terms.specs.Batches.{if_older}
 
 -- none is younger than an age
@@ -21,10 +22,7 @@ pub record Choosing (ss : List Short) (called : ℕ) (done rest : List Short) (l
 -- nobody is older than the oldest
 no_older : (age : ℕ) (ts : List Short) → NoneOlder age ts → sum_by (if_older age) ts ≡ 0
 no_older age [] h = refl
-no_older age (t ∷ ts) h =
-    let rest = no_older age ts h.1 in
-    let none : if_older age t ≡ 0 = cond-false (nat_lt age t.age) t.shares 0 (le-ltb age t.age h.0) in
-    sum_by-cons (if_older age) t ts ∙ omega arith
+no_older age (t ∷ ts) h = grind (arith, no_older age ts h.1)
 
 -- where all are older, their shorts total what the list does
 all_older : (old age : ℕ) (ts : List Short) → age < old → NoneYounger old ts → sum_by (if_older age) ts ≡ sum_by (λ s. s.shares) ts
@@ -46,10 +44,7 @@ younger_push age (t ∷ ts) s h le = (h.0, younger_push age ts s h.1 le)
 
 -- those that are older than the next stand before it
 older_before : (done rest : List Short) (s : Short) → NoneOlder s.age rest → sum_by (if_older s.age) (done ++ s ∷ rest) ≡ sum_by (if_older s.age) done
-older_before done rest s h =
-    let itself : if_older s.age s ≡ 0 = cond-false (nat_lt s.age s.age) s.shares 0 (le-ltb s.age s.age (omega arith)) in
-    let after = no_older s.age rest h in
-    sum_by-append (if_older s.age) done (s ∷ rest) ∙ ap (λ n. sum_by (if_older s.age) done + n) (sum_by-cons (if_older s.age) s rest) ∙ omega arith
+older_before done rest s h = grind (arith, no_older, sum_by-append)
 
 -- before any
 pub choosing_starts : (ss : List Short) (called age : ℕ) → IsOldestFirst ss → Choosing ss called [] ss [] age 0 0
@@ -57,10 +52,7 @@ choosing_starts ss called age falls = record { parts = refl; falls = falls; liab
 
 -- where the age goes down, all that are done are older
 all_done : (done rest : List Short) (s : Short) (age : ℕ) → NoneYounger age done → s.age ≢ age → (done ≡ []) ⊎ NoneOlder age (s ∷ rest) → (sum_by (λ t. t.shares) done ≡ sum_by (if_older s.age) done) × NoneYounger s.age done
-all_done done rest s age above ne (inl e) = subst (λ d. (sum_by (λ t. t.shares) d ≡ sum_by (if_older s.age) d) × NoneYounger s.age d) (sym e) (refl, tt)
-all_done done rest s age above ne (inr below) =
-    let le : s.age ≤ age = below.0 in
-    (sym (all_older age s.age done (omega arith) above), younger age s.age done le above)
+all_done done rest s age above ne below = grind (arith, all_older, younger)
 
 -- the age goes down to the next one's
 pub older_next : (ss : List Short) (called : ℕ) (done rest : List Short) (s : Short) (liables : List Liable) (age older sum : ℕ) → Choosing ss called done (s ∷ rest) liables age older sum → s.age ≢ age → Choosing ss called done (s ∷ rest) liables s.age sum sum
@@ -76,41 +68,10 @@ older_next ss called done rest s liables age older sum c ne =
       below = inr (omega arith, c.falls.0);
     }
 
--- what one more adds to the batch
-last_one : (s : Short) (b : Bool) → map liable_of (cond b (s ∷ []) []) ≡ cond b (liable_of s ∷ []) []
-last_one s true = refl
-last_one s false = refl
-
-first_one : (t : Short) (b : Bool) (xs ys : List Short) (ls : List Liable) → map liable_of xs ≡ map liable_of ys ++ ls → map liable_of (cond b (t ∷ xs) xs) ≡ map liable_of (cond b (t ∷ ys) ys) ++ ls
-first_one t true xs ys ls h = ap (λ zs. liable_of t ∷ zs) h
-first_one t false xs ys ls h = h
-
 one_more : (p : Short → Bool) (done : List Short) (s : Short) → map liable_of (filter p (done ++ s ∷ [])) ≡ map liable_of (filter p done) ++ cond (p s) (liable_of s ∷ []) []
-one_more p [] s = last_one s (p s)
-one_more p (t ∷ ts) s = first_one t (p t) (filter p (ts ++ s ∷ [])) (filter p ts) (cond (p s) (liable_of s ∷ []) []) (one_more p ts s)
-
--- the sum so far and one more are no more than the sum of all
-pub choosing_fits : (ss : List Short) (called : ℕ) (done rest : List Short) (s : Short) (liables : List Liable) (age older sum : ℕ) → Choosing ss called done (s ∷ rest) liables age older sum → sum + s.shares ≤ sum_by (λ t. t.shares) ss
-choosing_fits ss called done rest s liables age older sum c =
-    let all : sum_by (λ t. t.shares) ss ≡ sum_by (λ t. t.shares) done + (s.shares + sum_by (λ t. t.shares) rest) =
-    ap (sum_by (λ t. t.shares)) c.parts ∙ sum_by-append (λ t. t.shares) done (s ∷ rest) ∙ ap (λ n. sum_by (λ t. t.shares) done + n) (sum_by-cons (λ t. t.shares) s rest) in
-    let sum_is = c.sum_is in
-    omega arith
+one_more p [] s = grind arith
+one_more p (t ∷ ts) s = grind (arith, one_more p ts s)
 
 -- the next one, of the age that stands
 pub choosing_more : (ss : List Short) (called : ℕ) (done rest : List Short) (s : Short) (liables : List Liable) (older sum : ℕ) → Choosing ss called done (s ∷ rest) liables s.age older sum → Choosing ss called (done ++ s ∷ []) rest (liables ++ cond (nat_lt older called) (liable_of s ∷ []) []) s.age older (sum + s.shares)
-choosing_more ss called done rest s liables older sum c =
-    let before : sum_by (if_older s.age) ss ≡ sum_by (if_older s.age) done = ap (sum_by (if_older s.age)) c.parts ∙ older_before done rest s c.falls.0 in
-    let test : is_called ss called s ≡ nat_lt older called = ap (λ n. nat_lt n called) (before ∙ sym c.older_are) in
-    let itself : if_older s.age s ≡ 0 = cond-false (nat_lt s.age s.age) s.shares 0 (le-ltb s.age s.age (omega arith)) in
-    record {
-      parts = c.parts ∙ sym (append_assoc done (s ∷ []) rest);
-      falls = c.falls.1;
-      liables_are = ap (λ xs. xs ++ cond (nat_lt older called) (liable_of s ∷ []) []) c.liables_are
-          ∙ ap (λ b. map liable_of (filter (is_called ss called) done) ++ cond b (liable_of s ∷ []) []) (sym test)
-          ∙ sym (one_more (is_called ss called) done s);
-      older_are = c.older_are ∙ (let e = itself in omega (arith, sum_by_push (if_older s.age) done s));
-      sum_is = ap (λ n. n + s.shares) c.sum_is ∙ sym (sum_by_push (λ t. t.shares) done s);
-      above = younger_push s.age done s c.above (omega arith);
-      below = inr c.falls.0;
-    }
+choosing_more ss called done rest s liables older sum c = grind (arith, older_before, append_assoc, one_more, sum_by_push, younger_push)

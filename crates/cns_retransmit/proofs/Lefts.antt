@@ -1,4 +1,5 @@
 -- What is left of the liabilities of a batch.
+-- For `left_for` of filling.rt, `charge`, `choose` and `liable` of batch.rt.
 use Rattle.std.proofs.Common.{◌≡◌, ◌∙◌, ap, refl, ℕ, ◌+◌, ◌<◌, ◌≤◌, ◌^◌, Bool, true, false, cond, List, [], ◌∷◌, drop, filter, get_or, length, map, nat_eq, eqb, sum_by, arith, le-ltb}
 use Rattle.cns_retransmit.proofs.Common.{Fill, IsBatch, Liable, Member, Short, charged, chosen, cond-false, cond-true, fills_before, in_order, is_called, liable_of, shorts_of, sum_by-cons}
 use Rattle.cns_retransmit.specs.Members.{left_of, members_of}
@@ -17,10 +18,7 @@ called_below g p (s ∷ ss) = one_called g (p s) s ss (filter p ss) (called_belo
 
 -- a batch totals no more than the shorts
 chosen_below : (g : Liable → ℕ) (ss : List Short) (called : ℕ) → sum_by g (chosen ss called) ≤ sum_by (λ t. g (liable_of t)) ss
-chosen_below g ss called =
-    let part = called_below g (is_called ss called) (in_order fills_before ss) in
-    let all = sum_in_order (λ (t : Short). g (liable_of t)) fills_before ss in
-    omega arith
+chosen_below g ss called = grind (arith, called_below, sum_in_order)
 
 none_pass : (p : Short → Bool) (ss : List Short) → ((s : Short) → p s ≡ false) → filter p ss ≡ []
 none_pass p [] none = refl
@@ -45,24 +43,16 @@ chosen_is_batch ss called once fits = record {
 -- a charge leaves no more
 left_of_charged : (fs : List Fill) (ls : List Liable) → sum_by (λ l. l.left) (map (charged fs) ls) ≤ sum_by (λ l. l.left) ls
 left_of_charged fs [] = omega arith
-left_of_charged fs (l ∷ ls) =
-    let rest = left_of_charged fs ls in
-    rw (sum_by-cons (λ k. k.left) (charged fs l) (map (charged fs) ls), sum_by-cons (λ k. k.left) l ls) (omega arith)
+left_of_charged fs (l ∷ ls) = search (arith, sum_by-cons, left_of_charged fs ls)
 
 -- nor other members
 pub members_of_charged : (a : Member) (fs : List Fill) (ls : List Liable) → members_of a (map (charged fs) ls) ≡ members_of a ls
 members_of_charged a fs [] = omega arith
-members_of_charged a fs (l ∷ ls) =
-    let count : Liable → ℕ = λ k. cond (nat_eq k.member a) 1 0 in
-    let rest = members_of_charged a fs ls in
-    rw (sum_by-cons count (charged fs l) (map (charged fs) ls), sum_by-cons count l ls) (ap (λ n. cond (nat_eq l.member a) 1 0 + n) rest)
+members_of_charged a fs (l ∷ ls) = search (arith, sum_by-cons, members_of_charged a fs ls)
 
 -- a batch that is charged is a batch
 pub charged_is_batch : (fs : List Fill) (ls : List Liable) → IsBatch ls → IsBatch (map (charged fs) ls)
-charged_is_batch fs ls is = record {
-  once = λ a. let same = members_of_charged a fs ls in let most = is.once a in omega arith;
-  fits = let less = left_of_charged fs ls in let fits = is.fits in omega arith;
-}
+charged_is_batch fs ls is = grind (arith, members_of_charged, left_of_charged)
 
 -- the member that is asked for is next
 pub left_found : (a : Member) (ls : List Liable) (i : ℕ) (l : Liable) → i < length ls → l ≡ get_or ls i l → nat_eq l.member a ≡ true → left_of a (drop i ls) ≡ l.left

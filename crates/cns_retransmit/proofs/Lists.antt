@@ -1,5 +1,6 @@
 -- Lists that a loop goes over.
-use Rattle.std.proofs.Common.{◌≡◌, ◌∙◌, sym, ap, refl, Bool, cond, ℕ, zero, suc, ◌+◌, ◌<◌, List, [], ◌∷◌, ◌++◌, add-one, take, drop, get_or, set, length, arith, drop-cons}
+-- For `make_fills` of filling.rt, `choose_ordered` of choice.rt.
+use Rattle.std.proofs.Common.{◌≡◌, ◌∙◌, sym, ap, Bool, cond, ℕ, ◌+◌, ◌<◌, List, [], ◌∷◌, ◌++◌, add-one, take, drop, get_or, length, drop-cons}
 use Rattle.cns_retransmit.proofs.Common.{take_more}
 
 -- 1 for what is counted, 0 for what is not
@@ -18,19 +19,3 @@ module _ {X : Type 0} where
   -- and the front ends with it, one further
   pub take_next : (xs : List X) (i : ℕ) (x : X) → i < length xs → x ≡ get_or xs i x → take (i + 1) xs ≡ take i xs ++ x ∷ []
   take_next xs i x h is = take_more xs i x h ∙ ap (λ y. take i xs ++ y ∷ []) (sym is)
-
-  -- where a loop that changes xs to ws stands, the next is still that of xs
-  pub next_is : (ws xs : List X) (i : ℕ) (d : X) → length ws ≡ length xs → i < length xs → get_or (take i ws ++ drop i xs) i d ≡ get_or xs i d
-  next_is [] [] i d same h = absurd (omega arith)
-  next_is [] (x ∷ xs) i d same h = absurd (omega arith)
-  next_is (w ∷ ws) [] i d same h = absurd (omega arith)
-  next_is (w ∷ ws) (x ∷ xs) zero d same h = refl
-  next_is (w ∷ ws) (x ∷ xs) (suc i) d same h = next_is ws xs i d (omega arith) (omega arith)
-
-  -- and with that of ws in its place, one more is changed
-  pub set_next : (ws xs : List X) (i : ℕ) (d : X) → length ws ≡ length xs → i < length xs → set (take i ws ++ drop i xs) i (get_or ws i d) ≡ take (suc i) ws ++ drop (suc i) xs
-  set_next [] [] i d same h = absurd (omega arith)
-  set_next [] (x ∷ xs) i d same h = absurd (omega arith)
-  set_next (w ∷ ws) [] i d same h = absurd (omega arith)
-  set_next (w ∷ ws) (x ∷ xs) zero d same h = refl
-  set_next (w ∷ ws) (x ∷ xs) (suc i) d same h = ap (λ ys. w ∷ ys) (set_next ws xs i d (omega arith) (omega arith))

@@ -1,7 +1,7 @@
 -- Shorts in the order of filling.
-use Rattle.std.proofs.Common.{◌≡◌, ◌∙◌, sym, ap, refl, ℕ, ◌+◌, ◌≤◌, Bool, true, false, cond, List, [], ◌∷◌, eq-eqb, filter, map, nat_eq, nat_lt, sum_by, arith}
-use Rattle.cns_retransmit.proofs.Common.{⊤, IsOldestFirst, Member, NoneOlder, Short, chosen, chosen_of, cond-true, fills_before, in_order, is_called, liable_of, shorts_of, sum_by-cons}
-use Rattle.cns_terms.specs.Batches.{if_older}
+-- For `choose` of choice.rt.
+use Rattle.std.proofs.Common.{◌≡◌, ◌∙◌, sym, refl, ℕ, ◌+◌, ◌≤◌, Bool, true, false, cond, List, [], ◌∷◌, eq-eqb, nat_eq, sum_by, arith}
+use Rattle.cns_retransmit.proofs.Common.{⊤, IsOldestFirst, Member, NoneOlder, Short, chosen, chosen_of, cond-true, fills_before, in_order, shorts_of, sum_by-cons}
 use Rattle.cns_terms.specs.Sums.{put}
 use Rattle.cns_retransmit.proofs.Lists.{one_if}
 
@@ -29,29 +29,13 @@ abbrev pub IsInOrder : List Short → Type 0
 IsInOrder [] = ⊤
 IsInOrder (s ∷ ss) = BeforeAll s ss × IsInOrder ss
 
--- of two members one comes first
-pub one_way : (s t : Short) → fills_before s t ≡ false → nat_eq t.member s.member ≡ false → fills_before t s ≡ true
-one_way s t h isnt = grind (arith, h, isnt)
-
--- and not the other
-pub not_both : (s t : Short) → fills_before s t ≡ true → fills_before t s ≡ false
-not_both s t h = grind (arith, h)
-
--- what comes before one comes before those after it
-before_trans : (s t u : Short) → fills_before s t ≡ true → fills_before t u ≡ true → fills_before s u ≡ true
-before_trans s t u h k = grind (arith, h, k)
-
 pub before_all : (s t : Short) (ts : List Short) → fills_before s t ≡ true → BeforeAll t ts → BeforeAll s ts
 before_all s t [] h k = tt
-before_all s t (u ∷ us) h k = (before_trans s t u h k.0, before_all s t us h k.1)
-
--- what comes first is no younger
-no_younger : (s t : Short) → fills_before s t ≡ true → t.age ≤ s.age
-no_younger s t h = grind (arith, h)
+before_all s t (u ∷ us) h k = grind (arith, before_all s t us h k.1)
 
 none_older : (s : Short) (ts : List Short) → BeforeAll s ts → NoneOlder s.age ts
 none_older s [] h = tt
-none_older s (t ∷ ts) h = (no_younger s t h.0, none_older s ts h.1)
+none_older s (t ∷ ts) h = grind (arith, none_older s ts h.1)
 
 -- in the order of filling the oldest come first
 pub oldest_first : (ss : List Short) → IsInOrder ss → IsOldestFirst ss
@@ -60,8 +44,7 @@ oldest_first (s ∷ ss) h = (none_older s ss h.0, oldest_first ss h.1)
 
 -- what does not count is not there
 uncounted : (b : Bool) (n : ℕ) → one_if b + n ≡ 0 → (b ≡ false) × (n ≡ 0)
-uncounted true n h = absurd (omega arith)
-uncounted false n h = (refl, omega arith)
+uncounted b n h = grind arith
 
 -- the first of some is another's, and so are the rest
 nobody's : (a : Member) (s : Short) (ss : List Short) → shorts_of a (s ∷ ss) ≡ 0 → (nat_eq s.member a ≡ false) × (shorts_of a ss ≡ 0)
@@ -82,19 +65,13 @@ rest_once s ss once a =
     let most = once a in
     omega arith
 
--- one more does not come before the first
-after_one : (s x y : Short) (ys zs : List Short) (b : Bool) → fills_before s x ≡ true → BeforeAll s (y ∷ ys) → BeforeAll s zs → BeforeAll s (cond b (x ∷ y ∷ ys) (y ∷ zs))
-after_one s x y ys zs true h k l = (h, k)
-after_one s x y ys zs false h k l = (k.0, l)
-
 after_put : (s x : Short) (ys : List Short) → fills_before s x ≡ true → BeforeAll s ys → BeforeAll s (put fills_before x ys)
 after_put s x [] h k = (h, tt)
-after_put s x (y ∷ ys) h k = after_one s x y ys (put fills_before x ys) (fills_before x y) h k (after_put s x ys h k.1)
+after_put s x (y ∷ ys) h k = grind (arith, after_put s x ys h k.1)
 
 -- one more in its place leaves the order
 order_one : (x y : Short) (ys zs : List Short) (b : Bool) → fills_before x y ≡ b → nat_eq y.member x.member ≡ false → IsInOrder (y ∷ ys) → (fills_before y x ≡ true → BeforeAll y zs) → IsInOrder zs → IsInOrder (cond b (x ∷ y ∷ ys) (y ∷ zs))
-order_one x y ys zs true e isnt h n k = ((e, before_all x y ys e h.0), h)
-order_one x y ys zs false e isnt h n k = (n (one_way x y e isnt), k)
+order_one x y ys zs b e isnt h n k = grind (arith, before_all)
 
 order_put : (x : Short) (ys : List Short) → shorts_of x.member ys ≡ 0 → IsInOrder ys → IsInOrder (put fills_before x ys)
 order_put x [] none h = (tt, tt)
@@ -105,14 +82,7 @@ order_put x (y ∷ ys) none h =
 -- shorts of distinct members, in the order of filling
 pub order_is : (ss : List Short) → ((a : Member) → shorts_of a ss ≤ 1) → IsInOrder (in_order fills_before ss)
 order_is [] once = tt
-order_is (s ∷ ss) once =
-    let same : shorts_of s.member (in_order fills_before ss) ≡ shorts_of s.member ss = sum_in_order (λ (t : Short). one_if (nat_eq t.member s.member)) fills_before ss in
-    order_put s (in_order fills_before ss) (same ∙ first_once s ss once) (order_is ss (rest_once s ss once))
-
--- the same are called, in whichever order the sums are taken
-filter_same : {X : Type 0} (p q : X → Bool) (xs : List X) → ((x : X) → p x ≡ q x) → filter p xs ≡ filter q xs
-filter_same p q [] h = refl
-filter_same p q (x ∷ xs) h = ap (λ b. cond b (x ∷ filter p xs) (filter p xs)) (h x) ∙ ap (λ ys. cond (q x) (x ∷ ys) ys) (filter_same p q xs h)
+order_is (s ∷ ss) once = grind (arith, shorts_of, sum_in_order, order_put, first_once, order_is ss (rest_once s ss once))
 
 pub chosen_in_order : (ss : List Short) (called : ℕ) → chosen_of (in_order fills_before ss) called ≡ chosen ss called
-chosen_in_order ss called = ap (map liable_of) (filter_same (is_called (in_order fills_before ss) called) (is_called ss called) (in_order fills_before ss) (λ s. ap (λ n. nat_lt n called) (sum_in_order (if_older s.age) fills_before ss)))
+chosen_in_order ss called = grind (arith, sum_in_order)

@@ -1,8 +1,9 @@
 -- A sort by the order of filling.
-use Rattle.std.proofs.Common.{◌≡◌, ◌∙◌, sym, ap, subst, refl, add-one, ◌⊎◌, inl, inr, ℕ, suc, ◌+◌, ◌<◌, ◌≤◌, Bool, true, false, ◌&&◌, true≢false, List, [], ◌∷◌, get_or, length, nat_eq, sum_by, arith, IsPermutation, is_lt, nat_cmp}
+-- For `in_filling_order` of choice.rt.
+use Rattle.std.proofs.Common.{◌≡◌, ◌∙◌, sym, ap, subst, refl, add-one, ◌⊎◌, inr, ℕ, suc, ◌+◌, ◌<◌, ◌≤◌, Bool, true, false, ◌&&◌, List, [], ◌∷◌, get_or, length, nat_eq, sum_by, arith, IsPermutation, is_lt, nat_cmp}
 use Rattle.cns_retransmit.proofs.Common.{Member, Short, cond-false, cond-true, fills_before, in_order, nat_tests, ordering_then, shorts_of, sum_by-cons}
 use Rattle.std.proofs.lemmas.List.Sorted.{sum_by-IsPermutation}
-use Rattle.cns_retransmit.proofs.Ordered.{BeforeAll, IsInOrder, before_all, first_once, not_both, order_is, rest_once, sum_in_order}
+use Rattle.cns_retransmit.proofs.Ordered.{BeforeAll, IsInOrder, before_all, first_once, order_is, rest_once, sum_in_order}
 use Rattle.cns_retransmit.proofs.Lists.{one_if}
 
 -- a short
@@ -13,13 +14,6 @@ made a n k = record { member = a; shares = n; age = k }
 abbrev pub is_same : Short → Short → Bool
 is_same s t = nat_eq s.member t.member && (nat_eq s.shares t.shares && nat_eq s.age t.age)
 
--- shorts of the same are the same
-same_parts : (a b m n j k : ℕ) → a ≡ b → m ≡ n → j ≡ k → made a m j ≡ made b n k
-same_parts a b m n j k e f g = ap (λ x. made x m j) e ∙ ap (λ x. made b x j) f ∙ ap (λ x. made b n x) g
-
-same_of : (s t : Short) → is_same s t ≡ true → s ≡ t
-same_of s t h = same_parts s.member t.member s.shares t.shares s.age t.age (grind (arith, h)) (grind (arith, h)) (grind (arith, h))
-
 -- how often a short stands among others
 abbrev pub times : Short → List Short → ℕ
 times s ts = sum_by (λ t. one_if (is_same s t)) ts
@@ -28,21 +22,13 @@ times s ts = sum_by (λ t. one_if (is_same s t)) ts
 itself : (s : Short) → is_same s s ≡ true
 itself s = grind arith
 
--- a short that some come before, and not one of them, is none of them
-one_apart : (s v t : Short) (b : Bool) → is_same s t ≡ b → fills_before v t ≡ true → fills_before v s ≡ false → b ≡ false
-one_apart s v t true e h n = absurd (true≢false (sym h ∙ ap (fills_before v) (sym (same_of s t e)) ∙ n))
-one_apart s v t false e h n = refl
-
 apart : (s v : Short) (ts : List Short) → BeforeAll v ts → fills_before v s ≡ false → times s ts ≡ 0
 apart s v [] h n = refl
-apart s v (t ∷ ts) h n =
-    let one : one_if (is_same s t) ≡ 0 = cond-false (is_same s t) 1 0 (one_apart s v t (is_same s t) refl h.0 n) in
-    let rest = apart s v ts h.1 n in
-    sum_by-cons (λ (t : Short). one_if (is_same s t)) t ts ∙ omega arith
+apart s v (t ∷ ts) h n = grind (arith, apart s v ts h.1 n)
 
 -- what stands in a list in order is its first, or comes after it
 found_by : (s v : Short) (vs : List Short) (b c : Bool) → is_same s v ≡ b → fills_before v s ≡ c → BeforeAll v vs → 0 < times s (v ∷ vs) → (s ≡ v) ⊎ (fills_before v s ≡ true)
-found_by s v vs true c e k h some = inl (same_of s v e)
+found_by s v vs true c e k h some = grind arith
 found_by s v vs false true e k h some = inr k
 found_by s v vs false false e k h some =
     let one : one_if (is_same s v) ≡ 0 = cond-false (is_same s v) 1 0 e in
@@ -59,9 +45,7 @@ stands s ss =
 
 -- two that each are the other or come after it are the same
 first_same : (u v : Short) → (u ≡ v) ⊎ (fills_before v u ≡ true) → (v ≡ u) ⊎ (fills_before u v ≡ true) → u ≡ v
-first_same u v (inl e) k = e
-first_same u v (inr h) (inl e) = sym e
-first_same u v (inr h) (inr k) = absurd (true≢false (sym h ∙ not_both u v k))
+first_same u v h k = grind arith
 
 -- two lists in order whose sums are the same are the same
 same_order : (us vs : List Short) → IsInOrder us → IsInOrder vs → ((f : Short → ℕ) → sum_by f us ≡ sum_by f vs) → us ≡ vs

@@ -1,6 +1,7 @@
 -- What a search finds among batches whose issues rise, and what a charge changes there.
-use Rattle.std.proofs.Common.{◌≡◌, ◌∙◌, sym, ap, refl, subst, ℕ, zero, suc, ◌-◌, ◌<◌, ◌≤◌, Bool, true, false, cond, List, [], ◌∷◌, length, get_or, set, Some, None, Ordering, inl, inr, arith, Less, Equal, Greater, is_eq, is_lt, nat_cmp, bytes_eq}
-use Rattle.cns_retransmit.proofs.Common.{AllWithin, Cusip, Fill, IsNonDecreasingBy, IsNonDecreasingBy-from_default, Liables, RiseByIssue, and_left, and_right, batch_in, below_all, both_true, by_issue, bytes_eq-Decides, cases_lt, changed_at, charged_in, is_eq-slice_cmp, less, nat_list_cmp_total, ordering_index, ordering_reverse, slice_cmp}
+-- For `place`, `charge` and `find` of day.rt, `charge` of batches.rt.
+use Rattle.std.proofs.Common.{◌≡◌, ◌∙◌, sym, ap, refl, subst, ℕ, zero, suc, ◌-◌, ◌<◌, ◌≤◌, Bool, true, false, cond, List, [], ◌∷◌, length, get_or, set, Some, None, Ordering, arith, Less, Equal, Greater, is_eq, is_lt, nat_cmp, bytes_eq}
+use Rattle.cns_retransmit.proofs.Common.{AllWithin, Cusip, Fill, IsNonDecreasingBy, Liables, RiseByIssue, and_left, and_right, batch_in, below_all, both_true, by_issue, bytes_eq-Decides, cases_lt, changed_at, charged_in, is_eq-slice_cmp, less, nat_list_cmp_total, ordering_index, slice_cmp}
 use Rattle.cns_retransmit.specs.Days.{charged_by, charged_if, charged_on}
 
 -- the order of issues
@@ -15,15 +16,9 @@ tied_same c d h = (bytes_eq-Decides c d).0 (sym (is_eq-slice_cmp c d) ∙ ap is_
 apart : (c d : Cusip) (r : Ordering) → issue_cmp c d ≡ r → is_eq r ≡ false → bytes_eq c d ≡ false
 apart c d r h e = sym (is_eq-slice_cmp c d) ∙ ap is_eq h ∙ e
 
--- the other way round
-turned : (c d : Cusip) (r : Ordering) → issue_cmp c d ≡ r → issue_cmp d c ≡ ordering_reverse r
-turned c d r h = nat_list_cmp_total.antisymm d c ∙ ap ordering_reverse h
-
 -- an issue below another does not compare as higher than it
 below_tied : (c d k : Cusip) (r : Ordering) → issue_cmp d k ≡ r → issue_cmp c d ≡ Less → ordering_index (issue_cmp c k) ≤ ordering_index r
-below_tied c d k Less p q = rw (nat_list_cmp_total.trans c d k q p) (omega arith)
-below_tied c d k Equal p q = rw (subst (λ x. issue_cmp c x ≡ Less) (tied_same d k p) q) (omega arith)
-below_tied c d k Greater p q = elim (issue_cmp c k) as (λ r. ordering_index r ≤ 2) [ Less ↦ omega arith | Equal ↦ omega arith | Greater ↦ omega arith ]
+below_tied c d k r p q = grind (arith, nat_list_cmp_total)
 
 -- an issue below all is below each
 below_each : (c : Cusip) (bs : List Liables) (i : ℕ) (d : Liables) → below_all issue_cmp c (by_issue bs) ≡ true → i < length bs → issue_cmp c (get_or bs i d).issue ≡ Less
@@ -40,11 +35,7 @@ below_later (b ∷ bs) (suc i) (suc j) d s p q = below_later bs i j d (and_right
 
 -- how the issues of batches compare with one issue
 pub comparisons_rise : (bs : List Liables) (c : Cusip) (d : Liables) → RiseByIssue bs → IsNonDecreasingBy (λ b. ordering_index (issue_cmp b.issue c)) bs
-comparisons_rise bs c d s = IsNonDecreasingBy-from_default (λ (b : Liables). ordering_index (issue_cmp b.issue c)) bs d (λ i j le lt.
-    elim (cases_lt i j) [
-      | inl p ↦ below_tied _ _ c _ refl (below_later bs i j d s p lt)
-      | inr p ↦ let same : i ≡ j = omega arith in rw same (omega arith)
-    ])
+comparisons_rise bs c d s = grind (arith, ordering_index, cases_lt, below_tied, below_later)
 
 -- a batch before that of an issue is another's
 before : (b : Liables) (bs : List Liables) (i : ℕ) (c : Cusip) (d : Liables) → RiseByIssue (b ∷ bs) → i < length bs → issue_cmp (get_or bs i d).issue c ≡ Equal → bytes_eq b.issue c ≡ false
@@ -56,8 +47,7 @@ before b bs i c d s lt tied =
 pub batch_found : (bs : List Liables) (i : ℕ) (c : Cusip) (d : Liables) → RiseByIssue bs → i < length bs → issue_cmp (get_or bs i d).issue c ≡ Equal → batch_in bs c ≡ Some (get_or bs i d)
 batch_found [] i c d s lt tied = absurd (omega arith)
 batch_found (b ∷ bs) zero c d s lt tied = ap (λ t. cond t (Some b) (batch_in bs c)) (sym (is_eq-slice_cmp b.issue c) ∙ ap is_eq tied)
-batch_found (b ∷ bs) (suc i) c d s lt tied =
-    ap (λ t. cond t (Some b) (batch_in bs c)) (before b bs i c d s (omega arith) tied) ∙ batch_found bs i c d (and_right _ _ s) (omega arith) tied
+batch_found (b ∷ bs) (suc i) c d s lt tied = grind (arith, before, batch_found bs i c d)
 
 -- no batch of an issue, where a search found a gap
 pub batch_missing : (bs : List Liables) (i : ℕ) (c : Cusip) → AllWithin (λ b. issue_cmp b.issue c ≡ Less) bs 0 i → AllWithin (λ b. issue_cmp b.issue c ≡ Greater) bs i (length bs) → batch_in bs c ≡ None
@@ -87,7 +77,7 @@ nothing_charged c fs bs h = sym (uncharged c fs bs h)
 -- an issue below all has no batch
 none_below : (c : Cusip) (bs : List Liables) → below_all issue_cmp c (by_issue bs) ≡ true → batch_in bs c ≡ None
 none_below c [] h = refl
-none_below c (b ∷ bs) h = ap (λ t. cond t (Some b) (batch_in bs c)) (apart b.issue c Greater (turned c b.issue Less (less _ (and_left _ _ h))) refl) ∙ none_below c bs (and_right _ _ h)
+none_below c (b ∷ bs) h = grind (arith, apart, nat_list_cmp_total.antisymm, none_below c bs)
 
 -- a write of the charged batch where a search ended
 pub set_charged : (bs : List Liables) (i : ℕ) (c : Cusip) (fs : List Fill) (d : Liables) → RiseByIssue bs → i < length bs → issue_cmp (get_or bs i d).issue c ≡ Equal → set bs i (charged_by fs (get_or bs i d)) ≡ charged_in c fs bs
@@ -96,14 +86,11 @@ set_charged (b ∷ bs) zero c fs d s lt tied =
     let none : batch_in bs c ≡ None = none_below c bs (subst (λ x. below_all issue_cmp x (by_issue bs) ≡ true) (tied_same b.issue c tied) (and_left _ _ s)) in
     ap (λ xs. charged_by fs b ∷ xs) (nothing_charged c fs bs none)
     ∙ ap (λ t. cond t (charged_by fs b) b ∷ charged_in c fs bs) (sym (sym (is_eq-slice_cmp b.issue c) ∙ ap is_eq tied))
-set_charged (b ∷ bs) (suc i) c fs d s lt tied =
-    ap (λ xs. b ∷ xs) (set_charged bs i c fs d (and_right _ _ s) (omega arith) tied)
-    ∙ ap (λ t. cond t (charged_by fs b) b ∷ charged_in c fs bs) (sym (before b bs i c d s (omega arith) tied))
+set_charged (b ∷ bs) (suc i) c fs d s lt tied = grind (arith, before, set_charged bs i c fs d)
 
 -- a charge keeps the issue
 same_cusip : (t : Bool) (fs : List Fill) (b : Liables) → (cond t (charged_by fs b) b).issue ≡ b.issue
-same_cusip true fs b = refl
-same_cusip false fs b = refl
+same_cusip t fs b = grind arith
 
 below_charged : (k c : Cusip) (fs : List Fill) (bs : List Liables) → below_all issue_cmp k (by_issue bs) ≡ true → below_all issue_cmp k (by_issue (charged_in c fs bs)) ≡ true
 below_charged k c fs [] h = refl
@@ -112,9 +99,7 @@ below_charged k c fs (b ∷ bs) h = both_true _ _ (ap (λ x. is_lt (issue_cmp k 
 -- a charge keeps the order
 pub charged_rise : (c : Cusip) (fs : List Fill) (bs : List Liables) → RiseByIssue bs → RiseByIssue (charged_in c fs bs)
 charged_rise c fs [] s = refl
-charged_rise c fs (b ∷ bs) s = both_true _ _
-    (ap (λ x. below_all issue_cmp x (by_issue (charged_in c fs bs))) (same_cusip (bytes_eq b.issue c) fs b) ∙ below_charged b.issue c fs bs (and_left _ _ s))
-    (charged_rise c fs bs (and_right _ _ s))
+charged_rise c fs (b ∷ bs) s = grind (arith, below_charged, charged_rise c fs bs)
 
 -- the same, of what was read and written
 pub written_charged : (bs : List Liables) (i : ℕ) (c : Cusip) (fs : List Fill) (x y : Liables) → RiseByIssue bs → i < length bs → issue_cmp (get_or bs i x).issue c ≡ Equal → x ≡ get_or bs i x → y ≡ charged_by fs x → set bs i y ≡ charged_in c fs bs
@@ -143,5 +128,4 @@ day_charged V (suc n) i c fs x y le at lt read is =
 
 -- a charge of a day that is not closed
 pub day_uncharged : (V : List (List Liables)) (n i : ℕ) (c : Cusip) (fs : List Fill) → 1 ≤ n → i ≡ n - 1 → length V ≤ i → V ≡ charged_on V n c fs
-day_uncharged V zero i c fs le at past = refl
-day_uncharged V (suc n) i c fs le at past = unchanged_day (charged_in c fs) V n (omega (arith, at))
+day_uncharged V n i c fs le at past = grind (arith, unchanged_day)

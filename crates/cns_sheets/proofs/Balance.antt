@@ -1,8 +1,8 @@
 -- The marks of a sheet add up to zero.
-use Rattle.std.proofs.Common.{◌≡◌, ◌∙◌, sym, ap, refl, ℕ, zero, suc, ◌≤◌, ℤ, pos, ◌+ℤ◌, ◌-ℤ◌, ◌*ℤ◌, neg_ℤ, Bool, true, false, not, cond, List, [], ◌∷◌, length, map, filter, Option, Some, None, unwrap_or, arith, int_eq, is_eq}
-use Rattle.cns_sheets.proofs.Common.{CanBeCut, CentsByKey, Cusip, DaySheet, Holding, Key, Listed, Paying, Row, Rows, Woven, and_left, and_right, below_all, both_true, bytes_eq-Decides, exact_keys, find_filter, held_above, held_same, holding_at, idle_parts, ints, is_held, is_sorted, kept_if, key_cmp, keys_total, option_map_or, price_in, price_on, prices_of, same_issue, same_lists, says, sorted_filter, total, total-add, total-neg, total-same, weave, zero-*ℤ, zeros}
+-- For `build` of sheet.rt.
+use Rattle.std.proofs.Common.{◌≡◌, ◌∙◌, sym, ap, refl, ℕ, zero, suc, ◌≤◌, ℤ, pos, ◌+ℤ◌, ◌-ℤ◌, ◌*ℤ◌, neg_ℤ, Bool, true, false, not, cond, List, [], ◌∷◌, length, map, filter, Option, None, unwrap_or, arith, int_eq}
+use Rattle.cns_sheets.proofs.Common.{CanBeCut, CentsByKey, Cusip, DaySheet, Holding, Key, Listed, Paying, Row, Rows, Woven, and_left, and_right, below_all, both_true, bytes_eq-Decides, exact_keys, find_filter, held_above, held_same, holding_at, idle_parts, ints, is_held, is_sorted, kept_if, key_cmp, keys_total, option_map_or, price_in, price_on, prices_of, same_issue, same_lists, says, sorted_filter, total, total-add, total-neg, total-same, weave, zero-*ℤ, zeros, nat_tests}
 use Rattle.std.specs.FinMap.{find}
-use Rattle.std.specs.Cmp.{signed_Decides}
 use Rattle.cns_terms.proofs.SheetSums.{kept_or_not}
 use Rattle.cns_terms.proofs.ZeroSums.{total-times}
 use Rattle.cns_sheets.specs.Build.{AreBalanced, by_key, closing_in, worth}
@@ -22,46 +22,29 @@ module _ {X : Type 0} (issue : X → Cusip) (f : X → ℤ) where
   others c xs = filter (λ x. not (same_issue (issue x) c)) xs
 
   split_branch : (b : Bool) (v s o : ℤ) (x : X) (xs : List X) → f x ≡ v → s +ℤ total f xs ≡ o → (cond b v (pos 0) +ℤ s) +ℤ total f (cond (not b) (x ∷ xs) xs) ≡ v +ℤ o
-  split_branch true v s o x xs is h = omega (arith, ints, h)
-  split_branch false v s o x xs is h = omega (arith, ints, h, is)
+  split_branch b v s o x xs is h = grind (arith, nat_tests)
 
   -- a sum is that of one issue and that of the others
   split : (c : Cusip) (xs : List X) → total (in_issue c) xs +ℤ total f (others c xs) ≡ total f xs
   split c [] = refl
   split c (x ∷ xs) = split_branch (same_issue (issue x) c) (f x) (total (in_issue c) xs) (total f xs) x (others c xs) refl (split c xs)
 
-  fewer_branch : (b : Bool) (x : X) (xs : List X) (n : ℕ) → length xs ≤ n → length (cond b (x ∷ xs) xs) ≤ suc n
-  fewer_branch true x xs n h = omega (arith, h)
-  fewer_branch false x xs n h = omega (arith, h)
-
   fewer : (c : Cusip) (xs : List X) → length (others c xs) ≤ length xs
   fewer c [] = omega arith
-  fewer c (x ∷ xs) = fewer_branch (not (same_issue (issue x) c)) x (others c xs) (length xs) (fewer c xs)
-
-  gone_branch : (b : Bool) (d : Cusip) (x : X) (xs : List X) (s : ℤ) → (b ≡ true → in_issue d x ≡ pos 0) → total (in_issue d) xs ≡ s → total (in_issue d) (cond (not b) (x ∷ xs) xs) ≡ in_issue d x +ℤ s
-  gone_branch true d x xs s out h = let z = out refl in omega (arith, ints, h, z)
-  gone_branch false d x xs s out h = ap (λ n. in_issue d x +ℤ n) h
-
-  apart : (t : Bool) (c d : Cusip) (x : X) → same_issue c d ≡ t → t ≡ false → same_issue (issue x) c ≡ true → in_issue d x ≡ pos 0
-  apart t c d x is other h = ap (λ b. cond b (f x) (pos 0)) (ap (λ e. same_issue e d) ((bytes_eq-Decides (issue x) c).0 h) ∙ is ∙ other)
+  fewer c (x ∷ xs) = grind (arith, fewer c xs)
 
   -- what the others sum up to in another issue
   elsewhere : (c d : Cusip) (xs : List X) → same_issue c d ≡ false → total (in_issue d) (others c xs) ≡ total (in_issue d) xs
   elsewhere c d [] other = refl
-  elsewhere c d (x ∷ xs) other = gone_branch (same_issue (issue x) c) d x (others c xs) (total (in_issue d) xs) (apart _ c d x refl other) (elsewhere c d xs other)
-
-  none_branch : (b : Bool) (c : Cusip) (x : X) (xs : List X) → same_issue (issue x) c ≡ b → total (in_issue c) xs ≡ pos 0 → total (in_issue c) (cond (not b) (x ∷ xs) xs) ≡ pos 0
-  none_branch true c x xs is h = h
-  none_branch false c x xs is h = let z : in_issue c x ≡ pos 0 = ap (λ b. cond b (f x) (pos 0)) is in omega (arith, ints, h, z)
+  elsewhere c d (x ∷ xs) other = grind (arith, bytes_eq-Decides, elsewhere c d xs other)
 
   -- and in the one issue
   nothing : (c : Cusip) (xs : List X) → total (in_issue c) (others c xs) ≡ pos 0
   nothing c [] = refl
-  nothing c (x ∷ xs) = none_branch (same_issue (issue x) c) c x (others c xs) refl (nothing c xs)
+  nothing c (x ∷ xs) = grind (arith, nothing c xs)
 
   still : (t : Bool) (c d : Cusip) (xs : List X) → same_issue c d ≡ t → total (in_issue d) xs ≡ pos 0 → total (in_issue d) (others c xs) ≡ pos 0
-  still true c d xs is h = ap (λ e. total (in_issue e) (others c xs)) (sym ((bytes_eq-Decides c d).0 is)) ∙ nothing c xs
-  still false c d xs is h = elsewhere c d xs is ∙ h
+  still t c d xs is h = grind (arith, bytes_eq-Decides, nothing, elsewhere)
 
   zero_upto : (n : ℕ) (xs : List X) → length xs ≤ n → ((c : Cusip) → total (in_issue c) xs ≡ pos 0) → total f xs ≡ pos 0
   zero_upto n [] le h = refl
@@ -82,8 +65,7 @@ module _ {X : Type 0} (issue : X → Cusip) (f : X → ℤ) where
 
 module _ {X : Type 0} (issue : X → Cusip) (f : X → ℤ) (w : Cusip → ℕ) where
   weigh_branch : (b : Bool) (c d : Cusip) (v : ℤ) → (b ≡ true → d ≡ c) → cond b (v *ℤ pos (w d)) (pos 0) ≡ cond b v (pos 0) *ℤ pos (w c)
-  weigh_branch true c d v h = ap (λ e. v *ℤ pos (w e)) (h refl)
-  weigh_branch false c d v h = sym (zero-*ℤ (pos (w c)))
+  weigh_branch b c d v h = grind arith
 
   weighed_in : (c : Cusip) (xs : List X) → total (λ x. cond (same_issue (issue x) c) (f x *ℤ pos (w (issue x))) (pos 0)) xs ≡ total (λ x. cond (same_issue (issue x) c) (f x) (pos 0)) xs *ℤ pos (w c)
   weighed_in c xs =
@@ -100,29 +82,18 @@ module _ {X : Type 0} (issue : X → Cusip) (f : X → ℤ) (w : Cusip → ℕ) 
 abbrev counts : ℤ → Bool
 counts n = not (int_eq n (pos 0))
 
-is_zero : (n : ℤ) (b : Bool) → int_eq n (pos 0) ≡ b → not b ≡ false → n ≡ pos 0
-is_zero n true e h = (signed_Decides n (pos 0)).0 e
-is_zero n false e h = cc
-
 counts_or_zero : (n : ℤ) → counts n ≡ false → n ≡ pos 0
-counts_or_zero n h = is_zero n (int_eq n (pos 0)) refl h
-
-no_count : (n : ℤ) → n ≡ pos 0 → counts n ≡ false
-no_count n e = ap counts e
+counts_or_zero n h = grind arith
 
 alike : (o p : Option ℤ) → unwrap_or o (pos 0) ≡ unwrap_or p (pos 0) → kept_if counts o ≡ kept_if counts p
-alike None None h = refl
-alike None (Some n) h = sym (ap (λ b. cond b (Some n) None) (no_count n (sym h)))
-alike (Some m) None h = ap (λ b. cond b (Some m) None) (no_count m h)
-alike (Some m) (Some n) h = ap (λ k. cond (counts k) (Some k) None) h
+alike o p h = grind arith
 
 -- the numbers in an issue
 abbrev pub numbers_in : Cusip → Key × ℤ → ℤ
 numbers_in c e = cond (same_issue e.0.issue c) e.1 (pos 0)
 
 pub zero_in : (b : Bool) (n : ℤ) → n ≡ pos 0 → cond b n (pos 0) ≡ pos 0
-zero_in true n h = h
-zero_in false n h = refl
+zero_in b n h = grind arith
 
 module _ (f : Key × ℤ → ℤ) (nothing : (k : Key) → f (k, pos 0) ≡ pos 0) where
   -- zeros add nothing
@@ -158,13 +129,9 @@ module _ {V : Type 0} (f : V → ℤ) where
   sorted_numbers [] h = refl
   sorted_numbers (e ∷ es) h = both_true _ _ (below_numbers e.0 es (and_left _ _ h)) (sorted_numbers es (and_right _ _ h))
 
-  found_branch : (b : Bool) (v : V) (n : ℤ) (o : Option ℤ) (p : Option V) → unwrap_or o n ≡ option_map_or f p n → unwrap_or (cond b (Some (f v)) o) n ≡ option_map_or f (cond b (Some v) p) n
-  found_branch true v n o p h = refl
-  found_branch false v n o p h = h
-
   pub found_number : (k : Key) (n : ℤ) (es : List (Key × V)) → unwrap_or (find key_cmp k (numbers es)) n ≡ option_map_or f (find key_cmp k es) n
   found_number k n [] = refl
-  found_number k n (e ∷ es) = found_branch (is_eq (key_cmp k e.0)) e.1 n _ _ (found_number k n es)
+  found_number k n (e ∷ es) = grind (arith, found_number k n es)
 
   pub total_numbers : (s : Key × ℤ → ℤ) (es : List (Key × V)) → total s (numbers es) ≡ total (λ e. s (e.0, f e.1)) es
   total_numbers s [] = refl
@@ -174,20 +141,15 @@ module _ {V : Type 0} (f : V → ℤ) where
 
 -- a number of a holding, or zero
 held_number : (g : Holding → ℤ) → pos 0 ≡ g zeros → (o : Option Holding) → option_map_or g o (pos 0) ≡ g (unwrap_or o zeros)
-held_number g z None = z
-held_number g z (Some h) = refl
+held_number g z o = grind arith
 
 -- the same with cents beside it
 woven_number : (g : Holding → ℤ) → pos 0 ≡ g zeros → (o : Option Holding) (p : Option ℤ) → option_map_or (λ v. g v.0) (both_at o p) (pos 0) ≡ g (unwrap_or o zeros)
-woven_number g z (Some h) p = refl
-woven_number g z None (Some n) = refl
-woven_number g z None None = z
+woven_number g z o p = grind arith
 
 -- the cents beside a holding, or zero
 woven_cents : (o : Option Holding) (p : Option ℤ) → option_map_or (λ v. v.1) (both_at o p) (pos 0) ≡ unwrap_or p (pos 0)
-woven_cents (Some h) p = refl
-woven_cents None (Some n) = refl
-woven_cents None None = refl
+woven_cents o p = grind arith
 
 -- the closings of rows, by their keys
 closings_by_key : (c : Cusip) (rows : List Row) → total (λ e. cond (same_issue e.0.issue c) e.1.closing (pos 0)) (by_key rows) ≡ total (closing_in c) rows

@@ -1,6 +1,7 @@
 -- What payments book.
-use Rattle.std.proofs.Common.{◌≡◌, ◌∙◌, sym, ap, subst, refl, ℕ, ◌+◌, ◌*◌, ◌^◌, zero, suc, ◌<◌, ◌≤◌, ◌==◌, ℤ, pos, ◌+ℤ◌, ◌-ℤ◌, neg_ℤ, of_z, to_z, Bool, true, false, not, cond, ◌&&◌, List, [], ◌∷◌, length, get_or, take, map, Option, Some, None, unwrap_or, Ordering, arith, FitsSigned, int_div, unsigned_abs, sum_by, is_eq, Less, Equal, Greater, take_all}
-use Rattle.cns_sheets.proofs.Common.{AllByRecursion, CentsByKey, IsPayable, Key, Row, added-more, and_left, and_right, below_all, cash, cents_at, corporation, equal, exact_keys, find_below, front_total, insert_entry, ints, is_sorted, key_cmp, keys_total, lookup, magnitude, match_ordering, member_cash, option_map_or, ordering_reverse, paid, same_issue, same_key, sum_by-cons, sum_limit, total, total-map, total_small, w128, zero-*ℤ}
+-- For `pay_members`, `new`, `add` and `pay` of payments.rt.
+use Rattle.std.proofs.Common.{◌≡◌, ◌∙◌, sym, ap, subst, refl, ℕ, ◌+◌, ◌*◌, ◌^◌, zero, suc, ◌<◌, ◌≤◌, ◌==◌, ℤ, pos, ◌+ℤ◌, ◌-ℤ◌, neg_ℤ, of_z, to_z, Bool, true, not, cond, ◌&&◌, List, [], ◌∷◌, length, get_or, take, map, Option, Some, None, unwrap_or, Ordering, arith, FitsSigned, unsigned_abs, sum_by, is_eq, Less, Equal, Greater, take_all}
+use Rattle.cns_sheets.proofs.Common.{AllByRecursion, CentsByKey, IsPayable, Key, Row, added-more, and_left, and_right, below_all, cash, cents_at, corporation, equal, exact_keys, find_below, front_total, insert_entry, ints, is_sorted, key_cmp, keys_total, lookup, magnitude, match_ordering, member_cash, option_map_or, ordering_reverse, paid, same_issue, same_key, sum_by-cons, sum_limit, total, total-map, total_small, w128}
 use Rattle.std.specs.BTreeMap.{is_at}
 use Rattle.std.specs.FinMap.{find}
 use Rattle.std.proofs.lemmas.Int.{to_z-of_z}
@@ -38,19 +39,15 @@ had_is k es o n is found = is ∙ ap (λ o. unwrap_or o (pos 0)) (found ∙ sym 
 
 -- keys tie either way round
 tied_both : (r : Ordering) → is_eq (ordering_reverse r) ≡ is_eq r
-tied_both Less = refl
-tied_both Equal = refl
-tied_both Greater = refl
+tied_both r = grind arith
 
 -- cents at a key, added to or not
 added_branch : (b : Bool) (v cents before now : ℤ) → (b ≡ true → v ≡ now +ℤ cents) → unwrap_or (cond b (Some v) (Some now)) (pos 0) ≡ now +ℤ cond b cents (pos 0)
-added_branch true v cents before now h = h refl
-added_branch false v cents before now h = omega (arith, ints)
+added_branch b v cents before now h = grind arith
 
 -- where nothing stood, zero did
 or_added : (b : Bool) (v : ℤ) (o : Option ℤ) → unwrap_or (cond b (Some v) o) (pos 0) ≡ unwrap_or (cond b (Some v) (Some (unwrap_or o (pos 0)))) (pos 0)
-or_added true v o = refl
-or_added false v o = refl
+or_added b v o = grind arith
 
 -- the cents at each key, where they are added to at one
 pub cents_added : (old new : CentsByKey) (key : Key) (v cents : ℤ) → ((q : Key) → lookup (is_at (key_cmp q)) new ≡ cond (is_eq (key_cmp key q)) (Some v) (lookup (is_at (key_cmp q)) old)) → v ≡ cents_at old key +ℤ cents
@@ -109,16 +106,9 @@ module _ (d : Declared) (rows : List Row) (payable : IsPayable (d, rows)) where
   small : magnitude (member_cash d) rows ≤ 10 ^ 21
   small = rw (as_added rows) payable
 
-  -- a number that may be left out
-  no_more : (b : Bool) (n : ℤ) → unsigned_abs (cond b n (pos 0)) ≤ unsigned_abs n
-  no_more true n = omega arith
-  no_more false n = omega (arith, ints)
-
   -- so is what is booked at a key
   booked_small : (k : Key) → magnitude (booked k) rows ≤ 10 ^ 21
-  booked_small k =
-      let less = added-more (λ r. unsigned_abs (booked k r)) (λ r. unsigned_abs (member_cash d r)) rows (λ r. no_more (is_eq (key_cmp k (key_of r))) (member_cash d r)) in
-      omega (arith, less, small)
+  booked_small k = grind (arith, added-more, small)
 
   -- what all members get
   pub all_small : unsigned_abs (total (member_cash d) rows) ≤ 10 ^ 21
@@ -167,28 +157,19 @@ module _ (d : Declared) (rows : List Row) (payable : IsPayable (d, rows)) where
 
 -- the opposite of a sum, in its register
 pub neg_is : (sum t : ℤ) → sum ≡ t → unsigned_abs t ≤ 10 ^ 21 → to_z w128 (of_z w128 (pos 0 -ℤ to_z w128 (of_z w128 sum))) ≡ neg_ℤ sum
-neg_is sum t e h =
-    let s : unsigned_abs sum ≤ 10 ^ 21 = rw e h in
-    rw (to_z-of_z w128 sum (fits sum (omega (arith, s)))) (to_z-of_z w128 (pos 0 -ℤ sum) (fits (pos 0 -ℤ sum) (omega (arith, ints, s))) ∙ omega (arith, ints))
+neg_is sum t e h = grind arith
 
 -- which fits
 pub neg_fits : (sum t : ℤ) → sum ≡ t → unsigned_abs t ≤ 10 ^ 21 → FitsSigned w128 (pos 0 -ℤ to_z w128 (of_z w128 sum))
-neg_fits sum t e h =
-    let s : unsigned_abs sum ≤ 10 ^ 21 = rw e h in
-    rw (to_z-of_z w128 sum (fits sum (omega (arith, s)))) (fits (pos 0 -ℤ sum) (omega (arith, ints, s)))
+neg_fits sum t e h = grind arith
 
 -- it can be added
 pub part_small : (now old part sum t : ℤ) → now ≡ old +ℤ part → unsigned_abs old ≤ 10 ^ 33 → unsigned_abs part ≤ 10 ^ 21 → sum ≡ t → unsigned_abs t ≤ 10 ^ 21 → unsigned_abs (now +ℤ neg_ℤ sum) ≤ 10 ^ 34
 part_small now old part sum t h a b e c = omega (arith, ints, h, a, b, e, c)
 
--- a payment adds little at a key, the corporation's or another
-step_small : (e : Bool) (old part sum t : ℤ) → unsigned_abs part ≤ 10 ^ 21 → sum ≡ t → unsigned_abs t ≤ 10 ^ 21 → unsigned_abs ((old +ℤ part) +ℤ cond e (neg_ℤ sum) (pos 0)) ≤ unsigned_abs old + 2 * 10 ^ 21
-step_small true old part sum t a e b = omega (arith, ints, a, e, b)
-step_small false old part sum t a e b = omega (arith, ints, a)
-
 -- a payment adds little at a key
 pub both_small : (e : Bool) (old part now new sum t : ℤ) → now ≡ old +ℤ part → new ≡ now +ℤ cond e (neg_ℤ sum) (pos 0) → unsigned_abs part ≤ 10 ^ 21 → sum ≡ t → unsigned_abs t ≤ 10 ^ 21 → unsigned_abs new ≤ unsigned_abs old + 2 * 10 ^ 21
-both_small e old part now new sum t was is a es b = rw (is, was) (step_small e old part sum t a es b)
+both_small e old part now new sum t was is a es b = grind arith
 
 -- many payments add not too much
 pub few_small : (n i : ℕ) → n ≤ 2 * 10 ^ 21 * i → i ≤ 2 ^ 32 → n ≤ 10 ^ 33
@@ -209,44 +190,23 @@ module _ (d : Declared) where
   abbrev found_cash : List Row → Key → ℤ
   found_cash rows k = option_map_or (member_cash d) (row_at rows k) (pos 0)
 
-  -- no shares get no cash
-  no_cash : pos 0 ≡ cash (pos 0) d.rate
-  no_cash = sym (ap (λ n. int_div n (pos 10000)) (zero-*ℤ (pos d.rate)))
-
   -- the row of a key, the first or a later one
   found_branch : (e : Bool) (k : Key) (r : Row) (o : Option Row) → (e ≡ true → k ≡ key_of r) → option_map_or (member_cash d) o (pos 0) ≡ cond (same_issue k.issue d.issue && not (k.account == corporation)) (cash (option_map_or (λ r. r.closing) o (pos 0)) d.rate) (pos 0)
       → option_map_or (member_cash d) (cond e (Some r) o) (pos 0) ≡ cond (same_issue k.issue d.issue && not (k.account == corporation)) (cash (option_map_or (λ r. r.closing) (cond e (Some r) o) (pos 0)) d.rate) (pos 0)
-  found_branch true k r o same h = ap (λ (q : Key). cond (same_issue q.issue d.issue && not (q.account == corporation)) (cash r.closing d.rate) (pos 0)) (sym (same refl))
-  found_branch false k r o same h = h
-
-  -- a zero that may be left out
-  either : (b : Bool) (n : ℤ) → pos 0 ≡ n → pos 0 ≡ cond b n (pos 0)
-  either true n h = h
-  either false n h = refl
+  found_branch e k r o same h = grind arith
 
   -- which is that of its closing position, for a member in the issue
   cash_found : (rows : List Row) (k : Key) → found_cash rows k ≡ cond (same_issue k.issue d.issue && not (k.account == corporation)) (cash (closing_at rows k) d.rate) (pos 0)
-  cash_found [] k = either _ _ no_cash
+  cash_found [] k = grind arith
   cash_found (r ∷ rows) k = found_branch (is_eq (key_cmp k (key_of r))) k r (row_at rows k) (λ e. exact_keys k (key_of r) (equal _ e)) (cash_found rows k)
-
-  -- a payment by its cases
-  paid_cases : (s a : Bool) (c t : ℤ) → cond s (cond a (neg_ℤ t) c) (pos 0) ≡ cond (s && not a) c (pos 0) +ℤ cond (a && s) (neg_ℤ t) (pos 0)
-  paid_cases true true c t = omega (arith, ints)
-  paid_cases true false c t = omega (arith, ints)
-  paid_cases false true c t = refl
-  paid_cases false false c t = refl
 
   -- what is paid at a key is the cash of its row, and the corporation's part at its key
   paid_found : (rows : List Row) (k corp : Key) → corp.account ≡ corporation → corp.issue ≡ d.issue → paid d rows k ≡ found_cash rows k +ℤ cond (is_eq (key_cmp k corp)) (neg_ℤ (total (member_cash d) rows)) (pos 0)
-  paid_found rows k corp ea ei =
-      paid_cases (same_issue k.issue d.issue) (k.account == corporation) (cash (closing_at rows k) d.rate) (total (member_cash d) rows)
-      ∙ (λ i. sym (cash_found rows k) i +ℤ cond ((k.account == sym ea i) && same_issue k.issue (sym ei i)) (neg_ℤ (total (member_cash d) rows)) (pos 0))
-      ∙ ap (λ b. found_cash rows k +ℤ cond b (neg_ℤ (total (member_cash d) rows)) (pos 0)) (sym (same_key k corp))
+  paid_found rows k corp ea ei = grind (arith, cash_found, same_key)
 
   -- a sum over rows of one key has one term
   once_branch : (e : Bool) (k : Key) (r : Row) (rows : List Row) (v s : ℤ) → s ≡ option_map_or (member_cash d) (row_at rows k) (pos 0) → (e ≡ true → row_at rows k ≡ None) → cond e (member_cash d r) (pos 0) +ℤ s ≡ option_map_or (member_cash d) (cond e (Some r) (row_at rows k)) (pos 0)
-  once_branch true k r rows v s h none = let z : s ≡ pos 0 = h ∙ ap (λ o. option_map_or (member_cash d) o (pos 0)) (none refl) in omega (arith, ints, z)
-  once_branch false k r rows v s h none = omega (arith, ints, h)
+  once_branch e k r rows v s h none = grind arith
 
   -- which has the key
   booked_once : (k : Key) (rows : List Row) → is_sorted key_cmp (by_key rows) ≡ true → total (λ r. cond (is_eq (key_cmp k (key_of r))) (member_cash d r) (pos 0)) rows ≡ found_cash rows k

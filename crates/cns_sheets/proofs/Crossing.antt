@@ -1,4 +1,5 @@
 -- A sheet may go to another thread, and be read by several.
+-- For `start` of threads.rt in cns_desk.
 use Rattle.cns_sheets.proofs.Common.{IsSend, crosses, sendable}
 use Rattle.std.below.core.specs.contracts.clone.Clone+copy.TheImpl as copied
 use denote.Param.Send.{IsSync}

@@ -1,4 +1,5 @@
 -- What a row gains beside the cents booked.
+-- For `new` of columns.rt.
 use Rattle.std.proofs.Common.{◌*◌, ◌^◌, ◌≤◌, ℤ, pos, ◌-ℤ◌, unsigned_abs, arith}
 use Rattle.cns_sheets.proofs.Common.{Price, ints, unsigned_abs-mul}
 use Rattle.cns_sheets.specs.Build.{marked, worth}

@@ -1,6 +1,7 @@
 -- Holdings that are handed out in several parts.
+-- For `push_rows` and `collect` of cutting.rt.
 use Rattle.std.proofs.Common.{◌≡◌, ◌∙◌, ap, sym, ◌&&◌, List, [], ◌∷◌, ◌++◌, ℕ, suc, ◌+◌, ◌<◌, subst, get_or, length, length-append, arith, drop, drop-cons, add-one, None, Some, Option}
-use Rattle.cns_sheets.proofs.Common.{AllByRecursion, AreNext, HasSmallCents, Holding, Key, Rows, each_filter, held_above, is_held, last_given, last_of, present}
+use Rattle.cns_sheets.proofs.Common.{AllByRecursion, AreNext, HasSmallCents, Holding, Key, Rows, each_filter, held_above, is_held, last_of, present}
 use Rattle.cns_positions.specs.Rows.{is_above}
 
 -- what holds of all holdings holds of those that are given
@@ -20,8 +21,4 @@ rest_small held i x lt is small =
 -- a pass that was given holdings has fewer left
 pub pass_smaller : (R : Rows) (after : Option Key) (given : Rows) (last : Key) → AreNext R after given → last_of None given ≡ Some last → length (held_above R (Some last)) < length (held_above R after)
 pass_smaller R after [] last next is = let no : ⊥ = cc in absurd no
-pass_smaller R after (e ∷ given) last next is =
-    let all = ap length next.first in
-    let parts = length-append (e ∷ given) (held_above R (last_of after (e ∷ given))) in
-    let rest : length (held_above R (last_of after (e ∷ given))) ≡ length (held_above R (Some last)) = ap (λ k. length (held_above R k)) (last_given after (e ∷ given) last is) in
-    omega (arith, all, parts, rest)
+pass_smaller R after (e ∷ given) last next is = grind (arith, length-append)

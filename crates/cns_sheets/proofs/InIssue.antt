@@ -1,5 +1,6 @@
 -- The rows in one issue, found account by account.
-use Rattle.std.proofs.Common.{◌≡◌, ◌∙◌, sym, ap, refl, ℕ, ◌+◌, ◌-◌, ◌<◌, ◌≤◌, ◌&&◌, ◌↔◌, Bool, true, false, not, cond, List, [], ◌∷◌, filter, Option, Some, None, arith, is_eq, is_lt, nat_cmp, nat_lt, subst, Ordering, Less, Equal, Greater}
+-- For `rows_in` of sheet.rt, `first_in` and `next` of in_issue.rt.
+use Rattle.std.proofs.Common.{◌≡◌, ◌∙◌, sym, ap, refl, ℕ, ◌+◌, ◌-◌, ◌<◌, ◌≤◌, ◌&&◌, ◌↔◌, Bool, true, false, not, cond, List, [], ◌∷◌, filter, Option, Some, None, arith, is_eq, is_lt, nat_cmp, Ordering, Less, Equal, Greater}
 use Rattle.cns_sheets.proofs.Common.{AllByRecursion, Columns, Cusip, IsMarked, Key, bytes_eq-Decides, bytes_refl, full_rows, is_at_or_after, is_eq-slice_cmp, is_sorted, key_cmp, keys_total, next_above, nat_tests, option_map_or, ordering_then, same_issue, slice_cmp}
 use Rattle.std.specs.List.{find as first}
 use Rattle.cns_terms.specs.Limits.{member_limit}
@@ -12,19 +13,7 @@ module _ {X : Type 0} where
   -- what passes two tests passes one after the other
   filter_both : (s t : X → Bool) (xs : List X) → filter (λ x. s x && t x) xs ≡ filter s (filter t xs)
   filter_both s t [] = refl
-  filter_both s t (x ∷ xs) = branch (t x) (s x) (filter_both s t xs)
-    where
-      kept : (a : Bool) → filter (λ x. s x && t x) xs ≡ filter s (filter t xs) → cond (a && true) (x ∷ filter (λ x. s x && t x) xs) (filter (λ x. s x && t x) xs) ≡ cond a (x ∷ filter s (filter t xs)) (filter s (filter t xs))
-      kept true h = ap (λ ys. x ∷ ys) h
-      kept false h = h
-
-      lost : (a : Bool) → filter (λ x. s x && t x) xs ≡ filter s (filter t xs) → cond (a && false) (x ∷ filter (λ x. s x && t x) xs) (filter (λ x. s x && t x) xs) ≡ filter s (filter t xs)
-      lost true h = h
-      lost false h = h
-
-      branch : (b a : Bool) → filter (λ x. s x && t x) xs ≡ filter s (filter t xs) → cond (s x && b) (x ∷ filter (λ x. s x && t x) xs) (filter (λ x. s x && t x) xs) ≡ filter s (cond b (x ∷ filter t xs) (filter t xs))
-      branch true a h = kept (s x) h
-      branch false a h = lost (s x) h
+  filter_both s t (x ∷ xs) = grind (arith, filter_both s t xs)
 
   -- tests that tell the elements of a list apart alike keep the same of it
   filter_alike : (P : X → Type 0) (u v : X → Bool) → ((x : X) → P x → u x ≡ v x) → (xs : List X) → AllByRecursion P xs → filter u xs ≡ filter v xs
@@ -34,34 +23,14 @@ module _ {X : Type 0} where
   -- what a search finds passes its test
   pub first_passes : (t : X → Bool) (xs : List X) (f : X) → first t xs ≡ Some f → t f ≡ true
   first_passes t [] f h = cc
-  first_passes t (x ∷ xs) f h = branch (t x) refl (λ e. first_passes t xs f e) h
-    where
-      branch : (b : Bool) → t x ≡ b → (first t xs ≡ Some f → t f ≡ true) → cond b (Some x) (first t xs) ≡ Some f → t f ≡ true
-      branch true e more h = let same : x ≡ f = cc in ap t (sym same) ∙ e
-      branch false e more h = more h
+  first_passes t (x ∷ xs) f h = grind (arith, first_passes t xs f)
 
   -- and is an element
   pub first_is : (P : X → Type 0) (t : X → Bool) (xs : List X) (f : X) → AllByRecursion P xs → first t xs ≡ Some f → P f
   first_is P t [] f all h = cc
-  first_is P t (x ∷ xs) f all h = branch (t x) (λ e. first_is P t xs f all.1 e) h
-    where
-      branch : (b : Bool) → (first t xs ≡ Some f → P f) → cond b (Some x) (first t xs) ≡ Some f → P f
-      branch true more h = let same : x ≡ f = cc in subst P same all.0
-      branch false more h = more h
+  first_is P t (x ∷ xs) f all h = grind (arith, first_is P t xs f all.1)
 
 -- ---- the place after a key
-
--- where a key's issue is lower, it is in the key's own account
-lower_is : (n a : ℕ) (o e : Ordering) → is_lt o ≡ true → is_lt e ≡ false → is_lt (ordering_then (nat_cmp n a) o) ≡ not (is_lt (ordering_then (nat_cmp a n) e))
-lower_is n a o e lo same = grind (arith, nat_tests)
-
--- else in the next account
-upper_is : (n a : ℕ) (o e : Ordering) → is_lt o ≡ false → is_lt e ≡ false → is_lt (ordering_then (nat_cmp n a) o) ≡ not (is_lt (ordering_then (nat_cmp a (n + 1)) e))
-upper_is n a o e hi same = grind (arith, nat_tests)
-
--- and after the last account nowhere
-last_is : (n a : ℕ) (o : Ordering) → is_lt o ≡ false → nat_lt n member_limit ≡ false → a ≤ member_limit → is_lt (ordering_then (nat_cmp n a) o) ≡ false
-last_is n a o hi last le = grind (arith, nat_tests)
 
 module _ (c : Cusip) where
   -- an issue is not below itself
@@ -73,24 +42,9 @@ module _ (c : Cusip) where
       tied Equal h = refl
       tied Greater h = refl
 
-  -- the keys of the issue above another are those from the place after it
-  place_is : (k : Key) (a : ℕ) → a ≤ member_limit → is_lt (key_cmp k (record { account = a; issue = c })) ≡ reaches (place_after k c) (record { account = a; issue = c })
-  place_is k a le = branch (is_lt (slice_cmp nat_cmp k.issue c)) (nat_lt k.account member_limit) refl refl
-    where
-      branch : (b d : Bool) → is_lt (slice_cmp nat_cmp k.issue c) ≡ b → nat_lt k.account member_limit ≡ d
-          → is_lt (key_cmp k (record { account = a; issue = c })) ≡ reaches (cond b (Some (record { account = k.account; issue = c })) (cond d (Some (record { account = k.account + 1; issue = c })) None)) (record { account = a; issue = c })
-      branch true d lo more = lower_is k.account a _ _ lo itself
-      branch false true hi more = upper_is k.account a _ _ hi itself
-      branch false false hi last = last_is k.account a _ hi last le
-
   -- it is one
   pub is_place : (k : Key) → k.account ≤ member_limit → IsPlaceIn c (place_after k c)
-  is_place k le = branch (is_lt (slice_cmp nat_cmp k.issue c)) (nat_lt k.account member_limit) refl
-    where
-      branch : (b d : Bool) → nat_lt k.account member_limit ≡ d → IsPlaceIn c (cond b (Some (record { account = k.account; issue = c })) (cond d (Some (record { account = k.account + 1; issue = c })) None))
-      branch true d e = (refl, le)
-      branch false true e = (refl, grind (arith, nat_tests))
-      branch false false e = tt
+  is_place k le = grind arith
 
   -- how many accounts are left from a place on
   abbrev pub accounts_left : Option Key → ℕ
@@ -98,30 +52,13 @@ module _ (c : Cusip) where
 
   -- fewer, after a key that is not below it
   pub fewer_left : (k low : Key) → low.issue ≡ c → low.account ≤ member_limit → reaches (Some low) k ≡ true → accounts_left (place_after k c) < accounts_left (Some low)
-  fewer_left k low here le past = branch (is_lt (slice_cmp nat_cmp k.issue c)) (nat_lt k.account member_limit) refl refl
-    where
-      later : (n m : ℕ) (o : Ordering) → is_lt o ≡ true → not (is_lt (ordering_then (nat_cmp n m) o)) ≡ true → m < n
-      later n m o lo h = grind (arith, nat_tests)
-
-      as_late : (n m : ℕ) (o : Ordering) → not (is_lt (ordering_then (nat_cmp n m) o)) ≡ true → m ≤ n
-      as_late n m o h = grind (arith, nat_tests)
-
-      branch : (b d : Bool) → is_lt (slice_cmp nat_cmp k.issue c) ≡ b → nat_lt k.account member_limit ≡ d
-          → accounts_left (cond b (Some (record { account = k.account; issue = c })) (cond d (Some (record { account = k.account + 1; issue = c })) None)) < (member_limit + 1) - low.account
-      branch true d lo more = let up = later k.account low.account _ (ap (λ i. is_lt (slice_cmp nat_cmp k.issue i)) here ∙ lo) past in omega (arith, up, le)
-      branch false true hi more = let up = as_late k.account low.account _ past in omega (arith, up, le)
-      branch false false hi last = omega (arith, le)
+  fewer_left k low here le past = grind arith
 
 -- ---- what is left
 
 -- what a test of issues told
 pub told : (i c : Cusip) (b : Bool) → (b ≡ true) ↔ (i ≡ c) → same_issue i c ≡ b
-told i c true h = (bytes_eq-Decides i c).1 (h.0 refl)
-told i c false h = off (same_issue i c) (λ e. h.1 ((bytes_eq-Decides i c).0 e))
-  where
-    off : (b : Bool) → (b ≡ true → false ≡ true) → b ≡ false
-    off true k = sym (k refl)
-    off false k = refl
+told i c b h = grind (arith, bytes_eq-Decides)
 
 module _ (c : Cusip) (es : List (Key × Columns)) (s : is_sorted key_cmp es ≡ true) (accounts : AreAccounts es) where
   -- whether a key is in the issue
@@ -130,15 +67,7 @@ module _ (c : Cusip) (es : List (Key × Columns)) (s : is_sorted key_cmp es ≡ 
 
   -- in the issue, above a key is from the place after it on
   alike : (k : Key) (e : Key × Columns) → e.0.account ≤ member_limit → (is_in e && is_lt (key_cmp k e.0)) ≡ is_next_in c (place_after k c) e
-  alike k e le = branch (is_in e) refl
-    where
-      branch : (b : Bool) → is_in e ≡ b → (b && is_lt (key_cmp k e.0)) ≡ (b && reaches (place_after k c) e.0)
-      branch true h =
-          let own : e.0.issue ≡ c = (bytes_eq-Decides e.0.issue c).0 h in
-          ap (λ i. is_lt (key_cmp k (record { account = e.0.account; issue = i }))) own
-          ∙ place_is c k e.0.account le
-          ∙ sym (ap (λ i. reaches (place_after k c) (record { account = e.0.account; issue = i })) own)
-      branch false h = refl
+  alike k e le = grind (arith, bytes_eq-Decides, itself)
 
   -- the keys from another on, whatever their issue
   abbrev from : Key → List (Key × Columns)
@@ -174,11 +103,7 @@ module _ (c : Cusip) (es : List (Key × Columns)) (s : is_sorted key_cmp es ≡ 
 -- without a place nothing is left
 pub none_left : (c : Cusip) (es : List (Key × Columns)) → entries_from es c None ≡ []
 none_left c [] = refl
-none_left c (e ∷ es) = branch (same_issue e.0.issue c) (none_left c es)
-  where
-    branch : (b : Bool) → entries_from es c None ≡ [] → cond (b && false) (e ∷ entries_from es c None) (entries_from es c None) ≡ []
-    branch true h = h
-    branch false h = h
+none_left c (e ∷ es) = grind (arith, none_left c es)
 
 -- ---- all of them
 

@@ -1,8 +1,8 @@
 -- What a sheet keeps of the rows that it is built from.
-use Rattle.std.proofs.Common.{◌≡◌, ◌∙◌, ap, sym, refl, ℤ, pos, Bool, true, false, cond, List, [], ◌∷◌, map, filter, Option, None, Some, not, unwrap_or, option_map, is_eq, nat_cmp}
-use Rattle.cns_sheets.proofs.Common.{CentsByKey, Cusip, Holding, IsCut, Key, Listed, Paying, PriceList, Row, Rows, Woven, and_left, and_right, below_all, both_true, cents_at, equal, exact_keys, find_filter, held_above, held_same, is_held, is_idle, is_sorted, kept_if, key_cmp, keys_total, listed_above, price_in, price_on, priced_row, says, slice_cmp, sorted_filter, weave, woven_rows, zeros}
+-- For `build` of sheet.rt.
+use Rattle.std.proofs.Common.{◌≡◌, ◌∙◌, ap, refl, ℤ, pos, Bool, true, cond, List, [], ◌∷◌, map, filter, Option, None, Some, unwrap_or, option_map, is_eq, nat_cmp, arith}
+use Rattle.cns_sheets.proofs.Common.{CentsByKey, Cusip, Holding, IsCut, Key, Listed, Paying, PriceList, Row, Rows, Woven, and_left, and_right, below_all, both_true, cents_at, equal, exact_keys, find_filter, held_above, held_same, is_held, is_sorted, kept_if, key_cmp, keys_total, listed_above, price_in, price_on, priced_row, says, slice_cmp, sorted_filter, weave, woven_rows, zeros}
 use Rattle.std.specs.FinMap.{find}
-use Rattle.cns_prices.specs.Listed.{quote_in}
 use Rattle.cns_sheets.specs.Build.{by_key, key_of}
 use Rattle.cns_sheets.specs.Payments.{dividend_of, said}
 use Rattle.cns_sheets.specs.Search.{row_at}
@@ -23,11 +23,7 @@ prices_rise (e ∷ es) h = both_true _ _ (below_listed e.0 es (and_left _ _ h)) 
 -- the list shows the price of each issue
 pub listed_found : (c : Cusip) (es : Listed) → find (slice_cmp nat_cmp) c (listed_above es None) ≡ price_in es c
 listed_found c [] = refl
-listed_found c (e ∷ es) = found (is_eq (slice_cmp nat_cmp c e.0)) (listed_found c es)
-  where
-    found : (b : Bool) → find (slice_cmp nat_cmp) c (listed_above es None) ≡ price_in es c → cond b (Some e.1.price) (find (slice_cmp nat_cmp) c (listed_above es None)) ≡ option_map (λ q. q.price) (cond b (Some e.1) (quote_in es c))
-    found true h = refl
-    found false h = h
+listed_found c (e ∷ es) = grind (arith, listed_found c es)
 
 -- the row of a holding and cents, by the prices of the close before and of this one
 abbrev pub row_from : PriceList → Listed → Key × (Holding × ℤ) → Row
@@ -44,15 +40,10 @@ module _ (f : Key × (Holding × ℤ) → Row) (keyed_so : (e : Key × (Holding 
   abbrev keyed : Woven → List (Key × Row)
   keyed es = map (λ e. (e.0, f e)) es
 
-  -- one row more, or not, with its key
-  with_key : (b : Bool) (e : Key × (Holding × ℤ)) (rs : List Row) (es : List (Key × Row)) → by_key rs ≡ es → by_key (cond b (f e ∷ rs) rs) ≡ cond b ((e.0, f e) ∷ es) es
-  with_key true e rs es h = λ i. (keyed_so e i, f e) ∷ h i
-  with_key false e rs es h = h
-
   -- the rows that say something, with their keys
   with_keys : (es : Woven) → by_key (filter says (map f es)) ≡ filter (λ e. says e.1) (keyed es)
   with_keys [] = refl
-  with_keys (e ∷ es) = with_key (says (f e)) e (filter says (map f es)) _ (with_keys es)
+  with_keys (e ∷ es) = grind (arith, with_keys es)
 
   -- the keys keep their order
   below_keyed : (k : Key) (es : Woven) → below_all key_cmp k es ≡ true → below_all key_cmp k (keyed es) ≡ true
@@ -66,8 +57,7 @@ module _ (f : Key × (Holding × ℤ) → Row) (keyed_so : (e : Key × (Holding 
 
   -- a key that ties, or not
   find_branch : (b : Bool) (k : Key) (e : Key × (Holding × ℤ)) (o : Option Row) (p : Option (Holding × ℤ)) → (b ≡ true → k ≡ e.0) → o ≡ option_map (λ v. f (k, v)) p → cond b (Some (f e)) o ≡ option_map (λ v. f (k, v)) (cond b (Some e.1) p)
-  find_branch true k e o p same h = ap (λ q. Some (f (q, e.1))) (sym (same refl))
-  find_branch false k e o p same h = h
+  find_branch b k e o p same h = grind arith
 
   -- a search among rows by their keys
   find_keyed : (k : Key) (es : Woven) → find key_cmp k (keyed es) ≡ option_map (λ v. f (k, v)) (find key_cmp k es)
@@ -82,17 +72,10 @@ module _ (f : Key × (Holding × ℤ) → Row) (keyed_so : (e : Key × (Holding 
   row_found : (k : Key) (es : Woven) → is_sorted key_cmp es ≡ true → row_at (filter says (map f es)) k ≡ kept_if says (option_map (λ v. f (k, v)) (find key_cmp k es))
   row_found k es s = ap (find key_cmp k) (with_keys es) ∙ find_filter keys_total says k (keyed es) (sorted_keyed es s) ∙ ap (kept_if says) (find_keyed k es)
 
--- the two words for a row that says something
-said_or_not : (b : Bool) (r : Row) → cond (not b) (Some r) None ≡ cond b None (Some r)
-said_or_not true r = refl
-said_or_not false r = refl
-
 module _ (before : PriceList) (prices : Listed) where
   -- what is kept of a key's row
   kept_row : (k : Key) (o : Option Holding) (p : Option ℤ) → kept_if says (option_map (λ v. row_from before prices (k, v)) (both_at o p)) ≡ said (row_from before prices (k, (unwrap_or o zeros, unwrap_or p (pos 0))))
-  kept_row k (Some h) p = said_or_not (is_idle (row_from before prices (k, (h, unwrap_or p (pos 0))))) (row_from before prices (k, (h, unwrap_or p (pos 0))))
-  kept_row k None (Some n) = said_or_not (is_idle (row_from before prices (k, (zeros, n)))) (row_from before prices (k, (zeros, n)))
-  kept_row k None None = refl
+  kept_row k o p = grind arith
 
   -- the rows of holdings and of the cents that dividends book are those that a close cuts
   pub rows_cut : (R : Rows) (ps : List Paying) (cs : CentsByKey) → is_sorted key_cmp R ≡ true → is_sorted key_cmp cs ≡ true → ((k : Key) → cents_at cs k ≡ dividend_of ps k) → IsCut before prices R ps (filter says (map (row_from before prices) (weave (held_above R None) cs)))

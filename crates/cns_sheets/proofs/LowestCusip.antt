@@ -1,9 +1,9 @@
 -- No CUSIP comes before the lowest.
-use Rattle.std.proofs.Common.{◌≡◌, sym, refl, subst, ℕ, ◌≤◌, ◌==◌, Bool, true, false, not, cond, List, [], ◌∷◌, ◌++◌, take, length, Option, Some, None, inl, inr, arith, is_some, slice_index, eqb-true, is_lt, nat_cmp, Ordering}
-use Rattle.cns_sheets.proofs.Common.{Cusip, UnitFault, cases_lt, nat_tests, ordering_then, slice_cmp}
+-- For `new` of columns.rt.
+use Rattle.std.proofs.Common.{◌≡◌, refl, subst, ℕ, ◌≤◌, Bool, true, false, not, List, [], ◌∷◌, ◌++◌, take, length, Option, Some, None, arith, is_some, slice_index, eqb-true, is_lt, nat_cmp, Ordering}
+use Rattle.cns_sheets.proofs.Common.{Cusip, nat_tests, ordering_then, slice_cmp}
 use Rattle.cns_units.specs.Cusip.{IsCusip, after_value, character_value, last_fault, sum_of}
 use Rattle.cns_sheets.specs.LowestCusip.{IsFromLowest}
-use Rattle.cns_units.specs.declared.fault.UnitFault.TheVariants as fault
 
 -- a character with a value is not below `#`
 valued : (c : ℕ) → is_some (character_value c) ≡ true → 35 ≤ c
@@ -11,16 +11,11 @@ valued c h = grind (arith, nat_tests)
 
 -- where characters add up, the first has a value, and the others add up
 some_parts : (doubled : Bool) (v r : Option ℕ) → is_some (after_value doubled v r) ≡ true → (is_some v ≡ true) × (is_some r ≡ true)
-some_parts doubled None r h = cc
-some_parts doubled (Some v) None h = cc
-some_parts doubled (Some v) (Some n) h = (refl, refl)
+some_parts doubled v r h = grind arith
 
 -- a text comes not before another with a `#` first, unless its own first character is one
 first_or_rest : (c : ℕ) (rest : Ordering) → 35 ≤ c → (c ≡ 35 → is_lt rest ≡ false) → is_lt (ordering_then (nat_cmp c 35) rest) ≡ false
-first_or_rest c rest le h = elim (cases_lt 35 c) [
-  | inl lt ↦ grind (arith, nat_tests)
-  | inr ge ↦ let same : c ≡ 35 = omega (arith, le, ge) in subst (λ x. is_lt (ordering_then (nat_cmp x 35) rest) ≡ false) (sym same) (h same)
-]
+first_or_rest c rest le h = grind arith
 
 -- as many times `#` as there are characters
 hashes : List ℕ → List ℕ
@@ -37,17 +32,11 @@ body_first doubled (c ∷ cs) rest low s h =
 
 -- eight characters that add up, and the fault of a ninth
 sums : (o : Option ℕ) (x : ℕ) → last_fault o x ≡ None → is_some o ≡ true
-sums None x h = cc
-sums (Some s) x h = refl
+sums o x h = grind arith
 
 -- the check digit of eight times `#` is not below 4
 last_digit : (x : ℕ) → last_fault (Some 96) x ≡ None → is_lt (slice_cmp nat_cmp (x ∷ []) (52 ∷ [])) ≡ false
 last_digit x h = grind (arith, nat_tests)
-
--- a fault of the length, unless there are nine
-nine : (b : Bool) (f : Option UnitFault) → (cond b f (Some fault.Length)) ≡ None → (b ≡ true) × (f ≡ None)
-nine true f h = (refl, h)
-nine false f h = cc
 
 -- a text of nine characters without a fault is not below the lowest
 from_nine : (c : List ℕ) → length c ≡ 9 → last_fault (sum_of false (take 8 c)) (slice_index c 8) ≡ None → IsFromLowest c
@@ -67,6 +56,4 @@ from_nine (a ∷ b ∷ c ∷ d ∷ e ∷ f ∷ g ∷ h ∷ x ∷ y ∷ rest) n s
 
 -- no CUSIP is below the lowest
 pub from_lowest : (c : Cusip) → IsCusip c → IsFromLowest c
-from_lowest c h =
-    let parts = nine (length c == 9) _ h in
-    from_nine c (eqb-true _ _ parts.0) parts.1
+from_lowest c h = grind (arith, from_nine, eqb-true)

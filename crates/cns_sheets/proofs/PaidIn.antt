@@ -1,9 +1,9 @@
 -- What a dividend pays on the rows in its issue.
-use Rattle.std.proofs.Common.{◌≡◌, ◌∙◌, sym, ap, refl, ◌+◌, ◌&&◌, pos, ◌+ℤ◌, neg_ℤ, Bool, true, false, not, cond, List, [], ◌∷◌, filter, Some, arith, is_eq, sum_by, unsigned_abs, ◌==◌}
-use Rattle.cns_sheets.proofs.Common.{IsPayable, Key, Row, cash, corporation, equal, exact_keys, ints, key_cmp, member_cash, option_map_or, paid, same_issue, sum_by-cons, total}
+-- For `new` of payments.rt.
+use Rattle.std.proofs.Common.{◌≡◌, ◌∙◌, sym, ap, refl, ◌+◌, ◌&&◌, pos, Bool, true, false, not, cond, List, [], ◌∷◌, filter, Some, arith, is_eq, sum_by, unsigned_abs, ◌==◌}
+use Rattle.cns_sheets.proofs.Common.{IsPayable, Key, Row, cash, corporation, equal, exact_keys, key_cmp, member_cash, paid, same_issue, sum_by-cons, total}
 use Rattle.cns_terms.specs.declared.action.Declared.{Declared}
 use Rattle.cns_sheets.specs.Build.{key_of}
-use Rattle.cns_sheets.specs.Payments.{closing_at}
 use Rattle.cns_sheets.specs.Search.{row_at}
 
 module _ (d : Declared) where
@@ -22,11 +22,7 @@ module _ (d : Declared) where
   -- members get as much on them as on all
   same_total : (rows : List Row) → total (member_cash d) (rows_in rows) ≡ total (member_cash d) rows
   same_total [] = refl
-  same_total (r ∷ rs) = branch (is_in r) refl (same_total rs)
-    where
-      branch : (b : Bool) → is_in r ≡ b → total (member_cash d) (rows_in rs) ≡ total (member_cash d) rs → total (member_cash d) (cond b (r ∷ rows_in rs) (rows_in rs)) ≡ member_cash d r +ℤ total (member_cash d) rs
-      branch true e h = ap (λ n. member_cash d r +ℤ n) h
-      branch false e h = let none = no_cash r e in omega (arith, ints, none, h)
+  same_total (r ∷ rs) = grind (arith, same_total rs)
 
   -- and it is as small
   same_size : (rows : List Row) → sum_by (λ r. unsigned_abs (member_cash d r)) (rows_in rows) ≡ sum_by (λ r. unsigned_abs (member_cash d r)) rows
@@ -57,10 +53,4 @@ module _ (d : Declared) where
 
   -- what a dividend pays on the rows in its issue is what it pays on all
   pub paid_in : (rows : List Row) (k : Key) → paid d (rows_in rows) k ≡ paid d rows k
-  paid_in rows k = branch (same_issue k.issue d.issue) refl
-    where
-      branch : (b : Bool) → same_issue k.issue d.issue ≡ b
-          → cond b (cond (k.account == corporation) (neg_ℤ (total (member_cash d) (rows_in rows))) (cash (closing_at (rows_in rows) k) d.rate)) (pos 0)
-          ≡ cond b (cond (k.account == corporation) (neg_ℤ (total (member_cash d) rows)) (cash (closing_at rows k) d.rate)) (pos 0)
-      branch true own = λ i. cond (k.account == corporation) (neg_ℤ (same_total rows i)) (cash (option_map_or (λ r. r.closing) (same_row k own rows i) (pos 0)) d.rate)
-      branch false own = refl
+  paid_in rows k = grind (arith, same_total, same_row)

@@ -1,4 +1,5 @@
 -- Sums over rows, one row after another.
+-- For `build` of sheet.rt, `pay_members` of payments.rt.
 use Rattle.std.proofs.Common.{◌≡◌, ◌∙◌, sym, ap, ℕ, suc, ◌+◌, ◌*◌, ◌^◌, ◌<◌, ◌≤◌, ℤ, ◌+ℤ◌, ◌-ℤ◌, of_z, to_z, refl, List, [], ◌∷◌, ◌++◌, length, get_or, take, add-one, FitsSigned, append-nil, append_assoc, arith, unsigned_abs, take-suc, length-append}
 use Rattle.cns_sheets.proofs.Common.{AllByRecursion, IsMarked, Row, added, added-each, amount_limit, each_weaker, front_total, ints, sum_limit, total, total-add, total-append, total-same, w128}
 use Rattle.std.proofs.Math.Seq.{get_or-append_seam}

@@ -1,6 +1,7 @@
 -- What a search in sorted rows or prices finds.
+-- For `past` and `next_price` of search.rt.
 use Rattle.std.proofs.Common.{◌≡◌, ◌∙◌, sym, ap, subst, refl, ℕ, suc, ◌+◌, ◌<◌, ◌≤◌, true, false, [], ◌∷◌, length, get_or, drop, drop-cons, Option, Some, None, inl, inr, arith, MatchOption, option_copied, HoldsAt, is_lt, nat_cmp, Less, Equal, Greater}
-use Rattle.cns_sheets.proofs.Common.{AllWithin, Cusip, IsPartitionPoint, Price, PriceList, cases_lt, drop_all, is_sorted, less, nat_list_cmp_total, next_above, ordering_reverse, slice_cmp}
+use Rattle.cns_sheets.proofs.Common.{AllWithin, Cusip, IsPartitionPoint, Price, PriceList, cases_lt, drop_all, is_sorted, nat_list_cmp_total, next_above, ordering_reverse, slice_cmp}
 use denote.Bor.{Bor}
 use Rattle.cns_positions.proofs.Parted.{filter_back, filter_whole}
 use Rattle.cns_positions.proofs.Puts.{below_later}
@@ -11,17 +12,9 @@ use Rattle.cns_sheets.specs.Search.{prices_above}
 pub all_prices : (prices : PriceList) → prices ≡ prices_above prices None
 all_prices prices = sym (filter_whole (λ e. is_after None e.0) prices (λ k d p q. refl))
 
--- an issue that comes before another does not come after it
-not_after : (c d : Cusip) → slice_cmp nat_cmp d c ≡ Less → is_after (Some c) d ≡ false
-not_after c d h = ap is_lt (nat_list_cmp_total.antisymm c d ∙ ap ordering_reverse h)
-
--- an issue that compares as greater comes after the other
-comes_after : (c d : Cusip) → slice_cmp nat_cmp d c ≡ Greater → is_after (Some c) d ≡ true
-comes_after c d h = ap is_lt (nat_list_cmp_total.antisymm c d ∙ ap ordering_reverse h)
-
 -- the prices from a gap on
 pub prices_from_gap : (prices : PriceList) (c : Cusip) (i : ℕ) → i ≤ length prices → IsPartitionPoint (λ e. slice_cmp nat_cmp e.0 c ≡ Less) (λ e. slice_cmp nat_cmp e.0 c ≡ Greater) prices i → drop i prices ≡ prices_above prices (Some c)
-prices_from_gap prices c i le h = sym (filter_back (λ e. is_after (Some c) e.0) prices i le (λ k d p q. not_after c _ (h.0 k d p q)) (λ k d p q. comes_after c _ (h.1 k d p q)))
+prices_from_gap prices c i le h = grind (arith, filter_back, nat_list_cmp_total.antisymm)
 
 -- the prices past that of the issue
 pub prices_past : (prices : PriceList) (c : Cusip) (i : ℕ) → is_sorted (slice_cmp nat_cmp) prices ≡ true → i < length prices → HoldsAt (λ e. slice_cmp nat_cmp e.0 c ≡ Equal) prices i → drop (i + 1) prices ≡ prices_above prices (Some c)
@@ -38,8 +31,7 @@ prices_past prices c i s lt tied = sym (filter_back (λ e. is_after (Some c) e.0
 
 -- what comes after an issue that is passed is passed too
 above_later : (after : Option Cusip) (c d : Cusip) → is_after after c ≡ true → slice_cmp nat_cmp c d ≡ Less → is_after after d ≡ true
-above_later None c d p l = refl
-above_later (Some low) c d p l = ap is_lt (nat_list_cmp_total.trans low c d (less _ p) l)
+above_later after c d p l = grind (arith, nat_list_cmp_total.trans)
 
 -- the first price of those from a place on, and the rest above it
 price_next : (prices : PriceList) (after : Option Cusip) (i : ℕ) (d : Cusip × Price) → is_sorted (slice_cmp nat_cmp) prices ≡ true → drop i prices ≡ prices_above prices after → i < length prices → prices_above prices after ≡ get_or prices i d ∷ prices_above prices (Some (get_or prices i d).0)

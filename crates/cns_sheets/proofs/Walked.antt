@@ -1,6 +1,7 @@
 -- The rows of an account, found from its first row on.
-use Rattle.std.proofs.Common.{◌≡◌, ◌∙◌, sym, ap, refl, subst, ℕ, ◌^◌, ◌<◌, ◌≤◌, ◌==◌, ◌&&◌, map, option_map, is_eq, Bool, true, false, not, cond, List, [], ◌∷◌, filter, length, Option, Some, None, arith, is_lt, nat_cmp, Ordering, Less, Equal, Greater}
-use Rattle.cns_sheets.proofs.Common.{Account, AllByRecursion, AreFrom, IsMarked, Key, PriceList, Row, ahead_of, and_left, and_right, below_all, equal, exact_keys, if_of, is_at_or_after, is_sorted, key_cmp, keys_total, length-map, lowest_of, nat_tests, next_above, ordering_then, rows_for, sorted_filter}
+-- For `of_rows`, `row`, `rows_of` and `rows_in` of sheet.rt and others.
+use Rattle.std.proofs.Common.{◌≡◌, ◌∙◌, sym, ap, refl, subst, ℕ, ◌^◌, ◌<◌, ◌≤◌, ◌==◌, ◌&&◌, map, option_map, is_eq, Bool, true, false, not, cond, List, [], ◌∷◌, filter, length, Option, Some, None, arith, is_lt, nat_cmp, Ordering, Less}
+use Rattle.cns_sheets.proofs.Common.{Account, AllByRecursion, AreFrom, IsMarked, Key, PriceList, Row, ahead_of, and_left, below_all, equal, exact_keys, if_of, is_at_or_after, is_sorted, key_cmp, keys_total, length-map, lowest_of, nat_tests, next_above, ordering_then, rows_for, sorted_filter}
 use Rattle.std.specs.List.{find as first}
 use Rattle.cns_tree.specs.Search.{is_after}
 use Rattle.std.specs.FinMap.{find}
@@ -18,11 +19,6 @@ with_key r = (key_of r, r)
 abbrev filled : Key × Columns → Key × Row
 filled e = (e.0, full_row e)
 
--- rows that are made of keys and columns, with their keys
-by_filled : (es : List (Key × Columns)) → by_key (full_rows es) ≡ map filled es
-by_filled [] = refl
-by_filled (e ∷ es) = ap (λ ys. filled e ∷ ys) (by_filled es)
-
 -- keys below which none of some entries is, with the rows as with the columns
 below_filled : (k : Key) (es : List (Key × Columns)) → below_all key_cmp k (by_key (full_rows es)) ≡ below_all key_cmp k es
 below_filled k [] = refl
@@ -35,10 +31,7 @@ sorted_filled (e ∷ es) = λ i. below_filled e.0 es i && sorted_filled es i
 
 -- a tree of columns that make the rows of a sheet keeps what a sheet keeps
 pub planted : (prices : PriceList) (es : List (Key × Columns)) (rows : List Row) → full_rows es ≡ rows → IsSheet prices rows → length rows < 2 ^ 64 → IsPlanted prices es
-planted prices es rows h kept few = record {
-  sheet = rw h kept;
-  countable = rw (← length-map es full_row, h) few;
-}
+planted prices es rows h kept few = grind (arith, length-map)
 
 -- the row at a key is made of the columns there
 row_filled : (k : Key) (es : List (Key × Columns)) → find key_cmp k (by_key (full_rows es)) ≡ option_map (λ v. full_row (k, v)) (find key_cmp k es)
@@ -66,20 +59,12 @@ row_found k es o h = ap (option_map (λ v. full_row (k, v))) h ∙ sym (row_fill
 -- what a test of rows keeps, with the keys
 kept_rows : (p : Row → Bool) (rows : List Row) → filter (λ e. p e.1) (by_key rows) ≡ by_key (filter p rows)
 kept_rows p [] = refl
-kept_rows p (r ∷ rs) = branch (p r) (kept_rows p rs)
-  where
-    branch : (b : Bool) → filter (λ e. p e.1) (by_key rs) ≡ by_key (filter p rs) → cond b (with_key r ∷ filter (λ e. p e.1) (by_key rs)) (filter (λ e. p e.1) (by_key rs)) ≡ by_key (cond b (r ∷ filter p rs) (filter p rs))
-    branch true h = ap (λ ys. with_key r ∷ ys) h
-    branch false h = h
+kept_rows p (r ∷ rs) = grind (arith, kept_rows p rs)
 
 -- what a test of keys keeps
 kept_keys : (t : Key → Bool) (rows : List Row) → filter (λ e. t e.0) (by_key rows) ≡ by_key (filter (λ r. t (key_of r)) rows)
 kept_keys t [] = refl
-kept_keys t (r ∷ rs) = branch (t (key_of r)) (kept_keys t rs)
-  where
-    branch : (b : Bool) → filter (λ e. t e.0) (by_key rs) ≡ by_key (filter (λ r. t (key_of r)) rs) → cond b (with_key r ∷ filter (λ e. t e.0) (by_key rs)) (filter (λ e. t e.0) (by_key rs)) ≡ by_key (cond b (r ∷ filter (λ r. t (key_of r)) rs) (filter (λ r. t (key_of r)) rs))
-    branch true h = ap (λ ys. with_key r ∷ ys) h
-    branch false h = h
+kept_keys t (r ∷ rs) = grind (arith, kept_keys t rs)
 
 -- the rows above a key
 abbrev above : Key → List Row → List Row
@@ -88,11 +73,7 @@ above k rows = filter (λ r. is_lt (key_cmp k (key_of r))) rows
 -- the columns whose keys a test lets pass make the rows whose keys it lets pass
 pub kept_filled : (t : Key → Bool) (es : List (Key × Columns)) → full_rows (filter (λ e. t e.0) es) ≡ filter (λ r. t (key_of r)) (full_rows es)
 kept_filled t [] = refl
-kept_filled t (e ∷ es) = branch (t e.0) (kept_filled t es)
-  where
-    branch : (b : Bool) → full_rows (filter (λ e. t e.0) es) ≡ filter (λ r. t (key_of r)) (full_rows es) → full_rows (cond b (e ∷ filter (λ e. t e.0) es) (filter (λ e. t e.0) es)) ≡ cond b (full_row e ∷ filter (λ r. t (key_of r)) (full_rows es)) (filter (λ r. t (key_of r)) (full_rows es))
-    branch true h = ap (λ ys. full_row e ∷ ys) h
-    branch false h = h
+kept_filled t (e ∷ es) = grind (arith, kept_filled t es)
 
 -- the columns above a key make the rows above it
 above_filled : (k : Key) (es : List (Key × Columns)) → full_rows (filter (is_after (Some k)) es) ≡ above k (full_rows es)
@@ -107,11 +88,7 @@ sorted_kept p rows s = ap (is_sorted key_cmp) (sym (kept_rows p rows)) ∙ sorte
 -- each row that a test keeps passes it
 each_kept : (p : Row → Bool) (P : Row → Type 0) (rows : List Row) → ((r : Row) → p r ≡ true → P r) → AllByRecursion P (filter p rows)
 each_kept p P [] h = tt
-each_kept p P (r ∷ rs) h = branch (p r) refl (each_kept p P rs h)
-  where
-    branch : (b : Bool) → p r ≡ b → AllByRecursion P (filter p rs) → AllByRecursion P (cond b (r ∷ filter p rs) (filter p rs))
-    branch true e more = (h r e, more)
-    branch false e more = more
+each_kept p P (r ∷ rs) h = grind (arith, each_kept p P rs h)
 
 -- what a test of keys keeps of rows in order, where it keeps no lower account
 from_kept : (a : Account) (t : Key → Bool) (rows : List Row) → ((k : Key) → t k ≡ true → a ≤ k.account) → is_sorted key_cmp (by_key rows) ≡ true → AreFrom a (filter (λ r. t (key_of r)) rows)
@@ -132,30 +109,16 @@ from_le a b o h = grind (arith, nat_tests)
 pub from_above : (k : Key) (rows : List Row) → is_sorted key_cmp (by_key rows) ≡ true → AreFrom k.account (above k rows)
 from_above k rows s = from_kept k.account (λ q. is_lt (key_cmp k q)) rows (λ q e. above_le k.account q.account _ e) s
 
--- a higher account is another
-apart : (a b c : ℕ) → a ≤ b → (b == a) ≡ false → b ≤ c → (c == a) ≡ false
-apart a b c le other more = grind (arith, nat_tests)
-
 -- what stands above a key of a higher account is not the account's
 none_above : (a : Account) (k : Key) (rs : List Row) → a ≤ k.account → (k.account == a) ≡ false → below_all key_cmp k (by_key rs) ≡ true → rows_for rs a ≡ []
 none_above a k [] le other b = refl
-none_above a k (r ∷ rs) le other b =
-    ap (λ c. cond c (r ∷ rows_for rs a) (rows_for rs a)) (apart a k.account r.account le other (above_le k.account r.account _ (and_left _ _ b)))
-    ∙ none_above a k rs le other (and_right _ _ b)
-
--- where the first row is the account's, it comes first
-pub first_is : (a : Account) (r : Row) (rs : List Row) → (r.account == a) ≡ true → rows_for (r ∷ rs) a ≡ r ∷ rows_for rs a
-first_is a r rs e = ap (λ c. cond c (r ∷ rows_for rs a) (rows_for rs a)) e
+none_above a k (r ∷ rs) le other b = grind (arith, none_above a k rs le other)
 
 -- where it is not, none is
 pub none_is : (a : Account) (r : Row) (rs : List Row) → AreFrom a (r ∷ rs) → (r.account == a) ≡ false → rows_for (r ∷ rs) a ≡ []
 none_is a r rs h e = ap (λ c. cond c (r ∷ rows_for rs a) (rows_for rs a)) e ∙ none_above a (key_of r) rs h.past.0 e (and_left _ _ h.rise)
 
 -- ---- the first row of an account
-
--- a row below the lowest key of an account is not the account's
-not_its : (a b : ℕ) (o : Ordering) → is_lt o ≡ false → not (is_lt (ordering_then (nat_cmp b a) o)) ≡ false → (b == a) ≡ false
-not_its a b o low h = grind (arith, nat_tests)
 
 -- whether a key is not below the lowest of an account
 abbrev is_from : Account → Key → Bool
@@ -164,12 +127,7 @@ is_from a k = not (is_lt (key_cmp k (lowest_of a)))
 -- an account's rows are among those that are not below its lowest key
 all_from : (a : Account) (rows : List Row) → AllByRecursion IsMarked rows → rows_for rows a ≡ rows_for (filter (λ r. is_from a (key_of r)) rows) a
 all_from a [] m = refl
-all_from a (r ∷ rs) m = branch (is_from a (key_of r)) refl (all_from a rs m.1)
-  where
-    branch : (b : Bool) → is_from a (key_of r) ≡ b → rows_for rs a ≡ rows_for (filter (λ r. is_from a (key_of r)) rs) a
-        → cond (r.account == a) (r ∷ rows_for rs a) (rows_for rs a) ≡ rows_for (cond b (r ∷ filter (λ r. is_from a (key_of r)) rs) (filter (λ r. is_from a (key_of r)) rs)) a
-    branch true e h = ap (λ ys. cond (r.account == a) (r ∷ ys) ys) h
-    branch false e h = ap (λ c. cond c (r ∷ rows_for rs a) (rows_for rs a)) (not_its a r.account _ m.0.issue e) ∙ h
+all_from a (r ∷ rs) m = grind (arith, all_from a rs m.1)
 
 -- the first of a list
 abbrev pub first_of : {X : Type 0} → List X → Option X
@@ -179,24 +137,11 @@ first_of (x ∷ xs) = Some x
 -- the first that passes a test is the first of all that do
 pub first_kept : {X : Type 0} (t : X → Bool) (xs : List X) → first t xs ≡ first_of (filter t xs)
 first_kept t [] = refl
-first_kept t (x ∷ xs) = branch (t x) (first_kept t xs)
-  where
-    branch : (b : Bool) → first t xs ≡ first_of (filter t xs) → cond b (Some x) (first t xs) ≡ first_of (cond b (x ∷ filter t xs) (filter t xs))
-    branch true h = refl
-    branch false h = h
+first_kept t (x ∷ xs) = grind (arith, first_kept t xs)
 
 -- what comes after a key that is not below another is not either
 pub from_later : (low k q : Key) → not (is_lt (key_cmp k low)) ≡ true → key_cmp k q ≡ Less → not (is_lt (key_cmp q low)) ≡ true
-from_later low k q p l = cases (key_cmp q low) refl
-  where
-    cases : (o : Ordering) → key_cmp q low ≡ o → not (is_lt o) ≡ true
-    cases Less e = sym (ap (λ o. not (is_lt o)) (keys_total.trans k q low l e)) ∙ p
-    cases Equal e = refl
-    cases Greater e = refl
-
--- equal numbers
-same_account : (a b : ℕ) → (b == a) ≡ true → b ≡ a
-same_account a b h = grind (arith, nat_tests)
+from_later low k q p l = grind (arith, keys_total.trans)
 
 -- a row that was found with its key, if it is of the account
 abbrev of_found : Account → Option (Key × Row) → Option Row
@@ -228,22 +173,14 @@ module _ (a : Account) (rows : List Row) (s : is_sorted key_cmp (by_key rows) �
   IsFirst r = (r.account ≡ a) × (rows_for rows a ≡ r ∷ rows_for (filter (λ q. is_lt (key_cmp (key_of r) (key_of q))) rows) a)
 
   its_first : (b : Bool) (q : Row) (rs : List Row) (r : Row) → from ≡ q ∷ rs → (q.account == a) ≡ b → cond b (Some q) None ≡ Some r → IsFirst r
-  its_first true q rs r e h f = subst (λ (x : Row). IsFirst x) (same f) (
-    same_account a q.account h,
-    all_from a rows m ∙ ap (λ ys. rows_for ys a) e ∙ first_is a q rs h ∙ ap (λ ys. q ∷ rows_for ys a) (sym (others q rs e)),
-  )
-    where
-      same : Some q ≡ Some r → q ≡ r
-      same f = cc
-  its_first false q rs r e h f = cc
+  its_first b q rs r e h f = grind (arith, all_from, others)
 
   first_in : (K : List Row) (r : Row) → from ≡ K → of_found a (first_of (by_key K)) ≡ Some r → IsFirst r
   first_in [] r e f = cc
   first_in (q ∷ rs) r e f = its_first (q.account == a) q rs r e refl f
 
   none_first : (b : Bool) (q : Row) (rs : List Row) → from ≡ q ∷ rs → (q.account == a) ≡ b → cond b (Some q) None ≡ None → rows_for from a ≡ []
-  none_first true q rs e h f = cc
-  none_first false q rs e h f = ap (λ ys. rows_for ys a) e ∙ none_is a q rs (subst (λ (ys : List Row). AreFrom a ys) e from_rows) h
+  none_first b q rs e h f = grind (arith, none_is, from_rows)
 
   none_in : (K : List Row) → from ≡ K → of_found a (first_of (by_key K)) ≡ None → rows_for from a ≡ []
   none_in [] e f = ap (λ ys. rows_for ys a) e
@@ -268,12 +205,7 @@ walk_rows a rows (Some r) s m f =
 -- the first columns that a test of keys lets pass make the first such row
 first_filled : (t : Key → Bool) (es : List (Key × Columns)) (a : Account) → if_of a (first (λ e. t e.0) es) ≡ of_found a (first (λ e. t e.0) (by_key (full_rows es)))
 first_filled t [] a = refl
-first_filled t (e ∷ es) a = branch (t e.0) (first_filled t es a)
-  where
-    branch : (b : Bool) → if_of a (first (λ e. t e.0) es) ≡ of_found a (first (λ e. t e.0) (by_key (full_rows es)))
-        → if_of a (cond b (Some e) (first (λ e. t e.0) es)) ≡ of_found a (cond b (Some (filled e)) (first (λ e. t e.0) (by_key (full_rows es))))
-    branch true h = refl
-    branch false h = h
+first_filled t (e ∷ es) a = grind (arith, first_filled t es a)
 
 -- the same in a tree of columns
 pub account_walk : (a : Account) (es : List (Key × Columns)) (o : Option Row) → is_sorted key_cmp (by_key (full_rows es)) ≡ true → AllByRecursion IsMarked (full_rows es) → if_of a (first (is_at_or_after (lowest_of a)) es) ≡ o

@@ -1,26 +1,20 @@
 -- Cents by key, and holdings that are woven with them.
-use Rattle.std.proofs.Common.{◌≡◌, ◌∙◌, sym, ap, refl, ℤ, pos, Bool, true, false, not, cond, List, [], ◌∷◌, ◌++◌, filter, Option, Some, None, unwrap_or, Ordering, MatchOption, option_map, is_eq, is_lt, Less, Equal, Greater}
-use Rattle.cns_sheets.proofs.Common.{AllByRecursion, CentsByKey, Holding, Key, Rows, Woven, and_left, and_right, below_all, both_true, cents_at, equal, exact_keys, find_below, higher, is_sorted, key_cmp, keys_total, less, lower, ordering_reverse, past, tied_itself, unheld, weave, zeros}
+-- For `take` and `next_below` of in_order.rt.
+use Rattle.std.proofs.Common.{◌≡◌, ◌∙◌, sym, ap, refl, ℤ, pos, Bool, true, false, not, cond, List, [], ◌∷◌, ◌++◌, filter, Option, Some, None, unwrap_or, Ordering, MatchOption, option_map, is_eq, is_lt, Less, Equal, Greater, arith}
+use Rattle.cns_sheets.proofs.Common.{AllByRecursion, CentsByKey, Holding, Key, Rows, Woven, and_left, and_right, below_all, both_true, cents_at, exact_keys, find_below, higher, is_sorted, key_cmp, keys_total, less, lower, ordering_reverse, past, unheld, weave, zeros}
 use Rattle.std.specs.FinMap.{find}
 use Rattle.cns_sheets.specs.Woven.{is_below, left_of}
 
 -- ---- cents of lower and higher keys
 
--- a key above one that is not below another is not below it
-not_below : (high k q : Key) (b : Bool) → is_lt (key_cmp k high) ≡ false → key_cmp k q ≡ Less → is_lt (key_cmp q high) ≡ b → b ≡ false
-not_below high k q true h l e = let both : true ≡ false = sym (ap is_lt (keys_total.trans k q high l (less _ e))) ∙ h in cc
-not_below high k q false h l e = refl
-
 -- so none of the keys above such a key is
 none_below : (high k : Key) (cs : CentsByKey) → is_lt (key_cmp k high) ≡ false → below_all key_cmp k cs ≡ true → lower (Some high) cs ≡ []
 none_below high k [] h b = refl
-none_below high k (c ∷ cs) h b =
-    ap (λ t. cond t (c ∷ lower (Some high) cs) (lower (Some high) cs)) (not_below high k c.0 _ h (less _ (and_left _ _ b)) refl) ∙ none_below high k cs h (and_right _ _ b)
+none_below high k (c ∷ cs) h b = grind (arith, keys_total.trans, none_below high k cs h)
 
 -- where the first key is not below another, none is
 pub none_lower : (high : Option Key) (c : Key × ℤ) (cs : CentsByKey) → is_sorted key_cmp (c ∷ cs) ≡ true → is_below high c.0 ≡ false → lower high (c ∷ cs) ≡ []
-none_lower None c cs s h = cc
-none_lower (Some high) c cs s h = ap (λ t. cond t (c ∷ lower (Some high) cs) (lower (Some high) cs)) h ∙ none_below high c.0 cs h (and_left _ _ s)
+none_lower high c cs s h = grind (arith, none_below)
 
 -- without a key all are lower
 pub all_lower : (cs : CentsByKey) → lower None cs ≡ cs
@@ -29,17 +23,12 @@ all_lower (c ∷ cs) = ap (λ rest. c ∷ rest) (all_lower cs)
 
 -- a key that is past another, or not
 past_branch : (b : Bool) (c : Key × ℤ) (low rest cs : CentsByKey) → cond b (c ∷ low) low ≡ [] → (low ≡ [] → rest ≡ cs) → cond (not b) (c ∷ rest) rest ≡ c ∷ cs
-past_branch true c low rest cs h more = cc
-past_branch false c low rest cs h more = ap (λ xs. c ∷ xs) (more h)
+past_branch b c low rest cs h more = grind arith
 
 -- where none is lower, all are past
 pub all_past : (high : Option Key) (cs : CentsByKey) → lower high cs ≡ [] → past high cs ≡ cs
 all_past high [] h = refl
 all_past high (c ∷ cs) h = past_branch (is_below high c.0) c (lower high cs) (past high cs) cs h (all_past high cs)
-
--- the first of the lower ones
-pub lower_first : (high : Option Key) (c : Key × ℤ) (cs : CentsByKey) → is_below high c.0 ≡ true → lower high (c ∷ cs) ≡ c ∷ lower high cs
-lower_first high c cs h = ap (λ b. cond b (c ∷ lower high cs) (lower high cs)) h
 
 -- those above a key below all of them are all of them
 pub all_higher : (k : Key) (cs : CentsByKey) → below_all key_cmp k cs ≡ true → higher k cs ≡ cs
@@ -51,27 +40,6 @@ pub below_later : (k q : Key) {X : Type 0} (cs : List (Key × X)) → key_cmp k 
 below_later k q [] l b = refl
 below_later k q (c ∷ cs) l b = both_true _ _ (ap is_lt (keys_total.trans k q c.0 l (less _ (and_left _ _ b)))) (below_later k q cs l (and_right _ _ b))
 
--- the first key, which is that of the cents
-pub first_cents : (k : Key) (c : Key × ℤ) (cs : CentsByKey) → c.0 ≡ k → cents_at (c ∷ cs) k ≡ c.1
-first_cents k c cs same = ap (λ q. unwrap_or (cond (is_eq (key_cmp k q)) (Some c.1) (find key_cmp k cs)) (pos 0)) same ∙ ap (λ r. unwrap_or (cond (is_eq r) (Some c.1) (find key_cmp k cs)) (pos 0)) (tied_itself keys_total k)
-
--- past it are those of higher keys
-pub first_higher : (k : Key) (c : Key × ℤ) (cs : CentsByKey) → is_sorted key_cmp (c ∷ cs) ≡ true → c.0 ≡ k → higher k (c ∷ cs) ≡ cs
-first_higher k c cs s same =
-    ap (λ q. cond (is_lt (key_cmp k q)) (c ∷ higher k cs) (higher k cs)) same
-    ∙ ap (λ r. cond (is_lt r) (c ∷ higher k cs) (higher k cs)) (tied_itself keys_total k)
-    ∙ all_higher k cs (ap (λ q. below_all key_cmp q cs) (sym same) ∙ and_left _ _ s)
-
--- a key that is not the first, and has none below it, lies below all
-gap_by : (k : Key) (c : Key × ℤ) (cs : CentsByKey) (r : Ordering) → key_cmp k c.0 ≡ r → is_sorted key_cmp (c ∷ cs) ≡ true → (c.0 ≡ k → ⊥) → lower (Some k) (c ∷ cs) ≡ [] → below_all key_cmp k (c ∷ cs) ≡ true
-gap_by k c cs Less e s other none = both_true _ _ (ap is_lt e) (below_later k c.0 cs e (and_left _ _ s))
-gap_by k c cs Equal e s other none = absurd (other (sym (exact_keys k c.0 e)))
-gap_by k c cs Greater e s other none = let no : c ∷ lower (Some k) cs ≡ [] = sym (lower_first (Some k) c cs (ap is_lt (keys_total.antisymm c.0 k ∙ ap ordering_reverse e))) ∙ none in cc
-
--- the same, however they compare
-pub gap : (k : Key) (c : Key × ℤ) (cs : CentsByKey) → is_sorted key_cmp (c ∷ cs) ≡ true → (c.0 ≡ k → ⊥) → lower (Some k) (c ∷ cs) ≡ [] → below_all key_cmp k (c ∷ cs) ≡ true
-gap k c cs s other none = gap_by k c cs _ refl s other none
-
 -- and has no cents
 pub gap_cents : (k : Key) (cs : CentsByKey) → below_all key_cmp k cs ≡ true → cents_at cs k ≡ pos 0
 gap_cents k cs b = ap (λ o. unwrap_or o (pos 0)) (find_below keys_total k cs b)
@@ -80,42 +48,22 @@ gap_cents k cs b = ap (λ o. unwrap_or o (pos 0)) (find_below keys_total k cs b)
 above_apart : (k q : Key) → key_cmp q k ≡ Less → key_cmp k q ≡ Greater
 above_apart k q l = keys_total.antisymm k q ∙ ap ordering_reverse l
 
--- a key that is lower, or not
-cents_branch : (b : Bool) (k : Key) (c : Key × ℤ) (rest cs : CentsByKey) → is_lt (key_cmp c.0 k) ≡ b → cents_at rest k ≡ cents_at cs k → cents_at (cond (not b) (c ∷ rest) rest) k ≡ cents_at (c ∷ cs) k
-cents_branch true k c rest cs l h = h ∙ sym (ap (λ r. unwrap_or (cond (is_eq r) (Some c.1) (find key_cmp k cs)) (pos 0)) (above_apart k c.0 (less _ l)))
-cents_branch false k c rest cs l h = same (is_eq (key_cmp k c.0))
-  where
-    same : (e : Bool) → unwrap_or (cond e (Some c.1) (find key_cmp k rest)) (pos 0) ≡ unwrap_or (cond e (Some c.1) (find key_cmp k cs)) (pos 0)
-    same true = refl
-    same false = h
-
 -- the cents at a key stand past those of lower keys
 pub cents_past : (k : Key) (cs : CentsByKey) → cents_at (past (Some k) cs) k ≡ cents_at cs k
 cents_past k [] = refl
-cents_past k (c ∷ cs) = cents_branch (is_lt (key_cmp c.0 k)) k c (past (Some k) cs) cs refl (cents_past k cs)
-
--- the same, of what is higher
-higher_branch : (b : Bool) (k : Key) (c : Key × ℤ) (rest cs : CentsByKey) → is_lt (key_cmp c.0 k) ≡ b → higher k rest ≡ higher k cs → higher k (cond (not b) (c ∷ rest) rest) ≡ higher k (c ∷ cs)
-higher_branch true k c rest cs l h = h ∙ sym (ap (λ r. cond (is_lt r) (c ∷ higher k cs) (higher k cs)) (above_apart k c.0 (less _ l)))
-higher_branch false k c rest cs l h = ap (λ xs. cond (is_lt (key_cmp k c.0)) (c ∷ xs) xs) h
+cents_past k (c ∷ cs) = grind (arith, above_apart, cents_past k cs)
 
 -- so do those of higher keys
 pub higher_past : (k : Key) (cs : CentsByKey) → higher k (past (Some k) cs) ≡ higher k cs
 higher_past k [] = refl
-higher_past k (c ∷ cs) = higher_branch (is_lt (key_cmp c.0 k)) k c (past (Some k) cs) cs refl (higher_past k cs)
+higher_past k (c ∷ cs) = grind (arith, above_apart, higher_past k cs)
 
 -- ---- the first of the cents, read ahead
 
 module _ (k : Key) (next : Option (Key × ℤ)) (rest all : CentsByKey) (c : Key × ℤ) (whole : all ≡ left_of next rest) where
-  -- what is left begins with what was read ahead
-  first_is : next ≡ Some c → all ≡ c ∷ rest
-  first_is is = whole ∙ ap (λ o. left_of o rest) is
-
   -- a key that is not the first one has no cents
   nothing_below : is_sorted key_cmp (left_of next rest) ≡ true → next ≡ Some c → (b : Bool) → (c.0 ≡ k → b ≡ true) → b ≡ false → lower (Some k) all ≡ [] → below_all key_cmp k all ≡ true
-  nothing_below s is b same other none =
-      let e = first_is is in
-      rw e (gap k c rest (ap (is_sorted key_cmp) (sym (first_is is) ∙ whole) ∙ s) (λ p. let no : true ≡ false = sym (same p) ∙ other in cc) (ap (lower (Some k)) (sym e) ∙ none))
+  nothing_below s is b same other none = grind (arith, below_later, exact_keys, keys_total.antisymm)
 
   -- so it has none
   pub nothing_at : is_sorted key_cmp (left_of next rest) ≡ true → next ≡ Some c → (b : Bool) → (c.0 ≡ k → b ≡ true) → b ≡ false → lower (Some k) all ≡ [] → pos 0 ≡ cents_at all k
@@ -127,15 +75,11 @@ module _ (k : Key) (next : Option (Key × ℤ)) (rest all : CentsByKey) (c : Key
 
   -- the first one has its own
   pub same_at : next ≡ Some c → c.0 ≡ k → c.1 ≡ cents_at all k
-  same_at is same = sym (ap (λ cs. cents_at cs k) (first_is is) ∙ first_cents k c rest same)
+  same_at is same = grind (arith, keys_total)
 
   -- and leaves those of higher keys
   pub same_taken : (r : Option (Key × ℤ)) (left : CentsByKey) → is_sorted key_cmp (left_of next rest) ≡ true → next ≡ Some c → c.0 ≡ k → MatchOption r ((rest ≡ []) × (left ≡ [])) (λ e. rest ≡ e ∷ left) → left_of r left ≡ higher k all
-  same_taken r left s is same gives = read r gives ∙ sym (ap (higher k) (first_is is) ∙ first_higher k c rest (ap (is_sorted key_cmp) (sym (first_is is) ∙ whole) ∙ s) same)
-    where
-      read : (r : Option (Key × ℤ)) → MatchOption r ((rest ≡ []) × (left ≡ [])) (λ e. rest ≡ e ∷ left) → left_of r left ≡ rest
-      read None h = sym h.0
-      read (Some e) h = sym h
+  same_taken r left s is same gives = grind (arith, keys_total, all_higher)
 
 -- ---- searches
 
@@ -144,45 +88,24 @@ abbrev or_else : {X : Type 0} → Option X → Option X → Option X
 or_else None o = o
 or_else (Some x) o = Some x
 
--- a key that is found first, or later
-found_first : {X : Type 0} (b : Bool) (v : X) (o p q : Option X) → o ≡ or_else p q → cond b (Some v) o ≡ or_else (cond b (Some v) p) q
-found_first true v o p q h = refl
-found_first false v o p q h = h
-
 -- a search in two lists, one after the other
 find-append : {X : Type 0} (k : Key) (xs ys : List (Key × X)) → find key_cmp k (xs ++ ys) ≡ or_else (find key_cmp k xs) (find key_cmp k ys)
 find-append k [] ys = refl
-find-append k (x ∷ xs) ys = found_first (is_eq (key_cmp k x.0)) x.1 _ _ _ (find-append k xs ys)
+find-append k (x ∷ xs) ys = grind (arith, find-append k xs ys)
 
 -- a key that ties, or not, and passes, or not
 find_branch : (t : Key → Bool) (k : Key) (c : Key × ℤ) (cs kept : CentsByKey) (b e : Bool) → t c.0 ≡ b → is_eq (key_cmp k c.0) ≡ e → find key_cmp k kept ≡ cond (t k) (find key_cmp k cs) None → find key_cmp k (cond b (c ∷ kept) kept) ≡ cond (t k) (cond e (Some c.1) (find key_cmp k cs)) None
-find_branch t k c cs kept true true p q h =
-    ap (λ e. cond e (Some c.1) (find key_cmp k kept)) q ∙ sym (ap (λ b. cond b (Some c.1) None) (ap t (exact_keys k c.0 (equal _ q)) ∙ p))
-find_branch t k c cs kept true false p q h = ap (λ e. cond e (Some c.1) (find key_cmp k kept)) q ∙ h
-find_branch t k c cs kept false true p q h =
-    let out : t k ≡ false = ap t (exact_keys k c.0 (equal _ q)) ∙ p in
-    h ∙ ap (λ b. cond b (find key_cmp k cs) None) out ∙ sym (ap (λ b. cond b (Some c.1) None) out)
-find_branch t k c cs kept false false p q h = h
-
--- the same either way
-either_way : {X : Type 0} (b : Bool) (o : Option X) → o ≡ cond b o o
-either_way true o = refl
-either_way false o = refl
+find_branch t k c cs kept b e p q h = grind (arith, exact_keys)
 
 -- a search among the keys that pass a test
 find_if : (t : Key → Bool) (k : Key) (cs : CentsByKey) → find key_cmp k (filter (λ c. t c.0) cs) ≡ cond (t k) (find key_cmp k cs) None
-find_if t k [] = either_way (t k) None
+find_if t k [] = grind arith
 find_if t k (c ∷ cs) = find_branch t k c cs (filter (λ c. t c.0) cs) (t c.0) (is_eq (key_cmp k c.0)) refl refl (find_if t k cs)
-
--- a key that is found, or not
-unheld_branch : (b : Bool) (n : ℤ) (o : Option (Holding × ℤ)) (p : Option ℤ) → o ≡ option_map (λ n. (zeros, n)) p → cond b (Some (zeros, n)) o ≡ option_map (λ n. (zeros, n)) (cond b (Some n) p)
-unheld_branch true n o p h = refl
-unheld_branch false n o p h = h
 
 -- a search among keys without holdings
 find_unheld : (k : Key) (cs : CentsByKey) → find key_cmp k (unheld cs) ≡ option_map (λ n. (zeros, n)) (find key_cmp k cs)
 find_unheld k [] = refl
-find_unheld k (c ∷ cs) = unheld_branch (is_eq (key_cmp k c.0)) c.1 _ _ (find_unheld k cs)
+find_unheld k (c ∷ cs) = grind (arith, find_unheld k cs)
 
 -- a holding with cents, if there is either
 abbrev pub both_at : Option Holding → Option ℤ → Option (Holding × ℤ)
@@ -190,27 +113,14 @@ both_at (Some h) o = Some (h, unwrap_or o (pos 0))
 both_at None (Some n) = Some (zeros, n)
 both_at None None = None
 
--- cents without a holding
-no_holding : (p : Option ℤ) → option_map (λ n. (zeros, n)) p ≡ both_at None p
-no_holding None = refl
-no_holding (Some n) = refl
-
--- a key below all holdings
-lower_only : (o : Option Holding) (p : Option ℤ) → o ≡ None → or_else (option_map (λ n. (zeros, n)) p) (both_at o None) ≡ both_at o p
-lower_only None None h = refl
-lower_only None (Some n) h = refl
-lower_only (Some x) p h = cc
-
 -- a key that is lower than a holding's, the same, or higher
 woven_case : (r : Ordering) (h : Holding) (n : ℤ) (o : Option Holding) (p : Option ℤ) → (r ≡ Less → o ≡ None) → (r ≡ Equal → n ≡ unwrap_or p (pos 0))
     → or_else (option_map (λ n. (zeros, n)) (cond (is_lt r) p None)) (cond (is_eq r) (Some (h, n)) (both_at o (cond (is_lt (ordering_reverse r)) p None))) ≡ both_at (cond (is_eq r) (Some h) o) p
-woven_case Less h n o p out same = lower_only o p (out refl)
-woven_case Equal h n o p out same = ap (λ n. Some (h, n)) (same refl)
-woven_case Greater h n o p out same = refl
+woven_case r h n o p out same = grind arith
 
 -- what a search in woven lists finds
 pub find_weave : (k : Key) (hs : Rows) (cs : CentsByKey) → is_sorted key_cmp hs ≡ true → find key_cmp k (weave hs cs) ≡ both_at (find key_cmp k hs) (find key_cmp k cs)
-find_weave k [] cs s = find_unheld k cs ∙ no_holding (find key_cmp k cs)
+find_weave k [] cs s = grind (arith, find_unheld)
 find_weave k (h ∷ hs) cs s =
     find-append k (unheld (lower (Some h.0) cs)) ((h.0, (h.1, cents_at cs h.0)) ∷ weave hs (higher h.0 cs))
     ∙ ap (λ o. or_else o (find key_cmp k ((h.0, (h.1, cents_at cs h.0)) ∷ weave hs (higher h.0 cs)))) (find_unheld k (lower (Some h.0) cs) ∙ ap (option_map (λ n. (zeros, n))) (find_if (is_below (Some h.0)) k cs))
@@ -223,25 +133,15 @@ find_weave k (h ∷ hs) cs s =
 
 -- ---- order
 
--- what is below all is below what is kept of them
-kept_below : (k : Key) (b : Bool) (c : Key × ℤ) (cs : CentsByKey) → is_lt (key_cmp k c.0) ≡ true → below_all key_cmp k cs ≡ true → below_all key_cmp k (cond b (c ∷ cs) cs) ≡ true
-kept_below k true c cs l h = both_true _ _ l h
-kept_below k false c cs l h = h
-
 -- so it is of those that pass a test
 below_if : (t : Key → Bool) (k : Key) (cs : CentsByKey) → below_all key_cmp k cs ≡ true → below_all key_cmp k (filter (λ c. t c.0) cs) ≡ true
 below_if t k [] b = refl
-below_if t k (c ∷ cs) b = kept_below k (t c.0) c (filter (λ c. t c.0) cs) (and_left _ _ b) (below_if t k cs (and_right _ _ b))
-
--- what is kept is in order
-kept_sorted : (b : Bool) (c : Key × ℤ) (cs : CentsByKey) → below_all key_cmp c.0 cs ≡ true → is_sorted key_cmp cs ≡ true → is_sorted key_cmp (cond b (c ∷ cs) cs) ≡ true
-kept_sorted true c cs b s = both_true _ _ b s
-kept_sorted false c cs b s = s
+below_if t k (c ∷ cs) b = grind (arith, below_if t k cs)
 
 -- those that pass a test are in order
 pub sorted_if : (t : Key → Bool) (cs : CentsByKey) → is_sorted key_cmp cs ≡ true → is_sorted key_cmp (filter (λ c. t c.0) cs) ≡ true
 sorted_if t [] s = refl
-sorted_if t (c ∷ cs) s = kept_sorted (t c.0) c (filter (λ c. t c.0) cs) (below_if t c.0 cs (and_left _ _ s)) (sorted_if t cs (and_right _ _ s))
+sorted_if t (c ∷ cs) s = grind (arith, below_if, sorted_if t cs)
 
 -- keys without holdings have their order
 below_unheld : (k : Key) (cs : CentsByKey) → below_all key_cmp k cs ≡ true → below_all key_cmp k (unheld cs) ≡ true
@@ -261,28 +161,17 @@ below-append k (x ∷ xs) ys b c = both_true _ _ (and_left _ _ b) (below-append 
 -- two lists in order, the first below the second
 sorted-append : (xs : Woven) (y : Key × (Holding × ℤ)) (ys : Woven) → is_sorted key_cmp xs ≡ true → AllByRecursion (λ x. key_cmp x.0 y.0 ≡ Less) xs → is_sorted key_cmp (y ∷ ys) ≡ true → is_sorted key_cmp (xs ++ y ∷ ys) ≡ true
 sorted-append [] y ys s l t = t
-sorted-append (x ∷ xs) y ys s l t =
-    both_true _ _ (below-append x.0 xs (y ∷ ys) (and_left _ _ s) (both_true _ _ (ap is_lt l.0) (below_later x.0 y.0 ys l.0 (and_left _ _ t)))) (sorted-append xs y ys (and_right _ _ s) l.1 t)
-
--- a key that is lower, or not
-lower_branch : (high : Key) (b : Bool) (c : Key × ℤ) (cs : CentsByKey) → is_lt (key_cmp c.0 high) ≡ b → AllByRecursion (λ x. key_cmp x.0 high ≡ Less) (unheld cs) → AllByRecursion (λ x. key_cmp x.0 high ≡ Less) (unheld (cond b (c ∷ cs) cs))
-lower_branch high true c cs l h = (less _ l, h)
-lower_branch high false c cs l h = h
+sorted-append (x ∷ xs) y ys s l t = grind (arith, below-append, below_later, sorted-append xs y ys)
 
 -- the keys of lower cents are lower
 each_lower : (high : Key) (cs : CentsByKey) → AllByRecursion (λ x. key_cmp x.0 high ≡ Less) (unheld (lower (Some high) cs))
 each_lower high [] = tt
-each_lower high (c ∷ cs) = lower_branch high (is_lt (key_cmp c.0 high)) c (lower (Some high) cs) refl (each_lower high cs)
-
--- a key that is higher, or not
-above_branch : (k : Key) (b : Bool) (c : Key × ℤ) (cs : CentsByKey) → is_lt (key_cmp k c.0) ≡ b → below_all key_cmp k cs ≡ true → below_all key_cmp k (cond b (c ∷ cs) cs) ≡ true
-above_branch k true c cs e h = both_true _ _ e h
-above_branch k false c cs e h = h
+each_lower high (c ∷ cs) = grind (arith, each_lower high cs)
 
 -- a key is below the keys of higher cents
 below_higher : (k : Key) (cs : CentsByKey) → below_all key_cmp k (higher k cs) ≡ true
 below_higher k [] = refl
-below_higher k (c ∷ cs) = above_branch k (is_lt (key_cmp k c.0)) c (higher k cs) refl (below_higher k cs)
+below_higher k (c ∷ cs) = grind (arith, below_higher k cs)
 
 -- what is below all holdings and all cents is below all that is woven of them
 below_weave : (k : Key) (hs : Rows) (cs : CentsByKey) → below_all key_cmp k hs ≡ true → below_all key_cmp k cs ≡ true → below_all key_cmp k (weave hs cs) ≡ true

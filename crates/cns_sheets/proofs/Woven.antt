@@ -1,5 +1,6 @@
 -- The rows that are made of woven holdings and cents.
-use Rattle.std.proofs.Common.{◌≡◌, ◌∙◌, ap, sym, ℤ, true, false, not, cond, List, [], ◌∷◌, ◌++◌, append-nil, append_assoc, ℕ, suc, ◌+◌, ◌<◌, length, get_or, drop, drop-cons, add-one, map, filter, None, Some, Option, unwrap_or, Result, Ok, Err, OnOk}
+-- For `push_rows`, `push_row`, `push_holding` and `collect` of cutting.rt and others.
+use Rattle.std.proofs.Common.{◌≡◌, ◌∙◌, ap, sym, ℤ, true, false, not, cond, List, [], ◌∷◌, ◌++◌, append-nil, append_assoc, ℕ, suc, ◌+◌, ◌<◌, length, get_or, drop, drop-cons, add-one, None, Some, Option, unwrap_or, Result, OnOk, arith}
 use Rattle.cns_sheets.proofs.Common.{AreNext, CentsByKey, Holding, Key, Price, PriceList, Row, Rows, Woven, cents_at, filter-append, held_above, higher, is_idle, last_given, last_of, lower, map-append, past, present, price_on, priced_row, unheld, weave, woven_row, woven_rows}
 use Rattle.cns_positions.proofs.Held.{none_given}
 use Rattle.cns_sheets.proofs.Weaving.{all_lower, all_past, cents_past, higher_past}
@@ -8,8 +9,7 @@ use Rattle.cns_sheets.proofs.Weaving.{all_lower, all_past, cents_past, higher_pa
 
 -- a row at the prices that two lists show for its issue
 pub row_priced : (before now : PriceList) (e : Key × (Holding × ℤ)) (r : Row) (was is : Option Price) (opening_price price : Price) → r ≡ priced_row opening_price price e.1.1 (e.0, e.1.0) → opening_price ≡ unwrap_or was 0 → was ≡ price_on before e.0.issue → price ≡ unwrap_or is 0 → is ≡ price_on now e.0.issue → r ≡ woven_row before now e
-row_priced before now e r was is opening_price price made o w p n =
-    made ∙ ap (λ x. priced_row x price e.1.1 (e.0, e.1.0)) (o ∙ ap (λ x. unwrap_or x 0) w) ∙ ap (λ x. priced_row (unwrap_or (price_on before e.0.issue) 0) x e.1.1 (e.0, e.1.0)) (p ∙ ap (λ x. unwrap_or x 0) n)
+row_priced before now e r was is opening_price price made o w p n = grind arith
 
 -- the row of a holding and cents, where it says something
 pub row_said : (before now : PriceList) (e : Key × (Holding × ℤ)) (rows : List Row) (r : Row) → r ≡ woven_row before now e → is_idle (woven_row before now e) ≡ false → rows ++ r ∷ [] ≡ rows ++ woven_rows before now (e ∷ [])
@@ -21,13 +21,9 @@ row_silent before now e rows silent = sym (append-nil rows) ∙ ap (λ b. rows +
 
 -- ---- rows, one part after another
 
--- the rows of two lists
-rows-append : (before now : PriceList) (es fs : Woven) → woven_rows before now (es ++ fs) ≡ woven_rows before now es ++ woven_rows before now fs
-rows-append before now es fs = ap (filter (λ r. not (is_idle r))) (map-append (woven_row before now) es fs) ∙ filter-append (λ r. not (is_idle r)) (map (woven_row before now) es) (map (woven_row before now) fs)
-
 -- what comes behind rows, in two parts
 rows_more : (before now : PriceList) (rows : List Row) (es fs : Woven) → rows ++ woven_rows before now (es ++ fs) ≡ (rows ++ woven_rows before now es) ++ woven_rows before now fs
-rows_more before now rows es fs = ap (λ rs. rows ++ rs) (rows-append before now es fs) ∙ sym (append_assoc rows (woven_rows before now es) (woven_rows before now fs))
+rows_more before now rows es fs = grind (arith, append_assoc, map-append, filter-append)
 
 -- where none is lower, all that is past is left
 pub left_done : (high : Option Key) (all cs : CentsByKey) → past high cs ≡ all → lower high cs ≡ [] → cs ≡ all
@@ -50,38 +46,17 @@ module _ (before now : PriceList) where
   -- one of the holdings that are handed out
   pub given_step : (b n : PriceList) (all rows new : List Row) (cs left : CentsByKey) (given more : Rows) (e : Key × Holding) → b ≡ before → n ≡ now → given ≡ e ∷ more
       → ((rest : Rows) → rows ++ woven_rows b n (weave (e ∷ rest) cs) ≡ new ++ woven_rows b n (weave rest left)) → (rest : Rows) → all ≡ rows ++ woven_rows before now (weave (given ++ rest) cs) → all ≡ new ++ woven_rows before now (weave (more ++ rest) left)
-  given_step b n all rows new cs left given more e eb en first step rest is =
-      is
-      ∙ ap (λ hs. rows ++ woven_rows before now (weave (hs ++ rest) cs)) first
-      ∙ (λ i. rows ++ woven_rows (sym eb i) (sym en i) (weave (e ∷ (more ++ rest)) cs))
-      ∙ step (more ++ rest)
-      ∙ (λ i. new ++ woven_rows (eb i) (en i) (weave (more ++ rest) left))
+  given_step b n all rows new cs left given more e eb en first step rest is = grind arith
 
   module _ (R : Rows) (after : Option Key) (given : Rows) (next : AreNext R after given) (b n : PriceList) (all rows new : List Row) (cs left : CentsByKey) (eb : b ≡ before) (en : n ≡ now)
       (is : all ≡ rows ++ woven_rows before now (weave (held_above R after) cs)) (step : (rest : Rows) → rows ++ woven_rows b n (weave (given ++ rest) cs) ≡ new ++ woven_rows b n (weave rest left)) where
-    -- the same at the prices of the close before and of this one
-    at_prices : (rest : Rows) → rows ++ woven_rows before now (weave (given ++ rest) cs) ≡ new ++ woven_rows before now (weave rest left)
-    at_prices rest = (λ i. rows ++ woven_rows (sym eb i) (sym en i) (weave (given ++ rest) cs)) ∙ step rest ∙ (λ i. new ++ woven_rows (eb i) (en i) (weave rest left))
-
     -- a pass over all holdings, with those that were given
     pub pass_more : (last : Key) → last_of None given ≡ Some last → all ≡ new ++ woven_rows before now (weave (held_above R (Some last)) left)
-    pass_more last was =
-        is
-        ∙ ap (λ hs. rows ++ woven_rows before now (weave hs cs)) next.first
-        ∙ at_prices (held_above R (last_of after given))
-        ∙ ap (λ k. new ++ woven_rows before now (weave (held_above R k) left)) (last_given after given last was)
+    pass_more last was = grind (arith, last_given)
 
     -- a pass that was given nothing has only dividends left
     pub pass_done : (b2 n2 : PriceList) (end : List Row) → last_of None given ≡ None → b2 ≡ before → n2 ≡ now → end ≡ new ++ woven_rows b2 n2 (unheld (lower None left)) → end ≡ all
-    pass_done b2 n2 end was eb2 en2 made =
-        let none : given ≡ [] = none_given given was in
-        sym (is
-        ∙ ap (λ hs. rows ++ woven_rows before now (weave hs cs)) (next.left none)
-        ∙ ap (λ hs. rows ++ woven_rows before now (weave (hs ++ []) cs)) (sym none)
-        ∙ at_prices []
-        ∙ ap (λ xs. new ++ woven_rows before now (unheld xs)) (sym (all_lower left))
-        ∙ (λ i. new ++ woven_rows (sym eb2 i) (sym en2 i) (unheld (lower None left)))
-        ∙ sym made)
+    pass_done b2 n2 end was eb2 en2 made = grind (arith, none_given, all_lower)
 
 -- of holdings that were given, those from a place on
 pub given_from : (held : List (Option (Key × Holding))) (i : ℕ) (x : Option (Key × Holding)) → i < length held → x ≡ get_or held i x → present (drop i held) ≡ present (x ∷ drop (i + 1) held)
@@ -89,5 +64,4 @@ given_from held i x lt is = rw (add-one) (ap present (drop-cons held i x lt ∙ 
 
 -- what follows where a call succeeds
 pub where_ok : {X E P Q : Type 0} (r : Result X E) → OnOk r P → (P → Q) → OnOk r Q
-where_ok (Ok x) p f = f p
-where_ok (Err e) p f = tt
+where_ok r p f = grind arith

@@ -1,4 +1,5 @@
 -- Workers of a packing, one after another.
+-- For `join_all`, `start_all` and `gather` of workers.rt.
 use Rattle.std.proofs.Common.{◌≡◌, ◌∙◌, sym, ap, refl, ◌<◌, List, [], ◌∷◌, ◌++◌, Vec, length, drop, map, arith, append_assoc, slice_index_or, flat_map}
 use Rattle.cns_terms.proofs.Common.{Account, DaySheet, PromisedHandle, map-append}
 use Rattle.std.specs.declared.alloc.Global.{Global}

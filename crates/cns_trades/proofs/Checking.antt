@@ -1,4 +1,5 @@
 -- The checks of trades.
+-- For `is_in_time` and `check_trade` of trades.rt.
 use Rattle.std.proofs.Common.{◌≡◌, refl, ◌≤◌, ◌^◌, ◌<◌, FitsSigned, of_z, to_z, ℤ, pos, ◌-ℤ◌, Bool, true, false, not, ◌&&◌, ◌||◌, ◌==◌, cond, List, [], ◌∷◌, Some, Ok, Err, arith, w64, int_le, unsigned_abs}
 use Rattle.cns_terms.proofs.Common.{Day, day_number, fits_signed_from_abs, ints, is_not_after, is_past, is_too_far, pend_of, position_limit, trade_entries}
 use Rattle.std.proofs.lemmas.Int.{to_z-of_z}

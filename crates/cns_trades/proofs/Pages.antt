@@ -1,4 +1,5 @@
 -- Pages of bits.
+-- For `with_bit` and `turn_to` of references.rt.
 use Rattle.std.proofs.Common.{◌≡◌, ◌∙◌, sym, ap, ℕ, ◌*◌, ◌^◌, ◌<◌, ◌%◌, max, Bool, true, false, cond, eqb, ◌||◌, refl, arith, List, Some, unwrap_or, bit_or, nat_cmp, is_eq, eqb-true}
 use Rattle.cns_terms.proofs.Common.{lookup, nat_tests}
 use Rattle.std.specs.Int.{bit_at}

@@ -1,4 +1,5 @@
 -- Sums of sides by key.
+-- For `take`, `add` and `open` of sides.rt, `waits_in` of pending.rt and others.
 use Rattle.std.proofs.Common.{◌≡◌, ◌∙◌, sym, ap, subst, refl, ℕ, ◌+◌, ◌-◌, ◌≤◌, Bool, true, false, cond, Option, Some, None, unwrap_or, is_some, ◌*◌, ◌^◌, ◌<◌, ◌&&◌, ◌||◌, ◌==◌, List, ◌∷◌, ◌++◌, append-nil, drop, drop-cons, take, filter, get_or, length, add-one, arith, bytes_eq, take_all, is_eq}
 use Rattle.cns_terms.proofs.Common.{AllByRecursion, Cusip, added-each, bought_by, bytes_eq-Decides, drop_all, each_weaker, equal, exact_keys, key_cmp, keys_total, lookup, same_issue, same_key, shares_limit, sold_by, tied_itself, waits_in}
 use Rattle.cns_terms.specs.declared.holding.Key.{Key}

@@ -1,4 +1,5 @@
 -- Values changed in place, around a row e with others on its left and right.
+-- For `change_counted` and `change_each` of tree.rt.
 use Rattle.std.proofs.Common.{◌≡◌, ℕ, ◌+◌, suc, length, ◌&&◌, true, cond, is_some, List, [], ◌∷◌, ◌++◌, Option, Some, None, refl, sym, ap, ◌∙◌, subst, MatchOption, IfSome, Less, Equal, Greater, is_lt}
 use Rattle.cns_terms.proofs.Common.{below_all, is_sorted, key_cmp, keys_total}
 use Rattle.std.specs.FinMap.{put, find}

@@ -1,4 +1,5 @@
 -- Heights of trees: of any, and of those that are built by halves.
+-- For `join` of node.rt, `put_counted`, `change_counted` and `get_counted` of tree.rt.
 use Rattle.std.proofs.Common.{◌≡◌, ℕ, List, ◌∷◌, ◌++◌, zero, suc, ◌+◌, ◌*◌, ◌^◌, ◌<◌, ◌≤◌, max, length, length-append, arith, pow_mono, inl, inr}
 use Rattle.cns_terms.proofs.Common.{binary_digits, cases_lt}
 use Rattle.std.proofs.Math.Nat.{two-pow-succ}

@@ -1,4 +1,5 @@
 -- What is known of a subtree d once its top is a node.
+-- For `get`, `get_two`, `first_above` and `first_at_or_after` of node.rt and others.
 use Rattle.std.proofs.Common.{◌≡◌, ℕ, List, length, Box, Option, None, Some, Ordering, false, cond, is_eq, is_lt, sym, ap, ◌∙◌, subst, Less, Equal, Greater}
 use Rattle.cns_terms.proofs.Common.{key_cmp, keys_total}
 use Rattle.std.specs.FinMap.{find}

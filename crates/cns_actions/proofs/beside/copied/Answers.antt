@@ -1,5 +1,5 @@
-use Rattle.std.proofs.Common.{◌≡◌, ◌∙◌, IfOk, None, ap, subst}
-use Rattle.cns_actions.proofs.Common.{Holding, Key, Rows, held_above, held_same, held_sorted, holding_at, is_sorted, key_cmp}
+use Rattle.std.proofs.Common.{◌≡◌, ◌∙◌, IfOk, ap, subst}
+use Rattle.cns_actions.proofs.Common.{Holding, Key, Rows, held_same, held_sorted, holding_at, is_sorted, key_cmp}
 use Rattle.cns_actions.proofs.beside.copied.Goals as goal
 
 pub rebuilt-requires : goal.rebuilt-requires

@@ -15,7 +15,7 @@ loop-place-preserved-in_default-waiting c =
 
 pub loop-place-preserved : goal.loop-place-preserved
 loop-place-preserved c =
-    c.in-Ok.ensures.items
+    c.in_ok-push.ensures.items
     ∙ waiting_added c.args.today c.args.book.now.log.history c.loop-place.place c.in-Some.entry c.in-Some-waiting.trade c.loop-place.trades.items c.loop-place.auto.place (sym c.entry.ensures ∙ c.in-Some.is)
     (c.waiting.ensures ∙ ap option_to_list c.in-Some-waiting.is) c.loop-place.invariant
 

@@ -13,6 +13,6 @@ loop-close-preserved-in_default c =
 pub loop-close-preserved : goal.loop-close-preserved
 loop-close-preserved c =
     let made = c.figures_of.ensures in
-    c.in-Ok.ensures.items
+    c.in_ok-push.ensures.items
     ∙ line_added (state_of c.args.book.now.log) c.args.closes.now c.loop-close.close-index c.close-item.result c.deref.result.now (arc_value c.in-Some.sheet.now) c.figures_of.result c.loop-close.line.items
     c.loop-close-test.true (sym c.close-item.is) c.in-Some.ensures c.deref.ensures made.day made.date made.marks made.shorts c.loop-close.invariant

@@ -19,7 +19,7 @@ loop-number-preserved-then-not-is_live c =
 
 pub loop-number-preserved : goal.loop-number-preserved
 loop-number-preserved c =
-    c.in-Ok.ensures.items
+    c.in_ok-push.ensures.items
     ∙ live_added (journal_of (state_of c.args.book.now.log)) c.loop-number.number c.loop-number.auto.number c.in-Some.notice c.loop-number.live.items (sym c.notice.ensures ∙ c.in-Some.is)
     (sym c.is_live.ensures ∙ c.if-not-is_live.false) c.loop-number.invariant
 

@@ -1,22 +1,12 @@
-use Rattle.std.proofs.Common.{◌≡◌, ℕ, ◌+◌, true, false, cond, nat_lt, List, [], ◌∷◌, ◌++◌, take, drop, subst, ap, sym, ◌∙◌, arith, le-ltb, lt-ltb, append-nil}
+use Rattle.std.proofs.Common.{◌≡◌, ℕ, ◌+◌, true, false, cond, nat_lt, List, [], ◌∷◌, ◌++◌, take, drop, subst, ap, sym, ◌∙◌, le-ltb, lt-ltb, append-nil}
 use Rattle.cns_retransmit.proofs.Common.{Short, cond-false, cond-true, liable_of}
-use Rattle.cns_retransmit.proofs.Choosing.{Choosing, choosing_starts, choosing_fits, choosing_more, older_next}
+use Rattle.cns_retransmit.proofs.Choosing.{Choosing, choosing_starts, choosing_more, older_next}
 use Rattle.cns_retransmit.proofs.Lists.{drop_next, take_next}
 use Rattle.cns_retransmit.proofs.choice.choose_ordered.Goals.{then-short-age, else-short-age, then-older-called+in_ok-push, else-older-called}
 use Rattle.cns_retransmit.proofs.choice.choose_ordered.Goals as goal
 
 pub loop-short-init : goal.loop-short-init
 loop-short-init g c = rw c.new-liables.ensures.items (choosing_starts c.args.shorts.now c.args.called 4294967295 c.requires.order)
-
-pub overflow_add-sum : goal.overflow_add-sum
-overflow_add-sum g c =
-    let ss : List Short = c.args.shorts.now in
-    let i : ℕ = c.loop-short.short-index in
-    let l = c.loop-short in
-    let s : Short = c.short-item.result in
-    let inv = subst (λ r. Choosing ss c.args.called (take i ss) r l.liables.items l.age l.older l.sum) (drop_next ss i s c.loop-short-test.true c.short-item.is) l.invariant in
-    let fits = choosing_fits ss c.args.called (take i ss) (drop (i + 1) ss) (s) l.liables.items l.age l.older l.sum inv in
-    omega (arith, fits, c.requires.fits)
 
 pub loop-short-preserved : goal.loop-short-preserved
 loop-short-preserved g c =

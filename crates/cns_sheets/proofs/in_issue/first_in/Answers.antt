@@ -1,4 +1,4 @@
-use Rattle.std.proofs.Common.{◌≤◌, ◌∙◌, ap, cond, sym, ◌∷◌}
+use Rattle.std.proofs.Common.{◌≤◌, ◌∙◌, ap, cond, sym, ◌∷◌, arith}
 use Rattle.cns_sheets.proofs.Common.{Columns, Key}
 use Rattle.cns_sheets.specs.InIssue.{entries_from, place_after}
 use Rattle.cns_sheets.proofs.InIssue.{fewer_left, first_entry, first_is, first_passes, is_place, no_entry, none_left, told}
@@ -7,10 +7,7 @@ use Rattle.cns_terms.specs.Limits.{member_limit}
 use Rattle.cns_sheets.proofs.in_issue.first_in.Goals as goal
 
 pub returns-in_err-key : goal.returns-in_err-key
-returns-in_err-key g c =
-    let es = c.args.rows.now in
-    let i = c.args.issue.now in
-    rw c.from_residual.ensures (sym c.loop-place.invariant.same ∙ ap (entries_from es i) c.in-Some.is ∙ no_entry i es c.in_err-key.ensures.rises c.requires.accounts c.in-Some.low (sym c.in_err-key.ensures.row))
+returns-in_err-key g c = grind (arith, no_entry)
 
 pub returns-then-is_same : goal.returns-then-is_same
 returns-then-is_same g c =

@@ -1,4 +1,4 @@
-use Rattle.std.proofs.Common.{◌≡◌, ◌∙◌, sym, ap, Some, cond, is_eq}
+use Rattle.std.proofs.Common.{◌≡◌, ◌∙◌, sym, ap, Some, cond, is_eq, arith}
 use Rattle.cns_notices.proofs.Common.{Numbers, number_at, numbers_of}
 use Rattle.cns_notices.proofs.Places.{put_there}
 use Rattle.cns_notices.specs.Latest.{place_cmp}
@@ -7,10 +7,7 @@ use Rattle.cns_notices.proofs.latest.Latest.put.Goals.{in-Some, in-None+in_ok-cl
 
 -- the map that is changed has the numbers from before
 before : (g : _) (c : goal.Joined-inserted g) → c.match-take.numbers.entries ≡ numbers_of c.self.inside.numbers
-before g c = elim c.match-take.branch [
-  | in-Some w ↦ ap (λ m. m.entries) w.numbers-is ∙ ap numbers_of (sym w.in-Some.is ∙ c.take.ensures.value)
-  | in-None+in_ok-clone-in-None w ↦ ap (λ m. m.entries) w.numbers-is ∙ w.new-numbers.ensures.empty ∙ ap numbers_of (sym w.in-None.is ∙ c.take.ensures.value)
-]
+before g c = grind arith
 
 pub invariant_of-self-2 : goal.invariant_of-self-2
 invariant_of-self-2 g c = elim c.match-inserted.branch [

@@ -1,5 +1,5 @@
-use Rattle.std.proofs.Common.{◌≡◌, ◌∙◌, ◌++◌, drop, length, map, refl, sym, ap, take}
-use Rattle.cns_notices.proofs.Common.{ended, ended_each}
+use Rattle.std.proofs.Common.{◌≡◌, ◌++◌, drop, length, map, refl, sym, take, arith}
+use Rattle.cns_notices.proofs.Common.{ended}
 use Rattle.cns_notices.proofs.Ends.{ends_issue, ends_none, within_all}
 use Rattle.cns_notices.proofs.Led.{ended_keeps, kept, map_keeps}
 use Rattle.cns_notices.proofs.Listed.{written_over}
@@ -7,11 +7,7 @@ use Rattle.cns_notices.proofs.notices.Notices.end_issue.Goals as goal
 
 -- the notices after it
 after : (g : _) (c : goal.After-self-1 g) → take c.self.inside.listed.len (c.end_each.new.notices ++ drop (length c.end_each.new.notices) c.self.inside.listed.items) ≡ map (ended c.args.cusip) c.self.inside.listed.items
-after g c =
-    let items = c.self.inside.listed.items in
-    written_over c.self.inside.listed.len c.end_each.new.notices items (sym (c.end_each.auto.notices ∙ c.as_mut_slice.ensures.len))
-    ∙ c.end_each.ensures ∙ ap (ended_each c.in-Some.numbers) c.as_mut_slice.ensures.value
-    ∙ ends_issue c.args.cusip c.self.inside.latest items c.self.invariant c.in-Some.numbers c.in-Some.ensures.all c.in-Some.ensures.found
+after g c = grind (arith, written_over, ends_issue)
 
 pub invariant_of-self : goal.invariant_of-self
 invariant_of-self g c =

@@ -1,4 +1,4 @@
-use Rattle.std.proofs.Common.{◌∙◌, ◌<◌, ◌-◌, sym, refl, subst}
+use Rattle.std.proofs.Common.{◌∙◌, ◌<◌, ◌-◌, sym, subst, arith}
 use Rattle.cns_notices.proofs.Common.{slice_get_read}
 use Rattle.cns_notices.proofs.Led.{no_number, number_within, live_there, none_there}
 use Rattle.cns_notices.proofs.notices.Notices.live_of.Goals as goal
@@ -13,17 +13,7 @@ pub index-requires : goal.index-requires
 index-requires g c = subst (λ n. c.in_ok-k.k - 1 < n) (sym c.self.inside.listed.ok.0) (number_within c.self.inside.latest c.self.inside.listed.items c.self.invariant c.args.member c.args.cusip c.in_ok-k.k (sym c.number.ensures ∙ c.in_ok-k.was)).1
 
 pub returns-then-is_live : goal.returns-then-is_live
-returns-then-is_live g c =
-    let items = c.self.inside.listed.items in
-    let k = c.in_ok-k.k in
-    let has = sym c.number.ensures ∙ c.in_ok-k.was in
-    let within = (number_within c.self.inside.latest items c.self.invariant c.args.member c.args.cusip k has).1 in
-    rw (sym c.self.view_is) (sym (live_there c.self.inside.latest items c.self.invariant c.args.member c.args.cusip k c.index.result.now has (slice_get_read items _ (k - 1) c.index.result.now refl within c.index.ensures) (sym c.is_live.ensures ∙ c.if-is_live.true)))
+returns-then-is_live g c = grind (arith, number_within, live_there, slice_get_read)
 
 pub returns-else-is_live : goal.returns-else-is_live
-returns-else-is_live g c =
-    let items = c.self.inside.listed.items in
-    let k = c.in_ok-k.k in
-    let has = sym c.number.ensures ∙ c.in_ok-k.was in
-    let within = (number_within c.self.inside.latest items c.self.invariant c.args.member c.args.cusip k has).1 in
-    rw (sym c.self.view_is) (sym (none_there c.self.inside.latest items c.self.invariant c.args.member c.args.cusip k c.index.result.now has (slice_get_read items _ (k - 1) c.index.result.now refl within c.index.ensures) (sym c.is_live.ensures ∙ c.if-is_live.false)))
+returns-else-is_live g c = grind (arith, number_within, none_there, slice_get_read)

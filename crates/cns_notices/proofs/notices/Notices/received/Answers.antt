@@ -1,4 +1,4 @@
-use Rattle.std.proofs.Common.{◌∙◌, ◌<◌, ◌-◌, sym, subst}
+use Rattle.std.proofs.Common.{◌∙◌, ◌-◌, sym, arith}
 use Rattle.cns_notices.proofs.Common.{has_received}
 use Rattle.cns_notices.proofs.Led.{live_item, live_within, received_keeps, received_none, received_one, set_led}
 use Rattle.cns_notices.proofs.notices.Notices.received.Goals as goal
@@ -13,9 +13,7 @@ pub overflow_sub-k : goal.overflow_sub-k
 overflow_sub-k g c = (live_within c.args.self.now c.args.member c.args.cusip c.in-Some.k (sym c.live_of.ensures ∙ c.in-Some.is)).0
 
 pub index_mut-requires : goal.index_mut-requires
-index_mut-requires g c =
-    let within = (live_within c.self.inside.listed.items c.args.member c.args.cusip c.in-Some.k (rw (sym c.self.view_is) at (sym c.live_of.ensures ∙ c.in-Some.is))).1 in
-    subst (λ n. c.in-Some.k - 1 < n) (sym c.self.inside.listed.ok.0) within
+index_mut-requires g c = grind (arith, live_within)
 
 pub receive-requires : goal.receive-requires
 receive-requires g c =

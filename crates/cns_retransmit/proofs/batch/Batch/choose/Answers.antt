@@ -1,5 +1,4 @@
-use Rattle.std.proofs.Common.{◌∙◌, ap, sym}
-use Rattle.cns_retransmit.proofs.Common.{chosen}
+use Rattle.std.proofs.Common.{arith}
 use Rattle.cns_retransmit.proofs.Lefts.{chosen_is_batch, none_called, none_short}
 use Rattle.cns_retransmit.proofs.batch.Batch.choose.Goals as goal
 use Rattle.cns_retransmit.proofs.batch.Batch.choose.Goals.{then-total-eq0-via-then-total-eq0, then-total-eq0-via-else-total-eq0+then-is_empty}
@@ -8,7 +7,4 @@ pub invariant_of-result : goal.invariant_of-result
 invariant_of-result g c = rw c.in_ok-liables.ensures (chosen_is_batch c.args.shorts.now c.args.total c.requires.distinct c.requires.fits)
 
 pub returns-then-total-eq0-clause-batch : goal.returns-then-total-eq0-clause-batch
-returns-then-total-eq0-clause-batch g c = elim c.then-total-eq0.branch [
-  | then-total-eq0-via-then-total-eq0 w ↦ ap (chosen c.args.shorts.now) w.if-total-eq0.true ∙ none_called c.args.shorts.now
-  | then-total-eq0-via-else-total-eq0+then-is_empty w ↦ none_short c.args.shorts.now c.args.total (sym w.is_empty.ensures ∙ w.if-is_empty.true)
-]
+returns-then-total-eq0-clause-batch g c = grind (arith, none_called, none_short)

@@ -1,4 +1,4 @@
-use Rattle.std.proofs.Common.{◌≡◌, ◌∙◌, ap, sym, subst, sum_by, ◌≤◌}
+use Rattle.std.proofs.Common.{◌≡◌, ◌∙◌, ap, sym, subst, sum_by, ◌≤◌, arith}
 use Rattle.cns_retransmit.proofs.Common.{CanBeCharged, Fill, Liables, Member, cents_of_fills, fills_of, shares_of_fills}
 use Rattle.cns_retransmit.specs.Members.{members_of}
 use Rattle.cns_retransmit.proofs.Charging.{fills_chargeable}
@@ -6,11 +6,7 @@ use Rattle.cns_retransmit.proofs.batch.Batch.fill.Goals as goal
 
 -- the fills are those of the definition
 made : (g : _) (c : goal.In_ok-fills g) → c.in_ok-fills.fills.items ≡ fills_of (g.S.Shorts.short_now c.args.now.now) c.args.shares c.args.money c.args.self.now.members
-made g c =
-    let ls : c.as_slice.result.now ≡ c.args.self.now.members = c.as_slice.ensures.value ∙ ap (λ b. b.members) c.self.view_is in
-    c.in_ok-fills.ensures
-    ∙ ap (λ n. fills_of (g.S.Shorts.short_now c.args.now.now) n c.args.money c.as_slice.result.now) c.value.ensures.value
-    ∙ ap (fills_of (g.S.Shorts.short_now c.args.now.now) c.args.shares c.args.money) ls
+made g c = grind arith
 
 pub returns-clause-shares : goal.returns-clause-shares
 returns-clause-shares g c = ap (sum_by (λ (f : Fill). f.shares)) (made g c) ∙ shares_of_fills (g.S.Shorts.short_now c.args.now.now) c.args.shares c.args.money c.args.self.now.members c.requires

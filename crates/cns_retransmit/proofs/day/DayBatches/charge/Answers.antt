@@ -1,20 +1,14 @@
-use Rattle.std.proofs.Common.{◌≡◌, ◌∙◌, ◌<◌, ap, sym, subst, length, set, List, Some}
-use Rattle.cns_retransmit.proofs.Common.{Liables, RiseByIssue, batch_in, charged_in}
+use Rattle.std.proofs.Common.{◌≡◌, ◌∙◌, ap, sym, subst, set, arith}
+use Rattle.cns_retransmit.proofs.Common.{RiseByIssue, charged_in}
 use Rattle.cns_retransmit.proofs.Sought.{batch_found, batch_missing, charged_rise, nothing_charged, written_charged}
 use Rattle.cns_retransmit.proofs.day.DayBatches.charge.Goals as goal
 
 -- the batches that are written
 charges : (g : _) (c : goal.After-self-1 g) → set c.self.inside.batches.items c.in-Ok.at c.charge.new.self ≡ charged_in c.args.issue c.args.fills.now c.self.inside.batches.items
-charges g c = written_charged c.self.inside.batches.items c.in-Ok.at c.args.issue c.args.fills.now c.index_mut.result.now c.charge.new.self c.self.invariant
-    (rw (← c.as_slice.ensures.value) c.in-Ok.ensures.bound) ((rw c.as_slice.ensures.value at c.in-Ok.ensures.found) c.index_mut.result.now) c.index_mut.ensures.value c.charge.ensures
+charges g c = grind (arith, written_charged)
 
 pub charge-requires : goal.charge-requires
-charge-requires g c =
-    let items : List Liables = c.self.inside.batches.items in
-    let lt : c.in-Ok.at < length items = rw (← c.as_slice.ensures.value) c.in-Ok.ensures.bound in
-    let here : batch_in items c.args.issue ≡ Some c.index_mut.result.now =
-    batch_found items c.in-Ok.at c.args.issue c.index_mut.result.now c.self.invariant lt ((rw c.as_slice.ensures.value at c.in-Ok.ensures.found) c.index_mut.result.now) ∙ ap Some (sym c.index_mut.ensures.value) in
-    c.requires c.index_mut.result.now (rw c.self.view_is at here)
+charge-requires g c = grind (arith, batch_found)
 
 pub invariant_of-self : goal.invariant_of-self
 invariant_of-self g c = subst RiseByIssue (sym (charges g c)) (charged_rise c.args.issue c.args.fills.now c.self.inside.batches.items c.self.invariant)

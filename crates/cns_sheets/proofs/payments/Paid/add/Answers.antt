@@ -1,12 +1,10 @@
-use Rattle.std.proofs.Common.{◌≡◌, ◌∙◌, ◌+ℤ◌, ap, sym}
-use Rattle.cns_sheets.proofs.Common.{cents_at, keys_total, sorted_from}
-use Rattle.cns_sheets.proofs.Booked.{cents_added, had_is, sum_added, sum_fits, sum_is, wide_fits}
+use Rattle.std.proofs.Common.{◌≡◌, ◌∙◌, ◌+ℤ◌, ap, sym, arith}
+use Rattle.cns_sheets.proofs.Common.{cents_at, keys_total, sorted_from, nat_tests}
+use Rattle.cns_sheets.proofs.Booked.{cents_added, had_is, sum_added, sum_is, wide_fits}
 use Rattle.cns_sheets.proofs.payments.Paid.add.Goals as goal
 
 pub overflow_add-value : goal.overflow_add-value
-overflow_add-value g c =
-    let had : c.value.result ≡ cents_at c.args.self.now c.args.key = had_is c.args.key _ _ _ (c.value.ensures ∙ c.unwrap_or-had.ensures) (c.copied.ensures ∙ c.get.ensures.value) ∙ ap (λ es. cents_at es c.args.key) c.self.view_is in
-    sum_fits c.value.result c.args.cents (wide_fits _ c.value.type_inv) c.ranges.cents (rw had c.requires)
+overflow_add-value g c = grind (arith, nat_tests, had_is)
 
 pub invariant_of-self : goal.invariant_of-self
 invariant_of-self g c = sorted_from keys_total _ c.insert.ensures.ordered

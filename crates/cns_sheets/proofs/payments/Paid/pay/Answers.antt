@@ -1,15 +1,11 @@
-use Rattle.std.proofs.Common.{◌∙◌, ◌+ℤ◌, ap, cond, pos, refl, is_eq}
-use Rattle.cns_sheets.proofs.Common.{Key, cents_at, key_cmp}
-use Rattle.cns_sheets.proofs.Booked.{all_booked_small, all_small, booked_is, both_small, cancelled, neg_fits, neg_is, part_small}
+use Rattle.std.proofs.Common.{◌∙◌, ◌+ℤ◌, ap, cond, pos, refl, is_eq, arith}
+use Rattle.cns_sheets.proofs.Common.{Key, cents_at, key_cmp, nat_tests}
+use Rattle.cns_sheets.proofs.Booked.{all_booked_small, all_small, booked_is, both_small, neg_fits, neg_is, part_small}
 use Rattle.cns_sheets.proofs.Woven.{where_ok}
 use Rattle.cns_sheets.proofs.payments.Paid.pay.Goals as goal
 
 pub overflow_sub-sum : goal.overflow_sub-sum
-overflow_sub-sum g c =
-    let d = c.args.declared.now in
-    let rows = c.args.rows in
-    let payable = c.requires.payable in
-    neg_fits c.in_ok-sum.sum _ c.in_ok-sum.ensures.sum (all_small d rows payable)
+overflow_sub-sum g c = grind (arith, neg_fits, all_small)
 
 pub add-requires : goal.add-requires
 add-requires g c =
@@ -43,9 +39,4 @@ returns-clause-bound g c =
     (h k ∙ ap (λ n. cents_at c.pay_members.new.self k +ℤ cond (is_eq (key_cmp k corp)) n (pos 0)) neg) (all_booked_small d rows payable k) c.in_ok-sum.ensures.sum (all_small d rows payable))
 
 pub returns-clause-sum : goal.returns-clause-sum
-returns-clause-sum g c =
-    let d = c.args.declared.now in
-    let rows = c.args.rows in
-    let payable = c.requires.payable in
-    let neg = neg_is c.in_ok-sum.sum _ c.in_ok-sum.ensures.sum (all_small d rows payable) in
-    where_ok c.add.result c.add.ensures.sum (λ h. cancelled _ _ _ c.in_ok-sum.sum _ _ h neg c.in_ok-sum.ensures.all c.in_ok-sum.ensures.sum)
+returns-clause-sum g c = grind (arith, nat_tests, neg_is, all_small)

@@ -1,5 +1,5 @@
-use Rattle.std.proofs.Common.{◌∙◌, ◌+ℤ◌, ap, length}
-use Rattle.cns_sheets.proofs.Common.{IsPayable, cents_at, member_cash, total, w128}
+use Rattle.std.proofs.Common.{◌∙◌, length, arith}
+use Rattle.cns_sheets.proofs.Common.{IsPayable, member_cash, w128}
 use Rattle.std.proofs.lemmas.Int.{to_z-of_z}
 use Rattle.cns_sheets.proofs.Booked.{can_add, cents_step, sum_of_all, sum_step, sums_small, wide_fits}
 use Rattle.cns_sheets.proofs.RowSums.{all_given, behind, bounded_fits, bounded_step, one_more, onward, stands}
@@ -46,9 +46,4 @@ loop-row-preserved g c =
     }
 
 pub returns-clause-cents : goal.returns-clause-cents
-returns-clause-cents g c = λ k.
-    let xs = c.into_iter-row-iterator.result in
-    let ys = c.loop-row.yielded in
-    let kept = c.loop-row.invariant in
-    kept.cents k
-    ∙ ap (λ n. cents_at c.args.self.now k +ℤ n) (sum_of_all _ xs (length ys) (all_given xs ys _ kept.left c.in-None.ensures.steps.0) ∙ ap (total _) c.into_iter-row-iterator.ensures.into_iter_gives)
+returns-clause-cents g c = grind (arith, sum_of_all, all_given)

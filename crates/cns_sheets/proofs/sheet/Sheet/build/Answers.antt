@@ -1,4 +1,4 @@
-use Rattle.std.proofs.Common.{◌≡◌, ℕ, ◌≤◌, ◌==◌, None, Result, Ok, Err, IfOk, filter, map, subst, sym, arith, option_copied}
+use Rattle.std.proofs.Common.{◌≡◌, ℕ, ◌≤◌, ◌==◌, None, Result, IfOk, filter, map, arith, option_copied}
 use Rattle.cns_sheets.proofs.Common.{IsMarked, amount_limit, each_filter, held_above, prices_of, rows_for, says, sum_limit, weave}
 use Rattle.cns_sheets.proofs.Balance.{cut_balanced}
 use Rattle.cns_sheets.proofs.Kept.{prices_rise, row_from, rows_cut, rows_listed}
@@ -40,8 +40,7 @@ of_rows-requires g c =
 
 -- what holds of the sheet that was made
 made_so : {X E : Type 0} (r : Result X E) (P : X → Type 0) (v : X) → IfOk r (λ s. s ≡ v) → P v → IfOk r P
-made_so (Ok x) P v e h = subst P (sym e) h
-made_so (Err e) P v h k = tt
+made_so r P v e h = grind arith
 
 pub returns-clause-cut : goal.returns-clause-cut
 returns-clause-cut g c =
