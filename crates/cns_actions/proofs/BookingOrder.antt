@@ -27,10 +27,6 @@ pub small_age : (x : Action) (a : Account) (n : ℕ) → AreSmall (age_for x a n
 small_age (action.Split s) a n = tt
 small_age (action.Exchange x) a n = (record { shares = omega arith; cents = omega arith }, tt)
 
--- a change of one member is one of few
-pub few_more : (c : Change) → IsFew 1 c → IsFew member_limit c
-few_more c few = record { before = omega (arith, few.before); after = omega (arith, few.after); cents = omega (arith, few.cents) }
-
 -- a position within the limit of its account leaves room for more
 near : (a : ℕ) (z : ℤ) → (1 ≤ a → unsigned_abs z ≤ position_limit) → (a ≡ 0 → unsigned_abs z ≤ corporation_limit) → unsigned_abs z < 2 ^ 62
 near zero z p q = let h = q refl in omega (arith, h)

@@ -178,7 +178,3 @@ module _ (b : Booking) (bs : List Booking) (old new : Rows) (one : (k : Key) →
       by false at =
           let here : holding_at new k ≡ holding_at old k = one k ∙ ap (λ t. cond t (entered b (holding_at old k)) (holding_at old k)) (is_at_key k b.entry ∙ at) in
           ap (makes bs k) here ∙ sym (makes_other k (holding_at old k) b bs at)
-
--- where nothing is left, all is made
-pub all_made : (k : Key) (h : Holding) (bs : List Booking) → bs ≡ [] → makes bs k h ≡ h
-all_made k h bs none = ap (λ ds. makes ds k h) none ∙ makes_nothing k h [] refl

@@ -44,10 +44,6 @@ module _ (left : List Holder) (h : Holder) (rest : List Holder) (first : left �
   pub next_kept : not (int_eq h.shares (pos 0)) ≡ true → with_position left ≡ h ∷ with_position rest
   next_kept e = ap with_position first ∙ ap (λ b. cond b (h ∷ with_position rest) (with_position rest)) e
 
-  -- and one without is none of them
-  pub next_passed : not (int_eq h.shares (pos 0)) ≡ false → with_position left ≡ with_position rest
-  next_passed e = ap with_position first ∙ ap (λ b. cond b (h ∷ with_position rest) (with_position rest)) e
-
 -- a number that comes before another is below it
 lower : (a b : ℕ) → is_lt (nat_cmp a b) ≡ true → a < b
 lower a b h = grind (arith, nat_tests)

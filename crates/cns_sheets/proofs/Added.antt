@@ -29,7 +29,3 @@ small_fits f rows small = fits (total f rows) (subst (λ rs. unsigned_abs (total
   where
     fits : (z : ℤ) → unsigned_abs z ≤ sum_limit → FitsSigned w128 z
     fits z h = omega (arith, ints, h)
-
--- and so does zero
-pub zero_fits : (z : ℤ) → z ≡ pos 0 → FitsSigned w128 z
-zero_fits z is = omega (arith, ints, is)

@@ -82,10 +82,6 @@ wide_fits z h = record { sfits = h }
 pub sum_is : (m n : ℤ) → FitsSigned w128 m → FitsSigned w128 n → unsigned_abs (m +ℤ n) ≤ 10 ^ 34 → to_z w128 (of_z w128 (to_z w128 (of_z w128 m) +ℤ to_z w128 (of_z w128 n))) ≡ m +ℤ n
 sum_is m n a b h = rw (to_z-of_z w128 m a, to_z-of_z w128 n b) (to_z-of_z w128 (m +ℤ n) (fits (m +ℤ n) h))
 
--- and fits
-pub sum_fits : (m n : ℤ) → FitsSigned w128 m → FitsSigned w128 n → unsigned_abs (m +ℤ n) ≤ 10 ^ 34 → FitsSigned w128 (to_z w128 (of_z w128 m) +ℤ to_z w128 (of_z w128 n))
-sum_fits m n a b h = rw (to_z-of_z w128 m a, to_z-of_z w128 n b) (fits (m +ℤ n) h)
-
 -- the sum of all
 pub sum_of_all : {X : Type 0} (f : X → ℤ) (xs : List X) (i : ℕ) → length xs ≤ i → total f (take i xs) ≡ total f xs
 sum_of_all f xs i le = ap (total f) (take_all i xs le)
@@ -178,10 +174,6 @@ few_small n i h le = omega (arith, h, le)
 -- nor does one more
 pub one_payment_more : (old new i : ℕ) → old ≤ 2 * 10 ^ 21 * i → new ≤ old + 2 * 10 ^ 21 → new ≤ 2 * 10 ^ 21 * (i + 1)
 one_payment_more old new i h k = omega (arith, h, k)
-
--- and leaves the sum of all what it was
-pub cancelled : (old mid new sum t part : ℤ) → new ≡ mid +ℤ part → part ≡ neg_ℤ sum → mid ≡ old +ℤ t → sum ≡ t → new ≡ old
-cancelled old mid new sum t part a b c d = omega (arith, ints, a, b, c, d)
 
 -- ---- what a payment books at a key
 
