@@ -5,6 +5,7 @@ usage: tests/documents.py PROGRAM PAGE
 
 - A table that begins with `Record | Reply` is a session: its records get these replies, in this order, in the replay of
   one of the samples in `examples`, or, where no sample has them all, each on an empty book.
+- A row of a table with a reply, a record and what is wrong with a file, is so on a book with two members and an issue.
 - A block of text that begins with `statement` stands in the statements of a closed day of a sample.
 - A block that begins with a brace is the tally of a run of a sample.
 - A block of commands that begin with a program, with `grep`, `printf` or `sed` is run, in a folder with the samples and with
@@ -54,6 +55,18 @@ def replies(program, records):
         else:
             answered.append([line])
     return list(zip(records, answered, strict=True))
+
+
+def mistakes(program, text):
+    """The examples of the table of mistakes, and those that get another reply than the one beside them."""
+    begun = ["MEMBER,1", "MEMBER,2", "ISSUE,037833100,19500"]
+    rows = re.findall(r"^\| [a-z ]*`((?:line|refused) \w+)` \| `([^`]+)`( twice)? \|", text, re.M)
+    wrong = []
+    for reply, record, again in rows:
+        lines = [record, record] if again else [record]
+        if replies(program, begun + lines)[-1][1] != [reply]:
+            wrong.append(f"{record} is not answered with {reply}")
+    return len(rows), wrong
 
 
 def statements(program, records, day):
@@ -114,7 +127,7 @@ class Checked:
         self.samples = {
             path.name: replies(program, path.read_text().splitlines()) for path in sorted((ROOT / "examples").glob("*.csv"))
         }
-        self.counts = {"sessions": 0, "statements": 0, "tallies": 0, "commands": 0, "records": 0, "outputs": 0, "links": 0}
+        self.counts = {"sessions": 0, "mistakes": 0, "statements": 0, "tallies": 0, "commands": 0, "records": 0, "outputs": 0, "links": 0}
         self.rules = re.findall(r"^([a-z]+):(?!=)", (ROOT / "Makefile").read_text(), re.MULTILINE)
         self.kit = subprocess.run(["rt", "version"], capture_output=True, text=True, check=True).stdout.strip()
         self.faults = []
@@ -127,6 +140,11 @@ class Checked:
             if replies(self.program, [record]) != [(record, reply)]:
                 self.faults.append(f"{place}: no sample has this session, and alone it is not so: {record}")
                 return
+
+    def mistakes(self, place, text):
+        count, wrong = mistakes(self.program, text)
+        self.counts["mistakes"] += count
+        self.faults.extend(f"{place}: {fault}" for fault in wrong)
 
     def statements(self, place, block):
         self.counts["statements"] += 1
@@ -233,6 +251,7 @@ def main():
             text = path.read_text()
             for number, session in sessions(text):
                 checked.session(f"{path.name}:{number}", session)
+            checked.mistakes(path.name, text)
             checked.blocks(path, text, room)
             checked.words(path, text)
     for fault in checked.faults:

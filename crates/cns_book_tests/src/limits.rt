@@ -28,20 +28,39 @@ fn copied_entries<P: Positions<A>, A: Allocator + Drop + Clone>(
 
 const TWO_RECORDS: [(&str, &str); 2] = [("MEMBER,1\n", "ok\n"), ("MEMBER,1\n", "refused 1\n")];
 
+// A book of so many entries. Each test has it in a function that does nothing else, and lends it.
+fn limited(rt: &impl Abort, alloc: Global, most: u32) -> TreeBook {
+    Book::with_limit(alloc, first_day(rt), most).expect(rt, "memory")
+}
+
+fn check_filled<P: Positions<A>, A: Allocator + Drop + Clone>(
+    rt: &impl Abort,
+    alloc: Global,
+    book: &mut Book<P, A>,
+) {
+    play(rt, alloc, book, &TWO_RECORDS);
+    assert!(rt; is_full(rt, alloc, book));
+    assert!(rt; copied_entries(rt, book) == 2);
+}
+
 #[test]
 fn a_book_at_its_limit_takes_nothing_more(rt: HostRuntime) {
-    let limited = Book::with_limit(rt.alloc(), first_day(&rt), 2);
-    let mut book: TreeBook = limited.expect(&rt, "memory");
-    play(&rt, rt.alloc(), &mut book, &TWO_RECORDS);
-    assert!(&rt; is_full(&rt, rt.alloc(), &mut book));
-    assert!(&rt; copied_entries(&rt, &book) == 2);
+    let mut book = limited(&rt, rt.alloc(), 2);
+    check_filled(&rt, rt.alloc(), &mut book);
+}
+
+fn check_full<P: Positions<A>, A: Allocator + Drop + Clone>(
+    rt: &impl Abort,
+    alloc: Global,
+    book: &mut Book<P, A>,
+) {
+    assert!(rt; is_full(rt, alloc, book));
 }
 
 #[test]
 fn a_book_with_the_limit_zero_is_full_at_once(rt: HostRuntime) {
-    let limited = Book::with_limit(rt.alloc(), first_day(&rt), 0);
-    let mut book: TreeBook = limited.expect(&rt, "memory");
-    assert!(&rt; is_full(&rt, rt.alloc(), &mut book));
+    let mut book = limited(&rt, rt.alloc(), 0);
+    check_full(&rt, rt.alloc(), &mut book);
 }
 
 // Has a book take so many questions.
@@ -57,10 +76,17 @@ fn ask<P: Positions<A>, A: Allocator + Drop + Clone>(
     }
 }
 
+fn check_copied<P: Positions<A>, A: Allocator + Drop + Clone>(
+    rt: &impl Abort,
+    alloc: Global,
+    book: &mut Book<P, A>,
+) {
+    ask(rt, alloc, book, 3_000);
+    assert!(rt; copied_entries(rt, book) == 3_000);
+}
+
 #[test]
 fn a_long_history_is_copied(rt: HostRuntime) {
-    let opened = Book::new(rt.alloc(), first_day(&rt));
-    let mut book: TreeBook = opened.expect(&rt, "memory");
-    ask(&rt, rt.alloc(), &mut book, 3_000);
-    assert!(&rt; copied_entries(&rt, &book) == 3_000);
+    let mut book = limited(&rt, rt.alloc(), 5_000);
+    check_copied(&rt, rt.alloc(), &mut book);
 }

@@ -1,5 +1,5 @@
 // The day on which each book opens, and how replays and loads end.
-use cns_feed::{ReplayFault, load, replay};
+use cns_feed::{ReplayFault, Summary, load, replay};
 use cns_units::Day;
 use std::alloc::Global;
 use std::io::{Read, Write};
@@ -25,10 +25,22 @@ pub(crate) fn fault_of_replay<R: Read + Drop, W: Write>(
     Ok(replay(alloc, reader, writer, first_day()?).err())
 }
 
-// The same of a load.
+// The counts of a load, or its fault. No other function here has a book, which makes each way out of one long to check.
+pub(crate) fn loaded<R: Read + Drop>(
+    alloc: Global,
+    reader: R,
+) -> Result<Result<Summary, ReplayFault>, Fail> {
+    let date = first_day()?;
+    match load(alloc, reader, date) {
+        Ok((_book, counts)) => Ok(Ok(counts)),
+        Err(fault) => Ok(Err(fault)),
+    }
+}
+
+// The fault of a load, if it ends with one.
 pub(crate) fn fault_of_load<R: Read + Drop>(
     alloc: Global,
     reader: R,
 ) -> Result<Option<ReplayFault>, Fail> {
-    Ok(load(alloc, reader, first_day()?).err())
+    Ok(loaded(alloc, reader)?.err())
 }

@@ -1,7 +1,7 @@
 // How many records are read: fewer than the most that may be, and as many as an input has, however long it is.
-use crate::faults::first_day;
+use crate::faults::{first_day, loaded};
 use crate::sources::next;
-use cns_feed::{CsvSource, ReplayFault, Summary, load, load_up_to, replay, replay_up_to};
+use cns_feed::{CsvSource, ReplayFault, Summary, load_up_to, replay, replay_up_to};
 use cns_positions::TreePositions;
 use cns_terms::{Item, SourceFault};
 use std::alloc::Global;
@@ -110,11 +110,6 @@ fn counts_of_replay(
     Ok(replay(alloc, input, output, first_day()?).ok())
 }
 
-// The same of a load.
-fn counts_of_load(alloc: Global, input: &[u8]) -> Result<Option<Summary>, Fail> {
-    Ok(load(alloc, input, first_day()?).ok().map(|pair| pair.1))
-}
-
 // More records than a thousand, in more bytes than 64 KiB.
 const MANY: u32 = 7_000;
 
@@ -131,7 +126,7 @@ fn a_long_input_is_read_to_its_end(rt: HostRuntime) -> Result<(), Fail> {
     let replayed = counts_of_replay(alloc, input.as_slice(), &mut output)?;
     assert!(rt; replayed == Some(counts));
     assert!(rt; output.as_slice() == times(alloc, "refused 14\n", MANY)?.as_slice());
-    assert!(rt; counts_of_load(alloc, input.as_slice())? == Some(counts));
+    assert!(rt; loaded(alloc, input.as_slice())? == Ok(counts));
     let drained = drained(alloc, input.as_slice(), u32::MAX);
     assert!(rt; drained == Some((MANY, Ok(Item::Finished))));
     Ok(())

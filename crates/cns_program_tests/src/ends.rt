@@ -106,6 +106,15 @@ impl Told {
     }
 }
 
+// The status of a line. A check of a caller need not go through all that the program promises.
+fn status_of<
+    F: Read + Send + Drop,
+    R: AllocGlobal + Files<File = F> + Threads + Wait + Sync,
+    I: Read + Drop,
+>(rt: &R, words: &[&str], input: I, output: &mut Stuck, errors: &mut Vec<u8>) -> u8 {
+    program(rt, words, input, output, errors)
+}
+
 // Runs a line over an input and a writer of its own, and whether that was left alone once it had failed.
 pub(crate) fn tell_into<
     F: Read + Send + Drop,
@@ -113,7 +122,7 @@ pub(crate) fn tell_into<
     I: Read + Drop,
 >(rt: &R, words: &[&str], input: I, mut output: Stuck) -> (Told, bool) {
     let mut errors = Vec::new(rt.alloc());
-    let status = program(rt, words, input, &mut output, &mut errors);
+    let status = status_of(rt, words, input, &mut output, &mut errors);
     let is_left_alone = output.is_left_alone;
     let told = Told {
         status,

@@ -33,37 +33,30 @@ fn run<R: Threads + Wait + Sync>(
     }
 }
 
-// What is told of such a run.
-fn told<R: Threads + Wait + Sync>(
+// The status of such a run, and what is told of it. No other function here has an outcome, which makes each way out of one
+// long to check.
+fn tell<R: Threads + Wait + Sync>(
     rt: &R,
     alloc: Global,
     whole: &[&str],
     failing: &[&str],
-) -> Result<Told, Fail> {
-    let mut output = Vec::new(alloc);
-    let mut errors = Vec::new(alloc);
+    output: &mut Stuck,
+    errors: &mut Vec<u8>,
+) -> Result<u8, Fail> {
     let outcome = run(rt, alloc, whole, failing)?;
-    let status = write_outcome(&outcome, &mut output, &mut errors);
-    Ok(Told {
-        status,
-        output,
-        errors,
-        flushed: 0,
-    })
+    Ok(write_outcome(&outcome, output, errors))
 }
 
-// The same of a worker that came to its end and one that did not, over a writer that has room for so many bytes and can
-// be flushed so many times; and whether the writer was left alone once it had failed.
-fn told_short<R: Threads + Wait + Sync>(
+// What is told of such a run, and whether the writer was left alone once it had failed.
+fn told_into<R: Threads + Wait + Sync>(
     rt: &R,
     alloc: Global,
-    room: usize,
-    flushes: usize,
+    whole: &[&str],
+    failing: &[&str],
+    mut output: Stuck,
 ) -> Result<(Told, bool), Fail> {
-    let mut output = Stuck::new(Vec::new(alloc), room, flushes);
     let mut errors = Vec::new(alloc);
-    let outcome = run(rt, alloc, &["MEMBER,101\n"], &[""])?;
-    let status = write_outcome(&outcome, &mut output, &mut errors);
+    let status = tell(rt, alloc, whole, failing, &mut output, &mut errors)?;
     let is_left_alone = output.is_left_alone;
     let told = Told {
         status,
@@ -72,6 +65,30 @@ fn told_short<R: Threads + Wait + Sync>(
         flushed: 0,
     };
     Ok((told, is_left_alone))
+}
+
+// The same where the writer takes everything.
+fn told<R: Threads + Wait + Sync>(
+    rt: &R,
+    alloc: Global,
+    whole: &[&str],
+    failing: &[&str],
+) -> Result<Told, Fail> {
+    let output = Stuck::new(Vec::new(alloc), usize::MAX, usize::MAX);
+    let (told, _) = told_into(rt, alloc, whole, failing, output)?;
+    Ok(told)
+}
+
+// The same of a worker that came to its end and one that did not, over a writer that has room for so many bytes and can
+// be flushed so many times.
+fn told_short<R: Threads + Wait + Sync>(
+    rt: &R,
+    alloc: Global,
+    room: usize,
+    flushes: usize,
+) -> Result<(Told, bool), Fail> {
+    let output = Stuck::new(Vec::new(alloc), room, flushes);
+    told_into(rt, alloc, &["MEMBER,101\n"], &[""], output)
 }
 
 const EARLY: &str =
