@@ -2,10 +2,13 @@
 use Rattle.std.specs.Prelude.{◌≡◌, ◌≤◌, ℕ, ℤ, Bool, false, List, unsigned_abs, if◌then◌else◌}
 use Rattle.cns_terms.specs.Common.{Account, Cusip, Member, amount_limit, corporation, corporation_limit, oldest_of, position_limit, same_issue, waits_in}
 use Rattle.cns_terms.specs.declared.holding.Entry.{Entry}
+use Rattle.cns_terms.specs.declared.holding.Holding.{Holding}
 use Rattle.cns_terms.specs.declared.holding.Key.{Key}
+use Rattle.cns_terms.specs.Actions.{AreHolders}
 use Rattle.cns_terms.specs.Entries.{exchange_entries, split_entries}
+use Rattle.cns_terms.specs.Refusals.{are_too_large}
 use Rattle.cns_terms.specs.declared.pend.Pend.{Pend}
-use Rattle.cns_positions.specs.Rows.{Rows, holding_at}
+use Rattle.cns_positions.specs.Rows.{Rows, books, holding_at, with_age}
 use Rattle.cns_actions.specs.declared.action.Action.{Action}
 use Rattle.cns_actions.specs.declared.action.Action.TheVariants as action
 
@@ -42,6 +45,19 @@ abbrev pub age_brought : Rows → Action → Key → ℕ
 age_brought rows (action.Split s) k = 0
 age_brought rows (action.Exchange x) k =
     if same_issue x.successor k.issue then oldest_of (holding_at rows (record { account = k.account; issue = x.old })) else 0
+
+-- the members that hold the issue whose positions count
+abbrev pub AreItsHolders : Rows → Action → List Member → Type 0
+AreItsHolders rows act ms = AreHolders (positions_in rows (issue_of act)) ms
+
+-- whether what it books for them is beyond a limit
+abbrev pub is_too_large : Rows → Action → List Pend → List Member → Bool
+is_too_large rows act ps ms = are_too_large (position_at rows) ps (entries_of act (positions_in rows (issue_of act)) ms)
+
+-- what stands at a key after it
+abbrev pub after_action : Rows → Action → List Member → Key → Holding
+after_action rows act ms k =
+    with_age (age_brought rows act k) (books (entries_of act (positions_in rows (issue_of act)) ms) k (holding_at rows k))
 
 -- positions on which a split or an exchange can be booked: none is beyond its limit, and no cents are
 pub record CanBeBooked (rows : Rows) : Type 0 where

@@ -6,15 +6,13 @@ ghost use Rattle.cns_units.specs.declared.account.Account.{Account};
 ghost use Rattle.cns_units.specs.declared.account.Member.{Member};
 ghost use Rattle.cns_units.specs.declared.cusip.Cusip.{Cusip};
 ghost use Rattle.cns_terms.specs.declared.holding.Key.{Key};
-ghost use Rattle.cns_terms.specs.Actions.{AreHolders};
 ghost use Rattle.cns_terms.specs.Entries.{corporation};
 ghost use Rattle.cns_terms.specs.Holdings.{oldest_of};
 ghost use Rattle.cns_terms.specs.Limits.{member_limit, position_limit};
 ghost use Rattle.cns_terms.specs.Pending.{bought_in, sold_in};
-ghost use Rattle.cns_terms.specs.Refusals.{are_too_large};
 ghost use Rattle.cns_terms.specs.Keys.{key_cmp};
-ghost use Rattle.cns_positions.specs.Rows.{books, holding_at, with_age};
-ghost use Rattle.cns_actions.specs.Booked.{CanBeBooked, IsForAnother, age_brought, entries_of, issue_of, position_at, positions_in, waits_for};
+ghost use Rattle.cns_positions.specs.Rows.{holding_at};
+ghost use Rattle.cns_actions.specs.Booked.{AreItsHolders, CanBeBooked, IsForAnother, after_action, is_too_large, issue_of, position_at, waits_for};
 ghost use Rattle.cns_actions.specs.Changes.{IsFew, all_bookings, all_holders_of, change_of, holders_of, member_bookings, new_issue, position_after, sum_of, takes_beyond};
 ghost use Rattle.cns_actions.specs.Bookings.{AreSmall, makes};
 
@@ -249,19 +247,14 @@ pub fn bookings_for<P: Positions<B>, B, A: Allocator + Drop + Clone, C: Allocato
     requires another { IsForAnother action.now }
     requires waiting { (a : Account) (c : Cusip) → 1 ≤ a
         → (bought_in pending.now a c ≤ position_limit) × (sold_in pending.now a c ≤ position_limit) }
-    ensures too_large { (ms : List Member) → AreHolders (positions_in (P.rows positions.now) (issue_of action.now)) ms
-        → (result ≡ Err ActionFault.TooLarge) ↔ (are_too_large (position_at (P.rows positions.now)) pending.now
-        (entries_of action.now (positions_in (P.rows positions.now) (issue_of action.now)) ms) ≡ true) }
-    ensures pending { (ms : List Member) → AreHolders (positions_in (P.rows positions.now) (issue_of action.now)) ms
-        → (result ≡ Err ActionFault.PendingTrades) ↔ ((are_too_large (position_at (P.rows positions.now)) pending.now
-        (entries_of action.now (positions_in (P.rows positions.now) (issue_of action.now)) ms) ≡ false)
+    ensures too_large { (ms : List Member) → AreItsHolders (P.rows positions.now) action.now ms
+        → (result ≡ Err ActionFault.TooLarge) ↔ (is_too_large (P.rows positions.now) action.now pending.now ms ≡ true) }
+    ensures pending { (ms : List Member) → AreItsHolders (P.rows positions.now) action.now ms
+        → (result ≡ Err ActionFault.PendingTrades)
+        ↔ ((is_too_large (P.rows positions.now) action.now pending.now ms ≡ false)
         × (waits_for action.now pending.now ≡ true)) }
-    ensures booked { IfOk result (λ b. (ms : List Member)
-        → AreHolders (positions_in (P.rows positions.now) (issue_of action.now)) ms → (k : Key)
-        → makes b k (holding_at (P.rows positions.now) k)
-        ≡ with_age (age_brought (P.rows positions.now) action.now k)
-        (books (entries_of action.now (positions_in (P.rows positions.now) (issue_of action.now)) ms) k
-        (holding_at (P.rows positions.now) k))) }
+    ensures booked { IfOk result (λ b. (ms : List Member) → AreItsHolders (P.rows positions.now) action.now ms → (k : Key)
+        → makes b k (holding_at (P.rows positions.now) k) ≡ after_action (P.rows positions.now) action.now ms k) }
 {
     let Some(sum) = sum_of(positions, pending, action) else {
         return Err(ActionFault::TooLarge);

@@ -6,14 +6,12 @@ ghost use Rattle.cns_units.specs.declared.account.Account.{Account};
 ghost use Rattle.cns_units.specs.declared.account.Member.{Member};
 ghost use Rattle.cns_units.specs.declared.cusip.Cusip.{Cusip};
 ghost use Rattle.cns_terms.specs.declared.holding.Key.{Key};
-ghost use Rattle.cns_terms.specs.Actions.{AreHolders};
 ghost use Rattle.cns_terms.specs.Entries.{trade_entries};
 ghost use Rattle.cns_terms.specs.Limits.{position_limit};
 ghost use Rattle.cns_terms.specs.Pending.{bought_in, is_due, sold_in};
-ghost use Rattle.cns_terms.specs.Refusals.{are_too_large};
 ghost use Rattle.cns_terms.specs.Keys.{key_cmp};
-ghost use Rattle.cns_positions.specs.Rows.{books, held_above, holding_at, rolled, with_age};
-ghost use Rattle.cns_actions.specs.Booked.{CanBeBooked, IsForAnother, age_brought, entries_of, issue_of, position_at, positions_in, waits_for};
+ghost use Rattle.cns_positions.specs.Rows.{books, held_above, holding_at, rolled};
+ghost use Rattle.cns_actions.specs.Booked.{AreItsHolders, CanBeBooked, IsForAnother, after_action, is_too_large, waits_for};
 ghost use Rattle.cns_actions.specs.Bookings.{makes};
 
 use crate::acting::bookings_for;
@@ -82,19 +80,14 @@ pub fn next_positions<P: Positions<B>, B, A: Allocator + Drop + Clone, C: Alloca
     requires another { IsForAnother action.now }
     requires waiting { (a : Account) (c : Cusip) → 1 ≤ a
         → (bought_in pending.now a c ≤ position_limit) × (sold_in pending.now a c ≤ position_limit) }
-    ensures too_large { (ms : List Member) → AreHolders (positions_in (P.rows positions.now) (issue_of action.now)) ms
-        → (result ≡ Err ActionFault.TooLarge) ↔ (are_too_large (position_at (P.rows positions.now)) pending.now
-        (entries_of action.now (positions_in (P.rows positions.now) (issue_of action.now)) ms) ≡ true) }
-    ensures pending { (ms : List Member) → AreHolders (positions_in (P.rows positions.now) (issue_of action.now)) ms
-        → (result ≡ Err ActionFault.PendingTrades) ↔ ((are_too_large (position_at (P.rows positions.now)) pending.now
-        (entries_of action.now (positions_in (P.rows positions.now) (issue_of action.now)) ms) ≡ false)
+    ensures too_large { (ms : List Member) → AreItsHolders (P.rows positions.now) action.now ms
+        → (result ≡ Err ActionFault.TooLarge) ↔ (is_too_large (P.rows positions.now) action.now pending.now ms ≡ true) }
+    ensures pending { (ms : List Member) → AreItsHolders (P.rows positions.now) action.now ms
+        → (result ≡ Err ActionFault.PendingTrades)
+        ↔ ((is_too_large (P.rows positions.now) action.now pending.now ms ≡ false)
         × (waits_for action.now pending.now ≡ true)) }
-    ensures booked { IfOk result (λ p. (ms : List Member)
-        → AreHolders (positions_in (P.rows positions.now) (issue_of action.now)) ms → (k : Key)
-        → holding_at (P.rows p) k
-        ≡ with_age (age_brought (P.rows positions.now) action.now k)
-        (books (entries_of action.now (positions_in (P.rows positions.now) (issue_of action.now)) ms) k
-        (holding_at (P.rows positions.now) k))) }
+    ensures booked { IfOk result (λ p. (ms : List Member) → AreItsHolders (P.rows positions.now) action.now ms → (k : Key)
+        → holding_at (P.rows p) k ≡ after_action (P.rows positions.now) action.now ms k) }
 {
     let bookings = bookings_for(alloc, positions, action, pending)?;
     Ok(with_bookings(alloc, positions, &bookings)?)

@@ -8,7 +8,7 @@ use Rattle.cns_terms.specs.Notices.{live_notice}
 use Rattle.cns_terms.specs.Positions.{position}
 use Rattle.cns_notices.proofs.NoticeSteps.{AreNumberedFrom, numbered}
 use Rattle.cns_notices.specs.Kept.{kept}
-use Rattle.cns_notices.specs.Noticed.{at_stage, notice_at as kept_at, opened, receives}
+use Rattle.cns_notices.specs.Noticed.{at_stage, notice_at as kept_at, new_notice, receives}
 use Rattle.cns_notices.proofs.NoticeFacts.{live_same}
 use Rattle.cns_notices.proofs.Noticing.{changed_same, notice_found, notice_more, received_by, taken_back, withdrawn_by}
 use Rattle.cns_book.specs.Follows.{member_position}
@@ -41,12 +41,12 @@ receipt_counted {s} L m f =
 
 -- the notices after one more
 pub notice_given : (L : List Activity) (s : Contents) (m : Movement) → Follows L s → IsInRange (activity.Notice m) → refusal s.opening (journal s.opening L) (command.Activity (activity.Notice m)) ≡ None
-    → Follows (activity.Notice m ∷ L) (record s { notices = s.notices ++ opened (record { member = m.member; issue = m.issue; shares = m.shares; day = s.closes + 1 }) ∷ [] })
+    → Follows (activity.Notice m ∷ L) (record s { notices = s.notices ++ new_notice (record { member = m.member; issue = m.issue; shares = m.shares; day = s.closes + 1 }) ∷ [] })
 notice_given L s m f range none =
     let J = journal s.opening L in
     let p : Posting = posting s.opening J (activity.Notice m) in
     noticed_by L s (activity.Notice m) _ f range none refl refl refl refl refl f.pending (λ r. refl)
-    ((λ i. f.notices i ++ opened (record { member = m.member; issue = m.issue; shares = m.shares; day = f.clock.closes i + 1 }) ∷ []) ∙ sym (notice_more p J m (λ k y. refl)))
+    ((λ i. f.notices i ++ new_notice (record { member = m.member; issue = m.issue; shares = m.shares; day = f.clock.closes i + 1 }) ∷ []) ∙ sym (notice_more p J m (λ k y. refl)))
 
 -- a notice in an issue that is not listed or retired is refused for that
 pub notice_issue : (L : List Activity) (s : Contents) (m : Movement) (q : ℤ) (r : Refusal) → Some q ≡ member_position (journal s.opening L) m.member m.issue

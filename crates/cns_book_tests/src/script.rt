@@ -1,6 +1,6 @@
 // Books and commands from the records that a clerk writes.
 use cns_book::{Book, Receipt};
-use cns_feed::{CsvSource, load_on, reply_text};
+use cns_feed::{CsvSource, load, reply_text};
 use cns_positions::{Positions, TreePositions};
 use cns_sheets::Sheet;
 use cns_terms::{Activity, Command, Item, Source, Trade, Worker};
@@ -59,7 +59,7 @@ pub(crate) fn play<P: Positions<A>, A: Allocator + Drop + Clone>(
 // The book after a text of records. It is lent to what may fail: each way out of a function that owns a book is checked with
 // all that the book promises.
 pub(crate) fn book_of(rt: &impl Abort, alloc: Global, records: &str) -> TreeBook {
-    let (book, _summary) = load_on(alloc, records.as_bytes(), first_day(rt)).expect(rt, "a load");
+    let (book, _summary) = load(alloc, records.as_bytes(), first_day(rt)).expect(rt, "a load");
     book
 }
 

@@ -2,7 +2,7 @@
 use crate::case::{Case, ReplyLine};
 use crate::failure::Failure;
 use cns_book::Book;
-use cns_feed::{ReplayFault, Summary, load_on, replay_on};
+use cns_feed::{MOST_RECORDS, ReplayFault, Summary, load_up_to, replay_up_to};
 use cns_positions::Positions;
 use cns_terms::Worker;
 use std::alloc::Global;
@@ -52,7 +52,13 @@ fn fault_failure(alloc: Global, call: &str, fault: ReplayFault) -> Result<(), Fa
 fn check_replay<P: Positions<Global>>(alloc: Global, case: &Case<'_>) -> Result<(), Failure> {
     let mut output = Vec::new(alloc);
     let input = case.input.as_slice();
-    match replay_on::<P, &[u8], Vec<u8>>(alloc, input, &mut output, case.opening) {
+    match replay_up_to::<P, &[u8], Vec<u8>>(
+        alloc,
+        input,
+        &mut output,
+        case.opening,
+        MOST_RECORDS,
+    ) {
         Ok(counts) => {
             check_output(alloc, case, output.as_slice())?;
             check_counts(alloc, "replay", case.counts, counts)
@@ -72,7 +78,7 @@ fn counts_of<P: Positions<Global>>(book: &Book<P, Global>, lines: u64) -> Summar
 
 fn check_load<P: Positions<Global>>(alloc: Global, case: &Case<'_>) -> Result<(), Failure> {
     let expected = case.counts;
-    match load_on::<P, &[u8]>(alloc, case.input.as_slice(), case.opening) {
+    match load_up_to::<P, &[u8]>(alloc, case.input.as_slice(), case.opening, MOST_RECORDS) {
         Ok((book, counts)) => {
             check_counts(alloc, "load", expected, counts)?;
             check_counts(alloc, "book", expected, counts_of(&book, counts.lines))?;

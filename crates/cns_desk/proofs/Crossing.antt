@@ -3,7 +3,8 @@
 use Rattle.cns_terms.proofs.Common.{IsSend, crosses, sendable}
 use denote.Hole.{as_row}
 use denote.RattleType.{RattleType}
-use denote.Param.Send.{IsSync, view_send}
+use denote.Ref.{NamedLft}
+use denote.Param.Send.{IsSync, shr_sync, view_send}
 use denote.Param.SendFields.{declared_send, declared_sync}
 use Rattle.std.below.core.proofs.ledger.Sent.{book_send as total_send, share_send}
 use Rattle.std.below.core.specs.declared.ledger.Ledger as ledger
@@ -22,6 +23,7 @@ use Rattle.cns_desk.specs.contracts.log.Log
 use Rattle.cns_desk.specs.contracts.log.Log.TheInside as of_log
 use Rattle.cns_desk.specs.contracts.log.LogItem
 use Rattle.cns_desk.specs.contracts.worker.Done
+use Rattle.cns_desk.specs.contracts.worker.Shared
 use Rattle.cns_desk.specs.contracts.seat.Seat
 use Rattle.cns_desk.specs.contracts.seat.Seat.TheInside as of_seat
 use Rattle.cns_desk.specs.contracts.end.End
@@ -53,3 +55,7 @@ end_send = search sendable depth 20
 -- what a worker hands back may
 pub done_send : (L : RattleType) (l : ledger.Ghosts L.Denot) → IsSend (Done.the_row L l)
 done_send L l = declared_send (Done.the_type L l) (seat_send L l, (log_send, (end_send, tt)))
+
+-- what all workers share may be used by each
+pub shared_sync : (e : NamedLft) (L P G R : RattleType) (l : ledger.Ghosts L.Denot) (g : positions.Ghosts P.Denot (Global.the_row).Denot) → IsSend P → IsSync G → IsSync R → IsSync (Shared.the_row e L P G R l g)
+shared_sync e L P G R l g s sg sr = declared_sync (Shared.the_type e L P G R l g) (shr_sync _ _ R sr, (search sendable depth 20, (shr_sync _ _ _ (desk_sync L P l g s), (shr_sync _ _ G sg, tt))))

@@ -1,5 +1,6 @@
 // What opening a desk and running workers answer.
 use cns_terms::NoMemory;
+use std::alloc::AllocFailed;
 use std::convert::From;
 use thiserror::Error;
 
@@ -53,5 +54,16 @@ impl From<OpenFault> for RunFault {
             OpenFault::Workers => RunFault::Workers,
             OpenFault::NoMemory => RunFault::NoMemory,
         }
+    }
+}
+
+impl<T: Drop> From<AllocFailed<T>> for RunFault {
+    ghost use Rattle.std.specs.Prelude.{◌≡◌};
+    ghost use Rattle.cns_desk.specs.declared.fault.RunFault.TheVariants as faults;
+
+    ghost from_gives = { λ _ e. e ≡ faults.NoMemory };
+
+    fn from(_refused: AllocFailed<T>) -> RunFault {
+        RunFault::NoMemory
     }
 }

@@ -12,6 +12,7 @@ use crate::fault::RunFault;
 use crate::log::Log;
 use crate::seat::Seat;
 use crate::threads::{Gathered, start_and_join};
+use crate::worker::Shared;
 use cns_book::Book;
 use cns_positions::{Positions, TreePositions};
 use cns_terms::{Gate, Source};
@@ -44,10 +45,7 @@ fn gather<
     G: Gate + Sync,
     R: Threads + Wait + Sync,
 >(
-    rt: &R,
-    alloc: Global,
-    desk: &Desk<L, P>,
-    gate: &G,
+    shared: &Shared<'_, L, P, G, R>,
     seats: Vec<Seat<L>>,
     sources: Vec<S>,
 ) -> Result<Gathered<L>, RunFault>
@@ -59,14 +57,14 @@ fn gather<
 {
     thread::scope(
         thread::scope_env(),
-        rt,
+        shared.rt,
         move |scope| -> Result<Gathered<L>, RunFault>
             requires { (vec_len seats ≡ vec_len sources) × AllByRecursion IsFresh seats.items }
             ensures ok { IfOk result
                 (λ g. (vec_len g.seats ≡ vec_len sources)
                 × HaveRun S.may_fail S.told sources.items g.logs.items g.ends.items) }
             ensures err { IfErr result IsLate }
-        { start_and_join(scope, rt, alloc, desk, gate, seats, sources) },
+        { start_and_join(scope, shared, seats, sources) },
     )
 }
 
@@ -92,11 +90,13 @@ fn run_audited<
     ensures ran { IfOk result (λ o. HaveRun S.may_fail S.told sources.items o.logs.items o.ends.items) }
 {
     let (desk, seats) = Desk::<L, TreePositions<Global>>::open(alloc, blank, date, sources.len())?;
-    let gathered = match gather(rt, alloc, &desk, gate, seats, sources) {
-        Ok(gathered) => gathered,
-        Err(fault) => return Err(fault),
+    let shared = Shared {
+        rt,
+        alloc,
+        desk: &desk,
+        gate,
     };
-    let Gathered { seats, logs, ends } = gathered;
+    let Gathered { seats, logs, ends } = gather(&shared, seats, sources)?;
     let book = desk.finish(seats);
     match audit(&book, logs.as_slice()) {
         Ok(()) => Ok(Outcome { book, logs, ends }),

@@ -5,12 +5,11 @@ ghost use Rattle.cns_desk.specs.Worked.{HaveRun, IsLate, Worked};
 ghost use Rattle.cns_desk.specs.Seats.{IsFresh};
 ghost use Rattle.cns_desk.specs.Promised.{promised};
 
-use crate::desk::Desk;
 use crate::end::End;
 use crate::fault::RunFault;
 use crate::log::Log;
 use crate::seat::Seat;
-use crate::worker::{Done, work};
+use crate::worker::{Done, Shared, work};
 use cns_positions::Positions;
 use cns_terms::{Gate, Source};
 use std::alloc::Global;
@@ -46,10 +45,7 @@ fn start<
     R: Threads + Wait + Sync,
 >(
     scope: &'s Scope<'s, &'e ()>,
-    rt: &'e R,
-    alloc: Global,
-    desk: &'e Desk<L, P>,
-    gate: &'e G,
+    shared: &'e Shared<'e, L, P, G, R>,
     seat: Seat<L>,
     source: S,
 ) -> Result<PromisedHandle<Done<L>, Works<S>>, RunFault>
@@ -61,7 +57,7 @@ fn start<
     let job = move || -> Done<L>
         requires { seat.count ≡ 0 }
         ensures { IfSome (S.told source) (λ t. Worked S.may_fail t result.log result.end) }
-    { work(rt, alloc, desk, gate, seat, source) };
+    { work(shared, seat, source) };
     match scope.spawn_with(promise, job) {
         Ok(handle) => Ok(handle),
         Err(_) => Err(RunFault::Spawn),
@@ -79,10 +75,7 @@ fn start_all<
     R: Threads + Wait + Sync,
 >(
     scope: &'s Scope<'s, &'e ()>,
-    rt: &'e R,
-    alloc: Global,
-    desk: &'e Desk<L, P>,
-    gate: &'e G,
+    shared: &'e Shared<'e, L, P, G, R>,
     seats: Vec<Seat<L>>,
     sources: Vec<S>,
 ) -> Result<Vec<PromisedHandle<Done<L>, Works<S>>>, RunFault>
@@ -93,14 +86,12 @@ fn start_all<
 {
     let mut seats = seats;
     let mut sources = sources;
-    let mut handles = Vec::new(alloc);
+    let mut handles = Vec::new(shared.alloc);
     'starting: while !sources.is_empty() {
         let seat = seats.remove(0);
         let source = sources.remove(0);
-        let handle = start(scope, rt, alloc, desk, gate, seat, source)?;
-        let Ok(()) = handles.push(handle) else {
-            return Err(RunFault::NoMemory);
-        };
+        let handle = start(scope, shared, seat, source)?;
+        handles.push(handle)?;
     }
     Ok(handles)
 }
@@ -122,15 +113,9 @@ fn join_all<L: Ledger, S: Source, R: Threads>(
     'joining: while !handles.is_empty() {
         let handle = handles.remove(0);
         let Done { seat, log, end } = handle.join(rt);
-        let Ok(()) = seats.push(seat) else {
-            return Err(RunFault::NoMemory);
-        };
-        let Ok(()) = logs.push(log) else {
-            return Err(RunFault::NoMemory);
-        };
-        let Ok(()) = ends.push(end) else {
-            return Err(RunFault::NoMemory);
-        };
+        seats.push(seat)?;
+        logs.push(log)?;
+        ends.push(end)?;
     }
     Ok(Gathered { seats, logs, ends })
 }
@@ -146,10 +131,7 @@ pub(crate) fn start_and_join<
     R: Threads + Wait + Sync,
 >(
     scope: &'s Scope<'s, &'e ()>,
-    rt: &'e R,
-    alloc: Global,
-    desk: &'e Desk<L, P>,
-    gate: &'e G,
+    shared: &'e Shared<'e, L, P, G, R>,
     seats: Vec<Seat<L>>,
     sources: Vec<S>,
 ) -> Result<Gathered<L>, RunFault>
@@ -159,6 +141,6 @@ pub(crate) fn start_and_join<
     ensures ran { IfOk result (λ g. HaveRun S.may_fail S.told sources.items g.logs.items g.ends.items) }
     ensures err { IfErr result IsLate }
 {
-    let handles = start_all(scope, rt, alloc, desk, gate, seats, sources)?;
-    join_all(rt, alloc, handles)
+    let handles = start_all(scope, shared, seats, sources)?;
+    join_all(shared.rt, shared.alloc, handles)
 }

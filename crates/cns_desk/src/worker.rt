@@ -16,6 +16,15 @@ use std::sync::ledger::Ledger;
 // The most records that one worker reads.
 const MOST_RECORDS: u32 = u32::MAX;
 
+// What the workers of a run share.
+#[derive(Clone, Copy)]
+pub(crate) struct Shared<'e, L: Ledger, P: Positions<Global>, G: Gate, R> {
+    pub(crate) rt: &'e R,
+    pub(crate) alloc: Global,
+    pub(crate) desk: &'e Desk<L, P>,
+    pub(crate) gate: &'e G,
+}
+
 // What a worker hands back.
 #[derive(Drop)]
 pub(crate) struct Done<L: Ledger> {
@@ -27,9 +36,7 @@ pub(crate) struct Done<L: Ledger> {
 // Submits a command between the calls of the gate, also one that is not taken, and logs what it was answered. Room in the
 // log comes first, so that a command that was taken is always logged. None where the worker goes on.
 fn submit_one<L: Ledger, P: Positions<Global>, G: Gate, R: Wait>(
-    rt: &R,
-    desk: &Desk<L, P>,
-    gate: &G,
+    shared: &Shared<'_, L, P, G, R>,
     seat: &mut Seat<L>,
     log: &mut Log,
     command: &Command,
@@ -44,9 +51,9 @@ fn submit_one<L: Ledger, P: Positions<Global>, G: Gate, R: Wait>(
     }
     let worker = seat.worker();
     let seq = seat.count() + 1;
-    gate.before(rt, worker, seq);
-    let answer = desk.submit(rt, seat, *command);
-    gate.answered(rt, worker, seq);
+    shared.gate.before(shared.rt, worker, seq);
+    let answer = shared.desk.submit(shared.rt, seat, *command);
+    shared.gate.answered(shared.rt, worker, seq);
     match answer {
         Ok(receipt) => {
             log.push(LogItem {
@@ -63,9 +70,7 @@ fn submit_one<L: Ledger, P: Positions<Global>, G: Gate, R: Wait>(
 
 // Reads one record and submits its command, or counts it where it is at fault. None where the worker goes on.
 fn step<L: Ledger, P: Positions<Global>, S: Source, G: Gate, R: Wait>(
-    rt: &R,
-    desk: &Desk<L, P>,
-    gate: &G,
+    shared: &Shared<'_, L, P, G, R>,
     seat: &mut Seat<L>,
     source: &mut S,
     log: &mut Log,
@@ -77,7 +82,7 @@ fn step<L: Ledger, P: Positions<Global>, S: Source, G: Gate, R: Wait>(
     ensures lines { log.new.lines ≤ log.old.lines + 1 }
 {
     match source.next() {
-        Ok(Item::Given(command)) => submit_one(rt, desk, gate, seat, log, &command),
+        Ok(Item::Given(command)) => submit_one(shared, seat, log, &command),
         Ok(Item::Line) => {
             log.line();
             None
@@ -89,10 +94,7 @@ fn step<L: Ledger, P: Positions<Global>, S: Source, G: Gate, R: Wait>(
 
 // Submits what the source gives, until the source ends or a command is not taken.
 pub(crate) fn work<L: Ledger, P: Positions<Global>, S: Source + Drop, G: Gate, R: Wait>(
-    rt: &R,
-    alloc: Global,
-    desk: &Desk<L, P>,
-    gate: &G,
+    shared: &Shared<'_, L, P, G, R>,
     seat: Seat<L>,
     source: S,
 ) -> Done<L>
@@ -101,9 +103,9 @@ pub(crate) fn work<L: Ledger, P: Positions<Global>, S: Source + Drop, G: Gate, R
 {
     let mut seat = seat;
     let mut source = source;
-    let mut log = Log::new(alloc);
+    let mut log = Log::new(shared.alloc);
     for _turn in 0..MOST_RECORDS {
-        if let Some(end) = step(rt, desk, gate, &mut seat, &mut source, &mut log) {
+        if let Some(end) = step(shared, &mut seat, &mut source, &mut log) {
             return Done { seat, log, end };
         }
     }

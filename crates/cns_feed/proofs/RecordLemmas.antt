@@ -10,7 +10,7 @@ use Rattle.csv.specs.declared.parser.State.{State}
 use Rattle.csv.specs.declared.reader.Reader.{Reader}
 use Rattle.csv.proofs.ReadFacts.{rows-more}
 use Rattle.cns_feed.specs.Line.{Line, Record, line_of}
-use Rattle.cns_feed.specs.Records.{EndsReading, Left, Setup, fault_of, given_remaining}
+use Rattle.cns_feed.specs.Records.{EndsReading, Left, Setup, fault_of, remaining_under}
 use Rattle.cns_feed.specs.declared.fault.ReplayFault.{ReplayFault}
 use Rattle.cns_feed.specs.declared.fault.ReplayFault.TheVariants as fault
 use Rattle.cns_feed.specs.declared.records.Records.{Records}
@@ -89,7 +89,7 @@ no_line rem a b fields setup r all p = grind (arith, no_record)
 
 -- why no more is read, by the error of the reader
 pub ends-failed : {R : Type 0} (rem : R → Option (List ℕ)) (a : Records R) (b : Records R) (why : ErrorKind)
-    → Setup a.rows → has_failed b.rows ≡ stops_reader why → ExplainsRead (given_remaining rem) a.rows b.rows false why → EndsReading (fault_of why) b ⊥
+    → Setup a.rows → has_failed b.rows ≡ stops_reader why → ExplainsRead (remaining_under rem) a.rows b.rows false why → EndsReading (fault_of why) b ⊥
 ends-failed rem a b why setup failed explains = grind arith
 
 -- a reader that ended reading did so whatever was read

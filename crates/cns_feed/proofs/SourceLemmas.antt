@@ -7,7 +7,7 @@ use Rattle.cns_terms.specs.Sources.{Answer, Gives as GivesAnswer, GivesEnd, Give
 use Rattle.cns_terms.specs.declared.command.Command.{Command}
 use Rattle.cns_terms.specs.declared.source.Item.TheVariants as item
 use Rattle.cns_feed.specs.Line.{Line, line_of}
-use Rattle.cns_feed.specs.Records.{Gives, Pending, Setup}
+use Rattle.cns_feed.specs.Records.{Gives, IsReady, Pending}
 use Rattle.cns_feed.specs.Source.{GivesItem, ReadsItem, end_of, given_of, lines_left, told_at, told_of}
 use Rattle.cns_feed.specs.declared.records.Records.{Records}
 
@@ -29,7 +29,7 @@ where_known o P f = grind arith
 
 -- a line was read
 pub item_line : {R : Type 0} (rem : R → Option (List ℕ)) (a b : Records R) (left : ℕ) (line : Line) (x : Option Command)
-    → 0 < left → given_of line ≡ x → Gives rem a b line → Setup b.rows → GivesItem rem left a b x
+    → 0 < left → given_of line ≡ x → Gives rem a b line → IsReady b → GivesItem rem left a b x
 item_line rem a b left line x more given gives setup = (
   more,
   setup,

@@ -9,12 +9,12 @@ use Rattle.csv.specs.declared.reader.Trim.TheVariants as trim
 use Rattle.cns_feed.specs.Line.{Line, line_of}
 use Rattle.cns_feed.specs.declared.fault.ReplayFault.{ReplayFault}
 use Rattle.cns_feed.specs.declared.fault.ReplayFault.TheVariants as fault
-use Rattle.cns_feed.specs.declared.given.Given.{Given}
+use Rattle.cns_feed.specs.declared.counting.CountingReader.{CountingReader}
 use Rattle.cns_feed.specs.declared.records.Records.{Records}
 
 -- the bytes that are left of the reader underneath
-abbrev pub given_remaining : {R : Type 0} → (R → Option (List ℕ)) → Given R → Option (List ℕ)
-given_remaining rem g = rem g.reader
+abbrev pub remaining_under : {R : Type 0} → (R → Option (List ℕ)) → CountingReader R → Option (List ℕ)
+remaining_under rem g = rem g.reader
 
 -- how the reader reads: each record as it is, with any number of fields
 pub record Setup {R : Type 0} (rdr : Reader R) : Type 0 where
@@ -32,7 +32,11 @@ pub record Left {R : Type 0} (rem : R → Option (List ℕ)) (rdr : Reader R) (l
 
 -- the same of the records of a reader
 abbrev pub Pending : {R : Type 0} → (R → Option (List ℕ)) → Records R → List Line → Type 0
-Pending rem rs lines = Left (given_remaining rem) rs.rows lines
+Pending rem rs lines = Left (remaining_under rem) rs.rows lines
+
+-- records may be read on: nothing failed so far
+abbrev pub IsReady : {R : Type 0} → Records R → Type 0
+IsReady rs = Setup rs.rows
 
 -- what an error of the reader is to a replay
 abbrev pub fault_of : ErrorKind → ReplayFault
@@ -56,6 +60,6 @@ Gives rem old new line = (all : List Line) → Pending rem old all → (rest : L
 
 -- what the read of a line came to
 abbrev pub ReadsLine : {R : Type 0} → (R → Option (List ℕ)) → Records R → Records R → Result (Option Line) ReplayFault → Type 0
-ReadsLine rem old new (Ok (Some line)) = Gives rem old new line × Setup new.rows
+ReadsLine rem old new (Ok (Some line)) = Gives rem old new line × IsReady new
 ReadsLine rem old new (Ok None) = (all : List Line) → Pending rem old all → all ≡ []
 ReadsLine rem old new (Err e) = EndsReading e new ⊥

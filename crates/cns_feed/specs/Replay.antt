@@ -3,11 +3,18 @@ use Rattle.std.specs.Prelude.{◌≡◌, ℕ, ◌+◌, ◌-◌, ◌^◌, ◌≤�
 use Rattle.cns_terms.specs.Common.{Appends, AppendsFront, Day, Keeps, State, answer, count, opened}
 use Rattle.cns_terms.specs.declared.command.Command.{Command}
 use Rattle.cns_book.specs.Log.{Log, empty_log, state_of, with_taken}
+use Rattle.cns_book.specs.declared.receipt.TakeFault.{TakeFault}
+use Rattle.cns_book.specs.declared.receipt.TakeFault.TheVariants as taking
 use Rattle.cns_feed.specs.Line.{Line}
 use Rattle.cns_feed.specs.Output.{line_text, lines_of, state_after, texts}
 use Rattle.cns_feed.specs.declared.fault.ReplayFault.{ReplayFault}
 use Rattle.cns_feed.specs.declared.summary.Summary.{Summary}
 use Rattle.cns_feed.specs.declared.fault.ReplayFault.TheVariants as fault
+
+-- what it is to a replay that a command was not taken
+abbrev pub fault_of_take : TakeFault → ReplayFault
+fault_of_take taking.Full = fault.Full
+fault_of_take taking.NoMemory = fault.NoMemory
 
 -- what a fault at a record leaves of its text: a front that is not all of it, or nothing; no other fault comes at a record
 abbrev pub LeavesAt : ReplayFault → Option (List ℕ) → Option (List ℕ) → List ℕ → Type 0

@@ -8,7 +8,7 @@ use Rattle.cns_terms.specs.declared.source.Item.TheVariants as item
 use Rattle.cns_terms.specs.declared.source.SourceFault.TheVariants as fault
 use Rattle.cns_terms.specs.declared.command.Command.{Command}
 use Rattle.cns_feed.specs.Line.{Line, line_of}
-use Rattle.cns_feed.specs.Records.{Setup, given_remaining}
+use Rattle.cns_feed.specs.Records.{IsReady, remaining_under}
 use Rattle.cns_feed.specs.declared.records.Records.{Records}
 use Rattle.cns_feed.specs.declared.source.SourceEnd.{SourceEnd}
 use Rattle.cns_feed.specs.declared.source.SourceEnd.TheVariants as end
@@ -49,11 +49,11 @@ told_of most lines = record {
 abbrev pub lines_left : {R : Type 0} → (R → Option (List ℕ)) → Records R → Option (List Line)
 lines_left rem rs =
     if ends_at_end (reader_state rs.rows) then None
-    else option_map (λ bytes. map line_of (records_from default_config (length bytes + 1) (reader_state rs.rows) bytes)) (source_of (given_remaining rem) rs.rows)
+    else option_map (λ bytes. map line_of (records_from default_config (length bytes + 1) (reader_state rs.rows) bytes)) (source_of (remaining_under rem) rs.rows)
 
 -- a line was read, and the others are left
 abbrev pub GivesItem : {R : Type 0} → (R → Option (List ℕ)) → ℕ → Records R → Records R → Option Command → Type 0
-GivesItem rem left old new x = (0 < left) × Setup new.rows
+GivesItem rem left old new x = (0 < left) × IsReady new
     × IfSome (lines_left rem old) (λ all. (line : Line) × (rest : List Line) × (all ≡ line ∷ rest) × (given_of line ≡ x) × (lines_left rem new ≡ Some rest))
 
 -- what is told once the end was given, and before that

@@ -1,4 +1,7 @@
 // Why a record is no command, and why a replay ends early.
+use cns_book::TakeFault;
+use cns_terms::NoMemory;
+use std::convert::From;
 use thiserror::Error;
 
 /// Why a record is no command.
@@ -45,4 +48,29 @@ pub enum ReplayFault {
     /// are read.
     #[error("Full")]
     Full,
+}
+
+impl From<NoMemory> for ReplayFault {
+    ghost use Rattle.std.specs.Prelude.{◌≡◌};
+    ghost use Rattle.cns_feed.specs.declared.fault.ReplayFault.TheVariants as fault;
+
+    ghost from_gives = { λ _ e. e ≡ fault.NoMemory };
+
+    fn from(_missed: NoMemory) -> ReplayFault {
+        ReplayFault::NoMemory
+    }
+}
+
+impl From<TakeFault> for ReplayFault {
+    ghost use Rattle.std.specs.Prelude.{◌≡◌};
+    ghost use Rattle.cns_feed.specs.Replay.{fault_of_take};
+
+    ghost from_gives = { λ t e. e ≡ fault_of_take t };
+
+    fn from(fault: TakeFault) -> ReplayFault {
+        match fault {
+            TakeFault::Full => ReplayFault::Full,
+            TakeFault::NoMemory => ReplayFault::NoMemory,
+        }
+    }
 }

@@ -14,7 +14,7 @@ use cns_terms::{
 use csv::ByteRecord;
 
 /// What a record is read as: a command, or its first fault.
-pub(crate) type Line = Result<Command, LineFault>;
+pub type Line = Result<Command, LineFault>;
 
 #[tactic(auto, unfolding(crate::specs::Line::member_line))]
 fn member_of(row: &ByteRecord) -> Result<Command, LineFault>

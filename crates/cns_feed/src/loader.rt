@@ -4,13 +4,13 @@ ghost use Rattle.cns_terms.specs.Machine.{opened};
 ghost use Rattle.cns_book.specs.Log.{state_of};
 ghost use Rattle.cns_feed.specs.Line.{Line};
 ghost use Rattle.cns_feed.specs.Output.{Counts, lines_of, responses};
-ghost use Rattle.cns_feed.specs.Records.{EndsReading, Pending, Setup};
+ghost use Rattle.cns_feed.specs.Records.{EndsReading, IsReady, Pending};
 ghost use Rattle.cns_feed.specs.Replay.{HasRoomFor, blank_log, log_after};
 ghost use Rattle.cns_feed.specs.declared.fault.ReplayFault.TheVariants as fault;
 
 use crate::fault::ReplayFault;
 use crate::records::{MOST_RECORDS, Records};
-use crate::response::{ReplayBook, new_book, take_line};
+use crate::response::{ReplayBook, take_line};
 use crate::summary::Summary;
 use cns_book::Book;
 use cns_positions::{Positions, TreePositions};
@@ -25,7 +25,7 @@ pub(crate) fn take_all<P: Positions<Global>, R: Read>(
     book: &mut Book<P, Global>,
     most: u32,
 ) -> Result<Summary, ReplayFault>
-    requires setup { Setup records.old.rows }
+    requires ready { IsReady records.old }
     requires room { HasRoomFor book.old.log most }
     requires most { most ≤ 2 ^ 32 - 1 }
     ensures few { OnOk result ((all : List Line) → Pending R.remaining records.old all → length all < most) }
@@ -49,27 +49,10 @@ pub(crate) fn take_all<P: Positions<Global>, R: Read>(
 }
 
 /// The book after the command of each record of the reader, in order, all of the first worker, on a new book over the
-/// form of positions `P` that opens on the date, and the counts; nothing is written.
+/// form of positions `P` that opens on the date, and the counts; nothing is written. At most so many records are read.
 ///
-/// A record at fault is counted and changes nothing. `Read` where the reader fails, or has given
-/// 4,294,967,295 records; `NoMemory` where a growth was refused; no other fault comes.
-pub fn load_on<P: Positions<Global>, R: Read + Drop>(
-    alloc: Global,
-    reader: R,
-    date: Day,
-) -> Result<(Book<P, Global>, Summary), ReplayFault>
-    ensures after { IfOk result (λ p. IfSome (R.remaining reader)
-        (λ input. p.0.log ≡ log_after (blank_log date) (lines_of input))) }
-    ensures counts { IfOk result (λ p. IfSome (R.remaining reader)
-        (λ input. Counts p.1 (responses (opened date) (lines_of input)))) }
-    ensures few { OnOk result (IfSome (R.remaining reader) (λ input. length (lines_of input) < 2 ^ 32 - 1)) }
-    ensures err { IfErr result (λ e. (e ≡ fault.NoMemory) ⊎ (e ≡ fault.Read)) }
-{
-    load_up_to::<P, R>(alloc, reader, date, MOST_RECORDS)
-}
-
-/// The same with another number of records at which it ends: `Read` comes where the reader has given `most` records, also
-/// where its input ends there.
+/// A record at fault is counted and changes nothing. `Read` where the reader fails, or has given `most` records, also where
+/// its input ends there; `NoMemory` where a growth was refused; no other fault comes.
 pub fn load_up_to<P: Positions<Global>, R: Read + Drop>(
     alloc: Global,
     reader: R,
@@ -83,14 +66,14 @@ pub fn load_up_to<P: Positions<Global>, R: Read + Drop>(
     ensures few { OnOk result (IfSome (R.remaining reader) (λ input. length (lines_of input) < most)) }
     ensures err { IfErr result (λ e. (e ≡ fault.NoMemory) ⊎ (e ≡ fault.Read)) }
 {
-    let mut book = new_book::<P>(alloc, date)?;
+    let mut book = Book::<P, Global>::new(alloc, date)?;
     let summary = take_all(&mut Records::new(alloc, reader), &mut book, most)?;
     Ok((book, summary))
 }
 
-/// The same as a `ReplayBook`: the book after the command of each record of the reader, and the counts.
+/// The same as a `ReplayBook`, of all that the reader gives, up to 4,294,967,295 records.
 ///
-/// Faults are those of `load_on`.
+/// Faults are those of `load_up_to`.
 pub fn load<R: Read + Drop>(
     alloc: Global,
     reader: R,
@@ -103,5 +86,5 @@ pub fn load<R: Read + Drop>(
     ensures few { OnOk result (IfSome (R.remaining reader) (λ input. length (lines_of input) < 2 ^ 32 - 1)) }
     ensures err { IfErr result (λ e. (e ≡ fault.NoMemory) ⊎ (e ≡ fault.Read)) }
 {
-    load_on::<TreePositions<Global>, R>(alloc, reader, date)
+    load_up_to::<TreePositions<Global>, R>(alloc, reader, date, MOST_RECORDS)
 }

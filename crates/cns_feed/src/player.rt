@@ -5,14 +5,14 @@ ghost use Rattle.cns_terms.specs.Machine.{opened};
 ghost use Rattle.cns_book.specs.Log.{state_of};
 ghost use Rattle.cns_feed.specs.Line.{Line};
 ghost use Rattle.cns_feed.specs.Output.{Counts, line_text, lines_of, response_of, responses, output, texts};
-ghost use Rattle.cns_feed.specs.Records.{EndsReading, Pending, Setup};
+ghost use Rattle.cns_feed.specs.Records.{EndsReading, IsReady, Pending};
 ghost use Rattle.cns_feed.specs.Replay.{HasRoomFor, LeavesAt, Stops, StopsReplay, log_after_line};
 ghost use Rattle.cns_feed.specs.declared.fault.ReplayFault.TheVariants as fault;
 
 use crate::fault::ReplayFault;
 use crate::line::Line;
 use crate::records::{MOST_RECORDS, Records};
-use crate::response::{Response, new_book, take_line, write_response};
+use crate::response::{Response, take_line, write_response};
 use crate::summary::Summary;
 use cns_book::Book;
 use cns_positions::{Positions, TreePositions};
@@ -63,7 +63,7 @@ pub(crate) fn play<P: Positions<Global>, R: Read, W: Write>(
     writer: &mut W,
     most: u32,
 ) -> Result<Summary, ReplayFault>
-    requires setup { Setup records.old.rows }
+    requires ready { IsReady records.old }
     requires room { HasRoomFor book.old.log most }
     requires most { most ≤ 2 ^ 32 - 1 }
     ensures few { OnOk result ((all : List Line) → Pending R.remaining records.old all → length all < most) }
@@ -89,38 +89,17 @@ pub(crate) fn play<P: Positions<Global>, R: Read, W: Write>(
 }
 
 /// Takes the command of each record of the reader, in order, on a new book over the form of positions `P` that opens on
-/// the date, and writes the reply to each; for a record at fault it writes `line` and the fault, and goes on.
+/// the date, and writes the reply to each; for a record at fault it writes `line` and the fault, and goes on. At most so
+/// many records are read.
 ///
-/// `Read` where the reader fails, or has given 4,294,967,295 records: all that were read are answered. `NoMemory` where
-/// a growth was refused: the records before the one at which it was are answered. `Write` where the writer fails, takes
-/// no byte or cannot be flushed: the records before are answered, and of the next reply a front was written that is not
-/// all of it. `Full` does not come, since the history has room for as many commands.
+/// `Read` where the reader fails, or has given `most` records, also where its input ends there: all that were read are
+/// answered. `NoMemory` where a growth was refused: the records before the one at which it was are answered. `Write` where
+/// the writer fails, takes no byte or cannot be flushed: the records before are answered, and of the next reply a front was
+/// written that is not all of it. `Full` does not come, since the history has room for as many commands.
 ///
 /// Before the reader is asked for more, all records that it gave whole are answered, and the writer is flushed. After a
 /// failure neither the reader nor the writer is called again. A buffer on the reader's side is not needed: blocks of
 /// 8 KiB are read.
-pub fn replay_on<P: Positions<Global>, R: Read + Drop, W: Write>(
-    alloc: Global,
-    reader: R,
-    writer: &mut W,
-    date: Day,
-) -> Result<Summary, ReplayFault>
-    // All of the input is answered, and nothing else is written.
-    ensures output { OnOk result (IfSome (R.remaining reader)
-        (λ input. Appends (W.contents writer.old) (W.contents writer.new) (output date input))) }
-    ensures counts { IfOk result (λ s. IfSome (R.remaining reader)
-        (λ input. Counts s (responses (opened date) (lines_of input)))) }
-    ensures few { OnOk result (IfSome (R.remaining reader) (λ input. length (lines_of input) < 2 ^ 32 - 1)) }
-    // The records before the fault are answered, and of the one that it came at, if any, what the fault leaves.
-    ensures fault { IfErr result (λ e. IfSome (R.remaining reader)
-        (λ input. StopsReplay e date input (W.contents writer.old) (W.contents writer.new))) }
-    ensures room { IfErr result (λ e. e ≢ fault.Full) }
-{
-    replay_up_to::<P, R, W>(alloc, reader, writer, date, MOST_RECORDS)
-}
-
-/// The same with another number of records at which it ends: `Read` comes where the reader has given `most` records, also
-/// where its input ends there.
 pub fn replay_up_to<P: Positions<Global>, R: Read + Drop, W: Write>(
     alloc: Global,
     reader: R,
@@ -128,38 +107,38 @@ pub fn replay_up_to<P: Positions<Global>, R: Read + Drop, W: Write>(
     date: Day,
     most: u32,
 ) -> Result<Summary, ReplayFault>
+    // All of the input is answered, and nothing else is written.
     ensures output { OnOk result (IfSome (R.remaining reader)
         (λ input. Appends (W.contents writer.old) (W.contents writer.new) (output date input))) }
     ensures counts { IfOk result (λ s. IfSome (R.remaining reader)
         (λ input. Counts s (responses (opened date) (lines_of input)))) }
     ensures few { OnOk result (IfSome (R.remaining reader) (λ input. length (lines_of input) < most)) }
+    // The records before the fault are answered, and of the one that it came at, if any, what the fault leaves.
     ensures fault { IfErr result (λ e. IfSome (R.remaining reader)
         (λ input. StopsReplay e date input (W.contents writer.old) (W.contents writer.new))) }
     ensures room { IfErr result (λ e. e ≢ fault.Full) }
 {
-    let mut book = new_book::<P>(alloc, date)?;
+    let mut book = Book::<P, Global>::new(alloc, date)?;
     play(&mut Records::new(alloc, reader), &mut book, writer, most)
 }
 
-/// The same on a `ReplayBook`: takes each record's command on a new book that opens on the date, and writes the replies.
+/// The same on a `ReplayBook`, of all that the reader gives, up to 4,294,967,295 records.
 ///
-/// Faults, flushes and what was written at a fault are those of `replay_on`.
+/// Faults, flushes and what was written at a fault are those of `replay_up_to`.
 pub fn replay<R: Read + Drop, W: Write>(
     alloc: Global,
     reader: R,
     writer: &mut W,
     date: Day,
 ) -> Result<Summary, ReplayFault>
-    // All of the input is answered, and nothing else is written.
     ensures output { OnOk result (IfSome (R.remaining reader)
         (λ input. Appends (W.contents writer.old) (W.contents writer.new) (output date input))) }
     ensures counts { IfOk result (λ s. IfSome (R.remaining reader)
         (λ input. Counts s (responses (opened date) (lines_of input)))) }
     ensures few { OnOk result (IfSome (R.remaining reader) (λ input. length (lines_of input) < 2 ^ 32 - 1)) }
-    // The records before the fault are answered, and of the one that it came at, if any, what the fault leaves.
     ensures fault { IfErr result (λ e. IfSome (R.remaining reader)
         (λ input. StopsReplay e date input (W.contents writer.old) (W.contents writer.new))) }
     ensures room { IfErr result (λ e. e ≢ fault.Full) }
 {
-    replay_on::<TreePositions<Global>, R, W>(alloc, reader, writer, date)
+    replay_up_to::<TreePositions<Global>, R, W>(alloc, reader, writer, date, MOST_RECORDS)
 }

@@ -4,18 +4,18 @@ ghost use Rattle.cns_units.specs.Output.{Writes};
 ghost use Rattle.cns_book.specs.Log.{state_of};
 ghost use Rattle.cns_feed.specs.Output.{response_of, response_text, rest_text, rows_stated};
 ghost use Rattle.cns_statements.specs.Texts.{rows_text};
-ghost use Rattle.cns_feed.specs.Replay.{HasRoomFor, blank_log, log_after_line};
+ghost use Rattle.cns_feed.specs.Replay.{HasRoomFor, log_after_line};
 ghost use Rattle.cns_feed.specs.declared.fault.ReplayFault.TheVariants as fault;
 
 use crate::fault::{LineFault, ReplayFault};
 use crate::liable::write_batches;
 use crate::line::Line;
 use crate::text::{reply_text, write_fault};
-use cns_book::{Book, TakeFault};
+use cns_book::Book;
 use cns_positions::{Positions, TreePositions};
 use cns_statements::write_rows;
 use cns_terms::{Reply, Stated, Worker};
-use cns_units::{Day, WriteFault};
+use cns_units::WriteFault;
 use std::alloc::Global;
 use std::io::Write;
 
@@ -27,20 +27,6 @@ pub type ReplayBook = Book<TreePositions<Global>, Global>;
 pub(crate) enum Response {
     Replied(Reply),
     AtFault(LineFault),
-}
-
-// A book that has taken nothing, with room for as many commands as there may be records.
-pub(crate) fn new_book<P: Positions<Global>>(
-    alloc: Global,
-    date: Day,
-) -> Result<Book<P, Global>, ReplayFault>
-    ensures book { IfOk result (λ b. b.log ≡ blank_log date) }
-    ensures err { IfErr result (λ e. e ≡ fault.NoMemory) }
-{
-    match Book::<P, Global>::new(alloc, date) {
-        Ok(book) => Ok(book),
-        Err(_) => Err(ReplayFault::NoMemory),
-    }
 }
 
 // Takes the command that a record was read as, if it is one.
@@ -58,11 +44,8 @@ pub(crate) fn take_line<P: Positions<Global>>(
         Err(LineFault::NoMemory) => return Err(ReplayFault::NoMemory),
         Err(fault) => return Ok(Response::AtFault(*fault)),
     };
-    match book.take(Worker::FIRST, *command) {
-        Ok(receipt) => Ok(Response::Replied(receipt.reply)),
-        Err(TakeFault::NoMemory) => Err(ReplayFault::NoMemory),
-        Err(TakeFault::Full) => Err(ReplayFault::Full),
-    }
+    let receipt = book.take(Worker::FIRST, *command)?;
+    Ok(Response::Replied(receipt.reply))
 }
 
 // Writes the rows of a statement, from the sheet of its day.

@@ -2,7 +2,7 @@
 ghost use Rattle.std.specs.Prelude.{◌≡◌, ◌-◌, ◌^◌, IfSome, None, Some};
 ghost use Rattle.cns_terms.specs.Sources.{Ends, Gives, Repeats};
 ghost use Rattle.cns_feed.specs.Output.{lines_of};
-ghost use Rattle.cns_feed.specs.Records.{Setup};
+ghost use Rattle.cns_feed.specs.Records.{IsReady};
 ghost use Rattle.cns_feed.specs.Source.{FailsRead, ReadsItem, answer_of, end_of, told_of};
 
 use crate::fault::{LineFault, ReplayFault};
@@ -44,7 +44,7 @@ impl SourceEnd {
 
 // Reads the next record, where one more may be read.
 fn read_item<R: Read>(records: &mut Records<R>, left: u32) -> Result<Item, SourceFault>
-    requires { Setup records.old.rows }
+    requires { IsReady records.old }
     ensures { ReadsItem R.remaining left records.old records.new result }
 {
     if left == 0 {
@@ -75,7 +75,7 @@ pub struct CsvSource<R: Read> {
 impl<R: Read> Model for CsvSource<R> {
     ghost use Rattle.std.specs.Prelude.{◌≡◌, None, option_map};
     ghost use Rattle.csv.specs.Reading.{has_failed};
-    ghost use Rattle.cns_feed.specs.Records.{Setup};
+    ghost use Rattle.cns_feed.specs.Records.{IsReady};
     ghost use Rattle.cns_feed.specs.Source.{Telling, answer_of, lines_left, told_at};
 
     ghost Value = { Telling };
@@ -87,7 +87,7 @@ impl<R: Read> Model for CsvSource<R> {
       failed = has_failed s.records.rows;
     } };
 
-    ghost invariant = { λ s. s.ended ≡ None → Setup s.records.rows };
+    ghost invariant = { λ s. s.ended ≡ None → IsReady s.records };
 }
 
 impl<R: Read> CsvSource<R> {

@@ -6,7 +6,7 @@ use Rattle.cns_terms.specs.declared.buy_in.Given.{Given}
 use Rattle.cns_terms.specs.declared.command.Activity.{Activity}
 use Rattle.cns_terms.specs.Notices.{stage_by}
 use Rattle.cns_notices.proofs.NoticeSteps.{AreNumberedFrom, each_given, given_now, numbered}
-use Rattle.cns_notices.specs.Noticed.{executes, opened}
+use Rattle.cns_notices.specs.Noticed.{executes, new_notice}
 use Rattle.cns_notices.specs.Kept.{kept}
 
 -- ---- one notice
@@ -110,5 +110,5 @@ executed_by b n y = grind arith
 
 -- a notice more
 pub notice_more : (p : Posting) (J : Journal) (m : Movement) → ((k : ℕ) (y : Noticed) → touched p.activity (day J) k y ≡ built y.given (first_reached y.stage Live) (cond (is_live y.stage) 0 0 + y.received) (0 + y.executed))
-    → map (kept (p ∷ J)) (notices J ++ notice (length (notices J) + 1) (day J) m ∷ []) ≡ kept_notices J ++ opened (record { member = m.member; issue = m.issue; shares = m.shares; day = day J }) ∷ []
+    → map (kept (p ∷ J)) (notices J ++ notice (length (notices J) + 1) (day J) m ∷ []) ≡ kept_notices J ++ new_notice (record { member = m.member; issue = m.issue; shares = m.shares; day = day J }) ∷ []
 notice_more p J m h = grind (arith, given_now, map-append, untouched_by)

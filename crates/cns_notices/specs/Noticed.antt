@@ -9,8 +9,8 @@ use Rattle.cns_notices.specs.declared.noticed.Noticed.{Noticed}
 -- ---- one notice
 
 -- a notice that was given just now
-abbrev pub opened : Given → Noticed
-opened g = record { given = g; stage = Live; received = 0; executed = 0 }
+abbrev pub new_notice : Given → Noticed
+new_notice g = record { given = g; stage = Live; received = 0; executed = 0 }
 
 -- a notice at another stage
 abbrev pub at_stage : Stage → Noticed → Noticed

@@ -1,7 +1,7 @@
 // A notice, and what comes to it.
 ghost use Rattle.std.specs.Prelude.{◌≡◌, ◌+◌, ◌^◌, ◌<◌};
 ghost use Rattle.cns_terms.specs.Notices.{is_live};
-ghost use Rattle.cns_notices.specs.Noticed.{brought_to, executes, has_received, opened, remaining_of};
+ghost use Rattle.cns_notices.specs.Noticed.{brought_to, executes, has_received, new_notice, remaining_of};
 
 use cns_terms::{Given, Stage, long};
 use cns_units::Shares;
@@ -21,7 +21,7 @@ pub struct Noticed {
 impl Noticed {
     /// A notice that was given just now.
     pub fn new(given: Given) -> Self
-        ensures { result ≡ opened given }
+        ensures { result ≡ new_notice given }
     {
         Noticed {
             given,

@@ -2,7 +2,7 @@
 ghost use Rattle.std.specs.Prelude.{◌≡◌, ◌+◌, ◌^◌, ◌<◌, ◌≤◌, ◌∷◌, ◌++◌, [], length, map, None, IfOk, OnOk, OnErr, Some};
 ghost use Rattle.std.specs.Option.{ForSome, option_map};
 ghost use Rattle.cns_terms.specs.declared.buy_in.Stage.TheVariants.{Withdrawn};
-ghost use Rattle.cns_notices.specs.Noticed.{at_stage, ended, executes, expired, live_number, notice_at, opened, receives, remaining_of, with_notice};
+ghost use Rattle.cns_notices.specs.Noticed.{at_stage, ended, executes, expired, live_number, notice_at, new_notice, receives, remaining_of, with_notice};
 
 use crate::changes::{end_each, expire_from};
 use crate::latest::Latest;
@@ -68,7 +68,7 @@ impl<A: Allocator + Drop> Notices<A> {
         requires room { length self.old + 1 < 2 ^ 32 }
         requires days { ForSome (notice_at self.old (length self.old)) (λ x. x.given.day ≤ day) }
         ensures ok { OnOk result
-            (self.new ≡ self.old ++ opened
+            (self.new ≡ self.old ++ new_notice
             (record { member = member; issue = cusip; shares = shares; day = day }) ∷ []) }
         ensures number { IfOk result (λ k. k ≡ length self.new) }
         ensures err { OnErr result (self.new ≡ self.old) }

@@ -2,14 +2,14 @@
 -- For `play_with` and `step` of play.rt.
 use Rattle.std.proofs.Common.{◌≡◌, ℕ, ◌+◌, ◌≤◌, List, [], ◌∷◌, ◌++◌, length, take, Option, Ok, Err, refl, sym, ap, ◌∙◌, append_assoc, append-nil, length-append, arith}
 use Rattle.std.proofs.lemmas.List.{take_all}
-use Rattle.csv.specs.declared.reader.Reader.{Reader}
 use Rattle.cns_terms.specs.Common.{State, answer}
 use Rattle.cns_terms.specs.declared.reply.Reply.{Reply}
 use Rattle.cns_terms.specs.declared.reply.Reply.TheVariants as reply
 use Rattle.cns_book.specs.Log.{Log, state_of}
 use Rattle.cns_feed.specs.Line.{Line}
 use Rattle.cns_feed.specs.Output.{state_after, state_after_line}
-use Rattle.cns_feed.specs.Records.{Left}
+use Rattle.cns_feed.specs.Records.{Pending}
+use Rattle.cns_feed.specs.declared.records.Records.{Records}
 use Rattle.cns_feed.specs.Replay.{log_after, log_after_line}
 use Rattle.cns_feed.proofs.PlayLemmas.{log_after-append, state_of-after}
 use Rattle.cns_page.specs.Survey.{Known, Takes, counted, known, noted, noted_all, replied}
@@ -40,23 +40,23 @@ unfolding noted_all
 one_noted k S l = refl
 
 -- how far a play of lines has come: those that were taken and noted, one in each turn, and those that are left
-pub record Along {R : Type 0} (rem : R → Option (List ℕ)) (rdr : Reader R) (first now : Log) (from : Known) (s : Survey) (turns : ℕ) (all : List Line) : Type 0 where
+pub record Along {R : Type 0} (rem : R → Option (List ℕ)) (rs : Records R) (first now : Log) (from : Known) (s : Survey) (turns : ℕ) (all : List Line) : Type 0 where
   pub done : List Line
   pub rest : List Line
   pub whole : all ≡ done ++ rest
-  pub left : Left rem rdr rest
+  pub left : Pending rem rs rest
   pub count : length done ≡ turns
   pub log : now ≡ log_after first done
   pub knows : known s ≡ noted_all from (state_of first) done
 
 -- before any
-pub along_none : {R : Type 0} (rem : R → Option (List ℕ)) (rdr : Reader R) (first : Log) (s : Survey) (all : List Line) → Left rem rdr all → Along rem rdr first first (known s) s 0 all
+pub along_none : {R : Type 0} (rem : R → Option (List ℕ)) (rs : Records R) (first : Log) (s : Survey) (all : List Line) → Pending rem rs all → Along rem rs first first (known s) s 0 all
 unfolding log_after noted_all
-along_none rem rdr first s all left = record { done = []; rest = all; whole = refl; left = left; count = refl; log = refl; knows = refl }
+along_none rem rs first s all left = record { done = []; rest = all; whole = refl; left = left; count = refl; log = refl; knows = refl }
 
 -- the next line
-pub along_line : {R : Type 0} (rem : R → Option (List ℕ)) (a b : Reader R) (first now then : Log) (from : Known) (s t : Survey) (turns : ℕ) (all : List Line)
-    → ((rest : List Line) → Left rem a rest → Takes rem b now then s t rest) → Along rem a first now from s turns all → Along rem b first then from t (turns + 1) all
+pub along_line : {R : Type 0} (rem : R → Option (List ℕ)) (a b : Records R) (first now then : Log) (from : Known) (s t : Survey) (turns : ℕ) (all : List Line)
+    → ((rest : List Line) → Pending rem a rest → Takes rem b now then s t rest) → Along rem a first now from s turns all → Along rem b first then from t (turns + 1) all
 along_line rem a b first now then from s t turns all takes p =
     let one = takes p.rest p.left in
     let state : state_of now ≡ state_after (state_of first) p.done = ap state_of p.log ∙ state_of-after first p.done in
@@ -86,21 +86,21 @@ take_done [] rest = refl
 take_done (l ∷ done) rest = ap (λ ls. l ∷ ls) (take_done done rest)
 
 -- after as many turns as there may be
-pub along_full : {R : Type 0} (rem : R → Option (List ℕ)) (rdr : Reader R) (first now : Log) (from : Known) (s : Survey) (most : ℕ) (all : List Line)
-    → (turns : ℕ) → turns ≡ most → Along rem rdr first now from s turns all → Came first now from s most all
-along_full rem rdr first now from s most all turns is p =
+pub along_full : {R : Type 0} (rem : R → Option (List ℕ)) (rs : Records R) (first now : Log) (from : Known) (s : Survey) (most : ℕ) (all : List Line)
+    → (turns : ℕ) → turns ≡ most → Along rem rs first now from s turns all → Came first now from s most all
+along_full rem rs first now from s most all turns is p =
     came first now from s most all p.done (ap (λ n. take n all) (sym (p.count ∙ is)) ∙ ap (take (length p.done)) p.whole ∙ take_done p.done p.rest) p.log p.knows
 
 -- where no line is left
-pub along_end : {R : Type 0} (rem : R → Option (List ℕ)) (rdr : Reader R) (first now : Log) (from : Known) (s : Survey) (turns most : ℕ) (all : List Line)
-    → ((rest : List Line) → Left rem rdr rest → rest ≡ []) → turns ≤ most → Along rem rdr first now from s turns all → Came first now from s most all × (length all ≤ most)
-along_end rem rdr first now from s turns most all none few p =
+pub along_end : {R : Type 0} (rem : R → Option (List ℕ)) (rs : Records R) (first now : Log) (from : Known) (s : Survey) (turns most : ℕ) (all : List Line)
+    → ((rest : List Line) → Pending rem rs rest → rest ≡ []) → turns ≤ most → Along rem rs first now from s turns all → Came first now from s most all × (length all ≤ most)
+along_end rem rs first now from s turns most all none few p =
     let whole : all ≡ p.done = p.whole ∙ ap (λ ls. p.done ++ ls) (none p.rest p.left) ∙ append-nil p.done in
     let short : length all ≤ most = let c = p.count in let l = ap length whole in omega (arith, c, l, few) in
     (came first now from s most all p.done (take_all most all short ∙ whole) p.log p.knows, short)
 
 -- as many lines were taken as there were turns
-pub along_short : {R : Type 0} (rem : R → Option (List ℕ)) (rdr : Reader R) (first now : Log) (from : Known) (s : Survey) (turns : ℕ) (all : List Line)
-    → Along rem rdr first now from s turns all → turns ≤ length all
-along_short rem rdr first now from s turns all p =
+pub along_short : {R : Type 0} (rem : R → Option (List ℕ)) (rs : Records R) (first now : Log) (from : Known) (s : Survey) (turns : ℕ) (all : List Line)
+    → Along rem rs first now from s turns all → turns ≤ length all
+along_short rem rs first now from s turns all p =
     let whole = ap length p.whole in let both = length-append p.done p.rest in let count = p.count in omega (arith, whole, both, count)

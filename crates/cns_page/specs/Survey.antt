@@ -1,6 +1,5 @@
 -- What is known of the records of an input: which of them want a person, and which closed a day.
 use Rattle.std.specs.Prelude.{◌≡◌, ◌<◌, ℕ, ◌+◌, List, [], ◌∷◌, ◌++◌, length, map, slice_get, Option, Some, None, IfSome, Ok, Err}
-use Rattle.csv.specs.declared.reader.Reader.{Reader}
 use Rattle.cns_terms.specs.Common.{Day, State, answer, opened}
 use Rattle.cns_terms.specs.declared.refusal.Refusal.{Refusal}
 use Rattle.cns_terms.specs.declared.reply.Closed.{Closed}
@@ -10,7 +9,8 @@ use Rattle.cns_book.specs.Log.{Log, state_of}
 use Rattle.cns_feed.specs.Line.{Line}
 use Rattle.cns_feed.specs.Output.{state_after_line}
 use Rattle.cns_feed.specs.Replay.{blank_log, log_after, log_after_line}
-use Rattle.cns_feed.specs.Records.{Left, Setup}
+use Rattle.cns_feed.specs.Records.{IsReady, Pending}
+use Rattle.cns_feed.specs.declared.records.Records.{Records}
 use Rattle.cns_feed.specs.declared.fault.LineFault.{LineFault}
 use Rattle.cns_page.specs.declared.finding.Finding.{Finding}
 use Rattle.cns_page.specs.declared.finding.Outcome.{Outcome}
@@ -96,20 +96,20 @@ pub record IsChosen (closes : List Close) (day : Option Day) (place : ℕ) : Typ
   pub last : day ≡ None → place + 1 ≡ length closes
 
 -- the first of some lines was taken and noted, and the others are left
-pub record Takes {R : Type 0} (rem : R → Option (List ℕ)) (rdr : Reader R) (before after : Log) (s t : Survey) (all : List Line) : Type 0 where
+pub record Takes {R : Type 0} (rem : R → Option (List ℕ)) (now : Records R) (before after : Log) (s t : Survey) (all : List Line) : Type 0 where
   pub line : Line
   pub rest : List Line
   pub first : all ≡ line ∷ rest
-  pub left : Left rem rdr rest
+  pub left : Pending rem now rest
   pub log : after ≡ log_after_line before line
   pub knows : known t ≡ noted (known s) (state_of before) line
 
--- what a read did to a reader, a book and a survey: where it answers that a record ends there, the next line was taken and
+-- what a read did to records, a book and a survey: where it answers that a record ends there, the next line was taken and
 -- noted; where it answers None, no line was left
-abbrev pub Steps : {R : Type 0} → (R → Option (List ℕ)) → Reader R → Reader R → Log → Log → Survey → Survey → Option ℕ → Type 0
+abbrev pub Steps : {R : Type 0} → (R → Option (List ℕ)) → Records R → Records R → Log → Log → Survey → Survey → Option ℕ → Type 0
 Steps rem a b before after s t (Some end) =
-    Setup b × (t.records ≡ s.records + 1) × ((all : List Line) → Left rem a all → Takes rem b before after s t all)
-Steps rem a b before after s t None = (after ≡ before) × (t ≡ s) × ((all : List Line) → Left rem a all → all ≡ [])
+    IsReady b × (t.records ≡ s.records + 1) × ((all : List Line) → Pending rem a all → Takes rem b before after s t all)
+Steps rem a b before after s t None = (after ≡ before) × (t ≡ s) × ((all : List Line) → Pending rem a all → all ≡ [])
 
 -- a book and a survey after lines, which began on a date
 pub record ComesTo (opening : Day) (lines : List Line) (log : Log) (s : Survey) : Type 0 where

@@ -11,88 +11,111 @@ use cns_feed::ReplayBook;
 use cns_terms::{Activity, Command, Refusal};
 use cns_units::{Account, Cusip};
 
-// The issue that a command names: of an exchange the old one.
-fn issue_of(command: &Command) -> Option<Cusip> {
-    match command {
-        Command::Activity(activity) => issue_in(activity),
-        Command::Position(key) => Some(key.issue),
-        Command::Statement { .. } => None,
+// What a command names that a refusal of it may look at. It is written out, so that a new command cannot be without it.
+#[derive(Clone, Copy)]
+struct Named {
+    // Of an exchange the old one.
+    issue: Option<Cusip>,
+    successor: Option<Cusip>,
+    // Of a trade the buyer.
+    account: Option<Account>,
+    // A trade's seller, and for a receipt the corporation, whose position below 0 is what is on hand.
+    other: Option<Account>,
+    notice: Option<u32>,
+}
+
+const NOTHING: Named = Named {
+    issue: None,
+    successor: None,
+    account: None,
+    other: None,
+    notice: None,
+};
+
+fn of_issue(issue: Cusip) -> Named {
+    Named {
+        issue: Some(issue),
+        ..NOTHING
     }
 }
 
-fn issue_in(activity: &Activity) -> Option<Cusip> {
+fn of_account(account: Account, issue: Cusip) -> Named {
+    Named {
+        issue: Some(issue),
+        account: Some(account),
+        ..NOTHING
+    }
+}
+
+fn of_notice(notice: u32) -> Named {
+    Named {
+        notice: Some(notice),
+        ..NOTHING
+    }
+}
+
+fn names_in(activity: &Activity) -> Named {
     match activity {
-        Activity::Issue(listing) | Activity::Price(listing) => Some(listing.issue),
-        Activity::Trade(trade) => Some(trade.issue),
-        Activity::Deliver(movement) | Activity::Receive(movement) | Activity::Notice(movement) => {
-            Some(movement.issue)
+        Activity::Member(_) | Activity::Close(_) => NOTHING,
+        Activity::Issue(listing) | Activity::Price(listing) => of_issue(listing.issue),
+        Activity::Trade(trade) => Named {
+            other: Some(trade.seller.account()),
+            ..of_account(trade.buyer.account(), trade.issue)
+        },
+        Activity::Deliver(movement) | Activity::Notice(movement) => {
+            of_account(movement.member.account(), movement.issue)
         }
-        Activity::Dividend(declared) => Some(declared.issue),
-        Activity::Split(split) => Some(split.issue),
-        Activity::Exchange(exchange) => Some(exchange.old),
-        Activity::Member(_) | Activity::Withdraw(_) | Activity::Execute(_) | Activity::Close(_) => {
-            None
-        }
+        Activity::Receive(movement) => Named {
+            other: Some(Account::CORPORATION),
+            ..of_account(movement.member.account(), movement.issue)
+        },
+        Activity::Dividend(declared) => of_issue(declared.issue),
+        Activity::Split(split) => of_issue(split.issue),
+        Activity::Exchange(exchange) => Named {
+            successor: Some(exchange.successor),
+            ..of_issue(exchange.old)
+        },
+        Activity::Withdraw(number) => of_notice(*number),
+        Activity::Execute(execution) => of_notice(execution.notice),
     }
 }
 
-// The successor that a command names.
-fn successor_of(command: &Command) -> Option<Cusip> {
+fn names_of(command: &Command) -> Named {
     match command {
-        Command::Activity(Activity::Exchange(exchange)) => Some(exchange.successor),
-        _ => None,
+        Command::Activity(activity) => names_in(activity),
+        Command::Position(key) => of_account(key.account, key.issue),
+        Command::Statement { .. } => NOTHING,
     }
 }
 
-// The account that a command is about: of a trade the buyer.
-fn account_of(command: &Command) -> Option<Account> {
-    match command {
-        Command::Activity(Activity::Trade(trade)) => Some(trade.buyer.account()),
-        Command::Activity(
-            Activity::Deliver(movement) | Activity::Receive(movement) | Activity::Notice(movement),
-        ) => Some(movement.member.account()),
-        Command::Position(key) => Some(key.account),
-        _ => None,
-    }
+// What decides a refusal, beside dates and notices.
+#[derive(Clone, Copy, Debug, PartialEq, Eq)]
+enum Decider {
+    Issues,
+    Positions,
+    Neither,
 }
 
-// The other account that a command is about: a trade's seller, and for a receipt the corporation, whose position below 0
-// is what is on hand.
-fn other_account_of(command: &Command) -> Option<Account> {
-    match command {
-        Command::Activity(Activity::Trade(trade)) => Some(trade.seller.account()),
-        Command::Activity(Activity::Receive(_)) => Some(Account::CORPORATION),
-        _ => None,
-    }
-}
-
-// The notice that a command or its refusal names.
-fn notice_of(command: &Command, refusal: Refusal) -> Option<u32> {
-    match (command, refusal) {
-        (_, Refusal::AlreadyNoticed { number }) => Some(number),
-        (Command::Activity(Activity::Withdraw(number)), _) => Some(*number),
-        (Command::Activity(Activity::Execute(execution)), _) => Some(execution.notice),
-        _ => None,
-    }
-}
-
-// Whether positions decided it.
-fn is_of_positions(refusal: Refusal) -> bool {
+fn decider_of(refusal: Refusal) -> Decider {
     match refusal {
+        Refusal::IssueExists | Refusal::NoSuchIssue | Refusal::Retired => Decider::Issues,
         Refusal::NoSuchMember
         | Refusal::ExceedsPosition
         | Refusal::NotOnHand
         | Refusal::NotLong
-        | Refusal::TooLarge => true,
-        _ => false,
-    }
-}
-
-// Whether it was decided by which issues are listed.
-fn is_of_issues(refusal: Refusal) -> bool {
-    match refusal {
-        Refusal::IssueExists | Refusal::NoSuchIssue | Refusal::Retired => true,
-        _ => false,
+        | Refusal::TooLarge => Decider::Positions,
+        Refusal::MemberExists
+        | Refusal::SameParty
+        | Refusal::SameIssue
+        | Refusal::WrongDay
+        | Refusal::SeenReference
+        | Refusal::AlreadyNoticed { .. }
+        | Refusal::NoSuchNotice
+        | Refusal::NotLive
+        | Refusal::TooEarly
+        | Refusal::NotLiable { .. }
+        | Refusal::NoSuchDay
+        | Refusal::PendingTrades => Decider::Neither,
     }
 }
 
@@ -108,7 +131,7 @@ fn price(book: &ReplayBook, issue: Cusip) -> Option<u64>
 fn quote(book: &ReplayBook, refusal: Refusal, issue: Option<Cusip>) -> Option<Quote>
     ensures { IfSome result (IsQuoted (state_of book.now.log)) }
 {
-    if !is_of_issues(refusal) {
+    if decider_of(refusal) != Decider::Issues {
         return None;
     }
     let issue = issue?;
@@ -136,7 +159,7 @@ fn stand(
 ) -> Option<Stand>
     ensures { IfSome result (IsStanding (state_of book.now.log)) }
 {
-    if !is_of_positions(refusal) {
+    if decider_of(refusal) != Decider::Positions {
         return None;
     }
     let account = account?;
@@ -148,11 +171,14 @@ fn stand(
     })
 }
 
-// The notice that a command or its refusal names, as it stands now.
-fn named(book: &ReplayBook, command: &Command, refusal: Refusal) -> Option<Numbered>
+// The notice that a refusal or its command names, as it stands now.
+fn numbered(book: &ReplayBook, refusal: Refusal, given: Option<u32>) -> Option<Numbered>
     ensures { IfSome result (IsNumbered (state_of book.now.log)) }
 {
-    let number = notice_of(command, refusal)?;
+    let number = match refusal {
+        Refusal::AlreadyNoticed { number } => number,
+        _ => given?,
+    };
     let notice = book.notice(number)?;
     Some(Numbered { number, notice })
 }
@@ -164,13 +190,14 @@ pub fn facts_of(book: &ReplayBook, command: &Command, refusal: Refusal) -> Facts
     ensures day { result.day ≡ day (journal_of (state_of book.now.log)) }
     ensures shown { AreShown (state_of book.now.log) result }
 {
+    let named = names_of(command);
     Facts {
         today: book.today(),
         day: book.day(),
-        quote: quote(book, refusal, issue_of(command)),
-        successor: quote(book, refusal, successor_of(command)),
-        stand: stand(book, refusal, account_of(command), issue_of(command)),
-        other: stand(book, refusal, other_account_of(command), issue_of(command)),
-        notice: named(book, command, refusal),
+        quote: quote(book, refusal, named.issue),
+        successor: quote(book, refusal, named.successor),
+        stand: stand(book, refusal, named.account, named.issue),
+        other: stand(book, refusal, named.other, named.issue),
+        notice: numbered(book, refusal, named.notice),
     }
 }

@@ -20,7 +20,6 @@ mod days;
 mod entry;
 mod escape;
 mod facts;
-mod fault;
 mod figures;
 mod finding;
 mod handed;

@@ -11,16 +11,12 @@ use crate::asked::Asked;
 use crate::page::{Page, write_page};
 use crate::play::{Played, play};
 use crate::survey::{Close, Survey, place_of};
-use cns_feed::{ReplayBook, ReplayFault};
+use cns_feed::{MOST_RECORDS, ReplayBook, ReplayFault};
 use cns_program::Fault;
 use cns_sheets::Sheet;
 use cns_units::Day;
 use std::alloc::Global;
-use std::convert::From;
 use std::io::Write;
-
-// More records than these are a fault of reading, as for a replay.
-const MOST_RECORDS: u64 = u32::MAX as u64;
 
 // A survey, where it is of all records.
 fn if_whole(survey: Survey, is_whole: bool) -> Result<Survey, ReplayFault>
@@ -92,10 +88,7 @@ fn write_day<O: Write>(
     ensures { OnOk result (HasDay asked.now.opening input.now survey.now place (O.contents output.old) (O.contents output.new)) }
 {
     let close = close_at(survey, place);
-    let book = match book_after(alloc, asked, input, close.record) {
-        Ok(book) => book,
-        Err(fault) => return Err(Fault::from(fault)),
-    };
+    let book = book_after(alloc, asked, input, close.record)?;
     let Some(sheet) = sheet_of(&book, close.date) else {
         return Err(Fault::NoSuchDay);
     };
@@ -108,10 +101,7 @@ fn write_day<O: Write>(
         book: &book,
         sheet,
     };
-    match write_page(alloc, &page, output) {
-        Ok(()) => Ok(()),
-        Err(fault) => Err(Fault::from(fault)),
-    }
+    write_page(alloc, &page, output)
 }
 
 /// Writes the page that is asked for, of the records of an input, and hands it on.
@@ -126,10 +116,7 @@ pub(crate) fn make<O: Write>(
 ) -> Result<(), Fault>
     ensures { OnOk result (HasPage asked.now input.now (O.contents output.old) (O.contents output.new)) }
 {
-    let survey = match survey_of(alloc, asked, input, MOST_RECORDS) {
-        Ok(survey) => survey,
-        Err(fault) => return Err(Fault::from(fault)),
-    };
+    let survey = survey_of(alloc, asked, input, u64::from(MOST_RECORDS))?;
     let Some(place) = place_of(survey.closes.as_slice(), asked.day) else {
         return Err(Fault::NoSuchDay);
     };

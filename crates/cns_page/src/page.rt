@@ -8,7 +8,6 @@ use crate::accounts::write_accounts;
 use crate::ahead::{trades_ahead, write_ahead};
 use crate::attention::{DAY, OPEN, write_findings, write_numbers};
 use crate::days::write_days;
-use crate::fault::PageFault;
 use crate::figures::{Figures, line_of_days};
 use crate::finding::{Finding, Numbered};
 use crate::handed::{write_handed, write_head};
@@ -17,11 +16,11 @@ use crate::notices::{live_notices, write_notices};
 use crate::shorts::{Aged, shorts_of, write_shorts};
 use crate::survey::{Close, Survey};
 use cns_feed::ReplayBook;
+use cns_program::Fault;
 use cns_sheets::Sheet;
 use cns_terms::{NoMemory, Trade};
 use cns_units::{Day, WriteFault};
 use std::alloc::Global;
-use std::convert::From;
 use std::io::Write;
 
 /// What a page is of: a closed day, with the book as its close left it.
@@ -227,13 +226,11 @@ fn write_sections<W: Write>(
 ///
 /// `NoMemory` where a growth was refused, and `Write` where the writer fails, takes no byte or cannot be flushed.
 /// What was written before stands.
-pub fn write_page<W: Write>(alloc: Global, page: &Page<'_>, writer: &mut W) -> Result<(), PageFault>
+pub fn write_page<W: Write>(alloc: Global, page: &Page<'_>, writer: &mut W) -> Result<(), Fault>
     ensures { OnOk result (ShowsDay page.now.book.now.log page.now.survey.now page.now.place page.now.close page.now.sheet.now
         (W.contents writer.old) (W.contents writer.new)) }
 {
     let lists = lists_of(alloc, page)?;
-    match write_sections(page, &lists, writer) {
-        Ok(()) => Ok(()),
-        Err(fault) => Err(PageFault::from(fault)),
-    }
+    write_sections(page, &lists, writer)?;
+    Ok(())
 }

@@ -82,10 +82,8 @@ impl Survey {
             record: self.records,
             findings: self.findings.len(),
         };
-        match self.closes.push(close) {
-            Ok(()) => Ok(()),
-            Err(_) => Err(NoMemory),
-        }
+        self.closes.push(close)?;
+        Ok(())
     }
 
     /// Notes why a record with the text wants a person.
@@ -98,10 +96,8 @@ impl Survey {
             text,
             outcome,
         };
-        match self.findings.push(finding) {
-            Ok(()) => Ok(()),
-            Err(_) => Err(NoMemory),
-        }
+        self.findings.push(finding)?;
+        Ok(())
     }
 }
 

@@ -9,6 +9,7 @@ ghost use Rattle.cns_program.specs.Lines.{fault_file, fault_line, fault_name};
 use cns_desk::RunFault;
 use cns_feed::ReplayFault;
 use cns_statements::PackFault;
+use cns_terms::NoMemory;
 use cns_units::{Word, WriteFault, write_line};
 use std::convert::From;
 use std::io::Write;
@@ -46,6 +47,26 @@ impl From<ReplayFault> for Fault {
             ReplayFault::NoMemory => Fault::NoMemory,
             ReplayFault::Full => Fault::Full,
         }
+    }
+}
+
+impl From<NoMemory> for Fault {
+    ghost use Rattle.cns_program.specs.declared.fault.Fault.TheVariants as faults;
+
+    ghost from_gives = { λ _ e. e ≡ faults.NoMemory };
+
+    fn from(_missed: NoMemory) -> Fault {
+        Fault::NoMemory
+    }
+}
+
+impl From<WriteFault> for Fault {
+    ghost use Rattle.cns_program.specs.declared.fault.Fault.TheVariants as faults;
+
+    ghost from_gives = { λ _ e. e ≡ faults.Write };
+
+    fn from(_fault: WriteFault) -> Fault {
+        Fault::Write
     }
 }
 

@@ -1,5 +1,5 @@
 // The day that a close opens: positions are rolled, and the trades that are due are booked.
-ghost use Rattle.std.specs.Prelude.{◌≡◌, [], IfOk, IfSome, IsSome, MatchOption, None, OnErr, OnOk, filter, true};
+ghost use Rattle.std.specs.Prelude.{◌≡◌, [], IfOk, IfSome, MatchOption, None, OnErr, OnOk, filter, true};
 ghost use Rattle.std.specs.List.{flat_map, list_any};
 ghost use Rattle.cns_terms.specs.declared.holding.Holding.{Holding};
 ghost use Rattle.cns_terms.specs.declared.holding.Key.{Key};

@@ -8,5 +8,5 @@ gather-requires-clause-fresh g c κs within = fresh_all c.len.result c.in_ok-des
 pub audit-requires : goal.audit-requires
 audit-requires g c =
     let few : vec_len c.args.sources ≤ 64 = at_most (vec_len c.args.sources) _ _ (rw c.len.ensures at c.in_ok-desk.ensures.workers) (λ e. cc) in
-    let same = run_len g.S.Source.may_fail g.S.Source.told c.args.sources.items c.in-Ok.gathered.logs.items c.in-Ok.gathered.ends.items c.in-Ok.ensures.ran in
+    let same = run_len g.S.Source.may_fail g.S.Source.told c.args.sources.items c.in_ok-seats.field-0.logs.items c.in_ok-seats.field-0.ends.items c.in_ok-seats.ensures.ran in
     rw (c.as_slice.ensures.value, same) (omega (arith, few, c.args.sources.ok))

@@ -11,5 +11,5 @@ joining-preserved g c =
     let ran = run_more g.S.Source.may_fail g.S.Source.told done c.joining.logs.items c.joining.ends.items h.promise.0.value c.join-seat.result.log c.join-seat.result.end c.joining.invariant.ran.2 c.join-seat.ensures in
     record {
       seats = search rules;
-      ran = (done ++ h.promise.0.value ∷ [], sources_same done _ c.joining.handles.items c.remove-handle.new.self.items h c.joining.invariant.ran.1 some c.remove-handle.ensures.value rest, rw (c.in-Ok-push.ensures.items, c.in-Ok-push-2.ensures.items) ran);
+      ran = (done ++ h.promise.0.value ∷ [], sources_same done _ c.joining.handles.items c.remove-handle.new.self.items h c.joining.invariant.ran.1 some c.remove-handle.ensures.value rest, rw (c.in_ok-push-2.ensures.items, c.in_ok-push-3.ensures.items) ran);
     }

@@ -7,7 +7,7 @@ use Rattle.cns_feed.proofs.loader.take_all.Goals as goal
 pub loop-turn-init : goal.loop-turn-init
 loop-turn-init g c = record {
   counts = up_to-none _ c.new-summary.ensures;
-  setup = c.requires.setup;
+  ready = c.requires.ready;
   room = let all : c.args.most - 0 ≡ c.args.most = omega arith in rw all c.requires.room;
   along = λ all p. along-none g.R.Read.remaining c.args.records.now _ _ None all c.new-summary.ensures p;
 }
@@ -44,7 +44,7 @@ loop-turn-preserved g c =
     let q = c.in_ok-response.ensures in
     record {
       counts = up_to-line _ _ _ _ c.add.ensures inv.counts;
-      setup = one.1;
+      ready = one.1;
       room = room-line c.loop-turn.book.log _ _ (c.args.most - (c.loop-turn._turn + 1)) q.after (omega (arith, c.loop-turn-test.true, inv.room));
       along = λ all p. along-line g.R.Read.remaining c.loop-turn.records c.read_line.new.self _ _ _ _ _ None None None _ _ _ all one.0 q.after q.response c.add.ensures tt (inv.along all p);
     }

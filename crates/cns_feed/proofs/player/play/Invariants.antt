@@ -1,6 +1,6 @@
 use Rattle.std.proofs.Common.{◌-◌, List}
 use Rattle.cns_feed.specs.Line.{Line}
-use Rattle.cns_feed.specs.Records.{Pending, Setup}
+use Rattle.cns_feed.specs.Records.{IsReady, Pending}
 use Rattle.cns_feed.specs.Replay.{HasRoomFor, IsUpTo}
 use Rattle.cns_feed.proofs.PlayLemmas.{Along}
 use Rattle.cns_feed.proofs.player.play.Given as goal
@@ -8,7 +8,7 @@ use Rattle.cns_feed.proofs.player.play.Given as goal
 abbrev pub invariant-loop-turn : goal.invariant-loop-turn
 invariant-loop-turn g l = record {
   counts : IsUpTo l.summary l._turn;
-  setup : Setup l.records.rows;
+  ready : IsReady l.records;
   room : HasRoomFor l.book.log (l.fn.most - l._turn);
   along : (all : List Line) → Pending g.R.Read.remaining l.fn.records all
       → Along g.R.Read.remaining l.records l.fn.book.log l.book.log l.summary (g.W.Write.contents l.fn.writer) (g.W.Write.contents l.writer) l._turn all;

@@ -5,28 +5,28 @@ use Rattle.cns_page.proofs.play.play_with.Goals as goal
 
 pub loop-turn-init : goal.loop-turn-init
 loop-turn-init g c = record {
-  setup = c.requires.setup;
+  ready = c.requires.ready;
   few = omega arith;
-  records = c.requires.none;
-  along = λ all left. along_none g.R.Read.remaining c.args.rows.now c.args.book.now.log c.args.survey.now all left;
+  count = c.requires.none;
+  along = λ all left. along_none g.R.Read.remaining c.args.records.now c.args.book.now.log c.args.survey.now all left;
 }
 
 pub returns-in-None-clause-after : goal.returns-in-None-clause-after
 returns-in-None-clause-after g c all left =
     let none = rw c.in-None.is at c.in_ok-end.ensures in
-    let came = along_end g.R.Read.remaining c.loop-turn.rows _ _ _ _ _ c.args.most all none.2 c.loop-turn.invariant.few (c.loop-turn.invariant.along all left) in
+    let came = along_end g.R.Read.remaining c.loop-turn.records _ _ _ _ _ c.args.most all none.2 c.loop-turn.invariant.few (c.loop-turn.invariant.along all left) in
     none.0 ∙ came.0.log
 
 pub returns-in-None-clause-known : goal.returns-in-None-clause-known
 returns-in-None-clause-known g c all left =
     let none = rw c.in-None.is at c.in_ok-end.ensures in
-    let came = along_end g.R.Read.remaining c.loop-turn.rows _ _ _ _ _ c.args.most all none.2 c.loop-turn.invariant.few (c.loop-turn.invariant.along all left) in
+    let came = along_end g.R.Read.remaining c.loop-turn.records _ _ _ _ _ c.args.most all none.2 c.loop-turn.invariant.few (c.loop-turn.invariant.along all left) in
     ap known none.1 ∙ came.0.knows
 
 pub returns-in-None-clause-whole : goal.returns-in-None-clause-whole
 returns-in-None-clause-whole g c true all left =
     let none = rw c.in-None.is at c.in_ok-end.ensures in
-    let came = along_end g.R.Read.remaining c.loop-turn.rows _ _ _ _ _ c.args.most all none.2 c.loop-turn.invariant.few (c.loop-turn.invariant.along all left) in
+    let came = along_end g.R.Read.remaining c.loop-turn.records _ _ _ _ _ c.args.most all none.2 c.loop-turn.invariant.few (c.loop-turn.invariant.along all left) in
     came.1
 
 pub loop-turn-preserved : goal.loop-turn-preserved
@@ -34,18 +34,18 @@ loop-turn-preserved g c =
     let inv = c.loop-turn.invariant in
     let one = rw c.in-Some.is at c.in_ok-end.ensures in
     record {
-      setup = one.0;
+      ready = one.0;
       few = omega (arith, c.loop-turn-test.true);
-      records = one.1 ∙ ap (λ n. n + 1) inv.records;
-      along = λ all left. along_line g.R.Read.remaining c.loop-turn.rows c.step.new.rows _ _ _ _ _ _ _ all one.2 (inv.along all left);
+      count = one.1 ∙ ap (λ n. n + 1) inv.count;
+      along = λ all left. along_line g.R.Read.remaining c.loop-turn.records c.step.new.records _ _ _ _ _ _ _ all one.2 (inv.along all left);
     }
 
 pub returns-clause-after : goal.returns-clause-after
 returns-clause-after g c all left =
     let inv = c.loop-turn.invariant in
-    (along_full g.R.Read.remaining c.loop-turn.rows _ _ _ _ c.args.most all _ (omega (arith, inv.few, c.loop-turn-test.false)) (inv.along all left)).log
+    (along_full g.R.Read.remaining c.loop-turn.records _ _ _ _ c.args.most all _ (omega (arith, inv.few, c.loop-turn-test.false)) (inv.along all left)).log
 
 pub returns-clause-known : goal.returns-clause-known
 returns-clause-known g c all left =
     let inv = c.loop-turn.invariant in
-    (along_full g.R.Read.remaining c.loop-turn.rows _ _ _ _ c.args.most all _ (omega (arith, inv.few, c.loop-turn-test.false)) (inv.along all left)).knows
+    (along_full g.R.Read.remaining c.loop-turn.records _ _ _ _ c.args.most all _ (omega (arith, inv.few, c.loop-turn-test.false)) (inv.along all left)).knows

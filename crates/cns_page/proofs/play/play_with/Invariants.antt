@@ -1,15 +1,15 @@
 use Rattle.std.proofs.Common.{◌≡◌, ◌≤◌, List}
 use Rattle.cns_feed.specs.Line.{Line}
-use Rattle.cns_feed.specs.Records.{Left, Setup}
+use Rattle.cns_feed.specs.Records.{IsReady, Pending}
 use Rattle.cns_page.specs.Survey.{known}
 use Rattle.cns_page.proofs.PlayLemmas.{Along}
 use Rattle.cns_page.proofs.play.play_with.Given as goal
 
 abbrev pub invariant-loop-turn : goal.invariant-loop-turn
 invariant-loop-turn g l = record {
-  setup : Setup l.rows;
+  ready : IsReady l.records;
   few : l._turn ≤ l.fn.most;
-  records : l.survey.records ≡ l._turn;
-  along : (all : List Line) → Left g.R.Read.remaining l.fn.rows all
-      → Along g.R.Read.remaining l.rows l.fn.book.log l.book.log (known l.fn.survey) l.survey l._turn all;
+  count : l.survey.records ≡ l._turn;
+  along : (all : List Line) → Pending g.R.Read.remaining l.fn.records all
+      → Along g.R.Read.remaining l.records l.fn.book.log l.book.log (known l.fn.survey) l.survey l._turn all;
 }

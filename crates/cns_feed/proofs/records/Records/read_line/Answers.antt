@@ -1,6 +1,6 @@
 use Rattle.std.proofs.Common.{true}
 use Rattle.csv.specs.Records.{fields_of}
-use Rattle.cns_feed.specs.Records.{given_remaining}
+use Rattle.cns_feed.specs.Records.{remaining_under}
 use Rattle.cns_feed.proofs.RecordLemmas.{ends-failed, next_line, no_line, setup_kept}
 use Rattle.cns_feed.proofs.records.Records.read_line.Goals as goal
 
@@ -9,8 +9,8 @@ returns-in-Ok-true g c =
     let q = c.in-Ok-true.ensures in
     let setup = c.requires in
     let reads = (rw c.in-Ok-true.field-0-test at q.reads) setup.no_trim setup.ready in (
-      next_line (given_remaining g.R.Read.remaining) c.args.self.now.rows c.read_byte_record.new.self (fields_of c.read_byte_record.new.row) c.command_of.result c.command_of.ensures setup reads,
-      setup_kept (given_remaining g.R.Read.remaining) _ _ true (fields_of c.read_byte_record.new.row) setup reads (q.ready setup.no_trim) q.flexible,
+      next_line (remaining_under g.R.Read.remaining) c.args.self.now.rows c.read_byte_record.new.self (fields_of c.read_byte_record.new.row) c.command_of.result c.command_of.ensures setup reads,
+      setup_kept (remaining_under g.R.Read.remaining) _ _ true (fields_of c.read_byte_record.new.row) setup reads (q.ready setup.no_trim) q.flexible,
     )
 
 pub returns-in-Ok-false : goal.returns-in-Ok-false
@@ -18,7 +18,7 @@ returns-in-Ok-false g c =
     let q = c.in-Ok-false.ensures in
     let setup = c.requires in
     let reads = (rw c.in-Ok-false.field-0-test at q.reads) setup.no_trim setup.ready in
-    no_line (given_remaining g.R.Read.remaining) c.args.self.now.rows c.read_byte_record.new.self (fields_of c.read_byte_record.new.row) setup reads
+    no_line (remaining_under g.R.Read.remaining) c.args.self.now.rows c.read_byte_record.new.self (fields_of c.read_byte_record.new.row) setup reads
 
 pub returns-in-Err : goal.returns-in-Err
 returns-in-Err g c =

@@ -2,35 +2,35 @@
 ghost use Rattle.std.specs.Prelude.{◌≡◌};
 ghost use Rattle.std.specs.Io.KnownBytes.{ReadConsumes};
 ghost use Rattle.std.specs.Io.{ReadsAtMost};
-ghost use Rattle.cns_feed.specs.Records.{given_remaining};
+ghost use Rattle.cns_feed.specs.Records.{remaining_under};
 
-use crate::place::Place;
+use crate::scan::ScanState;
 use std::io;
 use std::io::{ErrorKind, Read};
 
 /// Passes on the bytes of a reader, and counts them. Up to `whole` the records among them can be read without a call of
 /// the reader.
 ///
-/// No clause speaks of the numbers and the place: a wrong one costs time or a late reply, never a wrong reply.
+/// No clause speaks of the numbers and the state: a wrong one costs time or a late reply, never a wrong reply.
 #[derive(Drop)]
-pub(crate) struct Given<R> {
+pub(crate) struct CountingReader<R> {
     reader: R,
     count: u64,
     whole: u64,
-    // Where the bytes that were given end.
-    place: Place,
+    // Where in a record the bytes that were given end.
+    state: ScanState,
 }
 
-impl<R> Given<R> {
+impl<R> CountingReader<R> {
     /// No byte was given yet.
-    pub(crate) fn new(reader: R) -> Given<R>
+    pub(crate) fn new(reader: R) -> CountingReader<R>
         ensures { result.reader ≡ reader }
     {
-        Given {
+        CountingReader {
             reader,
             count: 0,
             whole: 0,
-            place: Place::START,
+            state: ScanState::START,
         }
     }
 
@@ -40,12 +40,12 @@ impl<R> Given<R> {
     }
 }
 
-impl<R: Read> Read for Given<R> {
-    ghost remaining = { given_remaining R.remaining };
+impl<R: Read> Read for CountingReader<R> {
+    ghost remaining = { remaining_under R.remaining };
 
     fn read(&mut self, buf: &mut [u8]) -> io::Result<usize> {
         let count = read_some(&mut self.reader, buf)?;
-        let end = self.place.pass(&buf[..count]);
+        let end = self.state.pass(&buf[..count]);
         self.whole = past(self.count, end, self.whole);
         self.count = self.count.saturating_add(count as u64);
         Ok(count)

@@ -1,9 +1,11 @@
 // Where in a record an input stands.
+ghost use Rattle.std.specs.Prelude.{◌≡◌, ◌==◌, ◌||◌};
+
 use memchr::memchr;
 
 /// Where in a record the bytes of an input end, so that the next one can be told to end the record or not.
 #[derive(Clone, Copy, Debug, PartialEq, Eq)]
-pub(crate) enum Place {
+pub(crate) enum ScanState {
     /// In the byte order mark that an input may begin with, after so many bytes of it.
     Mark(u8),
     /// Before a record.
@@ -18,7 +20,10 @@ pub(crate) enum Place {
     Closed,
 }
 
-fn is_line_end(byte: u8) -> bool {
+/// Whether a byte ends a record, outside of quotes.
+pub fn is_line_end(byte: u8) -> bool
+    ensures { result ≡ (byte == 10 || byte == 13) }
+{
     byte == b'\n' || byte == b'\r'
 }
 
@@ -32,38 +37,40 @@ fn end_of_records(block: &[u8]) -> Option<usize> {
     }
 }
 
-impl Place {
+impl ScanState {
     /// Before the first byte.
-    pub(crate) const START: Place = Place::Mark(0);
+    pub(crate) const START: ScanState = ScanState::Mark(0);
 
     /// Whether it is past the mark and outside of quotes, so that without a quote more each line end may end a record.
     pub(crate) fn is_plain(self) -> bool {
         match self {
-            Place::Mark(_) | Place::Quoted => false,
-            Place::Record | Place::Field | Place::Bare | Place::Closed => true,
+            ScanState::Mark(_) | ScanState::Quoted => false,
+            ScanState::Record | ScanState::Field | ScanState::Bare | ScanState::Closed => true,
         }
     }
 
     /// Whether a byte ends the record here. A line end before a record is an empty line.
     pub(crate) fn is_ended_by(self, byte: u8) -> bool {
         match self {
-            Place::Mark(0) | Place::Record | Place::Quoted => false,
-            Place::Mark(_) | Place::Field | Place::Bare | Place::Closed => is_line_end(byte),
+            ScanState::Mark(0) | ScanState::Record | ScanState::Quoted => false,
+            ScanState::Mark(_) | ScanState::Field | ScanState::Bare | ScanState::Closed =>
+                is_line_end(byte),
         }
     }
 
     /// The place after a byte.
-    pub(crate) fn after(self, byte: u8) -> Place {
+    pub(crate) fn after(self, byte: u8) -> ScanState {
         match (self, byte) {
-            (Place::Mark(0), 0xEF) => Place::Mark(1),
-            (Place::Mark(1), 0xBB) => Place::Mark(2),
-            (Place::Mark(2), 0xBF) => Place::Record,
-            (Place::Quoted, b'"') => Place::Closed,
-            (Place::Quoted, _) => Place::Quoted,
-            (Place::Mark(0) | Place::Record | Place::Field | Place::Closed, b'"') => Place::Quoted,
-            (_, b',') => Place::Field,
-            (_, b'\n' | b'\r') => Place::Record,
-            (_, _) => Place::Bare,
+            (ScanState::Mark(0), 0xEF) => ScanState::Mark(1),
+            (ScanState::Mark(1), 0xBB) => ScanState::Mark(2),
+            (ScanState::Mark(2), 0xBF) => ScanState::Record,
+            (ScanState::Quoted, b'"') => ScanState::Closed,
+            (ScanState::Quoted, _) => ScanState::Quoted,
+            (ScanState::Mark(0) | ScanState::Record | ScanState::Field | ScanState::Closed, b'"') =>
+                ScanState::Quoted,
+            (_, b',') => ScanState::Field,
+            (_, b'\n' | b'\r') => ScanState::Record,
+            (_, _) => ScanState::Bare,
         }
     }
 
