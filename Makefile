@@ -27,7 +27,7 @@ CRATE := cnsbook
 
 FUZZ := --seconds 600
 
-.PHONY: help run try build install uninstall check sample compare test fuzz trials times bench picture
+.PHONY: help run try build install uninstall check contracts sample compare test fuzz trials times bench picture
 
 help:
 	@grep -E '^# [a-z]+:' Makefile | sed 's/^# //'
@@ -108,6 +108,10 @@ uninstall:
 check:
 	@cd crates/$(CRATE) && rt check
 
+# contracts: prints the public calls of a crate with their clauses, as CRATE=cns_prices
+contracts:
+	@python3 tests/contracts.py $(CRATE)
+
 # sample: builds the program and replays the samples
 sample: build compare
 
@@ -140,6 +144,7 @@ test:
 	    python3 tests/documents.py $(PROGRAM) $(PAGE); \
 	    $(MAKE) --no-print-directory -o build sample fuzz bench FUZZ="--seeds 1 320 --reach"; \
 	    $(MAKE) --no-print-directory help > /dev/null; \
+	    $(MAKE) --no-print-directory contracts CRATE="cns_prices cns_book" > /dev/null; \
 	    $(MAKE) --no-print-directory check CRATE=cns_prices > /dev/null; \
 	    $(MAKE) --no-print-directory build BUILT="cns_units cns_terms cns_prices"; \
 	    $(MAKE) --no-print-directory trials CRATES=cns_prices; \

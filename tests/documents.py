@@ -16,6 +16,8 @@ usage: tests/documents.py PROGRAM PAGE
 - A block that begins with `Kind,` is the file `sheet.csv`, as a spreadsheet saves it.
 - A command `make NAME` is one of the Makefile's; the kit is the one that `rt` says it is; a link leads to a file of the
   repository, and to a heading of it; the README has at most 600 words; packages that it names are commands of this machine.
+- A path that begins with a crate is a public call or type of it; a call, a clause, a definition and a file that the last
+  column of a table names beside such paths stands in the source.
 
 Tells how many of each there were, or what is not so, and exits with status 1 then.
 """
@@ -27,6 +29,8 @@ import subprocess
 import sys
 import tempfile
 from pathlib import Path
+
+import contracts
 
 ROOT = Path(__file__).resolve().parent.parent
 OPENING = "2024-06-03"
@@ -119,6 +123,20 @@ def anchors(text):
     return {re.sub(r"[^a-z0-9 _-]", "", heading.lower()).replace(" ", "-") for heading in headings}
 
 
+def source_names():
+    """The paths of what crates hand out, and all words and file names of their source."""
+    paths, words = set(), set()
+    for source in contracts.CRATES.glob("*/src"):
+        root, crate = source / "lib.rt", source.parent.name
+        if root.exists():
+            handed_out, _ = contracts.handed_out(root.read_text())
+            paths.update(f"{crate}::{name}" for name in handed_out)
+            paths.update(call.path for call in contracts.calls(crate))
+        for path in [*source.rglob("*.rt"), *(source.parent / "specs").rglob("*.antt"), *(source.parent / "proofs").glob("*.antt")]:
+            words.update(re.findall(r"\w+", path.read_text()), [path.name])
+    return paths, words
+
+
 class Checked:
     """What was found so far."""
 
@@ -127,7 +145,8 @@ class Checked:
         self.samples = {
             path.name: replies(program, path.read_text().splitlines()) for path in sorted((ROOT / "examples").glob("*.csv"))
         }
-        self.counts = {"sessions": 0, "mistakes": 0, "statements": 0, "tallies": 0, "commands": 0, "records": 0, "outputs": 0, "links": 0}
+        self.counts = {"sessions": 0, "mistakes": 0, "statements": 0, "tallies": 0, "commands": 0, "records": 0, "outputs": 0, "links": 0, "names": 0}
+        self.paths, self.sources = source_names()
         self.rules = re.findall(r"^([a-z]+):(?!=)", (ROOT / "Makefile").read_text(), re.MULTILINE)
         self.kit = subprocess.run(["rt", "version"], capture_output=True, text=True, check=True).stdout.strip()
         self.faults = []
@@ -205,6 +224,17 @@ class Checked:
             if RUN.match(block):
                 due = self.commands(place, block, room)
 
+    def names(self, place, text):
+        """The calls, clauses and definitions that a document names."""
+        named = set(re.findall(r"`(cns_\w+(?:::\w+)+)`", text))
+        inner = {name for name in named if f"{name.split('::')[1]}.rt" in self.sources}
+        self.faults += [f"{place}: no crate hands out {name}" for name in sorted(named - inner - self.paths)]
+        for row in re.findall(r"^\|.*\| (.*`cns_\w+::.*|the inner .*|the same.*) \|$", text, re.MULTILINE):
+            for name in re.findall(r"`([\w:.]+)`", row):
+                self.counts["names"] += 1
+                missing = [word for word in name.split("::") if word not in self.sources and not word.startswith("cns_")]
+                self.faults += [f"{place}: nothing in the source is named {name}"] * bool(missing)
+
     def words(self, path, text):
         """The Makefile's commands, the kit, the links and the length of a document."""
         commands = re.findall(r"`make ([a-z]+)[^`\n]*`", text)
@@ -254,6 +284,7 @@ def main():
             checked.mistakes(path.name, text)
             checked.blocks(path, text, room)
             checked.words(path, text)
+            checked.names(path.name, text)
     for fault in checked.faults:
         print("documents:", fault, file=sys.stderr)
     if checked.faults:
