@@ -52,13 +52,7 @@ fn fault_failure(alloc: Global, call: &str, fault: ReplayFault) -> Result<(), Fa
 fn check_replay<P: Positions<Global>>(alloc: Global, case: &Case<'_>) -> Result<(), Failure> {
     let mut output = Vec::new(alloc);
     let input = case.input.as_slice();
-    match replay_up_to::<P, &[u8], Vec<u8>>(
-        alloc,
-        input,
-        &mut output,
-        case.opening,
-        MOST_RECORDS,
-    ) {
+    match replay_up_to::<P, &[u8], Vec<u8>>(alloc, input, &mut output, case.opening, MOST_RECORDS) {
         Ok(counts) => {
             check_output(alloc, case, output.as_slice())?;
             check_counts(alloc, "replay", case.counts, counts)

@@ -3,3 +3,4 @@ pub mod EndsTold
 pub mod Tallied
 pub mod CommandLine
 pub mod Workers
+pub mod Opened

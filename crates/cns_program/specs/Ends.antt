@@ -1,11 +1,13 @@
 -- How the program ends, by what its line asks for.
-use Rattle.std.specs.Prelude.{◌≡◌, ◌≢◌, ◌⊎◌, ℕ, List, Option, Result, IfSome, vec_len}
-use Rattle.cns_terms.specs.Common.{AllByRecursion, Appends, Day}
+use Rattle.std.specs.Prelude.{◌≡◌, ◌≢◌, ◌⊎◌, ℕ, ◌-◌, ◌^◌, true, List, [], ◌∷◌, length, Option, Some, option_map, Result, IfSome, vec_len, ⊤}
+use Rattle.cns_terms.specs.Common.{AllByRecursion, Appends, Day, Told}
 use Rattle.cns_units.specs.Output.{Writes}
-use Rattle.cns_feed.specs.Output.{output}
+use Rattle.cns_feed.specs.Output.{lines_of, output}
 use Rattle.cns_feed.specs.Replay.{StopsReplay}
 use Rattle.cns_feed.specs.declared.fault.ReplayFault.{ReplayFault}
+use Rattle.cns_feed.specs.Source.{told_of}
 use Rattle.cns_desk.specs.Parts.{AreParts}
+use Rattle.cns_desk.specs.Worked.{HaveRun}
 use Rattle.cns_desk.specs.declared.end.End.{End}
 use Rattle.cns_feed.specs.declared.fault.ReplayFault.TheVariants as replays
 use Rattle.cns_desk.specs.declared.run.Outcome.{Outcome}
@@ -48,23 +50,43 @@ pub record EndsEarly {T E : Type 0} (o : Outcome) (old new told_old told_new : O
   pub tally : Appends old new (text_of o)
   pub lines : Writes told_old told_new (end_lines 1 o.ends.items) told
 
--- an outcome of a run over so many files: a log for each, which is its worker's part of the history
-abbrev pub IsOutcome : ℕ → Outcome → Type 0
-IsOutcome files o = (vec_len o.logs ≡ files) × AreParts o.book.log o.logs.items
+-- what a worker is told by a file: the commands of the bytes that it had when it was opened, up to the most records that one
+-- worker reads; None where the bytes are not known
+abbrev pub told_by : {F : Type 0} → (F → Option (List ℕ)) → F → Option Told
+told_by rem file = option_map (λ bytes. told_of (2 ^ 32 - 1) (lines_of bytes)) (rem file)
+
+-- a source tells what its file does, where that is known
+abbrev pub Reads : {F : Type 0} → (F → Option (List ℕ)) → F → Option Told → Type 0
+Reads rem file told = IfSome (rem file) (λ bytes. told ≡ Some (told_of (2 ^ 32 - 1) (lines_of bytes)))
+
+-- sources tell what files do, each its own, in order
+abbrev pub ReadEach : {S F : Type 0} → (S → Option Told) → (F → Option (List ℕ)) → List S → List F → Type 0
+ReadEach told rem [] [] = ⊤
+ReadEach told rem (s ∷ ss) (f ∷ fs) = Reads rem f (told s) × ReadEach told rem ss fs
+ReadEach told rem [] (f ∷ fs) = ⊥
+ReadEach told rem (s ∷ ss) [] = ⊥
+
+-- an outcome of a run over so many files, of which the first argument says what they have: each worker's log has what its file
+-- told up to where the worker ended, and is its part of the history
+pub record IsOutcome {F : Type 0} (rem : F → Option (List ℕ)) (files : ℕ) (o : Outcome) : Type 0 where
+  pub opened : List F
+  pub each : length opened ≡ files
+  pub ran : HaveRun true (told_by rem) opened o.logs.items o.ends.items
+  pub parts : AreParts o.book.log o.logs.items
 
 -- a run over so many files was done, and its tally was written
-abbrev pub IsRun : ℕ → Option (List ℕ) → Option (List ℕ) → Type 0
-IsRun files old new = (o : Outcome) × IsOutcome files o × AreComplete o.ends.items × Appends old new (text_of o)
+abbrev pub IsRun : {F : Type 0} → (F → Option (List ℕ)) → ℕ → Option (List ℕ) → Option (List ℕ) → Type 0
+IsRun rem files old new = (o : Outcome) × IsOutcome rem files o × AreComplete o.ends.items × Appends old new (text_of o)
 
 -- a run over so many files ended with a fault: before anything was written, or at its tally
-abbrev pub FailsRun : Fault → ℕ → Option (List ℕ) → Option (List ℕ) → Type 0
-FailsRun f files old new = (IsOfRun files f × (new ≡ old)) ⊎ ((o : Outcome) × IsOutcome files o × FailsTally f o old new)
+abbrev pub FailsRun : {F : Type 0} → (F → Option (List ℕ)) → Fault → ℕ → Option (List ℕ) → Option (List ℕ) → Type 0
+FailsRun rem f files old new = (IsOfRun files f × (new ≡ old)) ⊎ ((o : Outcome) × IsOutcome rem files o × FailsTally f o old new)
 
 -- such a run ended with a fault, whose line is told, or a worker of it ended early
-abbrev pub TellsRun : {T E : Type 0} → ℕ → Option (List ℕ) → Option (List ℕ) → Option (List ℕ) → Option (List ℕ) → Result T E → Type 0
-TellsRun files old new told_old told_new told =
-    ((f : Fault) × FailsRun f files old new × Writes told_old told_new (fault_line f) told)
-    ⊎ ((o : Outcome) × IsOutcome files o × EndsEarly o old new told_old told_new told)
+abbrev pub TellsRun : {F T E : Type 0} → (F → Option (List ℕ)) → ℕ → Option (List ℕ) → Option (List ℕ) → Option (List ℕ) → Option (List ℕ) → Result T E → Type 0
+TellsRun rem files old new told_old told_new told =
+    ((f : Fault) × FailsRun rem f files old new × Writes told_old told_new (fault_line f) told)
+    ⊎ ((o : Outcome) × IsOutcome rem files o × EndsEarly o old new told_old told_new told)
 
 -- a replay ended with a fault, whose line is told
 abbrev pub TellsReplay : {T E : Type 0} → Day → Option (List ℕ) → Option (List ℕ) → Option (List ℕ) → Option (List ℕ) → Option (List ℕ) → Result T E → Type 0
@@ -77,14 +99,14 @@ TellsDay opening day input old new told_old told_new told =
     (f : Fault) × IfSome input (λ bytes. FailsDay f (loaded opening bytes) day old new) × Writes told_old told_new (fault_line f) told
 
 -- the work that a line asks for was done: the replies to all of the input were written, or the tally of a run, or the
--- statements of a day
-abbrev pub IsDone : Asked → Option (List ℕ) → Option (List ℕ) → Option (List ℕ) → Type 0
-IsDone (asked.Replay opening) input old new = IfSome input (λ bytes. Appends old new (output opening bytes))
-IsDone (asked.Run opening files) input old new = IsRun (vec_len files) old new
-IsDone (asked.Statements opening day workers) input old new = IfSome input (λ bytes. WritesDay (loaded opening bytes) day old new)
+-- statements of a day; the first argument says what opened files have
+abbrev pub IsDone : {F : Type 0} → (F → Option (List ℕ)) → Asked → Option (List ℕ) → Option (List ℕ) → Option (List ℕ) → Type 0
+IsDone rem (asked.Replay opening) input old new = IfSome input (λ bytes. Appends old new (output opening bytes))
+IsDone rem (asked.Run opening files) input old new = IsRun rem (vec_len files) old new
+IsDone rem (asked.Statements opening day workers) input old new = IfSome input (λ bytes. WritesDay (loaded opening bytes) day old new)
 
 -- it was not, and what came instead is told
-abbrev pub TellsWork : {T E : Type 0} → Asked → Option (List ℕ) → Option (List ℕ) → Option (List ℕ) → Option (List ℕ) → Option (List ℕ) → Result T E → Type 0
-TellsWork (asked.Replay opening) input old new told_old told_new told = TellsReplay opening input old new told_old told_new told
-TellsWork (asked.Run opening files) input old new told_old told_new told = TellsRun (vec_len files) old new told_old told_new told
-TellsWork (asked.Statements opening day workers) input old new told_old told_new told = TellsDay opening day input old new told_old told_new told
+abbrev pub TellsWork : {F T E : Type 0} → (F → Option (List ℕ)) → Asked → Option (List ℕ) → Option (List ℕ) → Option (List ℕ) → Option (List ℕ) → Option (List ℕ) → Result T E → Type 0
+TellsWork rem (asked.Replay opening) input old new told_old told_new told = TellsReplay opening input old new told_old told_new told
+TellsWork rem (asked.Run opening files) input old new told_old told_new told = TellsRun rem (vec_len files) old new told_old told_new told
+TellsWork rem (asked.Statements opening day workers) input old new told_old told_new told = TellsDay opening day input old new told_old told_new told

@@ -31,10 +31,10 @@ fn perform<
     requires { HasWorkers asked.now }
     ensures status { result.status ≤ 1 }
     ensures done { result.status ≡ 0
-        → IsDone asked.now (I.remaining input) (O.contents output.old) (O.contents output.new) }
+        → IsDone F.remaining asked.now (I.remaining input) (O.contents output.old) (O.contents output.new) }
     ensures quiet { result.status ≡ 0 → errors.new ≡ errors.old }
     ensures told { result.status ≡ 1
-        → TellsWork asked.now (I.remaining input) (O.contents output.old) (O.contents output.new)
+        → TellsWork F.remaining asked.now (I.remaining input) (O.contents output.old) (O.contents output.new)
         (E.contents errors.old) (E.contents errors.new) result.told }
 {
     match asked {
@@ -57,12 +57,12 @@ pub fn run_words<
 >(rt: &R, words: &[S], input: I, output: &mut O, errors: &mut E) -> Ended
     ensures status { result.status ≤ 2 }
     ensures done { result.status ≡ 0 → (a : Asked) × Asks (map S.text words.now) (Some a)
-        × IsDone a (I.remaining input) (O.contents output.old) (O.contents output.new) }
+        × IsDone F.remaining a (I.remaining input) (O.contents output.old) (O.contents output.new) }
     ensures quiet { result.status ≡ 0 → errors.new ≡ errors.old }
     // The fault is that of the work, or memory was refused before there was any.
     ensures told { result.status ≡ 1
         → ((a : Asked) × Asks (map S.text words.now) (Some a)
-        × TellsWork a (I.remaining input) (O.contents output.old) (O.contents output.new)
+        × TellsWork F.remaining a (I.remaining input) (O.contents output.old) (O.contents output.new)
         (E.contents errors.old) (E.contents errors.new) result.told)
         ⊎ (Writes (E.contents errors.old) (E.contents errors.new) (fault_line faults.NoMemory) result.told
         × (output.new ≡ output.old)) }
@@ -93,12 +93,12 @@ pub fn program<
     ensures status { result ≤ 2 }
     // The work is what the words of the line ask for.
     ensures done { result ≡ 0 → (a : Asked) × Asks (map S.text words.now) (Some a)
-        × IsDone a (I.remaining input) (O.contents output.old) (O.contents output.new) }
+        × IsDone F.remaining a (I.remaining input) (O.contents output.old) (O.contents output.new) }
     ensures quiet { result ≡ 0 → errors.new ≡ errors.old }
     // The fault is that of the work, or memory was refused before there was any.
     ensures told { result ≡ 1 → (told : Result ⊤ WriteFault)
         × (((a : Asked) × Asks (map S.text words.now) (Some a)
-        × TellsWork a (I.remaining input) (O.contents output.old) (O.contents output.new)
+        × TellsWork F.remaining a (I.remaining input) (O.contents output.old) (O.contents output.new)
         (E.contents errors.old) (E.contents errors.new) told)
         ⊎ (Writes (E.contents errors.old) (E.contents errors.new) (fault_line faults.NoMemory) told
         × (output.new ≡ output.old))) }

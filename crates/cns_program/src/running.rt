@@ -1,6 +1,6 @@
 // The subcommand `run`.
-ghost use Rattle.std.specs.Prelude.{◌≡◌, ◌≤◌, IfErr, IfOk, length, vec_len};
-ghost use Rattle.cns_program.specs.Ends.{IsOutcome, IsRun, TellsRun};
+ghost use Rattle.std.specs.Prelude.{◌≡◌, ◌≤◌, IfErr, IfOk, List, length, vec_len};
+ghost use Rattle.cns_program.specs.Ends.{IsOutcome, IsRun, ReadEach, Reads, TellsRun};
 ghost use Rattle.cns_program.specs.Faults.{IsOfOpening, IsOfRun};
 
 use crate::ended::{Ended, fail};
@@ -27,7 +27,8 @@ impl<F: Read + Drop> FileSource<F> {
     // No record was read yet. It is not put in line: its frame has the copy that the box is filled from.
     #[inline(never)]
     fn new(alloc: Global, file: F) -> Result<FileSource<F>, Fault>
-        ensures { IfErr result (λ f. f ≡ Fault.NoMemory) }
+        ensures told { IfOk result (λ s. Reads F.remaining file s.records.value.told) }
+        ensures err { IfErr result (λ f. f ≡ Fault.NoMemory) }
     {
         let Ok(records) = Box::new(alloc, CsvSource::new(alloc, file)) else {
             return Err(Fault::NoMemory);
@@ -67,6 +68,8 @@ fn open_files<F: Read + Drop, R: AllocGlobal + Files<File = F>>(
     files: &[&str],
 ) -> Result<Vec<FileSource<F>>, Fault>
     ensures ok { IfOk result (λ v. vec_len v ≡ length files.now) }
+    ensures read { IfOk result (λ v. (opened : List F) × (length opened ≡ length files.now)
+        × ReadEach (λ s. s.records.value.told) F.remaining v.items opened) }
     ensures err { IfErr result (λ f. IsOfOpening (length files.now) f) }
 {
     let mut sources = Vec::new(rt.alloc());
@@ -89,7 +92,7 @@ fn run_files<F: Read + Send + Drop, R: AllocGlobal + Files<File = F> + Threads +
     files: &[&str],
 ) -> Result<Outcome, Fault>
     requires { (1 ≤ length files.now) × (length files.now ≤ 64) }
-    ensures ok { IfOk result (λ o. IsOutcome (length files.now) o) }
+    ensures ok { IfOk result (IsOutcome F.remaining (length files.now)) }
     ensures err { IfErr result (λ f. IsOfRun (length files.now) f) }
 {
     let sources = open_files(rt, files)?;
@@ -109,9 +112,11 @@ pub fn tell_run<
 >(rt: &R, opening: Day, files: &[&str], output: &mut O, errors: &mut E) -> Ended
     requires { (1 ≤ length files.now) × (length files.now ≤ 64) }
     ensures status { result.status ≤ 1 }
-    ensures done { result.status ≡ 0 → IsRun (length files.now) (O.contents output.old) (O.contents output.new) }
+    ensures done { result.status ≡ 0
+        → IsRun F.remaining (length files.now) (O.contents output.old) (O.contents output.new) }
     ensures quiet { result.status ≡ 0 → errors.new ≡ errors.old }
-    ensures told { result.status ≡ 1 → TellsRun (length files.now) (O.contents output.old) (O.contents output.new)
+    ensures told { result.status ≡ 1
+        → TellsRun F.remaining (length files.now) (O.contents output.old) (O.contents output.new)
         (E.contents errors.old) (E.contents errors.new) result.told }
 {
     match run_files(rt, opening, files) {
