@@ -1,8 +1,10 @@
 -- What is booked for a split or an exchange: that its numbers are small, and its order.
 -- For `all_bookings` and `bookings_for` of acting.rt, `book` of bookings.rt.
-use Rattle.std.proofs.Common.{◌≡◌, ◌∙◌, sym, ap, subst, refl, ℕ, zero, suc, ◌^◌, ◌<◌, ◌≤◌, ℤ, pos, neg_ℤ, Bool, true, false, cond, unsigned_abs, List, [], ◌∷◌, ◌++◌, append_assoc, Ordering, arith, flat_map, int_eq, is_eq, is_lt, nat_cmp, Less, Equal, Greater}
+use Rattle.std.proofs.Common.{◌≡◌, ◌∙◌, ◌⊎◌, inl, inr, sym, ap, subst, refl, ℕ, zero, suc, ◌^◌, ◌<◌, ◌≤◌, ℤ, pos, neg_ℤ, Bool, true, false, cond, unsigned_abs, List, [], ◌∷◌, ◌++◌, append_assoc, Ordering, arith, flat_map, int_eq, is_eq, is_lt, nat_cmp, Less, Equal, Greater}
 use Rattle.cns_actions.proofs.Common.{Account, Action, AllByRecursion, AreSmall, Booking, CanBeBooked, Change, Cusip, HasSpace, Holder, IsFew, IsForAnother, Key, Rows, above_all, age_for, all_bookings, and_left, and_right, below_all, bookings_for, both_true, change_of, corporation, corporation_limit, each_append, each_weaker, entry, holding_at, in_issue_order, ints, is_eq-slice_cmp, is_rising, is_sorted, key_cmp, less, member_bookings, member_limit, nat_cmp_total, nat_list_cmp_total, nat_tests, opposite, ordering_reverse, ordering_then, position_at, position_limit, same_issue, slice_cmp, tied_itself}
 use Rattle.cns_actions.specs.Bookings.{IsSmall, booking, by_key, key_of}
+use Rattle.cns_actions.specs.Booked.{issue_of}
+use Rattle.cns_actions.specs.Changes.{AreInIssues, new_issue}
 use Rattle.cns_actions.proofs.Holders.{AreListed, above_zero, accounts}
 use Rattle.cns_actions.specs.declared.action.Action.TheVariants as action
 
@@ -136,3 +138,32 @@ pub bookings_next : (x : Action) (all made new : List Booking) (left : List Hold
 bookings_next x all made new left h rest first is pushed =
     is ∙ ap (λ hs. made ++ flat_map (member_bookings x) hs) first ∙ sym (append_assoc made (member_bookings x h) (flat_map (member_bookings x) rest))
     ∙ ap (λ bs. bs ++ flat_map (member_bookings x) rest) (sym pushed)
+
+-- ---- their issues
+
+change_in_issues : (x : Action) (a : Account) (c : Change) (n : ℕ) → AreInIssues x (bookings_for x a c n)
+change_in_issues (action.Split s) a c n = (inl refl, tt)
+change_in_issues (action.Exchange x) a c n = by (is_lt (slice_cmp nat_cmp x.old x.successor)) (booking (entry a x.old (neg_ℤ c.before) (pos 0)) 0) (booking (entry a x.successor c.after c.cents) n) refl refl
+  where
+    by : (t : Bool) (b d : Booking) → b.entry.issue ≡ x.old → d.entry.issue ≡ x.successor → AreInIssues (action.Exchange x) (cond t (b ∷ d ∷ []) (d ∷ b ∷ []))
+    by true b d old new = (inl old, (inr new, tt))
+    by false b d old new = (inr new, (inl old, tt))
+
+age_in_issues : (x : Action) (a : Account) (n : ℕ) → AreInIssues x (age_for x a n)
+age_in_issues (action.Split s) a n = tt
+age_in_issues (action.Exchange x) a n = (inr refl, tt)
+
+member_in_issues : (x : Action) (h : Holder) → AreInIssues x (member_bookings x h)
+member_in_issues x h = by (int_eq h.shares (pos 0))
+  where
+    by : (t : Bool) → AreInIssues x (cond t (age_for x h.account h.oldest) (bookings_for x h.account (change_of x h.shares) h.oldest))
+    by true = age_in_issues x h.account h.oldest
+    by false = change_in_issues x h.account (change_of x h.shares) h.oldest
+
+members_in_issues : (x : Action) (hs : List Holder) → AreInIssues x (flat_map (member_bookings x) hs)
+members_in_issues x [] = tt
+members_in_issues x (h ∷ hs) = each_append (λ b. (b.entry.issue ≡ issue_of x) ⊎ (b.entry.issue ≡ new_issue x)) (member_bookings x h) (flat_map (member_bookings x) hs) (member_in_issues x h) (members_in_issues x hs)
+
+-- each booking is in one of the issues of the split or exchange
+pub all_in_issues : (x : Action) (sum : Change) (n : ℕ) (hs : List Holder) → AreInIssues x (all_bookings x sum n hs)
+all_in_issues x sum n hs = each_append (λ b. (b.entry.issue ≡ issue_of x) ⊎ (b.entry.issue ≡ new_issue x)) (bookings_for x corporation (opposite sum) n) (flat_map (member_bookings x) hs) (change_in_issues x corporation (opposite sum) n) (members_in_issues x hs)

@@ -1,11 +1,11 @@
 -- Bookings that are made one after another: what stands at each key.
 -- For `enter_all`, `make` and `book_all` of bookings.rt.
-use Rattle.std.proofs.Common.{◌≡◌, ◌∙◌, sym, ap, subst, refl, ℕ, ◌+◌, ◌<◌, max, ℤ, pos, ◌+ℤ◌, Bool, true, false, cond, ◌&&◌, ◌==◌, List, [], ◌∷◌, ◌++◌, length, get_or, take, drop, Ordering, arith, is_eq, is_lt, Less, Equal, Greater}
+use Rattle.std.proofs.Common.{◌≡◌, ◌≢◌, ◌∙◌, sym, ap, subst, refl, ℕ, zero, suc, is_some, ◌+◌, ◌<◌, max, ℤ, pos, ◌+ℤ◌, Bool, true, false, cond, ◌&&◌, ◌==◌, List, [], ◌∷◌, ◌++◌, length, get_or, take, drop, Ordering, arith, is_eq, is_lt, Less, Equal, Greater}
 use Rattle.cns_actions.proofs.Common.{AreEntered, AreSmall, Booking, Entry, HasSpace, Holding, Key, Rows, and_left, and_right, below_all, carried_to, cents_for, each_append, each_weaker, entries_in, equal, exact_keys, greatest, has_row, holding_at, ints, is_sorted, key_cmp, keys_total, less, made, makes, ordering_reverse, same_issue, same_key, shares_for, take_more, total, with_age}
 use Rattle.std.proofs.lemmas.List.{drop_more}
 use Rattle.std.proofs.Math.Nat.{max-zero}
-use Rattle.cns_positions.specs.Rows.{aged, booked, entry_of}
-use Rattle.cns_actions.specs.Bookings.{HaveSpace, by_key, entered, key_of}
+use Rattle.cns_positions.specs.Rows.{aged, booked, entry_of, row_at}
+use Rattle.cns_actions.specs.Bookings.{AreElsewhere, HaveSpace, by_key, entered, key_of}
 
 -- ---- what bookings make at a key
 
@@ -125,6 +125,17 @@ pub entered_more : (old new : Rows) (bs : List Booking) (i : ℕ) (b : Booking) 
 entered_more old new bs i b lt is were kept there =
     subst (AreEntered new) (sym (take_more bs i b lt ∙ ap (λ x. take i bs ++ x ∷ []) (sym is)))
     (each_append (λ b. has_row new (key_of b.entry) ≡ true) (take i bs) (b ∷ []) (rows_stay old new kept (take i bs) were) (there, tt))
+
+-- a key where none is booked is not that of the booking at a place
+pub elsewhere_at : (k : Key) (bs : List Booking) (i : ℕ) (b : Booking) → i < length bs → b ≡ get_or bs i b → AreElsewhere k bs → k ≢ key_of b.entry
+elsewhere_at k [] i b lt is e same = absurd (omega (arith, lt))
+elsewhere_at k (d ∷ bs) zero b lt is e same = e.0 (same ∙ ap (λ x. key_of x.entry) is)
+elsewhere_at k (d ∷ bs) (suc i) b lt is e same = elsewhere_at k bs i b (omega (arith, lt)) is e.1 same
+
+-- the same row is there or not
+pub others_stay : (new old : Rows) (k : Key) → row_at new k ≡ row_at old k → has_row new k ≡ has_row old k
+unfolding row_at
+others_stay new old k same = ap is_some same
 
 -- ---- one booking after another
 

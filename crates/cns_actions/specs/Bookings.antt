@@ -1,5 +1,5 @@
 -- What is booked at several keys, and what it makes of rows.
-use Rattle.std.specs.Prelude.{◌≡◌, ◌<◌, ◌^◌, ℕ, ◌+ℤ◌, true, ◌&&◌, ◌==◌, List, map, unsigned_abs, if◌then◌else◌}
+use Rattle.std.specs.Prelude.{◌≡◌, ◌≢◌, ◌<◌, ◌^◌, ℕ, ◌+ℤ◌, true, ◌&&◌, ◌==◌, List, map, unsigned_abs, if◌then◌else◌}
 use Rattle.cns_terms.specs.Common.{AllByRecursion, greatest, is_sorted, key_cmp, same_issue}
 use Rattle.cns_terms.specs.declared.holding.Entry.{Entry}
 use Rattle.cns_terms.specs.declared.holding.Holding.{Holding}
@@ -65,3 +65,7 @@ AreEntered rows bs = AllByRecursion (λ b. has_row rows (key_of b.entry) ≡ tru
 -- and what stands there has space
 abbrev pub HaveSpace : Rows → List Booking → Type 0
 HaveSpace rows bs = AllByRecursion (λ b. HasSpace (holding_at rows (key_of b.entry))) bs
+
+-- none of them is booked at a key
+abbrev pub AreElsewhere : Key → List Booking → Type 0
+AreElsewhere k bs = AllByRecursion (λ b. k ≢ key_of b.entry) bs

@@ -1,6 +1,6 @@
 -- What splits and exchanges make of positions.
-use Rattle.std.specs.Prelude.{◌≤◌, ◌*◌, ◌^◌, ℕ, ℤ, pos, ◌+ℤ◌, ◌-ℤ◌, neg_ℤ, Bool, not, ◌&&◌, ◌||◌, ◌==◌, nat_lt, List, [], ◌∷◌, ◌++◌, map, filter, unsigned_abs, None, if◌then◌else◌, flat_map}
-use Rattle.cns_terms.specs.Common.{Account, Cusip, bought_in, converted, corporation, entry, in_exchange, in_lieu, is_beyond, is_lt, nat_cmp, oldest_of, same_issue, slice_cmp, sold_in, total}
+use Rattle.std.specs.Prelude.{◌≡◌, ◌⊎◌, ◌≤◌, ◌*◌, ◌^◌, ℕ, ℤ, pos, ◌+ℤ◌, ◌-ℤ◌, neg_ℤ, Bool, not, ◌&&◌, ◌||◌, ◌==◌, nat_lt, List, [], ◌∷◌, ◌++◌, map, filter, unsigned_abs, None, if◌then◌else◌, flat_map}
+use Rattle.cns_terms.specs.Common.{Account, AllByRecursion, Cusip, bought_in, converted, corporation, entry, in_exchange, in_lieu, is_beyond, is_lt, nat_cmp, oldest_of, same_issue, slice_cmp, sold_in, total}
 use Rattle.std.specs.Ordering.{int_eq}
 use Rattle.cns_terms.specs.declared.holding.Holding.{Holding}
 use Rattle.cns_terms.specs.declared.holding.Key.{Key}
@@ -96,6 +96,10 @@ all_bookings x sum n hs = bookings_for x corporation (opposite sum) n ++ flat_ma
 abbrev pub new_issue : Action → Cusip
 new_issue (action.Split s) = s.issue
 new_issue (action.Exchange x) = x.successor
+
+-- each booking is in the issue that is split or exchanged, or in that of the new shares
+abbrev pub AreInIssues : Action → List Booking → Type 0
+AreInIssues x bs = AllByRecursion (λ b. (b.entry.issue ≡ issue_of x) ⊎ (b.entry.issue ≡ new_issue x)) bs
 
 -- a member's position after it, in the issue of the new shares
 abbrev pub position_after : Rows → Action → Holder → ℤ

@@ -13,7 +13,7 @@ ghost use Rattle.cns_terms.specs.Pending.{bought_in, sold_in};
 ghost use Rattle.cns_terms.specs.Keys.{key_cmp};
 ghost use Rattle.cns_positions.specs.Rows.{holding_at};
 ghost use Rattle.cns_actions.specs.Booked.{AreItsHolders, CanBeBooked, IsForAnother, after_action, is_too_large, issue_of, position_at, waits_for};
-ghost use Rattle.cns_actions.specs.Changes.{IsFew, all_bookings, all_holders_of, change_of, holders_of, member_bookings, new_issue, position_after, sum_of, takes_beyond};
+ghost use Rattle.cns_actions.specs.Changes.{AreInIssues, IsFew, all_bookings, all_holders_of, change_of, holders_of, member_bookings, new_issue, position_after, sum_of, takes_beyond};
 ghost use Rattle.cns_actions.specs.Bookings.{AreSmall, makes};
 
 use crate::action::Action;
@@ -255,6 +255,7 @@ pub fn bookings_for<P: Positions<B>, B, A: Allocator + Drop + Clone, C: Allocato
         × (waits_for action.now pending.now ≡ true)) }
     ensures booked { IfOk result (λ b. (ms : List Member) → AreItsHolders (P.rows positions.now) action.now ms → (k : Key)
         → makes b k (holding_at (P.rows positions.now) k) ≡ after_action (P.rows positions.now) action.now ms k) }
+    ensures issues { IfOk result (AreInIssues action.now) }
 {
     let Some(sum) = sum_of(positions, pending, action) else {
         return Err(ActionFault::TooLarge);

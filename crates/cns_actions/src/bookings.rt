@@ -5,7 +5,7 @@ ghost use Rattle.cns_terms.specs.declared.holding.Key.{Key};
 ghost use Rattle.cns_terms.specs.Keys.{key_cmp};
 ghost use Rattle.cns_positions.specs.Rows.{has_row, holding_at};
 ghost use Rattle.cns_actions.specs.Booked.{CanBeBooked};
-ghost use Rattle.cns_actions.specs.Bookings.{AreEntered, AreSmall, HasSpace, HaveSpace, IsSmall, by_key, key_of, made, makes};
+ghost use Rattle.cns_actions.specs.Bookings.{AreElsewhere, AreEntered, AreSmall, HasSpace, HaveSpace, IsSmall, by_key, key_of, made, makes};
 
 use crate::booking::{Booking, key_of};
 use cns_positions::Positions;
@@ -38,6 +38,8 @@ impl<A: Allocator + Drop> Model for Bookings<A> {
 fn enter_all<P: Positions<A>, A>(positions: &mut P, bookings: &[Booking]) -> Result<(), NoMemory>
     ensures same { (k : Key) → holding_at (P.rows positions.new) k ≡ holding_at (P.rows positions.old) k }
     ensures there { OnOk result (AreEntered (P.rows positions.new) bookings.now) }
+    ensures others { (k : Key) → AreElsewhere k bookings.now
+        → has_row (P.rows positions.new) k ≡ has_row (P.rows positions.old) k }
 {
     for booking in bookings {
         positions.enter(key_of(&booking.entry))?;
@@ -52,7 +54,7 @@ fn book_one<P: Positions<A>, A>(positions: &mut P, booking: &Booking)
     requires small { IsSmall booking.now.entry }
     ensures made { (k : Key) → holding_at (P.rows positions.new) k
         ≡ made booking.now k (holding_at (P.rows positions.old) k) }
-    ensures kept { (k : Key) → has_row (P.rows positions.old) k ≡ true → has_row (P.rows positions.new) k ≡ true }
+    ensures places { (k : Key) → has_row (P.rows positions.new) k ≡ has_row (P.rows positions.old) k }
 {
     let key = &key_of(&booking.entry);
     positions.add(*key, booking.entry.shares, booking.entry.cents);
@@ -67,8 +69,9 @@ fn book_all<P: Positions<A>, A>(positions: &mut P, bookings: &[Booking])
     requires space { HaveSpace (P.rows positions.old) bookings.now }
     requires small { AreSmall bookings.now }
     requires rise { is_sorted key_cmp (by_key bookings.now) ≡ true }
-    ensures { (k : Key) → holding_at (P.rows positions.new) k
+    ensures made { (k : Key) → holding_at (P.rows positions.new) k
         ≡ makes bookings.now k (holding_at (P.rows positions.old) k) }
+    ensures places { (k : Key) → has_row (P.rows positions.new) k ≡ has_row (P.rows positions.old) k }
 {
     for booking in bookings {
         book_one(positions, booking);
@@ -85,28 +88,32 @@ impl<A: Allocator + Drop> Bookings<A> {
         Bookings { bookings }
     }
 
-    /// Gives each key a row, so that `book` takes no memory. What stands at each key stays.
+    /// Gives each key a row, so that `book` takes no memory. What stands at each key stays, and no other key gets a row.
     ///
     /// `NoMemory` where a growth was refused; rows of zeros that were made stay then.
     pub fn enter<P: Positions<B>, B>(&self, positions: &mut P) -> Result<(), NoMemory>
         ensures same { (k : Key) → holding_at (P.rows positions.new) k ≡ holding_at (P.rows positions.old) k }
         ensures there { OnOk result (AreEntered (P.rows positions.new) self.now) }
+        ensures others { (k : Key) → AreElsewhere k self.now
+            → has_row (P.rows positions.new) k ≡ has_row (P.rows positions.old) k }
     {
         enter_all(positions, self.bookings.as_slice())
     }
 
     /// Makes the bookings: each key gets its shares and cents, and the age that is brought where that is greater than what was
-    /// brought before. Its opening and its own age stay, and so does every other key. It takes no memory.
+    /// brought before. Its opening and its own age stay, and so does every other key. It takes no memory, and no key gets a
+    /// row.
     pub fn book<P: Positions<B>, B>(&self, positions: &mut P)
         requires there { AreEntered (P.rows positions.old) self.now }
         requires within { CanBeBooked (P.rows positions.old) }
-        ensures { (k : Key) → holding_at (P.rows positions.new) k
+        ensures made { (k : Key) → holding_at (P.rows positions.new) k
             ≡ makes self.now k (holding_at (P.rows positions.old) k) }
+        ensures places { (k : Key) → has_row (P.rows positions.new) k ≡ has_row (P.rows positions.old) k }
     {
         book_all(positions, self.bookings.as_slice());
     }
 
-    /// Makes the bookings at once, as `enter` and `book` do.
+    /// Makes the bookings at once, as `enter` and `book` do: no key gets a row but theirs.
     ///
     /// `NoMemory` where a growth was refused, and then what stands at each key stays.
     pub fn make<P: Positions<B>, B>(&self, positions: &mut P) -> Result<(), NoMemory>
@@ -114,6 +121,8 @@ impl<A: Allocator + Drop> Bookings<A> {
         ensures ok { OnOk result ((k : Key) → holding_at (P.rows positions.new) k
             ≡ makes self.now k (holding_at (P.rows positions.old) k)) }
         ensures err { OnErr result ((k : Key) → holding_at (P.rows positions.new) k ≡ holding_at (P.rows positions.old) k) }
+        ensures others { (k : Key) → AreElsewhere k self.now
+            → has_row (P.rows positions.new) k ≡ has_row (P.rows positions.old) k }
     {
         self.enter(positions)?;
         self.book(positions);

@@ -1,6 +1,6 @@
 -- One command more in the history.
 -- For `take` of book.rt, clause ok.
-use Rattle.std.proofs.Common.{◌≡◌, ◌∙◌, sym, ap, subst, refl, ℕ, suc, ◌+◌, ◌-◌, ◌≤◌, ◌<◌, Bool, true, false, cond, eqb, List, [], ◌∷◌, ◌++◌, length, set, get_or, reverse, Ok, arith, get_or-set_other}
+use Rattle.std.proofs.Common.{◌≡◌, ◌∙◌, sym, ap, subst, refl, ℕ, suc, ◌+◌, ◌-◌, ◌≤◌, ◌<◌, Bool, true, false, cond, eqb, List, [], ◌∷◌, ◌++◌, length, set, get_or, reverse, Ok, arith, nat_lt, get_or-set_other}
 use Rattle.cns_book.proofs.Common.{Activity, Command, Contents, Day, Follows, HasRoom, IsLegal, Reply, Taken, accepted, answer_to, count, history_limit, nat_tests, reverse-append, sum_by-cons}
 use Rattle.std.proofs.lemmas.Grind.{get_or-set_at}
 use Rattle.cns_terms.specs.declared.worker.Worker.{Worker}
@@ -69,3 +69,11 @@ book_grows limit H counts s s' w cmd r b few low high len same step = record {
 -- the history's newest entry is the vector's last
 pub reverse_push : {X : Type 0} (xs : List X) (x : X) → reverse (xs ++ x ∷ []) ≡ x ∷ reverse xs
 reverse_push xs x = reverse-append xs (x ∷ [])
+
+-- what is no more than a limit and is not the limit is less
+pub below : (n m : ℕ) → n ≤ m → (n ≡ m → ⊥) → n < m
+below n m most apart = by (nat_lt n m) refl
+  where
+    by : (b : Bool) → nat_lt n m ≡ b → n < m
+    by true e = grind (arith, nat_tests)
+    by false e = absurd (apart (grind (arith, nat_tests)))

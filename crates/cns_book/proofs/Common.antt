@@ -19,7 +19,7 @@ pub use Rattle.cns_terms.specs.declared.refusal.Refusal.{Refusal}
 pub use Rattle.cns_terms.specs.declared.refusal.Refusal.TheVariants.{AlreadyNoticed, ExceedsPosition, NoSuchIssue, NoSuchMember, NoSuchNotice, NotLive, NotLong, Retired, WrongDay}
 pub use Rattle.cns_terms.specs.declared.reply.Reply.{Reply}
 pub use Rattle.cns_terms.specs.declared.sheet.Row.{Row}
-pub use Rattle.cns_positions.specs.Rows.{Rows, books, holding_at, rolled, with_age}
+pub use Rattle.cns_positions.specs.Rows.{Rows, books, has_row, holding_at, rolled, with_age}
 pub use Rattle.cns_notices.specs.Kept.{kept_notices, received_live}
 pub use Rattle.cns_notices.specs.Noticed.{live_number, with_notice}
 pub use Rattle.cns_notices.specs.declared.noticed.Noticed.{Noticed}

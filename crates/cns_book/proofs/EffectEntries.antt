@@ -1,10 +1,9 @@
 -- Entries, booked one after another.
--- For `book` of effect.rt.
-use Rattle.std.proofs.Common.{◌≡◌, ◌∙◌, sym, ap, subst, refl, ℕ, suc, zero, ◌+◌, ◌*◌, ◌^◌, ◌≤◌, ◌<◌, ℤ, pos, ◌+ℤ◌, Bool, true, false, cond, List, [], ◌∷◌, ◌++◌, length, map, take, get_or, arith, unsigned_abs, Contains}
-use Rattle.cns_book.proofs.Common.{AreSmallEntries, Contains-get_or, Entry, Holding, IsSmallEntry, Key, Rows, booking_limit, books, cents_for, corporation_limit, history_limit, holding_at, ints, length-map, shares_for, take_more, total, total-append}
-use Rattle.std.proofs.lemmas.List.{get_or-map}
+-- For `book` and `prepare` of effect.rt.
+use Rattle.std.proofs.Common.{◌≡◌, ◌∙◌, sym, ap, refl, ℕ, suc, zero, ◌+◌, ◌*◌, ◌^◌, ◌≤◌, ◌<◌, ℤ, pos, ◌+ℤ◌, Bool, true, false, cond, List, [], ◌∷◌, ◌++◌, length, take, get_or, arith, unsigned_abs, Contains}
+use Rattle.cns_book.proofs.Common.{AreSmallEntries, Entry, Holding, IsSmallEntry, Key, Rows, booking_limit, books, cents_for, corporation_limit, has_row, history_limit, holding_at, ints, shares_for, take_more, total, total-append}
 use Rattle.cns_positions.specs.Rows.{booked}
-use Rattle.cns_book.specs.Effects.{AreWithin, place_of, places_of}
+use Rattle.cns_book.specs.Effects.{AreThere, AreWithin, place_of, places_of}
 
 one_last : (a b q : ℤ) → (a +ℤ (b +ℤ pos 0)) +ℤ q ≡ (a +ℤ q) +ℤ b
 one_last a b q = omega (arith, ints)
@@ -23,11 +22,11 @@ pub books_step : (es : List Entry) (i : ℕ) (e : Entry) (k : Key) (h : Holding)
 books_step es i e k h lt is =
     books_more (take i es) e k h ∙ ap (λ xs. books xs k h) (ap (λ x. take i es ++ (x ∷ [])) is ∙ sym (take_more es i e lt))
 
--- the place of an entry is among theirs
-pub place_at : (es : List Entry) (i : ℕ) (e : Entry) → i < length es → e ≡ get_or es i e → Contains (places_of es) (place_of e)
-place_at es i e lt is =
-    let in_range : i < length (map place_of es) = rw (length-map es place_of) lt in
-    subst (Contains (places_of es)) (get_or-map place_of es i e (place_of e) lt ∙ ap place_of (sym is)) (Contains-get_or (places_of es) i (place_of e) in_range)
+-- the place of an entry among them has a row
+pub place_there : (rows : Rows) (es : List Entry) (i : ℕ) (e : Entry) → AreThere rows es → i < length es → e ≡ get_or es i e → has_row rows (place_of e) ≡ true
+place_there rows [] i e a lt is = absurd (omega (arith, lt))
+place_there rows (x ∷ es) zero e a lt is = ap (λ y. has_row rows (place_of y)) is ∙ a.0
+place_there rows (x ∷ es) (suc i) e a lt is = place_there rows es i e a.1 (omega (arith, lt)) is
 
 -- the entry at a place of small ones is small, and its place among theirs
 pub small_at : (es : List Entry) (i : ℕ) (d : Entry) → AreSmallEntries es → i < length es → IsSmallEntry (get_or es i d)
@@ -75,3 +74,17 @@ shares_fit es i rows k small few w = fits_shares _ (holding_at rows k).now (leng
 
 pub cents_fit : (es : List Entry) (i : ℕ) (rows : Rows) (k : Key) → AreSmallEntries es → length es ≤ 10 ^ 4 → AreWithin rows → unsigned_abs (books (take i es) k (holding_at rows k)).contract ≤ 2 ^ 126
 cents_fit es i rows k small few w = fits_cents _ (holding_at rows k).contract (length (take i es)) (length es) (cents_few k.account k.issue (take i es) (small_first es i small)) (fewer es i) few (w.cents k)
+
+-- ---- rows for two entries
+
+-- the keys of both are their places
+pub both_places : (es : List Entry) (a b : Entry) (p q : Key) → length es ≡ 2 → p ≡ place_of (get_or es 0 a) → q ≡ place_of (get_or es 1 b) → p ∷ q ∷ [] ≡ places_of es
+both_places [] a b p q two own other = cc
+both_places (x ∷ []) a b p q two own other = cc
+both_places (x ∷ y ∷ []) a b p q two own other = λ i. own i ∷ other i ∷ []
+both_places (x ∷ y ∷ z ∷ es) a b p q two own other = cc
+
+-- where each of their places has a row, each entry's has
+pub each_there : (rows : Rows) (es : List Entry) → ((k : Key) → Contains (places_of es) k → has_row rows k ≡ true) → AreThere rows es
+each_there rows [] h = tt
+each_there rows (x ∷ es) h = (h (place_of x) (0, omega arith, refl), each_there rows es (λ k c. h k (suc c.0, omega (arith, c.1), c.2)))

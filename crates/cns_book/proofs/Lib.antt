@@ -28,6 +28,8 @@ pub mod ExecutionRefusals
 pub mod ExecutionFills
 pub mod ExecutionSteps
 pub mod ActionSteps
+pub mod ActionPlaces
+pub mod ReceiptPlaces
 pub mod ClosedDaysSearch
 pub mod BookTaking
 pub mod BookCrossing

@@ -1,13 +1,13 @@
 -- Where entries are booked, and what splits and exchanges are checked for.
-use Rattle.std.specs.Prelude.{◌≤◌, ◌*◌, Bool, not, ◌&&◌, ◌||◌, List, [], ◌∷◌, map, unsigned_abs}
-use Rattle.cns_terms.specs.Common.{Day, Journal, Rule, booking_limit, corporation_limit, history_limit, is_listed, is_retired, pending, same_issue}
+use Rattle.std.specs.Prelude.{◌≡◌, ◌≤◌, true, ◌*◌, Bool, not, ◌&&◌, ◌||◌, List, [], ◌∷◌, map, unsigned_abs}
+use Rattle.cns_terms.specs.Common.{AllByRecursion, Day, Journal, Rule, booking_limit, corporation_limit, history_limit, is_listed, is_retired, pending, same_issue}
 use Rattle.cns_terms.specs.declared.action.Exchange.{Exchange}
 use Rattle.cns_terms.specs.declared.command.Activity.{Activity}
 use Rattle.cns_terms.specs.declared.command.Activity.TheVariants as activity
 use Rattle.cns_terms.specs.declared.holding.Entry.{Entry}
 use Rattle.cns_terms.specs.declared.holding.Key.{Key}
 use Rattle.cns_terms.specs.declared.refusal.Refusal.TheVariants.{NoSuchIssue, Retired, SameIssue}
-use Rattle.cns_positions.specs.Rows.{Rows, holding_at}
+use Rattle.cns_positions.specs.Rows.{Rows, has_row, holding_at}
 use Rattle.cns_actions.specs.declared.action.Action.{Action}
 use Rattle.cns_actions.specs.Booked.{waits_for}
 use Rattle.cns_actions.specs.declared.action.Action.TheVariants as action
@@ -19,6 +19,10 @@ place_of e = record { account = e.account; issue = e.issue }
 -- where entries are booked
 abbrev pub places_of : List Entry → List Key
 places_of es = map place_of es
+
+-- each of their places has a row
+abbrev pub AreThere : Rows → List Entry → Type 0
+AreThere rows es = AllByRecursion (λ e. has_row rows (place_of e) ≡ true) es
 
 -- no position is beyond its limit, and no cents beyond what all activities can book
 pub record AreWithin (rows : Rows) : Type 0 where

@@ -105,6 +105,7 @@ Answers old cmd r new = (L : List Activity) → Follows L old → Steps L cmd r 
 -- whether a command may need more memory than its entry in the history does
 abbrev pub may_grow : Command → Bool
 may_grow (command.Activity (activity.Price l)) = false
+may_grow (command.Activity (activity.Receive m)) = false
 may_grow (command.Activity (activity.Withdraw k)) = false
 may_grow (command.Activity _) = true
 may_grow (command.Position k) = false

@@ -4,6 +4,7 @@ pub mod Dated
 pub mod Effects
 pub mod Executions
 pub mod Follows
+pub mod Places
 pub mod Legal
 pub mod Log
 pub mod Members

@@ -5,6 +5,7 @@ use Rattle.cns_terms.specs.declared.command.Command.{Command}
 use Rattle.cns_terms.specs.declared.history.Taken.{Taken}
 use Rattle.cns_terms.specs.declared.worker.Worker.{Worker}
 use Rattle.cns_terms.specs.History.{state}
+use Rattle.cns_positions.specs.Rows.{Rows}
 use Rattle.cns_book.specs.declared.receipt.Receipt.{Receipt}
 
 -- what a book remembers: its opening date, the most commands that it takes, and its history, the newest first
@@ -13,10 +14,12 @@ pub record Log : Type 0 where
   pub limit : ℕ
   pub history : List Taken
 
--- a book: its log, from which all that it answers follows, and how many rows its positions have, of zeros too
+-- a book: its log, from which all that it answers follows; the rows of its positions, of zeros too; and for how many entries
+-- more its history has room
 pub record BookView : Type 0 where
   pub log : Log
-  pub rows : ℕ
+  pub rows : Rows
+  pub room : ℕ
 
 -- the log of a book that has taken nothing yet
 abbrev pub empty_log : Day → ℕ → Log

@@ -1,7 +1,7 @@
 // The book over its history.
 ghost use Rattle.std.specs.Arc.{arc_value};
 ghost use Rattle.std.specs.Option.{option_copied};
-ghost use Rattle.std.specs.Prelude.{◌≡◌, ◌-◌, ◌<◌, ◌^◌, ◌↔◌, option_map, length, IfOk, OnErr, OnOk, Err, replicate, reverse};
+ghost use Rattle.std.specs.Prelude.{◌≡◌, ◌-◌, ◌<◌, ◌^◌, ◌↔◌, ◌⊎◌, [], None, true, option_map, length, IfOk, OnErr, OnOk, Err, replicate, reverse};
 ghost use Rattle.cns_terms.specs.Days.{date, day};
 ghost use Rattle.cns_terms.specs.History.{IsLegal, commands_of, count, replies_of};
 ghost use Rattle.cns_terms.specs.Laws.{journal_of};
@@ -10,7 +10,10 @@ ghost use Rattle.cns_terms.specs.Machine.{opened, replies};
 ghost use Rattle.cns_terms.specs.Reached.{IsReached};
 ghost use Rattle.cns_terms.specs.Sheets.{sheet_on};
 ghost use Rattle.cns_book.specs.Shown.{batch_shown, batches_shown, entry_at, notice_shown, position_shown, price_shown};
+ghost use Rattle.cns_terms.specs.Refusals.{refusal};
+ghost use Rattle.cns_book.specs.Follows.{may_grow};
 ghost use Rattle.cns_book.specs.Log.{TakesStep, empty_log, state_of};
+ghost use Rattle.cns_book.specs.Places.{KeepsRows, PlacesStay};
 
 use crate::notice::Notice;
 use crate::parts::Parts;
@@ -25,7 +28,8 @@ use std::marker::Model;
 use std::sync::Arc;
 
 /// A book over any form of positions. Contracts see its log, which is its opening date, its limit and its history, the
-/// newest first, and how many rows its positions have. All that a book answers follows from its log.
+/// newest first, the rows of its positions, and for how many entries more the history has room. All that a book answers
+/// follows from its log.
 ///
 /// The type keeps that the history is legal, that each reply in it is the machine's, and that every part shows what
 /// the definitions say of the accepted activities.
@@ -38,7 +42,7 @@ pub struct Book<P: Positions<A>, A: Allocator + Drop + Clone> {
 }
 
 impl<P: Positions<A>, A: Allocator + Drop + Clone> Model for Book<P, A> {
-    ghost use Rattle.std.specs.Prelude.{length, reverse};
+    ghost use Rattle.std.specs.Prelude.{◌-◌, reverse, vec_capacity, vec_len};
     ghost use Rattle.cns_book.specs.Legal.{IsBook};
     ghost use Rattle.cns_book.specs.Log.{BookView};
 
@@ -46,7 +50,8 @@ impl<P: Positions<A>, A: Allocator + Drop + Clone> Model for Book<P, A> {
 
     ghost view = { λ b. record {
       log = record { opening = b.parts.opening; limit = b.limit; history = reverse b.history.items };
-      rows = length b.parts.rows;
+      rows = b.parts.rows;
+      room = vec_capacity b.history - vec_len b.history;
     } };
 
     ghost invariant = { λ b. IsBook b.limit (reverse b.history.items) b.counts b.parts };
@@ -57,7 +62,7 @@ impl<P: Positions<A>, A: Allocator + Drop + Clone> Book<P, A> {
     /// `NoMemory` where the allocator could not be copied.
     pub fn new(alloc: A, date: Day) -> Result<Self, NoMemory>
         ensures log { IfOk result (λ b. b.log ≡ empty_log date (2 ^ 32 - 1)) }
-        ensures rows { IfOk result (λ b. b.rows ≡ 0) }
+        ensures rows { IfOk result (λ b. b.rows ≡ []) }
     {
         Book::with_limit(alloc, date, u32::MAX)
     }
@@ -65,7 +70,7 @@ impl<P: Positions<A>, A: Allocator + Drop + Clone> Book<P, A> {
     /// A book that has taken nothing, opened on the date, for at most that many commands.
     pub fn with_limit(alloc: A, date: Day, limit: u32) -> Result<Self, NoMemory>
         ensures log { IfOk result (λ b. b.log ≡ empty_log date limit) }
-        ensures rows { IfOk result (λ b. b.rows ≡ 0) }
+        ensures rows { IfOk result (λ b. b.rows ≡ []) }
     {
         Ok(Book {
             limit,
@@ -182,17 +187,32 @@ impl<P: Positions<A>, A: Allocator + Drop + Clone> Book<P, A> {
         self.counts[worker.value() as usize - 1]
     }
 
+    /// Whether the history is at its limit: no command is taken any more.
+    pub fn is_full(&self) -> bool
+        ensures { (result ≡ true) ↔ (length self.now.log.history ≡ self.now.log.limit) }
+    {
+        self.history.len() >= self.limit as usize
+    }
+
     /// Takes a command: answers it as the machine does, and enters it and its reply into the history.
     ///
-    /// `Full` exactly where the history is at its limit, before anything else is looked at; `NoMemory` where a growth
-    /// was refused. After either the book's log is as it was, and so is all that it answers; want of memory may leave rows
-    /// of zeros behind. A command that the machine refuses is taken, and stands in the history with its refusal.
+    /// `Full` exactly where the history is at its limit, before anything else is looked at. `NoMemory` where a growth was
+    /// refused: that of the history, which comes first and is asked for only where it has no room left; or one of a command
+    /// that no rule refuses and that is none of those that take no memory (`may_grow`). After either the book's log is as it
+    /// was, and so is all that it answers; want of memory may leave rows of zeros where the command would have booked. A
+    /// command that the machine refuses is taken, and stands in the history with its refusal; the positions have the rows
+    /// then that they had.
     pub fn take(&mut self, worker: Worker, command: Command) -> Result<Receipt, TakeFault>
         ensures full { (result ≡ Err TakeFault.Full) ↔ (length self.old.log.history ≡ self.old.log.limit) }
         ensures ok { IfOk result (λ r. TakesStep self.old.log self.new.log worker command r) }
         ensures err { OnErr result (self.new.log ≡ self.old.log) }
+        ensures places { PlacesStay command self.old.rows self.new.rows }
+        ensures same_rows { KeepsRows result self.old.rows self.new.rows }
+        ensures memory { result ≡ Err TakeFault.NoMemory → (self.old.room ≡ 0)
+            ⊎ ((refusal self.old.log.opening (journal_of (state_of self.old.log)) command ≡ None)
+            × (may_grow command ≡ true)) }
     {
-        if self.history.len() >= self.limit as usize {
+        if self.is_full() {
             return Err(TakeFault::Full);
         }
         let worker = &worker;

@@ -1,5 +1,5 @@
 // Look-ups whose comparisons are counted, of a book over the tree of positions.
-ghost use Rattle.std.specs.Prelude.{◌≡◌, ◌+◌, ◌*◌, ◌≤◌, min};
+ghost use Rattle.std.specs.Prelude.{◌≡◌, ◌+◌, ◌*◌, ◌≤◌, length, min};
 ghost use Rattle.cns_terms.specs.Digits.{binary_digits};
 ghost use Rattle.cns_book.specs.Log.{state_of};
 ghost use Rattle.cns_book.specs.Shown.{position_shown};
@@ -14,7 +14,7 @@ impl<A: Allocator + Drop + Clone> Book<TreePositions<A>, A> {
     /// How many rows the positions have; past `usize::MAX`, which no memory holds, that number. Rows of zeros count too: a
     /// command that was refused for want of memory may leave some, so this alone may differ where all answers agree.
     pub fn position_rows(&self) -> usize
-        ensures { result ≡ min self.now.rows usize.MAX }
+        ensures { result ≡ min (length self.now.rows) usize.MAX }
     {
         self.parts.position_rows()
     }
@@ -30,7 +30,7 @@ impl<A: Allocator + Drop + Clone> Book<TreePositions<A>, A> {
         requires { probe.old.0 ≡ record { account = account; issue = cusip } }
         ensures value { result ≡ position_shown (state_of self.now.log) (record { account = account; issue = cusip }) }
         ensures key { probe.new.0 ≡ probe.old.0 }
-        ensures count { probe.new.1 ≤ probe.old.1 + 2 * binary_digits self.now.rows }
+        ensures count { probe.new.1 ≤ probe.old.1 + 2 * binary_digits (length self.now.rows) }
     {
         self.parts.position_counted(
             Key {

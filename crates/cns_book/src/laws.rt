@@ -29,7 +29,8 @@ pub fn positions()
     ensures { Positions }
 {}
 
-/// In each issue a member's position stays within 10^10 shares, and the corporation's within 10^14.
+/// In each issue a member's position stays within 10^10 shares, long with the shares that it is to get by trades that wait,
+/// and short with those that it is to give, so that no close takes it beyond; and the corporation's within 10^14.
 pub fn bounds()
     ensures { Bounds }
 {}

@@ -7,6 +7,7 @@ ghost use Rattle.cns_book.specs.Members.{has_member};
 ghost use Rattle.cns_terms.specs.declared.command.Activity.{Activity};
 ghost use Rattle.cns_terms.specs.declared.command.Command.TheVariants as command;
 ghost use Rattle.cns_book.specs.Follows.{Answers, Follows, HasRoom, may_grow};
+ghost use Rattle.cns_book.specs.Places.{PlacesStay, StaysIfRefused};
 
 use crate::closed_days::ClosedDays;
 use crate::members::Members;
@@ -131,6 +132,8 @@ impl<P: Positions<A>, A: Allocator + Drop + Clone> Parts<P, A> {
         requires { HasRoom self.old }
         ensures opening { self.new.opening ≡ self.old.opening }
         ensures step { Answers self.old (command.Activity activity.now) result self.new }
+        ensures places { PlacesStay (command.Activity activity.now) self.old.rows self.new.rows }
+        ensures refused { StaysIfRefused result self.old self.new }
         ensures grows { OnErr result (may_grow (command.Activity activity.now) ≡ true) }
     {
         match activity {
@@ -139,7 +142,7 @@ impl<P: Positions<A>, A: Allocator + Drop + Clone> Parts<P, A> {
             Activity::Trade(trade) => self.book_trade(trade),
             Activity::Price(listing) => Ok(self.set_price(*listing)),
             Activity::Deliver(movement) => self.deliver(movement),
-            Activity::Receive(movement) => self.receive(movement),
+            Activity::Receive(movement) => Ok(self.receive(movement)),
             Activity::Dividend(declared) => self.declare_dividend(declared),
             Activity::Split(split) => self.split(split),
             Activity::Exchange(exchange) => self.exchange(exchange),
@@ -155,6 +158,8 @@ impl<P: Positions<A>, A: Allocator + Drop + Clone> Parts<P, A> {
         requires { HasRoom self.old }
         ensures opening { self.new.opening ≡ self.old.opening }
         ensures step { Answers self.old command.now result self.new }
+        ensures places { PlacesStay command.now self.old.rows self.new.rows }
+        ensures refused { StaysIfRefused result self.old self.new }
         ensures grows { OnErr result (may_grow command.now ≡ true) }
     {
         match command {

@@ -109,15 +109,15 @@ impl<L: Ledger, P: Positions<Global>> Kept<L, P> {
     }
 
     /// Hands out the book's sheet of the closed day with the date, and takes the STATEMENT of account 0 on it for the seat's
-    /// worker. Where no closed day has the date, the command is refused and no sheet is handed out. `NoMemory` also where
-    /// the copy of the sheet's `Arc` is refused, and then nothing is taken. After a fault the book and the seat are as
-    /// they were.
+    /// worker. Where no closed day has the date, the command is refused and no sheet is handed out. `Full` exactly where the
+    /// history is at its limit. `NoMemory` also where the copy of the sheet's `Arc` is refused, and then nothing is taken.
+    /// After a fault the book and the seat are as they were.
     pub fn sheet(
         &mut self,
         seat: &mut Seat<L>,
         date: Day,
     ) -> Result<(Receipt, Option<Arc<Sheet<Global>>>), TakeFault>
-        ensures full { (result ≡ Err TakeFault.Full) → length self.old.history ≡ self.old.limit }
+        ensures full { (result ≡ Err TakeFault.Full) ↔ (length self.old.history ≡ self.old.limit) }
         ensures ok { IfOk result (λ r. TakesStep self.old self.new seat.old.worker (command_is.Statement 0 date) r.0) }
         ensures raised { IfOk result (λ _. Raised seat.old seat.new) }
         ensures handed { IfOk result (λ r. Hands date r.0.reply (option_map arc_value r.1)) }
@@ -125,6 +125,9 @@ impl<L: Ledger, P: Positions<Global>> Kept<L, P> {
             (λ r. option_map arc_value r.1 ≡ sheet_on self.old.opening (journal_of (state_of self.old)) date) }
         ensures err { OnErr result ((self.new ≡ self.old) × (seat.new ≡ seat.old)) }
     {
+        if self.book.is_full() {
+            return Err(TakeFault::Full);
+        }
         let Ok(sheet) = self.copy_of(date) else {
             return Err(TakeFault::NoMemory);
         };

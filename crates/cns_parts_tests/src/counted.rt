@@ -1,7 +1,7 @@
 // Tests of counted comparisons: what a probe counts, and at most two comparisons for each binary digit of the number of rows,
 // whatever the order in which the rows came.
-ghost use Rattle.std.specs.Prelude.{◌≡◌};
-ghost use Rattle.cns_positions.specs.Rows.{IsThere};
+ghost use Rattle.std.specs.Prelude.{◌≡◌, true};
+ghost use Rattle.cns_positions.specs.Rows.{has_row};
 
 use crate::tree::{ORDERS, Order, placed_key, placed_tree};
 use crate::values::{APPLE, CISCO, key};
@@ -108,10 +108,10 @@ fn nothing_is_compared_in_an_empty_tree(rt: HostRuntime) {
     assert!(rt; tree.get(*key) == Some(7));
 }
 
-// Books a share at a prepared key where none stands, and takes it back where one does. How many comparisons that took.
+// Books a share at a key that has a row where none stands, and takes it back where one does. How many comparisons that took.
 fn turn_share(positions: &mut TreePositions<Global>, key: &Key) -> u64
-    requires { IsThere positions.old.rows positions.old.prepared key.now }
-    ensures { positions.new.prepared ≡ positions.old.prepared }
+    requires { has_row positions.old key.now ≡ true }
+    ensures { has_row positions.new key.now ≡ true }
 {
     let mut probe = Probe::new(*key);
     let held = positions.get(*key);

@@ -1,8 +1,9 @@
 // Tests of the positions.
 //
 // Each test runs over every form of positions; a new form is one line more in each.
-ghost use Rattle.std.specs.Prelude.{◌≡◌, ◌<◌, ◌≤◌, length};
-ghost use Rattle.cns_positions.specs.Rows.{IsThere};
+ghost use Rattle.std.specs.Prelude.{◌≡◌, ◌<◌, length, true};
+ghost use Rattle.cns_terms.specs.declared.holding.Key.{Key};
+ghost use Rattle.cns_positions.specs.Rows.{has_row};
 
 use crate::values::{APPLE, key};
 use cns_positions::{FlatPositions, NextRows, Positions, Step, TreePositions, run};
@@ -27,10 +28,10 @@ fn holding(now: i64, opening: i64, contract: i128, run: u32) -> Holding {
     }
 }
 
-// Books shares and cents at a key that is there or prepared, where nothing stands yet.
+// Books shares and cents at a key that has a row, where nothing stands yet.
 fn add<P: Positions<Global>>(positions: &mut P, key: &Key, shares: i32, cents: i32)
-    requires { IsThere (P.rows positions.old) (P.prepared positions.old) key.now }
-    ensures { P.prepared positions.new ≡ P.prepared positions.old }
+    requires { has_row (P.rows positions.old) key.now ≡ true }
+    ensures { (k : Key) → has_row (P.rows positions.new) k ≡ has_row (P.rows positions.old) k }
 {
     let held = positions.get(*key);
     if held.now == 0 && held.contract == 0 {
@@ -45,9 +46,7 @@ fn book<P: Positions<Global>>(
     keys: &[Key],
     shares: i32,
     cents: i32,
-)
-    requires { length keys.now ≤ 4 }
-{
+) {
     positions.prepare(keys).expect(rt, "memory");
     for key in keys {
         add(positions, key, shares, cents);

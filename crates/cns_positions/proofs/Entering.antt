@@ -1,10 +1,9 @@
 -- Keys that are given rows one after another.
--- For `enter`, `enter_all` and `prepare` of flat.rt, `prepare` of tree.rt and others.
-use Rattle.std.proofs.Common.{◌≡◌, ◌≢◌, ◌∙◌, sym, ap, subst, refl, true, List, [], ◌∷◌, ◌++◌, ℕ, ◌<◌, ◌+◌, length, get_or, take, drop, inl, inr, Option, None, Some, is_some, Result, Ok, Err, OnErr, Any, Contains, take-append-drop}
+-- For `enter` and `enter_all` of flat.rt, `enter` and `enter_all` of tree.rt.
+use Rattle.std.proofs.Common.{◌≡◌, ◌≢◌, ◌∙◌, sym, ap, subst, refl, true, List, [], ◌∷◌, ◌++◌, ℕ, ◌<◌, ◌+◌, length, get_or, take, inl, inr, Option, None, Some, is_some, Result, Ok, Err, OnErr, Any, Contains}
 use Rattle.cns_positions.proofs.Common.{Contains-get_or, Holding, Key, Rows, has_row, take_more}
-use Rattle.std.proofs.lemmas.List.Elements.{Contains-append_left, Contains-push, Contains-push_cases}
-use Rattle.cns_positions.specs.Rows.{LacksRoom, row_at}
-use Rattle.cns_positions.specs.Contents.{IsKept}
+use Rattle.std.proofs.lemmas.List.Elements.{Contains-push_cases}
+use Rattle.cns_positions.specs.Rows.{row_at}
 
 -- what holds at all holds at an error
 pub at_error : {T E P : Type 0} (r : Result T E) → P → OnErr r P
@@ -23,18 +22,9 @@ entered_more old new keys i key lt is were kept there k h =
       | inr same ↦ ap (has_row new) (sym same) ∙ there
     ]
 
--- the rows of keys that are not among those so far are as they were
-pub others_more : (was old new : Rows) (keys : List Key) (i : ℕ) (key : Key) → i < length keys → key ≡ get_or keys i key → ((k : Key) → ¬ Contains (take i keys) k → row_at old k ≡ row_at was k) → ((k : Key) → k ≢ key → row_at new k ≡ row_at old k) → (k : Key) → ¬ Contains (take (i + 1) keys) k → row_at new k ≡ row_at was k
-others_more was old new keys i key lt is before here k apart =
-    let within : Contains (take i keys ++ key ∷ []) k → Contains (take (i + 1) keys) k = λ h. subst (λ ks. Contains ks k) (sym (taken keys i key lt is)) h in
-    here k (λ same. apart (within (subst (λ x. Contains (take i keys ++ key ∷ []) x) (sym same) (Contains-push (take i keys) key))))
-    ∙ before k (λ h. apart (within (Contains-append_left (take i keys) (key ∷ []) k h)))
-
--- so are those of keys that are not among them at all
-pub others_all : (was old new : Rows) (keys : List Key) (i : ℕ) (key : Key) → i < length keys → key ≡ get_or keys i key → ((k : Key) → ¬ Contains (take i keys) k → row_at old k ≡ row_at was k) → ((k : Key) → k ≢ key → row_at new k ≡ row_at old k) → (k : Key) → ¬ Contains keys k → row_at new k ≡ row_at was k
-others_all was old new keys i key lt is before here k apart =
-    here k (λ same. apart (subst (λ x. Contains keys x) (sym (same ∙ is)) (Contains-get_or keys i key lt)))
-    ∙ before k (λ h. apart (subst (λ ks. Contains ks k) (take-append-drop i keys) (Contains-append_left (take i keys) (drop i keys) k h)))
+-- a key that is not among them is not the one at a place
+pub other_key : (keys : List Key) (i : ℕ) (key : Key) → i < length keys → key ≡ get_or keys i key → (k : Key) → ¬ Contains keys k → k ≢ key
+other_key keys i key lt is k apart same = apart (subst (Contains keys) (sym (same ∙ is)) (Contains-get_or keys i key lt))
 
 absent_by : (o p : Option Holding) → (is_some o ≡ true → is_some p ≡ true) → p ≡ None → o ≡ None
 absent_by None p kept none = refl
@@ -48,9 +38,3 @@ absent_before was now k kept none = absent_by (row_at was k) (row_at now k) (kep
 -- the key at a place had no row
 pub absent_at : (was now : Rows) (keys : List Key) (i : ℕ) (key : Key) → i < length keys → key ≡ get_or keys i key → ((q : Key) → has_row was q ≡ true → has_row now q ≡ true) → row_at now key ≡ None → Any (λ k. row_at was k ≡ None) keys
 absent_at was now keys i key lt is kept none = (i, key, lt, sym is, absent_before was now key kept none)
-
--- room has to be made for a key that has no row, since a prepared one has one
-pub lacks_room : (rows : Rows) (prepared keys : List Key) → IsKept rows prepared → Any (λ k. row_at rows k ≡ None) keys → Any (LacksRoom rows prepared) keys
-unfolding row_at
-lacks_room rows prepared keys kept (i, k, lt, at, absent) =
-    (i, k, lt, at, record { absent = absent; unprepared = λ p. let there = kept.entered k p in let none = ap is_some absent in cc })

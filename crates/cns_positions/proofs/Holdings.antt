@@ -37,6 +37,14 @@ holding_put es k v q = ap (λ o. unwrap_or o zeros) (find-put key_cmp keys_total
 pub row_stays : (es : Rows) (k : Key) (v : Holding) (q : Key) → has_row es q ≡ true → has_row (put key_cmp k v es) q ≡ true
 row_stays es k v q e = ap is_some (find-put key_cmp keys_total q k v es) ∙ either_some (is_eq (key_cmp q k)) v (find key_cmp q es) e
 
+-- where a key has a row, one that is put there changes nothing of which keys have rows
+pub places_put : (es : Rows) (k : Key) (v : Holding) → has_row es k ≡ true → (q : Key) → has_row (put key_cmp k v es) q ≡ has_row es q
+places_put es k v there q = ap is_some (find-put key_cmp keys_total q k v es) ∙ by (is_eq (key_cmp q k)) refl
+  where
+    by : (b : Bool) → is_eq (key_cmp q k) ≡ b → is_some (cond b (Some v) (find key_cmp q es)) ≡ has_row es q
+    by true t = sym there ∙ ap (has_row es) (sym (exact_keys q k (equal _ t)))
+    by false t = refl
+
 other_test : (b : Bool) (k q : Key) (v : Holding) (o : Option Holding) → is_eq (key_cmp q k) ≡ b → q ≢ k → cond b (Some v) o ≡ o
 other_test true k q v o t apart = absurd (apart (exact_keys q k (equal _ t)))
 other_test false k q v o t apart = refl

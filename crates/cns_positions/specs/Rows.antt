@@ -1,5 +1,5 @@
 -- Rows of positions: what stands at each key, in the order of keys.
-use Rattle.std.specs.Prelude.{◌≡◌, ◌+◌, ◌-◌, ◌^◌, ℕ, ℤ, pos, ◌+ℤ◌, int_lt, Bool, true, ◌&&◌, not, ◌==◌, min, max, List, [], ◌∷◌, ◌++◌, filter, filter_map, Option, Some, None, is_some, unwrap_or, Contains, ◌⊎◌, if◌then◌else◌}
+use Rattle.std.specs.Prelude.{◌≡◌, ◌+◌, ◌-◌, ◌^◌, ℕ, ℤ, pos, ◌+ℤ◌, int_lt, Bool, true, ◌&&◌, not, ◌==◌, min, max, List, [], ◌∷◌, ◌++◌, filter, filter_map, map, Option, Some, None, is_some, unwrap_or, if◌then◌else◌}
 use Rattle.cns_terms.specs.Common.{cents_for, entry, is_lt, key_cmp, oldest_of, same_issue, shares_for, total}
 use Rattle.std.specs.Ordering.{int_eq}
 use Rattle.std.specs.FinMap.{find}
@@ -29,15 +29,6 @@ holding_at rows k = unwrap_or (find key_cmp k rows) zeros
 abbrev pub is_held : Holding → Bool
 is_held h = not (int_eq h.now (pos 0) && int_eq h.opening (pos 0) && int_eq h.contract (pos 0) && (h.run == 0) && (h.carried == 0))
 
--- the key may be added to without memory
-abbrev pub IsThere : Rows → List Key → Key → Type 0
-IsThere rows prepared k = (has_row rows k ≡ true) ⊎ Contains prepared k
-
--- room has to be made for the key: it has no row and is not prepared
-pub record LacksRoom (rows : Rows) (prepared : List Key) (k : Key) : Type 0 where
-  pub absent : row_at rows k ≡ None
-  pub unprepared : ¬ Contains prepared k
-
 abbrev pub entry_of : Key → ℤ → ℤ → Entry
 entry_of k shares cents = entry k.account k.issue shares cents
 
@@ -66,6 +57,10 @@ rolled h = record {
   run = if int_lt h.now (pos 0) then min (oldest_of h + 1) (2 ^ 32 - 1) else 0;
   carried = 0;
 }
+
+-- what a close makes of the rows
+abbrev pub closed_rows : Rows → Rows
+closed_rows rows = map (λ r. (r.0, rolled r.1)) rows
 
 -- whether the key is above the other, if there is one
 abbrev pub is_above : Option Key → Key → Bool

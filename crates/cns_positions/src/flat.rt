@@ -8,33 +8,32 @@ ghost use Rattle.std.specs.declared.cmp.Ordering.{Ordering};
 ghost use Rattle.cns_terms.specs.Keys.{key_cmp};
 ghost use Rattle.cns_terms.specs.declared.holding.Holding.{Holding};
 ghost use Rattle.cns_terms.specs.declared.holding.Key.{Key};
-ghost use Rattle.cns_positions.specs.Rows.{aged, has_row, holding_at, booked, entry_of, held_above, is_held, present, row_at};
-ghost use Rattle.cns_positions.specs.Contents.{closed_rows};
+ghost use Rattle.cns_positions.specs.Rows.{aged, has_row, holding_at, booked, entry_of, held_above, closed_rows, is_held, present, row_at};
 
 use crate::holding::{add_to, carry_to, is_held, rolled};
 use crate::positions::{NextRows, Positions, Row};
-use crate::prepared::{Prepared, kept};
 use arrayvec::ArrayVec;
 use cns_terms::{Holding, Key, NoMemory};
 use std::alloc::Allocator;
 use std::marker::Model;
 
-/// Positions in one list of rows, in the order of their keys, which each call halves. Each prepared key has a row.
+/// Positions in one list of rows, in the order of their keys, which each call halves.
 #[derive(Drop)]
 pub struct FlatPositions<A: Allocator + Drop> {
     rows: Vec<Row, A>,
-    prepared: Prepared,
 }
 
 impl<A: Allocator + Drop> Model for FlatPositions<A> {
-    ghost use Rattle.cns_positions.specs.Contents.{Contents, IsKept};
-    ghost use Rattle.cns_positions.specs.Rows.{present};
+    ghost use Rattle.std.specs.Prelude.{◌≡◌, true};
+    ghost use Rattle.std.specs.FinMap.{is_sorted};
+    ghost use Rattle.cns_terms.specs.Keys.{key_cmp};
+    ghost use Rattle.cns_positions.specs.Rows.{Rows};
 
-    ghost Value = { Contents };
+    ghost Value = { Rows };
 
-    ghost view = { λ p. record { rows = p.rows.items; prepared = present p.prepared.items } };
+    ghost view = { λ p. p.rows.items };
 
-    ghost invariant = { λ p. IsKept p.rows.items (present p.prepared.items) };
+    ghost invariant = { λ p. is_sorted key_cmp p.rows.items ≡ true };
 }
 
 // Where the key's row is, or where it would go.
@@ -91,7 +90,7 @@ fn book(rows: &mut [Row], key: &Key, shares: i64, cents: i128)
     requires shares_fit { FitsSigned w64 ((holding_at rows.old key.now).now +ℤ shares) }
     requires cents_fit { FitsSigned w128 ((holding_at rows.old key.now).contract +ℤ cents) }
     ensures sorted { is_sorted key_cmp rows.new ≡ true }
-    ensures kept { (k : Key) → has_row rows.old k ≡ true → has_row rows.new k ≡ true }
+    ensures places { (k : Key) → has_row rows.new k ≡ has_row rows.old k }
     ensures others { (k : Key) → k ≢ key.now → row_at rows.new k ≡ row_at rows.old k }
     ensures booked { (k : Key) → holding_at rows.new k
         ≡ booked (entry_of key.now shares cents) k (holding_at rows.old k) }
@@ -106,7 +105,7 @@ fn carry(rows: &mut [Row], key: &Key, age: u32)
     requires sorted { is_sorted key_cmp rows.old ≡ true }
     requires there { has_row rows.old key.now ≡ true }
     ensures sorted { is_sorted key_cmp rows.new ≡ true }
-    ensures kept { (k : Key) → has_row rows.old k ≡ true → has_row rows.new k ≡ true }
+    ensures places { (k : Key) → has_row rows.new k ≡ has_row rows.old k }
     ensures others { (k : Key) → k ≢ key.now → row_at rows.new k ≡ row_at rows.old k }
     ensures carried { (k : Key) → holding_at rows.new k ≡ aged key.now age k (holding_at rows.old k) }
 {
@@ -160,14 +159,11 @@ fn first_rows(rows: &[Row]) -> NextRows
 }
 
 impl<A: Allocator + Drop + Clone> Positions<A> for FlatPositions<A> {
-    ghost rows = { λ p. p.rows };
-
-    ghost prepared = { λ p. p.prepared };
+    ghost rows = { λ p. p };
 
     fn new(alloc: A) -> Self {
         FlatPositions {
             rows: Vec::new(alloc),
-            prepared: ArrayVec::new(),
         }
     }
 
@@ -187,9 +183,7 @@ impl<A: Allocator + Drop + Clone> Positions<A> for FlatPositions<A> {
     }
 
     fn prepare(&mut self, keys: &[Key]) -> Result<(), NoMemory> {
-        enter_all(&mut self.rows, keys)?;
-        self.prepared = kept(keys);
-        Ok(())
+        enter_all(&mut self.rows, keys)
     }
 
     fn enter(&mut self, key: Key) -> Result<(), NoMemory> {
@@ -219,9 +213,6 @@ impl<A: Allocator + Drop + Clone> Positions<A> for FlatPositions<A> {
     fn rebuilt(&self, given: &[Row]) -> Result<Self, NoMemory> {
         let mut rows = Vec::new(self.rows.allocator().clone()?);
         rows.extend_from_slice(given)?;
-        Ok(FlatPositions {
-            rows,
-            prepared: ArrayVec::new(),
-        })
+        Ok(FlatPositions { rows })
     }
 }

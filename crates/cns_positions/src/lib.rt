@@ -10,7 +10,6 @@
 mod flat;
 mod holding;
 mod positions;
-mod prepared;
 mod steps;
 mod tree;
 

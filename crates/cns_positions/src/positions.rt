@@ -5,7 +5,7 @@ ghost use Rattle.std.specs.Int.{w64, w128};
 ghost use Rattle.cns_terms.specs.Keys.{key_cmp};
 ghost use Rattle.cns_terms.specs.declared.holding.Key.{Key};
 ghost use Rattle.cns_terms.specs.declared.holding.Holding.{Holding};
-ghost use Rattle.cns_positions.specs.Rows.{AreNext, aged, holding_at, booked, entry_of, has_row, rolled, row_at, IsThere, LacksRoom, held_above, present};
+ghost use Rattle.cns_positions.specs.Rows.{AreNext, aged, holding_at, booked, entry_of, has_row, rolled, row_at, held_above, present};
 
 use arrayvec::ArrayVec;
 use cns_terms::{Holding, Key, NoMemory};
@@ -21,19 +21,15 @@ pub type NextRows = ArrayVec<Option<Row>, ROWS_AT_ONCE>;
 
 /// What stands at each key: a finite map in which an absent key counts as zeros.
 ///
-/// Contracts see its rows, in the order of keys, and the prepared keys beside them. The clauses speak of what stands
-/// at each key, so that a form may keep rows of zeros where that serves it.
+/// Contracts see its rows, in the order of keys. The clauses speak of what stands at each key, so that a form may keep
+/// rows of zeros where that serves it; and of which keys have a row, since a booking takes no memory there.
 pub trait Positions<A>: Drop {
     /// The rows, in the order of their keys.
     ghost rows: { Self → List (Key × Holding) };
 
-    /// The prepared keys.
-    ghost prepared: { Self → List Key };
-
     /// Nothing stands anywhere.
     fn new(alloc: A) -> Self
-        ensures rows { rows result ≡ [] }
-        ensures prepared { prepared result ≡ [] };
+        ensures { rows result ≡ [] };
 
     /// The rows are in the order of their keys. It does nothing; a caller's proof may want to know.
     fn in_order(&self)
@@ -48,21 +44,20 @@ pub trait Positions<A>: Drop {
         ensures first { result.0 ≡ holding_at (rows self.now) first }
         ensures second { result.1 ≡ holding_at (rows self.now) second };
 
-    /// Makes room for the keys, so that `add` takes no memory at them. What stands at each key stays, and no key but these
-    /// gets a row or loses one.
+    /// Gives each of the keys a row, as `enter` does for one, so that `add` takes no memory at them. What stands at each key
+    /// stays, and no key but these gets a row or loses one.
     ///
-    /// `NoMemory` where a growth was refused, which a key asks for only where it has no row and is not prepared.
+    /// `NoMemory` where a growth was refused, which only a key without a row asks for; rows of zeros that were made stay.
     fn prepare(&mut self, keys: &[Key]) -> Result<(), NoMemory>
-        requires { length keys.now ≤ 4 }
         ensures same { (k : Key) → holding_at (rows self.new) k ≡ holding_at (rows self.old) k }
         ensures others { (k : Key) → ¬ Contains keys.now k → row_at (rows self.new) k ≡ row_at (rows self.old) k }
+        ensures kept { (k : Key) → has_row (rows self.old) k ≡ true → has_row (rows self.new) k ≡ true }
         ensures order { is_sorted key_cmp (rows self.new) ≡ true }
-        ensures ok { OnOk result (prepared self.new ≡ keys.now) }
-        ensures err { OnErr result (prepared self.new ≡ prepared self.old) }
-        ensures memory { OnErr result (Any (LacksRoom (rows self.old) (prepared self.old)) keys.now) };
+        ensures ok { OnOk result ((k : Key) → Contains keys.now k → has_row (rows self.new) k ≡ true) }
+        ensures memory { OnErr result (Any (λ k. row_at (rows self.old) k ≡ None) keys.now) };
 
-    /// Gives a key a row for good, of zeros where it has none, so that `add` and `carry` take no memory at it. What stands at
-    /// each key stays, and no other key gets a row or loses one.
+    /// Gives a key a row, of zeros where it has none, so that `add` and `carry` take no memory at it. What stands at each key
+    /// stays, and no other key gets a row or loses one.
     ///
     /// `NoMemory` where a growth was refused, which a key that has a row doesn't ask for.
     fn enter(&mut self, key: Key) -> Result<(), NoMemory>
@@ -70,38 +65,34 @@ pub trait Positions<A>: Drop {
         ensures others { (k : Key) → k ≢ key → row_at (rows self.new) k ≡ row_at (rows self.old) k }
         ensures kept { (k : Key) → has_row (rows self.old) k ≡ true → has_row (rows self.new) k ≡ true }
         ensures order { is_sorted key_cmp (rows self.new) ≡ true }
-        ensures prepared { prepared self.new ≡ prepared self.old }
         ensures ok { OnOk result (has_row (rows self.new) key ≡ true) }
         ensures memory { OnErr result (row_at (rows self.old) key ≡ None) };
 
-    /// Books shares and cents at a key that has a row or is prepared. No other key gets a row, and none loses one.
+    /// Books shares and cents at a key that has a row. No key gets one or loses one.
     fn add(&mut self, key: Key, shares: i64, cents: i128)
-        requires there { IsThere (rows self.old) (prepared self.old) key }
+        requires there { has_row (rows self.old) key ≡ true }
         requires shares_fit { FitsSigned w64 ((holding_at (rows self.old) key).now +ℤ shares) }
         requires cents_fit { FitsSigned w128 ((holding_at (rows self.old) key).contract +ℤ cents) }
         ensures booked { (k : Key) → holding_at (rows self.new) k
             ≡ booked (entry_of key shares cents) k (holding_at (rows self.old) k) }
         ensures others { (k : Key) → k ≢ key → row_at (rows self.new) k ≡ row_at (rows self.old) k }
-        ensures kept { (k : Key) → has_row (rows self.old) k ≡ true → has_row (rows self.new) k ≡ true }
-        ensures order { is_sorted key_cmp (rows self.new) ≡ true }
-        ensures prepared { prepared self.new ≡ prepared self.old };
+        ensures places { (k : Key) → has_row (rows self.new) k ≡ has_row (rows self.old) k }
+        ensures order { is_sorted key_cmp (rows self.new) ≡ true };
 
-    /// Brings the age of a short to a key that has a row or is prepared: the greatest that exchanges brought there on the
-    /// day stays (this project's profile). No other key gets a row, and none loses one.
+    /// Brings the age of a short to a key that has a row: the greatest that exchanges brought there on the day stays (this
+    /// project's profile). No key gets a row or loses one.
     fn carry(&mut self, key: Key, age: u32)
-        requires { IsThere (rows self.old) (prepared self.old) key }
+        requires { has_row (rows self.old) key ≡ true }
         ensures carried { (k : Key) → holding_at (rows self.new) k ≡ aged key age k (holding_at (rows self.old) k) }
         ensures others { (k : Key) → k ≢ key → row_at (rows self.new) k ≡ row_at (rows self.old) k }
-        ensures kept { (k : Key) → has_row (rows self.old) k ≡ true → has_row (rows self.new) k ≡ true }
-        ensures order { is_sorted key_cmp (rows self.new) ≡ true }
-        ensures prepared { prepared self.new ≡ prepared self.old };
+        ensures places { (k : Key) → has_row (rows self.new) k ≡ has_row (rows self.old) k }
+        ensures order { is_sorted key_cmp (rows self.new) ≡ true };
 
-    /// What a close does to every holding.
+    /// What a close does to every holding. No key gets a row or loses one.
     fn roll(&mut self)
-        ensures kept { (k : Key) → has_row (rows self.old) k ≡ true → has_row (rows self.new) k ≡ true }
+        ensures places { (k : Key) → has_row (rows self.new) k ≡ has_row (rows self.old) k }
         ensures rolled { (k : Key) → holding_at (rows self.new) k ≡ rolled (holding_at (rows self.old) k) }
-        ensures order { is_sorted key_cmp (rows self.new) ≡ true }
-        ensures prepared { prepared self.new ≡ prepared self.old };
+        ensures order { is_sorted key_cmp (rows self.new) ≡ true };
 
     /// The first row that isn't zeros, or the first such row above a key.
     fn next_row(&self, after: Option<Key>) -> Option<Row>
@@ -118,6 +109,5 @@ pub trait Positions<A>: Drop {
     fn rebuilt(&self, given: &[Row]) -> Result<Self, NoMemory>
         requires { is_sorted key_cmp given.now ≡ true }
         ensures rows { IfOk result (λ p. (k : Key) → holding_at (rows p) k ≡ holding_at given.now k) }
-        ensures order { IfOk result (λ p. is_sorted key_cmp (rows p) ≡ true) }
-        ensures prepared { IfOk result (λ p. prepared p ≡ []) };
+        ensures order { IfOk result (λ p. is_sorted key_cmp (rows p) ≡ true) };
 }

@@ -7,12 +7,10 @@ ghost use Rattle.cns_terms.specs.Digits.{binary_digits};
 ghost use Rattle.cns_terms.specs.Keys.{key_cmp};
 ghost use Rattle.cns_terms.specs.declared.holding.Holding.{Holding};
 ghost use Rattle.cns_terms.specs.declared.holding.Key.{Key};
-ghost use Rattle.cns_positions.specs.Rows.{IsThere, aged, has_row, holding_at, booked, entry_of, held_above, is_held, present, row_at};
-ghost use Rattle.cns_positions.specs.Contents.{closed_rows};
+ghost use Rattle.cns_positions.specs.Rows.{aged, has_row, holding_at, booked, entry_of, held_above, closed_rows, is_held, present, row_at};
 
 use crate::holding::{add_to, carry_to, is_held, rolled};
 use crate::positions::{NextRows, Positions, Row};
-use crate::prepared::{Prepared, kept};
 use arrayvec::ArrayVec;
 use cns_terms::{Holding, Key, NoMemory, Probe};
 use cns_tree::{Tree, Walk};
@@ -20,22 +18,23 @@ use std::alloc::Allocator;
 use std::marker::Model;
 
 /// Positions in a balanced tree of rows: a look-up or a booking is one way down, a close or a pass over the rows one
-/// walk. Each prepared key has a row, of zeros where nothing was booked yet.
+/// walk.
 #[derive(Drop)]
 pub struct TreePositions<A: Allocator + Clone + Drop> {
     rows: Tree<Holding, A>,
-    prepared: Prepared,
 }
 
 impl<A: Allocator + Clone + Drop> Model for TreePositions<A> {
-    ghost use Rattle.cns_positions.specs.Contents.{Contents, IsKept};
-    ghost use Rattle.cns_positions.specs.Rows.{present};
+    ghost use Rattle.std.specs.Prelude.{◌≡◌, true};
+    ghost use Rattle.std.specs.FinMap.{is_sorted};
+    ghost use Rattle.cns_terms.specs.Keys.{key_cmp};
+    ghost use Rattle.cns_positions.specs.Rows.{Rows};
 
-    ghost Value = { Contents };
+    ghost Value = { Rows };
 
-    ghost view = { λ p. record { rows = p.rows; prepared = present p.prepared.items } };
+    ghost view = { λ p. p.rows };
 
-    ghost invariant = { λ p. IsKept p.rows (present p.prepared.items) };
+    ghost invariant = { λ p. is_sorted key_cmp p.rows ≡ true };
 }
 
 // Gives the key a row of zeros where it has none.
@@ -88,7 +87,7 @@ fn book<A: Allocator + Clone + Drop>(
     requires shares_fit { FitsSigned w64 ((holding_at rows.old probe.old.0).now +ℤ shares) }
     requires cents_fit { FitsSigned w128 ((holding_at rows.old probe.old.0).contract +ℤ cents) }
     ensures sorted { is_sorted key_cmp rows.new ≡ true }
-    ensures kept { (k : Key) → has_row rows.old k ≡ true → has_row rows.new k ≡ true }
+    ensures places { (k : Key) → has_row rows.new k ≡ has_row rows.old k }
     ensures others { (k : Key) → k ≢ probe.old.0 → row_at rows.new k ≡ row_at rows.old k }
     ensures booked { (k : Key) → holding_at rows.new k
         ≡ booked (entry_of probe.old.0 shares cents) k (holding_at rows.old k) }
@@ -105,7 +104,7 @@ fn book<A: Allocator + Clone + Drop>(
 fn carry<A: Allocator + Clone + Drop>(rows: &mut Tree<Holding, A>, key: &Key, age: u32)
     requires { has_row rows.old key.now ≡ true }
     ensures sorted { is_sorted key_cmp rows.new ≡ true }
-    ensures kept { (k : Key) → has_row rows.old k ≡ true → has_row rows.new k ≡ true }
+    ensures places { (k : Key) → has_row rows.new k ≡ has_row rows.old k }
     ensures others { (k : Key) → k ≢ key.now → row_at rows.new k ≡ row_at rows.old k }
     ensures carried { (k : Key) → holding_at rows.new k ≡ aged key.now age k (holding_at rows.old k) }
 {
@@ -149,7 +148,7 @@ fn first_rows<A: Allocator + Clone + Drop>(walk: Walk<Holding, A>) -> NextRows
 impl<A: Allocator + Clone + Drop> TreePositions<A> {
     /// How many rows there are, those of zeros too; past `usize::MAX`, which no memory holds, that number.
     pub fn len(&self) -> usize
-        ensures { result ≡ min (length self.now.rows) usize.MAX }
+        ensures { result ≡ min (length self.now) usize.MAX }
     {
         self.rows.len()
     }
@@ -157,9 +156,9 @@ impl<A: Allocator + Clone + Drop> TreePositions<A> {
     /// What stands at a probe's key, as `get` gives it, after at most two comparisons for each binary digit of the number of
     /// rows.
     pub fn get_counted(&self, probe: &mut Probe) -> Holding
-        ensures value { result ≡ holding_at self.now.rows probe.old.0 }
+        ensures value { result ≡ holding_at self.now probe.old.0 }
         ensures key { probe.new.0 ≡ probe.old.0 }
-        ensures count { probe.new.1 ≤ probe.old.1 + 2 * binary_digits (length self.now.rows) }
+        ensures count { probe.new.1 ≤ probe.old.1 + 2 * binary_digits (length self.now) }
     {
         self.rows.get_counted(probe).unwrap_or(Holding::ZEROS)
     }
@@ -167,31 +166,27 @@ impl<A: Allocator + Clone + Drop> TreePositions<A> {
     /// Books shares and cents at a probe's key, as `add` does, after at most two comparisons for each binary digit of the
     /// number of rows.
     pub fn add_counted(&mut self, probe: &mut Probe, shares: i64, cents: i128)
-        requires there { IsThere self.old.rows self.old.prepared probe.old.0 }
-        requires shares_fit { FitsSigned w64 ((holding_at self.old.rows probe.old.0).now +ℤ shares) }
-        requires cents_fit { FitsSigned w128 ((holding_at self.old.rows probe.old.0).contract +ℤ cents) }
-        ensures booked { (k : Key) → holding_at self.new.rows k
-            ≡ booked (entry_of probe.old.0 shares cents) k (holding_at self.old.rows k) }
-        ensures others { (k : Key) → k ≢ probe.old.0 → row_at self.new.rows k ≡ row_at self.old.rows k }
-        ensures kept { (k : Key) → has_row self.old.rows k ≡ true → has_row self.new.rows k ≡ true }
-        ensures order { is_sorted key_cmp self.new.rows ≡ true }
-        ensures prepared { self.new.prepared ≡ self.old.prepared }
+        requires there { has_row self.old probe.old.0 ≡ true }
+        requires shares_fit { FitsSigned w64 ((holding_at self.old probe.old.0).now +ℤ shares) }
+        requires cents_fit { FitsSigned w128 ((holding_at self.old probe.old.0).contract +ℤ cents) }
+        ensures booked { (k : Key) → holding_at self.new k
+            ≡ booked (entry_of probe.old.0 shares cents) k (holding_at self.old k) }
+        ensures others { (k : Key) → k ≢ probe.old.0 → row_at self.new k ≡ row_at self.old k }
+        ensures places { (k : Key) → has_row self.new k ≡ has_row self.old k }
+        ensures order { is_sorted key_cmp self.new ≡ true }
         ensures key { probe.new.0 ≡ probe.old.0 }
-        ensures count { probe.new.1 ≤ probe.old.1 + 2 * binary_digits (length self.old.rows) }
+        ensures count { probe.new.1 ≤ probe.old.1 + 2 * binary_digits (length self.old) }
     {
         book(&mut self.rows, probe, shares, cents);
     }
 }
 
 impl<A: Allocator + Clone + Drop> Positions<A> for TreePositions<A> {
-    ghost rows = { λ p. p.rows };
-
-    ghost prepared = { λ p. p.prepared };
+    ghost rows = { λ p. p };
 
     fn new(alloc: A) -> Self {
         TreePositions {
             rows: Tree::new(alloc),
-            prepared: ArrayVec::new(),
         }
     }
 
@@ -212,9 +207,7 @@ impl<A: Allocator + Clone + Drop> Positions<A> for TreePositions<A> {
     }
 
     fn prepare(&mut self, keys: &[Key]) -> Result<(), NoMemory> {
-        enter_all(&mut self.rows, keys)?;
-        self.prepared = kept(keys);
-        Ok(())
+        enter_all(&mut self.rows, keys)
     }
 
     fn enter(&mut self, key: Key) -> Result<(), NoMemory> {
@@ -244,7 +237,6 @@ impl<A: Allocator + Clone + Drop> Positions<A> for TreePositions<A> {
     fn rebuilt(&self, given: &[Row]) -> Result<Self, NoMemory> {
         Ok(TreePositions {
             rows: Tree::from_sorted(self.rows.allocator().clone()?, given)?,
-            prepared: ArrayVec::new(),
         })
     }
 }

@@ -8,7 +8,7 @@ use Rattle.std.proofs.lemmas.Slice.Eq.{bytes_eq-Decides}
 use Rattle.cns_terms.specs.declared.command.Movement.{Movement}
 use Rattle.cns_terms.specs.declared.command.Trade.{Trade}
 use Rattle.cns_terms.specs.Conversions.{fraction}
-use Rattle.cns_terms.specs.Limits.{ratio_limit}
+use Rattle.cns_terms.specs.Limits.{IsWithin, ratio_limit}
 use Rattle.cns_terms.specs.Pending.{due, is_due}
 use Rattle.cns_terms.specs.Reached.{IsRatio}
 use Rattle.cns_terms.specs.Positions.{position}
@@ -29,11 +29,6 @@ use Rattle.cns_terms.proofs.Waiting.{booked_cents, booked_shares, both_cents, bo
 -- a position alone is within a member's limits
 abbrev pub IsNear : ℤ → Type 0
 IsNear q = unsigned_abs q ≤ position_limit
-
--- a member is within its limits: its position, with the shares that it is to get and to give by trades that wait
-pub record IsWithin (q : ℤ) (bought sold : ℕ) : Type 0 where
-  pub above : long q + bought ≤ position_limit
-  pub below : short q + sold ≤ position_limit
 
 -- each member is within its limits
 abbrev pub AreWithin : Day → Journal → Type 0

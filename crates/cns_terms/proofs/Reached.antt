@@ -135,11 +135,12 @@ limited_past opening [] r = tt
 limited_past opening (x ∷ L) r = past_if opening (is_close x) (journal opening L) (limited opening L r.2) (limited_past opening L r.2)
 
 -- positions are within their limits
-pub bounded : (opening : Day) (J : Journal) (c : Cusip) → IsLimited opening J → IsBounded J c
+pub bounded : (opening : Day) (J : Journal) (c : Cusip) → IsLimited opening J → IsBounded opening J c
 bounded opening J c l =
     let each = each_weaker (λ a. 1 ≤ a) (λ a. IsNear (position J a c)) (members J) (λ a m. near _ _ _ (l.within a c m)) (members_from_one opening J l) in
     record {
       members = λ a m. near _ _ _ (l.within a c m);
+      waiting = λ a m. l.within a c m;
       corporation = made_up (position J 0 c) (total (λ a. position J a c) (members J)) (length (members J)) (positions_zero (accounts J) c J (sound_journal opening J l)) (total_within (λ a. position J a c) (members J) each) (members_few opening J l);
     }
 

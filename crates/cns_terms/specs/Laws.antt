@@ -8,11 +8,12 @@ use Rattle.cns_units.specs.declared.day.Day.{Day}
 use Rattle.cns_terms.specs.declared.command.Activity.{Activity}
 use Rattle.cns_terms.specs.declared.command.Command.{Command}
 use Rattle.cns_terms.specs.declared.sheet.Row.{Row}
+use Rattle.cns_terms.specs.Pending.{bought_in, pending, sold_in}
 use Rattle.cns_terms.specs.Sums.{total}
 use Rattle.cns_terms.specs.Postings.{Journal}
 use Rattle.cns_terms.specs.Days.{closes}
 use Rattle.cns_terms.specs.Positions.{position, money}
-use Rattle.cns_terms.specs.Limits.{amount_limit, corporation_limit, history_limit, position_limit}
+use Rattle.cns_terms.specs.Limits.{IsWithin, amount_limit, corporation_limit, history_limit, position_limit}
 use Rattle.cns_terms.specs.Listings.{accounts}
 use Rattle.cns_terms.specs.Entries.{journal}
 use Rattle.cns_terms.specs.Numbers.{refusal_number}
@@ -89,14 +90,15 @@ RefusalOrder = (opening : Day) (J : Journal) (cmd : Command) → rises (map (λ 
 
 -- ---- limits
 
--- in an issue each member's position is within its limit, and so is the corporation's
-pub record IsBounded (J : Journal) (c : Cusip) : Type 0 where
+-- in an issue each member's position is within its limit, and so it is with the trades that wait; and so is the corporation's
+pub record IsBounded (opening : Day) (J : Journal) (c : Cusip) : Type 0 where
   pub members : (a : Account) → 1 ≤ a → unsigned_abs (position J a c) ≤ position_limit
+  pub waiting : (a : Account) → 1 ≤ a → IsWithin (position J a c) (bought_in (pending opening J) a c) (sold_in (pending opening J) a c)
   pub corporation : unsigned_abs (position J 0 c) ≤ corporation_limit
 
 -- over activities that commands reach, positions stay within their limits
 abbrev pub Bounds : Type 0
-Bounds = (opening : Day) (L : List Activity) (c : Cusip) → IsReached opening L → IsBounded (journal opening L) c
+Bounds = (opening : Day) (L : List Activity) (c : Cusip) → IsReached opening L → IsBounded opening (journal opening L) c
 
 -- a number of each row, added up from the first row to any other, stays within the limit of amounts
 abbrev pub StaysSmall : (Row → ℤ) → DaySheet → Type 0

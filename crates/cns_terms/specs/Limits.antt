@@ -1,5 +1,6 @@
 -- The limits of what a book holds, in one place.
-use Rattle.std.specs.Prelude.{ℕ, ◌*◌, ◌^◌}
+use Rattle.std.specs.Prelude.{ℕ, ℤ, ◌+◌, ◌*◌, ◌^◌, ◌≤◌}
+use Rattle.cns_terms.specs.Sums.{long, short}
 
 -- a member's position, in shares long or short
 abbrev pub position_limit : ℕ
@@ -45,3 +46,9 @@ ratio_limit = 10 ^ 4
 -- what a dividend pays for a share, in millionths of a dollar
 abbrev pub rate_limit : ℕ
 rate_limit = 10 ^ 11
+
+-- a member is within its limits: long with the shares that it is to get by trades that wait, and short with those that it is
+-- to give
+pub record IsWithin (q : ℤ) (bought sold : ℕ) : Type 0 where
+  pub above : long q + bought ≤ position_limit
+  pub below : short q + sold ≤ position_limit

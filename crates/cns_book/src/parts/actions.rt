@@ -8,9 +8,11 @@ ghost use Rattle.cns_terms.specs.Refusals.{first_refusal, is_too_large};
 ghost use Rattle.cns_positions.specs.Rows.{books, holding_at, with_age};
 ghost use Rattle.cns_actions.specs.Booked.{IsForAnother, age_brought};
 ghost use Rattle.cns_actions.specs.Bookings.{makes};
+ghost use Rattle.cns_actions.specs.Changes.{AreInIssues};
 ghost use Rattle.cns_actions.specs.declared.fault.ActionFault.TheVariants as fault;
 ghost use Rattle.cns_book.specs.Effects.{activity_of, exchange_rules, is_held_up};
 ghost use Rattle.cns_book.specs.Follows.{Answers, HasRoom, Shows};
+ghost use Rattle.cns_book.specs.Places.{PlacesStay, StaysIfRefused};
 
 use crate::parts::Parts;
 use cns_actions::{Action, ActionFault, Bookings, bookings_for};
@@ -32,6 +34,7 @@ impl<P: Positions<A>, A: Allocator + Drop + Clone> Parts<P, A> {
             (λ b. Shows self.now
             (λ J. (k : Key) → makes b k (holding_at self.now.rows k) ≡ with_age (age_brought self.now.rows action.now k)
             (books (entries self.now.opening J (activity_of action.now)) k (holding_at self.now.rows k)))) }
+        ensures issues { IfOk result (AreInIssues action.now) }
     {
         bookings_for(&self.alloc, &self.positions, action, self.trades.waiting())
     }
@@ -42,6 +45,8 @@ impl<P: Positions<A>, A: Allocator + Drop + Clone> Parts<P, A> {
         requires { HasRoom self.old }
         ensures opening { self.new.opening ≡ self.old.opening }
         ensures step { Answers self.old (command.Activity (activity.Split split.now)) result self.new }
+        ensures places { PlacesStay (command.Activity (activity.Split split.now)) self.old.rows self.new.rows }
+        ensures refused { StaysIfRefused result self.old self.new }
     {
         if let Some(refusal) = self.issue_refusal(split.issue) {
             return Ok(Reply::Refused(refusal));
@@ -84,6 +89,8 @@ impl<P: Positions<A>, A: Allocator + Drop + Clone> Parts<P, A> {
         requires { HasRoom self.old }
         ensures opening { self.new.opening ≡ self.old.opening }
         ensures step { Answers self.old (command.Activity (activity.Exchange exchange.now)) result self.new }
+        ensures places { PlacesStay (command.Activity (activity.Exchange exchange.now)) self.old.rows self.new.rows }
+        ensures refused { StaysIfRefused result self.old self.new }
     {
         if let Some(refusal) = self.exchange_refusal(exchange) {
             return Ok(Reply::Refused(refusal));

@@ -3,6 +3,7 @@ ghost use Rattle.std.specs.Prelude.{◌≡◌};
 ghost use Rattle.cns_terms.specs.declared.command.Activity.TheVariants as activity;
 ghost use Rattle.cns_terms.specs.declared.command.Command.TheVariants as command;
 ghost use Rattle.cns_book.specs.Follows.{Answers, HasRoom};
+ghost use Rattle.cns_book.specs.Places.{PlacesStay, StaysIfRefused};
 
 use crate::parts::Parts;
 use crate::parts::opening::{enter, open};
@@ -20,6 +21,8 @@ impl<P: Positions<A>, A: Allocator + Drop + Clone> Parts<P, A> {
         requires { HasRoom self.old }
         ensures opening { self.new.opening ≡ self.old.opening }
         ensures step { Answers self.old (command.Activity (activity.Close next)) result self.new }
+        ensures places { PlacesStay (command.Activity (activity.Close next)) self.old.rows self.new.rows }
+        ensures refused { StaysIfRefused result self.old self.new }
     {
         if next <= self.today {
             return Ok(Reply::Refused(Refusal::WrongDay));

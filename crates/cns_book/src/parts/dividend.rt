@@ -5,6 +5,7 @@ ghost use Rattle.cns_terms.specs.declared.command.Command.TheVariants as command
 ghost use Rattle.cns_terms.specs.Days.{is_not_after};
 ghost use Rattle.cns_terms.specs.Refusals.{is_past, refusal};
 ghost use Rattle.cns_book.specs.Follows.{Answers, Refuses};
+ghost use Rattle.cns_book.specs.Places.{PlacesStay, StaysIfRefused};
 
 use crate::parts::Parts;
 use cns_positions::Positions;
@@ -38,6 +39,8 @@ impl<P: Positions<A>, A: Allocator + Drop + Clone> Parts<P, A> {
     pub fn declare_dividend(&mut self, declared: &Declared) -> Result<Reply, NoMemory>
         ensures opening { self.new.opening ≡ self.old.opening }
         ensures step { Answers self.old (command.Activity (activity.Dividend declared.now)) result self.new }
+        ensures places { PlacesStay (command.Activity (activity.Dividend declared.now)) self.old.rows self.new.rows }
+        ensures refused { StaysIfRefused result self.old self.new }
     {
         if let Some(refusal) = self.dividend_refusal(declared) {
             return Ok(Reply::Refused(refusal));

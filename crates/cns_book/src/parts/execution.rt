@@ -7,6 +7,7 @@ ghost use Rattle.cns_retransmit.specs.Days.{batch_on};
 ghost use Rattle.cns_retransmit.specs.Charges.{CanBeCharged};
 ghost use Rattle.cns_book.specs.Executions.{capped_short, CanBeExecuted, fills_by, IsAccepted};
 ghost use Rattle.cns_book.specs.Follows.{Answers, HasRoom, Shows};
+ghost use Rattle.cns_book.specs.Places.{PlacesStay, StaysIfRefused};
 
 use crate::buy_in::book_fills;
 use crate::parts::Parts;
@@ -108,6 +109,8 @@ impl<P: Positions<A>, A: Allocator + Drop + Clone> Parts<P, A> {
         requires { HasRoom self.old }
         ensures opening { self.new.opening ≡ self.old.opening }
         ensures step { Answers self.old (command.Activity (activity.Execute execution.now)) result self.new }
+        ensures places { PlacesStay (command.Activity (activity.Execute execution.now)) self.old.rows self.new.rows }
+        ensures refused { StaysIfRefused result self.old self.new }
     {
         let (given, batch) = match self.check_execution(execution) {
             Ok(checked) => checked,

@@ -7,6 +7,7 @@ ghost use Rattle.cns_terms.specs.declared.command.Command.TheVariants as command
 ghost use Rattle.cns_terms.specs.Refusals.{refusal};
 ghost use Rattle.cns_notices.specs.Noticed.{live_number, notice_at};
 ghost use Rattle.cns_book.specs.Follows.{Answers, HasRoom, Refuses};
+ghost use Rattle.cns_book.specs.Places.{PlacesStay, StaysIfRefused};
 
 use crate::parts::Parts;
 use cns_notices::Stage;
@@ -45,6 +46,8 @@ impl<P: Positions<A>, A: Allocator + Drop + Clone> Parts<P, A> {
         requires { HasRoom self.old }
         ensures opening { self.new.opening ≡ self.old.opening }
         ensures step { Answers self.old (command.Activity (activity.Notice movement.now)) result self.new }
+        ensures places { PlacesStay (command.Activity (activity.Notice movement.now)) self.old.rows self.new.rows }
+        ensures refused { StaysIfRefused result self.old self.new }
     {
         if let Some(refusal) = self.notice_refusal(movement) {
             return Ok(Reply::Refused(refusal));
@@ -86,6 +89,8 @@ impl<P: Positions<A>, A: Allocator + Drop + Clone> Parts<P, A> {
     pub fn withdraw(&mut self, number: u32) -> Reply
         ensures opening { self.new.opening ≡ self.old.opening }
         ensures step { Answers self.old (command.Activity (activity.Withdraw number)) (Ok result) self.new }
+        ensures places { PlacesStay (command.Activity (activity.Withdraw number)) self.old.rows self.new.rows }
+        ensures refused { StaysIfRefused (Ok result) self.old self.new }
     {
         if let Some(refusal) = self.withdraw_refusal(number) {
             return Reply::Refused(refusal);

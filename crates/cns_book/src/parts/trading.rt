@@ -1,10 +1,11 @@
 // Trades, deliveries and receipts.
-ghost use Rattle.std.specs.Prelude.{◌≡◌, ◌≤◌, unsigned_abs};
+ghost use Rattle.std.specs.Prelude.{◌≡◌, ◌≤◌, Ok, unsigned_abs};
 ghost use Rattle.std.specs.Option.{ForSome};
 ghost use Rattle.cns_terms.specs.declared.command.Activity.TheVariants as activity;
 ghost use Rattle.cns_terms.specs.declared.command.Command.TheVariants as command;
 ghost use Rattle.cns_terms.specs.Limits.{position_limit};
 ghost use Rattle.cns_book.specs.Follows.{AreMoveFacts, AreTradeFacts, Answers, HasRoom, Shows};
+ghost use Rattle.cns_book.specs.Places.{PlacesStay, StaysIfRefused};
 
 use crate::effect::{book, prepare};
 use crate::parts::Parts;
@@ -61,6 +62,8 @@ impl<P: Positions<A>, A: Allocator + Drop + Clone> Parts<P, A> {
         requires { HasRoom self.old }
         ensures opening { self.new.opening ≡ self.old.opening }
         ensures step { Answers self.old (command.Activity (activity.Trade trade.now)) result self.new }
+        ensures places { PlacesStay (command.Activity (activity.Trade trade.now)) self.old.rows self.new.rows }
+        ensures refused { StaysIfRefused result self.old self.new }
     {
         let facts = self.trade_facts(trade);
         let entries = match self.trades.check_trade(&facts, trade) {
@@ -84,6 +87,8 @@ impl<P: Positions<A>, A: Allocator + Drop + Clone> Parts<P, A> {
         requires { HasRoom self.old }
         ensures opening { self.new.opening ≡ self.old.opening }
         ensures step { Answers self.old (command.Activity (activity.Deliver movement.now)) result self.new }
+        ensures places { PlacesStay (command.Activity (activity.Deliver movement.now)) self.old.rows self.new.rows }
+        ensures refused { StaysIfRefused result self.old self.new }
     {
         let facts = self.move_facts(movement);
         let entries = match self.trades.check_delivery(&facts, movement) {
@@ -95,23 +100,25 @@ impl<P: Positions<A>, A: Allocator + Drop + Clone> Parts<P, A> {
         Ok(Reply::Accepted)
     }
 
-    /// RECEIVE. The shares count for the member's live notice in the issue.
-    pub fn receive(&mut self, movement: &Movement) -> Result<Reply, NoMemory>
+    /// RECEIVE. The shares count for the member's live notice in the issue. Its position is above zero and the corporation's
+    /// below, so both have rows, and it takes no memory.
+    pub fn receive(&mut self, movement: &Movement) -> Reply
         requires { HasRoom self.old }
         ensures opening { self.new.opening ≡ self.old.opening }
-        ensures step { Answers self.old (command.Activity (activity.Receive movement.now)) result self.new }
+        ensures step { Answers self.old (command.Activity (activity.Receive movement.now)) (Ok result) self.new }
+        ensures places { PlacesStay (command.Activity (activity.Receive movement.now)) self.old.rows self.new.rows }
+        ensures refused { StaysIfRefused (Ok result) self.old self.new }
     {
         let facts = self.move_facts(movement);
         let entries = match self.trades.check_receipt(&facts, movement) {
             Ok(entries) => entries,
-            Err(refusal) => return Ok(Reply::Refused(refusal)),
+            Err(refusal) => return Reply::Refused(refusal),
         };
         // The shares are within their limit; the call tells the prover.
         let _ = movement.shares.value();
-        prepare(&mut self.positions, &entries)?;
         book(&mut self.positions, &entries);
         self.notices
             .received(movement.member, movement.issue, movement.shares);
-        Ok(Reply::Accepted)
+        Reply::Accepted
     }
 }

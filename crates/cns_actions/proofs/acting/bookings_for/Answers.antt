@@ -1,11 +1,11 @@
-use Rattle.std.proofs.Common.{◌≡◌, ◌∙◌, sym, ap, refl, Bool, true, false, List, Err, Result}
+use Rattle.std.proofs.Common.{◌≡◌, ◌∙◌, sym, ap, refl, subst, Bool, true, false, List, Err, Result}
 use Rattle.cns_terms.proofs.Common.{err_from_is_err_and}
 use Rattle.cns_actions.specs.declared.fault.ActionFault.{ActionFault}
 use Rattle.cns_actions.specs.declared.fault.ActionFault.TheVariants as fault
 use Rattle.cns_actions.proofs.Common.{Booking, all_bookings, corporation, holding_at, is_sorted, issue_of, key_cmp, makes, oldest_of}
 use Rattle.cns_actions.specs.Bookings.{by_key}
-use Rattle.cns_actions.specs.Changes.{all_holders_of}
-use Rattle.cns_actions.proofs.BookingOrder.{all_sorted}
+use Rattle.cns_actions.specs.Changes.{AreInIssues, all_holders_of}
+use Rattle.cns_actions.proofs.BookingOrder.{all_in_issues, all_sorted}
 use Rattle.cns_actions.proofs.Holders.{all_listed, all_shown}
 use Rattle.cns_actions.proofs.BookingLimits.{same_large}
 use Rattle.cns_actions.proofs.BookingSums.{same_makes}
@@ -68,3 +68,9 @@ returns-in_err-all_bookings-clause-too_large g c = λ ms are.
     let within = same_large R c.sum_of.ensures.order c.args.pending.now c.requires.waiting c.args.action.now c.requires.another ms are ∙ c.in-Some.ensures.within in
     let (e, is, memory) = err_from_is_err_and c.from_residual.result c.from_residual.ensures.1 in
     ((λ h. absurd (no_size c.from_residual.result e memory is h)), (λ h. absurd (clash _ h within)))
+
+pub returns-clause-issues : goal.returns-clause-issues
+returns-clause-issues g c =
+    let R = g.P.Positions.rows c.args.positions.now in
+    let x = c.args.action.now in
+    subst (AreInIssues x) (sym (c.of.ensures ∙ c.in_ok-all_bookings.ensures.bookings)) (all_in_issues x c.in-Some.sum (oldest_of (holding_at R (record { account = corporation; issue = issue_of x }))) (all_holders_of x R))

@@ -26,3 +26,6 @@ returns-else-booking-gt0-clause-made g c k =
     let none = c.if-booking-gt0.false in
     let added = rw (shares_passed b.entry.shares c.requires.small.shares, cents_passed b.entry.cents c.requires.small.cents, c.key_of.ensures) at c.add.ensures.booked k in
     added ∙ made_alone b k (holding_at (g.P.Positions.rows c.args.positions.now) k) (omega (arith, none))
+
+pub returns-then-booking-gt0-clause-places : goal.returns-then-booking-gt0-clause-places
+returns-then-booking-gt0-clause-places g c k = c.carry.ensures.places k ∙ c.add.ensures.places k

@@ -2,19 +2,19 @@ use Rattle.std.proofs.Common.{◌∙◌, ◌^◌, ◌≤◌, sym, ap, refl, subs
 use Rattle.cns_book.proofs.Common.{Holding, IsSmallEntry, books, holding_at}
 use Rattle.cns_positions.specs.Rows.{booked}
 use Rattle.cns_book.specs.Effects.{place_of}
-use Rattle.cns_book.proofs.EffectEntries.{books_step, cents_fit, place_at, shares_fit, small_at}
+use Rattle.cns_book.proofs.EffectEntries.{books_step, cents_fit, place_there, shares_fit, small_at}
 use Rattle.cns_book.proofs.EffectPlaces.{books_none}
 use Rattle.cns_book.proofs.effect.book.Goals as goal
 
 pub loop-entry-init : goal.loop-entry-init
 loop-entry-init g c = record {
-  prepared = refl;
+  places = λ k. refl;
   booked = λ k. sym (books_none k (holding_at (g.P.Positions.rows c.args.positions.now) k));
 }
 
-pub add-requires-clause-prepared : goal.add-requires-clause-prepared
-add-requires-clause-prepared g c =
-    rw (c.loop-entry.invariant.prepared, c.requires.prepared) (place_at c.args.entries.now c.loop-entry.entry-index c.entry-item.result c.loop-entry-test.true c.entry-item.is)
+pub add-requires-clause-there : goal.add-requires-clause-there
+add-requires-clause-there g c =
+    c.loop-entry.invariant.places (place_of c.entry-item.result) ∙ place_there (g.P.Positions.rows c.args.positions.now) c.args.entries.now c.loop-entry.entry-index c.entry-item.result c.requires.there c.loop-entry-test.true c.entry-item.is
 
 pub add-requires-clause-entry : goal.add-requires-clause-entry
 add-requires-clause-entry g c = subst IsSmallEntry (sym c.entry-item.is) (small_at c.args.entries.now c.loop-entry.entry-index c.entry-item.result c.requires.small c.loop-entry-test.true)
@@ -34,10 +34,10 @@ loop-entry-preserved g c =
     let e = c.entry-item.result in
     let inv = c.loop-entry.invariant in
     record {
-      prepared = c.add.ensures.prepared ∙ inv.prepared;
+      places = λ k. c.add.ensures.places k ∙ inv.places k;
       booked = λ k. c.add.ensures.booked k ∙ ap (booked e k) (inv.booked k) ∙ books_step c.args.entries.now c.loop-entry.entry-index e k (holding_at (g.P.Positions.rows c.args.positions.now) k) c.loop-entry-test.true c.entry-item.is;
     }
 
-pub returns : goal.returns
-returns g c k =
+pub returns-clause-booked : goal.returns-clause-booked
+returns-clause-booked g c k =
     c.loop-entry.invariant.booked k ∙ ap (λ es. books es k (holding_at (g.P.Positions.rows c.args.positions.now) k)) (take_all c.loop-entry.entry-index c.args.entries.now c.loop-entry-test.false)

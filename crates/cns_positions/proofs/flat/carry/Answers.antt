@@ -2,7 +2,7 @@ use Rattle.std.proofs.Common.{◌≡◌, ◌∙◌, ap, get_or, set}
 use Rattle.cns_positions.proofs.Common.{has_row, holding_at, key_cmp}
 use Rattle.std.specs.FinMap.{put}
 use Rattle.cns_positions.specs.Rows.{row_at, with_age}
-use Rattle.cns_positions.proofs.Holdings.{aged_put, changed_here, no_gap, other_row, row_stays, sorted_put}
+use Rattle.cns_positions.proofs.Holdings.{aged_put, changed_here, no_gap, other_row, places_put, sorted_put}
 use Rattle.cns_positions.proofs.flat.carry.Goals as goal
 
 -- the rows with the age
@@ -12,8 +12,8 @@ after c = changed_here (with_age c.args.age) c.args.rows.now c.in-Ok.at c.args.k
 pub returns-in-Ok-clause-sorted : goal.returns-in-Ok-clause-sorted
 returns-in-Ok-clause-sorted c = rw (after c) (sorted_put c.args.key.now (with_age c.args.age (holding_at c.args.rows.now c.args.key.now)) c.args.rows.now c.requires.sorted)
 
-pub returns-in-Ok-clause-kept : goal.returns-in-Ok-clause-kept
-returns-in-Ok-clause-kept c k was = ap (λ es. has_row es k) (after c) ∙ row_stays c.args.rows.now c.args.key.now (with_age c.args.age (holding_at c.args.rows.now c.args.key.now)) k was
+pub returns-in-Ok-clause-places : goal.returns-in-Ok-clause-places
+returns-in-Ok-clause-places c k = ap (λ es. has_row es k) (after c) ∙ places_put c.args.rows.now c.args.key.now (with_age c.args.age (holding_at c.args.rows.now c.args.key.now)) c.requires.there k
 
 pub returns-in-Ok-clause-carried : goal.returns-in-Ok-clause-carried
 returns-in-Ok-clause-carried c k = ap (λ es. holding_at es k) (after c) ∙ aged_put c.args.rows.now c.args.key.now c.args.age k

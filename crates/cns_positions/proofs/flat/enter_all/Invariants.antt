@@ -8,6 +8,6 @@ invariant-loop-key g l = record {
   sorted : is_sorted key_cmp l.rows.items ≡ true;
   there : (k : Key) → Contains (take l.key-index l.keys) k → has_row l.rows.items k ≡ true;
   kept : (k : Key) → has_row l.fn.rows.items k ≡ true → has_row l.rows.items k ≡ true;
-  others : (k : Key) → ¬ Contains (take l.key-index l.keys) k → row_at l.rows.items k ≡ row_at l.fn.rows.items k;
+  others : (k : Key) → ¬ Contains l.keys k → row_at l.rows.items k ≡ row_at l.fn.rows.items k;
   same : (k : Key) → holding_at l.rows.items k ≡ holding_at l.fn.rows.items k;
 }

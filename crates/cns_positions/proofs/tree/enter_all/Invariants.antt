@@ -8,6 +8,6 @@ invariant-loop-key g l = record {
   sorted : is_sorted key_cmp l.rows ≡ true;
   there : (k : Key) → Contains (take l.key-index l.keys) k → has_row l.rows k ≡ true;
   kept : (k : Key) → has_row l.fn.rows k ≡ true → has_row l.rows k ≡ true;
-  others : (k : Key) → ¬ Contains (take l.key-index l.keys) k → row_at l.rows k ≡ row_at l.fn.rows k;
+  others : (k : Key) → ¬ Contains l.keys k → row_at l.rows k ≡ row_at l.fn.rows k;
   same : (k : Key) → holding_at l.rows k ≡ holding_at l.fn.rows k;
 }

@@ -7,4 +7,4 @@ pub book-requires-clause-within : goal.book-requires-clause-within
 book-requires-clause-within g c = can_same (g.P.Positions.rows c.args.positions.now) _ c.requires c.enter.ensures.same
 
 pub returns-clause-ok : goal.returns-clause-ok
-returns-clause-ok g c k = c.book.ensures k ∙ ap (makes c.args.self.now k) (c.enter.ensures.same k)
+returns-clause-ok g c k = c.book.ensures.made k ∙ ap (makes c.args.self.now k) (c.enter.ensures.same k)

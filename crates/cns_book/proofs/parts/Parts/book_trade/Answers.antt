@@ -1,9 +1,10 @@
-use Rattle.std.proofs.Common.{◌∙◌, sym, ap, subst, refl, None, Some, Ok}
+use Rattle.std.proofs.Common.{◌∙◌, sym, ap, subst, refl, None, Some, Ok, List, Contains}
 use Rattle.cns_terms.specs.declared.command.Activity.TheVariants as activity
 use Rattle.cns_terms.specs.declared.command.Command.TheVariants as command
 use Rattle.cns_terms.specs.declared.reply.Reply.TheVariants as reply
-use Rattle.cns_book.proofs.Common.{AreSmallEntries, Follows, HasRoom, books, first_refusal, is_not_after, pend_of, trade_entries, trade_rules}
+use Rattle.cns_book.proofs.Common.{AreSmallEntries, Entry, Follows, HasRoom, books, first_refusal, is_not_after, pend_of, trade_entries, trade_rules}
 use Rattle.cns_terms.specs.Pending.{is_due}
+use Rattle.cns_book.specs.Effects.{places_of}
 use Rattle.cns_trades.specs.Checks.{booking}
 use Rattle.cns_trades.specs.Used.{is_used}
 use Rattle.cns_book.proofs.MachineSteps.{accepted, refused, stopped}
@@ -71,4 +72,34 @@ returns-clause-step g c L f =
     let small = subst AreSmallEntries told.1 (c.in-Ok-Some.ensures.small c.in-Ok-Some.entries c.in-Ok-Some.field-0-is) in
     accepted L (activity.Trade t) reply.Accepted taken.0 refl
     (trade_booked L _ t c.note_reference.new.self (g.P.Positions.rows c.book.new.positions) f' small.1.0.cents taken.0 now c.in_ok-note_reference.ensures.ok c.note_reference.ensures.pending
-    (λ k. c.book.ensures k ∙ (λ i. books (told.1 i) k (c.in_ok-prepare.ensures.same k i))))
+    (λ k. c.book.ensures.booked k ∙ (λ i. books (told.1 i) k (c.in_ok-prepare.ensures.same k i))))
+
+pub returns-in_err-prepare-clause-places : goal.returns-in_err-prepare-clause-places
+returns-in_err-prepare-clause-places g c k apart =
+    let room = subst HasRoom (sym c.self.view_is) c.requires in
+    let L = room.activities in
+    let t = c.args.trade.now in
+    let are = rw (← c.self.view_is) at (c.trade_facts-facts.ensures.facts L (subst (Follows L) c.self.view_is room.follows)) in
+    let taken = trade_taken L _ t c.trade_facts-facts.result (Some c.in-Ok-Some.entries) room.follows are (sym (c.in-Ok-Some.is ∙ ap Ok c.in-Ok-Some.field-0-is) ∙ c.check_trade.ensures.answer) in
+    let told = told_now (is_due c.trade_facts-facts.result.today (pend_of t)) (trade_entries (pend_of t)) c.in-Ok-Some.entries taken.1 in
+    rw (← c.self.view_is) (c.prepare.ensures.others k (λ h. apart (subst (λ (es : List Entry). Contains (places_of es) k) told.1 h)))
+
+pub returns-in_err-note_reference-clause-places : goal.returns-in_err-note_reference-clause-places
+returns-in_err-note_reference-clause-places g c k apart =
+    let room = subst HasRoom (sym c.self.view_is) c.requires in
+    let L = room.activities in
+    let t = c.args.trade.now in
+    let are = rw (← c.self.view_is) at (c.trade_facts-facts.ensures.facts L (subst (Follows L) c.self.view_is room.follows)) in
+    let taken = trade_taken L _ t c.trade_facts-facts.result (Some c.in-Ok-Some.entries) room.follows are (sym (c.in-Ok-Some.is ∙ ap Ok c.in-Ok-Some.field-0-is) ∙ c.check_trade.ensures.answer) in
+    let told = told_now (is_due c.trade_facts-facts.result.today (pend_of t)) (trade_entries (pend_of t)) c.in-Ok-Some.entries taken.1 in
+    rw (← c.self.view_is) (c.prepare.ensures.others k (λ h. apart (subst (λ (es : List Entry). Contains (places_of es) k) told.1 h)))
+
+pub returns-clause-places : goal.returns-clause-places
+returns-clause-places g c k apart =
+    let room = subst HasRoom (sym c.self.view_is) c.requires in
+    let L = room.activities in
+    let t = c.args.trade.now in
+    let are = rw (← c.self.view_is) at (c.trade_facts-facts.ensures.facts L (subst (Follows L) c.self.view_is room.follows)) in
+    let taken = trade_taken L _ t c.trade_facts-facts.result (Some c.in-Ok-Some.entries) room.follows are (sym (c.in-Ok-Some.is ∙ ap Ok c.in-Ok-Some.field-0-is) ∙ c.check_trade.ensures.answer) in
+    let told = told_now (is_due c.trade_facts-facts.result.today (pend_of t)) (trade_entries (pend_of t)) c.in-Ok-Some.entries taken.1 in
+    rw (← c.self.view_is) (c.book.ensures.places k ∙ c.prepare.ensures.others k (λ h. apart (subst (λ (es : List Entry). Contains (places_of es) k) told.1 h)))

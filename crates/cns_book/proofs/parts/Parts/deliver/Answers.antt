@@ -41,4 +41,4 @@ returns-clause-step g c L f =
     let none = delivery_refusal L c.self.inside.opening m facts are ∙ done.0 in
     accepted L (activity.Deliver m) reply.Accepted none refl
     (booked_by L _ (activity.Deliver m) c.self.inside.trades c.self.inside.notices (g.P.Positions.rows c.book.new.positions) f' tt none refl refl refl refl f'.references f'.pending (notices_kept L (activity.Deliver m) refl f')
-    (λ k. c.book.ensures k ∙ (λ i. books (done.1 i) k (c.in_ok-prepare.ensures.same k i))))
+    (λ k. c.book.ensures.booked k ∙ (λ i. books (done.1 i) k (c.in_ok-prepare.ensures.same k i))))

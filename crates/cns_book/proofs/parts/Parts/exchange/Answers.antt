@@ -9,6 +9,7 @@ use Rattle.cns_book.proofs.ActionSteps.{can_be_booked, exchange_follows, exchang
 use Rattle.cns_book.proofs.MachineSteps.{accepted, stopped}
 use Rattle.cns_book.proofs.TradingSteps.{same_rows}
 use Rattle.cns_actions.specs.Bookings.{makes}
+use Rattle.cns_book.proofs.ActionPlaces.{elsewhere}
 use Rattle.cns_actions.specs.declared.action.Action.TheVariants as action
 use Rattle.cns_book.proofs.parts.Parts.exchange.Goals as goal
 
@@ -51,3 +52,11 @@ returns-in_ok-make-in-Ok-clause-step g c L f =
     let made = subst (λ (t : Contents). (k : Key) → makes c.in-Ok.bookings k (holding_at t.rows k) ≡ with_age (age_brought t.rows (action.Exchange e) k) (books (entries t.opening (journal t.opening L) x) k (holding_at t.rows k))) (sym c.self.view_is) (c.in-Ok.ensures.booked L f) in
     accepted L x reply.Accepted none refl
     (rw c.end_issue.ensures (exchange_follows L _ e c.retire.new.self (g.P.Positions.rows c.make.new.positions) f' (c.parts.ensures.old_range, c.value.ensures.range, c.value-2.ensures.range) none c.retire.ensures.price c.retire.ensures.retired (λ k. c.in_ok-make-in-Ok.ensures.ok k ∙ made k)))
+
+pub returns-in_err-make-in-Ok-clause-places : goal.returns-in_err-make-in-Ok-clause-places
+returns-in_err-make-in-Ok-clause-places g c k apart =
+    rw (← c.self.view_is) (c.make.ensures.others k (elsewhere (action.Exchange c.args.exchange.now) k c.in-Ok.bookings apart c.in-Ok.ensures.issues))
+
+pub returns-in_ok-make-in-Ok-clause-places : goal.returns-in_ok-make-in-Ok-clause-places
+returns-in_ok-make-in-Ok-clause-places g c k apart =
+    rw (← c.self.view_is) (c.make.ensures.others k (elsewhere (action.Exchange c.args.exchange.now) k c.in-Ok.bookings apart c.in-Ok.ensures.issues))

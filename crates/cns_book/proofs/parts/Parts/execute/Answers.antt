@@ -16,5 +16,5 @@ returns-clause-step g c L f =
     let accepted = subst (λ (s : Contents). IsAccepted s x y) (sym c.self.view_is) c.in-Ok.ensures.accepted in
     let fills = subst (λ (s : Contents). c.in_ok-fills.fills.items ≡ fills_by (journal s.opening L) x) (sym c.self.view_is) (c.in_ok-fills.ensures.fills L f) in
     accepted_steps L _ x y fs c.len.result (g.P.Positions.rows c.book_fills.new.positions) c.executed.new.self c.charge.new.self c.from.result c.as_slice-2.result.now
-    (subst (Follows L) (sym c.self.view_is) f) accepted (c.as_slice.ensures.value ∙ fills) (c.len.ensures ∙ sym c.as_slice.ensures.len) c.book_fills.ensures c.executed.ensures
+    (subst (Follows L) (sym c.self.view_is) f) accepted (c.as_slice.ensures.value ∙ fills) (c.len.ensures ∙ sym c.as_slice.ensures.len) c.book_fills.ensures.booked c.executed.ensures
     c.charge.ensures c.from.ensures (c.as_slice-2.ensures.value ∙ sym c.as_slice.ensures.value)

@@ -1,14 +1,15 @@
-use Rattle.std.proofs.Common.{◌∙◌, sym, subst, refl, [], ◌∷◌}
+use Rattle.std.proofs.Common.{◌∙◌, ap, sym, subst, refl, [], ◌∷◌}
 use Rattle.cns_terms.specs.declared.command.Activity.TheVariants as activity
-use Rattle.cns_terms.specs.declared.command.Command.TheVariants as command
 use Rattle.cns_terms.specs.declared.reply.Reply.TheVariants as reply
-use Rattle.cns_book.proofs.Common.{Follows, HasRoom, books, corporation, first_refusal, moved_in, moved_out, receipt_rules}
-use Rattle.cns_book.proofs.MachineSteps.{accepted, refused, stopped}
+use Rattle.cns_book.proofs.Common.{Follows, HasRoom, books, corporation, first_refusal, holding_at, moved_in, moved_out, receipt_rules}
+use Rattle.cns_book.proofs.MachineSteps.{accepted, refused}
+use Rattle.cns_book.specs.Effects.{AreThere}
+use Rattle.cns_book.proofs.ReceiptPlaces.{receipt_there}
 use Rattle.cns_book.proofs.TradingMovements.{receipt_refusal}
 use Rattle.cns_book.proofs.NoticeBounds.{receipts_fit}
 use Rattle.cns_book.proofs.NoticeSteps.{receipt_counted}
-use Rattle.cns_book.proofs.TradingSteps.{answer_err, answer_ok, booked_by, same_rows}
-use Rattle.cns_book.proofs.PartsWithin.{rows_within, same_within}
+use Rattle.cns_book.proofs.TradingSteps.{answer_err, answer_ok, booked_by}
+use Rattle.cns_book.proofs.PartsWithin.{rows_within}
 use Rattle.cns_book.proofs.parts.Parts.receive.Goals as goal
 
 pub returns-in-Err-clause-step : goal.returns-in-Err-clause-step
@@ -20,18 +21,19 @@ returns-in-Err-clause-step g c L f =
     (receipt_refusal L s.opening m facts (c.move_facts-facts.ensures.facts L f) ∙ answer_err (first_refusal (receipt_rules facts m)) (moved_out m.member m ∷ moved_in corporation m ∷ []) c.in-Err.refusal c.in-Err.ensures.answer)
     f
 
-pub returns-in_err-prepare-clause-step : goal.returns-in_err-prepare-clause-step
-returns-in_err-prepare-clause-step g c L f =
-    let f' = subst (Follows L) (sym c.self.view_is) f in
+pub book-requires-clause-there : goal.book-requires-clause-there
+book-requires-clause-there g c =
+    let room = subst HasRoom (sym c.self.view_is) c.requires in
+    let L = room.activities in
     let m = c.args.movement.now in
     let facts = c.move_facts-facts.result in
+    let are = rw (← c.self.view_is) at (c.move_facts-facts.ensures.facts L (subst (Follows L) c.self.view_is room.follows)) in
     let done = answer_ok (first_refusal (receipt_rules facts m)) (moved_out m.member m ∷ moved_in corporation m ∷ []) c.in-Ok.entries c.in-Ok.ensures.answer in
-    stopped L (command.Activity (activity.Receive m)) c.from_residual.result c.from_residual.ensures.0
-    (receipt_refusal L c.self.inside.opening m facts (rw (← c.self.view_is) at (c.move_facts-facts.ensures.facts L f)) ∙ done.0)
-    (same_rows L _ _ f' c.in_err-prepare.ensures.same)
+    subst (AreThere (g.P.Positions.rows c.self.inside.positions)) (sym done.1)
+    (receipt_there L _ m room.follows c.value.ensures.range.0 (receipt_refusal L c.self.inside.opening m facts are ∙ done.0))
 
 pub book-requires-clause-rows : goal.book-requires-clause-rows
-book-requires-clause-rows g c = same_within _ _ c.in_ok-prepare.ensures.same (rows_within _ (subst HasRoom (sym c.self.view_is) c.requires))
+book-requires-clause-rows g c = rows_within _ (subst HasRoom (sym c.self.view_is) c.requires)
 
 pub returns-clause-step : goal.returns-clause-step
 returns-clause-step g c L f =
@@ -43,7 +45,7 @@ returns-clause-step g c L f =
     let none = receipt_refusal L c.self.inside.opening m facts are ∙ done.0 in
     accepted L (activity.Receive m) reply.Accepted none refl
     (booked_by L _ (activity.Receive m) c.self.inside.trades c.received.new.self (g.P.Positions.rows c.book.new.positions) f' c.value.ensures.range.1 none refl refl refl refl f'.references f'.pending (c.received.ensures ∙ receipt_counted L m f')
-    (λ k. c.book.ensures k ∙ (λ i. books (done.1 i) k (c.in_ok-prepare.ensures.same k i))))
+    (λ k. c.book.ensures.booked k ∙ ap (λ es. books es k (holding_at (g.P.Positions.rows c.self.inside.positions) k)) done.1))
 
 pub received-requires : goal.received-requires
 received-requires g c = record { fits = λ k is. receipts_fit _ (subst HasRoom (sym c.self.view_is) c.requires) c.args.movement.now.shares c.value.ensures.range.1 k }

@@ -1,4 +1,4 @@
-use Rattle.std.proofs.Common.{◌≡◌, ◌∙◌, None, sym, subst, refl}
+use Rattle.std.proofs.Common.{◌≡◌, ◌∙◌, None, inl, inr, sym, subst, refl}
 use Rattle.cns_terms.specs.declared.command.Activity.TheVariants as activity
 use Rattle.cns_terms.specs.declared.command.Command.TheVariants as command
 use Rattle.cns_terms.specs.declared.reply.Reply.TheVariants as reply
@@ -7,6 +7,8 @@ use Rattle.cns_book.proofs.ActionSteps.{can_be_booked, no_fault, split_ends, spl
 use Rattle.cns_book.proofs.MachineSteps.{accepted, stopped}
 use Rattle.cns_book.proofs.TradingSteps.{booked_by, same_rows}
 use Rattle.cns_actions.specs.Bookings.{makes}
+use Rattle.cns_actions.specs.declared.action.Action.TheVariants as action
+use Rattle.cns_book.proofs.ActionPlaces.{elsewhere}
 use Rattle.cns_book.proofs.parts.Parts.split.Goals as goal
 
 pub make-requires : goal.make-requires
@@ -28,3 +30,17 @@ returns-in_ok-make-in-Ok-clause-step g c L f =
     let made = subst (λ (t : Contents). (k : Key) → makes c.in-Ok.bookings k (holding_at t.rows k) ≡ books (entries t.opening (journal t.opening L) x) k (holding_at t.rows k)) (sym c.self.view_is) (λ k. c.in-Ok.ensures.booked L f k ∙ with_no_age _) in
     accepted L x reply.Accepted none refl
     (booked_by L _ x c.self.inside.trades c.end_issue.new.self (g.P.Positions.rows c.make.new.positions) f' (c.parts.ensures.old_range, c.value.ensures.range) none refl refl refl refl f'.references f'.pending (c.end_issue.ensures ∙ split_ends L s f') (λ k. c.in_ok-make-in-Ok.ensures.ok k ∙ made k))
+
+pub returns-in_err-make-in-Ok-clause-places : goal.returns-in_err-make-in-Ok-clause-places
+returns-in_err-make-in-Ok-clause-places g c k apart =
+    rw (← c.self.view_is) (c.make.ensures.others k (elsewhere (action.Split c.args.split.now) k c.in-Ok.bookings (λ h. elim h [
+      | inl e ↦ apart e
+      | inr e ↦ apart e
+    ]) c.in-Ok.ensures.issues))
+
+pub returns-in_ok-make-in-Ok-clause-places : goal.returns-in_ok-make-in-Ok-clause-places
+returns-in_ok-make-in-Ok-clause-places g c k apart =
+    rw (← c.self.view_is) (c.make.ensures.others k (elsewhere (action.Split c.args.split.now) k c.in-Ok.bookings (λ h. elim h [
+      | inl e ↦ apart e
+      | inr e ↦ apart e
+    ]) c.in-Ok.ensures.issues))

@@ -1,5 +1,5 @@
-use Rattle.std.proofs.Common.{◌∙◌, ap, sym, w64}
-use Rattle.cns_positions.proofs.Common.{Rows, has_row, w128}
+use Rattle.std.proofs.Common.{◌∙◌, sym, w64}
+use Rattle.cns_positions.proofs.Common.{w128}
 use Rattle.std.proofs.lemmas.Int.{to_z-of_z}
 use Rattle.cns_positions.proofs.Holdings.{written}
 use Rattle.cns_positions.proofs.flat.FlatPositionsPositions.add.Goals as goal
@@ -16,8 +16,8 @@ returns-clause-others g c k apart =
     rw (written c.self.inside.rows.len c.book.new.rows rows (sym (c.book.auto.rows ∙ c.as_mut_slice.ensures.len)), ← c.self.view_is)
     (rw c.as_mut_slice.ensures.value at c.book.ensures.others k apart)
 
-pub returns-clause-kept : goal.returns-clause-kept
-returns-clause-kept g c k was =
+pub returns-clause-places : goal.returns-clause-places
+returns-clause-places g c k =
     let rows = c.self.inside.rows.items in
-    rw (written c.self.inside.rows.len c.book.new.rows rows (sym (c.book.auto.rows ∙ c.as_mut_slice.ensures.len)))
-    (c.book.ensures.kept k (ap (λ (rs : Rows). has_row rs k) c.as_mut_slice.ensures.value ∙ rw (← c.self.view_is) at was))
+    rw (written c.self.inside.rows.len c.book.new.rows rows (sym (c.book.auto.rows ∙ c.as_mut_slice.ensures.len)), ← c.self.view_is)
+    (rw c.as_mut_slice.ensures.value at c.book.ensures.places k)

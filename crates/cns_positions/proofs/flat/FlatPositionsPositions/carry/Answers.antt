@@ -1,5 +1,4 @@
-use Rattle.std.proofs.Common.{◌∙◌, ap, sym}
-use Rattle.cns_positions.proofs.Common.{Rows, has_row}
+use Rattle.std.proofs.Common.{◌∙◌, sym}
 use Rattle.cns_positions.proofs.Holdings.{written}
 use Rattle.cns_positions.proofs.flat.FlatPositionsPositions.carry.Goals as goal
 
@@ -15,8 +14,8 @@ returns-clause-others g c k apart =
     rw (written c.self.inside.rows.len c.carry.new.rows rows (sym (c.carry.auto.rows ∙ c.as_mut_slice.ensures.len)), ← c.self.view_is)
     (rw c.as_mut_slice.ensures.value at c.carry.ensures.others k apart)
 
-pub returns-clause-kept : goal.returns-clause-kept
-returns-clause-kept g c k was =
+pub returns-clause-places : goal.returns-clause-places
+returns-clause-places g c k =
     let rows = c.self.inside.rows.items in
-    rw (written c.self.inside.rows.len c.carry.new.rows rows (sym (c.carry.auto.rows ∙ c.as_mut_slice.ensures.len)))
-    (c.carry.ensures.kept k (ap (λ (rs : Rows). has_row rs k) c.as_mut_slice.ensures.value ∙ rw (← c.self.view_is) at was))
+    rw (written c.self.inside.rows.len c.carry.new.rows rows (sym (c.carry.auto.rows ∙ c.as_mut_slice.ensures.len)), ← c.self.view_is)
+    (rw c.as_mut_slice.ensures.value at c.carry.ensures.places k)

@@ -7,7 +7,7 @@ use Rattle.cns_positions.proofs.flat.FlatPositionsPositions.get.Goals as goal
 pub returns-in-Ok : goal.returns-in-Ok
 returns-in-Ok g c =
     let rows = c.self.inside.rows.items in
-    rw (← c.self.view_is) (ap (λ (r : Key × Holding). r.1) c.index.ensures ∙ sym (found_here rows c.in-Ok.at c.args.key c.index.result.now c.self.invariant.sorted (rw c.as_slice.ensures.value at c.in-Ok.ensures.bound) (rw c.as_slice.ensures.value at c.in-Ok.ensures.found)))
+    rw (← c.self.view_is) (ap (λ (r : Key × Holding). r.1) c.index.ensures ∙ sym (found_here rows c.in-Ok.at c.args.key c.index.result.now c.self.invariant (rw c.as_slice.ensures.value at c.in-Ok.ensures.bound) (rw c.as_slice.ensures.value at c.in-Ok.ensures.found)))
 
 pub returns-in-Err : goal.returns-in-Err
 returns-in-Err g c =

@@ -7,4 +7,4 @@ use Rattle.cns_positions.proofs.tree.TreePositionsPositions.next_row.Goals as go
 pub returns : goal.returns
 returns g c =
     let rows = c.self.inside.rows in
-    rw (← c.self.view_is) (first_found rows c.walk_above.result c.args.after c.first_held.result c.self.invariant.sorted (ap (λ rs. held_above rs None) c.walk_above.ensures.rows ∙ above_held rows c.args.after) c.first_held.ensures)
+    rw (← c.self.view_is) (first_found rows c.walk_above.result c.args.after c.first_held.result c.self.invariant (ap (λ rs. held_above rs None) c.walk_above.ensures.rows ∙ above_held rows c.args.after) c.first_held.ensures)

@@ -8,4 +8,4 @@ pub returns-clause-next : goal.returns-clause-next
 returns-clause-next g c =
     let rows = c.self.inside.rows in
     let above : held_above rows c.args.after ≡ held_above c.walk_above.result None = sym (ap (λ rs. held_above rs None) c.walk_above.ensures.rows ∙ above_held rows c.args.after) in
-    rw (← c.self.view_is) (next_given rows c.args.after _ c.first_rows.ensures.first.0 c.self.invariant.sorted (above ∙ c.first_rows.ensures.first.1) (λ none. above ∙ c.first_rows.ensures.left none))
+    rw (← c.self.view_is) (next_given rows c.args.after _ c.first_rows.ensures.first.0 c.self.invariant (above ∙ c.first_rows.ensures.first.1) (λ none. above ∙ c.first_rows.ensures.left none))

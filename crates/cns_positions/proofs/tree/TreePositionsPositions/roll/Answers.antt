@@ -3,16 +3,13 @@ use Rattle.cns_positions.proofs.Holdings.{holding_closed, row_closed, sorted_clo
 use Rattle.cns_positions.proofs.tree.TreePositionsPositions.roll.Goals as goal
 
 pub invariant_of-self : goal.invariant_of-self
-invariant_of-self g c = rw c.close_all.ensures (record {
-  sorted = sorted_closed c.self.inside.rows ∙ c.self.invariant.sorted;
-  entered = λ k h. row_closed c.self.inside.rows k ∙ c.self.invariant.entered k h;
-})
+invariant_of-self g c = rw c.close_all.ensures (sorted_closed c.self.inside.rows ∙ c.self.invariant)
 
 pub returns-clause-rolled : goal.returns-clause-rolled
 returns-clause-rolled g c k = rw (c.close_all.ensures, ← c.self.view_is) (holding_closed c.self.inside.rows k)
 
 pub returns-clause-order : goal.returns-clause-order
-returns-clause-order g c = rw c.close_all.ensures (sorted_closed c.self.inside.rows ∙ c.self.invariant.sorted)
+returns-clause-order g c = rw c.close_all.ensures (sorted_closed c.self.inside.rows ∙ c.self.invariant)
 
-pub returns-clause-kept : goal.returns-clause-kept
-returns-clause-kept g c k was = rw c.close_all.ensures (row_closed c.self.inside.rows k ∙ rw (← c.self.view_is) at was)
+pub returns-clause-places : goal.returns-clause-places
+returns-clause-places g c k = rw (c.close_all.ensures, ← c.self.view_is) (row_closed c.self.inside.rows k)
