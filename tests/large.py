@@ -259,6 +259,19 @@ def run_files(program):
     check("two files, one of 1,200,000 records", run, text([due]))
 
 
+def run_many_files(program):
+    """As many files as there may be, each with members of its own, a record at fault and a command that a rule refuses."""
+    with tempfile.TemporaryDirectory() as room:
+        files = [pathlib.Path(room, str(number)) for number in range(64)]
+        for number, file in enumerate(files):
+            joining = (f"MEMBER,{member}" for member in range(1 + 100 * number, 101 + 100 * number))
+            file.write_bytes(text([*joining, "x", "WITHDRAW,1"]))
+        run = subprocess.run([program, "run", "--open", date(1), *files], capture_output=True)
+    counts = ",".join(["101"] * 64)
+    due = f'{{"closes":0,"commands":6464,"counts":[{counts}],"dividends":"0.00","lines":64,"marks":"0.00"}}'
+    check("64 files", run, text([due]))
+
+
 def statements(program):
     """The statements of all members, the last of whom has many rows, by as many workers as there may be."""
     session = Session()
@@ -313,6 +326,7 @@ def main():
     for make in REPLAYED:
         replay(program, make)
     run_files(program)
+    run_many_files(program)
     statements(program)
     page(sys.argv[2])
 

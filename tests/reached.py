@@ -152,10 +152,7 @@ ASKED = [
     "a run of 2 files", "a run of 3 files", "a run of 4 files",
 ]
 
-ACCEPTED = [
-    "MEMBER", "ISSUE", "TRADE", "PRICE", "DELIVER", "RECEIVE", "DIVIDEND", "SPLIT", "EXCHANGE", "NOTICE", "WITHDRAW", "EXECUTE",
-    "CLOSE",
-]
+ACCEPTED = [kind.decode() for kind in recompute.KINDS if kind not in (b"POSITION", b"STATEMENT")]
 FAULTS = ["Kind", "Count", "Number", "Range", "Date", "Cusip"]
 
 LIST = {

@@ -26,7 +26,7 @@ const MOST_TURNS: u32 = 10_000;
 
 // Holds each worker's first command until the first commands of so many workers have come.
 #[derive(Drop)]
-pub(crate) struct Meeting<C> {
+struct Meeting<C> {
     clock: C,
     wanted: u64,
     came: AtomicU64,
@@ -35,7 +35,7 @@ pub(crate) struct Meeting<C> {
 }
 
 impl<C> Meeting<C> {
-    pub(crate) fn new(clock: C, wanted: u64) -> Meeting<C> {
+    fn new(clock: C, wanted: u64) -> Meeting<C> {
         Meeting {
             clock,
             wanted,
@@ -45,7 +45,7 @@ impl<C> Meeting<C> {
     }
 
     // Whether no worker waited in vain.
-    pub(crate) fn is_in_time(&self) -> bool {
+    fn is_in_time(&self) -> bool {
         self.late.load(SeqCst) == 0
     }
 }
@@ -128,7 +128,7 @@ impl Gate for Tally {
 }
 
 // The length of the history.
-pub(crate) fn entries(outcome: &Outcome) -> usize {
+fn entries(outcome: &Outcome) -> usize {
     outcome.book.history_len()
 }
 

@@ -1,4 +1,4 @@
-//! Tests of the desk: audits, workers that wait for one another, many workers beside one caller, commands under a seat.
+//! Tests of the desk: audits, workers that wait for one another, commands under a seat.
 //!
 //! They use public names alone and stand in a crate of their own, so that no crate below is proved once more for its tests.
 //! They say what no clause says: when gates are called, that threads run at once, how a failing source ends its worker.
@@ -10,10 +10,6 @@ mod audits;
 mod gates;
 #[cfg(test)]
 mod inputs;
-#[cfg(test)]
-mod lots;
-#[cfg(test)]
-mod many;
 #[cfg(test)]
 mod runs;
 #[cfg(test)]

@@ -1,12 +1,10 @@
 // Commands, replies and statements as the texts that a clerk reads.
-use cns_book::{Book, Receipt};
 use cns_feed::{CsvSource, reply_text};
-use cns_positions::Positions;
 use cns_sheets::Sheet;
 use cns_statements::{statement, write_statement};
-use cns_terms::{Command, Item, Reply, Source, Worker};
+use cns_terms::{Command, Item, Reply, Source};
 use cns_units::{Account, Day};
-use std::alloc::{Allocator, Global};
+use std::alloc::Global;
 use std::process::Abort;
 
 // The day on which each book opens, and the next one.
@@ -37,16 +35,6 @@ pub(crate) fn commands(rt: &impl Abort, alloc: Global, records: &str) -> Vec<Com
         }
     }
     panic!(rt; "no end of the records");
-}
-
-// Gives a book a worker's command. A check of a caller need not go through all that a book promises of it.
-pub(crate) fn take<P: Positions<A>, A: Allocator + Drop + Clone>(
-    rt: &impl Abort,
-    book: &mut Book<P, A>,
-    worker: Worker,
-    command: Command,
-) -> Receipt {
-    book.take(worker, command).expect(rt, "taken")
 }
 
 // Whether two replies are the same. A check of a caller need not go through all that a reply may be.
