@@ -1,13 +1,13 @@
 -- What trades book, added up by key.
 -- For `listed` of due_bookings.rt, `add`, `add_trade` and `of` of due_amounts.rt.
-use Rattle.std.proofs.Common.{◌≡◌, ◌∙◌, sym, ap, subst, refl, ℕ, max, ◌+◌, ◌*◌, ◌^◌, ◌<◌, ◌≤◌, ℤ, pos, ◌+ℤ◌, neg_ℤ, unsigned_abs, Bool, true, false, cond, ◌&&◌, List, [], ◌∷◌, ◌==◌, map, filter, flat_map, length, get_or, drop, Option, Some, unwrap_or, Ordering, Result, Ok, Err, IfOk, OnOk, arith, is_eq, is_lt, Less, Equal, Greater}
-use Rattle.cns_actions.proofs.Common.{AllByRecursion, Amount, AreSmall, Day, Entry, Holding, IsSmallAmount, Key, Pend, amount_at, amount_of, and_left, and_right, as_booking, below_all, buyer_entry, drop_all, due_entries, equal, exact_keys, insert_entry, ints, is_sorted, key_cmp, keys_total, lookup, makes, match_ordering, money_limit, ordering_reverse, same_issue, seller_entry, shares_limit, trade_entries, with_amount, with_entry, zero_add}
+use Rattle.std.proofs.Common.{◌≡◌, ◌≢◌, ◌∙◌, sym, ap, subst, refl, ℕ, max, ◌+◌, ◌*◌, ◌^◌, ◌<◌, ◌≤◌, ℤ, pos, ◌+ℤ◌, neg_ℤ, unsigned_abs, Bool, true, false, cond, ◌&&◌, List, [], ◌∷◌, ◌==◌, map, filter, flat_map, length, get_or, drop, Option, Some, None, unwrap_or, Ordering, Result, Ok, Err, IfOk, OnOk, arith, is_eq, is_lt, Less, Equal, Greater}
+use Rattle.cns_actions.proofs.Common.{AllByRecursion, Amount, AreSmall, Day, Entry, Holding, IsSmallAmount, Key, Pend, amount_at, amount_of, and_left, and_right, as_booking, below_all, buyer_entry, drop_all, due_entries, equal, exact_keys, insert_entry, ints, is_sorted, key_cmp, keys_total, lookup, makes, match_ordering, money_limit, ordering_reverse, same_issue, seller_entry, shares_limit, tied_itself, trade_entries, with_amount, with_entry, zero_add}
 use Rattle.std.specs.BTreeMap.{is_at}
 use Rattle.std.specs.FinMap.{find}
 use Rattle.std.proofs.lemmas.List.{drop_more}
 use Rattle.cns_terms.specs.Pending.{is_due}
-use Rattle.cns_actions.specs.Bookings.{by_key, key_of}
-use Rattle.cns_actions.specs.DueAmounts.{AmountsByKey, HasRoomForTrade, IsOneTradeMore, amount_for, no_amount}
+use Rattle.cns_actions.specs.Bookings.{AreElsewhere, by_key, key_of}
+use Rattle.cns_actions.specs.DueAmounts.{AmountsByKey, AreApartFrom, HasRoomForTrade, IsOneTradeMore, amount_for, no_amount}
 use Rattle.cns_actions.proofs.Making.{is_at_key, makes_first, makes_other}
 
 -- ---- what is booked at a key
@@ -69,6 +69,14 @@ amounts_added old new key a e own updates is k =
     ∙ added_branch (is_eq (key_cmp key k)) a (amount_at old k) e (find key_cmp k old) refl (λ t. is ∙ ap (λ q. with_entry (amount_at old q) e) (exact_keys key k (equal _ t)))
     ∙ ap (λ b. with_amount (amount_at old k) (record { shares = cond b e.shares (pos 0); cents = cond b e.cents (pos 0) })) here
 
+-- at another key nothing is put in
+pub found_apart : (old new : AmountsByKey) (key k : Key) (a : Amount) → ((q : Key) → lookup (is_at (key_cmp q)) new ≡ cond (is_eq (key_cmp key q)) (Some a) (lookup (is_at (key_cmp q)) old)) → k ≢ key → find key_cmp k new ≡ find key_cmp k old
+found_apart old new key k a updates apart = same_find k new ∙ updates k ∙ by (is_eq (key_cmp key k)) refl ∙ sym (same_find k old)
+  where
+    by : (b : Bool) → is_eq (key_cmp key k) ≡ b → cond b (Some a) (lookup (is_at (key_cmp k)) old) ≡ lookup (is_at (key_cmp k)) old
+    by true at = absurd (apart (sym (exact_keys key k (equal _ at))))
+    by false at = refl
+
 -- ---- as bookings
 
 below_bookings : (k : Key) (es : AmountsByKey) → below_all key_cmp k (by_key (map as_booking es)) ≡ below_all key_cmp k es
@@ -84,6 +92,15 @@ sorted_bookings (e ∷ es) = λ i. below_bookings e.0 es i && sorted_bookings es
 pub amounts_small : (es : AmountsByKey) → AllByRecursion (λ e. IsSmallAmount e.1) es → AreSmall (map as_booking es)
 amounts_small [] h = tt
 amounts_small (e ∷ es) h = (record { shares = h.0.shares; cents = h.0.cents }, amounts_small es h.1)
+
+-- and none is at a key at which nothing is booked
+pub amounts_elsewhere : (k : Key) (es : AmountsByKey) → find key_cmp k es ≡ None → AreElsewhere k (map as_booking es)
+amounts_elsewhere k [] none = tt
+amounts_elsewhere k (e ∷ es) none = by (is_eq (key_cmp k e.0)) refl none (amounts_elsewhere k es)
+  where
+    by : (b : Bool) → is_eq (key_cmp k e.0) ≡ b → cond b (Some e.1) (find key_cmp k es) ≡ None → (find key_cmp k es ≡ None → AreElsewhere k (map as_booking es)) → AreElsewhere k (map as_booking (e ∷ es))
+    by true at h rest = cc
+    by false at h rest = ((λ same. let own = ap is_eq (tied_itself keys_total k) in let other = ap (λ q. is_eq (key_cmp k q)) same ∙ at in cc), rest h)
 
 -- what an amount makes of a holding
 abbrev pub with_holding : Amount → Holding → Holding
@@ -112,6 +129,15 @@ bookings_make (e ∷ es) s k h = by (is_eq (key_cmp k e.0)) refl (bookings_make 
 -- the amount of a trade's two entries
 two_entries : (x b s r : ℤ) → x +ℤ (b +ℤ (s +ℤ r)) ≡ (x +ℤ (b +ℤ (s +ℤ pos 0))) +ℤ r
 two_entries x b s r = omega (arith, ints)
+
+-- where no entry of those that are left is booked at a key, none of the first one's is, nor of those after it
+pub due_apart : (next : Day) (p : Pend) (rest : List Pend) (k : Key) → is_due next p ≡ true → AreApartFrom k (due_entries next (p ∷ rest)) → AreApartFrom k (trade_entries p) × AreApartFrom k (due_entries next rest)
+due_apart next p rest k due h =
+    let all = subst (λ t. AreApartFrom k (flat_map trade_entries (cond t (p ∷ filter (is_due next) rest) (filter (is_due next) rest)))) due h in
+    ((all.0, (all.1.0, tt)), all.1.1)
+
+pub passed_apart : (next : Day) (p : Pend) (rest : List Pend) (k : Key) → is_due next p ≡ false → AreApartFrom k (due_entries next (p ∷ rest)) → AreApartFrom k (due_entries next rest)
+passed_apart next p rest k due h = subst (λ t. AreApartFrom k (flat_map trade_entries (cond t (p ∷ filter (is_due next) rest) (filter (is_due next) rest)))) due h
 
 -- one trade of those that are left, by whether it is due
 pub trade_step : (next : Day) (p : Pend) (rest : List Pend) (k : Key) (all now new : Amount) → is_due next p ≡ true → new ≡ with_amount now (amount_of (trade_entries p) k) → all ≡ with_amount now (amount_of (due_entries next (p ∷ rest)) k) → all ≡ with_amount new (amount_of (due_entries next rest) k)

@@ -1,9 +1,11 @@
 // What trades book once their date has come, added up by key.
-ghost use Rattle.std.specs.Prelude.{◌≡◌, ◌≤◌, ◌^◌, [], length, map, IfOk, OnOk};
+ghost use Rattle.std.specs.Prelude.{◌≡◌, ◌≢◌, ◌≤◌, ◌^◌, [], None, length, map, IfOk, OnOk};
+ghost use Rattle.std.specs.FinMap.{find};
 ghost use Rattle.cns_terms.specs.declared.holding.Key.{Key};
 ghost use Rattle.cns_terms.specs.Entries.{trade_entries};
+ghost use Rattle.cns_terms.specs.Keys.{key_cmp};
 ghost use Rattle.cns_actions.specs.Bookings.{IsSmall, key_of};
-ghost use Rattle.cns_actions.specs.DueAmounts.{AreAmounts, IsSmallAmount, HasRoomForTrade, IsOneTradeMore, amount_at, amount_for, due_entries, as_booking, with_entry, amount_of, with_amount};
+ghost use Rattle.cns_actions.specs.DueAmounts.{AreAmounts, AreApartFrom, IsSmallAmount, HasRoomForTrade, IsOneTradeMore, amount_at, amount_for, due_entries, as_booking, with_entry, amount_of, with_amount};
 
 use crate::booking::{Booking, key_of};
 use cns_terms::{Entry, Key, NoMemory, Pend};
@@ -71,7 +73,8 @@ impl<A: Allocator + Drop + Clone> DueAmounts<A> {
     /// What the trades that are due on a day book. Where none is due it takes no memory.
     pub fn of(alloc: A, pending: &[Pend], next: Day) -> Result<Self, NoMemory>
         requires { length pending.now ≤ 2 ^ 32 }
-        ensures { IfOk result (λ s. (k : Key) → amount_at s k ≡ amount_of (due_entries next pending.now) k) }
+        ensures amounts { IfOk result (λ s. (k : Key) → amount_at s k ≡ amount_of (due_entries next pending.now) k) }
+        ensures others { IfOk result (λ s. (k : Key) → AreApartFrom k (due_entries next pending.now) → find key_cmp k s ≡ None) }
     {
         let mut amounts = DueAmounts::nothing(alloc);
         for pend in pending {
@@ -97,6 +100,8 @@ impl<A: Allocator + Drop + Clone> DueAmounts<A> {
         ensures sums { OnOk result ((k : Key)
             → amount_at self.new k ≡ with_amount (amount_at self.old k) (amount_of (trade_entries pend.now) k)) }
         ensures bound { OnOk result ((k : Key) → IsOneTradeMore (amount_at self.old k) (amount_at self.new k)) }
+        ensures others { OnOk result ((k : Key) → AreApartFrom k (trade_entries pend.now)
+            → find key_cmp k self.new ≡ find key_cmp k self.old) }
     {
         self.add(&pend.buyer_entry())?;
         self.add(&pend.seller_entry())
@@ -106,8 +111,9 @@ impl<A: Allocator + Drop + Clone> DueAmounts<A> {
     fn add(&mut self, entry: &Entry) -> Result<(), NoMemory>
         requires small { IsSmall entry.now }
         requires room { IsSmallAmount (with_entry (amount_at self.old (key_of entry.now)) entry.now) }
-        ensures { OnOk result ((k : Key)
+        ensures amounts { OnOk result ((k : Key)
             → amount_at self.new k ≡ with_amount (amount_at self.old k) (amount_for entry.now k)) }
+        ensures others { OnOk result ((k : Key) → k ≢ key_of entry.now → find key_cmp k self.new ≡ find key_cmp k self.old) }
     {
         let key = key_of(entry);
         let had = self.amounts.get(&key).copied().unwrap_or(Amount::NONE);

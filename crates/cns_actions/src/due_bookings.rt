@@ -5,8 +5,8 @@ ghost use Rattle.cns_terms.specs.declared.holding.Holding.{Holding};
 ghost use Rattle.cns_terms.specs.declared.holding.Key.{Key};
 ghost use Rattle.cns_terms.specs.Keys.{key_cmp};
 ghost use Rattle.cns_positions.specs.Rows.{books};
-ghost use Rattle.cns_actions.specs.Bookings.{AreSmall, by_key, makes};
-ghost use Rattle.cns_actions.specs.DueAmounts.{due_entries};
+ghost use Rattle.cns_actions.specs.Bookings.{AreElsewhere, AreSmall, by_key, makes};
+ghost use Rattle.cns_actions.specs.DueAmounts.{AreApartFrom, due_entries};
 
 use crate::booking::Booking;
 use crate::bookings::Bookings;
@@ -24,6 +24,8 @@ fn listed<A: Allocator + Drop + Clone>(
     requires { length pending.now ≤ 2 ^ 32 }
     ensures same { IfOk result (λ v. (k : Key) (h : Holding)
         → makes v.items k h ≡ books (due_entries next pending.now) k h) }
+    ensures others { IfOk result (λ v. (k : Key)
+        → AreApartFrom k (due_entries next pending.now) → AreElsewhere k v.items) }
     ensures small { IfOk result (λ v. AreSmall v.items) }
     ensures rise { IfOk result (λ v. is_sorted key_cmp (by_key v.items) ≡ true) }
 {
@@ -42,7 +44,8 @@ pub fn bookings_due<A: Allocator + Drop + Clone>(
     next: Day,
 ) -> Result<Bookings<A>, NoMemory>
     requires { length pending.now ≤ 2 ^ 32 }
-    ensures { IfOk result (λ b. (k : Key) (h : Holding) → makes b k h ≡ books (due_entries next pending.now) k h) }
+    ensures made { IfOk result (λ b. (k : Key) (h : Holding) → makes b k h ≡ books (due_entries next pending.now) k h) }
+    ensures others { IfOk result (λ b. (k : Key) → AreApartFrom k (due_entries next pending.now) → AreElsewhere k b) }
 {
     Ok(Bookings::of(listed(alloc, pending, next)?))
 }

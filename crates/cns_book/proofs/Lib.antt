@@ -14,6 +14,7 @@ pub mod NoticeSteps
 pub mod BuyInEntries
 pub mod RetransmittalChoice
 pub mod ClosingSteps
+pub mod ClosingPlaces
 pub mod ClosingRows
 pub mod ClosingPayments
 pub mod ClosingSheet

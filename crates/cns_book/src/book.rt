@@ -13,7 +13,7 @@ ghost use Rattle.cns_book.specs.Shown.{batch_shown, batches_shown, entry_at, not
 ghost use Rattle.cns_terms.specs.Refusals.{refusal};
 ghost use Rattle.cns_book.specs.Follows.{may_grow};
 ghost use Rattle.cns_book.specs.Log.{TakesStep, empty_log, state_of};
-ghost use Rattle.cns_book.specs.Places.{KeepsRows, PlacesStay};
+ghost use Rattle.cns_book.specs.Places.{KeepsRows, PlacesStay, waiting};
 
 use crate::notice::Notice;
 use crate::parts::Parts;
@@ -206,7 +206,7 @@ impl<P: Positions<A>, A: Allocator + Drop + Clone> Book<P, A> {
         ensures full { (result ≡ Err TakeFault.Full) ↔ (length self.old.log.history ≡ self.old.log.limit) }
         ensures ok { IfOk result (λ r. TakesStep self.old.log self.new.log worker command r) }
         ensures err { OnErr result (self.new.log ≡ self.old.log) }
-        ensures places { PlacesStay command self.old.rows self.new.rows }
+        ensures places { PlacesStay (waiting self.old.log) command self.old.rows self.new.rows }
         ensures same_rows { KeepsRows result self.old.rows self.new.rows }
         ensures memory { result ≡ Err TakeFault.NoMemory → (self.old.room ≡ 0)
             ⊎ ((refusal self.old.log.opening (journal_of (state_of self.old.log)) command ≡ None)

@@ -132,7 +132,7 @@ impl<P: Positions<A>, A: Allocator + Drop + Clone> Parts<P, A> {
         requires { HasRoom self.old }
         ensures opening { self.new.opening ≡ self.old.opening }
         ensures step { Answers self.old (command.Activity activity.now) result self.new }
-        ensures places { PlacesStay (command.Activity activity.now) self.old.rows self.new.rows }
+        ensures places { PlacesStay self.old.trades.pending (command.Activity activity.now) self.old.rows self.new.rows }
         ensures refused { StaysIfRefused result self.old self.new }
         ensures grows { OnErr result (may_grow (command.Activity activity.now) ≡ true) }
     {
@@ -158,7 +158,7 @@ impl<P: Positions<A>, A: Allocator + Drop + Clone> Parts<P, A> {
         requires { HasRoom self.old }
         ensures opening { self.new.opening ≡ self.old.opening }
         ensures step { Answers self.old command.now result self.new }
-        ensures places { PlacesStay command.now self.old.rows self.new.rows }
+        ensures places { PlacesStay self.old.trades.pending command.now self.old.rows self.new.rows }
         ensures refused { StaysIfRefused result self.old self.new }
         ensures grows { OnErr result (may_grow command.now ≡ true) }
     {

@@ -45,7 +45,7 @@ impl<P: Positions<A>, A: Allocator + Drop + Clone> Parts<P, A> {
         requires { HasRoom self.old }
         ensures opening { self.new.opening ≡ self.old.opening }
         ensures step { Answers self.old (command.Activity (activity.Split split.now)) result self.new }
-        ensures places { PlacesStay (command.Activity (activity.Split split.now)) self.old.rows self.new.rows }
+        ensures places { PlacesStay self.old.trades.pending (command.Activity (activity.Split split.now)) self.old.rows self.new.rows }
         ensures refused { StaysIfRefused result self.old self.new }
     {
         if let Some(refusal) = self.issue_refusal(split.issue) {
@@ -89,7 +89,7 @@ impl<P: Positions<A>, A: Allocator + Drop + Clone> Parts<P, A> {
         requires { HasRoom self.old }
         ensures opening { self.new.opening ≡ self.old.opening }
         ensures step { Answers self.old (command.Activity (activity.Exchange exchange.now)) result self.new }
-        ensures places { PlacesStay (command.Activity (activity.Exchange exchange.now)) self.old.rows self.new.rows }
+        ensures places { PlacesStay self.old.trades.pending (command.Activity (activity.Exchange exchange.now)) self.old.rows self.new.rows }
         ensures refused { StaysIfRefused result self.old self.new }
     {
         if let Some(refusal) = self.exchange_refusal(exchange) {

@@ -21,7 +21,7 @@ impl<P: Positions<A>, A: Allocator + Drop + Clone> Parts<P, A> {
         requires { HasRoom self.old }
         ensures opening { self.new.opening ≡ self.old.opening }
         ensures step { Answers self.old (command.Activity (activity.Close next)) result self.new }
-        ensures places { PlacesStay (command.Activity (activity.Close next)) self.old.rows self.new.rows }
+        ensures places { PlacesStay self.old.trades.pending (command.Activity (activity.Close next)) self.old.rows self.new.rows }
         ensures refused { StaysIfRefused result self.old self.new }
     {
         if next <= self.today {

@@ -39,7 +39,7 @@ impl<P: Positions<A>, A: Allocator + Drop + Clone> Parts<P, A> {
     pub fn declare_dividend(&mut self, declared: &Declared) -> Result<Reply, NoMemory>
         ensures opening { self.new.opening ≡ self.old.opening }
         ensures step { Answers self.old (command.Activity (activity.Dividend declared.now)) result self.new }
-        ensures places { PlacesStay (command.Activity (activity.Dividend declared.now)) self.old.rows self.new.rows }
+        ensures places { PlacesStay self.old.trades.pending (command.Activity (activity.Dividend declared.now)) self.old.rows self.new.rows }
         ensures refused { StaysIfRefused result self.old self.new }
     {
         if let Some(refusal) = self.dividend_refusal(declared) {

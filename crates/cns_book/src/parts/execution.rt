@@ -109,7 +109,7 @@ impl<P: Positions<A>, A: Allocator + Drop + Clone> Parts<P, A> {
         requires { HasRoom self.old }
         ensures opening { self.new.opening ≡ self.old.opening }
         ensures step { Answers self.old (command.Activity (activity.Execute execution.now)) result self.new }
-        ensures places { PlacesStay (command.Activity (activity.Execute execution.now)) self.old.rows self.new.rows }
+        ensures places { PlacesStay self.old.trades.pending (command.Activity (activity.Execute execution.now)) self.old.rows self.new.rows }
         ensures refused { StaysIfRefused result self.old self.new }
     {
         let (given, batch) = match self.check_execution(execution) {

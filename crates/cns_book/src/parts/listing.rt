@@ -16,7 +16,7 @@ impl<P: Positions<A>, A: Allocator + Drop + Clone> Parts<P, A> {
     pub fn add_member(&mut self, member: Member) -> Result<Reply, NoMemory>
         ensures opening { self.new.opening ≡ self.old.opening }
         ensures step { Answers self.old (command.Activity (activity.Member member)) result self.new }
-        ensures places { PlacesStay (command.Activity (activity.Member member)) self.old.rows self.new.rows }
+        ensures places { PlacesStay self.old.trades.pending (command.Activity (activity.Member member)) self.old.rows self.new.rows }
         ensures refused { StaysIfRefused result self.old self.new }
     {
         let account = member.account();
@@ -31,7 +31,7 @@ impl<P: Positions<A>, A: Allocator + Drop + Clone> Parts<P, A> {
     pub fn list_issue(&mut self, listing: Listing) -> Result<Reply, NoMemory>
         ensures opening { self.new.opening ≡ self.old.opening }
         ensures step { Answers self.old (command.Activity (activity.Issue listing)) result self.new }
-        ensures places { PlacesStay (command.Activity (activity.Issue listing)) self.old.rows self.new.rows }
+        ensures places { PlacesStay self.old.trades.pending (command.Activity (activity.Issue listing)) self.old.rows self.new.rows }
         ensures refused { StaysIfRefused result self.old self.new }
     {
         if self.prices.price(listing.issue).is_some() {
@@ -48,7 +48,7 @@ impl<P: Positions<A>, A: Allocator + Drop + Clone> Parts<P, A> {
         requires { HasRoom self.old }
         ensures opening { self.new.opening ≡ self.old.opening }
         ensures step { Answers self.old (command.Activity (activity.Price listing)) (Ok result) self.new }
-        ensures places { PlacesStay (command.Activity (activity.Price listing)) self.old.rows self.new.rows }
+        ensures places { PlacesStay self.old.trades.pending (command.Activity (activity.Price listing)) self.old.rows self.new.rows }
         ensures refused { StaysIfRefused (Ok result) self.old self.new }
     {
         if let Some(refusal) = self.issue_refusal(listing.issue) {

@@ -46,7 +46,7 @@ impl<P: Positions<A>, A: Allocator + Drop + Clone> Parts<P, A> {
         requires { HasRoom self.old }
         ensures opening { self.new.opening ≡ self.old.opening }
         ensures step { Answers self.old (command.Activity (activity.Notice movement.now)) result self.new }
-        ensures places { PlacesStay (command.Activity (activity.Notice movement.now)) self.old.rows self.new.rows }
+        ensures places { PlacesStay self.old.trades.pending (command.Activity (activity.Notice movement.now)) self.old.rows self.new.rows }
         ensures refused { StaysIfRefused result self.old self.new }
     {
         if let Some(refusal) = self.notice_refusal(movement) {
@@ -89,7 +89,7 @@ impl<P: Positions<A>, A: Allocator + Drop + Clone> Parts<P, A> {
     pub fn withdraw(&mut self, number: u32) -> Reply
         ensures opening { self.new.opening ≡ self.old.opening }
         ensures step { Answers self.old (command.Activity (activity.Withdraw number)) (Ok result) self.new }
-        ensures places { PlacesStay (command.Activity (activity.Withdraw number)) self.old.rows self.new.rows }
+        ensures places { PlacesStay self.old.trades.pending (command.Activity (activity.Withdraw number)) self.old.rows self.new.rows }
         ensures refused { StaysIfRefused (Ok result) self.old self.new }
     {
         if let Some(refusal) = self.withdraw_refusal(number) {

@@ -1,13 +1,13 @@
 // The day that a close opens: positions are rolled, and the trades that are due are booked.
 ghost use Rattle.std.specs.Prelude.{◌≡◌, [], IfOk, IfSome, MatchOption, None, OnErr, OnOk, filter, true};
-ghost use Rattle.std.specs.List.{flat_map, list_any};
+ghost use Rattle.std.specs.List.{list_any};
 ghost use Rattle.cns_terms.specs.declared.holding.Holding.{Holding};
 ghost use Rattle.cns_terms.specs.declared.holding.Key.{Key};
-ghost use Rattle.cns_terms.specs.Entries.{trade_entries};
 ghost use Rattle.cns_terms.specs.Pending.{is_due};
-ghost use Rattle.cns_positions.specs.Rows.{books, holding_at, rolled};
+ghost use Rattle.cns_positions.specs.Rows.{books, has_row, holding_at, rolled};
 ghost use Rattle.cns_actions.specs.Booked.{CanBeBooked};
-ghost use Rattle.cns_actions.specs.Bookings.{AreEntered, makes};
+ghost use Rattle.cns_actions.specs.Bookings.{AreElsewhere, AreEntered, makes};
+ghost use Rattle.cns_actions.specs.DueAmounts.{AreApartFrom, due_entries};
 ghost use Rattle.cns_book.specs.Follows.{HasRoom};
 
 use crate::parts::Parts;
@@ -36,6 +36,8 @@ pub(super) fn enter<P: Positions<B>, B, A: Allocator + Drop>(
 ) -> Result<(), NoMemory>
     ensures same { (k : Key) → holding_at (P.rows positions.new) k ≡ holding_at (P.rows positions.old) k }
     ensures there { OnOk result (IfSome due.now (λ b. AreEntered (P.rows positions.new) b)) }
+    ensures others { (k : Key) → IfSome due.now (AreElsewhere k)
+        → has_row (P.rows positions.new) k ≡ has_row (P.rows positions.old) k }
 {
     match due {
         Some(bookings) => bookings.enter(positions),
@@ -54,6 +56,7 @@ pub(super) fn open<P: Positions<B>, B, A: Allocator + Drop>(
         → (k : Key) → holding_at (P.rows positions.new) k ≡ rolled (holding_at (P.rows positions.old) k) }
     ensures booked { IfSome due.now (λ b. (k : Key)
         → holding_at (P.rows positions.new) k ≡ makes b k (rolled (holding_at (P.rows positions.old) k))) }
+    ensures places { (k : Key) → has_row (P.rows positions.new) k ≡ has_row (P.rows positions.old) k }
 {
     positions.roll();
     if let Some(bookings) = due {
@@ -68,7 +71,9 @@ impl<P: Positions<A>, A: Allocator + Drop + Clone> Parts<P, A> {
         requires { HasRoom self.now }
         ensures booked { IfOk result (λ o. MatchOption o (filter (is_due next) self.now.trades.pending ≡ [])
             (λ b. (k : Key) (h : Holding) → makes b k h
-            ≡ books (flat_map trade_entries (filter (is_due next) self.now.trades.pending)) k h)) }
+            ≡ books (due_entries next self.now.trades.pending) k h)) }
+        ensures others { IfOk result (λ o. IfSome o (λ b. (k : Key)
+            → AreApartFrom k (due_entries next self.now.trades.pending) → AreElsewhere k b)) }
         ensures due { IfOk result (λ o. IfSome o (λ _. list_any (is_due next) self.now.trades.pending ≡ true)) }
         ensures memory { OnErr result (list_any (is_due next) self.now.trades.pending ≡ true) }
     {

@@ -62,7 +62,7 @@ impl<P: Positions<A>, A: Allocator + Drop + Clone> Parts<P, A> {
         requires { HasRoom self.old }
         ensures opening { self.new.opening ≡ self.old.opening }
         ensures step { Answers self.old (command.Activity (activity.Trade trade.now)) result self.new }
-        ensures places { PlacesStay (command.Activity (activity.Trade trade.now)) self.old.rows self.new.rows }
+        ensures places { PlacesStay self.old.trades.pending (command.Activity (activity.Trade trade.now)) self.old.rows self.new.rows }
         ensures refused { StaysIfRefused result self.old self.new }
     {
         let facts = self.trade_facts(trade);
@@ -87,7 +87,7 @@ impl<P: Positions<A>, A: Allocator + Drop + Clone> Parts<P, A> {
         requires { HasRoom self.old }
         ensures opening { self.new.opening ≡ self.old.opening }
         ensures step { Answers self.old (command.Activity (activity.Deliver movement.now)) result self.new }
-        ensures places { PlacesStay (command.Activity (activity.Deliver movement.now)) self.old.rows self.new.rows }
+        ensures places { PlacesStay self.old.trades.pending (command.Activity (activity.Deliver movement.now)) self.old.rows self.new.rows }
         ensures refused { StaysIfRefused result self.old self.new }
     {
         let facts = self.move_facts(movement);
@@ -106,7 +106,7 @@ impl<P: Positions<A>, A: Allocator + Drop + Clone> Parts<P, A> {
         requires { HasRoom self.old }
         ensures opening { self.new.opening ≡ self.old.opening }
         ensures step { Answers self.old (command.Activity (activity.Receive movement.now)) (Ok result) self.new }
-        ensures places { PlacesStay (command.Activity (activity.Receive movement.now)) self.old.rows self.new.rows }
+        ensures places { PlacesStay self.old.trades.pending (command.Activity (activity.Receive movement.now)) self.old.rows self.new.rows }
         ensures refused { StaysIfRefused (Ok result) self.old self.new }
     {
         let facts = self.move_facts(movement);

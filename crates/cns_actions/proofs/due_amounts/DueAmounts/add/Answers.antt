@@ -1,6 +1,6 @@
 use Rattle.std.proofs.Common.{◌≡◌, ◌∙◌, sym, ap, subst}
 use Rattle.cns_actions.proofs.Common.{AllByRecursion, Amount, IsSmallAmount, Key, amount_at, keys_total, sorted_from, with_entry}
-use Rattle.cns_actions.proofs.DueAmounts.{amounts_added, had_is, room_at, small_insert}
+use Rattle.cns_actions.proofs.DueAmounts.{amounts_added, found_apart, had_is, room_at, small_insert}
 use Rattle.cns_actions.proofs.due_amounts.DueAmounts.add.Goals as goal
 
 pub with-requires-clause-room : goal.with-requires-clause-room
@@ -20,8 +20,12 @@ invariant_of-self-2 g c =
       small = subst (AllByRecursion (λ (x : Key × Amount). IsSmallAmount x.1)) (sym c.in_ok-insert.ensures.entries) (small_insert c.key_of-key.result c.with.result es room c.self.invariant.small);
     }
 
-pub returns : goal.returns
-returns g c =
+pub returns-clause-others : goal.returns-clause-others
+returns-clause-others g c =
+    rw (sym c.self.view_is) (λ k apart. found_apart c.self.inside.amounts.entries c.insert.new.self.entries c.key_of-key.result k c.with.result c.in_ok-insert.ensures.updates.0 (λ same. apart (same ∙ c.key_of-key.ensures)))
+
+pub returns-clause-amounts : goal.returns-clause-amounts
+returns-clause-amounts g c =
     let es = c.self.inside.amounts.entries in
     let e = c.args.entry.now in
     let had : c.unwrap_or-had.result ≡ amount_at es c.key_of-key.result = had_is c.key_of-key.result es _ _ c.unwrap_or-had.ensures (c.copied.ensures ∙ c.get.ensures.value) in

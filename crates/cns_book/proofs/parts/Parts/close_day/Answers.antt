@@ -1,14 +1,16 @@
 use Rattle.std.proofs.Common.{◌≡◌, ◌∙◌, ◌+◌, refl, sym, ap, subst, length, filter, flat_map, List, [], ◌∷◌, arith, int_le, slice_get}
-use Rattle.cns_book.proofs.Common.{CanBePaid, Contents, Declared, Follows, HasRoom, IsCut, IsReady, Key, WrongDay, batches_since, books, day_number, day_sheet, first_refusal, holding_at, journal, last_dated, payments_by, prices_of, rolled, trade_entries}
+use Rattle.cns_book.proofs.Common.{CanBePaid, Contents, Declared, Follows, HasRoom, IsCut, IsReady, Key, WrongDay, batches_since, books, day_number, day_sheet, first_refusal, has_row, holding_at, journal, last_dated, payments_by, prices_of, rolled, trade_entries}
 use Rattle.cns_terms.specs.Dividends.{is_due}
 use Rattle.cns_terms.specs.Pending.{is_due as due_on}
 use Rattle.cns_terms.specs.declared.command.Activity.TheVariants as activity
 use Rattle.cns_terms.specs.declared.command.Command.TheVariants as command
 use Rattle.cns_terms.specs.declared.reply.Reply.TheVariants as reply
 use Rattle.cns_book.specs.Follows.{Steps}
+use Rattle.cns_actions.specs.DueAmounts.{due_entries}
 use Rattle.cns_actions.proofs.Reachable.{can_same}
 use Rattle.cns_book.proofs.ActionSteps.{can_be_booked}
 use Rattle.cns_book.proofs.TradingSteps.{same_rows}
+use Rattle.cns_book.proofs.ClosingPlaces.{due_stay}
 use Rattle.cns_book.proofs.ClosingSteps.{after_last, closes_fit, day_closed, le_test, not_late, opened_rows}
 use Rattle.cns_book.proofs.MachineSteps.{accepted, refused, stopped}
 use Rattle.cns_book.proofs.RetransmittalSteps.{liable_counted, liable_few}
@@ -117,6 +119,27 @@ returns-clause-step g c L f =
     none
     (λ i. reply.Closed (record { day = f'.clock.closes i + 1; date = f'.clock.today i; rows = count i; liable = liable i }))
     (rw (c.in_default.ensures.ok, c.in_ok-keep.ensures.ok, c.expire.ensures) (day_closed L _ c.args.next c.settle.new.self (g.P.Positions.rows c.open.new.positions) c.in_ok-sheet.sheet c.in_ok-batches.batches.items f' (closes_fit _ room) none c.settle.ensures.references c.settle.ensures.pending rows is chosen))
+
+pub returns-in_err-enter-clause-places : goal.returns-in_err-enter-clause-places
+returns-in_err-enter-clause-places g c k out =
+    due_stay c.in_ok-opening.opening (due_entries c.args.next c.args.self.now.trades.pending) (g.P.Positions.rows c.self.inside.positions) (g.P.Positions.rows c.enter.new.positions) c.in_ok-opening.ensures.others c.enter.ensures.others k out
+    ∙ ap (λ (t : Contents). has_row t.rows k) c.self.view_is
+
+pub returns-in_err-keep-clause-places : goal.returns-in_err-keep-clause-places
+returns-in_err-keep-clause-places g c k out =
+    due_stay c.in_ok-opening.opening (due_entries c.args.next c.args.self.now.trades.pending) (g.P.Positions.rows c.self.inside.positions) (g.P.Positions.rows c.enter.new.positions) c.in_ok-opening.ensures.others c.enter.ensures.others k out
+    ∙ ap (λ (t : Contents). has_row t.rows k) c.self.view_is
+
+pub returns-in-Err-clause-places : goal.returns-in-Err-clause-places
+returns-in-Err-clause-places g c k out =
+    due_stay c.in_ok-opening.opening (due_entries c.args.next c.args.self.now.trades.pending) (g.P.Positions.rows c.self.inside.positions) (g.P.Positions.rows c.enter.new.positions) c.in_ok-opening.ensures.others c.enter.ensures.others k out
+    ∙ ap (λ (t : Contents). has_row t.rows k) c.self.view_is
+
+pub returns-clause-places : goal.returns-clause-places
+returns-clause-places g c k out =
+    c.open.ensures.places k
+    ∙ due_stay c.in_ok-opening.opening (due_entries c.args.next c.args.self.now.trades.pending) (g.P.Positions.rows c.self.inside.positions) (g.P.Positions.rows c.enter.new.positions) c.in_ok-opening.ensures.others c.enter.ensures.others k out
+    ∙ ap (λ (t : Contents). has_row t.rows k) c.self.view_is
 
 pub same-self-in_err-batches : goal.same-self-in_err-batches
 same-self-in_err-batches g c = refl

@@ -1,8 +1,9 @@
-use Rattle.std.proofs.Common.{◌≡◌, ◌∙◌, sym, ap, subst, filter, flat_map, length, List, [], true, arith}
-use Rattle.cns_book.proofs.Common.{Contents, HasRoom, Holding, Key, Pend, books, list_any, trade_entries}
+use Rattle.std.proofs.Common.{◌≡◌, ◌∙◌, sym, ap, subst, filter, length, List, [], true, arith}
+use Rattle.cns_book.proofs.Common.{Contents, HasRoom, Holding, Key, Pend, books, list_any}
 use Rattle.cns_terms.specs.Pending.{is_due}
 use Rattle.cns_positions.proofs.Entering.{at_error}
-use Rattle.cns_actions.specs.Bookings.{makes}
+use Rattle.cns_actions.specs.Bookings.{AreElsewhere, makes}
+use Rattle.cns_actions.specs.DueAmounts.{AreApartFrom, due_entries}
 use Rattle.cns_book.proofs.PendingSteps.{none_kept, pending_few}
 use Rattle.cns_book.proofs.parts.Parts.due_bookings.Goals as goal
 
@@ -21,8 +22,13 @@ bookings_due-requires g c =
 
 pub returns-clause-booked : goal.returns-clause-booked
 returns-clause-booked g c =
-    subst (λ (t : Contents). (k : Key) (h : Holding) → makes c.in_ok-bookings_due.field-0 k h ≡ books (flat_map trade_entries (filter (is_due c.args.next) t.trades.pending)) k h) c.self.view_is
-    (λ k h. c.in_ok-bookings_due.ensures k h ∙ ap (λ ps. books (flat_map trade_entries (filter (is_due c.args.next) ps)) k h) c.pending-pending.ensures)
+    subst (λ (t : Contents). (k : Key) (h : Holding) → makes c.in_ok-bookings_due.field-0 k h ≡ books (due_entries c.args.next t.trades.pending) k h) c.self.view_is
+    (λ k h. c.in_ok-bookings_due.ensures.made k h ∙ ap (λ ps. books (due_entries c.args.next ps) k h) c.pending-pending.ensures)
+
+pub returns-clause-others : goal.returns-clause-others
+returns-clause-others g c =
+    subst (λ (t : Contents). (k : Key) → AreApartFrom k (due_entries c.args.next t.trades.pending) → AreElsewhere k c.in_ok-bookings_due.field-0) c.self.view_is
+    (λ k apart. c.in_ok-bookings_due.ensures.others k (subst (λ ps. AreApartFrom k (due_entries c.args.next ps)) (sym c.pending-pending.ensures) apart))
 
 pub returns-in_err-bookings_due-clause-memory : goal.returns-in_err-bookings_due-clause-memory
 returns-in_err-bookings_due-clause-memory g c =
