@@ -73,6 +73,18 @@ for sample in examples/*.csv; do
     "$program" --open 2024-06-03 < "$sample" | cmp -s - "$room/page" || fail "$sample: the last day is another"
 done
 
+# A trade that Tuesday's close books into Wednesday is on the sheet of neither day, and the projection says how it stands.
+while read -r day state; do
+    "$program" --open 2024-06-03 --day "$day" < examples/week.csv > "$room/page" || fail "week.csv, $day: status $?"
+    row="<tr><th scope=row>2024-06-05<td>60313<td>808<td>202<td>023135106<td>100<td>18120.00<td>$state"
+    [ "$(grep -c '<td>60313<' "$room/page")" = "$([ -n "$state" ] && echo 1 || echo 0)" ] || fail "week.csv, $day: trade 60313"
+    [ -z "$state" ] || grep -qxF "$row" "$room/page" || fail "week.csv, $day: trade 60313 is not $state"
+done <<'DAYS'
+2024-06-03 pending
+2024-06-04 booked
+2024-06-05
+DAYS
+
 # A day before the last, with exchanges and questions that are refused, byte for byte. Where cnspage writes another page by
 # intent, look at each figure before it is kept: those of this one were compared with tests/recompute.py.
 "$program" --open 2024-02-27 --day 2024-02-29 < tests/pages/exchange.csv > "$room/page" || fail "exchange.csv: status $?"

@@ -1,5 +1,5 @@
 -- Texts that are written among others.
--- For `write_last` and `write_wants` of page.rt, `write_few` and `write_numbers` of attention.rt and others.
+-- For `write_last` and `write_exceptions` of page.rt, `write_few` and `write_numbers` of attention.rt and others.
 use Rattle.std.proofs.Common.{ℕ, List, [], ◌++◌, Option, None, Some, Result, Ok, Err, append-nil, append_assoc, sym}
 use Rattle.std.specs.Prelude.{OnOk}
 use Rattle.std.specs.Io.KnownBytes.{Appends, Keeps}

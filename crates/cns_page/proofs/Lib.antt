@@ -10,7 +10,7 @@ pub mod Counted
 pub mod Lined
 pub mod Numbering
 pub mod Ordered
-pub mod Waiting
+pub mod Later
 pub mod Oldest
 pub mod ShownLemmas
 pub mod MakeLemmas

@@ -1,5 +1,5 @@
 -- What a stable sort by a key leaves.
--- For `shorts_of` of shorts.rt, `trades_ahead` of ahead.rt.
+-- For `shorts_of` of shorts.rt, `later_trades` of projection.rt.
 use Rattle.std.proofs.Common.{◌≡◌, List, subst}
 use Rattle.std.specs.Fn.{Called}
 use Rattle.std.specs.List.Sorted.{IsPermutation, IsSortedByKeyClosure, IsStableByKeyClosure}

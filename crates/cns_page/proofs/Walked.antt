@@ -1,5 +1,5 @@
 -- Lists that a loop goes through, an element at a time.
--- For `gather` of ahead.rt, `live_notices` of notices.rt.
+-- For `gather` of projection.rt, `live_notices` of notices.rt.
 use Rattle.std.proofs.Common.{◌≡◌, ◌∙◌, sym, ap, ℕ, zero, suc, ◌≤◌, List, [], ◌∷◌, ◌++◌, length, Some, None, take, take-suc, slice_get, arith}
 use Rattle.std.proofs.lemmas.List.{take_all}
 use Rattle.std.proofs.lemmas.Option.{get_or_from_slice_get, slice_get_within}

@@ -16,7 +16,7 @@ use Rattle.cns_page.specs.declared.sums.Sums.{Sums}
 -- the line above the rows of an account: the sums of its marks and dividends
 abbrev pub account_html : Stated → List ℕ
 account_html s =
-    texts (codes "</table></div><div class=account><table class=rows><colgroup><col class=name><col span=9></colgroup><thead><tr><th scope=col>Issue<th scope=col>Opening<th scope=col>Closing<th scope=col>Price before<th scope=col>Price<th scope=col>Money<th scope=col>Mark<th scope=col>Price move on opening<th scope=col>Rest of mark<th scope=col>Dividend</thead><tbody><tr class=sum><th scope=rowgroup colspan=6>Account " ∷ decimal s.account ∷ codes "<td>" ∷ cents_text s.mark
+    texts (codes "</table></div><div class=account><table class=rows><colgroup><col class=name><col span=9></colgroup><thead><tr><th scope=col>Issue<th scope=col>Opening<th scope=col>Closing<th scope=col>Price before<th scope=col>Price<th scope=col>Settling money<th scope=col>Mark<th scope=col>Price move on opening<th scope=col>Rest of mark<th scope=col>Dividend</thead><tbody><tr class=sum><th scope=rowgroup colspan=6>Account " ∷ decimal s.account ∷ codes "<td>" ∷ cents_text s.mark
     ∷ codes "<td><td><td>" ∷ cents_text s.dividend ∷ (10 ∷ []) ∷ [])
 
 -- a row: the issue, opening, closing, price before, price, money, mark and its two parts, dividend

@@ -1,4 +1,4 @@
--- The texts of what wants a person.
+-- The texts of exceptions.
 use Rattle.std.specs.Prelude.{ℕ, ℤ, pos, List, [], ◌∷◌, ◌++◌, Option, None, Some, codes, string_bytes}
 use Rattle.std.specs.Fmt.{decimal, signed_decimal}
 use Rattle.std.specs.List.{flat_map}
@@ -71,15 +71,15 @@ facts_html r f =
 abbrev pub refused_html : Refusal → List ℕ
 refused_html r = texts (codes "<p><strong>Refused " ∷ decimal (refusal_number r) ∷ codes "</strong>" ∷ refusal_words r ∷ [])
 
--- why a record wants a person
+-- why a record is an exception
 abbrev pub outcome_html : Outcome → List ℕ
-outcome_html (outcome.AtFault f) = texts (codes "<p><strong>No command</strong>. " ∷ fault_words f ∷ [])
+outcome_html (outcome.AtFault f) = texts (codes "<p><strong>Invalid record</strong>. " ∷ fault_words f ∷ [])
 outcome_html (outcome.Refused r f) = refused_html r ++ facts_html r f
 
--- a record that wants a person: its number, its text and why
+-- an exception: its number, its text and why
 abbrev pub finding_html : Finding → List ℕ
 finding_html f = record_html f.record (string_bytes f.text) ++ (outcome_html f.outcome ++ 10 ∷ [])
 
--- such records, in order
+-- exceptions, in order
 abbrev pub findings_html : List Finding → List ℕ
 findings_html fs = flat_map finding_html fs

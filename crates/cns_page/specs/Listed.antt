@@ -40,7 +40,7 @@ live_among J ns = map (numbered J) (filter (λ n. is_live (stage J n)) ns)
 abbrev pub live_shown : State → List Numbered
 live_shown S = live_among (journal_of S) (notices (journal_of S))
 
--- ---- trades that wait
+-- ---- trades that settle later
 
 -- the trade that a command hands in
 abbrev pub trade_in : Command → Option Trade
@@ -58,8 +58,8 @@ abbrev pub trades_among : List Taken → List Trade
 trades_among ts = filter_map (λ t. if_accepted t.reply (trade_in t.command)) ts
 
 -- those that are dated after a day
-abbrev pub waiting_among : Day → List Taken → List Trade
-waiting_among today ts = filter (λ t. not (is_not_after t.date today)) (trades_among ts)
+abbrev pub later_among : Day → List Taken → List Trade
+later_among day ts = filter (λ t. not (is_not_after t.date day)) (trades_among ts)
 
 -- the entries of a history that a page looks at, the oldest first: all, or all but the last where there are 2^32 - 1, the most that a book takes
 abbrev pub looked_at : List Taken → List Taken

@@ -1,10 +1,10 @@
 -- The texts of the other tables of a page.
-use Rattle.std.specs.Prelude.{ℕ, ◌+◌, ◌-◌, ◌^◌, min, pos, List, [], ◌∷◌, drop, length}
+use Rattle.std.specs.Prelude.{ℕ, ◌+◌, ◌-◌, ◌^◌, min, pos, List, [], ◌∷◌, codes, drop, length, if◌then◌else◌}
 use Rattle.std.specs.Fmt.{decimal, signed_decimal}
 use Rattle.std.specs.List.{flat_map}
 use Rattle.cns_units.specs.Cents.{cents_text}
 use Rattle.cns_units.specs.Day.{day_text}
-use Rattle.cns_terms.specs.Common.{Cusip, Liables}
+use Rattle.cns_terms.specs.Common.{Cusip, Day, Liables, is_not_after}
 use Rattle.cns_terms.specs.declared.buy_in.Liable.{Liable}
 use Rattle.cns_terms.specs.declared.command.Trade.{Trade}
 use Rattle.cns_page.specs.Escape.{escaped}
@@ -45,15 +45,20 @@ notice_html n =
 abbrev pub notices_html : List Numbered → List ℕ
 notices_html ns = flat_map notice_html ns
 
--- a trade: its date, reference, buyer, seller, issue, shares, money
-abbrev pub trade_html : Trade → List ℕ
-trade_html t =
+-- whether a trade was booked into the day that a close opened, or is pending
+abbrev pub booked_words : Day → Trade → List ℕ
+booked_words next t = if is_not_after t.date next then codes "booked" else codes "pending"
+
+-- a trade: its date, reference, buyer, seller, issue, shares, money, and whether it was booked into the next day
+abbrev pub trade_html : Day → Trade → List ℕ
+trade_html next t =
     cells (day_text t.date)
-    (decimal t.reference ∷ decimal t.buyer ∷ decimal t.seller ∷ escaped t.issue ∷ decimal t.shares ∷ cents_text (pos t.money) ∷ [])
+    (decimal t.reference ∷ decimal t.buyer ∷ decimal t.seller ∷ escaped t.issue ∷ decimal t.shares ∷ cents_text (pos t.money)
+    ∷ booked_words next t ∷ [])
 
 -- trades, in order
-abbrev pub trades_html : List Trade → List ℕ
-trades_html ts = flat_map trade_html ts
+abbrev pub trades_html : Day → List Trade → List ℕ
+trades_html next ts = flat_map (trade_html next) ts
 
 -- a day in the line of days: its date, its number, the sum of the amounts of its marks, the count of shorts
 abbrev pub figures_html : Figures → List ℕ

@@ -13,7 +13,7 @@ use Rattle.cns_feed.specs.Replay.{blank_log, log_after}
 use Rattle.cns_page.specs.Accounts.{rows_html, totals_html}
 use Rattle.cns_page.specs.Contains.{Contains}
 use Rattle.cns_page.specs.Findings.{findings_html}
-use Rattle.cns_page.specs.Listed.{IsInOrderOf, figures_shown, live_shown, looked_at, shorts_among, waiting_among}
+use Rattle.cns_page.specs.Listed.{IsInOrderOf, figures_shown, live_shown, looked_at, shorts_among, later_among}
 use Rattle.cns_page.specs.Lists.{batches_html, days_html, last_days, notices_html, shorts_html, trades_html}
 use Rattle.cns_page.specs.Survey.{IsChosen, known, noted_all, nothing}
 use Rattle.cns_page.specs.declared.asked.Asked.{Asked}
@@ -40,10 +40,14 @@ day_findings s place c = drop (findings_before s place) (take c.findings s.findi
 abbrev pub AreShorts : Log → DaySheet → List Aged → Type 0
 AreShorts log sheet xs = IsInOrderOf (λ s. s.age) (λ a b. nat_cmp b a) (shorts_among (state_of log) sheet.rows) xs
 
--- the trades that wait for their dates, by date
-abbrev pub AreAhead : Log → List Trade → Type 0
-AreAhead log xs = IsInOrderOf (λ t. day_number t.date) int_cmp
-    (waiting_among (date log.opening (journal_of (state_of log))) (looked_at log.history)) xs
+-- the day that a book's last close opened
+abbrev pub next_day : Log → Day
+next_day log = date log.opening (journal_of (state_of log))
+
+-- the accepted trades that settle after the day of a sheet, by date: those that its close booked into the next day, and those
+-- that are pending
+abbrev pub AreLater : Log → DaySheet → List Trade → Type 0
+AreLater log sheet xs = IsInOrderOf (λ t. day_number t.date) int_cmp (later_among sheet.date (looked_at log.history)) xs
 
 -- the line of days up to the close at a place
 abbrev pub days_shown : Log → Survey → ℕ → List Figures
@@ -57,17 +61,17 @@ liable_shown log day = batches_html (day - 1) (batches_shown (state_of log) (day
 pub record AreListed (log : Log) (s : Survey) (place : ℕ) (sheet : DaySheet) (l : Lists) : Type 0 where
   pub shorts : AreShorts log sheet l.shorts.items
   pub notices : l.notices.items ≡ live_shown (state_of log)
-  pub trades : AreAhead log l.trades.items
+  pub trades : AreLater log sheet l.trades.items
   pub line : l.line.items ≡ days_shown log s place
 
 -- a day as a book's log has it, whose close is at a place of a survey
 pub record ShowsDay (log : Log) (s : Survey) (place : ℕ) (c : Close) (sheet : DaySheet) (old new : Option (List ℕ)) : Type 0 where
-  pub wants : Contains old new (findings_html (day_findings s place c))
+  pub exceptions : Contains old new (findings_html (day_findings s place c))
   pub rows : Contains old new (totals_html sheet ++ rows_html sheet)
   pub shorts : (xs : List Aged) × AreShorts log sheet xs × Contains old new (shorts_html xs)
   pub liable : Contains old new (liable_shown log c.day)
   pub notices : Contains old new (notices_html (live_shown (state_of log)))
-  pub ahead : (xs : List Trade) × AreAhead log xs × Contains old new (trades_html xs)
+  pub projection : (xs : List Trade) × AreLater log sheet xs × Contains old new (trades_html (next_day log) xs)
   pub days : Contains old new (days_html (last_days (days_shown log s place)))
 
 -- the day of the close at a place, by a book that took the records up to that close, and with the sheet that the book has

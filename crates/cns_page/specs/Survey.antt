@@ -1,4 +1,4 @@
--- What is known of the records of an input: which of them want a person, and which closed a day.
+-- What is known of the records of an input: which of them are exceptions, and which closed a day.
 use Rattle.std.specs.Prelude.{◌≡◌, ◌<◌, ℕ, ◌+◌, List, [], ◌∷◌, ◌++◌, length, map, slice_get, Option, Some, None, IfSome, Ok, Err}
 use Rattle.cns_terms.specs.Common.{Day, State, answer, opened}
 use Rattle.cns_terms.specs.declared.refusal.Refusal.{Refusal}
@@ -18,19 +18,19 @@ use Rattle.cns_page.specs.declared.finding.Outcome.TheVariants as outcome
 use Rattle.cns_page.specs.declared.survey.Close.{Close}
 use Rattle.cns_page.specs.declared.survey.Survey.{Survey}
 
--- a closed day: its number and date, the number of the record that closed it, and how many records up to it want a person
+-- a closed day: its number and date, the number of the record that closed it, and how many records up to it are exceptions
 pub record Closing : Type 0 where
   pub day : ℕ
   pub date : Day
   pub number : ℕ
   pub wanting : ℕ
 
--- why a record wants a person: it is at fault, or its command is refused
+-- why a record is an exception: it is invalid, or its command is refused
 pub data Why : Type 0 where
   at_fault : LineFault → Why
   refused : Refusal → Why
 
--- what is known of records: how many there are, those that want a person by their numbers from 1, and the accepted closes
+-- what is known of records: how many there are, the exceptions by their numbers from 1, and the accepted closes
 pub record Known : Type 0 where
   pub records : ℕ
   pub wanting : List (ℕ × Why)
@@ -44,7 +44,7 @@ nothing = record { records = 0; wanting = []; closes = [] }
 abbrev pub counted : Known → Known
 counted k = record k { records = k.records + 1 }
 
--- it wants a person
+-- it is an exception
 abbrev pub wanted : Known → Why → Known
 wanted k w = record k { wanting = k.wanting ++ (k.records, w) ∷ [] }
 
@@ -72,7 +72,7 @@ unfoldable pub noted_all : Known → State → List Line → Known
 noted_all k S [] = k
 noted_all k S (l ∷ ls) = noted_all (noted k S l) (state_after_line S l) ls
 
--- why a finding's record wants a person
+-- why a finding's record is an exception
 abbrev pub why : Outcome → Why
 why (outcome.AtFault f) = at_fault f
 why (outcome.Refused r f) = refused r

@@ -36,9 +36,9 @@ refusal_words refusal.NoSuchNotice = codes ": no notice has this number."
 refusal_words refusal.NotLive = codes ": the notice is not live any more."
 refusal_words refusal.TooEarly = codes ": a notice is executed on the second day after its own."
 refusal_words (refusal.NotLiable detail) = codes ": the liable members can be given fewer shares."
-refusal_words refusal.TooLarge = codes ": a position would be beyond 10,000,000,000 shares, those of trades that wait counted."
+refusal_words refusal.TooLarge = codes ": a position would be beyond 10,000,000,000 shares, pending trades counted."
 refusal_words refusal.NoSuchDay = codes ": no closed day has this date."
-refusal_words refusal.PendingTrades = codes ": a trade in the old issue waits for its date."
+refusal_words refusal.PendingTrades = codes ": a trade in the old issue is pending."
 
 -- how a notice stands
 abbrev pub stage_words : Stage → List ℕ

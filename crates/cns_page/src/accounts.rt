@@ -1,4 +1,4 @@
-// Accounts by issues: the rows of the sheet, each account under the sums of its own.
+// The CNS Accounting Summary: the rows of the sheet, each account under the sums of its own.
 ghost use Rattle.std.specs.Prelude.{◌≡◌, ◌++◌, OnOk};
 ghost use Rattle.cns_units.specs.Output.{Writes};
 ghost use Rattle.cns_statements.specs.Packs.{is_next};
@@ -16,17 +16,17 @@ use std::alloc::Global;
 use std::io::Write;
 
 const HEAD: &str = "<section aria-labelledby=accounts>
-<h2 id=accounts>Accounts by issues</h2>
+<h2 id=accounts>CNS Accounting Summary</h2>
 <p>Account 0 is the corporation's. Positions are in shares: above 0 the account is owed shares, below 0 it owes them.
 Prices and amounts are in dollars: above 0 the account is owed, below 0 it owes. A mark is what the price did to the
 opening position, and the rest: what came and went on the day at today's price, with the money booked.</p>
-<div class=wide tabindex=0 role=region aria-label=\"Accounts by issues\">
+<div class=wide tabindex=0 role=region aria-label=\"CNS Accounting Summary\">
 <div class=account>
 <table class=rows>
 <caption>The sums over all accounts, and then each account&#39;s issues under the sums of its own (shares; dollars)</caption>
 <colgroup><col class=name><col span=9></colgroup>
 <thead><tr><th scope=col>Issue<th scope=col>Opening<th scope=col>Closing<th scope=col>Price before<th scope=col>Price\
-<th scope=col>Money<th scope=col>Mark<th scope=col>Price move on opening<th scope=col>Rest of mark<th scope=col>Dividend
+<th scope=col>Settling money<th scope=col>Mark<th scope=col>Price move on opening<th scope=col>Rest of mark<th scope=col>Dividend
 </thead>
 ";
 
@@ -34,7 +34,7 @@ opening position, and the rest: what came and went on the day at today's price, 
 const ACCOUNT: &str =
     "</table></div><div class=account><table class=rows><colgroup><col class=name><col span=9>\
 </colgroup><thead><tr><th scope=col>Issue<th scope=col>Opening<th scope=col>\
-Closing<th scope=col>Price before<th scope=col>Price<th scope=col>Money<th scope=col>\
+Closing<th scope=col>Price before<th scope=col>Price<th scope=col>Settling money<th scope=col>\
 Mark<th scope=col>Price move on opening<th scope=col>Rest of mark<th scope=col>Dividend</thead>\
 <tbody><tr class=sum><th scope=rowgroup colspan=6>Account ";
 

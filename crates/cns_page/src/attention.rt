@@ -1,4 +1,4 @@
-// What wants a person: records at fault and refused commands, with the reasons.
+// Exceptions: invalid records and refused commands, with the reasons.
 ghost use Rattle.std.specs.Prelude.{◌++◌, None, OnOk, Some};
 ghost use Rattle.cns_units.specs.Output.{Writes};
 ghost use Rattle.cns_page.specs.Contains.{Contains, Grows};
@@ -199,14 +199,14 @@ fn write_refusal<W: Write>(
     write_facts(refusal, facts, writer)
 }
 
-// Why a record wants a person.
+// Why a record is an exception.
 fn write_outcome<W: Write>(outcome: &Outcome, writer: &mut W) -> Result<(), WriteFault>
     ensures { Writes (W.contents writer.old) (W.contents writer.new) (outcome_html outcome.now) result }
 {
     match outcome {
         Outcome::AtFault(fault) => {
             let pieces = [
-                Piece::Markup("<p><strong>No command</strong>. "),
+                Piece::Markup("<p><strong>Invalid record</strong>. "),
                 Piece::Markup(fault_words(*fault)),
             ];
             write_pieces(&pieces, writer)
@@ -215,7 +215,7 @@ fn write_outcome<W: Write>(outcome: &Outcome, writer: &mut W) -> Result<(), Writ
     }
 }
 
-// A record that wants a person: its number and its text as given.
+// An exception: its number and its text as given.
 fn write_record<W: Write>(number: u64, text: &str, writer: &mut W) -> Result<(), WriteFault>
     ensures { Writes (W.contents writer.old) (W.contents writer.new) (record_html number text.now) result }
 {
@@ -246,27 +246,27 @@ fn write_list<W: Write>(findings: &[Finding], writer: &mut W) -> Result<(), Writ
     Ok(())
 }
 
-/// What wants a person on the day of the page.
+/// The exceptions of the day of the page.
 pub(crate) const DAY: Section = Section {
-    head: "<section class=wants aria-labelledby=wants>
-<h2 id=wants>What wants a person first</h2>
+    head: "<section class=exceptions aria-labelledby=exceptions>
+<h2 id=exceptions>Exceptions</h2>
 ",
-    none: "<p>Nothing: each record of the day was a command, and none was refused.</p>\n",
+    none: "<p>None: each record of the day was a command, and none was refused.</p>\n",
     begin: "<ol>\n",
     end: "</ol>\n",
 };
 
-/// What wants a person on the day that is open.
+/// Those of the day that is open.
 pub(crate) const OPEN: Section = Section {
-    head: "<section class=wants aria-labelledby=open>
-<h2 id=open>What wants a person on the day that is open</h2>
+    head: "<section class=exceptions aria-labelledby=open>
+<h2 id=open>Exceptions after this close</h2>
 ",
-    none: "<p>Nothing so far: each record after the close was a command, and none was refused.</p>\n",
+    none: "<p>None so far: each record after the close was a command, and none was refused.</p>\n",
     begin: "<ol>\n",
     end: "</ol>\n",
 };
 
-/// Writes what wants a person, in a section.
+/// Writes exceptions, in a section.
 ///
 /// Where the writer fails or takes no byte it answers `WriteFault`.
 pub(crate) fn write_findings<W: Write>(
@@ -305,7 +305,7 @@ fn write_few<W: Write>(findings: &[Finding], writer: &mut W) -> Result<(), Write
     write_markup(".", writer)
 }
 
-// How many records want a person at another time.
+// How many exceptions there are at another time.
 fn write_count<W: Write>(
     time: &'static str,
     findings: &[Finding],
@@ -314,7 +314,7 @@ fn write_count<W: Write>(
     ensures { OnOk result (Grows (W.contents writer.old) (W.contents writer.new)) }
 {
     let pieces = [
-        Piece::Markup("<p>At fault or refused "),
+        Piece::Markup("<p>Exceptions "),
         Piece::Markup(time),
         Piece::Markup(": "),
         Piece::Number(findings.len() as u64),
@@ -323,7 +323,7 @@ fn write_count<W: Write>(
     write_pieces(&pieces, writer)
 }
 
-/// Writes a line of how many records want a person at another time, with their numbers where they are at most 20; nothing
+/// Writes a line of how many exceptions there are at another time, with the numbers of their records where they are at most 20; nothing
 /// where there is none.
 ///
 /// Where the writer fails or takes no byte it answers `WriteFault`.

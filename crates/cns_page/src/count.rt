@@ -5,7 +5,7 @@ ghost use Rattle.std.specs.Int.{int_wrap, w128};
 use std::marker::Model;
 
 /// A count of shares of either sign: a position, or a sum of positions.
-#[derive(Clone, Copy, Debug, PartialEq, Eq)]
+#[derive(Clone, Copy)]
 pub struct Count {
     shares: i128,
 }

@@ -1,4 +1,4 @@
-// The line of days, as a picture and as a table.
+// Last 60 days, as a picture and as a table.
 ghost use Rattle.std.specs.Prelude.{◌≡◌, ◌≤◌, OnOk, length};
 ghost use Rattle.cns_units.specs.Output.{Writes};
 ghost use Rattle.cns_page.specs.Contains.{Contains, Grows};
@@ -15,14 +15,14 @@ use std::io::Write;
 const MOST: usize = 60;
 
 const HEAD: &str = "<section aria-labelledby=days>
-<h2 id=days>The line of days</h2>
+<h2 id=days>Last 60 days</h2>
 <p>The days up to this one, the last 60 at most.</p>
 ";
 
-const TABLE: &str = "<div class=wide tabindex=0 role=region aria-label=\"The line of days\">
+const TABLE: &str = "<div class=wide tabindex=0 role=region aria-label=\"Last 60 days\">
 <table>
-<caption>Closed days with the sum of the amounts of their marks (dollars) and the count of members&#39; shorts</caption>
-<thead><tr><th scope=col>Date<th scope=col>Day<th scope=col>Sum of absolute marks<th scope=col>Shorts
+<caption>Closed days with their gross mark, the sum of the amounts of all marks (dollars), and the count of members&#39; fails</caption>
+<thead><tr><th scope=col>Date<th scope=col>Day<th scope=col>Gross mark<th scope=col>Fails
 </thead><tbody>
 ";
 

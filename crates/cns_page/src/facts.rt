@@ -89,7 +89,7 @@ fn names_of(command: &Command) -> Named {
 }
 
 // What decides a refusal, beside dates and notices.
-#[derive(Clone, Copy, Debug, PartialEq, Eq)]
+#[derive(Clone, Copy, PartialEq, Eq)]
 enum Decider {
     Issues,
     Positions,

@@ -12,7 +12,7 @@ use cns_units::{Account, Day};
 use std::alloc::Global;
 
 /// What the line of days shows of a closed day.
-#[derive(Clone, Copy, Debug, PartialEq, Eq)]
+#[derive(Clone, Copy)]
 pub struct Figures {
     /// The day's number, from 1.
     pub day: u32,

@@ -1,4 +1,4 @@
-// What wants a person: a record at fault, or a refused command.
+// An exception: an invalid record, or a refused command.
 use crate::count::Count;
 use cns_book::Notice;
 use cns_feed::LineFault;
@@ -15,15 +15,15 @@ pub struct Finding {
     pub outcome: Outcome,
 }
 
-/// What a record came to that wants a person.
-#[derive(Clone, Copy, Debug, PartialEq, Eq)]
+/// What a record came to that is an exception.
+#[derive(Clone, Copy)]
 pub enum Outcome {
     AtFault(LineFault),
     Refused(Refusal, Facts),
 }
 
 /// What decided a refusal, as the book stood then, so far as the book's calls tell it.
-#[derive(Clone, Copy, Debug, PartialEq, Eq)]
+#[derive(Clone, Copy)]
 pub struct Facts {
     pub today: Day,
     /// The open day's number, from 1.
@@ -41,7 +41,7 @@ pub struct Facts {
 }
 
 /// An issue with its price in cents; None where it is not listed.
-#[derive(Clone, Copy, Debug, PartialEq, Eq)]
+#[derive(Clone, Copy)]
 pub struct Quote {
     pub issue: Cusip,
     pub price: Option<u64>,
@@ -49,7 +49,7 @@ pub struct Quote {
 
 /// An account's position in an issue, in shares; None where the account is no member's nor the corporation's, or the
 /// issue is not listed.
-#[derive(Clone, Copy, Debug, PartialEq, Eq)]
+#[derive(Clone, Copy)]
 pub struct Stand {
     pub account: Account,
     pub issue: Cusip,
@@ -57,7 +57,7 @@ pub struct Stand {
 }
 
 /// A notice with its number, from 1.
-#[derive(Clone, Copy, Debug, PartialEq, Eq)]
+#[derive(Clone, Copy)]
 pub struct Numbered {
     pub number: u32,
     pub notice: Notice,

@@ -1,4 +1,4 @@
-// The head of a page, and what was handed in.
+// The head of a page, and its control totals.
 ghost use Rattle.std.specs.Prelude.{OnOk};
 ghost use Rattle.cns_page.specs.Contains.{Grows};
 
@@ -10,14 +10,14 @@ use cns_units::WriteFault;
 use std::io::Write;
 
 const CONTENTS: &str = "<nav aria-label=Contents><ul>
-<li><a href=#wants>What wants a person</a>
-<li><a href=#accounts>Accounts by issues</a>
-<li><a href=#shorts>Shorts</a>
-<li><a href=#liable>Liable members</a>
-<li><a href=#notices>Live notices</a>
-<li><a href=#ahead>Trades ahead</a>
-<li><a href=#days>The line of days</a>
-<li><a href=#handed>What was handed in</a>
+<li><a href=#exceptions>Exceptions</a>
+<li><a href=#accounts>CNS Accounting Summary</a>
+<li><a href=#fails>Fails to deliver</a>
+<li><a href=#liable>Buy-in retransmittal</a>
+<li><a href=#notices>Notices of intention</a>
+<li><a href=#projection>Projection</a>
+<li><a href=#days>Last 60 days</a>
+<li><a href=#totals>Control totals</a>
 </ul></nav>
 </header>
 <main id=main>
@@ -43,9 +43,9 @@ pub(crate) fn write_head<W: Write>(page: &Page<'_>, writer: &mut W) -> Result<()
         Piece::Number(page.first_record()),
         Piece::Markup(" to "),
         Piece::Number(page.close.record),
-        Piece::Markup(", of which "),
+        Piece::Markup("; exceptions: "),
         Piece::Number(page.findings().len() as u64),
-        Piece::Markup(" want a person. The next day is "),
+        Piece::Markup(". The next day is "),
         Piece::Date(page.book.today()),
         Piece::Markup(".</p>\n"),
         Piece::Markup(CONTENTS),
@@ -53,12 +53,12 @@ pub(crate) fn write_head<W: Write>(page: &Page<'_>, writer: &mut W) -> Result<()
     write_pieces(&pieces, writer)
 }
 
-const HEAD: &str = "<section aria-labelledby=handed>
-<h2 id=handed>What was handed in</h2>
-<div class=wide tabindex=0 role=region aria-label=\"What was handed in\">
+const HEAD: &str = "<section aria-labelledby=totals>
+<h2 id=totals>Control totals</h2>
+<div class=wide tabindex=0 role=region aria-label=\"Control totals\">
 <table>
 <caption>Records of standard input, by number; empty lines are no records</caption>
-<thead><tr><th scope=col>Records<th scope=col>First<th scope=col>Last<th scope=col>At fault or refused
+<thead><tr><th scope=col>Records<th scope=col>First<th scope=col>Last<th scope=col>Exceptions
 </thead><tbody>
 ";
 
@@ -167,7 +167,7 @@ fn write_line<W: Write>(page: &Page<'_>, writer: &mut W) -> Result<(), WriteFaul
     write_pieces(&pieces, writer)
 }
 
-/// Writes what was handed in, and the line that makes the page again.
+/// Writes the control totals, and the line that makes the page again.
 ///
 /// Where the writer fails or takes no byte it answers `WriteFault`.
 pub(crate) fn write_handed<W: Write>(page: &Page<'_>, writer: &mut W) -> Result<(), WriteFault>

@@ -21,15 +21,15 @@ pub struct Chosen<'a> {
 
 const SECTION: Section = Section {
     head: "<section aria-labelledby=liable>
-<h2 id=liable>Liable members</h2>
+<h2 id=liable>Buy-in retransmittal: liable members</h2>
 ",
     none: "<p>No member is liable for a notice of this day or of the day before.</p>\n",
-    begin: "<div class=wide tabindex=0 role=region aria-label=\"Liable members\">
+    begin: "<div class=wide tabindex=0 role=region aria-label=\"Buy-in retransmittal: liable members\">
 <table>
-<caption>Members liable for notices of this day and of the day before, in the order in which executions fill them, with \
+<caption>Members liable for notices of this day and of the day before, in the order in which executions are allocated to them, with \
 what is left of each liability (shares)</caption>
-<thead><tr><th scope=col>Issue<th scope=col>Day of the notices<th scope=col>Member<th scope=col>Age<th scope=col>Short at \
-that close<th scope=col>Left
+<thead><tr><th scope=col>Issue<th scope=col>Day of the notices<th scope=col>Member<th scope=col>Closes short<th scope=col>Short at \
+that close<th scope=col>Liability left
 </thead><tbody>
 ",
     end: TABLE_END,

@@ -1,8 +1,8 @@
 //! A closed day as a page for a browser: one HTML file that stands by itself.
 //!
 //! `run_words` takes the words of a line, a reader of records and two writers. It keeps the records in memory, and plays
-//! them twice (`play.rt`): once through, to find the closes and what wants a person, and then up to the close that the page
-//! is of. So the page shows the book as that close left it; of later records it tells what wants a person, and nothing else.
+//! them twice (`play.rt`): once through, to find the closes and the exceptions, and then up to the close that the page is of.
+//! So the page shows the book as that close left it; of later records it tells the exceptions, and nothing else.
 //! At status 0 the page has what `HasPage` in `specs/Shown.antt` says: the day that was asked for, with all its findings and
 //! lists. `page.rt` has the sections in their order.
 //!
@@ -12,7 +12,6 @@
 #![tactic(auto)]
 
 mod accounts;
-mod ahead;
 mod asked;
 mod attention;
 mod count;
@@ -30,6 +29,7 @@ mod page;
 mod picture;
 mod piece;
 mod play;
+mod projection;
 mod section;
 mod shorts;
 mod split;

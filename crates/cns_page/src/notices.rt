@@ -1,4 +1,4 @@
-// Live notices of intention to buy in.
+// Notices of intention in force of intention to buy in.
 ghost use Rattle.std.specs.Prelude.{◌≡◌, IfOk, OnOk};
 ghost use Rattle.cns_units.specs.Output.{Writes};
 ghost use Rattle.cns_terms.specs.Common.{is_live};
@@ -44,15 +44,15 @@ pub fn live_notices(alloc: Global, book: &ReplayBook) -> Result<Vec<Numbered>, N
 
 const SECTION: Section = Section {
     head: "<section aria-labelledby=notices>
-<h2 id=notices>Live notices</h2>
+<h2 id=notices>Notices of intention in force</h2>
 ",
     none: "<p>No notice of intention to buy in is live.</p>\n",
-    begin: "<div class=wide tabindex=0 role=region aria-label=\"Live notices\">
+    begin: "<div class=wide tabindex=0 role=region aria-label=\"Notices of intention in force\">
 <table>
 <caption>Notices of intention to buy in that are live after the close. Days are numbered by closes, and the date of a \
 coming day is what the close before it will name (shares)</caption>
-<thead><tr><th scope=col>Issue<th scope=col>Notice<th scope=col>Member<th scope=col>Given for<th scope=col>Given on \
-day<th scope=col>Remains<th scope=col>Last day
+<thead><tr><th scope=col>Issue<th scope=col>Notice<th scope=col>Member<th scope=col>Quantity<th scope=col>Given on \
+day<th scope=col>Still to be bought in<th scope=col>Last day
 </thead><tbody>
 ",
     end: TABLE_END,

@@ -5,7 +5,6 @@ ghost use Rattle.cns_page.specs.Findings.{findings_html};
 ghost use Rattle.cns_page.specs.Shown.{AreListed, ShowsDay, close_before, day_findings, findings_before, liable_shown};
 
 use crate::accounts::write_accounts;
-use crate::ahead::{trades_ahead, write_ahead};
 use crate::attention::{DAY, OPEN, write_findings, write_numbers};
 use crate::days::write_days;
 use crate::figures::{Figures, line_of_days};
@@ -13,6 +12,7 @@ use crate::finding::{Finding, Numbered};
 use crate::handed::{write_handed, write_head};
 use crate::liable::{Chosen, write_liable};
 use crate::notices::{live_notices, write_notices};
+use crate::projection::{later_trades, write_projection};
 use crate::shorts::{Aged, shorts_of, write_shorts};
 use crate::survey::{Close, Survey};
 use cns_feed::ReplayBook;
@@ -120,7 +120,7 @@ impl Page<'_> {
     }
 }
 
-// What wants a person after the close: all of it on the page of the last closed day, and else the numbers of the records.
+// The exceptions after the close: all of them on the page of the last closed day, and else the numbers of the records.
 fn write_open<W: Write>(page: &Page<'_>, writer: &mut W) -> Result<(), WriteFault>
     ensures { OnOk result (Grows (W.contents writer.old) (W.contents writer.new)) }
 {
@@ -131,8 +131,8 @@ fn write_open<W: Write>(page: &Page<'_>, writer: &mut W) -> Result<(), WriteFaul
     }
 }
 
-// What wants a person: on the day, after its close, and before it.
-fn write_wants<W: Write>(page: &Page<'_>, writer: &mut W) -> Result<(), WriteFault>
+// The exceptions: of the day, after its close, and before it.
+fn write_exceptions<W: Write>(page: &Page<'_>, writer: &mut W) -> Result<(), WriteFault>
     ensures { OnOk result (Contains (W.contents writer.old) (W.contents writer.new)
         (findings_html (day_findings page.now.survey.now page.now.place page.now.close))) }
 {
@@ -168,7 +168,7 @@ pub struct Lists {
     pub shorts: Vec<Aged>,
     /// Live notices, by number.
     pub notices: Vec<Numbered>,
-    /// Trades that wait, by date.
+    /// Trades that settle after the day, by date.
     pub trades: Vec<Trade>,
     /// The closed days, in order.
     pub line: Vec<Figures>,
@@ -191,7 +191,7 @@ fn lists_of(alloc: Global, page: &Page<'_>) -> Result<Lists, NoMemory>
 {
     let shorts = shorts_of(alloc, page.book, page.sheet)?;
     let notices = live_notices(alloc, page.book)?;
-    let trades = trades_ahead(alloc, page.book)?;
+    let trades = later_trades(alloc, page.book, page.sheet.date())?;
     let line = line_of_days(alloc, page.book, page.closes())?;
     Ok(Lists {
         shorts,
@@ -212,12 +212,12 @@ fn write_sections<W: Write>(
         (W.contents writer.old) (W.contents writer.new)) }
 {
     write_head(page, writer)?;
-    write_wants(page, writer)?;
+    write_exceptions(page, writer)?;
     write_accounts(page.sheet, writer)?;
     write_shorts(lists.shorts.as_slice(), writer)?;
     write_batches(page, writer)?;
     write_notices(lists.notices.as_slice(), writer)?;
-    write_ahead(lists.trades.as_slice(), writer)?;
+    write_projection(lists.trades.as_slice(), page.book.today(), writer)?;
     write_days(lists.line.as_slice(), writer)?;
     write_last(page, writer)
 }

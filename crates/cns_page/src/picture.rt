@@ -183,9 +183,9 @@ fn write_labels<W: Write>(
         return Ok(());
     };
     let pieces = [
-        Piece::Markup("<text x=20 y=20>Sum of absolute marks, at most $"),
+        Piece::Markup("<text x=20 y=20>Gross mark, at most $"),
         Piece::Amount(amount_of(marks)),
-        Piece::Markup("</text>\n<text x=20 y=160>Members&#39; shorts, at most "),
+        Piece::Markup("</text>\n<text x=20 y=160>Fails, at most "),
         Piece::Number(shorts),
         Piece::Markup("</text>\n<text x=20 y=292>"),
         Piece::Date(first.date),
@@ -197,12 +197,12 @@ fn write_labels<W: Write>(
 }
 
 const HEAD: &str = "<svg viewBox=\"0 0 720 300\" role=img aria-labelledby=picture>
-<title id=picture>Bars: the sum of absolute marks of each closed day. Dots and line: the count of members&#39; shorts. \
+<title id=picture>Bars: the gross mark of each closed day. Dots and line: the count of members&#39; fails. \
 The table below has the numbers.</title>
 <path d=\"M20 130H700M20 270H700\"/>
 ";
 
-/// Writes the picture of at most 60 days: a bar for the sum of absolute marks, and a dot on a line for the count of shorts.
+/// Writes the picture of at most 60 days: a bar for the gross mark, and a dot on a line for the count of shorts.
 pub fn write_picture<W: Write>(line: &[Figures], writer: &mut W) -> Result<(), WriteFault>
     requires { length line.now ≤ 60 }
     ensures { OnOk result (Grows (W.contents writer.old) (W.contents writer.new)) }

@@ -10,7 +10,7 @@ use itoa::Buffer;
 use std::io::Write;
 
 /// A piece of a page.
-#[derive(Clone, Copy, Debug, PartialEq, Eq)]
+#[derive(Clone, Copy)]
 pub enum Piece<'a> {
     /// Markup and words of the page itself, as they are. They live as long as the program does, so no byte of a record
     /// can be among them.

@@ -110,7 +110,7 @@ fn play_with<R: Read>(
 }
 
 /// Takes the command of each of the input's first records, at most so many, in order, on a new book that opens on the
-/// date, and notes what wants a person and the closes.
+/// date, and notes the exceptions and the closes.
 ///
 /// `NoMemory` where a growth was refused. `Full` does not come, since the history has room for as many commands, and no
 /// `Read`, since the input is in memory.

@@ -8,7 +8,7 @@ use std::io::Write;
 
 /// The markup around the rows of a section: what comes first, what follows where there are no rows, and what stands before
 /// and after rows.
-#[derive(Clone, Copy, Debug, PartialEq, Eq)]
+#[derive(Clone, Copy)]
 pub(crate) struct Section {
     pub(crate) head: &'static str,
     pub(crate) none: &'static str,

@@ -18,7 +18,7 @@ use std::alloc::Global;
 use std::io::Write;
 
 /// A member's short at a close.
-#[derive(Clone, Copy, Debug, PartialEq, Eq)]
+#[derive(Clone, Copy)]
 pub struct Aged {
     pub row: Row,
     /// At how many closes in a row it was short, this one included.
@@ -67,14 +67,14 @@ pub fn shorts_of(
 }
 
 const SECTION: Section = Section {
-    head: "<section aria-labelledby=shorts>
-<h2 id=shorts>Shorts, the oldest first</h2>
+    head: "<section aria-labelledby=fails>
+<h2 id=fails>Fails to deliver, the oldest first</h2>
 ",
-    none: "<p>No member is short.</p>\n",
-    begin: "<div class=wide tabindex=0 role=region aria-label=\"Shorts, the oldest first\">
+    none: "<p>No member is short at the close.</p>\n",
+    begin: "<div class=wide tabindex=0 role=region aria-label=\"Fails to deliver, the oldest first\">
 <table>
-<caption>Members' positions below 0 at the close. The age is the number of closes in a row (shares)</caption>
-<thead><tr><th scope=col>Issue<th scope=col>Member<th scope=col>Age<th scope=col>Opening<th scope=col>Closing
+<caption>Members&#39; short positions at the close, and for how many closes in a row each is short (shares)</caption>
+<thead><tr><th scope=col>Issue<th scope=col>Member<th scope=col>Closes short<th scope=col>Opening<th scope=col>Closing
 </thead><tbody>
 ",
     end: TABLE_END,

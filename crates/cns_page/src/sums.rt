@@ -12,7 +12,7 @@ use cns_units::Cents;
 use std::alloc::Global;
 
 /// The sums of columns over rows. Each is exact where it fits 128 bits, as it does on each sheet of a book.
-#[derive(Clone, Copy, Debug, PartialEq, Eq)]
+#[derive(Clone, Copy)]
 pub struct Sums {
     pub opening: Count,
     pub closing: Count,

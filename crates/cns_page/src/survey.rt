@@ -10,7 +10,7 @@ use cns_units::Day;
 use std::alloc::Global;
 
 /// A close that was accepted.
-#[derive(Clone, Copy, Debug, PartialEq, Eq)]
+#[derive(Clone, Copy)]
 pub struct Close {
     /// The closed day's number, from 1.
     pub day: u32,
@@ -86,7 +86,7 @@ impl Survey {
         Ok(())
     }
 
-    /// Notes why a record with the text wants a person.
+    /// Notes why a record with the text is an exception.
     pub(crate) fn note_finding(&mut self, bytes: &[u8], outcome: Outcome) -> Result<(), NoMemory>
         ensures { OnOk result (known self.new ≡ wanted (known self.old) (why outcome)) }
     {

@@ -54,10 +54,10 @@ not past and before its payable date, and the next day is after today."
         Refusal::TooEarly => ": a notice is executed on the second day after its own.",
         Refusal::NotLiable { .. } => ": the liable members can be given fewer shares.",
         Refusal::TooLarge => {
-            ": a position would be beyond 10,000,000,000 shares, those of trades that wait counted."
+            ": a position would be beyond 10,000,000,000 shares, pending trades counted."
         }
         Refusal::NoSuchDay => ": no closed day has this date.",
-        Refusal::PendingTrades => ": a trade in the old issue waits for its date.",
+        Refusal::PendingTrades => ": a trade in the old issue is pending.",
     }
 }
 
