@@ -27,7 +27,7 @@ CRATE := cnsbook
 
 FUZZ := --seconds 600
 
-.PHONY: help run try build install uninstall check contracts sample compare test fuzz trials times bench picture
+.PHONY: help run try cases build install uninstall check contracts sample compare test fuzz trials times bench picture
 
 help:
 	@grep -E '^# [a-z]+:' Makefile | sed 's/^# //'
@@ -73,6 +73,12 @@ try:
 	    echo "building without a proof, which takes a minute or two ..."; \
 	    (cd crates/cnsbook && rt try --cases "$$room" -- replay --open $(OPENING)); \
 	    echo "samples agree: $(SAMPLES). Nothing was proved; make build proves and builds"
+
+# cases: plays the case files over both forms of positions without a proof, in a minute or two
+cases:
+	@cd crates/cns_cases; data=(); for file in data/*.case; do data+=(--data "$${file##*/}=$$file"); done; \
+	    rt try "$${data[@]}" 2> /dev/null | diff - stdout; \
+	    echo "cases agree: $$(wc -l < stdout). Nothing was proved"
 
 # build: proves every crate that the program stands on, and builds the program
 build:
