@@ -1,9 +1,8 @@
-// Tests of the positions.
-//
-// Each test runs over every form of positions; a new form is one line more in each.
-ghost use Rattle.std.specs.Prelude.{◌≡◌, ◌<◌, length, true};
-ghost use Rattle.cns_terms.specs.declared.holding.Key.{Key};
-ghost use Rattle.cns_positions.specs.Rows.{has_row};
+// Tests of the positions, over every form of them; a new form is one line more in the test. What may abort borrows positions,
+// and tells whether they are as they should be: each way out of a function that owns some is longer to check.
+ghost use Rattle.std.specs.Prelude.{◌≡◌, ◌<◌, true};
+ghost use Rattle.std.specs.FinMap.{is_sorted};
+ghost use Rattle.cns_terms.specs.Keys.{key_cmp};
 
 use crate::values::{APPLE, key};
 use cns_positions::{FlatPositions, NextRows, Positions, Step, TreePositions, run};
@@ -28,60 +27,19 @@ fn holding(now: i64, opening: i64, contract: i128, run: u32) -> Holding {
     }
 }
 
-// Books shares and cents at a key that has a row, where nothing stands yet.
-fn add<P: Positions<Global>>(positions: &mut P, key: &Key, shares: i32, cents: i32)
-    requires { has_row (P.rows positions.old) key.now ≡ true }
-    ensures { (k : Key) → has_row (P.rows positions.new) k ≡ has_row (P.rows positions.old) k }
-{
+// Books shares and cents at a key where nothing stands yet.
+fn book<P: Positions<Global>>(
+    rt: &impl Abort,
+    positions: &mut P,
+    key: &Key,
+    shares: i32,
+    cents: i32,
+) {
+    positions.prepare(&[*key]).expect(rt, "memory");
     let held = positions.get(*key);
     if held.now == 0 && held.contract == 0 {
         positions.add(*key, i64::from(shares), i128::from(cents));
     }
-}
-
-// Prepares keys, and books shares and cents at each of them.
-fn book<P: Positions<Global>>(
-    rt: &impl Abort,
-    positions: &mut P,
-    keys: &[Key],
-    shares: i32,
-    cents: i32,
-) {
-    positions.prepare(keys).expect(rt, "memory");
-    for key in keys {
-        add(positions, key, shares, cents);
-    }
-}
-
-// Puts the given rows after others, and returns the key of the last.
-fn push_all(rt: &impl Abort, rows: &mut Vec<Row, Global>, given: &NextRows) -> Option<Key> {
-    let mut last = None;
-    for row in given.as_slice() {
-        if let Some(row) = row {
-            rows.push(*row).expect(rt, "memory");
-            last = Some(row.0);
-        }
-    }
-    last
-}
-
-// The rows of a pass by `next_rows`.
-fn passed<P: Positions<Global>>(rt: &(impl Abort + AllocGlobal), positions: &P) -> Vec<Row> {
-    let mut rows = Vec::new(rt.alloc());
-    let mut after = None;
-    for _ in 0..100_000 {
-        let Some(last) = push_all(rt, &mut rows, &positions.next_rows(after)) else {
-            break;
-        };
-        after = Some(last);
-    }
-    rows
-}
-
-#[test]
-fn steps_reply_what_stands_at_each_key(rt: HostRuntime) {
-    check_steps::<Flat>(&rt);
-    check_steps::<Balanced>(&rt);
 }
 
 // What stands at a key when it is asked for: shares now and at the opening, cents, and closes since it went short.
@@ -94,6 +52,15 @@ const REPLIES: [(i64, i64, i128, u32); 7] = [
     (0, 0, 0, 0),
     (-1, 0, 0, 0),
 ];
+
+fn are_replies(found: &[Holding]) -> bool {
+    for (held, (now, opening, contract, run)) in found.iter().zip(&REPLIES) {
+        if *held != holding(*now, *opening, *contract, *run) {
+            return false;
+        }
+    }
+    found.len() == REPLIES.len()
+}
 
 fn check_steps<P: Positions<Global>>(rt: &(impl Abort + AllocGlobal)) {
     let (one, two) = (&key(rt, 1, APPLE), &key(rt, 2, APPLE));
@@ -130,37 +97,36 @@ fn check_steps<P: Positions<Global>>(rt: &(impl Abort + AllocGlobal)) {
         Step::Get(*two),
     ];
     let found = run::<P, Global>(rt.alloc(), &steps).expect(rt, "memory");
-    assert!(rt; found.len() == REPLIES.len());
-    for (held, (now, opening, contract, run)) in found.iter().zip(&REPLIES) {
-        assert!(rt; *held == holding(*now, *opening, *contract, *run));
+    assert!(rt; are_replies(found.as_slice()));
+}
+
+// Whether positions that are rebuilt from at most one row have that row first.
+fn is_rebuilt<P: Positions<Global>>(positions: &P, rows: &[Row]) -> bool
+    requires { is_sorted key_cmp rows.now ≡ true }
+{
+    match positions.rebuilt(rows) {
+        Ok(rebuilt) => rebuilt.next_row(None) == rows.first().copied(),
+        Err(_) => false,
     }
 }
 
-#[test]
-fn a_booking_stands_is_closed_and_is_rebuilt(rt: HostRuntime) {
-    check_booking::<Flat>(&rt);
-    check_booking::<Balanced>(&rt);
+// Whether a booking stands, is closed, and is the only row that the positions and those rebuilt from it have.
+fn is_booked_and_closed<P: Positions<Global>>(rt: &impl Abort, positions: &mut P) -> bool {
+    let apple = &key(rt, 1, APPLE);
+    book(rt, positions, apple, 5, -10);
+    let is_booked = positions.get(*apple) == holding(5, 0, -10, 0);
+    positions.roll();
+    let row = &(*apple, holding(5, 5, 0, 0));
+    is_booked
+        && positions.next_row(None) == Some(*row)
+        && positions.next_row(Some(*apple)).is_none()
+        && is_rebuilt(positions, &[*row])
+        && is_rebuilt(positions, &[])
 }
 
 fn check_booking<P: Positions<Global>>(rt: &(impl Abort + AllocGlobal)) {
     let mut positions = P::new(rt.alloc());
-    let apple = &key(rt, 1, APPLE);
-    book(rt, &mut positions, &[*apple], 5, -10);
-    assert!(rt; positions.get(*apple) == holding(5, 0, -10, 0));
-    positions.roll();
-    assert!(rt; positions.get(*apple) == holding(5, 5, 0, 0));
-    check_rebuilt(rt, &positions, &(*apple, holding(5, 5, 0, 0)));
-}
-
-// The only row is there, and is all that positions have that are rebuilt from it.
-fn check_rebuilt<P: Positions<Global>>(rt: &impl Abort, positions: &P, row: &Row) {
-    assert!(rt; positions.next_row(None) == Some(*row));
-    let rebuilt = positions.rebuilt(&[*row]).expect(rt, "memory");
-    assert!(rt; rebuilt.next_row(None) == Some(*row));
-    assert!(rt; rebuilt.next_row(Some(row.0)).is_none());
-    let empty = positions.rebuilt(&[]).expect(rt, "memory");
-    assert!(rt; empty.next_row(None).is_none());
-    assert!(rt; empty.get(row.0) == holding(0, 0, 0, 0));
+    assert!(rt; is_booked_and_closed(rt, &mut positions));
 }
 
 // What a digit of a CUSIP adds to its sum: at every other place it counts twice, and then digit by digit.
@@ -190,10 +156,32 @@ fn key_numbered(rt: &impl Abort, account: u16, number: u32) -> Key {
     key(rt, account, &text)
 }
 
-#[test]
-fn an_account_has_more_issues_than_sixteen_bits_count(rt: HostRuntime) {
-    check_many_issues::<Flat>(&rt);
-    check_many_issues::<Balanced>(&rt);
+// How many of the given rows there are, and the key of the last.
+fn counted(given: &NextRows) -> (usize, Option<Key>) {
+    let mut count = 0usize;
+    let mut last = None;
+    for row in given.as_slice() {
+        if let Some(row) = row {
+            count = count.saturating_add(1);
+            last = Some(row.0);
+        }
+    }
+    (count, last)
+}
+
+// How many rows a pass by `next_rows` gives.
+fn count_of_pass<P: Positions<Global>>(positions: &P) -> usize {
+    let mut rows = 0usize;
+    let mut after = None;
+    for _ in 0..100_000 {
+        let (count, last) = counted(&positions.next_rows(after));
+        if last.is_none() {
+            break;
+        }
+        rows = rows.saturating_add(count);
+        after = last;
+    }
+    rows
 }
 
 // The number of an issue and the shares that stand there.
@@ -206,14 +194,35 @@ const NUMBERED: [(u32, i64); 6] = [
     (65_537, 0),
 ];
 
-fn check_many_issues<P: Positions<Global>>(rt: &(impl Abort + AllocGlobal)) {
-    let mut positions = P::new(rt.alloc());
+// Whether an account has shares in more issues than sixteen bits count.
+fn has_many_issues<P: Positions<Global>>(rt: &impl Abort, positions: &mut P) -> bool {
     for number in 0..65_537 {
-        book(rt, &mut positions, &[key_numbered(rt, 1, number)], 1, 0);
+        book(rt, positions, &key_numbered(rt, 1, number), 1, 0);
     }
     for (number, shares) in &NUMBERED {
-        let held = positions.get(key_numbered(rt, 1, *number));
-        assert!(rt; held == holding(*shares, 0, 0, 0));
+        if positions.get(key_numbered(rt, 1, *number)) != holding(*shares, 0, 0, 0) {
+            return false;
+        }
     }
-    assert!(rt; passed(rt, &positions).len() == 65_537);
+    count_of_pass(positions) == 65_537
+}
+
+fn check_many_issues<P: Positions<Global>>(rt: &(impl Abort + AllocGlobal)) {
+    let mut positions = P::new(rt.alloc());
+    assert!(rt; has_many_issues(rt, &mut positions));
+}
+
+// Joins the checks: a call at a form of positions is longer to check than one at any form.
+fn check_form<P: Positions<Global>>(rt: &(impl Abort + AllocGlobal)) {
+    check_steps::<P>(rt);
+    check_booking::<P>(rt);
+    check_many_issues::<P>(rt);
+}
+
+#[test]
+fn positions_reply_to_steps_book_close_are_rebuilt_and_have_more_issues_than_sixteen_bits_count(
+    rt: HostRuntime,
+) {
+    check_form::<Flat>(&rt);
+    check_form::<Balanced>(&rt);
 }

@@ -1,6 +1,7 @@
 // Texts of values: CUSIPs, days, cents. The ranges of numbers are shown by the cases of fields.
 use crate::values::day;
 use cns_units::{Cents, Cusip, Day, UnitFault, write_cents, write_day};
+use std::alloc::Global;
 use std::process::Abort;
 
 const READ_CUSIPS: [(&str, Option<UnitFault>); 8] = [
@@ -59,23 +60,30 @@ const WRITTEN_CENTS: [(i128, &str); 7] = [
     (i128::MIN, "-1701411834604692317316873037158841057.28"),
 ];
 
+fn are_cents_written(alloc: Global, cents: Cents, text: &str) -> bool {
+    let mut written = Vec::new(alloc);
+    write_cents(cents, &mut written).is_ok() && written.as_slice() == text.as_bytes()
+}
+
 #[test]
 fn cents_are_written_as_dollars_and_two_digits(rt: HostRuntime) {
     for (cents, text) in &WRITTEN_CENTS {
-        let mut written = Vec::new(rt.alloc());
         let cents = Cents::new(*cents).expect(&rt, "cents");
-        write_cents(cents, &mut written).expect(&rt, "cents are written");
-        assert!(rt; written.as_slice() == text.as_bytes());
+        assert!(rt; are_cents_written(rt.alloc(), cents, text), "{text}");
     }
 }
 
 const WRITTEN_DAYS: [&str; 4] = ["0001-01-01", "0999-10-09", "2024-06-03", "9999-12-31"];
 
+fn is_day_written(alloc: Global, day: Day, text: &str) -> bool {
+    let mut written = Vec::new(alloc);
+    write_day(day, &mut written).is_ok() && written.as_slice() == text.as_bytes()
+}
+
 #[test]
 fn a_day_is_written_as_it_is_read(rt: HostRuntime) {
     for text in &WRITTEN_DAYS {
-        let mut written = Vec::new(rt.alloc());
-        write_day(day(&rt, text.as_bytes()), &mut written).expect(&rt, "a day is written");
-        assert!(rt; written.as_slice() == text.as_bytes());
+        let day = day(&rt, text.as_bytes());
+        assert!(rt; is_day_written(rt.alloc(), day, text), "{text}");
     }
 }

@@ -5,8 +5,6 @@ use std::process::Abort;
 
 pub(crate) const APPLE: &[u8] = b"037833100";
 
-pub(crate) const CISCO: &[u8] = b"17275R102";
-
 pub(crate) fn account(rt: &impl Abort, number: u16) -> Account {
     Account::new(number).expect(rt, "an account")
 }
