@@ -73,21 +73,16 @@ fn count(calls: &Cell<usize>) {
     calls.set(calls.get().saturating_add(1));
 }
 
-// Where a block of an input ends, and how many bytes of replies are due once it was given.
-#[derive(Clone, Copy)]
-pub(crate) struct Cut {
-    pub(crate) end: usize,
-    pub(crate) due: usize,
-}
+// A block of an input, and how many bytes of replies are due once it was given.
+pub(crate) type Block<'a> = (&'a [u8], usize);
 
 // Gives the blocks of an input, one or a part of one a call, and fails or ends after them.
 #[derive(Drop)]
 pub(crate) struct Source<'a> {
-    bytes: &'a [u8],
-    cuts: &'a [Cut],
+    blocks: &'a [Block<'a>],
     fails: bool,
+    // How many bytes of the first block that are given.
     at: usize,
-    next: usize,
     due: usize,
     watch: &'a Watch,
     // What it fails with, and what interrupts it.
@@ -96,18 +91,11 @@ pub(crate) struct Source<'a> {
 }
 
 impl<'a> Source<'a> {
-    pub(crate) fn new(
-        bytes: &'a [u8],
-        cuts: &'a [Cut],
-        fails: bool,
-        watch: &'a Watch,
-    ) -> Source<'a> {
+    pub(crate) fn new(blocks: &'a [Block<'a>], fails: bool, watch: &'a Watch) -> Source<'a> {
         Source {
-            bytes,
-            cuts,
+            blocks,
             fails,
             at: 0,
-            next: 0,
             due: 0,
             watch,
             kind: ErrorKind::Other,
@@ -124,19 +112,20 @@ impl Read for Source<'_> {
         if self.watch.flushed.get() < self.due {
             self.watch.is_late.set(true);
         }
-        let Some(cut) = self.cuts.get(self.next) else {
+        let [(block, due), later @ ..] = self.blocks else {
             return if self.fails {
                 Err(self.watch.fail(self.kind))
             } else {
                 Ok(0)
             };
         };
-        let mut block = self.bytes.get(self.at..cut.end).unwrap_or(b"");
-        let count = block.read(buf)?;
+        let mut rest = block.get(self.at..).unwrap_or(b"");
+        let count = rest.read(buf)?;
         self.at = self.at.saturating_add(count);
-        if self.at >= cut.end {
-            self.due = cut.due;
-            self.next = self.next.saturating_add(1);
+        if self.at >= block.len() {
+            self.blocks = later;
+            self.at = 0;
+            self.due = *due;
         }
         Ok(count)
     }

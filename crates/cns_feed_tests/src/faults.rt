@@ -1,46 +1,38 @@
-// The day on which each book opens, and how replays and loads end.
-use cns_feed::{ReplayFault, Summary, load, replay};
+// The day on which each book opens, and how replays and loads end. What has a book takes the day from its caller: a function
+// that may abort beside a book is long to check.
+use cns_feed::{ReplayFault, Summary, load};
 use cns_units::Day;
 use std::alloc::Global;
-use std::io::{Read, Write};
-use std::test::Fail;
+use std::io::Read;
+use std::process::Abort;
 
-pub(crate) fn day(text: &str) -> Result<Day, Fail> {
-    match Day::parse(text.as_bytes()) {
-        Ok(day) => Ok(day),
-        Err(_) => Err(Fail::new("no date")),
-    }
+pub(crate) fn day(rt: &impl Abort, text: &str) -> Day {
+    Day::parse(text.as_bytes()).expect(rt, "a date")
 }
 
-pub(crate) fn first_day() -> Result<Day, Fail> {
-    day("2024-06-03")
+pub(crate) fn first_day(rt: &impl Abort) -> Day {
+    day(rt, "2024-06-03")
 }
 
-// The fault of a replay, if it ends with one.
-pub(crate) fn fault_of_replay<R: Read + Drop, W: Write>(
-    alloc: Global,
-    reader: R,
-    writer: &mut W,
-) -> Result<Option<ReplayFault>, Fail> {
-    Ok(replay(alloc, reader, writer, first_day()?).err())
-}
-
-// The counts of a load, or its fault. No other function here has a book, which makes each way out of one long to check.
+// The counts of a load, or its fault.
 pub(crate) fn loaded<R: Read + Drop>(
     alloc: Global,
     reader: R,
-) -> Result<Result<Summary, ReplayFault>, Fail> {
-    let date = first_day()?;
+    date: Day,
+) -> Result<Summary, ReplayFault> {
     match load(alloc, reader, date) {
-        Ok((_book, counts)) => Ok(Ok(counts)),
-        Err(fault) => Ok(Err(fault)),
+        Ok((_book, counts)) => Ok(counts),
+        Err(fault) => Err(fault),
     }
 }
 
-// The fault of a load, if it ends with one.
-pub(crate) fn fault_of_load<R: Read + Drop>(
-    alloc: Global,
-    reader: R,
-) -> Result<Option<ReplayFault>, Fail> {
-    Ok(loaded(alloc, reader)?.err())
+// A text so many times.
+pub(crate) fn times(rt: &impl Abort, alloc: Global, text: &str, count: u32) -> Vec<u8> {
+    let mut bytes = Vec::new(alloc);
+    for _time in 0..count {
+        bytes
+            .extend_from_slice(text.as_bytes())
+            .expect(rt, "memory");
+    }
+    bytes
 }

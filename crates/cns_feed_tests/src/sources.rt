@@ -1,72 +1,70 @@
 // What a source over a reader's records gives, one item after another.
-use crate::ends::{Cut, Signals, Source as Blocks, Watch};
-use crate::faults::{day, fault_of_load, fault_of_replay};
-use cns_feed::{CsvSource, ReplayFault};
+use crate::ends::{Block, Signals, Source as Blocks, Watch};
+use crate::faults::{day, first_day, loaded};
+use cns_feed::{CsvSource, ReplayFault, replay};
 use cns_terms::{Activity, Command, Item, Source, SourceFault};
-use cns_units::Member;
+use cns_units::{Day, Member};
 use std::alloc::Global;
 use std::io::{ErrorKind, Read};
 use std::process::Abort;
-use std::test::Fail;
 
 // The next item. A check of a caller need not go through all that a source promises of it.
 pub(crate) fn next<R: Read + Drop>(source: &mut CsvSource<R>) -> Result<Item, SourceFault> {
     source.next()
 }
 
-fn joins(number: u16) -> Result<Item, Fail> {
-    match Member::new(number) {
-        Ok(member) => Ok(Item::Given(Command::Activity(Activity::Member(member)))),
-        Err(_) => Err(Fail::new("no member")),
-    }
+fn joins(rt: &impl Abort, number: u16) -> Item {
+    let member = Member::new(number).expect(rt, "a member");
+    Item::Given(Command::Activity(Activity::Member(member)))
 }
 
-// Checks that the reader's records give these answers, and the last one once more.
-fn check_answers<A: Abort, R: Read + Drop>(
-    rt: &A,
-    alloc: Global,
-    reader: R,
-    answers: &[Result<Item, SourceFault>],
-) {
-    let mut source = CsvSource::new(alloc, reader);
-    for (at, answer) in answers.iter().chain(answers.last()).enumerate() {
-        assert!(rt; next(&mut source) == *answer, "answer {at}");
-    }
+// Whether a source gives this end twice.
+pub(crate) fn ends<R: Read + Drop>(
+    source: &mut CsvSource<R>,
+    end: &Result<Item, SourceFault>,
+) -> bool {
+    next(source) == *end && next(source) == *end
 }
+
+// Whether a source gives these items, and then this end twice.
+fn gives<R: Read + Drop>(
+    source: &mut CsvSource<R>,
+    items: &[Item],
+    end: &Result<Item, SourceFault>,
+) -> bool {
+    for item in items {
+        if next(source) != Ok(*item) {
+            return false;
+        }
+    }
+    ends(source, end)
+}
+
+// The same of the source of a text, which finishes.
+fn is_read(alloc: Global, text: &[u8], items: &[Item]) -> bool {
+    gives(&mut CsvSource::new(alloc, text), items, &Ok(Item::Finished))
+}
+
+fn closes(rt: &impl Abort, date: &str) -> Item {
+    Item::Given(Command::Activity(Activity::Close(day(rt, date))))
+}
+
+const LINES: &str = "MEMBER,1\nMEMBER,x\n\nMEMBER,1\nCLOSE,2024-06-04";
 
 #[test]
-fn commands_and_records_at_fault_come_in_order_and_then_the_end_twice(
-    rt: HostRuntime,
-) -> Result<(), Fail> {
-    let text = b"MEMBER,1\nMEMBER,x\n\nMEMBER,1\nCLOSE,2024-06-04";
-    let close = Item::Given(Command::Activity(Activity::Close(day("2024-06-04")?)));
-    let answers = [
-        Ok(joins(1)?),
-        Ok(Item::Line),
-        Ok(joins(1)?),
-        Ok(close),
-        Ok(Item::Finished),
+fn commands_and_records_at_fault_come_in_order_and_then_the_end_twice(rt: HostRuntime) {
+    let items = [
+        joins(&rt, 1),
+        Item::Line,
+        joins(&rt, 1),
+        closes(&rt, "2024-06-04"),
     ];
-    check_answers(&rt, rt.alloc(), text.as_slice(), &answers);
-    check_answers(&rt, rt.alloc(), b"".as_slice(), &[Ok(Item::Finished)]);
-    Ok(())
-}
-
-#[test]
-fn a_reader_that_fails_is_told_twice_and_called_last(rt: HostRuntime) -> Result<(), Fail> {
-    let text = b"MEMBER,1\nMEMBER,2\nMEM";
-    let cuts = [Cut { end: 21, due: 0 }];
-    let watch = Watch::new();
-    let reader = Blocks::new(text.as_slice(), &cuts, true, &watch);
-    let answers = [Ok(joins(1)?), Ok(joins(2)?), Err(SourceFault::Read)];
-    check_answers(&rt, rt.alloc(), reader, &answers);
-    assert!(rt; watch.has_failed.get());
-    assert!(rt; !watch.is_called_after.get());
-    Ok(())
+    assert!(rt; is_read(rt.alloc(), LINES.as_bytes(), &items));
+    assert!(rt; is_read(rt.alloc(), b"", &items[..0]));
 }
 
 // Records of 11 bytes each, in quotes and outside of them, one of which is at fault.
-const SHORT: &[u8] = b"MEMBER,101\n\"MEMBER\",2\nMEMBER,\"x\"\nMEMBER,202\n";
+const SHORT: &str = "MEMBER,101\n\"MEMBER\",2\nMEMBER,\"x\"\nMEMBER,202\n";
 
 // The replies to so many of them.
 const REPLIES: [&str; 5] = [
@@ -100,75 +98,82 @@ const FAILING: [Failing; 3] = [
 ];
 
 // A reader that gives these blocks of the records, and then fails.
-fn reader<'a>(cuts: &'a [Cut], failing: Failing, watch: &'a Watch) -> Blocks<'a> {
-    let mut reader = Blocks::new(SHORT, cuts, true, watch);
+fn reader<'a>(blocks: &'a [Block<'a>], failing: Failing, watch: &'a Watch) -> Blocks<'a> {
+    let mut reader = Blocks::new(blocks, true, watch);
     reader.kind = failing.kind;
     reader.signals = Signals::new(failing.is_interrupted);
     reader
 }
 
-// The blocks of the first `end` bytes, of `size` bytes each, which is at least 1.
-fn cuts_of(alloc: Global, end: usize, size: usize) -> Result<Vec<Cut>, Fail> {
-    let size = size.max(1);
-    let mut cuts = Vec::new(alloc);
-    for at in 1..=end {
-        if at % size == 0 || at == end {
-            cuts.push(Cut { end: at, due: 0 })?;
-        }
-    }
-    Ok(cuts)
-}
-
 // Whether a replay ends with `Read` where its reader does, has answered the whole records, and calls it no more.
-fn replay_fails(alloc: Global, cuts: &[Cut], failing: Failing, text: &str) -> Result<bool, Fail> {
+fn replay_fails(alloc: Global, date: Day, blocks: &[Block], failing: Failing, text: &str) -> bool {
     let watch = Watch::new();
     let mut output = Vec::new(alloc);
-    let reader = reader(cuts, failing, &watch);
-    let fault = fault_of_replay(alloc, reader, &mut output)?;
-    let is_told = fault == Some(ReplayFault::Read) && output.as_slice() == text.as_bytes();
-    Ok(is_told && !watch.is_called_after.get())
+    let ended = replay(alloc, reader(blocks, failing, &watch), &mut output, date);
+    ended.err() == Some(ReplayFault::Read)
+        && output.as_slice() == text.as_bytes()
+        && !watch.is_called_after.get()
 }
 
 // The same of a load.
-fn load_fails(alloc: Global, cuts: &[Cut], failing: Failing) -> Result<bool, Fail> {
+fn load_fails(alloc: Global, date: Day, blocks: &[Block], failing: Failing) -> bool {
     let watch = Watch::new();
-    let fault = fault_of_load(alloc, reader(cuts, failing, &watch))?;
-    Ok(fault == Some(ReplayFault::Read) && !watch.is_called_after.get())
+    let ended = loaded(alloc, reader(blocks, failing, &watch), date);
+    ended.err() == Some(ReplayFault::Read) && !watch.is_called_after.get()
 }
 
 // The same of a source, which gives an item for each whole record and then the fault, again and again.
-fn source_fails(alloc: Global, cuts: &[Cut], failing: Failing, whole: usize) -> bool {
+fn source_fails(alloc: Global, blocks: &[Block], failing: Failing, items: &[Item]) -> bool {
     let watch = Watch::new();
-    let mut source = CsvSource::new(alloc, reader(cuts, failing, &watch));
-    for _item in 0..whole {
-        if next(&mut source).is_err() {
+    let mut source = CsvSource::new(alloc, reader(blocks, failing, &watch));
+    gives(&mut source, items, &Err(SourceFault::Read)) && !watch.is_called_after.get()
+}
+
+// Whether all three are told of each failure after these blocks.
+fn are_told(alloc: Global, date: Day, blocks: &[Block], text: &str, items: &[Item]) -> bool {
+    for failing in &FAILING {
+        if !replay_fails(alloc, date, blocks, *failing, text)
+            || !load_fails(alloc, date, blocks, *failing)
+            || !source_fails(alloc, blocks, *failing, items)
+        {
             return false;
         }
     }
-    let fault = Err(SourceFault::Read);
-    next(&mut source) == fault && next(&mut source) == fault && !watch.is_called_after.get()
+    true
+}
+
+// Cuts bytes into blocks of `size` bytes, which is at least 1.
+fn cut<'a>(rt: &impl Abort, blocks: &mut Vec<Block<'a>>, bytes: &'a [u8], size: usize) {
+    for block in bytes.chunks(size.max(1)) {
+        blocks.push((block, 0)).expect(rt, "memory");
+    }
+}
+
+// Checks readers that fail after so many bytes of the records, which they give in blocks of this size.
+fn check_failing(rt: &impl Abort, alloc: Global, end: usize, size: usize, items: &[Item]) {
+    let date = first_day(rt);
+    let whole = end / 11;
+    let text = REPLIES.get(whole).copied().unwrap_or("");
+    let items = items.get(..whole).unwrap_or(items);
+    let mut blocks = Vec::new(alloc);
+    cut(
+        rt,
+        &mut blocks,
+        SHORT.as_bytes().get(..end).unwrap_or(b""),
+        size,
+    );
+    assert!(rt;
+        are_told(alloc, date, blocks.as_slice(), text, items),
+        "{end} by {size}"
+    );
 }
 
 #[test]
-fn a_reader_that_fails_after_any_byte_is_told_and_called_last(rt: HostRuntime) -> Result<(), Fail> {
-    let alloc = rt.alloc();
+fn a_reader_that_fails_after_any_byte_is_told_twice_and_called_last(rt: HostRuntime) {
+    let items = &[joins(&rt, 101), joins(&rt, 2), Item::Line, joins(&rt, 202)];
     for end in 0..=SHORT.len() {
-        let whole = end / 11;
-        let text = REPLIES.get(whole).copied().unwrap_or("");
         for size in [1, 3, 44] {
-            let cuts = cuts_of(alloc, end, size)?;
-            for failing in FAILING {
-                assert!(rt;
-                    replay_fails(alloc, cuts.as_slice(), failing, text)?,
-                    "{end}"
-                );
-                assert!(rt; load_fails(alloc, cuts.as_slice(), failing)?, "{end}");
-                assert!(rt;
-                    source_fails(alloc, cuts.as_slice(), failing, whole),
-                    "{end}"
-                );
-            }
+            check_failing(&rt, rt.alloc(), end, size, items);
         }
     }
-    Ok(())
 }

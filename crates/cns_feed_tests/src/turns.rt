@@ -1,10 +1,11 @@
 // When the two ends of a replay are called: replies before the next records, and nothing after a failure.
-use crate::ends::{Cut, Signals, Sink, Source, Watch};
-use crate::faults::fault_of_replay;
-use cns_feed::ReplayFault;
+use crate::ends::{Block, Signals, Sink, Source, Watch};
+use crate::faults::{first_day, times};
+use cns_feed::{ReplayFault, replay};
+use cns_units::Day;
 use std::alloc::Global;
 use std::io::Write;
-use std::test::Fail;
+use std::process::Abort;
 
 const POSITION_INPUT: &str = "MEMBER,101\n\
     MEMBER,202\n\
@@ -34,10 +35,12 @@ const NONE: Limits = Limits {
 };
 
 // What a replay came to, and what the two ends saw of each other.
-#[derive(Drop)]
+#[derive(Clone, Copy)]
 struct Played {
     fault: Option<ReplayFault>,
-    taken: Vec<u8>,
+    // How many bytes were written, and whether they are the text that was wanted.
+    written: usize,
+    is_text: bool,
     flushed: usize,
     flushes: usize,
     reads: usize,
@@ -46,12 +49,9 @@ struct Played {
 }
 
 impl Played {
-    // Whether it ended so, wrote this text, and called no end late or after a failure.
-    fn is(&self, fault: Option<ReplayFault>, text: &[u8]) -> bool {
-        self.fault == fault
-            && self.taken.as_slice() == text
-            && !self.is_late
-            && !self.is_called_after
+    // Whether it ended so, wrote the text, and called no end late or after a failure.
+    fn is(&self, fault: Option<ReplayFault>) -> bool {
+        self.fault == fault && self.is_text && !self.is_late && !self.is_called_after
     }
 
     // Whether the writer was flushed where the reader was to be asked for more, and not more often. The end of the input
@@ -61,14 +61,15 @@ impl Played {
     }
 }
 
-// Replays the blocks of an input, after which the reader ends or fails.
+// Replays the blocks of an input, after which the reader ends or fails. This text is to be written.
 fn play(
     alloc: Global,
-    input: &[u8],
-    cuts: &[Cut],
+    date: Day,
+    blocks: &[Block],
     fails: bool,
     limits: Limits,
-) -> Result<Played, Fail> {
+    text: &[u8],
+) -> Played {
     let watch = Watch::new();
     let mut output = Sink {
         taken: Vec::new(alloc),
@@ -79,70 +80,28 @@ fn play(
         watch: &watch,
         signals: Signals::new(limits.is_interrupted),
     };
-    let mut source = Source::new(input, cuts, fails, &watch);
+    let mut source = Source::new(blocks, fails, &watch);
     source.signals = Signals::new(limits.is_interrupted);
-    let fault = fault_of_replay(alloc, source, &mut output)?;
-    Ok(Played {
+    let fault = replay(alloc, source, &mut output, date).err();
+    Played {
         fault,
-        taken: output.taken,
+        written: output.taken.len(),
+        is_text: output.taken.as_slice() == text,
         flushed: watch.flushed.get(),
         flushes: watch.flushes.get(),
         reads: watch.reads.get(),
         is_late: watch.is_late.get(),
         is_called_after: watch.is_called_after.get(),
-    })
-}
-
-// One block, and how many bytes of replies are due after it.
-fn whole(bytes: &[u8], due: usize) -> [Cut; 1] {
-    let end = bytes.len();
-    [Cut { end, due }]
-}
-
-// An input of these blocks, and where they end.
-fn blocks(alloc: Global, parts: &[(&str, usize)]) -> Result<(Vec<u8>, Vec<Cut>), Fail> {
-    let (mut bytes, mut cuts) = (Vec::new(alloc), Vec::new(alloc));
-    for (block, due) in parts {
-        bytes.extend_from_slice(block.as_bytes())?;
-        let (end, due) = (bytes.len(), *due);
-        cuts.push(Cut { end, due })?;
     }
-    Ok((bytes, cuts))
 }
 
-// Records of that many members with this before and after each number, and the replies to them.
-fn members(
-    alloc: Global,
-    count: u8,
-    before: &str,
-    after: &str,
-) -> Result<(Vec<u8>, Vec<u8>), Fail> {
-    let (mut input, mut output) = (Vec::new(alloc), Vec::new(alloc));
+// Records of that many members with this before and after each number.
+fn members(rt: &impl Abort, alloc: Global, count: u32, before: &str, after: &str) -> Vec<u8> {
+    let mut input = Vec::new(alloc);
     for member in 10..count.saturating_add(10) {
-        write!(input, "{before}{member}{after}")?;
-        output.extend_from_slice(b"ok\n")?;
+        write!(input, "{before}{member}{after}").expect(rt, "memory");
     }
-    Ok((input, output))
-}
-
-// The blocks of members' records, each but the last of that many bytes. The first byte of a line end ends a record, and
-// each reply has three bytes.
-fn pieces(alloc: Global, input: &[u8], line_end: u8, size: usize) -> Result<Vec<Cut>, Fail> {
-    let mut cuts = Vec::new(alloc);
-    let mut due: usize = 0;
-    let mut room = size;
-    for (at, byte) in input.iter().enumerate() {
-        let end = at.saturating_add(1);
-        if *byte == line_end {
-            due = due.saturating_add(3);
-        }
-        room = room.saturating_sub(1);
-        if room == 0 || end == input.len() {
-            cuts.push(Cut { end, due })?;
-            room = size;
-        }
-    }
-    Ok(cuts)
+    input
 }
 
 // The blocks of an input, and how many bytes of replies are due after each.
@@ -260,21 +219,30 @@ const BLOCKS: [(&str, &[(&str, usize)]); 20] = [
     ),
 ];
 
+// The blocks of texts.
+fn blocks_of<'a>(rt: &impl Abort, alloc: Global, texts: &[(&'a str, usize)]) -> Vec<Block<'a>> {
+    let mut blocks = Vec::new(alloc);
+    for (text, due) in texts {
+        blocks.push((text.as_bytes(), *due)).expect(rt, "memory");
+    }
+    blocks
+}
+
 // Whether a replay of these blocks is flushed in time, to the end, and seldom.
-fn is_flushed(alloc: Global, parts: &[(&str, usize)]) -> Result<bool, Fail> {
-    let (input, cuts) = blocks(alloc, parts)?;
-    let played = play(alloc, input.as_slice(), cuts.as_slice(), false, NONE)?;
-    let due = parts.last().map_or(0, |part| part.1);
-    let is_whole = due <= played.flushed && played.flushed == played.taken.len();
-    Ok(played.fault.is_none() && !played.is_late && is_whole && played.is_seldom_flushed())
+fn is_flushed(alloc: Global, date: Day, blocks: &[Block]) -> bool {
+    let played = play(alloc, date, blocks, false, NONE, b"");
+    let due = blocks.last().map_or(0, |block| block.1);
+    let is_whole = due <= played.flushed && played.flushed == played.written;
+    played.fault.is_none() && !played.is_late && is_whole && played.is_seldom_flushed()
 }
 
 #[test]
-fn replies_are_flushed_before_more_is_asked_for(rt: HostRuntime) -> Result<(), Fail> {
-    for (name, parts) in &BLOCKS {
-        assert!(rt; is_flushed(rt.alloc(), parts)?, "{name}");
+fn replies_are_flushed_before_more_is_asked_for(rt: HostRuntime) {
+    let date = first_day(&rt);
+    for (name, texts) in &BLOCKS {
+        let blocks = blocks_of(&rt, rt.alloc(), texts);
+        assert!(rt; is_flushed(rt.alloc(), date, blocks.as_slice()), "{name}");
     }
-    Ok(())
 }
 
 // What stands before and after the number of a member, and the first byte of the line end.
@@ -288,64 +256,120 @@ const FORMS: [(&str, &str, u8); 7] = [
     ("\"\"MEMBER,\"\"", "\n", b'\n'),
 ];
 
+// Cuts members' records into blocks of so many bytes. The first byte of a line end ends a record, and each reply has three
+// bytes.
+fn cut<'a>(
+    rt: &impl Abort,
+    blocks: &mut Vec<Block<'a>>,
+    input: &'a [u8],
+    line_end: u8,
+    size: usize,
+) {
+    let mut due = 0usize;
+    for block in input.chunks(size.max(1)) {
+        for byte in block {
+            if *byte == line_end {
+                due = due.saturating_add(3);
+            }
+        }
+        blocks.push((block, due)).expect(rt, "memory");
+    }
+}
+
 // Whether a replay that is given so many bytes at a time writes the replies, and is flushed in time and seldom.
 fn is_answered(
+    rt: &impl Abort,
     alloc: Global,
     input: &[u8],
     line_end: u8,
     size: usize,
     replies: &[u8],
-) -> Result<bool, Fail> {
-    let cuts = pieces(alloc, input, line_end, size)?;
-    let played = play(alloc, input, cuts.as_slice(), false, NONE)?;
-    Ok(played.is(None, replies) && played.is_seldom_flushed())
+) -> bool {
+    let date = first_day(rt);
+    let mut blocks = Vec::new(alloc);
+    cut(rt, &mut blocks, input, line_end, size);
+    let played = play(alloc, date, blocks.as_slice(), false, NONE, replies);
+    played.is(None) && played.is_seldom_flushed()
+}
+
+fn check_cuts(rt: &impl Abort, alloc: Global, input: &[u8], line_end: u8, replies: &[u8]) {
+    for size in 1..=input.len() {
+        assert!(rt;
+            is_answered(rt, alloc, input, line_end, size, replies),
+            "{size}"
+        );
+    }
 }
 
 #[test]
-fn replies_are_flushed_wherever_the_input_is_cut(rt: HostRuntime) -> Result<(), Fail> {
+fn replies_are_flushed_wherever_the_input_is_cut(rt: HostRuntime) {
+    let replies = times(&rt, rt.alloc(), "ok\n", 40);
     for (before, after, first) in &FORMS {
-        let (input, replies) = members(rt.alloc(), 40, before, after)?;
-        let (input, replies) = (input.as_slice(), replies.as_slice());
-        for size in 1..=input.len() {
+        let input = members(&rt, rt.alloc(), 40, before, after);
+        check_cuts(
+            &rt,
+            rt.alloc(),
+            input.as_slice(),
+            *first,
+            replies.as_slice(),
+        );
+    }
+}
+
+// A part of a record that comes after the others, whether the reader fails after it, and what the replay then answers.
+const ENDS: [(&str, bool, Option<ReplayFault>); 3] = [
+    ("", false, None),
+    ("", true, Some(ReplayFault::Read)),
+    ("ISSUE,037833100,19", true, Some(ReplayFault::Read)),
+];
+
+fn is_whole(
+    rt: &impl Abort,
+    alloc: Global,
+    count: u32,
+    end: &(&str, bool, Option<ReplayFault>),
+    replies: &[u8],
+) -> bool {
+    let (part, fails, fault) = *end;
+    let date = first_day(rt);
+    let mut input = members(rt, alloc, count, "MEMBER,", "\n");
+    input
+        .extend_from_slice(part.as_bytes())
+        .expect(rt, "memory");
+    let blocks = [(input.as_slice(), replies.len())];
+    play(alloc, date, &blocks, fails, NONE, replies).is(fault)
+}
+
+#[test]
+fn each_number_of_records_is_answered_whole_also_where_the_reader_fails_after_them_or_in_the_next(
+    rt: HostRuntime,
+) {
+    for count in 0..=50 {
+        let replies = times(&rt, rt.alloc(), "ok\n", count);
+        for end in &ENDS {
             assert!(rt;
-                is_answered(rt.alloc(), input, *first, size, replies)?,
-                "{size}"
+                is_whole(&rt, rt.alloc(), count, end, replies.as_slice()),
+                "{count}"
             );
         }
     }
-    Ok(())
 }
 
-// Whether the reader fails after the records, and what the replay then answers.
-const FAILURES: [(bool, Option<ReplayFault>); 2] = [(false, None), (true, Some(ReplayFault::Read))];
-
-#[test]
-fn each_number_of_records_is_answered_whole_also_where_the_reader_fails_after_them(
-    rt: HostRuntime,
-) -> Result<(), Fail> {
-    for count in 0..=50 {
-        let (input, replies) = members(rt.alloc(), count, "MEMBER,", "\n")?;
-        let cuts = whole(input.as_slice(), replies.len());
-        for (fails, fault) in &FAILURES {
-            let played = play(rt.alloc(), input.as_slice(), &cuts, *fails, NONE)?;
-            assert!(rt; played.is(*fault, replies.as_slice()), "{count}");
-        }
-    }
-    Ok(())
+// Whether a replay over such a writer ends so, writes this text, and calls no end late or after a failure.
+fn is_written(
+    alloc: Global,
+    date: Day,
+    limits: Limits,
+    fault: Option<ReplayFault>,
+    text: &[u8],
+) -> bool {
+    let blocks = [(POSITION_INPUT.as_bytes(), POSITION_OUTPUT.len())];
+    play(alloc, date, &blocks, false, limits, text).is(fault)
 }
 
 #[test]
-fn a_reader_that_fails_inside_of_a_record_is_called_last(rt: HostRuntime) -> Result<(), Fail> {
-    let input = &POSITION_INPUT.as_bytes()[..40];
-    let played = play(rt.alloc(), input, &whole(input, 6), true, NONE)?;
-    assert!(rt; played.is(Some(ReplayFault::Read), b"ok\nok\n"));
-    Ok(())
-}
-
-#[test]
-fn small_writes_and_interrupted_calls_give_the_same_text(rt: HostRuntime) -> Result<(), Fail> {
-    let input = POSITION_INPUT.as_bytes();
-    let cuts = whole(input, POSITION_OUTPUT.len());
+fn small_writes_and_interrupted_calls_give_the_same_text(rt: HostRuntime) {
+    let date = first_day(&rt);
     for step in 1..4 {
         for is_interrupted in [false, true] {
             let limits = Limits {
@@ -353,21 +377,19 @@ fn small_writes_and_interrupted_calls_give_the_same_text(rt: HostRuntime) -> Res
                 is_interrupted,
                 ..NONE
             };
-            let played = play(rt.alloc(), input, &cuts, false, limits)?;
-            assert!(rt; played.is(None, POSITION_OUTPUT.as_bytes()), "{step}");
+            assert!(rt;
+                is_written(rt.alloc(), date, limits, None, POSITION_OUTPUT.as_bytes()),
+                "{step}"
+            );
         }
     }
-    Ok(())
 }
 
 #[test]
-fn a_failing_writer_has_the_bytes_that_it_took_and_is_called_last(
-    rt: HostRuntime,
-) -> Result<(), Fail> {
-    let input = POSITION_INPUT.as_bytes();
-    let cuts = whole(input, 0);
+fn a_failing_writer_has_the_bytes_that_it_took_and_is_called_last(rt: HostRuntime) {
+    let date = first_day(&rt);
+    let fault = Some(ReplayFault::Write);
     for room in 0..POSITION_OUTPUT.len() {
-        let front = &POSITION_OUTPUT.as_bytes()[..room];
         for fails in [true, false] {
             let limits = Limits {
                 step: 3,
@@ -375,23 +397,34 @@ fn a_failing_writer_has_the_bytes_that_it_took_and_is_called_last(
                 fails,
                 ..NONE
             };
-            let played = play(rt.alloc(), input, &cuts, false, limits)?;
-            assert!(rt; played.is(Some(ReplayFault::Write), front), "{room}");
+            let front = &POSITION_OUTPUT.as_bytes()[..room];
+            assert!(rt;
+                is_written(rt.alloc(), date, limits, fault, front),
+                "{room}"
+            );
         }
     }
-    Ok(())
 }
 
+const TWO_BLOCKS: [(&str, usize); 2] = [("MEMBER,1\n", 3), ("MEMBER,2\n", 6)];
+
 // What a writer has that can be flushed no time, once and twice.
-const TAKEN: [&[u8]; 3] = [b"", b"ok\n", b"ok\nok\n"];
+const TAKEN: [&str; 3] = ["", "ok\n", "ok\nok\n"];
+
+// Whether a writer that can be flushed so many times has then taken this text, and is called last.
+fn is_stuck(alloc: Global, date: Day, blocks: &[Block], flushes: usize, text: &str) -> bool {
+    let limits = Limits { flushes, ..NONE };
+    play(alloc, date, blocks, false, limits, text.as_bytes()).is(Some(ReplayFault::Write))
+}
 
 #[test]
-fn a_writer_that_cannot_be_flushed_is_called_last(rt: HostRuntime) -> Result<(), Fail> {
-    let (input, cuts) = blocks(rt.alloc(), &[("MEMBER,1\n", 3), ("MEMBER,2\n", 6)])?;
+fn a_writer_that_cannot_be_flushed_is_called_last(rt: HostRuntime) {
+    let date = first_day(&rt);
+    let blocks = blocks_of(&rt, rt.alloc(), &TWO_BLOCKS);
     for (flushes, text) in TAKEN.iter().enumerate() {
-        let limits = Limits { flushes, ..NONE };
-        let played = play(rt.alloc(), input.as_slice(), cuts.as_slice(), false, limits)?;
-        assert!(rt; played.is(Some(ReplayFault::Write), text), "{flushes}");
+        assert!(rt;
+            is_stuck(rt.alloc(), date, blocks.as_slice(), flushes, text),
+            "{flushes}"
+        );
     }
-    Ok(())
 }
