@@ -68,28 +68,12 @@ fn chosen<A: Allocator + Drop + Clone>(
     alloc: A,
     count: u16,
 ) -> Option<Batch<A>> {
-    let Ok(shorts) = shorts(rt, count, global) else {
-        panic!(rt; "no shorts");
-    };
-    let Ok(batch) = Batch::choose(alloc, issue(rt, 0), shorts.as_slice(), 1) else {
-        return None;
-    };
-    let Some(batch) = batch else {
-        panic!(rt; "nobody is liable");
-    };
-    Some(batch)
-}
-
-// Whether a batch has the members 1 to `count`, in that order.
-fn has<A: Allocator + Drop>(batch: &Batch<A>, count: u16) -> bool {
-    let mut number = 0u16;
-    for liable in batch.members() {
-        number = number.saturating_add(1);
-        if liable.member.value() != number || liable.left != u64::from(SHORT) {
-            return false;
-        }
+    let issue = issue(rt, 0);
+    let shorts = shorts(rt, count, global).expect(rt, "memory");
+    match Batch::choose(alloc, issue, shorts.as_slice(), 1) {
+        Ok(batch) => batch,
+        Err(_) => None,
     }
-    number == count
 }
 
 // Members that are short, of which a batch is chosen.
@@ -113,19 +97,7 @@ impl<H: Allocator + Drop + Clone> Call<H> for Choose<H> {
         let Ok(alloc) = self.alloc.clone() else {
             return false;
         };
-        let Some(batch) = chosen(rt, self.global, alloc, self.size) else {
-            return false;
-        };
-        assert!(rt; has(&batch, self.size));
-        true
-    }
-
-    fn stands(&self, _rt: &impl Abort, _made: bool) -> bool {
-        true
-    }
-
-    fn left() -> u64 {
-        0
+        chosen(rt, self.global, alloc, self.size).is_some()
     }
 }
 
@@ -148,42 +120,16 @@ pub(crate) struct Fill<H: Allocator + Drop> {
     size: u16,
 }
 
-// The shares of an execution that fills all members.
-fn all_shares(rt: &impl Abort, size: u16) -> Shares {
-    let Ok(shares) = Shares::new(u64::from(size) * u64::from(SHORT)) else {
-        panic!(rt; "no shares");
-    };
-    shares
-}
-
 impl<H: Allocator + Drop + Clone> Call<H> for Fill<H> {
     fn prepared(rt: &impl Abort, global: Global, alloc: H, size: u16) -> Self {
-        let Some(batch) = chosen(rt, global, alloc, size) else {
-            panic!(rt; "no batch");
-        };
+        let batch = chosen(rt, global, alloc, size).expect(rt, "a batch");
         Fill { batch, size }
     }
 
     fn make(&mut self, rt: &impl Abort) -> bool {
-        let shares = all_shares(rt, self.size);
-        let Ok(money) = Money::new(1) else {
-            panic!(rt; "no money");
-        };
-        if shares.value() > self.batch.room(&Now) {
-            panic!(rt; "no room");
-        }
-        let Ok(fills) = self.batch.fill(&Now, shares, money) else {
-            return false;
-        };
-        assert_eq!(rt; fills.len(), usize::from(self.size));
-        true
-    }
-
-    fn stands(&self, _rt: &impl Abort, _made: bool) -> bool {
-        has(&self.batch, self.size)
-    }
-
-    fn left() -> u64 {
-        0
+        let money = Money::new(1).expect(rt, "money");
+        let shares = Shares::new(u64::from(self.size) * u64::from(SHORT)).expect(rt, "shares");
+        assert!(rt; shares.value() <= self.batch.room(&Now));
+        self.batch.fill(&Now, shares, money).is_ok()
     }
 }

@@ -3,13 +3,13 @@ mod cases;
 mod same;
 
 use crate::refusing::{Handle, MOST, Rations, Refusing};
+use crate::units::day;
 use cases::{ACCEPTED, Case, REFUSED, UNPAID_DUE, UNPAID_LATER};
 use cns_book::{Book, Receipt, TakeFault};
 use cns_feed::CsvSource;
 use cns_positions::{Positions, TreePositions};
 use cns_rationed::Rationed;
 use cns_terms::{Command, Item, Reply, Source, Worker};
-use cns_units::Day;
 use same::agree;
 use std::alloc::{Allocator, Global};
 use std::process::Abort;
@@ -24,13 +24,7 @@ pub(crate) fn opened<P: Positions<H>, H: Allocator + Drop + Clone>(
     rt: &impl Abort,
     alloc: H,
 ) -> Book<P, H> {
-    let Ok(date) = Day::parse(b"2024-06-03".as_slice()) else {
-        panic!(rt; "no date");
-    };
-    let Ok(book) = Book::new(alloc, date) else {
-        panic!(rt; "no book");
-    };
-    book
+    Book::new(alloc, day(rt, "2024-06-03")).expect(rt, "memory")
 }
 
 fn is_refusal(reply: &Reply) -> bool {
@@ -40,34 +34,70 @@ fn is_refusal(reply: &Reply) -> bool {
     }
 }
 
-// Gives a book records, none of which is refused.
+// The next command. A check of a caller need not go through all that a source promises of it.
+fn next(source: &mut CsvSource<&[u8]>) -> Option<Command> {
+    match source.next() {
+        Ok(Item::Given(command)) => Some(command),
+        _ => None,
+    }
+}
+
+// Gives a book a command. A check of a caller need not go through all that a book promises of it.
+fn take<P: Positions<H>, H: Allocator + Drop + Clone>(
+    book: &mut Book<P, H>,
+    command: &Command,
+) -> Result<Receipt, TakeFault> {
+    book.take(Worker::FIRST, *command)
+}
+
+// Gives a book the commands of a source, none of which is refused.
+fn play_all<P: Positions<H>, H: Allocator + Drop + Clone>(
+    rt: &impl Abort,
+    source: &mut CsvSource<&[u8]>,
+    book: &mut Book<P, H>,
+) {
+    for _record in 0..100 {
+        let Some(command) = next(source) else {
+            return;
+        };
+        let receipt = take(book, &command).expect(rt, "taken");
+        assert!(rt; !is_refusal(&receipt.reply));
+    }
+}
+
 pub(crate) fn play<P: Positions<H>, H: Allocator + Drop + Clone>(
     rt: &impl Abort,
     global: Global,
     book: &mut Book<P, H>,
     records: &str,
 ) {
-    let mut source = CsvSource::new(global, records.as_bytes());
-    for _record in 0..100 {
-        let Ok(Item::Given(command)) = source.next() else {
-            return;
-        };
-        let Ok(receipt) = book.take(Worker::FIRST, command) else {
-            panic!(rt; "not taken");
-        };
-        assert!(rt; !is_refusal(&receipt.reply), "{records}");
-    }
+    play_all(rt, &mut CsvSource::new(global, records.as_bytes()), book);
 }
 
 // The command of a record.
 fn command(rt: &impl Abort, global: Global, record: &str) -> Command {
-    let Ok(Item::Given(command)) = CsvSource::new(global, record.as_bytes()).next() else {
-        panic!(rt; "no command: {record}");
-    };
-    command
+    let command = next(&mut CsvSource::new(global, record.as_bytes()));
+    command.expect(rt, "a command")
 }
 
-// The book in which a command is given. Its history has so many questions more.
+// Has a book take the records before a command, and so many questions more.
+fn prepare<P: Positions<H>, H: Allocator + Drop + Clone>(
+    rt: &impl Abort,
+    global: Global,
+    book: &mut Book<P, H>,
+    before: &[&str],
+    questions: u32,
+) {
+    for records in before {
+        play(rt, global, book, records);
+    }
+    let question = &command(rt, global, "POSITION,0,037833100\n");
+    for _question in 0..questions {
+        take(book, question).expect(rt, "taken");
+    }
+}
+
+// The book in which a command is given.
 fn prepared<'a, P: Positions<H>, H: Handle<'a>>(
     rt: &impl Abort,
     global: Global,
@@ -76,120 +106,132 @@ fn prepared<'a, P: Positions<H>, H: Handle<'a>>(
     questions: u32,
 ) -> Book<P, H> {
     let mut book: Book<P, H> = opened(rt, H::over(rationed));
-    for records in before {
-        play(rt, global, &mut book, records);
-    }
-    let question = &command(rt, global, "POSITION,0,037833100\n");
-    for _question in 0..questions {
-        let Ok(_) = book.take(Worker::FIRST, *question) else {
-            panic!(rt; "not asked");
-        };
-    }
+    prepare(rt, global, &mut book, before, questions);
     book
 }
 
 // A command with what it is answered in a book that is given all memory, and the book before and after it.
 #[derive(Drop)]
-struct Untouched<P: Positions<H>, H: Allocator + Drop + Clone> {
-    before: Book<P, H>,
-    after: Book<P, H>,
-    command: Command,
-    receipt: Receipt,
-    // Blocks that the command keeps.
+struct Untouched<'b, P: Positions<H>, H: Allocator + Drop + Clone> {
+    before: &'b Book<P, H>,
+    after: &'b Book<P, H>,
+    command: &'b Command,
+    receipt: &'b Receipt,
+    // Blocks that the command keeps, and those that a refused growth may leave.
     kept: u64,
+    left: u64,
 }
 
-fn untouched_by<'a, P: Positions<H>, H: Handle<'a>>(
-    rt: &impl Abort,
-    global: Global,
-    rationed: Rations<'a>,
-    case: &Case<'_>,
-    questions: u32,
-) -> Untouched<P, H> {
-    let before: Book<P, H> = prepared(rt, global, rationed, case.before, questions);
-    let mut after: Book<P, H> = prepared(rt, global, rationed, case.before, questions);
-    let held = rationed.held();
-    let command = &command(rt, global, case.record);
-    let Ok(receipt) = after.take(Worker::FIRST, *command) else {
-        panic!(rt; "not taken: {}", case.record);
-    };
-    let kept = rationed.held().wrapping_sub(held);
-    Untouched {
-        before,
-        after,
-        command: *command,
-        receipt,
-        kept,
-    }
-}
-
-// Whether two books answer each reading call alike. None of these calls asks for memory.
-fn read_alike<'a, P: Positions<H>, H: Handle<'a>>(
-    rt: &impl Abort,
-    rationed: Rations<'a>,
+// Whether two books answer each reading call alike, and ask for no memory.
+fn read_alike<P: Positions<H>, H: Allocator + Drop + Clone>(
+    rationed: Rations,
     one: &Book<P, H>,
     other: &Book<P, H>,
 ) -> bool {
     rationed.ration(0);
-    let alike = agree(one, other);
-    assert_eq!(rt; rationed.refused(), 0);
+    let alike = agree(one, other) && rationed.refused() == 0;
     rationed.ration(u64::MAX);
     alike
 }
 
 // Gives a book a command with the growth after so many refused; whether one was. The command finds no memory exactly then,
-// and the book answers as before; given once more, the command gets the reply that it would have got at once.
-fn is_refused<'a, P: Positions<H>, H: Handle<'a>>(
-    rt: &impl Abort,
-    rationed: Rations<'a>,
+// and the book answers as before; given once more, the command gets the reply that it would have got at once. None where it
+// is not so.
+fn refuse<P: Positions<H>, H: Allocator + Drop + Clone>(
+    rationed: Rations,
     book: &mut Book<P, H>,
     untouched: &Untouched<P, H>,
-    case: &Case<'_>,
     growths: u64,
-) -> bool {
+) -> Option<bool> {
     let held = rationed.held();
     rationed.ration(growths);
-    let answer = book.take(Worker::FIRST, untouched.command);
+    let mut answer = take(book, untouched.command);
     let is_refused = rationed.refused() > 0;
     rationed.ration(u64::MAX);
-    let record = case.record;
     if is_refused {
-        assert!(rt;
-            answer == Err(TakeFault::NoMemory),
-            "{record}, growth {growths}"
-        );
-        assert!(rt;
-            rationed.held() <= held.saturating_add(case.left),
-            "{record}, growth {growths}"
-        );
-        assert!(rt;
-            read_alike(rt, rationed, book, &untouched.before),
-            "{record}, growth {growths}"
-        );
-        let again = book.take(Worker::FIRST, untouched.command);
-        assert!(rt;
-            again == Ok(untouched.receipt),
-            "{record} again, growth {growths}"
-        );
-    } else {
-        assert!(rt;
-            answer == Ok(untouched.receipt),
-            "{record}, growth {growths}"
-        );
+        if answer != Err(TakeFault::NoMemory)
+            || rationed.held() > held.saturating_add(untouched.left)
+            || !read_alike(rationed, book, untouched.before)
+        {
+            return None;
+        }
+        answer = take(book, untouched.command);
     }
-    assert!(rt;
-        read_alike(rt, rationed, book, &untouched.after),
-        "{record}, growth {growths}"
-    );
-    assert_eq!(rt;
-        rationed.held(),
-        held.wrapping_add(untouched.kept),
-        "{record}, growth {growths}"
-    );
-    is_refused
+    let is_so = answer == Ok(*untouched.receipt)
+        && read_alike(rationed, book, untouched.after)
+        && rationed.held() == held.wrapping_add(untouched.kept);
+    is_so.then_some(is_refused)
 }
 
-// Refuses each growth of a command in turn, until there are no more; how many there are.
+// The same of a new book, which only this function owns: each way out of one that owns a book is long to check.
+fn is_refused<'a, P: Positions<H>, H: Handle<'a>>(
+    rt: &impl Abort,
+    global: Global,
+    rationed: Rations<'a>,
+    case: &Case<'_>,
+    questions: u32,
+    untouched: &Untouched<P, H>,
+    growths: u64,
+) -> Option<bool> {
+    let mut book: Book<P, H> = prepared(rt, global, rationed, case.before, questions);
+    refuse(rationed, &mut book, untouched, growths)
+}
+
+// Refuses each growth of a command in turn, until there are no more; how many there are. One book has the command before it,
+// and one is to have it.
+fn count_growths<'a, P: Positions<H>, H: Handle<'a>>(
+    rt: &impl Abort,
+    global: Global,
+    rationed: Rations<'a>,
+    case: &Case<'_>,
+    questions: u32,
+    before: &Book<P, H>,
+    after: &mut Book<P, H>,
+) -> u64 {
+    let held = rationed.held();
+    let command = &command(rt, global, case.record);
+    let receipt = &take(after, command).expect(rt, "taken");
+    assert!(rt;
+        is_refusal(&receipt.reply) == case.is_refused,
+        "{}",
+        case.record
+    );
+    let all = rationed.held();
+    let untouched = &Untouched {
+        before,
+        after,
+        command,
+        receipt,
+        kept: all.wrapping_sub(held),
+        left: case.left,
+    };
+    for growths in 0..MOST {
+        let is_refused = is_refused(rt, global, rationed, case, questions, untouched, growths);
+        assert!(rt;
+            is_refused.is_some() && rationed.held() == all,
+            "{}, growth {growths}",
+            case.record
+        );
+        if is_refused == Some(false) {
+            return growths;
+        }
+    }
+    panic!(rt; "no end of growths: {}", case.record);
+}
+
+// The same beside the book before it.
+fn count_beside<'a, P: Positions<H>, H: Handle<'a>>(
+    rt: &impl Abort,
+    global: Global,
+    rationed: Rations<'a>,
+    case: &Case<'_>,
+    questions: u32,
+    before: &Book<P, H>,
+) -> u64 {
+    let mut after: Book<P, H> = prepared(rt, global, rationed, case.before, questions);
+    count_growths(rt, global, rationed, case, questions, before, &mut after)
+}
+
 fn growths_of<'a, P: Positions<H>, H: Handle<'a>>(
     rt: &impl Abort,
     global: Global,
@@ -197,18 +239,8 @@ fn growths_of<'a, P: Positions<H>, H: Handle<'a>>(
     case: &Case<'_>,
     questions: u32,
 ) -> u64 {
-    let untouched: Untouched<P, H> = untouched_by(rt, global, rationed, case, questions);
-    let held = rationed.held();
-    for growths in 0..MOST {
-        let mut book: Book<P, H> = prepared(rt, global, rationed, case.before, questions);
-        let is_refused = is_refused(rt, rationed, &mut book, &untouched, case, growths);
-        drop(book);
-        assert_eq!(rt; rationed.held(), held, "{}", case.record);
-        if !is_refused {
-            return growths;
-        }
-    }
-    panic!(rt; "no end of growths: {}", case.record);
+    let before: Book<P, H> = prepared(rt, global, rationed, case.before, questions);
+    count_beside(rt, global, rationed, case, questions, &before)
 }
 
 // The fewest and the most growths of a command: one more where the history is full, as it is at one of nine fills.
@@ -231,36 +263,31 @@ fn span_of_growths<'a, P: Positions<H>, H: Handle<'a>>(
     (fewest, most)
 }
 
-// Whether a command is refused by the rules.
-fn is_against_rules<'a, P: Positions<H>, H: Handle<'a>>(
+// Where a command has no growths of its own, it has none but the history's.
+fn check_case<'a, P: Positions<H>, H: Handle<'a>>(
     rt: &impl Abort,
     global: Global,
     rationed: Rations<'a>,
     case: &Case<'_>,
-) -> bool {
-    let untouched: Untouched<P, H> = untouched_by(rt, global, rationed, case, 0);
-    is_refusal(&untouched.receipt.reply)
+) {
+    let (fewest, most) = span_of_growths::<P, H>(rt, global, rationed, case);
+    let is_so = fewest >= case.growths && (case.growths > 0 || fewest == 0);
+    let is_one_more = most == fewest.saturating_add(1) && rationed.held() == 0;
+    assert!(rt; is_so && is_one_more, "{}: {fewest} to {most}", case.record);
 }
 
 #[test]
 fn each_growth_of_each_command_is_refused_in_turn(rt: HostRuntime) {
     let rationed = Rationed::new(rt.alloc());
-    for case in &ACCEPTED {
-        let record = case.record;
-        assert!(rt;
-            !is_against_rules::<Tree<Refusing>, Refusing>(&rt, rt.alloc(), &rationed, case),
-            "{record}"
-        );
-        let (fewest, most) = span_of_growths::<Tree<Refusing>, Refusing>(
-            &rt,
-            rt.alloc(),
-            &rationed,
-            case,
-        );
-        assert!(rt; fewest >= case.growths, "{record}: {fewest}");
-        assert!(rt; case.growths > 0 || fewest == 0, "{record}: {fewest}");
-        assert_eq!(rt; most, fewest.saturating_add(1), "{record}");
-        assert_eq!(rt; rationed.held(), 0, "{record}");
+    for (before, record, growths, left) in &ACCEPTED {
+        let case = &Case {
+            before: *before,
+            record: *record,
+            is_refused: false,
+            growths: *growths,
+            left: *left,
+        };
+        check_case::<Tree<Refusing>, Refusing>(&rt, rt.alloc(), &rationed, case);
     }
 }
 
@@ -268,32 +295,30 @@ fn each_growth_of_each_command_is_refused_in_turn(rt: HostRuntime) {
 fn a_command_that_breaks_a_rule_asks_for_room_in_the_history_alone(rt: HostRuntime) {
     let rationed = Rationed::new(rt.alloc());
     for (before, record) in &REFUSED {
-        let case = Case {
+        let case = &Case {
             before: *before,
             record: *record,
+            is_refused: true,
             growths: 0,
             left: 0,
         };
-        assert!(rt;
-            is_against_rules::<Tree<Refusing>, Refusing>(&rt, rt.alloc(), &rationed, &case),
-            "{record}"
-        );
-        let span = span_of_growths::<Tree<Refusing>, Refusing>(&rt, rt.alloc(), &rationed, &case);
-        assert_eq!(rt; span, (0, 1), "{record}");
+        check_case::<Tree<Refusing>, Refusing>(&rt, rt.alloc(), &rationed, case);
     }
 }
 
 // The one growth more is that of the list of what is due.
+fn check_unpaid<'a, P: Positions<H>, H: Handle<'a>>(
+    rt: &impl Abort,
+    global: Global,
+    rationed: Rations<'a>,
+) {
+    let due = growths_of::<P, H>(rt, global, rationed, &UNPAID_DUE, 0);
+    let later = growths_of::<P, H>(rt, global, rationed, &UNPAID_LATER, 0);
+    assert!(rt; due <= later.saturating_add(1), "{due} and {later}");
+}
+
 #[test]
 fn a_dividend_that_nobody_is_paid_takes_no_memory_but_for_its_place_on_a_list(rt: HostRuntime) {
     let rationed = Rationed::new(rt.alloc());
-    let due = growths_of::<Tree<Refusing>, Refusing>(&rt, rt.alloc(), &rationed, &UNPAID_DUE, 0);
-    let later = growths_of::<Tree<Refusing>, Refusing>(
-        &rt,
-        rt.alloc(),
-        &rationed,
-        &UNPAID_LATER,
-        0,
-    );
-    assert!(rt; due <= later.saturating_add(1), "{due} and {later}");
+    check_unpaid::<Tree<Refusing>, Refusing>(&rt, rt.alloc(), &rationed);
 }

@@ -49,20 +49,6 @@ impl<H: Allocator + Drop + Clone> Call<H> for List<H> {
     fn make(&mut self, rt: &impl Abort) -> bool {
         list_one(rt, &mut self.prices, self.listed).is_ok()
     }
-
-    fn stands(&self, rt: &impl Abort, made: bool) -> bool {
-        for number in 0..self.listed {
-            let price = price(rt, u64::from(number) + 1);
-            if self.prices.price(issue(rt, number)) != Some(price) {
-                return false;
-            }
-        }
-        self.prices.price(issue(rt, self.listed)).is_some() == made
-    }
-
-    fn left() -> u64 {
-        0
-    }
 }
 
 // References far from one another, of which one more is used.
@@ -91,19 +77,6 @@ impl<H: Allocator + Drop + Clone> Call<H> for NoteReference<H> {
             .note_reference(reference(self.used.saturating_add(1)))
             .is_ok()
     }
-
-    fn stands(&self, _rt: &impl Abort, made: bool) -> bool {
-        for number in 1..=self.used {
-            if !self.trades.seen(reference(number)) {
-                return false;
-            }
-        }
-        self.trades.seen(reference(self.used.saturating_add(1))) == made
-    }
-
-    fn left() -> u64 {
-        0
-    }
 }
 
 // Pending trades, of which one more is taken. Each has other parties, and their references are far from one another.
@@ -126,18 +99,6 @@ pub(crate) fn trade(rt: &impl Abort, number: u16) -> Trade {
     }
 }
 
-// Whether the trades are those with the numbers from 1 on.
-fn same_trades(rt: &impl Abort, pending: &[Pend]) -> bool {
-    let mut number = 0u16;
-    for pend in pending {
-        number = number.saturating_add(1);
-        if *pend != Pend::of(&trade(rt, number)) {
-            return false;
-        }
-    }
-    true
-}
-
 impl<H: Allocator + Drop + Clone> Call<H> for PendTrade<H> {
     fn prepared(rt: &impl Abort, _global: Global, alloc: H, size: u16) -> Self {
         let mut trades = Trades::new(alloc).expect(rt, "memory");
@@ -154,19 +115,6 @@ impl<H: Allocator + Drop + Clone> Call<H> for PendTrade<H> {
         self.trades
             .pend(&trade(rt, self.waiting.saturating_add(1)))
             .is_ok()
-    }
-
-    fn stands(&self, rt: &impl Abort, made: bool) -> bool {
-        let pending = self.trades.pending();
-        let taken = usize::from(self.waiting) + usize::from(made);
-        pending.len() == taken
-            && same_trades(rt, pending)
-            && self.trades.seen(reference(self.waiting.saturating_add(1))) == made
-    }
-
-    // Rows of zeros in the sums of both parties.
-    fn left() -> u64 {
-        2
     }
 }
 
@@ -204,21 +152,6 @@ impl<H: Allocator + Drop + Clone> Call<H> for Declare<H> {
 
     fn make(&mut self, rt: &impl Abort) -> bool {
         declare_one(rt, &mut self.dividends, self.declared.saturating_add(1)).is_ok()
-    }
-
-    fn stands(&self, rt: &impl Abort, made: bool) -> bool {
-        let mut millionths = 0u16;
-        for due in self.dividends.due(None, day(rt, "2024-06-06")) {
-            millionths = millionths.saturating_add(1);
-            if due.rate != rate(rt, u64::from(millionths)) {
-                return false;
-            }
-        }
-        millionths == self.declared.saturating_add(u16::from(made))
-    }
-
-    fn left() -> u64 {
-        0
     }
 }
 
@@ -264,11 +197,6 @@ fn give<A: Allocator + Drop + Clone>(
     notices.open(member, cusip, shares, 1)
 }
 
-// Whether a member has a notice.
-fn is_live<A: Allocator + Drop>(rt: &impl Abort, notices: &Notices<A>, number: u16) -> bool {
-    notices.live_of(member(rt, number), issue(rt, 0)) == Some(u32::from(number))
-}
-
 impl<H: Allocator + Drop + Clone> Call<H> for Open<H> {
     fn prepared(rt: &impl Abort, _global: Global, alloc: H, size: u16) -> Self {
         let mut notices = Notices::new(alloc);
@@ -283,20 +211,5 @@ impl<H: Allocator + Drop + Clone> Call<H> for Open<H> {
 
     fn make(&mut self, rt: &impl Abort) -> bool {
         give(rt, &mut self.notices, self.given.saturating_add(1)).is_ok()
-    }
-
-    fn stands(&self, rt: &impl Abort, made: bool) -> bool {
-        for number in 1..=self.given {
-            if !is_live(rt, &self.notices, number) {
-                return false;
-            }
-        }
-        let count = u32::from(self.given) + u32::from(made);
-        self.notices.len() == count
-            && is_live(rt, &self.notices, self.given.saturating_add(1)) == made
-    }
-
-    fn left() -> u64 {
-        0
     }
 }

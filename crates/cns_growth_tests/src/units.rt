@@ -17,23 +17,17 @@ pub(crate) fn issue(rt: &impl Abort, number: u16) -> Cusip {
             return issue;
         }
     }
-    panic!(rt; "no issue {number}");
+    panic!(rt; "no issue");
 }
 
 pub(crate) fn member(rt: &impl Abort, number: u16) -> Member {
-    let Ok(member) = Member::new(number) else {
-        panic!(rt; "no member {number}");
-    };
-    member
+    Member::new(number).expect(rt, "a member")
 }
 
 // A key of one issue.
 pub(crate) fn key(rt: &impl Abort, number: u16) -> Key {
-    let Ok(account) = Account::new(number) else {
-        panic!(rt; "no account {number}");
-    };
     Key {
-        account,
+        account: Account::new(number).expect(rt, "an account"),
         issue: issue(rt, 0),
     }
 }
@@ -47,22 +41,13 @@ pub(crate) fn holding(now: u16) -> Holding {
 }
 
 pub(crate) fn day(rt: &impl Abort, text: &str) -> Day {
-    let Ok(day) = Day::parse(text.as_bytes()) else {
-        panic!(rt; "no day: {text}");
-    };
-    day
+    Day::parse(text.as_bytes()).expect(rt, "a day")
 }
 
 pub(crate) fn price(rt: &impl Abort, cents: u64) -> Price {
-    let Ok(price) = Price::new(cents) else {
-        panic!(rt; "no price of {cents}");
-    };
-    price
+    Price::new(cents).expect(rt, "a price")
 }
 
 pub(crate) fn rate(rt: &impl Abort, millionths: u64) -> Rate {
-    let Ok(rate) = Rate::new(millionths) else {
-        panic!(rt; "no rate of {millionths}");
-    };
-    rate
+    Rate::new(millionths).expect(rt, "a rate")
 }

@@ -32,120 +32,73 @@ TRADE,12,1,2,17275R102,1000000000,0,2024-06-03\n";
 pub(super) struct Case<'c> {
     pub(super) before: &'c [&'c str],
     pub(super) record: &'c str,
+    // Whether a rule refuses it there.
+    pub(super) is_refused: bool,
     // It makes at least so many growths beside that of the history; where this is 0, none.
     pub(super) growths: u64,
     // Blocks that a refused growth may leave behind: rows of zeros, and room for what comes next.
     pub(super) left: u64,
 }
 
-pub(super) const ACCEPTED: [Case<'static>; 17] = [
-    Case {
-        before: &[MEMBERS],
-        record: "MEMBER,9999\n",
-        growths: 1,
-        left: 0,
-    },
-    Case {
-        before: &["MEMBER,1\n"],
-        record: "ISSUE,037833100,19500\n",
-        growths: 1,
-        left: 0,
-    },
+// The records of a book, a command that is accepted there, its growths, and the blocks that a refused one may leave.
+pub(super) const ACCEPTED: [(&[&str], &str, u64, u64); 17] = [
+    (&[MEMBERS], "MEMBER,9999\n", 1, 0),
+    (&["MEMBER,1\n"], "ISSUE,037833100,19500\n", 1, 0),
     // Neither member has a row, and no trade used a reference near this one.
-    Case {
-        before: &[MEMBERS],
-        record: "TRADE,1000,1,2,037833100,60,1170000,2024-06-03\n",
-        growths: 3,
-        left: 2,
-    },
+    (
+        &[MEMBERS],
+        "TRADE,1000,1,2,037833100,60,1170000,2024-06-03\n",
+        3,
+        2,
+    ),
     // It is to wait, and none does yet. Room for it may stay: on the list, and in the sums of both parties.
-    Case {
-        before: &[MEMBERS],
-        record: "TRADE,1000,1,2,037833100,60,1170000,2024-06-05\n",
-        growths: 3,
-        left: 2,
-    },
-    Case {
-        before: &[MEMBERS],
-        record: "PRICE,037833100,19600\n",
-        growths: 0,
-        left: 0,
-    },
-    Case {
-        before: &[MEMBERS, TRADED],
-        record: "DELIVER,2,037833100,60\n",
-        growths: 1,
-        left: 0,
-    },
-    Case {
-        before: &[MEMBERS, TRADED, DELIVERED, NOTICED],
-        record: "RECEIVE,1,037833100,40\n",
-        growths: 0,
-        left: 0,
-    },
-    Case {
-        before: &[MEMBERS, TRADED],
-        record: "DIVIDEND,037833100,2024-06-04,2024-06-06,405000\n",
-        growths: 1,
-        left: 0,
-    },
-    Case {
-        before: &[MEMBERS, TRADED],
-        record: "SPLIT,037833100,3,2,3101\n",
-        growths: 3,
-        left: 1,
-    },
-    Case {
-        before: &[MEMBERS, TRADED],
-        record: "EXCHANGE,037833100,17275R102,1,6,18300,50\n",
-        growths: 6,
-        left: 5,
-    },
-    Case {
-        before: &[MEMBERS, TRADED],
-        record: "NOTICE,1,037833100,80\n",
-        growths: 2,
-        left: 1,
-    },
-    Case {
-        before: &[MEMBERS, TRADED, NOTICED],
-        record: "WITHDRAW,1\n",
-        growths: 0,
-        left: 0,
-    },
+    (
+        &[MEMBERS],
+        "TRADE,1000,1,2,037833100,60,1170000,2024-06-05\n",
+        3,
+        2,
+    ),
+    (&[MEMBERS], "PRICE,037833100,19600\n", 0, 0),
+    (&[MEMBERS, TRADED], "DELIVER,2,037833100,60\n", 1, 0),
+    (
+        &[MEMBERS, TRADED, DELIVERED, NOTICED],
+        "RECEIVE,1,037833100,40\n",
+        0,
+        0,
+    ),
+    (
+        &[MEMBERS, TRADED],
+        "DIVIDEND,037833100,2024-06-04,2024-06-06,405000\n",
+        1,
+        0,
+    ),
+    (&[MEMBERS, TRADED], "SPLIT,037833100,3,2,3101\n", 3, 1),
+    (
+        &[MEMBERS, TRADED],
+        "EXCHANGE,037833100,17275R102,1,6,18300,50\n",
+        6,
+        5,
+    ),
+    (&[MEMBERS, TRADED], "NOTICE,1,037833100,80\n", 2, 1),
+    (&[MEMBERS, TRADED, NOTICED], "WITHDRAW,1\n", 0, 0),
     // Two members are filled.
-    Case {
-        before: &[MEMBERS, TRADED, NOTICED, TWO_CLOSES],
-        record: "EXECUTE,1,80,160001\n",
-        growths: 1,
-        left: 0,
-    },
+    (
+        &[MEMBERS, TRADED, NOTICED, TWO_CLOSES],
+        "EXECUTE,1,80,160001\n",
+        1,
+        0,
+    ),
     // A dividend is due, a notice is called, and two members are short.
-    Case {
-        before: &[MEMBERS, TRADED, DUE],
-        record: "CLOSE,2024-06-06\n",
-        growths: 8,
-        left: 1,
-    },
+    (&[MEMBERS, TRADED, DUE], "CLOSE,2024-06-06\n", 8, 1),
     // Two trades are due, at three keys.
-    Case {
-        before: &[MEMBERS, TRADED, AHEAD],
-        record: "CLOSE,2024-06-05\n",
-        growths: 8,
-        left: 1,
-    },
-    Case {
-        before: &[MEMBERS, TRADED],
-        record: "POSITION,1,037833100\n",
-        growths: 0,
-        left: 0,
-    },
-    Case {
-        before: &[MEMBERS, TRADED, TWO_CLOSES],
-        record: "STATEMENT,1,2024-06-03\n",
-        growths: 0,
-        left: 0,
-    },
+    (&[MEMBERS, TRADED, AHEAD], "CLOSE,2024-06-05\n", 8, 1),
+    (&[MEMBERS, TRADED], "POSITION,1,037833100\n", 0, 0),
+    (
+        &[MEMBERS, TRADED, TWO_CLOSES],
+        "STATEMENT,1,2024-06-03\n",
+        0,
+        0,
+    ),
 ];
 
 // A dividend of an issue that nobody holds is due at a close, or later.
@@ -155,6 +108,7 @@ pub(super) const UNPAID_DUE: Case<'static> = Case {
         "DIVIDEND,037833100,2024-06-03,2024-06-04,240000\nCLOSE,2024-06-04\n",
     ],
     record: "CLOSE,2024-06-05\n",
+    is_refused: false,
     growths: 0,
     left: 0,
 };
@@ -165,6 +119,7 @@ pub(super) const UNPAID_LATER: Case<'static> = Case {
         "DIVIDEND,037833100,2024-06-03,2024-06-20,240000\nCLOSE,2024-06-04\n",
     ],
     record: "CLOSE,2024-06-05\n",
+    is_refused: false,
     growths: 0,
     left: 0,
 };
