@@ -1,4 +1,4 @@
-// Readers and writers that fail, and what a line comes to.
+// Readers and writers that fail, and what is told over them.
 use cns_program::program;
 use std::io;
 use std::io::{Error, ErrorKind, Read, Write};
@@ -30,8 +30,8 @@ impl Read for Part<'_> {
 #[derive(Drop)]
 pub(crate) struct Stuck {
     pub(crate) taken: Vec<u8>,
-    pub(crate) room: usize,
-    pub(crate) flushes: usize,
+    room: usize,
+    flushes: usize,
     // How many bytes were flushed.
     flushed: usize,
     has_failed: bool,
@@ -88,21 +88,21 @@ impl Write for Stuck {
     }
 }
 
-// What a line came to: its status, and what went to the two writers.
-#[derive(Drop)]
-pub(crate) struct Told {
+// What is to be told: a status, and what goes to the output and to the errors.
+#[derive(Clone, Copy)]
+pub(crate) struct Told<'a> {
     pub(crate) status: u8,
-    pub(crate) output: Vec<u8>,
-    pub(crate) errors: Vec<u8>,
-    // How many bytes of the output were flushed.
-    pub(crate) flushed: usize,
+    pub(crate) output: &'a [u8],
+    pub(crate) errors: &'a str,
 }
 
-impl Told {
-    pub(crate) fn is(&self, status: u8, output: &str, errors: &str) -> bool {
-        self.status == status
-            && self.output.as_slice() == output.as_bytes()
-            && self.errors.as_slice() == errors.as_bytes()
+impl Told<'_> {
+    // Whether this was told, and the writer left alone once it had failed.
+    pub(crate) fn is(&self, status: u8, output: &Stuck, errors: &[u8]) -> bool {
+        status == self.status
+            && output.taken.as_slice() == self.output
+            && errors == self.errors.as_bytes()
+            && output.is_left_alone
     }
 }
 
@@ -115,20 +115,16 @@ fn status_of<
     program(rt, words, input, output, errors)
 }
 
-// Runs a line over an input and a writer of its own, and whether that was left alone once it had failed.
-pub(crate) fn tell_into<
+// Whether a line over an input, and a writer with so much room that can be flushed so many times, tells this. How many bytes
+// of the output are flushed then.
+pub(crate) fn flushed<
     F: Read + Send + Drop,
     R: AllocGlobal + Files<File = F> + Threads + Wait + Sync,
     I: Read + Drop,
->(rt: &R, words: &[&str], input: I, mut output: Stuck) -> (Told, bool) {
+>(rt: &R, words: &[&str], input: I, room: usize, flushes: usize, told: &Told) -> Option<usize> {
+    let mut output = Stuck::new(Vec::new(rt.alloc()), room, flushes);
     let mut errors = Vec::new(rt.alloc());
     let status = status_of(rt, words, input, &mut output, &mut errors);
-    let is_left_alone = output.is_left_alone;
-    let told = Told {
-        status,
-        flushed: output.flushed,
-        output: output.taken,
-        errors,
-    };
-    (told, is_left_alone)
+    told.is(status, &output, errors.as_slice())
+        .then_some(output.flushed)
 }

@@ -1,131 +1,103 @@
 // What is told of a run: its tally, and the workers that ended early.
 use crate::ends::{Part, Stuck, Told};
-use cns_desk::{Outcome, run_workers};
+use cns_desk::run_workers;
 use cns_feed::CsvSource;
 use cns_program::write_outcome;
 use cns_terms::NoGate;
 use cns_units::Day;
 use std::alloc::Global;
+use std::process::Abort;
 use std::sync::Wait;
-use std::test::Fail;
 use std::thread::Threads;
 
-// Runs a worker for each text. Those of the second list fail after their bytes.
-fn run<R: Threads + Wait + Sync>(
-    rt: &R,
+// The records of a worker, and whether its reader fails after them.
+type Records<'a> = (&'a str, bool);
+
+// A source for each worker.
+fn sources<'a>(
+    rt: &impl Abort,
     alloc: Global,
-    whole: &[&str],
-    failing: &[&str],
-) -> Result<Outcome, Fail> {
-    let Ok(opening) = Day::parse(b"2024-06-03") else {
-        return Err(Fail::new("no date"));
-    };
+    workers: &[Records<'a>],
+) -> Vec<CsvSource<Part<'a>>> {
     let mut sources = Vec::new(alloc);
-    for (texts, fails) in [(whole, false), (failing, true)] {
-        for text in texts {
-            let bytes = text.as_bytes();
-            sources.push(CsvSource::new(alloc, Part { bytes, fails }))?;
-        }
+    for (text, fails) in workers {
+        let bytes = text.as_bytes();
+        let fails = *fails;
+        sources
+            .push(CsvSource::new(alloc, Part { bytes, fails }))
+            .expect(rt, "memory");
     }
-    match run_workers(rt, alloc, opening, sources, &NoGate) {
-        Ok(outcome) => Ok(outcome),
-        Err(_) => Err(Fail::new("no outcome")),
-    }
+    sources
 }
 
-// The status of such a run, and what is told of it. No other function here has an outcome, which makes each way out of one
-// long to check.
-fn tell<R: Threads + Wait + Sync>(
+// The status of a run, after what is told of it; none where it has no outcome.
+fn status_of<R: Threads + Wait + Sync>(
     rt: &R,
     alloc: Global,
-    whole: &[&str],
-    failing: &[&str],
+    date: Day,
+    sources: Vec<CsvSource<Part<'_>>>,
     output: &mut Stuck,
     errors: &mut Vec<u8>,
-) -> Result<u8, Fail> {
-    let outcome = run(rt, alloc, whole, failing)?;
-    Ok(write_outcome(&outcome, output, errors))
+) -> Option<u8> {
+    match run_workers(rt, alloc, date, sources, &NoGate) {
+        Ok(outcome) => Some(write_outcome(&outcome, output, errors)),
+        Err(_) => None,
+    }
 }
 
-// What is told of such a run, and whether the writer was left alone once it had failed.
-fn told_into<R: Threads + Wait + Sync>(
+// Whether a run tells this over a writer with so much room that can be flushed so many times.
+fn is_told<R: Abort + Threads + Wait + Sync>(
     rt: &R,
     alloc: Global,
-    whole: &[&str],
-    failing: &[&str],
-    mut output: Stuck,
-) -> Result<(Told, bool), Fail> {
-    let mut errors = Vec::new(alloc);
-    let status = tell(rt, alloc, whole, failing, &mut output, &mut errors)?;
-    let is_left_alone = output.is_left_alone;
-    let told = Told {
-        status,
-        output: output.taken,
-        errors,
-        flushed: 0,
-    };
-    Ok((told, is_left_alone))
-}
-
-// The same where the writer takes everything.
-fn told<R: Threads + Wait + Sync>(
-    rt: &R,
-    alloc: Global,
-    whole: &[&str],
-    failing: &[&str],
-) -> Result<Told, Fail> {
-    let output = Stuck::new(Vec::new(alloc), usize::MAX, usize::MAX);
-    let (told, _) = told_into(rt, alloc, whole, failing, output)?;
-    Ok(told)
-}
-
-// The same of a worker that came to its end and one that did not, over a writer that has room for so many bytes and can
-// be flushed so many times.
-fn told_short<R: Threads + Wait + Sync>(
-    rt: &R,
-    alloc: Global,
+    workers: &[Records],
     room: usize,
     flushes: usize,
-) -> Result<(Told, bool), Fail> {
-    let output = Stuck::new(Vec::new(alloc), room, flushes);
-    told_into(rt, alloc, &["MEMBER,101\n"], &[""], output)
+    told: &Told,
+) -> bool {
+    let date = Day::parse(b"2024-06-03").expect(rt, "a date");
+    let sources = sources(rt, alloc, workers);
+    let mut output = Stuck::new(Vec::new(alloc), room, flushes);
+    let mut errors = Vec::new(alloc);
+    match status_of(rt, alloc, date, sources, &mut output, &mut errors) {
+        Some(status) => told.is(status, &output, errors.as_slice()),
+        None => false,
+    }
 }
 
-const EARLY: &str =
+const EARLY: [Records<'static>; 3] = [
+    ("MEMBER,303\n", false),
+    ("MEMBER,101\nMEMBER,x\nMEMBER,202\n", true),
+    ("", true),
+];
+
+const EARLY_TALLY: &str =
     "{\"closes\":0,\"commands\":3,\"counts\":[1,2,0],\"dividends\":\"0.00\",\"lines\":1,\"marks\":\"0.00\"}\n";
 
 #[test]
-fn workers_that_ended_early_are_told_after_the_tally(rt: HostRuntime) -> Result<(), Fail> {
-    let failing = ["MEMBER,101\nMEMBER,x\nMEMBER,202\n", ""];
-    let told = told(&rt, rt.alloc(), &["MEMBER,303\n"], &failing)?;
-    assert!(rt; told.is(1, EARLY, "worker 2 Read\nworker 3 Read\n"));
-    Ok(())
+fn workers_that_ended_early_are_told_after_the_tally(rt: HostRuntime) {
+    let told = Told {
+        status: 1,
+        output: EARLY_TALLY.as_bytes(),
+        errors: "worker 2 Read\nworker 3 Read\n",
+    };
+    assert!(&rt; is_told(&rt, rt.alloc(), &EARLY, usize::MAX, usize::MAX, &told));
 }
+
+const TWO: [Records<'static>; 2] = [("MEMBER,101\n", false), ("", true)];
+
+const TALLY: &str =
+    "{\"closes\":0,\"commands\":1,\"counts\":[1,0],\"dividends\":\"0.00\",\"lines\":0,\"marks\":\"0.00\"}\n";
 
 // Whatever number of bytes the writer takes, what it took is a front of the tally, and its fault is the only line,
-// though a worker ended early.
+// though a worker ended early. With room for all of them it fails at the flush.
 #[test]
-fn a_tally_that_cannot_be_written_is_the_only_fault(rt: HostRuntime) -> Result<(), Fail> {
-    let tally = told(&rt, rt.alloc(), &["MEMBER,101\n"], &[""])?.output;
-    for room in 0..tally.len() {
-        let (told, is_left_alone) = told_short(&rt, rt.alloc(), room, usize::MAX)?;
-        assert!(rt; is_left_alone, "{room}");
-        assert_eq!(rt; told.status, 1, "{room}");
-        assert_eq!(rt; told.output.as_slice(), &tally[..room], "{room}");
-        assert_eq!(rt;
-            told.errors.as_slice(),
-            b"fault Write\n".as_slice(),
-            "{room}"
-        );
+fn a_tally_that_cannot_be_written_or_flushed_is_the_only_fault(rt: HostRuntime) {
+    for room in 0..=TALLY.len() {
+        let told = Told {
+            status: 1,
+            output: &TALLY.as_bytes()[..room],
+            errors: "fault Write\n",
+        };
+        assert!(&rt; is_told(&rt, rt.alloc(), &TWO, room, 0, &told), "{room}");
     }
-    Ok(())
-}
-
-#[test]
-fn a_tally_that_cannot_be_flushed_is_a_fault_of_writing(rt: HostRuntime) -> Result<(), Fail> {
-    let (told, is_left_alone) = told_short(&rt, rt.alloc(), usize::MAX, 0)?;
-    assert!(rt; is_left_alone);
-    assert_eq!(rt; told.status, 1);
-    assert_eq!(rt; told.errors.as_slice(), b"fault Write\n".as_slice());
-    Ok(())
 }
