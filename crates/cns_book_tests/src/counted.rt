@@ -1,7 +1,8 @@
 // What a book over the tree tells where look-ups are counted.
-use crate::script::{TreeBook, book_of};
-use cns_terms::{Holding, Key, Probe};
+use crate::script::{TreeBook, new_book, read};
+use cns_terms::{Key, Probe};
 use cns_units::{Account, Cusip};
+use std::alloc::Global;
 use std::process::Abort;
 
 const CISCO: &str = "17275R102";
@@ -17,41 +18,37 @@ fn rows(book: &TreeBook) -> usize {
     book.position_rows()
 }
 
-fn plain(book: &TreeBook, key: &Key) -> Option<Holding> {
-    book.position(key.account, key.issue)
-}
-
-// The same counted, and how many comparisons it took.
-fn counted(book: &TreeBook, key: &Key) -> (Option<Holding>, u64) {
-    let mut probe = Probe::new(*key);
-    let found = book.position_counted(key.account, key.issue, &mut probe);
-    (found, probe.count())
-}
-
-// Whether a counted look-up answers as the plain one, after so many comparisons at most.
-fn is_counted(rt: &impl Abort, book: &TreeBook, number: u16, issue: &str, most: u64) -> bool {
-    let key = &Key {
-        account: Account::new(number).expect(rt, "an account"),
-        issue: Cusip::parse(issue.as_bytes()).expect(rt, "an issue"),
-    };
-    let (found, comparisons) = counted(book, key);
-    found == plain(book, key) && comparisons <= most
+// How many comparisons a look-up takes.
+fn comparisons(rt: &impl Abort, book: &TreeBook, number: u16, issue: &str) -> u64 {
+    let account = Account::new(number).expect(rt, "an account");
+    let issue = Cusip::parse(issue.as_bytes()).expect(rt, "an issue");
+    let mut probe = Probe::new(Key { account, issue });
+    let _ = book.position_counted(account, issue, &mut probe);
+    probe.count()
 }
 
 // The corporation, the members of the buy-in, and an account that is nobody's.
 const ACCOUNTS: [u16; 7] = [0, 1, 2, 3, 4, 5, 6];
 
-// Looks at these accounts, and at an issue that is not listed.
-fn check_positions(rt: &impl Abort, book: &TreeBook) {
-    assert!(rt; rows(book) == 5);
+// Whether look-ups in five rows take few comparisons, and none for an issue that is not listed.
+fn are_few(rt: &impl Abort, book: &TreeBook) -> bool {
     for number in &ACCOUNTS {
-        assert!(rt; is_counted(rt, book, *number, CISCO, 6));
+        if comparisons(rt, book, *number, CISCO) > 6 {
+            return false;
+        }
     }
-    assert!(rt; is_counted(rt, book, 1, "037833100", 0));
+    rows(book) == 5 && comparisons(rt, book, 1, "037833100") == 0
+}
+
+fn are_counted(rt: &impl Abort, alloc: Global) -> bool {
+    let mut book = new_book(rt, alloc);
+    read(rt, alloc, &mut book, BUY_IN);
+    are_few(rt, &book)
 }
 
 #[test]
-fn a_counted_position_is_the_position(rt: HostRuntime) {
-    let book = book_of(&rt, rt.alloc(), BUY_IN);
-    check_positions(&rt, &book);
+fn a_counted_position_takes_few_comparisons_and_none_in_an_issue_that_is_not_listed(
+    rt: HostRuntime,
+) {
+    assert!(rt; are_counted(&rt, rt.alloc()));
 }

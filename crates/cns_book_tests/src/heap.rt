@@ -41,13 +41,10 @@ fn show<P: Positions<A>, A: Allocator + Drop + Clone>(
 fn has_memory<P: Positions<A>, A: Allocator + Drop + Clone>(
     rt: &impl Abort,
     book: &mut Book<P, A>,
-    trade: Trade,
+    trade: &Trade,
 ) -> bool {
-    match book.take(Worker::FIRST, Command::Activity(Activity::Trade(trade))) {
-        Ok(receipt) => {
-            assert!(rt; receipt.reply == Reply::Accepted);
-            true
-        }
+    match book.take(Worker::FIRST, Command::Activity(Activity::Trade(*trade))) {
+        Ok(receipt) => receipt.reply == Reply::Accepted,
         Err(fault) => {
             assert!(rt; fault == TakeFault::NoMemory);
             false
@@ -55,28 +52,29 @@ fn has_memory<P: Positions<A>, A: Allocator + Drop + Clone>(
     }
 }
 
-// Books trades like one, of ever new references, until the book finds no memory. What it showed before that one, and what it
-// shows after it.
-fn exhaust<P: Positions<A>, A: Allocator + Drop + Clone>(
+// Whether a book shows a day's row and the same before and after the first of trades like one, of ever new references, that
+// it finds no memory for.
+fn is_exhausted<P: Positions<A>, A: Allocator + Drop + Clone>(
     rt: &impl Abort,
     book: &mut Book<P, A>,
     trade: &Trade,
-) -> (Shown, Shown) {
+) -> bool {
     let key = &Key {
         account: trade.buyer.account(),
         issue: trade.issue,
     };
     for reference in 10..10_010 {
         let before = show(rt, book, key);
-        let next = Trade {
+        let next = &Trade {
             reference,
             ..*trade
         };
         if !has_memory(rt, book, next) {
-            return (before, show(rt, book, key));
+            let (_, held, row) = before;
+            return held.is_some() && row.is_some() && before == show(rt, book, key);
         }
     }
-    panic!(rt; "memory for ten thousand trades");
+    false
 }
 
 // A day on which member 1 buys 100 shares from member 2, and its close.
@@ -89,22 +87,24 @@ const DAY: [(&str, &str); 5] = [
 ];
 
 // Closes a day, and trades until memory is out.
-fn check_exhausted<P: Positions<A>, A: Allocator + Drop + Clone>(
+fn is_left<P: Positions<A>, A: Allocator + Drop + Clone>(
     rt: &impl Abort,
     alloc: Global,
     book: &mut Book<P, A>,
-) {
+) -> bool {
     play(rt, alloc, book, &DAY);
-    let trade = trade(rt, alloc, "TRADE,1,1,2,037833100,1,0,2024-06-04\n");
-    let (before, after) = exhaust(rt, book, &trade);
-    assert!(rt; before == after);
-    assert!(rt; before.1.is_some() && before.2.is_some());
+    let trade = &trade(rt, alloc, "TRADE,1,1,2,037833100,1,0,2024-06-04\n");
+    is_exhausted(rt, book, trade)
+}
+
+fn is_left_on(rt: &impl Abort, alloc: Global, heap: &LocalHeap) -> bool {
+    let opened = Book::new(heap, first_day(rt));
+    let mut book: Book<TreePositions<&LocalHeap>, &LocalHeap> = opened.expect(rt, "memory");
+    is_left(rt, alloc, &mut book)
 }
 
 #[test]
 fn a_trade_that_finds_no_memory_leaves_a_book_in_a_small_heap(rt: HostRuntime) {
     let heap = LocalHeap::new(rt.alloc(), 65_536).expect(&rt, "memory");
-    let opened = Book::new(&heap, first_day(&rt));
-    let mut book: Book<TreePositions<&LocalHeap>, &LocalHeap> = opened.expect(&rt, "memory");
-    check_exhausted(&rt, rt.alloc(), &mut book);
+    assert!(rt; is_left_on(&rt, rt.alloc(), &heap));
 }

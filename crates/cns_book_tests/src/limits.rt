@@ -1,20 +1,18 @@
-// A book with a limit of its history, and with a long one.
-use crate::script::{TreeBook, command, first_day, play, take};
+// Books with a limit of their history, which are filled up to it.
+use crate::script::{TreeBook, command, first_day, take};
 use cns_book::{Book, TakeFault};
 use cns_positions::Positions;
-use cns_terms::Worker;
+use cns_terms::{Command, Worker};
 use std::alloc::{Allocator, Global};
 use std::process::Abort;
 
 // Whether a book is full, and stays as it was.
 fn is_full<P: Positions<A>, A: Allocator + Drop + Clone>(
-    rt: &impl Abort,
-    alloc: Global,
     book: &mut Book<P, A>,
+    question: &Command,
 ) -> bool {
     let entries = book.history_len();
-    let question = command(rt, alloc, "POSITION,0,037833100\n");
-    let answer = book.take(Worker::FIRST, question);
+    let answer = book.take(Worker::FIRST, *question);
     answer == Err(TakeFault::Full) && book.history_len() == entries
 }
 
@@ -26,67 +24,28 @@ fn copied_entries<P: Positions<A>, A: Allocator + Drop + Clone>(
     book.copy_history().expect(rt, "memory").len()
 }
 
-const TWO_RECORDS: [(&str, &str); 2] = [("MEMBER,1\n", "ok\n"), ("MEMBER,1\n", "refused 1\n")];
-
-// A book of so many entries. Each test has it in a function that does nothing else, and lends it.
-fn limited(rt: &impl Abort, alloc: Global, most: u32) -> TreeBook {
-    Book::with_limit(alloc, first_day(rt), most).expect(rt, "memory")
-}
-
-fn check_filled<P: Positions<A>, A: Allocator + Drop + Clone>(
+// Whether a book takes so many questions and no more, and copies them.
+fn is_filled<P: Positions<A>, A: Allocator + Drop + Clone>(
     rt: &impl Abort,
     alloc: Global,
     book: &mut Book<P, A>,
-) {
-    play(rt, alloc, book, &TWO_RECORDS);
-    assert!(rt; is_full(rt, alloc, book));
-    assert!(rt; copied_entries(rt, book) == 2);
-}
-
-#[test]
-fn a_book_at_its_limit_takes_nothing_more(rt: HostRuntime) {
-    let mut book = limited(&rt, rt.alloc(), 2);
-    check_filled(&rt, rt.alloc(), &mut book);
-}
-
-fn check_full<P: Positions<A>, A: Allocator + Drop + Clone>(
-    rt: &impl Abort,
-    alloc: Global,
-    book: &mut Book<P, A>,
-) {
-    assert!(rt; is_full(rt, alloc, book));
-}
-
-#[test]
-fn a_book_with_the_limit_zero_is_full_at_once(rt: HostRuntime) {
-    let mut book = limited(&rt, rt.alloc(), 0);
-    check_full(&rt, rt.alloc(), &mut book);
-}
-
-// Has a book take so many questions.
-fn ask<P: Positions<A>, A: Allocator + Drop + Clone>(
-    rt: &impl Abort,
-    alloc: Global,
-    book: &mut Book<P, A>,
-    questions: u32,
-) {
+    most: u32,
+) -> bool {
     let question = &command(rt, alloc, "POSITION,0,037833100\n");
-    for _ in 0..questions {
+    for _ in 0..most {
         take(rt, book, *question);
     }
+    is_full(book, question) && copied_entries(rt, book) == most as usize
 }
 
-fn check_copied<P: Positions<A>, A: Allocator + Drop + Clone>(
-    rt: &impl Abort,
-    alloc: Global,
-    book: &mut Book<P, A>,
-) {
-    ask(rt, alloc, book, 3_000);
-    assert!(rt; copied_entries(rt, book) == 3_000);
+fn takes(rt: &impl Abort, alloc: Global, most: u32) -> bool {
+    let mut book: TreeBook = Book::with_limit(alloc, first_day(rt), most).expect(rt, "memory");
+    is_filled(rt, alloc, &mut book, most)
 }
 
 #[test]
-fn a_long_history_is_copied(rt: HostRuntime) {
-    let mut book = limited(&rt, rt.alloc(), 5_000);
-    check_copied(&rt, rt.alloc(), &mut book);
+fn a_book_at_its_limit_takes_nothing_more_and_copies_its_history(rt: HostRuntime) {
+    for most in [0, 2, 3_000] {
+        assert!(rt; takes(&rt, rt.alloc(), most), "{most}");
+    }
 }

@@ -1,36 +1,50 @@
-// Statements of a whole day: how the accounts are shared out, that they are made at once, and how many workers there may be.
-use crate::script::{book_of, first_sheet};
+// Statements of a whole day: how the accounts are shared out, and that they are made at once.
+use crate::script::{TreeBook, first_day, new_book, read};
 use cns_sheets::Sheet;
-use cns_statements::{PackFault, pack};
-use cns_terms::{Gate, NoGate, Worker};
+use cns_statements::pack;
+use cns_terms::{Gate, Worker};
+use cns_units::Day;
 use std::alloc::Global;
 use std::fmt::Write;
 use std::process::Abort;
 use std::sync::atomic::AtomicU64;
 use std::sync::atomic::Ordering::SeqCst;
 use std::sync::{Arc, Wait};
-use std::test::Fail;
 use std::thread;
 use std::thread::Threads;
 use std::time::{Clock, Duration};
 
-// The records of a day on which so many members, 2 at least, have a position, or nobody: all others buy of member 1.
-fn records(alloc: Global, members: u16) -> Result<String, Fail> {
-    let mut text = String::new(alloc);
-    write!(text, "ISSUE,037833100,19500\nMEMBER,1\n")?;
+// Writes the records of a day on which so many members, 2 at least, have a position, or nobody: all others buy of member 1.
+fn write_records(rt: &impl Abort, text: &mut String, members: u16) {
+    write!(text, "ISSUE,037833100,19500\nMEMBER,1\n").expect(rt, "memory");
     for number in 2..=members {
-        write!(text, "MEMBER,{number}\n")?;
-        write!(text, "TRADE,{number},{number},1,037833100,1,0,2024-06-03\n")?;
+        let trade = format_args!("TRADE,{number},{number},1,037833100,1,0,2024-06-03");
+        write!(text, "MEMBER,{number}\n{trade}\n").expect(rt, "memory");
     }
-    write!(text, "CLOSE,2024-06-04\n")?;
-    Ok(text)
+    write!(text, "CLOSE,2024-06-04\n").expect(rt, "memory");
+}
+
+// The sheet of a book's first day.
+fn first_sheet(book: &TreeBook, date: Day) -> Option<Arc<Sheet<Global>>> {
+    match book.sheet(date) {
+        Some(sheet) => Arc::try_clone(sheet).ok(),
+        None => None,
+    }
+}
+
+fn sheet_of(rt: &impl Abort, alloc: Global, records: &str) -> Option<Arc<Sheet<Global>>> {
+    let date = first_day(rt);
+    let mut book = new_book(rt, alloc);
+    read(rt, alloc, &mut book, records);
+    first_sheet(&book, date)
 }
 
 // The sheet of that day.
-fn sheet_with(rt: &impl Abort, alloc: Global, members: u16) -> Result<Arc<Sheet<Global>>, Fail> {
-    let records = records(alloc, members)?;
-    let book = book_of(rt, alloc, records.as_str());
-    Ok(first_sheet(rt, &book))
+fn sheet_with(rt: &impl Abort, alloc: Global, members: u16) -> Arc<Sheet<Global>> {
+    let mut records = String::new(alloc);
+    write_records(rt, &mut records, members);
+    let sheet = sheet_of(rt, alloc, records.as_str());
+    sheet.expect(rt, "a sheet")
 }
 
 // Adds up the numbers of the statements of each of the first four workers, before they are made and once they are.
@@ -76,40 +90,38 @@ const PARTS: [(u16, usize, [u64; 4]); 6] = [
     (64, 4, [136, 136, 136, 136]),
 ];
 
-#[test]
-fn a_gate_stands_around_each_statement_and_the_parts_are_even(rt: HostRuntime) -> Result<(), Fail> {
-    for (members, workers, wanted) in &PARTS {
-        let made = Made {
-            before: four_zeros(),
-            answered: four_zeros(),
-        };
-        let sheet = sheet_with(&rt, rt.alloc(), *members)?;
-        assert!(&rt; pack(&rt, rt.alloc(), &sheet, *workers, &made).is_ok());
-        for (sums, wanted) in made.before.iter().zip(&made.answered).zip(wanted) {
-            let sums = (sums.0.load(SeqCst), sums.1.load(SeqCst));
-            assert!(&rt; sums == (*wanted, *wanted), "{members} for {workers}");
+// Whether a gate was told these sums, before and after.
+fn has_sums(made: &Made, wanted: &[u64; 4]) -> bool {
+    for (sums, wanted) in made.before.iter().zip(&made.answered).zip(wanted) {
+        if (sums.0.load(SeqCst), sums.1.load(SeqCst)) != (*wanted, *wanted) {
+            return false;
         }
     }
-    Ok(())
+    true
 }
 
-// Numbers of workers, and what packing a sheet without rows by so many comes to.
-const WORKERS: [(usize, bool); 4] = [(0, false), (1, true), (64, true), (65, false)];
+// Whether packing a sheet by so many workers tells a gate these sums.
+fn are_told<R: Threads + Wait + Sync>(
+    rt: &R,
+    alloc: Global,
+    sheet: &Arc<Sheet<Global>>,
+    workers: usize,
+    wanted: &[u64; 4],
+) -> bool {
+    let made = Made {
+        before: four_zeros(),
+        answered: four_zeros(),
+    };
+    pack(rt, alloc, sheet, workers, &made).is_ok() && has_sums(&made, wanted)
+}
 
 #[test]
-fn there_are_1_to_64_workers(rt: HostRuntime) -> Result<(), Fail> {
-    let sheet = sheet_with(&rt, rt.alloc(), 0)?;
-    for (workers, is_taken) in &WORKERS {
-        match pack(&rt, rt.alloc(), &sheet, *workers, &NoGate) {
-            Ok(statements) => {
-                assert!(&rt; *is_taken && statements.is_empty(), "{workers}");
-            }
-            Err(fault) => {
-                assert!(&rt; !*is_taken && fault == PackFault::Workers, "{workers}");
-            }
-        }
+fn a_gate_stands_around_each_statement_and_the_parts_are_even(rt: HostRuntime) {
+    for (members, workers, wanted) in &PARTS {
+        let sheet = sheet_with(&rt, rt.alloc(), *members);
+        let is_so = are_told(&rt, rt.alloc(), &sheet, *workers, wanted);
+        assert!(&rt; is_so, "{members} for {workers}");
     }
-    Ok(())
 }
 
 // The most turns of a millisecond that a worker is held.
@@ -142,21 +154,29 @@ impl<C: Clock> Gate for Meeting<C> {
     fn answered<R: Wait>(&self, _rt: &R, _worker: Worker, _seq: u32) {}
 }
 
-// How many workers make as many statements.
-const AT_ONCE: [u16; 3] = [2, 8, 64];
+// Whether so many workers have begun their first statements of a sheet before any of them went on.
+fn are_made_at_once<R: Clock + Threads + Wait + Sync>(
+    rt: &R,
+    alloc: Global,
+    sheet: &Arc<Sheet<Global>>,
+    workers: u16,
+) -> bool {
+    let gate = Meeting {
+        clock: rt,
+        wanted: u64::from(workers),
+        came: AtomicU64::new(0),
+        late: AtomicU64::new(0),
+    };
+    pack(rt, alloc, sheet, usize::from(workers), &gate).is_ok() && gate.late.load(SeqCst) == 0
+}
 
 #[test]
-fn statements_are_made_at_once(rt: HostRuntime) -> Result<(), Fail> {
-    for workers in &AT_ONCE {
-        let gate = Meeting {
-            clock: &rt,
-            wanted: u64::from(*workers),
-            came: AtomicU64::new(0),
-            late: AtomicU64::new(0),
-        };
-        let sheet = sheet_with(&rt, rt.alloc(), *workers)?;
-        assert!(&rt; pack(&rt, rt.alloc(), &sheet, usize::from(*workers), &gate).is_ok());
-        assert!(&rt; gate.late.load(SeqCst) == 0, "{workers}");
+fn statements_are_made_at_once(rt: HostRuntime) {
+    for workers in [2, 8, 64] {
+        let sheet = sheet_with(&rt, rt.alloc(), workers);
+        assert!(&rt;
+            are_made_at_once(&rt, rt.alloc(), &sheet, workers),
+            "{workers}"
+        );
     }
-    Ok(())
 }

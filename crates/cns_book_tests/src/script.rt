@@ -1,13 +1,11 @@
 // Books and commands from the records that a clerk writes.
 use cns_book::{Book, Receipt};
-use cns_feed::{CsvSource, load, reply_text};
+use cns_feed::{CsvSource, reply_text};
 use cns_positions::{Positions, TreePositions};
-use cns_sheets::Sheet;
-use cns_terms::{Activity, Command, Item, Source, Trade, Worker};
+use cns_terms::{Activity, Command, Item, Reply, Source, Trade, Worker};
 use cns_units::Day;
 use std::alloc::{Allocator, Global};
 use std::process::Abort;
-use std::sync::Arc;
 
 // The book of each test. All else is told over any form of positions, which is less to check than over this one.
 pub(crate) type TreeBook = Book<TreePositions<Global>, Global>;
@@ -16,12 +14,18 @@ pub(crate) fn first_day(rt: &impl Abort) -> Day {
     Day::parse(b"2024-06-03".as_slice()).expect(rt, "a date")
 }
 
+// The next command. A check of a caller need not go through all that a source promises of it.
+fn next(source: &mut CsvSource<&[u8]>) -> Option<Command> {
+    match source.next() {
+        Ok(Item::Given(command)) => Some(command),
+        _ => None,
+    }
+}
+
 // The command of a record.
 pub(crate) fn command(rt: &impl Abort, alloc: Global, record: &str) -> Command {
-    match CsvSource::new(alloc, record.as_bytes()).next() {
-        Ok(Item::Given(command)) => command,
-        _ => panic!(rt; "no command: {record}"),
-    }
+    let command = next(&mut CsvSource::new(alloc, record.as_bytes()));
+    command.expect(rt, "a command")
 }
 
 // The trade of a record.
@@ -41,6 +45,12 @@ pub(crate) fn take<P: Positions<A>, A: Allocator + Drop + Clone>(
     book.take(Worker::FIRST, command).expect(rt, "taken")
 }
 
+// Whether a reply has this line.
+fn is_told(alloc: Global, reply: &Reply, line: &str) -> bool {
+    let mut told = Vec::new(alloc);
+    reply_text(reply, &mut told).is_ok() && told.as_slice() == line.as_bytes()
+}
+
 // Gives a book the command of each record, which has to get the reply beside it.
 pub(crate) fn play<P: Positions<A>, A: Allocator + Drop + Clone>(
     rt: &impl Abort,
@@ -50,23 +60,36 @@ pub(crate) fn play<P: Positions<A>, A: Allocator + Drop + Clone>(
 ) {
     for (record, reply) in records {
         let receipt = take(rt, book, command(rt, alloc, record));
-        let mut told = Vec::new(alloc);
-        assert!(rt; reply_text(&receipt.reply, &mut told).is_ok());
-        assert!(rt; told.as_slice() == reply.as_bytes(), "{record}");
+        assert!(rt; is_told(alloc, &receipt.reply, reply), "{record}");
     }
 }
 
-// The book after a text of records. It is lent to what may fail: each way out of a function that owns a book is checked with
-// all that the book promises.
-pub(crate) fn book_of(rt: &impl Abort, alloc: Global, records: &str) -> TreeBook {
-    let (book, _summary) = load(alloc, records.as_bytes(), first_day(rt)).expect(rt, "a load");
-    book
+// Gives a book the commands of a source, up to its end.
+fn take_all<P: Positions<A>, A: Allocator + Drop + Clone>(
+    rt: &impl Abort,
+    source: &mut CsvSource<&[u8]>,
+    book: &mut Book<P, A>,
+) {
+    for _record in 0..1_000 {
+        let Some(command) = next(source) else {
+            return;
+        };
+        take(rt, book, command);
+    }
+    panic!(rt; "too many records");
 }
 
-// The sheet of a book's first day.
-pub(crate) fn first_sheet(rt: &impl Abort, book: &TreeBook) -> Arc<Sheet<Global>> {
-    match book.sheet(first_day(rt)) {
-        Some(sheet) => Arc::try_clone(sheet).expect(rt, "memory"),
-        None => panic!(rt; "no sheet"),
-    }
+// Gives a book the commands of a text of records.
+pub(crate) fn read<P: Positions<A>, A: Allocator + Drop + Clone>(
+    rt: &impl Abort,
+    alloc: Global,
+    book: &mut Book<P, A>,
+    records: &str,
+) {
+    take_all(rt, &mut CsvSource::new(alloc, records.as_bytes()), book);
+}
+
+// A new book. It is lent to all else: each way out of a function that owns a book is checked with all that the book promises.
+pub(crate) fn new_book(rt: &impl Abort, alloc: Global) -> TreeBook {
+    Book::new(alloc, first_day(rt)).expect(rt, "memory")
 }
