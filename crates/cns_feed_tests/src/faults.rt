@@ -20,9 +20,10 @@ pub(crate) fn loaded<R: Read + Drop>(
     reader: R,
     date: Day,
 ) -> Result<Summary, ReplayFault> {
-    match load(alloc, reader, date) {
-        Ok((_book, counts)) => Ok(counts),
-        Err(fault) => Err(fault),
+    let loaded = load(alloc, reader, date);
+    match &loaded {
+        Ok(loaded) => Ok(loaded.1),
+        Err(fault) => Err(*fault),
     }
 }
 

@@ -102,26 +102,27 @@ fn ends_at_limit(
 // The reply to each record.
 const REPLY: &str = "refused 14\n";
 
-fn check_limit(rt: &impl Abort, alloc: Global, count: u32, most: u32, is_ended: bool) {
+// The same of an input whose last record has its line end or not.
+fn is_limited(rt: &impl Abort, alloc: Global, count: u32, most: u32, is_ended: bool) -> bool {
     let date = first_day(rt);
     let replies = times(rt, alloc, REPLY, count.min(most));
     let input = records(rt, alloc, count, is_ended);
-    let is_so = ends_at_limit(
+    ends_at_limit(
         alloc,
         date,
         input.as_slice(),
         count,
         most,
         replies.as_slice(),
-    );
-    assert!(rt; is_so, "{count} of {most}");
+    )
 }
 
 #[test]
 fn an_input_is_read_whole_where_it_has_fewer_records_than_may_be_read(rt: HostRuntime) {
     for (count, most) in &LIMITS {
         for is_ended in [true, false] {
-            check_limit(&rt, rt.alloc(), *count, *most, is_ended);
+            let is_so = is_limited(&rt, rt.alloc(), *count, *most, is_ended);
+            assert!(rt; is_so, "{count} of {most}");
         }
     }
 }
@@ -145,10 +146,14 @@ fn is_long(alloc: Global, date: Day, input: &[u8], replies: &[u8]) -> bool {
         && is_drained(alloc, input, u32::MAX, MANY, &Ok(Item::Finished))
 }
 
+fn are_many_read(rt: &impl Abort, alloc: Global) -> bool {
+    let date = first_day(rt);
+    let replies = times(rt, alloc, REPLY, MANY);
+    let input = records(rt, alloc, MANY, true);
+    is_long(alloc, date, input.as_slice(), replies.as_slice())
+}
+
 #[test]
 fn a_long_input_is_read_to_its_end(rt: HostRuntime) {
-    let date = first_day(&rt);
-    let input = records(&rt, rt.alloc(), MANY, true);
-    let replies = times(&rt, rt.alloc(), REPLY, MANY);
-    assert!(rt; is_long(rt.alloc(), date, input.as_slice(), replies.as_slice()));
+    assert!(rt; are_many_read(&rt, rt.alloc()));
 }

@@ -76,32 +76,19 @@ const REPLIES: [&str; 5] = [
 ];
 
 // What a reader fails with, and whether its calls are interrupted before.
-#[derive(Clone, Copy)]
-struct Failing {
-    kind: ErrorKind,
-    is_interrupted: bool,
-}
+type Failing = (ErrorKind, bool);
 
 const FAILING: [Failing; 3] = [
-    Failing {
-        kind: ErrorKind::Other,
-        is_interrupted: false,
-    },
-    Failing {
-        kind: ErrorKind::Other,
-        is_interrupted: true,
-    },
-    Failing {
-        kind: ErrorKind::UnexpectedEof,
-        is_interrupted: false,
-    },
+    (ErrorKind::Other, false),
+    (ErrorKind::Other, true),
+    (ErrorKind::UnexpectedEof, false),
 ];
 
 // A reader that gives these blocks of the records, and then fails.
 fn reader<'a>(blocks: &'a [Block<'a>], failing: Failing, watch: &'a Watch) -> Blocks<'a> {
     let mut reader = Blocks::new(blocks, true, watch);
-    reader.kind = failing.kind;
-    reader.signals = Signals::new(failing.is_interrupted);
+    reader.kind = failing.0;
+    reader.signals = Signals::new(failing.1);
     reader
 }
 
@@ -149,23 +136,16 @@ fn cut<'a>(rt: &impl Abort, blocks: &mut Vec<Block<'a>>, bytes: &'a [u8], size: 
     }
 }
 
-// Checks readers that fail after so many bytes of the records, which they give in blocks of this size.
-fn check_failing(rt: &impl Abort, alloc: Global, end: usize, size: usize, items: &[Item]) {
+// The same of readers that fail after so many bytes of the records, which they give in blocks of this size.
+fn are_told_after(rt: &impl Abort, alloc: Global, end: usize, size: usize, items: &[Item]) -> bool {
     let date = first_day(rt);
     let whole = end / 11;
     let text = REPLIES.get(whole).copied().unwrap_or("");
     let items = items.get(..whole).unwrap_or(items);
+    let bytes = SHORT.as_bytes().get(..end).unwrap_or(b"");
     let mut blocks = Vec::new(alloc);
-    cut(
-        rt,
-        &mut blocks,
-        SHORT.as_bytes().get(..end).unwrap_or(b""),
-        size,
-    );
-    assert!(rt;
-        are_told(alloc, date, blocks.as_slice(), text, items),
-        "{end} by {size}"
-    );
+    cut(rt, &mut blocks, bytes, size);
+    are_told(alloc, date, blocks.as_slice(), text, items)
 }
 
 #[test]
@@ -173,7 +153,10 @@ fn a_reader_that_fails_after_any_byte_is_told_twice_and_called_last(rt: HostRunt
     let items = &[joins(&rt, 101), joins(&rt, 2), Item::Line, joins(&rt, 202)];
     for end in 0..=SHORT.len() {
         for size in [1, 3, 44] {
-            check_failing(&rt, rt.alloc(), end, size, items);
+            assert!(rt;
+                are_told_after(&rt, rt.alloc(), end, size, items),
+                "{end} by {size}"
+            );
         }
     }
 }

@@ -105,118 +105,78 @@ fn members(rt: &impl Abort, alloc: Global, count: u32, before: &str, after: &str
 }
 
 // The blocks of an input, and how many bytes of replies are due after each.
-const BLOCKS: [(&str, &[(&str, usize)]); 20] = [
-    (
-        "a record at a time",
-        &[("MEMBER,1\n", 3), ("MEMBER,1\n", 13), ("MEMBER,2\n", 16)],
-    ),
-    (
-        "a block that ends inside of a record",
-        &[("MEMBER,1\nMEMB", 3), ("ER,2\nMEMBER,3\n", 9)],
-    ),
-    (
-        "a block that ends inside of CR LF",
-        &[
-            ("MEMBER,1\r", 3),
-            ("\nMEMBER,2\r\n", 6),
-            ("MEMBER,3\r\n", 9),
-        ],
-    ),
-    (
-        "a block that begins with the end of a record",
-        &[("MEMBER,1", 0), ("\n", 3), ("MEMBER,2\n", 6)],
-    ),
-    (
-        "a block that ends inside of a quoted field",
-        &[("MEMBER,1\nMEMBER,\"2", 3), ("\"\nMEMBER,3\n", 9)],
-    ),
-    (
-        "a line end in a quoted field",
-        &[
-            ("MEMBER,1\nMEMBER,\"2\n", 3),
-            ("3\n4", 3),
-            ("5\"\nMEMBER,6\nMEM", 18),
-        ],
-    ),
-    (
-        "whole records after a quote",
-        &[
-            ("\"MEMBER\",1\nMEMBER,2\nMEMBER,3\nMEM", 9),
-            ("BER,4\n", 12),
-        ],
-    ),
-    (
-        "a doubled quote in two blocks",
-        &[
-            ("MEMBER,1\n\"A\"", 3),
-            ("\"\n\",1\nMEMBER,2\n", 16),
-            ("MEMBER,3\n", 19),
-        ],
-    ),
-    (
-        "a field that goes on after its quotes",
-        &[
-            ("MEMBER,\"1\"", 0),
-            ("2\"\nMEMBER,3\n", 15),
-            ("MEMBER,4\n", 18),
-        ],
-    ),
-    (
-        "a quote inside of a field",
-        &[("MEMBER,1\"\nMEMBER,3\n", 15), ("MEMBER,4\n", 18)],
-    ),
-    (
-        "a quote at the start of a block",
-        &[("MEMBER,", 0), ("\"1\"\n", 3), ("MEMBER,2\n", 6)],
-    ),
-    (
-        "a quote inside of a field at the start of a block",
-        &[("MEMBER,1", 0), ("\"\nMEMBER,2\n", 15), ("\"\n\",1\n", 25)],
-    ),
-    (
-        "a line end after a block that ends with a quote",
-        &[("MEMBER,\"1\"", 0), ("\nMEMBER,2\n", 6), ("MEMBER,3\n", 9)],
-    ),
-    (
-        "blank lines before quotes",
-        &[
-            ("\n\r\n\"MEMBER\",1\n\n", 3),
-            ("\n\"MEMBER\",2\n", 6),
-            ("\n", 6),
-        ],
-    ),
-    (
-        "a quote that is never closed",
-        &[
-            ("MEMBER,1\nMEMBER,\"2\n", 3),
-            ("MEMBER,3\n", 3),
-            ("MEMBER,4", 3),
-        ],
-    ),
-    (
-        "a byte order mark in pieces before a quote",
-        &[("\u{FEFF}", 0), ("\"MEMBER\",1\n", 3), ("\"\n\",1\n", 13)],
-    ),
-    (
-        "blank lines",
-        &[
-            ("\n\nMEMBER,1\n\n\r\n", 3),
-            ("\n", 3),
-            ("\r\nMEMBER,2\n\n", 6),
-        ],
-    ),
-    (
-        "a byte order mark",
-        &[("\u{FEFF}MEMBER,1\n", 3), ("MEMBER,2\n", 6)],
-    ),
-    (
-        "records at fault",
-        &[("X\nMEMBER,x\n", 22), ("MEMBER\n", 33)],
-    ),
-    (
-        "a last record without a line end",
-        &[("MEMBER,1\nMEMBER,2", 3)],
-    ),
+const BLOCKS: [&[(&str, usize)]; 20] = [
+    // a record at a time
+    &[("MEMBER,1\n", 3), ("MEMBER,1\n", 13), ("MEMBER,2\n", 16)],
+    // a block that ends inside of a record
+    &[("MEMBER,1\nMEMB", 3), ("ER,2\nMEMBER,3\n", 9)],
+    // a block that ends inside of CR LF
+    &[
+        ("MEMBER,1\r", 3),
+        ("\nMEMBER,2\r\n", 6),
+        ("MEMBER,3\r\n", 9),
+    ],
+    // a block that begins with the end of a record
+    &[("MEMBER,1", 0), ("\n", 3), ("MEMBER,2\n", 6)],
+    // a block that ends inside of a quoted field
+    &[("MEMBER,1\nMEMBER,\"2", 3), ("\"\nMEMBER,3\n", 9)],
+    // a line end in a quoted field
+    &[
+        ("MEMBER,1\nMEMBER,\"2\n", 3),
+        ("3\n4", 3),
+        ("5\"\nMEMBER,6\nMEM", 18),
+    ],
+    // whole records after a quote
+    &[
+        ("\"MEMBER\",1\nMEMBER,2\nMEMBER,3\nMEM", 9),
+        ("BER,4\n", 12),
+    ],
+    // a doubled quote in two blocks
+    &[
+        ("MEMBER,1\n\"A\"", 3),
+        ("\"\n\",1\nMEMBER,2\n", 16),
+        ("MEMBER,3\n", 19),
+    ],
+    // a field that goes on after its quotes
+    &[
+        ("MEMBER,\"1\"", 0),
+        ("2\"\nMEMBER,3\n", 15),
+        ("MEMBER,4\n", 18),
+    ],
+    // a quote inside of a field
+    &[("MEMBER,1\"\nMEMBER,3\n", 15), ("MEMBER,4\n", 18)],
+    // a quote at the start of a block
+    &[("MEMBER,", 0), ("\"1\"\n", 3), ("MEMBER,2\n", 6)],
+    // a quote inside of a field at the start of a block
+    &[("MEMBER,1", 0), ("\"\nMEMBER,2\n", 15), ("\"\n\",1\n", 25)],
+    // a line end after a block that ends with a quote
+    &[("MEMBER,\"1\"", 0), ("\nMEMBER,2\n", 6), ("MEMBER,3\n", 9)],
+    // blank lines before quotes
+    &[
+        ("\n\r\n\"MEMBER\",1\n\n", 3),
+        ("\n\"MEMBER\",2\n", 6),
+        ("\n", 6),
+    ],
+    // a quote that is never closed
+    &[
+        ("MEMBER,1\nMEMBER,\"2\n", 3),
+        ("MEMBER,3\n", 3),
+        ("MEMBER,4", 3),
+    ],
+    // a byte order mark in pieces before a quote
+    &[("\u{FEFF}", 0), ("\"MEMBER\",1\n", 3), ("\"\n\",1\n", 13)],
+    // blank lines
+    &[
+        ("\n\nMEMBER,1\n\n\r\n", 3),
+        ("\n", 3),
+        ("\r\nMEMBER,2\n\n", 6),
+    ],
+    // a byte order mark
+    &[("\u{FEFF}MEMBER,1\n", 3), ("MEMBER,2\n", 6)],
+    // records at fault
+    &[("X\nMEMBER,x\n", 22), ("MEMBER\n", 33)],
+    // a last record without a line end
+    &[("MEMBER,1\nMEMBER,2", 3)],
 ];
 
 // The blocks of texts.
@@ -229,19 +189,19 @@ fn blocks_of<'a>(rt: &impl Abort, alloc: Global, texts: &[(&'a str, usize)]) -> 
 }
 
 // Whether a replay of these blocks is flushed in time, to the end, and seldom.
-fn is_flushed(alloc: Global, date: Day, blocks: &[Block]) -> bool {
-    let played = play(alloc, date, blocks, false, NONE, b"");
-    let due = blocks.last().map_or(0, |block| block.1);
+fn is_flushed(rt: &impl Abort, alloc: Global, texts: &[(&str, usize)]) -> bool {
+    let date = first_day(rt);
+    let blocks = blocks_of(rt, alloc, texts);
+    let played = play(alloc, date, blocks.as_slice(), false, NONE, b"");
+    let due = texts.last().map_or(0, |text| text.1);
     let is_whole = due <= played.flushed && played.flushed == played.written;
     played.fault.is_none() && !played.is_late && is_whole && played.is_seldom_flushed()
 }
 
 #[test]
 fn replies_are_flushed_before_more_is_asked_for(rt: HostRuntime) {
-    let date = first_day(&rt);
-    for (name, texts) in &BLOCKS {
-        let blocks = blocks_of(&rt, rt.alloc(), texts);
-        assert!(rt; is_flushed(rt.alloc(), date, blocks.as_slice()), "{name}");
+    for (at, texts) in BLOCKS.iter().enumerate() {
+        assert!(rt; is_flushed(&rt, rt.alloc(), texts), "{at}");
     }
 }
 
@@ -292,27 +252,24 @@ fn is_answered(
     played.is(None) && played.is_seldom_flushed()
 }
 
-fn check_cuts(rt: &impl Abort, alloc: Global, input: &[u8], line_end: u8, replies: &[u8]) {
+// The same of records in a form, wherever they are cut.
+fn are_answered(rt: &impl Abort, alloc: Global, form: &(&str, &str, u8)) -> bool {
+    let (before, after, line_end) = *form;
+    let replies = times(rt, alloc, "ok\n", 40);
+    let input = members(rt, alloc, 40, before, after);
+    let (input, replies) = (input.as_slice(), replies.as_slice());
     for size in 1..=input.len() {
-        assert!(rt;
-            is_answered(rt, alloc, input, line_end, size, replies),
-            "{size}"
-        );
+        if !is_answered(rt, alloc, input, line_end, size, replies) {
+            return false;
+        }
     }
+    true
 }
 
 #[test]
 fn replies_are_flushed_wherever_the_input_is_cut(rt: HostRuntime) {
-    let replies = times(&rt, rt.alloc(), "ok\n", 40);
-    for (before, after, first) in &FORMS {
-        let input = members(&rt, rt.alloc(), 40, before, after);
-        check_cuts(
-            &rt,
-            rt.alloc(),
-            input.as_slice(),
-            *first,
-            replies.as_slice(),
-        );
+    for form in &FORMS {
+        assert!(rt; are_answered(&rt, rt.alloc(), form), "{}", form.0);
     }
 }
 
@@ -328,10 +285,11 @@ fn is_whole(
     alloc: Global,
     count: u32,
     end: &(&str, bool, Option<ReplayFault>),
-    replies: &[u8],
 ) -> bool {
     let (part, fails, fault) = *end;
     let date = first_day(rt);
+    let replies = times(rt, alloc, "ok\n", count);
+    let replies = replies.as_slice();
     let mut input = members(rt, alloc, count, "MEMBER,", "\n");
     input
         .extend_from_slice(part.as_bytes())
@@ -345,12 +303,8 @@ fn each_number_of_records_is_answered_whole_also_where_the_reader_fails_after_th
     rt: HostRuntime,
 ) {
     for count in 0..=50 {
-        let replies = times(&rt, rt.alloc(), "ok\n", count);
         for end in &ENDS {
-            assert!(rt;
-                is_whole(&rt, rt.alloc(), count, end, replies.as_slice()),
-                "{count}"
-            );
+            assert!(rt; is_whole(&rt, rt.alloc(), count, end), "{count}");
         }
     }
 }
@@ -412,19 +366,24 @@ const TWO_BLOCKS: [(&str, usize); 2] = [("MEMBER,1\n", 3), ("MEMBER,2\n", 6)];
 const TAKEN: [&str; 3] = ["", "ok\n", "ok\nok\n"];
 
 // Whether a writer that can be flushed so many times has then taken this text, and is called last.
-fn is_stuck(alloc: Global, date: Day, blocks: &[Block], flushes: usize, text: &str) -> bool {
+fn is_stuck(rt: &impl Abort, alloc: Global, flushes: usize, text: &str) -> bool {
+    let date = first_day(rt);
     let limits = Limits { flushes, ..NONE };
-    play(alloc, date, blocks, false, limits, text.as_bytes()).is(Some(ReplayFault::Write))
+    let blocks = blocks_of(rt, alloc, &TWO_BLOCKS);
+    let played = play(
+        alloc,
+        date,
+        blocks.as_slice(),
+        false,
+        limits,
+        text.as_bytes(),
+    );
+    played.is(Some(ReplayFault::Write))
 }
 
 #[test]
 fn a_writer_that_cannot_be_flushed_is_called_last(rt: HostRuntime) {
-    let date = first_day(&rt);
-    let blocks = blocks_of(&rt, rt.alloc(), &TWO_BLOCKS);
     for (flushes, text) in TAKEN.iter().enumerate() {
-        assert!(rt;
-            is_stuck(rt.alloc(), date, blocks.as_slice(), flushes, text),
-            "{flushes}"
-        );
+        assert!(rt; is_stuck(&rt, rt.alloc(), flushes, text), "{flushes}");
     }
 }
