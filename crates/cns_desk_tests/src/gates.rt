@@ -2,21 +2,21 @@
 ghost use Rattle.std.specs.Prelude.{Err, None, Some, true};
 ghost use Rattle.cns_terms.specs.declared.source.SourceFault.TheVariants as fault;
 
+use crate::audits::are_named;
 use crate::inputs::{ending, failing};
-use crate::runs::{MEMBERS, hundred, run, run_two};
-use crate::script::{APPLE, first_day};
+use crate::runs::{MEMBERS, run, trades, two};
+use crate::script::APPLE;
 use cns_book::Book;
-use cns_desk::{End, LogItem, Outcome, RunFault, run_workers};
+use cns_desk::{End, LogItem, Outcome};
 use cns_feed::reply_text;
 use cns_positions::Positions;
-use cns_terms::{Gate, Holding, Item, NoGate, Source, SourceFault, Worker};
+use cns_terms::{Gate, Item, NoGate, Source, SourceFault, Worker};
 use cns_units::{Account, Cusip};
 use std::alloc::Global;
 use std::process::Abort;
 use std::sync::Wait;
 use std::sync::atomic::AtomicU64;
 use std::sync::atomic::Ordering::SeqCst;
-use std::test::Fail;
 use std::thread;
 use std::thread::Threads;
 use std::time::{Clock, Duration};
@@ -117,6 +117,12 @@ fn told(worker: Worker, seq: u32) -> u64 {
     u64::from(worker.value()) * 10_000 + u64::from(seq)
 }
 
+impl Tally {
+    fn are(&self, sum: u64) -> bool {
+        self.before.load(SeqCst) == sum && self.answered.load(SeqCst) == sum
+    }
+}
+
 impl Gate for Tally {
     fn before<R: Wait>(&self, _rt: &R, worker: Worker, seq: u32) {
         self.before.fetch_add(told(worker, seq), SeqCst);
@@ -127,24 +133,30 @@ impl Gate for Tally {
     }
 }
 
-// The length of the history.
-fn entries(outcome: &Outcome) -> usize {
-    outcome.book.history_len()
+// What a run of two workers is to come to.
+#[derive(Clone, Copy)]
+struct Wanted<'a> {
+    // Why each worker ended, and how many items and lines its log has.
+    ends: [(End, usize, u32); 2],
+    // The second one's replies, where they are looked at.
+    told: Option<&'a str>,
+    // The shares of member 101, and the cents that were booked for them.
+    held: Option<(i64, i128)>,
+    // Whether audits of its logs, of fifty items each, are to name each change.
+    is_audited: bool,
 }
 
-// Whether each worker ended so.
-fn have_ended(outcome: &Outcome, ends: [End; 2]) -> bool {
-    outcome.ends.as_slice() == ends.as_slice()
-}
-
-const THREE_MEMBERS: [&[u8]; 2] = [b"MEMBER,101\nMEMBER,202\n", b"MEMBER,303\n"];
-
-#[test]
-fn workers_run_at_once(rt: HostRuntime) {
-    let gate = Meeting::new(&rt, 2);
-    let outcome = run_two(&rt, rt.alloc(), THREE_MEMBERS, &gate);
-    assert!(&rt; gate.is_in_time());
-    assert!(&rt; entries(&outcome) == 3);
+// Whether the workers have ended so, and the history is as long as their logs.
+fn have_ended(outcome: &Outcome, wanted: &[(End, usize, u32); 2]) -> bool {
+    let [end, other_end] = outcome.ends.as_slice() else {
+        return false;
+    };
+    let [log, other_log] = outcome.logs.as_slice() else {
+        return false;
+    };
+    (*end, log.items().len(), log.lines()) == wanted[0]
+        && (*other_end, other_log.items().len(), other_log.lines()) == wanted[1]
+        && outcome.book.history_len() == wanted[0].1.saturating_add(wanted[1].1)
 }
 
 // Whether a log's replies are this text.
@@ -166,6 +178,65 @@ fn second_is_told(alloc: Global, outcome: &Outcome, text: &str) -> bool {
     }
 }
 
+// The shares of member 101, and the cents that were booked for them.
+fn held<P: Positions<Global>>(rt: &impl Abort, book: &Book<P, Global>) -> Option<(i64, i128)> {
+    let account = Account::new(101).expect(rt, "an account");
+    let issue = Cusip::parse(APPLE.as_bytes()).expect(rt, "an issue");
+    match book.position(account, issue) {
+        Some(held) => Some((held.now, held.contract)),
+        None => None,
+    }
+}
+
+fn is_wanted(rt: &impl Abort, alloc: Global, outcome: &Outcome, wanted: &Wanted) -> bool {
+    let is_told = match wanted.told {
+        Some(text) => second_is_told(alloc, outcome, text),
+        None => true,
+    };
+    is_told
+        && have_ended(outcome, &wanted.ends)
+        && held(rt, &outcome.book) == wanted.held
+        && (!wanted.is_audited || are_named(rt, alloc, outcome))
+}
+
+// Whether workers come to this. No other function here has an outcome, which makes each way out of one long to check.
+fn come_to<S: Source + Send + Drop, G: Gate + Sync, R: Abort + Threads + Wait + Sync>(
+    rt: &R,
+    alloc: Global,
+    sources: Vec<S>,
+    gate: &G,
+    wanted: &Wanted,
+) -> bool {
+    let outcome = run(rt, alloc, sources, gate);
+    is_wanted(rt, alloc, &outcome, wanted)
+}
+
+// The same of two workers with these records.
+fn two_come_to<G: Gate + Sync, R: Abort + Threads + Wait + Sync>(
+    rt: &R,
+    alloc: Global,
+    records: [&[u8]; 2],
+    gate: &G,
+    wanted: &Wanted,
+) -> bool {
+    come_to(rt, alloc, two(rt, alloc, records), gate, wanted)
+}
+
+const THREE_MEMBERS: [&[u8]; 2] = [b"MEMBER,101\nMEMBER,202\n", b"MEMBER,303\n"];
+
+const THREE: Wanted<'static> = Wanted {
+    ends: [(End::Complete, 2, 0), (End::Complete, 1, 0)],
+    told: Some("ok\n"),
+    held: None,
+    is_audited: false,
+};
+
+#[test]
+fn workers_run_at_once(rt: HostRuntime) {
+    let gate = Meeting::new(&rt, 2);
+    assert!(&rt; two_come_to(&rt, rt.alloc(), THREE_MEMBERS, &gate, &THREE) && gate.is_in_time());
+}
+
 // A trade of one worker, after which the other asks for a position.
 const TRADE_AND_QUESTION: [&[u8]; 2] = [
     b"MEMBER,101\nMEMBER,202\nISSUE,037833100,19500\n\
@@ -173,85 +244,70 @@ TRADE,1,101,202,037833100,5,97500,2024-06-03\n",
     b"POSITION,101,037833100\n",
 ];
 
+const SHOWN: Wanted<'static> = Wanted {
+    ends: [(End::Complete, 4, 0), (End::Complete, 1, 0)],
+    told: Some("position 101 037833100 5 0 -975.00 0\n"),
+    held: Some((5, -97_500)),
+    is_audited: false,
+};
+
 #[test]
 fn a_reply_shows_what_another_worker_was_answered_before(rt: HostRuntime) {
     let gate = After::new(&rt, 4);
-    let outcome = run_two(&rt, rt.alloc(), TRADE_AND_QUESTION, &gate);
-    let told = "position 101 037833100 5 0 -975.00 0\n";
-    assert!(&rt; second_is_told(rt.alloc(), &outcome, told));
+    assert!(&rt; two_come_to(&rt, rt.alloc(), TRADE_AND_QUESTION, &gate, &SHOWN));
 }
 
-// Whether the history has so many entries of a worker.
-fn has_entries<P: Positions<Global>>(book: &Book<P, Global>, worker: u8, entries: u32) -> bool {
-    match Worker::new(worker) {
-        Ok(worker) => book.count(worker) == entries,
-        Err(_) => false,
-    }
-}
+// All trades are booked.
+const HUNDRED: Wanted<'static> = Wanted {
+    ends: [(End::Complete, 50, 0), (End::Complete, 50, 0)],
+    told: None,
+    held: Some((97, -1_891_500)),
+    is_audited: true,
+};
 
-// What member 101 holds.
-fn held<P: Positions<Global>>(rt: &impl Abort, book: &Book<P, Global>) -> Option<Holding> {
-    let account = Account::new(101).expect(rt, "an account");
-    book.position(
-        account,
-        Cusip::parse(APPLE.as_bytes()).expect(rt, "an issue"),
+// Two workers of fifty commands each. Trades of the second are refused until the first has given three.
+fn hundred_come_to<G: Gate + Sync, R: Abort + Threads + Wait + Sync>(
+    rt: &R,
+    alloc: Global,
+    gate: &G,
+    wanted: &Wanted,
+) -> bool {
+    let first = trades(rt, alloc, MEMBERS, 1, 47);
+    let second = trades(rt, alloc, "", 101, 150);
+    two_come_to(
+        rt,
+        alloc,
+        [first.as_slice(), second.as_slice()],
+        gate,
+        wanted,
     )
 }
 
-// Whether member 101 is long so many shares, for which so many cents were booked.
-fn has_bought<P: Positions<Global>>(
-    rt: &impl Abort,
-    book: &Book<P, Global>,
-    shares: i64,
-    cents: i128,
-) -> bool {
-    match held(rt, book) {
-        Some(held) => held.now == shares && held.contract == cents,
-        None => false,
-    }
-}
-
-// Runs two workers of fifty commands each, the second of which waits for the first one's members and issue.
-fn check_hundred<R: Abort + Clock + Threads + Wait + Sync>(
-    rt: &R,
-    alloc: Global,
-    records: [&[u8]; 2],
-) {
-    let gate = After::new(rt, 3);
-    let outcome = run_two(rt, alloc, records, &gate);
-    assert!(rt; entries(&outcome) == 100);
-    assert!(rt; has_entries(&outcome.book, 1, 50));
-    assert!(rt; has_entries(&outcome.book, 2, 50));
-    assert!(rt; has_bought(rt, &outcome.book, 97, -1_891_500));
-    assert!(rt; have_ended(&outcome, [End::Complete, End::Complete]));
-}
-
 #[test]
-fn a_hundred_commands_of_two_workers_are_one_history(rt: HostRuntime) -> Result<(), Fail> {
-    let (first, second) = hundred(rt.alloc())?;
-    check_hundred(&rt, rt.alloc(), [first.as_slice(), second.as_slice()]);
-    Ok(())
+fn a_hundred_commands_of_two_workers_are_one_history_and_an_audit_names_the_first_place_that_differs(
+    rt: HostRuntime,
+) {
+    let gate = After::new(&rt, 3);
+    assert!(&rt; hundred_come_to(&rt, rt.alloc(), &gate, &HUNDRED));
 }
 
-// Whether two workers' logs have so many items and lines each.
-fn have(outcome: &Outcome, counts: [(usize, u32); 2]) -> bool {
-    let [first, second] = outcome.logs.as_slice() else {
-        return false;
-    };
-    (first.items().len(), first.lines()) == counts[0]
-        && (second.items().len(), second.lines()) == counts[1]
-}
+// The first one's source fails.
+const FAILED: Wanted<'static> = Wanted {
+    ends: [
+        (End::Source(SourceFault::Read), 2, 1),
+        (End::Complete, 1, 0),
+    ],
+    told: Some("ok\n"),
+    held: None,
+    is_audited: false,
+};
 
 #[test]
 fn a_source_that_fails_ends_its_worker_and_no_other(rt: HostRuntime) {
-    let alloc = rt.alloc();
-    let first = failing(alloc, b"MEMBER,101\nMEMBER,x\nMEMBER,202\n");
-    let second = ending(alloc, b"MEMBER,303\n");
-    let sources = vec![in alloc; first, second].expect(&rt, "memory");
-    let outcome = run(&rt, alloc, sources, &NoGate);
-    let read = End::Source(SourceFault::Read);
-    assert!(&rt; have_ended(&outcome, [read, End::Complete]));
-    assert!(&rt; have(&outcome, [(2, 1), (1, 0)]));
+    let first = failing(rt.alloc(), b"MEMBER,101\nMEMBER,x\nMEMBER,202\n");
+    let second = ending(rt.alloc(), b"MEMBER,303\n");
+    let sources = vec![in rt.alloc(); first, second].expect(&rt, "memory");
+    assert!(&rt; come_to(&rt, rt.alloc(), sources, &NoGate, &FAILED));
 }
 
 // A source that finds no memory for its first record.
@@ -270,27 +326,20 @@ impl Source for Starved {
     }
 }
 
+const STARVED: Wanted<'static> = Wanted {
+    ends: [
+        (End::Source(SourceFault::NoMemory), 0, 0),
+        (End::Source(SourceFault::NoMemory), 0, 0),
+    ],
+    told: Some(""),
+    held: None,
+    is_audited: false,
+};
+
 #[test]
 fn a_source_without_memory_ends_its_worker(rt: HostRuntime) {
     let sources = vec![in rt.alloc(); Starved, Starved].expect(&rt, "memory");
-    let outcome = run(&rt, rt.alloc(), sources, &NoGate);
-    let end = End::Source(SourceFault::NoMemory);
-    assert!(&rt; have_ended(&outcome, [end, end]));
-    assert!(&rt; entries(&outcome) == 0);
-}
-
-#[test]
-fn a_run_has_1_to_64_workers(rt: HostRuntime) -> Result<(), Fail> {
-    let alloc = rt.alloc();
-    for workers in [0, 65] {
-        let mut sources = Vec::new(alloc);
-        for _worker in 0..workers {
-            sources.push(ending(alloc, MEMBERS.as_bytes()))?;
-        }
-        let refused = run_workers(&rt, alloc, first_day(&rt), sources, &NoGate).err();
-        assert!(&rt; refused == Some(RunFault::Workers), "{workers}");
-    }
-    Ok(())
+    assert!(&rt; come_to(&rt, rt.alloc(), sources, &NoGate, &STARVED));
 }
 
 const WITH_FAULTS: [&[u8]; 2] = [
@@ -298,14 +347,18 @@ const WITH_FAULTS: [&[u8]; 2] = [
     b"MEMBER,303\n",
 ];
 
+const FAULTS: Wanted<'static> = Wanted {
+    ends: [(End::Complete, 2, 2), (End::Complete, 1, 0)],
+    told: Some("ok\n"),
+    held: None,
+    is_audited: false,
+};
+
 #[test]
 fn a_gate_stands_around_each_command_and_no_record_at_fault(rt: HostRuntime) {
     let gate = Tally {
         before: AtomicU64::new(0),
         answered: AtomicU64::new(0),
     };
-    let outcome = run_two(&rt, rt.alloc(), WITH_FAULTS, &gate);
-    assert!(&rt; entries(&outcome) == 3);
-    assert!(&rt; gate.before.load(SeqCst) == 40_004);
-    assert!(&rt; gate.answered.load(SeqCst) == 40_004);
+    assert!(&rt; two_come_to(&rt, rt.alloc(), WITH_FAULTS, &gate, &FAULTS) && gate.are(40_004));
 }

@@ -20,7 +20,7 @@ impl Read for Input<'_> {
     }
 }
 
-type Records<'a> = CsvSource<Input<'a>>;
+pub(crate) type Records<'a> = CsvSource<Input<'a>>;
 
 // Records, after which the source is finished.
 pub(crate) fn ending(alloc: Global, bytes: &[u8]) -> Records<'_> {

@@ -23,18 +23,23 @@ pub(crate) fn first_day(rt: &impl Abort) -> Day {
     day(rt, FIRST)
 }
 
-// The commands of a text of records, none of which is at fault.
-pub(crate) fn commands(rt: &impl Abort, alloc: Global, records: &str) -> Vec<Command> {
+// Puts the commands of a text of records, none of which is at fault, into a list.
+fn read(rt: &impl Abort, alloc: Global, records: &str, commands: &mut Vec<Command>) {
     let mut source = CsvSource::new(alloc, records.as_bytes());
-    let mut commands = Vec::new(alloc);
     for _record in 0..=records.len() {
         match source.next() {
             Ok(Item::Given(command)) => commands.push(command).expect(rt, "memory"),
-            Ok(Item::Finished) => return commands,
+            Ok(Item::Finished) => return,
             _ => panic!(rt; "no command"),
         }
     }
     panic!(rt; "no end of the records");
+}
+
+pub(crate) fn commands(rt: &impl Abort, alloc: Global, records: &str) -> Vec<Command> {
+    let mut commands = Vec::new(alloc);
+    read(rt, alloc, records, &mut commands);
+    commands
 }
 
 // Whether two replies are the same. A check of a caller need not go through all that a reply may be.
@@ -47,16 +52,20 @@ pub(crate) fn tell(rt: &impl Abort, text: &mut Vec<u8>, reply: &Reply) {
     reply_text(reply, text).expect(rt, "a text");
 }
 
-// The text of an account's statement.
-pub(crate) fn stated(
+// Whether an account's statement has this text.
+pub(crate) fn is_stated(
     rt: &impl Abort,
     alloc: Global,
     sheet: &Sheet<Global>,
     number: u16,
-) -> Vec<u8> {
-    let mut text = Vec::new(alloc);
+    text: &str,
+) -> bool {
     let account = Account::new(number).expect(rt, "an account");
-    let statement = statement(alloc, sheet, account).expect(rt, "a statement");
-    write_statement(&statement, &mut text).expect(rt, "a text");
-    text
+    let mut told = Vec::new(alloc);
+    match statement(alloc, sheet, account) {
+        Ok(statement) => {
+            write_statement(&statement, &mut told).is_ok() && told.as_slice() == text.as_bytes()
+        }
+        Err(_) => false,
+    }
 }

@@ -1,4 +1,4 @@
 use Rattle.cns_desk_tests.proofs.seats.a_seat_takes_a_day_of_commands.Given as goal
 
-abbrev pub ghosts-check_kept : goal.ghosts-check_kept
-ghosts-check_kept g a = record { name = a.blank.name; parts = a.blank.parts }
+abbrev pub ghosts-keeps_day : goal.ghosts-keeps_day
+ghosts-keeps_day g a = record { name = a.blank.name; parts = a.blank.parts }
