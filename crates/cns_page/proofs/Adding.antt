@@ -12,8 +12,6 @@ use Rattle.cns_page.specs.declared.sums.Sums.{Sums}
 -- how far a loop over rows has come: the rows that it was given, and what their columns add up to, as much of it as fits
 pub record Adding (all given left : List Row) (s : Sums) : Type 0 where
   pub parts : all ≡ given ++ left
-  pub opening : s.opening ≡ int_wrap w128 (total (λ r. r.opening) given)
-  pub closing : s.closing ≡ int_wrap w128 (total (λ r. r.closing) given)
   pub money : s.money ≡ int_wrap w128 (total (λ r. r.money) given)
   pub moved_is : s.moved ≡ int_wrap w128 (total moved given)
   pub rest : s.rest ≡ int_wrap w128 (total remaining given)
@@ -30,11 +28,9 @@ more f given row sum new is next =
     ∙ ap (int_wrap w128) (ap (λ n. total f given +ℤ n) (sym one) ∙ sym (total-append f given (row ∷ [])))
 
 -- before any
-pub adding_starts : (all : List Row) (s : Sums) → s ≡ record { opening = pos 0; closing = pos 0; money = pos 0; moved = pos 0; rest = pos 0 } → Adding all [] all s
+pub adding_starts : (all : List Row) (s : Sums) → s ≡ record { money = pos 0; moved = pos 0; rest = pos 0 } → Adding all [] all s
 adding_starts all s is = record {
   parts = refl;
-  opening = ap (λ t. t.opening) is ∙ none;
-  closing = ap (λ t. t.closing) is ∙ none;
   money = ap (λ t. t.money) is ∙ none;
   moved_is = ap (λ t. t.moved) is ∙ none;
   rest = ap (λ t. t.rest) is ∙ none;
@@ -42,13 +38,10 @@ adding_starts all s is = record {
 
 -- the next row
 pub adding_more : (all given left rest : List Row) (row : Row) (s new : Sums) → Adding all given left s → left ≡ row ∷ rest
-    → new.opening ≡ int_wrap w128 (s.opening +ℤ row.opening) → new.closing ≡ int_wrap w128 (s.closing +ℤ row.closing)
     → new.money ≡ int_wrap w128 (s.money +ℤ row.money) → new.moved ≡ int_wrap w128 (s.moved +ℤ moved row)
     → new.rest ≡ int_wrap w128 (s.rest +ℤ remaining row) → Adding all (given ++ row ∷ []) rest new
-adding_more all given left rest row s new was next opening closing money moved_next rest_next = record {
+adding_more all given left rest row s new was next money moved_next rest_next = record {
   parts = onward all given left row rest was.parts next;
-  opening = more (λ r. r.opening) given row s.opening new.opening was.opening opening;
-  closing = more (λ r. r.closing) given row s.closing new.closing was.closing closing;
   money = more (λ r. r.money) given row s.money new.money was.money money;
   moved_is = more moved given row s.moved new.moved was.moved_is moved_next;
   rest = more remaining given row s.rest new.rest was.rest rest_next;

@@ -1,4 +1,4 @@
--- The line of days, close by close.
+-- The list of days, close by close.
 -- For `line_of_days` of figures.rt.
 use Rattle.std.proofs.Common.{◌≡◌, ◌∙◌, sym, ap, ℕ, ◌+◌, ◌<◌, List, [], ◌∷◌, ◌++◌, Option, Some, None, append-nil, add-one, ◌-◌, ◌^◌, take, take-suc, get_or, length, min, option_map, unsigned_abs}
 use Rattle.std.specs.Prelude.{count_by, sum_by}

@@ -55,14 +55,12 @@ total_mark = codes "<tbody class=total>"
 abbrev pub columns_html : Sums → ℤ → ℤ → List ℕ
 columns_html s marks dividends =
     cells (codes "All accounts")
-    (signed_decimal s.opening ∷ signed_decimal s.closing ∷ [] ∷ [] ∷ cents_text s.money ∷ cents_text marks ∷ cents_text s.moved
+    ([] ∷ [] ∷ [] ∷ [] ∷ cents_text s.money ∷ cents_text marks ∷ cents_text s.moved
     ∷ cents_text s.rest ∷ cents_text dividends ∷ [])
 
 -- the sums of columns over rows, as much of each as fits 128 bits
 abbrev pub sums_over : List Row → Sums
 sums_over rows = record {
-  opening = sum (λ r. r.opening) rows;
-  closing = sum (λ r. r.closing) rows;
   money = sum (λ r. r.money) rows;
   moved = sum moved rows;
   rest = sum remaining rows;

@@ -79,7 +79,7 @@ aged S r = record { row = r; age = age_shown S r }
 abbrev pub shorts_among : State → List Row → List Aged
 shorts_among S rows = map (aged S) (filter is_short rows)
 
--- ---- the line of days
+-- ---- the list of days
 
 -- the figures of a sheet, for the day with the number
 abbrev pub figures : DaySheet → ℕ → Figures

@@ -60,7 +60,7 @@ trade_html next t =
 abbrev pub trades_html : Day → List Trade → List ℕ
 trades_html next ts = flat_map (trade_html next) ts
 
--- a day in the line of days: its date, its number, the sum of the amounts of its marks, the count of shorts
+-- a day in the list of days: its date, its number, the sum of the amounts of its marks, the count of shorts
 abbrev pub figures_html : Figures → List ℕ
 figures_html f = cells (day_text f.date) (decimal f.day ∷ cents_text (pos (min f.marks (2 ^ 127 - 1))) ∷ decimal f.shorts ∷ [])
 

@@ -49,7 +49,7 @@ next_day log = date log.opening (journal_of (state_of log))
 abbrev pub AreLater : Log → DaySheet → List Trade → Type 0
 AreLater log sheet xs = IsInOrderOf (λ t. day_number t.date) int_cmp (later_among sheet.date (looked_at log.history)) xs
 
--- the line of days up to the close at a place
+-- the list of days up to the close at a place
 abbrev pub days_shown : Log → Survey → ℕ → List Figures
 days_shown log s place = figures_shown (state_of log) (take (place + 1) s.closes.items)
 

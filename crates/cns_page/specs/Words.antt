@@ -7,7 +7,7 @@ use Rattle.cns_terms.specs.declared.refusal.Refusal.TheVariants as refusal
 use Rattle.cns_feed.specs.declared.fault.LineFault.{LineFault}
 use Rattle.cns_feed.specs.declared.fault.LineFault.TheVariants as fault
 
--- what is wrong with a record at fault
+-- what is wrong with an invalid record
 abbrev pub fault_words : LineFault → List ℕ
 fault_words fault.Kind = codes "Kind: the first field is none of the kinds of record; kinds are in capitals."
 fault_words fault.Count = codes "Count: the kind takes another number of fields."

@@ -140,8 +140,8 @@ fn write_columns<W: Write>(
     ensures { Writes (W.contents writer.old) (W.contents writer.new) (columns_html sums.now marks dividends) result }
 {
     let cells = [
-        Piece::Count(sums.opening),
-        Piece::Count(sums.closing),
+        Piece::Markup(""),
+        Piece::Markup(""),
         Piece::Markup(""),
         Piece::Markup(""),
         Piece::Amount(sums.money),

@@ -103,7 +103,7 @@ fn asked_in(matches: &ArgMatches<'_>) -> Option<Asked>
 }
 
 /// What the words of a line ask for, the name of the program first; None where the line or a date is refused. `NoMemory`
-/// where a growth was refused.
+/// where an allocation failed.
 pub fn asked_of<S: AsStr>(alloc: Global, words: &[S]) -> Result<Option<Asked>, NoMemory>
     ensures { IfOk result (λ r. r ≡ question (map S.text words.now)) }
 {

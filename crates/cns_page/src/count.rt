@@ -1,10 +1,9 @@
 // Counts of shares of either sign.
-ghost use Rattle.std.specs.Prelude.{◌≡◌, ◌+ℤ◌};
-ghost use Rattle.std.specs.Int.{int_wrap, w128};
+ghost use Rattle.std.specs.Prelude.{◌≡◌};
 
 use std::marker::Model;
 
-/// A count of shares of either sign: a position, or a sum of positions.
+/// A count of shares of either sign: a position.
 #[derive(Clone, Copy)]
 pub struct Count {
     shares: i128,
@@ -21,9 +20,6 @@ impl Model for Count {
 }
 
 impl Count {
-    /// No shares.
-    pub const ZERO: Count = Count { shares: 0 };
-
     /// That many shares.
     pub fn of(shares: i64) -> Count
         ensures { result ≡ shares }
@@ -38,14 +34,5 @@ impl Count {
         ensures { result ≡ self }
     {
         self.shares
-    }
-
-    /// With some shares more, as much of the sum as fits 128 bits.
-    pub fn plus(self, shares: i64) -> Count
-        ensures { result ≡ int_wrap w128 (self +ℤ shares) }
-    {
-        Count {
-            shares: self.shares.wrapping_add(i128::from(shares)),
-        }
     }
 }

@@ -1,14 +1,13 @@
-// Last 60 days, as a picture and as a table.
-ghost use Rattle.std.specs.Prelude.{◌≡◌, ◌≤◌, OnOk, length};
+// Last 60 days.
+ghost use Rattle.std.specs.Prelude.{◌≡◌, ◌-◌, ◌^◌, OnOk, min, pos};
 ghost use Rattle.cns_units.specs.Output.{Writes};
-ghost use Rattle.cns_page.specs.Contains.{Contains, Grows};
+ghost use Rattle.cns_page.specs.Contains.{Contains};
 ghost use Rattle.cns_page.specs.Lists.{days_html, figures_html, last_days};
 
 use crate::figures::Figures;
-use crate::picture::{amount_of, write_picture};
 use crate::piece::{Piece, write_row};
 use crate::section::write_markup;
-use cns_units::WriteFault;
+use cns_units::{Cents, WriteFault};
 use std::io::Write;
 
 // The most days in the line.
@@ -17,9 +16,7 @@ const MOST: usize = 60;
 const HEAD: &str = "<section aria-labelledby=days>
 <h2 id=days>Last 60 days</h2>
 <p>The days up to this one, the last 60 at most.</p>
-";
-
-const TABLE: &str = "<div class=wide tabindex=0 role=region aria-label=\"Last 60 days\">
+<div class=wide tabindex=0 role=region aria-label=\"Last 60 days\">
 <table>
 <caption>Closed days with their gross mark, the sum of the amounts of all marks (dollars), and the count of members&#39; fails</caption>
 <thead><tr><th scope=col>Date<th scope=col>Day<th scope=col>Gross mark<th scope=col>Fails
@@ -27,6 +24,13 @@ const TABLE: &str = "<div class=wide tabindex=0 role=region aria-label=\"Last 60
 ";
 
 const FOOT: &str = "</table>\n</div>\n</section>\n";
+
+// Cents as an amount, where they fit one; the greatest one where they do not.
+fn amount_of(cents: u128) -> Cents
+    ensures { result ≡ pos (min cents (2 ^ 127 - 1)) }
+{
+    Cents::of(cents.min(i128::MAX as u128) as i128)
+}
 
 fn write_day_row<W: Write>(figures: &Figures, writer: &mut W) -> Result<(), WriteFault>
     ensures { Writes (W.contents writer.old) (W.contents writer.new) (figures_html figures.now) result }
@@ -50,30 +54,19 @@ fn write_list<W: Write>(line: &[Figures], writer: &mut W) -> Result<(), WriteFau
 
 // The last 60 of days.
 fn last_of(line: &[Figures]) -> &[Figures]
-    ensures last { result.now ≡ last_days line.now }
-    ensures few { length result.now ≤ 60 }
+    ensures { result.now ≡ last_days line.now }
 {
     &line[line.len().saturating_sub(MOST)..]
 }
 
-// The picture of days, between what stands before and after it.
-fn write_above<W: Write>(line: &[Figures], writer: &mut W) -> Result<(), WriteFault>
-    requires { length line.now ≤ 60 }
-    ensures { OnOk result (Grows (W.contents writer.old) (W.contents writer.new)) }
-{
-    write_markup(HEAD, writer)?;
-    write_picture(line, writer)?;
-    write_markup(TABLE, writer)
-}
-
-/// Writes the last 60 of days: their picture, and the table of their figures.
+/// Writes the last 60 of days: the table of their figures.
 ///
 /// Where the writer fails or takes no byte it answers `WriteFault`.
 pub fn write_days<W: Write>(line: &[Figures], writer: &mut W) -> Result<(), WriteFault>
     ensures { OnOk result (Contains (W.contents writer.old) (W.contents writer.new) (days_html (last_days line.now))) }
 {
     let last = last_of(line);
-    write_above(last, writer)?;
+    write_markup(HEAD, writer)?;
     write_list(last, writer)?;
     write_markup(FOOT, writer)
 }

@@ -41,7 +41,7 @@ fn write_byte<W: Write>(byte: u8, writer: &mut W) -> Result<(), WriteFault>
 /// Writes a text so that none of it can be taken for markup: `&`, `<`, `>` and quotes become character references, and so
 /// do control characters, as U+FFFD. The other bytes stay.
 ///
-/// Where the writer fails or takes no byte it answers `WriteFault`, and a front of that text was written.
+/// Where the writer fails or takes no byte it answers `WriteFault`, and a prefix of that text was written.
 #[tactic(auto, using(crate::proofs::EscapeLemmas::text_plain))]
 pub fn write_escaped<W: Write>(text: &[u8], writer: &mut W) -> Result<(), WriteFault>
     ensures text { Writes (W.contents writer.old) (W.contents writer.new) (escaped text.now) result }

@@ -1,4 +1,4 @@
-// The figures of a closed day for the line of days.
+// The figures of a closed day for the list of days.
 ghost use Rattle.std.specs.Prelude.{◌≡◌, ◌-◌, ◌^◌, count_by, IfOk, min, sum_by, unsigned_abs};
 ghost use Rattle.cns_book.specs.Log.{state_of};
 ghost use Rattle.cns_page.specs.Figures.{is_short};
@@ -11,7 +11,7 @@ use cns_terms::{NoMemory, Row};
 use cns_units::{Account, Day};
 use std::alloc::Global;
 
-/// What the line of days shows of a closed day.
+/// What the list of days shows of a closed day.
 #[derive(Clone, Copy)]
 pub struct Figures {
     /// The day's number, from 1.

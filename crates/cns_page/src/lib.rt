@@ -26,7 +26,6 @@ mod liable;
 mod make;
 mod notices;
 mod page;
-mod picture;
 mod piece;
 mod play;
 mod projection;

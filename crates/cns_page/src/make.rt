@@ -106,7 +106,7 @@ fn write_day<O: Write>(
 
 /// Writes the page that is asked for, of the records of an input, and hands it on.
 ///
-/// `NoMemory` where a growth was refused, `Read` where there are 4,294,967,295 records or more, `NoSuchDay` where no closed
+/// `NoMemory` where an allocation failed, `Read` where there are 4,294,967,295 records or more, `NoSuchDay` where no closed
 /// day has the date, or no day is closed, and `Write` where the writer fails. What was written before stands.
 pub(crate) fn make<O: Write>(
     alloc: Global,

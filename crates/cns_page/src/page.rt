@@ -224,7 +224,7 @@ fn write_sections<W: Write>(
 
 /// Writes the page, and hands it on.
 ///
-/// `NoMemory` where a growth was refused, and `Write` where the writer fails, takes no byte or cannot be flushed.
+/// `NoMemory` where an allocation failed, and `Write` where the writer fails, takes no byte or cannot be flushed.
 /// What was written before stands.
 pub fn write_page<W: Write>(alloc: Global, page: &Page<'_>, writer: &mut W) -> Result<(), Fault>
     ensures { OnOk result (ShowsDay page.now.book.now.log page.now.survey.now page.now.place page.now.close page.now.sheet.now

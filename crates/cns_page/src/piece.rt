@@ -40,7 +40,7 @@ pub fn cents_of(cents: u64) -> Cents
 
 /// Writes a piece.
 ///
-/// Where the writer fails or takes no byte it answers `WriteFault`, and a front of that text was written.
+/// Where the writer fails or takes no byte it answers `WriteFault`, and a prefix of that text was written.
 pub fn write_piece<W: Write>(piece: &Piece<'_>, writer: &mut W) -> Result<(), WriteFault>
     ensures { Writes (W.contents writer.old) (W.contents writer.new) (piece_text piece.now) result }
 {
@@ -59,7 +59,7 @@ pub fn write_piece<W: Write>(piece: &Piece<'_>, writer: &mut W) -> Result<(), Wr
 
 /// Writes pieces, one after another.
 ///
-/// Where the writer fails or takes no byte it answers `WriteFault`, and a front of that text was written.
+/// Where the writer fails or takes no byte it answers `WriteFault`, and a prefix of that text was written.
 pub fn write_pieces<W: Write>(pieces: &[Piece<'_>], writer: &mut W) -> Result<(), WriteFault>
     ensures { Writes (W.contents writer.old) (W.contents writer.new) (pieces_text pieces.now) result }
 {
@@ -89,7 +89,7 @@ fn write_cells<W: Write>(pieces: &[Piece<'_>], writer: &mut W) -> Result<(), Wri
 
 /// Writes a row of a table: its head, and the other cells.
 ///
-/// Where the writer fails or takes no byte it answers `WriteFault`, and a front of that text was written.
+/// Where the writer fails or takes no byte it answers `WriteFault`, and a prefix of that text was written.
 pub fn write_row<W: Write>(
     first: &Piece<'_>,
     others: &[Piece<'_>],

@@ -112,7 +112,7 @@ fn play_with<R: Read>(
 /// Takes the command of each of the input's first records, at most so many, in order, on a new book that opens on the
 /// date, and notes the exceptions and the closes.
 ///
-/// `NoMemory` where a growth was refused. `Full` does not come, since the history has room for as many commands, and no
+/// `NoMemory` where an allocation failed. `Full` does not come, since the history has room for as many commands, and no
 /// `Read`, since the input is in memory.
 pub fn play(alloc: Global, input: &[u8], opening: Day, most: u64) -> Result<Played, ReplayFault>
     ensures after { IfOk result (λ p. ComesTo opening (take most (lines_of input.now)) p.book.log p.survey) }

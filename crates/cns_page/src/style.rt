@@ -4,10 +4,10 @@
 /// issues stays in sight where a table is wider than the screen.
 pub(crate) const STYLE: &str = "<style>
 :root { color-scheme: light dark; --ground: #fff; --ink: #1b1b1b; --quiet: #444; --link: #1a4b8f; --shade: #f2f2f2; \
---sum: #ececec; --rule: #d0d0d0; --alert: #8a1c1c; --bar: #3d6fb0; }
+--sum: #ececec; --rule: #d0d0d0; --alert: #8a1c1c; }
 @media screen and (prefers-color-scheme: dark) {
 :root { --ground: #16181b; --ink: #e8e8e8; --quiet: #b8b8b8; --link: #8ab4f8; --shade: #26292e; --sum: #2c3036; \
---rule: #44484e; --alert: #f28b82; --bar: #6f9fe0; }
+--rule: #44484e; --alert: #f28b82; }
 }
 * { box-sizing: border-box; }
 body { margin: 0; background: var(--ground); color: var(--ink); font: 1rem/1.45 system-ui, -apple-system, \"Segoe UI\", \"Liberation \
@@ -44,12 +44,6 @@ tbody th { font-weight: 600; }
 .rows .sum > * { background: var(--sum); font-weight: 600; border-top: 1px solid var(--quiet); }
 .rows .sum th { padding-left: .3rem; }
 .rows .total > tr > * { font-weight: 700; border-top: 3px double var(--ink); }
-svg { display: block; width: 100%; max-width: 45rem; height: auto; margin: .5rem 0; }
-svg rect { fill: var(--bar); }
-svg circle { fill: var(--alert); }
-svg polyline { fill: none; stroke: var(--alert); stroke-width: 1.5; }
-svg path { stroke: var(--ink); }
-svg text { font-size: 13px; fill: var(--ink); }
 footer { padding-bottom: 2rem; }
 @page { size: A4; margin: 12mm 10mm; }
 @media print {
@@ -64,7 +58,7 @@ th[scope=row], thead th:first-child { position: static; }
 .account + .account thead { position: static; clip-path: none; }
 .rows .name { width: 17mm; }
 thead { display: table-header-group; }
-tr, svg { break-inside: avoid; }
+tr { break-inside: avoid; }
 h2 { break-after: avoid; }
 .sum { break-after: avoid; }
 }

@@ -4,7 +4,6 @@ ghost use Rattle.std.specs.Int.{int_wrap, w128};
 ghost use Rattle.cns_terms.specs.Sums.{total};
 ghost use Rattle.cns_page.specs.Split.{moved, remaining};
 
-use crate::count::Count;
 use crate::split::{price_move, rest_of_mark};
 use cns_sheets::Sheet;
 use cns_terms::Row;
@@ -14,8 +13,6 @@ use std::alloc::Global;
 /// The sums of columns over rows. Each is exact where it fits 128 bits, as it does on each sheet of a book.
 #[derive(Clone, Copy)]
 pub struct Sums {
-    pub opening: Count,
-    pub closing: Count,
     pub money: Cents,
     pub moved: Cents,
     pub rest: Cents,
@@ -32,16 +29,12 @@ impl Sums {
     // Of no rows.
     fn none() -> Sums
         ensures { result ≡ record {
-          opening = pos 0;
-          closing = pos 0;
           money = pos 0;
           moved = pos 0;
           rest = pos 0;
         } }
     {
         Sums {
-            opening: Count::ZERO,
-            closing: Count::ZERO,
             money: Cents::ZERO,
             moved: Cents::ZERO,
             rest: Cents::ZERO,
@@ -50,14 +43,10 @@ impl Sums {
 
     // With one row more.
     fn add(&mut self, row: &Row)
-        ensures opening { self.new.opening ≡ int_wrap w128 (self.old.opening +ℤ row.now.opening) }
-        ensures closing { self.new.closing ≡ int_wrap w128 (self.old.closing +ℤ row.now.closing) }
         ensures money { self.new.money ≡ int_wrap w128 (self.old.money +ℤ row.now.money) }
         ensures moved { self.new.moved ≡ int_wrap w128 (self.old.moved +ℤ moved row.now) }
         ensures rest { self.new.rest ≡ int_wrap w128 (self.old.rest +ℤ remaining row.now) }
     {
-        self.opening = self.opening.plus(row.opening);
-        self.closing = self.closing.plus(row.closing);
         self.money = wrapped_sum(self.money, row.money);
         self.moved = wrapped_sum(self.moved, price_move(row));
         self.rest = wrapped_sum(self.rest, rest_of_mark(row));
@@ -66,8 +55,6 @@ impl Sums {
 
 /// The sums over all rows of a sheet.
 pub fn sums_of(sheet: &Sheet<Global>) -> Sums
-    ensures opening { result.opening ≡ int_wrap w128 (total (λ r. r.opening) sheet.now.rows) }
-    ensures closing { result.closing ≡ int_wrap w128 (total (λ r. r.closing) sheet.now.rows) }
     ensures money { result.money ≡ int_wrap w128 (total (λ r. r.money) sheet.now.rows) }
     ensures moved { result.moved ≡ int_wrap w128 (total moved sheet.now.rows) }
     ensures rest { result.rest ≡ int_wrap w128 (total remaining sheet.now.rows) }

@@ -27,7 +27,7 @@ pub struct Close {
 pub struct Survey {
     /// How many records there are.
     pub records: u64,
-    /// The records at fault and the refused commands, in order.
+    /// The invalid records and the refused commands, in order.
     pub findings: Vec<Finding>,
     /// The accepted closes, in order.
     pub closes: Vec<Close>,

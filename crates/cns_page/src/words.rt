@@ -6,7 +6,7 @@ use cns_book::Stage;
 use cns_feed::LineFault;
 use cns_terms::Refusal;
 
-/// What is wrong with a record at fault.
+/// What is wrong with an invalid record.
 pub(crate) fn fault_words(fault: LineFault) -> &'static str
     ensures { result.now ≡ fault_words fault }
 {

@@ -1,8 +1,6 @@
-use Rattle.std.proofs.Common.{◌∙◌, ap, rules}
+use Rattle.std.proofs.Common.{rules}
 use Rattle.std.specs.Ordering.{int_cmp}
 use Rattle.cns_units.specs.Day.{day_number}
-use Rattle.cns_terms.specs.Common.{date, journal_of}
-use Rattle.cns_book.specs.Log.{state_of}
 use Rattle.cns_page.specs.Listed.{looked_at, later_among}
 use Rattle.cns_page.proofs.Ordered.{sorted_by_key}
 use Rattle.cns_page.proofs.projection.later_trades.Goals as goal

@@ -1,7 +1,0 @@
-use Rattle.cns_page.proofs.ContainsLemmas.{grown, grows_trans}
-use Rattle.cns_page.proofs.picture.write_picture.Goals as goal
-
-pub returns : goal.returns
-returns g c =
-    grown _ _ _ _ (grows_trans _ _ _ (grows_trans _ _ _ (grows_trans _ _ _ (grows_trans _ _ _ c.in_ok-write_markup.ensures c.in_ok-write_bars.ensures)
-    c.in_ok-write_corners.ensures) c.in_ok-write_dots.ensures) c.in_ok-write_labels.ensures) c.write_markup-2.ensures
