@@ -5,7 +5,7 @@ SHELL := bash
 
 PROGRAM := crates/cnsbook/out/cnsbook
 PAGE := crates/cnspage/out/cnspage
-DRIVER := crates/cns_desk_growths/out/cns_desk_growths
+DRIVER := crates/cns_cases/out/cns_cases
 OPENING := 2024-06-03
 
 # Where `install` puts the programs and their manual pages, and a folder before it, as packages want one.

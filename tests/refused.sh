@@ -3,7 +3,7 @@
 # status and at both outputs.
 #
 # usage: tests/refused.sh PROGRAM DRIVER
-# DRIVER is the program of cns_desk_growths, which makes those calls of a desk that no subcommand makes.
+# DRIVER is the program of cns_cases, which with a word on its line makes those calls of a desk that no subcommand makes.
 # Prints a line for each input that passes. Prints one line of what failed, and exits with status 1 then.
 set -u
 
@@ -126,12 +126,13 @@ call_of() {
 
 # Refuses each growth of the driver in turn.
 drive_desk() {
-    local input=$tests/../crates/cns_desk_growths/stdin growth name met=' '
-    "$driver" <"$input" >"$room/whole" 2>"$room/errors" || fail "desk: status $? with all memory"
+    local input=$tests/desk.csv growth name met=' '
+    "$driver" desk <"$input" >"$room/whole" 2>"$room/errors" || fail "desk: status $? with all memory"
+    cmp -s "$room/whole" "$tests/desk.replies" || fail 'desk: other replies with all memory'
     take whole "$room/whole"
     program=$driver
     for growth in $(seq 1 "$most"); do
-        starve "$growth" <"$input"
+        starve "$growth" desk <"$input"
         if [ -z "$told" ]; then
             is_whole || fail "desk: status $ended where nothing was refused"
             for name in read open submit sheet reserve; do

@@ -19,12 +19,16 @@
 //! - A later line `open DATE` begins another book with an input of its own. An empty line before it belongs to neither.
 //!
 //! The replies are what a replay has to write, to the byte. What it has to count follows from them: a reply `line ..` is
-//! a record at fault, each other one a command, and each reply `closed ..` a close. A load of the same records has to
+//! an invalid record, each other one a command, and each reply `closed ..` a close. A load of the same records has to
 //! count the same. Start with `playing`.
+//!
+//! With any word on its line the program plays no file, but standard input at a desk: see `desk`.
 #![tactic(auto)]
 
 mod bytes;
+mod calls;
 mod case;
+mod desk;
 mod failure;
 mod files;
 mod playing;
@@ -33,9 +37,9 @@ use case::Case;
 use cns_positions::{FlatPositions, TreePositions};
 use failure::Failure;
 use std::alloc::Global;
-use std::io;
 use std::process::ExitCode;
 use std::rt::{Files, Runtime};
+use std::{env, io};
 
 // Plays a case over each form of positions.
 fn play_case(alloc: Global, case: &Case<'_>) -> Result<(), Failure> {
@@ -77,7 +81,19 @@ fn play_folder<R: Runtime + AllocGlobal>(rt: &R) -> io::Result<bool> {
     Ok(agree)
 }
 
+// Whether the line has a word after the program's name; None where its words cannot be read.
+fn has_words(rt: &HostRuntime) -> Option<bool> {
+    let words = env::args(rt).ok()?;
+    Some(words.len() > 1)
+}
+
 fn main(rt: HostRuntime) -> io::Result<ExitCode> {
-    let agree = play_folder(&rt)?;
-    Ok(ExitCode::from(u8::from(!agree)))
+    match has_words(&rt) {
+        Some(true) => Ok(desk::play(&rt, rt.stdin())),
+        Some(false) => {
+            let agree = play_folder(&rt)?;
+            Ok(ExitCode::from(u8::from(!agree)))
+        }
+        None => Ok(ExitCode::from(3)),
+    }
 }

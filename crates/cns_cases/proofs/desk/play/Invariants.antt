@@ -1,4 +1,4 @@
-use Rattle.cns_desk_growths.proofs.main.Given as goal
+use Rattle.cns_cases.proofs.desk.play.Given as goal
 
 abbrev pub ghosts-run : goal.ghosts-run
 ghosts-run g a = record { name = a.blank.name; parts = a.blank.parts }

@@ -24,7 +24,7 @@ type TreeDesk<L> = Desk<L, TreePositions<Global>>;
 
 type Handed = (Receipt, Option<Arc<Sheet<Global>>>);
 
-/// The commands of all records, none of which is at fault.
+/// The commands of all records, none of which is invalid.
 pub(crate) fn read_commands<R: Read + Drop>(
     alloc: Global,
     input: R,

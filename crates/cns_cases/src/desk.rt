@@ -1,26 +1,17 @@
-//! A driver of the desk, for tests that refuse it memory.
-//!
-//! It submits the records of standard input at a desk of one worker and logs what they are answered. After each close it
-//! asks for the sheets of the closed day and of the open one. It writes each reply, and of a sheet that is handed out how
-//! many rows it has. Each call that finds no memory is made once more, and its name is written to standard error before. So
-//! with one growth refused the output is that of a run with all memory, and standard error names the call in which it was
-//! refused. The status is 0 at the end, 3 where the records cannot be read, and 1 where a call failed for good.
-#![tactic(auto)]
-
+// Records at a desk of one worker, for tests that fail its allocations.
 ghost use Rattle.std.specs.Prelude.{◌≡◌};
 
-mod calls;
-
-use calls::{Ending, drive, read_commands};
+use crate::calls::{Ending, drive, read_commands};
 use cns_desk::Desk;
 use cns_positions::TreePositions;
 use cns_terms::Command;
 use cns_units::Day;
 use std::alloc::Global;
 use std::io;
-use std::io::Write;
+use std::io::{Read, Write};
 use std::marker::Brand;
 use std::process::ExitCode;
+use std::rt::Runtime;
 use std::sync::Wait;
 use std::sync::ledger::{Blank, Ledger};
 
@@ -51,18 +42,25 @@ fn run<L: Ledger, R: Eprint + Wait, W: Write>(
     }
 }
 
-fn main(rt: HostRuntime) -> ExitCode {
-    let Ok(commands) = read_commands(rt.alloc(), rt.stdin()) else {
+/// Submits the records of an input at a desk of one worker and logs what they are answered. After each close it asks
+/// for the sheets of the closed day and of the open one. It writes each reply, and of a sheet that is handed out how many
+/// rows it has.
+///
+/// Each call that finds no memory is made once more, and its name is written to standard error before. So with one
+/// allocation failed the output is that of a run with all memory, and standard error names the call in which it failed.
+/// The status is 0 at the end, 3 where the records cannot be read, and 1 where a call failed for good.
+pub(crate) fn play<R: Runtime + AllocGlobal + Wait, I: Read + Drop>(rt: &R, input: I) -> ExitCode {
+    let Ok(commands) = read_commands(rt.alloc(), input) else {
         return ExitCode::from(3);
     };
-    let mut output = io::writer(&rt);
+    let mut output = io::writer(rt);
     let commands = commands.as_slice();
     let blank = Blank::new(1);
-    let first = run::<Brand, HostRuntime, _>(&rt, rt.alloc(), blank, commands, &mut output);
+    let first = run::<Brand, R, _>(rt, rt.alloc(), blank, commands, &mut output);
     let ending = match first {
         Err(Ending::NoDesk) if rt.eprintln("open").is_ok() => {
             let blank = Blank::new(1);
-            run::<Brand, HostRuntime, _>(&rt, rt.alloc(), blank, commands, &mut output)
+            run::<Brand, R, _>(rt, rt.alloc(), blank, commands, &mut output)
         }
         ending => ending,
     };
