@@ -33,12 +33,25 @@ use std::sync::Arc;
 ///
 /// The type keeps that the history is legal, that each reply in it is the machine's, and that every part shows what
 /// the definitions say of the accepted activities.
-#[derive(Drop)]
 pub struct Book<P: Positions<A>, A: Allocator + Drop + Clone> {
     limit: u32,
     history: Vec<Taken, A>,
     counts: [u32; 64],
     pub(crate) parts: Parts<P, A>,
+}
+
+impl<P: Positions<A>, A: Allocator + Drop + Clone> Drop for Book<P, A> {
+    // A derived drop would be written out wherever a book may be let go, and be checked there.
+    fn drop(self) {
+        let Book {
+            limit: _,
+            history,
+            counts: _,
+            parts,
+        } = self;
+        drop(history);
+        drop(parts);
+    }
 }
 
 impl<P: Positions<A>, A: Allocator + Drop + Clone> Model for Book<P, A> {
@@ -154,7 +167,7 @@ impl<P: Positions<A>, A: Allocator + Drop + Clone> Book<P, A> {
     }
 
     /// A copy of the history, the oldest entry first: the commands with the replies that recomputing from them gives,
-    /// each worker's numbered 1, 2, 3 and so on. `NoMemory` where a growth was refused.
+    /// each worker's numbered 1, 2, 3 and so on. `NoMemory` where an allocation failed.
     pub fn copy_history(&self) -> Result<Vec<Taken, A>, NoMemory>
         ensures copy { IfOk result (λ v. v.items ≡ reverse self.now.log.history) }
         ensures legal { IsLegal self.now.log.opening self.now.log.history }
@@ -196,10 +209,10 @@ impl<P: Positions<A>, A: Allocator + Drop + Clone> Book<P, A> {
 
     /// Takes a command: answers it as the machine does, and enters it and its reply into the history.
     ///
-    /// `Full` exactly where the history is at its limit, before anything else is looked at. `NoMemory` where a growth was
-    /// refused: that of the history, which comes first and is asked for only where it has no room left; or one of a command
+    /// `Full` exactly where the history is at its limit, before anything else is looked at. `NoMemory` where an allocation
+    /// failed: that of the history, which comes first and is asked for only where it has no room left; or one of a command
     /// that no rule refuses and that is none of those that take no memory (`may_grow`). After either the book's log is as it
-    /// was, and so is all that it answers; want of memory may leave rows of zeros where the command would have booked. A
+    /// was, and so is all that it answers; running out of memory may leave rows of zeros where the command would have booked. A
     /// command that the machine refuses is taken, and stands in the history with its refusal; the positions have the rows
     /// then that they had.
     pub fn take(&mut self, worker: Worker, command: Command) -> Result<Receipt, TakeFault>

@@ -107,10 +107,9 @@ impl<P: Positions<A>, A: Allocator + Drop + Clone> Parts<P, A> {
         ensures rows { IfOk result (λ s. s.rows ≡ []) }
         ensures follows { IfOk result (λ s. Follows [] s) }
     {
+        let (for_dividends, for_positions) = (alloc.clone()?, alloc.clone()?);
         let (members, prices, trades) = Parts::<P, A>::new_listings(&alloc)?;
         let (closed, notices, batches) = Parts::<P, A>::new_closings(&alloc)?;
-        let dividends = Dividends::new(alloc.clone()?);
-        let positions = P::new(alloc.clone()?);
         Ok(Parts {
             opening,
             today: opening,
@@ -118,11 +117,11 @@ impl<P: Positions<A>, A: Allocator + Drop + Clone> Parts<P, A> {
             members,
             prices,
             trades,
-            dividends,
+            dividends: Dividends::new(for_dividends),
             closed,
             notices,
             batches,
-            positions,
+            positions: P::new(for_positions),
             alloc,
         })
     }

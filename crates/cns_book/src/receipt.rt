@@ -20,7 +20,7 @@ pub enum TakeFault {
     /// The history is at its limit.
     #[error("the history is full")]
     Full,
-    /// A growth was refused.
+    /// An allocation failed.
     #[error("out of memory")]
     NoMemory,
 }

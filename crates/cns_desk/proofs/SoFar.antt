@@ -21,17 +21,17 @@ commands_more : (given : List (Option Command)) (c : Command) → commands_in (g
 commands_more [] c = refl
 commands_more (o ∷ given) c = grind (arith, commands_more given c)
 
--- a record at fault adds no command
+-- an invalid record adds no command
 commands_same : (given : List (Option Command)) → commands_in (given ++ None ∷ []) ≡ commands_in given
 commands_same [] = refl
 commands_same (o ∷ given) = grind (arith, commands_same given)
 
--- a command adds no record at fault
+-- a command adds no invalid record
 lines_same : (given : List (Option Command)) (c : Command) → lines_in (given ++ Some c ∷ []) ≡ lines_in given
 lines_same [] c = refl
 lines_same (o ∷ given) c = grind (arith, lines_same given c)
 
--- a record at fault more
+-- an invalid record more
 lines_more : (given : List (Option Command)) → lines_in (given ++ None ∷ []) ≡ lines_in given + 1
 lines_more [] = refl
 lines_more (o ∷ given) = grind (arith, lines_more given)

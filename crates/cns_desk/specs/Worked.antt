@@ -20,7 +20,7 @@ commands_in [] = []
 commands_in ((Some c) ∷ xs) = c ∷ commands_in xs
 commands_in (None ∷ xs) = commands_in xs
 
--- how many records at fault are among it
+-- how many invalid records are among it
 abbrev pub lines_in : List (Option Command) → ℕ
 lines_in [] = 0
 lines_in ((Some c) ∷ xs) = lines_in xs
@@ -30,7 +30,7 @@ lines_in (None ∷ xs) = lines_in xs + 1
 abbrev pub HasNoSheet : LogItem → Type 0
 HasNoSheet i = i.sheet ≡ None
 
--- the log has the commands of what was given, in order, each without a sheet, and the count of its records at fault
+-- the log has the commands of what was given, in order, each without a sheet, and the count of its invalid records
 pub record Logs (given : List (Option Command)) (log : Logged) : Type 0 where
   pub commands : map (λ i. i.command) log.items ≡ commands_in given
   pub sheets : AllByRecursion HasNoSheet log.items
@@ -45,7 +45,7 @@ Adds old new None = (new.items ≡ old.items) × (new.lines ≡ old.lines + 1)
 abbrev pub StaysLogged : Logged → Logged → Type 0
 StaysLogged old new = (new.items ≡ old.items) × (new.lines ≡ old.lines)
 
--- an end for want of memory, or at the limit of the history
+-- an end for lack of memory, or at the limit of the history
 abbrev pub EndsAtSubmit : End → Type 0
 EndsAtSubmit ended.Complete = ⊥
 EndsAtSubmit (ended.Source f) = ⊥

@@ -25,7 +25,7 @@ pub struct Desk<L: Ledger, P: Positions<Global>> {
 
 impl<L: Ledger, P: Positions<Global>> Desk<L, P> {
     /// A new book under a lock that opens on the date, and seats for the workers 1, 2 and so on. `Workers` where their
-    /// number is not 1 to 64, else `NoMemory` where a growth was refused. The blank is the ledger before it is opened,
+    /// number is not 1 to 64, else `NoMemory` where an allocation failed. The blank is the ledger before it is opened,
     /// with as many parts as workers.
     pub fn open(
         alloc: Global,
@@ -51,7 +51,7 @@ impl<L: Ledger, P: Positions<Global>> Desk<L, P> {
     }
 
     /// Takes a command of the seat's worker: one `Kept::take` under the lock, for which it may wait. `Full` where the
-    /// history is at its limit, `NoMemory` where a growth was refused; after either the seat is as it was.
+    /// history is at its limit, `NoMemory` where an allocation failed; after either the seat is as it was.
     pub fn submit<R: Wait>(
         &self,
         rt: &R,

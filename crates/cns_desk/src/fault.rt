@@ -10,7 +10,7 @@ pub enum OpenFault {
     /// The number of workers is not 1 to 64.
     #[error("not 1 to 64 workers")]
     Workers,
-    /// A growth was refused.
+    /// An allocation failed.
     #[error("out of memory")]
     NoMemory,
 }
@@ -35,7 +35,7 @@ pub enum RunFault {
     /// A thread could not be started.
     #[error("a worker could not be started")]
     Spawn,
-    /// A growth was refused outside any worker.
+    /// An allocation failed outside any worker.
     #[error("out of memory")]
     NoMemory,
     /// A log was not its worker's part of the history.

@@ -44,7 +44,7 @@ impl<L: Ledger, P: Positions<Global>> Model for Kept<L, P> {
 
 impl<L: Ledger, P: Positions<Global>> Kept<L, P> {
     /// A new book that opens on the date, and seats for the workers 1, 2 and so on. `Workers` where their number is not 1
-    /// to 64, else `NoMemory` where a growth was refused. The blank is the ledger before it is opened, with as many parts
+    /// to 64, else `NoMemory` where an allocation failed. The blank is the ledger before it is opened, with as many parts
     /// as workers.
     pub fn open(
         alloc: Global,
@@ -62,9 +62,9 @@ impl<L: Ledger, P: Positions<Global>> Kept<L, P> {
         if workers < 1 || workers > 64 {
             return Err(OpenFault::Workers);
         }
-        let book = Book::new(alloc, date)?;
         let (total, mut rest) = blank.open::<L>();
         let seats = seats_of(alloc, &mut rest, workers)?;
+        let book = Book::new(alloc, date)?;
         Ok((
             Kept {
                 book,
@@ -83,7 +83,7 @@ impl<L: Ledger, P: Positions<Global>> Kept<L, P> {
     }
 
     /// Takes a command of the seat's worker: what `Book::take` does, and the seat's count rises by one. `Full` exactly where
-    /// the history is at its limit; `NoMemory` where a growth was refused. After either the book and the seat are as they
+    /// the history is at its limit; `NoMemory` where an allocation failed. After either the book and the seat are as they
     /// were.
     pub fn take(&mut self, seat: &mut Seat<L>, command: Command) -> Result<Receipt, TakeFault>
         ensures full { (result ≡ Err TakeFault.Full) ↔ (length self.old.history ≡ self.old.limit) }

@@ -18,8 +18,8 @@ pub struct LogItem {
     pub sheet: Option<Arc<Sheet<Global>>>,
 }
 
-/// What a worker was answered, in order, and how many of its records were at fault. Contracts see the items, the count
-/// of lines at fault, and for how many items more there is room.
+/// What a worker was answered, in order, and how many of its records were invalid. Contracts see the items, the count
+/// of invalid records, and for how many items more there is room.
 #[derive(Drop)]
 pub struct Log {
     items: Vec<LogItem>,
@@ -80,7 +80,7 @@ impl Log {
         };
     }
 
-    /// Counts a record at fault, of which there are fewer than 4,294,967,295 so far.
+    /// Counts an invalid record, of which there are fewer than 4,294,967,295 so far.
     pub fn line(&mut self)
         requires { self.old.lines + 1 < 2 ^ 32 }
         ensures { self.new ≡ record self.old { lines = self.old.lines + 1 } }
@@ -95,7 +95,7 @@ impl Log {
         self.items.as_slice()
     }
 
-    /// How many records were at fault.
+    /// How many records were invalid.
     pub fn lines(&self) -> u32
         ensures { result ≡ self.now.lines }
     {

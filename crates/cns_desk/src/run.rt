@@ -106,15 +106,15 @@ fn run_audited<
 
 /// Runs a worker for each source, in a thread of its own, over one new book that opens on the date, and waits for all of
 /// them. Worker 1 takes the commands of the first source, and so on. The gate is called round each command that is
-/// submitted, also one that is not taken. A record at fault is counted and not submitted, and its worker goes on; where a
+/// submitted, also one that is not taken. An invalid record is counted and not submitted, and its worker goes on; where a
 /// source fails or a command is not taken its worker ends, and the others go on.
 ///
 /// Ok comes only where each log is its worker's part of the book's history, which `audit` shows before it is handed
-/// back. Where a source tells its items, its worker's log has their commands in order and the count of those at fault,
+/// back. Where a source tells its items, its worker's log has their commands in order and the count of invalid ones,
 /// up to where the worker ended; all of them where that was at the source's end.
 ///
 /// `Workers` exactly where the sources are not 1 to 64, and then no thread was started. `Spawn` where a thread could not
-/// be started, `NoMemory` where a growth was refused outside the workers, `Mismatch` where a log is not its worker's part;
+/// be started, `NoMemory` where an allocation failed outside the workers, `Mismatch` where a log is not its worker's part;
 /// the workers that were started have ended then.
 pub fn run_workers<S: Source + Send + Drop, G: Gate + Sync, R: Threads + Wait + Sync>(
     rt: &R,

@@ -17,7 +17,7 @@ use std::sync::ledger::Ledger;
 const MOST_RECORDS: u32 = u32::MAX;
 
 // What the workers of a run share.
-#[derive(Clone, Copy)]
+#[derive(Drop)]
 pub(crate) struct Shared<'e, L: Ledger, P: Positions<Global>, G: Gate, R> {
     pub(crate) rt: &'e R,
     pub(crate) alloc: Global,
@@ -68,7 +68,7 @@ fn submit_one<L: Ledger, P: Positions<Global>, G: Gate, R: Wait>(
     }
 }
 
-// Reads one record and submits its command, or counts it where it is at fault. None where the worker goes on.
+// Reads one record and submits its command, or counts it where it is invalid. None where the worker goes on.
 fn step<L: Ledger, P: Positions<Global>, S: Source, G: Gate, R: Wait>(
     shared: &Shared<'_, L, P, G, R>,
     seat: &mut Seat<L>,
