@@ -11,6 +11,8 @@ usage: tests/documents.py PROGRAM PAGE
 - A block of commands that begin with a program, with `grep`, `printf` or `sed` is run, in a folder with the samples and with
   the files that it names, and after the blocks before it; each ends with status 0. A block marked `text` right after it is
   what it writes.
+- Each command in a table that begins with `Question | Answer` is run after the blocks before it; it writes something, and ends
+  with status 0.
 - A block marked `csv` is records, and the next one, marked `text`, is what a replay answers. After a command
   `make run FILE=..` the records are those of that file.
 - A block that begins with `Kind,` is the file `sheet.csv`, as a spreadsheet saves it.
@@ -38,6 +40,8 @@ OPENING = "2024-06-03"
 BUILT = ("crates/cnsbook/out/cnsbook", "crates/cnspage/out/cnspage")
 # how a block of commands begins, on a line without places to fill in
 RUN = re.compile(r"(crates/\w+/out/|(cnsbook (replay|run|statements)|cnspage) --open \d|(grep|printf|sed) )")
+# and how a command begins that answers a question
+ANSWER = re.compile(r"`((?:cnsbook|cnspage|grep|printf|sed|awk|head|sha256sum) [^`]+)`")
 WORDS = 600
 # the kinds of records in each of the files that a run is shown with
 FILES = {
@@ -145,7 +149,7 @@ class Checked:
         self.samples = {
             path.name: replies(program, path.read_text().splitlines()) for path in sorted((ROOT / "examples").glob("*.csv"))
         }
-        self.counts = {"sessions": 0, "mistakes": 0, "statements": 0, "tallies": 0, "commands": 0, "records": 0, "outputs": 0, "links": 0, "names": 0}
+        self.counts = {"sessions": 0, "mistakes": 0, "statements": 0, "tallies": 0, "commands": 0, "answers": 0, "records": 0, "outputs": 0, "links": 0, "names": 0}
         self.paths, self.sources = source_names()
         self.rules = re.findall(r"^([a-z]+):(?!=)", (ROOT / "Makefile").read_text(), re.MULTILINE)
         self.kit = subprocess.run(["rt", "version"], capture_output=True, text=True, check=True).stdout.strip()
@@ -188,6 +192,14 @@ class Checked:
         if ran.returncode != 0:
             self.faults.append(f"{place}: ends with status {ran.returncode}: {ran.stderr}")
         return ran.stdout
+
+    def answers(self, place, text, room):
+        """The commands that answer the questions of a table."""
+        for rows in re.findall(r"^\| Question \| Answer \|\n(.*?)(?:\n\n|\Z)", text, re.MULTILINE | re.DOTALL):
+            for command in ANSWER.findall(rows):
+                self.counts["answers"] += 1
+                if not self.commands(place, command.replace("\\|", "|"), room):
+                    self.faults.append(f"{place}: nothing is written by: {command}")
 
     def records(self, place, block, shown):
         """The replies to a block of records, which are those of the file that is shown, if one is."""
@@ -283,6 +295,7 @@ def main():
                 checked.session(f"{path.name}:{number}", session)
             checked.mistakes(path.name, text)
             checked.blocks(path, text, room)
+            checked.answers(path.name, text, room)
             checked.words(path, text)
             checked.names(path.name, text)
     for fault in checked.faults:

@@ -97,7 +97,7 @@ pub fn next_positions<P: Positions<B>, B, A: Allocator + Drop + Clone, C: Alloca
 /// close rolls it, and then what `bookings_due` says is booked. The shares and cents of those trades are in the new day: the
 /// opening positions and the ages of shorts are those of the close, before them.
 ///
-/// `NoMemory` where a growth was refused. Copies of `alloc` keep the bookings, and the sums or a list of the rows meanwhile.
+/// `NoMemory` where an allocation failed. Copies of `alloc` keep the bookings, and the sums or a list of the rows meanwhile.
 pub fn opened<P: Positions<B>, B, A: Allocator + Drop + Clone>(
     alloc: &A,
     positions: &P,

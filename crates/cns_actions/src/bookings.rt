@@ -90,7 +90,7 @@ impl<A: Allocator + Drop> Bookings<A> {
 
     /// Gives each key a row, so that `book` takes no memory. What stands at each key stays, and no other key gets a row.
     ///
-    /// `NoMemory` where a growth was refused; rows of zeros that were made stay then.
+    /// `NoMemory` where an allocation failed; rows of zeros that were made stay then.
     pub fn enter<P: Positions<B>, B>(&self, positions: &mut P) -> Result<(), NoMemory>
         ensures same { (k : Key) → holding_at (P.rows positions.new) k ≡ holding_at (P.rows positions.old) k }
         ensures there { OnOk result (AreEntered (P.rows positions.new) self.now) }
@@ -115,7 +115,7 @@ impl<A: Allocator + Drop> Bookings<A> {
 
     /// Makes the bookings at once, as `enter` and `book` do: no key gets a row but theirs.
     ///
-    /// `NoMemory` where a growth was refused, and then what stands at each key stays.
+    /// `NoMemory` where an allocation failed, and then what stands at each key stays.
     pub fn make<P: Positions<B>, B>(&self, positions: &mut P) -> Result<(), NoMemory>
         requires { CanBeBooked (P.rows positions.old) }
         ensures ok { OnOk result ((k : Key) → holding_at (P.rows positions.new) k

@@ -37,7 +37,7 @@ fn listed<A: Allocator + Drop + Clone>(
 /// that names its date or a later one (this project's profile; NSCC Procedure VII: the obligations of a trade net into the
 /// parties' positions). Trades that are not due are passed over.
 ///
-/// `NoMemory` where a growth was refused. What is due is added up by key first, so many trades at one key cost one place there.
+/// `NoMemory` where an allocation failed. What is due is added up by key first, so many trades at one key cost one place there.
 pub fn bookings_due<A: Allocator + Drop + Clone>(
     alloc: &A,
     pending: &[Pend],

@@ -12,7 +12,7 @@ pub enum ActionFault {
     /// Trades wait for their date in the issue that was to be exchanged, which would retire it.
     #[error("an issue with trades that wait is not exchanged")]
     PendingTrades,
-    /// A growth was refused.
+    /// An allocation failed.
     #[error("out of memory")]
     NoMemory,
 }

@@ -23,7 +23,7 @@ pub(crate) fn first_day(rt: &impl Abort) -> Day {
     day(rt, FIRST)
 }
 
-// Puts the commands of a text of records, none of which is at fault, into a list.
+// Puts the commands of a text of records, none of which is invalid, into a list.
 fn read(rt: &impl Abort, alloc: Global, records: &str, commands: &mut Vec<Command>) {
     let mut source = CsvSource::new(alloc, records.as_bytes());
     for _record in 0..=records.len() {

@@ -209,7 +209,7 @@ leaves-not_full e old new text h = grind arith
 
 -- ---- before the first read
 
--- want of memory, whatever the input is
+-- out of memory, whatever the input is
 pub stops-unread : (old : Option (List ℕ)) (S : State) (known : Option (List ℕ)) → IfSome known (λ input. Stops fault.NoMemory old old S (lines_of input))
 stops-unread old S None = tt
 stops-unread old S (Some input) = record { answered = []; waiting = None; unread = lines_of input; whole = refl; mid = old; written = text-none S old old (Keeps-refl old); leaves = Keeps-refl old }

@@ -23,7 +23,7 @@ abbrev pub response_of : State → Line → Response
 response_of S (Ok cmd) = response.Replied (answer S cmd)
 response_of S (Err f) = response.AtFault f
 
--- the state after a line; one at fault changes nothing
+-- the state after a line; an invalid one changes nothing
 abbrev pub state_after_line : State → Line → State
 state_after_line S (Ok cmd) = next S cmd
 state_after_line S (Err f) = S
@@ -72,7 +72,7 @@ abbrev pub is_command : Response → Bool
 is_command (response.Replied r) = true
 is_command (response.AtFault f) = false
 
--- whether a record was at fault
+-- whether a record was invalid
 abbrev pub is_at_fault : Response → Bool
 is_at_fault (response.Replied r) = false
 is_at_fault (response.AtFault f) = true
@@ -87,7 +87,7 @@ abbrev pub is_accepted_close : Response → Bool
 is_accepted_close (response.Replied r) = is_closed r
 is_accepted_close (response.AtFault f) = false
 
--- a summary with responses added: how many were commands, at fault, and accepted closes
+-- a summary with responses added: how many were commands, invalid, and accepted closes
 pub record Adds (old new : Summary) (os : List Response) : Type 0 where
   pub commands : new.commands ≡ old.commands + count_by is_command os
   pub lines : new.lines ≡ old.lines + count_by is_at_fault os

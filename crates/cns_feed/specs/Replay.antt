@@ -46,7 +46,7 @@ StopsReplay e opening input old new = Stops e old new (opened opening) (lines_of
 abbrev pub with_command : Log → Command → Log
 with_command b cmd = with_taken b (record { worker = 1; seq = count b.history 1 + 1; command = cmd; reply = answer (state_of b) cmd })
 
--- a book after a line; one at fault changes nothing
+-- a book after a line; an invalid one changes nothing
 abbrev pub log_after_line : Log → Line → Log
 log_after_line b (Ok cmd) = with_command b cmd
 log_after_line b (Err f) = b

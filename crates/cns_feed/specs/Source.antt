@@ -33,7 +33,7 @@ pub record Telling : Type 0 where
   pub left : ℕ
   pub failed : Bool
 
--- the command of a line, or None where it is at fault
+-- the command of a line, or None where it is invalid
 abbrev pub given_of : Line → Option Command
 given_of (Ok cmd) = Some cmd
 given_of (Err f) = None

@@ -1,4 +1,4 @@
--- The texts of replies and of records at fault.
+-- The texts of replies and of invalid records.
 use Rattle.std.specs.Prelude.{ℕ, ◌∷◌, [], List, codes, decimal, flat_map}
 use Rattle.cns_terms.specs.Common.{Cusip, Liables, cents_text, text_line}
 use Rattle.std.specs.Fmt.{signed_decimal}
@@ -74,6 +74,6 @@ fault_name fault.Cusip = codes "Cusip"
 fault_name fault.Range = codes "Range"
 fault_name fault.NoMemory = codes "NoMemory"
 
--- `line KIND` of a record at fault
+-- `line KIND` of an invalid record
 abbrev pub fault_line : LineFault → List ℕ
 fault_line f = text_line (codes "line") (fault_name f ∷ [])

@@ -27,7 +27,7 @@ pub enum LineFault {
     /// The number of a field, however long, is outside its range.
     #[error("Range")]
     Range,
-    /// A growth was refused while a field was read. No field of today's records takes memory, so it does not come.
+    /// An allocation failed while a field was read. No field of today's records takes memory, so it does not come.
     #[error("NoMemory")]
     NoMemory,
 }
@@ -41,7 +41,7 @@ pub enum ReplayFault {
     /// The writer failed, took no byte or could not be flushed.
     #[error("Write")]
     Write,
-    /// A growth was refused.
+    /// An allocation failed.
     #[error("NoMemory")]
     NoMemory,
     /// The book's history is at its limit. It does not come, since the history has room for as many commands as records

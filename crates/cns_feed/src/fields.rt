@@ -103,7 +103,7 @@ pub(crate) fn rate(row: &ByteRecord, place: usize) -> Result<Rate, LineFault>
     ranged(Rate::new(number))
 }
 
-// The shares on one side of a ratio. Each side is looked at by itself, so that the first one at fault decides.
+// The shares on one side of a ratio. Each side is looked at by itself, so that the first invalid one decides.
 fn part(row: &ByteRecord, place: usize) -> Result<u16, LineFault>
     ensures { result ≡ part_at (fields_of row.now) place }
 {

@@ -35,7 +35,7 @@ fn write_batch<A: Allocator + Drop, W: Write>(
 
 /// Writes a line for each member of each batch: `liable CUSIP MEMBER SHARES AGE`, with the short at the close and its age.
 ///
-/// Where the writer fails or takes no byte it answers `WriteFault`, and a front of those lines was written.
+/// Where the writer fails or takes no byte it answers `WriteFault`, and a prefix of those lines was written.
 pub(crate) fn write_batches<A: Allocator + Drop, W: Write>(
     batches: &[Batch<A>],
     writer: &mut W,

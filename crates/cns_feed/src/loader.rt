@@ -51,8 +51,8 @@ pub(crate) fn take_all<P: Positions<Global>, R: Read>(
 /// The book after the command of each record of the reader, in order, all of the first worker, on a new book over the
 /// form of positions `P` that opens on the date, and the counts; nothing is written. At most so many records are read.
 ///
-/// A record at fault is counted and changes nothing. `Read` where the reader fails, or has given `most` records, also where
-/// its input ends there; `NoMemory` where a growth was refused; no other fault comes.
+/// An invalid record is counted and changes nothing. `Read` where the reader fails, or has given `most` records, also where
+/// its input ends there; `NoMemory` where an allocation failed; no other fault comes.
 pub fn load_up_to<P: Positions<Global>, R: Read + Drop>(
     alloc: Global,
     reader: R,

@@ -89,11 +89,11 @@ pub(crate) fn play<P: Positions<Global>, R: Read, W: Write>(
 }
 
 /// Takes the command of each record of the reader, in order, on a new book over the form of positions `P` that opens on
-/// the date, and writes the reply to each; for a record at fault it writes `line` and the fault, and goes on. At most so
+/// the date, and writes the reply to each; for an invalid record it writes `line` and the fault, and goes on. At most so
 /// many records are read.
 ///
 /// `Read` where the reader fails, or has given `most` records, also where its input ends there: all that were read are
-/// answered. `NoMemory` where a growth was refused: the records before the one at which it was are answered. `Write` where
+/// answered. `NoMemory` where an allocation failed: the records before the one at which it was are answered. `Write` where
 /// the writer fails, takes no byte or cannot be flushed: the records before are answered, and of the next reply a front was
 /// written that is not all of it. `Full` does not come, since the history has room for as many commands.
 ///

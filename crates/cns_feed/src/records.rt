@@ -61,7 +61,7 @@ impl<R: Read> Records<R> {
 
     /// The next record, as the command that it is or its first fault; None where there is no more.
     ///
-    /// `Read` where the reader fails, `NoMemory` where a growth was refused; no more is to be read then.
+    /// `Read` where the reader fails, `NoMemory` where an allocation failed; no more is to be read then.
     pub fn read_line(&mut self) -> Result<Option<Line>, ReplayFault>
         requires { IsReady self.old }
         ensures { ReadsLine R.remaining self.old self.new result }

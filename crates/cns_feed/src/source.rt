@@ -62,8 +62,8 @@ fn read_item<R: Read>(records: &mut Records<R>, left: u32) -> Result<Item, Sourc
 
 /// The commands of a reader's records, in order.
 ///
-/// A record at fault is `Line`. After the last record it is finished. `Read` comes where the reader fails, or has given
-/// 4,294,967,295 records, also where its input ends there; `NoMemory` where a growth was refused. After each of these it
+/// An invalid record is `Line`. After the last record it is finished. `Read` comes where the reader fails, or has given
+/// 4,294,967,295 records, also where its input ends there; `NoMemory` where an allocation failed. After each of these it
 /// answers the same again, and the reader is not called any more.
 #[derive(Drop)]
 pub struct CsvSource<R: Read> {

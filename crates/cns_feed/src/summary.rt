@@ -11,7 +11,7 @@ use cns_terms::Reply;
 pub struct Summary {
     /// How many records were commands, refused ones and queries among them.
     pub commands: u64,
-    /// How many records were at fault.
+    /// How many records were invalid.
     pub lines: u64,
     /// How many closes were accepted.
     pub closes: u64,

@@ -1,4 +1,4 @@
-// Texts of replies and of records at fault.
+// Texts of replies and of invalid records.
 ghost use Rattle.std.specs.Prelude.{◌≡◌, ◌∷◌, []};
 ghost use Rattle.std.specs.Fmt.{decimal};
 ghost use Rattle.std.specs.Option.{option_map_or};
@@ -72,7 +72,7 @@ fn write_refused<W: Write>(refusal: Refusal, writer: &mut W) -> Result<(), Write
 
 /// Writes the first line of a reply.
 ///
-/// Where the writer fails or takes no byte it answers `WriteFault`, and a front of that line was written.
+/// Where the writer fails or takes no byte it answers `WriteFault`, and a prefix of that line was written.
 pub fn reply_text<W: Write>(reply: &Reply, writer: &mut W) -> Result<(), WriteFault>
     ensures { Writes (W.contents writer.old) (W.contents writer.new) (reply_line reply.now) result }
 {
@@ -101,7 +101,7 @@ fn name_of(fault: LineFault) -> &'static [u8]
     }
 }
 
-// Writes the line of a record at fault.
+// Writes the line of an invalid record.
 pub(crate) fn write_fault<W: Write>(fault: LineFault, writer: &mut W) -> Result<(), WriteFault>
     ensures { Writes (W.contents writer.old) (W.contents writer.new) (fault_line fault) result }
 {

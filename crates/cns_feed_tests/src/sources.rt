@@ -63,7 +63,7 @@ fn commands_and_records_at_fault_come_in_order_and_then_the_end_twice(rt: HostRu
     assert!(rt; is_read(rt.alloc(), b"", &items[..0]));
 }
 
-// Records of 11 bytes each, in quotes and outside of them, one of which is at fault.
+// Records of 11 bytes each, in quotes and outside of them, one of which is invalid.
 const SHORT: &str = "MEMBER,101\n\"MEMBER\",2\nMEMBER,\"x\"\nMEMBER,202\n";
 
 // The replies to so many of them.

@@ -173,7 +173,7 @@ const BLOCKS: [&[(&str, usize)]; 20] = [
     ],
     // a byte order mark
     &[("\u{FEFF}MEMBER,1\n", 3), ("MEMBER,2\n", 6)],
-    // records at fault
+    // invalid records
     &[("X\nMEMBER,x\n", 22), ("MEMBER\n", 33)],
     // a last record without a line end
     &[("MEMBER,1\nMEMBER,2", 3)],

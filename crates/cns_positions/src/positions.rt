@@ -47,7 +47,7 @@ pub trait Positions<A>: Drop {
     /// Gives each of the keys a row, as `enter` does for one, so that `add` takes no memory at them. What stands at each key
     /// stays, and no key but these gets a row or loses one.
     ///
-    /// `NoMemory` where a growth was refused, which only a key without a row asks for; rows of zeros that were made stay.
+    /// `NoMemory` where an allocation failed, which only a key without a row asks for; rows of zeros that were made stay.
     fn prepare(&mut self, keys: &[Key]) -> Result<(), NoMemory>
         ensures same { (k : Key) → holding_at (rows self.new) k ≡ holding_at (rows self.old) k }
         ensures others { (k : Key) → ¬ Contains keys.now k → row_at (rows self.new) k ≡ row_at (rows self.old) k }
@@ -59,7 +59,7 @@ pub trait Positions<A>: Drop {
     /// Gives a key a row, of zeros where it has none, so that `add` and `carry` take no memory at it. What stands at each key
     /// stays, and no other key gets a row or loses one.
     ///
-    /// `NoMemory` where a growth was refused, which a key that has a row doesn't ask for.
+    /// `NoMemory` where an allocation failed, which a key that has a row doesn't ask for.
     fn enter(&mut self, key: Key) -> Result<(), NoMemory>
         ensures same { (k : Key) → holding_at (rows self.new) k ≡ holding_at (rows self.old) k }
         ensures others { (k : Key) → k ≢ key → row_at (rows self.new) k ≡ row_at (rows self.old) k }

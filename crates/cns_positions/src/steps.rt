@@ -63,7 +63,7 @@ fn take_step<P: Positions<A>, A, B: Allocator + Drop>(
 /// The replies to the Gets among steps on an empty map, whose Adds prepare their keys first.
 ///
 /// Any form of positions gives the same replies. The sums at each key have to fit in what holds them; no more is asked.
-/// `NoMemory` where a growth was refused.
+/// `NoMemory` where an allocation failed.
 pub fn run<P: Positions<A>, A: Allocator + Clone + Drop>(
     alloc: A,
     steps: &[Step],

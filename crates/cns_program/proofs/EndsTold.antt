@@ -21,7 +21,7 @@ lines_more old mid new es i d done lt whole a b = (
   Appends-trans old mid new done (end_line (i + 1) (get_or es i d)) a b,
 )
 
--- writing a line failed: a front of all lines was written
+-- writing a line failed: a prefix of all lines was written
 pub lines_failed : (old mid new : Option (List ℕ)) (es : List End) (i : ℕ) (d : End) (done : List ℕ) → i < length es
     → end_lines 1 es ≡ done ++ end_lines (i + 1) (drop i es) → Appends old mid done → AppendsFront mid new (end_line (i + 1) (get_or es i d)) → AppendsFront old new (end_lines 1 es)
 lines_failed old mid new es i d done lt whole a b =

@@ -17,7 +17,7 @@ use Rattle.cns_program.specs.Tally.{counts_to, lines_to, tally_of, total_text, w
 pub counts_more : (b : Log) (n w : ℕ) (vs : List Value) (v : Value) → w ≡ n + 1 → map view vs ≡ map whole (counts_to b n) → view v ≡ whole (count b.history w) → map view (vs ++ v ∷ []) ≡ map whole (counts_to b (n + 1))
 counts_more b n w vs v at before is = rw (map-append view vs (v ∷ []), before, is, at, add-one) (sym (map-append whole (counts_to b n) (count b.history (suc n) ∷ [])))
 
--- one worker's records at fault more
+-- one worker's invalid records more
 pub lines_more : (logs : List Logged) (n was more : ℕ) (l : Logged) → n < length logs → l ≡ get_or logs n l → was ≡ lines_to logs n → more ≡ l.lines → was + more ≡ lines_to logs (n + 1)
 lines_more logs n was more l inside is before lines =
     let read : l ≡ get_or logs n empty_logged = is ∙ get_or_default logs n l empty_logged inside in

@@ -32,7 +32,7 @@ sheet_of b day = sheet_on b.opening (journal_of (state_of b)) day
 abbrev pub WritesDay : Log → Day → Option (List ℕ) → Option (List ℕ) → Type 0
 WritesDay b day old new = MatchOption (sheet_of b day) ⊥ (λ s. Appends old new (statements_text (statements_of s)))
 
--- they were not: nothing was written, or, where writing failed, a front of them
+-- they were not: nothing was written, or, where writing failed, a prefix of them
 abbrev pub FailsDay : Fault → Log → Day → Option (List ℕ) → Option (List ℕ) → Type 0
 FailsDay fault.Read b day old new = new ≡ old
 FailsDay fault.Write b day old new = MatchOption (sheet_of b day) ⊥ (λ s. IsTold old new (statements_text (statements_of s)))

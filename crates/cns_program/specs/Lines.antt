@@ -59,6 +59,6 @@ abbrev pub end_lines : ℕ → List End → List ℕ
 end_lines number [] = []
 end_lines number (e ∷ es) = end_line number e ++ end_lines (number + 1) es
 
--- the line was written to its end, or, where the writer failed, a front of it that is not all of it
+-- the line was written to its end, or, where the writer failed, a prefix of it that is not all of it
 abbrev pub IsTold : Option (List ℕ) → Option (List ℕ) → List ℕ → Type 0
 IsTold old new line = Appends old new line ⊎ AppendsFront old new line

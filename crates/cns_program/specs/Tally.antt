@@ -20,7 +20,7 @@ abbrev pub counts_to : Log → ℕ → List ℕ
 counts_to b zero = []
 counts_to b (suc n) = counts_to b n ++ count b.history (suc n) ∷ []
 
--- the records at fault of the workers 1 to n
+-- the invalid records of the workers 1 to n
 abbrev pub lines_to : List Logged → ℕ → ℕ
 lines_to logs zero = 0
 lines_to logs (suc n) = lines_to logs n + (slice_index_or logs n empty_logged).lines

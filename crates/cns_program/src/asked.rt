@@ -212,7 +212,7 @@ fn statements_of<'a>(matches: &ArgMatches<'_>) -> Option<Asked<'a>>
 }
 
 /// What the words of a line ask for, the name of the program first; None where the line, a date or a number is refused.
-/// `NoMemory` where a growth was refused.
+/// `NoMemory` where an allocation failed.
 pub fn asked_of<'a, S: AsStr>(alloc: Global, words: &'a [S]) -> Result<Option<Asked<'a>>, NoMemory>
     ensures asks { IfOk result (λ r. Asks (map S.text words.now) r) }
     ensures workers { IfOk result (λ r. IfSome r HasWorkers) }

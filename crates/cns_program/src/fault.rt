@@ -21,7 +21,7 @@ pub enum Fault {
     Read,
     /// Writing standard output failed.
     Write,
-    /// A growth was refused.
+    /// An allocation failed.
     NoMemory,
     /// The history is at its limit.
     Full,

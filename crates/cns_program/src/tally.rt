@@ -64,7 +64,7 @@ fn amount(alloc: Global, cents: Cents) -> Result<String, NoMemory>
 struct Counted {
     // How many commands of each worker were taken.
     counts: Vec<Value>,
-    // The records at fault of all.
+    // The invalid records of all.
     lines: u64,
 }
 
@@ -118,7 +118,7 @@ fn members(
 
 /// The tally of an outcome: one line of JSON without a space, and a line feed. Its members are `closes`, the accepted
 /// closes; `commands`, the length of the history; `counts`, how many commands of each worker were taken; `dividends` and
-/// `marks`, the sums over the sheets of all closes, as texts of cents; `lines`, the records at fault of all workers.
+/// `marks`, the sums over the sheets of all closes, as texts of cents; `lines`, the invalid records of all workers.
 pub fn tally_line(outcome: &Outcome) -> Result<String, NoMemory>
     ensures { IfOk result (λ s. string_bytes s ≡ text_of outcome.now) }
 {

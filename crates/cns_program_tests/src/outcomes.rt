@@ -88,7 +88,7 @@ const TWO: [Records<'static>; 2] = [("MEMBER,101\n", false), ("", true)];
 const TALLY: &str =
     "{\"closes\":0,\"commands\":1,\"counts\":[1,0],\"dividends\":\"0.00\",\"lines\":0,\"marks\":\"0.00\"}\n";
 
-// Whatever number of bytes the writer takes, what it took is a front of the tally, and its fault is the only line,
+// Whatever number of bytes the writer takes, what it took is a prefix of the tally, and its fault is the only line,
 // though a worker ended early. With room for all of them it fails at the flush.
 #[test]
 fn a_tally_that_cannot_be_written_or_flushed_is_the_only_fault(rt: HostRuntime) {

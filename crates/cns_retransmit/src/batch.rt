@@ -75,7 +75,7 @@ impl<A: Allocator + Drop + Clone> Batch<A> {
     /// the fills are for that many shares and that many cents, exactly (this project's profile of NSCC Procedure X).
     ///
     /// A member that is given nothing has no fill. The batch is not changed; `charge` does that. The shares have to be no
-    /// more than the room. `NoMemory` where a growth or the copy of the allocator was refused.
+    /// more than the room. `NoMemory` where an allocation or the copy of the allocator failed.
     pub fn fill<S: Shorts>(
         &self,
         now: &S,

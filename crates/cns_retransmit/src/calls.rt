@@ -97,7 +97,7 @@ impl<A: Allocator + Drop + Clone> Calls<A> {
     /// Calls for so many shares more in an issue: what remains of a notice. Together they have to fit 64 bits. Only the
     /// first call in an issue asks for memory.
     ///
-    /// `NoMemory` where a growth or the copy of the allocator was refused, and then nothing changes.
+    /// `NoMemory` where an allocation or the copy of the allocator failed, and then nothing changes.
     pub fn call(&mut self, issue: Cusip, shares: u64) -> Result<(), NoMemory>
         requires fits { total_in self.old issue + shares < 2 ^ 64 }
         ensures ok { OnOk result
@@ -118,7 +118,7 @@ impl<A: Allocator + Drop + Clone> Calls<A> {
     /// Adds a short of the close after the others in its issue, where something is called there; where nothing is, nothing
     /// changes and no memory is asked for.
     ///
-    /// `NoMemory` where a growth was refused, and then nothing changes.
+    /// `NoMemory` where an allocation failed, and then nothing changes.
     pub fn short(&mut self, issue: Cusip, short: Short) -> Result<(), NoMemory>
         ensures ok { OnOk result
             ((c : Cusip) → called_in self.new c
@@ -137,7 +137,7 @@ impl<A: Allocator + Drop + Clone> Calls<A> {
     /// those in which nobody is liable. In no issue may a member stand twice among the shorts, and together they have to be
     /// below 2^63 shares.
     ///
-    /// `NoMemory` where a growth or a copy of the allocator was refused.
+    /// `NoMemory` where an allocation or a copy of the allocator failed.
     pub fn choose(&self) -> Result<Vec<Batch<A>, A>, NoMemory>
         requires { (c : Cusip) → ForSome (called_in self.now c) CanBeChosen }
         ensures batches { IfOk result (λ v. v.items ≡ batches_of self.now) }

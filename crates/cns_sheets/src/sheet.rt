@@ -55,7 +55,7 @@ impl<A: Allocator + Drop + Clone> Model for Sheet<A> {
 impl<A: Allocator + Drop + Clone> Sheet<A> {
     /// The sheet that a close cuts: a row for each key whose opening, closing, booked cents or dividends are not zero, in
     /// the order of keys, with the prices of this close and of the sheet before (NSCC Procedure VII; the mark is this
-    /// project's profile). `NoMemory` where a growth was refused, and then nothing has changed.
+    /// project's profile). `NoMemory` where an allocation failed, and then nothing has changed.
     ///
     /// Each of the `payments` books, at each member's key in its issue, the cash of the dividend on the closing position of
     /// the sheet of its record date, in cents cut towards zero each by itself. The corporation's key books the opposite of

@@ -12,7 +12,7 @@ use std::alloc::Allocator;
 
 /// The statement of an account on a closed day. An account without rows gets one without rows, and sums of no cents.
 ///
-/// `NoMemory` where the growth for the copy was refused; a statement without rows takes no memory.
+/// `NoMemory` where the allocation for the copy failed; a statement without rows takes no memory.
 pub fn statement<A: Allocator + Drop + Clone>(
     alloc: A,
     sheet: &Sheet<A>,

@@ -12,7 +12,7 @@ pub enum PackFault {
     /// A worker could not be started.
     #[error("a worker could not be started")]
     Spawn,
-    /// A growth was refused.
+    /// An allocation failed.
     #[error("out of memory")]
     NoMemory,
 }

@@ -3,7 +3,7 @@
 //! `statement` copies the rows of an account from a closed day's sheet, with the sums of their marks and of their
 //! dividends, so that the statement may outlive the sheet. `write_statement` writes the text of a statement to any
 //! writer: the line of `write_stated`, and then the lines of `write_rows`. Over a writer that tells its bytes, a call
-//! that answers Ok has written exactly that text, and one that answers `WriteFault` a front of it. The texts stand in
+//! that answers Ok has written exactly that text, and one that answers `WriteFault` a prefix of it. The texts stand in
 //! `specs/Texts.antt`, where to start reading.
 //!
 //! `pack` makes the statements of all accounts that have a row on a sheet, by several workers at once. A sheet never

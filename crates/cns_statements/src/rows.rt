@@ -29,7 +29,7 @@ impl<A: Allocator + Drop> Rows<A> {
         Rows { items }
     }
 
-    // A copy of some rows, of which there are `count`. `NoMemory` where the growth was refused; no rows take no memory.
+    // A copy of some rows, of which there are `count`. `NoMemory` where the allocation failed; no rows take no memory.
     pub(crate) fn copied<B: Allocator + Clone>(
         alloc: A,
         count: u64,

@@ -12,7 +12,7 @@ use std::io::Write;
 
 /// Writes the first line of a statement: `statement ACCOUNT DATE ROWS MARK DIVIDEND`.
 ///
-/// Where the writer fails or takes no byte it answers `WriteFault`, and a front of that line was written.
+/// Where the writer fails or takes no byte it answers `WriteFault`, and a prefix of that line was written.
 pub fn write_stated<W: Write>(stated: &Stated, writer: &mut W) -> Result<(), WriteFault>
     ensures { Writes (W.contents writer.old) (W.contents writer.new) (stated_line stated.now) result }
 {
@@ -52,7 +52,7 @@ pub(crate) fn write_row<W: Write>(row: &Row, writer: &mut W) -> Result<(), Write
 
 /// Writes a line for each row of an account: `row CUSIP OPENING CLOSING OPENINGPRICE PRICE MONEY MARK DIVIDEND`.
 ///
-/// Where the writer fails or takes no byte it answers `WriteFault`, and a front of those lines was written.
+/// Where the writer fails or takes no byte it answers `WriteFault`, and a prefix of those lines was written.
 pub fn write_rows<A: Allocator + Clone, W: Write>(
     rows: AccountRows<'_, A>,
     writer: &mut W,
@@ -77,7 +77,7 @@ fn write_kept<W: Write>(rows: &[Row], writer: &mut W) -> Result<(), WriteFault>
 
 /// Writes the text of a statement: its first line, and a line for each row.
 ///
-/// Where the writer fails or takes no byte it answers `WriteFault`, and a front of that text was written.
+/// Where the writer fails or takes no byte it answers `WriteFault`, and a prefix of that text was written.
 pub fn write_statement<A: Allocator + Drop, W: Write>(
     statement: &Statement<A>,
     writer: &mut W,

@@ -47,7 +47,7 @@ fn pack_parts<G: Gate + Sync, R: Threads + Wait + Sync>(
 /// least as many accounts as workers, each worker makes one or more.
 ///
 /// `Workers` exactly where the workers are not 1 to 64, and then no thread was started; `Spawn` where a thread could not
-/// be started, `NoMemory` where a growth was refused.
+/// be started, `NoMemory` where an allocation failed.
 pub fn pack<G: Gate + Sync, R: Threads + Wait + Sync>(
     rt: &R,
     alloc: Global,

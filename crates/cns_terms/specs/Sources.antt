@@ -10,7 +10,7 @@ use Rattle.cns_terms.specs.declared.source.SourceFault.TheVariants as fault
 abbrev pub Answer : Type 0
 Answer = Result Item SourceFault
 
--- the commands and the records at fault (None) that are still to come, in order, and the answer after them
+-- the commands and the invalid records (None) that are still to come, in order, and the answer after them
 pub record Told : Type 0 where
   pub items : List (Option Command)
   pub end : Answer

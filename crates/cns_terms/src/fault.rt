@@ -3,7 +3,7 @@ use std::alloc::{AllocError, AllocFailed};
 use std::convert::From;
 use thiserror::Error;
 
-/// A growth was refused, and nothing has changed.
+/// An allocation failed, and nothing has changed.
 #[derive(Clone, Copy, Debug, PartialEq, Eq, Error)]
 #[error("out of memory")]
 pub struct NoMemory;

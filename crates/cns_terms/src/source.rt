@@ -20,7 +20,7 @@ pub enum Item {
 pub enum SourceFault {
     /// What is read from failed, or gave as many records as one worker reads.
     Read,
-    /// A growth was refused.
+    /// An allocation failed.
     NoMemory,
 }
 

@@ -84,7 +84,7 @@ impl<A: Allocator + Drop> SideSums<A> {
         self.sums.get(&key).copied().unwrap_or(Sides::NONE)
     }
 
-    /// Makes room for the sums at a key, so that `add` takes no memory there. `NoMemory` where the growth was refused.
+    /// Makes room for the sums at a key, so that `add` takes no memory there. `NoMemory` where the allocation failed.
     pub fn open(&mut self, key: Key) -> Result<(), NoMemory>
     where
         A: Clone,

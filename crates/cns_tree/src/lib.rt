@@ -6,7 +6,7 @@
 //! one short path. A `put` takes no memory: the box for a new row comes out of a [`Spare`] that [`Tree::spare`]
 //! filled before. A `change` writes a value where it stands, `change_each` all of them in one pass, and a `walk` gives
 //! the rows without a way down for each. What does take memory (`spare`, `copied`, `from_sorted`) makes something new,
-//! so a refused growth leaves every tree as it was.
+//! so a failed allocation leaves every tree as it was.
 //!
 //! Start at [`Tree`] in `tree.rt`; `specs/Search.antt` has the words of its contracts, and `node.rt` has the nodes.
 #![tactic(auto)]

@@ -12,7 +12,7 @@ pub given_more : {X : Type 0} (old mid new : Option (List ℕ)) (f : X → List 
 given_more old mid new f text left x rest done next whole a b =
     (done ++ f x, whole ∙ ap (λ xs. done ++ flat_map f xs) next ∙ sym (append_assoc done (f x) (flat_map f rest)), Appends-trans old mid new done (f x) a b)
 
--- writing an item's text failed: a front of all the texts was written
+-- writing an item's text failed: a prefix of all the texts was written
 pub given_failed : {X : Type 0} (old mid new : Option (List ℕ)) (f : X → List ℕ) (text : List ℕ) (left : List X) (x : X) (rest : List X) (done : List ℕ) → left ≡ x ∷ rest
     → text ≡ done ++ flat_map f left → Appends old mid done → AppendsFront mid new (f x) → AppendsFront old new text
 given_failed old mid new f text left x rest done next whole a b =

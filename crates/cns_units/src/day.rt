@@ -150,7 +150,7 @@ impl PartialOrd for Day {
 
 /// Writes a day as `YYYY-MM-DD`.
 ///
-/// Where the writer fails or takes no byte it answers `WriteFault`, and a front of that text was written.
+/// Where the writer fails or takes no byte it answers `WriteFault`, and a prefix of that text was written.
 pub fn write_day<W: Write>(day: Day, writer: &mut W) -> Result<(), WriteFault>
     ensures { Writes (W.contents writer.old) (W.contents writer.new) (day_text day) result }
 {

@@ -19,7 +19,7 @@ pub enum UnitFault {
     /// A number outside its unit's range.
     #[error("out of range")]
     OutOfRange,
-    /// A growth was refused while a text was read.
+    /// An allocation failed while a text was read.
     #[error("out of memory")]
     NoMemory,
 }

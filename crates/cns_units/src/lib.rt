@@ -2,7 +2,7 @@
 //!
 //! A value of one of these types is in its range, so nothing above checks a range again. `new` and `parse` are Ok
 //! exactly by the range or the written form, and `value`, `bytes` and `number` give the value back. The calls that
-//! write put exactly their text to a writer, or a front of it where the writer fails. Start with `Shares`, the
+//! write put exactly their text to a writer, or a prefix of it where the writer fails. Start with `Shares`, the
 //! shortest type, then `Cusip` and `Day`, and `write_bytes`, on which every writing call stands: `write_line` writes
 //! the lines of words that every text of the program is made of.
 #![tactic(auto)]

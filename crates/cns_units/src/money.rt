@@ -115,7 +115,7 @@ fn write_signed<W: Write>(cents: i128, writer: &mut W) -> Result<(), WriteFault>
 
 /// Writes an amount of cents as a minus sign where it is negative, the dollars, a point and two digits, as `-0.01`.
 ///
-/// Where the writer fails or takes no byte it answers `WriteFault`, and a front of that text was written.
+/// Where the writer fails or takes no byte it answers `WriteFault`, and a prefix of that text was written.
 pub fn write_cents<W: Write>(cents: Cents, writer: &mut W) -> Result<(), WriteFault>
     ensures { Writes (W.contents writer.old) (W.contents writer.new) (cents_text cents) result }
 {

@@ -9,7 +9,7 @@ use std::io::{ErrorKind, Write};
 
 /// Writes the bytes by as many calls of `write` as it takes.
 ///
-/// The first call that fails or takes no byte ends it with `WriteFault`; what was taken before is a front of the bytes,
+/// The first call that fails or takes no byte ends it with `WriteFault`; what was taken before is a prefix of the bytes,
 /// and not all of them. A call that a signal interrupts has failed nothing and is made again, as in std's `write_all`.
 pub fn write_bytes<W: Write>(bytes: &[u8], writer: &mut W) -> Result<(), WriteFault>
     ensures { Writes (W.contents writer.old) (W.contents writer.new) bytes.now result }

@@ -58,7 +58,7 @@ fn write_words<W: Write>(words: &[Word<'_>], writer: &mut W) -> Result<(), Write
 
 /// Writes a line: a first word and others, with a space between two, and a line feed.
 ///
-/// Where the writer fails or takes no byte it answers `WriteFault`, and a front of that line was written.
+/// Where the writer fails or takes no byte it answers `WriteFault`, and a prefix of that line was written.
 pub fn write_line<W: Write>(
     first: &[u8],
     others: &[Word<'_>],

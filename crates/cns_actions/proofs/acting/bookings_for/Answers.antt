@@ -18,7 +18,7 @@ of-requires-clause-rise g c =
     ap (λ (bs : List Booking). is_sorted key_cmp (by_key bs)) c.in_ok-all_bookings.ensures.bookings
     ∙ all_sorted x c.requires.another c.in-Some.sum _ (all_shown R c.sum_of.ensures.order (issue_of x)) (all_listed R c.sum_of.ensures.order (issue_of x) c.requires.within)
 
--- want of memory is another fault
+-- running out of memory is another fault
 no_size : {T : Type 0} (r : Result T ActionFault) (e : ActionFault) → e ≡ fault.NoMemory → r ≡ Err e → r ≡ Err fault.TooLarge → ⊥
 no_size r e memory is large = let same = sym (is ∙ ap Err memory) ∙ large in cc
 
