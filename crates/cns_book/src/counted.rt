@@ -12,7 +12,7 @@ use std::alloc::Allocator;
 
 impl<A: Allocator + Drop + Clone> Book<TreePositions<A>, A> {
     /// How many rows the positions have; past `usize::MAX`, which no memory holds, that number. Rows of zeros count too: a
-    /// command that was that ran out of memory may leave some, so this alone may differ where all answers agree.
+    /// command that ran out of memory may leave some, so this alone may differ where all answers agree.
     pub fn position_rows(&self) -> usize
         ensures { result ≡ min (length self.now.rows) usize.MAX }
     {

@@ -3,7 +3,7 @@
 //! `Book::take` answers each command with what recomputing from the accepted activities gives, and enters the command
 //! and its reply into the history. Contracts see a book as its log, which is its opening date, its limit and its history,
 //! and how many rows its positions have; every reading call is its definition over the log. After a refusal the log is
-//! as it was but for the new entry, and where it runs out of memory or is at its limit wholly so. Start with `Book` in `book.rt`;
+//! as it was but for the new entry, and wholly so where it runs out of memory or is at its limit. Start with `Book` in `book.rt`;
 //! the parts that make its answers fast are in `parts.rt`, and what ties each to the history in `specs/Follows.antt`.
 #![tactic(auto)]
 
