@@ -142,6 +142,7 @@ test:
 	    bash tests/stack.sh $(PROGRAM); \
 	    python3 tests/large.py $(PROGRAM) $(PAGE); \
 	    bash tests/quoted.sh $(PROGRAM); \
+	    python3 tests/ends.py $(PROGRAM) $(PAGE); \
 	    python3 tests/fuzz.py --model; \
 	    bash tests/page.sh $(PAGE); \
 	    bash tests/install.sh; \

@@ -253,9 +253,9 @@ class Checked:
         for _, _, block in blocks(text):
             commands += re.findall(r"^(?:sudo )?make ([a-z]+)", block, re.MULTILINE)
         self.faults += [f"{path.name}: the Makefile has no {name}" for name in commands if name not in self.rules]
-        for kit in re.findall(r"rattle-kit-\S+ logic [0-9a-f]+", text):
-            if kit != self.kit:
-                self.faults.append(f"{path.name}: the kit is {self.kit}")
+        kits = re.findall(r"rattle-kit-\S+ logic [0-9a-f]+", text)
+        if kits and self.kit not in kits:
+            self.faults.append(f"{path.name}: the kit is {self.kit}")
         for target, _, anchor in (link.partition("#") for link in re.findall(r"\]\(([^):]*)\)", text)):
             self.counts["links"] += 1
             file = path.parent / target if target else path

@@ -2,7 +2,7 @@
 use cns_terms::{Exchange, Split};
 
 /// What changes every position in an issue at once (NSCC Procedure VII).
-#[derive(Clone, Copy, Debug, PartialEq, Eq)]
+#[derive(Clone, Copy)]
 pub enum Action {
     /// So many new shares of the issue for so many old ones.
     Split(Split),

@@ -5,7 +5,7 @@ ghost use Rattle.cns_actions.specs.Bookings.{booking, key_of};
 use cns_terms::{Entry, Key};
 
 /// An entry, and the age that an exchange brings to its key.
-#[derive(Clone, Copy, Debug, PartialEq, Eq)]
+#[derive(Clone, Copy)]
 pub(crate) struct Booking {
     pub entry: Entry,
     /// The greatest age of the account's short in the old issue; 0 where none is brought.

@@ -14,7 +14,7 @@ use cns_units::Account;
 use std::alloc::Allocator;
 
 /// What a position becomes, or what several become together.
-#[derive(Clone, Copy, Debug, PartialEq, Eq)]
+#[derive(Clone, Copy)]
 pub(crate) struct Change {
     /// Shares of the issue that is split or exchanged.
     pub before: i64,

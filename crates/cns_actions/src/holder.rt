@@ -12,7 +12,7 @@ use cns_terms::{Holding, Key};
 use cns_units::{Account, Cusip};
 
 /// A member with a position in an issue, or with the age of a short that it closed since.
-#[derive(Clone, Copy, Debug, PartialEq, Eq)]
+#[derive(Clone, Copy)]
 pub(crate) struct Holder {
     pub account: Account,
     /// The position in shares.

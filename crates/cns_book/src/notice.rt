@@ -3,7 +3,7 @@ use cns_notices::Stage;
 use cns_units::{Cusip, Member, Shares};
 
 /// A notice of intention to buy in, as it stands.
-#[derive(Clone, Copy, Debug, PartialEq, Eq)]
+#[derive(Clone, Copy, PartialEq, Eq)]
 pub struct Notice {
     /// The member that gave it.
     pub member: Member,

@@ -5,7 +5,7 @@ use std::convert::From;
 use thiserror::Error;
 
 /// What a command that was taken got.
-#[derive(Clone, Copy, Debug, PartialEq, Eq)]
+#[derive(Clone, Copy)]
 pub struct Receipt {
     /// The entry's place in the history, from 1.
     pub index: u32,

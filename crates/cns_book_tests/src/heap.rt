@@ -44,7 +44,7 @@ fn has_memory<P: Positions<A>, A: Allocator + Drop + Clone>(
     trade: &Trade,
 ) -> bool {
     match book.take(Worker::FIRST, Command::Activity(Activity::Trade(*trade))) {
-        Ok(receipt) => receipt.reply == Reply::Accepted,
+        Ok(receipt) => matches!(receipt.reply, Reply::Accepted),
         Err(fault) => {
             assert!(rt; fault == TakeFault::NoMemory);
             false

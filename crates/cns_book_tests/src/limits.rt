@@ -13,7 +13,7 @@ fn is_full<P: Positions<A>, A: Allocator + Drop + Clone>(
 ) -> bool {
     let entries = book.history_len();
     let answer = book.take(Worker::FIRST, *question);
-    answer == Err(TakeFault::Full) && book.history_len() == entries
+    matches!(answer, Err(TakeFault::Full)) && book.history_len() == entries
 }
 
 // How many entries a copy of a history has.

@@ -11,7 +11,7 @@ use cns_terms::{Command, Taken, Worker};
 use std::alloc::Global;
 
 /// Where the logs are not the workers' parts of the history.
-#[derive(Clone, Copy, Debug, PartialEq, Eq)]
+#[derive(Clone, Copy, PartialEq, Eq)]
 pub struct Mismatch {
     /// The least worker whose log is not.
     pub worker: Worker,

@@ -2,7 +2,7 @@
 use cns_terms::SourceFault;
 
 /// Why a worker takes no more commands.
-#[derive(Clone, Copy, Debug, PartialEq, Eq)]
+#[derive(Clone, Copy, PartialEq, Eq)]
 pub enum End {
     /// Its source was finished.
     Complete,

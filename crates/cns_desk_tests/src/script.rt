@@ -44,7 +44,7 @@ pub(crate) fn commands(rt: &impl Abort, alloc: Global, records: &str) -> Vec<Com
 
 // Whether two replies are the same. A check of a caller need not go through all that a reply may be.
 pub(crate) fn are_same(one: &Reply, other: &Reply) -> bool {
-    one == other
+    one.is_same(other)
 }
 
 // Puts the line of a reply after a text.

@@ -4,7 +4,7 @@ ghost use Rattle.std.specs.Prelude.{◌≡◌, ◌==◌, ◌||◌};
 use memchr::memchr;
 
 /// Where in a record the bytes of an input end, so that the next one can be told to end the record or not.
-#[derive(Clone, Copy, Debug, PartialEq, Eq)]
+#[derive(Clone, Copy, PartialEq, Eq)]
 pub(crate) enum ScanState {
     /// In the byte order mark that an input may begin with, after so many bytes of it.
     Mark(u8),

@@ -7,7 +7,7 @@ use crate::response::Response;
 use cns_terms::Reply;
 
 /// What a replay or a load read.
-#[derive(Clone, Copy, Debug, PartialEq, Eq)]
+#[derive(Clone, Copy, PartialEq, Eq)]
 pub struct Summary {
     /// How many records were commands, refused ones and queries among them.
     pub commands: u64,

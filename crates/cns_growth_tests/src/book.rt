@@ -134,6 +134,17 @@ fn read_alike<P: Positions<H>, H: Allocator + Drop + Clone>(
     alike
 }
 
+// Whether a command got this receipt.
+fn is_receipt(answer: &Result<Receipt, TakeFault>, receipt: &Receipt) -> bool {
+    match answer {
+        Ok(got) => {
+            (got.index, got.seq) == (receipt.index, receipt.seq)
+                && got.reply.is_same(&receipt.reply)
+        }
+        Err(_) => false,
+    }
+}
+
 // Gives a book a command with the growth after so many refused; whether one was. The command finds no memory exactly then,
 // and the book answers as before; given once more, the command gets the reply that it would have got at once. None where it
 // is not so.
@@ -149,7 +160,7 @@ fn refuse<P: Positions<H>, H: Allocator + Drop + Clone>(
     let is_refused = rationed.refused() > 0;
     rationed.ration(u64::MAX);
     if is_refused {
-        if answer != Err(TakeFault::NoMemory)
+        if !matches!(answer, Err(TakeFault::NoMemory))
             || rationed.held() > held.saturating_add(untouched.left)
             || !read_alike(rationed, book, untouched.before)
         {
@@ -157,7 +168,7 @@ fn refuse<P: Positions<H>, H: Allocator + Drop + Clone>(
         }
         answer = take(book, untouched.command);
     }
-    let is_so = answer == Ok(*untouched.receipt)
+    let is_so = is_receipt(&answer, untouched.receipt)
         && read_alike(rationed, book, untouched.after)
         && rationed.held() == held.wrapping_add(untouched.kept);
     is_so.then_some(is_refused)

@@ -7,7 +7,7 @@ use cns_terms::{Given, Stage, long};
 use cns_units::Shares;
 
 /// A notice of intention to buy in, with what came to it.
-#[derive(Clone, Copy, Debug, PartialEq, Eq)]
+#[derive(Clone, Copy)]
 pub struct Noticed {
     /// The notice as it was given.
     pub given: Given,

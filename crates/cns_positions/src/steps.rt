@@ -10,7 +10,7 @@ use cns_terms::{Holding, Key, NoMemory};
 use std::alloc::Allocator;
 
 /// A step on a map.
-#[derive(Clone, Copy, Debug, PartialEq, Eq)]
+#[derive(Clone, Copy)]
 pub enum Step {
     /// Asks what stands at a key.
     Get(Key),

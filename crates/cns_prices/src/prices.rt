@@ -14,7 +14,7 @@ use std::marker::Model;
 use std::ops::Bound;
 
 /// What is known of a listed issue.
-#[derive(Clone, Copy, Debug, PartialEq, Eq)]
+#[derive(Clone, Copy)]
 pub struct Quote {
     /// The price last set, in cents.
     pub price: Price,

@@ -15,7 +15,7 @@ const USAGE: &[u8] =
 
 /// How the program ends: its status, and what writing its lines to `errors` came to. Where the work was done there are
 /// no such lines.
-#[derive(Clone, Copy, Debug, PartialEq, Eq)]
+#[derive(Clone, Copy, PartialEq, Eq)]
 pub struct Ended {
     pub status: u8,
     pub told: Result<(), WriteFault>,

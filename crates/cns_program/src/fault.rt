@@ -15,7 +15,7 @@ use std::convert::From;
 use std::io::Write;
 
 /// Why the program ended without doing its work. Each has a line on standard error, and the status is 1.
-#[derive(Clone, Copy, Debug, PartialEq, Eq)]
+#[derive(Clone, Copy, PartialEq, Eq)]
 pub enum Fault {
     /// Reading standard input failed.
     Read,

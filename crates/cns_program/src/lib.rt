@@ -4,7 +4,7 @@
 //! a fault, of which `errors` gets one line, 2 for a line that is refused, where it gets the usage. `replay` answers
 //! records with replies; `run` takes the records of several files side by side, one worker a file, and writes a tally;
 //! `statements` writes the statements of all accounts for a closed day. The crate `cnsbook` lends it standard input,
-//! output and error, and the tests of `cns_program_tests` readers and writers that fail. Start with `program`.
+//! output and error. Start with `program`.
 #![tactic(auto)]
 
 mod asked;

@@ -5,7 +5,7 @@ use cns_units::{Cusip, Day, Price, Rate, Ratio};
 
 /// A declared dividend. Who holds shares at the close of the record date is paid at the first close on or after the
 /// payable date (NSCC Procedure VII credits dividends to longs and charges them to shorts).
-#[derive(Clone, Copy, Debug, PartialEq, Eq)]
+#[derive(Clone, Copy)]
 pub struct Declared {
     pub issue: Cusip,
     /// The record date.
@@ -17,7 +17,7 @@ pub struct Declared {
 }
 
 /// A split: so many new shares for so many old ones, and cash in lieu of what is less than a share (NSCC Procedure VII).
-#[derive(Clone, Copy, Debug, PartialEq, Eq)]
+#[derive(Clone, Copy)]
 pub struct Split {
     pub issue: Cusip,
     pub ratio: Ratio,
@@ -26,7 +26,7 @@ pub struct Split {
 }
 
 /// An exchange of an issue for its successor, after which the old issue is retired (NSCC Procedure VII).
-#[derive(Clone, Copy, Debug, PartialEq, Eq)]
+#[derive(Clone, Copy)]
 pub struct Exchange {
     pub old: Cusip,
     pub successor: Cusip,
@@ -38,7 +38,7 @@ pub struct Exchange {
 }
 
 impl Declared {
-    /// Whether both are the same value. `==` answers so too; this clause speaks of the values themselves.
+    /// Whether both are the same value.
     pub fn is_same(&self, other: &Declared) -> bool
         ensures { (result ≡ true) ↔ (self.now ≡ other.now) }
     {
@@ -50,24 +50,22 @@ impl Declared {
 }
 
 impl Split {
-    /// Whether both are the same value. `==` answers so too; this clause speaks of the values themselves.
+    /// Whether both are the same value.
     pub fn is_same(&self, other: &Split) -> bool
         ensures { (result ≡ true) ↔ (self.now ≡ other.now) }
     {
-        self.issue.is_same(&other.issue)
-            && self.ratio.is_same(&other.ratio)
-            && self.lieu == other.lieu
+        self.issue.is_same(&other.issue) && self.ratio == other.ratio && self.lieu == other.lieu
     }
 }
 
 impl Exchange {
-    /// Whether both are the same value. `==` answers so too; this clause speaks of the values themselves.
+    /// Whether both are the same value.
     pub fn is_same(&self, other: &Exchange) -> bool
         ensures { (result ≡ true) ↔ (self.now ≡ other.now) }
     {
         self.old.is_same(&other.old)
             && self.successor.is_same(&other.successor)
-            && self.ratio.is_same(&other.ratio)
+            && self.ratio == other.ratio
             && self.lieu == other.lieu
             && self.cash == other.cash
     }

@@ -1,10 +1,8 @@
 // Buy-ins: notices, the members that are liable for them, and executions.
-ghost use Rattle.std.specs.Prelude.{◌≡◌, ◌↔◌, true};
-
 use cns_units::{Cusip, Member, Money, Shares};
 
 /// A notice of intention to buy in, as it was given (NSCC Rule 11 and Procedure X).
-#[derive(Clone, Copy, Debug, PartialEq, Eq)]
+#[derive(Clone, Copy)]
 pub struct Given {
     /// The long member that gave it.
     pub member: Member,
@@ -16,7 +14,7 @@ pub struct Given {
 }
 
 /// How a notice stands (this project's profile).
-#[derive(Clone, Copy, Debug, PartialEq, Eq)]
+#[derive(Clone, Copy, PartialEq, Eq)]
 pub enum Stage {
     /// It can be withdrawn or, on the second day after its own, executed.
     Live,
@@ -29,7 +27,7 @@ pub enum Stage {
 }
 
 /// The execution of a notice: shares that its member bought in, for money (NSCC Procedure X).
-#[derive(Clone, Copy, Debug, PartialEq, Eq)]
+#[derive(Clone, Copy, PartialEq, Eq)]
 pub struct Execution {
     /// The notice's number, from 1.
     pub notice: u32,
@@ -39,7 +37,7 @@ pub struct Execution {
 }
 
 /// A member that is short in an issue at a close.
-#[derive(Clone, Copy, Debug, PartialEq, Eq)]
+#[derive(Clone, Copy)]
 pub struct Short {
     pub member: Member,
     /// How many shares it is short, above 0.
@@ -49,7 +47,7 @@ pub struct Short {
 }
 
 /// A member that is liable for the notices of a day in an issue.
-#[derive(Clone, Copy, Debug, PartialEq, Eq)]
+#[derive(Clone, Copy, PartialEq, Eq)]
 pub struct Liable {
     pub member: Member,
     /// The age of its short at the close of that day.
@@ -61,32 +59,11 @@ pub struct Liable {
 }
 
 /// What an execution gives a liable member, and what it pays for them.
-#[derive(Clone, Copy, Debug, PartialEq, Eq)]
+#[derive(Clone, Copy)]
 pub struct Fill {
     pub member: Member,
     /// In shares, above 0.
     pub shares: u64,
     /// Its part of the money, in cents.
     pub cents: u64,
-}
-
-impl Given {
-    /// Whether both are the same value. `==` answers so too; this clause speaks of the values themselves.
-    pub fn is_same(&self, other: &Given) -> bool
-        ensures { (result ≡ true) ↔ (self.now ≡ other.now) }
-    {
-        self.member == other.member
-            && self.issue.is_same(&other.issue)
-            && self.shares == other.shares
-            && self.day == other.day
-    }
-}
-
-impl Execution {
-    /// Whether both are the same value. `==` answers so too; this clause speaks of the values themselves.
-    pub fn is_same(&self, other: &Execution) -> bool
-        ensures { (result ≡ true) ↔ (self.now ≡ other.now) }
-    {
-        self == other
-    }
 }

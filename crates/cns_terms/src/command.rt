@@ -7,7 +7,7 @@ use crate::holding::Key;
 use cns_units::{Account, Cusip, Day, Member, Money, Price, Shares};
 
 /// An issue with a price: as it is listed, or as it is priced anew.
-#[derive(Clone, Copy, Debug, PartialEq, Eq)]
+#[derive(Clone, Copy)]
 pub struct Listing {
     pub issue: Cusip,
     pub price: Price,
@@ -16,7 +16,7 @@ pub struct Listing {
 /// A trade between two members, which settles on its date (NSCC Procedure VII).
 ///
 /// The history keeps every command, so the fields stand in the order in which they take the least room.
-#[derive(Clone, Copy, Debug, PartialEq, Eq)]
+#[derive(Clone, Copy)]
 pub struct Trade {
     /// From 1 to 10^18, used once.
     pub reference: u64,
@@ -31,7 +31,7 @@ pub struct Trade {
 }
 
 /// Shares of an issue that move between a member and the corporation, or that a member means to buy in.
-#[derive(Clone, Copy, Debug, PartialEq, Eq)]
+#[derive(Clone, Copy)]
 pub struct Movement {
     pub member: Member,
     pub issue: Cusip,
@@ -39,7 +39,7 @@ pub struct Movement {
 }
 
 /// What may be accepted into the book.
-#[derive(Clone, Copy, Debug, PartialEq, Eq)]
+#[derive(Clone, Copy)]
 pub enum Activity {
     /// A new member.
     Member(Member),
@@ -70,7 +70,7 @@ pub enum Activity {
 }
 
 /// What the book is asked: to accept an activity, or one of two questions, which change nothing.
-#[derive(Clone, Copy, Debug, PartialEq, Eq)]
+#[derive(Clone, Copy)]
 pub enum Command {
     Activity(Activity),
     /// What stands at a key now.
@@ -120,7 +120,7 @@ impl Activity {
             (Activity::Exchange(one), Activity::Exchange(two)) => one.is_same(two),
             (Activity::Notice(one), Activity::Notice(two)) => one.is_same(two),
             (Activity::Withdraw(one), Activity::Withdraw(two)) => one == two,
-            (Activity::Execute(one), Activity::Execute(two)) => one.is_same(two),
+            (Activity::Execute(one), Activity::Execute(two)) => one == two,
             (Activity::Close(one), Activity::Close(two)) => one.is_same(two),
             _ => false,
         }
@@ -139,7 +139,7 @@ impl Movement {
 }
 
 impl Command {
-    /// Whether both are the same value. `==` answers so too; this clause speaks of the values themselves.
+    /// Whether both are the same value.
     pub fn is_same(&self, other: &Command) -> bool
         ensures { (result ≡ true) ↔ (self.now ≡ other.now) }
     {

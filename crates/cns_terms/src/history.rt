@@ -6,7 +6,7 @@ use crate::reply::Reply;
 use crate::worker::Worker;
 
 /// An entry of the history: a command that was taken, and its reply.
-#[derive(Clone, Copy, Debug, PartialEq, Eq)]
+#[derive(Clone, Copy)]
 pub struct Taken {
     pub worker: Worker,
     /// The number of the command among the worker's, from 1.
@@ -16,7 +16,7 @@ pub struct Taken {
 }
 
 impl Taken {
-    /// Whether both are the same value. `==` answers so too; this clause speaks of the values themselves.
+    /// Whether both are the same value.
     pub fn is_same(&self, other: &Taken) -> bool
         ensures { (result ≡ true) ↔ (self.now ≡ other.now) }
     {

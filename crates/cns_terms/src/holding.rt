@@ -14,7 +14,7 @@ use cns_units::{Account, Cusip};
 use std::cmp::Ordering;
 
 /// An account's place in an issue. Keys are in the order of accounts, and then of the bytes of the CUSIP.
-#[derive(Clone, Copy, Debug, PartialEq, Eq)]
+#[derive(Clone, Copy, PartialEq, Eq)]
 pub struct Key {
     pub account: Account,
     pub issue: Cusip,
@@ -30,7 +30,7 @@ impl Key {
         u128::from(self.account.value()) * (1 << 64) + u128::from(self.issue.body())
     }
 
-    /// Whether both are the same value. `==` answers so too; this clause speaks of the values themselves.
+    /// Whether both are the same value.
     pub fn is_same(&self, other: &Key) -> bool
         ensures { (result ≡ true) ↔ (self.now ≡ other.now) }
     {
@@ -74,7 +74,7 @@ pub fn long(position: i64) -> u64
 }
 
 /// What stands at a key. A key without a holding counts as zeros.
-#[derive(Clone, Copy, Debug, PartialEq, Eq)]
+#[derive(Clone, Copy, PartialEq, Eq)]
 pub struct Holding {
     /// The position in shares: above 0 it is due from the corporation, below 0 to it (NSCC Rule 11).
     pub now: i64,
@@ -107,17 +107,10 @@ impl Holding {
     {
         self.run.max(self.carried)
     }
-
-    /// Whether both are the same value. `==` answers so too; this clause speaks of the values themselves.
-    pub fn is_same(&self, other: &Holding) -> bool
-        ensures { (result ≡ true) ↔ (self.entry.now ≡ other.entry.now) }
-    {
-        self == other
-    }
 }
 
 /// Shares and cents that an activity books for an account in an issue.
-#[derive(Clone, Copy, Debug, PartialEq, Eq)]
+#[derive(Clone, Copy)]
 pub struct Entry {
     pub account: Account,
     pub issue: Cusip,
@@ -125,16 +118,4 @@ pub struct Entry {
     pub shares: i64,
     /// Cents, to the account where positive.
     pub cents: i128,
-}
-
-impl Entry {
-    /// Whether both are the same value. `==` answers so too; this clause speaks of the values themselves.
-    pub fn is_same(&self, other: &Entry) -> bool
-        ensures { (result ≡ true) ↔ (self.now ≡ other.now) }
-    {
-        self.account == other.account
-            && self.issue.is_same(&other.issue)
-            && self.shares == other.shares
-            && self.cents == other.cents
-    }
 }

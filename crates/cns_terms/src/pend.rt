@@ -10,7 +10,7 @@ use cns_units::{Cusip, Day, Member, Money, Shares};
 
 /// A trade as it is booked, on its date: one that was taken ahead of it waits for the close that names that date or a later
 /// one (this project's profile).
-#[derive(Clone, Copy, Debug, PartialEq, Eq)]
+#[derive(Clone, Copy)]
 pub struct Pend {
     /// From 1 to 10^18, used once.
     pub reference: u64,

@@ -1,10 +1,10 @@
 // Why a command is refused.
-ghost use Rattle.std.specs.Prelude.{◌≡◌, ◌↔◌, true};
+ghost use Rattle.std.specs.Prelude.{◌≡◌};
 ghost use Rattle.cns_terms.specs.Numbers.{refusal_number};
 
 /// Why a command is refused. Where several conditions hold, the reply is the refusal of least number (this project's
 /// profile).
-#[derive(Clone, Copy, Debug, PartialEq, Eq)]
+#[derive(Clone, Copy, PartialEq, Eq)]
 pub enum Refusal {
     /// 1: the member's number is taken.
     MemberExists,
@@ -77,12 +77,5 @@ impl Refusal {
             Refusal::NoSuchDay => 19,
             Refusal::PendingTrades => 20,
         }
-    }
-
-    /// Whether both are the same value. `==` answers so too; this clause speaks of the values themselves.
-    pub fn is_same(&self, other: &Refusal) -> bool
-        ensures { (result ≡ true) ↔ (self.now ≡ other.now) }
-    {
-        self == other
     }
 }

@@ -7,7 +7,7 @@ use crate::refusal::Refusal;
 use cns_units::{Account, Cents, Day};
 
 /// What an accepted close answers.
-#[derive(Clone, Copy, Debug, PartialEq, Eq)]
+#[derive(Clone, Copy)]
 pub struct Closed {
     /// The closed day's number, from 1; up to 2^32 - 1, since each close is one entry of the history.
     pub day: u32,
@@ -20,7 +20,7 @@ pub struct Closed {
 }
 
 /// What an accepted request for a statement answers.
-#[derive(Clone, Copy, Debug, PartialEq, Eq)]
+#[derive(Clone, Copy)]
 pub struct Stated {
     pub account: Account,
     /// The closed day's date.
@@ -34,7 +34,7 @@ pub struct Stated {
 }
 
 /// What a POSITION tells of an account's place in an issue.
-#[derive(Clone, Copy, Debug, PartialEq, Eq)]
+#[derive(Clone, Copy)]
 pub struct Held {
     /// The cents booked on the open day: since the last close, and by it for trades that were due.
     pub contract: Cents,
@@ -48,7 +48,7 @@ pub struct Held {
 }
 
 /// The reply to a command.
-#[derive(Clone, Copy, Debug, PartialEq, Eq)]
+#[derive(Clone, Copy)]
 pub enum Reply {
     /// An activity was accepted that has no reply of its own.
     Accepted,
@@ -116,7 +116,7 @@ impl Held {
 }
 
 impl Reply {
-    /// Whether both are the same value. `==` answers so too; this clause speaks of the values themselves.
+    /// Whether both are the same value.
     pub fn is_same(&self, other: &Reply) -> bool
         ensures { (result ≡ true) ↔ (self.now ≡ other.now) }
     {
@@ -127,7 +127,7 @@ impl Reply {
             (Reply::Closed(one), Reply::Closed(two)) => one.is_same(two),
             (Reply::Held(one), Reply::Held(two)) => one.is_same(two),
             (Reply::Stated(one), Reply::Stated(two)) => one.is_same(two),
-            (Reply::Refused(one), Reply::Refused(two)) => one.is_same(two),
+            (Reply::Refused(one), Reply::Refused(two)) => one == two,
             _ => false,
         }
     }

@@ -4,7 +4,7 @@ ghost use Rattle.std.specs.Prelude.{◌≡◌, ◌↔◌, true};
 use cns_units::{Account, Cents, Cusip, Price};
 
 /// An account's row in an issue on a closed day's sheet.
-#[derive(Clone, Copy, Debug, PartialEq, Eq)]
+#[derive(Clone, Copy, PartialEq, Eq)]
 pub struct Row {
     pub account: Account,
     pub issue: Cusip,
@@ -26,7 +26,7 @@ pub struct Row {
 }
 
 impl Row {
-    /// Whether both are the same value. `==` answers so too; this clause speaks of the values themselves.
+    /// Whether both are the same value.
     pub fn is_same(&self, other: &Row) -> bool
         ensures { (result ≡ true) ↔ (self.now ≡ other.now) }
     {

@@ -5,7 +5,7 @@ ghost use Rattle.cns_terms.specs.Sources.{Answer, Ends, Gives, Repeats, Told};
 use crate::command::Command;
 
 /// What a source gives.
-#[derive(Clone, Copy, Debug, PartialEq, Eq)]
+#[derive(Clone, Copy)]
 pub enum Item {
     /// The next command.
     Given(Command),
@@ -16,7 +16,7 @@ pub enum Item {
 }
 
 /// Why a source gives no more.
-#[derive(Clone, Copy, Debug, PartialEq, Eq)]
+#[derive(Clone, Copy, PartialEq, Eq)]
 pub enum SourceFault {
     /// What is read from failed, or gave as many records as one worker reads.
     Read,

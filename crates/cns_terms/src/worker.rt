@@ -6,7 +6,7 @@ use cns_units::UnitFault;
 use std::marker::Model;
 
 /// A worker, 1 to 64. Each worker's commands are numbered on their own.
-#[derive(Clone, Copy, Debug, PartialEq, Eq, PartialOrd, Ord)]
+#[derive(Clone, Copy, PartialEq, Eq)]
 pub struct Worker {
     number: u8,
 }

@@ -2,7 +2,7 @@
 use cns_units::Day;
 
 /// What a trade is checked against.
-#[derive(Clone, Copy, Debug, PartialEq, Eq)]
+#[derive(Clone, Copy)]
 pub struct TradeFacts {
     /// The buyer's position in the issue, in shares; None where the buyer is no member.
     pub buyer: Option<i64>,
@@ -17,7 +17,7 @@ pub struct TradeFacts {
 }
 
 /// What a delivery or a receipt is checked against.
-#[derive(Clone, Copy, Debug, PartialEq, Eq)]
+#[derive(Clone, Copy)]
 pub struct MoveFacts {
     /// The member's position in the issue, in shares; None where it is no member.
     pub member: Option<i64>,

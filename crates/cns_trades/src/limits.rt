@@ -46,7 +46,7 @@ fn moved(position: i64, shares: i64) -> i64
 }
 
 /// A party of a trade: its position in the issue, and what it is to get and to give there by trades that wait.
-#[derive(Clone, Copy, Debug, PartialEq, Eq)]
+#[derive(Clone, Copy)]
 pub(crate) struct Party {
     pub position: i64,
     pub waiting: Sides,

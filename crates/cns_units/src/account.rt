@@ -9,7 +9,7 @@ const LAST: u16 = 9999;
 
 /// An account, 0 to 9999. Account 0 is the clearing corporation's (this project's profile; the corporation stands
 /// between buyer and seller by NSCC Rule 11).
-#[derive(Clone, Copy, Debug, PartialEq, Eq, PartialOrd, Ord)]
+#[derive(Clone, Copy, PartialEq, Eq)]
 pub struct Account {
     number: u16,
 }
@@ -50,7 +50,7 @@ impl Account {
 }
 
 /// A member's number, 1 to 9999, which is that of its account.
-#[derive(Clone, Copy, Debug, PartialEq, Eq, PartialOrd, Ord)]
+#[derive(Clone, Copy, PartialEq, Eq, PartialOrd, Ord)]
 pub struct Member {
     number: u16,
 }

@@ -12,7 +12,7 @@ use std::cmp::Ordering;
 use std::marker::Model;
 
 /// The number of a security, with its check digit. CUSIPs are in the order of their bytes.
-#[derive(Clone, Copy, Debug)]
+#[derive(Clone, Copy)]
 pub struct Cusip {
     text: [u8; 9],
 }

@@ -16,7 +16,7 @@ use std::io::Write;
 use std::marker::Model;
 
 /// A day from 0001-01-01 to 9999-12-31. Days are equal and ordered by their numbers.
-#[derive(Clone, Copy, Debug)]
+#[derive(Clone, Copy)]
 pub struct Day {
     year: u16,
     month: u8,

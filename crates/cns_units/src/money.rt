@@ -13,7 +13,7 @@ use std::marker::Model;
 const MOST: u64 = 1_000_000_000_000_000_000;
 
 /// The money of one command, in whole cents from 0 to 10^18 (this project's profile).
-#[derive(Clone, Copy, Debug, PartialEq, Eq, PartialOrd, Ord)]
+#[derive(Clone, Copy, PartialEq, Eq)]
 pub struct Money {
     cents: u64,
 }
@@ -51,7 +51,7 @@ impl Money {
 }
 
 /// An amount of whole cents that the book has reckoned, of either sign.
-#[derive(Clone, Copy, Debug, PartialEq, Eq, PartialOrd, Ord)]
+#[derive(Clone, Copy, PartialEq, Eq)]
 pub struct Cents {
     amount: i128,
 }

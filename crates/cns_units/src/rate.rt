@@ -8,7 +8,7 @@ use std::marker::Model;
 const MOST: u64 = 100_000_000_000;
 
 /// What a dividend pays for one share, in millionths of a dollar from 1 to 10^11 (this project's profile).
-#[derive(Clone, Copy, Debug, PartialEq, Eq, PartialOrd, Ord)]
+#[derive(Clone, Copy, PartialEq, Eq)]
 pub struct Rate {
     millionths: u64,
 }

@@ -1,5 +1,5 @@
 // Ratios of splits and exchanges.
-ghost use Rattle.std.specs.Prelude.{◌≡◌, ◌^◌, ◌≤◌, ◌↔◌, true};
+ghost use Rattle.std.specs.Prelude.{◌≡◌, ◌^◌, ◌≤◌};
 ghost use Rattle.cns_units.specs.Ranges.{is_part, ratio_of};
 
 use crate::fault::UnitFault;
@@ -9,7 +9,7 @@ const MOST: u16 = 10_000;
 
 /// How many new shares stand for how many old ones, each from 1 to 10,000 (this project's profile). A ratio is kept as
 /// it is written: 2 for 4 is not 1 for 2.
-#[derive(Clone, Copy, Debug, PartialEq, Eq)]
+#[derive(Clone, Copy, PartialEq, Eq)]
 pub struct Ratio {
     new: u16,
     old: u16,
@@ -57,12 +57,5 @@ impl Ratio {
         ensures old_range { (1 ≤ self.old) × (self.old ≤ 10 ^ 4) }
     {
         (self.new, self.old)
-    }
-
-    /// Whether both are the same value. `==` answers so too; this clause speaks of the values themselves.
-    pub fn is_same(&self, other: &Ratio) -> bool
-        ensures { (result ≡ true) ↔ (self.now ≡ other.now) }
-    {
-        self.new == other.new && self.old == other.old
     }
 }

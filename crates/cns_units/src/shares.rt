@@ -8,7 +8,7 @@ use std::marker::Model;
 const MOST: u64 = 1_000_000_000;
 
 /// The shares of one command: whole, from 1 to 1,000,000,000 (this project's profile).
-#[derive(Clone, Copy, Debug, PartialEq, Eq, PartialOrd, Ord)]
+#[derive(Clone, Copy, PartialEq, Eq)]
 pub struct Shares {
     count: u32,
 }

@@ -11,7 +11,7 @@ use itoa::Buffer;
 use std::io::Write;
 
 /// A word of a line.
-#[derive(Clone, Copy, Debug, PartialEq, Eq)]
+#[derive(Clone, Copy)]
 pub enum Word<'a> {
     /// Bytes as they are.
     Text(&'a [u8]),

@@ -24,7 +24,12 @@ fn same_entries<P: Positions<H>, H: Allocator + Drop + Clone>(
     other: &Book<P, H>,
 ) -> bool {
     for place in 0..ENTRIES {
-        if one.entry(place) != other.entry(place) {
+        let alike = match (one.entry(place), other.entry(place)) {
+            (Some(entry), Some(twin)) => entry.is_same(&twin),
+            (None, None) => true,
+            _ => false,
+        };
+        if !alike {
             return false;
         }
     }
