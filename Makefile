@@ -160,7 +160,7 @@ test:
 
 # fuzz: random, directed and mutated streams of records, by the program as it is built and by a recomputation, for ten minutes
 fuzz: build
-	@python3 tests/fuzz.py $(PROGRAM) $(FUZZ)
+	@python3 tests/fuzz.py $(PROGRAM) $(PAGE) $(FUZZ)
 
 # trials: the further edits of each crate that the check must refuse; CRATES="cns_tree cns_feed" tries those of some crates
 trials:

@@ -2,13 +2,14 @@
 """Plays random, directed and mutated streams of records over the program, and compares what it prints with
 tests/recompute.py.
 
-usage: tests/fuzz.py PROGRAM [--seconds N]
-       tests/fuzz.py PROGRAM --seeds FIRST COUNT [--reach]
+usage: tests/fuzz.py PROGRAM PAGE [--seconds N]
+       tests/fuzz.py PROGRAM PAGE --seeds FIRST COUNT [--reach]
        tests/fuzz.py --model
 
 tests/streams.py makes a stream by a seed, which is told, so that a difference can be seen again. Each is replayed by the
-program; a third is taken by `statements` of each closed day and of others, and a third by `run` over one to four files. A
-difference is cut down to few records, which are printed with both answers, and the status is 1.
+program; a third is taken by `statements` of each closed day and of others, a third by `run` over one to four files, and a
+third by the page of each closed day, whose figures are read off it. A difference is cut down to few records, which are printed
+with both answers, and the status is 1.
 
 Seeds rise from a random one for so many seconds, 20 where none are given. With --seeds they are the same each time. With
 --reach these streams together must reach all that stands in tests/reached.py: how often they do is told, and the status is 1
@@ -29,6 +30,7 @@ import sys
 import tempfile
 import time
 
+import figures
 import reached
 import recompute
 import streams
@@ -195,6 +197,17 @@ def answers_run(program, play):
         yield f"a run of {count} files", due, run(program, [*words, *names], b"")
 
 
+def answers_pages(page, play):
+    """The figures of the page of each closed day, and of the day before the first one, which has none."""
+    before = play.opening - datetime.timedelta(1) if play.opening > datetime.date.min else datetime.date.max
+    words = ["--open", str(play.opening), "--day"]
+    yield "a page of no day", (b"", b"fault NoSuchDay\n", 1), run(page, [*words, str(before)], play.text)
+    for day, lines in figures.days_of(play.text, play.opening):
+        output, errors, status = run(page, [*words, str(day)], play.text)
+        got = recompute.written(figures.shown(output)) if status == 0 else output
+        yield "a page of a closed day", (recompute.written(lines), b"", 0), (got, errors, status)
+
+
 def difference(answers, program, play):
     """The first that differs: what was asked, what was due, and what came. None where all agree."""
     return next((it for it in answers(program, play) if it[1] != it[2]), None)
@@ -237,11 +250,11 @@ def tell(answers, program, play):
 
 
 def checks(seed):
-    """What a stream is taken by: all by a replay, and each third by the statements or by a run."""
-    return [[answers_replay, answers_statements], [answers_replay, answers_run], [answers_replay]][seed % 3]
+    """What a stream is taken by: all by a replay, and each third by the statements, by a run or by pages."""
+    return [answers_replay, [answers_statements, answers_run, answers_pages][seed % 3]]
 
 
-def fuzz(program, seeds, seconds):
+def fuzz(program, page, seeds, seconds):
     """Plays streams by seeds; how often each thing is reached, or None where one differs."""
     begun, count, records, found = time.monotonic(), 0, 0, collections.Counter()
     for seed in seeds:
@@ -249,10 +262,11 @@ def fuzz(program, seeds, seconds):
             break
         play = Play(seed, *streams.stream(seed))
         for answers in checks(seed):
-            for asked, due, got in answers(program, play):
+            asked_of = page if answers is answers_pages else program
+            for asked, due, got in answers(asked_of, play):
                 found[asked] += 1
                 if due != got:
-                    tell(answers, program, play)
+                    tell(answers, asked_of, play)
                     return None
         found.update(reached.by(play))
         count += 1
@@ -265,6 +279,7 @@ def fuzz(program, seeds, seconds):
 def main():
     parser = argparse.ArgumentParser(usage=__doc__.split("usage:")[1].split("\n\n")[0])
     parser.add_argument("program", nargs="?")
+    parser.add_argument("page", nargs="?")
     parser.add_argument("--model", action="store_true")
     parser.add_argument("--seconds", type=float, default=20)
     parser.add_argument("--seeds", type=int, nargs=2)
@@ -276,7 +291,7 @@ def main():
               "fuzz: the recomputation agrees with all cases and samples")
         return bool(differ)
     first, count = asked.seeds or (random.SystemRandom().randrange(10**9), 10**6)
-    found = fuzz(asked.program, range(first, first + count), 10**6 if asked.seeds else asked.seconds)
+    found = fuzz(asked.program, asked.page, range(first, first + count), 10**6 if asked.seeds else asked.seconds)
     return found is None or (asked.reach and not reached.tell(found))
 
 
