@@ -1,7 +1,7 @@
 /* Stands between a program and its inputs and outputs: input comes in blocks and may fail where it ends, an output takes few
    bytes, has room for so many, and then fails, and calls may be interrupted. What is not set stays as the system has it.
 
-   BLOCKS=9,14   the first reads of standard input give 9 and 14 bytes at most; later ones as many as are asked for
+   BLOCKS=9,14   standard input comes in blocks of 9 and 14 bytes, which no read passes, and then as it is asked for
    BROKEN=0      where the input with this descriptor has ended, a read fails: 0 is standard input, 3 the first file
    STEP=3        a write takes 3 bytes at most
    ROOM=20       standard output takes 20 bytes in all, ERRORS=5 standard error 5; then a write fails, or with FULL=1
@@ -22,7 +22,7 @@
 enum { OUTPUT = 1, ERRORS = 2, TOLD = 9 };
 
 static const char *blocks;
-static long step, room[3], given, taken;
+static long left, step, room[3], given, taken;
 static int broken, is_full, has_signals, has_failed[3], calls;
 
 static long number(const char *name, long otherwise) {
@@ -49,25 +49,27 @@ static ssize_t fail(int error) {
 
 static int is_interrupted(void) { return has_signals && ++calls % 3 != 0; }
 
-/* As many bytes as the next block has, or as are asked for behind the last one. */
-static size_t block(size_t count) {
+/* As many bytes as are left of a block, or as are asked for behind the last one. */
+static size_t within(size_t count) {
     char *end;
-    if (!blocks || !*blocks) return count;
-    size_t size = strtoul(blocks, &end, 10);
-    blocks = *end == ',' ? end + 1 : end;
-    return size < count ? size : count;
+    if (left == 0 && blocks && *blocks) {
+        left = strtol(blocks, &end, 10);
+        blocks = *end == ',' ? end + 1 : end;
+    }
+    return left > 0 && (size_t)left < count ? (size_t)left : count;
 }
 
 ssize_t read(int from, void *buffer, size_t count) {
     if (from == broken && has_failed[0]) tell("late");
     if (is_interrupted()) return fail(EINTR);
     if (from == 0) tell("read");
-    ssize_t got = syscall(SYS_read, from, buffer, from == 0 ? block(count) : count);
+    ssize_t got = syscall(SYS_read, from, buffer, from == 0 ? within(count) : count);
     if (got == 0 && count > 0 && from == broken) {
         has_failed[0] = 1;
         return fail(EIO);
     }
     if (got > 0 && from == 0) given += got;
+    if (got > 0 && from == 0 && left > 0) left -= got;
     return got;
 }
 
