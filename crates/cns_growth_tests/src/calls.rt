@@ -1,7 +1,7 @@
 // Each call below the book that takes memory, with each of its growths refused in turn.
-use crate::actions::Opened;
+use crate::actions::{NextPositions, Opened};
 use crate::batches::{Choose, Fill};
-use crate::maps::{Prepare, Rebuilt};
+use crate::maps::{Prepare, Rebuilt, Run};
 use crate::opening::Opening;
 use crate::parts::{Declare, List, NoteReference, Open, PendTrade};
 use crate::refusing::{Handle, Rations, Refusing, most_growths};
@@ -22,6 +22,14 @@ fn refuse_each<'a, H: Handle<'a>>(rt: &impl Abort, global: Global, rationed: Rat
     assert!(rt; most_growths::<H, Prepare<FlatPositions<H>>>(rt, global, rationed, 4) >= 1);
     assert!(rt; most_growths::<H, Rebuilt<TreePositions<H>>>(rt, global, rationed, 0) >= 24);
     assert!(rt; most_growths::<H, Rebuilt<FlatPositions<H>>>(rt, global, rationed, 0) >= 1);
+    assert!(rt; most_growths::<H, Run<TreePositions<H>, H>>(rt, global, rationed, 0) >= 25);
+    assert!(rt; most_growths::<H, Run<FlatPositions<H>, H>>(rt, global, rationed, 0) >= 2);
+    assert!(rt;
+        most_growths::<H, NextPositions<TreePositions<H>, H>>(rt, global, rationed, 0) >= 50
+    );
+    assert!(rt;
+        most_growths::<H, NextPositions<FlatPositions<H>, H>>(rt, global, rationed, 0) >= 4
+    );
     assert!(rt; most_growths::<H, Opened<TreePositions<H>, H>>(rt, global, rationed, 0) >= 25);
     assert!(rt; most_growths::<H, Opened<FlatPositions<H>, H>>(rt, global, rationed, 0) >= 3);
     assert!(rt; most_growths::<H, List<H>>(rt, global, rationed, 0) >= 1);

@@ -1,11 +1,14 @@
 // The calls of positions that take memory, over both forms.
+ghost use Rattle.cns_positions.specs.Steps.{SumsFit, nowhere};
+
 use crate::refusing::Call;
 use crate::trees::rows_of;
 use crate::units::{holding, key};
-use cns_positions::Positions;
+use cns_positions::{Positions, Step, run};
 use cns_terms::Holding;
 use cns_tree::Tree;
 use std::alloc::{Allocator, Global};
+use std::marker::PhantomData;
 use std::process::Abort;
 
 // Puts rows of the accounts 1 to `count`, each with as many shares as its number.
@@ -79,5 +82,52 @@ impl<H: Allocator + Drop + Clone, P: Positions<H>> Call<H> for Rebuilt<P> {
 
     fn make(&mut self, rt: &impl Abort) -> bool {
         built_beside(rt, self.global, &self.empty, &self.rows).is_some()
+    }
+}
+
+// Steps on an empty map.
+#[derive(Drop)]
+pub(crate) struct Run<P, H: Drop> {
+    alloc: H,
+    global: Global,
+    size: u16,
+    form: PhantomData<P>,
+}
+
+// Books shares at the key of each account below `count`, and asks what stands there.
+fn steps(rt: &impl Abort, global: Global, count: u16) -> Vec<Step>
+    ensures { SumsFit nowhere result.items }
+{
+    let mut steps = Vec::new(global);
+    for number in 0..count {
+        let key = &key(rt, number);
+        let booking = Step::Add {
+            key: *key,
+            shares: i64::from(number),
+            cents: 1,
+        };
+        steps.push(booking).expect(rt, "memory");
+        steps.push(Step::Get(*key)).expect(rt, "memory");
+    }
+    assert!(rt; steps.len() <= 6_000);
+    steps
+}
+
+impl<H: Allocator + Drop + Clone, P: Positions<H>> Call<H> for Run<P, H> {
+    fn prepared(_rt: &impl Abort, global: Global, alloc: H, size: u16) -> Self {
+        Run {
+            alloc,
+            global,
+            size,
+            form: PhantomData,
+        }
+    }
+
+    fn make(&mut self, rt: &impl Abort) -> bool {
+        let steps = steps(rt, self.global, self.size);
+        match self.alloc.clone() {
+            Ok(alloc) => run::<P, H>(alloc, steps.as_slice()).is_ok(),
+            Err(_) => false,
+        }
     }
 }
