@@ -3,7 +3,8 @@
 # status and at both outputs.
 #
 # usage: tests/refused.sh PROGRAM DRIVER
-# DRIVER is the program of cns_cases, which with a word on its line makes those calls of a desk that no subcommand makes.
+# DRIVER is the program of cns_cases, which with a word on its line makes those calls of a desk that no subcommand makes, or
+# statements between the calls of a gate.
 # Prints a line for each input that passes. Prints one line of what failed, and exits with status 1 then.
 set -u
 
@@ -147,6 +148,23 @@ drive_desk() {
     fail 'desk: no end of growths'
 }
 
+# Refuses each growth of the statements of a day in turn. Their gate and the library write to one file, which tells the order: in
+# some run the growth of each statement is refused between the two calls of its gate.
+drive_gate() {
+    local growth told all=
+    for growth in $(seq 1 "$most"); do
+        LD_PRELOAD=$room/refuse.so REFUSE=$growth "$driver" statements <"$examples/day.csv" >"$room/told" 2>&1 9>&1
+        take told "$room/told"
+        if [[ $told != *refused* ]]; then
+            [ -n "$all" ] && [ "$told" = "$all" ] || fail 'a gate: no growth between the two calls of some statement'
+            echo "refused: statements and their gate: $((growth - 1)) growths"
+            return
+        fi
+        [ "$told" != "$all"$'before\nrefused\nanswered\n' ] || all+=$'before\nanswered\n'
+    done
+    fail 'a gate: no end of growths'
+}
+
 # The records of a file: members, an issue and so many trades that no other file has, so that any order gives one tally.
 records() {
     local number=$1 issue=$2 trades=$3
@@ -168,3 +186,4 @@ drive 'statements by four workers' "$examples/week.csv" 'nothing spawn' statemen
 [ "$growths" -gt "$by_one" ] || fail 'four workers ask for no more than one'
 drive 'a run of two files' /dev/null 'nothing spawn worker-1 worker-2' run --open 2024-06-03 "$room/one.csv" "$room/two.csv"
 drive_desk
+drive_gate

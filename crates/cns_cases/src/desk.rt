@@ -16,7 +16,7 @@ use std::sync::Wait;
 use std::sync::ledger::{Blank, Ledger};
 
 // The date of the first record's day.
-const OPENING: &[u8] = b"2024-06-03";
+pub(crate) const OPENING: &[u8] = b"2024-06-03";
 
 // Opens a desk and gives it the commands. `NoDesk` where it could not be opened.
 fn run<L: Ledger, R: Eprint + Wait, W: Write>(

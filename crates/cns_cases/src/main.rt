@@ -22,7 +22,8 @@
 //! an invalid record, each other one a command, and each reply `closed ..` a close. A load of the same records has to
 //! count the same. Start with `playing`.
 //!
-//! With any word on its line the program plays no file, but standard input at a desk: see `desk`.
+//! With a word on its line the program plays no file, but standard input: with `desk` at a desk, see `desk`; with another in
+//! a book of which it makes statements, see `statements`.
 #![tactic(auto)]
 
 mod bytes;
@@ -32,6 +33,7 @@ mod desk;
 mod failure;
 mod files;
 mod playing;
+mod statements;
 
 use case::Case;
 use cns_positions::{FlatPositions, TreePositions};
@@ -81,19 +83,21 @@ fn play_folder<R: Runtime + AllocGlobal>(rt: &R) -> io::Result<bool> {
     Ok(agree)
 }
 
-// Whether the line has a word after the program's name; None where its words cannot be read.
-fn has_words(rt: &HostRuntime) -> Option<bool> {
-    let words = env::args(rt).ok()?;
-    Some(words.len() > 1)
+// The word after the program's name, if the line has one.
+fn word(rt: &HostRuntime) -> io::Result<Option<String>> {
+    let mut words = env::args(rt)?;
+    let _name = words.next();
+    Ok(words.next())
 }
 
 fn main(rt: HostRuntime) -> io::Result<ExitCode> {
-    match has_words(&rt) {
-        Some(true) => Ok(desk::play(&rt, rt.stdin())),
-        Some(false) => {
+    match word(&rt) {
+        Ok(Some(word)) if word.as_str() == "desk" => Ok(desk::play(&rt, rt.stdin())),
+        Ok(Some(_)) => Ok(statements::play(&rt, rt.stdin())),
+        Ok(None) => {
             let agree = play_folder(&rt)?;
             Ok(ExitCode::from(u8::from(!agree)))
         }
-        None => Ok(ExitCode::from(3)),
+        Err(_) => Ok(ExitCode::from(3)),
     }
 }
