@@ -1,32 +1,24 @@
--- The rows of a sheet, written one after another under their accounts.
--- For `write_rows` of accounts.rt.
-use Rattle.std.proofs.Common.{◌≡◌, ℕ, List, ◌∷◌, ◌++◌, Option, Some, append_assoc, ap, sym, ◌∙◌}
-use Rattle.std.specs.Io.KnownBytes.{Appends}
-use Rattle.std.proofs.KnownBytes.{Appends-trans}
+-- The lines of a sheet, row by row.
+-- For `lines_of` of accounts.rt.
+use Rattle.std.proofs.Common.{◌≡◌, List, ◌∷◌, ◌++◌, Option, Some, append_assoc, append-nil, [], ap, sym, ◌∙◌}
 use Rattle.cns_terms.specs.Common.{Account, DaySheet}
 use Rattle.cns_terms.specs.declared.sheet.Row.{Row}
-use Rattle.cns_units.specs.Output.{AppendsFront}
-use Rattle.cns_units.proofs.OutputLemmas.{front_later, front_longer}
-use Rattle.cns_page.specs.Accounts.{grouped_html, rows_after}
+use Rattle.cns_page.specs.Accounts.{grouped, lines_after}
+use Rattle.cns_page.specs.declared.accounts.SheetLine.{SheetLine}
 
 -- the first of some rows, and those after it
-rows_next : (s : DaySheet) (before : Option Account) (left : List Row) (r : Row) (rest : List Row) → left ≡ r ∷ rest → rows_after s before left ≡ grouped_html s before r ++ rows_after s (Some r.account) rest
-unfolding rows_after
-rows_next s before left r rest next = ap (λ rs. rows_after s before rs) next
+rows_next : (s : DaySheet) (before : Option Account) (left : List Row) (r : Row) (rest : List Row) → left ≡ r ∷ rest → lines_after s before left ≡ grouped s before r ++ lines_after s (Some r.account) rest
+unfolding lines_after
+rows_next s before left r rest next = ap (λ rs. lines_after s before rs) next
 
--- one more row was written
-pub grouped_more : (s : DaySheet) (before : Option Account) (old mid new : Option (List ℕ)) (text : List ℕ) (left : List Row) (r : Row) (rest : List Row) (done : List ℕ) → left ≡ r ∷ rest
-    → text ≡ done ++ rows_after s before left → Appends old mid done → Appends mid new (grouped_html s before r)
-    → (more : List ℕ) × (text ≡ more ++ rows_after s (Some r.account) rest) × Appends old new more
-grouped_more s before old mid new text left r rest done next is a b = (
-  done ++ grouped_html s before r,
-  is ∙ ap (λ t. done ++ t) (rows_next s before left r rest next) ∙ sym (append_assoc done (grouped_html s before r) (rows_after s (Some r.account) rest)),
-  Appends-trans old mid new done (grouped_html s before r) a b,
-)
+-- one more row
+pub lines_more : (s : DaySheet) (before : Option Account) (all items new : List SheetLine) (left : List Row) (r : Row) (rest : List Row) → left ≡ r ∷ rest
+    → new ≡ items ++ grouped s before r → all ≡ items ++ lines_after s before left → all ≡ new ++ lines_after s (Some r.account) rest
+lines_more s before all items new left r rest next is was =
+    was ∙ ap (λ t. items ++ t) (rows_next s before left r rest next) ∙ sym (append_assoc items (grouped s before r) (lines_after s (Some r.account) rest))
+    ∙ ap (λ t. t ++ lines_after s (Some r.account) rest) (sym is)
 
--- writing one failed
-pub grouped_failed : (s : DaySheet) (before : Option Account) (old mid new : Option (List ℕ)) (text : List ℕ) (left : List Row) (r : Row) (rest : List Row) (done : List ℕ) → left ≡ r ∷ rest
-    → text ≡ done ++ rows_after s before left → Appends old mid done → AppendsFront mid new (grouped_html s before r) → AppendsFront old new text
-grouped_failed s before old mid new text left r rest done next is a b =
-    rw (is, rows_next s before left r rest next) (front_later old mid new done (grouped_html s before r ++ rows_after s (Some r.account) rest) a
-    (front_longer mid new (grouped_html s before r) (rows_after s (Some r.account) rest) b))
+-- no row is left
+pub lines_end : (s : DaySheet) (before : Option Account) (all items : List SheetLine) (left : List Row) → left ≡ [] → all ≡ items ++ lines_after s before left → items ≡ all
+unfolding lines_after
+lines_end s before all items left none was = sym (was ∙ ap (λ rs. items ++ lines_after s before rs) none ∙ append-nil items)

@@ -1,4 +1,4 @@
-pub mod ContainsLemmas
+pub mod Written
 pub mod Grouped
 pub mod Adding
 pub mod Figured
@@ -12,5 +12,4 @@ pub mod Numbering
 pub mod Ordered
 pub mod Later
 pub mod Oldest
-pub mod ShownLemmas
 pub mod MakeLemmas

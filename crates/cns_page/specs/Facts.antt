@@ -1,8 +1,11 @@
 -- Facts that decided a refusal, as a book shows them.
-use Rattle.std.specs.Prelude.{◌≡◌, IfSome, Some, option_map}
+use Rattle.std.specs.Prelude.{◌≡◌, IfSome, List, [], ◌∷◌, Option, Some, option_map}
 use Rattle.cns_terms.specs.Common.{State}
 use Rattle.cns_book.specs.Shown.{notice_shown, position_shown, price_shown}
-use Rattle.cns_page.specs.declared.finding.Facts.{Facts}
+use Rattle.cns_terms.specs.declared.refusal.Refusal.{Refusal}
+use Rattle.cns_terms.specs.declared.refusal.Refusal.TheVariants as refusal
+use Rattle.cns_page.specs.declared.finding.Fact.{Fact}
+use Rattle.cns_page.specs.declared.finding.Fact.TheVariants as fact
 use Rattle.cns_page.specs.declared.finding.Numbered.{Numbered}
 use Rattle.cns_page.specs.declared.finding.Quote.{Quote}
 use Rattle.cns_page.specs.declared.finding.Stand.{Stand}
@@ -19,10 +22,14 @@ IsStanding S s = s.position ≡ option_map (λ h. h.now) (position_shown S (reco
 abbrev pub IsNumbered : State → Numbered → Type 0
 IsNumbered S n = notice_shown S n.number ≡ Some n.notice
 
+-- a fact as the book shows it
+abbrev pub IsShown : State → Refusal → Fact → Type 0
+IsShown S r (fact.Price q) = IsQuoted S q
+IsShown S r (fact.Position s) = IsStanding S s
+IsShown S r (fact.Notice n) = IsNumbered S n
+IsShown S r (fact.Room n) = r ≡ refusal.NotLiable n
+
 -- what decided a refusal is as the book shows it
-pub record AreShown (S : State) (f : Facts) : Type 0 where
-  pub quote : IfSome f.quote (IsQuoted S)
-  pub successor : IfSome f.successor (IsQuoted S)
-  pub stand : IfSome f.stand (IsStanding S)
-  pub other : IfSome f.other (IsStanding S)
-  pub notice : IfSome f.notice (IsNumbered S)
+abbrev pub AreShown : State → Refusal → List (Option Fact) → Type 0
+AreShown S r [] = Unit {0}
+AreShown S r (f ∷ fs) = IfSome f (IsShown S r) × AreShown S r fs

@@ -1,40 +1,27 @@
 -- What a page that was written shows.
-use Rattle.std.specs.Prelude.{◌≡◌, ℕ, ◌+◌, ◌-◌, nat_le, if◌then◌else◌, List, ◌++◌, take, drop, slice_get, Option, Some, None}
-use Rattle.std.specs.Option.{option_map_or}
+use Rattle.std.specs.Prelude.{◌≡◌, ℕ, ◌+◌, ◌-◌, ◌^◌, List, [], ◌∷◌, length, map, min, take, slice_get, Option, Some}
+use Rattle.std.specs.Io.KnownBytes.{Appends}
 use Rattle.std.specs.Ordering.{int_cmp, nat_cmp}
 use Rattle.cns_terms.specs.Common.{Day, DaySheet, date, journal_of, opened}
 use Rattle.cns_units.specs.Day.{day_number}
 use Rattle.cns_terms.specs.declared.command.Trade.{Trade}
 use Rattle.cns_terms.specs.Sheets.{sheet_on}
 use Rattle.cns_book.specs.Log.{Log, state_of}
-use Rattle.cns_book.specs.Shown.{batches_shown}
 use Rattle.cns_feed.specs.Output.{lines_of}
 use Rattle.cns_feed.specs.Replay.{blank_log, log_after}
-use Rattle.cns_page.specs.Accounts.{rows_html, totals_html}
-use Rattle.cns_page.specs.Contains.{Contains}
-use Rattle.cns_page.specs.Findings.{findings_html}
-use Rattle.cns_page.specs.Listed.{IsInOrderOf, figures_shown, live_shown, looked_at, shorts_among, later_among}
-use Rattle.cns_page.specs.Lists.{batches_html, days_html, last_days, notices_html, shorts_html, trades_html}
+use Rattle.cns_page.specs.Accounts.{sheet_lines}
+use Rattle.cns_page.specs.Listed.{IsInOrderOf, counts, day_findings, due, figures_shown, findings_before, later_among, later_findings, liable_shown, live_shown, looked_at, records_before, shorts_among}
+use Rattle.cns_page.specs.Page.{page_text}
 use Rattle.cns_page.specs.Survey.{IsChosen, known, noted_all, nothing}
 use Rattle.cns_page.specs.declared.asked.Asked.{Asked}
+use Rattle.cns_page.specs.declared.captions.Captions.{Captions}
+use Rattle.cns_page.specs.declared.contents.Contents.{Contents}
+use Rattle.cns_page.specs.declared.contents.Head.{Head}
 use Rattle.cns_page.specs.declared.figures.Figures.{Figures}
-use Rattle.cns_page.specs.declared.finding.Finding.{Finding}
-use Rattle.cns_page.specs.declared.page.Lists.{Lists}
 use Rattle.cns_page.specs.declared.shorts.Aged.{Aged}
 use Rattle.cns_page.specs.declared.survey.Close.{Close}
 use Rattle.cns_page.specs.declared.survey.Survey.{Survey}
-
--- the close before the one at a place
-abbrev pub close_before : List Close → ℕ → Option Close
-close_before closes place = if nat_le 1 place then slice_get closes (place - 1) else None
-
--- how many findings there are before the day that the close at a place ends
-abbrev pub findings_before : Survey → ℕ → ℕ
-findings_before s place = option_map_or (λ c. c.findings) (close_before s.closes.items place) 0
-
--- the findings of the day that a close at a place ends
-abbrev pub day_findings : Survey → ℕ → Close → List Finding
-day_findings s place c = drop (findings_before s place) (take c.findings s.findings.items)
+use Rattle.cns_page.specs.declared.totals.Span.{Span}
 
 -- the members' shorts on a sheet, the oldest first
 abbrev pub AreShorts : Log → DaySheet → List Aged → Type 0
@@ -53,26 +40,41 @@ AreLater log sheet xs = IsInOrderOf (λ t. day_number t.date) int_cmp (later_amo
 abbrev pub days_shown : Log → Survey → ℕ → List Figures
 days_shown log s place = figures_shown (state_of log) (take (place + 1) s.closes.items)
 
--- the liable members of the day before and of the day
-abbrev pub liable_shown : Log → ℕ → List ℕ
-liable_shown log day = batches_html (day - 1) (batches_shown (state_of log) (day - 1)) ++ batches_html day (batches_shown (state_of log) day)
+-- what the head of the page tells, of the day that the close at a place ends
+abbrev pub head_shown : Log → Survey → ℕ → Close → Head
+head_shown log s place c = record {
+  date = c.date;
+  day = c.day;
+  first = min (records_before s place + 1) (2 ^ 64 - 1);
+  last = c.record;
+  exceptions = length (day_findings s place c);
+  next = next_day log;
+}
 
--- the lists of a page, of the day that the close at a place ends
-pub record AreListed (log : Log) (s : Survey) (place : ℕ) (sheet : DaySheet) (l : Lists) : Type 0 where
+-- how many records there are, and how many of them are exceptions: before the day, of the day, after it, and of all
+abbrev pub spans_shown : Survey → ℕ → Close → List (ℕ × ℕ)
+spans_shown s place c =
+    (records_before s place, findings_before s place) ∷ (c.record - records_before s place, length (day_findings s place c))
+    ∷ (s.records - c.record, length (later_findings s c)) ∷ (s.records, length s.findings.items) ∷ []
+
+-- the rows of a page, of the day that the close at a place ends
+pub record AreContents (log : Log) (s : Survey) (place : ℕ) (c : Close) (sheet : DaySheet) (l : Contents) : Type 0 where
+  pub head : l.head ≡ head_shown log s place c
+  pub lines : l.lines.items ≡ sheet_lines sheet
   pub shorts : AreShorts log sheet l.shorts.items
+  pub liable : l.liable.items ≡ liable_shown (state_of log) c.day
   pub notices : l.notices.items ≡ live_shown (state_of log)
-  pub trades : AreLater log sheet l.trades.items
-  pub line : l.line.items ≡ days_shown log s place
+  pub trades : (ts : List Trade) × AreLater log sheet ts × (l.trades.items ≡ map (due (next_day log)) ts)
+  pub days : l.days.items ≡ days_shown log s place
 
--- a day as a book's log has it, whose close is at a place of a survey
-pub record ShowsDay (log : Log) (s : Survey) (place : ℕ) (c : Close) (sheet : DaySheet) (old new : Option (List ℕ)) : Type 0 where
-  pub exceptions : Contains old new (findings_html (day_findings s place c))
-  pub rows : Contains old new (totals_html sheet ++ rows_html sheet)
-  pub shorts : (xs : List Aged) × AreShorts log sheet xs × Contains old new (shorts_html xs)
-  pub liable : Contains old new (liable_shown log c.day)
-  pub notices : Contains old new (notices_html (live_shown (state_of log)))
-  pub projection : (xs : List Trade) × AreLater log sheet xs × Contains old new (trades_html (next_day log) xs)
-  pub days : Contains old new (days_html (last_days (days_shown log s place)))
+-- a day as a book's log has it, whose close is at a place of a survey: what was written is the text of its page, with some captions
+pub record ShowsDay (opening : Day) (log : Log) (s : Survey) (place : ℕ) (c : Close) (sheet : DaySheet) (old new : Option (List ℕ)) : Type 0 where
+  pub captions : Captions
+  pub contents : Contents
+  pub spans : List Span
+  pub shown : AreContents log s place c sheet contents
+  pub counted : map counts spans ≡ spans_shown s place c
+  pub written : Appends old new (page_text captions opening s place c contents spans)
 
 -- the day of the close at a place, by a book that took the records up to that close, and with the sheet that the book has
 pub record HasDay (opening : Day) (input : List ℕ) (s : Survey) (place : ℕ) (old new : Option (List ℕ)) : Type 0 where
@@ -82,7 +84,7 @@ pub record HasDay (opening : Day) (input : List ℕ) (s : Survey) (place : ℕ) 
   pub taken : log ≡ log_after (blank_log opening) (take close.record (lines_of input))
   pub sheet : DaySheet
   pub closed : sheet_on log.opening (journal_of (state_of log)) close.date ≡ Some sheet
-  pub shown : ShowsDay log s place close sheet old new
+  pub shown : ShowsDay opening log s place close sheet old new
 
 -- the day that is asked for, of the records of an input
 pub record HasPage (asked : Asked) (input : List ℕ) (old new : Option (List ℕ)) : Type 0 where

@@ -1,12 +1,11 @@
 // The facts that decided a refusal.
 ghost use Rattle.std.specs.Prelude.{◌≡◌, IfSome, option_map};
-ghost use Rattle.cns_terms.specs.Common.{date, day, journal_of};
+ghost use Rattle.cns_terms.specs.Common.{State, date, day, journal_of};
 ghost use Rattle.cns_book.specs.Log.{state_of};
 ghost use Rattle.cns_book.specs.Shown.{notice_shown, position_shown, price_shown};
-ghost use Rattle.cns_page.specs.Facts.{AreShown, IsNumbered, IsQuoted, IsStanding};
+ghost use Rattle.cns_page.specs.Facts.{AreShown, IsShown};
 
-use crate::count::Count;
-use crate::finding::{Facts, Numbered, Quote, Stand};
+use crate::finding::{Fact, Facts, Numbered, Quote, Stand};
 use cns_feed::ReplayBook;
 use cns_terms::{Activity, Command, Refusal};
 use cns_units::{Account, Cusip};
@@ -128,26 +127,26 @@ fn price(book: &ReplayBook, issue: Cusip) -> Option<u64>
 }
 
 // An issue with its price now, where the refusal looks at issues.
-fn quote(book: &ReplayBook, refusal: Refusal, issue: Option<Cusip>) -> Option<Quote>
-    ensures { IfSome result (IsQuoted (state_of book.now.log)) }
+fn quote(book: &ReplayBook, refusal: Refusal, issue: Option<Cusip>) -> Option<Fact>
+    ensures { IfSome result (IsShown (state_of book.now.log) refusal) }
 {
     if decider_of(refusal) != Decider::Issues {
         return None;
     }
     let issue = issue?;
-    Some(Quote {
+    Some(Fact::Price(Quote {
         issue,
         price: price(book, issue),
-    })
+    }))
 }
 
 // An account's position in an issue now.
-fn position(book: &ReplayBook, account: Account, issue: Cusip) -> Option<Count>
+fn position(book: &ReplayBook, account: Account, issue: Cusip) -> Option<i64>
     ensures { result ≡ option_map (λ h. h.now)
         (position_shown (state_of book.now.log) (record { account = account; issue = issue })) }
 {
     let holding = book.position(account, issue)?;
-    Some(Count::of(holding.now))
+    Some(holding.now)
 }
 
 // The same of the account that a refusal looks at.
@@ -156,31 +155,41 @@ fn stand(
     refusal: Refusal,
     account: Option<Account>,
     issue: Option<Cusip>,
-) -> Option<Stand>
-    ensures { IfSome result (IsStanding (state_of book.now.log)) }
+) -> Option<Fact>
+    ensures { IfSome result (IsShown (state_of book.now.log) refusal) }
 {
     if decider_of(refusal) != Decider::Positions {
         return None;
     }
     let account = account?;
     let issue = issue?;
-    Some(Stand {
+    Some(Fact::Position(Stand {
         account,
         issue,
         position: position(book, account, issue),
-    })
+    }))
 }
 
 // The notice that a refusal or its command names, as it stands now.
-fn numbered(book: &ReplayBook, refusal: Refusal, given: Option<u32>) -> Option<Numbered>
-    ensures { IfSome result (IsNumbered (state_of book.now.log)) }
+fn numbered(book: &ReplayBook, refusal: Refusal, given: Option<u32>) -> Option<Fact>
+    ensures { IfSome result (IsShown (state_of book.now.log) refusal) }
 {
     let number = match refusal {
         Refusal::AlreadyNoticed { number } => number,
         _ => given?,
     };
     let notice = book.notice(number)?;
-    Some(Numbered { number, notice })
+    Some(Fact::Notice(Numbered { number, notice }))
+}
+
+// How many shares the liable members can be given, where that is too few.
+fn room(refusal: Refusal) -> Option<Fact>
+    ensures { (S : State) → IfSome result (IsShown S refusal) }
+{
+    match refusal {
+        Refusal::NotLiable { room } => Some(Fact::Room(room)),
+        _ => None,
+    }
 }
 
 /// What decided that the book refused the command. A refusal changes nothing that the book's calls tell, so the book is
@@ -188,16 +197,19 @@ fn numbered(book: &ReplayBook, refusal: Refusal, given: Option<u32>) -> Option<N
 pub fn facts_of(book: &ReplayBook, command: &Command, refusal: Refusal) -> Facts
     ensures today { result.today ≡ date book.now.log.opening (journal_of (state_of book.now.log)) }
     ensures day { result.day ≡ day (journal_of (state_of book.now.log)) }
-    ensures shown { AreShown (state_of book.now.log) result }
+    ensures shown { AreShown (state_of book.now.log) refusal result.list }
 {
     let named = names_of(command);
     Facts {
         today: book.today(),
         day: book.day(),
-        quote: quote(book, refusal, named.issue),
-        successor: quote(book, refusal, named.successor),
-        stand: stand(book, refusal, named.account, named.issue),
-        other: stand(book, refusal, named.other, named.issue),
-        notice: numbered(book, refusal, named.notice),
+        list: [
+            quote(book, refusal, named.issue),
+            quote(book, refusal, named.successor),
+            stand(book, refusal, named.account, named.issue),
+            stand(book, refusal, named.other, named.issue),
+            numbered(book, refusal, named.notice),
+            room(refusal),
+        ],
     }
 }

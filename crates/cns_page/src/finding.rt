@@ -1,5 +1,4 @@
 // An exception: an invalid record, or a refused command.
-use crate::count::Count;
 use cns_book::Notice;
 use cns_feed::LineFault;
 use cns_terms::Refusal;
@@ -13,6 +12,8 @@ pub struct Finding {
     /// The record as it was given, without its line end; bytes that are no text are U+FFFD.
     pub text: String,
     pub outcome: Outcome,
+    /// Why it is an exception, after the name of the fault or the number of the refusal.
+    pub words: &'static str,
 }
 
 /// What a record came to that is an exception.
@@ -28,16 +29,20 @@ pub struct Facts {
     pub today: Day,
     /// The open day's number, from 1.
     pub day: u64,
-    /// The issue that the command names, where the refusal looks at which issues are listed.
-    pub quote: Option<Quote>,
-    /// The same of an exchange's successor.
-    pub successor: Option<Quote>,
-    /// The first account that the refusal looks at, in the issue that the command names.
-    pub stand: Option<Stand>,
-    /// The same of a second account: a trade's seller, or the corporation where shares are to be on hand.
-    pub other: Option<Stand>,
-    /// The notice that the command or the refusal names.
-    pub notice: Option<Numbered>,
+    /// What the refusal looks at: the price of the issue that the command names and of an exchange's successor, the
+    /// position of the first account and of a second one, which is a trade's seller or the corporation, the notice that the
+    /// command or the refusal names, and how many shares the liable members can be given.
+    pub list: [Option<Fact>; 6],
+}
+
+/// Something that a refusal looks at.
+#[derive(Clone, Copy)]
+pub enum Fact {
+    Price(Quote),
+    Position(Stand),
+    Notice(Numbered),
+    /// How many shares the liable members can be given.
+    Room(u64),
 }
 
 /// An issue with its price in cents; None where it is not listed.
@@ -53,7 +58,7 @@ pub struct Quote {
 pub struct Stand {
     pub account: Account,
     pub issue: Cusip,
-    pub position: Option<Count>,
+    pub position: Option<i64>,
 }
 
 /// A notice with its number, from 1.

@@ -8,7 +8,8 @@ ghost use Rattle.cns_page.specs.Shown.{HasDay, HasPage};
 ghost use Rattle.cns_page.specs.Survey.{known, noted_all, nothing};
 
 use crate::asked::Asked;
-use crate::page::{Page, write_page};
+use crate::contents::Page;
+use crate::page::write_page;
 use crate::play::{Played, play};
 use crate::survey::{Close, Survey, place_of};
 use cns_feed::{MOST_RECORDS, ReplayBook, ReplayFault};
@@ -94,7 +95,6 @@ fn write_day<O: Write>(
     };
     let page = Page {
         opening: asked.opening,
-        bytes: input.len() as u64,
         survey,
         place,
         close,

@@ -1,225 +1,181 @@
-// The page of a closed day.
-ghost use Rattle.std.specs.Prelude.{◌≡◌, ◌+◌, IfOk, OnOk, drop, option_map, take};
-ghost use Rattle.cns_page.specs.Contains.{Contains, Grows};
-ghost use Rattle.cns_page.specs.Findings.{findings_html};
-ghost use Rattle.cns_page.specs.Shown.{AreListed, ShowsDay, close_before, day_findings, findings_before, liable_shown};
+// The page of a closed day: a head, tables in a fixed order, and a foot.
+ghost use Rattle.std.specs.Prelude.{◌≡◌, OnOk};
+ghost use Rattle.std.specs.Io.KnownBytes.{Appends};
+ghost use Rattle.cns_page.specs.Page.{foot_text, head_text, open_text, page_text};
+ghost use Rattle.cns_page.specs.Listed.{is_last, last_days, later_findings};
+ghost use Rattle.cns_page.specs.Shown.{ShowsDay};
 
-use crate::accounts::write_accounts;
-use crate::attention::{DAY, OPEN, write_findings, write_numbers};
-use crate::days::write_days;
-use crate::figures::{Figures, line_of_days};
-use crate::finding::{Finding, Numbered};
-use crate::handed::{write_handed, write_head};
-use crate::liable::{Chosen, write_liable};
-use crate::notices::{live_notices, write_notices};
-use crate::projection::{later_trades, write_projection};
-use crate::shorts::{Aged, shorts_of, write_shorts};
-use crate::survey::{Close, Survey};
-use cns_feed::ReplayBook;
+use crate::captions::{CAPTIONS, Captions};
+use crate::contents::{Contents, Head, Page, contents_of};
+use crate::figures::Figures;
+use crate::piece::{Piece, write_pieces};
+use crate::style::STYLE;
+use crate::table::write_table;
+use crate::totals::Span;
 use cns_program::Fault;
-use cns_sheets::Sheet;
-use cns_terms::{NoMemory, Trade};
 use cns_units::{Day, WriteFault};
 use std::alloc::Global;
 use std::io::Write;
 
-/// What a page is of: a closed day, with the book as its close left it.
-#[derive(Clone, Copy)]
-pub struct Page<'a> {
-    /// The date on which the book was opened.
-    pub opening: Day,
-    /// How many bytes were handed in.
-    pub bytes: u64,
-    /// What all records came to, those after the close too.
-    pub survey: &'a Survey,
-    /// The place of the close among those of the survey.
-    pub place: usize,
-    pub close: Close,
-    /// The book after the close's record.
-    pub book: &'a ReplayBook,
-    pub sheet: &'a Sheet<Global>,
-}
+// The words of the head and of the foot.
+const START: &str = "<!DOCTYPE html>
+<html lang=en>
+<meta charset=utf-8>
+<meta name=viewport content=\"width=device-width, initial-scale=1\">
+<title>Closed day ";
 
-// Findings after the first, so many.
-fn after(findings: &[Finding], count: usize) -> &[Finding]
-    ensures { result.now ≡ drop count findings.now }
+const TITLE_END: &str = "</title>
+";
+
+const HEADING: &str = "<a class=skip href=#main>Skip to the day</a>
+<header>
+<h1>Closed day ";
+
+const DAY: &str = "</h1>
+<p>Day ";
+
+const RECORDS: &str = " of the book, as its close left it: records ";
+
+const TO: &str = " to ";
+
+const EXCEPTIONS: &str = "; exceptions: ";
+
+const NEXT: &str = ". The next day is ";
+
+const LINKS: &str = ".</p>
+<nav aria-label=Contents><ul>
+<li><a href=#exceptions>Exceptions</a>
+<li><a href=#accounts>CNS Accounting Summary</a>
+<li><a href=#fails>Fails to deliver</a>
+<li><a href=#liable>Buy-in retransmittal</a>
+<li><a href=#notices>Notices of intention</a>
+<li><a href=#projection>Projection</a>
+<li><a href=#days>Last 60 days</a>
+<li><a href=#totals>Control totals</a>
+</ul></nav>
+</header>
+<main id=main>
+";
+
+const FOOT: &str = "</main>
+<footer>
+<p>This line makes the page again, from the same records:</p>
+<pre tabindex=0><code>cnspage --open ";
+
+const FOOT_DAY: &str = " --day ";
+
+const FOOT_END: &str = " &lt; records &gt; day.html</code></pre>
+</footer>
+</html>
+";
+
+// The most days in the line of days.
+const MOST: usize = 60;
+
+#[tactic(auto, unfolding(crate::specs::Page::head_text))]
+fn write_head<W: Write>(head: &Head, writer: &mut W) -> Result<(), WriteFault>
+    ensures { OnOk result (Appends (W.contents writer.old) (W.contents writer.new) (head_text head.now)) }
 {
-    &findings[count.min(findings.len())..]
+    let pieces = [
+        Piece::Markup(START),
+        Piece::Date(head.date),
+        Piece::Markup(TITLE_END),
+        Piece::Markup(STYLE),
+        Piece::Markup(HEADING),
+        Piece::Date(head.date),
+        Piece::Markup(DAY),
+        Piece::Number(u64::from(head.day)),
+        Piece::Markup(RECORDS),
+        Piece::Number(head.first),
+        Piece::Markup(TO),
+        Piece::Number(head.last),
+        Piece::Markup(EXCEPTIONS),
+        Piece::Number(head.exceptions),
+        Piece::Markup(NEXT),
+        Piece::Date(head.next),
+        Piece::Markup(LINKS),
+    ];
+    write_pieces(&pieces, writer)
 }
 
-impl Page<'_> {
-    // The closes up to the day's.
-    fn closes(&self) -> &[Close]
-        ensures { result.now ≡ take (self.now.place + 1) self.now.survey.now.closes.items }
-    {
-        let closes = self.survey.closes.as_slice();
-        &closes[..self.place.saturating_add(1).min(closes.len())]
-    }
-
-    // The close before, if there is one.
-    fn close_before(&self) -> Option<&Close>
-        ensures { option_map (λ c. c.now) result ≡ close_before self.now.survey.now.closes.items self.now.place }
-    {
-        let place = self.place.checked_sub(1)?;
-        self.survey.closes.get(place)
-    }
-
-    /// The number of the day's first record, from 1.
-    pub(crate) fn first_record(&self) -> u64 {
-        match self.close_before() {
-            Some(close) => close.record.saturating_add(1),
-            None => 1,
-        }
-    }
-
-    // How many findings there are before the day.
-    fn findings_before(&self) -> usize
-        ensures { result ≡ findings_before self.now.survey.now self.now.place }
-    {
-        match self.close_before() {
-            Some(close) => close.findings,
-            None => 0,
-        }
-    }
-
-    // The first findings, so many.
-    fn first_findings(&self, count: usize) -> &[Finding]
-        ensures { result.now ≡ take count self.now.survey.now.findings.items }
-    {
-        let findings = self.survey.findings.as_slice();
-        &findings[..count.min(findings.len())]
-    }
-
-    /// The findings before the day.
-    pub(crate) fn earlier(&self) -> &[Finding]
-        ensures { result.now ≡ take (findings_before self.now.survey.now self.now.place) self.now.survey.now.findings.items }
-    {
-        self.first_findings(self.findings_before())
-    }
-
-    /// The day's findings.
-    pub(crate) fn findings(&self) -> &[Finding]
-        ensures { result.now ≡ day_findings self.now.survey.now self.now.place self.now.close }
-    {
-        after(
-            self.first_findings(self.close.findings),
-            self.findings_before(),
-        )
-    }
-
-    /// The findings after the close.
-    pub(crate) fn later(&self) -> &[Finding]
-        ensures { result.now ≡ drop self.now.close.findings self.now.survey.now.findings.items }
-    {
-        after(self.survey.findings.as_slice(), self.close.findings)
-    }
-
-    /// Whether no later day is closed.
-    pub(crate) fn is_last(&self) -> bool {
-        self.place.saturating_add(1) >= self.survey.closes.len()
-    }
-}
-
-// The exceptions after the close: all of them on the page of the last closed day, and else the numbers of the records.
-fn write_open<W: Write>(page: &Page<'_>, writer: &mut W) -> Result<(), WriteFault>
-    ensures { OnOk result (Grows (W.contents writer.old) (W.contents writer.new)) }
+// Writes the line that makes the page again, and the end of the page.
+#[tactic(auto, unfolding(crate::specs::Page::foot_text))]
+fn write_foot<W: Write>(opening: Day, date: Day, writer: &mut W) -> Result<(), WriteFault>
+    ensures { OnOk result (Appends (W.contents writer.old) (W.contents writer.new) (foot_text opening date)) }
 {
-    if page.is_last() && page.survey.records > page.close.record {
-        write_findings(&OPEN, page.later(), writer)
+    let pieces = [
+        Piece::Markup(FOOT),
+        Piece::Date(opening),
+        Piece::Markup(FOOT_DAY),
+        Piece::Date(date),
+        Piece::Markup(FOOT_END),
+    ];
+    write_pieces(&pieces, writer)
+}
+
+// Writes the exceptions after the close, on the page of the last closed day.
+fn write_open<W: Write>(
+    captions: &Captions,
+    page: &Page<'_>,
+    writer: &mut W,
+) -> Result<(), WriteFault>
+    ensures { OnOk result (Appends (W.contents writer.old) (W.contents writer.new)
+        (open_text captions.now (is_last page.now.survey.now page.now.place) (later_findings page.now.survey.now page.now.close))) }
+{
+    if page.is_last() {
+        write_table(&captions.open, page.later(), writer)
     } else {
-        write_numbers("after the close of this day", page.later(), writer)
+        Ok(())
     }
 }
 
-// The exceptions: of the day, after its close, and before it.
-fn write_exceptions<W: Write>(page: &Page<'_>, writer: &mut W) -> Result<(), WriteFault>
-    ensures { OnOk result (Contains (W.contents writer.old) (W.contents writer.new)
-        (findings_html (day_findings page.now.survey.now page.now.place page.now.close))) }
+// The last 60 of days.
+fn last_of(days: &[Figures]) -> &[Figures]
+    ensures { result.now ≡ last_days days.now }
 {
-    write_findings(&DAY, page.findings(), writer)?;
-    write_open(page, writer)?;
-    write_numbers("before this day", page.earlier(), writer)
+    &days[days.len().saturating_sub(MOST)..]
 }
 
-// The liable members of the day and of the day before.
-fn write_batches<W: Write>(page: &Page<'_>, writer: &mut W) -> Result<(), WriteFault>
-    ensures { OnOk result (Contains (W.contents writer.old) (W.contents writer.new)
-        (liable_shown page.now.book.now.log page.now.close.day)) }
+// Writes a page with some captions.
+fn write_text<W: Write>(
+    captions: &Captions,
+    page: &Page<'_>,
+    contents: &Contents,
+    totals: &[Span],
+    writer: &mut W,
+) -> Result<(), WriteFault>
+    ensures { OnOk result (Appends (W.contents writer.old) (W.contents writer.new)
+        (page_text captions.now page.now.opening page.now.survey.now page.now.place page.now.close contents.now totals.now)) }
 {
-    let day = page.close.day;
-    let before = day.saturating_sub(1);
-    write_liable(
-        &Chosen {
-            day: before,
-            batches: page.book.batches(before),
-        },
-        &Chosen {
-            day,
-            batches: page.book.batches(day),
-        },
-        writer,
-    )
+    write_head(&contents.head, writer)?;
+    write_table(&captions.exceptions, page.findings(), writer)?;
+    write_open(captions, page, writer)?;
+    write_table(&captions.accounts, contents.lines.as_slice(), writer)?;
+    write_table(&captions.fails, contents.shorts.as_slice(), writer)?;
+    write_table(&captions.liable, contents.liable.as_slice(), writer)?;
+    write_table(&captions.notices, contents.notices.as_slice(), writer)?;
+    write_table(&captions.projection, contents.trades.as_slice(), writer)?;
+    write_table(&captions.days, last_of(contents.days.as_slice()), writer)?;
+    write_table(&captions.totals, totals, writer)?;
+    write_foot(page.opening, contents.head.date, writer)
 }
 
-/// What a page lists beside findings, the sheet and liable members.
-#[derive(Drop)]
-pub struct Lists {
-    /// Shorts, the oldest first.
-    pub shorts: Vec<Aged>,
-    /// Live notices, by number.
-    pub notices: Vec<Numbered>,
-    /// Trades that settle after the day, by date.
-    pub trades: Vec<Trade>,
-    /// The closed days, in order.
-    pub line: Vec<Figures>,
-}
-
-// The last section. Then all that was written is handed on.
-fn write_last<W: Write>(page: &Page<'_>, writer: &mut W) -> Result<(), WriteFault>
-    ensures { OnOk result (Grows (W.contents writer.old) (W.contents writer.new)) }
+// Writes a page with some captions, and hands it on.
+fn write_whole<W: Write>(
+    captions: &Captions,
+    page: &Page<'_>,
+    contents: &Contents,
+    totals: &[Span],
+    writer: &mut W,
+) -> Result<(), WriteFault>
+    ensures { OnOk result (Appends (W.contents writer.old) (W.contents writer.new)
+        (page_text captions.now page.now.opening page.now.survey.now page.now.place page.now.close contents.now totals.now)) }
 {
-    write_handed(page, writer)?;
+    write_text(captions, page, contents, totals, writer)?;
     match writer.flush() {
         Ok(()) => Ok(()),
         Err(_) => Err(WriteFault),
     }
-}
-
-// The lists of a page.
-fn lists_of(alloc: Global, page: &Page<'_>) -> Result<Lists, NoMemory>
-    ensures { IfOk result (AreListed page.now.book.now.log page.now.survey.now page.now.place page.now.sheet.now) }
-{
-    let shorts = shorts_of(alloc, page.book, page.sheet)?;
-    let notices = live_notices(alloc, page.book)?;
-    let trades = later_trades(alloc, page.book, page.sheet.date())?;
-    let line = line_of_days(alloc, page.book, page.closes())?;
-    Ok(Lists {
-        shorts,
-        notices,
-        trades,
-        line,
-    })
-}
-
-// The sections of a page.
-fn write_sections<W: Write>(
-    page: &Page<'_>,
-    lists: &Lists,
-    writer: &mut W,
-) -> Result<(), WriteFault>
-    requires { AreListed page.now.book.now.log page.now.survey.now page.now.place page.now.sheet.now lists.now }
-    ensures { OnOk result (ShowsDay page.now.book.now.log page.now.survey.now page.now.place page.now.close page.now.sheet.now
-        (W.contents writer.old) (W.contents writer.new)) }
-{
-    write_head(page, writer)?;
-    write_exceptions(page, writer)?;
-    write_accounts(page.sheet, writer)?;
-    write_shorts(lists.shorts.as_slice(), writer)?;
-    write_batches(page, writer)?;
-    write_notices(lists.notices.as_slice(), writer)?;
-    write_projection(lists.trades.as_slice(), page.book.today(), writer)?;
-    write_days(lists.line.as_slice(), writer)?;
-    write_last(page, writer)
 }
 
 /// Writes the page, and hands it on.
@@ -227,10 +183,11 @@ fn write_sections<W: Write>(
 /// `NoMemory` where an allocation failed, and `Write` where the writer fails, takes no byte or cannot be flushed.
 /// What was written before stands.
 pub fn write_page<W: Write>(alloc: Global, page: &Page<'_>, writer: &mut W) -> Result<(), Fault>
-    ensures { OnOk result (ShowsDay page.now.book.now.log page.now.survey.now page.now.place page.now.close page.now.sheet.now
+    ensures { OnOk result (ShowsDay page.now.opening page.now.book.now.log page.now.survey.now page.now.place page.now.close page.now.sheet.now
         (W.contents writer.old) (W.contents writer.new)) }
 {
-    let lists = lists_of(alloc, page)?;
-    write_sections(page, &lists, writer)?;
+    let contents = contents_of(alloc, page)?;
+    let totals = page.totals();
+    write_whole(&CAPTIONS, page, &contents, &totals, writer)?;
     Ok(())
 }

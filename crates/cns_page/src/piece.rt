@@ -1,9 +1,9 @@
 // The pieces that a page is written of.
-ghost use Rattle.std.specs.Prelude.{◌≡◌, pos};
+ghost use Rattle.std.specs.Prelude.{◌≡◌, ◌++◌, pos, OnOk};
+ghost use Rattle.std.specs.Io.KnownBytes.{Appends};
 ghost use Rattle.cns_units.specs.Output.{Writes};
-ghost use Rattle.cns_page.specs.Pieces.{cell_of, cells_of, piece_text, pieces_text, row_of};
+ghost use Rattle.cns_page.specs.Pieces.{piece_text, pieces_text};
 
-use crate::count::Count;
 use crate::escape::write_escaped;
 use cns_units::{Cents, Cusip, Day, WriteFault, write_bytes, write_cents, write_day};
 use itoa::Buffer;
@@ -23,10 +23,14 @@ pub enum Piece<'a> {
     Number(u64),
     /// A number in plain decimal, after a minus sign where it is negative.
     Signed(i64),
-    /// The same of a count of shares.
-    Count(Count),
+    /// The same of a position; `none` where there is none.
+    Position(Option<i64>),
     /// An amount of cents, with a point before its last two digits.
     Amount(Cents),
+    /// The same of a price in cents; `not listed` where there is none.
+    Price(Option<u64>),
+    /// `booked`, or `pending`.
+    Booked(bool),
     /// A date as `YYYY-MM-DD`.
     Date(Day),
 }
@@ -51,54 +55,34 @@ pub fn write_piece<W: Write>(piece: &Piece<'_>, writer: &mut W) -> Result<(), Wr
         Piece::Issue(issue) => write_escaped(issue.bytes(), writer),
         Piece::Number(number) => write_bytes(buffer.format(*number).as_bytes(), writer),
         Piece::Signed(number) => write_bytes(buffer.format(*number).as_bytes(), writer),
-        Piece::Count(count) => write_bytes(buffer.format(count.value()).as_bytes(), writer),
+        Piece::Position(Some(number)) => { write_bytes(buffer.format(*number).as_bytes(), writer) }
+        Piece::Position(None) => write_bytes(b"none", writer),
         Piece::Amount(cents) => write_cents(*cents, writer),
+        Piece::Price(Some(price)) => write_cents(cents_of(*price), writer),
+        Piece::Price(None) => write_bytes(b"not listed", writer),
+        Piece::Booked(true) => write_bytes(b"booked", writer),
+        Piece::Booked(false) => write_bytes(b"pending", writer),
         Piece::Date(day) => write_day(*day, writer),
     }
 }
 
+/// Writes markup of the page itself.
+///
+/// Where the writer fails or takes no byte it answers `WriteFault`, and some of it was written.
+pub fn write_markup<W: Write>(markup: &'static str, writer: &mut W) -> Result<(), WriteFault>
+    ensures { OnOk result (Appends (W.contents writer.old) (W.contents writer.new) markup.now) }
+{
+    write_pieces(&[Piece::Markup(markup)], writer)
+}
+
 /// Writes pieces, one after another.
 ///
-/// Where the writer fails or takes no byte it answers `WriteFault`, and a prefix of that text was written.
+/// Where the writer fails or takes no byte it answers `WriteFault`, and some of that text was written.
 pub fn write_pieces<W: Write>(pieces: &[Piece<'_>], writer: &mut W) -> Result<(), WriteFault>
-    ensures { Writes (W.contents writer.old) (W.contents writer.new) (pieces_text pieces.now) result }
+    ensures { OnOk result (Appends (W.contents writer.old) (W.contents writer.new) (pieces_text pieces.now)) }
 {
     for piece in pieces {
         write_piece(piece, writer)?;
     }
     Ok(())
-}
-
-// A cell of a table.
-fn write_cell<W: Write>(piece: &Piece<'_>, writer: &mut W) -> Result<(), WriteFault>
-    ensures { Writes (W.contents writer.old) (W.contents writer.new) (cell_of piece.now) result }
-{
-    write_bytes(b"<td>", writer)?;
-    write_piece(piece, writer)
-}
-
-// Cells of a table.
-fn write_cells<W: Write>(pieces: &[Piece<'_>], writer: &mut W) -> Result<(), WriteFault>
-    ensures { Writes (W.contents writer.old) (W.contents writer.new) (cells_of pieces.now) result }
-{
-    for piece in pieces {
-        write_cell(piece, writer)?;
-    }
-    Ok(())
-}
-
-/// Writes a row of a table: its head, and the other cells.
-///
-/// Where the writer fails or takes no byte it answers `WriteFault`, and a prefix of that text was written.
-pub fn write_row<W: Write>(
-    first: &Piece<'_>,
-    others: &[Piece<'_>],
-    writer: &mut W,
-) -> Result<(), WriteFault>
-    ensures { Writes (W.contents writer.old) (W.contents writer.new) (row_of first.now others.now) result }
-{
-    write_bytes(b"<tr><th scope=row>", writer)?;
-    write_piece(first, writer)?;
-    write_cells(others, writer)?;
-    write_bytes(b"\n", writer)
 }

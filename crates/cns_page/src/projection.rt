@@ -1,15 +1,12 @@
 // The projection: accepted trades that settle after the day.
-ghost use Rattle.std.specs.Prelude.{◌≡◌, [], ◌∷◌, IfOk, OnOk};
+ghost use Rattle.std.specs.Prelude.{◌≡◌, [], ◌∷◌, IfOk, map};
 ghost use Rattle.std.specs.Option.{option_to_list};
 ghost use Rattle.std.specs.Ordering.{int_cmp};
 ghost use Rattle.cns_units.specs.Day.{day_number};
-ghost use Rattle.cns_units.specs.Output.{Writes};
-ghost use Rattle.cns_page.specs.Contains.{Contains};
-ghost use Rattle.cns_page.specs.Listed.{IsInOrderOf, later_among, looked_at};
-ghost use Rattle.cns_page.specs.Lists.{booked_words, trade_html, trades_html};
+ghost use Rattle.cns_page.specs.Listed.{IsInOrderOf, due, later_among, looked_at};
 
-use crate::piece::{Piece, cents_of, write_row};
-use crate::section::{Section, TABLE_END, begin, end};
+use crate::piece::{Piece, cents_of};
+use crate::table::{ROW, TableRow, write_line};
 use cns_feed::ReplayBook;
 use cns_terms::{Activity, Command, NoMemory, Reply, Taken, Trade};
 use cns_units::{Day, WriteFault};
@@ -59,69 +56,49 @@ pub fn later_trades(alloc: Global, book: &ReplayBook, day: Day) -> Result<Vec<Tr
     Ok(trades)
 }
 
-const SECTION: Section = Section {
-    head: "<section aria-labelledby=projection>
-<h2 id=projection>Projection</h2>
-",
-    none: "<p>No accepted trade settles after this day.</p>\n",
-    begin: "<div class=wide tabindex=0 role=region aria-label=\"Projection\">
-<table>
-<caption>Accepted trades that settle after this day, by date: booked by this close into the day that it opens, or pending. The \
-positions above are without them (shares; dollars)</caption>
-<thead><tr><th scope=col>Settles<th scope=col>Reference<th scope=col>Buyer<th scope=col>Seller<th scope=col>Issue<th \
-scope=col>Shares<th scope=col>Money<th scope=col>Booked
-</thead><tbody>
-",
-    end: TABLE_END,
-};
+/// A trade, and whether it was booked into the day that the close opened; else it is pending.
+#[derive(Clone, Copy)]
+pub struct Due {
+    pub trade: Trade,
+    pub is_booked: bool,
+}
 
-// Whether a trade was booked into the day that the close opened, or is pending.
-fn booked_words(trade: &Trade, next: Day) -> &'static str
-    ensures { result.now ≡ booked_words next trade.now }
+fn due_of(trade: &Trade, next: Day) -> Due
+    ensures { result ≡ due next trade.now }
 {
-    if trade.date.number() <= next.number() {
-        "booked"
-    } else {
-        "pending"
+    Due {
+        trade: *trade,
+        is_booked: trade.date.number() <= next.number(),
     }
 }
 
-fn write_trade<W: Write>(trade: &Trade, next: Day, writer: &mut W) -> Result<(), WriteFault>
-    ensures { Writes (W.contents writer.old) (W.contents writer.new) (trade_html next trade.now) result }
+/// Trades, each with whether it was booked into the next day, which the close opened.
+pub fn dues(alloc: Global, trades: &[Trade], next: Day) -> Result<Vec<Due>, NoMemory>
+    ensures { IfOk result (λ v. v.items ≡ map (due next) trades.now) }
 {
-    let cells = [
-        Piece::Number(trade.reference),
-        Piece::Number(u64::from(trade.buyer.value())),
-        Piece::Number(u64::from(trade.seller.value())),
-        Piece::Issue(trade.issue),
-        Piece::Number(trade.shares.value()),
-        Piece::Amount(cents_of(trade.money.value())),
-        Piece::Markup(booked_words(trade, next)),
-    ];
-    write_row(&Piece::Date(trade.date), &cells, writer)
-}
-
-fn write_list<W: Write>(trades: &[Trade], next: Day, writer: &mut W) -> Result<(), WriteFault>
-    ensures { Writes (W.contents writer.old) (W.contents writer.new) (trades_html next trades.now) result }
-{
+    let mut rows = Vec::new(alloc);
     for trade in trades {
-        write_trade(trade, next, writer)?;
+        rows.push(due_of(trade, next))?;
     }
-    Ok(())
+    Ok(rows)
 }
 
-/// Writes trades, in order, and of each whether it was booked into the next day, which the close opened.
-///
-/// Where the writer fails or takes no byte it answers `WriteFault`.
-pub fn write_projection<W: Write>(
-    trades: &[Trade],
-    next: Day,
-    writer: &mut W,
-) -> Result<(), WriteFault>
-    ensures { OnOk result (Contains (W.contents writer.old) (W.contents writer.new) (trades_html next trades.now)) }
-{
-    let is_empty = trades.is_empty();
-    begin(&SECTION, is_empty, writer)?;
-    write_list(trades, next, writer)?;
-    end(&SECTION, is_empty, writer)
+impl TableRow for Due {
+    ghost use Rattle.cns_page.specs.Rows.{due_text};
+
+    ghost text = { due_text };
+
+    fn write_row<W: Write>(&self, writer: &mut W) -> Result<(), WriteFault> {
+        let trade = &self.trade;
+        let cells = [
+            Piece::Number(trade.reference),
+            Piece::Number(u64::from(trade.buyer.value())),
+            Piece::Number(u64::from(trade.seller.value())),
+            Piece::Issue(trade.issue),
+            Piece::Number(trade.shares.value()),
+            Piece::Amount(cents_of(trade.money.value())),
+            Piece::Booked(self.is_booked),
+        ];
+        write_line(ROW, &Piece::Date(trade.date), &cells, writer)
+    }
 }

@@ -1,15 +1,12 @@
 // Shorts with their ages.
-ghost use Rattle.std.specs.Prelude.{◌≡◌, ◌<◌, ◌^◌, All, IfOk, OnOk};
+ghost use Rattle.std.specs.Prelude.{◌≡◌, ◌<◌, ◌^◌, All, IfOk};
 ghost use Rattle.std.specs.Ordering.{nat_cmp};
-ghost use Rattle.cns_units.specs.Output.{Writes};
 ghost use Rattle.cns_book.specs.Log.{state_of};
-ghost use Rattle.cns_page.specs.Contains.{Contains};
 ghost use Rattle.cns_page.specs.Listed.{IsInOrderOf, age_shown, shorts_among};
-ghost use Rattle.cns_page.specs.Lists.{short_html, shorts_html};
 
 use crate::figures::is_short;
-use crate::piece::{Piece, write_row};
-use crate::section::{Section, TABLE_END, begin, end};
+use crate::piece::Piece;
+use crate::table::{ROW, TableRow, write_line};
 use cns_feed::ReplayBook;
 use cns_sheets::Sheet;
 use cns_terms::{NoMemory, Row};
@@ -66,49 +63,18 @@ pub fn shorts_of(
     Ok(shorts)
 }
 
-const SECTION: Section = Section {
-    head: "<section aria-labelledby=fails>
-<h2 id=fails>Fails to deliver, the oldest first</h2>
-",
-    none: "<p>No member is short at the close.</p>\n",
-    begin: "<div class=wide tabindex=0 role=region aria-label=\"Fails to deliver, the oldest first\">
-<table>
-<caption>Members&#39; short positions at the close, and for how many closes in a row each is short (shares)</caption>
-<thead><tr><th scope=col>Issue<th scope=col>Member<th scope=col>Closes short<th scope=col>Opening<th scope=col>Closing
-</thead><tbody>
-",
-    end: TABLE_END,
-};
+impl TableRow for Aged {
+    ghost use Rattle.cns_page.specs.Rows.{short_text};
 
-fn write_short<W: Write>(short: &Aged, writer: &mut W) -> Result<(), WriteFault>
-    ensures { Writes (W.contents writer.old) (W.contents writer.new) (short_html short.now) result }
-{
-    let cells = [
-        Piece::Number(u64::from(short.row.account.value())),
-        Piece::Number(u64::from(short.age)),
-        Piece::Signed(short.row.opening),
-        Piece::Signed(short.row.closing),
-    ];
-    write_row(&Piece::Issue(short.row.issue), &cells, writer)
-}
+    ghost text = { short_text };
 
-fn write_list<W: Write>(shorts: &[Aged], writer: &mut W) -> Result<(), WriteFault>
-    ensures { Writes (W.contents writer.old) (W.contents writer.new) (shorts_html shorts.now) result }
-{
-    for short in shorts {
-        write_short(short, writer)?;
+    fn write_row<W: Write>(&self, writer: &mut W) -> Result<(), WriteFault> {
+        let cells = [
+            Piece::Number(u64::from(self.row.account.value())),
+            Piece::Number(u64::from(self.age)),
+            Piece::Signed(self.row.opening),
+            Piece::Signed(self.row.closing),
+        ];
+        write_line(ROW, &Piece::Issue(self.row.issue), &cells, writer)
     }
-    Ok(())
-}
-
-/// Writes shorts, in order.
-///
-/// Where the writer fails or takes no byte it answers `WriteFault`.
-pub fn write_shorts<W: Write>(shorts: &[Aged], writer: &mut W) -> Result<(), WriteFault>
-    ensures { OnOk result (Contains (W.contents writer.old) (W.contents writer.new) (shorts_html shorts.now)) }
-{
-    let is_empty = shorts.is_empty();
-    begin(&SECTION, is_empty, writer)?;
-    write_list(shorts, writer)?;
-    end(&SECTION, is_empty, writer)
 }

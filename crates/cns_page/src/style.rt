@@ -24,9 +24,10 @@ code, pre { font-family: ui-monospace, \"DejaVu Sans Mono\", Consolas, monospace
 code { overflow-wrap: anywhere; unicode-bidi: isolate; background: var(--shade); padding: 0 .2em; }
 pre { overflow-x: auto; background: var(--shade); padding: .6rem; }
 pre code { background: none; padding: 0; }
-.exceptions ol { list-style: none; margin: 0; padding: 0; }
-.exceptions li { border-left: 4px solid var(--alert); padding: .3rem .75rem; margin: .6rem 0; break-inside: avoid; }
-.exceptions p { margin: .15rem 0; }
+[aria-labelledby=exceptions] td, [aria-labelledby=open] td { text-align: left; vertical-align: top; white-space: normal; \
+min-width: 12rem; }
+[aria-labelledby=exceptions] tbody th, [aria-labelledby=open] tbody th { vertical-align: top; padding-left: .5rem; \
+border-left: 4px solid var(--alert); }
 .wide { overflow-x: auto; }
 .wide:focus-visible, a:focus-visible { outline: 3px solid var(--link); outline-offset: 2px; }
 table { border-collapse: collapse; font-variant-numeric: tabular-nums; font-size: .92rem; }
@@ -36,14 +37,9 @@ thead th { vertical-align: bottom; white-space: normal; border-bottom: 2px solid
 th:first-child { text-align: left; padding-left: 0; }
 th[scope=row], thead th:first-child { position: sticky; left: 0; background: var(--ground); }
 tbody th { font-weight: 600; }
-.account { content-visibility: auto; contain-intrinsic-size: auto 12rem; min-width: 66rem; }
-.account + .account thead { position: absolute; clip-path: inset(50%); }
-.rows { width: 100%; table-layout: fixed; }
-.rows td { white-space: normal; overflow-wrap: anywhere; }
-.rows .name { width: 7rem; }
-.rows .sum > * { background: var(--sum); font-weight: 600; border-top: 1px solid var(--quiet); }
-.rows .sum th { padding-left: .3rem; }
-.rows .total > tr > * { font-weight: 700; border-top: 3px double var(--ink); }
+.sum > * { background: var(--sum); font-weight: 600; border-top: 1px solid var(--quiet); }
+.sum th { padding-left: .3rem; text-align: left; }
+.total > tr > * { font-weight: 700; border-top: 3px double var(--ink); }
 footer { padding-bottom: 2rem; }
 @page { size: A4; margin: 12mm 10mm; }
 @media print {
@@ -53,10 +49,7 @@ nav, .skip { display: none; }
 .wide { overflow: visible; }
 table { font-size: 7pt; }
 th, td { padding: .3mm 1mm; }
-.account { content-visibility: visible; min-width: 0; }
 th[scope=row], thead th:first-child { position: static; }
-.account + .account thead { position: static; clip-path: none; }
-.rows .name { width: 17mm; }
 thead { display: table-header-group; }
 tr { break-inside: avoid; }
 h2 { break-after: avoid; }

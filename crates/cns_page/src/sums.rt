@@ -1,8 +1,7 @@
-// The sums of the columns of a sheet that the sheet itself does not add up.
-ghost use Rattle.std.specs.Prelude.{◌≡◌, ◌+ℤ◌, pos};
+// The sums of the columns of a sheet.
+ghost use Rattle.std.specs.Prelude.{◌≡◌, ◌+ℤ◌};
 ghost use Rattle.std.specs.Int.{int_wrap, w128};
-ghost use Rattle.cns_terms.specs.Sums.{total};
-ghost use Rattle.cns_page.specs.Split.{moved, remaining};
+ghost use Rattle.cns_page.specs.Split.{moved, remaining, sums_over};
 
 use crate::split::{price_move, rest_of_mark};
 use cns_sheets::Sheet;
@@ -14,8 +13,10 @@ use std::alloc::Global;
 #[derive(Clone, Copy)]
 pub struct Sums {
     pub money: Cents,
+    pub mark: Cents,
     pub moved: Cents,
     pub rest: Cents,
+    pub dividend: Cents,
 }
 
 // The sum of two amounts, as much of it as fits.
@@ -26,26 +27,12 @@ fn wrapped_sum(a: Cents, b: Cents) -> Cents
 }
 
 impl Sums {
-    // Of no rows.
-    fn none() -> Sums
-        ensures { result ≡ record {
-          money = pos 0;
-          moved = pos 0;
-          rest = pos 0;
-        } }
-    {
-        Sums {
-            money: Cents::ZERO,
-            moved: Cents::ZERO,
-            rest: Cents::ZERO,
-        }
-    }
-
     // With one row more.
     fn add(&mut self, row: &Row)
         ensures money { self.new.money ≡ int_wrap w128 (self.old.money +ℤ row.now.money) }
         ensures moved { self.new.moved ≡ int_wrap w128 (self.old.moved +ℤ moved row.now) }
         ensures rest { self.new.rest ≡ int_wrap w128 (self.old.rest +ℤ remaining row.now) }
+        ensures others { (self.new.mark ≡ self.old.mark) × (self.new.dividend ≡ self.old.dividend) }
     {
         self.money = wrapped_sum(self.money, row.money);
         self.moved = wrapped_sum(self.moved, price_move(row));
@@ -55,11 +42,15 @@ impl Sums {
 
 /// The sums over all rows of a sheet.
 pub fn sums_of(sheet: &Sheet<Global>) -> Sums
-    ensures money { result.money ≡ int_wrap w128 (total (λ r. r.money) sheet.now.rows) }
-    ensures moved { result.moved ≡ int_wrap w128 (total moved sheet.now.rows) }
-    ensures rest { result.rest ≡ int_wrap w128 (total remaining sheet.now.rows) }
+    ensures { result ≡ sums_over sheet.now.rows }
 {
-    let mut sums = Sums::none();
+    let mut sums = Sums {
+        money: Cents::ZERO,
+        mark: sheet.total_marks(),
+        moved: Cents::ZERO,
+        rest: Cents::ZERO,
+        dividend: sheet.total_dividends(),
+    };
     for row in sheet.rows() {
         sums.add(&row);
     }

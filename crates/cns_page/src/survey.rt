@@ -4,6 +4,7 @@ ghost use Rattle.cns_page.specs.Survey.{IsChosen, counted, day_closed, known, no
 
 use crate::facts::facts_of;
 use crate::finding::{Finding, Outcome};
+use crate::words::words_of;
 use cns_feed::ReplayBook;
 use cns_terms::{Closed, Command, NoMemory, Reply};
 use cns_units::Day;
@@ -91,12 +92,12 @@ impl Survey {
         ensures { OnOk result (known self.new ≡ wanted (known self.old) (why outcome)) }
     {
         let text = String::from_utf8_lossy(*self.findings.allocator(), bytes)?;
-        let finding = Finding {
+        self.findings.push(Finding {
             record: self.records,
             text,
             outcome,
-        };
-        self.findings.push(finding)?;
+            words: words_of(&outcome),
+        })?;
         Ok(())
     }
 }

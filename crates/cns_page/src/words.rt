@@ -1,34 +1,60 @@
-// Faults and refusals in words.
+// Faults, refusals and stages in words.
 ghost use Rattle.std.specs.Prelude.{◌≡◌};
-ghost use Rattle.cns_page.specs.Words.{fault_words, refusal_words, stage_words};
+ghost use Rattle.cns_feed.specs.Text.{fault_name};
+ghost use Rattle.cns_page.specs.Exceptions.{stage_name};
 
+use crate::finding::Outcome;
 use cns_book::Stage;
 use cns_feed::LineFault;
 use cns_terms::Refusal;
 
-/// What is wrong with an invalid record.
-pub(crate) fn fault_words(fault: LineFault) -> &'static str
-    ensures { result.now ≡ fault_words fault }
+/// The name of a fault.
+pub(crate) fn fault_name(fault: LineFault) -> &'static str
+    ensures { result.now ≡ fault_name fault }
 {
     match fault {
-        LineFault::Kind =>
-            "Kind: the first field is none of the kinds of record; kinds are in capitals.",
-        LineFault::Count => "Count: the kind takes another number of fields.",
-        LineFault::Number =>
-            "Number: a field of digits is empty, or has something else than digits.",
-        LineFault::Date =>
-            "Date: a date is not written as year, month and day, or there is no such day.",
-        LineFault::Cusip =>
-            "Cusip: a text is no CUSIP: its length, a character or its check digit is wrong.",
-        LineFault::Range => "Range: the number of a field is outside its range.",
-        LineFault::NoMemory => "NoMemory: there was no memory to read a field.",
+        LineFault::Kind => "Kind",
+        LineFault::Count => "Count",
+        LineFault::Number => "Number",
+        LineFault::Date => "Date",
+        LineFault::Cusip => "Cusip",
+        LineFault::Range => "Range",
+        LineFault::NoMemory => "NoMemory",
     }
 }
 
-/// Why a command is refused, after its number.
-pub(crate) fn refusal_words(refusal: Refusal) -> &'static str
-    ensures { result.now ≡ refusal_words refusal }
+/// How a notice stands.
+pub(crate) fn stage_name(stage: Stage) -> &'static str
+    ensures { result.now ≡ stage_name stage }
 {
+    match stage {
+        Stage::Live => "live",
+        Stage::Withdrawn => "withdrawn",
+        Stage::Ended => "ended by a split or an exchange",
+        Stage::Expired => "expired",
+    }
+}
+
+// What is wrong with an invalid record.
+fn fault_words(fault: LineFault) -> &'static str {
+    match fault {
+        LineFault::Kind =>
+            ": the first field is none of the kinds of record; kinds are in capitals.",
+        LineFault::Count => ": the kind takes another number of fields.",
+        LineFault::Number => ": a field of digits is empty, or has something else than digits.",
+        LineFault::Date => {
+            ": a date is not written as year, month and day, or there is no such day."
+        }
+        LineFault::Cusip => {
+            ": a text is no CUSIP: its length, a character or its check digit is wrong."
+        }
+        LineFault::Range => ": the number of a field is outside its range.",
+        LineFault::NoMemory => ": there was no memory to read a field.",
+    }
+}
+
+// Why a command is refused, after its number.
+fn refusal_words(refusal: Refusal) -> &'static str {
     match refusal {
         Refusal::MemberExists => ": there is a member with this number already.",
         Refusal::NoSuchMember => ": a party is no member.",
@@ -61,14 +87,10 @@ not past and before its payable date, and the next day is after today."
     }
 }
 
-/// How a notice stands.
-pub(crate) fn stage_words(stage: Stage) -> &'static str
-    ensures { result.now ≡ stage_words stage }
-{
-    match stage {
-        Stage::Live => ", live, ",
-        Stage::Withdrawn => ", withdrawn, ",
-        Stage::Ended => ", ended by a split or an exchange, ",
-        Stage::Expired => ", expired, ",
+/// Why a record is an exception, after the name of its fault or the number of its refusal.
+pub(crate) fn words_of(outcome: &Outcome) -> &'static str {
+    match outcome {
+        Outcome::AtFault(fault) => fault_words(*fault),
+        Outcome::Refused(refusal, _) => refusal_words(*refusal),
     }
 }

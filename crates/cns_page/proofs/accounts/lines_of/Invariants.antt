@@ -1,0 +1,6 @@
+use Rattle.std.proofs.Common.{◌≡◌, ◌++◌}
+use Rattle.cns_page.specs.Accounts.{lines_after, sheet_lines}
+use Rattle.cns_page.proofs.accounts.lines_of.Given as goal
+
+abbrev pub invariant-loop-row : goal.invariant-loop-row
+invariant-loop-row l = sheet_lines l.sheet ≡ l.lines.items ++ lines_after l.sheet l.before l.row-iterator

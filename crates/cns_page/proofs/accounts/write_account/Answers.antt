@@ -1,4 +1,0 @@
-use Rattle.cns_page.proofs.accounts.write_account.Goals as goal
-
-pub returns : goal.returns
-returns g c = rw (c.from.ensures, c.value.ensures.value) at c.write_pieces.ensures

@@ -1,0 +1,5 @@
+use Rattle.cns_page.proofs.Written.{after}
+use Rattle.cns_page.proofs.exceptions.FindingTableRow.write_row.Goals as goal
+
+pub returns : goal.returns
+returns g c = after _ _ _ _ _ _ c.in_ok-write_record.ensures (after _ _ _ _ _ _ c.in_ok-write_outcome.ensures c.write_markup.ensures)

@@ -1,5 +1,0 @@
-use Rattle.cns_page.proofs.ContainsLemmas.{ended}
-use Rattle.cns_page.proofs.liable.write_liable.Goals as goal
-
-pub returns : goal.returns
-returns g c = ended _ _ _ _ _ _ c.in_ok-begin.ensures c.in_ok-write_both.ensures c.end.ensures

@@ -1,0 +1,6 @@
+use Rattle.cns_page.specs.Page.{head_text}
+use Rattle.cns_page.proofs.page.write_head.Goals as goal
+
+pub returns : goal.returns
+unfolding head_text
+returns g c = rw c.from.ensures at c.write_pieces.ensures

@@ -1,0 +1,6 @@
+use Rattle.std.proofs.Common.{◌≡◌, map, take}
+use Rattle.cns_page.specs.Listed.{due}
+use Rattle.cns_page.proofs.projection.dues.Given as goal
+
+abbrev pub invariant-loop-trade : goal.invariant-loop-trade
+invariant-loop-trade l = l.rows.items ≡ map (due l.fn.next) (take l.trade-index l.trades)

@@ -1,0 +1,74 @@
+-- The texts of exceptions.
+use Rattle.std.specs.Prelude.{ℕ, List, [], ◌∷◌, ◌++◌, Option, None, Some, codes, string_bytes}
+use Rattle.std.specs.Fmt.{decimal}
+use Rattle.std.specs.List.{flat_map}
+use Rattle.cns_units.specs.Day.{day_text}
+use Rattle.cns_terms.specs.Numbers.{refusal_number}
+use Rattle.cns_terms.specs.declared.buy_in.Stage.{Stage}
+use Rattle.cns_terms.specs.declared.buy_in.Stage.TheVariants as stage
+use Rattle.cns_terms.specs.declared.refusal.Refusal.{Refusal}
+use Rattle.cns_feed.specs.Text.{fault_name}
+use Rattle.cns_page.specs.Escape.{escaped}
+use Rattle.cns_page.specs.Pieces.{piece_text}
+use Rattle.cns_page.specs.Tables.{texts}
+use Rattle.cns_page.specs.declared.exceptions.TheConstants.{AND, DAY, GIVEN, GIVEN_END, GIVEN_ON, IN, INVALID, IS, MEMBER, NOTICE, OF, POSITION_OF, PRICE_OF, REFUSED, REFUSED_END, REMAIN, ROOM, TODAY}
+use Rattle.cns_page.specs.declared.finding.Fact.{Fact}
+use Rattle.cns_page.specs.declared.finding.Fact.TheVariants as fact
+use Rattle.cns_page.specs.declared.finding.Facts.{Facts}
+use Rattle.cns_page.specs.declared.finding.Finding.{Finding}
+use Rattle.cns_page.specs.declared.finding.Numbered.{Numbered}
+use Rattle.cns_page.specs.declared.finding.Outcome.{Outcome}
+use Rattle.cns_page.specs.declared.finding.Outcome.TheVariants as outcome
+use Rattle.cns_page.specs.declared.piece.Piece.TheVariants as piece
+use Rattle.cns_page.specs.declared.table.TheConstants.{CELL, ROW}
+
+-- how a notice stands
+abbrev pub stage_name : Stage → List ℕ
+stage_name stage.Live = codes "live"
+stage_name stage.Withdrawn = codes "withdrawn"
+stage_name stage.Ended = codes "ended by a split or an exchange"
+stage_name stage.Expired = codes "expired"
+
+-- a notice as it stood
+abbrev pub notice_text : Numbered → List ℕ
+notice_text n =
+    texts (NOTICE.now ∷ decimal n.number ∷ MEMBER.now ∷ decimal n.notice.member ∷ IN.now ∷ escaped n.notice.issue ∷ GIVEN_ON.now
+    ∷ decimal n.notice.given ∷ AND.now ∷ stage_name n.notice.stage ∷ AND.now ∷ decimal n.notice.remaining ∷ OF.now
+    ∷ decimal n.notice.shares ∷ REMAIN.now ∷ [])
+
+-- something that a refusal looked at
+abbrev pub some_fact_text : Fact → List ℕ
+some_fact_text (fact.Price q) = texts (PRICE_OF.now ∷ escaped q.issue ∷ IS.now ∷ piece_text (piece.Price q.price) ∷ [])
+some_fact_text (fact.Position s) =
+    texts (POSITION_OF.now ∷ decimal s.account ∷ IN.now ∷ escaped s.issue ∷ IS.now ∷ piece_text (piece.Position s.position) ∷ [])
+some_fact_text (fact.Notice n) = notice_text n
+some_fact_text (fact.Room n) = texts (ROOM.now ∷ decimal n ∷ [])
+
+abbrev pub fact_text : Option Fact → List ℕ
+fact_text None = []
+fact_text (Some f) = some_fact_text f
+
+-- the day on which a command was refused
+abbrev pub today_text : Facts → List ℕ
+today_text f = texts (TODAY.now ∷ day_text f.today ∷ DAY.now ∷ decimal f.day ∷ [])
+
+-- the same, and what decided it
+abbrev pub facts_text : Facts → List ℕ
+facts_text f = today_text f ++ flat_map fact_text f.list
+
+-- a refusal's number, and what it means
+abbrev pub refused_text : Refusal → List ℕ → List ℕ
+refused_text r words = texts (REFUSED.now ∷ decimal (refusal_number r) ∷ REFUSED_END.now ∷ words ∷ CELL.now ∷ [])
+
+-- why a record is an exception, in some words
+abbrev pub outcome_text : Outcome → List ℕ → List ℕ
+outcome_text (outcome.AtFault f) words = texts (INVALID.now ∷ fault_name f ∷ words ∷ CELL.now ∷ [])
+outcome_text (outcome.Refused r f) words = refused_text r words ++ facts_text f
+
+-- an exception's number and its text, escaped
+abbrev pub record_text : Finding → List ℕ
+record_text f = texts (ROW.now ∷ decimal f.record ∷ GIVEN.now ∷ escaped (string_bytes f.text) ∷ GIVEN_END.now ∷ [])
+
+-- an exception: its number, its text, and why it is one
+abbrev pub finding_text : Finding → List ℕ
+finding_text f = record_text f ++ (outcome_text f.outcome f.words.now ++ 10 ∷ [])

@@ -1,0 +1,49 @@
+-- The texts of the rows of the other tables.
+use Rattle.std.specs.Prelude.{ℕ, ◌+◌, ◌-◌, ◌^◌, min, pos, List, [], ◌∷◌}
+use Rattle.std.specs.Fmt.{decimal, signed_decimal}
+use Rattle.cns_units.specs.Cents.{cents_text}
+use Rattle.cns_units.specs.Day.{day_text}
+use Rattle.cns_page.specs.Escape.{escaped}
+use Rattle.cns_page.specs.Pieces.{piece_text}
+use Rattle.cns_page.specs.Tables.{cells}
+use Rattle.cns_page.specs.declared.figures.Figures.{Figures}
+use Rattle.cns_page.specs.declared.finding.Numbered.{Numbered}
+use Rattle.cns_page.specs.declared.liable.Owing.{Owing}
+use Rattle.cns_page.specs.declared.piece.Piece.TheVariants as piece
+use Rattle.cns_page.specs.declared.projection.Due.{Due}
+use Rattle.cns_page.specs.declared.shorts.Aged.{Aged}
+use Rattle.cns_page.specs.declared.table.TheConstants.{ROW}
+use Rattle.cns_page.specs.declared.totals.Span.{Span}
+
+-- a short: the issue, the member, its age, opening, closing
+abbrev pub short_text : Aged → List ℕ
+short_text s =
+    cells ROW.now (escaped s.row.issue) (decimal s.row.account ∷ decimal s.age ∷ signed_decimal s.row.opening ∷ signed_decimal s.row.closing ∷ [])
+
+-- a liable member: the issue, the day, the member, age, short and what is left
+abbrev pub owing_text : Owing → List ℕ
+owing_text o =
+    cells ROW.now (escaped o.issue)
+    (decimal o.day ∷ decimal o.liable.member ∷ decimal o.liable.age ∷ decimal o.liable.closing ∷ decimal o.liable.left ∷ [])
+
+-- a notice: the issue, its number, its member, its shares, its day, what remains, and the second day after its own
+abbrev pub notice_row : Numbered → List ℕ
+notice_row n =
+    cells ROW.now (escaped n.notice.issue)
+    (decimal n.number ∷ decimal n.notice.member ∷ decimal n.notice.shares ∷ decimal n.notice.given ∷ decimal n.notice.remaining
+    ∷ decimal (n.notice.given + 2) ∷ [])
+
+-- a trade: its date, reference, buyer, seller, issue, shares, money, and whether it was booked into the next day
+abbrev pub due_text : Due → List ℕ
+due_text d =
+    cells ROW.now (day_text d.trade.date)
+    (decimal d.trade.reference ∷ decimal d.trade.buyer ∷ decimal d.trade.seller ∷ escaped d.trade.issue ∷ decimal d.trade.shares
+    ∷ cents_text (pos d.trade.money) ∷ piece_text (piece.Booked d.is_booked) ∷ [])
+
+-- a closed day: its date, its number, the sum of the amounts of its marks, the count of shorts
+abbrev pub figures_text : Figures → List ℕ
+figures_text f = cells ROW.now (day_text f.date) (decimal f.day ∷ cents_text (pos (min f.marks (2 ^ 127 - 1))) ∷ decimal f.shorts ∷ [])
+
+-- some records: which ones, how many, and how many of them are exceptions
+abbrev pub span_text : Span → List ℕ
+span_text s = cells ROW.now s.name.now (decimal s.records ∷ decimal s.exceptions ∷ [])

@@ -1,0 +1,123 @@
+// What stands on a page beside its figures: the titles, captions and columns of its tables.
+use crate::table::Table;
+
+/// The tables of a page.
+pub(crate) struct Captions {
+    pub(crate) exceptions: Table,
+    pub(crate) open: Table,
+    pub(crate) accounts: Table,
+    pub(crate) fails: Table,
+    pub(crate) liable: Table,
+    pub(crate) notices: Table,
+    pub(crate) projection: Table,
+    pub(crate) days: Table,
+    pub(crate) totals: Table,
+}
+
+pub(crate) const CAPTIONS: Captions = Captions {
+    exceptions: Table {
+        id: "exceptions",
+        title: "Exceptions",
+        caption: "Records of the day that are invalid or refused, as they were given, with the facts that decided",
+        none: "None: each record of the day was a command, and none was refused.",
+        columns: &["Record", "As given", "Why", "Facts"],
+    },
+    open: Table {
+        id: "open",
+        title: "Exceptions after this close",
+        caption: "Records of the day that is open that are invalid or refused",
+        none: "None so far: each record after the close was a command, and none was refused.",
+        columns: &["Record", "As given", "Why", "Facts"],
+    },
+    accounts: Table {
+        id: "accounts",
+        title: "CNS Accounting Summary",
+        caption: "The sums over all accounts, and then each account&#39;s issues under the sums of its own. Account 0 is the \
+corporation&#39;s. Positions are in shares: above 0 the account is owed shares, below 0 it owes them. Prices and amounts are in \
+dollars: above 0 the account is owed, below 0 it owes. A mark is what the price did to the opening position, and the rest: what \
+came and went on the day at today&#39;s price, with the money booked",
+        none: "The sheet has no row.",
+        columns: &[
+            "Issue",
+            "Opening",
+            "Closing",
+            "Price before",
+            "Price",
+            "Settling money",
+            "Mark",
+            "Price move on opening",
+            "Rest of mark",
+            "Dividend",
+        ],
+    },
+    fails: Table {
+        id: "fails",
+        title: "Fails to deliver, the oldest first",
+        caption: "Members&#39; short positions at the close, and for how many closes in a row each is short (shares)",
+        none: "No member is short.",
+        columns: &["Issue", "Member", "Closes short", "Opening", "Closing"],
+    },
+    liable: Table {
+        id: "liable",
+        title: "Buy-in retransmittal: liable members",
+        caption: "Members liable for notices of this day and of the day before, in the order in which executions are allocated to \
+them, with what is left of each liability (shares)",
+        none: "No member is liable for a notice of this day or of the day before.",
+        columns: &[
+            "Issue",
+            "Day of the notices",
+            "Member",
+            "Closes short",
+            "Short at that close",
+            "Liability left",
+        ],
+    },
+    notices: Table {
+        id: "notices",
+        title: "Notices of intention in force",
+        caption: "Notices of intention to buy in that are live after the close. Days are numbered by closes, and the date of a \
+coming day is what the close before it will name (shares)",
+        none: "No notice of intention to buy in is live.",
+        columns: &[
+            "Issue",
+            "Notice",
+            "Member",
+            "Quantity",
+            "Given on day",
+            "Still to be bought in",
+            "Last day",
+        ],
+    },
+    projection: Table {
+        id: "projection",
+        title: "Projection",
+        caption: "Accepted trades that settle after this day, by date: booked by this close into the day that it opens, or pending. \
+The positions above are without them (shares; dollars)",
+        none: "No accepted trade settles after this day.",
+        columns: &[
+            "Settles",
+            "Reference",
+            "Buyer",
+            "Seller",
+            "Issue",
+            "Shares",
+            "Money",
+            "Booked",
+        ],
+    },
+    days: Table {
+        id: "days",
+        title: "Last 60 days",
+        caption: "The days up to this one, the last 60 at most, with their gross mark, the sum of the amounts of all marks \
+(dollars), and the count of members&#39; fails",
+        none: "No day is closed.",
+        columns: &["Date", "Day", "Gross mark", "Fails"],
+    },
+    totals: Table {
+        id: "totals",
+        title: "Control totals",
+        caption: "Records of standard input; empty lines are no records",
+        none: "No record was given.",
+        columns: &["Records", "Count", "Exceptions"],
+    },
+};

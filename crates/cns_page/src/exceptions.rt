@@ -1,0 +1,214 @@
+// Exceptions: invalid records and refused commands, with the reasons.
+ghost use Rattle.std.specs.Prelude.{◌++◌, OnOk};
+ghost use Rattle.std.specs.Io.KnownBytes.{Appends};
+ghost use Rattle.cns_page.specs.Exceptions.{facts_text, notice_text, outcome_text, record_text, refused_text, some_fact_text, today_text};
+
+use crate::finding::{Fact, Facts, Finding, Numbered, Outcome};
+use crate::piece::{Piece, write_markup, write_pieces};
+use crate::table::{CELL, ROW, TableRow, write_rows};
+use crate::words::{fault_name, stage_name};
+use cns_terms::Refusal;
+use cns_units::WriteFault;
+use std::io::Write;
+
+// The words around the facts of an exception.
+const GIVEN: &str = "<td><code>";
+
+const GIVEN_END: &str = "</code><td>";
+
+const INVALID: &str = "<strong>Invalid record</strong>. ";
+
+const REFUSED: &str = "<strong>Refused ";
+
+const REFUSED_END: &str = "</strong>";
+
+const TODAY: &str = "Today was ";
+
+const DAY: &str = ", day ";
+
+const PRICE_OF: &str = ". Price of ";
+
+const POSITION_OF: &str = ". Position of ";
+
+const NOTICE: &str = ". Notice ";
+
+const MEMBER: &str = " of member ";
+
+const IN: &str = " in ";
+
+const IS: &str = ": ";
+
+const GIVEN_ON: &str = ": given on day ";
+
+const AND: &str = ", ";
+
+const OF: &str = " of ";
+
+const REMAIN: &str = " shares remain";
+
+const ROOM: &str = ". Shares that they can be given: ";
+
+impl TableRow for Option<Fact> {
+    ghost use Rattle.cns_page.specs.Exceptions.{fact_text};
+
+    ghost text = { fact_text };
+
+    fn write_row<W: Write>(&self, writer: &mut W) -> Result<(), WriteFault> {
+        match self {
+            None => Ok(()),
+            Some(fact) => write_fact(fact, writer),
+        }
+    }
+}
+
+fn write_fact<W: Write>(fact: &Fact, writer: &mut W) -> Result<(), WriteFault>
+    ensures { OnOk result (Appends (W.contents writer.old) (W.contents writer.new) (some_fact_text fact.now)) }
+{
+    match fact {
+        Fact::Price(quote) => {
+            let pieces = [
+                Piece::Markup(PRICE_OF),
+                Piece::Issue(quote.issue),
+                Piece::Markup(IS),
+                Piece::Price(quote.price),
+            ];
+            write_pieces(&pieces, writer)
+        }
+        Fact::Position(stand) => {
+            let pieces = [
+                Piece::Markup(POSITION_OF),
+                Piece::Number(u64::from(stand.account.value())),
+                Piece::Markup(IN),
+                Piece::Issue(stand.issue),
+                Piece::Markup(IS),
+                Piece::Position(stand.position),
+            ];
+            write_pieces(&pieces, writer)
+        }
+        Fact::Notice(numbered) => write_notice(numbered, writer),
+        Fact::Room(room) => write_pieces(&[Piece::Markup(ROOM), Piece::Number(*room)], writer),
+    }
+}
+
+// A notice as it stood.
+fn write_notice<W: Write>(numbered: &Numbered, writer: &mut W) -> Result<(), WriteFault>
+    ensures { OnOk result (Appends (W.contents writer.old) (W.contents writer.new) (notice_text numbered.now)) }
+{
+    let notice = &numbered.notice;
+    let pieces = [
+        Piece::Markup(NOTICE),
+        Piece::Number(u64::from(numbered.number)),
+        Piece::Markup(MEMBER),
+        Piece::Number(u64::from(notice.member.value())),
+        Piece::Markup(IN),
+        Piece::Issue(notice.issue),
+        Piece::Markup(GIVEN_ON),
+        Piece::Number(u64::from(notice.given)),
+        Piece::Markup(AND),
+        Piece::Markup(stage_name(notice.stage)),
+        Piece::Markup(AND),
+        Piece::Number(notice.remaining),
+        Piece::Markup(OF),
+        Piece::Number(notice.shares.value()),
+        Piece::Markup(REMAIN),
+    ];
+    write_pieces(&pieces, writer)
+}
+
+// The day on which a command was refused.
+fn write_today<W: Write>(facts: &Facts, writer: &mut W) -> Result<(), WriteFault>
+    ensures { OnOk result (Appends (W.contents writer.old) (W.contents writer.new) (today_text facts.now)) }
+{
+    let pieces = [
+        Piece::Markup(TODAY),
+        Piece::Date(facts.today),
+        Piece::Markup(DAY),
+        Piece::Number(facts.day),
+    ];
+    write_pieces(&pieces, writer)
+}
+
+// The day on which a command was refused, and what decided it.
+fn write_facts<W: Write>(facts: &Facts, writer: &mut W) -> Result<(), WriteFault>
+    ensures { OnOk result (Appends (W.contents writer.old) (W.contents writer.new) (facts_text facts.now)) }
+{
+    write_today(facts, writer)?;
+    write_rows(&facts.list, writer)
+}
+
+// A refusal's number, what it means, and what decided it.
+fn write_refused<W: Write>(
+    refusal: Refusal,
+    facts: &Facts,
+    words: &'static str,
+    writer: &mut W,
+) -> Result<(), WriteFault>
+    ensures { OnOk result (Appends (W.contents writer.old) (W.contents writer.new)
+        (refused_text refusal words.now ++ facts_text facts.now)) }
+{
+    write_number(refusal, words, writer)?;
+    write_facts(facts, writer)
+}
+
+// A refusal's number, and what it means.
+fn write_number<W: Write>(
+    refusal: Refusal,
+    words: &'static str,
+    writer: &mut W,
+) -> Result<(), WriteFault>
+    ensures { OnOk result (Appends (W.contents writer.old) (W.contents writer.new) (refused_text refusal words.now)) }
+{
+    let pieces = [
+        Piece::Markup(REFUSED),
+        Piece::Number(u64::from(refusal.number())),
+        Piece::Markup(REFUSED_END),
+        Piece::Markup(words),
+        Piece::Markup(CELL),
+    ];
+    write_pieces(&pieces, writer)
+}
+
+// Why a record is an exception.
+fn write_outcome<W: Write>(finding: &Finding, writer: &mut W) -> Result<(), WriteFault>
+    ensures { OnOk result (Appends (W.contents writer.old) (W.contents writer.new)
+        (outcome_text finding.now.outcome finding.now.words.now)) }
+{
+    match &finding.outcome {
+        Outcome::AtFault(fault) => {
+            let pieces = [
+                Piece::Markup(INVALID),
+                Piece::Markup(fault_name(*fault)),
+                Piece::Markup(finding.words),
+                Piece::Markup(CELL),
+            ];
+            write_pieces(&pieces, writer)
+        }
+        Outcome::Refused(refusal, facts) => write_refused(*refusal, facts, finding.words, writer),
+    }
+}
+
+// An exception's number and its text as given.
+fn write_record<W: Write>(finding: &Finding, writer: &mut W) -> Result<(), WriteFault>
+    ensures { OnOk result (Appends (W.contents writer.old) (W.contents writer.new) (record_text finding.now)) }
+{
+    let pieces = [
+        Piece::Markup(ROW),
+        Piece::Number(finding.record),
+        Piece::Markup(GIVEN),
+        Piece::Text(finding.text.as_str()),
+        Piece::Markup(GIVEN_END),
+    ];
+    write_pieces(&pieces, writer)
+}
+
+impl TableRow for Finding {
+    ghost use Rattle.cns_page.specs.Exceptions.{finding_text};
+
+    ghost text = { finding_text };
+
+    fn write_row<W: Write>(&self, writer: &mut W) -> Result<(), WriteFault> {
+        write_record(self, writer)?;
+        write_outcome(self, writer)?;
+        write_markup("\n", writer)
+    }
+}
