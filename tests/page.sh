@@ -91,10 +91,22 @@ DAYS
 cmp -s "$room/page" tests/pages/exchange.html || fail "exchange.csv: $(diff "$room/page" tests/pages/exchange.html | head -n 2)"
 pages=$((pages + 1))
 
-# A record is a stranger's bytes.
-printf '<script>"&\n\xff\x1b\nCLOSE,2024-06-04\n' | "$program" --open 2024-06-03 > "$room/page" || fail "bytes: status $?"
-grep -q '&lt;script&gt;&quot;&amp;' "$room/page" || fail 'a record is not escaped'
-! grep -q '<script' "$room/page" || fail 'a record is markup'
-iconv -f UTF-8 -t UTF-8 "$room/page" > /dev/null || fail 'a page is not UTF-8'
+# A record is a stranger's bytes: what could be taken for markup, what is no character of a text, and what is no UTF-8.
+while IFS='|' read -r record shown; do
+    printf 'MEMBER,1\r\n\r\n%b\r\nCLOSE,2024-06-04\r\n' "$record" | "$program" --open 2024-06-03 > "$room/page" || fail "'$record': status $?"
+    row="<tr><th scope=row>2<td><code>$(printf '%b' "$shown")</code>"
+    grep -qF "$row" "$room/page" || fail "'$record' is not shown as '$shown'"
+    ! grep -q '<script' "$room/page" || fail "'$record' is markup"
+    iconv -f UTF-8 -t UTF-8 "$room/page" > /dev/null || fail "'$record': the page is not UTF-8"
+done <<'TEXTS'
+MEMBER,x|MEMBER,x
+<script>alert(1)</script>|&lt;script&gt;alert(1)&lt;/script&gt;
+"A" & 'B'|&quot;A&quot; &amp; &#39;B&#39;
+&lt;|&amp;lt;
+\x00\x1b\x7f|&#xFFFD;&#xFFFD;&#xFFFD;
+"two\nlines"|&quot;two&#xFFFD;lines&quot;
+M\xc3\xbcller \xff|M\xc3\xbcller \xef\xbf\xbd
+\xe4\xf6|\xef\xbf\xbd\xef\xbf\xbd
+TEXTS
 
 echo "pages passed: $pages"
