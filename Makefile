@@ -147,7 +147,7 @@ test:
 	    bash tests/page.sh $(PAGE); \
 	    bash tests/install.sh; \
 	    bash tests/run.sh; \
-	    bash tests/trials.sh --apply; \
+	    python3 tests/trials.py --apply; \
 	    python3 tests/documents.py $(PROGRAM) $(PAGE); \
 	    $(MAKE) --no-print-directory -o build sample fuzz bench FUZZ="--seeds 1 320 --reach"; \
 	    $(MAKE) --no-print-directory help > /dev/null; \
@@ -164,7 +164,7 @@ fuzz: build
 
 # trials: the further edits of each crate that the check must refuse; CRATES="cns_tree cns_feed" tries those of some crates
 trials:
-	@bash tests/trials.sh $(CRATES)
+	@python3 tests/trials.py $(CRATES)
 
 # times: the gate from nothing, and the processor minutes of each crate and part. A kit without the flag keeps no work.
 times:

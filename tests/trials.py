@@ -1,0 +1,152 @@
+#!/usr/bin/env python3
+"""Tries the edits in the crates' folders trials, each a planted bug that the check must refuse. The gate tries those in the
+folders must-fail alone.
+
+usage: tests/trials.py [CRATE..]
+       tests/trials.py --apply
+
+A check goes function by function, and a caller's part rests on what the called function promises alone. So edits of different
+functions are tried in one check, on a copy, begun with what was proved of the same texts in this checkout: minutes for a
+crate. A function that is not checked since it calls one that is not proved, or that a proof refuses only for a name that the
+edit took away, says nothing of its edit: it is tried again, at last alone.
+
+Prints a line for each trial that is not refused, and one for each crate; the status is 1 where a trial is not refused. With
+--apply it tells only whether each of them can still be applied.
+"""
+
+import collections
+import os
+import pathlib
+import re
+import shutil
+import subprocess
+import sys
+import tempfile
+import time
+
+ROOT = pathlib.Path(__file__).resolve().parent.parent
+FUNCTION = re.compile(r"^ *(?:pub(?:\(crate\))? )?(?:unsafe )?fn (\w+)", re.MULTILINE)
+# Refusals that rest on a proof's words alone.
+NAMES = re.compile(r"has no field|is not in scope|has no `|was not admitted|`: module `")
+
+Edit = collections.namedtuple("Edit", "name pairs functions")
+
+
+def pairs_of(path):
+    """The file of each change of an edit, its old text and its new one."""
+    pairs = []
+    for line in path.read_text(encoding="utf-8").splitlines():
+        if line.startswith("file: "):
+            file = line[6:]
+        elif line.startswith("old: "):
+            pairs.append([file, line[5:]])
+        elif line.startswith("new:"):
+            pairs[-1].append(line[5:])
+    return pairs
+
+
+def function_at(source, place):
+    """The name of the function that a place is in; a text that begins before a function's head is of that one."""
+    heads = [it for it in FUNCTION.finditer(source) if it.start() <= place] + [FUNCTION.match(source, place)]
+    return [it[1] for it in heads if it][-1:]
+
+
+def read(path, crate):
+    """An edit, with the files and functions that it changes; None where it cannot be applied."""
+    pairs, functions, sources = pairs_of(path), set(), {}
+    for file, old, new in pairs:
+        source = sources.get(file) or (crate / file).read_text(encoding="utf-8")
+        if source.count(old) != 1:
+            return None
+        functions.update((file, it) for it in function_at(source, source.index(old)))
+        sources[file] = source.replace(old, new)
+    return Edit(path.stem, pairs, frozenset(functions))
+
+
+def edits_of(crate):
+    return {path: read(path, crate) for path in sorted((crate / "trials").glob("*.edit"))}
+
+
+def apply(edit, crate):
+    for file, old, new in edit.pairs:
+        path = crate / file
+        path.write_text(path.read_text(encoding="utf-8").replace(old, new), encoding="utf-8")
+
+
+def verdict(log, file, function):
+    """What a check said of a function: proved, refused, or nothing that tells."""
+    module = [it for it in re.split(r"/|\.rt$", file.removeprefix("src/")) if it not in ("lib", "main", "")]
+    told = [
+        (head, rest) for head, rest in re.findall(r"^fn (\S+): (.*)$", log, re.MULTILINE)
+        if head.split("::")[-1] == function and all(it in head for it in module[:1])
+    ]
+    if any(rest.startswith("proved") for _, rest in told):
+        return "proved"
+    errors = [it for it in re.findall(rf"^\./proofs/\S*/\+?{function}/.*: error.*$", log, re.MULTILINE) if not NAMES.search(it)]
+    unproved = [rest for _, rest in told if rest.startswith("no proof: expected answers in")]
+    return "refused" if errors or unproved else ""
+
+
+def check(crate):
+    return subprocess.run(["rt", "check"], cwd=crate, capture_output=True, text=True, check=False).stdout
+
+
+def round_of(edits, alone):
+    """Edits of different functions, or one alone."""
+    used, chosen = set(), []
+    for edit in edits:
+        if not edit.functions & used:
+            chosen.append(edit)
+            used |= edit.functions
+        if alone:
+            break
+    return chosen
+
+
+def try_all(name, room):
+    """Tries the trials of a crate; those that are not refused, with what is known of each."""
+    crate, source = room / "crates" / name, ROOT / "crates" / name
+    left = [it for it in edits_of(source).values() if it]
+    missed, alone = [], False
+    while left:
+        chosen = round_of(left, alone)
+        for edit in chosen:
+            apply(edit, crate)
+        log = check(crate)
+        shutil.rmtree(crate / "src")
+        shutil.copytree(source / "src", crate / "src")
+        said = {edit.name: [verdict(log, *it) for it in edit.functions] for edit in chosen}
+        known = [it for it in chosen if alone or "refused" in said[it.name] or set(said[it.name]) == {"proved"}]
+        missed += [(it.name, "is proved" if "proved" in said[it.name] else "has no verdict")
+                   for it in known if "refused" not in said[it.name]]
+        left = [it for it in left if it not in known]
+        alone = alone or not known
+    return missed
+
+
+def main(names):
+    crates = [it.parent for it in sorted(ROOT.glob("crates/*/trials"))]
+    lost = [path for crate in crates for path, edit in edits_of(crate).items() if edit is None]
+    for path in lost:
+        print(f"{path.relative_to(ROOT)} cannot be applied")
+    if names == ["--apply"]:
+        print(f"trials that can be applied: {sum(len(edits_of(crate)) for crate in crates) - len(lost)}")
+        return bool(lost)
+    failed = bool(lost)
+    with tempfile.TemporaryDirectory() as place:
+        room = pathlib.Path(place)
+        shutil.copytree(ROOT / "crates", room / "crates", ignore=shutil.ignore_patterns("out", "trials", "must-fail"))
+        for file in ("crates.txt", "HANDLES"):
+            shutil.copy(ROOT / file, room / file)
+        for name in names or [it.name for it in crates]:
+            begun, count = time.monotonic(), len(edits_of(ROOT / "crates" / name))
+            missed = try_all(name, room)
+            for trial, what in missed:
+                print(f"{name}/{trial} {what}")
+            print(f"{name}: {count - len(missed)} of {count} refused, in {time.monotonic() - begun:.0f} s", flush=True)
+            failed = failed or bool(missed)
+    return failed
+
+
+if __name__ == "__main__":
+    sys.exit(main(sys.argv[1:]))
