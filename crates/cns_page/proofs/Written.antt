@@ -2,7 +2,7 @@
 -- For `write_table` of table.rt, `write_text` and `write_whole` of page.rt and others.
 use Rattle.std.proofs.Common.{◌≡◌, ◌==◌, ℕ, List, [], ◌∷◌, ◌++◌, Option, Result, Ok, Err, OnOk, length, true, false, refl, arith}
 use Rattle.std.proofs.lemmas.Bool.Decides.{nat_tests}
-use Rattle.cns_page.specs.Tables.{none_of, rows_text, some_of}
+use Rattle.cns_page.specs.Tables.{none_of, some_of, table_text}
 use Rattle.cns_page.specs.declared.table.Table.{Table}
 use Rattle.std.specs.Io.KnownBytes.{Appends, Keeps}
 use Rattle.std.proofs.KnownBytes.{Appends-kept, Appends-trans}
@@ -19,12 +19,14 @@ after old mid new a b (Ok x) first last = Appends-trans old mid new a b first la
 after old mid new a b (Err e) first last = tt
 
 -- a table with no rows
-pub no_rows : {X : Type 0} (row : X → List ℕ) (t : Table) (xs : List X) → (length xs == 0) ≡ true → rows_text row t xs ≡ none_of t
+pub no_rows : {X : Type 0} (row : X → List ℕ) (t : Table) (xs : List X) → (length xs == 0) ≡ true → table_text row t xs ≡ none_of t
+unfolding table_text
 no_rows row t [] is = refl
 no_rows row t (x ∷ xs) is = absurd (grind (arith, nat_tests))
 
 -- one with some
-pub some_rows : {X : Type 0} (row : X → List ℕ) (t : Table) (xs : List X) → (length xs == 0) ≡ false → rows_text row t xs ≡ some_of row t xs
+pub some_rows : {X : Type 0} (row : X → List ℕ) (t : Table) (xs : List X) → (length xs == 0) ≡ false → table_text row t xs ≡ some_of row t xs
+unfolding table_text
 some_rows row t [] is = absurd (grind (arith, nat_tests))
 some_rows row t (x ∷ xs) is = refl
 

@@ -6,7 +6,6 @@ use Rattle.cns_units.specs.Day.{day_text}
 use Rattle.cns_terms.specs.Numbers.{refusal_number}
 use Rattle.cns_terms.specs.declared.buy_in.Stage.{Stage}
 use Rattle.cns_terms.specs.declared.buy_in.Stage.TheVariants as stage
-use Rattle.cns_terms.specs.declared.refusal.Refusal.{Refusal}
 use Rattle.cns_feed.specs.Text.{fault_name}
 use Rattle.cns_page.specs.Escape.{escaped}
 use Rattle.cns_page.specs.Pieces.{piece_text}
@@ -14,7 +13,6 @@ use Rattle.cns_page.specs.Tables.{texts}
 use Rattle.cns_page.specs.declared.exceptions.TheConstants.{AND, DAY, GIVEN, GIVEN_END, GIVEN_ON, IN, INVALID, IS, MEMBER, NOTICE, OF, POSITION_OF, PRICE_OF, REFUSED, REFUSED_END, REMAIN, ROOM, TODAY}
 use Rattle.cns_page.specs.declared.finding.Fact.{Fact}
 use Rattle.cns_page.specs.declared.finding.Fact.TheVariants as fact
-use Rattle.cns_page.specs.declared.finding.Facts.{Facts}
 use Rattle.cns_page.specs.declared.finding.Finding.{Finding}
 use Rattle.cns_page.specs.declared.finding.Numbered.{Numbered}
 use Rattle.cns_page.specs.declared.finding.Outcome.{Outcome}
@@ -38,6 +36,7 @@ notice_text n =
 
 -- something that a refusal looked at
 abbrev pub some_fact_text : Fact → List ℕ
+some_fact_text (fact.Today d n) = texts (TODAY.now ∷ day_text d ∷ DAY.now ∷ decimal n ∷ [])
 some_fact_text (fact.Price q) = texts (PRICE_OF.now ∷ escaped q.issue ∷ IS.now ∷ piece_text (piece.Price q.price) ∷ [])
 some_fact_text (fact.Position s) =
     texts (POSITION_OF.now ∷ decimal s.account ∷ IN.now ∷ escaped s.issue ∷ IS.now ∷ piece_text (piece.Position s.position) ∷ [])
@@ -48,27 +47,15 @@ abbrev pub fact_text : Option Fact → List ℕ
 fact_text None = []
 fact_text (Some f) = some_fact_text f
 
--- the day on which a command was refused
-abbrev pub today_text : Facts → List ℕ
-today_text f = texts (TODAY.now ∷ day_text f.today ∷ DAY.now ∷ decimal f.day ∷ [])
-
--- the same, and what decided it
-abbrev pub facts_text : Facts → List ℕ
-facts_text f = today_text f ++ flat_map fact_text f.list
-
--- a refusal's number, and what it means
-abbrev pub refused_text : Refusal → List ℕ → List ℕ
-refused_text r words = texts (REFUSED.now ∷ decimal (refusal_number r) ∷ REFUSED_END.now ∷ words ∷ CELL.now ∷ [])
-
 -- why a record is an exception, in some words
-abbrev pub outcome_text : Outcome → List ℕ → List ℕ
-outcome_text (outcome.AtFault f) words = texts (INVALID.now ∷ fault_name f ∷ words ∷ CELL.now ∷ [])
-outcome_text (outcome.Refused r f) words = refused_text r words ++ facts_text f
+abbrev pub reason_text : Outcome → List ℕ → List ℕ
+reason_text (outcome.AtFault f) words = texts (INVALID.now ∷ fault_name f ∷ words ∷ CELL.now ∷ [])
+reason_text (outcome.Refused r) words = texts (REFUSED.now ∷ decimal (refusal_number r) ∷ REFUSED_END.now ∷ words ∷ CELL.now ∷ [])
 
 -- an exception's number and its text, escaped
 abbrev pub record_text : Finding → List ℕ
 record_text f = texts (ROW.now ∷ decimal f.record ∷ GIVEN.now ∷ escaped (string_bytes f.text) ∷ GIVEN_END.now ∷ [])
 
--- an exception: its number, its text, and why it is one
+-- an exception: its number, its text, why it is one, and what decided it
 abbrev pub finding_text : Finding → List ℕ
-finding_text f = record_text f ++ (outcome_text f.outcome f.words.now ++ 10 ∷ [])
+finding_text f = record_text f ++ (reason_text f.outcome f.words.now ++ (flat_map fact_text f.facts ++ 10 ∷ []))

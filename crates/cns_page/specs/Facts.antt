@@ -1,6 +1,6 @@
 -- Facts that decided a refusal, as a book shows them.
 use Rattle.std.specs.Prelude.{◌≡◌, IfSome, List, [], ◌∷◌, Option, Some, option_map}
-use Rattle.cns_terms.specs.Common.{State}
+use Rattle.cns_terms.specs.Common.{State, date, day, journal_of}
 use Rattle.cns_book.specs.Shown.{notice_shown, position_shown, price_shown}
 use Rattle.cns_terms.specs.declared.refusal.Refusal.{Refusal}
 use Rattle.cns_terms.specs.declared.refusal.Refusal.TheVariants as refusal
@@ -24,6 +24,7 @@ IsNumbered S n = notice_shown S n.number ≡ Some n.notice
 
 -- a fact as the book shows it
 abbrev pub IsShown : State → Refusal → Fact → Type 0
+IsShown S r (fact.Today d n) = (d ≡ date S.opening (journal_of S)) × (n ≡ day (journal_of S))
 IsShown S r (fact.Price q) = IsQuoted S q
 IsShown S r (fact.Position s) = IsStanding S s
 IsShown S r (fact.Notice n) = IsNumbered S n

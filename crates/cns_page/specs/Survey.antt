@@ -75,7 +75,7 @@ noted_all k S (l ∷ ls) = noted_all (noted k S l) (state_after_line S l) ls
 -- why a finding's record is an exception
 abbrev pub why : Outcome → Why
 why (outcome.AtFault f) = at_fault f
-why (outcome.Refused r f) = refused r
+why (outcome.Refused r) = refused r
 
 -- a finding without its text and what decided it
 abbrev pub told : Finding → ℕ × Why

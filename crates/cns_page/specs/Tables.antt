@@ -1,10 +1,10 @@
 -- The texts of tables.
-use Rattle.std.specs.Prelude.{ℕ, List, [], ◌∷◌, ◌++◌, codes}
+use Rattle.std.specs.Prelude.{ℕ, List, [], ◌∷◌, ◌++◌}
 use Rattle.std.specs.List.{flat_map}
 use Rattle.cns_page.specs.Pieces.{piece_text}
 use Rattle.cns_page.specs.declared.piece.Piece.{Piece}
 use Rattle.cns_page.specs.declared.table.Table.{Table}
-use Rattle.cns_page.specs.declared.table.TheConstants.{BEGIN, CAPTION, CELL, COLUMN, COLUMNS, END, NONE, NONE_END, ROWS, SECTION, TITLE}
+use Rattle.cns_page.specs.declared.table.TheConstants.{BEGIN, CAPTION, CELL, COLUMN, COLUMNS, END, NONE, NONE_END, ROWS, SECTION, TITLE, TITLE_END}
 
 -- texts, one after another
 abbrev pub texts : List (List ℕ) → List ℕ
@@ -30,37 +30,26 @@ cells head first others = head ++ (first ++ (flat_map (λ t. CELL.now ++ t) othe
 
 -- ---- tables
 
--- a table's title
-unfoldable pub title_of : Table → List ℕ
-title_of t = texts (SECTION.now ∷ t.id.now ∷ TITLE.now ∷ t.id.now ∷ codes ">" ∷ t.title.now ∷ [])
-
--- what stands there where it has no rows
+-- one with no rows
 unfoldable pub none_of : Table → List ℕ
-none_of t = texts (NONE.now ∷ t.none.now ∷ NONE_END.now ∷ [])
+none_of t =
+    texts (SECTION.now ∷ t.id.now ∷ TITLE.now ∷ t.id.now ∷ TITLE_END.now ∷ t.title.now ∷ NONE.now ∷ t.none.now ∷ NONE_END.now ∷ [])
 
--- what stands before its columns
+-- what stands before the columns of one with rows
 unfoldable pub caption_of : Table → List ℕ
-caption_of t = texts (BEGIN.now ∷ t.title.now ∷ CAPTION.now ∷ t.caption.now ∷ COLUMNS.now ∷ [])
+caption_of t =
+    texts (SECTION.now ∷ t.id.now ∷ TITLE.now ∷ t.id.now ∷ TITLE_END.now ∷ t.title.now ∷ BEGIN.now ∷ t.title.now ∷ CAPTION.now
+    ∷ t.caption.now ∷ COLUMNS.now ∷ [])
 
 -- the names of its columns
 abbrev pub columns_of : Table → List ℕ
 columns_of t = flat_map (λ c. COLUMN.now ++ c.now) t.columns.now
 
-unfoldable pub begin_mark : List ℕ
-begin_mark = ROWS.now
-
-unfoldable pub end_mark : List ℕ
-end_mark = END.now
-
--- it with some rows
+-- one with some rows
 abbrev pub some_of : {X : Type 0} → (X → List ℕ) → Table → List X → List ℕ
-some_of row t xs = caption_of t ++ (columns_of t ++ (begin_mark ++ (flat_map row xs ++ end_mark)))
+some_of row t xs = caption_of t ++ (columns_of t ++ (ROWS.now ++ (flat_map row xs ++ END.now)))
 
--- its rows, or what stands there where it has none
-abbrev pub rows_text : {X : Type 0} → (X → List ℕ) → Table → List X → List ℕ
-rows_text row t [] = none_of t
-rows_text row t (x ∷ xs) = some_of row t (x ∷ xs)
-
--- a table, with exactly these rows in order
+-- a table, with exactly these rows in order, or its line of none
 unfoldable pub table_text : {X : Type 0} → (X → List ℕ) → Table → List X → List ℕ
-table_text row t xs = title_of t ++ rows_text row t xs
+table_text row t [] = none_of t
+table_text row t (x ∷ xs) = some_of row t (x ∷ xs)

@@ -1,13 +1,12 @@
 // Exceptions: invalid records and refused commands, with the reasons.
-ghost use Rattle.std.specs.Prelude.{◌++◌, OnOk};
+ghost use Rattle.std.specs.Prelude.{OnOk};
 ghost use Rattle.std.specs.Io.KnownBytes.{Appends};
-ghost use Rattle.cns_page.specs.Exceptions.{facts_text, notice_text, outcome_text, record_text, refused_text, some_fact_text, today_text};
+ghost use Rattle.cns_page.specs.Exceptions.{notice_text, reason_text, record_text, some_fact_text};
 
-use crate::finding::{Fact, Facts, Finding, Numbered, Outcome};
+use crate::finding::{Fact, Finding, Numbered, Outcome};
 use crate::piece::{Piece, write_markup, write_pieces};
 use crate::table::{CELL, ROW, TableRow, write_rows};
 use crate::words::{fault_name, stage_name};
-use cns_terms::Refusal;
 use cns_units::WriteFault;
 use std::io::Write;
 
@@ -65,6 +64,15 @@ fn write_fact<W: Write>(fact: &Fact, writer: &mut W) -> Result<(), WriteFault>
     ensures { OnOk result (Appends (W.contents writer.old) (W.contents writer.new) (some_fact_text fact.now)) }
 {
     match fact {
+        Fact::Today(date, day) => {
+            let pieces = [
+                Piece::Markup(TODAY),
+                Piece::Date(*date),
+                Piece::Markup(DAY),
+                Piece::Number(*day),
+            ];
+            write_pieces(&pieces, writer)
+        }
         Fact::Price(quote) => {
             let pieces = [
                 Piece::Markup(PRICE_OF),
@@ -115,75 +123,31 @@ fn write_notice<W: Write>(numbered: &Numbered, writer: &mut W) -> Result<(), Wri
     write_pieces(&pieces, writer)
 }
 
-// The day on which a command was refused.
-fn write_today<W: Write>(facts: &Facts, writer: &mut W) -> Result<(), WriteFault>
-    ensures { OnOk result (Appends (W.contents writer.old) (W.contents writer.new) (today_text facts.now)) }
-{
-    let pieces = [
-        Piece::Markup(TODAY),
-        Piece::Date(facts.today),
-        Piece::Markup(DAY),
-        Piece::Number(facts.day),
-    ];
-    write_pieces(&pieces, writer)
-}
-
-// The day on which a command was refused, and what decided it.
-fn write_facts<W: Write>(facts: &Facts, writer: &mut W) -> Result<(), WriteFault>
-    ensures { OnOk result (Appends (W.contents writer.old) (W.contents writer.new) (facts_text facts.now)) }
-{
-    write_today(facts, writer)?;
-    write_rows(&facts.list, writer)
-}
-
-// A refusal's number, what it means, and what decided it.
-fn write_refused<W: Write>(
-    refusal: Refusal,
-    facts: &Facts,
-    words: &'static str,
-    writer: &mut W,
-) -> Result<(), WriteFault>
-    ensures { OnOk result (Appends (W.contents writer.old) (W.contents writer.new)
-        (refused_text refusal words.now ++ facts_text facts.now)) }
-{
-    write_number(refusal, words, writer)?;
-    write_facts(facts, writer)
-}
-
-// A refusal's number, and what it means.
-fn write_number<W: Write>(
-    refusal: Refusal,
-    words: &'static str,
-    writer: &mut W,
-) -> Result<(), WriteFault>
-    ensures { OnOk result (Appends (W.contents writer.old) (W.contents writer.new) (refused_text refusal words.now)) }
-{
-    let pieces = [
-        Piece::Markup(REFUSED),
-        Piece::Number(u64::from(refusal.number())),
-        Piece::Markup(REFUSED_END),
-        Piece::Markup(words),
-        Piece::Markup(CELL),
-    ];
-    write_pieces(&pieces, writer)
-}
-
 // Why a record is an exception.
-fn write_outcome<W: Write>(finding: &Finding, writer: &mut W) -> Result<(), WriteFault>
+fn write_reason<W: Write>(finding: &Finding, writer: &mut W) -> Result<(), WriteFault>
     ensures { OnOk result (Appends (W.contents writer.old) (W.contents writer.new)
-        (outcome_text finding.now.outcome finding.now.words.now)) }
+        (reason_text finding.now.outcome finding.now.words.now)) }
 {
-    match &finding.outcome {
+    match finding.outcome {
         Outcome::AtFault(fault) => {
             let pieces = [
                 Piece::Markup(INVALID),
-                Piece::Markup(fault_name(*fault)),
+                Piece::Markup(fault_name(fault)),
                 Piece::Markup(finding.words),
                 Piece::Markup(CELL),
             ];
             write_pieces(&pieces, writer)
         }
-        Outcome::Refused(refusal, facts) => write_refused(*refusal, facts, finding.words, writer),
+        Outcome::Refused(refusal) => {
+            let pieces = [
+                Piece::Markup(REFUSED),
+                Piece::Number(u64::from(refusal.number())),
+                Piece::Markup(REFUSED_END),
+                Piece::Markup(finding.words),
+                Piece::Markup(CELL),
+            ];
+            write_pieces(&pieces, writer)
+        }
     }
 }
 
@@ -208,7 +172,8 @@ impl TableRow for Finding {
 
     fn write_row<W: Write>(&self, writer: &mut W) -> Result<(), WriteFault> {
         write_record(self, writer)?;
-        write_outcome(self, writer)?;
+        write_reason(self, writer)?;
+        write_rows(&self.facts, writer)?;
         write_markup("\n", writer)
     }
 }

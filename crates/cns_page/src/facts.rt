@@ -1,6 +1,7 @@
 // The facts that decided a refusal.
 ghost use Rattle.std.specs.Prelude.{◌≡◌, IfSome, option_map};
-ghost use Rattle.cns_terms.specs.Common.{State, date, day, journal_of};
+ghost use Rattle.cns_terms.specs.Common.{State};
+ghost use Rattle.cns_terms.specs.declared.refusal.Refusal.{Refusal};
 ghost use Rattle.cns_book.specs.Log.{state_of};
 ghost use Rattle.cns_book.specs.Shown.{notice_shown, position_shown, price_shown};
 ghost use Rattle.cns_page.specs.Facts.{AreShown, IsShown};
@@ -118,6 +119,13 @@ fn decider_of(refusal: Refusal) -> Decider {
     }
 }
 
+// The open day.
+fn today(book: &ReplayBook) -> Option<Fact>
+    ensures { (r : Refusal) → IfSome result (IsShown (state_of book.now.log) r) }
+{
+    Some(Fact::Today(book.today(), book.day()))
+}
+
 // The price of an issue now, in cents.
 fn price(book: &ReplayBook, issue: Cusip) -> Option<u64>
     ensures { result ≡ price_shown (state_of book.now.log) issue }
@@ -195,21 +203,16 @@ fn room(refusal: Refusal) -> Option<Fact>
 /// What decided that the book refused the command. A refusal changes nothing that the book's calls tell, so the book is
 /// asked after it.
 pub fn facts_of(book: &ReplayBook, command: &Command, refusal: Refusal) -> Facts
-    ensures today { result.today ≡ date book.now.log.opening (journal_of (state_of book.now.log)) }
-    ensures day { result.day ≡ day (journal_of (state_of book.now.log)) }
-    ensures shown { AreShown (state_of book.now.log) refusal result.list }
+    ensures { AreShown (state_of book.now.log) refusal result }
 {
     let named = names_of(command);
-    Facts {
-        today: book.today(),
-        day: book.day(),
-        list: [
-            quote(book, refusal, named.issue),
-            quote(book, refusal, named.successor),
-            stand(book, refusal, named.account, named.issue),
-            stand(book, refusal, named.other, named.issue),
-            numbered(book, refusal, named.notice),
-            room(refusal),
-        ],
-    }
+    [
+        today(book),
+        quote(book, refusal, named.issue),
+        quote(book, refusal, named.successor),
+        stand(book, refusal, named.account, named.issue),
+        stand(book, refusal, named.other, named.issue),
+        numbered(book, refusal, named.notice),
+        room(refusal),
+    ]
 }

@@ -1,15 +1,18 @@
-// The figures of a closed day for the list of days.
-ghost use Rattle.std.specs.Prelude.{◌≡◌, ◌-◌, ◌^◌, count_by, IfOk, min, sum_by, unsigned_abs};
+// The figures of closed days, for the list of days.
+ghost use Rattle.std.specs.Prelude.{◌≡◌, ◌-◌, ◌^◌, count_by, IfOk, min, pos, sum_by, unsigned_abs};
 ghost use Rattle.cns_book.specs.Log.{state_of};
 ghost use Rattle.cns_page.specs.Figures.{is_short};
 ghost use Rattle.cns_page.specs.Listed.{figures_shown};
 
+use crate::piece::Piece;
 use crate::survey::Close;
+use crate::table::{ROW, TableRow, write_line};
 use cns_feed::ReplayBook;
 use cns_sheets::Sheet;
 use cns_terms::{NoMemory, Row};
-use cns_units::{Account, Day};
+use cns_units::{Account, Cents, Day, WriteFault};
 use std::alloc::Global;
+use std::io::Write;
 
 /// What the list of days shows of a closed day.
 #[derive(Clone, Copy)]
@@ -83,4 +86,26 @@ pub fn line_of_days(
         line.push(figures_of(sheet, close.day))?;
     }
     Ok(line)
+}
+
+// Cents as an amount, where they fit one; the greatest one where they do not.
+fn amount_of(cents: u128) -> Cents
+    ensures { result ≡ pos (min cents (2 ^ 127 - 1)) }
+{
+    Cents::of(cents.min(i128::MAX as u128) as i128)
+}
+
+impl TableRow for Figures {
+    ghost use Rattle.cns_page.specs.Rows.{figures_text};
+
+    ghost text = { figures_text };
+
+    fn write_row<W: Write>(&self, writer: &mut W) -> Result<(), WriteFault> {
+        let cells = [
+            Piece::Number(u64::from(self.day)),
+            Piece::Amount(amount_of(self.marks)),
+            Piece::Number(self.shorts),
+        ];
+        write_line(ROW, &Piece::Date(self.date), &cells, writer)
+    }
 }

@@ -14,30 +14,31 @@ pub struct Finding {
     pub outcome: Outcome,
     /// Why it is an exception, after the name of the fault or the number of the refusal.
     pub words: &'static str,
+    /// What decided a refusal.
+    pub facts: Facts,
 }
 
 /// What a record came to that is an exception.
 #[derive(Clone, Copy)]
 pub enum Outcome {
     AtFault(LineFault),
-    Refused(Refusal, Facts),
+    Refused(Refusal),
 }
 
-/// What decided a refusal, as the book stood then, so far as the book's calls tell it.
-#[derive(Clone, Copy)]
-pub struct Facts {
-    pub today: Day,
-    /// The open day's number, from 1.
-    pub day: u64,
-    /// What the refusal looks at: the price of the issue that the command names and of an exchange's successor, the
-    /// position of the first account and of a second one, which is a trade's seller or the corporation, the notice that the
-    /// command or the refusal names, and how many shares the liable members can be given.
-    pub list: [Option<Fact>; 6],
-}
+/// What decided a refusal, as the book stood then, so far as the book's calls tell it: the day, the price of the issue that
+/// the command names and of an exchange's successor, the position of the first account that the refusal looks at and of a second
+/// one, which is a trade's seller or the corporation, the notice that the command or the refusal names, and how many shares the
+/// liable members can be given.
+pub type Facts = [Option<Fact>; 7];
+
+/// The facts of a record that is no command.
+pub const NO_FACTS: Facts = [None; 7];
 
 /// Something that a refusal looks at.
 #[derive(Clone, Copy)]
 pub enum Fact {
+    /// The open day's date and its number, from 1.
+    Today(Day, u64),
     Price(Quote),
     Position(Stand),
     Notice(Numbered),

@@ -13,7 +13,6 @@ mod accounts;
 mod asked;
 mod captions;
 mod contents;
-mod days;
 mod entry;
 mod escape;
 mod exceptions;

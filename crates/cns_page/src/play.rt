@@ -7,7 +7,7 @@ ghost use Rattle.cns_feed.specs.Records.{IsReady, Pending};
 ghost use Rattle.cns_feed.specs.Replay.{log_after, log_after_line};
 ghost use Rattle.cns_page.specs.Survey.{ComesTo, Steps, known, noted, noted_all};
 
-use crate::finding::Outcome;
+use crate::finding::{NO_FACTS, Outcome};
 use crate::survey::Survey;
 use cns_feed::{Line, LineFault, Records, ReplayBook, ReplayFault, is_line_end};
 use cns_terms::Worker;
@@ -56,7 +56,7 @@ fn take(
             survey.note(book, text, command, &receipt.reply)?;
         }
         Err(LineFault::NoMemory) => return Err(ReplayFault::NoMemory),
-        Err(fault) => survey.note_finding(text, Outcome::AtFault(*fault))?,
+        Err(fault) => survey.note_finding(text, Outcome::AtFault(*fault), NO_FACTS)?,
     }
     Ok(())
 }

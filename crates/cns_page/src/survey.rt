@@ -3,7 +3,7 @@ ghost use Rattle.std.specs.Prelude.{◌≡◌, ◌<◌, ◌-◌, ◌^◌, IfSome
 ghost use Rattle.cns_page.specs.Survey.{IsChosen, counted, day_closed, known, nothing, replied, wanted, why};
 
 use crate::facts::facts_of;
-use crate::finding::{Finding, Outcome};
+use crate::finding::{Facts, Finding, Outcome};
 use crate::words::words_of;
 use cns_feed::ReplayBook;
 use cns_terms::{Closed, Command, NoMemory, Reply};
@@ -68,7 +68,7 @@ impl Survey {
             Reply::Closed(closed) => self.note_close(closed),
             Reply::Refused(refusal) => {
                 let facts = facts_of(book, command, *refusal);
-                self.note_finding(text, Outcome::Refused(*refusal, facts))
+                self.note_finding(text, Outcome::Refused(*refusal), facts)
             }
             _ => Ok(()),
         }
@@ -87,8 +87,13 @@ impl Survey {
         Ok(())
     }
 
-    /// Notes why a record with the text is an exception.
-    pub(crate) fn note_finding(&mut self, bytes: &[u8], outcome: Outcome) -> Result<(), NoMemory>
+    /// Notes why a record with the text is an exception, and what decided it.
+    pub(crate) fn note_finding(
+        &mut self,
+        bytes: &[u8],
+        outcome: Outcome,
+        facts: Facts,
+    ) -> Result<(), NoMemory>
         ensures { OnOk result (known self.new ≡ wanted (known self.old) (why outcome)) }
     {
         let text = String::from_utf8_lossy(*self.findings.allocator(), bytes)?;
@@ -96,7 +101,8 @@ impl Survey {
             record: self.records,
             text,
             outcome,
-            words: words_of(&outcome),
+            words: words_of(outcome),
+            facts,
         })?;
         Ok(())
     }

@@ -2,7 +2,7 @@
 ghost use Rattle.std.specs.Prelude.{◌≡◌, ◌++◌, List, ℕ, OnOk};
 ghost use Rattle.std.specs.Io.KnownBytes.{Appends};
 ghost use Rattle.std.specs.List.{flat_map};
-ghost use Rattle.cns_page.specs.Tables.{caption_of, cell_of, cells_of, columns_of, none_of, row_of, some_of, table_text, title_of};
+ghost use Rattle.cns_page.specs.Tables.{caption_of, cell_of, cells_of, columns_of, none_of, row_of, some_of, table_text};
 
 use crate::piece::{Piece, write_markup, write_piece, write_pieces};
 use cns_units::WriteFault;
@@ -42,6 +42,8 @@ pub(crate) const CELL: &str = "<td>";
 const SECTION: &str = "<section aria-labelledby=";
 
 const TITLE: &str = ">\n<h2 id=";
+
+const TITLE_END: &str = ">";
 
 const NONE: &str = "</h2>\n<p>";
 
@@ -124,13 +126,19 @@ fn write_columns<W: Write>(table: &Table, writer: &mut W) -> Result<(), WriteFau
     Ok(())
 }
 
-// Writes what stands there where the table has no rows.
+// Writes a table that has no rows.
 #[tactic(auto, unfolding(crate::specs::Tables::none_of))]
 fn write_none<W: Write>(table: &Table, writer: &mut W) -> Result<(), WriteFault>
     ensures { OnOk result (Appends (W.contents writer.old) (W.contents writer.new) (none_of table.now)) }
 {
     write_pieces(
         &[
+            Piece::Markup(SECTION),
+            Piece::Markup(table.id),
+            Piece::Markup(TITLE),
+            Piece::Markup(table.id),
+            Piece::Markup(TITLE_END),
+            Piece::Markup(table.title),
             Piece::Markup(NONE),
             Piece::Markup(table.none),
             Piece::Markup(NONE_END),
@@ -139,13 +147,19 @@ fn write_none<W: Write>(table: &Table, writer: &mut W) -> Result<(), WriteFault>
     )
 }
 
-// Writes what stands before the columns.
+// Writes the title and what stands before the columns.
 #[tactic(auto, unfolding(crate::specs::Tables::caption_of))]
 fn write_caption<W: Write>(table: &Table, writer: &mut W) -> Result<(), WriteFault>
     ensures { OnOk result (Appends (W.contents writer.old) (W.contents writer.new) (caption_of table.now)) }
 {
     write_pieces(
         &[
+            Piece::Markup(SECTION),
+            Piece::Markup(table.id),
+            Piece::Markup(TITLE),
+            Piece::Markup(table.id),
+            Piece::Markup(TITLE_END),
+            Piece::Markup(table.title),
             Piece::Markup(BEGIN),
             Piece::Markup(table.title),
             Piece::Markup(CAPTION),
@@ -171,24 +185,6 @@ fn write_some<T: TableRow, W: Write>(
     write_markup(END, writer)
 }
 
-// Writes the title.
-#[tactic(auto, unfolding(crate::specs::Tables::title_of))]
-fn write_title<W: Write>(table: &Table, writer: &mut W) -> Result<(), WriteFault>
-    ensures { OnOk result (Appends (W.contents writer.old) (W.contents writer.new) (title_of table.now)) }
-{
-    write_pieces(
-        &[
-            Piece::Markup(SECTION),
-            Piece::Markup(table.id),
-            Piece::Markup(TITLE),
-            Piece::Markup(table.id),
-            Piece::Markup(">"),
-            Piece::Markup(table.title),
-        ],
-        writer,
-    )
-}
-
 /// Writes a table with its rows in order, or what stands there where it has none.
 ///
 /// Where the writer fails or takes no byte it answers `WriteFault`, and some of that text was written.
@@ -199,7 +195,6 @@ pub(crate) fn write_table<T: TableRow, W: Write>(
 ) -> Result<(), WriteFault>
     ensures { OnOk result (Appends (W.contents writer.old) (W.contents writer.new) (table_text T.text table.now rows.now)) }
 {
-    write_title(table, writer)?;
     if rows.is_empty() {
         write_none(table, writer)
     } else {

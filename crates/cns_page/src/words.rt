@@ -88,9 +88,9 @@ not past and before its payable date, and the next day is after today."
 }
 
 /// Why a record is an exception, after the name of its fault or the number of its refusal.
-pub(crate) fn words_of(outcome: &Outcome) -> &'static str {
+pub(crate) fn words_of(outcome: Outcome) -> &'static str {
     match outcome {
-        Outcome::AtFault(fault) => fault_words(*fault),
-        Outcome::Refused(refusal, _) => refusal_words(*refusal),
+        Outcome::AtFault(fault) => fault_words(fault),
+        Outcome::Refused(refusal) => refusal_words(refusal),
     }
 }
