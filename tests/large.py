@@ -18,7 +18,7 @@ OPENING = datetime.date(2024, 6, 3)
 ISSUE, OTHER = "17275R102", "594918104"
 
 # What stands on the page of many things, and how often: member 1 has sold its share, so its notice is refused too.
-PAGE_MARKS = {b"<li><p>Record ": 1_001}
+PAGE_MARKS = {b"<td><code>": 1_001}
 
 
 def cusip(number):
