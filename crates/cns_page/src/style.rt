@@ -28,6 +28,7 @@ pre code { background: none; padding: 0; }
 min-width: 12rem; }
 [aria-labelledby=exceptions] tbody th, [aria-labelledby=open] tbody th { vertical-align: top; padding-left: .5rem; \
 border-left: 4px solid var(--alert); }
+[aria-labelledby=exceptions] thead th, [aria-labelledby=open] thead th { text-align: left; }
 .wide { overflow-x: auto; }
 .wide:focus-visible, a:focus-visible { outline: 3px solid var(--link); outline-offset: 2px; }
 table { border-collapse: collapse; font-variant-numeric: tabular-nums; font-size: .92rem; }
