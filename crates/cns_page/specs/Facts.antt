@@ -22,6 +22,10 @@ IsStanding S s = s.position ≡ option_map (λ h. h.now) (position_shown S (reco
 abbrev pub IsNumbered : State → Numbered → Type 0
 IsNumbered S n = notice_shown S n.number ≡ Some n.notice
 
+-- the open day
+abbrev pub today_in : State → Fact
+today_in S = fact.Today (date S.opening (journal_of S)) (day (journal_of S))
+
 -- a fact as the book shows it
 abbrev pub IsShown : State → Refusal → Fact → Type 0
 IsShown S r (fact.Today d n) = (d ≡ date S.opening (journal_of S)) × (n ≡ day (journal_of S))

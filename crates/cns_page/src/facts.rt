@@ -1,10 +1,9 @@
 // The facts that decided a refusal.
-ghost use Rattle.std.specs.Prelude.{◌≡◌, IfSome, option_map};
+ghost use Rattle.std.specs.Prelude.{◌≡◌, IfSome, option_map, slice_get};
 ghost use Rattle.cns_terms.specs.Common.{State};
-ghost use Rattle.cns_terms.specs.declared.refusal.Refusal.{Refusal};
 ghost use Rattle.cns_book.specs.Log.{state_of};
 ghost use Rattle.cns_book.specs.Shown.{notice_shown, position_shown, price_shown};
-ghost use Rattle.cns_page.specs.Facts.{AreShown, IsShown};
+ghost use Rattle.cns_page.specs.Facts.{AreShown, IsShown, today_in};
 
 use crate::finding::{Fact, Facts, Numbered, Quote, Stand};
 use cns_feed::ReplayBook;
@@ -120,10 +119,10 @@ fn decider_of(refusal: Refusal) -> Decider {
 }
 
 // The open day.
-fn today(book: &ReplayBook) -> Option<Fact>
-    ensures { (r : Refusal) → IfSome result (IsShown (state_of book.now.log) r) }
+fn today(book: &ReplayBook) -> Fact
+    ensures { result ≡ today_in (state_of book.now.log) }
 {
-    Some(Fact::Today(book.today(), book.day()))
+    Fact::Today(book.today(), book.day())
 }
 
 // The price of an issue now, in cents.
@@ -203,11 +202,12 @@ fn room(refusal: Refusal) -> Option<Fact>
 /// What decided that the book refused the command. A refusal changes nothing that the book's calls tell, so the book is
 /// asked after it.
 pub fn facts_of(book: &ReplayBook, command: &Command, refusal: Refusal) -> Facts
-    ensures { AreShown (state_of book.now.log) refusal result }
+    ensures today { slice_get result 0 ≡ Some (Some (today_in (state_of book.now.log))) }
+    ensures shown { AreShown (state_of book.now.log) refusal result }
 {
     let named = names_of(command);
     [
-        today(book),
+        Some(today(book)),
         quote(book, refusal, named.issue),
         quote(book, refusal, named.successor),
         stand(book, refusal, named.account, named.issue),
