@@ -8,11 +8,19 @@ use cns_terms::Worker;
 use std::alloc::Global;
 use std::str;
 
+// Commands, invalid records and closes.
+fn counts(summary: Summary) -> (u64, u64, u64) {
+    (summary.commands, summary.lines, summary.closes)
+}
+
 fn check_counts(alloc: Global, call: &str, expected: Summary, got: Summary) -> Result<(), Failure> {
+    let (expected, got) = (counts(expected), counts(got));
     if got == expected {
         return Ok(());
     }
-    Err(Failure::Told(format!(in alloc; "the {call}: expected {expected:?}, got {got:?}")?))
+    Err(Failure::Told(format!(in alloc;
+        "the {call}: expected the counts {expected:?}, got {got:?}"
+    )?))
 }
 
 // The first place at which the lines of the output differ from the reply lines.
