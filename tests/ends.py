@@ -154,11 +154,20 @@ def small_writes_and_signals_change_nothing(play):
             check(run.tells(0, TRADE_REPLIES, ""), f"writes of {step}, signals {signals}")
 
 
-def a_writer_that_fails_has_what_it_took(play, name, words, text, whole):
-    for room in range(len(whole)):
+def a_writer_that_fails_has_what_it_took(play, name, words, text, whole, rooms=None):
+    for room in rooms or range(len(whole)):
         for full in (0, 1):
             run = play(words, text, STEP=3, ROOM=room, FULL=full)
             check(run.tells(1, whole[:room], "fault Write\n"), f"{name}: room for {room} bytes, full {full}")
+
+
+def replies_longer_than_a_buffer_fail_likewise(play):
+    """A block of records with replies of some 27 KB, so that writes fail before the block is answered."""
+    text = DAY + "STATEMENT,101,2024-06-03\n" * 300
+    whole = play(REPLAY, text, STEP=1000).output.decode()
+    check(len(whole) > 25_000 and whole == play(REPLAY, text).output.decode(), "long replies")
+    rooms = [0, 100, 8_191, 8_192, 8_193, 16_384, 20_000, len(whole) - 1]
+    a_writer_that_fails_has_what_it_took(play, "long replies", REPLAY, text, whole, rooms)
 
 
 def a_worker_that_ends_early_is_told_with_the_tally(play, room):
@@ -210,6 +219,7 @@ def main(program, page):
         a_writer_that_fails_has_what_it_took(play, "replay", REPLAY, TRADE, TRADE_REPLIES)
         words = ["statements", *OPEN, "--day", "2024-06-03", "--workers", "2"]
         a_writer_that_fails_has_what_it_took(play, "statements", words, DAY, STATEMENTS)
+        replies_longer_than_a_buffer_fail_likewise(play)
         a_worker_that_ends_early_is_told_with_the_tally(play, room)
         errors_that_cannot_be_written_change_no_status(play)
         a_page_ends_likewise(play, player(page))
