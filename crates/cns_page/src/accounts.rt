@@ -24,10 +24,15 @@ pub enum SheetLine {
     Issue(Row),
 }
 
-// What stands before the sums over all rows, and before those of an account, in parts of the table of their own.
+// What stands before the sums over all rows, and before those of an account: the end of the table before, and the head of
+// another, since a browser lays out only the tables that are seen.
 const ALL: &str = "<tbody class=total><tr><th scope=row>";
 
-const ACCOUNT: &str = "<tbody><tr class=sum><th scope=rowgroup colspan=6>Account ";
+const ACCOUNT: &str =
+    "</table>\n</div>\n<div class=part>\n<table>\n<colgroup><col class=name><col span=9></colgroup>\n\
+<thead><tr><th scope=col>Issue<th scope=col>Opening<th scope=col>Closing<th scope=col>Price before<th scope=col>Price\
+<th scope=col>Settling money<th scope=col>Mark<th scope=col>Price move on opening<th scope=col>Rest of mark<th scope=col>Dividend\
+\n</thead><tbody>\n<tr class=sum><th scope=rowgroup colspan=6>Account ";
 
 // Whether an account is not the one before.
 fn is_next(before: Option<Account>, account: Account) -> bool

@@ -38,6 +38,11 @@ thead th { vertical-align: bottom; white-space: normal; border-bottom: 2px solid
 th:first-child { text-align: left; padding-left: 0; }
 th[scope=row], thead th:first-child { position: sticky; left: 0; background: var(--ground); }
 tbody th { font-weight: 600; }
+[aria-labelledby=accounts] .part { content-visibility: auto; contain-intrinsic-size: auto 12rem; min-width: 66rem; }
+[aria-labelledby=accounts] .part + .part thead { position: absolute; clip-path: inset(50%); }
+[aria-labelledby=accounts] table { width: 100%; table-layout: fixed; }
+[aria-labelledby=accounts] td { white-space: normal; overflow-wrap: anywhere; }
+[aria-labelledby=accounts] thead th:first-child, .name { width: 7rem; }
 .sum > * { background: var(--sum); font-weight: 600; border-top: 1px solid var(--quiet); }
 .sum th { padding-left: .3rem; text-align: left; }
 .total > tr > * { font-weight: 700; border-top: 3px double var(--ink); }
@@ -51,6 +56,9 @@ nav, .skip { display: none; }
 table { font-size: 7pt; }
 th, td { padding: .3mm 1mm; }
 th[scope=row], thead th:first-child { position: static; }
+[aria-labelledby=accounts] .part { content-visibility: visible; min-width: 0; }
+[aria-labelledby=accounts] .part + .part thead { position: static; clip-path: none; }
+[aria-labelledby=accounts] thead th:first-child, .name { width: 17mm; }
 thead { display: table-header-group; }
 tr { break-inside: avoid; }
 h2 { break-after: avoid; }

@@ -51,7 +51,7 @@ const NONE_END: &str = "</p>\n</section>\n";
 
 const BEGIN: &str = "</h2>\n<div class=wide tabindex=0 role=region aria-label=\"";
 
-const CAPTION: &str = "\">\n<table>\n<caption>";
+const CAPTION: &str = "\">\n<div class=part>\n<table>\n<caption>";
 
 const COLUMNS: &str = "</caption>\n<thead><tr>";
 
@@ -59,7 +59,7 @@ const COLUMN: &str = "<th scope=col>";
 
 const ROWS: &str = "\n</thead><tbody>\n";
 
-const END: &str = "</table>\n</div>\n</section>\n";
+const END: &str = "</table>\n</div>\n</div>\n</section>\n";
 
 // Writes other cells of a row.
 fn write_cells<W: Write>(pieces: &[Piece<'_>], writer: &mut W) -> Result<(), WriteFault>
