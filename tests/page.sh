@@ -51,6 +51,9 @@ done <<'LINES'
 replay --open 2024-06-03
 LINES
 
+# Words that are no text.
+refuse --open $'2024-06-03\xff'
+
 "$program" --open 2024-06-03 < /dev/null > "$room/output" 2> "$room/errors"
 expect 'no records' 1 'fault NoSuchDay' "$?"
 for day in 2024-06-30 2024-06-02; do

@@ -77,6 +77,10 @@ statements --open 2024-06-03 --day 2024-06-03 --workers x
 statements --open 2024-06-03 --day 2024-06-03 --workers 18446744073709551617
 LINES
 
+# Words that are no text.
+refuse $'\xff'
+refuse replay --open $'2024-06-03\xff'
+
 printf 'MEMBER,101\nMEMBER,x\n' | "$program" replay --open 2024-06-03 >"$room/output" 2>"$room/errors"
 expect 'a replay' 0 $'ok\nline Number\n' '' "$?"
 printf 'MEMBER,101\n' | "$program" replay --open=2024-06-03 >"$room/output" 2>"$room/errors"
