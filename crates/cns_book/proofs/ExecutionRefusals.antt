@@ -1,6 +1,6 @@
 -- An execution: what it is refused for, and what it leaves.
 -- For `check_execution` of parts/execution.rt, clauses refused and accepted.
-use Rattle.std.proofs.Common.{◌≡◌, ◌∙◌, ap, sym, subst, refl, ℕ, zero, suc, ◌+◌, ◌-◌, ◌≤◌, ◌<◌, Bool, true, false, not, cond, ◌&&◌, ◌⊎◌, inl, inr, List, [], ◌∷◌, length, Option, Some, None, is_none, arith, slice_get, IfSome, ◌==◌, nat_lt, option_map, unsigned_abs}
+use Rattle.std.proofs.Common.{min, ◌≡◌, ◌∙◌, ap, sym, subst, refl, ℕ, zero, suc, ◌+◌, ◌-◌, ◌≤◌, ◌<◌, Bool, true, false, not, cond, ◌&&◌, ◌⊎◌, inl, inr, List, [], ◌∷◌, length, Option, Some, None, is_none, arith, slice_get, IfSome, ◌==◌, nat_lt, option_map, unsigned_abs}
 use Rattle.cns_book.proofs.Common.{Activity, Contents, Day, Ended, ExceedsPosition, Execution, Expired, Follows, IsExecutable, IsInRange, Journal, Key, Live, NoSuchNotice, NotLive, Notice, Noticed, Posting, Refusal, Rows, Stage, Withdrawn, all_fail, batch_on, books, capped_short, changed_one, charged_on, corporation_limit, day, entries_by, executable, fills, fills_of, first_refusal, holding_at, is_live, is_so, journal, kept_found, nat_tests, notice_at, option_map_or, posting, refusal, remaining, remaining_by, room, room_of, stage, with_notice}
 use Rattle.cns_terms.specs.declared.buy_in.Given.{Given}
 use Rattle.cns_terms.specs.declared.refusal.Refusal.TheVariants.{NotLiable, TooEarly}
@@ -85,6 +85,13 @@ pub record IsRead (s : Contents) (x : Execution) (t : Stage) (g : Given) (r : �
 -- of a live one
 pub read_live : {s : Contents} {x : Execution} (t : Stage) (g : Given) (r : ℕ) → (1 ≤ x.notice) × (x.notice ≤ length s.notices) → t ≡ Live → Some t ≡ option_map (λ y. y.stage) (kept_at s.notices x.notice) → Some g ≡ option_map (λ y. y.given) (kept_at s.notices x.notice) → Some r ≡ option_map (remaining_by s.rows) (kept_at s.notices x.notice) → IsRead s x Live g r
 read_live t g r there live stage given remaining = record { there = there; stage = ap Some (sym live) ∙ stage; given = given; remaining = remaining }
+
+-- a room that is counted as far as so many shares is the whole where it is less, and has them all where it is not
+pub counted_whole : (n m r : ℕ) → r ≡ min n m → r < n → m ≡ r
+counted_whole n m r is less = omega (arith, is, less)
+
+pub counted_enough : (n m r : ℕ) → r ≡ min n m → n ≤ r → n ≤ m
+counted_enough n m r is enough = omega (arith, is, enough)
 
 -- no position is beyond its limit
 abbrev pub AreShort : Contents → Type 0

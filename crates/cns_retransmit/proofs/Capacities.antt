@@ -1,12 +1,12 @@
 -- What a batch can be given.
--- For `room` of filling.rt.
+-- For `room_up_to` of filling.rt and `room` of batch.rt.
 use Rattle.std.proofs.Common.{◌≡◌, ◌∙◌, ap, ℕ, ◌+◌, ◌<◌, ◌≤◌, List, [], ◌∷◌, take, get_or, length, sum_by, arith}
 use Rattle.cns_retransmit.proofs.Common.{Liable, Member, capacity, sum_by-cons, sum_by_push}
 use Rattle.std.proofs.lemmas.List.Sums.{sum_by-take-le}
 use Rattle.cns_retransmit.proofs.Lists.{take_next}
 
 -- what a batch can be given is no more than is left
-capacities_below : (short : Member → ℕ) (ss : List Liable) → sum_by (capacity short) ss ≤ sum_by (λ s. s.left) ss
+pub capacities_below : (short : Member → ℕ) (ss : List Liable) → sum_by (capacity short) ss ≤ sum_by (λ s. s.left) ss
 capacities_below short [] = omega arith
 capacities_below short (s ∷ ss) = search (arith, sum_by-cons, capacities_below short ss)
 

@@ -1,6 +1,6 @@
 -- A loop that makes the fills of an execution.
 -- For `make_fills` of filling.rt.
-use Rattle.std.proofs.Common.{◌≡◌, ℕ, ◌+◌, ◌-◌, ◌*◌, ◌/◌, ◌<◌, min, List, [], ◌∷◌, ◌++◌, append_assoc, filter, nat_lt, arith}
+use Rattle.std.proofs.Common.{◌≡◌, ◌∙◌, sym, ap, refl, ℕ, ◌+◌, ◌-◌, ◌*◌, ◌/◌, ◌<◌, ◌≤◌, min, List, [], ◌∷◌, ◌++◌, append_assoc, append-nil, filter, nat_lt, arith}
 use Rattle.cns_retransmit.proofs.Common.{Fill, Liable, Member, capacity, fills_laid, fills_of, laid}
 
 -- the fills that are left to make
@@ -27,3 +27,12 @@ fill_some each n m all rest s done start paid given due inv is some due_is = gri
 -- a member that is given nothing
 pub fill_none : (each : Liable → ℕ) (n m : ℕ) (all : List Fill) (rest : List Liable) (s : Liable) (done : List Fill) (start paid given : ℕ) → Filling each n m all (s ∷ rest) done start paid → given ≡ min (each s) (n - start) → given ≡ 0 → Filling each n m all rest done start paid
 fill_none each n m all rest s done start paid given inv is none = grind arith
+
+-- once all shares are given, no fill is left
+none_past : (each : Liable → ℕ) (n m from : ℕ) (ss : List Liable) → n ≤ from → fills_from each n m from ss ≡ []
+none_past each n m from [] h = refl
+none_past each n m from (s ∷ ss) h = grind (arith, none_past each n m (from + each s) ss (omega arith))
+
+pub fill_last : (each : Liable → ℕ) (n m : ℕ) (all : List Fill) (rest : List Liable) (done : List Fill) (start paid : ℕ) → Filling each n m all rest done start paid → start ≡ n → done ≡ all
+fill_last each n m all rest done start paid inv full =
+    sym (inv.3 ∙ ap (λ fs. done ++ fs) (none_past each n m inv.0 rest (omega (arith, inv.1, full))) ∙ append-nil done)

@@ -1,5 +1,5 @@
 // A batch, with what is left of each liability.
-ghost use Rattle.std.specs.Prelude.{◌≡◌, [], ◌^◌, ◌<◌, ◌≤◌, IfOk, IfSome, length, MatchOption, map, OnErr, pos, sum_by};
+ghost use Rattle.std.specs.Prelude.{◌≡◌, [], ◌^◌, ◌<◌, ◌≤◌, IfOk, IfSome, length, MatchOption, map, min, OnErr, pos, sum_by};
 ghost use Rattle.cns_terms.specs.Batches.{chosen};
 ghost use Rattle.cns_terms.specs.Fills.{charged, fills_of, room_of};
 ghost use Rattle.cns_units.specs.declared.account.Member.{Member};
@@ -121,7 +121,15 @@ impl<A: Allocator + Drop> Batch<A> {
     pub fn room<S: Shorts>(&self, now: &S) -> u64
         ensures { result ≡ room_of (S.short_now now.now) self.now.members }
     {
-        filling::room(self.liables.as_slice(), now)
+        filling::room_up_to(self.liables.as_slice(), now, u64::MAX)
+    }
+
+    /// The room, counted only as far as so many shares: their number where there is room for all of them. It takes no
+    /// memory.
+    pub fn room_up_to<S: Shorts>(&self, now: &S, most: u64) -> u64
+        ensures { result ≡ min most (room_of (S.short_now now.now) self.now.members) }
+    {
+        filling::room_up_to(self.liables.as_slice(), now, most)
     }
 
     /// Lowers what is left of each liability by what the fills give its member. The fills may come in any order. They have to

@@ -1,5 +1,5 @@
 // What an execution gives each member of a batch, and what it charges.
-ghost use Rattle.std.specs.Prelude.{◌≡◌, ℕ, ◌*◌, ◌/◌, ◌^◌, ◌<◌, ◌≤◌, IfNone, IfOk, IfSome, drop, length, map, pos, sum_by};
+ghost use Rattle.std.specs.Prelude.{◌≡◌, ℕ, ◌*◌, ◌/◌, ◌^◌, ◌<◌, ◌≤◌, IfNone, IfOk, IfSome, drop, length, map, min, pos, sum_by};
 ghost use Rattle.std.specs.List.{HoldsAt};
 ghost use Rattle.cns_terms.specs.Fills.{capacity, charged, fills_of, room_of};
 ghost use Rattle.cns_units.specs.declared.account.Member.{Member};
@@ -20,10 +20,13 @@ pub trait Shorts {
         ensures { result ≡ pos (short_now self.now member) };
 }
 
-// What the member can be given now.
+// What the member can be given now. Nobody asks for its short where nothing is left.
 fn capacity_of<S: Shorts>(liable: &Liable, now: &S) -> u64
     ensures { result ≡ capacity (S.short_now now.now) liable.now }
 {
+    if liable.left == 0 {
+        return 0;
+    }
     let short = now.short(liable.member).unsigned_abs();
     liable.left.min(short)
 }
@@ -40,16 +43,19 @@ pub(crate) fn left_for(liables: &[Liable], member: Member) -> u64
     0
 }
 
-// What the members of a batch can be given now.
-pub(crate) fn room<S: Shorts>(liables: &[Liable], now: &S) -> u64
+// What the members of a batch can be given now, counted as far as so many shares.
+pub(crate) fn room_up_to<S: Shorts>(liables: &[Liable], now: &S, most: u64) -> u64
     requires { sum_by (λ l. l.left) liables.now < 2 ^ 63 }
-    ensures { result ≡ room_of (S.short_now now.now) liables.now }
+    ensures { result ≡ min most (room_of (S.short_now now.now) liables.now) }
 {
     let mut room: u64 = 0;
     for liable in liables {
+        if room >= most {
+            return most;
+        }
         room += capacity_of(liable, now);
     }
-    room
+    room.min(most)
 }
 
 // The part of the money that belongs to the first of the shares, in cents.
@@ -78,6 +84,9 @@ pub(crate) fn make_fills<S: Shorts, A: Allocator + Drop>(
     let mut given: u64 = 0;
     let mut paid: u64 = 0;
     for liable in liables {
+        if given == shares {
+            return Ok(fills);
+        }
         let more = capacity_of(liable, now).min(shares - given);
         if more > 0 {
             given += more;

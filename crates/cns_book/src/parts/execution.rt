@@ -73,10 +73,11 @@ impl<P: Positions<A>, A: Allocator + Drop + Clone> Parts<P, A> {
         let Some(batch) = self.batches.find(u64::from(given.day), given.issue) else {
             return Err(Refusal::NotLiable { room: 0 });
         };
-        let room = batch.room(&ShortsNow {
+        let now = ShortsNow {
             parts: self,
             issue: given.issue,
-        });
+        };
+        let room = batch.room_up_to(&now, shares);
         if room < shares {
             return Err(Refusal::NotLiable { room });
         }

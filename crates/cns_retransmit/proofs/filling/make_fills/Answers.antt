@@ -1,6 +1,6 @@
 use Rattle.std.proofs.Common.{◌≡◌, ◌∙◌, ap, subst, ℕ, ◌+◌, ◌-◌, min, List, [], ◌∷◌, ◌++◌, drop, arith}
 use Rattle.cns_retransmit.proofs.Common.{Fill, Liable, capacity, fills_of}
-use Rattle.cns_retransmit.proofs.FillSteps.{Filling, made, fill_first, fill_some, fill_none}
+use Rattle.cns_retransmit.proofs.FillSteps.{Filling, made, fill_first, fill_last, fill_some, fill_none}
 use Rattle.cns_retransmit.proofs.Lists.{drop_next}
 use Rattle.cns_retransmit.proofs.filling.make_fills.Goals.{then-more-gt0+in_ok-push, else-more-gt0}
 use Rattle.cns_retransmit.proofs.filling.make_fills.Goals as goal
@@ -28,3 +28,6 @@ loop-liable-preserved g c =
           let next : Filling each c.args.shares c.args.money all rest c.loop-liable.fills.items c.loop-liable.given c.loop-liable.paid = fill_none each c.args.shares c.args.money all rest l c.loop-liable.fills.items c.loop-liable.given c.loop-liable.paid c.min-more.result inv more_is (omega (arith, w.if-more-gt0.false)) in
           rw (w.fills-is, w.given-is, w.paid-is) next
     ]
+
+pub returns-then-given-shares : goal.returns-then-given-shares
+returns-then-given-shares g c = fill_last (capacity (g.S.Shorts.short_now c.args.now.now)) c.args.shares c.args.money _ (drop c.loop-liable.liable-index c.args.liables.now) c.loop-liable.fills.items c.loop-liable.given c.loop-liable.paid c.loop-liable.invariant c.if-given-shares.true

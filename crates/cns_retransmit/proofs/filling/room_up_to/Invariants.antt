@@ -1,6 +1,6 @@
 use Rattle.std.proofs.Common.{◌≡◌, take, sum_by}
 use Rattle.cns_retransmit.proofs.Common.{capacity}
-use Rattle.cns_retransmit.proofs.filling.room.Given as goal
+use Rattle.cns_retransmit.proofs.filling.room_up_to.Given as goal
 
 abbrev pub invariant-loop-liable : goal.invariant-loop-liable
 invariant-loop-liable g l = l.room ≡ sum_by (capacity (g.S.Shorts.short_now l.now)) (take l.liable-index l.liables)

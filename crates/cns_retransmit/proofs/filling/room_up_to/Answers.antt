@@ -1,6 +1,6 @@
 use Rattle.std.proofs.Common.{arith}
 use Rattle.cns_retransmit.proofs.Capacities.{room_fits}
-use Rattle.cns_retransmit.proofs.filling.room.Goals as goal
+use Rattle.cns_retransmit.proofs.filling.room_up_to.Goals as goal
 
 pub overflow_add-room : goal.overflow_add-room
 overflow_add-room g c =

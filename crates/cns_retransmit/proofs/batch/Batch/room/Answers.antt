@@ -1,0 +1,6 @@
+use Rattle.std.proofs.Common.{arith}
+use Rattle.cns_retransmit.proofs.Capacities.{capacities_below}
+use Rattle.cns_retransmit.proofs.batch.Batch.room.Goals as goal
+
+pub returns : goal.returns
+returns g c = grind (arith, capacities_below)
