@@ -19,7 +19,6 @@ use std::marker::Model;
 
 /// Positions in a balanced tree of rows: a look-up or a booking is one way down, a close or a pass over the rows one
 /// walk.
-#[derive(Drop)]
 pub struct TreePositions<A: Allocator + Clone + Drop> {
     rows: Tree<Holding, A>,
 }
@@ -35,6 +34,14 @@ impl<A: Allocator + Clone + Drop> Model for TreePositions<A> {
     ghost view = { λ p. p.rows };
 
     ghost invariant = { λ p. is_sorted key_cmp p.rows ≡ true };
+}
+
+impl<A: Allocator + Clone + Drop> Drop for TreePositions<A> {
+    // A derived drop would be written out, and checked, in each function above that may let positions go.
+    fn drop(self) {
+        let TreePositions { rows } = self;
+        drop(rows);
+    }
 }
 
 // Gives the key a row of zeros where it has none.

@@ -34,7 +34,6 @@ use std::alloc::Allocator;
 use std::marker::Model;
 
 /// The sheet of a closed day, which never changes. Contracts see its date, its prices and its rows.
-#[derive(Drop)]
 pub struct Sheet<A: Allocator + Drop + Clone> {
     date: Day,
     prices: Vec<(Cusip, Price), A>,
@@ -50,6 +49,19 @@ impl<A: Allocator + Drop + Clone> Model for Sheet<A> {
     ghost view = { λ s. record { date = s.date; prices = s.prices.items; rows = full_rows s.rows } };
 
     ghost invariant = { λ s. IsPlanted s.prices.items s.rows };
+}
+
+impl<A: Allocator + Drop + Clone> Drop for Sheet<A> {
+    // A derived drop would be written out, and checked, in each function above that may let a sheet go.
+    fn drop(self) {
+        let Sheet {
+            date: _,
+            prices,
+            rows,
+        } = self;
+        drop(prices);
+        drop(rows);
+    }
 }
 
 impl<A: Allocator + Drop + Clone> Sheet<A> {
