@@ -1,5 +1,5 @@
 -- Steps no larger than commands: their sums fit.
--- For `check_steps` of positions.rt in cns_parts_tests.
+-- For `check_steps` of positions.rt in cns_book_tests.
 use Rattle.std.proofs.Common.{ℕ, suc, ◌+◌, ◌*◌, ◌^◌, ◌≤◌, ℤ, pos, ◌+ℤ◌, ◌&&◌, ◌==◌, Bool, true, false, cond, List, [], ◌∷◌, length, arith, unsigned_abs}
 use Rattle.cns_positions.proofs.Common.{AllByRecursion, Key, Map, Step, StepFits, after_step, ints, nowhere, same_issue}
 use Rattle.cns_positions.specs.declared.steps.Step.TheVariants.{Get, Add, Roll}
