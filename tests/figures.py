@@ -1,18 +1,32 @@
-"""The figures of the page of a closed day: those that cnspage shows, and those that it has to show by tests/recompute.py.
+"""The figures of the page of a day and of a history: those that cnspage shows, and those that it has to show by
+tests/recompute.py.
 
 Both are lines of text, a table's name before the cells of each of its rows, so that they can be compared as replies are.
 """
 
+import collections
+import hashlib
 import html
 import re
 
-from recompute import CORPORATION, Book, dollars, records
+from recompute import CORPORATION, Book, dollars, ended_records, records
 
 # ---- what a page shows --------------------------------------------------------------------------------------------
 
 HEAD = re.compile(
     r"<h1>Closed day (\S+)</h1>\s*<p>Day (\d+) of the book, as its close left it: records (\d+) to (\d+); exceptions: (\d+)\."
     r" The next day is (\S+)\.</p>"
+)
+OPEN = re.compile(
+    r"<h1>Open day (\S+)</h1>\s*<p>Day (\d+) of the book so far\. Records after number (\d+): (\d+); exceptions: (\d+)\.</p>"
+)
+PAST = re.compile(
+    r"<h1>History of account (\d+) in (\S+)</h1>\s*<p>A book that opened on (\S+), from its first record to record (\d+)\."
+    r" The position after it: (\S+) \(shares\)\.</p>"
+)
+FOOT = re.compile(
+    r"of the first (\d+) bytes of the records, whose SHA-256 is <code>(\w+)</code>\.</p>\s*"
+    r"<p>End of the page\. Its tables have so many rows: (\d+)</p>\s*</footer>\s*</html>\s*$"
 )
 SECTION = re.compile(r"<section aria-labelledby=(\w+)>(.*?)</section>", re.DOTALL)
 ROW = re.compile(r"<tr[^>]*><th scope=row[^>]*>([^\n]*)")
@@ -25,7 +39,7 @@ def cells(row):
 
 def of_table(name, row):
     """The cells of a row that are figures: of an exception its record and why it is one, of control totals their counts."""
-    if name in ("exceptions", "open"):
+    if name == "exceptions":
         return [cells(row)[0], REASON.search(row)[1]]
     return cells(row)[1:] if name == "totals" else cells(row)
 
@@ -33,10 +47,18 @@ def of_table(name, row):
 def shown(page):
     """The figures that a page shows."""
     page = page.decode()
-    lines = ["head " + " ".join(HEAD.search(page).groups())]
+    head = HEAD.search(page) or OPEN.search(page)
+    lines = ["head " + " ".join(head.groups())]
     for name, text in SECTION.findall(page):
         lines += [" ".join([name, *of_table(name, row)]) for row in ROW.findall(text)]
-    return lines
+    return lines + ["foot " + " ".join(FOOT.search(page).groups())]
+
+
+def past_shown(page):
+    """The figures that a history shows."""
+    page = page.decode()
+    rows = [cells(row) for row in ROW.findall(page)]
+    return [" ".join(PAST.search(page).groups())] + [" ".join(row[:2] + row[3:]) for row in rows]
 
 
 # ---- what it has to show ------------------------------------------------------------------------------------------
@@ -105,34 +127,89 @@ class Day:
                 yield [name, *row]
 
 
+KINDS = """Invalid record, member exists, no such member, issue exists, no such issue, retired, same party, same issue, wrong day,
+seen reference, exceeds position, not on hand, not long, already noticed, no such notice, not live, too early, not liable, too large,
+no such day, pending trades""".replace("\n", " ").split(", ")
+MOST_EXCEPTIONS = 200
+
+
 def reason(reply):
-    """Why a record is an exception, None where it is none."""
+    """The number of a refusal, 0 for an invalid record, None where a record is no exception."""
     kind, _, rest = reply.partition(" ")
-    return {"line": "Invalid record", "refused": "Refused " + rest.split(" ")[0]}.get(kind)
+    return {"line": 0, "refused": kind == "refused" and int(rest.split(" ")[0])}.get(kind)
+
+
+def exceptions(found):
+    """The first exceptions of a day, and how many there are of each kind."""
+    for number, why in found[:MOST_EXCEPTIONS]:
+        yield ["exceptions", number, f"Refused {why}" if why else KINDS[0]]
+    for why, count in sorted(collections.Counter(why for _, why in found).items()):
+        yield ["reasons", f"Refused {why}, {KINDS[why]}" if why else KINDS[0], count]
+
+
+class Input:
+    """Records with the bytes that the first of them take, and the exceptions among them."""
+
+    def __init__(self, text, opening):
+        self.text, self.book = text, Book(opening)
+        self.found, self.closes, self.last, self.days = [], [(0, 0)], 0, []
+        for self.last, (record, end) in enumerate(ended_records(text), 1):
+            reply = self.book.reply(record)[0]
+            why = reason(reply)
+            if why is not None:
+                self.found.append((self.last, why))
+            if reply.startswith("closed "):
+                day = Day(self.book)
+                self.days.append((day, list(day.tables())))
+                self.closes.append((self.last, end))
+
+    def of(self, start, end):
+        return [it for it in self.found if start < it[0] <= end]
+
+    def page(self, head, start, end, size, tables):
+        """A page of the records between two numbers: the lines of head, tables and foot."""
+        own = self.of(start, end)
+        rows = [*exceptions(own), *tables]
+        for since, to in ((0, start), (start, end), (0, end)):
+            rows.append(["totals", to - since, len(self.of(since, to))])
+        foot = ["foot", size, hashlib.sha256(self.text[:size]).hexdigest(), len(rows)]
+        return [" ".join(map(str, it)) for it in (["head", *head, len(own)], *rows, foot)]
 
 
 def days_of(text, opening):
-    """The closed days of an input, each with the figures that its page has to show."""
-    book, days, ends, exceptions, last = Book(opening), [], [0], [], 0
+    """The days of an input, each by its words for --day with the figures that its page has to show, the open one last."""
+    whole = Input(text, opening)
+    lines = [["days", *day.line()] for day, _ in whole.days]
+    for place, (day, tables) in enumerate(whole.days):
+        (start, _), (end, size) = whole.closes[place : place + 2]
+        page = whole.page([day.date, day.day, start + 1, end], start, end, size, tables + lines[: place + 1][-60:])
+        page[0] += f" {day.next}"
+        yield day.date, page
+    start = whole.closes[-1][0]
+    head = [whole.book.date_today(), whole.book.today(), start, whole.last - start]
+    yield "today", whole.page(head, start, whole.last, len(text), [])
+
+
+def past_of(text, opening, account, issue, day=None):
+    """The figures of the history of an account's position in an issue, up to the close of a day or to the last record."""
+    book, rows, last, stood = Book(opening), [], 0, (0, 0)
     for last, record in enumerate(records(text), 1):
         reply = book.reply(record)[0]
-        if reason(reply):
-            exceptions.append((last, reason(reply)))
-        if reply.startswith("closed "):
-            day = Day(book)
-            days.append((day, list(day.tables())))
-            ends.append(last)
-    lines = [day.line() for day, _ in days]
-
-    def between(start, end):
-        return [it for it in exceptions if start < it[0] <= end]
-
-    for place, (day, tables) in enumerate(days):
-        start, end = ends[place : place + 2]
-        own, open_ones = between(start, end), between(end, last) if day.day == len(days) else []
-        spans = [(0, start), (start, end), (end, last), (0, last)]
-        rows = [["head", day.date, day.day, start + 1, end, len(own), day.next]]
-        rows += [["exceptions", *it] for it in own] + [["open", *it] for it in open_ones] + tables
-        rows += [["days", *it] for it in lines[: place + 1][-60:]]
-        rows += [["totals", to - since, len(between(since, to))] for since, to in spans]
-        yield day.date, [" ".join(map(str, it)) for it in rows]
+        now = book.position(account, issue), book.cents(account, issue, book.today())
+        closed = book.today() - 1 if reply.startswith("closed ") else 0
+        if closed:
+            stood = stood[0], 0
+            row = book.row(account, issue, closed)
+            if row.opening or row.closing or row.cents or row.dividend:
+                amounts = dollars(row.cents), dollars(row.price), dollars(row.closing * row.price), dollars(row.mark)
+                age = book.age(account, issue, closed)
+                rows.append([last, book.date_of(closed), "", "", row.closing, *amounts, age, dollars(row.dividend)])
+        if now != stood:
+            shares, cents = now[0] - stood[0], now[1] - stood[1]
+            rows.append([last, book.date_today(), shares, dollars(cents), now[0], dollars(now[1]), "", "", "", "", ""])
+        stood = now
+        if closed and book.date_of(closed) == day:
+            break
+    known = issue in book.issues() and account in [CORPORATION] + book.members()
+    head = [account, issue.decode(), opening, last, book.position(account, issue) if known else "none"]
+    return [" ".join(map(str, it)) for it in [head, *rows]]

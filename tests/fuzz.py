@@ -8,7 +8,7 @@ usage: tests/fuzz.py PROGRAM PAGE [--seconds N]
 
 tests/streams.py makes a stream by a seed, which is told, so that a difference can be seen again. Each is replayed by the
 program; a third is taken by `statements` of each closed day and of others, a third by `run` over one to four files, and a
-third by the page of each closed day, whose figures are read off it. A difference is cut down to few records, which are printed
+third by the pages of each closed day and of the open one, whose figures are read off them. A difference is cut down to few records, which are printed
 with both answers, and the status is 1.
 
 Seeds rise from a random one for so many seconds, 20 where none are given. With --seeds they are the same each time. With
@@ -22,6 +22,7 @@ whose replies were worked out by hand.
 import argparse
 import collections
 import datetime
+import itertools
 import pathlib
 import random
 import re
@@ -198,14 +199,27 @@ def answers_run(program, play):
 
 
 def answers_pages(page, play):
-    """The figures of the page of each closed day, and of the day before the first one, which has none."""
+    """The figures of the page of each closed day and of the open one, and of the day before the first one, which has none."""
     before = play.opening - datetime.timedelta(1) if play.opening > datetime.date.min else datetime.date.max
     words = ["--open", str(play.opening), "--day"]
     yield "a page of no day", (b"", b"fault NoSuchDay\n", 1), run(page, [*words, str(before)], play.text)
     for day, lines in figures.days_of(play.text, play.opening):
         output, errors, status = run(page, [*words, str(day)], play.text)
         got = recompute.written(figures.shown(output)) if status == 0 else output
-        yield "a page of a closed day", (recompute.written(lines), b"", 0), (got, errors, status)
+        yield f"a page of {'the open' if day == 'today' else 'a closed'} day", (recompute.written(lines), b"", 0), (got, errors, status)
+    yield from answers_histories(page, play)
+
+
+def answers_histories(page, play):
+    """The figures of the histories of some accounts in some issues, up to the first close and to the last record."""
+    first = [play.book.date_of(1)] if play.book.today() > 1 else []
+    accounts, issues = [0, *play.book.members()[:2], 9999], [*play.book.issues()[:2], b"000000000"]
+    for account, issue, day in itertools.product(accounts, issues, [None, *first]):
+        words = ["--open", str(play.opening), "--account", str(account), "--issue", issue.decode()]
+        output, errors, status = run(page, words + (["--day", str(day)] if day else []), play.text)
+        got = recompute.written(figures.past_shown(output)) if status == 0 else output
+        due = figures.past_of(play.text, play.opening, account, issue, day)
+        yield "a history", (recompute.written(due), b"", 0), (got, errors, status)
 
 
 def difference(answers, program, play):

@@ -149,7 +149,8 @@ def is_leap_day(date):
 # What the program was asked; tests/fuzz.py counts these.
 ASKED = [
     "replay", "statements of a closed day", "statements of the open day", "statements of no day", "a run of one file",
-    "a run of 2 files", "a run of 3 files", "a run of 4 files", "a page of a closed day", "a page of no day",
+    "a run of 2 files", "a run of 3 files", "a run of 4 files", "a page of a closed day", "a page of the open day", "a page of no day",
+    "a history",
 ]
 
 ACCEPTED = [kind.decode() for kind in recompute.KINDS if kind not in (b"POSITION", b"STATEMENT")]

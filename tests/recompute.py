@@ -30,15 +30,18 @@ ENDS_FIELD = re.compile(rb"[,\n\r]")
 
 def records(text):
     """The records of an input, each a list of fields."""
-    if text.startswith(b"\xef\xbb\xbf"):
-        text = text[3:]
-    place = 0
+    return (record for record, _ in ended_records(text))
+
+
+def ended_records(text):
+    """The records of an input, each with the place where it ends."""
+    place = 3 if text.startswith(b"\xef\xbb\xbf") else 0
     while place < len(text):
         if text[place : place + 1] in (FEED, RETURN):
             place += 1  # an empty line, or the second byte of a line end
             continue
         record, place = read_record(text, place)
-        yield record
+        yield record, min(place, len(text))
 
 
 def read_record(text, place):

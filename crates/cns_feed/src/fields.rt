@@ -1,7 +1,7 @@
 // The fields of a record, each read as what it must be.
 ghost use Rattle.std.specs.Prelude.{◌≡◌};
 ghost use Rattle.csv.specs.Records.{fields_of};
-ghost use Rattle.cns_feed.specs.Digits.{in_range};
+ghost use Rattle.cns_feed.specs.Digits.{in_range, number_in};
 ghost use Rattle.cns_feed.specs.Line.{field, member_at, account_at, reference_at, notice_at, shares_at, money_at, price_at, rate_at, part_at, ratio_at, cusip_at, date_at};
 
 use crate::digits::{number_of, short_number_of};
@@ -38,11 +38,19 @@ pub(crate) fn member(row: &ByteRecord, place: usize) -> Result<Member, LineFault
     ranged(Member::new(number))
 }
 
+/// The account with the number that a text of digits is, 0 to 9,999. `Number` where the text is empty or has something else
+/// than digits, `Range` where no account has that number.
+pub fn account_of(text: &[u8]) -> Result<Account, LineFault>
+    ensures { result ≡ number_in 0 9999 text.now }
+{
+    let number = short_number_of(text)?;
+    ranged(Account::new(number))
+}
+
 pub(crate) fn account(row: &ByteRecord, place: usize) -> Result<Account, LineFault>
     ensures { result ≡ account_at (fields_of row.now) place }
 {
-    let number = short_number_of(field(row, place))?;
-    ranged(Account::new(number))
+    account_of(field(row, place))
 }
 
 pub(crate) fn reference(row: &ByteRecord, place: usize) -> Result<u64, LineFault>

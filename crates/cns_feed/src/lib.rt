@@ -26,6 +26,7 @@ mod summary;
 mod text;
 
 pub use fault::{LineFault, ReplayFault};
+pub use fields::account_of;
 pub use line::{Line, command_of};
 pub use loader::{load, load_up_to};
 pub use player::{replay, replay_up_to};

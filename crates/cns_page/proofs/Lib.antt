@@ -1,12 +1,11 @@
-pub mod Written
 pub mod Grouped
 pub mod Adding
 pub mod Figured
-pub mod EscapeLemmas
 pub mod CommandLine
 pub mod PlayLemmas
 pub mod Walked
 pub mod Counted
+pub mod ByReason
 pub mod Lined
 pub mod Numbering
 pub mod Ordered

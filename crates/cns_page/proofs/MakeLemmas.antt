@@ -1,25 +1,68 @@
 -- A page that was made, whatever the input is.
--- For `survey_of` and `make` of make.rt, `make_of` of entry.rt.
-use Rattle.std.proofs.Common.{◌≡◌, ◌≤◌, ◌∙◌, ap, ℕ, List, Option, Some, None, Result, Ok, Err, IfSome, OnOk, length, take}
+-- For `survey_of`, `write_day`, `write_open`, `write_closed`, `records_of`, `write_past` and `make` of make.rt, `make_of` of entry.rt.
+use Rattle.std.proofs.Common.{◌≡◌, ◌≤◌, ◌∙◌, ap, ℕ, List, Option, Some, None, Result, Ok, Err, IfSome, OnOk, length, take, slice_get, refl}
 use Rattle.std.proofs.lemmas.List.{take_all}
-use Rattle.cns_terms.specs.Common.{Day, opened}
+use Rattle.cns_terms.specs.Common.{Day, DaySheet, journal_of, opened}
+use Rattle.cns_terms.specs.Sheets.{sheet_on}
+use Rattle.cns_book.specs.Log.{Log, state_of}
 use Rattle.cns_feed.specs.Line.{Line}
 use Rattle.cns_feed.specs.Output.{lines_of}
-use Rattle.cns_page.specs.Shown.{HasDay, HasPage}
-use Rattle.cns_page.specs.Survey.{IsChosen, Known, known, noted_all, nothing}
+use Rattle.cns_terms.specs.declared.holding.Key.{Key}
+use Rattle.cns_history.specs.Page.{HasHistory}
+use Rattle.cns_history.specs.declared.place.Place.{Place}
+use Rattle.cns_page.specs.Listed.{records_before}
+use Rattle.cns_page.specs.Shown.{HasClosed, HasDay, HasPage, HasPast, HasShown, IsOfRecords, ShowsDay}
+use Rattle.cns_page.specs.Survey.{ComesTo, IsChosen, Known, known, noted_all, nothing}
+use Rattle.cns_page.specs.Today.{HasToday, ShowsToday}
 use Rattle.cns_page.specs.declared.asked.Asked.{Asked}
+use Rattle.cns_page.specs.declared.survey.Close.{Close}
 use Rattle.cns_page.specs.declared.survey.Survey.{Survey}
 
 -- what is known of all lines, where there are no more than were asked for
-pub whole_known : (k : Known) (opening : Day) (most : ℕ) (lines : List Line) → length lines ≤ most → k ≡ noted_all nothing (opened opening) (take most lines) → k ≡ noted_all nothing (opened opening) lines
-whole_known k opening most lines few is = is ∙ ap (noted_all nothing (opened opening)) (take_all most lines few)
+pub whole_known : (k from : Known) (opening : Day) (most : ℕ) (lines : List Line) → length lines ≤ most → k ≡ noted_all from (opened opening) (take most lines) → k ≡ noted_all from (opened opening) lines
+whole_known k from opening most lines few is = is ∙ ap (noted_all from (opened opening)) (take_all most lines few)
 
--- the day that was chosen was written
-pub made : {T E : Type 0} (a : Asked) (input : List ℕ) (s : Survey) (place : ℕ) (old new : Option (List ℕ)) (r : Result T E)
-    → known s ≡ noted_all nothing (opened a.opening) (lines_of input) → IsChosen s.closes.items a.day place
-    → OnOk r (HasDay a.opening input s place old new) → OnOk r (HasPage a input old new)
-made a input s place old new (Ok x) known_all chosen day = record { survey = s; all_known = known_all; place = place; chosen = chosen; day = day }
-made a input s place old new (Err e) known_all chosen day = tt
+-- the page of a day was written, of what a play came to
+pub day_made : {T E : Type 0} (r : Result T E) (opening : Day) (input : List ℕ) (from : ℕ) (close : Close) (log : Log) (s : Survey) (sheet : DaySheet) (bytes : ℕ) (old new : Option (List ℕ))
+    → ComesTo opening from (take close.record (lines_of input)) log s → sheet_on log.opening (journal_of (state_of log)) close.date ≡ Some sheet
+    → OnOk r (ShowsDay opening (take bytes input) log s close sheet old new) → OnOk r (HasDay opening input from close old new)
+day_made (Err e) opening input from close log s sheet bytes old new came closed shown = tt
+day_made (Ok x) opening input from close log s sheet bytes old new came closed shown =
+    record { log = log; taken = came.book; survey = s; all_known = came.all_known; sheet = sheet; closed = closed; bytes = bytes; shown = shown }
+
+-- the page of the open day was
+pub open_made : {T E : Type 0} (r : Result T E) (opening : Day) (input : List ℕ) (from most : ℕ) (log : Log) (s : Survey) (old new : Option (List ℕ))
+    → length (lines_of input) ≤ most → ComesTo opening from (take most (lines_of input)) log s
+    → OnOk r (ShowsToday opening input log s old new) → OnOk r (HasToday opening input from old new)
+open_made (Err e) opening input from most log s old new few came shown = tt
+open_made (Ok x) opening input from most log s old new few came shown =
+    let whole = take_all most (lines_of input) few in
+    record { log = log; taken = rw whole at came.book; survey = s; all_known = rw whole at came.all_known; shown = shown }
+
+-- that of the closed day that was chosen was
+pub closed_made : {T E : Type 0} (r : Result T E) (opening : Day) (input : List ℕ) (closes : List Close) (day : Option Day) (place : ℕ) (close : Close) (old new : Option (List ℕ))
+    → IsChosen closes day place → slice_get closes place ≡ Some close → OnOk r (HasDay opening input (records_before closes place) close old new)
+    → OnOk r (HasClosed opening input closes day old new)
+closed_made (Err e) opening input closes day place close old new chosen there shown = tt
+closed_made (Ok x) opening input closes day place close old new chosen there shown = record { place = place; chosen = chosen; close = close; there = there; shown = shown }
+
+-- a close up to which a history goes
+pub up_to : (closes : List Close) (d : Day) (most place : ℕ) (close : Close) → IsChosen closes (Some d) place → slice_get closes place ≡ Some close
+    → IsOfRecords closes (Some d) most close.record
+up_to closes d most place close chosen there = (place, chosen, rw there refl)
+
+-- the history of a place was written, of so many records
+pub past_made : {T E : Type 0} (r : Result T E) (p : Place) (input : List ℕ) (closes : List Close) (most records : ℕ) (old new : Option (List ℕ))
+    → IsOfRecords closes p.day most records → OnOk r (HasHistory p records input old new) → OnOk r (HasPast p input closes most old new)
+past_made (Err e) p input closes most records old new is shown = tt
+past_made (Ok x) p input closes most records old new is shown = (records, is, shown)
+
+-- the page that is asked for was, by what is known of all records
+pub made : {T E : Type 0} (r : Result T E) (a : Asked) (place : Option Key) (input : List ℕ) (s : Survey) (most : ℕ) (old new : Option (List ℕ))
+    → length (lines_of input) ≤ most → known s ≡ noted_all (nothing most) (opened a.opening) (lines_of input) → a.place ≡ place
+    → OnOk r (HasShown place a.opening input s.closes.items most a.day old new) → OnOk r (HasPage a input old new)
+made (Err e) a place input s most old new few all_known is shown = tt
+made (Ok x) a place input s most old new few all_known is shown = record { most = most; few = few; survey = s; all_known = all_known; shown = rw is shown }
 
 -- of all that a reader gave, where that is known
 pub made_of : {T E : Type 0} (a : Asked) (given : Option (List ℕ)) (input : List ℕ) (old new : Option (List ℕ)) (r : Result T E)

@@ -1,6 +1,6 @@
 -- A book and what is known of its records, line after line.
 -- For `play_with` and `step` of play.rt.
-use Rattle.std.proofs.Common.{◌≡◌, ℕ, ◌+◌, ◌≤◌, List, [], ◌∷◌, ◌++◌, length, take, Option, Ok, Err, refl, sym, ap, ◌∙◌, append_assoc, append-nil, length-append, arith}
+use Rattle.std.proofs.Common.{◌≡◌, ℕ, ◌+◌, ◌≤◌, Bool, true, false, cond, nat_lt, List, [], ◌∷◌, ◌++◌, length, take, Option, Ok, Err, refl, sym, ap, ◌∙◌, append_assoc, append-nil, length-append, arith}
 use Rattle.std.proofs.lemmas.List.{take_all}
 use Rattle.cns_terms.specs.Common.{State, answer}
 use Rattle.cns_terms.specs.declared.reply.Reply.{Reply}
@@ -12,7 +12,7 @@ use Rattle.cns_feed.specs.Records.{Pending}
 use Rattle.cns_feed.specs.declared.records.Records.{Records}
 use Rattle.cns_feed.specs.Replay.{log_after, log_after_line}
 use Rattle.cns_feed.proofs.PlayLemmas.{log_after-append, state_of-after}
-use Rattle.cns_page.specs.Survey.{Known, Takes, counted, known, noted, noted_all, replied}
+use Rattle.cns_page.specs.Survey.{Known, Takes, Why, at_fault, counted, first_too, known, noted, noted_all, one_more, refused, replied, wanted}
 use Rattle.cns_page.specs.declared.survey.Survey.{Survey}
 
 -- records and others behind them
@@ -21,19 +21,27 @@ unfolding noted_all state_after
 noted_all-append k S [] b = refl
 noted_all-append k S (l ∷ a) b = noted_all-append (noted k S l) (state_after_line S l) a b
 
+wanted_records : (k : Known) (w : Why) → (wanted k w).records ≡ k.records
+wanted_records k w = by (nat_lt k.from k.records) (nat_lt (length k.first) 200)
+  where
+    by : (near few : Bool) → (cond near (let with = record (one_more k) { reasons = k.reasons ++ w ∷ [] } in cond few (first_too with w) with) (one_more k)).records ≡ k.records
+    by true true = refl
+    by true false = refl
+    by false few = refl
+
 replied_records : (k : Known) (r : Reply) → (replied k r).records ≡ k.records
 replied_records k (reply.Closed c) = refl
-replied_records k (reply.Refused r) = refl
+replied_records k (reply.Refused r) = wanted_records k (refused r)
 replied_records k r = refl
 
 -- a record that is noted is counted
 pub noted_records : (k : Known) (S : State) (l : Line) → (noted k S l).records ≡ k.records + 1
 noted_records k S (Ok cmd) = replied_records (counted k) (answer S cmd)
-noted_records k S (Err f) = refl
+noted_records k S (Err f) = wanted_records (counted k) (at_fault f)
 
-one_more : (k : Log) (l : Line) → log_after k (l ∷ []) ≡ log_after_line k l
+one_taken : (k : Log) (l : Line) → log_after k (l ∷ []) ≡ log_after_line k l
 unfolding log_after
-one_more k l = refl
+one_taken k l = refl
 
 one_noted : (k : Known) (S : State) (l : Line) → noted_all k S (l ∷ []) ≡ noted k S l
 unfolding noted_all
@@ -66,7 +74,7 @@ along_line rem a b first now then from s t turns all takes p =
       whole = p.whole ∙ ap (λ x. p.done ++ x) one.first ∙ sym (append_assoc p.done (one.line ∷ []) one.rest);
       left = one.left;
       count = let both = length-append p.done (one.line ∷ []) in let before = p.count in omega (arith, both, before);
-      log = one.log ∙ ap (λ k. log_after_line k one.line) p.log ∙ sym (one_more (log_after first p.done) one.line) ∙ sym (log_after-append first p.done (one.line ∷ []));
+      log = one.log ∙ ap (λ k. log_after_line k one.line) p.log ∙ sym (one_taken (log_after first p.done) one.line) ∙ sym (log_after-append first p.done (one.line ∷ []));
       knows = one.knows ∙ ap (λ S. noted (known s) S one.line) state ∙ ap (λ k. noted k (state_after (state_of first) p.done) one.line) p.knows
           ∙ sym (one_noted (noted_all from (state_of first) p.done) (state_after (state_of first) p.done) one.line)
           ∙ sym (noted_all-append from (state_of first) p.done (one.line ∷ []));

@@ -7,14 +7,14 @@ use Rattle.cns_terms.specs.Sheets.{statement}
 use Rattle.cns_terms.specs.declared.reply.Stated.{Stated}
 use Rattle.cns_terms.specs.declared.sheet.Row.{Row}
 use Rattle.cns_statements.specs.Packs.{is_next}
-use Rattle.cns_page.specs.Escape.{escaped}
+use Rattle.cns_tables.specs.Escape.{escaped}
 use Rattle.cns_page.specs.Split.{moved, remaining, sums_over}
-use Rattle.cns_page.specs.Tables.{cells}
+use Rattle.cns_tables.specs.Tables.{cells}
 use Rattle.cns_page.specs.declared.accounts.SheetLine.{SheetLine}
 use Rattle.cns_page.specs.declared.accounts.SheetLine.TheVariants as line
 use Rattle.cns_page.specs.declared.accounts.TheConstants.{ACCOUNT, ALL}
 use Rattle.cns_page.specs.declared.sums.Sums.{Sums}
-use Rattle.cns_page.specs.declared.table.TheConstants.{ROW}
+use Rattle.cns_tables.specs.declared.table.TheConstants.{ROW}
 
 -- a row, after the line of its account where the row before is another one's
 abbrev pub grouped : DaySheet → Option Account → Row → List SheetLine

@@ -1,36 +1,48 @@
 -- What a line asks for, as `clap` reads its words.
-use Rattle.std.specs.Prelude.{if◌then◌else◌, List, Option, Some, None, option_and_then, option_map, codes}
+use Rattle.std.specs.Prelude.{List, Option, Some, None, if◌then◌else◌, option_and_then, option_map, codes}
 use Rattle.std.specs.Result.{result_ok}
-use Rattle.cns_terms.specs.Common.{Day}
-use Rattle.clap.specs.Walk.{is_empty}
-use Rattle.clap.specs.Words.{App, Row, Rule, Text, fault_of, first_of, matches_of, new_rule, with_rule}
-use Rattle.clap.specs.declared.builder.action.ArgAction.TheVariants.{Set}
+use Rattle.std.specs.Str.{bytes_eq}
+use Rattle.clap.specs.Words.{App, Row, Text, first_of, matches_of, with_rule}
+use Rattle.cns_units.specs.Cusip.{cusip_of}
 use Rattle.cns_units.specs.Day.{day_of}
-use Rattle.cns_program.specs.Asks.{date_in}
-use Rattle.cns_program.specs.CommandLine.{bare, option_rule}
+use Rattle.cns_terms.specs.declared.holding.Key.{Key}
+use Rattle.cns_feed.specs.Digits.{number_in}
+use Rattle.cns_shell.specs.Options.{bare, date_in, free_rule, if_taken, option_rule}
 use Rattle.cns_page.specs.declared.asked.Asked.{Asked}
+use Rattle.cns_page.specs.declared.asked.When.{When}
+use Rattle.cns_page.specs.declared.asked.When.TheVariants as when
 
--- an option that may be given, with one value
-abbrev pub free_rule : Text → Rule
-free_rule name = record (new_rule name) { long = Some name; action = Some Set }
-
--- the date on which the book opens, and, where it is given, that of a closed day
+-- the date on which the book opens, and, where they are given, a day, an account and an issue
 unfoldable pub page_line : App
-page_line = with_rule (with_rule (bare (codes "cnspage")) (option_rule (codes "open"))) (free_rule (codes "day"))
+page_line =
+    let dated = with_rule (with_rule (bare (codes "cnspage")) (option_rule (codes "open"))) (free_rule (codes "day")) in
+    with_rule (with_rule dated (free_rule (codes "account"))) (free_rule (codes "issue"))
 
 -- what was found for the options; None where the line is not taken
 abbrev pub found_by : List Text → Option (List Row)
-found_by words = if is_empty (fault_of page_line words) then Some (matches_of page_line words) else None
+found_by words = if_taken page_line words (Some (matches_of page_line words))
 
--- the day of an option that may be missing; None where it is there and no date
-abbrev pub day_read : Option Text → Option (Option Day)
-day_read None = Some None
-day_read (Some t) = option_map Some (result_ok (day_of t))
+-- the day of an option that may be missing; None where it is there, and neither `today` nor a date
+abbrev pub day_read : Option Text → Option When
+day_read None = Some when.Last
+day_read (Some t) = if bytes_eq t (codes "today") then Some when.Today else option_map when.Closed (result_ok (day_of t))
+
+-- the place of a history, of options that may be missing; None where one of the two is there alone, or is none
+abbrev pub place_read : Option Text → Option Text → Option (Option Key)
+place_read None None = Some None
+place_read (Some a) (Some c) = option_and_then
+    (λ account. option_map (λ issue. Some (record { account = account; issue = issue })) (result_ok (cusip_of c)))
+    (result_ok (number_in 0 9999 a))
+place_read (Some a) None = None
+place_read None (Some c) = None
 
 -- what the options ask for
 abbrev pub asked_in : List Row → Option Asked
 asked_in rows = option_and_then
-    (λ opening. option_map (λ day. record { opening = opening; day = day }) (day_read (first_of (codes "day") rows)))
+    (λ opening. option_and_then
+    (λ day. option_map (λ place. record { opening = opening; day = day; place = place })
+    (place_read (first_of (codes "account") rows) (first_of (codes "issue") rows)))
+    (day_read (first_of (codes "day") rows)))
     (date_in rows (codes "open"))
 
 -- what the words of a line ask for; None where the line is refused

@@ -7,9 +7,9 @@ use Rattle.cns_terms.specs.Numbers.{refusal_number}
 use Rattle.cns_terms.specs.declared.buy_in.Stage.{Stage}
 use Rattle.cns_terms.specs.declared.buy_in.Stage.TheVariants as stage
 use Rattle.cns_feed.specs.Text.{fault_name}
-use Rattle.cns_page.specs.Escape.{escaped}
-use Rattle.cns_page.specs.Pieces.{piece_text}
-use Rattle.cns_page.specs.Tables.{texts}
+use Rattle.cns_tables.specs.Escape.{escaped}
+use Rattle.cns_tables.specs.Pieces.{piece_text}
+use Rattle.cns_tables.specs.Tables.{texts}
 use Rattle.cns_page.specs.declared.exceptions.TheConstants.{AND, DAY, GIVEN, GIVEN_END, GIVEN_ON, IN, INVALID, IS, MEMBER, NOTICE, OF, POSITION_OF, PRICE_OF, REFUSED, REFUSED_END, REMAIN, ROOM, TODAY}
 use Rattle.cns_page.specs.declared.finding.Fact.{Fact}
 use Rattle.cns_page.specs.declared.finding.Fact.TheVariants as fact
@@ -17,8 +17,8 @@ use Rattle.cns_page.specs.declared.finding.Finding.{Finding}
 use Rattle.cns_page.specs.declared.finding.Numbered.{Numbered}
 use Rattle.cns_page.specs.declared.finding.Outcome.{Outcome}
 use Rattle.cns_page.specs.declared.finding.Outcome.TheVariants as outcome
-use Rattle.cns_page.specs.declared.piece.Piece.TheVariants as piece
-use Rattle.cns_page.specs.declared.table.TheConstants.{CELL, ROW}
+use Rattle.cns_tables.specs.declared.piece.Piece.TheVariants as piece
+use Rattle.cns_tables.specs.declared.table.TheConstants.{CELL, ROW}
 
 -- how a notice stands
 abbrev pub stage_name : Stage → List ℕ

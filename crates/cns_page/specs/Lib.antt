@@ -1,6 +1,3 @@
-pub mod Escape
-pub mod Pieces
-pub mod Tables
 pub mod Split
 pub mod Figures
 pub mod Exceptions
@@ -8,7 +5,9 @@ pub mod Accounts
 pub mod Rows
 pub mod Facts
 pub mod Listed
+pub mod Foot
 pub mod Page
+pub mod Today
 pub mod Usage
 pub mod Asks
 pub mod Survey

@@ -1,5 +1,5 @@
 -- What the lists of a page are of.
-use Rattle.std.specs.Prelude.{ℕ, Bool, ◌+◌, ◌-◌, nat_le, if◌then◌else◌, drop, length, slice_get, ◌^◌, List, ◌++◌, filter, filter_map, map, min, Option, None, not, option_map, reverse, sum_by, count_by, take, unsigned_abs}
+use Rattle.std.specs.Prelude.{ℕ, zero, suc, ◌-◌, ◌==◌, if◌then◌else◌, drop, length, slice_get, ◌^◌, List, [], ◌∷◌, ◌++◌, filter, filter_map, map, min, Option, None, not, option_map, reverse, sum_by, count_by, take, unsigned_abs}
 use Rattle.std.specs.List.Sorted.{IsPermutation, IsSortedByKey, IsStableByKey}
 use Rattle.std.specs.Option.{option_map_or}
 use Rattle.std.specs.declared.cmp.Ordering.{Ordering}
@@ -22,7 +22,9 @@ use Rattle.cns_page.specs.declared.finding.Numbered.{Numbered}
 use Rattle.cns_page.specs.declared.liable.Owing.{Owing}
 use Rattle.cns_page.specs.declared.projection.Due.{Due}
 use Rattle.cns_page.specs.declared.shorts.Aged.{Aged}
-use Rattle.cns_page.specs.declared.finding.Finding.{Finding}
+use Rattle.cns_page.specs.Survey.{number, why}
+use Rattle.cns_page.specs.declared.finding.Outcome.{Outcome}
+use Rattle.cns_page.specs.declared.reasons.Counted.{Counted}
 use Rattle.cns_page.specs.declared.survey.Close.{Close}
 use Rattle.cns_page.specs.declared.survey.Survey.{Survey}
 use Rattle.cns_page.specs.declared.totals.Span.{Span}
@@ -35,33 +37,45 @@ pub record IsInOrderOf {X K : Type 0} (key : X → K) (cmp : K → K → Orderin
 
 -- ---- the day among others
 
--- the close before the one at a place
-abbrev pub close_before : List Close → ℕ → Option Close
-close_before closes place = if nat_le 1 place then slice_get closes (place - 1) else None
+-- the number of the last close's record; 0 where there is none
+abbrev pub last_record : List Close → ℕ
+last_record closes = option_map_or (λ c. c.record) (slice_get closes (length closes - 1)) 0
 
--- how many records there are before the day that the close at a place ends
-abbrev pub records_before : Survey → ℕ → ℕ
-records_before s place = option_map_or (λ c. c.record) (close_before s.closes.items place) 0
-
--- how many findings there are before the day that the close at a place ends
-abbrev pub findings_before : Survey → ℕ → ℕ
-findings_before s place = option_map_or (λ c. c.findings) (close_before s.closes.items place) 0
-
--- the findings of the day that a close at a place ends
-abbrev pub day_findings : Survey → ℕ → Close → List Finding
-day_findings s place c = drop (findings_before s place) (take c.findings s.findings.items)
-
--- the findings after the day that a close ends
-abbrev pub later_findings : Survey → Close → List Finding
-later_findings s c = drop c.findings s.findings.items
-
--- whether the close at a place is the last one
-abbrev pub is_last : Survey → ℕ → Bool
-is_last s place = nat_le (length s.closes.items) (place + 1)
+-- the number of the last record before the day that the close at a place ends
+abbrev pub records_before : List Close → ℕ → ℕ
+records_before closes place = last_record (take place closes)
 
 -- how many records there are in a row of control totals, and how many of them are exceptions
 abbrev pub counts : Span → ℕ × ℕ
 counts t = (t.records, t.exceptions)
+
+-- how many records there are, and how many of them are exceptions: before the day, of the day, and of all
+abbrev pub spans_shown : Survey → List (ℕ × ℕ)
+spans_shown s =
+    (s.from, s.exceptions - length s.reasons.items) ∷ (s.records - s.from, length s.reasons.items) ∷ (s.records, s.exceptions) ∷ []
+
+-- ---- exceptions by reason
+
+-- a kind of exceptions, by its number, and how many there are
+abbrev pub counted : Counted → ℕ × ℕ
+counted c = (c.number, c.count)
+
+-- how many exceptions have the number of a kind, as far as the count goes
+abbrev pub count_at : ℕ → List Outcome → ℕ
+count_at n os = min (count_by (λ o. number (why o) == n) os) (2 ^ 64 - 1)
+
+-- the same as a row, where there is any
+abbrev pub count_shown : ℕ → List Outcome → List (ℕ × ℕ)
+count_shown n os = if count_at n os == 0 then [] else (n, count_at n os) ∷ []
+
+-- those of the kinds below a number
+unfoldable pub counts_below : ℕ → List Outcome → List (ℕ × ℕ)
+counts_below zero os = []
+counts_below (suc n) os = counts_below n os ++ count_shown n os
+
+-- those of invalid records and of each refusal
+abbrev pub counts_shown : List Outcome → List (ℕ × ℕ)
+counts_shown os = counts_below 21 os
 
 -- ---- live notices
 
@@ -157,6 +171,6 @@ owing_among day bs = flat_map (owings_in day) bs
 abbrev pub liable_shown : State → ℕ → List Owing
 liable_shown S day = owing_among (day - 1) (batches_shown S (day - 1)) ++ owing_among day (batches_shown S day)
 
--- the last 60 of days
-abbrev pub last_days : List Figures → List Figures
-last_days fs = drop (length fs - 60) fs
+-- the last 60 of closes
+abbrev pub last_closes : List Close → List Close
+last_closes cs = drop (length cs - 60) cs

@@ -3,16 +3,17 @@ use Rattle.std.specs.Prelude.{ℕ, ◌+◌, ◌-◌, ◌^◌, min, pos, List, []
 use Rattle.std.specs.Fmt.{decimal, signed_decimal}
 use Rattle.cns_units.specs.Cents.{cents_text}
 use Rattle.cns_units.specs.Day.{day_text}
-use Rattle.cns_page.specs.Escape.{escaped}
-use Rattle.cns_page.specs.Pieces.{piece_text}
-use Rattle.cns_page.specs.Tables.{cells}
+use Rattle.cns_tables.specs.Escape.{escaped}
+use Rattle.cns_tables.specs.Pieces.{piece_text}
+use Rattle.cns_tables.specs.Tables.{cells}
 use Rattle.cns_page.specs.declared.figures.Figures.{Figures}
 use Rattle.cns_page.specs.declared.finding.Numbered.{Numbered}
 use Rattle.cns_page.specs.declared.liable.Owing.{Owing}
-use Rattle.cns_page.specs.declared.piece.Piece.TheVariants as piece
+use Rattle.cns_tables.specs.declared.piece.Piece.TheVariants as piece
 use Rattle.cns_page.specs.declared.projection.Due.{Due}
+use Rattle.cns_page.specs.declared.reasons.Counted.{Counted}
 use Rattle.cns_page.specs.declared.shorts.Aged.{Aged}
-use Rattle.cns_page.specs.declared.table.TheConstants.{ROW}
+use Rattle.cns_tables.specs.declared.table.TheConstants.{ROW}
 use Rattle.cns_page.specs.declared.totals.Span.{Span}
 
 -- a short: the issue, the member, its age, opening, closing
@@ -47,3 +48,7 @@ figures_text f = cells ROW.now (day_text f.date) (decimal f.day ∷ cents_text (
 -- some records: which ones, how many, and how many of them are exceptions
 abbrev pub span_text : Span → List ℕ
 span_text s = cells ROW.now s.name.now (decimal s.records ∷ decimal s.exceptions ∷ [])
+
+-- exceptions of one kind: its name, and how many there are
+abbrev pub counted_text : Counted → List ℕ
+counted_text c = cells ROW.now c.name.now (decimal c.count ∷ [])

@@ -1,5 +1,5 @@
 -- What a page that was written shows.
-use Rattle.std.specs.Prelude.{◌≡◌, ℕ, ◌+◌, ◌-◌, ◌^◌, List, [], ◌∷◌, length, map, min, take, slice_get, Option, Some}
+use Rattle.std.specs.Prelude.{◌≡◌, ◌≤◌, ℕ, ◌+◌, ◌-◌, ◌^◌, IfSome, List, length, map, min, take, slice_get, Option, None, Some}
 use Rattle.std.specs.Io.KnownBytes.{Appends}
 use Rattle.std.specs.Ordering.{int_cmp, nat_cmp}
 use Rattle.cns_terms.specs.Common.{Day, DaySheet, date, journal_of, opened}
@@ -10,14 +10,22 @@ use Rattle.cns_book.specs.Log.{Log, state_of}
 use Rattle.cns_feed.specs.Output.{lines_of}
 use Rattle.cns_feed.specs.Replay.{blank_log, log_after}
 use Rattle.cns_page.specs.Accounts.{sheet_lines}
-use Rattle.cns_page.specs.Listed.{IsInOrderOf, counts, day_findings, due, figures_shown, findings_before, later_among, later_findings, liable_shown, live_shown, looked_at, records_before, shorts_among}
+use Rattle.cns_terms.specs.declared.holding.Key.{Key}
+use Rattle.cns_history.specs.Page.{HasHistory}
+use Rattle.cns_history.specs.declared.place.Place.{Place}
+use Rattle.cns_page.specs.Foot.{IsOrigin}
+use Rattle.cns_page.specs.Listed.{IsInOrderOf, counted, counts, counts_shown, due, figures_shown, last_closes, last_record, later_among, liable_shown, live_shown, looked_at, records_before, shorts_among, spans_shown}
 use Rattle.cns_page.specs.Page.{page_text}
 use Rattle.cns_page.specs.Survey.{IsChosen, known, noted_all, nothing}
+use Rattle.cns_page.specs.Today.{HasToday}
 use Rattle.cns_page.specs.declared.asked.Asked.{Asked}
+use Rattle.cns_page.specs.declared.asked.When.{When}
+use Rattle.cns_page.specs.declared.asked.When.TheVariants as when
 use Rattle.cns_page.specs.declared.captions.Captions.{Captions}
 use Rattle.cns_page.specs.declared.contents.Contents.{Contents}
 use Rattle.cns_page.specs.declared.contents.Head.{Head}
 use Rattle.cns_page.specs.declared.figures.Figures.{Figures}
+use Rattle.cns_page.specs.declared.foot.Origin.{Origin}
 use Rattle.cns_page.specs.declared.shorts.Aged.{Aged}
 use Rattle.cns_page.specs.declared.survey.Close.{Close}
 use Rattle.cns_page.specs.declared.survey.Survey.{Survey}
@@ -36,60 +44,96 @@ next_day log = date log.opening (journal_of (state_of log))
 abbrev pub AreLater : Log → DaySheet → List Trade → Type 0
 AreLater log sheet xs = IsInOrderOf (λ t. day_number t.date) int_cmp (later_among sheet.date (looked_at log.history)) xs
 
--- the list of days up to the close at a place
-abbrev pub days_shown : Log → Survey → ℕ → List Figures
-days_shown log s place = figures_shown (state_of log) (take (place + 1) s.closes.items)
+-- the list of days up to the last close of a survey, the last 60 at most
+abbrev pub days_shown : Log → Survey → List Figures
+days_shown log s = figures_shown (state_of log) (last_closes s.closes.items)
 
--- what the head of the page tells, of the day that the close at a place ends
-abbrev pub head_shown : Log → Survey → ℕ → Close → Head
-head_shown log s place c = record {
+-- what the head of the page tells, of the day that a close ends
+abbrev pub head_shown : Log → Survey → Close → Head
+head_shown log s c = record {
   date = c.date;
   day = c.day;
-  first = min (records_before s place + 1) (2 ^ 64 - 1);
+  first = min (s.from + 1) (2 ^ 64 - 1);
   last = c.record;
-  exceptions = length (day_findings s place c);
+  exceptions = length s.reasons.items;
   next = next_day log;
 }
 
--- how many records there are, and how many of them are exceptions: before the day, of the day, after it, and of all
-abbrev pub spans_shown : Survey → ℕ → Close → List (ℕ × ℕ)
-spans_shown s place c =
-    (records_before s place, findings_before s place) ∷ (c.record - records_before s place, length (day_findings s place c))
-    ∷ (s.records - c.record, length (later_findings s c)) ∷ (s.records, length s.findings.items) ∷ []
-
--- the rows of a page, of the day that the close at a place ends
-pub record AreContents (log : Log) (s : Survey) (place : ℕ) (c : Close) (sheet : DaySheet) (l : Contents) : Type 0 where
-  pub head : l.head ≡ head_shown log s place c
+-- the rows of a page, of the day that a close ends
+pub record AreContents (log : Log) (s : Survey) (c : Close) (sheet : DaySheet) (l : Contents) : Type 0 where
+  pub head : l.head ≡ head_shown log s c
+  pub reasons : map counted l.reasons.items ≡ counts_shown s.reasons.items
   pub lines : l.lines.items ≡ sheet_lines sheet
   pub shorts : AreShorts log sheet l.shorts.items
   pub liable : l.liable.items ≡ liable_shown (state_of log) c.day
   pub notices : l.notices.items ≡ live_shown (state_of log)
   pub trades : (ts : List Trade) × AreLater log sheet ts × (l.trades.items ≡ map (due (next_day log)) ts)
-  pub days : l.days.items ≡ days_shown log s place
+  pub days : l.days.items ≡ days_shown log s
 
--- a day as a book's log has it, whose close is at a place of a survey: what was written is the text of its page, with some captions
-pub record ShowsDay (opening : Day) (log : Log) (s : Survey) (place : ℕ) (c : Close) (sheet : DaySheet) (old new : Option (List ℕ)) : Type 0 where
+-- a day as a book's log has it, and a survey of its records: what was written is the text of its page, with some captions
+pub record ShowsDay (opening : Day) (input : List ℕ) (log : Log) (s : Survey) (c : Close) (sheet : DaySheet) (old new : Option (List ℕ)) : Type 0 where
   pub captions : Captions
   pub contents : Contents
+  pub shown : AreContents log s c sheet contents
   pub spans : List Span
-  pub shown : AreContents log s place c sheet contents
-  pub counted : map counts spans ≡ spans_shown s place c
-  pub written : Appends old new (page_text captions opening s place c contents spans)
+  pub totals : map counts spans ≡ spans_shown s
+  pub origin : Origin
+  pub made_of : IsOrigin input origin
+  pub written : Appends old new (page_text captions opening s contents spans origin)
 
--- the day of the close at a place, by a book that took the records up to that close, and with the sheet that the book has
-pub record HasDay (opening : Day) (input : List ℕ) (s : Survey) (place : ℕ) (old new : Option (List ℕ)) : Type 0 where
-  pub close : Close
-  pub there : slice_get s.closes.items place ≡ Some close
+-- the day that a close ends, by a book that took the records up to that close and no more, and with the sheet that the book has.
+-- The day's records are those after the one with the number; the page says the digest of some first bytes of the input
+pub record HasDay (opening : Day) (input : List ℕ) (from : ℕ) (close : Close) (old new : Option (List ℕ)) : Type 0 where
   pub log : Log
   pub taken : log ≡ log_after (blank_log opening) (take close.record (lines_of input))
+  pub survey : Survey
+  pub all_known : known survey ≡ noted_all (nothing from) (opened opening) (take close.record (lines_of input))
   pub sheet : DaySheet
   pub closed : sheet_on log.opening (journal_of (state_of log)) close.date ≡ Some sheet
-  pub shown : ShowsDay opening log s place close sheet old new
+  pub bytes : ℕ
+  pub shown : ShowsDay opening (take bytes input) log survey close sheet old new
 
--- the day that is asked for, of the records of an input
-pub record HasPage (asked : Asked) (input : List ℕ) (old new : Option (List ℕ)) : Type 0 where
-  pub survey : Survey
-  pub all_known : known survey ≡ noted_all nothing (opened asked.opening) (lines_of input)
+-- the day of the close at a place
+pub record HasClosed (opening : Day) (input : List ℕ) (closes : List Close) (day : Option Day) (old new : Option (List ℕ)) : Type 0 where
   pub place : ℕ
-  pub chosen : IsChosen survey.closes.items asked.day place
-  pub day : HasDay asked.opening input survey place old new
+  pub chosen : IsChosen closes day place
+  pub close : Close
+  pub there : slice_get closes place ≡ Some close
+  pub shown : HasDay opening input (records_before closes place) close old new
+
+-- the day that is asked for, by the closes among an input's records
+abbrev pub HasAsked : Day → List ℕ → List Close → When → Option (List ℕ) → Option (List ℕ) → Type 0
+HasAsked opening input closes when.Last old new = HasClosed opening input closes None old new
+HasAsked opening input closes (when.Closed d) old new = HasClosed opening input closes (Some d) old new
+HasAsked opening input closes when.Today old new = HasToday opening input (last_record closes) old new
+
+-- how many records a history is of, by the closes among all records, of which there are at most so many: those up to the close
+-- of the day with the date, where one is given
+abbrev pub IsOfRecords : List Close → Option Day → ℕ → ℕ → Type 0
+IsOfRecords closes None most records = records ≡ most
+IsOfRecords closes (Some d) most records =
+    (place : ℕ) × IsChosen closes (Some d) place × IfSome (slice_get closes place) (λ c. records ≡ c.record)
+
+-- the history of a place, of so many records
+abbrev pub HasPast : Place → List ℕ → List Close → ℕ → Option (List ℕ) → Option (List ℕ) → Type 0
+HasPast p input closes most old new = (records : ℕ) × IsOfRecords closes p.day most records × HasHistory p records input old new
+
+-- the closed day that is asked for; None for the last one and for the open one
+abbrev pub closed_in : When → Option Day
+closed_in when.Last = None
+closed_in (when.Closed d) = Some d
+closed_in when.Today = None
+
+-- the page of the day, or the history of the place, where one is asked for
+abbrev pub HasShown : Option Key → Day → List ℕ → List Close → ℕ → When → Option (List ℕ) → Option (List ℕ) → Type 0
+HasShown None opening input closes most w old new = HasAsked opening input closes w old new
+HasShown (Some k) opening input closes most w old new =
+    HasPast (record { opening = opening; day = closed_in w; key = k }) input closes most old new
+
+-- the page that is asked for, of the records of an input, of which there are at most so many
+pub record HasPage (asked : Asked) (input : List ℕ) (old new : Option (List ℕ)) : Type 0 where
+  pub most : ℕ
+  pub few : length (lines_of input) ≤ most
+  pub survey : Survey
+  pub all_known : known survey ≡ noted_all (nothing most) (opened asked.opening) (lines_of input)
+  pub shown : HasShown asked.place asked.opening input survey.closes.items most asked.day old new

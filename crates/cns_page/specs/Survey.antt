@@ -1,6 +1,7 @@
 -- What is known of the records of an input: which of them are exceptions, and which closed a day.
-use Rattle.std.specs.Prelude.{◌≡◌, ◌<◌, ℕ, ◌+◌, List, [], ◌∷◌, ◌++◌, length, map, slice_get, Option, Some, None, IfSome, Ok, Err}
+use Rattle.std.specs.Prelude.{◌≡◌, ◌<◌, ℕ, ◌+◌, ◌-◌, ◌^◌, List, [], ◌∷◌, ◌++◌, if◌then◌else◌, length, map, min, nat_lt, slice_get, Option, Some, None, IfSome, Ok, Err}
 use Rattle.cns_terms.specs.Common.{Day, State, answer, opened}
+use Rattle.cns_terms.specs.Numbers.{refusal_number}
 use Rattle.cns_terms.specs.declared.refusal.Refusal.{Refusal}
 use Rattle.cns_terms.specs.declared.reply.Closed.{Closed}
 use Rattle.cns_terms.specs.declared.reply.Reply.{Reply}
@@ -18,39 +19,54 @@ use Rattle.cns_page.specs.declared.finding.Outcome.TheVariants as outcome
 use Rattle.cns_page.specs.declared.survey.Close.{Close}
 use Rattle.cns_page.specs.declared.survey.Survey.{Survey}
 
--- a closed day: its number and date, the number of the record that closed it, and how many records up to it are exceptions
+-- a closed day: its number and date, and the number of the record that closed it
 pub record Closing : Type 0 where
   pub day : ℕ
   pub date : Day
   pub number : ℕ
-  pub wanting : ℕ
 
 -- why a record is an exception: it is invalid, or its command is refused
 pub data Why : Type 0 where
   at_fault : LineFault → Why
   refused : Refusal → Why
 
--- what is known of records: how many there are, the exceptions by their numbers from 1, and the accepted closes
+-- what is known of records: how many there are, how many of them are exceptions, and the accepted closes; and of those after one
+-- of them, the exceptions' reasons, and the first 200 of these with the numbers of their records, from 1
 pub record Known : Type 0 where
+  pub from : ℕ
   pub records : ℕ
-  pub wanting : List (ℕ × Why)
+  pub exceptions : ℕ
+  pub reasons : List Why
+  pub first : List (ℕ × Why)
   pub closes : List Closing
 
 -- of no records
-abbrev pub nothing : Known
-nothing = record { records = 0; wanting = []; closes = [] }
+abbrev pub nothing : ℕ → Known
+nothing from = record { from = from; records = 0; exceptions = 0; reasons = []; first = []; closes = [] }
 
 -- one record more
 abbrev pub counted : Known → Known
 counted k = record k { records = k.records + 1 }
 
+-- an exception more
+abbrev pub one_more : Known → Known
+one_more k = record k { exceptions = min (k.exceptions + 1) (2 ^ 64 - 1) }
+
+-- it is one of the first, too
+abbrev pub first_too : Known → Why → Known
+first_too k w = record k { first = k.first ++ (k.records, w) ∷ [] }
+
+-- its reason, where it is looked at closely
+abbrev pub of_day : Known → Why → Known
+of_day k w = let with = record k { reasons = k.reasons ++ w ∷ [] } in if nat_lt (length k.first) 200 then first_too with w else with
+
 -- it is an exception
 abbrev pub wanted : Known → Why → Known
-wanted k w = record k { wanting = k.wanting ++ (k.records, w) ∷ [] }
+wanted k w = if nat_lt k.from k.records then of_day (one_more k) w else one_more k
 
 -- it closed a day
 abbrev pub day_closed : Known → Closed → Known
-day_closed k c = record k { closes = k.closes ++ record { day = c.day; date = c.date; number = k.records; wanting = length k.wanting } ∷ [] }
+day_closed k c = record k { closes = k.closes ++ record { day = c.day; date = c.date; number = k.records } ∷ [] }
 
 -- what the reply to its command tells
 abbrev pub replied : Known → Reply → Known
@@ -77,17 +93,29 @@ abbrev pub why : Outcome → Why
 why (outcome.AtFault f) = at_fault f
 why (outcome.Refused r) = refused r
 
+-- the number of a refusal; 0 for an invalid record
+abbrev pub number : Why → ℕ
+number (at_fault f) = 0
+number (refused r) = refusal_number r
+
 -- a finding without its text and what decided it
 abbrev pub told : Finding → ℕ × Why
 told f = (f.record, why f.outcome)
 
 -- a close without the place of its record
 abbrev pub closing : Close → Closing
-closing c = record { day = c.day; date = c.date; number = c.record; wanting = c.findings }
+closing c = record { day = c.day; date = c.date; number = c.record }
 
 -- what a survey knows
 abbrev pub known : Survey → Known
-known s = record { records = s.records; wanting = map told s.findings.items; closes = map closing s.closes.items }
+known s = record {
+  from = s.from;
+  records = s.records;
+  exceptions = s.exceptions;
+  reasons = map why s.reasons.items;
+  first = map told s.findings.items;
+  closes = map closing s.closes.items;
+}
 
 -- the place of a close: of the one that closed the day with the date, or of the last one where no date is given
 pub record IsChosen (closes : List Close) (day : Option Day) (place : ℕ) : Type 0 where
@@ -111,7 +139,7 @@ Steps rem a b before after s t (Some end) =
     IsReady b × (t.records ≡ s.records + 1) × ((all : List Line) → Pending rem a all → Takes rem b before after s t all)
 Steps rem a b before after s t None = (after ≡ before) × (t ≡ s) × ((all : List Line) → Pending rem a all → all ≡ [])
 
--- a book and a survey after lines, which began on a date
-pub record ComesTo (opening : Day) (lines : List Line) (log : Log) (s : Survey) : Type 0 where
+-- a book and a survey after lines, which began on a date; those after one of them were looked at closely
+pub record ComesTo (opening : Day) (from : ℕ) (lines : List Line) (log : Log) (s : Survey) : Type 0 where
   pub book : log ≡ log_after (blank_log opening) lines
-  pub all_known : known s ≡ noted_all nothing (opened opening) lines
+  pub all_known : known s ≡ noted_all (nothing from) (opened opening) lines

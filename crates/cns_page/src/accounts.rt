@@ -4,11 +4,10 @@ ghost use Rattle.std.specs.Io.KnownBytes.{Appends};
 ghost use Rattle.cns_statements.specs.Packs.{is_next};
 ghost use Rattle.cns_page.specs.Accounts.{account_text, all_text, grouped, issue_text, sheet_lines};
 
-use crate::piece::{Piece, cents_of};
 use crate::split::{price_move, rest_of_mark};
 use crate::sums::{Sums, sums_of};
-use crate::table::{ROW, TableRow, write_line};
 use cns_sheets::Sheet;
+use cns_tables::{Piece, ROW, TableRow, cents_of, write_line};
 use cns_terms::{NoMemory, Row, Stated};
 use cns_units::{Account, WriteFault};
 use std::alloc::Global;

@@ -1,40 +1,35 @@
 // The line of the program, and what it asks for.
-ghost use Rattle.std.specs.Prelude.{◌≡◌, IfOk, codes, false, map, option_map};
-ghost use Rattle.clap.specs.Words.{app_of, first_of, found_of, rows_of, rule_of};
-ghost use Rattle.cns_program.specs.Asks.{date_in};
-ghost use Rattle.cns_program.specs.CommandLine.{option_rule};
-ghost use Rattle.cns_page.specs.Asks.{asked_in, day_read, found_by, free_rule, page_line, question};
+ghost use Rattle.std.specs.Prelude.{◌≡◌, IfOk, map, option_map};
+ghost use Rattle.clap.specs.Words.{app_of, found_of, rows_of};
+ghost use Rattle.cns_page.specs.Asks.{asked_in, day_read, found_by, page_line, place_read, question};
 
-use clap::error::ErrorKind;
-use clap::{Arg, ArgAction, ArgMatches, Command};
-use cns_terms::NoMemory;
-use cns_units::Day;
+use clap::{ArgMatches, Command};
+use cns_feed::account_of;
+use cns_shell::{bare_command, date_of, matches_of, option, required_option, value};
+use cns_terms::{Key, NoMemory};
+use cns_units::{Cusip, Day};
 use std::alloc::{AllocError, Global};
 use std::convert::AsStr;
 
-/// What a line asks for: the page of a closed day.
+/// What a line asks for: the page of a day, or the history of a position.
 #[derive(Clone, Copy)]
 pub struct Asked {
     /// The date on which the book opens.
     pub opening: Day,
-    /// The day's date; None for the last closed day.
-    pub day: Option<Day>,
+    pub day: When,
+    /// The account and the issue whose history is asked for; None where the page is of the day.
+    pub place: Option<Key>,
 }
 
-// An option with one value.
-fn option<'a>(alloc: Global, name: &'a str) -> Arg<'a>
-    ensures rule { rule_of result ≡ free_rule name.now }
-    ensures local { result.global ≡ false }
-{
-    Arg::new(alloc, name).long(name).action(ArgAction::Set)
-}
-
-// One that has to be given.
-fn required_option<'a>(alloc: Global, name: &'a str) -> Arg<'a>
-    ensures rule { rule_of result ≡ option_rule name.now }
-    ensures local { result.global ≡ false }
-{
-    option(alloc, name).required(true)
+/// Which day a page is of.
+#[derive(Clone, Copy)]
+pub enum When {
+    /// The last closed day.
+    Last,
+    /// The closed day with the date.
+    Closed(Day),
+    /// The day that is open, so far.
+    Today,
 }
 
 // The lines that are taken, with no help or version.
@@ -42,64 +37,64 @@ fn required_option<'a>(alloc: Global, name: &'a str) -> Arg<'a>
 fn command_line<'a>(alloc: Global) -> Result<Command<'a>, AllocError>
     ensures { IfOk result (λ c. app_of c ≡ page_line) }
 {
-    Command::new(alloc, "cnspage")
-        .disable_help_flag(true)
-        .disable_version_flag(true)
-        .disable_help_subcommand(true)
+    bare_command(alloc, "cnspage")
         .arg(required_option(alloc, "open"))?
-        .arg(option(alloc, "day"))
+        .arg(option(alloc, "day"))?
+        .arg(option(alloc, "account"))?
+        .arg(option(alloc, "issue"))
 }
 
 // What clap makes of the words; None where it refuses them.
-fn matches_of<'a, S: AsStr>(
+fn matches_in<'a, S: AsStr>(
     alloc: Global,
     words: &'a [S],
 ) -> Result<Option<ArgMatches<'a>>, NoMemory>
     ensures { IfOk result (λ o. option_map (λ m. rows_of (found_of m)) o ≡ found_by (map S.text words.now)) }
 {
-    let line = command_line(alloc)?;
-    match line.try_get_matches_from(words) {
-        Ok(matches) => Ok(Some(matches)),
-        Err(error) => match error.kind() {
-            ErrorKind::OutOfMemory => Err(NoMemory),
-            _ => Ok(None),
-        },
-    }
+    matches_of(command_line(alloc)?, words)
 }
 
-// The value of an option.
-fn value<'a>(matches: &ArgMatches<'a>, name: &str) -> Option<&'a str>
-    ensures { option_map (λ s. s.now) result ≡ first_of name.now (rows_of (found_of matches.now)) }
-{
-    matches.get_str(name)
-}
-
-// The date on which the book opens; None where it is none.
-fn opening_of(matches: &ArgMatches<'_>) -> Option<Day>
-    ensures { result ≡ date_in (rows_of (found_of matches.now)) (codes "open") }
-{
-    let text = value(matches, "open")?;
-    Day::parse(text.as_bytes()).ok()
-}
-
-// The day that is asked for, None inside where none is; None where it is no date.
-fn day_of(text: Option<&str>) -> Option<Option<Day>>
+// The day that is asked for; None where it is neither `today` nor a date.
+fn day_of(text: Option<&str>) -> Option<When>
     ensures { result ≡ day_read (option_map (λ s. s.now) text.entry) }
 {
     let Some(text) = text else {
-        return Some(None);
+        return Some(When::Last);
     };
+    if text == "today" {
+        return Some(When::Today);
+    }
     let day = Day::parse(text.as_bytes()).ok()?;
-    Some(Some(day))
+    Some(When::Closed(day))
+}
+
+// The place of a history, None inside where none is asked for; None where the account or the issue is none or is missing.
+fn place_of(account: Option<&str>, issue: Option<&str>) -> Option<Option<Key>>
+    ensures { result ≡ place_read (option_map (λ s. s.now) account.entry) (option_map (λ s. s.now) issue.entry) }
+{
+    match (account, issue) {
+        (None, None) => Some(None),
+        (Some(account), Some(issue)) => {
+            let account = account_of(account.as_bytes()).ok()?;
+            let issue = Cusip::parse(issue.as_bytes()).ok()?;
+            Some(Some(Key { account, issue }))
+        }
+        _ => None,
+    }
 }
 
 // What the options ask for; None where a date is none.
 fn asked_in(matches: &ArgMatches<'_>) -> Option<Asked>
     ensures { result ≡ asked_in (rows_of (found_of matches.now)) }
 {
-    let opening = opening_of(matches)?;
+    let opening = date_of(matches, "open")?;
     let day = day_of(value(matches, "day"))?;
-    Some(Asked { opening, day })
+    let place = place_of(value(matches, "account"), value(matches, "issue"))?;
+    Some(Asked {
+        opening,
+        day,
+        place,
+    })
 }
 
 /// What the words of a line ask for, the name of the program first; None where the line or a date is refused. `NoMemory`
@@ -107,7 +102,7 @@ fn asked_in(matches: &ArgMatches<'_>) -> Option<Asked>
 pub fn asked_of<S: AsStr>(alloc: Global, words: &[S]) -> Result<Option<Asked>, NoMemory>
     ensures { IfOk result (λ r. r ≡ question (map S.text words.now)) }
 {
-    let Some(matches) = matches_of(alloc, words)? else {
+    let Some(matches) = matches_in(alloc, words)? else {
         return Ok(None);
     };
     Ok(asked_in(&matches))

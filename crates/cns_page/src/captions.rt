@@ -1,10 +1,10 @@
 // What stands on a page beside its figures: the titles, captions and columns of its tables.
-use crate::table::Table;
+use cns_tables::Table;
 
 /// The tables of a page.
 pub(crate) struct Captions {
     pub(crate) exceptions: Table,
-    pub(crate) open: Table,
+    pub(crate) reasons: Table,
     pub(crate) accounts: Table,
     pub(crate) fails: Table,
     pub(crate) liable: Table,
@@ -18,16 +18,17 @@ pub(crate) const CAPTIONS: Captions = Captions {
     exceptions: Table {
         id: "exceptions",
         title: "Exceptions",
-        caption: "Records of the day that are invalid or refused, as they were given, with the facts that decided",
+        caption: "Records of the day that are invalid or refused, as they were given, with the facts that decided. Where there are more \
+than 200 the first 200 stand here",
         none: "None: each record of the day was a command, and none was refused.",
         columns: &["Record", "As given", "Why", "Facts"],
     },
-    open: Table {
-        id: "open",
-        title: "Exceptions after this close",
-        caption: "Records of the day that is open that are invalid or refused",
-        none: "None so far: each record after the close was a command, and none was refused.",
-        columns: &["Record", "As given", "Why", "Facts"],
+    reasons: Table {
+        id: "reasons",
+        title: "Exceptions by reason",
+        caption: "How many of the day&#39;s exceptions are of which kind",
+        none: "None.",
+        columns: &["Why", "Count"],
     },
     accounts: Table {
         id: "accounts",

@@ -1,12 +1,12 @@
 // Exceptions: invalid records and refused commands, with the reasons.
 ghost use Rattle.std.specs.Prelude.{OnOk};
 ghost use Rattle.std.specs.Io.KnownBytes.{Appends};
-ghost use Rattle.cns_page.specs.Exceptions.{notice_text, reason_text, record_text, some_fact_text};
+ghost use Rattle.std.specs.List.{flat_map};
+ghost use Rattle.cns_page.specs.Exceptions.{fact_text, notice_text, reason_text, record_text, some_fact_text};
 
 use crate::finding::{Fact, Finding, Numbered, Outcome};
-use crate::piece::{Piece, write_markup, write_pieces};
-use crate::table::{CELL, ROW, TableRow, write_rows};
 use crate::words::{fault_name, stage_name};
+use cns_tables::{CELL, Piece, ROW, TableRow, write_markup, write_pieces};
 use cns_units::WriteFault;
 use std::io::Write;
 
@@ -46,19 +46,6 @@ const OF: &str = " of ";
 const REMAIN: &str = " shares remain";
 
 const ROOM: &str = ". Shares that they can be given: ";
-
-impl TableRow for Option<Fact> {
-    ghost use Rattle.cns_page.specs.Exceptions.{fact_text};
-
-    ghost text = { fact_text };
-
-    fn write_row<W: Write>(&self, writer: &mut W) -> Result<(), WriteFault> {
-        match self {
-            None => Ok(()),
-            Some(fact) => write_fact(fact, writer),
-        }
-    }
-}
 
 fn write_fact<W: Write>(fact: &Fact, writer: &mut W) -> Result<(), WriteFault>
     ensures { OnOk result (Appends (W.contents writer.old) (W.contents writer.new) (some_fact_text fact.now)) }
@@ -123,6 +110,25 @@ fn write_notice<W: Write>(numbered: &Numbered, writer: &mut W) -> Result<(), Wri
     write_pieces(&pieces, writer)
 }
 
+// Writes the facts that there are, one after another.
+fn write_facts<W: Write>(facts: &[Option<Fact>], writer: &mut W) -> Result<(), WriteFault>
+    ensures { OnOk result (Appends (W.contents writer.old) (W.contents writer.new) (flat_map fact_text facts.now)) }
+{
+    for fact in facts {
+        write_if_any(fact, writer)?;
+    }
+    Ok(())
+}
+
+fn write_if_any<W: Write>(fact: &Option<Fact>, writer: &mut W) -> Result<(), WriteFault>
+    ensures { OnOk result (Appends (W.contents writer.old) (W.contents writer.new) (fact_text fact.now)) }
+{
+    match fact {
+        None => Ok(()),
+        Some(fact) => write_fact(fact, writer),
+    }
+}
+
 // Why a record is an exception.
 fn write_reason<W: Write>(finding: &Finding, writer: &mut W) -> Result<(), WriteFault>
     ensures { OnOk result (Appends (W.contents writer.old) (W.contents writer.new)
@@ -173,7 +179,7 @@ impl TableRow for Finding {
     fn write_row<W: Write>(&self, writer: &mut W) -> Result<(), WriteFault> {
         write_record(self, writer)?;
         write_reason(self, writer)?;
-        write_rows(&self.facts, writer)?;
+        write_facts(&self.facts, writer)?;
         write_markup("\n", writer)
     }
 }

@@ -4,11 +4,10 @@ ghost use Rattle.cns_book.specs.Log.{state_of};
 ghost use Rattle.cns_page.specs.Figures.{is_short};
 ghost use Rattle.cns_page.specs.Listed.{figures_shown};
 
-use crate::piece::Piece;
 use crate::survey::Close;
-use crate::table::{ROW, TableRow, write_line};
 use cns_feed::ReplayBook;
 use cns_sheets::Sheet;
+use cns_tables::{Piece, ROW, TableRow, write_line};
 use cns_terms::{NoMemory, Row};
 use cns_units::{Account, Cents, Day, WriteFault};
 use std::alloc::Global;

@@ -3,10 +3,9 @@ ghost use Rattle.std.specs.Prelude.{◌≡◌, ◌++◌, IfOk, OnOk};
 ghost use Rattle.cns_book.specs.Log.{state_of};
 ghost use Rattle.cns_page.specs.Listed.{liable_shown, owing_among, owings_in};
 
-use crate::piece::Piece;
-use crate::table::{ROW, TableRow, write_line};
 use cns_feed::ReplayBook;
 use cns_retransmit::Batch;
+use cns_tables::{Piece, ROW, TableRow, write_line};
 use cns_terms::{Liable, NoMemory};
 use cns_units::{Cusip, WriteFault};
 use std::alloc::Global;

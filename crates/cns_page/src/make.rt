@@ -1,20 +1,23 @@
-// The page of the day that is asked for, of the records of an input.
-ghost use Rattle.std.specs.Prelude.{◌≡◌, ◌<◌, IfOk, OnOk, Some, length, option_map, slice_get, take, true};
+// The page that is asked for, of the records of an input.
+ghost use Rattle.std.specs.Prelude.{◌≡◌, ◌<◌, ◌≤◌, IfOk, OnOk, Some, length, option_map, slice_get, take, true};
 ghost use Rattle.cns_terms.specs.Common.{journal_of, opened, sheet_on};
 ghost use Rattle.cns_book.specs.Log.{state_of};
 ghost use Rattle.cns_feed.specs.Output.{lines_of};
-ghost use Rattle.cns_feed.specs.Replay.{blank_log, log_after};
-ghost use Rattle.cns_page.specs.Shown.{HasDay, HasPage};
+ghost use Rattle.cns_page.specs.Listed.{last_record, records_before};
+ghost use Rattle.cns_page.specs.Shown.{HasAsked, HasClosed, HasDay, HasPage, HasPast, IsOfRecords, closed_in};
 ghost use Rattle.cns_page.specs.Survey.{known, noted_all, nothing};
+ghost use Rattle.cns_page.specs.Today.{HasToday};
 
-use crate::asked::Asked;
+use crate::asked::{Asked, When};
 use crate::contents::Page;
 use crate::page::write_page;
 use crate::play::{Played, play};
 use crate::survey::{Close, Survey, place_of};
+use crate::today::{OpenDay, write_today};
 use cns_feed::{MOST_RECORDS, ReplayBook, ReplayFault};
-use cns_program::Fault;
+use cns_history::{Place, write_history};
 use cns_sheets::Sheet;
+use cns_shell::Fault;
 use cns_units::Day;
 use std::alloc::Global;
 use std::io::Write;
@@ -30,33 +33,28 @@ fn if_whole(survey: Survey, is_whole: bool) -> Result<Survey, ReplayFault>
     }
 }
 
-// What all records of an input come to, of which there are at most so many.
-fn survey_of(alloc: Global, asked: &Asked, input: &[u8], most: u64) -> Result<Survey, ReplayFault>
-    ensures { IfOk result (λ s. known s ≡ noted_all nothing (opened asked.now.opening) (lines_of input.now)) }
+// What all records of an input come to, of which there are at most so many. No day is looked at closely.
+fn survey_of(alloc: Global, opening: Day, input: &[u8], most: u64) -> Result<Survey, ReplayFault>
+    ensures known { IfOk result (λ s. known s ≡ noted_all (nothing most) (opened opening) (lines_of input.now)) }
+    ensures few { IfOk result (λ _. length (lines_of input.now) ≤ most) }
 {
     let Played {
         survey,
         book: _,
+        bytes: _,
         is_whole,
-    } = play(alloc, input, asked.opening, most)?;
+    } = play(alloc, input, opening, most, most)?;
     if_whole(survey, is_whole)
 }
 
-// The book as so many first records of an input leave it.
-fn book_after(
-    alloc: Global,
-    asked: &Asked,
-    input: &[u8],
-    records: u64,
-) -> Result<ReplayBook, ReplayFault>
-    ensures { IfOk result (λ b. b.log ≡ log_after (blank_log asked.now.opening) (take records (lines_of input.now))) }
+// The number of the last close's record; 0 where no day is closed.
+fn last_record(closes: &[Close]) -> u64
+    ensures { result ≡ last_record closes.now }
 {
-    let Played {
-        survey: _,
-        book,
-        is_whole: _,
-    } = play(alloc, input, asked.opening, records)?;
-    Ok(book)
+    match closes.last() {
+        Some(close) => close.record,
+        None => 0,
+    }
 }
 
 // The close at a place.
@@ -65,6 +63,14 @@ fn close_at(survey: &Survey, place: usize) -> Close
     ensures { slice_get survey.now.closes.items place ≡ Some result }
 {
     survey.closes[place]
+}
+
+// The number of the last record before the day that the close at a place ends.
+fn records_before(survey: &Survey, place: usize) -> u64
+    requires { place < length survey.now.closes.items }
+    ensures { result ≡ records_before survey.now.closes.items place }
+{
+    last_record(&survey.closes[..place])
 }
 
 // The sheet of a closed day.
@@ -76,32 +82,148 @@ fn sheet_of(book: &ReplayBook, date: Day) -> Option<&Sheet<Global>>
     Some(sheet)
 }
 
-// Writes the page of the day that the close at a place ends.
+// The first bytes of an input, so many.
+fn first_of(input: &[u8], bytes: usize) -> &[u8]
+    ensures { result.now ≡ take bytes input.now }
+{
+    &input[..bytes.min(input.len())]
+}
+
+// Writes the page of the day that a close ends, of the records up to that close alone; those after `from` are the day's.
 fn write_day<O: Write>(
     alloc: Global,
-    asked: &Asked,
+    opening: Day,
     input: &[u8],
-    survey: &Survey,
-    place: usize,
+    from: u64,
+    close: Close,
     output: &mut O,
 ) -> Result<(), Fault>
-    requires { place < length survey.now.closes.items }
-    ensures { OnOk result (HasDay asked.now.opening input.now survey.now place (O.contents output.old) (O.contents output.new)) }
+    ensures { OnOk result (HasDay opening input.now from close (O.contents output.old) (O.contents output.new)) }
 {
-    let close = close_at(survey, place);
-    let book = book_after(alloc, asked, input, close.record)?;
+    let Played {
+        survey,
+        book,
+        bytes,
+        is_whole: _,
+    } = play(alloc, input, opening, from, close.record)?;
     let Some(sheet) = sheet_of(&book, close.date) else {
         return Err(Fault::NoSuchDay);
     };
     let page = Page {
-        opening: asked.opening,
-        survey,
-        place,
+        opening,
+        input: first_of(input, bytes),
+        survey: &survey,
         close,
         book: &book,
         sheet,
     };
     write_page(alloc, &page, output)
+}
+
+// Writes the page of the day that is open after all records, of which there are at most so many; those after `from` are the day's.
+fn write_open<O: Write>(
+    alloc: Global,
+    opening: Day,
+    input: &[u8],
+    from: u64,
+    most: u64,
+    output: &mut O,
+) -> Result<(), Fault>
+    requires { length (lines_of input.now) ≤ most }
+    ensures { OnOk result (HasToday opening input.now from (O.contents output.old) (O.contents output.new)) }
+{
+    let Played {
+        survey,
+        book,
+        bytes: _,
+        is_whole: _,
+    } = play(alloc, input, opening, from, most)?;
+    let day = OpenDay {
+        opening,
+        input,
+        survey: &survey,
+        book: &book,
+    };
+    write_today(alloc, &day, output)
+}
+
+// Writes the page of the closed day that is asked for, the last one where none is, by the closes among all records.
+fn write_closed<O: Write>(
+    alloc: Global,
+    opening: Day,
+    input: &[u8],
+    survey: &Survey,
+    day: Option<Day>,
+    output: &mut O,
+) -> Result<(), Fault>
+    ensures { OnOk result (HasClosed opening input.now survey.now.closes.items day (O.contents output.old) (O.contents output.new)) }
+{
+    let Some(place) = place_of(survey.closes.as_slice(), day) else {
+        return Err(Fault::NoSuchDay);
+    };
+    let from = records_before(survey, place);
+    write_day(alloc, opening, input, from, close_at(survey, place), output)
+}
+
+// How many records a history is of: those up to the close of the closed day, or as many as there may be.
+fn records_of(survey: &Survey, day: Option<Day>, most: u64) -> Result<u64, Fault>
+    ensures { IfOk result (IsOfRecords survey.now.closes.items day most) }
+{
+    if day.is_none() {
+        return Ok(most);
+    }
+    let Some(place) = place_of(survey.closes.as_slice(), day) else {
+        return Err(Fault::NoSuchDay);
+    };
+    Ok(close_at(survey, place).record)
+}
+
+// Writes the history of a place, up to the close of the closed day, or of all records, of which there are at most so many.
+fn write_past<O: Write>(
+    alloc: Global,
+    place: &Place,
+    input: &[u8],
+    survey: &Survey,
+    most: u64,
+    output: &mut O,
+) -> Result<(), Fault>
+    ensures { OnOk result (HasPast place.now input.now survey.now.closes.items most (O.contents output.old) (O.contents output.new)) }
+{
+    let records = records_of(survey, place.day, most)?;
+    write_history(alloc, place, input, records, output)
+}
+
+// The closed day that is asked for; None for the last one and for the open one.
+fn closed_in(day: When) -> Option<Day>
+    ensures { result ≡ closed_in day }
+{
+    match day {
+        When::Closed(day) => Some(day),
+        _ => None,
+    }
+}
+
+// Writes the page of the day that is asked for, by the closes among all records, of which there are at most so many.
+fn write_asked<O: Write>(
+    alloc: Global,
+    opening: Day,
+    day: When,
+    input: &[u8],
+    survey: &Survey,
+    most: u64,
+    output: &mut O,
+) -> Result<(), Fault>
+    requires { length (lines_of input.now) ≤ most }
+    ensures { OnOk result (HasAsked opening input.now survey.now.closes.items day (O.contents output.old) (O.contents output.new)) }
+{
+    match day {
+        When::Last => write_closed(alloc, opening, input, survey, None, output),
+        When::Closed(day) => write_closed(alloc, opening, input, survey, Some(day), output),
+        When::Today => {
+            let from = last_record(survey.closes.as_slice());
+            write_open(alloc, opening, input, from, most, output)
+        }
+    }
 }
 
 /// Writes the page that is asked for, of the records of an input, and hands it on.
@@ -116,9 +238,15 @@ pub(crate) fn make<O: Write>(
 ) -> Result<(), Fault>
     ensures { OnOk result (HasPage asked.now input.now (O.contents output.old) (O.contents output.new)) }
 {
-    let survey = survey_of(alloc, asked, input, u64::from(MOST_RECORDS))?;
-    let Some(place) = place_of(survey.closes.as_slice(), asked.day) else {
-        return Err(Fault::NoSuchDay);
-    };
-    write_day(alloc, asked, input, &survey, place, output)
+    let opening = asked.opening;
+    let most = u64::from(MOST_RECORDS);
+    let survey = survey_of(alloc, opening, input, most)?;
+    match asked.place {
+        None => write_asked(alloc, opening, asked.day, input, &survey, most, output),
+        Some(key) => {
+            let day = closed_in(asked.day);
+            let place = Place { opening, day, key };
+            write_past(alloc, &place, input, &survey, most, output)
+        }
+    }
 }

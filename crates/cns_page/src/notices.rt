@@ -5,10 +5,9 @@ ghost use Rattle.cns_book.specs.Log.{state_of};
 ghost use Rattle.cns_page.specs.Listed.{live_shown};
 
 use crate::finding::Numbered;
-use crate::piece::Piece;
-use crate::table::{ROW, TableRow, write_line};
 use cns_book::Stage;
 use cns_feed::ReplayBook;
+use cns_tables::{Piece, ROW, TableRow, write_line};
 use cns_terms::NoMemory;
 use cns_units::WriteFault;
 use std::alloc::Global;

@@ -7,7 +7,6 @@ ghost use Rattle.cns_feed.specs.Records.{IsReady, Pending};
 ghost use Rattle.cns_feed.specs.Replay.{log_after, log_after_line};
 ghost use Rattle.cns_page.specs.Survey.{ComesTo, Steps, known, noted, noted_all};
 
-use crate::finding::{NO_FACTS, Outcome};
 use crate::survey::Survey;
 use cns_feed::{Line, LineFault, Records, ReplayBook, ReplayFault, is_line_end};
 use cns_terms::Worker;
@@ -20,6 +19,8 @@ use std::io::Read;
 pub struct Played {
     pub survey: Survey,
     pub book: ReplayBook,
+    /// How many bytes of the input they take.
+    pub bytes: usize,
     /// Whether they are all records of the input.
     pub is_whole: bool,
 }
@@ -56,7 +57,7 @@ fn take(
             survey.note(book, text, command, &receipt.reply)?;
         }
         Err(LineFault::NoMemory) => return Err(ReplayFault::NoMemory),
-        Err(fault) => survey.note_finding(text, Outcome::AtFault(*fault), NO_FACTS)?,
+        Err(fault) => survey.note_fault(text, *fault)?,
     }
     Ok(())
 }
@@ -110,21 +111,29 @@ fn play_with<R: Read>(
 }
 
 /// Takes the command of each of the input's first records, at most so many, in order, on a new book that opens on the
-/// date, and notes the exceptions and the closes.
+/// date, and notes the exceptions and the closes; those of the records after `from` closely.
 ///
 /// `NoMemory` where an allocation failed. `Full` does not come, since the history has room for as many commands, and no
 /// `Read`, since the input is in memory.
-pub fn play(alloc: Global, input: &[u8], opening: Day, most: u64) -> Result<Played, ReplayFault>
-    ensures after { IfOk result (λ p. ComesTo opening (take most (lines_of input.now)) p.book.log p.survey) }
+pub fn play(
+    alloc: Global,
+    input: &[u8],
+    opening: Day,
+    from: u64,
+    most: u64,
+) -> Result<Played, ReplayFault>
+    ensures after { IfOk result (λ p. ComesTo opening from (take most (lines_of input.now)) p.book.log p.survey) }
     ensures whole { IfOk result (λ p. p.is_whole ≡ true → length (lines_of input.now) ≤ most) }
 {
     let mut book = ReplayBook::new(alloc, opening)?;
     let mut records = Records::new(alloc, input);
-    let mut survey = Survey::new(alloc);
+    let mut survey = Survey::new(alloc, from);
     let is_whole = play_with(&mut records, &mut book, input, most, &mut survey)?;
+    let bytes = records.end() as usize;
     Ok(Played {
         survey,
         book,
+        bytes,
         is_whole,
     })
 }

@@ -5,9 +5,8 @@ ghost use Rattle.std.specs.Ordering.{int_cmp};
 ghost use Rattle.cns_units.specs.Day.{day_number};
 ghost use Rattle.cns_page.specs.Listed.{IsInOrderOf, due, later_among, looked_at};
 
-use crate::piece::{Piece, cents_of};
-use crate::table::{ROW, TableRow, write_line};
 use cns_feed::ReplayBook;
+use cns_tables::{Piece, ROW, TableRow, cents_of, write_line};
 use cns_terms::{Activity, Command, NoMemory, Reply, Taken, Trade};
 use cns_units::{Day, WriteFault};
 use std::alloc::Global;

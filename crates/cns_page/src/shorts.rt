@@ -5,10 +5,9 @@ ghost use Rattle.cns_book.specs.Log.{state_of};
 ghost use Rattle.cns_page.specs.Listed.{IsInOrderOf, age_shown, shorts_among};
 
 use crate::figures::is_short;
-use crate::piece::Piece;
-use crate::table::{ROW, TableRow, write_line};
 use cns_feed::ReplayBook;
 use cns_sheets::Sheet;
+use cns_tables::{Piece, ROW, TableRow, write_line};
 use cns_terms::{NoMemory, Row};
 use cns_units::WriteFault;
 use std::alloc::Global;

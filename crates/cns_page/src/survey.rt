@@ -1,14 +1,18 @@
 // What the records of an input come to, one after another.
-ghost use Rattle.std.specs.Prelude.{◌≡◌, ◌<◌, ◌-◌, ◌^◌, IfSome, OnOk};
-ghost use Rattle.cns_page.specs.Survey.{IsChosen, counted, day_closed, known, nothing, replied, wanted, why};
+ghost use Rattle.std.specs.Prelude.{◌≡◌, ◌<◌, ◌-◌, ◌^◌, IfSome, OnOk, nat_lt};
+ghost use Rattle.cns_page.specs.Survey.{IsChosen, counted, day_closed, first_too, known, nothing, of_day, replied, wanted, why};
 
 use crate::facts::facts_of;
-use crate::finding::{Facts, Finding, Outcome};
-use crate::words::words_of;
-use cns_feed::ReplayBook;
-use cns_terms::{Closed, Command, NoMemory, Reply};
+use crate::finding::{Facts, Finding, NO_FACTS, Outcome};
+use crate::given::given;
+use crate::words::{fault_words, refusal_words};
+use cns_feed::{LineFault, ReplayBook};
+use cns_terms::{Closed, Command, NoMemory, Refusal, Reply};
 use cns_units::Day;
 use std::alloc::Global;
+
+/// The most exceptions of a day that a page shows with their records.
+const MOST: usize = 200;
 
 /// A close that was accepted.
 #[derive(Clone, Copy)]
@@ -19,28 +23,35 @@ pub struct Close {
     pub date: Day,
     /// The number of the record that closed it, from 1.
     pub record: u64,
-    /// How many findings there are up to that record.
-    pub findings: usize,
 }
 
 /// What the records of an input came to.
 #[derive(Drop)]
 pub struct Survey {
+    /// The number of the record before those that are looked at closely.
+    pub from: u64,
     /// How many records there are.
     pub records: u64,
-    /// The invalid records and the refused commands, in order.
+    /// How many of them are exceptions: invalid, or refused commands.
+    pub exceptions: u64,
+    /// Why those after `from` are exceptions that are, in order.
+    pub reasons: Vec<Outcome>,
+    /// The first of them, 200 at most.
     pub findings: Vec<Finding>,
     /// The accepted closes, in order.
     pub closes: Vec<Close>,
 }
 
 impl Survey {
-    /// Of no records.
-    pub(crate) fn new(alloc: Global) -> Survey
-        ensures { known result ≡ nothing }
+    /// Of no records. Those after the one with the number will be looked at closely.
+    pub(crate) fn new(alloc: Global, from: u64) -> Survey
+        ensures { known result ≡ nothing from }
     {
         Survey {
+            from,
             records: 0,
+            exceptions: 0,
+            reasons: Vec::new(alloc),
             findings: Vec::new(alloc),
             closes: Vec::new(alloc),
         }
@@ -66,10 +77,7 @@ impl Survey {
     {
         match reply {
             Reply::Closed(closed) => self.note_close(closed),
-            Reply::Refused(refusal) => {
-                let facts = facts_of(book, command, *refusal);
-                self.note_finding(text, Outcome::Refused(*refusal), facts)
-            }
+            Reply::Refused(refusal) => self.note_refusal(book, text, command, *refusal),
             _ => Ok(()),
         }
     }
@@ -81,27 +89,93 @@ impl Survey {
             day: closed.day,
             date: closed.date,
             record: self.records,
-            findings: self.findings.len(),
         };
         self.closes.push(close)?;
         Ok(())
     }
 
-    /// Notes why a record with the text is an exception, and what decided it.
-    pub(crate) fn note_finding(
+    // Whether the record is one of the day that is looked at closely.
+    fn is_of_day(&self) -> bool
+        ensures { result ≡ nat_lt self.now.from self.now.records }
+    {
+        self.from < self.records
+    }
+
+    fn note_refusal(
         &mut self,
-        bytes: &[u8],
+        book: &ReplayBook,
+        text: &[u8],
+        command: &Command,
+        refusal: Refusal,
+    ) -> Result<(), NoMemory>
+        ensures { OnOk result (known self.new ≡ wanted (known self.old) (why (Outcome.Refused refusal))) }
+    {
+        let facts = if self.is_of_day() {
+            facts_of(book, command, refusal)
+        } else {
+            NO_FACTS
+        };
+        let words = refusal_words(refusal, command);
+        self.note_exception(text, Outcome::Refused(refusal), words, facts)
+    }
+
+    /// Notes that a record with the text is invalid.
+    pub(crate) fn note_fault(&mut self, text: &[u8], fault: LineFault) -> Result<(), NoMemory>
+        ensures { OnOk result (known self.new ≡ wanted (known self.old) (why (Outcome.AtFault fault))) }
+    {
+        self.note_exception(text, Outcome::AtFault(fault), fault_words(fault), NO_FACTS)
+    }
+
+    // Notes why a record with the text is an exception, and what decided it.
+    fn note_exception(
+        &mut self,
+        text: &[u8],
         outcome: Outcome,
+        words: &'static str,
         facts: Facts,
     ) -> Result<(), NoMemory>
         ensures { OnOk result (known self.new ≡ wanted (known self.old) (why outcome)) }
     {
-        let text = String::from_utf8_lossy(*self.findings.allocator(), bytes)?;
+        self.exceptions = self.exceptions.saturating_add(1);
+        if self.is_of_day() {
+            self.note_reason(text, outcome, words, facts)
+        } else {
+            Ok(())
+        }
+    }
+
+    fn note_reason(
+        &mut self,
+        text: &[u8],
+        outcome: Outcome,
+        words: &'static str,
+        facts: Facts,
+    ) -> Result<(), NoMemory>
+        ensures { OnOk result (known self.new ≡ of_day (known self.old) (why outcome)) }
+    {
+        self.reasons.push(outcome)?;
+        if self.findings.len() < MOST {
+            self.note_finding(text, outcome, words, facts)
+        } else {
+            Ok(())
+        }
+    }
+
+    fn note_finding(
+        &mut self,
+        text: &[u8],
+        outcome: Outcome,
+        words: &'static str,
+        facts: Facts,
+    ) -> Result<(), NoMemory>
+        ensures { OnOk result (known self.new ≡ first_too (known self.old) (why outcome)) }
+    {
+        let text = given(*self.findings.allocator(), text)?;
         self.findings.push(Finding {
             record: self.records,
             text,
             outcome,
-            words: words_of(outcome),
+            words,
             facts,
         })?;
         Ok(())

@@ -1,7 +1,9 @@
 // Control totals: how many records there are, and how many of them are exceptions.
+ghost use Rattle.std.specs.Prelude.{◌≡◌, map};
+ghost use Rattle.cns_page.specs.Listed.{counts, spans_shown};
 
-use crate::piece::Piece;
-use crate::table::{ROW, TableRow, write_line};
+use crate::survey::Survey;
+use cns_tables::{Piece, ROW, TableRow, write_line};
 use cns_units::WriteFault;
 use std::io::Write;
 
@@ -12,6 +14,30 @@ pub struct Span {
     pub name: &'static str,
     pub records: u64,
     pub exceptions: u64,
+}
+
+/// The control totals: of the records before the day, of the day, and of all.
+pub(crate) fn spans_of(survey: &Survey) -> [Span; 3]
+    ensures { map counts result ≡ spans_shown survey.now }
+{
+    let exceptions = survey.reasons.len() as u64;
+    [
+        Span {
+            name: "Before this day",
+            records: survey.from,
+            exceptions: survey.exceptions.saturating_sub(exceptions),
+        },
+        Span {
+            name: "This day",
+            records: survey.records.saturating_sub(survey.from),
+            exceptions,
+        },
+        Span {
+            name: "All so far",
+            records: survey.records,
+            exceptions: survey.exceptions,
+        },
+    ]
 }
 
 impl TableRow for Span {

@@ -3,10 +3,9 @@ ghost use Rattle.std.specs.Prelude.{◌≡◌};
 ghost use Rattle.cns_feed.specs.Text.{fault_name};
 ghost use Rattle.cns_page.specs.Exceptions.{stage_name};
 
-use crate::finding::Outcome;
 use cns_book::Stage;
 use cns_feed::LineFault;
-use cns_terms::Refusal;
+use cns_terms::{Activity, Command, Refusal};
 
 /// The name of a fault.
 pub(crate) fn fault_name(fault: LineFault) -> &'static str
@@ -35,8 +34,8 @@ pub(crate) fn stage_name(stage: Stage) -> &'static str
     }
 }
 
-// What is wrong with an invalid record.
-fn fault_words(fault: LineFault) -> &'static str {
+/// What is wrong with an invalid record, after the name of its fault.
+pub(crate) fn fault_words(fault: LineFault) -> &'static str {
     match fault {
         LineFault::Kind =>
             ": the first field is none of the kinds of record; kinds are in capitals.",
@@ -53,20 +52,37 @@ fn fault_words(fault: LineFault) -> &'static str {
     }
 }
 
-// Why a command is refused, after its number.
-fn refusal_words(refusal: Refusal) -> &'static str {
+// Who is no member.
+fn no_member_words(command: &Command) -> &'static str {
+    match command {
+        Command::Activity(Activity::Trade(_)) => ": the buyer or the seller is no member.",
+        Command::Activity(_) => ": the member is none.",
+        _ => ": the account is neither 0 nor a member's.",
+    }
+}
+
+// The rule that a date broke.
+fn wrong_day_words(command: &Command) -> &'static str {
+    match command {
+        Command::Activity(Activity::Trade(_)) => {
+            ": a trade settles today or up to five calendar days later."
+        }
+        Command::Activity(Activity::Close(_)) => ": the next day is after today.",
+        _ => ": a record date is not past, and before its payable date.",
+    }
+}
+
+/// Why a command is refused, after the number of the refusal.
+pub(crate) fn refusal_words(refusal: Refusal, command: &Command) -> &'static str {
     match refusal {
         Refusal::MemberExists => ": there is a member with this number already.",
-        Refusal::NoSuchMember => ": a party is no member.",
+        Refusal::NoSuchMember => no_member_words(command),
         Refusal::IssueExists => ": the issue was listed before.",
         Refusal::NoSuchIssue => ": an issue is not listed.",
         Refusal::Retired => ": an issue is retired, since it was exchanged for another.",
         Refusal::SameParty => ": buyer and seller are the same.",
         Refusal::SameIssue => ": the old issue and its successor are the same.",
-        Refusal::WrongDay => {
-            ": a date is too early or too late. A trade settles today or up to five calendar days later, a record date is \
-not past and before its payable date, and the next day is after today."
-        }
+        Refusal::WrongDay => wrong_day_words(command),
         Refusal::SeenReference => ": an accepted trade has this reference.",
         Refusal::ExceedsPosition =>
             ": more shares than the position allows, or than remain of the notice.",
@@ -87,10 +103,32 @@ not past and before its payable date, and the next day is after today."
     }
 }
 
-/// Why a record is an exception, after the name of its fault or the number of its refusal.
-pub(crate) fn words_of(outcome: Outcome) -> &'static str {
-    match outcome {
-        Outcome::AtFault(fault) => fault_words(fault),
-        Outcome::Refused(refusal) => refusal_words(refusal),
+/// How many kinds of exceptions there are: invalid records, and each refusal.
+pub(crate) const KINDS: usize = 21;
+
+/// The name of a kind: of the refusal with the number, and of invalid records where it is 0.
+pub(crate) fn kind_name(kind: usize) -> &'static str {
+    match kind {
+        0 => "Invalid record",
+        1 => "Refused 1, member exists",
+        2 => "Refused 2, no such member",
+        3 => "Refused 3, issue exists",
+        4 => "Refused 4, no such issue",
+        5 => "Refused 5, retired",
+        6 => "Refused 6, same party",
+        7 => "Refused 7, same issue",
+        8 => "Refused 8, wrong day",
+        9 => "Refused 9, seen reference",
+        10 => "Refused 10, exceeds position",
+        11 => "Refused 11, not on hand",
+        12 => "Refused 12, not long",
+        13 => "Refused 13, already noticed",
+        14 => "Refused 14, no such notice",
+        15 => "Refused 15, not live",
+        16 => "Refused 16, too early",
+        17 => "Refused 17, not liable",
+        18 => "Refused 18, too large",
+        19 => "Refused 19, no such day",
+        _ => "Refused 20, pending trades",
     }
 }

@@ -42,18 +42,3 @@ paired f g n w (Some d) (Some a) one two = cc
 pub only_value : {A : Type 0} (o : Option A) (a : A) → IsSomeAnd o (λ x. x ≡ a) → o ≡ Some a
 only_value None a h = absurd h
 only_value (Some x) a h = cc
-
--- a line that clap takes
-pub taken : (a : App) (words : List Text) (rows : Option (Text × List Row)) → a ≡ program_line
-    → fault_of a words ≡ [] → rows ≡ subcommand_of a words → rows ≡ found_by words
-taken a words rows is none e =
-    subst (λ (l : App). fault_of l words ≡ [] → rows ≡ subcommand_of l words → rows ≡ found_by words) (sym is) (λ n s. rw n s) none e
-
-some_kind : (k : ErrorKind) (kinds : Kinds) → IsAmong k kinds → is_empty kinds ≡ false
-some_kind k [] h = absurd h
-some_kind k (x ∷ xs) h = ne_eqb _ _ (λ e. omega (arith, e))
-
--- a line that it refuses
-pub refused : (a : App) (words : List Text) (k : ErrorKind) → a ≡ program_line → IsAmong k (fault_of a words) → None ≡ found_by words
-refused a words k is among =
-    subst (λ (l : App). is_empty (fault_of l words) ≡ false → None ≡ found_by words) (sym is) (λ n. rw n refl) (some_kind k _ among)

@@ -1,10 +1,9 @@
 -- What a line asks for.
 use Rattle.std.specs.Prelude.{◌≡◌, ◌≤◌, ℕ, ◌&&◌, nat_le, if◌then◌else◌, List, length, map, Option, Some, None, option_and_then, option_map, codes, vec_len, ⊤}
-use Rattle.std.specs.Result.{result_ok}
 use Rattle.std.specs.Str.{bytes_eq}
 use Rattle.cns_terms.specs.Common.{Day, all_ascii_digits, digits_value}
 use Rattle.clap.specs.Words.{Row, Text, all_of, first_of}
-use Rattle.cns_units.specs.Day.{day_of}
+use Rattle.cns_shell.specs.Options.{date_in}
 use Rattle.cns_program.specs.CommandLine.{found_by}
 use Rattle.cns_program.specs.declared.asked.Asked.{Asked}
 use Rattle.cns_program.specs.declared.asked.Asked.TheVariants as asked
@@ -27,10 +26,6 @@ abbrev pub question_of : Asked → Question
 question_of (asked.Replay opening) = replay opening
 question_of (asked.Run opening files) = run opening (map (λ f. f.now) files.items)
 question_of (asked.Statements opening day workers) = statements opening day workers
-
--- the date of an option
-abbrev pub date_in : List Row → Text → Option Day
-date_in rows name = option_and_then (λ t. result_ok (day_of t)) (first_of name rows)
 
 -- digits alone, for a number from 1 to 64
 abbrev pub workers_read : Text → Option ℕ

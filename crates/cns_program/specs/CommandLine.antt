@@ -1,14 +1,10 @@
 -- The lines that the program takes, as `clap` reads them.
-use Rattle.std.specs.Prelude.{true, if◌then◌else◌, List, Option, Some, None, codes}
+use Rattle.std.specs.Prelude.{true, List, Option, Some, codes}
 use Rattle.clap.specs.Lexer.{usize_max}
 use Rattle.clap.specs.Simple.{on_top}
-use Rattle.clap.specs.Walk.{is_empty}
-use Rattle.clap.specs.Words.{App, Row, Rule, Text, fault_of, new_app, new_rule, subcommand_of, with_rule, with_subcommand}
-use Rattle.clap.specs.declared.builder.action.ArgAction.TheVariants.{Append, Set}
-
--- an option that has to be given, with one value
-abbrev pub option_rule : Text → Rule
-option_rule name = record (new_rule name) { long = Some name; required = true; action = Some Set }
+use Rattle.clap.specs.Words.{App, Row, Rule, Text, new_rule, subcommand_of, with_rule, with_subcommand}
+use Rattle.clap.specs.declared.builder.action.ArgAction.TheVariants.{Append}
+use Rattle.cns_shell.specs.Options.{bare, if_taken, option_rule}
 
 -- words that are no options, of which there has to be one
 abbrev pub words_rule : Text → Rule
@@ -17,10 +13,6 @@ words_rule name = record (new_rule name) {
   action = Some Append;
   range = Some (record { start_inclusive = 1; end_inclusive = usize_max });
 }
-
--- a command that takes nothing yet, no help and no version
-abbrev pub bare : Text → App
-bare name = on_top (λ s. record s { disable_help_flag = true; disable_version_flag = true; disable_help_subcommand = true }) (new_app name)
 
 -- a subcommand with a date on which its book opens
 abbrev pub opening_command : Text → App
@@ -41,4 +33,4 @@ program_line =
 
 -- the subcommand of a line, and what was found for its arguments; None where the line is not taken
 abbrev pub found_by : List Text → Option (Text × List Row)
-found_by words = if is_empty (fault_of program_line words) then subcommand_of program_line words else None
+found_by words = if_taken program_line words (subcommand_of program_line words)

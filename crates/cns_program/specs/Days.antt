@@ -9,8 +9,8 @@ use Rattle.cns_statements.specs.Packs.{statements_of}
 use Rattle.cns_statements.specs.Texts.{statement_text}
 use Rattle.cns_statements.specs.declared.contents.Statement.{Statement}
 use Rattle.cns_program.specs.Lines.{IsTold}
-use Rattle.cns_program.specs.declared.fault.Fault.{Fault}
-use Rattle.cns_program.specs.declared.fault.Fault.TheVariants as fault
+use Rattle.cns_shell.specs.declared.fault.Fault.{Fault}
+use Rattle.cns_shell.specs.declared.fault.Fault.TheVariants as fault
 
 -- the text of one statement
 abbrev pub text_of_one : Statement Global → List ℕ

@@ -11,12 +11,13 @@ use Rattle.cns_desk.specs.Worked.{HaveRun}
 use Rattle.cns_desk.specs.declared.end.End.{End}
 use Rattle.cns_feed.specs.declared.fault.ReplayFault.TheVariants as replays
 use Rattle.cns_desk.specs.declared.run.Outcome.{Outcome}
-use Rattle.cns_program.specs.declared.fault.Fault.{Fault}
+use Rattle.cns_shell.specs.declared.fault.Fault.{Fault}
 use Rattle.cns_desk.specs.declared.end.End.TheVariants as ended
 use Rattle.cns_program.specs.declared.asked.Asked.{Asked}
-use Rattle.cns_program.specs.Faults.{IsOfRun, of_replay}
-use Rattle.cns_program.specs.declared.fault.Fault.TheVariants as fault
-use Rattle.cns_program.specs.Lines.{IsTold, end_lines, fault_line}
+use Rattle.cns_shell.specs.Faults.{fault_line, of_replay}
+use Rattle.cns_program.specs.Faults.{IsOfRun}
+use Rattle.cns_shell.specs.declared.fault.Fault.TheVariants as fault
+use Rattle.cns_program.specs.Lines.{IsTold, end_lines}
 use Rattle.cns_program.specs.declared.asked.Asked.TheVariants as asked
 use Rattle.cns_program.specs.Days.{FailsDay, WritesDay, loaded}
 use Rattle.cns_program.specs.Tally.{tally_line}

@@ -2,19 +2,10 @@
 use Rattle.std.specs.Prelude.{ℕ, ◌≤◌, ⊤, Option, Some, None}
 use Rattle.cns_desk.specs.declared.fault.RunFault.{RunFault}
 use Rattle.cns_desk.specs.declared.fault.RunFault.TheVariants as runs
-use Rattle.cns_feed.specs.declared.fault.ReplayFault.{ReplayFault}
-use Rattle.cns_feed.specs.declared.fault.ReplayFault.TheVariants as replays
 use Rattle.cns_statements.specs.declared.fault.PackFault.{PackFault}
 use Rattle.cns_statements.specs.declared.fault.PackFault.TheVariants as packs
-use Rattle.cns_program.specs.declared.fault.Fault.{Fault}
-use Rattle.cns_program.specs.declared.fault.Fault.TheVariants as fault
-
--- a replay's fault
-abbrev pub of_replay : ReplayFault → Fault
-of_replay replays.Read = fault.Read
-of_replay replays.Write = fault.Write
-of_replay replays.NoMemory = fault.NoMemory
-of_replay replays.Full = fault.Full
+use Rattle.cns_shell.specs.declared.fault.Fault.{Fault}
+use Rattle.cns_shell.specs.declared.fault.Fault.TheVariants as fault
 
 -- the fault of a run over a right number of files
 abbrev pub of_run : RunFault → Option Fault

@@ -2,40 +2,12 @@
 use Rattle.std.specs.Prelude.{ℕ, ◌+◌, ◌++◌, ◌∷◌, [], List, Option, Some, None, ◌⊎◌, codes, decimal}
 use Rattle.cns_terms.specs.Common.{Appends, AppendsFront, text_line}
 use Rattle.cns_desk.specs.declared.end.End.{End}
-use Rattle.cns_program.specs.declared.fault.Fault.{Fault}
 use Rattle.cns_terms.specs.declared.source.SourceFault.TheVariants as source
 use Rattle.cns_desk.specs.declared.end.End.TheVariants as ended
-use Rattle.cns_program.specs.declared.fault.Fault.TheVariants as fault
 
 -- the usage, for a refused line
 abbrev pub usage_line : List ℕ
 usage_line = codes "usage: cnsbook replay --open DATE | run --open DATE FILE... | statements --open DATE --day DATE --workers N" ++ 10 ∷ []
-
--- the word for a fault
-abbrev pub fault_name : Fault → List ℕ
-fault_name fault.Read = codes "Read"
-fault_name fault.Write = codes "Write"
-fault_name fault.NoMemory = codes "NoMemory"
-fault_name fault.Full = codes "Full"
-fault_name (fault.Open file) = codes "Open"
-fault_name fault.Spawn = codes "Spawn"
-fault_name fault.Mismatch = codes "Mismatch"
-fault_name fault.NoSuchDay = codes "NoSuchDay"
-
--- the number of a file that could not be opened, from 1, which follows the word
-abbrev pub fault_file : Fault → List (List ℕ)
-fault_file fault.Read = []
-fault_file fault.Write = []
-fault_file fault.NoMemory = []
-fault_file fault.Full = []
-fault_file (fault.Open file) = decimal file ∷ []
-fault_file fault.Spawn = []
-fault_file fault.Mismatch = []
-fault_file fault.NoSuchDay = []
-
--- `fault`, its word and what follows
-abbrev pub fault_line : Fault → List ℕ
-fault_line f = text_line (codes "fault") (fault_name f ∷ fault_file f)
 
 -- the word for the end of a worker that ended early
 abbrev pub end_name : End → Option (List ℕ)

@@ -1,12 +1,12 @@
 // The line of the program, and what it asks for.
 ghost use Rattle.std.specs.Prelude.{◌≡◌, ◌≤◌, IfOk, IfSome, false, map, option_and_then, option_map, vec_len};
 ghost use Rattle.cns_terms.specs.Common.{all_ascii_digits};
-ghost use Rattle.clap.specs.Words.{all_of, app_of, first_of, found_of, rows_of, rule_of, subcommand_rows_of};
-ghost use Rattle.cns_program.specs.Asks.{Asks, HasWorkers, date_in, files_in, question_of, replay_in, run_in, statements_in, workers_in, workers_read};
-ghost use Rattle.cns_program.specs.CommandLine.{found_by, opening_command, option_rule, program_line, run_command, statements_command};
+ghost use Rattle.clap.specs.Words.{all_of, app_of, found_of, rows_of, subcommand_rows_of};
+ghost use Rattle.cns_program.specs.Asks.{Asks, HasWorkers, files_in, question_of, replay_in, run_in, statements_in, workers_in, workers_read};
+ghost use Rattle.cns_program.specs.CommandLine.{found_by, opening_command, program_line, run_command, statements_command};
 
-use clap::error::ErrorKind;
-use clap::{Arg, ArgAction, ArgMatches, Command, Error};
+use clap::{Arg, ArgAction, ArgMatches, Command};
+use cns_shell::{bare_command, date_of, matches_of, required_option, value};
 use cns_terms::NoMemory;
 use cns_units::Day;
 use std::alloc::{AllocError, Global};
@@ -24,26 +24,11 @@ pub enum Asked<'a> {
     Statements(Day, Day, usize),
 }
 
-// A required option with one value.
-fn option<'a>(alloc: Global, name: &'a str) -> Arg<'a>
-    ensures rule { rule_of result ≡ option_rule name.now }
-    ensures local { result.global ≡ false }
-{
-    Arg::new(alloc, name)
-        .long(name)
-        .required(true)
-        .action(ArgAction::Set)
-}
-
 // A subcommand with a required `--open`.
 fn subcommand<'a>(alloc: Global, name: &'a str) -> Result<Command<'a>, AllocError>
     ensures { IfOk result (λ c. app_of c ≡ opening_command name.now) }
 {
-    Command::new(alloc, name)
-        .disable_help_flag(true)
-        .disable_version_flag(true)
-        .disable_help_subcommand(true)
-        .arg(option(alloc, "open"))
+    bare_command(alloc, name).arg(required_option(alloc, "open"))
 }
 
 // The subcommand `run`, with one file or more.
@@ -62,18 +47,15 @@ fn statements_command<'a>(alloc: Global) -> Result<Command<'a>, AllocError>
     ensures { IfOk result (λ c. app_of c ≡ statements_command) }
 {
     subcommand(alloc, "statements")?
-        .arg(option(alloc, "day"))?
-        .arg(option(alloc, "workers"))
+        .arg(required_option(alloc, "day"))?
+        .arg(required_option(alloc, "workers"))
 }
 
 // The lines that are taken: a subcommand with its options, and no help or version.
 fn command_line<'a>(alloc: Global) -> Result<Command<'a>, AllocError>
     ensures { IfOk result (λ c. app_of c ≡ program_line) }
 {
-    Command::new(alloc, "cnsbook")
-        .disable_help_flag(true)
-        .disable_version_flag(true)
-        .disable_help_subcommand(true)
+    bare_command(alloc, "cnsbook")
         .subcommand_required(true)
         .subcommand(subcommand(alloc, "replay")?)?
         .subcommand(run_command(alloc)?)?
@@ -81,20 +63,13 @@ fn command_line<'a>(alloc: Global) -> Result<Command<'a>, AllocError>
 }
 
 // What clap makes of the words; None where it refuses them.
-fn matches_of<'a, S: AsStr>(
+fn matches_in<'a, S: AsStr>(
     alloc: Global,
     words: &'a [S],
 ) -> Result<Option<ArgMatches<'a>>, NoMemory>
     ensures { IfOk result (λ o. option_and_then subcommand_rows_of o ≡ found_by (map S.text words.now)) }
 {
-    let line = command_line(alloc)?;
-    match line.try_get_matches_from(words) {
-        Ok(matches) => Ok(Some(matches)),
-        Err(error) => match error.kind() {
-            ErrorKind::OutOfMemory => Err(NoMemory),
-            _ => Ok(None),
-        },
-    }
+    matches_of(command_line(alloc)?, words)
 }
 
 // The subcommand that was used, and what was found for it.
@@ -102,21 +77,6 @@ fn entered<'m, 'a>(matches: &'m ArgMatches<'a>) -> Option<(&'a str, &'m ArgMatch
     ensures { option_map (λ p. (p.0.now, rows_of (found_of p.1.now))) result ≡ subcommand_rows_of matches.now }
 {
     matches.subcommand()
-}
-
-// The value of an option.
-fn value<'a>(matches: &ArgMatches<'a>, name: &str) -> Option<&'a str>
-    ensures { option_map (λ s. s.now) result ≡ first_of name.now (rows_of (found_of matches.now)) }
-{
-    matches.get_str(name)
-}
-
-// The date of an option; None where it is none.
-fn date_of(matches: &ArgMatches<'_>, name: &str) -> Option<Day>
-    ensures { result ≡ date_in (rows_of (found_of matches.now)) name.now }
-{
-    let text = value(matches, name)?;
-    Day::parse(text.as_bytes()).ok()
 }
 
 // Whether all bytes are digits.
@@ -217,7 +177,7 @@ pub fn asked_of<'a, S: AsStr>(alloc: Global, words: &'a [S]) -> Result<Option<As
     ensures asks { IfOk result (λ r. Asks (map S.text words.now) r) }
     ensures workers { IfOk result (λ r. IfSome r HasWorkers) }
 {
-    let Some(matches) = matches_of(alloc, words)? else {
+    let Some(matches) = matches_in(alloc, words)? else {
         return Ok(None);
     };
     let Some((name, matches)) = entered(&matches) else {

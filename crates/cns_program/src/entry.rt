@@ -2,23 +2,27 @@
 ghost use Rattle.std.specs.Prelude.{◌≡◌, ◌⊎◌, ◌≤◌, None, Result, Some, map, ⊤};
 ghost use Rattle.cns_units.specs.Output.{Writes};
 ghost use Rattle.cns_units.specs.declared.fault.WriteFault.{WriteFault};
-ghost use Rattle.cns_program.specs.declared.fault.Fault.TheVariants as faults;
+ghost use Rattle.cns_shell.specs.declared.fault.Fault.TheVariants as faults;
 ghost use Rattle.cns_program.specs.declared.asked.Asked.{Asked};
 ghost use Rattle.cns_program.specs.Asks.{Asks, HasWorkers};
 ghost use Rattle.cns_program.specs.Ends.{IsDone, TellsWork};
-ghost use Rattle.cns_program.specs.Lines.{IsTold, fault_line, usage_line};
+ghost use Rattle.cns_shell.specs.Faults.{fault_line};
+ghost use Rattle.cns_program.specs.Lines.{IsTold, usage_line};
 
 use crate::asked::{Asked, asked_of};
-use crate::ended::{Ended, fail, refuse_usage};
-use crate::fault::Fault;
 use crate::replaying::tell_replay;
 use crate::running::tell_run;
 use crate::stating::tell_statements;
+use cns_shell::{Ended, Fault, fail, refuse_usage};
 use std::convert::AsStr;
 use std::io::{Read, Write};
 use std::rt::Files;
 use std::sync::Wait;
 use std::thread::Threads;
+
+/// The usage, for a line that is refused.
+pub const USAGE: &[u8] =
+    b"usage: cnsbook replay --open DATE | run --open DATE FILE... | statements --open DATE --day DATE --workers N\n";
 
 // Does what a line asks for.
 fn perform<
@@ -46,8 +50,8 @@ fn perform<
     }
 }
 
-/// Runs the program on the words of its line, its name first, and tells what writing its line to `errors` came to.
-pub fn run_words<
+// The same as `program`, and tells what writing its line to `errors` came to.
+fn run_words<
     F: Read + Send + Drop,
     R: AllocGlobal + Files<File = F> + Threads + Wait + Sync,
     S: AsStr,
@@ -71,7 +75,7 @@ pub fn run_words<
 {
     match asked_of(rt.alloc(), words) {
         Ok(Some(asked)) => perform(rt, &asked, input, output, errors),
-        Ok(None) => refuse_usage(errors),
+        Ok(None) => refuse_usage(USAGE, errors),
         Err(_) => fail(Fault::NoMemory, errors),
     }
 }

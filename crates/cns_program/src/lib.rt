@@ -8,7 +8,6 @@
 #![tactic(auto)]
 
 mod asked;
-mod ended;
 mod entry;
 mod fault;
 mod outcome;
@@ -17,7 +16,5 @@ mod running;
 mod stating;
 mod tally;
 
-pub use ended::{Ended, fail, refuse_words};
-pub use entry::{program, run_words};
-pub use fault::Fault;
+pub use entry::{USAGE, program};
 pub use outcome::write_outcome;

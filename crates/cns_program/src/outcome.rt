@@ -3,14 +3,14 @@ ghost use Rattle.std.specs.Prelude.{◌≡◌, ◌≤◌, ◌↔◌, ◌⊎◌, 
 ghost use Rattle.std.specs.Io.KnownBytes.{Appends};
 ghost use Rattle.cns_units.specs.Output.{Writes};
 ghost use Rattle.cns_units.specs.declared.fault.WriteFault.{WriteFault};
-ghost use Rattle.cns_program.specs.declared.fault.Fault.{Fault};
-ghost use Rattle.cns_program.specs.Lines.{end_line, end_lines, end_name, fault_line};
+ghost use Rattle.cns_shell.specs.declared.fault.Fault.{Fault};
+ghost use Rattle.cns_shell.specs.Faults.{fault_line};
+ghost use Rattle.cns_program.specs.Lines.{end_line, end_lines, end_name};
 ghost use Rattle.cns_program.specs.Ends.{AreComplete, EndsEarly, FailsTally, text_of};
 
-use crate::ended::{Ended, fail};
-use crate::fault::Fault;
 use crate::tally::tally_line;
 use cns_desk::{End, Outcome};
+use cns_shell::{Ended, Fault, fail};
 use cns_terms::SourceFault;
 use cns_units::{Word, WriteFault, write_bytes, write_line};
 use std::io::Write;

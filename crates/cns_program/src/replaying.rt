@@ -4,9 +4,8 @@ ghost use Rattle.std.specs.Io.KnownBytes.{Appends};
 ghost use Rattle.cns_feed.specs.Output.{output as output_of};
 ghost use Rattle.cns_program.specs.Ends.{FailsReplay, TellsReplay};
 
-use crate::ended::{Ended, fail};
-use crate::fault::Fault;
 use cns_feed::{ReplayFault, replay};
+use cns_shell::{Ended, Fault, fail};
 use cns_units::Day;
 use std::alloc::Global;
 use std::convert::From;

@@ -3,11 +3,11 @@ ghost use Rattle.std.specs.Prelude.{◌≡◌, ◌≤◌, IfErr, IfOk, List, len
 ghost use Rattle.cns_program.specs.Ends.{IsOutcome, IsRun, ReadEach, Reads, TellsRun};
 ghost use Rattle.cns_program.specs.Faults.{IsOfOpening, IsOfRun};
 
-use crate::ended::{Ended, fail};
-use crate::fault::Fault;
+use crate::fault::run_fault;
 use crate::outcome::tell_outcome;
 use cns_desk::{Outcome, run_workers};
 use cns_feed::CsvSource;
+use cns_shell::{Ended, Fault, fail};
 use cns_terms::{Item, NoGate, Source, SourceFault};
 use cns_units::Day;
 use std::alloc::Global;
@@ -98,7 +98,7 @@ fn run_files<F: Read + Send + Drop, R: AllocGlobal + Files<File = F> + Threads +
     let sources = open_files(rt, files)?;
     match run_workers(rt, rt.alloc(), opening, sources, &NoGate) {
         Ok(outcome) => Ok(outcome),
-        Err(fault) => Err(Fault::of_run(fault)),
+        Err(fault) => Err(run_fault(fault)),
     }
 }
 

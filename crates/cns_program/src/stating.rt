@@ -4,9 +4,9 @@ ghost use Rattle.cns_units.specs.Output.{Writes};
 ghost use Rattle.cns_program.specs.Days.{FailsDay, WritesDay, loaded, statements_text};
 ghost use Rattle.cns_program.specs.Ends.{TellsDay};
 
-use crate::ended::{Ended, fail};
-use crate::fault::Fault;
+use crate::fault::pack_fault;
 use cns_feed::{ReplayBook, load};
+use cns_shell::{Ended, Fault, fail};
 use cns_statements::{Statement, pack, write_statement};
 use cns_terms::NoGate;
 use cns_units::{Day, WriteFault};
@@ -44,7 +44,7 @@ fn write_day<R: AllocGlobal + Threads + Wait + Sync, O: Write>(
     };
     let statements = match pack(rt, rt.alloc(), sheet, workers, &NoGate) {
         Ok(statements) => statements,
-        Err(fault) => return Err(Fault::of_pack(fault)),
+        Err(fault) => return Err(pack_fault(fault)),
     };
     if write_all(statements.as_slice(), output).is_err() || output.flush().is_err() {
         return Err(Fault::Write);

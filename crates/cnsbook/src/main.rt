@@ -4,7 +4,8 @@
 //! start, does the rest.
 #![tactic(auto)]
 
-use cns_program::{Fault, fail, program, refuse_words};
+use cns_program::{USAGE, program};
+use cns_shell::{Fault, fail, refuse_words};
 use std::io;
 use std::io::BufWriter;
 use std::process::ExitCode;
@@ -12,7 +13,7 @@ use std::process::ExitCode;
 fn main(rt: HostRuntime) -> ExitCode {
     let words = match std::env::args(&rt) {
         Ok(words) => words,
-        Err(error) => return ExitCode::from(refuse_words(&error, &mut rt.stderr()).status),
+        Err(error) => return ExitCode::from(refuse_words(&error, USAGE, &mut rt.stderr()).status),
     };
     let Ok(words) = words.collect::<Vec<String>>(rt.alloc()) else {
         return ExitCode::from(fail(Fault::NoMemory, &mut rt.stderr()).status);

@@ -1,5 +1,15 @@
 use Rattle.cns_page.proofs.MakeLemmas.{made}
 use Rattle.cns_page.proofs.make.make.Goals as goal
 
+pub write_asked-requires : goal.write_asked-requires
+write_asked-requires g c = c.in_ok-survey.ensures.few
+
+pub returns-in-None : goal.returns-in-None
+returns-in-None g c =
+    made c.write_asked.result c.args.asked.now _ c.args.input.now c.in_ok-survey.survey _ _ _ c.in_ok-survey.ensures.few c.in_ok-survey.ensures.known c.in-None.is
+    c.write_asked.ensures
+
 pub returns : goal.returns
-returns g c = made _ _ _ _ _ _ c.write_day.result c.in_ok-survey.ensures (rw c.as_slice.ensures.value at c.in-Some.ensures) c.write_day.ensures
+returns g c =
+    made c.write_past.result c.args.asked.now _ c.args.input.now c.in_ok-survey.survey _ _ _ c.in_ok-survey.ensures.few c.in_ok-survey.ensures.known c.in-Some.is
+    (rw c.closed_in-day.ensures at c.write_past.ensures)

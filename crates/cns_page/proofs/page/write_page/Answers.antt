@@ -4,8 +4,10 @@ pub returns : goal.returns
 returns g c = record {
   captions = _;
   contents = c.in_ok-contents.contents;
-  spans = c.totals-totals.result;
   shown = c.in_ok-contents.ensures;
-  counted = c.totals-totals.ensures;
+  spans = c.spans_of-totals.result;
+  totals = c.spans_of-totals.ensures;
+  origin = c.in_ok-origin.origin;
+  made_of = c.in_ok-origin.ensures;
   written = c.in_ok-write_whole.ensures;
 }

@@ -1,5 +1,5 @@
-use Rattle.cns_page.proofs.Written.{kept}
+use Rattle.cns_tables.proofs.Written.{kept}
 use Rattle.cns_page.proofs.page.write_whole.Goals as goal
 
-pub returns-in-Ok : goal.returns-in-Ok
-returns-in-Ok g c = kept _ _ _ _ c.in_ok-write_text.ensures c.in-Ok.ensures.bytes
+pub returns : goal.returns
+returns g c = kept _ _ _ _ c.hand_on.result c.in_ok-write_text.ensures c.hand_on.ensures

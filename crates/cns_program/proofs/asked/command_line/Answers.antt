@@ -2,7 +2,8 @@ use Rattle.std.proofs.Common.{rules, ap, ap₂, codes, true, ◌≡◌, ◌∙�
 use Rattle.std.proofs.lemmas.Result.{IfOk-weaker}
 use Rattle.clap.specs.Simple.{on_top}
 use Rattle.clap.specs.Words.{App, Shape, app_of, with_subcommand}
-use Rattle.cns_program.specs.CommandLine.{bare, program_line}
+use Rattle.cns_shell.specs.Options.{bare}
+use Rattle.cns_program.specs.CommandLine.{program_line}
 use Rattle.cns_program.proofs.CommandLine.{third_is_off}
 use Rattle.cns_program.proofs.asked.command_line.Goals as goal
 

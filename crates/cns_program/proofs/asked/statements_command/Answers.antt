@@ -6,6 +6,6 @@ use Rattle.cns_program.proofs.asked.statements_command.Goals as goal
 pub returns : goal.returns
 returns c =
     IfOk-weaker c.arg-2.result _ _
-    (λ r h. h.shape c.option-2.ensures.local
-    ∙ ap₂ with_rule (c.in_ok-arg.ensures.shape c.option.ensures.local ∙ ap₂ with_rule c.in_ok-subcommand.ensures c.option.ensures.rule) c.option-2.ensures.rule)
+    (λ r h. h.shape c.required_option-2.ensures.local
+    ∙ ap₂ with_rule (c.in_ok-arg.ensures.shape c.required_option.ensures.local ∙ ap₂ with_rule c.in_ok-subcommand.ensures c.required_option.ensures.rule) c.required_option-2.ensures.rule)
     c.arg-2.ensures

@@ -1,0 +1,3 @@
+pub mod Limits
+pub mod Along
+pub mod Adding

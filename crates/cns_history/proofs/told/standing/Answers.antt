@@ -1,0 +1,11 @@
+use Rattle.cns_book.specs.Log.{state_of}
+use Rattle.cns_history.proofs.Limits.{standing_small}
+use Rattle.cns_history.proofs.told.standing.Goals as goal
+
+pub returns-clause-shares : goal.returns-clause-shares
+returns-clause-shares c =
+    rw (c.unwrap_or.ensures, c.position.ensures) (standing_small (state_of c.args.book.now.log) c.args.key.now c.history_len-entries.ensures.reached c.history_len-entries.ensures.few).0
+
+pub returns-clause-cents : goal.returns-clause-cents
+returns-clause-cents c =
+    rw (c.unwrap_or.ensures, c.position.ensures) (standing_small (state_of c.args.book.now.log) c.args.key.now c.history_len-entries.ensures.reached c.history_len-entries.ensures.few).1

@@ -1,0 +1,6 @@
+pub mod Lines
+pub mod Words
+pub mod Texts
+pub mod Page
+pub mod Played
+pub mod Laws

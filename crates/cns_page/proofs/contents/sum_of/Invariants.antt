@@ -1,0 +1,6 @@
+use Rattle.std.proofs.Common.{◌≡◌, ◌-◌, ◌^◌, min, take}
+use Rattle.std.specs.Prelude.{sum_by}
+use Rattle.cns_page.proofs.contents.sum_of.Given as goal
+
+abbrev pub invariant-loop-count : goal.invariant-loop-count
+invariant-loop-count l = l.sum ≡ min (sum_by (λ n. n) (take l.count-index l.counts)) (2 ^ 64 - 1)

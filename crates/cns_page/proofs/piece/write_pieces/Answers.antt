@@ -1,8 +1,0 @@
-use Rattle.cns_units.proofs.Parts.{parts_more}
-use Rattle.cns_page.specs.Pieces.{piece_text}
-use Rattle.cns_page.proofs.piece.write_pieces.Goals as goal
-
-pub loop-piece-preserved : goal.loop-piece-preserved
-loop-piece-preserved g c =
-    let inv = c.loop-piece.invariant in
-    parts_more _ _ _ piece_text _ _ c.piece-item.result inv.0 c.loop-piece-test.true inv.1 inv.2 (rw (← c.piece-item.is) c.in_ok-write_piece.ensures)

@@ -1,0 +1,20 @@
+use Rattle.std.proofs.Common.{ap, arith, refl, ◌≡◌, ◌∙◌}
+use Rattle.cns_page.specs.Listed.{counts_below}
+use Rattle.cns_page.proofs.ByReason.{none_more, one_more}
+use Rattle.cns_page.proofs.reasons.counts_of.Goals as goal
+
+pub loop-number-init : goal.loop-number-init
+unfolding counts_below
+loop-number-init c = rw c.new-counts.ensures.items refl
+
+pub loop-number-preserved-then-count-eq0 : goal.loop-number-preserved-then-count-eq0
+loop-number-preserved-then-count-eq0 c =
+    none_more c.loop-number.number c.args.reasons.now c.loop-number.counts.items c.count_of-count.result c.count_of-count.ensures c.if-count-eq0.true c.loop-number.invariant
+
+pub loop-number-preserved : goal.loop-number-preserved
+loop-number-preserved c =
+    rw c.in_ok-push.ensures.items
+    (one_more c.loop-number.number c.args.reasons.now c.loop-number.counts.items _ c.count_of-count.result c.count_of-count.ensures c.if-count-eq0.false refl c.loop-number.invariant)
+
+pub returns : goal.returns
+returns c = let last : c.loop-number.number ≡ 21 = omega (arith, c.loop-number-test.false) in c.loop-number.invariant ∙ ap (λ n. counts_below n c.args.reasons.now) last

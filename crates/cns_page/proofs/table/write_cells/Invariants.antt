@@ -1,9 +1,0 @@
-use Rattle.std.proofs.Common.{◌≡◌, ℕ, List, ◌++◌, drop}
-use Rattle.std.specs.List.{flat_map}
-use Rattle.std.specs.Io.KnownBytes.{Appends}
-use Rattle.cns_page.specs.Tables.{cell_of}
-use Rattle.cns_page.proofs.table.write_cells.Given as goal
-
-abbrev pub invariant-loop-piece : goal.invariant-loop-piece
-invariant-loop-piece g l = (done : List ℕ) × (flat_map cell_of l.pieces ≡ done ++ flat_map cell_of (drop l.piece-index l.pieces))
-    × Appends (g.W.Write.contents l.fn.writer) (g.W.Write.contents l.writer) done

@@ -1,9 +1,0 @@
-use Rattle.std.proofs.Common.{◌≡◌, ℕ, List, ◌++◌, drop}
-use Rattle.std.specs.List.{flat_map}
-use Rattle.std.specs.Io.KnownBytes.{Appends}
-use Rattle.cns_page.specs.declared.table.TheConstants.{COLUMN}
-use Rattle.cns_page.proofs.table.write_columns.Given as goal
-
-abbrev pub invariant-loop-column : goal.invariant-loop-column
-invariant-loop-column g l = (done : List ℕ) × (flat_map (λ c. COLUMN.now ++ c.now) l.column-items ≡ done ++ flat_map (λ c. COLUMN.now ++ c.now) (drop l.column-index l.column-items))
-    × Appends (g.W.Write.contents l.fn.writer) (g.W.Write.contents l.writer) done

@@ -1,0 +1,76 @@
+-- The page of the day that is open.
+use Rattle.std.specs.Prelude.{◌≡◌, ℕ, ◌-◌, List, [], ◌∷◌, ◌++◌, length, map, None, Option}
+use Rattle.std.specs.Fmt.{decimal}
+use Rattle.std.specs.Io.KnownBytes.{Appends}
+use Rattle.cns_units.specs.Day.{day_text}
+use Rattle.cns_terms.specs.Common.{Day, date, day, journal_of, opened}
+use Rattle.cns_book.specs.Log.{Log, state_of}
+use Rattle.cns_feed.specs.Output.{lines_of}
+use Rattle.cns_feed.specs.Replay.{blank_log, log_after}
+use Rattle.cns_tables.specs.Tables.{table_text, texts}
+use Rattle.cns_tables.specs.declared.table.Table.{Table}
+use Rattle.cns_tables.specs.declared.style.TheConstants.{STYLE}
+use Rattle.cns_page.specs.Exceptions.{finding_text}
+use Rattle.cns_page.specs.Foot.{IsOrigin, foot_text}
+use Rattle.cns_page.specs.Listed.{counted, counts, counts_shown, spans_shown}
+use Rattle.cns_page.specs.Page.{sum_of}
+use Rattle.cns_page.specs.Rows.{counted_text, span_text}
+use Rattle.cns_page.specs.Survey.{known, noted_all, nothing}
+use Rattle.cns_page.specs.declared.foot.Origin.{Origin}
+use Rattle.cns_page.specs.declared.page.TheConstants.{DAY, EXCEPTIONS, HEADING, START, TITLE_END}
+use Rattle.cns_page.specs.declared.reasons.Counted.{Counted}
+use Rattle.cns_page.specs.declared.survey.Survey.{Survey}
+use Rattle.cns_page.specs.declared.today.Heading.{Heading}
+use Rattle.cns_page.specs.declared.today.TheConstants.{COUNT, MAIN, OPEN, SO_FAR}
+use Rattle.cns_page.specs.declared.totals.Span.{Span}
+
+-- what the head tells
+abbrev pub heading_shown : Log → Survey → Heading
+heading_shown log s = record {
+  date = date log.opening (journal_of (state_of log));
+  day = day (journal_of (state_of log));
+  from = s.from;
+  records = s.records - s.from;
+  exceptions = length s.reasons.items;
+}
+
+-- the head: the date and the number of the day, the number of the record before it, how many records it has, and how many of
+-- them are exceptions
+unfoldable pub heading_text : Heading → List ℕ
+heading_text h =
+    texts (START.now ∷ OPEN.now ∷ day_text h.date ∷ TITLE_END.now ∷ STYLE.now ∷ HEADING.now ∷ OPEN.now ∷ day_text h.date ∷ DAY.now
+    ∷ decimal h.day ∷ SO_FAR.now ∷ decimal h.from ∷ COUNT.now ∷ decimal h.records ∷ EXCEPTIONS.now ∷ decimal h.exceptions ∷ MAIN.now ∷ [])
+
+-- how many rows each table has
+abbrev pub row_counts : Survey → List Counted → List Span → List ℕ
+row_counts s reasons totals = length s.findings.items ∷ length reasons ∷ length totals ∷ []
+
+-- a page with these tables in this order
+abbrev pub today_text : Table → Table → Table → Day → Log → Survey → List Counted → List Span → Origin → List ℕ
+today_text exceptions by_reason control opening log s reasons totals o =
+    heading_text (heading_shown log s)
+    ++ (table_text finding_text exceptions s.findings.items
+    ++ (table_text counted_text by_reason reasons
+    ++ (table_text span_text control totals
+    ++ foot_text opening None o (sum_of (row_counts s reasons totals)))))
+
+-- what was written is the text of the page of a book's open day, with some captions
+pub record ShowsToday (opening : Day) (input : List ℕ) (log : Log) (s : Survey) (old new : Option (List ℕ)) : Type 0 where
+  pub exceptions_table : Table
+  pub reasons_table : Table
+  pub totals_table : Table
+  pub reasons : List Counted
+  pub counted : map counted reasons ≡ counts_shown s.reasons.items
+  pub totals : List Span
+  pub spans : map counts totals ≡ spans_shown s
+  pub origin : Origin
+  pub made_of : IsOrigin input origin
+  pub written : Appends old new (today_text exceptions_table reasons_table totals_table opening log s reasons totals origin)
+
+-- the day that is open after all records of an input; those after the one with the number are its records
+pub record HasToday (opening : Day) (input : List ℕ) (from : ℕ) (old new : Option (List ℕ)) : Type 0 where
+  pub log : Log
+  pub taken : log ≡ log_after (blank_log opening) (lines_of input)
+  pub survey : Survey
+  pub all_known : known survey ≡ noted_all (nothing from) (opened opening) (lines_of input)
+  pub shown : ShowsToday opening input log survey old new

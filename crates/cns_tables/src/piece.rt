@@ -1,0 +1,98 @@
+// The pieces that a page is written of.
+ghost use Rattle.std.specs.Prelude.{◌≡◌, ◌++◌, pos, OnOk};
+ghost use Rattle.std.specs.Io.KnownBytes.{Appends, Keeps};
+ghost use Rattle.cns_units.specs.Output.{Writes};
+ghost use Rattle.cns_tables.specs.Pieces.{piece_text, pieces_text};
+
+use crate::escape::write_escaped;
+use cns_units::{Cents, Cusip, Day, WriteFault, write_bytes, write_cents, write_day};
+use itoa::Buffer;
+use std::io::Write;
+
+/// A piece of a page.
+#[derive(Clone, Copy)]
+pub enum Piece<'a> {
+    /// Markup and words of the page itself, as they are. They live as long as the program does, so no byte of a record
+    /// can be among them.
+    Markup(&'static str),
+    /// A stranger's text, escaped.
+    Text(&'a str),
+    /// An issue, escaped too, though no CUSIP needs it.
+    Issue(Cusip),
+    /// A number in plain decimal.
+    Number(u64),
+    /// A number in plain decimal, after a minus sign where it is negative.
+    Signed(i64),
+    /// The same of a position; `none` where there is none.
+    Position(Option<i64>),
+    /// An amount of cents, with a point before its last two digits.
+    Amount(Cents),
+    /// The same of a price in cents; `not listed` where there is none.
+    Price(Option<u64>),
+    /// `booked`, or `pending`.
+    Booked(bool),
+    /// A date as `YYYY-MM-DD`.
+    Date(Day),
+}
+
+/// A number of cents as an amount of them.
+pub fn cents_of(cents: u64) -> Cents
+    ensures { result ≡ pos cents }
+{
+    Cents::of(i128::from(cents))
+}
+
+/// Writes a piece.
+///
+/// Where the writer fails or takes no byte it answers `WriteFault`, and a prefix of that text was written.
+pub fn write_piece<W: Write>(piece: &Piece<'_>, writer: &mut W) -> Result<(), WriteFault>
+    ensures { Writes (W.contents writer.old) (W.contents writer.new) (piece_text piece.now) result }
+{
+    let mut buffer = Buffer::new();
+    match piece {
+        Piece::Markup(markup) => write_bytes(markup.as_bytes(), writer),
+        Piece::Text(text) => write_escaped(text.as_bytes(), writer),
+        Piece::Issue(issue) => write_escaped(issue.bytes(), writer),
+        Piece::Number(number) => write_bytes(buffer.format(*number).as_bytes(), writer),
+        Piece::Signed(number) => write_bytes(buffer.format(*number).as_bytes(), writer),
+        Piece::Position(Some(number)) => { write_bytes(buffer.format(*number).as_bytes(), writer) }
+        Piece::Position(None) => write_bytes(b"none", writer),
+        Piece::Amount(cents) => write_cents(*cents, writer),
+        Piece::Price(Some(price)) => write_cents(cents_of(*price), writer),
+        Piece::Price(None) => write_bytes(b"not listed", writer),
+        Piece::Booked(true) => write_bytes(b"booked", writer),
+        Piece::Booked(false) => write_bytes(b"pending", writer),
+        Piece::Date(day) => write_day(*day, writer),
+    }
+}
+
+/// Writes markup of the page itself.
+///
+/// Where the writer fails or takes no byte it answers `WriteFault`, and some of it was written.
+pub fn write_markup<W: Write>(markup: &'static str, writer: &mut W) -> Result<(), WriteFault>
+    ensures { OnOk result (Appends (W.contents writer.old) (W.contents writer.new) markup.now) }
+{
+    write_pieces(&[Piece::Markup(markup)], writer)
+}
+
+/// Writes pieces, one after another.
+///
+/// Where the writer fails or takes no byte it answers `WriteFault`, and some of that text was written.
+pub fn write_pieces<W: Write>(pieces: &[Piece<'_>], writer: &mut W) -> Result<(), WriteFault>
+    ensures { OnOk result (Appends (W.contents writer.old) (W.contents writer.new) (pieces_text pieces.now)) }
+{
+    for piece in pieces {
+        write_piece(piece, writer)?;
+    }
+    Ok(())
+}
+
+/// Flushes a writer. `WriteFault` where it cannot be flushed.
+pub fn hand_on<W: Write>(writer: &mut W) -> Result<(), WriteFault>
+    ensures { OnOk result (Keeps (W.contents writer.old) (W.contents writer.new)) }
+{
+    match writer.flush() {
+        Ok(()) => Ok(()),
+        Err(_) => Err(WriteFault),
+    }
+}
