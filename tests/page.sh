@@ -103,6 +103,10 @@ pages=$((pages + 3))
 { for number in $(seq 250); do echo "PRICE,$number"; done; echo CLOSE,2024-06-04; } | "$program" --open 2024-06-03 > "$room/page" || fail "250 exceptions: status $?"
 [ "$(grep -c '<code>PRICE,' "$room/page")" = 200 ] && grep -q '<th scope=row>Invalid record<td>250' "$room/page" || fail '250 exceptions'
 
+# Of a field of more than 200 bytes the first ones stand there, and its length; a comma between quotes ends no field.
+{ printf 'MEMBER,%0300d,"%0150d,%0150d",1\nCLOSE,2024-06-04\n' 0 0 0; } | "$program" --open 2024-06-03 > "$room/page" || fail "long fields: status $?"
+grep -qF "<code>MEMBER,$(printf '%0200d' 0)… (300 bytes),&quot;$(printf '%0150d,%048d' 0 0)… (303 bytes),1</code>" "$room/page" || fail 'long fields'
+
 # A trade that Tuesday's close books into Wednesday is on the sheet of neither day, and the projection says how it stands.
 while read -r day state; do
     "$program" --open 2024-06-03 --day "$day" < examples/week.csv > "$room/page" || fail "week.csv, $day: status $?"
