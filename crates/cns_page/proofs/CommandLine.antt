@@ -1,5 +1,5 @@
 -- What is known of the program's line.
--- For `matches_of` of asked.rt.
+-- For `matches_in` of asked.rt.
 use Rattle.std.proofs.Common.{◌≡◌, true, refl}
 use Rattle.clap.proofs.OnLiterals.{clap_on_literals}
 use Rattle.clap.specs.Words.{is_simple, is_simple_and_free}

@@ -1,14 +1,10 @@
 -- What is known of the program's line, for the functions that build it and read what clap makes of words.
--- For `entered`, `run_command`, `matches_of` and `command_line` of asked.rt.
-use Rattle.std.proofs.Common.{◌≡◌, ◌&&◌, Bool, true, false, not, refl, sym, arith, subst, List, [], ◌∷◌, Option, Some, None, option_map}
+-- For `entered`, `run_command`, `matches_in` and `command_line` of asked.rt.
+use Rattle.std.proofs.Common.{◌≡◌, ◌&&◌, Bool, true, false, not, refl, Option, Some, None, option_map}
 use Rattle.std.specs.Option.{IsSomeAnd}
-use Rattle.std.proofs.lemmas.Bool.{ne_eqb}
 use Rattle.clap.proofs.OnLiterals.{clap_on_literals}
-use Rattle.clap.specs.Kinds.{IsAmong, Kinds}
-use Rattle.clap.specs.Walk.{is_empty}
-use Rattle.clap.specs.Words.{App, Row, Text, fault_of, is_simple, is_simple_and_free, subcommand_of}
-use Rattle.clap.specs.declared.error.kind.ErrorKind.{ErrorKind}
-use Rattle.cns_program.specs.CommandLine.{found_by, program_line}
+use Rattle.clap.specs.Words.{is_simple, is_simple_and_free}
+use Rattle.cns_program.specs.CommandLine.{program_line}
 
 -- the third of the settings of a plain command, by which it has no argument for all its subcommands
 pub third_is_off : (a b c rest : Bool) → (a && (not b && (not c && rest))) ≡ true → c ≡ false
