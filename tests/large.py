@@ -17,8 +17,9 @@ import tempfile
 OPENING = datetime.date(2024, 6, 3)
 ISSUE, OTHER = "17275R102", "594918104"
 
-# What stands on the page of many things, and how often: member 1 has sold its share, so its notice is refused too.
-PAGE_MARKS = {b"<td><code>": 1_001}
+# What stands on the page of many things, and how often: the first 200 exceptions, and the counts of all. Member 1 has sold its
+# share, so its notice is refused too.
+PAGE_MARKS = {b"<td><code>": 200, b"member exists<td>1000\n": 1, b"not long<td>1\n": 1}
 
 
 def cusip(number):
