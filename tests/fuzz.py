@@ -22,7 +22,6 @@ whose replies were worked out by hand.
 import argparse
 import collections
 import datetime
-import itertools
 import pathlib
 import random
 import re
@@ -212,9 +211,11 @@ def answers_pages(page, play):
 
 def answers_histories(page, play):
     """The figures of the histories of some accounts in some issues, up to the first close and to the last record."""
-    first = [play.book.date_of(1)] if play.book.today() > 1 else []
-    accounts, issues = [0, *play.book.members()[:2], 9999], [*play.book.issues()[:2], b"000000000"]
-    for account, issue, day in itertools.product(accounts, issues, [None, *first]):
+    accounts, issues = [0, *play.book.members()[:2]], [*play.book.issues()[:2], b"000000000"]
+    asked = [(9999, b"000000000", None), *((account, issues[0], None) for account in accounts)]
+    if play.book.today() > 1:
+        asked.append((accounts[-1], issues[len(issues) // 2], play.book.date_of(1)))
+    for account, issue, day in asked:
         words = ["--open", str(play.opening), "--account", str(account), "--issue", issue.decode()]
         output, errors, status = run(page, words + (["--day", str(day)] if day else []), play.text)
         got = recompute.written(figures.past_shown(output)) if status == 0 else output
