@@ -29,7 +29,8 @@ FOOT = re.compile(
     r"<p>End of the page\. Its tables have so many rows: (\d+)</p>\s*</footer>\s*</html>\s*$"
 )
 SECTION = re.compile(r"<section aria-labelledby=(\w+)>(.*?)</section>", re.DOTALL)
-ROW = re.compile(r"<tr[^>]*><th scope=row[^>]*>([^\n]*)")
+# A text of a record may have line ends, but no angle brackets of its own.
+ROW = re.compile(r"<tr[^>]*><th scope=row[^>]*>(.*?)(?=\n<tr|\n</t)", re.DOTALL)
 REASON = re.compile(r"<strong>(Invalid record|Refused \d+)</strong>")
 
 
