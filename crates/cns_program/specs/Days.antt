@@ -42,3 +42,5 @@ FailsDay (fault.Open file) b day old new = ⊥
 FailsDay fault.Spawn b day old new = new ≡ old
 FailsDay fault.Mismatch b day old new = ⊥
 FailsDay fault.NoSuchDay b day old new = (new ≡ old) × (sheet_of b day ≡ None)
+FailsDay fault.NoSuchMember b day old new = ⊥
+FailsDay fault.NoSuchIssue b day old new = ⊥

@@ -30,6 +30,8 @@ IsOfOpening files (fault.Open file) = (1 ≤ file) × (file ≤ files)
 IsOfOpening files fault.Spawn = ⊥
 IsOfOpening files fault.Mismatch = ⊥
 IsOfOpening files fault.NoSuchDay = ⊥
+IsOfOpening files fault.NoSuchMember = ⊥
+IsOfOpening files fault.NoSuchIssue = ⊥
 
 -- a fault of a run over so many files, before anything is written
 abbrev pub IsOfRun : ℕ → Fault → Type 0
@@ -41,3 +43,5 @@ IsOfRun files (fault.Open file) = (1 ≤ file) × (file ≤ files)
 IsOfRun files fault.Spawn = ⊤
 IsOfRun files fault.Mismatch = ⊤
 IsOfRun files fault.NoSuchDay = ⊥
+IsOfRun files fault.NoSuchMember = ⊥
+IsOfRun files fault.NoSuchIssue = ⊥

@@ -23,6 +23,8 @@ fault_name (fault.Open file) = codes "Open"
 fault_name fault.Spawn = codes "Spawn"
 fault_name fault.Mismatch = codes "Mismatch"
 fault_name fault.NoSuchDay = codes "NoSuchDay"
+fault_name fault.NoSuchMember = codes "NoSuchMember"
+fault_name fault.NoSuchIssue = codes "NoSuchIssue"
 
 -- the number of a file that could not be opened, from 1, which follows the word
 abbrev pub fault_file : Fault → List (List ℕ)
@@ -34,6 +36,8 @@ fault_file (fault.Open file) = decimal file ∷ []
 fault_file fault.Spawn = []
 fault_file fault.Mismatch = []
 fault_file fault.NoSuchDay = []
+fault_file fault.NoSuchMember = []
+fault_file fault.NoSuchIssue = []
 
 -- `fault`, its word and what follows
 abbrev pub fault_line : Fault → List ℕ

@@ -28,8 +28,12 @@ pub enum Fault {
     Spawn,
     /// A worker's log was not its part of the history.
     Mismatch,
-    /// The day whose statements are asked for is not closed.
+    /// The day that is asked for is not closed.
     NoSuchDay,
+    /// The account that is asked for is neither 0 nor a member's.
+    NoSuchMember,
+    /// The issue that is asked for is not listed.
+    NoSuchIssue,
 }
 
 impl From<ReplayFault> for Fault {
@@ -79,6 +83,8 @@ fn name_of(fault: Fault) -> &'static [u8]
         Fault::Spawn => b"Spawn",
         Fault::Mismatch => b"Mismatch",
         Fault::NoSuchDay => b"NoSuchDay",
+        Fault::NoSuchMember => b"NoSuchMember",
+        Fault::NoSuchIssue => b"NoSuchIssue",
     }
 }
 
