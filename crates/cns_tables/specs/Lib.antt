@@ -1,3 +1,4 @@
 pub mod Escape
+pub mod Grouped
 pub mod Pieces
 pub mod Tables

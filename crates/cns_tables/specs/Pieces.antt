@@ -1,10 +1,10 @@
 -- The texts of the pieces of a page.
 use Rattle.std.specs.Prelude.{ℕ, pos, List, None, Some, codes, true, false}
-use Rattle.std.specs.Fmt.{decimal, signed_decimal}
+use Rattle.std.specs.Fmt.{decimal}
 use Rattle.std.specs.List.{flat_map}
-use Rattle.cns_units.specs.Cents.{cents_text}
 use Rattle.cns_units.specs.Day.{day_text}
 use Rattle.cns_tables.specs.Escape.{escaped}
+use Rattle.cns_tables.specs.Grouped.{amount_text, count_text, signed_text}
 use Rattle.cns_tables.specs.declared.piece.Piece.{Piece}
 use Rattle.cns_tables.specs.declared.piece.Piece.TheVariants as piece
 
@@ -14,11 +14,12 @@ piece_text (piece.Markup m) = m.now
 piece_text (piece.Text t) = escaped t.now
 piece_text (piece.Issue c) = escaped c
 piece_text (piece.Number n) = decimal n
-piece_text (piece.Signed z) = signed_decimal z
-piece_text (piece.Position (Some z)) = signed_decimal z
+piece_text (piece.Count n) = count_text n
+piece_text (piece.Signed z) = signed_text z
+piece_text (piece.Position (Some z)) = signed_text z
 piece_text (piece.Position None) = codes "none"
-piece_text (piece.Amount z) = cents_text z
-piece_text (piece.Price (Some p)) = cents_text (pos p)
+piece_text (piece.Amount z) = amount_text z
+piece_text (piece.Price (Some p)) = amount_text (pos p)
 piece_text (piece.Price None) = codes "not listed"
 piece_text (piece.Booked true) = codes "booked"
 piece_text (piece.Booked false) = codes "pending"

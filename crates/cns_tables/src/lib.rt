@@ -7,6 +7,7 @@
 #![tactic(auto)]
 
 mod escape;
+mod grouped;
 mod piece;
 mod style;
 mod table;

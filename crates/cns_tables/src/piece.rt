@@ -1,11 +1,13 @@
 // The pieces that a page is written of.
 ghost use Rattle.std.specs.Prelude.{◌≡◌, ◌++◌, pos, OnOk};
+ghost use Rattle.std.specs.Fmt.{decimal};
 ghost use Rattle.std.specs.Io.KnownBytes.{Appends, Keeps};
 ghost use Rattle.cns_units.specs.Output.{Writes};
 ghost use Rattle.cns_tables.specs.Pieces.{piece_text, pieces_text};
 
 use crate::escape::write_escaped;
-use cns_units::{Cents, Cusip, Day, WriteFault, write_bytes, write_cents, write_day};
+use crate::grouped::{write_amount, write_count, write_signed};
+use cns_units::{Cents, Cusip, Day, WriteFault, write_bytes, write_day};
 use itoa::Buffer;
 use std::io::Write;
 
@@ -19,13 +21,15 @@ pub enum Piece<'a> {
     Text(&'a str),
     /// An issue, escaped too, though no CUSIP needs it.
     Issue(Cusip),
-    /// A number in plain decimal.
+    /// The number of a record, an account, a trade, a notice or a day, in plain decimal.
     Number(u64),
-    /// A number in plain decimal, after a minus sign where it is negative.
+    /// How many there are, with commas between thousands.
+    Count(u64),
+    /// A number with commas between thousands, after a minus sign where it is negative.
     Signed(i64),
     /// The same of a position; `none` where there is none.
     Position(Option<i64>),
-    /// An amount of cents, with a point before its last two digits.
+    /// An amount of cents as dollars with commas between thousands, a point and two digits.
     Amount(Cents),
     /// The same of a price in cents; `not listed` where there is none.
     Price(Option<u64>),
@@ -42,23 +46,30 @@ pub fn cents_of(cents: u64) -> Cents
     Cents::of(i128::from(cents))
 }
 
+fn write_number<W: Write>(number: u64, writer: &mut W) -> Result<(), WriteFault>
+    ensures { Writes (W.contents writer.old) (W.contents writer.new) (decimal number) result }
+{
+    let mut buffer = Buffer::new();
+    write_bytes(buffer.format(number).as_bytes(), writer)
+}
+
 /// Writes a piece.
 ///
 /// Where the writer fails or takes no byte it answers `WriteFault`, and a prefix of that text was written.
 pub fn write_piece<W: Write>(piece: &Piece<'_>, writer: &mut W) -> Result<(), WriteFault>
     ensures { Writes (W.contents writer.old) (W.contents writer.new) (piece_text piece.now) result }
 {
-    let mut buffer = Buffer::new();
     match piece {
         Piece::Markup(markup) => write_bytes(markup.as_bytes(), writer),
         Piece::Text(text) => write_escaped(text.as_bytes(), writer),
         Piece::Issue(issue) => write_escaped(issue.bytes(), writer),
-        Piece::Number(number) => write_bytes(buffer.format(*number).as_bytes(), writer),
-        Piece::Signed(number) => write_bytes(buffer.format(*number).as_bytes(), writer),
-        Piece::Position(Some(number)) => { write_bytes(buffer.format(*number).as_bytes(), writer) }
+        Piece::Number(number) => write_number(*number, writer),
+        Piece::Count(number) => write_count(u128::from(*number), writer),
+        Piece::Signed(number) => write_signed(i128::from(*number), writer),
+        Piece::Position(Some(number)) => write_signed(i128::from(*number), writer),
         Piece::Position(None) => write_bytes(b"none", writer),
-        Piece::Amount(cents) => write_cents(*cents, writer),
-        Piece::Price(Some(price)) => write_cents(cents_of(*price), writer),
+        Piece::Amount(cents) => write_amount(cents.value(), writer),
+        Piece::Price(Some(price)) => write_amount(i128::from(*price), writer),
         Piece::Price(None) => write_bytes(b"not listed", writer),
         Piece::Booked(true) => write_bytes(b"booked", writer),
         Piece::Booked(false) => write_bytes(b"pending", writer),

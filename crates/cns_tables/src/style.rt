@@ -1,7 +1,8 @@
 // How a page looks, on a screen and on paper.
 
 /// The style of the page. Text has a contrast of 4.5 or more on its ground, in the light and in the dark scheme. The column of
-/// issues stays in sight where a table is wider than the screen.
+/// issues stays in sight where a table is wider than the screen. No figure breaks: the columns of all accounts have the same
+/// widths, but for an account with figures that need more.
 pub const STYLE: &str = "<style>
 :root { color-scheme: light dark; --ground: #fff; --ink: #1b1b1b; --quiet: #444; --link: #1a4b8f; --shade: #f2f2f2; \
 --sum: #ececec; --rule: #d0d0d0; --alert: #8a1c1c; }
@@ -29,6 +30,7 @@ min-width: 12rem; }
 [aria-labelledby=exceptions] tbody th, [aria-labelledby=open] tbody th { vertical-align: top; padding-left: .5rem; \
 border-left: 4px solid var(--alert); }
 [aria-labelledby=exceptions] thead th, [aria-labelledby=open] thead th { text-align: left; }
+[aria-labelledby=bookings] td:nth-child(3), [aria-labelledby=bookings] th:nth-child(3) { text-align: left; }
 .wide { overflow-x: auto; }
 .wide:focus-visible, a:focus-visible { outline: 3px solid var(--link); outline-offset: 2px; }
 table { border-collapse: collapse; font-variant-numeric: tabular-nums; font-size: .92rem; }
@@ -38,11 +40,14 @@ thead th { vertical-align: bottom; white-space: normal; border-bottom: 2px solid
 th:first-child { text-align: left; padding-left: 0; }
 th[scope=row], thead th:first-child { position: sticky; left: 0; background: var(--ground); }
 tbody th { font-weight: 600; }
-[aria-labelledby=accounts] .part { content-visibility: auto; contain-intrinsic-size: auto 12rem; min-width: 66rem; }
+[aria-labelledby=accounts] .part { content-visibility: auto; contain-intrinsic-size: auto 12rem; width: min-content; \
+min-width: max(100%, 76rem); }
 [aria-labelledby=accounts] .part + .part thead { position: absolute; clip-path: inset(50%); }
-[aria-labelledby=accounts] table { width: 100%; table-layout: fixed; }
-[aria-labelledby=accounts] td { white-space: normal; overflow-wrap: anywhere; }
-[aria-labelledby=accounts] thead th:first-child, .name { width: 7rem; }
+[aria-labelledby=accounts] table { width: 100%; }
+[aria-labelledby=accounts] thead th:first-child, .name { width: 9%; }
+[aria-labelledby=accounts] thead th:nth-child(n+2), .shares { width: 10%; }
+[aria-labelledby=accounts] thead th:nth-child(n+4), .price { width: 7%; }
+[aria-labelledby=accounts] thead th:nth-child(n+6), .amount { width: 11.4%; }
 .sum > * { background: var(--sum); font-weight: 600; border-top: 1px solid var(--quiet); }
 .sum th { padding-left: .3rem; text-align: left; }
 .total > tr > * { font-weight: 700; border-top: 3px double var(--ink); }
@@ -56,9 +61,8 @@ nav, .skip { display: none; }
 table { font-size: 7pt; }
 th, td { padding: .3mm 1mm; }
 th[scope=row], thead th:first-child { position: static; }
-[aria-labelledby=accounts] .part { content-visibility: visible; min-width: 0; }
+[aria-labelledby=accounts] .part { content-visibility: visible; width: auto; min-width: 0; }
 [aria-labelledby=accounts] .part + .part thead { position: static; clip-path: none; }
-[aria-labelledby=accounts] thead th:first-child, .name { width: 17mm; }
 thead { display: table-header-group; }
 tr { break-inside: avoid; }
 h2 { break-after: avoid; }
