@@ -20,6 +20,7 @@ use Rattle.cns_history.specs.declared.line.Booking.{Booking}
 use Rattle.cns_history.specs.declared.line.Closing.{Closing}
 use Rattle.cns_history.specs.declared.line.HistoryLine.{HistoryLine}
 use Rattle.cns_history.specs.declared.line.HistoryLine.TheVariants as line
+use Rattle.cns_history.specs.declared.watched.Watched.TheVariants as watched
 
 -- ---- the lines of a record
 
@@ -66,12 +67,12 @@ line_shares k n S (Err f) = same (standing S k).now
 joined : (a b x y z : ℤ) → a ≡ y -ℤ x → b ≡ z -ℤ y → a +ℤ b ≡ z -ℤ x
 joined a b x y z first rest = omega (arith, ints, first, rest)
 
-history_shares : (k : Key) (n : ℕ) (S : State) (ls : List Line) → total shares_of (history k n S ls) ≡ (standing (state_after S ls) k).now -ℤ (standing S k).now
+history_shares : (k : Key) (n : ℕ) (S : State) (ls : List Line) → total shares_of (history (watched.Place k) n S ls) ≡ (standing (state_after S ls) k).now -ℤ (standing S k).now
 unfolding history state_after
 history_shares k n S [] = same (standing S k).now
 history_shares k n S (l ∷ ls) =
     let T = state_after_line S l in
-    total-append shares_of (lines_at k (n + 1) S l) (history k (n + 1) T ls)
+    total-append shares_of (lines_at k (n + 1) S l) (history (watched.Place k) (n + 1) T ls)
     ∙ joined _ _ (standing S k).now (standing T k).now (standing (state_after T ls) k).now (line_shares k (n + 1) S l) (history_shares k (n + 1) T ls)
 
 -- at first nothing stands anywhere

@@ -7,6 +7,7 @@ use Rattle.cns_feed.specs.Output.{state_after}
 use Rattle.cns_history.specs.Lines.{history, standing}
 use Rattle.cns_history.specs.declared.line.HistoryLine.{HistoryLine}
 use Rattle.cns_history.specs.declared.line.HistoryLine.TheVariants as line
+use Rattle.cns_history.specs.declared.watched.Watched.TheVariants as watched
 
 -- the shares that a line books; that of a close has none
 abbrev pub shares_of : HistoryLine → ℤ
@@ -16,4 +17,4 @@ shares_of (line.Closing c) = pos 0
 -- from nothing on, the shares of the lines of any records add up to the position that they end with
 abbrev pub SharesAddUp : Type 0
 SharesAddUp = (k : Key) (opening : Day) (ls : List Line) →
-    total shares_of (history k 0 (opened opening) ls) ≡ (standing (state_after (opened opening) ls) k).now
+    total shares_of (history (watched.Place k) 0 (opened opening) ls) ≡ (standing (state_after (opened opening) ls) k).now

@@ -1,4 +1,5 @@
 pub mod Lines
+pub mod Small
 pub mod Words
 pub mod Texts
 pub mod Page

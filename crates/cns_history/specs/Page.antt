@@ -18,6 +18,7 @@ use Rattle.cns_history.specs.Texts.{line_text}
 use Rattle.cns_history.specs.declared.history.TheConstants.{ACCOUNT_OPTION, DAY_OPTION, FOOT, FOOT_END, HEADING, HEAD_END, IN, ISSUE_OPTION, OPENED, POSITION, RECORDS, START, TITLE_END}
 use Rattle.cns_history.specs.declared.table.TheConstants.{CAPTION, COLUMNS, ID, NONE, TITLE}
 use Rattle.cns_history.specs.declared.place.Place.{Place}
+use Rattle.cns_history.specs.declared.watched.Watched.TheVariants as watched
 
 -- the position that records end with, as a POSITION shows it
 abbrev pub position_after : Place → List Line → Option ℤ
@@ -47,7 +48,7 @@ foot_text p =
 abbrev pub page_text : Table → Place → List Line → List ℕ
 page_text t p ls =
     head_text p (length ls) (position_after p ls)
-    ++ (table_text line_text t (history p.key 0 (opened p.opening) ls) ++ foot_text p)
+    ++ (table_text line_text t (history (watched.Place p.key) 0 (opened p.opening) ls) ++ foot_text p)
 
 -- the title, the caption, the columns and the words of none of the table of a history
 pub record IsCaptioned (t : Table) : Type 0 where

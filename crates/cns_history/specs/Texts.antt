@@ -1,9 +1,9 @@
 -- The texts of the lines of a history.
 use Rattle.std.specs.Prelude.{ℕ, ℤ, pos, ◌*ℤ◌, List, [], ◌∷◌, ◌++◌}
-use Rattle.std.specs.Fmt.{decimal, signed_decimal}
-use Rattle.cns_units.specs.Cents.{cents_text}
+use Rattle.std.specs.Fmt.{decimal}
 use Rattle.cns_units.specs.Day.{day_text}
 use Rattle.cns_terms.specs.declared.sheet.Row.{Row}
+use Rattle.cns_tables.specs.Grouped.{amount_text, signed_text}
 use Rattle.cns_tables.specs.Tables.{texts}
 use Rattle.cns_tables.specs.declared.table.TheConstants.{CELL, ROW}
 use Rattle.cns_history.specs.Words.{what_text}
@@ -24,8 +24,8 @@ begin_text b = texts (ROW.now ∷ decimal b.number ∷ CELL.now ∷ day_text b.d
 -- its figures
 unfoldable pub figures_text : Booking → List ℕ
 figures_text b =
-    texts (CELL.now ∷ signed_decimal b.shares ∷ CELL.now ∷ cents_text b.cents ∷ CELL.now ∷ signed_decimal b.position
-    ∷ CELL.now ∷ cents_text b.money ∷ NO_CLOSE.now ∷ [])
+    texts (CELL.now ∷ signed_text b.shares ∷ CELL.now ∷ amount_text b.cents ∷ CELL.now ∷ signed_text b.position
+    ∷ CELL.now ∷ amount_text b.money ∷ NO_CLOSE.now ∷ [])
 
 -- what a record booked: its number, date, what it was, shares, cents, the position after it and the money since the last close
 abbrev pub booking_text : Booking → List ℕ
@@ -39,8 +39,8 @@ close_begin c =
 -- its figures: the position, the settling money, price, value, mark, closes short and dividend
 unfoldable pub close_figures : Row → ℕ → List ℕ
 close_figures r age =
-    texts (signed_decimal r.closing ∷ CELL.now ∷ cents_text r.money ∷ CELL.now ∷ cents_text (pos r.price) ∷ CELL.now
-    ∷ cents_text (worth r) ∷ CELL.now ∷ cents_text r.mark ∷ CELL.now ∷ decimal age ∷ CELL.now ∷ cents_text r.dividend ∷ END.now ∷ [])
+    texts (signed_text r.closing ∷ CELL.now ∷ amount_text r.money ∷ CELL.now ∷ amount_text (pos r.price) ∷ CELL.now
+    ∷ amount_text (worth r) ∷ CELL.now ∷ amount_text r.mark ∷ CELL.now ∷ decimal age ∷ CELL.now ∷ amount_text r.dividend ∷ END.now ∷ [])
 
 -- a close
 abbrev pub closing_text : Closing → List ℕ

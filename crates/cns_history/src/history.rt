@@ -1,6 +1,8 @@
 // The page of a history: a head, the table of its lines, and a foot.
-ghost use Rattle.std.specs.Prelude.{List, OnOk};
+ghost use Rattle.std.specs.Prelude.{◌≡◌, List, OnOk, option_map};
 ghost use Rattle.std.specs.Io.KnownBytes.{Appends};
+ghost use Rattle.cns_book.specs.Log.{state_of};
+ghost use Rattle.cns_book.specs.Shown.{position_shown};
 ghost use Rattle.cns_feed.specs.Line.{Line};
 ghost use Rattle.cns_history.specs.Page.{HasHistory, day_option, foot_text, head_text, page_text};
 ghost use Rattle.cns_history.specs.Played.{IsPlayed};
@@ -8,8 +10,11 @@ ghost use Rattle.cns_history.specs.Played.{IsPlayed};
 use crate::place::Place;
 use crate::play::{Played, play};
 use crate::table::HISTORY;
+use crate::watched::Watched;
+use cns_feed::ReplayBook;
 use cns_shell::Fault;
 use cns_tables::{Piece, STYLE, Table, hand_on, write_pieces, write_table};
+use cns_terms::Key;
 use cns_units::{Day, WriteFault};
 use std::alloc::Global;
 use std::io::Write;
@@ -120,6 +125,25 @@ fn write_foot<W: Write>(place: &Place, writer: &mut W) -> Result<(), WriteFault>
     write_pieces(&options, writer)
 }
 
+// The position at a key now, in shares; None where a POSITION would be refused.
+fn position(book: &ReplayBook, key: &Key) -> Option<i64>
+    ensures { result ≡ option_map (λ h. h.now) (position_shown (state_of book.now.log) key.now) }
+{
+    let holding = book.position(key.account, key.issue)?;
+    Some(holding.now)
+}
+
+// Whether a POSITION of the place would be refused, and why.
+fn check_place(book: &ReplayBook, key: &Key) -> Result<(), Fault> {
+    if position(book, key).is_some() {
+        Ok(())
+    } else if book.price(key.issue).is_none() {
+        Err(Fault::NoSuchIssue)
+    } else {
+        Err(Fault::NoSuchMember)
+    }
+}
+
 // Writes the page of what records came to, with a table for the lines.
 fn write_played<W: Write>(
     table: &Table,
@@ -127,10 +151,11 @@ fn write_played<W: Write>(
     played: &Played,
     writer: &mut W,
 ) -> Result<(), WriteFault>
-    ensures { (all : List Line) → IsPlayed place.now all played.now
+    ensures { (all : List Line) → IsPlayed place.now.opening (Watched.Place place.now.key) all played.now
         → OnOk result (Appends (W.contents writer.old) (W.contents writer.new) (page_text table.now place.now all)) }
 {
-    write_head(place, played.records, played.position, writer)?;
+    let position = position(&played.book, &place.key);
+    write_head(place, played.records, position, writer)?;
     write_table(table, played.lines.as_slice(), writer)?;
     write_foot(place, writer)
 }
@@ -138,8 +163,9 @@ fn write_played<W: Write>(
 /// Plays the first records of the input, at most so many, on a new book of the place, writes the history of the place as a
 /// page, and hands it on.
 ///
-/// `NoMemory` where an allocation failed, `Full` after 4,294,967,295 commands, the most that a book takes, and `Write` where
-/// the writer fails, takes no byte or cannot be flushed. What was written before stands.
+/// `NoMemory` where an allocation failed, `Full` after 4,294,967,295 commands, the most that a book takes, `NoSuchIssue` where the
+/// issue is not listed after these records, `NoSuchMember` where the account is neither 0 nor a member's, and `Write` where the
+/// writer fails, takes no byte or cannot be flushed. What was written before stands.
 pub fn write_history<O: Write>(
     alloc: Global,
     place: &Place,
@@ -149,7 +175,9 @@ pub fn write_history<O: Write>(
 ) -> Result<(), Fault>
     ensures { OnOk result (HasHistory place.now most input.now (O.contents output.old) (O.contents output.new)) }
 {
-    let played = play(alloc, place, input, most)?;
+    let watched = Watched::Place(place.key);
+    let played = play(alloc, place.opening, &watched, input, most)?;
+    check_place(&played.book, &place.key)?;
     write_played(&HISTORY, place, &played, output)?;
     hand_on(output)?;
     Ok(())

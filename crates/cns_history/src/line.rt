@@ -6,7 +6,7 @@ ghost use Rattle.cns_history.specs.Texts.{begin_text, booking_text, close_begin,
 use crate::words::write_what;
 use cns_tables::{CELL, Piece, ROW, TableRow, cents_of, write_pieces};
 use cns_terms::{Activity, Row};
-use cns_units::{Account, Cents, Day, WriteFault};
+use cns_units::{Account, Cents, Cusip, Day, WriteFault};
 use std::io::Write;
 
 /// What a record booked at a place.
@@ -17,6 +17,7 @@ pub struct Booking {
     /// The open day's date, of a close that of the day which it opened.
     pub date: Day,
     pub account: Account,
+    pub issue: Cusip,
     pub activity: Activity,
     /// Shares, to the account where positive.
     pub shares: i64,

@@ -20,9 +20,10 @@ pub(crate) struct Answered {
 }
 
 /// What stands at a key now; zeros where a POSITION would be refused.
-pub(crate) fn standing(book: &ReplayBook, key: &Key) -> Holding
+pub fn standing(book: &ReplayBook, key: &Key) -> Holding
     ensures value { result ≡ standing (state_of book.now.log) key.now }
     ensures shares { unsigned_abs result.now ≤ corporation_limit }
+    ensures opening { unsigned_abs result.opening ≤ corporation_limit }
     ensures cents { unsigned_abs result.contract ≤ amount_limit }
 {
     // Its clauses say that positions are within their limits, so that no difference of two wraps.
@@ -47,8 +48,8 @@ fn counted_from(before: &Holding, reply: &Reply) -> Holding
     }
 }
 
-// What changes one position into another, in shares.
-fn shares_between(from: i64, to: i64) -> i64
+/// What changes one position into another, in shares.
+pub fn shares_between(from: i64, to: i64) -> i64
     requires from { unsigned_abs from ≤ corporation_limit }
     requires to { unsigned_abs to ≤ corporation_limit }
     ensures { result ≡ to -ℤ from }
@@ -65,8 +66,14 @@ fn cents_between(from: i128, to: i128) -> Cents
     Cents::of(to - from)
 }
 
-// What an activity booked at a key, on a date.
-fn booking_of(date: Day, key: &Key, answered: &Answered, from: &Holding, to: &Holding) -> Booking
+/// What an activity booked at a key, on a date.
+pub(crate) fn booking_of(
+    date: Day,
+    key: &Key,
+    answered: &Answered,
+    from: &Holding,
+    to: &Holding,
+) -> Booking
     requires from { (unsigned_abs from.now.now ≤ corporation_limit) × (unsigned_abs from.now.contract ≤ amount_limit) }
     requires to { (unsigned_abs to.now.now ≤ corporation_limit) × (unsigned_abs to.now.contract ≤ amount_limit) }
     ensures { result ≡ booking key.now answered.now.number date answered.now.activity from.entry.now to.entry.now }
@@ -75,6 +82,7 @@ fn booking_of(date: Day, key: &Key, answered: &Answered, from: &Holding, to: &Ho
         number: answered.number,
         date,
         account: key.account,
+        issue: key.issue,
         activity: answered.activity,
         shares: shares_between(from.now, to.now),
         cents: cents_between(from.contract, to.contract),
@@ -115,8 +123,8 @@ fn closing_of(book: &ReplayBook, key: &Key, answered: &Answered) -> Option<Closi
     })
 }
 
-// Adds the line of a close, if there is one, and that of what was booked, if it is anything.
-fn add(
+/// Adds the line of a close, if there is one, and that of what was booked, if it is anything.
+pub(crate) fn add(
     closing: Option<Closing>,
     booking: &Booking,
     lines: &mut Vec<HistoryLine>,

@@ -111,7 +111,7 @@ fn write_exchange<W: Write>(exchange: &Exchange, writer: &mut W) -> Result<(), W
 /// Writes what an activity was, for an account at whose place it booked. The activities that never book have no words.
 ///
 /// Where the writer fails or takes no byte it answers `WriteFault`, and some of that text was written.
-pub(crate) fn write_what<W: Write>(
+pub fn write_what<W: Write>(
     account: Account,
     activity: &Activity,
     writer: &mut W,

@@ -9,5 +9,5 @@ abbrev pub invariant-loop-turn : goal.invariant-loop-turn
 invariant-loop-turn g l = record {
   ready : IsReady l.records;
   along : (all : List Line) → Pending g.R.Read.remaining l.fn.records all
-      → Along g.R.Read.remaining l.records l.key (state_of l.fn.book.log) (state_of l.book.log) l.lines.items l.turn l.fn.most all;
+      → Along g.R.Read.remaining l.records l.watched (state_of l.fn.book.log) (state_of l.book.log) l.lines.items l.turn l.fn.most all;
 }
