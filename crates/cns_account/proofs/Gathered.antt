@@ -1,0 +1,23 @@
+-- Rows that are gathered one after another.
+-- For `bookings_in` of booked.rt and `rows_of` of row.rt.
+use Rattle.std.proofs.Common.{◌≡◌, ◌∙◌, sym, ap, ℕ, ◌+◌, ◌<◌, List, [], ◌∷◌, ◌++◌, Option, append_assoc, append-nil, add-one, filter_map, get_or, length, map, take, take-suc}
+use Rattle.std.specs.List.{cons_option}
+use Rattle.std.proofs.lemmas.List.Elements.{filter_map-append}
+
+-- one more of a list, where it gives something
+pub given_more : {X Y : Type 0} (f : X → Option Y) (xs : List X) (i : ℕ) (x : X) (o : Option Y) (items : List Y) → i < length xs → get_or xs i x ≡ x → f x ≡ o
+    → items ≡ filter_map f (take i xs) → items ++ cons_option o [] ≡ filter_map f (take (i + 1) xs)
+given_more f xs i x o items lt at is was =
+    ap (λ ys. ys ++ cons_option o []) was ∙ ap (λ o. filter_map f (take i xs) ++ cons_option o []) (sym is)
+    ∙ sym (filter_map-append f (take i xs) (x ∷ []))
+    ∙ ap (filter_map f) (ap (λ y. take i xs ++ y ∷ []) (sym at) ∙ sym (take-suc xs i x lt) ∙ ap (λ n. take n xs) (sym (add-one i)))
+
+-- the next of those that are left
+pub made_more : {X Y : Type 0} (f : X → Y) (all items new : List Y) (left rest : List X) (x : X) (y : Y) → left ≡ x ∷ rest → new ≡ items ++ y ∷ [] → y ≡ f x
+    → all ≡ items ++ map f left → all ≡ new ++ map f rest
+made_more f all items new left rest x y next is made was =
+    was ∙ ap (λ xs. items ++ map f xs) next ∙ sym (append_assoc items (f x ∷ []) (map f rest)) ∙ ap (λ ys. ys ++ map f rest) (ap (λ z. items ++ z ∷ []) (sym made) ∙ sym is)
+
+-- none is left
+pub made_all : {X Y : Type 0} (f : X → Y) (all items : List Y) (left : List X) → left ≡ [] → all ≡ items ++ map f left → items ≡ all
+made_all f all items left none was = sym (was ∙ ap (λ xs. items ++ map f xs) none ∙ append-nil items)

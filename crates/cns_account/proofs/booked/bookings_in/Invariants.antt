@@ -1,0 +1,6 @@
+use Rattle.std.proofs.Common.{◌≡◌, filter_map, take}
+use Rattle.cns_account.specs.Rows.{booking_in}
+use Rattle.cns_account.proofs.booked.bookings_in.Given as goal
+
+abbrev pub invariant-loop-line : goal.invariant-loop-line
+invariant-loop-line l = l.bookings.items ≡ filter_map booking_in (take l.line-index l.lines)

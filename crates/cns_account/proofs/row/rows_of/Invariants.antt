@@ -1,0 +1,9 @@
+use Rattle.std.proofs.Common.{◌≡◌, ◌++◌, map}
+use Rattle.cns_terms.specs.Sheets.{rows_for}
+use Rattle.cns_book.specs.Log.{state_of}
+use Rattle.cns_account.specs.Rows.{account_row}
+use Rattle.cns_account.proofs.row.rows_of.Given as goal
+
+abbrev pub invariant-loop-row : goal.invariant-loop-row
+invariant-loop-row l =
+    map (account_row (state_of l.book.log) l.lines) (rows_for l.sheet.rows l.fn.account) ≡ l.rows.items ++ map (account_row (state_of l.book.log) l.lines) l.row-iterator

@@ -1,0 +1,102 @@
+-- The rows of an account's day, and their texts.
+use Rattle.std.specs.Prelude.{ℕ, ℤ, pos, ◌+ℤ◌, ◌-ℤ◌, ◌*ℤ◌, int_lt, List, [], ◌∷◌, ◌++◌, Option, Some, None, if◌then◌else◌}
+use Rattle.std.specs.Fmt.{decimal}
+use Rattle.std.specs.Int.{int_wrap, w128}
+use Rattle.std.specs.List.{fold}
+use Rattle.cns_terms.specs.Common.{Price, State}
+use Rattle.cns_terms.specs.declared.sheet.Row.{Row}
+use Rattle.cns_history.specs.Lines.{standing}
+use Rattle.cns_history.specs.Words.{what_text}
+use Rattle.cns_history.specs.declared.line.Booking.{Booking}
+use Rattle.cns_history.specs.declared.line.HistoryLine.{HistoryLine}
+use Rattle.cns_history.specs.declared.line.HistoryLine.TheVariants as line
+use Rattle.cns_tables.specs.Escape.{escaped}
+use Rattle.cns_tables.specs.Pieces.{piece_text}
+use Rattle.cns_tables.specs.Tables.{row_of, texts}
+use Rattle.cns_tables.specs.declared.piece.Piece.TheVariants as piece
+use Rattle.cns_tables.specs.declared.table.TheConstants.{CELL, ROW}
+use Rattle.cns_account.specs.Moves.{moves_of}
+use Rattle.cns_account.specs.declared.booked.Booked.{Booked}
+use Rattle.cns_account.specs.declared.booked.TheConstants.{END}
+use Rattle.cns_account.specs.declared.mark.MarkRow.{MarkRow}
+use Rattle.cns_account.specs.declared.moves.Moved.{Moved}
+use Rattle.cns_account.specs.declared.row.AccountRow.{AccountRow}
+use Rattle.cns_account.specs.declared.totals.Totals.{Totals}
+
+-- ---- the rows
+
+-- a row of the sheet, with what moved it among the lines of the day, and the age that the book shows
+abbrev pub account_row : State → List HistoryLine → Row → AccountRow
+account_row S ls r = record { row = r; moves = moves_of r.issue ls; age = (standing S (record { account = r.account; issue = r.issue })).run }
+
+-- the same for the table of marks
+abbrev pub mark_row : AccountRow → MarkRow
+mark_row r = record { line = r }
+
+-- the booking of a line; None of a close's own line
+abbrev pub booking_in : HistoryLine → Option Booked
+booking_in (line.Booking b) = Some (record { booking = b })
+booking_in (line.Closing c) = None
+
+-- ---- amounts
+
+-- what the closing position is worth at the close's price
+unfoldable pub worth : Row → ℤ
+worth r = r.closing *ℤ pos r.price
+
+-- what the change of price since the close before is worth on the opening position
+unfoldable pub moved : Row → ℤ
+moved r = r.opening *ℤ (pos r.price -ℤ pos r.opening_price)
+
+-- what a movement brings to the mark: its shares at the price, and its cents, as much as fits 128 bits
+unfoldable pub valued : Price → Moved → ℤ
+valued p m = int_wrap w128 (m.shares *ℤ pos p +ℤ m.cents)
+
+-- ---- what the positions are worth
+
+-- a row more, as much of the sums as fits
+abbrev pub with_row : Totals → AccountRow → Totals
+with_row t r =
+    let net = int_wrap w128 (t.net +ℤ worth r.row) in
+    if int_lt r.row.closing (pos 0) then record t { short = int_wrap w128 (t.short +ℤ worth r.row); net = net }
+    else record t { long = int_wrap w128 (t.long +ℤ worth r.row); net = net }
+
+-- all rows, one after another
+abbrev pub totals_of : List AccountRow → Totals
+totals_of rs = fold with_row (record { long = pos 0; short = pos 0; net = pos 0 }) rs
+
+-- ---- texts
+
+-- a position: opening, the five movements, closing, closes short, price, value, mark and dividend
+abbrev pub position_text : AccountRow → List ℕ
+position_text r =
+    row_of ROW.now (piece.Issue r.row.issue)
+    (piece.Signed r.row.opening ∷ piece.Signed r.moves.trades.shares ∷ piece.Signed r.moves.delivered.shares
+    ∷ piece.Signed r.moves.received.shares ∷ piece.Signed r.moves.actions.shares ∷ piece.Signed r.moves.buy_ins.shares
+    ∷ piece.Signed r.row.closing ∷ piece.Number r.age ∷ piece.Amount (pos r.row.price) ∷ piece.Amount (worth r.row)
+    ∷ piece.Amount r.row.mark ∷ piece.Amount r.row.dividend ∷ [])
+
+-- a mark: the two prices, the price change, what each movement brings, the mark, and the settling money
+abbrev pub mark_text : MarkRow → List ℕ
+mark_text m =
+    let r = m.line.row in
+    let moves = m.line.moves in
+    row_of ROW.now (piece.Issue r.issue)
+    (piece.Amount (pos r.opening_price) ∷ piece.Amount (pos r.price) ∷ piece.Amount (moved r)
+    ∷ piece.Amount (valued r.price moves.trades) ∷ piece.Amount (valued r.price moves.delivered)
+    ∷ piece.Amount (valued r.price moves.received) ∷ piece.Amount (valued r.price moves.actions)
+    ∷ piece.Amount (valued r.price moves.buy_ins) ∷ piece.Amount r.mark ∷ piece.Amount r.money ∷ [])
+
+-- the number and the issue of what a record booked
+unfoldable pub begin_text : Booking → List ℕ
+begin_text b = texts (ROW.now ∷ decimal b.number ∷ CELL.now ∷ escaped b.issue ∷ CELL.now ∷ [])
+
+-- its shares, cents and the position after it
+unfoldable pub figures_text : Booking → List ℕ
+figures_text b =
+    texts (CELL.now ∷ piece_text (piece.Signed b.shares) ∷ CELL.now ∷ piece_text (piece.Amount b.cents) ∷ CELL.now
+    ∷ piece_text (piece.Signed b.position) ∷ END.now ∷ [])
+
+-- what a record booked: its number, the issue, what it was, shares, cents and the position after it
+abbrev pub booked_text : Booked → List ℕ
+booked_text x = let b = x.booking in begin_text b ++ (what_text b.account b.activity ++ figures_text b)

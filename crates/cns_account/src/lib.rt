@@ -1,0 +1,23 @@
+//! What a closed day did to an account: its rows of the sheet with what moved them, by cause, and what its marks come from.
+//!
+//! `account_day` gathers it, of the book as the close left it, the day's sheet and the lines of what the day's records booked
+//! for the account (`bookings` of `cns_history`); its clause `IsAccountDay` says that the rows are those of the account's
+//! statement, in order, and that each movement is the sum of the bookings of its cause. `TableRow` says how each is written,
+//! and `tables.rt` has their captions. Start with `day.rt`.
+#![tactic(auto)]
+
+mod booked;
+mod day;
+mod mark;
+mod moves;
+mod row;
+mod tables;
+mod totals;
+
+pub use booked::Booked;
+pub use day::{AccountDay, account_day};
+pub use mark::{MarkRow, price_move};
+pub use moves::{Moved, Moves, wrapped_shares};
+pub use row::AccountRow;
+pub use tables::{BOOKINGS, MARKS, POSITIONS};
+pub use totals::Totals;

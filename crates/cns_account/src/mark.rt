@@ -1,0 +1,72 @@
+// How the marks of an account come about.
+ghost use Rattle.std.specs.Prelude.{◌≡◌, IfOk, map};
+ghost use Rattle.cns_account.specs.Rows.{mark_row, moved, valued};
+
+use crate::moves::{Moved, wrapped_sum};
+use crate::row::AccountRow;
+use cns_tables::{Piece, ROW, TableRow, cents_of, write_line};
+use cns_terms::{NoMemory, Row};
+use cns_units::{Cents, Price, WriteFault};
+use std::alloc::Global;
+use std::io::Write;
+
+/// A row of the sheet, as the table of marks has it: what the price did to the opening position, and each movement at the price of
+/// the close, with its money.
+#[derive(Clone, Copy)]
+pub struct MarkRow {
+    pub line: AccountRow,
+}
+
+/// What the change of price since the close before is worth on the opening position, in cents: below 10^28 either way.
+#[tactic(auto, unfolding(crate::specs::Rows::moved))]
+pub fn price_move(row: &Row) -> Cents
+    ensures { result ≡ moved row.now }
+{
+    let change = i128::from(row.price.value()) - i128::from(row.opening_price.value());
+    Cents::of(i128::from(row.opening) * change)
+}
+
+// What a movement brings to the mark, in cents: its shares at a price, and its cents. It is exact where it fits 128 bits, as it does
+// on each day of a book.
+#[tactic(auto, unfolding(crate::specs::Rows::valued))]
+fn valued(moved: &Moved, price: Price) -> Cents
+    ensures { result ≡ valued price moved.now }
+{
+    let worth = Cents::of(i128::from(moved.shares) * i128::from(price.value()));
+    wrapped_sum(worth, moved.cents)
+}
+
+/// The rows of the table of marks, of an account's rows.
+pub(crate) fn marks_of(alloc: Global, rows: &[AccountRow]) -> Result<Vec<MarkRow>, NoMemory>
+    ensures { IfOk result (λ v. v.items ≡ map mark_row rows.now) }
+{
+    let mut marks = Vec::new(alloc);
+    for row in rows {
+        marks.push(MarkRow { line: *row })?;
+    }
+    Ok(marks)
+}
+
+impl TableRow for MarkRow {
+    ghost use Rattle.cns_account.specs.Rows.{mark_text};
+
+    ghost text = { mark_text };
+
+    fn write_row<W: Write>(&self, writer: &mut W) -> Result<(), WriteFault> {
+        let row = &self.line.row;
+        let moves = &self.line.moves;
+        let cells = [
+            Piece::Amount(cents_of(row.opening_price.value())),
+            Piece::Amount(cents_of(row.price.value())),
+            Piece::Amount(price_move(row)),
+            Piece::Amount(valued(&moves.trades, row.price)),
+            Piece::Amount(valued(&moves.delivered, row.price)),
+            Piece::Amount(valued(&moves.received, row.price)),
+            Piece::Amount(valued(&moves.actions, row.price)),
+            Piece::Amount(valued(&moves.buy_ins, row.price)),
+            Piece::Amount(row.mark),
+            Piece::Amount(row.money),
+        ];
+        write_line(ROW, &Piece::Issue(row.issue), &cells, writer)
+    }
+}

@@ -1,0 +1,90 @@
+// The positions of an account on a day.
+ghost use Rattle.std.specs.Prelude.{◌≡◌, IfOk, map};
+ghost use Rattle.cns_terms.specs.Sheets.{rows_for};
+ghost use Rattle.cns_book.specs.Log.{state_of};
+ghost use Rattle.cns_account.specs.Rows.{account_row, worth};
+
+use crate::moves::{Moves, moves_of};
+use cns_feed::ReplayBook;
+use cns_history::{HistoryLine, standing};
+use cns_sheets::Sheet;
+use cns_tables::{Piece, ROW, TableRow, cents_of, write_line};
+use cns_terms::{Key, NoMemory, Row};
+use cns_units::{Account, Cents, WriteFault};
+use std::alloc::Global;
+use std::io::Write;
+
+/// An account's row of a day's sheet, with what moved the position.
+#[derive(Clone, Copy)]
+pub struct AccountRow {
+    pub row: Row,
+    pub moves: Moves,
+    /// At how many closes in a row, this one the last, the position was short.
+    pub age: u32,
+}
+
+/// What the closing position is worth at the close's price, in cents.
+#[tactic(auto, unfolding(crate::specs::Rows::worth))]
+pub(crate) fn worth(row: &Row) -> Cents
+    ensures { result ≡ worth row.now }
+{
+    Cents::of(i128::from(row.closing) * i128::from(row.price.value()))
+}
+
+// A row, with what moved its position among lines.
+fn account_row(book: &ReplayBook, lines: &[HistoryLine], row: &Row) -> AccountRow
+    ensures { result ≡ account_row (state_of book.now.log) lines.now row.now }
+{
+    let key = Key {
+        account: row.account,
+        issue: row.issue,
+    };
+    AccountRow {
+        row: *row,
+        moves: moves_of(&row.issue, lines),
+        age: standing(book, &key).run,
+    }
+}
+
+/// An account's rows of a day's sheet, with what moved their positions among the lines of the day; of the book as the close
+/// left it.
+pub(crate) fn rows_of(
+    alloc: Global,
+    book: &ReplayBook,
+    sheet: &Sheet<Global>,
+    account: Account,
+    lines: &[HistoryLine],
+) -> Result<Vec<AccountRow>, NoMemory>
+    ensures { IfOk result (λ v. v.items ≡ map (account_row (state_of book.now.log) lines.now) (rows_for sheet.now.rows account)) }
+{
+    let mut rows = Vec::new(alloc);
+    for row in sheet.rows_of(account) {
+        rows.push(account_row(book, lines, &row))?;
+    }
+    Ok(rows)
+}
+
+impl TableRow for AccountRow {
+    ghost use Rattle.cns_account.specs.Rows.{position_text};
+
+    ghost text = { position_text };
+
+    fn write_row<W: Write>(&self, writer: &mut W) -> Result<(), WriteFault> {
+        let row = &self.row;
+        let cells = [
+            Piece::Signed(row.opening),
+            Piece::Signed(self.moves.trades.shares),
+            Piece::Signed(self.moves.delivered.shares),
+            Piece::Signed(self.moves.received.shares),
+            Piece::Signed(self.moves.actions.shares),
+            Piece::Signed(self.moves.buy_ins.shares),
+            Piece::Signed(row.closing),
+            Piece::Number(u64::from(self.age)),
+            Piece::Amount(cents_of(row.price.value())),
+            Piece::Amount(worth(row)),
+            Piece::Amount(row.mark),
+            Piece::Amount(row.dividend),
+        ];
+        write_line(ROW, &Piece::Issue(row.issue), &cells, writer)
+    }
+}
