@@ -182,6 +182,6 @@ picture:
 	    $(PAGE) --open $(OPENING) --day 2024-06-05 < examples/week.csv > "$$room/day.html"; \
 	    sandbox=; [ "$$(id -u)" != 0 ] || sandbox=--no-sandbox; \
 	    $(CHROMIUM) --headless $$sandbox --disable-gpu --hide-scrollbars --user-data-dir="$$room/profile" \
-	        --window-size=1100,1117 --screenshot="$$room/day.png" "file://$$room/day.html" 2> "$$room/log" \
+	        --window-size=1280,1117 --screenshot="$$room/day.png" "file://$$room/day.html" 2> "$$room/log" \
 	        || { cat "$$room/log" >&2; exit 1; }; \
 	    cp "$$room/day.png" docs/day.png

@@ -194,12 +194,13 @@ def errors_that_cannot_be_written_change_no_status(play):
 
 def a_page_ends_likewise(play, page):
     text = "MEMBER,1\nCLOSE,2024-06-04\nMEMBER,1\n"
-    whole = page(OPEN, text).output.decode()
-    check(whole.endswith("</html>\n") and page(OPEN, text, STEP=7, SIGNALS=1).tells(0, whole, ""), "a page in small writes")
-    check(page(OPEN, text, BROKEN=0).tells(1, "", "fault Read\n"), "a page of records that cannot be read")
-    for room in (0, 1, 3000, len(whole) - 1):
-        run = page(OPEN, text, ROOM=room)
-        check(run.tells(1, whole[:room], "fault Write\n"), f"a page with room for {room} bytes")
+    for what, words in (("a page", OPEN), ("an account's page", [*OPEN, "--account", "1"])):
+        whole = page(words, text).output.decode()
+        check(whole.endswith("</html>\n") and page(words, text, STEP=7, SIGNALS=1).tells(0, whole, ""), f"{what} in small writes")
+        check(page(words, text, BROKEN=0).tells(1, "", "fault Read\n"), f"{what} of records that cannot be read")
+        for room in (0, 1, 3000, len(whole) - 1):
+            run = page(words, text, ROOM=room)
+            check(run.tells(1, whole[:room], "fault Write\n"), f"{what} with room for {room} bytes")
 
 
 def main(program, page):

@@ -9,16 +9,16 @@ import hashlib
 import html
 import re
 
-from recompute import CORPORATION, Book, dollars, ended_records, records
+from recompute import CORPORATION, Book, ended_records, records
 
 # ---- what a page shows --------------------------------------------------------------------------------------------
 
 HEAD = re.compile(
-    r"<h1>Closed day (\S+)</h1>\s*<p>Day (\d+) of the book, as its close left it: records (\d+) to (\d+); exceptions: (\d+)\."
+    r"<h1>Closed day (\S+)</h1>\s*<p>Day (\d+) of the book, as its close left it: records (\d+) to (\d+); exceptions: ([\d,]+)\."
     r" The next day is (\S+)\.</p>"
 )
 OPEN = re.compile(
-    r"<h1>Open day (\S+)</h1>\s*<p>Day (\d+) of the book so far\. Records after number (\d+): (\d+); exceptions: (\d+)\.</p>"
+    r"<h1>Open day (\S+)</h1>\s*<p>Day (\d+) of the book so far\. Records after number (\d+): ([\d,]+); exceptions: ([\d,]+)\.</p>"
 )
 PAST = re.compile(
     r"<h1>History of account (\d+) in (\S+)</h1>\s*<p>A book that opened on (\S+), from its first record to record (\d+)\."
@@ -65,6 +65,16 @@ def past_shown(page):
 # ---- what it has to show ------------------------------------------------------------------------------------------
 
 
+def count(number):
+    """A number of shares or of other things, with commas between thousands."""
+    return f"{number:,}"
+
+
+def dollars(cents):
+    """An amount, with commas between thousands."""
+    return f"{'-' if cents < 0 else ''}{abs(cents) // 100:,}.{abs(cents) % 100:02}"
+
+
 class Day:
     """The day that a book has just closed."""
 
@@ -89,7 +99,7 @@ class Day:
             last = account
             money, mark, moves, rest, dividend = map(dollars, self.sums([row]))
             prices = dollars(row.opening_price), dollars(row.price)
-            yield [row.issue.decode(), row.opening, row.closing, *prices, money, mark, moves, rest, dividend]
+            yield [row.issue.decode(), count(row.opening), count(row.closing), *prices, money, mark, moves, rest, dividend]
 
     def shorts(self):
         return [(account, it) for account, it in self.rows if account != CORPORATION and it.closing < 0]
@@ -97,29 +107,29 @@ class Day:
     def fails(self):
         aged = [(self.book.age(account, it.issue, self.day), account, it) for account, it in self.shorts()]
         for age, account, row in sorted(aged, key=lambda it: -it[0]):
-            yield [row.issue.decode(), account, age, row.opening, row.closing]
+            yield [row.issue.decode(), account, age, count(row.opening), count(row.closing)]
 
     def liable(self):
         for day in range(max(self.day - 1, 1), self.day + 1):
             for it in self.book.liable(day):
-                yield [it.issue.decode(), day, it.member, it.age, it.shares, it.shares - self.book.filled(it, day)]
+                yield [it.issue.decode(), day, it.member, it.age, count(it.shares), count(it.shares - self.book.filled(it, day))]
 
     def notices(self):
         for it in self.book.notices():
             if self.book.is_live(it):
-                yield [it.issue.decode(), it.number, it.member, it.shares, it.day, self.book.remaining(it), it.day + 2]
+                shares = count(it.shares), count(self.book.remaining(it))
+                yield [it.issue.decode(), it.number, it.member, shares[0], it.day, shares[1], it.day + 2]
 
     def projection(self):
         trades = [it.values for it in self.book.of_kind("TRADE") if it.values[-1] > self.date]
         for *values, settles in sorted(trades, key=lambda it: it[-1]):
             reference, buyer, seller, issue, shares, money = values
             state = "booked" if settles <= self.next else "pending"
-            yield [settles, reference, buyer, seller, issue.decode(), shares, dollars(money), state]
-
+            yield [settles, reference, buyer, seller, issue.decode(), count(shares), dollars(money), state]
 
     def line(self):
         """Its line among the last days: the sum of the amounts of its marks, and how many members' positions are short."""
-        return [self.date, self.day, dollars(sum(abs(it.mark) for _, it in self.rows)), len(self.shorts())]
+        return [self.date, self.day, dollars(sum(abs(it.mark) for _, it in self.rows)), count(len(self.shorts()))]
 
     def tables(self):
         """The tables that are of the book alone."""
@@ -144,8 +154,8 @@ def exceptions(found):
     """The first exceptions of a day, and how many there are of each kind."""
     for number, why in found[:MOST_EXCEPTIONS]:
         yield ["exceptions", number, f"Refused {why}" if why else KINDS[0]]
-    for why, count in sorted(collections.Counter(why for _, why in found).items()):
-        yield ["reasons", f"Refused {why}, {KINDS[why]}" if why else KINDS[0], count]
+    for why, times in sorted(collections.Counter(why for _, why in found).items()):
+        yield ["reasons", f"Refused {why}, {KINDS[why]}" if why else KINDS[0], count(times)]
 
 
 class Input:
@@ -172,9 +182,9 @@ class Input:
         own = self.of(start, end)
         rows = [*exceptions(own), *tables]
         for since, to in ((0, start), (start, end), (0, end)):
-            rows.append(["totals", to - since, len(self.of(since, to))])
+            rows.append(["totals", count(to - since), count(len(self.of(since, to)))])
         foot = ["foot", size, hashlib.sha256(self.text[:size]).hexdigest(), len(rows)]
-        return [" ".join(map(str, it)) for it in (["head", *head, len(own)], *rows, foot)]
+        return [" ".join(map(str, it)) for it in (["head", *head, count(len(own))], *rows, foot)]
 
 
 def days_of(text, opening):
@@ -187,7 +197,7 @@ def days_of(text, opening):
         page[0] += f" {day.next}"
         yield day.date, page
     start = whole.closes[-1][0]
-    head = [whole.book.date_today(), whole.book.today(), start, whole.last - start]
+    head = [whole.book.date_today(), whole.book.today(), start, count(whole.last - start)]
     yield "today", whole.page(head, start, whole.last, len(text), [])
 
 
@@ -204,13 +214,13 @@ def past_of(text, opening, account, issue, day=None):
             if row.opening or row.closing or row.cents or row.dividend:
                 amounts = dollars(row.cents), dollars(row.price), dollars(row.closing * row.price), dollars(row.mark)
                 age = book.age(account, issue, closed)
-                rows.append([last, book.date_of(closed), "", "", row.closing, *amounts, age, dollars(row.dividend)])
+                rows.append([last, book.date_of(closed), "", "", count(row.closing), *amounts, age, dollars(row.dividend)])
         if now != stood:
-            shares, cents = now[0] - stood[0], now[1] - stood[1]
-            rows.append([last, book.date_today(), shares, dollars(cents), now[0], dollars(now[1]), "", "", "", "", ""])
+            moved, after = [(count(shares), dollars(cents)) for shares, cents in ((now[0] - stood[0], now[1] - stood[1]), now)]
+            rows.append([last, book.date_today(), *moved, *after, "", "", "", "", ""])
         stood = now
         if closed and book.date_of(closed) == day:
             break
     known = issue in book.issues() and account in [CORPORATION] + book.members()
-    head = [account, issue.decode(), opening, last, book.position(account, issue) if known else "none"]
+    head = [account, issue.decode(), opening, last, count(book.position(account, issue)) if known else "none"]
     return [" ".join(map(str, it)) for it in [head, *rows]]

@@ -8,8 +8,8 @@ usage: tests/fuzz.py PROGRAM PAGE [--seconds N]
 
 tests/streams.py makes a stream by a seed, which is told, so that a difference can be seen again. Each is replayed by the
 program; a third is taken by `statements` of each closed day and of others, a third by `run` over one to four files, and a
-third by the pages of each closed day and of the open one, whose figures are read off them. A difference is cut down to few records, which are printed
-with both answers, and the status is 1.
+third by the pages of each closed day, of the open one, of some accounts on some days and of some histories, whose figures
+are read off them. A difference is cut down to few records, which are printed with both answers, and the status is 1.
 
 Seeds rise from a random one for so many seconds, 20 where none are given. With --seeds they are the same each time. With
 --reach these streams together must reach all that stands in tests/reached.py: how often they do is told, and the status is 1
@@ -30,6 +30,7 @@ import sys
 import tempfile
 import time
 
+import accounts
 import figures
 import reached
 import recompute
@@ -207,20 +208,71 @@ def answers_pages(page, play):
         got = recompute.written(figures.shown(output)) if status == 0 else output
         yield f"a page of {'the open' if day == 'today' else 'a closed'} day", (recompute.written(lines), b"", 0), (got, errors, status)
     yield from answers_histories(page, play)
+    yield from answers_accounts(page, play)
+
+
+def page_of(page, play, day, account, issue=None):
+    """What the program writes of an account, or of its position in an issue; of the last record or close where no day is given."""
+    words = ["--open", str(play.opening), "--account", str(account)]
+    words += ["--issue", issue.decode()] if issue else []
+    return run(page, words + (["--day", str(day)] if day else []), play.text)
+
+
+def stranger(book):
+    """An account that is nobody's."""
+    return next(it for it in range(9999, 0, -1) if it not in book.members())
 
 
 def answers_histories(page, play):
-    """The figures of the histories of some accounts in some issues, up to the first close and to the last record."""
-    accounts, issues = [0, *play.book.members()[:2]], [*play.book.issues()[:2], b"000000000"]
-    asked = [(9999, b"000000000", None), *((account, issues[0], None) for account in accounts)]
-    if play.book.today() > 1:
-        asked.append((accounts[-1], issues[len(issues) // 2], play.book.date_of(1)))
-    for account, issue, day in asked:
-        words = ["--open", str(play.opening), "--account", str(account), "--issue", issue.decode()]
-        output, errors, status = run(page, words + (["--day", str(day)] if day else []), play.text)
+    """The figures of some histories; there is none of nobody, and none in an issue that is not listed."""
+    issues = play.book.issues()
+    if issues:
+        due = b"", b"fault NoSuchMember\n", 1
+        yield "a history of nobody", due, page_of(page, play, None, stranger(play.book), issues[0])
+    if NOT_LISTED not in issues:
+        yield "a history of no issue", (b"", b"fault NoSuchIssue\n", 1), page_of(page, play, None, 0, NOT_LISTED)
+    for account, issue, day in histories_asked(play):
+        output, errors, status = page_of(page, play, day, account, issue)
         got = recompute.written(figures.past_shown(output)) if status == 0 else output
         due = figures.past_of(play.text, play.opening, account, issue, day)
         yield "a history", (recompute.written(due), b"", 0), (got, errors, status)
+
+
+NOT_LISTED = b"000000000"
+
+
+def histories_asked(play):
+    """Some accounts in the first issue, up to the last record; and one in the last issue of the first close, up to that."""
+    accounts_of = [recompute.CORPORATION, *play.book.members()[:2]]
+    asked = [(account, issue, None) for account in accounts_of for issue in play.book.issues()[:1]]
+    if play.book.today() > 1:
+        then = accounts.Days(play).closed(1).book
+        last = [recompute.CORPORATION, *then.members()][-1]
+        asked += [(last, issue, then.opening) for issue in then.issues()[-1:]]
+    return asked
+
+
+def answers_accounts(page, play):
+    """The figures of the pages of some accounts on some closed days, and what stands on them; there is none of nobody."""
+    days, rng = accounts.Days(play), random.Random(play.seed)
+    for number in rng.sample(range(1, play.book.today()), min(play.book.today() - 1, 3)):
+        day = days.closed(number)
+        if day.book.issues():
+            due = b"", b"fault NoSuchMember\n", 1
+            yield "an account's page of nobody", due, page_of(page, play, day.date, stranger(day.book))
+        for account in accounts_asked(day, rng):
+            output, errors, status = page_of(page, play, day.date, account)
+            got = recompute.written(accounts.shown(output)) if status == 0 else output
+            lines = days.page(day, account)
+            for what in ["", *(f" with {it}" for it in accounts.stands_on(lines))]:
+                yield f"an account's page{what}", (recompute.written(lines), b"", 0), (got, errors, status)
+
+
+def accounts_asked(day, rng):
+    """The corporation, a member of a closed day, and one that has no row on its sheet."""
+    members, owners = day.book.members(), {account for account, _ in day.rows}
+    any_one, without = rng.sample(members, min(len(members), 1)), [it for it in members if it not in owners][:1]
+    return sorted({recompute.CORPORATION, *any_one, *without})
 
 
 def difference(answers, program, play):

@@ -55,13 +55,18 @@ done
 [ -s cnsbook.output ] || fail 'the examples of cnsbook.1 wrote nothing'
 [ -s day.html ] || fail 'the examples of cnspage.1 wrote nothing'
 
-# Each fault of the formats is in the page.
-words "$man/cnsbook.1" > cnsbook.words
-sed -n 's/^| `\(fault [A-Za-z]*\|worker K [A-Za-z]*\).*/\1/p' "$top/docs/formats.md" > faults
-[ -s faults ] || fail 'the formats have no faults'
-while read -r fault; do
-    grep -qF "$fault" cnsbook.words || fail "cnsbook.1 does not have '$fault'"
-done < faults
+# Each fault of the formats is in the page of its program; those of cnspage stand below its heading.
+has_faults() {
+    words "$man/$1.1" > "$1.words"
+    sed -n 's/^| `\(fault [A-Za-z]*\|worker K [A-Za-z]*\).*/\1/p' > "$1.faults"
+    [ -s "$1.faults" ] || fail "the formats have no faults of $1"
+    while read -r fault; do
+        grep -qF "$fault" "$1.words" || fail "$1.1 does not have '$fault'"
+    done < "$1.faults"
+}
+heading='## The page of a day'
+has_faults cnsbook < <(sed "/^$heading/,\$d" "$top/docs/formats.md")
+has_faults cnspage < <(sed -n "/^$heading/,\$p" "$top/docs/formats.md")
 
 readers=
 if command -v man > /dev/null; then

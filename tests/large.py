@@ -19,7 +19,9 @@ ISSUE, OTHER = "17275R102", "594918104"
 
 # What stands on the page of many things, and how often: the first 200 exceptions, and the counts of all. Member 1 has sold its
 # share, so its notice is refused too.
-PAGE_MARKS = {b"<td><code>": 200, b"member exists<td>1000\n": 1, b"not long<td>1\n": 1}
+PAGE_MARKS = {b"<td><code>": 200, b"member exists<td>1,000\n": 1, b"not long<td>1\n": 1}
+# And on that of member 2000, which has sold a share to each of a thousand: their seller, once short and once liable.
+OWN_MARKS = {b"<td>2000<td>": 1_002, b"<td>-999<td>-1,000<td>-1,999<td>-1,999\n": 1}
 
 
 def cusip(number):
@@ -315,11 +317,18 @@ def page(program):
         it.trade(member, 2_000, ISSUE, 1, day=101)
     it.accept(*["PRICE,17275R102,100"] * 60_000)
     it.close(100, 2_000)
-    run = subprocess.run([program, "--open", date(1), "--day", date(100)], input=text(it.records), capture_output=True)
-    counts = [run.stdout.count(mark) for mark in PAGE_MARKS]
-    if run.returncode or run.stderr or not run.stdout.endswith(b"</html>\n") or counts != list(PAGE_MARKS.values()):
-        sys.exit(f"large: a page: status {run.returncode}, {run.stderr[:200]!r}, counts {counts}")
-    print("large: a page of a hundred days and a thousand refused records")
+    words = [program, "--open", date(1), "--day", date(100)]
+    look("a page of a hundred days and a thousand refused records", words, it.records, PAGE_MARKS)
+    look("a page of an account with a thousand pending trades", [*words, "--account", "2000"], it.records, OWN_MARKS)
+
+
+def look(name, words, records, marks):
+    """Looks for what stands on a page."""
+    run = subprocess.run(words, input=text(records), capture_output=True)
+    counts = [run.stdout.count(mark) for mark in marks]
+    if run.returncode or run.stderr or not run.stdout.endswith(b"</html>\n") or counts != list(marks.values()):
+        sys.exit(f"large: {name}: status {run.returncode}, {run.stderr[:200]!r}, counts {counts}")
+    print(f"large: {name}")
 
 
 def main():

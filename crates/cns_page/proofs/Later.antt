@@ -1,5 +1,5 @@
 -- The trades of a history that wait, entry by entry.
--- For `gather` of projection.rt.
+-- For `gather` of projection.rt, `first` and `waiting` of sought.rt.
 use Rattle.std.proofs.Common.{◌≡◌, ◌∙◌, sym, ap, ℕ, zero, suc, ◌+◌, ◌-◌, ◌^◌, ◌≤◌, ◌<◌, List, [], ◌∷◌, ◌++◌, Option, Some, None, append-nil, take, reverse, slice_get, not, filter, arith}
 use Rattle.std.specs.Option.{option_to_list}
 use Rattle.std.proofs.lemmas.List.Elements.{filter-append, filter_map-append}
@@ -17,7 +17,7 @@ later_append today ts us =
     ∙ filter-append (λ t. not (is_not_after t.date today)) (trades_among ts) (trades_among us)
 
 -- an entry by its place
-entry_there : (H : List Taken) (place : ℕ) → 1 ≤ place → entry_at H place ≡ slice_get (reverse H) (place - 1)
+pub entry_there : (H : List Taken) (place : ℕ) → 1 ≤ place → entry_at H place ≡ slice_get (reverse H) (place - 1)
 entry_there H zero le = absurd (omega arith)
 entry_there H (suc k) le = let e : k ≡ suc k - 1 = omega arith in ap (slice_get (reverse H)) e
 

@@ -10,5 +10,7 @@ pub mod Lined
 pub mod Numbering
 pub mod Ordered
 pub mod Later
+pub mod SoughtLemmas
 pub mod Oldest
 pub mod MakeLemmas
+pub mod Projecting

@@ -1,20 +1,26 @@
 -- A page that was made, whatever the input is.
--- For `survey_of`, `write_day`, `write_open`, `write_closed`, `records_of`, `write_past` and `make` of make.rt, `make_of` of entry.rt.
-use Rattle.std.proofs.Common.{◌≡◌, ◌≤◌, ◌∙◌, ap, ℕ, List, Option, Some, None, Result, Ok, Err, IfSome, OnOk, length, take, slice_get, refl}
+-- For `survey_of`, `write_day`, `write_open`, `write_closed`, `write_own_day`, `write_own`, `records_of`, `write_past` and `make` of make.rt, `make_of` of entry.rt.
+use Rattle.std.proofs.Common.{◌≡◌, ◌≤◌, ◌-◌, ◌∙◌, ap, ℕ, List, Option, Some, None, Result, Ok, Err, IfSome, OnOk, filter, length, take, slice_get, refl}
 use Rattle.std.proofs.lemmas.List.{take_all}
-use Rattle.cns_terms.specs.Common.{Day, DaySheet, journal_of, opened}
+use Rattle.cns_terms.specs.Common.{Account, Day, DaySheet, journal_of, opened}
 use Rattle.cns_terms.specs.Sheets.{sheet_on}
 use Rattle.cns_book.specs.Log.{Log, state_of}
 use Rattle.cns_feed.specs.Line.{Line}
 use Rattle.cns_feed.specs.Output.{lines_of}
-use Rattle.cns_terms.specs.declared.holding.Key.{Key}
+use Rattle.cns_history.specs.Lines.{history}
 use Rattle.cns_history.specs.Page.{HasHistory}
+use Rattle.cns_history.specs.declared.line.HistoryLine.{HistoryLine}
 use Rattle.cns_history.specs.declared.place.Place.{Place}
+use Rattle.cns_history.specs.declared.watched.Watched.TheVariants as watched
 use Rattle.cns_page.specs.Listed.{records_before}
-use Rattle.cns_page.specs.Shown.{HasClosed, HasDay, HasPage, HasPast, HasShown, IsOfRecords, ShowsDay}
+use Rattle.cns_page.specs.Account.{ShowsAccount, names}
+use Rattle.cns_page.specs.Asked.{HasOwn, HasOwnDay, HasPage, HasPast, HasShown, IsOfRecords}
+use Rattle.cns_page.specs.Shown.{HasClosed, HasDay, ShowsDay}
 use Rattle.cns_page.specs.Survey.{ComesTo, IsChosen, Known, known, noted_all, nothing}
 use Rattle.cns_page.specs.Today.{HasToday, ShowsToday}
+use Rattle.cns_page.specs.declared.asked.About.{About}
 use Rattle.cns_page.specs.declared.asked.Asked.{Asked}
+use Rattle.cns_page.specs.declared.finding.Finding.{Finding}
 use Rattle.cns_page.specs.declared.survey.Close.{Close}
 use Rattle.cns_page.specs.declared.survey.Survey.{Survey}
 
@@ -46,6 +52,23 @@ pub closed_made : {T E : Type 0} (r : Result T E) (opening : Day) (input : List 
 closed_made (Err e) opening input closes day place close old new chosen there shown = tt
 closed_made (Ok x) opening input closes day place close old new chosen there shown = record { place = place; chosen = chosen; close = close; there = there; shown = shown }
 
+-- what a day did to an account was written, by what a play came to
+pub own_day_made : {T E : Type 0} (r : Result T E) (a : Account) (opening : Day) (input : List ℕ) (from : ℕ) (close : Close) (log : Log) (s : Survey) (sheet : DaySheet) (bytes : ℕ) (ls : List HistoryLine)
+    (fs : List Finding) (old new : Option (List ℕ)) → ls ≡ history (watched.Account a from) 0 (opened opening) (take (close.record - 1) (lines_of input))
+    → ComesTo opening from (take close.record (lines_of input)) log s → sheet_on log.opening (journal_of (state_of log)) close.date ≡ Some sheet
+    → fs ≡ filter (names a) s.findings.items
+    → OnOk r (ShowsAccount opening (take bytes input) log close sheet a ls fs old new) → OnOk r (HasOwnDay a opening input from close old new)
+own_day_made (Err e) a opening input from close log s sheet bytes ls fs old new are came closed kept shown = tt
+own_day_made (Ok x) a opening input from close log s sheet bytes ls fs old new are came closed kept shown =
+    record { log = log; taken = came.book; survey = s; all_known = came.all_known; sheet = sheet; closed = closed; bytes = bytes; shown = rw (are, kept) at shown }
+
+-- of the closed day that was chosen
+pub own_made : {T E : Type 0} (r : Result T E) (a : Account) (opening : Day) (input : List ℕ) (closes : List Close) (day : Option Day) (place : ℕ) (close : Close) (old new : Option (List ℕ))
+    → IsChosen closes day place → slice_get closes place ≡ Some close → OnOk r (HasOwnDay a opening input (records_before closes place) close old new)
+    → OnOk r (HasOwn a opening input closes day old new)
+own_made (Err e) a opening input closes day place close old new chosen there shown = tt
+own_made (Ok x) a opening input closes day place close old new chosen there shown = record { place = place; chosen = chosen; close = close; there = there; shown = shown }
+
 -- a close up to which a history goes
 pub up_to : (closes : List Close) (d : Day) (most place : ℕ) (close : Close) → IsChosen closes (Some d) place → slice_get closes place ≡ Some close
     → IsOfRecords closes (Some d) most close.record
@@ -58,11 +81,11 @@ past_made (Err e) p input closes most records old new is shown = tt
 past_made (Ok x) p input closes most records old new is shown = (records, is, shown)
 
 -- the page that is asked for was, by what is known of all records
-pub made : {T E : Type 0} (r : Result T E) (a : Asked) (place : Option Key) (input : List ℕ) (s : Survey) (most : ℕ) (old new : Option (List ℕ))
-    → length (lines_of input) ≤ most → known s ≡ noted_all (nothing most) (opened a.opening) (lines_of input) → a.place ≡ place
-    → OnOk r (HasShown place a.opening input s.closes.items most a.day old new) → OnOk r (HasPage a input old new)
-made (Err e) a place input s most old new few all_known is shown = tt
-made (Ok x) a place input s most old new few all_known is shown = record { most = most; few = few; survey = s; all_known = all_known; shown = rw is shown }
+pub made : {T E : Type 0} (r : Result T E) (a : Asked) (about : About) (input : List ℕ) (s : Survey) (most : ℕ) (old new : Option (List ℕ))
+    → length (lines_of input) ≤ most → known s ≡ noted_all (nothing most) (opened a.opening) (lines_of input) → a.about ≡ about
+    → OnOk r (HasShown about a.opening input s.closes.items most a.day old new) → OnOk r (HasPage a input old new)
+made (Err e) a about input s most old new few all_known is shown = tt
+made (Ok x) a about input s most old new few all_known is shown = record { most = most; few = few; survey = s; all_known = all_known; shown = rw is shown }
 
 -- of all that a reader gave, where that is known
 pub made_of : {T E : Type 0} (a : Asked) (given : Option (List ℕ)) (input : List ℕ) (old new : Option (List ℕ)) (r : Result T E)

@@ -1,13 +1,13 @@
 -- The lines of a sheet and their texts.
 use Rattle.std.specs.Prelude.{ℕ, pos, List, [], ◌∷◌, ◌++◌, Option, None, Some, codes, if◌then◌else◌}
-use Rattle.std.specs.Fmt.{decimal, signed_decimal}
-use Rattle.cns_units.specs.Cents.{cents_text}
+use Rattle.std.specs.Fmt.{decimal}
 use Rattle.cns_terms.specs.Common.{Account, DaySheet}
 use Rattle.cns_terms.specs.Sheets.{statement}
 use Rattle.cns_terms.specs.declared.reply.Stated.{Stated}
 use Rattle.cns_terms.specs.declared.sheet.Row.{Row}
 use Rattle.cns_statements.specs.Packs.{is_next}
 use Rattle.cns_tables.specs.Escape.{escaped}
+use Rattle.cns_tables.specs.Grouped.{amount_text, signed_text}
 use Rattle.cns_page.specs.Split.{moved, remaining, sums_over}
 use Rattle.cns_tables.specs.Tables.{cells}
 use Rattle.cns_page.specs.declared.accounts.SheetLine.{SheetLine}
@@ -33,18 +33,18 @@ sheet_lines s = line.All (sums_over s.rows) ∷ lines_after s None s.rows
 abbrev pub all_text : Sums → List ℕ
 all_text s =
     cells ALL.now (codes "All accounts")
-    ([] ∷ [] ∷ [] ∷ [] ∷ cents_text s.money ∷ cents_text s.mark ∷ cents_text s.moved ∷ cents_text s.rest ∷ cents_text s.dividend ∷ [])
+    ([] ∷ [] ∷ [] ∷ [] ∷ amount_text s.money ∷ amount_text s.mark ∷ amount_text s.moved ∷ amount_text s.rest ∷ amount_text s.dividend ∷ [])
 
 -- an account: the sums of its marks and dividends
 abbrev pub account_text : Stated → List ℕ
-account_text s = cells ACCOUNT.now (decimal s.account) (cents_text s.mark ∷ [] ∷ [] ∷ cents_text s.dividend ∷ [])
+account_text s = cells ACCOUNT.now (decimal s.account) (amount_text s.mark ∷ [] ∷ [] ∷ amount_text s.dividend ∷ [])
 
 -- a row: the issue, opening, closing, price before, price, money, mark and its two parts, dividend
 abbrev pub issue_text : Row → List ℕ
 issue_text r =
     cells ROW.now (escaped r.issue)
-    (signed_decimal r.opening ∷ signed_decimal r.closing ∷ cents_text (pos r.opening_price) ∷ cents_text (pos r.price)
-    ∷ cents_text r.money ∷ cents_text r.mark ∷ cents_text (moved r) ∷ cents_text (remaining r) ∷ cents_text r.dividend ∷ [])
+    (signed_text r.opening ∷ signed_text r.closing ∷ amount_text (pos r.opening_price) ∷ amount_text (pos r.price)
+    ∷ amount_text r.money ∷ amount_text r.mark ∷ amount_text (moved r) ∷ amount_text (remaining r) ∷ amount_text r.dividend ∷ [])
 
 abbrev pub line_text : SheetLine → List ℕ
 line_text (line.All s) = all_text s

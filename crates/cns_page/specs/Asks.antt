@@ -5,9 +5,10 @@ use Rattle.std.specs.Str.{bytes_eq}
 use Rattle.clap.specs.Words.{App, Row, Text, first_of, matches_of, with_rule}
 use Rattle.cns_units.specs.Cusip.{cusip_of}
 use Rattle.cns_units.specs.Day.{day_of}
-use Rattle.cns_terms.specs.declared.holding.Key.{Key}
 use Rattle.cns_feed.specs.Digits.{number_in}
 use Rattle.cns_shell.specs.Options.{bare, date_in, free_rule, if_taken, option_rule}
+use Rattle.cns_page.specs.declared.asked.About.{About}
+use Rattle.cns_page.specs.declared.asked.About.TheVariants as about
 use Rattle.cns_page.specs.declared.asked.Asked.{Asked}
 use Rattle.cns_page.specs.declared.asked.When.{When}
 use Rattle.cns_page.specs.declared.asked.When.TheVariants as when
@@ -27,21 +28,22 @@ abbrev pub day_read : Option Text → Option When
 day_read None = Some when.Last
 day_read (Some t) = if bytes_eq t (codes "today") then Some when.Today else option_map when.Closed (result_ok (day_of t))
 
--- the place of a history, of options that may be missing; None where one of the two is there alone, or is none
-abbrev pub place_read : Option Text → Option Text → Option (Option Key)
-place_read None None = Some None
-place_read (Some a) (Some c) = option_and_then
-    (λ account. option_map (λ issue. Some (record { account = account; issue = issue })) (result_ok (cusip_of c)))
+-- what the page is about, of options that may be missing: all accounts, one account, or its place in an issue; None where one
+-- of the two is none, or an issue is there without an account
+abbrev pub about_read : Option Text → Option Text → Option About
+about_read None None = Some about.All
+about_read (Some a) None = option_map about.Account (result_ok (number_in 0 9999 a))
+about_read (Some a) (Some c) = option_and_then
+    (λ account. option_map (λ issue. about.Place (record { account = account; issue = issue })) (result_ok (cusip_of c)))
     (result_ok (number_in 0 9999 a))
-place_read (Some a) None = None
-place_read None (Some c) = None
+about_read None (Some c) = None
 
 -- what the options ask for
 abbrev pub asked_in : List Row → Option Asked
 asked_in rows = option_and_then
     (λ opening. option_and_then
-    (λ day. option_map (λ place. record { opening = opening; day = day; place = place })
-    (place_read (first_of (codes "account") rows) (first_of (codes "issue") rows)))
+    (λ day. option_map (λ about. record { opening = opening; day = day; about = about })
+    (about_read (first_of (codes "account") rows) (first_of (codes "issue") rows)))
     (day_read (first_of (codes "day") rows)))
     (date_in rows (codes "open"))
 

@@ -1,14 +1,23 @@
 -- Facts that decided a refusal, as a book shows them.
 use Rattle.std.specs.Prelude.{◌≡◌, IfSome, List, [], ◌∷◌, Option, Some, option_map}
-use Rattle.cns_terms.specs.Common.{State, date, day, journal_of}
+use Rattle.cns_terms.specs.Common.{Day, State, date, day, journal_of}
+use Rattle.cns_book.specs.Log.{Log, state_of}
 use Rattle.cns_book.specs.Shown.{notice_shown, position_shown, price_shown}
+use Rattle.cns_terms.specs.declared.command.Activity.TheVariants as activity
 use Rattle.cns_terms.specs.declared.refusal.Refusal.{Refusal}
 use Rattle.cns_terms.specs.declared.refusal.Refusal.TheVariants as refusal
+use Rattle.cns_page.specs.Listed.{later_among, looked_at}
+use Rattle.cns_page.specs.Sought.{first_sought, waiting_in}
+use Rattle.cns_page.specs.declared.finding.Exchanged.{Exchanged}
 use Rattle.cns_page.specs.declared.finding.Fact.{Fact}
 use Rattle.cns_page.specs.declared.finding.Fact.TheVariants as fact
 use Rattle.cns_page.specs.declared.finding.Numbered.{Numbered}
+use Rattle.cns_page.specs.declared.finding.Pending.{Pending}
 use Rattle.cns_page.specs.declared.finding.Quote.{Quote}
+use Rattle.cns_page.specs.declared.finding.Seen.{Seen}
 use Rattle.cns_page.specs.declared.finding.Stand.{Stand}
+use Rattle.cns_page.specs.declared.finding.Waiting.{Waiting}
+use Rattle.cns_page.specs.declared.sought.Sought.TheVariants as sought
 
 -- an issue with the price that the book shows
 abbrev pub IsQuoted : State → Quote → Type 0
@@ -22,19 +31,43 @@ IsStanding S s = s.position ≡ option_map (λ h. h.now) (position_shown S (reco
 abbrev pub IsNumbered : State → Numbered → Type 0
 IsNumbered S n = notice_shown S n.number ≡ Some n.notice
 
+-- the open day's date
+abbrev pub open_date : Log → Day
+open_date log = let S = state_of log in date S.opening (journal_of S)
+
+-- a retired issue with the first accepted exchange of it in the book's history
+abbrev pub IsExchanged : Log → Exchanged → Type 0
+IsExchanged log e = first_sought (sought.Exchange e.issue) log.history ≡ Some (activity.Exchange e.exchange)
+
+-- an account with what waits there: the shares of the accepted trades in the book's history that are dated after the open day
+abbrev pub IsWaiting : Log → Waiting → Type 0
+IsWaiting log w = w ≡ waiting_in w.account w.issue (later_among (open_date log) (looked_at log.history))
+
+-- a reference with the first accepted trade in the book's history that has it
+abbrev pub IsSeen : Log → Seen → Type 0
+IsSeen log s = first_sought (sought.Reference s.reference) log.history ≡ Some (activity.Trade s.trade)
+
+-- an issue with the first accepted trade in it in the book's history that is dated after the open day
+abbrev pub IsPending : Log → Pending → Type 0
+IsPending log p = first_sought (sought.Pending p.issue (open_date log)) log.history ≡ Some (activity.Trade p.trade)
+
 -- the open day
 abbrev pub today_in : State → Fact
 today_in S = fact.Today (date S.opening (journal_of S)) (day (journal_of S))
 
 -- a fact as the book shows it
-abbrev pub IsShown : State → Refusal → Fact → Type 0
-IsShown S r (fact.Today d n) = (d ≡ date S.opening (journal_of S)) × (n ≡ day (journal_of S))
-IsShown S r (fact.Price q) = IsQuoted S q
-IsShown S r (fact.Position s) = IsStanding S s
-IsShown S r (fact.Notice n) = IsNumbered S n
-IsShown S r (fact.Room n) = r ≡ refusal.NotLiable n
+abbrev pub IsShown : Log → Refusal → Fact → Type 0
+IsShown log r (fact.Today d n) = (d ≡ open_date log) × (n ≡ day (journal_of (state_of log)))
+IsShown log r (fact.Price q) = IsQuoted (state_of log) q
+IsShown log r (fact.Exchanged e) = (r ≡ refusal.Retired) × IsExchanged log e
+IsShown log r (fact.Position s) = IsStanding (state_of log) s
+IsShown log r (fact.Waiting w) = (r ≡ refusal.TooLarge) × IsWaiting log w
+IsShown log r (fact.Seen s) = (r ≡ refusal.SeenReference) × IsSeen log s
+IsShown log r (fact.Pending p) = (r ≡ refusal.PendingTrades) × IsPending log p
+IsShown log r (fact.Notice n) = IsNumbered (state_of log) n
+IsShown log r (fact.Room n) = r ≡ refusal.NotLiable n
 
 -- what decided a refusal is as the book shows it
-abbrev pub AreShown : State → Refusal → List (Option Fact) → Type 0
-AreShown S r [] = Unit {0}
-AreShown S r (f ∷ fs) = IfSome f (IsShown S r) × AreShown S r fs
+abbrev pub AreShown : Log → Refusal → List (Option Fact) → Type 0
+AreShown log r [] = Unit {0}
+AreShown log r (f ∷ fs) = IfSome f (IsShown log r) × AreShown log r fs

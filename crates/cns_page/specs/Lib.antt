@@ -3,8 +3,10 @@ pub mod Figures
 pub mod Exceptions
 pub mod Accounts
 pub mod Rows
+pub mod Due
 pub mod Facts
 pub mod Listed
+pub mod Sought
 pub mod Foot
 pub mod Page
 pub mod Today
@@ -12,3 +14,5 @@ pub mod Usage
 pub mod Asks
 pub mod Survey
 pub mod Shown
+pub mod Account
+pub mod Asked

@@ -99,10 +99,10 @@ trade_in (command.Activity x) = traded x
 trade_in (command.Position k) = None
 trade_in (command.Statement a d) = None
 
--- a trade, where it was accepted
-abbrev pub if_accepted : Reply → Option Trade → Option Trade
-if_accepted reply.Accepted t = t
-if_accepted _ t = None
+-- what a command hands in, where it was accepted
+abbrev pub if_accepted : {X : Type 0} → Reply → Option X → Option X
+if_accepted reply.Accepted x = x
+if_accepted _ x = None
 
 -- the accepted trades among entries of a history
 abbrev pub trades_among : List Taken → List Trade

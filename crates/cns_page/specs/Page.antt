@@ -3,6 +3,7 @@ use Rattle.std.specs.Prelude.{ℕ, ◌-◌, ◌^◌, List, [], ◌∷◌, ◌++�
 use Rattle.std.specs.Fmt.{decimal}
 use Rattle.cns_units.specs.Day.{day_text}
 use Rattle.cns_terms.specs.Common.{Day}
+use Rattle.cns_tables.specs.Grouped.{count_text}
 use Rattle.cns_tables.specs.Tables.{table_text, texts}
 use Rattle.cns_tables.specs.declared.style.TheConstants.{STYLE}
 use Rattle.cns_page.specs.Accounts.{line_text}
@@ -22,7 +23,7 @@ use Rattle.cns_page.specs.declared.totals.Span.{Span}
 unfoldable pub head_text : Head → List ℕ
 head_text h =
     texts (START.now ∷ CLOSED.now ∷ day_text h.date ∷ TITLE_END.now ∷ STYLE.now ∷ HEADING.now ∷ CLOSED.now ∷ day_text h.date ∷ DAY.now
-    ∷ decimal h.day ∷ RECORDS.now ∷ decimal h.first ∷ TO.now ∷ decimal h.last ∷ EXCEPTIONS.now ∷ decimal h.exceptions ∷ NEXT.now
+    ∷ decimal h.day ∷ RECORDS.now ∷ decimal h.first ∷ TO.now ∷ decimal h.last ∷ EXCEPTIONS.now ∷ count_text h.exceptions ∷ NEXT.now
     ∷ day_text h.next ∷ LINKS.now ∷ [])
 
 -- how many rows each table has

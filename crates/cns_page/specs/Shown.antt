@@ -1,5 +1,5 @@
 -- What a page that was written shows.
-use Rattle.std.specs.Prelude.{◌≡◌, ◌≤◌, ℕ, ◌+◌, ◌-◌, ◌^◌, IfSome, List, length, map, min, take, slice_get, Option, None, Some}
+use Rattle.std.specs.Prelude.{◌≡◌, ℕ, ◌+◌, ◌-◌, ◌^◌, List, length, map, min, take, slice_get, Option, Some}
 use Rattle.std.specs.Io.KnownBytes.{Appends}
 use Rattle.std.specs.Ordering.{int_cmp, nat_cmp}
 use Rattle.cns_terms.specs.Common.{Day, DaySheet, date, journal_of, opened}
@@ -10,17 +10,10 @@ use Rattle.cns_book.specs.Log.{Log, state_of}
 use Rattle.cns_feed.specs.Output.{lines_of}
 use Rattle.cns_feed.specs.Replay.{blank_log, log_after}
 use Rattle.cns_page.specs.Accounts.{sheet_lines}
-use Rattle.cns_terms.specs.declared.holding.Key.{Key}
-use Rattle.cns_history.specs.Page.{HasHistory}
-use Rattle.cns_history.specs.declared.place.Place.{Place}
 use Rattle.cns_page.specs.Foot.{IsOrigin}
-use Rattle.cns_page.specs.Listed.{IsInOrderOf, counted, counts, counts_shown, due, figures_shown, last_closes, last_record, later_among, liable_shown, live_shown, looked_at, records_before, shorts_among, spans_shown}
+use Rattle.cns_page.specs.Listed.{IsInOrderOf, counted, counts, counts_shown, due, figures_shown, last_closes, later_among, liable_shown, live_shown, looked_at, records_before, shorts_among, spans_shown}
 use Rattle.cns_page.specs.Page.{page_text}
 use Rattle.cns_page.specs.Survey.{IsChosen, known, noted_all, nothing}
-use Rattle.cns_page.specs.Today.{HasToday}
-use Rattle.cns_page.specs.declared.asked.Asked.{Asked}
-use Rattle.cns_page.specs.declared.asked.When.{When}
-use Rattle.cns_page.specs.declared.asked.When.TheVariants as when
 use Rattle.cns_page.specs.declared.captions.Captions.{Captions}
 use Rattle.cns_page.specs.declared.contents.Contents.{Contents}
 use Rattle.cns_page.specs.declared.contents.Head.{Head}
@@ -100,40 +93,3 @@ pub record HasClosed (opening : Day) (input : List ℕ) (closes : List Close) (d
   pub close : Close
   pub there : slice_get closes place ≡ Some close
   pub shown : HasDay opening input (records_before closes place) close old new
-
--- the day that is asked for, by the closes among an input's records
-abbrev pub HasAsked : Day → List ℕ → List Close → When → Option (List ℕ) → Option (List ℕ) → Type 0
-HasAsked opening input closes when.Last old new = HasClosed opening input closes None old new
-HasAsked opening input closes (when.Closed d) old new = HasClosed opening input closes (Some d) old new
-HasAsked opening input closes when.Today old new = HasToday opening input (last_record closes) old new
-
--- how many records a history is of, by the closes among all records, of which there are at most so many: those up to the close
--- of the day with the date, where one is given
-abbrev pub IsOfRecords : List Close → Option Day → ℕ → ℕ → Type 0
-IsOfRecords closes None most records = records ≡ most
-IsOfRecords closes (Some d) most records =
-    (place : ℕ) × IsChosen closes (Some d) place × IfSome (slice_get closes place) (λ c. records ≡ c.record)
-
--- the history of a place, of so many records
-abbrev pub HasPast : Place → List ℕ → List Close → ℕ → Option (List ℕ) → Option (List ℕ) → Type 0
-HasPast p input closes most old new = (records : ℕ) × IsOfRecords closes p.day most records × HasHistory p records input old new
-
--- the closed day that is asked for; None for the last one and for the open one
-abbrev pub closed_in : When → Option Day
-closed_in when.Last = None
-closed_in (when.Closed d) = Some d
-closed_in when.Today = None
-
--- the page of the day, or the history of the place, where one is asked for
-abbrev pub HasShown : Option Key → Day → List ℕ → List Close → ℕ → When → Option (List ℕ) → Option (List ℕ) → Type 0
-HasShown None opening input closes most w old new = HasAsked opening input closes w old new
-HasShown (Some k) opening input closes most w old new =
-    HasPast (record { opening = opening; day = closed_in w; key = k }) input closes most old new
-
--- the page that is asked for, of the records of an input, of which there are at most so many
-pub record HasPage (asked : Asked) (input : List ℕ) (old new : Option (List ℕ)) : Type 0 where
-  pub most : ℕ
-  pub few : length (lines_of input) ≤ most
-  pub survey : Survey
-  pub all_known : known survey ≡ noted_all (nothing most) (opened asked.opening) (lines_of input)
-  pub shown : HasShown asked.place asked.opening input survey.closes.items most asked.day old new

@@ -7,6 +7,7 @@ use Rattle.cns_terms.specs.Common.{Day, date, day, journal_of, opened}
 use Rattle.cns_book.specs.Log.{Log, state_of}
 use Rattle.cns_feed.specs.Output.{lines_of}
 use Rattle.cns_feed.specs.Replay.{blank_log, log_after}
+use Rattle.cns_tables.specs.Grouped.{count_text}
 use Rattle.cns_tables.specs.Tables.{table_text, texts}
 use Rattle.cns_tables.specs.declared.table.Table.{Table}
 use Rattle.cns_tables.specs.declared.style.TheConstants.{STYLE}
@@ -39,7 +40,7 @@ heading_shown log s = record {
 unfoldable pub heading_text : Heading → List ℕ
 heading_text h =
     texts (START.now ∷ OPEN.now ∷ day_text h.date ∷ TITLE_END.now ∷ STYLE.now ∷ HEADING.now ∷ OPEN.now ∷ day_text h.date ∷ DAY.now
-    ∷ decimal h.day ∷ SO_FAR.now ∷ decimal h.from ∷ COUNT.now ∷ decimal h.records ∷ EXCEPTIONS.now ∷ decimal h.exceptions ∷ MAIN.now ∷ [])
+    ∷ decimal h.day ∷ SO_FAR.now ∷ decimal h.from ∷ COUNT.now ∷ count_text h.records ∷ EXCEPTIONS.now ∷ count_text h.exceptions ∷ MAIN.now ∷ [])
 
 -- how many rows each table has
 abbrev pub row_counts : Survey → List Counted → List Span → List ℕ

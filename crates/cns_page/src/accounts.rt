@@ -28,7 +28,8 @@ pub enum SheetLine {
 const ALL: &str = "<tbody class=total><tr><th scope=row>";
 
 const ACCOUNT: &str =
-    "</table>\n</div>\n<div class=part>\n<table>\n<colgroup><col class=name><col span=9></colgroup>\n\
+    "</table>\n</div>\n<div class=part>\n<table>\n<colgroup><col class=name><col class=shares span=2><col class=price span=2>\
+<col class=amount span=5></colgroup>\n\
 <thead><tr><th scope=col>Issue<th scope=col>Opening<th scope=col>Closing<th scope=col>Price before<th scope=col>Price\
 <th scope=col>Settling money<th scope=col>Mark<th scope=col>Price move on opening<th scope=col>Rest of mark<th scope=col>Dividend\
 \n</thead><tbody>\n<tr class=sum><th scope=rowgroup colspan=6>Account ";

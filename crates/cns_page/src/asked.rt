@@ -1,24 +1,23 @@
 // The line of the program, and what it asks for.
 ghost use Rattle.std.specs.Prelude.{◌≡◌, IfOk, map, option_map};
 ghost use Rattle.clap.specs.Words.{app_of, found_of, rows_of};
-ghost use Rattle.cns_page.specs.Asks.{asked_in, day_read, found_by, page_line, place_read, question};
+ghost use Rattle.cns_page.specs.Asks.{about_read, asked_in, day_read, found_by, page_line, question};
 
 use clap::{ArgMatches, Command};
 use cns_feed::account_of;
 use cns_shell::{bare_command, date_of, matches_of, option, required_option, value};
 use cns_terms::{Key, NoMemory};
-use cns_units::{Cusip, Day};
+use cns_units::{Account, Cusip, Day};
 use std::alloc::{AllocError, Global};
 use std::convert::AsStr;
 
-/// What a line asks for: the page of a day, or the history of a position.
+/// What a line asks for.
 #[derive(Clone, Copy)]
 pub struct Asked {
     /// The date on which the book opens.
     pub opening: Day,
     pub day: When,
-    /// The account and the issue whose history is asked for; None where the page is of the day.
-    pub place: Option<Key>,
+    pub about: About,
 }
 
 /// Which day a page is of.
@@ -30,6 +29,17 @@ pub enum When {
     Closed(Day),
     /// The day that is open, so far.
     Today,
+}
+
+/// What a page is about.
+#[derive(Clone, Copy)]
+pub enum About {
+    /// All accounts: the page of a day.
+    All,
+    /// An account: what a closed day did to it.
+    Account(Account),
+    /// An account's place in an issue: its history.
+    Place(Key),
 }
 
 // The lines that are taken, with no help or version.
@@ -68,18 +78,19 @@ fn day_of(text: Option<&str>) -> Option<When>
     Some(When::Closed(day))
 }
 
-// The place of a history, None inside where none is asked for; None where the account or the issue is none or is missing.
-fn place_of(account: Option<&str>, issue: Option<&str>) -> Option<Option<Key>>
-    ensures { result ≡ place_read (option_map (λ s. s.now) account.entry) (option_map (λ s. s.now) issue.entry) }
+// What the page is about; None where the account or the issue is none, or an issue is there without an account.
+fn about_of(account: Option<&str>, issue: Option<&str>) -> Option<About>
+    ensures { result ≡ about_read (option_map (λ s. s.now) account.entry) (option_map (λ s. s.now) issue.entry) }
 {
     match (account, issue) {
-        (None, None) => Some(None),
+        (None, None) => Some(About::All),
+        (Some(account), None) => Some(About::Account(account_of(account.as_bytes()).ok()?)),
         (Some(account), Some(issue)) => {
             let account = account_of(account.as_bytes()).ok()?;
             let issue = Cusip::parse(issue.as_bytes()).ok()?;
-            Some(Some(Key { account, issue }))
+            Some(About::Place(Key { account, issue }))
         }
-        _ => None,
+        (None, Some(_)) => None,
     }
 }
 
@@ -89,11 +100,11 @@ fn asked_in(matches: &ArgMatches<'_>) -> Option<Asked>
 {
     let opening = date_of(matches, "open")?;
     let day = day_of(value(matches, "day"))?;
-    let place = place_of(value(matches, "account"), value(matches, "issue"))?;
+    let about = about_of(value(matches, "account"), value(matches, "issue"))?;
     Some(Asked {
         opening,
         day,
-        place,
+        about,
     })
 }
 

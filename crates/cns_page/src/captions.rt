@@ -14,6 +14,69 @@ pub(crate) struct Captions {
     pub(crate) totals: Table,
 }
 
+/// Members' fails to deliver.
+pub(crate) const FAILS: Table = Table {
+    id: "fails",
+    title: "Fails to deliver, the oldest first",
+    caption: "Members&#39; short positions at the close, and for how many closes in a row each is short (shares)",
+    none: "No member is short.",
+    columns: &["Issue", "Member", "Closes short", "Opening", "Closing"],
+};
+
+/// Members liable for notices.
+pub(crate) const LIABLE: Table = Table {
+    id: "liable",
+    title: "Buy-in retransmittal: liable members",
+    caption: "Members liable for notices of this day and of the day before, in the order in which executions are allocated to \
+them, with what is left of each liability (shares)",
+    none: "No member is liable for a notice of this day or of the day before.",
+    columns: &[
+        "Issue",
+        "Day of the notices",
+        "Member",
+        "Closes short",
+        "Short at that close",
+        "Liability left",
+    ],
+};
+
+/// Notices in force.
+pub(crate) const NOTICES: Table = Table {
+    id: "notices",
+    title: "Notices of intention in force",
+    caption: "Notices of intention to buy in that are live after the close. Days are numbered by closes, and the date of a \
+coming day is what the close before it will name (shares)",
+    none: "No notice of intention to buy in is live.",
+    columns: &[
+        "Issue",
+        "Notice",
+        "Member",
+        "Quantity",
+        "Given on day",
+        "Still to be bought in",
+        "Last day",
+    ],
+};
+
+/// Trades that settle after a day.
+pub(crate) const PROJECTION: Table = Table {
+    id: "projection",
+    title: "Projection",
+    caption: "Accepted trades that settle after this day, by date: booked by this close into the day that it opens, or pending. \
+The positions above are without them (shares; dollars)",
+    none: "No accepted trade settles after this day.",
+    columns: &[
+        "Settles",
+        "Reference",
+        "Buyer",
+        "Seller",
+        "Issue",
+        "Shares",
+        "Money",
+        "Booked",
+    ],
+};
+
 pub(crate) const CAPTIONS: Captions = Captions {
     exceptions: Table {
         id: "exceptions",
@@ -51,61 +114,10 @@ came and went on the day at today&#39;s price, with the money booked",
             "Dividend",
         ],
     },
-    fails: Table {
-        id: "fails",
-        title: "Fails to deliver, the oldest first",
-        caption: "Members&#39; short positions at the close, and for how many closes in a row each is short (shares)",
-        none: "No member is short.",
-        columns: &["Issue", "Member", "Closes short", "Opening", "Closing"],
-    },
-    liable: Table {
-        id: "liable",
-        title: "Buy-in retransmittal: liable members",
-        caption: "Members liable for notices of this day and of the day before, in the order in which executions are allocated to \
-them, with what is left of each liability (shares)",
-        none: "No member is liable for a notice of this day or of the day before.",
-        columns: &[
-            "Issue",
-            "Day of the notices",
-            "Member",
-            "Closes short",
-            "Short at that close",
-            "Liability left",
-        ],
-    },
-    notices: Table {
-        id: "notices",
-        title: "Notices of intention in force",
-        caption: "Notices of intention to buy in that are live after the close. Days are numbered by closes, and the date of a \
-coming day is what the close before it will name (shares)",
-        none: "No notice of intention to buy in is live.",
-        columns: &[
-            "Issue",
-            "Notice",
-            "Member",
-            "Quantity",
-            "Given on day",
-            "Still to be bought in",
-            "Last day",
-        ],
-    },
-    projection: Table {
-        id: "projection",
-        title: "Projection",
-        caption: "Accepted trades that settle after this day, by date: booked by this close into the day that it opens, or pending. \
-The positions above are without them (shares; dollars)",
-        none: "No accepted trade settles after this day.",
-        columns: &[
-            "Settles",
-            "Reference",
-            "Buyer",
-            "Seller",
-            "Issue",
-            "Shares",
-            "Money",
-            "Booked",
-        ],
-    },
+    fails: FAILS,
+    liable: LIABLE,
+    notices: NOTICES,
+    projection: PROJECTION,
     days: Table {
         id: "days",
         title: "Last 60 days",

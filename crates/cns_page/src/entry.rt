@@ -4,7 +4,7 @@ ghost use Rattle.cns_units.specs.Output.{Writes};
 ghost use Rattle.cns_shell.specs.Faults.{fault_line};
 ghost use Rattle.cns_shell.specs.declared.fault.Fault.{Fault};
 ghost use Rattle.cns_page.specs.Asks.{question};
-ghost use Rattle.cns_page.specs.Shown.{HasPage};
+ghost use Rattle.cns_page.specs.Asked.{HasPage};
 ghost use Rattle.cns_page.specs.Usage.{usage_line};
 
 use crate::asked::{Asked, asked_of};
@@ -16,7 +16,7 @@ use std::io::{ErrorKind, Read, Write};
 
 /// The usage, for a line that is refused.
 pub const USAGE: &[u8] =
-    b"usage: cnspage --open DATE [--day DATE|today] [--account N --issue CUSIP] < RECORDS\n";
+    b"usage: cnspage --open DATE [--day DATE|today] [--account N [--issue CUSIP]] < RECORDS\n";
 
 // All bytes of the input.
 fn bytes_of<I: Read>(alloc: Global, input: &mut I) -> Result<Vec<u8>, Fault>

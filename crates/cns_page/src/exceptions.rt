@@ -2,9 +2,9 @@
 ghost use Rattle.std.specs.Prelude.{OnOk};
 ghost use Rattle.std.specs.Io.KnownBytes.{Appends};
 ghost use Rattle.std.specs.List.{flat_map};
-ghost use Rattle.cns_page.specs.Exceptions.{fact_text, notice_text, reason_text, record_text, some_fact_text};
+ghost use Rattle.cns_page.specs.Exceptions.{exchanged_text, fact_text, notice_text, pending_text, reason_text, record_text, seen_text, some_fact_text, waiting_text};
 
-use crate::finding::{Fact, Finding, Numbered, Outcome};
+use crate::finding::{Exchanged, Fact, Finding, Numbered, Outcome, Pending, Seen, Waiting};
 use crate::words::{fault_name, stage_name};
 use cns_tables::{CELL, Piece, ROW, TableRow, write_markup, write_pieces};
 use cns_units::WriteFault;
@@ -28,6 +28,28 @@ const DAY: &str = ", day ";
 const PRICE_OF: &str = ". Price of ";
 
 const POSITION_OF: &str = ". Position of ";
+
+const RETIRED: &str = ". The issue ";
+
+const EXCHANGED: &str = " was exchanged for ";
+
+const WAITING: &str = " (pending: ";
+
+const BOUGHT: &str = " bought, ";
+
+const SOLD: &str = " sold)";
+
+const TRADE: &str = ". Trade ";
+
+const BUYER: &str = ": member ";
+
+const BUYS: &str = " bought ";
+
+const FROM: &str = " from member ";
+
+const FOR: &str = ", for ";
+
+const PENDING: &str = ", is pending";
 
 const NOTICE: &str = ". Notice ";
 
@@ -69,6 +91,7 @@ fn write_fact<W: Write>(fact: &Fact, writer: &mut W) -> Result<(), WriteFault>
             ];
             write_pieces(&pieces, writer)
         }
+        Fact::Exchanged(exchanged) => write_exchanged(exchanged, writer),
         Fact::Position(stand) => {
             let pieces = [
                 Piece::Markup(POSITION_OF),
@@ -80,9 +103,75 @@ fn write_fact<W: Write>(fact: &Fact, writer: &mut W) -> Result<(), WriteFault>
             ];
             write_pieces(&pieces, writer)
         }
+        Fact::Waiting(waiting) => write_waiting(waiting, writer),
+        Fact::Seen(seen) => write_seen(seen, writer),
+        Fact::Pending(pending) => write_pending(pending, writer),
         Fact::Notice(numbered) => write_notice(numbered, writer),
-        Fact::Room(room) => write_pieces(&[Piece::Markup(ROOM), Piece::Number(*room)], writer),
+        Fact::Room(room) => write_pieces(&[Piece::Markup(ROOM), Piece::Count(*room)], writer),
     }
+}
+
+// A retired issue, and its successor.
+fn write_exchanged<W: Write>(exchanged: &Exchanged, writer: &mut W) -> Result<(), WriteFault>
+    ensures { OnOk result (Appends (W.contents writer.old) (W.contents writer.new) (exchanged_text exchanged.now)) }
+{
+    let pieces = [
+        Piece::Markup(RETIRED),
+        Piece::Issue(exchanged.issue),
+        Piece::Markup(EXCHANGED),
+        Piece::Issue(exchanged.exchange.successor),
+    ];
+    write_pieces(&pieces, writer)
+}
+
+// What waits beside a position.
+fn write_waiting<W: Write>(waiting: &Waiting, writer: &mut W) -> Result<(), WriteFault>
+    ensures { OnOk result (Appends (W.contents writer.old) (W.contents writer.new) (waiting_text waiting.now)) }
+{
+    let pieces = [
+        Piece::Markup(WAITING),
+        Piece::Count(waiting.bought),
+        Piece::Markup(BOUGHT),
+        Piece::Count(waiting.sold),
+        Piece::Markup(SOLD),
+    ];
+    write_pieces(&pieces, writer)
+}
+
+// The trade that has a reference.
+fn write_seen<W: Write>(seen: &Seen, writer: &mut W) -> Result<(), WriteFault>
+    ensures { OnOk result (Appends (W.contents writer.old) (W.contents writer.new) (seen_text seen.now)) }
+{
+    let trade = &seen.trade;
+    let pieces = [
+        Piece::Markup(TRADE),
+        Piece::Number(seen.reference),
+        Piece::Markup(BUYER),
+        Piece::Number(u64::from(trade.buyer.value())),
+        Piece::Markup(BUYS),
+        Piece::Count(trade.shares.value()),
+        Piece::Markup(OF),
+        Piece::Issue(trade.issue),
+        Piece::Markup(FROM),
+        Piece::Number(u64::from(trade.seller.value())),
+        Piece::Markup(FOR),
+        Piece::Date(trade.date),
+    ];
+    write_pieces(&pieces, writer)
+}
+
+// The first trade that is pending.
+fn write_pending<W: Write>(pending: &Pending, writer: &mut W) -> Result<(), WriteFault>
+    ensures { OnOk result (Appends (W.contents writer.old) (W.contents writer.new) (pending_text pending.now)) }
+{
+    let pieces = [
+        Piece::Markup(TRADE),
+        Piece::Number(pending.trade.reference),
+        Piece::Markup(FOR),
+        Piece::Date(pending.trade.date),
+        Piece::Markup(PENDING),
+    ];
+    write_pieces(&pieces, writer)
 }
 
 // A notice as it stood.
@@ -102,9 +191,9 @@ fn write_notice<W: Write>(numbered: &Numbered, writer: &mut W) -> Result<(), Wri
         Piece::Markup(AND),
         Piece::Markup(stage_name(notice.stage)),
         Piece::Markup(AND),
-        Piece::Number(notice.remaining),
+        Piece::Count(notice.remaining),
         Piece::Markup(OF),
-        Piece::Number(notice.shares.value()),
+        Piece::Count(notice.shares.value()),
         Piece::Markup(REMAIN),
     ];
     write_pieces(&pieces, writer)

@@ -1,11 +1,11 @@
 // The facts that decided a refusal.
 ghost use Rattle.std.specs.Prelude.{◌≡◌, IfSome, option_map, slice_get};
-ghost use Rattle.cns_terms.specs.Common.{State};
-ghost use Rattle.cns_book.specs.Log.{state_of};
+ghost use Rattle.cns_book.specs.Log.{Log, state_of};
 ghost use Rattle.cns_book.specs.Shown.{notice_shown, position_shown, price_shown};
 ghost use Rattle.cns_page.specs.Facts.{AreShown, IsShown, today_in};
 
-use crate::finding::{Fact, Facts, Numbered, Quote, Stand};
+use crate::finding::{Exchanged, Fact, Facts, Numbered, Parties, Pending, Quote, Seen, Stand};
+use crate::sought::{Sought, first, waiting};
 use cns_feed::ReplayBook;
 use cns_terms::{Activity, Command, Refusal};
 use cns_units::{Account, Cusip};
@@ -20,6 +20,8 @@ struct Named {
     account: Option<Account>,
     // A trade's seller, and for a receipt the corporation, whose position below 0 is what is on hand.
     other: Option<Account>,
+    // Of a trade.
+    reference: Option<u64>,
     notice: Option<u32>,
 }
 
@@ -28,6 +30,7 @@ const NOTHING: Named = Named {
     successor: None,
     account: None,
     other: None,
+    reference: None,
     notice: None,
 };
 
@@ -59,6 +62,7 @@ fn names_in(activity: &Activity) -> Named {
         Activity::Issue(listing) | Activity::Price(listing) => of_issue(listing.issue),
         Activity::Trade(trade) => Named {
             other: Some(trade.seller.account()),
+            reference: Some(trade.reference),
             ..of_account(trade.buyer.account(), trade.issue)
         },
         Activity::Deliver(movement) | Activity::Notice(movement) => {
@@ -85,6 +89,19 @@ fn names_of(command: &Command) -> Named {
         Command::Position(key) => of_account(key.account, key.issue),
         Command::Statement { .. } => NOTHING,
     }
+}
+
+/// The accounts that a command names.
+pub fn parties_of(command: &Command) -> Parties {
+    let (account, other) = match command {
+        Command::Activity(Activity::Trade(trade)) => {
+            (Some(trade.buyer.account()), Some(trade.seller.account()))
+        }
+        Command::Activity(Activity::Member(member)) => (Some(member.account()), None),
+        Command::Statement { account, .. } => (Some(*account), None),
+        _ => (names_of(command).account, None),
+    };
+    Parties { account, other }
 }
 
 // What decides a refusal, beside dates and notices.
@@ -135,7 +152,7 @@ fn price(book: &ReplayBook, issue: Cusip) -> Option<u64>
 
 // An issue with its price now, where the refusal looks at issues.
 fn quote(book: &ReplayBook, refusal: Refusal, issue: Option<Cusip>) -> Option<Fact>
-    ensures { IfSome result (IsShown (state_of book.now.log) refusal) }
+    ensures { IfSome result (IsShown book.now.log refusal) }
 {
     if decider_of(refusal) != Decider::Issues {
         return None;
@@ -163,7 +180,7 @@ fn stand(
     account: Option<Account>,
     issue: Option<Cusip>,
 ) -> Option<Fact>
-    ensures { IfSome result (IsShown (state_of book.now.log) refusal) }
+    ensures { IfSome result (IsShown book.now.log refusal) }
 {
     if decider_of(refusal) != Decider::Positions {
         return None;
@@ -177,9 +194,68 @@ fn stand(
     }))
 }
 
+// The exchange that retired an issue, where the refusal is that one is retired.
+fn exchanged(book: &ReplayBook, refusal: Refusal, issue: Option<Cusip>) -> Option<Fact>
+    ensures { IfSome result (IsShown book.now.log refusal) }
+{
+    let Refusal::Retired = refusal else {
+        return None;
+    };
+    let issue = issue?;
+    match first(book, &Sought::Exchange(issue)) {
+        Some(Activity::Exchange(exchange)) => Some(Fact::Exchanged(Exchanged { issue, exchange })),
+        _ => None,
+    }
+}
+
+// What waits at an account in an issue, where the refusal is that a position would be too large.
+fn beside(
+    book: &ReplayBook,
+    refusal: Refusal,
+    account: Option<Account>,
+    issue: Option<Cusip>,
+) -> Option<Fact>
+    ensures { IfSome result (IsShown book.now.log refusal) }
+{
+    let Refusal::TooLarge = refusal else {
+        return None;
+    };
+    let account = account?;
+    let issue = issue?;
+    Some(Fact::Waiting(waiting(book, account, issue)))
+}
+
+// The accepted trade that has a reference, where the refusal is that one has it.
+fn seen(book: &ReplayBook, refusal: Refusal, reference: Option<u64>) -> Option<Fact>
+    ensures { IfSome result (IsShown book.now.log refusal) }
+{
+    let Refusal::SeenReference = refusal else {
+        return None;
+    };
+    let reference = reference?;
+    match first(book, &Sought::Reference(reference)) {
+        Some(Activity::Trade(trade)) => Some(Fact::Seen(Seen { reference, trade })),
+        _ => None,
+    }
+}
+
+// The first pending trade in an issue, where the refusal is that there is one.
+fn pending(book: &ReplayBook, refusal: Refusal, issue: Option<Cusip>) -> Option<Fact>
+    ensures { IfSome result (IsShown book.now.log refusal) }
+{
+    let Refusal::PendingTrades = refusal else {
+        return None;
+    };
+    let issue = issue?;
+    match first(book, &Sought::Pending(issue, book.today())) {
+        Some(Activity::Trade(trade)) => Some(Fact::Pending(Pending { issue, trade })),
+        _ => None,
+    }
+}
+
 // The notice that a refusal or its command names, as it stands now.
 fn numbered(book: &ReplayBook, refusal: Refusal, given: Option<u32>) -> Option<Fact>
-    ensures { IfSome result (IsShown (state_of book.now.log) refusal) }
+    ensures { IfSome result (IsShown book.now.log refusal) }
 {
     let number = match refusal {
         Refusal::AlreadyNoticed { number } => number,
@@ -191,7 +267,7 @@ fn numbered(book: &ReplayBook, refusal: Refusal, given: Option<u32>) -> Option<F
 
 // How many shares the liable members can be given, where that is too few.
 fn room(refusal: Refusal) -> Option<Fact>
-    ensures { (S : State) → IfSome result (IsShown S refusal) }
+    ensures { (log : Log) → IfSome result (IsShown log refusal) }
 {
     match refusal {
         Refusal::NotLiable { room } => Some(Fact::Room(room)),
@@ -203,15 +279,21 @@ fn room(refusal: Refusal) -> Option<Fact>
 /// asked after it.
 pub fn facts_of(book: &ReplayBook, command: &Command, refusal: Refusal) -> Facts
     ensures today { slice_get result 0 ≡ Some (Some (today_in (state_of book.now.log))) }
-    ensures shown { AreShown (state_of book.now.log) refusal result }
+    ensures shown { AreShown book.now.log refusal result }
 {
     let named = names_of(command);
     [
         Some(today(book)),
         quote(book, refusal, named.issue),
         quote(book, refusal, named.successor),
+        exchanged(book, refusal, named.issue),
+        exchanged(book, refusal, named.successor),
         stand(book, refusal, named.account, named.issue),
+        beside(book, refusal, named.account, named.issue),
         stand(book, refusal, named.other, named.issue),
+        beside(book, refusal, named.other, named.issue),
+        seen(book, refusal, named.reference),
+        pending(book, refusal, named.issue),
         numbered(book, refusal, named.notice),
         room(refusal),
     ]

@@ -103,7 +103,7 @@ impl TableRow for Figures {
         let cells = [
             Piece::Number(u64::from(self.day)),
             Piece::Amount(amount_of(self.marks)),
-            Piece::Number(self.shorts),
+            Piece::Count(self.shorts),
         ];
         write_line(ROW, &Piece::Date(self.date), &cells, writer)
     }

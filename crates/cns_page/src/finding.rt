@@ -1,7 +1,7 @@
 // An exception: an invalid record, or a refused command.
 use cns_book::Notice;
 use cns_feed::LineFault;
-use cns_terms::Refusal;
+use cns_terms::{Exchange, Refusal, Trade};
 use cns_units::{Account, Cusip, Day};
 
 /// A record that is no command, or a command that was refused.
@@ -16,7 +16,21 @@ pub struct Finding {
     pub words: &'static str,
     /// What decided a refusal.
     pub facts: Facts,
+    pub parties: Parties,
 }
+
+/// The accounts that a command names: of a trade the buyer and the seller. A record that is no command names none.
+#[derive(Clone, Copy)]
+pub struct Parties {
+    pub account: Option<Account>,
+    pub other: Option<Account>,
+}
+
+/// No account.
+pub const NO_PARTIES: Parties = Parties {
+    account: None,
+    other: None,
+};
 
 /// What a record came to that is an exception.
 #[derive(Clone, Copy)]
@@ -25,14 +39,15 @@ pub enum Outcome {
     Refused(Refusal),
 }
 
-/// What decided a refusal, as the book stood then, so far as the book's calls tell it: the day, the price of the issue that
-/// the command names and of an exchange's successor, the position of the first account that the refusal looks at and of a second
-/// one, which is a trade's seller or the corporation, the notice that the command or the refusal names, and how many shares the
+/// What decided a refusal, as the book stood then, so far as the book's calls tell it: the day; the price of the issue that
+/// the command names and of an exchange's successor; the exchanges that retired the two; the position of the first account that
+/// the refusal looks at and of a second one, which is a trade's seller or the corporation, each with what waits beside it; the
+/// trade that has the reference; the first pending one; the notice that the command or the refusal names; and how many shares the
 /// liable members can be given.
-pub type Facts = [Option<Fact>; 7];
+pub type Facts = [Option<Fact>; 13];
 
 /// The facts of a record that is no command.
-pub const NO_FACTS: Facts = [None; 7];
+pub const NO_FACTS: Facts = [None; 13];
 
 /// Something that a refusal looks at.
 #[derive(Clone, Copy)]
@@ -40,7 +55,11 @@ pub enum Fact {
     /// The open day's date and its number, from 1.
     Today(Day, u64),
     Price(Quote),
+    Exchanged(Exchanged),
     Position(Stand),
+    Waiting(Waiting),
+    Seen(Seen),
+    Pending(Pending),
     Notice(Numbered),
     /// How many shares the liable members can be given.
     Room(u64),
@@ -53,6 +72,13 @@ pub struct Quote {
     pub price: Option<u64>,
 }
 
+/// A retired issue with the exchange that retired it.
+#[derive(Clone, Copy)]
+pub struct Exchanged {
+    pub issue: Cusip,
+    pub exchange: Exchange,
+}
+
 /// An account's position in an issue, in shares; None where the account is no member's nor the corporation's, or the
 /// issue is not listed.
 #[derive(Clone, Copy)]
@@ -60,6 +86,29 @@ pub struct Stand {
     pub account: Account,
     pub issue: Cusip,
     pub position: Option<i64>,
+}
+
+/// What an account is to get and to give in an issue by pending trades, in shares.
+#[derive(Clone, Copy)]
+pub struct Waiting {
+    pub account: Account,
+    pub issue: Cusip,
+    pub bought: u64,
+    pub sold: u64,
+}
+
+/// A reference with the accepted trade that has it.
+#[derive(Clone, Copy)]
+pub struct Seen {
+    pub reference: u64,
+    pub trade: Trade,
+}
+
+/// An issue with the first of its trades that are pending, in the order in which they were taken.
+#[derive(Clone, Copy)]
+pub struct Pending {
+    pub issue: Cusip,
+    pub trade: Trade,
 }
 
 /// A notice with its number, from 1.

@@ -20,12 +20,14 @@ pub struct Origin {
     pub digest: String,
 }
 
-const AGAIN: &str = "</main>
+/// What stands before the opening date in the line that makes a page again.
+pub(crate) const AGAIN: &str = "</main>
 <footer>
 <p>This line makes the page again, from the same records:</p>
 <pre tabindex=0><code>cnspage --open ";
 
-const AGAIN_DAY: &str = " --day ";
+/// What stands before its day.
+pub(crate) const AGAIN_DAY: &str = " --day ";
 
 const TODAY: &str = "today";
 
@@ -63,8 +65,13 @@ fn write_word<W: Write>(day: Option<Day>, writer: &mut W) -> Result<(), WriteFau
     }
 }
 
+/// Writes what a page was made of, and how many rows its tables have.
 #[tactic(auto, unfolding(crate::specs::Foot::made_text))]
-fn write_made<W: Write>(origin: &Origin, rows: u64, writer: &mut W) -> Result<(), WriteFault>
+pub(crate) fn write_made<W: Write>(
+    origin: &Origin,
+    rows: u64,
+    writer: &mut W,
+) -> Result<(), WriteFault>
     ensures { OnOk result (Appends (W.contents writer.old) (W.contents writer.new) (made_text origin.now rows)) }
 {
     let pieces = [

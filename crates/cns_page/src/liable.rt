@@ -65,8 +65,8 @@ impl TableRow for Owing {
             Piece::Number(u64::from(self.day)),
             Piece::Number(u64::from(self.liable.member.value())),
             Piece::Number(u64::from(self.liable.age)),
-            Piece::Number(self.liable.closing),
-            Piece::Number(self.liable.left),
+            Piece::Count(self.liable.closing),
+            Piece::Count(self.liable.left),
         ];
         write_line(ROW, &Piece::Issue(self.issue), &cells, writer)
     }

@@ -1,24 +1,28 @@
 // The page that is asked for, of the records of an input.
-ghost use Rattle.std.specs.Prelude.{◌≡◌, ◌<◌, ◌≤◌, IfOk, OnOk, Some, length, option_map, slice_get, take, true};
+ghost use Rattle.std.specs.Prelude.{◌≡◌, ◌<◌, ◌≤◌, IfOk, OnOk, Some, filter, length, option_map, slice_get, take, true};
 ghost use Rattle.cns_terms.specs.Common.{journal_of, opened, sheet_on};
 ghost use Rattle.cns_book.specs.Log.{state_of};
 ghost use Rattle.cns_feed.specs.Output.{lines_of};
 ghost use Rattle.cns_page.specs.Listed.{last_record, records_before};
-ghost use Rattle.cns_page.specs.Shown.{HasAsked, HasClosed, HasDay, HasPage, HasPast, IsOfRecords, closed_in};
+ghost use Rattle.cns_page.specs.Account.{names};
+ghost use Rattle.cns_page.specs.Asked.{HasAsked, HasOwn, HasOwnDay, HasPage, HasPast, IsOfRecords, closed_in};
+ghost use Rattle.cns_page.specs.Shown.{HasClosed, HasDay};
 ghost use Rattle.cns_page.specs.Survey.{known, noted_all, nothing};
 ghost use Rattle.cns_page.specs.Today.{HasToday};
 
-use crate::asked::{Asked, When};
+use crate::account::{names, write_account};
+use crate::asked::{About, Asked, When};
 use crate::contents::Page;
+use crate::finding::Finding;
 use crate::page::write_page;
 use crate::play::{Played, play};
 use crate::survey::{Close, Survey, place_of};
 use crate::today::{OpenDay, write_today};
 use cns_feed::{MOST_RECORDS, ReplayBook, ReplayFault};
-use cns_history::{Place, write_history};
+use cns_history::{Place, bookings, write_history};
 use cns_sheets::Sheet;
 use cns_shell::Fault;
-use cns_units::Day;
+use cns_units::{Account, Day};
 use std::alloc::Global;
 use std::io::Write;
 
@@ -118,6 +122,82 @@ fn write_day<O: Write>(
         sheet,
     };
     write_page(alloc, &page, output)
+}
+
+// Whether an account is a member's or the corporation's, so far as the listed issues tell.
+fn check_account(book: &ReplayBook, sheet: &Sheet<Global>, account: Account) -> Result<(), Fault> {
+    let Some((issue, _)) = sheet.next_price(None) else {
+        return Ok(());
+    };
+    match book.position(account, issue) {
+        Some(_) => Ok(()),
+        None => Err(Fault::NoSuchMember),
+    }
+}
+
+// Keeps the exceptions that name an account.
+fn keep_named(findings: &mut Vec<Finding>, account: Account)
+    ensures { findings.new.items ≡ filter (names account) findings.old.items }
+{
+    findings.retain(|finding| names(account, finding));
+}
+
+// Writes the page of what the day that a close ends did to an account, of the records up to that close alone; those after `from`
+// are the day's.
+fn write_own_day<O: Write>(
+    alloc: Global,
+    opening: Day,
+    account: Account,
+    input: &[u8],
+    from: u64,
+    close: Close,
+    output: &mut O,
+) -> Result<(), Fault>
+    ensures { OnOk result (HasOwnDay account opening input.now from close (O.contents output.old) (O.contents output.new)) }
+{
+    let before = close.record.saturating_sub(1);
+    let lines = bookings(alloc, opening, account, input, from, before)?;
+    let Played {
+        mut survey,
+        book,
+        bytes,
+        is_whole: _,
+    } = play(alloc, input, opening, from, close.record)?;
+    let Some(sheet) = sheet_of(&book, close.date) else {
+        return Err(Fault::NoSuchDay);
+    };
+    check_account(&book, sheet, account)?;
+    keep_named(&mut survey.findings, account);
+    let page = Page {
+        opening,
+        input: first_of(input, bytes),
+        survey: &survey,
+        close,
+        book: &book,
+        sheet,
+    };
+    write_account(alloc, account, &page, lines.as_slice(), output)
+}
+
+// Writes the page of what the closed day that is asked for, the last one where none is, did to an account, by the closes among all
+// records.
+fn write_own<O: Write>(
+    alloc: Global,
+    opening: Day,
+    account: Account,
+    input: &[u8],
+    survey: &Survey,
+    day: Option<Day>,
+    output: &mut O,
+) -> Result<(), Fault>
+    ensures { OnOk result (HasOwn account opening input.now survey.now.closes.items day (O.contents output.old) (O.contents output.new)) }
+{
+    let Some(place) = place_of(survey.closes.as_slice(), day) else {
+        return Err(Fault::NoSuchDay);
+    };
+    let from = records_before(survey, place);
+    let close = close_at(survey, place);
+    write_own_day(alloc, opening, account, input, from, close, output)
 }
 
 // Writes the page of the day that is open after all records, of which there are at most so many; those after `from` are the day's.
@@ -229,7 +309,8 @@ fn write_asked<O: Write>(
 /// Writes the page that is asked for, of the records of an input, and hands it on.
 ///
 /// `NoMemory` where an allocation failed, `Read` where there are 4,294,967,295 records or more, `NoSuchDay` where no closed
-/// day has the date, or no day is closed, and `Write` where the writer fails. What was written before stands.
+/// day has the date, or no day is closed, or what the open day did to an account is asked for,
+/// `NoSuchMember` and `NoSuchIssue` where the account or the issue that is asked for is not there, and `Write` where the writer fails. What was written before stands.
 pub(crate) fn make<O: Write>(
     alloc: Global,
     asked: &Asked,
@@ -241,10 +322,14 @@ pub(crate) fn make<O: Write>(
     let opening = asked.opening;
     let most = u64::from(MOST_RECORDS);
     let survey = survey_of(alloc, opening, input, most)?;
-    match asked.place {
-        None => write_asked(alloc, opening, asked.day, input, &survey, most, output),
-        Some(key) => {
-            let day = closed_in(asked.day);
+    let day = closed_in(asked.day);
+    match asked.about {
+        About::All => write_asked(alloc, opening, asked.day, input, &survey, most, output),
+        About::Account(account) => match asked.day {
+            When::Today => Err(Fault::NoSuchDay),
+            _ => write_own(alloc, opening, account, input, &survey, day, output),
+        },
+        About::Place(key) => {
             let place = Place { opening, day, key };
             write_past(alloc, &place, input, &survey, most, output)
         }

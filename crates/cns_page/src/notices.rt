@@ -50,9 +50,9 @@ impl TableRow for Numbered {
         let cells = [
             Piece::Number(u64::from(self.number)),
             Piece::Number(u64::from(notice.member.value())),
-            Piece::Number(notice.shares.value()),
+            Piece::Count(notice.shares.value()),
             Piece::Number(given),
-            Piece::Number(notice.remaining),
+            Piece::Count(notice.remaining),
             Piece::Number(given + 2),
         ];
         write_line(ROW, &Piece::Issue(notice.issue), &cells, writer)

@@ -43,7 +43,8 @@ const RECORDS: &str = " of the book, as its close left it: records ";
 
 const TO: &str = " to ";
 
-const NEXT: &str = ". The next day is ";
+/// What stands before the date of the next day.
+pub(crate) const NEXT: &str = ". The next day is ";
 
 const LINKS: &str = ".</p>
 <nav aria-label=Contents><ul>
@@ -80,7 +81,7 @@ fn write_head<W: Write>(head: &Head, writer: &mut W) -> Result<(), WriteFault>
         Piece::Markup(TO),
         Piece::Number(head.last),
         Piece::Markup(EXCEPTIONS),
-        Piece::Number(head.exceptions),
+        Piece::Count(head.exceptions),
         Piece::Markup(NEXT),
         Piece::Date(head.next),
         Piece::Markup(LINKS),

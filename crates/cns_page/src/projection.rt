@@ -12,8 +12,8 @@ use cns_units::{Day, WriteFault};
 use std::alloc::Global;
 use std::io::Write;
 
-// The trade of an entry of the history, where it was accepted and is dated after the day.
-fn later(entry: &Taken, day: Day) -> Option<Trade>
+/// The trade of an entry of the history, where it was accepted and is dated after the day.
+pub fn later(entry: &Taken, day: Day) -> Option<Trade>
     ensures { later_among day (entry.now ∷ []) ≡ option_to_list result }
 {
     match (&entry.command, &entry.reply) {
@@ -94,7 +94,7 @@ impl TableRow for Due {
             Piece::Number(u64::from(trade.buyer.value())),
             Piece::Number(u64::from(trade.seller.value())),
             Piece::Issue(trade.issue),
-            Piece::Number(trade.shares.value()),
+            Piece::Count(trade.shares.value()),
             Piece::Amount(cents_of(trade.money.value())),
             Piece::Booked(self.is_booked),
         ];

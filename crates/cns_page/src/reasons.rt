@@ -69,7 +69,7 @@ impl TableRow for Counted {
         write_line(
             ROW,
             &Piece::Markup(self.name),
-            &[Piece::Number(self.count)],
+            &[Piece::Count(self.count)],
             writer,
         )
     }

@@ -1,9 +1,9 @@
 // What the records of an input come to, one after another.
-ghost use Rattle.std.specs.Prelude.{◌≡◌, ◌<◌, ◌-◌, ◌^◌, IfSome, OnOk, nat_lt};
+ghost use Rattle.std.specs.Prelude.{◌≡◌, ◌<◌, ◌-◌, ◌^◌, ◌&&◌, IfSome, OnOk, length, nat_lt};
 ghost use Rattle.cns_page.specs.Survey.{IsChosen, counted, day_closed, first_too, known, nothing, of_day, replied, wanted, why};
 
-use crate::facts::facts_of;
-use crate::finding::{Facts, Finding, NO_FACTS, Outcome};
+use crate::facts::{facts_of, parties_of};
+use crate::finding::{Facts, Finding, NO_FACTS, NO_PARTIES, Outcome, Parties};
 use crate::given::given;
 use crate::words::{fault_words, refusal_words};
 use cns_feed::{LineFault, ReplayBook};
@@ -101,6 +101,13 @@ impl Survey {
         self.from < self.records
     }
 
+    // Whether the record would be among the exceptions that are shown, were it one.
+    fn has_room(&self) -> bool
+        ensures { result ≡ (nat_lt self.now.from self.now.records && nat_lt (length self.now.findings.items) 200) }
+    {
+        self.is_of_day() && self.findings.len() < MOST
+    }
+
     fn note_refusal(
         &mut self,
         book: &ReplayBook,
@@ -110,20 +117,22 @@ impl Survey {
     ) -> Result<(), NoMemory>
         ensures { OnOk result (known self.new ≡ wanted (known self.old) (why (Outcome.Refused refusal))) }
     {
-        let facts = if self.is_of_day() {
+        let facts = if self.has_room() {
             facts_of(book, command, refusal)
         } else {
             NO_FACTS
         };
         let words = refusal_words(refusal, command);
-        self.note_exception(text, Outcome::Refused(refusal), words, facts)
+        let parties = parties_of(command);
+        self.note_exception(text, Outcome::Refused(refusal), words, facts, parties)
     }
 
     /// Notes that a record with the text is invalid.
     pub(crate) fn note_fault(&mut self, text: &[u8], fault: LineFault) -> Result<(), NoMemory>
         ensures { OnOk result (known self.new ≡ wanted (known self.old) (why (Outcome.AtFault fault))) }
     {
-        self.note_exception(text, Outcome::AtFault(fault), fault_words(fault), NO_FACTS)
+        let words = fault_words(fault);
+        self.note_exception(text, Outcome::AtFault(fault), words, NO_FACTS, NO_PARTIES)
     }
 
     // Notes why a record with the text is an exception, and what decided it.
@@ -133,12 +142,13 @@ impl Survey {
         outcome: Outcome,
         words: &'static str,
         facts: Facts,
+        parties: Parties,
     ) -> Result<(), NoMemory>
         ensures { OnOk result (known self.new ≡ wanted (known self.old) (why outcome)) }
     {
         self.exceptions = self.exceptions.saturating_add(1);
         if self.is_of_day() {
-            self.note_reason(text, outcome, words, facts)
+            self.note_reason(text, outcome, words, facts, parties)
         } else {
             Ok(())
         }
@@ -150,12 +160,13 @@ impl Survey {
         outcome: Outcome,
         words: &'static str,
         facts: Facts,
+        parties: Parties,
     ) -> Result<(), NoMemory>
         ensures { OnOk result (known self.new ≡ of_day (known self.old) (why outcome)) }
     {
         self.reasons.push(outcome)?;
         if self.findings.len() < MOST {
-            self.note_finding(text, outcome, words, facts)
+            self.note_finding(text, outcome, words, facts, parties)
         } else {
             Ok(())
         }
@@ -167,6 +178,7 @@ impl Survey {
         outcome: Outcome,
         words: &'static str,
         facts: Facts,
+        parties: Parties,
     ) -> Result<(), NoMemory>
         ensures { OnOk result (known self.new ≡ first_too (known self.old) (why outcome)) }
     {
@@ -177,6 +189,7 @@ impl Survey {
             outcome,
             words,
             facts,
+            parties,
         })?;
         Ok(())
     }

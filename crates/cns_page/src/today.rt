@@ -86,9 +86,9 @@ fn write_heading<W: Write>(heading: &Heading, writer: &mut W) -> Result<(), Writ
         Piece::Markup(SO_FAR),
         Piece::Number(heading.from),
         Piece::Markup(COUNT),
-        Piece::Number(heading.records),
+        Piece::Count(heading.records),
         Piece::Markup(EXCEPTIONS),
-        Piece::Number(heading.exceptions),
+        Piece::Count(heading.exceptions),
         Piece::Markup(MAIN),
     ];
     write_pieces(&pieces, writer)

@@ -46,7 +46,7 @@ impl TableRow for Span {
     ghost text = { span_text };
 
     fn write_row<W: Write>(&self, writer: &mut W) -> Result<(), WriteFault> {
-        let cells = [Piece::Number(self.records), Piece::Number(self.exceptions)];
+        let cells = [Piece::Count(self.records), Piece::Count(self.exceptions)];
         write_line(ROW, &Piece::Markup(self.name), &cells, writer)
     }
 }

@@ -1,0 +1,84 @@
+-- What is looked for in a history, entry by entry.
+-- For `first` and `waiting` of sought.rt.
+use Rattle.std.proofs.Common.{◌≡◌, ◌∙◌, sym, ap, ℕ, suc, ◌+◌, ◌-◌, ◌^◌, ◌≤◌, ◌<◌, List, [], ◌∷◌, ◌++◌, Option, Some, None, take, drop, reverse, slice_get, filter, filter_map, map, min, arith, ◌==◌, ◌&&◌, if◌then◌else◌}
+use Rattle.std.specs.Option.{option_to_list}
+use Rattle.std.specs.Prelude.{sum_by}
+use Rattle.std.proofs.Math.Seq.{take-add}
+use Rattle.std.proofs.lemmas.List.{map-append}
+use Rattle.std.proofs.lemmas.List.Elements.{filter-append, filter_map-append}
+use Rattle.std.proofs.lemmas.List.Sums.{sum_by-append}
+use Rattle.cns_terms.specs.Common.{Account, Cusip, pend_of}
+use Rattle.cns_terms.specs.Sums.{same_issue}
+use Rattle.cns_terms.specs.declared.command.Activity.{Activity}
+use Rattle.cns_terms.specs.declared.command.Trade.{Trade}
+use Rattle.cns_terms.specs.declared.history.Taken.{Taken}
+use Rattle.cns_terms.specs.declared.pend.Pend.{Pend}
+use Rattle.cns_book.specs.Shown.{entry_at}
+use Rattle.cns_page.specs.Listed.{if_accepted, looked_at}
+use Rattle.cns_page.specs.Sought.{activity_in, first_sought, is_sought, sought_among, waiting_in, with_trade}
+use Rattle.cns_page.specs.declared.sought.Sought.{Sought}
+use Rattle.cns_page.proofs.Later.{entry_there}
+use Rattle.cns_page.proofs.Walked.{take_next, take_past}
+
+-- ---- an activity that is looked for
+
+-- among some entries and others
+append : (s : Sought) (ts us : List Taken) → sought_among s (ts ++ us) ≡ sought_among s ts ++ sought_among s us
+append s ts us =
+    ap (filter (is_sought s)) (filter_map-append (λ t. if_accepted t.reply (activity_in t.command)) ts us)
+    ∙ filter-append (is_sought s) (filter_map (λ t. if_accepted t.reply (activity_in t.command)) ts) (filter_map (λ t. if_accepted t.reply (activity_in t.command)) us)
+
+module _ (s : Sought) (H : List Taken) (place : ℕ) (le : 1 ≤ place) (was : sought_among s (take (place - 1) (reverse H)) ≡ []) where
+  -- one entry more
+  next : (t : Taken) (o : Option Activity) → entry_at H place ≡ Some t → sought_among s (t ∷ []) ≡ option_to_list o → sought_among s (take (place + 1 - 1) (reverse H)) ≡ option_to_list o
+  next t o there is =
+      let later : suc (place - 1) ≡ place + 1 - 1 = omega arith in
+      let whole : take (place - 1) (reverse H) ++ t ∷ [] ≡ take (place + 1 - 1) (reverse H) =
+      sym (take_next (reverse H) (place - 1) t (sym (entry_there H place le) ∙ there)) ∙ ap (λ n. take n (reverse H)) later in
+      ap (sought_among s) (sym whole) ∙ append s (take (place - 1) (reverse H)) (t ∷ []) ∙ ap (λ xs. xs ++ sought_among s (t ∷ [])) was ∙ is
+
+  -- one that is not looked for
+  pub sought_passed : (t : Taken) → entry_at H place ≡ Some t → sought_among s (t ∷ []) ≡ [] → sought_among s (take (place + 1 - 1) (reverse H)) ≡ []
+  sought_passed t there is = next t None there is
+
+  -- the first that is
+  pub sought_found : (t : Taken) (x : Activity) → place ≤ 2 ^ 32 - 2 → entry_at H place ≡ Some t → sought_among s (t ∷ []) ≡ x ∷ [] → Some x ≡ first_sought s H
+  sought_found t x few there is =
+      let k = place + 1 - 1 in
+      let left : k + (2 ^ 32 - 2 - k) ≡ 2 ^ 32 - 2 = omega arith in
+      let parts : looked_at H ≡ take k (reverse H) ++ take (2 ^ 32 - 2 - k) (drop k (reverse H)) =
+      ap (λ n. take n (reverse H)) (sym left) ∙ take-add k (2 ^ 32 - 2 - k) (reverse H) in
+      sym (ap (λ xs. slice_get xs 0) (ap (sought_among s) parts ∙ append s (take k (reverse H)) (take (2 ^ 32 - 2 - k) (drop k (reverse H)))
+      ∙ ap (λ xs. xs ++ sought_among s (take (2 ^ 32 - 2 - k) (drop k (reverse H)))) (next t (Some x) there is)))
+
+  -- no entry is left
+  pub sought_ends : place < 2 ^ 32 - 1 → entry_at H place ≡ None → None ≡ first_sought s H
+  sought_ends lt none =
+      sym (ap (λ xs. slice_get xs 0) (ap (sought_among s) (sym (take_past (reverse H) (place - 1) (2 ^ 32 - 2) (sym (entry_there H place le) ∙ none) (omega arith))) ∙ was))
+
+-- none was among all that are looked at
+pub sought_none : (s : Sought) (H : List Taken) (n : ℕ) → n ≡ 2 ^ 32 - 2 → sought_among s (take n (reverse H)) ≡ [] → None ≡ first_sought s H
+sought_none s H n last was = sym (ap (λ xs. slice_get xs 0) (ap (λ k. sought_among s (take k (reverse H))) (sym last) ∙ was))
+
+-- ---- what waits
+
+-- a sum that stops, and one term more
+stops : (n x M : ℕ) → min (min n M + x) M ≡ min (n + x) M
+stops n x M = omega arith
+
+-- one trade more
+module _ (f : Pend → ℕ) (ts : List Trade) (t : Trade) where
+  summed : sum_by f (map pend_of (ts ++ t ∷ [])) ≡ sum_by f (map pend_of ts) + f (pend_of t)
+  summed =
+      let one : sum_by f (pend_of t ∷ []) ≡ f (pend_of t) = omega arith in
+      ap (sum_by f) (map-append pend_of ts (t ∷ [])) ∙ sum_by-append f (map pend_of ts) (pend_of t ∷ []) ∙ ap (λ n. sum_by f (map pend_of ts) + n) one
+
+  pub sum_stops : (M : ℕ) → min (min (sum_by f (map pend_of ts)) M + f (pend_of t)) M ≡ min (sum_by f (map pend_of (ts ++ t ∷ []))) M
+  sum_stops M = stops (sum_by f (map pend_of ts)) (f (pend_of t)) M ∙ ap (λ n. min n M) (sym summed)
+
+-- what waits with one trade more
+pub waiting_more : (a : Account) (c : Cusip) (ts : List Trade) (t : Trade) → with_trade (waiting_in a c ts) t ≡ waiting_in a c (ts ++ t ∷ [])
+waiting_more a c ts t =
+    let bought = sum_stops (λ p. if (p.buyer == a) && same_issue p.issue c then p.shares else 0) ts t (2 ^ 64 - 1) in
+    let sold = sum_stops (λ p. if (p.seller == a) && same_issue p.issue c then p.shares else 0) ts t (2 ^ 64 - 1) in
+    λ i. record { account = a; issue = c; bought = bought i; sold = sold i }

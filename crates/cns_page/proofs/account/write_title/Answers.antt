@@ -1,0 +1,6 @@
+use Rattle.cns_page.specs.Account.{title_text}
+use Rattle.cns_page.proofs.account.write_title.Goals as goal
+
+pub returns : goal.returns
+unfolding title_text
+returns g c = rw (c.from-number.ensures, c.value.ensures.value) at c.write_pieces.ensures

@@ -1,0 +1,82 @@
+-- The page that is asked for.
+use Rattle.std.specs.Prelude.{◌≡◌, ◌≤◌, ℕ, ◌-◌, IfSome, List, filter, length, take, slice_get, Option, None, Some}
+use Rattle.cns_terms.specs.Common.{Account, Day, DaySheet, journal_of, opened}
+use Rattle.cns_terms.specs.Sheets.{sheet_on}
+use Rattle.cns_book.specs.Log.{Log, state_of}
+use Rattle.cns_feed.specs.Output.{lines_of}
+use Rattle.cns_feed.specs.Replay.{blank_log, log_after}
+use Rattle.cns_history.specs.Lines.{history}
+use Rattle.cns_history.specs.Page.{HasHistory}
+use Rattle.cns_history.specs.declared.place.Place.{Place}
+use Rattle.cns_history.specs.declared.watched.Watched.TheVariants as watched
+use Rattle.cns_page.specs.Account.{ShowsAccount, names}
+use Rattle.cns_page.specs.Listed.{last_record, records_before}
+use Rattle.cns_page.specs.Shown.{HasClosed}
+use Rattle.cns_page.specs.Survey.{IsChosen, known, noted_all, nothing}
+use Rattle.cns_page.specs.Today.{HasToday}
+use Rattle.cns_page.specs.declared.asked.About.{About}
+use Rattle.cns_page.specs.declared.asked.About.TheVariants as about
+use Rattle.cns_page.specs.declared.asked.Asked.{Asked}
+use Rattle.cns_page.specs.declared.asked.When.{When}
+use Rattle.cns_page.specs.declared.asked.When.TheVariants as when
+use Rattle.cns_page.specs.declared.survey.Close.{Close}
+use Rattle.cns_page.specs.declared.survey.Survey.{Survey}
+
+-- the day that is asked for, by the closes among an input's records
+abbrev pub HasAsked : Day → List ℕ → List Close → When → Option (List ℕ) → Option (List ℕ) → Type 0
+HasAsked opening input closes when.Last old new = HasClosed opening input closes None old new
+HasAsked opening input closes (when.Closed d) old new = HasClosed opening input closes (Some d) old new
+HasAsked opening input closes when.Today old new = HasToday opening input (last_record closes) old new
+
+-- how many records a history is of, by the closes among all records, of which there are at most so many: those up to the close
+-- of the day with the date, where one is given
+abbrev pub IsOfRecords : List Close → Option Day → ℕ → ℕ → Type 0
+IsOfRecords closes None most records = records ≡ most
+IsOfRecords closes (Some d) most records =
+    (place : ℕ) × IsChosen closes (Some d) place × IfSome (slice_get closes place) (λ c. records ≡ c.record)
+
+-- the history of a place, of so many records
+abbrev pub HasPast : Place → List ℕ → List Close → ℕ → Option (List ℕ) → Option (List ℕ) → Type 0
+HasPast p input closes most old new = (records : ℕ) × IsOfRecords closes p.day most records × HasHistory p records input old new
+
+-- what the day that a close ends did to an account: by a book that took the records up to that close and no more, the sheet that
+-- the book has, and the refused records that name the account. The day's records are those after the one with the number, and that one books what was due
+pub record HasOwnDay (a : Account) (opening : Day) (input : List ℕ) (from : ℕ) (close : Close) (old new : Option (List ℕ)) : Type 0 where
+  pub log : Log
+  pub taken : log ≡ log_after (blank_log opening) (take close.record (lines_of input))
+  pub survey : Survey
+  pub all_known : known survey ≡ noted_all (nothing from) (opened opening) (take close.record (lines_of input))
+  pub sheet : DaySheet
+  pub closed : sheet_on log.opening (journal_of (state_of log)) close.date ≡ Some sheet
+  pub bytes : ℕ
+  pub shown : ShowsAccount opening (take bytes input) log close sheet a
+      (history (watched.Account a from) 0 (opened opening) (take (close.record - 1) (lines_of input))) (filter (names a) survey.findings.items) old new
+
+-- of the closed day with the date, or of the last one
+pub record HasOwn (a : Account) (opening : Day) (input : List ℕ) (closes : List Close) (day : Option Day) (old new : Option (List ℕ)) : Type 0 where
+  pub place : ℕ
+  pub chosen : IsChosen closes day place
+  pub close : Close
+  pub there : slice_get closes place ≡ Some close
+  pub shown : HasOwnDay a opening input (records_before closes place) close old new
+
+-- the closed day that is asked for; None for the last one and for the open one
+abbrev pub closed_in : When → Option Day
+closed_in when.Last = None
+closed_in (when.Closed d) = Some d
+closed_in when.Today = None
+
+-- what is asked for: the page of the day, what the closed day did to the account, or the history of the place
+abbrev pub HasShown : About → Day → List ℕ → List Close → ℕ → When → Option (List ℕ) → Option (List ℕ) → Type 0
+HasShown about.All opening input closes most w old new = HasAsked opening input closes w old new
+HasShown (about.Account a) opening input closes most w old new = HasOwn a opening input closes (closed_in w) old new
+HasShown (about.Place k) opening input closes most w old new =
+    HasPast (record { opening = opening; day = closed_in w; key = k }) input closes most old new
+
+-- the page that is asked for, of the records of an input, of which there are at most so many
+pub record HasPage (asked : Asked) (input : List ℕ) (old new : Option (List ℕ)) : Type 0 where
+  pub most : ℕ
+  pub few : length (lines_of input) ≤ most
+  pub survey : Survey
+  pub all_known : known survey ≡ noted_all (nothing most) (opened asked.opening) (lines_of input)
+  pub shown : HasShown asked.about asked.opening input survey.closes.items most asked.day old new

@@ -1,0 +1,55 @@
+-- What a book's history has that decided a refusal.
+use Rattle.std.specs.Prelude.{ℕ, ◌+◌, ◌-◌, ◌^◌, Bool, false, not, ◌==◌, ◌&&◌, if◌then◌else◌, List, filter, filter_map, map, min, slice_get, Option, Some, None}
+use Rattle.cns_terms.specs.Common.{Account, Cusip, bought_in, is_not_after, pend_of, sold_in}
+use Rattle.cns_terms.specs.Sums.{same_issue}
+use Rattle.cns_terms.specs.declared.command.Activity.{Activity}
+use Rattle.cns_terms.specs.declared.command.Activity.TheVariants as activity
+use Rattle.cns_terms.specs.declared.command.Command.{Command}
+use Rattle.cns_terms.specs.declared.command.Command.TheVariants as command
+use Rattle.cns_terms.specs.declared.command.Trade.{Trade}
+use Rattle.cns_terms.specs.declared.history.Taken.{Taken}
+use Rattle.cns_page.specs.Listed.{if_accepted, looked_at}
+use Rattle.cns_page.specs.declared.finding.Waiting.{Waiting}
+use Rattle.cns_page.specs.declared.sought.Sought.{Sought}
+use Rattle.cns_page.specs.declared.sought.Sought.TheVariants as sought
+
+-- the activity that a command hands in
+abbrev pub activity_in : Command → Option Activity
+activity_in (command.Activity x) = Some x
+activity_in (command.Position k) = None
+activity_in (command.Statement a d) = None
+
+-- whether an activity is one that is looked for
+abbrev pub is_sought : Sought → Activity → Bool
+is_sought (sought.Exchange c) (activity.Exchange x) = same_issue x.old c
+is_sought (sought.Reference n) (activity.Trade t) = t.reference == n
+is_sought (sought.Pending c d) (activity.Trade t) = same_issue t.issue c && not (is_not_after t.date d)
+is_sought _ _ = false
+
+-- those among the accepted activities of entries of a history
+abbrev pub sought_among : Sought → List Taken → List Activity
+sought_among s ts = filter (is_sought s) (filter_map (λ t. if_accepted t.reply (activity_in t.command)) ts)
+
+-- the first of them in a history
+abbrev pub first_sought : Sought → List Taken → Option Activity
+first_sought s H = slice_get (sought_among s (looked_at H)) 0
+
+-- what an account is to get and to give in an issue by trades that wait, as far as the sums go
+abbrev pub waiting_in : Account → Cusip → List Trade → Waiting
+waiting_in a c ts = record {
+  account = a;
+  issue = c;
+  bought = min (bought_in (map pend_of ts) a c) (2 ^ 64 - 1);
+  sold = min (sold_in (map pend_of ts) a c) (2 ^ 64 - 1);
+}
+
+-- the shares of a trade, where its party is the account and its issue the one of what waits
+abbrev pub shares_of : Trade → Account → Waiting → ℕ
+shares_of t party w = if (party == w.account) && same_issue t.issue w.issue then t.shares else 0
+
+-- the same with one trade more
+abbrev pub with_trade : Waiting → Trade → Waiting
+with_trade w t = record w {
+  bought = min (w.bought + shares_of t t.buyer w) (2 ^ 64 - 1);
+  sold = min (w.sold + shares_of t t.seller w) (2 ^ 64 - 1);
+}

@@ -1,0 +1,230 @@
+"""The figures of the page of an account's closed day: those that cnspage shows, and those that it has to show by
+tests/recompute.py.
+
+Both are lines of text, as in tests/figures.py, whose rows of fails, liable members, notices and trades this page has too. What
+moved a position is a sum over the entries that are dated within the day, by the kind of the activity that booked them. That it
+adds up, to the closing position and to the mark, is asserted of each page.
+"""
+
+import collections
+import hashlib
+import html
+import re
+
+from figures import FOOT, MOST_EXCEPTIONS, ROW, SECTION, Day, count, dollars, of_table, reason
+from recompute import Book, command_of, ended_records
+
+# ---- what a page shows --------------------------------------------------------------------------------------------
+
+HEAD = re.compile(
+    r"<title>(Account \d+ on \S+)</title>.*<h1>\1</h1>\s*<p>Day (\d+), as its close left it\."
+    r" Market value of the positions \(dollars\): long (\S+), short (\S+), net (\S+)\."
+    r" Mark (\S+), dividends (\S+)\. The next day is (\S+)\.</p>",
+    re.DOTALL,
+)
+AGAIN = re.compile(r"<code>(cnspage [^<]*)</code>")
+
+
+def shown(page):
+    """The figures that a page shows, and the names of its tables."""
+    page = page.decode()
+    lines = [" ".join(["head", *HEAD.search(page).groups()])]
+    for name, text in SECTION.findall(page):
+        lines += [f"table {name}", *(" ".join([name, *of_table(name, row)]) for row in ROW.findall(text))]
+    return [*lines, html.unescape(AGAIN.search(page)[1]), " ".join(["foot", *FOOT.search(page).groups()])]
+
+
+# ---- what it has to show ------------------------------------------------------------------------------------------
+
+# The kinds that book, by the column in which a page has what they move.
+CAUSES = {
+    "settling trades": ["TRADE"],
+    "delivered": ["DELIVER"],
+    "received": ["RECEIVE"],
+    "corporate actions": ["SPLIT", "EXCHANGE"],
+    "buy-ins": ["EXECUTE"],
+}
+# The fields that name accounts, by the kind of the record.
+NAMING = {"TRADE": [1, 2], **dict.fromkeys(["MEMBER", "DELIVER", "RECEIVE", "NOTICE", "POSITION", "STATEMENT"], [0])}
+# What was booked for a cause.
+Moved = collections.namedtuple("Moved", "shares cents")
+# What was booked in an issue at once: the number of the record, its words, and the entries.
+Step = collections.namedtuple("Step", "number issue what entries")
+DUE = "Trades that were due, booked by the close"
+
+
+def moved(entries):
+    return Moved(sum(it.shares for it in entries), sum(it.cents for it in entries))
+
+
+def words(account, kind, values):
+    """What booked for an account, as a page says it."""
+    if kind == "TRADE":
+        reference, buyer, seller = values[:3]
+        return f"Trade {reference}: " + (f"bought from member {seller}" if account == buyer else f"sold to member {buyer}")
+    if kind == "EXCHANGE":
+        old, successor = (it.decode() for it in values[:2])
+        return f"Exchange of {old} for {successor}: {values[2]} new for {values[3]} old"
+    return {
+        "DELIVER": f"Delivered by member {values[0]}",
+        "RECEIVE": f"Received by member {values[0]}",
+        "SPLIT": f"Split: {values[1]} new for {values[-2]} old",
+        "EXECUTE": f"Buy-in execution of notice {values[0]}",
+    }[kind]
+
+
+class Own:
+    """What the day that a book has just closed did to an account, of whose refused records some are given."""
+
+    def __init__(self, day, account, numbers, refused):
+        self.day, self.book, self.account, self.numbers, self.refused = day, day.book, account, numbers, refused
+        self.rows = self.book.rows(account, day.day)
+        self.booked = [it for it in self.book.entries if it.account == account and self.is_of_day(it)]
+
+    # -- what moved the positions
+
+    def is_of_day(self, entry):
+        """Whether what an activity books is dated after the day before, and not after this one."""
+        before = self.book.date_of(self.day.day - 1) if self.day.day > 1 else None
+        return entry.date <= self.day.date and (before is None or entry.date > before)
+
+    def activity(self, entry):
+        return self.book.accepted[entry.place]
+
+    def moves(self, row):
+        """What each cause moved in the issue of a row."""
+        booked = [it for it in self.booked if it.issue == row.issue]
+        moves = [moved([it for it in booked if self.activity(it).kind in kinds]) for kinds in CAUSES.values()]
+        assert row.opening + sum(it.shares for it in moves) == row.closing
+        assert sum(it.cents for it in moves) == row.cents
+        return moves
+
+    def head(self):
+        worth = [it.closing * it.price for it in self.rows]
+        sums = sum(it for it in worth if it > 0), sum(it for it in worth if it < 0), sum(worth)
+        stated = sum(it.mark for it in self.rows), sum(it.dividend for it in self.rows)
+        return [f"Account {self.account} on {self.day.date}", self.day.day, *map(dollars, sums + stated), self.day.next]
+
+    def positions(self):
+        for row in self.rows:
+            shares = [row.opening, *(it.shares for it in self.moves(row)), row.closing]
+            amounts = row.price, row.closing * row.price, row.mark, row.dividend
+            age = self.book.age(self.account, row.issue, self.day.day)
+            yield [row.issue.decode(), *map(count, shares), age, *map(dollars, amounts)]
+
+    def marks(self):
+        for row in self.rows:
+            parts = [row.opening * (row.price - row.opening_price)]
+            parts += [it.shares * row.price + it.cents for it in self.moves(row)]
+            assert sum(parts) == row.mark
+            amounts = row.opening_price, row.price, *parts, row.mark, row.cents
+            yield [row.issue.decode(), *map(dollars, amounts)]
+
+    # -- what comes
+
+    def due(self):
+        """In each issue: the closing position, with what the close booked into the next day, and with all that is pending."""
+        for issue in self.book.issues():
+            closing = self.book.position_at_close(self.account, issue, self.day.day)
+            due = self.book.position(self.account, issue)
+            after = due + sum(it.shares for it in self.book.waiting(issue) if it.account == self.account)
+            if closing or due or after:
+                yield [issue.decode(), *map(count, (closing, due - closing, due, after))]
+
+    # -- the account's own rows of the tables of the day, by the columns that name members
+
+    def fails(self):
+        return [it for it in self.day.fails() if it[1] == self.account]
+
+    def liable(self):
+        return [it for it in self.day.liable() if it[2] == self.account]
+
+    def notices(self):
+        return [it for it in self.day.notices() if it[2] == self.account]
+
+    def projection(self):
+        return [it for it in self.day.projection() if self.account in it[2:4]]
+
+    # -- records
+
+    def steps(self):
+        """What booked, in order: the close before, issue by issue, and then the day's records. An exchange books in the old
+        issue before the successor."""
+        waited = [it for it in self.booked if self.activity(it).day < self.day.day]
+        for issue in sorted({it.issue for it in waited}):
+            close = self.book.of_kind("CLOSE")[self.day.day - 2]
+            yield Step(self.numbers[close.place], issue, DUE, [it for it in waited if it.issue == issue])
+        for place in sorted({it.place for it in self.booked} - {it.place for it in waited}):
+            _, _, kind, values = self.book.accepted[place]
+            what, own = words(self.account, kind, values), [it for it in self.booked if it.place == place]
+            for issue in values[:2] if kind == "EXCHANGE" else {it.issue for it in own}:
+                yield Step(self.numbers[place], issue, what, [it for it in own if it.issue == issue])
+
+    def bookings(self):
+        stands = {issue: self.book.position_at_close(self.account, issue, self.day.day - 1) for issue in self.book.issues()}
+        for number, issue, what, entries in self.steps():
+            shares, cents = moved(entries)
+            stands[issue] += shares
+            if shares or cents:
+                yield [number, issue.decode(), what, count(shares), dollars(cents), count(stands[issue])]
+        assert all(stands[it.issue] == it.closing for it in self.rows)
+
+    def exceptions(self):
+        for number, why, kind, values in self.refused:
+            if self.account in [values[it] for it in NAMING.get(kind, [])]:
+                yield [number, f"Refused {why}"]
+
+    # -- the page
+
+    def lines(self, first):
+        """The page, which is made of the first bytes of the records."""
+        tables = [(name, list(getattr(self, name)())) for name in TABLES]
+        shown = [line for name, rows in tables for line in [["table", name], *([name, *row] for row in rows)]]
+        options = ["--open", self.book.opening, "--day", self.day.date, "--account", self.account]
+        again = ["cnspage", *options, "< records > day.html"]
+        foot = ["foot", len(first), hashlib.sha256(first).hexdigest(), sum(len(rows) for _, rows in tables)]
+        return [" ".join(map(str, it)) for it in (["head", *self.head()], *shown, again, foot)]
+
+
+TABLES = ["positions", "marks", "due", "fails", "liable", "notices", "projection", "bookings", "exceptions"]
+
+
+def stands_on(lines):
+    """The tables of a page that have rows, and the columns of movements that are not all 0."""
+    tables = [name for name in TABLES if any(line.startswith(f"{name} ") for line in lines)]
+    rows = [line.split(" ") for line in lines if line.startswith("positions ")]
+    return tables + [cause for place, cause in enumerate(CAUSES, 3) if any(row[place] != "0" for row in rows)]
+
+
+class Days:
+    """The closed days of records that were played, found by the book after all of them."""
+
+    def __init__(self, play):
+        self.text, self.book = play.text, play.book
+        self.records = list(ended_records(play.text))
+        self.reasons = [reason(lines[0]) for lines in play.replies]
+        self.numbers = [number for number, lines in enumerate(play.replies, 1) if is_accepted(lines[0])]
+        assert len(self.numbers) == len(play.book.accepted)
+
+    def closed(self, day):
+        """A closed day, of the book as its close left it."""
+        then = Book(self.book.opening)
+        close = self.book.of_kind("CLOSE")[day - 1].place
+        then.accepted = self.book.accepted[: close + 1]
+        then.entries = [it for it in self.book.entries if it.place <= close]
+        return Day(then)
+
+    def page(self, day, account):
+        """What the page of an account on a closed day has to show."""
+        start, end = (self.numbers[close.place] if close else 0 for close in ([None] + day.book.of_kind("CLOSE"))[-2:])
+        return Own(day, account, self.numbers, self.refused(start, end)).lines(self.text[: self.records[end - 1][1]])
+
+    def refused(self, start, end):
+        """Those of the first exceptions between two records that are commands: number, reason, kind and values."""
+        found = [it for it in range(start, end) if self.reasons[it] is not None][:MOST_EXCEPTIONS]
+        return [(it + 1, self.reasons[it], *command_of(self.records[it][0])) for it in found if self.reasons[it]]
+
+
+def is_accepted(line):
+    """Whether a reply is that to an activity that was accepted."""
+    return line.split(" ")[0] in ("ok", "notice", "executed", "closed")
