@@ -16,6 +16,8 @@ MAN = $(DESTDIR)$(PREFIX)/share/man/man1
 MANUAL := docs/man/cnsbook.1 docs/man/cnspage.1
 
 CHROMIUM := chromium
+
+PAGES := pages
 SAMPLES := day week actions buy-in merger
 
 # The crates that the program stands on, lowest first, and the program: those of crates.txt above its tests.
@@ -27,7 +29,7 @@ CRATE := cnsbook
 
 FUZZ := --seconds 600
 
-.PHONY: help run try cases build install uninstall check contracts sample compare test fuzz trials times bench picture
+.PHONY: help run try cases build install uninstall check contracts sample compare test fuzz trials times bench pages
 
 help:
 	@grep -E '^# [a-z]+:' Makefile | sed 's/^# //'
@@ -175,13 +177,20 @@ times:
 bench: build
 	@python3 bench/bench.py $(PROGRAM)
 
-# picture: draws the picture of README.md anew, by the built cnspage and Chromium: a day of examples/week.csv with exceptions
-picture:
-	@[ -x $(PAGE) ] || { echo "make picture: $(PAGE) is not there; run make build first" >&2; exit 1; }; \
-	    room=$$(mktemp -d); trap 'rm -rf "$$room"' EXIT; \
-	    $(PAGE) --open $(OPENING) --day 2024-06-05 < examples/week.csv > "$$room/day.html"; \
+# pages: draws a day, an account's day and a history of examples/week.csv by the built cnspage and Chromium, at 1280 and at 400
+# pixels and on paper, into the folder PAGES=pages, and the picture of README.md anew
+pages:
+	@[ -x $(PAGE) ] || { echo "make pages: $(PAGE) is not there; run make build first" >&2; exit 1; }; \
+	    mkdir -p $(PAGES); room=$$(mktemp -d); trap 'rm -rf "$$room"' EXIT; \
 	    sandbox=; [ "$$(id -u)" != 0 ] || sandbox=--no-sandbox; \
-	    $(CHROMIUM) --headless $$sandbox --disable-gpu --hide-scrollbars --user-data-dir="$$room/profile" \
-	        --window-size=1280,1117 --screenshot="$$room/day.png" "file://$$room/day.html" 2> "$$room/log" \
-	        || { cat "$$room/log" >&2; exit 1; }; \
-	    cp "$$room/day.png" docs/day.png
+	    draw() { $(CHROMIUM) --headless $$sandbox --disable-gpu --hide-scrollbars --user-data-dir="$$room/profile" "$$@" \
+	        2> "$$room/log" || { cat "$$room/log" >&2; exit 1; }; }; \
+	    while read -r name words; do \
+	        page="$$(realpath $(PAGES))/$$name"; \
+	        $(PAGE) --open $(OPENING) $$words < examples/week.csv > "$$page.html"; \
+	        for width in 1280 400; do \
+	            draw --window-size=$$width,1117 --screenshot="$$page-$$width.png" "file://$$page.html" < /dev/null; \
+	        done; \
+	        draw --no-pdf-header-footer --print-to-pdf="$$page.pdf" "file://$$page.html" < /dev/null; \
+	    done <<< $$'day --day 2024-06-05\naccount --day 2024-06-04 --account 202\nhistory --account 303 --issue 594918104'; \
+	    cp $(PAGES)/day-1280.png docs/day.png

@@ -269,4 +269,20 @@ M\xc3\xbcller \xff|M\xc3\xbcller \xef\xbf\xbd
 \xe4\xf6|\xef\xbf\xbd\xef\xbf\xbd
 TEXTS
 
-echo "pages passed: $pages"
+# The pages are HTML, where tidy is on this machine to tell; it warns of tags that may be left out, and they are.
+checked='not checked: tidy is not on this machine'
+if command -v tidy > /dev/null; then
+    while read -r words; do
+        "$program" --open 2024-06-03 $words < examples/week.csv > "$room/page" || fail "words '$words': status $?"
+        tidy -e -q "$room/page" > "$room/errors" 2>&1
+        [ "$?" -lt 2 ] || fail "words '$words', by tidy: $(cat "$room/errors")"
+    done <<'LINES'
+--day 2024-06-05
+--day today
+--day 2024-06-04 --account 202
+--account 303 --issue 594918104
+LINES
+    checked='checked by tidy'
+fi
+
+echo "pages passed: $pages; HTML $checked"
