@@ -147,6 +147,7 @@ test:
 	    python3 tests/ends.py $(PROGRAM) $(PAGE); \
 	    python3 tests/fuzz.py --model; \
 	    bash tests/page.sh $(PAGE); \
+	    bash tests/folder.sh $(PAGE); \
 	    bash tests/install.sh; \
 	    bash tests/run.sh; \
 	    python3 tests/trials.py --apply; \

@@ -1,9 +1,9 @@
 """The figures of the page of an account's closed day: those that cnspage shows, and those that it has to show by
 tests/recompute.py.
 
-Both are lines of text, as in tests/figures.py, whose rows of fails, liable members, notices and trades this page has too. What
-moved a position is a sum over the entries that are dated within the day, by the kind of the activity that booked them. That it
-adds up, to the closing position and to the mark, is asserted of each page.
+Both are lines of text, as in tests/figures.py, whose rows of liable members, notices and trades this page has too. What moved a
+position is a sum over the entries that are dated within the day, by the kind of the activity that booked them. That it adds up, to
+the closing position and to the mark, is asserted of each page, and that its dividends do, to those of the positions.
 """
 
 import collections
@@ -12,7 +12,7 @@ import html
 import re
 
 from figures import FOOT, MOST_EXCEPTIONS, ROW, SECTION, Day, count, dollars, of_table, reason
-from recompute import Book, command_of, ended_records
+from recompute import CORPORATION, Book, command_of, ended_records, towards_zero
 
 # ---- what a page shows --------------------------------------------------------------------------------------------
 
@@ -73,6 +73,54 @@ def words(account, kind, values):
     }[kind]
 
 
+def rate_text(rate):
+    return f"{rate // 10**6:,}.{rate % 10**6:06}"
+
+
+# ---- how long a short has stood, and what was exchanged for it
+
+
+def first_short(book, account, issue, day):
+    """The day of the first of the closes in a row, up to that of a day, at which an account was short in an issue or in one that was
+    turned into it: of several the first. None where it is not short at the last of them."""
+    if day == 0 or book.position_at_close(account, issue, day) >= 0:
+        return None
+    before = [first_short(book, account, it, day - 1) for it in book.turned_into(issue, day)]
+    return min([it for it in before if it], default=day)
+
+
+def behind(book, issue):
+    """An issue, with those that were exchanged for it, directly or by further exchanges."""
+    exchanges, found = [it.values[:2] for it in book.of_kind("EXCHANGE")], [issue]
+    for each in found:
+        found += [old for old, successor in exchanges if successor == each]
+    return found
+
+
+def change_while_short(book, account, issues, first, last):
+    """What the price did, on the days after one up to another, to what was short in issues when they began."""
+    moves = [
+        (book.position_at_close(account, it, day - 1), book.price(it, day) - book.price(it, day - 1))
+        for day in range(first + 1, last + 1)
+        for it in issues
+    ]
+    return sum(opening * change for opening, change in moves if opening < 0)
+
+
+# What may be told of the shorts of a member: that an exchange brought an age, and that the price moved one before its exchange.
+BROUGHT, MOVED = "a fail whose age was brought", "a fail that moved before its exchange"
+
+
+def told_of_shorts(book, account, day):
+    """Which of these two is so of a member at the close of a day."""
+    if account == CORPORATION:
+        return []
+    firsts = [(it, first_short(book, account, it, day)) for it in book.issues()]
+    brought = [(it, first) for it, first in firsts if first and book.position_at_close(account, it, first) >= 0]
+    moved = any(change_while_short(book, account, behind(book, it)[1:], first, day) for it, first in brought)
+    return [BROUGHT] * bool(brought) + [MOVED] * moved
+
+
 class Own:
     """What the day that a book has just closed did to an account, of whose refused records some are given."""
 
@@ -120,6 +168,28 @@ class Own:
             amounts = row.opening_price, row.price, *parts, row.mark, row.cents
             yield [row.issue.decode(), *map(dollars, amounts)]
 
+    # -- dividends
+
+    def cash(self, account, issue, recorded, rate):
+        """What a dividend pays an account; the corporation's is the opposite of the members' sum."""
+        if account == CORPORATION:
+            return -sum(self.cash(it, issue, recorded, rate) for it in self.book.members())
+        return towards_zero(self.position_on(account, issue, recorded) * rate, 10000)
+
+    def position_on(self, account, issue, recorded):
+        return self.book.position_at_close(account, issue, self.book.last_close_by(recorded))
+
+    def dividends(self):
+        """The dividends that the close paid to the account or took from it."""
+        paid = dict.fromkeys(self.book.issues(), 0)
+        for issue in paid:
+            for _, recorded, payable, rate in self.book.dividends_due(issue, self.day.day):
+                position, cents = self.position_on(self.account, issue, recorded), self.cash(self.account, issue, recorded, rate)
+                paid[issue] += cents
+                if position or self.account == CORPORATION:
+                    yield [issue.decode(), recorded, payable, rate_text(rate), count(position), dollars(cents)]
+        assert {it: cents for it, cents in paid.items() if cents} == {it.issue: it.dividend for it in self.rows if it.dividend}
+
     # -- what comes
 
     def due(self):
@@ -131,10 +201,19 @@ class Own:
             if closing or due or after:
                 yield [issue.decode(), *map(count, (closing, due - closing, due, after))]
 
-    # -- the account's own rows of the tables of the day, by the columns that name members
+    # -- its fails
 
     def fails(self):
-        return [it for it in self.day.fails() if it[1] == self.account]
+        """Its shorts, the oldest first, each with the first close of its age and what the price did to it since."""
+        shorts = [it for it in self.rows if it.closing < 0 and self.account != CORPORATION]
+        firsts = [(first_short(self.book, self.account, it.issue, self.day.day), it) for it in shorts]
+        for first, it in sorted(firsts, key=lambda it: it[0]):
+            change = change_while_short(self.book, self.account, behind(self.book, it.issue), first, self.day.day)
+            shares, amounts = (it.opening, it.closing), (it.price, it.closing * it.price, change)
+            age, since = self.day.day + 1 - first, self.book.date_of(first)
+            yield [it.issue.decode(), age, since, *map(count, shares), *map(dollars, amounts)]
+
+    # -- the account's own rows of the tables of the day, by the columns that name members
 
     def liable(self):
         return [it for it in self.day.liable() if it[2] == self.account]
@@ -186,7 +265,7 @@ class Own:
         return [" ".join(map(str, it)) for it in (["head", *self.head()], *shown, again, foot)]
 
 
-TABLES = ["positions", "marks", "due", "fails", "liable", "notices", "projection", "bookings", "exceptions"]
+TABLES = ["positions", "marks", "dividends", "due", "fails", "liable", "notices", "projection", "bookings", "exceptions"]
 
 
 def stands_on(lines):

@@ -264,15 +264,17 @@ def answers_accounts(page, play):
             output, errors, status = page_of(page, play, day.date, account)
             got = recompute.written(accounts.shown(output)) if status == 0 else output
             lines = days.page(day, account)
-            for what in ["", *(f" with {it}" for it in accounts.stands_on(lines))]:
+            stands = accounts.stands_on(lines) + accounts.told_of_shorts(day.book, account, number)
+            for what in ["", *(f" with {it}" for it in stands)]:
                 yield f"an account's page{what}", (recompute.written(lines), b"", 0), (got, errors, status)
 
 
 def accounts_asked(day, rng):
-    """The corporation, a member of a closed day, and one that has no row on its sheet."""
+    """The corporation, a member of a closed day, one that has no row on its sheet, and one of whose shorts most is told."""
     members, owners = day.book.members(), {account for account, _ in day.rows}
     any_one, without = rng.sample(members, min(len(members), 1)), [it for it in members if it not in owners][:1]
-    return sorted({recompute.CORPORATION, *any_one, *without})
+    told = sorted(members, key=lambda it: -len(accounts.told_of_shorts(day.book, it, day.day)))[:1]
+    return sorted({recompute.CORPORATION, *any_one, *without, *told})
 
 
 def difference(answers, program, play):

@@ -20,8 +20,8 @@ ISSUE, OTHER = "17275R102", "594918104"
 # What stands on the page of many things, and how often: the first 200 exceptions, and the counts of all. Member 1 has sold its
 # share, so its notice is refused too.
 PAGE_MARKS = {b"<td><code>": 200, b"member exists<td>1,000\n": 1, b"not long<td>1\n": 1}
-# And on that of member 2000, which has sold a share to each of a thousand: their seller, once short and once liable.
-OWN_MARKS = {b"<td>2000<td>": 1_002, b"<td>-999<td>-1,000<td>-1,999<td>-1,999\n": 1}
+# And on that of member 2000, which has sold a share to each of a thousand: their seller, and once liable; short since the first day.
+OWN_MARKS = {b"<td>2000<td>": 1_001, b"<td>-999<td>-1,000<td>-1,999<td>-1,999\n": 1, b"<td>100<td>2024-06-03<td>-999<td>-999<td>": 1}
 
 
 def cusip(number):

@@ -7,7 +7,7 @@
 set -u
 
 program=${1:?usage: tests/page.sh PROGRAM}
-usage='usage: cnspage --open DATE [--day DATE|today] [--account N [--issue CUSIP]] < RECORDS'
+usage='usage: cnspage --open DATE [--day DATE|today] [--account N [--issue CUSIP] | --folder DIR] < RECORDS'
 room=$(mktemp -d)
 trap 'rm -rf "$room"' EXIT
 
@@ -56,6 +56,11 @@ done <<'LINES'
 --open 2024-06-03 --account +303 --issue 594918104
 --open 2024-06-03 --account '' --issue 594918104
 --open 2024-06-03 --account 303 --issue 594918105
+--open 2024-06-03 --account 303 --folder .
+--open 2024-06-03 --account 303 --issue 594918104 --folder .
+--open 2024-06-03 --issue 594918104 --folder .
+--open 2024-06-03 --folder . --folder .
+--open 2024-06-03 --folder
 --open 2024-06-03 --help
 --help
 --version
@@ -175,11 +180,12 @@ positions
 marks
 023135106<td>178.34<td>179.34<td>120.00<td>0.00<td>0.00<td>-21,520.80<td>0.00<td>0.00<td>-21,400.80<td>0.00
 037833100<td>194.03<td>194.35<td>-256.00<td>0.00<td>97,175.00<td>0.00<td>0.00<td>0.00<td>96,919.00<td>-48,587.50
+dividends
 due
 023135106<td>0<td>-100<td>-100<td>-100
 037833100<td>-50<td>0<td>-50<td>-50
 fails
-037833100<td>202<td>2<td>-800<td>-50
+037833100<td>2<td>2024-06-03<td>-800<td>-50<td>194.35<td>-9,717.50<td>-256.00
 liable
 notices
 projection
@@ -202,7 +208,8 @@ grep -q 'so many rows: 13<' "$room/page" || fail 'account 202: another count of 
 # Made of the records up to its close it is the same.
 head -n 88 examples/week.csv | "$program" --open 2024-06-03 --account 202 | cmp -s - "$room/page" || fail 'account 202: another page from the records up to the close'
 
-# What the close before booked stands first, by its record; a purchase makes a short smaller, and a sale waits for the next day.
+# What the close before booked stands first, by its record; a purchase makes a short smaller, and a sale waits for the next day. What the price did
+# to a short goes back to its first close, be it in an issue that was exchanged.
 while read -r sample day account row; do
     "$program" --open 2024-06-03 --day "$day" --account "$account" < "examples/$sample.csv" > "$room/page" || fail "$sample.csv, $day, $account: status $?"
     rows | grep -qxF "$row" || fail "$sample.csv, $day, account $account: no row $row"
@@ -214,11 +221,16 @@ week 2024-06-03 202 023135106<td>120<td>0<td>120<td>20
 week 2024-06-07 303 594918104<td>-210<td>110<td>0<td>0<td>0<td>0<td>-100<td>5<td>423.85<td>-42,385.00<td>124.20<td>0.00
 week 2024-06-07 303 594918104<td>424.52<td>423.85<td>140.70<td>-16.50<td>0.00<td>0.00<td>0.00<td>0.00<td>124.20<td>-46,640.00
 week 2024-06-07 303 594918104<td>-100<td>40<td>-60<td>-60
+week 2024-06-07 303 594918104<td>5<td>2024-06-03<td>-210<td>-100<td>423.85<td>-42,385.00<td>-1,539.90
+week 2024-06-07 303 023135106<td>4<td>2024-06-04<td>-60<td>-60<td>184.30<td>-11,058.00<td>-3,386.00
 buy-in 2024-06-07 101 17275R102<td>710<td>0<td>0<td>0<td>0<td>-340<td>370<td>0<td>47.13<td>17,438.10<td>56.81<td>0.00
 buy-in 2024-06-07 101 17275R102<td>47.05<td>47.13<td>56.80<td>0.00<td>0.00<td>0.00<td>0.00<td>0.01<td>56.81<td>16,024.21
 buy-in 2024-06-07 101 39<td>17275R102<td>Buy-in execution of notice 1<td>-340<td>16,024.21<td>370
 buy-in 2024-06-05 101 17275R102<td>1<td>101<td>400<td>3<td>400<td>5
 buy-in 2024-06-06 202 17275R102<td>3<td>202<td>3<td>300<td>300
+actions 2024-06-10 303 17275R102<td>2024-06-04<td>2024-06-08<td>0.405000<td>-117<td>-47.38
+actions 2024-06-10 0 17275R102<td>2024-06-04<td>2024-06-08<td>0.405000<td>-39<td>-15.79
+actions 2024-06-11 303 023135106<td>7<td>2024-06-03<td>-10<td>-39<td>183.00<td>-7,137.00<td>1,813.50
 actions 2024-06-11 303 41<td>17275R102<td>Exchange of 17275R102 for 023135106: 1 new for 6 old<td>175<td>0.00<td>0
 actions 2024-06-11 303 41<td>023135106<td>Exchange of 17275R102 for 023135106: 1 new for 6 old<td>-29<td>-118.00<td>-39
 actions 2024-06-11 0 023135106<td>0<td>0<td>0<td>9<td>-9<td>0<td>0<td>0<td>183.00<td>0.00<td>-151.00<td>0.00
@@ -228,7 +240,7 @@ ROWS
 # issue that is not listed then.
 "$program" --open 2024-06-03 --day 2024-06-03 --account 404 < examples/actions.csv > "$room/page" || fail "no rows: status $?"
 grep -q 'long 0.00, short 0.00, net 0.00. Mark 0.00, dividends 0.00. ' "$room/page" || fail 'no rows: head'
-[ "$(rows | wc -l)" = 9 ] && grep -q 'so many rows: 0<' "$room/page" || fail 'no rows: some rows'
+[ "$(rows | wc -l)" = 10 ] && grep -q 'so many rows: 0<' "$room/page" || fail 'no rows: some rows'
 [ "$(grep -c '^<p>The sheet has no row of this account\.</p>$' "$room/page")" = 2 ] || fail 'no rows: no line for positions and marks'
 printf '%s\n' MEMBER,1 ISSUE,037833100,19500 CLOSE,2024-06-04 MEMBER,2 ISSUE,594918104,41500 CLOSE,2024-06-05 > "$room/later.csv"
 while read -r records fault words; do

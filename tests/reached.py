@@ -152,7 +152,7 @@ ASKED = [
     "replay", "statements of a closed day", "statements of the open day", "statements of no day", "a run of one file",
     "a run of 2 files", "a run of 3 files", "a run of 4 files", "a page of a closed day", "a page of the open day", "a page of no day",
     "a history", "a history of nobody", "a history of no issue", "an account's page", "an account's page of nobody",
-    *(f"an account's page with {each}" for each in [*accounts.TABLES, *accounts.CAUSES]),
+    *(f"an account's page with {each}" for each in [*accounts.TABLES, *accounts.CAUSES, accounts.BROUGHT, accounts.MOVED]),
 ]
 
 ACCEPTED = [kind.decode() for kind in recompute.KINDS if kind not in (b"POSITION", b"STATEMENT")]

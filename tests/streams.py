@@ -354,7 +354,7 @@ class Stream:
         self.end_day()
 
     def exchange_shorts(self, pairs_of):
-        """Shorts of several ages, exchanges by pairs of issues on one day or on days in a row, and a notice after them."""
+        """Shorts of several ages, new prices, exchanges by pairs of issues on one day or on days in a row, and a notice after them."""
         members, issues = self.begin(self.rng.randint(4, 6), self.rng.randint(3, 4))
         last, days = issues[-1], self.rng.randint(3, 4)
         begins = self.rng.sample(range(days + 1), len(issues))
@@ -366,6 +366,7 @@ class Stream:
                     self.short_more(members[:2], members[2:], issue, 40)
             if self.rng.random() < 0.4:
                 self.add_deliver()
+            self.add("PRICE", self.rng.choice(issues), self.price())
             self.end_day()
         each_day = self.rng.random() < 0.2
         for old, to in pairs_of(issues):

@@ -1,3 +1,6 @@
 pub mod Moves
 pub mod Rows
+pub mod Past
+pub mod Fails
+pub mod Dividends
 pub mod Day

@@ -1,5 +1,5 @@
 // What moved a position on a day, by cause.
-ghost use Rattle.std.specs.Prelude.{◌≡◌, ◌+ℤ◌};
+ghost use Rattle.std.specs.Prelude.{◌≡◌, ◌+ℤ◌, ◌-ℤ◌};
 ghost use Rattle.std.specs.Int.{int_wrap, w128, w64};
 ghost use Rattle.cns_account.specs.Moves.{moves_of, with_booking, with_line, with_more};
 
@@ -58,6 +58,13 @@ pub(crate) fn wrapped_sum(a: Cents, b: Cents) -> Cents
     ensures { result ≡ int_wrap w128 (a +ℤ b) }
 {
     Cents::of(a.value().wrapping_add(b.value()))
+}
+
+/// The difference of two amounts, as much of it as fits.
+pub(crate) fn wrapped_difference(a: Cents, b: Cents) -> Cents
+    ensures { result ≡ int_wrap w128 (a -ℤ b) }
+{
+    Cents::of(a.value().wrapping_sub(b.value()))
 }
 
 // With what a record booked. The activities that never book move nothing.

@@ -48,6 +48,43 @@ current market price with its money, add up to the mark",
     ],
 };
 
+/// The dividends that a close paid to an account or took from it.
+pub const DIVIDENDS: Table = Table {
+    id: "dividends",
+    title: "Dividends",
+    caption: "Dividends that this close paid: above 0 the account is paid, below 0 it pays. The position is that of the last close on \
+or before the record date; account 0 has the opposite of what all members have (dollars a share; shares; dollars)",
+    none: "This close paid no dividend on a position of this account.",
+    columns: &[
+        "Issue",
+        "Record date",
+        "Payable date",
+        "Rate",
+        "Position at the record date",
+        "Paid",
+    ],
+};
+
+/// The shorts of a member.
+pub const FAILS: Table = Table {
+    id: "fails",
+    title: "Fails to deliver, the oldest first",
+    caption: "Short positions at the close, for how many closes in a row each is short, and the date of the first of them (shares; \
+dollars). The price change is that on the opening positions of the days after that date: below 0 the account paid it in its marks. \
+Of an issue that was exchanged it is counted too",
+    none: "The account is not short, or it is the corporation's.",
+    columns: &[
+        "Issue",
+        "Closes short",
+        "Short since",
+        "Opening position",
+        "Closing position",
+        "Current market price",
+        "Market value",
+        "Price change while short",
+    ],
+};
+
 /// What records booked for an account on a day.
 pub const BOOKINGS: Table = Table {
     id: "bookings",

@@ -1,8 +1,8 @@
--- The lines of a history: what each record booked at a place, and the closes; or what it booked at all places of an account.
-use Rattle.std.specs.Prelude.{ℕ, ◌+◌, nat_lt, pos, ◌-ℤ◌, Bool, ◌&&◌, if◌then◌else◌, List, [], ◌∷◌, ◌++◌, filter_map, map, Option, Some, None, Ok, option_and_then, option_map, unwrap_or}
+-- The lines of a history: what each record booked at a place, and the closes; or what it booked at all places of some accounts.
+use Rattle.std.specs.Prelude.{ℕ, ◌+◌, nat_lt, pos, ◌-ℤ◌, Bool, true, ◌&&◌, ◌==◌, if◌then◌else◌, List, [], ◌∷◌, ◌++◌, filter, filter_map, flat_map, map, Option, Some, None, Ok, option_and_then, option_map, unwrap_or}
 use Rattle.std.specs.Option.{option_map_or, option_to_list}
 use Rattle.std.specs.Ordering.{int_eq}
-use Rattle.cns_terms.specs.Common.{Account, Cusip, Day, State, answer, date, journal_of, next, sheet_on}
+use Rattle.cns_terms.specs.Common.{Account, Cusip, Day, State, answer, corporation, date, journal_of, next, sheet_on}
 use Rattle.cns_terms.specs.declared.command.Activity.{Activity}
 use Rattle.cns_terms.specs.declared.command.Activity.TheVariants as activity
 use Rattle.cns_terms.specs.declared.command.Command.TheVariants as command
@@ -16,12 +16,14 @@ use Rattle.cns_sheets.specs.Search.{row_at}
 use Rattle.cns_book.specs.Shown.{notice_shown, position_shown}
 use Rattle.cns_feed.specs.Line.{Line}
 use Rattle.cns_feed.specs.Output.{state_after_line}
-use Rattle.cns_history.specs.declared.account.Stood.{Stood}
+use Rattle.cns_history.specs.declared.everywhere.Stood.{Stood}
 use Rattle.cns_history.specs.declared.line.Booking.{Booking}
 use Rattle.cns_history.specs.declared.line.Closing.{Closing}
 use Rattle.cns_history.specs.declared.line.HistoryLine.{HistoryLine}
 use Rattle.cns_history.specs.declared.line.HistoryLine.TheVariants as line
 use Rattle.cns_history.specs.declared.watched.Watched.{Watched}
+use Rattle.cns_history.specs.declared.watched.Whose.{Whose}
+use Rattle.cns_history.specs.declared.watched.Whose.TheVariants as whose
 use Rattle.cns_history.specs.declared.watched.Watched.TheVariants as watched
 
 -- what stands at a key; zeros where a POSITION would be refused
@@ -78,28 +80,55 @@ lines_at k n S (Ok (command.Activity x)) =
     let cmd = command.Activity x in lines_told (next S cmd) k n x (standing S k) (answer S cmd)
 lines_at k n S _ = []
 
--- ---- all places of an account
+-- ---- all places of some accounts
 
--- the issues that an activity names and can book in; a close books in others
-abbrev pub issues_named : State → Activity → List Cusip
-issues_named S (activity.Trade t) = t.issue ∷ []
-issues_named S (activity.Deliver m) = m.issue ∷ []
-issues_named S (activity.Receive m) = m.issue ∷ []
-issues_named S (activity.Split s) = s.issue ∷ []
-issues_named S (activity.Exchange x) = x.old ∷ x.successor ∷ []
-issues_named S (activity.Execute x) = option_to_list (option_map (λ n. n.issue) (notice_shown S x.notice))
-issues_named S _ = []
+-- an account's place in an issue
+abbrev pub place : Account → Cusip → Key
+place a c = record { account = a; issue = c }
 
--- what stands at an account's place in an issue
-abbrev pub stood : State → Account → Cusip → Stood
-stood S a c = let k : Key = record { account = a; issue = c } in record { key = k; holding = standing S k }
+-- whether the bookings of an account that is named are wanted
+abbrev pub is_wanted : Whose → Account → Bool
+is_wanted (whose.One b) a = a == b
+is_wanted (whose.Each bs) a = true
+
+-- the accounts whose bookings are wanted
+abbrev pub accounts_of : Whose → List Account
+accounts_of (whose.One a) = a ∷ []
+accounts_of (whose.Each bs) = bs.now
+
+-- two accounts that are named, one and the same once
+abbrev pub named : Account → Account → List Account
+named a b = if b == a then a ∷ [] else a ∷ b ∷ []
+
+-- the places of those of them whose bookings are wanted, in an issue
+abbrev pub both : Whose → Account → Account → Cusip → List Key
+both w a b c = map (λ a. place a c) (filter (is_wanted w) (named a b))
+
+-- the places of each account whose bookings are wanted, in some issues
+abbrev pub each : Whose → List Cusip → List Key
+each w cs = flat_map (λ a. map (place a) cs) (accounts_of w)
+
+-- the issue of the notice with a number, if there is one
+abbrev pub noticed : State → ℕ → List Cusip
+noticed S k = option_to_list (option_map (λ n. n.issue) (notice_shown S k))
+
+-- the places that an activity names and can book at; a close books at others
+abbrev pub places : Whose → State → Activity → List Key
+places w S (activity.Trade t) = both w t.buyer t.seller t.issue
+places w S (activity.Deliver m) = both w corporation m.member m.issue
+places w S (activity.Receive m) = both w corporation m.member m.issue
+places w S (activity.Split s) = each w (s.issue ∷ [])
+places w S (activity.Exchange x) = each w (x.old ∷ x.successor ∷ [])
+places w S (activity.Execute x) = each w (noticed S x.notice)
+places w S _ = []
+
+-- what stands at a place
+abbrev pub stood : State → Key → Stood
+stood S k = record { key = k; holding = standing S k }
 
 -- what a close found there, of the state after it: the position at the last close, and no cents of the day that it opened
-abbrev pub opened_since : State → Account → Cusip → Stood
-opened_since T a c =
-    let k : Key = record { account = a; issue = c } in
-    let h = standing T k in
-    record { key = k; holding = record h { now = h.opening; contract = pos 0 } }
+abbrev pub opened_since : State → Key → Stood
+opened_since T k = let h = standing T k in record { key = k; holding = record h { now = h.opening; contract = pos 0 } }
 
 -- the line of what an activity booked since something stood at a place, in the state after it
 abbrev pub booked_since : ℕ → State → Activity → Stood → Option HistoryLine
@@ -109,25 +138,31 @@ booked_since n T x s = booked (booking s.key n (date T.opening (journal_of T)) x
 abbrev pub issues_on : State → Day → List Cusip
 issues_on S d = option_map_or (λ s. map (λ e. e.0) s.prices) (sheet_on S.opening (journal_of S) d) []
 
--- the lines of an activity that got a reply, in the state after it, by what stood before it at some places: what it booked there, or
--- what a close booked for an account in each issue
-abbrev pub account_since : Account → ℕ → State → Activity → Reply → List Stood → List HistoryLine
-account_since a n T x (reply.Closed c) before = filter_map (λ i. booked_since n T x (opened_since T a i)) (issues_on T c.date)
-account_since a n T x _ before = filter_map (booked_since n T x) before
+-- the lines of an activity that got a reply, in the state after it: what it booked at the places where something stood before it, or
+-- what a close booked in each issue
+abbrev pub bookings_since : Whose → ℕ → State → Activity → Reply → List Stood → List HistoryLine
+bookings_since w n T x (reply.Closed c) before = filter_map (λ k. booked_since n T x (opened_since T k)) (each w (issues_on T c.date))
+bookings_since w n T x _ before = filter_map (booked_since n T x) before
 
--- the lines of a record at all places of an account
-abbrev pub account_at : Account → ℕ → State → Line → List HistoryLine
-account_at a n S (Ok (command.Activity x)) = let cmd = command.Activity x in account_since a n (next S cmd) x (answer S cmd) (map (stood S a) (issues_named S x))
-account_at a n S _ = []
+-- the lines of a record at all places of some accounts
+abbrev pub bookings_at : Whose → ℕ → State → Line → List HistoryLine
+bookings_at w n S (Ok (command.Activity x)) =
+    let cmd = command.Activity x in bookings_since w n (next S cmd) x (answer S cmd) (map (stood S) (places w S x))
+bookings_at w n S _ = []
 
 -- ---- the lines of what is watched
 
 -- those of a record
 abbrev pub lines_of : Watched → ℕ → State → Line → List HistoryLine
 lines_of (watched.Place k) n S l = lines_at k n S l
-lines_of (watched.Account a from) n S l = if nat_lt n from then [] else account_at a n S l
+lines_of (watched.Bookings w from) n S l = if nat_lt n from then [] else bookings_at w n S l
 
 -- those of records in order, after so many others
 unfoldable pub history : Watched → ℕ → State → List Line → List HistoryLine
 history w n S [] = []
 history w n S (l ∷ ls) = lines_of w (n + 1) S l ++ history w (n + 1) (state_after_line S l) ls
+
+-- whether a line is an account's
+abbrev pub is_line_of : Account → HistoryLine → Bool
+is_line_of a (line.Booking b) = b.account == a
+is_line_of a (line.Closing c) = c.row.account == a

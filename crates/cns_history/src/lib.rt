@@ -1,14 +1,14 @@
-//! What each record booked: the history of a position as a page for a browser, and an account's bookings as lines.
+//! What each record booked: the history of a position as a page for a browser, and the bookings of accounts as lines.
 //!
 //! `write_history` plays the first records of an input on a new book and writes one page: a head, one table and a foot. A
 //! record has a line where the shares or the cents that stand at the place are others after it than before it; an accepted
 //! close has one where the day's sheet has a row there, and a line of its own below for trades that it booked. At Ok what was
 //! written is exactly that, byte for byte, as `HasHistory` in `specs/Page.antt` says; the lines are those of `history` in
-//! `specs/Lines.antt`. `bookings` gives those of all places of an account, from a record on. Start with `Place`, then `play.rt`.
+//! `specs/Lines.antt`. `bookings` gives those at all places of some accounts, from a record on. Start with `Place`, then `play.rt`.
 #![tactic(auto)]
 
-mod account;
 mod booked;
+mod everywhere;
 mod history;
 pub mod laws;
 mod line;
@@ -19,9 +19,10 @@ mod told;
 mod watched;
 mod words;
 
-pub use booked::bookings;
+pub use booked::{bookings, lines_for};
 pub use history::write_history;
 pub use line::{Booking, Closing, HistoryLine};
 pub use place::Place;
 pub use told::{shares_between, standing};
+pub use watched::{Watched, Whose};
 pub use words::write_what;

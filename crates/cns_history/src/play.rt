@@ -6,16 +6,17 @@ ghost use Rattle.cns_feed.specs.Line.{Line};
 ghost use Rattle.cns_feed.specs.Output.{state_after_line};
 ghost use Rattle.cns_feed.specs.Output.{lines_of as records_in};
 ghost use Rattle.cns_feed.specs.Records.{IsReady, Pending};
-ghost use Rattle.cns_history.specs.Lines.{account_at, lines_at, lines_of};
+ghost use Rattle.cns_terms.specs.declared.command.Command.TheVariants as command;
+ghost use Rattle.cns_history.specs.Lines.{bookings_at, lines_at, lines_of};
 ghost use Rattle.cns_history.specs.Played.{ComesTo, IsPlayed, Steps};
 
-use crate::account::{add_booked, before};
+use crate::everywhere::{add_booked, before};
 use crate::line::HistoryLine;
 use crate::told::{Answered, add_lines, standing};
-use crate::watched::Watched;
+use crate::watched::{Watched, Whose};
 use cns_feed::{Line, LineFault, Records, ReplayBook, ReplayFault};
-use cns_terms::{Command, Key, Worker};
-use cns_units::{Account, Day};
+use cns_terms::{Activity, Command, Key, Worker};
+use cns_units::Day;
 use std::alloc::Global;
 use std::io::Read;
 
@@ -57,10 +58,33 @@ fn take_at(
     }
 }
 
-// Takes a command, and adds its lines at all places of an account, where they are wanted.
+// Takes an activity, and adds what it booked at all places of some accounts.
+fn take_activity(
+    book: &mut ReplayBook,
+    whose: &Whose<'_>,
+    number: u64,
+    activity: &Activity,
+    lines: &mut Vec<HistoryLine>,
+) -> Result<(), ReplayFault>
+    ensures after { OnOk result (state_of book.new.log ≡ state_after_line (state_of book.old.log) (Ok (command.Activity activity.now))) }
+    ensures lines { OnOk result (lines.new.items
+        ≡ lines.old.items ++ bookings_at whose.now number (state_of book.old.log) (Ok (command.Activity activity.now))) }
+{
+    let before = before(*lines.allocator(), book, whose, activity)?;
+    let receipt = book.take(Worker::FIRST, Command::Activity(*activity))?;
+    let answered = Answered {
+        number,
+        activity: *activity,
+        reply: receipt.reply,
+    };
+    add_booked(book, whose, &answered, before.as_slice(), lines)?;
+    Ok(())
+}
+
+// Takes a command, and adds what it booked at all places of some accounts, where that is wanted of the record.
 fn take_for(
     book: &mut ReplayBook,
-    account: Account,
+    whose: &Whose<'_>,
     is_wanted: bool,
     number: u64,
     command: &Command,
@@ -68,32 +92,25 @@ fn take_for(
 ) -> Result<(), ReplayFault>
     ensures after { OnOk result (state_of book.new.log ≡ state_after_line (state_of book.old.log) (Ok command.now)) }
     ensures lines { OnOk result (lines.new.items ≡ lines.old.items
-        ++ (if is_wanted then account_at account number (state_of book.old.log) (Ok command.now) else [])) }
+        ++ (if is_wanted then bookings_at whose.now number (state_of book.old.log) (Ok command.now) else [])) }
 {
-    let before = if is_wanted {
-        before(book, account, command)
-    } else {
-        (None, None)
-    };
-    let receipt = book.take(Worker::FIRST, *command)?;
     match command {
         Command::Activity(activity) if is_wanted => {
-            let answered = Answered {
-                number,
-                activity: *activity,
-                reply: receipt.reply,
-            };
-            add_booked(book, account, &answered, &before, lines)?;
+            take_activity(book, whose, number, activity, lines)
+        }
+        _ => {
+            let receipt = book.take(Worker::FIRST, *command)?;
+            // The reply is named, since the compiler has to be told of its type.
+            let _reply = receipt.reply;
             Ok(())
         }
-        _ => Ok(()),
     }
 }
 
 // Takes a command, and adds its lines.
 fn take_command(
     book: &mut ReplayBook,
-    watched: &Watched,
+    watched: &Watched<'_>,
     number: u64,
     command: &Command,
     lines: &mut Vec<HistoryLine>,
@@ -104,8 +121,8 @@ fn take_command(
 {
     match watched {
         Watched::Place(key) => take_at(book, key, number, command, lines),
-        Watched::Account(account, from) => {
-            take_for(book, *account, number >= *from, number, command, lines)
+        Watched::Bookings(whose, from) => {
+            take_for(book, whose, number >= *from, number, command, lines)
         }
     }
 }
@@ -113,7 +130,7 @@ fn take_command(
 // Takes the command that a record was read as, if it is one, and adds its lines.
 fn take(
     book: &mut ReplayBook,
-    watched: &Watched,
+    watched: &Watched<'_>,
     number: u64,
     line: &Line,
     lines: &mut Vec<HistoryLine>,
@@ -133,7 +150,7 @@ fn take(
 fn step<R: Read>(
     records: &mut Records<R>,
     book: &mut ReplayBook,
-    watched: &Watched,
+    watched: &Watched<'_>,
     number: u64,
     lines: &mut Vec<HistoryLine>,
 ) -> Result<bool, ReplayFault>
@@ -152,7 +169,7 @@ fn step<R: Read>(
 fn play_with<R: Read>(
     records: &mut Records<R>,
     book: &mut ReplayBook,
-    watched: &Watched,
+    watched: &Watched<'_>,
     most: u64,
     lines: &mut Vec<HistoryLine>,
 ) -> Result<u64, ReplayFault>
@@ -177,7 +194,7 @@ fn play_with<R: Read>(
 pub(crate) fn play(
     alloc: Global,
     opening: Day,
-    watched: &Watched,
+    watched: &Watched<'_>,
     input: &[u8],
     most: u64,
 ) -> Result<Played, ReplayFault>

@@ -14,3 +14,4 @@ pub mod SoughtLemmas
 pub mod Oldest
 pub mod MakeLemmas
 pub mod Projecting
+pub mod Naming

@@ -1,6 +1,6 @@
 -- A page that was made, whatever the input is.
 -- For `survey_of`, `write_day`, `write_open`, `write_closed`, `write_own_day`, `write_own`, `records_of`, `write_past` and `make` of make.rt, `make_of` of entry.rt.
-use Rattle.std.proofs.Common.{◌≡◌, ◌≤◌, ◌-◌, ◌∙◌, ap, ℕ, List, Option, Some, None, Result, Ok, Err, IfSome, OnOk, filter, length, take, slice_get, refl}
+use Rattle.std.proofs.Common.{◌≡◌, ◌≤◌, ◌-◌, ◌∙◌, ap, ℕ, Bool, List, Option, Some, None, Result, Ok, Err, IfSome, OnOk, length, take, slice_get, refl}
 use Rattle.std.proofs.lemmas.List.{take_all}
 use Rattle.cns_terms.specs.Common.{Account, Day, DaySheet, journal_of, opened}
 use Rattle.cns_terms.specs.Sheets.{sheet_on}
@@ -12,15 +12,18 @@ use Rattle.cns_history.specs.Page.{HasHistory}
 use Rattle.cns_history.specs.declared.line.HistoryLine.{HistoryLine}
 use Rattle.cns_history.specs.declared.place.Place.{Place}
 use Rattle.cns_history.specs.declared.watched.Watched.TheVariants as watched
+use Rattle.cns_history.specs.declared.watched.Whose.TheVariants as whose
 use Rattle.cns_page.specs.Listed.{records_before}
-use Rattle.cns_page.specs.Account.{ShowsAccount, names}
+use Rattle.cns_page.specs.Account.{ShowsAccount}
+use Rattle.cns_page.specs.Foot.{IsOrigin}
 use Rattle.cns_page.specs.Asked.{HasOwn, HasOwnDay, HasPage, HasPast, HasShown, IsOfRecords}
-use Rattle.cns_page.specs.Shown.{HasClosed, HasDay, ShowsDay}
+use Rattle.cns_page.specs.Shown.{AreContents, HasClosed, HasDay, IsOfDay}
 use Rattle.cns_page.specs.Survey.{ComesTo, IsChosen, Known, known, noted_all, nothing}
 use Rattle.cns_page.specs.Today.{HasToday, ShowsToday}
 use Rattle.cns_page.specs.declared.asked.About.{About}
 use Rattle.cns_page.specs.declared.asked.Asked.{Asked}
-use Rattle.cns_page.specs.declared.finding.Finding.{Finding}
+use Rattle.cns_page.specs.declared.contents.Contents.{Contents}
+use Rattle.cns_page.specs.declared.foot.Origin.{Origin}
 use Rattle.cns_page.specs.declared.survey.Close.{Close}
 use Rattle.cns_page.specs.declared.survey.Survey.{Survey}
 
@@ -28,13 +31,12 @@ use Rattle.cns_page.specs.declared.survey.Survey.{Survey}
 pub whole_known : (k from : Known) (opening : Day) (most : ℕ) (lines : List Line) → length lines ≤ most → k ≡ noted_all from (opened opening) (take most lines) → k ≡ noted_all from (opened opening) lines
 whole_known k from opening most lines few is = is ∙ ap (noted_all from (opened opening)) (take_all most lines few)
 
--- the page of a day was written, of what a play came to
-pub day_made : {T E : Type 0} (r : Result T E) (opening : Day) (input : List ℕ) (from : ℕ) (close : Close) (log : Log) (s : Survey) (sheet : DaySheet) (bytes : ℕ) (old new : Option (List ℕ))
+-- what is gathered of a day, of what a play came to
+pub of_day : (opening : Day) (input : List ℕ) (from : ℕ) (close : Close) (linked : Bool) (log : Log) (s : Survey) (sheet : DaySheet) (o : Origin) (l : Contents) (bytes : ℕ)
     → ComesTo opening from (take close.record (lines_of input)) log s → sheet_on log.opening (journal_of (state_of log)) close.date ≡ Some sheet
-    → OnOk r (ShowsDay opening (take bytes input) log s close sheet old new) → OnOk r (HasDay opening input from close old new)
-day_made (Err e) opening input from close log s sheet bytes old new came closed shown = tt
-day_made (Ok x) opening input from close log s sheet bytes old new came closed shown =
-    record { log = log; taken = came.book; survey = s; all_known = came.all_known; sheet = sheet; closed = closed; bytes = bytes; shown = shown }
+    → AreContents log s close sheet linked l → IsOrigin (take bytes input) o → IsOfDay opening input from close linked log s sheet o l
+of_day opening input from close linked log s sheet o l bytes came closed gathered made_of =
+    record { taken = came.book; all_known = came.all_known; closed = closed; gathered = gathered; made_of = (bytes, made_of) }
 
 -- the page of the open day was
 pub open_made : {T E : Type 0} (r : Result T E) (opening : Day) (input : List ℕ) (from most : ℕ) (log : Log) (s : Survey) (old new : Option (List ℕ))
@@ -52,15 +54,14 @@ pub closed_made : {T E : Type 0} (r : Result T E) (opening : Day) (input : List 
 closed_made (Err e) opening input closes day place close old new chosen there shown = tt
 closed_made (Ok x) opening input closes day place close old new chosen there shown = record { place = place; chosen = chosen; close = close; there = there; shown = shown }
 
--- what a day did to an account was written, by what a play came to
-pub own_day_made : {T E : Type 0} (r : Result T E) (a : Account) (opening : Day) (input : List ℕ) (from : ℕ) (close : Close) (log : Log) (s : Survey) (sheet : DaySheet) (bytes : ℕ) (ls : List HistoryLine)
-    (fs : List Finding) (old new : Option (List ℕ)) → ls ≡ history (watched.Account a from) 0 (opened opening) (take (close.record - 1) (lines_of input))
-    → ComesTo opening from (take close.record (lines_of input)) log s → sheet_on log.opening (journal_of (state_of log)) close.date ≡ Some sheet
-    → fs ≡ filter (names a) s.findings.items
-    → OnOk r (ShowsAccount opening (take bytes input) log close sheet a ls fs old new) → OnOk r (HasOwnDay a opening input from close old new)
-own_day_made (Err e) a opening input from close log s sheet bytes ls fs old new are came closed kept shown = tt
-own_day_made (Ok x) a opening input from close log s sheet bytes ls fs old new are came closed kept shown =
-    record { log = log; taken = came.book; survey = s; all_known = came.all_known; sheet = sheet; closed = closed; bytes = bytes; shown = rw (are, kept) at shown }
+-- what a day did to an account was written, with what is gathered of it
+pub own_day_made : {T E : Type 0} (r : Result T E) (a : Account) (opening : Day) (input : List ℕ) (from : ℕ) (close : Close) (linked : Bool) (log : Log) (s : Survey) (sheet : DaySheet) (o : Origin)
+    (l : Contents) (ls : List HistoryLine) (old new : Option (List ℕ)) → ls ≡ history (watched.Bookings (whose.One a) from) 0 (opened opening) (take (close.record - 1) (lines_of input))
+    → IsOfDay opening input from close linked log s sheet o l
+    → OnOk r (ShowsAccount opening o log close sheet a linked ls s.findings.items l old new) → OnOk r (HasOwnDay a opening input from close old new)
+own_day_made (Err e) a opening input from close linked log s sheet o l ls old new are is shown = tt
+own_day_made (Ok x) a opening input from close linked log s sheet o l ls old new are is shown =
+    record { linked = linked; log = log; survey = s; sheet = sheet; origin = o; contents = l; is = is; shown = rw are at shown }
 
 -- of the closed day that was chosen
 pub own_made : {T E : Type 0} (r : Result T E) (a : Account) (opening : Day) (input : List ℕ) (closes : List Close) (day : Option Day) (place : ℕ) (close : Close) (old new : Option (List ℕ))
@@ -86,6 +87,11 @@ pub made : {T E : Type 0} (r : Result T E) (a : Asked) (about : About) (input : 
     → OnOk r (HasShown about a.opening input s.closes.items most a.day old new) → OnOk r (HasPage a input old new)
 made (Err e) a about input s most old new few all_known is shown = tt
 made (Ok x) a about input s most old new few all_known is shown = record { most = most; few = few; survey = s; all_known = all_known; shown = rw is shown }
+
+-- what is not written to stays
+pub untouched : {T E : Type 0} (r : Result T E) (now : Option (List ℕ)) → OnOk r (now ≡ now)
+untouched (Err e) now = tt
+untouched (Ok x) now = refl
 
 -- of all that a reader gave, where that is known
 pub made_of : {T E : Type 0} (a : Asked) (given : Option (List ℕ)) (input : List ℕ) (old new : Option (List ℕ)) (r : Result T E)

@@ -14,7 +14,7 @@ use Rattle.cns_book.specs.Shown.{notice_listed, notice_of}
 use Rattle.cns_book.specs.declared.notice.Notice.{Notice as Shown}
 use Rattle.cns_page.specs.Listed.{live_among, numbered}
 use Rattle.cns_page.specs.declared.finding.Numbered.{Numbered}
-use Rattle.cns_page.proofs.Walked.{take_next, take_past}
+use Rattle.cns_account.proofs.Walked.{take_next, take_past}
 
 -- the notices are numbered on from a number
 abbrev AreNumbered : ℕ → List Notice → Type 0

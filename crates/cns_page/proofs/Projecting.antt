@@ -1,6 +1,6 @@
 -- What is due, issue by issue.
 -- For `projected_all` of due.rt.
-use Rattle.std.proofs.Common.{◌≡◌, ◌∙◌, sym, ap, refl, Bool, true, false, not, cond, List, [], ◌∷◌, ◌++◌, None, append_assoc, append-nil}
+use Rattle.std.proofs.Common.{◌≡◌, ◌∙◌, sym, ap, refl, Bool, true, false, not, cond, List, [], ◌∷◌, ◌++◌, None, append_assoc}
 use Rattle.cns_terms.specs.Common.{Account, Cusip, Price, State}
 use Rattle.cns_sheets.specs.Search.{prices_above}
 use Rattle.cns_page.specs.Due.{is_idle, projected, projected_all}

@@ -1,6 +1,6 @@
 -- What is looked for in a history, entry by entry.
 -- For `first` and `waiting` of sought.rt.
-use Rattle.std.proofs.Common.{◌≡◌, ◌∙◌, sym, ap, ℕ, suc, ◌+◌, ◌-◌, ◌^◌, ◌≤◌, ◌<◌, List, [], ◌∷◌, ◌++◌, Option, Some, None, take, drop, reverse, slice_get, filter, filter_map, map, min, arith, ◌==◌, ◌&&◌, if◌then◌else◌}
+use Rattle.std.proofs.Common.{◌≡◌, ◌∙◌, sym, ap, ℕ, ◌+◌, ◌-◌, ◌^◌, ◌≤◌, ◌<◌, List, [], ◌∷◌, ◌++◌, Option, Some, None, take, drop, reverse, slice_get, filter, filter_map, map, min, arith, ◌==◌, ◌&&◌, if◌then◌else◌}
 use Rattle.std.specs.Option.{option_to_list}
 use Rattle.std.specs.Prelude.{sum_by}
 use Rattle.std.proofs.Math.Seq.{take-add}
@@ -13,12 +13,11 @@ use Rattle.cns_terms.specs.declared.command.Activity.{Activity}
 use Rattle.cns_terms.specs.declared.command.Trade.{Trade}
 use Rattle.cns_terms.specs.declared.history.Taken.{Taken}
 use Rattle.cns_terms.specs.declared.pend.Pend.{Pend}
+use Rattle.cns_account.proofs.Walked.{entries_end, entry_more}
 use Rattle.cns_book.specs.Shown.{entry_at}
 use Rattle.cns_page.specs.Listed.{if_accepted, looked_at}
 use Rattle.cns_page.specs.Sought.{activity_in, first_sought, is_sought, sought_among, waiting_in, with_trade}
 use Rattle.cns_page.specs.declared.sought.Sought.{Sought}
-use Rattle.cns_page.proofs.Later.{entry_there}
-use Rattle.cns_page.proofs.Walked.{take_next, take_past}
 
 -- ---- an activity that is looked for
 
@@ -32,10 +31,7 @@ module _ (s : Sought) (H : List Taken) (place : ℕ) (le : 1 ≤ place) (was : s
   -- one entry more
   next : (t : Taken) (o : Option Activity) → entry_at H place ≡ Some t → sought_among s (t ∷ []) ≡ option_to_list o → sought_among s (take (place + 1 - 1) (reverse H)) ≡ option_to_list o
   next t o there is =
-      let later : suc (place - 1) ≡ place + 1 - 1 = omega arith in
-      let whole : take (place - 1) (reverse H) ++ t ∷ [] ≡ take (place + 1 - 1) (reverse H) =
-      sym (take_next (reverse H) (place - 1) t (sym (entry_there H place le) ∙ there)) ∙ ap (λ n. take n (reverse H)) later in
-      ap (sought_among s) (sym whole) ∙ append s (take (place - 1) (reverse H)) (t ∷ []) ∙ ap (λ xs. xs ++ sought_among s (t ∷ [])) was ∙ is
+      ap (sought_among s) (sym (entry_more H place t le there)) ∙ append s (take (place - 1) (reverse H)) (t ∷ []) ∙ ap (λ xs. xs ++ sought_among s (t ∷ [])) was ∙ is
 
   -- one that is not looked for
   pub sought_passed : (t : Taken) → entry_at H place ≡ Some t → sought_among s (t ∷ []) ≡ [] → sought_among s (take (place + 1 - 1) (reverse H)) ≡ []
@@ -54,7 +50,7 @@ module _ (s : Sought) (H : List Taken) (place : ℕ) (le : 1 ≤ place) (was : s
   -- no entry is left
   pub sought_ends : place < 2 ^ 32 - 1 → entry_at H place ≡ None → None ≡ first_sought s H
   sought_ends lt none =
-      sym (ap (λ xs. slice_get xs 0) (ap (sought_among s) (sym (take_past (reverse H) (place - 1) (2 ^ 32 - 2) (sym (entry_there H place le) ∙ none) (omega arith))) ∙ was))
+      sym (ap (λ xs. slice_get xs 0) (ap (sought_among s) (sym (entries_end H place le lt none)) ∙ was))
 
 -- none was among all that are looked at
 pub sought_none : (s : Sought) (H : List Taken) (n : ℕ) → n ≡ 2 ^ 32 - 2 → sought_among s (take n (reverse H)) ≡ [] → None ≡ first_sought s H

@@ -1,17 +1,16 @@
 -- The page that is asked for.
-use Rattle.std.specs.Prelude.{◌≡◌, ◌≤◌, ℕ, ◌-◌, IfSome, List, filter, length, take, slice_get, Option, None, Some}
-use Rattle.cns_terms.specs.Common.{Account, Day, DaySheet, journal_of, opened}
-use Rattle.cns_terms.specs.Sheets.{sheet_on}
-use Rattle.cns_book.specs.Log.{Log, state_of}
+use Rattle.std.specs.Prelude.{◌≡◌, ◌≤◌, ℕ, ◌-◌, Bool, IfSome, List, length, take, slice_get, Option, None, Some}
+use Rattle.cns_terms.specs.Common.{Account, Day, DaySheet, opened}
+use Rattle.cns_book.specs.Log.{Log}
 use Rattle.cns_feed.specs.Output.{lines_of}
-use Rattle.cns_feed.specs.Replay.{blank_log, log_after}
 use Rattle.cns_history.specs.Lines.{history}
 use Rattle.cns_history.specs.Page.{HasHistory}
 use Rattle.cns_history.specs.declared.place.Place.{Place}
 use Rattle.cns_history.specs.declared.watched.Watched.TheVariants as watched
-use Rattle.cns_page.specs.Account.{ShowsAccount, names}
+use Rattle.cns_history.specs.declared.watched.Whose.TheVariants as whose
+use Rattle.cns_page.specs.Account.{ShowsAccount}
 use Rattle.cns_page.specs.Listed.{last_record, records_before}
-use Rattle.cns_page.specs.Shown.{HasClosed}
+use Rattle.cns_page.specs.Shown.{HasClosed, IsOfDay}
 use Rattle.cns_page.specs.Survey.{IsChosen, known, noted_all, nothing}
 use Rattle.cns_page.specs.Today.{HasToday}
 use Rattle.cns_page.specs.declared.asked.About.{About}
@@ -19,6 +18,8 @@ use Rattle.cns_page.specs.declared.asked.About.TheVariants as about
 use Rattle.cns_page.specs.declared.asked.Asked.{Asked}
 use Rattle.cns_page.specs.declared.asked.When.{When}
 use Rattle.cns_page.specs.declared.asked.When.TheVariants as when
+use Rattle.cns_page.specs.declared.contents.Contents.{Contents}
+use Rattle.cns_page.specs.declared.foot.Origin.{Origin}
 use Rattle.cns_page.specs.declared.survey.Close.{Close}
 use Rattle.cns_page.specs.declared.survey.Survey.{Survey}
 
@@ -39,18 +40,18 @@ IsOfRecords closes (Some d) most records =
 abbrev pub HasPast : Place → List ℕ → List Close → ℕ → Option (List ℕ) → Option (List ℕ) → Type 0
 HasPast p input closes most old new = (records : ℕ) × IsOfRecords closes p.day most records × HasHistory p records input old new
 
--- what the day that a close ends did to an account: by a book that took the records up to that close and no more, the sheet that
--- the book has, and the refused records that name the account. The day's records are those after the one with the number, and that one books what was due
+-- what the day that a close ends did to an account: with what is gathered of the day, and with the refused records of the day that
+-- name the account. The record before the day's books what was due
 pub record HasOwnDay (a : Account) (opening : Day) (input : List ℕ) (from : ℕ) (close : Close) (old new : Option (List ℕ)) : Type 0 where
+  pub linked : Bool
   pub log : Log
-  pub taken : log ≡ log_after (blank_log opening) (take close.record (lines_of input))
   pub survey : Survey
-  pub all_known : known survey ≡ noted_all (nothing from) (opened opening) (take close.record (lines_of input))
   pub sheet : DaySheet
-  pub closed : sheet_on log.opening (journal_of (state_of log)) close.date ≡ Some sheet
-  pub bytes : ℕ
-  pub shown : ShowsAccount opening (take bytes input) log close sheet a
-      (history (watched.Account a from) 0 (opened opening) (take (close.record - 1) (lines_of input))) (filter (names a) survey.findings.items) old new
+  pub origin : Origin
+  pub contents : Contents
+  pub is : IsOfDay opening input from close linked log survey sheet origin contents
+  pub shown : ShowsAccount opening origin log close sheet a linked
+      (history (watched.Bookings (whose.One a) from) 0 (opened opening) (take (close.record - 1) (lines_of input))) survey.findings.items contents old new
 
 -- of the closed day with the date, or of the last one
 pub record HasOwn (a : Account) (opening : Day) (input : List ℕ) (closes : List Close) (day : Option Day) (old new : Option (List ℕ)) : Type 0 where
@@ -66,12 +67,14 @@ closed_in when.Last = None
 closed_in (when.Closed d) = Some d
 closed_in when.Today = None
 
--- what is asked for: the page of the day, what the closed day did to the account, or the history of the place
+-- what is asked for: the page of the day, what the closed day did to the account, or the history of the place; nothing where pages
+-- went into a folder
 abbrev pub HasShown : About → Day → List ℕ → List Close → ℕ → When → Option (List ℕ) → Option (List ℕ) → Type 0
 HasShown about.All opening input closes most w old new = HasAsked opening input closes w old new
 HasShown (about.Account a) opening input closes most w old new = HasOwn a opening input closes (closed_in w) old new
 HasShown (about.Place k) opening input closes most w old new =
     HasPast (record { opening = opening; day = closed_in w; key = k }) input closes most old new
+HasShown about.Folder opening input closes most w old new = new ≡ old
 
 -- the page that is asked for, of the records of an input, of which there are at most so many
 pub record HasPage (asked : Asked) (input : List ℕ) (old new : Option (List ℕ)) : Type 0 where

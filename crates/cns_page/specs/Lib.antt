@@ -4,11 +4,13 @@ pub mod Exceptions
 pub mod Accounts
 pub mod Rows
 pub mod Due
+pub mod Fails
 pub mod Facts
 pub mod Listed
 pub mod Sought
 pub mod Foot
 pub mod Page
+pub mod Files
 pub mod Today
 pub mod Usage
 pub mod Asks

@@ -1,5 +1,5 @@
 -- What the lists of a page are of.
-use Rattle.std.specs.Prelude.{ℕ, zero, suc, ◌-◌, ◌==◌, if◌then◌else◌, drop, length, slice_get, ◌^◌, List, [], ◌∷◌, ◌++◌, filter, filter_map, map, min, Option, None, not, option_map, reverse, sum_by, count_by, take, unsigned_abs}
+use Rattle.std.specs.Prelude.{ℕ, zero, suc, ◌-◌, ◌==◌, nat_lt, if◌then◌else◌, drop, length, slice_get, ◌^◌, List, [], ◌∷◌, ◌++◌, filter, filter_map, map, min, Option, None, not, option_map, sum_by, count_by, take, unsigned_abs}
 use Rattle.std.specs.List.Sorted.{IsPermutation, IsSortedByKey, IsStableByKey}
 use Rattle.std.specs.Option.{option_map_or}
 use Rattle.std.specs.declared.cmp.Ordering.{Ordering}
@@ -16,6 +16,7 @@ use Rattle.cns_terms.specs.declared.reply.Reply.{Reply}
 use Rattle.cns_terms.specs.declared.reply.Reply.TheVariants as reply
 use Rattle.cns_terms.specs.declared.sheet.Row.{Row}
 use Rattle.cns_book.specs.Shown.{batches_shown, notice_of, position_shown}
+pub use Rattle.cns_account.specs.Past.{looked_at}
 use Rattle.cns_page.specs.Figures.{is_short}
 use Rattle.cns_page.specs.declared.figures.Figures.{Figures}
 use Rattle.cns_page.specs.declared.finding.Numbered.{Numbered}
@@ -44,6 +45,10 @@ last_record closes = option_map_or (λ c. c.record) (slice_get closes (length cl
 -- the number of the last record before the day that the close at a place ends
 abbrev pub records_before : List Close → ℕ → ℕ
 records_before closes place = last_record (take place closes)
+
+-- the date of the close before the last one, if there is one
+abbrev pub date_before : List Close → Option Day
+date_before closes = if nat_lt (length closes) 2 then None else option_map (λ c. c.date) (slice_get closes (length closes - 2))
 
 -- how many records there are in a row of control totals, and how many of them are exceptions
 abbrev pub counts : Span → ℕ × ℕ
@@ -111,10 +116,6 @@ trades_among ts = filter_map (λ t. if_accepted t.reply (trade_in t.command)) ts
 -- those that are dated after a day
 abbrev pub later_among : Day → List Taken → List Trade
 later_among day ts = filter (λ t. not (is_not_after t.date day)) (trades_among ts)
-
--- the entries of a history that a page looks at, the oldest first: all, or all but the last where there are 2^32 - 1, the most that a book takes
-abbrev pub looked_at : List Taken → List Taken
-looked_at H = take (2 ^ 32 - 2) (reverse H)
 
 -- a trade, with whether it was booked into the next day
 abbrev pub due : Day → Trade → Due

@@ -1,5 +1,5 @@
 -- The text of the page of a closed day.
-use Rattle.std.specs.Prelude.{ℕ, ◌-◌, ◌^◌, List, [], ◌∷◌, ◌++◌, Some, length, min, sum_by}
+use Rattle.std.specs.Prelude.{ℕ, ◌-◌, ◌^◌, if◌then◌else◌, List, [], ◌∷◌, ◌++◌, Option, None, Some, length, min, sum_by}
 use Rattle.std.specs.Fmt.{decimal}
 use Rattle.cns_units.specs.Day.{day_text}
 use Rattle.cns_terms.specs.Common.{Day}
@@ -14,7 +14,7 @@ use Rattle.cns_page.specs.declared.captions.Captions.{Captions}
 use Rattle.cns_page.specs.declared.contents.Contents.{Contents}
 use Rattle.cns_page.specs.declared.contents.Head.{Head}
 use Rattle.cns_page.specs.declared.foot.Origin.{Origin}
-use Rattle.cns_page.specs.declared.page.TheConstants.{CLOSED, DAY, EXCEPTIONS, HEADING, LINKS, NEXT, RECORDS, START, TITLE_END, TO}
+use Rattle.cns_page.specs.declared.page.TheConstants.{CLOSED, DAY, DAY_AFTER_END, DAY_BEFORE_END, DAY_LINK, EXCEPTIONS, HEADING, LINKS, MAIN, NEXT, RECORDS, START, TITLE_END, TO}
 use Rattle.cns_page.specs.declared.survey.Survey.{Survey}
 use Rattle.cns_page.specs.declared.totals.Span.{Span}
 
@@ -25,6 +25,23 @@ head_text h =
     texts (START.now ∷ CLOSED.now ∷ day_text h.date ∷ TITLE_END.now ∷ STYLE.now ∷ HEADING.now ∷ CLOSED.now ∷ day_text h.date ∷ DAY.now
     ∷ decimal h.day ∷ RECORDS.now ∷ decimal h.first ∷ TO.now ∷ decimal h.last ∷ EXCEPTIONS.now ∷ count_text h.exceptions ∷ NEXT.now
     ∷ day_text h.next ∷ LINKS.now ∷ [])
+
+-- the link to the page of the day before, if there was one
+unfoldable pub before_text : Option Day → List ℕ
+before_text None = []
+before_text (Some d) = texts (DAY_LINK.now ∷ day_text d ∷ DAY_BEFORE_END.now ∷ [])
+
+-- and to that of the next day
+unfoldable pub after_text : Day → List ℕ
+after_text d = texts (DAY_LINK.now ∷ day_text d ∷ DAY_AFTER_END.now ∷ [])
+
+-- those links, where there are any
+abbrev pub links_text : Head → List ℕ
+links_text h = if h.is_linked then before_text h.before ++ after_text h.next else []
+
+-- the whole head
+abbrev pub begin_text : Head → List ℕ
+begin_text h = head_text h ++ (links_text h ++ MAIN.now)
 
 -- how many rows each table has
 abbrev pub row_counts : Survey → Contents → List Span → List ℕ
@@ -39,7 +56,7 @@ sum_of ns = min (sum_by (λ n. n) ns) (2 ^ 64 - 1)
 -- a page with some captions: the head, these tables in this order, and the foot
 abbrev pub page_text : Captions → Day → Survey → Contents → List Span → Origin → List ℕ
 page_text t opening s l spans o =
-    head_text l.head ++ (table_text finding_text t.exceptions s.findings.items
+    begin_text l.head ++ (table_text finding_text t.exceptions s.findings.items
     ++ (table_text counted_text t.reasons l.reasons.items
     ++ (table_text line_text t.accounts l.lines.items
     ++ (table_text short_text t.fails l.shorts.items

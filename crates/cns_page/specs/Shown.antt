@@ -1,5 +1,5 @@
 -- What a page that was written shows.
-use Rattle.std.specs.Prelude.{◌≡◌, ℕ, ◌+◌, ◌-◌, ◌^◌, List, length, map, min, take, slice_get, Option, Some}
+use Rattle.std.specs.Prelude.{◌≡◌, ℕ, ◌+◌, ◌-◌, ◌^◌, Bool, List, length, map, min, take, slice_get, Option, Some}
 use Rattle.std.specs.Io.KnownBytes.{Appends}
 use Rattle.std.specs.Ordering.{int_cmp, nat_cmp}
 use Rattle.cns_terms.specs.Common.{Day, DaySheet, date, journal_of, opened}
@@ -9,9 +9,10 @@ use Rattle.cns_terms.specs.Sheets.{sheet_on}
 use Rattle.cns_book.specs.Log.{Log, state_of}
 use Rattle.cns_feed.specs.Output.{lines_of}
 use Rattle.cns_feed.specs.Replay.{blank_log, log_after}
+use Rattle.cns_account.specs.Past.{IsPast}
 use Rattle.cns_page.specs.Accounts.{sheet_lines}
 use Rattle.cns_page.specs.Foot.{IsOrigin}
-use Rattle.cns_page.specs.Listed.{IsInOrderOf, counted, counts, counts_shown, due, figures_shown, last_closes, later_among, liable_shown, live_shown, looked_at, records_before, shorts_among, spans_shown}
+use Rattle.cns_page.specs.Listed.{IsInOrderOf, counted, counts, counts_shown, date_before, due, figures_shown, last_closes, later_among, liable_shown, live_shown, looked_at, records_before, shorts_among, spans_shown}
 use Rattle.cns_page.specs.Page.{page_text}
 use Rattle.cns_page.specs.Survey.{IsChosen, known, noted_all, nothing}
 use Rattle.cns_page.specs.declared.captions.Captions.{Captions}
@@ -42,49 +43,56 @@ abbrev pub days_shown : Log → Survey → List Figures
 days_shown log s = figures_shown (state_of log) (last_closes s.closes.items)
 
 -- what the head of the page tells, of the day that a close ends
-abbrev pub head_shown : Log → Survey → Close → Head
-head_shown log s c = record {
+abbrev pub head_shown : Log → Survey → Close → Bool → Head
+head_shown log s c linked = record {
   date = c.date;
   day = c.day;
   first = min (s.from + 1) (2 ^ 64 - 1);
   last = c.record;
   exceptions = length s.reasons.items;
+  before = date_before s.closes.items;
   next = next_day log;
+  is_linked = linked;
 }
 
--- the rows of a page, of the day that a close ends
-pub record AreContents (log : Log) (s : Survey) (c : Close) (sheet : DaySheet) (l : Contents) : Type 0 where
-  pub head : l.head ≡ head_shown log s c
+-- the rows of a page, of the day that a close ends, with links or without
+pub record AreContents (log : Log) (s : Survey) (c : Close) (sheet : DaySheet) (linked : Bool) (l : Contents) : Type 0 where
+  pub head : l.head ≡ head_shown log s c linked
   pub reasons : map counted l.reasons.items ≡ counts_shown s.reasons.items
-  pub lines : l.lines.items ≡ sheet_lines sheet
+  pub lines : l.lines.items ≡ sheet_lines sheet linked
   pub shorts : AreShorts log sheet l.shorts.items
   pub liable : l.liable.items ≡ liable_shown (state_of log) c.day
   pub notices : l.notices.items ≡ live_shown (state_of log)
   pub trades : (ts : List Trade) × AreLater log sheet ts × (l.trades.items ≡ map (due (next_day log)) ts)
   pub days : l.days.items ≡ days_shown log s
+  pub past : IsPast (looked_at log.history) l.past
 
--- a day as a book's log has it, and a survey of its records: what was written is the text of its page, with some captions
-pub record ShowsDay (opening : Day) (input : List ℕ) (log : Log) (s : Survey) (c : Close) (sheet : DaySheet) (old new : Option (List ℕ)) : Type 0 where
+-- what was written is the text of the page of a day, with some captions
+pub record ShowsDay (opening : Day) (origin : Origin) (s : Survey) (l : Contents) (old new : Option (List ℕ)) : Type 0 where
   pub captions : Captions
-  pub contents : Contents
-  pub shown : AreContents log s c sheet contents
   pub spans : List Span
   pub totals : map counts spans ≡ spans_shown s
-  pub origin : Origin
-  pub made_of : IsOrigin input origin
-  pub written : Appends old new (page_text captions opening s contents spans origin)
+  pub written : Appends old new (page_text captions opening s l spans origin)
 
--- the day that a close ends, by a book that took the records up to that close and no more, and with the sheet that the book has.
--- The day's records are those after the one with the number; the page says the digest of some first bytes of the input
-pub record HasDay (opening : Day) (input : List ℕ) (from : ℕ) (close : Close) (old new : Option (List ℕ)) : Type 0 where
-  pub log : Log
+-- what is gathered of the day that a close ends: by a book that took the records up to that close and no more, and with the sheet
+-- that the book has. The day's records are those after the one with the number; the origin is that of some first bytes of the input
+pub record IsOfDay (opening : Day) (input : List ℕ) (from : ℕ) (close : Close) (linked : Bool) (log : Log) (s : Survey) (sheet : DaySheet) (o : Origin) (l : Contents) : Type 0 where
   pub taken : log ≡ log_after (blank_log opening) (take close.record (lines_of input))
-  pub survey : Survey
-  pub all_known : known survey ≡ noted_all (nothing from) (opened opening) (take close.record (lines_of input))
-  pub sheet : DaySheet
+  pub all_known : known s ≡ noted_all (nothing from) (opened opening) (take close.record (lines_of input))
   pub closed : sheet_on log.opening (journal_of (state_of log)) close.date ≡ Some sheet
-  pub bytes : ℕ
-  pub shown : ShowsDay opening (take bytes input) log survey close sheet old new
+  pub gathered : AreContents log s close sheet linked l
+  pub made_of : (bytes : ℕ) × IsOrigin (take bytes input) o
+
+-- the day that a close ends
+pub record HasDay (opening : Day) (input : List ℕ) (from : ℕ) (close : Close) (old new : Option (List ℕ)) : Type 0 where
+  pub linked : Bool
+  pub log : Log
+  pub survey : Survey
+  pub sheet : DaySheet
+  pub origin : Origin
+  pub contents : Contents
+  pub is : IsOfDay opening input from close linked log survey sheet origin contents
+  pub shown : ShowsDay opening origin survey contents old new
 
 -- the day of the close at a place
 pub record HasClosed (opening : Day) (input : List ℕ) (closes : List Close) (day : Option Day) (old new : Option (List ℕ)) : Type 0 where

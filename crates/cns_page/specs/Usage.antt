@@ -3,4 +3,4 @@ use Rattle.std.specs.Prelude.{ℕ, List, [], ◌∷◌, ◌++◌, codes}
 
 -- the usage
 abbrev pub usage_line : List ℕ
-usage_line = codes "usage: cnspage --open DATE [--day DATE|today] [--account N [--issue CUSIP]] < RECORDS" ++ 10 ∷ []
+usage_line = codes "usage: cnspage --open DATE [--day DATE|today] [--account N [--issue CUSIP] | --folder DIR] < RECORDS" ++ 10 ∷ []

@@ -1,23 +1,28 @@
 // The page of an account's closed day: a head, tables in a fixed order, and a foot.
-ghost use Rattle.std.specs.Prelude.{◌≡◌, ◌==◌, IfOk, OnOk};
+ghost use Rattle.std.specs.Prelude.{◌≡◌, ◌==◌, IfOk, OnOk, filter, map};
 ghost use Rattle.std.specs.Io.KnownBytes.{Appends};
-ghost use Rattle.cns_page.specs.Account.{AreOwn, AreOwnShorts, AreOwnTrades, ShowsAccount, account_text, again_text, is_party, names, own_liable, own_notices, row_counts, summary_text, tables_text, title_text};
+ghost use Rattle.cns_book.specs.Log.{state_of};
+ghost use Rattle.cns_page.specs.Exceptions.{finding_text};
+ghost use Rattle.cns_page.specs.Account.{AreOwn, ShowsAccount, account_text, again_text, is_party, names, nav_text, own_fails, row_counts, summary_text, tables_text, title_text};
 ghost use Rattle.cns_page.specs.Page.{sum_of};
 
-use crate::captions::{FAILS, LIABLE, NOTICES, PROJECTION};
-use crate::contents::{Page, sum_of};
+use crate::captions::{LIABLE, NOTICES, PROJECTION};
+use crate::contents::{Contents, Page, sum_of};
 use crate::due::{Projected, projected_all};
-use crate::finding::{Finding, Numbered};
-use crate::foot::{AGAIN, AGAIN_DAY, Origin, origin_of, write_made};
-use crate::liable::{Owing, liable_members};
-use crate::notices::live_notices;
+use crate::fails::fails_of;
+use crate::finding::{Finding, NO_FACTS, Numbered};
+use crate::foot::{AGAIN, AGAIN_DAY, write_made};
+use crate::liable::Owing;
 use crate::page::{DAY, NEXT, START, TITLE_END};
-use crate::projection::{Due, dues, later_trades};
-use crate::shorts::{Aged, shorts_of};
-use cns_account::{AccountDay, BOOKINGS, MARKS, POSITIONS, account_day};
+use crate::projection::Due;
+use crate::shorts::Aged;
+use cns_account::{
+    AccountDay, BOOKINGS, DIVIDENDS, FAILS, Fail, MARKS, POSITIONS, PaidDividend, account_day,
+    dividends_of,
+};
 use cns_history::HistoryLine;
 use cns_shell::Fault;
-use cns_tables::{Piece, STYLE, Table, hand_on, write_pieces, write_table};
+use cns_tables::{Piece, STYLE, Table, hand_on, write_markup, write_pieces, write_table};
 use cns_terms::NoMemory;
 use cns_units::{Account, Day, WriteFault};
 use std::alloc::Global;
@@ -27,20 +32,25 @@ use std::io::Write;
 #[derive(Drop)]
 pub struct Own {
     pub day: AccountDay,
+    /// The dividends that the close paid it.
+    pub dividends: Vec<PaidDividend>,
     pub due: Vec<Projected>,
     /// Its shorts, the oldest first.
-    pub shorts: Vec<Aged>,
+    pub fails: Vec<Fail>,
     pub liable: Vec<Owing>,
     /// Its live notices, by number.
     pub notices: Vec<Numbered>,
     /// Its trades that settle after the day, by date.
     pub trades: Vec<Due>,
+    /// The day's first refused records that name it.
+    pub exceptions: Vec<Finding>,
 }
 
 /// The tables of an account's page.
 pub struct OwnCaptions {
     pub positions: Table,
     pub marks: Table,
+    pub dividends: Table,
     pub due: Table,
     pub fails: Table,
     pub liable: Table,
@@ -77,11 +87,9 @@ that decided",
 const TABLES: OwnCaptions = OwnCaptions {
     positions: POSITIONS,
     marks: MARKS,
+    dividends: DIVIDENDS,
     due: PROJECTED,
-    fails: Table {
-        none: "The account is not short, or it is the corporation's.",
-        ..FAILS
-    },
+    fails: FAILS,
     liable: Table {
         none: "The account is not liable for a notice of this day or of the day before.",
         ..LIABLE
@@ -117,8 +125,15 @@ const MARK: &str = ". Mark ";
 
 const DIVIDEND: &str = ", dividends ";
 
-const MAIN: &str = ".</p>
-</header>
+const SENTENCE_END: &str = ".</p>
+";
+
+const ALL_ACCOUNTS: &str = "<nav aria-label=Pages><ul><li><a href=";
+
+const ALL_ACCOUNTS_END: &str = ".html>All accounts on this day</a></ul></nav>
+";
+
+const MAIN: &str = "</header>
 <main id=main>
 ";
 
@@ -145,65 +160,128 @@ fn is_party(account: Account, due: &Due) -> bool
     due.trade.buyer.account() == account || due.trade.seller.account() == account
 }
 
-// The account's trades that settle after the day.
-fn own_trades(alloc: Global, account: Account, page: &Page<'_>) -> Result<Vec<Due>, NoMemory>
-    ensures { IfOk result (λ v. AreOwnTrades account page.now.book.now.log page.now.sheet.now v.items) }
+// The account's trades among those that settle after the day.
+fn own_trades(alloc: Global, account: Account, trades: &[Due]) -> Result<Vec<Due>, NoMemory>
+    ensures { IfOk result (λ v. v.items ≡ filter (is_party account) trades.now) }
 {
-    let later = later_trades(alloc, page.book, page.sheet.date())?;
-    let mut trades = dues(alloc, later.as_slice(), page.book.today())?;
-    trades.retain(|due| is_party(account, due));
-    Ok(trades)
+    let mut own = Vec::new(alloc);
+    own.extend_from_slice(trades)?;
+    own.retain(|due| is_party(account, due));
+    Ok(own)
 }
 
-// Its shorts, the oldest first.
-fn own_shorts(alloc: Global, account: Account, page: &Page<'_>) -> Result<Vec<Aged>, NoMemory>
-    ensures { IfOk result (λ v. AreOwnShorts account page.now.book.now.log page.now.sheet.now v.items) }
+// Its shorts among those of all members.
+fn own_shorts(alloc: Global, account: Account, shorts: &[Aged]) -> Result<Vec<Aged>, NoMemory>
+    ensures { IfOk result (λ v. v.items ≡ filter (λ s. s.row.account == account) shorts.now) }
 {
-    let mut shorts = shorts_of(alloc, page.book, page.sheet)?;
-    shorts.retain(|short| is_own(account, short.row.account));
-    Ok(shorts)
+    let mut own = Vec::new(alloc);
+    own.extend_from_slice(shorts)?;
+    own.retain(|short| is_own(account, short.row.account));
+    Ok(own)
 }
 
-// What is left of its liabilities.
-fn own_liable(alloc: Global, account: Account, page: &Page<'_>) -> Result<Vec<Owing>, NoMemory>
-    ensures { IfOk result (λ v. v.items ≡ own_liable account page.now.book.now.log page.now.close.day) }
-{
-    let mut liable = liable_members(alloc, page.book, page.close.day)?;
-    liable.retain(|owing| is_own(account, owing.liable.member.account()));
-    Ok(liable)
-}
-
-// Its live notices, by number.
-fn own_notices(alloc: Global, account: Account, page: &Page<'_>) -> Result<Vec<Numbered>, NoMemory>
-    ensures { IfOk result (λ v. v.items ≡ own_notices account page.now.book.now.log) }
-{
-    let mut notices = live_notices(alloc, page.book)?;
-    notices.retain(|numbered| is_own(account, numbered.notice.member.account()));
-    Ok(notices)
-}
-
-// The rows of the page.
-fn own_of(
+// The same, each with its first close and what the price did to it since.
+fn own_fails(
     alloc: Global,
     account: Account,
     page: &Page<'_>,
+    contents: &Contents,
+) -> Result<Vec<Fail>, NoMemory>
+    ensures { IfOk result (λ v. v.items ≡ own_fails account (state_of page.now.book.now.log) page.now.sheet.now contents.now) }
+{
+    let shorts = own_shorts(alloc, account, contents.shorts.as_slice())?;
+    let date = page.sheet.date();
+    fails_of(alloc, page.book, &contents.past, date, shorts.as_slice())
+}
+
+// What is left of its liabilities, among those of all members.
+fn own_liable(alloc: Global, account: Account, liable: &[Owing]) -> Result<Vec<Owing>, NoMemory>
+    ensures { IfOk result (λ v. v.items ≡ filter (λ o. o.liable.member == account) liable.now) }
+{
+    let mut own = Vec::new(alloc);
+    own.extend_from_slice(liable)?;
+    own.retain(|owing| is_own(account, owing.liable.member.account()));
+    Ok(own)
+}
+
+// Its notices among the live ones.
+fn own_notices(
+    alloc: Global,
+    account: Account,
+    notices: &[Numbered],
+) -> Result<Vec<Numbered>, NoMemory>
+    ensures { IfOk result (λ v. v.items ≡ filter (λ n. n.notice.member == account) notices.now) }
+{
+    let mut own = Vec::new(alloc);
+    own.extend_from_slice(notices)?;
+    own.retain(|numbered| is_own(account, numbered.notice.member.account()));
+    Ok(own)
+}
+
+// A copy of an exception, which has the same text.
+fn copied(alloc: Global, finding: &Finding) -> Result<Finding, NoMemory>
+    ensures { IfOk result (λ f. finding_text f ≡ finding_text finding.now) }
+{
+    let mut text = String::new(alloc);
+    text.push_str(finding.text.as_str())?;
+    let mut facts = NO_FACTS;
+    facts.copy_from_slice(&finding.facts);
+    Ok(Finding {
+        record: finding.record,
+        text,
+        outcome: finding.outcome,
+        words: finding.words,
+        facts,
+        parties: finding.parties,
+    })
+}
+
+// Copies of the refused records that name it.
+fn own_exceptions(
+    alloc: Global,
+    account: Account,
+    findings: &[Finding],
+) -> Result<Vec<Finding>, NoMemory>
+    ensures { IfOk result (λ v. map finding_text v.items ≡ map finding_text (filter (names account) findings.now)) }
+{
+    let mut own = Vec::new(alloc);
+    for finding in findings {
+        if !names(account, finding) {
+            continue;
+        }
+        let copy = copied(alloc, finding)?;
+        own.push(copy)?;
+    }
+    Ok(own)
+}
+
+/// The rows of the page of an account, among those of the page of the day, and by the lines of what the day's records booked for it.
+pub(crate) fn own_of(
+    alloc: Global,
+    account: Account,
+    page: &Page<'_>,
+    contents: &Contents,
     lines: &[HistoryLine],
 ) -> Result<Own, NoMemory>
-    ensures { IfOk result (AreOwn account page.now.book.now.log page.now.close page.now.sheet.now lines.now) }
+    ensures { IfOk result (AreOwn account (state_of page.now.book.now.log) page.now.sheet.now lines.now page.now.survey.now.findings.items contents.now) }
 {
-    let trades = own_trades(alloc, account, page)?;
+    let trades = own_trades(alloc, account, contents.trades.as_slice())?;
     let day = account_day(alloc, page.book, page.sheet, account, lines)?;
+    let dividends = dividends_of(alloc, page.book, &contents.past, page.sheet, account)?;
     let due = projected_all(alloc, page.book, page.sheet, account, trades.as_slice())?;
-    let shorts = own_shorts(alloc, account, page)?;
-    let liable = own_liable(alloc, account, page)?;
-    let notices = own_notices(alloc, account, page)?;
+    let fails = own_fails(alloc, account, page, contents)?;
+    let liable = own_liable(alloc, account, contents.liable.as_slice())?;
+    let notices = own_notices(alloc, account, contents.notices.as_slice())?;
+    let exceptions = own_exceptions(alloc, account, page.survey.findings.as_slice())?;
     Ok(Own {
         day,
+        dividends,
         due,
-        shorts,
+        fails,
         liable,
         notices,
         trades,
+        exceptions,
     })
 }
 
@@ -255,6 +333,23 @@ fn write_summary<W: Write>(
         Piece::Amount(day.stated.dividend),
         Piece::Markup(NEXT),
         Piece::Date(next),
+        Piece::Markup(SENTENCE_END),
+    ];
+    write_pieces(&pieces, writer)
+}
+
+// Writes the link to the page of the day, where the page stands in a folder with it, and the end of the head.
+#[tactic(auto, unfolding(crate::specs::Account::nav_text))]
+fn write_nav<W: Write>(is_linked: bool, date: Day, writer: &mut W) -> Result<(), WriteFault>
+    ensures { OnOk result (Appends (W.contents writer.old) (W.contents writer.new) (nav_text is_linked date)) }
+{
+    if !is_linked {
+        return write_markup(MAIN, writer);
+    }
+    let pieces = [
+        Piece::Markup(ALL_ACCOUNTS),
+        Piece::Date(date),
+        Piece::Markup(ALL_ACCOUNTS_END),
         Piece::Markup(MAIN),
     ];
     write_pieces(&pieces, writer)
@@ -264,36 +359,37 @@ fn write_summary<W: Write>(
 fn write_tables<W: Write>(
     captions: &OwnCaptions,
     own: &Own,
-    findings: &[Finding],
     writer: &mut W,
 ) -> Result<(), WriteFault>
-    ensures { OnOk result (Appends (W.contents writer.old) (W.contents writer.new) (tables_text captions.now own.now findings.now)) }
+    ensures { OnOk result (Appends (W.contents writer.old) (W.contents writer.new) (tables_text captions.now own.now)) }
 {
     write_table(&captions.positions, own.day.rows.as_slice(), writer)?;
     write_table(&captions.marks, own.day.marks.as_slice(), writer)?;
+    write_table(&captions.dividends, own.dividends.as_slice(), writer)?;
     write_table(&captions.due, own.due.as_slice(), writer)?;
-    write_table(&captions.fails, own.shorts.as_slice(), writer)?;
+    write_table(&captions.fails, own.fails.as_slice(), writer)?;
     write_table(&captions.liable, own.liable.as_slice(), writer)?;
     write_table(&captions.notices, own.notices.as_slice(), writer)?;
     write_table(&captions.trades, own.trades.as_slice(), writer)?;
     write_table(&captions.bookings, own.day.bookings.as_slice(), writer)?;
-    write_table(&captions.exceptions, findings, writer)
+    write_table(&captions.exceptions, own.exceptions.as_slice(), writer)
 }
 
 // How many rows the tables have.
-fn rows_of(own: &Own, findings: &[Finding]) -> u64
-    ensures { result ≡ sum_of (row_counts own.now findings.now) }
+fn rows_of(own: &Own) -> u64
+    ensures { result ≡ sum_of (row_counts own.now) }
 {
     sum_of(&[
         own.day.rows.len(),
         own.day.marks.len(),
+        own.dividends.len(),
         own.due.len(),
-        own.shorts.len(),
+        own.fails.len(),
         own.liable.len(),
         own.notices.len(),
         own.trades.len(),
         own.day.bookings.len(),
-        findings.len(),
+        own.exceptions.len(),
     ])
 }
 
@@ -324,23 +420,22 @@ fn write_whole<W: Write>(
     account: Account,
     page: &Page<'_>,
     own: &Own,
-    origin: &Origin,
     writer: &mut W,
 ) -> Result<(), WriteFault>
     ensures { OnOk result (Appends (W.contents writer.old) (W.contents writer.new)
-        (account_text captions.now page.now.opening page.now.book.now.log page.now.close account own.now page.now.survey.now.findings.items origin.now)) }
+        (account_text captions.now page.now.opening page.now.book.now.log page.now.close account page.now.is_linked own.now page.now.origin.now)) }
 {
     write_title(account, page.close.date, writer)?;
     write_summary(page.close.day, &own.day, page.book.today(), writer)?;
-    let findings = page.survey.findings.as_slice();
-    write_tables(captions, own, findings, writer)?;
+    write_nav(page.is_linked, page.close.date, writer)?;
+    write_tables(captions, own, writer)?;
     write_again(page.opening, page.close.date, account, writer)?;
-    write_made(origin, rows_of(own, findings), writer)?;
+    write_made(page.origin, rows_of(own), writer)?;
     hand_on(writer)
 }
 
-/// Writes the page of what a closed day did to an account, by the lines of what the day's records booked for it, with the
-/// exceptions of the survey, and hands it on.
+/// Writes the page of what a closed day did to an account, by the rows of the page of the day and by the lines of what the day's
+/// records booked for the account, and hands it on.
 ///
 /// `NoMemory` where an allocation failed, and `Write` where the writer fails, takes no byte or cannot be flushed.
 /// What was written before stands.
@@ -348,14 +443,14 @@ pub fn write_account<W: Write>(
     alloc: Global,
     account: Account,
     page: &Page<'_>,
+    contents: &Contents,
     lines: &[HistoryLine],
     writer: &mut W,
 ) -> Result<(), Fault>
-    ensures { OnOk result (ShowsAccount page.now.opening page.now.input.now page.now.book.now.log page.now.close page.now.sheet.now account lines.now page.now.survey.now.findings.items
-        (W.contents writer.old) (W.contents writer.new)) }
+    ensures { OnOk result (ShowsAccount page.now.opening page.now.origin.now page.now.book.now.log page.now.close page.now.sheet.now account page.now.is_linked lines.now
+        page.now.survey.now.findings.items contents.now (W.contents writer.old) (W.contents writer.new)) }
 {
-    let own = own_of(alloc, account, page, lines)?;
-    let origin = origin_of(alloc, page.input)?;
-    write_whole(&TABLES, account, page, &own, &origin, writer)?;
+    let own = own_of(alloc, account, page, contents, lines)?;
+    write_whole(&TABLES, account, page, &own, writer)?;
     Ok(())
 }

@@ -2,16 +2,24 @@
 ghost use Rattle.std.specs.Prelude.{◌≡◌, ◌++◌, IfOk, OnOk};
 ghost use Rattle.std.specs.Io.KnownBytes.{Appends};
 ghost use Rattle.cns_statements.specs.Packs.{is_next};
-ghost use Rattle.cns_page.specs.Accounts.{account_text, all_text, grouped, issue_text, sheet_lines};
+ghost use Rattle.cns_page.specs.Accounts.{account_text, all_text, grouped, issue_text, name_text, sheet_lines, stated_text};
 
 use crate::split::{price_move, rest_of_mark};
 use crate::sums::{Sums, sums_of};
 use cns_sheets::Sheet;
-use cns_tables::{Piece, ROW, TableRow, cents_of, write_line};
+use cns_tables::{Piece, ROW, TableRow, cents_of, write_line, write_pieces};
 use cns_terms::{NoMemory, Row, Stated};
 use cns_units::{Account, WriteFault};
 use std::alloc::Global;
 use std::io::Write;
+
+/// The line before an account's rows.
+#[derive(Clone, Copy)]
+pub struct AccountLine {
+    pub stated: Stated,
+    /// Whether a link leads to the account's page.
+    pub is_linked: bool,
+}
 
 /// A line of the summary.
 #[derive(Clone, Copy)]
@@ -19,7 +27,7 @@ pub enum SheetLine {
     /// The sums over all rows.
     All(Sums),
     /// The sums of an account, before its rows.
-    Account(Stated),
+    Account(AccountLine),
     Issue(Row),
 }
 
@@ -32,7 +40,18 @@ const ACCOUNT: &str =
 <col class=amount span=5></colgroup>\n\
 <thead><tr><th scope=col>Issue<th scope=col>Opening<th scope=col>Closing<th scope=col>Price before<th scope=col>Price\
 <th scope=col>Settling money<th scope=col>Mark<th scope=col>Price move on opening<th scope=col>Rest of mark<th scope=col>Dividend\
-\n</thead><tbody>\n<tr class=sum><th scope=rowgroup colspan=6>Account ";
+\n</thead><tbody>\n<tr class=sum><th scope=rowgroup colspan=6 id=account-";
+
+const NAME: &str = ">Account ";
+
+// What stands around the parts of a link to an account's page.
+const LINK: &str = "<a href=";
+
+const LINK_ACCOUNT: &str = "-";
+
+const LINK_NAME: &str = ".html>";
+
+const LINK_END: &str = "</a>";
 
 // Whether an account is not the one before.
 fn is_next(before: Option<Account>, account: Account) -> bool
@@ -48,27 +67,34 @@ fn is_next(before: Option<Account>, account: Account) -> bool
 fn push_row(
     lines: &mut Vec<SheetLine>,
     sheet: &Sheet<Global>,
+    is_linked: bool,
     before: Option<Account>,
     row: &Row,
 ) -> Result<(), NoMemory>
-    ensures { OnOk result (lines.new.items ≡ lines.old.items ++ grouped sheet.now before row.now) }
+    ensures { OnOk result (lines.new.items ≡ lines.old.items ++ grouped sheet.now is_linked before row.now) }
 {
     if is_next(before, row.account) {
-        lines.push(SheetLine::Account(sheet.stated(row.account)))?;
+        let stated = sheet.stated(row.account);
+        lines.push(SheetLine::Account(AccountLine { stated, is_linked }))?;
     }
     lines.push(SheetLine::Issue(*row))?;
     Ok(())
 }
 
-/// The lines of a sheet: the sums over all rows, and each account's rows after the sums of its own.
-pub fn lines_of(alloc: Global, sheet: &Sheet<Global>) -> Result<Vec<SheetLine>, NoMemory>
-    ensures { IfOk result (λ v. v.items ≡ sheet_lines sheet.now) }
+/// The lines of a sheet: the sums over all rows, and each account's rows after the sums of its own, with links to the pages of
+/// the accounts or without.
+pub fn lines_of(
+    alloc: Global,
+    sheet: &Sheet<Global>,
+    is_linked: bool,
+) -> Result<Vec<SheetLine>, NoMemory>
+    ensures { IfOk result (λ v. v.items ≡ sheet_lines sheet.now is_linked) }
 {
     let mut lines = Vec::new(alloc);
     lines.push(SheetLine::All(sums_of(sheet)))?;
     let mut before = None;
     for row in sheet.rows() {
-        push_row(&mut lines, sheet, before, &row)?;
+        push_row(&mut lines, sheet, is_linked, before, &row)?;
         before = Some(row.account);
     }
     Ok(lines)
@@ -91,8 +117,29 @@ fn write_all<W: Write>(sums: &Sums, writer: &mut W) -> Result<(), WriteFault>
     write_line(ALL, &Piece::Markup("All accounts"), &cells, writer)
 }
 
-fn write_account<W: Write>(stated: &Stated, writer: &mut W) -> Result<(), WriteFault>
-    ensures { OnOk result (Appends (W.contents writer.old) (W.contents writer.new) (account_text stated.now)) }
+// Writes the account's number, with a link to its page where there is one.
+#[tactic(auto, unfolding(crate::specs::Accounts::name_text))]
+fn write_name<W: Write>(line: &AccountLine, writer: &mut W) -> Result<(), WriteFault>
+    ensures { OnOk result (Appends (W.contents writer.old) (W.contents writer.new) (name_text line.now)) }
+{
+    let number = u64::from(line.stated.account.value());
+    if !line.is_linked {
+        return write_pieces(&[Piece::Number(number)], writer);
+    }
+    let pieces = [
+        Piece::Markup(LINK),
+        Piece::Date(line.stated.date),
+        Piece::Markup(LINK_ACCOUNT),
+        Piece::Number(number),
+        Piece::Markup(LINK_NAME),
+        Piece::Number(number),
+        Piece::Markup(LINK_END),
+    ];
+    write_pieces(&pieces, writer)
+}
+
+fn write_sums<W: Write>(stated: &Stated, writer: &mut W) -> Result<(), WriteFault>
+    ensures { OnOk result (Appends (W.contents writer.old) (W.contents writer.new) (stated_text stated.now)) }
 {
     let cells = [
         Piece::Amount(stated.mark),
@@ -100,8 +147,19 @@ fn write_account<W: Write>(stated: &Stated, writer: &mut W) -> Result<(), WriteF
         Piece::Markup(""),
         Piece::Amount(stated.dividend),
     ];
-    let account = Piece::Number(u64::from(stated.account.value()));
-    write_line(ACCOUNT, &account, &cells, writer)
+    write_line("", &Piece::Markup(""), &cells, writer)
+}
+
+fn write_account<W: Write>(line: &AccountLine, writer: &mut W) -> Result<(), WriteFault>
+    ensures { OnOk result (Appends (W.contents writer.old) (W.contents writer.new) (account_text line.now)) }
+{
+    let account = Piece::Number(u64::from(line.stated.account.value()));
+    write_pieces(
+        &[Piece::Markup(ACCOUNT), account, Piece::Markup(NAME)],
+        writer,
+    )?;
+    write_name(line, writer)?;
+    write_sums(&line.stated, writer)
 }
 
 fn write_issue<W: Write>(row: &Row, writer: &mut W) -> Result<(), WriteFault>
@@ -129,7 +187,7 @@ impl TableRow for SheetLine {
     fn write_row<W: Write>(&self, writer: &mut W) -> Result<(), WriteFault> {
         match self {
             SheetLine::All(sums) => write_all(sums, writer),
-            SheetLine::Account(stated) => write_account(stated, writer),
+            SheetLine::Account(line) => write_account(line, writer),
             SheetLine::Issue(row) => write_issue(row, writer),
         }
     }

@@ -1,7 +1,7 @@
 // The line of the program, and what it asks for.
-ghost use Rattle.std.specs.Prelude.{◌≡◌, IfOk, map, option_map};
+ghost use Rattle.std.specs.Prelude.{◌≡◌, IfOk, IfSome, map, option_map};
 ghost use Rattle.clap.specs.Words.{app_of, found_of, rows_of};
-ghost use Rattle.cns_page.specs.Asks.{about_read, asked_in, day_read, found_by, page_line, question};
+ghost use Rattle.cns_page.specs.Asks.{about_read, asked_in, dated_line, day_read, folder_in, found_by, page_line, question};
 
 use clap::{ArgMatches, Command};
 use cns_feed::account_of;
@@ -40,18 +40,29 @@ pub enum About {
     Account(Account),
     /// An account's place in an issue: its history.
     Place(Key),
+    /// All accounts and each of them: the pages of a day, as files of a folder.
+    Folder,
 }
 
-// The lines that are taken, with no help or version.
+// The options for the book and for the day, with no help or version.
+#[tactic(auto, unfolding(crate::specs::Asks::dated_line))]
+fn dated_line<'a>(alloc: Global) -> Result<Command<'a>, AllocError>
+    ensures { IfOk result (λ c. app_of c ≡ dated_line) }
+{
+    bare_command(alloc, "cnspage")
+        .arg(required_option(alloc, "open"))?
+        .arg(option(alloc, "day"))
+}
+
+// The lines that are taken.
 #[tactic(auto, unfolding(crate::specs::Asks::page_line))]
 fn command_line<'a>(alloc: Global) -> Result<Command<'a>, AllocError>
     ensures { IfOk result (λ c. app_of c ≡ page_line) }
 {
-    bare_command(alloc, "cnspage")
-        .arg(required_option(alloc, "open"))?
-        .arg(option(alloc, "day"))?
+    dated_line(alloc)?
         .arg(option(alloc, "account"))?
-        .arg(option(alloc, "issue"))
+        .arg(option(alloc, "issue"))?
+        .arg(option(alloc, "folder"))
 }
 
 // What clap makes of the words; None where it refuses them.
@@ -78,19 +89,20 @@ fn day_of(text: Option<&str>) -> Option<When>
     Some(When::Closed(day))
 }
 
-// What the page is about; None where the account or the issue is none, or an issue is there without an account.
-fn about_of(account: Option<&str>, issue: Option<&str>) -> Option<About>
-    ensures { result ≡ about_read (option_map (λ s. s.now) account.entry) (option_map (λ s. s.now) issue.entry) }
+// What the page is about; None where the account or the issue is none, an issue is there without an account, or a folder with one.
+fn about_of(account: Option<&str>, issue: Option<&str>, folder: Option<&str>) -> Option<About>
+    ensures { result ≡ about_read (option_map (λ s. s.now) account.entry) (option_map (λ s. s.now) issue.entry) (option_map (λ s. s.now) folder.entry) }
 {
-    match (account, issue) {
-        (None, None) => Some(About::All),
-        (Some(account), None) => Some(About::Account(account_of(account.as_bytes()).ok()?)),
-        (Some(account), Some(issue)) => {
+    match (account, issue, folder) {
+        (None, None, None) => Some(About::All),
+        (Some(account), None, None) => Some(About::Account(account_of(account.as_bytes()).ok()?)),
+        (Some(account), Some(issue), None) => {
             let account = account_of(account.as_bytes()).ok()?;
             let issue = Cusip::parse(issue.as_bytes()).ok()?;
             Some(About::Place(Key { account, issue }))
         }
-        (None, Some(_)) => None,
+        (None, None, Some(_)) => Some(About::Folder),
+        _ => None,
     }
 }
 
@@ -100,7 +112,11 @@ fn asked_in(matches: &ArgMatches<'_>) -> Option<Asked>
 {
     let opening = date_of(matches, "open")?;
     let day = day_of(value(matches, "day"))?;
-    let about = about_of(value(matches, "account"), value(matches, "issue"))?;
+    let about = about_of(
+        value(matches, "account"),
+        value(matches, "issue"),
+        value(matches, "folder"),
+    )?;
     Some(Asked {
         opening,
         day,
@@ -108,13 +124,23 @@ fn asked_in(matches: &ArgMatches<'_>) -> Option<Asked>
     })
 }
 
-/// What the words of a line ask for, the name of the program first; None where the line or a date is refused. `NoMemory`
-/// where an allocation failed.
-pub fn asked_of<S: AsStr>(alloc: Global, words: &[S]) -> Result<Option<Asked>, NoMemory>
-    ensures { IfOk result (λ r. r ≡ question (map S.text words.now)) }
+/// What the words of a line ask for, the name of the program first, and the name of the folder, which is empty where none is asked
+/// for; None where the line or a date is refused. `NoMemory` where an allocation failed.
+pub fn asked_of<'a, S: AsStr>(
+    alloc: Global,
+    words: &'a [S],
+) -> Result<Option<(Asked, &'a str)>, NoMemory>
+    ensures asked { IfOk result (λ r. option_map (λ p. p.0) r ≡ question (map S.text words.now)) }
+    ensures folder { IfOk result (λ r. IfSome r (λ p. p.1.now ≡ folder_in (map S.text words.now))) }
 {
     let Some(matches) = matches_in(alloc, words)? else {
         return Ok(None);
     };
-    Ok(asked_in(&matches))
+    let folder = value(&matches, "folder").unwrap_or("");
+    let Some(asked) = asked_in(&matches) else {
+        return Ok(None);
+    };
+    // The day is named, since the compiler has to be told of its type.
+    let _day = asked.day;
+    Ok(Some((asked, folder)))
 }

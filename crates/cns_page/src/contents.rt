@@ -1,12 +1,13 @@
 // What the page of a closed day shows, gathered before anything is written.
 ghost use Rattle.std.specs.Prelude.{◌≡◌, ◌-◌, ◌^◌, IfOk, min, sum_by};
-ghost use Rattle.cns_page.specs.Listed.{last_closes};
+ghost use Rattle.cns_page.specs.Listed.{date_before, last_closes};
 ghost use Rattle.cns_page.specs.Page.{row_counts};
 ghost use Rattle.cns_page.specs.Shown.{AreContents, head_shown};
 
 use crate::accounts::{SheetLine, lines_of};
 use crate::figures::{Figures, line_of_days};
 use crate::finding::Numbered;
+use crate::foot::Origin;
 use crate::liable::{Owing, liable_members};
 use crate::notices::live_notices;
 use crate::projection::{Due, dues, later_trades};
@@ -14,6 +15,7 @@ use crate::reasons::{Counted, counts_of};
 use crate::shorts::{Aged, shorts_of};
 use crate::survey::{Close, Survey};
 use crate::totals::Span;
+use cns_account::{Past, past_of};
 use cns_feed::ReplayBook;
 use cns_sheets::Sheet;
 use cns_terms::NoMemory;
@@ -25,13 +27,15 @@ use std::alloc::Global;
 pub struct Page<'a> {
     /// The date on which the book was opened.
     pub opening: Day,
-    /// The records up to the close.
-    pub input: &'a [u8],
+    /// What it is made of: the records up to the close.
+    pub origin: &'a Origin,
     /// What they came to.
     pub survey: &'a Survey,
     pub close: Close,
     pub book: &'a ReplayBook,
     pub sheet: &'a Sheet<Global>,
+    /// Whether it stands in a folder with the pages of the accounts and of other days, and links lead to them.
+    pub is_linked: bool,
 }
 
 /// What the head of a page tells.
@@ -45,8 +49,12 @@ pub struct Head {
     pub last: u64,
     /// How many of them are exceptions.
     pub exceptions: u64,
+    /// The date of the day before, if a day was closed before.
+    pub before: Option<Day>,
     /// The date of the day that the close opened.
     pub next: Day,
+    /// Whether links lead to the pages of the days before and after.
+    pub is_linked: bool,
 }
 
 /// The rows of a page's tables, beside exceptions and control totals.
@@ -64,6 +72,8 @@ pub struct Contents {
     pub trades: Vec<Due>,
     /// The closed days, in order, the last 60 at most.
     pub days: Vec<Figures>,
+    /// What the pages of accounts read of the history.
+    pub past: Past,
 }
 
 // The most days in the line of days.
@@ -76,9 +86,18 @@ fn last_of(closes: &[Close]) -> &[Close]
     &closes[closes.len().saturating_sub(MOST)..]
 }
 
+// The date of the close before the last one, if there is one.
+fn date_before(closes: &[Close]) -> Option<Day>
+    ensures { result ≡ date_before closes.now }
+{
+    let place = closes.len().checked_sub(2)?;
+    let close = closes.get(place)?;
+    Some(close.date)
+}
+
 // What the head tells.
 fn head_of(page: &Page<'_>) -> Head
-    ensures { result ≡ head_shown page.now.book.now.log page.now.survey.now page.now.close }
+    ensures { result ≡ head_shown page.now.book.now.log page.now.survey.now page.now.close page.now.is_linked }
 {
     Head {
         date: page.close.date,
@@ -86,22 +105,25 @@ fn head_of(page: &Page<'_>) -> Head
         first: page.survey.from.saturating_add(1),
         last: page.close.record,
         exceptions: page.survey.reasons.len() as u64,
+        before: date_before(page.survey.closes.as_slice()),
         next: page.book.today(),
+        is_linked: page.is_linked,
     }
 }
 
 /// What the page of a day shows.
 pub fn contents_of(alloc: Global, page: &Page<'_>) -> Result<Contents, NoMemory>
-    ensures { IfOk result (AreContents page.now.book.now.log page.now.survey.now page.now.close page.now.sheet.now) }
+    ensures { IfOk result (AreContents page.now.book.now.log page.now.survey.now page.now.close page.now.sheet.now page.now.is_linked) }
 {
     let reasons = counts_of(alloc, page.survey.reasons.as_slice())?;
-    let lines = lines_of(alloc, page.sheet)?;
+    let lines = lines_of(alloc, page.sheet, page.is_linked)?;
     let shorts = shorts_of(alloc, page.book, page.sheet)?;
     let liable = liable_members(alloc, page.book, page.close.day)?;
     let notices = live_notices(alloc, page.book)?;
     let later = later_trades(alloc, page.book, page.sheet.date())?;
     let trades = dues(alloc, later.as_slice(), page.book.today())?;
     let days = line_of_days(alloc, page.book, last_of(page.survey.closes.as_slice()))?;
+    let past = past_of(alloc, page.book)?;
     Ok(Contents {
         head: head_of(page),
         reasons,
@@ -111,6 +133,7 @@ pub fn contents_of(alloc: Global, page: &Page<'_>) -> Result<Contents, NoMemory>
         notices,
         trades,
         days,
+        past,
     })
 }
 

@@ -12,11 +12,13 @@ use crate::make::make;
 use cns_shell::{Ended, Fault, fail, refuse_usage};
 use std::alloc::Global;
 use std::convert::AsStr;
+use std::fs::File;
 use std::io::{ErrorKind, Read, Write};
+use std::rt::Files;
 
 /// The usage, for a line that is refused.
 pub const USAGE: &[u8] =
-    b"usage: cnspage --open DATE [--day DATE|today] [--account N [--issue CUSIP]] < RECORDS\n";
+    b"usage: cnspage --open DATE [--day DATE|today] [--account N [--issue CUSIP] | --folder DIR] < RECORDS\n";
 
 // All bytes of the input.
 fn bytes_of<I: Read>(alloc: Global, input: &mut I) -> Result<Vec<u8>, Fault>
@@ -32,27 +34,28 @@ fn bytes_of<I: Read>(alloc: Global, input: &mut I) -> Result<Vec<u8>, Fault>
     }
 }
 
-// Writes the page that is asked for, of all that a reader gives.
-fn make_of<I: Read, O: Write>(
-    alloc: Global,
+// Writes what is asked for, of all that a reader gives.
+fn make_of<R: AllocGlobal + Files<File = File>, I: Read, O: Write>(
+    rt: &R,
     asked: &Asked,
+    folder: &str,
     input: &mut I,
     output: &mut O,
 ) -> Result<(), Fault>
     ensures { OnOk result (IfSome (I.remaining input.old)
         (λ bytes. HasPage asked.now bytes (O.contents output.old) (O.contents output.new))) }
 {
-    let bytes = bytes_of(alloc, input)?;
-    make(alloc, asked, bytes.as_slice(), output)
+    let bytes = bytes_of(rt.alloc(), input)?;
+    make(rt, asked, folder, bytes.as_slice(), output)
 }
 
 /// Runs the program on the words of its line, its name first, and tells what writing its line to `errors` came to.
 ///
-/// Status 0: the page of the day that the words ask for is written and flushed, and nothing went to `errors`. 1: a fault,
-/// whose line went to `errors`; what was written before stands in `output`. 2: the line is refused, or a date is none, so nothing was read, nothing went to
+/// Status 0: the page that the words ask for is written and flushed, or the pages stand in the folder, and nothing went to `errors`.
+/// 1: a fault, whose line went to `errors`; what was written before stands in `output`. 2: the line is refused, or a date is none, so nothing was read, nothing went to
 /// `output`, and the usage line to `errors`.
-pub fn run_words<S: AsStr, I: Read, O: Write, E: Write>(
-    alloc: Global,
+pub fn run_words<R: AllocGlobal + Files<File = File>, S: AsStr, I: Read, O: Write, E: Write>(
+    rt: &R,
     words: &[S],
     input: &mut I,
     output: &mut O,
@@ -70,12 +73,12 @@ pub fn run_words<S: AsStr, I: Read, O: Write, E: Write>(
     ensures usage { result.status ≡ 2
         → Writes (E.contents errors.old) (E.contents errors.new) usage_line result.told }
 {
-    let asked = match asked_of(alloc, words) {
+    let (asked, folder) = match asked_of(rt.alloc(), words) {
         Ok(Some(asked)) => asked,
         Ok(None) => return refuse_usage(USAGE, errors),
         Err(_) => return fail(Fault::NoMemory, errors),
     };
-    match make_of(alloc, &asked, input, output) {
+    match make_of(rt, &asked, folder, input, output) {
         Ok(()) => Ended::DONE,
         Err(fault) => fail(fault, errors),
     }

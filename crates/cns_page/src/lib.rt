@@ -4,7 +4,8 @@
 //! them twice (`play.rt`): once through, to find the closes, and then up to the close that the page is of, with the day's
 //! exceptions noted; so what comes after a close changes nothing on its page, and stands on the page of the open day
 //! (`today.rt`). What a closed day did to an account is a page too (`account.rt`), of rows that `cns_account` gathers, and so is
-//! the history of a position, which `cns_history` writes. What a page shows is gathered first (`contents.rt`), and then written: a
+//! the history of a position, which `cns_history` writes. The pages of a day go into a folder by `folder.rt`, each file whole or not at
+//! all (`files.rt`). What a page shows is gathered first (`contents.rt`), and then written: a
 //! head, tables in a fixed order (`captions.rt`), and a foot. At status 0 what was written is exactly that, as `HasPage` in
 //! `specs/Asked.antt` says, for some captions. Start with `page.rt`.
 #![tactic(auto)]
@@ -18,8 +19,11 @@ mod due;
 mod entry;
 mod exceptions;
 mod facts;
+mod fails;
 mod figures;
+mod files;
 mod finding;
+mod folder;
 mod foot;
 mod given;
 mod liable;

@@ -1,30 +1,33 @@
 // The page that is asked for, of the records of an input.
-ghost use Rattle.std.specs.Prelude.{◌≡◌, ◌<◌, ◌≤◌, IfOk, OnOk, Some, filter, length, option_map, slice_get, take, true};
+ghost use Rattle.std.specs.Prelude.{◌≡◌, ◌<◌, ◌≤◌, IfOk, OnOk, Some, length, option_map, slice_get, take, true};
 ghost use Rattle.cns_terms.specs.Common.{journal_of, opened, sheet_on};
 ghost use Rattle.cns_book.specs.Log.{state_of};
 ghost use Rattle.cns_feed.specs.Output.{lines_of};
 ghost use Rattle.cns_page.specs.Listed.{last_record, records_before};
-ghost use Rattle.cns_page.specs.Account.{names};
 ghost use Rattle.cns_page.specs.Asked.{HasAsked, HasOwn, HasOwnDay, HasPage, HasPast, IsOfRecords, closed_in};
 ghost use Rattle.cns_page.specs.Shown.{HasClosed, HasDay};
 ghost use Rattle.cns_page.specs.Survey.{known, noted_all, nothing};
 ghost use Rattle.cns_page.specs.Today.{HasToday};
 
-use crate::account::{names, write_account};
+use crate::account::write_account;
 use crate::asked::{About, Asked, When};
-use crate::contents::Page;
-use crate::finding::Finding;
+use crate::contents::{Page, contents_of};
+use crate::files::check_folder;
+use crate::folder::write_folder;
+use crate::foot::origin_of;
 use crate::page::write_page;
 use crate::play::{Played, play};
 use crate::survey::{Close, Survey, place_of};
 use crate::today::{OpenDay, write_today};
 use cns_feed::{MOST_RECORDS, ReplayBook, ReplayFault};
-use cns_history::{Place, bookings, write_history};
+use cns_history::{Place, Watched, Whose, bookings, write_history};
 use cns_sheets::Sheet;
 use cns_shell::Fault;
 use cns_units::{Account, Day};
 use std::alloc::Global;
+use std::fs::File;
 use std::io::Write;
+use std::rt::Files;
 
 // A survey, where it is of all records.
 fn if_whole(survey: Survey, is_whole: bool) -> Result<Survey, ReplayFault>
@@ -77,8 +80,8 @@ fn records_before(survey: &Survey, place: usize) -> u64
     last_record(&survey.closes[..place])
 }
 
-// The sheet of a closed day.
-fn sheet_of(book: &ReplayBook, date: Day) -> Option<&Sheet<Global>>
+/// The sheet of a closed day.
+pub(crate) fn sheet_of(book: &ReplayBook, date: Day) -> Option<&Sheet<Global>>
     ensures { option_map (λ s. s.now) result
         ≡ sheet_on book.now.log.opening (journal_of (state_of book.now.log)) date }
 {
@@ -86,8 +89,8 @@ fn sheet_of(book: &ReplayBook, date: Day) -> Option<&Sheet<Global>>
     Some(sheet)
 }
 
-// The first bytes of an input, so many.
-fn first_of(input: &[u8], bytes: usize) -> &[u8]
+/// The first bytes of an input, so many.
+pub(crate) fn first_of(input: &[u8], bytes: usize) -> &[u8]
     ensures { result.now ≡ take bytes input.now }
 {
     &input[..bytes.min(input.len())]
@@ -113,15 +116,19 @@ fn write_day<O: Write>(
     let Some(sheet) = sheet_of(&book, close.date) else {
         return Err(Fault::NoSuchDay);
     };
+    let origin = origin_of(alloc, first_of(input, bytes))?;
     let page = Page {
         opening,
-        input: first_of(input, bytes),
+        origin: &origin,
         survey: &survey,
         close,
         book: &book,
         sheet,
+        is_linked: false,
     };
-    write_page(alloc, &page, output)
+    let contents = contents_of(alloc, &page)?;
+    write_page(&page, &contents, output)?;
+    Ok(())
 }
 
 // Whether an account is a member's or the corporation's, so far as the listed issues tell.
@@ -133,13 +140,6 @@ fn check_account(book: &ReplayBook, sheet: &Sheet<Global>, account: Account) -> 
         Some(_) => Ok(()),
         None => Err(Fault::NoSuchMember),
     }
-}
-
-// Keeps the exceptions that name an account.
-fn keep_named(findings: &mut Vec<Finding>, account: Account)
-    ensures { findings.new.items ≡ filter (names account) findings.old.items }
-{
-    findings.retain(|finding| names(account, finding));
 }
 
 // Writes the page of what the day that a close ends did to an account, of the records up to that close alone; those after `from`
@@ -156,9 +156,10 @@ fn write_own_day<O: Write>(
     ensures { OnOk result (HasOwnDay account opening input.now from close (O.contents output.old) (O.contents output.new)) }
 {
     let before = close.record.saturating_sub(1);
-    let lines = bookings(alloc, opening, account, input, from, before)?;
+    let watched = Watched::Bookings(Whose::One(account), from);
+    let lines = bookings(alloc, opening, &watched, input, before)?;
     let Played {
-        mut survey,
+        survey,
         book,
         bytes,
         is_whole: _,
@@ -167,16 +168,18 @@ fn write_own_day<O: Write>(
         return Err(Fault::NoSuchDay);
     };
     check_account(&book, sheet, account)?;
-    keep_named(&mut survey.findings, account);
+    let origin = origin_of(alloc, first_of(input, bytes))?;
     let page = Page {
         opening,
-        input: first_of(input, bytes),
+        origin: &origin,
         survey: &survey,
         close,
         book: &book,
         sheet,
+        is_linked: false,
     };
-    write_account(alloc, account, &page, lines.as_slice(), output)
+    let contents = contents_of(alloc, &page)?;
+    write_account(alloc, account, &page, &contents, lines.as_slice(), output)
 }
 
 // Writes the page of what the closed day that is asked for, the last one where none is, did to an account, by the closes among all
@@ -306,19 +309,40 @@ fn write_asked<O: Write>(
     }
 }
 
-/// Writes the page that is asked for, of the records of an input, and hands it on.
+// Writes the pages of the closed day that is asked for, the last one where none is, into a folder.
+fn write_files<R: AllocGlobal + Files<File = File>>(
+    rt: &R,
+    folder: &str,
+    opening: Day,
+    input: &[u8],
+    survey: &Survey,
+    day: Option<Day>,
+) -> Result<(), Fault> {
+    check_folder(rt, folder)?;
+    let Some(place) = place_of(survey.closes.as_slice(), day) else {
+        return Err(Fault::NoSuchDay);
+    };
+    let from = records_before(survey, place);
+    write_folder(rt, folder, opening, input, from, close_at(survey, place))
+}
+
+/// Writes the page that is asked for, of the records of an input, and hands it on; or writes pages into the folder.
 ///
-/// `NoMemory` where an allocation failed, `Read` where there are 4,294,967,295 records or more, `NoSuchDay` where no closed
-/// day has the date, or no day is closed, or what the open day did to an account is asked for,
-/// `NoSuchMember` and `NoSuchIssue` where the account or the issue that is asked for is not there, and `Write` where the writer fails. What was written before stands.
-pub(crate) fn make<O: Write>(
-    alloc: Global,
+/// `NoMemory` where an allocation failed, `Read` where there are 4,294,967,295 records or more, or a file of the folder cannot be
+/// read, `NoSuchDay` where no closed day has the date, or no day is closed, or what the open day did to an account or its pages
+/// for a folder are asked for, `NoSuchMember` and `NoSuchIssue` where the account or the issue that is asked for is not there,
+/// `NoSuchFolder` where the folder is not there, `OtherPage` where it has another page, and `Write` where the writer fails or a file
+/// cannot be written. What was written before stands, and each file is whole.
+pub(crate) fn make<R: AllocGlobal + Files<File = File>, O: Write>(
+    rt: &R,
     asked: &Asked,
+    folder: &str,
     input: &[u8],
     output: &mut O,
 ) -> Result<(), Fault>
     ensures { OnOk result (HasPage asked.now input.now (O.contents output.old) (O.contents output.new)) }
 {
+    let alloc = rt.alloc();
     let opening = asked.opening;
     let most = u64::from(MOST_RECORDS);
     let survey = survey_of(alloc, opening, input, most)?;
@@ -333,5 +357,9 @@ pub(crate) fn make<O: Write>(
             let place = Place { opening, day, key };
             write_past(alloc, &place, input, &survey, most, output)
         }
+        About::Folder => match asked.day {
+            When::Today => Err(Fault::NoSuchDay),
+            _ => write_files(rt, folder, opening, input, &survey, day),
+        },
     }
 }

@@ -1,17 +1,15 @@
 // The page of a closed day: a head, tables in a fixed order, and a foot.
 ghost use Rattle.std.specs.Prelude.{◌≡◌, OnOk};
 ghost use Rattle.std.specs.Io.KnownBytes.{Appends};
-ghost use Rattle.cns_page.specs.Page.{head_text, page_text};
+ghost use Rattle.cns_page.specs.Page.{after_text, before_text, begin_text, head_text, links_text, page_text};
 ghost use Rattle.cns_page.specs.Shown.{ShowsDay};
 
 use crate::captions::{CAPTIONS, Captions};
-use crate::contents::{Contents, Head, Page, contents_of, rows_of};
-use crate::foot::{Origin, origin_of, write_foot};
+use crate::contents::{Contents, Head, Page, rows_of};
+use crate::foot::write_foot;
 use crate::totals::{Span, spans_of};
-use cns_shell::Fault;
-use cns_tables::{Piece, STYLE, hand_on, write_pieces, write_table};
-use cns_units::WriteFault;
-use std::alloc::Global;
+use cns_tables::{Piece, STYLE, hand_on, write_markup, write_pieces, write_table};
+use cns_units::{Day, WriteFault};
 use std::io::Write;
 
 /// What stands before the title of a page.
@@ -56,11 +54,23 @@ const LINKS: &str = ".</p>
 <li><a href=#projection>Projection</a>
 <li><a href=#days>Last 60 days</a>
 <li><a href=#totals>Control totals</a>
-</ul></nav>
+";
+
+// What stands before the date in a link to the page of another day.
+const DAY_LINK: &str = "<li><a href=";
+
+const DAY_BEFORE_END: &str = ".html>The day before</a>
+";
+
+const DAY_AFTER_END: &str = ".html>The next day</a>
+";
+
+const MAIN: &str = "</ul></nav>
 </header>
 <main id=main>
 ";
 
+// Writes the head, up to the links within the page.
 #[tactic(auto, unfolding(crate::specs::Page::head_text))]
 fn write_head<W: Write>(head: &Head, writer: &mut W) -> Result<(), WriteFault>
     ensures { OnOk result (Appends (W.contents writer.old) (W.contents writer.new) (head_text head.now)) }
@@ -89,19 +99,67 @@ fn write_head<W: Write>(head: &Head, writer: &mut W) -> Result<(), WriteFault>
     write_pieces(&pieces, writer)
 }
 
+// Writes the link to the page of the day before, if there was one.
+#[tactic(auto, unfolding(crate::specs::Page::before_text))]
+fn write_before<W: Write>(before: Option<Day>, writer: &mut W) -> Result<(), WriteFault>
+    ensures { OnOk result (Appends (W.contents writer.old) (W.contents writer.new) (before_text before)) }
+{
+    let Some(date) = before else {
+        return Ok(());
+    };
+    let pieces = [
+        Piece::Markup(DAY_LINK),
+        Piece::Date(date),
+        Piece::Markup(DAY_BEFORE_END),
+    ];
+    write_pieces(&pieces, writer)
+}
+
+// Writes the link to the page of the next day.
+#[tactic(auto, unfolding(crate::specs::Page::after_text))]
+fn write_after<W: Write>(next: Day, writer: &mut W) -> Result<(), WriteFault>
+    ensures { OnOk result (Appends (W.contents writer.old) (W.contents writer.new) (after_text next)) }
+{
+    let pieces = [
+        Piece::Markup(DAY_LINK),
+        Piece::Date(next),
+        Piece::Markup(DAY_AFTER_END),
+    ];
+    write_pieces(&pieces, writer)
+}
+
+// Writes the links to the pages of other days, where there are any.
+fn write_links<W: Write>(head: &Head, writer: &mut W) -> Result<(), WriteFault>
+    ensures { OnOk result (Appends (W.contents writer.old) (W.contents writer.new) (links_text head.now)) }
+{
+    if !head.is_linked {
+        return Ok(());
+    }
+    write_before(head.before, writer)?;
+    write_after(head.next, writer)
+}
+
+// Writes the head.
+fn write_begin<W: Write>(head: &Head, writer: &mut W) -> Result<(), WriteFault>
+    ensures { OnOk result (Appends (W.contents writer.old) (W.contents writer.new) (begin_text head.now)) }
+{
+    write_head(head, writer)?;
+    write_links(head, writer)?;
+    write_markup(MAIN, writer)
+}
+
 // Writes a page with some captions.
 fn write_text<W: Write>(
     captions: &Captions,
     page: &Page<'_>,
     contents: &Contents,
     totals: &[Span],
-    origin: &Origin,
     writer: &mut W,
 ) -> Result<(), WriteFault>
     ensures { OnOk result (Appends (W.contents writer.old) (W.contents writer.new)
-        (page_text captions.now page.now.opening page.now.survey.now contents.now totals.now origin.now)) }
+        (page_text captions.now page.now.opening page.now.survey.now contents.now totals.now page.now.origin.now)) }
 {
-    write_head(&contents.head, writer)?;
+    write_begin(&contents.head, writer)?;
     write_table(
         &captions.exceptions,
         page.survey.findings.as_slice(),
@@ -116,7 +174,13 @@ fn write_text<W: Write>(
     write_table(&captions.days, contents.days.as_slice(), writer)?;
     write_table(&captions.totals, totals, writer)?;
     let rows = rows_of(page.survey, contents, totals);
-    write_foot(page.opening, Some(contents.head.date), origin, rows, writer)
+    write_foot(
+        page.opening,
+        Some(contents.head.date),
+        page.origin,
+        rows,
+        writer,
+    )
 }
 
 // Writes a page with some captions, and hands it on.
@@ -125,27 +189,26 @@ fn write_whole<W: Write>(
     page: &Page<'_>,
     contents: &Contents,
     totals: &[Span],
-    origin: &Origin,
     writer: &mut W,
 ) -> Result<(), WriteFault>
     ensures { OnOk result (Appends (W.contents writer.old) (W.contents writer.new)
-        (page_text captions.now page.now.opening page.now.survey.now contents.now totals.now origin.now)) }
+        (page_text captions.now page.now.opening page.now.survey.now contents.now totals.now page.now.origin.now)) }
 {
-    write_text(captions, page, contents, totals, origin, writer)?;
+    write_text(captions, page, contents, totals, writer)?;
     hand_on(writer)
 }
 
-/// Writes the page, and hands it on.
+/// Writes the page of what was gathered of a day, and hands it on.
 ///
-/// `NoMemory` where an allocation failed, and `Write` where the writer fails, takes no byte or cannot be flushed.
-/// What was written before stands.
-pub fn write_page<W: Write>(alloc: Global, page: &Page<'_>, writer: &mut W) -> Result<(), Fault>
-    ensures { OnOk result (ShowsDay page.now.opening page.now.input.now page.now.book.now.log page.now.survey.now page.now.close page.now.sheet.now
-        (W.contents writer.old) (W.contents writer.new)) }
+/// `Write` where the writer fails, takes no byte or cannot be flushed. What was written before stands.
+pub fn write_page<W: Write>(
+    page: &Page<'_>,
+    contents: &Contents,
+    writer: &mut W,
+) -> Result<(), WriteFault>
+    ensures { OnOk result (ShowsDay page.now.opening page.now.origin.now page.now.survey.now contents.now (W.contents writer.old) (W.contents writer.new)) }
 {
-    let contents = contents_of(alloc, page)?;
     let totals = spans_of(page.survey);
-    let origin = origin_of(alloc, page.input)?;
-    write_whole(&CAPTIONS, page, &contents, &totals, &origin, writer)?;
+    write_whole(&CAPTIONS, page, contents, &totals, writer)?;
     Ok(())
 }

@@ -44,3 +44,5 @@ FailsDay fault.Mismatch b day old new = ⊥
 FailsDay fault.NoSuchDay b day old new = (new ≡ old) × (sheet_of b day ≡ None)
 FailsDay fault.NoSuchMember b day old new = ⊥
 FailsDay fault.NoSuchIssue b day old new = ⊥
+FailsDay fault.NoSuchFolder b day old new = ⊥
+FailsDay (fault.OtherPage d a) b day old new = ⊥

@@ -32,6 +32,8 @@ IsOfOpening files fault.Mismatch = ⊥
 IsOfOpening files fault.NoSuchDay = ⊥
 IsOfOpening files fault.NoSuchMember = ⊥
 IsOfOpening files fault.NoSuchIssue = ⊥
+IsOfOpening files fault.NoSuchFolder = ⊥
+IsOfOpening files (fault.OtherPage d a) = ⊥
 
 -- a fault of a run over so many files, before anything is written
 abbrev pub IsOfRun : ℕ → Fault → Type 0
@@ -45,3 +47,5 @@ IsOfRun files fault.Mismatch = ⊤
 IsOfRun files fault.NoSuchDay = ⊥
 IsOfRun files fault.NoSuchMember = ⊥
 IsOfRun files fault.NoSuchIssue = ⊥
+IsOfRun files fault.NoSuchFolder = ⊥
+IsOfRun files (fault.OtherPage d a) = ⊥

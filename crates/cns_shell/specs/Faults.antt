@@ -1,5 +1,7 @@
 -- The faults of a program, and their lines.
 use Rattle.std.specs.Prelude.{ℕ, ◌∷◌, [], List, codes, decimal}
+use Rattle.std.specs.Option.{option_map_or}
+use Rattle.cns_units.specs.Day.{day_text}
 use Rattle.cns_terms.specs.Common.{text_line}
 use Rattle.cns_feed.specs.declared.fault.ReplayFault.{ReplayFault}
 use Rattle.cns_feed.specs.declared.fault.ReplayFault.TheVariants as replays
@@ -25,8 +27,10 @@ fault_name fault.Mismatch = codes "Mismatch"
 fault_name fault.NoSuchDay = codes "NoSuchDay"
 fault_name fault.NoSuchMember = codes "NoSuchMember"
 fault_name fault.NoSuchIssue = codes "NoSuchIssue"
+fault_name fault.NoSuchFolder = codes "NoSuchFolder"
+fault_name (fault.OtherPage d a) = codes "OtherPage"
 
--- the number of a file that could not be opened, from 1, which follows the word
+-- what follows the word: the number of a file that could not be opened, from 1, or the date and the account of a page
 abbrev pub fault_file : Fault → List (List ℕ)
 fault_file fault.Read = []
 fault_file fault.Write = []
@@ -38,6 +42,8 @@ fault_file fault.Mismatch = []
 fault_file fault.NoSuchDay = []
 fault_file fault.NoSuchMember = []
 fault_file fault.NoSuchIssue = []
+fault_file fault.NoSuchFolder = []
+fault_file (fault.OtherPage d a) = day_text d ∷ option_map_or (λ n. decimal n ∷ []) a []
 
 -- `fault`, its word and what follows
 abbrev pub fault_line : Fault → List ℕ

@@ -1,13 +1,11 @@
 // Why a program ended without doing its work.
-ghost use Rattle.std.specs.Prelude.{◌≡◌, ◌∷◌, []};
-ghost use Rattle.std.specs.Fmt.{decimal};
-ghost use Rattle.std.specs.Option.{option_map_or};
+ghost use Rattle.std.specs.Prelude.{◌≡◌};
 ghost use Rattle.cns_units.specs.Output.{Writes};
-ghost use Rattle.cns_shell.specs.Faults.{fault_file, fault_line, fault_name};
+ghost use Rattle.cns_shell.specs.Faults.{fault_line, fault_name};
 
 use cns_feed::ReplayFault;
 use cns_terms::NoMemory;
-use cns_units::{Word, WriteFault, write_line};
+use cns_units::{Account, Day, Word, WriteFault, write_line};
 use std::convert::From;
 use std::io::Write;
 
@@ -34,6 +32,10 @@ pub enum Fault {
     NoSuchMember,
     /// The issue that is asked for is not listed.
     NoSuchIssue,
+    /// The folder that is asked for is not there.
+    NoSuchFolder,
+    /// The folder has another page of the day, of all accounts or of the account.
+    OtherPage(Day, Option<Account>),
 }
 
 impl From<ReplayFault> for Fault {
@@ -85,17 +87,25 @@ fn name_of(fault: Fault) -> &'static [u8]
         Fault::NoSuchDay => b"NoSuchDay",
         Fault::NoSuchMember => b"NoSuchMember",
         Fault::NoSuchIssue => b"NoSuchIssue",
+        Fault::NoSuchFolder => b"NoSuchFolder",
+        Fault::OtherPage(..) => b"OtherPage",
     }
 }
 
-// The number of the file that could not be opened.
-fn file_of(fault: Fault) -> Option<u64>
-    ensures { option_map_or (λ n. decimal n ∷ []) result [] ≡ fault_file fault }
+// Writes the line of the fault that a folder has another page.
+fn write_other<E: Write>(
+    day: Day,
+    account: Option<Account>,
+    errors: &mut E,
+) -> Result<(), WriteFault>
+    ensures { Writes (E.contents errors.old) (E.contents errors.new) (fault_line (Fault.OtherPage day account)) result }
 {
-    match fault {
-        Fault::Open(file) => Some(file),
-        _ => None,
-    }
+    let name = Word::Text(b"OtherPage");
+    let Some(account) = account else {
+        return write_line(b"fault", &[name, Word::Date(day)], errors);
+    };
+    let account = Word::Number(u64::from(account.value()));
+    write_line(b"fault", &[name, Word::Date(day), account], errors)
 }
 
 /// Writes the line of a fault.
@@ -103,8 +113,9 @@ pub fn write_fault<E: Write>(fault: Fault, errors: &mut E) -> Result<(), WriteFa
     ensures { Writes (E.contents errors.old) (E.contents errors.new) (fault_line fault) result }
 {
     let name = Word::Text(name_of(fault));
-    match file_of(fault) {
-        Some(file) => write_line(b"fault", &[name, Word::Number(file)], errors),
-        None => write_line(b"fault", &[name], errors),
+    match &fault {
+        Fault::Open(file) => write_line(b"fault", &[name, Word::Number(*file)], errors),
+        Fault::OtherPage(day, account) => write_other(*day, *account, errors),
+        _ => write_line(b"fault", &[name], errors),
     }
 }

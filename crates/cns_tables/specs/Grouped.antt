@@ -27,3 +27,15 @@ dollars_text n = count_text (n / 100) ++ 46 ∷ (48 + n % 100 / 10) ∷ (48 + n 
 -- the same after a minus sign, where the amount is negative
 unfoldable pub amount_text : ℤ → List ℕ
 amount_text z = sign_text (is_negative z) ++ dollars_text (unsigned_abs z)
+
+-- the digit of a number at a place: that of tens, of hundreds and so on
+abbrev pub digit_at : ℕ → ℕ → ℕ
+digit_at n place = 48 + n / place % 10
+
+-- a point, and the digits of millionths after it
+abbrev pub fraction : ℕ → List ℕ
+fraction n = 46 ∷ digit_at n 100000 ∷ digit_at n 10000 ∷ digit_at n 1000 ∷ digit_at n 100 ∷ digit_at n 10 ∷ digit_at n 1 ∷ []
+
+-- millionths of a dollar as dollars, a point and six digits
+abbrev pub rate_text : ℕ → List ℕ
+rate_text n = count_text (n / 1000000) ++ fraction n

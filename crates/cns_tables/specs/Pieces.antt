@@ -4,7 +4,7 @@ use Rattle.std.specs.Fmt.{decimal}
 use Rattle.std.specs.List.{flat_map}
 use Rattle.cns_units.specs.Day.{day_text}
 use Rattle.cns_tables.specs.Escape.{escaped}
-use Rattle.cns_tables.specs.Grouped.{amount_text, count_text, signed_text}
+use Rattle.cns_tables.specs.Grouped.{amount_text, count_text, rate_text, signed_text}
 use Rattle.cns_tables.specs.declared.piece.Piece.{Piece}
 use Rattle.cns_tables.specs.declared.piece.Piece.TheVariants as piece
 
@@ -21,6 +21,7 @@ piece_text (piece.Position None) = codes "none"
 piece_text (piece.Amount z) = amount_text z
 piece_text (piece.Price (Some p)) = amount_text (pos p)
 piece_text (piece.Price None) = codes "not listed"
+piece_text (piece.Rate r) = rate_text r
 piece_text (piece.Booked true) = codes "booked"
 piece_text (piece.Booked false) = codes "pending"
 piece_text (piece.Date d) = day_text d

@@ -1,8 +1,9 @@
 // Whole numbers and amounts of money with their thousands separated by commas.
+ghost use Rattle.std.specs.Prelude.{◌≡◌, ◌<◌};
 ghost use Rattle.std.specs.Fmt.{sign_text};
 ghost use Rattle.std.specs.Int.{is_negative};
 ghost use Rattle.cns_units.specs.Output.{Writes};
-ghost use Rattle.cns_tables.specs.Grouped.{amount_text, count_text, digit_text, dollars_text, grouped, signed_text};
+ghost use Rattle.cns_tables.specs.Grouped.{amount_text, count_text, digit_at, digit_text, dollars_text, fraction, grouped, rate_text, signed_text};
 
 use cns_units::{WriteFault, write_bytes};
 use itoa::Buffer;
@@ -78,4 +79,37 @@ pub(crate) fn write_amount<W: Write>(cents: i128, writer: &mut W) -> Result<(), 
 {
     write_sign(cents, writer)?;
     write_dollars(cents.unsigned_abs(), writer)
+}
+
+// The digit of a number at a place: that of tens, of hundreds and so on.
+fn digit_at(number: u128, place: u128) -> u8
+    requires { 0 < place }
+    ensures { result ≡ digit_at number place }
+{
+    b'0' + (number / place % 10) as u8
+}
+
+// A point, and the digits of millionths after it.
+fn fraction(millionths: u128) -> [u8; 7]
+    ensures { result ≡ fraction millionths }
+{
+    [
+        b'.',
+        digit_at(millionths, 100_000),
+        digit_at(millionths, 10_000),
+        digit_at(millionths, 1_000),
+        digit_at(millionths, 100),
+        digit_at(millionths, 10),
+        digit_at(millionths, 1),
+    ]
+}
+
+/// Writes millionths of a dollar as dollars with six digits after the point, as `1,234.567890`.
+///
+/// Where the writer fails or takes no byte it answers `WriteFault`, and a prefix of that text was written.
+pub(crate) fn write_rate<W: Write>(millionths: u128, writer: &mut W) -> Result<(), WriteFault>
+    ensures { Writes (W.contents writer.old) (W.contents writer.new) (rate_text millionths) result }
+{
+    write_count(millionths / 1_000_000, writer)?;
+    write_bytes(&fraction(millionths), writer)
 }

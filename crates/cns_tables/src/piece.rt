@@ -6,8 +6,8 @@ ghost use Rattle.cns_units.specs.Output.{Writes};
 ghost use Rattle.cns_tables.specs.Pieces.{piece_text, pieces_text};
 
 use crate::escape::write_escaped;
-use crate::grouped::{write_amount, write_count, write_signed};
-use cns_units::{Cents, Cusip, Day, WriteFault, write_bytes, write_day};
+use crate::grouped::{write_amount, write_count, write_rate, write_signed};
+use cns_units::{Cents, Cusip, Day, Rate, WriteFault, write_bytes, write_day};
 use itoa::Buffer;
 use std::io::Write;
 
@@ -33,6 +33,8 @@ pub enum Piece<'a> {
     Amount(Cents),
     /// The same of a price in cents; `not listed` where there is none.
     Price(Option<u64>),
+    /// Millionths of a dollar for a share as dollars with commas between thousands, a point and six digits.
+    Rate(Rate),
     /// `booked`, or `pending`.
     Booked(bool),
     /// A date as `YYYY-MM-DD`.
@@ -71,6 +73,7 @@ pub fn write_piece<W: Write>(piece: &Piece<'_>, writer: &mut W) -> Result<(), Wr
         Piece::Amount(cents) => write_amount(cents.value(), writer),
         Piece::Price(Some(price)) => write_amount(i128::from(*price), writer),
         Piece::Price(None) => write_bytes(b"not listed", writer),
+        Piece::Rate(rate) => write_rate(u128::from(rate.value()), writer),
         Piece::Booked(true) => write_bytes(b"booked", writer),
         Piece::Booked(false) => write_bytes(b"pending", writer),
         Piece::Date(day) => write_day(*day, writer),

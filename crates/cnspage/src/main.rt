@@ -22,7 +22,7 @@ fn main(rt: HostRuntime) -> ExitCode {
         return ExitCode::from(fail(Fault::NoMemory, &mut rt.stderr()).status);
     };
     let ended = run_words(
-        rt.alloc(),
+        &rt,
         words.as_slice(),
         &mut rt.stdin(),
         &mut output,

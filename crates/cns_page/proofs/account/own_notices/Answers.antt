@@ -1,6 +1,6 @@
-use Rattle.std.proofs.Common.{rules, ◌∙◌, ap, ◌==◌, filter}
+use Rattle.std.proofs.Common.{rules, ◌==◌, ◌∙◌, ap, filter}
 use Rattle.std.proofs.lemmas.Fn.{filter_same}
 use Rattle.cns_page.proofs.account.own_notices.Goals as goal
 
 pub returns : goal.returns
-returns c = filter_same _ (λ n. n.notice.member == c.args.account) _ (λ x b f h. (search rules, search rules)) _ _ c.retain.ensures.filtered ∙ ap (filter (λ n. n.notice.member == c.args.account)) c.in_ok-notices.ensures
+returns c = filter_same _ (λ n. n.notice.member == c.args.account) _ (λ x b f h. (search rules, search rules)) _ _ c.retain.ensures.filtered ∙ ap (filter (λ n. n.notice.member == c.args.account)) (rw c.new-own.ensures.items at c.in_ok-extend_from_slice.ensures.items)

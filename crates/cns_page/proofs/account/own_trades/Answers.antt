@@ -4,9 +4,4 @@ use Rattle.cns_page.specs.Account.{is_party}
 use Rattle.cns_page.proofs.account.own_trades.Goals as goal
 
 pub returns : goal.returns
-returns c = (
-  _,
-  rw c.date.ensures at c.in_ok-later.ensures,
-  filter_same _ (is_party c.args.account) _ (λ x b f h. (search rules, search rules)) _ _ c.retain.ensures.filtered
-      ∙ ap (filter (is_party c.args.account)) (rw (c.as_slice.ensures.value, c.today.ensures) at c.in_ok-trades.ensures),
-)
+returns c = filter_same _ (is_party c.args.account) _ (λ x b f h. (search rules, search rules)) _ _ c.retain.ensures.filtered ∙ ap (filter (is_party c.args.account)) (rw c.new-own.ensures.items at c.in_ok-extend_from_slice.ensures.items)

@@ -5,7 +5,5 @@ returns g c = record {
   captions = _;
   own = c.in_ok-own.own;
   rows = c.in_ok-own.ensures;
-  origin = c.in_ok-origin.origin;
-  made_of = c.in_ok-origin.ensures;
   written = c.in_ok-write_whole.ensures;
 }

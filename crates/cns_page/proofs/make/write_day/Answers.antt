@@ -1,8 +1,15 @@
 use Rattle.std.proofs.Common.{sym}
-use Rattle.cns_page.proofs.MakeLemmas.{day_made}
+use Rattle.cns_page.proofs.MakeLemmas.{of_day}
 use Rattle.cns_page.proofs.make.write_day.Goals as goal
 
 pub returns : goal.returns
-returns g c =
-    day_made c.write_page.result _ _ c.args.from c.args.close _ _ c.in-Some.sheet.now _ _ _
-    c.in_ok-survey.ensures.after (sym c.in-Some.ensures) (rw c.first_of.ensures at c.write_page.ensures)
+returns g c = record {
+  linked = _;
+  log = _;
+  survey = _;
+  sheet = _;
+  origin = _;
+  contents = _;
+  is = of_day _ _ c.args.from c.args.close _ _ _ c.in-Some.sheet.now _ _ _ c.in_ok-survey.ensures.after (sym c.in-Some.ensures) c.in_ok-contents.ensures (rw c.first_of.ensures at c.in_ok-origin.ensures);
+  shown = c.in_ok-write_page.ensures;
+}

@@ -1,0 +1,8 @@
+use Rattle.std.proofs.Common.{◌≡◌}
+use Rattle.std.specs.Prelude.{pos}
+use Rattle.std.specs.List.{fold}
+use Rattle.cns_account.specs.Dividends.{less_cash}
+use Rattle.cns_account.proofs.dividends.against_members.Given as goal
+
+abbrev pub invariant-loop-row : goal.invariant-loop-row
+invariant-loop-row l = fold (less_cash l.declared) (pos 0) l.sheet.rows ≡ fold (less_cash l.declared) l.cents l.row-iterator

@@ -1,0 +1,16 @@
+use Rattle.std.proofs.Common.{◌≡◌, ◌++◌, List, filter_map, length}
+use Rattle.std.specs.List.{flat_map}
+use Rattle.cns_terms.specs.Common.{Cusip, Price}
+use Rattle.cns_book.specs.Log.{state_of}
+use Rattle.cns_sheets.specs.Search.{prices_above}
+use Rattle.cns_account.specs.Dividends.{due_on, paid_in}
+use Rattle.cns_account.specs.declared.dividends.PaidDividend.{PaidDividend}
+use Rattle.cns_account.proofs.dividends.dividends_of.Given as goal
+
+abbrev pub invariant-loop-issue : goal.invariant-loop-issue
+invariant-loop-issue l =
+    let paid : Cusip × Price → List PaidDividend = λ e. filter_map (paid_in (state_of l.book.log) l.past.days.items l.account e.0) (due_on l.past l.sheet.date) in
+    flat_map paid l.sheet.prices ≡ l.rows.items ++ flat_map paid (prices_above l.sheet.prices l.after)
+
+abbrev pub decreases-loop-issue : goal.decreases-loop-issue
+decreases-loop-issue l = length (prices_above l.sheet.prices l.after)

@@ -1,0 +1,6 @@
+use Rattle.std.proofs.Common.{◌≡◌, take}
+use Rattle.cns_account.specs.Fails.{issues_behind}
+use Rattle.cns_account.proofs.fails.issues_behind.Given as goal
+
+abbrev pub invariant-loop-exchange : goal.invariant-loop-exchange
+invariant-loop-exchange l = l.issues.items ≡ issues_behind (take l.exchange-index l.exchanges) l.fn.issue

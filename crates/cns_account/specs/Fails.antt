@@ -1,0 +1,82 @@
+-- Since when an account's shorts are short, and what the price did to them.
+use Rattle.std.specs.Prelude.{ℕ, ℤ, pos, ◌-◌, ◌+ℤ◌, int_lt, Bool, false, ◌||◌, List, [], ◌∷◌, ◌++◌, drop, length, slice_get, unwrap_or, if◌then◌else◌}
+use Rattle.std.specs.Int.{int_wrap, w128}
+use Rattle.std.specs.List.{fold}
+use Rattle.std.specs.Option.{option_map_or}
+use Rattle.cns_terms.specs.Common.{Account, Cusip, Day, DaySheet, State, journal_of, same_issue, sheet_on}
+use Rattle.cns_terms.specs.declared.action.Exchange.{Exchange}
+use Rattle.cns_terms.specs.declared.sheet.Row.{Row}
+use Rattle.cns_sheets.specs.Search.{row_at}
+use Rattle.cns_tables.specs.Tables.{row_of}
+use Rattle.cns_tables.specs.declared.piece.Piece.{Piece}
+use Rattle.cns_tables.specs.declared.piece.Piece.TheVariants as piece
+use Rattle.cns_tables.specs.declared.table.TheConstants.{ROW}
+use Rattle.cns_account.specs.Rows.{moved, worth}
+use Rattle.cns_account.specs.declared.fails.Fail.{Fail}
+use Rattle.cns_account.specs.declared.past.Past.{Past}
+
+-- ---- since when
+
+-- the last days, so many
+abbrev pub last_days : ℕ → List Day → List Day
+last_days n ds = drop (length ds - n) ds
+
+-- the first of days; a date where there is none
+abbrev pub first_of : Day → List Day → Day
+first_of d ds = unwrap_or (slice_get ds 0) d
+
+-- ---- what was exchanged for an issue
+
+-- whether an issue is among others
+abbrev pub is_among : Cusip → List Cusip → Bool
+is_among c cs = fold (λ b d. b || same_issue d c) false cs
+
+-- with the old issue of an exchange, where its successor is among the issues
+abbrev pub with_exchange : List Cusip → Exchange → List Cusip
+with_exchange cs x = if is_among x.successor cs then cs ++ x.old ∷ [] else cs
+
+-- an issue, with those that were exchanged for it, directly or by further exchanges: back from the newest exchange, since none is of
+-- an issue that was retired before
+abbrev pub issues_behind : List Exchange → Cusip → List Cusip
+issues_behind xs c = fold with_exchange (c ∷ []) xs
+
+-- ---- what the price did
+
+-- what a day's price did to an account's position in an issue, where it was short when the day began
+abbrev pub short_move : Account → DaySheet → Cusip → ℤ
+short_move a s c =
+    option_map_or (λ r. if int_lt r.opening (pos 0) then moved r else pos 0) (row_at s.rows (record { account = a; issue = c })) (pos 0)
+
+-- the same in one issue more, as much of the sum as fits
+abbrev pub with_issue : Account → DaySheet → ℤ → Cusip → ℤ
+with_issue a s z c = int_wrap w128 (z +ℤ short_move a s c)
+
+-- in issues, on one closed day more
+abbrev pub with_day : State → Account → List Cusip → ℤ → Day → ℤ
+with_day S a cs z d = option_map_or (λ s. fold (with_issue a s) z cs) (sheet_on S.opening (journal_of S) d) z
+
+-- in issues, on closed days, one after another
+abbrev pub price_change : State → Account → List Cusip → List Day → ℤ
+price_change S a cs ds = fold (with_day S a cs) (pos 0) ds
+
+-- ---- the rows
+
+-- a short at the last close, on the date, by its row and its age: the first of as many closes as it is old, and what the price did to
+-- it after that close, in the issue and in those that were exchanged for it
+abbrev pub fail : State → Past → Day → Row → ℕ → Fail
+fail S p d r n = record {
+  row = r;
+  age = n;
+  since = first_of d (last_days n p.days.items);
+  change = price_change S r.account (issues_behind p.exchanges.items r.issue) (last_days (n - 1) p.days.items);
+}
+
+-- of a fail: closes short, the date of the first of them, opening, closing, price, value, and what the price did
+abbrev pub fail_cells : Fail → List Piece
+fail_cells f =
+    piece.Number f.age ∷ piece.Date f.since ∷ piece.Signed f.row.opening ∷ piece.Signed f.row.closing ∷ piece.Amount (pos f.row.price)
+    ∷ piece.Amount (worth f.row) ∷ piece.Amount f.change ∷ []
+
+-- the same after the issue
+abbrev pub fail_text : Fail → List ℕ
+fail_text f = row_of ROW.now (piece.Issue f.row.issue) (fail_cells f)

@@ -1,0 +1,50 @@
+-- What the history of a book tells of closed days, exchanges and dividends.
+use Rattle.std.specs.Prelude.{◌≡◌, ◌-◌, ◌^◌, List, Option, Some, None, filter_map, reverse, take}
+use Rattle.cns_terms.specs.Common.{Day, exchanged}
+use Rattle.cns_terms.specs.Dividends.{declared}
+use Rattle.cns_terms.specs.declared.action.Declared.{Declared}
+use Rattle.cns_terms.specs.declared.action.Exchange.{Exchange}
+use Rattle.cns_terms.specs.declared.command.Activity.{Activity}
+use Rattle.cns_terms.specs.declared.command.Command.{Command}
+use Rattle.cns_terms.specs.declared.command.Command.TheVariants as command
+use Rattle.cns_terms.specs.declared.history.Taken.{Taken}
+use Rattle.cns_terms.specs.declared.reply.Reply.{Reply}
+use Rattle.cns_terms.specs.declared.reply.Reply.TheVariants as reply
+use Rattle.cns_account.specs.declared.past.Past.{Past}
+
+-- the entries of a history that are looked at, the oldest first: all, or all but the last where there are 2^32 - 1, the most that
+-- a book takes
+abbrev pub looked_at : List Taken → List Taken
+looked_at H = take (2 ^ 32 - 2) (reverse H)
+
+-- the date of the closed day that a reply tells
+abbrev pub date_told : Reply → Option Day
+date_told (reply.Closed c) = Some c.date
+date_told _ = None
+
+-- what is read of an activity, where it was accepted
+abbrev pub accepted_of : {X : Type 0} → (Activity → Option X) → Command → Reply → Option X
+accepted_of f (command.Activity x) reply.Accepted = f x
+accepted_of f _ _ = None
+
+-- the date of the day that an entry closed, the exchange and the dividend that it is
+abbrev pub closed_by : Taken → Option Day
+closed_by t = date_told t.reply
+
+abbrev pub exchange_of : Taken → Option Exchange
+exchange_of t = accepted_of exchanged t.command t.reply
+
+abbrev pub dividend_of : Taken → Option Declared
+dividend_of t = accepted_of declared t.command t.reply
+
+-- of entries, the oldest first: the dates of the closed days, the accepted exchanges and dividends, in this order
+pub record IsGathered (ts : List Taken) (p : Past) : Type 0 where
+  pub days : p.days.items ≡ filter_map closed_by ts
+  pub exchanges : p.exchanges.items ≡ filter_map exchange_of ts
+  pub dividends : p.dividends.items ≡ filter_map dividend_of ts
+
+-- the same, with the newest exchange first
+pub record IsPast (ts : List Taken) (p : Past) : Type 0 where
+  pub days : p.days.items ≡ filter_map closed_by ts
+  pub exchanges : p.exchanges.items ≡ reverse (filter_map exchange_of ts)
+  pub dividends : p.dividends.items ≡ filter_map dividend_of ts

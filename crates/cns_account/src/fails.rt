@@ -1,0 +1,192 @@
+// Since when an account's shorts are short, and what the price did to them.
+ghost use Rattle.std.specs.Prelude.{◌≡◌, ◌||◌, IfOk, OnOk, option_map};
+ghost use Rattle.std.specs.List.{fold};
+ghost use Rattle.cns_terms.specs.Common.{journal_of, same_issue, sheet_on};
+ghost use Rattle.cns_book.specs.Log.{state_of};
+ghost use Rattle.cns_account.specs.Fails.{fail, fail_cells, first_of, is_among, issues_behind, last_days, price_change, short_move, with_day, with_exchange, with_issue};
+
+use crate::mark::price_move;
+use crate::moves::wrapped_sum;
+use crate::past::Past;
+use crate::row::worth;
+use cns_feed::ReplayBook;
+use cns_sheets::Sheet;
+use cns_tables::{Piece, ROW, TableRow, cents_of, write_line};
+use cns_terms::{Exchange, Key, NoMemory, Row};
+use cns_units::{Account, Cents, Cusip, Day, WriteFault};
+use std::alloc::Global;
+use std::io::Write;
+
+/// A member's short at a close, with what the price did to it.
+#[derive(Clone, Copy)]
+pub struct Fail {
+    pub row: Row,
+    /// At how many closes in a row it was short, this one included.
+    pub age: u32,
+    /// The date of the first of these closes.
+    pub since: Day,
+    /// What the price did to the short on the days after that one, in cents: below 0 where it rose. It is exact where it fits 128
+    /// bits, as it does on each day of a book.
+    pub change: Cents,
+}
+
+// The last days, so many.
+fn last_days(days: &[Day], count: usize) -> &[Day]
+    ensures { result.now ≡ last_days count days.now }
+{
+    &days[days.len().saturating_sub(count)..]
+}
+
+// The first of days; a date where there is none.
+fn first_of(days: &[Day], date: Day) -> Day
+    ensures { result ≡ first_of date days.now }
+{
+    match days.first() {
+        Some(day) => *day,
+        None => date,
+    }
+}
+
+// Whether an issue was found, or is another.
+fn is_found(found: bool, issue: &Cusip, other: &Cusip) -> bool
+    ensures { result ≡ (found || same_issue other.now issue.now) }
+{
+    found || other.is_same(issue)
+}
+
+// Whether an issue is among others.
+fn is_among(issue: &Cusip, issues: &[Cusip]) -> bool
+    ensures { result ≡ is_among issue.now issues.now }
+{
+    let mut found = false;
+    for other in issues {
+        found = is_found(found, issue, other);
+    }
+    found
+}
+
+// Adds the old issue of an exchange, where its successor is among issues.
+fn add_exchange(issues: &mut Vec<Cusip>, exchange: &Exchange) -> Result<(), NoMemory>
+    ensures { OnOk result (issues.new.items ≡ with_exchange issues.old.items exchange.now) }
+{
+    if is_among(&exchange.successor, issues.as_slice()) {
+        issues.push(exchange.old)?;
+    }
+    Ok(())
+}
+
+// An issue, with those that were exchanged for it, directly or by further exchanges.
+fn issues_behind(
+    alloc: Global,
+    exchanges: &[Exchange],
+    issue: Cusip,
+) -> Result<Vec<Cusip>, NoMemory>
+    ensures { IfOk result (λ v. v.items ≡ issues_behind exchanges.now issue) }
+{
+    let mut issues = Vec::new(alloc);
+    issues.push(issue)?;
+    for exchange in exchanges {
+        add_exchange(&mut issues, exchange)?;
+    }
+    Ok(issues)
+}
+
+// What a day's price did to an account's position in an issue that was short when the day began.
+fn short_move(sheet: &Sheet<Global>, account: Account, issue: Cusip) -> Cents
+    ensures { result ≡ short_move account sheet.now issue }
+{
+    match sheet.row(Key { account, issue }) {
+        Some(row) if row.opening < 0 => price_move(&row),
+        _ => Cents::ZERO,
+    }
+}
+
+// With what a day's prices did to those in issues.
+fn with_issues(sum: Cents, account: Account, issues: &[Cusip], sheet: &Sheet<Global>) -> Cents
+    ensures { result ≡ fold (with_issue account sheet.now) sum issues.now }
+{
+    let mut with = sum;
+    for issue in issues {
+        with = wrapped_sum(with, short_move(sheet, account, *issue));
+    }
+    with
+}
+
+// The sheet of a closed day.
+pub(crate) fn sheet_of(book: &ReplayBook, date: Day) -> Option<&Sheet<Global>>
+    ensures { option_map (λ s. s.now) result
+        ≡ sheet_on book.now.log.opening (journal_of (state_of book.now.log)) date }
+{
+    let sheet = book.sheet(date)?;
+    Some(sheet)
+}
+
+// With what the prices of a closed day did.
+fn with_day(sum: Cents, book: &ReplayBook, account: Account, issues: &[Cusip], day: Day) -> Cents
+    ensures { result ≡ with_day (state_of book.now.log) account issues.now sum day }
+{
+    match sheet_of(book, day) {
+        Some(sheet) => with_issues(sum, account, issues, sheet),
+        None => sum,
+    }
+}
+
+// What the prices of closed days did to an account's shorts in issues.
+fn price_change(book: &ReplayBook, account: Account, issues: &[Cusip], days: &[Day]) -> Cents
+    ensures { result ≡ price_change (state_of book.now.log) account issues.now days.now }
+{
+    let mut sum = Cents::ZERO;
+    for day in days {
+        sum = with_day(sum, book, account, issues, *day);
+    }
+    sum
+}
+
+/// A member's short at a book's last close, on the date, by its row of the day's sheet and by its age.
+pub fn fail_of(
+    alloc: Global,
+    book: &ReplayBook,
+    past: &Past,
+    date: Day,
+    row: &Row,
+    age: u32,
+) -> Result<Fail, NoMemory>
+    ensures { IfOk result (λ f. f ≡ fail (state_of book.now.log) past.now date row.now age) }
+{
+    let days = past.days.as_slice();
+    let issues = issues_behind(alloc, past.exchanges.as_slice(), row.issue)?;
+    let after = last_days(days, age.saturating_sub(1) as usize);
+    Ok(Fail {
+        row: *row,
+        age,
+        since: first_of(last_days(days, age as usize), date),
+        change: price_change(book, row.account, issues.as_slice(), after),
+    })
+}
+
+// The cells of a row, after the issue.
+fn fail_cells(fail: &Fail) -> [Piece<'static>; 7]
+    ensures { result ≡ fail_cells fail.now }
+{
+    let row = &fail.row;
+    [
+        Piece::Number(u64::from(fail.age)),
+        Piece::Date(fail.since),
+        Piece::Signed(row.opening),
+        Piece::Signed(row.closing),
+        Piece::Amount(cents_of(row.price.value())),
+        Piece::Amount(worth(row)),
+        Piece::Amount(fail.change),
+    ]
+}
+
+impl TableRow for Fail {
+    ghost use Rattle.cns_account.specs.Fails.{fail_text};
+
+    ghost text = { fail_text };
+
+    fn write_row<W: Write>(&self, writer: &mut W) -> Result<(), WriteFault> {
+        let cells = fail_cells(self);
+        write_line(ROW, &Piece::Issue(self.row.issue), &cells, writer)
+    }
+}

@@ -1,0 +1,6 @@
+use Rattle.std.proofs.Common.{◌≡◌, filter, take}
+use Rattle.cns_history.specs.Lines.{is_line_of}
+use Rattle.cns_history.proofs.booked.lines_for.Given as goal
+
+abbrev pub invariant-loop-line : goal.invariant-loop-line
+invariant-loop-line l = l.own.items ≡ filter (is_line_of l.fn.account) (take l.line-index l.lines)

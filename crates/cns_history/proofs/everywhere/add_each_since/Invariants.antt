@@ -1,0 +1,8 @@
+use Rattle.std.proofs.Common.{◌≡◌, ◌++◌, filter_map, take}
+use Rattle.cns_book.specs.Log.{state_of}
+use Rattle.cns_history.specs.Lines.{booked_since}
+use Rattle.cns_history.proofs.everywhere.add_each_since.Given as goal
+
+abbrev pub invariant-loop-stood : goal.invariant-loop-stood
+invariant-loop-stood l =
+    l.lines.items ≡ l.fn.lines.items ++ filter_map (booked_since l.answered.number (state_of l.book.log) l.answered.activity) (take l.stood-index l.before)

@@ -1,0 +1,17 @@
+-- The names of the files of a folder.
+use Rattle.std.specs.Prelude.{ℕ, List, [], ◌∷◌, ◌++◌, Option, None, Some}
+use Rattle.std.specs.Fmt.{decimal}
+use Rattle.cns_units.specs.Day.{day_text}
+use Rattle.cns_terms.specs.Common.{Account}
+use Rattle.cns_tables.specs.Tables.{texts}
+use Rattle.cns_page.specs.declared.files.Named.{Named}
+use Rattle.cns_page.specs.declared.files.TheConstants.{DASH, SLASH}
+
+-- what stands in a name for the account, where the page is one's
+abbrev pub account_part : Option Account → List ℕ
+account_part None = []
+account_part (Some a) = texts (DASH.now ∷ decimal a ∷ [])
+
+-- a file's name with its end: the date, and the account
+abbrev pub name_text : Named → List ℕ → List ℕ
+name_text n end = texts (SLASH.now ∷ day_text n.date ∷ []) ++ (account_part n.account ++ end)

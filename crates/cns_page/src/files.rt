@@ -1,0 +1,138 @@
+// The files of a folder: each of them is whole, or is not there.
+ghost use Rattle.std.specs.Prelude.{◌≡◌, ◌++◌, IfOk, OnOk, string_bytes};
+ghost use Rattle.std.specs.Io.KnownBytes.{Appends};
+ghost use Rattle.cns_page.specs.Files.{account_part, name_text};
+
+use cns_shell::Fault;
+use cns_tables::{Piece, write_markup, write_pieces};
+use cns_terms::NoMemory;
+use cns_units::{Account, Day, WriteFault};
+use std::alloc::Global;
+use std::fs;
+use std::fs::File;
+use std::io::{Error, ErrorKind, Write};
+use std::rt::Files;
+
+/// The page of a closed day, of all accounts or of one.
+#[derive(Clone, Copy)]
+pub(crate) struct Named {
+    pub(crate) date: Day,
+    pub(crate) account: Option<Account>,
+}
+
+const SLASH: &str = "/";
+
+const DASH: &str = "-";
+
+const PAGE: &str = ".html";
+
+// What a file's name ends with until the file is whole.
+const PART: &str = ".html.part";
+
+// Writes what stands in a file's name for the account, where the page is one's.
+fn write_account<W: Write>(account: Option<Account>, writer: &mut W) -> Result<(), WriteFault>
+    ensures { OnOk result (Appends (W.contents writer.old) (W.contents writer.new) (account_part account)) }
+{
+    let Some(account) = account else {
+        return Ok(());
+    };
+    let account = Piece::Number(u64::from(account.value()));
+    write_pieces(&[Piece::Markup(DASH), account], writer)
+}
+
+// Writes a file's name with its end: the date, and the account where the page is one's.
+fn write_name<W: Write>(named: &Named, end: &'static str, writer: &mut W) -> Result<(), WriteFault>
+    ensures { OnOk result (Appends (W.contents writer.old) (W.contents writer.new) (name_text named.now end.now)) }
+{
+    write_pieces(&[Piece::Markup(SLASH), Piece::Date(named.date)], writer)?;
+    write_account(named.account, writer)?;
+    write_markup(end, writer)
+}
+
+// The path of a file in a folder.
+fn path_of(
+    alloc: Global,
+    folder: &str,
+    named: &Named,
+    end: &'static str,
+) -> Result<String, NoMemory>
+    ensures { IfOk result (λ s. string_bytes s ≡ folder.now ++ (name_text named.now end.now)) }
+{
+    let mut path = Vec::new(alloc);
+    path.extend_from_slice(folder.as_bytes())?;
+    let Ok(()) = write_name(named, end, &mut path) else {
+        return Err(NoMemory);
+    };
+    let Ok(path) = String::from_utf8(path) else {
+        return Err(NoMemory);
+    };
+    Ok(path)
+}
+
+// Why a file could not be read.
+fn read_fault(error: &Error) -> Fault {
+    match error.kind() {
+        ErrorKind::OutOfMemory => Fault::NoMemory,
+        _ => Fault::Read,
+    }
+}
+
+// Whether the file with the path is there, with exactly the bytes. `OtherPage` where it has others.
+fn is_there<R: AllocGlobal + Files>(
+    rt: &R,
+    path: &str,
+    named: &Named,
+    bytes: &[u8],
+) -> Result<bool, Fault> {
+    match fs::read(rt, path) {
+        Ok(there) if there.as_slice() == bytes => Ok(true),
+        Ok(_) => Err(Fault::OtherPage(named.date, named.account)),
+        Err(error) if error.kind() == ErrorKind::NotFound => Ok(false),
+        Err(error) => Err(read_fault(&error)),
+    }
+}
+
+// Writes a file, and waits until the disk has it.
+fn write_file<R: Files<File = File>>(rt: &R, path: &str, bytes: &[u8]) -> Result<(), Error> {
+    let mut file = fs::create(rt, path)?;
+    file.write_all(bytes)?;
+    file.sync_all()
+}
+
+// Writes a file beside its place, and then names it. Where that fails nothing is left of it.
+fn write_whole<R: Files<File = File>>(
+    rt: &R,
+    part: &str,
+    path: &str,
+    bytes: &[u8],
+) -> Result<(), Fault> {
+    if write_file(rt, part, bytes).is_ok() && fs::rename(rt, part, path).is_ok() {
+        return Ok(());
+    }
+    let _ = fs::remove_file(rt, part);
+    Err(Fault::Write)
+}
+
+/// Checks that a folder is there.
+pub(crate) fn check_folder<R: Files>(rt: &R, folder: &str) -> Result<(), Fault> {
+    match fs::metadata(rt, folder) {
+        Ok(found) if found.is_dir() => Ok(()),
+        _ => Err(Fault::NoSuchFolder),
+    }
+}
+
+/// Writes a page as a file of a folder, whole or not at all. A file that is there stays as it is: `OtherPage` where it has other
+/// bytes than the page.
+pub(crate) fn save<R: AllocGlobal + Files<File = File>>(
+    rt: &R,
+    folder: &str,
+    named: &Named,
+    page: &[u8],
+) -> Result<(), Fault> {
+    let path = path_of(rt.alloc(), folder, named, PAGE)?;
+    if is_there(rt, path.as_str(), named, page)? {
+        return Ok(());
+    }
+    let part = path_of(rt.alloc(), folder, named, PART)?;
+    write_whole(rt, part.as_str(), path.as_str(), page)
+}

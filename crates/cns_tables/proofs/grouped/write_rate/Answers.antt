@@ -1,0 +1,11 @@
+use Rattle.std.proofs.lemmas.Result.{err_from_is_err_and}
+use Rattle.cns_units.proofs.OutputLemmas.{front_longer, writes_then}
+use Rattle.cns_tables.proofs.grouped.write_rate.Goals as goal
+
+pub returns-in_err-write_count : goal.returns-in_err-write_count
+returns-in_err-write_count g c =
+    let p = err_from_is_err_and c.from_residual.result c.from_residual.ensures.1 in
+    rw p.1 (front_longer _ _ _ _ c.in_err-write_count.ensures)
+
+pub returns : goal.returns
+returns g c = writes_then _ _ _ _ _ _ c.in_ok-write_count.ensures (rw c.fraction.ensures at c.write_bytes.ensures)
