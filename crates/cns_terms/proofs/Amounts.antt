@@ -1,7 +1,6 @@
 -- No sum of a day leaves the limit of amounts.
-use Rattle.std.proofs.Common.{◌≡◌, ℕ, ◌+◌, ◌*◌, ◌≤◌, ◌<◌, ℤ, pos, ◌+ℤ◌, ◌-ℤ◌, ◌*ℤ◌, Bool, true, false, ◌&&◌, ◌==◌, cond, not, slice_get, unwrap_or, find, Option, Some, List, [], ◌∷◌, length, arith, nat_cmp, bytes_eq, filter_map, unsigned_abs, mul-le-mul_right}
-use Rattle.cns_terms.proofs.Common.{Account, Activity, AllByRecursion, Cusip, Day, Entry, IsInRange, IsLimited, IsReached, Journal, Posting, Row, accounts, activities, added, added-all, added-each, added-more, amount_limit, at_close, booking_limit, bounded, cents_for, closings, corporation_limit, day, day_sheet, each_found, each_weaker, front_total, history_limit, ints, is_close, is_idle, is_rising, issues, issues_few, journal, journal_len, last_close, limited, limited_past, magnitude, mark, member_limit, members, members_few, members_from_one, money, occurs, one_issue, open_day, option_map_or, over_all, position_limit, posting, price, price_limit, priced, row, rows_of, sheet_rows, slice_cmp, total, total_small, unsigned_abs-mul}
-use Rattle.cns_terms.specs.declared.command.Listing.{Listing}
+use Rattle.std.proofs.Common.{◌≡◌, ℕ, ◌+◌, ◌*◌, ◌≤◌, ◌<◌, ℤ, pos, ◌+ℤ◌, ◌-ℤ◌, ◌*ℤ◌, Bool, true, false, ◌&&◌, ◌==◌, cond, not, slice_get, unwrap_or, List, [], ◌∷◌, length, arith, nat_cmp, bytes_eq, unsigned_abs, mul-le-mul_right}
+use Rattle.cns_terms.proofs.Common.{Account, Activity, AllByRecursion, Cusip, Day, Entry, IsInRange, IsLimited, IsReached, Journal, Posting, Row, accounts, added, added-all, added-each, added-more, amount_limit, at_close, booking_limit, bounded, cents_for, closings, corporation_limit, day, day_sheet, each_found, each_weaker, front_total, history_limit, ints, is_close, is_idle, is_rising, issues, issues_few, journal, journal_len, last_close, limited, limited_past, magnitude, mark, member_limit, members, members_few, members_from_one, money, occurs, one_issue, open_day, over_all, position_limit, posting, price, price_limit, row, rows_of, sheet_rows, slice_cmp, total, total_small, unsigned_abs-mul}
 use Rattle.cns_terms.specs.Laws.{Amounts, HasSmallAmounts, HasSmallSums, StaysSmall}
 use Rattle.cns_terms.specs.Marks.{value}
 use Rattle.cns_terms.specs.Positions.{position}
@@ -10,7 +9,6 @@ use Rattle.cns_terms.proofs.Limits.{cents_of, open_small}
 use Rattle.cns_terms.proofs.Magnitudes.{added-flat_map, added-kept, added-swap, added-times, added-zero}
 use Rattle.cns_terms.proofs.OverAll.{over_add, over_more}
 use Rattle.cns_terms.proofs.SheetBounds.{at_most_one}
-use Rattle.cns_terms.specs.declared.command.Activity.TheVariants as activity
 
 -- a journal with its limits: few postings, and small prices
 pub record IsSmall (opening : Day) (J : Journal) : Type 0 where
@@ -20,16 +18,9 @@ pub record IsSmall (opening : Day) (J : Journal) : Type 0 where
 
 -- ---- an activity's price
 
--- a price that is set or was set before
-price_if : (t : Bool) (l : Listing) (o : Option Listing) → l.price ≤ price_limit → option_map_or (λ (l : Listing). l.price) o 0 ≤ price_limit → option_map_or (λ (l : Listing). l.price) (cond t (Some l) o) 0 ≤ price_limit
-price_if true l o p q = p
-price_if false l o p q = q
-
 -- an activity in its ranges sets small prices
 price-post : (opening : Day) (J : Journal) (x : Activity) (c : Cusip) → IsInRange x → price J c ≤ price_limit → price (posting opening J x ∷ J) c ≤ price_limit
-price-post opening J (activity.Issue l) c r h = price_if (bytes_eq l.issue c) l (find (λ l. bytes_eq l.issue c) (filter_map priced (activities J))) r h
-price-post opening J (activity.Price l) c r h = price_if (bytes_eq l.issue c) l (find (λ l. bytes_eq l.issue c) (filter_map priced (activities J))) r h
-price-post opening J _ c r h = h
+price-post opening J x c h1 h2 = grind arith
 
 -- ---- a journal that commands reach, and the journals as its closes found them
 
@@ -59,13 +50,11 @@ record AreAllSmall (opening : Day) (J : Journal) : Type 0 where
 
 -- the journal before, after an activity that ends a day or not
 before_if : (opening : Day) (b : Bool) (J : Journal) → AreSmall opening J → IsSmall opening (unwrap_or (slice_get (cond b (J ∷ closings J) (closings J)) 0) [])
-before_if opening true J s = s.now
-before_if opening false J s = s.before
+before_if opening b J h1 = grind arith
 
 -- and the journals of all closes
 past_if : (opening : Day) (b : Bool) (J : Journal) → AreAllSmall opening J → AllByRecursion (AreSmall opening) (cond b (J ∷ closings J) (closings J))
-past_if opening true J s = (s.now, s.past)
-past_if opening false J s = s.past
+past_if opening b J h1 = grind arith
 
 -- the empty journal is small
 small_nil : (opening : Day) → IsSmall opening []
@@ -109,12 +98,7 @@ posting_cents a cs p h =
 
 -- the cents at a key are no more than the entries' there
 key_cents : (J : Journal) (a : Account) (c : Cusip) → unsigned_abs (total (λ p. total (cents_for a c) p.entries) J) ≤ added (λ p. magnitude (cents_for a c) p.entries) J
-key_cents J a c =
-    omega (
-      arith,
-      total_small (λ p. total (cents_for a c) p.entries) J,
-      added-more (λ (p : Posting). unsigned_abs (total (cents_for a c) p.entries)) (λ p. magnitude (cents_for a c) p.entries) J (λ p. total_small (cents_for a c) p.entries),
-    )
+key_cents J a c = grind (arith, total_small, added-more)
 
 -- the cents of an account, over the issues
 account_cents : (J : Journal) (a : Account) (cs : List Cusip) → is_rising (slice_cmp nat_cmp) cs ≡ true → added (λ c. unsigned_abs (total (λ p. total (cents_for a c) p.entries) J)) cs ≤ added (λ p. magnitude (of_account a) p.entries) J
@@ -128,8 +112,7 @@ account_cents J a cs h =
 
 -- a number given to one of some accounts, one account more
 given_more : (b : Bool) (o n : ℕ) (z : ℤ) → n ≤ o * unsigned_abs z → unsigned_abs (cond b z (pos 0)) + n ≤ (cond b 1 0 + o) * unsigned_abs z
-given_more true o n z h = omega (arith, h)
-given_more false o n z h = omega (arith, h)
+given_more b o n z h1 = grind arith
 
 -- a number given to an account, as often as it stands there
 given_often : (i : ℕ) (z : ℤ) (bs : List ℕ) → added (λ a. unsigned_abs (cond (i == a) z (pos 0))) bs ≤ occurs i bs * unsigned_abs z

@@ -1,5 +1,5 @@
 -- What an activity books adds up to zero in each issue.
-use Rattle.std.proofs.Common.{◌≡◌, ◌≤◌, ℤ, pos, ◌+ℤ◌, ◌-ℤ◌, neg_ℤ, Bool, true, false, cond, List, [], ◌∷◌, flat_map, map, Option, Some, None, refl, arith, IfSome}
+use Rattle.std.proofs.Common.{◌≡◌, ◌≤◌, ℤ, pos, ◌+ℤ◌, ◌-ℤ◌, neg_ℤ, Bool, cond, List, [], ◌∷◌, flat_map, map, Option, Some, None, refl, arith, IfSome}
 use Rattle.cns_terms.specs.Common.{Account, Activity, Day, Execution, IsInRange, Journal, Notice, Pend, against_corporation, converted, date, entries, execution_entries, holders, in_exchange, in_lieu, is_not_after, members, new_entry, notice_at, old_entry, option_map_or, pend_of, same_issue, trade_entries}
 use Rattle.std.proofs.lemmas.Int.{ints}
 use Rattle.cns_terms.specs.Pending.{due}
@@ -12,8 +12,7 @@ use Rattle.cns_terms.proofs.Sound.{NoneHolds, all_fail}
 
 -- two parties' numbers in one issue, each the opposite of the other
 two_parties : (b : Bool) (m n : ℤ) → m +ℤ n ≡ pos 0 → cond b m (pos 0) +ℤ (cond b n (pos 0) +ℤ pos 0) ≡ pos 0
-two_parties true m n e = omega (arith, ints)
-two_parties false m n e = refl
+two_parties b m n h1 = grind arith
 
 -- no entries
 none : IsBalanced []
@@ -38,8 +37,7 @@ trades_balanced (p ∷ ps) = both_balanced (trade_entries p) (flat_map trade_ent
 
 -- a trade books now or later
 now_or_later : (b : Bool) (p : Pend) → IsBalanced (cond b (trade_entries p) [])
-now_or_later true p = trade_balanced p
-now_or_later false p = none
+now_or_later b p = grind arith
 
 -- the entries of an activity in its ranges that is not refused add up to zero in each issue
 pub entries_balanced : (opening : Day) (J : Journal) (x : Activity) → IsInRange x → NoneHolds (rules opening J x) → IsBalanced (entries opening J x)

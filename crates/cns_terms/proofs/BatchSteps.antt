@@ -1,19 +1,14 @@
 -- How batches stand after one more activity.
-use Rattle.std.proofs.Common.{◌≡◌, ◌∙◌, ap, refl, ℕ, zero, suc, ◌+◌, ◌-◌, ◌≤◌, pos, neg_ℤ, Bool, true, false, cond, ◌&&◌, ◌==◌, List, [], ◌∷◌, length, map, filter, is_none, Option, Some, None, sum_by, arith, nat_lt}
-use Rattle.cns_terms.proofs.Common.{Activity, AllByRecursion, Cusip, Day, Execution, Fill, IsReached, Journal, Liable, Member, NoneHolds, Notice, Posting, Short, all_fail, batch_at, batch_since, called, charged, closes, closings, day, executes, execution_entries, fill_entry, fills, fills_before, in_order, is_called, is_close, is_so, journal, left_of, liable_of, long, map_each, nat_tests, notice_at, option_map_or, originator_entry, posting, same_issue, shares_for, shorts, sum_by-cons}
+use Rattle.std.proofs.Common.{◌≡◌, ◌∙◌, ap, refl, ℕ, ◌+◌, ◌-◌, ◌≤◌, pos, neg_ℤ, Bool, true, false, cond, ◌&&◌, ◌==◌, List, [], ◌∷◌, length, map, filter, is_none, sum_by, arith}
+use Rattle.cns_terms.proofs.Common.{Activity, AllByRecursion, Cusip, Day, Execution, Fill, IsReached, Journal, Liable, Member, NoneHolds, Notice, Posting, Short, batch_at, batch_since, called, charged, closes, closings, day, executes, execution_entries, fill_entry, fills, fills_before, in_order, is_called, is_close, journal, left_of, liable_of, long, map_each, originator_entry, posting, same_issue, shares_for, shorts, sum_by-cons}
 use Rattle.cns_terms.specs.Fills.{brought, filled, given_to}
 use Rattle.cns_terms.specs.Refusals.{rules}
-use Rattle.cns_terms.specs.declared.command.Activity.TheVariants as activity
 
 -- ---- what executions filled
 
 -- an activity that executes no notice of the day in the issue fills nothing of its batch
 filled_same : (p : Posting) (J : Journal) (n : ℕ) (c : Cusip) (a : Member) → executes J n c p.activity ≡ false → filled (p ∷ J) n c a ≡ filled J n c a
-filled_same p J n c a h = nothing (executes J n c p.activity) (brought a c p.entries) (filled J n c a) h
-  where
-    nothing : (b : Bool) (m n : ℕ) → b ≡ false → cond b m 0 + n ≡ n
-    nothing true m n e = cc
-    nothing false m n e = omega arith
+filled_same p J n c a h1 = grind arith
 
 left_same : (p : Posting) (J : Journal) (n : ℕ) (c : Cusip) (ls : List Liable) → executes J n c p.activity ≡ false → AllByRecursion (λ l. left_of (p ∷ J) n c l ≡ left_of J n c l) ls
 left_same p J n c [] h = tt
@@ -25,26 +20,13 @@ batch_same p J K c h = map_each (left_of (p ∷ J) (day K) c) (left_of J (day K)
 
 -- ---- no notice of a day is executed before the second day after it
 
--- a notice that may be executed is of a day before that
-not_early : (J : Journal) (n : ℕ) (c : Cusip) (o : Option Notice) → is_so (λ k. nat_lt (day J) (k.given.day + 2)) o ≡ false → day J ≤ n + 1 → option_map_or (λ k. (k.given.day == n) && same_issue k.given.issue c) o false ≡ false
-not_early J n c None h le = refl
-not_early J n c (Some k) h le = other k.given.day n (day J) (same_issue k.given.issue c) h le
-  where
-    other : (d n t : ℕ) (b : Bool) → nat_lt t (d + 2) ≡ false → t ≤ n + 1 → ((d == n) && b) ≡ false
-    other d n t b h le = ap (λ e. e && b) (apart d n t h le)
-      where
-        apart : (d n t : ℕ) → nat_lt t (d + 2) ≡ false → t ≤ n + 1 → (d == n) ≡ false
-        apart d n t h le = grind (arith, nat_tests)
-
 -- an activity that is not refused executes no notice of the open day, nor of the day before it
 none_executed : (opening : Day) (J : Journal) (n : ℕ) (c : Cusip) (x : Activity) → NoneHolds (rules opening J x) → day J ≤ n + 1 → executes J n c x ≡ false
-none_executed opening J n c (activity.Execute x) h le = not_early J n c (notice_at J x.notice) (all_fail (rules opening J (activity.Execute x)) h).1.1.1.0 le
-none_executed opening J n c _ h le = refl
+none_executed opening J n c x h1 h2 = grind arith
 
 -- days go on
 pub no_earlier : (b : Bool) (J : Journal) → closes J ≤ length (cond b (J ∷ closings J) (closings J))
-no_earlier true J = omega arith
-no_earlier false J = omega arith
+no_earlier b J = grind arith
 
 -- nothing is filled of the notices of the open day, nor of the day before it
 pub unfilled : (opening : Day) (L : List Activity) (n : ℕ) (c : Cusip) (a : Member) → IsReached opening L → day (journal opening L) ≤ n + 1 → filled (journal opening L) n c a ≡ 0
@@ -78,8 +60,7 @@ brought_all k a c is (f ∷ fs) =
     ∙ rw (is, brought_all k a c is fs, sum_by-cons (λ (f : Fill). cond (f.member == a) f.shares 0) f fs) (one (f.member == a) f.shares (given_to a fs))
   where
     one : (t : Bool) (s n : ℕ) → long (cond (t && true) (pos s) (pos 0)) + n ≡ cond t s 0 + n
-    one true s n = refl
-    one false s n = refl
+    one t s n = grind arith
 
 -- and its originator is brought nothing
 pub brought_by : (J : Journal) (x : Execution) (k : Notice) (a : Member) (c : Cusip) → same_issue k.given.issue c ≡ true → brought a c (execution_entries J x k) ≡ given_to a (fills J x k)
@@ -88,17 +69,14 @@ brought_by J x k a c is =
     ∙ rw (brought_all k a c is (fills J x k)) (nothing ((k.given.member == a) && same_issue k.given.issue c) x.shares (given_to a (fills J x k)))
   where
     nothing : (b : Bool) (s n : ℕ) → long (cond b (neg_ℤ (pos s)) (pos 0)) + n ≡ n
-    nothing true zero n = omega arith
-    nothing true (suc s) n = omega arith
-    nothing false s n = omega arith
+    nothing b s n = grind arith
 
 -- the execution of a notice lowers what is left of its batch by its fills
 pub batch_charged : (p : Posting) (J K : Journal) (c : Cusip) (x : Execution) (k : Notice) → executes J (day K) c p.activity ≡ true → p.entries ≡ execution_entries J x k → same_issue k.given.issue c ≡ true → batch_since (p ∷ J) K c ≡ map (charged (fills J x k)) (batch_since J K c)
 batch_charged p J K c x k is entries same = each (batch_at K c)
   where
     lowered : (closing n f : ℕ) (b : Bool) (m : ℕ) → b ≡ true → m ≡ n → closing - (cond b m 0 + f) ≡ closing - f - n
-    lowered closing n f true m e h = omega (arith, h)
-    lowered closing n f false m e h = cc
+    lowered closing n f b m h1 h2 = grind arith
 
     each : (ls : List Liable) → map (left_of (p ∷ J) (day K) c) ls ≡ map (charged (fills J x k)) (map (left_of J (day K) c) ls)
     each [] = refl

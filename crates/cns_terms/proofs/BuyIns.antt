@@ -1,5 +1,5 @@
 -- Whom executions book for, and how much.
-use Rattle.std.proofs.Common.{◌≡◌, ◌∙◌, ap, subst, refl, ℕ, zero, suc, ◌+◌, ◌-◌, ◌*◌, ◌≤◌, min, ℤ, pos, negsuc, ◌+ℤ◌, neg_ℤ, Bool, true, false, not, cond, ◌&&◌, ◌==◌, List, [], ◌∷◌, map, filter, find, Option, Some, None, sum_by, arith, IfSome, nat_lt, unsigned_abs, eqb-true}
+use Rattle.std.proofs.Common.{◌≡◌, ◌∙◌, ap, subst, refl, ℕ, ◌+◌, ◌-◌, ◌*◌, ◌≤◌, min, ℤ, pos, negsuc, ◌+ℤ◌, neg_ℤ, Bool, true, false, not, cond, ◌&&◌, ◌==◌, List, [], ◌∷◌, map, filter, find, Option, Some, None, sum_by, arith, IfSome, nat_lt, unsigned_abs, eqb-true}
 use Rattle.cns_terms.specs.Common.{Account, AllByRecursion, Cusip, Entry, Execution, Fill, Journal, Liable, Member, Notice, Short, at_close, batch, batch_at, called, capacity, day, execution_entries, fill_entry, fills, fills_before, in_order, is_called, is_live, is_so, left_of, liable_of, long, members, remaining, room, same_issue, shares_for, short, short_of, shorts, stage, stretch, total}
 use Rattle.std.proofs.Math.Nat.{min-le_right}
 use Rattle.std.proofs.lemmas.Bool.Decides.{nat_tests}
@@ -9,24 +9,20 @@ use Rattle.std.proofs.lemmas.Slice.Eq.{bytes_eq-Decides}
 use Rattle.cns_terms.specs.Positions.{position}
 use Rattle.cns_terms.specs.Sums.{put}
 use Rattle.cns_terms.proofs.Accounts.{occurs}
-use Rattle.cns_terms.proofs.Closer.{IsCloser, as_close, off_long, off_short}
+use Rattle.cns_terms.proofs.Closer.{IsCloser, off_long, off_short}
 use Rattle.cns_terms.proofs.Laid.{fills_laid, laid}
 use Rattle.cns_terms.proofs.EntrySums.{IsBalanced, cents_in, shares_in}
 use Rattle.cns_terms.proofs.Everywhere.{each_filter, each_in_order, each_map}
 use Rattle.cns_terms.proofs.Facts.{eqb_sym}
 use Rattle.cns_terms.proofs.FillSums.{cents_of_fills, shares_of_fills}
-use Rattle.cns_terms.proofs.Magnitudes.{added, magnitude}
+use Rattle.cns_terms.proofs.Magnitudes.{added, magnitude, added-filter, added-map}
 
 -- ---- what an execution that is not refused has met
 
 -- what holds of each notice holds of the one that is found
 pub each_named : {X : Type 0} (P : X → Type 0) (t : X → Bool) (xs : List X) → AllByRecursion P xs → IfSome (find t xs) P
 each_named P t [] a = tt
-each_named P t (x ∷ xs) a = here (t x) (each_named P t xs a.1)
-  where
-    here : (b : Bool) → IfSome (find t xs) P → IfSome (cond b (Some x) (find t xs)) P
-    here true h = a.0
-    here false h = h
+each_named P t (x ∷ xs) a = grind (arith, each_named P t xs a.1)
 
 -- a notice is live, and as many shares remain of it and find room
 pub record IsExecutable (J : Journal) (x : Execution) (k : Notice) : Type 0 where
@@ -42,23 +38,17 @@ executable J x (Some k) e l r =
     record { live = live; enough = no_less (remaining J k) x.shares (of_live (is_live (stage J k)) _ live e); roomy = no_less (room J k) x.shares r }
   where
     holds : (b : Bool) → not b ≡ false → b ≡ true
-    holds true h = refl
-    holds false h = cc
+    holds b h1 = grind arith
 
     of_live : (b t : Bool) → b ≡ true → (b && t) ≡ false → t ≡ false
-    of_live true t h e = e
-    of_live false t h e = cc
+    of_live b t h1 h2 = grind arith
 
     no_less : (a b : ℕ) → nat_lt a b ≡ false → b ≤ a
     no_less a b h = grind (arith, nat_tests)
 
 -- what remains of a notice is no more than its member is long
 pub remains_long : (J : Journal) (k : Notice) → remaining J k ≤ long (position J k.given.member k.given.issue)
-remains_long J k = at_most (is_live (stage J k)) (k.given.shares - _ - _) (long (position J k.given.member k.given.issue))
-  where
-    at_most : (b : Bool) (m n : ℕ) → cond b (min m n) 0 ≤ n
-    at_most true m n = min-le_right m n
-    at_most false m n = omega arith
+remains_long J k = grind arith
 
 -- ---- the members that fills are for
 
@@ -85,27 +75,11 @@ times f a xs = added (λ x. cond (a == f x) 1 0) xs
 
 times-put : {X : Type 0} (f : X → ℕ) (a : ℕ) (before : X → X → Bool) (x : X) (xs : List X) → times f a (put before x xs) ≡ cond (a == f x) 1 0 + times f a xs
 times-put f a before x [] = refl
-times-put f a before x (y ∷ ys) = here (before x y) (times-put f a before x ys)
-  where
-    here : (b : Bool) → times f a (put before x ys) ≡ cond (a == f x) 1 0 + times f a ys → times f a (cond b (x ∷ y ∷ ys) (y ∷ put before x ys)) ≡ cond (a == f x) 1 0 + times f a (y ∷ ys)
-    here true e = refl
-    here false e = omega (arith, e)
+times-put f a before x (y ∷ ys) = grind (arith, times-put f a before x ys)
 
 times-in_order : {X : Type 0} (f : X → ℕ) (a : ℕ) (before : X → X → Bool) (xs : List X) → times f a (in_order before xs) ≡ times f a xs
 times-in_order f a before [] = refl
 times-in_order f a before (x ∷ xs) = times-put f a before x (in_order before xs) ∙ ap (λ n. cond (a == f x) 1 0 + n) (times-in_order f a before xs)
-
-times-filter : {X : Type 0} (f : X → ℕ) (a : ℕ) (p : X → Bool) (xs : List X) → times f a (filter p xs) ≤ times f a xs
-times-filter f a p [] = omega arith
-times-filter f a p (x ∷ xs) = here (p x) (times-filter f a p xs)
-  where
-    here : (b : Bool) → times f a (filter p xs) ≤ times f a xs → times f a (cond b (x ∷ filter p xs) (filter p xs)) ≤ cond (a == f x) 1 0 + times f a xs
-    here true e = omega (arith, e)
-    here false e = omega (arith, e)
-
-times-map : {X Y : Type 0} (f : Y → ℕ) (a : ℕ) (g : X → Y) (xs : List X) → times f a (map g xs) ≡ times (λ x. f (g x)) a xs
-times-map f a g [] = refl
-times-map f a g (x ∷ xs) = ap (λ n. cond (a == f (g x)) 1 0 + n) (times-map f a g xs)
 
 times-occurs : (a : ℕ) (bs : List ℕ) → times (λ b. b) a bs ≡ occurs a bs
 times-occurs a [] = refl
@@ -115,12 +89,12 @@ times-occurs a (b ∷ bs) = ap (λ n. cond (a == b) 1 0 + n) (times-occurs a bs)
 pub batch_once : (J : Journal) (n : ℕ) (c : Cusip) (a : ℕ) → times (λ (l : Liable). l.member) a (batch J n c) ≤ occurs a (members (at_close J n))
 batch_once J n c a =
     let K : Journal = at_close J n in
-    let all : times (λ (s : Short). s.member) a (map (short_of K c) (members K)) ≡ occurs a (members K) = times-map (λ (s : Short). s.member) a (short_of K c) (members K) ∙ times-occurs a (members K) in
-    let some = times-filter (λ (s : Short). s.member) a (λ s. nat_lt 0 s.shares) (map (short_of K c) (members K)) in
+    let all : times (λ (s : Short). s.member) a (map (short_of K c) (members K)) ≡ occurs a (members K) = added-map (λ (s : Short). cond (a == s.member) 1 0) (short_of K c) (members K) ∙ times-occurs a (members K) in
+    let some = added-filter (λ (s : Short). cond (a == s.member) 1 0) (λ s. nat_lt 0 s.shares) (map (short_of K c) (members K)) in
     let placed = times-in_order (λ (s : Short). s.member) a fills_before (shorts K c) in
-    let taken = times-filter (λ (s : Short). s.member) a (is_called (shorts K c) (called K c)) (in_order fills_before (shorts K c)) in
-    let liable = times-map (λ (l : Liable). l.member) a liable_of (filter (is_called (shorts K c) (called K c)) (in_order fills_before (shorts K c))) in
-    let now = times-map (λ (l : Liable). l.member) a (left_of J (day K) c) (batch_at K c) in
+    let taken = added-filter (λ (s : Short). cond (a == s.member) 1 0) (is_called (shorts K c) (called K c)) (in_order fills_before (shorts K c)) in
+    let liable = added-map (λ (l : Liable). cond (a == l.member) 1 0) liable_of (filter (is_called (shorts K c) (called K c)) (in_order fills_before (shorts K c))) in
+    let now = added-map (λ (l : Liable). cond (a == l.member) 1 0) (left_of J (day K) c) (batch_at K c) in
     omega (arith, all, some, placed, taken, liable, now)
 
 -- ---- how much a member is filled
@@ -165,26 +139,14 @@ fill_few J x k a once =
     rw (fills_laid (λ a. short (position J a k.given.issue)) x.shares x.money (batch J k.given.day k.given.issue)) (at_most_once (times (λ (l : Liable). l.member) a (batch J k.given.day k.given.issue)) _ _ (omega (arith, one, once)) all)
   where
     at_most_once : (t z n : ℕ) → t ≤ 1 → n ≤ t * z → n ≤ z
-    at_most_once zero z n h le = omega (arith, le)
-    at_most_once (suc zero) z n h le = omega (arith, le)
-    at_most_once (suc (suc t)) z n h le = absurd (omega (arith, h))
+    at_most_once t z n h1 h2 = grind arith
 
 -- ---- the shares and cents of an execution's entries
 
 -- the shares of fills' entries for an account
 fill_shares : (k : Notice) (a : Account) (c : Cusip) (b : Bool) → same_issue k.given.issue c ≡ b → (fs : List Fill) → total (shares_for a c) (map (fill_entry k) fs) ≡ cond b (pos (filled_by fs a)) (pos 0)
-fill_shares k a c b is [] = none b
-  where
-    none : (b : Bool) → pos 0 ≡ cond b (pos 0) (pos 0)
-    none true = refl
-    none false = refl
-fill_shares k a c b is (f ∷ fs) = rw (is, fill_shares k a c b is fs) (one (f.member == a) b f.shares (filled_by fs a))
-  where
-    one : (t b : Bool) (s n : ℕ) → cond (t && b) (pos s) (pos 0) +ℤ cond b (pos n) (pos 0) ≡ cond b (pos (cond t s 0 + n)) (pos 0)
-    one true true s n = refl
-    one true false s n = refl
-    one false true s n = omega (arith, ints)
-    one false false s n = refl
+fill_shares k a c b is [] = grind arith
+fill_shares k a c b is (f ∷ fs) = grind (arith, fill_shares k a c b is fs)
 
 -- an execution brings a member's position no further from zero
 pub executed_closer : (J : Journal) (x : Execution) (k : Notice) (a : Account) (c : Cusip) → IsExecutable J x k → occurs a (members (at_close J k.given.day)) ≤ 1 → IsCloser (total (shares_for a c) (execution_entries J x k) +ℤ position J a c) (position J a c)
@@ -197,12 +159,10 @@ executed_closer J x k a c ready once = by (same_issue k.given.issue c) refl
     closer (negsuc q) false n f g s = off_short _ (negsuc q) f (omega (arith, ints)) s
 
     elsewhere : (t : Bool) (n : ℤ) (q : ℤ) → IsCloser ((cond (t && false) n (pos 0) +ℤ pos 0) +ℤ q) q
-    elsewhere true n q = as_close _ q (omega (arith, ints))
-    elsewhere false n q = as_close _ q (omega (arith, ints))
+    elsewhere t n q = grind arith
 
     of_true : (t : Bool) → (t && true) ≡ t
-    of_true true = refl
-    of_true false = refl
+    of_true t = grind arith
 
     here : (b : Bool) → same_issue k.given.issue c ≡ b → b ≡ true → IsCloser (total (shares_for a c) (execution_entries J x k) +ℤ position J a c) (position J a c)
     here b is yes_it_is =
@@ -244,8 +204,7 @@ execution_balanced J x k some ready =
     }
   where
     opposite : (b : Bool) (m n : ℤ) → m +ℤ n ≡ pos 0 → cond b m (pos 0) +ℤ cond b n (pos 0) ≡ pos 0
-    opposite true m n h = h
-    opposite false m n h = refl
+    opposite b m n h1 = grind arith
 
 -- the cents of fills' entries, whatever their signs
 fill_magnitude : (k : Notice) (fs : List Fill) → magnitude (λ (e : Entry). e.cents) (map (fill_entry k) fs) ≡ sum_by (λ f. f.cents) fs

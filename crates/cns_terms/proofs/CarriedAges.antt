@@ -25,8 +25,7 @@ closes_short_le [] a c = omega arith
 closes_short_le (K ∷ Ks) a c = by _ (greatest_le (closes_short Ks a) (length Ks) (λ d. closes_short_le Ks a d) (c ∷ forerunners_today K c))
   where
     by : (b : Bool) {n : ℕ} → n ≤ length Ks → cond b (1 + n) 0 ≤ suc (length Ks)
-    by true h = omega (arith, h)
-    by false h = omega arith
+    by b h1 = grind arith
 
 -- and so with what exchanges brought
 pub oldest_le : (J : Journal) (a : Account) (c : Cusip) → oldest J a c ≤ closes J
@@ -53,8 +52,7 @@ each_behind F G s t same (y ∷ ys) none = by (t y) (each_behind F G s t same ys
     apart = neither (same_issue y.old s) (list_any (λ y. same_issue y.old s) ys) none
 
     by : (b : Bool) → flat_map (λ y. y.old ∷ F y.old) (filter t ys) ≡ flat_map (λ y. y.old ∷ G y.old) (filter t ys) → flat_map (λ y. y.old ∷ F y.old) (cond b (y ∷ filter t ys) (filter t ys)) ≡ flat_map (λ y. y.old ∷ G y.old) (cond b (y ∷ filter t ys) (filter t ys))
-    by true rest = λ i. y.old ∷ same y.old (issues_differ y.old s apart.0) i ++ rest i
-    by false rest = rest
+    by b h1 = grind (arith, issues_differ)
 
 module _ (x : Exchange) (xs : List Exchange) (fresh : IsFresh x xs) where
   -- the others' old issues are not the successor either
@@ -100,10 +98,7 @@ behind_more f x xs fresh d = by (same_issue x.successor d) refl
     turned p q r = omega arith
 
     by : (b : Bool) → same_issue x.successor d ≡ b → greatest f (forerunners (suc n) (x ∷ xs) d) ≡ cond b (max (greatest f (forerunners n xs d)) (greatest f (x.old ∷ forerunners n xs x.old))) (greatest f (forerunners n xs d))
-    by true is =
-        ap (greatest f) (behind_successor x xs fresh.0 n d is)
-        ∙ ap (λ m. max (f x.old) m) (greatest-append f (forerunners n xs x.old) (forerunners (suc n) xs d) ∙ ap (λ cs. max (greatest f (forerunners n xs x.old)) (greatest f cs)) (all_counted xs fresh.1 n (omega arith) d))
-        ∙ turned (f x.old) (greatest f (forerunners n xs x.old)) (greatest f (forerunners n xs d))
+    by true is = grind (arith, behind_successor, greatest-append, all_counted)
     by false other = ap (greatest f) (behind_other x xs fresh.0 (suc n) d other ∙ all_counted xs fresh.1 n (omega arith) d)
 
 -- ---- what brings nothing

@@ -2,6 +2,7 @@
 use Rattle.std.proofs.Common.{◌≡◌, ◌∙◌, sym, ap, refl, Bool, true, false, ◌&&◌, ◌||◌, cond, eqb, List, [], ◌∷◌, ◌++◌, map, flat_map, Option, Some, None, bytes_eq, is_eq, is_lt, nat_cmp, Less, eqb-true}
 use Rattle.cns_terms.proofs.Common.{Account, Cusip, Key, above_all, and_left, and_right, below_all, both_true, bytes_eq-Decides, is_rising, is_sorted, key_cmp, less, list_any, nat_cmp_total, ordering_then, same_key, slice_cmp, tied_itself}
 use Rattle.std.specs.FinMap.{find}
+use Rattle.std.proofs.Common.{arith}
 
 -- an account's place in an issue
 abbrev pub key : Account → Cusip → Key
@@ -50,12 +51,7 @@ module _ {X : Type 0} (f : Key → X) where
   sorted_cells (a ∷ bs) cs p q = sorted_append a cs bs cs (and_left _ _ p) (sorted_row a cs q) (sorted_cells bs cs (and_right _ _ p) q)
 
   find_in : (b x y : Bool) (k k' : Key) → (b ≡ true → k' ≡ k) → b ≡ (x && y) → (rest : Bool) → cond b (Some (f k')) (cond (x && rest) (Some (f k)) None) ≡ cond (x && (y || rest)) (Some (f k)) None
-  find_in true true true k k' h e rest = ap (λ q. Some (f q)) (h refl)
-  find_in false true false k k' h e rest = refl
-  find_in false false y k k' h e rest = refl
-  find_in true true false k k' h e rest = cc
-  find_in true false y k k' h e rest = cc
-  find_in false true true k k' h e rest = cc
+  find_in b x y k k' h1 h2 rest = grind arith
 
   tied : (k : Key) (a : Account) (c : Cusip) → is_eq (key_cmp k (key a c)) ≡ true → key a c ≡ k
   tied k a c h =
@@ -63,22 +59,16 @@ module _ {X : Type 0} (f : Key → X) where
       sym (λ i. key (eqb-true k.account a (and_left _ _ e) i) ((bytes_eq-Decides k.issue c).0 (and_right _ _ e) i))
 
   find_row : (k : Key) (a : Account) (cs : List Cusip) → find key_cmp k (cells_of f a cs) ≡ cond (eqb k.account a && list_any (λ c. bytes_eq k.issue c) cs) (Some (f k)) None
-  find_row k a [] = none (eqb k.account a)
-    where
-      none : (b : Bool) → None ≡ cond (b && false) (Some (f k)) None
-      none true = refl
-      none false = refl
+  find_row k a [] = grind arith
   find_row k a (c ∷ cs) =
       ap (cond (is_eq (key_cmp k (key a c))) (Some (f (key a c)))) (find_row k a cs)
       ∙ find_in (is_eq (key_cmp k (key a c))) (eqb k.account a) (bytes_eq k.issue c) k (key a c) (tied k a c) (same_key k (key a c)) (list_any (λ c. bytes_eq k.issue c) cs)
 
   first_found : (b d : Bool) (k : Key) (x : X) → Some x ≡ cond b (Some (f k)) None → Some x ≡ cond (b || d) (Some (f k)) None
-  first_found true d k x p = p
-  first_found false d k x p = cc
+  first_found b d k x h1 = grind arith
 
   first_step : (t b d : Bool) (k : Key) (x : X) (o o' : Option X) → (o ≡ cond b (Some (f k)) None → o' ≡ cond (b || d) (Some (f k)) None) → cond t (Some x) o ≡ cond b (Some (f k)) None → cond t (Some x) o' ≡ cond (b || d) (Some (f k)) None
-  first_step true b d k x o o' rest p = first_found b d k x p
-  first_step false b d k x o o' rest p = rest p
+  first_step t b d k x o o' h1 h2 = grind arith
 
   find_first : (k : Key) (es fs : List (Key × X)) (b d : Bool) → find key_cmp k es ≡ cond b (Some (f k)) None → find key_cmp k fs ≡ cond d (Some (f k)) None → find key_cmp k (es ++ fs) ≡ cond (b || d) (Some (f k)) None
   find_first k [] fs true d p q = cc
@@ -86,15 +76,9 @@ module _ {X : Type 0} (f : Key → X) where
   find_first k (e ∷ es) fs b d p q = first_step (is_eq (key_cmp k e.0)) b d k e.1 (find key_cmp k es) (find key_cmp k (es ++ fs)) (λ h. find_first k es fs b d h q) p
 
   either : (x y z : Bool) → ((x && z) || (y && z)) ≡ ((x || y) && z)
-  either true true true = refl
-  either true true false = refl
-  either true false true = refl
-  either true false false = refl
-  either false y z = refl
+  either x y z = grind arith
 
   -- the value at a place, where the account and the issue are among those
   pub find_cells : (k : Key) (bs : List Account) (cs : List Cusip) → find key_cmp k (cells f bs cs) ≡ cond (list_any (λ a. eqb k.account a) bs && list_any (λ c. bytes_eq k.issue c) cs) (Some (f k)) None
   find_cells k [] cs = refl
-  find_cells k (a ∷ bs) cs =
-      find_first k (cells_of f a cs) (cells f bs cs) _ _ (find_row k a cs) (find_cells k bs cs)
-      ∙ ap (λ b. cond b (Some (f k)) None) (either (eqb k.account a) (list_any (λ a. eqb k.account a) bs) (list_any (λ c. bytes_eq k.issue c) cs))
+  find_cells k (a ∷ bs) cs = grind (arith, find_first, find_row, either, find_cells k bs cs)

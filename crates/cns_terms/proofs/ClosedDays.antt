@@ -1,5 +1,6 @@
 -- A closed day keeps its sheet.
-use Rattle.std.proofs.Common.{◌≡◌, ℕ, ◌≤◌, ℤ, Bool, true, false, List, [], ◌∷◌, length, refl, sym, ◌∙◌, ap, subst, arith, cond, find, unwrap_or, ◌==◌, Option, Some, None, int_lt, option_map, int_eq, ne_eqb}
+use Rattle.std.proofs.Common.{◌≡◌, ℕ, ◌≤◌, ℤ, Bool, true, false, List, [], ◌∷◌, refl, sym, ◌∙◌, ap, subst, arith, cond, find, unwrap_or, ◌==◌, Option, Some, int_lt, option_map, int_eq}
+use Rattle.cns_terms.proofs.BatchSteps.{no_earlier}
 use Rattle.cns_terms.proofs.Common.{Activity, AllByRecursion, Command, Day, DaySheet, IsWhole, Journal, State, after, at_close, closed_on, closes, closings, date, day, day_number, day_sheet, ints, is_close, is_same_day, journal, journal_of, next, opened, rows_for, statement}
 use Rattle.cns_terms.specs.Laws.{ClosedDays}
 use Rattle.cns_terms.specs.Sheets.{sheet_at}
@@ -10,13 +11,7 @@ use Rattle.cns_terms.specs.declared.command.Command.TheVariants as command
 
 -- the journal of an earlier close, found among those of a later journal
 found_later : (b : Bool) (J : Journal) (i : ℕ) → i ≤ closes J → unwrap_or (find (λ K. day K == i) (cond b (J ∷ closings J) (closings J))) [] ≡ at_close J i
-found_later false J i h = refl
-found_later true J i h = rw (ne_eqb (day J) i (λ e. omega arith)) refl
-
--- closes are not undone
-counted_later : (b : Bool) (J : Journal) → closes J ≤ length (cond b (J ∷ closings J) (closings J))
-counted_later false J = omega arith
-counted_later true J = omega arith
+found_later b J i h1 = grind arith
 
 -- ---- by date
 
@@ -53,7 +48,7 @@ keeps_same opening J = record { more = omega arith; by_place = λ i h. refl; by_
 
 keeps_if : (b : Bool) (x : Activity) (opening : Day) (L : List Activity) → IsWhole opening (journal opening L) → Keeps opening (journal opening L) (journal opening (cond b (x ∷ L) L))
 keeps_if true x opening L w = let J = journal opening L in record {
-  more = counted_later (is_close x) J;
+  more = no_earlier (is_close x) J;
   by_place = found_later (is_close x) J;
   by_date = λ d K is. dated_later opening J d K (is_close x) w.earlier is;
 }
@@ -79,8 +74,7 @@ keeps-after S (cmd ∷ cmds) w =
 
 -- what is made of a journal that is found again
 found_again : (f : Journal → DaySheet) (o o' : Option Journal) (s : DaySheet) → ((K : Journal) → o ≡ Some K → o' ≡ Some K) → option_map f o ≡ Some s → option_map f o' ≡ Some s
-found_again f None o' s h e = cc
-found_again f (Some K) o' s h e = ap (option_map f) (h K refl) ∙ e
+found_again f o o' s h1 h2 = grind arith
 
 -- whatever is taken later, a closed day keeps its sheet and its statements
 pub closed_days : ClosedDays

@@ -1,11 +1,10 @@
 -- No dividends of a day leave the limit of amounts.
-use Rattle.std.proofs.Common.{◌≡◌, ℕ, ◌+◌, ◌*◌, ◌^◌, ◌≤◌, ◌<◌, ℤ, pos, negsuc, neg_ℤ, suc, ◌/◌, ◌*ℤ◌, Bool, true, false, ◌&&◌, ◌==◌, cond, filter, List, [], ◌∷◌, length, arith, nat_cmp, bytes_eq, int_div, unsigned_abs, mul-le-mul_right}
+use Rattle.std.proofs.Common.{◌≡◌, ℕ, ◌+◌, ◌*◌, ◌^◌, ◌≤◌, ◌<◌, ℤ, pos, neg_ℤ, ◌*ℤ◌, Bool, true, false, ◌&&◌, ◌==◌, cond, filter, List, [], ◌∷◌, length, arith, nat_cmp, bytes_eq, int_div, unsigned_abs, mul-le-mul_right}
 use Rattle.cns_terms.proofs.Common.{Account, Activity, AllByRecursion, Cusip, Day, Declared, Entry, IsLimited, Journal, Rate, added, added-all, added-each, added-more, amount_limit, as_of, bounded, cash, closings, date, dividend, dividends, each_found, each_weaker, history_limit, ints, is_not_after, is_rising, issues, last_date, limited, member_dividend, members, members_few, members_from_one, nat_tests, one_issue, over_all, position_limit, rate_limit, slice_cmp, total, total_small, unsigned_abs-mul}
 use Rattle.cns_terms.specs.Dividends.{due, is_due}
 use Rattle.cns_terms.specs.Positions.{position}
 use Rattle.cns_terms.proofs.Magnitudes.{added-swap}
 use Rattle.cns_terms.proofs.Reached.{AreSmallRates}
-use Rattle.cns_terms.specs.declared.command.Activity.TheVariants as activity
 
 -- the most cents that a dividend pays on a member's position
 abbrev pub cash_limit : ℕ
@@ -13,11 +12,7 @@ cash_limit = 10 ^ 17
 
 -- a quotient cut towards zero
 quotient_small : (z : ℤ) (m : ℕ) → unsigned_abs z ≤ 10000 * m → unsigned_abs (int_div z (pos 10000)) ≤ m
-quotient_small (pos n) m h = omega (arith, h)
-quotient_small (negsuc n) m h = below (suc n) h
-  where
-    below : (k : ℕ) → k ≤ 10000 * m → unsigned_abs (neg_ℤ (pos (k / 10000))) ≤ m
-    below k h = omega (arith, ints, h)
+quotient_small z m h1 = grind arith
 
 -- few shares at a small rate
 product_few : (q r z : ℕ) → z ≡ q * r → q ≤ position_limit → r ≤ rate_limit → z ≤ 10000 * cash_limit
@@ -28,12 +23,6 @@ pub cash_small : (q : ℤ) (rate : Rate) → unsigned_abs q ≤ position_limit �
 cash_small q rate p s = quotient_small (q *ℤ pos rate) cash_limit (product_few (unsigned_abs q) rate (unsigned_abs (q *ℤ pos rate)) (unsigned_abs-mul q (pos rate)) p s)
 
 -- ---- one member
-
--- a term that is kept or not
-kept_term : {X : Type 0} (f : X → ℕ) (s t : Bool) (x : X) (xs : List X) (n : ℕ) → f x ≤ cash_limit → added f xs ≤ n → added f (cond (s && t) (x ∷ xs) xs) ≤ unsigned_abs (cond (true && s) (pos cash_limit) (pos 0)) + n
-kept_term f true true x xs n h r = omega (arith, h, r)
-kept_term f true false x xs n h r = omega (arith, r)
-kept_term f false t x xs n h r = omega (arith, r)
 
 module _ (opening : Day) (K : Journal) (closed : AllByRecursion (IsLimited opening) (closings K)) (a : Account) (member : 1 ≤ a) where
   -- the cash of one dividend
@@ -50,8 +39,7 @@ module _ (opening : Day) (K : Journal) (closed : AllByRecursion (IsLimited openi
   due_small : (c : Cusip) (test : Declared → Bool) (ds : List Declared) → AreSmallRates ds
       → added (λ d. unsigned_abs (paid c d)) (filter (λ d. bytes_eq d.issue c && test d) ds) ≤ added (λ d. unsigned_abs (cond (true && bytes_eq d.issue c) (pos cash_limit) (pos 0))) ds
   due_small c test [] r = omega arith
-  due_small c test (d ∷ ds) r =
-      kept_term (λ d. unsigned_abs (paid c d)) (bytes_eq d.issue c) (test d) d (filter (λ d. bytes_eq d.issue c && test d) ds) _ (paid_small c d r.0) (due_small c test ds r.1)
+  due_small c test (d ∷ ds) r = grind (arith, paid_small, due_small c test ds r.1)
 
   -- the dividends of a member, over the issues
   member_small : is_rising (slice_cmp nat_cmp) (issues K) ≡ true → AreSmallRates (dividends K) → added (λ c. unsigned_abs (member_dividend opening K c a)) (issues K) ≤ cash_limit * length (dividends K)
@@ -68,8 +56,7 @@ module _ (opening : Day) (K : Journal) (closed : AllByRecursion (IsLimited openi
 
 -- an activity declares one dividend at most
 few-post : (x : Activity) (es : List Entry) (K : Journal) → length (dividends K) ≤ length K → length (dividends (record { activity = x; entries = es } ∷ K)) ≤ length K + 1
-few-post (activity.Member m) es K h = omega (arith, h)
-few-post _ es K h = omega (arith, h)
+few-post x es K h1 = grind arith
 
 -- no more dividends than postings
 pub dividends_few : (K : Journal) → length (dividends K) ≤ length K

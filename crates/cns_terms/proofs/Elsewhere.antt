@@ -31,8 +31,7 @@ no_position a c (p ∷ J) h = (λ i. no_shares a c p.entries h.0 i +ℤ no_posit
 
 -- the cents of the open day, after an activity that ends a day or not
 open_branch : (b : Bool) (a : Account) (c : Cusip) (J : Journal) → total (λ p. total (cents_for a c) p.entries) (open_day J) ≡ pos 0 → total (λ p. total (cents_for a c) p.entries) (cond b [] (open_day J)) ≡ pos 0
-open_branch true a c J h = refl
-open_branch false a c J h = h
+open_branch b a c J h1 = grind arith
 
 -- nor are there cents of the open day
 no_money : (a : Account) (c : Cusip) (J : Journal) → AreElsewhere a c J → money J a c ≡ pos 0
@@ -41,8 +40,7 @@ no_money a c (p ∷ J) h = (λ i. no_cents a c p.entries h.0 i +ℤ open_branch 
 
 -- the journal before, after an activity that ends a day or not
 before_branch : (b : Bool) (a : Account) (c : Cusip) (K : Journal) → AreElsewhere a c K → AreElsewhere a c (last_close K) → AreElsewhere a c (unwrap_or (slice_get (cond b (K ∷ closings K) (closings K)) 0) [])
-before_branch true a c K h e = h
-before_branch false a c K h e = e
+before_branch b a c K h1 h2 = grind arith
 
 -- nothing was booked there before the last close
 elsewhere_before : (a : Account) (c : Cusip) (K : Journal) → AreElsewhere a c K → AreElsewhere a c (last_close K)
@@ -51,8 +49,7 @@ elsewhere_before a c (p ∷ K) h = before_branch (is_close p.activity) a c K h.1
 
 -- the journals of the closes, after an activity that ends a day or not
 closed_branch : (b : Bool) (a : Account) (c : Cusip) (K : Journal) → AreElsewhere a c K → AllByRecursion (AreElsewhere a c) (closings K) → AllByRecursion (AreElsewhere a c) (cond b (K ∷ closings K) (closings K))
-closed_branch true a c K h e = (h, e)
-closed_branch false a c K h e = e
+closed_branch b a c K h1 h2 = grind arith
 
 -- nothing was booked there at any close
 elsewhere_closed : (a : Account) (c : Cusip) (K : Journal) → AreElsewhere a c K → AllByRecursion (AreElsewhere a c) (closings K)
@@ -75,25 +72,17 @@ idle_elsewhere opening J a c h paid = ap not (idle (position (last_close J) a c)
 
 -- an entry for one of some accounts is not for one that is none of them
 apart_account : (b d : Bool) (a a' : ℕ) (bs : List ℕ) → (b ≡ true → a' ≡ a) → occurs a' bs ≡ 1 → occurs a bs ≡ 0 → (b && d) ≡ false
-apart_account false d a a' bs h one none = refl
-apart_account true d a a' bs h one none = absurd (omega (arith, one, ap (λ x. occurs x bs) (h refl), none))
+apart_account b d a a' bs h1 h2 h3 = grind arith
 
 -- entries for some accounts are elsewhere for all others
 account_elsewhere : (a : Account) (c : Cusip) (bs : List ℕ) (es : List Entry) → occurs a bs ≡ 0 → AreOf bs es → AllByRecursion (λ e. is_at a c e ≡ false) es
 account_elsewhere a c bs [] none h = tt
 account_elsewhere a c bs (e ∷ es) none h = (apart_account (e.account == a) (same_issue e.issue c) a e.account bs (eqb-true e.account a) h.0 none, account_elsewhere a c bs es none h.1)
 
--- an entry in a listed issue is not in one that is not listed
-apart_issue : (b d x y : Bool) → (d ≡ true → x ≡ y) → x ≡ true → y ≡ false → (b && d) ≡ false
-apart_issue b true x y h p q = absurd (cc (h refl, p, q))
-apart_issue true false x y h p q = refl
-apart_issue false false x y h p q = refl
-
 -- entries in listed issues are elsewhere for all others
 issue_elsewhere : (a : Account) (c : Cusip) (J : Journal) (es : List Entry) → is_listed J c ≡ false → AreOfListed J es → AllByRecursion (λ e. is_at a c e ≡ false) es
 issue_elsewhere a c J [] none h = tt
-issue_elsewhere a c J (e ∷ es) none h =
-    (apart_issue (e.account == a) (same_issue e.issue c) (is_listed J e.issue) (is_listed J c) (λ s. ap (is_listed J) ((bytes_eq-Decides e.issue c).0 s)) h.0 none, issue_elsewhere a c J es none h.1)
+issue_elsewhere a c J (e ∷ es) none h = grind (arith, bytes_eq-Decides, issue_elsewhere a c J es none h.1)
 
 -- what holds of each posting holds of the journal
 elsewhere_all : (a : Account) (c : Cusip) (J K : Journal) → ((p : Posting) → AreOf (accounts J) p.entries → AreOfListed J p.entries → AllByRecursion (λ e. is_at a c e ≡ false) p.entries) → AreKnown (accounts J) K → AllByRecursion (λ p. AreOfListed J p.entries) K → AreElsewhere a c K

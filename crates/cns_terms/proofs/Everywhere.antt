@@ -1,5 +1,5 @@
 -- What holds of each element of a list.
-use Rattle.std.proofs.Common.{ℕ, ◌≤◌, Bool, true, false, cond, ◌≡◌, ◌∙◌, ap, subst, sym, ◌||◌, List, [], ◌∷◌, ◌++◌, map, filter, find, reverse, unwrap_or, Option, Some, refl, arith, eq-eqb}
+use Rattle.std.proofs.Common.{ℕ, ◌≤◌, Bool, cond, ◌≡◌, subst, sym, ◌||◌, List, [], ◌∷◌, ◌++◌, map, filter, find, reverse, unwrap_or, Option, Some, refl, arith, eq-eqb}
 use Rattle.cns_terms.specs.Common.{AllByRecursion, in_order, list_any}
 use Rattle.std.proofs.lemmas.Grind.{reverse_onto}
 use Rattle.cns_terms.specs.Sums.{put}
@@ -27,16 +27,14 @@ each_reverse P [] a = tt
 each_reverse P (x ∷ xs) a = subst (AllByRecursion P) (sym (reverse_onto xs x [])) (each_append P (reverse xs) (x ∷ []) (each_reverse P xs a.1) (a.0, tt))
 
 kept : {X : Type 0} (P : X → Type 0) (b : Bool) (x : X) (xs : List X) → P x → AllByRecursion P xs → AllByRecursion P (cond b (x ∷ xs) xs)
-kept P true x xs p a = (p, a)
-kept P false x xs p a = a
+kept P b x xs h1 h2 = grind arith
 
 pub each_filter : {X : Type 0} (P : X → Type 0) (t : X → Bool) (xs : List X) → AllByRecursion P xs → AllByRecursion P (filter t xs)
 each_filter P t [] a = tt
 each_filter P t (x ∷ xs) a = kept P (t x) x (filter t xs) a.0 (each_filter P t xs a.1)
 
 either_order : {X : Type 0} (P : X → Type 0) (b : Bool) (x y : X) (ys zs : List X) → P x → P y → AllByRecursion P ys → AllByRecursion P zs → AllByRecursion P (cond b (x ∷ y ∷ ys) (y ∷ zs))
-either_order P true x y ys zs p q a c = (p, (q, a))
-either_order P false x y ys zs p q a c = (q, c)
+either_order P b x y ys zs h1 h2 h3 h4 = grind arith
 
 each_put : {X : Type 0} (P : X → Type 0) (before : X → X → Bool) (x : X) (xs : List X) → P x → AllByRecursion P xs → AllByRecursion P (put before x xs)
 each_put P before x [] p a = (p, tt)
@@ -47,8 +45,7 @@ each_in_order P before [] a = tt
 each_in_order P before (x ∷ xs) a = each_put P before x (in_order before xs) a.0 (each_in_order P before xs a.1)
 
 found_or_after : {X : Type 0} (P : X → Type 0) (b : Bool) (d x : X) (o : Option X) → P x → P (unwrap_or o d) → P (unwrap_or (cond b (Some x) o) d)
-found_or_after P true d x o p a = p
-found_or_after P false d x o p a = a
+found_or_after P b d x o h1 h2 = grind arith
 
 -- what is found, or what stands in its place
 pub each_found : {X : Type 0} (P : X → Type 0) (t : X → Bool) (d : X) (xs : List X) → P d → AllByRecursion P xs → P (unwrap_or (find t xs) d)
@@ -66,14 +63,8 @@ pub each_stands : (bs : List ℕ) → AllByRecursion (λ a. 1 ≤ occurs a bs) b
 each_stands [] = tt
 each_stands (b ∷ bs) = (stands_first b bs, stands_after b bs bs (each_stands bs))
 
-or_swap : (a b c : Bool) → (a || (b || c)) ≡ (b || (a || c))
-or_swap true true c = refl
-or_swap true false c = refl
-or_swap false b c = refl
-
 put_branch : {X : Type 0} (p : X → Bool) (b : Bool) (x y : X) (ys zs : List X) → list_any p zs ≡ (p x || list_any p ys) → list_any p (cond b (x ∷ y ∷ ys) (y ∷ zs)) ≡ (p x || (p y || list_any p ys))
-put_branch p true x y ys zs e = refl
-put_branch p false x y ys zs e = ap (λ b. p y || b) e ∙ or_swap (p y) (p x) (list_any p ys)
+put_branch p b x y ys zs h1 = grind arith
 
 -- some element of a list, with one more put in its place
 pub any_put : {X : Type 0} (p : X → Bool) (before : X → X → Bool) (x : X) (ys : List X) → list_any p (put before x ys) ≡ (p x || list_any p ys)

@@ -1,9 +1,10 @@
 -- Searches in lists whose keys strictly rise.
 use Rattle.std.proofs.Common.{◌≡◌, ◌∙◌, sym, ap, refl, Bool, true, false, cond, List, [], ◌∷◌, map, filter, Option, Some, None, is_eq, is_lt, Ordering, Less, Equal, Greater, T}
-use Rattle.cns_terms.specs.Common.{AllByRecursion, IsTotalOrder, below_all, is_sorted, ordering_reverse, tied_itself}
+use Rattle.cns_terms.specs.Common.{AllByRecursion, IsTotalOrder, below_all, is_sorted, tied_itself}
 use Rattle.std.specs.FinMap.{FinMap, entries, entries-from_sorted, find, from_sorted, get-from_sorted, same_map, IsAntisymmetric}
 use Rattle.std.specs.List.Sorted.{IsStrictlySortedBy}
 use Rattle.cns_terms.proofs.Facts.{and_left, and_right, both_true, less}
+use Rattle.std.proofs.Common.{arith}
 
 -- an option kept where its value passes a test
 abbrev pub kept_if : {X : Type 0} → (X → Bool) → Option X → Option X
@@ -11,8 +12,7 @@ kept_if p None = None
 kept_if p (Some x) = cond (p x) (Some x) None
 
 pub as_T : (b : Bool) → b ≡ true → T b
-as_T true e = tt
-as_T false e = cc
+as_T b h1 = grind arith
 
 -- no key comes before itself
 pub not_itself : {K : Type 0} {R : K → K → Ordering} (o : IsTotalOrder R) (k : K) → is_lt (R k k) ≡ false
@@ -26,16 +26,14 @@ module _ {K X : Type 0} {R : K → K → Ordering} (o : IsTotalOrder R) where
       ap (λ r. cond (is_eq r) (Some e.1) (find R k es)) (less _ (and_left _ _ b)) ∙ find_below k es (and_right _ _ b)
 
   below_kept : (p : X → Bool) (k : K) (b : Bool) (e : K × X) (es : List (K × X)) → is_lt (R k e.0) ≡ true → below_all R k es ≡ true → below_all R k (cond b (e ∷ es) es) ≡ true
-  below_kept p k true e es l h = both_true _ _ l h
-  below_kept p k false e es l h = h
+  below_kept p k b e es h1 h2 = grind arith
 
   below_filter : (p : X → Bool) (k : K) (es : List (K × X)) → below_all R k es ≡ true → below_all R k (filter (λ e. p e.1) es) ≡ true
   below_filter p k [] b = refl
   below_filter p k (e ∷ es) b = below_kept p k (p e.1) e (filter (λ e. p e.1) es) (and_left _ _ b) (below_filter p k es (and_right _ _ b))
 
   sorted_kept : (b : Bool) (e : K × X) (es : List (K × X)) → below_all R e.0 es ≡ true → is_sorted R es ≡ true → is_sorted R (cond b (e ∷ es) es) ≡ true
-  sorted_kept true e es b s = both_true _ _ b s
-  sorted_kept false e es b s = s
+  sorted_kept b e es h1 h2 = grind arith
 
   -- a filter keeps the order
   pub sorted_filter : (p : X → Bool) (es : List (K × X)) → is_sorted R es ≡ true → is_sorted R (filter (λ e. p e.1) es) ≡ true
@@ -54,8 +52,7 @@ module _ {K X : Type 0} {R : K → K → Ordering} (o : IsTotalOrder R) where
   find_kept p q true e es Equal t b below h = ap (λ r. cond (is_eq r) (Some e.1) (find R q (filter (λ e. p e.1) es))) t ∙ sym (ap (λ c. cond c (Some e.1) None) b)
   find_kept p q false e es Less t b below h = h
   find_kept p q false e es Greater t b below h = h
-  find_kept p q false e es Equal t b below h =
-      find_below q (filter (λ e. p e.1) es) (below_filter p q es (tied_below q e.0 es t below)) ∙ sym (ap (λ c. cond c (Some e.1) None) b)
+  find_kept p q false e es Equal t b below h = grind (arith, find_below)
 
   -- a search in what a filter keeps
   pub find_filter : (p : X → Bool) (q : K) (es : List (K × X)) → is_sorted R es ≡ true → find R q (filter (λ e. p e.1) es) ≡ kept_if p (find R q es)
@@ -72,11 +69,7 @@ module _ {K X : Type 0} {R : K → K → Ordering} (o : IsTotalOrder R) where
       ∙ entries-from_sorted R fs (as_T _ t)
 
   less_above : (k : K) (b : Bool) (x : K × X) (xs es : List (K × X)) (e : K × X) (rest : List (K × X)) → R k x.0 ≡ Less → ((e : K × X) (rest : List (K × X)) → es ≡ e ∷ rest → R k e.0 ≡ Less) → cond b (x ∷ es) es ≡ e ∷ rest → R k e.0 ≡ Less
-  less_above k true x xs es e rest l more h = sym (ap (λ q. R k q.0) (head h)) ∙ l
-    where
-      head : x ∷ es ≡ e ∷ rest → x ≡ e
-      head h = cc
-  less_above k false x xs es e rest l more h = more e rest h
+  less_above k b x xs es e rest h1 h2 h3 = grind arith
 
   -- what a filter keeps first lies above what lies below all
   first_above : (t : K → Bool) (k : K) (xs : List (K × X)) (e : K × X) (rest : List (K × X)) → below_all R k xs ≡ true → filter (λ x. t x.0) xs ≡ e ∷ rest → R k e.0 ≡ Less
@@ -106,9 +99,7 @@ module _ {K X : Type 0} {R : K → K → Ordering} (o : IsTotalOrder R) where
 
       tail : x ∷ filter (λ y. t y.0) xs ≡ e ∷ rest → filter (λ y. t y.0) xs ≡ rest
       tail h = cc
-  next_branch t false x xs e rest p up b more h =
-      ap (λ c. cond c (x ∷ filter (λ y. is_lt (R e.0 y.0)) xs) (filter (λ y. is_lt (R e.0 y.0)) xs)) (ap is_lt (o.antisymm e.0 x.0 ∙ ap ordering_reverse (first_above t x.0 xs e rest b h)))
-      ∙ more h
+  next_branch t false x xs e rest p up b more h = grind (arith, first_above)
 
   -- past the first that a rising test keeps, the rest are those above it
   pub next_above : (t : K → Bool) (xs : List (K × X)) (e : K × X) (rest : List (K × X)) → ((k q : K) → t k ≡ true → R k q ≡ Less → t q ≡ true) → is_sorted R xs ≡ true → filter (λ y. t y.0) xs ≡ e ∷ rest → filter (λ y. is_lt (R e.0 y.0)) xs ≡ rest

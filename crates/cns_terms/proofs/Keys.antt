@@ -1,5 +1,5 @@
 -- The order of keys.
-use Rattle.std.proofs.Common.{◌≡◌, ℕ, ◌+◌, ◌*◌, ◌^◌, ◌<◌, ◌&&◌, eqb, List, Ordering, refl, sym, ap, ◌∙◌, inl, inr, bytes_eq, Less, Equal, Greater, nat_cmp, is_eq, arith}
+use Rattle.std.proofs.Common.{◌≡◌, ℕ, ◌+◌, ◌*◌, ◌^◌, ◌<◌, ◌&&◌, eqb, List, Ordering, sym, ap, ◌∙◌, inl, inr, bytes_eq, Less, Equal, Greater, nat_cmp, is_eq, arith}
 use Rattle.cns_terms.specs.Common.{IsTotalOrder, Key, key_cmp, ordering_then, slice_cmp}
 use Rattle.std.specs.Cmp.{nat_cmp_is}
 use Rattle.std.proofs.lemmas.Cmp.{on_total, then_total, nat_cmp_total, nat_list_cmp_total}
@@ -16,9 +16,7 @@ pub exact_keys : CmpEqualImpliesEq key_cmp
 exact_keys a b h = ap (λ (p : ℕ × List ℕ). record { account = p.0; issue = p.1 }) (exact_pairs nat_cmp (slice_cmp nat_cmp) exact_unsigned exact_bytes (a.account, a.issue) (b.account, b.issue) h)
 
 then_eq : (p q : Ordering) → is_eq (ordering_then p q) ≡ (is_eq p && is_eq q)
-then_eq Less q = refl
-then_eq Equal q = refl
-then_eq Greater q = refl
+then_eq p q = grind arith
 
 -- what tells keys apart, in the words of the definitions
 pub same_key : (a b : Key) → is_eq (key_cmp a b) ≡ (eqb a.account b.account && bytes_eq a.issue b.issue)

@@ -4,6 +4,7 @@ use Rattle.cns_terms.proofs.Common.{Command, Day, IsLegal, State, after, answer,
 use Rattle.cns_terms.specs.declared.history.Taken.{Taken}
 use Rattle.cns_terms.specs.History.{commands_of, replies_of, state}
 use Rattle.cns_terms.specs.Machine.{replies}
+use Rattle.std.proofs.Common.{arith}
 
 after_one : (S : State) (cmds : List Command) (cmd : Command) → after S (cmds ++ cmd ∷ []) ≡ next (after S cmds) cmd
 after_one S [] cmd = refl
@@ -21,6 +22,4 @@ state_after opening (t ∷ H) = ap (λ S. next S t.command) (state_after opening
 -- the replies of a legal history are the machine's to its commands
 pub legal_replies : (opening : Day) (H : List Taken) → IsLegal opening H → replies_of H ≡ replies (opened opening) (commands_of H)
 legal_replies opening [] l = refl
-legal_replies opening (t ∷ H) l =
-    (λ i. legal_replies opening H l.2 i ++ (l.0 ∙ ap (λ S. answer S t.command) (state_after opening H)) i ∷ [])
-    ∙ sym (replies_one (opened opening) (commands_of H) t.command)
+legal_replies opening (t ∷ H) l = grind (arith, state_after, replies_one, legal_replies opening H l.2)

@@ -36,8 +36,7 @@ AreWithin opening J = (a : Account) (c : Cusip) → 1 ≤ a → IsWithin (positi
 
 -- then its position alone is
 pub near : (q : ℤ) (b s : ℕ) → IsWithin q b s → IsNear q
-near (pos q) b s w = omega (arith, ints, w.above)
-near (negsuc q) b s w = omega (arith, ints, w.below)
+near q b s h1 = grind arith
 
 -- a position that comes closer to zero
 closer_within : (z q : ℤ) (b s : ℕ) → IsCloser z q → IsWithin q b s → IsWithin z b s
@@ -69,8 +68,7 @@ not_beyond a q b s h m =
     from_one a h = grind (arith, nat_tests)
 
     of_member : (t b : Bool) → t ≡ true → (t && b) ≡ false → b ≡ false
-    of_member true b t h = h
-    of_member false b t h = cc
+    of_member t b h1 h2 = grind arith
 
     no_more : (m n : ℕ) → nat_lt m n ≡ false → n ≤ m
     no_more m n h = grind (arith, nat_tests)
@@ -150,8 +148,7 @@ few_short q n h = grind (arith, nat_tests)
 
 -- no more than it is long
 few_long : (q : ℤ) (n : ℕ) → is_exceeded q n ≡ false → int_le q (pos 0) ≡ false → n ≤ long q
-few_long (pos k) n h l = grind (arith, nat_tests, ints)
-few_long (negsuc k) n h l = absurd (cc)
+few_long q n h1 h2 = grind arith
 
 -- a movement brings a position closer to zero, where it does so at the member's place
 moved_if : (t : Bool) (s q : ℤ) → (t ≡ true → IsCloser (q +ℤ s) q) → IsCloser ((cond t s (pos 0) +ℤ (pos 0 +ℤ pos 0)) +ℤ q) q
@@ -240,14 +237,6 @@ HasFewCents J = (a : Account) (c : Cusip) → unsigned_abs (money J a c) ≤ boo
 abbrev pub cents_of : Posting → ℕ
 cents_of p = magnitude (λ e. e.cents) p.entries
 
--- the sign of cents makes no difference
-no_sign : (n : ℕ) → unsigned_abs (neg_ℤ (pos n)) ≡ n
-no_sign n = omega (arith, ints)
-
--- a trade's two entries
-two_cents : (m n : ℕ) → m ≤ money_limit → n ≡ m → n + (m + 0) ≤ booking_limit
-two_cents m n h e = omega (arith, h, e)
-
 -- the cents in lieu of less than a share
 lieu_few : (r : Ratio) (lieu : Price) (q : ℤ) → IsRatio r → lieu ≤ price_limit → unsigned_abs (in_lieu r lieu q) ≤ ratio_limit * price_limit
 lieu_few r lieu q ratio h =
@@ -315,8 +304,7 @@ with_waiting m n h = omega (arith, h)
 
 -- a trade's cents are booked now, or wait
 trade_few : (b : Bool) (p : Pend) (ps : List Pend) → p.cents ≤ money_limit → magnitude (λ (e : Entry). e.cents) (cond b (trade_entries p) []) + added both_cents (cond (not b) (p ∷ ps) ps) ≤ booking_limit + added both_cents ps
-trade_few true p ps h = with_waiting _ (added both_cents ps) (two_cents p.cents (unsigned_abs (neg_ℤ (pos p.cents))) h (no_sign p.cents))
-trade_few false p ps h = omega (arith, h)
+trade_few b p ps h1 = grind arith
 
 -- at a close they are booked that waited
 close_few : (opening : Day) (J : Journal) (d : Day) → is_not_after d (date opening J) ≡ false → cents_of (posting opening J (activity.Close d)) + waiting_cents opening (posting opening J (activity.Close d) ∷ J) ≤ booking_limit + waiting_cents opening J
@@ -342,8 +330,7 @@ booked_few opening J _ r h are = with_waiting 0 (waiting_cents opening J) (omega
 
 -- the open day's postings, or none after a close
 open_or_none : (b : Bool) (J : Journal) (n : ℕ) → added cents_of (open_day J) ≤ n → added cents_of (cond b [] (open_day J)) ≤ n
-open_or_none true J n h = omega arith
-open_or_none false J n h = h
+open_or_none b J n h1 = grind arith
 
 -- the open day's cents are among the journal's
 pub open_small : (J : Journal) → added cents_of (open_day J) ≤ added cents_of J
@@ -352,11 +339,7 @@ open_small (p ∷ J) = let rest = open_or_none (is_close p.activity) J (added ce
 
 -- the cents at one place are among them
 at_one_place : (a : Account) (c : Cusip) (es : List Entry) → unsigned_abs (total (cents_for a c) es) ≤ magnitude (λ e. e.cents) es
-at_one_place a c es = omega (arith, total_small (cents_for a c) es, added-more (λ (e : Entry). unsigned_abs (cents_for a c e)) (λ e. unsigned_abs e.cents) es (λ e. given_or_not (is_of a c e) e.cents))
-  where
-    given_or_not : (b : Bool) (z : ℤ) → unsigned_abs (cond b z (pos 0)) ≤ unsigned_abs z
-    given_or_not true z = omega arith
-    given_or_not false z = omega arith
+at_one_place a c es = grind (arith, total_small, added-more)
 
 -- the open day's cents at a place are among the journal's
 pub money_few : (J : Journal) (a : Account) (c : Cusip) → unsigned_abs (money J a c) ≤ added cents_of J

@@ -1,5 +1,5 @@
 -- Sums of absolute values, which bound sums of numbers with a sign.
-use Rattle.std.proofs.Common.{◌≡◌, ap, refl, ℕ, zero, suc, ◌+◌, ◌*◌, ◌≤◌, ℤ, ◌+ℤ◌, Bool, true, false, cond, List, [], ◌∷◌, ◌++◌, length, map, filter, flat_map, take, arith, unsigned_abs}
+use Rattle.std.proofs.Common.{◌≡◌, ap, refl, ℕ, zero, suc, ◌+◌, ◌*◌, ◌≤◌, ℤ, ◌+ℤ◌, Bool, cond, List, [], ◌∷◌, ◌++◌, length, map, filter, flat_map, take, arith, unsigned_abs}
 use Rattle.cns_terms.specs.Common.{AllByRecursion, total}
 use Rattle.std.proofs.lemmas.Int.{ints}
 
@@ -43,8 +43,7 @@ added-flat_map f g h (x ∷ xs) le = omega (arith, added-append f (g x) (flat_ma
 
 -- a term that is kept or not
 kept_or_not : {X : Type 0} (f : X → ℕ) (b : Bool) (x : X) (xs : List X) → added f (cond b (x ∷ xs) xs) ≤ f x + added f xs
-kept_or_not f true x xs = omega arith
-kept_or_not f false x xs = omega arith
+kept_or_not f b x xs = grind arith
 
 -- what is kept is no more than all
 pub added-filter : {X : Type 0} (f : X → ℕ) (p : X → Bool) (xs : List X) → added f (filter p xs) ≤ added f xs

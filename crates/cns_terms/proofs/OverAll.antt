@@ -1,5 +1,5 @@
 -- A number for each account in each issue.
-use Rattle.std.proofs.Common.{◌≡◌, ◌∙◌, ap, refl, sym, ℕ, ◌+◌, ◌≤◌, ℤ, pos, Bool, true, false, ◌&&◌, cond, List, [], ◌∷◌, arith, is_eq, is_lt, nat_cmp, Ordering, Less, Equal, Greater, bytes_eq, unsigned_abs}
+use Rattle.std.proofs.Common.{◌≡◌, ◌∙◌, ap, refl, sym, ℕ, ◌+◌, ◌≤◌, ℤ, pos, Bool, true, false, ◌&&◌, cond, List, [], ◌∷◌, arith, is_eq, is_lt, nat_cmp, Ordering, bytes_eq, unsigned_abs}
 use Rattle.cns_terms.specs.Common.{Account, Cusip, Journal, accounts, issues, slice_cmp}
 use Rattle.std.proofs.lemmas.Map.Text.{is_eq-slice_cmp}
 use Rattle.std.proofs.lemmas.Slice.Eq.{bytes_eq-Decides}
@@ -28,15 +28,11 @@ over_add g h K =
 
 -- what comes before another is not the same
 not_same : (r : Ordering) → is_lt r ≡ true → is_eq r ≡ false
-not_same Less h = refl
-not_same Equal h = cc
-not_same Greater h = cc
+not_same r h1 = grind arith
 
 -- an issue's number, where its issue is none of those
 no_term : (b t : Bool) (z : ℤ) (n : ℕ) → t ≡ false → n ≡ 0 → unsigned_abs (cond (b && t) z (pos 0)) + n ≡ 0
-no_term true true z n h e = cc
-no_term true false z n h e = omega (arith, e)
-no_term false t z n h e = omega (arith, e)
+no_term b t z n h1 h2 = grind arith
 
 -- a number given to an issue is given to none of the issues after it
 none_above : (b : Bool) (i c : Cusip) (z : ℤ) (cs : List Cusip) → i ≡ c → above_all (slice_cmp nat_cmp) c cs ≡ true → added (λ d. unsigned_abs (cond (b && bytes_eq i d) z (pos 0))) cs ≡ 0

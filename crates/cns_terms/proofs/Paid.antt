@@ -2,7 +2,6 @@
 use Rattle.std.proofs.Common.{◌≡◌, ◌∙◌, ap, refl, ℕ, ℤ, pos, Bool, true, false, ◌==◌, cond, List, [], ◌∷◌, arith, is_lt, nat_cmp, int_div}
 use Rattle.cns_terms.specs.Common.{Account, AllByRecursion, Cusip, Day, Declared, Journal, Rate, accounts, as_of, cash, dividend, member_dividend, members, total}
 use Rattle.std.proofs.lemmas.Int.{ints}
-use Rattle.std.proofs.lemmas.Bool.Decides.{nat_tests}
 use lib.IntN.{zero-*ℤ}
 use Rattle.cns_terms.specs.Dividends.{due}
 use Rattle.cns_terms.specs.Positions.{position}
@@ -12,15 +11,10 @@ use Rattle.cns_terms.proofs.Totals.{total-same, total-zero}
 
 -- ---- they add up to zero
 
--- a number above 0 is not the corporation's
-pub not_zero : (a : ℕ) → is_lt (nat_cmp 0 a) ≡ true → (a == 0) ≡ false
-not_zero a h = grind (arith, nat_tests)
-
 -- the dividends of members
 of_members : (opening : Day) (K : Journal) (c : Cusip) (ms : List Account) → AllByRecursion (λ a. is_lt (nat_cmp 0 a) ≡ true) ms → total (λ a. dividend opening K a c) ms ≡ total (member_dividend opening K c) ms
 of_members opening K c [] h = refl
-of_members opening K c (a ∷ ms) h =
-    rw (not_zero a h.0, of_members opening K c ms h.1) refl
+of_members opening K c (a ∷ ms) h = grind (arith, of_members opening K c ms h.1)
 
 -- each of a list stands above a number
 each_above : (n : ℕ) (ms : List ℕ) → above_all nat_cmp n ms ≡ true → AllByRecursion (λ a. is_lt (nat_cmp n a) ≡ true) ms
@@ -54,8 +48,7 @@ no_dividend-all : (opening : Day) (K : Journal) (a : Account) (c : Cusip) → ((
 no_dividend-all opening K a c h = either (a == 0) (omega (arith, ints, total-same (member_dividend opening K c) (λ b. pos 0) (members K) h, total-zero (members K))) (h a)
   where
     either : (b : Bool) {x y : ℤ} → x ≡ pos 0 → y ≡ pos 0 → cond b x y ≡ pos 0
-    either true p q = p
-    either false p q = q
+    either b h1 h2 = grind arith
 
 -- or in which no account had shares
 pub no_dividend-issue : (opening : Day) (K : Journal) (c : Cusip) (a : Account) → ((b : Account) (d : Day) → position (as_of opening K d) b c ≡ pos 0) → dividend opening K a c ≡ pos 0

@@ -1,5 +1,5 @@
 -- What a division that is cut towards zero leaves.
-use Rattle.std.proofs.Common.{◌≡◌, subst, ℕ, suc, ◌/◌, ◌≤◌, ◌<◌, ℤ, pos, negsuc, neg_ℤ, ◌+ℤ◌, ◌-ℤ◌, ◌*ℤ◌, int_div, int_rem, arith, unsigned_abs, div-le_self}
+use Rattle.std.proofs.Common.{◌≡◌, subst, ℕ, ◌≤◌, ◌<◌, ℤ, pos, ◌+ℤ◌, ◌-ℤ◌, ◌*ℤ◌, int_div, int_rem, arith, unsigned_abs}
 use Rattle.cns_terms.specs.Common.{Ratio}
 use Rattle.std.proofs.lemmas.Int.{ints, quot-rem, rem_below}
 use Rattle.cns_terms.specs.Conversions.{fraction}
@@ -14,11 +14,7 @@ rest_of a d = part a (int_div a d *ℤ d) (int_rem a d) (quot-rem a d)
 
 -- a quotient is no further from zero than what is divided
 pub quotient_few : (z : ℤ) (n : ℕ) → unsigned_abs (int_div z (pos n)) ≤ unsigned_abs z
-quotient_few (pos k) n = omega (arith, div-le_self k n)
-quotient_few (negsuc k) n = below (suc k / n) (suc k) (div-le_self (suc k) n)
-  where
-    below : (m k : ℕ) → m ≤ k → unsigned_abs (neg_ℤ (pos m)) ≤ k
-    below m k h = omega (arith, ints, h)
+quotient_few z n = grind arith
 
 -- the cut leaves less than a new share
 pub fraction_few : (q : ℤ) (r : Ratio) → 1 ≤ r.old → unsigned_abs (fraction r q) ≤ r.old

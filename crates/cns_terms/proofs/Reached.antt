@@ -1,6 +1,6 @@
 -- What is so of each journal that commands reach.
-use Rattle.std.proofs.Common.{◌≡◌, ap, refl, ℕ, ◌+◌, ◌*◌, ◌≤◌, ℤ, pos, ◌+ℤ◌, Bool, true, false, cond, List, [], ◌∷◌, length, is_none, Option, Some, None, arith, filter_map, unsigned_abs, is_lt, nat_cmp}
-use Rattle.cns_terms.specs.Common.{Activity, AllByRecursion, Command, Cusip, Day, Declared, IsInRange, IsReached, Journal, State, account_lt, accounts, activities, after, booking_limit, closings, corporation_limit, dividends, is_close, journal, member_limit, members, next, opened, position_limit, posting, rate_limit, refusal, total}
+use Rattle.std.proofs.Common.{◌≡◌, ap, ℕ, ◌+◌, ◌*◌, ◌≤◌, ℤ, pos, ◌+ℤ◌, Bool, true, cond, List, [], ◌∷◌, length, is_none, Option, None, arith, filter_map, unsigned_abs, is_lt, nat_cmp}
+use Rattle.cns_terms.specs.Common.{Activity, AllByRecursion, Command, Cusip, Day, Declared, IsInRange, IsReached, Journal, State, account_lt, accounts, activities, after, booking_limit, closings, corporation_limit, dividends, is_close, journal, member_limit, members, next, opened, position_limit, posting, rate_limit, total}
 use Rattle.std.proofs.lemmas.Bool.Decides.{nat_tests}
 use Rattle.std.proofs.lemmas.Int.{ints}
 use Rattle.cns_terms.specs.declared.refusal.Refusal.{Refusal}
@@ -9,9 +9,7 @@ use Rattle.cns_terms.specs.Listings.{added}
 use Rattle.cns_terms.specs.Positions.{position}
 use Rattle.cns_terms.specs.Reached.{IsCommandInRange}
 use Rattle.cns_terms.specs.Refusals.{rules}
-use Rattle.cns_terms.specs.declared.command.Activity.TheVariants as activity
 use Rattle.cns_terms.proofs.Balanced.{entries_balanced}
-use Rattle.cns_terms.specs.declared.command.Command.TheVariants as command
 use Rattle.cns_terms.proofs.Facts.{and_left, and_right}
 use Rattle.cns_terms.proofs.Everywhere.{each_in_order, each_weaker}
 use Rattle.cns_terms.proofs.Limits.{AreFewHolders, AreWithin, HasFewCents, IsNear, booked_few, cents_of, money_few, near, waiting_cents, within-post}
@@ -26,8 +24,7 @@ AreNumbered J = AllByRecursion (λ a. a ≤ member_limit) (filter_map added (act
 
 -- an activity in its ranges keeps them so
 numbered-post : (opening : Day) (J : Journal) (x : Activity) → IsInRange x → AreNumbered J → AreNumbered (posting opening J x ∷ J)
-numbered-post opening J (activity.Member m) n h = (n, h)
-numbered-post opening J _ n h = h
+numbered-post opening J x h1 h2 = grind arith
 
 -- the rates of the dividends are within their limit
 abbrev pub AreSmallRates : List Declared → Type 0
@@ -35,8 +32,7 @@ AreSmallRates ds = AllByRecursion (λ d. d.rate ≤ rate_limit) ds
 
 -- and an activity in its ranges keeps them so
 rates-post : (opening : Day) (J : Journal) (x : Activity) → IsInRange x → AreSmallRates (dividends J) → AreSmallRates (dividends (posting opening J x ∷ J))
-rates-post opening J (activity.Dividend d) n h = (n, h)
-rates-post opening J _ n h = h
+rates-post opening J x h1 h2 = grind arith
 
 -- a journal that commands reach is sound and balanced, and members' numbers, their positions, cents and rates are within their limits
 pub record IsLimited (opening : Day) (J : Journal) : Type 0 where
@@ -126,8 +122,7 @@ limited opening (x ∷ L) r =
 
 -- the journals of the closes, after an activity that ends a day or not
 past_if : (opening : Day) (b : Bool) (J : Journal) → IsLimited opening J → AllByRecursion (IsLimited opening) (closings J) → AllByRecursion (IsLimited opening) (cond b (J ∷ closings J) (closings J))
-past_if opening true J l past = (l, past)
-past_if opening false J l past = past
+past_if opening b J h1 h2 = grind arith
 
 -- and so had it at each close
 pub limited_past : (opening : Day) (L : List Activity) → IsReached opening L → AllByRecursion (IsLimited opening) (closings (journal opening L))
@@ -148,17 +143,10 @@ bounded opening J c l =
 
 -- no refusal, told by a test
 none : (o : Option Refusal) → is_none o ≡ true → o ≡ None
-none None h = refl
-none (Some r) h = cc
-
-reached_if : (opening : Day) (L : List Activity) (x : Activity) → IsInRange x → IsReached opening L → (b : Bool) → is_none (refusal opening (journal opening L) (command.Activity x)) ≡ b → IsReached opening (cond b (x ∷ L) L)
-reached_if opening L x n r true h = (n, none _ h, r)
-reached_if opening L x n r false h = r
+none o h1 = grind arith
 
 reached-next : (S : State) (cmd : Command) → IsCommandInRange cmd → IsReached S.opening S.accepted → IsReached S.opening (next S cmd).accepted
-reached-next S (command.Activity x) n r = reached_if S.opening S.accepted x n r _ refl
-reached-next S (command.Position k) n r = r
-reached-next S (command.Statement a d) n r = r
+reached-next S cmd h1 h2 = grind arith
 
 -- and so do commands
 pub reached-from : (S : State) (cmds : List Command) → AllByRecursion IsCommandInRange cmds → IsReached S.opening S.accepted → IsReached S.opening (after S cmds).accepted

@@ -1,8 +1,9 @@
 -- Lists that strictly rise.
-use Rattle.std.proofs.Common.{◌≡◌, ◌∙◌, ap, refl, Bool, true, false, ◌&&◌, cond, List, [], ◌∷◌, is_eq, is_lt, Ordering, Less, Equal, Greater}
-use Rattle.cns_terms.specs.Common.{IsTotalOrder, list_any, ordering_reverse}
+use Rattle.std.proofs.Common.{◌≡◌, ap, refl, Bool, true, false, ◌&&◌, cond, List, [], ◌∷◌, is_eq, is_lt, Ordering, Less, Greater}
+use Rattle.cns_terms.specs.Common.{IsTotalOrder, list_any}
 use Rattle.cns_terms.specs.Sums.{put}
 use Rattle.cns_terms.proofs.Facts.{and_left, and_right, both_true, less, neither}
+use Rattle.std.proofs.Common.{arith}
 
 -- whether x comes before each
 abbrev pub above_all : {K : Type 0} → (K → K → Ordering) → K → List K → Bool
@@ -15,9 +16,7 @@ is_rising R [] = true
 is_rising R (x ∷ xs) = above_all R x xs && is_rising R xs
 
 greater : (r : Ordering) → is_lt r ≡ false → is_eq r ≡ false → r ≡ Greater
-greater Less p q = cc
-greater Equal p q = cc
-greater Greater p q = refl
+greater r h1 h2 = grind arith
 
 module _ {K : Type 0} {R : K → K → Ordering} (o : IsTotalOrder R) where
   -- what comes before one that comes before all comes before all
@@ -26,8 +25,7 @@ module _ {K : Type 0} {R : K → K → Ordering} (o : IsTotalOrder R) where
   above_through x y (z ∷ ys) l h = both_true _ _ (ap is_lt (o.trans x y z l (less _ (and_left _ _ h)))) (above_through x y ys l (and_right _ _ h))
 
   above_branch : (b : Bool) (y x z : K) (zs ps : List K) → is_lt (R y x) ≡ true → is_lt (R y z) ≡ true → above_all R y zs ≡ true → above_all R y ps ≡ true → above_all R y (cond b (x ∷ z ∷ zs) (z ∷ ps)) ≡ true
-  above_branch true y x z zs ps p q r s = both_true _ _ p (both_true _ _ q r)
-  above_branch false y x z zs ps p q r s = both_true _ _ q s
+  above_branch b y x z zs ps h1 h2 h3 h4 = grind arith
 
   -- one more put in its place stays above what comes before it
   pub above_put : (y x : K) (zs : List K) → is_lt (R y x) ≡ true → above_all R y zs ≡ true → above_all R y (put (λ a b. is_lt (R a b)) x zs) ≡ true
@@ -35,10 +33,8 @@ module _ {K : Type 0} {R : K → K → Ordering} (o : IsTotalOrder R) where
   above_put y x (z ∷ zs) p h = above_branch (is_lt (R x z)) y x z zs (put (λ a b. is_lt (R a b)) x zs) p (and_left _ _ h) (and_right _ _ h) (above_put y x zs p (and_right _ _ h))
 
   rising_branch : (b : Bool) (x y : K) (ys : List K) → is_lt (R x y) ≡ b → is_eq (R x y) ≡ false → above_all R y ys ≡ true → is_rising R ys ≡ true → is_rising R (put (λ a b. is_lt (R a b)) x ys) ≡ true → is_rising R (cond b (x ∷ y ∷ ys) (y ∷ put (λ a b. is_lt (R a b)) x ys)) ≡ true
-  rising_branch true x y ys l e above rising rest =
-      both_true _ _ (both_true _ _ l (above_through x y ys (less _ l) above)) (both_true _ _ above rising)
-  rising_branch false x y ys l e above rising rest =
-      both_true _ _ (above_put y x ys (ap is_lt (o.antisymm y x ∙ ap ordering_reverse (greater _ l e))) above) rest
+  rising_branch true x y ys l e above rising rest = grind (arith, above_through)
+  rising_branch false x y ys l e above rising rest = grind (arith, above_put)
 
   -- a list in order to which one is added that does not stand in it
   pub rising_put : (x : K) (ys : List K) → is_rising R ys ≡ true → list_any (λ y. is_eq (R x y)) ys ≡ false → is_rising R (put (λ a b. is_lt (R a b)) x ys) ≡ true

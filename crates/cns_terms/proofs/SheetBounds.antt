@@ -1,12 +1,11 @@
 -- Sums and counts over the rows of a sheet.
-use Rattle.std.proofs.Common.{◌≡◌, ◌∙◌, ap, refl, ℕ, ◌+◌, ◌*◌, ◌≤◌, ℤ, pos, ◌+ℤ◌, Bool, true, false, not, cond, ◌==◌, suc, zero, List, [], ◌∷◌, length, map, filter, flat_map, arith, length-append}
+use Rattle.std.proofs.Common.{◌≡◌, ◌∙◌, ap, refl, ℕ, ◌+◌, ◌*◌, ◌≤◌, ℤ, pos, ◌+ℤ◌, Bool, true, false, not, cond, ◌==◌, List, [], ◌∷◌, length, map, filter, flat_map, arith, length-append}
 use Rattle.cns_terms.specs.Common.{Account, Activity, Cusip, Day, Entry, Journal, Row, accounts, is_idle, issue_lt, issues, open_day, row, rows_of, same_issue, sheet_rows, total}
 use Rattle.std.proofs.lemmas.List.Elements.{filter-append}
 use Rattle.cns_terms.specs.Sums.{put}
 use Rattle.cns_terms.proofs.Facts.{eqb_sym}
 use Rattle.cns_terms.proofs.Accounts.{occurs}
 use Rattle.cns_terms.proofs.Reached.{IsLimited, sound_journal}
-use Rattle.cns_terms.specs.declared.command.Activity.TheVariants as activity
 use Rattle.cns_terms.proofs.SheetSums.{idle_parts, kept_or_not, total-flat_map}
 use Rattle.cns_terms.proofs.Sound.{IsSound}
 use Rattle.cns_terms.proofs.Totals.{total-same, total-swap, total-zero}
@@ -19,8 +18,7 @@ one_issue true f bs h = h
 one_issue false f bs h = total-zero bs
 
 no_number : (b : Bool) (q : ℤ) → q ≡ pos 0 → cond b q (pos 0) ≡ pos 0
-no_number true q h = h
-no_number false q h = refl
+no_number b q h1 = grind arith
 
 module _ (opening : Day) (K : Journal) (f : Row → ℤ) (idle : (r : Row) → not (is_idle r) ≡ false → f r ≡ pos 0) where
   -- a number of a row, if it is in the issue
@@ -53,8 +51,7 @@ moneys_zero opening K c l = zero_in_issue opening K (λ r. r.money) (λ r h. (id
 -- ---- how many rows an account has
 
 one_more : (b : Bool) (x : Row) (xs : List Row) (n : ℕ) → length xs ≤ n → length (cond b (x ∷ xs) xs) ≤ n + 1
-one_more true x xs n h = omega (arith, h)
-one_more false x xs n h = omega (arith, h)
+one_more b x xs n h1 = grind arith
 
 few_rows : (p : Row → Bool) (rs : List Row) → length (filter p rs) ≤ length rs
 few_rows p [] = omega arith
@@ -71,20 +68,17 @@ others opening K a b (c ∷ cs) h = dropped (not (is_idle (row opening K b c))) 
   where
     dropped : (t : Bool) → filter (λ r. r.account == a) (filter (λ r. not (is_idle r)) (map (row opening K b) cs)) ≡ []
         → filter (λ r. r.account == a) (cond t (row opening K b c ∷ filter (λ r. not (is_idle r)) (map (row opening K b) cs)) (filter (λ r. not (is_idle r)) (map (row opening K b) cs))) ≡ []
-    dropped true e = ap (λ t. cond t (row opening K b c ∷ filter (λ r. r.account == a) (filter (λ r. not (is_idle r)) (map (row opening K b) cs))) (filter (λ r. r.account == a) (filter (λ r. not (is_idle r)) (map (row opening K b) cs)))) h ∙ e
-    dropped false e = e
+    dropped t h1 = grind arith
 
 -- an account's rows in some issues
 abbrev rows_in : Day → Journal → Account → List Cusip → List Row
 rows_in opening K b cs = filter (λ r. not (is_idle r)) (map (row opening K b) cs)
 
 of_one : (opening : Day) (K : Journal) (a b : Account) (cs : List Cusip) (t : Bool) → (b == a) ≡ t → length (filter (λ r. r.account == a) (rows_in opening K b cs)) ≤ cond t 1 0 * length cs
-of_one opening K a b cs true h = omega (arith, few_rows (λ r. r.account == a) (rows_in opening K b cs), few_rows (λ r. not (is_idle r)) (map (row opening K b) cs), map_len (row opening K b) cs)
-of_one opening K a b cs false h = rw (others opening K a b cs h) (omega arith)
+of_one opening K a b cs t h1 = grind (arith, few_rows, map_len, others)
 
 summed : (t : Bool) (n m o k : ℕ) → n ≤ cond t 1 0 * k → m ≤ o * k → n + m ≤ (cond t 1 0 + o) * k
-summed true n m o k p q = omega (arith, p, q)
-summed false n m o k p q = omega (arith, p, q)
+summed t n m o k h1 h2 = grind arith
 
 of_accounts : (opening : Day) (K : Journal) (a : Account) (bs : List Account) (cs : List Cusip) → length (filter (λ r. r.account == a) (flat_map (λ b. rows_in opening K b cs) bs)) ≤ occurs a bs * length cs
 of_accounts opening K a [] cs = omega arith
@@ -95,26 +89,21 @@ of_accounts opening K a (b ∷ bs) cs =
 
 -- once at most
 pub at_most_one : (o n : ℕ) → o ≤ 1 → o * n ≤ n
-at_most_one zero n h = omega arith
-at_most_one (suc zero) n h = omega arith
-at_most_one (suc (suc o)) n h = absurd (omega (arith, h))
+at_most_one o n h1 = grind arith
 
 -- no account has more rows than there are issues
 pub rows_few : (opening : Day) (K : Journal) (a : Account) → IsSound K → length (filter (λ r. r.account == a) (sheet_rows opening K)) ≤ length (issues K)
 rows_few opening K a s = omega (arith, of_accounts opening K a (accounts K) (issues K), at_most_one (occurs a (accounts K)) (length (issues K)) (s.distinct a))
 
 put_branch : (b : Bool) (c d : Cusip) (cs ds : List Cusip) → length ds ≡ length cs + 1 → length (cond b (c ∷ d ∷ cs) (d ∷ ds)) ≡ length (d ∷ cs) + 1
-put_branch true c d cs ds h = omega arith
-put_branch false c d cs ds h = omega (arith, h)
+put_branch b c d cs ds h1 = grind arith
 
 put_len : (c : Cusip) (cs : List Cusip) → length (put issue_lt c cs) ≡ length cs + 1
 put_len c [] = refl
 put_len c (d ∷ cs) = put_branch (issue_lt c d) c d cs (put issue_lt c cs) (put_len c cs)
 
 issues-post : (x : Activity) (es : List Entry) (K : Journal) → length (issues K) ≤ length K → length (issues (record { activity = x; entries = es } ∷ K)) ≤ length K + 1
-issues-post (activity.Issue l) es K h = omega (arith, put_len l.issue (issues K), h)
-issues-post (activity.Member m) es K h = omega (arith, h)
-issues-post _ es K h = omega (arith, h)
+issues-post x es K h1 = grind (arith, put_len)
 
 -- no more issues than postings
 pub issues_few : (K : Journal) → length (issues K) ≤ length K

@@ -1,10 +1,11 @@
 -- What the sheet of a close asks of its amounts, and of the dividends that it pays.
-use Rattle.std.proofs.Common.{◌≡◌, ◌∙◌, sym, ap, refl, ℕ, suc, ◌+◌, ◌*◌, ◌^◌, ◌≤◌, ◌<◌, ℤ, pos, ◌+ℤ◌, Bool, true, false, not, ◌&&◌, ◌==◌, cond, List, [], ◌∷◌, length, filter, take, arith, bytes_eq, unsigned_abs, sum_by}
-use Rattle.cns_terms.proofs.Common.{Account, AllByRecursion, Cusip, Day, Declared, IsLimited, Journal, Posting, Rate, Row, accounts, added, added-all, added-more, amount_limit, bounded, bytes_eq-Decides, cash, closings, dividends, each_weaker, front_total, history_limit, in_order, ints, is_close, issues, members, members_few, nat_list_eq_equiv, nat_tests, occurs, one_issue, over_all, pays_before, rate_limit, row, rows_for, sheet_rows, sum_by-cons, total}
+use Rattle.std.proofs.Common.{◌≡◌, ◌∙◌, sym, ap, refl, ℕ, suc, ◌+◌, ◌*◌, ◌^◌, ◌≤◌, ◌<◌, ℤ, pos, ◌+ℤ◌, Bool, true, not, ◌&&◌, ◌==◌, cond, List, [], ◌∷◌, length, filter, take, arith, bytes_eq, unsigned_abs, sum_by}
+use Rattle.cns_terms.proofs.Waiting.{sum_added}
+use Rattle.cns_terms.proofs.Common.{Account, AllByRecursion, Cusip, Day, Declared, IsLimited, Journal, Posting, Rate, Row, accounts, added, added-all, added-more, amount_limit, bytes_eq-Decides, cash, closings, dividends, each_weaker, front_total, history_limit, in_order, ints, is_close, issues, members, members_few, nat_list_eq_equiv, nat_tests, occurs, one_issue, over_all, pays_before, rate_limit, row, rows_for, sheet_rows, total}
 use Rattle.cns_terms.specs.Positions.{position}
 use Rattle.cns_terms.specs.Sums.{put}
 use Rattle.cns_terms.proofs.Amounts.{cents_small, rows_small}
-use Rattle.cns_terms.proofs.DividendBounds.{cash_limit, cash_small, dividends_few, dividends_small}
+use Rattle.cns_terms.proofs.DividendBounds.{cash_limit, dividends_few, dividends_small}
 use Rattle.cns_terms.proofs.Magnitudes.{added-filter}
 use Rattle.cns_terms.proofs.Sound.{grown-post}
 
@@ -12,9 +13,7 @@ use Rattle.cns_terms.proofs.Sound.{grown-post}
 
 -- the first of an account's rows, where the numbers of all rows are small
 account_rows : (opening : Day) (K : Journal) (a : Account) (n : ℕ) (f : Row → ℤ) → over_all (λ b c. unsigned_abs (f (row opening K b c))) K ≤ amount_limit → unsigned_abs (total f (take n (rows_for (sheet_rows opening K) a))) ≤ amount_limit
-account_rows opening K a n f h =
-    front_total f n amount_limit (rows_for (sheet_rows opening K) a)
-    (omega (arith, added-filter (λ (r : Row). unsigned_abs (f r)) (λ r. r.account == a) (sheet_rows opening K), rows_small opening K (λ r. unsigned_abs (f r)), h))
+account_rows opening K a n f h = grind (arith, front_total, added-filter, rows_small)
 
 -- the cents of an account's first rows
 pub account_cents_small : (opening : Day) (K : Journal) (a : Account) (n : ℕ) → IsLimited opening K → length K < history_limit → unsigned_abs (total (λ r. r.money) (take n (rows_for (sheet_rows opening K) a))) ≤ amount_limit
@@ -26,11 +25,6 @@ account_dividends_small opening K a n l past few = account_rows opening K a n (�
 
 -- ---- what a dividend pays all members
 
--- std's sum of natural numbers is the one of these proofs
-summed : {X : Type 0} (f : X → ℕ) (xs : List X) → sum_by f xs ≡ added f xs
-summed f [] = refl
-summed f (x ∷ xs) = sum_by-cons f x xs ∙ ap (λ n. f x + n) (summed f xs)
-
 module _ (opening : Day) (K : Journal) (l : IsLimited opening K) (c : Cusip) (rate : Rate) (low : rate ≤ rate_limit) where
   -- the cash of a member in the issue, and nothing for the corporation
   abbrev cash_of : Account → ℤ
@@ -38,22 +32,11 @@ module _ (opening : Day) (K : Journal) (l : IsLimited opening K) (c : Cusip) (ra
 
   -- it is small
   cash_few : (a : Account) → unsigned_abs (cash_of a) ≤ cash_limit
-  cash_few a = by (a == 0) refl
-    where
-      from_one : (a : ℕ) → (a == 0) ≡ false → 1 ≤ a
-      from_one a h = grind (arith, nat_tests)
-
-      by : (b : Bool) → (a == 0) ≡ b → unsigned_abs (cond (not b) (cash (position K a c) rate) (pos 0)) ≤ cash_limit
-      by true e = omega arith
-      by false e = cash_small (position K a c) rate ((bounded opening K c l).members a (from_one a e)) low
+  cash_few a = grind (arith, ints)
 
   -- a row's cash is that of its account, or nothing
   row_few : (a : Account) (d : Cusip) → unsigned_abs (cond (bytes_eq d c && not (a == 0)) (cash (position K a d) rate) (pos 0)) ≤ unsigned_abs (cond (true && bytes_eq c d) (cash_of a) (pos 0))
-  row_few a d = by (bytes_eq d c) refl
-    where
-      by : (b : Bool) → bytes_eq d c ≡ b → unsigned_abs (cond (bytes_eq d c && not (a == 0)) (cash (position K a d) rate) (pos 0)) ≤ unsigned_abs (cond (true && bytes_eq c d) (cash_of a) (pos 0))
-      by true e = rw (e, nat_list_eq_equiv.symm c d ∙ e, (bytes_eq-Decides d c).0 e) (omega arith)
-      by false e = rw e (omega arith)
+  row_few a d = grind (arith, bytes_eq-Decides)
 
   -- few members, and little cash for each
   few_paid : (m n : ℕ) → m ≤ cash_limit * (1 + n) → n ≤ 9999 → m ≤ 10 ^ 21
@@ -63,7 +46,7 @@ module _ (opening : Day) (K : Journal) (l : IsLimited opening K) (c : Cusip) (ra
   pub payable : sum_by (λ r. unsigned_abs (cond (bytes_eq r.issue c && not (r.account == 0)) (cash r.closing rate) (pos 0))) (sheet_rows opening K) ≤ 10 ^ 21
   payable =
       let f : Row → ℕ = λ r. unsigned_abs (cond (bytes_eq r.issue c && not (r.account == 0)) (cash r.closing rate) (pos 0)) in
-      rw (summed f (sheet_rows opening K))
+      rw (sum_added f (sheet_rows opening K))
       (few_paid _ (length (members K))
       (omega (
         arith,
@@ -82,11 +65,7 @@ module _ (opening : Day) (K : Journal) (l : IsLimited opening K) (c : Cusip) (ra
 -- one more put in its place
 total-put : {X : Type 0} (f : X → ℤ) (before : X → X → Bool) (x : X) (ys : List X) → total f (put before x ys) ≡ f x +ℤ total f ys
 total-put f before x [] = refl
-total-put f before x (y ∷ ys) = by (before x y) (total-put f before x ys)
-  where
-    by : (b : Bool) → total f (put before x ys) ≡ f x +ℤ total f ys → total f (cond b (x ∷ y ∷ ys) (y ∷ put before x ys)) ≡ f x +ℤ (f y +ℤ total f ys)
-    by true h = refl
-    by false h = omega (arith, ints, h)
+total-put f before x (y ∷ ys) = grind (arith, nat_tests, total-put f before x ys)
 
 -- an order leaves a sum as it is
 total-in_order : {X : Type 0} (f : X → ℤ) (before : X → X → Bool) (xs : List X) → total f (in_order before xs) ≡ total f xs
@@ -96,11 +75,7 @@ total-in_order f before (x ∷ xs) = total-put f before x (in_order before xs) �
 -- a sum over what is kept
 total-kept : {X : Type 0} (f : X → ℤ) (p : X → Bool) (xs : List X) → total f (filter p xs) ≡ total (λ x. cond (p x) (f x) (pos 0)) xs
 total-kept f p [] = refl
-total-kept f p (x ∷ xs) = by (p x) (total-kept f p xs)
-  where
-    by : (b : Bool) → total f (filter p xs) ≡ total (λ x. cond (p x) (f x) (pos 0)) xs → total f (cond b (x ∷ filter p xs) (filter p xs)) ≡ cond b (f x) (pos 0) +ℤ total (λ x. cond (p x) (f x) (pos 0)) xs
-    by true h = ap (λ n. f x +ℤ n) h
-    by false h = omega (arith, ints, h)
+total-kept f p (x ∷ xs) = grind (arith, total-kept f p xs)
 
 -- of what is due, that of one issue
 pub total-due : (f : Declared → ℤ) (p : Declared → Bool) (c : Cusip) (ds : List Declared) → total (λ d. cond (bytes_eq c d.issue) (f d) (pos 0)) (filter p (in_order pays_before ds)) ≡ total f (filter (λ d. bytes_eq d.issue c && p d) ds)
@@ -111,18 +86,14 @@ total-due f p c ds =
     ∙ sym (total-kept f (λ d. bytes_eq d.issue c && p d) ds)
   where
     by : (b t : Bool) (z : ℤ) → cond b (cond t z (pos 0)) (pos 0) ≡ cond (t && b) z (pos 0)
-    by true true z = refl
-    by true false z = refl
-    by false true z = refl
-    by false false z = refl
+    by b t z = grind arith
 
     same : (d : Declared) → cond (p d) (cond (bytes_eq c d.issue) (f d) (pos 0)) (pos 0) ≡ cond (bytes_eq d.issue c && p d) (f d) (pos 0)
     same d = by (p d) (bytes_eq c d.issue) (f d) ∙ ap (λ t. cond (t && p d) (f d) (pos 0)) (nat_list_eq_equiv.symm c d.issue)
 
 -- one more, or not
 kept_len : {X : Type 0} (b : Bool) (x : X) (xs : List X) (n : ℕ) → length xs ≤ n → length (cond b (x ∷ xs) xs) ≤ suc n
-kept_len true x xs n h = omega (arith, h)
-kept_len false x xs n h = omega (arith, h)
+kept_len b x xs n h1 = grind arith
 
 -- what is kept is no more
 filter_len : {X : Type 0} (p : X → Bool) (xs : List X) → length (filter p xs) ≤ length xs
@@ -132,11 +103,7 @@ filter_len p (x ∷ xs) = kept_len (p x) x (filter p xs) (length xs) (filter_len
 -- an order keeps the count
 put_len : {X : Type 0} (before : X → X → Bool) (x : X) (ys : List X) → length (put before x ys) ≡ suc (length ys)
 put_len before x [] = refl
-put_len before x (y ∷ ys) = by (before x y) (put_len before x ys)
-  where
-    by : (b : Bool) → length (put before x ys) ≡ suc (length ys) → length (cond b (x ∷ y ∷ ys) (y ∷ put before x ys)) ≡ suc (suc (length ys))
-    by true h = refl
-    by false h = ap suc h
+put_len before x (y ∷ ys) = grind (arith, put_len before x ys)
 
 order_len : {X : Type 0} (before : X → X → Bool) (xs : List X) → length (in_order before xs) ≡ length xs
 order_len before [] = refl
@@ -158,8 +125,7 @@ grown p J Ks h = each_weaker (λ (K : Journal). (a : ℕ) → occurs a (accounts
 
 -- the journals of the closes, after an activity that ends a day or not
 grown_if : (b : Bool) (p : Posting) (J : Journal) → AreAmong J (closings J) → AreAmong (p ∷ J) (cond b (J ∷ closings J) (closings J))
-grown_if true p J h = (grown-post p J, grown p J (closings J) h)
-grown_if false p J h = grown p J (closings J) h
+grown_if b p J h1 = grind (arith, grown)
 
 pub accounts_grew : (J : Journal) → AreAmong J (closings J)
 accounts_grew [] = tt

@@ -56,8 +56,7 @@ dividends_of_rows opening K a (c ∷ cs) =
 -- ---- the journal before a sound one is sound
 
 before_or_earlier : (bs : List Account) (b : Bool) (K : Journal) → AreSound bs K → AreSound bs (last_close K) → AreSound bs (unwrap_or (slice_get (cond b (K ∷ closings K) (closings K)) 0) [])
-before_or_earlier bs true K h e = h
-before_or_earlier bs false K h e = e
+before_or_earlier bs b K h1 h2 = grind arith
 
 sound_before : (bs : List Account) (K : Journal) → AreSound bs K → AreSound bs (last_close K)
 sound_before bs [] h = tt

@@ -2,12 +2,13 @@
 use Rattle.std.proofs.Common.{◌≡◌, ℕ, ◌+◌, ◌≤◌, ℤ, pos, ◌-ℤ◌, neg_ℤ, Bool, true, false, not, cond, ◌&&◌, ◌==◌, List, [], ◌∷◌, find, length, map, is_none, Option, Some, None, slice_get, unwrap_or, filter, flat_map, refl, sym, ◌∙◌, ap, arith, IfSome, bytes_eq, filter_map, int_lt, is_lt, nat_cmp, eqb-true}
 use Rattle.cns_terms.specs.Common.{Account, Activity, AllByRecursion, Command, Cusip, Day, Entry, Execution, Journal, Notice, Pend, Posting, Rule, State, accounts, activities, after, against_corporation, at_close, closings, converted, corporation, date, day, day_number, entries, entry, execution_entries, fill_entry, fills, first_refusal, holders, in_exchange, in_lieu, is_close, is_listed, is_member, is_not_after, issue_lt, issues, journal, journal_of, last_close, list_any, members, new_entry, next, notice, notice_at, notices, old_entry, opened, option_map_or, pend_of, pending, posting, price, priced, refusal, slice_cmp, trade_entries, trades}
 use Rattle.std.proofs.lemmas.Bool.Decides.{nat_tests}
+use Rattle.std.proofs.lemmas.Bool.{not-false}
 use Rattle.std.proofs.lemmas.Slice.Eq.{bytes_eq-Decides}
 use Rattle.std.proofs.lemmas.Cmp.{nat_cmp_total, nat_list_cmp_total}
 use Rattle.cns_terms.specs.Pending.{due, is_due}
 use Rattle.cns_terms.specs.Positions.{position}
 use Rattle.cns_terms.specs.Refusals.{rules}
-use Rattle.cns_terms.proofs.Facts.{and_left, and_right, both_true, holds, later, less_less, nat_eq_test, neither, or_right, price_branch, same_test}
+use Rattle.cns_terms.proofs.Facts.{and_left, and_right, both_true, later, less_less, nat_eq_test, neither, price_branch, same_test}
 use Rattle.cns_terms.proofs.Accounts.{occurs, occurs-put, occurs_found, occurs_missing}
 use Rattle.cns_terms.proofs.BuyIns.{each_named, fills_each}
 use Rattle.cns_terms.proofs.EntrySums.{entries_for}
@@ -59,8 +60,7 @@ pub record IsWhole (opening : Day) (J : Journal) : Type 0 where
 -- ---- the start
 
 one_account : (b : Bool) → cond b 1 0 + 0 ≤ 1
-one_account true = omega arith
-one_account false = omega arith
+one_account b = grind arith
 
 pub sound_nil : IsSound []
 sound_nil = record { distinct = λ a. one_account (a == 0); known = tt; accounts_rise = refl; issues_rise = refl; issued = tt; unpriced = λ c h. refl; noticed = tt; traded = tt }
@@ -71,8 +71,7 @@ abbrev pub NoneHolds : List Rule → Type 0
 NoneHolds rs = is_none (first_refusal rs) ≡ true
 
 first_fails : (r : Rule) (rs : List Rule) → NoneHolds (r ∷ rs) → (r.1 ≡ false) × NoneHolds rs
-first_fails (f, true) rs h = cc
-first_fails (f, false) rs h = (refl, h)
+first_fails r rs h1 = grind arith
 
 -- of an activity that is not refused, no rule's condition holds
 pub all_fail : (rs : List Rule) → NoneHolds rs → AllByRecursion (λ (r : Rule). r.1 ≡ false) rs
@@ -80,9 +79,7 @@ all_fail [] h = tt
 all_fail (r ∷ rs) h = let e = first_fails r rs h in (e.0, all_fail rs e.1)
 
 pub both_hold : (x y : Bool) → not (x && y) ≡ false → (x ≡ true) × (y ≡ true)
-both_hold true true h = (refl, refl)
-both_hold true false h = cc
-both_hold false y h = cc
+both_hold x y h1 = grind arith
 
 member_in : (J : Journal) (a : ℕ) → is_member J a ≡ true → IsIn J a
 member_in J a h = let e = occurs_found a (members J) h in omega arith
@@ -96,8 +93,7 @@ zero_in J = omega arith
 pub grown-post : (p : Posting) (J : Journal) (a : ℕ) → occurs a (accounts J) ≤ occurs a (accounts (p ∷ J))
 grown-post p J a = by p.activity where
   by : (x : Activity) → occurs a (accounts J) ≤ occurs a (accounts (record { activity = x; entries = p.entries } ∷ J))
-  by (activity.Member m) = rw (occurs-put a m (members J)) (omega arith)
-  by _ = omega arith
+  by x = grind (arith, occurs-put)
 
 -- those of the closes are there still
 closed_known : (J : Journal) → AllByRecursion (λ K. (a : ℕ) → occurs a (accounts K) ≤ occurs a (accounts J)) (closings J)
@@ -107,8 +103,7 @@ closed_known (p ∷ J) =
     by (is_close p.activity) (each_weaker (λ K. (a : ℕ) → occurs a (accounts K) ≤ occurs a (accounts J)) (λ K. (a : ℕ) → occurs a (accounts K) ≤ occurs a (accounts (p ∷ J))) (closings J) later (closed_known J))
   where
     by : (b : Bool) → AllByRecursion (λ K. (a : ℕ) → occurs a (accounts K) ≤ occurs a (accounts (p ∷ J))) (closings J) → AllByRecursion (λ K. (a : ℕ) → occurs a (accounts K) ≤ occurs a (accounts (p ∷ J))) (cond b (J ∷ closings J) (closings J))
-    by true h = (grown-post p J, h)
-    by false h = h
+    by b h1 = grind (arith, grown-post)
 
 -- who was a member at a close is one of the accounts
 closed_in : (J : Journal) (n : ℕ) → AllByRecursion (IsIn J) (members (at_close J n))
@@ -123,21 +118,27 @@ closed_in J n =
 abbrev AreIn : Journal → List Entry → Type 0
 AreIn J es = AllByRecursion (λ e. IsIn J e.account) es
 
--- so do the corporation and members with an entry each
-against_in : (J : Journal) (c : Cusip) (shares cents q : Account → ℤ) → AreIn J (against_corporation c (entries_for c shares cents (holders q (members J))))
-against_in J c shares cents q =
+-- an entry is for one of the accounts, in a listed issue
+abbrev IsKnown : Journal → Entry → Type 0
+IsKnown J e = IsIn J e.account × (is_listed J e.issue ≡ true)
+
+abbrev AreKnownEntries : Journal → List Entry → Type 0
+AreKnownEntries J es = AllByRecursion (IsKnown J) es
+
+-- the corporation and members with an entry each, in a listed issue
+against_known : (J : Journal) (c : Cusip) (shares cents q : Account → ℤ) → is_listed J c ≡ true → AreKnownEntries J (against_corporation c (entries_for c shares cents (holders q (members J))))
+against_known J c shares cents q h =
     let each : AllByRecursion (IsIn J) (members J) = each_weaker (λ a. 1 ≤ occurs a (members J)) (IsIn J) (members J) (λ a p. omega arith) (each_stands (members J)) in
-    (zero_in J, each_map (λ e. IsIn J e.account) (λ a. entry a c (shares a) (cents a)) (holders q (members J)) (each_filter (IsIn J) _ (members J) each))
+    ((zero_in J, h), each_map (IsKnown J) (λ a. entry a c (shares a) (cents a)) (holders q (members J)) (each_weaker (IsIn J) (λ a. IsIn J a × (is_listed J c ≡ true)) (holders q (members J)) (λ a p. (p, h)) (each_filter (IsIn J) _ (members J) each)))
 
 -- and the members of an execution
-executed_in : (J : Journal) (x : Execution) (o : Option Notice) → IfSome o (IsNoticed J) → AreIn J (option_map_or (execution_entries J x) o [])
-executed_in J x None h = tt
-executed_in J x (Some k) h = (h.0, each_map (λ (e : Entry). IsIn J e.account) (fill_entry k) (fills J x k) (fills_each (IsIn J) J x k (closed_in J k.given.day)))
+executed_known : (J : Journal) (x : Execution) (o : Option Notice) → IfSome o (IsNoticed J) → AreKnownEntries J (option_map_or (execution_entries J x) o [])
+executed_known J x None h = tt
+executed_known J x (Some k) h = (h, each_map (IsKnown J) (fill_entry k) (fills J x k) (each_weaker (λ f. IsIn J f.member) (λ f. IsIn J f.member × (is_listed J k.given.issue ≡ true)) (fills J x k) (λ f p. (p, h.1)) (fills_each (IsIn J) J x k (closed_in J k.given.day))))
 
 -- what holds of each of the entries of a trade, whether it books now or later
 now_or_later : (P : Entry → Type 0) (b : Bool) (p : Pend) → AllByRecursion P (trade_entries p) → AllByRecursion P (cond b (trade_entries p) [])
-now_or_later P true p h = h
-now_or_later P false p h = tt
+now_or_later P b p h1 = grind arith
 
 -- what holds of each trade holds of each that is due
 due_each : (P : Pend → Type 0) (opening : Day) (J : Journal) (next : Day) → AllByRecursion P (trades J) → AllByRecursion P (due opening J next)
@@ -148,30 +149,34 @@ booked_each : (P : Entry → Type 0) (ps : List Pend) → AllByRecursion (λ p. 
 booked_each P [] h = tt
 booked_each P (p ∷ ps) h = each_append P (trade_entries p) (flat_map trade_entries ps) h.0 (booked_each P ps h.1)
 
-entries_in : (opening : Day) (J : Journal) (x : Activity) → IsSound J → NoneHolds (rules opening J x) → AreIn J (entries opening J x)
-entries_in opening J (activity.Trade t) s h =
+entries_known : (opening : Day) (J : Journal) (x : Activity) → IsSound J → NoneHolds (rules opening J x) → AreKnownEntries J (entries opening J x)
+entries_known opening J (activity.Trade t) s h =
     let fails = all_fail (rules opening J (activity.Trade t)) h in
     let both = both_hold (is_member J t.buyer) (is_member J t.seller) fails.0 in
-    now_or_later (λ e. IsIn J e.account) (is_not_after t.date (date opening J)) (pend_of t) (member_in J t.buyer both.0, (member_in J t.seller both.1, tt))
-entries_in opening J (activity.Deliver m) s h =
+    let listed = not-false (is_listed J t.issue) fails.1.0 in
+    now_or_later (IsKnown J) (is_not_after t.date (date opening J)) (pend_of t) ((member_in J t.buyer both.0, listed), ((member_in J t.seller both.1, listed), tt))
+entries_known opening J (activity.Deliver m) s h =
     let fails = all_fail (rules opening J (activity.Deliver m)) h in
-    (member_in J m.member (holds (is_member J m.member) fails.0), (zero_in J, tt))
-entries_in opening J (activity.Receive m) s h =
+    let listed = not-false (is_listed J m.issue) fails.1.0 in
+    ((member_in J m.member (not-false (is_member J m.member) fails.0), listed), ((zero_in J, listed), tt))
+entries_known opening J (activity.Receive m) s h =
     let fails = all_fail (rules opening J (activity.Receive m)) h in
-    (member_in J m.member (holds (is_member J m.member) fails.0), (zero_in J, tt))
-entries_in opening J (activity.Split s) w h =
+    let listed = not-false (is_listed J m.issue) fails.1.0 in
+    ((member_in J m.member (not-false (is_member J m.member) fails.0), listed), ((zero_in J, listed), tt))
+entries_known opening J (activity.Split s) w h =
     let q : Account → ℤ = λ a. position J a s.issue in
-    against_in J s.issue (λ a. converted s.ratio (q a) -ℤ q a) (λ a. in_lieu s.ratio s.lieu (q a)) q
-entries_in opening J (activity.Exchange x) s h =
+    against_known J s.issue (λ a. converted s.ratio (q a) -ℤ q a) (λ a. in_lieu s.ratio s.lieu (q a)) q (not-false (is_listed J s.issue) (all_fail (rules opening J (activity.Split s)) h).0)
+entries_known opening J (activity.Exchange x) s h =
+    let both = both_hold (is_listed J x.old) (is_listed J x.successor) (all_fail (rules opening J (activity.Exchange x)) h).0 in
     let q : Account → ℤ = λ a. position J a x.old in
     let hs : List Account = holders q (members J) in
-    each_append (λ (e : Entry). IsIn J e.account) (against_corporation x.old (map (old_entry x q) hs)) (against_corporation x.successor (map (new_entry x q) hs))
-    (against_in J x.old (λ a. neg_ℤ (q a)) (λ a. pos 0) q)
-    (against_in J x.successor (λ a. converted x.ratio (q a)) (λ a. in_exchange x.ratio x.lieu x.cash (q a)) q)
-entries_in opening J (activity.Execute x) s h = executed_in J x (notice_at J x.notice) (each_named (IsNoticed J) (λ n. n.number == x.notice) (notices J) s.noticed)
-entries_in opening J (activity.Close d) s h =
-    booked_each (λ e. IsIn J e.account) (due opening J d) (due_each (λ p. AreIn J (trade_entries p)) opening J d (each_weaker (IsTraded J) (λ p. AreIn J (trade_entries p)) (trades J) (λ p k. (k.buyer, (k.seller, tt))) s.traded))
-entries_in opening J _ s h = tt
+    each_append (IsKnown J) (against_corporation x.old (map (old_entry x q) hs)) (against_corporation x.successor (map (new_entry x q) hs))
+    (against_known J x.old (λ a. neg_ℤ (q a)) (λ a. pos 0) q both.0)
+    (against_known J x.successor (λ a. converted x.ratio (q a)) (λ a. in_exchange x.ratio x.lieu x.cash (q a)) q both.1)
+entries_known opening J (activity.Execute x) s h = executed_known J x (notice_at J x.notice) (each_named (IsNoticed J) (λ n. n.number == x.notice) (notices J) s.noticed)
+entries_known opening J (activity.Close d) s h =
+    booked_each (IsKnown J) (due opening J d) (due_each (λ p. AreKnownEntries J (trade_entries p)) opening J d (each_weaker (IsTraded J) (λ p. AreKnownEntries J (trade_entries p)) (trades J) (λ p k. ((k.buyer, k.listed), ((k.seller, k.listed), tt))) s.traded))
+entries_known opening J _ s h = tt
 
 -- ---- one more activity
 
@@ -220,56 +225,13 @@ issues-post opening J _ s h = s.issues_rise
 
 -- an issue stays listed
 pub listed-post : (opening : Day) (J : Journal) (x : Activity) (c : Cusip) → is_listed J c ≡ true → is_listed (posting opening J x ∷ J) c ≡ true
-listed-post opening J (activity.Issue l) c h = any_put (λ d. bytes_eq d c) issue_lt l.issue (issues J) ∙ or_right (bytes_eq l.issue c) (is_listed J c) h
-listed-post opening J (activity.Member m) c h = h
-listed-post opening J _ c h = h
-
--- what holds anyway holds of each of a list
-each_anyway : {X : Type 0} (P : Type 0) (xs : List X) → P → AllByRecursion (λ x. P) xs
-each_anyway P [] p = tt
-each_anyway P (x ∷ xs) p = (p, each_anyway P xs p)
-
--- entries in one listed issue
-against_listed : (J : Journal) (c : Cusip) (shares cents : Account → ℤ) (xs : List Account) → is_listed J c ≡ true → AreOfListed J (against_corporation c (entries_for c shares cents xs))
-against_listed J c shares cents xs h = (h, each_map (λ e. is_listed J e.issue ≡ true) (λ a. entry a c (shares a) (cents a)) xs (each_anyway (is_listed J c ≡ true) xs h))
-
--- and those of an execution
-executed_listed : (J : Journal) (x : Execution) (o : Option Notice) → IfSome o (IsNoticed J) → AreOfListed J (option_map_or (execution_entries J x) o [])
-executed_listed J x None h = tt
-executed_listed J x (Some k) h = (h.1, each_map (λ e. is_listed J e.issue ≡ true) (fill_entry k) (fills J x k) (each_anyway (is_listed J k.given.issue ≡ true) (fills J x k) h.1))
-
-entries_listed : (opening : Day) (J : Journal) (x : Activity) → IsSound J → NoneHolds (rules opening J x) → AreOfListed J (entries opening J x)
-entries_listed opening J (activity.Trade t) s h =
-    let listed = holds (is_listed J t.issue) (all_fail (rules opening J (activity.Trade t)) h).1.0 in
-    now_or_later (λ e. is_listed J e.issue ≡ true) (is_not_after t.date (date opening J)) (pend_of t) (listed, (listed, tt))
-entries_listed opening J (activity.Deliver m) s h =
-    let listed = holds (is_listed J m.issue) (all_fail (rules opening J (activity.Deliver m)) h).1.0 in
-    (listed, (listed, tt))
-entries_listed opening J (activity.Receive m) s h =
-    let listed = holds (is_listed J m.issue) (all_fail (rules opening J (activity.Receive m)) h).1.0 in
-    (listed, (listed, tt))
-entries_listed opening J (activity.Split s) w h =
-    let listed = holds (is_listed J s.issue) (all_fail (rules opening J (activity.Split s)) h).0 in
-    let q : Account → ℤ = λ a. position J a s.issue in
-    against_listed J s.issue (λ a. converted s.ratio (q a) -ℤ q a) (λ a. in_lieu s.ratio s.lieu (q a)) (holders q (members J)) listed
-entries_listed opening J (activity.Exchange x) s h =
-    let both = both_hold (is_listed J x.old) (is_listed J x.successor) (all_fail (rules opening J (activity.Exchange x)) h).0 in
-    let q : Account → ℤ = λ a. position J a x.old in
-    let hs : List Account = holders q (members J) in
-    each_append (λ (e : Entry). is_listed J e.issue ≡ true) (against_corporation x.old (map (old_entry x q) hs)) (against_corporation x.successor (map (new_entry x q) hs))
-    (against_listed J x.old (λ a. neg_ℤ (q a)) (λ a. pos 0) hs both.0)
-    (against_listed J x.successor (λ a. converted x.ratio (q a)) (λ a. in_exchange x.ratio x.lieu x.cash (q a)) hs both.1)
-entries_listed opening J (activity.Execute x) s h = executed_listed J x (notice_at J x.notice) (each_named (IsNoticed J) (λ n. n.number == x.notice) (notices J) s.noticed)
-entries_listed opening J (activity.Close d) s h =
-    booked_each (λ e. is_listed J e.issue ≡ true) (due opening J d) (due_each (λ p. AreOfListed J (trade_entries p)) opening J d (each_weaker (IsTraded J) (λ p. AreOfListed J (trade_entries p)) (trades J) (λ p k. (k.listed, (k.listed, tt))) s.traded))
-entries_listed opening J _ s h = tt
+listed-post opening J x c h1 = grind (arith, any_put)
 
 still_listed : (opening : Day) (J : Journal) (x : Activity) (es : List Entry) → AreOfListed J es → AreOfListed (posting opening J x ∷ J) es
 still_listed opening J x es h = each_weaker (λ (e : Entry). is_listed J e.issue ≡ true) (λ e. is_listed (posting opening J x ∷ J) e.issue ≡ true) es (λ e p. listed-post opening J x e.issue p) h
 
 unpriced_if : (t b : Bool) (p q : ℕ) → (t ≡ true → b ≡ true) → b ≡ false → (b ≡ false → q ≡ 0) → cond t p q ≡ 0
-unpriced_if true b p q there none rest = absurd (cc (there refl, none))
-unpriced_if false b p q there none rest = rest none
+unpriced_if t b p q h1 h2 h3 = grind arith
 
 unpriced-post : (opening : Day) (J : Journal) (x : Activity) → IsSound J → NoneHolds (rules opening J x) → (c : Cusip) → is_listed (posting opening J x ∷ J) c ≡ false → price (posting opening J x ∷ J) c ≡ 0
 unpriced-post opening J (activity.Issue l) s h c none =
@@ -277,7 +239,7 @@ unpriced-post opening J (activity.Issue l) s h c none =
     price_branch (bytes_eq l.issue c) l (find (λ l. bytes_eq l.issue c) (filter_map priced (activities J)))
     ∙ ap (λ b. cond b l.price (price J c)) apart.0 ∙ s.unpriced c apart.1
 unpriced-post opening J (activity.Price l) s h c none =
-    let listed = holds (is_listed J l.issue) (all_fail (rules opening J (activity.Price l)) h).0 in
+    let listed = not-false (is_listed J l.issue) (all_fail (rules opening J (activity.Price l)) h).0 in
     price_branch (bytes_eq l.issue c) l (find (λ l. bytes_eq l.issue c) (filter_map priced (activities J)))
     ∙ unpriced_if (bytes_eq l.issue c) (is_listed J c) l.price (price J c) (λ e. ap (is_listed J) (sym ((bytes_eq-Decides l.issue c).0 e)) ∙ listed) none (s.unpriced c)
 unpriced-post opening J (activity.Member m) s h c none = s.unpriced c none
@@ -291,9 +253,9 @@ noticed-post : (opening : Day) (J : Journal) (x : Activity) → IsSound J → No
 noticed-post opening J (activity.Notice m) s h =
     let x : Activity = activity.Notice m in
     let fails = all_fail (rules opening J x) h in
-    let member = member_in J m.member (holds (is_member J m.member) fails.0) in
+    let member = member_in J m.member (not-false (is_member J m.member) fails.0) in
     each_append (IsNoticed (posting opening J x ∷ J)) (notices J) (notice (length (notices J) + 1) (day J) m ∷ []) (still_noticed opening J x s)
-    ((omega (arith, member, grown-post (posting opening J x) J m.member), listed-post opening J x m.issue (holds (is_listed J m.issue) fails.1.0)), tt)
+    ((omega (arith, member, grown-post (posting opening J x) J m.member), listed-post opening J x m.issue (not-false (is_listed J m.issue) fails.1.0)), tt)
 noticed-post opening J x s h = still_noticed opening J x s
 
 -- trades stay as they were made
@@ -314,15 +276,14 @@ traded-post opening J (activity.Trade t) s h =
       record {
         buyer = omega (arith, buyer, grown-post (posting opening J x) J t.buyer);
         seller = omega (arith, seller, grown-post (posting opening J x) J t.seller);
-        listed = listed-post opening J x t.issue (holds (is_listed J t.issue) fails.1.0);
+        listed = listed-post opening J x t.issue (not-false (is_listed J t.issue) fails.1.0);
       },
       still_traded opening J x s,
     )
 traded-post opening J x s h = still_traded opening J x s
 
 past-post : (opening : Day) (J : Journal) (x : Activity) → IsWhole opening J → AllByRecursion IsSound (closings (posting opening J x ∷ J))
-past-post opening J (activity.Close d) w = (w.now, w.past)
-past-post opening J _ w = w.past
+past-post opening J x h1 = grind arith
 
 earlier-post : (opening : Day) (J : Journal) (x : Activity) → IsWhole opening J → NoneHolds (rules opening J x) → AreEarlier opening (posting opening J x ∷ J)
 earlier-post opening J (activity.Close d) w h =
@@ -336,7 +297,7 @@ whole-post opening J x w h =
     let J' : Journal = posting opening J x ∷ J in
     let grown : (a : ℕ) → occurs a (accounts J) ≤ occurs a (accounts J') = grown-post (posting opening J x) J in
     let distinct : (a : ℕ) → occurs a (accounts J') ≤ 1 = distinct-post opening J x w.now h in
-    let mine : AreOf (accounts J') (entries opening J x) = once_in J' (entries opening J x) distinct (weaker_in J J' (entries opening J x) grown (entries_in opening J x w.now h)) in
+    let mine : AreOf (accounts J') (entries opening J x) = once_in J' (entries opening J x) distinct (weaker_in J J' (entries opening J x) grown (each_weaker (IsKnown J) (λ e. IsIn J e.account) (entries opening J x) (λ e p. p.0) (entries_known opening J x w.now h))) in
     let others : AreKnown (accounts J') J = each_weaker (λ p. AreOf (accounts J) p.entries) (λ p. AreOf (accounts J') p.entries) J (λ p k. once_in J' p.entries distinct (weaker_in J J' p.entries grown (held_in J p.entries k))) w.now.known in
     record {
       now = record {
@@ -345,7 +306,7 @@ whole-post opening J x w h =
         accounts_rise = accounts-post opening J x w.now h;
         issues_rise = issues-post opening J x w.now h;
         issued = (
-          still_listed opening J x (entries opening J x) (entries_listed opening J x w.now h),
+          still_listed opening J x (entries opening J x) (each_weaker (IsKnown J) (λ e. is_listed J e.issue ≡ true) (entries opening J x) (λ e p. p.1) (entries_known opening J x w.now h)),
           each_weaker (λ p. AreOfListed J p.entries) (λ p. AreOfListed J' p.entries) J (λ p l. still_listed opening J x p.entries l) w.now.issued,
         );
         unpriced = unpriced-post opening J x w.now h;

@@ -1,10 +1,11 @@
 -- A value for each of some issues.
-use Rattle.std.proofs.Common.{◌≡◌, ◌∙◌, ap, refl, Bool, true, false, ◌||◌, cond, List, [], ◌∷◌, map, Some, None, bytes_eq, nat_cmp}
+use Rattle.std.proofs.Common.{◌≡◌, refl, true, cond, List, [], ◌∷◌, map, Some, None, bytes_eq, nat_cmp}
 use Rattle.cns_terms.specs.Common.{Cusip, below_all, is_sorted, list_any, slice_cmp}
 use Rattle.std.specs.FinMap.{find}
 use Rattle.std.proofs.lemmas.Slice.Eq.{bytes_eq-Decides}
 use Rattle.cns_terms.proofs.Facts.{and_left, and_right, both_true, same_test}
 use Rattle.cns_terms.proofs.Rising.{above_all, is_rising}
+use Rattle.std.proofs.Common.{arith}
 
 module _ {X : Type 0} (p : Cusip → X) where
   -- what stands above an issue stands above it with its value
@@ -20,10 +21,4 @@ module _ {X : Type 0} (p : Cusip → X) where
   -- the value of an issue among those of issues
   pub find_with : (c : Cusip) (cs : List Cusip) → find (slice_cmp nat_cmp) c (map (λ d. (d, p d)) cs) ≡ cond (list_any (λ d. bytes_eq d c) cs) (Some (p c)) None
   find_with c [] = refl
-  find_with c (d ∷ cs) =
-      (λ i. cond (same_test c d i) (Some (p d)) (find_with c cs i))
-      ∙ found (bytes_eq d c) (list_any (λ d. bytes_eq d c) cs) (λ e. (bytes_eq-Decides d c).0 e)
-    where
-      found : (b rest : Bool) → (b ≡ true → d ≡ c) → cond b (Some (p d)) (cond rest (Some (p c)) None) ≡ cond (b || rest) (Some (p c)) None
-      found true rest h = ap (λ q. Some (p q)) (h refl)
-      found false rest h = refl
+  find_with c (d ∷ cs) = grind (arith, same_test, bytes_eq-Decides, find_with c cs)

@@ -1,5 +1,5 @@
 -- Trades that wait: what they add up to, and what they book.
-use Rattle.std.proofs.Common.{◌≡◌, ◌∙◌, ap, refl, ℕ, ◌+◌, ℤ, pos, ◌+ℤ◌, ◌-ℤ◌, neg_ℤ, Bool, true, false, not, ◌&&◌, ◌==◌, cond, List, [], ◌∷◌, filter, flat_map, reverse, sum_by, arith, unsigned_abs}
+use Rattle.std.proofs.Common.{◌≡◌, ◌∙◌, ap, refl, ℕ, ◌+◌, ℤ, pos, ◌+ℤ◌, ◌-ℤ◌, neg_ℤ, Bool, true, false, not, ◌&&◌, ◌==◌, cond, List, [], ◌∷◌, filter, flat_map, reverse, sum_by, arith}
 use Rattle.cns_terms.specs.Common.{Account, Cusip, Day, Entry, Journal, Pend, bought_in, date, is_not_after, pending, same_issue, shares_for, sold_in, total, trade_entries, trades}
 use Rattle.std.proofs.lemmas.Grind.{reverse_onto}
 use Rattle.std.proofs.lemmas.Int.{ints}
@@ -8,7 +8,7 @@ use Rattle.cns_terms.specs.Pending.{due, is_due}
 use Rattle.cns_terms.proofs.Magnitudes.{added, added-append, magnitude}
 
 -- a sum, term by term
-sum_added : {X : Type 0} (f : X → ℕ) (xs : List X) → sum_by f xs ≡ added f xs
+pub sum_added : {X : Type 0} (f : X → ℕ) (xs : List X) → sum_by f xs ≡ added f xs
 sum_added f [] = refl
 sum_added f (x ∷ xs) = sum_by-cons f x xs ∙ ap (λ n. f x + n) (sum_added f xs)
 
@@ -82,7 +82,4 @@ both_cents p = p.cents + p.cents
 
 pub booked_cents : (ps : List Pend) → magnitude (λ (e : Entry). e.cents) (flat_map trade_entries ps) ≡ added both_cents ps
 booked_cents [] = refl
-booked_cents (p ∷ ps) = one p.cents _ _ (booked_cents ps)
-  where
-    one : (n m k : ℕ) → m ≡ k → unsigned_abs (neg_ℤ (pos n)) + (n + m) ≡ (n + n) + k
-    one n m k e = omega (arith, ints, e)
+booked_cents (p ∷ ps) = grind (arith, booked_cents ps)
