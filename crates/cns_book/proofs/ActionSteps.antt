@@ -1,8 +1,9 @@
 -- Splits and exchanges.
 -- For `split` and `exchange` of parts/actions.rt, clause step.
-use Rattle.std.proofs.Common.{◌≡◌, ◌∙◌, sym, ap, subst, refl, ℕ, max, ◌*◌, ◌≤◌, ℤ, ◌+ℤ◌, Bool, true, false, ◌&&◌, ◌||◌, ◌==◌, cond, List, ◌∷◌, map, reverse, Option, Some, None, arith, bytes_eq, nat_lt, is_none, is_some, IfOk, IsSome, Result, Ok, Err}
-use Rattle.cns_book.proofs.Common.{Account, Activity, AllByRecursion, AreHolders, Contents, Cusip, Entry, Follows, FollowsNotices, FollowsRows, HasRoom, Holding, IsInRange, IsLimited, IsReached, Key, Listed, Pend, Rows, Rule, account_lt, activity_of, age_brought, all_fail, amount_limit, and_right, booking_limit, books, bought_in, changed_each, corporation, each_both, each_in_order, entries, entries_of, first_refusal, history_limit, holding, holding_at, is_beyond, is_held_up, is_listed, is_retired, is_too_large, is_too_large_at, issue_of, issue_rules, journal, limited, list_any, member_limit, members, members_from_one, nat_tests, oldest, oldest_of, pending, position_limit, positions_in, posting, price_in, refusal, retired_in, same_issue, shares_for, sold_in, total, waits_in, with_age}
+use Rattle.std.proofs.Common.{◌≡◌, ◌∙◌, sym, ap, subst, refl, ℕ, max, ◌*◌, ◌≤◌, ℤ, Bool, true, false, ◌||◌, ◌==◌, cond, List, ◌∷◌, map, reverse, Option, Some, None, arith, bytes_eq, is_none, IsSome, Ok, Err}
+use Rattle.cns_book.proofs.Common.{Account, Activity, AllByRecursion, AreHolders, Contents, Cusip, Entry, Follows, FollowsNotices, FollowsRows, HasRoom, Holding, IsInRange, IsLimited, IsReached, Key, Listed, Pend, Rows, Rule, account_lt, activity_of, age_brought, all_fail, amount_limit, and_right, booking_limit, books, bought_in, changed_each, each_both, each_in_order, entries, entries_of, first_refusal, history_limit, holding, holding_at, is_held_up, is_listed, is_retired, is_too_large, is_too_large_at, issue_of, issue_rules, journal, limited, list_any, member_limit, members, members_from_one, oldest, oldest_of, pending, position_limit, positions_in, posting, price_in, refusal, retired_in, same_issue, sold_in, with_age}
 use Rattle.std.proofs.Math.Nat.{max-zero}
+use Rattle.std.proofs.lemmas.Bool.{false_from_ne_true}
 use Rattle.cns_terms.specs.declared.action.Exchange.{Exchange}
 use Rattle.cns_terms.specs.declared.action.Split.{Split}
 use Rattle.cns_terms.specs.Entries.{exchange_entries, split_entries}
@@ -54,10 +55,7 @@ can_be_booked s r =
 
 -- an account that is no member's and not the corporation's is none
 no_account : (a : ℕ) (b : Bool) → 1 ≤ a → b ≡ false → ((a == 0) || b) ≡ false
-no_account a b h e = ap (λ t. t || b) (other a h) ∙ e
-  where
-    other : (a : ℕ) → 1 ≤ a → (a == 0) ≡ false
-    other a h = grind (arith, nat_tests)
+no_account a b h1 h2 = grind arith
 
 -- the members are all who have a position in an issue
 members_hold : (s : Contents) (L : List Activity) (c : Cusip) → Follows L s → AreHolders (λ a. position (journal s.opening L) a c) (members (journal s.opening L))
@@ -72,14 +70,12 @@ members_hold s L c f =
 
 -- an entry is too large whichever way round the trades that wait stand
 same_large : (before : Account → Cusip → ℤ) (ps : List Pend) (es : List Entry) (e : Entry) → is_too_large_at before (reverse ps) es e ≡ is_too_large_at before ps es e
-same_large before ps es e =
-    λ i. nat_lt corporation e.account && is_beyond (total (shares_for e.account e.issue) es +ℤ before e.account e.issue) (bought-reverse ps e.account e.issue i) (sold-reverse ps e.account e.issue i)
+same_large before ps es e = grind (arith, bought-reverse, sold-reverse)
 
 module _ (s : Contents) (L : List Activity) (f : Follows L s) where
   -- a split or an exchange may be too large where it books
   whole : (x : Action) → are_too_large (position (journal s.opening L)) (pending s.opening (journal s.opening L)) (entries s.opening (journal s.opening L) (activity_of x)) ≡ is_too_large s.opening (journal s.opening L) (activity_of x)
-  whole (action.Split p) = refl
-  whole (action.Exchange x) = refl
+  whole x = grind arith
 
   -- positions are those of the definitions
   same_positions : position_at s.rows ≡ position (journal s.opening L)
@@ -102,24 +98,13 @@ module _ (s : Contents) (L : List Activity) (f : Follows L s) where
 
   -- and whether trades that wait hold an exchange up
   pub held_up_is : (x : Action) (ps : List Pend) → ps ≡ s.trades.pending → waits_for x ps ≡ is_held_up s.opening (journal s.opening L) x
-  held_up_is (action.Split p) ps are = refl
-  held_up_is (action.Exchange x) ps are = ap (λ qs. waits_in qs x.old) (are ∙ f.pending) ∙ waits-reverse (pending s.opening (journal s.opening L)) x.old
+  held_up_is x ps h1 = grind (arith, waits-reverse)
 
 -- ---- what is refused
-
--- a test that does not hold
-pub not_true : (b : Bool) → (b ≡ true → ⊥) → b ≡ false
-not_true true h = absurd (h refl)
-not_true false h = refl
 
 -- what was made is no fault
 pub no_fault : {A E : Type 0} (x : A) (e : E) → Ok x ≡ Err e → ⊥
 no_fault x e h = cc
-
--- what is said of a value that was made, in other words
-pub ok_weaker : {A E : Type 0} (r : Result A E) (P Q : A → Type 0) → ((x : A) → P x → Q x) → IfOk r P → IfOk r Q
-ok_weaker (Ok x) P Q h p = h x p
-ok_weaker (Err e) P Q h p = p
 
 -- of rules that refuse nothing, none holds
 pub none_fails : (rs : List Rule) → first_refusal rs ≡ None → AllByRecursion (λ r. r.1 ≡ false) rs
@@ -130,21 +115,20 @@ pub split_unrefused : (L : List Activity) (s : Contents) (x : Split) (r : Option
 split_unrefused L s x r said is size =
     let J = journal s.opening L in
     let fails = none_fails (issue_rules (is_listed J x.issue) (is_retired J x.issue)) (sym said ∙ is) in
-    no_refusal (rules s.opening J (activity.Split x)) (fails.0, (fails.1.0, (not_true _ size, tt)))
+    no_refusal (rules s.opening J (activity.Split x)) (fails.0, (fails.1.0, (false_from_ne_true _ size, tt)))
 
 -- and so an exchange, where no trades hold it up
 pub exchange_unrefused : (L : List Activity) (s : Contents) (x : Exchange) (r : Option Refusal) → r ≡ first_refusal (exchange_rules (journal s.opening L) x) → r ≡ None → (is_too_large s.opening (journal s.opening L) (activity.Exchange x) ≡ true → ⊥) → ((is_too_large s.opening (journal s.opening L) (activity.Exchange x) ≡ false) × (is_held_up s.opening (journal s.opening L) (action.Exchange x) ≡ true) → ⊥) → refusal s.opening (journal s.opening L) (command.Activity (activity.Exchange x)) ≡ None
 exchange_unrefused L s x r said is size waits =
     let J = journal s.opening L in
     let fails = none_fails (exchange_rules J x) (sym said ∙ is) in
-    let small = not_true (is_too_large s.opening J (activity.Exchange x)) size in
-    let held = not_true (is_held_up s.opening J (action.Exchange x)) (λ b. waits (small, b)) in
+    let small = false_from_ne_true (is_too_large s.opening J (activity.Exchange x)) size in
+    let held = false_from_ne_true (is_held_up s.opening J (action.Exchange x)) (λ b. waits (small, b)) in
     no_refusal (rules s.opening J (activity.Exchange x)) (fails.0, (fails.1.0, (fails.1.1.0, (small, (held, tt)))))
 
 -- a listed issue has a price
 pub price_there : (b : Bool) (p : ℕ) (o : Option ℕ) → o ≡ cond b (Some p) None → b ≡ true → IsSome o
-price_there true p o e h = ap is_some e
-price_there false p o e h = cc
+price_there b p o h1 h2 = grind arith
 
 -- ---- what stands after a split or an exchange
 
@@ -154,8 +138,7 @@ with_no_age h = λ i. record h { carried = max-zero h.carried i }
 
 -- an age that is brought to one issue alone
 brought_there : (t : Bool) (m n : ℕ) → max m (cond t n 0) ≡ cond t (max m n) m
-brought_there true m n = refl
-brought_there false m n = max-zero m
+brought_there t m n = grind arith
 
 -- what an exchange books, with the age that it brings
 exchanged_rows : (s : Contents) (L : List Activity) (x : Exchange) (rows : Rows) → IsReached s.opening (activity.Exchange x ∷ L) → FollowsRows (journal s.opening L) s

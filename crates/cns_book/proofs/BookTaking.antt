@@ -1,22 +1,18 @@
 -- One command more in the history.
 -- For `take` of book.rt, clause ok.
-use Rattle.std.proofs.Common.{◌≡◌, ◌∙◌, sym, ap, subst, refl, ℕ, suc, ◌+◌, ◌-◌, ◌≤◌, ◌<◌, Bool, true, false, cond, eqb, List, [], ◌∷◌, ◌++◌, length, set, get_or, reverse, Ok, arith, nat_lt, get_or-set_other}
+use Rattle.std.proofs.Common.{◌≡◌, ◌∙◌, sym, ap, subst, refl, ℕ, suc, ◌+◌, ◌-◌, ◌≤◌, ◌<◌, Bool, true, false, cond, eqb, List, [], ◌∷◌, ◌++◌, length, set, get_or, reverse, Ok, arith, get_or-set_other}
 use Rattle.cns_book.proofs.Common.{Activity, Command, Contents, Day, Follows, HasRoom, IsLegal, Reply, Taken, accepted, answer_to, count, history_limit, nat_tests, reverse-append, sum_by-cons}
 use Rattle.std.proofs.lemmas.Grind.{get_or-set_at}
 use Rattle.cns_terms.specs.declared.worker.Worker.{Worker}
 use Rattle.cns_terms.specs.Machine.{accepted_after}
 use Rattle.cns_book.specs.Follows.{Steps}
 use Rattle.cns_book.specs.Legal.{IsBook}
-use Rattle.cns_terms.specs.declared.command.Command.TheVariants as command
 
 one_more : (b : Bool) (x : Activity) (L : List Activity) (n : ℕ) → length L ≤ n → length (cond b (x ∷ L) L) ≤ suc n
-one_more true x L n h = omega (arith, h)
-one_more false x L n h = omega (arith, h)
+one_more b x L n h1 = grind arith
 
 next_le : (opening : Day) (L : List Activity) (cmd : Command) (n : ℕ) → length L ≤ n → length (accepted_after opening L cmd) ≤ suc n
-next_le opening L (command.Activity x) n h = one_more _ x L n h
-next_le opening L (command.Position k) n h = omega (arith, h)
-next_le opening L (command.Statement a d) n h = omega (arith, h)
+next_le opening L cmd n h1 = grind arith
 
 -- no more activities than commands
 pub accepted_le : (opening : Day) (H : List Taken) → length (accepted opening H) ≤ length H
@@ -72,8 +68,4 @@ reverse_push xs x = reverse-append xs (x ∷ [])
 
 -- what is no more than a limit and is not the limit is less
 pub below : (n m : ℕ) → n ≤ m → (n ≡ m → ⊥) → n < m
-below n m most apart = by (nat_lt n m) refl
-  where
-    by : (b : Bool) → nat_lt n m ≡ b → n < m
-    by true e = grind (arith, nat_tests)
-    by false e = absurd (apart (grind (arith, nat_tests)))
+below n m h1 h2 = grind arith

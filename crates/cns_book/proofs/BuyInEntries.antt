@@ -1,7 +1,7 @@
 -- The entries of an execution, booked one after another.
 -- For `book_fills` of buy_in.rt.
-use Rattle.std.proofs.Common.{◌≡◌, ◌∙◌, sym, ap, subst, refl, ℕ, zero, suc, ◌+◌, ◌<◌, ℤ, pos, negsuc, ◌+ℤ◌, Bool, true, false, ◌&&◌, ◌==◌, cond, List, [], ◌∷◌, ◌++◌, length, map, take, get_or, arith, int_lt, nat_lt, eqb-true}
-use Rattle.cns_book.proofs.Common.{AllByRecursion, AreApart, CanBeExecuted, CanBeFilled, Entry, Execution, Fill, Holding, Key, Member, Notice, Rows, books, cents_for, entries_by, eqb_sym, fill_entry, filled_at, holding_at, ints, map-append, nat_tests, originator_at, originator_entry, same_issue, shares_for, take_more, total}
+use Rattle.std.proofs.Common.{◌≡◌, ◌∙◌, sym, ap, subst, refl, ℕ, zero, suc, ◌+◌, ◌<◌, ℤ, pos, ◌+ℤ◌, Bool, true, false, ◌&&◌, ◌==◌, cond, List, [], ◌∷◌, ◌++◌, length, map, take, get_or, arith, int_lt, eqb-true}
+use Rattle.cns_book.proofs.Common.{AllByRecursion, AreApart, CanBeExecuted, CanBeFilled, Entry, Execution, Fill, Holding, Key, Member, Notice, Rows, books, cents_for, entries_by, eqb_sym, fill_entry, filled_at, holding_at, ints, map-append, originator_at, originator_entry, same_issue, shares_for, take_more, total}
 use Rattle.cns_terms.specs.declared.buy_in.Given.{Given}
 use Rattle.cns_positions.specs.Rows.{booked}
 use Rattle.cns_book.specs.Executions.{CanBeBought, notice_of}
@@ -38,11 +38,7 @@ long_or_short : (rows : Rows) (g : Given) (f : Fill) → CanBeBought (holding_at
 long_or_short rows g f long short = by (g.member == f.member) refl
   where
     never : (q : ℤ) → int_lt (pos 0) q ≡ true → int_lt q (pos 0) ≡ true → ⊥
-    never (pos n) l s = below_zero n s
-      where
-        below_zero : (n : ℕ) → nat_lt n 0 ≡ true → ⊥
-        below_zero n h = grind (arith, nat_tests)
-    never (negsuc n) l s = cc
+    never q h1 h2 = grind arith
 
     by : (b : Bool) → (g.member == f.member) ≡ b → b ≡ false
     by false e = refl

@@ -31,20 +31,16 @@ apart : (a b c : ℤ) → int_lt a b ≡ true → int_eq a c ≡ true → int_eq
 apart a b c p q = grind (arith, ints)
 
 skip : {Y : Type 0} (b : Bool) (s : Y) (o : Option Y) → b ≡ false → cond b (Some s) o ≡ o
-skip true s o h = cc
-skip false s o h = refl
+skip b s o h1 = grind arith
 
 take : {Y : Type 0} (b : Bool) (s : Y) (o : Option Y) → b ≡ true → cond b (Some s) o ≡ Some s
-take true s o h = refl
-take false s o h = cc
+take b s o h1 = grind arith
 
 -- a day with the date is the one that a look from the newest back finds
 find_here : (ss : List DaySheet) (d : Day) (j : ℕ) (e : DaySheet) → AreFalling ss → j < length ss → is_same_day (get_or ss j e).date d ≡ true → dated_sheet ss d ≡ Some (get_or ss j e)
 find_here [] d j e f lt h = absurd (omega arith)
 find_here (s ∷ ss) d zero e f lt h = take _ s (dated_sheet ss d) h
-find_here (s ∷ ss) d (suc j) e f lt h =
-    skip (is_same_day s.date d) s (dated_sheet ss d) (apart (number (get_or ss j e)) (number s) (day_number d) (after_each s.date ss j e f.0 f.1 (omega arith)) h)
-    ∙ find_here ss d j e f.1 (omega arith) h
+find_here (s ∷ ss) d (suc j) e f lt h = grind (arith, skip, apart, after_each, find_here ss d j e f.1 (omega arith) h)
 
 -- the first that passes is found
 find_first : {Y : Type 0} (p : Y → Bool) (ys : List Y) (j : ℕ) (e : Y) → j < length ys → p (get_or ys j e) ≡ true → ((i : ℕ) → i < j → p (get_or ys i e) ≡ false) → find p ys ≡ Some (get_or ys j e)
@@ -143,9 +139,7 @@ module _ {X : Type 0} (f : X → DaySheet) (d : Day) where
 
   -- else the last of the first so many
   pub found_as_of : (xs : List X) (n : ℕ) (x : X) → (n ≡ 0 → ⊥) → n ≤ length xs → Parted xs n → x ≡ get_or xs (n - 1) x → Some (f x) ≡ sheet_as_of (reverse (map f xs)) d
-  found_as_of xs n x some le h is =
-      ap (λ y. Some (f y)) is
-      ∙ found_back f (is_dated_by d) xs (n - 1) x (omega (arith, some, le)) (h.0 (n - 1) x (omega arith) (omega (arith, some))) (λ i e p q. h.1 i e (omega (arith, some, p)) q)
+  found_as_of xs n x some le h is = grind (arith, found_back)
 
   tied : (a b : ℤ) → int_cmp a b ≡ Equal → int_eq a b ≡ true
   tied a b h = grind (arith, ints)
@@ -157,8 +151,7 @@ module _ {X : Type 0} (f : X → DaySheet) (d : Day) where
   not_greater a b h = grind (arith, ints)
 
   pub found_at : (xs : List X) (r : Result ℕ ℕ) → IsBinarySearchResult compared xs r → IfOk r (HoldsAt (λ x. is_dated d (f x) ≡ true) xs)
-  found_at xs (Ok i) h = λ e. tied (number (f (get_or xs i e))) (day_number d) (h e)
-  found_at xs (Err i) h = tt
+  found_at xs r h1 = grind arith
 
   apart_within : (xs : List X) (i : ℕ) → IsPartitionPoint (λ x. compared x ≡ Less) (λ x. compared x ≡ Greater) xs i → AllWithin (λ x. is_dated d (f x) ≡ false) xs 0 (length xs)
   apart_within xs i h = λ j e p q. elim (cases_lt j i) [ inl l ↦ not_less (number (f (get_or xs j e))) (day_number d) (h.0 j e p l) | inr l ↦ not_greater (number (f (get_or xs j e))) (day_number d) (h.1 j e l q) ]
@@ -168,9 +161,7 @@ module _ {X : Type 0} (f : X → DaySheet) (d : Day) where
   nowhere xs e (Err i) falling h = apart_within xs i (h (compared_rise xs e falling))
 
   pub found_nowhere : (xs : List X) (r : Result ℕ ℕ) → AreFalling (reverse (map f xs)) → IsBinarySearchResult compared xs r → IfErr r (λ _. AllWithin (λ x. is_dated d (f x) ≡ false) xs 0 (length xs))
-  found_nowhere [] (Ok i) falling h = tt
-  found_nowhere [] (Err i) falling h = λ j e p q. absurd (omega (arith, q))
-  found_nowhere (x ∷ xs) r falling h = nowhere (x ∷ xs) x r falling h
+  found_nowhere xs r h1 h2 = grind (arith, nowhere)
 
   -- what stands at the place is what a look from the newest back finds
   pub sheet_at : (xs : List X) (i : ℕ) (e : X) → AreFalling (reverse (map f xs)) → i < length xs → is_dated d (f (get_or xs i e)) ≡ true → Some (f (get_or xs i e)) ≡ dated_sheet (reverse (map f xs)) d
@@ -185,8 +176,7 @@ module _ {X : Type 0} (f : X → DaySheet) (d : Day) where
 
 -- an image that is found, or another
 found_branch : {X Y : Type 0} (f : X → Y) (b : Bool) (x : X) (o : Option Y) (p : Option X) → o ≡ option_map f p → cond b (Some (f x)) o ≡ option_map f (cond b (Some x) p)
-found_branch f true x o p h = refl
-found_branch f false x o p h = h
+found_branch f b x o p h1 = grind arith
 
 -- what is found among images is the image of what is found
 find_image : {X Y : Type 0} (f : X → Y) (p : Y → Bool) (xs : List X) → find p (map f xs) ≡ option_map f (find (λ x. p (f x)) xs)
@@ -200,6 +190,4 @@ sheet_found L s d f = ap (λ ss. dated_sheet ss d) f.sheets ∙ find_image (day_
 -- the answer to a STATEMENT, by whether the account is there and the day is closed
 pub answer_stated : (opening : Day) (is : Bool) (o : Option Journal) (a : Account) (sheet : DaySheet) → is ≡ true → option_map (day_sheet opening) o ≡ Some sheet
     → reply.Stated (statement sheet a) ≡ option_map_or reply.Refused (first_refusal ((NoSuchMember, not is) ∷ (NoSuchDay, is_none o) ∷ [])) (reply.Stated (statement (unwrap_or (option_map (day_sheet opening) o) (day_sheet opening [])) a))
-answer_stated opening false o a sheet i e = cc
-answer_stated opening true None a sheet i e = cc
-answer_stated opening true (Some K) a sheet i e = sym (ap (λ o. reply.Stated (statement (unwrap_or o sheet) a)) e)
+answer_stated opening is o a sheet h1 h2 = grind arith

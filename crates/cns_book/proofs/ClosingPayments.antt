@@ -1,7 +1,7 @@
 -- What a close pays by the sheets of the record dates is what the definitions say.
 -- For `close_day` of parts/closing.rt, clause step.
 use Rattle.std.proofs.Common.{◌≡◌, ◌∙◌, sym, ap, refl, ℕ, ◌≤◌, ℤ, pos, ◌+ℤ◌, neg_ℤ, Bool, true, false, not, ◌&&◌, ◌||◌, ◌==◌, cond, List, [], ◌∷◌, map, filter, find, Option, Some, None, unwrap_or, arith, bytes_eq, filter_map, option_map}
-use Rattle.cns_book.proofs.Common.{Account, AllByRecursion, Cusip, Day, DaySheet, Declared, IsSound, Journal, Key, Paying, Row, accounts, and_right, as_of, bytes_eq-Decides, cash, closings, cons_option, corporation, date, day_sheet, dividend, dividend_of, dividends, exact_keys, find_filter, found_number, idle_parts, in_order, ints, is_account, is_idle, is_not_after, is_sorted, issues, kept_if, key_cmp, keys_total, last_date, list_any, member_dividend, members, numbers, occurs, occurs_found, occurs_missing, option_map_or, payments_by, pays_before, row, said, same_issue, same_lists, same_sums, says, sheet_as_of, sheet_rows, sorted_numbers, total, total-map, total-neg, total-same, total-swap, total-zero, total_numbers}
+use Rattle.cns_book.proofs.Common.{Account, AllByRecursion, Cusip, Day, DaySheet, Declared, IsSound, Journal, Key, Paying, Row, accounts, and_right, as_of, bytes_eq-Decides, cash, closings, cons_option, corporation, date, day_sheet, dividend, dividend_of, dividends, exact_keys, find_filter, found_number, in_order, is_account, is_idle, is_not_after, is_sorted, issues, kept_if, key_cmp, keys_total, last_date, list_any, member_dividend, members, numbers, occurs, occurs_found, occurs_missing, option_map_or, payments_by, pays_before, row, said, same_lists, same_sums, says, sheet_as_of, sheet_rows, sorted_numbers, total, total-map, total-neg, total-same, total-swap, total-zero, total_numbers}
 use Rattle.cns_terms.specs.Dividends.{due, is_due}
 use Rattle.std.specs.FinMap as finmap
 use Rattle.cns_terms.specs.Positions.{position}
@@ -18,11 +18,7 @@ use Rattle.cns_book.proofs.ClosingRows.{closing_found, number_found, of_all, sho
 
 -- what does not stand in a list is not found there
 not_found : (a : ℕ) (bs : List ℕ) → occurs a bs ≡ 0 → list_any (λ b. a == b) bs ≡ false
-not_found a bs h = by (list_any (λ b. a == b) bs) refl
-  where
-    by : (t : Bool) → list_any (λ b. a == b) bs ≡ t → list_any (λ b. a == b) bs ≡ false
-    by true e = absurd (omega (arith, occurs_found a bs e, h))
-    by false e = e
+not_found a bs h1 = grind (arith, occurs_found)
 
 -- ---- the members of a sheet
 
@@ -39,11 +35,7 @@ module _ (opening : Day) (K J : Journal) (k_sound : IsSound K) (j_sound : IsSoun
 
   -- what a row that says nothing is paid
   none_idle : (r : Row) → says r ≡ false → member_cash d r ≡ pos 0
-  none_idle r h = by (same_issue r.issue d.issue && not (r.account == corporation))
-    where
-      by : (b : Bool) → cond b (cash r.closing d.rate) (pos 0) ≡ pos 0
-      by true = ap (λ q. cash q d.rate) (idle_parts r h).1 ∙ no_cash d.rate
-      by false = refl
+  none_idle r h1 = grind arith
 
   -- what is paid at a key, by the members that are there now
   same_number : (k : Key) (s n m : Bool) → bytes_eq k.issue d.issue ≡ s → (k.account == corporation) ≡ n → list_any (λ a. k.account == a) (members J) ≡ m → cond (s && not n) (at_place k) (pos 0) ≡ unwrap_or (cond (m && (s || false)) (Some (at_place k)) None) (pos 0)
@@ -94,8 +86,7 @@ module _ (opening : Day) (K J : Journal) (k_sound : IsSound K) (j_sound : IsSoun
 
 -- a sum over what a function gives
 given_more : {Y : Type 0} (f : Y → ℤ) (o : Option Y) (ys : List Y) (n : ℤ) → total f ys ≡ n → total f (cons_option o ys) ≡ option_map_or f o (pos 0) +ℤ n
-given_more f None ys n h = omega (arith, ints, h)
-given_more f (Some y) ys n h = ap (λ m. f y +ℤ m) h
+given_more f o ys n h1 = grind arith
 
 total-given : {X Y : Type 0} (f : Y → ℤ) (g : X → Option Y) (xs : List X) → total f (filter_map g xs) ≡ total (λ x. option_map_or f (g x) (pos 0)) xs
 total-given f g [] = refl
@@ -117,15 +108,12 @@ module _ (opening : Day) (J : Journal) (sound : IsSound J) where
       (sym (total-same (λ a. cash (pos 0) d.rate) (λ a. pos 0) (members J) (λ a. no_cash d.rate) ∙ total-zero (members J))) (sym (no_cash d.rate))
     where
       by : (b t : Bool) {x y : ℤ} → pos 0 ≡ x → pos 0 ≡ y → pos 0 ≡ cond b (cond t (neg_ℤ x) y) (pos 0)
-      by true true e f = ap neg_ℤ e
-      by true false e f = f
-      by false t e f = refl
+      by b t h1 h2 = grind arith
 
   -- what is paid by the sheet that is found, or nothing
   found_paid : (b : Bool) (d : Declared) (k : Key) (K : Journal) (o : Option DaySheet) (p : Option Journal) → IsEarlier K → option_map_or (λ s. paid d s.rows k) o (pos 0) ≡ books_at d k (unwrap_or p [])
       → option_map_or (λ s. paid d s.rows k) (cond b (Some (day_sheet opening K)) o) (pos 0) ≡ books_at d k (unwrap_or (cond b (Some K) p) [])
-  found_paid true d k K o p e h = paid_is opening K J e.0 sound e.1 d k
-  found_paid false d k K o p e h = h
+  found_paid b d k K o p h1 h2 = grind (arith, paid_is)
 
   one_paid : (d : Declared) (k : Key) (Ks : List Journal) → AllByRecursion IsEarlier Ks
       → option_map_or (λ s. paid d s.rows k) (sheet_as_of (map (day_sheet opening) Ks) d.recorded) (pos 0) ≡ books_at d k (unwrap_or (find (λ K. is_not_after (date opening K) d.recorded) Ks) [])
@@ -134,8 +122,7 @@ module _ (opening : Day) (J : Journal) (sound : IsSound J) where
 
   -- the same of a sheet with its dividend
   with_rows : (d : Declared) (k : Key) (o : Option DaySheet) → option_map_or (λ (p : Paying). paid p.0 p.1 k) (option_map (λ s. (d, s.rows)) o) (pos 0) ≡ option_map_or (λ s. paid d s.rows k) o (pos 0)
-  with_rows d k None = refl
-  with_rows d k (Some s) = refl
+  with_rows d k o = grind arith
 
   -- what a dividend books where it is of the issue
   abbrev in_issue : Account → Cusip → Declared → ℤ
@@ -143,8 +130,7 @@ module _ (opening : Day) (J : Journal) (sound : IsSound J) where
 
   of_issue : (b : Bool) (a : Account) (c : Cusip) (d : Declared) → (b ≡ true → d.issue ≡ c)
       → cond b (cond (a == corporation) (neg_ℤ (total (λ b. cash (position (as_of opening J d.recorded) b d.issue) d.rate) (members J))) (cash (position (as_of opening J d.recorded) a c) d.rate)) (pos 0) ≡ cond b (in_issue a c d) (pos 0)
-  of_issue true a c d h = λ i. cond (a == corporation) (neg_ℤ (total (λ b. cash (position (as_of opening J d.recorded) b (h refl i)) d.rate) (members J))) (cash (position (as_of opening J d.recorded) a c) d.rate)
-  of_issue false a c d h = refl
+  of_issue b a c d h1 = grind arith
 
   -- the dividends that are due in an issue book what the definitions say
   all_due : (a : Account) (c : Cusip) → total (in_issue a c) (due opening J c) ≡ dividend opening J a c
@@ -170,16 +156,7 @@ module _ (opening : Day) (J : Journal) (sound : IsSound J) where
 
 -- a row that is kept or not, and that says something or not
 said_kept : (b t : Bool) (r : Row) → is_idle r ≡ t → (b ≡ false → says r ≡ false) → said r ≡ kept_if says (cond b (Some r) None)
-said_kept true true r is out = refl_of r is
-  where
-    refl_of : (r : Row) → is_idle r ≡ true → said r ≡ kept_if says (Some r)
-    refl_of r is = (λ i. cond (is i) None (Some r)) ∙ sym (λ i. cond (not (is i)) (Some r) None)
-said_kept true false r is out = (λ i. cond (is i) None (Some r)) ∙ sym (λ i. cond (not (is i)) (Some r) None)
-said_kept false true r is out = λ i. cond (is i) None (Some r)
-said_kept false false r is out = absurd (clash (sym (ap not is) ∙ out refl))
-  where
-    clash : true ≡ false → ⊥
-    clash h = cc
+said_kept b t r h1 h2 = grind arith
 
 -- rows without their keys
 without_keys : (rs : List Row) → map (λ e. e.1) (by_key rs) ≡ rs

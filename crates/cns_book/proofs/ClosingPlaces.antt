@@ -1,6 +1,6 @@
 -- Where a close books the trades that are due.
 -- For `close_day` of parts/closing.rt, clause places.
-use Rattle.std.proofs.Common.{◌≡◌, suc, sym, List, [], ◌∷◌, Contains, IfSome, Some, None, Option, arith}
+use Rattle.std.proofs.Common.{◌≡◌, suc, sym, List, [], ◌∷◌, Contains, IfSome, Option, arith}
 use Rattle.cns_book.proofs.Common.{Entry, Key, Rows, has_row}
 use Rattle.cns_actions.specs.Bookings.{AreElsewhere}
 use Rattle.cns_actions.specs.DueAmounts.{AreApartFrom}
@@ -14,5 +14,4 @@ apart k (e ∷ es) out = ((λ same. out (0, omega arith, sym same)), apart k es 
 
 -- so it has a row where it had one
 pub due_stay : (due : Option (List Booking)) (es : List Entry) (old new : Rows) → IfSome due (λ bs. (k : Key) → AreApartFrom k es → AreElsewhere k bs) → ((k : Key) → IfSome due (AreElsewhere k) → has_row new k ≡ has_row old k) → (k : Key) → ¬ Contains (places_of es) k → has_row new k ≡ has_row old k
-due_stay None es old new others stay k out = stay k tt
-due_stay (Some bs) es old new others stay k out = stay k (others k (apart k es out))
+due_stay due es old new h1 h2 k h3 = grind (arith, apart)

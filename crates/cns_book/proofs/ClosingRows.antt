@@ -7,11 +7,11 @@ use Rattle.cns_terms.specs.Positions.{position}
 use Rattle.cns_terms.proofs.Cells.{cells, cells_of, find_cells, sorted_cells}
 use Rattle.cns_terms.proofs.Elsewhere.{idle_at}
 use Rattle.cns_sheets.specs.Build.{by_key, key_of}
+use Rattle.std.proofs.Common.{arith}
 
 -- one row more, or not, with its key
 with_key : (b : Bool) (r : Row) (rs : List Row) (es : List (Key × Row)) → by_key rs ≡ es → by_key (cond b (r ∷ rs) rs) ≡ cond b ((key_of r, r) ∷ es) es
-with_key true r rs es h = ap (λ xs. (key_of r, r) ∷ xs) h
-with_key false r rs es h = h
+with_key b r rs es h1 = grind arith
 
 module _ (opening : Day) (K : Journal) where
   -- the row at each key
@@ -32,9 +32,7 @@ module _ (opening : Day) (K : Journal) where
 
   module _ (g : Row → ℤ) (idle : (r : Row) → says r ≡ false → g r ≡ pos 0) where
     number_kept : (b t : Bool) (r : Row) → says r ≡ t → (b ≡ false → says r ≡ false) → option_map_or g (kept_if says (cond b (Some r) None)) (pos 0) ≡ g r
-    number_kept true true r is out = ap (λ t. option_map_or g (cond t (Some r) None) (pos 0)) is
-    number_kept true false r is out = ap (λ t. option_map_or g (cond t (Some r) None) (pos 0)) is ∙ sym (idle r is)
-    number_kept false t r is out = sym (idle r (out refl))
+    number_kept b t r h1 h2 = grind arith
 
     -- a number of the row at a key, 0 where it has none, is that of the definitions
     pub number_found : (k : Key) → IsSound K → option_map_or g (find key_cmp k (by_key (sheet_rows opening K))) (pos 0) ≡ g (row_of k)

@@ -124,8 +124,7 @@ same_by_issue f g R rows c order rise alike =
 
 -- a number of the holding at a key, be it there or not
 held_number : (g : Holding → ℤ) (o : Option Holding) → g zeros ≡ pos 0 → option_map_or g o (pos 0) ≡ g (unwrap_or o zeros)
-held_number g None z = sym z
-held_number g (Some h) z = refl
+held_number g o h1 = grind arith
 
 -- few cents are within the limit of amounts
 cents_within : (n : ℕ) → n ≤ booking_limit * history_limit → n ≤ amount_limit
@@ -175,8 +174,7 @@ all_payable opening Ks (d ∷ ds) l r = payable_one opening d Ks (payments_by (m
 
 -- no more are paid than are due
 option_len : {X : Type 0} (o : Option X) (xs : List X) (n : ℕ) → length xs ≤ n → length (cons_option o xs) ≤ n + 1
-option_len None xs n h = omega (arith, h)
-option_len (Some x) xs n h = omega (arith, h)
+option_len o xs n h1 = grind arith
 
 paying_few : (ss : List DaySheet) (ds : List Declared) → length (payments_by ss ds) ≤ length ds
 paying_few ss [] = omega arith

@@ -15,7 +15,6 @@ use Rattle.cns_trades.specs.Used.{is_used}
 use Rattle.cns_terms.specs.declared.command.Activity.TheVariants as activity
 use Rattle.cns_terms.specs.declared.command.Command.TheVariants as command
 use Rattle.cns_book.proofs.EffectPlaces.{books_none}
-use Rattle.cns_book.proofs.MachineSteps.{no_refusal}
 use Rattle.cns_book.proofs.PendingSteps.{filter-reverse, still_later}
 use Rattle.cns_book.proofs.RetransmittalBatches.{batches_more}
 use Rattle.cns_book.proofs.JournalLengths.{closes_le}
@@ -26,8 +25,7 @@ pub whole_reached : {s : Contents} (L : List Activity) → Follows L s → IsWho
 whole_reached {s} L f = (limited s.opening L f.reached).whole
 
 aged : (b : Bool) (n : ℕ) → n + 1 < 2 ^ 32 → cond b (min (n + 1) (2 ^ 32 - 1)) 0 ≡ cond b (1 + n) 0
-aged true n h = omega arith
-aged false n h = refl
+aged b n h1 = grind arith
 
 -- what a close makes of what stands at a key: it is rolled, and then what is due is booked
 pub holding_close : (opening : Day) (J : Journal) (d : Day) (k : Key) → closes J + 1 < history_limit → books (entries opening J (activity.Close d)) k (rolled (holding J k.account k.issue)) ≡ holding (posting opening J (activity.Close d) ∷ J) k.account k.issue
@@ -99,5 +97,4 @@ le_test a b = grind (arith, ints)
 
 -- a close that names a later day is not refused
 pub not_late : (L : List Activity) (s : Contents) (next : Day) → Follows L s → is_le (int_cmp (day_number next) (day_number s.today)) ≡ false → refusal s.opening (journal s.opening L) (command.Activity (activity.Close next)) ≡ None
-not_late L s next f late =
-    no_refusal (rules s.opening (journal s.opening L) (activity.Close next)) (ap (λ t. int_le (day_number next) (day_number t)) (sym f.clock.today) ∙ sym (le_test (day_number next) (day_number s.today)) ∙ late, tt)
+not_late L s next f late = grind arith

@@ -1,6 +1,6 @@
 -- Entries, booked one after another.
 -- For `book` and `prepare` of effect.rt.
-use Rattle.std.proofs.Common.{◌≡◌, ◌∙◌, sym, ap, refl, ℕ, suc, zero, ◌+◌, ◌*◌, ◌^◌, ◌≤◌, ◌<◌, ℤ, pos, ◌+ℤ◌, Bool, true, false, cond, List, [], ◌∷◌, ◌++◌, length, take, get_or, arith, unsigned_abs, Contains}
+use Rattle.std.proofs.Common.{◌≡◌, ◌∙◌, ap, refl, ℕ, suc, zero, ◌+◌, ◌*◌, ◌^◌, ◌≤◌, ◌<◌, ℤ, pos, ◌+ℤ◌, Bool, true, cond, List, [], ◌∷◌, ◌++◌, length, take, get_or, arith, unsigned_abs, Contains}
 use Rattle.cns_book.proofs.Common.{AreSmallEntries, Entry, Holding, IsSmallEntry, Key, Rows, booking_limit, books, cents_for, corporation_limit, has_row, history_limit, holding_at, ints, shares_for, take_more, total, total-append}
 use Rattle.cns_positions.specs.Rows.{booked}
 use Rattle.cns_book.specs.Effects.{AreThere, AreWithin, place_of, places_of}
@@ -10,17 +10,10 @@ one_last a b q = omega (arith, ints)
 
 -- one entry more
 pub books_more : (es : List Entry) (e : Entry) (k : Key) (h : Holding) → booked e k (books es k h) ≡ books (es ++ e ∷ []) k h
-books_more es e k h =
-    sym (rw (
-      total-append (shares_for k.account k.issue) es (e ∷ []),
-      total-append (cents_for k.account k.issue) es (e ∷ []),
-      one_last (total (shares_for k.account k.issue) es) (shares_for k.account k.issue e) h.now,
-      one_last (total (cents_for k.account k.issue) es) (cents_for k.account k.issue e) h.contract,
-    ) refl)
+books_more es e k h = grind (arith, total-append, one_last)
 
 pub books_step : (es : List Entry) (i : ℕ) (e : Entry) (k : Key) (h : Holding) → i < length es → e ≡ get_or es i e → booked e k (books (take i es) k h) ≡ books (take (i + 1) es) k h
-books_step es i e k h lt is =
-    books_more (take i es) e k h ∙ ap (λ xs. books xs k h) (ap (λ x. take i es ++ (x ∷ [])) is ∙ sym (take_more es i e lt))
+books_step es i e k h lt is = grind (arith, books_more, take, take_more)
 
 -- the place of an entry among them has a row
 pub place_there : (rows : Rows) (es : List Entry) (i : ℕ) (e : Entry) → AreThere rows es → i < length es → e ≡ get_or es i e → has_row rows (place_of e) ≡ true
@@ -36,8 +29,7 @@ small_at (e ∷ es) (suc i) d a lt = small_at es i d a.1 (omega (arith, lt))
 
 -- a few numbers more
 more : (b : Bool) (s r : ℤ) (m n : ℕ) → unsigned_abs s ≤ m → unsigned_abs r ≤ m * n → unsigned_abs (cond b s (pos 0) +ℤ r) ≤ m * suc n
-more true s r m n p q = omega (arith, ints, p, q)
-more false s r m n p q = omega (arith, ints, p, q)
+more b s r m n h1 h2 = grind arith
 
 shares_few : (a : ℕ) (c : List ℕ) (es : List Entry) → AreSmallEntries es → unsigned_abs (total (shares_for a c) es) ≤ corporation_limit * length es
 shares_few a c [] h = omega arith
@@ -51,8 +43,7 @@ small_first : (es : List Entry) (i : ℕ) → AreSmallEntries es → AreSmallEnt
 small_first [] i h = none i
   where
     none : (i : ℕ) → AreSmallEntries (take i [])
-    none zero = tt
-    none (suc i) = tt
+    none i = grind arith
 small_first (e ∷ es) zero h = tt
 small_first (e ∷ es) (suc i) h = (h.0, small_first es i h.1)
 

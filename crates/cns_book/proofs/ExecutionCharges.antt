@@ -1,7 +1,7 @@
 -- The batches of the closed days after an execution.
 -- For `execute` of parts/execution.rt, clause step.
 use Rattle.std.proofs.Common.{◌≡◌, ◌∙◌, ap, refl, ℕ, zero, suc, ◌+◌, ◌<◌, Bool, true, false, cond, ◌&&◌, ◌==◌, List, [], ◌∷◌, ◌++◌, filter, length, map, Some, reverse, arith, nat_lt}
-use Rattle.cns_book.proofs.Common.{Cusip, Day, Execution, Fill, Journal, Liables, Notice, Posting, batch_since, batches_since, changed_at, charged, charged_on, closings, day, entries, eqb_sym, executes, execution_entries, fills, is_close, issues, kept_batches, length-map, length-reverse, nat_list_eq_equiv, nat_tests, notice_at, option_map_or, posting, reverse-append, same_issue}
+use Rattle.cns_book.proofs.Common.{Cusip, Day, Execution, Fill, Journal, Liables, Notice, Posting, batch_since, batches_since, changed_at, charged, charged_on, closings, day, entries, eqb_sym, executes, execution_entries, fills, is_close, issues, kept_batches, length-map, length-reverse, nat_list_eq_equiv, notice_at, option_map_or, posting, reverse-append, same_issue}
 use Rattle.cns_terms.proofs.BatchSteps.{batch_charged, batch_same}
 use Rattle.cns_retransmit.specs.Days.{charged_if, charged_in}
 use Rattle.cns_book.proofs.RetransmittalBatches.{in_issue, since_same}
@@ -36,21 +36,12 @@ module _ {X : Type 0} (h : X → X) (g : Journal → X) where
 
   others : (n j : ℕ) (Ks : List Journal) → AreDaysFrom j Ks → n < j → map (on_one n) Ks ≡ map g Ks
   others n j [] a lt = refl
-  others n j (K ∷ Ks) a lt = λ i. cond (apart (day K) n (omega (arith, a.0, lt)) i) (h (g K)) (g K) ∷ others n (suc j) Ks a.1 (omega (arith, lt)) i
-    where
-      apart : (a b : ℕ) → b < a → (a == b) ≡ false
-      apart a b h = grind (arith, nat_tests)
+  others n j (K ∷ Ks) a lt = grind (arith, others n (suc j) Ks a.1 (omega (arith, lt)))
 
   at_day : (i j n : ℕ) (Ks : List Journal) → AreDaysFrom j Ks → n ≡ i + j → map (on_one n) Ks ≡ changed_at h i (map g Ks)
   at_day i j n [] a e = refl
-  at_day zero j n (K ∷ Ks) a e = λ i. cond (same (day K) n (omega (arith, a.0, e)) i) (h (g K)) (g K) ∷ others n (suc j) Ks a.1 (omega (arith, e)) i
-    where
-      same : (a b : ℕ) → a ≡ b → (a == b) ≡ true
-      same a b h = grind (arith, nat_tests)
-  at_day (suc i) j n (K ∷ Ks) a e = λ t. cond (other (day K) n (omega (arith, a.0, e)) t) (h (g K)) (g K) ∷ at_day i (suc j) n Ks a.1 (omega (arith, e)) t
-    where
-      other : (a b : ℕ) → a < b → (a == b) ≡ false
-      other a b h = grind (arith, nat_tests)
+  at_day zero j n (K ∷ Ks) a e = grind (arith, others)
+  at_day (suc i) j n (K ∷ Ks) a e = grind (arith, at_day i (suc j) n Ks a.1 (omega (arith, e)))
 
 -- ---- the batches of one day
 
@@ -67,8 +58,7 @@ charged_kept c fs (b ∷ bs) = ap (λ n. cond (nat_lt 0 n) (charged_if c fs b �
     as_many false = refl
 
     kept : (t : Bool) → rest ≡ map (charged_if c fs) (filter (λ b. nat_lt 0 (length b.members)) bs) → cond t (charged_if c fs b ∷ rest) rest ≡ map (charged_if c fs) (cond t (b ∷ filter (λ b. nat_lt 0 (length b.members)) bs) (filter (λ b. nat_lt 0 (length b.members)) bs))
-    kept true e = ap (λ xs. charged_if c fs b ∷ xs) e
-    kept false e = e
+    kept t h1 = grind arith
 
 module _ (opening : Day) (J : Journal) (x : Execution) (k : Notice) (is : notice_at J x.notice ≡ Some k) where
   -- the execution of a notice

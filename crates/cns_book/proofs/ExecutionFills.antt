@@ -1,7 +1,7 @@
 -- The fills of an execution that is not refused can be booked.
 -- For `make_fills` of parts/execution.rt, clause booked.
-use Rattle.std.proofs.Common.{◌≡◌, ◌∙◌, ap, refl, subst, sym, ℕ, ◌+◌, ◌-◌, ◌≤◌, min, ℤ, pos, negsuc, Bool, true, false, cond, List, [], ◌∷◌, filter, sum_by, arith, ◌==◌, int_lt, nat_lt}
-use Rattle.cns_book.proofs.Common.{Activity, AllByRecursion, AreApart, CanBeExecuted, CanBeFilled, Contents, Execution, Fill, Follows, IsExecutable, IsInRange, Key, Liable, Member, Notice, batch, capacity, cents_of_fills, each_both, each_filter, each_weaker, eqb_refl, eqb_sym, filled_at, fills, fills_laid, holding_at, journal, laid, long, nat_tests, originator_at, shares_of_fills, short, stretch, sum_by-cons}
+use Rattle.std.proofs.Common.{◌≡◌, ◌∙◌, ap, refl, subst, sym, ℕ, ◌+◌, ◌-◌, ◌≤◌, min, ℤ, pos, Bool, true, false, cond, List, [], ◌∷◌, filter, sum_by, arith, ◌==◌, int_lt, nat_lt}
+use Rattle.cns_book.proofs.Common.{Activity, AllByRecursion, AreApart, CanBeExecuted, CanBeFilled, Contents, Execution, Fill, Follows, IsExecutable, IsInRange, Key, Liable, Member, Notice, batch, capacity, cents_of_fills, each_both, each_filter, each_weaker, filled_at, fills, fills_laid, holding_at, journal, laid, long, nat_tests, originator_at, shares_of_fills, short, stretch, sum_by-cons}
 use Rattle.std.proofs.Math.Nat.{min-le_right}
 use Rattle.cns_terms.specs.Positions.{position}
 use Rattle.cns_terms.proofs.BuyIns.{batch_once, remains_long, times}
@@ -33,30 +33,21 @@ module _ (now : Member → ℕ) (n m : ℕ) where
               positive a h = grind (arith, nat_tests)
 
       by : (b : Bool) → nat_lt 0 (min n (from + capacity now l) - from) ≡ b → AllByRecursion (λ f. 1 ≤ now f.member) (filled_from (from + capacity now l) ls) → AllByRecursion (λ f. 1 ≤ now f.member) (cond b (stretch n m from (from + capacity now l) l.member ∷ filled_from (from + capacity now l) ls) (filled_from (from + capacity now l) ls))
-      by true e h = (some (now l.member) e (min-le_right l.left (now l.member)), h)
-      by false e h = h
+      by b h1 h2 = grind arith
 
   -- ---- and distinct
 
   -- members other than those of the batch's rest
   others_each : (a : Member) (from : ℕ) (ls : List Liable) → times (λ (l : Liable). l.member) a ls ≤ 0 → AllByRecursion (λ f. (f.member == a) ≡ false) (laid (capacity now) n m from ls)
   others_each a from [] h = tt
-  others_each a from (l ∷ ls) h = (by (a == l.member) (eqb_sym l.member a) (omega (arith, h)), others_each a (from + capacity now l) ls (omega (arith, h)))
-    where
-      by : (b : Bool) → (l.member == a) ≡ b → cond b 1 0 ≤ 0 → (l.member == a) ≡ false
-      by true e le = absurd (omega (arith, le))
-      by false e le = e
+  others_each a from (l ∷ ls) h = grind (arith, others_each a (from + capacity now l) ls (omega (arith, h)))
 
   apart_each : (from : ℕ) (ls : List Liable) → ((a : Member) → times (λ (l : Liable). l.member) a ls ≤ 1) → AreApart (filled_from from ls)
   apart_each from [] once = tt
   apart_each from (l ∷ ls) once = by (nat_lt 0 (min n (from + capacity now l) - from)) (apart_each (from + capacity now l) ls (λ a. let o = once a in omega (arith, o)))
     where
       only : times (λ (k : Liable). k.member) l.member ls ≤ 0
-      only = one_less (l.member == l.member) (times (λ (k : Liable). k.member) l.member ls) (eqb_refl l.member) (once l.member)
-        where
-          one_less : (b : Bool) (t : ℕ) → b ≡ true → cond b 1 0 + t ≤ 1 → t ≤ 0
-          one_less true t e h = omega (arith, h)
-          one_less false t e h = cc
+      only = grind arith
 
       by : (b : Bool) → AreApart (filled_from (from + capacity now l) ls) → AreApart (cond b (stretch n m from (from + capacity now l) l.member ∷ filled_from (from + capacity now l) ls) (filled_from (from + capacity now l) ls))
       by true h = (each_filter (λ (f : Fill). (f.member == l.member) ≡ false) (λ f. nat_lt 0 f.shares) (laid (capacity now) n m (from + capacity now l) ls) (others_each l.member (from + capacity now l) ls only), h)
@@ -71,15 +62,10 @@ each_few h (f ∷ fs) n le = let all = sum_by-cons h f fs in (omega (arith, all,
 -- ---- all fills can be booked
 
 above_zero : (q : ℤ) (n : ℕ) → 1 ≤ n → n ≤ long q → int_lt (pos 0) q ≡ true
-above_zero (pos m) n one le = positive m (omega (arith, one, le))
-  where
-    positive : (m : ℕ) → 1 ≤ m → nat_lt 0 m ≡ true
-    positive m h = grind (arith, nat_tests)
-above_zero (negsuc m) n one le = absurd (omega (arith, one, le))
+above_zero q n h1 h2 = grind arith
 
 below_zero : (q : ℤ) → 1 ≤ short q → int_lt q (pos 0) ≡ true
-below_zero (pos m) h = absurd (omega (arith, h))
-below_zero (negsuc m) h = refl
+below_zero q h1 = grind arith
 
 pub can_execute : (L : List Activity) (s : Contents) (x : Execution) (k : Notice) → Follows L s → ((key : Key) → IsWithin (holding_at s.rows key)) → IsInRange (activity.Execute x) → IsExecutable (journal s.opening L) x k → CanBeExecuted s.rows k.given (fills (journal s.opening L) x k)
 can_execute L s x k f within range can =

@@ -1,6 +1,7 @@
 -- An execution: what it is refused for, and what it leaves.
 -- For `check_execution` of parts/execution.rt, clauses refused and accepted.
-use Rattle.std.proofs.Common.{min, ◌≡◌, ◌∙◌, ap, sym, subst, refl, ℕ, zero, suc, ◌+◌, ◌-◌, ◌≤◌, ◌<◌, Bool, true, false, not, cond, ◌&&◌, ◌⊎◌, inl, inr, List, [], ◌∷◌, length, Option, Some, None, is_none, arith, slice_get, IfSome, ◌==◌, nat_lt, option_map, unsigned_abs}
+use Rattle.std.proofs.Common.{min, ◌≡◌, ◌∙◌, ap, sym, subst, refl, ℕ, zero, suc, ◌+◌, ◌-◌, ◌≤◌, ◌<◌, Bool, true, false, not, cond, ◌&&◌, ◌⊎◌, List, [], ◌∷◌, length, Option, Some, None, is_none, arith, slice_get, IfSome, ◌==◌, nat_lt, option_map, unsigned_abs}
+use Rattle.std.proofs.lemmas.Option.{same_Some}
 use Rattle.cns_book.proofs.Common.{Activity, Contents, Day, Ended, ExceedsPosition, Execution, Expired, Follows, IsExecutable, IsInRange, Journal, Key, Live, NoSuchNotice, NotLive, Notice, Noticed, Posting, Refusal, Rows, Stage, Withdrawn, all_fail, batch_on, books, capped_short, changed_one, charged_on, corporation_limit, day, entries_by, executable, fills, fills_of, first_refusal, holding_at, is_live, is_so, journal, kept_found, nat_tests, notice_at, option_map_or, posting, refusal, remaining, remaining_by, room, room_of, stage, with_notice}
 use Rattle.cns_terms.specs.declared.buy_in.Given.{Given}
 use Rattle.cns_terms.specs.declared.refusal.Refusal.TheVariants.{NotLiable, TooEarly}
@@ -43,10 +44,7 @@ named L s j f there = by (notice_at J j) refl
 
 -- what is read of it
 pub read_of : {X : Type 0} (h : Noticed → X) (o : Option Noticed) (y : Noticed) (v : X) → o ≡ Some y → Some v ≡ option_map h o → v ≡ h y
-read_of h o y v e is = inside _ _ (is ∙ ap (option_map h) e)
-  where
-    inside : {Y : Type 0} (a b : Y) → Some a ≡ Some b → a ≡ b
-    inside a b e = cc
+read_of h o y v e is = same_Some _ _ (is ∙ ap (option_map h) e)
 
 -- ---- what an execution is refused for
 
@@ -55,11 +53,7 @@ abbrev verdict : Bool → Bool → Bool → Bool → ℕ → Option Refusal
 verdict live exceeds early over n = cond live (cond exceeds (Some ExceedsPosition) (cond early (Some TooEarly) (cond over (Some (NotLiable n)) None))) (Some NotLive)
 
 in_order_of_rules : (live exceeds early over : Bool) (n : ℕ) → first_refusal ((ExceedsPosition, live && exceeds) ∷ (NoSuchNotice, false) ∷ (NotLive, not live) ∷ (TooEarly, early) ∷ (NotLiable n, over) ∷ []) ≡ verdict live exceeds early over n
-in_order_of_rules false exceeds early over n = refl
-in_order_of_rules true true early over n = refl
-in_order_of_rules true false true over n = refl
-in_order_of_rules true false false true n = refl
-in_order_of_rules true false false false n = refl
+in_order_of_rules live exceeds early over n = grind arith
 
 -- the rules, by the notice that is named, if there is one
 abbrev by_notice : Journal → Execution → Option Notice → Option Refusal
@@ -132,9 +126,7 @@ no_less a b h = grind (arith, nat_tests)
 
 -- no other stage is live
 pub dead : (t : Stage) → (t ≡ Withdrawn) ⊎ ((t ≡ Ended) ⊎ (t ≡ Expired)) → is_live t ≡ false
-dead t (inl e) = ap is_live e
-dead t (inr (inl e)) = ap is_live e
-dead t (inr (inr e)) = ap is_live e
+dead t h1 = grind arith
 
 -- it isn't live
 pub execute_not_live : (L : List Activity) (s : Contents) (x : Execution) (t : Stage) (g : Given) → (1 ≤ x.notice) × (x.notice ≤ length s.notices) → Some t ≡ option_map (λ y. y.stage) (kept_at s.notices x.notice) → Some g ≡ option_map (λ y. y.given) (kept_at s.notices x.notice) → is_live t ≡ false → Follows L s → AreShort s

@@ -1,11 +1,10 @@
 -- The batch of a notice, and what it can be given, as the parts show them.
 -- For `check_execution` of parts/execution.rt, clause refused, and `batch` and `batches` of parts/reading.rt.
-use Rattle.std.proofs.Common.{◌≡◌, ◌∙◌, ap, sym, refl, ℕ, zero, suc, ◌+◌, ◌^◌, ◌-◌, ◌≤◌, min, ℤ, pos, negsuc, Bool, true, false, cond, ◌||◌, ◌==◌, List, [], ◌∷◌, ◌++◌, filter, find, length, map, Option, Some, None, reverse, arith, slice_get, IfSome, unwrap_or, nat_lt, option_map, unsigned_abs}
-use Rattle.cns_book.proofs.Common.{Activity, Contents, Cusip, Day, Follows, IsSound, Journal, Key, Liable, Liables, at_close, batch, batch_in, batch_on, batch_since, batches, batches_on, batches_since, bytes_eq-Decides, capped_short, chosen, closes, closings, corporation_limit, day, holding_at, ints, is_close, is_listed, issues, journal, kept_batches, left_of, length-reverse, limited, list_any, nat_tests, option_map_or, reverse-append, same_issue, short, shorts}
+use Rattle.std.proofs.Common.{◌≡◌, ◌∙◌, ap, sym, refl, ℕ, zero, suc, ◌+◌, ◌^◌, ◌-◌, ◌≤◌, min, ℤ, Bool, true, false, cond, ◌||◌, ◌==◌, List, [], ◌∷◌, ◌++◌, filter, find, length, map, Option, Some, None, reverse, arith, slice_get, IfSome, unwrap_or, nat_lt, option_map, unsigned_abs}
+use Rattle.cns_book.proofs.Common.{Activity, Contents, Cusip, Day, Follows, IsSound, Journal, Key, Liable, Liables, at_close, batch, batch_in, batch_on, batch_since, batches, batches_on, batches_since, bytes_eq-Decides, capped_short, chosen, closings, corporation_limit, day, holding_at, is_close, is_listed, issues, journal, kept_batches, left_of, length-reverse, limited, list_any, nat_tests, option_map_or, reverse-append, same_issue, short, shorts}
 use Rattle.std.proofs.lemmas.Option.{slice_get-map}
 use Rattle.cns_terms.specs.Positions.{position}
 use Rattle.cns_terms.proofs.BuyIns.{each_named}
-use Rattle.cns_terms.proofs.Sound.{whole_nil}
 use Rattle.cns_book.proofs.RetransmittalBatches.{in_issue}
 use Rattle.cns_book.proofs.RetransmittalSteps.{chosen_none, uncalled}
 
@@ -14,18 +13,9 @@ use Rattle.cns_book.proofs.RetransmittalSteps.{chosen_none, uncalled}
 -- one item more
 get_last : {X : Type 0} (xs : List X) (y : X) (n : ℕ) → slice_get (xs ++ y ∷ []) n ≡ cond (length xs + 1 == suc n) (Some y) (slice_get xs n)
 get_last [] y zero = refl
-get_last [] y (suc n) = ap (λ b. cond b (Some y) None) (sym (apart n))
-  where
-    apart : (m : ℕ) → (0 + 1 == suc (suc m)) ≡ false
-    apart m = grind (arith, nat_tests)
-get_last (x ∷ xs) y zero = ap (λ b. cond b (Some y) (Some x)) (sym (apart (length xs)))
-  where
-    apart : (m : ℕ) → (suc m + 1 == 1) ≡ false
-    apart m = grind (arith, nat_tests)
-get_last (x ∷ xs) y (suc n) = get_last xs y n ∙ ap (λ b. cond b (Some y) (slice_get xs n)) (next (length xs) n)
-  where
-    next : (m n : ℕ) → (m + 1 == suc n) ≡ (suc m + 1 == suc (suc n))
-    next m n = grind (arith, nat_tests)
+get_last [] y (suc n) = grind arith
+get_last (x ∷ xs) y zero = grind arith
+get_last (x ∷ xs) y (suc n) = grind (arith, get_last xs y n)
 
 -- the close of a day stands at the place before its number
 closing_at : (J : Journal) (n : ℕ) → slice_get (reverse (closings J)) n ≡ find (λ K. day K == suc n) (closings J)
@@ -42,10 +32,7 @@ closing_at (p ∷ J) n = by (is_close p.activity) (closing_at J n)
 -- no day has the number 0
 no_day_zero : (Ks : List Journal) → find (λ K. day K == 0) Ks ≡ None
 no_day_zero [] = refl
-no_day_zero (K ∷ Ks) = ap (λ b. cond b (Some K) (find (λ K. day K == 0) Ks)) (apart (closes K)) ∙ no_day_zero Ks
-  where
-    apart : (m : ℕ) → (m + 1 == 0) ≡ false
-    apart m = grind (arith, nat_tests)
+no_day_zero (K ∷ Ks) = grind (arith, no_day_zero Ks)
 
 -- the batches of a day
 pub on_day : (J : Journal) (n : ℕ) → batches_on (kept_batches J) n ≡ batches J n
@@ -78,8 +65,7 @@ members_in g (d ∷ cs) c = by (same_issue d c) (g d) (λ e. ap g ((bytes_eq-Dec
     some n = grind (arith, nat_tests)
 
     none_either : (b : Bool) (ls : List Liable) → [] ≡ ls → cond b ls [] ≡ ls
-    none_either true ls e = refl
-    none_either false ls e = e
+    none_either b ls h1 = grind arith
 
     by : (t : Bool) (ls : List Liable) → (same_issue d c ≡ true → g d ≡ g c) → g d ≡ ls → members_of (batch_in rest c) ≡ listed_members g cs c → same_issue d c ≡ t → members_of (batch_in (cond (nat_lt 0 (length ls)) (record { issue = d; members = ls } ∷ rest) rest) c) ≡ cond (t || list_any (λ e. same_issue e c) cs) (g c) []
     by true [] same is h e = h ∙ none_either (list_any (λ e. same_issue e c) cs) (g c) (sym is ∙ same e)
@@ -96,8 +82,7 @@ pub sound_at : (opening : Day) (L : List Activity) (n : ℕ) → Rattle.cns_term
 sound_at opening L n r = by (find (λ K. day K == n) (closings (journal opening L))) (each_named IsSound (λ K. day K == n) (closings (journal opening L)) (limited opening L r).whole.past)
   where
     by : (o : Option Journal) → IfSome o IsSound → IsSound (unwrap_or o [])
-    by None h = (whole_nil {opening = opening}).now
-    by (Some K) h = h
+    by o h1 = grind arith
 
 -- in an issue that is not listed nobody is liable
 nobody : (J K : Journal) (c : Cusip) → IsSound K → listed_members (batch_since J K) (issues K) c ≡ batch_since J K c
@@ -120,8 +105,7 @@ batch_members L s n c f =
 -- ---- who is short now
 
 short_capped : (q : ℤ) → unsigned_abs q ≤ corporation_limit → min (short q) (2 ^ 63 - 1) ≡ short q
-short_capped (pos n) h = omega arith
-short_capped (negsuc n) h = omega (arith, ints, h)
+short_capped q h1 = grind arith
 
 -- how much each member is short
 pub shorts_now : (L : List Activity) (s : Contents) (c : Cusip) → Follows L s → ((k : Key) → unsigned_abs (holding_at s.rows k).now ≤ corporation_limit) → capped_short s.rows c ≡ (λ a. short (position (journal s.opening L) a c))

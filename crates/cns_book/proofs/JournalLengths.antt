@@ -1,11 +1,10 @@
 -- How many postings and closes there are.
 -- For `close_day` of parts/closing.rt.
-use Rattle.std.proofs.Common.{suc, ◌≤◌, Bool, true, false, cond, [], ◌∷◌, length, arith}
+use Rattle.std.proofs.Common.{suc, ◌≤◌, Bool, cond, [], ◌∷◌, length, arith}
 use Rattle.cns_book.proofs.Common.{Journal, closes, closings, is_close}
 
 prefix_le : (b : Bool) (J : Journal) → length (closings J) ≤ length J → length (cond b (J ∷ closings J) (closings J)) ≤ suc (length J)
-prefix_le true J h = omega (arith, h)
-prefix_le false J h = omega (arith, h)
+prefix_le b J h1 = grind arith
 
 -- no more closes than postings
 pub closes_le : (J : Journal) → closes J ≤ length J

@@ -1,7 +1,7 @@
 -- A close tells the date of its day, and how many rows its sheet and how many members its batches have.
 -- For `close_counts` of laws.rt.
-use Rattle.std.proofs.Common.{◌≡◌, ◌∙◌, ap, sym, subst, refl, ℕ, ◌≤◌, true, cond, ◌==◌, List, [], ◌∷◌, flat_map, length, Option, Some, None, arith, find, is_none, unwrap_or, length-append}
-use Rattle.cns_book.proofs.Common.{Command, Cusip, Day, IsWhole, Journal, Refusal, State, after, at_close, batch_at, batch_since, batches_since, closings, date, day, issues, journal, journal_of, left_of, length-map, nat_tests, next, opened, option_map_or, posting, refusal, sheet_rows}
+use Rattle.std.proofs.Common.{◌≡◌, ◌∙◌, ap, sym, subst, refl, ℕ, ◌≤◌, cond, ◌==◌, List, [], ◌∷◌, flat_map, length, Option, Some, None, arith, find, is_none, unwrap_or, length-append}
+use Rattle.cns_book.proofs.Common.{Command, Cusip, Day, IsWhole, Journal, Refusal, State, after, at_close, batch_at, batch_since, batches_since, closings, date, day, issues, journal, journal_of, left_of, length-map, next, opened, option_map_or, posting, refusal, sheet_rows}
 use Rattle.cns_terms.specs.declared.reply.Closed.{Closed}
 use Rattle.cns_terms.specs.Batches.{liable_at}
 use Rattle.cns_terms.specs.Machine.{activity_reply}
@@ -28,10 +28,7 @@ counted J K = sum_of (batch_since J K) (issues K) ∙ still_liable J K (issues K
 
 -- the journal that a close found is found by its day
 close_found : (J : Journal) (n : ℕ) → n ≡ day J → unwrap_or (find (λ K. day K == n) (J ∷ closings J)) [] ≡ J
-close_found J n e = ap (λ b. unwrap_or (cond b (Some J) (find (λ K. day K == n) (closings J))) []) (same (day J) n e)
-  where
-    same : (a b : ℕ) → b ≡ a → (a == b) ≡ true
-    same a b e = grind (arith, nat_tests, e)
+close_found J n h1 = grind arith
 
 -- what an accepted close tells, and what the journal has at the close of its day from then on
 by_refusal : (S : State) (more : List Command) (d : Day) (c : Closed) (o : Option Refusal) → IsWhole S.opening (journal_of S) → refusal S.opening (journal_of S) (command.Activity (activity.Close d)) ≡ o

@@ -11,6 +11,7 @@ use Rattle.cns_book.specs.Members.{has_member}
 use Rattle.cns_book.proofs.PartsStaying.{batches_stay, clock_stays, dividends_stay, is_dividend, is_execution, is_noticing, listings_stay, notices_stay, rows_stay, sheets_stay}
 use Rattle.cns_terms.specs.declared.command.Activity.TheVariants as activity
 use Rattle.cns_terms.specs.declared.command.Command.TheVariants as command
+use Rattle.std.proofs.Common.{arith}
 
 module _ (L : List Activity) (s : Contents) where
   -- an activity that books nothing and closes no day, where the listings follow it
@@ -62,8 +63,7 @@ dividend_declared L s d new f range none is =
     }
 
 listed_branch : (b t : Bool) (p q : ℕ) → cond t (Some p) (cond b (Some q) None) ≡ cond (t || b) (Some (cond t p q)) None
-listed_branch b true p q = refl
-listed_branch b false p q = refl
+listed_branch b t p q = grind arith
 
 -- an issue more
 pub issue_listed : (L : List Activity) (s : Contents) (l : Listing) (new : Listed) → Follows L s → l.price ≤ price_limit → refusal s.opening (journal s.opening L) (command.Activity (activity.Issue l)) ≡ None → ((c : Cusip) → price_in new c ≡ cond (bytes_eq l.issue c) (Some l.price) (price_in s.prices c))
@@ -80,17 +80,10 @@ issue_listed L s l new f range none h r = entered L s (activity.Issue l) s.membe
 
 -- a listed issue has a price
 pub listed : (b : Bool) (p : ℕ) (o : Option ℕ) → o ≡ cond b (Some p) None → is_some o ≡ b
-listed true p o e = ap is_some e
-listed false p o e = ap is_some e
+listed b p o h1 = grind arith
 
 set_branch : (b t : Bool) (p q : ℕ) → (t ≡ true → b ≡ true) → cond t (Some p) (cond b (Some q) None) ≡ cond b (Some (cond t p q)) None
-set_branch true true p q h = refl
-set_branch true false p q h = refl
-set_branch false true p q h = absurd (no (h refl))
-  where
-    no : false ≡ true → ⊥
-    no e = cc
-set_branch false false p q h = refl
+set_branch b t p q h1 = grind arith
 
 -- a price set anew
 pub price_set : (L : List Activity) (s : Contents) (l : Listing) (new : Listed) → Follows L s → l.price ≤ price_limit → refusal s.opening (journal s.opening L) (command.Activity (activity.Price l)) ≡ None → is_listed (journal s.opening L) l.issue ≡ true → ((c : Cusip) → price_in new c ≡ cond (bytes_eq l.issue c) (Some l.price) (price_in s.prices c))

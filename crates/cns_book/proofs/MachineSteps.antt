@@ -1,13 +1,14 @@
 -- The machine's reply and step, by whether a command is refused.
 -- For every command, clause step.
 -- For `give_notice`, `notice_refusal` and `withdraw` of parts/notice.rt, `split` of parts/actions.rt and others.
-use Rattle.std.proofs.Common.{◌≡◌, ◌∙◌, sym, ap, subst, refl, cond, Bool, true, false, not, List, [], ◌∷◌, ◌++◌, Some, None, Ok, find, option_map, is_none, Result, Err, IsErr}
+use Rattle.std.proofs.Common.{◌≡◌, ◌∙◌, sym, ap, subst, refl, cond, Bool, false, List, [], ◌∷◌, ◌++◌, Some, None, Ok, find, option_map, is_none, Result, IsErr}
 use Rattle.cns_book.proofs.Common.{Activity, AllByRecursion, Command, Contents, Follows, Refusal, Reply, Rule, first_refusal, journal, option_map_or, refusal}
 use Rattle.cns_terms.specs.declared.fault.NoMemory.{NoMemory}
 use Rattle.cns_terms.specs.Machine.{activity_reply}
 use Rattle.cns_book.specs.Follows.{Steps}
 use Rattle.cns_terms.specs.declared.command.Command.TheVariants as command
 use Rattle.cns_terms.specs.declared.reply.Reply.TheVariants as reply
+use Rattle.std.proofs.Common.{arith}
 
 -- an accepted activity
 pub accepted : {s : Contents} (L : List Activity) (x : Activity) (r : Reply) → refusal s.opening (journal s.opening L) (command.Activity x) ≡ None → r ≡ activity_reply s.opening (journal s.opening L) x → Follows (x ∷ L) s → Steps L (command.Activity x) (Ok r) s
@@ -28,11 +29,6 @@ pub no_refusal : (rules : List Rule) → AllByRecursion (λ r. r.1 ≡ false) ru
 no_refusal [] h = refl
 no_refusal (r ∷ rules) h = ap (λ b. option_map (λ (r : Rule). r.0) (cond b (Some r) (find (λ r. r.1) rules))) h.0 ∙ no_refusal rules h.1
 
--- a rule whose condition is that something is not so does not hold, so it is so
-pub so : (b : Bool) → not b ≡ false → b ≡ true
-so true h = refl
-so false h = cc
-
 -- what is refused by the first rules is refused by them and more
 pub still_refused : (rs ss : List Rule) (r : Refusal) → first_refusal rs ≡ Some r → first_refusal (rs ++ ss) ≡ Some r
 still_refused [] ss r h = cc
@@ -40,10 +36,8 @@ still_refused (t ∷ rs) ss r h = by t.1 h (still_refused rs ss r)
   where
     by : (b : Bool) → option_map (λ (r : Rule). r.0) (cond b (Some t) (find (λ r. r.1) rs)) ≡ Some r → (first_refusal rs ≡ Some r → first_refusal (rs ++ ss) ≡ Some r)
         → option_map (λ (r : Rule). r.0) (cond b (Some t) (find (λ r. r.1) (rs ++ ss))) ≡ Some r
-    by true e more = e
-    by false e more = more e
+    by b h1 h2 = grind arith
 
 -- without memory nothing that is shown has changed
 pub stopped : {s : Contents} (L : List Activity) (cmd : Command) (r : Result Reply NoMemory) → IsErr r → refusal s.opening (journal s.opening L) cmd ≡ None → Follows L s → Steps L cmd r s
-stopped L cmd (Ok r) e none f = cc
-stopped L cmd (Err r) e none f = (none, f)
+stopped L cmd r h1 h2 h3 = grind arith

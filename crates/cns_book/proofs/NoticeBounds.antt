@@ -1,8 +1,9 @@
 -- How much is received and bought in on a notice, and of which days notices are.
 -- For parts/notice.rt, and `execute` of parts/execution.rt: what the calls of notices require.
 -- For `give_notice` of parts/notice.rt, `receive` of parts/trading.rt, `execute` of parts/execution.rt.
-use Rattle.std.proofs.Common.{◌≡◌, ◌∙◌, ap, sym, subst, refl, ℕ, zero, suc, ◌+◌, ◌*◌, ◌-◌, ◌^◌, ◌≤◌, ◌<◌, Bool, true, false, cond, ◌&&◌, ◌==◌, List, [], ◌∷◌, ◌++◌, length, map, Option, Some, None, arith, slice_get}
-use Rattle.cns_book.proofs.Common.{Activity, AllByRecursion, Contents, Day, ForSome, HasRoom, IsInRange, IsReached, Journal, Movement, Notice, Noticed, day, days_by, each_append, each_map, execution, history_limit, is_given, is_live, journal, journal_len, kept_notices, length-map, notice, noticed, notices, option_map_or, receipt, received_live, same_issue, shares_executed, shares_limit, stage}
+use Rattle.std.proofs.Common.{◌≡◌, ◌∙◌, ap, sym, subst, refl, ℕ, zero, suc, ◌+◌, ◌*◌, ◌-◌, ◌^◌, ◌≤◌, ◌<◌, Bool, cond, ◌&&◌, List, [], ◌∷◌, ◌++◌, length, map, Option, Some, None, arith, slice_get}
+use Rattle.std.proofs.lemmas.Option.{same_Some}
+use Rattle.cns_book.proofs.Common.{Activity, AllByRecursion, Contents, Day, ForSome, HasRoom, IsInRange, IsReached, Journal, Movement, Notice, Noticed, day, days_by, each_append, each_map, execution, history_limit, is_given, is_live, journal, journal_len, kept_notices, length-map, notice, noticed, notices, option_map_or, receipt, received_live, shares_executed, shares_limit, stage}
 use Rattle.cns_notices.specs.Kept.{kept}
 use Rattle.cns_notices.specs.Noticed.{notice_at}
 use Rattle.cns_notices.proofs.NoticeFacts.{notices_few}
@@ -10,35 +11,24 @@ use Rattle.cns_terms.specs.declared.command.Activity.TheVariants as activity
 
 -- ---- one activity
 
--- shares where a test says so
-some_or_none : (b : Bool) (n : ℕ) → n ≤ shares_limit → cond b n 0 ≤ shares_limit
-some_or_none true n h = h
-some_or_none false n h = omega arith
-
 -- an activity in its ranges receives no more shares than one command can
 receipt_small : (n : Notice) (x : Activity) → IsInRange x → receipt n x ≤ shares_limit
-receipt_small n (activity.Receive m) r = some_or_none ((m.member == n.given.member) && same_issue m.issue n.given.issue) m.shares r
-receipt_small n _ r = omega arith
+receipt_small n x h1 = grind arith
 
 -- nor does it buy in more
 execution_small : (n : Notice) (x : Activity) → IsInRange x → execution n x ≤ shares_limit
-execution_small n (activity.Execute x) r = some_or_none (x.notice == n.number) x.shares r.1
-execution_small n _ r = omega arith
+execution_small n x h1 = grind arith
 
 -- nor does it give notice of more
 noticed_small : (x : Activity) → IsInRange x → ForSome (noticed x) (λ m. m.shares ≤ shares_limit)
-noticed_small (activity.Notice m) r n e = subst (λ (m : Movement). m.shares ≤ shares_limit) (inside e) r
-  where
-    inside : Some m ≡ Some n → m ≡ n
-    inside e = cc
+noticed_small (activity.Notice m) r n e = subst (λ (m : Movement). m.shares ≤ shares_limit) (same_Some m n e) r
 noticed_small (activity.Member m) r n e = cc
 noticed_small _ r n e = cc
 
 -- ---- many
 
 one_more : (b : Bool) (n m k : ℕ) → n ≤ shares_limit → m ≤ shares_limit * k → cond b n 0 + m ≤ shares_limit * suc k
-one_more true n m k h l = omega (arith, h, l)
-one_more false n m k h l = omega (arith, l)
+one_more b n m k h1 h2 = grind arith
 
 -- what is received on a notice
 received_few : (opening : Day) (L : List Activity) (n : Notice) → IsReached opening L → received_live (journal opening L) n ≤ shares_limit * length L
@@ -66,10 +56,7 @@ given_few opening (x ∷ L) r = by (noticed x) (noticed_small x r.0) (given_few 
 -- what holds of each holds of the one at a place
 pub each_at : {X : Type 0} (P : X → Type 0) (xs : List X) (i : ℕ) → AllByRecursion P xs → ForSome (slice_get xs i) P
 each_at P [] i a y e = cc
-each_at P (x ∷ xs) zero a y e = subst P (inside e) a.0
-  where
-    inside : Some x ≡ Some y → x ≡ y
-    inside e = cc
+each_at P (x ∷ xs) zero a y e = subst P (same_Some x y e) a.0
 each_at P (x ∷ xs) (suc i) a y e = each_at P xs i a.1 y e
 
 -- what holds of each notice holds of each that is kept

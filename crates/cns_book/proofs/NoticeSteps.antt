@@ -1,7 +1,8 @@
 -- Notices and withdrawals: what they are refused for, and what they leave.
 -- For parts/notice.rt, clauses refusal and step.
 -- For `give_notice`, `withdraw_refusal`, `notice_refusal` and `withdraw` of parts/notice.rt and others.
-use Rattle.std.proofs.Common.{◌≡◌, ◌∙◌, ap, sym, refl, ℕ, zero, suc, ◌+◌, ◌-◌, ◌≤◌, ℤ, pos, Bool, true, false, not, cond, List, [], ◌∷◌, ◌++◌, length, map, Option, Some, None, ◌⊎◌, inl, inr, is_none, is_some, arith, slice_get, IsSomeAnd, ◌==◌, find, int_le, nat_le, option_map}
+use Rattle.std.proofs.Common.{◌≡◌, ◌∙◌, ap, sym, refl, ℕ, zero, suc, ◌+◌, ◌-◌, ◌≤◌, ℤ, pos, Bool, true, false, not, cond, List, [], ◌∷◌, ◌++◌, length, map, Option, Some, None, ◌⊎◌, is_none, is_some, arith, slice_get, IsSomeAnd, ◌==◌, find, int_le, nat_le, option_map}
+use Rattle.std.proofs.lemmas.Option.{same_Some}
 use Rattle.cns_book.proofs.Common.{Activity, AlreadyNoticed, Contents, Day, Ended, ExceedsPosition, Expired, Follows, FollowsNotices, FollowsPending, IsInRange, Journal, Live, Movement, NoSuchIssue, NoSuchMember, NoSuchNotice, NotLive, NotLong, Notice, Noticed, Posting, Refusal, Retired, Rule, Stage, Withdrawn, books, changed_each, changed_one, entries, first_reached, first_refusal, holding_at, is_close, is_exceeded, is_listed, is_live, is_member, is_retired, is_seen, is_so, issue_rules, journal, kept_found, length-map, live_number, nat_tests, notice_at, notices, option_map_or, posting, refusal, remaining_by, stage, with_notice}
 use Rattle.cns_terms.specs.declared.buy_in.Given.{Given}
 use Rattle.cns_terms.specs.Notices.{live_notice}
@@ -60,8 +61,7 @@ notice_issue L s m q r member h =
     ∙ still_refused (issue_rules (is_listed J m.issue) (is_retired J m.issue)) rest r h
   where
     there : (b : Bool) (p q : ℤ) → Some q ≡ cond b (Some p) None → b ≡ true
-    there true p q e = refl
-    there false p q e = cc
+    there b p q h1 = grind arith
 
 -- what a notice is refused for, where it is of a long member's shares in a current issue
 pub notice_answer : (L : List Activity) (s : Contents) (m : Movement) (q : ℤ) → Follows L s → Some q ≡ cond (is_member (journal s.opening L) m.member) (Some (position (journal s.opening L) m.member m.issue)) None → is_listed (journal s.opening L) m.issue ≡ true → is_retired (journal s.opening L) m.issue ≡ false
@@ -77,12 +77,10 @@ notice_answer L s m q f member listed current enough long =
     ∙ ap (option_map AlreadyNoticed) (sym (ap (λ xs. live_number xs m.member m.issue) f.notices ∙ live_same J m.member m.issue))
   where
     member_at : (b : Bool) (p q : ℤ) → Some q ≡ cond b (Some p) None → (b ≡ true) × (p ≡ q)
-    member_at true p q e = (refl, cc)
-    member_at false p q e = cc
+    member_at b p q h1 = grind arith
 
     by : (o : Option Notice) → first_refusal ((NoSuchMember, false) ∷ (NoSuchIssue, false) ∷ (Retired, false) ∷ (ExceedsPosition, false) ∷ (NotLong, false) ∷ (AlreadyNoticed (option_map_or (λ n. n.number) o 0), is_some o) ∷ []) ≡ option_map AlreadyNoticed (option_map (λ n. n.number) o)
-    by None = refl
-    by (Some n) = refl
+    by o = grind arith
 
 -- how many notices there are
 pub notices_counted : (L : List Activity) (s : Contents) → Follows L s → length s.notices ≡ length (notices (journal s.opening L))
@@ -99,10 +97,7 @@ notice_missing L s k f never = by k never
 
     found : (ns : List Notice) (j : ℕ) → AreNumberedFrom (suc j) ns → find (λ n. n.number == 0) ns ≡ None
     found [] j h = refl
-    found (n ∷ ns) j h = ap (λ b. cond b (Some n) (find (λ n. n.number == 0) ns)) (above n.number j h.0) ∙ found ns (suc j) h.1
-      where
-        above : (a j : ℕ) → a ≡ suc j → (a == 0) ≡ false
-        above a j e = grind (arith, nat_tests)
+    found (n ∷ ns) j h = grind (arith, found ns (suc j) h.1)
 
     past : (xs : List Notice) (i : ℕ) → length xs ≤ i → slice_get xs i ≡ None
     past [] i h = refl
@@ -124,17 +119,7 @@ notice_missing L s k f never = by k never
 
 -- where one has it, it is found as it is kept
 pub notice_there : (L : List Activity) (s : Contents) (k : ℕ) (x : Noticed) → Follows L s → 1 ≤ k → kept_at s.notices k ≡ Some x → IsSomeAnd (notice_at (journal s.opening L) k) (λ n. kept (journal s.opening L) n ≡ x)
-notice_there L s k x f le is = by (notice_at J k) (sym (kept_found J k le) ∙ ap (λ xs. kept_at xs k) (sym f.notices) ∙ is)
-  where
-    J : Journal
-    J = journal s.opening L
-
-    by : (o : Option Notice) → option_map (kept J) o ≡ Some x → IsSomeAnd o (λ n. kept J n ≡ x)
-    by None e = cc
-    by (Some n) e = inside (kept J n) x e
-      where
-        inside : (y z : Noticed) → Some y ≡ Some z → y ≡ z
-        inside y z e = cc
+notice_there L s k x h1 h2 h3 = grind (arith, kept_found, kept)
 
 -- ---- a withdrawal
 
@@ -143,18 +128,7 @@ pub withdraw_missing : (opening : Day) (L : List Activity) (k : ℕ) → notice_
 withdraw_missing opening L k h = ap (λ o. first_refusal ((NoSuchNotice, is_none o) ∷ (NotLive, is_so (λ n. not (is_live (stage (journal opening L) n))) o) ∷ [])) h
 
 pub withdraw_there : (opening : Day) (L : List Activity) (k : ℕ) (x : Noticed) → IsSomeAnd (notice_at (journal opening L) k) (λ n. kept (journal opening L) n ≡ x) → refusal opening (journal opening L) (command.Activity (activity.Withdraw k)) ≡ cond (is_live x.stage) None (Some NotLive)
-withdraw_there opening L k x there = by (notice_at J k) there
-  where
-    J : Journal
-    J = journal opening L
-
-    if_not : (b : Bool) → first_refusal ((NoSuchNotice, false) ∷ (NotLive, not b) ∷ []) ≡ cond b None (Some NotLive)
-    if_not true = refl
-    if_not false = refl
-
-    by : (o : Option Notice) → IsSomeAnd o (λ n. kept J n ≡ x) → first_refusal ((NoSuchNotice, is_none o) ∷ (NotLive, is_so (λ n. not (is_live (stage J n))) o) ∷ []) ≡ cond (is_live x.stage) None (Some NotLive)
-    by None h = absurd h
-    by (Some n) h = if_not (is_live (stage J n)) ∙ ap (λ (y : Noticed). cond (is_live y.stage) None (Some NotLive)) h
+withdraw_there opening L k x h1 = grind arith
 
 -- by its stage
 pub withdraw_by_stage : (L : List Activity) (s : Contents) (k : ℕ) (st : Stage) → Follows L s → 1 ≤ k → Some st ≡ option_map (λ (x : Noticed). x.stage) (kept_at s.notices k) → refusal s.opening (journal s.opening L) (command.Activity (activity.Withdraw k)) ≡ cond (is_live st) None (Some NotLive)
@@ -162,16 +136,11 @@ withdraw_by_stage L s k st f le is = by (kept_at s.notices k) refl is
   where
     by : (o : Option Noticed) → kept_at s.notices k ≡ o → Some st ≡ option_map (λ (x : Noticed). x.stage) o → refusal s.opening (journal s.opening L) (command.Activity (activity.Withdraw k)) ≡ cond (is_live st) None (Some NotLive)
     by None e h = cc
-    by (Some x) e h = withdraw_there s.opening L k x (notice_there L s k x f le e) ∙ ap (λ t. cond (is_live t) None (Some NotLive)) (inside x.stage st (sym h))
-      where
-        inside : (a b : Stage) → Some a ≡ Some b → a ≡ b
-        inside a b e = cc
+    by (Some x) e h = withdraw_there s.opening L k x (notice_there L s k x f le e) ∙ ap (λ t. cond (is_live t) None (Some NotLive)) (same_Some x.stage st (sym h))
 
 -- a stage that is not live
 pub not_live : (st : Stage) → (st ≡ Withdrawn) ⊎ ((st ≡ Ended) ⊎ (st ≡ Expired)) → is_live st ≡ false
-not_live st (inl e) = ap is_live e
-not_live st (inr (inl e)) = ap is_live e
-not_live st (inr (inr e)) = ap is_live e
+not_live st h1 = grind arith
 
 -- a notice that is taken back at a stage
 abbrev back : Noticed → Stage → Noticed
@@ -193,10 +162,7 @@ notice_withdrawn L s k f none le live =
     ∙ sym (changed_one J p taken_back k le (λ j y. withdrawn_by (k == j) y)))
   where
     at_once : (x : Noticed) → slice_get s.notices (k - 1) ≡ Some x → x.stage ≡ Live
-    at_once x e = inside x.stage Live (sym (live ∙ ap (option_map (λ (y : Noticed). y.stage)) e))
-      where
-        inside : (a b : Stage) → Some a ≡ Some b → a ≡ b
-        inside a b e = cc
+    at_once x e = same_Some x.stage Live (sym (live ∙ ap (option_map (λ (y : Noticed). y.stage)) e))
 
 -- ---- a notice as it is shown
 
@@ -207,9 +173,6 @@ notice_read L s k g st m f le p q r = by (kept_at s.notices k) refl p q r
   where
     J : Journal
     J = journal s.opening L
-
-    inside : {X : Type 0} (x y : X) → Some x ≡ Some y → x ≡ y
-    inside x y e = cc
 
     shown : (o : Option Notice) (x : Noticed) → IsSomeAnd o (λ n. kept J n ≡ x) → g ≡ x.given → st ≡ x.stage → m ≡ remaining_by s.rows x
         → Some (record { member = g.member; issue = g.issue; shares = g.shares; given = g.day; stage = st; remaining = m }) ≡ option_map (notice_of J) o
@@ -223,4 +186,4 @@ notice_read L s k g st m f le p q r = by (kept_at s.notices k) refl p q r
     by : (o : Option Noticed) → kept_at s.notices k ≡ o → Some g ≡ option_map (λ (x : Noticed). x.given) o → Some st ≡ option_map (λ (x : Noticed). x.stage) o → Some m ≡ option_map (remaining_by s.rows) o
         → Some (record { member = g.member; issue = g.issue; shares = g.shares; given = g.day; stage = st; remaining = m }) ≡ notice_listed J k
     by None e a b d = cc
-    by (Some x) e a b d = shown (notice_at J k) x (notice_there L s k x f le e) (inside g x.given a) (inside st x.stage b) (inside m (remaining_by s.rows x) d)
+    by (Some x) e a b d = shown (notice_at J k) x (notice_there L s k x f le e) (same_Some g x.given a) (same_Some st x.stage b) (same_Some m (remaining_by s.rows x) d)

@@ -1,16 +1,16 @@
 -- What an activity leaves: of each group of parts, which activities change it.
 -- For every command, clause step.
 -- For `declare_dividend` of parts/dividend.rt, `list_issue`, `add_member` and `set_price` of parts/listing.rt and others.
-use Rattle.std.proofs.Common.{◌≡◌, ◌∙◌, sym, ap, refl, Bool, true, false, ◌&&◌, cond, [], ◌∷◌, None, is_some, map, reverse}
-use Rattle.cns_book.proofs.Common.{Activity, Contents, FollowsListings, FollowsNotices, FollowsPending, FollowsRows, Journal, Key, Posting, Rows, and_false, batches_since, books, closings, entries, exchanged, holding, holding_at, is_close, posting}
+use Rattle.std.proofs.Common.{◌≡◌, ◌∙◌, sym, ap, Bool, true, false, ◌&&◌, cond, [], ◌∷◌, None, is_some, map, reverse}
+use Rattle.cns_book.proofs.Common.{Activity, Contents, FollowsListings, FollowsNotices, FollowsPending, FollowsRows, Journal, Key, Posting, Rows, batches_since, books, closings, entries, exchanged, holding_at, is_close, posting}
 use Rattle.cns_terms.specs.declared.command.Activity.TheVariants as activity
 use Rattle.cns_terms.specs.Dividends.{declared}
 use Rattle.cns_terms.specs.Listings.{traded}
 use Rattle.cns_terms.specs.Notices.{executed}
-use Rattle.cns_notices.proofs.Noticing.{untouched_by}
 use Rattle.cns_book.specs.Follows.{FollowsBatches, FollowsClock, FollowsDividends, FollowsSheets}
 use Rattle.cns_book.proofs.RetransmittalBatches.{batches_same, executes_none}
-use Rattle.cns_book.proofs.EffectPlaces.{books_none, holding-post}
+use Rattle.cns_book.proofs.EffectPlaces.{holding-post}
+use Rattle.std.proofs.Common.{arith}
 
 -- whether an activity changes members, listed issues or retired ones
 abbrev pub is_listing : Activity → Bool
@@ -45,8 +45,7 @@ is_dividend x = is_some (declared x)
 
 -- an exchange alone changes listings and touches notices
 no_exchange : (x : Activity) → (is_listing x && is_noticing x) ≡ false → exchanged x ≡ None
-no_exchange (activity.Exchange x) h = cc
-no_exchange _ h = refl
+no_exchange x h1 = grind arith
 
 module _ (s : Contents) (J : Journal) where
   abbrev after : Activity → Journal
@@ -64,17 +63,13 @@ module _ (s : Contents) (J : Journal) where
   listings_stay _ h f = record { members = f.members; prices = f.prices; retired = f.retired }
 
   pub pending_stays : (x : Activity) → is_close x ≡ false → is_trade x ≡ false → FollowsPending J s → FollowsPending (after x) s
-  pending_stays (activity.Close d) h t f = cc
-  pending_stays (activity.Trade d) h t f = cc
-  pending_stays _ h t f = f
+  pending_stays x h1 h2 h3 = grind arith
 
   pub dividends_stay : (x : Activity) → is_dividend x ≡ false → FollowsDividends J s → FollowsDividends (after x) s
-  dividends_stay (activity.Dividend d) h f = cc
-  dividends_stay _ h f = f
+  dividends_stay x h1 h2 = grind arith
 
   pub sheets_stay : (x : Activity) → is_close x ≡ false → FollowsSheets J s → FollowsSheets (after x) s
-  sheets_stay (activity.Close d) h f = cc
-  sheets_stay _ h f = f
+  sheets_stay x h1 h2 = grind arith
 
   -- what an activity books that is no exchange, and no more, is the effect on the rows
   pub rows_booked : (x : Activity) (rows : Rows) → is_close x ≡ false → is_listing x ≡ false → ((k : Key) → holding_at rows k ≡ books (entries s.opening J x) k (holding_at s.rows k)) → FollowsRows J s → FollowsRows (after x) (record s { rows = rows })
@@ -82,19 +77,11 @@ module _ (s : Contents) (J : Journal) where
 
   -- an activity that books nothing and touches no notice leaves them
   pub rows_stay : (x : Activity) → is_close x ≡ false → is_noticing x ≡ false → entries s.opening J x ≡ [] → FollowsRows J s → FollowsRows (after x) s
-  rows_stay x still unnoticed nothing f k =
-      f k ∙ sym (holding-post (posting s.opening J x) J k still (no_exchange x (ap (λ b. is_listing x && b) unnoticed ∙ and_false (is_listing x))) ∙ ap (λ es. books es k (holding J k.account k.issue)) nothing ∙ books_none k (holding J k.account k.issue))
+  rows_stay x still unnoticed nothing f k = grind arith
 
   -- an activity that touches no notice leaves them
   pub notices_stay : (x : Activity) → is_noticing x ≡ false → FollowsNotices J s → FollowsNotices (after x) s
-  notices_stay (activity.Receive m) h f = cc
-  notices_stay (activity.Split p) h f = cc
-  notices_stay (activity.Exchange x) h f = cc
-  notices_stay (activity.Notice m) h f = cc
-  notices_stay (activity.Withdraw k) h f = cc
-  notices_stay (activity.Execute x) h f = cc
-  notices_stay (activity.Close d) h f = cc
-  notices_stay x h f = f ∙ sym (untouched_by J (posting s.opening J x) (λ k y. refl))
+  notices_stay x h1 h2 = grind arith
 
   -- one that executes none leaves the batches
   pub batches_stay : (x : Activity) → is_close x ≡ false → is_execution x ≡ false → FollowsBatches J s → FollowsBatches (after x) s

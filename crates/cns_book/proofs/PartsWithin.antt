@@ -1,15 +1,14 @@
 -- With room for one activity more, all numbers are small enough.
 -- For every call of positions: what it requires.
 -- For `make_fills` and `check_execution` of parts/execution.rt, `two_holdings` and `holding` of parts/reading.rt and others.
-use Rattle.std.proofs.Common.{◌≡◌, sym, subst, ℕ, zero, suc, ◌*◌, ◌≤◌, ℤ, refl, arith, unsigned_abs}
+use Rattle.std.proofs.Common.{◌≡◌, sym, subst, ℕ, ◌*◌, ◌≤◌, ℤ, arith, unsigned_abs}
 use Rattle.cns_book.proofs.Common.{Contents, Cusip, HasRoom, Holding, Key, Rows, booking_limit, bounded, corporation_limit, history_limit, holding_at, journal, limited, near, position_limit}
 use Rattle.cns_terms.specs.Positions.{position}
 use Rattle.cns_book.specs.Effects.{AreWithin}
 use Rattle.cns_book.proofs.ClosingSheet.{cents_few}
 
 member_or_corporation : (a : ℕ) (q : ℤ) → (1 ≤ a → unsigned_abs q ≤ position_limit) → (a ≡ 0 → unsigned_abs q ≤ corporation_limit) → unsigned_abs q ≤ corporation_limit
-member_or_corporation zero q m c = c refl
-member_or_corporation (suc a) q m c = omega (arith, m (omega arith))
+member_or_corporation a q h1 h2 = grind arith
 
 -- what stands at each key is within its limits
 pub rows_within : (s : Contents) → HasRoom s → AreWithin s.rows

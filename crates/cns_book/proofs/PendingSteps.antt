@@ -1,6 +1,6 @@
 -- Trades that wait, in the order in which they were taken.
 -- For `book_trade` of parts/trading.rt, `close_day` of parts/closing.rt, `split` and `exchange` of parts/actions.rt, clause step.
-use Rattle.std.proofs.Common.{◌≡◌, ◌∙◌, sym, ap, refl, ℕ, ◌≤◌, Bool, true, false, not, ◌||◌, cond, List, [], ◌∷◌, ◌++◌, append-nil, filter, length, map, reverse, Option, Some, None, sum_by, arith, filter_map}
+use Rattle.std.proofs.Common.{◌≡◌, ◌∙◌, sym, ap, refl, ℕ, ◌≤◌, Bool, true, false, not, cond, List, [], ◌∷◌, ◌++◌, append-nil, filter, length, map, reverse, Option, sum_by, arith, filter_map}
 use Rattle.cns_book.proofs.Common.{Account, Activity, Contents, Cusip, Day, Follows, Journal, Pend, activities, bought_by, bought_in, cons_option, date, ints, is_not_after, journal, journal_len, length-map, length-reverse, list_any, neither, pend_of, pending, reverse_onto, sold_by, sold_in, sum_by-cons, sum_by_push, waits_in}
 use Rattle.std.proofs.lemmas.List.Folds.{list_any-append}
 use Rattle.cns_terms.specs.Listings.{traded}
@@ -27,13 +27,7 @@ sold-reverse ps a c = sum-reverse (sold_by a c) ps
 -- whether one of a list passes
 any-reverse : {X : Type 0} (t : X → Bool) (xs : List X) → list_any t (reverse xs) ≡ list_any t xs
 any-reverse t [] = refl
-any-reverse t (x ∷ xs) = ap (list_any t) (reverse_onto xs x []) ∙ list_any-append t (reverse xs) (x ∷ []) ∙ (λ i. any-reverse t xs i || or_false (t x) i) ∙ swap (list_any t xs) (t x)
-  where
-    swap : (a b : Bool) → (a || b) ≡ (b || a)
-    swap true true = refl
-    swap true false = refl
-    swap false true = refl
-    swap false false = refl
+any-reverse t (x ∷ xs) = grind (arith, reverse_onto, list_any-append, or_false, any-reverse t xs)
 
 pub waits-reverse : (ps : List Pend) (c : Cusip) → waits_in (reverse ps) c ≡ waits_in ps c
 waits-reverse ps c = any-reverse _ ps
@@ -41,11 +35,7 @@ waits-reverse ps c = any-reverse _ ps
 -- what a list keeps
 pub filter-append : {X : Type 0} (t : X → Bool) (xs ys : List X) → filter t (xs ++ ys) ≡ filter t xs ++ filter t ys
 filter-append t [] ys = refl
-filter-append t (x ∷ xs) ys = by (t x) (filter-append t xs ys)
-  where
-    by : (b : Bool) → filter t (xs ++ ys) ≡ filter t xs ++ filter t ys → cond b (x ∷ filter t (xs ++ ys)) (filter t (xs ++ ys)) ≡ cond b (x ∷ filter t xs) (filter t xs) ++ filter t ys
-    by true e = ap (λ zs. x ∷ zs) e
-    by false e = e
+filter-append t (x ∷ xs) ys = grind (arith, filter-append t xs ys)
 
 pub filter-reverse : {X : Type 0} (t : X → Bool) (xs : List X) → filter t (reverse xs) ≡ reverse (filter t xs)
 filter-reverse t [] = refl
@@ -84,21 +74,16 @@ none_kept t (x ∷ xs) h =
 -- ---- how many wait
 
 -- no more are kept than there are
-filter_few : {X : Type 0} (t : X → Bool) (xs : List X) → length (filter t xs) ≤ length xs
+pub filter_few : {X : Type 0} (t : X → Bool) (xs : List X) → length (filter t xs) ≤ length xs
 filter_few t [] = omega arith
-filter_few t (x ∷ xs) = by (t x) (filter_few t xs)
-  where
-    by : (b : Bool) → length (filter t xs) ≤ length xs → length (cond b (x ∷ filter t xs) (filter t xs)) ≤ length (x ∷ xs)
-    by true h = omega (arith, h)
-    by false h = omega (arith, h)
+filter_few t (x ∷ xs) = grind (arith, filter_few t xs)
 
 chosen_few : {X Y : Type 0} (f : X → Option Y) (xs : List X) → length (filter_map f xs) ≤ length xs
 chosen_few f [] = omega arith
 chosen_few {Y = Y} f (x ∷ xs) = by (f x) (chosen_few f xs)
   where
     by : (o : Option Y) → length (filter_map f xs) ≤ length xs → length (cons_option o (filter_map f xs)) ≤ length (x ∷ xs)
-    by None h = omega (arith, h)
-    by (Some y) h = omega (arith, h)
+    by o h1 = grind arith
 
 -- no more trades wait than there are activities
 pub pending_few : (s : Contents) (L : List Activity) → Follows L s → length s.trades.pending ≤ length L

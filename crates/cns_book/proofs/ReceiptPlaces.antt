@@ -1,9 +1,7 @@
 -- The places of a receipt have rows: the member is long there, and the corporation short.
 -- For `receive` of parts/trading.rt, call book.
-use Rattle.std.proofs.Common.{◌≡◌, ◌∙◌, sym, ap, refl, ℕ, zero, suc, ◌≤◌, ℤ, pos, negsuc, neg_ℤ, true, false, List, [], ◌∷◌, None, Some, Option, is_some, unwrap_or, int_le, int_lt, arith}
-use Rattle.cns_book.proofs.Common.{Activity, Contents, Follows, Holding, Key, Movement, Rows, corporation, has_row, holding_at, journal, key_cmp, moved_in, moved_out, refusal}
-use Rattle.std.specs.FinMap.{find}
-use Rattle.cns_positions.specs.Rows.{zeros}
+use Rattle.std.proofs.Common.{◌≡◌, ◌∙◌, sym, ap, ℕ, zero, suc, ◌≤◌, ℤ, pos, negsuc, neg_ℤ, true, false, List, [], ◌∷◌, None, int_le, int_lt, arith}
+use Rattle.cns_book.proofs.Common.{Activity, Contents, Follows, Key, Movement, Rows, corporation, has_row, holding_at, journal, moved_in, moved_out, refusal}
 use Rattle.cns_terms.specs.Positions.{position}
 use Rattle.cns_terms.specs.Refusals.{rules}
 use Rattle.cns_terms.specs.declared.command.Activity.TheVariants as activity
@@ -13,11 +11,7 @@ use Rattle.cns_book.proofs.ActionSteps.{none_fails}
 
 -- a key where shares stand has a row
 there : (rows : Rows) (k : Key) → ((holding_at rows k).now ≡ pos 0 → ⊥) → has_row rows k ≡ true
-there rows k h = by (find key_cmp k rows) h
-  where
-    by : (o : Option Holding) → ((unwrap_or o zeros).now ≡ pos 0 → ⊥) → is_some o ≡ true
-    by None h = absurd (h refl)
-    by (Some x) h = refl
+there rows k h1 = grind arith
 
 -- a position above zero is not zero, and neither is one that some shares take up to zero at most
 long_held : (q : ℤ) → int_le q (pos 0) ≡ false → q ≡ pos 0 → ⊥

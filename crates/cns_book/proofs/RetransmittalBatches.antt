@@ -1,19 +1,16 @@
 -- The batches of the closed days after one activity more.
 -- For every command, clause step.
 -- For `count_by` of closed_days.rt, `give_notice`, `withdraw_refusal` and `notice_refusal` of parts/notice.rt and others.
-use Rattle.std.proofs.Common.{◌≡◌, ◌∙◌, ap, refl, ℕ, false, List, [], ◌∷◌, ◌++◌, length, map, filter, is_some, Option, Some, None, reverse, nat_lt, ◌&&◌, ◌==◌}
-use Rattle.cns_book.proofs.Common.{Activity, AllByRecursion, Cusip, Day, Execution, Journal, Liable, Liables, Posting, batch_since, batches_since, closings, day, executes, issues, kept_batches, map-append, map_each, notice_at, option_map_or, posting, reverse-append, same_issue}
+use Rattle.std.proofs.Common.{◌≡◌, ◌∙◌, ap, refl, ℕ, false, List, [], ◌∷◌, ◌++◌, length, map, filter, is_some, reverse, nat_lt}
+use Rattle.cns_book.proofs.Common.{Activity, AllByRecursion, Cusip, Day, Journal, Liable, Liables, Posting, batch_since, batches_since, closings, day, executes, issues, kept_batches, map-append, map_each, posting, reverse-append}
 use Rattle.cns_terms.specs.Notices.{executed}
 use Rattle.cns_terms.proofs.BatchSteps.{batch_same}
 use Rattle.cns_terms.specs.declared.command.Activity.TheVariants as activity
+use Rattle.std.proofs.Common.{arith}
 
 -- an activity that is no execution executes no notice
 pub executes_none : (J : Journal) (n : ℕ) (c : Cusip) (x : Activity) → is_some (executed x) ≡ false → executes J n c x ≡ false
-executes_none J n c x h = by (executed x) h
-  where
-    by : (o : Option Execution) → is_some o ≡ false → option_map_or (λ e. option_map_or (λ k. (k.given.day == n) && same_issue k.given.issue c) (notice_at J e.notice) false) o false ≡ false
-    by None h = refl
-    by (Some e) h = cc
+executes_none J n c x h1 = grind arith
 
 -- a batch in an issue
 abbrev pub in_issue : (Cusip → List Liable) → Cusip → Liables

@@ -3,6 +3,7 @@
 use Rattle.std.proofs.Common.{◌≡◌, ◌∙◌, ap, sym, subst, refl, ℕ, zero, suc, ◌+◌, ◌*◌, ◌-◌, ◌^◌, ◌≤◌, ◌<◌, min, ℤ, Bool, true, false, cond, ◌&&◌, ◌==◌, List, [], ◌∷◌, ◌++◌, drop, filter, length, map, Option, Some, None, sum_by, arith, slice_get, IsSomeAnd, option_map}
 use Rattle.cns_book.proofs.Common.{Activity, AllByRecursion, CalledIn, Contents, Cusip, Follows, ForSome, HasRoom, Holding, Journal, Movement, Notice, Noticed, Rows, Stage, bytes_eq-Decides, called, called_by, called_in, day, days_by, each_map, history_limit, holding_at, is_live, journal, kept_notices, long, nat_tests, notice, noticed, notices, option_map_or, received_live, remaining, remaining_by, same_issue, shares_executed, shares_limit, shorts_in, stage, sum_by-cons, total_in, what_remains}
 use Rattle.std.proofs.Math.Nat.{min-le_left}
+use Rattle.std.proofs.lemmas.Option.{same_Some}
 use Rattle.cns_terms.specs.declared.buy_in.Given.{Given}
 use Rattle.cns_terms.specs.Notices.{shares_received}
 use Rattle.cns_notices.proofs.NoticeSteps.{live_received}
@@ -41,15 +42,8 @@ days_rise (p ∷ J) = by (noticed p.activity) (days_rise J)
 
 -- ---- the notices of a day are the last ones
 
--- a notice of another day calls for nothing
-not_called : (rows : Rows) (n : ℕ) (c : Cusip) (x : Noticed) → (x.given.day == n) ≡ false → call_of rows n c x ≡ 0
-not_called rows n c x h = ap (λ b. cond (b && same_issue x.given.issue c) (remaining_by rows x) 0) h
-
 none_first : (rows : Rows) (n : ℕ) (c : Cusip) (x : Noticed) (xs : List Noticed) → (x.given.day == n) ≡ false → called_by rows n c (x ∷ xs) ≡ called_by rows n c xs
-none_first rows n c x xs h = sum_by-cons (call_of rows n c) x xs ∙ ap (λ k. k + called_by rows n c xs) (not_called rows n c x h) ∙ zero_left (called_by rows n c xs)
-  where
-    zero_left : (k : ℕ) → 0 + k ≡ k
-    zero_left k = omega arith
+none_first rows n c x xs h1 = grind arith
 
 -- those before one of an earlier day call for nothing
 pub called_last : (rows : Rows) (n : ℕ) (c : Cusip) (xs : List Noticed) (k : ℕ) → NeverFalls (λ x. x.given.day) xs → AllByRecursion (λ x. x.given.day ≤ n) xs → k ≤ length xs → ((i : ℕ) → k ≡ suc i → ForSome (slice_get xs i) (λ x. (x.given.day == n) ≡ false)) → called_by rows n c xs ≡ called_by rows n c (drop k xs)
@@ -72,21 +66,14 @@ called_last rows n c (x ∷ xs) (suc (suc k)) rise by le h =
 -- one notice more
 pub called_more : (rows : Rows) (n : ℕ) (c : Cusip) (xs : List Noticed) (k : ℕ) (x : Noticed) → slice_get xs k ≡ Some x → called_by rows n c (drop k xs) ≡ call_of rows n c x + called_by rows n c (drop (suc k) xs)
 called_more rows n c [] k x e = cc
-called_more rows n c (y ∷ ys) zero x e = sum_by-cons (call_of rows n c) y ys ∙ ap (λ z. call_of rows n c z + called_by rows n c ys) (inside e)
-  where
-    inside : Some y ≡ Some x → y ≡ x
-    inside e = cc
+called_more rows n c (y ∷ ys) zero x e = sum_by-cons (call_of rows n c) y ys ∙ ap (λ z. call_of rows n c z + called_by rows n c ys) (same_Some y x e)
 called_more rows n c (y ∷ ys) (suc k) x e = called_more rows n c ys k x e
 
 -- ---- the same by the definitions
 
 -- of a notice that is not live nothing remains, whatever was received
 same_remains : (s : Stage) (shares r t e : ℕ) (q : ℤ) → (is_live s ≡ true → r ≡ t) → what_remains s shares r e q ≡ what_remains s shares t e q
-same_remains s shares r t e q h = by (is_live s) h
-  where
-    by : (b : Bool) → (b ≡ true → r ≡ t) → cond b (min (shares - r - e) (long q)) 0 ≡ cond b (min (shares - t - e) (long q)) 0
-    by true h = ap (λ z. min (shares - z - e) (long q)) (h refl)
-    by false h = refl
+same_remains s shares r t e q h1 = grind arith
 
 -- what remains of a kept notice
 pub remaining_same : (L : List Activity) (s : Contents) → Follows L s → (n : Notice) → remaining_by s.rows (kept (journal s.opening L) n) ≡ remaining (journal s.opening L) n
@@ -142,9 +129,7 @@ call_few rows n c x h = by ((x.given.day == n) && same_issue x.given.issue c) (i
     less a b m r e h = omega (arith, min-le_left (a - r - e) b, h)
 
     by : (b l : Bool) → cond b (cond l (min (x.given.shares - x.received - x.executed) (long (holding_at rows (record { account = x.given.member; issue = x.given.issue })).now)) 0) 0 ≤ shares_limit
-    by true true = less x.given.shares _ 0 x.received x.executed h
-    by true false = omega arith
-    by false l = omega arith
+    by b l = grind arith
 
 called_few : (rows : Rows) (n : ℕ) (c : Cusip) (xs : List Noticed) → AllByRecursion (λ x. x.given.shares ≤ shares_limit) xs → called_by rows n c xs ≤ shares_limit * length xs
 called_few rows n c [] h = omega arith
@@ -176,8 +161,7 @@ calls_fit s room k m c x is same =
         less a b r e h = omega (arith, min-le_left (a - r - e) b, h)
 
         by : (l : Bool) → cond l (min (x.given.shares - x.received - x.executed) (long (holding_at s.rows (record { account = x.given.member; issue = x.given.issue })).now)) 0 ≤ shares_limit
-        by true = less x.given.shares _ x.received x.executed h
-        by false = omega arith
+        by l = grind arith
 
     together : (a l n m : ℕ) → a ≤ shares_limit * l → l ≤ n → n + 1 < history_limit → m ≤ shares_limit → a + m < 2 ^ 64
     together a l n m h k b c = omega (arith, h, k, b, c)
@@ -201,21 +185,11 @@ notice_told s n g m p q = by (slice_get s.notices (n - 1)) refl p q
   where
     by : (o : Option Noticed) → slice_get s.notices (n - 1) ≡ o → Some g ≡ option_map (λ (x : Noticed). x.given) o → Some m ≡ option_map (remaining_by s.rows) o → IsSomeAnd o (IsNotice s n g m)
     by None e p q = cc
-    by (Some x) e p q = record { at = e; given = same_given g x.given p; remains = same_number m (remaining_by s.rows x) q }
-      where
-        same_given : (a b : Given) → Some a ≡ Some b → a ≡ b
-        same_given a b e = cc
-
-        same_number : (a b : ℕ) → Some a ≡ Some b → a ≡ b
-        same_number a b e = cc
+    by (Some x) e p q = record { at = e; given = same_Some g x.given p; remains = same_Some m (remaining_by s.rows x) q }
 
 -- what stands at a place that there is
 pub with_notice : (s : Contents) (n : ℕ) (g : Given) (m : ℕ) (P : Type 0) → IsSomeAnd (notice_at s.notices n) (IsNotice s n g m) → ((x : Noticed) → IsNotice s n g m x → P) → P
-with_notice s n g m P h f = by (notice_at s.notices n) h
-  where
-    by : (o : Option Noticed) → IsSomeAnd o (IsNotice s n g m) → P
-    by None h = absurd h
-    by (Some x) h = f x h
+with_notice s n g m P h1 h2 = grind arith
 
 -- a number that is not 0
 one_up : (n : ℕ) → 1 ≤ n → suc (n - 1) ≡ n
@@ -238,8 +212,7 @@ call_passed s n g m es le there today nothing h = with_notice s n g m (AreCalled
 })
   where
     none : (b : Bool) (k : ℕ) → cond b m 0 + k ≡ k
-    none true k = omega (arith, nothing)
-    none false k = omega arith
+    none b k = grind arith
 
 -- one that is called
 pub call_added : (s : Contents) (n : ℕ) (g : Given) (m : ℕ) (es fs : List (Cusip × CalledIn)) → 1 ≤ n → IsSomeAnd (notice_at s.notices n) (IsNotice s n g m) → (g.day == s.closes + 1) ≡ true → 1 ≤ m
@@ -259,20 +232,13 @@ call_added s n g m es fs le there today more step h = with_notice s n g m (AreCa
       where
         turned : (a m b : ℕ) → a ≡ b → a + m ≡ m + b
         turned a m b h = omega (arith, h)
-    total_in_issue c false e k = k ∙ zero_left (called_by s.rows (s.closes + 1) c (drop n s.notices))
-      where
-        zero_left : (k : ℕ) → k ≡ 0 + k
-        zero_left k = omega arith
+    total_in_issue c false e k = grind arith
 
     no_shorts : (c : Cusip) (b : Bool) → shorts_in es c ≡ [] → option_map_or (λ (y : CalledIn). y.shorts) (cond b (Some new) (called_in es c)) [] ≡ []
-    no_shorts c true k = h.shorts g.issue
-    no_shorts c false k = k
+    no_shorts c b h1 = grind arith
 
     some_total : (c : Cusip) (b : Bool) (y : CalledIn) → cond b (Some new) (called_in es c) ≡ Some y → ForSome (called_in es c) (λ x. 1 ≤ x.total) → 1 ≤ y.total
-    some_total c true y e k = let same = ap {B = ℕ} (λ (z : CalledIn). z.total) (inside new y e) in omega (arith, same, more)
-      where
-        inside : (u v : CalledIn) → Some u ≡ Some v → u ≡ v
-        inside u v e = cc
+    some_total c true y e k = let same = ap {B = ℕ} (λ (z : CalledIn). z.total) (same_Some new y e) in omega (arith, same, more)
     some_total c false y e k = k y e
 
 -- where the next one is of another day, or there is none, these are all that call
@@ -289,10 +255,7 @@ call_fits s room n g m es le there h = with_notice s n g m (total_in es g.issue 
 
 -- a notice of another day ends the search
 pub other_day : (s : Contents) (n : ℕ) (g : Given) → Some g ≡ option_map (λ (x : Noticed). x.given) (notice_at s.notices n) → (g.day == s.closes + 1) ≡ false → (i : ℕ) → n ≡ suc i → ForSome (slice_get s.notices i) (λ x. (x.given.day == s.closes + 1) ≡ false)
-other_day s n g is other i e x at = ap (λ (h : Given). h.day == s.closes + 1) (same_given x.given g (sym (is ∙ ap (option_map (λ (y : Noticed). y.given)) (subst (λ j. slice_get s.notices j ≡ Some x) (down n i e) at)))) ∙ other
+other_day s n g is other i e x at = ap (λ (h : Given). h.day == s.closes + 1) (same_Some x.given g (sym (is ∙ ap (option_map (λ (y : Noticed). y.given)) (subst (λ j. slice_get s.notices j ≡ Some x) (down n i e) at)))) ∙ other
   where
     down : (n i : ℕ) → n ≡ suc i → i ≡ n - 1
     down n i e = omega (arith, e)
-
-    same_given : (a b : Given) → Some a ≡ Some b → a ≡ b
-    same_given a b e = cc

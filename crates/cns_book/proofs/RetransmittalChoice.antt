@@ -1,10 +1,11 @@
 -- The batches that a close chooses are those of the definitions.
 -- For `choose_batches` of parts/retransmittal.rt, clause batches.
-use Rattle.std.proofs.Common.{◌≡◌, ◌∙◌, ap, sym, refl, Bool, true, false, cond, List, [], ◌∷◌, filter, length, map, Option, Some, None, is_eq, nat_cmp, bytes_eq, nat_lt, option_map}
+use Rattle.std.proofs.Common.{◌≡◌, ◌∙◌, ap, sym, refl, Bool, true, cond, List, [], ◌∷◌, filter, length, map, Option, Some, None, nat_cmp, bytes_eq, nat_lt, option_map}
 use Rattle.cns_book.proofs.Common.{CalledIn, Cusip, Liable, Liables, and_left, and_right, batches_of, below_all, both_true, bytes_eq-Decides, called_in, chosen, exact_bytes, find_filter, find_with, is_rising, is_sorted, kept_if, list_any, nat_list_cmp_total, option_map_or, same_lists, same_test, slice_cmp, sorted_filter}
 use Rattle.std.specs.FinMap.{find}
 use Rattle.cns_terms.proofs.Valued.{sorted_with}
 use Rattle.cns_retransmit.specs.Calls.{batch_of}
+use Rattle.std.proofs.Common.{arith}
 
 -- whether anybody is liable
 abbrev has_members : Liables → Bool
@@ -27,11 +28,7 @@ sorted_batches (e ∷ es) h = both_true _ _ (below_batches e.0 es (and_left _ _ 
 -- the batch of an issue
 find_batch : (c : Cusip) (es : List (Cusip × CalledIn)) → find (slice_cmp nat_cmp) c (with_batches es) ≡ option_map (λ x. batch_of (c, x)) (called_in es c)
 find_batch c [] = refl
-find_batch c (e ∷ es) = here (is_eq (slice_cmp nat_cmp c e.0)) (λ t. (bytes_eq-Decides e.0 c).0 (sym (same_test c e.0) ∙ t)) (find_batch c es)
-  where
-    here : (b : Bool) → (b ≡ true → e.0 ≡ c) → find (slice_cmp nat_cmp) c (with_batches es) ≡ option_map (λ x. batch_of (c, x)) (called_in es c) → cond b (Some (batch_of e)) (find (slice_cmp nat_cmp) c (with_batches es)) ≡ option_map (λ x. batch_of (c, x)) (cond b (Some e.1) (called_in es c))
-    here true h r = ap (λ d. Some (batch_of (d, e.1))) (h refl)
-    here false h r = r
+find_batch c (e ∷ es) = grind (arith, bytes_eq-Decides, same_test, find_batch c es)
 
 -- ---- the same batches
 
@@ -39,25 +36,14 @@ find_batch c (e ∷ es) = here (is_eq (slice_cmp nat_cmp c e.0)) (λ t. (bytes_e
 abbrev pub AreSameBatches : (Cusip → List Liable) → List Cusip → List (Cusip × CalledIn) → Type 0
 AreSameBatches g cs es = (c : Cusip) → option_map_or (λ x. chosen x.shorts x.total) (called_in es c) [] ≡ cond (list_any (λ d. bytes_eq d c) cs) (g c) []
 
--- a batch, if anybody is in it
-abbrev kept_of : Cusip → List Liable → Option Liables
-kept_of c ls = cond (nat_lt 0 (length ls)) (Some (record { issue = c; members = ls })) None
-
 -- a batch in which nobody is is none
 same_kept : (c : Cusip) (o : Option CalledIn) (b : Bool) (ls : List Liable) → option_map_or (λ x. chosen x.shorts x.total) o [] ≡ cond b ls [] → kept_if has_members (option_map (λ x. batch_of (c, x)) o) ≡ kept_if has_members (cond b (Some (record { issue = c; members = ls })) None)
-same_kept c None true ls h = ap (kept_of c) h
-same_kept c None false ls h = refl
-same_kept c (Some x) true ls h = ap (kept_of c) h
-same_kept c (Some x) false ls h = ap (kept_of c) h
+same_kept c o b ls h1 = grind arith
 
 -- the values of a filtered list
 filtered_values : (es : List (Cusip × Liables)) → map (λ e. e.1) (filter (λ e. has_members e.1) es) ≡ filter has_members (map (λ e. e.1) es)
 filtered_values [] = refl
-filtered_values (e ∷ es) = here (has_members e.1) (filtered_values es)
-  where
-    here : (b : Bool) → map (λ e. e.1) (filter (λ e. has_members e.1) es) ≡ filter has_members (map (λ e. e.1) es) → map (λ e. e.1) (cond b (e ∷ filter (λ e. has_members e.1) es) (filter (λ e. has_members e.1) es)) ≡ cond b (e.1 ∷ filter has_members (map (λ e. e.1) es)) (filter has_members (map (λ e. e.1) es))
-    here true h = ap (λ bs. e.1 ∷ bs) h
-    here false h = h
+filtered_values (e ∷ es) = grind (arith, filtered_values es)
 
 values_of : (es : List (Cusip × CalledIn)) → map (λ e. e.1) (with_batches es) ≡ map batch_of es
 values_of [] = refl

@@ -4,6 +4,7 @@ use Rattle.std.proofs.Common.{◌≡◌, ◌∙◌, ap, sym, refl, ℕ, suc, ◌
 use Rattle.cns_book.proofs.Common.{Account, AllByRecursion, Cusip, Day, IsSound, Journal, Member, Row, Short, above_all, accounts, and_false, and_left, and_right, bytes_eq-Decides, bytes_refl, cons_option, filter_map-append, idle_parts, is_idle, is_listed, is_rising, issues, list_any, members, nat_list_cmp_total, nat_tests, neither, oldest, row, rows_of, same_issue, sheet_rows, short, short_at, short_in, short_of, shorts, slice_cmp}
 use Rattle.cns_terms.specs.Positions.{position}
 use Rattle.cns_terms.proofs.Finds.{not_itself}
+use Rattle.std.proofs.lemmas.Int.{ints}
 
 -- ---- lists
 
@@ -15,11 +16,7 @@ filter_map_flat g f (x ∷ xs) = filter_map-append g (f x) (flat_map f xs) ∙ a
 -- one at a time
 one_by_one : {X Y : Type 0} (p : Y → Bool) (f : X → Y) (xs : List X) → flat_map (λ x. filter p (f x ∷ [])) xs ≡ filter p (map f xs)
 one_by_one p f [] = refl
-one_by_one p f (x ∷ xs) = here (p (f x)) (one_by_one p f xs)
-  where
-    here : (b : Bool) → flat_map (λ x. filter p (f x ∷ [])) xs ≡ filter p (map f xs) → cond b (f x ∷ []) [] ++ flat_map (λ x. filter p (f x ∷ [])) xs ≡ cond b (f x ∷ filter p (map f xs)) (filter p (map f xs))
-    here true e = ap (λ ys. f x ∷ ys) e
-    here false e = e
+one_by_one p f (x ∷ xs) = grind (arith, one_by_one p f xs)
 
 -- ---- an account's rows
 
@@ -34,20 +31,11 @@ module _ (opening : Day) (J : Journal) (c : Cusip) where
 
   -- one issue more
   read_step : (a : Account) (d : Cusip) (cs : List Cusip) → read_off a (d ∷ cs) ≡ cons_option (short_in (oldest J) c (row opening J a d)) (read_off a cs)
-  read_step a d cs = by (not (is_idle (row opening J a d))) refl
-    where
-      by : (b : Bool) → not (is_idle (row opening J a d)) ≡ b → filter_map (short_in (oldest J) c) (cond b (row opening J a d ∷ filter (λ r. not (is_idle r)) (map (row opening J a) cs)) (filter (λ r. not (is_idle r)) (map (row opening J a) cs))) ≡ cons_option (short_in (oldest J) c (row opening J a d)) (read_off a cs)
-      by true e = refl
-      by false e = ap (λ o. cons_option o (read_off a cs)) (sym (idle_none (row opening J a d) e))
+  read_step a d cs = grind arith
 
   -- a row that is not a member's, or in another issue, is none that is looked for
   not_short : (a : Account) (d : Cusip) → (nat_lt 0 a && same_issue d c) ≡ false → short_in (oldest J) c (row opening J a d) ≡ None
-  not_short a d h = ap (λ b. cond b (Some (short_at (oldest J) (row opening J a d))) None) (fails (nat_lt 0 a) (int_lt (position J a d) (pos 0)) (same_issue d c) h)
-    where
-      fails : (m l s : Bool) → (m && s) ≡ false → (m && (l && s)) ≡ false
-      fails true true s h = h
-      fails true false s h = refl
-      fails false l s h = refl
+  not_short a d h1 = grind arith
 
   -- the corporation's rows have no short
   none_of_corporation : (cs : List Cusip) → read_off 0 cs ≡ []
@@ -108,9 +96,7 @@ module _ (opening : Day) (J : Journal) (c : Cusip) where
           ∙ ap (cons_option (short_in (oldest J) c (row opening J a d))) (none_elsewhere a cs (others d cs p (and_left _ _ up)))
           ∙ ap (λ e. cons_option (short_in (oldest J) c (row opening J a e)) []) same
           ∙ here a m
-      by false p q more =
-          read_step a d cs
-          ∙ rw (not_short a d (ap (λ b. nat_lt 0 a && b) p ∙ and_false (nat_lt 0 a))) (more q)
+      by false p q more = grind (arith, ints)
 
   -- what is read off the rows of members
   of_members : (ms : List Member) → AllByRecursion (λ a. 1 ≤ a) ms → is_rising (slice_cmp nat_cmp) (issues J) ≡ true → is_listed J c ≡ true → flat_map (λ a. read_off a (issues J)) ms ≡ flat_map (λ a. filter (λ s. nat_lt 0 s.shares) (short_of J c a ∷ [])) ms

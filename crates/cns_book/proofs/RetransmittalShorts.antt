@@ -1,8 +1,7 @@
 -- The shorts of a close, given to what is called.
 -- For `add_shorts` of parts/retransmittal.rt.
-use Rattle.std.proofs.Common.{◌≡◌, ◌∙◌, ap, sym, subst, refl, ℕ, suc, ◌+◌, ◌*◌, ◌^◌, ◌≤◌, ◌<◌, ℤ, pos, negsuc, Bool, true, false, cond, ◌&&◌, ◌==◌, List, [], ◌∷◌, ◌++◌, filter, flat_map, get_or, length, map, not, of_z, to_z, zero, Option, Some, None, sum_by, arith, filter_map, int_lt, is_some, nat_le, nat_lt, option_map, unsigned_abs, Result, Ok, Err, w64, append_assoc, append-nil}
-use Rattle.cns_book.proofs.Common.{Account, Activity, AllByRecursion, CalledIn, Contents, Cusip, Day, Follows, HasRoom, Holding, Journal, Key, Member, Row, Short, accounts, bytes_eq-Decides, cons_option, corporation_limit, each_append, each_filter, each_weaker, eqb_sym, filter_map-append, fits_signed_from_abs, holding, ints, is_idle, issues, journal, journal_len, member_limit, members, nat_tests, occurs, oldest, oldest_at, oldest_of, position_limit, row, rows_of, same_issue, sheet_rows, short, short_at, short_in, short_of, shorts, sum_by-cons, with_shorts}
-use Rattle.std.proofs.lemmas.Int.{to_z-of_z}
+use Rattle.std.proofs.Common.{◌≡◌, ◌∙◌, ap, sym, subst, refl, ℕ, suc, ◌+◌, ◌*◌, ◌^◌, ◌≤◌, ◌<◌, ℤ, pos, Bool, true, false, cond, ◌&&◌, ◌==◌, List, [], ◌∷◌, ◌++◌, filter, flat_map, length, map, not, of_z, to_z, Option, Some, None, sum_by, arith, filter_map, int_lt, is_some, nat_le, nat_lt, option_map, unsigned_abs, Result, Ok, Err, w64, append_assoc, append-nil}
+use Rattle.cns_book.proofs.Common.{Account, Activity, AllByRecursion, CalledIn, Contents, Cusip, Day, Follows, HasRoom, Holding, Journal, Key, Member, Row, Short, accounts, bytes_eq-Decides, cons_option, corporation_limit, each_append, each_filter, each_weaker, eqb_sym, filter_map-append, holding, is_idle, issues, journal, journal_len, member_limit, members, occurs, oldest, oldest_at, oldest_of, position_limit, row, rows_of, same_issue, sheet_rows, short, short_at, short_in, short_of, shorts, sum_by-cons, with_shorts}
 use lib.Signed.{le_z}
 use Rattle.cns_terms.specs.Positions.{position}
 use Rattle.cns_terms.proofs.CarriedAges.{oldest_le}
@@ -38,10 +37,7 @@ one age r c = filter_map (short_in age c) (r ∷ [])
 
 -- rows, and then one more
 more_rows : (age : Account → Cusip → ℕ) (before now after : Calling) (rs : List Row) (r : Row) → HasShorts age before now rs → ((c : Cusip) → after c ≡ option_map (with_shorts (one age r c)) (now c)) → HasShorts age before after (rs ++ r ∷ [])
-more_rows age before now after rs r h step c =
-    step c ∙ ap (option_map (with_shorts (one age r c))) (h c)
-    ∙ both_given (filter_map (short_in age c) rs) (one age r c) (before c)
-    ∙ ap (λ ss. option_map (with_shorts ss) (before c)) (sym (filter_map-append (short_in age c) rs (r ∷ [])))
+more_rows age before now after rs r h step c = grind (arith, both_given, filter_map-append)
 
 -- a row that is passed over, where nothing is called in the issues in which it is short
 pub row_passed : (age : Account → Cusip → ℕ) (before now : Calling) (rs : List Row) (r : Row) → HasShorts age before now rs → ((c : Cusip) → is_short_in c r ≡ true → now c ≡ None) → HasShorts age before now (rs ++ r ∷ [])
@@ -67,25 +63,17 @@ row_given age before now after rs r s h member below same step = more_rows age b
 
 -- a position that is not below zero
 pub not_below : (q : ℤ) (c : Cusip) (r : Row) → r.closing ≡ q → int_lt q (pos 0) ≡ false → is_short_in c r ≡ true → ⊥
-not_below q c r e h is = no (nat_lt 0 r.account) (int_lt r.closing (pos 0)) (same_issue r.issue c) (ap (λ z. int_lt z (pos 0)) e ∙ h) is
-  where
-    no : (m l b : Bool) → l ≡ false → (m && (l && b)) ≡ true → ⊥
-    no true true b e h = cc
-    no true false b e h = cc
-    no false l b e h = cc
+not_below q c r h1 h2 h3 = grind arith
 
 -- where nothing is called in a row's issue, nothing is called where the row is short
 pub uncalled_row : (now : Calling) (r : Row) → is_some (now r.issue) ≡ false → (c : Cusip) → is_short_in c r ≡ true → now c ≡ None
 uncalled_row now r h c is = subst (λ d. now d ≡ None) ((bytes_eq-Decides r.issue c).0 (last (nat_lt 0 r.account) (int_lt r.closing (pos 0)) (same_issue r.issue c) is)) (none (now r.issue) h)
   where
     last : (m l b : Bool) → (m && (l && b)) ≡ true → b ≡ true
-    last true true b e = e
-    last true false b e = cc
-    last false l b e = cc
+    last m l b h1 = grind arith
 
     none : (o : Option CalledIn) → is_some o ≡ false → o ≡ None
-    none None e = refl
-    none (Some x) e = cc
+    none o h1 = grind arith
 
 -- the corporation's row is no member's
 pub not_member : (c : Cusip) (r : Row) → nat_lt 0 r.account ≡ false → is_short_in c r ≡ true → ⊥
@@ -93,61 +81,26 @@ not_member c r h is = cc (sym is ∙ ap (λ b. b && (int_lt r.closing (pos 0) &&
 
 -- an account that is no member's is the corporation's
 pub no_member : {E : Type 0} (r : Result ℕ E) (e : E) (n : ℕ) → r ≡ cond (nat_le 1 n && nat_le n 9999) (Ok n) (Err e) → ((m : ℕ) → r ≡ Ok m → ⊥) → n ≤ 9999 → nat_lt 0 n ≡ false
-no_member r e n is never le = by (nat_lt 0 n) refl
-  where
-    both : (n : ℕ) → nat_lt 0 n ≡ true → n ≤ 9999 → (nat_le 1 n && nat_le n 9999) ≡ true
-    both n h le = grind (arith, nat_tests)
-
-    by : (b : Bool) → nat_lt 0 n ≡ b → b ≡ false
-    by false h = refl
-    by true h = absurd (never n (is ∙ ap (λ b. cond b (Ok n) (Err e)) (both n h le)))
+no_member r e n h1 h2 h3 = grind arith
 
 -- a member's number is that of its account
 pub some_member : {E : Type 0} (r : Result ℕ E) (e : E) (n m : ℕ) → r ≡ cond (nat_le 1 n && nat_le n 9999) (Ok n) (Err e) → r ≡ Ok m → (nat_lt 0 n ≡ true) × (m ≡ n)
-some_member r e n m is ok = by (nat_le 1 n && nat_le n 9999) refl (sym is ∙ ok)
-  where
-    above : (n : ℕ) → (nat_le 1 n && nat_le n 9999) ≡ true → nat_lt 0 n ≡ true
-    above n h = grind (arith, nat_tests)
-
-    by : (b : Bool) → (nat_le 1 n && nat_le n 9999) ≡ b → cond b (Ok n) (Err e) ≡ Ok m → (nat_lt 0 n ≡ true) × (m ≡ n)
-    by true h o = (above n h, cc)
-    by false h o = cc
+some_member r e n m h1 h2 = grind arith
 
 -- a position that is read as it was written
 pub read_back : (q : ℤ) → unsigned_abs q ≤ corporation_limit → to_z w64 (of_z w64 q) ≡ q
-read_back q h = to_z-of_z w64 q (fits_signed_from_abs w64 q (small (unsigned_abs q) h))
-  where
-    small : (n : ℕ) → n ≤ corporation_limit → n < 2 ^ 63
-    small n h = omega (arith, h)
+read_back q h1 = grind arith
 
 -- whether it is below zero, by the code's comparison
 pub below_zero : (q : ℤ) → le_z (pos 0) q ≡ false → int_lt q (pos 0) ≡ true
-below_zero (pos n) h = absurd (at_least n h)
-  where
-    at_least : (n : ℕ) → le_z (pos 0) (pos n) ≡ false → ⊥
-    at_least n h = grind (arith, ints)
-below_zero (negsuc n) h = refl
+below_zero q h1 = grind arith
 
 pub not_below_zero : (q : ℤ) → le_z (pos 0) q ≡ true → int_lt q (pos 0) ≡ false
-not_below_zero (pos n) h = not_less n
-  where
-    not_less : (n : ℕ) → int_lt (pos n) (pos 0) ≡ false
-    not_less n = grind (arith, ints)
-not_below_zero (negsuc n) h = cc
+not_below_zero q h1 = grind arith
 
 -- how short it is
 pub short_is : (q : ℤ) → int_lt q (pos 0) ≡ true → unsigned_abs q ≡ short q
-short_is (pos n) h = absurd (not_negative n h)
-  where
-    not_negative : (n : ℕ) → int_lt (pos n) (pos 0) ≡ true → ⊥
-    not_negative n h = grind (arith, ints)
-short_is (negsuc n) h = refl
-
--- the row at a place
-pub at_index : {X : Type 0} (P : X → Type 0) (xs : List X) (i : ℕ) (d : X) → AllByRecursion P xs → i < length xs → P (get_or xs i d)
-at_index P [] i d a lt = absurd (omega (arith, lt))
-at_index P (x ∷ xs) zero d a lt = a.0
-at_index P (x ∷ xs) (suc i) d a lt = at_index P xs i d a.1 (omega (arith, lt))
+short_is q h1 = grind arith
 
 -- an age counts one close more
 pub ages_fit : (s : Contents) → HasRoom s → (k : Key) (h : Holding) → ((L : List Activity) → Follows L s → h ≡ holding (journal s.opening L) k.account k.issue) → oldest_of h + 1 < 2 ^ 32
@@ -182,8 +135,7 @@ module _ (J : Journal) (c : Cusip) where
   few w (m ∷ ms) h = by (nat_lt 0 (short (position J m c))) (small (position J m c) (w m h.0)) (few w ms h.1)
     where
       small : (q : ℤ) → unsigned_abs q ≤ position_limit → short q ≤ position_limit
-      small (pos n) h = omega arith
-      small (negsuc n) h = omega (arith, ints, h)
+      small q h1 = grind arith
 
       rest : List Short
       rest = filter (λ s. nat_lt 0 s.shares) (map (short_of J c) ms)

@@ -1,6 +1,9 @@
 -- Whom a close makes liable, from what is called and who is short.
 -- For `choose_batches` of parts/retransmittal.rt and `close_day` of parts/closing.rt, clause step.
-use Rattle.std.proofs.Common.{◌≡◌, ◌∙◌, ap, sym, subst, refl, ℕ, suc, ◌+◌, ◌*◌, ◌^◌, ◌≤◌, ◌<◌, Bool, true, false, cond, ◌&&◌, ◌==◌, List, [], ◌∷◌, ◌++◌, filter, flat_map, length, map, Option, Some, None, sum_by, arith, nat_cmp, filter_map, nat_lt, option_map, IfOk, OnOk, Result, Ok, Err, mul-le-mul_right, length-append}
+use Rattle.std.proofs.Common.{◌≡◌, ◌∙◌, ap, sym, subst, refl, ℕ, suc, ◌+◌, ◌*◌, ◌^◌, ◌≤◌, ◌<◌, Bool, true, false, cond, ◌&&◌, ◌==◌, List, [], ◌∷◌, ◌++◌, filter, flat_map, length, map, Option, Some, None, sum_by, arith, nat_cmp, filter_map, nat_lt, option_map, IfOk, OnOk, Result, mul-le-mul_right, length-append}
+use Rattle.std.proofs.lemmas.Option.{same_Some}
+use Rattle.std.proofs.lemmas.Bool.{and_right}
+use Rattle.cns_book.proofs.PendingSteps.{filter_few}
 use Rattle.cns_book.proofs.Common.{Activity, AllByRecursion, CalledIn, Contents, Cusip, Day, Follows, ForSome, IsLimited, IsReached, IsSound, Journal, Liable, Liables, Notice, Row, Short, batch_at, batch_since, batches_of, batches_since, bytes_eq-Decides, called, called_by, called_in, chosen, day, fills_before, history_limit, in_order, is_called, is_listed, is_sorted, issues, issues_few, journal, journal_len, length-map, liable_of, limited, list_any, member_limit, members, members_few, members_from_one, nat_tests, near, notices, oldest, oldest_at, option_map_or, remaining, same_issue, sheet_rows, short_in, short_of, shorts, shorts_in, slice_cmp, sum_by-cons, total_in, with_shorts}
 use Rattle.cns_terms.specs.Batches.{liable_at}
 use Rattle.cns_terms.specs.Sums.{put}
@@ -34,15 +37,11 @@ uncalled J c s none = ap (sum_by (remaining J)) (nothing (notices J) s.noticed)
     apart n l false e = refl
     apart n l true e = absurd (cc (sym l ∙ ap (is_listed J) ((bytes_eq-Decides n.given.issue c).0 e) ∙ none))
 
-    and_none : (t b : Bool) → b ≡ false → (t && b) ≡ false
-    and_none true b e = e
-    and_none false b e = refl
-
     nothing : (ns : List Notice) → AllByRecursion (IsNoticed J) ns → filter (λ n. (n.given.day == day J) && same_issue n.given.issue c) ns ≡ []
     nothing [] h = refl
     nothing (n ∷ ns) h =
         ap (λ b. cond b (n ∷ filter (λ n. (n.given.day == day J) && same_issue n.given.issue c) ns) (filter (λ n. (n.given.day == day J) && same_issue n.given.issue c) ns))
-        (and_none (n.given.day == day J) (same_issue n.given.issue c) (apart n h.0.1 (same_issue n.given.issue c) refl))
+        (and_right (n.given.day == day J) (same_issue n.given.issue c) (apart n h.0.1 (same_issue n.given.issue c) refl))
         ∙ nothing ns h.1
 
 -- so where something is called, the issue is listed
@@ -91,8 +90,7 @@ module _ (opening : Day) (J : Journal) (l : IsLimited opening J) (before es : Li
           ∙ none_either (list_any (λ d. same_issue d c) (issues J)) (batch_since J J c) nobody
         where
           none_either : (b : Bool) (ls : List Liable) → ls ≡ [] → [] ≡ cond b ls []
-          none_either true ls e = sym e
-          none_either false ls e = refl
+          none_either b ls h1 = grind arith
 
   -- the shorts of each issue can be chosen from
   pub can_choose : (c : Cusip) → ForSome (called_in es c) CanBeChosen
@@ -101,14 +99,11 @@ module _ (opening : Day) (J : Journal) (l : IsLimited opening J) (before es : Li
       by : (o : Option CalledIn) → called_in before c ≡ o → CanBeChosen y
       by None none = absurd (cc (sym is ∙ given c ∙ ap (option_map (with_shorts (filter_map (short_in (oldest J) c) (sheet_rows opening J)))) none))
       by (Some x) some =
-          let same : record { total = called J c; shorts = shorts J c } ≡ y = inside _ _ (sym (in_listed c x some).1 ∙ is) in
+          let same : record { total = called J c; shorts = shorts J c } ≡ y = same_Some _ _ (sym (in_listed c x some).1 ∙ is) in
           subst CanBeChosen same (record {
             distinct = λ a. let one = shorts_once J c a in let all = l.whole.now.distinct a in omega (arith, one, all);
             fits = shorts_few J c (λ a m. near _ _ _ (l.within a c m)) (members_from_one opening J l) (members_few opening J l);
           })
-        where
-          inside : (u v : CalledIn) → Some u ≡ Some v → u ≡ v
-          inside u v e = cc
 
 -- the batches that are chosen are those of the definitions
 pub chosen_same : (opening : Day) (L : List Activity) (before es : List (Cusip × CalledIn)) → IsReached opening L → AreCalls (journal opening L) before → AreGiven opening (journal opening L) before es → is_sorted (slice_cmp nat_cmp) es ≡ true
@@ -151,34 +146,21 @@ liable_counted opening L bs r is =
     ∙ sum_of (batch_since J J) (issues J)
     ∙ ap length (same_map (batch_since J J) (batch_at J) (issues J) (λ c. batch_new J J c (λ a. unfilled opening L (day J) c a r (omega arith))))
 
--- a filtered list is no longer
-filtered_few : {X : Type 0} (p : X → Bool) (xs : List X) → length (filter p xs) ≤ length xs
-filtered_few p [] = omega arith
-filtered_few p (x ∷ xs) = by (p x) (filtered_few p xs)
-  where
-    by : (b : Bool) → length (filter p xs) ≤ length xs → length (cond b (x ∷ filter p xs) (filter p xs)) ≤ suc (length xs)
-    by true h = omega (arith, h)
-    by false h = omega (arith, h)
-
 ordered_len : {X : Type 0} (before : X → X → Bool) (xs : List X) → length (in_order before xs) ≡ length xs
 ordered_len before [] = refl
 ordered_len before (x ∷ xs) = put_len x (in_order before xs) ∙ ap suc (ordered_len before xs)
   where
     put_len : (x : _) (ys : List _) → length (put before x ys) ≡ suc (length ys)
     put_len x [] = refl
-    put_len x (y ∷ ys) = by (before x y) (put_len x ys)
-      where
-        by : (b : Bool) → length (put before x ys) ≡ suc (length ys) → length (cond b (x ∷ y ∷ ys) (y ∷ put before x ys)) ≡ suc (suc (length ys))
-        by true h = refl
-        by false h = ap suc h
+    put_len x (y ∷ ys) = grind (arith, put_len x ys)
 
 -- no batch has more members than there are
 batch_few : (J : Journal) (c : Cusip) → length (batch_at J c) ≤ length (members J)
 batch_few J c =
     let all = length-map (members J) (short_of J c) in
-    let some = filtered_few (λ s. nat_lt 0 s.shares) (map (short_of J c) (members J)) in
+    let some = filter_few (λ s. nat_lt 0 s.shares) (map (short_of J c) (members J)) in
     let placed = ordered_len fills_before (shorts J c) in
-    let taken = filtered_few (is_called (shorts J c) (called J c)) (in_order fills_before (shorts J c)) in
+    let taken = filter_few (is_called (shorts J c) (called J c)) (in_order fills_before (shorts J c)) in
     let liable = length-map (filter (is_called (shorts J c) (called J c)) (in_order fills_before (shorts J c))) liable_of in
     omega (arith, all, some, placed, taken, liable)
 
@@ -215,5 +197,4 @@ none_given opening J es none c = ap (λ (xs : List (Cusip × CalledIn)). called_
 
 -- two things that are said of a value that was made
 pub ok_both : {X E Q : Type 0} (r : Result X E) (P R : X → Type 0) → IfOk r P → OnOk r Q → ((x : X) → P x → Q → R x) → IfOk r R
-ok_both (Ok x) P R p q f = f x p q
-ok_both (Err e) P R p q f = p
+ok_both r P R h1 h2 h3 = grind arith

@@ -9,13 +9,13 @@ use Rattle.cns_terms.specs.declared.command.Command.TheVariants as command
 use Rattle.cns_trades.specs.declared.facts.MoveFacts.{MoveFacts}
 use Rattle.cns_book.specs.Follows.{AreMoveFacts}
 use Rattle.cns_book.proofs.TradingSteps.{at_true, some_member}
+use Rattle.std.proofs.Common.{arith}
 
 -- the rules of a delivery, where the last ones agree once the party is a member
 same_delivery : (m l o x y : Bool) → (m ≡ true → x ≡ y) →
     first_refusal ((NoSuchMember, not m) ∷ (NoSuchIssue, not l) ∷ (Retired, o) ∷ (ExceedsPosition, x) ∷ [])
     ≡ first_refusal ((NoSuchMember, not m) ∷ (NoSuchIssue, not l) ∷ (Retired, o) ∷ (ExceedsPosition, y) ∷ [])
-same_delivery false l o x y h = refl
-same_delivery true l o x y h = ap (λ z. first_refusal ((NoSuchMember, false) ∷ (NoSuchIssue, not l) ∷ (Retired, o) ∷ (ExceedsPosition, z) ∷ [])) (h refl)
+same_delivery m l o x y h1 = grind arith
 
 -- the rules of a receipt, likewise
 same_receipt : (m l o x y w v z : Bool) → (m ≡ true → (x ≡ y) × (v ≡ z)) →

@@ -1,11 +1,11 @@
 -- A trade: what it is refused for, and what it leaves.
 -- For `book_trade` of parts/trading.rt, clause step.
 use Rattle.std.proofs.Common.{◌≡◌, ◌∙◌, sym, ap, refl, ℕ, ◌+◌, ◌≤◌, ℤ, pos, ◌+ℤ◌, neg_ℤ, Bool, true, false, not, ◌&&◌, ◌||◌, cond, eqb, List, [], ◌∷◌, ◌++◌, reverse, Option, Some, None, arith, bytes_eq, is_some, nat_lt, sum_by, Ok, Err, unwrap_or}
-use Rattle.cns_book.proofs.Common.{Account, Activity, Contents, Cusip, Day, Entry, Follows, FollowsNotices, FollowsPending, FollowsReferences, IsInRange, Journal, Key, NoSuchIssue, NoSuchMember, Noticed, Pend, Refusal, Retired, Rows, Traded, WrongDay, books, bought_in, buyer_entry, bytes_refl, date, entries, eqb_refl, first_refusal, holding_at, ints, is_beyond, is_close, is_listed, is_member, is_not_after, is_past, is_retired, is_seen, is_too_far, is_too_large, is_too_large_at, journal, list_any, nat_tests, option_map_or, pend_of, pending, refusal, reverse_onto, seller_entry, shares_for, sold_in, sum_by-cons, total, trade_entries, trade_rules}
+use Rattle.cns_book.proofs.Common.{Account, Activity, Contents, Cusip, Day, Entry, Follows, FollowsNotices, FollowsPending, FollowsReferences, IsInRange, Journal, Key, NoSuchIssue, NoSuchMember, Noticed, Pend, Refusal, Retired, Rows, Traded, WrongDay, books, bought_in, buyer_entry, bytes_refl, date, entries, eqb_refl, first_refusal, holding_at, ints, is_close, is_listed, is_member, is_not_after, is_past, is_retired, is_seen, is_too_far, is_too_large, is_too_large_at, journal, list_any, nat_tests, option_map_or, pend_of, pending, refusal, reverse_onto, seller_entry, shares_for, sold_in, sum_by-cons, total, trade_entries, trade_rules}
 use Rattle.cns_terms.specs.declared.command.Trade.{Trade}
 use Rattle.cns_terms.specs.declared.refusal.Refusal.TheVariants.{SameParty, SeenReference, TooLarge}
 use Rattle.cns_terms.specs.Positions.{position}
-use Rattle.cns_terms.proofs.Facts.{or_false}
+use Rattle.cns_terms.proofs.Facts.{or_false, zero_add}
 use Rattle.cns_trades.specs.Checks.{booking, books_beyond, party, takes_beyond, trade_answer, waits_beyond}
 use Rattle.cns_trades.specs.declared.facts.TradeFacts.{TradeFacts}
 use Rattle.cns_trades.specs.Used.{is_used}
@@ -18,12 +18,10 @@ use Rattle.cns_book.proofs.PartsStaying.{batches_stay, clock_stays, dividends_st
 
 -- what an answer says of the refusal
 pub answer_err : {X : Type 0} (o : Option Refusal) (es : X) (r : Refusal) → Err r ≡ option_map_or Err o (Ok es) → o ≡ Some r
-answer_err None es r e = cc
-answer_err (Some q) es r e = cc
+answer_err o es r h1 = grind arith
 
 pub answer_ok : {X : Type 0} (o : Option Refusal) (es fs : X) → Ok fs ≡ option_map_or Err o (Ok es) → (o ≡ None) × (fs ≡ es)
-answer_ok None es fs e = (refl, cc)
-answer_ok (Some q) es fs e = cc
+answer_ok o es fs h1 = grind arith
 
 -- a member's position, or none
 abbrev pub at_member : Bool → ℤ → Option ℤ
@@ -33,10 +31,7 @@ at_member b q = cond b (Some q) None
 same_rules : (m n l o s d r x y : Bool) → (m ≡ true → n ≡ true → s ≡ false → x ≡ y) →
     first_refusal ((NoSuchMember, not (m && n)) ∷ (NoSuchIssue, not l) ∷ (Retired, o) ∷ (SameParty, s) ∷ (WrongDay, d) ∷ (SeenReference, r) ∷ (TooLarge, x) ∷ [])
     ≡ first_refusal ((NoSuchMember, not (m && n)) ∷ (NoSuchIssue, not l) ∷ (Retired, o) ∷ (SameParty, s) ∷ (WrongDay, d) ∷ (SeenReference, r) ∷ (TooLarge, y) ∷ [])
-same_rules false n l o s d r x y h = refl
-same_rules true false l o s d r x y h = refl
-same_rules true true l o true d r x y h = refl
-same_rules true true l o false d r x y h = ap (λ z. first_refusal ((NoSuchMember, false) ∷ (NoSuchIssue, not l) ∷ (Retired, o) ∷ (SameParty, false) ∷ (WrongDay, d) ∷ (SeenReference, r) ∷ (TooLarge, z) ∷ [])) (h refl refl refl)
+same_rules m n l o s d r x y h1 = grind arith
 
 eqb_apart : (a b : ℕ) → eqb a b ≡ false → eqb b a ≡ false
 eqb_apart a b h = grind (arith, nat_tests)
@@ -71,8 +66,7 @@ module _ (p : Pend) (ps : List Pend) (a : Account) where
       omega (arith, one, more)
     where
       by : (b : Bool) → cond (b && true) p.shares 0 ≡ cond b p.shares 0
-      by true = refl
-      by false = refl
+      by b = grind arith
 
   bought_with : (b : Bool) → eqb p.buyer a ≡ b → bought_in (p ∷ ps) a p.issue ≡ bought_in ps a p.issue + cond b p.shares 0
   bought_with = side_with (λ q. q.buyer)
@@ -87,32 +81,23 @@ above_zero a h = grind (arith, nat_tests)
 none_more : (n : ℕ) → n + 0 ≡ n
 none_more n = omega arith
 
-none_booked : (q : ℤ) → pos 0 +ℤ q ≡ q
-none_booked q = omega (arith, ints)
-
 -- whether a trade is too large, by its parties: whether it books now or is to wait
 module _ (before : Account → Cusip → ℤ) (ps : List Pend) (p : Pend) (b : 1 ≤ p.buyer) (s : 1 ≤ p.seller) (apart : eqb p.buyer p.seller ≡ false) where
   large_now : list_any (is_too_large_at before ps (trade_entries p)) (trade_entries p) ≡ books_beyond (party ps (before p.buyer p.issue) p.buyer p.issue) (party ps (before p.seller p.issue) p.seller p.issue) p
-  large_now =
-      λ i. (above_zero p.buyer b i && is_beyond (buyer_after p (before p.buyer p.issue) apart i) (bought_in ps p.buyer p.issue) (sold_in ps p.buyer p.issue))
-      || or_false (above_zero p.seller s i && is_beyond (seller_after p (before p.seller p.issue) apart i) (bought_in ps p.seller p.issue) (sold_in ps p.seller p.issue)) i
+  large_now = grind (arith, above_zero, buyer_after, or_false, seller_after)
 
   large_later : list_any (is_too_large_at before (p ∷ ps) []) (trade_entries p) ≡ waits_beyond (party ps (before p.buyer p.issue) p.buyer p.issue) (party ps (before p.seller p.issue) p.seller p.issue) p
-  large_later =
-      λ i. (above_zero p.buyer b i && is_beyond (none_booked (before p.buyer p.issue) i) (bought_with p ps p.buyer true (eqb_refl p.buyer) i) ((sold_with p ps p.buyer false (eqb_apart p.buyer p.seller apart) ∙ none_more (sold_in ps p.buyer p.issue)) i))
-      || or_false (above_zero p.seller s i && is_beyond (none_booked (before p.seller p.issue) i) ((bought_with p ps p.seller false apart ∙ none_more (bought_in ps p.seller p.issue)) i) (sold_with p ps p.seller true (eqb_refl p.seller) i)) i
+  large_later = grind (arith, above_zero, zero_add, bought_with, eqb_refl, sold_with, eqb_apart, none_more, or_false)
 
   pub large_if : (now : Bool) → list_any (is_too_large_at before (cond (not now) (p ∷ ps) ps) (cond now (trade_entries p) [])) (trade_entries p) ≡ cond now (books_beyond (party ps (before p.buyer p.issue) p.buyer p.issue) (party ps (before p.seller p.issue) p.seller p.issue) p) (waits_beyond (party ps (before p.buyer p.issue) p.buyer p.issue) (party ps (before p.seller p.issue) p.seller p.issue) p)
   large_if true = large_now
   large_if false = large_later
 
 pub some_member : (m : Bool) (q : ℤ) (o : Option ℤ) → o ≡ at_member m q → is_some o ≡ m
-some_member true q o e = ap is_some e
-some_member false q o e = ap is_some e
+some_member m q o h1 = grind arith
 
 pub at_true : (m : Bool) (q : ℤ) (o : Option ℤ) → o ≡ at_member m q → m ≡ true → unwrap_or o (pos 0) ≡ q
-at_true true q o e h = ap (λ o. unwrap_or o (pos 0)) e
-at_true false q o e h = cc
+at_true m q o h1 h2 = grind arith
 
 -- what waits is the same in either order
 party_of : (ps qs : List Pend) (q : ℤ) (a : Account) (c : Cusip) → qs ≡ reverse ps → party qs q a c ≡ party ps q a c
@@ -195,12 +180,10 @@ trade_taken L s t facts es f are answered =
 
 -- what is told of a trade's entries: they are booked now, or it is to wait
 pub told_now : {X : Type 0} (b : Bool) (x y : X) → Some y ≡ cond b (Some x) None → (b ≡ true) × (y ≡ x)
-told_now true x y h = (refl, cc)
-told_now false x y h = cc
+told_now b x y h1 = grind arith
 
 pub told_later : {X : Type 0} (b : Bool) (x : X) → None ≡ cond b (Some x) None → b ≡ false
-told_later true x h = cc
-told_later false x h = refl
+told_later b x h1 = grind arith
 
 -- a trade that books now
 pub trade_booked : (L : List Activity) (s : Contents) (t : Trade) (trades : Traded) (rows : Rows) → Follows L s → IsInRange (activity.Trade t) → refusal s.opening (journal s.opening L) (command.Activity (activity.Trade t)) ≡ None

@@ -1,6 +1,7 @@
 use Rattle.std.proofs.Common.{◌≡◌, ◌∙◌, ◌↔◌, sym, ap, subst, true, false, List, Err, IfOk}
+use Rattle.std.proofs.lemmas.Result.{IfOk-weaker}
 use Rattle.cns_book.proofs.Common.{Activity, AreHolders, Contents, Follows, HasRoom, Key, Member, activity_of, age_brought, books, entries, entries_of, holding_at, is_held_up, is_too_large, issue_of, journal, members, positions_in, with_age}
-use Rattle.cns_book.proofs.ActionSteps.{can_be_booked, entries_are, few_wait, held_up_is, holders_are, ok_weaker, size_is}
+use Rattle.cns_book.proofs.ActionSteps.{can_be_booked, entries_are, few_wait, held_up_is, holders_are, size_is}
 use Rattle.cns_actions.specs.Bookings.{makes}
 use Rattle.cns_actions.specs.declared.fault.ActionFault.TheVariants as fault
 use Rattle.cns_book.proofs.parts.Parts.bookings_for.Goals as goal
@@ -35,7 +36,7 @@ returns-clause-booked g c =
     let s = c.args.self.now in
     let x = c.args.action.now in
     let R = s.rows in
-    ok_weaker c.bookings_for.result
+    IfOk-weaker c.bookings_for.result
     (λ b. (ms : List Member) → AreHolders (positions_in R (issue_of x)) ms → (k : Key) → makes b k (holding_at R k) ≡ with_age (age_brought R x k) (books (entries_of x (positions_in R (issue_of x)) ms) k (holding_at R k)))
     (λ b. (L : List Activity) → Follows L s → (k : Key) → makes b k (holding_at R k) ≡ with_age (age_brought R x k) (books (entries s.opening (journal s.opening L) (activity_of x)) k (holding_at R k)))
     (λ b h L f k. h (members (journal s.opening L)) (holders_are s L f (issue_of x)) k ∙ ap (λ es. with_age (age_brought R x k) (books es k (holding_at R k))) (entries_are s L f x))
