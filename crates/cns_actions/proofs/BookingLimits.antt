@@ -1,7 +1,7 @@
 -- Whether a split or an exchange takes a member beyond its limits: just where the definitions say so.
 -- For `bookings_for` of acting.rt.
-use Rattle.std.proofs.Common.{◌≡◌, ◌∙◌, ap, refl, ℕ, ◌+◌, ◌≤◌, ℤ, pos, ◌+ℤ◌, ◌-ℤ◌, neg_ℤ, Bool, true, false, cond, ◌&&◌, ◌||◌, ◌==◌, nat_lt, List, [], ◌∷◌, ◌++◌, map, arith, lt-ltb}
-use Rattle.cns_actions.proofs.Common.{Account, Action, AllByRecursion, AreHolders, Cusip, Entry, Exchange, Holder, IsForAnother, Member, Pend, Rows, Split, against_corporation, bought_in, bytes_refl, converted, corporation, each_both, each_weaker, entries_of, entry, holders, in_exchange, in_lieu, ints, is_beyond, is_sorted, issue_of, key_cmp, list_any, nat_tests, new_entry, occurs, old_entry, position_at, position_limit, positions_in, same_issue, shares_for, sold_in, total, total-append, total-map, zero_add}
+use Rattle.std.proofs.Common.{◌≡◌, ◌∙◌, ap, refl, ℕ, ◌≤◌, ℤ, pos, ◌+ℤ◌, ◌-ℤ◌, neg_ℤ, Bool, true, false, cond, ◌&&◌, ◌||◌, ◌==◌, nat_lt, List, [], ◌∷◌, ◌++◌, map, arith, lt-ltb}
+use Rattle.cns_actions.proofs.Common.{Account, Action, AllByRecursion, AreHolders, Cusip, Entry, Exchange, Holder, IsForAnother, Member, Pend, Rows, Split, against_corporation, bought_in, bytes_refl, converted, corporation, each_both, each_weaker, entries_of, entry, holders, in_exchange, in_lieu, ints, is_beyond, is_sorted, issue_of, key_cmp, list_any, new_entry, occurs, old_entry, position_at, position_limit, positions_in, same_issue, shares_for, sold_in, total, total-append, total-map, zero_add}
 use Rattle.std.proofs.lemmas.List.Folds.{list_any-append}
 use Rattle.cns_terms.specs.Refusals.{are_too_large}
 use Rattle.cns_terms.proofs.Facts.{issues_differ}
@@ -22,10 +22,7 @@ any_none (h ∷ hs) = any_none hs
 
 -- nothing is booked for a member with the corporation
 corporation_apart : (a : ℕ) (k : Bool) (x r : ℤ) → 1 ≤ a → cond ((corporation == a) && k) x (pos 0) +ℤ r ≡ r
-corporation_apart a k x r le = ap (λ b. cond (b && k) x (pos 0) +ℤ r) (other a le) ∙ zero_add r
-  where
-    other : (a : ℕ) → 1 ≤ a → (corporation == a) ≡ false
-    other a le = grind (arith, nat_tests)
+corporation_apart a k x r h1 = grind arith
 
 module _ (R : Rows) (order : is_sorted key_cmp R ≡ true) (c : Cusip) (ms : List Member) (are : AreHolders (positions_in R c) ms) where
   -- the positions in the issue
@@ -56,10 +53,7 @@ AreFewShares ps = (a : Account) (c : Cusip) → 1 ≤ a → (bought_in ps a c �
 
 -- where nothing is left, no trades within the limits take a member beyond them
 none_beyond : (b s : ℕ) → (b ≤ position_limit) × (s ≤ position_limit) → is_beyond (pos 0) b s ≡ false
-none_beyond b s h = λ i. least b h.0 i || least s h.1 i
-  where
-    least : (n : ℕ) → n ≤ position_limit → nat_lt position_limit (0 + n) ≡ false
-    least n le = grind (arith, nat_tests)
+none_beyond b s h1 = grind arith
 
 -- a position and its difference to another is the other
 whole : (a b x y : ℤ) → x ≡ a -ℤ b → y ≡ b → x +ℤ y ≡ a

@@ -1,7 +1,7 @@
 -- What is booked for a split or an exchange: that its numbers are small, and its order.
 -- For `all_bookings` and `bookings_for` of acting.rt, `book` of bookings.rt.
-use Rattle.std.proofs.Common.{◌≡◌, ◌∙◌, ◌⊎◌, inl, inr, sym, ap, subst, refl, ℕ, zero, suc, ◌^◌, ◌<◌, ◌≤◌, ℤ, pos, neg_ℤ, Bool, true, false, cond, unsigned_abs, List, [], ◌∷◌, ◌++◌, append_assoc, Ordering, arith, flat_map, int_eq, is_eq, is_lt, nat_cmp, Less, Equal, Greater}
-use Rattle.cns_actions.proofs.Common.{Account, Action, AllByRecursion, AreSmall, Booking, CanBeBooked, Change, Cusip, HasSpace, Holder, IsFew, IsForAnother, Key, Rows, above_all, age_for, all_bookings, and_left, and_right, below_all, bookings_for, both_true, change_of, corporation, corporation_limit, each_append, each_weaker, entry, holding_at, in_issue_order, ints, is_eq-slice_cmp, is_rising, is_sorted, key_cmp, less, member_bookings, member_limit, nat_cmp_total, nat_list_cmp_total, nat_tests, opposite, ordering_reverse, ordering_then, position_at, position_limit, same_issue, slice_cmp, tied_itself}
+use Rattle.std.proofs.Common.{◌≡◌, ◌∙◌, ◌⊎◌, sym, ap, subst, refl, ℕ, zero, suc, ◌^◌, ◌<◌, ◌≤◌, ℤ, pos, neg_ℤ, Bool, true, false, cond, unsigned_abs, List, [], ◌∷◌, ◌++◌, append_assoc, Ordering, arith, flat_map, int_eq, is_eq, is_lt, nat_cmp}
+use Rattle.cns_actions.proofs.Common.{Account, Action, AllByRecursion, AreSmall, Booking, CanBeBooked, Change, Cusip, HasSpace, Holder, IsFew, IsForAnother, Key, Rows, above_all, age_for, all_bookings, and_left, and_right, below_all, bookings_for, both_true, change_of, corporation, corporation_limit, each_append, each_weaker, entry, holding_at, in_issue_order, ints, is_eq-slice_cmp, is_rising, is_sorted, key_cmp, member_bookings, member_limit, nat_cmp_total, nat_list_cmp_total, nat_tests, opposite, ordering_reverse, ordering_then, position_at, position_limit, same_issue, slice_cmp, tied_itself}
 use Rattle.cns_actions.specs.Bookings.{IsSmall, booking, by_key, key_of}
 use Rattle.cns_actions.specs.Booked.{issue_of}
 use Rattle.cns_actions.specs.Changes.{AreInIssues, new_issue}
@@ -12,22 +12,13 @@ use Rattle.cns_actions.specs.declared.action.Action.TheVariants as action
 
 -- two bookings, in either order
 each_pair : (P : Booking → Type 0) (b d : Booking) → P b → P d → AllByRecursion P (in_issue_order b d)
-each_pair P b d p q = by (is_lt (slice_cmp nat_cmp b.entry.issue d.entry.issue))
-  where
-    by : (t : Bool) → AllByRecursion P (cond t (b ∷ d ∷ []) (d ∷ b ∷ []))
-    by true = (p, (q, tt))
-    by false = (q, (p, tt))
+each_pair P b d h1 h2 = grind arith
 
 -- few members' changes make small entries
 pub small_bookings : (x : Action) (a : Account) (c : Change) (n : ℕ) → IsFew member_limit c → AreSmall (bookings_for x a c n)
 small_bookings (action.Split s) a c n few = (record { shares = omega (arith, ints, few.before, few.after); cents = omega (arith, few.cents) }, tt)
 small_bookings (action.Exchange x) a c n few =
     each_pair (λ b. IsSmall b.entry) (booking (entry a x.old (neg_ℤ c.before) (pos 0)) 0) (booking (entry a x.successor c.after c.cents) n) (record { shares = omega (arith, ints, few.before); cents = omega arith }) (record { shares = omega (arith, few.after); cents = omega (arith, few.cents) })
-
--- and so does an age alone
-pub small_age : (x : Action) (a : Account) (n : ℕ) → AreSmall (age_for x a n)
-small_age (action.Split s) a n = tt
-small_age (action.Exchange x) a n = (record { shares = omega arith; cents = omega arith }, tt)
 
 -- a position within the limit of its account leaves room for more
 near : (a : ℕ) (z : ℤ) → (1 ≤ a → unsigned_abs z ≤ position_limit) → (a ≡ 0 → unsigned_abs z ≤ corporation_limit) → unsigned_abs z < 2 ^ 62
@@ -45,9 +36,7 @@ has_space R can k = record {
 
 -- a comparison that is neither below nor equal is below the other way round
 reversed : (o : Ordering) → is_lt o ≡ false → is_eq o ≡ false → is_lt (ordering_reverse o) ≡ true
-reversed Less p q = cc
-reversed Equal p q = cc
-reversed Greater p q = refl
+reversed o h1 h2 = grind arith
 
 -- keys of one account are in the order of issues
 account_tied : (a : ℕ) (c d : Cusip) → key_cmp (record { account = a; issue = c }) (record { account = a; issue = d }) ≡ slice_cmp nat_cmp c d
@@ -89,10 +78,7 @@ member_part x another h = by (int_eq h.shares (pos 0))
 
 -- a key is below those of higher accounts
 lower_account : (k q : Key) → k.account < q.account → is_lt (key_cmp k q) ≡ true
-lower_account k q lt = ap (λ o. is_lt (ordering_then o (slice_cmp nat_cmp k.issue q.issue))) (low k.account q.account lt)
-  where
-    low : (a b : ℕ) → a < b → nat_cmp a b ≡ Less
-    low a b lt = less (nat_cmp a b) (grind (arith, nat_tests))
+lower_account k q h1 = grind arith
 
 below_accounts : (k : Key) (bs : List Booking) → AllByRecursion (λ b. k.account < b.entry.account) bs → below_all key_cmp k (by_key bs) ≡ true
 below_accounts k [] h = refl
@@ -142,23 +128,10 @@ bookings_next x all made new left h rest first is pushed =
 -- ---- their issues
 
 change_in_issues : (x : Action) (a : Account) (c : Change) (n : ℕ) → AreInIssues x (bookings_for x a c n)
-change_in_issues (action.Split s) a c n = (inl refl, tt)
-change_in_issues (action.Exchange x) a c n = by (is_lt (slice_cmp nat_cmp x.old x.successor)) (booking (entry a x.old (neg_ℤ c.before) (pos 0)) 0) (booking (entry a x.successor c.after c.cents) n) refl refl
-  where
-    by : (t : Bool) (b d : Booking) → b.entry.issue ≡ x.old → d.entry.issue ≡ x.successor → AreInIssues (action.Exchange x) (cond t (b ∷ d ∷ []) (d ∷ b ∷ []))
-    by true b d old new = (inl old, (inr new, tt))
-    by false b d old new = (inr new, (inl old, tt))
-
-age_in_issues : (x : Action) (a : Account) (n : ℕ) → AreInIssues x (age_for x a n)
-age_in_issues (action.Split s) a n = tt
-age_in_issues (action.Exchange x) a n = (inr refl, tt)
+change_in_issues x a c n = grind arith
 
 member_in_issues : (x : Action) (h : Holder) → AreInIssues x (member_bookings x h)
-member_in_issues x h = by (int_eq h.shares (pos 0))
-  where
-    by : (t : Bool) → AreInIssues x (cond t (age_for x h.account h.oldest) (bookings_for x h.account (change_of x h.shares) h.oldest))
-    by true = age_in_issues x h.account h.oldest
-    by false = change_in_issues x h.account (change_of x h.shares) h.oldest
+member_in_issues x h = grind arith
 
 members_in_issues : (x : Action) (hs : List Holder) → AreInIssues x (flat_map (member_bookings x) hs)
 members_in_issues x [] = tt

@@ -1,7 +1,8 @@
 -- What is booked for a split or an exchange: that it makes of every holding what the definitions do.
 -- For `bookings_for` of acting.rt.
-use Rattle.std.proofs.Common.{◌≡◌, ◌∙◌, sym, ap, refl, ℕ, zero, suc, ◌+◌, ◌≤◌, max, ℤ, pos, ◌+ℤ◌, ◌-ℤ◌, neg_ℤ, Bool, true, false, cond, not, ◌&&◌, ◌||◌, ◌==◌, ◌⊎◌, inl, inr, List, [], ◌∷◌, map, None, arith, flat_map, int_eq, is_lt, nat_cmp, eqb-true, lt-ltb}
-use Rattle.cns_actions.proofs.Common.{Account, Action, AllByRecursion, AreHolders, Booking, Change, Cusip, Entry, Exchange, Holder, Holding, Key, Member, Rows, Split, against_corporation, age_for, all_bookings, bookings_for, books, carried_to, cents_for, change_of, corporation, each_weaker, entries_in, entries_of, entry, eqb_refl, greatest, has_position, has_position_or_age, held_above, holders, holding_at, in_issue_order, ints, is_sorted, issue_of, key_cmp, list_any, makes, map-append, member_bookings, nat_tests, new_entry, occurs, old_entry, oldest_of, opposite, positions_in, same_issue, shares_for, slice_cmp, total, total-add, total-append, total-map, total-neg, total-same, total-zero, with_age, with_position, zero_add}
+use Rattle.std.proofs.Common.{◌≡◌, ◌∙◌, sym, ap, refl, ℕ, zero, suc, ◌+◌, ◌≤◌, max, ℤ, pos, ◌+ℤ◌, ◌-ℤ◌, neg_ℤ, Bool, true, false, cond, not, ◌&&◌, ◌||◌, ◌==◌, ◌⊎◌, inl, inr, List, [], ◌∷◌, map, None, arith, flat_map, int_eq, eqb-true, lt-ltb}
+use Rattle.cns_positions.proofs.Holdings.{add_zero}
+use Rattle.cns_actions.proofs.Common.{Account, Action, AllByRecursion, AreHolders, Booking, Change, Cusip, Entry, Exchange, Holder, Holding, Key, Member, Rows, Split, against_corporation, age_for, all_bookings, bookings_for, books, carried_to, cents_for, change_of, corporation, each_weaker, entries_in, entries_of, entry, eqb_refl, greatest, has_position, has_position_or_age, held_above, holders, holding_at, in_issue_order, ints, is_sorted, issue_of, key_cmp, list_any, makes, map-append, member_bookings, nat_tests, new_entry, occurs, old_entry, oldest_of, opposite, positions_in, same_issue, shares_for, total, total-add, total-append, total-map, total-neg, total-same, total-zero, with_age, with_position, zero_add}
 use Rattle.cns_terms.specs.Entries.{split_entry}
 use Rattle.cns_terms.proofs.CarriedAges.{greatest-append}
 use Rattle.cns_actions.specs.Booked.{age_brought}
@@ -9,9 +10,6 @@ use Rattle.cns_actions.specs.Changes.{sum_of}
 use Rattle.cns_actions.specs.Bookings.{booking}
 use Rattle.cns_actions.proofs.Holders.{accounts, all_once, all_shown, any_holder, over_holders, own_holdings, positions_kept, shown}
 use Rattle.cns_actions.specs.declared.action.Action.TheVariants as action
-
-one_more : (z : ℤ) → z +ℤ pos 0 ≡ z
-one_more z = omega (arith, ints)
 
 less_both : (a b : ℤ) → neg_ℤ (b +ℤ neg_ℤ a) ≡ neg_ℤ b -ℤ neg_ℤ a
 less_both a b = omega (arith, ints)
@@ -58,17 +56,12 @@ IsSum f = (a : Account) (c : Cusip) → f (entry a c (pos 0) (pos 0)) ≡ pos 0
 
 -- a sum over two bookings in either order
 pair_total : (f : Entry → ℤ) (b d : Booking) → total f (entries_in (in_issue_order b d)) ≡ f b.entry +ℤ f d.entry
-pair_total f b d = by (is_lt (slice_cmp nat_cmp b.entry.issue d.entry.issue))
-  where
-    by : (t : Bool) → total f (entries_in (cond t (b ∷ d ∷ []) (d ∷ b ∷ []))) ≡ f b.entry +ℤ f d.entry
-    by true = omega (arith, ints)
-    by false = omega (arith, ints)
+pair_total f b d = grind arith
 
 module _ (f : Entry → ℤ) (sum : IsSum f) (x : Action) where
   -- an age alone adds nothing
   age_total : (y : Action) (a : Account) (n : ℕ) → total f (entries_in (age_for y a n)) ≡ pos 0
-  age_total (action.Split s) a n = refl
-  age_total (action.Exchange e) a n = ap (λ z. z +ℤ pos 0) (sum a e.successor)
+  age_total y a n = grind arith
 
   -- what is booked for members adds up over those with a position
   members_total : (leg : Account → ℤ → ℤ) → ((a : Account) (q : ℤ) (n : ℕ) → total f (entries_in (bookings_for x a (change_of x q) n)) ≡ leg a q) → (hs : List Holder) → total f (entries_in (flat_map (member_bookings x) hs)) ≡ total (λ h. leg h.account h.shares) (with_position hs)
@@ -92,7 +85,7 @@ split_total R order s ms are n f sum =
     let shares = sym (ap neg_ℤ (leg (λ e. e.shares)) ∙ differences (λ h. (change_of (action.Split s) h.shares).after) (λ h. h.shares) hs) in
     let cents = sym (ap neg_ℤ (leg (λ e. e.cents))) in
     let members =
-    members_total f sum (action.Split s) (λ a q. f (L a q)) (λ a q n. one_more (f (L a q))) (all_shown R order s.issue)
+    members_total f sum (action.Split s) (λ a q. f (L a q)) (λ a q n. add_zero (f (L a q))) (all_shown R order s.issue)
     ∙ ap (total (λ h. f (L h.account h.shares))) (positions_kept s.issue (held_above R None)) ∙ sym (leg f) in
     λ i. f (entry corporation s.issue (shares i) (cents i)) +ℤ members i
 
@@ -131,8 +124,7 @@ same_sums es fs k h same = λ i. record h {
 }
   where
     nothing : (b : Bool) → cond b (pos 0) (pos 0) ≡ pos 0
-    nothing true = refl
-    nothing false = refl
+    nothing b = grind arith
 
 -- what the entries make of a holding is what those of the definitions make of it
 same_books : (R : Rows) (order : is_sorted key_cmp R ≡ true) (x : Action) (ms : List Member) → AreHolders (positions_in R (issue_of x)) ms → (n : ℕ) (k : Key) (h : Holding) → books (entries_in (all_bookings x (sum_of x (shown R order (issue_of x))) n (all_shown R order (issue_of x)))) k h ≡ books (entries_of x (positions_in R (issue_of x)) ms) k h
@@ -148,50 +140,21 @@ age_of (action.Exchange x) k a n = cond ((a == k.account) && same_issue x.succes
 
 -- an age of none
 no_age : (b : Bool) → max (cond b 0 0) 0 ≡ 0
-no_age true = refl
-no_age false = refl
-
-one_age : (b : Bool) (n : ℕ) → max (cond b n 0) 0 ≡ cond b n 0
-one_age true n = omega arith
-one_age false n = refl
-
-two_ages : (b d : Bool) (n : ℕ) → (max (cond b 0 0) (max (cond d n 0) 0) ≡ cond d n 0) × (max (cond d n 0) (max (cond b 0 0) 0) ≡ cond d n 0)
-two_ages true true n = (omega arith, omega arith)
-two_ages true false n = (refl, refl)
-two_ages false true n = (omega arith, omega arith)
-two_ages false false n = (refl, refl)
+no_age b = grind arith
 
 module _ (k : Key) where
   change_age : (x : Action) (a : Account) (c : Change) (n : ℕ) → greatest (carried_to k) (bookings_for x a c n) ≡ age_of x k a n
-  change_age (action.Split s) a c n = no_age ((a == k.account) && same_issue s.issue k.issue)
-  change_age (action.Exchange x) a c n = by (is_lt (slice_cmp nat_cmp x.old x.successor))
-    where
-      leaving : Booking
-      leaving = booking (entry a x.old (neg_ℤ c.before) (pos 0)) 0
-
-      entering : Booking
-      entering = booking (entry a x.successor c.after c.cents) n
-
-      by : (t : Bool) → greatest (carried_to k) (cond t (leaving ∷ entering ∷ []) (entering ∷ leaving ∷ [])) ≡ cond ((a == k.account) && same_issue x.successor k.issue) n 0
-      by true = (two_ages ((a == k.account) && same_issue x.old k.issue) ((a == k.account) && same_issue x.successor k.issue) n).0
-      by false = (two_ages ((a == k.account) && same_issue x.old k.issue) ((a == k.account) && same_issue x.successor k.issue) n).1
+  change_age x a c n = grind arith
 
   alone_age : (x : Action) (a : Account) (n : ℕ) → greatest (carried_to k) (age_for x a n) ≡ age_of x k a n
-  alone_age (action.Split s) a n = refl
-  alone_age (action.Exchange x) a n = one_age ((a == k.account) && same_issue x.successor k.issue) n
+  alone_age x a n = grind arith
 
   members_age : (x : Action) (hs : List Holder) → greatest (carried_to k) (flat_map (member_bookings x) hs) ≡ greatest (λ h. age_of x k h.account h.oldest) hs
   members_age x [] = refl
-  members_age x (h ∷ hs) = greatest-append (carried_to k) (member_bookings x h) (flat_map (member_bookings x) hs) ∙ (λ i. max (by (int_eq h.shares (pos 0)) i) (members_age x hs i))
-    where
-      by : (t : Bool) → greatest (carried_to k) (cond t (age_for x h.account h.oldest) (bookings_for x h.account (change_of x h.shares) h.oldest)) ≡ age_of x k h.account h.oldest
-      by true = alone_age x h.account h.oldest
-      by false = change_age x h.account (change_of x h.shares) h.oldest
+  members_age x (h ∷ hs) = grind (arith, members_age x hs)
 
   all_ages : (x : Action) (sum : Change) (n : ℕ) (hs : List Holder) → greatest (carried_to k) (all_bookings x sum n hs) ≡ max (age_of x k corporation n) (greatest (λ h. age_of x k h.account h.oldest) hs)
-  all_ages x sum n hs =
-      greatest-append (carried_to k) (bookings_for x corporation (opposite sum) n) (flat_map (member_bookings x) hs)
-      ∙ (λ i. max (change_age x corporation (opposite sum) n i) (members_age x hs i))
+  all_ages x sum n hs = grind (arith, greatest-append, opposite, change_age, members_age)
 
 -- ages that are the accounts' own
 module _ (o : Account → ℕ) (a : Account) (t : Bool) where
@@ -227,8 +190,7 @@ module _ (o : Account → ℕ) (a : Account) (t : Bool) where
   all_own hs own there = by a refl
     where
       none : (t : Bool) (n : ℕ) → n ≡ 0 → cond t n 0 ≡ 0
-      none true n e = e
-      none false n e = refl
+      none t n h1 = grind arith
 
       by : (b : ℕ) → a ≡ b → max (cond ((corporation == b) && t) (o corporation) 0) (greatest brought hs) ≡ cond t (o a) 0
       by zero e =
@@ -262,9 +224,7 @@ module _ (R : Rows) (order : is_sorted key_cmp R ≡ true) (k : Key) where
       h = holding_at R (record { account = a; issue = c })
 
       by : (p n : Bool) → (oldest_of h == 0) ≡ n → occurs a (accounts (all_shown R order c)) ≡ cond (p || not n) 1 0 → (1 ≤ occurs a (accounts (all_shown R order c))) ⊎ (oldest_in c a ≡ 0)
-      by true n e once = inl (omega (arith, once))
-      by false true e once = inr (eqb-true (oldest_of h) 0 e)
-      by false false e once = inl (omega (arith, once))
+      by p n h1 h2 = grind arith
 
   same_ages : (x : Action) (sum : Change) → greatest (carried_to k) (all_bookings x sum (oldest_in (issue_of x) corporation) (all_shown R order (issue_of x))) ≡ age_brought R x k
   same_ages (action.Split s) sum = all_ages k (action.Split s) sum (oldest_in s.issue corporation) (all_shown R order s.issue) ∙ ap (λ n. max 0 n) (no_ages (all_shown R order s.issue))

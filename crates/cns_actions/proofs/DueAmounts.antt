@@ -1,14 +1,15 @@
 -- What trades book, added up by key.
 -- For `listed` of due_bookings.rt, `add`, `add_trade` and `of` of due_amounts.rt.
-use Rattle.std.proofs.Common.{◌≡◌, ◌≢◌, ◌∙◌, sym, ap, subst, refl, ℕ, max, ◌+◌, ◌*◌, ◌^◌, ◌<◌, ◌≤◌, ℤ, pos, ◌+ℤ◌, neg_ℤ, unsigned_abs, Bool, true, false, cond, ◌&&◌, List, [], ◌∷◌, ◌==◌, map, filter, flat_map, length, get_or, drop, Option, Some, None, unwrap_or, Ordering, Result, Ok, Err, IfOk, OnOk, arith, is_eq, is_lt, Less, Equal, Greater}
-use Rattle.cns_actions.proofs.Common.{AllByRecursion, Amount, AreSmall, Day, Entry, Holding, IsSmallAmount, Key, Pend, amount_at, amount_of, and_left, and_right, as_booking, below_all, buyer_entry, drop_all, due_entries, equal, exact_keys, insert_entry, ints, is_sorted, key_cmp, keys_total, lookup, makes, match_ordering, money_limit, ordering_reverse, same_issue, seller_entry, shares_limit, tied_itself, trade_entries, with_amount, with_entry, zero_add}
+use Rattle.std.proofs.Common.{◌≡◌, ◌≢◌, ◌∙◌, sym, ap, subst, refl, ℕ, max, ◌+◌, ◌*◌, ◌^◌, ◌<◌, ◌≤◌, ℤ, pos, ◌+ℤ◌, neg_ℤ, unsigned_abs, Bool, true, false, cond, ◌&&◌, List, [], ◌∷◌, ◌==◌, map, filter, flat_map, length, get_or, drop, Option, Some, None, unwrap_or, Ordering, Result, IfOk, OnOk, arith, is_eq, is_lt}
+use Rattle.cns_actions.proofs.Common.{AllByRecursion, Amount, AreSmall, Day, Entry, Holding, IsSmallAmount, Key, Pend, amount_at, amount_of, and_left, and_right, as_booking, below_all, buyer_entry, drop_all, due_entries, equal, exact_keys, insert_entry, ints, is_sorted, key_cmp, keys_total, lookup, makes, match_ordering, money_limit, same_issue, seller_entry, shares_limit, tied_itself, trade_entries, with_amount, with_entry, zero_add}
 use Rattle.std.specs.BTreeMap.{is_at}
 use Rattle.std.specs.FinMap.{find}
 use Rattle.std.proofs.lemmas.List.{drop_more}
+use Rattle.cns_positions.proofs.Holdings.{add_zero}
 use Rattle.cns_terms.specs.Pending.{is_due}
 use Rattle.cns_actions.specs.Bookings.{AreElsewhere, by_key, key_of}
 use Rattle.cns_actions.specs.DueAmounts.{AmountsByKey, AreApartFrom, HasRoomForTrade, IsOneTradeMore, amount_for, no_amount}
-use Rattle.cns_actions.proofs.Making.{is_at_key, makes_first, makes_other}
+use Rattle.cns_actions.proofs.Making.{is_at_key, makes_first, makes_other, is_eq_back}
 
 -- ---- what is booked at a key
 
@@ -22,8 +23,7 @@ pub had_is : (k : Key) (es : AmountsByKey) (o : Option Amount) (a : Amount) → 
 had_is k es o a is found = is ∙ ap (λ o. unwrap_or o no_amount) (found ∙ sym (same_find k es))
 
 room_branch : (b : Bool) (a : Amount) (o : Option Amount) → IsSmallAmount a → IsSmallAmount (unwrap_or o no_amount) → IsSmallAmount (unwrap_or (cond b (Some a) o) no_amount)
-room_branch true a o h k = h
-room_branch false a o h k = k
+room_branch b a o h1 h2 = grind arith
 
 -- what is booked at a key has room, where each amount has
 pub room_at : (k : Key) (es : AmountsByKey) → AllByRecursion (λ e. IsSmallAmount e.1) es → IsSmallAmount (amount_at es k)
@@ -32,38 +32,26 @@ room_at k (e ∷ es) h = room_branch (is_eq (key_cmp k e.0)) e.1 _ h.0 (room_at 
 
 small_branch : (o : Ordering) (k : Key) (a : Amount) (e : Key × Amount) (es later : AmountsByKey) → IsSmallAmount a → IsSmallAmount e.1 → AllByRecursion (λ e. IsSmallAmount e.1) es → AllByRecursion (λ e. IsSmallAmount e.1) later
     → AllByRecursion (λ e. IsSmallAmount e.1) (match_ordering o ((k, a) ∷ e ∷ es) ((e.0, a) ∷ es) (e ∷ later))
-small_branch Less k a e es later h own rest more = (h, (own, rest))
-small_branch Equal k a e es later h own rest more = (h, rest)
-small_branch Greater k a e es later h own rest more = (own, more)
+small_branch o k a e es later h1 h2 h3 h4 = grind arith
 
 -- and so with one put in
 pub small_insert : (k : Key) (a : Amount) (es : AmountsByKey) → IsSmallAmount a → AllByRecursion (λ e. IsSmallAmount e.1) es → AllByRecursion (λ e. IsSmallAmount e.1) (insert_entry key_cmp es k a)
 small_insert k a [] h small = (h, tt)
 small_insert k a (e ∷ es) h small = small_branch (key_cmp k e.0) k a e es (insert_entry key_cmp es k a) h small.0 small.1 (small_insert k a es h small.1)
 
--- keys tie either way round
-tied_both : (r : Ordering) → is_eq (ordering_reverse r) ≡ is_eq r
-tied_both Less = refl
-tied_both Equal = refl
-tied_both Greater = refl
-
 -- nothing is added
 as_was : (a : Amount) → a ≡ with_amount a no_amount
-as_was a = λ i. record { shares = sym (one a.shares) i; cents = sym (one a.cents) i }
-  where
-    one : (z : ℤ) → z +ℤ pos 0 ≡ z
-    one z = omega (arith, ints)
+as_was a = λ i. record { shares = sym (add_zero a.shares) i; cents = sym (add_zero a.cents) i }
 
 -- what an entry books at a key, by whether it is there
 added_branch : (b : Bool) (a now : Amount) (e : Entry) (o : Option Amount) → now ≡ unwrap_or o no_amount → (b ≡ true → a ≡ with_entry now e) → unwrap_or (cond b (Some a) o) no_amount ≡ with_amount now (record { shares = cond b e.shares (pos 0); cents = cond b e.cents (pos 0) })
-added_branch true a now e o is h = h refl
-added_branch false a now e o is h = sym is ∙ as_was now
+added_branch b a now e o h1 h2 = grind arith
 
 -- the amount at each key, where an entry is added
 pub amounts_added : (old new : AmountsByKey) (key : Key) (a : Amount) (e : Entry) → key ≡ key_of e → ((q : Key) → lookup (is_at (key_cmp q)) new ≡ cond (is_eq (key_cmp key q)) (Some a) (lookup (is_at (key_cmp q)) old)) → a ≡ with_entry (amount_at old key) e
     → (k : Key) → amount_at new k ≡ with_amount (amount_at old k) (amount_for e k)
 amounts_added old new key a e own updates is k =
-    let flip : is_eq (key_cmp key k) ≡ is_eq (key_cmp k key) = sym (ap is_eq (keys_total.antisymm k key) ∙ tied_both (key_cmp key k)) in
+    let flip : is_eq (key_cmp key k) ≡ is_eq (key_cmp k key) = sym (ap is_eq (keys_total.antisymm k key) ∙ is_eq_back (key_cmp key k)) in
     let here : is_eq (key_cmp key k) ≡ ((e.account == k.account) && same_issue e.issue k.issue) = flip ∙ ap (λ q. is_eq (key_cmp k q)) own ∙ sym (is_at_key k e) in
     ap (λ o. unwrap_or o no_amount) (same_find k new ∙ updates k ∙ ap (cond (is_eq (key_cmp key k)) (Some a)) (sym (same_find k old)))
     ∙ added_branch (is_eq (key_cmp key k)) a (amount_at old k) e (find key_cmp k old) refl (λ t. is ∙ ap (λ q. with_entry (amount_at old q) e) (exact_keys key k (equal _ t)))
@@ -154,17 +142,11 @@ trade_passed next p rest k all now due is = is ∙ ap (λ t. with_amount now (am
 
 -- a number that is added on one side or taken on the other, or both
 shares_more : (t u : Bool) (z : ℤ) (n m : ℕ) → unsigned_abs (pos n) ≤ m → unsigned_abs ((z +ℤ cond t (pos n) (pos 0)) +ℤ cond u (neg_ℤ (pos n)) (pos 0)) ≤ unsigned_abs z + m
-shares_more true true z n m h = omega (arith, ints, h)
-shares_more true false z n m h = omega (arith, ints, h)
-shares_more false true z n m h = omega (arith, ints, h)
-shares_more false false z n m h = omega (arith, ints, h)
+shares_more t u z n m h1 = grind arith
 
 -- and the other way round
 cents_more : (t u : Bool) (z : ℤ) (n m : ℕ) → unsigned_abs (neg_ℤ (pos n)) ≤ m → unsigned_abs ((z +ℤ cond t (neg_ℤ (pos n)) (pos 0)) +ℤ cond u (pos n) (pos 0)) ≤ unsigned_abs z + m
-cents_more true true z n m h = omega (arith, ints, h)
-cents_more true false z n m h = omega (arith, ints, h)
-cents_more false true z n m h = omega (arith, ints, h)
-cents_more false false z n m h = omega (arith, ints, h)
+cents_more t u z n m h1 = grind arith
 
 in_turn : (x b s : ℤ) → (x +ℤ b) +ℤ s ≡ x +ℤ (b +ℤ (s +ℤ pos 0))
 in_turn x b s = omega (arith, ints)
@@ -219,13 +201,11 @@ room_left i n a lt le few = record { shares = omega (arith, lt, le, few.shares);
 
 -- what follows where a call succeeds
 pub where_ok : {X E P Q : Type 0} (r : Result X E) → OnOk r P → (P → Q) → OnOk r Q
-where_ok (Ok x) p f = f p
-where_ok (Err e) p f = tt
+where_ok r h1 h2 = grind arith
 
 -- and what holds of its value
 pub value_ok : {X E : Type 0} (P Q : X → Type 0) (r : Result X E) → IfOk r P → ((x : X) → P x → Q x) → IfOk r Q
-value_ok P Q (Ok x) p f = f x p
-value_ok P Q (Err e) p f = tt
+value_ok P Q r h1 h2 = grind arith
 
 -- what is left from a place on, its trade first
 pub left_at : (ps : List Pend) (i : ℕ) (p : Pend) → i < length ps → p ≡ get_or ps i p → drop i ps ≡ p ∷ drop (i + 1) ps

@@ -1,9 +1,10 @@
 -- The members with a position or an age in an issue, as rows show them and as a list of members names them.
 -- For `all_bookings` and `bookings_for` of acting.rt.
-use Rattle.std.proofs.Common.{◌≡◌, ◌∙◌, sym, ap, subst, refl, ℕ, ◌+◌, ◌≤◌, ℤ, pos, ◌+ℤ◌, Bool, true, false, cond, not, ◌&&◌, ◌||◌, ◌==◌, nat_lt, unsigned_abs, List, [], ◌∷◌, map, filter, Some, None, unwrap_or, Ordering, zero-add, arith, int_eq, is_eq, is_lt, nat_cmp, Less, Equal, Greater, eqb-true, lt-ltb}
-use Rattle.cns_actions.proofs.Common.{Account, AllByRecursion, AreHolders, CanBeBooked, Cusip, Holder, Holding, Key, Member, Rows, above_all, and_false, and_left, and_right, below_all, both_true, bytes_eq-Decides, bytes_refl, corporation, each_filter, each_map, each_weaker, eqb_refl, eqb_sym, equal, exact_keys, has_position, has_position_or_age, held_above, held_same, held_sorted, holder_of, holders, holders_in, holding_at, is_holder, is_rising, is_sorted, key_cmp, keys_total, list_any, nat_list_cmp_total, nat_tests, occurs, occurs_found, occurs_missing, oldest_of, or_right, ordering_then, position_at, position_limit, positions_in, same_issue, slice_cmp, tied_itself, total, total-map, total-swap, with_position, zeros}
+use Rattle.std.proofs.Common.{◌≡◌, ◌∙◌, sym, ap, subst, refl, ℕ, ◌+◌, ◌≤◌, ℤ, pos, ◌+ℤ◌, Bool, true, false, cond, not, ◌&&◌, ◌||◌, ◌==◌, nat_lt, unsigned_abs, List, [], ◌∷◌, map, filter, Some, None, unwrap_or, Ordering, zero-add, arith, int_eq, is_eq, is_lt, nat_cmp, Equal, eqb-true, lt-ltb}
+use Rattle.cns_actions.proofs.Common.{Account, AllByRecursion, AreHolders, CanBeBooked, Cusip, Holder, Holding, Key, Member, Rows, above_all, and_false, and_left, and_right, below_all, both_true, bytes_eq-Decides, bytes_refl, corporation, each_filter, each_map, each_weaker, eqb_refl, equal, exact_keys, has_position, has_position_or_age, held_above, held_same, held_sorted, holder_of, holders, holders_in, holding_at, is_holder, is_rising, is_sorted, key_cmp, keys_total, list_any, nat_list_cmp_total, nat_tests, occurs, occurs_found, occurs_missing, ordering_then, position_at, position_limit, positions_in, same_issue, slice_cmp, tied_itself, total, total-map, total-swap, with_position, zeros}
 use Rattle.std.specs.FinMap.{find}
 use Rattle.std.proofs.lemmas.Bool.Decides.{Decides-int_eq}
+use Rattle.std.proofs.lemmas.Bool.{not-true}
 use Rattle.cns_terms.specs.Actions.{are_distinct}
 use Rattle.cns_terms.proofs.Accounts.{given_once}
 use Rattle.cns_terms.proofs.Everywhere.{each_stands}
@@ -22,10 +23,7 @@ pub record AreListed (hs : List Holder) : Type 0 where
 -- all members are above 0
 pub above_zero : (hs : List Holder) → AllByRecursion (λ h. 1 ≤ h.account) hs → above_all nat_cmp 0 (accounts hs) ≡ true
 above_zero [] h = refl
-above_zero (h ∷ hs) p = both_true _ _ (low h.account p.0) (above_zero hs p.1)
-  where
-    low : (a : ℕ) → 1 ≤ a → is_lt (nat_cmp 0 a) ≡ true
-    low a le = grind (arith, nat_tests)
+above_zero (h ∷ hs) p = grind (arith, above_zero hs p.1)
 
 -- a member's number, and its own position, which is not 0
 pub record IsOwn (q : Account → ℤ) (h : Holder) : Type 0 where
@@ -45,9 +43,7 @@ is_member a h = grind (arith, nat_tests)
 
 -- the second of two comparisons is a tie
 then_tie : (o p : Ordering) → p ≡ Equal → ordering_then o p ≡ o
-then_tie Less p e = refl
-then_tie Equal p e = e
-then_tie Greater p e = refl
+then_tie o p h1 = grind arith
 
 -- keys in one issue are in the order of accounts
 accounts_less : (k q : Key) → k.issue ≡ q.issue → is_lt (key_cmp k q) ≡ true → is_lt (nat_cmp k.account q.account) ≡ true
@@ -56,8 +52,7 @@ accounts_less k q same l = ap is_lt (sym (then_tie (nat_cmp k.account q.account)
 module _ (kind : Holding → Bool) (idle : kind zeros ≡ false) (c : Cusip) where
   -- one row more
   each_branch : (Q : Holder → Type 0) (b : Bool) (r : Key × Holding) (rows : Rows) → is_holder kind c r ≡ b → (is_holder kind c r ≡ true → Q (holder_of r)) → AllByRecursion Q (map holder_of rows) → AllByRecursion Q (map holder_of (cond b (r ∷ rows) rows))
-  each_branch Q true r rows e h rest = (h e, rest)
-  each_branch Q false r rows e h rest = rest
+  each_branch Q b r rows h1 h2 h3 = grind arith
 
   -- what holds of holders, by what holds of their rows
   each_holder : (P : Key × Holding → Type 0) (Q : Holder → Type 0) (rows : Rows) → ((r : Key × Holding) → is_holder kind c r ≡ true → P r → Q (holder_of r)) → AllByRecursion P rows → AllByRecursion Q (holders_in kind c rows)
@@ -66,8 +61,7 @@ module _ (kind : Holding → Bool) (idle : kind zeros ≡ false) (c : Cusip) whe
 
   -- a holder's number is below those of higher rows
   above_branch : (b : Bool) (k : Key) (r : Key × Holding) (rows : Rows) → is_holder kind c r ≡ b → k.issue ≡ c → is_lt (key_cmp k r.0) ≡ true → above_all nat_cmp k.account (accounts (map holder_of rows)) ≡ true → above_all nat_cmp k.account (accounts (map holder_of (cond b (r ∷ rows) rows))) ≡ true
-  above_branch true k r rows e same l h = both_true _ _ (accounts_less k r.0 (same ∙ sym (in_issue kind c r e)) l) h
-  above_branch false k r rows e same l h = h
+  above_branch b k r rows h1 h2 h3 h4 = grind (arith, both_true, accounts_less, in_issue)
 
   above_holders : (k : Key) (rows : Rows) → k.issue ≡ c → below_all key_cmp k rows ≡ true → above_all nat_cmp k.account (accounts (holders_in kind c rows)) ≡ true
   above_holders k [] same b = refl
@@ -75,8 +69,7 @@ module _ (kind : Holding → Bool) (idle : kind zeros ≡ false) (c : Cusip) whe
 
   -- so holders are in the order of their numbers
   rising_branch : (b : Bool) (r : Key × Holding) (rows : Rows) → (is_holder kind c r ≡ true → above_all nat_cmp r.0.account (accounts (map holder_of rows)) ≡ true) → is_holder kind c r ≡ b → is_rising nat_cmp (accounts (map holder_of rows)) ≡ true → is_rising nat_cmp (accounts (map holder_of (cond b (r ∷ rows) rows))) ≡ true
-  rising_branch true r rows above e h = both_true _ _ (above e) h
-  rising_branch false r rows above e h = h
+  rising_branch b r rows h1 h2 h3 = grind arith
 
   rising_holders : (rows : Rows) → is_sorted key_cmp rows ≡ true → is_rising nat_cmp (accounts (holders_in kind c rows)) ≡ true
   rising_holders [] s = refl
@@ -86,8 +79,7 @@ module _ (kind : Holding → Bool) (idle : kind zeros ≡ false) (c : Cusip) whe
 
   -- the test of a member's own row
   here : (a z : Bool) (r : Key × Holding) → r.0.issue ≡ c → (a && z) ≡ (a && same_issue r.0.issue c && z)
-  here true z r same = ap (λ b. b && z) (sym (ap (λ i. same_issue i c) same ∙ bytes_refl c))
-  here false z r same = refl
+  here a z r h1 = grind (arith, bytes_refl)
 
   -- one row more, by whether it is a holder's, and the member's own
   occurs_branch : (x : ℕ) (r : Key × Holding) (rows : Rows) (b e : Bool) → is_holder kind c r ≡ b → is_eq (key_cmp (record { account = x; issue = c }) r.0) ≡ e → below_all key_cmp r.0 rows ≡ true
@@ -123,59 +115,29 @@ module _ (kind : Holding → Bool) (idle : kind zeros ≡ false) (c : Cusip) whe
 -- those with a position are the holders of one
 pub positions_kept : (c : Cusip) (rows : Rows) → with_position (holders_in has_position_or_age c rows) ≡ holders_in has_position c rows
 positions_kept c [] = refl
-positions_kept c (r ∷ rows) = by (nat_lt corporation r.0.account) (same_issue r.0.issue c) (has_position r.1) (not (oldest_of r.1 == 0)) refl (positions_kept c rows)
-  where
-    all : Rows
-    all = filter (is_holder has_position_or_age c) rows
-
-    some : Rows
-    some = filter (is_holder has_position c) rows
-
-    by : (a d p g : Bool) → has_position r.1 ≡ p → with_position (map holder_of all) ≡ map holder_of some → with_position (map holder_of (cond (a && d && (p || g)) (r ∷ all) all)) ≡ map holder_of (cond (a && d && p) (r ∷ some) some)
-    by true true true g e rest = ap (λ b. cond b (holder_of r ∷ with_position (map holder_of all)) (with_position (map holder_of all))) e ∙ ap (λ hs. holder_of r ∷ hs) rest
-    by true true false true e rest = ap (λ b. cond b (holder_of r ∷ with_position (map holder_of all)) (with_position (map holder_of all))) e ∙ rest
-    by true true false false e rest = rest
-    by true false p g e rest = rest
-    by false d p g e rest = rest
+positions_kept c (r ∷ rows) = grind (arith, positions_kept c rows)
 
 -- ---- as a list of members names them
 
 -- how often a number is among those that pass a test
 filter_branch : (p : ℕ → Bool) (x m : ℕ) (b t : Bool) (n o : ℕ) → p m ≡ b → (x == m) ≡ t → n ≡ cond (p x) o 0 → cond b (cond t 1 0 + n) n ≡ cond (p x) (cond t 1 0 + o) 0
 filter_branch p x m true true n o e f h = let same : p x ≡ true = ap p (eqb-true x m f) ∙ e in rw (h, same) refl
-filter_branch p x m true false n o e f h = rw h (by (p x))
-  where
-    by : (b : Bool) → 0 + cond b o 0 ≡ cond b (0 + o) 0
-    by true = refl
-    by false = refl
+filter_branch p x m true false n o e f h = grind arith
 filter_branch p x m false true n o e f h = let same : p x ≡ false = ap p (eqb-true x m f) ∙ e in rw (h, same) refl
-filter_branch p x m false false n o e f h = rw h (by (p x))
-  where
-    by : (b : Bool) → cond b o 0 ≡ cond b (0 + o) 0
-    by true = omega arith
-    by false = refl
+filter_branch p x m false false n o e f h = grind arith
 
 occurs_cond : (x m : ℕ) (b : Bool) (ms : List ℕ) → occurs x (cond b (m ∷ ms) ms) ≡ cond b (cond (x == m) 1 0 + occurs x ms) (occurs x ms)
-occurs_cond x m true ms = refl
-occurs_cond x m false ms = refl
+occurs_cond x m b ms = grind arith
 
 occurs_filter : (p : ℕ → Bool) (x : ℕ) (ms : List ℕ) → occurs x (filter p ms) ≡ cond (p x) (occurs x ms) 0
-occurs_filter p x [] = by (p x)
-  where
-    by : (b : Bool) → ◌≡◌ {A = ℕ} 0 (cond b 0 0)
-    by true = refl
-    by false = refl
+occurs_filter p x [] = grind arith
 occurs_filter p x (m ∷ ms) = occurs_cond x m (p m) (filter p ms) ∙ filter_branch p x m (p m) (x == m) _ _ refl refl (occurs_filter p x ms)
 
 -- a number stands at most once in a list that names nobody twice
 once_branch : (x m : ℕ) (ms : List ℕ) (t : Bool) → (x == m) ≡ t → not (list_any (λ b. m == b) ms) ≡ true → occurs x ms ≤ 1 → cond t 1 0 + occurs x ms ≤ 1
 once_branch x m ms true e apart h =
-    let none : occurs x ms ≡ 0 = occurs_missing x ms (ap (λ a. list_any (λ b. a == b) ms) (eqb-true x m e) ∙ absent (list_any (λ b. m == b) ms) apart) in
+    let none : occurs x ms ≡ 0 = occurs_missing x ms (ap (λ a. list_any (λ b. a == b) ms) (eqb-true x m e) ∙ not-true (list_any (λ b. m == b) ms) apart) in
     omega (arith, none)
-  where
-    absent : (b : Bool) → not b ≡ true → b ≡ false
-    absent true h = cc
-    absent false h = refl
 once_branch x m ms false e apart h = omega arith
 
 at_most_once : (x : ℕ) (ms : List ℕ) → are_distinct ms ≡ true → occurs x ms ≤ 1
@@ -202,11 +164,7 @@ each_total f g (x ∷ xs) h = λ i. h.0 i +ℤ each_total f g xs h.1 i
 
 -- a term that is given to one number of two
 either_term : (g : ℕ → ℤ) (k : Bool) (x y : ℕ) → cond ((x == y) && k) (g x) (pos 0) ≡ cond ((y == x) && k) (g y) (pos 0)
-either_term g k x y = by (x == y) refl ∙ ap (λ b. cond (b && k) (g y) (pos 0)) (eqb_sym x y)
-  where
-    by : (b : Bool) → (x == y) ≡ b → cond (b && k) (g x) (pos 0) ≡ cond (b && k) (g y) (pos 0)
-    by true e = ap (λ z. cond k (g z) (pos 0)) (eqb-true x y e)
-    by false e = refl
+either_term g k x y = grind arith
 
 -- terms of which one number has its own, which stands once
 pub given_to : (g : ℕ → ℤ) (k : Bool) (x : ℕ) (xs : List ℕ) → occurs x xs ≡ 1 → total (λ m. cond ((m == x) && k) (g m) (pos 0)) xs ≡ cond k (g x) (pos 0)
@@ -221,16 +179,14 @@ same_total g xs ys p q =
 
 -- a test that a number of a list passes
 passes_branch : (t : ℕ → Bool) (x y : ℕ) (b c : Bool) (n : ℕ) → (x == y) ≡ b → t x ≡ true → 1 ≤ cond b 1 0 + n → (1 ≤ n → c ≡ true) → (t y || c) ≡ true
-passes_branch t x y true c n same e h later = ap (λ b. b || c) (sym (ap t (eqb-true x y same)) ∙ e)
-passes_branch t x y false c n same e h later = or_right (t y) c (later (omega arith))
+passes_branch t x y b c n h1 h2 h3 h4 = grind arith
 
 passes : (t : ℕ → Bool) (x : ℕ) (ys : List ℕ) → t x ≡ true → 1 ≤ occurs x ys → list_any t ys ≡ true
 passes t x [] e h = absurd (omega arith)
 passes t x (y ∷ ys) e h = passes_branch t x y (x == y) (list_any t ys) (occurs x ys) refl e h (passes t x ys e)
 
 any_branch : (b c d : Bool) → (b ≡ true → d ≡ true) → (c ≡ true → d ≡ true) → (b || c) ≡ true → d ≡ true
-any_branch true c d p q h = p refl
-any_branch false c d p q h = q h
+any_branch b c d h1 h2 h3 = grind arith
 
 any_there : (t : ℕ → Bool) (xs ys : List ℕ) → AllByRecursion (λ x. occurs x ys ≡ 1) xs → list_any t xs ≡ true → list_any t ys ≡ true
 any_there t [] ys p h = cc
@@ -244,8 +200,7 @@ same_test false false p q = refl
 
 -- where one condition gives a number other than 0, it holds
 cond_holds : (b : Bool) (n : ℕ) → 1 ≤ cond b n 0 → b ≡ true
-cond_holds true n h = refl
-cond_holds false n h = absurd (omega arith)
+cond_holds b n h1 = grind arith
 
 module _ (R : Rows) (order : is_sorted key_cmp R ≡ true) (c : Cusip) where
   -- the members that rows show

@@ -1,9 +1,10 @@
 -- Bookings that are made one after another: what stands at each key.
 -- For `enter_all`, `make` and `book_all` of bookings.rt.
-use Rattle.std.proofs.Common.{◌≡◌, ◌≢◌, ◌∙◌, sym, ap, subst, refl, ℕ, zero, suc, is_some, ◌+◌, ◌<◌, max, ℤ, pos, ◌+ℤ◌, Bool, true, false, cond, ◌&&◌, ◌==◌, List, [], ◌∷◌, ◌++◌, length, get_or, take, drop, Ordering, arith, is_eq, is_lt, Less, Equal, Greater}
+use Rattle.std.proofs.Common.{◌≡◌, ◌≢◌, ◌∙◌, sym, ap, subst, refl, ℕ, zero, suc, is_some, ◌+◌, ◌<◌, max, ℤ, pos, ◌+ℤ◌, Bool, true, false, cond, ◌&&◌, ◌==◌, List, [], ◌∷◌, ◌++◌, length, get_or, take, drop, Ordering, arith, is_eq, is_lt}
 use Rattle.cns_actions.proofs.Common.{AreEntered, AreSmall, Booking, Entry, HasSpace, Holding, Key, Rows, and_left, and_right, below_all, carried_to, cents_for, each_append, each_weaker, entries_in, equal, exact_keys, greatest, has_row, holding_at, ints, is_sorted, key_cmp, keys_total, less, made, makes, ordering_reverse, same_issue, same_key, shares_for, take_more, total, with_age}
 use Rattle.std.proofs.lemmas.List.{drop_more}
 use Rattle.std.proofs.Math.Nat.{max-zero}
+use Rattle.cns_positions.proofs.Holdings.{add_zero}
 use Rattle.cns_positions.specs.Rows.{aged, booked, entry_of, row_at}
 use Rattle.cns_actions.specs.Bookings.{AreElsewhere, HaveSpace, by_key, entered, key_of}
 
@@ -14,10 +15,8 @@ abbrev pub is_at : Key → Entry → Bool
 is_at k e = (e.account == k.account) && same_issue e.issue k.issue
 
 -- a comparison the other way round
-is_eq_back : (o : Ordering) → is_eq (ordering_reverse o) ≡ is_eq o
-is_eq_back Less = refl
-is_eq_back Equal = refl
-is_eq_back Greater = refl
+pub is_eq_back : (o : Ordering) → is_eq (ordering_reverse o) ≡ is_eq o
+is_eq_back o = grind arith
 
 -- the same, by the order of keys
 pub is_at_key : (k : Key) (e : Entry) → is_at k e ≡ is_eq (key_cmp k (key_of e))
@@ -40,26 +39,22 @@ add_nothing t h e = omega (arith, ints, e)
 
 -- an entry is booked, and nothing else
 add_first : (b : Bool) (x t h : ℤ) → b ≡ true → t ≡ pos 0 → (cond b x (pos 0) +ℤ t) +ℤ h ≡ h +ℤ x
-add_first true x t h e z = omega (arith, ints, z)
-add_first false x t h e z = cc
+add_first b x t h h1 h2 = grind arith
 
 -- an entry is booked elsewhere
 add_other : (b : Bool) (x t h : ℤ) → b ≡ false → (cond b x (pos 0) +ℤ t) +ℤ h ≡ t +ℤ h
-add_other true x t h e = cc
-add_other false x t h e = omega (arith, ints)
+add_other b x t h h1 = grind arith
 
 -- an age is brought, and nothing else
 age_nothing : (c g : ℕ) → g ≡ 0 → max c g ≡ c
 age_nothing c g e = omega (arith, e)
 
 age_first : (b : Bool) (n g c : ℕ) → b ≡ true → g ≡ 0 → max c (max (cond b n 0) g) ≡ max c n
-age_first true n g c h e = omega (arith, e)
-age_first false n g c h e = cc
+age_first b n g c h1 h2 = grind arith
 
 -- an age is brought elsewhere
 age_other : (b : Bool) (n g c : ℕ) → b ≡ false → max c (max (cond b n 0) g) ≡ max c g
-age_other true n g c h = cc
-age_other false n g c h = omega arith
+age_other b n g c h1 = grind arith
 
 module _ (k : Key) (h : Holding) where
   -- where all bookings are above a key, what stands there stays
@@ -94,17 +89,13 @@ module _ (k : Key) (h : Holding) where
 
 -- ---- one booking
 
--- nothing added
-none_more : (z : ℤ) → z +ℤ pos 0 ≡ z
-none_more z = omega (arith, ints)
-
 -- shares and cents that are booked, and an age that is brought, are the booking
 pub one_made : (b : Booking) (k : Key) (h : Holding) → aged (key_of b.entry) b.carried k (booked (entry_of (key_of b.entry) b.entry.shares b.entry.cents) k h) ≡ made b k h
 one_made b k h = by (is_at k b.entry)
   where
     by : (t : Bool) → cond t (with_age b.carried (record h { now = h.now +ℤ cond t b.entry.shares (pos 0); contract = h.contract +ℤ cond t b.entry.cents (pos 0) })) (record h { now = h.now +ℤ cond t b.entry.shares (pos 0); contract = h.contract +ℤ cond t b.entry.cents (pos 0) }) ≡ cond t (entered b h) h
     by true = refl
-    by false = λ i. record h { now = none_more h.now i; contract = none_more h.contract i }
+    by false = λ i. record h { now = add_zero h.now i; contract = add_zero h.contract i }
 
 -- so are they alone, where no age is brought
 pub made_alone : (b : Booking) (k : Key) (h : Holding) → b.carried ≡ 0 → booked (entry_of (key_of b.entry) b.entry.shares b.entry.cents) k h ≡ made b k h

@@ -1,8 +1,8 @@
 -- Members with a position or an age in an issue, account by account: all rows of an account but that in the issue are passed
 -- over.
 -- For `next_holder` of holder.rt, clause next.
-use Rattle.std.proofs.Common.{◌≡◌, ◌∙◌, sym, ap, subst, refl, ℕ, ◌<◌, ◌≤◌, Bool, true, false, cond, not, ◌&&◌, ◌==◌, nat_lt, List, [], ◌∷◌, length, map, filter, Option, Some, None, unwrap_or, Ordering, arith, is_eq, is_lt, nat_cmp, Less, Equal, Greater, eqb-true}
-use Rattle.cns_actions.proofs.Common.{Account, AllByRecursion, Cusip, Holder, Holding, Key, Rows, and_false, and_left, and_right, below_all, both_true, bytes_eq-Decides, bytes_refl, cons_option, corporation, each_weaker, equal, exact_keys, has_position_or_age, held_above, held_same, held_sorted, holder_of, holders_after, holders_in, holding_at, holds, is_holder, is_sorted, key_cmp, keys_total, less, nat_tests, ordering_reverse, ordering_then, same_issue, slice_cmp, zeros}
+use Rattle.std.proofs.Common.{◌≡◌, ◌∙◌, sym, ap, subst, refl, ℕ, ◌<◌, ◌≤◌, Bool, true, false, cond, ◌&&◌, nat_lt, List, [], ◌∷◌, length, filter, Option, Some, None, unwrap_or, Ordering, arith, is_eq, is_lt, Less, Equal, Greater, eqb-true}
+use Rattle.cns_actions.proofs.Common.{Account, AllByRecursion, Cusip, Holder, Holding, Key, Rows, and_false, and_left, and_right, below_all, both_true, bytes_eq-Decides, bytes_refl, cons_option, corporation, each_weaker, equal, exact_keys, has_position_or_age, held_above, held_same, held_sorted, holder_of, holders_after, holders_in, holding_at, holds, is_sorted, key_cmp, keys_total, less, nat_tests, ordering_reverse, same_issue, zeros}
 use Rattle.std.specs.FinMap.{find}
 use Rattle.cns_positions.specs.Rows.{is_above, is_held}
 use Rattle.cns_actions.specs.Holding.{holder_at, is_left, is_of_next}
@@ -17,11 +17,7 @@ apart h = cc
 -- what holds of all that pass a test
 passing : {X : Type 0} (P : X → Type 0) (t : X → Bool) (xs : List X) → AllByRecursion P (filter t xs) → AllByRecursion (λ x. t x ≡ true → P x) xs
 passing P t [] h = tt
-passing P t (x ∷ xs) h = by (t x) refl (passing P t xs) h
-  where
-    by : (b : Bool) → t x ≡ b → (AllByRecursion P (filter t xs) → AllByRecursion (λ x. t x ≡ true → P x) xs) → AllByRecursion P (cond b (x ∷ filter t xs) (filter t xs)) → AllByRecursion (λ x. t x ≡ true → P x) (x ∷ xs)
-    by true e rest h = ((λ _. h.0), rest h.1)
-    by false e rest h = ((λ f. absurd (apart (sym e ∙ f))), rest h)
+passing P t (x ∷ xs) h = grind (arith, passing P t xs)
 
 -- nothing passes a test that fails everywhere
 none_pass : {X : Type 0} (t : X → Bool) (xs : List X) → AllByRecursion (λ x. t x ≡ false) xs → filter t xs ≡ []
@@ -36,36 +32,21 @@ all_pass (x ∷ xs) = ap (λ ys. x ∷ ys) (all_pass xs)
 -- no more pass a test that implies another
 fewer_pass : {X : Type 0} (t u : X → Bool) (xs : List X) → ((x : X) → t x ≡ true → u x ≡ true) → length (filter t xs) ≤ length (filter u xs)
 fewer_pass t u [] h = omega arith
-fewer_pass t u (x ∷ xs) h = by (t x) (u x) refl refl (fewer_pass t u xs h)
-  where
-    by : (b d : Bool) → t x ≡ b → u x ≡ d → length (filter t xs) ≤ length (filter u xs) → length (cond b (x ∷ filter t xs) (filter t xs)) ≤ length (cond d (x ∷ filter u xs) (filter u xs))
-    by true true e f le = omega arith
-    by true false e f le = absurd (apart (sym f ∙ h x e))
-    by false true e f le = omega arith
-    by false false e f le = le
+fewer_pass t u (x ∷ xs) h = grind (arith, fewer_pass t u xs h)
 
 -- ---- keys and their accounts
 
 -- a key before another is of no later account
 account_le : (k q : Key) → is_lt (key_cmp k q) ≡ true → k.account ≤ q.account
-account_le k q h = by (nat_cmp k.account q.account) refl h
-  where
-    by : (o : Ordering) → nat_cmp k.account q.account ≡ o → is_lt (ordering_then o (slice_cmp nat_cmp k.issue q.issue)) ≡ true → k.account ≤ q.account
-    by Less e h = grind (arith, nat_tests)
-    by Equal e h = grind (arith, nat_tests)
-    by Greater e h = cc
+account_le k q h1 = grind arith
 
 -- a key of an earlier account is before another
 account_before : (k q : Key) → nat_lt k.account q.account ≡ true → key_cmp k q ≡ Less
-account_before k q h = ap (λ o. ordering_then o (slice_cmp nat_cmp k.issue q.issue)) less_account
-  where
-    less_account : nat_cmp k.account q.account ≡ Less
-    less_account = grind (arith, nat_tests)
+account_before k q h1 = grind arith
 
 -- rows whose accounts are left are above what is passed
 left_above : (passed : Option Key) (k : Key) → is_left passed k ≡ true → is_above passed k ≡ true
-left_above None k h = refl
-left_above (Some p) k h = ap is_lt (account_before p k h)
+left_above passed k h1 = grind arith
 
 -- ---- the rows above a key, among those that aren't zeros
 
@@ -75,10 +56,7 @@ above_held passed (r ∷ rows) = by (is_above passed r.0) (is_held r.1) refl ref
   where
     by : (a h : Bool) → is_above passed r.0 ≡ a → is_held r.1 ≡ h → held_above rows passed ≡ filter (λ r. is_above passed r.0) (held_above rows None)
         → cond (a && h) (r ∷ held_above rows passed) (held_above rows passed) ≡ filter (λ r. is_above passed r.0) (cond h (r ∷ held_above rows None) (held_above rows None))
-    by true true e f same = ap (λ rs. r ∷ rs) same ∙ sym (ap (λ b. cond b (r ∷ filter (λ r. is_above passed r.0) (held_above rows None)) (filter (λ r. is_above passed r.0) (held_above rows None))) e)
-    by true false e f same = same
-    by false true e f same = same ∙ sym (ap (λ b. cond b (r ∷ filter (λ r. is_above passed r.0) (held_above rows None)) (filter (λ r. is_above passed r.0) (held_above rows None))) e)
-    by false false e f same = same
+    by a h h1 h2 h3 = grind arith
 
 -- the accounts of rows in order are no earlier than that of the first
 from_first : (r : Key × Holding) (rows : Rows) → below_all key_cmp r.0 rows ≡ true → AllByRecursion (λ x. r.0.account ≤ x.0.account) rows
@@ -132,35 +110,15 @@ module _ (c : Cusip) (a : Account) (left : Key → Bool) (later : (k : Key) → 
 
   -- one row more among holders
   more : (x : Key × Holding) (xs ys : Rows) → holders_in has_position_or_age c xs ≡ holders_in has_position_or_age c ys → holders_in has_position_or_age c (x ∷ xs) ≡ holders_in has_position_or_age c (x ∷ ys)
-  more x xs ys e = by (is_holder has_position_or_age c x)
-    where
-      by : (b : Bool) → map holder_of (cond b (x ∷ filter (is_holder has_position_or_age c) xs) (filter (is_holder has_position_or_age c) xs)) ≡ map holder_of (cond b (x ∷ filter (is_holder has_position_or_age c) ys) (filter (is_holder has_position_or_age c) ys))
-      by true = ap (λ hs. holder_of x ∷ hs) e
-      by false = e
+  more x xs ys h1 = grind arith
 
   -- the row at the place is that of the holder
   at_place : (h : Holding) (xs : Rows) (hs : List Holder) → holders_in has_position_or_age c xs ≡ hs → holders_in has_position_or_age c ((place, h) ∷ xs) ≡ cons_option (one h) hs
-  at_place h xs hs e = ap (λ b. map holder_of (cond b ((place, h) ∷ filter (is_holder has_position_or_age c) xs) (filter (is_holder has_position_or_age c) xs))) test ∙ by (nat_lt corporation a && has_position_or_age h)
-    where
-      test : is_holder has_position_or_age c (place, h) ≡ (nat_lt corporation a && has_position_or_age h)
-      test = by (nat_lt corporation a)
-        where
-          by : (b : Bool) → (b && same_issue c c && has_position_or_age h) ≡ (b && has_position_or_age h)
-          by true = ap (λ s. s && has_position_or_age h) (bytes_refl c)
-          by false = refl
-
-      by : (b : Bool) → map holder_of (cond b ((place, h) ∷ filter (is_holder has_position_or_age c) xs) (filter (is_holder has_position_or_age c) xs)) ≡ cons_option (cond b (Some (holder_of (place, h))) None) hs
-      by true = ap (λ gs. holder_of (place, h) ∷ gs) e
-      by false = e
+  at_place h xs hs h1 = grind (arith, bytes_refl)
 
   -- a row in another issue is no holder's
   elsewhere : (x : Key × Holding) (xs : Rows) → same_issue x.0.issue c ≡ false → holders_in has_position_or_age c (x ∷ xs) ≡ holders_in has_position_or_age c xs
-  elsewhere x xs e = ap (λ b. map holder_of (cond b (x ∷ filter (is_holder has_position_or_age c) xs) (filter (is_holder has_position_or_age c) xs))) other
-    where
-      other : is_holder has_position_or_age c x ≡ false
-      other =
-          ap (λ s. nat_lt corporation x.0.account && s && has_position_or_age x.1) e
-          ∙ ap (λ b. b && has_position_or_age x.1) (and_false (nat_lt corporation x.0.account))
+  elsewhere x xs h1 = grind arith
 
   -- what stands at the place is past a row in another issue
   past_row : (x : Key × Holding) (rows : Rows) → same_issue x.0.issue c ≡ false → holding_at (x ∷ rows) place ≡ holding_at rows place
@@ -192,8 +150,7 @@ module _ (c : Cusip) (a : Account) (left : Key → Bool) (later : (k : Key) → 
           ap (λ (k : Key). holders_in has_position_or_age c ((k, x.1) ∷ filter (λ r. left r.0) rows)) is
           ∙ at_place x.1 (filter (λ r. left r.0) rows) (after rows) rest
           ∙ ap (λ h. cons_option (one h) (after rows)) (sym (ap (holding_at (x ∷ rows)) (sym is) ∙ first_row x rows))
-      of_account false e same ih =
-          elsewhere x (filter (λ r. left r.0) rows) e ∙ ih ∙ ap (λ h. cons_option (one h) (after rows)) (sym (past_row x rows e))
+      of_account false e same ih = grind (arith, elsewhere, past_row)
 
       by : (l d : Bool) → left x.0 ≡ l → nat_lt a x.0.account ≡ d → holders_in has_position_or_age c (filter (λ r. left r.0) rows) ≡ cons_option (one (holding_at rows place)) (after rows)
           → holders_in has_position_or_age c (cond l (x ∷ filter (λ r. left r.0) rows) (filter (λ r. left r.0) rows)) ≡ cons_option (one (holding_at (x ∷ rows) place)) (holders_in has_position_or_age c (cond d (x ∷ filter (λ r. nat_lt a r.0.account) rows) (filter (λ r. nat_lt a r.0.account) rows)))
@@ -227,11 +184,7 @@ module _ (R : Rows) (order : is_sorted key_cmp R ≡ true) (c : Cusip) (passed :
 
   -- a row that is not above what is passed is not left
   not_left : (x : Key × Holding) → (is_above passed x.0 ≡ true → ⊥) → is_left passed x.0 ≡ false
-  not_left x under = by (is_left passed x.0) refl
-    where
-      by : (b : Bool) → is_left passed x.0 ≡ b → b ≡ false
-      by true e = absurd (under (left_above passed x.0 e))
-      by false e = refl
+  not_left x h1 = grind arith
 
   -- where no row is above what is passed, no holder is left
   pub none_left : held_above R passed ≡ [] → holders_after R c passed ≡ []
@@ -256,22 +209,11 @@ module _ (R : Rows) (order : is_sorted key_cmp R ≡ true) (c : Cusip) (passed :
 
     -- accounts from that of the row on are left
     from_row : is_of_next passed r.0 ≡ true → (k : Key) → r.0.account ≤ k.account → is_left passed k ≡ true
-    from_row h k le = by passed h row_above
-      where
-        by : (p : Option Key) → is_of_next p r.0 ≡ true → is_above p r.0 ≡ true → is_left p k ≡ true
-        by None h up = refl
-        by (Some p) h up = below_it p.account r.0.account k.account h (account_le p r.0 up) le
-          where
-            below_it : (m n o : ℕ) → not (m == n) ≡ true → m ≤ n → n ≤ o → nat_lt m o ≡ true
-            below_it m n o h le low = grind (arith, nat_tests)
+    from_row h1 k h2 = grind (arith, row_above, account_le)
 
     -- whether an account is left is a matter of its number
     alike_left : (k l : Key) → k.account ≡ l.account → is_left passed k ≡ is_left passed l
-    alike_left k l e = by passed
-      where
-        by : (p : Option Key) → is_left p k ≡ is_left p l
-        by None = refl
-        by (Some p) = ap (nat_lt p.account) e
+    alike_left k l h1 = grind arith
 
     -- no account that is left comes before that of the row
     pub next_left : is_of_next passed r.0 ≡ true → holders_after R c passed ≡ cons_option (holder_at R r.0.account c) (holders_after R c (Some q))

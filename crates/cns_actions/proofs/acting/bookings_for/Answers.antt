@@ -10,6 +10,7 @@ use Rattle.cns_actions.proofs.Holders.{all_listed, all_shown}
 use Rattle.cns_actions.proofs.BookingLimits.{same_large}
 use Rattle.cns_actions.proofs.BookingSums.{same_makes}
 use Rattle.cns_actions.proofs.acting.bookings_for.Goals as goal
+use Rattle.std.proofs.Common.{arith}
 
 pub of-requires-clause-rise : goal.of-requires-clause-rise
 of-requires-clause-rise g c =
@@ -23,8 +24,7 @@ no_size : {T : Type 0} (r : Result T ActionFault) (e : ActionFault) → e ≡ fa
 no_size r e memory is large = let same = sym (is ∙ ap Err memory) ∙ large in cc
 
 clash : (b : Bool) → b ≡ true → b ≡ false → ⊥
-clash true p q = cc
-clash false p q = cc
+clash b h1 h2 = grind arith
 
 pub returns-in_default-clause-too_large : goal.returns-in_default-clause-too_large
 returns-in_default-clause-too_large g c = λ ms are.

@@ -2,6 +2,8 @@ use Rattle.std.proofs.Common.{◌∙◌, Some, ap, sym}
 use Rattle.cns_actions.proofs.Common.{Holding, Key, Rows, cons_option, holders_after}
 use Rattle.cns_actions.proofs.Skipping.{fewer_above, next_left, none_left, same_left}
 use Rattle.cns_actions.proofs.holder.next_holder.Goals as goal
+use Rattle.std.proofs.lemmas.Grind.{common_steps}
+use Rattle.std.proofs.Common.{arith}
 
 pub returns-in-Some-holder_at-clause-next : goal.returns-in-Some-holder_at-clause-next
 returns-in-Some-holder_at-clause-next g c =
@@ -34,5 +36,4 @@ loop-row-preserved g c =
     c.loop-row.invariant ∙ same_left R c.requires c.args.issue.now c.loop-row.passed r _ c.in-Some.ensures c.past.result c.past.ensures.account (sym c.if-is_new.ensures)
 
 pub returns-clause-next : goal.returns-clause-next
-returns-clause-next g c =
-    c.loop-row.invariant ∙ none_left (g.P.Positions.rows c.args.positions.now) c.requires c.args.issue.now c.loop-row.passed c.in_default.ensures
+returns-clause-next g c = grind (arith, common_steps, none_left)
