@@ -1,7 +1,7 @@
 -- What calls and shorts change, and the batches that come of them.
 -- For `choose_each`, `short`, `open` and `choose` of calls.rt and others.
 use Rattle.std.proofs.Common.{◌≡◌, ◌∙◌, ap, refl, ℕ, suc, ◌+◌, Bool, true, cond, nat_lt, List, [], ◌∷◌, ◌++◌, length, Option, Some, arith, bytes_eq, option_map, Result, IfOk, OnOk, append_assoc, All, option_to_list, nat_cmp, is_eq}
-use Rattle.cns_retransmit.proofs.Common.{AllByRecursion, CalledIn, CanBeChosen, Cusip, ForSome, Liables, RiseByIssue, Short, and_left, and_right, batches_of, below_all, both_true, by_issue, bytes_eq-Decides, called_in, chosen, is_eq-slice_cmp, is_sorted, slice_cmp}
+use Rattle.cns_retransmit.proofs.Common.{AllByRecursion, CalledIn, CanBeChosen, Cusip, ForSome, Liables, RiseByIssue, Short, and_left, and_right, batches_of, below_all, both_true, by_issue, bytes_eq-Decides, called_in, chosen, is_eq-slice_cmp, is_sorted, slice_cmp, each_weaker}
 use Rattle.cns_retransmit.specs.Calls.{batch_of, shorts_in, total_in, with_shares, with_short}
 
 -- the entries of a map of issues
@@ -70,10 +70,6 @@ each : {X : Type 0} (P : X → Type 0) (xs : List X) → All P xs → AllByRecur
 each P [] h = tt
 each P (x ∷ xs) h = (h 0 x (omega arith), each P xs (λ k d lt. h (suc k) d (omega arith)))
 
-weaker : {X : Type 0} (P Q : X → Type 0) (xs : List X) → ((x : X) → P x → Q x) → AllByRecursion P xs → AllByRecursion Q xs
-weaker P Q [] h a = tt
-weaker P Q (x ∷ xs) h a = (h x a.0, weaker P Q xs h a.1)
-
 -- what can be chosen in each issue can be chosen at each entry
 pub each_chosen : (es : Entries) → All (λ e. called_in es e.0 ≡ Some e.1) es → ((c : Cusip) → ForSome (called_in es c) CanBeChosen) → AllByRecursion (λ e. CanBeChosen e.1) es
-each_chosen es found can = weaker (λ e. called_in es e.0 ≡ Some e.1) (λ e. CanBeChosen e.1) es (λ e is. can e.0 e.1 is) (each (λ e. called_in es e.0 ≡ Some e.1) es found)
+each_chosen es found can = each_weaker (λ e. called_in es e.0 ≡ Some e.1) (λ e. CanBeChosen e.1) es (λ e is. can e.0 e.1 is) (each (λ e. called_in es e.0 ≡ Some e.1) es found)
