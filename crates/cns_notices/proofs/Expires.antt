@@ -64,10 +64,6 @@ module _ (xs : List Noticed) (day i j : ℕ) (low : i ≤ length xs) (high : j �
 
 -- ---- the day that closes
 
--- two days before the day that closes
-pub expired_before : (xs : List Noticed) (day : ℕ) → 2 ≤ day → map (expired_from (day - 2)) xs ≡ map (expired day) xs
-expired_before xs day le = grind arith
-
 -- no notice was given two days before the first day or the second
 pub none_expired : (xs : List Noticed) (day : ℕ) → day < 2 → map (expired day) xs ≡ xs
 none_expired xs day lt = grind (arith, still)

@@ -1,6 +1,6 @@
 -- How notices stand after one more activity.
 -- For `calls_of_day` of parts/retransmittal.rt in cns_book, `give_notice`, `withdraw_refusal` and `notice_refusal` of parts/notice.rt in cns_book and others.
-use Rattle.std.proofs.Common.{◌≡◌, ap, refl, ℕ, suc, ◌+◌, ◌≤◌, ◌<◌, Bool, true, false, cond, ◌&&◌, List, [], ◌∷◌, ◌++◌, length, arith, nat_le, length-append}
+use Rattle.std.proofs.Common.{◌≡◌, refl, ℕ, suc, ◌+◌, ◌≤◌, ◌<◌, Bool, true, false, cond, ◌&&◌, List, [], ◌∷◌, ◌++◌, length, arith, nat_le, length-append}
 use Rattle.cns_notices.proofs.Common.{AllByRecursion, Journal, Live, Movement, Notice, Posting, Stage, day, execution, first_reached, is_given, is_live, notice, notices, receipt, shares_executed, stage}
 use Rattle.cns_terms.specs.Notices.{shares_received, stage_by}
 use Rattle.cns_notices.specs.Kept.{received_live}
@@ -31,18 +31,6 @@ pub each_given : (J : Journal) → AllByRecursion (λ n. is_given J n ≡ true) 
 each_given J = below 1 (length (notices J)) (notices J) (numbered J) (omega arith)
 
 -- ---- a notice that was given
-
--- its stage after one more activity
-pub stage_next : (p : Posting) (J : Journal) (n : Notice) → is_given J n ≡ true → stage (p ∷ J) n ≡ first_reached (stage J n) (stage_by n (day J) p.activity)
-stage_next p J n h = ap (λ b. first_reached (stage J n) (cond b (stage_by n (day J) p.activity) Live)) h
-
--- what was executed of it
-pub executed_next : (p : Posting) (J : Journal) (n : Notice) → is_given J n ≡ true → shares_executed (p ∷ J) n ≡ execution n p.activity + shares_executed J n
-executed_next p J n h = ap (λ b. cond b (execution n p.activity) 0 + shares_executed J n) h
-
--- what its member received while it was live
-pub received_next : (p : Posting) (J : Journal) (n : Notice) → is_given J n ≡ true → received_live (p ∷ J) n ≡ cond (is_live (stage J n)) (receipt n p.activity) 0 + received_live J n
-received_next p J n h = ap (λ b. cond (b && is_live (stage J n)) (receipt n p.activity) 0 + received_live J n) h
 
 -- of a live notice that is all that its member received
 pub live_received : (J : Journal) (n : Notice) → is_live (stage J n) ≡ true → received_live J n ≡ shares_received J n
