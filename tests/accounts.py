@@ -11,7 +11,7 @@ import hashlib
 import html
 import re
 
-from figures import FOOT, MOST_EXCEPTIONS, ROW, SECTION, Day, count, dollars, of_table, reason
+from figures import CAUSES, FOOT, MOST_EXCEPTIONS, ROW, SECTION, Day, Trades, count, dollars, moved, of_table, reason
 from recompute import CORPORATION, Book, command_of, ended_records, towards_zero
 
 # ---- what a page shows --------------------------------------------------------------------------------------------
@@ -36,25 +36,11 @@ def shown(page):
 
 # ---- what it has to show ------------------------------------------------------------------------------------------
 
-# The kinds that book, by the column in which a page has what they move.
-CAUSES = {
-    "settling trades": ["TRADE"],
-    "delivered": ["DELIVER"],
-    "received": ["RECEIVE"],
-    "corporate actions": ["SPLIT", "EXCHANGE"],
-    "buy-ins": ["EXECUTE"],
-}
 # The fields that name accounts, by the kind of the record.
 NAMING = {"TRADE": [1, 2], **dict.fromkeys(["MEMBER", "DELIVER", "RECEIVE", "NOTICE", "POSITION", "STATEMENT"], [0])}
-# What was booked for a cause.
-Moved = collections.namedtuple("Moved", "shares cents")
 # What was booked in an issue at once: the number of the record, its words, and the entries.
 Step = collections.namedtuple("Step", "number issue what entries")
 DUE = "Trades that were due, booked by the close"
-
-
-def moved(entries):
-    return Moved(sum(it.shares for it in entries), sum(it.cents for it in entries))
 
 
 def words(account, kind, values):
@@ -124,28 +110,13 @@ def told_of_shorts(book, account, day):
 class Own:
     """What the day that a book has just closed did to an account, of whose refused records some are given."""
 
-    def __init__(self, day, account, numbers, refused):
+    def __init__(self, day, account, numbers, refused, righted):
         self.day, self.book, self.account, self.numbers, self.refused = day, day.book, account, numbers, refused
+        self.righted = righted
         self.rows = self.book.rows(account, day.day)
-        self.booked = [it for it in self.book.entries if it.account == account and self.is_of_day(it)]
+        self.booked = [it for it in self.book.entries if it.account == account and day.is_of_day(it)]
 
-    # -- what moved the positions
-
-    def is_of_day(self, entry):
-        """Whether what an activity books is dated after the day before, and not after this one."""
-        before = self.book.date_of(self.day.day - 1) if self.day.day > 1 else None
-        return entry.date <= self.day.date and (before is None or entry.date > before)
-
-    def activity(self, entry):
-        return self.book.accepted[entry.place]
-
-    def moves(self, row):
-        """What each cause moved in the issue of a row."""
-        booked = [it for it in self.booked if it.issue == row.issue]
-        moves = [moved([it for it in booked if self.activity(it).kind in kinds]) for kinds in CAUSES.values()]
-        assert row.opening + sum(it.shares for it in moves) == row.closing
-        assert sum(it.cents for it in moves) == row.cents
-        return moves
+    # -- its positions
 
     def head(self):
         worth = [it.closing * it.price for it in self.rows]
@@ -155,17 +126,14 @@ class Own:
 
     def positions(self):
         for row in self.rows:
-            shares = [row.opening, *(it.shares for it in self.moves(row)), row.closing]
+            shares = [row.opening, *(it.shares for it in self.day.moves(self.account, row)), row.closing]
             amounts = row.price, row.closing * row.price, row.mark, row.dividend
             age = self.book.age(self.account, row.issue, self.day.day)
             yield [row.issue.decode(), *map(count, shares), age, *map(dollars, amounts)]
 
     def marks(self):
         for row in self.rows:
-            parts = [row.opening * (row.price - row.opening_price)]
-            parts += [it.shares * row.price + it.cents for it in self.moves(row)]
-            assert sum(parts) == row.mark
-            amounts = row.opening_price, row.price, *parts, row.mark, row.cents
+            amounts = row.opening_price, row.price, *self.day.parts(self.account, row), row.mark, row.cents
             yield [row.issue.decode(), *map(dollars, amounts)]
 
     # -- dividends
@@ -195,11 +163,9 @@ class Own:
     def due(self):
         """In each issue: the closing position, with what the close booked into the next day, and with all that is pending."""
         for issue in self.book.issues():
-            closing = self.book.position_at_close(self.account, issue, self.day.day)
-            due = self.book.position(self.account, issue)
-            after = due + sum(it.shares for it in self.book.waiting(issue) if it.account == self.account)
-            if closing or due or after:
-                yield [issue.decode(), *map(count, (closing, due - closing, due, after))]
+            row = self.day.due_at(self.account, issue)
+            if any(row):
+                yield [issue.decode(), *map(count, row)]
 
     # -- its fails
 
@@ -229,7 +195,7 @@ class Own:
     def steps(self):
         """What booked, in order: the close before, issue by issue, and then the day's records. An exchange books in the old
         issue before the successor."""
-        waited = [it for it in self.booked if self.activity(it).day < self.day.day]
+        waited = [it for it in self.booked if self.day.activity(it).day < self.day.day]
         for issue in sorted({it.issue for it in waited}):
             close = self.book.of_kind("CLOSE")[self.day.day - 2]
             yield Step(self.numbers[close.place], issue, DUE, [it for it in waited if it.issue == issue])
@@ -251,7 +217,7 @@ class Own:
     def exceptions(self):
         for number, why, kind, values in self.refused:
             if self.account in [values[it] for it in NAMING.get(kind, [])]:
-                yield [number, f"Refused {why}"]
+                yield [number, f"Refused {why}", *self.righted.get(number, [])]
 
     # -- the page
 
@@ -282,6 +248,9 @@ class Days:
         self.text, self.book = play.text, play.book
         self.records = list(ended_records(play.text))
         self.reasons = [reason(lines[0]) for lines in play.replies]
+        self.trades = Trades()
+        for number, ((record, _), lines) in enumerate(zip(self.records, play.replies), 1):
+            self.trades.add(number, record, lines[0])
         self.numbers = [number for number, lines in enumerate(play.replies, 1) if is_accepted(lines[0])]
         assert len(self.numbers) == len(play.book.accepted)
 
@@ -296,7 +265,8 @@ class Days:
     def page(self, day, account):
         """What the page of an account on a closed day has to show."""
         start, end = (self.numbers[close.place] if close else 0 for close in ([None] + day.book.of_kind("CLOSE"))[-2:])
-        return Own(day, account, self.numbers, self.refused(start, end)).lines(self.text[: self.records[end - 1][1]])
+        own = Own(day, account, self.numbers, self.refused(start, end), self.trades.righted(end))
+        return own.lines(self.text[: self.records[end - 1][1]])
 
     def refused(self, start, end):
         """Those of the first exceptions between two records that are commands: number, reason, kind and values."""

@@ -32,6 +32,7 @@ SECTION = re.compile(r"<section aria-labelledby=(\w+)>(.*?)</section>", re.DOTAL
 # A text of a record may have line ends, but no angle brackets of its own.
 ROW = re.compile(r"<tr[^>]*><th scope=row[^>]*>(.*?)(?=\n<tr|\n</t)", re.DOTALL)
 REASON = re.compile(r"<strong>(Invalid record|Refused \d+)</strong>")
+RIGHTED = re.compile(r"\. Put right by record (\d+)$")
 
 
 def cells(row):
@@ -39,9 +40,10 @@ def cells(row):
 
 
 def of_table(name, row):
-    """The cells of a row that are figures: of an exception its record and why it is one, of control totals their counts."""
+    """The cells of a row that are figures: of an exception its record, why it is one, and the record that put it right, of control
+    totals their counts."""
     if name == "exceptions":
-        return [cells(row)[0], REASON.search(row)[1]]
+        return [cells(row)[0], REASON.search(row)[1], *RIGHTED.findall(row)]
     return cells(row)[1:] if name == "totals" else cells(row)
 
 
@@ -75,6 +77,22 @@ def dollars(cents):
     return f"{'-' if cents < 0 else ''}{abs(cents) // 100:,}.{abs(cents) % 100:02}"
 
 
+# The kinds that book, by the column in which a page has what they move.
+CAUSES = {
+    "settling trades": ["TRADE"],
+    "delivered": ["DELIVER"],
+    "received": ["RECEIVE"],
+    "corporate actions": ["SPLIT", "EXCHANGE"],
+    "buy-ins": ["EXECUTE"],
+}
+# What was booked for a cause.
+Moved = collections.namedtuple("Moved", "shares cents")
+
+
+def moved(entries):
+    return Moved(sum(it.shares for it in entries), sum(it.cents for it in entries))
+
+
 class Day:
     """The day that a book has just closed."""
 
@@ -82,24 +100,62 @@ class Day:
         self.book, self.day = book, book.today() - 1
         self.date, self.next = book.date_of(self.day), book.date_today()
         self.rows = [(account, it) for account in [CORPORATION] + book.members() for it in book.rows(account, self.day)]
+        self.booked = collections.defaultdict(list)
+        for it in book.entries:
+            if self.is_of_day(it):
+                self.booked[it.account, it.issue].append(it)
 
-    def sums(self, rows):
-        moves = sum(it.opening * (it.price - it.opening_price) for it in rows)
-        mark = sum(it.mark for it in rows)
-        return [sum(it.cents for it in rows), mark, moves, mark - moves, sum(it.dividend for it in rows)]
+    # -- what moved the positions
+
+    def is_of_day(self, entry):
+        """Whether what an activity books is dated after the day before, and not after this one."""
+        before = self.book.date_of(self.day - 1) if self.day > 1 else None
+        return entry.date <= self.date and (before is None or entry.date > before)
+
+    def activity(self, entry):
+        return self.book.accepted[entry.place]
+
+    def moves(self, account, row):
+        """What each cause moved at the place of a row."""
+        booked = self.booked[account, row.issue]
+        moves = [moved([it for it in booked if self.activity(it).kind in kinds]) for kinds in CAUSES.values()]
+        assert row.opening + sum(it.shares for it in moves) == row.closing
+        assert sum(it.cents for it in moves) == row.cents
+        return moves
+
+    def parts(self, account, row):
+        """What the mark of a row comes from: the price change on its opening position, and each cause."""
+        parts = [row.opening * (row.price - row.opening_price)]
+        parts += [it.shares * row.price + it.cents for it in self.moves(account, row)]
+        assert sum(parts) == row.mark
+        return parts
+
+    # -- its tables
+
+    def amounts(self, rows):
+        """The sums of money, of the parts of the marks, of marks and of dividends."""
+        of_each = [[it.cents, *self.parts(account, it), it.mark, it.dividend] for account, it in rows]
+        return [dollars(sum(column)) for column in zip(*of_each)] or [dollars(0)] * (4 + len(CAUSES))
 
     def accounts(self):
         """The sums over all rows, and each account's rows after the sums of its own."""
-        yield ["All accounts", "", "", "", "", *map(dollars, self.sums([it for _, it in self.rows]))]
+        yield ["All accounts", "", "", "", "", *self.amounts(self.rows)]
         last = None
         for account, row in self.rows:
             if account != last:
-                _, mark, _, _, dividend = self.sums([it for owner, it in self.rows if owner == account])
-                yield [f"Account {account}", dollars(mark), "", "", dollars(dividend)]
+                yield [f"Account {account}", *self.amounts([it for it in self.rows if it[0] == account])]
             last = account
-            money, mark, moves, rest, dividend = map(dollars, self.sums([row]))
-            prices = dollars(row.opening_price), dollars(row.price)
-            yield [row.issue.decode(), count(row.opening), count(row.closing), *prices, money, mark, moves, rest, dividend]
+            figures = count(row.opening), count(row.closing), dollars(row.opening_price), dollars(row.price)
+            yield [row.issue.decode(), *figures, *self.amounts([(account, row)])]
+
+    def issues(self):
+        """The sums by issue over all accounts."""
+        for issue in sorted({it.issue for _, it in self.rows}):
+            rows = [it for _, it in self.rows if it.issue == issue]
+            sums = [sum(side(it.closing, 0) for it in rows) for side in (max, min)]
+            zeros = [sum(getattr(it, name) for it in rows) for name in ("closing", "cents", "mark", "dividend")]
+            assert zeros == [0] * 4
+            yield [issue.decode(), *map(count, [*sums, zeros[0]]), *map(dollars, zeros[1:])]
 
     def shorts(self):
         return [(account, it) for account, it in self.rows if account != CORPORATION and it.closing < 0]
@@ -120,8 +176,22 @@ class Day:
                 shares = count(it.shares), count(self.book.remaining(it))
                 yield [it.issue.decode(), it.number, it.member, shares[0], it.day, shares[1], it.day + 2]
 
+    def later(self):
+        """The trades that settle after the day."""
+        return [it.values for it in self.book.of_kind("TRADE") if it.values[-1] > self.date]
+
+    def due_at(self, account, issue):
+        """The closing position, what the close booked into the next day, what is due then, and the same with all that is pending."""
+        closing, due = self.book.position_at_close(account, issue, self.day), self.book.position(account, issue)
+        return closing, due - closing, due, due + sum(it.shares for it in self.book.waiting(issue) if it.account == account)
+
+    def due(self):
+        """Where a trade that settles after the day changes a position, by account and issue."""
+        for account, issue in sorted({(account, it[3]) for it in self.later() for account in it[1:3]}):
+            yield [issue.decode(), account, *map(count, self.due_at(account, issue))]
+
     def projection(self):
-        trades = [it.values for it in self.book.of_kind("TRADE") if it.values[-1] > self.date]
+        trades = self.later()
         for *values, settles in sorted(trades, key=lambda it: it[-1]):
             reference, buyer, seller, issue, shares, money = values
             state = "booked" if settles <= self.next else "pending"
@@ -133,7 +203,7 @@ class Day:
 
     def tables(self):
         """The tables that are of the book alone."""
-        for name in ("accounts", "fails", "liable", "notices", "projection"):
+        for name in ("accounts", "issues", "fails", "liable", "notices", "due", "projection"):
             for row in getattr(self, name)():
                 yield [name, *row]
 
@@ -150,22 +220,41 @@ def reason(reply):
     return {"line": 0, "refused": kind == "refused" and int(rest.split(" ")[0])}.get(kind)
 
 
-def exceptions(found):
-    """The first exceptions of a day, and how many there are of each kind."""
+def exceptions(found, righted):
+    """The first exceptions of a day, those with the records that put them right, and how many there are of each kind."""
     for number, why in found[:MOST_EXCEPTIONS]:
-        yield ["exceptions", number, f"Refused {why}" if why else KINDS[0]]
+        yield ["exceptions", number, f"Refused {why}" if why else KINDS[0], *righted.get(number, [])]
     for why, times in sorted(collections.Counter(why for _, why in found).items()):
         yield ["reasons", f"Refused {why}, {KINDS[why]}" if why else KINDS[0], count(times)]
+
+
+class Trades:
+    """The references of refused trades, by the numbers of their records, and the numbers of accepted ones, by their references."""
+
+    def __init__(self):
+        self.refused, self.accepted = {}, {}
+
+    def add(self, number, record, reply):
+        if record[0] == b"TRADE" and reply == "ok":
+            self.accepted[int(record[1])] = number
+        elif record[0] == b"TRADE" and reply.startswith("refused "):
+            self.refused[number] = int(record[1])
+
+    def righted(self, end):
+        """By the number of each refused trade the later one up to a record that was accepted with its reference, if there is one."""
+        later = {number: self.accepted.get(reference, 0) for number, reference in self.refused.items()}
+        return {number: [other] for number, other in later.items() if number < other <= end}
 
 
 class Input:
     """Records with the bytes that the first of them take, and the exceptions among them."""
 
     def __init__(self, text, opening):
-        self.text, self.book = text, Book(opening)
+        self.text, self.book, self.trades = text, Book(opening), Trades()
         self.found, self.closes, self.last, self.days = [], [(0, 0)], 0, []
         for self.last, (record, end) in enumerate(ended_records(text), 1):
             reply = self.book.reply(record)[0]
+            self.trades.add(self.last, record, reply)
             why = reason(reply)
             if why is not None:
                 self.found.append((self.last, why))
@@ -180,7 +269,7 @@ class Input:
     def page(self, head, start, end, size, tables):
         """A page of the records between two numbers: the lines of head, tables and foot."""
         own = self.of(start, end)
-        rows = [*exceptions(own), *tables]
+        rows = [*exceptions(own, self.trades.righted(end)), *tables]
         for since, to in ((0, start), (start, end), (0, end)):
             rows.append(["totals", count(to - since), count(len(self.of(since, to)))])
         foot = ["foot", size, hashlib.sha256(self.text[:size]).hexdigest(), len(rows)]

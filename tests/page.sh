@@ -154,6 +154,24 @@ pages=$((pages + 1))
 cmp -s "$room/page" tests/pages/exchange.html || fail "exchange.csv: $(diff "$room/page" tests/pages/exchange.html | head -n 2)"
 pages=$((pages + 1))
 
+# The page of a day: what each mark comes from, also in the sums of an account and of all; the sums by issue; what the close booked, and
+# what is due; and which record put a refused trade right.
+while read -r day row; do
+    "$program" --open 2024-06-03 --day "$day" < examples/week.csv > "$room/page" || fail "week.csv, $day: status $?"
+    grep -qxF "$row" "$room/page" || fail "week.csv, $day: no row $row"
+    pages=$((pages + 1))
+done <<'ROWS'
+2024-06-07 <tr><th scope=row>594918104<td>-210<td>-100<td>424.52<td>423.85<td>-46,640.00<td>140.70<td>-16.50<td>0.00<td>0.00<td>0.00<td>0.00<td>124.20<td>0.00
+2024-06-07 <tr class=sum><th scope=rowgroup colspan=5 id=account-303>Account 303<td>-46,640.00<td>182.70<td>-16.50<td>0.00<td>0.00<td>0.00<td>0.00<td>166.20<td>0.00
+2024-06-07 <tbody class=total><tr><th scope=row>All accounts<td><td><td><td><td>0.00<td>0.00<td>0.00<td>155,597.40<td>-155,597.40<td>0.00<td>0.00<td>0.00<td>0.00
+2024-06-07 <tr><th scope=row>594918104<td>135<td>-135<td>0<td>0.00<td>0.00<td>0.00
+2024-06-07 <tr><th scope=row>594918104<td>303<td>-100<td>40<td>-60<td>-60
+2024-06-07 <tr><th scope=row>023135106<td>202<td>0<td>0<td>0<td>30
+ROWS
+"$program" --open 2024-06-03 --day 2024-06-03 < examples/week.csv > "$room/page" || fail "week.csv, 2024-06-03: status $?"
+sed -n 's/^<tr><th scope=row>\([0-9]*\)<td>.*\. Put right by record \([0-9]*\)$/\1 \2/p' "$room/page" | tr '\n' ',' | grep -qx '28 29,30 31,32 33,' || fail 'week.csv, 2024-06-03: put right'
+pages=$((pages + 1))
+
 # The history of a position: what each record booked there, each close, and what a close booked; where nothing did, a line says so.
 "$program" --open 2024-06-03 --account 303 --issue 594918104 < examples/week.csv > "$room/page" || fail "history: status $?"
 sed -n 's/^<tr[^>]*><th scope=row>//p' "$room/page" | tail -n 3 | cmp -s - <(cat <<'LINES'

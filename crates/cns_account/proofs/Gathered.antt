@@ -1,22 +1,21 @@
 -- Rows that are gathered one after another.
--- For `bookings_in` of booked.rt, `rows_of` of row.rt, `add_entry` of past.rt, `add_paid` and `dividends_of` of dividends.rt.
+-- For `bookings_in` of booked.rt, `rows_of` of row.rt, `add_entry` of past.rt, `add_paid` of dividends.rt.
 use Rattle.std.proofs.Common.{◌≡◌, ◌∙◌, sym, ap, refl, ℕ, ◌+◌, ◌<◌, List, [], ◌∷◌, ◌++◌, Option, append_assoc, append-nil, add-one, filter_map, get_or, length, map, take, take-suc}
-use Rattle.std.specs.List.{cons_option, flat_map}
+use Rattle.std.specs.List.{cons_option}
 use Rattle.std.proofs.lemmas.List.Elements.{filter_map-append}
 
 -- one more of a list, where it gives something
 pub given_more : {X Y : Type 0} (f : X → Option Y) (xs : List X) (i : ℕ) (x : X) (o : Option Y) (items : List Y) → i < length xs → get_or xs i x ≡ x → f x ≡ o
     → items ≡ filter_map f (take i xs) → items ++ cons_option o [] ≡ filter_map f (take (i + 1) xs)
 given_more f xs i x o items lt at is was =
-    ap (λ ys. ys ++ cons_option o []) was ∙ ap (λ o. filter_map f (take i xs) ++ cons_option o []) (sym is)
-    ∙ sym (filter_map-append f (take i xs) (x ∷ []))
-    ∙ ap (filter_map f) (ap (λ y. take i xs ++ y ∷ []) (sym at) ∙ sym (take-suc xs i x lt) ∙ ap (λ n. take n xs) (sym (add-one i)))
+    rw (was, ← is) (sym (filter_map-append f (take i xs) (x ∷ []))
+    ∙ ap (filter_map f) (ap (λ y. take i xs ++ y ∷ []) (sym at) ∙ sym (take-suc xs i x lt) ∙ ap (λ n. take n xs) (sym (add-one i))))
 
 -- the next of those that are left
 pub made_more : {X Y : Type 0} (f : X → Y) (all items new : List Y) (left rest : List X) (x : X) (y : Y) → left ≡ x ∷ rest → new ≡ items ++ y ∷ [] → y ≡ f x
     → all ≡ items ++ map f left → all ≡ new ++ map f rest
 made_more f all items new left rest x y next is made was =
-    was ∙ ap (λ xs. items ++ map f xs) next ∙ sym (append_assoc items (f x ∷ []) (map f rest)) ∙ ap (λ ys. ys ++ map f rest) (ap (λ z. items ++ z ∷ []) (sym made) ∙ sym is)
+    rw (is, made) (was ∙ ap (λ xs. items ++ map f xs) next ∙ sym (append_assoc items (f x ∷ []) (map f rest)))
 
 -- none is left
 pub made_all : {X Y : Type 0} (f : X → Y) (all items : List Y) (left : List X) → left ≡ [] → all ≡ items ++ map f left → items ≡ all
@@ -31,11 +30,4 @@ told_more f xs x old new is was = is ∙ ap (λ ys. ys ++ cons_option (f x) []) 
 pub added_more : {X Y : Type 0} (f : X → Option Y) (xs : List X) (i : ℕ) (x : X) (o : Option Y) (old items new : List Y) → i < length xs → get_or xs i x ≡ x → f x ≡ o
     → new ≡ items ++ cons_option o [] → items ≡ old ++ filter_map f (take i xs) → new ≡ old ++ filter_map f (take (i + 1) xs)
 added_more f xs i x o old items new lt at is made was =
-    made ∙ ap (λ ys. ys ++ cons_option o []) was ∙ append_assoc old (filter_map f (take i xs)) (cons_option o [])
-    ∙ ap (λ ys. old ++ ys) (given_more f xs i x o (filter_map f (take i xs)) lt at is refl)
-
--- what the next of those that are left gives, be it several
-pub spread_more : {X Y : Type 0} (f : X → List Y) (all items new : List Y) (left rest : List X) (x : X) → left ≡ x ∷ rest → new ≡ items ++ f x
-    → all ≡ items ++ flat_map f left → all ≡ new ++ flat_map f rest
-spread_more f all items new left rest x next is was =
-    was ∙ ap (λ xs. items ++ flat_map f xs) next ∙ sym (append_assoc items (f x) (flat_map f rest)) ∙ ap (λ ys. ys ++ flat_map f rest) (sym is)
+    rw (made, was) (append_assoc old (filter_map f (take i xs)) (cons_option o []) ∙ ap (λ ys. old ++ ys) (given_more f xs i x o (filter_map f (take i xs)) lt at is refl))

@@ -1,2 +1,4 @@
 pub mod Gathered
 pub mod Walked
+pub mod Putting
+pub mod Folded

@@ -1,8 +1,8 @@
 -- The entries of a history, one after another.
 -- For `gather` of past.rt; `gather` of projection.rt in cns_page, `first` of sought.rt in cns_page, `live_notices` of notices.rt in cns_page.
-use Rattle.std.proofs.Common.{◌≡◌, ◌∙◌, sym, ap, ℕ, zero, suc, ◌+◌, ◌-◌, ◌^◌, ◌<◌, ◌≤◌, List, [], ◌∷◌, ◌++◌, length, Some, None, take, take-suc, reverse, slice_get, arith}
+use Rattle.std.proofs.Common.{◌≡◌, ◌∙◌, sym, ap, ℕ, suc, ◌+◌, ◌-◌, ◌^◌, ◌<◌, ◌≤◌, List, [], ◌∷◌, ◌++◌, length, Some, None, take, take-suc, reverse, slice_get, arith}
 use Rattle.std.proofs.lemmas.List.{take_all}
-use Rattle.std.proofs.lemmas.Option.{get_or_from_slice_get, slice_get_within}
+use Rattle.std.proofs.lemmas.Option.{get_or_from_slice_get, slice_get_within, slice_get_cases}
 use Rattle.cns_terms.specs.declared.history.Taken.{Taken}
 use Rattle.cns_book.specs.Shown.{entry_at}
 use Rattle.cns_account.specs.Past.{looked_at}
@@ -13,9 +13,7 @@ take_next xs k x is = take-suc xs k x (slice_get_within xs k x is) ∙ ap (λ y.
 
 -- no element is there
 none_past : {X : Type 0} (xs : List X) (k : ℕ) → slice_get xs k ≡ None → length xs ≤ k
-none_past [] k is = omega arith
-none_past (x ∷ xs) zero is = cc
-none_past (x ∷ xs) (suc k) is = omega (arith, none_past xs k is)
+none_past xs k is = grind (arith, slice_get_cases)
 
 -- all of them
 pub take_past : {X : Type 0} (xs : List X) (k n : ℕ) → slice_get xs k ≡ None → k ≤ n → take k xs ≡ take n xs
@@ -23,8 +21,7 @@ take_past xs k n is le = let past = none_past xs k is in take_all k xs past ∙ 
 
 -- an entry by its place
 entry_there : (H : List Taken) (place : ℕ) → 1 ≤ place → entry_at H place ≡ slice_get (reverse H) (place - 1)
-entry_there H zero le = absurd (omega arith)
-entry_there H (suc k) le = let e : k ≡ suc k - 1 = omega arith in ap (slice_get (reverse H)) e
+entry_there H place le = grind arith
 
 -- one entry more
 pub entry_more : (H : List Taken) (place : ℕ) (t : Taken) → 1 ≤ place → entry_at H place ≡ Some t → take (place - 1) (reverse H) ++ t ∷ [] ≡ take (place + 1 - 1) (reverse H)

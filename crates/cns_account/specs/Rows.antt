@@ -4,6 +4,7 @@ use Rattle.std.specs.Fmt.{decimal}
 use Rattle.std.specs.Int.{int_wrap, w128}
 use Rattle.std.specs.List.{fold}
 use Rattle.cns_terms.specs.Common.{Price, State}
+use Rattle.cns_terms.specs.declared.holding.Key.{Key}
 use Rattle.cns_terms.specs.declared.sheet.Row.{Row}
 use Rattle.cns_history.specs.Lines.{standing}
 use Rattle.cns_history.specs.Words.{what_text}
@@ -15,19 +16,26 @@ use Rattle.cns_tables.specs.Pieces.{piece_text}
 use Rattle.cns_tables.specs.Tables.{row_of, texts}
 use Rattle.cns_tables.specs.declared.piece.Piece.TheVariants as piece
 use Rattle.cns_tables.specs.declared.table.TheConstants.{CELL, ROW}
-use Rattle.cns_account.specs.Moves.{moves_of}
+use Rattle.cns_account.specs.Moves.{moves_at}
 use Rattle.cns_account.specs.declared.booked.Booked.{Booked}
 use Rattle.cns_account.specs.declared.booked.TheConstants.{END}
 use Rattle.cns_account.specs.declared.mark.MarkRow.{MarkRow}
+use Rattle.cns_account.specs.declared.day_moves.DayMoves.{DayMoves}
+use Rattle.cns_account.specs.declared.mark.Causes.{Causes}
 use Rattle.cns_account.specs.declared.moves.Moved.{Moved}
+use Rattle.cns_account.specs.declared.moves.Moves.{Moves}
 use Rattle.cns_account.specs.declared.row.AccountRow.{AccountRow}
 use Rattle.cns_account.specs.declared.totals.Totals.{Totals}
 
 -- ---- the rows
 
--- a row of the sheet, with what moved it among the lines of the day, and the age that the book shows
-abbrev pub account_row : State → List HistoryLine → Row → AccountRow
-account_row S ls r = record { row = r; moves = moves_of r.issue ls; age = (standing S (record { account = r.account; issue = r.issue })).run }
+-- the place of a row
+abbrev pub place_of : Row → Key
+place_of r = record { account = r.account; issue = r.issue }
+
+-- a row of the sheet, with what moved it on the day, and the age that the book shows
+abbrev pub account_row : State → DayMoves → Row → AccountRow
+account_row S ms r = record { row = r; moves = moves_at ms (place_of r); age = (standing S (place_of r)).run }
 
 -- the same for the table of marks
 abbrev pub mark_row : AccountRow → MarkRow
@@ -51,6 +59,30 @@ moved r = r.opening *ℤ (pos r.price -ℤ pos r.opening_price)
 -- what a movement brings to the mark: its shares at the price, and its cents, as much as fits 128 bits
 unfoldable pub valued : Price → Moved → ℤ
 valued p m = int_wrap w128 (m.shares *ℤ pos p +ℤ m.cents)
+
+-- what a day's movements bring to a mark, by cause
+abbrev pub causes : Price → Moves → Causes
+causes p m = record {
+  trades = valued p m.trades;
+  delivered = valued p m.delivered;
+  received = valued p m.received;
+  actions = valued p m.actions;
+  buy_ins = valued p m.buy_ins;
+}
+
+-- nothing
+abbrev pub no_causes : Causes
+no_causes = record { trades = pos 0; delivered = pos 0; received = pos 0; actions = pos 0; buy_ins = pos 0 }
+
+-- what two bring, as much of the sums as fits
+abbrev pub with_causes : Causes → Causes → Causes
+with_causes a b = record {
+  trades = int_wrap w128 (a.trades +ℤ b.trades);
+  delivered = int_wrap w128 (a.delivered +ℤ b.delivered);
+  received = int_wrap w128 (a.received +ℤ b.received);
+  actions = int_wrap w128 (a.actions +ℤ b.actions);
+  buy_ins = int_wrap w128 (a.buy_ins +ℤ b.buy_ins);
+}
 
 -- ---- what the positions are worth
 
@@ -80,12 +112,11 @@ position_text r =
 abbrev pub mark_text : MarkRow → List ℕ
 mark_text m =
     let r = m.line.row in
-    let moves = m.line.moves in
+    let c = causes r.price m.line.moves in
     row_of ROW.now (piece.Issue r.issue)
     (piece.Amount (pos r.opening_price) ∷ piece.Amount (pos r.price) ∷ piece.Amount (moved r)
-    ∷ piece.Amount (valued r.price moves.trades) ∷ piece.Amount (valued r.price moves.delivered)
-    ∷ piece.Amount (valued r.price moves.received) ∷ piece.Amount (valued r.price moves.actions)
-    ∷ piece.Amount (valued r.price moves.buy_ins) ∷ piece.Amount r.mark ∷ piece.Amount r.money ∷ [])
+    ∷ piece.Amount c.trades ∷ piece.Amount c.delivered ∷ piece.Amount c.received ∷ piece.Amount c.actions ∷ piece.Amount c.buy_ins
+    ∷ piece.Amount r.mark ∷ piece.Amount r.money ∷ [])
 
 -- the number and the issue of what a record booked
 unfoldable pub begin_text : Booking → List ℕ

@@ -4,6 +4,7 @@ ghost use Rattle.cns_book.specs.Log.{state_of};
 ghost use Rattle.cns_account.specs.Day.{IsAccountDay};
 
 use crate::booked::{Booked, bookings_in};
+use crate::day_moves::DayMoves;
 use crate::mark::{MarkRow, marks_of};
 use crate::row::{AccountRow, rows_of};
 use crate::totals::{Totals, totals_of};
@@ -28,18 +29,19 @@ pub struct AccountDay {
     pub bookings: Vec<Booked>,
 }
 
-/// What a closed day did to an account: of the book as the close left it, of the day's sheet, and of the lines of what the
-/// day's records booked for the account.
+/// What a closed day did to an account: of the book as the close left it, of the day's sheet, of what moved each position, and of
+/// the lines of what the day's records booked for the account.
 pub fn account_day(
     alloc: Global,
     book: &ReplayBook,
     sheet: &Sheet<Global>,
     account: Account,
+    moves: &DayMoves,
     lines: &[HistoryLine],
 ) -> Result<AccountDay, NoMemory>
-    ensures { IfOk result (IsAccountDay (state_of book.now.log) sheet.now account lines.now) }
+    ensures { IfOk result (IsAccountDay (state_of book.now.log) sheet.now account moves.now lines.now) }
 {
-    let rows = rows_of(alloc, book, sheet, account, lines)?;
+    let rows = rows_of(alloc, book, sheet, account, moves)?;
     let marks = marks_of(alloc, rows.as_slice())?;
     let bookings = bookings_in(alloc, lines)?;
     Ok(AccountDay {

@@ -1,8 +1,8 @@
 // How the marks of an account come about.
 ghost use Rattle.std.specs.Prelude.{◌≡◌, IfOk, map};
-ghost use Rattle.cns_account.specs.Rows.{mark_row, moved, valued};
+ghost use Rattle.cns_account.specs.Rows.{causes, mark_row, moved, valued, with_causes};
 
-use crate::moves::{Moved, wrapped_sum};
+use crate::moves::{Moved, Moves, wrapped_sum};
 use crate::row::AccountRow;
 use cns_tables::{Piece, ROW, TableRow, cents_of, write_line};
 use cns_terms::{NoMemory, Row};
@@ -36,6 +36,52 @@ fn valued(moved: &Moved, price: Price) -> Cents
     wrapped_sum(worth, moved.cents)
 }
 
+/// What a day's movements bring to a mark, by cause. Each amount is exact where it fits 128 bits, as it does on each day of a book.
+#[derive(Clone, Copy)]
+pub struct Causes {
+    pub trades: Cents,
+    pub delivered: Cents,
+    pub received: Cents,
+    pub actions: Cents,
+    pub buy_ins: Cents,
+}
+
+impl Causes {
+    pub const NOTHING: Causes = Causes {
+        trades: Cents::ZERO,
+        delivered: Cents::ZERO,
+        received: Cents::ZERO,
+        actions: Cents::ZERO,
+        buy_ins: Cents::ZERO,
+    };
+
+    /// What movements bring at a price.
+    pub fn of(moves: &Moves, price: Price) -> Causes
+        ensures { result ≡ causes price moves.now }
+    {
+        Causes {
+            trades: valued(&moves.trades, price),
+            delivered: valued(&moves.delivered, price),
+            received: valued(&moves.received, price),
+            actions: valued(&moves.actions, price),
+            buy_ins: valued(&moves.buy_ins, price),
+        }
+    }
+
+    /// With what others bring.
+    pub fn with(&self, others: &Causes) -> Causes
+        ensures { result ≡ with_causes self.now others.now }
+    {
+        Causes {
+            trades: wrapped_sum(self.trades, others.trades),
+            delivered: wrapped_sum(self.delivered, others.delivered),
+            received: wrapped_sum(self.received, others.received),
+            actions: wrapped_sum(self.actions, others.actions),
+            buy_ins: wrapped_sum(self.buy_ins, others.buy_ins),
+        }
+    }
+}
+
 /// The rows of the table of marks, of an account's rows.
 pub(crate) fn marks_of(alloc: Global, rows: &[AccountRow]) -> Result<Vec<MarkRow>, NoMemory>
     ensures { IfOk result (λ v. v.items ≡ map mark_row rows.now) }
@@ -54,16 +100,16 @@ impl TableRow for MarkRow {
 
     fn write_row<W: Write>(&self, writer: &mut W) -> Result<(), WriteFault> {
         let row = &self.line.row;
-        let moves = &self.line.moves;
+        let causes = Causes::of(&self.line.moves, row.price);
         let cells = [
             Piece::Amount(cents_of(row.opening_price.value())),
             Piece::Amount(cents_of(row.price.value())),
             Piece::Amount(price_move(row)),
-            Piece::Amount(valued(&moves.trades, row.price)),
-            Piece::Amount(valued(&moves.delivered, row.price)),
-            Piece::Amount(valued(&moves.received, row.price)),
-            Piece::Amount(valued(&moves.actions, row.price)),
-            Piece::Amount(valued(&moves.buy_ins, row.price)),
+            Piece::Amount(causes.trades),
+            Piece::Amount(causes.delivered),
+            Piece::Amount(causes.received),
+            Piece::Amount(causes.actions),
+            Piece::Amount(causes.buy_ins),
             Piece::Amount(row.mark),
             Piece::Amount(row.money),
         ];

@@ -1,13 +1,13 @@
 // What moved a position on a day, by cause.
-ghost use Rattle.std.specs.Prelude.{◌≡◌, ◌+ℤ◌, ◌-ℤ◌};
+ghost use Rattle.std.specs.Prelude.{◌≡◌, ◌+ℤ◌, ◌-ℤ◌, ℤ};
 ghost use Rattle.std.specs.Int.{int_wrap, w128, w64};
-ghost use Rattle.cns_account.specs.Moves.{moves_of, with_booking, with_line, with_more};
+ghost use Rattle.cns_account.specs.Moves.{of_cause, unmoved, with_more};
 
-use cns_history::{Booking, HistoryLine};
-use cns_terms::Activity;
-use cns_units::{Cents, Cusip};
+use cns_history::Booking;
+use cns_terms::{Activity, Entry};
+use cns_units::Cents;
 
-/// What was booked in an issue for one cause. Each sum is exact where it fits 64 bits, and of cents 128, as it does on each day of
+/// What was booked at a place for one cause. Each sum is exact where it fits 64 bits, and of cents 128, as it does on each day of
 /// a book.
 #[derive(Clone, Copy)]
 pub struct Moved {
@@ -17,7 +17,7 @@ pub struct Moved {
     pub cents: Cents,
 }
 
-/// What was booked in an issue on a day.
+/// What was booked at a place on a day.
 #[derive(Clone, Copy)]
 pub struct Moves {
     /// Trades that settled, those among them that the close before booked.
@@ -36,12 +36,12 @@ impl Moved {
         cents: Cents::ZERO,
     };
 
-    fn with(&self, booking: &Booking) -> Moved
-        ensures { result ≡ with_more self.now booking.now }
+    fn with(&self, shares: i64, cents: Cents) -> Moved
+        ensures { result ≡ with_more self.now shares cents }
     {
         Moved {
-            shares: wrapped_shares(self.shares, booking.shares),
-            cents: wrapped_sum(self.cents, booking.cents),
+            shares: wrapped_shares(self.shares, shares),
+            cents: wrapped_sum(self.cents, cents),
         }
     }
 }
@@ -54,7 +54,7 @@ pub fn wrapped_shares(a: i64, b: i64) -> i64
 }
 
 /// The sum of two amounts, as much of it as fits.
-pub(crate) fn wrapped_sum(a: Cents, b: Cents) -> Cents
+pub fn wrapped_sum(a: Cents, b: Cents) -> Cents
     ensures { result ≡ int_wrap w128 (a +ℤ b) }
 {
     Cents::of(a.value().wrapping_add(b.value()))
@@ -67,65 +67,61 @@ pub(crate) fn wrapped_difference(a: Cents, b: Cents) -> Cents
     Cents::of(a.value().wrapping_sub(b.value()))
 }
 
-// With what a record booked. The activities that never book move nothing.
-fn with_booking(moves: &Moves, booking: &Booking) -> Moves
-    ensures { result ≡ with_booking moves.now booking.now }
-{
-    match booking.activity {
-        Activity::Trade(_) | Activity::Close(_) => Moves {
-            trades: moves.trades.with(booking),
-            ..*moves
-        },
-        Activity::Deliver(_) => Moves {
-            delivered: moves.delivered.with(booking),
-            ..*moves
-        },
-        Activity::Receive(_) => Moves {
-            received: moves.received.with(booking),
-            ..*moves
-        },
-        Activity::Split(_) | Activity::Exchange(_) => Moves {
-            actions: moves.actions.with(booking),
-            ..*moves
-        },
-        Activity::Execute(_) => Moves {
-            buy_ins: moves.buy_ins.with(booking),
-            ..*moves
-        },
-        Activity::Member(_)
-        | Activity::Issue(_)
-        | Activity::Price(_)
-        | Activity::Dividend(_)
-        | Activity::Notice(_)
-        | Activity::Withdraw(_) => *moves,
-    }
-}
-
-// With a line, where it is a booking in the issue.
-fn with_line(moves: &Moves, issue: &Cusip, line: &HistoryLine) -> Moves
-    ensures { result ≡ with_line issue.now moves.now line.now }
-{
-    match line {
-        HistoryLine::Booking(booking) if booking.issue.is_same(issue) => {
-            with_booking(moves, booking)
+impl Moves {
+    /// Nothing moved.
+    pub(crate) fn nothing() -> Moves
+        ensures { result ≡ unmoved }
+    {
+        Moves {
+            trades: Moved::NOTHING,
+            delivered: Moved::NOTHING,
+            received: Moved::NOTHING,
+            actions: Moved::NOTHING,
+            buy_ins: Moved::NOTHING,
         }
-        _ => *moves,
     }
-}
 
-/// What lines booked in an issue, by cause.
-pub(crate) fn moves_of(issue: &Cusip, lines: &[HistoryLine]) -> Moves
-    ensures { result ≡ moves_of issue.now lines.now }
-{
-    let mut moves = Moves {
-        trades: Moved::NOTHING,
-        delivered: Moved::NOTHING,
-        received: Moved::NOTHING,
-        actions: Moved::NOTHING,
-        buy_ins: Moved::NOTHING,
-    };
-    for line in lines {
-        moves = with_line(&moves, issue, line);
+    /// With what a side of a trade books.
+    pub(crate) fn with_entry(&self, entry: &Entry) -> Moves
+        ensures { result ≡ record self.now { trades = with_more self.now.trades entry.now.shares entry.now.cents } }
+    {
+        Moves {
+            trades: self.trades.with(entry.shares, Cents::of(entry.cents)),
+            ..*self
+        }
     }
-    moves
+
+    /// With what a record booked that is neither a trade nor a close.
+    pub(crate) fn with_booking(&self, booking: &Booking) -> Moves
+        ensures { result ≡ of_cause self.now booking.now booking.now.activity }
+    {
+        let shares = booking.shares;
+        let cents = booking.cents;
+        match booking.activity {
+            Activity::Deliver(_) => Moves {
+                delivered: self.delivered.with(shares, cents),
+                ..*self
+            },
+            Activity::Receive(_) => Moves {
+                received: self.received.with(shares, cents),
+                ..*self
+            },
+            Activity::Split(_) | Activity::Exchange(_) => Moves {
+                actions: self.actions.with(shares, cents),
+                ..*self
+            },
+            Activity::Execute(_) => Moves {
+                buy_ins: self.buy_ins.with(shares, cents),
+                ..*self
+            },
+            Activity::Member(_)
+            | Activity::Issue(_)
+            | Activity::Trade(_)
+            | Activity::Price(_)
+            | Activity::Dividend(_)
+            | Activity::Notice(_)
+            | Activity::Withdraw(_)
+            | Activity::Close(_) => *self,
+        }
+    }
 }

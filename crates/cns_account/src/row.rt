@@ -4,9 +4,10 @@ ghost use Rattle.cns_terms.specs.Sheets.{rows_for};
 ghost use Rattle.cns_book.specs.Log.{state_of};
 ghost use Rattle.cns_account.specs.Rows.{account_row, worth};
 
-use crate::moves::{Moves, moves_of};
+use crate::day_moves::DayMoves;
+use crate::moves::Moves;
 use cns_feed::ReplayBook;
-use cns_history::{HistoryLine, standing};
+use cns_history::standing;
 use cns_sheets::Sheet;
 use cns_tables::{Piece, ROW, TableRow, cents_of, write_line};
 use cns_terms::{Key, NoMemory, Row};
@@ -31,9 +32,9 @@ pub(crate) fn worth(row: &Row) -> Cents
     Cents::of(i128::from(row.closing) * i128::from(row.price.value()))
 }
 
-// A row, with what moved its position among lines.
-fn account_row(book: &ReplayBook, lines: &[HistoryLine], row: &Row) -> AccountRow
-    ensures { result ≡ account_row (state_of book.now.log) lines.now row.now }
+// A row, with what moved its position.
+fn account_row(book: &ReplayBook, moves: &DayMoves, row: &Row) -> AccountRow
+    ensures { result ≡ account_row (state_of book.now.log) moves.now row.now }
 {
     let key = Key {
         account: row.account,
@@ -41,25 +42,24 @@ fn account_row(book: &ReplayBook, lines: &[HistoryLine], row: &Row) -> AccountRo
     };
     AccountRow {
         row: *row,
-        moves: moves_of(&row.issue, lines),
+        moves: moves.at(&key),
         age: standing(book, &key).run,
     }
 }
 
-/// An account's rows of a day's sheet, with what moved their positions among the lines of the day; of the book as the close
-/// left it.
+/// An account's rows of a day's sheet, with what moved their positions on the day; of the book as the close left it.
 pub(crate) fn rows_of(
     alloc: Global,
     book: &ReplayBook,
     sheet: &Sheet<Global>,
     account: Account,
-    lines: &[HistoryLine],
+    moves: &DayMoves,
 ) -> Result<Vec<AccountRow>, NoMemory>
-    ensures { IfOk result (λ v. v.items ≡ map (account_row (state_of book.now.log) lines.now) (rows_for sheet.now.rows account)) }
+    ensures { IfOk result (λ v. v.items ≡ map (account_row (state_of book.now.log) moves.now) (rows_for sheet.now.rows account)) }
 {
     let mut rows = Vec::new(alloc);
     for row in sheet.rows_of(account) {
-        rows.push(account_row(book, lines, &row))?;
+        rows.push(account_row(book, moves, &row))?;
     }
     Ok(rows)
 }

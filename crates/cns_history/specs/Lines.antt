@@ -1,10 +1,12 @@
 -- The lines of a history: what each record booked at a place, and the closes; or what it booked at all places of some accounts.
-use Rattle.std.specs.Prelude.{ℕ, ◌+◌, nat_lt, pos, ◌-ℤ◌, Bool, true, ◌&&◌, ◌==◌, if◌then◌else◌, List, [], ◌∷◌, ◌++◌, filter, filter_map, flat_map, map, Option, Some, None, Ok, option_and_then, option_map, unwrap_or}
+use Rattle.std.specs.Prelude.{ℕ, ◌+◌, nat_lt, pos, ◌-ℤ◌, Bool, true, false, not, ◌&&◌, ◌==◌, if◌then◌else◌, List, [], ◌∷◌, ◌++◌, filter, filter_map, flat_map, map, Option, Some, None, Ok, is_some, slice_get, option_and_then, option_map, unwrap_or}
+use Rattle.std.specs.List.{range_with_len}
 use Rattle.std.specs.Option.{option_map_or, option_to_list}
 use Rattle.std.specs.Ordering.{int_eq}
 use Rattle.cns_terms.specs.Common.{Account, Cusip, Day, State, answer, corporation, date, journal_of, next, sheet_on}
 use Rattle.cns_terms.specs.declared.command.Activity.{Activity}
 use Rattle.cns_terms.specs.declared.command.Activity.TheVariants as activity
+use Rattle.cns_terms.specs.declared.command.Command.{Command}
 use Rattle.cns_terms.specs.declared.command.Command.TheVariants as command
 use Rattle.cns_terms.specs.declared.holding.Holding.{Holding}
 use Rattle.cns_terms.specs.declared.holding.Key.{Key}
@@ -86,15 +88,29 @@ lines_at k n S _ = []
 abbrev pub place : Account → Cusip → Key
 place a c = record { account = a; issue = c }
 
+-- whether an account has a position in an issue: the corporation or a member, where the issue is listed
+abbrev pub has_position : State → Cusip → Account → Bool
+has_position S c a = is_some (position_shown S (place a c))
+
+-- the first numbers, so many
+unfoldable pub numbers : ℕ → List Account
+numbers n = range_with_len 0 n
+
+-- the accounts that have a position in an issue, by number
+abbrev pub accounts_in : State → Cusip → List Account
+accounts_in S c = filter (has_position S c) (numbers 10000)
+
 -- whether the bookings of an account that is named are wanted
 abbrev pub is_wanted : Whose → Account → Bool
 is_wanted (whose.One b) a = a == b
-is_wanted (whose.Each bs) a = true
+is_wanted whose.All a = true
 
--- the accounts whose bookings are wanted
-abbrev pub accounts_of : Whose → List Account
-accounts_of (whose.One a) = a ∷ []
-accounts_of (whose.Each bs) = bs.now
+-- the accounts whose bookings in some issues are wanted, by the first of them: each account has a position in all issues that are
+-- listed, or in none
+abbrev pub accounts_of : Whose → State → Option Cusip → List Account
+accounts_of (whose.One a) S c = a ∷ []
+accounts_of whose.All S None = []
+accounts_of whose.All S (Some c) = accounts_in S c
 
 -- two accounts that are named, one and the same once
 abbrev pub named : Account → Account → List Account
@@ -105,8 +121,8 @@ abbrev pub both : Whose → Account → Account → Cusip → List Key
 both w a b c = map (λ a. place a c) (filter (is_wanted w) (named a b))
 
 -- the places of each account whose bookings are wanted, in some issues
-abbrev pub each : Whose → List Cusip → List Key
-each w cs = flat_map (λ a. map (place a) cs) (accounts_of w)
+abbrev pub each : Whose → State → List Cusip → List Key
+each w S cs = flat_map (λ a. map (place a) cs) (accounts_of w S (slice_get cs 0))
 
 -- the issue of the notice with a number, if there is one
 abbrev pub noticed : State → ℕ → List Cusip
@@ -117,9 +133,9 @@ abbrev pub places : Whose → State → Activity → List Key
 places w S (activity.Trade t) = both w t.buyer t.seller t.issue
 places w S (activity.Deliver m) = both w corporation m.member m.issue
 places w S (activity.Receive m) = both w corporation m.member m.issue
-places w S (activity.Split s) = each w (s.issue ∷ [])
-places w S (activity.Exchange x) = each w (x.old ∷ x.successor ∷ [])
-places w S (activity.Execute x) = each w (noticed S x.notice)
+places w S (activity.Split s) = each w S (s.issue ∷ [])
+places w S (activity.Exchange x) = each w S (x.old ∷ x.successor ∷ [])
+places w S (activity.Execute x) = each w S (noticed S x.notice)
 places w S _ = []
 
 -- what stands at a place
@@ -141,7 +157,7 @@ issues_on S d = option_map_or (λ s. map (λ e. e.0) s.prices) (sheet_on S.openi
 -- the lines of an activity that got a reply, in the state after it: what it booked at the places where something stood before it, or
 -- what a close booked in each issue
 abbrev pub bookings_since : Whose → ℕ → State → Activity → Reply → List Stood → List HistoryLine
-bookings_since w n T x (reply.Closed c) before = filter_map (λ k. booked_since n T x (opened_since T k)) (each w (issues_on T c.date))
+bookings_since w n T x (reply.Closed c) before = filter_map (λ k. booked_since n T x (opened_since T k)) (each w T (issues_on T c.date))
 bookings_since w n T x _ before = filter_map (booked_since n T x) before
 
 -- the lines of a record at all places of some accounts
@@ -152,10 +168,30 @@ bookings_at w n S _ = []
 
 -- ---- the lines of what is watched
 
+-- whether a number is one of those from the first to the last
+abbrev pub is_between : ℕ → ℕ → ℕ → Bool
+is_between first last n = not (nat_lt n first) && not (nat_lt last n)
+
+-- whether a command can book what is neither a trade's nor a close's
+abbrev pub is_movement : Command → Bool
+is_movement (command.Activity (activity.Deliver m)) = true
+is_movement (command.Activity (activity.Receive m)) = true
+is_movement (command.Activity (activity.Split s)) = true
+is_movement (command.Activity (activity.Exchange x)) = true
+is_movement (command.Activity (activity.Execute x)) = true
+is_movement _ = false
+
+-- the lines of a record that was read as a command, where they are wanted
+abbrev pub movements_at : ℕ → State → Line → List HistoryLine
+movements_at n S (Ok cmd) = if is_movement cmd then bookings_at whose.All n S (Ok cmd) else []
+movements_at n S _ = []
+
 -- those of a record
 abbrev pub lines_of : Watched → ℕ → State → Line → List HistoryLine
+lines_of watched.Nothing n S l = []
 lines_of (watched.Place k) n S l = lines_at k n S l
-lines_of (watched.Bookings w from) n S l = if nat_lt n from then [] else bookings_at w n S l
+lines_of (watched.Bookings w first last) n S l = if is_between first last n then bookings_at w n S l else []
+lines_of (watched.Movements first last) n S l = if is_between first last n then movements_at n S l else []
 
 -- those of records in order, after so many others
 unfoldable pub history : Watched → ℕ → State → List Line → List HistoryLine

@@ -1,11 +1,12 @@
 // What an activity books at all places of some accounts.
-ghost use Rattle.std.specs.Prelude.{◌≡◌, ◌++◌, ◌∷◌, [], All, IfOk, OnOk, filter, filter_map, map};
+ghost use Rattle.std.specs.Prelude.{◌≡◌, ◌++◌, ◌∷◌, [], All, IfOk, OnOk, filter, filter_map, map, slice_get};
 ghost use Rattle.std.specs.Option.{option_to_list};
 ghost use Rattle.cns_terms.specs.Common.{corporation};
 ghost use Rattle.cns_book.specs.Log.{state_of};
-ghost use Rattle.cns_history.specs.Lines.{accounts_of, booked_since, bookings_since, both, each, is_wanted, issues_on, noticed, opened_since, place, places, stood};
+ghost use Rattle.cns_history.specs.Lines.{booked_since, bookings_since, both, each, is_wanted, issues_on, noticed, opened_since, place, places, stood};
 ghost use Rattle.cns_history.specs.Small.{IsSmall};
 
+use crate::accounts::accounts_of;
 use crate::line::HistoryLine;
 use crate::told::{Answered, add, booking_of, standing};
 use crate::watched::Whose;
@@ -14,7 +15,6 @@ use cns_sheets::Sheet;
 use cns_terms::{Activity, Holding, Key, NoMemory, Reply};
 use cns_units::{Account, Cusip, Day};
 use std::alloc::Global;
-use std::slice;
 
 /// An account's place in an issue, with what stood there.
 #[derive(Clone, Copy)]
@@ -24,22 +24,12 @@ pub(crate) struct Stood {
 }
 
 // Whether the bookings of an account that is named are wanted.
-fn is_wanted(whose: &Whose<'_>, account: Account) -> bool
+fn is_wanted(whose: &Whose, account: Account) -> bool
     ensures { result ≡ is_wanted whose.now account }
 {
     match whose {
         Whose::One(one) => account == *one,
-        Whose::Each(_) => true,
-    }
-}
-
-// The accounts whose bookings are wanted.
-fn accounts_of<'a>(whose: &'a Whose<'a>) -> &'a [Account]
-    ensures { result.now ≡ accounts_of whose.now }
-{
-    match whose {
-        Whose::One(account) => slice::from_ref(account),
-        Whose::Each(accounts) => *accounts,
+        Whose::All => true,
     }
 }
 
@@ -63,7 +53,7 @@ fn push(
 // The same where the bookings of the account are wanted.
 fn push_if_wanted(
     book: &ReplayBook,
-    whose: &Whose<'_>,
+    whose: &Whose,
     account: Account,
     issue: Cusip,
     before: &mut Vec<Stood>,
@@ -83,7 +73,7 @@ fn push_if_wanted(
 // The same of two accounts that are named, of one and the same once.
 fn push_both(
     book: &ReplayBook,
-    whose: &Whose<'_>,
+    whose: &Whose,
     first: Account,
     second: Account,
     issue: Cusip,
@@ -122,16 +112,18 @@ fn push_issues(
 // The same of each account whose bookings are wanted.
 fn push_each(
     book: &ReplayBook,
-    whose: &Whose<'_>,
+    whose: &Whose,
     issues: &[Cusip],
     before: &mut Vec<Stood>,
 ) -> Result<(), NoMemory>
     requires { All IsSmall before.old.items }
     ensures value { OnOk result (before.new.items ≡ before.old.items
-        ++ map (stood (state_of book.now.log)) (each whose.now issues.now)) }
+        ++ map (stood (state_of book.now.log)) (each whose.now (state_of book.now.log) issues.now)) }
     ensures small { OnOk result (All IsSmall before.new.items) }
 {
-    let accounts = accounts_of(whose);
+    let first = issues.first().copied();
+    let accounts = accounts_of(*before.allocator(), book, whose, first)?;
+    let accounts = accounts.as_slice();
     for account in accounts {
         push_issues(book, *account, issues, before)?;
     }
@@ -141,13 +133,13 @@ fn push_each(
 // The same in the issue of a notice, if there is one with the number.
 fn push_noticed(
     book: &ReplayBook,
-    whose: &Whose<'_>,
+    whose: &Whose,
     number: u32,
     before: &mut Vec<Stood>,
 ) -> Result<(), NoMemory>
     requires { All IsSmall before.old.items }
     ensures value { OnOk result (before.new.items ≡ before.old.items
-        ++ map (stood (state_of book.now.log)) (each whose.now (noticed (state_of book.now.log) number))) }
+        ++ map (stood (state_of book.now.log)) (each whose.now (state_of book.now.log) (noticed (state_of book.now.log) number))) }
     ensures small { OnOk result (All IsSmall before.new.items) }
 {
     match book.notice(number) {
@@ -159,7 +151,7 @@ fn push_noticed(
 // Adds what stands at the places that an activity names and can book at; a close books at others.
 fn push_places(
     book: &ReplayBook,
-    whose: &Whose<'_>,
+    whose: &Whose,
     activity: &Activity,
     before: &mut Vec<Stood>,
 ) -> Result<(), NoMemory>
@@ -204,7 +196,7 @@ fn push_places(
 pub(crate) fn before(
     alloc: Global,
     book: &ReplayBook,
-    whose: &Whose<'_>,
+    whose: &Whose,
     activity: &Activity,
 ) -> Result<Vec<Stood>, NoMemory>
     ensures value { IfOk result (λ v. v.items
@@ -295,19 +287,31 @@ fn add_each_opened(
     Ok(())
 }
 
+// The first issue that a sheet has a price of, if there is one.
+fn first_issue(sheet: &Sheet<Global>) -> Option<Cusip>
+    ensures { result ≡ slice_get (map (λ e. e.0) sheet.now.prices) 0 }
+{
+    match sheet.next_price(None) {
+        Some((issue, _)) => Some(issue),
+        None => None,
+    }
+}
+
 // The same of each account whose bookings are wanted.
 fn add_all_opened(
     book: &ReplayBook,
-    whose: &Whose<'_>,
+    whose: &Whose,
     sheet: &Sheet<Global>,
     answered: &Answered,
     lines: &mut Vec<HistoryLine>,
 ) -> Result<(), NoMemory>
     ensures { OnOk result (lines.new.items ≡ lines.old.items
         ++ filter_map (λ k. booked_since answered.now.number (state_of book.now.log) answered.now.activity
-        (opened_since (state_of book.now.log) k)) (each whose.now (map (λ e. e.0) sheet.now.prices))) }
+        (opened_since (state_of book.now.log) k)) (each whose.now (state_of book.now.log) (map (λ e. e.0) sheet.now.prices))) }
 {
-    let accounts = accounts_of(whose);
+    let first = first_issue(sheet);
+    let accounts = accounts_of(*lines.allocator(), book, whose, first)?;
+    let accounts = accounts.as_slice();
     for account in accounts {
         add_each_opened(book, *account, sheet, answered, lines)?;
     }
@@ -317,14 +321,14 @@ fn add_all_opened(
 // The same in each issue that was listed when the day with the date was closed.
 fn add_opened_on(
     book: &ReplayBook,
-    whose: &Whose<'_>,
+    whose: &Whose,
     date: Day,
     answered: &Answered,
     lines: &mut Vec<HistoryLine>,
 ) -> Result<(), NoMemory>
     ensures { OnOk result (lines.new.items ≡ lines.old.items
         ++ filter_map (λ k. booked_since answered.now.number (state_of book.now.log) answered.now.activity
-        (opened_since (state_of book.now.log) k)) (each whose.now (issues_on (state_of book.now.log) date))) }
+        (opened_since (state_of book.now.log) k)) (each whose.now (state_of book.now.log) (issues_on (state_of book.now.log) date))) }
 {
     match book.sheet(date) {
         Some(sheet) => add_all_opened(book, whose, sheet, answered, lines),
@@ -336,7 +340,7 @@ fn add_opened_on(
 /// that it names.
 pub(crate) fn add_booked(
     book: &ReplayBook,
-    whose: &Whose<'_>,
+    whose: &Whose,
     answered: &Answered,
     before: &[Stood],
     lines: &mut Vec<HistoryLine>,

@@ -4,9 +4,11 @@
 //! record has a line where the shares or the cents that stand at the place are others after it than before it; an accepted
 //! close has one where the day's sheet has a row there, and a line of its own below for trades that it booked. At Ok what was
 //! written is exactly that, byte for byte, as `HasHistory` in `specs/Page.antt` says; the lines are those of `history` in
-//! `specs/Lines.antt`. `bookings` gives those at all places of some accounts, from a record on. Start with `Place`, then `play.rt`.
+//! `specs/Lines.antt`. `take_watched` takes a command and adds those of what is watched: at a place, or at all places of an account or of
+//! all. Start with `Place`, then `play.rt`.
 #![tactic(auto)]
 
+mod accounts;
 mod booked;
 mod everywhere;
 mod history;
@@ -19,10 +21,12 @@ mod told;
 mod watched;
 mod words;
 
-pub use booked::{bookings, lines_for};
+pub use accounts::accounts_in;
+pub use booked::lines_for;
 pub use history::write_history;
 pub use line::{Booking, Closing, HistoryLine};
 pub use place::Place;
+pub use play::take_watched;
 pub use told::{shares_between, standing};
 pub use watched::{Watched, Whose};
 pub use words::write_what;

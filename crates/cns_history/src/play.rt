@@ -1,5 +1,6 @@
 // The records of an input, played on a new book one after another.
 ghost use Rattle.std.specs.Prelude.{◌≡◌, ◌<◌, ◌≤◌, ◌-◌, ◌^◌, ◌++◌, [], if◌then◌else◌, IfOk, List, OnOk, length, take};
+ghost use Rattle.cns_terms.specs.Common.{answer};
 ghost use Rattle.cns_terms.specs.Machine.{opened};
 ghost use Rattle.cns_book.specs.Log.{state_of};
 ghost use Rattle.cns_feed.specs.Line.{Line};
@@ -7,7 +8,8 @@ ghost use Rattle.cns_feed.specs.Output.{state_after_line};
 ghost use Rattle.cns_feed.specs.Output.{lines_of as records_in};
 ghost use Rattle.cns_feed.specs.Records.{IsReady, Pending};
 ghost use Rattle.cns_terms.specs.declared.command.Command.TheVariants as command;
-ghost use Rattle.cns_history.specs.Lines.{bookings_at, lines_at, lines_of};
+ghost use Rattle.cns_feed.specs.Replay.{log_after_line};
+ghost use Rattle.cns_history.specs.Lines.{bookings_at, is_between, is_movement, lines_at, lines_of};
 ghost use Rattle.cns_history.specs.Played.{ComesTo, IsPlayed, Steps};
 
 use crate::everywhere::{add_booked, before};
@@ -15,7 +17,7 @@ use crate::line::HistoryLine;
 use crate::told::{Answered, add_lines, standing};
 use crate::watched::{Watched, Whose};
 use cns_feed::{Line, LineFault, Records, ReplayBook, ReplayFault};
-use cns_terms::{Activity, Command, Key, Worker};
+use cns_terms::{Activity, Command, Key, Reply, Worker};
 use cns_units::Day;
 use std::alloc::Global;
 use std::io::Read;
@@ -37,8 +39,10 @@ fn take_at(
     number: u64,
     command: &Command,
     lines: &mut Vec<HistoryLine>,
-) -> Result<(), ReplayFault>
+) -> Result<Reply, ReplayFault>
+    ensures log { OnOk result (book.new.log ≡ log_after_line book.old.log (Ok command.now)) }
     ensures after { OnOk result (state_of book.new.log ≡ state_after_line (state_of book.old.log) (Ok command.now)) }
+    ensures reply { IfOk result (λ r. r ≡ answer (state_of book.old.log) command.now) }
     ensures lines { OnOk result (lines.new.items
         ≡ lines.old.items ++ lines_at key.now number (state_of book.old.log) (Ok command.now)) }
 {
@@ -52,21 +56,23 @@ fn take_at(
                 reply: receipt.reply,
             };
             add_lines(book, key, &answered, &before, lines)?;
-            Ok(())
+            Ok(answered.reply)
         }
-        Command::Position(_) | Command::Statement { .. } => Ok(()),
+        Command::Position(_) | Command::Statement { .. } => Ok(receipt.reply),
     }
 }
 
 // Takes an activity, and adds what it booked at all places of some accounts.
 fn take_activity(
     book: &mut ReplayBook,
-    whose: &Whose<'_>,
+    whose: &Whose,
     number: u64,
     activity: &Activity,
     lines: &mut Vec<HistoryLine>,
-) -> Result<(), ReplayFault>
+) -> Result<Reply, ReplayFault>
+    ensures log { OnOk result (book.new.log ≡ log_after_line book.old.log (Ok (command.Activity activity.now))) }
     ensures after { OnOk result (state_of book.new.log ≡ state_after_line (state_of book.old.log) (Ok (command.Activity activity.now))) }
+    ensures reply { IfOk result (λ r. r ≡ answer (state_of book.old.log) (command.Activity activity.now)) }
     ensures lines { OnOk result (lines.new.items
         ≡ lines.old.items ++ bookings_at whose.now number (state_of book.old.log) (Ok (command.Activity activity.now))) }
 {
@@ -78,19 +84,21 @@ fn take_activity(
         reply: receipt.reply,
     };
     add_booked(book, whose, &answered, before.as_slice(), lines)?;
-    Ok(())
+    Ok(answered.reply)
 }
 
 // Takes a command, and adds what it booked at all places of some accounts, where that is wanted of the record.
 fn take_for(
     book: &mut ReplayBook,
-    whose: &Whose<'_>,
+    whose: &Whose,
     is_wanted: bool,
     number: u64,
     command: &Command,
     lines: &mut Vec<HistoryLine>,
-) -> Result<(), ReplayFault>
+) -> Result<Reply, ReplayFault>
+    ensures log { OnOk result (book.new.log ≡ log_after_line book.old.log (Ok command.now)) }
     ensures after { OnOk result (state_of book.new.log ≡ state_after_line (state_of book.old.log) (Ok command.now)) }
+    ensures reply { IfOk result (λ r. r ≡ answer (state_of book.old.log) command.now) }
     ensures lines { OnOk result (lines.new.items ≡ lines.old.items
         ++ (if is_wanted then bookings_at whose.now number (state_of book.old.log) (Ok command.now) else [])) }
 {
@@ -100,29 +108,62 @@ fn take_for(
         }
         _ => {
             let receipt = book.take(Worker::FIRST, *command)?;
-            // The reply is named, since the compiler has to be told of its type.
-            let _reply = receipt.reply;
-            Ok(())
+            Ok(receipt.reply)
         }
     }
 }
 
-// Takes a command, and adds its lines.
-fn take_command(
+// Whether a number is one of those from the first to the last.
+fn is_between(first: u64, last: u64, number: u64) -> bool
+    ensures { result ≡ is_between first last number }
+{
+    first <= number && number <= last
+}
+
+// Whether a command can book what is neither a trade's nor a close's.
+fn is_movement(command: &Command) -> bool
+    ensures { result ≡ is_movement command.now }
+{
+    match command {
+        Command::Activity(activity) => matches!(
+            activity,
+            Activity::Deliver(_)
+                | Activity::Receive(_)
+                | Activity::Split(_)
+                | Activity::Exchange(_)
+                | Activity::Execute(_)
+        ),
+        _ => false,
+    }
+}
+
+/// Takes a command, which is that of the record with the number, and adds its lines where it is watched.
+///
+/// `NoMemory` where an allocation failed, and `Full` after 4,294,967,295 commands, the most that a history has. After a fault
+/// some of the lines may be there.
+pub fn take_watched(
     book: &mut ReplayBook,
-    watched: &Watched<'_>,
+    watched: &Watched,
     number: u64,
     command: &Command,
     lines: &mut Vec<HistoryLine>,
-) -> Result<(), ReplayFault>
+) -> Result<Reply, ReplayFault>
+    ensures log { OnOk result (book.new.log ≡ log_after_line book.old.log (Ok command.now)) }
     ensures after { OnOk result (state_of book.new.log ≡ state_after_line (state_of book.old.log) (Ok command.now)) }
+    ensures reply { IfOk result (λ r. r ≡ answer (state_of book.old.log) command.now) }
     ensures lines { OnOk result (lines.new.items
         ≡ lines.old.items ++ lines_of watched.now number (state_of book.old.log) (Ok command.now)) }
 {
     match watched {
+        Watched::Nothing => take_for(book, &Whose::All, false, number, command, lines),
         Watched::Place(key) => take_at(book, key, number, command, lines),
-        Watched::Bookings(whose, from) => {
-            take_for(book, whose, number >= *from, number, command, lines)
+        Watched::Bookings(whose, first, last) => {
+            let is_wanted = is_between(*first, *last, number);
+            take_for(book, whose, is_wanted, number, command, lines)
+        }
+        Watched::Movements(first, last) => {
+            let is_wanted = is_between(*first, *last, number) && is_movement(command);
+            take_for(book, &Whose::All, is_wanted, number, command, lines)
         }
     }
 }
@@ -130,7 +171,7 @@ fn take_command(
 // Takes the command that a record was read as, if it is one, and adds its lines.
 fn take(
     book: &mut ReplayBook,
-    watched: &Watched<'_>,
+    watched: &Watched,
     number: u64,
     line: &Line,
     lines: &mut Vec<HistoryLine>,
@@ -140,7 +181,10 @@ fn take(
         ≡ lines.old.items ++ lines_of watched.now number (state_of book.old.log) line.now) }
 {
     match line {
-        Ok(command) => take_command(book, watched, number, command, lines),
+        Ok(command) => {
+            take_watched(book, watched, number, command, lines)?;
+            Ok(())
+        }
         Err(LineFault::NoMemory) => Err(ReplayFault::NoMemory),
         Err(_) => Ok(()),
     }
@@ -150,7 +194,7 @@ fn take(
 fn step<R: Read>(
     records: &mut Records<R>,
     book: &mut ReplayBook,
-    watched: &Watched<'_>,
+    watched: &Watched,
     number: u64,
     lines: &mut Vec<HistoryLine>,
 ) -> Result<bool, ReplayFault>
@@ -169,7 +213,7 @@ fn step<R: Read>(
 fn play_with<R: Read>(
     records: &mut Records<R>,
     book: &mut ReplayBook,
-    watched: &Watched<'_>,
+    watched: &Watched,
     most: u64,
     lines: &mut Vec<HistoryLine>,
 ) -> Result<u64, ReplayFault>
@@ -194,7 +238,7 @@ fn play_with<R: Read>(
 pub(crate) fn play(
     alloc: Global,
     opening: Day,
-    watched: &Watched<'_>,
+    watched: &Watched,
     input: &[u8],
     most: u64,
 ) -> Result<Played, ReplayFault>

@@ -4,18 +4,21 @@ use cns_units::Account;
 
 /// Whose bookings are wanted.
 #[derive(Clone, Copy)]
-pub enum Whose<'a> {
+pub enum Whose {
     /// An account's alone.
     One(Account),
-    /// Those of some accounts, of which none stands there twice.
-    Each(&'a [Account]),
+    /// Those of the corporation and of all members.
+    All,
 }
 
 /// What is watched while records are played.
 #[derive(Clone, Copy)]
-pub enum Watched<'a> {
+pub enum Watched {
+    Nothing,
     /// An account's place in an issue: its history.
     Place(Key),
-    /// All places of some accounts: what the records book there, from the one with the number on.
-    Bookings(Whose<'a>, u64),
+    /// All places of some accounts: what the records book there, from the first number to the last.
+    Bookings(Whose, u64, u64),
+    /// All places of all accounts: what those records book there that are neither trades nor closes.
+    Movements(u64, u64),
 }

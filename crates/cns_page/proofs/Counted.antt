@@ -1,6 +1,6 @@
 -- The shorts of a sheet, row by row.
 -- For `shorts_of` of figures.rt, `gather` of shorts.rt.
-use Rattle.std.proofs.Common.{◌≡◌, ◌∙◌, sym, ap, ℕ, ◌-◌, ◌^◌, ◌<◌, true, cond, List, [], ◌∷◌, ◌++◌, min, filter, map}
+use Rattle.std.proofs.Common.{◌≡◌, ◌∙◌, sym, ap, ℕ, ◌-◌, ◌^◌, ◌<◌, true, cond, List, [], ◌∷◌, ◌++◌, min, map}
 use Rattle.std.specs.Prelude.{All, count_by}
 use Rattle.std.proofs.lemmas.List.{map-append}
 use Rattle.std.proofs.lemmas.List.Elements.{All-push, filter-append}
@@ -28,7 +28,7 @@ pub record Aging (S : State) (all given left : List Row) (items : List Aged) : T
 
 -- of some rows and others
 append : (S : State) (rs us : List Row) → shorts_among S (rs ++ us) ≡ shorts_among S rs ++ shorts_among S us
-append S rs us = ap (map (aged S)) (filter-append is_short rs us) ∙ map-append (aged S) (filter is_short rs) (filter is_short us)
+append S rs us = simp (filter-append, map-append)
 
 module _ (S : State) (all given left rest : List Row) (row : Row) (items : List Aged) (was : Aging S all given left items) (next : left ≡ row ∷ rest) where
   more : (new : List Aged) → new ≡ items ++ shorts_among S (row ∷ []) → All (λ s. s.age < 2 ^ 32) new → Aging S all (given ++ row ∷ []) rest new

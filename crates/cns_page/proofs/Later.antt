@@ -1,28 +1,24 @@
 -- The trades of a history that wait, entry by entry.
 -- For `gather` of projection.rt, `first` and `waiting` of sought.rt.
-use Rattle.std.proofs.Common.{◌≡◌, ◌∙◌, sym, ap, ℕ, ◌+◌, ◌-◌, ◌^◌, ◌≤◌, ◌<◌, List, [], ◌∷◌, ◌++◌, Option, Some, None, append-nil, take, reverse, not, filter}
+use Rattle.std.proofs.Common.{◌≡◌, ◌∙◌, sym, ap, ℕ, ◌+◌, ◌-◌, ◌^◌, ◌≤◌, ◌<◌, List, [], ◌∷◌, ◌++◌, Option, Some, None, append-nil, take, reverse}
 use Rattle.std.specs.Option.{option_to_list}
 use Rattle.std.proofs.lemmas.List.Elements.{filter-append, filter_map-append}
-use Rattle.cns_terms.specs.Common.{Day, is_not_after}
+use Rattle.cns_terms.specs.Common.{Day}
 use Rattle.cns_terms.specs.declared.command.Trade.{Trade}
 use Rattle.cns_terms.specs.declared.history.Taken.{Taken}
 use Rattle.cns_account.proofs.Walked.{entries_end, entry_more}
 use Rattle.cns_book.specs.Shown.{entry_at}
-use Rattle.cns_page.specs.Listed.{if_accepted, looked_at, trade_in, trades_among, later_among}
+use Rattle.cns_page.specs.Listed.{looked_at, later_among}
 
 -- of some entries and others
 later_append : (today : Day) (ts us : List Taken) → later_among today (ts ++ us) ≡ later_among today ts ++ later_among today us
-later_append today ts us =
-    ap (filter (λ t. not (is_not_after t.date today))) (filter_map-append (λ t. if_accepted t.reply (trade_in t.command)) ts us)
-    ∙ filter-append (λ t. not (is_not_after t.date today)) (trades_among ts) (trades_among us)
+later_append today ts us = simp (filter_map-append, filter-append)
 
 -- one entry more
 next : (today : Day) (H : List Taken) (place : ℕ) (t : Taken) (o : Option Trade) (items : List Trade) → 1 ≤ place → entry_at H place ≡ Some t → later_among today (t ∷ []) ≡ option_to_list o
     → items ≡ later_among today (take (place - 1) (reverse H)) → items ++ option_to_list o ≡ later_among today (take (place + 1 - 1) (reverse H))
 next today H place t o items le there is was =
-    ap (λ ts. items ++ ts) (sym is) ∙ ap (λ ts. ts ++ later_among today (t ∷ [])) was
-    ∙ sym (later_append today (take (place - 1) (reverse H)) (t ∷ []))
-    ∙ ap (later_among today) (entry_more H place t le there)
+    rw (← is, was) (sym (later_append today (take (place - 1) (reverse H)) (t ∷ [])) ∙ ap (later_among today) (entry_more H place t le there))
 
 -- one that gives no trade
 pub later_passed : (today : Day) (H : List Taken) (place : ℕ) (t : Taken) (items : List Trade) → 1 ≤ place → entry_at H place ≡ Some t → later_among today (t ∷ []) ≡ []

@@ -15,3 +15,5 @@ pub mod Oldest
 pub mod MakeLemmas
 pub mod Projecting
 pub mod Naming
+pub mod Pended
+pub mod Righted

@@ -1,22 +1,13 @@
 -- The list of days, close by close.
 -- For `line_of_days` of figures.rt.
-use Rattle.std.proofs.Common.{◌≡◌, ◌∙◌, sym, ap, ℕ, ◌+◌, ◌<◌, List, [], ◌∷◌, ◌++◌, Option, Some, None, append-nil, add-one, ◌-◌, ◌^◌, take, take-suc, get_or, length, min, option_map, unsigned_abs}
+use Rattle.std.proofs.Common.{◌≡◌, ◌∙◌, sym, ap, ℕ, ◌+◌, ◌<◌, List, [], ◌∷◌, ◌++◌, Option, Some, None, append-nil, ◌-◌, ◌^◌, take, get_or, length, min, option_map, unsigned_abs}
 use Rattle.std.specs.Prelude.{count_by, sum_by}
-use Rattle.std.proofs.lemmas.List.Elements.{filter_map-append}
-use Rattle.std.specs.List.{cons_option}
+use Rattle.cns_account.proofs.Gathered.{given_more}
 use Rattle.cns_terms.specs.Common.{DaySheet, State, journal_of, sheet_on}
 use Rattle.cns_page.specs.Figures.{is_short}
 use Rattle.cns_page.specs.Listed.{figures, figures_at, figures_shown}
 use Rattle.cns_page.specs.declared.figures.Figures.{Figures}
 use Rattle.cns_page.specs.declared.survey.Close.{Close}
-
--- one close more
-next : (S : State) (cs : List Close) (i : ℕ) (c : Close) (o : Option Figures) (items : List Figures) → i < length cs → get_or cs i c ≡ c → figures_at S c ≡ o
-    → items ≡ figures_shown S (take i cs) → items ++ cons_option o [] ≡ figures_shown S (take (i + 1) cs)
-next S cs i c o items lt at is was =
-    ap (λ xs. xs ++ cons_option o []) was ∙ ap (λ o. figures_shown S (take i cs) ++ cons_option o []) (sym is)
-    ∙ sym (filter_map-append (figures_at S) (take i cs) (c ∷ []))
-    ∙ ap (figures_shown S) (ap (λ x. take i cs ++ x ∷ []) (sym at) ∙ sym (take-suc cs i c lt) ∙ ap (λ n. take n cs) (sym (add-one i)))
 
 -- the figures of a sheet, each by itself
 figures_are : (s : DaySheet) (n : ℕ) (f : Figures) → f.day ≡ n → f.date ≡ s.date → f.marks ≡ min (sum_by (λ r. unsigned_abs r.mark) s.rows) (2 ^ 128 - 1)
@@ -28,11 +19,11 @@ figures_are s n f day date marks shorts =
 pub line_passed : (S : State) (cs : List Close) (i : ℕ) (c : Close) (o : Option DaySheet) (items : List Figures) → i < length cs → get_or cs i c ≡ c
     → o ≡ sheet_on S.opening (journal_of S) c.date → o ≡ None
     → items ≡ figures_shown S (take i cs) → items ≡ figures_shown S (take (i + 1) cs)
-line_passed S cs i c o items lt at told none was = sym (append-nil items) ∙ next S cs i c None items lt at (ap (option_map (λ s. figures s c.day)) (sym told ∙ none)) was
+line_passed S cs i c o items lt at told none was = sym (append-nil items) ∙ given_more (figures_at S) cs i c None items lt at (ap (option_map (λ s. figures s c.day)) (sym told ∙ none)) was
 
 -- one that it has a sheet of
 pub line_added : (S : State) (cs : List Close) (i : ℕ) (c : Close) (s t : DaySheet) (f : Figures) (items : List Figures) → i < length cs → get_or cs i c ≡ c
     → Some t ≡ sheet_on S.opening (journal_of S) c.date → s ≡ t → f.day ≡ c.day → f.date ≡ s.date → f.marks ≡ min (sum_by (λ r. unsigned_abs r.mark) s.rows) (2 ^ 128 - 1)
     → f.shorts ≡ min (count_by is_short s.rows) (2 ^ 64 - 1) → items ≡ figures_shown S (take i cs) → items ++ f ∷ [] ≡ figures_shown S (take (i + 1) cs)
 line_added S cs i c s t f items lt at told same day date marks shorts was =
-    next S cs i c (Some f) items lt at (ap (option_map (λ x. figures x c.day)) (sym told ∙ ap Some (sym same)) ∙ ap Some (figures_are s c.day f day date marks shorts)) was
+    given_more (figures_at S) cs i c (Some f) items lt at (ap (option_map (λ x. figures x c.day)) (sym told ∙ ap Some (sym same)) ∙ ap Some (figures_are s c.day f day date marks shorts)) was

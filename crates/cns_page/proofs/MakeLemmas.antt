@@ -1,6 +1,6 @@
 -- A page that was made, whatever the input is.
 -- For `survey_of`, `write_day`, `write_open`, `write_closed`, `write_own_day`, `write_own`, `records_of`, `write_past` and `make` of make.rt, `make_of` of entry.rt.
-use Rattle.std.proofs.Common.{◌≡◌, ◌≤◌, ◌-◌, ◌∙◌, ap, ℕ, Bool, List, Option, Some, None, Result, Ok, Err, IfSome, OnOk, length, take, slice_get, refl}
+use Rattle.std.proofs.Common.{◌≡◌, ◌≤◌, ◌∙◌, ap, ℕ, Bool, List, Option, Some, Result, Ok, Err, IfSome, OnOk, length, take, slice_get, refl, arith}
 use Rattle.std.proofs.lemmas.List.{take_all}
 use Rattle.cns_terms.specs.Common.{Account, Day, DaySheet, journal_of, opened}
 use Rattle.cns_terms.specs.Sheets.{sheet_on}
@@ -11,12 +11,11 @@ use Rattle.cns_history.specs.Lines.{history}
 use Rattle.cns_history.specs.Page.{HasHistory}
 use Rattle.cns_history.specs.declared.line.HistoryLine.{HistoryLine}
 use Rattle.cns_history.specs.declared.place.Place.{Place}
-use Rattle.cns_history.specs.declared.watched.Watched.TheVariants as watched
-use Rattle.cns_history.specs.declared.watched.Whose.TheVariants as whose
+use Rattle.cns_history.specs.declared.watched.Watched.{Watched}
 use Rattle.cns_page.specs.Listed.{records_before}
 use Rattle.cns_page.specs.Account.{ShowsAccount}
 use Rattle.cns_page.specs.Foot.{IsOrigin}
-use Rattle.cns_page.specs.Asked.{HasOwn, HasOwnDay, HasPage, HasPast, HasShown, IsOfRecords}
+use Rattle.cns_page.specs.Asked.{HasOwn, HasOwnDay, HasPage, HasPast, HasShown, IsOfRecords, own_watched}
 use Rattle.cns_page.specs.Shown.{AreContents, HasClosed, HasDay, IsOfDay}
 use Rattle.cns_page.specs.Survey.{ComesTo, IsChosen, Known, known, noted_all, nothing}
 use Rattle.cns_page.specs.Today.{HasToday, ShowsToday}
@@ -32,11 +31,12 @@ pub whole_known : (k from : Known) (opening : Day) (most : ℕ) (lines : List Li
 whole_known k from opening most lines few is = is ∙ ap (noted_all from (opened opening)) (take_all most lines few)
 
 -- what is gathered of a day, of what a play came to
-pub of_day : (opening : Day) (input : List ℕ) (from : ℕ) (close : Close) (linked : Bool) (log : Log) (s : Survey) (sheet : DaySheet) (o : Origin) (l : Contents) (bytes : ℕ)
-    → ComesTo opening from (take close.record (lines_of input)) log s → sheet_on log.opening (journal_of (state_of log)) close.date ≡ Some sheet
-    → AreContents log s close sheet linked l → IsOrigin (take bytes input) o → IsOfDay opening input from close linked log s sheet o l
-of_day opening input from close linked log s sheet o l bytes came closed gathered made_of =
-    record { taken = came.book; all_known = came.all_known; closed = closed; gathered = gathered; made_of = (bytes, made_of) }
+pub of_day : (opening : Day) (input : List ℕ) (from : ℕ) (close : Close) (w : Watched) (linked : Bool) (log : Log) (s : Survey) (sheet : DaySheet) (ls : List HistoryLine) (o : Origin) (l : Contents) (bytes : ℕ)
+    → ComesTo opening from (take close.record (lines_of input)) log s → ls ≡ history w 0 (opened opening) (take close.record (lines_of input))
+    → sheet_on log.opening (journal_of (state_of log)) close.date ≡ Some sheet
+    → AreContents log s close sheet ls linked l → IsOrigin (take bytes input) o → IsOfDay opening input from close w linked log s sheet ls o l
+of_day opening input from close w linked log s sheet ls o l bytes came told closed gathered made_of =
+    record { taken = came.book; all_known = came.all_known; closed = closed; watched = told; gathered = gathered; made_of = (bytes, made_of) }
 
 -- the page of the open day was
 pub open_made : {T E : Type 0} (r : Result T E) (opening : Day) (input : List ℕ) (from most : ℕ) (log : Log) (s : Survey) (old new : Option (List ℕ))
@@ -51,17 +51,15 @@ open_made (Ok x) opening input from most log s old new few came shown =
 pub closed_made : {T E : Type 0} (r : Result T E) (opening : Day) (input : List ℕ) (closes : List Close) (day : Option Day) (place : ℕ) (close : Close) (old new : Option (List ℕ))
     → IsChosen closes day place → slice_get closes place ≡ Some close → OnOk r (HasDay opening input (records_before closes place) close old new)
     → OnOk r (HasClosed opening input closes day old new)
-closed_made (Err e) opening input closes day place close old new chosen there shown = tt
-closed_made (Ok x) opening input closes day place close old new chosen there shown = record { place = place; chosen = chosen; close = close; there = there; shown = shown }
+closed_made r opening input closes day place close old new chosen there shown = grind arith
 
 -- what a day did to an account was written, with what is gathered of it
-pub own_day_made : {T E : Type 0} (r : Result T E) (a : Account) (opening : Day) (input : List ℕ) (from : ℕ) (close : Close) (linked : Bool) (log : Log) (s : Survey) (sheet : DaySheet) (o : Origin)
-    (l : Contents) (ls : List HistoryLine) (old new : Option (List ℕ)) → ls ≡ history (watched.Bookings (whose.One a) from) 0 (opened opening) (take (close.record - 1) (lines_of input))
-    → IsOfDay opening input from close linked log s sheet o l
+pub own_day_made : {T E : Type 0} (r : Result T E) (a : Account) (opening : Day) (input : List ℕ) (from : ℕ) (close : Close) (linked : Bool) (log : Log) (s : Survey) (sheet : DaySheet)
+    (ls : List HistoryLine) (o : Origin) (l : Contents) (old new : Option (List ℕ)) → IsOfDay opening input from close (own_watched a from close) linked log s sheet ls o l
     → OnOk r (ShowsAccount opening o log close sheet a linked ls s.findings.items l old new) → OnOk r (HasOwnDay a opening input from close old new)
-own_day_made (Err e) a opening input from close linked log s sheet o l ls old new are is shown = tt
-own_day_made (Ok x) a opening input from close linked log s sheet o l ls old new are is shown =
-    record { linked = linked; log = log; survey = s; sheet = sheet; origin = o; contents = l; is = is; shown = rw are at shown }
+own_day_made (Err e) a opening input from close linked log s sheet ls o l old new is shown = tt
+own_day_made (Ok x) a opening input from close linked log s sheet ls o l old new is shown =
+    record { linked = linked; log = log; survey = s; sheet = sheet; lines = ls; origin = o; contents = l; is = is; shown = shown }
 
 -- of the closed day that was chosen
 pub own_made : {T E : Type 0} (r : Result T E) (a : Account) (opening : Day) (input : List ℕ) (closes : List Close) (day : Option Day) (place : ℕ) (close : Close) (old new : Option (List ℕ))
@@ -78,8 +76,7 @@ up_to closes d most place close chosen there = (place, chosen, rw there refl)
 -- the history of a place was written, of so many records
 pub past_made : {T E : Type 0} (r : Result T E) (p : Place) (input : List ℕ) (closes : List Close) (most records : ℕ) (old new : Option (List ℕ))
     → IsOfRecords closes p.day most records → OnOk r (HasHistory p records input old new) → OnOk r (HasPast p input closes most old new)
-past_made (Err e) p input closes most records old new is shown = tt
-past_made (Ok x) p input closes most records old new is shown = (records, is, shown)
+past_made r p input closes most records old new is page = grind arith
 
 -- the page that is asked for was, by what is known of all records
 pub made : {T E : Type 0} (r : Result T E) (a : Asked) (about : About) (input : List ℕ) (s : Survey) (most : ℕ) (old new : Option (List ℕ))
@@ -90,12 +87,9 @@ made (Ok x) a about input s most old new few all_known is shown = record { most 
 
 -- what is not written to stays
 pub untouched : {T E : Type 0} (r : Result T E) (now : Option (List ℕ)) → OnOk r (now ≡ now)
-untouched (Err e) now = tt
-untouched (Ok x) now = refl
+untouched r now = grind arith
 
 -- of all that a reader gave, where that is known
 pub made_of : {T E : Type 0} (a : Asked) (given : Option (List ℕ)) (input : List ℕ) (old new : Option (List ℕ)) (r : Result T E)
     → IfSome given (λ bytes. input ≡ bytes) → OnOk r (HasPage a input old new) → OnOk r (IfSome given (λ bytes. HasPage a bytes old new))
-made_of a given input old new (Err e) is page = tt
-made_of a None input old new (Ok x) is page = tt
-made_of a (Some bytes) input old new (Ok x) is page = rw is at page
+made_of a given input old new r is page = grind arith

@@ -7,8 +7,7 @@ use Rattle.std.proofs.lemmas.List.Elements.{filter_more}
 -- one element more
 more : {X : Type 0} (p : X → Bool) (xs : List X) (i : ℕ) (x : X) (b : Bool) → i < length xs → get_or xs i x ≡ x → p x ≡ b
     → filter p (take (i + 1) xs) ≡ filter p (take i xs) ++ cond b (x ∷ []) []
-more p xs i x b lt at is =
-    filter_more p xs i x lt ∙ ap (λ z. filter p (take i xs) ++ cond (p z) (z ∷ []) []) at ∙ ap (λ b. filter p (take i xs) ++ cond b (x ∷ []) []) is
+more p xs i x b lt at is = filter_more p xs i x lt ∙ (λ j. filter p (take i xs) ++ cond ((ap p at ∙ is) j) (at j ∷ []) [])
 
 -- it passes, and its copy is added
 pub named_more : {X Y : Type 0} (g : X → Y) (p : X → Bool) (xs : List X) (i : ℕ) (x y : X) (items : List X) → i < length xs → get_or xs i x ≡ x → p x ≡ true → g y ≡ g x

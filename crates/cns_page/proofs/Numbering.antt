@@ -1,13 +1,12 @@
 -- The notices of a journal, by number.
 -- For `live_notices` of notices.rt.
-use Rattle.std.proofs.Common.{◌≡◌, ◌∙◌, sym, ap, refl, ℕ, zero, suc, ◌+◌, ◌-◌, ◌^◌, ◌≤◌, ◌<◌, ◌==◌, true, false, cond, List, [], ◌∷◌, ◌++◌, length, map, filter, find, Option, Some, None, append-nil, take, option_map, slice_get, length-append, arith}
+use Rattle.std.proofs.Common.{◌≡◌, ◌∙◌, sym, ap, refl, ℕ, zero, suc, ◌+◌, ◌-◌, ◌^◌, ◌≤◌, ◌<◌, ◌==◌, true, false, cond, List, [], ◌∷◌, ◌++◌, length, map, find, Option, Some, None, append-nil, take, option_map, slice_get, length-append, arith}
 use Rattle.std.specs.Option.{option_map_or}
-use Rattle.std.proofs.lemmas.Bool.Decides.{nat_tests}
 use Rattle.std.proofs.lemmas.List.{map-append, take_all}
 use Rattle.std.proofs.lemmas.List.Elements.{filter-append}
-use Rattle.cns_terms.specs.Common.{Day, IsReached, Journal, Notice, day, is_live, journal, notice, notice_at, noticed, notices, refusal, stage}
+use Rattle.std.proofs.lemmas.Bool.{eq-eqb, ne_eqb}
+use Rattle.cns_terms.specs.Common.{Day, IsReached, Journal, Notice, day, is_live, journal, notice, notice_at, noticed, notices, refusal}
 use Rattle.cns_terms.specs.declared.command.Activity.{Activity}
-use Rattle.cns_terms.specs.declared.command.Activity.TheVariants as activity
 use Rattle.cns_terms.specs.declared.command.Command.TheVariants as command
 use Rattle.cns_terms.specs.declared.command.Movement.{Movement}
 use Rattle.cns_book.specs.Shown.{notice_listed, notice_of}
@@ -29,24 +28,13 @@ push k (m ∷ ns) n all is = (all.0, push (k + 1) ns n all.1 (omega (arith, is))
 -- those of a journal
 all_numbered : (J : Journal) → AreNumbered 0 (notices J)
 all_numbered [] = tt
-all_numbered (p ∷ J) = by (noticed p.activity) (all_numbered J)
-  where
-    by : (o : Option Movement) → AreNumbered 0 (notices J) → AreNumbered 0 (option_map_or (λ m. notices J ++ (notice (length (notices J) + 1) (day J) m ∷ [])) o (notices J))
-    by None all = all
-    by (Some m) all = push 0 (notices J) (notice (length (notices J) + 1) (day J) m) all (omega arith)
-
-alike : (a b : ℕ) → a ≡ b → (a == b) ≡ true
-alike a b e = grind (arith, nat_tests)
-
-unlike : (a b : ℕ) → a < b → (a == b) ≡ false
-unlike a b lt = grind (arith, nat_tests)
+all_numbered (p ∷ J) = grind (arith, push, all_numbered J)
 
 -- the one with a number, by its place
 find_numbered : (k i t : ℕ) (ns : List Notice) → t ≡ k + i + 1 → AreNumbered k ns → find (λ n. n.number == t) ns ≡ slice_get ns i
 find_numbered k i t [] e all = refl
-find_numbered k zero t (n ∷ ns) e all = ap (λ b. cond b (Some n) (find (λ m. m.number == t) ns)) (alike n.number t (omega (arith, e, all.0)))
-find_numbered k (suc i) t (n ∷ ns) e all =
-    ap (λ b. cond b (Some n) (find (λ m. m.number == t) ns)) (unlike n.number t (omega (arith, e, all.0))) ∙ find_numbered (k + 1) i t ns (omega (arith, e)) all.1
+find_numbered k zero t (n ∷ ns) e all = rw (eq-eqb n.number t (omega (arith, e, all.0))) refl
+find_numbered k (suc i) t (n ∷ ns) e all = rw (ne_eqb n.number t (λ same. omega (arith, e, all.0, same))) (find_numbered (k + 1) i t ns (omega (arith, e)) all.1)
 
 -- the number of the one at a place
 number_at : (k i : ℕ) (ns : List Notice) (n : Notice) → AreNumbered k ns → slice_get ns i ≡ Some n → n.number ≡ k + i + 1
@@ -58,13 +46,11 @@ number_at k (suc i) (m ∷ ns) n all is = let later = number_at (k + 1) i ns n a
 
 -- an activity gives notice once
 length_by : (J : Journal) (o : Option Movement) → length (option_map_or (λ m. notices J ++ (notice (length (notices J) + 1) (day J) m ∷ [])) o (notices J)) ≤ length (notices J) + 1
-length_by J None = omega arith
-length_by J (Some m) = omega (arith, length-append (notices J) (notice (length (notices J) + 1) (day J) m ∷ []))
+length_by J o = grind (arith, length-append)
 
 -- the first activity is no notice
 first_is_none : (opening : Day) (x : Activity) → refusal opening [] (command.Activity x) ≡ None → noticed x ≡ None
-first_is_none opening (activity.Notice m) e = cc
-first_is_none opening _ e = refl
+first_is_none opening x e = grind arith
 
 -- fewer than the activities
 fewer : (opening : Day) (x : Activity) (L : List Activity) → IsReached opening (x ∷ L) → length (notices (journal opening (x ∷ L))) ≤ length L
@@ -90,8 +76,7 @@ module _ (J : Journal) (number : ℕ) (le : 1 ≤ number) where
 
   -- what is shown of none
   unmapped : (o : Option Notice) → option_map (notice_of J) o ≡ None → o ≡ None
-  unmapped None is = refl
-  unmapped (Some n) is = cc
+  unmapped o is = grind arith
 
   -- no notice is left
   pub live_ends : (n : ℕ) (items : List Numbered) → number - 1 ≤ n → notice_listed J number ≡ None → items ≡ live_among J (take (number - 1) (notices J)) → items ≡ live_among J (take n (notices J))
@@ -99,9 +84,7 @@ module _ (J : Journal) (number : ℕ) (le : 1 ≤ number) where
 
   -- of some and others
   append : (ns ms : List Notice) → live_among J (ns ++ ms) ≡ live_among J ns ++ live_among J ms
-  append ns ms =
-      ap (map (numbered J)) (filter-append (λ n. is_live (stage J n)) ns ms)
-      ∙ map-append (numbered J) (filter (λ n. is_live (stage J n)) ns) (filter (λ n. is_live (stage J n)) ms)
+  append ns ms = simp (filter-append, map-append)
 
   -- one more
   onward : (n : Notice) (items : List Numbered) → notice_at J number ≡ Some n → items ≡ live_among J (take (number - 1) (notices J))
@@ -111,29 +94,24 @@ module _ (J : Journal) (number : ℕ) (le : 1 ≤ number) where
       ap (λ ns. ns ++ live_among J (n ∷ [])) was ∙ sym (append (take (number - 1) (notices J)) (n ∷ []))
       ∙ ap (live_among J) (sym (take_next (notices J) (number - 1) n (sym there ∙ is)) ∙ ap (λ k. take k (notices J)) later)
 
+  -- the one that is shown
+  mapped : (s : Shown) (o : Option Notice) → option_map (notice_of J) o ≡ Some s → (n : Notice) × (o ≡ Some n) × (notice_of J n ≡ s)
+  mapped s None is = cc
+  mapped s (Some n) is = (n, refl, cc)
+
   -- one that is not live
   pub live_passed : (s : Shown) (items : List Numbered) → notice_listed J number ≡ Some s → is_live s.stage ≡ false → items ≡ live_among J (take (number - 1) (notices J))
       → items ≡ live_among J (take (number + 1 - 1) (notices J))
-  live_passed s items shown dead was = by (notice_at J number) refl shown
-    where
-      by : (o : Option Notice) → notice_at J number ≡ o → option_map (notice_of J) o ≡ Some s → items ≡ live_among J (take (number + 1 - 1) (notices J))
-      by None is shown = cc
-      by (Some n) is shown =
-          let same : notice_of J n ≡ s = cc in
-          let none : is_live (stage J n) ≡ false = ap (λ x. is_live x.stage) same ∙ dead in
-          sym (append-nil items) ∙ ap (λ b. items ++ map (numbered J) (cond b (n ∷ []) [])) (sym none) ∙ onward n items is was
+  live_passed s items shown dead was =
+      let (n, is, same) = mapped s (notice_at J number) shown in
+      sym (append-nil items) ∙ ap (λ b. items ++ map (numbered J) (cond b (n ∷ []) [])) (sym (ap (λ x. is_live x.stage) same ∙ dead)) ∙ onward n items is was
 
   -- one that is live
   pub live_added : (s : Shown) (items : List Numbered) → notice_listed J number ≡ Some s → is_live s.stage ≡ true → items ≡ live_among J (take (number - 1) (notices J))
       → items ++ record { number = number; notice = s } ∷ [] ≡ live_among J (take (number + 1 - 1) (notices J))
-  live_added s items shown live was = by (notice_at J number) refl shown
-    where
-      by : (o : Option Notice) → notice_at J number ≡ o → option_map (notice_of J) o ≡ Some s → items ++ record { number = number; notice = s } ∷ [] ≡ live_among J (take (number + 1 - 1) (notices J))
-      by None is shown = cc
-      by (Some n) is shown =
-          let same : notice_of J n ≡ s = cc in
-          let alive : is_live (stage J n) ≡ true = ap (λ x. is_live x.stage) same ∙ live in
-          let at = number_at 0 (number - 1) (notices J) n (all_numbered J) (sym there ∙ is) in
-          let its : n.number ≡ number = omega (arith, at) in
-          let pushed : numbered J n ≡ record { number = number; notice = s } = λ i. record { number = its i; notice = same i } in
-          ap (λ x. items ++ x ∷ []) (sym pushed) ∙ ap (λ b. items ++ map (numbered J) (cond b (n ∷ []) [])) (sym alive) ∙ onward n items is was
+  live_added s items shown live was =
+      let (n, is, same) = mapped s (notice_at J number) shown in
+      let at = number_at 0 (number - 1) (notices J) n (all_numbered J) (sym there ∙ is) in
+      let its : n.number ≡ number = omega (arith, at) in
+      let pushed : numbered J n ≡ record { number = number; notice = s } = λ i. record { number = its i; notice = same i } in
+      ap (λ x. items ++ x ∷ []) (sym pushed) ∙ ap (λ b. items ++ map (numbered J) (cond b (n ∷ []) [])) (sym (ap (λ x. is_live x.stage) same ∙ live)) ∙ onward n items is was

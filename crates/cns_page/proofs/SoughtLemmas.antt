@@ -1,6 +1,6 @@
 -- What is looked for in a history, entry by entry.
 -- For `first` and `waiting` of sought.rt.
-use Rattle.std.proofs.Common.{◌≡◌, ◌∙◌, sym, ap, ℕ, ◌+◌, ◌-◌, ◌^◌, ◌≤◌, ◌<◌, List, [], ◌∷◌, ◌++◌, Option, Some, None, take, drop, reverse, slice_get, filter, filter_map, map, min, arith, ◌==◌, ◌&&◌, if◌then◌else◌}
+use Rattle.std.proofs.Common.{◌≡◌, ◌∙◌, sym, ap, ℕ, ◌+◌, ◌-◌, ◌^◌, ◌≤◌, ◌<◌, List, [], ◌∷◌, ◌++◌, Option, Some, None, take, drop, reverse, slice_get, map, min, arith, ◌==◌, ◌&&◌, if◌then◌else◌}
 use Rattle.std.specs.Option.{option_to_list}
 use Rattle.std.specs.Prelude.{sum_by}
 use Rattle.std.proofs.Math.Seq.{take-add}
@@ -15,23 +15,20 @@ use Rattle.cns_terms.specs.declared.history.Taken.{Taken}
 use Rattle.cns_terms.specs.declared.pend.Pend.{Pend}
 use Rattle.cns_account.proofs.Walked.{entries_end, entry_more}
 use Rattle.cns_book.specs.Shown.{entry_at}
-use Rattle.cns_page.specs.Listed.{if_accepted, looked_at}
-use Rattle.cns_page.specs.Sought.{activity_in, first_sought, is_sought, sought_among, waiting_in, with_trade}
+use Rattle.cns_page.specs.Listed.{looked_at}
+use Rattle.cns_page.specs.Sought.{first_sought, sought_among, waiting_in, with_trade}
 use Rattle.cns_page.specs.declared.sought.Sought.{Sought}
 
 -- ---- an activity that is looked for
 
 -- among some entries and others
 append : (s : Sought) (ts us : List Taken) → sought_among s (ts ++ us) ≡ sought_among s ts ++ sought_among s us
-append s ts us =
-    ap (filter (is_sought s)) (filter_map-append (λ t. if_accepted t.reply (activity_in t.command)) ts us)
-    ∙ filter-append (is_sought s) (filter_map (λ t. if_accepted t.reply (activity_in t.command)) ts) (filter_map (λ t. if_accepted t.reply (activity_in t.command)) us)
+append s ts us = simp (filter_map-append, filter-append)
 
 module _ (s : Sought) (H : List Taken) (place : ℕ) (le : 1 ≤ place) (was : sought_among s (take (place - 1) (reverse H)) ≡ []) where
   -- one entry more
   next : (t : Taken) (o : Option Activity) → entry_at H place ≡ Some t → sought_among s (t ∷ []) ≡ option_to_list o → sought_among s (take (place + 1 - 1) (reverse H)) ≡ option_to_list o
-  next t o there is =
-      ap (sought_among s) (sym (entry_more H place t le there)) ∙ append s (take (place - 1) (reverse H)) (t ∷ []) ∙ ap (λ xs. xs ++ sought_among s (t ∷ [])) was ∙ is
+  next t o there is = rw (← entry_more H place t le there, append, was) is
 
   -- one that is not looked for
   pub sought_passed : (t : Taken) → entry_at H place ≡ Some t → sought_among s (t ∷ []) ≡ [] → sought_among s (take (place + 1 - 1) (reverse H)) ≡ []

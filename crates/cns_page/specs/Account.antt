@@ -52,9 +52,9 @@ own_fails a S sheet l = map (fail_at S l.past sheet.date) (filter (λ s. s.row.a
 -- the rows of the page of the day that a close ends, among those of the page of the day, and by the lines of what the day's records
 -- booked and the refused records
 pub record AreOwn (a : Account) (S : State) (sheet : DaySheet) (ls : List HistoryLine) (fs : List Finding) (l : Contents) (own : Own) : Type 0 where
-  pub day : IsAccountDay S sheet a ls own.day
+  pub day : IsAccountDay S sheet a l.moves ls own.day
   pub trades : own.trades.items ≡ filter (is_party a) l.trades.items
-  pub due : own.due.items ≡ projected_all S a own.trades.items sheet.prices
+  pub due : own.due.items ≡ projected_all S a l.pending sheet.prices
   pub dividends : own.dividends.items ≡ dividends_paid S l.past a sheet
   pub fails : own.fails.items ≡ own_fails a S sheet l
   pub liable : own.liable.items ≡ filter (λ o. o.liable.member == a) l.liable.items

@@ -1,11 +1,12 @@
 -- The page that is asked for.
-use Rattle.std.specs.Prelude.{◌≡◌, ◌≤◌, ℕ, ◌-◌, Bool, IfSome, List, length, take, slice_get, Option, None, Some}
+use Rattle.std.specs.Prelude.{◌≡◌, ◌≤◌, ℕ, ◌-◌, Bool, IfSome, List, length, slice_get, Option, None, Some}
 use Rattle.cns_terms.specs.Common.{Account, Day, DaySheet, opened}
 use Rattle.cns_book.specs.Log.{Log}
 use Rattle.cns_feed.specs.Output.{lines_of}
-use Rattle.cns_history.specs.Lines.{history}
 use Rattle.cns_history.specs.Page.{HasHistory}
 use Rattle.cns_history.specs.declared.place.Place.{Place}
+use Rattle.cns_history.specs.declared.line.HistoryLine.{HistoryLine}
+use Rattle.cns_history.specs.declared.watched.Watched.{Watched}
 use Rattle.cns_history.specs.declared.watched.Watched.TheVariants as watched
 use Rattle.cns_history.specs.declared.watched.Whose.TheVariants as whose
 use Rattle.cns_page.specs.Account.{ShowsAccount}
@@ -40,18 +41,23 @@ IsOfRecords closes (Some d) most records =
 abbrev pub HasPast : Place → List ℕ → List Close → ℕ → Option (List ℕ) → Option (List ℕ) → Type 0
 HasPast p input closes most old new = (records : ℕ) × IsOfRecords closes p.day most records × HasHistory p records input old new
 
+-- what is watched for an account's page: what the day's records book for it, from the close before, which books what was due, up to
+-- the record before the day's own close
+abbrev pub own_watched : Account → ℕ → Close → Watched
+own_watched a from c = watched.Bookings (whose.One a) from (c.record - 1)
+
 -- what the day that a close ends did to an account: with what is gathered of the day, and with the refused records of the day that
--- name the account. The record before the day's books what was due
+-- name the account
 pub record HasOwnDay (a : Account) (opening : Day) (input : List ℕ) (from : ℕ) (close : Close) (old new : Option (List ℕ)) : Type 0 where
   pub linked : Bool
   pub log : Log
   pub survey : Survey
   pub sheet : DaySheet
+  pub lines : List HistoryLine
   pub origin : Origin
   pub contents : Contents
-  pub is : IsOfDay opening input from close linked log survey sheet origin contents
-  pub shown : ShowsAccount opening origin log close sheet a linked
-      (history (watched.Bookings (whose.One a) from) 0 (opened opening) (take (close.record - 1) (lines_of input))) survey.findings.items contents old new
+  pub is : IsOfDay opening input from close (own_watched a from close) linked log survey sheet lines origin contents
+  pub shown : ShowsAccount opening origin log close sheet a linked lines survey.findings.items contents old new
 
 -- of the closed day with the date, or of the last one
 pub record HasOwn (a : Account) (opening : Day) (input : List ℕ) (closes : List Close) (day : Option Day) (old new : Option (List ℕ)) : Type 0 where

@@ -1,47 +1,88 @@
 -- What is due of an account in each issue.
-use Rattle.std.specs.Prelude.{ℕ, ℤ, pos, ◌+ℤ◌, ◌-ℤ◌, neg_ℤ, Bool, not, ◌&&◌, ◌||◌, ◌==◌, if◌then◌else◌, bytes_eq, List, [], ◌∷◌, filter, map}
+use Rattle.std.specs.Prelude.{◌≡◌, ℕ, pos, ◌+ℤ◌, ◌-ℤ◌, Bool, not, ◌&&◌, if◌then◌else◌, List, [], ◌∷◌, filter, map, Option, Some, None, unwrap_or}
+use Rattle.std.specs.BTreeMap.{get}
 use Rattle.std.specs.Int.{int_wrap, w64}
 use Rattle.std.specs.List.{fold}
-use Rattle.std.specs.Ordering.{int_eq}
+use Rattle.std.specs.Ordering.{is_eq, int_eq}
 use Rattle.cns_terms.specs.Common.{Account, Cusip, Price, State}
-use Rattle.cns_history.specs.Lines.{standing}
+use Rattle.cns_terms.specs.Entries.{trade_entries}
+use Rattle.cns_terms.specs.Keys.{key_cmp}
+use Rattle.cns_terms.specs.Pending.{pend_of}
+use Rattle.cns_terms.specs.declared.holding.Entry.{Entry}
+use Rattle.cns_terms.specs.declared.holding.Key.{Key}
+use Rattle.cns_history.specs.Lines.{place, standing}
 use Rattle.cns_tables.specs.Tables.{row_of}
 use Rattle.cns_tables.specs.declared.piece.Piece.TheVariants as piece
 use Rattle.cns_tables.specs.declared.table.TheConstants.{ROW}
+use Rattle.cns_page.specs.declared.due.DueAt.{DueAt}
 use Rattle.cns_page.specs.declared.due.Projected.{Projected}
+use Rattle.cns_page.specs.declared.pending.PendingAt.{PendingAt}
+use Rattle.cns_page.specs.declared.pending.PendingShares.{PendingShares}
 use Rattle.cns_page.specs.declared.projection.Due.{Due}
 
--- with a trade of the account, where it is pending in the issue, as much of the sum as fits
-abbrev pub with_trade : Account → Cusip → ℤ → Due → ℤ
-with_trade a c z d =
-    if d.is_booked || not (bytes_eq d.trade.issue c) then z
-    else int_wrap w64 (z +ℤ (if d.trade.buyer == a then pos d.trade.shares else neg_ℤ (pos d.trade.shares)))
+-- ---- pending shares
 
--- the shares of an account's pending trades in an issue, one after another
-abbrev pub pending_in : Account → Cusip → List Due → ℤ
-pending_in a c ds = fold (with_trade a c) (pos 0) ds
+-- none
+abbrev pub no_shares : PendingAt
+no_shares = record { shares = pos 0 }
 
--- what is due in an issue, in the state after a close, by the account's trades
-abbrev pub projected : State → Account → List Due → Cusip → Projected
-projected S a ds c =
-    let h = standing S (record { account = a; issue = c }) in
+-- with those of a side of a trade, or none where the trade was booked; as much of the sum as fits
+abbrev pub with_shares : Bool → PendingAt → Entry → PendingAt
+with_shares booked p e = record { shares = int_wrap w64 (p.shares +ℤ (if booked then pos 0 else e.shares)) }
+
+-- the same at a place
+abbrev pub with_side : Bool → Key → Option PendingAt → Entry → Option PendingAt
+with_side booked k o e =
+    if is_eq (key_cmp (record { account = e.account; issue = e.issue }) k) then Some (with_shares booked (unwrap_or o no_shares) e) else o
+
+-- with both sides
+abbrev pub with_due : Key → Option PendingAt → Due → Option PendingAt
+with_due k o d = fold (with_side d.is_booked k) o (trade_entries (pend_of d.trade))
+
+-- the pending shares at a place, where a trade names it
+abbrev pub pending_at : List Due → Key → Option PendingAt
+pending_at ds k = fold (with_due k) None ds
+
+-- those at each place
+abbrev pub ArePending : List Due → PendingShares → Type 0
+ArePending ds ps = (k : Key) → get key_cmp ps.shares k ≡ pending_at ds k
+
+-- ---- rows
+
+-- what is due at a place, in the state after a close, by the shares that are pending
+abbrev pub projected : State → PendingShares → Key → Projected
+projected S ps k =
+    let h = standing S k in
     record {
-      issue = c;
+      issue = k.issue;
       closing = h.opening;
       booked = h.now -ℤ h.opening;
       due = h.now;
-      after = int_wrap w64 (h.now +ℤ pending_in a c ds);
+      after = int_wrap w64 (h.now +ℤ (unwrap_or (get key_cmp ps.shares k) no_shares).shares);
     }
+
+-- the same, with the account
+abbrev pub due_at : State → PendingShares → Key → DueAt
+due_at S ps k = record { account = k.account; projected = projected S ps k }
 
 -- whether nothing is due, and nothing was
 abbrev pub is_idle : Projected → Bool
 is_idle p = int_eq p.closing (pos 0) && int_eq p.due (pos 0) && int_eq p.after (pos 0)
 
--- what is due in each of the issues, where anything is or was
-abbrev pub projected_all : State → Account → List Due → List (Cusip × Price) → List Projected
-projected_all S a ds prices = filter (λ p. not (is_idle p)) (map (λ e. projected S a ds e.0) prices)
+-- what is due of an account in each of the issues, where anything is or was
+abbrev pub projected_all : State → Account → PendingShares → List (Cusip × Price) → List Projected
+projected_all S a ps prices = filter (λ p. not (is_idle p)) (map (λ e. projected S ps (place a e.0)) prices)
+
+-- ---- texts
 
 -- the issue, the closing position, what the close booked, what is due on the next day, and after all
 abbrev pub projected_text : Projected → List ℕ
 projected_text p =
     row_of ROW.now (piece.Issue p.issue) (piece.Signed p.closing ∷ piece.Signed p.booked ∷ piece.Signed p.due ∷ piece.Signed p.after ∷ [])
+
+-- the same, with the account
+abbrev pub due_at_text : DueAt → List ℕ
+due_at_text d =
+    let p = d.projected in
+    row_of ROW.now (piece.Issue p.issue)
+    (piece.Number d.account ∷ piece.Signed p.closing ∷ piece.Signed p.booked ∷ piece.Signed p.due ∷ piece.Signed p.after ∷ [])

@@ -11,7 +11,7 @@ use Rattle.cns_tables.specs.Escape.{escaped}
 use Rattle.cns_tables.specs.Grouped.{count_text}
 use Rattle.cns_tables.specs.Pieces.{piece_text}
 use Rattle.cns_tables.specs.Tables.{texts}
-use Rattle.cns_page.specs.declared.exceptions.TheConstants.{AND, BOUGHT, BUYER, BUYS, DAY, EXCHANGED, FOR, FROM, GIVEN, GIVEN_END, GIVEN_ON, IN, INVALID, IS, MEMBER, NOTICE, OF, PENDING, POSITION_OF, PRICE_OF, REFUSED, REFUSED_END, REMAIN, RETIRED, ROOM, SOLD, TODAY, TRADE, WAITING}
+use Rattle.cns_page.specs.declared.exceptions.TheConstants.{AND, BOUGHT, BUYER, BUYS, DAY, EXCHANGED, FOR, FROM, GIVEN, GIVEN_END, GIVEN_ON, IN, INVALID, IS, MEMBER, NOTICE, OF, PENDING, POSITION_OF, PRICE_OF, PUT_RIGHT, REFUSED, REFUSED_END, REMAIN, RETIRED, ROOM, SOLD, TODAY, TRADE, WAITING}
 use Rattle.cns_page.specs.declared.finding.Exchanged.{Exchanged}
 use Rattle.cns_page.specs.declared.finding.Fact.{Fact}
 use Rattle.cns_page.specs.declared.finding.Fact.TheVariants as fact
@@ -83,6 +83,12 @@ reason_text (outcome.Refused r) words = texts (REFUSED.now ∷ decimal (refusal_
 abbrev pub record_text : Finding → List ℕ
 record_text f = texts (ROW.now ∷ decimal f.record ∷ GIVEN.now ∷ escaped (string_bytes f.text) ∷ GIVEN_END.now ∷ [])
 
--- an exception: its number, its text, why it is one, and what decided it
+-- the record that put it right, if one did
+abbrev pub put_right_text : Option ℕ → List ℕ
+put_right_text None = []
+put_right_text (Some n) = texts (PUT_RIGHT.now ∷ decimal n ∷ [])
+
+-- an exception: its number, its text, why it is one, what decided it, and the record that put it right
 abbrev pub finding_text : Finding → List ℕ
-finding_text f = record_text f ++ (reason_text f.outcome f.words.now ++ (flat_map fact_text f.facts ++ 10 ∷ []))
+finding_text f =
+    record_text f ++ (reason_text f.outcome f.words.now ++ (flat_map fact_text f.facts ++ (put_right_text f.put_right ++ 10 ∷ [])))

@@ -1,4 +1,5 @@
-pub mod Split
+pub mod Sums
+pub mod Issues
 pub mod Figures
 pub mod Exceptions
 pub mod Accounts

@@ -7,8 +7,10 @@ use Rattle.cns_tables.specs.Grouped.{count_text}
 use Rattle.cns_tables.specs.Tables.{table_text, texts}
 use Rattle.cns_tables.specs.declared.style.TheConstants.{STYLE}
 use Rattle.cns_page.specs.Accounts.{line_text}
+use Rattle.cns_page.specs.Due.{due_at_text}
 use Rattle.cns_page.specs.Exceptions.{finding_text}
 use Rattle.cns_page.specs.Foot.{foot_text}
+use Rattle.cns_page.specs.Issues.{issue_line_text}
 use Rattle.cns_page.specs.Rows.{counted_text, due_text, figures_text, notice_row, owing_text, short_text, span_text}
 use Rattle.cns_page.specs.declared.captions.Captions.{Captions}
 use Rattle.cns_page.specs.declared.contents.Contents.{Contents}
@@ -46,8 +48,8 @@ begin_text h = head_text h ++ (links_text h ++ MAIN.now)
 -- how many rows each table has
 abbrev pub row_counts : Survey → Contents → List Span → List ℕ
 row_counts s l spans =
-    length s.findings.items ∷ length l.reasons.items ∷ length l.lines.items ∷ length l.shorts.items ∷ length l.liable.items
-    ∷ length l.notices.items ∷ length l.trades.items ∷ length l.days.items ∷ length spans ∷ []
+    length s.findings.items ∷ length l.reasons.items ∷ length l.lines.items ∷ length l.issues.items ∷ length l.shorts.items ∷ length l.liable.items
+    ∷ length l.notices.items ∷ length l.due.items ∷ length l.trades.items ∷ length l.days.items ∷ length spans ∷ []
 
 -- the sum of some counts, as far as it goes
 abbrev pub sum_of : List ℕ → ℕ
@@ -59,9 +61,11 @@ page_text t opening s l spans o =
     begin_text l.head ++ (table_text finding_text t.exceptions s.findings.items
     ++ (table_text counted_text t.reasons l.reasons.items
     ++ (table_text line_text t.accounts l.lines.items
+    ++ (table_text issue_line_text t.issues l.issues.items
     ++ (table_text short_text t.fails l.shorts.items
     ++ (table_text owing_text t.liable l.liable.items
     ++ (table_text notice_row t.notices l.notices.items
+    ++ (table_text due_at_text t.due l.due.items
     ++ (table_text due_text t.projection l.trades.items
     ++ (table_text figures_text t.days l.days.items
-    ++ (table_text span_text t.totals spans ++ foot_text opening (Some l.head.date) o (sum_of (row_counts s l spans)))))))))))
+    ++ (table_text span_text t.totals spans ++ foot_text opening (Some l.head.date) o (sum_of (row_counts s l spans)))))))))))))

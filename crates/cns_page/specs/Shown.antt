@@ -9,9 +9,18 @@ use Rattle.cns_terms.specs.Sheets.{sheet_on}
 use Rattle.cns_book.specs.Log.{Log, state_of}
 use Rattle.cns_feed.specs.Output.{lines_of}
 use Rattle.cns_feed.specs.Replay.{blank_log, log_after}
+use Rattle.std.specs.BTreeMap.{IsOrdered}
+use Rattle.cns_terms.specs.Keys.{key_cmp}
+use Rattle.cns_history.specs.Lines.{history}
+use Rattle.cns_history.specs.declared.line.HistoryLine.{HistoryLine}
+use Rattle.cns_history.specs.declared.watched.Watched.{Watched}
+use Rattle.cns_history.specs.declared.watched.Watched.TheVariants as watched
+use Rattle.cns_account.specs.Moves.{AreMoves}
 use Rattle.cns_account.specs.Past.{IsPast}
 use Rattle.cns_page.specs.Accounts.{sheet_lines}
+use Rattle.cns_page.specs.Due.{ArePending, due_at}
 use Rattle.cns_page.specs.Foot.{IsOrigin}
+use Rattle.cns_page.specs.Issues.{AreIssues}
 use Rattle.cns_page.specs.Listed.{IsInOrderOf, counted, counts, counts_shown, date_before, due, figures_shown, last_closes, later_among, liable_shown, live_shown, looked_at, records_before, shorts_among, spans_shown}
 use Rattle.cns_page.specs.Page.{page_text}
 use Rattle.cns_page.specs.Survey.{IsChosen, known, noted_all, nothing}
@@ -55,15 +64,20 @@ head_shown log s c linked = record {
   is_linked = linked;
 }
 
--- the rows of a page, of the day that a close ends, with links or without
-pub record AreContents (log : Log) (s : Survey) (c : Close) (sheet : DaySheet) (linked : Bool) (l : Contents) : Type 0 where
+-- the rows of a page, of the day that a close ends, by the lines of what was watched of its records, with links or without
+pub record AreContents (log : Log) (s : Survey) (c : Close) (sheet : DaySheet) (ls : List HistoryLine) (linked : Bool) (l : Contents) : Type 0 where
   pub head : l.head ≡ head_shown log s c linked
   pub reasons : map counted l.reasons.items ≡ counts_shown s.reasons.items
-  pub lines : l.lines.items ≡ sheet_lines sheet linked
+  pub moves : AreMoves (date_before s.closes.items) c.date (looked_at log.history) ls l.moves
+  pub lines : l.lines.items ≡ sheet_lines sheet l.moves linked
+  pub issues : AreIssues sheet.rows l.issues.items
   pub shorts : AreShorts log sheet l.shorts.items
   pub liable : l.liable.items ≡ liable_shown (state_of log) c.day
   pub notices : l.notices.items ≡ live_shown (state_of log)
   pub trades : (ts : List Trade) × AreLater log sheet ts × (l.trades.items ≡ map (due (next_day log)) ts)
+  pub pending : ArePending l.trades.items l.pending
+  pub due : l.due.items ≡ map (λ e. due_at (state_of log) l.pending e.0) l.pending.shares.entries
+  pub rising : IsOrdered key_cmp l.pending.shares
   pub days : l.days.items ≡ days_shown log s
   pub past : IsPast (looked_at log.history) l.past
 
@@ -74,14 +88,20 @@ pub record ShowsDay (opening : Day) (origin : Origin) (s : Survey) (l : Contents
   pub totals : map counts spans ≡ spans_shown s
   pub written : Appends old new (page_text captions opening s l spans origin)
 
--- what is gathered of the day that a close ends: by a book that took the records up to that close and no more, and with the sheet
--- that the book has. The day's records are those after the one with the number; the origin is that of some first bytes of the input
-pub record IsOfDay (opening : Day) (input : List ℕ) (from : ℕ) (close : Close) (linked : Bool) (log : Log) (s : Survey) (sheet : DaySheet) (o : Origin) (l : Contents) : Type 0 where
+-- what is gathered of the day that a close ends: by a book that took the records up to that close and no more, with the sheet that
+-- the book has, and by the lines of what is watched. The day's records are those after the one with the number; the origin is that of
+-- some first bytes of the input
+pub record IsOfDay (opening : Day) (input : List ℕ) (from : ℕ) (close : Close) (w : Watched) (linked : Bool) (log : Log) (s : Survey) (sheet : DaySheet) (ls : List HistoryLine) (o : Origin) (l : Contents) : Type 0 where
   pub taken : log ≡ log_after (blank_log opening) (take close.record (lines_of input))
   pub all_known : known s ≡ noted_all (nothing from) (opened opening) (take close.record (lines_of input))
   pub closed : sheet_on log.opening (journal_of (state_of log)) close.date ≡ Some sheet
-  pub gathered : AreContents log s close sheet linked l
+  pub watched : ls ≡ history w 0 (opened opening) (take close.record (lines_of input))
+  pub gathered : AreContents log s close sheet ls linked l
   pub made_of : (bytes : ℕ) × IsOrigin (take bytes input) o
+
+-- what is watched for the page of a day: what each of its records books that is neither a trade nor a close
+abbrev pub day_watched : ℕ → Close → Watched
+day_watched from c = watched.Movements (min (from + 1) (2 ^ 64 - 1)) c.record
 
 -- the day that a close ends
 pub record HasDay (opening : Day) (input : List ℕ) (from : ℕ) (close : Close) (old new : Option (List ℕ)) : Type 0 where
@@ -89,9 +109,10 @@ pub record HasDay (opening : Day) (input : List ℕ) (from : ℕ) (close : Close
   pub log : Log
   pub survey : Survey
   pub sheet : DaySheet
+  pub lines : List HistoryLine
   pub origin : Origin
   pub contents : Contents
-  pub is : IsOfDay opening input from close linked log survey sheet origin contents
+  pub is : IsOfDay opening input from close (day_watched from close) linked log survey sheet lines origin contents
   pub shown : ShowsDay opening origin survey contents old new
 
 -- the day of the close at a place

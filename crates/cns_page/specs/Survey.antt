@@ -1,7 +1,11 @@
 -- What is known of the records of an input: which of them are exceptions, and which closed a day.
-use Rattle.std.specs.Prelude.{◌≡◌, ◌<◌, ℕ, ◌+◌, ◌-◌, ◌^◌, List, [], ◌∷◌, ◌++◌, if◌then◌else◌, length, map, min, nat_lt, slice_get, Option, Some, None, IfSome, Ok, Err}
+use Rattle.std.specs.Prelude.{◌≡◌, ◌<◌, ℕ, ◌+◌, ◌-◌, ◌^◌, ◌==◌, ◌&&◌, Bool, false, is_none, List, [], ◌∷◌, ◌++◌, if◌then◌else◌, length, map, min, nat_lt, slice_get, Option, Some, None, IfSome, Ok, Err}
+use Rattle.std.specs.Option.{option_map_or}
 use Rattle.cns_terms.specs.Common.{Day, State, answer, opened}
 use Rattle.cns_terms.specs.Numbers.{refusal_number}
+use Rattle.cns_terms.specs.declared.command.Activity.TheVariants as activity
+use Rattle.cns_terms.specs.declared.command.Command.{Command}
+use Rattle.cns_terms.specs.declared.command.Command.TheVariants as command
 use Rattle.cns_terms.specs.declared.refusal.Refusal.{Refusal}
 use Rattle.cns_terms.specs.declared.reply.Closed.{Closed}
 use Rattle.cns_terms.specs.declared.reply.Reply.{Reply}
@@ -13,6 +17,9 @@ use Rattle.cns_feed.specs.Replay.{blank_log, log_after, log_after_line}
 use Rattle.cns_feed.specs.Records.{IsReady, Pending}
 use Rattle.cns_feed.specs.declared.records.Records.{Records}
 use Rattle.cns_feed.specs.declared.fault.LineFault.{LineFault}
+use Rattle.cns_history.specs.Lines.{lines_of}
+use Rattle.cns_history.specs.declared.line.HistoryLine.{HistoryLine}
+use Rattle.cns_history.specs.declared.watched.Watched.{Watched}
 use Rattle.cns_page.specs.declared.finding.Finding.{Finding}
 use Rattle.cns_page.specs.declared.finding.Outcome.{Outcome}
 use Rattle.cns_page.specs.declared.finding.Outcome.TheVariants as outcome
@@ -30,14 +37,22 @@ pub data Why : Type 0 where
   at_fault : LineFault → Why
   refused : Refusal → Why
 
+-- an exception: the number of its record, from 1, why it is one, the reference of a trade, and the number of the first later record
+-- whose trade with that reference was accepted
+pub record Exception : Type 0 where
+  pub number : ℕ
+  pub why : Why
+  pub reference : Option ℕ
+  pub put_right : Option ℕ
+
 -- what is known of records: how many there are, how many of them are exceptions, and the accepted closes; and of those after one
--- of them, the exceptions' reasons, and the first 200 of these with the numbers of their records, from 1
+-- of them, the exceptions' reasons, and the first 200 of these
 pub record Known : Type 0 where
   pub from : ℕ
   pub records : ℕ
   pub exceptions : ℕ
   pub reasons : List Why
-  pub first : List (ℕ × Why)
+  pub first : List Exception
   pub closes : List Closing
 
 -- of no records
@@ -53,31 +68,50 @@ abbrev pub one_more : Known → Known
 one_more k = record k { exceptions = min (k.exceptions + 1) (2 ^ 64 - 1) }
 
 -- it is one of the first, too
-abbrev pub first_too : Known → Why → Known
-first_too k w = record k { first = k.first ++ (k.records, w) ∷ [] }
+abbrev pub first_too : Known → Why → Option ℕ → Known
+first_too k w r = record k { first = k.first ++ record { number = k.records; why = w; reference = r; put_right = None } ∷ [] }
 
 -- its reason, where it is looked at closely
-abbrev pub of_day : Known → Why → Known
-of_day k w = let with = record k { reasons = k.reasons ++ w ∷ [] } in if nat_lt (length k.first) 200 then first_too with w else with
+abbrev pub of_day : Known → Why → Option ℕ → Known
+of_day k w r = let with = record k { reasons = k.reasons ++ w ∷ [] } in if nat_lt (length k.first) 200 then first_too with w r else with
 
--- it is an exception
-abbrev pub wanted : Known → Why → Known
-wanted k w = if nat_lt k.from k.records then of_day (one_more k) w else one_more k
+-- it is an exception, of a command with the reference, if it is a trade
+abbrev pub wanted : Known → Why → Option ℕ → Known
+wanted k w r = if nat_lt k.from k.records then of_day (one_more k) w r else one_more k
+
+-- the reference of a trade
+abbrev pub reference_of : Command → Option ℕ
+reference_of (command.Activity (activity.Trade t)) = Some t.reference
+reference_of _ = None
+
+-- whether a reference is the one
+abbrev pub is_reference : ℕ → Option ℕ → Bool
+is_reference r o = option_map_or (λ q. q == r) o false
+
+-- an exception, where a trade with a reference was accepted by the record with a number
+abbrev pub put_right_by : ℕ → ℕ → Exception → Exception
+put_right_by n r e = if is_none e.put_right && is_reference r e.reference then record e { put_right = Some n } else e
+
+-- a trade with the reference was accepted, if it was one
+abbrev pub righted : Known → Option ℕ → Known
+righted k None = k
+righted k (Some r) = record k { first = map (put_right_by k.records r) k.first }
 
 -- it closed a day
 abbrev pub day_closed : Known → Closed → Known
 day_closed k c = record k { closes = k.closes ++ record { day = c.day; date = c.date; number = k.records } ∷ [] }
 
 -- what the reply to its command tells
-abbrev pub replied : Known → Reply → Known
-replied k (reply.Closed c) = day_closed k c
-replied k (reply.Refused r) = wanted k (refused r)
-replied k _ = k
+abbrev pub replied : Known → Command → Reply → Known
+replied k cmd (reply.Closed c) = day_closed k c
+replied k cmd (reply.Refused r) = wanted k (refused r) (reference_of cmd)
+replied k cmd reply.Accepted = righted k (reference_of cmd)
+replied k cmd _ = k
 
 -- what it tells, in the state before it
 abbrev pub told_by : Known → State → Line → Known
-told_by k S (Ok cmd) = replied k (answer S cmd)
-told_by k S (Err f) = wanted k (at_fault f)
+told_by k S (Ok cmd) = replied k cmd (answer S cmd)
+told_by k S (Err f) = wanted k (at_fault f) None
 
 -- one record more, and what it tells
 abbrev pub noted : Known → State → Line → Known
@@ -99,8 +133,12 @@ number (at_fault f) = 0
 number (refused r) = refusal_number r
 
 -- a finding without its text and what decided it
-abbrev pub told : Finding → ℕ × Why
-told f = (f.record, why f.outcome)
+abbrev pub told : Finding → Exception
+told f = record { number = f.record; why = why f.outcome; reference = f.parties.reference; put_right = f.put_right }
+
+-- a finding, where a trade with a reference was accepted by the record with a number
+abbrev pub put_right : ℕ → ℕ → Finding → Finding
+put_right n r f = if is_none f.put_right && is_reference r f.parties.reference then record f { put_right = Some n } else f
 
 -- a close without the place of its record
 abbrev pub closing : Close → Closing
@@ -123,21 +161,22 @@ pub record IsChosen (closes : List Close) (day : Option Day) (place : ℕ) : Typ
   pub dated : IfSome day (λ d. IfSome (slice_get closes place) (λ c. c.date ≡ d))
   pub last : day ≡ None → place + 1 ≡ length closes
 
--- the first of some lines was taken and noted, and the others are left
-pub record Takes {R : Type 0} (rem : R → Option (List ℕ)) (now : Records R) (before after : Log) (s t : Survey) (all : List Line) : Type 0 where
+-- the first of some lines was taken and noted, and the lines of what is watched were added; the others are left
+pub record Takes {R : Type 0} (rem : R → Option (List ℕ)) (now : Records R) (w : Watched) (before after : Log) (s t : Survey) (old new : List HistoryLine) (all : List Line) : Type 0 where
   pub line : Line
   pub rest : List Line
   pub first : all ≡ line ∷ rest
   pub left : Pending rem now rest
   pub log : after ≡ log_after_line before line
   pub knows : known t ≡ noted (known s) (state_of before) line
+  pub told : new ≡ old ++ lines_of w (s.records + 1) (state_of before) line
 
--- what a read did to records, a book and a survey: where it answers that a record ends there, the next line was taken and
--- noted; where it answers None, no line was left
-abbrev pub Steps : {R : Type 0} → (R → Option (List ℕ)) → Records R → Records R → Log → Log → Survey → Survey → Option ℕ → Type 0
-Steps rem a b before after s t (Some end) =
-    IsReady b × (t.records ≡ s.records + 1) × ((all : List Line) → Pending rem a all → Takes rem b before after s t all)
-Steps rem a b before after s t None = (after ≡ before) × (t ≡ s) × ((all : List Line) → Pending rem a all → all ≡ [])
+-- what a read did to records, a book, a survey and the lines of what is watched: where it answers that a record ends there, the next
+-- line was taken and noted; where it answers None, no line was left
+abbrev pub Steps : {R : Type 0} → (R → Option (List ℕ)) → Records R → Records R → Watched → Log → Log → Survey → Survey → List HistoryLine → List HistoryLine → Option ℕ → Type 0
+Steps rem a b w before after s t old new (Some end) =
+    IsReady b × (t.records ≡ s.records + 1) × ((all : List Line) → Pending rem a all → Takes rem b w before after s t old new all)
+Steps rem a b w before after s t old new None = (after ≡ before) × (t ≡ s) × (new ≡ old) × ((all : List Line) → Pending rem a all → all ≡ [])
 
 -- a book and a survey after lines, which began on a date; those after one of them were looked at closely
 pub record ComesTo (opening : Day) (from : ℕ) (lines : List Line) (log : Log) (s : Survey) : Type 0 where

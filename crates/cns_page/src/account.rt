@@ -233,6 +233,7 @@ fn copied(alloc: Global, finding: &Finding) -> Result<Finding, NoMemory>
         words: finding.words,
         facts,
         parties: finding.parties,
+        put_right: finding.put_right,
     })
 }
 
@@ -266,9 +267,16 @@ pub(crate) fn own_of(
     ensures { IfOk result (AreOwn account (state_of page.now.book.now.log) page.now.sheet.now lines.now page.now.survey.now.findings.items contents.now) }
 {
     let trades = own_trades(alloc, account, contents.trades.as_slice())?;
-    let day = account_day(alloc, page.book, page.sheet, account, lines)?;
+    let day = account_day(
+        alloc,
+        page.book,
+        page.sheet,
+        account,
+        &contents.moves,
+        lines,
+    )?;
     let dividends = dividends_of(alloc, page.book, &contents.past, page.sheet, account)?;
-    let due = projected_all(alloc, page.book, page.sheet, account, trades.as_slice())?;
+    let due = projected_all(alloc, page.book, page.sheet, account, &contents.pending)?;
     let fails = own_fails(alloc, account, page, contents)?;
     let liable = own_liable(alloc, account, contents.liable.as_slice())?;
     let notices = own_notices(alloc, account, contents.notices.as_slice())?;

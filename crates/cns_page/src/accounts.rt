@@ -2,10 +2,10 @@
 ghost use Rattle.std.specs.Prelude.{◌≡◌, ◌++◌, IfOk, OnOk};
 ghost use Rattle.std.specs.Io.KnownBytes.{Appends};
 ghost use Rattle.cns_statements.specs.Packs.{is_next};
-ghost use Rattle.cns_page.specs.Accounts.{account_text, all_text, grouped, issue_text, name_text, sheet_lines, stated_text};
+ghost use Rattle.cns_page.specs.Accounts.{account_line, account_text, all_text, grouped, issue_text, name_text, own_text, sheet_lines};
 
-use crate::split::{price_move, rest_of_mark};
-use crate::sums::{Sums, sums_of};
+use crate::sums::{MovedRow, Sums, moved_row, own_sums, sums_of};
+use cns_account::DayMoves;
 use cns_sheets::Sheet;
 use cns_tables::{Piece, ROW, TableRow, cents_of, write_line, write_pieces};
 use cns_terms::{NoMemory, Row, Stated};
@@ -17,6 +17,8 @@ use std::io::Write;
 #[derive(Clone, Copy)]
 pub struct AccountLine {
     pub stated: Stated,
+    /// The sums of its rows.
+    pub sums: Sums,
     /// Whether a link leads to the account's page.
     pub is_linked: bool,
 }
@@ -28,7 +30,7 @@ pub enum SheetLine {
     All(Sums),
     /// The sums of an account, before its rows.
     Account(AccountLine),
-    Issue(Row),
+    Issue(MovedRow),
 }
 
 // What stands before the sums over all rows, and before those of an account: the end of the table before, and the head of
@@ -37,10 +39,11 @@ const ALL: &str = "<tbody class=total><tr><th scope=row>";
 
 const ACCOUNT: &str =
     "</table>\n</div>\n<div class=part>\n<table>\n<colgroup><col class=name><col class=shares span=2><col class=price span=2>\
-<col class=amount span=5></colgroup>\n\
+<col class=amount span=9></colgroup>\n\
 <thead><tr><th scope=col>Issue<th scope=col>Opening<th scope=col>Closing<th scope=col>Price before<th scope=col>Price\
-<th scope=col>Settling money<th scope=col>Mark<th scope=col>Price move on opening<th scope=col>Rest of mark<th scope=col>Dividend\
-\n</thead><tbody>\n<tr class=sum><th scope=rowgroup colspan=6 id=account-";
+<th scope=col>Settling money<th scope=col>Price change on opening<th scope=col>Settling trades<th scope=col>Delivered\
+<th scope=col>Received<th scope=col>Corporate actions<th scope=col>Buy-ins<th scope=col>Mark<th scope=col>Dividend\
+\n</thead><tbody>\n<tr class=sum><th scope=rowgroup colspan=5 id=account-";
 
 const NAME: &str = ">Account ";
 
@@ -63,38 +66,57 @@ fn is_next(before: Option<Account>, account: Account) -> bool
     }
 }
 
+// The line of an account, with the sums of its rows.
+fn account_line(
+    sheet: &Sheet<Global>,
+    moves: &DayMoves,
+    is_linked: bool,
+    account: Account,
+) -> AccountLine
+    ensures { result ≡ account_line sheet.now moves.now is_linked account }
+{
+    let stated = sheet.stated(account);
+    AccountLine {
+        stated,
+        sums: own_sums(sheet, moves, &stated),
+        is_linked,
+    }
+}
+
 // Adds a row, after the line of its account where the row before is another one's.
 fn push_row(
     lines: &mut Vec<SheetLine>,
     sheet: &Sheet<Global>,
+    moves: &DayMoves,
     is_linked: bool,
     before: Option<Account>,
     row: &Row,
 ) -> Result<(), NoMemory>
-    ensures { OnOk result (lines.new.items ≡ lines.old.items ++ grouped sheet.now is_linked before row.now) }
+    ensures { OnOk result (lines.new.items ≡ lines.old.items ++ grouped sheet.now moves.now is_linked before row.now) }
 {
     if is_next(before, row.account) {
-        let stated = sheet.stated(row.account);
-        lines.push(SheetLine::Account(AccountLine { stated, is_linked }))?;
+        let line = account_line(sheet, moves, is_linked, row.account);
+        lines.push(SheetLine::Account(line))?;
     }
-    lines.push(SheetLine::Issue(*row))?;
+    lines.push(SheetLine::Issue(moved_row(moves, row)))?;
     Ok(())
 }
 
-/// The lines of a sheet: the sums over all rows, and each account's rows after the sums of its own, with links to the pages of
-/// the accounts or without.
+/// The lines of a sheet, with what moved each position: the sums over all rows, and each account's rows after the sums of its own,
+/// with links to the pages of the accounts or without.
 pub fn lines_of(
     alloc: Global,
     sheet: &Sheet<Global>,
+    moves: &DayMoves,
     is_linked: bool,
 ) -> Result<Vec<SheetLine>, NoMemory>
-    ensures { IfOk result (λ v. v.items ≡ sheet_lines sheet.now is_linked) }
+    ensures { IfOk result (λ v. v.items ≡ sheet_lines sheet.now moves.now is_linked) }
 {
     let mut lines = Vec::new(alloc);
-    lines.push(SheetLine::All(sums_of(sheet)))?;
+    lines.push(SheetLine::All(sums_of(sheet, moves)))?;
     let mut before = None;
     for row in sheet.rows() {
-        push_row(&mut lines, sheet, is_linked, before, &row)?;
+        push_row(&mut lines, sheet, moves, is_linked, before, &row)?;
         before = Some(row.account);
     }
     Ok(lines)
@@ -109,9 +131,13 @@ fn write_all<W: Write>(sums: &Sums, writer: &mut W) -> Result<(), WriteFault>
         Piece::Markup(""),
         Piece::Markup(""),
         Piece::Amount(sums.money),
-        Piece::Amount(sums.mark),
         Piece::Amount(sums.moved),
-        Piece::Amount(sums.rest),
+        Piece::Amount(sums.causes.trades),
+        Piece::Amount(sums.causes.delivered),
+        Piece::Amount(sums.causes.received),
+        Piece::Amount(sums.causes.actions),
+        Piece::Amount(sums.causes.buy_ins),
+        Piece::Amount(sums.mark),
         Piece::Amount(sums.dividend),
     ];
     write_line(ALL, &Piece::Markup("All accounts"), &cells, writer)
@@ -138,14 +164,19 @@ fn write_name<W: Write>(line: &AccountLine, writer: &mut W) -> Result<(), WriteF
     write_pieces(&pieces, writer)
 }
 
-fn write_sums<W: Write>(stated: &Stated, writer: &mut W) -> Result<(), WriteFault>
-    ensures { OnOk result (Appends (W.contents writer.old) (W.contents writer.new) (stated_text stated.now)) }
+fn write_sums<W: Write>(sums: &Sums, writer: &mut W) -> Result<(), WriteFault>
+    ensures { OnOk result (Appends (W.contents writer.old) (W.contents writer.new) (own_text sums.now)) }
 {
     let cells = [
-        Piece::Amount(stated.mark),
-        Piece::Markup(""),
-        Piece::Markup(""),
-        Piece::Amount(stated.dividend),
+        Piece::Amount(sums.money),
+        Piece::Amount(sums.moved),
+        Piece::Amount(sums.causes.trades),
+        Piece::Amount(sums.causes.delivered),
+        Piece::Amount(sums.causes.received),
+        Piece::Amount(sums.causes.actions),
+        Piece::Amount(sums.causes.buy_ins),
+        Piece::Amount(sums.mark),
+        Piece::Amount(sums.dividend),
     ];
     write_line("", &Piece::Markup(""), &cells, writer)
 }
@@ -159,21 +190,26 @@ fn write_account<W: Write>(line: &AccountLine, writer: &mut W) -> Result<(), Wri
         writer,
     )?;
     write_name(line, writer)?;
-    write_sums(&line.stated, writer)
+    write_sums(&line.sums, writer)
 }
 
-fn write_issue<W: Write>(row: &Row, writer: &mut W) -> Result<(), WriteFault>
-    ensures { OnOk result (Appends (W.contents writer.old) (W.contents writer.new) (issue_text row.now)) }
+fn write_issue<W: Write>(line: &MovedRow, writer: &mut W) -> Result<(), WriteFault>
+    ensures { OnOk result (Appends (W.contents writer.old) (W.contents writer.new) (issue_text line.now)) }
 {
+    let row = &line.row;
     let cells = [
         Piece::Signed(row.opening),
         Piece::Signed(row.closing),
         Piece::Amount(cents_of(row.opening_price.value())),
         Piece::Amount(cents_of(row.price.value())),
         Piece::Amount(row.money),
+        Piece::Amount(line.moved),
+        Piece::Amount(line.causes.trades),
+        Piece::Amount(line.causes.delivered),
+        Piece::Amount(line.causes.received),
+        Piece::Amount(line.causes.actions),
+        Piece::Amount(line.causes.buy_ins),
         Piece::Amount(row.mark),
-        Piece::Amount(price_move(row)),
-        Piece::Amount(rest_of_mark(row)),
         Piece::Amount(row.dividend),
     ];
     write_line(ROW, &Piece::Issue(row.issue), &cells, writer)
@@ -188,7 +224,7 @@ impl TableRow for SheetLine {
         match self {
             SheetLine::All(sums) => write_all(sums, writer),
             SheetLine::Account(line) => write_account(line, writer),
-            SheetLine::Issue(row) => write_issue(row, writer),
+            SheetLine::Issue(line) => write_issue(line, writer),
         }
     }
 }

@@ -5,18 +5,22 @@ ghost use Rattle.cns_page.specs.Page.{row_counts};
 ghost use Rattle.cns_page.specs.Shown.{AreContents, head_shown};
 
 use crate::accounts::{SheetLine, lines_of};
+use crate::due::{DueAt, all_due};
 use crate::figures::{Figures, line_of_days};
 use crate::finding::Numbered;
 use crate::foot::Origin;
+use crate::issues::{IssueLine, issue_lines};
 use crate::liable::{Owing, liable_members};
 use crate::notices::live_notices;
+use crate::pending::{PendingShares, pending_shares};
 use crate::projection::{Due, dues, later_trades};
 use crate::reasons::{Counted, counts_of};
 use crate::shorts::{Aged, shorts_of};
 use crate::survey::{Close, Survey};
 use crate::totals::Span;
-use cns_account::{Past, past_of};
+use cns_account::{DayMoves, Past, moves_of_day, past_of};
 use cns_feed::ReplayBook;
+use cns_history::HistoryLine;
 use cns_sheets::Sheet;
 use cns_terms::NoMemory;
 use cns_units::Day;
@@ -34,6 +38,8 @@ pub struct Page<'a> {
     pub close: Close,
     pub book: &'a ReplayBook,
     pub sheet: &'a Sheet<Global>,
+    /// The lines of what was watched of the day's records.
+    pub lines: &'a [HistoryLine],
     /// Whether it stands in a folder with the pages of the accounts and of other days, and links lead to them.
     pub is_linked: bool,
 }
@@ -63,6 +69,8 @@ pub struct Contents {
     pub head: Head,
     pub reasons: Vec<Counted>,
     pub lines: Vec<SheetLine>,
+    /// What the rows of each issue add up to.
+    pub issues: Vec<IssueLine>,
     /// Shorts, the oldest first.
     pub shorts: Vec<Aged>,
     pub liable: Vec<Owing>,
@@ -70,8 +78,14 @@ pub struct Contents {
     pub notices: Vec<Numbered>,
     /// Trades that settle after the day, by date.
     pub trades: Vec<Due>,
+    /// Their shares that are pending, by place.
+    pub pending: PendingShares,
+    /// What is due at each of these places.
+    pub due: Vec<DueAt>,
     /// The closed days, in order, the last 60 at most.
     pub days: Vec<Figures>,
+    /// What moved each position on the day.
+    pub moves: DayMoves,
     /// What the pages of accounts read of the history.
     pub past: Past,
 }
@@ -113,26 +127,35 @@ fn head_of(page: &Page<'_>) -> Head
 
 /// What the page of a day shows.
 pub fn contents_of(alloc: Global, page: &Page<'_>) -> Result<Contents, NoMemory>
-    ensures { IfOk result (AreContents page.now.book.now.log page.now.survey.now page.now.close page.now.sheet.now page.now.is_linked) }
+    ensures { IfOk result (AreContents page.now.book.now.log page.now.survey.now page.now.close page.now.sheet.now page.now.lines.now page.now.is_linked) }
 {
+    let head = head_of(page);
     let reasons = counts_of(alloc, page.survey.reasons.as_slice())?;
-    let lines = lines_of(alloc, page.sheet, page.is_linked)?;
+    let moves = moves_of_day(alloc, page.book, head.before, page.close.date, page.lines)?;
+    let lines = lines_of(alloc, page.sheet, &moves, page.is_linked)?;
+    let issues = issue_lines(alloc, page.sheet)?;
     let shorts = shorts_of(alloc, page.book, page.sheet)?;
     let liable = liable_members(alloc, page.book, page.close.day)?;
     let notices = live_notices(alloc, page.book)?;
     let later = later_trades(alloc, page.book, page.sheet.date())?;
     let trades = dues(alloc, later.as_slice(), page.book.today())?;
+    let pending = pending_shares(alloc, trades.as_slice())?;
+    let due = all_due(alloc, page.book, &pending)?;
     let days = line_of_days(alloc, page.book, last_of(page.survey.closes.as_slice()))?;
     let past = past_of(alloc, page.book)?;
     Ok(Contents {
-        head: head_of(page),
+        head,
         reasons,
         lines,
+        issues,
         shorts,
         liable,
         notices,
         trades,
+        pending,
+        due,
         days,
+        moves,
         past,
     })
 }
@@ -156,9 +179,11 @@ pub fn rows_of(survey: &Survey, contents: &Contents, totals: &[Span]) -> u64
         survey.findings.len(),
         contents.reasons.len(),
         contents.lines.len(),
+        contents.issues.len(),
         contents.shorts.len(),
         contents.liable.len(),
         contents.notices.len(),
+        contents.due.len(),
         contents.trades.len(),
         contents.days.len(),
         totals.len(),

@@ -1,9 +1,11 @@
 // What is due of an account in each issue.
-ghost use Rattle.std.specs.Prelude.{◌≡◌, IfOk};
+ghost use Rattle.std.specs.Prelude.{◌≡◌, IfOk, map};
+ghost use Rattle.std.specs.BTreeMap.{IsOrdered};
+ghost use Rattle.cns_terms.specs.Keys.{key_cmp};
 ghost use Rattle.cns_book.specs.Log.{state_of};
-ghost use Rattle.cns_page.specs.Due.{is_idle, pending_in, projected, projected_all, with_trade};
+ghost use Rattle.cns_page.specs.Due.{due_at, is_idle, projected, projected_all};
 
-use crate::projection::Due;
+use crate::pending::PendingShares;
 use cns_account::wrapped_shares;
 use cns_feed::ReplayBook;
 use cns_history::{shares_between, standing};
@@ -29,46 +31,24 @@ pub struct Projected {
     pub after: i64,
 }
 
-// With a trade, where it is pending in the issue.
-fn with_trade(shares: i64, account: Account, issue: &Cusip, due: &Due) -> i64
-    ensures { result ≡ with_trade account issue.now shares due.now }
-{
-    let trade = &due.trade;
-    if due.is_booked || !trade.issue.is_same(issue) {
-        return shares;
-    }
-    let traded = trade.shares.value() as i64;
-    let to_account = if trade.buyer.account() == account {
-        traded
-    } else {
-        -traded
-    };
-    wrapped_shares(shares, to_account)
+/// The same, with the account.
+#[derive(Clone, Copy)]
+pub struct DueAt {
+    pub account: Account,
+    pub projected: Projected,
 }
 
-// The shares of an account's pending trades in an issue: above 0 where it buys more than it sells.
-fn pending_in(account: Account, issue: &Cusip, trades: &[Due]) -> i64
-    ensures { result ≡ pending_in account issue.now trades.now }
+// What is due at a place.
+fn due_in(book: &ReplayBook, pending: &PendingShares, key: &Key) -> Projected
+    ensures { result ≡ projected (state_of book.now.log) pending.now key.now }
 {
-    let mut shares = 0;
-    for due in trades {
-        shares = with_trade(shares, account, issue, due);
-    }
-    shares
-}
-
-// What is due in an issue.
-fn due_in(book: &ReplayBook, account: Account, issue: Cusip, trades: &[Due]) -> Projected
-    ensures { result ≡ projected (state_of book.now.log) account trades.now issue }
-{
-    let holding = standing(book, &Key { account, issue });
-    let pending = pending_in(account, &issue, trades);
+    let holding = standing(book, key);
     Projected {
-        issue,
+        issue: key.issue,
         closing: holding.opening,
         booked: shares_between(holding.opening, holding.now),
         due: holding.now,
-        after: wrapped_shares(holding.now, pending),
+        after: wrapped_shares(holding.now, pending.at(key).shares),
     }
 }
 
@@ -79,27 +59,52 @@ fn is_idle(row: &Projected) -> bool
     row.closing == 0 && row.due == 0 && row.after == 0
 }
 
-/// What is due of an account in each issue that was listed at the close, where anything is or was; by the account's trades that
-/// settle after the day, of the book as the close left it.
+/// What is due of an account in each issue that was listed at the close, where anything is or was; of the book as the close left it.
 pub fn projected_all(
     alloc: Global,
     book: &ReplayBook,
     sheet: &Sheet<Global>,
     account: Account,
-    trades: &[Due],
+    pending: &PendingShares,
 ) -> Result<Vec<Projected>, NoMemory>
-    ensures { IfOk result (λ v. v.items ≡ projected_all (state_of book.now.log) account trades.now sheet.now.prices) }
+    ensures { IfOk result (λ v. v.items ≡ projected_all (state_of book.now.log) account pending.now sheet.now.prices) }
 {
     let mut rows = Vec::new(alloc);
     let mut after = None;
     while let Some((issue, _)) = sheet.next_price(after) {
         let issue = &issue;
         after = Some(*issue);
-        let row = due_in(book, account, *issue, trades);
+        let key = Key {
+            account,
+            issue: *issue,
+        };
+        let row = due_in(book, pending, &key);
         if is_idle(&row) {
             continue;
         }
         rows.push(row)?;
+    }
+    Ok(rows)
+}
+
+/// What is due of each account in each issue that a trade names which settles later, by account and issue; of the book as the close
+/// left it.
+pub(crate) fn all_due(
+    alloc: Global,
+    book: &ReplayBook,
+    pending: &PendingShares,
+) -> Result<Vec<DueAt>, NoMemory>
+    ensures rows { IfOk result (λ v. v.items ≡ map (λ e. due_at (state_of book.now.log) pending.now e.0) pending.now.shares.entries) }
+    ensures rising { IsOrdered key_cmp pending.now.shares }
+{
+    let mut rows = Vec::new(alloc);
+    let mut rest = pending.shares.iter();
+    while let Some((key, _)) = rest.next() {
+        let projected = due_in(book, pending, key);
+        rows.push(DueAt {
+            account: key.account,
+            projected,
+        })?;
     }
     Ok(rows)
 }
@@ -117,5 +122,23 @@ impl TableRow for Projected {
             Piece::Signed(self.after),
         ];
         write_line(ROW, &Piece::Issue(self.issue), &cells, writer)
+    }
+}
+
+impl TableRow for DueAt {
+    ghost use Rattle.cns_page.specs.Due.{due_at_text};
+
+    ghost text = { due_at_text };
+
+    fn write_row<W: Write>(&self, writer: &mut W) -> Result<(), WriteFault> {
+        let row = &self.projected;
+        let cells = [
+            Piece::Number(u64::from(self.account.value())),
+            Piece::Signed(row.closing),
+            Piece::Signed(row.booked),
+            Piece::Signed(row.due),
+            Piece::Signed(row.after),
+        ];
+        write_line(ROW, &Piece::Issue(row.issue), &cells, writer)
     }
 }

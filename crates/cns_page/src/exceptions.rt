@@ -2,7 +2,7 @@
 ghost use Rattle.std.specs.Prelude.{OnOk};
 ghost use Rattle.std.specs.Io.KnownBytes.{Appends};
 ghost use Rattle.std.specs.List.{flat_map};
-ghost use Rattle.cns_page.specs.Exceptions.{exchanged_text, fact_text, notice_text, pending_text, reason_text, record_text, seen_text, some_fact_text, waiting_text};
+ghost use Rattle.cns_page.specs.Exceptions.{exchanged_text, fact_text, notice_text, pending_text, put_right_text, reason_text, record_text, seen_text, some_fact_text, waiting_text};
 
 use crate::finding::{Exchanged, Fact, Finding, Numbered, Outcome, Pending, Seen, Waiting};
 use crate::words::{fault_name, stage_name};
@@ -68,6 +68,8 @@ const OF: &str = " of ";
 const REMAIN: &str = " shares remain";
 
 const ROOM: &str = ". Shares that they can be given: ";
+
+const PUT_RIGHT: &str = ". Put right by record ";
 
 fn write_fact<W: Write>(fact: &Fact, writer: &mut W) -> Result<(), WriteFault>
     ensures { OnOk result (Appends (W.contents writer.old) (W.contents writer.new) (some_fact_text fact.now)) }
@@ -218,6 +220,19 @@ fn write_if_any<W: Write>(fact: &Option<Fact>, writer: &mut W) -> Result<(), Wri
     }
 }
 
+// The record that put an exception right, if one did.
+fn write_put_right<W: Write>(number: Option<u64>, writer: &mut W) -> Result<(), WriteFault>
+    ensures { OnOk result (Appends (W.contents writer.old) (W.contents writer.new) (put_right_text number)) }
+{
+    match number {
+        None => Ok(()),
+        Some(number) => {
+            let pieces = [Piece::Markup(PUT_RIGHT), Piece::Number(number)];
+            write_pieces(&pieces, writer)
+        }
+    }
+}
+
 // Why a record is an exception.
 fn write_reason<W: Write>(finding: &Finding, writer: &mut W) -> Result<(), WriteFault>
     ensures { OnOk result (Appends (W.contents writer.old) (W.contents writer.new)
@@ -269,6 +284,7 @@ impl TableRow for Finding {
         write_record(self, writer)?;
         write_reason(self, writer)?;
         write_facts(&self.facts, writer)?;
+        write_put_right(self.put_right, writer)?;
         write_markup("\n", writer)
     }
 }

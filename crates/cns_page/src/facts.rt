@@ -3,6 +3,7 @@ ghost use Rattle.std.specs.Prelude.{◌≡◌, IfSome, option_map, slice_get};
 ghost use Rattle.cns_book.specs.Log.{Log, state_of};
 ghost use Rattle.cns_book.specs.Shown.{notice_shown, position_shown, price_shown};
 ghost use Rattle.cns_page.specs.Facts.{AreShown, IsShown, today_in};
+ghost use Rattle.cns_page.specs.Survey.{reference_of};
 
 use crate::finding::{Exchanged, Fact, Facts, Numbered, Parties, Pending, Quote, Seen, Stand};
 use crate::sought::{Sought, first, waiting};
@@ -91,8 +92,20 @@ fn names_of(command: &Command) -> Named {
     }
 }
 
-/// The accounts that a command names.
-pub fn parties_of(command: &Command) -> Parties {
+/// The reference of a trade.
+pub(crate) fn reference_of(command: &Command) -> Option<u64>
+    ensures { result ≡ reference_of command.now }
+{
+    match command {
+        Command::Activity(Activity::Trade(trade)) => Some(trade.reference),
+        _ => None,
+    }
+}
+
+/// The accounts that a command names, and the reference of a trade.
+pub fn parties_of(command: &Command) -> Parties
+    ensures { result.reference ≡ reference_of command.now }
+{
     let (account, other) = match command {
         Command::Activity(Activity::Trade(trade)) => {
             (Some(trade.buyer.account()), Some(trade.seller.account()))
@@ -101,7 +114,11 @@ pub fn parties_of(command: &Command) -> Parties {
         Command::Statement { account, .. } => (Some(*account), None),
         _ => (names_of(command).account, None),
     };
-    Parties { account, other }
+    Parties {
+        account,
+        other,
+        reference: reference_of(command),
+    }
 }
 
 // What decides a refusal, beside dates and notices.

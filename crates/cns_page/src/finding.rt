@@ -1,4 +1,7 @@
 // An exception: an invalid record, or a refused command.
+ghost use Rattle.std.specs.Prelude.{◌≡◌};
+ghost use Rattle.cns_page.specs.Survey.{put_right};
+
 use cns_book::Notice;
 use cns_feed::LineFault;
 use cns_terms::{Exchange, Refusal, Trade};
@@ -17,20 +20,36 @@ pub struct Finding {
     /// What decided a refusal.
     pub facts: Facts,
     pub parties: Parties,
+    /// The number of the first later record whose trade has the same reference and was accepted, if there is one.
+    pub put_right: Option<u64>,
 }
 
-/// The accounts that a command names: of a trade the buyer and the seller. A record that is no command names none.
+/// The accounts that a command names: of a trade the buyer and the seller, and its reference. A record that is no command names
+/// none.
 #[derive(Clone, Copy)]
 pub struct Parties {
     pub account: Option<Account>,
     pub other: Option<Account>,
+    pub reference: Option<u64>,
 }
 
-/// No account.
+/// No account, and no reference.
 pub const NO_PARTIES: Parties = Parties {
     account: None,
     other: None,
+    reference: None,
 };
+
+impl Finding {
+    /// Notes that the trade of a record with the number was accepted, where it has the reference, and none before it had.
+    pub(crate) fn put_right(&mut self, reference: u64, number: u64)
+        ensures { self.new ≡ put_right number reference self.old }
+    {
+        if self.put_right.is_none() && self.parties.reference == Some(reference) {
+            self.put_right = Some(number);
+        }
+    }
+}
 
 /// What a record came to that is an exception.
 #[derive(Clone, Copy)]

@@ -1,6 +1,8 @@
 // The pages of a closed day as files of a folder: that of each account, and that of the day, with links between them.
-ghost use Rattle.std.specs.Prelude.{◌≡◌, [], IfOk, Some, filter};
-ghost use Rattle.cns_history.specs.Lines.{is_line_of};
+ghost use Rattle.std.specs.Prelude.{◌≡◌, [], IfOk, Some, filter, map, slice_get};
+ghost use Rattle.cns_book.specs.Log.{state_of};
+ghost use Rattle.cns_history.specs.Lines.{accounts_of, is_line_of};
+ghost use Rattle.cns_history.specs.declared.watched.Whose.TheVariants as whose;
 ghost use Rattle.cns_page.specs.Account.{ShowsAccount};
 ghost use Rattle.cns_page.specs.Shown.{ShowsDay};
 
@@ -13,7 +15,7 @@ use crate::page::write_page;
 use crate::play::{Played, play};
 use crate::survey::Close;
 use cns_feed::ReplayBook;
-use cns_history::{HistoryLine, Watched, Whose, bookings, lines_for};
+use cns_history::{Watched, Whose, accounts_in, lines_for};
 use cns_sheets::Sheet;
 use cns_shell::Fault;
 use cns_terms::NoMemory;
@@ -22,28 +24,18 @@ use std::alloc::Global;
 use std::fs::File;
 use std::rt::Files;
 
-// The numbers of accounts are below it.
-const NUMBERS: u16 = 10_000;
-
 // The accounts of a book, by number: the corporation's and the members'. None where no issue is listed: then nothing is booked.
 fn accounts_of(
     alloc: Global,
     book: &ReplayBook,
     sheet: &Sheet<Global>,
-) -> Result<Vec<Account>, NoMemory> {
-    let mut accounts = Vec::new(alloc);
-    let Some((issue, _)) = sheet.next_price(None) else {
-        return Ok(accounts);
-    };
-    for number in 0..NUMBERS {
-        let Ok(account) = Account::new(number) else {
-            continue;
-        };
-        if book.position(account, issue).is_some() {
-            accounts.push(account)?;
-        }
+) -> Result<Vec<Account>, NoMemory>
+    ensures { IfOk result (λ v. v.items ≡ accounts_of whose.All (state_of book.now.log) (slice_get (map (λ e. e.0) sheet.now.prices) 0)) }
+{
+    match sheet.next_price(None) {
+        Some((issue, _)) => accounts_in(alloc, book, issue),
+        None => Ok(Vec::new(alloc)),
     }
-    Ok(accounts)
 }
 
 // The page of an account, by the lines of all.
@@ -52,12 +44,11 @@ fn own_page(
     account: Account,
     page: &Page<'_>,
     contents: &Contents,
-    lines: &[HistoryLine],
 ) -> Result<Vec<u8>, Fault>
     ensures { IfOk result (λ v. ShowsAccount page.now.opening page.now.origin.now page.now.book.now.log page.now.close page.now.sheet.now account page.now.is_linked
-        (filter (is_line_of account) lines.now) page.now.survey.now.findings.items contents.now (Some []) (Some v.items)) }
+        (filter (is_line_of account) page.now.lines.now) page.now.survey.now.findings.items contents.now (Some []) (Some v.items)) }
 {
-    let own = lines_for(alloc, account, lines)?;
+    let own = lines_for(alloc, account, page.lines)?;
     let mut bytes = Vec::new(alloc);
     write_account(alloc, account, page, contents, own.as_slice(), &mut bytes)?;
     Ok(bytes)
@@ -79,11 +70,10 @@ fn save_pages<R: AllocGlobal + Files<File = File>>(
     accounts: &[Account],
     page: &Page<'_>,
     contents: &Contents,
-    lines: &[HistoryLine],
 ) -> Result<(), Fault> {
     let date = page.close.date;
     for account in accounts {
-        let bytes = own_page(rt.alloc(), *account, page, contents, lines)?;
+        let bytes = own_page(rt.alloc(), *account, page, contents)?;
         let named = Named {
             date,
             account: Some(*account),
@@ -109,19 +99,19 @@ pub(crate) fn write_folder<R: AllocGlobal + Files<File = File>>(
     close: Close,
 ) -> Result<(), Fault> {
     let alloc = rt.alloc();
+    let before = close.record.saturating_sub(1);
+    let watched = Watched::Bookings(Whose::All, from, before);
     let Played {
         survey,
+        lines,
         book,
         bytes,
         is_whole: _,
-    } = play(alloc, input, opening, from, close.record)?;
+    } = play(alloc, input, opening, from, close.record, &watched)?;
     let Some(sheet) = sheet_of(&book, close.date) else {
         return Err(Fault::NoSuchDay);
     };
     let accounts = accounts_of(alloc, &book, sheet)?;
-    let watched = Watched::Bookings(Whose::Each(accounts.as_slice()), from);
-    let before = close.record.saturating_sub(1);
-    let lines = bookings(alloc, opening, &watched, input, before)?;
     let origin = origin_of(alloc, first_of(input, bytes))?;
     let page = Page {
         opening,
@@ -130,15 +120,9 @@ pub(crate) fn write_folder<R: AllocGlobal + Files<File = File>>(
         close,
         book: &book,
         sheet,
+        lines: lines.as_slice(),
         is_linked: true,
     };
     let contents = contents_of(alloc, &page)?;
-    save_pages(
-        rt,
-        folder,
-        accounts.as_slice(),
-        &page,
-        &contents,
-        lines.as_slice(),
-    )
+    save_pages(rt, folder, accounts.as_slice(), &page, &contents)
 }

@@ -20,7 +20,7 @@ use crate::play::{Played, play};
 use crate::survey::{Close, Survey, place_of};
 use crate::today::{OpenDay, write_today};
 use cns_feed::{MOST_RECORDS, ReplayBook, ReplayFault};
-use cns_history::{Place, Watched, Whose, bookings, write_history};
+use cns_history::{Place, Watched, Whose, write_history};
 use cns_sheets::Sheet;
 use cns_shell::Fault;
 use cns_units::{Account, Day};
@@ -47,10 +47,11 @@ fn survey_of(alloc: Global, opening: Day, input: &[u8], most: u64) -> Result<Sur
 {
     let Played {
         survey,
+        lines: _,
         book: _,
         bytes: _,
         is_whole,
-    } = play(alloc, input, opening, most, most)?;
+    } = play(alloc, input, opening, most, most, &Watched::Nothing)?;
     if_whole(survey, is_whole)
 }
 
@@ -107,12 +108,14 @@ fn write_day<O: Write>(
 ) -> Result<(), Fault>
     ensures { OnOk result (HasDay opening input.now from close (O.contents output.old) (O.contents output.new)) }
 {
+    let watched = Watched::Movements(from.saturating_add(1), close.record);
     let Played {
         survey,
+        lines,
         book,
         bytes,
         is_whole: _,
-    } = play(alloc, input, opening, from, close.record)?;
+    } = play(alloc, input, opening, from, close.record, &watched)?;
     let Some(sheet) = sheet_of(&book, close.date) else {
         return Err(Fault::NoSuchDay);
     };
@@ -124,6 +127,7 @@ fn write_day<O: Write>(
         close,
         book: &book,
         sheet,
+        lines: lines.as_slice(),
         is_linked: false,
     };
     let contents = contents_of(alloc, &page)?;
@@ -156,14 +160,14 @@ fn write_own_day<O: Write>(
     ensures { OnOk result (HasOwnDay account opening input.now from close (O.contents output.old) (O.contents output.new)) }
 {
     let before = close.record.saturating_sub(1);
-    let watched = Watched::Bookings(Whose::One(account), from);
-    let lines = bookings(alloc, opening, &watched, input, before)?;
+    let watched = Watched::Bookings(Whose::One(account), from, before);
     let Played {
         survey,
+        lines,
         book,
         bytes,
         is_whole: _,
-    } = play(alloc, input, opening, from, close.record)?;
+    } = play(alloc, input, opening, from, close.record, &watched)?;
     let Some(sheet) = sheet_of(&book, close.date) else {
         return Err(Fault::NoSuchDay);
     };
@@ -176,10 +180,11 @@ fn write_own_day<O: Write>(
         close,
         book: &book,
         sheet,
+        lines: lines.as_slice(),
         is_linked: false,
     };
     let contents = contents_of(alloc, &page)?;
-    write_account(alloc, account, &page, &contents, lines.as_slice(), output)
+    write_account(alloc, account, &page, &contents, page.lines, output)
 }
 
 // Writes the page of what the closed day that is asked for, the last one where none is, did to an account, by the closes among all
@@ -217,10 +222,11 @@ fn write_open<O: Write>(
 {
     let Played {
         survey,
+        lines: _,
         book,
         bytes: _,
         is_whole: _,
-    } = play(alloc, input, opening, from, most)?;
+    } = play(alloc, input, opening, from, most, &Watched::Nothing)?;
     let day = OpenDay {
         opening,
         input,

@@ -48,9 +48,11 @@ const LINKS: &str = ".</p>
 <nav aria-label=Contents><ul>
 <li><a href=#exceptions>Exceptions</a>
 <li><a href=#accounts>CNS Accounting Summary</a>
+<li><a href=#issues>Sums by issue</a>
 <li><a href=#fails>Fails to deliver</a>
 <li><a href=#liable>Buy-in retransmittal</a>
 <li><a href=#notices>Notices of intention</a>
+<li><a href=#due>Due on the next day</a>
 <li><a href=#projection>Projection</a>
 <li><a href=#days>Last 60 days</a>
 <li><a href=#totals>Control totals</a>
@@ -167,9 +169,11 @@ fn write_text<W: Write>(
     )?;
     write_table(&captions.reasons, contents.reasons.as_slice(), writer)?;
     write_table(&captions.accounts, contents.lines.as_slice(), writer)?;
+    write_table(&captions.issues, contents.issues.as_slice(), writer)?;
     write_table(&captions.fails, contents.shorts.as_slice(), writer)?;
     write_table(&captions.liable, contents.liable.as_slice(), writer)?;
     write_table(&captions.notices, contents.notices.as_slice(), writer)?;
+    write_table(&captions.due, contents.due.as_slice(), writer)?;
     write_table(&captions.projection, contents.trades.as_slice(), writer)?;
     write_table(&captions.days, contents.days.as_slice(), writer)?;
     write_table(&captions.totals, totals, writer)?;

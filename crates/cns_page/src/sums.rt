@@ -1,58 +1,91 @@
-// The sums of the columns of a sheet.
-ghost use Rattle.std.specs.Prelude.{◌≡◌, ◌+ℤ◌};
-ghost use Rattle.std.specs.Int.{int_wrap, w128};
-ghost use Rattle.cns_page.specs.Split.{moved, remaining, sums_over};
+// The rows of a sheet with what their marks come from, and the sums of them.
+ghost use Rattle.std.specs.Prelude.{◌≡◌};
+ghost use Rattle.cns_page.specs.Sums.{moved_row, none_of, own_sums, sums_of, with_row};
 
-use crate::split::{price_move, rest_of_mark};
+use cns_account::{Causes, DayMoves, price_move, wrapped_sum};
 use cns_sheets::Sheet;
-use cns_terms::Row;
+use cns_terms::{Key, Row, Stated};
 use cns_units::Cents;
 use std::alloc::Global;
+
+/// A row of the sheet, with what its mark comes from.
+#[derive(Clone, Copy)]
+pub struct MovedRow {
+    pub row: Row,
+    /// What the change of price since the close before is worth on the opening position.
+    pub moved: Cents,
+    /// What each movement of the day brings.
+    pub causes: Causes,
+}
 
 /// The sums of columns over rows. Each is exact where it fits 128 bits, as it does on each sheet of a book.
 #[derive(Clone, Copy)]
 pub struct Sums {
     pub money: Cents,
-    pub mark: Cents,
     pub moved: Cents,
-    pub rest: Cents,
+    pub causes: Causes,
+    pub mark: Cents,
     pub dividend: Cents,
 }
 
-// The sum of two amounts, as much of it as fits.
-fn wrapped_sum(a: Cents, b: Cents) -> Cents
-    ensures { result ≡ int_wrap w128 (a +ℤ b) }
+/// A row, with what its mark comes from.
+pub(crate) fn moved_row(moves: &DayMoves, row: &Row) -> MovedRow
+    ensures { result ≡ moved_row moves.now row.now }
 {
-    Cents::of(a.value().wrapping_add(b.value()))
+    let key = Key {
+        account: row.account,
+        issue: row.issue,
+    };
+    MovedRow {
+        row: *row,
+        moved: price_move(row),
+        causes: Causes::of(&moves.at(&key), row.price),
+    }
 }
 
-impl Sums {
-    // With one row more.
-    fn add(&mut self, row: &Row)
-        ensures money { self.new.money ≡ int_wrap w128 (self.old.money +ℤ row.now.money) }
-        ensures moved { self.new.moved ≡ int_wrap w128 (self.old.moved +ℤ moved row.now) }
-        ensures rest { self.new.rest ≡ int_wrap w128 (self.old.rest +ℤ remaining row.now) }
-        ensures others { (self.new.mark ≡ self.old.mark) × (self.new.dividend ≡ self.old.dividend) }
-    {
-        self.money = wrapped_sum(self.money, row.money);
-        self.moved = wrapped_sum(self.moved, price_move(row));
-        self.rest = wrapped_sum(self.rest, rest_of_mark(row));
+// With a row more; marks and dividends are given.
+fn with_row(sums: &Sums, line: &MovedRow) -> Sums
+    ensures { result ≡ with_row sums.now line.now }
+{
+    Sums {
+        money: wrapped_sum(sums.money, line.row.money),
+        moved: wrapped_sum(sums.moved, line.moved),
+        causes: sums.causes.with(&line.causes),
+        ..*sums
+    }
+}
+
+// No rows yet, with the sums of their marks and of their dividends.
+fn none_of(mark: Cents, dividend: Cents) -> Sums
+    ensures { result ≡ none_of mark dividend }
+{
+    Sums {
+        money: Cents::ZERO,
+        moved: Cents::ZERO,
+        causes: Causes::NOTHING,
+        mark,
+        dividend,
     }
 }
 
 /// The sums over all rows of a sheet.
-pub fn sums_of(sheet: &Sheet<Global>) -> Sums
-    ensures { result ≡ sums_over sheet.now.rows }
+pub(crate) fn sums_of(sheet: &Sheet<Global>, moves: &DayMoves) -> Sums
+    ensures { result ≡ sums_of moves.now sheet.now.rows }
 {
-    let mut sums = Sums {
-        money: Cents::ZERO,
-        mark: sheet.total_marks(),
-        moved: Cents::ZERO,
-        rest: Cents::ZERO,
-        dividend: sheet.total_dividends(),
-    };
+    let mut sums = none_of(sheet.total_marks(), sheet.total_dividends());
     for row in sheet.rows() {
-        sums.add(&row);
+        sums = with_row(&sums, &moved_row(moves, &row));
+    }
+    sums
+}
+
+/// The sums over an account's rows of a sheet, by the first line of its statement.
+pub(crate) fn own_sums(sheet: &Sheet<Global>, moves: &DayMoves, stated: &Stated) -> Sums
+    ensures { result ≡ own_sums sheet.now moves.now stated.now }
+{
+    let mut sums = none_of(stated.mark, stated.dividend);
+    for row in sheet.rows_of(stated.account) {
+        sums = with_row(&sums, &moved_row(moves, &row));
     }
     sums
 }

@@ -1,8 +1,8 @@
 // What the records of an input come to, one after another.
-ghost use Rattle.std.specs.Prelude.{◌≡◌, ◌<◌, ◌-◌, ◌^◌, ◌&&◌, IfSome, OnOk, length, nat_lt};
-ghost use Rattle.cns_page.specs.Survey.{IsChosen, counted, day_closed, first_too, known, nothing, of_day, replied, wanted, why};
+ghost use Rattle.std.specs.Prelude.{◌≡◌, ◌<◌, ◌-◌, ◌^◌, ◌&&◌, IfSome, None, OnOk, length, map, nat_lt};
+ghost use Rattle.cns_page.specs.Survey.{IsChosen, counted, day_closed, first_too, known, nothing, of_day, put_right, reference_of, replied, righted, wanted, why};
 
-use crate::facts::{facts_of, parties_of};
+use crate::facts::{facts_of, parties_of, reference_of};
 use crate::finding::{Facts, Finding, NO_FACTS, NO_PARTIES, Outcome, Parties};
 use crate::given::given;
 use crate::words::{fault_words, refusal_words};
@@ -73,12 +73,28 @@ impl Survey {
         command: &Command,
         reply: &Reply,
     ) -> Result<(), NoMemory>
-        ensures { OnOk result (known self.new ≡ replied (known self.old) reply.now) }
+        ensures { OnOk result (known self.new ≡ replied (known self.old) command.now reply.now) }
     {
         match reply {
             Reply::Closed(closed) => self.note_close(closed),
             Reply::Refused(refusal) => self.note_refusal(book, text, command, *refusal),
+            Reply::Accepted => {
+                self.note_accepted(command);
+                Ok(())
+            }
             _ => Ok(()),
+        }
+    }
+
+    // Notes of the exceptions with the reference of a trade that it was accepted.
+    fn note_accepted(&mut self, command: &Command)
+        ensures { known self.new ≡ righted (known self.old) (reference_of command.now) }
+    {
+        match reference_of(command) {
+            Some(reference) => {
+                put_right_each(self.findings.as_mut_slice(), reference, self.records);
+            }
+            None => {}
         }
     }
 
@@ -115,7 +131,7 @@ impl Survey {
         command: &Command,
         refusal: Refusal,
     ) -> Result<(), NoMemory>
-        ensures { OnOk result (known self.new ≡ wanted (known self.old) (why (Outcome.Refused refusal))) }
+        ensures { OnOk result (known self.new ≡ wanted (known self.old) (why (Outcome.Refused refusal)) (reference_of command.now)) }
     {
         let facts = if self.has_room() {
             facts_of(book, command, refusal)
@@ -129,7 +145,7 @@ impl Survey {
 
     /// Notes that a record with the text is invalid.
     pub(crate) fn note_fault(&mut self, text: &[u8], fault: LineFault) -> Result<(), NoMemory>
-        ensures { OnOk result (known self.new ≡ wanted (known self.old) (why (Outcome.AtFault fault))) }
+        ensures { OnOk result (known self.new ≡ wanted (known self.old) (why (Outcome.AtFault fault)) None) }
     {
         let words = fault_words(fault);
         self.note_exception(text, Outcome::AtFault(fault), words, NO_FACTS, NO_PARTIES)
@@ -144,7 +160,7 @@ impl Survey {
         facts: Facts,
         parties: Parties,
     ) -> Result<(), NoMemory>
-        ensures { OnOk result (known self.new ≡ wanted (known self.old) (why outcome)) }
+        ensures { OnOk result (known self.new ≡ wanted (known self.old) (why outcome) parties.reference) }
     {
         self.exceptions = self.exceptions.saturating_add(1);
         if self.is_of_day() {
@@ -162,7 +178,7 @@ impl Survey {
         facts: Facts,
         parties: Parties,
     ) -> Result<(), NoMemory>
-        ensures { OnOk result (known self.new ≡ of_day (known self.old) (why outcome)) }
+        ensures { OnOk result (known self.new ≡ of_day (known self.old) (why outcome) parties.reference) }
     {
         self.reasons.push(outcome)?;
         if self.findings.len() < MOST {
@@ -180,7 +196,7 @@ impl Survey {
         facts: Facts,
         parties: Parties,
     ) -> Result<(), NoMemory>
-        ensures { OnOk result (known self.new ≡ first_too (known self.old) (why outcome)) }
+        ensures { OnOk result (known self.new ≡ first_too (known self.old) (why outcome) parties.reference) }
     {
         let text = given(*self.findings.allocator(), text)?;
         self.findings.push(Finding {
@@ -190,8 +206,18 @@ impl Survey {
             words,
             facts,
             parties,
+            put_right: None,
         })?;
         Ok(())
+    }
+}
+
+// Notes of each exception with the reference that the trade of a record with the number was accepted.
+fn put_right_each(findings: &mut [Finding], reference: u64, number: u64)
+    ensures { findings.new ≡ map (put_right number reference) findings.old }
+{
+    for finding in findings.iter_mut() {
+        finding.put_right(reference, number);
     }
 }
 

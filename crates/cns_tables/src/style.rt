@@ -43,11 +43,12 @@ tbody th { font-weight: 600; }
 [aria-labelledby=accounts] .part { content-visibility: auto; contain-intrinsic-size: auto 12rem; width: min-content; \
 min-width: max(100%, 76rem); }
 [aria-labelledby=accounts] .part + .part thead { position: absolute; clip-path: inset(50%); }
-[aria-labelledby=accounts] table { width: 100%; }
-[aria-labelledby=accounts] thead th:first-child, .name { width: 9%; }
-[aria-labelledby=accounts] thead th:nth-child(n+2), .shares { width: 10%; }
-[aria-labelledby=accounts] thead th:nth-child(n+4), .price { width: 7%; }
-[aria-labelledby=accounts] thead th:nth-child(n+6), .amount { width: 11.4%; }
+[aria-labelledby=accounts] table { width: 100%; font-size: .8rem; }
+[aria-labelledby=accounts] th + th, [aria-labelledby=accounts] td { padding: .15rem .35rem; }
+[aria-labelledby=accounts] thead th:first-child, .name { width: 7.5%; }
+[aria-labelledby=accounts] thead th:nth-child(n+2), .shares { width: 6.3%; }
+[aria-labelledby=accounts] thead th:nth-child(n+4), .price { width: 5.4%; }
+[aria-labelledby=accounts] thead th:nth-child(n+6), .amount { width: 7.7%; }
 .sum > * { background: var(--sum); font-weight: 600; border-top: 1px solid var(--quiet); }
 .sum th { padding-left: .3rem; text-align: left; }
 .total > tr > * { font-weight: 700; border-top: 3px double var(--ink); }

@@ -6,4 +6,4 @@ use Rattle.cns_account.proofs.row.rows_of.Given as goal
 
 abbrev pub invariant-loop-row : goal.invariant-loop-row
 invariant-loop-row l =
-    map (account_row (state_of l.book.log) l.lines) (rows_for l.sheet.rows l.fn.account) ≡ l.rows.items ++ map (account_row (state_of l.book.log) l.lines) l.row-iterator
+    map (account_row (state_of l.book.log) l.moves) (rows_for l.sheet.rows l.fn.account) ≡ l.rows.items ++ map (account_row (state_of l.book.log) l.moves) l.row-iterator

@@ -3,4 +3,4 @@ use Rattle.cns_page.specs.Accounts.{lines_after, sheet_lines}
 use Rattle.cns_page.proofs.accounts.lines_of.Given as goal
 
 abbrev pub invariant-loop-row : goal.invariant-loop-row
-invariant-loop-row l = sheet_lines l.sheet l.is_linked ≡ l.lines.items ++ lines_after l.sheet l.is_linked l.before l.row-iterator
+invariant-loop-row l = sheet_lines l.sheet l.moves l.is_linked ≡ l.lines.items ++ lines_after l.sheet l.moves l.is_linked l.before l.row-iterator

@@ -11,5 +11,5 @@ invariant-loop-turn g l = record {
   few : l._turn ≤ l.fn.most;
   count : l.survey.records ≡ l._turn;
   along : (all : List Line) → Pending g.R.Read.remaining l.fn.records all
-      → Along g.R.Read.remaining l.records l.fn.book.log l.book.log (known l.fn.survey) l.survey l._turn all;
+      → Along g.R.Read.remaining l.records l.watched l.fn.book.log l.book.log (known l.fn.survey) l.survey l.lines.items l._turn all;
 }

@@ -11,5 +11,5 @@ returns g c =
       ap (λ k. k.records) c.in_ok-take.ensures.known ∙ noted_records (known c.args.survey.now) (state_of c.args.book.now.log) c.in-Some.line,
       λ all left.
           let (rest, first, after) = one.0 all left in
-          record { line = c.in-Some.line; rest = rest; first = first; left = after; log = c.in_ok-take.ensures.after; knows = c.in_ok-take.ensures.known },
+          record { line = c.in-Some.line; rest = rest; first = first; left = after; log = c.in_ok-take.ensures.after; knows = c.in_ok-take.ensures.known; told = c.in_ok-take.ensures.lines },
     )

@@ -1,5 +1,7 @@
-use Rattle.cns_page.proofs.Adding.{Adding}
+use Rattle.std.proofs.Common.{◌≡◌, map}
+use Rattle.std.specs.List.{fold}
+use Rattle.cns_page.specs.Sums.{moved_row, sums_of, with_row}
 use Rattle.cns_page.proofs.sums.sums_of.Given as goal
 
 abbrev pub invariant-loop-row : goal.invariant-loop-row
-invariant-loop-row l = Adding l.initial.row-iterator l.yielded l.row-iterator l.initial.sums.mark l.initial.sums.dividend l.sums
+invariant-loop-row l = sums_of l.moves l.sheet.rows ≡ fold with_row l.sums (map (moved_row l.moves) l.row-iterator)
