@@ -102,6 +102,9 @@ done <<FAULTS
 FAULTS
 run --folder '' < examples/week.csv
 expect 'no name' 1 'fault NoSuchFolder' "$?"
+# The folder is looked for before the records are read, which fails of a folder.
+run --folder "$room/nowhere" < /
+expect 'no folder and no records' 1 'fault NoSuchFolder' "$?"
 run --folder "$room/folder" < /dev/null
 expect 'no day' 1 'fault NoSuchDay' "$?"
 [ -z "$(ls "$room/folder")" ] || fail 'a file in a folder for nothing'

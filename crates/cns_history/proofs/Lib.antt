@@ -1,4 +1,3 @@
 pub mod Limits
 pub mod Owned
-pub mod Along
 pub mod Adding

@@ -3,5 +3,4 @@ pub mod Small
 pub mod Words
 pub mod Texts
 pub mod Page
-pub mod Played
 pub mod Laws

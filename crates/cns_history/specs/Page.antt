@@ -1,12 +1,13 @@
 -- The page of a history.
-use Rattle.std.specs.Prelude.{◌≡◌, ℕ, ℤ, List, [], ◌∷◌, ◌++◌, length, map, take, Option, Some, None, option_map}
+use Rattle.std.specs.Prelude.{◌≡◌, ℕ, ℤ, List, [], ◌∷◌, ◌++◌, length, map, Option, Some, None, option_map}
 use Rattle.std.specs.Fmt.{decimal}
 use Rattle.std.specs.Io.KnownBytes.{Appends}
 use Rattle.cns_units.specs.Day.{day_text}
 use Rattle.cns_terms.specs.Common.{Day, opened}
+use Rattle.cns_book.specs.Log.{state_of}
 use Rattle.cns_book.specs.Shown.{position_shown}
 use Rattle.cns_feed.specs.Line.{Line}
-use Rattle.cns_feed.specs.Output.{lines_of, state_after}
+use Rattle.cns_feed.specs.Output.{state_after}
 use Rattle.cns_tables.specs.Escape.{escaped}
 use Rattle.cns_tables.specs.Pieces.{piece_text}
 use Rattle.cns_tables.specs.Tables.{table_text, texts}
@@ -16,6 +17,7 @@ use Rattle.cns_tables.specs.declared.style.TheConstants.{STYLE}
 use Rattle.cns_history.specs.Lines.{history}
 use Rattle.cns_history.specs.Texts.{line_text}
 use Rattle.cns_history.specs.declared.history.TheConstants.{ACCOUNT_OPTION, DAY_OPTION, FOOT, FOOT_END, HEADING, HEAD_END, IN, ISSUE_OPTION, OPENED, POSITION, RECORDS, START, TITLE_END}
+use Rattle.cns_history.specs.declared.history.Told.{Told}
 use Rattle.cns_history.specs.declared.table.TheConstants.{CAPTION, COLUMNS, ID, NONE, TITLE}
 use Rattle.cns_history.specs.declared.place.Place.{Place}
 use Rattle.cns_history.specs.declared.watched.Watched.TheVariants as watched
@@ -58,8 +60,14 @@ pub record IsCaptioned (t : Table) : Type 0 where
   pub none : t.none.now ≡ NONE.now
   pub columns : map (λ c. c.now) t.columns.now ≡ map (λ c. c.now) COLUMNS
 
--- what was written is the page of so many first records of an input
-pub record HasHistory (p : Place) (most : ℕ) (input : List ℕ) (old new : Option (List ℕ)) : Type 0 where
+-- what records on a book that opens on the place's date came to: the book, how many there are, and their lines at the place
+pub record IsTold (p : Place) (all : List Line) (t : Told) : Type 0 where
+  pub after : state_of t.book.now.log ≡ state_after (opened p.opening) all
+  pub counted : t.records ≡ length all
+  pub lines_are : t.lines.now ≡ history (watched.Place p.key) 0 (opened p.opening) all
+
+-- what was written is the page of records
+pub record ShowsHistory (p : Place) (all : List Line) (old new : Option (List ℕ)) : Type 0 where
   pub table : Table
   pub captioned : IsCaptioned table
-  pub written : Appends old new (page_text table p (take most (lines_of input)))
+  pub written : Appends old new (page_text table p all)

@@ -4,20 +4,28 @@ ghost use Rattle.std.specs.Io.KnownBytes.{Appends};
 ghost use Rattle.cns_book.specs.Log.{state_of};
 ghost use Rattle.cns_book.specs.Shown.{position_shown};
 ghost use Rattle.cns_feed.specs.Line.{Line};
-ghost use Rattle.cns_history.specs.Page.{HasHistory, day_option, foot_text, head_text, page_text};
-ghost use Rattle.cns_history.specs.Played.{IsPlayed};
+ghost use Rattle.cns_history.specs.Page.{IsTold, ShowsHistory, day_option, foot_text, head_text, page_text};
 
+use crate::line::HistoryLine;
 use crate::place::Place;
-use crate::play::{Played, play};
 use crate::table::HISTORY;
-use crate::watched::Watched;
 use cns_feed::ReplayBook;
 use cns_shell::Fault;
 use cns_tables::{Piece, STYLE, Table, hand_on, write_pieces, write_table};
 use cns_terms::Key;
 use cns_units::{Day, WriteFault};
-use std::alloc::Global;
 use std::io::Write;
+
+/// What records came to.
+#[derive(Clone, Copy)]
+pub struct Told<'a> {
+    /// The book that took them.
+    pub book: &'a ReplayBook,
+    /// How many records there were.
+    pub records: u64,
+    /// Their lines at the place.
+    pub lines: &'a [HistoryLine],
+}
 
 // The words of the head and of the foot.
 const START: &str = "<!DOCTYPE html>
@@ -145,40 +153,31 @@ fn check_place(book: &ReplayBook, key: &Key) -> Result<(), Fault> {
 }
 
 // Writes the page of what records came to, with a table for the lines.
-fn write_played<W: Write>(
+fn write_text<W: Write>(
     table: &Table,
     place: &Place,
-    played: &Played,
+    told: &Told<'_>,
     writer: &mut W,
 ) -> Result<(), WriteFault>
-    ensures { (all : List Line) → IsPlayed place.now.opening (Watched.Place place.now.key) all played.now
+    ensures { (all : List Line) → IsTold place.now all told.now
         → OnOk result (Appends (W.contents writer.old) (W.contents writer.new) (page_text table.now place.now all)) }
 {
-    let position = position(&played.book, &place.key);
-    write_head(place, played.records, position, writer)?;
-    write_table(table, played.lines.as_slice(), writer)?;
+    let position = position(told.book, &place.key);
+    write_head(place, told.records, position, writer)?;
+    write_table(table, told.lines, writer)?;
     write_foot(place, writer)
 }
 
-/// Plays the first records of the input, at most so many, on a new book of the place, writes the history of the place as a
-/// page, and hands it on.
+/// Writes the history of a place as a page, by what records came to, and hands it on.
 ///
-/// `NoMemory` where an allocation failed, `Full` after 4,294,967,295 commands, the most that a book takes, `NoSuchIssue` where the
-/// issue is not listed after these records, `NoSuchMember` where the account is neither 0 nor a member's, and `Write` where the
-/// writer fails, takes no byte or cannot be flushed. What was written before stands.
-pub fn write_history<O: Write>(
-    alloc: Global,
-    place: &Place,
-    input: &[u8],
-    most: u64,
-    output: &mut O,
-) -> Result<(), Fault>
-    ensures { OnOk result (HasHistory place.now most input.now (O.contents output.old) (O.contents output.new)) }
+/// `NoSuchIssue` where the issue is not listed after these records, `NoSuchMember` where the account is neither 0 nor a member's, and
+/// `Write` where the writer fails, takes no byte or cannot be flushed. What was written before stands.
+pub fn write_history<W: Write>(place: &Place, told: &Told<'_>, writer: &mut W) -> Result<(), Fault>
+    ensures { (all : List Line) → IsTold place.now all told.now
+        → OnOk result (ShowsHistory place.now all (W.contents writer.old) (W.contents writer.new)) }
 {
-    let watched = Watched::Place(place.key);
-    let played = play(alloc, place.opening, &watched, input, most)?;
-    check_place(&played.book, &place.key)?;
-    write_played(&HISTORY, place, &played, output)?;
-    hand_on(output)?;
+    check_place(told.book, &place.key)?;
+    write_text(&HISTORY, place, told, writer)?;
+    hand_on(writer)?;
     Ok(())
 }

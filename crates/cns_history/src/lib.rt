@@ -1,11 +1,10 @@
 //! What each record booked: the history of a position as a page for a browser, and the bookings of accounts as lines.
 //!
-//! `write_history` plays the first records of an input on a new book and writes one page: a head, one table and a foot. A
+//! `take_watched` takes a command and adds the lines of what is watched: at a place, or at all places of an account or of all. A
 //! record has a line where the shares or the cents that stand at the place are others after it than before it; an accepted
-//! close has one where the day's sheet has a row there, and a line of its own below for trades that it booked. At Ok what was
-//! written is exactly that, byte for byte, as `HasHistory` in `specs/Page.antt` says; the lines are those of `history` in
-//! `specs/Lines.antt`. `take_watched` takes a command and adds those of what is watched: at a place, or at all places of an account or of
-//! all. Start with `Place`, then `play.rt`.
+//! close has one where the day's sheet has a row there, and a line of its own below for trades that it booked. The lines are those of
+//! `history` in `specs/Lines.antt`. `write_history` writes them as one page: a head, one table and a foot. At Ok what was written is
+//! exactly that, byte for byte, as `ShowsHistory` in `specs/Page.antt` says. Start with `Place`, then `play.rt`.
 #![tactic(auto)]
 
 mod accounts;
@@ -23,7 +22,7 @@ mod words;
 
 pub use accounts::accounts_in;
 pub use booked::lines_for;
-pub use history::write_history;
+pub use history::{Told, write_history};
 pub use line::{Booking, Closing, HistoryLine};
 pub use place::Place;
 pub use play::take_watched;

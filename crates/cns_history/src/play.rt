@@ -1,36 +1,17 @@
-// The records of an input, played on a new book one after another.
-ghost use Rattle.std.specs.Prelude.{◌≡◌, ◌<◌, ◌≤◌, ◌-◌, ◌^◌, ◌++◌, [], if◌then◌else◌, IfOk, List, OnOk, length, take};
+// A command that is taken by a book, with the lines of what is watched.
+ghost use Rattle.std.specs.Prelude.{◌≡◌, ◌++◌, [], if◌then◌else◌, IfOk, OnOk, Ok};
 ghost use Rattle.cns_terms.specs.Common.{answer};
-ghost use Rattle.cns_terms.specs.Machine.{opened};
 ghost use Rattle.cns_book.specs.Log.{state_of};
-ghost use Rattle.cns_feed.specs.Line.{Line};
-ghost use Rattle.cns_feed.specs.Output.{state_after_line};
-ghost use Rattle.cns_feed.specs.Output.{lines_of as records_in};
-ghost use Rattle.cns_feed.specs.Records.{IsReady, Pending};
 ghost use Rattle.cns_terms.specs.declared.command.Command.TheVariants as command;
 ghost use Rattle.cns_feed.specs.Replay.{log_after_line};
 ghost use Rattle.cns_history.specs.Lines.{bookings_at, is_between, is_movement, lines_at, lines_of};
-ghost use Rattle.cns_history.specs.Played.{ComesTo, IsPlayed, Steps};
 
 use crate::everywhere::{add_booked, before};
 use crate::line::HistoryLine;
 use crate::told::{Answered, add_lines, standing};
 use crate::watched::{Watched, Whose};
-use cns_feed::{Line, LineFault, Records, ReplayBook, ReplayFault};
+use cns_feed::{ReplayBook, ReplayFault};
 use cns_terms::{Activity, Command, Key, Reply, Worker};
-use cns_units::Day;
-use std::alloc::Global;
-use std::io::Read;
-
-/// What records came to.
-#[derive(Drop)]
-pub(crate) struct Played {
-    pub(crate) lines: Vec<HistoryLine>,
-    /// How many records there were.
-    pub(crate) records: u64,
-    /// The book that took them.
-    pub(crate) book: ReplayBook,
-}
 
 // Takes a command, and adds its lines at a place.
 fn take_at(
@@ -41,7 +22,6 @@ fn take_at(
     lines: &mut Vec<HistoryLine>,
 ) -> Result<Reply, ReplayFault>
     ensures log { OnOk result (book.new.log ≡ log_after_line book.old.log (Ok command.now)) }
-    ensures after { OnOk result (state_of book.new.log ≡ state_after_line (state_of book.old.log) (Ok command.now)) }
     ensures reply { IfOk result (λ r. r ≡ answer (state_of book.old.log) command.now) }
     ensures lines { OnOk result (lines.new.items
         ≡ lines.old.items ++ lines_at key.now number (state_of book.old.log) (Ok command.now)) }
@@ -71,7 +51,6 @@ fn take_activity(
     lines: &mut Vec<HistoryLine>,
 ) -> Result<Reply, ReplayFault>
     ensures log { OnOk result (book.new.log ≡ log_after_line book.old.log (Ok (command.Activity activity.now))) }
-    ensures after { OnOk result (state_of book.new.log ≡ state_after_line (state_of book.old.log) (Ok (command.Activity activity.now))) }
     ensures reply { IfOk result (λ r. r ≡ answer (state_of book.old.log) (command.Activity activity.now)) }
     ensures lines { OnOk result (lines.new.items
         ≡ lines.old.items ++ bookings_at whose.now number (state_of book.old.log) (Ok (command.Activity activity.now))) }
@@ -97,7 +76,6 @@ fn take_for(
     lines: &mut Vec<HistoryLine>,
 ) -> Result<Reply, ReplayFault>
     ensures log { OnOk result (book.new.log ≡ log_after_line book.old.log (Ok command.now)) }
-    ensures after { OnOk result (state_of book.new.log ≡ state_after_line (state_of book.old.log) (Ok command.now)) }
     ensures reply { IfOk result (λ r. r ≡ answer (state_of book.old.log) command.now) }
     ensures lines { OnOk result (lines.new.items ≡ lines.old.items
         ++ (if is_wanted then bookings_at whose.now number (state_of book.old.log) (Ok command.now) else [])) }
@@ -149,7 +127,6 @@ pub fn take_watched(
     lines: &mut Vec<HistoryLine>,
 ) -> Result<Reply, ReplayFault>
     ensures log { OnOk result (book.new.log ≡ log_after_line book.old.log (Ok command.now)) }
-    ensures after { OnOk result (state_of book.new.log ≡ state_after_line (state_of book.old.log) (Ok command.now)) }
     ensures reply { IfOk result (λ r. r ≡ answer (state_of book.old.log) command.now) }
     ensures lines { OnOk result (lines.new.items
         ≡ lines.old.items ++ lines_of watched.now number (state_of book.old.log) (Ok command.now)) }
@@ -166,91 +143,4 @@ pub fn take_watched(
             take_for(book, &Whose::All, is_wanted, number, command, lines)
         }
     }
-}
-
-// Takes the command that a record was read as, if it is one, and adds its lines.
-fn take(
-    book: &mut ReplayBook,
-    watched: &Watched,
-    number: u64,
-    line: &Line,
-    lines: &mut Vec<HistoryLine>,
-) -> Result<(), ReplayFault>
-    ensures after { OnOk result (state_of book.new.log ≡ state_after_line (state_of book.old.log) line.now) }
-    ensures lines { OnOk result (lines.new.items
-        ≡ lines.old.items ++ lines_of watched.now number (state_of book.old.log) line.now) }
-{
-    match line {
-        Ok(command) => {
-            take_watched(book, watched, number, command, lines)?;
-            Ok(())
-        }
-        Err(LineFault::NoMemory) => Err(ReplayFault::NoMemory),
-        Err(_) => Ok(()),
-    }
-}
-
-// Takes the next record, which has the number, and adds its lines. Answers false where there is no more.
-fn step<R: Read>(
-    records: &mut Records<R>,
-    book: &mut ReplayBook,
-    watched: &Watched,
-    number: u64,
-    lines: &mut Vec<HistoryLine>,
-) -> Result<bool, ReplayFault>
-    requires { IsReady records.old }
-    ensures { IfOk result (Steps R.remaining records.old records.new watched.now number (state_of book.old.log)
-        (state_of book.new.log) lines.old.items lines.new.items) }
-{
-    let Some(line) = records.read_line()? else {
-        return Ok(false);
-    };
-    take(book, watched, number, &line, lines)?;
-    Ok(true)
-}
-
-// The same for each record, for at most so many. Answers how many there were.
-fn play_with<R: Read>(
-    records: &mut Records<R>,
-    book: &mut ReplayBook,
-    watched: &Watched,
-    most: u64,
-    lines: &mut Vec<HistoryLine>,
-) -> Result<u64, ReplayFault>
-    requires ready { IsReady records.old }
-    requires none { lines.old.items ≡ [] }
-    ensures { IfOk result (λ count. (all : List Line) → Pending R.remaining records.old all
-        → ComesTo watched.now (state_of book.old.log) (take most all) (state_of book.new.log) lines.new.items count) }
-{
-    for turn in 0..most {
-        if !step(records, book, watched, turn + 1, lines)? {
-            return Ok(turn);
-        }
-    }
-    Ok(most)
-}
-
-/// Takes the commands of the input's first records, at most so many, in order, on a new book that opens on the date, and tells
-/// what they came to where it is watched.
-///
-/// `NoMemory` where an allocation failed, and `Full` after 4,294,967,295 commands, the most that a history has. `Read` does
-/// not come, since the input is in memory.
-pub(crate) fn play(
-    alloc: Global,
-    opening: Day,
-    watched: &Watched,
-    input: &[u8],
-    most: u64,
-) -> Result<Played, ReplayFault>
-    ensures { IfOk result (IsPlayed opening watched.now (take most (records_in input.now))) }
-{
-    let mut book = ReplayBook::new(alloc, opening)?;
-    let mut records = Records::new(alloc, input);
-    let mut lines = Vec::new(alloc);
-    let count = play_with(&mut records, &mut book, watched, most, &mut lines)?;
-    Ok(Played {
-        lines,
-        records: count,
-        book,
-    })
 }

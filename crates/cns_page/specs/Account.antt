@@ -5,7 +5,7 @@ use Rattle.std.specs.Fmt.{decimal}
 use Rattle.std.specs.Option.{option_map_or}
 use Rattle.cns_units.specs.Day.{day_text}
 use Rattle.cns_terms.specs.Common.{Account, Day, DaySheet, State}
-use Rattle.cns_book.specs.Log.{Log, state_of}
+use Rattle.cns_book.specs.Log.{state_of}
 use Rattle.cns_history.specs.declared.line.HistoryLine.{HistoryLine}
 use Rattle.cns_account.specs.Day.{IsAccountDay}
 use Rattle.cns_account.specs.Dividends.{dividend_text, dividends_paid}
@@ -27,13 +27,12 @@ use Rattle.cns_page.specs.Shown.{next_day}
 use Rattle.cns_page.specs.declared.account.Own.{Own}
 use Rattle.cns_page.specs.declared.account.OwnCaptions.{OwnCaptions}
 use Rattle.cns_page.specs.declared.account.TheConstants.{ACCOUNT, ACCOUNT_OPTION, ALL_ACCOUNTS, ALL_ACCOUNTS_END, DIVIDEND, LONG, MAIN, MARK, NET, ON, SENTENCE_END, SHORT, SKIP}
+use Rattle.cns_page.specs.declared.closed.ClosedDay.{ClosedDay}
 use Rattle.cns_page.specs.declared.contents.Contents.{Contents}
 use Rattle.cns_page.specs.declared.finding.Finding.{Finding}
-use Rattle.cns_page.specs.declared.foot.Origin.{Origin}
 use Rattle.cns_page.specs.declared.foot.TheConstants.{AGAIN, AGAIN_DAY}
 use Rattle.cns_page.specs.declared.page.TheConstants.{DAY, NEXT, START, TITLE_END}
 use Rattle.cns_page.specs.declared.projection.Due.{Due}
-use Rattle.cns_page.specs.declared.survey.Close.{Close}
 
 -- ---- the rows
 
@@ -51,15 +50,15 @@ own_fails a S sheet l = map (fail_at S l.past sheet.date) (filter (λ s. s.row.a
 
 -- the rows of the page of the day that a close ends, among those of the page of the day, and by the lines of what the day's records
 -- booked and the refused records
-pub record AreOwn (a : Account) (S : State) (sheet : DaySheet) (ls : List HistoryLine) (fs : List Finding) (l : Contents) (own : Own) : Type 0 where
-  pub day : IsAccountDay S sheet a l.moves ls own.day
+pub record AreOwn (a : Account) (d : ClosedDay) (sheet : DaySheet) (ls : List HistoryLine) (l : Contents) (own : Own) : Type 0 where
+  pub day : IsAccountDay (state_of d.book.log) sheet a l.moves ls own.day
   pub trades : own.trades.items ≡ filter (is_party a) l.trades.items
-  pub due : own.due.items ≡ projected_all S a l.pending sheet.prices
-  pub dividends : own.dividends.items ≡ dividends_paid S l.past a sheet
-  pub fails : own.fails.items ≡ own_fails a S sheet l
+  pub due : own.due.items ≡ projected_all (state_of d.book.log) a l.pending sheet.prices
+  pub dividends : own.dividends.items ≡ dividends_paid (state_of d.book.log) l.past a sheet
+  pub fails : own.fails.items ≡ own_fails a (state_of d.book.log) sheet l
   pub liable : own.liable.items ≡ filter (λ o. o.liable.member == a) l.liable.items
   pub notices : own.notices.items ≡ filter (λ n. n.notice.member == a) l.notices.items
-  pub exceptions : map finding_text own.exceptions.items ≡ map finding_text (filter (names a) fs)
+  pub exceptions : map finding_text own.exceptions.items ≡ map finding_text (filter (names a) d.survey.findings.items)
 
 -- how many rows each table has
 abbrev pub row_counts : Own → List ℕ
@@ -107,14 +106,14 @@ again_text opening d a =
     texts (AGAIN.now ∷ day_text opening ∷ AGAIN_DAY.now ∷ day_text d ∷ ACCOUNT_OPTION.now ∷ decimal a ∷ [])
 
 -- a page with some captions: the head, the tables, and the foot
-abbrev pub account_text : OwnCaptions → Day → Log → Close → Account → Bool → Own → Origin → List ℕ
-account_text t opening log c a linked own o =
-    title_text a c.date ++ (summary_text c.day own.day (next_day log) ++ (nav_text linked c.date ++ (tables_text t own
-    ++ (again_text opening c.date a ++ made_text o (sum_of (row_counts own))))))
+abbrev pub account_text : OwnCaptions → ClosedDay → Account → Bool → Own → List ℕ
+account_text t d a linked own =
+    title_text a d.close.date ++ (summary_text d.close.day own.day (next_day d.book.log) ++ (nav_text linked d.close.date ++ (tables_text t own
+    ++ (again_text d.opening d.close.date a ++ made_text d.origin (sum_of (row_counts own))))))
 
 -- what was written is the text of the page of an account's day, with some captions
-pub record ShowsAccount (opening : Day) (origin : Origin) (log : Log) (c : Close) (sheet : DaySheet) (a : Account) (linked : Bool) (ls : List HistoryLine) (fs : List Finding) (l : Contents) (old new : Option (List ℕ)) : Type 0 where
+pub record ShowsAccount (d : ClosedDay) (sheet : DaySheet) (a : Account) (linked : Bool) (ls : List HistoryLine) (l : Contents) (old new : Option (List ℕ)) : Type 0 where
   pub captions : OwnCaptions
   pub own : Own
-  pub rows : AreOwn a (state_of log) sheet ls fs l own
-  pub written : Appends old new (account_text captions opening log c a linked own origin)
+  pub rows : AreOwn a d sheet ls l own
+  pub written : Appends old new (account_text captions d a linked own)

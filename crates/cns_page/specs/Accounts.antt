@@ -1,5 +1,5 @@
 -- The lines of a sheet and their texts.
-use Rattle.std.specs.Prelude.{ℕ, pos, Bool, List, [], ◌∷◌, ◌++◌, Option, None, Some, codes, if◌then◌else◌}
+use Rattle.std.specs.Prelude.{ℕ, pos, Bool, List, [], ◌∷◌, ◌++◌, Option, None, Some, if◌then◌else◌}
 use Rattle.std.specs.Fmt.{decimal}
 use Rattle.cns_units.specs.Day.{day_text}
 use Rattle.cns_terms.specs.Common.{Account, DaySheet}
@@ -47,10 +47,6 @@ causes_cells c = amount_text c.trades ∷ amount_text c.delivered ∷ amount_tex
 abbrev pub sums_cells : Sums → List (List ℕ)
 sums_cells s = amount_text s.money ∷ amount_text s.moved ∷ (causes_cells s.causes ++ amount_text s.mark ∷ amount_text s.dividend ∷ [])
 
--- the sums over all rows
-abbrev pub all_text : Sums → List ℕ
-all_text s = cells ALL.now (codes "All accounts") ([] ∷ [] ∷ [] ∷ [] ∷ sums_cells s)
-
 -- an account's number, with a link to its page or without
 unfoldable pub name_text : AccountLine → List ℕ
 name_text l =
@@ -60,6 +56,10 @@ name_text l =
 -- the sums of an account's rows
 abbrev pub own_text : Sums → List ℕ
 own_text s = cells [] [] (sums_cells s)
+
+-- the sums over all rows
+abbrev pub all_text : Sums → List ℕ
+all_text s = ALL.now ++ own_text s
 
 -- an account, with these sums
 abbrev pub account_text : AccountLine → List ℕ

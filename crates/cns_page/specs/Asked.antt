@@ -1,26 +1,22 @@
 -- The page that is asked for.
-use Rattle.std.specs.Prelude.{◌≡◌, ◌≤◌, ℕ, ◌-◌, Bool, IfSome, List, length, slice_get, Option, None, Some}
+use Rattle.std.specs.Prelude.{◌≡◌, ◌≤◌, ℕ, List, length, take, Option, None, Some, false}
 use Rattle.cns_terms.specs.Common.{Account, Day, DaySheet, opened}
-use Rattle.cns_book.specs.Log.{Log}
 use Rattle.cns_feed.specs.Output.{lines_of}
-use Rattle.cns_history.specs.Page.{HasHistory}
+use Rattle.cns_history.specs.Page.{ShowsHistory}
 use Rattle.cns_history.specs.declared.place.Place.{Place}
-use Rattle.cns_history.specs.declared.line.HistoryLine.{HistoryLine}
-use Rattle.cns_history.specs.declared.watched.Watched.{Watched}
-use Rattle.cns_history.specs.declared.watched.Watched.TheVariants as watched
 use Rattle.cns_history.specs.declared.watched.Whose.TheVariants as whose
 use Rattle.cns_page.specs.Account.{ShowsAccount}
-use Rattle.cns_page.specs.Listed.{last_record, records_before}
-use Rattle.cns_page.specs.Shown.{HasClosed, IsOfDay}
-use Rattle.cns_page.specs.Survey.{IsChosen, known, noted_all, nothing}
+use Rattle.cns_page.specs.Listed.{last_record}
+use Rattle.cns_page.specs.Shown.{HasClosed, IsClosedDay, IsClosedOn, IsGathered, own_watched}
+use Rattle.cns_page.specs.Survey.{known, noted_all, nothing}
 use Rattle.cns_page.specs.Today.{HasToday}
 use Rattle.cns_page.specs.declared.asked.About.{About}
 use Rattle.cns_page.specs.declared.asked.About.TheVariants as about
 use Rattle.cns_page.specs.declared.asked.Asked.{Asked}
 use Rattle.cns_page.specs.declared.asked.When.{When}
 use Rattle.cns_page.specs.declared.asked.When.TheVariants as when
+use Rattle.cns_page.specs.declared.closed.ClosedDay.{ClosedDay}
 use Rattle.cns_page.specs.declared.contents.Contents.{Contents}
-use Rattle.cns_page.specs.declared.foot.Origin.{Origin}
 use Rattle.cns_page.specs.declared.survey.Close.{Close}
 use Rattle.cns_page.specs.declared.survey.Survey.{Survey}
 
@@ -34,38 +30,29 @@ HasAsked opening input closes when.Today old new = HasToday opening input (last_
 -- of the day with the date, where one is given
 abbrev pub IsOfRecords : List Close → Option Day → ℕ → ℕ → Type 0
 IsOfRecords closes None most records = records ≡ most
-IsOfRecords closes (Some d) most records =
-    (place : ℕ) × IsChosen closes (Some d) place × IfSome (slice_get closes place) (λ c. records ≡ c.record)
+IsOfRecords closes (Some d) most records = (from : ℕ) × (close : Close) × IsClosedOn closes (Some d) from close × (records ≡ close.record)
 
 -- the history of a place, of so many records
 abbrev pub HasPast : Place → List ℕ → List Close → ℕ → Option (List ℕ) → Option (List ℕ) → Type 0
-HasPast p input closes most old new = (records : ℕ) × IsOfRecords closes p.day most records × HasHistory p records input old new
+HasPast p input closes most old new = (records : ℕ) × IsOfRecords closes p.day most records × ShowsHistory p (take records (lines_of input)) old new
 
--- what is watched for an account's page: what the day's records book for it, from the close before, which books what was due, up to
--- the record before the day's own close
-abbrev pub own_watched : Account → ℕ → Close → Watched
-own_watched a from c = watched.Bookings (whose.One a) from (c.record - 1)
-
--- what the day that a close ends did to an account: with what is gathered of the day, and with the refused records of the day that
--- name the account
-pub record HasOwnDay (a : Account) (opening : Day) (input : List ℕ) (from : ℕ) (close : Close) (old new : Option (List ℕ)) : Type 0 where
-  pub linked : Bool
-  pub log : Log
-  pub survey : Survey
+-- what was written is the page of what a closed day did to an account, by itself
+pub record WritesOwn (a : Account) (d : ClosedDay) (old new : Option (List ℕ)) : Type 0 where
   pub sheet : DaySheet
-  pub lines : List HistoryLine
-  pub origin : Origin
   pub contents : Contents
-  pub is : IsOfDay opening input from close (own_watched a from close) linked log survey sheet lines origin contents
-  pub shown : ShowsAccount opening origin log close sheet a linked lines survey.findings.items contents old new
+  pub is : IsGathered d sheet contents
+  pub shown : ShowsAccount d sheet a false d.lines.items contents old new
+
+-- what the day that a close ends did to an account
+pub record HasOwnDay (a : Account) (opening : Day) (input : List ℕ) (from : ℕ) (close : Close) (old new : Option (List ℕ)) : Type 0 where
+  pub day : ClosedDay
+  pub is : IsClosedDay opening input from close (own_watched (whose.One a) from close) day
+  pub written : WritesOwn a day old new
 
 -- of the closed day with the date, or of the last one
-pub record HasOwn (a : Account) (opening : Day) (input : List ℕ) (closes : List Close) (day : Option Day) (old new : Option (List ℕ)) : Type 0 where
-  pub place : ℕ
-  pub chosen : IsChosen closes day place
-  pub close : Close
-  pub there : slice_get closes place ≡ Some close
-  pub shown : HasOwnDay a opening input (records_before closes place) close old new
+abbrev pub HasOwn : Account → Day → List ℕ → List Close → Option Day → Option (List ℕ) → Option (List ℕ) → Type 0
+HasOwn a opening input closes day old new =
+    (from : ℕ) × (close : Close) × IsClosedOn closes day from close × HasOwnDay a opening input from close old new
 
 -- the closed day that is asked for; None for the last one and for the open one
 abbrev pub closed_in : When → Option Day

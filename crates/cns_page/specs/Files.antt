@@ -1,5 +1,5 @@
 -- The names of the files of a folder.
-use Rattle.std.specs.Prelude.{ℕ, List, [], ◌∷◌, ◌++◌, Option, None, Some}
+use Rattle.std.specs.Prelude.{ℕ, List, [], ◌∷◌, ◌++◌, Option, None, Some, option_map}
 use Rattle.std.specs.Fmt.{decimal}
 use Rattle.cns_units.specs.Day.{day_text}
 use Rattle.cns_terms.specs.Common.{Account}
@@ -15,3 +15,11 @@ account_part (Some a) = texts (DASH.now ∷ decimal a ∷ [])
 -- a file's name with its end: the date, and the account
 abbrev pub name_text : Named → List ℕ → List ℕ
 name_text n end = texts (SLASH.now ∷ day_text n.date ∷ []) ++ (account_part n.account ++ end)
+
+-- pages with their names
+abbrev pub KeptPages : Type 0
+KeptPages = List (Named × List ℕ)
+
+-- with one more, where it is known which were kept
+abbrev pub and_kept : Option KeptPages → Named → List ℕ → Option KeptPages
+and_kept k n page = option_map (λ ps. ps ++ (n, page) ∷ []) k

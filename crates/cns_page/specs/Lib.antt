@@ -18,4 +18,5 @@ pub mod Asks
 pub mod Survey
 pub mod Shown
 pub mod Account
+pub mod Folder
 pub mod Asked

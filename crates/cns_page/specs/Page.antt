@@ -13,9 +13,9 @@ use Rattle.cns_page.specs.Foot.{foot_text}
 use Rattle.cns_page.specs.Issues.{issue_line_text}
 use Rattle.cns_page.specs.Rows.{counted_text, due_text, figures_text, notice_row, owing_text, short_text, span_text}
 use Rattle.cns_page.specs.declared.captions.Captions.{Captions}
+use Rattle.cns_page.specs.declared.closed.ClosedDay.{ClosedDay}
 use Rattle.cns_page.specs.declared.contents.Contents.{Contents}
 use Rattle.cns_page.specs.declared.contents.Head.{Head}
-use Rattle.cns_page.specs.declared.foot.Origin.{Origin}
 use Rattle.cns_page.specs.declared.page.TheConstants.{CLOSED, DAY, DAY_AFTER_END, DAY_BEFORE_END, DAY_LINK, EXCEPTIONS, HEADING, LINKS, MAIN, NEXT, RECORDS, START, TITLE_END, TO}
 use Rattle.cns_page.specs.declared.survey.Survey.{Survey}
 use Rattle.cns_page.specs.declared.totals.Span.{Span}
@@ -56,9 +56,9 @@ abbrev pub sum_of : List ℕ → ℕ
 sum_of ns = min (sum_by (λ n. n) ns) (2 ^ 64 - 1)
 
 -- a page with some captions: the head, these tables in this order, and the foot
-abbrev pub page_text : Captions → Day → Survey → Contents → List Span → Origin → List ℕ
-page_text t opening s l spans o =
-    begin_text l.head ++ (table_text finding_text t.exceptions s.findings.items
+abbrev pub page_text : Captions → ClosedDay → Contents → List Span → List ℕ
+page_text t d l spans =
+    begin_text l.head ++ (table_text finding_text t.exceptions d.survey.findings.items
     ++ (table_text counted_text t.reasons l.reasons.items
     ++ (table_text line_text t.accounts l.lines.items
     ++ (table_text issue_line_text t.issues l.issues.items
@@ -68,4 +68,4 @@ page_text t opening s l spans o =
     ++ (table_text due_at_text t.due l.due.items
     ++ (table_text due_text t.projection l.trades.items
     ++ (table_text figures_text t.days l.days.items
-    ++ (table_text span_text t.totals spans ++ foot_text opening (Some l.head.date) o (sum_of (row_counts s l spans)))))))))))))
+    ++ (table_text span_text t.totals spans ++ foot_text d.opening (Some l.head.date) d.origin (sum_of (row_counts d.survey l spans)))))))))))))

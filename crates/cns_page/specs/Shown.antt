@@ -1,5 +1,5 @@
 -- What a page that was written shows.
-use Rattle.std.specs.Prelude.{◌≡◌, ℕ, ◌+◌, ◌-◌, ◌^◌, Bool, List, length, map, min, take, slice_get, Option, Some}
+use Rattle.std.specs.Prelude.{◌≡◌, ℕ, ◌+◌, ◌-◌, ◌^◌, Bool, false, List, length, map, min, take, slice_get, Option, Some}
 use Rattle.std.specs.Io.KnownBytes.{Appends}
 use Rattle.std.specs.Ordering.{int_cmp, nat_cmp}
 use Rattle.cns_terms.specs.Common.{Day, DaySheet, date, journal_of, opened}
@@ -12,9 +12,9 @@ use Rattle.cns_feed.specs.Replay.{blank_log, log_after}
 use Rattle.std.specs.BTreeMap.{IsOrdered}
 use Rattle.cns_terms.specs.Keys.{key_cmp}
 use Rattle.cns_history.specs.Lines.{history}
-use Rattle.cns_history.specs.declared.line.HistoryLine.{HistoryLine}
 use Rattle.cns_history.specs.declared.watched.Watched.{Watched}
 use Rattle.cns_history.specs.declared.watched.Watched.TheVariants as watched
+use Rattle.cns_history.specs.declared.watched.Whose.{Whose}
 use Rattle.cns_account.specs.Moves.{AreMoves}
 use Rattle.cns_account.specs.Past.{IsPast}
 use Rattle.cns_page.specs.Accounts.{sheet_lines}
@@ -25,10 +25,10 @@ use Rattle.cns_page.specs.Listed.{IsInOrderOf, counted, counts, counts_shown, da
 use Rattle.cns_page.specs.Page.{page_text}
 use Rattle.cns_page.specs.Survey.{IsChosen, known, noted_all, nothing}
 use Rattle.cns_page.specs.declared.captions.Captions.{Captions}
+use Rattle.cns_page.specs.declared.closed.ClosedDay.{ClosedDay}
 use Rattle.cns_page.specs.declared.contents.Contents.{Contents}
 use Rattle.cns_page.specs.declared.contents.Head.{Head}
 use Rattle.cns_page.specs.declared.figures.Figures.{Figures}
-use Rattle.cns_page.specs.declared.foot.Origin.{Origin}
 use Rattle.cns_page.specs.declared.shorts.Aged.{Aged}
 use Rattle.cns_page.specs.declared.survey.Close.{Close}
 use Rattle.cns_page.specs.declared.survey.Survey.{Survey}
@@ -64,61 +64,74 @@ head_shown log s c linked = record {
   is_linked = linked;
 }
 
--- the rows of a page, of the day that a close ends, by the lines of what was watched of its records, with links or without
-pub record AreContents (log : Log) (s : Survey) (c : Close) (sheet : DaySheet) (ls : List HistoryLine) (linked : Bool) (l : Contents) : Type 0 where
-  pub head : l.head ≡ head_shown log s c linked
-  pub reasons : map counted l.reasons.items ≡ counts_shown s.reasons.items
-  pub moves : AreMoves (date_before s.closes.items) c.date (looked_at log.history) ls l.moves
+-- the rows of a page of a closed day, by the day's sheet, with links or without
+pub record AreContents (d : ClosedDay) (sheet : DaySheet) (linked : Bool) (l : Contents) : Type 0 where
+  pub head : l.head ≡ head_shown d.book.log d.survey d.close linked
+  pub reasons : map counted l.reasons.items ≡ counts_shown d.survey.reasons.items
+  pub moves : AreMoves (date_before d.survey.closes.items) d.close.date (looked_at d.book.log.history) d.lines.items l.moves
   pub lines : l.lines.items ≡ sheet_lines sheet l.moves linked
   pub issues : AreIssues sheet.rows l.issues.items
-  pub shorts : AreShorts log sheet l.shorts.items
-  pub liable : l.liable.items ≡ liable_shown (state_of log) c.day
-  pub notices : l.notices.items ≡ live_shown (state_of log)
-  pub trades : (ts : List Trade) × AreLater log sheet ts × (l.trades.items ≡ map (due (next_day log)) ts)
+  pub shorts : AreShorts d.book.log sheet l.shorts.items
+  pub liable : l.liable.items ≡ liable_shown (state_of d.book.log) d.close.day
+  pub notices : l.notices.items ≡ live_shown (state_of d.book.log)
+  pub trades : (ts : List Trade) × AreLater d.book.log sheet ts × (l.trades.items ≡ map (due (next_day d.book.log)) ts)
   pub pending : ArePending l.trades.items l.pending
-  pub due : l.due.items ≡ map (λ e. due_at (state_of log) l.pending e.0) l.pending.shares.entries
+  pub due : l.due.items ≡ map (λ e. due_at (state_of d.book.log) l.pending e.0) l.pending.shares.entries
   pub rising : IsOrdered key_cmp l.pending.shares
-  pub days : l.days.items ≡ days_shown log s
-  pub past : IsPast (looked_at log.history) l.past
+  pub days : l.days.items ≡ days_shown d.book.log d.survey
+  pub past : IsPast (looked_at d.book.log.history) l.past
 
 -- what was written is the text of the page of a day, with some captions
-pub record ShowsDay (opening : Day) (origin : Origin) (s : Survey) (l : Contents) (old new : Option (List ℕ)) : Type 0 where
+pub record ShowsDay (d : ClosedDay) (l : Contents) (old new : Option (List ℕ)) : Type 0 where
   pub captions : Captions
   pub spans : List Span
-  pub totals : map counts spans ≡ spans_shown s
-  pub written : Appends old new (page_text captions opening s l spans origin)
+  pub totals : map counts spans ≡ spans_shown d.survey
+  pub written : Appends old new (page_text captions d l spans)
 
--- what is gathered of the day that a close ends: by a book that took the records up to that close and no more, with the sheet that
--- the book has, and by the lines of what is watched. The day's records are those after the one with the number; the origin is that of
--- some first bytes of the input
-pub record IsOfDay (opening : Day) (input : List ℕ) (from : ℕ) (close : Close) (w : Watched) (linked : Bool) (log : Log) (s : Survey) (sheet : DaySheet) (ls : List HistoryLine) (o : Origin) (l : Contents) : Type 0 where
-  pub taken : log ≡ log_after (blank_log opening) (take close.record (lines_of input))
-  pub all_known : known s ≡ noted_all (nothing from) (opened opening) (take close.record (lines_of input))
-  pub closed : sheet_on log.opening (journal_of (state_of log)) close.date ≡ Some sheet
-  pub watched : ls ≡ history w 0 (opened opening) (take close.record (lines_of input))
-  pub gathered : AreContents log s close sheet ls linked l
-  pub made_of : (bytes : ℕ) × IsOrigin (take bytes input) o
+-- the day that a close ends: its book took the records up to that close and no more, and its lines are those of what is watched. The
+-- day's records are those after the one with the number; the origin is that of some first bytes of the input
+pub record IsClosedDay (opening : Day) (input : List ℕ) (from : ℕ) (close : Close) (w : Watched) (d : ClosedDay) : Type 0 where
+  pub opened_on : d.opening ≡ opening
+  pub ended_by : d.close ≡ close
+  pub taken : d.book.log ≡ log_after (blank_log opening) (take close.record (lines_of input))
+  pub all_known : known d.survey ≡ noted_all (nothing from) (opened opening) (take close.record (lines_of input))
+  pub told : d.lines.items ≡ history w 0 (opened opening) (take close.record (lines_of input))
+  pub made_of : (bytes : ℕ) × IsOrigin (take bytes input) d.origin
+
+-- what is gathered of a closed day, by the sheet that its book has, for a page by itself
+pub record IsGathered (d : ClosedDay) (sheet : DaySheet) (l : Contents) : Type 0 where
+  pub closed : sheet_on d.book.log.opening (journal_of (state_of d.book.log)) d.close.date ≡ Some sheet
+  pub gathered : AreContents d sheet false l
+
+-- what was written is the page of a closed day by itself
+pub record WritesDay (d : ClosedDay) (old new : Option (List ℕ)) : Type 0 where
+  pub sheet : DaySheet
+  pub contents : Contents
+  pub is : IsGathered d sheet contents
+  pub shown : ShowsDay d contents old new
 
 -- what is watched for the page of a day: what each of its records books that is neither a trade nor a close
 abbrev pub day_watched : ℕ → Close → Watched
 day_watched from c = watched.Movements (min (from + 1) (2 ^ 64 - 1)) c.record
 
+-- what is watched for the pages of accounts: what the day's records book for them, from the close before, which books what was due,
+-- up to the record before the day's own close
+abbrev pub own_watched : Whose → ℕ → Close → Watched
+own_watched w from c = watched.Bookings w from (c.record - 1)
+
 -- the day that a close ends
 pub record HasDay (opening : Day) (input : List ℕ) (from : ℕ) (close : Close) (old new : Option (List ℕ)) : Type 0 where
-  pub linked : Bool
-  pub log : Log
-  pub survey : Survey
-  pub sheet : DaySheet
-  pub lines : List HistoryLine
-  pub origin : Origin
-  pub contents : Contents
-  pub is : IsOfDay opening input from close (day_watched from close) linked log survey sheet lines origin contents
-  pub shown : ShowsDay opening origin survey contents old new
+  pub day : ClosedDay
+  pub is : IsClosedDay opening input from close (day_watched from close) day
+  pub written : WritesDay day old new
 
--- the day of the close at a place
-pub record HasClosed (opening : Day) (input : List ℕ) (closes : List Close) (day : Option Day) (old new : Option (List ℕ)) : Type 0 where
+-- a closed day that is chosen: its close, and the number of the last record before it
+pub record IsClosedOn (closes : List Close) (day : Option Day) (from : ℕ) (close : Close) : Type 0 where
   pub place : ℕ
   pub chosen : IsChosen closes day place
-  pub close : Close
   pub there : slice_get closes place ≡ Some close
-  pub shown : HasDay opening input (records_before closes place) close old new
+  pub before : from ≡ records_before closes place
+
+-- the closed day with the date, or the last one
+abbrev pub HasClosed : Day → List ℕ → List Close → Option Day → Option (List ℕ) → Option (List ℕ) → Type 0
+HasClosed opening input closes day old new = (from : ℕ) × (close : Close) × IsClosedOn closes day from close × HasDay opening input from close old new

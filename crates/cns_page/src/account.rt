@@ -187,11 +187,17 @@ fn own_fails(
     page: &Page<'_>,
     contents: &Contents,
 ) -> Result<Vec<Fail>, NoMemory>
-    ensures { IfOk result (λ v. v.items ≡ own_fails account (state_of page.now.book.now.log) page.now.sheet.now contents.now) }
+    ensures { IfOk result (λ v. v.items ≡ own_fails account (state_of page.now.day.now.book.log) page.now.sheet.now contents.now) }
 {
     let shorts = own_shorts(alloc, account, contents.shorts.as_slice())?;
     let date = page.sheet.date();
-    fails_of(alloc, page.book, &contents.past, date, shorts.as_slice())
+    fails_of(
+        alloc,
+        &page.day.book,
+        &contents.past,
+        date,
+        shorts.as_slice(),
+    )
 }
 
 // What is left of its liabilities, among those of all members.
@@ -264,23 +270,19 @@ pub(crate) fn own_of(
     contents: &Contents,
     lines: &[HistoryLine],
 ) -> Result<Own, NoMemory>
-    ensures { IfOk result (AreOwn account (state_of page.now.book.now.log) page.now.sheet.now lines.now page.now.survey.now.findings.items contents.now) }
+    ensures { IfOk result (AreOwn account page.now.day.now page.now.sheet.now lines.now contents.now) }
 {
+    let book = &page.day.book;
+    let sheet = page.sheet;
+    let findings = page.day.survey.findings.as_slice();
     let trades = own_trades(alloc, account, contents.trades.as_slice())?;
-    let day = account_day(
-        alloc,
-        page.book,
-        page.sheet,
-        account,
-        &contents.moves,
-        lines,
-    )?;
-    let dividends = dividends_of(alloc, page.book, &contents.past, page.sheet, account)?;
-    let due = projected_all(alloc, page.book, page.sheet, account, &contents.pending)?;
+    let day = account_day(alloc, book, sheet, account, &contents.moves, lines)?;
+    let dividends = dividends_of(alloc, book, &contents.past, sheet, account)?;
+    let due = projected_all(alloc, book, sheet, account, &contents.pending)?;
     let fails = own_fails(alloc, account, page, contents)?;
     let liable = own_liable(alloc, account, contents.liable.as_slice())?;
     let notices = own_notices(alloc, account, contents.notices.as_slice())?;
-    let exceptions = own_exceptions(alloc, account, page.survey.findings.as_slice())?;
+    let exceptions = own_exceptions(alloc, account, findings)?;
     Ok(Own {
         day,
         dividends,
@@ -431,14 +433,16 @@ fn write_whole<W: Write>(
     writer: &mut W,
 ) -> Result<(), WriteFault>
     ensures { OnOk result (Appends (W.contents writer.old) (W.contents writer.new)
-        (account_text captions.now page.now.opening page.now.book.now.log page.now.close account page.now.is_linked own.now page.now.origin.now)) }
+        (account_text captions.now page.now.day.now account page.now.is_linked own.now)) }
 {
-    write_title(account, page.close.date, writer)?;
-    write_summary(page.close.day, &own.day, page.book.today(), writer)?;
-    write_nav(page.is_linked, page.close.date, writer)?;
+    let day = page.day;
+    let date = day.close.date;
+    write_title(account, date, writer)?;
+    write_summary(day.close.day, &own.day, day.book.today(), writer)?;
+    write_nav(page.is_linked, date, writer)?;
     write_tables(captions, own, writer)?;
-    write_again(page.opening, page.close.date, account, writer)?;
-    write_made(page.origin, rows_of(own), writer)?;
+    write_again(day.opening, date, account, writer)?;
+    write_made(&day.origin, rows_of(own), writer)?;
     hand_on(writer)
 }
 
@@ -455,8 +459,8 @@ pub fn write_account<W: Write>(
     lines: &[HistoryLine],
     writer: &mut W,
 ) -> Result<(), Fault>
-    ensures { OnOk result (ShowsAccount page.now.opening page.now.origin.now page.now.book.now.log page.now.close page.now.sheet.now account page.now.is_linked lines.now
-        page.now.survey.now.findings.items contents.now (W.contents writer.old) (W.contents writer.new)) }
+    ensures { OnOk result (ShowsAccount page.now.day.now page.now.sheet.now account page.now.is_linked lines.now contents.now
+        (W.contents writer.old) (W.contents writer.new)) }
 {
     let own = own_of(alloc, account, page, contents, lines)?;
     write_whole(&TABLES, account, page, &own, writer)?;

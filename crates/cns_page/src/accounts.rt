@@ -7,7 +7,7 @@ ghost use Rattle.cns_page.specs.Accounts.{account_line, account_text, all_text, 
 use crate::sums::{MovedRow, Sums, moved_row, own_sums, sums_of};
 use cns_account::DayMoves;
 use cns_sheets::Sheet;
-use cns_tables::{Piece, ROW, TableRow, cents_of, write_line, write_pieces};
+use cns_tables::{Piece, ROW, TableRow, cents_of, write_line, write_markup, write_pieces};
 use cns_terms::{NoMemory, Row, Stated};
 use cns_units::{Account, WriteFault};
 use std::alloc::Global;
@@ -35,7 +35,7 @@ pub enum SheetLine {
 
 // What stands before the sums over all rows, and before those of an account: the end of the table before, and the head of
 // another, since a browser lays out only the tables that are seen.
-const ALL: &str = "<tbody class=total><tr><th scope=row>";
+const ALL: &str = "<tbody class=total><tr><th scope=row>All accounts<td><td><td><td>";
 
 const ACCOUNT: &str =
     "</table>\n</div>\n<div class=part>\n<table>\n<colgroup><col class=name><col class=shares span=2><col class=price span=2>\
@@ -122,27 +122,6 @@ pub fn lines_of(
     Ok(lines)
 }
 
-fn write_all<W: Write>(sums: &Sums, writer: &mut W) -> Result<(), WriteFault>
-    ensures { OnOk result (Appends (W.contents writer.old) (W.contents writer.new) (all_text sums.now)) }
-{
-    let cells = [
-        Piece::Markup(""),
-        Piece::Markup(""),
-        Piece::Markup(""),
-        Piece::Markup(""),
-        Piece::Amount(sums.money),
-        Piece::Amount(sums.moved),
-        Piece::Amount(sums.causes.trades),
-        Piece::Amount(sums.causes.delivered),
-        Piece::Amount(sums.causes.received),
-        Piece::Amount(sums.causes.actions),
-        Piece::Amount(sums.causes.buy_ins),
-        Piece::Amount(sums.mark),
-        Piece::Amount(sums.dividend),
-    ];
-    write_line(ALL, &Piece::Markup("All accounts"), &cells, writer)
-}
-
 // Writes the account's number, with a link to its page where there is one.
 #[tactic(auto, unfolding(crate::specs::Accounts::name_text))]
 fn write_name<W: Write>(line: &AccountLine, writer: &mut W) -> Result<(), WriteFault>
@@ -179,6 +158,13 @@ fn write_sums<W: Write>(sums: &Sums, writer: &mut W) -> Result<(), WriteFault>
         Piece::Amount(sums.dividend),
     ];
     write_line("", &Piece::Markup(""), &cells, writer)
+}
+
+fn write_all<W: Write>(sums: &Sums, writer: &mut W) -> Result<(), WriteFault>
+    ensures { OnOk result (Appends (W.contents writer.old) (W.contents writer.new) (all_text sums.now)) }
+{
+    write_markup(ALL, writer)?;
+    write_sums(sums, writer)
 }
 
 fn write_account<W: Write>(line: &AccountLine, writer: &mut W) -> Result<(), WriteFault>

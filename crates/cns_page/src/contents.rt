@@ -5,10 +5,10 @@ ghost use Rattle.cns_page.specs.Page.{row_counts};
 ghost use Rattle.cns_page.specs.Shown.{AreContents, head_shown};
 
 use crate::accounts::{SheetLine, lines_of};
+use crate::closed::ClosedDay;
 use crate::due::{DueAt, all_due};
 use crate::figures::{Figures, line_of_days};
 use crate::finding::Numbered;
-use crate::foot::Origin;
 use crate::issues::{IssueLine, issue_lines};
 use crate::liable::{Owing, liable_members};
 use crate::notices::live_notices;
@@ -19,27 +19,16 @@ use crate::shorts::{Aged, shorts_of};
 use crate::survey::{Close, Survey};
 use crate::totals::Span;
 use cns_account::{DayMoves, Past, moves_of_day, past_of};
-use cns_feed::ReplayBook;
-use cns_history::HistoryLine;
 use cns_sheets::Sheet;
 use cns_terms::NoMemory;
 use cns_units::Day;
 use std::alloc::Global;
 
-/// What a page is of: a closed day, with the book as its close left it.
+/// What a page is of: a closed day, with its sheet.
 #[derive(Clone, Copy)]
 pub struct Page<'a> {
-    /// The date on which the book was opened.
-    pub opening: Day,
-    /// What it is made of: the records up to the close.
-    pub origin: &'a Origin,
-    /// What they came to.
-    pub survey: &'a Survey,
-    pub close: Close,
-    pub book: &'a ReplayBook,
+    pub day: &'a ClosedDay,
     pub sheet: &'a Sheet<Global>,
-    /// The lines of what was watched of the day's records.
-    pub lines: &'a [HistoryLine],
     /// Whether it stands in a folder with the pages of the accounts and of other days, and links lead to them.
     pub is_linked: bool,
 }
@@ -110,39 +99,42 @@ fn date_before(closes: &[Close]) -> Option<Day>
 }
 
 // What the head tells.
-fn head_of(page: &Page<'_>) -> Head
-    ensures { result ≡ head_shown page.now.book.now.log page.now.survey.now page.now.close page.now.is_linked }
+fn head_of(day: &ClosedDay, is_linked: bool) -> Head
+    ensures { result ≡ head_shown day.now.book.log day.now.survey day.now.close is_linked }
 {
     Head {
-        date: page.close.date,
-        day: page.close.day,
-        first: page.survey.from.saturating_add(1),
-        last: page.close.record,
-        exceptions: page.survey.reasons.len() as u64,
-        before: date_before(page.survey.closes.as_slice()),
-        next: page.book.today(),
-        is_linked: page.is_linked,
+        date: day.close.date,
+        day: day.close.day,
+        first: day.survey.from.saturating_add(1),
+        last: day.close.record,
+        exceptions: day.survey.reasons.len() as u64,
+        before: date_before(day.survey.closes.as_slice()),
+        next: day.book.today(),
+        is_linked,
     }
 }
 
 /// What the page of a day shows.
 pub fn contents_of(alloc: Global, page: &Page<'_>) -> Result<Contents, NoMemory>
-    ensures { IfOk result (AreContents page.now.book.now.log page.now.survey.now page.now.close page.now.sheet.now page.now.lines.now page.now.is_linked) }
+    ensures { IfOk result (AreContents page.now.day.now page.now.sheet.now page.now.is_linked) }
 {
-    let head = head_of(page);
-    let reasons = counts_of(alloc, page.survey.reasons.as_slice())?;
-    let moves = moves_of_day(alloc, page.book, head.before, page.close.date, page.lines)?;
-    let lines = lines_of(alloc, page.sheet, &moves, page.is_linked)?;
-    let issues = issue_lines(alloc, page.sheet)?;
-    let shorts = shorts_of(alloc, page.book, page.sheet)?;
-    let liable = liable_members(alloc, page.book, page.close.day)?;
-    let notices = live_notices(alloc, page.book)?;
-    let later = later_trades(alloc, page.book, page.sheet.date())?;
-    let trades = dues(alloc, later.as_slice(), page.book.today())?;
+    let day = page.day;
+    let book = &day.book;
+    let sheet = page.sheet;
+    let head = head_of(day, page.is_linked);
+    let reasons = counts_of(alloc, day.survey.reasons.as_slice())?;
+    let moves = moves_of_day(alloc, book, head.before, head.date, day.lines.as_slice())?;
+    let lines = lines_of(alloc, sheet, &moves, page.is_linked)?;
+    let issues = issue_lines(alloc, sheet)?;
+    let shorts = shorts_of(alloc, book, sheet)?;
+    let liable = liable_members(alloc, book, head.day)?;
+    let notices = live_notices(alloc, book)?;
+    let later = later_trades(alloc, book, sheet.date())?;
+    let trades = dues(alloc, later.as_slice(), head.next)?;
     let pending = pending_shares(alloc, trades.as_slice())?;
-    let due = all_due(alloc, page.book, &pending)?;
-    let days = line_of_days(alloc, page.book, last_of(page.survey.closes.as_slice()))?;
-    let past = past_of(alloc, page.book)?;
+    let due = all_due(alloc, book, &pending)?;
+    let days = line_of_days(alloc, book, last_of(day.survey.closes.as_slice()))?;
+    let past = past_of(alloc, book)?;
     Ok(Contents {
         head,
         reasons,

@@ -7,7 +7,8 @@ ghost use Rattle.cns_page.specs.Asks.{question};
 ghost use Rattle.cns_page.specs.Asked.{HasPage};
 ghost use Rattle.cns_page.specs.Usage.{usage_line};
 
-use crate::asked::{Asked, asked_of};
+use crate::asked::{About, Asked, asked_of};
+use crate::files::check_folder;
 use crate::make::make;
 use cns_shell::{Ended, Fault, fail, refuse_usage};
 use std::alloc::Global;
@@ -34,6 +35,14 @@ fn bytes_of<I: Read>(alloc: Global, input: &mut I) -> Result<Vec<u8>, Fault>
     }
 }
 
+// Checks, before anything is read, that a folder that pages are asked for in is there.
+fn check_asked<R: Files>(rt: &R, about: About, folder: &str) -> Result<(), Fault> {
+    match about {
+        About::Folder => check_folder(rt, folder),
+        _ => Ok(()),
+    }
+}
+
 // Writes what is asked for, of all that a reader gives.
 fn make_of<R: AllocGlobal + Files<File = File>, I: Read, O: Write>(
     rt: &R,
@@ -45,6 +54,7 @@ fn make_of<R: AllocGlobal + Files<File = File>, I: Read, O: Write>(
     ensures { OnOk result (IfSome (I.remaining input.old)
         (λ bytes. HasPage asked.now bytes (O.contents output.old) (O.contents output.new))) }
 {
+    check_asked(rt, asked.about, folder)?;
     let bytes = bytes_of(rt.alloc(), input)?;
     make(rt, asked, folder, bytes.as_slice(), output)
 }

@@ -1,7 +1,7 @@
 // The files of a folder: each of them is whole, or is not there.
 ghost use Rattle.std.specs.Prelude.{◌≡◌, ◌++◌, IfOk, OnOk, string_bytes};
 ghost use Rattle.std.specs.Io.KnownBytes.{Appends};
-ghost use Rattle.cns_page.specs.Files.{account_part, name_text};
+ghost use Rattle.cns_page.specs.Files.{account_part, and_kept, name_text};
 
 use cns_shell::Fault;
 use cns_tables::{Piece, write_markup, write_pieces};
@@ -121,18 +121,39 @@ pub(crate) fn check_folder<R: Files>(rt: &R, folder: &str) -> Result<(), Fault> 
     }
 }
 
-/// Writes a page as a file of a folder, whole or not at all. A file that is there stays as it is: `OtherPage` where it has other
-/// bytes than the page.
-pub(crate) fn save<R: AllocGlobal + Files<File = File>>(
-    rt: &R,
-    folder: &str,
-    named: &Named,
-    page: &[u8],
-) -> Result<(), Fault> {
-    let path = path_of(rt.alloc(), folder, named, PAGE)?;
-    if is_there(rt, path.as_str(), named, page)? {
-        return Ok(());
+/// Where pages are kept, each under its name.
+pub(crate) trait Keeps {
+    ghost use Rattle.std.specs.Prelude.{Option};
+    ghost use Rattle.cns_page.specs.Files.{KeptPages};
+
+    /// The pages that were kept, in order, where that is known.
+    ghost kept: { Self → Option KeptPages };
+
+    /// Keeps a page, whole or not at all.
+    fn keep(&mut self, named: &Named, page: &[u8]) -> Result<(), Fault>
+        ensures { OnOk result (kept self.new ≡ and_kept (kept self.old) named.now page.now) };
+}
+
+/// A folder of files. Contracts don't see them.
+#[derive(Drop)]
+pub(crate) struct Folder<'a, R> {
+    pub(crate) rt: &'a R,
+    pub(crate) path: &'a str,
+}
+
+impl<'a, R: AllocGlobal + Files<File = File>> Keeps for Folder<'a, R> {
+    ghost use Rattle.std.specs.Prelude.{None};
+
+    ghost kept = { λ f. None };
+
+    // A file that is there stays as it is: `OtherPage` where it has other bytes than the page.
+    fn keep(&mut self, named: &Named, page: &[u8]) -> Result<(), Fault> {
+        let alloc = self.rt.alloc();
+        let path = path_of(alloc, self.path, named, PAGE)?;
+        if is_there(self.rt, path.as_str(), named, page)? {
+            return Ok(());
+        }
+        let part = path_of(alloc, self.path, named, PART)?;
+        write_whole(self.rt, part.as_str(), path.as_str(), page)
     }
-    let part = path_of(rt.alloc(), folder, named, PART)?;
-    write_whole(rt, part.as_str(), path.as_str(), page)
 }

@@ -1,28 +1,25 @@
 // The pages of a closed day as files of a folder: that of each account, and that of the day, with links between them.
-ghost use Rattle.std.specs.Prelude.{◌≡◌, [], IfOk, Some, filter, map, slice_get};
+ghost use Rattle.std.specs.Prelude.{◌≡◌, ℕ, [], ◌∷◌, IfOk, List, None, OnOk, Some, map, slice_get, true};
 ghost use Rattle.cns_book.specs.Log.{state_of};
-ghost use Rattle.cns_history.specs.Lines.{accounts_of, is_line_of};
+ghost use Rattle.cns_history.specs.Lines.{accounts_of};
 ghost use Rattle.cns_history.specs.declared.watched.Whose.TheVariants as whose;
-ghost use Rattle.cns_page.specs.Account.{ShowsAccount};
+ghost use Rattle.cns_page.specs.Files.{and_kept};
+ghost use Rattle.cns_page.specs.Folder.{IsOwnPage, KeepsDay, KeepsFolder, KeepsOwn};
 ghost use Rattle.cns_page.specs.Shown.{ShowsDay};
 
 use crate::account::write_account;
+use crate::closed::{ClosedDay, closed_day, own_watched};
 use crate::contents::{Contents, Page, contents_of};
-use crate::files::{Named, save};
-use crate::foot::origin_of;
-use crate::make::{first_of, sheet_of};
+use crate::files::{Keeps, Named};
 use crate::page::write_page;
-use crate::play::{Played, play};
 use crate::survey::Close;
 use cns_feed::ReplayBook;
-use cns_history::{Watched, Whose, accounts_in, lines_for};
+use cns_history::{Whose, accounts_in, lines_for};
 use cns_sheets::Sheet;
 use cns_shell::Fault;
 use cns_terms::NoMemory;
 use cns_units::{Account, Day};
 use std::alloc::Global;
-use std::fs::File;
-use std::rt::Files;
 
 // The accounts of a book, by number: the corporation's and the members'. None where no issue is listed: then nothing is booked.
 fn accounts_of(
@@ -45,84 +42,105 @@ fn own_page(
     page: &Page<'_>,
     contents: &Contents,
 ) -> Result<Vec<u8>, Fault>
-    ensures { IfOk result (λ v. ShowsAccount page.now.opening page.now.origin.now page.now.book.now.log page.now.close page.now.sheet.now account page.now.is_linked
-        (filter (is_line_of account) page.now.lines.now) page.now.survey.now.findings.items contents.now (Some []) (Some v.items)) }
+    requires { page.now.is_linked ≡ true }
+    ensures { IfOk result (λ v. IsOwnPage page.now.day.now page.now.sheet.now contents.now account v.items) }
 {
-    let own = lines_for(alloc, account, page.lines)?;
+    let own = lines_for(alloc, account, page.day.lines.as_slice())?;
     let mut bytes = Vec::new(alloc);
     write_account(alloc, account, page, contents, own.as_slice(), &mut bytes)?;
     Ok(bytes)
 }
 
 // The page of the day.
-fn day_page(alloc: Global, page: &Page<'_>, contents: &Contents) -> Result<Vec<u8>, Fault>
-    ensures { IfOk result (λ v. ShowsDay page.now.opening page.now.origin.now page.now.survey.now contents.now (Some []) (Some v.items)) }
+fn day_page(alloc: Global, day: &ClosedDay, contents: &Contents) -> Result<Vec<u8>, Fault>
+    ensures { IfOk result (λ v. ShowsDay day.now contents.now (Some []) (Some v.items)) }
 {
     let mut bytes = Vec::new(alloc);
-    write_page(page, contents, &mut bytes)?;
+    write_page(day, contents, &mut bytes)?;
     Ok(bytes)
 }
 
-// Saves the page of each account, and then that of the day, whose links lead to them.
-fn save_pages<R: AllocGlobal + Files<File = File>>(
-    rt: &R,
-    folder: &str,
+// Keeps the page of an account.
+fn keep_own<K: Keeps>(
+    alloc: Global,
+    account: Account,
+    page: &Page<'_>,
+    contents: &Contents,
+    keeper: &mut K,
+) -> Result<(), Fault>
+    requires { page.now.is_linked ≡ true }
+    ensures { OnOk result (KeepsOwn page.now.day.now page.now.sheet.now contents.now (account ∷ []) (K.kept keeper.old) (K.kept keeper.new)) }
+{
+    let bytes = own_page(alloc, account, page, contents)?;
+    let named = Named {
+        date: page.day.close.date,
+        account: Some(account),
+    };
+    keeper.keep(&named, bytes.as_slice())?;
+    Ok(())
+}
+
+// Keeps the page of each account.
+fn keep_each<K: Keeps>(
+    alloc: Global,
     accounts: &[Account],
     page: &Page<'_>,
     contents: &Contents,
-) -> Result<(), Fault> {
-    let date = page.close.date;
+    keeper: &mut K,
+) -> Result<(), Fault>
+    requires { page.now.is_linked ≡ true }
+    ensures { OnOk result (KeepsOwn page.now.day.now page.now.sheet.now contents.now accounts.now (K.kept keeper.old) (K.kept keeper.new)) }
+{
     for account in accounts {
-        let bytes = own_page(rt.alloc(), *account, page, contents)?;
-        let named = Named {
-            date,
-            account: Some(*account),
-        };
-        save(rt, folder, &named, bytes.as_slice())?;
+        keep_own(alloc, *account, page, contents, keeper)?;
     }
-    let bytes = day_page(rt.alloc(), page, contents)?;
-    let named = Named {
-        date,
-        account: None,
-    };
-    save(rt, folder, &named, bytes.as_slice())
+    Ok(())
 }
 
-/// Writes the pages of the day that a close ends, of the records up to that close alone, into a folder; those after `from` are the
-/// day's.
-pub(crate) fn write_folder<R: AllocGlobal + Files<File = File>>(
-    rt: &R,
-    folder: &str,
+// Keeps the page of the day.
+fn keep_day_page<K: Keeps>(
+    alloc: Global,
+    day: &ClosedDay,
+    contents: &Contents,
+    keeper: &mut K,
+) -> Result<(), Fault>
+    ensures { OnOk result ((text : List ℕ) × ShowsDay day.now contents.now (Some []) (Some text)
+        × (K.kept keeper.new ≡ and_kept (K.kept keeper.old) (record { date = day.now.close.date; account = None }) text)) }
+{
+    let bytes = day_page(alloc, day, contents)?;
+    let named = Named {
+        date: day.close.date,
+        account: None,
+    };
+    keeper.keep(&named, bytes.as_slice())?;
+    Ok(())
+}
+
+// Keeps the pages of a closed day: that of each account, and then that of the day, whose links lead to them.
+fn keep_day<K: Keeps>(alloc: Global, day: &ClosedDay, keeper: &mut K) -> Result<(), Fault>
+    ensures { OnOk result (KeepsDay day.now (K.kept keeper.old) (K.kept keeper.new)) }
+{
+    let page = day.page(true)?;
+    let contents = contents_of(alloc, &page)?;
+    let accounts = accounts_of(alloc, &day.book, page.sheet)?;
+    keep_each(alloc, accounts.as_slice(), &page, &contents, keeper)?;
+    keep_day_page(alloc, day, &contents, keeper)?;
+    Ok(())
+}
+
+/// Keeps the pages of the day that a close ends, of the records up to that close alone; those after `from` are the day's.
+pub(crate) fn keep_folder<K: Keeps>(
+    alloc: Global,
     opening: Day,
     input: &[u8],
     from: u64,
     close: Close,
-) -> Result<(), Fault> {
-    let alloc = rt.alloc();
-    let before = close.record.saturating_sub(1);
-    let watched = Watched::Bookings(Whose::All, from, before);
-    let Played {
-        survey,
-        lines,
-        book,
-        bytes,
-        is_whole: _,
-    } = play(alloc, input, opening, from, close.record, &watched)?;
-    let Some(sheet) = sheet_of(&book, close.date) else {
-        return Err(Fault::NoSuchDay);
-    };
-    let accounts = accounts_of(alloc, &book, sheet)?;
-    let origin = origin_of(alloc, first_of(input, bytes))?;
-    let page = Page {
-        opening,
-        origin: &origin,
-        survey: &survey,
-        close,
-        book: &book,
-        sheet,
-        lines: lines.as_slice(),
-        is_linked: true,
-    };
-    let contents = contents_of(alloc, &page)?;
-    save_pages(rt, folder, accounts.as_slice(), &page, &contents)
+    keeper: &mut K,
+) -> Result<(), Fault>
+    ensures { OnOk result (KeepsFolder opening input.now from close (K.kept keeper.old) (K.kept keeper.new)) }
+{
+    let watched = own_watched(Whose::All, from, &close);
+    let day = closed_day(alloc, opening, input, from, close, &watched)?;
+    keep_day(alloc, &day, keeper)?;
+    Ok(())
 }

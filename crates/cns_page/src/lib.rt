@@ -3,17 +3,18 @@
 //! `run_words` takes the words of a line, a reader of records and two writers. It keeps the records in memory, and plays
 //! them twice (`play.rt`): once through, to find the closes, and then up to the close that the page is of, with the day's
 //! exceptions noted; so what comes after a close changes nothing on its page, and stands on the page of the open day
-//! (`today.rt`). What a closed day did to an account is a page too (`account.rt`), of rows that `cns_account` gathers, and so is
-//! the history of a position, which `cns_history` writes. The pages of a day go into a folder by `folder.rt`, each file whole or not at
-//! all (`files.rt`). What a page shows is gathered first (`contents.rt`), and then written: a
-//! head, tables in a fixed order (`captions.rt`), and a foot. At status 0 what was written is exactly that, as `HasPage` in
-//! `specs/Asked.antt` says, for some captions. Start with `page.rt`.
+//! (`today.rt`). A closed day (`closed.rt`) is the book as its close left it, with what was noted and watched. What its pages show is
+//! gathered first (`contents.rt`), and then written: a head, tables in a fixed order (`captions.rt`), and a foot. What the day did to an
+//! account is a page too (`account.rt`), of rows that `cns_account` gathers, and so is the history of a position, which `cns_history`
+//! writes. All pages of a day are kept in a folder (`folder.rt`), each file whole or not at all (`files.rt`). At status 0 what was
+//! written is exactly that, as `HasPage` in `specs/Asked.antt` says, for some captions. Start with `page.rt`.
 #![tactic(auto)]
 
 mod account;
 mod accounts;
 mod asked;
 mod captions;
+mod closed;
 mod contents;
 mod due;
 mod entry;

@@ -1,26 +1,26 @@
 // The page that is asked for, of the records of an input.
-ghost use Rattle.std.specs.Prelude.{◌≡◌, ◌<◌, ◌≤◌, IfOk, OnOk, Some, length, option_map, slice_get, take, true};
-ghost use Rattle.cns_terms.specs.Common.{journal_of, opened, sheet_on};
-ghost use Rattle.cns_book.specs.Log.{state_of};
+ghost use Rattle.std.specs.Prelude.{◌≡◌, ◌<◌, ◌≤◌, IfOk, IfSome, OnOk, Some, length, slice_get, true};
+ghost use Rattle.cns_terms.specs.Common.{opened};
 ghost use Rattle.cns_feed.specs.Output.{lines_of};
 ghost use Rattle.cns_page.specs.Listed.{last_record, records_before};
-ghost use Rattle.cns_page.specs.Asked.{HasAsked, HasOwn, HasOwnDay, HasPage, HasPast, IsOfRecords, closed_in};
-ghost use Rattle.cns_page.specs.Shown.{HasClosed, HasDay};
+ghost use Rattle.cns_page.specs.Asked.{HasAsked, HasOwn, HasOwnDay, HasPage, HasPast, IsOfRecords, WritesOwn, closed_in};
+ghost use Rattle.cns_page.specs.Folder.{KeepsClosed};
+ghost use Rattle.cns_page.specs.Shown.{HasClosed, HasDay, IsClosedOn, WritesDay};
 ghost use Rattle.cns_page.specs.Survey.{known, noted_all, nothing};
 ghost use Rattle.cns_page.specs.Today.{HasToday};
 
 use crate::account::write_account;
 use crate::asked::{About, Asked, When};
-use crate::contents::{Page, contents_of};
-use crate::files::check_folder;
-use crate::folder::write_folder;
-use crate::foot::origin_of;
+use crate::closed::{ClosedDay, closed_day, own_watched};
+use crate::contents::contents_of;
+use crate::files::{Folder, Keeps};
+use crate::folder::keep_folder;
 use crate::page::write_page;
 use crate::play::{Played, play};
 use crate::survey::{Close, Survey, place_of};
 use crate::today::{OpenDay, write_today};
 use cns_feed::{MOST_RECORDS, ReplayBook, ReplayFault};
-use cns_history::{Place, Watched, Whose, write_history};
+use cns_history::{Place, Told, Watched, Whose, write_history};
 use cns_sheets::Sheet;
 use cns_shell::Fault;
 use cns_units::{Account, Day};
@@ -81,23 +81,25 @@ fn records_before(survey: &Survey, place: usize) -> u64
     last_record(&survey.closes[..place])
 }
 
-/// The sheet of a closed day.
-pub(crate) fn sheet_of(book: &ReplayBook, date: Day) -> Option<&Sheet<Global>>
-    ensures { option_map (λ s. s.now) result
-        ≡ sheet_on book.now.log.opening (journal_of (state_of book.now.log)) date }
+// The closed day that is asked for, the last one where none is: the number of the last record before it, and its close.
+fn chosen(survey: &Survey, day: Option<Day>) -> Option<(u64, Close)>
+    ensures { IfSome result (λ r. IsClosedOn survey.now.closes.items day r.0 r.1) }
 {
-    let sheet = book.sheet(date)?;
-    Some(sheet)
+    let place = place_of(survey.closes.as_slice(), day)?;
+    Some((records_before(survey, place), close_at(survey, place)))
 }
 
-/// The first bytes of an input, so many.
-pub(crate) fn first_of(input: &[u8], bytes: usize) -> &[u8]
-    ensures { result.now ≡ take bytes input.now }
+// Writes the page of a closed day.
+fn write_taken<O: Write>(alloc: Global, day: &ClosedDay, output: &mut O) -> Result<(), Fault>
+    ensures { OnOk result (WritesDay day.now (O.contents output.old) (O.contents output.new)) }
 {
-    &input[..bytes.min(input.len())]
+    let page = day.page(false)?;
+    let contents = contents_of(alloc, &page)?;
+    write_page(day, &contents, output)?;
+    Ok(())
 }
 
-// Writes the page of the day that a close ends, of the records up to that close alone; those after `from` are the day's.
+// Writes the page of the day that a close ends; the records after `from` are the day's.
 fn write_day<O: Write>(
     alloc: Global,
     opening: Day,
@@ -109,29 +111,8 @@ fn write_day<O: Write>(
     ensures { OnOk result (HasDay opening input.now from close (O.contents output.old) (O.contents output.new)) }
 {
     let watched = Watched::Movements(from.saturating_add(1), close.record);
-    let Played {
-        survey,
-        lines,
-        book,
-        bytes,
-        is_whole: _,
-    } = play(alloc, input, opening, from, close.record, &watched)?;
-    let Some(sheet) = sheet_of(&book, close.date) else {
-        return Err(Fault::NoSuchDay);
-    };
-    let origin = origin_of(alloc, first_of(input, bytes))?;
-    let page = Page {
-        opening,
-        origin: &origin,
-        survey: &survey,
-        close,
-        book: &book,
-        sheet,
-        lines: lines.as_slice(),
-        is_linked: false,
-    };
-    let contents = contents_of(alloc, &page)?;
-    write_page(&page, &contents, output)?;
+    let day = closed_day(alloc, opening, input, from, close, &watched)?;
+    write_taken(alloc, &day, output)?;
     Ok(())
 }
 
@@ -146,8 +127,29 @@ fn check_account(book: &ReplayBook, sheet: &Sheet<Global>, account: Account) -> 
     }
 }
 
-// Writes the page of what the day that a close ends did to an account, of the records up to that close alone; those after `from`
-// are the day's.
+// Writes the page of what a closed day did to an account.
+fn write_own_taken<O: Write>(
+    alloc: Global,
+    account: Account,
+    day: &ClosedDay,
+    output: &mut O,
+) -> Result<(), Fault>
+    ensures { OnOk result (WritesOwn account day.now (O.contents output.old) (O.contents output.new)) }
+{
+    let page = day.page(false)?;
+    check_account(&day.book, page.sheet, account)?;
+    let contents = contents_of(alloc, &page)?;
+    write_account(
+        alloc,
+        account,
+        &page,
+        &contents,
+        day.lines.as_slice(),
+        output,
+    )
+}
+
+// Writes the page of what the day that a close ends did to an account; the records after `from` are the day's.
 fn write_own_day<O: Write>(
     alloc: Global,
     opening: Day,
@@ -159,32 +161,10 @@ fn write_own_day<O: Write>(
 ) -> Result<(), Fault>
     ensures { OnOk result (HasOwnDay account opening input.now from close (O.contents output.old) (O.contents output.new)) }
 {
-    let before = close.record.saturating_sub(1);
-    let watched = Watched::Bookings(Whose::One(account), from, before);
-    let Played {
-        survey,
-        lines,
-        book,
-        bytes,
-        is_whole: _,
-    } = play(alloc, input, opening, from, close.record, &watched)?;
-    let Some(sheet) = sheet_of(&book, close.date) else {
-        return Err(Fault::NoSuchDay);
-    };
-    check_account(&book, sheet, account)?;
-    let origin = origin_of(alloc, first_of(input, bytes))?;
-    let page = Page {
-        opening,
-        origin: &origin,
-        survey: &survey,
-        close,
-        book: &book,
-        sheet,
-        lines: lines.as_slice(),
-        is_linked: false,
-    };
-    let contents = contents_of(alloc, &page)?;
-    write_account(alloc, account, &page, &contents, page.lines, output)
+    let watched = own_watched(Whose::One(account), from, &close);
+    let day = closed_day(alloc, opening, input, from, close, &watched)?;
+    write_own_taken(alloc, account, &day, output)?;
+    Ok(())
 }
 
 // Writes the page of what the closed day that is asked for, the last one where none is, did to an account, by the closes among all
@@ -200,11 +180,9 @@ fn write_own<O: Write>(
 ) -> Result<(), Fault>
     ensures { OnOk result (HasOwn account opening input.now survey.now.closes.items day (O.contents output.old) (O.contents output.new)) }
 {
-    let Some(place) = place_of(survey.closes.as_slice(), day) else {
+    let Some((from, close)) = chosen(survey, day) else {
         return Err(Fault::NoSuchDay);
     };
-    let from = records_before(survey, place);
-    let close = close_at(survey, place);
     write_own_day(alloc, opening, account, input, from, close, output)
 }
 
@@ -247,11 +225,10 @@ fn write_closed<O: Write>(
 ) -> Result<(), Fault>
     ensures { OnOk result (HasClosed opening input.now survey.now.closes.items day (O.contents output.old) (O.contents output.new)) }
 {
-    let Some(place) = place_of(survey.closes.as_slice(), day) else {
+    let Some((from, close)) = chosen(survey, day) else {
         return Err(Fault::NoSuchDay);
     };
-    let from = records_before(survey, place);
-    write_day(alloc, opening, input, from, close_at(survey, place), output)
+    write_day(alloc, opening, input, from, close, output)
 }
 
 // How many records a history is of: those up to the close of the closed day, or as many as there may be.
@@ -261,10 +238,10 @@ fn records_of(survey: &Survey, day: Option<Day>, most: u64) -> Result<u64, Fault
     if day.is_none() {
         return Ok(most);
     }
-    let Some(place) = place_of(survey.closes.as_slice(), day) else {
+    let Some((_, close)) = chosen(survey, day) else {
         return Err(Fault::NoSuchDay);
     };
-    Ok(close_at(survey, place).record)
+    Ok(close.record)
 }
 
 // Writes the history of a place, up to the close of the closed day, or of all records, of which there are at most so many.
@@ -279,7 +256,15 @@ fn write_past<O: Write>(
     ensures { OnOk result (HasPast place.now input.now survey.now.closes.items most (O.contents output.old) (O.contents output.new)) }
 {
     let records = records_of(survey, place.day, most)?;
-    write_history(alloc, place, input, records, output)
+    let watched = Watched::Place(place.key);
+    let played = play(alloc, input, place.opening, records, records, &watched)?;
+    let told = Told {
+        book: &played.book,
+        records: played.survey.records,
+        lines: played.lines.as_slice(),
+    };
+    write_history(place, &told, output)?;
+    Ok(())
 }
 
 // The closed day that is asked for; None for the last one and for the open one.
@@ -315,21 +300,21 @@ fn write_asked<O: Write>(
     }
 }
 
-// Writes the pages of the closed day that is asked for, the last one where none is, into a folder.
-fn write_files<R: AllocGlobal + Files<File = File>>(
-    rt: &R,
-    folder: &str,
+// Keeps the pages of the closed day that is asked for, the last one where none is, by the closes among all records.
+fn keep_closed<K: Keeps>(
+    alloc: Global,
     opening: Day,
     input: &[u8],
     survey: &Survey,
     day: Option<Day>,
-) -> Result<(), Fault> {
-    check_folder(rt, folder)?;
-    let Some(place) = place_of(survey.closes.as_slice(), day) else {
+    keeper: &mut K,
+) -> Result<(), Fault>
+    ensures { OnOk result (KeepsClosed opening input.now survey.now.closes.items day (K.kept keeper.old) (K.kept keeper.new)) }
+{
+    let Some((from, close)) = chosen(survey, day) else {
         return Err(Fault::NoSuchDay);
     };
-    let from = records_before(survey, place);
-    write_folder(rt, folder, opening, input, from, close_at(survey, place))
+    keep_folder(alloc, opening, input, from, close, keeper)
 }
 
 /// Writes the page that is asked for, of the records of an input, and hands it on; or writes pages into the folder.
@@ -337,7 +322,7 @@ fn write_files<R: AllocGlobal + Files<File = File>>(
 /// `NoMemory` where an allocation failed, `Read` where there are 4,294,967,295 records or more, or a file of the folder cannot be
 /// read, `NoSuchDay` where no closed day has the date, or no day is closed, or what the open day did to an account or its pages
 /// for a folder are asked for, `NoSuchMember` and `NoSuchIssue` where the account or the issue that is asked for is not there,
-/// `NoSuchFolder` where the folder is not there, `OtherPage` where it has another page, and `Write` where the writer fails or a file
+/// `OtherPage` where the folder has another page, and `Write` where the writer fails or a file
 /// cannot be written. What was written before stands, and each file is whole.
 pub(crate) fn make<R: AllocGlobal + Files<File = File>, O: Write>(
     rt: &R,
@@ -365,7 +350,10 @@ pub(crate) fn make<R: AllocGlobal + Files<File = File>, O: Write>(
         }
         About::Folder => match asked.day {
             When::Today => Err(Fault::NoSuchDay),
-            _ => write_files(rt, folder, opening, input, &survey, day),
+            _ => {
+                let mut folder = Folder { rt, path: folder };
+                keep_closed(alloc, opening, input, &survey, day, &mut folder)
+            }
         },
     }
 }

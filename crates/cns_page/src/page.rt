@@ -5,7 +5,8 @@ ghost use Rattle.cns_page.specs.Page.{after_text, before_text, begin_text, head_
 ghost use Rattle.cns_page.specs.Shown.{ShowsDay};
 
 use crate::captions::{CAPTIONS, Captions};
-use crate::contents::{Contents, Head, Page, rows_of};
+use crate::closed::ClosedDay;
+use crate::contents::{Contents, Head, rows_of};
 use crate::foot::write_foot;
 use crate::totals::{Span, spans_of};
 use cns_tables::{Piece, STYLE, hand_on, write_markup, write_pieces, write_table};
@@ -153,20 +154,16 @@ fn write_begin<W: Write>(head: &Head, writer: &mut W) -> Result<(), WriteFault>
 // Writes a page with some captions.
 fn write_text<W: Write>(
     captions: &Captions,
-    page: &Page<'_>,
+    day: &ClosedDay,
     contents: &Contents,
     totals: &[Span],
     writer: &mut W,
 ) -> Result<(), WriteFault>
     ensures { OnOk result (Appends (W.contents writer.old) (W.contents writer.new)
-        (page_text captions.now page.now.opening page.now.survey.now contents.now totals.now page.now.origin.now)) }
+        (page_text captions.now day.now contents.now totals.now)) }
 {
     write_begin(&contents.head, writer)?;
-    write_table(
-        &captions.exceptions,
-        page.survey.findings.as_slice(),
-        writer,
-    )?;
+    write_table(&captions.exceptions, day.survey.findings.as_slice(), writer)?;
     write_table(&captions.reasons, contents.reasons.as_slice(), writer)?;
     write_table(&captions.accounts, contents.lines.as_slice(), writer)?;
     write_table(&captions.issues, contents.issues.as_slice(), writer)?;
@@ -177,28 +174,23 @@ fn write_text<W: Write>(
     write_table(&captions.projection, contents.trades.as_slice(), writer)?;
     write_table(&captions.days, contents.days.as_slice(), writer)?;
     write_table(&captions.totals, totals, writer)?;
-    let rows = rows_of(page.survey, contents, totals);
-    write_foot(
-        page.opening,
-        Some(contents.head.date),
-        page.origin,
-        rows,
-        writer,
-    )
+    let rows = rows_of(&day.survey, contents, totals);
+    let date = Some(contents.head.date);
+    write_foot(day.opening, date, &day.origin, rows, writer)
 }
 
 // Writes a page with some captions, and hands it on.
 fn write_whole<W: Write>(
     captions: &Captions,
-    page: &Page<'_>,
+    day: &ClosedDay,
     contents: &Contents,
     totals: &[Span],
     writer: &mut W,
 ) -> Result<(), WriteFault>
     ensures { OnOk result (Appends (W.contents writer.old) (W.contents writer.new)
-        (page_text captions.now page.now.opening page.now.survey.now contents.now totals.now page.now.origin.now)) }
+        (page_text captions.now day.now contents.now totals.now)) }
 {
-    write_text(captions, page, contents, totals, writer)?;
+    write_text(captions, day, contents, totals, writer)?;
     hand_on(writer)
 }
 
@@ -206,13 +198,13 @@ fn write_whole<W: Write>(
 ///
 /// `Write` where the writer fails, takes no byte or cannot be flushed. What was written before stands.
 pub fn write_page<W: Write>(
-    page: &Page<'_>,
+    day: &ClosedDay,
     contents: &Contents,
     writer: &mut W,
 ) -> Result<(), WriteFault>
-    ensures { OnOk result (ShowsDay page.now.opening page.now.origin.now page.now.survey.now contents.now (W.contents writer.old) (W.contents writer.new)) }
+    ensures { OnOk result (ShowsDay day.now contents.now (W.contents writer.old) (W.contents writer.new)) }
 {
-    let totals = spans_of(page.survey);
-    write_whole(&CAPTIONS, page, contents, &totals, writer)?;
+    let totals = spans_of(&day.survey);
+    write_whole(&CAPTIONS, day, contents, &totals, writer)?;
     Ok(())
 }

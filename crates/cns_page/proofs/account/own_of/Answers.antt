@@ -9,5 +9,5 @@ returns c = record {
   fails = c.in_ok-fails.ensures;
   liable = rw c.as_slice-2.ensures.value at c.in_ok-liable.ensures;
   notices = rw c.as_slice-3.ensures.value at c.in_ok-notices.ensures;
-  exceptions = rw c.as_slice-4.ensures.value at c.in_ok-exceptions.ensures;
+  exceptions = rw c.as_slice-findings.ensures.value at c.in_ok-exceptions.ensures;
 }

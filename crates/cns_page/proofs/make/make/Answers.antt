@@ -21,5 +21,5 @@ returns-in-Place g c =
 
 pub returns : goal.returns
 returns g c =
-    made c.write_files.result c.args.asked.now _ c.args.input.now c.in_ok-survey.survey _ _ _ c.in_ok-survey.ensures.few c.in_ok-survey.ensures.known c.in-Folder.is
-    (untouched c.write_files.result _)
+    made c.keep_closed.result c.args.asked.now _ c.args.input.now c.in_ok-survey.survey _ _ _ c.in_ok-survey.ensures.few c.in_ok-survey.ensures.known c.in-Folder.is
+    (untouched c.keep_closed.result _)

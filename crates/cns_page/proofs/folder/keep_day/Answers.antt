@@ -1,0 +1,10 @@
+use Rattle.cns_page.proofs.folder.keep_day.Goals as goal
+
+pub returns : goal.returns
+returns g c = let (text, shown, kept) = c.in_ok-keep_day_page.ensures in record {
+  sheet = _;
+  closed = c.in_ok-page.ensures.sheet;
+  contents = _;
+  gathered = rw (c.in_ok-page.ensures.day, c.in_ok-page.ensures.linked) at c.in_ok-contents.ensures;
+  pages = (_, rw (c.in_ok-page.ensures.day, c.as_slice.ensures.value, c.in_ok-accounts.ensures) at c.in_ok-keep_each.ensures, text, shown, kept);
+}

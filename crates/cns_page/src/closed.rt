@@ -1,0 +1,103 @@
+// A closed day, with the book as its close left it, of the records of an input.
+ghost use Rattle.std.specs.Prelude.{◌≡◌, IfOk, Some, option_map, take};
+ghost use Rattle.cns_terms.specs.Common.{journal_of, sheet_on};
+ghost use Rattle.cns_book.specs.Log.{state_of};
+ghost use Rattle.cns_page.specs.Shown.{IsClosedDay, own_watched};
+
+use crate::contents::Page;
+use crate::foot::{Origin, origin_of};
+use crate::play::{Played, play};
+use crate::survey::{Close, Survey};
+use cns_feed::ReplayBook;
+use cns_history::{HistoryLine, Watched, Whose};
+use cns_sheets::Sheet;
+use cns_shell::Fault;
+use cns_units::Day;
+use std::alloc::Global;
+
+/// A closed day, of the records up to its close alone.
+#[derive(Drop)]
+pub struct ClosedDay {
+    /// The date on which the book was opened.
+    pub opening: Day,
+    pub close: Close,
+    /// The bytes of the records.
+    pub origin: Origin,
+    /// What they came to.
+    pub survey: Survey,
+    /// The lines of what was watched of the day's records.
+    pub lines: Vec<HistoryLine>,
+    pub book: ReplayBook,
+}
+
+// The sheet of a closed day.
+fn sheet_of(book: &ReplayBook, date: Day) -> Option<&Sheet<Global>>
+    ensures { option_map (λ s. s.now) result
+        ≡ sheet_on book.now.log.opening (journal_of (state_of book.now.log)) date }
+{
+    let sheet = book.sheet(date)?;
+    Some(sheet)
+}
+
+impl ClosedDay {
+    /// What a page of the day is of. `NoSuchDay` where the book has no sheet of it.
+    pub(crate) fn page(&self, is_linked: bool) -> Result<Page<'_>, Fault>
+        ensures day { IfOk result (λ p. p.day.now ≡ self.now) }
+        ensures linked { IfOk result (λ p. p.is_linked ≡ is_linked) }
+        ensures sheet { IfOk result (λ p.
+            sheet_on self.now.book.log.opening (journal_of (state_of self.now.book.log)) self.now.close.date ≡ Some p.sheet.now) }
+    {
+        match sheet_of(&self.book, self.close.date) {
+            Some(sheet) => Ok(Page {
+                day: self,
+                sheet,
+                is_linked,
+            }),
+            None => Err(Fault::NoSuchDay),
+        }
+    }
+}
+
+// The first bytes of an input, so many.
+fn first_of(input: &[u8], bytes: usize) -> &[u8]
+    ensures { result.now ≡ take bytes input.now }
+{
+    &input[..bytes.min(input.len())]
+}
+
+/// What is watched for the pages of accounts: what the day's records book for them, from the close before, which books what was
+/// due, up to the record before the day's own close.
+pub(crate) fn own_watched(whose: Whose, from: u64, close: &Close) -> Watched
+    ensures { result ≡ own_watched whose from close.now }
+{
+    Watched::Bookings(whose, from, close.record.saturating_sub(1))
+}
+
+/// The day that a close ends, of the records up to that close alone; those after `from` are the day's.
+pub(crate) fn closed_day(
+    alloc: Global,
+    opening: Day,
+    input: &[u8],
+    from: u64,
+    close: Close,
+    watched: &Watched,
+) -> Result<ClosedDay, Fault>
+    ensures { IfOk result (IsClosedDay opening input.now from close watched.now) }
+{
+    let Played {
+        survey,
+        lines,
+        book,
+        bytes,
+        is_whole: _,
+    } = play(alloc, input, opening, from, close.record, watched)?;
+    let origin = origin_of(alloc, first_of(input, bytes))?;
+    Ok(ClosedDay {
+        opening,
+        close,
+        origin,
+        survey,
+        lines,
+        book,
+    })
+}
