@@ -2,3 +2,14 @@ pub mod Gathered
 pub mod Walked
 pub mod Putting
 pub mod Folded
+pub mod Ledger
+pub mod Grid
+pub mod Named
+pub mod AtPlaces
+pub mod Summed
+pub mod OneDay
+pub mod Rows
+pub mod Taken
+pub mod Marked
+pub mod Sizes
+pub mod AddingUp

@@ -4,3 +4,4 @@ pub mod Past
 pub mod Fails
 pub mod Dividends
 pub mod Day
+pub mod Laws

@@ -1,10 +1,12 @@
 //! What a closed day did to an account: its rows of the sheet with what moved them, by cause, and what its marks come from.
 //!
 //! `moves_of_day` adds up what moved each position on a day, in one pass: the trades that settled, of the book's history, and the lines
-//! of what the day's other records booked (`take_watched` of `cns_history`). `account_day` gathers an account's day, of the book as
-//! the close left it and the day's sheet; its clause `IsAccountDay` says that the rows are those of the account's statement, in
-//! order, each with what moved it. What reaches back behind the day is read from the book's history (`past_of`): the dividends that the close paid (`dividends_of`), and since when a short is short and what
-//! the price did to it (`fail_of`). `TableRow` says how each is written, and `tables.rt` has their captions. Start with `day.rt`.
+//! of what the day's other records booked (`take_watched` of `cns_history`). By `laws.rt` this takes each position from its opening to
+//! its closing, and comes to its mark. `account_day` gathers an account's day, of the book as the close left it and the day's sheet; its
+//! clause `IsAccountDay` says that the rows are those of the account's statement, in order, each with what moved it. What reaches back
+//! behind the day is read from the book's history (`past_of`): the dividends that the close paid (`dividends_of`), and since when a
+//! short is short and what the price did to it (`fail_of`). `TableRow` says how each is written, and `tables.rt` has their captions.
+//! Start with `day.rt`.
 #![tactic(auto)]
 
 mod booked;
@@ -12,6 +14,7 @@ mod day;
 mod day_moves;
 mod dividends;
 mod fails;
+pub mod laws;
 mod mark;
 mod moves;
 mod past;

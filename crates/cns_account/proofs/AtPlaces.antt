@@ -1,0 +1,155 @@
+-- Of the lines of movements, those at a place.
+-- For `places_are_whole` and `moves_add_up` of laws.rt.
+use Rattle.std.proofs.Common.{◌≡◌, ◌∙◌, sym, ap, refl, ℕ, ◌+◌, ◌<◌, Bool, true, false, cond, List, [], ◌∷◌, ◌++◌, filter, filter_map, map, is_none, option_map, option_to_list, Option, Some, None, Ok, Err, subst, arith}
+use Rattle.std.specs.List.{cons_option}
+use Rattle.std.specs.Option.{option_map_or}
+use Rattle.std.proofs.lemmas.Int.{ints}
+use Rattle.cns_terms.proofs.Common.{Day, IsWhole, Journal, State, answer, date, filter-append, journal_of, next, opened, refusal}
+use Rattle.cns_terms.proofs.Sound.{whole-next, whole-post, whole_nil}
+use Rattle.cns_terms.specs.Machine.{activity_reply}
+use Rattle.cns_terms.specs.declared.command.Activity.{Activity}
+use Rattle.cns_terms.specs.declared.command.Command.TheVariants as command
+use Rattle.cns_terms.specs.declared.holding.Holding.{Holding}
+use Rattle.cns_terms.specs.declared.holding.Key.{Key}
+use Rattle.cns_terms.specs.declared.refusal.Refusal.{Refusal}
+use Rattle.cns_terms.specs.declared.reply.Reply.{Reply}
+use Rattle.cns_terms.specs.declared.reply.Reply.TheVariants as reply
+use Rattle.cns_feed.specs.Line.{Line}
+use Rattle.cns_feed.specs.Output.{state_after_line}
+use Rattle.cns_history.specs.Lines.{booked, booked_since, booking, bookings_at, bookings_since, closing, counted_from, history, is_between, is_movement, is_nothing, lines_at, lines_of, places, standing, stood}
+use Rattle.cns_history.specs.declared.line.Booking.{Booking}
+use Rattle.cns_history.specs.declared.line.Closing.{Closing}
+use Rattle.cns_history.specs.declared.line.HistoryLine.{HistoryLine}
+use Rattle.cns_history.specs.declared.line.HistoryLine.TheVariants as line
+use Rattle.cns_history.specs.declared.watched.Watched.TheVariants as watched
+use Rattle.cns_history.specs.declared.watched.Whose.TheVariants as whose
+use Rattle.cns_account.specs.Laws.{PlacesAreWhole, is_line_at, is_moved}
+use Rattle.cns_account.specs.Past.{date_told}
+use Rattle.cns_account.proofs.Grid.{is_at}
+use Rattle.cns_account.proofs.Named.{IsSame, more, names}
+use Rattle.std.proofs.lemmas.Bool.Decides.{nat_tests}
+
+-- ---- no movement is a close
+
+since_told : (n : ℕ) (T : State) (x : Activity) (r : Reply) (before : List _) → date_told r ≡ None → bookings_since whose.All n T x r before ≡ filter_map (booked_since n T x) before
+since_told n T x r before is = grind arith
+
+-- the line of what an activity booked at a place, of the states before and after it
+abbrev pub line_for : ℕ → State → State → Activity → Key → Option HistoryLine
+line_for n S T x k = booked (booking k n (date T.opening (journal_of T)) x (standing S k) (standing T k))
+
+from_same : (h : Holding) (r : Reply) → date_told r ≡ None → counted_from h r ≡ h
+from_same h r is = grind arith
+
+moved_reply : (opening : Day) (J : Journal) (x : Activity) → is_movement (command.Activity x) ≡ true → date_told (activity_reply opening J x) ≡ None
+moved_reply opening J x is = grind arith
+
+pub either_reply : (o : Option Refusal) (r : Reply) → date_told r ≡ None → date_told (option_map_or reply.Refused o r) ≡ None
+either_reply o r is = grind arith
+
+moved_answer : (S : State) (x : Activity) → is_movement (command.Activity x) ≡ true → date_told (answer S (command.Activity x)) ≡ None
+moved_answer S x is = either_reply (refusal S.opening (journal_of S) (command.Activity x)) _ (moved_reply S.opening (journal_of S) x is)
+
+-- ---- what is booked nowhere has no line
+
+nothing_told : (k : Key) (n : ℕ) (d : Day) (x : Activity) (from to : Holding) → to.now ≡ from.now → to.contract ≡ from.contract → booked (booking k n d x from to) ≡ None
+nothing_told k n d x from to shares cents = grind (arith, ints)
+
+same_told : (n : ℕ) (S T : State) (x : Activity) (k : Key) → IsSame k S T → line_for n S T x k ≡ None
+same_told n S T x k same = nothing_told k n (date T.opening (journal_of T)) x (standing S k) (standing T k) same.shares same.cents
+
+-- ---- the lines at a place
+
+one_told : (k q : Key) (b : Booking) (t u : Bool) (lines : List HistoryLine) (more : List Key) (f : Key → Option HistoryLine) → is_line_at k (line.Booking b) ≡ u → f q ≡ cond t None (Some (line.Booking b))
+    → filter (is_line_at k) lines ≡ filter_map f more → filter (is_line_at k) (cons_option (cond t None (Some (line.Booking b))) lines) ≡ filter_map f (cond u (q ∷ more) more)
+one_told k q b t u lines more f at is h = grind arith
+
+told_at : (k : Key) (n : ℕ) (S T : State) (x : Activity) (ks : List Key) → filter (is_line_at k) (filter_map (booked_since n T x) (map (stood S) ks)) ≡ filter_map (line_for n S T x) (filter (is_at k) ks)
+told_at k n S T x [] = refl
+told_at k n S T x (q ∷ ks) =
+    let b = booking q n (date T.opening (journal_of T)) x (standing S q) (standing T q) in
+    one_told k q b (is_nothing b) (is_at k q) (filter_map (booked_since n T x) (map (stood S) ks)) (filter (is_at k) ks) (line_for n S T x) refl refl (told_at k n S T x ks)
+
+as_list : {X : Type 0} (o : Option X) → cons_option o [] ≡ option_to_list o
+as_list o = grind arith
+
+none_told : (f : Key → Option HistoryLine) → ((q : Key) → f q ≡ None) → (ks : List Key) → filter_map f ks ≡ []
+none_told f none [] = refl
+none_told f none (q ∷ ks) = ap (λ o. cons_option o (filter_map f ks)) (none q) ∙ none_told f none ks
+
+there_or_not : (k : Key) (f : Key → Option HistoryLine) (there : Bool) → (there ≡ false → f k ≡ None) → filter_map f (cond there (k ∷ []) []) ≡ option_to_list (f k)
+there_or_not k f there none = grind (arith, as_list)
+
+-- those of a movement at a place are what it booked there
+pub movement_at : (k : Key) (n : ℕ) (S : State) (x : Activity) → k.account < 10000 → IsWhole S.opening (journal_of S) → is_movement (command.Activity x) ≡ true
+    → filter (is_line_at k) (bookings_at whose.All n S (Ok (command.Activity x))) ≡ option_to_list (line_for n S (next S (command.Activity x)) x k)
+movement_at k n S x few whole is =
+    ap (filter (is_line_at k)) (since_told n (next S (command.Activity x)) x (answer S (command.Activity x)) (map (stood S) (places whose.All S x)) (moved_answer S x is))
+    ∙ told_at k n S (next S (command.Activity x)) x (places whose.All S x)
+    ∙ by (is_none (refusal S.opening (journal_of S) (command.Activity x))) refl
+  where
+    by : (b : Bool) → is_none (refusal S.opening (journal_of S) (command.Activity x)) ≡ b
+        → filter_map (line_for n S (next S (command.Activity x)) x) (filter (is_at k) (places whose.All S x)) ≡ option_to_list (line_for n S (next S (command.Activity x)) x k)
+    by true none =
+        let T = next S (command.Activity x) in
+        let after : T ≡ more S x = λ i. record { opening = S.opening; accepted = cond (none i) (x ∷ S.accepted) S.accepted } in
+        let e = names S x k few (record { before = whole.now; after = (whole-post S.opening (journal_of S) x whole none).now }) none is in
+        ap (filter_map (line_for n S T x)) e.once ∙ there_or_not k (line_for n S T x) e.there (λ h. same_told n S T x k (subst (IsSame k S) (sym after) (e.others h)))
+    by false refused =
+        let T = next S (command.Activity x) in
+        let after : T ≡ S = λ i. record { opening = S.opening; accepted = cond (refused i) (x ∷ S.accepted) S.accepted } in
+        let none : (q : Key) → line_for n S T x q ≡ None = λ q. same_told n S T x q (subst (IsSame q S) (sym after) (record { shares = refl; cents = refl })) in
+        none_told (line_for n S T x) none (filter (is_at k) (places whose.All S x)) ∙ ap option_to_list (sym (none k))
+
+-- ---- the lines of a history
+
+moved_lines : (first last : ℕ) (b : Booking)
+    → filter (is_moved first last) (option_to_list (booked b)) ≡ cond (is_between first last b.number) (cond (is_movement (command.Activity b.activity)) (option_to_list (booked b)) []) []
+moved_lines first last b = grind (arith, nat_tests)
+
+closing_lines : (first last : ℕ) (o : Option Closing) (ls : List HistoryLine) → filter (is_moved first last) (option_to_list (option_map line.Closing o) ++ ls) ≡ filter (is_moved first last) ls
+closing_lines first last o ls = grind arith
+
+no_lines : {X : Type 0} (p : X → Bool) (b : Bool) → filter p (cond b [] []) ≡ []
+no_lines p b = grind arith
+
+activity_line : (k : Key) (first last n : ℕ) (S : State) (x : Activity) → k.account < 10000 → IsWhole S.opening (journal_of S)
+    → filter (is_line_at k) (lines_of (watched.Movements first last) n S (Ok (command.Activity x))) ≡ filter (is_moved first last) (lines_at k n S (Ok (command.Activity x)))
+activity_line k first last n S x few whole =
+    let T = next S (command.Activity x) in
+    let r = answer S (command.Activity x) in
+    by (is_movement (command.Activity x)) (is_between first last n) refl
+    ∙ sym (closing_lines first last (closing T k n r) _ ∙ moved_lines first last (booking k n (date T.opening (journal_of T)) x (counted_from (standing S k) r) (standing T k)))
+  where
+    by : (m b : Bool) → is_movement (command.Activity x) ≡ m
+        → filter (is_line_at k) (cond b (cond m (bookings_at whose.All n S (Ok (command.Activity x))) []) [])
+        ≡ cond b (cond m (option_to_list (booked (booking k n (date S.opening (journal_of (next S (command.Activity x)))) x (counted_from (standing S k) (answer S (command.Activity x))) (standing (next S (command.Activity x)) k)))) []) []
+    by true true is =
+        movement_at k n S x few whole is
+        ∙ ap (λ h. option_to_list (booked (booking k n (date S.opening (journal_of (next S (command.Activity x)))) x h (standing (next S (command.Activity x)) k)))) (sym (from_same (standing S k) (answer S (command.Activity x)) (moved_answer S x is)))
+    by true false is = refl
+    by false true is = refl
+    by false false is = refl
+
+one_line : (k : Key) (first last n : ℕ) (S : State) (l : Line) → k.account < 10000 → IsWhole S.opening (journal_of S)
+    → filter (is_line_at k) (lines_of (watched.Movements first last) n S l) ≡ filter (is_moved first last) (lines_at k n S l)
+one_line k first last n S (Err f) few whole = no_lines (is_line_at k) (is_between first last n)
+one_line k first last n S (Ok (command.Position q)) few whole = no_lines (is_line_at k) (is_between first last n)
+one_line k first last n S (Ok (command.Statement a d)) few whole = no_lines (is_line_at k) (is_between first last n)
+one_line k first last n S (Ok (command.Activity x)) few whole = activity_line k first last n S x few whole
+
+-- what commands lead to stays whole
+pub whole_line : (S : State) (l : Line) → IsWhole S.opening (journal_of S) → IsWhole (state_after_line S l).opening (journal_of (state_after_line S l))
+whole_line S l h1 = grind (arith, whole-next)
+
+all_lines : (k : Key) (first last n : ℕ) (S : State) (ls : List Line) → k.account < 10000 → IsWhole S.opening (journal_of S)
+    → filter (is_line_at k) (history (watched.Movements first last) n S ls) ≡ filter (is_moved first last) (history (watched.Place k) n S ls)
+unfolding history
+all_lines k first last n S [] few whole = refl
+all_lines k first last n S (l ∷ ls) few whole =
+    filter-append (is_line_at k) (lines_of (watched.Movements first last) (n + 1) S l) (history (watched.Movements first last) (n + 1) (state_after_line S l) ls)
+    ∙ (λ i. one_line k first last (n + 1) S l few whole i ++ all_lines k first last (n + 1) (state_after_line S l) ls few (whole_line S l whole) i)
+    ∙ sym (filter-append (is_moved first last) (lines_at k (n + 1) S l) (history (watched.Place k) (n + 1) (state_after_line S l) ls))
+
+pub places_are_whole : PlacesAreWhole
+places_are_whole k opening ls first last low = all_lines k first last 0 (opened opening) ls (omega arith) whole_nil

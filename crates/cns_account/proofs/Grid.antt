@@ -1,0 +1,71 @@
+-- The places of accounts in issues, each once.
+-- For `places_are_whole` and `moves_add_up` of laws.rt.
+use Rattle.std.proofs.Common.{◌≡◌, ◌∙◌, ap, refl, ℕ, zero, suc, ◌+◌, ◌<◌, ◌≤◌, Bool, false, ◌&&◌, ◌||◌, ◌==◌, cond, eqb, List, [], ◌∷◌, ◌++◌, filter, flat_map, map, arith, bytes_eq, is_eq}
+use Rattle.std.specs.List.{range_with_len}
+use Rattle.cns_terms.proofs.Common.{bytes_eq-Decides, filter-append, key_cmp, nat_tests, same_key}
+use Rattle.cns_terms.specs.Common.{Account, Cusip}
+use Rattle.cns_terms.specs.declared.holding.Key.{Key}
+use Rattle.cns_history.specs.Lines.{numbers, place}
+
+-- whether a place is the one
+abbrev pub is_at : Key → Key → Bool
+is_at k q = is_eq (key_cmp q k)
+
+row_branch : (k : Key) (a : Account) (c : Cusip) (b u : Bool) (cs : List Cusip) (rest : List Key) → rest ≡ cond b (map (place a) cs) []
+    → cond (b && u) (place a c ∷ rest) rest ≡ cond b (map (place a) (cond u (c ∷ cs) cs)) []
+row_branch k a c b u cs rest h = grind arith
+
+in_row : (k : Key) (a : Account) (cs : List Cusip) → filter (is_at k) (map (place a) cs) ≡ cond (eqb a k.account) (map (place a) (filter (λ c. bytes_eq c k.issue) cs)) []
+in_row k a [] = grind arith
+in_row k a (c ∷ cs) =
+    ap (λ b. cond b (place a c ∷ filter (is_at k) (map (place a) cs)) (filter (is_at k) (map (place a) cs))) (same_key (place a c) k)
+    ∙ row_branch k a c (eqb a k.account) (bytes_eq c k.issue) (filter (λ c. bytes_eq c k.issue) cs) _ (in_row k a cs)
+
+grid_branch : (b : Bool) (a : Account) (f : Account → List Key) (bs : List Account) → cond b (f a) [] ++ flat_map f bs ≡ flat_map f (cond b (a ∷ bs) bs)
+grid_branch b a f bs = grind arith
+
+in_grid : (k : Key) (cs : List Cusip) (bs : List Account)
+    → filter (is_at k) (flat_map (λ a. map (place a) cs) bs) ≡ flat_map (λ a. map (place a) (filter (λ c. bytes_eq c k.issue) cs)) (filter (λ a. eqb a k.account) bs)
+in_grid k cs [] = refl
+in_grid k cs (a ∷ bs) =
+    filter-append (is_at k) (map (place a) cs) (flat_map (λ a. map (place a) cs) bs)
+    ∙ (λ i. in_row k a cs i ++ in_grid k cs bs i)
+    ∙ grid_branch (eqb a k.account) a (λ a. map (place a) (filter (λ c. bytes_eq c k.issue) cs)) (filter (λ a. eqb a k.account) bs)
+
+once_branch : (k : Key) (t u : Bool) → flat_map (λ a. map (place a) (cond u (k.issue ∷ []) [])) (cond t (k.account ∷ []) []) ≡ cond (t && u) (k ∷ []) []
+once_branch k t u = grind arith
+
+-- a place whose account and issue are among them, each at most once
+pub once : (k : Key) (cs : List Cusip) (bs : List Account) (t u : Bool) → filter (λ a. eqb a k.account) bs ≡ cond t (k.account ∷ []) [] → filter (λ c. bytes_eq c k.issue) cs ≡ cond u (k.issue ∷ []) []
+    → filter (is_at k) (flat_map (λ a. map (place a) cs) bs) ≡ cond (t && u) (k ∷ []) []
+once k cs bs t u is are = in_grid k cs bs ∙ (λ i. flat_map (λ a. map (place a) (are i)) (is i)) ∙ once_branch k t u
+
+-- ---- issues
+
+pub one_issue : (c i : Cusip) → filter (λ d. bytes_eq d i) (c ∷ []) ≡ cond (bytes_eq c i) (i ∷ []) []
+one_issue c i = grind (arith, bytes_eq-Decides)
+
+pub two_issues : (c d i : Cusip) → bytes_eq c d ≡ false → filter (λ e. bytes_eq e i) (c ∷ d ∷ []) ≡ cond (bytes_eq c i || bytes_eq d i) (i ∷ []) []
+two_issues c d i apart = grind (arith, bytes_eq-Decides)
+
+-- ---- accounts
+
+pub two_accounts : (a b x : Account) → filter (λ c. eqb c x) (cond (b == a) (a ∷ []) (a ∷ b ∷ [])) ≡ cond (eqb a x || eqb b x) (x ∷ []) []
+two_accounts a b x = grind (arith, nat_tests)
+
+none_from : (x a n : ℕ) → x < a → filter (λ b. eqb b x) (range_with_len a n) ≡ []
+none_from x a zero lt = refl
+none_from x a (suc n) lt = let e = none_from x (a + 1) n (omega arith) in grind (arith, nat_tests)
+
+one_from : (x a n : ℕ) → a ≤ x → x < a + n → filter (λ b. eqb b x) (range_with_len a n) ≡ x ∷ []
+one_from x a zero le lt = absurd (omega arith)
+one_from x a (suc n) le lt = grind (arith, nat_tests, none_from, one_from x (a + 1) n)
+
+either_way : {X : Type 0} (p q : X → Bool) (xs : List X) → filter p (filter q xs) ≡ filter q (filter p xs)
+either_way p q [] = refl
+either_way p q (x ∷ xs) = grind (arith, either_way p q xs)
+
+-- an account among the first numbers of which something holds
+pub one_number : (p : Account → Bool) (x n : ℕ) → x < n → filter (λ b. eqb b x) (filter p (numbers n)) ≡ cond (p x) (x ∷ []) []
+unfolding numbers
+one_number p x n lt = either_way (λ b. eqb b x) p (numbers n) ∙ ap (filter p) (one_from x 0 n (omega arith) (omega arith))

@@ -1,0 +1,66 @@
+-- What a day's activities booked.
+-- For `moves_add_up` of laws.rt.
+use Rattle.std.proofs.Common.{◌≡◌, ◌∙◌, refl, ℤ, pos, ◌+ℤ◌, Bool, true, false, not, ◌&&◌, cond, List, [], ◌∷◌, filter, reverse, slice_get, unwrap_or, Option, Some, None, arith, int_lt}
+use Rattle.std.specs.Option.{option_map_or}
+use Rattle.std.proofs.lemmas.Int.{ints}
+use Rattle.cns_terms.proofs.SheetSums.{total-flat_map}
+use Rattle.cns_terms.proofs.Common.{Day, Journal, NoneHolds, all_fail, closings, date, day_number, entries, is_close, is_not_after, is_past, last_close, neither, open_day, pend_of, pending, reverse_onto, total, total-append, trade_entries, trades}
+use Rattle.cns_terms.specs.Pending.{due, is_due}
+use Rattle.cns_terms.specs.Refusals.{rules}
+use Rattle.cns_terms.specs.declared.command.Activity.TheVariants as activity
+use Rattle.cns_terms.specs.declared.command.Trade.{Trade}
+use Rattle.cns_terms.specs.declared.holding.Entry.{Entry}
+use Rattle.cns_terms.specs.declared.pend.Pend.{Pend}
+use Rattle.cns_account.specs.Moves.{is_within}
+
+pub total-reverse : {X : Type 0} (f : X → ℤ) (xs : List X) → total f (reverse xs) ≡ total f xs
+total-reverse f [] = refl
+total-reverse f (x ∷ xs) = rw (reverse_onto xs x []) (omega (arith, ints, total-append f (reverse xs) (x ∷ []), total-reverse f xs))
+
+-- a day is later than the day before, if there was one
+abbrev pub IsAfter : Option Day → Day → Type 0
+IsAfter before day = option_map_or (λ b. int_lt (day_number b) (day_number day)) before true ≡ true
+
+module _ (f : Entry → ℤ) where
+  -- what all postings of a journal booked
+  abbrev pub all_booked : Journal → ℤ
+  all_booked J = total (λ p. total f p.entries) J
+
+  -- what the open day booked, and what was booked before the close that opened it
+  pub open_parts : (J : Journal) → all_booked J ≡ all_booked (open_day J) +ℤ all_booked (last_close J)
+  open_parts [] = refl
+  open_parts (p ∷ J) = by (is_close p.activity) (open_parts J)
+    where
+      by : (b : Bool) → all_booked J ≡ all_booked (open_day J) +ℤ all_booked (last_close J)
+          → all_booked (p ∷ J) ≡ all_booked (p ∷ cond b [] (open_day J)) +ℤ all_booked (unwrap_or (slice_get (cond b (J ∷ closings J) (closings J)) 0) [])
+      by true h = omega (arith, ints)
+      by false h = omega (arith, ints, h)
+
+  -- what a trade books, if its date is after the day before and up to the day
+  abbrev pub settles : Option Day → Day → Pend → ℤ
+  settles before day p = cond (is_within before day p.date) (total f (trade_entries p)) (pos 0)
+
+  -- what trades book
+  abbrev pub trade : Pend → ℤ
+  trade p = total f (trade_entries p)
+
+  due_within : (today next : Day) (ps : List Pend) → total trade (filter (is_due next) (filter (λ p. not (is_due today p)) ps)) ≡ total (settles (Some today) next) ps
+  due_within today next [] = refl
+  due_within today next (p ∷ ps) = by (is_not_after p.date today) (is_not_after p.date next) (filter (λ p. not (is_due today p)) ps) _ refl (due_within today next ps)
+    where
+      by : (b c : Bool) (qs : List Pend) (v : ℤ) → is_not_after p.date next ≡ c → total trade (filter (is_due next) qs) ≡ v
+          → total trade (filter (is_due next) (cond (not b) (p ∷ qs) qs)) ≡ cond (c && not b) (trade p) (pos 0) +ℤ v
+      by b c qs v is h = grind (arith, ints)
+
+  -- what a close books: the trades that are dated after the day that it ends, up to the next
+  pub close_settles : (opening : Day) (J : Journal) (next : Day) → total f (entries opening J (activity.Close next)) ≡ total (settles (Some (date opening J)) next) (trades J)
+  close_settles opening J next =
+      total-flat_map f trade_entries (due opening J next) ∙ total-reverse trade (filter (is_due next) (pending opening J)) ∙ due_within (date opening J) next (trades J)
+
+  -- what a trade of the day books at once
+  pub trade_settles : (opening : Day) (J : Journal) (before : Option Day) (t : Trade) → NoneHolds (rules opening J (activity.Trade t)) → IsAfter before (date opening J)
+      → total f (entries opening J (activity.Trade t)) ≡ settles before (date opening J) (pend_of t)
+  trade_settles opening J None t none after = grind arith
+  trade_settles opening J (Some d) t none after =
+      let late = neither (is_past t.date (date opening J)) _ ((all_fail (rules opening J (activity.Trade t)) none).1.1.1.1.0) in
+      grind (arith, ints, late.0)
