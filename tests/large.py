@@ -10,6 +10,7 @@ follows from how each input is made. Prints a line for each input; the status is
 
 import datetime
 import pathlib
+import resource
 import subprocess
 import sys
 import tempfile
@@ -251,6 +252,16 @@ def replay(program, make):
     check(make.__name__.replace("_", " "), run, text(session.due))
 
 
+def room_of_records(program):
+    """A million accepted records fit in 100 MB, as the history keeps each in 72 bytes and doubles its room: nothing but memory shows
+    that."""
+    room = 100_000_000
+    records = text([f"ISSUE,{ISSUE},100"] + [f"PRICE,{ISSUE},100"] * 1_000_000)
+    run = subprocess.run([program, "replay", "--open", date(1)], input=records, capture_output=True,
+                         preexec_fn=lambda: resource.setrlimit(resource.RLIMIT_DATA, (room, room)))
+    check("a million accepted records in 100 MB", run, text(["ok"] * 1_000_001))
+
+
 def run_files(program):
     """A worker reads more than a million records, and another one a few."""
     with tempfile.TemporaryDirectory() as room:
@@ -335,6 +346,7 @@ def main():
     program = sys.argv[1]
     for make in REPLAYED:
         replay(program, make)
+    room_of_records(program)
     run_files(program)
     run_many_files(program)
     statements(program)

@@ -10,7 +10,6 @@ use denote.Param.SendFields.{declared_send}
 use Rattle.std.specs.contracts.alloc.Global
 use Rattle.std.specs.contracts.impls.GlobalAllocator.TheImpl as allocates
 use Rattle.cns_units.proofs.day.Day.TheSendSync as day
-use Rattle.cns_terms.proofs.history.Taken.TheSendSync as taken
 use Rattle.cns_prices.proofs.prices.Prices.TheSendSync as prices
 use Rattle.cns_trades.proofs.trades.Trades.TheSendSync as trades
 use Rattle.cns_dividends.proofs.dividends.Dividends.TheSendSync as dividends
@@ -19,6 +18,7 @@ use Rattle.cns_retransmit.proofs.batches.Batches.TheSendSync as batches
 use Rattle.cns_positions.specs.declared.positions.Positions as positions
 use Rattle.std.proofs.Crossing.{frees, send}
 use Rattle.cns_sheets.proofs.Crossing.{sheet_send, sheet_sync}
+use Rattle.cns_book.proofs.history.History.TheSendSync as history
 use Rattle.cns_book.specs.contracts.members.Members
 use Rattle.cns_book.specs.contracts.closed_days.ClosedDays
 use Rattle.cns_book.specs.contracts.parts.Parts
@@ -72,5 +72,5 @@ parts_send P g s = view_send _ _ _ _ _ (declared_send (of_parts.the_type P Globa
 pub book_send : (P : RattleType) (g : positions.Ghosts P.Denot (Global.the_row).Denot) → IsSend P → IsSend (Book.the_row P Global.the_row g allocates.ghosts (copied.ghosts Global.the_row))
 book_send P g s = view_send _ _ _ _ _ (declared_send (of_book.the_type P Global.the_row g allocates.ghosts (copied.ghosts Global.the_row)) (
   search sendable depth 20,
-  (search (sendable, crosses, taken.the_send) depth 20, (search sendable depth 20, (parts_send P g s, tt))),
+  (history.the_send Global.the_row allocates.ghosts (copied.ghosts Global.the_row) send frees, (search sendable depth 20, (parts_send P g s, tt))),
 ))

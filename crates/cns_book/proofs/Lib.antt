@@ -32,6 +32,7 @@ pub mod ActionSteps
 pub mod ActionPlaces
 pub mod ReceiptPlaces
 pub mod ClosedDaysSearch
+pub mod Replies
 pub mod BookTaking
 pub mod BookCrossing
 pub mod Common

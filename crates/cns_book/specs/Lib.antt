@@ -5,6 +5,7 @@ pub mod Effects
 pub mod Executions
 pub mod Follows
 pub mod Places
+pub mod Replies
 pub mod Legal
 pub mod Log
 pub mod Members

@@ -15,6 +15,7 @@ ghost use Rattle.cns_book.specs.Follows.{may_grow};
 ghost use Rattle.cns_book.specs.Log.{TakesStep, empty_log, state_of};
 ghost use Rattle.cns_book.specs.Places.{KeepsRows, PlacesStay, waiting};
 
+use crate::history::History;
 use crate::notice::Notice;
 use crate::parts::Parts;
 use crate::receipt::{Receipt, TakeFault};
@@ -35,7 +36,7 @@ use std::sync::Arc;
 /// the definitions say of the accepted activities.
 pub struct Book<P: Positions<A>, A: Allocator + Drop + Clone> {
     limit: u32,
-    history: Vec<Taken, A>,
+    history: History<A>,
     counts: [u32; 64],
     pub(crate) parts: Parts<P, A>,
 }
@@ -55,19 +56,19 @@ impl<P: Positions<A>, A: Allocator + Drop + Clone> Drop for Book<P, A> {
 }
 
 impl<P: Positions<A>, A: Allocator + Drop + Clone> Model for Book<P, A> {
-    ghost use Rattle.std.specs.Prelude.{◌-◌, reverse, vec_capacity, vec_len};
+    ghost use Rattle.std.specs.Prelude.{reverse};
     ghost use Rattle.cns_book.specs.Legal.{IsBook};
     ghost use Rattle.cns_book.specs.Log.{BookView};
 
     ghost Value = { BookView };
 
     ghost view = { λ b. record {
-      log = record { opening = b.parts.opening; limit = b.limit; history = reverse b.history.items };
+      log = record { opening = b.parts.opening; limit = b.limit; history = reverse b.history.taken };
       rows = b.parts.rows;
-      room = vec_capacity b.history - vec_len b.history;
+      room = b.history.room;
     } };
 
-    ghost invariant = { λ b. IsBook b.limit (reverse b.history.items) b.counts b.parts };
+    ghost invariant = { λ b. IsBook b.limit (reverse b.history.taken) b.counts b.parts };
 }
 
 impl<P: Positions<A>, A: Allocator + Drop + Clone> Book<P, A> {
@@ -87,7 +88,7 @@ impl<P: Positions<A>, A: Allocator + Drop + Clone> Book<P, A> {
     {
         Ok(Book {
             limit,
-            history: Vec::new(alloc.clone()?),
+            history: History::new(alloc.clone()?)?,
             counts: no_counts(),
             parts: Parts::new(alloc, date)?,
         })
@@ -163,7 +164,7 @@ impl<P: Positions<A>, A: Allocator + Drop + Clone> Book<P, A> {
         if place == 0 {
             return None;
         }
-        self.history.as_slice().get(place as usize - 1).copied()
+        self.history.get(place as usize - 1)
     }
 
     /// A copy of the history, the oldest entry first: the commands with the replies that recomputing from them gives,
@@ -177,9 +178,7 @@ impl<P: Positions<A>, A: Allocator + Drop + Clone> Book<P, A> {
             (replies_of self.now.log.history
             ≡ replies (opened self.now.log.opening) (commands_of self.now.log.history)) }
     {
-        let mut copy = Vec::new(self.history.allocator().clone()?);
-        copy.extend_from_slice(self.history.as_slice())?;
-        Ok(copy)
+        self.history.copied()
     }
 
     /// How many commands were taken. The activities accepted of them are in their ranges, none was refused, and there are
@@ -230,7 +229,7 @@ impl<P: Positions<A>, A: Allocator + Drop + Clone> Book<P, A> {
         }
         let worker = &worker;
         let command = &command;
-        self.history.reserve(1)?;
+        self.history.reserve()?;
         let reply = self.parts.answer(command)?;
         let reply = &reply;
         let place = worker.value() as usize - 1;
@@ -242,7 +241,7 @@ impl<P: Positions<A>, A: Allocator + Drop + Clone> Book<P, A> {
             command: *command,
             reply: *reply,
         };
-        let _ = self.history.push(taken);
+        self.history.push(&taken);
         Ok(Receipt {
             index: self.history.len() as u32,
             seq,

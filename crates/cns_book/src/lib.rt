@@ -12,6 +12,7 @@ mod buy_in;
 mod closed_days;
 mod counted;
 mod effect;
+mod history;
 pub mod laws;
 mod members;
 mod notice;

@@ -1,47 +1,50 @@
-use Rattle.std.proofs.Common.{◌≡◌, ◌∙◌, sym, ap, reverse, length, arith, ◌<◌, ◌+◌, ◌-◌, ◌∷◌, [], ◌++◌, get_or, rules}
+use Rattle.std.proofs.Common.{◌≡◌, ◌∙◌, sym, ap, reverse, length, arith, ◌<◌, ◌+◌, ◌-◌, ◌∷◌, [], ◌++◌, get_or, length-append, rules}
 use Rattle.cns_book.proofs.Common.{Taken, accepted, answer_to, length-reverse}
 use Rattle.cns_book.proofs.BookTaking.{below, has_room, book_stays, book_grows, reverse_push}
 use Rattle.cns_book.proofs.book.Book.take.Goals as goal
 
 pub answer-requires : goal.answer-requires
 answer-requires g c =
-    let H = reverse c.self.inside.history.items in
+    let H = reverse c.self.inside.history.taken in
     has_room c.self.inside.limit H c.self.inside.counts c.self.inside.parts c.self.invariant (below (length H) c.self.inside.limit c.self.invariant.few (λ e. let z = sym ((rw (← c.self.view_is) at c.is_full.ensures).1 e) ∙ c.if-is_full.false in cc))
+
+pub push-requires : goal.push-requires
+push-requires g c =
+    let H = reverse c.self.inside.history.taken in
+    let few : length H < c.self.inside.limit = below (length H) c.self.inside.limit c.self.invariant.few (λ e. let z = sym ((rw (← c.self.view_is) at c.is_full.ensures).1 e) ∙ c.if-is_full.false in cc) in
+    record { room = c.in_ok-reserve.ensures.ok; few = rw c.in_ok-reserve.ensures.taken (omega (arith, few, c.self.invariant.limited, length-reverse c.self.inside.history.taken)) }
 
 pub invariant_of-self-in_err-reply : goal.invariant_of-self-in_err-reply
 invariant_of-self-in_err-reply g c =
-    let H = reverse c.self.inside.history.items in
+    let H = reverse c.self.inside.history.taken in
     let few : length H < c.self.inside.limit = below (length H) c.self.inside.limit c.self.invariant.few (λ e. let z = sym ((rw (← c.self.view_is) at c.is_full.ensures).1 e) ∙ c.if-is_full.false in cc) in
-    rw c.in_ok-reserve.ensures.items (book_stays c.self.inside.limit H c.self.inside.counts c.self.inside.parts c.answer.new.self c.self.invariant c.answer.ensures.opening
+    rw c.in_ok-reserve.ensures.taken (book_stays c.self.inside.limit H c.self.inside.counts c.self.inside.parts c.answer.new.self c.self.invariant c.answer.ensures.opening
     (c.in_err-reply.ensures.step (accepted c.self.inside.parts.opening H) c.self.invariant.follows).1)
 
 pub invariant_of-self-2 : goal.invariant_of-self-2
 invariant_of-self-2 g c =
-    let H = reverse c.self.inside.history.items in
+    let H = reverse c.self.inside.history.taken in
     let L = accepted c.self.inside.parts.opening H in
     let few : length H < c.self.inside.limit = below (length H) c.self.inside.limit c.self.invariant.few (λ e. let z = sym ((rw (← c.self.view_is) at c.is_full.ensures).1 e) ∙ c.if-is_full.false in cc) in
     let taken : Taken = record { worker = c.args.worker; seq = get_or c.self.inside.counts (c.value.result - 1) 0 + 1; command = c.args.command; reply = c.in_ok-reply.reply } in
-    let done = c.push.ensures.succeeds (omega (arith, c.in_ok-reserve.ensures.ok)) in
-    let pushed : c.push.new.self.items ≡ c.reserve.new.self.items ++ taken ∷ [] = rw done at c.push.ensures.items in
+    let pushed : c.push.new.self.taken ≡ c.self.inside.history.taken ++ taken ∷ [] = c.push.ensures ∙ ap (λ es. es ++ taken ∷ []) c.in_ok-reserve.ensures.taken in
     let step = c.in_ok-reply.ensures.step L c.self.invariant.follows in
     let same : c.value.result ≡ c.args.worker = c.value.ensures.value in
-    rw (pushed, c.in_ok-reserve.ensures.items, reverse_push c.self.inside.history.items taken)
+    rw (pushed, reverse_push c.self.inside.history.taken taken)
     (rw same (book_grows c.self.inside.limit H c.self.inside.counts c.self.inside.parts c.answer.new.self c.args.worker c.args.command c.in_ok-reply.reply c.self.invariant few c.value.ensures.range.0 c.value.ensures.range.1 (search rules) c.in_ok-reply.ensures.opening step))
 
 pub returns-clause-ok : goal.returns-clause-ok
 returns-clause-ok g c =
-    let H = reverse c.self.inside.history.items in
+    let H = reverse c.self.inside.history.taken in
     let L = accepted c.self.inside.parts.opening H in
     let few : length H < c.self.inside.limit = below (length H) c.self.inside.limit c.self.invariant.few (λ e. let z = sym ((rw (← c.self.view_is) at c.is_full.ensures).1 e) ∙ c.if-is_full.false in cc) in
     let taken : Taken = record { worker = c.args.worker; seq = get_or c.self.inside.counts (c.value.result - 1) 0 + 1; command = c.args.command; reply = c.in_ok-reply.reply } in
-    let done = c.push.ensures.succeeds (omega (arith, c.in_ok-reserve.ensures.ok)) in
-    let pushed : c.push.new.self.items ≡ c.reserve.new.self.items ++ taken ∷ [] = rw done at c.push.ensures.items in
+    let pushed : c.push.new.self.taken ≡ c.self.inside.history.taken ++ taken ∷ [] = c.push.ensures ∙ ap (λ es. es ++ taken ∷ []) c.in_ok-reserve.ensures.taken in
     let step = c.in_ok-reply.ensures.step L c.self.invariant.follows in
     let same : c.value.result ≡ c.args.worker = c.value.ensures.value in
-    let history : reverse c.push.new.self.items ≡ taken ∷ H = ap reverse (pushed ∙ ap (λ es. es ++ taken ∷ []) c.in_ok-reserve.ensures.items) ∙ reverse_push c.self.inside.history.items taken in
-    let longer = rw done at c.push.ensures.len in
+    let history : reverse c.push.new.self.taken ≡ taken ∷ H = ap reverse pushed ∙ reverse_push c.self.inside.history.taken taken in
     rw (← c.self.view_is) (record {
-      index = rw (length-reverse c.self.inside.history.items) (omega (arith, longer, c.len.ensures, c.in_ok-reserve.ensures.len));
+      index = omega (arith, c.len.ensures, ap length pushed, length-append c.self.inside.history.taken (taken ∷ []), length-reverse c.self.inside.history.taken);
       seq = ap (λ n. n + 1) (rw same (c.self.invariant.counted c.args.worker c.value.ensures.range.0 c.value.ensures.range.1));
       reply = step.0 ∙ ap (λ o. answer_to o L c.args.command) c.in_ok-reply.ensures.opening;
       after = λ i. record { opening = c.in_ok-reply.ensures.opening i; limit = c.self.inside.limit; history = history i };
