@@ -11,7 +11,8 @@ use Rattle.cns_tables.specs.Tables.{row_of}
 use Rattle.cns_tables.specs.declared.piece.Piece.{Piece}
 use Rattle.cns_tables.specs.declared.piece.Piece.TheVariants as piece
 use Rattle.cns_tables.specs.declared.table.TheConstants.{ROW}
-use Rattle.cns_account.specs.Rows.{moved, worth}
+use Rattle.cns_history.specs.Texts.{worth}
+use Rattle.cns_account.specs.Rows.{moved}
 use Rattle.cns_account.specs.declared.fails.Fail.{Fail}
 use Rattle.cns_account.specs.declared.past.Past.{Past}
 

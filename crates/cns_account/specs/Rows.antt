@@ -7,6 +7,7 @@ use Rattle.cns_terms.specs.Common.{Price, State}
 use Rattle.cns_terms.specs.declared.holding.Key.{Key}
 use Rattle.cns_terms.specs.declared.sheet.Row.{Row}
 use Rattle.cns_history.specs.Lines.{standing}
+use Rattle.cns_history.specs.Texts.{worth}
 use Rattle.cns_history.specs.Words.{what_text}
 use Rattle.cns_history.specs.declared.line.Booking.{Booking}
 use Rattle.cns_history.specs.declared.line.HistoryLine.{HistoryLine}
@@ -47,10 +48,6 @@ booking_in (line.Booking b) = Some (record { booking = b })
 booking_in (line.Closing c) = None
 
 -- ---- amounts
-
--- what the closing position is worth at the close's price
-unfoldable pub worth : Row → ℤ
-worth r = r.closing *ℤ pos r.price
 
 -- what the change of price since the close before is worth on the opening position
 unfoldable pub moved : Row → ℤ

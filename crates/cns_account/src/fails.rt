@@ -8,8 +8,8 @@ ghost use Rattle.cns_account.specs.Fails.{fail, fail_cells, first_of, is_among, 
 use crate::mark::price_move;
 use crate::moves::wrapped_sum;
 use crate::past::Past;
-use crate::row::worth;
 use cns_feed::ReplayBook;
+use cns_history::worth;
 use cns_sheets::Sheet;
 use cns_tables::{Piece, ROW, TableRow, cents_of, write_line};
 use cns_terms::{Exchange, Key, NoMemory, Row};

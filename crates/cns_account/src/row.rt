@@ -2,16 +2,16 @@
 ghost use Rattle.std.specs.Prelude.{◌≡◌, IfOk, map};
 ghost use Rattle.cns_terms.specs.Sheets.{rows_for};
 ghost use Rattle.cns_book.specs.Log.{state_of};
-ghost use Rattle.cns_account.specs.Rows.{account_row, worth};
+ghost use Rattle.cns_account.specs.Rows.{account_row};
 
 use crate::day_moves::DayMoves;
 use crate::moves::Moves;
 use cns_feed::ReplayBook;
-use cns_history::standing;
+use cns_history::{standing, worth};
 use cns_sheets::Sheet;
 use cns_tables::{Piece, ROW, TableRow, cents_of, write_line};
 use cns_terms::{Key, NoMemory, Row};
-use cns_units::{Account, Cents, WriteFault};
+use cns_units::{Account, WriteFault};
 use std::alloc::Global;
 use std::io::Write;
 
@@ -22,14 +22,6 @@ pub struct AccountRow {
     pub moves: Moves,
     /// At how many closes in a row, this one the last, the position was short.
     pub age: u32,
-}
-
-/// What the closing position is worth at the close's price, in cents.
-#[tactic(auto, unfolding(crate::specs::Rows::worth))]
-pub(crate) fn worth(row: &Row) -> Cents
-    ensures { result ≡ worth row.now }
-{
-    Cents::of(i128::from(row.closing) * i128::from(row.price.value()))
 }
 
 // A row, with what moved its position.

@@ -3,7 +3,8 @@ ghost use Rattle.std.specs.Prelude.{◌≡◌};
 ghost use Rattle.cns_account.specs.Rows.{totals_of, with_row};
 
 use crate::moves::wrapped_sum;
-use crate::row::{AccountRow, worth};
+use crate::row::AccountRow;
+use cns_history::worth;
 use cns_units::Cents;
 
 /// What the closing positions of an account are worth. Each sum is exact where it fits 128 bits, as it does on each day of a book.

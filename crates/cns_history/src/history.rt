@@ -11,7 +11,7 @@ use crate::place::Place;
 use crate::table::HISTORY;
 use cns_feed::ReplayBook;
 use cns_shell::Fault;
-use cns_tables::{Piece, STYLE, Table, hand_on, write_pieces, write_table};
+use cns_tables::{Piece, Table, hand_on, page_style, write_pieces, write_table};
 use cns_terms::Key;
 use cns_units::{Day, WriteFault};
 use std::io::Write;
@@ -90,7 +90,7 @@ fn write_head<W: Write>(
         Piece::Markup(IN),
         Piece::Issue(place.key.issue),
         Piece::Markup(TITLE_END),
-        Piece::Markup(STYLE),
+        Piece::Markup(page_style()),
         Piece::Markup(HEADING),
         Piece::Number(account),
         Piece::Markup(IN),

@@ -23,7 +23,7 @@ mod words;
 pub use accounts::accounts_in;
 pub use booked::lines_for;
 pub use history::{Told, write_history};
-pub use line::{Booking, Closing, HistoryLine};
+pub use line::{Booking, Closing, HistoryLine, worth};
 pub use place::Place;
 pub use play::take_watched;
 pub use told::{shares_between, standing};

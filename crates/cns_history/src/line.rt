@@ -66,7 +66,7 @@ const END: &str = "\n";
 
 /// What a position is worth at the close's price, in cents.
 #[tactic(auto, unfolding(crate::specs::Texts::worth))]
-fn worth(row: &Row) -> Cents
+pub fn worth(row: &Row) -> Cents
     ensures { result ≡ worth row.now }
 {
     Cents::of(i128::from(row.closing) * i128::from(row.price.value()))

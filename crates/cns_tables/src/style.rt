@@ -1,4 +1,6 @@
 // How a page looks, on a screen and on paper.
+ghost use Rattle.std.specs.Prelude.{◌≡◌};
+ghost use Rattle.cns_tables.specs.declared.style.TheConstants.{STYLE};
 
 /// The style of the page. Text has a contrast of 4.5 or more on its ground, in the light and in the dark scheme. The column of
 /// issues stays in sight where a table is wider than the screen. No figure breaks: the columns of all accounts have the same
@@ -71,3 +73,10 @@ h2 { break-after: avoid; }
 }
 </style>
 ";
+
+/// The style of the page. What a caller shows of it need not look at its bytes.
+pub fn page_style() -> &'static str
+    ensures { result.now ≡ STYLE.now }
+{
+    STYLE
+}
