@@ -110,9 +110,9 @@ def told_of_shorts(book, account, day):
 class Own:
     """What the day that a book has just closed did to an account, of whose refused records some are given."""
 
-    def __init__(self, day, account, numbers, refused, righted):
+    def __init__(self, day, account, numbers, refused, others):
         self.day, self.book, self.account, self.numbers, self.refused = day, day.book, account, numbers, refused
-        self.righted = righted
+        self.others = others
         self.rows = self.book.rows(account, day.day)
         self.booked = [it for it in self.book.entries if it.account == account and day.is_of_day(it)]
 
@@ -217,7 +217,7 @@ class Own:
     def exceptions(self):
         for number, why, kind, values in self.refused:
             if self.account in [values[it] for it in NAMING.get(kind, [])]:
-                yield [number, f"Refused {why}", *self.righted.get(number, [])]
+                yield [number, f"Refused {why}", *self.others.get(number, [])]
 
     # -- the page
 
@@ -265,7 +265,7 @@ class Days:
     def page(self, day, account):
         """What the page of an account on a closed day has to show."""
         start, end = (self.numbers[close.place] if close else 0 for close in ([None] + day.book.of_kind("CLOSE"))[-2:])
-        own = Own(day, account, self.numbers, self.refused(start, end), self.trades.righted(end))
+        own = Own(day, account, self.numbers, self.refused(start, end), self.trades.others(end))
         return own.lines(self.text[: self.records[end - 1][1]])
 
     def refused(self, start, end):

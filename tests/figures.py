@@ -32,7 +32,7 @@ SECTION = re.compile(r"<section aria-labelledby=(\w+)>(.*?)</section>", re.DOTAL
 # A text of a record may have line ends, but no angle brackets of its own.
 ROW = re.compile(r"<tr[^>]*><th scope=row[^>]*>(.*?)(?=\n<tr|\n</t)", re.DOTALL)
 REASON = re.compile(r"<strong>(Invalid record|Refused \d+)</strong>")
-RIGHTED = re.compile(r"\. Put right by record (\d+)$")
+OTHER = re.compile(r" (?:of|Put right by) record (\d+)")
 
 
 def cells(row):
@@ -40,10 +40,10 @@ def cells(row):
 
 
 def of_table(name, row):
-    """The cells of a row that are figures: of an exception its record, why it is one, and the record that put it right, of control
-    totals their counts."""
+    """The cells of a row that are figures: of an exception its record, why it is one, and the record that used its reference or put
+    it right, of control totals their counts."""
     if name == "exceptions":
-        return [cells(row)[0], REASON.search(row)[1], *RIGHTED.findall(row)]
+        return [cells(row)[0], REASON.search(row)[1], *OTHER.findall(row)]
     return cells(row)[1:] if name == "totals" else cells(row)
 
 
@@ -220,16 +220,18 @@ def reason(reply):
     return {"line": 0, "refused": kind == "refused" and int(rest.split(" ")[0])}.get(kind)
 
 
-def exceptions(found, righted):
-    """The first exceptions of a day, those with the records that put them right, and how many there are of each kind."""
+def exceptions(found, others):
+    """The first exceptions of a day, with the records that used their references or put them right, and how many there are of each
+    kind."""
     for number, why in found[:MOST_EXCEPTIONS]:
-        yield ["exceptions", number, f"Refused {why}" if why else KINDS[0], *righted.get(number, [])]
+        yield ["exceptions", number, f"Refused {why}" if why else KINDS[0], *others.get(number, [])]
     for why, times in sorted(collections.Counter(why for _, why in found).items()):
         yield ["reasons", f"Refused {why}, {KINDS[why]}" if why else KINDS[0], count(times)]
 
 
 class Trades:
-    """The references of refused trades, by the numbers of their records, and the numbers of accepted ones, by their references."""
+    """The references of refused trades and why, by the numbers of their records, and the numbers of accepted ones, by their
+    references."""
 
     def __init__(self):
         self.refused, self.accepted = {}, {}
@@ -238,12 +240,13 @@ class Trades:
         if record[0] == b"TRADE" and reply == "ok":
             self.accepted[int(record[1])] = number
         elif record[0] == b"TRADE" and reply.startswith("refused "):
-            self.refused[number] = int(record[1])
+            self.refused[number] = int(record[1]), reason(reply)
 
-    def righted(self, end):
-        """By the number of each refused trade the later one up to a record that was accepted with its reference, if there is one."""
-        later = {number: self.accepted.get(reference, 0) for number, reference in self.refused.items()}
-        return {number: [other] for number, other in later.items() if number < other <= end}
+    def others(self, end):
+        """By the number of each refused trade the record of the one that was accepted with its reference: before it, where that is why
+        it was refused, else after it and up to a record, if there is one."""
+        pairs = ((number, self.accepted.get(reference, 0), why) for number, (reference, why) in self.refused.items())
+        return {number: [other] for number, other, why in pairs if KINDS[why] == "seen reference" or number < other <= end}
 
 
 class Input:
@@ -269,7 +272,7 @@ class Input:
     def page(self, head, start, end, size, tables):
         """A page of the records between two numbers: the lines of head, tables and foot."""
         own = self.of(start, end)
-        rows = [*exceptions(own, self.trades.righted(end)), *tables]
+        rows = [*exceptions(own, self.trades.others(end)), *tables]
         for since, to in ((0, start), (start, end), (0, end)):
             rows.append(["totals", count(to - since), count(len(self.of(since, to)))])
         foot = ["foot", size, hashlib.sha256(self.text[:size]).hexdigest(), len(rows)]

@@ -131,19 +131,19 @@ DAYS
 # What decided a refusal: the trade that has the reference, what waits beside a position, the first pending trade, and what
 # retired issues were exchanged for.
 {
-    printf 'MEMBER,1\nMEMBER,2\nISSUE,17275R102,4600\nISSUE,037833100,19500\nISSUE,594918104,41000\n'
+    printf 'PRICE,x\nMEMBER,1\nMEMBER,2\nISSUE,17275R102,4600\nISSUE,037833100,19500\nISSUE,594918104,41000\n'
     printf 'TRADE,71,1,2,17275R102,1500,6900000,2024-06-03\nTRADE,80,1,2,037833100,1000000000,0,2024-06-03\n'
     printf 'TRADE,%d,1,2,037833100,1000000000,0,2024-06-05\n' {81..89}
-    printf 'TRADE,90,2,1,037833100,7,0,2024-06-04\nTRADE,71,2,1,037833100,5,100,2024-06-03\nTRADE,91,1,2,037833100,1,0,2024-06-05\n'
+    printf 'PRICE,y\nTRADE,90,2,1,037833100,7,0,2024-06-04\nTRADE,71,2,1,037833100,5,100,2024-06-03\nTRADE,91,1,2,037833100,1,0,2024-06-05\n'
     printf 'EXCHANGE,%s,%s,1,1,0,0\n' 037833100 594918104 17275R102 594918104
     printf 'PRICE,17275R102,4700\nEXCHANGE,037833100,17275R102,1,1,0,0\nCLOSE,2024-06-04\n'
 } | "$program" --open 2024-06-03 > "$room/page" || fail "what decided a refusal: status $?"
 sed -n 's/^<tr><th scope=row>\([0-9]*\)<td>.*<td>Today was 2024-06-03, day 1\. /\1: /p' "$room/page" | cmp -s - <(cat <<'LINES'
-18: Trade 71: member 1 bought 1,500 of 17275R102 from member 2, for 2024-06-03
-19: Position of 1 in 037833100: 1,000,000,000 (pending: 9,000,000,000 bought, 7 sold). Position of 2 in 037833100: -1,000,000,000 (pending: 7 bought, 9,000,000,000 sold)
-20: Trade 81, for 2024-06-05, is pending
-22: Price of 17275R102: 46.00. The issue 17275R102 was exchanged for 594918104
-23: Price of 037833100: 195.00. Price of 17275R102: 46.00. The issue 17275R102 was exchanged for 594918104
+20: Trade 71 of record 7: member 1 bought 1,500 of 17275R102 from member 2, for 2024-06-03
+21: Position of 1 in 037833100: 1,000,000,000 (pending: 9,000,000,000 bought, 7 sold). Position of 2 in 037833100: -1,000,000,000 (pending: 7 bought, 9,000,000,000 sold)
+22: Trade 81, for 2024-06-05, is pending
+24: Price of 17275R102: 46.00. The issue 17275R102 was exchanged for 594918104
+25: Price of 037833100: 195.00. Price of 17275R102: 46.00. The issue 17275R102 was exchanged for 594918104
 LINES
 ) || fail 'what decided a refusal: other lines'
 pages=$((pages + 1))

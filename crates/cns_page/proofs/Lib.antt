@@ -14,7 +14,6 @@ pub mod SoughtLemmas
 pub mod Oldest
 pub mod MakeLemmas
 pub mod Projecting
-pub mod Naming
 pub mod Pended
 pub mod Righted
 pub mod Keeping

@@ -16,6 +16,8 @@ use Rattle.cns_feed.proofs.PlayLemmas.{state_of-after}
 use Rattle.cns_page.proofs.PlayLemmas.{noted_records}
 use Rattle.cns_history.specs.declared.place.Place.{Place}
 use Rattle.cns_page.specs.Asked.{HasPage, HasShown}
+use Rattle.cns_page.specs.Files.{KeptPages}
+use Rattle.cns_page.specs.Folder.{HasKept, KeepsAsked}
 use Rattle.cns_page.specs.Survey.{ComesTo, Known, known, noted, noted_all, nothing}
 use Rattle.cns_page.specs.Today.{HasToday, ShowsToday}
 use Rattle.cns_page.specs.declared.asked.About.{About}
@@ -57,8 +59,15 @@ pub made : {T E : Type 0} (r : Result T E) (a : Asked) (about : About) (input : 
 made (Err e) a about input s most old new few all_known is shown = tt
 made (Ok x) a about input s most old new few all_known is shown = record { most = most; few = few; survey = s; all_known = all_known; shown = rw is shown }
 
+-- and what is to be kept of it was
+pub made_kept : {T E : Type 0} (r : Result T E) (a : Asked) (about : About) (input : List ℕ) (s : Survey) (from : ℕ) (old new : Option KeptPages)
+    → known s ≡ noted_all (nothing from) (opened a.opening) (lines_of input) → a.about ≡ about
+    → OnOk r (KeepsAsked about a.opening input s.closes.items a.day old new) → OnOk r (HasKept a input old new)
+made_kept (Err e) a about input s from old new all_known is kept = tt
+made_kept (Ok x) a about input s from old new all_known is kept = record { from = from; survey = s; all_known = all_known; kept = rw is kept }
+
 -- what is not written to stays
-pub untouched : {T E : Type 0} (r : Result T E) (now : Option (List ℕ)) → OnOk r (now ≡ now)
+pub untouched : {X T E : Type 0} (r : Result T E) (now : X) → OnOk r (now ≡ now)
 untouched r now = grind arith
 
 -- of all that a reader gave, where that is known

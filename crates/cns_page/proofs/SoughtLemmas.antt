@@ -1,9 +1,8 @@
 -- What is looked for in a history, entry by entry.
 -- For `first` and `waiting` of sought.rt.
-use Rattle.std.proofs.Common.{◌≡◌, ◌∙◌, sym, ap, ℕ, ◌+◌, ◌-◌, ◌^◌, ◌≤◌, ◌<◌, List, [], ◌∷◌, ◌++◌, Option, Some, None, take, drop, reverse, slice_get, map, min, arith, ◌==◌, ◌&&◌, if◌then◌else◌}
+use Rattle.std.proofs.Common.{◌≡◌, ◌∙◌, sym, ap, ℕ, ◌+◌, ◌-◌, ◌^◌, ◌≤◌, ◌<◌, List, [], ◌∷◌, ◌++◌, Option, Some, None, take, reverse, map, min, arith, ◌==◌, ◌&&◌, if◌then◌else◌}
 use Rattle.std.specs.Option.{option_to_list}
 use Rattle.std.specs.Prelude.{sum_by}
-use Rattle.std.proofs.Math.Seq.{take-add}
 use Rattle.std.proofs.lemmas.List.{map-append}
 use Rattle.std.proofs.lemmas.List.Elements.{filter-append, filter_map-append}
 use Rattle.std.proofs.lemmas.List.Sums.{sum_by-append}
@@ -16,7 +15,7 @@ use Rattle.cns_terms.specs.declared.pend.Pend.{Pend}
 use Rattle.cns_account.proofs.Walked.{entries_end, entry_more}
 use Rattle.cns_book.specs.Shown.{entry_at}
 use Rattle.cns_page.specs.Listed.{looked_at}
-use Rattle.cns_page.specs.Sought.{first_sought, sought_among, waiting_in, with_trade}
+use Rattle.cns_page.specs.Sought.{IsFirst, sought_among, waiting_in, with_trade}
 use Rattle.cns_page.specs.declared.sought.Sought.{Sought}
 
 -- ---- an activity that is looked for
@@ -35,23 +34,16 @@ module _ (s : Sought) (H : List Taken) (place : ℕ) (le : 1 ≤ place) (was : s
   sought_passed t there is = next t None there is
 
   -- the first that is
-  pub sought_found : (t : Taken) (x : Activity) → place ≤ 2 ^ 32 - 2 → entry_at H place ≡ Some t → sought_among s (t ∷ []) ≡ x ∷ [] → Some x ≡ first_sought s H
-  sought_found t x few there is =
-      let k = place + 1 - 1 in
-      let left : k + (2 ^ 32 - 2 - k) ≡ 2 ^ 32 - 2 = omega arith in
-      let parts : looked_at H ≡ take k (reverse H) ++ take (2 ^ 32 - 2 - k) (drop k (reverse H)) =
-      ap (λ n. take n (reverse H)) (sym left) ∙ take-add k (2 ^ 32 - 2 - k) (reverse H) in
-      sym (ap (λ xs. slice_get xs 0) (ap (sought_among s) parts ∙ append s (take k (reverse H)) (take (2 ^ 32 - 2 - k) (drop k (reverse H)))
-      ∙ ap (λ xs. xs ++ sought_among s (take (2 ^ 32 - 2 - k) (drop k (reverse H)))) (next t (Some x) there is)))
+  pub sought_found : (t : Taken) (x : Activity) → entry_at H place ≡ Some t → sought_among s (t ∷ []) ≡ x ∷ [] → IsFirst s H place x
+  sought_found t x there is = let same : place + 1 - 1 ≡ place = omega arith in (was, ap (λ n. sought_among s (take n (reverse H))) (sym same) ∙ next t (Some x) there is)
 
   -- no entry is left
-  pub sought_ends : place < 2 ^ 32 - 1 → entry_at H place ≡ None → None ≡ first_sought s H
-  sought_ends lt none =
-      sym (ap (λ xs. slice_get xs 0) (ap (sought_among s) (sym (entries_end H place le lt none)) ∙ was))
+  pub sought_ends : place < 2 ^ 32 - 1 → entry_at H place ≡ None → sought_among s (looked_at H) ≡ []
+  sought_ends lt none = ap (sought_among s) (sym (entries_end H place le lt none)) ∙ was
 
 -- none was among all that are looked at
-pub sought_none : (s : Sought) (H : List Taken) (n : ℕ) → n ≡ 2 ^ 32 - 2 → sought_among s (take n (reverse H)) ≡ [] → None ≡ first_sought s H
-sought_none s H n last was = sym (ap (λ xs. slice_get xs 0) (ap (λ k. sought_among s (take k (reverse H))) (sym last) ∙ was))
+pub sought_none : (s : Sought) (H : List Taken) (n : ℕ) → n ≡ 2 ^ 32 - 2 → sought_among s (take n (reverse H)) ≡ [] → sought_among s (looked_at H) ≡ []
+sought_none s H n last was = ap (λ k. sought_among s (take k (reverse H))) (sym last) ∙ was
 
 -- ---- what waits
 

@@ -18,7 +18,7 @@ use Rattle.cns_tables.specs.Tables.{table_text, texts}
 use Rattle.cns_tables.specs.declared.piece.Piece.TheVariants as piece
 use Rattle.cns_tables.specs.declared.style.TheConstants.{STYLE}
 use Rattle.cns_page.specs.Due.{projected_all, projected_text}
-use Rattle.cns_page.specs.Exceptions.{finding_text}
+use Rattle.cns_page.specs.Exceptions.{cited_text}
 use Rattle.cns_page.specs.Fails.{fail_at}
 use Rattle.cns_page.specs.Foot.{made_text}
 use Rattle.cns_page.specs.Page.{sum_of}
@@ -28,11 +28,12 @@ use Rattle.cns_page.specs.declared.account.Own.{Own}
 use Rattle.cns_page.specs.declared.account.OwnCaptions.{OwnCaptions}
 use Rattle.cns_page.specs.declared.account.TheConstants.{ACCOUNT, ACCOUNT_OPTION, ALL_ACCOUNTS, ALL_ACCOUNTS_END, DIVIDEND, LONG, MAIN, MARK, NET, ON, SENTENCE_END, SHORT, SKIP}
 use Rattle.cns_page.specs.declared.closed.ClosedDay.{ClosedDay}
-use Rattle.cns_page.specs.declared.contents.Contents.{Contents}
+use Rattle.cns_page.specs.declared.finding.Cited.{Cited}
 use Rattle.cns_page.specs.declared.finding.Finding.{Finding}
 use Rattle.cns_page.specs.declared.foot.TheConstants.{AGAIN, AGAIN_DAY}
 use Rattle.cns_page.specs.declared.page.TheConstants.{DAY, NEXT, START, TITLE_END}
 use Rattle.cns_page.specs.declared.projection.Due.{Due}
+use Rattle.cns_page.specs.declared.shared.Shared.{Shared}
 
 -- ---- the rows
 
@@ -44,21 +45,25 @@ is_party a d = d.trade.buyer == a || d.trade.seller == a
 abbrev pub names : Account → Finding → Bool
 names a f = option_map_or (λ b. b == a) f.parties.account false || option_map_or (λ b. b == a) f.parties.other false
 
--- its fails: its shorts among those of all members, each with its first close and what the price did to it since
-abbrev pub own_fails : Account → State → DaySheet → Contents → List Fail
-own_fails a S sheet l = map (fail_at S l.past sheet.date) (filter (λ s. s.row.account == a) l.shorts.items)
+-- the exception that a row tells
+abbrev pub cited : Cited → Finding
+cited c = c.finding.now
 
--- the rows of the page of the day that a close ends, among those of the page of the day, and by the lines of what the day's records
+-- its fails: its shorts among those of all members, each with its first close and what the price did to it since
+abbrev pub own_fails : Account → State → DaySheet → Shared → List Fail
+own_fails a S sheet g = map (fail_at S g.past sheet.date) (filter (λ s. s.row.account == a) g.shorts.items)
+
+-- the rows of the page of the day that a close ends, among those of all accounts, and by the lines of what the day's records
 -- booked and the refused records
-pub record AreOwn (a : Account) (d : ClosedDay) (sheet : DaySheet) (ls : List HistoryLine) (l : Contents) (own : Own) : Type 0 where
-  pub day : IsAccountDay (state_of d.book.log) sheet a l.moves ls own.day
-  pub trades : own.trades.items ≡ filter (is_party a) l.trades.items
-  pub due : own.due.items ≡ projected_all (state_of d.book.log) a l.pending sheet.prices
-  pub dividends : own.dividends.items ≡ dividends_paid (state_of d.book.log) l.past a sheet
-  pub fails : own.fails.items ≡ own_fails a (state_of d.book.log) sheet l
-  pub liable : own.liable.items ≡ filter (λ o. o.liable.member == a) l.liable.items
-  pub notices : own.notices.items ≡ filter (λ n. n.notice.member == a) l.notices.items
-  pub exceptions : map finding_text own.exceptions.items ≡ map finding_text (filter (names a) d.survey.findings.items)
+pub record AreOwn (a : Account) (d : ClosedDay) (sheet : DaySheet) (ls : List HistoryLine) (g : Shared) (own : Own) : Type 0 where
+  pub day : IsAccountDay (state_of d.book.log) sheet a g.moves ls own.day
+  pub trades : own.trades.items ≡ filter (is_party a) g.trades.items
+  pub due : own.due.items ≡ projected_all (state_of d.book.log) a g.pending sheet.prices
+  pub dividends : own.dividends.items ≡ dividends_paid (state_of d.book.log) g.past a sheet
+  pub fails : own.fails.items ≡ own_fails a (state_of d.book.log) sheet g
+  pub liable : own.liable.items ≡ filter (λ o. o.liable.member == a) g.liable.items
+  pub notices : own.notices.items ≡ filter (λ n. n.notice.member == a) g.notices.items
+  pub exceptions : map cited own.exceptions.items ≡ filter (names a) d.survey.findings.items
 
 -- how many rows each table has
 abbrev pub row_counts : Own → List ℕ
@@ -98,7 +103,7 @@ tables_text t o =
     ++ (table_text notice_row t.notices o.notices.items
     ++ (table_text due_text t.trades o.trades.items
     ++ (table_text booked_text t.bookings o.day.bookings.items
-    ++ table_text finding_text t.exceptions o.exceptions.items))))))))
+    ++ table_text cited_text t.exceptions o.exceptions.items))))))))
 
 -- the line that makes the page again, but for its end
 unfoldable pub again_text : Day → Day → Account → List ℕ
@@ -112,8 +117,8 @@ account_text t d a linked own =
     ++ (again_text d.opening d.close.date a ++ made_text d.origin (sum_of (row_counts own))))))
 
 -- what was written is the text of the page of an account's day, with some captions
-pub record ShowsAccount (d : ClosedDay) (sheet : DaySheet) (a : Account) (linked : Bool) (ls : List HistoryLine) (l : Contents) (old new : Option (List ℕ)) : Type 0 where
+pub record ShowsAccount (d : ClosedDay) (sheet : DaySheet) (a : Account) (linked : Bool) (ls : List HistoryLine) (g : Shared) (old new : Option (List ℕ)) : Type 0 where
   pub captions : OwnCaptions
   pub own : Own
-  pub rows : AreOwn a d sheet ls l own
+  pub rows : AreOwn a d sheet ls g own
   pub written : Appends old new (account_text captions d a linked own)

@@ -7,7 +7,7 @@ use Rattle.cns_history.specs.declared.place.Place.{Place}
 use Rattle.cns_history.specs.declared.watched.Whose.TheVariants as whose
 use Rattle.cns_page.specs.Account.{ShowsAccount}
 use Rattle.cns_page.specs.Listed.{last_record}
-use Rattle.cns_page.specs.Shown.{HasClosed, IsClosedDay, IsClosedOn, IsGathered, own_watched}
+use Rattle.cns_page.specs.Shown.{AreShared, HasClosed, IsClosedDay, IsClosedOn, IsSheetOf, own_watched}
 use Rattle.cns_page.specs.Survey.{known, noted_all, nothing}
 use Rattle.cns_page.specs.Today.{HasToday}
 use Rattle.cns_page.specs.declared.asked.About.{About}
@@ -16,7 +16,7 @@ use Rattle.cns_page.specs.declared.asked.Asked.{Asked}
 use Rattle.cns_page.specs.declared.asked.When.{When}
 use Rattle.cns_page.specs.declared.asked.When.TheVariants as when
 use Rattle.cns_page.specs.declared.closed.ClosedDay.{ClosedDay}
-use Rattle.cns_page.specs.declared.contents.Contents.{Contents}
+use Rattle.cns_page.specs.declared.shared.Shared.{Shared}
 use Rattle.cns_page.specs.declared.survey.Close.{Close}
 use Rattle.cns_page.specs.declared.survey.Survey.{Survey}
 
@@ -39,9 +39,10 @@ HasPast p input closes most old new = (records : ℕ) × IsOfRecords closes p.da
 -- what was written is the page of what a closed day did to an account, by itself
 pub record WritesOwn (a : Account) (d : ClosedDay) (old new : Option (List ℕ)) : Type 0 where
   pub sheet : DaySheet
-  pub contents : Contents
-  pub is : IsGathered d sheet contents
-  pub shown : ShowsAccount d sheet a false d.lines.items contents old new
+  pub closed : IsSheetOf d sheet
+  pub shared : Shared
+  pub gathered : AreShared d sheet shared
+  pub shown : ShowsAccount d sheet a false d.lines.items shared old new
 
 -- what the day that a close ends did to an account
 pub record HasOwnDay (a : Account) (opening : Day) (input : List ℕ) (from : ℕ) (close : Close) (old new : Option (List ℕ)) : Type 0 where

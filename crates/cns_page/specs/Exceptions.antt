@@ -11,7 +11,8 @@ use Rattle.cns_tables.specs.Escape.{escaped}
 use Rattle.cns_tables.specs.Grouped.{count_text}
 use Rattle.cns_tables.specs.Pieces.{piece_text}
 use Rattle.cns_tables.specs.Tables.{texts}
-use Rattle.cns_page.specs.declared.exceptions.TheConstants.{AND, BOUGHT, BUYER, BUYS, DAY, EXCHANGED, FOR, FROM, GIVEN, GIVEN_END, GIVEN_ON, IN, INVALID, IS, MEMBER, NOTICE, OF, PENDING, POSITION_OF, PRICE_OF, PUT_RIGHT, REFUSED, REFUSED_END, REMAIN, RETIRED, ROOM, SOLD, TODAY, TRADE, WAITING}
+use Rattle.cns_page.specs.declared.exceptions.TheConstants.{AND, BOUGHT, BUYER, BUYS, DAY, EXCHANGED, FOR, FROM, GIVEN, GIVEN_END, GIVEN_ON, IN, INVALID, IS, MEMBER, NOTICE, OF, OF_RECORD, PENDING, POSITION_OF, PRICE_OF, PUT_RIGHT, REFUSED, REFUSED_END, REMAIN, RETIRED, ROOM, SOLD, TODAY, TRADE, WAITING}
+use Rattle.cns_page.specs.declared.finding.Cited.{Cited}
 use Rattle.cns_page.specs.declared.finding.Exchanged.{Exchanged}
 use Rattle.cns_page.specs.declared.finding.Fact.{Fact}
 use Rattle.cns_page.specs.declared.finding.Fact.TheVariants as fact
@@ -40,10 +41,10 @@ exchanged_text e = texts (RETIRED.now ∷ escaped e.issue ∷ EXCHANGED.now ∷ 
 abbrev pub waiting_text : Waiting → List ℕ
 waiting_text w = texts (WAITING.now ∷ count_text w.bought ∷ BOUGHT.now ∷ count_text w.sold ∷ SOLD.now ∷ [])
 
--- the trade that has a reference: its buyer, shares, issue, seller and date
+-- the trade that has a reference: the number of its record, its buyer, shares, issue, seller and date
 abbrev pub seen_text : Seen → List ℕ
 seen_text s =
-    texts (TRADE.now ∷ decimal s.reference ∷ BUYER.now ∷ decimal s.trade.buyer ∷ BUYS.now ∷ count_text s.trade.shares ∷ OF.now
+    texts (TRADE.now ∷ decimal s.reference ∷ OF_RECORD.now ∷ decimal s.record ∷ BUYER.now ∷ decimal s.trade.buyer ∷ BUYS.now ∷ count_text s.trade.shares ∷ OF.now
     ∷ escaped s.trade.issue ∷ FROM.now ∷ decimal s.trade.seller ∷ FOR.now ∷ day_text s.trade.date ∷ [])
 
 -- the first trade that is pending: its reference and date
@@ -92,3 +93,7 @@ put_right_text (Some n) = texts (PUT_RIGHT.now ∷ decimal n ∷ [])
 abbrev pub finding_text : Finding → List ℕ
 finding_text f =
     record_text f ++ (reason_text f.outcome f.words.now ++ (flat_map fact_text f.facts ++ (put_right_text f.put_right ++ 10 ∷ [])))
+
+-- on the page of an account
+abbrev pub cited_text : Cited → List ℕ
+cited_text c = finding_text c.finding.now

@@ -48,8 +48,8 @@ begin_text h = head_text h ++ (links_text h ++ MAIN.now)
 -- how many rows each table has
 abbrev pub row_counts : Survey → Contents → List Span → List ℕ
 row_counts s l spans =
-    length s.findings.items ∷ length l.reasons.items ∷ length l.lines.items ∷ length l.issues.items ∷ length l.shorts.items ∷ length l.liable.items
-    ∷ length l.notices.items ∷ length l.due.items ∷ length l.trades.items ∷ length l.days.items ∷ length spans ∷ []
+    length s.findings.items ∷ length l.reasons.items ∷ length l.lines.items ∷ length l.issues.items ∷ length l.shared.now.shorts.items ∷ length l.shared.now.liable.items
+    ∷ length l.shared.now.notices.items ∷ length l.due.items ∷ length l.shared.now.trades.items ∷ length l.days.items ∷ length spans ∷ []
 
 -- the sum of some counts, as far as it goes
 abbrev pub sum_of : List ℕ → ℕ
@@ -62,10 +62,10 @@ page_text t d l spans =
     ++ (table_text counted_text t.reasons l.reasons.items
     ++ (table_text line_text t.accounts l.lines.items
     ++ (table_text issue_line_text t.issues l.issues.items
-    ++ (table_text short_text t.fails l.shorts.items
-    ++ (table_text owing_text t.liable l.liable.items
-    ++ (table_text notice_row t.notices l.notices.items
+    ++ (table_text short_text t.fails l.shared.now.shorts.items
+    ++ (table_text owing_text t.liable l.shared.now.liable.items
+    ++ (table_text notice_row t.notices l.shared.now.notices.items
     ++ (table_text due_at_text t.due l.due.items
-    ++ (table_text due_text t.projection l.trades.items
+    ++ (table_text due_text t.projection l.shared.now.trades.items
     ++ (table_text figures_text t.days l.days.items
     ++ (table_text span_text t.totals spans ++ foot_text d.opening (Some l.head.date) d.origin (sum_of (row_counts d.survey l spans)))))))))))))

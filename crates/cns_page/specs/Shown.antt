@@ -29,6 +29,8 @@ use Rattle.cns_page.specs.declared.closed.ClosedDay.{ClosedDay}
 use Rattle.cns_page.specs.declared.contents.Contents.{Contents}
 use Rattle.cns_page.specs.declared.contents.Head.{Head}
 use Rattle.cns_page.specs.declared.figures.Figures.{Figures}
+use Rattle.cns_page.specs.declared.projection.Due.{Due}
+use Rattle.cns_page.specs.declared.shared.Shared.{Shared}
 use Rattle.cns_page.specs.declared.shorts.Aged.{Aged}
 use Rattle.cns_page.specs.declared.survey.Close.{Close}
 use Rattle.cns_page.specs.declared.survey.Survey.{Survey}
@@ -42,10 +44,14 @@ AreShorts log sheet xs = IsInOrderOf (λ s. s.age) (λ a b. nat_cmp b a) (shorts
 abbrev pub next_day : Log → Day
 next_day log = date log.opening (journal_of (state_of log))
 
--- the accepted trades that settle after the day of a sheet, by date: those that its close booked into the next day, and those
+-- the accepted trades that settle after a day, by date: those that its close booked into the next day, and those
 -- that are pending
-abbrev pub AreLater : Log → DaySheet → List Trade → Type 0
-AreLater log sheet xs = IsInOrderOf (λ t. day_number t.date) int_cmp (later_among sheet.date (looked_at log.history)) xs
+abbrev pub AreLater : Log → Day → List Trade → Type 0
+AreLater log d xs = IsInOrderOf (λ t. day_number t.date) int_cmp (later_among d (looked_at log.history)) xs
+
+-- the same as rows of a page
+abbrev pub AreTradesAfter : Log → Day → List Due → Type 0
+AreTradesAfter log d xs = (ts : List Trade) × AreLater log d ts × (xs ≡ map (due (next_day log)) ts)
 
 -- the list of days up to the last close of a survey, the last 60 at most
 abbrev pub days_shown : Log → Survey → List Figures
@@ -64,22 +70,25 @@ head_shown log s c linked = record {
   is_linked = linked;
 }
 
--- the rows of a page of a closed day, by the day's sheet, with links or without
+-- the rows that the page of a closed day and those of its accounts show both, by the day's sheet
+pub record AreShared (d : ClosedDay) (sheet : DaySheet) (g : Shared) : Type 0 where
+  pub shorts : AreShorts d.book.log sheet g.shorts.items
+  pub liable : g.liable.items ≡ liable_shown (state_of d.book.log) d.close.day
+  pub notices : g.notices.items ≡ live_shown (state_of d.book.log)
+  pub trades : AreTradesAfter d.book.log sheet.date g.trades.items
+  pub pending : ArePending g.trades.items g.pending
+  pub rising : IsOrdered key_cmp g.pending.shares
+  pub moves : AreMoves (date_before d.survey.closes.items) d.close.date (looked_at d.book.log.history) d.lines.items g.moves
+  pub past : IsPast (looked_at d.book.log.history) g.past
+
+-- the rows of the page of a closed day beside them, with links or without
 pub record AreContents (d : ClosedDay) (sheet : DaySheet) (linked : Bool) (l : Contents) : Type 0 where
   pub head : l.head ≡ head_shown d.book.log d.survey d.close linked
   pub reasons : map counted l.reasons.items ≡ counts_shown d.survey.reasons.items
-  pub moves : AreMoves (date_before d.survey.closes.items) d.close.date (looked_at d.book.log.history) d.lines.items l.moves
-  pub lines : l.lines.items ≡ sheet_lines sheet l.moves linked
+  pub lines : l.lines.items ≡ sheet_lines sheet l.shared.now.moves linked
   pub issues : AreIssues sheet.rows l.issues.items
-  pub shorts : AreShorts d.book.log sheet l.shorts.items
-  pub liable : l.liable.items ≡ liable_shown (state_of d.book.log) d.close.day
-  pub notices : l.notices.items ≡ live_shown (state_of d.book.log)
-  pub trades : (ts : List Trade) × AreLater d.book.log sheet ts × (l.trades.items ≡ map (due (next_day d.book.log)) ts)
-  pub pending : ArePending l.trades.items l.pending
-  pub due : l.due.items ≡ map (λ e. due_at (state_of d.book.log) l.pending e.0) l.pending.shares.entries
-  pub rising : IsOrdered key_cmp l.pending.shares
+  pub due : l.due.items ≡ map (λ e. due_at (state_of d.book.log) l.shared.now.pending e.0) l.shared.now.pending.shares.entries
   pub days : l.days.items ≡ days_shown d.book.log d.survey
-  pub past : IsPast (looked_at d.book.log.history) l.past
 
 -- what was written is the text of the page of a day, with some captions
 pub record ShowsDay (d : ClosedDay) (l : Contents) (old new : Option (List ℕ)) : Type 0 where
@@ -98,16 +107,17 @@ pub record IsClosedDay (opening : Day) (input : List ℕ) (from : ℕ) (close : 
   pub told : d.lines.items ≡ history w 0 (opened opening) (take close.record (lines_of input))
   pub made_of : (bytes : ℕ) × IsOrigin (take bytes input) d.origin
 
--- what is gathered of a closed day, by the sheet that its book has, for a page by itself
-pub record IsGathered (d : ClosedDay) (sheet : DaySheet) (l : Contents) : Type 0 where
-  pub closed : sheet_on d.book.log.opening (journal_of (state_of d.book.log)) d.close.date ≡ Some sheet
-  pub gathered : AreContents d sheet false l
+-- the sheet that a closed day has in its book
+abbrev pub IsSheetOf : ClosedDay → DaySheet → Type 0
+IsSheetOf d sheet = sheet_on d.book.log.opening (journal_of (state_of d.book.log)) d.close.date ≡ Some sheet
 
 -- what was written is the page of a closed day by itself
 pub record WritesDay (d : ClosedDay) (old new : Option (List ℕ)) : Type 0 where
   pub sheet : DaySheet
+  pub closed : IsSheetOf d sheet
   pub contents : Contents
-  pub is : IsGathered d sheet contents
+  pub gathered : AreShared d sheet contents.shared.now
+  pub rows : AreContents d sheet false contents
   pub shown : ShowsDay d contents old new
 
 -- what is watched for the page of a day: what each of its records books that is neither a trade nor a close

@@ -1,5 +1,6 @@
 -- What a book's history has that decided a refusal.
-use Rattle.std.specs.Prelude.{ℕ, ◌+◌, ◌-◌, ◌^◌, Bool, false, not, ◌==◌, ◌&&◌, if◌then◌else◌, List, filter, filter_map, map, min, slice_get, Option, Some, None}
+use Rattle.std.specs.Prelude.{◌≡◌, ℕ, ◌+◌, ◌-◌, ◌^◌, Bool, false, not, ◌==◌, ◌&&◌, if◌then◌else◌, List, [], ◌∷◌, filter, filter_map, map, min, nat_lt, reverse, take, Option, Some, None}
+use Rattle.std.specs.List.{fold}
 use Rattle.cns_terms.specs.Common.{Account, Cusip, bought_in, is_not_after, pend_of, sold_in}
 use Rattle.cns_terms.specs.Sums.{same_issue}
 use Rattle.cns_terms.specs.declared.command.Activity.{Activity}
@@ -8,7 +9,7 @@ use Rattle.cns_terms.specs.declared.command.Command.{Command}
 use Rattle.cns_terms.specs.declared.command.Command.TheVariants as command
 use Rattle.cns_terms.specs.declared.command.Trade.{Trade}
 use Rattle.cns_terms.specs.declared.history.Taken.{Taken}
-use Rattle.cns_page.specs.Listed.{if_accepted, looked_at}
+use Rattle.cns_page.specs.Listed.{if_accepted}
 use Rattle.cns_page.specs.declared.finding.Waiting.{Waiting}
 use Rattle.cns_page.specs.declared.sought.Sought.{Sought}
 use Rattle.cns_page.specs.declared.sought.Sought.TheVariants as sought
@@ -30,9 +31,17 @@ is_sought _ _ = false
 abbrev pub sought_among : Sought → List Taken → List Activity
 sought_among s ts = filter (is_sought s) (filter_map (λ t. if_accepted t.reply (activity_in t.command)) ts)
 
--- the first of them in a history
-abbrev pub first_sought : Sought → List Taken → Option Activity
-first_sought s H = slice_get (sought_among s (looked_at H)) 0
+-- the first of them in a history, at a place from 1
+abbrev pub IsFirst : Sought → List Taken → ℕ → Activity → Type 0
+IsFirst s H place x = (sought_among s (take (place - 1) (reverse H)) ≡ []) × (sought_among s (take place (reverse H)) ≡ x ∷ [])
+
+-- the number of a command's record, with one invalid record more: where that stands before it, it is one higher
+abbrev pub after_invalid : ℕ → ℕ → ℕ
+after_invalid n invalid = if nat_lt n invalid then n else min (n + 1) (2 ^ 64 - 1)
+
+-- the number of the record whose command has a place in the history, by the numbers of the invalid records, in order
+abbrev pub record_at : List ℕ → ℕ → ℕ
+record_at invalid place = fold after_invalid place invalid
 
 -- what an account is to get and to give in an issue by trades that wait, as far as the sums go
 abbrev pub waiting_in : Account → Cusip → List Trade → Waiting

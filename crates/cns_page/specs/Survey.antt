@@ -45,8 +45,8 @@ pub record Exception : Type 0 where
   pub reference : Option ℕ
   pub put_right : Option ℕ
 
--- what is known of records: how many there are, how many of them are exceptions, and the accepted closes; and of those after one
--- of them, the exceptions' reasons, and the first 200 of these
+-- what is known of records: how many there are, how many of them are exceptions, the accepted closes, and the numbers of the invalid
+-- ones; and of those after one of them, the exceptions' reasons, and the first 200 of these
 pub record Known : Type 0 where
   pub from : ℕ
   pub records : ℕ
@@ -54,10 +54,11 @@ pub record Known : Type 0 where
   pub reasons : List Why
   pub first : List Exception
   pub closes : List Closing
+  pub invalid : List ℕ
 
 -- of no records
 abbrev pub nothing : ℕ → Known
-nothing from = record { from = from; records = 0; exceptions = 0; reasons = []; first = []; closes = [] }
+nothing from = record { from = from; records = 0; exceptions = 0; reasons = []; first = []; closes = []; invalid = [] }
 
 -- one record more
 abbrev pub counted : Known → Known
@@ -66,6 +67,10 @@ counted k = record k { records = k.records + 1 }
 -- an exception more
 abbrev pub one_more : Known → Known
 one_more k = record k { exceptions = min (k.exceptions + 1) (2 ^ 64 - 1) }
+
+-- an invalid one more
+abbrev pub one_invalid : Known → Known
+one_invalid k = record k { invalid = k.invalid ++ k.records ∷ [] }
 
 -- it is one of the first, too
 abbrev pub first_too : Known → Why → Option ℕ → Known
@@ -111,7 +116,7 @@ replied k cmd _ = k
 -- what it tells, in the state before it
 abbrev pub told_by : Known → State → Line → Known
 told_by k S (Ok cmd) = replied k cmd (answer S cmd)
-told_by k S (Err f) = wanted k (at_fault f) None
+told_by k S (Err f) = wanted (one_invalid k) (at_fault f) None
 
 -- one record more, and what it tells
 abbrev pub noted : Known → State → Line → Known
@@ -153,6 +158,7 @@ known s = record {
   reasons = map why s.reasons.items;
   first = map told s.findings.items;
   closes = map closing s.closes.items;
+  invalid = s.invalid.items;
 }
 
 -- the place of a close: of the one that closed the day with the date, or of the last one where no date is given

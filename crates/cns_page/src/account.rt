@@ -2,19 +2,20 @@
 ghost use Rattle.std.specs.Prelude.{◌≡◌, ◌==◌, IfOk, OnOk, filter, map};
 ghost use Rattle.std.specs.Io.KnownBytes.{Appends};
 ghost use Rattle.cns_book.specs.Log.{state_of};
-ghost use Rattle.cns_page.specs.Exceptions.{finding_text};
-ghost use Rattle.cns_page.specs.Account.{AreOwn, ShowsAccount, account_text, again_text, is_party, names, nav_text, own_fails, row_counts, summary_text, tables_text, title_text};
+ghost use Rattle.cns_page.specs.Account.{AreOwn, ShowsAccount, account_text, again_text, cited, is_party, names, nav_text, own_fails, row_counts, summary_text, tables_text, title_text};
 ghost use Rattle.cns_page.specs.Page.{sum_of};
 
 use crate::captions::{LIABLE, NOTICES, PROJECTION};
-use crate::contents::{Contents, Page, sum_of};
+use crate::closed::Page;
+use crate::contents::sum_of;
 use crate::due::{Projected, projected_all};
 use crate::fails::fails_of;
-use crate::finding::{Finding, NO_FACTS, Numbered};
+use crate::finding::{Cited, Finding, Numbered};
 use crate::foot::{AGAIN, AGAIN_DAY, write_made};
 use crate::liable::Owing;
 use crate::page::{DAY, NEXT, START, TITLE_END};
 use crate::projection::Due;
+use crate::shared::Shared;
 use crate::shorts::Aged;
 use cns_account::{
     AccountDay, BOOKINGS, DIVIDENDS, FAILS, Fail, MARKS, POSITIONS, PaidDividend, account_day,
@@ -22,7 +23,7 @@ use cns_account::{
 };
 use cns_history::HistoryLine;
 use cns_shell::Fault;
-use cns_tables::{Piece, STYLE, Table, hand_on, write_markup, write_pieces, write_table};
+use cns_tables::{Piece, Table, hand_on, page_style, write_markup, write_pieces, write_table};
 use cns_terms::NoMemory;
 use cns_units::{Account, Day, WriteFault};
 use std::alloc::Global;
@@ -30,7 +31,7 @@ use std::io::Write;
 
 /// The rows of an account's page.
 #[derive(Drop)]
-pub struct Own {
+pub struct Own<'a> {
     pub day: AccountDay,
     /// The dividends that the close paid it.
     pub dividends: Vec<PaidDividend>,
@@ -43,7 +44,7 @@ pub struct Own {
     /// Its trades that settle after the day, by date.
     pub trades: Vec<Due>,
     /// The day's first refused records that name it.
-    pub exceptions: Vec<Finding>,
+    pub exceptions: Vec<Cited<'a>>,
 }
 
 /// The tables of an account's page.
@@ -185,19 +186,13 @@ fn own_fails(
     alloc: Global,
     account: Account,
     page: &Page<'_>,
-    contents: &Contents,
+    shared: &Shared,
 ) -> Result<Vec<Fail>, NoMemory>
-    ensures { IfOk result (λ v. v.items ≡ own_fails account (state_of page.now.day.now.book.log) page.now.sheet.now contents.now) }
+    ensures { IfOk result (λ v. v.items ≡ own_fails account (state_of page.now.day.now.book.log) page.now.sheet.now shared.now) }
 {
-    let shorts = own_shorts(alloc, account, contents.shorts.as_slice())?;
+    let shorts = own_shorts(alloc, account, shared.shorts.as_slice())?;
     let date = page.sheet.date();
-    fails_of(
-        alloc,
-        &page.day.book,
-        &contents.past,
-        date,
-        shorts.as_slice(),
-    )
+    fails_of(alloc, &page.day.book, &shared.past, date, shorts.as_slice())
 }
 
 // What is left of its liabilities, among those of all members.
@@ -224,64 +219,43 @@ fn own_notices(
     Ok(own)
 }
 
-// A copy of an exception, which has the same text.
-fn copied(alloc: Global, finding: &Finding) -> Result<Finding, NoMemory>
-    ensures { IfOk result (λ f. finding_text f ≡ finding_text finding.now) }
-{
-    let mut text = String::new(alloc);
-    text.push_str(finding.text.as_str())?;
-    let mut facts = NO_FACTS;
-    facts.copy_from_slice(&finding.facts);
-    Ok(Finding {
-        record: finding.record,
-        text,
-        outcome: finding.outcome,
-        words: finding.words,
-        facts,
-        parties: finding.parties,
-        put_right: finding.put_right,
-    })
-}
-
-// Copies of the refused records that name it.
-fn own_exceptions(
+// The refused records that name it.
+fn own_exceptions<'a>(
     alloc: Global,
     account: Account,
-    findings: &[Finding],
-) -> Result<Vec<Finding>, NoMemory>
-    ensures { IfOk result (λ v. map finding_text v.items ≡ map finding_text (filter (names account) findings.now)) }
+    findings: &'a [Finding],
+) -> Result<Vec<Cited<'a>>, NoMemory>
+    ensures { IfOk result (λ v. map cited v.items ≡ filter (names account) findings.now) }
 {
     let mut own = Vec::new(alloc);
     for finding in findings {
-        if !names(account, finding) {
-            continue;
+        if names(account, finding) {
+            own.push(Cited { finding })?;
         }
-        let copy = copied(alloc, finding)?;
-        own.push(copy)?;
     }
     Ok(own)
 }
 
 /// The rows of the page of an account, among those of the page of the day, and by the lines of what the day's records booked for it.
-pub(crate) fn own_of(
+pub(crate) fn own_of<'a>(
     alloc: Global,
     account: Account,
-    page: &Page<'_>,
-    contents: &Contents,
+    page: &Page<'a>,
+    shared: &Shared,
     lines: &[HistoryLine],
-) -> Result<Own, NoMemory>
-    ensures { IfOk result (AreOwn account page.now.day.now page.now.sheet.now lines.now contents.now) }
+) -> Result<Own<'a>, NoMemory>
+    ensures { IfOk result (AreOwn account page.now.day.now page.now.sheet.now lines.now shared.now) }
 {
     let book = &page.day.book;
     let sheet = page.sheet;
     let findings = page.day.survey.findings.as_slice();
-    let trades = own_trades(alloc, account, contents.trades.as_slice())?;
-    let day = account_day(alloc, book, sheet, account, &contents.moves, lines)?;
-    let dividends = dividends_of(alloc, book, &contents.past, sheet, account)?;
-    let due = projected_all(alloc, book, sheet, account, &contents.pending)?;
-    let fails = own_fails(alloc, account, page, contents)?;
-    let liable = own_liable(alloc, account, contents.liable.as_slice())?;
-    let notices = own_notices(alloc, account, contents.notices.as_slice())?;
+    let trades = own_trades(alloc, account, shared.trades.as_slice())?;
+    let day = account_day(alloc, book, sheet, account, &shared.moves, lines)?;
+    let dividends = dividends_of(alloc, book, &shared.past, sheet, account)?;
+    let due = projected_all(alloc, book, sheet, account, &shared.pending)?;
+    let fails = own_fails(alloc, account, page, shared)?;
+    let liable = own_liable(alloc, account, shared.liable.as_slice())?;
+    let notices = own_notices(alloc, account, shared.notices.as_slice())?;
     let exceptions = own_exceptions(alloc, account, findings)?;
     Ok(Own {
         day,
@@ -308,7 +282,7 @@ fn write_title<W: Write>(account: Account, date: Day, writer: &mut W) -> Result<
         Piece::Markup(ON),
         Piece::Date(date),
         Piece::Markup(TITLE_END),
-        Piece::Markup(STYLE),
+        Piece::Markup(page_style()),
         Piece::Markup(SKIP),
         Piece::Markup(ACCOUNT),
         Piece::Number(number),
@@ -368,7 +342,7 @@ fn write_nav<W: Write>(is_linked: bool, date: Day, writer: &mut W) -> Result<(),
 // Writes the tables.
 fn write_tables<W: Write>(
     captions: &OwnCaptions,
-    own: &Own,
+    own: &Own<'_>,
     writer: &mut W,
 ) -> Result<(), WriteFault>
     ensures { OnOk result (Appends (W.contents writer.old) (W.contents writer.new) (tables_text captions.now own.now)) }
@@ -386,7 +360,7 @@ fn write_tables<W: Write>(
 }
 
 // How many rows the tables have.
-fn rows_of(own: &Own) -> u64
+fn rows_of(own: &Own<'_>) -> u64
     ensures { result ≡ sum_of (row_counts own.now) }
 {
     sum_of(&[
@@ -429,7 +403,7 @@ fn write_whole<W: Write>(
     captions: &OwnCaptions,
     account: Account,
     page: &Page<'_>,
-    own: &Own,
+    own: &Own<'_>,
     writer: &mut W,
 ) -> Result<(), WriteFault>
     ensures { OnOk result (Appends (W.contents writer.old) (W.contents writer.new)
@@ -455,14 +429,14 @@ pub fn write_account<W: Write>(
     alloc: Global,
     account: Account,
     page: &Page<'_>,
-    contents: &Contents,
+    shared: &Shared,
     lines: &[HistoryLine],
     writer: &mut W,
 ) -> Result<(), Fault>
-    ensures { OnOk result (ShowsAccount page.now.day.now page.now.sheet.now account page.now.is_linked lines.now contents.now
+    ensures { OnOk result (ShowsAccount page.now.day.now page.now.sheet.now account page.now.is_linked lines.now shared.now
         (W.contents writer.old) (W.contents writer.new)) }
 {
-    let own = own_of(alloc, account, page, contents, lines)?;
+    let own = own_of(alloc, account, page, shared, lines)?;
     write_whole(&TABLES, account, page, &own, writer)?;
     Ok(())
 }

@@ -1,10 +1,9 @@
 // A closed day, with the book as its close left it, of the records of an input.
-ghost use Rattle.std.specs.Prelude.{◌≡◌, IfOk, Some, option_map, take};
+ghost use Rattle.std.specs.Prelude.{◌≡◌, IfOk, option_map, take};
 ghost use Rattle.cns_terms.specs.Common.{journal_of, sheet_on};
 ghost use Rattle.cns_book.specs.Log.{state_of};
-ghost use Rattle.cns_page.specs.Shown.{IsClosedDay, own_watched};
+ghost use Rattle.cns_page.specs.Shown.{IsClosedDay, IsSheetOf, own_watched};
 
-use crate::contents::Page;
 use crate::foot::{Origin, origin_of};
 use crate::play::{Played, play};
 use crate::survey::{Close, Survey};
@@ -30,6 +29,15 @@ pub struct ClosedDay {
     pub book: ReplayBook,
 }
 
+/// What a page is of: a closed day, with its sheet.
+#[derive(Clone, Copy)]
+pub struct Page<'a> {
+    pub day: &'a ClosedDay,
+    pub sheet: &'a Sheet<Global>,
+    /// Whether it stands in a folder with the pages of the accounts and of other days, and links lead to them.
+    pub is_linked: bool,
+}
+
 // The sheet of a closed day.
 fn sheet_of(book: &ReplayBook, date: Day) -> Option<&Sheet<Global>>
     ensures { option_map (λ s. s.now) result
@@ -44,8 +52,7 @@ impl ClosedDay {
     pub(crate) fn page(&self, is_linked: bool) -> Result<Page<'_>, Fault>
         ensures day { IfOk result (λ p. p.day.now ≡ self.now) }
         ensures linked { IfOk result (λ p. p.is_linked ≡ is_linked) }
-        ensures sheet { IfOk result (λ p.
-            sheet_on self.now.book.log.opening (journal_of (state_of self.now.book.log)) self.now.close.date ≡ Some p.sheet.now) }
+        ensures sheet { IfOk result (λ p. IsSheetOf self.now p.sheet.now) }
     {
         match sheet_of(&self.book, self.close.date) {
             Some(sheet) => Ok(Page {

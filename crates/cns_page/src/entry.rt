@@ -8,7 +8,7 @@ ghost use Rattle.cns_page.specs.Asked.{HasPage};
 ghost use Rattle.cns_page.specs.Usage.{usage_line};
 
 use crate::asked::{About, Asked, asked_of};
-use crate::files::check_folder;
+use crate::files::{Folder, check_folder};
 use crate::make::make;
 use cns_shell::{Ended, Fault, fail, refuse_usage};
 use std::alloc::Global;
@@ -55,8 +55,10 @@ fn make_of<R: AllocGlobal + Files<File = File>, I: Read, O: Write>(
         (λ bytes. HasPage asked.now bytes (O.contents output.old) (O.contents output.new))) }
 {
     check_asked(rt, asked.about, folder)?;
-    let bytes = bytes_of(rt.alloc(), input)?;
-    make(rt, asked, folder, bytes.as_slice(), output)
+    let alloc = rt.alloc();
+    let bytes = bytes_of(alloc, input)?;
+    let mut folder = Folder { rt, path: folder };
+    make(alloc, asked, bytes.as_slice(), &mut folder, output)
 }
 
 /// Runs the program on the words of its line, its name first, and tells what writing its line to `errors` came to.

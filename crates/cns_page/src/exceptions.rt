@@ -4,7 +4,7 @@ ghost use Rattle.std.specs.Io.KnownBytes.{Appends};
 ghost use Rattle.std.specs.List.{flat_map};
 ghost use Rattle.cns_page.specs.Exceptions.{exchanged_text, fact_text, notice_text, pending_text, put_right_text, reason_text, record_text, seen_text, some_fact_text, waiting_text};
 
-use crate::finding::{Exchanged, Fact, Finding, Numbered, Outcome, Pending, Seen, Waiting};
+use crate::finding::{Cited, Exchanged, Fact, Finding, Numbered, Outcome, Pending, Seen, Waiting};
 use crate::words::{fault_name, stage_name};
 use cns_tables::{CELL, Piece, ROW, TableRow, write_markup, write_pieces};
 use cns_units::WriteFault;
@@ -40,6 +40,8 @@ const BOUGHT: &str = " bought, ";
 const SOLD: &str = " sold)";
 
 const TRADE: &str = ". Trade ";
+
+const OF_RECORD: &str = " of record ";
 
 const BUYER: &str = ": member ";
 
@@ -148,6 +150,8 @@ fn write_seen<W: Write>(seen: &Seen, writer: &mut W) -> Result<(), WriteFault>
     let pieces = [
         Piece::Markup(TRADE),
         Piece::Number(seen.reference),
+        Piece::Markup(OF_RECORD),
+        Piece::Number(seen.record),
         Piece::Markup(BUYER),
         Piece::Number(u64::from(trade.buyer.value())),
         Piece::Markup(BUYS),
@@ -273,6 +277,16 @@ fn write_record<W: Write>(finding: &Finding, writer: &mut W) -> Result<(), Write
         Piece::Markup(GIVEN_END),
     ];
     write_pieces(&pieces, writer)
+}
+
+impl<'a> TableRow for Cited<'a> {
+    ghost use Rattle.cns_page.specs.Exceptions.{cited_text};
+
+    ghost text = { cited_text };
+
+    fn write_row<W: Write>(&self, writer: &mut W) -> Result<(), WriteFault> {
+        self.finding.write_row(writer)
+    }
 }
 
 impl TableRow for Finding {

@@ -1,12 +1,12 @@
 // The facts that decided a refusal.
-ghost use Rattle.std.specs.Prelude.{◌≡◌, IfSome, option_map, slice_get};
+ghost use Rattle.std.specs.Prelude.{◌≡◌, ℕ, IfSome, List, option_map, slice_get};
 ghost use Rattle.cns_book.specs.Log.{Log, state_of};
 ghost use Rattle.cns_book.specs.Shown.{notice_shown, position_shown, price_shown};
 ghost use Rattle.cns_page.specs.Facts.{AreShown, IsShown, today_in};
 ghost use Rattle.cns_page.specs.Survey.{reference_of};
 
 use crate::finding::{Exchanged, Fact, Facts, Numbered, Parties, Pending, Quote, Seen, Stand};
-use crate::sought::{Sought, first, waiting};
+use crate::sought::{Sought, first, record_at, waiting};
 use cns_feed::ReplayBook;
 use cns_terms::{Activity, Command, Refusal};
 use cns_units::{Account, Cusip};
@@ -169,7 +169,7 @@ fn price(book: &ReplayBook, issue: Cusip) -> Option<u64>
 
 // An issue with its price now, where the refusal looks at issues.
 fn quote(book: &ReplayBook, refusal: Refusal, issue: Option<Cusip>) -> Option<Fact>
-    ensures { IfSome result (IsShown book.now.log refusal) }
+    ensures { (ns : List ℕ) → IfSome result (IsShown ns book.now.log refusal) }
 {
     if decider_of(refusal) != Decider::Issues {
         return None;
@@ -197,7 +197,7 @@ fn stand(
     account: Option<Account>,
     issue: Option<Cusip>,
 ) -> Option<Fact>
-    ensures { IfSome result (IsShown book.now.log refusal) }
+    ensures { (ns : List ℕ) → IfSome result (IsShown ns book.now.log refusal) }
 {
     if decider_of(refusal) != Decider::Positions {
         return None;
@@ -213,14 +213,17 @@ fn stand(
 
 // The exchange that retired an issue, where the refusal is that one is retired.
 fn exchanged(book: &ReplayBook, refusal: Refusal, issue: Option<Cusip>) -> Option<Fact>
-    ensures { IfSome result (IsShown book.now.log refusal) }
+    ensures { (ns : List ℕ) → IfSome result (IsShown ns book.now.log refusal) }
 {
     let Refusal::Retired = refusal else {
         return None;
     };
     let issue = issue?;
     match first(book, &Sought::Exchange(issue)) {
-        Some(Activity::Exchange(exchange)) => Some(Fact::Exchanged(Exchanged { issue, exchange })),
+        Some((_, Activity::Exchange(exchange))) => Some(Fact::Exchanged(Exchanged {
+            issue,
+            exchange,
+        })),
         _ => None,
     }
 }
@@ -232,7 +235,7 @@ fn beside(
     account: Option<Account>,
     issue: Option<Cusip>,
 ) -> Option<Fact>
-    ensures { IfSome result (IsShown book.now.log refusal) }
+    ensures { (ns : List ℕ) → IfSome result (IsShown ns book.now.log refusal) }
 {
     let Refusal::TooLarge = refusal else {
         return None;
@@ -243,36 +246,48 @@ fn beside(
 }
 
 // The accepted trade that has a reference, where the refusal is that one has it.
-fn seen(book: &ReplayBook, refusal: Refusal, reference: Option<u64>) -> Option<Fact>
-    ensures { IfSome result (IsShown book.now.log refusal) }
+fn seen(
+    book: &ReplayBook,
+    invalid: &[u64],
+    refusal: Refusal,
+    reference: Option<u64>,
+) -> Option<Fact>
+    ensures { IfSome result (IsShown invalid.now book.now.log refusal) }
 {
     let Refusal::SeenReference = refusal else {
         return None;
     };
     let reference = reference?;
     match first(book, &Sought::Reference(reference)) {
-        Some(Activity::Trade(trade)) => Some(Fact::Seen(Seen { reference, trade })),
+        Some((place, Activity::Trade(trade))) => {
+            let record = record_at(invalid, place);
+            Some(Fact::Seen(Seen {
+                reference,
+                record,
+                trade,
+            }))
+        }
         _ => None,
     }
 }
 
 // The first pending trade in an issue, where the refusal is that there is one.
 fn pending(book: &ReplayBook, refusal: Refusal, issue: Option<Cusip>) -> Option<Fact>
-    ensures { IfSome result (IsShown book.now.log refusal) }
+    ensures { (ns : List ℕ) → IfSome result (IsShown ns book.now.log refusal) }
 {
     let Refusal::PendingTrades = refusal else {
         return None;
     };
     let issue = issue?;
     match first(book, &Sought::Pending(issue, book.today())) {
-        Some(Activity::Trade(trade)) => Some(Fact::Pending(Pending { issue, trade })),
+        Some((_, Activity::Trade(trade))) => Some(Fact::Pending(Pending { issue, trade })),
         _ => None,
     }
 }
 
 // The notice that a refusal or its command names, as it stands now.
 fn numbered(book: &ReplayBook, refusal: Refusal, given: Option<u32>) -> Option<Fact>
-    ensures { IfSome result (IsShown book.now.log refusal) }
+    ensures { (ns : List ℕ) → IfSome result (IsShown ns book.now.log refusal) }
 {
     let number = match refusal {
         Refusal::AlreadyNoticed { number } => number,
@@ -284,7 +299,7 @@ fn numbered(book: &ReplayBook, refusal: Refusal, given: Option<u32>) -> Option<F
 
 // How many shares the liable members can be given, where that is too few.
 fn room(refusal: Refusal) -> Option<Fact>
-    ensures { (log : Log) → IfSome result (IsShown log refusal) }
+    ensures { (ns : List ℕ) (log : Log) → IfSome result (IsShown ns log refusal) }
 {
     match refusal {
         Refusal::NotLiable { room } => Some(Fact::Room(room)),
@@ -292,11 +307,11 @@ fn room(refusal: Refusal) -> Option<Fact>
     }
 }
 
-/// What decided that the book refused the command. A refusal changes nothing that the book's calls tell, so the book is
-/// asked after it.
-pub fn facts_of(book: &ReplayBook, command: &Command, refusal: Refusal) -> Facts
+/// What decided that the book refused the command, by the numbers of the invalid records so far. A refusal changes nothing that the
+/// book's calls tell, so the book is asked after it.
+pub fn facts_of(book: &ReplayBook, invalid: &[u64], command: &Command, refusal: Refusal) -> Facts
     ensures today { slice_get result 0 ≡ Some (Some (today_in (state_of book.now.log))) }
-    ensures shown { AreShown book.now.log refusal result }
+    ensures shown { AreShown invalid.now book.now.log refusal result }
 {
     let named = names_of(command);
     [
@@ -309,7 +324,7 @@ pub fn facts_of(book: &ReplayBook, command: &Command, refusal: Refusal) -> Facts
         beside(book, refusal, named.account, named.issue),
         stand(book, refusal, named.other, named.issue),
         beside(book, refusal, named.other, named.issue),
-        seen(book, refusal, named.reference),
+        seen(book, invalid, refusal, named.reference),
         pending(book, refusal, named.issue),
         numbered(book, refusal, named.notice),
         room(refusal),

@@ -24,6 +24,12 @@ pub struct Finding {
     pub put_right: Option<u64>,
 }
 
+/// An exception of the day on the page of an account that it names.
+#[derive(Clone, Copy)]
+pub struct Cited<'a> {
+    pub finding: &'a Finding,
+}
+
 /// The accounts that a command names: of a trade the buyer and the seller, and its reference. A record that is no command names
 /// none.
 #[derive(Clone, Copy)]
@@ -116,10 +122,11 @@ pub struct Waiting {
     pub sold: u64,
 }
 
-/// A reference with the accepted trade that has it.
+/// A reference with the accepted trade that has it, and the number of its record, from 1.
 #[derive(Clone, Copy)]
 pub struct Seen {
     pub reference: u64,
+    pub record: u64,
     pub trade: Trade,
 }
 

@@ -8,10 +8,11 @@ ghost use Rattle.cns_page.specs.Folder.{IsOwnPage, KeepsDay, KeepsFolder, KeepsO
 ghost use Rattle.cns_page.specs.Shown.{ShowsDay};
 
 use crate::account::write_account;
-use crate::closed::{ClosedDay, closed_day, own_watched};
-use crate::contents::{Contents, Page, contents_of};
+use crate::closed::{ClosedDay, Page, closed_day, own_watched};
+use crate::contents::{Contents, contents_of};
 use crate::files::{Keeps, Named};
 use crate::page::write_page;
+use crate::shared::{Shared, shared_of};
 use crate::survey::Close;
 use cns_feed::ReplayBook;
 use cns_history::{Whose, accounts_in, lines_for};
@@ -40,19 +41,19 @@ fn own_page(
     alloc: Global,
     account: Account,
     page: &Page<'_>,
-    contents: &Contents,
+    shared: &Shared,
 ) -> Result<Vec<u8>, Fault>
     requires { page.now.is_linked ≡ true }
-    ensures { IfOk result (λ v. IsOwnPage page.now.day.now page.now.sheet.now contents.now account v.items) }
+    ensures { IfOk result (λ v. IsOwnPage page.now.day.now page.now.sheet.now shared.now account v.items) }
 {
     let own = lines_for(alloc, account, page.day.lines.as_slice())?;
     let mut bytes = Vec::new(alloc);
-    write_account(alloc, account, page, contents, own.as_slice(), &mut bytes)?;
+    write_account(alloc, account, page, shared, own.as_slice(), &mut bytes)?;
     Ok(bytes)
 }
 
 // The page of the day.
-fn day_page(alloc: Global, day: &ClosedDay, contents: &Contents) -> Result<Vec<u8>, Fault>
+fn day_page(alloc: Global, day: &ClosedDay, contents: &Contents<'_>) -> Result<Vec<u8>, Fault>
     ensures { IfOk result (λ v. ShowsDay day.now contents.now (Some []) (Some v.items)) }
 {
     let mut bytes = Vec::new(alloc);
@@ -65,13 +66,13 @@ fn keep_own<K: Keeps>(
     alloc: Global,
     account: Account,
     page: &Page<'_>,
-    contents: &Contents,
+    shared: &Shared,
     keeper: &mut K,
 ) -> Result<(), Fault>
     requires { page.now.is_linked ≡ true }
-    ensures { OnOk result (KeepsOwn page.now.day.now page.now.sheet.now contents.now (account ∷ []) (K.kept keeper.old) (K.kept keeper.new)) }
+    ensures { OnOk result (KeepsOwn page.now.day.now page.now.sheet.now shared.now (account ∷ []) (K.kept keeper.old) (K.kept keeper.new)) }
 {
-    let bytes = own_page(alloc, account, page, contents)?;
+    let bytes = own_page(alloc, account, page, shared)?;
     let named = Named {
         date: page.day.close.date,
         account: Some(account),
@@ -85,14 +86,14 @@ fn keep_each<K: Keeps>(
     alloc: Global,
     accounts: &[Account],
     page: &Page<'_>,
-    contents: &Contents,
+    shared: &Shared,
     keeper: &mut K,
 ) -> Result<(), Fault>
     requires { page.now.is_linked ≡ true }
-    ensures { OnOk result (KeepsOwn page.now.day.now page.now.sheet.now contents.now accounts.now (K.kept keeper.old) (K.kept keeper.new)) }
+    ensures { OnOk result (KeepsOwn page.now.day.now page.now.sheet.now shared.now accounts.now (K.kept keeper.old) (K.kept keeper.new)) }
 {
     for account in accounts {
-        keep_own(alloc, *account, page, contents, keeper)?;
+        keep_own(alloc, *account, page, shared, keeper)?;
     }
     Ok(())
 }
@@ -101,7 +102,7 @@ fn keep_each<K: Keeps>(
 fn keep_day_page<K: Keeps>(
     alloc: Global,
     day: &ClosedDay,
-    contents: &Contents,
+    contents: &Contents<'_>,
     keeper: &mut K,
 ) -> Result<(), Fault>
     ensures { OnOk result ((text : List ℕ) × ShowsDay day.now contents.now (Some []) (Some text)
@@ -121,9 +122,10 @@ fn keep_day<K: Keeps>(alloc: Global, day: &ClosedDay, keeper: &mut K) -> Result<
     ensures { OnOk result (KeepsDay day.now (K.kept keeper.old) (K.kept keeper.new)) }
 {
     let page = day.page(true)?;
-    let contents = contents_of(alloc, &page)?;
+    let shared = shared_of(alloc, &page)?;
+    let contents = contents_of(alloc, &page, &shared)?;
     let accounts = accounts_of(alloc, &day.book, page.sheet)?;
-    keep_each(alloc, accounts.as_slice(), &page, &contents, keeper)?;
+    keep_each(alloc, accounts.as_slice(), &page, &shared, keeper)?;
     keep_day_page(alloc, day, &contents, keeper)?;
     Ok(())
 }

@@ -4,9 +4,9 @@
 //! them twice (`play.rt`): once through, to find the closes, and then up to the close that the page is of, with the day's
 //! exceptions noted; so what comes after a close changes nothing on its page, and stands on the page of the open day
 //! (`today.rt`). A closed day (`closed.rt`) is the book as its close left it, with what was noted and watched. What its pages show is
-//! gathered first (`contents.rt`), and then written: a head, tables in a fixed order (`captions.rt`), and a foot. What the day did to an
-//! account is a page too (`account.rt`), of rows that `cns_account` gathers, and so is the history of a position, which `cns_history`
-//! writes. All pages of a day are kept in a folder (`folder.rt`), each file whole or not at all (`files.rt`). At status 0 what was
+//! gathered first (`shared.rt`, `contents.rt`), and then written: a head, tables in a fixed order (`captions.rt`), and a foot. What the
+//! day did to an account is a page too (`account.rt`), of rows that `cns_account` gathers, and so is the history of a position, which
+//! `cns_history` writes. All pages of a day are kept in a folder (`folder.rt`), each file whole or not at all (`files.rt`). At status 0 what was
 //! written is exactly that, as `HasPage` in `specs/Asked.antt` says, for some captions. Start with `page.rt`.
 #![tactic(auto)]
 
@@ -36,6 +36,7 @@ mod pending;
 mod play;
 mod projection;
 mod reasons;
+mod shared;
 mod shorts;
 mod sought;
 mod sums;

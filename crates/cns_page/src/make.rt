@@ -4,7 +4,7 @@ ghost use Rattle.cns_terms.specs.Common.{opened};
 ghost use Rattle.cns_feed.specs.Output.{lines_of};
 ghost use Rattle.cns_page.specs.Listed.{last_record, records_before};
 ghost use Rattle.cns_page.specs.Asked.{HasAsked, HasOwn, HasOwnDay, HasPage, HasPast, IsOfRecords, WritesOwn, closed_in};
-ghost use Rattle.cns_page.specs.Folder.{KeepsClosed};
+ghost use Rattle.cns_page.specs.Folder.{HasKept, KeepsClosed};
 ghost use Rattle.cns_page.specs.Shown.{HasClosed, HasDay, IsClosedOn, WritesDay};
 ghost use Rattle.cns_page.specs.Survey.{known, noted_all, nothing};
 ghost use Rattle.cns_page.specs.Today.{HasToday};
@@ -13,10 +13,11 @@ use crate::account::write_account;
 use crate::asked::{About, Asked, When};
 use crate::closed::{ClosedDay, closed_day, own_watched};
 use crate::contents::contents_of;
-use crate::files::{Folder, Keeps};
+use crate::files::Keeps;
 use crate::folder::keep_folder;
 use crate::page::write_page;
 use crate::play::{Played, play};
+use crate::shared::shared_of;
 use crate::survey::{Close, Survey, place_of};
 use crate::today::{OpenDay, write_today};
 use cns_feed::{MOST_RECORDS, ReplayBook, ReplayFault};
@@ -25,9 +26,7 @@ use cns_sheets::Sheet;
 use cns_shell::Fault;
 use cns_units::{Account, Day};
 use std::alloc::Global;
-use std::fs::File;
 use std::io::Write;
-use std::rt::Files;
 
 // A survey, where it is of all records.
 fn if_whole(survey: Survey, is_whole: bool) -> Result<Survey, ReplayFault>
@@ -94,7 +93,8 @@ fn write_taken<O: Write>(alloc: Global, day: &ClosedDay, output: &mut O) -> Resu
     ensures { OnOk result (WritesDay day.now (O.contents output.old) (O.contents output.new)) }
 {
     let page = day.page(false)?;
-    let contents = contents_of(alloc, &page)?;
+    let shared = shared_of(alloc, &page)?;
+    let contents = contents_of(alloc, &page, &shared)?;
     write_page(day, &contents, output)?;
     Ok(())
 }
@@ -138,15 +138,8 @@ fn write_own_taken<O: Write>(
 {
     let page = day.page(false)?;
     check_account(&day.book, page.sheet, account)?;
-    let contents = contents_of(alloc, &page)?;
-    write_account(
-        alloc,
-        account,
-        &page,
-        &contents,
-        day.lines.as_slice(),
-        output,
-    )
+    let shared = shared_of(alloc, &page)?;
+    write_account(alloc, account, &page, &shared, day.lines.as_slice(), output)
 }
 
 // Writes the page of what the day that a close ends did to an account; the records after `from` are the day's.
@@ -317,23 +310,23 @@ fn keep_closed<K: Keeps>(
     keep_folder(alloc, opening, input, from, close, keeper)
 }
 
-/// Writes the page that is asked for, of the records of an input, and hands it on; or writes pages into the folder.
+/// Writes the page that is asked for, of the records of an input, and hands it on; or hands the pages for a folder to its keeper.
 ///
 /// `NoMemory` where an allocation failed, `Read` where there are 4,294,967,295 records or more, or a file of the folder cannot be
 /// read, `NoSuchDay` where no closed day has the date, or no day is closed, or what the open day did to an account or its pages
 /// for a folder are asked for, `NoSuchMember` and `NoSuchIssue` where the account or the issue that is asked for is not there,
 /// `OtherPage` where the folder has another page, and `Write` where the writer fails or a file
 /// cannot be written. What was written before stands, and each file is whole.
-pub(crate) fn make<R: AllocGlobal + Files<File = File>, O: Write>(
-    rt: &R,
+pub(crate) fn make<K: Keeps, O: Write>(
+    alloc: Global,
     asked: &Asked,
-    folder: &str,
     input: &[u8],
+    keeper: &mut K,
     output: &mut O,
 ) -> Result<(), Fault>
-    ensures { OnOk result (HasPage asked.now input.now (O.contents output.old) (O.contents output.new)) }
+    ensures page { OnOk result (HasPage asked.now input.now (O.contents output.old) (O.contents output.new)) }
+    ensures kept { OnOk result (HasKept asked.now input.now (K.kept keeper.old) (K.kept keeper.new)) }
 {
-    let alloc = rt.alloc();
     let opening = asked.opening;
     let most = u64::from(MOST_RECORDS);
     let survey = survey_of(alloc, opening, input, most)?;
@@ -350,10 +343,7 @@ pub(crate) fn make<R: AllocGlobal + Files<File = File>, O: Write>(
         }
         About::Folder => match asked.day {
             When::Today => Err(Fault::NoSuchDay),
-            _ => {
-                let mut folder = Folder { rt, path: folder };
-                keep_closed(alloc, opening, input, &survey, day, &mut folder)
-            }
+            _ => keep_closed(alloc, opening, input, &survey, day, keeper),
         },
     }
 }

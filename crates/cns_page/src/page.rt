@@ -9,7 +9,7 @@ use crate::closed::ClosedDay;
 use crate::contents::{Contents, Head, rows_of};
 use crate::foot::write_foot;
 use crate::totals::{Span, spans_of};
-use cns_tables::{Piece, STYLE, hand_on, write_markup, write_pieces, write_table};
+use cns_tables::{Piece, hand_on, page_style, write_markup, write_pieces, write_table};
 use cns_units::{Day, WriteFault};
 use std::io::Write;
 
@@ -83,7 +83,7 @@ fn write_head<W: Write>(head: &Head, writer: &mut W) -> Result<(), WriteFault>
         Piece::Markup(CLOSED),
         Piece::Date(head.date),
         Piece::Markup(TITLE_END),
-        Piece::Markup(STYLE),
+        Piece::Markup(page_style()),
         Piece::Markup(HEADING),
         Piece::Markup(CLOSED),
         Piece::Date(head.date),
@@ -155,7 +155,7 @@ fn write_begin<W: Write>(head: &Head, writer: &mut W) -> Result<(), WriteFault>
 fn write_text<W: Write>(
     captions: &Captions,
     day: &ClosedDay,
-    contents: &Contents,
+    contents: &Contents<'_>,
     totals: &[Span],
     writer: &mut W,
 ) -> Result<(), WriteFault>
@@ -167,11 +167,19 @@ fn write_text<W: Write>(
     write_table(&captions.reasons, contents.reasons.as_slice(), writer)?;
     write_table(&captions.accounts, contents.lines.as_slice(), writer)?;
     write_table(&captions.issues, contents.issues.as_slice(), writer)?;
-    write_table(&captions.fails, contents.shorts.as_slice(), writer)?;
-    write_table(&captions.liable, contents.liable.as_slice(), writer)?;
-    write_table(&captions.notices, contents.notices.as_slice(), writer)?;
+    write_table(&captions.fails, contents.shared.shorts.as_slice(), writer)?;
+    write_table(&captions.liable, contents.shared.liable.as_slice(), writer)?;
+    write_table(
+        &captions.notices,
+        contents.shared.notices.as_slice(),
+        writer,
+    )?;
     write_table(&captions.due, contents.due.as_slice(), writer)?;
-    write_table(&captions.projection, contents.trades.as_slice(), writer)?;
+    write_table(
+        &captions.projection,
+        contents.shared.trades.as_slice(),
+        writer,
+    )?;
     write_table(&captions.days, contents.days.as_slice(), writer)?;
     write_table(&captions.totals, totals, writer)?;
     let rows = rows_of(&day.survey, contents, totals);
@@ -183,7 +191,7 @@ fn write_text<W: Write>(
 fn write_whole<W: Write>(
     captions: &Captions,
     day: &ClosedDay,
-    contents: &Contents,
+    contents: &Contents<'_>,
     totals: &[Span],
     writer: &mut W,
 ) -> Result<(), WriteFault>
@@ -199,7 +207,7 @@ fn write_whole<W: Write>(
 /// `Write` where the writer fails, takes no byte or cannot be flushed. What was written before stands.
 pub fn write_page<W: Write>(
     day: &ClosedDay,
-    contents: &Contents,
+    contents: &Contents<'_>,
     writer: &mut W,
 ) -> Result<(), WriteFault>
     ensures { OnOk result (ShowsDay day.now contents.now (W.contents writer.old) (W.contents writer.new)) }

@@ -1,10 +1,10 @@
 // What a book's history has that decided a refusal.
-ghost use Rattle.std.specs.Prelude.{◌≡◌, [], ◌∷◌};
+ghost use Rattle.std.specs.Prelude.{◌≡◌, [], ◌∷◌, IfSome, None};
 ghost use Rattle.std.specs.Option.{option_to_list};
 ghost use Rattle.cns_terms.specs.Common.{date, journal_of};
 ghost use Rattle.cns_book.specs.Log.{state_of};
 ghost use Rattle.cns_page.specs.Listed.{later_among, looked_at};
-ghost use Rattle.cns_page.specs.Sought.{first_sought, is_sought, shares_of, sought_among, waiting_in, with_trade};
+ghost use Rattle.cns_page.specs.Sought.{IsFirst, after_invalid, is_sought, record_at, shares_of, sought_among, waiting_in, with_trade};
 
 use crate::finding::Waiting;
 use crate::projection::later;
@@ -53,19 +53,42 @@ fn told(entry: &Taken, sought: &Sought) -> Option<Activity>
     }
 }
 
-/// The first accepted activity in a book's history that is looked for.
-pub fn first(book: &ReplayBook, sought: &Sought) -> Option<Activity>
-    ensures { result ≡ first_sought sought.now book.now.log.history }
+/// The first accepted activity in a book's history that is looked for, and the place of its entry, from 1.
+pub fn first(book: &ReplayBook, sought: &Sought) -> Option<(u32, Activity)>
+    ensures found { IfSome result (λ f. IsFirst sought.now book.now.log.history f.0 f.1) }
+    ensures none { result ≡ None → sought_among sought.now (looked_at book.now.log.history) ≡ [] }
 {
     for place in 1..u32::MAX {
         let Some(entry) = book.entry(place) else {
             return None;
         };
         if let Some(activity) = told(&entry, sought) {
-            return Some(activity);
+            return Some((place, activity));
         }
     }
     None
+}
+
+// The number of a command's record, with one invalid record more.
+fn after_invalid(number: u64, invalid: u64) -> u64
+    ensures { result ≡ after_invalid number invalid }
+{
+    if invalid <= number {
+        number.saturating_add(1)
+    } else {
+        number
+    }
+}
+
+/// The number of the record whose command has the place in the history, from 1, by the numbers of the invalid records, in order.
+pub fn record_at(invalid: &[u64], place: u32) -> u64
+    ensures { result ≡ record_at invalid.now place }
+{
+    let mut number = u64::from(place);
+    for other in invalid {
+        number = after_invalid(number, *other);
+    }
+    number
 }
 
 // The shares of a trade, where they are those of the account in the issue.

@@ -1,6 +1,6 @@
 // What the records of an input come to, one after another.
 ghost use Rattle.std.specs.Prelude.{◌≡◌, ◌<◌, ◌-◌, ◌^◌, ◌&&◌, IfSome, None, OnOk, length, map, nat_lt};
-ghost use Rattle.cns_page.specs.Survey.{IsChosen, counted, day_closed, first_too, known, nothing, of_day, put_right, reference_of, replied, righted, wanted, why};
+ghost use Rattle.cns_page.specs.Survey.{IsChosen, counted, day_closed, first_too, known, nothing, of_day, one_invalid, put_right, reference_of, replied, righted, wanted, why};
 
 use crate::facts::{facts_of, parties_of, reference_of};
 use crate::finding::{Facts, Finding, NO_FACTS, NO_PARTIES, Outcome, Parties};
@@ -40,6 +40,8 @@ pub struct Survey {
     pub findings: Vec<Finding>,
     /// The accepted closes, in order.
     pub closes: Vec<Close>,
+    /// The numbers of the invalid records, in order.
+    pub invalid: Vec<u64>,
 }
 
 impl Survey {
@@ -54,6 +56,7 @@ impl Survey {
             reasons: Vec::new(alloc),
             findings: Vec::new(alloc),
             closes: Vec::new(alloc),
+            invalid: Vec::new(alloc),
         }
     }
 
@@ -134,7 +137,7 @@ impl Survey {
         ensures { OnOk result (known self.new ≡ wanted (known self.old) (why (Outcome.Refused refusal)) (reference_of command.now)) }
     {
         let facts = if self.has_room() {
-            facts_of(book, command, refusal)
+            facts_of(book, self.invalid.as_slice(), command, refusal)
         } else {
             NO_FACTS
         };
@@ -145,8 +148,9 @@ impl Survey {
 
     /// Notes that a record with the text is invalid.
     pub(crate) fn note_fault(&mut self, text: &[u8], fault: LineFault) -> Result<(), NoMemory>
-        ensures { OnOk result (known self.new ≡ wanted (known self.old) (why (Outcome.AtFault fault)) None) }
+        ensures { OnOk result (known self.new ≡ wanted (one_invalid (known self.old)) (why (Outcome.AtFault fault)) None) }
     {
+        self.invalid.push(self.records)?;
         let words = fault_words(fault);
         self.note_exception(text, Outcome::AtFault(fault), words, NO_FACTS, NO_PARTIES)
     }

@@ -13,7 +13,7 @@ use crate::survey::Survey;
 use crate::totals::{Span, spans_of};
 use cns_feed::ReplayBook;
 use cns_shell::Fault;
-use cns_tables::{Piece, STYLE, hand_on, write_pieces, write_table};
+use cns_tables::{Piece, hand_on, page_style, write_pieces, write_table};
 use cns_units::{Day, WriteFault};
 use std::alloc::Global;
 use std::io::Write;
@@ -77,7 +77,7 @@ fn write_heading<W: Write>(heading: &Heading, writer: &mut W) -> Result<(), Writ
         Piece::Markup(OPEN),
         Piece::Date(heading.date),
         Piece::Markup(TITLE_END),
-        Piece::Markup(STYLE),
+        Piece::Markup(page_style()),
         Piece::Markup(HEADING),
         Piece::Markup(OPEN),
         Piece::Date(heading.date),

@@ -5,23 +5,23 @@ pub returns-clause-today : goal.returns-clause-today
 returns-clause-today c = ap (λ x. Some (Some x)) c.today.ensures
 
 pub returns-clause-shown : goal.returns-clause-shown
-returns-clause-shown c = (
+returns-clause-shown c = let ns = c.args.invalid.now in (
   rw c.today.ensures (refl, refl),
   (
-    c.quote.ensures,
+    c.quote.ensures ns,
     (
-      c.quote-2.ensures,
+      c.quote-2.ensures ns,
       (
-        c.exchanged.ensures,
+        c.exchanged.ensures ns,
         (
-          c.exchanged-2.ensures,
+          c.exchanged-2.ensures ns,
           (
-            c.stand.ensures,
+            c.stand.ensures ns,
             (
-              c.beside.ensures,
+              c.beside.ensures ns,
               (
-                c.stand-2.ensures,
-                (c.beside-2.ensures, (c.seen.ensures, (c.pending.ensures, (c.numbered.ensures, (c.room.ensures c.args.book.now.log, tt))))),
+                c.stand-2.ensures ns,
+                (c.beside-2.ensures ns, (c.seen.ensures, (c.pending.ensures ns, (c.numbered.ensures ns, (c.room.ensures ns c.args.book.now.log, tt))))),
               ),
             ),
           ),

@@ -6,8 +6,9 @@ returns g c =
     on_ok_weaker c.write_account.result
     (λ h. record {
       sheet = _;
-      contents = _;
-      is = record { closed = c.in_ok-page.ensures.sheet; gathered = rw (c.in_ok-page.ensures.day, c.in_ok-page.ensures.linked) at c.in_ok-contents.ensures };
+      closed = c.in_ok-page.ensures.sheet;
+      shared = _;
+      gathered = rw c.in_ok-page.ensures.day at c.in_ok-shared.ensures;
       shown = rw (c.in_ok-page.ensures.day, c.in_ok-page.ensures.linked, c.as_slice.ensures.value) at h;
     })
     c.write_account.ensures
