@@ -174,9 +174,9 @@ times:
 	@anew=$$(rt help 2>&1 | grep -o -m 1 -e --anew || true); \
 	    python3 tests/times.py --csv bench/gate.csv env RT_JOBS="$$(nproc)" rt ci $$anew
 
-# bench: records a second and bytes of memory a command, at 10^4, 10^5 and 10^6 records
+# bench: records a second and bytes of memory a command, at 10^4, 10^5 and 10^6 records; milliseconds of single operations
 bench: build
-	@python3 bench/bench.py $(PROGRAM)
+	@python3 bench/bench.py $(PROGRAM); python3 bench/operations.py $(PROGRAM)
 
 # pages: draws a day, an account's day and a history of examples/week.csv by the built cnspage and Chromium, at 1280 and at 400
 # pixels and on paper, into the folder PAGES=pages, and the picture of README.md anew
