@@ -35,8 +35,5 @@ pub mod DividendBounds
 pub mod Amounts
 pub mod SheetLimits
 pub mod Examples
-pub mod ActionExamples
 pub mod BatchSteps
-pub mod BuyInExamples
-pub mod AgeExamples
 pub mod Common
