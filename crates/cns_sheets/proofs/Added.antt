@@ -1,11 +1,11 @@
 -- Rows that are added up one after another, in sums that wrap.
 -- For `account_sums` and `sheet_sums` of sums.rt, `stated` of sheet.rt.
-use Rattle.std.proofs.Common.{◌≡◌, subst, ℕ, ◌+◌, ◌≤◌, ℤ, pos, ◌+ℤ◌, FitsSigned, List, [], ◌∷◌, ◌++◌, length, take, arith, unsigned_abs, take_all}
-use Rattle.cns_sheets.proofs.Common.{Row, ints, sum_limit, total, total-append, w128}
+use Rattle.std.proofs.Common.{◌≡◌, ℕ, ◌+◌, ◌≤◌, ℤ, ◌+ℤ◌, FitsSigned, List, [], ◌∷◌, ◌++◌, length, take, arith, unsigned_abs, take_all}
+use Rattle.cns_sheets.proofs.Common.{Row, int_wrap-add_left, ints, sum_limit, total, total-append, w128}
 use Rattle.std.specs.Int.{int_wrap}
-use Rattle.std.proofs.lemmas.Int.{int_wrap-add_left}
 use Rattle.cns_sheets.specs.declared.sums.Totals.{Totals}
-use Rattle.cns_sheets.proofs.RowSums.{one_more, onward}
+use Rattle.std.proofs.lemmas.List.{length_push}
+use Rattle.cns_sheets.proofs.RowSums.{onward}
 
 -- how far a loop over rows has come: the rows that it was given, and what they add up to, as much of it as fits
 pub record Adding (all given left : List Row) (totals : Totals) : Type 0 where
@@ -21,11 +21,8 @@ more f given row sum new is next = grind (arith, int_wrap-add_left, total-append
 -- the next row
 pub adding_more : (all given left rest : List Row) (row : Row) (totals new : Totals) → Adding all given left totals → left ≡ row ∷ rest
     → new.rows ≡ totals.rows + 1 → new.mark ≡ int_wrap w128 (totals.mark +ℤ row.mark) → new.dividend ≡ int_wrap w128 (totals.dividend +ℤ row.dividend) → Adding all (given ++ row ∷ []) rest new
-adding_more all given left rest row totals new was next rows mark dividend = grind (arith, onward, one_more, more)
+adding_more all given left rest row totals new was next rows mark dividend = grind (arith, onward, length_push, more)
 
 -- a sum that is small on the way is small in the end, and fits
 pub small_fits : (f : Row → ℤ) (rows : List Row) → ((n : ℕ) → unsigned_abs (total f (take n rows)) ≤ sum_limit) → FitsSigned w128 (total f rows)
-small_fits f rows small = fits (total f rows) (subst (λ rs. unsigned_abs (total f rs) ≤ sum_limit) (take_all (length rows) rows (omega arith)) (small (length rows)))
-  where
-    fits : (z : ℤ) → unsigned_abs z ≤ sum_limit → FitsSigned w128 z
-    fits z h = omega (arith, ints, h)
+small_fits f rows small = let few = rw (take_all (length rows) rows (omega arith)) at (small (length rows)) in omega (arith, ints, few)

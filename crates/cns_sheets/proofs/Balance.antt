@@ -1,16 +1,19 @@
 -- The marks of a sheet add up to zero.
 -- For `build` of sheet.rt.
-use Rattle.std.proofs.Common.{◌≡◌, ◌∙◌, sym, ap, refl, ℕ, zero, suc, ◌≤◌, ℤ, pos, ◌+ℤ◌, ◌-ℤ◌, ◌*ℤ◌, neg_ℤ, Bool, true, false, not, cond, List, [], ◌∷◌, length, map, filter, Option, None, unwrap_or, arith, int_eq}
-use Rattle.cns_sheets.proofs.Common.{CanBeCut, CentsByKey, Cusip, DaySheet, Holding, Key, Listed, Paying, Row, Rows, Woven, and_left, and_right, below_all, both_true, bytes_eq-Decides, exact_keys, find_filter, held_above, held_same, holding_at, idle_parts, ints, is_held, is_sorted, kept_if, key_cmp, keys_total, option_map_or, price_in, price_on, prices_of, same_issue, same_lists, says, sorted_filter, total, total-add, total-neg, total-same, weave, zero-*ℤ, zeros, nat_tests}
-use Rattle.std.specs.FinMap.{find}
+use Rattle.std.proofs.Common.{◌≡◌, ◌∙◌, sym, ap, refl, ℕ, zero, suc, ◌≤◌, ℤ, pos, ◌+ℤ◌, ◌-ℤ◌, ◌*ℤ◌, neg_ℤ, Bool, true, false, not, cond, List, [], ◌∷◌, length, map, filter, Option, option_map, unwrap_or, arith, int_eq}
+use Rattle.cns_sheets.proofs.Common.{AreBalanced, CanBeCut, CentsByKey, Cusip, DaySheet, Holding, IsCut, Key, Listed, Paying, Row, Rows, by_key, bytes_eq-Decides, cents_at, closing_in, cut_row, dividend_of, exact_keys, find, find_filter, held_in, idle_parts, ints, is_sorted, kept_if, key_cmp, key_of, keys_total, marked, option_map_or, price_in, price_on, prices_of, row_at, rows_before, said, same_issue, same_lists, says, sorted_filter, total, total-add, total-map, total-neg, total-same, worth, zero-*ℤ, zero_add, zeros}
+use Rattle.std.proofs.lemmas.List.Filters.{length-filter_both}
 use Rattle.cns_terms.proofs.SheetSums.{kept_or_not}
-use Rattle.cns_terms.proofs.ZeroSums.{total-times}
-use Rattle.cns_sheets.specs.Build.{AreBalanced, by_key, closing_in, worth}
-use Rattle.cns_sheets.specs.Condition.{held_in, rows_before}
-use Rattle.cns_sheets.proofs.Kept.{row_from}
-use Rattle.cns_sheets.proofs.Weaving.{both_at, find_weave, sorted_weave}
+use Rattle.cns_terms.proofs.ZeroSums.{times_sum}
+use Rattle.cns_sheets.proofs.Entries.{find_keyed, sorted_keyed}
 
 -- ---- sums by issue
+
+zero_out : (b : Bool) (n : ℤ) → n ≡ pos 0 → cond b (pos 0) n ≡ pos 0
+zero_out b n h = grind arith
+
+zero_in : (b : Bool) (n : ℤ) → n ≡ pos 0 → cond b n (pos 0) ≡ pos 0
+zero_in b n h = grind arith
 
 module _ {X : Type 0} (issue : X → Cusip) (f : X → ℤ) where
   -- a number, if it is in the issue
@@ -21,60 +24,42 @@ module _ {X : Type 0} (issue : X → Cusip) (f : X → ℤ) where
   abbrev others : Cusip → List X → List X
   others c xs = filter (λ x. not (same_issue (issue x) c)) xs
 
-  split_branch : (b : Bool) (v s o : ℤ) (x : X) (xs : List X) → f x ≡ v → s +ℤ total f xs ≡ o → (cond b v (pos 0) +ℤ s) +ℤ total f (cond (not b) (x ∷ xs) xs) ≡ v +ℤ o
-  split_branch b v s o x xs is h = grind (arith, nat_tests)
+  -- what the others sum up to in an issue
+  elsewhere : (c d : Cusip) (xs : List X) → total (in_issue d) (others c xs) ≡ cond (same_issue c d) (pos 0) (total (in_issue d) xs)
+  elsewhere c d [] = grind arith
+  elsewhere c d (x ∷ xs) = grind (arith, bytes_eq-Decides, elsewhere c d xs)
 
-  -- a sum is that of one issue and that of the others
-  split : (c : Cusip) (xs : List X) → total (in_issue c) xs +ℤ total f (others c xs) ≡ total f xs
-  split c [] = refl
-  split c (x ∷ xs) = split_branch (same_issue (issue x) c) (f x) (total (in_issue c) xs) (total f xs) x (others c xs) refl (split c xs)
+  module _ (w : Cusip → ℕ) where
+    abbrev weighed : X → ℤ
+    weighed x = f x *ℤ pos (w (issue x))
 
-  fewer : (c : Cusip) (xs : List X) → length (others c xs) ≤ length xs
-  fewer c [] = omega arith
-  fewer c (x ∷ xs) = grind (arith, fewer c xs)
+    -- one term more, of the issue or of another
+    split_branch : (b : Bool) (c : Cusip) (x : X) (xs : List X) (s o : ℤ) → (b ≡ true → issue x ≡ c) → (s *ℤ pos (w c)) +ℤ total weighed xs ≡ o → ((cond b (f x) (pos 0) +ℤ s) *ℤ pos (w c)) +ℤ total weighed (cond (not b) (x ∷ xs) xs) ≡ weighed x +ℤ o
+    split_branch true c x xs s o same h = rw (times_sum (f x) s (w c), same refl) (omega (arith, ints, h))
+    split_branch false c x xs s o same h = rw (zero_add s) (omega (arith, ints, h))
 
-  -- what the others sum up to in another issue
-  elsewhere : (c d : Cusip) (xs : List X) → same_issue c d ≡ false → total (in_issue d) (others c xs) ≡ total (in_issue d) xs
-  elsewhere c d [] other = refl
-  elsewhere c d (x ∷ xs) other = grind (arith, bytes_eq-Decides, elsewhere c d xs other)
+    -- a sum is that of one issue and that of the others
+    split : (c : Cusip) (xs : List X) → (total (in_issue c) xs *ℤ pos (w c)) +ℤ total weighed (others c xs) ≡ total weighed xs
+    split c [] = ap (λ n. n +ℤ pos 0) (zero-*ℤ (pos (w c)))
+    split c (x ∷ xs) = split_branch (same_issue (issue x) c) c x (others c xs) (total (in_issue c) xs) (total weighed xs) (bytes_eq-Decides (issue x) c).0 (split c xs)
 
-  -- and in the one issue
-  nothing : (c : Cusip) (xs : List X) → total (in_issue c) (others c xs) ≡ pos 0
-  nothing c [] = refl
-  nothing c (x ∷ xs) = grind (arith, nothing c xs)
+    zero_upto : (n : ℕ) (xs : List X) → length xs ≤ n → ((c : Cusip) → total (in_issue c) xs ≡ pos 0) → total weighed xs ≡ pos 0
+    zero_upto n [] le h = refl
+    zero_upto zero (x ∷ xs) le h = absurd (omega (arith, le))
+    zero_upto (suc n) (x ∷ xs) le h =
+        sym (split (issue x) (x ∷ xs))
+        ∙ rw (h (issue x), zero-*ℤ (pos (w (issue x))), zero_upto n (others (issue x) (x ∷ xs)) (omega (arith, first_gone, le)) (λ d. elsewhere (issue x) d (x ∷ xs) ∙ zero_out (same_issue (issue x) d) _ (h d))) refl
+      where
+        first_gone : length (others (issue x) (x ∷ xs)) ≤ length xs
+        first_gone = rw ((bytes_eq-Decides (issue x) (issue x)).1 refl) (omega (arith, length-filter_both (λ y. same_issue (issue y) (issue x)) (λ y. not (same_issue (issue y) (issue x))) (λ y. refl) xs))
 
-  still : (t : Bool) (c d : Cusip) (xs : List X) → same_issue c d ≡ t → total (in_issue d) xs ≡ pos 0 → total (in_issue d) (others c xs) ≡ pos 0
-  still t c d xs is h = grind (arith, bytes_eq-Decides, nothing, elsewhere)
+    -- what adds up to zero in each issue does so by a price for each issue
+    zero_weighed : (xs : List X) → ((c : Cusip) → total (in_issue c) xs ≡ pos 0) → total weighed xs ≡ pos 0
+    zero_weighed xs h = zero_upto (length xs) xs (omega arith) h
 
-  zero_upto : (n : ℕ) (xs : List X) → length xs ≤ n → ((c : Cusip) → total (in_issue c) xs ≡ pos 0) → total f xs ≡ pos 0
-  zero_upto n [] le h = refl
-  zero_upto zero (x ∷ xs) le h = absurd (omega (arith, le))
-  zero_upto (suc n) (x ∷ xs) le h =
-      let c : Cusip = issue x in
-      let rest = zero_upto n (others c (x ∷ xs)) (omega (arith, first_gone, le)) (λ d. still _ c d (x ∷ xs) refl (h d)) in
-      let both = split c (x ∷ xs) in
-      let one = h c in
-      omega (arith, ints, rest, both, one)
-    where
-      first_gone : length (others (issue x) (x ∷ xs)) ≤ length xs
-      first_gone = rw ((bytes_eq-Decides (issue x) (issue x)).1 refl) (fewer (issue x) xs)
-
-  -- what adds up to zero in each issue adds up to zero
-  pub zero_by_issue : (xs : List X) → ((c : Cusip) → total (in_issue c) xs ≡ pos 0) → total f xs ≡ pos 0
-  zero_by_issue xs h = zero_upto (length xs) xs (omega arith) h
-
-module _ {X : Type 0} (issue : X → Cusip) (f : X → ℤ) (w : Cusip → ℕ) where
-  weigh_branch : (b : Bool) (c d : Cusip) (v : ℤ) → (b ≡ true → d ≡ c) → cond b (v *ℤ pos (w d)) (pos 0) ≡ cond b v (pos 0) *ℤ pos (w c)
-  weigh_branch b c d v h = grind arith
-
-  weighed_in : (c : Cusip) (xs : List X) → total (λ x. cond (same_issue (issue x) c) (f x *ℤ pos (w (issue x))) (pos 0)) xs ≡ total (λ x. cond (same_issue (issue x) c) (f x) (pos 0)) xs *ℤ pos (w c)
-  weighed_in c xs =
-      total-same _ _ xs (λ x. weigh_branch (same_issue (issue x) c) c (issue x) (f x) (λ e. (bytes_eq-Decides (issue x) c).0 e))
-      ∙ total-times (λ x. cond (same_issue (issue x) c) (f x) (pos 0)) (w c) xs
-
-  -- and so it does by a price for each issue
-  pub zero_weighed : (xs : List X) → ((c : Cusip) → total (λ x. cond (same_issue (issue x) c) (f x) (pos 0)) xs ≡ pos 0) → total (λ x. f x *ℤ pos (w (issue x))) xs ≡ pos 0
-  zero_weighed xs h = zero_by_issue issue (λ x. f x *ℤ pos (w (issue x))) xs (λ c. weighed_in c xs ∙ ap (λ n. n *ℤ pos (w c)) (h c) ∙ zero-*ℤ (pos (w c)))
+  -- and as it is
+  zero_by_issue : (xs : List X) → ((c : Cusip) → total (in_issue c) xs ≡ pos 0) → total f xs ≡ pos 0
+  zero_by_issue xs h = total-same f (λ x. f x *ℤ pos 1) xs (λ x. omega (arith, ints)) ∙ zero_weighed (λ c. 1) xs h
 
 -- ---- two lists of numbers by keys that answer alike
 
@@ -91,9 +76,6 @@ alike o p h = grind arith
 -- the numbers in an issue
 abbrev pub numbers_in : Cusip → Key × ℤ → ℤ
 numbers_in c e = cond (same_issue e.0.issue c) e.1 (pos 0)
-
-pub zero_in : (b : Bool) (n : ℤ) → n ≡ pos 0 → cond b n (pos 0) ≡ pos 0
-zero_in b n h = grind arith
 
 module _ (f : Key × ℤ → ℤ) (nothing : (k : Key) → f (k, pos 0) ≡ pos 0) where
   -- zeros add nothing
@@ -117,25 +99,30 @@ none_in c k = zero_in (same_issue k.issue c) (pos 0) refl
 
 -- ---- one number of each value
 
+or_zero : {V : Type 0} (f : V → ℤ) (o : Option V) (n : ℤ) → unwrap_or (option_map f o) n ≡ option_map_or f o n
+or_zero f o n = grind arith
+
 module _ {V : Type 0} (f : V → ℤ) where
   abbrev pub numbers : List (Key × V) → List (Key × ℤ)
   numbers es = map (λ e. (e.0, f e.1)) es
 
-  below_numbers : (k : Key) (es : List (Key × V)) → below_all key_cmp k es ≡ true → below_all key_cmp k (numbers es) ≡ true
-  below_numbers k [] h = refl
-  below_numbers k (e ∷ es) h = both_true _ _ (and_left _ _ h) (below_numbers k es (and_right _ _ h))
-
   pub sorted_numbers : (es : List (Key × V)) → is_sorted key_cmp es ≡ true → is_sorted key_cmp (numbers es) ≡ true
-  sorted_numbers [] h = refl
-  sorted_numbers (e ∷ es) h = both_true _ _ (below_numbers e.0 es (and_left _ _ h)) (sorted_numbers es (and_right _ _ h))
+  sorted_numbers es h = rw (sorted_keyed key_cmp (λ e. f e.1) es) h
 
   pub found_number : (k : Key) (n : ℤ) (es : List (Key × V)) → unwrap_or (find key_cmp k (numbers es)) n ≡ option_map_or f (find key_cmp k es) n
-  found_number k n [] = refl
-  found_number k n (e ∷ es) = grind (arith, found_number k n es)
+  found_number k n es = rw (find_keyed (λ e. f e.1) k es) (or_zero f (find key_cmp k es) n)
 
   pub total_numbers : (s : Key × ℤ → ℤ) (es : List (Key × V)) → total s (numbers es) ≡ total (λ e. s (e.0, f e.1)) es
-  total_numbers s [] = refl
-  total_numbers s (e ∷ es) = ap (λ n. s (e.0, f e.1) +ℤ n) (total_numbers s es)
+  total_numbers s es = total-map s (λ e. (e.0, f e.1)) es
+
+-- numbers that two lists have alike at each key
+same_numbers : {V W : Type 0} (f : Key × V → ℤ) (g : Key × W → ℤ) (s : Key × ℤ → ℤ) → ((k : Key) → s (k, pos 0) ≡ pos 0) → (es : List (Key × V)) (fs : List (Key × W)) → is_sorted key_cmp es ≡ true → is_sorted key_cmp fs ≡ true
+    → ((k : Key) → option_map_or (λ v. f (k, v)) (find key_cmp k es) (pos 0) ≡ option_map_or (λ w. g (k, w)) (find key_cmp k fs) (pos 0)) → total (λ e. s (e.0, f e)) es ≡ total (λ e. s (e.0, g e)) fs
+same_numbers f g s nothing es fs a b h =
+    sym (total-map s (λ e. (e.0, f e)) es)
+    ∙ same_sums s nothing (map (λ e. (e.0, f e)) es) (map (λ e. (e.0, g e)) fs) (rw (sorted_keyed key_cmp f es) a) (rw (sorted_keyed key_cmp g fs) b)
+    (λ k. rw (find_keyed f k es, find_keyed g k fs) (or_zero (λ v. f (k, v)) (find key_cmp k es) (pos 0) ∙ h k ∙ sym (or_zero (λ w. g (k, w)) (find key_cmp k fs) (pos 0))))
+    ∙ total-map s (λ e. (e.0, g e)) fs
 
 -- ---- rows, holdings and cents
 
@@ -143,108 +130,69 @@ module _ {V : Type 0} (f : V → ℤ) where
 held_number : (g : Holding → ℤ) → pos 0 ≡ g zeros → (o : Option Holding) → option_map_or g o (pos 0) ≡ g (unwrap_or o zeros)
 held_number g z o = grind arith
 
--- the same with cents beside it
-woven_number : (g : Holding → ℤ) → pos 0 ≡ g zeros → (o : Option Holding) (p : Option ℤ) → option_map_or (λ v. g v.0) (both_at o p) (pos 0) ≡ g (unwrap_or o zeros)
-woven_number g z o p = grind arith
+-- a number of a row that says something, or zero
+said_number : (f : Row → ℤ) (r : Row) → (says r ≡ false → f r ≡ pos 0) → option_map_or f (said r) (pos 0) ≡ f r
+said_number f r idle = grind arith
 
--- the cents beside a holding, or zero
-woven_cents : (o : Option Holding) (p : Option ℤ) → option_map_or (λ v. v.1) (both_at o p) (pos 0) ≡ unwrap_or p (pos 0)
-woven_cents o p = grind arith
+-- cents, or zero
+cents_or_zero : (p : Option ℤ) → option_map_or (λ n. n) p (pos 0) ≡ unwrap_or p (pos 0)
+cents_or_zero p = grind arith
 
--- the closings of rows, by their keys
-closings_by_key : (c : Cusip) (rows : List Row) → total (λ e. cond (same_issue e.0.issue c) e.1.closing (pos 0)) (by_key rows) ≡ total (closing_in c) rows
-closings_by_key c [] = refl
-closings_by_key c (r ∷ rows) = ap (λ n. closing_in c r +ℤ n) (closings_by_key c rows)
+-- by the rule of marks, where there are no positions and no cents there is no mark
+no_mark : (p q : ℕ) → (worth (pos 0) p -ℤ worth (pos 0) q) +ℤ pos 0 ≡ pos 0
+no_mark p q = rw (zero-*ℤ (pos p), zero-*ℤ (pos q)) refl
 
--- a sum over rows that say something
-kept_sum : {X : Type 0} (f : Row → ℤ) (g : X → Row) (xs : List X) → ((x : X) → says (g x) ≡ false → f (g x) ≡ pos 0) → total f (filter says (map g xs)) ≡ total (λ x. f (g x)) xs
-kept_sum f g [] idle = refl
-kept_sum f g (x ∷ xs) idle = kept_or_not f (says (g x)) (g x) (filter says (map g xs)) (idle x) ∙ ap (λ n. f (g x) +ℤ n) (kept_sum f g xs idle)
-
--- a row that says nothing has no closing, and by the rule of marks no mark
-idle_closing : (c : Cusip) (r : Row) → says r ≡ false → closing_in c r ≡ pos 0
-idle_closing c r h = zero_in (same_issue r.issue c) r.closing (idle_parts r h).1
-
-module _ (before : Option DaySheet) (prices : Listed) (R : Rows) (ps : List Paying) (cs : CentsByKey) (sorted : is_sorted key_cmp R ≡ true) (cents_rise : is_sorted key_cmp cs ≡ true) (zero : total (λ e. e.1) cs ≡ pos 0)
-    (rise : is_sorted key_cmp (by_key (rows_before before)) ≡ true) (closed : (c : Cusip) → total (closing_in c) (rows_before before) ≡ pos 0) (ready : CanBeCut before prices R ps) where
-  -- the holdings with the cents of their keys
-  abbrev woven : Woven
-  woven = weave (held_above R None) cs
-
-  -- they are in order
-  woven_rise : is_sorted key_cmp woven ≡ true
-  woven_rise = sorted_weave (held_above R None) cs (sorted_filter keys_total is_held R sorted) cents_rise
-
-  -- what stands at a key
-  found : (k : Key) → find key_cmp k woven ≡ both_at (find key_cmp k (held_above R None)) (find key_cmp k cs)
-  found k = find_weave k (held_above R None) cs (sorted_filter keys_total is_held R sorted)
-
-  -- a number of what stands at a key
-  number_at : (g : Holding → ℤ) → pos 0 ≡ g zeros → (k : Key) → unwrap_or (find key_cmp k (numbers (λ v. g v.0) woven)) (pos 0) ≡ g (holding_at R k)
-  number_at g z k =
-      found_number (λ v. g v.0) k (pos 0) woven
-      ∙ ap (λ o. option_map_or (λ v. g v.0) o (pos 0)) (found k)
-      ∙ woven_number g z (find key_cmp k (held_above R None)) (find key_cmp k cs)
-      ∙ ap g (held_same R k sorted)
-
-  -- sums in an issue are those over positions
-  held_sums : (g : Holding → ℤ) → pos 0 ≡ g zeros → (c : Cusip) → total (λ e. cond (same_issue e.0.issue c) (g e.1.0) (pos 0)) woven ≡ total (held_in g c) R
-  held_sums g z c =
-      sym (total_numbers (λ v. g v.0) (numbers_in c) woven)
-      ∙ same_sums (numbers_in c) (none_in c) (numbers (λ v. g v.0) woven) (numbers g R) (sorted_numbers (λ v. g v.0) woven woven_rise) (sorted_numbers g R sorted)
-      (λ k. number_at g z k ∙ sym (held_number g z (find key_cmp k R)) ∙ sym (found_number g k (pos 0) R))
-      ∙ total_numbers g (numbers_in c) R
-
-  -- the openings of an issue add up to zero, as the closings before did
-  openings : (c : Cusip) → total (λ e. cond (same_issue e.0.issue c) e.1.0.opening (pos 0)) woven ≡ pos 0
-  openings c =
-      sym (total_numbers (λ v. v.0.opening) (numbers_in c) woven)
-      ∙ same_sums (numbers_in c) (none_in c) (numbers (λ v. v.0.opening) woven) (numbers (λ r. r.closing) (by_key (rows_before before))) (sorted_numbers (λ v. v.0.opening) woven woven_rise) (sorted_numbers (λ r. r.closing) (by_key (rows_before before)) rise)
-      (λ k. number_at (λ h. h.opening) refl k ∙ ready.openings k ∙ sym (found_number (λ r. r.closing) k (pos 0) (by_key (rows_before before))))
-      ∙ total_numbers (λ r. r.closing) (numbers_in c) (by_key (rows_before before))
-      ∙ closings_by_key c (rows_before before)
-      ∙ closed c
-
-  -- the cents of dividends add up to what all cents do
-  dividends : total (λ e. e.1.1) woven ≡ pos 0
-  dividends =
-      sym (total_numbers (λ v. v.1) (λ e. e.1) woven)
-      ∙ same_sums (λ e. e.1) (λ k. refl) (numbers (λ v. v.1) woven) cs (sorted_numbers (λ v. v.1) woven woven_rise) cents_rise
-      (λ k. found_number (λ v. v.1) k (pos 0) woven ∙ ap (λ o. option_map_or (λ v. v.1) o (pos 0)) (found k) ∙ woven_cents (find key_cmp k (held_above R None)) (find key_cmp k cs))
-      ∙ zero
-
+module _ (before : Option DaySheet) (prices : Listed) (R : Rows) (ps : List Paying) (rows : List Row) (sorted : is_sorted key_cmp R ≡ true) (rise : is_sorted key_cmp (by_key (rows_before before)) ≡ true)
+    (closed : (c : Cusip) → total (closing_in c) (rows_before before) ≡ pos 0) (ready : CanBeCut before prices R ps) (cut : IsCut (prices_of before) prices R ps rows) where
   abbrev price_now : Cusip → ℕ
   price_now c = unwrap_or (price_in prices c) 0
 
   abbrev price_then : Cusip → ℕ
   price_then c = unwrap_or (price_on (prices_of before) c) 0
 
-  -- the row of each
-  abbrev row_of : Key × (Holding × ℤ) → Row
-  row_of = row_from (prices_of before) prices
+  -- the mark of a key's holding
+  abbrev mark_of : Key × Holding → ℤ
+  mark_of e = marked e.1.opening e.1.now (price_then e.0.issue) (price_now e.0.issue) e.1.contract
 
-  -- a row that says nothing has no mark
-  no_mark : (e : Key × (Holding × ℤ)) → says (row_of e) ≡ false → (row_of e).mark ≡ pos 0
-  no_mark e h =
-      let p = idle_parts (row_of e) h in
-      rw (p.0, p.1, p.2, zero-*ℤ (pos (price_now e.0.issue)), zero-*ℤ (pos (price_then e.0.issue))) refl
+  -- the row that the close cuts at a key
+  abbrev row_of : Key → Row
+  row_of k = cut_row (prices_of before) prices R ps k
 
-  -- the marks add up to zero
-  marks : total (λ e. (row_of e).mark) woven ≡ pos 0
+  -- a number of it
+  number_at : (f : Row → ℤ) (k : Key) → (says (row_of k) ≡ false → f (row_of k) ≡ pos 0) → option_map_or f (row_at rows k) (pos 0) ≡ f (row_of k)
+  number_at f k idle = rw (cut.each k) (said_number f (row_of k) idle)
+
+  -- the openings of an issue add up to zero, as the closings before did
+  openings : (c : Cusip) → total (held_in (λ h. h.opening) c) R ≡ pos 0
+  openings c =
+      same_numbers (λ e. e.1.opening) (λ e. e.1.closing) (numbers_in c) (none_in c) R (by_key (rows_before before)) sorted rise (λ k. held_number (λ h. h.opening) refl (find key_cmp k R) ∙ ready.openings k)
+      ∙ total-map (λ (e : Key × Row). cond (same_issue e.0.issue c) e.1.closing (pos 0)) (λ r. (key_of r, r)) (rows_before before) ∙ closed c
+
+  -- the marks of holdings add up to zero
+  marks : total mark_of R ≡ pos 0
   marks =
-      total-add (λ e. worth e.1.0.now (price_now e.0.issue) -ℤ worth e.1.0.opening (price_then e.0.issue)) (λ e. e.1.0.contract) woven
+      total-add (λ e. worth e.1.now (price_now e.0.issue) -ℤ worth e.1.opening (price_then e.0.issue)) (λ e. e.1.contract) R
       ∙ rw (
-        total-add (λ e. worth e.1.0.now (price_now e.0.issue)) (λ e. neg_ℤ (worth e.1.0.opening (price_then e.0.issue))) woven,
-        total-neg (λ e. worth e.1.0.opening (price_then e.0.issue)) woven,
-        zero_weighed (λ e. e.0.issue) (λ e. e.1.0.now) price_now woven (λ c. held_sums (λ h. h.now) refl c ∙ ready.shares c),
-        zero_weighed (λ e. e.0.issue) (λ e. e.1.0.opening) price_then woven openings,
-        zero_by_issue (λ e. e.0.issue) (λ e. e.1.0.contract) woven (λ c. held_sums (λ h. h.contract) refl c ∙ ready.cents c),
+        total-add (λ e. worth e.1.now (price_now e.0.issue)) (λ e. neg_ℤ (worth e.1.opening (price_then e.0.issue))) R,
+        total-neg (λ e. worth e.1.opening (price_then e.0.issue)) R,
+        zero_weighed (λ e. e.0.issue) (λ e. e.1.now) price_now R ready.shares,
+        zero_weighed (λ e. e.0.issue) (λ e. e.1.opening) price_then R openings,
+        zero_by_issue (λ e. e.0.issue) (λ e. e.1.contract) R ready.cents,
       ) refl
 
   -- what a sheet keeps of sums holds of the rows that are cut
-  pub cut_balanced : AreBalanced (filter says (map row_of woven))
-  cut_balanced = record {
-    closings = λ c. kept_sum (closing_in c) row_of woven (λ e. idle_closing c (row_of e)) ∙ held_sums (λ h. h.now) refl c ∙ ready.shares c;
-    marks = kept_sum (λ r. r.mark) row_of woven no_mark ∙ marks;
-    dividends = kept_sum (λ r. r.dividend) row_of woven (λ e h. (idle_parts (row_of e) h).3) ∙ dividends;
+  pub cut_balanced : (cs : CentsByKey) → is_sorted key_cmp cs ≡ true → total (λ e. e.1) cs ≡ pos 0 → ((k : Key) → cents_at cs k ≡ dividend_of ps k) → AreBalanced rows
+  cut_balanced cs cents_rise none cents = record {
+    closings = λ c.
+        sym (total-map (λ (e : Key × Row). cond (same_issue e.0.issue c) e.1.closing (pos 0)) (λ r. (key_of r, r)) rows)
+        ∙ same_numbers (λ e. e.1.closing) (λ e. e.1.now) (numbers_in c) (none_in c) (by_key rows) R cut.order sorted
+        (λ k. number_at (λ r. r.closing) k (λ h. (idle_parts (row_of k) h).1) ∙ sym (held_number (λ h. h.now) refl (find key_cmp k R))) ∙ ready.shares c;
+    marks =
+        sym (total-map (λ (e : Key × Row). e.1.mark) (λ r. (key_of r, r)) rows)
+        ∙ same_numbers (λ e. e.1.mark) mark_of (λ e. e.1) (λ k. refl) (by_key rows) R cut.order sorted (λ k.
+        number_at (λ r. r.mark) k (λ h. let p = idle_parts (row_of k) h in rw (p.0, p.1, p.2) (no_mark (price_now k.issue) (price_then k.issue)))
+        ∙ sym (held_number (λ h. mark_of (k, h)) (sym (no_mark (price_now k.issue) (price_then k.issue))) (find key_cmp k R))) ∙ marks;
+    dividends =
+        sym (total-map (λ (e : Key × Row). e.1.dividend) (λ r. (key_of r, r)) rows)
+        ∙ same_numbers (λ e. e.1.dividend) (λ e. e.1) (λ e. e.1) (λ k. refl) (by_key rows) cs cut.order cents_rise (λ k. number_at (λ r. r.dividend) k (λ h. (idle_parts (row_of k) h).3) ∙ sym (cents_or_zero (find key_cmp k cs) ∙ cents k)) ∙ none;
   }

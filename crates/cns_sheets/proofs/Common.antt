@@ -3,14 +3,19 @@ pub use Rattle.cns_terms.proofs.Common.{⊤, Account, AllByRecursion, AllWithin,
 pub use Rattle.cns_terms.specs.declared.holding.Holding.{Holding}
 pub use Rattle.cns_terms.specs.declared.holding.Key.{Key}
 pub use Rattle.cns_terms.specs.declared.sheet.Row.{Row}
-pub use Rattle.cns_tree.specs.Search.{is_at_or_after}
-pub use Rattle.cns_positions.specs.Rows.{AreNext, Rows, held_above, holding_at, is_held, last_of, present, zeros}
-pub use Rattle.cns_positions.proofs.Held.{last_given}
-pub use Rattle.cns_positions.proofs.Puts.{find_at, find_gap}
+pub use Rattle.cns_tree.specs.Search.{is_after, is_at_or_after}
+pub use Rattle.cns_positions.specs.Rows.{AreNext, Rows, held_above, holding_at, is_above, is_held, last_of, present, zeros}
+pub use Rattle.cns_positions.proofs.Held.{filter_both, first_passing, last_given, none_given}
+pub use Rattle.cns_positions.proofs.Puts.{below_later, comparisons_rise, find_at, find_gap}
 pub use Rattle.cns_positions.proofs.Unheld.{held_same}
 pub use Rattle.cns_prices.specs.Listed.{Listed, listed_above, price_in}
-pub use Rattle.cns_sheets.specs.Build.{Columns, HasSmallCents, IsMarked, PriceList, full_row, full_rows, price_on, priced_row, prices_of, sum_limit}
-pub use Rattle.cns_sheets.specs.Condition.{CanBeCut}
-pub use Rattle.cns_sheets.specs.Payments.{IsCut, IsPayable, Paying, member_cash, paid}
-pub use Rattle.cns_sheets.specs.Walking.{AreFrom, ahead_of, if_of, lowest_of}
+pub use Rattle.cns_sheets.specs.Build.{AreBalanced, Columns, HasSmallCents, IsMarked, IsPlanted, IsSheet, PriceList, by_key, closing_in, full_row, full_rows, key_of, marked, price_on, priced_row, prices_of, sum_limit, worth}
+pub use Rattle.cns_sheets.specs.Condition.{CanBeCut, held_in, rows_before}
+pub use Rattle.cns_sheets.specs.Payments.{IsCut, IsPayable, Paying, closing_at, cut_row, dividend_of, member_cash, paid, paying, said}
+pub use Rattle.cns_sheets.specs.Walking.{AreFrom, ahead_of, if_of, lowest_of, passed}
 pub use Rattle.cns_sheets.specs.Woven.{CentsByKey, Woven, cents_at, higher, lower, past, unheld, weave, woven_row, woven_rows}
+pub use Rattle.std.specs.FinMap.{find}
+pub use Rattle.cns_sheets.specs.Search.{prices_above, row_at}
+pub use Rattle.std.proofs.lemmas.Int.{int_wrap-add_left, to_z-of_z, wraps}
+pub use Rattle.std.specs.List.{find as first}
+pub use Rattle.std.proofs.lemmas.Result.{IfOk-weaker, on_ok_weaker}

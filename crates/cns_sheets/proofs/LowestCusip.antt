@@ -1,7 +1,8 @@
 -- No CUSIP comes before the lowest.
 -- For `new` of columns.rt.
-use Rattle.std.proofs.Common.{◌≡◌, refl, subst, ℕ, ◌≤◌, Bool, true, false, not, List, [], ◌∷◌, ◌++◌, take, length, Option, Some, None, arith, is_some, slice_index, eqb-true, is_lt, nat_cmp, Ordering}
-use Rattle.cns_sheets.proofs.Common.{Cusip, nat_tests, ordering_then, slice_cmp}
+use Rattle.std.proofs.Common.{◌≡◌, ◌∙◌, ap, sym, refl, subst, ℕ, ◌≤◌, Bool, true, false, not, List, [], ◌∷◌, ◌++◌, take, length, length-take, replicate, Option, Some, None, arith, is_some, slice_index, eqb-true, is_lt, nat_cmp, Ordering}
+use Rattle.cns_sheets.proofs.Common.{Cusip, drop_all, nat_tests, ordering_then, slice_cmp}
+use Rattle.std.proofs.lemmas.List.{drop_more, take-append-drop}
 use Rattle.cns_units.specs.Cusip.{IsCusip, after_value, character_value, last_fault, sum_of}
 use Rattle.cns_sheets.specs.LowestCusip.{IsFromLowest}
 
@@ -17,14 +18,9 @@ some_parts doubled v r h = grind arith
 first_or_rest : (c : ℕ) (rest : Ordering) → 35 ≤ c → (c ≡ 35 → is_lt rest ≡ false) → is_lt (ordering_then (nat_cmp c 35) rest) ≡ false
 first_or_rest c rest le h = grind arith
 
--- as many times `#` as there are characters
-hashes : List ℕ → List ℕ
-hashes [] = []
-hashes (c ∷ cs) = 35 ∷ hashes cs
-
 -- texts that begin alike but for characters above `#` compare by them, or by what follows
-body_first : (doubled : Bool) (cs rest low : List ℕ) → is_some (sum_of doubled cs) ≡ true → (cs ≡ hashes cs → is_lt (slice_cmp nat_cmp rest low) ≡ false) → is_lt (slice_cmp nat_cmp (cs ++ rest) (hashes cs ++ low)) ≡ false
-unfolding hashes sum_of
+body_first : (doubled : Bool) (cs rest low : List ℕ) → is_some (sum_of doubled cs) ≡ true → (cs ≡ replicate (length cs) 35 → is_lt (slice_cmp nat_cmp rest low) ≡ false) → is_lt (slice_cmp nat_cmp (cs ++ rest) (replicate (length cs) 35 ++ low)) ≡ false
+unfolding sum_of
 body_first doubled [] rest low s h = h refl
 body_first doubled (c ∷ cs) rest low s h =
     let parts = some_parts doubled (character_value c) (sum_of (not doubled) cs) s in
@@ -40,19 +36,13 @@ last_digit x h = grind (arith, nat_tests)
 
 -- a text of nine characters without a fault is not below the lowest
 from_nine : (c : List ℕ) → length c ≡ 9 → last_fault (sum_of false (take 8 c)) (slice_index c 8) ≡ None → IsFromLowest c
-unfolding hashes sum_of
-from_nine (a ∷ b ∷ c ∷ d ∷ e ∷ f ∷ g ∷ h ∷ x ∷ []) n s =
-    body_first false (a ∷ b ∷ c ∷ d ∷ e ∷ f ∷ g ∷ h ∷ []) (x ∷ []) (52 ∷ []) (sums _ x s) (λ same. last_digit x (subst (λ (cs : List ℕ). last_fault (sum_of false cs) x ≡ None) same s))
-from_nine [] n s = cc
-from_nine (a ∷ []) n s = cc
-from_nine (a ∷ b ∷ []) n s = cc
-from_nine (a ∷ b ∷ c ∷ []) n s = cc
-from_nine (a ∷ b ∷ c ∷ d ∷ []) n s = cc
-from_nine (a ∷ b ∷ c ∷ d ∷ e ∷ []) n s = cc
-from_nine (a ∷ b ∷ c ∷ d ∷ e ∷ f ∷ []) n s = cc
-from_nine (a ∷ b ∷ c ∷ d ∷ e ∷ f ∷ g ∷ []) n s = cc
-from_nine (a ∷ b ∷ c ∷ d ∷ e ∷ f ∷ g ∷ h ∷ []) n s = cc
-from_nine (a ∷ b ∷ c ∷ d ∷ e ∷ f ∷ g ∷ h ∷ x ∷ y ∷ rest) n s = let no : ⊥ = omega (arith, n) in elim no [ ]
+unfolding sum_of
+from_nine c n s =
+    let eight : length (take 8 c) ≡ 8 = omega (arith, length-take {A = ℕ}) in
+    let whole : take 8 c ++ (slice_index c 8 ∷ []) ≡ c = ap (λ xs. take 8 c ++ xs) (sym (rw (drop_all 9 c (omega arith)) at (drop_more c 8 0 (omega arith)))) ∙ take-append-drop 8 c in
+    let all = body_first false (take 8 c) (slice_index c 8 ∷ []) (52 ∷ []) (sums (sum_of false (take 8 c)) (slice_index c 8) s)
+    (λ same. last_digit (slice_index c 8) (subst (λ cs. last_fault (sum_of false cs) (slice_index c 8) ≡ None) (same ∙ ap (λ n. replicate n 35) eight) s)) in
+    rw (whole, eight) at all
 
 -- no CUSIP is below the lowest
 pub from_lowest : (c : Cusip) → IsCusip c → IsFromLowest c

@@ -1,12 +1,11 @@
 -- What a search in sorted rows or prices finds.
 -- For `past` and `next_price` of search.rt.
-use Rattle.std.proofs.Common.{◌≡◌, ◌∙◌, sym, ap, subst, refl, ℕ, suc, ◌+◌, ◌<◌, ◌≤◌, true, false, [], ◌∷◌, length, get_or, drop, drop-cons, Option, Some, None, inl, inr, arith, MatchOption, option_copied, HoldsAt, is_lt, nat_cmp, Less, Equal, Greater}
-use Rattle.cns_sheets.proofs.Common.{AllWithin, Cusip, IsPartitionPoint, Price, PriceList, cases_lt, drop_all, is_sorted, nat_list_cmp_total, next_above, ordering_reverse, slice_cmp}
+use Rattle.std.proofs.Common.{◌≡◌, ◌∙◌, sym, ap, refl, ℕ, ◌+◌, ◌<◌, ◌≤◌, true, false, [], ◌∷◌, length, get_or, drop, Option, Some, None, arith, MatchOption, option_copied, HoldsAt, is_lt, nat_cmp, Less, Equal, Greater}
+use Rattle.cns_sheets.proofs.Common.{AllWithin, Cusip, IsPartitionPoint, Price, PriceList, below_later, drop_all, is_sorted, nat_list_cmp_total, next_above, prices_above, slice_cmp}
 use denote.Bor.{Bor}
+use Rattle.cns_sheets.proofs.Entries.{next_is}
 use Rattle.cns_positions.proofs.Parted.{filter_back, filter_whole}
-use Rattle.cns_positions.proofs.Puts.{below_later}
 use Rattle.cns_prices.specs.Listed.{is_after}
-use Rattle.cns_sheets.specs.Search.{prices_above}
 
 -- all prices
 pub all_prices : (prices : PriceList) → prices ≡ prices_above prices None
@@ -21,10 +20,7 @@ pub prices_past : (prices : PriceList) (c : Cusip) (i : ℕ) → is_sorted (slic
 prices_past prices c i s lt tied = sym (filter_back (λ e. is_after (Some c) e.0) prices (i + 1) (omega arith) before later)
   where
     before : AllWithin (λ e. is_after (Some c) e.0 ≡ false) prices 0 (i + 1)
-    before k d p q = elim (cases_lt k i) [
-      | inl l ↦ ap is_lt (sym (nat_list_cmp_total.congr (get_or prices i d).0 c (get_or prices k d).0 (tied d)) ∙ nat_list_cmp_total.antisymm (get_or prices i d).0 (get_or prices k d).0 ∙ ap ordering_reverse (below_later nat_list_cmp_total prices k i d s l lt))
-      | inr l ↦ let same : k ≡ i = omega arith in ap is_lt (nat_list_cmp_total.antisymm c (get_or prices k d).0 ∙ ap ordering_reverse (ap (λ j. slice_cmp nat_cmp (get_or prices j d).0 c) same ∙ tied d))
-    ]
+    before k d p q = grind (arith, nat_list_cmp_total.congr (get_or prices i d).0 c (get_or prices k d).0 (tied d), nat_list_cmp_total.antisymm, below_later nat_list_cmp_total prices k i d s)
 
     later : AllWithin (λ e. is_after (Some c) e.0 ≡ true) prices (i + 1) (length prices)
     later k d p q = ap is_lt (sym (nat_list_cmp_total.congr (get_or prices i d).0 c (get_or prices k d).0 (tied d)) ∙ below_later nat_list_cmp_total prices i k d s (omega arith) q)
@@ -33,15 +29,11 @@ prices_past prices c i s lt tied = sym (filter_back (λ e. is_after (Some c) e.0
 above_later : (after : Option Cusip) (c d : Cusip) → is_after after c ≡ true → slice_cmp nat_cmp c d ≡ Less → is_after after d ≡ true
 above_later after c d p l = grind (arith, nat_list_cmp_total.trans)
 
--- the first price of those from a place on, and the rest above it
-price_next : (prices : PriceList) (after : Option Cusip) (i : ℕ) (d : Cusip × Price) → is_sorted (slice_cmp nat_cmp) prices ≡ true → drop i prices ≡ prices_above prices after → i < length prices → prices_above prices after ≡ get_or prices i d ∷ prices_above prices (Some (get_or prices i d).0)
-price_next prices after i d s whole lt =
-    let e : prices_above prices after ≡ get_or prices i d ∷ drop (suc i) prices = sym whole ∙ drop-cons prices i d lt in
-    e ∙ ap (λ rest. get_or prices i d ∷ rest) (sym (next_above nat_list_cmp_total (is_after after) prices (get_or prices i d) (drop (suc i) prices) (above_later after) s e))
-
 -- what stands at a place, if anything does, where the prices above an issue begin there
 pub price_at : (prices : PriceList) (after : Option Cusip) (i : ℕ) (r : Option (Bor (Cusip × Price))) → is_sorted (slice_cmp nat_cmp) prices ≡ true → drop i prices ≡ prices_above prices after
     → MatchOption r (length prices ≤ i) (λ x. (i < length prices) × HoldsAt (λ y. x.now ≡ y) prices i)
     → MatchOption (option_copied r) (prices_above prices after ≡ []) (λ e. prices_above prices after ≡ e ∷ prices_above prices (Some e.0))
 price_at prices after i None s whole h = sym whole ∙ drop_all i prices h
-price_at prices after i (Some x) s whole h = subst (λ (e : Cusip × Price). prices_above prices after ≡ e ∷ prices_above prices (Some e.0)) (sym (h.1 x.now)) (price_next prices after i x.now s whole h.0)
+price_at prices after i (Some x) s whole h =
+    let first = sym whole ∙ next_is prices i x.now h.0 (h.1 x.now) in
+    first ∙ ap (λ rest. x.now ∷ rest) (sym (next_above nat_list_cmp_total (is_after after) prices x.now (drop (i + 1) prices) (above_later after) s first))

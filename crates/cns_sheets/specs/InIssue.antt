@@ -1,5 +1,5 @@
 -- The rows in an issue, found account by account.
-use Rattle.std.specs.Prelude.{◌≡◌, ◌+◌, ◌≤◌, ◌&&◌, Bool, true, false, not, nat_lt, if◌then◌else◌, IfSome, List, Option, Some, None}
+use Rattle.std.specs.Prelude.{◌≡◌, ◌+◌, ◌≤◌, ◌&&◌, Bool, false, not, nat_lt, if◌then◌else◌, IfSome, List, Option, Some, None}
 use Rattle.std.specs.List.{filter}
 use Rattle.cns_terms.specs.Common.{AllByRecursion, Cusip, is_lt, key_cmp, member_limit, nat_cmp, same_issue, slice_cmp}
 use Rattle.cns_terms.specs.declared.holding.Key.{Key}

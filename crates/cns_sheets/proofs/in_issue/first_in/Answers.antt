@@ -1,46 +1,33 @@
-use Rattle.std.proofs.Common.{◌≤◌, ◌∙◌, ap, cond, sym, ◌∷◌, arith}
-use Rattle.cns_sheets.proofs.Common.{Columns, Key}
-use Rattle.cns_sheets.specs.InIssue.{entries_from, place_after}
-use Rattle.cns_sheets.proofs.InIssue.{fewer_left, first_entry, first_is, first_passes, is_place, no_entry, none_left, told}
-use Rattle.cns_tree.specs.Search.{is_at_or_after}
-use Rattle.cns_terms.specs.Limits.{member_limit}
+use Rattle.std.proofs.Common.{◌≤◌, ◌∙◌, sym}
+use Rattle.cns_sheets.proofs.Common.{is_at_or_after, member_limit}
+use Rattle.cns_sheets.proofs.InIssue.{fewer_left, first_entry, is_place, none_left, told}
+use Rattle.cns_sheets.proofs.Entries.{first_passes}
+use Rattle.cns_terms.proofs.Everywhere.{each_found}
 use Rattle.cns_sheets.proofs.in_issue.first_in.Goals as goal
 
 pub returns-in_err-key : goal.returns-in_err-key
-returns-in_err-key g c = grind (arith, no_entry)
+returns-in_err-key g c =
+    let none = rw (← c.in_err-key.ensures.row) at (first_entry c.args.issue.now c.args.rows.now c.requires.accounts c.in_err-key.ensures.rises c.in-Some.low) in
+    rw c.from_residual.ensures cc
 
 pub returns-then-is_same : goal.returns-then-is_same
 returns-then-is_same g c =
-    let es = c.args.rows.now in
-    let i = c.args.issue.now in
-    let f : Key × Columns = (c.in_ok-key.key, c.in_ok-key.columns) in
-    sym c.loop-place.invariant.same ∙ ap (entries_from es i) c.in-Some.is
-    ∙ first_entry i es c.in_ok-key.ensures.rises c.requires.accounts c.in-Some.low f (sym c.in_ok-key.ensures.row)
-    ∙ ap (λ b. cond b (f ∷ entries_from es i (place_after f.0 i)) (entries_from es i (place_after f.0 i))) (told f.0.issue i c.is_same.result c.is_same.ensures ∙ c.if-is_same.true)
+    let own = told c.in_ok-key.key.issue c.args.issue.now c.is_same.result c.is_same.ensures ∙ c.if-is_same.true in
+    let found = rw (← c.in_ok-key.ensures.row, own) at (first_entry c.args.issue.now c.args.rows.now c.requires.accounts c.in_ok-key.ensures.rises c.in-Some.low) in
+    cc
 
 pub loop-place-smaller : goal.loop-place-smaller
 loop-place-smaller g c =
-    let es = c.args.rows.now in
-    let i = c.args.issue.now in
-    let f : Key × Columns = (c.in_ok-key.key, c.in_ok-key.columns) in
-    let low = c.in-Some.low in
     let at = rw c.in-Some.is at c.loop-place.invariant.place in
-    rw (c.place_after-place.ensures, c.in-Some.is) (fewer_left i f.0 low at.0 at.1 (first_passes (is_at_or_after low) es f (sym c.in_ok-key.ensures.row)))
+    rw (c.place_after-place.ensures, c.in-Some.is) (fewer_left c.args.issue.now c.in_ok-key.key c.in-Some.low at.0 at.1 (first_passes (is_at_or_after c.in-Some.low) c.args.rows.now _ (sym c.in_ok-key.ensures.row)))
 
 pub loop-place-preserved : goal.loop-place-preserved
 loop-place-preserved g c =
-    let es = c.args.rows.now in
-    let i = c.args.issue.now in
-    let f : Key × Columns = (c.in_ok-key.key, c.in_ok-key.columns) in
-    let low = c.in-Some.low in
-    record {
-      same =
-          ap (entries_from es i) c.place_after-place.ensures
-          ∙ sym (first_entry i es c.in_ok-key.ensures.rises c.requires.accounts low f (sym c.in_ok-key.ensures.row)
-          ∙ ap (λ b. cond b (f ∷ entries_from es i (place_after f.0 i)) (entries_from es i (place_after f.0 i))) (told f.0.issue i c.is_same.result c.is_same.ensures ∙ c.if-is_same.false))
-          ∙ sym (ap (entries_from es i) c.in-Some.is) ∙ c.loop-place.invariant.same;
-      place = rw c.place_after-place.ensures (is_place i f.0 (first_is (λ e. e.0.account ≤ member_limit) (is_at_or_after low) es f c.requires.accounts (sym c.in_ok-key.ensures.row)));
-    }
+    let other = told c.in_ok-key.key.issue c.args.issue.now c.is_same.result c.is_same.ensures ∙ c.if-is_same.false in
+    let found = rw (← c.in_ok-key.ensures.row, other) at (first_entry c.args.issue.now c.args.rows.now c.requires.accounts c.in_ok-key.ensures.rises c.in-Some.low) in
+    let at = rw c.in-Some.is at c.loop-place.invariant.place in
+    let few = each_found (λ e. e.0.account ≤ member_limit) (is_at_or_after c.in-Some.low) (c.in-Some.low, c.in_ok-key.columns) c.args.rows.now at.1 c.requires.accounts in
+    record { same = cc; place = rw c.place_after-place.ensures (is_place c.args.issue.now c.in_ok-key.key (rw (← c.in_ok-key.ensures.row) at few)) }
 
 pub returns : goal.returns
-returns g c = sym c.loop-place.invariant.same ∙ ap (entries_from c.args.rows.now c.args.issue.now) c.in_default.is ∙ none_left c.args.issue.now c.args.rows.now
+returns g c = rw (sym c.loop-place.invariant.same, c.in_default.is) (none_left c.args.issue.now c.args.rows.now)

@@ -1,7 +1,6 @@
 use Rattle.std.proofs.Common.{rules, ◌≡◌, ℕ, Result, Ok, Err, IfOk, IfErr, true, Less, Equal, Greater, HoldsAt, nat_cmp, arith}
-use Rattle.cns_sheets.proofs.Common.{Cusip, IsBinarySearchResult, IsPartitionPoint, PriceList, is_sorted, nat_list_cmp_total, slice_cmp}
+use Rattle.cns_sheets.proofs.Common.{Cusip, IsBinarySearchResult, IsPartitionPoint, PriceList, comparisons_rise, is_sorted, nat_list_cmp_total, slice_cmp}
 use Rattle.std.proofs.lemmas.Fn.{always_returns_same}
-use Rattle.cns_positions.proofs.Puts.{comparisons_rise}
 use Rattle.cns_sheets.proofs.prices.place.Goals as goal
 
 found : (es : PriceList) (c : Cusip) (r : Result ℕ ℕ) → IsBinarySearchResult (λ e. slice_cmp nat_cmp e.0 c) es r → IfOk r (HoldsAt (λ e. slice_cmp nat_cmp e.0 c ≡ Equal) es)

@@ -1,5 +1,5 @@
 use Rattle.std.proofs.Common.{rules}
-use Rattle.std.proofs.lemmas.Int.{wraps}
+use Rattle.cns_sheets.proofs.Common.{wraps}
 use Rattle.cns_sheets.proofs.sums.wrapped_sum.Goals as goal
 
 pub returns : goal.returns

@@ -1,12 +1,11 @@
 use Rattle.std.proofs.Common.{sym}
-use Rattle.cns_sheets.proofs.Weaving.{nothing_at, nothing_taken, same_at, same_taken}
+use Rattle.cns_sheets.proofs.Weaving.{nothing_here, same_at, same_taken}
 use Rattle.cns_sheets.proofs.in_order.InOrder.take.Goals as goal
 
-pub returns-then-not-is_same-clause-cents : goal.returns-then-not-is_same-clause-cents
-returns-then-not-is_same-clause-cents c = nothing_at c.args.key _ _ _ _ (sym c.self.view_is) c.self.invariant c.in-Some.is c.is_same.result (c.is_same.ensures.1) c.if-not-is_same.true c.requires
-
-pub returns-then-not-is_same-clause-left : goal.returns-then-not-is_same-clause-left
-returns-then-not-is_same-clause-left c = nothing_taken c.args.key _ _ _ _ (sym c.self.view_is) c.self.invariant c.in-Some.is c.is_same.result (c.is_same.ensures.1) c.if-not-is_same.true c.requires
+pub returns-then-not-is_same : goal.returns-then-not-is_same
+returns-then-not-is_same c =
+    let none = nothing_here c.args.key _ _ _ _ (sym c.self.view_is) c.self.invariant c.in-Some.is c.is_same.result c.is_same.ensures.1 c.if-not-is_same.true c.requires in
+    record { cents = none.0; left = none.1 }
 
 pub returns-clause-cents : goal.returns-clause-cents
 returns-clause-cents c = same_at c.args.key _ _ _ _ (sym c.self.view_is) c.in-Some.is (c.is_same.ensures.0 c.if-not-is_same.false)

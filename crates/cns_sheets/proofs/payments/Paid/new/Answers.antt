@@ -1,27 +1,45 @@
-use Rattle.std.proofs.Common.{◌∙◌, ◌+ℤ◌, List, ap, subst, sym}
-use Rattle.cns_sheets.proofs.Common.{IsPayable, Row, cents_at, paid}
-use Rattle.cns_sheets.proofs.PaidIn.{paid_in, payable_in}
-use Rattle.cns_sheets.proofs.Booked.{all_payments, few_small, one_payment_more, payable_at, payment_step, seldom}
+use Rattle.std.proofs.Common.{◌≡◌, ◌∙◌, refl, not, true, List, [], ◌∷◌, filter, unsigned_abs, arith}
+use Rattle.cns_sheets.proofs.Common.{IsPayable, Key, Row, by_key, ints, key_of, member_cash, paid, row_at, same_issue, total}
+use Rattle.std.proofs.lemmas.List.Filters.{sum_by-filter_both}
+use Rattle.cns_terms.specs.declared.action.Declared.{Declared}
+use Rattle.cns_sheets.proofs.Entries.{filter-map, find_if, next_is}
 use Rattle.cns_sheets.proofs.payments.Paid.new.Goals as goal
 
-pub pay-requires-clause-small : goal.pay-requires-clause-small
-pay-requires-clause-small g c = λ k. few_small _ c.loop-payment.payment-index (c.loop-payment.invariant.small k) (seldom c.loop-payment-test.true c.requires.few)
+module _ (d : Declared) where
+  -- the rows in the issue
+  abbrev rows_in : List Row → List Row
+  rows_in rows = filter (λ r. same_issue r.issue d.issue) rows
+
+  -- members get as much on them as on all
+  same_total : (rows : List Row) → total (member_cash d) (rows_in rows) ≡ total (member_cash d) rows
+  same_total [] = refl
+  same_total (r ∷ rs) = grind (arith, same_total rs)
+
+  -- they can be paid where all can
+  payable_in : (rows : List Row) → IsPayable (d, rows) → IsPayable (d, rows_in rows)
+  payable_in rows h = omega (arith, sum_by-filter_both (λ r. same_issue r.issue d.issue) (λ r. not (same_issue r.issue d.issue)) (λ r. refl) (λ r. unsigned_abs (member_cash d r)) rows, h)
+
+  -- a key in the issue has the same row
+  same_row : (k : Key) → same_issue k.issue d.issue ≡ true → (rows : List Row) → row_at (rows_in rows) k ≡ row_at rows k
+  same_row k own rows = rw (← filter-map (λ (e : Key × Row). same_issue e.0.issue d.issue) (λ r. (key_of r, r)) rows, find_if (λ q. same_issue q.issue d.issue) k (by_key rows), own) refl
+
+  -- what a dividend pays on the rows in its issue is what it pays on all
+  paid_in : (rows : List Row) (k : Key) → paid d (rows_in rows) k ≡ paid d rows k
+  paid_in rows k = grind (arith, same_total, same_row)
 
 pub pay-requires-clause-payable : goal.pay-requires-clause-payable
 pay-requires-clause-payable g c =
-    let d = c.payment-item.result.declared in
-    subst (λ (rs : List Row). IsPayable (d, rs)) (sym c.rows_in-rows.ensures.rows)
-    (payable_in d _ (payable_at (λ p. p.declared) (λ p. p.sheet.now.rows) c.args.payments.now c.loop-payment.payment-index _ c.requires.payable c.loop-payment-test.true c.payment-item.is))
+    let kept = rw (next_is c.args.payments.now c.loop-payment.payment-index c.payment-item.result c.loop-payment-test.true c.payment-item.is) at c.loop-payment.invariant.payable in
+    rw c.rows_in-rows.ensures.rows (payable_in c.payment-item.result.declared _ kept.0)
 
 pub loop-payment-preserved : goal.loop-payment-preserved
 loop-payment-preserved g c =
-    let d = c.payment-item.result.declared in
+    let kept = rw (next_is c.args.payments.now c.loop-payment.payment-index c.payment-item.result c.loop-payment-test.true c.payment-item.is) at c.loop-payment.invariant in
     record {
-      cents = λ k. payment_step (λ p. p.declared) (λ p. p.sheet.now.rows) c.args.payments.now k c.loop-payment.payment-index _ _ _ c.loop-payment-test.true c.payment-item.is (c.loop-payment.invariant.cents k)
-          (c.in_ok-pay.ensures.cents c.rows_in-rows.ensures.order k ∙ ap (λ n. cents_at c.loop-payment.booked k +ℤ n) (ap (λ (rs : List Row). paid d rs k) c.rows_in-rows.ensures.rows ∙ paid_in d c.payment-item.result.sheet.now.rows k));
-      small = λ k. one_payment_more _ _ c.loop-payment.payment-index (c.loop-payment.invariant.small k) (c.in_ok-pay.ensures.bound k);
+      cents = λ k.
+          let more = rw c.rows_in-rows.ensures.rows at (c.in_ok-pay.ensures.cents c.rows_in-rows.ensures.order k) in
+          omega (arith, ints, kept.cents k, more, paid_in c.payment-item.result.declared c.payment-item.result.sheet.now.rows k);
+      payable = kept.payable.1;
+      small = λ k. omega (arith, c.loop-payment.invariant.small k, c.in_ok-pay.ensures.bound k);
       zero = c.in_ok-pay.ensures.sum ∙ c.loop-payment.invariant.zero;
     }
-
-pub returns-clause-cents : goal.returns-clause-cents
-returns-clause-cents g c = λ k. c.loop-payment.invariant.cents k ∙ all_payments (λ p. p.declared) (λ p. p.sheet.now.rows) c.args.payments.now k c.loop-payment.payment-index c.loop-payment-test.false

@@ -1,42 +1,31 @@
-use Rattle.std.proofs.Common.{◌∙◌, ◌+ℤ◌, ap, cond, pos, refl, is_eq, arith}
-use Rattle.cns_sheets.proofs.Common.{Key, cents_at, key_cmp, nat_tests}
-use Rattle.cns_sheets.proofs.Booked.{all_booked_small, all_small, booked_is, both_small, neg_fits, neg_is, part_small}
-use Rattle.cns_sheets.proofs.Woven.{where_ok}
+use Rattle.std.proofs.Common.{◌≡◌, ◌∙◌, ◌+ℤ◌, OnOk, sym, ap, cond, pos, neg_ℤ, is_eq, arith}
+use Rattle.cns_sheets.proofs.Common.{Key, cents_at, ints, key_cmp, member_cash, nat_tests, on_ok_weaker, total}
+use Rattle.cns_sheets.proofs.Booked.{all_booked_small, all_small, both_small, fits, neg_is, paid_is}
 use Rattle.cns_sheets.proofs.payments.Paid.pay.Goals as goal
 
 pub overflow_sub-sum : goal.overflow_sub-sum
-overflow_sub-sum g c = grind (arith, neg_fits, all_small)
+overflow_sub-sum g c = grind (arith, fits, all_small)
 
 pub add-requires : goal.add-requires
 add-requires g c =
-    let d = c.args.declared.now in
-    let rows = c.args.rows in
-    let k : Key = record { account = 0; issue = d.issue } in
-    let payable = c.requires.payable in
-    rw (neg_is c.in_ok-sum.sum _ c.in_ok-sum.ensures.sum (all_small d rows payable))
-    (part_small (cents_at c.pay_members.new.self k) (cents_at c.args.self.now k) _ c.in_ok-sum.sum _ (c.in_ok-sum.ensures.cents k) (c.requires.small k) (all_booked_small d rows payable k) c.in_ok-sum.ensures.sum (all_small d rows payable))
+    let k : Key = record { account = 0; issue = c.args.declared.now.issue } in
+    let most = all_small c.args.declared.now c.args.rows c.requires.payable in
+    let part = all_booked_small c.args.declared.now c.args.rows c.requires.payable k in
+    rw (c.in_ok-sum.ensures.sum, neg_is _ most) (omega (arith, ints, c.in_ok-sum.ensures.cents k, c.requires.small k, part, most))
 
-pub returns-clause-cents : goal.returns-clause-cents
-returns-clause-cents g c =
-    let d = c.args.declared.now in
-    let rows = c.args.rows in
-    let corp : Key = record { account = 0; issue = d.issue } in
-    let payable = c.requires.payable in
-    let neg = neg_is c.in_ok-sum.sum _ c.in_ok-sum.ensures.sum (all_small d rows payable) in
-    λ order. where_ok c.add.result c.add.ensures.cents (λ h k.
-    booked_is d rows corp c.in_ok-sum.sum order refl refl c.in_ok-sum.ensures.sum c.args.self.now c.pay_members.new.self c.add.new.self k (c.in_ok-sum.ensures.cents k)
-    (h k ∙ ap (λ n. cents_at c.pay_members.new.self k +ℤ cond (is_eq (key_cmp k corp)) n (pos 0)) neg))
-
-pub returns-clause-bound : goal.returns-clause-bound
-returns-clause-bound g c =
+pub returns : goal.returns
+returns g c =
     let d = c.args.declared.now in
     let rows = c.args.rows in
     let corp : Key = record { account = 0; issue = d.issue } in
-    let payable = c.requires.payable in
-    let neg = neg_is c.in_ok-sum.sum _ c.in_ok-sum.ensures.sum (all_small d rows payable) in
-    where_ok c.add.result c.add.ensures.cents (λ h k.
-    both_small (is_eq (key_cmp k corp)) (cents_at c.args.self.now k) _ (cents_at c.pay_members.new.self k) (cents_at c.add.new.self k) c.in_ok-sum.sum _ (c.in_ok-sum.ensures.cents k)
-    (h k ∙ ap (λ n. cents_at c.pay_members.new.self k +ℤ cond (is_eq (key_cmp k corp)) n (pos 0)) neg) (all_booked_small d rows payable k) c.in_ok-sum.ensures.sum (all_small d rows payable))
-
-pub returns-clause-sum : goal.returns-clause-sum
-returns-clause-sum g c = grind (arith, nat_tests, neg_is, all_small)
+    let most = all_small d rows c.requires.payable in
+    let neg = rw (sym c.in_ok-sum.ensures.sum) at (neg_is (total (member_cash d) rows) most) in
+    let booked : OnOk c.add.result ((k : Key) → cents_at c.add.new.self k ≡ cents_at c.pay_members.new.self k +ℤ cond (is_eq (key_cmp k corp)) (neg_ℤ c.in_ok-sum.sum) (pos 0)) =
+    on_ok_weaker c.add.result (λ h k. h k ∙ ap (λ n. cents_at c.pay_members.new.self k +ℤ cond (is_eq (key_cmp k corp)) n (pos 0)) neg) c.add.ensures.cents in
+    record {
+      cents = λ order. on_ok_weaker c.add.result (λ more k. omega (arith, ints, more k, c.in_ok-sum.ensures.cents k, paid_is d rows k c.in_ok-sum.sum order c.in_ok-sum.ensures.sum)) booked;
+      sum = grind (arith, nat_tests, neg_is, all_small);
+      bound = on_ok_weaker c.add.result (λ more k.
+          both_small (is_eq (key_cmp k corp)) (cents_at c.args.self.now k) _ (cents_at c.pay_members.new.self k) (cents_at c.add.new.self k) c.in_ok-sum.sum (c.in_ok-sum.ensures.cents k) (more k)
+          (all_booked_small d rows c.requires.payable k) (rw c.in_ok-sum.ensures.sum most)) booked;
+    }

@@ -1,49 +1,38 @@
-use Rattle.std.proofs.Common.{◌∙◌, length, arith}
-use Rattle.cns_sheets.proofs.Common.{IsPayable, member_cash, w128}
-use Rattle.std.proofs.lemmas.Int.{to_z-of_z}
-use Rattle.cns_sheets.proofs.Booked.{can_add, cents_step, sum_of_all, sum_step, sums_small, wide_fits}
-use Rattle.cns_sheets.proofs.RowSums.{all_given, behind, bounded_fits, bounded_step, one_more, onward, stands}
+use Rattle.std.proofs.Common.{append-nil, ◌∙◌, arith}
+use Rattle.cns_sheets.proofs.Common.{ints, member_cash, to_z-of_z, w128}
+use Rattle.cns_sheets.proofs.Booked.{booked, fits, step_small, total_push, wide_fits}
+use Rattle.cns_sheets.proofs.RowSums.{onward}
 use Rattle.cns_sheets.proofs.payments.Paid.pay_members.Goals as goal
 
 pub add-requires : goal.add-requires
 add-requires g c =
-    let d = c.args.declared.now in
-    let xs = c.into_iter-row-iterator.result in
-    let ys = c.loop-row.yielded in
-    let left = c.loop-row.invariant.left in
-    let steps = c.in-Some.ensures.steps in
-    let payable : IsPayable (d, xs) = rw c.into_iter-row-iterator.ensures.into_iter_gives c.requires.payable in
+    let few = step_small c.args.declared.now c.args.rows c.into_iter-row-iterator.result c.loop-row.yielded _ _ c.in-Some.row
+    c.requires.payable c.into_iter-row-iterator.ensures.into_iter_gives c.loop-row.invariant.left c.in-Some.ensures.steps c.key_of.result in
     let passed = to_z-of_z w128 c.member_cash-cents.result (wide_fits _ c.member_cash-cents.type_inv) ∙ c.member_cash-cents.ensures in
-    rw passed (can_add d xs payable (length ys) c.in-Some.row (behind xs ys _ _ _ left steps) (stands xs ys _ _ _ left steps) c.args.self.now c.loop-row.self c.key_of.result (c.requires.small c.key_of.result) (c.loop-row.invariant.cents c.key_of.result))
+    rw passed (omega (arith, ints, few, c.requires.small c.key_of.result, c.loop-row.invariant.cents c.key_of.result))
 
 pub overflow_add-sum : goal.overflow_add-sum
 overflow_add-sum g c =
-    let d = c.args.declared.now in
-    let xs = c.into_iter-row-iterator.result in
-    let ys = c.loop-row.yielded in
-    let left = c.loop-row.invariant.left in
-    let steps = c.in-Some.ensures.steps in
-    let payable : IsPayable (d, xs) = rw c.into_iter-row-iterator.ensures.into_iter_gives c.requires.payable in
-    bounded_fits (member_cash d) xs (sums_small d xs payable) (length ys) c.in-Some.row (behind xs ys _ _ _ left steps) (stands xs ys _ _ _ left steps) _ c.member_cash-cents.result c.member_cash-cents.ensures c.loop-row.invariant.sum
+    let few = step_small c.args.declared.now c.args.rows c.into_iter-row-iterator.result c.loop-row.yielded _ _ c.in-Some.row
+    c.requires.payable c.into_iter-row-iterator.ensures.into_iter_gives c.loop-row.invariant.left c.in-Some.ensures.steps c.key_of.result in
+    let passed = to_z-of_z w128 c.member_cash-cents.result (wide_fits _ c.member_cash-cents.type_inv) ∙ c.member_cash-cents.ensures in
+    rw passed (fits _ (omega (arith, ints, few, c.loop-row.invariant.sum)))
 
 pub loop-row-preserved : goal.loop-row-preserved
 loop-row-preserved g c =
-    let d = c.args.declared.now in
-    let xs = c.into_iter-row-iterator.result in
-    let ys = c.loop-row.yielded in
-    let r = c.in-Some.row in
     let kept = c.loop-row.invariant in
     let steps = c.in-Some.ensures.steps in
-    let payable : IsPayable (d, xs) = rw c.into_iter-row-iterator.ensures.into_iter_gives c.requires.payable in
-    let lt = behind xs ys _ _ _ kept.left steps in
-    let here = stands xs ys _ _ _ kept.left steps in
+    let few = step_small c.args.declared.now c.args.rows c.into_iter-row-iterator.result c.loop-row.yielded _ _ c.in-Some.row
+    c.requires.payable c.into_iter-row-iterator.ensures.into_iter_gives kept.left steps c.key_of.result in
     let passed = to_z-of_z w128 c.member_cash-cents.result (wide_fits _ c.member_cash-cents.type_inv) ∙ c.member_cash-cents.ensures in
     record {
-      left = onward xs ys _ _ _ kept.left steps;
-      cents = λ k. rw (one_more ys r) (cents_step d xs payable (length ys) r lt here c.args.self.now c.loop-row.self c.add.new.self k c.key_of.result _ c.key_of.ensures passed (kept.cents k) (c.in_ok-add.ensures.cents k));
-      sum = rw (one_more ys r) (bounded_step (member_cash d) xs (sums_small d xs payable) (length ys) r lt here _ c.member_cash-cents.result c.member_cash-cents.ensures kept.sum);
-      all = rw (one_more ys r) (sum_step d xs payable (length ys) r lt here _ _ _ _ passed kept.all c.in_ok-add.ensures.sum);
+      left = onward _ _ _ _ _ kept.left steps;
+      cents = λ k.
+          let more = rw (passed, c.key_of.ensures) at (c.in_ok-add.ensures.cents k) in
+          rw (total_push (booked c.args.declared.now k) c.loop-row.yielded c.in-Some.row) (omega (arith, ints, kept.cents k, more));
+      sum = rw (total_push (member_cash c.args.declared.now) c.loop-row.yielded c.in-Some.row, passed, kept.sum) (to_z-of_z w128 _ (fits _ (omega (arith, ints, few))));
+      all = rw (total_push (member_cash c.args.declared.now) c.loop-row.yielded c.in-Some.row) (omega (arith, ints, kept.all, rw passed at c.in_ok-add.ensures.sum));
     }
 
 pub returns-clause-cents : goal.returns-clause-cents
-returns-clause-cents g c = grind (arith, sum_of_all, all_given)
+returns-clause-cents g c = grind (arith, append-nil)

@@ -1,6 +1,5 @@
 use Rattle.std.proofs.Common.{◌∙◌, ap, None, Some}
-use Rattle.cns_sheets.proofs.Common.{DaySheet}
-use Rattle.cns_sheets.specs.Search.{row_at}
+use Rattle.cns_sheets.proofs.Common.{DaySheet, row_at}
 use Rattle.cns_sheets.proofs.Walked.{row_found}
 use Rattle.cns_sheets.proofs.sheet.Sheet.row.Goals as goal
 
