@@ -1,15 +1,14 @@
 -- Splits and exchanges.
 -- For `split` and `exchange` of parts/actions.rt, clause step.
-use Rattle.std.proofs.Common.{◌≡◌, ◌∙◌, sym, ap, subst, refl, ℕ, max, ◌*◌, ◌≤◌, ℤ, Bool, true, false, ◌||◌, ◌==◌, cond, List, ◌∷◌, map, reverse, Option, Some, None, arith, bytes_eq, is_none, IsSome, Ok, Err}
-use Rattle.cns_book.proofs.Common.{Account, Activity, AllByRecursion, AreHolders, Contents, Cusip, Entry, Follows, FollowsNotices, FollowsRows, HasRoom, Holding, IsInRange, IsLimited, IsReached, Key, Listed, Pend, Rows, Rule, account_lt, activity_of, age_brought, all_fail, amount_limit, and_right, booking_limit, books, bought_in, changed_each, each_both, each_in_order, entries, entries_of, first_refusal, history_limit, holding, holding_at, is_held_up, is_listed, is_retired, is_too_large, is_too_large_at, issue_of, issue_rules, journal, limited, list_any, member_limit, members, members_from_one, oldest, oldest_of, pending, position_limit, positions_in, posting, price_in, refusal, retired_in, same_issue, sold_in, with_age}
+use Rattle.std.proofs.Common.{◌≡◌, ◌∙◌, sym, ap, subst, refl, ℕ, ◌≤◌, ℤ, Bool, true, false, ◌||◌, cond, List, ◌∷◌, map, reverse, Option, Some, None, arith, bytes_eq, is_none, IsSome, Ok, Err}
+use Rattle.cns_book.proofs.Common.{Account, Activity, AllByRecursion, AreHolders, Contents, Cusip, Entry, Follows, FollowsNotices, FollowsRows, HasRoom, Holding, IsInRange, IsLimited, IsReached, Key, Listed, Pend, Rows, Rule, account_lt, activity_of, age_brought, all_fail, and_right, books, bought_in, changed_each, each_both, each_in_order, entries, entries_of, first_refusal, holding_at, is_held_up, is_listed, is_retired, is_too_large, is_too_large_at, issue_of, issue_rules, journal, limited, list_any, member_limit, members, members_from_one, pending, position_limit, positions_in, posting, price_in, refusal, retired_in, sold_in, with_age}
 use Rattle.std.proofs.Math.Nat.{max-zero}
-use Rattle.std.proofs.lemmas.Bool.{false_from_ne_true}
 use Rattle.cns_terms.specs.declared.action.Exchange.{Exchange}
 use Rattle.cns_terms.specs.declared.action.Split.{Split}
 use Rattle.cns_terms.specs.Entries.{exchange_entries, split_entries}
 use Rattle.cns_terms.specs.Positions.{position}
 use Rattle.cns_terms.specs.declared.refusal.Refusal.{Refusal}
-use Rattle.cns_terms.specs.Refusals.{are_too_large, rules}
+use Rattle.cns_terms.specs.Refusals.{are_too_large}
 use Rattle.cns_terms.proofs.CarriedAges.{carried_on}
 use Rattle.cns_terms.proofs.Elsewhere.{no_account_elsewhere, no_position}
 use Rattle.cns_terms.specs.declared.command.Activity.TheVariants as activity
@@ -20,7 +19,6 @@ use Rattle.cns_actions.specs.Booked.{CanBeBooked, position_at, waits_for}
 use Rattle.cns_actions.specs.declared.action.Action.{Action}
 use Rattle.cns_actions.proofs.Members.{rising_distinct}
 use Rattle.cns_book.specs.Effects.{exchange_rules}
-use Rattle.cns_book.proofs.MachineSteps.{no_refusal}
 use Rattle.cns_book.proofs.PendingSteps.{bought-reverse, sold-reverse, waits-reverse}
 use Rattle.cns_book.proofs.PartsStaying.{batches_stay, clock_stays, dividends_stay, sheets_stay}
 use Rattle.cns_book.proofs.PartsWithin.{member_within, rows_within}
@@ -28,18 +26,12 @@ use Rattle.cns_actions.specs.declared.action.Action.TheVariants as action
 
 -- ---- what can be booked
 
--- cents that are few
-few : (n : ℕ) → n ≤ booking_limit * history_limit → n ≤ amount_limit
-few n h = omega (arith, h)
-
 -- with room for one activity more, no member is to get or to give more than its limit
 pub few_wait : (s : Contents) → HasRoom s → (a : Account) (c : Cusip) → 1 ≤ a → (bought_in s.trades.pending a c ≤ position_limit) × (sold_in s.trades.pending a c ≤ position_limit)
 few_wait s r a c le =
     let ps = pending s.opening (journal s.opening r.activities) in
     let w = (limited s.opening r.activities r.follows.reached).within a c le in
-    let bought = ap (λ qs. bought_in qs a c) r.follows.pending ∙ bought-reverse ps a c in
-    let sold = ap (λ qs. sold_in qs a c) r.follows.pending ∙ sold-reverse ps a c in
-    (omega (arith, bought, w.above), omega (arith, sold, w.below))
+    rw (r.follows.pending, bought-reverse ps a c, sold-reverse ps a c) (omega (arith, w.above), omega (arith, w.below))
 
 -- with room for one activity more, positions can be booked
 pub can_be_booked : (s : Contents) → HasRoom s → CanBeBooked s.rows
@@ -48,14 +40,10 @@ can_be_booked s r =
     record {
       members = λ a c le. member_within s a c le r;
       corporation = λ c. w.shares (record { account = 0; issue = c });
-      cents = λ k. few _ (w.cents k);
+      cents = λ k. omega (arith, w.cents k);
     }
 
 -- ---- the members, and their positions
-
--- an account that is no member's and not the corporation's is none
-no_account : (a : ℕ) (b : Bool) → 1 ≤ a → b ≡ false → ((a == 0) || b) ≡ false
-no_account a b h1 h2 = grind arith
 
 -- the members are all who have a position in an issue
 members_hold : (s : Contents) (L : List Activity) (c : Cusip) → Follows L s → AreHolders (λ a. position (journal s.opening L) a c) (members (journal s.opening L))
@@ -65,7 +53,7 @@ members_hold s L c f =
     record {
       numbers = each_both (λ a. 1 ≤ a) (λ a. a ≤ member_limit) (members J) (members_from_one s.opening J l) (each_in_order (λ a. a ≤ member_limit) account_lt _ l.numbered);
       distinct = rising_distinct (members J) (and_right _ _ l.whole.now.accounts_rise);
-      others = λ a h none. no_position a c J (no_account_elsewhere J a c l.whole.now (no_account a _ h none));
+      others = λ a h none. no_position a c J (no_account_elsewhere J a c l.whole.now (grind arith));
     }
 
 -- an entry is too large whichever way round the trades that wait stand
@@ -112,19 +100,11 @@ none_fails rs e = all_fail rs (ap is_none e)
 
 -- a split is not refused where its issue's rules don't refuse it and it is not too large
 pub split_unrefused : (L : List Activity) (s : Contents) (x : Split) (r : Option Refusal) → r ≡ first_refusal (issue_rules (is_listed (journal s.opening L) x.issue) (is_retired (journal s.opening L) x.issue)) → r ≡ None → (is_too_large s.opening (journal s.opening L) (activity.Split x) ≡ true → ⊥) → refusal s.opening (journal s.opening L) (command.Activity (activity.Split x)) ≡ None
-split_unrefused L s x r said is size =
-    let J = journal s.opening L in
-    let fails = none_fails (issue_rules (is_listed J x.issue) (is_retired J x.issue)) (sym said ∙ is) in
-    no_refusal (rules s.opening J (activity.Split x)) (fails.0, (fails.1.0, (false_from_ne_true _ size, tt)))
+split_unrefused L s x r said is size = grind arith
 
 -- and so an exchange, where no trades hold it up
 pub exchange_unrefused : (L : List Activity) (s : Contents) (x : Exchange) (r : Option Refusal) → r ≡ first_refusal (exchange_rules (journal s.opening L) x) → r ≡ None → (is_too_large s.opening (journal s.opening L) (activity.Exchange x) ≡ true → ⊥) → ((is_too_large s.opening (journal s.opening L) (activity.Exchange x) ≡ false) × (is_held_up s.opening (journal s.opening L) (action.Exchange x) ≡ true) → ⊥) → refusal s.opening (journal s.opening L) (command.Activity (activity.Exchange x)) ≡ None
-exchange_unrefused L s x r said is size waits =
-    let J = journal s.opening L in
-    let fails = none_fails (exchange_rules J x) (sym said ∙ is) in
-    let small = false_from_ne_true (is_too_large s.opening J (activity.Exchange x)) size in
-    let held = false_from_ne_true (is_held_up s.opening J (action.Exchange x)) (λ b. waits (small, b)) in
-    no_refusal (rules s.opening J (activity.Exchange x)) (fails.0, (fails.1.0, (fails.1.1.0, (small, (held, tt)))))
+exchange_unrefused L s x r said is size waits = grind arith
 
 -- a listed issue has a price
 pub price_there : (b : Bool) (p : ℕ) (o : Option ℕ) → o ≡ cond b (Some p) None → b ≡ true → IsSome o
@@ -136,22 +116,16 @@ price_there b p o h1 h2 = grind arith
 pub with_no_age : (h : Holding) → with_age 0 h ≡ h
 with_no_age h = λ i. record h { carried = max-zero h.carried i }
 
--- an age that is brought to one issue alone
-brought_there : (t : Bool) (m n : ℕ) → max m (cond t n 0) ≡ cond t (max m n) m
-brought_there t m n = grind arith
-
 -- what an exchange books, with the age that it brings
 exchanged_rows : (s : Contents) (L : List Activity) (x : Exchange) (rows : Rows) → IsReached s.opening (activity.Exchange x ∷ L) → FollowsRows (journal s.opening L) s
     → ((k : Key) → holding_at rows k ≡ with_age (age_brought s.rows (action.Exchange x) k) (books (entries s.opening (journal s.opening L) (activity.Exchange x)) k (holding_at s.rows k)))
     → FollowsRows (journal s.opening (activity.Exchange x ∷ L)) (record s { rows = rows })
 exchanged_rows s L x rows reached f b k =
-    let J = journal s.opening L in
-    let es = entries s.opening J (activity.Exchange x) in
-    let h = holding J k.account k.issue in
-    let there = same_issue x.successor k.issue in
-    b k
-    ∙ (λ i. with_age (cond there (oldest_of (f (record { account = k.account; issue = x.old }) i)) 0) (books es k (f k i)))
-    ∙ (λ i. record (books es k h) { carried = (brought_there there h.carried (oldest J k.account x.old) ∙ sym (carried_on s.opening L x reached k.account k.issue)) i })
+    let now = f k in
+    let old = f (record { account = k.account; issue = x.old }) in
+    let carried = carried_on s.opening L x reached k.account k.issue in
+    let booked = b k in
+    grind arith
 
 -- an exchange that is not refused
 pub exchange_follows : (L : List Activity) (s : Contents) (x : Exchange) (prices : Listed) (rows : Rows) → Follows L s → IsInRange (activity.Exchange x) → refusal s.opening (journal s.opening L) (command.Activity (activity.Exchange x)) ≡ None
@@ -160,23 +134,14 @@ pub exchange_follows : (L : List Activity) (s : Contents) (x : Exchange) (prices
     → Follows (activity.Exchange x ∷ L) (record s { prices = prices; rows = rows; notices = map (ended x.old) s.notices })
 exchange_follows L s x prices rows f range none p r b =
     let J = journal s.opening L in
-    let c = clock_stays s J (activity.Exchange x) refl f.clock in
-    record {
-      reached = (range, none, f.reached);
-      clock = record { today = c.today; closes = c.closes };
-      listings = record {
-        members = f.listings.members;
-        prices = λ c. p c ∙ f.listings.prices c;
-        retired = λ c. r c ∙ ap (λ t. bytes_eq x.old c || t) (f.listings.retired c);
-      };
-      references = f.references;
-      pending = f.pending;
-      dividends = dividends_stay s J (activity.Exchange x) refl f.dividends;
-      rows = exchanged_rows s L x rows (range, none, f.reached) f.rows b;
-      sheets = sheets_stay s J (activity.Exchange x) refl f.sheets;
-      notices = ap (map (ended x.old)) f.notices ∙ sym (changed_each J (posting s.opening J (activity.Exchange x)) (ended x.old) (λ k y. ended_by x.old y));
-      batches = batches_stay s J (activity.Exchange x) refl refl f.batches;
-    }
+    let reached : IsReached s.opening (activity.Exchange x ∷ L) = (range, none, f.reached) in
+    let clock = clock_stays s J (activity.Exchange x) refl f.clock in
+    let dividends = dividends_stay s J (activity.Exchange x) refl f.dividends in
+    let kept = exchanged_rows s L x rows reached f.rows b in
+    let sheets = sheets_stay s J (activity.Exchange x) refl f.sheets in
+    let notices = ap (map (ended x.old)) f.notices ∙ sym (changed_each J (posting s.opening J (activity.Exchange x)) (ended x.old) (λ k y. ended_by x.old y)) in
+    let batches = batches_stay s J (activity.Exchange x) refl refl f.batches in
+    grind (arith, f)
 
 -- the notices after a split
 pub split_ends : {s : Contents} (L : List Activity) (x : Split) → Follows L s → FollowsNotices (journal s.opening (activity.Split x ∷ L)) (record s { notices = map (ended x.issue) s.notices })

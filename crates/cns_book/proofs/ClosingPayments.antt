@@ -1,7 +1,7 @@
 -- What a close pays by the sheets of the record dates is what the definitions say.
 -- For `close_day` of parts/closing.rt, clause step.
-use Rattle.std.proofs.Common.{◌≡◌, ◌∙◌, sym, ap, refl, ℕ, ◌≤◌, ℤ, pos, ◌+ℤ◌, neg_ℤ, Bool, true, false, not, ◌&&◌, ◌||◌, ◌==◌, cond, List, [], ◌∷◌, map, filter, find, Option, Some, None, unwrap_or, arith, bytes_eq, filter_map, option_map}
-use Rattle.cns_book.proofs.Common.{Account, AllByRecursion, Cusip, Day, DaySheet, Declared, IsSound, Journal, Key, Paying, Row, accounts, and_right, as_of, bytes_eq-Decides, cash, closings, cons_option, corporation, date, day_sheet, dividend, dividend_of, dividends, exact_keys, find_filter, found_number, in_order, is_account, is_idle, is_not_after, is_sorted, issues, kept_if, key_cmp, keys_total, last_date, list_any, member_dividend, members, numbers, occurs, occurs_found, occurs_missing, option_map_or, payments_by, pays_before, row, said, same_lists, same_sums, says, sheet_as_of, sheet_rows, sorted_numbers, total, total-map, total-neg, total-same, total-swap, total-zero, total_numbers}
+use Rattle.std.proofs.Common.{◌≡◌, ◌∙◌, sym, ap, refl, ℕ, ◌≤◌, ℤ, pos, neg_ℤ, Bool, true, false, not, ◌&&◌, ◌||◌, ◌==◌, cond, List, [], ◌∷◌, map, filter, find, Option, Some, None, unwrap_or, arith, bytes_eq, filter_map, option_map}
+use Rattle.cns_book.proofs.Common.{Account, AllByRecursion, Cusip, Day, DaySheet, Declared, IsSound, Journal, Key, Paying, Row, accounts, and_right, as_of, bytes_eq-Decides, cash, closings, corporation, date, day_sheet, dividend, dividend_of, dividends, exact_keys, find_filter, found_number, in_order, is_account, is_not_after, is_sorted, issues, kept_if, key_cmp, keys_total, last_date, list_any, members, numbers, occurs, occurs_found, occurs_missing, option_map_or, payments_by, pays_before, row, said, same_lists, same_sums, says, sheet_as_of, sheet_rows, sorted_numbers, total, total-map, total-neg, total-same, total-swap, total-zero, total_numbers}
 use Rattle.cns_terms.specs.Dividends.{due, is_due}
 use Rattle.std.specs.FinMap as finmap
 use Rattle.cns_terms.specs.Positions.{position}
@@ -14,12 +14,6 @@ use Rattle.cns_sheets.specs.Search.{row_at}
 use Rattle.cns_sheets.specs.Payments.{member_cash, paid}
 use Rattle.cns_book.proofs.ClosingRows.{closing_found, number_found, of_all, shown_rise}
 
--- ---- who is not there
-
--- what does not stand in a list is not found there
-not_found : (a : ℕ) (bs : List ℕ) → occurs a bs ≡ 0 → list_any (λ b. a == b) bs ≡ false
-not_found a bs h1 = grind (arith, occurs_found)
-
 -- ---- the members of a sheet
 
 module _ (opening : Day) (K J : Journal) (k_sound : IsSound K) (j_sound : IsSound J) (among : (a : ℕ) → occurs a (accounts K) ≤ occurs a (accounts J)) (d : Declared) where
@@ -30,23 +24,17 @@ module _ (opening : Day) (K J : Journal) (k_sound : IsSound K) (j_sound : IsSoun
   -- nothing is paid to who was not there
   none_absent : (a : Account) (c : Cusip) → occurs a (accounts J) ≡ 0 → cash (position K a c) d.rate ≡ pos 0
   none_absent a c h =
-      let absent : is_account K a ≡ false = not_found a (accounts K) (omega (arith, among a, h)) in
+      let absent : is_account K a ≡ false = grind (arith, occurs_found a (accounts K), among a) in
       ap (λ q. cash q d.rate) (no_position a c K (no_account_elsewhere K a c k_sound absent)) ∙ no_cash d.rate
-
-  -- what a row that says nothing is paid
-  none_idle : (r : Row) → says r ≡ false → member_cash d r ≡ pos 0
-  none_idle r h1 = grind arith
 
   -- what is paid at a key, by the members that are there now
   same_number : (k : Key) (s n m : Bool) → bytes_eq k.issue d.issue ≡ s → (k.account == corporation) ≡ n → list_any (λ a. k.account == a) (members J) ≡ m → cond (s && not n) (at_place k) (pos 0) ≡ unwrap_or (cond (m && (s || false)) (Some (at_place k)) None) (pos 0)
-  same_number k false n true is first me = refl
-  same_number k false n false is first me = refl
+  same_number k false n m is first me = grind arith
   same_number k true true true is first me =
       let twice : 2 ≤ occurs k.account (accounts J) = rw first (omega (arith, occurs_found k.account (members J) me)) in
       absurd (omega (arith, twice, j_sound.distinct k.account))
-  same_number k true true false is first me = refl
-  same_number k true false true is first me = refl
   same_number k true false false is first me = none_absent k.account k.issue (rw first (omega (arith, occurs_missing k.account (members J) me)))
+  same_number k true n m is first me = grind arith
 
   -- the rows of the sheet with their keys, as the definitions make them
   abbrev shown : List (Key × Row)
@@ -59,38 +47,26 @@ module _ (opening : Day) (K J : Journal) (k_sound : IsSound K) (j_sound : IsSoun
   abbrev of_members : List (Key × ℤ)
   of_members = cells at_place (members J) (d.issue ∷ [])
 
-  -- the sums of both
-  rows_sum : total (λ e. e.1) of_rows ≡ total (member_cash d) (sheet_rows opening K)
-  rows_sum = total_numbers (member_cash d) (λ e. e.1) shown ∙ total-map (λ (e : Key × Row). member_cash d e.1) (λ r. (key_of r, r)) (sheet_rows opening K)
-
   members_sum : (ms : List Account) → total (λ e. e.1) (cells at_place ms (d.issue ∷ [])) ≡ total (λ a. cash (position K a d.issue) d.rate) ms
   members_sum [] = refl
-  members_sum (a ∷ ms) = ap (λ n. cash (position K a d.issue) d.rate +ℤ n) (members_sum ms)
+  members_sum (a ∷ ms) = grind (arith, members_sum ms)
 
   -- the rows of the sheet are paid what the members are that are there now
   pub members_paid : total (member_cash d) (sheet_rows opening K) ≡ total (λ a. cash (position K a d.issue) d.rate) (members J)
   members_paid =
-      sym rows_sum
+      sym (total_numbers (member_cash d) (λ e. e.1) shown ∙ total-map (λ (e : Key × Row). member_cash d e.1) (λ r. (key_of r, r)) (sheet_rows opening K))
       ∙ same_sums (λ e. e.1) (λ k. refl) of_rows of_members (sorted_numbers (member_cash d) shown (shown_rise opening K k_sound)) (sorted_cells at_place (members J) (d.issue ∷ []) (and_right _ _ j_sound.accounts_rise) refl)
-      (λ k. found_number (member_cash d) k (pos 0) shown ∙ number_found opening K (member_cash d) none_idle k k_sound ∙ same_number k _ _ _ refl refl refl ∙ sym (ap (λ o. unwrap_or o (pos 0)) (find_cells at_place k (members J) (d.issue ∷ []))))
+      (λ k. found_number (member_cash d) k (pos 0) shown ∙ number_found opening K (member_cash d) (λ r h. grind arith) k k_sound ∙ same_number k _ _ _ refl refl refl ∙ sym (ap (λ o. unwrap_or o (pos 0)) (find_cells at_place k (members J) (d.issue ∷ []))))
       ∙ members_sum (members J)
 
-  -- what the dividend books at a key, by the positions at the close of its record date
-  abbrev pub booked_at : Key → ℤ
-  booked_at k = cond (bytes_eq k.issue d.issue) (cond (k.account == corporation) (neg_ℤ (total (λ a. cash (position K a d.issue) d.rate) (members J))) (at_place k)) (pos 0)
-
-  pub paid_is : (k : Key) → paid d (sheet_rows opening K) k ≡ booked_at k
+  pub paid_is : (k : Key) → paid d (sheet_rows opening K) k ≡ cond (bytes_eq k.issue d.issue) (cond (k.account == corporation) (neg_ℤ (total (λ a. cash (position K a d.issue) d.rate) (members J))) (at_place k)) (pos 0)
   paid_is k = λ i. cond (bytes_eq k.issue d.issue) (cond (k.account == corporation) (neg_ℤ (members_paid i)) (cash (closing_found opening K k k_sound i) d.rate)) (pos 0)
 
 -- ---- the dividends of a close
 
--- a sum over what a function gives
-given_more : {Y : Type 0} (f : Y → ℤ) (o : Option Y) (ys : List Y) (n : ℤ) → total f ys ≡ n → total f (cons_option o ys) ≡ option_map_or f o (pos 0) +ℤ n
-given_more f o ys n h1 = grind arith
-
 total-given : {X Y : Type 0} (f : Y → ℤ) (g : X → Option Y) (xs : List X) → total f (filter_map g xs) ≡ total (λ x. option_map_or f (g x) (pos 0)) xs
 total-given f g [] = refl
-total-given f g (x ∷ xs) = given_more f (g x) (filter_map g xs) (total (λ x. option_map_or f (g x) (pos 0)) xs) (total-given f g xs)
+total-given f g (x ∷ xs) = grind (arith, total-given f g xs)
 
 module _ (opening : Day) (J : Journal) (sound : IsSound J) where
   -- what is so of each journal of a close
@@ -104,25 +80,13 @@ module _ (opening : Day) (J : Journal) (sound : IsSound J) where
   -- where no day is closed it books nothing
   books_none : (d : Declared) (k : Key) → pos 0 ≡ books_at d k []
   books_none d k =
-      by (bytes_eq k.issue d.issue) (k.account == corporation)
-      (sym (total-same (λ a. cash (pos 0) d.rate) (λ a. pos 0) (members J) (λ a. no_cash d.rate) ∙ total-zero (members J))) (sym (no_cash d.rate))
-    where
-      by : (b t : Bool) {x y : ℤ} → pos 0 ≡ x → pos 0 ≡ y → pos 0 ≡ cond b (cond t (neg_ℤ x) y) (pos 0)
-      by b t h1 h2 = grind arith
-
-  -- what is paid by the sheet that is found, or nothing
-  found_paid : (b : Bool) (d : Declared) (k : Key) (K : Journal) (o : Option DaySheet) (p : Option Journal) → IsEarlier K → option_map_or (λ s. paid d s.rows k) o (pos 0) ≡ books_at d k (unwrap_or p [])
-      → option_map_or (λ s. paid d s.rows k) (cond b (Some (day_sheet opening K)) o) (pos 0) ≡ books_at d k (unwrap_or (cond b (Some K) p) [])
-  found_paid b d k K o p h1 h2 = grind (arith, paid_is)
+      let nothing = total-same (λ a. cash (pos 0) d.rate) (λ a. pos 0) (members J) (λ a. no_cash d.rate) ∙ total-zero (members J) in
+      grind (arith, no_cash d.rate)
 
   one_paid : (d : Declared) (k : Key) (Ks : List Journal) → AllByRecursion IsEarlier Ks
       → option_map_or (λ s. paid d s.rows k) (sheet_as_of (map (day_sheet opening) Ks) d.recorded) (pos 0) ≡ books_at d k (unwrap_or (find (λ K. is_not_after (date opening K) d.recorded) Ks) [])
   one_paid d k [] e = books_none d k
-  one_paid d k (K ∷ Ks) e = found_paid (is_not_after (date opening K) d.recorded) d k K (sheet_as_of (map (day_sheet opening) Ks) d.recorded) (find (λ K. is_not_after (date opening K) d.recorded) Ks) e.0 (one_paid d k Ks e.1)
-
-  -- the same of a sheet with its dividend
-  with_rows : (d : Declared) (k : Key) (o : Option DaySheet) → option_map_or (λ (p : Paying). paid p.0 p.1 k) (option_map (λ s. (d, s.rows)) o) (pos 0) ≡ option_map_or (λ s. paid d s.rows k) o (pos 0)
-  with_rows d k o = grind arith
+  one_paid d k (K ∷ Ks) e = grind (arith, paid_is opening K J e.0.0 sound e.0.1 d k, one_paid d k Ks e.1)
 
   -- what a dividend books where it is of the issue
   abbrev in_issue : Account → Cusip → Declared → ℤ
@@ -134,13 +98,10 @@ module _ (opening : Day) (J : Journal) (sound : IsSound J) where
 
   -- the dividends that are due in an issue book what the definitions say
   all_due : (a : Account) (c : Cusip) → total (in_issue a c) (due opening J c) ≡ dividend opening J a c
-  all_due a c = by (a == corporation)
-    where
-      by : (b : Bool) → total (λ d. cond b (neg_ℤ (total (λ b. cash (position (as_of opening J d.recorded) b c) d.rate) (members J))) (cash (position (as_of opening J d.recorded) a c) d.rate)) (due opening J c) ≡ cond b (neg_ℤ (total (member_dividend opening J c) (members J))) (member_dividend opening J c a)
-      by true =
-          total-neg (λ d. total (λ b. cash (position (as_of opening J d.recorded) b c) d.rate) (members J)) (due opening J c)
-          ∙ ap neg_ℤ (total-swap (λ d b. cash (position (as_of opening J d.recorded) b c) d.rate) (due opening J c) (members J))
-      by false = refl
+  all_due a c =
+      let paid : Declared → Account → ℤ = λ d b. cash (position (as_of opening J d.recorded) b c) d.rate in
+      let against = total-neg (λ d. total (paid d) (members J)) (due opening J c) ∙ ap neg_ℤ (total-swap paid (due opening J c) (members J)) in
+      grind arith
 
   -- what a close pays at a key
   pub dividends_are : (k : Key) → AllByRecursion IsEarlier (closings J) → dividend_of (payments_by (map (day_sheet opening) (closings J)) (filter (is_due (last_date opening J) (date opening J)) (in_order pays_before (dividends J)))) k ≡ dividend opening J k.account k.issue
@@ -148,20 +109,16 @@ module _ (opening : Day) (J : Journal) (sound : IsSound J) where
       let ds : List Declared = filter (is_due (last_date opening J) (date opening J)) (in_order pays_before (dividends J)) in
       let ss : List DaySheet = map (day_sheet opening) (closings J) in
       total-given (λ (p : Paying). paid p.0 p.1 k) (λ d. option_map (λ s. (d, s.rows)) (sheet_as_of ss d.recorded)) ds
-      ∙ total-same _ _ ds (λ d. with_rows d k (sheet_as_of ss d.recorded) ∙ one_paid d k (closings J) e ∙ of_issue (bytes_eq k.issue d.issue) k.account k.issue d (λ t. sym ((bytes_eq-Decides k.issue d.issue).0 t)))
+      ∙ total-same _ _ ds (λ d. grind (arith, one_paid d k (closings J) e) ∙ of_issue (bytes_eq k.issue d.issue) k.account k.issue d (λ t. sym ((bytes_eq-Decides k.issue d.issue).0 t)))
       ∙ total-due (in_issue k.account k.issue) (is_due (last_date opening J) (date opening J)) k.issue (dividends J)
       ∙ all_due k.account k.issue
 
 -- ---- the rows of a close
 
--- a row that is kept or not, and that says something or not
-said_kept : (b t : Bool) (r : Row) → is_idle r ≡ t → (b ≡ false → says r ≡ false) → said r ≡ kept_if says (cond b (Some r) None)
-said_kept b t r h1 h2 = grind arith
-
 -- rows without their keys
 without_keys : (rs : List Row) → map (λ e. e.1) (by_key rs) ≡ rs
 without_keys [] = refl
-without_keys (r ∷ rs) = ap (λ xs. r ∷ xs) (without_keys rs)
+without_keys (r ∷ rs) = grind (arith, without_keys rs)
 
 -- rows in the order of keys that show the row of each key are those of the definitions
 pub rows_are_cut : (opening : Day) (J : Journal) (rows : List Row) → IsSound J → is_sorted key_cmp (by_key rows) ≡ true → ((k : Key) → row_at rows k ≡ said (row opening J k.account k.issue)) → rows ≡ sheet_rows opening J
@@ -173,6 +130,6 @@ rows_are_cut opening J rows s order is =
     ∙ ap (map (λ e. e.1)) (same_lists keys_total exact_keys (by_key rows) (by_key (sheet_rows opening J)) order
     (shown_rise opening J s)
     (λ k. is k
-    ∙ said_kept (is_account J k.account && list_any (λ c. bytes_eq k.issue c) (issues J)) _ (g k) refl (idle_at opening J k s)
+    ∙ grind (arith, idle_at opening J k s)
     ∙ sym (ap (finmap.find key_cmp k) kept ∙ find_filter keys_total says k (cells g (accounts J) (issues J)) all ∙ ap (kept_if says) (find_cells g k (accounts J) (issues J)))))
     ∙ without_keys (sheet_rows opening J)

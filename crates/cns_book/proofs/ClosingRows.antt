@@ -1,13 +1,12 @@
 -- What a closed day's sheet of the definitions shows at each key.
 -- For `close_day` of parts/closing.rt, clause step.
-use Rattle.std.proofs.Common.{◌≡◌, ◌∙◌, sym, ap, refl, ℤ, pos, Bool, true, false, ◌&&◌, cond, List, [], ◌∷◌, ◌++◌, map, filter, flat_map, Some, None, bytes_eq}
-use Rattle.cns_book.proofs.Common.{Account, Cusip, Day, IsSound, Journal, Key, Row, accounts, closing_at, filter-append, find_filter, idle_parts, is_account, is_sorted, issues, kept_if, key_cmp, keys_total, list_any, map-append, money, option_map_or, row, rows_of, says, sheet_rows, sorted_filter}
+use Rattle.std.proofs.Common.{◌≡◌, ◌∙◌, sym, ap, refl, ℤ, pos, Bool, true, false, cond, List, [], ◌∷◌, ◌++◌, map, filter, flat_map, arith}
+use Rattle.cns_book.proofs.Common.{Account, Cusip, Day, IsSound, Journal, Key, Row, accounts, closing_at, filter-append, find_filter, idle_parts, is_sorted, issues, key_cmp, keys_total, map-append, option_map_or, row, rows_of, says, sheet_rows, sorted_filter}
 use Rattle.std.specs.FinMap.{find}
 use Rattle.cns_terms.specs.Positions.{position}
 use Rattle.cns_terms.proofs.Cells.{cells, cells_of, find_cells, sorted_cells}
 use Rattle.cns_terms.proofs.Elsewhere.{idle_at}
 use Rattle.cns_sheets.specs.Build.{by_key, key_of}
-use Rattle.std.proofs.Common.{arith}
 
 -- one row more, or not, with its key
 with_key : (b : Bool) (r : Row) (rs : List Row) (es : List (Key × Row)) → by_key rs ≡ es → by_key (cond b (r ∷ rs) rs) ≡ cond b ((key_of r, r) ∷ es) es
@@ -31,17 +30,11 @@ module _ (opening : Day) (K : Journal) where
       ∙ sym (filter-append (λ (e : Key × Row). says e.1) (cells_of row_of a (issues K)) (cells row_of bs (issues K)))
 
   module _ (g : Row → ℤ) (idle : (r : Row) → says r ≡ false → g r ≡ pos 0) where
-    number_kept : (b t : Bool) (r : Row) → says r ≡ t → (b ≡ false → says r ≡ false) → option_map_or g (kept_if says (cond b (Some r) None)) (pos 0) ≡ g r
-    number_kept b t r h1 h2 = grind arith
-
     -- a number of the row at a key, 0 where it has none, is that of the definitions
     pub number_found : (k : Key) → IsSound K → option_map_or g (find key_cmp k (by_key (sheet_rows opening K))) (pos 0) ≡ g (row_of k)
     number_found k s =
-        ap (λ o. option_map_or g o (pos 0)) (
-        ap (find key_cmp k) (of_all (accounts K))
-        ∙ find_filter keys_total says k (cells row_of (accounts K) (issues K)) (sorted_cells row_of (accounts K) (issues K) s.accounts_rise s.issues_rise)
-        ∙ ap (kept_if says) (find_cells row_of k (accounts K) (issues K)))
-        ∙ number_kept (is_account K k.account && list_any (λ c. bytes_eq k.issue c) (issues K)) _ (row_of k) refl (idle_at opening K k s)
+        let kept = ap (find key_cmp k) (of_all (accounts K)) ∙ find_filter keys_total says k (cells row_of (accounts K) (issues K)) (sorted_cells row_of (accounts K) (issues K) s.accounts_rise s.issues_rise) in
+        grind (arith, find_cells row_of k (accounts K) (issues K), idle_at opening K k s, idle (row_of k))
 
   -- the rows are in the order of their keys
   pub shown_rise : IsSound K → is_sorted key_cmp (by_key (sheet_rows opening K)) ≡ true
@@ -52,7 +45,3 @@ module _ (opening : Day) (K : Journal) where
   -- the closing at a key, 0 where it has no row, is the position at the close
   pub closing_found : (k : Key) → IsSound K → closing_at (sheet_rows opening K) k ≡ position K k.account k.issue
   closing_found k s = number_found (λ r. r.closing) (λ r h. (idle_parts r h).1) k s
-
-  -- and so are the cents
-  pub money_found : (k : Key) → IsSound K → option_map_or (λ r. r.money) (find key_cmp k (by_key (sheet_rows opening K))) (pos 0) ≡ money K k.account k.issue
-  money_found k s = number_found (λ r. r.money) (λ r h. (idle_parts r h).2) k s

@@ -1,7 +1,7 @@
 -- The sheet that a close cuts is the one of the definitions.
 -- For `close_day` of parts/closing.rt, clause step.
-use Rattle.std.proofs.Common.{◌≡◌, ◌∙◌, sym, ap, subst, refl, ℕ, ◌+◌, ◌*◌, ◌≤◌, ◌<◌, ℤ, pos, Bool, true, false, cond, List, [], ◌∷◌, length, map, filter, Option, Some, None, unwrap_or, arith, option_map, slice_get, unsigned_abs, is_eq, nat_cmp}
-use Rattle.cns_book.proofs.Common.{Activity, AllByRecursion, CanBePaid, Contents, Cusip, Day, DaySheet, Declared, Follows, Holding, IsCut, IsLimited, IsReady, IsSound, Journal, Key, Listed, Paying, Row, Rows, accounts, amount_limit, and_left, and_right, booking_limit, closing_at, closings, cons_option, date, day_sheet, dividend, dividend_of, dividends, each_both, each_filter, each_in_order, equal, exact_bytes, find_below, find_with, found_number, history_limit, holding_at, in_order, is_listed, is_not_after, is_sorted, issues, issues_few, journal, journal_len, key_cmp, keys_total, last_close, last_date, last_dated, limited, limited_past, money, nat_list_cmp_total, numbers, occurs, option_map_or, payments_by, pays_before, price, price_in, prices_of, rate_limit, row, rows_for, said, same_issue, same_lists, same_sums, sheet_as_of, sheet_rows, slice_cmp, sorted_numbers, tied_itself, total, total-map, total_numbers}
+use Rattle.std.proofs.Common.{◌≡◌, ◌∙◌, sym, ap, subst, refl, ℕ, ◌+◌, ◌*◌, ◌≤◌, ◌<◌, ℤ, pos, true, false, cond, List, [], ◌∷◌, length, map, filter, Some, None, unwrap_or, arith, option_map, slice_get, unsigned_abs, is_eq, nat_cmp}
+use Rattle.cns_book.proofs.Common.{Activity, AllByRecursion, CanBePaid, Contents, Cusip, Day, DaySheet, Declared, Follows, Holding, IsCut, IsLimited, IsReady, IsSound, Journal, Key, Listed, Paying, Row, Rows, accounts, amount_limit, and_left, and_right, booking_limit, closing_at, closings, cons_option, date, day_sheet, dividend, dividend_of, dividends, each_both, each_filter, each_in_order, equal, exact_bytes, find_below, find_with, found_number, history_limit, holding_at, idle_parts, in_order, is_listed, is_sorted, issues, issues_few, journal, journal_len, key_cmp, keys_total, last_close, last_date, last_dated, limited, limited_past, money, nat_list_cmp_total, numbers, occurs, option_map_or, payments_by, pays_before, price, price_in, prices_of, rate_limit, row, rows_for, said, same_issue, same_lists, same_sums, sheet_as_of, sheet_rows, slice_cmp, sorted_numbers, tied_itself, total, total-map, total_numbers}
 use Rattle.std.specs.FinMap.{find}
 use Rattle.cns_terms.specs.Dividends.{is_due}
 use Rattle.cns_terms.specs.Positions.{position}
@@ -21,15 +21,11 @@ use Rattle.cns_sheets.specs.Payments.{IsPayable, cut_row}
 use Rattle.cns_sheets.proofs.Balance.{none_in, numbers_in}
 use Rattle.cns_sheets.proofs.Kept.{listed_found, prices_rise}
 use Rattle.cns_book.proofs.ClosingSteps.{whole_reached}
-use Rattle.cns_book.proofs.ClosingPayments.{IsEarlier, dividends_are, rows_are_cut}
-use Rattle.cns_book.proofs.ClosingRows.{closing_found, money_found, shown_rise}
+use Rattle.cns_book.proofs.ClosingPayments.{dividends_are, rows_are_cut}
+use Rattle.cns_book.proofs.ClosingRows.{closing_found, shown_rise, number_found}
+use Rattle.std.proofs.lemmas.Option.{slice_get-map}
 
 -- ---- prices
-
--- the prices that the sheet before has
-before_is : (opening : Day) (Ks : List Journal) → prices_of (slice_get (map (day_sheet opening) Ks) 0) ≡ sheet_prices (unwrap_or (slice_get Ks 0) [])
-before_is opening [] = refl
-before_is opening (K ∷ Ks) = refl
 
 -- the list of prices is that of the definitions
 prices_are : (J : Journal) (es : Listed) → IsSound J → is_sorted (slice_cmp nat_cmp) es ≡ true → ((c : Cusip) → price_in es c ≡ cond (is_listed J c) (Some (price J c)) None) → listed_above es None ≡ sheet_prices J
@@ -47,32 +43,21 @@ module _ (L : List Activity) (s : Contents) (f : Follows L s) where
   abbrev journal_now : Journal
   journal_now = journal s.opening L
 
-  -- the date of the last close is that of the definitions
-  last_is : (Ks : List Journal) → last_dated (map (day_sheet s.opening) Ks) ≡ option_map (date s.opening) (slice_get Ks 0)
-  last_is [] = refl
-  last_is (K ∷ Ks) = refl
-
   -- and so are the dividends
   paid_is_due : paid_now s ≡ payments_by (map (day_sheet s.opening) (closings journal_now)) (filter (is_due (last_date s.opening journal_now) (date s.opening journal_now)) (in_order pays_before (dividends journal_now)))
-  paid_is_due = λ i. payments_by (f.sheets i) (filter (is_due ((ap last_dated f.sheets ∙ last_is (closings journal_now)) i) (f.clock.today i)) (f.dividends i))
-
-  -- each journal of a close is sound, and its accounts are there now
-  earlier : AllByRecursion (IsEarlier s.opening journal_now (whole_reached L f).now) (closings journal_now)
-  earlier = each_both IsSound (λ K. (a : ℕ) → occurs a (accounts K) ≤ occurs a (accounts journal_now)) (closings journal_now) (whole_reached L f).past (accounts_grew journal_now)
-
-  -- what a close pays at each key
-  dividend_is : (k : Key) → dividend_of (paid_now s) k ≡ dividend s.opening journal_now k.account k.issue
-  dividend_is k = ap (λ ps. dividend_of ps k) paid_is_due ∙ dividends_are s.opening journal_now (whole_reached L f).now k earlier
+  paid_is_due = let sheets = f.sheets in let today = f.clock.today in grind (arith, slice_get-map (day_sheet s.opening) (closings journal_now) 0)
 
   -- the row of each key is that of the definitions
   row_is : (k : Key) → cut_row (prices_of (slice_get s.sheets 0)) s.prices s.rows (paid_now s) k ≡ row s.opening journal_now k.account k.issue
   row_is k =
       let w = whole_reached L f in
       let before = prices_of (slice_get s.sheets 0) in
-      let old : before ≡ sheet_prices (last_close journal_now) = ap (λ ss. prices_of (slice_get ss 0)) f.sheets ∙ before_is s.opening (closings journal_now) in
+      let old : before ≡ sheet_prices (last_close journal_now) = (let sheets = f.sheets in grind (arith, slice_get-map (day_sheet s.opening) (closings journal_now) 0)) in
       let now : unwrap_or (price_in s.prices k.issue) 0 ≡ price journal_now k.issue = ap (λ o. unwrap_or o 0) (f.listings.prices k.issue) ∙ price_or_zero journal_now k.issue w.now in
       let then : unwrap_or (find (slice_cmp nat_cmp) k.issue before) 0 ≡ price (last_close journal_now) k.issue = ap (λ ps. unwrap_or (find (slice_cmp nat_cmp) k.issue ps) 0) old ∙ sheet_price (last_close journal_now) k.issue (sound_last journal_now w) in
-      λ i. priced_row (then i) (now i) (dividend_is k i) (k, f.rows k i)
+      let earlier = each_both IsSound (λ K. (a : ℕ) → occurs a (accounts K) ≤ occurs a (accounts journal_now)) (closings journal_now) w.past (accounts_grew journal_now) in
+      let paid : dividend_of (paid_now s) k ≡ dividend s.opening journal_now k.account k.issue = ap (λ ps. dividend_of ps k) paid_is_due ∙ dividends_are s.opening journal_now w.now k earlier in
+      λ i. priced_row (then i) (now i) (paid i) (k, f.rows k i)
 
   -- rows that are cut are those of the definitions
   pub cut_is : (rows : List Row) → IsCut (prices_of (slice_get s.sheets 0)) s.prices s.rows (paid_now s) rows → rows ≡ sheet_rows s.opening journal_now
@@ -80,30 +65,26 @@ module _ (L : List Activity) (s : Contents) (f : Follows L s) where
 
 -- ---- what a sheet asks of positions
 
-few : (n k : ℕ) → n ≤ k → k + 1 < history_limit → n ≤ history_limit
-few n k p q = omega (arith, p, q)
-
-few_cents : (n k : ℕ) → n ≤ booking_limit * k → k + 1 < history_limit → n ≤ booking_limit * history_limit
-few_cents n k p q = omega (arith, p, q)
-
 -- the cents at each key are few
 pub cents_few : (L : List Activity) (s : Contents) (k : Key) → Follows L s → length L + 1 < history_limit → unsigned_abs (holding_at s.rows k).contract ≤ booking_limit * history_limit
 cents_few L s k f room =
     let J = journal s.opening L in
-    let l = limited s.opening L f.reached in
-    subst (λ (h : Holding). unsigned_abs h.contract ≤ booking_limit * history_limit) (sym (f.rows k))
-    (few_cents _ (length L) (subst (λ n. unsigned_abs (money J k.account k.issue) ≤ booking_limit * n) (journal_len s.opening L) (l.cents k.account k.issue)) room)
-
-each_branch : (b : Bool) (R : Rows) (e : Key × Holding) (k : Key) (Q : Holding → Type 0) → Q zeros → Q (unwrap_or (cond b (Some e.1) (find key_cmp k R)) zeros) → (b ≡ true → find key_cmp k R ≡ None) → Q (holding_at R k)
-each_branch true R e k Q z q none = subst (λ o. Q (unwrap_or o zeros)) (sym (none refl)) z
-each_branch false R e k Q z q none = q
+    let cents = (limited s.opening L f.reached).cents k.account k.issue in
+    let now = f.rows k in
+    let few : unsigned_abs (money J k.account k.issue) ≤ booking_limit * history_limit = omega (arith, cents, journal_len s.opening L) in
+    grind arith
 
 -- what holds at each key holds of each row
 each_row : (Q : Holding → Type 0) (R : Rows) → Q zeros → is_sorted key_cmp R ≡ true → ((k : Key) → Q (holding_at R k)) → AllByRecursion (λ e. Q e.1) R
 each_row Q [] z s h = tt
 each_row Q (e ∷ R) z s h =
-    let here : holding_at (e ∷ R) e.0 ≡ e.1 = ap (λ o. unwrap_or (cond (is_eq o) (Some e.1) (find key_cmp e.0 R)) zeros) (tied_itself keys_total e.0) in
-    (subst Q here (h e.0), each_row Q R z (and_right _ _ s) (λ k. each_branch (is_eq (key_cmp k e.0)) R e k Q z (h k) (λ t. find_below keys_total k R (tied_below keys_total k e.0 R (equal _ t) (and_left _ _ s)))))
+    let here : holding_at (e ∷ R) e.0 ≡ e.1 = ap (λ o. unwrap_or (cond (is_eq o) (Some e.1) (find key_cmp e.0 R)) zeros) (tied_itself keys_total e.0) in (
+      subst Q here (h e.0),
+      each_row Q R z (and_right _ _ s) (λ k. elim (is_eq (key_cmp k e.0)) as (λ b. is_eq (key_cmp k e.0) ≡ b → Q (holding_at R k)) [
+        | true ↦ λ t. subst (λ o. Q (unwrap_or o zeros)) (sym (find_below keys_total k R (tied_below keys_total k e.0 R (equal _ t) (and_left _ _ s)))) z
+        | false ↦ λ t. subst (λ b. Q (unwrap_or (cond b (Some e.1) (find key_cmp k R)) zeros)) t (h k)
+      ] refl),
+    )
 
 -- the sheet before has the position of the close before at each key
 opening_is : (opening : Day) (Ks : List Journal) (k : Key) → AllByRecursion IsSound Ks → position (unwrap_or (slice_get Ks 0) []) k.account k.issue ≡ closing_at (rows_before (slice_get (map (day_sheet opening) Ks) 0)) k
@@ -122,14 +103,6 @@ same_by_issue f g R rows c order rise alike =
     ∙ total_numbers g (numbers_in c) (by_key rows)
     ∙ total-map (λ (e : Key × Row). cond (same_issue e.0.issue c) (g e.1) (pos 0)) (λ r. (key_of r, r)) rows
 
--- a number of the holding at a key, be it there or not
-held_number : (g : Holding → ℤ) (o : Option Holding) → g zeros ≡ pos 0 → option_map_or g o (pos 0) ≡ g (unwrap_or o zeros)
-held_number g o h1 = grind arith
-
--- few cents are within the limit of amounts
-cents_within : (n : ℕ) → n ≤ booking_limit * history_limit → n ≤ amount_limit
-cents_within n h = omega (arith, h)
-
 -- a sheet can be cut of the positions
 pub can_be_cut : (L : List Activity) (s : Contents) → Follows L s → length L + 1 < history_limit → IsReady (slice_get s.sheets 0) s.prices s.rows (paid_now s)
 can_be_cut L s f room order =
@@ -141,15 +114,15 @@ can_be_cut L s f room order =
     record {
       shares = λ c.
           same_by_issue (λ h. h.now) (λ r. r.closing) s.rows shown c order (shown_rise s.opening J w.now)
-          (λ k. held_number (λ h. h.now) (find key_cmp k s.rows) refl ∙ ap (λ (h : Holding). h.now) (f.rows k) ∙ sym (closing_found s.opening J k w.now))
+          (λ k. grind (arith, f.rows k, closing_found s.opening J k w.now))
           ∙ closings_zero s.opening J c l;
       cents = λ c.
           same_by_issue (λ h. h.contract) (λ r. r.money) s.rows shown c order (shown_rise s.opening J w.now)
-          (λ k. held_number (λ h. h.contract) (find key_cmp k s.rows) refl ∙ ap (λ (h : Holding). h.contract) (f.rows k) ∙ sym (money_found s.opening J k w.now))
+          (λ k. grind (arith, f.rows k, number_found s.opening J (λ r. r.money) (λ r h. (idle_parts r h).2) k w.now))
           ∙ moneys_zero s.opening J c l;
       openings = λ k. ap (λ (h : Holding). h.opening) (f.rows k) ∙ opening_is s.opening (closings J) k w.past ∙ ap (λ ss. closing_at (rows_before (slice_get ss 0)) k) (sym f.sheets);
-      small = each_row (λ h. unsigned_abs h.contract ≤ amount_limit) s.rows (omega arith) order (λ k. cents_within _ (cents_few L s k f room));
-      few = λ cut is a. subst (λ rs. length (rows_for rs a) ≤ history_limit) (sym (cut_is L s f cut is)) (few _ (length L) (omega (arith, rows_few s.opening J a w.now, issues_few J, journal_len s.opening L)) room);
+      small = each_row (λ h. unsigned_abs h.contract ≤ amount_limit) s.rows (omega arith) order (λ k. omega (arith, cents_few L s k f room));
+      few = λ cut is a. subst (λ rs. length (rows_for rs a) ≤ history_limit) (sym (cut_is L s f cut is)) (omega (arith, rows_few s.opening J a w.now, issues_few J, journal_len s.opening L, room));
       amounts = λ cut is. subst HaveSmallAmounts (sym (cut_is L s f cut is)) (record {
         cents = λ a n. account_cents_small s.opening J a n l short;
         dividends = λ a n. account_dividends_small s.opening J a n l (limited_past s.opening L f.reached) short;
@@ -158,27 +131,17 @@ can_be_cut L s f room order =
 
 -- ---- what a close pays can be paid
 
--- a dividend with the sheet that is found
-payable_if : (opening : Day) (d : Declared) (b : Bool) (K : Journal) (o : Option DaySheet) (ps : List Paying) → IsLimited opening K → d.rate ≤ rate_limit → AllByRecursion IsPayable (cons_option (option_map (λ s. (d, s.rows)) o) ps)
-    → AllByRecursion IsPayable ps → AllByRecursion IsPayable (cons_option (option_map (λ s. (d, s.rows)) (cond b (Some (day_sheet opening K)) o)) ps)
-payable_if opening d true K o ps l low rest h = (payable opening K l d.issue d.rate low, h)
-payable_if opening d false K o ps l low rest h = rest
-
 payable_one : (opening : Day) (d : Declared) (Ks : List Journal) (ps : List Paying) → AllByRecursion (IsLimited opening) Ks → d.rate ≤ rate_limit → AllByRecursion IsPayable ps → AllByRecursion IsPayable (cons_option (option_map (λ s. (d, s.rows)) (sheet_as_of (map (day_sheet opening) Ks) d.recorded)) ps)
 payable_one opening d [] ps l low h = h
-payable_one opening d (K ∷ Ks) ps l low h = payable_if opening d (is_not_after (date opening K) d.recorded) K (sheet_as_of (map (day_sheet opening) Ks) d.recorded) ps l.0 low (payable_one opening d Ks ps l.1 low h) h
+payable_one opening d (K ∷ Ks) ps l low h = grind (arith, payable opening K l.0 d.issue d.rate low, payable_one opening d Ks ps l.1 low h)
 
 all_payable : (opening : Day) (Ks : List Journal) (ds : List Declared) → AllByRecursion (IsLimited opening) Ks → AreSmallRates ds → AllByRecursion IsPayable (payments_by (map (day_sheet opening) Ks) ds)
 all_payable opening Ks [] l r = tt
 all_payable opening Ks (d ∷ ds) l r = payable_one opening d Ks (payments_by (map (day_sheet opening) Ks) ds) l r.0 (all_payable opening Ks ds l r.1)
 
--- no more are paid than are due
-option_len : {X : Type 0} (o : Option X) (xs : List X) (n : ℕ) → length xs ≤ n → length (cons_option o xs) ≤ n + 1
-option_len o xs n h1 = grind arith
-
 paying_few : (ss : List DaySheet) (ds : List Declared) → length (payments_by ss ds) ≤ length ds
 paying_few ss [] = omega arith
-paying_few ss (d ∷ ds) = omega (arith, option_len (option_map (λ s. (d, s.rows)) (sheet_as_of ss d.recorded)) (payments_by ss ds) (length ds) (paying_few ss ds))
+paying_few ss (d ∷ ds) = grind (arith, paying_few ss ds)
 
 -- the dividends of a close can be paid
 pub can_be_paid : (L : List Activity) (s : Contents) → Follows L s → length L + 1 < history_limit → CanBePaid (paid_now s)

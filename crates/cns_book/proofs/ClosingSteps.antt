@@ -1,9 +1,8 @@
 -- The close of a day.
 -- For `close_day` of parts/closing.rt, clause step.
-use Rattle.std.proofs.Common.{◌≡◌, ◌∙◌, sym, ap, subst, refl, ℕ, ◌+◌, ◌-◌, ◌^◌, ◌<◌, min, ℤ, pos, Bool, true, false, cond, not, List, [], ◌∷◌, ◌++◌, filter, flat_map, map, reverse, Option, Some, None, MatchOption, arith, IfSome, int_le, int_lt, is_none, int_cmp, is_le}
-use Rattle.cns_book.proofs.Common.{Activity, AllByRecursion, Contents, Day, DaySheet, Follows, HasRoom, IsAfter, IsWhole, Journal, Key, Liables, Pend, Rows, Traded, all_fail, batches_since, books, changed_each, closes, closings, date, day, day_number, day_sheet, entries, history_limit, holding, holding_at, ints, is_not_after, journal, journal_len, limited, oldest, pending, posting, refusal, rolled, trade_entries}
+use Rattle.std.proofs.Common.{◌≡◌, ◌∙◌, ap, subst, refl, ◌+◌, ◌<◌, ℤ, true, false, not, List, [], ◌∷◌, ◌++◌, filter, flat_map, map, reverse, Option, Some, None, MatchOption, arith, IfSome, int_le, int_lt, is_none, int_cmp, is_le}
+use Rattle.cns_book.proofs.Common.{Activity, AllByRecursion, Contents, Day, DaySheet, Follows, HasRoom, IsAfter, IsWhole, Journal, Key, Liables, Pend, Rows, Traded, all_fail, batches_since, books, changed_each, closes, closings, date, day, day_number, day_sheet, entries, history_limit, holding, holding_at, ints, is_not_after, journal, journal_len, limited, pending, posting, refusal, rolled, trade_entries}
 use Rattle.cns_terms.specs.Pending.{due, is_due, trades as trades_of}
-use Rattle.cns_terms.specs.Positions.{position}
 use Rattle.cns_terms.specs.Refusals.{rules}
 use Rattle.cns_terms.proofs.CarriedAges.{oldest_le}
 use Rattle.cns_terms.specs.declared.holding.Holding.{Holding}
@@ -11,7 +10,6 @@ use Rattle.cns_actions.specs.declared.booking.Booking.{Booking}
 use Rattle.cns_actions.specs.Bookings.{makes}
 use Rattle.cns_notices.specs.Noticed.{expired}
 use Rattle.cns_notices.proofs.Noticing.{expired_by}
-use Rattle.cns_trades.specs.Used.{is_used}
 use Rattle.cns_terms.specs.declared.command.Activity.TheVariants as activity
 use Rattle.cns_terms.specs.declared.command.Command.TheVariants as command
 use Rattle.cns_book.proofs.EffectPlaces.{books_none}
@@ -24,20 +22,15 @@ use Rattle.cns_book.proofs.PartsStaying.{listings_stay}
 pub whole_reached : {s : Contents} (L : List Activity) → Follows L s → IsWhole s.opening (journal s.opening L)
 whole_reached {s} L f = (limited s.opening L f.reached).whole
 
-aged : (b : Bool) (n : ℕ) → n + 1 < 2 ^ 32 → cond b (min (n + 1) (2 ^ 32 - 1)) 0 ≡ cond b (1 + n) 0
-aged b n h1 = grind arith
-
 -- what a close makes of what stands at a key: it is rolled, and then what is due is booked
 pub holding_close : (opening : Day) (J : Journal) (d : Day) (k : Key) → closes J + 1 < history_limit → books (entries opening J (activity.Close d)) k (rolled (holding J k.account k.issue)) ≡ holding (posting opening J (activity.Close d) ∷ J) k.account k.issue
 holding_close opening J d k h =
-    let few : oldest J k.account k.issue + 1 < 2 ^ 32 = omega (arith, oldest_le J k.account k.issue, h) in
-    rw (aged (int_lt (position J k.account k.issue) (pos 0)) (oldest J k.account k.issue) few) refl
+    let few = oldest_le J k.account k.issue in
+    grind arith
 
 -- the day that is open is after the one that was closed last
 pub after_last : (L : List Activity) (s : Contents) → Follows L s → IsAfter s.today s.sheets
-after_last L s f =
-    let J = journal s.opening L in
-    subst (λ ss. IsAfter s.today ss) (sym f.sheets) (subst (λ d. IsAfter d (map (day_sheet s.opening) (closings J))) (sym f.clock.today) (first (closings J) (whole_reached L f).earlier))
+after_last L s f = rw (f.sheets, f.clock.today) (first (closings (journal s.opening L)) (whole_reached L f).earlier)
   where
     first : (Ks : List Journal) → AllByRecursion (λ K. int_lt (day_number (date s.opening K)) (day_number (date s.opening (journal s.opening L))) ≡ true) Ks → IsAfter (date s.opening (journal s.opening L)) (map (day_sheet s.opening) Ks)
     first [] h = tt
@@ -47,9 +40,7 @@ after_last L s f =
 pub closes_fit : (s : Contents) → HasRoom s → s.closes + 1 < history_limit
 closes_fit s r =
     let J = journal s.opening r.activities in
-    let same = r.follows.clock.closes in
-    let few = r.few in
-    omega (arith, same, closes_le J, journal_len s.opening r.activities, few)
+    omega (arith, r.follows.clock.closes, closes_le J, journal_len s.opening r.activities, r.few)
 
 -- a close that is not refused
 pub day_closed : (L : List Activity) (s : Contents) (d : Day) (trades : Traded) (rows : Rows) (sheet : DaySheet) (chosen : List Liables) → Follows L s → s.closes + 1 < history_limit → refusal s.opening (journal s.opening L) (command.Activity (activity.Close d)) ≡ None
@@ -59,36 +50,21 @@ pub day_closed : (L : List Activity) (s : Contents) (d : Day) (trades : Traded) 
     → Follows (activity.Close d ∷ L) (record s { today = d; closes = s.closes + 1; trades = trades; rows = rows; sheets = sheet ∷ s.sheets; notices = map (expired (s.closes + 1)) s.notices; batches = s.batches ++ chosen ∷ [] })
 day_closed L s d trades rows sheet chosen f few none used left h is liable =
     let J = journal s.opening L in
-    let l = listings_stay s J (activity.Close d) refl f.listings in
+    let listings = listings_stay s J (activity.Close d) refl f.listings in
     let later : is_not_after d (date s.opening J) ≡ false = (all_fail (rules s.opening J (activity.Close d)) (ap is_none none)).0 in
     let due_are : filter (is_due d) s.trades.pending ≡ due s.opening J d = ap (filter (is_due d)) f.pending ∙ filter-reverse (is_due d) (pending s.opening J) in
-    record {
-      reached = (tt, none, f.reached);
-      clock = record { today = refl; closes = omega (arith, f.clock.closes) };
-      listings = record { members = l.members; prices = l.prices; retired = l.retired };
-      references = λ r. ap (λ u. is_used u r) used ∙ f.references r;
-      pending =
-          left ∙ ap (filter (λ p. not (is_due d p))) f.pending
-          ∙ filter-reverse (λ p. not (is_due d p)) (pending s.opening J)
-          ∙ ap reverse (still_later (date s.opening J) d (trades_of J) later);
-      dividends = f.dividends;
-      rows = λ k.
-          h k ∙ ap (λ ps. books (flat_map trade_entries ps) k (rolled (holding_at s.rows k))) due_are
-          ∙ ap (λ x. books (entries s.opening J (activity.Close d)) k (rolled x)) (f.rows k)
-          ∙ holding_close s.opening J d k (subst (λ n. n + 1 < history_limit) f.clock.closes few);
-      sheets = λ i. is i ∷ f.sheets i;
-      notices =
-          (λ i. map (expired (f.clock.closes i + 1)) (f.notices i))
-          ∙ sym (changed_each J (posting s.opening J (activity.Close d)) (expired (day J)) (λ k y. expired_by (day J) y));
-      batches = (λ i. f.batches i ++ liable i ∷ []) ∙ sym (batches_more s.opening J d);
-    }
+    let pending = filter-reverse (λ p. not (is_due d p)) (pending s.opening J) ∙ ap reverse (still_later (date s.opening J) d (trades_of J) later) in
+    let closed = λ (k : Key). holding_close s.opening J d k (subst (λ n. n + 1 < history_limit) f.clock.closes few) in
+    let notices = changed_each J (posting s.opening J (activity.Close d)) (expired (day J)) (λ k y. expired_by (day J) y) in
+    let batches = batches_more s.opening J d in
+    grind (arith, f)
 
 -- the rows with which a day opens: rolled, and with what is due booked, if anything is
 pub opened_rows : (o : Option (List Booking)) (ps : List Pend) (old new : Rows)
     → MatchOption o (ps ≡ []) (λ b. (k : Key) (h : Holding) → makes b k h ≡ books (flat_map trade_entries ps) k h)
     → (o ≡ None → (k : Key) → holding_at new k ≡ rolled (holding_at old k)) → IfSome o (λ b. (k : Key) → holding_at new k ≡ makes b k (rolled (holding_at old k)))
     → (k : Key) → holding_at new k ≡ books (flat_map trade_entries ps) k (rolled (holding_at old k))
-opened_rows None ps old new none roll book k = roll refl k ∙ sym (ap (λ qs. books (flat_map trade_entries qs) k (rolled (holding_at old k))) none ∙ books_none k (rolled (holding_at old k)))
+opened_rows None ps old new none roll book k = let rolls = roll refl k in let same = books_none k (rolled (holding_at old k)) in grind arith
 opened_rows (Some b) ps old new made roll book k = book k ∙ made k (rolled (holding_at old k))
 
 -- a comparison in the words of the definitions

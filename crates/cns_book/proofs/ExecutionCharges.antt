@@ -1,7 +1,7 @@
 -- The batches of the closed days after an execution.
 -- For `execute` of parts/execution.rt, clause step.
 use Rattle.std.proofs.Common.{◌≡◌, ◌∙◌, ap, refl, ℕ, zero, suc, ◌+◌, ◌<◌, Bool, true, false, cond, ◌&&◌, ◌==◌, List, [], ◌∷◌, ◌++◌, filter, length, map, Some, reverse, arith, nat_lt}
-use Rattle.cns_book.proofs.Common.{Cusip, Day, Execution, Fill, Journal, Liables, Notice, Posting, batch_since, batches_since, changed_at, charged, charged_on, closings, day, entries, eqb_sym, executes, execution_entries, fills, is_close, issues, kept_batches, length-map, length-reverse, nat_list_eq_equiv, notice_at, option_map_or, posting, reverse-append, same_issue}
+use Rattle.cns_book.proofs.Common.{Cusip, Day, Execution, Fill, Journal, Liables, Notice, Posting, batch_since, batches_since, changed_at, charged, charged_on, closings, day, entries, eqb_sym, executes, execution_entries, fills, issues, kept_batches, length-map, length-reverse, nat_list_eq_equiv, notice_at, option_map_or, posting, reverse-append, same_issue}
 use Rattle.cns_terms.proofs.BatchSteps.{batch_charged, batch_same}
 use Rattle.cns_retransmit.specs.Days.{charged_if, charged_in}
 use Rattle.cns_book.proofs.RetransmittalBatches.{in_issue, since_same}
@@ -15,17 +15,13 @@ AreDaysFrom j [] = Unit {0}
 AreDaysFrom j (K ∷ Ks) = (day K ≡ j) × AreDaysFrom (suc j) Ks
 
 one_day_more : (j : ℕ) (Ks : List Journal) (K : Journal) → AreDaysFrom j Ks → day K ≡ j + length Ks → AreDaysFrom j (Ks ++ K ∷ [])
-one_day_more j [] K h e = (omega (arith, e), tt)
-one_day_more j (M ∷ Ks) K h e = (h.0, one_day_more (suc j) Ks K h.1 (omega (arith, e)))
+one_day_more j [] K h e = (omega arith, tt)
+one_day_more j (M ∷ Ks) K h e = (h.0, one_day_more (suc j) Ks K h.1 (omega arith))
 
 -- the first closed day is day 1
 days_from_one : (J : Journal) → AreDaysFrom 1 (reverse (closings J))
 days_from_one [] = tt
-days_from_one (p ∷ J) = by (is_close p.activity) (days_from_one J)
-  where
-    by : (b : Bool) → AreDaysFrom 1 (reverse (closings J)) → AreDaysFrom 1 (reverse (cond b (J ∷ closings J) (closings J)))
-    by false h = h
-    by true h = rw (reverse-append (J ∷ []) (closings J)) (one_day_more 1 (reverse (closings J)) J h (omega (arith, length-reverse (closings J))))
+days_from_one (p ∷ J) = grind (arith, reverse-append (J ∷ []) (closings J), one_day_more, length-reverse (closings J), days_from_one J)
 
 -- ---- a change of one day
 
@@ -48,17 +44,7 @@ module _ {X : Type 0} (h : X → X) (g : Journal → X) where
 -- fills leave nobody out of a batch
 charged_kept : (c : Cusip) (fs : List Fill) (bs : List Liables) → filter (λ b. nat_lt 0 (length b.members)) (map (charged_if c fs) bs) ≡ map (charged_if c fs) (filter (λ b. nat_lt 0 (length b.members)) bs)
 charged_kept c fs [] = refl
-charged_kept c fs (b ∷ bs) = ap (λ n. cond (nat_lt 0 n) (charged_if c fs b ∷ rest) rest) (as_many (same_issue b.issue c)) ∙ kept (nat_lt 0 (length b.members)) (charged_kept c fs bs)
-  where
-    rest : List Liables
-    rest = filter (λ b. nat_lt 0 (length b.members)) (map (charged_if c fs) bs)
-
-    as_many : (t : Bool) → length (cond t (record { issue = b.issue; members = map (charged fs) b.members }) b).members ≡ length b.members
-    as_many true = length-map b.members (charged fs)
-    as_many false = refl
-
-    kept : (t : Bool) → rest ≡ map (charged_if c fs) (filter (λ b. nat_lt 0 (length b.members)) bs) → cond t (charged_if c fs b ∷ rest) rest ≡ map (charged_if c fs) (cond t (b ∷ filter (λ b. nat_lt 0 (length b.members)) bs) (filter (λ b. nat_lt 0 (length b.members)) bs))
-    kept t h1 = grind arith
+charged_kept c fs (b ∷ bs) = grind (arith, length-map b.members (charged fs), charged_kept c fs bs)
 
 module _ (opening : Day) (J : Journal) (x : Execution) (k : Notice) (is : notice_at J x.notice ≡ Some k) where
   -- the execution of a notice
@@ -77,11 +63,7 @@ module _ (opening : Day) (J : Journal) (x : Execution) (k : Notice) (is : notice
 
   -- the batch of its day in an issue
   one_charged : (K : Journal) (d : Cusip) → (day K == k.given.day) ≡ true → in_issue (batch_since (post ∷ J) K) d ≡ charged_if k.given.issue (fills J x k) (in_issue (batch_since J K) d)
-  one_charged K d today = by (same_issue d k.given.issue) refl
-    where
-      by : (t : Bool) → same_issue d k.given.issue ≡ t → in_issue (batch_since (post ∷ J) K) d ≡ cond t (record { issue = d; members = map (charged (fills J x k)) (batch_since J K d) }) (in_issue (batch_since J K) d)
-      by true e = λ i. record { issue = d; members = batch_charged post J K d x k (executes_one (day K) d ∙ (λ j. today j && e j)) booked_for (nat_list_eq_equiv.symm k.given.issue d ∙ e) i }
-      by false e = λ i. record { issue = d; members = batch_same post J K d (executes_one (day K) d ∙ (λ j. today j && e j)) i }
+  one_charged K d today = grind (arith, executes_one (day K) d, batch_charged post J K d x k, batch_same post J K d, booked_for, nat_list_eq_equiv.symm k.given.issue d)
 
   all_charged : (K : Journal) (ds : List Cusip) → (day K == k.given.day) ≡ true → map (in_issue (batch_since (post ∷ J) K)) ds ≡ map (charged_if k.given.issue (fills J x k)) (map (in_issue (batch_since J K)) ds)
   all_charged K [] today = refl
@@ -93,7 +75,7 @@ module _ (opening : Day) (J : Journal) (x : Execution) (k : Notice) (is : notice
     where
       by : (t : Bool) → (day K == k.given.day) ≡ t → batches_since (post ∷ J) K ≡ cond t (charged_in k.given.issue (fills J x k) (batches_since J K)) (batches_since J K)
       by true e = ap (filter (λ b. nat_lt 0 (length b.members))) (all_charged K (issues K) e) ∙ charged_kept k.given.issue (fills J x k) (map (in_issue (batch_since J K)) (issues K))
-      by false e = since_same post J K (λ c. executes_one (day K) c ∙ (λ i. e i && same_issue c k.given.issue))
+      by false e = since_same post J K (λ c. grind (arith, executes_one (day K) c))
 
   -- the batches of all closed days
   pub batches_charged : kept_batches (post ∷ J) ≡ charged_on (kept_batches J) k.given.day k.given.issue (fills J x k)

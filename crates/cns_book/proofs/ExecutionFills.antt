@@ -1,7 +1,7 @@
 -- The fills of an execution that is not refused can be booked.
 -- For `make_fills` of parts/execution.rt, clause booked.
-use Rattle.std.proofs.Common.{◌≡◌, ◌∙◌, ap, refl, subst, sym, ℕ, ◌+◌, ◌-◌, ◌≤◌, min, ℤ, pos, Bool, true, false, cond, List, [], ◌∷◌, filter, sum_by, arith, ◌==◌, int_lt, nat_lt}
-use Rattle.cns_book.proofs.Common.{Activity, AllByRecursion, AreApart, CanBeExecuted, CanBeFilled, Contents, Execution, Fill, Follows, IsExecutable, IsInRange, Key, Liable, Member, Notice, batch, capacity, cents_of_fills, each_both, each_filter, each_weaker, filled_at, fills, fills_laid, holding_at, journal, laid, long, nat_tests, originator_at, shares_of_fills, short, stretch, sum_by-cons}
+use Rattle.std.proofs.Common.{◌≡◌, ◌∙◌, ap, subst, sym, ℕ, ◌+◌, ◌≤◌, pos, true, false, List, [], ◌∷◌, filter, sum_by, arith, ◌==◌, int_lt, nat_lt}
+use Rattle.cns_book.proofs.Common.{Activity, AllByRecursion, AreApart, CanBeExecuted, CanBeFilled, Contents, Execution, Fill, Follows, IsExecutable, IsInRange, Key, Liable, Member, Notice, batch, capacity, cents_of_fills, each_both, each_filter, each_weaker, filled_at, fills, fills_laid, holding_at, journal, laid, nat_tests, originator_at, shares_of_fills, short, sum_by-cons}
 use Rattle.std.proofs.Math.Nat.{min-le_right}
 use Rattle.cns_terms.specs.Positions.{position}
 use Rattle.cns_terms.proofs.BuyIns.{batch_once, remains_long, times}
@@ -18,22 +18,7 @@ module _ (now : Member → ℕ) (n m : ℕ) where
 
   short_each : (from : ℕ) (ls : List Liable) → AllByRecursion (λ f. 1 ≤ now f.member) (filled_from from ls)
   short_each from [] = tt
-  short_each from (l ∷ ls) = by (nat_lt 0 (min n (from + capacity now l) - from)) refl (short_each (from + capacity now l) ls)
-    where
-      some : (b : ℕ) → nat_lt 0 (min n (from + capacity now l) - from) ≡ true → capacity now l ≤ b → 1 ≤ b
-      some b h le = above (min n (from + capacity now l) - from) (capacity now l) b h (few from (capacity now l)) le
-        where
-          few : (from c : ℕ) → min n (from + c) - from ≤ c
-          few from c = omega (arith, min-le_right n (from + c))
-
-          above : (a c b : ℕ) → nat_lt 0 a ≡ true → a ≤ c → c ≤ b → 1 ≤ b
-          above a c b h p q = let one = positive a h in omega (arith, one, p, q)
-            where
-              positive : (a : ℕ) → nat_lt 0 a ≡ true → 1 ≤ a
-              positive a h = grind (arith, nat_tests)
-
-      by : (b : Bool) → nat_lt 0 (min n (from + capacity now l) - from) ≡ b → AllByRecursion (λ f. 1 ≤ now f.member) (filled_from (from + capacity now l) ls) → AllByRecursion (λ f. 1 ≤ now f.member) (cond b (stretch n m from (from + capacity now l) l.member ∷ filled_from (from + capacity now l) ls) (filled_from (from + capacity now l) ls))
-      by b h1 h2 = grind arith
+  short_each from (l ∷ ls) = grind (arith, nat_tests, min-le_right n (from + capacity now l), short_each (from + capacity now l) ls)
 
   -- ---- and distinct
 
@@ -44,14 +29,11 @@ module _ (now : Member → ℕ) (n m : ℕ) where
 
   apart_each : (from : ℕ) (ls : List Liable) → ((a : Member) → times (λ (l : Liable). l.member) a ls ≤ 1) → AreApart (filled_from from ls)
   apart_each from [] once = tt
-  apart_each from (l ∷ ls) once = by (nat_lt 0 (min n (from + capacity now l) - from)) (apart_each (from + capacity now l) ls (λ a. let o = once a in omega (arith, o)))
-    where
-      only : times (λ (k : Liable). k.member) l.member ls ≤ 0
-      only = grind arith
-
-      by : (b : Bool) → AreApart (filled_from (from + capacity now l) ls) → AreApart (cond b (stretch n m from (from + capacity now l) l.member ∷ filled_from (from + capacity now l) ls) (filled_from (from + capacity now l) ls))
-      by true h = (each_filter (λ (f : Fill). (f.member == l.member) ≡ false) (λ f. nat_lt 0 f.shares) (laid (capacity now) n m (from + capacity now l) ls) (others_each l.member (from + capacity now l) ls only), h)
-      by false h = h
+  apart_each from (l ∷ ls) once =
+      let only : times (λ (k : Liable). k.member) l.member ls ≤ 0 = grind (arith, once l.member) in
+      let others = each_filter (λ (f : Fill). (f.member == l.member) ≡ false) (λ f. nat_lt 0 f.shares) (laid (capacity now) n m (from + capacity now l) ls) (others_each l.member (from + capacity now l) ls only) in
+      let rest = apart_each (from + capacity now l) ls (λ a. let o = once a in omega (arith, o)) in
+      grind arith
 
 -- ---- no fill is for more than the whole
 
@@ -60,12 +42,6 @@ each_few h [] n le = tt
 each_few h (f ∷ fs) n le = let all = sum_by-cons h f fs in (omega (arith, all, le), each_few h fs n (omega (arith, all, le)))
 
 -- ---- all fills can be booked
-
-above_zero : (q : ℤ) (n : ℕ) → 1 ≤ n → n ≤ long q → int_lt (pos 0) q ≡ true
-above_zero q n h1 h2 = grind arith
-
-below_zero : (q : ℤ) → 1 ≤ short q → int_lt q (pos 0) ≡ true
-below_zero q h1 = grind arith
 
 pub can_execute : (L : List Activity) (s : Contents) (x : Execution) (k : Notice) → Follows L s → ((key : Key) → IsWithin (holding_at s.rows key)) → IsInRange (activity.Execute x) → IsExecutable (journal s.opening L) x k → CanBeExecuted s.rows k.given (fills (journal s.opening L) x k)
 can_execute L s x k f within range can =
@@ -77,20 +53,20 @@ can_execute L s x k f within range can =
     let laid_is : fs ≡ filled_from now x.shares x.money 0 ls = fills_laid now x.shares x.money ls in
     let remains = remains_long J k in
     let enough = can.enough in
-    let bought : x.shares ≤ long (position J k.given.member c) = omega (arith, remains, enough) in
+    let bought : int_lt (pos 0) (position J k.given.member c) ≡ true = let some = range.0 in grind arith in
     let shares = shares_of_fills now x.shares x.money ls can.roomy in
     let cents = cents_of_fills now x.shares x.money ls range.0 can.roomy in
     let sound = sound_at s.opening L k.given.day f.reached in
-    let once : (a : Member) → times (λ (l : Liable). l.member) a ls ≤ 1 = λ a. let one = batch_once J k.given.day c a in let all = sound.distinct a in omega (arith, one, all) in
+    let once : (a : Member) → times (λ (l : Liable). l.member) a ls ≤ 1 = λ a. omega (arith, batch_once J k.given.day c a, sound.distinct a) in
     record {
       bought = record {
         within = within (originator_at k.given);
-        long = ap (λ q. int_lt (pos 0) q) (λ i. (f.rows (originator_at k.given) i).now) ∙ above_zero (position J k.given.member c) x.shares range.0 bought;
+        long = ap (λ q. int_lt (pos 0) q) (λ i. (f.rows (originator_at k.given) i).now) ∙ bought;
       };
       filled = each_weaker (λ g. (1 ≤ now g.member) × ((g.shares ≤ x.shares) × (g.cents ≤ x.money))) (λ g. CanBeFilled (holding_at s.rows (filled_at k.given g)) g) fs
           (λ g h. record {
             within = within (filled_at k.given g);
-            short = ap (λ q. int_lt q (pos 0)) (λ i. (f.rows (filled_at k.given g) i).now) ∙ below_zero (position J g.member c) h.0;
+            short = ap (λ q. int_lt q (pos 0)) (λ i. (f.rows (filled_at k.given g) i).now) ∙ (let some = h.0 in grind arith);
             shares = let one = h.1.0 in let most = range.1 in omega (arith, one, most);
             cents = let one = h.1.1 in let most = range.2 in omega (arith, one, most);
           })

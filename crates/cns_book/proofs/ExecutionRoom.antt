@@ -1,12 +1,12 @@
 -- The batch of a notice, and what it can be given, as the parts show them.
 -- For `check_execution` of parts/execution.rt, clause refused, and `batch` and `batches` of parts/reading.rt.
-use Rattle.std.proofs.Common.{◌≡◌, ◌∙◌, ap, sym, refl, ℕ, zero, suc, ◌+◌, ◌^◌, ◌-◌, ◌≤◌, min, ℤ, Bool, true, false, cond, ◌||◌, ◌==◌, List, [], ◌∷◌, ◌++◌, filter, find, length, map, Option, Some, None, reverse, arith, slice_get, IfSome, unwrap_or, nat_lt, option_map, unsigned_abs}
-use Rattle.cns_book.proofs.Common.{Activity, Contents, Cusip, Day, Follows, IsSound, Journal, Key, Liable, Liables, at_close, batch, batch_in, batch_on, batch_since, batches, batches_on, batches_since, bytes_eq-Decides, capped_short, chosen, closings, corporation_limit, day, holding_at, is_close, is_listed, issues, journal, kept_batches, left_of, length-reverse, limited, list_any, nat_tests, option_map_or, reverse-append, same_issue, short, shorts}
+use Rattle.std.proofs.Common.{◌≡◌, ◌∙◌, ap, sym, refl, ℕ, zero, suc, ◌+◌, ◌^◌, ◌-◌, ◌≤◌, min, Bool, true, cond, ◌||◌, ◌==◌, List, [], ◌∷◌, ◌++◌, filter, find, length, map, Option, Some, None, reverse, arith, slice_get, unwrap_or, nat_lt, unsigned_abs}
+use Rattle.cns_book.proofs.Common.{Activity, Contents, Cusip, Day, Follows, IsSound, Journal, Key, Liable, Liables, at_close, batch, batch_in, batch_on, batch_since, batches, batches_on, batches_since, bytes_eq-Decides, capped_short, closings, corporation_limit, day, each_found, holding_at, issues, journal, kept_batches, length-reverse, limited, list_any, nat_tests, option_map_or, reverse-append, same_issue, short, shorts}
 use Rattle.std.proofs.lemmas.Option.{slice_get-map}
 use Rattle.cns_terms.specs.Positions.{position}
-use Rattle.cns_terms.proofs.BuyIns.{each_named}
 use Rattle.cns_book.proofs.RetransmittalBatches.{in_issue}
-use Rattle.cns_book.proofs.RetransmittalSteps.{chosen_none, uncalled}
+use Rattle.cns_retransmit.proofs.Lefts.{none_called}
+use Rattle.cns_book.proofs.RetransmittalSteps.{uncalled}
 
 -- ---- the closings, the first day's first
 
@@ -14,20 +14,12 @@ use Rattle.cns_book.proofs.RetransmittalSteps.{chosen_none, uncalled}
 get_last : {X : Type 0} (xs : List X) (y : X) (n : ℕ) → slice_get (xs ++ y ∷ []) n ≡ cond (length xs + 1 == suc n) (Some y) (slice_get xs n)
 get_last [] y zero = refl
 get_last [] y (suc n) = grind arith
-get_last (x ∷ xs) y zero = grind arith
-get_last (x ∷ xs) y (suc n) = grind (arith, get_last xs y n)
+get_last (x ∷ xs) y n = grind (arith, get_last xs y (n - 1))
 
 -- the close of a day stands at the place before its number
 closing_at : (J : Journal) (n : ℕ) → slice_get (reverse (closings J)) n ≡ find (λ K. day K == suc n) (closings J)
 closing_at [] n = refl
-closing_at (p ∷ J) n = by (is_close p.activity) (closing_at J n)
-  where
-    by : (b : Bool) → slice_get (reverse (closings J)) n ≡ find (λ K. day K == suc n) (closings J) → slice_get (reverse (cond b (J ∷ closings J) (closings J))) n ≡ find (λ K. day K == suc n) (cond b (J ∷ closings J) (closings J))
-    by false h = h
-    by true h =
-        ap (λ (Ks : List Journal). slice_get Ks n) (reverse-append (J ∷ []) (closings J))
-        ∙ get_last (reverse (closings J)) J n
-        ∙ (λ i. cond (length-reverse (closings J) i + 1 == suc n) (Some J) (h i))
+closing_at (p ∷ J) n = grind (arith, reverse-append (J ∷ []) (closings J), get_last (reverse (closings J)) J n, length-reverse (closings J), closing_at J n)
 
 -- no day has the number 0
 no_day_zero : (Ks : List Journal) → find (λ K. day K == 0) Ks ≡ None
@@ -37,13 +29,7 @@ no_day_zero (K ∷ Ks) = grind (arith, no_day_zero Ks)
 -- the batches of a day
 pub on_day : (J : Journal) (n : ℕ) → batches_on (kept_batches J) n ≡ batches J n
 on_day J zero = ap (λ o. batches_since J (unwrap_or o [])) (sym (no_day_zero (closings J)))
-on_day J (suc n) =
-    ap (λ o. unwrap_or o []) (slice_get-map (batches_since J) (reverse (closings J)) n ∙ ap (option_map (batches_since J)) (closing_at J n))
-    ∙ of_found (find (λ K. day K == suc n) (closings J))
-  where
-    of_found : (o : Option Journal) → unwrap_or (option_map (batches_since J) o) [] ≡ batches_since J (unwrap_or o [])
-    of_found None = refl
-    of_found (Some K) = refl
+on_day J (suc n) = grind (arith, slice_get-map (batches_since J) (reverse (closings J)) n, closing_at J n)
 
 -- ---- the batch in an issue
 
@@ -61,36 +47,17 @@ members_in g (d ∷ cs) c = by (same_issue d c) (g d) (λ e. ap g ((bytes_eq-Dec
     rest : List Liables
     rest = filter (λ b. nat_lt 0 (length b.members)) (map (in_issue g) cs)
 
-    some : (n : ℕ) → nat_lt 0 (suc n) ≡ true
-    some n = grind (arith, nat_tests)
-
-    none_either : (b : Bool) (ls : List Liable) → [] ≡ ls → cond b ls [] ≡ ls
-    none_either b ls h1 = grind arith
-
     by : (t : Bool) (ls : List Liable) → (same_issue d c ≡ true → g d ≡ g c) → g d ≡ ls → members_of (batch_in rest c) ≡ listed_members g cs c → same_issue d c ≡ t → members_of (batch_in (cond (nat_lt 0 (length ls)) (record { issue = d; members = ls } ∷ rest) rest) c) ≡ cond (t || list_any (λ e. same_issue e c) cs) (g c) []
-    by true [] same is h e = h ∙ none_either (list_any (λ e. same_issue e c) cs) (g c) (sym is ∙ same e)
-    by true (l ∷ ls) same is h e =
-        ap (λ b. members_of (batch_in (cond b (record { issue = d; members = l ∷ ls } ∷ rest) rest) c)) (some (length ls))
-        ∙ ap (λ b. members_of (cond b (Some (record { issue = d; members = l ∷ ls })) (batch_in rest c))) e ∙ sym is ∙ same e
-    by false [] same is h e = h
-    by false (l ∷ ls) same is h e =
-        ap (λ b. members_of (batch_in (cond b (record { issue = d; members = l ∷ ls } ∷ rest) rest) c)) (some (length ls))
-        ∙ ap (λ b. members_of (cond b (Some (record { issue = d; members = l ∷ ls })) (batch_in rest c))) e ∙ h
+    by t [] same is h e = grind arith
+    by t (l ∷ ls) same is h e = grind (arith, nat_tests)
 
 -- a closed day's journal is sound; so is the empty one that stands for a day that is not closed
 pub sound_at : (opening : Day) (L : List Activity) (n : ℕ) → Rattle.cns_terms.specs.Reached.IsReached opening L → IsSound (at_close (journal opening L) n)
-sound_at opening L n r = by (find (λ K. day K == n) (closings (journal opening L))) (each_named IsSound (λ K. day K == n) (closings (journal opening L)) (limited opening L r).whole.past)
-  where
-    by : (o : Option Journal) → IfSome o IsSound → IsSound (unwrap_or o [])
-    by o h1 = grind arith
+sound_at opening L n r = each_found IsSound (λ K. day K == n) [] (closings (journal opening L)) (limited opening [] tt).whole.now (limited opening L r).whole.past
 
 -- in an issue that is not listed nobody is liable
 nobody : (J K : Journal) (c : Cusip) → IsSound K → listed_members (batch_since J K) (issues K) c ≡ batch_since J K c
-nobody J K c s = by (is_listed K c) refl
-  where
-    by : (b : Bool) → is_listed K c ≡ b → cond b (batch_since J K c) [] ≡ batch_since J K c
-    by true e = refl
-    by false e = ap (map (left_of J (day K) c)) (sym (ap (chosen (shorts K c)) (uncalled K c s e) ∙ chosen_none (shorts K c)))
+nobody J K c s = grind (arith, uncalled K c s, none_called (shorts K c))
 
 -- the members of the batch of a day in an issue
 pub batch_members : (L : List Activity) (s : Contents) (n : ℕ) (c : Cusip) → Follows L s → members_of (batch_on s.batches n c) ≡ batch (journal s.opening L) n c
@@ -104,11 +71,10 @@ batch_members L s n c f =
 
 -- ---- who is short now
 
-short_capped : (q : ℤ) → unsigned_abs q ≤ corporation_limit → min (short q) (2 ^ 63 - 1) ≡ short q
-short_capped q h1 = grind arith
-
 -- how much each member is short
 pub shorts_now : (L : List Activity) (s : Contents) (c : Cusip) → Follows L s → ((k : Key) → unsigned_abs (holding_at s.rows k).now ≤ corporation_limit) → capped_short s.rows c ≡ (λ a. short (position (journal s.opening L) a c))
 shorts_now L s c f within i a =
-    (short_capped (holding_at s.rows (record { account = a; issue = c })).now (within (record { account = a; issue = c }))
-    ∙ ap short (λ j. (f.rows (record { account = a; issue = c }) j).now)) i
+    let k : Key = record { account = a; issue = c } in
+    let few = within k in
+    let capped : min (short (holding_at s.rows k).now) (2 ^ 63 - 1) ≡ short (holding_at s.rows k).now = grind arith in
+    (capped ∙ ap short (λ j. (f.rows k j).now)) i

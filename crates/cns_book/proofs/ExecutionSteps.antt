@@ -52,12 +52,10 @@ accepted_fills L s x g b f within a e =
 -- and can be booked
 pub accepted_can : (s : Contents) (x : Execution) (g : Given) (b : Liables) (fs : List Fill) → HasRoom s → IsAccepted s x g → batch_on s.batches g.day g.issue ≡ Some b → fs ≡ fills_of (capped_short s.rows g.issue) x.shares x.money b.members → CanBeExecuted s.rows g fs
 accepted_can s x g b fs r a e is =
-    let L = r.activities in
-    let n = of_notice L s x g r.follows a in
+    let n = of_notice r.activities s x g r.follows a in
     let w = rows_within s r in
-    let same : fs ≡ fills (journal s.opening L) x n.0 = is ∙ accepted_fills L s x g b r.follows w.shares a e ∙ ap (λ o. option_map_or (fills (journal s.opening L) x) o []) n.1.found in
-    subst (λ (y : Given). CanBeExecuted s.rows y fs) (sym n.1.given)
-    (subst (CanBeExecuted s.rows n.0.given) (sym same) (can_execute L s x n.0 r.follows (λ k. record { shares = w.shares k; cents = w.cents k }) a.range n.1.can))
+    let same : fs ≡ fills (journal s.opening r.activities) x n.0 = is ∙ accepted_fills r.activities s x g b r.follows w.shares a e ∙ ap (λ o. option_map_or (fills (journal s.opening r.activities) x) o []) n.1.found in
+    rw (n.1.given, same) (can_execute r.activities s x n.0 r.follows (λ k. record { shares = w.shares k; cents = w.cents k }) a.range n.1.can)
 
 -- ---- what it leaves
 

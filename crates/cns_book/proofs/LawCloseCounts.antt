@@ -1,6 +1,6 @@
 -- A close tells the date of its day, and how many rows its sheet and how many members its batches have.
 -- For `close_counts` of laws.rt.
-use Rattle.std.proofs.Common.{◌≡◌, ◌∙◌, ap, sym, subst, refl, ℕ, ◌≤◌, cond, ◌==◌, List, [], ◌∷◌, flat_map, length, Option, Some, None, arith, find, is_none, unwrap_or, length-append}
+use Rattle.std.proofs.Common.{◌≡◌, ◌∙◌, ap, sym, subst, refl, ◌≤◌, cond, List, [], ◌∷◌, flat_map, length, Option, Some, None, arith, is_none, length-append}
 use Rattle.cns_book.proofs.Common.{Command, Cusip, Day, IsWhole, Journal, Refusal, State, after, at_close, batch_at, batch_since, batches_since, closings, date, day, issues, journal, journal_of, left_of, length-map, next, opened, option_map_or, posting, refusal, sheet_rows}
 use Rattle.cns_terms.specs.declared.reply.Closed.{Closed}
 use Rattle.cns_terms.specs.Batches.{liable_at}
@@ -16,19 +16,7 @@ use Rattle.cns_terms.specs.declared.reply.Reply.TheVariants as reply
 -- executions leave the members in their batches
 still_liable : (J K : Journal) (cs : List Cusip) → length (flat_map (batch_since J K) cs) ≡ length (flat_map (batch_at K) cs)
 still_liable J K [] = refl
-still_liable J K (c ∷ cs) =
-    let here = length-map (batch_at K c) (left_of J (day K) c) in
-    let all = length-append (batch_since J K c) (flat_map (batch_since J K) cs) in
-    let all' = length-append (batch_at K c) (flat_map (batch_at K) cs) in
-    omega (arith, here, still_liable J K cs, all, all')
-
--- the batches that a close chose have the members that it made liable, whatever comes later
-counted : (J K : Journal) → liable_in (batches_since J K) ≡ length (liable_at K)
-counted J K = sum_of (batch_since J K) (issues K) ∙ still_liable J K (issues K)
-
--- the journal that a close found is found by its day
-close_found : (J : Journal) (n : ℕ) → n ≡ day J → unwrap_or (find (λ K. day K == n) (J ∷ closings J)) [] ≡ J
-close_found J n h1 = grind arith
+still_liable J K (c ∷ cs) = grind (arith, length-append, length-map (batch_at K c) (left_of J (day K) c), still_liable J K cs)
 
 -- what an accepted close tells, and what the journal has at the close of its day from then on
 by_refusal : (S : State) (more : List Command) (d : Day) (c : Closed) (o : Option Refusal) → IsWhole S.opening (journal_of S) → refusal S.opening (journal_of S) (command.Activity (activity.Close d)) ≡ o
@@ -47,14 +35,14 @@ by_refusal S more d c None w o e =
     let on : day J ≡ c.day = cc in
     let closed : journal_of S' ≡ posting S.opening J (activity.Close d) ∷ J = ap (λ r. journal S.opening (cond (is_none r) (activity.Close d ∷ S.accepted) S.accepted)) o in
     let k = keeps-after S' more (whole-next S close w) in
-    let found : at_close (journal_of S') (day J) ≡ J = ap (λ K. at_close K (day J)) closed ∙ close_found J (day J) refl in
+    let found : at_close (journal_of S') (day J) ≡ J = ap (λ K. at_close K (day J)) closed ∙ grind arith in
     let fits : day J ≤ length (closings (journal_of S')) = subst (λ K. day J ≤ length (closings K)) (sym closed) (omega arith) in
     let there : at_close J' c.day ≡ J = ap (at_close J') (sym on) ∙ k.by_place (day J) fits ∙ found in
     let same : (after S' more).opening ≡ S.opening = opening_stays S' more in
     record {
       date = (λ i. date (same i) (there i)) ∙ dated;
       rows = sym rows ∙ (λ i. length (sheet_rows (sym same i) (sym there i)));
-      liable = sym liable ∙ sym (counted J' J) ∙ ap (λ K. liable_in (batches_since J' K)) (sym there);
+      liable = sym liable ∙ sym (sum_of (batch_since J' J) (issues J) ∙ still_liable J' J (issues J)) ∙ ap (λ K. liable_in (batches_since J' K)) (sym there);
     }
 
 -- whatever is taken later, a closed day is as its close told

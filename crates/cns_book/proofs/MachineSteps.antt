@@ -1,14 +1,13 @@
 -- The machine's reply and step, by whether a command is refused.
 -- For every command, clause step.
 -- For `give_notice`, `notice_refusal` and `withdraw` of parts/notice.rt, `split` of parts/actions.rt and others.
-use Rattle.std.proofs.Common.{◌≡◌, ◌∙◌, sym, ap, subst, refl, cond, Bool, false, List, [], ◌∷◌, ◌++◌, Some, None, Ok, find, option_map, is_none, Result, IsErr}
+use Rattle.std.proofs.Common.{◌≡◌, ◌∙◌, sym, ap, subst, refl, cond, false, List, [], ◌∷◌, ◌++◌, Some, None, Ok, is_none, Result, IsErr, arith}
 use Rattle.cns_book.proofs.Common.{Activity, AllByRecursion, Command, Contents, Follows, Refusal, Reply, Rule, first_refusal, journal, option_map_or, refusal}
 use Rattle.cns_terms.specs.declared.fault.NoMemory.{NoMemory}
 use Rattle.cns_terms.specs.Machine.{activity_reply}
 use Rattle.cns_book.specs.Follows.{Steps}
 use Rattle.cns_terms.specs.declared.command.Command.TheVariants as command
 use Rattle.cns_terms.specs.declared.reply.Reply.TheVariants as reply
-use Rattle.std.proofs.Common.{arith}
 
 -- an accepted activity
 pub accepted : {s : Contents} (L : List Activity) (x : Activity) (r : Reply) → refusal s.opening (journal s.opening L) (command.Activity x) ≡ None → r ≡ activity_reply s.opening (journal s.opening L) x → Follows (x ∷ L) s → Steps L (command.Activity x) (Ok r) s
@@ -27,16 +26,12 @@ refused {s} L x r some f = (
 -- no rule's condition holds, so nothing is refused
 pub no_refusal : (rules : List Rule) → AllByRecursion (λ r. r.1 ≡ false) rules → first_refusal rules ≡ None
 no_refusal [] h = refl
-no_refusal (r ∷ rules) h = ap (λ b. option_map (λ (r : Rule). r.0) (cond b (Some r) (find (λ r. r.1) rules))) h.0 ∙ no_refusal rules h.1
+no_refusal (r ∷ rules) h = grind (arith, h.0, no_refusal rules h.1)
 
 -- what is refused by the first rules is refused by them and more
 pub still_refused : (rs ss : List Rule) (r : Refusal) → first_refusal rs ≡ Some r → first_refusal (rs ++ ss) ≡ Some r
 still_refused [] ss r h = cc
-still_refused (t ∷ rs) ss r h = by t.1 h (still_refused rs ss r)
-  where
-    by : (b : Bool) → option_map (λ (r : Rule). r.0) (cond b (Some t) (find (λ r. r.1) rs)) ≡ Some r → (first_refusal rs ≡ Some r → first_refusal (rs ++ ss) ≡ Some r)
-        → option_map (λ (r : Rule). r.0) (cond b (Some t) (find (λ r. r.1) (rs ++ ss))) ≡ Some r
-    by b h1 h2 = grind arith
+still_refused (t ∷ rs) ss r h = grind (arith, still_refused rs ss r)
 
 -- without memory nothing that is shown has changed
 pub stopped : {s : Contents} (L : List Activity) (cmd : Command) (r : Result Reply NoMemory) → IsErr r → refusal s.opening (journal s.opening L) cmd ≡ None → Follows L s → Steps L cmd r s

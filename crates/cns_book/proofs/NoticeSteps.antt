@@ -1,9 +1,9 @@
 -- Notices and withdrawals: what they are refused for, and what they leave.
 -- For parts/notice.rt, clauses refusal and step.
 -- For `give_notice`, `withdraw_refusal`, `notice_refusal` and `withdraw` of parts/notice.rt and others.
-use Rattle.std.proofs.Common.{◌≡◌, ◌∙◌, ap, sym, refl, ℕ, zero, suc, ◌+◌, ◌-◌, ◌≤◌, ℤ, pos, Bool, true, false, not, cond, List, [], ◌∷◌, ◌++◌, length, map, Option, Some, None, ◌⊎◌, is_none, is_some, arith, slice_get, IsSomeAnd, ◌==◌, find, int_le, nat_le, option_map}
-use Rattle.std.proofs.lemmas.Option.{same_Some}
-use Rattle.cns_book.proofs.Common.{Activity, AlreadyNoticed, Contents, Day, Ended, ExceedsPosition, Expired, Follows, FollowsNotices, FollowsPending, IsInRange, Journal, Live, Movement, NoSuchIssue, NoSuchMember, NoSuchNotice, NotLive, NotLong, Notice, Noticed, Posting, Refusal, Retired, Rule, Stage, Withdrawn, books, changed_each, changed_one, entries, first_reached, first_refusal, holding_at, is_close, is_exceeded, is_listed, is_live, is_member, is_retired, is_seen, is_so, issue_rules, journal, kept_found, length-map, live_number, nat_tests, notice_at, notices, option_map_or, posting, refusal, remaining_by, stage, with_notice}
+use Rattle.std.proofs.Common.{◌≡◌, ◌∙◌, ap, sym, refl, ℕ, zero, suc, ◌+◌, ◌-◌, ◌≤◌, ℤ, pos, true, false, cond, List, [], ◌∷◌, ◌++◌, length, map, Some, None, ◌⊎◌, is_some, arith, ◌==◌, find, int_le, option_map}
+use Rattle.std.proofs.lemmas.Option.{same_Some, slice_get_past}
+use Rattle.cns_book.proofs.Common.{Activity, AlreadyNoticed, Contents, Day, Ended, ExceedsPosition, Expired, Follows, FollowsNotices, FollowsPending, IsInRange, Journal, Live, Movement, NoSuchNotice, NotLive, NotLong, Notice, Noticed, Posting, Refusal, Rule, Stage, Withdrawn, books, changed_each, changed_one, entries, first_refusal, holding_at, is_close, is_exceeded, is_listed, is_live, is_member, is_retired, is_seen, issue_rules, journal, kept_found, length-map, live_number, notice_at, notices, option_map_or, posting, refusal, remaining_by, with_notice}
 use Rattle.cns_terms.specs.declared.buy_in.Given.{Given}
 use Rattle.cns_terms.specs.Notices.{live_notice}
 use Rattle.cns_terms.specs.Positions.{position}
@@ -15,7 +15,7 @@ use Rattle.cns_notices.proofs.Noticing.{changed_same, notice_found, notice_more,
 use Rattle.cns_book.specs.Follows.{member_position}
 use Rattle.cns_terms.specs.declared.command.Activity.TheVariants as activity
 use Rattle.cns_terms.specs.declared.command.Command.TheVariants as command
-use Rattle.cns_book.specs.Shown.{notice_listed, notice_of}
+use Rattle.cns_book.specs.Shown.{notice_listed}
 use Rattle.cns_book.proofs.RetransmittalCalls.{remaining_same}
 use Rattle.cns_book.proofs.EffectPlaces.{books_none}
 use Rattle.cns_book.proofs.MachineSteps.{still_refused}
@@ -44,43 +44,26 @@ receipt_counted {s} L m f =
 pub notice_given : (L : List Activity) (s : Contents) (m : Movement) → Follows L s → IsInRange (activity.Notice m) → refusal s.opening (journal s.opening L) (command.Activity (activity.Notice m)) ≡ None
     → Follows (activity.Notice m ∷ L) (record s { notices = s.notices ++ new_notice (record { member = m.member; issue = m.issue; shares = m.shares; day = s.closes + 1 }) ∷ [] })
 notice_given L s m f range none =
-    let J = journal s.opening L in
-    let p : Posting = posting s.opening J (activity.Notice m) in
     noticed_by L s (activity.Notice m) _ f range none refl refl refl refl refl f.pending (λ r. refl)
-    ((λ i. f.notices i ++ new_notice (record { member = m.member; issue = m.issue; shares = m.shares; day = f.clock.closes i + 1 }) ∷ []) ∙ sym (notice_more p J m (λ k y. refl)))
+    (grind (arith, f.notices, f.clock.closes, notice_more (posting s.opening (journal s.opening L) (activity.Notice m)) (journal s.opening L) m (λ k y. refl)))
 
 -- a notice in an issue that is not listed or retired is refused for that
 pub notice_issue : (L : List Activity) (s : Contents) (m : Movement) (q : ℤ) (r : Refusal) → Some q ≡ member_position (journal s.opening L) m.member m.issue
     → first_refusal (issue_rules (is_listed (journal s.opening L) m.issue) (is_retired (journal s.opening L) m.issue)) ≡ Some r → refusal s.opening (journal s.opening L) (command.Activity (activity.Notice m)) ≡ Some r
 notice_issue L s m q r member h =
     let J = journal s.opening L in
-    let known = there (is_member J m.member) (position J m.member m.issue) q member in
     let live = live_notice J m.member m.issue in
     let rest : List Rule = (ExceedsPosition, is_exceeded (position J m.member m.issue) m.shares) ∷ (NotLong, int_le (position J m.member m.issue) (pos 0)) ∷ (AlreadyNoticed (option_map_or (λ n. n.number) live 0), is_some live) ∷ [] in
-    (λ i. first_refusal ((NoSuchMember, not (known i)) ∷ (NoSuchIssue, not (is_listed J m.issue)) ∷ (Retired, is_retired J m.issue) ∷ rest))
-    ∙ still_refused (issue_rules (is_listed J m.issue) (is_retired J m.issue)) rest r h
-  where
-    there : (b : Bool) (p q : ℤ) → Some q ≡ cond b (Some p) None → b ≡ true
-    there b p q h1 = grind arith
+    let more = still_refused (issue_rules (is_listed J m.issue) (is_retired J m.issue)) rest r h in
+    grind arith
 
 -- what a notice is refused for, where it is of a long member's shares in a current issue
 pub notice_answer : (L : List Activity) (s : Contents) (m : Movement) (q : ℤ) → Follows L s → Some q ≡ cond (is_member (journal s.opening L) m.member) (Some (position (journal s.opening L) m.member m.issue)) None → is_listed (journal s.opening L) m.issue ≡ true → is_retired (journal s.opening L) m.issue ≡ false
     → is_exceeded q m.shares ≡ false → int_le q (pos 0) ≡ false → refusal s.opening (journal s.opening L) (command.Activity (activity.Notice m)) ≡ option_map AlreadyNoticed (live_number s.notices m.member m.issue)
 notice_answer L s m q f member listed current enough long =
-    let J = journal s.opening L in
-    let at = member_at (is_member J m.member) (position J m.member m.issue) q member in
-    (λ i. first_refusal (
-    (NoSuchMember, not (at.0 i)) ∷ (NoSuchIssue, not (listed i)) ∷ (Retired, current i)
-    ∷ (ExceedsPosition, (ap (λ z. is_exceeded z m.shares) at.1 ∙ enough) i) ∷ (NotLong, (ap (λ z. int_le z (pos 0)) at.1 ∙ long) i)
-    ∷ (AlreadyNoticed (option_map_or (λ n. n.number) (live_notice J m.member m.issue) 0), is_some (live_notice J m.member m.issue)) ∷ []))
-    ∙ by (live_notice J m.member m.issue)
-    ∙ ap (option_map AlreadyNoticed) (sym (ap (λ xs. live_number xs m.member m.issue) f.notices ∙ live_same J m.member m.issue))
-  where
-    member_at : (b : Bool) (p q : ℤ) → Some q ≡ cond b (Some p) None → (b ≡ true) × (p ≡ q)
-    member_at b p q h1 = grind arith
-
-    by : (o : Option Notice) → first_refusal ((NoSuchMember, false) ∷ (NoSuchIssue, false) ∷ (Retired, false) ∷ (ExceedsPosition, false) ∷ (NotLong, false) ∷ (AlreadyNoticed (option_map_or (λ n. n.number) o 0), is_some o) ∷ []) ≡ option_map AlreadyNoticed (option_map (λ n. n.number) o)
-    by o = grind arith
+    let live = live_same (journal s.opening L) m.member m.issue in
+    let kept = f.notices in
+    grind arith
 
 -- how many notices there are
 pub notices_counted : (L : List Activity) (s : Contents) → Follows L s → length s.notices ≡ length (notices (journal s.opening L))
@@ -99,56 +82,23 @@ notice_missing L s k f never = by k never
     found [] j h = refl
     found (n ∷ ns) j h = grind (arith, found ns (suc j) h.1)
 
-    past : (xs : List Notice) (i : ℕ) → length xs ≤ i → slice_get xs i ≡ None
-    past [] i h = refl
-    past (x ∷ xs) zero h = absurd (omega (arith, h))
-    past (x ∷ xs) (suc i) h = past xs i (omega (arith, h))
-
     by : (k : ℕ) → ((1 ≤ k) × (k ≤ length s.notices) → ⊥) → notice_at J k ≡ None
     by zero never = found (notices J) 0 (numbered J)
-    by (suc k) never = notice_found J (suc k) (omega arith) ∙ past (notices J) (suc k - 1) (beyond k (length s.notices) (length (notices J)) (notices_counted L s f) (λ h. never (omega arith, h)))
-      where
-        beyond : (k m n : ℕ) → m ≡ n → (suc k ≤ m → ⊥) → n ≤ suc k - 1
-        beyond k m n e never = elim (nat_le (suc k) m) as (λ b. nat_le (suc k) m ≡ b → n ≤ suc k - 1) [ true ↦ λ t. absurd (never (is_le (suc k) m t)) | false ↦ λ t. is_more (suc k) m n e t ] refl
-          where
-            is_le : (a b : ℕ) → nat_le a b ≡ true → a ≤ b
-            is_le a b h = grind (arith, nat_tests)
-
-            is_more : (a m n : ℕ) → m ≡ n → nat_le a m ≡ false → n ≤ a - 1
-            is_more a m n e h = grind (arith, nat_tests)
-
--- where one has it, it is found as it is kept
-pub notice_there : (L : List Activity) (s : Contents) (k : ℕ) (x : Noticed) → Follows L s → 1 ≤ k → kept_at s.notices k ≡ Some x → IsSomeAnd (notice_at (journal s.opening L) k) (λ n. kept (journal s.opening L) n ≡ x)
-notice_there L s k x h1 h2 h3 = grind (arith, kept_found, kept)
+    by (suc k) never = notice_found J (suc k) (omega arith) ∙ slice_get_past (notices J) (suc k - 1) (grind (arith, notices_counted L s f))
 
 -- ---- a withdrawal
 
 -- what a withdrawal is refused for
 pub withdraw_missing : (opening : Day) (L : List Activity) (k : ℕ) → notice_at (journal opening L) k ≡ None → refusal opening (journal opening L) (command.Activity (activity.Withdraw k)) ≡ Some NoSuchNotice
-withdraw_missing opening L k h = ap (λ o. first_refusal ((NoSuchNotice, is_none o) ∷ (NotLive, is_so (λ n. not (is_live (stage (journal opening L) n))) o) ∷ [])) h
-
-pub withdraw_there : (opening : Day) (L : List Activity) (k : ℕ) (x : Noticed) → IsSomeAnd (notice_at (journal opening L) k) (λ n. kept (journal opening L) n ≡ x) → refusal opening (journal opening L) (command.Activity (activity.Withdraw k)) ≡ cond (is_live x.stage) None (Some NotLive)
-withdraw_there opening L k x h1 = grind arith
+withdraw_missing opening L k h = rw h refl
 
 -- by its stage
 pub withdraw_by_stage : (L : List Activity) (s : Contents) (k : ℕ) (st : Stage) → Follows L s → 1 ≤ k → Some st ≡ option_map (λ (x : Noticed). x.stage) (kept_at s.notices k) → refusal s.opening (journal s.opening L) (command.Activity (activity.Withdraw k)) ≡ cond (is_live st) None (Some NotLive)
-withdraw_by_stage L s k st f le is = by (kept_at s.notices k) refl is
-  where
-    by : (o : Option Noticed) → kept_at s.notices k ≡ o → Some st ≡ option_map (λ (x : Noticed). x.stage) o → refusal s.opening (journal s.opening L) (command.Activity (activity.Withdraw k)) ≡ cond (is_live st) None (Some NotLive)
-    by None e h = cc
-    by (Some x) e h = withdraw_there s.opening L k x (notice_there L s k x f le e) ∙ ap (λ t. cond (is_live t) None (Some NotLive)) (same_Some x.stage st (sym h))
+withdraw_by_stage L s k st f le is = let kept = f.notices in grind (arith, kept_found, kept)
 
 -- a stage that is not live
 pub not_live : (st : Stage) → (st ≡ Withdrawn) ⊎ ((st ≡ Ended) ⊎ (st ≡ Expired)) → is_live st ≡ false
 not_live st h1 = grind arith
-
--- a notice that is taken back at a stage
-abbrev back : Noticed → Stage → Noticed
-back y t = record { given = y.given; stage = first_reached t Withdrawn; received = y.received; executed = y.executed }
-
--- a live one is withdrawn
-withdrawn_one : (y : Noticed) → y.stage ≡ Live → taken_back y ≡ at_stage Withdrawn y
-withdrawn_one y h = ap (back y) h
 
 -- the notices after a withdrawal
 pub notice_withdrawn : (L : List Activity) (s : Contents) (k : ℕ) → Follows L s → refusal s.opening (journal s.opening L) (command.Activity (activity.Withdraw k)) ≡ None → 1 ≤ k → Some Live ≡ option_map (λ (x : Noticed). x.stage) (kept_at s.notices k)
@@ -157,33 +107,16 @@ notice_withdrawn L s k f none le live =
     let J = journal s.opening L in
     let p : Posting = posting s.opening J (activity.Withdraw k) in
     noticed_by L s (activity.Withdraw k) _ f tt none refl refl refl refl refl f.pending (λ r. refl)
-    (sym (changed_same taken_back (at_stage Withdrawn) (k - 1) s.notices (λ x e. withdrawn_one x (at_once x e)))
+    (sym (changed_same taken_back (at_stage Withdrawn) (k - 1) s.notices (λ x e. grind (arith, same_Some)))
     ∙ ap (with_notice taken_back k) f.notices
     ∙ sym (changed_one J p taken_back k le (λ j y. withdrawn_by (k == j) y)))
-  where
-    at_once : (x : Noticed) → slice_get s.notices (k - 1) ≡ Some x → x.stage ≡ Live
-    at_once x e = same_Some x.stage Live (sym (live ∙ ap (option_map (λ (y : Noticed). y.stage)) e))
 
 -- ---- a notice as it is shown
 
 -- the notice with a number, by what is kept of it
 pub notice_read : (L : List Activity) (s : Contents) (k : ℕ) (g : Given) (st : Stage) (m : ℕ) → Follows L s → 1 ≤ k → Some g ≡ option_map (λ (x : Noticed). x.given) (kept_at s.notices k) → Some st ≡ option_map (λ (x : Noticed). x.stage) (kept_at s.notices k) → Some m ≡ option_map (remaining_by s.rows) (kept_at s.notices k)
     → Some (record { member = g.member; issue = g.issue; shares = g.shares; given = g.day; stage = st; remaining = m }) ≡ notice_listed (journal s.opening L) k
-notice_read L s k g st m f le p q r = by (kept_at s.notices k) refl p q r
-  where
-    J : Journal
-    J = journal s.opening L
-
-    shown : (o : Option Notice) (x : Noticed) → IsSomeAnd o (λ n. kept J n ≡ x) → g ≡ x.given → st ≡ x.stage → m ≡ remaining_by s.rows x
-        → Some (record { member = g.member; issue = g.issue; shares = g.shares; given = g.day; stage = st; remaining = m }) ≡ option_map (notice_of J) o
-    shown None x h a b d = absurd h
-    shown (Some n) x h a b d =
-        let given = a ∙ ap (λ (y : Noticed). y.given) (sym h) in
-        let now = b ∙ ap (λ (y : Noticed). y.stage) (sym h) in
-        let left = d ∙ ap (remaining_by s.rows) (sym h) ∙ remaining_same L s f n in
-        λ i. Some (record { member = (given i).member; issue = (given i).issue; shares = (given i).shares; given = (given i).day; stage = now i; remaining = left i })
-
-    by : (o : Option Noticed) → kept_at s.notices k ≡ o → Some g ≡ option_map (λ (x : Noticed). x.given) o → Some st ≡ option_map (λ (x : Noticed). x.stage) o → Some m ≡ option_map (remaining_by s.rows) o
-        → Some (record { member = g.member; issue = g.issue; shares = g.shares; given = g.day; stage = st; remaining = m }) ≡ notice_listed J k
-    by None e a b d = cc
-    by (Some x) e a b d = shown (notice_at J k) x (notice_there L s k x f le e) (same_Some g x.given a) (same_Some st x.stage b) (same_Some m (remaining_by s.rows x) d)
+notice_read L s k g st m f le p q r =
+    let found = kept_found (journal s.opening L) k le in
+    let kept = f.notices in
+    grind (arith, remaining_same L s f)

@@ -1,16 +1,14 @@
 -- What an activity leaves: of each group of parts, which activities change it.
 -- For every command, clause step.
 -- For `declare_dividend` of parts/dividend.rt, `list_issue`, `add_member` and `set_price` of parts/listing.rt and others.
-use Rattle.std.proofs.Common.{◌≡◌, ◌∙◌, sym, ap, Bool, true, false, ◌&&◌, cond, [], ◌∷◌, None, is_some, map, reverse}
-use Rattle.cns_book.proofs.Common.{Activity, Contents, FollowsListings, FollowsNotices, FollowsPending, FollowsRows, Journal, Key, Posting, Rows, batches_since, books, closings, entries, exchanged, holding_at, is_close, posting}
+use Rattle.std.proofs.Common.{◌≡◌, ◌∙◌, sym, ap, Bool, true, false, [], ◌∷◌, None, is_some, reverse, arith}
+use Rattle.cns_book.proofs.Common.{Activity, Contents, FollowsListings, FollowsNotices, FollowsRows, Journal, Key, Rows, books, closings, entries, exchanged, holding_at, is_close, posting}
 use Rattle.cns_terms.specs.declared.command.Activity.TheVariants as activity
 use Rattle.cns_terms.specs.Dividends.{declared}
-use Rattle.cns_terms.specs.Listings.{traded}
 use Rattle.cns_terms.specs.Notices.{executed}
 use Rattle.cns_book.specs.Follows.{FollowsBatches, FollowsClock, FollowsDividends, FollowsSheets}
 use Rattle.cns_book.proofs.RetransmittalBatches.{batches_same, executes_none}
 use Rattle.cns_book.proofs.EffectPlaces.{holding-post}
-use Rattle.std.proofs.Common.{arith}
 
 -- whether an activity changes members, listed issues or retired ones
 abbrev pub is_listing : Activity → Bool
@@ -35,35 +33,19 @@ is_noticing _ = false
 abbrev pub is_execution : Activity → Bool
 is_execution x = is_some (executed x)
 
--- whether an activity is a trade
-abbrev pub is_trade : Activity → Bool
-is_trade x = is_some (traded x)
-
 -- whether an activity declares a dividend
 abbrev pub is_dividend : Activity → Bool
 is_dividend x = is_some (declared x)
-
--- an exchange alone changes listings and touches notices
-no_exchange : (x : Activity) → (is_listing x && is_noticing x) ≡ false → exchanged x ≡ None
-no_exchange x h1 = grind arith
 
 module _ (s : Contents) (J : Journal) where
   abbrev after : Activity → Journal
   after x = posting s.opening J x ∷ J
 
   pub clock_stays : (x : Activity) → is_close x ≡ false → FollowsClock J s → FollowsClock (after x) s
-  clock_stays (activity.Close d) h f = cc
-  clock_stays _ h f = record { today = f.today; closes = f.closes }
+  clock_stays x h f = grind arith
 
   pub listings_stay : (x : Activity) → is_listing x ≡ false → FollowsListings J s → FollowsListings (after x) s
-  listings_stay (activity.Member m) h f = cc
-  listings_stay (activity.Issue l) h f = cc
-  listings_stay (activity.Price l) h f = cc
-  listings_stay (activity.Exchange x) h f = cc
-  listings_stay _ h f = record { members = f.members; prices = f.prices; retired = f.retired }
-
-  pub pending_stays : (x : Activity) → is_close x ≡ false → is_trade x ≡ false → FollowsPending J s → FollowsPending (after x) s
-  pending_stays x h1 h2 h3 = grind arith
+  listings_stay x h f = grind arith
 
   pub dividends_stay : (x : Activity) → is_dividend x ≡ false → FollowsDividends J s → FollowsDividends (after x) s
   dividends_stay x h1 h2 = grind arith
@@ -73,7 +55,7 @@ module _ (s : Contents) (J : Journal) where
 
   -- what an activity books that is no exchange, and no more, is the effect on the rows
   pub rows_booked : (x : Activity) (rows : Rows) → is_close x ≡ false → is_listing x ≡ false → ((k : Key) → holding_at rows k ≡ books (entries s.opening J x) k (holding_at s.rows k)) → FollowsRows J s → FollowsRows (after x) (record s { rows = rows })
-  rows_booked x rows still unlisted b f k = b k ∙ ap (books (entries s.opening J x) k) (f k) ∙ sym (holding-post (posting s.opening J x) J k still (no_exchange x (ap (λ b. b && is_noticing x) unlisted)))
+  rows_booked x rows still unlisted b f k = let none : exchanged x ≡ None = grind arith in b k ∙ ap (books (entries s.opening J x) k) (f k) ∙ sym (holding-post (posting s.opening J x) J k still none)
 
   -- an activity that books nothing and touches no notice leaves them
   pub rows_stay : (x : Activity) → is_close x ≡ false → is_noticing x ≡ false → entries s.opening J x ≡ [] → FollowsRows J s → FollowsRows (after x) s
@@ -86,6 +68,5 @@ module _ (s : Contents) (J : Journal) where
   -- one that executes none leaves the batches
   pub batches_stay : (x : Activity) → is_close x ≡ false → is_execution x ≡ false → FollowsBatches J s → FollowsBatches (after x) s
   batches_stay x still unexecuted f =
-      let p : Posting = posting s.opening J x in
-      f ∙ sym (batches_same p J (reverse (closings J)) (λ n c. executes_none J n c x unexecuted))
-      ∙ ap (λ b. map (batches_since (p ∷ J)) (reverse (cond b (J ∷ closings J) (closings J)))) (sym still)
+      let same = batches_same (posting s.opening J x) J (reverse (closings J)) (λ n c. executes_none J n c x unexecuted) in
+      grind arith

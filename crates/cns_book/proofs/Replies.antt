@@ -14,25 +14,15 @@ same_reply : (rs : List Reply) (r : Reply) (p : Option ℕ) → IsAmong rs p →
 same_reply rs r None h = refl
 same_reply rs r (Some k) h = unwrap_or-slice_get (rs ++ r ∷ []) k reply.Accepted ∙ get_or-append rs (r ∷ []) reply.Accepted k h ∙ sym (unwrap_or-slice_get rs k reply.Accepted)
 
-still_among : (rs : List Reply) (r : Reply) (p : Option ℕ) → IsAmong rs p → IsAmong (rs ++ r ∷ []) p
-still_among rs r None h = tt
-still_among rs r (Some k) h = omega (arith, length-append rs (r ∷ []), h)
-
 -- one reply more
 pub longer : (rs : List Reply) (r : Reply) → Stays rs (rs ++ r ∷ [])
 longer rs r [] all = (tt, refl)
-longer rs r (b ∷ bs) all =
-    let rest = longer rs r bs all.1 in
-    ((still_among rs r b.place all.0, rest.0), rw (same_reply rs r b.place all.0, rest.1) refl)
+longer rs r (b ∷ bs) all = grind (arith, length-append, same_reply rs r b.place all.0, longer rs r bs all.1)
 
 -- the reply that was added
 pub newest : (rs : List Reply) (r : Reply) → reply_in (rs ++ r ∷ []) (Some (length rs)) ≡ r
 newest rs r = unwrap_or-slice_get (rs ++ r ∷ []) (length rs) reply.Accepted ∙ get_or-append_seam rs r [] reply.Accepted
 
 -- one entry more
-pub among_more : (rs : List Reply) (bs : List Brief) (b : Brief) → AreAmong rs bs → IsAmong rs b.place → AreAmong rs (bs ++ b ∷ [])
-among_more rs [] b all one = (one, tt)
-among_more rs (x ∷ bs) b all one = (all.0, among_more rs bs b all.1 one)
-
 pub taken_more : (old new : List Reply) (bs : List Brief) (b : Brief) → Stays old new → AreAmong old bs → map (taken_in new) (bs ++ b ∷ []) ≡ map (taken_in old) bs ++ taken_in new b ∷ []
-taken_more old new bs b stays all = map-append (taken_in new) bs (b ∷ []) ∙ (rw ((stays bs all).1) refl)
+taken_more old new bs b stays all = grind (arith, map-append, (stays bs all).1)

@@ -1,12 +1,11 @@
 -- The batches of the closed days after one activity more.
 -- For every command, clause step.
 -- For `count_by` of closed_days.rt, `give_notice`, `withdraw_refusal` and `notice_refusal` of parts/notice.rt and others.
-use Rattle.std.proofs.Common.{◌≡◌, ◌∙◌, ap, refl, ℕ, false, List, [], ◌∷◌, ◌++◌, length, map, filter, is_some, reverse, nat_lt}
-use Rattle.cns_book.proofs.Common.{Activity, AllByRecursion, Cusip, Day, Journal, Liable, Liables, Posting, batch_since, batches_since, closings, day, executes, issues, kept_batches, map-append, map_each, posting, reverse-append}
+use Rattle.std.proofs.Common.{◌≡◌, ◌∙◌, ap, refl, ℕ, false, List, [], ◌∷◌, ◌++◌, length, map, filter, is_some, reverse, nat_lt, arith}
+use Rattle.cns_book.proofs.Common.{Activity, Cusip, Day, Journal, Liable, Liables, Posting, batch_since, batches_since, closings, day, executes, issues, kept_batches, map-append, posting, reverse-append}
 use Rattle.cns_terms.specs.Notices.{executed}
 use Rattle.cns_terms.proofs.BatchSteps.{batch_same}
 use Rattle.cns_terms.specs.declared.command.Activity.TheVariants as activity
-use Rattle.std.proofs.Common.{arith}
 
 -- an activity that is no execution executes no notice
 pub executes_none : (J : Journal) (n : ℕ) (c : Cusip) (x : Activity) → is_some (executed x) ≡ false → executes J n c x ≡ false
@@ -18,12 +17,11 @@ in_issue f c = record { issue = c; members = f c }
 
 -- the batches of a day, after an activity that executes no notice of that day
 pub since_same : (p : Posting) (J K : Journal) → ((c : Cusip) → executes J (day K) c p.activity ≡ false) → batches_since (p ∷ J) K ≡ batches_since J K
-since_same p J K h =
-    ap (λ bs. filter (λ b. nat_lt 0 (length b.members)) bs) (map_each (in_issue (batch_since (p ∷ J) K)) (in_issue (batch_since J K)) (issues K) (each (issues K)))
+since_same p J K h = ap (filter (λ b. nat_lt 0 (length b.members))) (each (issues K))
   where
-    each : (cs : List Cusip) → AllByRecursion (λ c. in_issue (batch_since (p ∷ J) K) c ≡ in_issue (batch_since J K) c) cs
-    each [] = tt
-    each (c ∷ cs) = ((λ i. record { issue = c; members = batch_same p J K c (h c) i }), each cs)
+    each : (cs : List Cusip) → map (in_issue (batch_since (p ∷ J) K)) cs ≡ map (in_issue (batch_since J K)) cs
+    each [] = refl
+    each (c ∷ cs) = grind (arith, batch_same p J K c (h c), each cs)
 
 -- those of many days, after one that executes none at all
 pub batches_same : (p : Posting) (J : Journal) (Ks : List Journal) → ((n : ℕ) (c : Cusip) → executes J n c p.activity ≡ false) → map (batches_since (p ∷ J)) Ks ≡ map (batches_since J) Ks

@@ -1,11 +1,11 @@
 -- The batches that a close chooses are those of the definitions.
 -- For `choose_batches` of parts/retransmittal.rt, clause batches.
-use Rattle.std.proofs.Common.{◌≡◌, ◌∙◌, ap, sym, refl, Bool, true, cond, List, [], ◌∷◌, filter, length, map, Option, Some, None, nat_cmp, bytes_eq, nat_lt, option_map}
-use Rattle.cns_book.proofs.Common.{CalledIn, Cusip, Liable, Liables, and_left, and_right, batches_of, below_all, both_true, bytes_eq-Decides, called_in, chosen, exact_bytes, find_filter, find_with, is_rising, is_sorted, kept_if, list_any, nat_list_cmp_total, option_map_or, same_lists, same_test, slice_cmp, sorted_filter}
+use Rattle.std.proofs.Common.{◌≡◌, ◌∙◌, ap, sym, refl, Bool, true, cond, List, [], ◌∷◌, filter, length, map, Option, Some, None, nat_cmp, bytes_eq, nat_lt, option_map, arith}
+use Rattle.cns_book.proofs.Common.{CalledIn, Cusip, Liable, Liables, batches_of, below_all, bytes_eq-Decides, called_in, chosen, exact_bytes, find_filter, find_with, is_rising, is_sorted, kept_if, list_any, nat_list_cmp_total, option_map_or, same_lists, same_test, slice_cmp, sorted_filter}
 use Rattle.std.specs.FinMap.{find}
 use Rattle.cns_terms.proofs.Valued.{sorted_with}
 use Rattle.cns_retransmit.specs.Calls.{batch_of}
-use Rattle.std.proofs.Common.{arith}
+use Rattle.std.proofs.lemmas.Simd.{map-map}
 
 -- whether anybody is liable
 abbrev has_members : Liables → Bool
@@ -19,11 +19,11 @@ with_batches es = map (λ e. (e.0, batch_of e)) es
 
 below_batches : (c : Cusip) (es : List (Cusip × CalledIn)) → below_all (slice_cmp nat_cmp) c es ≡ true → below_all (slice_cmp nat_cmp) c (with_batches es) ≡ true
 below_batches c [] h = refl
-below_batches c (e ∷ es) h = both_true _ _ (and_left _ _ h) (below_batches c es (and_right _ _ h))
+below_batches c (e ∷ es) h = grind (arith, below_batches c es)
 
 sorted_batches : (es : List (Cusip × CalledIn)) → is_sorted (slice_cmp nat_cmp) es ≡ true → is_sorted (slice_cmp nat_cmp) (with_batches es) ≡ true
 sorted_batches [] h = refl
-sorted_batches (e ∷ es) h = both_true _ _ (below_batches e.0 es (and_left _ _ h)) (sorted_batches es (and_right _ _ h))
+sorted_batches (e ∷ es) h = grind (arith, below_batches e.0 es, sorted_batches es)
 
 -- the batch of an issue
 find_batch : (c : Cusip) (es : List (Cusip × CalledIn)) → find (slice_cmp nat_cmp) c (with_batches es) ≡ option_map (λ x. batch_of (c, x)) (called_in es c)
@@ -45,14 +45,6 @@ filtered_values : (es : List (Cusip × Liables)) → map (λ e. e.1) (filter (λ
 filtered_values [] = refl
 filtered_values (e ∷ es) = grind (arith, filtered_values es)
 
-values_of : (es : List (Cusip × CalledIn)) → map (λ e. e.1) (with_batches es) ≡ map batch_of es
-values_of [] = refl
-values_of (e ∷ es) = ap (λ bs. batch_of e ∷ bs) (values_of es)
-
-values_with : {X : Type 0} (p : Cusip → X) (cs : List Cusip) → map (λ (e : Cusip × X). e.1) (map (λ d. (d, p d)) cs) ≡ map p cs
-values_with p [] = refl
-values_with p (c ∷ cs) = ap (λ xs. p c ∷ xs) (values_with p cs)
-
 -- the batches of what is called are those of the issues
 pub batches_same : (g : Cusip → List Liable) (cs : List Cusip) (es : List (Cusip × CalledIn)) → is_rising (slice_cmp nat_cmp) cs ≡ true → is_sorted (slice_cmp nat_cmp) es ≡ true → AreSameBatches g cs es → batches_of es ≡ filter has_members (map (λ c. record { issue = c; members = g c }) cs)
 batches_same g cs es rising sorted h =
@@ -69,6 +61,6 @@ batches_same g cs es rising sorted h =
     ∙ ap (kept_if has_members) (sym (find_with p c cs))
     ∙ sym (find_filter nat_list_cmp_total has_members c ys t) in
     let lists = same_lists nat_list_cmp_total exact_bytes (filter (λ e. has_members e.1) xs) (filter (λ e. has_members e.1) ys) (sorted_filter nat_list_cmp_total has_members xs s) (sorted_filter nat_list_cmp_total has_members ys t) alike in
-    ap (filter has_members) (sym (values_of es)) ∙ sym (filtered_values xs)
+    ap (filter has_members) (sym (map-map (λ e. e.1) (λ e. (e.0, batch_of e)) es)) ∙ sym (filtered_values xs)
     ∙ ap (map (λ e. e.1)) lists
-    ∙ filtered_values ys ∙ ap (filter has_members) (values_with p cs)
+    ∙ filtered_values ys ∙ ap (filter has_members) (map-map (λ e. e.1) (λ c. (c, p c)) cs)

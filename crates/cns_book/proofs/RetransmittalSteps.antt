@@ -1,10 +1,9 @@
 -- Whom a close makes liable, from what is called and who is short.
 -- For `choose_batches` of parts/retransmittal.rt and `close_day` of parts/closing.rt, clause step.
-use Rattle.std.proofs.Common.{◌≡◌, ◌∙◌, ap, sym, subst, refl, ℕ, suc, ◌+◌, ◌*◌, ◌^◌, ◌≤◌, ◌<◌, Bool, true, false, cond, ◌&&◌, ◌==◌, List, [], ◌∷◌, ◌++◌, filter, flat_map, length, map, Option, Some, None, sum_by, arith, nat_cmp, filter_map, nat_lt, option_map, IfOk, OnOk, Result, mul-le-mul_right, length-append}
+use Rattle.std.proofs.Common.{◌≡◌, ◌∙◌, ap, sym, subst, refl, suc, ◌+◌, ◌*◌, ◌^◌, ◌≤◌, ◌<◌, Bool, true, false, ◌&&◌, ◌==◌, List, [], ◌∷◌, filter, flat_map, length, map, Option, Some, None, sum_by, arith, nat_cmp, filter_map, nat_lt, option_map, IfOk, OnOk, Result, mul-le-mul_right, length-append}
 use Rattle.std.proofs.lemmas.Option.{same_Some}
-use Rattle.std.proofs.lemmas.Bool.{and_right}
 use Rattle.cns_book.proofs.PendingSteps.{filter_few}
-use Rattle.cns_book.proofs.Common.{Activity, AllByRecursion, CalledIn, Contents, Cusip, Day, Follows, ForSome, IsLimited, IsReached, IsSound, Journal, Liable, Liables, Notice, Row, Short, batch_at, batch_since, batches_of, batches_since, bytes_eq-Decides, called, called_by, called_in, chosen, day, fills_before, history_limit, in_order, is_called, is_listed, is_sorted, issues, issues_few, journal, journal_len, length-map, liable_of, limited, list_any, member_limit, members, members_few, members_from_one, nat_tests, near, notices, oldest, oldest_at, option_map_or, remaining, same_issue, sheet_rows, short_in, short_of, shorts, shorts_in, slice_cmp, sum_by-cons, total_in, with_shorts}
+use Rattle.cns_book.proofs.Common.{Activity, AllByRecursion, CalledIn, Contents, Cusip, Day, Follows, ForSome, IsLimited, IsReached, IsSound, Journal, Liable, Liables, Notice, Row, batch_at, batch_since, batches_of, batches_since, bytes_eq-Decides, called, called_by, called_in, day, fills_before, history_limit, in_order, is_called, is_listed, is_sorted, issues, issues_few, journal, journal_len, length-map, liable_of, limited, members, members_few, members_from_one, nat_tests, near, notices, oldest, oldest_at, remaining, same_issue, sheet_rows, short_in, short_of, shorts, shorts_in, slice_cmp, sum_by-cons, total_in, with_shorts}
 use Rattle.cns_terms.specs.Batches.{liable_at}
 use Rattle.cns_terms.specs.Sums.{put}
 use Rattle.cns_terms.proofs.BatchSteps.{batch_new, unfilled}
@@ -15,42 +14,17 @@ use Rattle.cns_book.proofs.RetransmittalBatches.{in_issue}
 use Rattle.cns_book.proofs.RetransmittalCalls.{called_is}
 use Rattle.cns_book.proofs.RetransmittalChoice.{AreSameBatches, batches_same}
 use Rattle.cns_book.proofs.RetransmittalShorts.{HasShorts, ages_are, shorts_few, shorts_once}
+use Rattle.cns_retransmit.proofs.Lefts.{none_called}
 
 -- ---- issues in which nothing is called
-
--- where nothing is called nobody is chosen
-pub chosen_none : (ss : List Short) → chosen ss 0 ≡ []
-chosen_none ss = ap (map liable_of) (none (in_order fills_before ss))
-  where
-    below_zero : (n : ℕ) → nat_lt n 0 ≡ false
-    below_zero n = grind (arith, nat_tests)
-
-    none : (ts : List Short) → filter (is_called ss 0) ts ≡ []
-    none [] = refl
-    none (t ∷ ts) = ap (λ b. cond b (t ∷ filter (is_called ss 0) ts) (filter (is_called ss 0) ts)) (below_zero _) ∙ none ts
 
 -- in an issue that is not listed nothing is called
 pub uncalled : (J : Journal) (c : Cusip) → IsSound J → is_listed J c ≡ false → called J c ≡ 0
 uncalled J c s none = ap (sum_by (remaining J)) (nothing (notices J) s.noticed)
   where
-    apart : (n : Notice) → is_listed J n.given.issue ≡ true → (b : Bool) → same_issue n.given.issue c ≡ b → b ≡ false
-    apart n l false e = refl
-    apart n l true e = absurd (cc (sym l ∙ ap (is_listed J) ((bytes_eq-Decides n.given.issue c).0 e) ∙ none))
-
     nothing : (ns : List Notice) → AllByRecursion (IsNoticed J) ns → filter (λ n. (n.given.day == day J) && same_issue n.given.issue c) ns ≡ []
     nothing [] h = refl
-    nothing (n ∷ ns) h =
-        ap (λ b. cond b (n ∷ filter (λ n. (n.given.day == day J) && same_issue n.given.issue c) ns) (filter (λ n. (n.given.day == day J) && same_issue n.given.issue c) ns))
-        (and_right (n.given.day == day J) (same_issue n.given.issue c) (apart n h.0.1 (same_issue n.given.issue c) refl))
-        ∙ nothing ns h.1
-
--- so where something is called, the issue is listed
-listed_if : (J : Journal) (c : Cusip) → IsSound J → 1 ≤ called J c → is_listed J c ≡ true
-listed_if J c s some = by (is_listed J c) refl
-  where
-    by : (b : Bool) → is_listed J c ≡ b → b ≡ true
-    by true e = refl
-    by false e = let none = uncalled J c s e in absurd (omega (arith, some, none))
+    nothing (n ∷ ns) h = grind (arith, bytes_eq-Decides, h.0.1, nothing ns h.1)
 
 -- ---- what is called and who is short, by issue
 
@@ -68,42 +42,27 @@ module _ (opening : Day) (J : Journal) (l : IsLimited opening J) (before es : Li
   -- what stands in an issue is called in a listed one, for the shorts of the definitions
   in_listed : (c : Cusip) (x : CalledIn) → called_in before c ≡ Some x → (is_listed J c ≡ true) × (called_in es c ≡ Some (record { total = called J c; shorts = shorts J c }))
   in_listed c x is =
-      let total : x.total ≡ called J c = sym (ap (λ o. option_map_or (λ (y : CalledIn). y.total) o 0) is) ∙ calls.totals c in
-      let none : x.shorts ≡ [] = sym (ap (λ o. option_map_or (λ (y : CalledIn). y.shorts) o []) is) ∙ calls.shorts c in
+      let total = calls.totals c in
+      let none = calls.shorts c in
       let some : 1 ≤ x.total = calls.some c x is in
-      let listed = listed_if J c l.whole.now (subst (λ n. 1 ≤ n) total some) in
+      let listed : is_listed J c ≡ true = grind (arith, uncalled J c l.whole.now) in
       let all = shorts_off_sheet opening J c l.whole.now (members_from_one opening J l) listed in
-      (listed, given c ∙ ap (option_map (with_shorts (filter_map (short_in (oldest J) c) (sheet_rows opening J)))) is ∙ (λ i. Some (record { total = total i; shorts = none i ++ all i })))
+      grind (arith, given c)
 
   -- who is liable is so by the definitions
   same_liable : ((c : Cusip) → batch_since J J c ≡ batch_at J c) → AreSameBatches (batch_since J J) (issues J) es
-  same_liable whole c = by (called_in before c) refl
-    where
-      by : (o : Option CalledIn) → called_in before c ≡ o → option_map_or (λ x. chosen x.shorts x.total) (called_in es c) [] ≡ cond (list_any (λ d. same_issue d c) (issues J)) (batch_since J J c) []
-      by (Some x) is =
-          let here = in_listed c x is in
-          ap (λ o. option_map_or (λ (y : CalledIn). chosen y.shorts y.total) o []) here.1 ∙ sym (whole c) ∙ ap (λ b. cond b (batch_since J J c) []) (sym here.0)
-      by None is =
-          let zero : called J c ≡ 0 = sym (calls.totals c) ∙ ap (λ o. option_map_or (λ (y : CalledIn). y.total) o 0) is in
-          let nobody : batch_since J J c ≡ [] = whole c ∙ ap (chosen (shorts J c)) zero ∙ chosen_none (shorts J c) in
-          ap (λ o. option_map_or (λ (y : CalledIn). chosen y.shorts y.total) o []) (given c ∙ ap (option_map (with_shorts (filter_map (short_in (oldest J) c) (sheet_rows opening J)))) is)
-          ∙ none_either (list_any (λ d. same_issue d c) (issues J)) (batch_since J J c) nobody
-        where
-          none_either : (b : Bool) (ls : List Liable) → ls ≡ [] → [] ≡ cond b ls []
-          none_either b ls h1 = grind arith
+  same_liable whole c = grind (arith, in_listed c, whole c, given c, calls.totals c, none_called (shorts J c))
 
   -- the shorts of each issue can be chosen from
   pub can_choose : (c : Cusip) → ForSome (called_in es c) CanBeChosen
   can_choose c y is = by (called_in before c) refl
     where
       by : (o : Option CalledIn) → called_in before c ≡ o → CanBeChosen y
-      by None none = absurd (cc (sym is ∙ given c ∙ ap (option_map (with_shorts (filter_map (short_in (oldest J) c) (sheet_rows opening J)))) none))
-      by (Some x) some =
-          let same : record { total = called J c; shorts = shorts J c } ≡ y = same_Some _ _ (sym (in_listed c x some).1 ∙ is) in
-          subst CanBeChosen same (record {
-            distinct = λ a. let one = shorts_once J c a in let all = l.whole.now.distinct a in omega (arith, one, all);
-            fits = shorts_few J c (λ a m. near _ _ _ (l.within a c m)) (members_from_one opening J l) (members_few opening J l);
-          })
+      by None none = let is' = given c in absurd (cc)
+      by (Some x) some = subst CanBeChosen (same_Some _ _ (sym (in_listed c x some).1 ∙ is)) (record {
+        distinct = λ a. omega (arith, shorts_once J c a, l.whole.now.distinct a);
+        fits = shorts_few J c (λ a m. near _ _ _ (l.within a c m)) (members_from_one opening J l) (members_few opening J l);
+      })
 
 -- the batches that are chosen are those of the definitions
 pub chosen_same : (opening : Day) (L : List Activity) (before es : List (Cusip × CalledIn)) → IsReached opening L → AreCalls (journal opening L) before → AreGiven opening (journal opening L) before es → is_sorted (slice_cmp nat_cmp) es ≡ true
@@ -118,25 +77,10 @@ chosen_same opening L before es r calls given sorted =
 -- batches without anybody add nothing
 pub sum_of : (g : Cusip → List Liable) (cs : List Cusip) → sum_by (λ b. length b.members) (filter (λ b. nat_lt 0 (length b.members)) (map (in_issue g) cs)) ≡ length (flat_map g cs)
 sum_of g [] = refl
-sum_of g (c ∷ cs) = by (g c) refl (sum_of g cs)
-  where
-    rest : List Liables
-    rest = filter (λ b. nat_lt 0 (length b.members)) (map (in_issue g) cs)
-
-    by : (ls : List Liable) → g c ≡ ls → sum_by (λ b. length b.members) rest ≡ length (flat_map g cs) → sum_by (λ b. length b.members) (cond (nat_lt 0 (length (g c))) (in_issue g c ∷ rest) rest) ≡ length (g c ++ flat_map g cs)
-    by [] e h = ap (λ xs. sum_by (λ b. length b.members) (cond (nat_lt 0 (length xs)) (in_issue g c ∷ rest) rest)) e ∙ h ∙ ap (λ xs. length (xs ++ flat_map g cs)) (sym e)
-    by (x ∷ xs) e h =
-        ap (λ ys. sum_by (λ b. length b.members) (cond (nat_lt 0 (length ys)) (in_issue g c ∷ rest) rest)) e
-        ∙ ap (λ b. sum_by (λ (b : Liables). length b.members) (cond b (in_issue g c ∷ rest) rest)) (some (length xs))
-        ∙ sum_by-cons (λ (b : Liables). length b.members) (in_issue g c) rest
-        ∙ omega (arith, h, length-append (g c) (flat_map g cs))
-      where
-        some : (n : ℕ) → nat_lt 0 (suc n) ≡ true
-        some n = grind (arith, nat_tests)
-
-same_map : (f g : Cusip → List Liable) (cs : List Cusip) → ((c : Cusip) → f c ≡ g c) → flat_map f cs ≡ flat_map g cs
-same_map f g [] h = refl
-same_map f g (c ∷ cs) h = λ i. h c i ++ same_map f g cs h i
+sum_of g (c ∷ cs) =
+    let more = sum_by-cons (λ (b : Liables). length b.members) (in_issue g c) (filter (λ b. nat_lt 0 (length b.members)) (map (in_issue g) cs)) in
+    let all = length-append (g c) (flat_map g cs) in
+    grind (arith, nat_tests, sum_of g cs)
 
 -- the members that are liable by a close
 pub liable_counted : (opening : Day) (L : List Activity) (bs : List Liables) → IsReached opening L → bs ≡ batches_since (journal opening L) (journal opening L) → sum_by (λ b. length b.members) bs ≡ length (liable_at (journal opening L))
@@ -144,42 +88,38 @@ liable_counted opening L bs r is =
     let J = journal opening L in
     ap (sum_by (λ (b : Liables). length b.members)) is
     ∙ sum_of (batch_since J J) (issues J)
-    ∙ ap length (same_map (batch_since J J) (batch_at J) (issues J) (λ c. batch_new J J c (λ a. unfilled opening L (day J) c a r (omega arith))))
+    ∙ (λ i. length (flat_map (λ c. batch_new J J c (λ a. unfilled opening L (day J) c a r (omega arith)) i) (issues J)))
 
 ordered_len : {X : Type 0} (before : X → X → Bool) (xs : List X) → length (in_order before xs) ≡ length xs
 ordered_len before [] = refl
-ordered_len before (x ∷ xs) = put_len x (in_order before xs) ∙ ap suc (ordered_len before xs)
+ordered_len before (x ∷ xs) = grind (arith, put_len (in_order before xs), ordered_len before xs)
   where
-    put_len : (x : _) (ys : List _) → length (put before x ys) ≡ suc (length ys)
-    put_len x [] = refl
-    put_len x (y ∷ ys) = grind (arith, put_len x ys)
+    put_len : (ys : List _) → length (put before x ys) ≡ suc (length ys)
+    put_len [] = refl
+    put_len (y ∷ ys) = grind (arith, put_len ys)
 
 -- no batch has more members than there are
 batch_few : (J : Journal) (c : Cusip) → length (batch_at J c) ≤ length (members J)
 batch_few J c =
-    let all = length-map (members J) (short_of J c) in
-    let some = filter_few (λ s. nat_lt 0 s.shares) (map (short_of J c) (members J)) in
-    let placed = ordered_len fills_before (shorts J c) in
-    let taken = filter_few (is_called (shorts J c) (called J c)) (in_order fills_before (shorts J c)) in
-    let liable = length-map (filter (is_called (shorts J c) (called J c)) (in_order fills_before (shorts J c))) liable_of in
-    omega (arith, all, some, placed, taken, liable)
+    omega (
+      arith,
+      length-map (members J) (short_of J c),
+      filter_few (λ s. nat_lt 0 s.shares) (map (short_of J c) (members J)),
+      ordered_len fills_before (shorts J c),
+      filter_few (is_called (shorts J c) (called J c)) (in_order fills_before (shorts J c)),
+      length-map (filter (is_called (shorts J c) (called J c)) (in_order fills_before (shorts J c))) liable_of,
+    )
 
 batches_few : (J : Journal) (cs : List Cusip) → length (flat_map (batch_at J) cs) ≤ length (members J) * length cs
 batches_few J [] = omega arith
-batches_few J (c ∷ cs) = more _ (length (batch_at J c)) _ (length (members J)) (length cs) (length-append (batch_at J c) (flat_map (batch_at J) cs)) (batch_few J c) (batches_few J cs)
-  where
-    more : (z x y m n : ℕ) → z ≡ x + y → x ≤ m → y ≤ m * n → z ≤ m * suc n
-    more z x y m n e p q = omega (arith, e, p, q)
+batches_few J (c ∷ cs) = omega (arith, length-append (batch_at J c) (flat_map (batch_at J) cs), batch_few J c, batches_few J cs)
 
 -- they can be counted
 pub liable_few : (opening : Day) (L : List Activity) → IsReached opening L → length L + 1 < history_limit → length (liable_at (journal opening L)) < 2 ^ 64
 liable_few opening L r few =
     let J = journal opening L in
     let l = limited opening L r in
-    small (length (liable_at J)) (length (members J)) (length (issues J)) (length L) (batches_few J (issues J)) (members_few opening J l) (omega (arith, issues_few J, journal_len opening L)) few
-  where
-    small : (z m n k : ℕ) → z ≤ m * n → m ≤ member_limit → n ≤ k → k + 1 < history_limit → z < 2 ^ 64
-    small z m n k h a b c = omega (arith, h, mul-le-mul_right n a, b, c)
+    omega (arith, batches_few J (issues J), mul-le-mul_right (length (issues J)) (members_few opening J l), issues_few J, journal_len opening L)
 
 -- ---- the close's calls
 

@@ -1,5 +1,6 @@
 -- How a history keeps its entries: replies other than 'accepted' stand in a list of their own.
-use Rattle.std.specs.Prelude.{◌≡◌, ◌<◌, ℕ, List, [], ◌∷◌, Option, Some, None, length, map, slice_get, unwrap_or}
+use Rattle.std.specs.Prelude.{◌≡◌, ◌<◌, ℕ, List, Option, Some, None, length, map, slice_get, unwrap_or}
+use Rattle.std.specs.List.{AllByRecursion}
 use Rattle.cns_terms.specs.declared.history.Taken.{Taken}
 use Rattle.cns_terms.specs.declared.reply.Reply.{Reply}
 use Rattle.cns_terms.specs.declared.reply.Reply.TheVariants as reply
@@ -26,8 +27,7 @@ IsAmong rs (Some k) = k < length rs
 
 -- the replies of all entries are there
 abbrev pub AreAmong : List Reply → List Brief → Type 0
-AreAmong rs [] = Unit {0}
-AreAmong rs (b ∷ bs) = IsAmong rs b.place × AreAmong rs bs
+AreAmong rs bs = AllByRecursion (λ b. IsAmong rs b.place) bs
 
 -- entries that were there keep their replies
 abbrev pub Stays : List Reply → List Reply → Type 0

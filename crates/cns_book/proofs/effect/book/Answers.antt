@@ -1,23 +1,21 @@
-use Rattle.std.proofs.Common.{◌∙◌, ◌^◌, ◌≤◌, sym, ap, refl, subst, unsigned_abs, take_all}
+use Rattle.std.proofs.Common.{◌∙◌, ◌^◌, ◌≤◌, sym, ap, subst, unsigned_abs, take_all, arith}
 use Rattle.cns_book.proofs.Common.{Holding, IsSmallEntry, books, holding_at}
 use Rattle.cns_positions.specs.Rows.{booked}
 use Rattle.cns_book.specs.Effects.{place_of}
-use Rattle.cns_book.proofs.EffectEntries.{books_step, cents_fit, place_there, shares_fit, small_at}
+use Rattle.cns_book.proofs.EffectEntries.{books_step, cents_fit, place_there, shares_fit}
 use Rattle.cns_book.proofs.EffectPlaces.{books_none}
 use Rattle.cns_book.proofs.effect.book.Goals as goal
+use Rattle.std.proofs.lemmas.List.Elements.{All-from_recursion}
 
 pub loop-entry-init : goal.loop-entry-init
-loop-entry-init g c = record {
-  places = λ k. refl;
-  booked = λ k. sym (books_none k (holding_at (g.P.Positions.rows c.args.positions.now) k));
-}
+loop-entry-init g c = grind (arith, books_none)
 
 pub add-requires-clause-there : goal.add-requires-clause-there
 add-requires-clause-there g c =
     c.loop-entry.invariant.places (place_of c.entry-item.result) ∙ place_there (g.P.Positions.rows c.args.positions.now) c.args.entries.now c.loop-entry.entry-index c.entry-item.result c.requires.there c.loop-entry-test.true c.entry-item.is
 
 pub add-requires-clause-entry : goal.add-requires-clause-entry
-add-requires-clause-entry g c = subst IsSmallEntry (sym c.entry-item.is) (small_at c.args.entries.now c.loop-entry.entry-index c.entry-item.result c.requires.small c.loop-entry-test.true)
+add-requires-clause-entry g c = subst IsSmallEntry (sym c.entry-item.is) (All-from_recursion IsSmallEntry c.args.entries.now c.requires.small c.loop-entry.entry-index c.entry-item.result c.loop-entry-test.true)
 
 pub add-requires-clause-shares : goal.add-requires-clause-shares
 add-requires-clause-shares g c =

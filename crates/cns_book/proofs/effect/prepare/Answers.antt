@@ -1,4 +1,4 @@
-use Rattle.std.proofs.Common.{List, Contains, subst, sym}
+use Rattle.std.proofs.Common.{List, Contains, subst, arith}
 use Rattle.cns_book.proofs.Common.{Key}
 use Rattle.cns_actions.proofs.Making.{others_stay}
 use Rattle.cns_book.proofs.EffectEntries.{both_places, each_there}
@@ -10,11 +10,7 @@ returns-in_err-prepare-clause-others g c k apart =
     others_stay _ _ k (c.prepare.ensures.others k (λ h. apart (subst (λ (ks : List Key). Contains ks k) are h)))
 
 pub returns-clause-others : goal.returns-clause-others
-returns-clause-others g c k apart =
-    let are = both_places c.args.entries.now c.index-entries-0.result c.index-entries-1.result c.key_of.result c.key_of-2.result c.type_inv.entries c.key_of.ensures c.key_of-2.ensures in
-    others_stay _ _ k (c.prepare.ensures.others k (λ h. apart (subst (λ (ks : List Key). Contains ks k) are h)))
+returns-clause-others g c k apart = grind (arith, both_places, others_stay)
 
 pub returns-clause-there : goal.returns-clause-there
-returns-clause-there g c =
-    let are = both_places c.args.entries.now c.index-entries-0.result c.index-entries-1.result c.key_of.result c.key_of-2.result c.type_inv.entries c.key_of.ensures c.key_of-2.ensures in
-    each_there _ c.args.entries.now (λ k h. c.in_ok-prepare.ensures.ok k (subst (λ (ks : List Key). Contains ks k) (sym are) h))
+returns-clause-there g c = grind (arith, both_places, each_there)

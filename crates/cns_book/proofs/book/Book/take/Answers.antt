@@ -15,11 +15,7 @@ push-requires g c =
     record { room = c.in_ok-reserve.ensures.ok; few = rw c.in_ok-reserve.ensures.taken (omega (arith, few, c.self.invariant.limited, length-reverse c.self.inside.history.taken)) }
 
 pub invariant_of-self-in_err-reply : goal.invariant_of-self-in_err-reply
-invariant_of-self-in_err-reply g c =
-    let H = reverse c.self.inside.history.taken in
-    let few : length H < c.self.inside.limit = below (length H) c.self.inside.limit c.self.invariant.few (λ e. let z = sym ((rw (← c.self.view_is) at c.is_full.ensures).1 e) ∙ c.if-is_full.false in cc) in
-    rw c.in_ok-reserve.ensures.taken (book_stays c.self.inside.limit H c.self.inside.counts c.self.inside.parts c.answer.new.self c.self.invariant c.answer.ensures.opening
-    (c.in_err-reply.ensures.step (accepted c.self.inside.parts.opening H) c.self.invariant.follows).1)
+invariant_of-self-in_err-reply g c = grind (arith, below, book_stays, accepted)
 
 pub invariant_of-self-2 : goal.invariant_of-self-2
 invariant_of-self-2 g c =

@@ -1,5 +1,6 @@
 use Rattle.std.proofs.Common.{◌∙◌, ap, [], ◌∷◌, ◌++◌, length-append, map, arith}
-use Rattle.cns_book.proofs.Replies.{among_more, taken_more}
+use Rattle.cns_terms.proofs.Everywhere.{each_append}
+use Rattle.cns_book.proofs.Replies.{taken_more}
 use Rattle.cns_book.specs.Replies.{taken_in}
 use Rattle.cns_book.proofs.history.History.push.Goals as goal
 
@@ -8,7 +9,7 @@ invariant_of-self g c =
     let es = c.self.inside.entries.items in
     let stays = c.add_reply-place.ensures.stays es c.self.invariant.0 in
     rw c.in-Ok.ensures.items (
-      among_more _ es _ stays.0 c.add_reply-place.ensures.among,
+      each_append _ es _ stays.0 (c.add_reply-place.ensures.among, tt),
       grind (arith, length-append, c.add_reply-place.ensures.one, c.self.invariant.1),
     )
 

@@ -1,17 +1,13 @@
-use Rattle.std.proofs.Common.{◌≡◌, ◌∙◌, ◌+◌, ◌≤◌, ◌++◌, ◌∷◌, [], List, pos, true, false, refl, sym, ap, append_assoc, subst, arith, int_lt, unsigned_abs}
+use Rattle.std.proofs.Common.{◌≡◌, ◌∙◌, ◌+◌, ◌≤◌, List, pos, true, false, sym, ap, append_assoc, subst, arith, int_lt, unsigned_abs}
 use Rattle.cns_book.proofs.Common.{AllByRecursion, Row, called_in, corporation_limit, oldest_at, oldest_of}
 use lib.Signed.{le_z}
-use Rattle.cns_book.proofs.RetransmittalShorts.{ages_fit, below_zero, not_below, not_below_zero, not_member, no_member, read_back, row_given, row_passed, short_is, some_member, uncalled_row}
+use Rattle.cns_book.proofs.RetransmittalShorts.{ages_fit, not_below_zero, no_member, read_back, row_given, row_passed, short_is, some_member, uncalled_row}
 use Rattle.cns_book.proofs.parts.Parts.add_shorts.Goals.{then-row-ge0-via-then-row-ge0, then-row-ge0-via-else-row-ge0+then-not-is_called}
 use Rattle.cns_book.proofs.parts.Parts.add_shorts.Goals as goal
 
 -- each row is within its limit
 abbrev AreFew : List Row → Type 0
 AreFew rs = AllByRecursion (λ r. unsigned_abs r.closing ≤ corporation_limit) rs
-
--- what was given, with one row more
-onward : (rows given left rest : List Row) (r : Row) → rows ≡ given ++ left → left ≡ r ∷ rest → rows ≡ (given ++ r ∷ []) ++ rest
-onward rows given left rest r whole next = whole ∙ ap (λ rs. given ++ rs) next ∙ sym (append_assoc given (r ∷ []) rest)
 
 pub loop-row-preserved-then-row-ge0 : goal.loop-row-preserved-then-row-ge0
 loop-row-preserved-then-row-ge0 g c =
@@ -21,11 +17,11 @@ loop-row-preserved-then-row-ge0 g c =
     let kept = c.loop-row.invariant in
     let few = subst AreFew c.in-Some.ensures.steps kept.few in
     record {
-      left = onward _ _ _ _ _ kept.left c.in-Some.ensures.steps;
+      left = grind (arith, append_assoc);
       few = few.1;
       shorts = row_passed (oldest_at s.rows) (called_in c.args.calls.now) (called_in c.loop-row.calls) c.loop-row.yielded r kept.shorts
           (elim c.then-row-ge0.branch [
-            | then-row-ge0-via-then-row-ge0 w ↦ λ d is. absurd (not_below q d r refl (not_below_zero q (subst (λ z. le_z (pos 0) z ≡ true) (read_back q few.0) w.if-row-ge0.true)) is)
+            | then-row-ge0-via-then-row-ge0 w ↦ λ d is. let above = subst (λ z. le_z (pos 0) z ≡ true) (read_back q few.0) w.if-row-ge0.true in grind (arith, not_below_zero)
             | then-row-ge0-via-else-row-ge0+then-not-is_called w ↦ uncalled_row (called_in c.loop-row.calls) r (sym w.is_called.ensures ∙ w.if-not-is_called.true)
           ]);
     }
@@ -38,9 +34,9 @@ loop-row-preserved-in_default g c =
     let few = subst AreFew c.in-Some.ensures.steps kept.few in
     let none = no_member c.new.result _ c.value.result c.new.ensures c.in_default.not-Ok (rw c.value.ensures.value c.value.ensures.range) in
     record {
-      left = onward _ _ _ _ _ kept.left c.in-Some.ensures.steps;
+      left = grind (arith, append_assoc);
       few = few.1;
-      shorts = row_passed (oldest_at s.rows) (called_in c.args.calls.now) (called_in c.loop-row.calls) c.loop-row.yielded r kept.shorts (λ d is. absurd (not_member d r (rw c.value.ensures.value at none) is));
+      shorts = row_passed (oldest_at s.rows) (called_in c.args.calls.now) (called_in c.loop-row.calls) c.loop-row.yielded r kept.shorts (λ d is. let apart = rw c.value.ensures.value at none in grind arith);
     }
 
 pub overflow_add-oldest : goal.overflow_add-oldest
@@ -56,11 +52,11 @@ loop-row-preserved g c =
     let kept = c.loop-row.invariant in
     let few = subst AreFew c.in-Some.ensures.steps kept.few in
     let member = some_member c.new.result _ c.value.result c.in-Ok.member c.new.ensures c.in-Ok.is in
-    let below : int_lt q (pos 0) ≡ true = below_zero q (subst (λ z. le_z (pos 0) z ≡ false) (read_back q few.0) c.if-row-ge0.false) in
+    let below : int_lt q (pos 0) ≡ true = (let test = subst (λ z. le_z (pos 0) z ≡ false) (read_back q few.0) c.if-row-ge0.false in grind arith) in
     let shares = c.unsigned_abs.ensures.value ∙ ap unsigned_abs (read_back q few.0) ∙ short_is q below in
     let age = ap (λ n. n + 1) (c.oldest.ensures ∙ ap oldest_of c.holding-holding.ensures.now) in
     record {
-      left = onward _ _ _ _ _ kept.left c.in-Some.ensures.steps;
+      left = grind (arith, append_assoc);
       few = few.1;
       shorts = row_given (oldest_at s.rows) (called_in c.args.calls.now) (called_in c.loop-row.calls) (called_in c.short.new.self) c.loop-row.yielded r _ kept.shorts (rw c.value.ensures.value at member.0) below
           (λ i. record { member = (member.1 ∙ c.value.ensures.value) i; shares = shares i; age = age i }) c.in_ok-short.ensures.ok;

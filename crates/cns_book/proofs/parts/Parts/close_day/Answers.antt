@@ -1,11 +1,9 @@
-use Rattle.std.proofs.Common.{◌≡◌, ◌∙◌, ◌+◌, refl, sym, ap, subst, length, filter, flat_map, List, [], ◌∷◌, arith, int_le, slice_get}
-use Rattle.cns_book.proofs.Common.{CanBePaid, Contents, Declared, Follows, HasRoom, IsCut, IsReady, Key, WrongDay, batches_since, books, day_number, day_sheet, first_refusal, has_row, holding_at, journal, last_dated, payments_by, prices_of, rolled, trade_entries}
+use Rattle.std.proofs.Common.{◌≡◌, ◌∙◌, ◌+◌, refl, sym, ap, subst, length, filter, flat_map, List, arith, slice_get, Contains}
+use Rattle.cns_book.proofs.Common.{Contents, Declared, Follows, HasRoom, IsCut, Key, batches_since, books, day_sheet, has_row, holding_at, ints, journal, last_dated, nat_tests, payments_by, prices_of, rolled, trade_entries}
 use Rattle.cns_terms.specs.Dividends.{is_due}
 use Rattle.cns_terms.specs.Pending.{is_due as due_on}
 use Rattle.cns_terms.specs.declared.command.Activity.TheVariants as activity
-use Rattle.cns_terms.specs.declared.command.Command.TheVariants as command
 use Rattle.cns_terms.specs.declared.reply.Reply.TheVariants as reply
-use Rattle.cns_book.specs.Follows.{Steps}
 use Rattle.cns_actions.specs.DueAmounts.{due_entries}
 use Rattle.cns_actions.proofs.Reachable.{can_same}
 use Rattle.cns_book.proofs.ActionSteps.{can_be_booked}
@@ -15,24 +13,19 @@ use Rattle.cns_book.proofs.ClosingSteps.{after_last, closes_fit, day_closed, le_
 use Rattle.cns_book.proofs.MachineSteps.{accepted, refused, stopped}
 use Rattle.cns_book.proofs.RetransmittalSteps.{liable_counted, liable_few}
 use Rattle.cns_book.proofs.ClosingSheet.{can_be_cut, can_be_paid, sheet_is}
+use Rattle.cns_book.proofs.parts.Parts.close_day.Goals.{After-enter}
+use Rattle.cns_book.proofs.parts.Parts.close_day.Given as given
 use Rattle.cns_book.proofs.parts.Parts.close_day.Goals as goal
+use Rattle.cns_book.specs.Effects.{places_of}
 
 pub cut-requires-clause-ready : goal.cut-requires-clause-ready
-cut-requires-clause-ready g c =
-    let room = subst HasRoom (sym c.self.view_is) c.requires in
-    let same : c.due-due.result ≡ filter (is_due (last_dated c.self.inside.closed) c.self.inside.today) c.self.inside.dividends = c.due-due.ensures.due ∙ ap (λ o. filter (is_due o c.self.inside.today) c.self.inside.dividends) c.last_date.ensures in
-    subst (λ (ds : List Declared). IsReady (slice_get c.self.inside.closed 0) c.self.inside.prices (g.P.Positions.rows c.self.inside.positions) (payments_by c.self.inside.closed ds)) (sym same) (can_be_cut room.activities _ room.follows room.few)
+cut-requires-clause-ready g c = grind (arith, can_be_cut)
 
 pub cut-requires-clause-paid : goal.cut-requires-clause-paid
-cut-requires-clause-paid g c =
-    let room = subst HasRoom (sym c.self.view_is) c.requires in
-    let same : c.due-due.result ≡ filter (is_due (last_dated c.self.inside.closed) c.self.inside.today) c.self.inside.dividends = c.due-due.ensures.due ∙ ap (λ o. filter (is_due o c.self.inside.today) c.self.inside.dividends) c.last_date.ensures in
-    subst (λ (ds : List Declared). CanBePaid (payments_by c.self.inside.closed ds)) (sym same) (can_be_paid room.activities _ room.follows room.few)
+cut-requires-clause-paid g c = grind (arith, can_be_paid)
 
 pub keep-requires-2 : goal.keep-requires-2
-keep-requires-2 g c =
-    let room = subst HasRoom (sym c.self.view_is) c.requires in
-    rw c.in_ok-sheet.ensures.date (after_last room.activities _ room.follows)
+keep-requires-2 g c = grind (arith, after_last)
 
 pub overflow_add-closed : goal.overflow_add-closed
 overflow_add-closed g c = let few = closes_fit _ (subst HasRoom (sym c.self.view_is) c.requires) in omega (arith, few)
@@ -41,12 +34,7 @@ pub overflow_add-self : goal.overflow_add-self
 overflow_add-self g c = let few = closes_fit _ (subst HasRoom (sym c.self.view_is) c.requires) in omega (arith, few)
 
 pub returns-then-le-clause-step : goal.returns-then-le-clause-step
-returns-then-le-clause-step g c L f =
-    let d = day_number c.args.next in
-    let today = f.clock.today in
-    let same = ap (λ s. s.today) c.self.view_is in
-    let late = ap (λ t. int_le d (day_number t)) (sym today ∙ sym same) ∙ sym (le_test d (day_number c.self.inside.today)) ∙ sym c.le.ensures ∙ c.if-le.true in
-    refused L (activity.Close c.args.next) WrongDay (ap (λ b. first_refusal ((WrongDay, b) ∷ [])) late) f
+returns-then-le-clause-step g c L f = grind (arith, le_test, refused)
 
 pub choose_batches-requires-clause-cut : goal.choose_batches-requires-clause-cut
 choose_batches-requires-clause-cut g c L f =
@@ -56,46 +44,35 @@ choose_batches-requires-clause-cut g c L f =
     subst (λ (t : Contents). c.in_ok-sheet.sheet ≡ day_sheet t.opening (journal t.opening L)) c.self.view_is (sheet_is L _ c.in_ok-sheet.sheet f' c.in_ok-sheet.ensures.prices c.in_ok-sheet.ensures.date c.in_ok-sheet.ensures.listed cut)
 
 pub returns-in_err-batches-clause-step : goal.returns-in_err-batches-clause-step
-returns-in_err-batches-clause-step g c L f =
-    let f' = subst (Follows L) (sym c.self.view_is) f in
-    let none = not_late L _ c.args.next f' (sym c.le.ensures ∙ c.if-le.false) in
-    subst (λ (t : Contents). Steps L (command.Activity (activity.Close c.args.next)) c.from_residual-in_err-batches.result t) c.self.view_is
-    (stopped L (command.Activity (activity.Close c.args.next)) c.from_residual-in_err-batches.result c.from_residual-in_err-batches.ensures.0 none f')
+returns-in_err-batches-clause-step g c L f = grind (arith, not_late, stopped)
 
 pub returns-in_err-opening-clause-step : goal.returns-in_err-opening-clause-step
-returns-in_err-opening-clause-step g c L f =
-    let f' = subst (Follows L) (sym c.self.view_is) f in
-    let none = not_late L _ c.args.next f' (sym c.le.ensures ∙ c.if-le.false) in
-    subst (λ (t : Contents). Steps L (command.Activity (activity.Close c.args.next)) c.from_residual-in_err-opening.result t) c.self.view_is
-    (stopped L (command.Activity (activity.Close c.args.next)) c.from_residual-in_err-opening.result c.from_residual-in_err-opening.ensures.0 none f')
+returns-in_err-opening-clause-step g c L f = grind (arith, not_late, stopped)
 
 pub returns-in_err-enter-clause-step : goal.returns-in_err-enter-clause-step
 returns-in_err-enter-clause-step g c L f =
     let f' = subst (Follows L) (sym c.self.view_is) f in
-    let none = not_late L _ c.args.next f' (sym c.le.ensures ∙ c.if-le.false) in
-    stopped L (command.Activity (activity.Close c.args.next)) c.from_residual-in_err-enter.result c.from_residual-in_err-enter.ensures.0 none (same_rows L _ _ f' c.enter.ensures.same)
+    let same = same_rows L _ _ f' c.enter.ensures.same in
+    grind (arith, not_late, stopped)
 
 pub open-requires-clause-within : goal.open-requires-clause-within
 open-requires-clause-within g c = can_same (g.P.Positions.rows c.self.inside.positions) _ (can_be_booked _ (subst HasRoom (sym c.self.view_is) c.requires)) c.enter.ensures.same
 
 pub count_liable-requires : goal.count_liable-requires
-count_liable-requires g c =
-    let room = c.requires in
-    let few = liable_few c.args.self.now.opening room.activities room.follows.reached room.few in
-    let same = liable_counted c.args.self.now.opening room.activities c.as_slice.result.now room.follows.reached (c.as_slice.ensures.value ∙ c.in_ok-batches.ensures.batches room.activities room.follows) in
-    omega (arith, same, few)
+count_liable-requires g c = grind (arith, nat_tests, ints, liable_few, liable_counted)
 
 pub returns-in_err-keep-clause-step : goal.returns-in_err-keep-clause-step
 returns-in_err-keep-clause-step g c L f =
     let f' = subst (Follows L) (sym c.self.view_is) f in
-    let none = not_late L _ c.args.next f' (sym c.le.ensures ∙ c.if-le.false) in
-    stopped L (command.Activity (activity.Close c.args.next)) c.from_residual-in_err-keep.result c.from_residual-in_err-keep.ensures.0 none (rw c.in_err-keep.ensures.err (same_rows L _ _ f' c.enter.ensures.same))
+    let same = same_rows L _ _ f' c.enter.ensures.same in
+    grind (arith, not_late, stopped)
 
 pub returns-in-Err-clause-step : goal.returns-in-Err-clause-step
 returns-in-Err-clause-step g c L f =
     let f' = subst (Follows L) (sym c.self.view_is) f in
-    let none = not_late L _ c.args.next f' (sym c.le.ensures ∙ c.if-le.false) in
-    (none, rw (c.in-Err.ensures.err, c.forget_last.ensures.last c.self.inside.batches c.in_ok-batches.batches.items c.in_ok-keep.ensures.ok) (same_rows L _ _ f' c.enter.ensures.same))
+    let same = same_rows L _ _ f' c.enter.ensures.same in
+    let last = c.forget_last.ensures.last c.self.inside.batches c.in_ok-batches.batches.items c.in_ok-keep.ensures.ok in
+    grind (arith, not_late)
 
 pub returns-clause-step : goal.returns-clause-step
 returns-clause-step g c L f =
@@ -120,26 +97,23 @@ returns-clause-step g c L f =
     (λ i. reply.Closed (record { day = f'.clock.closes i + 1; date = f'.clock.today i; rows = count i; liable = liable i }))
     (rw (c.in_default.ensures.ok, c.in_ok-keep.ensures.ok, c.expire.ensures) (day_closed L _ c.args.next c.settle.new.self (g.P.Positions.rows c.open.new.positions) c.in_ok-sheet.sheet c.in_ok-batches.batches.items f' (closes_fit _ room) none c.settle.ensures.references c.settle.ensures.pending rows is chosen))
 
-pub returns-in_err-enter-clause-places : goal.returns-in_err-enter-clause-places
-returns-in_err-enter-clause-places g c k out =
+-- where nothing that is due is booked there is a row where there was one
+stay : (g : given.Over) (c : After-enter g) (k : Key) → ¬ Contains (places_of (due_entries c.args.next c.args.self.now.trades.pending)) k → has_row (g.P.Positions.rows c.enter.new.positions) k ≡ has_row c.args.self.now.rows k
+stay g c k out =
     due_stay c.in_ok-opening.opening (due_entries c.args.next c.args.self.now.trades.pending) (g.P.Positions.rows c.self.inside.positions) (g.P.Positions.rows c.enter.new.positions) c.in_ok-opening.ensures.others c.enter.ensures.others k out
     ∙ ap (λ (t : Contents). has_row t.rows k) c.self.view_is
+
+pub returns-in_err-enter-clause-places : goal.returns-in_err-enter-clause-places
+returns-in_err-enter-clause-places g c = stay g (goal.at.returns-in_err-enter-clause-places g c).After-enter
 
 pub returns-in_err-keep-clause-places : goal.returns-in_err-keep-clause-places
-returns-in_err-keep-clause-places g c k out =
-    due_stay c.in_ok-opening.opening (due_entries c.args.next c.args.self.now.trades.pending) (g.P.Positions.rows c.self.inside.positions) (g.P.Positions.rows c.enter.new.positions) c.in_ok-opening.ensures.others c.enter.ensures.others k out
-    ∙ ap (λ (t : Contents). has_row t.rows k) c.self.view_is
+returns-in_err-keep-clause-places g c = stay g (goal.at.returns-in_err-keep-clause-places g c).After-enter
 
 pub returns-in-Err-clause-places : goal.returns-in-Err-clause-places
-returns-in-Err-clause-places g c k out =
-    due_stay c.in_ok-opening.opening (due_entries c.args.next c.args.self.now.trades.pending) (g.P.Positions.rows c.self.inside.positions) (g.P.Positions.rows c.enter.new.positions) c.in_ok-opening.ensures.others c.enter.ensures.others k out
-    ∙ ap (λ (t : Contents). has_row t.rows k) c.self.view_is
+returns-in-Err-clause-places g c = stay g (goal.at.returns-in-Err-clause-places g c).After-enter
 
 pub returns-clause-places : goal.returns-clause-places
-returns-clause-places g c k out =
-    c.open.ensures.places k
-    ∙ due_stay c.in_ok-opening.opening (due_entries c.args.next c.args.self.now.trades.pending) (g.P.Positions.rows c.self.inside.positions) (g.P.Positions.rows c.enter.new.positions) c.in_ok-opening.ensures.others c.enter.ensures.others k out
-    ∙ ap (λ (t : Contents). has_row t.rows k) c.self.view_is
+returns-clause-places g c k out = c.open.ensures.places k ∙ stay g (goal.at.returns-clause-places g c).After-enter k out
 
 pub same-self-in_err-batches : goal.same-self-in_err-batches
 same-self-in_err-batches g c = refl

@@ -1,6 +1,5 @@
-use Rattle.std.proofs.Common.{◌∙◌, sym, subst, refl, [], ◌∷◌}
+use Rattle.std.proofs.Common.{◌∙◌, sym, subst, refl, [], ◌∷◌, arith}
 use Rattle.cns_terms.specs.declared.command.Activity.TheVariants as activity
-use Rattle.cns_terms.specs.declared.command.Command.TheVariants as command
 use Rattle.cns_terms.specs.declared.reply.Reply.TheVariants as reply
 use Rattle.cns_book.proofs.Common.{Follows, HasRoom, books, corporation, delivery_rules, first_refusal, moved_in, moved_out}
 use Rattle.cns_book.proofs.MachineSteps.{accepted, refused, stopped}
@@ -21,12 +20,9 @@ returns-in-Err-clause-step g c L f =
 pub returns-in_err-prepare-clause-step : goal.returns-in_err-prepare-clause-step
 returns-in_err-prepare-clause-step g c L f =
     let f' = subst (Follows L) (sym c.self.view_is) f in
-    let m = c.args.movement.now in
-    let facts = c.move_facts-facts.result in
-    let done = answer_ok (first_refusal (delivery_rules facts m)) (moved_in m.member m ∷ moved_out corporation m ∷ []) c.in-Ok.entries c.in-Ok.ensures.answer in
-    stopped L (command.Activity (activity.Deliver m)) c.from_residual.result c.from_residual.ensures.0
-    (delivery_refusal L c.self.inside.opening m facts (rw (← c.self.view_is) at (c.move_facts-facts.ensures.facts L f)) ∙ done.0)
-    (same_rows L _ _ f' c.in_err-prepare.ensures.same)
+    let facts = c.move_facts-facts.ensures.facts L f in
+    let same = same_rows L _ _ f' c.in_err-prepare.ensures.same in
+    grind (arith, delivery_refusal, answer_ok, stopped)
 
 pub book-requires-clause-rows : goal.book-requires-clause-rows
 book-requires-clause-rows g c = same_within _ _ c.in_ok-prepare.ensures.same (rows_within _ (subst HasRoom (sym c.self.view_is) c.requires))

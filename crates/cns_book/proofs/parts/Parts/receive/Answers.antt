@@ -1,9 +1,8 @@
-use Rattle.std.proofs.Common.{◌∙◌, ap, sym, subst, refl, [], ◌∷◌}
+use Rattle.std.proofs.Common.{◌∙◌, ap, sym, subst, refl, [], ◌∷◌, arith}
 use Rattle.cns_terms.specs.declared.command.Activity.TheVariants as activity
 use Rattle.cns_terms.specs.declared.reply.Reply.TheVariants as reply
 use Rattle.cns_book.proofs.Common.{Follows, HasRoom, books, corporation, first_refusal, holding_at, moved_in, moved_out, receipt_rules}
 use Rattle.cns_book.proofs.MachineSteps.{accepted, refused}
-use Rattle.cns_book.specs.Effects.{AreThere}
 use Rattle.cns_book.proofs.ReceiptPlaces.{receipt_there}
 use Rattle.cns_book.proofs.TradingMovements.{receipt_refusal}
 use Rattle.cns_book.proofs.NoticeBounds.{receipts_fit}
@@ -22,15 +21,7 @@ returns-in-Err-clause-step g c L f =
     f
 
 pub book-requires-clause-there : goal.book-requires-clause-there
-book-requires-clause-there g c =
-    let room = subst HasRoom (sym c.self.view_is) c.requires in
-    let L = room.activities in
-    let m = c.args.movement.now in
-    let facts = c.move_facts-facts.result in
-    let are = rw (← c.self.view_is) at (c.move_facts-facts.ensures.facts L (subst (Follows L) c.self.view_is room.follows)) in
-    let done = answer_ok (first_refusal (receipt_rules facts m)) (moved_out m.member m ∷ moved_in corporation m ∷ []) c.in-Ok.entries c.in-Ok.ensures.answer in
-    subst (AreThere (g.P.Positions.rows c.self.inside.positions)) (sym done.1)
-    (receipt_there L _ m room.follows c.value.ensures.range.0 (receipt_refusal L c.self.inside.opening m facts are ∙ done.0))
+book-requires-clause-there g c = grind (arith, answer_ok, receipt_there, receipt_refusal)
 
 pub book-requires-clause-rows : goal.book-requires-clause-rows
 book-requires-clause-rows g c = rows_within _ (subst HasRoom (sym c.self.view_is) c.requires)

@@ -1,4 +1,4 @@
-use Rattle.std.proofs.Common.{◌≡◌, ◌∙◌, None, inl, inr, sym, subst, refl}
+use Rattle.std.proofs.Common.{◌≡◌, ◌∙◌, None, sym, subst, refl, arith}
 use Rattle.cns_terms.specs.declared.command.Activity.TheVariants as activity
 use Rattle.cns_terms.specs.declared.command.Command.TheVariants as command
 use Rattle.cns_terms.specs.declared.reply.Reply.TheVariants as reply
@@ -7,7 +7,6 @@ use Rattle.cns_book.proofs.ActionSteps.{can_be_booked, no_fault, split_ends, spl
 use Rattle.cns_book.proofs.MachineSteps.{accepted, stopped}
 use Rattle.cns_book.proofs.TradingSteps.{booked_by, same_rows}
 use Rattle.cns_actions.specs.Bookings.{makes}
-use Rattle.cns_actions.specs.declared.action.Action.TheVariants as action
 use Rattle.cns_book.proofs.ActionPlaces.{elsewhere}
 use Rattle.cns_book.proofs.parts.Parts.split.Goals as goal
 
@@ -17,9 +16,10 @@ make-requires g c = can_be_booked _ (subst HasRoom (sym c.self.view_is) c.requir
 pub returns-in_err-make-in-Ok-clause-step : goal.returns-in_err-make-in-Ok-clause-step
 returns-in_err-make-in-Ok-clause-step g c L f =
     let f' = subst (Follows L) (sym c.self.view_is) f in
-    let s = c.args.split.now in
-    let none = subst (λ (t : Contents). refusal t.opening (journal t.opening L) (command.Activity (activity.Split s)) ≡ None) (sym c.self.view_is) (split_unrefused L c.args.self.now s c.issue_refusal.result (c.issue_refusal.ensures L f) c.in_default.is (λ b. no_fault _ _ ((c.in-Ok.ensures.too_large L f).1 b))) in
-    stopped L (command.Activity (activity.Split s)) c.from_residual.result c.from_residual.ensures.0 none (same_rows L _ _ f' c.in_err-make-in-Ok.ensures.err)
+    let said = c.issue_refusal.ensures L f in
+    let size = c.in-Ok.ensures.too_large L f in
+    let same = same_rows L _ _ f' c.in_err-make-in-Ok.ensures.err in
+    grind (arith, split_unrefused, stopped)
 
 pub returns-in_ok-make-in-Ok-clause-step : goal.returns-in_ok-make-in-Ok-clause-step
 returns-in_ok-make-in-Ok-clause-step g c L f =
@@ -32,15 +32,7 @@ returns-in_ok-make-in-Ok-clause-step g c L f =
     (booked_by L _ x c.self.inside.trades c.end_issue.new.self (g.P.Positions.rows c.make.new.positions) f' (c.parts.ensures.old_range, c.value.ensures.range) none refl refl refl refl f'.references f'.pending (c.end_issue.ensures ∙ split_ends L s f') (λ k. c.in_ok-make-in-Ok.ensures.ok k ∙ made k))
 
 pub returns-in_err-make-in-Ok-clause-places : goal.returns-in_err-make-in-Ok-clause-places
-returns-in_err-make-in-Ok-clause-places g c k apart =
-    rw (← c.self.view_is) (c.make.ensures.others k (elsewhere (action.Split c.args.split.now) k c.in-Ok.bookings (λ h. elim h [
-      | inl e ↦ apart e
-      | inr e ↦ apart e
-    ]) c.in-Ok.ensures.issues))
+returns-in_err-make-in-Ok-clause-places g c k apart = grind (arith, elsewhere)
 
 pub returns-in_ok-make-in-Ok-clause-places : goal.returns-in_ok-make-in-Ok-clause-places
-returns-in_ok-make-in-Ok-clause-places g c k apart =
-    rw (← c.self.view_is) (c.make.ensures.others k (elsewhere (action.Split c.args.split.now) k c.in-Ok.bookings (λ h. elim h [
-      | inl e ↦ apart e
-      | inr e ↦ apart e
-    ]) c.in-Ok.ensures.issues))
+returns-in_ok-make-in-Ok-clause-places g c k apart = grind (arith, elsewhere)
