@@ -66,8 +66,8 @@ as_many : (c : ℕ) (ls : List Line) → added (λ l. c) ls ≤ c * length ls
 as_many c ls = added-all (λ l. c) c ls (λ l. omega arith)
 
 -- lines that are watched are lines of movements
-watched_few : (u : HistoryLine → ℕ) (first last n : ℕ) (S : State) (l : Line) → added u (lines_of (watched.Movements first last) n S l) ≤ added u (movements_at n S l)
-watched_few u first last n S l = grind arith
+watched_few : (u : HistoryLine → ℕ) (d : Day) (n : ℕ) (S : State) (l : Line) → added u (lines_of (watched.Movements d) n S l) ≤ added u (movements_at n S l)
+watched_few u d n S l = grind arith
 
 -- what was booked since the close before a record that closes a day, by what moved the position
 pub record Closed (w : Width) (g : Moved → ℤ) (f : Entry → ℤ) (c : ℕ) (m : Moves) (opening : Day) (ls : List Line) (d : Day) : Type 0 where
@@ -79,20 +79,19 @@ pub record Closed (w : Width) (g : Moved → ℤ) (f : Entry → ℤ) (c : ℕ) 
 
 module _ {k : Key} {w : Width} {g : Moved → ℤ} {ent : Entry → ℤ} {amt : Booking → ℤ} {held : Holding → ℤ} {c : ℕ} (low : k.account < 10000) (counted : IsCounted k w g ent amt held) (limited : AreLimited ent c)
     (opening : Day) (ls : List Line) (cs : List (ℕ × Day)) (d : Day) (range : AllByRecursion IsLineInRange ls) (short : length ls < 2 ^ 32 - 1) (closed : closes 0 (opened opening) ls ≡ cs ++ (length ls, d) ∷ []) where
-  adds_up : let before = last_of (0, None) cs in
-      Closed w g (entry_at ent k) c (moved_at before.1 d (looked_at (log_after (blank_log opening) ls).history) (history (watched.Movements (before.0 + 1) (length ls)) 0 (opened opening) ls) k) opening ls d
+  adds_up : Closed w g (entry_at ent k) c (moved_at (last_of None cs) d (looked_at (log_after (blank_log opening) ls).history) (history (watched.Movements d) 0 (opened opening) ls) k) opening ls d
   adds_up =
-      let before = last_of (0, None) cs in
+      let before = last_of None cs in
       let ts = looked_at (log_after (blank_log opening) ls).history in
-      let lines = history (watched.Movements (before.0 + 1) (length ls)) 0 (opened opening) ls in
-      let e = all_records low counted (length ls) d ls 0 (opened opening) (0, None) (λ n. pos 0) cs (omega arith) (λ first lt. refl)
-      (at_first low counted opening) (omega arith) (let none : length ls ≡ 0 + length ls = omega arith in closed ∙ ap (λ n. cs ++ (n, d) ∷ []) none) in
+      let lines = history (watched.Movements d) 0 (opened opening) ls in
+      let e = all_records low counted d ls 0 (opened opening) None (λ D. pos 0) cs (λ D later. refl)
+      (at_first low counted opening) (let none : length ls ≡ 0 + length ls = omega arith in closed ∙ ap (λ n. cs ++ (n, d) ∷ []) none) in
       let after = state_of-after (blank_log opening) ls ∙ e.after in
-      let trades_are = all_looked_at ent before.1 d k opening ls short ∙ (λ i. total (settles (entry_at ent k) before.1 (e.date i)) (trades (journal_of (after i)))) in
-      let taken_are = ap (added (taken_size ent before.1 d k)) (all_of opening ls short) ∙ added-reverse (taken_size ent before.1 d k) (log_after (blank_log opening) ls).history in
-      let moved = all_moved counted before.1 d ts lines in
-      let sizes = records_few low counted limited before.1 d (watched.Movements (before.0 + 1) (length ls)) 0 (blank_log opening) ls
-      (watched_few (line_size amt k) (before.0 + 1) (length ls)) whole_nil range in
+      let trades_are = all_looked_at ent before d k opening ls short ∙ (λ i. total (settles (entry_at ent k) before (e.date i)) (trades (journal_of (after i)))) in
+      let taken_are = ap (added (taken_size ent before d k)) (all_of opening ls short) ∙ added-reverse (taken_size ent before d k) (log_after (blank_log opening) ls).history in
+      let moved = all_moved counted before d ts lines in
+      let sizes = records_few low counted limited before d (watched.Movements d) 0 (blank_log opening) ls
+      (watched_few (line_size amt k) d) whole_nil range in
       record {
         last = e.last;
         next = e.next;
@@ -140,7 +139,7 @@ module _ (k : Key) (opening : Day) (ls : List Line) (cs : List (ℕ × Day)) (d 
     (closed : closes 0 (opened opening) ls ≡ cs ++ (length ls, d) ∷ []) (is : row_on (state_of (log_after (blank_log opening) ls)) k d ≡ Some r) where
   -- what moved the position
   abbrev m : Moves
-  m = let before = last_of (0, None) cs in moved_at before.1 d (looked_at (log_after (blank_log opening) ls).history) (history (watched.Movements (before.0 + 1) (length ls)) 0 (opened opening) ls) k
+  m = moved_at (last_of None cs) d (looked_at (log_after (blank_log opening) ls).history) (history (watched.Movements d) 0 (opened opening) ls) k
 
   few : k.account < 10000
   few = omega arith

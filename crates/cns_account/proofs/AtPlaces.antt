@@ -1,10 +1,10 @@
 -- Of the lines of movements, those at a place.
 -- For `places_are_whole` and `moves_add_up` of laws.rt.
-use Rattle.std.proofs.Common.{◌≡◌, ◌∙◌, sym, ap, refl, ℕ, ◌+◌, ◌<◌, Bool, true, false, cond, List, [], ◌∷◌, ◌++◌, filter, filter_map, map, is_none, option_map, option_to_list, Option, Some, None, Ok, Err, subst, arith}
+use Rattle.std.proofs.Common.{◌≡◌, ◌∙◌, sym, ap, refl, ℕ, ◌+◌, ◌<◌, Bool, true, false, ◌&&◌, cond, List, [], ◌∷◌, ◌++◌, filter, filter_map, map, is_none, option_map, option_to_list, Option, Some, None, Ok, Err, subst, arith}
 use Rattle.std.specs.List.{cons_option}
 use Rattle.std.specs.Option.{option_map_or}
 use Rattle.std.proofs.lemmas.Int.{ints}
-use Rattle.cns_terms.proofs.Common.{Day, IsWhole, Journal, State, answer, date, filter-append, journal_of, next, opened, refusal}
+use Rattle.cns_terms.proofs.Common.{Day, IsWhole, Journal, State, answer, date, filter-append, is_same_day, journal_of, next, opened, refusal}
 use Rattle.cns_terms.proofs.Sound.{whole-next, whole-post, whole_nil}
 use Rattle.cns_terms.specs.Machine.{activity_reply}
 use Rattle.cns_terms.specs.declared.command.Activity.{Activity}
@@ -16,7 +16,7 @@ use Rattle.cns_terms.specs.declared.reply.Reply.{Reply}
 use Rattle.cns_terms.specs.declared.reply.Reply.TheVariants as reply
 use Rattle.cns_feed.specs.Line.{Line}
 use Rattle.cns_feed.specs.Output.{state_after_line}
-use Rattle.cns_history.specs.Lines.{booked, booked_since, booking, bookings_at, bookings_since, closing, counted_from, history, is_between, is_movement, is_nothing, lines_at, lines_of, places, standing, stood}
+use Rattle.cns_history.specs.Lines.{booked, booked_since, booking, bookings_at, bookings_since, closing, counted_from, history, is_movement, is_nothing, is_open, lines_at, lines_of, places, standing, stood}
 use Rattle.cns_history.specs.declared.line.Booking.{Booking}
 use Rattle.cns_history.specs.declared.line.Closing.{Closing}
 use Rattle.cns_history.specs.declared.line.HistoryLine.{HistoryLine}
@@ -27,7 +27,6 @@ use Rattle.cns_account.specs.Laws.{PlacesAreWhole, is_line_at, is_moved}
 use Rattle.cns_account.specs.Past.{date_told}
 use Rattle.cns_account.proofs.Grid.{is_at}
 use Rattle.cns_account.proofs.Named.{IsSame, more, names}
-use Rattle.std.proofs.lemmas.Bool.Decides.{nat_tests}
 
 -- ---- no movement is a close
 
@@ -103,53 +102,62 @@ movement_at k n S x few whole is =
 
 -- ---- the lines of a history
 
-moved_lines : (first last : ℕ) (b : Booking)
-    → filter (is_moved first last) (option_to_list (booked b)) ≡ cond (is_between first last b.number) (cond (is_movement (command.Activity b.activity)) (option_to_list (booked b)) []) []
-moved_lines first last b = grind (arith, nat_tests)
+-- no movement opens a day
+pub movement_stays : (S : State) (x : Activity) → is_movement (command.Activity x) ≡ true → date S.opening (journal_of (next S (command.Activity x))) ≡ date S.opening (journal_of S)
+movement_stays S x is = grind arith
 
-closing_lines : (first last : ℕ) (o : Option Closing) (ls : List HistoryLine) → filter (is_moved first last) (option_to_list (option_map line.Closing o) ++ ls) ≡ filter (is_moved first last) ls
-closing_lines first last o ls = grind arith
+moved_one : (p : HistoryLine → Bool) (l : HistoryLine) (n t m : Bool) → p l ≡ (t && m) → filter p (option_to_list (cond n None (Some l))) ≡ cond t (cond m (option_to_list (cond n None (Some l))) []) []
+moved_one p l n t m h = grind arith
+
+moved_lines : (d : Day) (b : Booking)
+    → filter (is_moved d) (option_to_list (booked b)) ≡ cond (is_same_day b.date d) (cond (is_movement (command.Activity b.activity)) (option_to_list (booked b)) []) []
+moved_lines d b = moved_one (is_moved d) (line.Booking b) (is_nothing b) (is_same_day b.date d) (is_movement (command.Activity b.activity)) refl
+
+closing_lines : (d : Day) (o : Option Closing) (ls : List HistoryLine) → filter (is_moved d) (option_to_list (option_map line.Closing o) ++ ls) ≡ filter (is_moved d) ls
+closing_lines d o ls = grind arith
 
 no_lines : {X : Type 0} (p : X → Bool) (b : Bool) → filter p (cond b [] []) ≡ []
 no_lines p b = grind arith
 
-activity_line : (k : Key) (first last n : ℕ) (S : State) (x : Activity) → k.account < 10000 → IsWhole S.opening (journal_of S)
-    → filter (is_line_at k) (lines_of (watched.Movements first last) n S (Ok (command.Activity x))) ≡ filter (is_moved first last) (lines_at k n S (Ok (command.Activity x)))
-activity_line k first last n S x few whole =
+where_open : (p : HistoryLine → Bool) (b c : Bool) (all here : List HistoryLine) → c ≡ b → filter p all ≡ here → filter p (cond b all []) ≡ cond c here []
+where_open p b c all here same is = grind arith
+
+activity_line : (k : Key) (d : Day) (n : ℕ) (S : State) (x : Activity) → k.account < 10000 → IsWhole S.opening (journal_of S)
+    → filter (is_line_at k) (lines_of (watched.Movements d) n S (Ok (command.Activity x))) ≡ filter (is_moved d) (lines_at k n S (Ok (command.Activity x)))
+activity_line k d n S x few whole =
     let T = next S (command.Activity x) in
     let r = answer S (command.Activity x) in
-    by (is_movement (command.Activity x)) (is_between first last n) refl
-    ∙ sym (closing_lines first last (closing T k n r) _ ∙ moved_lines first last (booking k n (date T.opening (journal_of T)) x (counted_from (standing S k) r) (standing T k)))
+    by (is_movement (command.Activity x)) refl
+    ∙ sym (closing_lines d (closing T k n r) _ ∙ moved_lines d (booking k n (date T.opening (journal_of T)) x (counted_from (standing S k) r) (standing T k)))
   where
-    by : (m b : Bool) → is_movement (command.Activity x) ≡ m
-        → filter (is_line_at k) (cond b (cond m (bookings_at whose.All n S (Ok (command.Activity x))) []) [])
-        ≡ cond b (cond m (option_to_list (booked (booking k n (date S.opening (journal_of (next S (command.Activity x)))) x (counted_from (standing S k) (answer S (command.Activity x))) (standing (next S (command.Activity x)) k)))) []) []
-    by true true is =
-        movement_at k n S x few whole is
-        ∙ ap (λ h. option_to_list (booked (booking k n (date S.opening (journal_of (next S (command.Activity x)))) x h (standing (next S (command.Activity x)) k)))) (sym (from_same (standing S k) (answer S (command.Activity x)) (moved_answer S x is)))
-    by true false is = refl
-    by false true is = refl
-    by false false is = refl
+    by : (m : Bool) → is_movement (command.Activity x) ≡ m
+        → filter (is_line_at k) (cond (is_open S d) (cond m (bookings_at whose.All n S (Ok (command.Activity x))) []) [])
+        ≡ cond (is_open (next S (command.Activity x)) d) (cond m (option_to_list (booked (booking k n (date S.opening (journal_of (next S (command.Activity x)))) x (counted_from (standing S k) (answer S (command.Activity x))) (standing (next S (command.Activity x)) k)))) []) []
+    by false is = grind arith
+    by true is =
+        where_open (is_line_at k) (is_open S d) (is_open (next S (command.Activity x)) d) _ _ (ap (λ e. is_same_day e d) (movement_stays S x is))
+        (movement_at k n S x few whole is
+        ∙ ap (λ h. option_to_list (booked (booking k n (date S.opening (journal_of (next S (command.Activity x)))) x h (standing (next S (command.Activity x)) k)))) (sym (from_same (standing S k) (answer S (command.Activity x)) (moved_answer S x is))))
 
-one_line : (k : Key) (first last n : ℕ) (S : State) (l : Line) → k.account < 10000 → IsWhole S.opening (journal_of S)
-    → filter (is_line_at k) (lines_of (watched.Movements first last) n S l) ≡ filter (is_moved first last) (lines_at k n S l)
-one_line k first last n S (Err f) few whole = no_lines (is_line_at k) (is_between first last n)
-one_line k first last n S (Ok (command.Position q)) few whole = no_lines (is_line_at k) (is_between first last n)
-one_line k first last n S (Ok (command.Statement a d)) few whole = no_lines (is_line_at k) (is_between first last n)
-one_line k first last n S (Ok (command.Activity x)) few whole = activity_line k first last n S x few whole
+one_line : (k : Key) (d : Day) (n : ℕ) (S : State) (l : Line) → k.account < 10000 → IsWhole S.opening (journal_of S)
+    → filter (is_line_at k) (lines_of (watched.Movements d) n S l) ≡ filter (is_moved d) (lines_at k n S l)
+one_line k d n S (Err f) few whole = no_lines (is_line_at k) (is_open S d)
+one_line k d n S (Ok (command.Position q)) few whole = no_lines (is_line_at k) (is_open S d)
+one_line k d n S (Ok (command.Statement a e)) few whole = no_lines (is_line_at k) (is_open S d)
+one_line k d n S (Ok (command.Activity x)) few whole = activity_line k d n S x few whole
 
 -- what commands lead to stays whole
 pub whole_line : (S : State) (l : Line) → IsWhole S.opening (journal_of S) → IsWhole (state_after_line S l).opening (journal_of (state_after_line S l))
 whole_line S l h1 = grind (arith, whole-next)
 
-all_lines : (k : Key) (first last n : ℕ) (S : State) (ls : List Line) → k.account < 10000 → IsWhole S.opening (journal_of S)
-    → filter (is_line_at k) (history (watched.Movements first last) n S ls) ≡ filter (is_moved first last) (history (watched.Place k) n S ls)
+all_lines : (k : Key) (d : Day) (n : ℕ) (S : State) (ls : List Line) → k.account < 10000 → IsWhole S.opening (journal_of S)
+    → filter (is_line_at k) (history (watched.Movements d) n S ls) ≡ filter (is_moved d) (history (watched.Place k) n S ls)
 unfolding history
-all_lines k first last n S [] few whole = refl
-all_lines k first last n S (l ∷ ls) few whole =
-    filter-append (is_line_at k) (lines_of (watched.Movements first last) (n + 1) S l) (history (watched.Movements first last) (n + 1) (state_after_line S l) ls)
-    ∙ (λ i. one_line k first last (n + 1) S l few whole i ++ all_lines k first last (n + 1) (state_after_line S l) ls few (whole_line S l whole) i)
-    ∙ sym (filter-append (is_moved first last) (lines_at k (n + 1) S l) (history (watched.Place k) (n + 1) (state_after_line S l) ls))
+all_lines k d n S [] few whole = refl
+all_lines k d n S (l ∷ ls) few whole =
+    filter-append (is_line_at k) (lines_of (watched.Movements d) (n + 1) S l) (history (watched.Movements d) (n + 1) (state_after_line S l) ls)
+    ∙ (λ i. one_line k d (n + 1) S l few whole i ++ all_lines k d (n + 1) (state_after_line S l) ls few (whole_line S l whole) i)
+    ∙ sym (filter-append (is_moved d) (lines_at k (n + 1) S l) (history (watched.Place k) (n + 1) (state_after_line S l) ls))
 
 pub places_are_whole : PlacesAreWhole
-places_are_whole k opening ls first last low = all_lines k first last 0 (opened opening) ls (omega arith) whole_nil
+places_are_whole k opening ls d low = all_lines k d 0 (opened opening) ls (omega arith) whole_nil

@@ -1,10 +1,10 @@
 -- What a day's records booked at a place.
 -- For `moves_add_up` of laws.rt.
-use Rattle.std.proofs.Common.{◌≡◌, ◌∙◌, sym, ap, refl, subst, ℕ, ◌+◌, ◌<◌, ◌≤◌, ℤ, pos, ◌+ℤ◌, ◌-ℤ◌, Bool, true, false, cond, List, [], ◌∷◌, ◌++◌, length, is_none, option_map, option_to_list, Option, Some, None, Ok, Err, arith}
+use Rattle.std.proofs.Common.{◌≡◌, ◌∙◌, sym, ap, refl, subst, ℕ, ◌+◌, ◌<◌, ℤ, pos, ◌+ℤ◌, ◌-ℤ◌, Bool, true, false, cond, List, [], ◌∷◌, ◌++◌, length, is_none, option_map, option_to_list, Option, Some, None, Ok, Err, arith, int_eq, int_lt}
 use Rattle.std.specs.Int.{Width}
 use Rattle.std.specs.Option.{option_map_or}
 use Rattle.std.proofs.lemmas.Int.{ints}
-use Rattle.cns_terms.proofs.Common.{Day, IsWhole, NoneHolds, State, all_fail, date, day_number, is_close, journal_of, nat_tests, next, open_day, opened, pend_of, refusal, total, total-append, trades}
+use Rattle.cns_terms.proofs.Common.{Day, IsWhole, NoneHolds, State, all_fail, date, day_number, is_close, journal_of, next, open_day, opened, pend_of, refusal, total, total-append, trades}
 use Rattle.cns_terms.proofs.Facts.{later}
 use Rattle.cns_terms.proofs.Sound.{whole-post, whole_nil}
 use Rattle.cns_terms.specs.Listings.{traded}
@@ -19,7 +19,7 @@ use Rattle.cns_terms.specs.declared.holding.Holding.{Holding}
 use Rattle.cns_terms.specs.declared.holding.Key.{Key}
 use Rattle.cns_feed.specs.Line.{Line}
 use Rattle.cns_feed.specs.Output.{state_after, state_after_line}
-use Rattle.cns_history.specs.Lines.{booked, booking, bookings_at, history, is_between, is_movement, lines_of, movements_at, standing}
+use Rattle.cns_history.specs.Lines.{booked, booking, bookings_at, history, is_movement, lines_of, movements_at, standing}
 use Rattle.cns_history.specs.declared.line.Booking.{Booking}
 use Rattle.cns_history.specs.declared.line.HistoryLine.{HistoryLine}
 use Rattle.cns_history.specs.declared.watched.Watched.TheVariants as watched
@@ -78,11 +78,27 @@ no_records : {X : Type 0} (xs : List X) → length xs ≡ 0 → xs ≡ []
 no_records [] is = refl
 no_records (x ∷ xs) is = absurd (omega arith)
 
-inside : (first last n : ℕ) → first ≤ n → n ≤ last → is_between first last n ≡ true
-inside first last n le few = grind (arith, nat_tests)
+-- ---- days in their order
 
-outside : (first last n : ℕ) → n < first → is_between first last n ≡ false
-outside first last n lt = grind (arith, nat_tests)
+-- a day after the one that is open
+abbrev pub IsLater : State → Day → Type 0
+IsLater S d = int_lt (day_number (date S.opening (journal_of S))) (day_number d) ≡ true
+
+same_number : (n : ℤ) → int_eq n n ≡ true
+same_number n = grind (arith, ints)
+
+other_number : (a b : ℤ) → int_lt a b ≡ true → int_eq a b ≡ false
+other_number a b h = grind (arith, ints)
+
+still_later : (a b c : ℤ) → int_lt a b ≡ true → int_lt b c ≡ true → int_lt a c ≡ true
+still_later a b c p q = grind (arith, ints)
+
+-- what closes no day leaves its date
+date_stays : (S : State) (l : Line) → day_closed S l ≡ None → date (state_after_line S l).opening (journal_of (state_after_line S l)) ≡ date S.opening (journal_of S)
+date_stays S (Err e) stays = refl
+date_stays S (Ok (command.Position q)) stays = refl
+date_stays S (Ok (command.Statement a c)) stays = refl
+date_stays S (Ok (command.Activity x)) stays = grind (arith, still_open, date_same)
 
 -- ---- the lines of a record
 
@@ -176,40 +192,40 @@ module _ {k : Key} {w : Width} {g : Moved → ℤ} {ent : Entry → ℤ} {amt : 
     pub date : d ≡ date last.opening (journal_of last)
     pub after : state_after S ls ≡ more last (activity.Close next)
 
-  module _ (last : ℕ) (d : Day) where
-    -- what the lines of movements from a record on tell
-    abbrev told_from : ℕ → ℕ → State → List Line → ℤ
-    told_from first n S ls = lines (history (watched.Movements first last) n S ls)
+  module _ (d : Day) where
+    -- what the lines of a day's movements tell
+    abbrev told_from : Day → ℕ → State → List Line → ℤ
+    told_from day n S ls = lines (history (watched.Movements day) n S ls)
 
-    abbrev told_line : ℕ → ℕ → State → Line → ℤ
-    told_line first n S l = lines (lines_of (watched.Movements first last) n S l)
+    abbrev told_line : Day → ℕ → State → Line → ℤ
+    told_line day n S l = lines (lines_of (watched.Movements day) n S l)
 
-    line_in : (first n : ℕ) (S : State) (l : Line) → first ≤ n → n ≤ last → told_line first n S l ≡ lines (movements_at n S l)
-    line_in first n S l le few = ap (λ b. lines (cond b (movements_at n S l) [])) (inside first last n le few)
+    line_in : (n : ℕ) (S : State) (l : Line) → told_line (date S.opening (journal_of S)) n S l ≡ lines (movements_at n S l)
+    line_in n S l = ap (λ b. lines (cond b (movements_at n S l) [])) (same_number (day_number (date S.opening (journal_of S))))
 
-    line_out : (first n : ℕ) (S : State) (l : Line) → n < first → told_line first n S l ≡ pos 0
-    line_out first n S l lt = ap (λ b. lines (cond b (movements_at n S l) [])) (outside first last n lt)
+    line_out : (day : Day) (n : ℕ) (S : State) (l : Line) → IsLater S day → told_line day n S l ≡ pos 0
+    line_out day n S l later = ap (λ b. lines (cond b (movements_at n S l) [])) (other_number (day_number (date S.opening (journal_of S))) (day_number day) later)
 
-    line_none : (first n : ℕ) (S : State) (l : Line) → movements_at n S l ≡ [] → told_line first n S l ≡ pos 0
-    line_none first n S l none = grind (arith, none)
+    line_none : (day : Day) (n : ℕ) (S : State) (l : Line) → movements_at n S l ≡ [] → told_line day n S l ≡ pos 0
+    line_none day n S l none = grind (arith, none)
 
     -- what is told of records is told of the first and of the others
-    told_more : (first n : ℕ) (S : State) (l : Line) (ls : List Line) → told_from first n S (l ∷ ls) ≡ told_line first (n + 1) S l +ℤ told_from first (n + 1) (state_after_line S l) ls
+    told_more : (day : Day) (n : ℕ) (S : State) (l : Line) (ls : List Line) → told_from day n S (l ∷ ls) ≡ told_line day (n + 1) S l +ℤ told_from day (n + 1) (state_after_line S l) ls
     unfolding history
-    told_more first n S l ls = total-append (line_at amt k) (lines_of (watched.Movements first last) (n + 1) S l) (history (watched.Movements first last) (n + 1) (state_after_line S l) ls)
+    told_more day n S l ls = total-append (line_at amt k) (lines_of (watched.Movements day) (n + 1) S l) (history (watched.Movements day) (n + 1) (state_after_line S l) ls)
 
-    told_none : (first n : ℕ) (S : State) → told_from first n S [] ≡ pos 0
+    told_none : (day : Day) (n : ℕ) (S : State) → told_from day n S [] ≡ pos 0
     unfolding history
-    told_none first n S = refl
+    told_none day n S = refl
 
-    -- records end with a close, by the number and the date of the close before and what was seen before them
-    abbrev EndsAfter : ℕ × Option Day → List Line → ℕ → State → (ℕ → ℤ) → Type 0
-    EndsAfter b ls n S seen = Ends b.1 S ls d (seen (b.0 + 1) +ℤ told_from (b.0 + 1) n S ls)
+    -- records end with a close, by the date of the close before and what was told of days before them
+    abbrev EndsAfter : Option Day → List Line → ℕ → State → (Day → ℤ) → Type 0
+    EndsAfter before ls n S seen = Ends before S ls d (seen d +ℤ told_from d n S ls)
 
     -- so it is of records after a day that is open
     abbrev Claim : List Line → Type 0
-    Claim ls = (n : ℕ) (S : State) (before : ℕ × Option Day) (seen : ℕ → ℤ) (cs : List (ℕ × Day)) → before.0 ≤ n → ((first : ℕ) → n < first → seen first ≡ pos 0)
-        → InDay before.1 S (seen (before.0 + 1)) → n + length ls ≤ last → closes n S ls ≡ cs ++ (n + length ls, d) ∷ []
+    Claim ls = (n : ℕ) (S : State) (before : Option Day) (seen : Day → ℤ) (cs : List (ℕ × Day)) → ((day : Day) → IsLater S day → seen day ≡ pos 0)
+        → InDay before S (seen (date S.opening (journal_of S))) → closes n S ls ≡ cs ++ (n + length ls, d) ∷ []
         → EndsAfter (last_of before cs) ls n S seen
 
     -- with a record before them
@@ -217,64 +233,69 @@ module _ {k : Key} {w : Width} {g : Moved → ℤ} {ent : Entry → ℤ} {amt : 
     unfolding state_after
     ends_more before S l ls m m' is e = record { last = e.last; next = e.next; none = e.none; day = subst (InDay before e.last) is e.day; date = e.date; after = e.after }
 
-    module _ (l : Line) (ls : List Line) (rest : Claim ls) (n : ℕ) (S : State) (before : ℕ × Option Day) (seen : ℕ → ℤ) (le : before.0 ≤ n) (late : (first : ℕ) → n < first → seen first ≡ pos 0)
-        (open_day : InDay before.1 S (seen (before.0 + 1))) (few_left : n + length (l ∷ ls) ≤ last) where
-      seen_more : ℕ → ℤ
-      seen_more first = seen first +ℤ told_line first (n + 1) S l
+    module _ (l : Line) (ls : List Line) (rest : Claim ls) (n : ℕ) (S : State) (before : Option Day) (seen : Day → ℤ) (late : (day : Day) → IsLater S day → seen day ≡ pos 0)
+        (open_day : InDay before S (seen (date S.opening (journal_of S)))) where
+      seen_more : Day → ℤ
+      seen_more day = seen day +ℤ told_line day (n + 1) S l
 
-      late_more : (first : ℕ) → n + 1 < first → seen_more first ≡ pos 0
+      late_more : (day : Day) → IsLater S day → seen_more day ≡ pos 0
       unfolding seen_more
-      late_more first lt = let a = late first (omega arith) in let b = line_out first (n + 1) S l lt in omega (arith, ints)
+      late_more day later = let a = late day later in let b = line_out day (n + 1) S l later in omega (arith, ints)
 
-      told_all : (first : ℕ) → seen_more first +ℤ told_from first (n + 1) (state_after_line S l) ls ≡ seen first +ℤ told_from first n S (l ∷ ls)
+      told_all : (day : Day) → seen_more day +ℤ told_from day (n + 1) (state_after_line S l) ls ≡ seen day +ℤ told_from day n S (l ∷ ls)
       unfolding seen_more
-      told_all first = let e = told_more first n S l ls in omega (arith, ints)
+      told_all day = let e = told_more day n S l ls in omega (arith, ints)
+
+      same_end : (cs : List (ℕ × Day)) → closes (n + 1) (state_after_line S l) ls ≡ cs ++ (n + length (l ∷ ls), d) ∷ [] → closes (n + 1) (state_after_line S l) ls ≡ cs ++ ((n + 1) + length ls, d) ∷ []
+      same_end cs is = let same : n + length (l ∷ ls) ≡ (n + 1) + length ls = omega arith in is ∙ ap (λ m. cs ++ (m, d) ∷ []) same
 
       -- which closes no day
       no_close : (cs : List (ℕ × Day)) → day_closed S l ≡ None → closes (n + 1) (state_after_line S l) ls ≡ cs ++ (n + length (l ∷ ls), d) ∷ []
           → EndsAfter (last_of before cs) (l ∷ ls) n S seen
       unfolding seen_more
       no_close cs stays is =
-          let b = last_of before cs in
-          let same : n + length (l ∷ ls) ≡ (n + 1) + length ls = omega arith in
-          ends_more b.1 S l ls _ _ (told_all (b.0 + 1))
-          (rest (n + 1) (state_after_line S l) before seen_more cs (omega arith) late_more
-          (subst (λ m. InDay before.1 (state_after_line S l) (seen (before.0 + 1) +ℤ m)) (sym (line_in (before.0 + 1) (n + 1) S l (omega arith) (omega arith))) (next_line before.1 (n + 1) S l (seen (before.0 + 1)) open_day stays))
-          (omega arith) (is ∙ ap (λ m. cs ++ (m, d) ∷ []) same))
+          let today = date S.opening (journal_of S) in
+          let dated = date_stays S l stays in
+          ends_more (last_of before cs) S l ls _ _ (told_all d)
+          (rest (n + 1) (state_after_line S l) before seen_more cs (λ day later. late_more day (subst (λ e. int_lt (day_number e) (day_number day) ≡ true) dated later))
+          (subst (λ e. InDay before (state_after_line S l) (seen_more e)) (sym dated)
+          (subst (λ m. InDay before (state_after_line S l) (seen today +ℤ m)) (sym (line_in (n + 1) S l)) (next_line before (n + 1) S l (seen today) open_day stays)))
+          (same_end cs is))
 
       -- which closes the last day
       last_close : (e : Day) → IsClose S l e → (n + 1, e) ∷ closes (n + 1) (state_after_line S l) ls ≡ (n + length (l ∷ ls), d) ∷ []
           → EndsAfter before (l ∷ ls) n S seen
       unfolding state_after
       last_close e c is =
-          let first = before.0 + 1 in
           let head : ◌≡◌ {A = ℕ × Day} (n + 1, e) (n + length (l ∷ ls), d) = cc in
           let count : n + 1 ≡ n + length (l ∷ ls) = ap (λ (p : ℕ × Day). p.0) head in
           let none : ls ≡ [] = no_records ls (omega (arith, count)) in
-          let told_last = line_none first (n + 1) S l (c.nothing (n + 1)) in
-          let told_rest = ap (told_from first (n + 1) (state_after_line S l)) none ∙ told_none first (n + 1) (state_after_line S l) in
-          let whole = told_more first n S l ls in
-          let same : seen first ≡ seen first +ℤ told_from first n S (l ∷ ls) = omega (arith, ints, told_last, told_rest, whole) in
+          let dated : d ≡ date S.opening (journal_of S) = sym (ap (λ (p : ℕ × Day). p.1) head) ∙ c.date in
+          let told_last = line_none d (n + 1) S l (c.nothing (n + 1)) in
+          let told_rest = ap (told_from d (n + 1) (state_after_line S l)) none ∙ told_none d (n + 1) (state_after_line S l) in
+          let whole = told_more d n S l ls in
+          let same : seen d ≡ seen d +ℤ told_from d n S (l ∷ ls) = omega (arith, ints, told_last, told_rest, whole) in
           record {
             last = S;
             next = c.next;
             none = c.none;
-            day = subst (InDay before.1 S) same open_day;
-            date = sym (ap (λ (p : ℕ × Day). p.1) head) ∙ c.date;
+            day = subst (InDay before S) (ap seen (sym dated) ∙ same) open_day;
+            date = dated;
             after = ap (state_after (state_after_line S l)) none ∙ c.after;
           }
 
       -- which closes an earlier one
       some_close : (cs : List (ℕ × Day)) (e : Day) → IsClose S l e → closes (n + 1) (state_after_line S l) ls ≡ cs ++ (n + length (l ∷ ls), d) ∷ []
-          → EndsAfter (last_of (n + 1, Some e) cs) (l ∷ ls) n S seen
+          → EndsAfter (last_of (Some e) cs) (l ∷ ls) n S seen
       some_close cs e c is =
-          let b = last_of (n + 1, Some e) cs in
-          let same : n + length (l ∷ ls) ≡ (n + 1) + length ls = omega arith in
+          let today = day_number (date S.opening (journal_of S)) in
           let begins = at_close S c.next open_day.whole c.none in
-          ends_more b.1 S l ls _ _ (told_all (b.0 + 1))
-          (rest (n + 1) (state_after_line S l) (n + 1, Some e) seen_more cs (omega arith) late_more
-          (subst (InDay (Some e) (state_after_line S l)) (sym (late_more (n + 1 + 1) (omega arith))) (subst (λ T. InDay (Some e) T (pos 0)) (sym c.after) (subst (λ e. InDay (Some e) (more S (activity.Close c.next)) (pos 0)) (sym c.date) begins)))
-          (omega arith) (is ∙ ap (λ m. cs ++ (m, d) ∷ []) same))
+          let opens : date (state_after_line S l).opening (journal_of (state_after_line S l)) ≡ c.next = ap (λ (T : State). date T.opening (journal_of T)) c.after in
+          ends_more (last_of (Some e) cs) S l ls _ _ (told_all d)
+          (rest (n + 1) (state_after_line S l) (Some e) seen_more cs
+          (λ day later. late_more day (still_later today (day_number c.next) (day_number day) begins.after (subst (λ e. int_lt (day_number e) (day_number day) ≡ true) opens later)))
+          (subst (InDay (Some e) (state_after_line S l)) (sym (ap seen_more opens ∙ late_more c.next begins.after)) (subst (λ T. InDay (Some e) T (pos 0)) (sym c.after) (subst (λ e. InDay (Some e) (more S (activity.Close c.next)) (pos 0)) (sym c.date) begins)))
+          (same_end cs is))
 
       one_record : (cs : List (ℕ × Day)) (o : Option Day) → day_closed S l ≡ o → option_to_list (option_map (λ e. (n + 1, e)) o) ++ closes (n + 1) (state_after_line S l) ls ≡ cs ++ (n + length (l ∷ ls), d) ∷ []
           → EndsAfter (last_of before cs) (l ∷ ls) n S seen
@@ -283,10 +304,10 @@ module _ {k : Key} {w : Width} {g : Moved → ℤ} {ent : Entry → ℤ} {amt : 
       one_record (c ∷ cs) (Some e) ends is =
           let head : (n + 1, e) ≡ c = cc in
           let tail : closes (n + 1) (state_after_line S l) ls ≡ cs ++ (n + length (l ∷ ls), d) ∷ [] = cc in
-          subst (λ c. EndsAfter (last_of (c.0, Some c.1) cs) (l ∷ ls) n S seen) head (some_close cs e (closing_line S l e ends) tail)
+          subst (λ c. EndsAfter (last_of (Some c.1) cs) (l ∷ ls) n S seen) head (some_close cs e (closing_line S l e ends) tail)
 
     pub all_records : (ls : List Line) → Claim ls
     unfolding closes
-    all_records [] n S before seen [] le late day few is = cc
-    all_records [] n S before seen (c ∷ cs) le late day few is = cc
-    all_records (l ∷ ls) n S before seen cs le late day few is = one_record l ls (all_records ls) n S before seen le late day few cs (day_closed S l) refl is
+    all_records [] n S before seen [] late day is = cc
+    all_records [] n S before seen (c ∷ cs) late day is = cc
+    all_records (l ∷ ls) n S before seen cs late day is = one_record l ls (all_records ls) n S before seen late day cs (day_closed S l) refl is

@@ -2,7 +2,7 @@
 use Rattle.std.specs.Prelude.{◌≡◌, ◌≤◌, ◌<◌, ◌^◌, ℕ, ◌+◌, ◌-◌, ℤ, ◌+ℤ◌, Bool, false, ◌&&◌, List, [], ◌∷◌, ◌++◌, filter, length, option_map, option_to_list, Option, Some, None, Ok, Err, ⊤}
 use Rattle.std.specs.List.{AllByRecursion}
 use Rattle.std.specs.Ordering.{is_eq}
-use Rattle.cns_terms.specs.Common.{Day, State, answer, key_cmp, member_limit, opened, shares_limit}
+use Rattle.cns_terms.specs.Common.{Day, State, answer, is_same_day, key_cmp, member_limit, opened, shares_limit}
 use Rattle.cns_terms.specs.Reached.{IsCommandInRange}
 use Rattle.cns_terms.specs.declared.command.Activity.TheVariants as activity
 use Rattle.cns_terms.specs.declared.command.Command.{Command}
@@ -13,7 +13,7 @@ use Rattle.cns_book.specs.Log.{state_of}
 use Rattle.cns_feed.specs.Line.{Line}
 use Rattle.cns_feed.specs.Output.{state_after_line}
 use Rattle.cns_feed.specs.Replay.{blank_log, log_after}
-use Rattle.cns_history.specs.Lines.{history, is_between, is_movement, row_on}
+use Rattle.cns_history.specs.Lines.{history, is_movement, row_on}
 use Rattle.cns_history.specs.declared.line.HistoryLine.{HistoryLine}
 use Rattle.cns_history.specs.declared.line.HistoryLine.TheVariants as line
 use Rattle.cns_history.specs.declared.watched.Watched.TheVariants as watched
@@ -30,16 +30,16 @@ abbrev pub is_line_at : Key → HistoryLine → Bool
 is_line_at k (line.Booking b) = is_eq (key_cmp (record { account = b.account; issue = b.issue }) k)
 is_line_at k (line.Closing c) = false
 
--- whether a line tells what a movement booked, one of the records from the first to the last
-abbrev pub is_moved : ℕ → ℕ → HistoryLine → Bool
-is_moved first last (line.Booking b) = is_between first last b.number && is_movement (command.Activity b.activity)
-is_moved first last (line.Closing c) = false
+-- whether a line tells what a movement booked on the day with the date
+abbrev pub is_moved : Day → HistoryLine → Bool
+is_moved d (line.Booking b) = is_same_day b.date d && is_movement (command.Activity b.activity)
+is_moved d (line.Closing c) = false
 
--- of the lines of movements, those at a place are all that movements booked there, each once
+-- of the lines of a day's movements, those at a place are all that movements booked there on the day, each once
 abbrev pub PlacesAreWhole : Type 0
-PlacesAreWhole = (k : Key) (opening : Day) (ls : List Line) (first last : ℕ) → k.account ≤ member_limit →
-    filter (is_line_at k) (history (watched.Movements first last) 0 (opened opening) ls)
-    ≡ filter (is_moved first last) (history (watched.Place k) 0 (opened opening) ls)
+PlacesAreWhole = (k : Key) (opening : Day) (ls : List Line) (d : Day) → k.account ≤ member_limit →
+    filter (is_line_at k) (history (watched.Movements d) 0 (opened opening) ls)
+    ≡ filter (is_moved d) (history (watched.Place k) 0 (opened opening) ls)
 
 -- ---- a day's records
 
@@ -53,10 +53,10 @@ unfoldable pub closes : ℕ → State → List Line → List (ℕ × Day)
 closes n S [] = []
 closes n S (l ∷ ls) = option_to_list (option_map (λ d. (n + 1, d)) (day_closed S l)) ++ closes (n + 1) (state_after_line S l) ls
 
--- the number and the date of the last of some closes, after another, if there was one
-abbrev pub last_of : ℕ × Option Day → List (ℕ × Day) → ℕ × Option Day
+-- the date of the last of some closes, after another, if there was one
+abbrev pub last_of : Option Day → List (ℕ × Day) → Option Day
 last_of before [] = before
-last_of before (c ∷ cs) = last_of (c.0, Some c.1) cs
+last_of before (c ∷ cs) = last_of (Some c.1) cs
 
 -- ---- what moved a position
 
@@ -83,12 +83,11 @@ IsLineInRange (Ok cmd) = IsCommandInRange cmd × HasFewShares cmd
 IsLineInRange (Err f) = ⊤
 
 -- of records in their ranges, fewer than a book takes, that end with a close: what moved a position of the day's sheet adds up, by the
--- trades that settled after the day before, and by the lines of the movements of the records after that day's close
+-- trades that settled after the day before, and by the lines of the day's movements
 abbrev pub MovesAddUp : Type 0
 MovesAddUp = (k : Key) (opening : Day) (ls : List Line) (cs : List (ℕ × Day)) (d : Day) (r : Row) →
     k.account ≤ member_limit → AllByRecursion IsLineInRange ls → length ls < 2 ^ 32 - 1 →
     closes 0 (opened opening) ls ≡ cs ++ (length ls, d) ∷ [] →
     let log = log_after (blank_log opening) ls in
-    let before = last_of (0, None) cs in
-    let lines = history (watched.Movements (before.0 + 1) (length ls)) 0 (opened opening) ls in
-    row_on (state_of log) k d ≡ Some r → AddUp r (moved_at before.1 d (looked_at log.history) lines k)
+    let lines = history (watched.Movements d) 0 (opened opening) ls in
+    row_on (state_of log) k d ≡ Some r → AddUp r (moved_at (last_of None cs) d (looked_at log.history) lines k)

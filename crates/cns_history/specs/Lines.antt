@@ -1,9 +1,9 @@
 -- The lines of a history: what each record booked at a place, and the closes; or what it booked at all places of some accounts.
-use Rattle.std.specs.Prelude.{ℕ, ◌+◌, nat_lt, pos, ◌-ℤ◌, Bool, true, false, not, ◌&&◌, ◌==◌, if◌then◌else◌, List, [], ◌∷◌, ◌++◌, filter, filter_map, flat_map, map, Option, Some, None, Ok, is_some, slice_get, option_and_then, option_map, unwrap_or}
+use Rattle.std.specs.Prelude.{ℕ, ◌+◌, pos, ◌-ℤ◌, Bool, true, false, ◌&&◌, ◌==◌, if◌then◌else◌, List, [], ◌∷◌, ◌++◌, filter, filter_map, flat_map, map, Option, Some, None, Ok, is_some, slice_get, option_and_then, option_map, unwrap_or}
 use Rattle.std.specs.List.{range_with_len}
 use Rattle.std.specs.Option.{option_map_or, option_to_list}
 use Rattle.std.specs.Ordering.{int_eq}
-use Rattle.cns_terms.specs.Common.{Account, Cusip, Day, State, answer, corporation, date, journal_of, next, sheet_on}
+use Rattle.cns_terms.specs.Common.{Account, Cusip, Day, State, answer, corporation, date, is_same_day, journal_of, next, sheet_on}
 use Rattle.cns_terms.specs.declared.command.Activity.{Activity}
 use Rattle.cns_terms.specs.declared.command.Activity.TheVariants as activity
 use Rattle.cns_terms.specs.declared.command.Command.{Command}
@@ -168,9 +168,14 @@ bookings_at w n S _ = []
 
 -- ---- the lines of what is watched
 
--- whether a number is one of those from the first to the last
-abbrev pub is_between : ℕ → ℕ → ℕ → Bool
-is_between first last n = not (nat_lt n first) && not (nat_lt last n)
+-- whether the day with the date is open
+abbrev pub is_open : State → Day → Bool
+is_open S d = is_same_day (date S.opening (journal_of S)) d
+
+-- whether what a record books is booked on the day with the date: what a close books, on the day that it opens
+abbrev pub is_on : State → Line → Day → Bool
+is_on S (Ok (command.Activity (activity.Close next))) d = is_same_day next d
+is_on S _ d = is_open S d
 
 -- whether a command can book what is neither a trade's nor a close's
 abbrev pub is_movement : Command → Bool
@@ -190,8 +195,8 @@ movements_at n S _ = []
 abbrev pub lines_of : Watched → ℕ → State → Line → List HistoryLine
 lines_of watched.Nothing n S l = []
 lines_of (watched.Place k) n S l = lines_at k n S l
-lines_of (watched.Bookings w first last) n S l = if is_between first last n then bookings_at w n S l else []
-lines_of (watched.Movements first last) n S l = if is_between first last n then movements_at n S l else []
+lines_of (watched.Bookings w d) n S l = if is_on S l d then bookings_at w n S l else []
+lines_of (watched.Movements d) n S l = if is_open S d then movements_at n S l else []
 
 -- those of records in order, after so many others
 unfoldable pub history : Watched → ℕ → State → List Line → List HistoryLine

@@ -4,7 +4,7 @@ ghost use Rattle.cns_terms.specs.Common.{answer};
 ghost use Rattle.cns_book.specs.Log.{state_of};
 ghost use Rattle.cns_terms.specs.declared.command.Command.TheVariants as command;
 ghost use Rattle.cns_feed.specs.Replay.{log_after_line};
-ghost use Rattle.cns_history.specs.Lines.{bookings_at, is_between, is_movement, lines_at, lines_of};
+ghost use Rattle.cns_history.specs.Lines.{bookings_at, is_movement, is_on, is_open, lines_at, lines_of};
 
 use crate::everywhere::{add_booked, before};
 use crate::line::HistoryLine;
@@ -12,6 +12,7 @@ use crate::told::{Answered, add_lines, standing};
 use crate::watched::{Watched, Whose};
 use cns_feed::{ReplayBook, ReplayFault};
 use cns_terms::{Activity, Command, Key, Reply, Worker};
+use cns_units::Day;
 
 // Takes a command, and adds its lines at a place.
 fn take_at(
@@ -91,11 +92,21 @@ fn take_for(
     }
 }
 
-// Whether a number is one of those from the first to the last.
-fn is_between(first: u64, last: u64, number: u64) -> bool
-    ensures { result ≡ is_between first last number }
+// Whether the day with the date is open.
+fn is_open(book: &ReplayBook, day: Day) -> bool
+    ensures { result ≡ is_open (state_of book.now.log) day }
 {
-    first <= number && number <= last
+    book.today() == day
+}
+
+// Whether what a command books is booked on the day with the date: what a close books, on the day that it opens.
+fn is_on(book: &ReplayBook, command: &Command, day: Day) -> bool
+    ensures { result ≡ is_on (state_of book.now.log) (Ok command.now) day }
+{
+    match command {
+        Command::Activity(Activity::Close(next)) => *next == day,
+        _ => is_open(book, day),
+    }
 }
 
 // Whether a command can book what is neither a trade's nor a close's.
@@ -134,12 +145,12 @@ pub fn take_watched(
     match watched {
         Watched::Nothing => take_for(book, &Whose::All, false, number, command, lines),
         Watched::Place(key) => take_at(book, key, number, command, lines),
-        Watched::Bookings(whose, first, last) => {
-            let is_wanted = is_between(*first, *last, number);
+        Watched::Bookings(whose, day) => {
+            let is_wanted = is_on(book, command, *day);
             take_for(book, whose, is_wanted, number, command, lines)
         }
-        Watched::Movements(first, last) => {
-            let is_wanted = is_between(*first, *last, number) && is_movement(command);
+        Watched::Movements(day) => {
+            let is_wanted = is_open(book, *day) && is_movement(command);
             take_for(book, &Whose::All, is_wanted, number, command, lines)
         }
     }

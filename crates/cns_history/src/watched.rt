@@ -1,6 +1,6 @@
 // What is watched while records are played.
 use cns_terms::Key;
-use cns_units::Account;
+use cns_units::{Account, Day};
 
 /// Whose bookings are wanted.
 #[derive(Clone, Copy)]
@@ -17,8 +17,9 @@ pub enum Watched {
     Nothing,
     /// An account's place in an issue: its history.
     Place(Key),
-    /// All places of some accounts: what the records book there, from the first number to the last.
-    Bookings(Whose, u64, u64),
-    /// All places of all accounts: what those records book there that are neither trades nor closes.
-    Movements(u64, u64),
+    /// All places of some accounts: what is booked there on the day with the date, from the close that opens it, which books what
+    /// was due, up to the record before its own close.
+    Bookings(Whose, Day),
+    /// All places of all accounts: what that day's records book there that are neither trades nor closes.
+    Movements(Day),
 }

@@ -1,7 +1,6 @@
 -- A book and what is known of its records, line after line.
 -- For `play_with` and `step` of play.rt.
-use Rattle.std.proofs.Common.{◌≡◌, ℕ, ◌+◌, ◌≤◌, List, [], ◌∷◌, ◌++◌, length, take, Option, refl, sym, ap, ◌∙◌, append_assoc, append-nil, length-append, arith}
-use Rattle.std.proofs.lemmas.List.{take_all}
+use Rattle.std.proofs.Common.{◌≡◌, Bool, true, ℕ, ◌+◌, List, [], ◌∷◌, ◌++◌, length, take, Option, refl, sym, ap, ◌∙◌, append_assoc, append-nil, length-append, arith}
 use Rattle.std.proofs.Math.Seq.{take-append_seam}
 use Rattle.cns_terms.specs.Common.{State}
 use Rattle.cns_terms.specs.declared.command.Command.{Command}
@@ -16,7 +15,7 @@ use Rattle.cns_feed.proofs.PlayLemmas.{log_after-append, state_of-after}
 use Rattle.cns_history.specs.Lines.{history, lines_of}
 use Rattle.cns_history.specs.declared.line.HistoryLine.{HistoryLine}
 use Rattle.cns_history.specs.declared.watched.Watched.{Watched}
-use Rattle.cns_page.specs.Survey.{Known, Takes, Why, known, noted, noted_all, replied, righted, wanted}
+use Rattle.cns_page.specs.Survey.{Came, Known, Takes, Why, known, noted, noted_all, replied, righted, wanted}
 use Rattle.cns_page.specs.declared.survey.Survey.{Survey}
 
 -- records and others behind them
@@ -83,27 +82,21 @@ along_line rem a b w first now then from s t old new turns all turned takes p =
           ∙ sym (history-append w 0 (state_of first) p.done (one.line ∷ []));
     }
 
--- what came of the first lines, at most so many
-pub record Came (w : Watched) (first now : Log) (from : Known) (s : Survey) (told : List HistoryLine) (most : ℕ) (all : List Line) : Type 0 where
-  pub log : now ≡ log_after first (take most all)
-  pub knows : known s ≡ noted_all from (state_of first) (take most all)
-  pub tells : told ≡ history w 0 (state_of first) (take most all)
-
-came : {R : Type 0} (rem : R → Option (List ℕ)) (rs : Records R) (w : Watched) (first now : Log) (from : Known) (s : Survey) (told : List HistoryLine) (turns most : ℕ) (all : List Line)
-    → (p : Along rem rs w first now from s told turns all) → take most all ≡ p.done → Came w first now from s told most all
-came rem rs w first now from s told turns most all p is = record { log = rw is p.log; knows = rw is p.knows; tells = rw is p.tells }
-
--- after as many turns as there may be
-pub along_full : {R : Type 0} (rem : R → Option (List ℕ)) (rs : Records R) (w : Watched) (first now : Log) (from : Known) (s : Survey) (told : List HistoryLine) (most : ℕ) (all : List Line)
-    → (turns : ℕ) → turns ≡ most → Along rem rs w first now from s told turns all → Came w first now from s told most all
-along_full rem rs w first now from s told most all turns is p =
-    came rem rs w first now from s told turns most all p (ap (λ n. take n all) (sym (p.count ∙ is)) ∙ ap (take (length p.done)) p.whole ∙ take-append_seam p.done p.rest)
+-- what came of the lines that were taken
+pub along_came : {R : Type 0} (rem : R → Option (List ℕ)) (rs : Records R) (w : Watched) (first now : Log) (from : Known) (s : Survey) (told : List HistoryLine) (turns : ℕ) (whole : Bool) (all : List Line)
+    → (p : Along rem rs w first now from s told turns all) → s.records ≡ turns → (whole ≡ true → p.rest ≡ []) → Came w first now from s told whole all
+along_came rem rs w first now from s told turns whole all p counted none =
+    let is : take s.records all ≡ p.done = ap (λ n. take n all) (counted ∙ sym p.count) ∙ ap (take (length p.done)) p.whole ∙ take-append_seam p.done p.rest in
+    record {
+      log = rw is p.log;
+      knows = rw is p.knows;
+      tells = rw is p.tells;
+      all_taken = λ t. let c = p.count in let l = ap length p.whole ∙ length-append p.done p.rest in let n = ap length (none t) in omega (arith, c, l, n, counted);
+    }
 
 -- where no line is left
-pub along_end : {R : Type 0} (rem : R → Option (List ℕ)) (rs : Records R) (w : Watched) (first now then : Log) (from : Known) (s t : Survey) (old new : List HistoryLine) (turns most : ℕ) (all : List Line)
-    → (then ≡ now) × (t ≡ s) × (new ≡ old) × ((rest : List Line) → Pending rem rs rest → rest ≡ []) → turns ≤ most → Along rem rs w first now from s old turns all
-    → Came w first then from t new most all × (length all ≤ most)
-along_end rem rs w first now then from s t old new turns most all (log, survey, lines, none) few p =
-    let whole : all ≡ p.done = p.whole ∙ ap (λ ls. p.done ++ ls) (none p.rest p.left) ∙ append-nil p.done in
-    let short : length all ≤ most = let c = p.count in let l = ap length whole in omega (arith, c, l, few) in
-    (rw (log, survey, lines) (came rem rs w first now from s old turns most all p (take_all most all short ∙ whole)), short)
+pub along_end : {R : Type 0} (rem : R → Option (List ℕ)) (rs : Records R) (w : Watched) (first now then : Log) (from : Known) (s t : Survey) (old new : List HistoryLine) (turns : ℕ) (all : List Line)
+    → (then ≡ now) × (t ≡ s) × (new ≡ old) × ((rest : List Line) → Pending rem rs rest → rest ≡ []) → s.records ≡ turns → Along rem rs w first now from s old turns all
+    → Came w first then from t new true all
+along_end rem rs w first now then from s t old new turns all (log, survey, lines, none) counted p =
+    rw (log, survey, lines) (along_came rem rs w first now from s old turns true all p counted (λ t. none p.rest p.left))

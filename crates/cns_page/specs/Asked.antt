@@ -1,14 +1,15 @@
 -- The page that is asked for.
-use Rattle.std.specs.Prelude.{◌≡◌, ◌≤◌, ℕ, List, length, take, Option, None, Some, false}
+use Rattle.std.specs.Prelude.{◌≡◌, ◌-◌, ℕ, List, length, slice_get, take, Option, None, Some, false, option_map}
 use Rattle.cns_terms.specs.Common.{Account, Day, DaySheet, opened}
+use Rattle.cns_feed.specs.Line.{Line}
 use Rattle.cns_feed.specs.Output.{lines_of}
 use Rattle.cns_history.specs.Page.{ShowsHistory}
 use Rattle.cns_history.specs.declared.place.Place.{Place}
+use Rattle.cns_history.specs.declared.watched.Watched.TheVariants as watched
 use Rattle.cns_history.specs.declared.watched.Whose.TheVariants as whose
 use Rattle.cns_page.specs.Account.{ShowsAccount}
-use Rattle.cns_page.specs.Listed.{last_record}
-use Rattle.cns_page.specs.Shown.{AreShared, HasClosed, IsClosedDay, IsClosedOn, IsSheetOf, own_watched}
-use Rattle.cns_page.specs.Survey.{known, noted_all, nothing}
+use Rattle.cns_page.specs.Shown.{AreShared, HasDay, IsClosedDay, IsSheetOf}
+use Rattle.cns_page.specs.Survey.{ComesTo, IsClosedBy, known, noted_all, nothing}
 use Rattle.cns_page.specs.Today.{HasToday}
 use Rattle.cns_page.specs.declared.asked.About.{About}
 use Rattle.cns_page.specs.declared.asked.About.TheVariants as about
@@ -16,25 +17,32 @@ use Rattle.cns_page.specs.declared.asked.Asked.{Asked}
 use Rattle.cns_page.specs.declared.asked.When.{When}
 use Rattle.cns_page.specs.declared.asked.When.TheVariants as when
 use Rattle.cns_page.specs.declared.closed.ClosedDay.{ClosedDay}
+use Rattle.cns_page.specs.declared.play.Played.{Played}
 use Rattle.cns_page.specs.declared.shared.Shared.{Shared}
 use Rattle.cns_page.specs.declared.survey.Close.{Close}
 use Rattle.cns_page.specs.declared.survey.Survey.{Survey}
 
--- the day that is asked for, by the closes among an input's records
-abbrev pub HasAsked : Day → List ℕ → List Close → When → Option (List ℕ) → Option (List ℕ) → Type 0
-HasAsked opening input closes when.Last old new = HasClosed opening input closes None old new
-HasAsked opening input closes (when.Closed d) old new = HasClosed opening input closes (Some d) old new
-HasAsked opening input closes when.Today old new = HasToday opening input (last_record closes) old new
+-- the date of the last day that the records of an input close
+pub record IsLastDay (opening : Day) (input : List ℕ) (day : Day) : Type 0 where
+  pub survey : Survey
+  pub all_known : known survey ≡ noted_all (nothing None) (opened opening) (lines_of input)
+  pub last : option_map (λ c. c.date) (slice_get survey.closes.items (length survey.closes.items - 1)) ≡ Some day
 
--- how many records a history is of, by the closes among all records, of which there are at most so many: those up to the close
--- of the day with the date, where one is given
-abbrev pub IsOfRecords : List Close → Option Day → ℕ → ℕ → Type 0
-IsOfRecords closes None most records = records ≡ most
-IsOfRecords closes (Some d) most records = (from : ℕ) × (close : Close) × IsClosedOn closes (Some d) from close × (records ≡ close.record)
+-- the date of the closed day that is asked for
+abbrev pub IsClosedIn : Day → List ℕ → When → Day → Type 0
+IsClosedIn opening input when.Last day = IsLastDay opening input day
+IsClosedIn opening input (when.Closed d) day = day ≡ d
+IsClosedIn opening input when.Today day = ⊥
 
--- the history of a place, of so many records
-abbrev pub HasPast : Place → List ℕ → List Close → ℕ → Option (List ℕ) → Option (List ℕ) → Type 0
-HasPast p input closes most old new = (records : ℕ) × IsOfRecords closes p.day most records × ShowsHistory p (take records (lines_of input)) old new
+-- the page of the closed day that is asked for
+abbrev pub HasClosed : Day → List ℕ → When → Option (List ℕ) → Option (List ℕ) → Type 0
+HasClosed opening input w old new = (day : Day) × IsClosedIn opening input w day × HasDay opening input day old new
+
+-- of the day that is asked for
+abbrev pub HasAsked : Day → List ℕ → When → Option (List ℕ) → Option (List ℕ) → Type 0
+HasAsked opening input when.Last old new = HasClosed opening input when.Last old new
+HasAsked opening input (when.Closed d) old new = HasClosed opening input (when.Closed d) old new
+HasAsked opening input when.Today old new = HasToday opening input old new
 
 -- what was written is the page of what a closed day did to an account, by itself
 pub record WritesOwn (a : Account) (d : ClosedDay) (old new : Option (List ℕ)) : Type 0 where
@@ -44,18 +52,31 @@ pub record WritesOwn (a : Account) (d : ClosedDay) (old new : Option (List ℕ))
   pub gathered : AreShared d sheet shared
   pub shown : ShowsAccount d sheet a false d.lines.items shared old new
 
--- what the day that a close ends did to an account
-pub record HasOwnDay (a : Account) (opening : Day) (input : List ℕ) (from : ℕ) (close : Close) (old new : Option (List ℕ)) : Type 0 where
-  pub day : ClosedDay
-  pub is : IsClosedDay opening input from close (own_watched (whose.One a) from close) day
-  pub written : WritesOwn a day old new
+-- what the closed day that is asked for did to an account
+pub record HasOwn (a : Account) (opening : Day) (input : List ℕ) (w : When) (old new : Option (List ℕ)) : Type 0 where
+  pub day : Day
+  pub asked : IsClosedIn opening input w day
+  pub closed : ClosedDay
+  pub is : IsClosedDay opening input day (watched.Bookings (whose.One a) day) closed
+  pub written : WritesOwn a closed old new
 
--- of the closed day with the date, or of the last one
-abbrev pub HasOwn : Account → Day → List ℕ → List Close → Option Day → Option (List ℕ) → Option (List ℕ) → Type 0
-HasOwn a opening input closes day old new =
-    (from : ℕ) × (close : Close) × IsClosedOn closes day from close × HasOwnDay a opening input from close old new
+-- the records that a history is of: those up to the close of the day with the date, or all of the input where none is given
+abbrev pub AreUpTo : Day → List ℕ → Option Day → List Line → Type 0
+AreUpTo opening input None all = all ≡ lines_of input
+AreUpTo opening input (Some d) all = (s : Survey) × (c : Close) × (known s ≡ noted_all (nothing (Some d)) (opened opening) all)
+    × IsClosedBy s d c × (all ≡ take c.record (lines_of input))
 
--- the closed day that is asked for; None for the last one and for the open one
+-- what was played for the history of a place
+pub record HasPlayed (p : Place) (input : List ℕ) (t : Played) : Type 0 where
+  pub all : List Line
+  pub up_to : AreUpTo p.opening input p.day all
+  pub played : ComesTo p.opening p.day (watched.Place p.key) all t
+
+-- the history of a place
+abbrev pub HasPast : Place → List ℕ → Option (List ℕ) → Option (List ℕ) → Type 0
+HasPast p input old new = (all : List Line) × AreUpTo p.opening input p.day all × ShowsHistory p all old new
+
+-- the day up to whose close a history goes; None for all records
 abbrev pub closed_in : When → Option Day
 closed_in when.Last = None
 closed_in (when.Closed d) = Some d
@@ -63,17 +84,12 @@ closed_in when.Today = None
 
 -- what is asked for: the page of the day, what the closed day did to the account, or the history of the place; nothing where pages
 -- went into a folder
-abbrev pub HasShown : About → Day → List ℕ → List Close → ℕ → When → Option (List ℕ) → Option (List ℕ) → Type 0
-HasShown about.All opening input closes most w old new = HasAsked opening input closes w old new
-HasShown (about.Account a) opening input closes most w old new = HasOwn a opening input closes (closed_in w) old new
-HasShown (about.Place k) opening input closes most w old new =
-    HasPast (record { opening = opening; day = closed_in w; key = k }) input closes most old new
-HasShown about.Folder opening input closes most w old new = new ≡ old
+abbrev pub HasShown : About → Day → List ℕ → When → Option (List ℕ) → Option (List ℕ) → Type 0
+HasShown about.All opening input w old new = HasAsked opening input w old new
+HasShown (about.Account a) opening input w old new = HasOwn a opening input w old new
+HasShown (about.Place k) opening input w old new = HasPast (record { opening = opening; day = closed_in w; key = k }) input old new
+HasShown about.Folder opening input w old new = new ≡ old
 
--- the page that is asked for, of the records of an input, of which there are at most so many
-pub record HasPage (asked : Asked) (input : List ℕ) (old new : Option (List ℕ)) : Type 0 where
-  pub most : ℕ
-  pub few : length (lines_of input) ≤ most
-  pub survey : Survey
-  pub all_known : known survey ≡ noted_all (nothing most) (opened asked.opening) (lines_of input)
-  pub shown : HasShown asked.about asked.opening input survey.closes.items most asked.day old new
+-- the page that is asked for, of the records of an input
+abbrev pub HasPage : Asked → List ℕ → Option (List ℕ) → Option (List ℕ) → Type 0
+HasPage asked input old new = HasShown asked.about asked.opening input asked.day old new

@@ -1,15 +1,14 @@
 -- The pages of a closed day that were kept.
 use Rattle.std.specs.Prelude.{◌≡◌, ℕ, List, [], ◌∷◌, Option, None, Some, filter, map, slice_get, true}
-use Rattle.cns_terms.specs.Common.{Account, Day, DaySheet, opened}
+use Rattle.cns_terms.specs.Common.{Account, Day, DaySheet}
 use Rattle.cns_book.specs.Log.{state_of}
-use Rattle.cns_feed.specs.Output.{lines_of}
 use Rattle.cns_history.specs.Lines.{accounts_of, is_line_of}
+use Rattle.cns_history.specs.declared.watched.Watched.TheVariants as watched
 use Rattle.cns_history.specs.declared.watched.Whose.TheVariants as whose
 use Rattle.cns_page.specs.Account.{ShowsAccount}
-use Rattle.cns_page.specs.Asked.{closed_in}
+use Rattle.cns_page.specs.Asked.{IsClosedIn}
 use Rattle.cns_page.specs.Files.{KeptPages, and_kept}
-use Rattle.cns_page.specs.Shown.{AreContents, AreShared, IsClosedDay, IsClosedOn, IsSheetOf, ShowsDay, own_watched}
-use Rattle.cns_page.specs.Survey.{known, noted_all, nothing}
+use Rattle.cns_page.specs.Shown.{AreContents, AreShared, IsClosedDay, IsSheetOf, ShowsDay}
 use Rattle.cns_page.specs.declared.asked.About.{About}
 use Rattle.cns_page.specs.declared.asked.About.TheVariants as about
 use Rattle.cns_page.specs.declared.asked.Asked.{Asked}
@@ -17,8 +16,6 @@ use Rattle.cns_page.specs.declared.asked.When.{When}
 use Rattle.cns_page.specs.declared.closed.ClosedDay.{ClosedDay}
 use Rattle.cns_page.specs.declared.contents.Contents.{Contents}
 use Rattle.cns_page.specs.declared.shared.Shared.{Shared}
-use Rattle.cns_page.specs.declared.survey.Close.{Close}
-use Rattle.cns_page.specs.declared.survey.Survey.{Survey}
 
 -- a text is the page of an account, with links, by the lines among those of all that are the account's
 abbrev pub IsOwnPage : ClosedDay → DaySheet → Shared → Account → List ℕ → Type 0
@@ -49,24 +46,19 @@ pub record KeepsDay (d : ClosedDay) (old new : Option KeptPages) : Type 0 where
   pub rows : AreContents d sheet true contents
   pub pages : KeepsPages d sheet contents (accounts_on d sheet) old new
 
--- those of the day that a close ends
-abbrev pub KeepsFolder : Day → List ℕ → ℕ → Close → Option KeptPages → Option KeptPages → Type 0
-KeepsFolder opening input from close old new =
-    (day : ClosedDay) × IsClosedDay opening input from close (own_watched whose.All from close) day × KeepsDay day old new
-
--- those of the closed day with the date, or of the last one
-abbrev pub KeepsClosed : Day → List ℕ → List Close → Option Day → Option KeptPages → Option KeptPages → Type 0
-KeepsClosed opening input closes day old new =
-    (from : ℕ) × (close : Close) × IsClosedOn closes day from close × KeepsFolder opening input from close old new
+-- those of the closed day that is asked for
+pub record KeepsClosed (opening : Day) (input : List ℕ) (w : When) (old new : Option KeptPages) : Type 0 where
+  pub day : Day
+  pub asked : IsClosedIn opening input w day
+  pub closed : ClosedDay
+  pub is : IsClosedDay opening input day (watched.Bookings whose.All day) closed
+  pub kept : KeepsDay closed old new
 
 -- what was kept of what is asked for: the pages of the closed day where they are for a folder, else nothing
-abbrev pub KeepsAsked : About → Day → List ℕ → List Close → When → Option KeptPages → Option KeptPages → Type 0
-KeepsAsked about.Folder opening input closes w old new = KeepsClosed opening input closes (closed_in w) old new
-KeepsAsked _ opening input closes w old new = new ≡ old
+abbrev pub KeepsAsked : About → Day → List ℕ → When → Option KeptPages → Option KeptPages → Type 0
+KeepsAsked about.Folder opening input w old new = KeepsClosed opening input w old new
+KeepsAsked _ opening input w old new = new ≡ old
 
 -- of the records of an input
-pub record HasKept (asked : Asked) (input : List ℕ) (old new : Option KeptPages) : Type 0 where
-  pub from : ℕ
-  pub survey : Survey
-  pub all_known : known survey ≡ noted_all (nothing from) (opened asked.opening) (lines_of input)
-  pub kept : KeepsAsked asked.about asked.opening input survey.closes.items asked.day old new
+abbrev pub HasKept : Asked → List ℕ → Option KeptPages → Option KeptPages → Type 0
+HasKept asked input old new = KeepsAsked asked.about asked.opening input asked.day old new

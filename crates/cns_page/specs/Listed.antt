@@ -1,5 +1,5 @@
 -- What the lists of a page are of.
-use Rattle.std.specs.Prelude.{ℕ, zero, suc, ◌-◌, ◌==◌, nat_lt, if◌then◌else◌, drop, length, slice_get, ◌^◌, List, [], ◌∷◌, ◌++◌, filter, filter_map, map, min, Option, None, not, option_map, sum_by, count_by, take, unsigned_abs}
+use Rattle.std.specs.Prelude.{ℕ, zero, suc, ◌-◌, ◌==◌, nat_lt, if◌then◌else◌, drop, length, slice_get, ◌^◌, List, [], ◌∷◌, ◌++◌, filter, filter_map, map, min, Option, None, not, option_map, sum_by, count_by, unsigned_abs}
 use Rattle.std.specs.List.Sorted.{IsPermutation, IsSortedByKey, IsStableByKey}
 use Rattle.std.specs.Option.{option_map_or}
 use Rattle.std.specs.declared.cmp.Ordering.{Ordering}
@@ -37,14 +37,6 @@ pub record IsInOrderOf {X K : Type 0} (key : X → K) (cmp : K → K → Orderin
   pub stable : IsStableByKey key cmp xs ys
 
 -- ---- the day among others
-
--- the number of the last close's record; 0 where there is none
-abbrev pub last_record : List Close → ℕ
-last_record closes = option_map_or (λ c. c.record) (slice_get closes (length closes - 1)) 0
-
--- the number of the last record before the day that the close at a place ends
-abbrev pub records_before : List Close → ℕ → ℕ
-records_before closes place = last_record (take place closes)
 
 -- the date of the close before the last one, if there is one
 abbrev pub date_before : List Close → Option Day

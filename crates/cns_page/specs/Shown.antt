@@ -1,5 +1,5 @@
 -- What a page that was written shows.
-use Rattle.std.specs.Prelude.{◌≡◌, ℕ, ◌+◌, ◌-◌, ◌^◌, Bool, false, List, length, map, min, take, slice_get, Option, Some}
+use Rattle.std.specs.Prelude.{◌≡◌, ℕ, ◌+◌, ◌-◌, ◌^◌, Bool, false, List, length, map, min, take, Option, Some}
 use Rattle.std.specs.Io.KnownBytes.{Appends}
 use Rattle.std.specs.Ordering.{int_cmp, nat_cmp}
 use Rattle.cns_terms.specs.Common.{Day, DaySheet, date, journal_of, opened}
@@ -14,16 +14,15 @@ use Rattle.cns_terms.specs.Keys.{key_cmp}
 use Rattle.cns_history.specs.Lines.{history}
 use Rattle.cns_history.specs.declared.watched.Watched.{Watched}
 use Rattle.cns_history.specs.declared.watched.Watched.TheVariants as watched
-use Rattle.cns_history.specs.declared.watched.Whose.{Whose}
 use Rattle.cns_account.specs.Moves.{AreMoves}
 use Rattle.cns_account.specs.Past.{IsPast}
 use Rattle.cns_page.specs.Accounts.{sheet_lines}
 use Rattle.cns_page.specs.Due.{ArePending, due_at}
 use Rattle.cns_page.specs.Foot.{IsOrigin}
 use Rattle.cns_page.specs.Issues.{AreIssues}
-use Rattle.cns_page.specs.Listed.{IsInOrderOf, counted, counts, counts_shown, date_before, due, figures_shown, last_closes, later_among, liable_shown, live_shown, looked_at, records_before, shorts_among, spans_shown}
+use Rattle.cns_page.specs.Listed.{IsInOrderOf, counted, counts, counts_shown, date_before, due, figures_shown, last_closes, later_among, liable_shown, live_shown, looked_at, shorts_among, spans_shown}
 use Rattle.cns_page.specs.Page.{page_text}
-use Rattle.cns_page.specs.Survey.{IsChosen, known, noted_all, nothing}
+use Rattle.cns_page.specs.Survey.{IsClosedBy, known, noted_all, nothing}
 use Rattle.cns_page.specs.declared.captions.Captions.{Captions}
 use Rattle.cns_page.specs.declared.closed.ClosedDay.{ClosedDay}
 use Rattle.cns_page.specs.declared.contents.Contents.{Contents}
@@ -97,14 +96,14 @@ pub record ShowsDay (d : ClosedDay) (l : Contents) (old new : Option (List ℕ))
   pub totals : map counts spans ≡ spans_shown d.survey
   pub written : Appends old new (page_text captions d l spans)
 
--- the day that a close ends: its book took the records up to that close and no more, and its lines are those of what is watched. The
--- day's records are those after the one with the number; the origin is that of some first bytes of the input
-pub record IsClosedDay (opening : Day) (input : List ℕ) (from : ℕ) (close : Close) (w : Watched) (d : ClosedDay) : Type 0 where
+-- the closed day with a date: its book took the records up to its close and no more, and its lines are those of what is watched. The
+-- origin is that of some first bytes of the input
+pub record IsClosedDay (opening : Day) (input : List ℕ) (day : Day) (w : Watched) (d : ClosedDay) : Type 0 where
   pub opened_on : d.opening ≡ opening
-  pub ended_by : d.close ≡ close
-  pub taken : d.book.log ≡ log_after (blank_log opening) (take close.record (lines_of input))
-  pub all_known : known d.survey ≡ noted_all (nothing from) (opened opening) (take close.record (lines_of input))
-  pub told : d.lines.items ≡ history w 0 (opened opening) (take close.record (lines_of input))
+  pub ended_by : IsClosedBy d.survey day d.close
+  pub taken : d.book.log ≡ log_after (blank_log opening) (take d.close.record (lines_of input))
+  pub all_known : known d.survey ≡ noted_all (nothing (Some day)) (opened opening) (take d.close.record (lines_of input))
+  pub told : d.lines.items ≡ history w 0 (opened opening) (take d.close.record (lines_of input))
   pub made_of : (bytes : ℕ) × IsOrigin (take bytes input) d.origin
 
 -- the sheet that a closed day has in its book
@@ -120,28 +119,8 @@ pub record WritesDay (d : ClosedDay) (old new : Option (List ℕ)) : Type 0 wher
   pub rows : AreContents d sheet false contents
   pub shown : ShowsDay d contents old new
 
--- what is watched for the page of a day: what each of its records books that is neither a trade nor a close
-abbrev pub day_watched : ℕ → Close → Watched
-day_watched from c = watched.Movements (min (from + 1) (2 ^ 64 - 1)) c.record
-
--- what is watched for the pages of accounts: what the day's records book for them, from the close before, which books what was due,
--- up to the record before the day's own close
-abbrev pub own_watched : Whose → ℕ → Close → Watched
-own_watched w from c = watched.Bookings w from (c.record - 1)
-
--- the day that a close ends
-pub record HasDay (opening : Day) (input : List ℕ) (from : ℕ) (close : Close) (old new : Option (List ℕ)) : Type 0 where
-  pub day : ClosedDay
-  pub is : IsClosedDay opening input from close (day_watched from close) day
-  pub written : WritesDay day old new
-
--- a closed day that is chosen: its close, and the number of the last record before it
-pub record IsClosedOn (closes : List Close) (day : Option Day) (from : ℕ) (close : Close) : Type 0 where
-  pub place : ℕ
-  pub chosen : IsChosen closes day place
-  pub there : slice_get closes place ≡ Some close
-  pub before : from ≡ records_before closes place
-
--- the closed day with the date, or the last one
-abbrev pub HasClosed : Day → List ℕ → List Close → Option Day → Option (List ℕ) → Option (List ℕ) → Type 0
-HasClosed opening input closes day old new = (from : ℕ) × (close : Close) × IsClosedOn closes day from close × HasDay opening input from close old new
+-- the page of the closed day with the date
+pub record HasDay (opening : Day) (input : List ℕ) (day : Day) (old new : Option (List ℕ)) : Type 0 where
+  pub closed : ClosedDay
+  pub is : IsClosedDay opening input day (watched.Movements day) closed
+  pub written : WritesDay closed old new

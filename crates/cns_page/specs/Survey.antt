@@ -1,5 +1,5 @@
 -- What is known of the records of an input: which of them are exceptions, and which closed a day.
-use Rattle.std.specs.Prelude.{◌≡◌, ◌<◌, ℕ, ◌+◌, ◌-◌, ◌^◌, ◌==◌, ◌&&◌, Bool, false, is_none, List, [], ◌∷◌, ◌++◌, if◌then◌else◌, length, map, min, nat_lt, slice_get, Option, Some, None, IfSome, Ok, Err}
+use Rattle.std.specs.Prelude.{◌≡◌, ◌≤◌, ℕ, ◌+◌, ◌-◌, ◌^◌, ◌==◌, ◌&&◌, Bool, false, is_none, List, [], ◌∷◌, ◌++◌, if◌then◌else◌, length, map, min, nat_lt, slice_get, take, true, Option, Some, None, Ok, Err}
 use Rattle.std.specs.Option.{option_map_or}
 use Rattle.cns_terms.specs.Common.{Day, State, answer, opened}
 use Rattle.cns_terms.specs.Numbers.{refusal_number}
@@ -17,12 +17,13 @@ use Rattle.cns_feed.specs.Replay.{blank_log, log_after, log_after_line}
 use Rattle.cns_feed.specs.Records.{IsReady, Pending}
 use Rattle.cns_feed.specs.declared.records.Records.{Records}
 use Rattle.cns_feed.specs.declared.fault.LineFault.{LineFault}
-use Rattle.cns_history.specs.Lines.{lines_of}
+use Rattle.cns_history.specs.Lines.{history, is_open, lines_of}
 use Rattle.cns_history.specs.declared.line.HistoryLine.{HistoryLine}
 use Rattle.cns_history.specs.declared.watched.Watched.{Watched}
 use Rattle.cns_page.specs.declared.finding.Finding.{Finding}
 use Rattle.cns_page.specs.declared.finding.Outcome.{Outcome}
 use Rattle.cns_page.specs.declared.finding.Outcome.TheVariants as outcome
+use Rattle.cns_page.specs.declared.play.Played.{Played}
 use Rattle.cns_page.specs.declared.survey.Close.{Close}
 use Rattle.cns_page.specs.declared.survey.Survey.{Survey}
 
@@ -46,8 +47,11 @@ pub record Exception : Type 0 where
   pub put_right : Option ℕ
 
 -- what is known of records: how many there are, how many of them are exceptions, the accepted closes, and the numbers of the invalid
--- ones; and of those after one of them, the exceptions' reasons, and the first 200 of these
+-- ones; and of a day, if one is looked at, whether the last record is one of it, the number of the record that closed the day before,
+-- its exceptions' reasons, and the first 200 of these
 pub record Known : Type 0 where
+  pub day : Option Day
+  pub is_of_day : Bool
   pub from : ℕ
   pub records : ℕ
   pub exceptions : ℕ
@@ -57,12 +61,16 @@ pub record Known : Type 0 where
   pub invalid : List ℕ
 
 -- of no records
-abbrev pub nothing : ℕ → Known
-nothing from = record { from = from; records = 0; exceptions = 0; reasons = []; first = []; closes = []; invalid = [] }
+abbrev pub nothing : Option Day → Known
+nothing day = record { day = day; is_of_day = false; from = 0; records = 0; exceptions = 0; reasons = []; first = []; closes = []; invalid = [] }
 
--- one record more
-abbrev pub counted : Known → Known
-counted k = record k { records = k.records + 1 }
+-- whether the day with the date is open, if there is one
+abbrev pub is_day : State → Option Day → Bool
+is_day S day = option_map_or (is_open S) day false
+
+-- one record more, which comes in a state
+abbrev pub counted : Known → State → Known
+counted k S = record k { records = k.records + 1; is_of_day = is_day S k.day }
 
 -- an exception more
 abbrev pub one_more : Known → Known
@@ -82,7 +90,7 @@ of_day k w r = let with = record k { reasons = k.reasons ++ w ∷ [] } in if nat
 
 -- it is an exception, of a command with the reference, if it is a trade
 abbrev pub wanted : Known → Why → Option ℕ → Known
-wanted k w r = if nat_lt k.from k.records then of_day (one_more k) w r else one_more k
+wanted k w r = if k.is_of_day then of_day (one_more k) w r else one_more k
 
 -- the reference of a trade
 abbrev pub reference_of : Command → Option ℕ
@@ -104,7 +112,10 @@ righted k (Some r) = record k { first = map (put_right_by k.records r) k.first }
 
 -- it closed a day
 abbrev pub day_closed : Known → Closed → Known
-day_closed k c = record k { closes = k.closes ++ record { day = c.day; date = c.date; number = k.records } ∷ [] }
+day_closed k c = record k {
+  closes = k.closes ++ record { day = c.day; date = c.date; number = k.records } ∷ [];
+  from = if k.is_of_day then k.from else k.records;
+}
 
 -- what the reply to its command tells
 abbrev pub replied : Known → Command → Reply → Known
@@ -120,7 +131,7 @@ told_by k S (Err f) = wanted (one_invalid k) (at_fault f) None
 
 -- one record more, and what it tells
 abbrev pub noted : Known → State → Line → Known
-noted k S l = told_by (counted k) S l
+noted k S l = told_by (counted k S) S l
 
 -- the same of records in order
 unfoldable pub noted_all : Known → State → List Line → Known
@@ -152,6 +163,8 @@ closing c = record { day = c.day; date = c.date; number = c.record }
 -- what a survey knows
 abbrev pub known : Survey → Known
 known s = record {
+  day = s.day;
+  is_of_day = s.is_of_day;
   from = s.from;
   records = s.records;
   exceptions = s.exceptions;
@@ -161,11 +174,11 @@ known s = record {
   invalid = s.invalid.items;
 }
 
--- the place of a close: of the one that closed the day with the date, or of the last one where no date is given
-pub record IsChosen (closes : List Close) (day : Option Day) (place : ℕ) : Type 0 where
-  pub there : place < length closes
-  pub dated : IfSome day (λ d. IfSome (slice_get closes place) (λ c. c.date ≡ d))
-  pub last : day ≡ None → place + 1 ≡ length closes
+-- the last record of a survey closed the day with the date
+pub record IsClosedBy (s : Survey) (day : Day) (c : Close) : Type 0 where
+  pub last : slice_get s.closes.items (length s.closes.items - 1) ≡ Some c
+  pub ended : c.record ≡ s.records
+  pub dated : c.date ≡ day
 
 -- the first of some lines was taken and noted, and the lines of what is watched were added; the others are left
 pub record Takes {R : Type 0} (rem : R → Option (List ℕ)) (now : Records R) (w : Watched) (before after : Log) (s t : Survey) (old new : List HistoryLine) (all : List Line) : Type 0 where
@@ -184,7 +197,15 @@ Steps rem a b w before after s t old new (Some end) =
     IsReady b × (t.records ≡ s.records + 1) × ((all : List Line) → Pending rem a all → Takes rem b w before after s t old new all)
 Steps rem a b w before after s t old new None = (after ≡ before) × (t ≡ s) × (new ≡ old) × ((all : List Line) → Pending rem a all → all ≡ [])
 
--- a book and a survey after lines, which began on a date; those after one of them were looked at closely
-pub record ComesTo (opening : Day) (from : ℕ) (lines : List Line) (log : Log) (s : Survey) : Type 0 where
-  pub book : log ≡ log_after (blank_log opening) lines
-  pub all_known : known s ≡ noted_all (nothing from) (opened opening) lines
+-- what came of the first of some lines, as many as were counted; of all of them where there are no more
+pub record Came (w : Watched) (first now : Log) (from : Known) (s : Survey) (told : List HistoryLine) (whole : Bool) (all : List Line) : Type 0 where
+  pub log : now ≡ log_after first (take s.records all)
+  pub knows : known s ≡ noted_all from (state_of first) (take s.records all)
+  pub tells : told ≡ history w 0 (state_of first) (take s.records all)
+  pub all_taken : whole ≡ true → length all ≤ s.records
+
+-- what was played of lines, which began on a date, with a day that was looked at and something that was watched
+pub record ComesTo (opening : Day) (day : Option Day) (w : Watched) (lines : List Line) (p : Played) : Type 0 where
+  pub book : p.book.log ≡ log_after (blank_log opening) lines
+  pub all_known : known p.survey ≡ noted_all (nothing day) (opened opening) lines
+  pub told : p.lines.items ≡ history w 0 (opened opening) lines

@@ -1,5 +1,5 @@
 -- The page of the day that is open.
-use Rattle.std.specs.Prelude.{◌≡◌, ℕ, ◌-◌, List, [], ◌∷◌, ◌++◌, length, map, None, Option}
+use Rattle.std.specs.Prelude.{◌≡◌, ℕ, ◌-◌, List, [], ◌∷◌, ◌++◌, length, map, None, Option, Some}
 use Rattle.std.specs.Fmt.{decimal}
 use Rattle.std.specs.Io.KnownBytes.{Appends}
 use Rattle.cns_units.specs.Day.{day_text}
@@ -16,6 +16,7 @@ use Rattle.cns_page.specs.Foot.{IsOrigin, foot_text}
 use Rattle.cns_page.specs.Listed.{counted, counts, counts_shown, spans_shown}
 use Rattle.cns_page.specs.Page.{sum_of}
 use Rattle.cns_page.specs.Rows.{counted_text, span_text}
+use Rattle.cns_page.specs.Shown.{next_day}
 use Rattle.cns_page.specs.Survey.{known, noted_all, nothing}
 use Rattle.cns_page.specs.declared.foot.Origin.{Origin}
 use Rattle.cns_page.specs.declared.page.TheConstants.{DAY, EXCEPTIONS, HEADING, START, TITLE_END}
@@ -68,10 +69,10 @@ pub record ShowsToday (opening : Day) (input : List ℕ) (log : Log) (s : Survey
   pub made_of : IsOrigin input origin
   pub written : Appends old new (today_text exceptions_table reasons_table totals_table opening log s reasons totals origin)
 
--- the day that is open after all records of an input; those after the one with the number are its records
-pub record HasToday (opening : Day) (input : List ℕ) (from : ℕ) (old new : Option (List ℕ)) : Type 0 where
+-- the page of the day that is open after all records of an input
+pub record HasToday (opening : Day) (input : List ℕ) (old new : Option (List ℕ)) : Type 0 where
   pub log : Log
   pub taken : log ≡ log_after (blank_log opening) (lines_of input)
   pub survey : Survey
-  pub all_known : known survey ≡ noted_all (nothing from) (opened opening) (lines_of input)
+  pub all_known : known survey ≡ noted_all (nothing (Some (next_day log))) (opened opening) (lines_of input)
   pub shown : ShowsToday opening input log survey old new

@@ -2,13 +2,13 @@
 ghost use Rattle.std.specs.Prelude.{◌≡◌, IfOk, option_map, take};
 ghost use Rattle.cns_terms.specs.Common.{journal_of, sheet_on};
 ghost use Rattle.cns_book.specs.Log.{state_of};
-ghost use Rattle.cns_page.specs.Shown.{IsClosedDay, IsSheetOf, own_watched};
+ghost use Rattle.cns_page.specs.Shown.{IsClosedDay, IsSheetOf};
 
 use crate::foot::{Origin, origin_of};
-use crate::play::{Played, play};
+use crate::play::{Played, play_closed};
 use crate::survey::{Close, Survey};
 use cns_feed::ReplayBook;
-use cns_history::{HistoryLine, Watched, Whose};
+use cns_history::{HistoryLine, Watched};
 use cns_sheets::Sheet;
 use cns_shell::Fault;
 use cns_units::Day;
@@ -72,32 +72,24 @@ fn first_of(input: &[u8], bytes: usize) -> &[u8]
     &input[..bytes.min(input.len())]
 }
 
-/// What is watched for the pages of accounts: what the day's records book for them, from the close before, which books what was
-/// due, up to the record before the day's own close.
-pub(crate) fn own_watched(whose: Whose, from: u64, close: &Close) -> Watched
-    ensures { result ≡ own_watched whose from close.now }
-{
-    Watched::Bookings(whose, from, close.record.saturating_sub(1))
-}
-
-/// The day that a close ends, of the records up to that close alone; those after `from` are the day's.
+/// The closed day with the date, of the records up to its close alone.
 pub(crate) fn closed_day(
     alloc: Global,
     opening: Day,
     input: &[u8],
-    from: u64,
-    close: Close,
+    day: Day,
     watched: &Watched,
 ) -> Result<ClosedDay, Fault>
-    ensures { IfOk result (IsClosedDay opening input.now from close watched.now) }
+    ensures { IfOk result (IsClosedDay opening input.now day watched.now) }
 {
+    let (close, played) = play_closed(alloc, input, opening, day, watched)?;
     let Played {
         survey,
         lines,
         book,
         bytes,
         is_whole: _,
-    } = play(alloc, input, opening, from, close.record, watched)?;
+    } = played;
     let origin = origin_of(alloc, first_of(input, bytes))?;
     Ok(ClosedDay {
         opening,

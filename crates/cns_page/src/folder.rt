@@ -4,22 +4,21 @@ ghost use Rattle.cns_book.specs.Log.{state_of};
 ghost use Rattle.cns_history.specs.Lines.{accounts_of};
 ghost use Rattle.cns_history.specs.declared.watched.Whose.TheVariants as whose;
 ghost use Rattle.cns_page.specs.Files.{and_kept};
-ghost use Rattle.cns_page.specs.Folder.{IsOwnPage, KeepsDay, KeepsFolder, KeepsOwn};
+ghost use Rattle.cns_page.specs.Folder.{IsOwnPage, KeepsDay, KeepsOwn};
 ghost use Rattle.cns_page.specs.Shown.{ShowsDay};
 
 use crate::account::write_account;
-use crate::closed::{ClosedDay, Page, closed_day, own_watched};
+use crate::closed::{ClosedDay, Page};
 use crate::contents::{Contents, contents_of};
 use crate::files::{Keeps, Named};
 use crate::page::write_page;
 use crate::shared::{Shared, shared_of};
-use crate::survey::Close;
 use cns_feed::ReplayBook;
-use cns_history::{Whose, accounts_in, lines_for};
+use cns_history::{accounts_in, lines_for};
 use cns_sheets::Sheet;
 use cns_shell::Fault;
 use cns_terms::NoMemory;
-use cns_units::{Account, Day};
+use cns_units::Account;
 use std::alloc::Global;
 
 // The accounts of a book, by number: the corporation's and the members'. None where no issue is listed: then nothing is booked.
@@ -117,8 +116,12 @@ fn keep_day_page<K: Keeps>(
     Ok(())
 }
 
-// Keeps the pages of a closed day: that of each account, and then that of the day, whose links lead to them.
-fn keep_day<K: Keeps>(alloc: Global, day: &ClosedDay, keeper: &mut K) -> Result<(), Fault>
+/// Keeps the pages of a closed day: that of each account, and then that of the day, whose links lead to them.
+pub(crate) fn keep_day<K: Keeps>(
+    alloc: Global,
+    day: &ClosedDay,
+    keeper: &mut K,
+) -> Result<(), Fault>
     ensures { OnOk result (KeepsDay day.now (K.kept keeper.old) (K.kept keeper.new)) }
 {
     let page = day.page(true)?;
@@ -127,22 +130,5 @@ fn keep_day<K: Keeps>(alloc: Global, day: &ClosedDay, keeper: &mut K) -> Result<
     let accounts = accounts_of(alloc, &day.book, page.sheet)?;
     keep_each(alloc, accounts.as_slice(), &page, &shared, keeper)?;
     keep_day_page(alloc, day, &contents, keeper)?;
-    Ok(())
-}
-
-/// Keeps the pages of the day that a close ends, of the records up to that close alone; those after `from` are the day's.
-pub(crate) fn keep_folder<K: Keeps>(
-    alloc: Global,
-    opening: Day,
-    input: &[u8],
-    from: u64,
-    close: Close,
-    keeper: &mut K,
-) -> Result<(), Fault>
-    ensures { OnOk result (KeepsFolder opening input.now from close (K.kept keeper.old) (K.kept keeper.new)) }
-{
-    let watched = own_watched(Whose::All, from, &close);
-    let day = closed_day(alloc, opening, input, from, close, &watched)?;
-    keep_day(alloc, &day, keeper)?;
     Ok(())
 }

@@ -1,26 +1,23 @@
 // The page that is asked for, of the records of an input.
-ghost use Rattle.std.specs.Prelude.{◌≡◌, ◌<◌, ◌≤◌, IfOk, IfSome, OnOk, Some, length, slice_get, true};
-ghost use Rattle.cns_terms.specs.Common.{opened};
+ghost use Rattle.std.specs.Prelude.{◌≡◌, IfOk, OnOk};
 ghost use Rattle.cns_feed.specs.Output.{lines_of};
-ghost use Rattle.cns_page.specs.Listed.{last_record, records_before};
-ghost use Rattle.cns_page.specs.Asked.{HasAsked, HasOwn, HasOwnDay, HasPage, HasPast, IsOfRecords, WritesOwn, closed_in};
+ghost use Rattle.cns_feed.specs.Replay.{blank_log, log_after};
+ghost use Rattle.cns_page.specs.Asked.{HasAsked, HasClosed, HasOwn, HasPage, HasPast, IsClosedIn, IsLastDay, HasPlayed, WritesOwn, closed_in};
 ghost use Rattle.cns_page.specs.Folder.{HasKept, KeepsClosed};
-ghost use Rattle.cns_page.specs.Shown.{HasClosed, HasDay, IsClosedOn, WritesDay};
-ghost use Rattle.cns_page.specs.Survey.{known, noted_all, nothing};
+ghost use Rattle.cns_page.specs.Shown.{WritesDay, next_day as today};
 ghost use Rattle.cns_page.specs.Today.{HasToday};
 
 use crate::account::write_account;
 use crate::asked::{About, Asked, When};
-use crate::closed::{ClosedDay, closed_day, own_watched};
+use crate::closed::{ClosedDay, closed_day};
 use crate::contents::contents_of;
 use crate::files::Keeps;
-use crate::folder::keep_folder;
+use crate::folder::keep_day;
 use crate::page::write_page;
-use crate::play::{Played, play};
+use crate::play::{Played, play_all, play_closed};
 use crate::shared::shared_of;
-use crate::survey::{Close, Survey, place_of};
 use crate::today::{OpenDay, write_today};
-use cns_feed::{MOST_RECORDS, ReplayBook, ReplayFault};
+use cns_feed::ReplayBook;
 use cns_history::{Place, Told, Watched, Whose, write_history};
 use cns_sheets::Sheet;
 use cns_shell::Fault;
@@ -28,64 +25,26 @@ use cns_units::{Account, Day};
 use std::alloc::Global;
 use std::io::Write;
 
-// A survey, where it is of all records.
-fn if_whole(survey: Survey, is_whole: bool) -> Result<Survey, ReplayFault>
-    ensures { IfOk result (λ s. (s ≡ survey) × (is_whole ≡ true)) }
+// The date of the last closed day.
+fn last_day(alloc: Global, opening: Day, input: &[u8]) -> Result<Day, Fault>
+    ensures { IfOk result (IsLastDay opening input.now) }
 {
-    if is_whole {
-        Ok(survey)
-    } else {
-        Err(ReplayFault::Read)
+    let played = play_all(alloc, input, opening, None, &Watched::Nothing)?;
+    match played.survey.closes.as_slice().last() {
+        Some(close) => Ok(close.date),
+        None => Err(Fault::NoSuchDay),
     }
 }
 
-// What all records of an input come to, of which there are at most so many. No day is looked at closely.
-fn survey_of(alloc: Global, opening: Day, input: &[u8], most: u64) -> Result<Survey, ReplayFault>
-    ensures known { IfOk result (λ s. known s ≡ noted_all (nothing most) (opened opening) (lines_of input.now)) }
-    ensures few { IfOk result (λ _. length (lines_of input.now) ≤ most) }
+// The date of the closed day that is asked for.
+fn day_in(alloc: Global, opening: Day, input: &[u8], when: When) -> Result<Day, Fault>
+    ensures { IfOk result (IsClosedIn opening input.now when) }
 {
-    let Played {
-        survey,
-        lines: _,
-        book: _,
-        bytes: _,
-        is_whole,
-    } = play(alloc, input, opening, most, most, &Watched::Nothing)?;
-    if_whole(survey, is_whole)
-}
-
-// The number of the last close's record; 0 where no day is closed.
-fn last_record(closes: &[Close]) -> u64
-    ensures { result ≡ last_record closes.now }
-{
-    match closes.last() {
-        Some(close) => close.record,
-        None => 0,
+    match when {
+        When::Last => last_day(alloc, opening, input),
+        When::Closed(day) => Ok(day),
+        When::Today => Err(Fault::NoSuchDay),
     }
-}
-
-// The close at a place.
-fn close_at(survey: &Survey, place: usize) -> Close
-    requires { place < length survey.now.closes.items }
-    ensures { slice_get survey.now.closes.items place ≡ Some result }
-{
-    survey.closes[place]
-}
-
-// The number of the last record before the day that the close at a place ends.
-fn records_before(survey: &Survey, place: usize) -> u64
-    requires { place < length survey.now.closes.items }
-    ensures { result ≡ records_before survey.now.closes.items place }
-{
-    last_record(&survey.closes[..place])
-}
-
-// The closed day that is asked for, the last one where none is: the number of the last record before it, and its close.
-fn chosen(survey: &Survey, day: Option<Day>) -> Option<(u64, Close)>
-    ensures { IfSome result (λ r. IsClosedOn survey.now.closes.items day r.0 r.1) }
-{
-    let place = place_of(survey.closes.as_slice(), day)?;
-    Some((records_before(survey, place), close_at(survey, place)))
 }
 
 // Writes the page of a closed day.
@@ -99,19 +58,18 @@ fn write_taken<O: Write>(alloc: Global, day: &ClosedDay, output: &mut O) -> Resu
     Ok(())
 }
 
-// Writes the page of the day that a close ends; the records after `from` are the day's.
-fn write_day<O: Write>(
+// Writes the page of the closed day that is asked for.
+fn write_closed<O: Write>(
     alloc: Global,
     opening: Day,
     input: &[u8],
-    from: u64,
-    close: Close,
+    when: When,
     output: &mut O,
 ) -> Result<(), Fault>
-    ensures { OnOk result (HasDay opening input.now from close (O.contents output.old) (O.contents output.new)) }
+    ensures { OnOk result (HasClosed opening input.now when (O.contents output.old) (O.contents output.new)) }
 {
-    let watched = Watched::Movements(from.saturating_add(1), close.record);
-    let day = closed_day(alloc, opening, input, from, close, &watched)?;
+    let date = day_in(alloc, opening, input, when)?;
+    let day = closed_day(alloc, opening, input, date, &Watched::Movements(date))?;
     write_taken(alloc, &day, output)?;
     Ok(())
 }
@@ -142,115 +100,92 @@ fn write_own_taken<O: Write>(
     write_account(alloc, account, &page, &shared, day.lines.as_slice(), output)
 }
 
-// Writes the page of what the day that a close ends did to an account; the records after `from` are the day's.
-fn write_own_day<O: Write>(
-    alloc: Global,
-    opening: Day,
-    account: Account,
-    input: &[u8],
-    from: u64,
-    close: Close,
-    output: &mut O,
-) -> Result<(), Fault>
-    ensures { OnOk result (HasOwnDay account opening input.now from close (O.contents output.old) (O.contents output.new)) }
-{
-    let watched = own_watched(Whose::One(account), from, &close);
-    let day = closed_day(alloc, opening, input, from, close, &watched)?;
-    write_own_taken(alloc, account, &day, output)?;
-    Ok(())
-}
-
-// Writes the page of what the closed day that is asked for, the last one where none is, did to an account, by the closes among all
-// records.
+// Writes the page of what the closed day that is asked for did to an account.
 fn write_own<O: Write>(
     alloc: Global,
     opening: Day,
     account: Account,
     input: &[u8],
-    survey: &Survey,
-    day: Option<Day>,
+    when: When,
     output: &mut O,
 ) -> Result<(), Fault>
-    ensures { OnOk result (HasOwn account opening input.now survey.now.closes.items day (O.contents output.old) (O.contents output.new)) }
+    ensures { OnOk result (HasOwn account opening input.now when (O.contents output.old) (O.contents output.new)) }
 {
-    let Some((from, close)) = chosen(survey, day) else {
-        return Err(Fault::NoSuchDay);
-    };
-    write_own_day(alloc, opening, account, input, from, close, output)
+    let date = day_in(alloc, opening, input, when)?;
+    let watched = Watched::Bookings(Whose::One(account), date);
+    let day = closed_day(alloc, opening, input, date, &watched)?;
+    write_own_taken(alloc, account, &day, output)?;
+    Ok(())
 }
 
-// Writes the page of the day that is open after all records, of which there are at most so many; those after `from` are the day's.
+// The date of the day that is open after all records.
+fn open_day(alloc: Global, opening: Day, input: &[u8]) -> Result<Day, Fault>
+    ensures { IfOk result (λ d. d ≡ today (log_after (blank_log opening) (lines_of input.now))) }
+{
+    let played = play_all(alloc, input, opening, None, &Watched::Nothing)?;
+    Ok(played.book.today())
+}
+
+// Writes the page of the day that is open after all records.
 fn write_open<O: Write>(
     alloc: Global,
     opening: Day,
     input: &[u8],
-    from: u64,
-    most: u64,
     output: &mut O,
 ) -> Result<(), Fault>
-    requires { length (lines_of input.now) ≤ most }
-    ensures { OnOk result (HasToday opening input.now from (O.contents output.old) (O.contents output.new)) }
+    ensures { OnOk result (HasToday opening input.now (O.contents output.old) (O.contents output.new)) }
 {
-    let Played {
-        survey,
-        lines: _,
-        book,
-        bytes: _,
-        is_whole: _,
-    } = play(alloc, input, opening, from, most, &Watched::Nothing)?;
+    let date = open_day(alloc, opening, input)?;
+    let played = play_all(alloc, input, opening, Some(date), &Watched::Nothing)?;
     let day = OpenDay {
         opening,
         input,
-        survey: &survey,
-        book: &book,
+        survey: &played.survey,
+        book: &played.book,
     };
     write_today(alloc, &day, output)
 }
 
-// Writes the page of the closed day that is asked for, the last one where none is, by the closes among all records.
-fn write_closed<O: Write>(
+// Writes the page of the day that is asked for.
+fn write_asked<O: Write>(
     alloc: Global,
     opening: Day,
     input: &[u8],
-    survey: &Survey,
-    day: Option<Day>,
+    when: When,
     output: &mut O,
 ) -> Result<(), Fault>
-    ensures { OnOk result (HasClosed opening input.now survey.now.closes.items day (O.contents output.old) (O.contents output.new)) }
+    ensures { OnOk result (HasAsked opening input.now when (O.contents output.old) (O.contents output.new)) }
 {
-    let Some((from, close)) = chosen(survey, day) else {
-        return Err(Fault::NoSuchDay);
-    };
-    write_day(alloc, opening, input, from, close, output)
-}
-
-// How many records a history is of: those up to the close of the closed day, or as many as there may be.
-fn records_of(survey: &Survey, day: Option<Day>, most: u64) -> Result<u64, Fault>
-    ensures { IfOk result (IsOfRecords survey.now.closes.items day most) }
-{
-    if day.is_none() {
-        return Ok(most);
+    match when {
+        When::Today => write_open(alloc, opening, input, output),
+        When::Last | When::Closed(_) => write_closed(alloc, opening, input, when, output),
     }
-    let Some((_, close)) = chosen(survey, day) else {
-        return Err(Fault::NoSuchDay);
-    };
-    Ok(close.record)
 }
 
-// Writes the history of a place, up to the close of the closed day, or of all records, of which there are at most so many.
+// What a history is of: the records up to the close of the day, or all of the input where none is given.
+fn past_of(alloc: Global, place: &Place, input: &[u8]) -> Result<Played, Fault>
+    ensures { IfOk result (HasPlayed place.now input.now) }
+{
+    let watched = Watched::Place(place.key);
+    match place.day {
+        Some(day) => {
+            let (_, played) = play_closed(alloc, input, place.opening, day, &watched)?;
+            Ok(played)
+        }
+        None => Ok(play_all(alloc, input, place.opening, None, &watched)?),
+    }
+}
+
+// Writes the history of a place.
 fn write_past<O: Write>(
     alloc: Global,
     place: &Place,
     input: &[u8],
-    survey: &Survey,
-    most: u64,
     output: &mut O,
 ) -> Result<(), Fault>
-    ensures { OnOk result (HasPast place.now input.now survey.now.closes.items most (O.contents output.old) (O.contents output.new)) }
+    ensures { OnOk result (HasPast place.now input.now (O.contents output.old) (O.contents output.new)) }
 {
-    let records = records_of(survey, place.day, most)?;
-    let watched = Watched::Place(place.key);
-    let played = play(alloc, input, place.opening, records, records, &watched)?;
+    let played = past_of(alloc, place, input)?;
     let told = Told {
         book: &played.book,
         records: played.survey.records,
@@ -260,7 +195,7 @@ fn write_past<O: Write>(
     Ok(())
 }
 
-// The closed day that is asked for; None for the last one and for the open one.
+// The day up to whose close a history goes; None for all records.
 fn closed_in(day: When) -> Option<Day>
     ensures { result ≡ closed_in day }
 {
@@ -270,53 +205,33 @@ fn closed_in(day: When) -> Option<Day>
     }
 }
 
-// Writes the page of the day that is asked for, by the closes among all records, of which there are at most so many.
-fn write_asked<O: Write>(
-    alloc: Global,
-    opening: Day,
-    day: When,
-    input: &[u8],
-    survey: &Survey,
-    most: u64,
-    output: &mut O,
-) -> Result<(), Fault>
-    requires { length (lines_of input.now) ≤ most }
-    ensures { OnOk result (HasAsked opening input.now survey.now.closes.items day (O.contents output.old) (O.contents output.new)) }
-{
-    match day {
-        When::Last => write_closed(alloc, opening, input, survey, None, output),
-        When::Closed(day) => write_closed(alloc, opening, input, survey, Some(day), output),
-        When::Today => {
-            let from = last_record(survey.closes.as_slice());
-            write_open(alloc, opening, input, from, most, output)
-        }
-    }
-}
-
-// Keeps the pages of the closed day that is asked for, the last one where none is, by the closes among all records.
+// Keeps the pages of the closed day that is asked for.
 fn keep_closed<K: Keeps>(
     alloc: Global,
     opening: Day,
     input: &[u8],
-    survey: &Survey,
-    day: Option<Day>,
+    when: When,
     keeper: &mut K,
 ) -> Result<(), Fault>
-    ensures { OnOk result (KeepsClosed opening input.now survey.now.closes.items day (K.kept keeper.old) (K.kept keeper.new)) }
+    ensures { OnOk result (KeepsClosed opening input.now when (K.kept keeper.old) (K.kept keeper.new)) }
 {
-    let Some((from, close)) = chosen(survey, day) else {
-        return Err(Fault::NoSuchDay);
-    };
-    keep_folder(alloc, opening, input, from, close, keeper)
+    let date = day_in(alloc, opening, input, when)?;
+    let watched = Watched::Bookings(Whose::All, date);
+    let day = closed_day(alloc, opening, input, date, &watched)?;
+    keep_day(alloc, &day, keeper)?;
+    Ok(())
 }
 
 /// Writes the page that is asked for, of the records of an input, and hands it on; or hands the pages for a folder to its keeper.
 ///
-/// `NoMemory` where an allocation failed, `Read` where there are 4,294,967,295 records or more, or a file of the folder cannot be
-/// read, `NoSuchDay` where no closed day has the date, or no day is closed, or what the open day did to an account or its pages
-/// for a folder are asked for, `NoSuchMember` and `NoSuchIssue` where the account or the issue that is asked for is not there,
-/// `OtherPage` where the folder has another page, and `Write` where the writer fails or a file
-/// cannot be written. What was written before stands, and each file is whole.
+/// The records of a closed day that is named are played once, up to its close. The date of the last one, and that of the open day, are
+/// found by playing all records first.
+///
+/// `NoMemory` where an allocation failed, `Read` where there are 4,294,967,295 records or more before the close that is asked for, or
+/// at all where none is, or a file of the folder cannot be read, `NoSuchDay` where no closed day has the date, or no day is closed,
+/// or what the open day did to an account or its pages for a folder are asked for, `NoSuchMember` and `NoSuchIssue` where the account
+/// or the issue that is asked for is not there, `OtherPage` where the folder has another page, and `Write` where the writer fails or a
+/// file cannot be written. What was written before stands, and each file is whole.
 pub(crate) fn make<K: Keeps, O: Write>(
     alloc: Global,
     asked: &Asked,
@@ -328,22 +243,14 @@ pub(crate) fn make<K: Keeps, O: Write>(
     ensures kept { OnOk result (HasKept asked.now input.now (K.kept keeper.old) (K.kept keeper.new)) }
 {
     let opening = asked.opening;
-    let most = u64::from(MOST_RECORDS);
-    let survey = survey_of(alloc, opening, input, most)?;
-    let day = closed_in(asked.day);
+    let when = asked.day;
     match asked.about {
-        About::All => write_asked(alloc, opening, asked.day, input, &survey, most, output),
-        About::Account(account) => match asked.day {
-            When::Today => Err(Fault::NoSuchDay),
-            _ => write_own(alloc, opening, account, input, &survey, day, output),
-        },
+        About::All => write_asked(alloc, opening, input, when, output),
+        About::Account(account) => write_own(alloc, opening, account, input, when, output),
         About::Place(key) => {
-            let place = Place { opening, day, key };
-            write_past(alloc, &place, input, &survey, most, output)
+            let day = closed_in(when);
+            write_past(alloc, &Place { opening, day, key }, input, output)
         }
-        About::Folder => match asked.day {
-            When::Today => Err(Fault::NoSuchDay),
-            _ => keep_closed(alloc, opening, input, &survey, day, keeper),
-        },
+        About::Folder => keep_closed(alloc, opening, input, when, keeper),
     }
 }

@@ -1,6 +1,7 @@
 // What the records of an input come to, one after another.
 ghost use Rattle.std.specs.Prelude.{◌≡◌, ◌<◌, ◌-◌, ◌^◌, ◌&&◌, IfSome, None, OnOk, length, map, nat_lt};
-ghost use Rattle.cns_page.specs.Survey.{IsChosen, counted, day_closed, first_too, known, nothing, of_day, one_invalid, put_right, reference_of, replied, righted, wanted, why};
+ghost use Rattle.cns_book.specs.Log.{state_of};
+ghost use Rattle.cns_page.specs.Survey.{IsClosedBy, counted, day_closed, first_too, is_day, known, nothing, of_day, one_invalid, put_right, reference_of, replied, righted, wanted, why};
 
 use crate::facts::{facts_of, parties_of, reference_of};
 use crate::finding::{Facts, Finding, NO_FACTS, NO_PARTIES, Outcome, Parties};
@@ -28,13 +29,17 @@ pub struct Close {
 /// What the records of an input came to.
 #[derive(Drop)]
 pub struct Survey {
-    /// The number of the record before those that are looked at closely.
+    /// The date of the day whose exceptions are looked at closely, if there is one.
+    pub day: Option<Day>,
+    /// Whether the last record is one of that day.
+    pub is_of_day: bool,
+    /// The number of the record that closed the day before, the last one where that day was never open; 0 where none did.
     pub from: u64,
     /// How many records there are.
     pub records: u64,
     /// How many of them are exceptions: invalid, or refused commands.
     pub exceptions: u64,
-    /// Why those after `from` are exceptions that are, in order.
+    /// Why those of the day are exceptions that are, in order.
     pub reasons: Vec<Outcome>,
     /// The first of them, 200 at most.
     pub findings: Vec<Finding>,
@@ -44,13 +49,25 @@ pub struct Survey {
     pub invalid: Vec<u64>,
 }
 
+// Whether the day with the date is open, if there is one.
+fn is_day(book: &ReplayBook, day: Option<Day>) -> bool
+    ensures { result ≡ is_day (state_of book.now.log) day }
+{
+    match day {
+        Some(day) => book.today() == day,
+        None => false,
+    }
+}
+
 impl Survey {
-    /// Of no records. Those after the one with the number will be looked at closely.
-    pub(crate) fn new(alloc: Global, from: u64) -> Survey
-        ensures { known result ≡ nothing from }
+    /// Of no records. Those of the day with the date will be looked at closely.
+    pub(crate) fn new(alloc: Global, day: Option<Day>) -> Survey
+        ensures { known result ≡ nothing day }
     {
         Survey {
-            from,
+            day,
+            is_of_day: false,
+            from: 0,
             records: 0,
             exceptions: 0,
             reasons: Vec::new(alloc),
@@ -60,12 +77,33 @@ impl Survey {
         }
     }
 
-    /// Counts a record.
-    pub(crate) fn count(&mut self)
+    /// Counts a record, which the book takes next.
+    pub(crate) fn count(&mut self, book: &ReplayBook)
         requires { self.old.records < 2 ^ 64 - 1 }
-        ensures { known self.new ≡ counted (known self.old) }
+        ensures { known self.new ≡ counted (known self.old) (state_of book.now.log) }
     {
         self.records += 1;
+        self.is_of_day = is_day(book, self.day);
+    }
+
+    /// The close of the day with the date, where the last record is the one that closed it.
+    pub(crate) fn close(&self, day: Day) -> Option<Close>
+        ensures { IfSome result (IsClosedBy self.now day) }
+    {
+        let close = *self.closes.last()?;
+        if close.record == self.records && close.date.is_same(&day) {
+            Some(close)
+        } else {
+            None
+        }
+    }
+
+    /// Whether the last record closed the day that is looked at.
+    pub(crate) fn is_done(&self) -> bool {
+        match self.day {
+            Some(day) => self.close(day).is_some(),
+            None => false,
+        }
     }
 
     /// Notes the reply to a command, whose record has the text: a close, or a refusal with what decided it.
@@ -110,21 +148,17 @@ impl Survey {
             record: self.records,
         };
         self.closes.push(close)?;
+        if !self.is_of_day {
+            self.from = self.records;
+        }
         Ok(())
-    }
-
-    // Whether the record is one of the day that is looked at closely.
-    fn is_of_day(&self) -> bool
-        ensures { result ≡ nat_lt self.now.from self.now.records }
-    {
-        self.from < self.records
     }
 
     // Whether the record would be among the exceptions that are shown, were it one.
     fn has_room(&self) -> bool
-        ensures { result ≡ (nat_lt self.now.from self.now.records && nat_lt (length self.now.findings.items) 200) }
+        ensures { result ≡ (self.now.is_of_day && nat_lt (length self.now.findings.items) 200) }
     {
-        self.is_of_day() && self.findings.len() < MOST
+        self.is_of_day && self.findings.len() < MOST
     }
 
     fn note_refusal(
@@ -167,7 +201,7 @@ impl Survey {
         ensures { OnOk result (known self.new ≡ wanted (known self.old) (why outcome) parties.reference) }
     {
         self.exceptions = self.exceptions.saturating_add(1);
-        if self.is_of_day() {
+        if self.is_of_day {
             self.note_reason(text, outcome, words, facts, parties)
         } else {
             Ok(())
@@ -223,19 +257,4 @@ fn put_right_each(findings: &mut [Finding], reference: u64, number: u64)
     for finding in findings.iter_mut() {
         finding.put_right(reference, number);
     }
-}
-
-/// The place among closes of the one that closed the day with the date, or of the last one; None where there is none.
-pub fn place_of(closes: &[Close], day: Option<Day>) -> Option<usize>
-    ensures { IfSome result (IsChosen closes.now day) }
-{
-    let Some(day) = day else {
-        return closes.len().checked_sub(1);
-    };
-    for (place, close) in closes.iter().enumerate() {
-        if close.date.is_same(&day) {
-            return Some(place);
-        }
-    }
-    None
 }

@@ -1,5 +1,4 @@
-use Rattle.std.proofs.lemmas.Result.{on_ok_weaker}
 use Rattle.cns_page.proofs.make.keep_closed.Goals as goal
 
 pub returns : goal.returns
-returns g c = on_ok_weaker c.keep_folder.result (λ h. (_, _, c.in-Some.ensures, h)) c.keep_folder.ensures
+returns g c = record { day = _; asked = c.in_ok-date.ensures; closed = _; is = c.in_ok-day.ensures; kept = c.in_ok-keep_day.ensures }

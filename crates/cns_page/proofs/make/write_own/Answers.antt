@@ -1,5 +1,4 @@
-use Rattle.std.proofs.lemmas.Result.{on_ok_weaker}
 use Rattle.cns_page.proofs.make.write_own.Goals as goal
 
 pub returns : goal.returns
-returns g c = on_ok_weaker c.write_own_day.result (λ h. (_, _, c.in-Some.ensures, h)) c.write_own_day.ensures
+returns g c = record { day = _; asked = c.in_ok-date.ensures; closed = _; is = c.in_ok-day.ensures; written = c.in_ok-write_own_taken.ensures }

@@ -1,4 +1,4 @@
-use Rattle.std.proofs.Common.{◌≡◌, ◌≤◌, List}
+use Rattle.std.proofs.Common.{◌≡◌, List}
 use Rattle.cns_feed.specs.Line.{Line}
 use Rattle.cns_feed.specs.Records.{IsReady, Pending}
 use Rattle.cns_page.specs.Survey.{known}
@@ -8,7 +8,6 @@ use Rattle.cns_page.proofs.play.play_with.Given as goal
 abbrev pub invariant-loop-turn : goal.invariant-loop-turn
 invariant-loop-turn g l = record {
   ready : IsReady l.records;
-  few : l._turn ≤ l.fn.most;
   count : l.survey.records ≡ l._turn;
   along : (all : List Line) → Pending g.R.Read.remaining l.fn.records all
       → Along g.R.Read.remaining l.records l.watched l.fn.book.log l.book.log (known l.fn.survey) l.survey l.lines.items l._turn all;
