@@ -1,7 +1,7 @@
 -- No sum of a day leaves the limit of amounts.
-use Rattle.std.proofs.Common.{◌≡◌, ℕ, ◌+◌, ◌*◌, ◌≤◌, ◌<◌, ℤ, pos, ◌+ℤ◌, ◌-ℤ◌, ◌*ℤ◌, Bool, true, false, ◌&&◌, ◌==◌, cond, not, slice_get, unwrap_or, List, [], ◌∷◌, length, arith, nat_cmp, bytes_eq, unsigned_abs, mul-le-mul_right}
-use Rattle.cns_terms.proofs.Common.{Account, Activity, AllByRecursion, Cusip, Day, Entry, IsInRange, IsLimited, IsReached, Journal, Posting, Row, accounts, added, added-all, added-each, added-more, amount_limit, at_close, booking_limit, bounded, cents_for, closings, corporation_limit, day, day_sheet, each_found, each_weaker, front_total, history_limit, ints, is_close, is_idle, is_rising, issues, issues_few, journal, journal_len, last_close, limited, limited_past, magnitude, mark, member_limit, members, members_few, members_from_one, money, occurs, one_issue, open_day, over_all, position_limit, posting, price, price_limit, row, rows_of, sheet_rows, slice_cmp, total, total_small, unsigned_abs-mul}
-use Rattle.cns_terms.specs.Laws.{Amounts, HasSmallAmounts, HasSmallSums, StaysSmall}
+use Rattle.std.proofs.Common.{◌≡◌, ℕ, ◌+◌, ◌*◌, ◌≤◌, ◌<◌, ℤ, pos, ◌+ℤ◌, ◌-ℤ◌, ◌*ℤ◌, Bool, true, false, ◌&&◌, ◌==◌, cond, not, List, [], ◌∷◌, length, arith, nat_cmp, bytes_eq, unsigned_abs, mul-le-mul_right}
+use Rattle.cns_terms.proofs.Common.{Account, Activity, AllByRecursion, Cusip, Day, Entry, IsLimited, IsReached, Journal, Posting, Row, accounts, added, added-all, added-each, added-more, amount_limit, at_close, booking_limit, bounded, cents_for, closings, corporation_limit, day, day_sheet, each_closing, each_first, each_found, each_weaker, front_total, history_limit, ints, is_idle, is_rising, issues, issues_few, journal, journal_len, last_close, limited, magnitude, mark, member_limit, members, members_few, members_from_one, money, occurs, one_issue, open_day, over_all, position_limit, price, price_limit, row, rows_of, sheet_rows, slice_cmp, total, total_small, unsigned_abs-mul}
+use Rattle.cns_terms.specs.Laws.{Amounts, HasSmallSums, StaysSmall}
 use Rattle.cns_terms.specs.Marks.{value}
 use Rattle.cns_terms.specs.Positions.{position}
 use Rattle.cns_terms.proofs.DividendBounds.{dividends_small}
@@ -16,18 +16,12 @@ pub record IsSmall (opening : Day) (J : Journal) : Type 0 where
   pub few : length J < history_limit
   pub prices : (c : Cusip) → price J c ≤ price_limit
 
--- ---- an activity's price
-
--- an activity in its ranges sets small prices
-price-post : (opening : Day) (J : Journal) (x : Activity) (c : Cusip) → IsInRange x → price J c ≤ price_limit → price (posting opening J x ∷ J) c ≤ price_limit
-price-post opening J x c h1 h2 = grind arith
-
 -- ---- a journal that commands reach, and the journals as its closes found them
 
 -- each price of a journal is small
 prices_small : (opening : Day) (L : List Activity) → IsReached opening L → (c : Cusip) → price (journal opening L) c ≤ price_limit
 prices_small opening [] r c = omega arith
-prices_small opening (x ∷ L) r c = price-post opening (journal opening L) x c r.0 (prices_small opening L r.2 c)
+prices_small opening (x ∷ L) r c = grind (arith, prices_small opening L r.2 c)
 
 -- a journal that commands reach is small
 small : (opening : Day) (L : List Activity) → IsReached opening L → length L < history_limit → IsSmall opening (journal opening L)
@@ -37,38 +31,14 @@ small opening L r few = record {
   prices = prices_small opening L r;
 }
 
--- a journal, the one before it, and the limits of those of its closes
+-- a journal, and those of its closes
 record AreSmall (opening : Day) (J : Journal) : Type 0 where
   now : IsSmall opening J
-  before : IsSmall opening (last_close J)
-  closed : AllByRecursion (IsLimited opening) (closings J)
-
--- a journal, and those of its closes
-record AreAllSmall (opening : Day) (J : Journal) : Type 0 where
-  now : AreSmall opening J
-  past : AllByRecursion (AreSmall opening) (closings J)
-
--- the journal before, after an activity that ends a day or not
-before_if : (opening : Day) (b : Bool) (J : Journal) → AreSmall opening J → IsSmall opening (unwrap_or (slice_get (cond b (J ∷ closings J) (closings J)) 0) [])
-before_if opening b J h1 = grind arith
-
--- and the journals of all closes
-past_if : (opening : Day) (b : Bool) (J : Journal) → AreAllSmall opening J → AllByRecursion (AreSmall opening) (cond b (J ∷ closings J) (closings J))
-past_if opening b J h1 = grind arith
-
--- the empty journal is small
-small_nil : (opening : Day) → IsSmall opening []
-small_nil opening = small opening [] tt (omega arith)
+  closed : AllByRecursion (IsSmall opening) (closings J)
 
 -- a journal that commands reach is small, and so it was at each close
-all_small : (opening : Day) (L : List Activity) → IsReached opening L → length L < history_limit → AreAllSmall opening (journal opening L)
-all_small opening [] r few = record { now = record { now = small_nil opening; before = small_nil opening; closed = tt }; past = tt }
-all_small opening (x ∷ L) r few =
-    let s : AreAllSmall opening (journal opening L) = all_small opening L r.2 (omega (arith, few)) in
-    record {
-      now = record { now = small opening (x ∷ L) r few; before = before_if opening (is_close x) (journal opening L) s.now; closed = limited_past opening (x ∷ L) r };
-      past = past_if opening (is_close x) (journal opening L) s;
-    }
+all_small : (opening : Day) (L : List Activity) → IsReached opening L → length L < history_limit → AreSmall opening (journal opening L)
+all_small opening L r few = record { now = small opening L r few; closed = each_closing opening (IsSmall opening) history_limit (small opening) L r few }
 
 -- ---- the rows of a sheet
 
@@ -110,14 +80,10 @@ account_cents J a cs h =
       added-more (λ (p : Posting). added (λ c. magnitude (cents_for a c) p.entries) cs) (λ p. magnitude (of_account a) p.entries) J (λ p. posting_cents a cs p h),
     )
 
--- a number given to one of some accounts, one account more
-given_more : (b : Bool) (o n : ℕ) (z : ℤ) → n ≤ o * unsigned_abs z → unsigned_abs (cond b z (pos 0)) + n ≤ (cond b 1 0 + o) * unsigned_abs z
-given_more b o n z h1 = grind arith
-
 -- a number given to an account, as often as it stands there
 given_often : (i : ℕ) (z : ℤ) (bs : List ℕ) → added (λ a. unsigned_abs (cond (i == a) z (pos 0))) bs ≤ occurs i bs * unsigned_abs z
 given_often i z [] = omega arith
-given_often i z (b ∷ bs) = given_more (i == b) (occurs i bs) (added (λ a. unsigned_abs (cond (i == a) z (pos 0))) bs) z (given_often i z bs)
+given_often i z (b ∷ bs) = grind (arith, given_often i z bs)
 
 -- the cents of one posting, over the accounts
 of_accounts : (bs : List ℕ) (p : Posting) → ((a : ℕ) → occurs a bs ≤ 1) → added (λ a. magnitude (of_account a) p.entries) bs ≤ cents_of p
@@ -210,10 +176,11 @@ marks_small opening K s =
     let g : Account → Cusip → ℕ = λ a c. unsigned_abs (value K a c) in
     let h : Account → Cusip → ℕ = λ a c. unsigned_abs (value (last_close K) a c) in
     let m : Account → Cusip → ℕ = λ a c. unsigned_abs (money K a c) in
+    let before = each_first (IsSmall opening) [] (closings K) (small opening [] tt (omega arith)) s.closed in
     let parts = over_more (λ a c. unsigned_abs (mark K a c)) (λ a c. (g a c + h a c) + m a c) K (λ a c. three_parts (value K a c) (value (last_close K) a c) (money K a c)) in
     three_few _ (over_all (λ a c. g a c + h a c) K) (over_all g K) (over_all h K) (over_all m K)
     (omega (arith, parts, over_add (λ a c. g a c + h a c) m K)) (over_add g h K)
-    (values_small opening K K s.now s.now) (values_small opening K (last_close K) s.now s.before) (cents_small opening K s.now.limited s.now.few)
+    (values_small opening K K s.now s.now) (values_small opening K (last_close K) s.now before) (cents_small opening K s.now.limited s.now.few)
   where
     three_few : (m n v w x : ℕ) → m ≤ n + x → n ≤ v + w → v ≤ value_limit * history_limit → w ≤ value_limit * history_limit → x ≤ cents_limit → m ≤ amount_limit
     three_few m n v w x h k p q r = omega (arith, h, k, p, q, r)
@@ -230,7 +197,7 @@ sheet_small opening K s = record {
   cents = first_rows opening K (λ r. r.money) (omega (arith, cents_small opening K s.now.limited s.now.few));
   values = first_rows opening K (λ r. r.closing *ℤ pos r.price) (omega (arith, values_small opening K K s.now s.now));
   marks = first_rows opening K (λ r. r.mark) (marks_small opening K s);
-  dividends = first_rows opening K (λ r. r.dividend) (dividends_small opening K s.now.limited s.closed s.now.few);
+  dividends = first_rows opening K (λ r. r.dividend) (dividends_small opening K s.now.limited (each_weaker (IsSmall opening) (IsLimited opening) (closings K) (λ J k. k.limited) s.closed) s.now.few);
 }
 
 -- ---- the law
@@ -239,15 +206,13 @@ sheet_small opening K s = record {
 few_cents : (m k : ℕ) → m ≤ booking_limit * k → k < history_limit → m ≤ amount_limit
 few_cents m k h few = omega (arith, h, few)
 
--- amounts are small where a journal and those of its closes are
-amounts_small : (opening : Day) (J : Journal) (i : ℕ) → AreAllSmall opening J → HasSmallAmounts opening J i
-amounts_small opening J i s =
-    let none : AreSmall opening [] = record { now = small_nil opening; before = small_nil opening; closed = tt } in
-    record {
-      sheet = sheet_small opening (at_close J i) (each_found (AreSmall opening) (λ K. day K == i) [] (closings J) none s.past);
-      open_cents = λ a c. few_cents _ (length J) (s.now.now.limited.cents a c) s.now.now.few;
-    }
-
 -- over activities that commands reach, no more than a history holds, amounts stay within their limit
 pub amounts : Amounts
-amounts opening L i r few = amounts_small opening (journal opening L) i (all_small opening L r few)
+amounts opening L i r few =
+    let J : Journal = journal opening L in
+    let past = each_closing opening (AreSmall opening) history_limit (all_small opening) L r few in
+    let now = small opening L r few in
+    record {
+      sheet = sheet_small opening (at_close J i) (each_found (AreSmall opening) (λ K. day K == i) [] (closings J) (all_small opening [] tt (omega arith)) past);
+      open_cents = λ a c. few_cents _ (length J) (now.limited.cents a c) now.few;
+    }

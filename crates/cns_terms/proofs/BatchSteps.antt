@@ -39,12 +39,7 @@ unfilled opening (x ∷ L) n c a r le =
 -- liabilities that nothing was filled of
 left_whole : (J : Journal) (n : ℕ) (c : Cusip) (ss : List Short) → ((a : Member) → filled J n c a ≡ 0) → map (left_of J n c) (map liable_of ss) ≡ map liable_of ss
 left_whole J n c [] h = refl
-left_whole J n c (s ∷ ss) h =
-    let all : s.shares - filled J n c s.member ≡ s.shares = all_left s.shares (filled J n c s.member) (h s.member) in
-    rw (all, left_whole J n c ss h) refl
-  where
-    all_left : (m n : ℕ) → n ≡ 0 → m - n ≡ m
-    all_left m n e = omega (arith, e)
+left_whole J n c (s ∷ ss) h = grind (arith, left_whole J n c ss h)
 
 -- a batch that nothing was filled of is as it was chosen
 pub batch_new : (J K : Journal) (c : Cusip) → ((a : Member) → filled J (day K) c a ≡ 0) → batch_since J K c ≡ batch_at K c

@@ -2,7 +2,6 @@
 use Rattle.std.proofs.Common.{◌≡◌, ◌∙◌, ap, subst, refl, ℕ, ◌+◌, ◌-◌, ◌*◌, ◌≤◌, min, ℤ, pos, negsuc, ◌+ℤ◌, neg_ℤ, Bool, true, false, not, cond, ◌&&◌, ◌==◌, List, [], ◌∷◌, map, filter, find, Option, Some, None, sum_by, arith, IfSome, nat_lt, unsigned_abs, eqb-true}
 use Rattle.cns_terms.specs.Common.{Account, AllByRecursion, Cusip, Entry, Execution, Fill, Journal, Liable, Member, Notice, Short, at_close, batch, batch_at, called, capacity, day, execution_entries, fill_entry, fills, fills_before, in_order, is_called, is_live, is_so, left_of, liable_of, long, members, remaining, room, same_issue, shares_for, short, short_of, shorts, stage, stretch, total}
 use Rattle.std.proofs.Math.Nat.{min-le_right}
-use Rattle.std.proofs.lemmas.Bool.Decides.{nat_tests}
 use Rattle.std.proofs.lemmas.Int.{ints}
 use Rattle.std.proofs.lemmas.List.Sums.{sum_by-cons}
 use Rattle.std.proofs.lemmas.Slice.Eq.{bytes_eq-Decides}
@@ -33,18 +32,7 @@ pub record IsExecutable (J : Journal) (x : Execution) (k : Notice) : Type 0 wher
 -- the notice of an execution that is not refused
 pub executable : (J : Journal) (x : Execution) (o : Option Notice) → is_so (λ k. is_live (stage J k) && nat_lt (remaining J k) x.shares) o ≡ false → is_so (λ k. not (is_live (stage J k))) o ≡ false → is_so (λ k. nat_lt (room J k) x.shares) o ≡ false → IfSome o (IsExecutable J x)
 executable J x None e l r = tt
-executable J x (Some k) e l r =
-    let live = holds (is_live (stage J k)) l in
-    record { live = live; enough = no_less (remaining J k) x.shares (of_live (is_live (stage J k)) _ live e); roomy = no_less (room J k) x.shares r }
-  where
-    holds : (b : Bool) → not b ≡ false → b ≡ true
-    holds b h1 = grind arith
-
-    of_live : (b t : Bool) → b ≡ true → (b && t) ≡ false → t ≡ false
-    of_live b t h1 h2 = grind arith
-
-    no_less : (a b : ℕ) → nat_lt a b ≡ false → b ≤ a
-    no_less a b h = grind (arith, nat_tests)
+executable J x (Some k) e l r = grind arith
 
 -- what remains of a notice is no more than its member is long
 pub remains_long : (J : Journal) (k : Notice) → remaining J k ≤ long (position J k.given.member k.given.issue)
@@ -133,13 +121,7 @@ filled_few short_now n m from a (l ∷ ls) =
 
 -- what an execution gives a member is no more than it is short, where no number stands twice among the members
 pub fill_few : (J : Journal) (x : Execution) (k : Notice) (a : Member) → occurs a (members (at_close J k.given.day)) ≤ 1 → filled_by (fills J x k) a ≤ short (position J a k.given.issue)
-fill_few J x k a once =
-    let all = filled_few (λ a. short (position J a k.given.issue)) x.shares x.money 0 a (batch J k.given.day k.given.issue) in
-    let one = batch_once J k.given.day k.given.issue a in
-    rw (fills_laid (λ a. short (position J a k.given.issue)) x.shares x.money (batch J k.given.day k.given.issue)) (at_most_once (times (λ (l : Liable). l.member) a (batch J k.given.day k.given.issue)) _ _ (omega (arith, one, once)) all)
-  where
-    at_most_once : (t z n : ℕ) → t ≤ 1 → n ≤ t * z → n ≤ z
-    at_most_once t z n h1 h2 = grind arith
+fill_few J x k a once = grind (arith, filled_few, batch_once, fills_laid)
 
 -- ---- the shares and cents of an execution's entries
 
@@ -193,18 +175,7 @@ fill_cents_in k c false is (f ∷ fs) = rw (is, fill_cents_in k c false is fs) r
 
 -- the entries of an execution add up to zero in each issue
 pub execution_balanced : (J : Journal) (x : Execution) (k : Notice) → 1 ≤ x.shares → IsExecutable J x k → IsBalanced (execution_entries J x k)
-execution_balanced J x k some ready =
-    let now : Member → ℕ = λ a. short (position J a k.given.issue) in
-    let ls = batch J k.given.day k.given.issue in
-    let shares = shares_of_fills now x.shares x.money ls ready.roomy in
-    let cents = cents_of_fills now x.shares x.money ls some ready.roomy in
-    record {
-      shares = λ c. rw (fill_shares_in k c (same_issue k.given.issue c) refl (fills J x k), shares) (opposite (same_issue k.given.issue c) (neg_ℤ (pos x.shares)) (pos x.shares) (omega (arith, ints)));
-      cents = λ c. rw (fill_cents_in k c (same_issue k.given.issue c) refl (fills J x k), cents) (opposite (same_issue k.given.issue c) (pos x.money) (neg_ℤ (pos x.money)) (omega (arith, ints)));
-    }
-  where
-    opposite : (b : Bool) (m n : ℤ) → m +ℤ n ≡ pos 0 → cond b m (pos 0) +ℤ cond b n (pos 0) ≡ pos 0
-    opposite b m n h1 = grind arith
+execution_balanced J x k some ready = grind (arith, shares_of_fills, cents_of_fills, fill_shares_in, fill_cents_in)
 
 -- the cents of fills' entries, whatever their signs
 fill_magnitude : (k : Notice) (fs : List Fill) → magnitude (λ (e : Entry). e.cents) (map (fill_entry k) fs) ≡ sum_by (λ f. f.cents) fs

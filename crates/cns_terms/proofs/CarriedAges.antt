@@ -1,6 +1,6 @@
 -- Ages over an exchange: what it brings into the successor, and that it brings nothing anywhere else.
-use Rattle.std.proofs.Common.{◌≡◌, ◌∙◌, sym, ap, refl, ℕ, zero, suc, ◌+◌, ◌≤◌, max, Bool, true, false, cond, ◌||◌, List, [], ◌∷◌, ◌++◌, filter, filter_map, length, Option, None, arith, is_none, flat_map}
-use Rattle.cns_terms.proofs.Common.{⊤, Account, Activity, Cusip, Day, IsReached, Journal, Posting, activities, all_fail, closes, closings, cons_option, exchanged, greatest, is_close, is_retired, journal, list_any, neither, oldest, open_day, same_issue}
+use Rattle.std.proofs.Common.{◌≡◌, ◌∙◌, sym, ap, refl, ℕ, zero, suc, ◌+◌, ◌≤◌, max, Bool, true, false, cond, ◌||◌, List, [], ◌∷◌, ◌++◌, filter, length, None, arith, is_none, flat_map}
+use Rattle.cns_terms.proofs.Common.{⊤, Account, Activity, Cusip, Day, IsReached, Journal, Posting, all_fail, closes, closings, exchanged, greatest, is_close, is_retired, journal, list_any, neither, oldest, same_issue}
 use Rattle.cns_terms.specs.declared.action.Exchange.{Exchange}
 use Rattle.cns_terms.specs.Ages.{age, carried, closes_short, exchanges_today, forerunners, forerunners_today}
 use Rattle.cns_terms.specs.Refusals.{rules}
@@ -105,10 +105,7 @@ behind_more f x xs fresh d = by (same_issue x.successor d) refl
 
 -- a posting that closes no day and exchanges no issue
 pub carried_same : (p : Posting) (J : Journal) (a : Account) (c : Cusip) → is_close p.activity ≡ false → exchanged p.activity ≡ None → carried (p ∷ J) a c ≡ carried J a c
-carried_same p J a c still none = λ i. by (still i) (none i)
-  where
-    by : Bool → Option Exchange → ℕ
-    by b o = let xs = cons_option o (filter_map exchanged (activities (cond b [] (open_day J)))) in greatest (closes_short (cond b (J ∷ closings J) (closings J)) a) (forerunners (length xs) xs c)
+carried_same p J a c still none = grind arith
 
 -- ---- the exchanges that commands reach
 

@@ -1,17 +1,12 @@
 -- A closed day keeps its sheet.
-use Rattle.std.proofs.Common.{◌≡◌, ℕ, ◌≤◌, ℤ, Bool, true, false, List, [], ◌∷◌, refl, sym, ◌∙◌, ap, subst, arith, cond, find, unwrap_or, ◌==◌, Option, Some, int_lt, option_map, int_eq}
-use Rattle.cns_terms.proofs.BatchSteps.{no_earlier}
-use Rattle.cns_terms.proofs.Common.{Activity, AllByRecursion, Command, Day, DaySheet, IsWhole, Journal, State, after, at_close, closed_on, closes, closings, date, day, day_number, day_sheet, ints, is_close, is_same_day, journal, journal_of, next, opened, rows_for, statement}
+use Rattle.std.proofs.Common.{◌≡◌, ℕ, ◌≤◌, Bool, true, false, List, [], ◌∷◌, refl, sym, ◌∙◌, ap, subst, arith, cond, find, Option, Some, option_map}
+use Rattle.cns_terms.proofs.Common.{AllByRecursion, Command, Day, DaySheet, IsWhole, Journal, State, after, at_close, closed_on, closes, day_sheet, journal_of, next, opened, rows_for, statement}
 use Rattle.cns_terms.specs.Laws.{ClosedDays}
 use Rattle.cns_terms.specs.Sheets.{sheet_at}
-use Rattle.cns_terms.proofs.Sound.{AreEarlier, opening_stays, whole-after, whole-next}
+use Rattle.cns_terms.proofs.Sound.{opening_stays, whole-after, whole-next}
 use Rattle.cns_terms.specs.declared.command.Command.TheVariants as command
 
 -- ---- by place
-
--- the journal of an earlier close, found among those of a later journal
-found_later : (b : Bool) (J : Journal) (i : ℕ) → i ≤ closes J → unwrap_or (find (λ K. day K == i) (cond b (J ∷ closings J) (closings J))) [] ≡ at_close J i
-found_later b J i h1 = grind arith
 
 -- ---- by date
 
@@ -24,17 +19,6 @@ found : {X : Type 0} (P : X → Type 0) (t : X → Bool) (xs : List X) (x : X) �
 found P t [] x a e = cc
 found P t (y ∷ ys) x a e = found_if P t (t y) y x (find t ys) refl a.0 (found P t ys x a.1) e
 
--- a day that is later than one with the date has another date
-apart : (a b c : ℤ) → int_lt a b ≡ true → int_eq a c ≡ true → int_eq b c ≡ false
-apart a b c p q = grind (arith, ints)
-
--- the journal that the close of a day with the date found is found among those of a later journal
-dated_later : (opening : Day) (J : Journal) (d : Day) (K : Journal) (b : Bool) → AreEarlier opening J → closed_on opening J d ≡ Some K → find (λ K. is_same_day (date opening K) d) (cond b (J ∷ closings J) (closings J)) ≡ Some K
-dated_later opening J d K false earlier is = is
-dated_later opening J d K true earlier is =
-    let f = found (λ K. int_lt (day_number (date opening K)) (day_number (date opening J)) ≡ true) (λ K. is_same_day (date opening K) d) (closings J) K earlier is in
-    ap (λ t. cond t (Some J) (closed_on opening J d)) (apart (day_number (date opening K)) (day_number (date opening J)) (day_number d) f.0 f.1) ∙ is
-
 -- ---- after commands
 
 -- what commands leave of the earlier closes
@@ -46,17 +30,9 @@ pub record Keeps (opening : Day) (J J' : Journal) : Type 0 where
 keeps_same : (opening : Day) (J : Journal) → Keeps opening J J
 keeps_same opening J = record { more = omega arith; by_place = λ i h. refl; by_date = λ d K is. is }
 
-keeps_if : (b : Bool) (x : Activity) (opening : Day) (L : List Activity) → IsWhole opening (journal opening L) → Keeps opening (journal opening L) (journal opening (cond b (x ∷ L) L))
-keeps_if true x opening L w = let J = journal opening L in record {
-  more = no_earlier (is_close x) J;
-  by_place = found_later (is_close x) J;
-  by_date = λ d K is. dated_later opening J d K (is_close x) w.earlier is;
-}
-keeps_if false x opening L w = keeps_same opening (journal opening L)
-
 -- a command keeps what stood at the earlier closes
 keeps-next : (S : State) (cmd : Command) → IsWhole S.opening (journal_of S) → Keeps S.opening (journal_of S) (journal_of (next S cmd))
-keeps-next S (command.Activity x) w = keeps_if _ x S.opening S.accepted w
+keeps-next S (command.Activity x) w = grind (arith, found)
 keeps-next S (command.Position k) w = keeps_same S.opening (journal_of S)
 keeps-next S (command.Statement a d) w = keeps_same S.opening (journal_of S)
 

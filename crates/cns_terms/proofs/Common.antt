@@ -24,7 +24,7 @@ pub use Rattle.cns_units.proofs.Parts.{parts_failed, parts_more}
 pub use Rattle.cns_terms.proofs.Accounts.{occurs, occurs_found, occurs_missing}
 pub use Rattle.cns_terms.proofs.BuyIns.{IsExecutable, executable}
 pub use Rattle.cns_terms.proofs.EntrySums.{IsBalanced}
-pub use Rattle.cns_terms.proofs.Everywhere.{each_append, each_both, each_filter, each_found, each_in_order, each_map, each_weaker}
+pub use Rattle.cns_terms.proofs.Everywhere.{each_append, each_both, each_filter, each_first, each_found, each_in_order, each_map, each_weaker}
 pub use Rattle.cns_terms.proofs.Facts.{and_false, and_left, and_right, both_true, bytes_refl, eqb_refl, eqb_sym, equal, holds, journal_len, less, map_each, neither, or_right, same_test, zero_add}
 pub use Rattle.cns_terms.proofs.FillSums.{cents_of_fills, shares_of_fills}
 pub use Rattle.cns_terms.proofs.Finds.{find_below, find_filter, kept_if, next_above, same_lists, sorted_filter, sorted_from}
@@ -33,7 +33,7 @@ pub use Rattle.cns_terms.proofs.Laid.{fills_laid, laid}
 pub use Rattle.cns_terms.proofs.Limits.{near}
 pub use Rattle.cns_terms.proofs.Magnitudes.{added, added-all, added-each, added-more, front_total, magnitude, total_small}
 pub use Rattle.cns_terms.proofs.OverAll.{one_issue, over_all}
-pub use Rattle.cns_terms.proofs.Reached.{IsLimited, bounded, limited, limited_past, members_few, members_from_one}
+pub use Rattle.cns_terms.proofs.Reached.{IsLimited, bounded, each_closing, limited, limited_past, members_few, members_from_one}
 pub use Rattle.cns_terms.proofs.Rising.{above_all, is_rising}
 pub use Rattle.cns_terms.proofs.SheetBounds.{issues_few}
 pub use Rattle.cns_terms.proofs.SheetRows.{says}

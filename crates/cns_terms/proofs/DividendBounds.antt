@@ -1,6 +1,6 @@
 -- No dividends of a day leave the limit of amounts.
-use Rattle.std.proofs.Common.{◌≡◌, ℕ, ◌+◌, ◌*◌, ◌^◌, ◌≤◌, ◌<◌, ℤ, pos, neg_ℤ, ◌*ℤ◌, Bool, true, false, ◌&&◌, ◌==◌, cond, filter, List, [], ◌∷◌, length, arith, nat_cmp, bytes_eq, int_div, unsigned_abs, mul-le-mul_right}
-use Rattle.cns_terms.proofs.Common.{Account, Activity, AllByRecursion, Cusip, Day, Declared, Entry, IsLimited, Journal, Rate, added, added-all, added-each, added-more, amount_limit, as_of, bounded, cash, closings, date, dividend, dividends, each_found, each_weaker, history_limit, ints, is_not_after, is_rising, issues, last_date, limited, member_dividend, members, members_few, members_from_one, nat_tests, one_issue, over_all, position_limit, rate_limit, slice_cmp, total, total_small, unsigned_abs-mul}
+use Rattle.std.proofs.Common.{◌≡◌, ℕ, ◌*◌, ◌^◌, ◌≤◌, ◌<◌, ℤ, pos, neg_ℤ, Bool, true, false, ◌&&◌, ◌==◌, cond, filter, List, [], ◌∷◌, length, arith, nat_cmp, bytes_eq, unsigned_abs}
+use Rattle.cns_terms.proofs.Common.{Account, AllByRecursion, Cusip, Day, Declared, IsLimited, Journal, Rate, added, added-all, added-each, added-more, amount_limit, as_of, cash, closings, date, dividend, dividends, each_found, each_weaker, history_limit, ints, is_rising, issues, last_date, member_dividend, members, members_few, members_from_one, nat_tests, one_issue, over_all, position_limit, rate_limit, slice_cmp, total, total_small}
 use Rattle.cns_terms.specs.Dividends.{due, is_due}
 use Rattle.cns_terms.specs.Positions.{position}
 use Rattle.cns_terms.proofs.Magnitudes.{added-swap}
@@ -10,17 +10,9 @@ use Rattle.cns_terms.proofs.Reached.{AreSmallRates}
 abbrev pub cash_limit : ℕ
 cash_limit = 10 ^ 17
 
--- a quotient cut towards zero
-quotient_small : (z : ℤ) (m : ℕ) → unsigned_abs z ≤ 10000 * m → unsigned_abs (int_div z (pos 10000)) ≤ m
-quotient_small z m h1 = grind arith
-
--- few shares at a small rate
-product_few : (q r z : ℕ) → z ≡ q * r → q ≤ position_limit → r ≤ rate_limit → z ≤ 10000 * cash_limit
-product_few q r z e p s = omega (arith, e, s, mul-le-mul_right r p)
-
 -- the cash on a member's position
 pub cash_small : (q : ℤ) (rate : Rate) → unsigned_abs q ≤ position_limit → rate ≤ rate_limit → unsigned_abs (cash q rate) ≤ cash_limit
-cash_small q rate p s = quotient_small (q *ℤ pos rate) cash_limit (product_few (unsigned_abs q) rate (unsigned_abs (q *ℤ pos rate)) (unsigned_abs-mul q (pos rate)) p s)
+cash_small q rate p s = grind (arith, ints)
 
 -- ---- one member
 
@@ -29,17 +21,11 @@ module _ (opening : Day) (K : Journal) (closed : AllByRecursion (IsLimited openi
   abbrev paid : Cusip → Declared → ℤ
   paid c d = cash (position (as_of opening K d.recorded) a c) d.rate
 
-  -- it is small
-  paid_small : (c : Cusip) (d : Declared) → d.rate ≤ rate_limit → unsigned_abs (paid c d) ≤ cash_limit
-  paid_small c d r =
-      let then : IsLimited opening (as_of opening K d.recorded) = each_found (IsLimited opening) (λ P. is_not_after (date opening P) d.recorded) [] (closings K) (limited opening [] tt) closed in
-      cash_small (position (as_of opening K d.recorded) a c) d.rate ((bounded opening (as_of opening K d.recorded) c then).members a member) r
-
   -- those that are due in an issue
   due_small : (c : Cusip) (test : Declared → Bool) (ds : List Declared) → AreSmallRates ds
       → added (λ d. unsigned_abs (paid c d)) (filter (λ d. bytes_eq d.issue c && test d) ds) ≤ added (λ d. unsigned_abs (cond (true && bytes_eq d.issue c) (pos cash_limit) (pos 0))) ds
   due_small c test [] r = omega arith
-  due_small c test (d ∷ ds) r = grind (arith, paid_small, due_small c test ds r.1)
+  due_small c test (d ∷ ds) r = grind (arith, each_found, cash_small, due_small c test ds r.1)
 
   -- the dividends of a member, over the issues
   member_small : is_rising (slice_cmp nat_cmp) (issues K) ≡ true → AreSmallRates (dividends K) → added (λ c. unsigned_abs (member_dividend opening K c a)) (issues K) ≤ cash_limit * length (dividends K)
@@ -54,14 +40,10 @@ module _ (opening : Day) (K : Journal) (closed : AllByRecursion (IsLimited openi
 
 -- ---- all accounts
 
--- an activity declares one dividend at most
-few-post : (x : Activity) (es : List Entry) (K : Journal) → length (dividends K) ≤ length K → length (dividends (record { activity = x; entries = es } ∷ K)) ≤ length K + 1
-few-post x es K h1 = grind arith
-
 -- no more dividends than postings
 pub dividends_few : (K : Journal) → length (dividends K) ≤ length K
 dividends_few [] = omega arith
-dividends_few (p ∷ K) = omega (arith, few-post p.activity p.entries K (dividends_few K))
+dividends_few (p ∷ K) = grind (arith, dividends_few K)
 
 -- what one account is paid or pays at a close, at most
 abbrev account_limit : ℕ

@@ -1,10 +1,10 @@
 -- A place at which nothing was booked has no row.
-use Rattle.std.proofs.Common.{◌≡◌, ◌∙◌, ap, refl, ℕ, ℤ, pos, ◌+ℤ◌, Bool, true, false, not, cond, ◌&&◌, ◌==◌, List, [], ◌∷◌, slice_get, unwrap_or, arith, bytes_eq, int_eq, eqb-true}
-use Rattle.cns_terms.proofs.Common.{Account, AllByRecursion, Cusip, Day, Entry, IsSound, Journal, Key, Posting, accounts, as_of, bytes_eq-Decides, cents_for, closings, date, dividend, each_found, is_account, is_close, is_idle, is_listed, is_not_after, issues, last_close, list_any, money, nat_list_eq_equiv, neither, occurs, occurs_missing, open_day, row, same_issue, shares_for, total}
+use Rattle.std.proofs.Common.{◌≡◌, ◌∙◌, refl, ℕ, pos, ◌+ℤ◌, Bool, true, false, not, cond, ◌&&◌, ◌==◌, List, [], ◌∷◌, arith, bytes_eq}
+use Rattle.cns_terms.proofs.Common.{Account, AllByRecursion, Cusip, Day, Entry, IsSound, Journal, Key, accounts, as_of, bytes_eq-Decides, cents_for, closings, date, dividend, each_first, each_found, each_weaker, is_account, is_idle, is_listed, is_not_after, issues, last_close, list_any, money, nat_list_eq_equiv, neither, occurs, occurs_missing, row, same_issue, shares_for, total}
 use Rattle.cns_terms.specs.Positions.{position}
 use Rattle.cns_terms.proofs.Paid.{no_dividend-account, no_dividend-issue}
 use Rattle.cns_terms.proofs.Sound.{AreOfListed}
-use Rattle.cns_terms.proofs.ZeroSums.{AreKnown, AreOf}
+use Rattle.cns_terms.proofs.ZeroSums.{AreOf}
 
 -- whether an entry is booked at a place
 abbrev is_at : Account → Cusip → Entry → Bool
@@ -29,73 +29,47 @@ pub no_position : (a : Account) (c : Cusip) (J : Journal) → AreElsewhere a c J
 no_position a c [] h = refl
 no_position a c (p ∷ J) h = (λ i. no_shares a c p.entries h.0 i +ℤ no_position a c J h.1 i)
 
--- the cents of the open day, after an activity that ends a day or not
-open_branch : (b : Bool) (a : Account) (c : Cusip) (J : Journal) → total (λ p. total (cents_for a c) p.entries) (open_day J) ≡ pos 0 → total (λ p. total (cents_for a c) p.entries) (cond b [] (open_day J)) ≡ pos 0
-open_branch b a c J h1 = grind arith
-
 -- nor are there cents of the open day
 no_money : (a : Account) (c : Cusip) (J : Journal) → AreElsewhere a c J → money J a c ≡ pos 0
 no_money a c [] h = refl
-no_money a c (p ∷ J) h = (λ i. no_cents a c p.entries h.0 i +ℤ open_branch (is_close p.activity) a c J (no_money a c J h.1) i)
-
--- the journal before, after an activity that ends a day or not
-before_branch : (b : Bool) (a : Account) (c : Cusip) (K : Journal) → AreElsewhere a c K → AreElsewhere a c (last_close K) → AreElsewhere a c (unwrap_or (slice_get (cond b (K ∷ closings K) (closings K)) 0) [])
-before_branch b a c K h1 h2 = grind arith
-
--- nothing was booked there before the last close
-elsewhere_before : (a : Account) (c : Cusip) (K : Journal) → AreElsewhere a c K → AreElsewhere a c (last_close K)
-elsewhere_before a c [] h = tt
-elsewhere_before a c (p ∷ K) h = before_branch (is_close p.activity) a c K h.1 (elsewhere_before a c K h.1)
-
--- the journals of the closes, after an activity that ends a day or not
-closed_branch : (b : Bool) (a : Account) (c : Cusip) (K : Journal) → AreElsewhere a c K → AllByRecursion (AreElsewhere a c) (closings K) → AllByRecursion (AreElsewhere a c) (cond b (K ∷ closings K) (closings K))
-closed_branch b a c K h1 h2 = grind arith
+no_money a c (p ∷ J) h = grind (arith, no_cents, no_money a c J h.1)
 
 -- nothing was booked there at any close
 elsewhere_closed : (a : Account) (c : Cusip) (K : Journal) → AreElsewhere a c K → AllByRecursion (AreElsewhere a c) (closings K)
 elsewhere_closed a c [] h = tt
-elsewhere_closed a c (p ∷ K) h = closed_branch (is_close p.activity) a c K h.1 (elsewhere_closed a c K h.1)
+elsewhere_closed a c (p ∷ K) h = grind (arith, elsewhere_closed a c K h.1)
+
+-- or before the last of them
+elsewhere_before : (a : Account) (c : Cusip) (K : Journal) → AreElsewhere a c K → AreElsewhere a c (last_close K)
+elsewhere_before a c K h = each_first (AreElsewhere a c) [] (closings K) tt (elsewhere_closed a c K h)
 
 -- no shares stood there at any close
 never_held : (opening : Day) (a : Account) (c : Cusip) (K : Journal) → AreElsewhere a c K → (d : Day) → position (as_of opening K d) a c ≡ pos 0
 never_held opening a c K h d = no_position a c (as_of opening K d) (each_found (AreElsewhere a c) (λ P. is_not_after (date opening P) d) [] (closings K) tt (elsewhere_closed a c K h))
 
--- a row of zeros says nothing
-idle : (o q m v : ℤ) → o ≡ pos 0 → q ≡ pos 0 → m ≡ pos 0 → v ≡ pos 0 → (int_eq o (pos 0) && int_eq q (pos 0) && int_eq m (pos 0) && int_eq v (pos 0)) ≡ true
-idle o q m v x y z w = λ i. int_eq (x i) (pos 0) && int_eq (y i) (pos 0) && int_eq (z i) (pos 0) && int_eq (w i) (pos 0)
-
 -- nor does one of a place at which nothing was booked and nothing is paid
 idle_elsewhere : (opening : Day) (J : Journal) (a : Account) (c : Cusip) → AreElsewhere a c J → dividend opening J a c ≡ pos 0 → not (is_idle (row opening J a c)) ≡ false
-idle_elsewhere opening J a c h paid = ap not (idle (position (last_close J) a c) (position J a c) (money J a c) (dividend opening J a c) (no_position a c (last_close J) (elsewhere_before a c J h)) (no_position a c J h) (no_money a c J h) paid)
+idle_elsewhere opening J a c h paid = grind (arith, no_position, elsewhere_before, no_money)
 
 -- ---- an account that is not there, and an issue that is not listed
-
--- an entry for one of some accounts is not for one that is none of them
-apart_account : (b d : Bool) (a a' : ℕ) (bs : List ℕ) → (b ≡ true → a' ≡ a) → occurs a' bs ≡ 1 → occurs a bs ≡ 0 → (b && d) ≡ false
-apart_account b d a a' bs h1 h2 h3 = grind arith
 
 -- entries for some accounts are elsewhere for all others
 account_elsewhere : (a : Account) (c : Cusip) (bs : List ℕ) (es : List Entry) → occurs a bs ≡ 0 → AreOf bs es → AllByRecursion (λ e. is_at a c e ≡ false) es
 account_elsewhere a c bs [] none h = tt
-account_elsewhere a c bs (e ∷ es) none h = (apart_account (e.account == a) (same_issue e.issue c) a e.account bs (eqb-true e.account a) h.0 none, account_elsewhere a c bs es none h.1)
+account_elsewhere a c bs (e ∷ es) none h = grind (arith, account_elsewhere a c bs es none h.1)
 
 -- entries in listed issues are elsewhere for all others
 issue_elsewhere : (a : Account) (c : Cusip) (J : Journal) (es : List Entry) → is_listed J c ≡ false → AreOfListed J es → AllByRecursion (λ e. is_at a c e ≡ false) es
 issue_elsewhere a c J [] none h = tt
 issue_elsewhere a c J (e ∷ es) none h = grind (arith, bytes_eq-Decides, issue_elsewhere a c J es none h.1)
 
--- what holds of each posting holds of the journal
-elsewhere_all : (a : Account) (c : Cusip) (J K : Journal) → ((p : Posting) → AreOf (accounts J) p.entries → AreOfListed J p.entries → AllByRecursion (λ e. is_at a c e ≡ false) p.entries) → AreKnown (accounts J) K → AllByRecursion (λ p. AreOfListed J p.entries) K → AreElsewhere a c K
-elsewhere_all a c J [] h s l = tt
-elsewhere_all a c J (p ∷ K) h s l = (h p s.0 l.0, elsewhere_all a c J K h s.1 l.1)
-
 -- nothing was booked for an account that is not there
 pub no_account_elsewhere : (J : Journal) (a : Account) (c : Cusip) → IsSound J → is_account J a ≡ false → AreElsewhere a c J
-no_account_elsewhere J a c s none = elsewhere_all a c J J (λ p known listed. account_elsewhere a c (accounts J) p.entries (occurs_missing a (accounts J) none) known) s.known s.issued
+no_account_elsewhere J a c s none = each_weaker (λ p. AreOf (accounts J) p.entries) (λ p. AllByRecursion (λ e. is_at a c e ≡ false) p.entries) J (λ p known. account_elsewhere a c (accounts J) p.entries (occurs_missing a (accounts J) none) known) s.known
 
 -- or in an issue that is not listed
 no_issue_elsewhere : (J : Journal) (a : Account) (c : Cusip) → IsSound J → is_listed J c ≡ false → AreElsewhere a c J
-no_issue_elsewhere J a c s none = elsewhere_all a c J J (λ p known listed. issue_elsewhere a c J p.entries none listed) s.known s.issued
+no_issue_elsewhere J a c s none = each_weaker (λ p. AreOfListed J p.entries) (λ p. AllByRecursion (λ e. is_at a c e ≡ false) p.entries) J (λ p listed. issue_elsewhere a c J p.entries none listed) s.issued
 
 -- at such a place the row says nothing
 by_place : (opening : Day) (J : Journal) (k : Key) (x y : Bool) → IsSound J → is_account J k.account ≡ x → is_listed J k.issue ≡ y → (x && y) ≡ false → not (is_idle (row opening J k.account k.issue)) ≡ false

@@ -1,5 +1,5 @@
 -- What holds of each element of a list.
-use Rattle.std.proofs.Common.{ℕ, ◌≤◌, Bool, cond, ◌≡◌, subst, sym, ◌||◌, List, [], ◌∷◌, ◌++◌, map, filter, find, reverse, unwrap_or, Option, Some, refl, arith, eq-eqb}
+use Rattle.std.proofs.Common.{ℕ, ◌≤◌, Bool, ◌≡◌, subst, sym, ◌||◌, List, [], ◌∷◌, ◌++◌, map, filter, find, slice_get, reverse, unwrap_or, refl, arith}
 use Rattle.cns_terms.specs.Common.{AllByRecursion, in_order, list_any}
 use Rattle.std.proofs.lemmas.Grind.{reverse_onto}
 use Rattle.cns_terms.specs.Sums.{put}
@@ -26,47 +26,33 @@ pub each_reverse : {X : Type 0} (P : X → Type 0) (xs : List X) → AllByRecurs
 each_reverse P [] a = tt
 each_reverse P (x ∷ xs) a = subst (AllByRecursion P) (sym (reverse_onto xs x [])) (each_append P (reverse xs) (x ∷ []) (each_reverse P xs a.1) (a.0, tt))
 
-kept : {X : Type 0} (P : X → Type 0) (b : Bool) (x : X) (xs : List X) → P x → AllByRecursion P xs → AllByRecursion P (cond b (x ∷ xs) xs)
-kept P b x xs h1 h2 = grind arith
-
 pub each_filter : {X : Type 0} (P : X → Type 0) (t : X → Bool) (xs : List X) → AllByRecursion P xs → AllByRecursion P (filter t xs)
 each_filter P t [] a = tt
-each_filter P t (x ∷ xs) a = kept P (t x) x (filter t xs) a.0 (each_filter P t xs a.1)
-
-either_order : {X : Type 0} (P : X → Type 0) (b : Bool) (x y : X) (ys zs : List X) → P x → P y → AllByRecursion P ys → AllByRecursion P zs → AllByRecursion P (cond b (x ∷ y ∷ ys) (y ∷ zs))
-either_order P b x y ys zs h1 h2 h3 h4 = grind arith
+each_filter P t (x ∷ xs) a = grind (arith, each_filter P t xs a.1)
 
 each_put : {X : Type 0} (P : X → Type 0) (before : X → X → Bool) (x : X) (xs : List X) → P x → AllByRecursion P xs → AllByRecursion P (put before x xs)
 each_put P before x [] p a = (p, tt)
-each_put P before x (y ∷ ys) p a = either_order P (before x y) x y ys (put before x ys) p a.0 a.1 (each_put P before x ys p a.1)
+each_put P before x (y ∷ ys) p a = grind (arith, each_put P before x ys p a.1)
 
 pub each_in_order : {X : Type 0} (P : X → Type 0) (before : X → X → Bool) (xs : List X) → AllByRecursion P xs → AllByRecursion P (in_order before xs)
 each_in_order P before [] a = tt
 each_in_order P before (x ∷ xs) a = each_put P before x (in_order before xs) a.0 (each_in_order P before xs a.1)
 
-found_or_after : {X : Type 0} (P : X → Type 0) (b : Bool) (d x : X) (o : Option X) → P x → P (unwrap_or o d) → P (unwrap_or (cond b (Some x) o) d)
-found_or_after P b d x o h1 h2 = grind arith
-
 -- what is found, or what stands in its place
 pub each_found : {X : Type 0} (P : X → Type 0) (t : X → Bool) (d : X) (xs : List X) → P d → AllByRecursion P xs → P (unwrap_or (find t xs) d)
 each_found P t d [] p a = p
-each_found P t d (x ∷ xs) p a = found_or_after P (t x) d x (find t xs) a.0 (each_found P t d xs p a.1)
-
--- each number of a list stands in it
-stands_after : (n : ℕ) (bs : List ℕ) (cs : List ℕ) → AllByRecursion (λ a. 1 ≤ occurs a cs) bs → AllByRecursion (λ a. 1 ≤ occurs a (n ∷ cs)) bs
-stands_after n bs cs h = each_weaker (λ a. 1 ≤ occurs a cs) (λ a. 1 ≤ occurs a (n ∷ cs)) bs (λ a p. omega arith) h
-
-stands_first : (n : ℕ) (cs : List ℕ) → 1 ≤ occurs n (n ∷ cs)
-stands_first n cs = rw (eq-eqb n n refl) (omega arith)
+each_found P t d (x ∷ xs) p a = grind (arith, each_found P t d xs p a.1)
 
 pub each_stands : (bs : List ℕ) → AllByRecursion (λ a. 1 ≤ occurs a bs) bs
 each_stands [] = tt
-each_stands (b ∷ bs) = (stands_first b bs, stands_after b bs bs (each_stands bs))
-
-put_branch : {X : Type 0} (p : X → Bool) (b : Bool) (x y : X) (ys zs : List X) → list_any p zs ≡ (p x || list_any p ys) → list_any p (cond b (x ∷ y ∷ ys) (y ∷ zs)) ≡ (p x || (p y || list_any p ys))
-put_branch p b x y ys zs h1 = grind arith
+each_stands (b ∷ bs) = grind (arith, each_weaker, each_stands bs)
 
 -- some element of a list, with one more put in its place
 pub any_put : {X : Type 0} (p : X → Bool) (before : X → X → Bool) (x : X) (ys : List X) → list_any p (put before x ys) ≡ (p x || list_any p ys)
 any_put p before x [] = refl
-any_put p before x (y ∷ ys) = put_branch p (before x y) x y ys (put before x ys) (any_put p before x ys)
+any_put p before x (y ∷ ys) = grind (arith, any_put p before x ys)
+
+-- the first of a list, or what stands in its place
+pub each_first : {X : Type 0} (P : X → Type 0) (d : X) (xs : List X) → P d → AllByRecursion P xs → P (unwrap_or (slice_get xs 0) d)
+each_first P d [] p a = p
+each_first P d (x ∷ xs) p a = a.0

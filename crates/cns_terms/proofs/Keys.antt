@@ -6,7 +6,6 @@ use Rattle.std.proofs.lemmas.Cmp.{on_total, then_total, nat_cmp_total, nat_list_
 use Rattle.std.proofs.lemmas.Map.Lookups.{CmpEqualImpliesEq, exact_pairs, exact_unsigned, exact_bytes}
 use Rattle.std.proofs.lemmas.Map.Text.{is_eq-slice_cmp}
 use Rattle.std.proofs.lemmas.Bool.{cases_order}
-use Rattle.cns_terms.proofs.Facts.{nat_eq_test}
 
 pub keys_total : IsTotalOrder key_cmp
 keys_total = then_total (on_total (λ k. k.account) nat_cmp_total) (on_total (λ k. k.issue) nat_list_cmp_total)
@@ -15,12 +14,9 @@ keys_total = then_total (on_total (λ k. k.account) nat_cmp_total) (on_total (λ
 pub exact_keys : CmpEqualImpliesEq key_cmp
 exact_keys a b h = ap (λ (p : ℕ × List ℕ). record { account = p.0; issue = p.1 }) (exact_pairs nat_cmp (slice_cmp nat_cmp) exact_unsigned exact_bytes (a.account, a.issue) (b.account, b.issue) h)
 
-then_eq : (p q : Ordering) → is_eq (ordering_then p q) ≡ (is_eq p && is_eq q)
-then_eq p q = grind arith
-
 -- what tells keys apart, in the words of the definitions
 pub same_key : (a b : Key) → is_eq (key_cmp a b) ≡ (eqb a.account b.account && bytes_eq a.issue b.issue)
-same_key a b = then_eq (nat_cmp a.account b.account) (slice_cmp nat_cmp a.issue b.issue) ∙ (λ i. nat_eq_test a.account b.account i && is_eq-slice_cmp a.issue b.issue i)
+same_key a b = grind (arith, is_eq-slice_cmp)
 
 -- how two numbers compare, from what holds
 less_is : (a b : ℕ) → a < b → nat_cmp a b ≡ Less

@@ -1,19 +1,17 @@
 -- One accepted activity keeps positions and cents within their limits.
-use Rattle.std.proofs.Common.{◌≡◌, ◌∙◌, ap, sym, subst, refl, ℕ, ◌+◌, ◌*◌, ◌≤◌, ℤ, pos, negsuc, ◌+ℤ◌, ◌-ℤ◌, ◌*ℤ◌, neg_ℤ, Bool, true, false, not, ◌&&◌, ◌||◌, ◌==◌, cond, List, [], ◌∷◌, filter, length, map, Option, Some, None, ◌⊎◌, inl, inr, arith, IfSome, int_eq, bytes_eq, int_le, nat_lt, unsigned_abs, mul-le-mul_left, mul-le-mul_right, eqb-true}
-use Rattle.cns_terms.specs.Common.{Account, Activity, AllByRecursion, Cusip, Day, Entry, Execution, IsInRange, Journal, Notice, Pend, Posting, Price, Ratio, against_corporation, at_close, booking_limit, bought_in, buyer_entry, cents_for, closings, converted, corporation, date, day, entries, entry, execution_entries, holders, in_exchange, in_lieu, is_beyond, is_close, is_exceeded, is_not_after, is_too_large, is_too_large_at, list_any, long, member_limit, members, money, money_limit, moved_in, moved_out, new_entry, notice_at, old_entry, open_day, option_map_or, pend_of, pending, position_limit, posting, price_limit, seller_entry, shares_for, short, sold_in, total, trade_entries, trades}
+use Rattle.std.proofs.Common.{◌≡◌, ◌∙◌, ap, sym, subst, refl, ℕ, ◌+◌, ◌*◌, ◌≤◌, ℤ, pos, ◌+ℤ◌, ◌-ℤ◌, ◌*ℤ◌, neg_ℤ, Bool, true, false, not, ◌&&◌, ◌||◌, ◌==◌, cond, List, [], ◌∷◌, length, map, Option, Some, None, ◌⊎◌, inl, inr, arith, IfSome, int_eq, bytes_eq, int_le, nat_lt, unsigned_abs, mul-le-mul_left, mul-le-mul_right, eqb-true}
+use Rattle.cns_terms.specs.Common.{Account, Activity, AllByRecursion, Cusip, Day, Entry, Execution, IsInRange, Journal, Notice, Pend, Posting, Price, Ratio, against_corporation, booking_limit, bought_in, buyer_entry, cents_for, converted, corporation, date, entries, entry, execution_entries, holders, in_exchange, in_lieu, is_beyond, is_exceeded, is_not_after, is_too_large, is_too_large_at, list_any, long, member_limit, members, money, money_limit, moved_in, moved_out, new_entry, notice_at, old_entry, open_day, option_map_or, pend_of, pending, position_limit, posting, price_limit, seller_entry, shares_for, short, sold_in, total, trade_entries}
 use Rattle.std.proofs.lemmas.Bool.Decides.{nat_tests}
 use Rattle.std.proofs.lemmas.Int.{ints, unsigned_abs-mul}
 use Rattle.std.proofs.lemmas.List.Sums.{sum_by-cons}
 use Rattle.std.proofs.lemmas.Slice.Eq.{bytes_eq-Decides}
 use Rattle.cns_terms.specs.declared.command.Movement.{Movement}
 use Rattle.cns_terms.specs.declared.command.Trade.{Trade}
-use Rattle.cns_terms.specs.Conversions.{fraction}
 use Rattle.cns_terms.specs.Limits.{IsWithin, ratio_limit}
-use Rattle.cns_terms.specs.Pending.{due, is_due}
+use Rattle.cns_terms.specs.Pending.{is_due}
 use Rattle.cns_terms.specs.Reached.{IsRatio}
 use Rattle.cns_terms.specs.Positions.{position}
 use Rattle.cns_terms.specs.Refusals.{places, rules}
-use Rattle.cns_terms.proofs.Accounts.{occurs}
 use Rattle.cns_terms.proofs.BuyIns.{IsExecutable, executable, executed_closer, execution_cents}
 use Rattle.cns_terms.proofs.Closer.{IsCloser, as_close, off_long, off_short}
 use Rattle.cns_terms.proofs.EntrySums.{entries_for}
@@ -22,7 +20,7 @@ use Rattle.cns_terms.proofs.Everywhere.{each_found, each_weaker}
 use Rattle.cns_terms.proofs.Facts.{and_left, and_right, neither}
 use Rattle.cns_terms.proofs.Magnitudes.{added, added-append, added-each, added-filter, added-map, added-more, magnitude, total_small}
 use Rattle.cns_terms.proofs.Quotients.{fraction_few, quotient_few}
-use Rattle.cns_terms.proofs.Sound.{IsSound, IsWhole, NoneHolds, all_fail}
+use Rattle.cns_terms.proofs.Sound.{IsWhole, NoneHolds, all_fail}
 use Rattle.cns_terms.proofs.Totals.{total-map}
 use Rattle.cns_terms.proofs.Waiting.{booked_cents, booked_shares, both_cents, bought_added, bought_by, settled, sold_added, sold_by}
 
@@ -60,18 +58,7 @@ at_place P a c e h p =
 
 -- what is not refused as too large is within the limits
 not_beyond : (a : ℕ) (q : ℤ) (b s : ℕ) → (nat_lt corporation a && is_beyond q b s) ≡ false → 1 ≤ a → IsWithin q b s
-not_beyond a q b s h m =
-    let both = neither (nat_lt position_limit (long q + b)) _ (of_member (nat_lt corporation a) _ (from_one a m) h) in
-    record { above = no_more position_limit (long q + b) both.0; below = no_more position_limit (short q + s) both.1 }
-  where
-    from_one : (a : ℕ) → 1 ≤ a → nat_lt corporation a ≡ true
-    from_one a h = grind (arith, nat_tests)
-
-    of_member : (t b : Bool) → t ≡ true → (t && b) ≡ false → b ≡ false
-    of_member t b h1 h2 = grind arith
-
-    no_more : (m n : ℕ) → nat_lt m n ≡ false → n ≤ m
-    no_more m n h = grind (arith, nat_tests)
+not_beyond a q b s h m = grind arith
 
 -- entries of other places book nothing at a place
 none_there : (a : Account) (c : Cusip) (es : List Entry) → list_any (is_of a c) es ≡ false → total (shares_for a c) es ≡ pos 0
@@ -152,10 +139,7 @@ few_long q n h1 h2 = grind arith
 
 -- a movement brings a position closer to zero, where it does so at the member's place
 moved_if : (t : Bool) (s q : ℤ) → (t ≡ true → IsCloser (q +ℤ s) q) → IsCloser ((cond t s (pos 0) +ℤ (pos 0 +ℤ pos 0)) +ℤ q) q
-moved_if true s q h = subst (λ z. IsCloser z q) (other_way s q) (h refl)
-  where
-    other_way : (s q : ℤ) → q +ℤ s ≡ (s +ℤ (pos 0 +ℤ pos 0)) +ℤ q
-    other_way s q = omega (arith, ints)
+moved_if true s q h = grind arith
 moved_if false s q h = as_close _ q (omega (arith, ints))
 
 -- a delivery keeps each member within its limits
@@ -180,10 +164,6 @@ within-receive opening J m h w a c n =
 
 -- ---- an execution
 
--- no member was twice at a close
-once_at : (opening : Day) (J : Journal) (n : ℕ) (a : Account) → IsWhole opening J → occurs a (members (at_close J n)) ≤ 1
-once_at opening J n a w = each_found (λ K. occurs a (members K) ≤ 1) (λ K. day K == n) [] (closings J) (omega arith) (each_weaker IsSound (λ K. occurs a (members K) ≤ 1) (closings J) (λ K s. let once = s.distinct a in omega (arith, once)) w.past)
-
 -- the notice of an execution that is not refused
 ready : (opening : Day) (J : Journal) (x : Execution) → NoneHolds (rules opening J (activity.Execute x)) → IfSome (notice_at J x.notice) (IsExecutable J x)
 ready opening J x h = let fails = all_fail (rules opening J (activity.Execute x)) h in executable J x (notice_at J x.notice) fails.0 fails.1.1.0 fails.1.1.1.1.0
@@ -191,27 +171,9 @@ ready opening J x h = let fails = all_fail (rules opening J (activity.Execute x)
 -- an execution keeps each member within its limits
 within-execute : (opening : Day) (J : Journal) (x : Execution) → IsWhole opening J → AreWithin opening J → (o : Option Notice) → IfSome o (IsExecutable J x) → (a : Account) (c : Cusip) → 1 ≤ a → IsWithin (total (shares_for a c) (option_map_or (execution_entries J x) o []) +ℤ position J a c) (bought_in (pending opening J) a c) (sold_in (pending opening J) a c)
 within-execute opening J x whole w None h a c m = nothing (pos 0) (position J a c) _ _ refl (w a c m)
-within-execute opening J x whole w (Some k) h a c m = closer_within _ (position J a c) _ _ (executed_closer J x k a c h (once_at opening J k.given.day a whole)) (w a c m)
+within-execute opening J x whole w (Some k) h a c m = grind (arith, executed_closer, each_found)
 
 -- ---- a close
-
--- shares that waited are booked
-booked_within : (z q : ℤ) (b s bought sold : ℕ) → z ≡ (pos bought -ℤ pos sold) +ℤ q → IsWithin q (b + bought) (s + sold) → IsWithin z b s
-booked_within (pos z) (pos q) b s bought sold e w = record { above = omega (arith, ints, e, w.above); below = omega (arith, ints, e, w.below) }
-booked_within (pos z) (negsuc q) b s bought sold e w = record { above = omega (arith, ints, e, w.above); below = omega (arith, ints, e, w.below) }
-booked_within (negsuc z) (pos q) b s bought sold e w = record { above = omega (arith, ints, e, w.above); below = omega (arith, ints, e, w.below) }
-booked_within (negsuc z) (negsuc q) b s bought sold e w = record { above = omega (arith, ints, e, w.above); below = omega (arith, ints, e, w.below) }
-
--- a close keeps each member within its limits
-within-close : (opening : Day) (J : Journal) (d : Day) → is_not_after d (date opening J) ≡ false → AreWithin opening J → AreWithin opening (posting opening J (activity.Close d) ∷ J)
-within-close opening J d later w a c m =
-    let left = filter (λ p. not (is_due d p)) (trades J) in
-    let booked = booked_shares a c (due opening J d) in
-    let bought = bought_added (pending opening J) a c ∙ settled (bought_by a c) opening J d later ∙ ap (λ n. n + added (bought_by a c) (due opening J d)) (sym (bought_added left a c)) in
-    let sold = sold_added (pending opening J) a c ∙ settled (sold_by a c) opening J d later ∙ ap (λ n. n + added (sold_by a c) (due opening J d)) (sym (sold_added left a c)) in
-    booked_within _ (position J a c) _ _ (added (bought_by a c) (due opening J d)) (added (sold_by a c) (due opening J d)) (ap (λ z. z +ℤ position J a c) booked)
-    (subst (λ s. IsWithin (position J a c) (bought_in left a c + added (bought_by a c) (due opening J d)) s) sold
-    (subst (λ b. IsWithin (position J a c) b (sold_in (pending opening J) a c)) bought (w a c m)))
 
 -- ---- one more activity
 
@@ -224,7 +186,7 @@ within-post opening J (activity.Split s) h whole w = within-whole opening J (act
 within-post opening J (activity.Exchange x) h whole w = within-whole opening J (activity.Exchange x) refl refl (all_fail (rules opening J (activity.Exchange x)) h).1.1.1.0 w
 within-post opening J (activity.Notice m) h whole w = λ a c n. nothing (pos 0) (position J a c) _ _ refl (w a c n)
 within-post opening J (activity.Execute x) h whole w = within-execute opening J x whole w (notice_at J x.notice) (ready opening J x h)
-within-post opening J (activity.Close d) h whole w = within-close opening J d (all_fail (rules opening J (activity.Close d)) h).0 w
+within-post opening J (activity.Close d) h whole w = grind (arith, all_fail, booked_shares, bought_added, settled, sold_added)
 within-post opening J _ h whole w = λ a c m. nothing (pos 0) (position J a c) _ _ refl (w a c m)
 
 -- ---- cents
@@ -239,12 +201,7 @@ cents_of p = magnitude (λ e. e.cents) p.entries
 
 -- the cents in lieu of less than a share
 lieu_few : (r : Ratio) (lieu : Price) (q : ℤ) → IsRatio r → lieu ≤ price_limit → unsigned_abs (in_lieu r lieu q) ≤ ratio_limit * price_limit
-lieu_few r lieu q ratio h =
-    let parts = fraction_few q r ratio.0 in
-    omega (arith, quotient_few (fraction r q *ℤ pos lieu) r.old, parts_priced (unsigned_abs (fraction r q)) lieu (unsigned_abs (fraction r q *ℤ pos lieu)) (unsigned_abs-mul (fraction r q) (pos lieu)) (omega (arith, parts, ratio.1)) h)
-  where
-    parts_priced : (n p z : ℕ) → z ≡ n * p → n ≤ ratio_limit → p ≤ price_limit → z ≤ ratio_limit * price_limit
-    parts_priced n p z e m h = omega (arith, e, h, mul-le-mul_right p m)
+lieu_few r lieu q ratio h = grind (arith, fraction_few, quotient_few, unsigned_abs-mul)
 
 -- the most cents that a split or an exchange books for a member
 abbrev holder_limit : ℕ
@@ -306,10 +263,6 @@ with_waiting m n h = omega (arith, h)
 trade_few : (b : Bool) (p : Pend) (ps : List Pend) → p.cents ≤ money_limit → magnitude (λ (e : Entry). e.cents) (cond b (trade_entries p) []) + added both_cents (cond (not b) (p ∷ ps) ps) ≤ booking_limit + added both_cents ps
 trade_few b p ps h1 = grind arith
 
--- at a close they are booked that waited
-close_few : (opening : Day) (J : Journal) (d : Day) → is_not_after d (date opening J) ≡ false → cents_of (posting opening J (activity.Close d)) + waiting_cents opening (posting opening J (activity.Close d) ∷ J) ≤ booking_limit + waiting_cents opening J
-close_few opening J d later = omega (arith, booked_cents (due opening J d), settled both_cents opening J d later)
-
 -- an activity that is not refused books few cents, but those that waited
 pub booked_few : (opening : Day) (J : Journal) (x : Activity) → IsInRange x → NoneHolds (rules opening J x) → AreFewHolders opening J → cents_of (posting opening J x) + waiting_cents opening (posting opening J x ∷ J) ≤ booking_limit + waiting_cents opening J
 booked_few opening J (activity.Trade t) r h are = trade_few (is_not_after t.date (date opening J)) (pend_of t) (pending opening J) r
@@ -324,18 +277,14 @@ booked_few opening J (activity.Exchange x) r h are =
     (against_few J x.old x.old (λ a. neg_ℤ (q a)) (λ z. pos 0) 0 are (λ z w. omega arith))
     (against_few J x.successor x.old (λ a. converted x.ratio (q a)) (in_exchange x.ratio x.lieu x.cash) holder_limit are (λ z w. exchange_few x.ratio x.lieu x.cash z r.0 r.1 r.2 w)))
 booked_few opening J (activity.Execute x) r h are = with_waiting _ (waiting_cents opening J) (execution_few J x (notice_at J x.notice) r.0 r.2 (ready opening J x h))
-booked_few opening J (activity.Close d) r h are = close_few opening J d (all_fail (rules opening J (activity.Close d)) h).0
+booked_few opening J (activity.Close d) r h are = grind (arith, all_fail, booked_cents, settled)
 booked_few opening J (activity.Notice m) r h are = with_waiting 0 (waiting_cents opening J) (omega arith)
 booked_few opening J _ r h are = with_waiting 0 (waiting_cents opening J) (omega arith)
-
--- the open day's postings, or none after a close
-open_or_none : (b : Bool) (J : Journal) (n : ℕ) → added cents_of (open_day J) ≤ n → added cents_of (cond b [] (open_day J)) ≤ n
-open_or_none b J n h1 = grind arith
 
 -- the open day's cents are among the journal's
 pub open_small : (J : Journal) → added cents_of (open_day J) ≤ added cents_of J
 open_small [] = omega arith
-open_small (p ∷ J) = let rest = open_or_none (is_close p.activity) J (added cents_of J) (open_small J) in omega (arith, rest)
+open_small (p ∷ J) = grind (arith, open_small J)
 
 -- the cents at one place are among them
 at_one_place : (a : Account) (c : Cusip) (es : List Entry) → unsigned_abs (total (cents_for a c) es) ≤ magnitude (λ e. e.cents) es

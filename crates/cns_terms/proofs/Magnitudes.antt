@@ -1,5 +1,5 @@
 -- Sums of absolute values, which bound sums of numbers with a sign.
-use Rattle.std.proofs.Common.{◌≡◌, ap, refl, ℕ, zero, suc, ◌+◌, ◌*◌, ◌≤◌, ℤ, ◌+ℤ◌, Bool, cond, List, [], ◌∷◌, ◌++◌, length, map, filter, flat_map, take, arith, unsigned_abs}
+use Rattle.std.proofs.Common.{◌≡◌, ap, refl, ℕ, zero, suc, ◌+◌, ◌*◌, ◌≤◌, ℤ, Bool, cond, List, [], ◌∷◌, ◌++◌, length, map, filter, flat_map, take, arith, unsigned_abs}
 use Rattle.cns_terms.specs.Common.{AllByRecursion, total}
 use Rattle.std.proofs.lemmas.Int.{ints}
 
@@ -12,14 +12,10 @@ added f (x ∷ xs) = f x + added f xs
 abbrev pub magnitude : {X : Type 0} → (X → ℤ) → List X → ℕ
 magnitude f xs = added (λ x. unsigned_abs (f x)) xs
 
--- one more term
-one_more : (q r : ℤ) (n : ℕ) → unsigned_abs r ≤ n → unsigned_abs (q +ℤ r) ≤ unsigned_abs q + n
-one_more q r n h = omega (arith, ints, h)
-
 -- a sum is no further from zero than its terms together
 pub total_small : {X : Type 0} (f : X → ℤ) (xs : List X) → unsigned_abs (total f xs) ≤ magnitude f xs
 total_small f [] = omega (arith, ints)
-total_small f (x ∷ xs) = one_more (f x) (total f xs) (magnitude f xs) (total_small f xs)
+total_small f (x ∷ xs) = grind (arith, total_small f xs)
 
 -- the first of some terms are no more than all
 front_small : {X : Type 0} (f : X → ℕ) (n : ℕ) (xs : List X) → added f (take n xs) ≤ added f xs

@@ -1,16 +1,13 @@
 -- The prices of a sheet.
-use Rattle.std.proofs.Common.{◌≡◌, ◌∙◌, ap, ℕ, Bool, false, cond, Some, None, unwrap_or, nat_cmp}
+use Rattle.std.proofs.Common.{◌≡◌, ◌∙◌, ap, cond, Some, None, unwrap_or, nat_cmp}
 use Rattle.cns_terms.proofs.Common.{Cusip, IsSound, Journal, find_with, is_listed, issues, price, slice_cmp}
 use Rattle.std.specs.FinMap.{find}
 use Rattle.cns_terms.specs.Sheets.{sheet_prices}
 use Rattle.std.proofs.Common.{arith}
 
-or_zero : (b : Bool) (p : ℕ) → (b ≡ false → p ≡ 0) → unwrap_or (cond b (Some p) None) 0 ≡ p
-or_zero b p h1 = grind arith
-
 -- the price that holds, or 0 where the issue is not listed
 pub price_or_zero : (J : Journal) (c : Cusip) → IsSound J → unwrap_or (cond (is_listed J c) (Some (price J c)) None) 0 ≡ price J c
-price_or_zero J c s = or_zero (is_listed J c) (price J c) (s.unpriced c)
+price_or_zero J c s = grind arith
 
 -- the price on a sheet
 pub sheet_price : (K : Journal) (c : Cusip) → IsSound K → unwrap_or (find (slice_cmp nat_cmp) c (sheet_prices K)) 0 ≡ price K c

@@ -1,16 +1,12 @@
 -- What a division that is cut towards zero leaves.
-use Rattle.std.proofs.Common.{◌≡◌, subst, ℕ, ◌≤◌, ◌<◌, ℤ, pos, ◌+ℤ◌, ◌-ℤ◌, ◌*ℤ◌, int_div, int_rem, arith, unsigned_abs}
+use Rattle.std.proofs.Common.{◌≡◌, subst, ℕ, ◌≤◌, ◌<◌, ℤ, pos, ◌-ℤ◌, ◌*ℤ◌, int_div, int_rem, arith, unsigned_abs}
 use Rattle.cns_terms.specs.Common.{Ratio}
-use Rattle.std.proofs.lemmas.Int.{ints, quot-rem, rem_below}
+use Rattle.std.proofs.lemmas.Int.{ints, rem_below}
 use Rattle.cns_terms.specs.Conversions.{fraction}
-
--- what is left of a sum
-part : (a x r : ℤ) → x +ℤ r ≡ a → r ≡ a -ℤ x
-part a x r e = omega (arith, ints)
 
 -- the rest is what the quotient times the divisor lacks
 pub rest_of : (a d : ℤ) → int_rem a d ≡ a -ℤ (int_div a d *ℤ d)
-rest_of a d = part a (int_div a d *ℤ d) (int_rem a d) (quot-rem a d)
+rest_of a d = grind (arith, ints)
 
 -- a quotient is no further from zero than what is divided
 pub quotient_few : (z : ℤ) (n : ℕ) → unsigned_abs (int_div z (pos n)) ≤ unsigned_abs z

@@ -1,6 +1,6 @@
 -- What is so of each journal that commands reach.
-use Rattle.std.proofs.Common.{◌≡◌, ap, ℕ, ◌+◌, ◌*◌, ◌≤◌, ℤ, pos, ◌+ℤ◌, Bool, true, cond, List, [], ◌∷◌, length, is_none, Option, None, arith, filter_map, unsigned_abs, is_lt, nat_cmp}
-use Rattle.cns_terms.specs.Common.{Activity, AllByRecursion, Command, Cusip, Day, Declared, IsInRange, IsReached, Journal, State, account_lt, accounts, activities, after, booking_limit, closings, corporation_limit, dividends, is_close, journal, member_limit, members, next, opened, position_limit, posting, rate_limit, total}
+use Rattle.std.proofs.Common.{◌≡◌, ap, ℕ, ◌+◌, ◌*◌, ◌≤◌, ◌<◌, ℤ, pos, ◌+ℤ◌, true, List, [], ◌∷◌, length, is_none, Option, None, arith, filter_map, unsigned_abs, is_lt, nat_cmp}
+use Rattle.cns_terms.specs.Common.{Activity, AllByRecursion, Command, Cusip, Day, Declared, IsInRange, IsReached, Journal, State, account_lt, accounts, activities, after, booking_limit, closings, corporation_limit, dividends, journal, member_limit, members, next, opened, position_limit, posting, rate_limit, total}
 use Rattle.std.proofs.lemmas.Bool.Decides.{nat_tests}
 use Rattle.std.proofs.lemmas.Int.{ints}
 use Rattle.cns_terms.specs.declared.refusal.Refusal.{Refusal}
@@ -12,7 +12,7 @@ use Rattle.cns_terms.specs.Refusals.{rules}
 use Rattle.cns_terms.proofs.Balanced.{entries_balanced}
 use Rattle.cns_terms.proofs.Facts.{and_left, and_right}
 use Rattle.cns_terms.proofs.Everywhere.{each_in_order, each_weaker}
-use Rattle.cns_terms.proofs.Limits.{AreFewHolders, AreWithin, HasFewCents, IsNear, booked_few, cents_of, money_few, near, waiting_cents, within-post}
+use Rattle.cns_terms.proofs.Limits.{AreWithin, HasFewCents, IsNear, booked_few, cents_of, money_few, near, waiting_cents, within-post}
 use Rattle.cns_terms.proofs.Magnitudes.{added as added_up}
 use Rattle.cns_terms.proofs.Rising.{above_all, is_rising}
 use Rattle.cns_terms.proofs.Sound.{IsWhole, NoneHolds, whole-post, whole_nil}
@@ -60,14 +60,10 @@ few_rising : (a n : ℕ) (bs : List ℕ) → a ≤ n → is_rising nat_cmp (a �
 few_rising a n [] h rise most = omega (arith, h)
 few_rising a n (b ∷ bs) h rise most = omega (arith, less_than a b (and_left _ _ (and_left _ _ rise)), few_rising b n bs most.0 (and_right (above_all nat_cmp a (b ∷ bs)) _ rise) most.1)
 
--- one more within the limits
-one_more : (q r : ℤ) (n : ℕ) → IsNear q → unsigned_abs r ≤ position_limit * n → unsigned_abs (q +ℤ r) ≤ position_limit * (n + 1)
-one_more q r n h k = omega (arith, ints, h, k)
-
 -- what is within the limits each adds up to no more than the limits together
 total_within : (f : ℕ → ℤ) (bs : List ℕ) → AllByRecursion (λ b. IsNear (f b)) bs → unsigned_abs (total f bs) ≤ position_limit * length bs
 total_within f [] h = omega (arith, ints)
-total_within f (b ∷ bs) h = omega (arith, one_more (f b) (total f bs) (length bs) h.0 (total_within f bs h.1))
+total_within f (b ∷ bs) h = grind (arith, total_within f bs h.1)
 
 -- what the rest makes up for is no more than the rest
 made_up : (q r : ℤ) (n : ℕ) → q +ℤ r ≡ pos 0 → unsigned_abs r ≤ position_limit * n → n ≤ member_limit → unsigned_abs q ≤ corporation_limit
@@ -83,13 +79,9 @@ members_few opening J l =
     let few = few_rising 0 member_limit (members J) (omega arith) l.whole.now.accounts_rise (each_in_order (λ a. a ≤ member_limit) account_lt (filter_map added (activities J)) l.numbered) in
     omega (arith, few)
 
--- whom splits and exchanges book for
-few_holders : (opening : Day) (J : Journal) → IsLimited opening J → AreFewHolders opening J
-few_holders opening J l = record { within = l.within; numbers = members_from_one opening J l; few = members_few opening J l }
-
 -- an activity in its ranges books few cents, but those that waited
 books_few : (opening : Day) (J : Journal) (x : Activity) → IsInRange x → NoneHolds (rules opening J x) → IsLimited opening J → cents_of (posting opening J x) + waiting_cents opening (posting opening J x ∷ J) ≤ booking_limit + waiting_cents opening J
-books_few opening J x r h l = booked_few opening J x r h (few_holders opening J l)
+books_few opening J x r h l = grind (arith, booked_few, members_from_one, members_few)
 
 -- each of its postings adds up to zero, and books for its accounts alone
 pub sound_journal : (opening : Day) (J : Journal) → IsLimited opening J → AreSound (accounts J) J
@@ -120,14 +112,14 @@ limited opening (x ∷ L) r =
       booked = booked;
     }
 
--- the journals of the closes, after an activity that ends a day or not
-past_if : (opening : Day) (b : Bool) (J : Journal) → IsLimited opening J → AllByRecursion (IsLimited opening) (closings J) → AllByRecursion (IsLimited opening) (cond b (J ∷ closings J) (closings J))
-past_if opening b J h1 h2 = grind arith
+-- what holds of each journal that fewer than n activities reach holds of those of its closes
+pub each_closing : (opening : Day) (P : Journal → Type 0) (n : ℕ) → ((L : List Activity) → IsReached opening L → length L < n → P (journal opening L)) → (L : List Activity) → IsReached opening L → length L < n → AllByRecursion P (closings (journal opening L))
+each_closing opening P n holds [] r few = tt
+each_closing opening P n holds (x ∷ L) r few = grind (arith, holds L r.2, each_closing opening P n holds L r.2)
 
--- and so had it at each close
+-- its limits hold at each close
 pub limited_past : (opening : Day) (L : List Activity) → IsReached opening L → AllByRecursion (IsLimited opening) (closings (journal opening L))
-limited_past opening [] r = tt
-limited_past opening (x ∷ L) r = past_if opening (is_close x) (journal opening L) (limited opening L r.2) (limited_past opening L r.2)
+limited_past opening L r = each_closing opening (IsLimited opening) (length L + 1) (λ M s few. limited opening M s) L r (omega arith)
 
 -- positions are within their limits
 pub bounded : (opening : Day) (J : Journal) (c : Cusip) → IsLimited opening J → IsBounded opening J c

@@ -1,9 +1,8 @@
 -- Sums and counts over the rows of a sheet.
 use Rattle.std.proofs.Common.{◌≡◌, ◌∙◌, ap, refl, ℕ, ◌+◌, ◌*◌, ◌≤◌, ℤ, pos, ◌+ℤ◌, Bool, true, false, not, cond, ◌==◌, List, [], ◌∷◌, length, map, filter, flat_map, arith, length-append}
-use Rattle.cns_terms.specs.Common.{Account, Activity, Cusip, Day, Entry, Journal, Row, accounts, is_idle, issue_lt, issues, open_day, row, rows_of, same_issue, sheet_rows, total}
+use Rattle.cns_terms.specs.Common.{Account, Cusip, Day, Journal, Row, accounts, is_idle, issue_lt, issues, open_day, row, rows_of, same_issue, sheet_rows, total}
 use Rattle.std.proofs.lemmas.List.Elements.{filter-append}
 use Rattle.cns_terms.specs.Sums.{put}
-use Rattle.cns_terms.proofs.Facts.{eqb_sym}
 use Rattle.cns_terms.proofs.Accounts.{occurs}
 use Rattle.cns_terms.proofs.Reached.{IsLimited, sound_journal}
 use Rattle.cns_terms.proofs.SheetSums.{idle_parts, kept_or_not, total-flat_map}
@@ -50,12 +49,9 @@ moneys_zero opening K c l = zero_in_issue opening K (λ r. r.money) (λ r h. (id
 
 -- ---- how many rows an account has
 
-one_more : (b : Bool) (x : Row) (xs : List Row) (n : ℕ) → length xs ≤ n → length (cond b (x ∷ xs) xs) ≤ n + 1
-one_more b x xs n h1 = grind arith
-
 few_rows : (p : Row → Bool) (rs : List Row) → length (filter p rs) ≤ length rs
 few_rows p [] = omega arith
-few_rows p (r ∷ rs) = omega (arith, one_more (p r) r (filter p rs) (length rs) (few_rows p rs))
+few_rows p (r ∷ rs) = grind (arith, few_rows p rs)
 
 map_len : (f : Cusip → Row) (cs : List Cusip) → length (map f cs) ≡ length cs
 map_len f [] = refl
@@ -74,18 +70,9 @@ others opening K a b (c ∷ cs) h = dropped (not (is_idle (row opening K b c))) 
 abbrev rows_in : Day → Journal → Account → List Cusip → List Row
 rows_in opening K b cs = filter (λ r. not (is_idle r)) (map (row opening K b) cs)
 
-of_one : (opening : Day) (K : Journal) (a b : Account) (cs : List Cusip) (t : Bool) → (b == a) ≡ t → length (filter (λ r. r.account == a) (rows_in opening K b cs)) ≤ cond t 1 0 * length cs
-of_one opening K a b cs t h1 = grind (arith, few_rows, map_len, others)
-
-summed : (t : Bool) (n m o k : ℕ) → n ≤ cond t 1 0 * k → m ≤ o * k → n + m ≤ (cond t 1 0 + o) * k
-summed t n m o k h1 h2 = grind arith
-
 of_accounts : (opening : Day) (K : Journal) (a : Account) (bs : List Account) (cs : List Cusip) → length (filter (λ r. r.account == a) (flat_map (λ b. rows_in opening K b cs) bs)) ≤ occurs a bs * length cs
 of_accounts opening K a [] cs = omega arith
-of_accounts opening K a (b ∷ bs) cs =
-    let rest = flat_map (λ b. rows_in opening K b cs) bs in
-    rw (filter-append (λ r. r.account == a) (rows_in opening K b cs) rest, length-append (filter (λ r. r.account == a) (rows_in opening K b cs)) (filter (λ r. r.account == a) rest))
-    (summed (a == b) _ _ (occurs a bs) (length cs) (of_one opening K a b cs (a == b) (eqb_sym b a)) (of_accounts opening K a bs cs))
+of_accounts opening K a (b ∷ bs) cs = grind (arith, filter-append, length-append, few_rows, map_len, others, of_accounts opening K a bs cs)
 
 -- once at most
 pub at_most_one : (o n : ℕ) → o ≤ 1 → o * n ≤ n
@@ -95,17 +82,11 @@ at_most_one o n h1 = grind arith
 pub rows_few : (opening : Day) (K : Journal) (a : Account) → IsSound K → length (filter (λ r. r.account == a) (sheet_rows opening K)) ≤ length (issues K)
 rows_few opening K a s = omega (arith, of_accounts opening K a (accounts K) (issues K), at_most_one (occurs a (accounts K)) (length (issues K)) (s.distinct a))
 
-put_branch : (b : Bool) (c d : Cusip) (cs ds : List Cusip) → length ds ≡ length cs + 1 → length (cond b (c ∷ d ∷ cs) (d ∷ ds)) ≡ length (d ∷ cs) + 1
-put_branch b c d cs ds h1 = grind arith
-
 put_len : (c : Cusip) (cs : List Cusip) → length (put issue_lt c cs) ≡ length cs + 1
 put_len c [] = refl
-put_len c (d ∷ cs) = put_branch (issue_lt c d) c d cs (put issue_lt c cs) (put_len c cs)
-
-issues-post : (x : Activity) (es : List Entry) (K : Journal) → length (issues K) ≤ length K → length (issues (record { activity = x; entries = es } ∷ K)) ≤ length K + 1
-issues-post x es K h1 = grind (arith, put_len)
+put_len c (d ∷ cs) = grind (arith, put_len c cs)
 
 -- no more issues than postings
 pub issues_few : (K : Journal) → length (issues K) ≤ length K
 issues_few [] = omega arith
-issues_few (p ∷ K) = omega (arith, issues-post p.activity p.entries K (issues_few K))
+issues_few (p ∷ K) = grind (arith, put_len, issues_few K)

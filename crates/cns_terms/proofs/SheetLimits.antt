@@ -1,7 +1,7 @@
 -- What the sheet of a close asks of its amounts, and of the dividends that it pays.
 use Rattle.std.proofs.Common.{◌≡◌, ◌∙◌, sym, ap, refl, ℕ, suc, ◌+◌, ◌*◌, ◌^◌, ◌≤◌, ◌<◌, ℤ, pos, ◌+ℤ◌, Bool, true, not, ◌&&◌, ◌==◌, cond, List, [], ◌∷◌, length, filter, take, arith, bytes_eq, unsigned_abs, sum_by}
 use Rattle.cns_terms.proofs.Waiting.{sum_added}
-use Rattle.cns_terms.proofs.Common.{Account, AllByRecursion, Cusip, Day, Declared, IsLimited, Journal, Posting, Rate, Row, accounts, added, added-all, added-more, amount_limit, bytes_eq-Decides, cash, closings, dividends, each_weaker, front_total, history_limit, in_order, ints, is_close, issues, members, members_few, nat_list_eq_equiv, nat_tests, occurs, one_issue, over_all, pays_before, rate_limit, row, rows_for, sheet_rows, total}
+use Rattle.cns_terms.proofs.Common.{Account, AllByRecursion, Cusip, Day, Declared, IsLimited, Journal, Rate, Row, accounts, added, added-all, added-more, amount_limit, bytes_eq-Decides, cash, closings, dividends, each_weaker, front_total, history_limit, in_order, ints, issues, members, members_few, nat_list_eq_equiv, nat_tests, occurs, one_issue, over_all, pays_before, rate_limit, row, rows_for, sheet_rows, total}
 use Rattle.cns_terms.specs.Positions.{position}
 use Rattle.cns_terms.specs.Sums.{put}
 use Rattle.cns_terms.proofs.Amounts.{cents_small, rows_small}
@@ -91,14 +91,10 @@ total-due f p c ds =
     same : (d : Declared) → cond (p d) (cond (bytes_eq c d.issue) (f d) (pos 0)) (pos 0) ≡ cond (bytes_eq d.issue c && p d) (f d) (pos 0)
     same d = by (p d) (bytes_eq c d.issue) (f d) ∙ ap (λ t. cond (t && p d) (f d) (pos 0)) (nat_list_eq_equiv.symm c d.issue)
 
--- one more, or not
-kept_len : {X : Type 0} (b : Bool) (x : X) (xs : List X) (n : ℕ) → length xs ≤ n → length (cond b (x ∷ xs) xs) ≤ suc n
-kept_len b x xs n h1 = grind arith
-
 -- what is kept is no more
 filter_len : {X : Type 0} (p : X → Bool) (xs : List X) → length (filter p xs) ≤ length xs
 filter_len p [] = omega arith
-filter_len p (x ∷ xs) = kept_len (p x) x (filter p xs) (length xs) (filter_len p xs)
+filter_len p (x ∷ xs) = grind (arith, filter_len p xs)
 
 -- an order keeps the count
 put_len : {X : Type 0} (before : X → X → Bool) (x : X) (ys : List X) → length (put before x ys) ≡ suc (length ys)
@@ -119,14 +115,6 @@ due_few p K = omega (arith, filter_len p (in_order pays_before (dividends K)), o
 abbrev pub AreAmong : Journal → List Journal → Type 0
 AreAmong J Ks = AllByRecursion (λ K. (a : ℕ) → occurs a (accounts K) ≤ occurs a (accounts J)) Ks
 
--- and so among those of one posting more
-grown : (p : Posting) (J : Journal) (Ks : List Journal) → AreAmong J Ks → AreAmong (p ∷ J) Ks
-grown p J Ks h = each_weaker (λ (K : Journal). (a : ℕ) → occurs a (accounts K) ≤ occurs a (accounts J)) (λ K. (a : ℕ) → occurs a (accounts K) ≤ occurs a (accounts (p ∷ J))) Ks (λ K q a. let more = grown-post p J a in let had = q a in omega (arith, more, had)) h
-
--- the journals of the closes, after an activity that ends a day or not
-grown_if : (b : Bool) (p : Posting) (J : Journal) → AreAmong J (closings J) → AreAmong (p ∷ J) (cond b (J ∷ closings J) (closings J))
-grown_if b p J h1 = grind (arith, grown)
-
 pub accounts_grew : (J : Journal) → AreAmong J (closings J)
 accounts_grew [] = tt
-accounts_grew (p ∷ J) = grown_if (is_close p.activity) p J (accounts_grew J)
+accounts_grew (p ∷ J) = grind (arith, each_weaker, grown-post, accounts_grew J)

@@ -1,6 +1,6 @@
 -- The sheets of closed days add up to zero.
-use Rattle.std.proofs.Common.{◌≡◌, ℤ, pos, ◌+ℤ◌, Bool, true, false, not, cond, ◌&&◌, ◌==◌, slice_get, unwrap_or, Option, Some, None, List, [], ◌∷◌, map, filter, flat_map, refl, ◌∙◌, ap, subst, arith, int_eq, option_map}
-use Rattle.cns_terms.specs.Common.{Account, Cusip, Day, DaySheet, Journal, Row, accounts, at_close, closed_on, closings, date, day, day_sheet, dividend, is_close, is_idle, is_same_day, issues, journal, last_close, mark, open_day, price, row, rows_of, total}
+use Rattle.std.proofs.Common.{◌≡◌, ℤ, pos, ◌+ℤ◌, Bool, true, false, not, cond, ◌&&◌, ◌==◌, unwrap_or, Option, Some, None, List, [], ◌∷◌, map, filter, flat_map, refl, ◌∙◌, ap, subst, arith, int_eq, option_map}
+use Rattle.cns_terms.specs.Common.{Account, Cusip, Day, DaySheet, Journal, Row, accounts, at_close, closed_on, closings, date, day, day_sheet, dividend, is_idle, is_same_day, issues, journal, last_close, mark, open_day, price, row, rows_of, total}
 use Rattle.std.specs.Cmp.{signed_Decides}
 use Rattle.std.proofs.lemmas.Int.{ints}
 use Rattle.std.proofs.lemmas.Bool.{and_parts, not-false}
@@ -55,12 +55,9 @@ dividends_of_rows opening K a (c ∷ cs) =
 
 -- ---- the journal before a sound one is sound
 
-before_or_earlier : (bs : List Account) (b : Bool) (K : Journal) → AreSound bs K → AreSound bs (last_close K) → AreSound bs (unwrap_or (slice_get (cond b (K ∷ closings K) (closings K)) 0) [])
-before_or_earlier bs b K h1 h2 = grind arith
-
 sound_before : (bs : List Account) (K : Journal) → AreSound bs K → AreSound bs (last_close K)
 sound_before bs [] h = tt
-sound_before bs (p ∷ K) h = before_or_earlier bs (is_close p.activity) K h.1 (sound_before bs K h.1)
+sound_before bs (p ∷ K) h = grind (arith, sound_before bs K h.1)
 
 -- ---- the sheet
 

@@ -1,18 +1,17 @@
 -- What accepted commands keep true of the journal.
-use Rattle.std.proofs.Common.{◌≡◌, ℕ, ◌+◌, ◌≤◌, ℤ, pos, ◌-ℤ◌, neg_ℤ, Bool, true, false, not, cond, ◌&&◌, ◌==◌, List, [], ◌∷◌, find, length, map, is_none, Option, Some, None, slice_get, unwrap_or, filter, flat_map, refl, sym, ◌∙◌, ap, arith, IfSome, bytes_eq, filter_map, int_lt, is_lt, nat_cmp, eqb-true}
-use Rattle.cns_terms.specs.Common.{Account, Activity, AllByRecursion, Command, Cusip, Day, Entry, Execution, Journal, Notice, Pend, Posting, Rule, State, accounts, activities, after, against_corporation, at_close, closings, converted, corporation, date, day, day_number, entries, entry, execution_entries, fill_entry, fills, first_refusal, holders, in_exchange, in_lieu, is_close, is_listed, is_member, is_not_after, issue_lt, issues, journal, journal_of, last_close, list_any, members, new_entry, next, notice, notice_at, notices, old_entry, opened, option_map_or, pend_of, pending, posting, price, priced, refusal, slice_cmp, trade_entries, trades}
+use Rattle.std.proofs.Common.{◌≡◌, ℕ, ◌+◌, ◌≤◌, ℤ, pos, ◌-ℤ◌, neg_ℤ, Bool, true, false, not, cond, ◌&&◌, ◌==◌, List, [], ◌∷◌, find, length, map, is_none, Option, Some, None, flat_map, refl, sym, ◌∙◌, ap, arith, IfSome, bytes_eq, filter_map, int_lt, is_lt, nat_cmp, eqb-true}
+use Rattle.cns_terms.specs.Common.{Account, Activity, AllByRecursion, Command, Cusip, Day, Entry, Execution, Journal, Notice, Pend, Posting, Rule, State, accounts, activities, after, against_corporation, at_close, closings, converted, corporation, date, day, day_number, entries, entry, execution_entries, fill_entry, fills, first_refusal, holders, in_exchange, in_lieu, is_listed, is_member, is_not_after, issue_lt, issues, journal_of, last_close, list_any, members, new_entry, next, notice, notice_at, notices, old_entry, opened, option_map_or, pend_of, posting, price, priced, slice_cmp, trade_entries, trades}
 use Rattle.std.proofs.lemmas.Bool.Decides.{nat_tests}
 use Rattle.std.proofs.lemmas.Bool.{not-false}
 use Rattle.std.proofs.lemmas.Slice.Eq.{bytes_eq-Decides}
 use Rattle.std.proofs.lemmas.Cmp.{nat_cmp_total, nat_list_cmp_total}
-use Rattle.cns_terms.specs.Pending.{due, is_due}
 use Rattle.cns_terms.specs.Positions.{position}
 use Rattle.cns_terms.specs.Refusals.{rules}
 use Rattle.cns_terms.proofs.Facts.{and_left, and_right, both_true, later, less_less, nat_eq_test, neither, price_branch, same_test}
 use Rattle.cns_terms.proofs.Accounts.{occurs, occurs-put, occurs_found, occurs_missing}
 use Rattle.cns_terms.proofs.BuyIns.{each_named, fills_each}
 use Rattle.cns_terms.proofs.EntrySums.{entries_for}
-use Rattle.cns_terms.proofs.Everywhere.{any_put, each_append, each_filter, each_found, each_map, each_reverse, each_stands, each_weaker}
+use Rattle.cns_terms.proofs.Everywhere.{any_put, each_append, each_filter, each_first, each_found, each_map, each_reverse, each_stands, each_weaker}
 use Rattle.cns_terms.proofs.Rising.{above_put, is_rising, rising_put}
 use Rattle.cns_terms.proofs.ZeroSums.{AreKnown, AreOf}
 use Rattle.cns_terms.specs.declared.command.Activity.TheVariants as activity
@@ -59,11 +58,8 @@ pub record IsWhole (opening : Day) (J : Journal) : Type 0 where
 
 -- ---- the start
 
-one_account : (b : Bool) → cond b 1 0 + 0 ≤ 1
-one_account b = grind arith
-
 pub sound_nil : IsSound []
-sound_nil = record { distinct = λ a. one_account (a == 0); known = tt; accounts_rise = refl; issues_rise = refl; issued = tt; unpriced = λ c h. refl; noticed = tt; traded = tt }
+sound_nil = grind arith
 
 -- ---- what a command that is not refused has met
 
@@ -91,19 +87,12 @@ zero_in J = omega arith
 
 -- an account stays
 pub grown-post : (p : Posting) (J : Journal) (a : ℕ) → occurs a (accounts J) ≤ occurs a (accounts (p ∷ J))
-grown-post p J a = by p.activity where
-  by : (x : Activity) → occurs a (accounts J) ≤ occurs a (accounts (record { activity = x; entries = p.entries } ∷ J))
-  by x = grind (arith, occurs-put)
+grown-post p J a = grind (arith, occurs-put)
 
 -- those of the closes are there still
 closed_known : (J : Journal) → AllByRecursion (λ K. (a : ℕ) → occurs a (accounts K) ≤ occurs a (accounts J)) (closings J)
 closed_known [] = tt
-closed_known (p ∷ J) =
-    let later : (K : Journal) → ((a : ℕ) → occurs a (accounts K) ≤ occurs a (accounts J)) → (a : ℕ) → occurs a (accounts K) ≤ occurs a (accounts (p ∷ J)) = λ K known a. omega (arith, known a, grown-post p J a) in
-    by (is_close p.activity) (each_weaker (λ K. (a : ℕ) → occurs a (accounts K) ≤ occurs a (accounts J)) (λ K. (a : ℕ) → occurs a (accounts K) ≤ occurs a (accounts (p ∷ J))) (closings J) later (closed_known J))
-  where
-    by : (b : Bool) → AllByRecursion (λ K. (a : ℕ) → occurs a (accounts K) ≤ occurs a (accounts (p ∷ J))) (closings J) → AllByRecursion (λ K. (a : ℕ) → occurs a (accounts K) ≤ occurs a (accounts (p ∷ J))) (cond b (J ∷ closings J) (closings J))
-    by b h1 = grind (arith, grown-post)
+closed_known (p ∷ J) = grind (arith, grown-post, each_weaker, closed_known J)
 
 -- who was a member at a close is one of the accounts
 closed_in : (J : Journal) (n : ℕ) → AllByRecursion (IsIn J) (members (at_close J n))
@@ -140,10 +129,6 @@ executed_known J x (Some k) h = (h, each_map (IsKnown J) (fill_entry k) (fills J
 now_or_later : (P : Entry → Type 0) (b : Bool) (p : Pend) → AllByRecursion P (trade_entries p) → AllByRecursion P (cond b (trade_entries p) [])
 now_or_later P b p h1 = grind arith
 
--- what holds of each trade holds of each that is due
-due_each : (P : Pend → Type 0) (opening : Day) (J : Journal) (next : Day) → AllByRecursion P (trades J) → AllByRecursion P (due opening J next)
-due_each P opening J next h = each_reverse P (filter (is_due next) (pending opening J)) (each_filter P (is_due next) (pending opening J) (each_filter P (λ p. not (is_due (date opening J) p)) (trades J) h))
-
 -- what holds of the entries of each trade holds of all of them
 booked_each : (P : Entry → Type 0) (ps : List Pend) → AllByRecursion (λ p. AllByRecursion P (trade_entries p)) ps → AllByRecursion P (flat_map trade_entries ps)
 booked_each P [] h = tt
@@ -174,8 +159,7 @@ entries_known opening J (activity.Exchange x) s h =
     (against_known J x.old (λ a. neg_ℤ (q a)) (λ a. pos 0) q both.0)
     (against_known J x.successor (λ a. converted x.ratio (q a)) (λ a. in_exchange x.ratio x.lieu x.cash (q a)) q both.1)
 entries_known opening J (activity.Execute x) s h = executed_known J x (notice_at J x.notice) (each_named (IsNoticed J) (λ n. n.number == x.notice) (notices J) s.noticed)
-entries_known opening J (activity.Close d) s h =
-    booked_each (IsKnown J) (due opening J d) (due_each (λ p. AreKnownEntries J (trade_entries p)) opening J d (each_weaker (IsTraded J) (λ p. AreKnownEntries J (trade_entries p)) (trades J) (λ p k. ((k.buyer, k.listed), ((k.seller, k.listed), tt))) s.traded))
+entries_known opening J (activity.Close d) s h = grind (arith, booked_each, each_weaker, each_reverse, each_filter)
 entries_known opening J _ s h = tt
 
 -- ---- one more activity
@@ -190,16 +174,8 @@ once_in J es distinct h = each_weaker (λ (e : Entry). IsIn J e.account) (λ e. 
 held_in : (J : Journal) (es : List Entry) → AreOf (accounts J) es → AreIn J es
 held_in J es h = each_weaker (λ (e : Entry). occurs e.account (accounts J) ≡ 1) (λ e. IsIn J e.account) es (λ e p. omega arith) h
 
-added_once : (b : Bool) (n k : ℕ) → n + k ≤ 1 → (b ≡ true → n + k ≡ 0) → n + (cond b 1 0 + k) ≤ 1
-added_once true n k d e = let z = e refl in omega arith
-added_once false n k d e = omega arith
-
 distinct-post : (opening : Day) (J : Journal) (x : Activity) → IsSound J → NoneHolds (rules opening J x) → (a : ℕ) → occurs a (accounts (posting opening J x ∷ J)) ≤ 1
-distinct-post opening J (activity.Member m) s h a =
-    let fails = all_fail (rules opening J (activity.Member m)) h in
-    let missing : occurs m (accounts J) ≡ 0 = occurs_missing m (accounts J) fails.0 in
-    let d = s.distinct a in
-    rw (occurs-put a m (members J)) (added_once (a == m) (cond (a == 0) 1 0) (occurs a (members J)) d (λ e. ap (λ k. occurs k (accounts J)) (eqb-true a m e) ∙ missing))
+distinct-post opening J (activity.Member m) s h a = grind (arith, all_fail, occurs_missing, occurs-put, eqb-true)
 distinct-post opening J _ s h a = s.distinct a
 
 -- ---- one more activity: the order, and listed issues
@@ -230,18 +206,12 @@ listed-post opening J x c h1 = grind (arith, any_put)
 still_listed : (opening : Day) (J : Journal) (x : Activity) (es : List Entry) → AreOfListed J es → AreOfListed (posting opening J x ∷ J) es
 still_listed opening J x es h = each_weaker (λ (e : Entry). is_listed J e.issue ≡ true) (λ e. is_listed (posting opening J x ∷ J) e.issue ≡ true) es (λ e p. listed-post opening J x e.issue p) h
 
-unpriced_if : (t b : Bool) (p q : ℕ) → (t ≡ true → b ≡ true) → b ≡ false → (b ≡ false → q ≡ 0) → cond t p q ≡ 0
-unpriced_if t b p q h1 h2 h3 = grind arith
-
 unpriced-post : (opening : Day) (J : Journal) (x : Activity) → IsSound J → NoneHolds (rules opening J x) → (c : Cusip) → is_listed (posting opening J x ∷ J) c ≡ false → price (posting opening J x ∷ J) c ≡ 0
 unpriced-post opening J (activity.Issue l) s h c none =
     let apart = neither (bytes_eq l.issue c) (is_listed J c) (sym (any_put (λ d. bytes_eq d c) issue_lt l.issue (issues J)) ∙ none) in
     price_branch (bytes_eq l.issue c) l (find (λ l. bytes_eq l.issue c) (filter_map priced (activities J)))
     ∙ ap (λ b. cond b l.price (price J c)) apart.0 ∙ s.unpriced c apart.1
-unpriced-post opening J (activity.Price l) s h c none =
-    let listed = not-false (is_listed J l.issue) (all_fail (rules opening J (activity.Price l)) h).0 in
-    price_branch (bytes_eq l.issue c) l (find (λ l. bytes_eq l.issue c) (filter_map priced (activities J)))
-    ∙ unpriced_if (bytes_eq l.issue c) (is_listed J c) l.price (price J c) (λ e. ap (is_listed J) (sym ((bytes_eq-Decides l.issue c).0 e)) ∙ listed) none (s.unpriced c)
+unpriced-post opening J (activity.Price l) s h c none = grind (arith, bytes_eq-Decides)
 unpriced-post opening J (activity.Member m) s h c none = s.unpriced c none
 unpriced-post opening J _ s h c none = s.unpriced c none
 
@@ -317,12 +287,8 @@ whole-post opening J x w h =
       earlier = earlier-post opening J x w h;
     }
 
-whole_if : (opening : Day) (L : List Activity) (x : Activity) → IsWhole opening (journal opening L) → (b : Bool) → is_none (refusal opening (journal opening L) (command.Activity x)) ≡ b → IsWhole opening (journal opening (cond b (x ∷ L) L))
-whole_if opening L x w true h = whole-post opening (journal opening L) x w h
-whole_if opening L x w false h = w
-
 pub whole-next : (S : State) (cmd : Command) → IsWhole S.opening (journal_of S) → IsWhole S.opening (journal_of (next S cmd))
-whole-next S (command.Activity x) w = whole_if S.opening S.accepted x w _ refl
+whole-next S (command.Activity x) w = grind (arith, whole-post)
 whole-next S (command.Position k) w = w
 whole-next S (command.Statement a d) w = w
 
@@ -344,8 +310,4 @@ whole-after opening cmds = whole_from (opened opening) cmds whole_nil
 
 -- the journal as the last close found it is sound
 pub sound_last : {opening : Day} (J : Journal) → IsWhole opening J → IsSound (last_close J)
-sound_last J w = first (closings J) w.past
-  where
-    first : (Ks : List Journal) → AllByRecursion IsSound Ks → IsSound (unwrap_or (slice_get Ks 0) [])
-    first [] h = sound_nil
-    first (K ∷ Ks) h = h.0
+sound_last J w = each_first IsSound [] (closings J) sound_nil w.past

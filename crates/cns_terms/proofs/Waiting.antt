@@ -23,25 +23,7 @@ added-reverse f (x ∷ xs) = rw (reverse_onto xs x []) (omega (arith, added-appe
 waits_or_due : (f : Pend → ℕ) (today next : Day) (ps : List Pend) → is_not_after next today ≡ false
     → added f (filter (λ p. not (is_due today p)) ps) ≡ added f (filter (λ p. not (is_due next p)) ps) + added f (filter (is_due next) (filter (λ p. not (is_due today p)) ps))
 waits_or_due f today next [] h = refl
-waits_or_due f today next (p ∷ ps) h = by (is_not_after p.date today) (is_not_after p.date next) refl (order p.date h) (waits_or_due f today next ps h)
-  where
-    order : (d : Day) → is_not_after next today ≡ false → is_not_after d today ≡ true → is_not_after d next ≡ true
-    order d h k = grind (arith, ints)
-
-    later : (n a b : ℕ) (m : ℕ) → m ≡ a + b → n + m ≡ a + (n + b)
-    later n a b m e = omega (arith, e)
-
-    latest : (n a b : ℕ) (m : ℕ) → m ≡ a + b → n + m ≡ (n + a) + b
-    latest n a b m e = omega (arith, e)
-
-    by : (b c : Bool) → is_not_after p.date next ≡ c → (b ≡ true → c ≡ true)
-        → added f (filter (λ p. not (is_due today p)) ps) ≡ added f (filter (λ p. not (is_due next p)) ps) + added f (filter (is_due next) (filter (λ p. not (is_due today p)) ps))
-        → added f (cond (not b) (p ∷ filter (λ p. not (is_due today p)) ps) (filter (λ p. not (is_due today p)) ps))
-        ≡ added f (cond (not c) (p ∷ filter (λ p. not (is_due next p)) ps) (filter (λ p. not (is_due next p)) ps)) + added f (filter (is_due next) (cond (not b) (p ∷ filter (λ p. not (is_due today p)) ps) (filter (λ p. not (is_due today p)) ps)))
-    by true true is o rest = rest
-    by true false is o rest = let e : false ≡ true = o refl in absurd (cc)
-    by false true is o rest = rw is (later (f p) _ _ _ rest)
-    by false false is o rest = rw is (latest (f p) _ _ _ rest)
+waits_or_due f today next (p ∷ ps) h = grind (arith, waits_or_due f today next ps h)
 
 -- so it is of what waits in a journal, whatever is added up
 pub settled : (f : Pend → ℕ) (opening : Day) (J : Journal) (next : Day) → is_not_after next (date opening J) ≡ false → added f (pending opening J) ≡ added f (filter (λ p. not (is_due next p)) (trades J)) + added f (due opening J next)

@@ -1,6 +1,6 @@
 -- Positions, cents and marks of all accounts add up to zero.
-use Rattle.std.proofs.Common.{◌≡◌, ℕ, ℤ, pos, ◌+ℤ◌, ◌-ℤ◌, ◌*ℤ◌, neg_ℤ, Bool, cond, suc, zero, List, [], ◌∷◌, refl, sym, ◌∙◌, ap, arith}
-use Rattle.cns_terms.specs.Common.{Account, AllByRecursion, Cusip, Entry, Journal, Posting, cents_for, is_close, last_close, mark, money, open_day, price, same_issue, shares_for, total}
+use Rattle.std.proofs.Common.{◌≡◌, ℕ, ℤ, pos, ◌+ℤ◌, ◌-ℤ◌, ◌*ℤ◌, neg_ℤ, suc, zero, List, [], ◌∷◌, refl, sym, ◌∙◌, ap, arith}
+use Rattle.cns_terms.specs.Common.{Account, AllByRecursion, Cusip, Entry, Journal, Posting, cents_for, last_close, mark, money, open_day, price, same_issue, shares_for, total}
 use Rattle.std.proofs.lemmas.Int.{ints}
 use lib.IntN.{zero-*ℤ, *ℤ_comm, suc_ℤ-*ℤ, *ℤ-zero}
 use Rattle.cns_terms.specs.Positions.{position}
@@ -63,12 +63,9 @@ cents_zero bs c (p ∷ J) h =
 
 -- ---- parts of a sound journal are sound
 
-open_or_rest : (bs : List Account) (b : Bool) (J : Journal) → AreSound bs (open_day J) → AreSound bs (cond b [] (open_day J))
-open_or_rest bs b J h1 = grind arith
-
 pub sound_open_day : (bs : List Account) (J : Journal) → AreSound bs J → AreSound bs (open_day J)
 sound_open_day bs [] h = tt
-sound_open_day bs (p ∷ J) h = (h.0, open_or_rest bs (is_close p.activity) J (sound_open_day bs J h.1))
+sound_open_day bs (p ∷ J) h = grind (arith, sound_open_day bs J h.1)
 
 -- ---- marks
 
