@@ -1,51 +1,23 @@
 -- Whether a split or an exchange takes a member beyond its limits: just where the definitions say so.
 -- For `bookings_for` of acting.rt.
 use Rattle.std.proofs.Common.{◌≡◌, ◌∙◌, ap, refl, ℕ, ◌≤◌, ℤ, pos, ◌+ℤ◌, ◌-ℤ◌, neg_ℤ, Bool, true, false, cond, ◌&&◌, ◌||◌, ◌==◌, nat_lt, List, [], ◌∷◌, ◌++◌, map, arith, lt-ltb}
-use Rattle.cns_actions.proofs.Common.{Account, Action, AllByRecursion, AreHolders, Cusip, Entry, Exchange, Holder, IsForAnother, Member, Pend, Rows, Split, against_corporation, bought_in, bytes_refl, converted, corporation, each_both, each_weaker, entries_of, entry, holders, in_exchange, in_lieu, ints, is_beyond, is_sorted, issue_of, key_cmp, list_any, new_entry, occurs, old_entry, position_at, position_limit, positions_in, same_issue, shares_for, sold_in, total, total-append, total-map, zero_add}
-use Rattle.std.proofs.lemmas.List.Folds.{list_any-append}
-use Rattle.cns_terms.specs.Refusals.{are_too_large}
+use Rattle.cns_actions.proofs.Common.{Account, Action, AllByRecursion, AreHolders, Cusip, Entry, Holder, IsForAnother, Member, Pend, Rows, against_corporation, bought_in, bytes_refl, converted, corporation, entries_of, entry, has_position, holder_of, holders_of, holding_at, in_exchange, in_lieu, ints, is_beyond, is_sorted, issue_of, key_cmp, list_any, nat_tests, option_map_or, position_at, position_limit, positions_in, same_issue, shares_for, sold_in, takes_beyond, total, total-append, total-map, zero_add}
+use Rattle.cns_terms.specs.Refusals.{are_too_large, is_too_large_at}
 use Rattle.cns_terms.proofs.Facts.{issues_differ}
-use Rattle.cns_actions.specs.Changes.{takes_beyond}
-use Rattle.cns_actions.proofs.BookingSums.{leg_any, new_leg, old_leg, split_leg}
-use Rattle.cns_actions.proofs.Holders.{IsOwn, given_to, own_positions, shown, shown_named}
+use Rattle.std.proofs.lemmas.List.Folds.{list_any-append}
 use Rattle.cns_actions.specs.declared.action.Action.TheVariants as action
+use Rattle.cns_actions.proofs.ByAccount.{each_listed, listed_at, listed_rising, one, place, total_at}
+use Rattle.cns_actions.proofs.Holders.{Alike, any_alike, shown}
+use Rattle.cns_actions.proofs.BookingSums.{entries_alike, entries_by, new_leg, old_leg, split_leg}
 
 -- tests that agree
-any_each : (s t : Holder → Bool) (hs : List Holder) → AllByRecursion (λ h. s h ≡ t h) hs → list_any s hs ≡ list_any t hs
-any_each s t [] h = refl
-any_each s t (x ∷ hs) h = λ i. h.0 i || any_each s t hs h.1 i
-
--- a test that nothing passes
-any_none : (hs : List Holder) → list_any (λ h. false) hs ≡ false
-any_none [] = refl
-any_none (h ∷ hs) = any_none hs
+any_legs : (t : Entry → Bool) (L : Holder → Entry) (u : Holder → Bool) (hs : List Holder) → AllByRecursion (λ h. t (L h) ≡ u h) hs → list_any t (map L hs) ≡ list_any u hs
+any_legs t L u [] h = refl
+any_legs t L u (k ∷ hs) h = λ i. h.0 i || any_legs t L u hs h.1 i
 
 -- nothing is booked for a member with the corporation
 corporation_apart : (a : ℕ) (k : Bool) (x r : ℤ) → 1 ≤ a → cond ((corporation == a) && k) x (pos 0) +ℤ r ≡ r
 corporation_apart a k x r h1 = grind arith
-
-module _ (R : Rows) (order : is_sorted key_cmp R ≡ true) (c : Cusip) (ms : List Member) (are : AreHolders (positions_in R c) ms) where
-  -- the positions in the issue
-  abbrev held : Account → ℤ
-  held = positions_in R c
-
-  -- what entries in an issue book for a member that is shown
-  leg_shares : (l d : Cusip) (f g : ℤ → ℤ) (h : Holder) → IsOwn held h → occurs h.account (holders held ms) ≡ 1 → total (shares_for h.account d) (against_corporation l (map (λ a. entry a l (f (held a)) (g (held a))) (holders held ms))) ≡ cond (same_issue l d) (f h.shares) (pos 0)
-  leg_shares l d f g h p once =
-      corporation_apart h.account (same_issue l d) _ _ p.member
-      ∙ total-map (shares_for h.account d) (λ a. entry a l (f (held a)) (g (held a))) (holders held ms)
-      ∙ given_to (λ m. f (held m)) (same_issue l d) h.account (holders held ms) once
-      ∙ ap (λ z. cond (same_issue l d) (f z) (pos 0)) p.own
-
-  -- whether any entry in it takes a member beyond its limits, by the positions after all
-  leg_large : (t : Entry → Bool) (L : Account → ℤ → Entry) (u : Holder → Bool) → ((h : Holder) → IsOwn held h → occurs h.account (holders held ms) ≡ 1 → t (L h.account h.shares) ≡ u h) → list_any t (map (λ a. L a (held a)) (holders held ms)) ≡ list_any u (shown R order c)
-  leg_large t L u same =
-      leg_any R order c ms are t L
-      ∙ any_each _ u (shown R order c) (each_weaker _ _ (shown R order c) (λ h p. same h p.0 p.1) (each_both (IsOwn held) (λ h. occurs h.account (holders held ms) ≡ 1) (shown R order c) (own_positions R order c) (shown_named R order c ms are)))
-
--- whether an entry's place is beyond its limits, by what is booked there, what was there and the trades that wait
-abbrev takes : (Account → Cusip → ℤ) → (Account → Cusip → ℤ) → List Pend → Entry → Bool
-takes T now ps e = nat_lt corporation e.account && is_beyond (T e.account e.issue +ℤ now e.account e.issue) (bought_in ps e.account e.issue) (sold_in ps e.account e.issue)
 
 -- the shares that each member is to get by trades, and those that it is to give, are within its limits
 abbrev pub AreFewShares : List Pend → Type 0
@@ -53,41 +25,64 @@ AreFewShares ps = (a : Account) (c : Cusip) → 1 ≤ a → (bought_in ps a c �
 
 -- where nothing is left, no trades within the limits take a member beyond them
 none_beyond : (b s : ℕ) → (b ≤ position_limit) × (s ≤ position_limit) → is_beyond (pos 0) b s ≡ false
-none_beyond b s h1 = grind arith
+none_beyond b s h = grind arith
 
--- a position and its difference to another is the other
-whole : (a b x y : ℤ) → x ≡ a -ℤ b → y ≡ b → x +ℤ y ≡ a
-whole a b x y e h = omega (arith, ints, e, h)
+module _ (R : Rows) (order : is_sorted key_cmp R ≡ true) (ps : List Pend) where
+  -- what entries in an issue book for a member that is shown
+  leg_shares : (c l d : Cusip) (F G : ℤ → ℤ) (a : Account) → 1 ≤ a → has_position (holding_at R (place c a)) ≡ true → total (shares_for a d) (against_corporation l (map (λ h. entry h.account l (F h.shares) (G h.shares)) (shown R c))) ≡ cond (same_issue l d) (F (position_at R a c)) (pos 0)
+  leg_shares c l d F G a le held =
+      corporation_apart a (same_issue l d) _ _ le ∙ total-map (shares_for a d) (λ h. entry h.account l (F h.shares) (G h.shares)) (shown R c)
+      ∙ total_at (λ h. F h.shares) a (same_issue l d) (shown R c) (listed_rising has_position refl c R order)
+      ∙ ap (λ o. cond (same_issue l d) (option_map_or (λ (h : Holder). F h.shares) o (pos 0)) (pos 0)) (listed_at has_position refl c R order a) ∙ by (same_issue l d)
+    where
+      by : (t : Bool) → cond t (option_map_or (λ (h : Holder). F h.shares) (one has_position refl c a (holding_at R (place c a))) (pos 0)) (pos 0) ≡ cond t (F (position_at R a c)) (pos 0)
+      by t = grind (arith, nat_tests)
 
--- a position that leaves is gone
-gone : (z x y w : ℤ) → x ≡ neg_ℤ z → y ≡ pos 0 → w ≡ z → (x +ℤ y) +ℤ w ≡ pos 0
-gone z x y w e f h = omega (arith, ints, e, f, h)
+  -- entries with the same sums take the same members beyond their limits
+  large_alike : (es fs : List Entry) → Alike es fs → are_too_large (position_at R) ps es ≡ are_too_large (position_at R) ps fs
+  large_alike es fs same =
+      (λ i. list_any (λ e. nat_lt corporation e.account && is_beyond (same (shares_for e.account e.issue) i +ℤ position_at R e.account e.issue) (bought_in ps e.account e.issue) (sold_in ps e.account e.issue)) es)
+      ∙ any_alike (is_too_large_at (position_at R) ps fs) es fs same
 
--- a split takes a member beyond its limits just where the definitions say so
-split_large : (R : Rows) (order : is_sorted key_cmp R ≡ true) (ps : List Pend) (s : Split) (ms : List Member) → AreHolders (positions_in R s.issue) ms → are_too_large (position_at R) ps (entries_of (action.Split s) (positions_in R s.issue) ms) ≡ list_any (takes_beyond R ps (action.Split s)) (shown R order s.issue)
-split_large R order ps s ms are =
-    let T = λ (a : Account) (c : Cusip). total (shares_for a c) (entries_of (action.Split s) (positions_in R s.issue) ms) in
-    leg_large R order s.issue ms are (takes T (position_at R) ps) (split_leg s) (takes_beyond R ps (action.Split s)) (λ h p once.
-    let booked = leg_shares R order s.issue ms are s.issue s.issue (λ n. converted s.ratio n -ℤ n) (in_lieu s.ratio s.lieu) h p once ∙ ap (λ b. cond b (converted s.ratio h.shares -ℤ h.shares) (pos 0)) (bytes_refl s.issue) in
-    λ i. lt-ltb corporation h.account p.member i && is_beyond (whole (converted s.ratio h.shares) h.shares _ _ booked p.own i) (bought_in ps h.account s.issue) (sold_in ps h.account s.issue))
+  -- a test of an entry's place, by what is booked there
+  at_place : (a : Account) (c : Cusip) (z n : ℤ) → 1 ≤ a → z ≡ n → (nat_lt corporation a && is_beyond z (bought_in ps a c) (sold_in ps a c)) ≡ is_beyond n (bought_in ps a c) (sold_in ps a c)
+  at_place a c z n le e = λ i. lt-ltb corporation a le i && is_beyond (e i) (bought_in ps a c) (sold_in ps a c)
 
--- and so does an exchange, in which nobody keeps a position in the old issue
-exchange_large : (R : Rows) (order : is_sorted key_cmp R ≡ true) (ps : List Pend) → AreFewShares ps → (x : Exchange) (ms : List Member) → AreHolders (positions_in R x.old) ms → same_issue x.old x.successor ≡ false → are_too_large (position_at R) ps (entries_of (action.Exchange x) (positions_in R x.old) ms) ≡ list_any (takes_beyond R ps (action.Exchange x)) (shown R order x.old)
-exchange_large R order ps few x ms are another =
-    let q = positions_in R x.old in
-    let olds = against_corporation x.old (map (old_entry x q) (holders q ms)) in
-    let news = against_corporation x.successor (map (new_entry x q) (holders q ms)) in
-    let T = λ (a : Account) (c : Cusip). total (shares_for a c) (olds ++ news) in
-    let t = takes T (position_at R) ps in
-    let left = λ (d : Cusip) (h : Holder) (p : IsOwn q h) (once : occurs h.account (holders q ms) ≡ 1). leg_shares R order x.old ms are x.old d neg_ℤ (λ n. pos 0) h p once in
-    let come = λ (d : Cusip) (h : Holder) (p : IsOwn q h) (once : occurs h.account (holders q ms) ≡ 1). leg_shares R order x.old ms are x.successor d (converted x.ratio) (in_exchange x.ratio x.lieu x.cash) h p once in
-    list_any-append t olds news
-    ∙ (λ i. (leg_large R order x.old ms are t (old_leg x) (λ h. false) (λ h p once. λ j. lt-ltb corporation h.account p.member j
-    && ((λ l. is_beyond ((ap (λ z. z +ℤ position_at R h.account x.old) (total-append (shares_for h.account x.old) olds news) ∙ gone h.shares _ _ _ (left x.old h p once ∙ ap (λ b. cond b (neg_ℤ h.shares) (pos 0)) (bytes_refl x.old)) (come x.old h p once ∙ ap (λ b. cond b (converted x.ratio h.shares) (pos 0)) (issues_differ x.old x.successor another)) p.own) l) (bought_in ps h.account x.old) (sold_in ps h.account x.old)) ∙ none_beyond _ _ (few h.account x.old p.member)) j) ∙ any_none (shown R order x.old)) i
-    || leg_large R order x.old ms are t (new_leg x) (takes_beyond R ps (action.Exchange x)) (λ h p once. λ j. lt-ltb corporation h.account p.member j
-    && is_beyond ((total-append (shares_for h.account x.successor) olds news ∙ (λ l. (left x.successor h p once ∙ ap (λ b. cond b (neg_ℤ h.shares) (pos 0)) another) l +ℤ (come x.successor h p once ∙ ap (λ b. cond b (converted x.ratio h.shares) (pos 0)) (bytes_refl x.successor)) l) ∙ zero_add (converted x.ratio h.shares)) j +ℤ position_at R h.account x.successor) (bought_in ps h.account x.successor) (sold_in ps h.account x.successor)) i)
+  -- tests of entries for the members that are shown
+  any_shown : (c : Cusip) (t : Entry → Bool) (L : Account → ℤ → Entry) (u : Holder → Bool) → ((a : Account) → 1 ≤ a → has_position (holding_at R (place c a)) ≡ true → t (L a (position_at R a c)) ≡ u (holder_of (place c a, holding_at R (place c a))))
+      → list_any t (map (λ h. L h.account h.shares) (shown R c)) ≡ list_any u (shown R c)
+  any_shown c t L u same = any_legs t (λ h. L h.account h.shares) u (shown R c) (each_listed has_position refl c R order (λ h. t (L h.account h.shares) ≡ u h) same)
 
--- what is looked for is what the definitions refuse
-pub same_large : (R : Rows) (order : is_sorted key_cmp R ≡ true) (ps : List Pend) → AreFewShares ps → (x : Action) → IsForAnother x → (ms : List Member) → AreHolders (positions_in R (issue_of x)) ms → are_too_large (position_at R) ps (entries_of x (positions_in R (issue_of x)) ms) ≡ list_any (takes_beyond R ps x) (shown R order (issue_of x))
-same_large R order ps few (action.Split s) another ms are = split_large R order ps s ms are
-same_large R order ps few (action.Exchange x) another ms are = exchange_large R order ps few x ms are another
+  large_by : AreFewShares ps → (x : Action) → IsForAnother x → are_too_large (position_at R) ps (entries_by x (holders_of x R)) ≡ list_any (takes_beyond R ps x) (holders_of x R)
+  large_by few (action.Split s) another =
+      any_shown s.issue (is_too_large_at (position_at R) ps (entries_by (action.Split s) (shown R s.issue))) (split_leg s) (takes_beyond R ps (action.Split s)) (λ a le held.
+      let q = position_at R a s.issue in
+      at_place a s.issue _ _ le (ap (λ z. z +ℤ q) (leg_shares s.issue s.issue s.issue (λ n. converted s.ratio n -ℤ n) (in_lieu s.ratio s.lieu) a le held ∙ ap (λ b. cond b (converted s.ratio q -ℤ q) (pos 0)) (bytes_refl s.issue)) ∙ back (converted s.ratio q) q))
+    where
+      back : (x y : ℤ) → (x -ℤ y) +ℤ y ≡ x
+      back x y = omega (arith, ints)
+  large_by few (action.Exchange x) another =
+      let hs = shown R x.old in
+      let olds = against_corporation x.old (map (λ h. old_leg x h.account h.shares) hs) in
+      let news = against_corporation x.successor (map (λ h. new_leg x h.account h.shares) hs) in
+      let t = is_too_large_at (position_at R) ps (olds ++ news) in
+      let booked = λ (d : Cusip) (a : Account) (le : 1 ≤ a) (held : has_position (holding_at R (place x.old a)) ≡ true).
+      total-append (shares_for a d) olds news ∙ (λ i. leg_shares x.old x.old d neg_ℤ (λ n. pos 0) a le held i +ℤ leg_shares x.old x.successor d (converted x.ratio) (in_exchange x.ratio x.lieu x.cash) a le held i) in
+      list_any-append t olds news
+      ∙ (λ i. (any_shown x.old t (old_leg x) (λ h. false) (λ a le held.
+      let q = position_at R a x.old in
+      at_place a x.old _ _ le (ap (λ z. z +ℤ q) (booked x.old a le held ∙ (λ j. cond (bytes_refl x.old j) (neg_ℤ q) (pos 0) +ℤ cond (issues_differ x.old x.successor another j) (converted x.ratio q) (pos 0))) ∙ gone q) ∙ none_beyond _ _ (few a x.old le)) ∙ any_none hs) i
+      || any_shown x.old t (new_leg x) (takes_beyond R ps (action.Exchange x)) (λ a le held.
+      let n = converted x.ratio (position_at R a x.old) in
+      at_place a x.successor _ _ le (ap (λ z. z +ℤ position_at R a x.successor) (booked x.successor a le held ∙ (λ j. cond (another j) (neg_ℤ (position_at R a x.old)) (pos 0) +ℤ cond (bytes_refl x.successor j) n (pos 0)) ∙ zero_add n))) i)
+    where
+      gone : (z : ℤ) → (neg_ℤ z +ℤ pos 0) +ℤ z ≡ pos 0
+      gone z = omega (arith, ints)
+
+      any_none : (hs : List Holder) → list_any (λ h. false) hs ≡ false
+      any_none [] = refl
+      any_none (h ∷ hs) = any_none hs
+
+  -- what is looked for is what the definitions refuse
+  pub same_large : AreFewShares ps → (x : Action) → IsForAnother x → (ms : List Member) → AreHolders (positions_in R (issue_of x)) ms → are_too_large (position_at R) ps (entries_of x (positions_in R (issue_of x)) ms) ≡ list_any (takes_beyond R ps x) (holders_of x R)
+  same_large few x another ms are = large_alike (entries_of x (positions_in R (issue_of x)) ms) (entries_by x (holders_of x R)) (entries_alike R order x ms are) ∙ large_by few x another

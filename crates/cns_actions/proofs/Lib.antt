@@ -1,13 +1,13 @@
 pub mod Members
 pub mod Reachable
-pub mod Walking
 pub mod Registers
-pub mod Making
-pub mod DueAmounts
-pub mod Holders
+pub mod ByAccount
 pub mod Skipping
+pub mod Holders
 pub mod Summing
 pub mod BookingOrder
 pub mod BookingSums
 pub mod BookingLimits
+pub mod Making
+pub mod DueAmounts
 pub mod Common

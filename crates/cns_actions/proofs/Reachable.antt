@@ -1,7 +1,7 @@
 -- Positions that can be booked stay so.
--- For `Bookings::make` of bookings.rt, `with_bookings` and `opened` of beside.rt, and the book's `open`.
-use Rattle.std.proofs.Common.{◌≡◌, sym, subst, ◌≤◌, unsigned_abs, [], arith}
-use Rattle.cns_actions.proofs.Common.{CanBeBooked, Holding, Key, Rows, amount_limit, corporation, corporation_limit, holding_at, position_limit, rolled}
+-- For `open` of parts/opening.rt in cns_book, `close_day` of parts/closing.rt in cns_book, `make` of actions.rt in cns_growth_tests.
+use Rattle.std.proofs.Common.{◌≡◌, ap, sym, subst, ◌≤◌, unsigned_abs, [], arith}
+use Rattle.cns_actions.proofs.Common.{CanBeBooked, Holding, Key, Rows, amount_limit, corporation, holding_at, rolled}
 
 -- nothing stands anywhere yet
 pub can_none : (rows : Rows) → rows ≡ [] → CanBeBooked rows
@@ -11,18 +11,14 @@ can_none rows e = subst CanBeBooked (sym e) (record {
   cents = λ k. omega arith;
 })
 
+-- positions that are the same, with cents within the limit
+kept : (rows new : Rows) → CanBeBooked rows → ((k : Key) → (holding_at new k).now ≡ (holding_at rows k).now) → ((k : Key) → unsigned_abs (holding_at new k).contract ≤ amount_limit) → CanBeBooked new
+kept rows new can same cents = record { members = λ a c le. rw (same (record { account = a; issue = c })) (can.members a c le); corporation = λ c. rw (same (record { account = corporation; issue = c })) (can.corporation c); cents = cents }
+
 -- what stands at each key is all that counts
 pub can_same : (rows new : Rows) → CanBeBooked rows → ((k : Key) → holding_at new k ≡ holding_at rows k) → CanBeBooked new
-can_same rows new can same = record {
-  members = λ a c le. subst (λ (h : Holding). unsigned_abs h.now ≤ position_limit) (sym (same (record { account = a; issue = c }))) (can.members a c le);
-  corporation = λ c. subst (λ (h : Holding). unsigned_abs h.now ≤ corporation_limit) (sym (same (record { account = corporation; issue = c }))) (can.corporation c);
-  cents = λ k. subst (λ (h : Holding). unsigned_abs h.contract ≤ amount_limit) (sym (same k)) (can.cents k);
-}
+can_same rows new can same = kept rows new can (λ k. ap (λ (h : Holding). h.now) (same k)) (λ k. rw (same k) (can.cents k))
 
 -- and so after a close
 pub can_rolled : (rows new : Rows) → CanBeBooked rows → ((q : Key) → holding_at new q ≡ rolled (holding_at rows q)) → CanBeBooked new
-can_rolled rows new can is = record {
-  members = λ a d le. let q : Key = record { account = a; issue = d } in subst (λ (h : Holding). unsigned_abs h.now ≤ position_limit) (sym (is q)) (can.members a d le);
-  corporation = λ d. let q : Key = record { account = corporation; issue = d } in subst (λ (h : Holding). unsigned_abs h.now ≤ corporation_limit) (sym (is q)) (can.corporation d);
-  cents = λ q. subst (λ (h : Holding). unsigned_abs h.contract ≤ amount_limit) (sym (is q)) (omega arith);
-}
+can_rolled rows new can is = kept rows new can (λ k. ap (λ (h : Holding). h.now) (is k)) (λ k. rw (is k) (omega arith))

@@ -1,7 +1,6 @@
 -- How often an account stands among the accounts.
 use Rattle.std.proofs.Common.{◌≡◌, ℕ, ◌+◌, ◌≤◌, ℤ, pos, ◌+ℤ◌, Bool, true, false, cond, ◌&&◌, ◌||◌, ◌==◌, List, [], ◌∷◌, refl, arith}
 use Rattle.cns_terms.specs.Common.{account_lt, list_any, total}
-use Rattle.std.proofs.lemmas.Int.{ints}
 use Rattle.cns_terms.specs.Sums.{put}
 
 -- how often a number stands in a list
@@ -20,16 +19,14 @@ occurs-put a m (b ∷ bs) =
 
 -- what a search finds stands there, and what it does not find does not
 found_or_later : (t u : Bool) (n : ℕ) → (u ≡ true → 1 ≤ n) → (t || u) ≡ true → 1 ≤ cond t 1 0 + n
-found_or_later true u n later h = omega arith
-found_or_later false u n later h = let e = later h in omega arith
+found_or_later t u n h1 h2 = grind arith
 
 pub occurs_found : (a : ℕ) (bs : List ℕ) → list_any (λ b. a == b) bs ≡ true → 1 ≤ occurs a bs
 occurs_found a [] h = cc
 occurs_found a (b ∷ bs) h = found_or_later (a == b) (list_any (λ b. a == b) bs) (occurs a bs) (occurs_found a bs) h
 
 not_here : (t u : Bool) (n : ℕ) → (u ≡ false → n ≡ 0) → (t || u) ≡ false → cond t 1 0 + n ≡ 0
-not_here true u n later h = cc
-not_here false u n later h = let e = later h in omega arith
+not_here t u n h1 h2 = grind arith
 
 pub occurs_missing : (a : ℕ) (bs : List ℕ) → list_any (λ b. a == b) bs ≡ false → occurs a bs ≡ 0
 occurs_missing a [] h = refl
@@ -37,16 +34,14 @@ occurs_missing a (b ∷ bs) h = not_here (a == b) (list_any (λ b. a == b) bs) (
 
 -- a number given to one account of a list in which it doesn't stand, and in which it stands once
 absent_step : (t k : Bool) (v r : ℤ) (n : ℕ) → (n ≡ 0 → r ≡ pos 0) → cond t 1 0 + n ≡ 0 → cond (t && k) v (pos 0) +ℤ r ≡ pos 0
-absent_step true k v r n rest h = absurd (omega arith)
-absent_step false k v r n rest h = let e = rest (omega arith) in omega (arith, ints)
+absent_step t k v r n h1 h2 = grind arith
 
 absent : (a : ℕ) (k : Bool) (v : ℤ) (bs : List ℕ) → occurs a bs ≡ 0 → total (λ b. cond ((a == b) && k) v (pos 0)) bs ≡ pos 0
 absent a k v [] h = refl
 absent a k v (b ∷ bs) h = absent_step (a == b) k v _ (occurs a bs) (absent a k v bs) h
 
 once_step : (t k : Bool) (v r : ℤ) (n : ℕ) → (n ≡ 0 → r ≡ pos 0) → (n ≡ 1 → r ≡ cond k v (pos 0)) → cond t 1 0 + n ≡ 1 → cond (t && k) v (pos 0) +ℤ r ≡ cond k v (pos 0)
-once_step true k v r n none rest h = let e = none (omega arith) in omega (arith, ints)
-once_step false k v r n none rest h = let e = rest (omega arith) in omega (arith, ints)
+once_step t k v r n h1 h2 h3 = grind arith
 
 pub given_once : (a : ℕ) (k : Bool) (v : ℤ) (bs : List ℕ) → occurs a bs ≡ 1 → total (λ b. cond ((a == b) && k) v (pos 0)) bs ≡ cond k v (pos 0)
 given_once a k v [] h = absurd (omega arith)

@@ -1,5 +1,5 @@
 -- Whom executions book for, and how much.
-use Rattle.std.proofs.Common.{◌≡◌, ◌∙◌, ap, subst, refl, ℕ, ◌+◌, ◌-◌, ◌*◌, ◌≤◌, min, ℤ, pos, negsuc, ◌+ℤ◌, neg_ℤ, Bool, true, false, not, cond, ◌&&◌, ◌==◌, List, [], ◌∷◌, map, filter, find, Option, Some, None, sum_by, arith, IfSome, nat_lt, unsigned_abs, eqb-true}
+use Rattle.std.proofs.Common.{◌≡◌, ◌∙◌, ap, subst, refl, ℕ, ◌+◌, ◌-◌, ◌*◌, ◌≤◌, min, ℤ, pos, negsuc, ◌+ℤ◌, neg_ℤ, Bool, true, false, not, cond, ◌&&◌, ◌==◌, List, [], ◌∷◌, map, filter, find, Option, sum_by, arith, IfSome, nat_lt, unsigned_abs, eqb-true}
 use Rattle.cns_terms.specs.Common.{Account, AllByRecursion, Cusip, Entry, Execution, Fill, Journal, Liable, Member, Notice, Short, at_close, batch, batch_at, called, capacity, day, execution_entries, fill_entry, fills, fills_before, in_order, is_called, is_live, is_so, left_of, liable_of, long, members, remaining, room, same_issue, shares_for, short, short_of, shorts, stage, stretch, total}
 use Rattle.std.proofs.Math.Nat.{min-le_right}
 use Rattle.std.proofs.lemmas.Int.{ints}
@@ -31,8 +31,7 @@ pub record IsExecutable (J : Journal) (x : Execution) (k : Notice) : Type 0 wher
 
 -- the notice of an execution that is not refused
 pub executable : (J : Journal) (x : Execution) (o : Option Notice) → is_so (λ k. is_live (stage J k) && nat_lt (remaining J k) x.shares) o ≡ false → is_so (λ k. not (is_live (stage J k))) o ≡ false → is_so (λ k. nat_lt (room J k) x.shares) o ≡ false → IfSome o (IsExecutable J x)
-executable J x None e l r = tt
-executable J x (Some k) e l r = grind arith
+executable J x o h1 h2 h3 = grind arith
 
 -- what remains of a notice is no more than its member is long
 pub remains_long : (J : Journal) (k : Notice) → remaining J k ≤ long (position J k.given.member k.given.issue)
@@ -187,6 +186,4 @@ fill_magnitude k (f ∷ fs) = rw (fill_magnitude k fs, sum_by-cons (λ (f : Fill
 
 -- an execution's entries book its money twice
 pub execution_cents : (J : Journal) (x : Execution) (k : Notice) → 1 ≤ x.shares → IsExecutable J x k → magnitude (λ (e : Entry). e.cents) (execution_entries J x k) ≡ x.money + x.money
-execution_cents J x k some ready =
-    let cents = cents_of_fills (λ a. short (position J a k.given.issue)) x.shares x.money (batch J k.given.day k.given.issue) some ready.roomy in
-    rw (fill_magnitude k (fills J x k), cents) refl
+execution_cents J x k h1 h2 = grind (arith, cents_of_fills, fill_magnitude)

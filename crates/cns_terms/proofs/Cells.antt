@@ -64,9 +64,6 @@ module _ {X : Type 0} (f : Key → X) where
       ap (cond (is_eq (key_cmp k (key a c))) (Some (f (key a c)))) (find_row k a cs)
       ∙ find_in (is_eq (key_cmp k (key a c))) (eqb k.account a) (bytes_eq k.issue c) k (key a c) (tied k a c) (same_key k (key a c)) (list_any (λ c. bytes_eq k.issue c) cs)
 
-  first_found : (b d : Bool) (k : Key) (x : X) → Some x ≡ cond b (Some (f k)) None → Some x ≡ cond (b || d) (Some (f k)) None
-  first_found b d k x h1 = grind arith
-
   first_step : (t b d : Bool) (k : Key) (x : X) (o o' : Option X) → (o ≡ cond b (Some (f k)) None → o' ≡ cond (b || d) (Some (f k)) None) → cond t (Some x) o ≡ cond b (Some (f k)) None → cond t (Some x) o' ≡ cond (b || d) (Some (f k)) None
   first_step t b d k x o o' h1 h2 = grind arith
 

@@ -1,10 +1,9 @@
 -- A closed day keeps its sheet.
-use Rattle.std.proofs.Common.{◌≡◌, ℕ, ◌≤◌, Bool, true, false, List, [], ◌∷◌, refl, sym, ◌∙◌, ap, subst, arith, cond, find, Option, Some, option_map}
+use Rattle.std.proofs.Common.{◌≡◌, ℕ, ◌≤◌, Bool, true, List, [], ◌∷◌, refl, sym, ◌∙◌, ap, subst, arith, cond, find, Option, Some, option_map}
 use Rattle.cns_terms.proofs.Common.{AllByRecursion, Command, Day, DaySheet, IsWhole, Journal, State, after, at_close, closed_on, closes, day_sheet, journal_of, next, opened, rows_for, statement}
 use Rattle.cns_terms.specs.Laws.{ClosedDays}
 use Rattle.cns_terms.specs.Sheets.{sheet_at}
 use Rattle.cns_terms.proofs.Sound.{opening_stays, whole-after, whole-next}
-use Rattle.cns_terms.specs.declared.command.Command.TheVariants as command
 
 -- ---- by place
 
@@ -12,8 +11,7 @@ use Rattle.cns_terms.specs.declared.command.Command.TheVariants as command
 
 -- what is found passes the test, and what holds of each holds of it
 found_if : {X : Type 0} (P : X → Type 0) (t : X → Bool) (b : Bool) (y x : X) (o : Option X) → t y ≡ b → P y → (o ≡ Some x → P x × (t x ≡ true)) → cond b (Some y) o ≡ Some x → P x × (t x ≡ true)
-found_if P t true y x o test p rest e = let same : y ≡ x = cc in (subst P same p, ap t (sym same) ∙ test)
-found_if P t false y x o test p rest e = rest e
+found_if P t b y x o h1 h2 h3 h4 = grind arith
 
 found : {X : Type 0} (P : X → Type 0) (t : X → Bool) (xs : List X) (x : X) → AllByRecursion P xs → find t xs ≡ Some x → P x × (t x ≡ true)
 found P t [] x a e = cc
@@ -32,9 +30,7 @@ keeps_same opening J = record { more = omega arith; by_place = λ i h. refl; by_
 
 -- a command keeps what stood at the earlier closes
 keeps-next : (S : State) (cmd : Command) → IsWhole S.opening (journal_of S) → Keeps S.opening (journal_of S) (journal_of (next S cmd))
-keeps-next S (command.Activity x) w = grind (arith, found)
-keeps-next S (command.Position k) w = keeps_same S.opening (journal_of S)
-keeps-next S (command.Statement a d) w = keeps_same S.opening (journal_of S)
+keeps-next S cmd h1 = grind (arith, found)
 
 -- and so do commands
 pub keeps-after : (S : State) (cmds : List Command) → IsWhole S.opening (journal_of S) → Keeps S.opening (journal_of S) (journal_of (after S cmds))

@@ -1,5 +1,5 @@
 -- Entries that add up to zero in each issue.
-use Rattle.std.proofs.Common.{◌≡◌, ◌∙◌, ℤ, pos, ◌+ℤ◌, neg_ℤ, Bool, true, false, cond, List, ◌++◌, map, arith}
+use Rattle.std.proofs.Common.{◌≡◌, ℤ, pos, ◌+ℤ◌, neg_ℤ, Bool, true, false, cond, List, ◌++◌, map, arith}
 use Rattle.cns_terms.specs.Common.{Account, Cusip, Entry, against_corporation, entry, same_issue, total}
 use Rattle.std.proofs.lemmas.Int.{ints}
 use Rattle.cns_terms.proofs.Totals.{total-append, total-map, total-zero}
@@ -37,7 +37,4 @@ against_balanced c shares cents xs =
 
 -- two lists that add up to zero
 pub both_balanced : (es fs : List Entry) → IsBalanced es → IsBalanced fs → IsBalanced (es ++ fs)
-both_balanced es fs p q = record {
-  shares = λ c. total-append (shares_in c) es fs ∙ (λ i. p.shares c i +ℤ q.shares c i);
-  cents = λ c. total-append (cents_in c) es fs ∙ (λ i. p.cents c i +ℤ q.cents c i);
-}
+both_balanced es fs h1 h2 = grind (arith, total-append)

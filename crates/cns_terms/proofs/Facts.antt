@@ -1,5 +1,5 @@
 -- Facts that proofs of several crates use: tests, comparisons, numbers.
-use Rattle.std.proofs.Common.{◌≡◌, ◌∙◌, sym, ap, refl, suc, ℕ, ℤ, pos, ◌+ℤ◌, Bool, true, false, not, ◌&&◌, ◌||◌, cond, eqb, List, [], ◌∷◌, length, map, Option, Some, arith, bytes_eq, int_le, int_lt, is_eq, is_lt, nat_cmp, Ordering, Less, Equal, Greater}
+use Rattle.std.proofs.Common.{◌≡◌, ◌∙◌, sym, ap, refl, suc, ℕ, ℤ, pos, ◌+ℤ◌, Bool, true, false, not, ◌&&◌, ◌||◌, cond, eqb, List, [], ◌∷◌, length, map, Option, Some, arith, bytes_eq, int_le, int_lt, is_eq, is_lt, nat_cmp, Ordering, Less, Equal}
 use Rattle.cns_terms.specs.Common.{Activity, AllByRecursion, Cusip, Day, journal, option_map_or, slice_cmp, tied_itself}
 use Rattle.std.proofs.lemmas.Bool.Decides.{nat_tests}
 use Rattle.std.proofs.lemmas.Cmp.{nat_list_cmp_total, nat_list_eq_equiv}
@@ -11,51 +11,39 @@ use Rattle.cns_terms.specs.declared.command.Listing.{Listing}
 
 -- of two that hold, the first does, and the second
 pub and_left : (a b : Bool) → (a && b) ≡ true → a ≡ true
-and_left true b e = refl
-and_left false b e = e
+and_left a b h1 = grind arith
 
 pub and_right : (a b : Bool) → (a && b) ≡ true → b ≡ true
-and_right true b e = e
-and_right false b e = cc
+and_right a b h1 = grind arith
 
 pub both_true : (a b : Bool) → a ≡ true → b ≡ true → (a && b) ≡ true
-both_true true b p q = q
-both_true false b p q = p
+both_true a b h1 h2 = grind arith
 
 -- of two of which none holds, neither does
 pub neither : (a b : Bool) → (a || b) ≡ false → (a ≡ false) × (b ≡ false)
-neither true b h = cc
-neither false b h = (refl, h)
+neither a b h1 = grind arith
 
 pub or_right : (a b : Bool) → b ≡ true → (a || b) ≡ true
-or_right true b h = refl
-or_right false b h = h
+or_right a b h1 = grind arith
 
 pub or_false : (b : Bool) → (b || false) ≡ b
-or_false true = refl
-or_false false = refl
+or_false b = grind arith
 
 pub and_false : (b : Bool) → (b && false) ≡ false
-and_false true = refl
-and_false false = refl
+and_false b = grind arith
 
 -- what does not fail holds
 pub holds : (x : Bool) → not x ≡ false → x ≡ true
-holds true h = refl
-holds false h = cc
+holds x h1 = grind arith
 
 -- ---- comparisons
 
 -- a comparison, by its tests
 pub less : (r : Ordering) → is_lt r ≡ true → r ≡ Less
-less Less e = refl
-less Equal e = cc
-less Greater e = cc
+less r h1 = grind arith
 
 pub equal : (r : Ordering) → is_eq r ≡ true → r ≡ Equal
-equal Less e = cc
-equal Equal e = refl
-equal Greater e = cc
+equal r h1 = grind arith
 
 -- numbers, tested for equality
 pub eqb_refl : (a : ℕ) → eqb a a ≡ true
@@ -94,8 +82,7 @@ later a b h = grind (arith, ints)
 
 -- the price of the listing that is found first
 pub price_branch : (t : Bool) (l : Listing) (o : Option Listing) → option_map_or (λ (l : Listing). l.price) (cond t (Some l) o) 0 ≡ cond t l.price (option_map_or (λ l. l.price) o 0)
-price_branch true l o = refl
-price_branch false l o = refl
+price_branch t l o = grind arith
 
 -- a posting for each activity
 pub journal_len : (opening : Day) (L : List Activity) → length (journal opening L) ≡ length L

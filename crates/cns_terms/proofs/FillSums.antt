@@ -1,16 +1,13 @@
 -- The fills of an execution are its shares and its money, whole.
-use Rattle.std.proofs.Common.{add_assoc, le_trans, ◌≡◌, ℕ, ◌+◌, ◌-◌, ◌*◌, ◌/◌, ◌<◌, ◌≤◌, min, Bool, true, false, cond, List, [], ◌∷◌, filter, sum_by, nat_lt, refl, ◌∙◌, ap, arith, mul-zero, div-mul-le_self, mul-le-mul_left, le-ltb, ltb-true, ltb-false}
+use Rattle.std.proofs.Common.{add_assoc, le_trans, ◌≡◌, ℕ, ◌+◌, ◌-◌, ◌*◌, ◌/◌, ◌<◌, ◌≤◌, min, Bool, false, cond, List, [], ◌∷◌, filter, sum_by, nat_lt, arith, div-mul-le_self, mul-le-mul_left, ltb-false}
 use Rattle.cns_terms.specs.Common.{Fill, Liable, Member, capacity, fills_of, room_of, stretch}
 use Rattle.std.proofs.lemmas.Nat.{le-div}
-use Rattle.std.proofs.Math.Nat.{mul-div_left, zero-div}
-use Rattle.std.proofs.lemmas.Bool.{cond-false}
 use Rattle.std.proofs.lemmas.List.Sums.{sum_by-cons}
 use Rattle.cns_terms.proofs.Laid.{fills_laid, laid}
 
 -- dropping what adds nothing leaves a sum as it is
 kept_or_not : {X : Type 0} (f : X → ℕ) (b : Bool) (x : X) (ys : List X) → (b ≡ false → f x ≡ 0) → sum_by f (cond b (x ∷ ys) ys) ≡ f x + sum_by f ys
-kept_or_not f true x ys h = sum_by-cons f x ys
-kept_or_not f false x ys h = let z = h refl in omega arith
+kept_or_not f b x ys h1 = grind (arith, sum_by-cons)
 
 -- the shares that fall to a stretch
 shares_of_stretch : (n m from to a : ℕ) → from ≤ to → (stretch n m from to a).shares + min n from ≡ min n to
@@ -35,26 +32,11 @@ paid_more n m j k some h = le-div ((m * j) / n) (m * k) n some (le_trans (div-mu
 
 -- the money that falls to a stretch
 cents_of_stretch : (n m from to a : ℕ) → from ≤ to → (stretch n m from to a).cents + paid n m from ≡ paid n m to
-cents_of_stretch n m from to a h =
-    let by : (b : Bool) → nat_lt from (min n to) ≡ b → cond b ((m * min n to) / n - (m * from) / n) 0 + paid n m from ≡ paid n m to =
-    λ b. elim b as (λ b. nat_lt from (min n to) ≡ b → cond b ((m * min n to) / n - (m * from) / n) 0 + paid n m from ≡ paid n m to) [
-      | true ↦ λ e.
-          let lower : from < min n to = ltb-true from (min n to) e in
-          let from_is : min n from ≡ from = omega arith in
-          let more = paid_more n m from (min n to) (omega arith) (omega arith) in
-          rw from_is (omega arith)
-      | false ↦ λ e.
-          let upper : min n to ≤ from = ltb-false from (min n to) e in
-          let same : min n from ≡ min n to = omega arith in
-          rw same (omega arith)
-    ] in
-    by (nat_lt from (min n to)) refl
+cents_of_stretch n m from to a h1 = grind (arith, paid_more)
 
 -- a stretch without shares gets no money
 unpaid : (n m from to a : ℕ) → nat_lt 0 (stretch n m from to a).shares ≡ false → (stretch n m from to a).cents ≡ 0
-unpaid n m from to a e =
-    let none = ltb-false 0 (min n to - from) e in
-    cond-false (nat_lt from (min n to)) _ 0 (le-ltb from (min n to) (omega arith))
+unpaid n m from to a h1 = grind arith
 
 cents_of_stretches : (each : Liable → ℕ) (n m from : ℕ) (ss : List Liable) → sum_by (λ f. f.cents) (filter (λ f. nat_lt 0 f.shares) (laid each n m from ss)) + paid n m from ≡ paid n m (from + sum_by each ss)
 cents_of_stretches each n m from [] = let z : from + 0 ≡ from = omega arith in rw z (omega arith)
@@ -71,10 +53,4 @@ shares_of_fills short n m ls h = rw (fills_laid short n m ls) (let all = shares_
 
 -- and they are paid the whole money
 pub cents_of_fills : (short : Member → ℕ) (n m : ℕ) (ls : List Liable) → 0 < n → n ≤ room_of short ls → sum_by (λ f. f.cents) (fills_of short n m ls) ≡ m
-cents_of_fills short n m ls some h =
-    let all = cents_of_stretches (capacity short) n m 0 ls in
-    let to : min n (0 + room_of short ls) ≡ n = omega arith in
-    let from : min n 0 ≡ 0 = omega arith in
-    let whole : paid n m (0 + room_of short ls) ≡ m = ap (λ k. (m * k) / n) to ∙ mul-div_left m some in
-    let nothing : paid n m 0 ≡ 0 = ap (λ k. (m * k) / n) from ∙ ap (λ k. k / n) (mul-zero m) ∙ zero-div n in
-    rw (fills_laid short n m ls) (omega arith)
+cents_of_fills short n m ls h1 h2 = grind (arith, cents_of_stretches, fills_laid)

@@ -1,5 +1,5 @@
 -- Searches in lists whose keys strictly rise.
-use Rattle.std.proofs.Common.{◌≡◌, ◌∙◌, sym, ap, refl, Bool, true, false, cond, List, [], ◌∷◌, map, filter, Option, Some, None, is_eq, is_lt, Ordering, Less, Equal, Greater, T}
+use Rattle.std.proofs.Common.{◌≡◌, ◌∙◌, sym, ap, refl, Bool, true, false, cond, List, [], ◌∷◌, map, filter, Option, Some, None, is_eq, is_lt, Ordering, Less, Equal, T}
 use Rattle.cns_terms.specs.Common.{AllByRecursion, IsTotalOrder, below_all, is_sorted, tied_itself}
 use Rattle.std.specs.FinMap.{FinMap, entries, entries-from_sorted, find, from_sorted, get-from_sorted, same_map, IsAntisymmetric}
 use Rattle.std.specs.List.Sorted.{IsStrictlySortedBy}
@@ -47,12 +47,7 @@ module _ {K X : Type 0} {R : K → K → Ordering} (o : IsTotalOrder R) where
 
   find_kept : (p : X → Bool) (q : K) (b : Bool) (e : K × X) (es : List (K × X)) (r : Ordering) → R q e.0 ≡ r → p e.1 ≡ b → below_all R e.0 es ≡ true → find R q (filter (λ e. p e.1) es) ≡ kept_if p (find R q es)
       → find R q (cond b (e ∷ filter (λ e. p e.1) es) (filter (λ e. p e.1) es)) ≡ kept_if p (cond (is_eq r) (Some e.1) (find R q es))
-  find_kept p q true e es Less t b below h = ap (λ r. cond (is_eq r) (Some e.1) (find R q (filter (λ e. p e.1) es))) t ∙ h
-  find_kept p q true e es Greater t b below h = ap (λ r. cond (is_eq r) (Some e.1) (find R q (filter (λ e. p e.1) es))) t ∙ h
-  find_kept p q true e es Equal t b below h = ap (λ r. cond (is_eq r) (Some e.1) (find R q (filter (λ e. p e.1) es))) t ∙ sym (ap (λ c. cond c (Some e.1) None) b)
-  find_kept p q false e es Less t b below h = h
-  find_kept p q false e es Greater t b below h = h
-  find_kept p q false e es Equal t b below h = grind (arith, find_below)
+  find_kept p q b e es r h1 h2 h3 h4 = grind (arith, find_below)
 
   -- a search in what a filter keeps
   pub find_filter : (p : X → Bool) (q : K) (es : List (K × X)) → is_sorted R es ≡ true → find R q (filter (λ e. p e.1) es) ≡ kept_if p (find R q es)

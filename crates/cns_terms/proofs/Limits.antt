@@ -1,9 +1,8 @@
 -- One accepted activity keeps positions and cents within their limits.
-use Rattle.std.proofs.Common.{◌≡◌, ◌∙◌, ap, sym, subst, refl, ℕ, ◌+◌, ◌*◌, ◌≤◌, ℤ, pos, ◌+ℤ◌, ◌-ℤ◌, ◌*ℤ◌, neg_ℤ, Bool, true, false, not, ◌&&◌, ◌||◌, ◌==◌, cond, List, [], ◌∷◌, length, map, Option, Some, None, ◌⊎◌, inl, inr, arith, IfSome, int_eq, bytes_eq, int_le, nat_lt, unsigned_abs, mul-le-mul_left, mul-le-mul_right, eqb-true}
-use Rattle.cns_terms.specs.Common.{Account, Activity, AllByRecursion, Cusip, Day, Entry, Execution, IsInRange, Journal, Notice, Pend, Posting, Price, Ratio, against_corporation, booking_limit, bought_in, buyer_entry, cents_for, converted, corporation, date, entries, entry, execution_entries, holders, in_exchange, in_lieu, is_beyond, is_exceeded, is_not_after, is_too_large, is_too_large_at, list_any, long, member_limit, members, money, money_limit, moved_in, moved_out, new_entry, notice_at, old_entry, open_day, option_map_or, pend_of, pending, position_limit, posting, price_limit, seller_entry, shares_for, short, sold_in, total, trade_entries}
+use Rattle.std.proofs.Common.{◌≡◌, ◌∙◌, ap, sym, subst, refl, ℕ, ◌+◌, ◌*◌, ◌≤◌, ℤ, pos, ◌+ℤ◌, ◌-ℤ◌, ◌*ℤ◌, neg_ℤ, Bool, true, false, not, ◌&&◌, ◌||◌, ◌==◌, cond, List, [], ◌∷◌, length, map, Option, Some, None, ◌⊎◌, inl, inr, arith, IfSome, int_eq, bytes_eq, int_le, nat_lt, unsigned_abs, mul-le-mul_left, mul-le-mul_right}
+use Rattle.cns_terms.specs.Common.{Account, Activity, AllByRecursion, Cusip, Day, Entry, Execution, IsInRange, Journal, Notice, Pend, Posting, Price, Ratio, against_corporation, booking_limit, bought_in, cents_for, converted, corporation, date, entries, entry, execution_entries, holders, in_exchange, in_lieu, is_beyond, is_exceeded, is_not_after, is_too_large, is_too_large_at, list_any, long, member_limit, members, money, money_limit, moved_in, moved_out, new_entry, notice_at, old_entry, open_day, option_map_or, pend_of, pending, position_limit, posting, price_limit, shares_for, short, sold_in, total, trade_entries}
 use Rattle.std.proofs.lemmas.Bool.Decides.{nat_tests}
 use Rattle.std.proofs.lemmas.Int.{ints, unsigned_abs-mul}
-use Rattle.std.proofs.lemmas.List.Sums.{sum_by-cons}
 use Rattle.std.proofs.lemmas.Slice.Eq.{bytes_eq-Decides}
 use Rattle.cns_terms.specs.declared.command.Movement.{Movement}
 use Rattle.cns_terms.specs.declared.command.Trade.{Trade}
@@ -17,12 +16,12 @@ use Rattle.cns_terms.proofs.Closer.{IsCloser, as_close, off_long, off_short}
 use Rattle.cns_terms.proofs.EntrySums.{entries_for}
 use Rattle.cns_terms.specs.declared.command.Activity.TheVariants as activity
 use Rattle.cns_terms.proofs.Everywhere.{each_found, each_weaker}
-use Rattle.cns_terms.proofs.Facts.{and_left, and_right, neither}
+use Rattle.cns_terms.proofs.Facts.{neither}
 use Rattle.cns_terms.proofs.Magnitudes.{added, added-append, added-each, added-filter, added-map, added-more, magnitude, total_small}
 use Rattle.cns_terms.proofs.Quotients.{fraction_few, quotient_few}
 use Rattle.cns_terms.proofs.Sound.{IsWhole, NoneHolds, all_fail}
 use Rattle.cns_terms.proofs.Totals.{total-map}
-use Rattle.cns_terms.proofs.Waiting.{booked_cents, booked_shares, both_cents, bought_added, bought_by, settled, sold_added, sold_by}
+use Rattle.cns_terms.proofs.Waiting.{booked_cents, booked_shares, both_cents, bought_added, settled, sold_added}
 
 -- a position alone is within a member's limits
 abbrev pub IsNear : ℤ → Type 0
@@ -52,9 +51,7 @@ is_of a c e = (e.account == a) && bytes_eq e.issue c
 
 -- what is so at an entry's place is so at the account and the issue that it is of
 at_place : (P : Account → Cusip → Type 0) (a : Account) (c : Cusip) (e : Entry) → is_of a c e ≡ true → P e.account e.issue → P a c
-at_place P a c e h p =
-    subst (λ (d : Cusip). P a d) ((bytes_eq-Decides e.issue c).0 (and_right _ _ h))
-    (subst (λ (b : Account). P b e.issue) (eqb-true e.account a (and_left _ _ h)) p)
+at_place P a c e h1 h2 = grind (arith, bytes_eq-Decides)
 
 -- what is not refused as too large is within the limits
 not_beyond : (a : ℕ) (q : ℤ) (b s : ℕ) → (nat_lt corporation a && is_beyond q b s) ≡ false → 1 ≤ a → IsWithin q b s
@@ -96,12 +93,7 @@ within-whole opening J x all still fails w a c m =
 
 -- a trade that waits elsewhere changes nothing at a place
 waits_elsewhere : (p : Pend) (ps : List Pend) (a : Account) (c : Cusip) → list_any (is_of a c) (trade_entries p) ≡ false → (bought_in (p ∷ ps) a c ≡ bought_in ps a c) × (sold_in (p ∷ ps) a c ≡ sold_in ps a c)
-waits_elsewhere p ps a c h =
-    let buyer = neither (is_of a c (buyer_entry p)) _ h in
-    let seller = neither (is_of a c (seller_entry p)) false buyer.1 in
-    let bought : bought_in (p ∷ ps) a c ≡ 0 + bought_in ps a c = sum_by-cons (bought_by a c) p ps ∙ ap (λ b. cond b p.shares 0 + bought_in ps a c) buyer.0 in
-    let sold : sold_in (p ∷ ps) a c ≡ 0 + sold_in ps a c = sum_by-cons (sold_by a c) p ps ∙ ap (λ b. cond b p.shares 0 + sold_in ps a c) seller.0 in
-    (omega (arith, bought), omega (arith, sold))
+waits_elsewhere p ps a c h1 = grind arith
 
 -- a trade keeps each member within its limits, whether it books now or later
 within-trade : (opening : Day) (J : Journal) (t : Trade) → is_too_large opening J (activity.Trade t) ≡ false → AreWithin opening J → AreWithin opening (posting opening J (activity.Trade t) ∷ J)
@@ -139,8 +131,7 @@ few_long q n h1 h2 = grind arith
 
 -- a movement brings a position closer to zero, where it does so at the member's place
 moved_if : (t : Bool) (s q : ℤ) → (t ≡ true → IsCloser (q +ℤ s) q) → IsCloser ((cond t s (pos 0) +ℤ (pos 0 +ℤ pos 0)) +ℤ q) q
-moved_if true s q h = grind arith
-moved_if false s q h = as_close _ q (omega (arith, ints))
+moved_if t s q h1 = grind arith
 
 -- a delivery keeps each member within its limits
 within-deliver : (opening : Day) (J : Journal) (m : Movement) → NoneHolds (rules opening J (activity.Deliver m)) → AreWithin opening J → AreWithin opening (posting opening J (activity.Deliver m) ∷ J)
@@ -170,8 +161,7 @@ ready opening J x h = let fails = all_fail (rules opening J (activity.Execute x)
 
 -- an execution keeps each member within its limits
 within-execute : (opening : Day) (J : Journal) (x : Execution) → IsWhole opening J → AreWithin opening J → (o : Option Notice) → IfSome o (IsExecutable J x) → (a : Account) (c : Cusip) → 1 ≤ a → IsWithin (total (shares_for a c) (option_map_or (execution_entries J x) o []) +ℤ position J a c) (bought_in (pending opening J) a c) (sold_in (pending opening J) a c)
-within-execute opening J x whole w None h a c m = nothing (pos 0) (position J a c) _ _ refl (w a c m)
-within-execute opening J x whole w (Some k) h a c m = grind (arith, executed_closer, each_found)
+within-execute opening J x h1 h2 o h3 a c h4 = grind (arith, executed_closer, each_found)
 
 -- ---- a close
 

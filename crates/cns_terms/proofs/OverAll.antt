@@ -44,9 +44,7 @@ none_above b i c z (d ∷ cs) e h =
 
 -- a number given to one issue, with what is given to those after it
 one_term : (b t : Bool) (z : ℤ) (n : ℕ) → (t ≡ true → n ≡ 0) → n ≤ unsigned_abs z → unsigned_abs (cond (b && t) z (pos 0)) + n ≤ unsigned_abs z
-one_term true true z n none h = let e = none refl in omega (arith, e)
-one_term true false z n none h = omega (arith, h)
-one_term false t z n none h = omega (arith, h)
+one_term b t z n h1 h2 = grind arith
 
 -- a number given to one of the issues
 pub one_issue : (b : Bool) (i : Cusip) (z : ℤ) (cs : List Cusip) → is_rising (slice_cmp nat_cmp) cs ≡ true → added (λ c. unsigned_abs (cond (b && bytes_eq i c) z (pos 0))) cs ≤ unsigned_abs z

@@ -1,7 +1,7 @@
 -- What a division that is cut towards zero leaves.
-use Rattle.std.proofs.Common.{◌≡◌, subst, ℕ, ◌≤◌, ◌<◌, ℤ, pos, ◌-ℤ◌, ◌*ℤ◌, int_div, int_rem, arith, unsigned_abs}
+use Rattle.std.proofs.Common.{◌≡◌, ℕ, ◌≤◌, ℤ, pos, ◌-ℤ◌, ◌*ℤ◌, int_div, int_rem, arith, unsigned_abs}
 use Rattle.cns_terms.specs.Common.{Ratio}
-use Rattle.std.proofs.lemmas.Int.{ints, rem_below}
+use Rattle.std.proofs.lemmas.Int.{ints}
 use Rattle.cns_terms.specs.Conversions.{fraction}
 
 -- the rest is what the quotient times the divisor lacks
@@ -14,6 +14,4 @@ quotient_few z n = grind arith
 
 -- the cut leaves less than a new share
 pub fraction_few : (q : ℤ) (r : Ratio) → 1 ≤ r.old → unsigned_abs (fraction r q) ≤ r.old
-fraction_few q r h =
-    let few : unsigned_abs (int_rem (q *ℤ pos r.new) (pos r.old)) < r.old = rem_below (q *ℤ pos r.new) (pos r.old) h in
-    subst (λ (z : ℤ). unsigned_abs z ≤ r.old) (rest_of (q *ℤ pos r.new) (pos r.old)) (omega (arith, few))
+fraction_few q r h1 = grind (arith, ints)

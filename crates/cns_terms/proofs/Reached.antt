@@ -1,9 +1,8 @@
 -- What is so of each journal that commands reach.
-use Rattle.std.proofs.Common.{◌≡◌, ap, ℕ, ◌+◌, ◌*◌, ◌≤◌, ◌<◌, ℤ, pos, ◌+ℤ◌, true, List, [], ◌∷◌, length, is_none, Option, None, arith, filter_map, unsigned_abs, is_lt, nat_cmp}
+use Rattle.std.proofs.Common.{◌≡◌, ap, ℕ, ◌+◌, ◌*◌, ◌≤◌, ◌<◌, ℤ, pos, ◌+ℤ◌, true, List, [], ◌∷◌, length, is_none, arith, filter_map, unsigned_abs, is_lt, nat_cmp}
 use Rattle.cns_terms.specs.Common.{Activity, AllByRecursion, Command, Cusip, Day, Declared, IsInRange, IsReached, Journal, State, account_lt, accounts, activities, after, booking_limit, closings, corporation_limit, dividends, journal, member_limit, members, next, opened, position_limit, posting, rate_limit, total}
 use Rattle.std.proofs.lemmas.Bool.Decides.{nat_tests}
 use Rattle.std.proofs.lemmas.Int.{ints}
-use Rattle.cns_terms.specs.declared.refusal.Refusal.{Refusal}
 use Rattle.cns_terms.specs.Laws.{Bounds, IsBounded, Reaches}
 use Rattle.cns_terms.specs.Listings.{added}
 use Rattle.cns_terms.specs.Positions.{position}
@@ -132,10 +131,6 @@ bounded opening J c l =
     }
 
 -- ---- any commands
-
--- no refusal, told by a test
-none : (o : Option Refusal) → is_none o ≡ true → o ≡ None
-none o h1 = grind arith
 
 reached-next : (S : State) (cmd : Command) → IsCommandInRange cmd → IsReached S.opening S.accepted → IsReached S.opening (next S cmd).accepted
 reached-next S cmd h1 h2 = grind arith

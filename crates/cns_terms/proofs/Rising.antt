@@ -1,5 +1,5 @@
 -- Lists that strictly rise.
-use Rattle.std.proofs.Common.{◌≡◌, ap, refl, Bool, true, false, ◌&&◌, cond, List, [], ◌∷◌, is_eq, is_lt, Ordering, Less, Greater}
+use Rattle.std.proofs.Common.{◌≡◌, ap, refl, Bool, true, false, ◌&&◌, cond, List, [], ◌∷◌, is_eq, is_lt, Ordering, Less}
 use Rattle.cns_terms.specs.Common.{IsTotalOrder, list_any}
 use Rattle.cns_terms.specs.Sums.{put}
 use Rattle.cns_terms.proofs.Facts.{and_left, and_right, both_true, less, neither}
@@ -14,9 +14,6 @@ above_all R x (y ∷ ys) = is_lt (R x y) && above_all R x ys
 abbrev pub is_rising : {K : Type 0} → (K → K → Ordering) → List K → Bool
 is_rising R [] = true
 is_rising R (x ∷ xs) = above_all R x xs && is_rising R xs
-
-greater : (r : Ordering) → is_lt r ≡ false → is_eq r ≡ false → r ≡ Greater
-greater r h1 h2 = grind arith
 
 module _ {K : Type 0} {R : K → K → Ordering} (o : IsTotalOrder R) where
   -- what comes before one that comes before all comes before all
@@ -33,8 +30,7 @@ module _ {K : Type 0} {R : K → K → Ordering} (o : IsTotalOrder R) where
   above_put y x (z ∷ zs) p h = above_branch (is_lt (R x z)) y x z zs (put (λ a b. is_lt (R a b)) x zs) p (and_left _ _ h) (and_right _ _ h) (above_put y x zs p (and_right _ _ h))
 
   rising_branch : (b : Bool) (x y : K) (ys : List K) → is_lt (R x y) ≡ b → is_eq (R x y) ≡ false → above_all R y ys ≡ true → is_rising R ys ≡ true → is_rising R (put (λ a b. is_lt (R a b)) x ys) ≡ true → is_rising R (cond b (x ∷ y ∷ ys) (y ∷ put (λ a b. is_lt (R a b)) x ys)) ≡ true
-  rising_branch true x y ys l e above rising rest = grind (arith, above_through)
-  rising_branch false x y ys l e above rising rest = grind (arith, above_put)
+  rising_branch b x y ys h1 h2 h3 h4 h5 = grind (arith, above_through, above_put)
 
   -- a list in order to which one is added that does not stand in it
   pub rising_put : (x : K) (ys : List K) → is_rising R ys ≡ true → list_any (λ y. is_eq (R x y)) ys ≡ false → is_rising R (put (λ a b. is_lt (R a b)) x ys) ≡ true

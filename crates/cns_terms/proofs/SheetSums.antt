@@ -1,9 +1,6 @@
 -- The sheets of closed days add up to zero.
-use Rattle.std.proofs.Common.{◌≡◌, ℤ, pos, ◌+ℤ◌, Bool, true, false, not, cond, ◌&&◌, ◌==◌, unwrap_or, Option, Some, None, List, [], ◌∷◌, map, filter, flat_map, refl, ◌∙◌, ap, subst, arith, int_eq, option_map}
+use Rattle.std.proofs.Common.{◌≡◌, ℤ, pos, ◌+ℤ◌, Bool, false, not, cond, ◌==◌, unwrap_or, Option, Some, None, List, [], ◌∷◌, map, filter, flat_map, refl, ◌∙◌, ap, subst, arith, option_map}
 use Rattle.cns_terms.specs.Common.{Account, Cusip, Day, DaySheet, Journal, Row, accounts, at_close, closed_on, closings, date, day, day_sheet, dividend, is_idle, is_same_day, issues, journal, last_close, mark, open_day, price, row, rows_of, total}
-use Rattle.std.specs.Cmp.{signed_Decides}
-use Rattle.std.proofs.lemmas.Int.{ints}
-use Rattle.std.proofs.lemmas.Bool.{and_parts, not-false}
 use lib.IntN.{zero-*ℤ}
 use Rattle.cns_terms.specs.Laws.{AddsUpToZero, Positions, ZeroSums}
 use Rattle.cns_terms.proofs.Paid.{dividends_zero}
@@ -16,21 +13,12 @@ pub total-flat_map : {X Y : Type 0} (f : Y → ℤ) (g : X → List Y) (xs : Lis
 total-flat_map f g [] = refl
 total-flat_map f g (x ∷ xs) = total-append f (g x) (flat_map g xs) ∙ ap (λ n. total f (g x) +ℤ n) (total-flat_map f g xs)
 
-is_zero : (z : ℤ) → int_eq z (pos 0) ≡ true → z ≡ pos 0
-is_zero z h = (signed_Decides z (pos 0)).0 h
-
 pub kept_or_not : {X : Type 0} (f : X → ℤ) (b : Bool) (x : X) (xs : List X) → (b ≡ false → f x ≡ pos 0) → total f (cond b (x ∷ xs) xs) ≡ f x +ℤ total f xs
-kept_or_not f true x xs h = refl
-kept_or_not f false x xs h = let e = h refl in omega (arith, ints)
+kept_or_not f b x xs h1 = grind arith
 
 -- an idle row has no mark and no dividend
 pub idle_parts : (r : Row) → not (is_idle r) ≡ false → (r.opening ≡ pos 0) × (r.closing ≡ pos 0) × (r.money ≡ pos 0) × (r.dividend ≡ pos 0)
-idle_parts r h =
-    let all = not-false (is_idle r) h in
-    let three = and_parts (int_eq r.opening (pos 0) && int_eq r.closing (pos 0) && int_eq r.money (pos 0)) (int_eq r.dividend (pos 0)) all in
-    let two = and_parts (int_eq r.opening (pos 0) && int_eq r.closing (pos 0)) (int_eq r.money (pos 0)) three.0 in
-    let one = and_parts (int_eq r.opening (pos 0)) (int_eq r.closing (pos 0)) two.0 in
-    (is_zero r.opening one.0, is_zero r.closing one.1, is_zero r.money two.1, is_zero r.dividend three.1)
+idle_parts r h1 = grind arith
 
 no_mark : (opening : Day) (K : Journal) (a : Account) (c : Cusip) → not (is_idle (row opening K a c)) ≡ false → mark K a c ≡ pos 0
 no_mark opening K a c h =

@@ -1,13 +1,13 @@
 -- What accepted commands keep true of the journal.
-use Rattle.std.proofs.Common.{◌≡◌, ℕ, ◌+◌, ◌≤◌, ℤ, pos, ◌-ℤ◌, neg_ℤ, Bool, true, false, not, cond, ◌&&◌, ◌==◌, List, [], ◌∷◌, find, length, map, is_none, Option, Some, None, flat_map, refl, sym, ◌∙◌, ap, arith, IfSome, bytes_eq, filter_map, int_lt, is_lt, nat_cmp, eqb-true}
-use Rattle.cns_terms.specs.Common.{Account, Activity, AllByRecursion, Command, Cusip, Day, Entry, Execution, Journal, Notice, Pend, Posting, Rule, State, accounts, activities, after, against_corporation, at_close, closings, converted, corporation, date, day, day_number, entries, entry, execution_entries, fill_entry, fills, first_refusal, holders, in_exchange, in_lieu, is_listed, is_member, is_not_after, issue_lt, issues, journal_of, last_close, list_any, members, new_entry, next, notice, notice_at, notices, old_entry, opened, option_map_or, pend_of, posting, price, priced, slice_cmp, trade_entries, trades}
+use Rattle.std.proofs.Common.{◌≡◌, ℕ, ◌+◌, ◌≤◌, ℤ, pos, ◌-ℤ◌, neg_ℤ, Bool, true, false, not, cond, ◌&&◌, ◌==◌, List, [], ◌∷◌, length, map, is_none, Option, Some, None, flat_map, refl, ◌∙◌, arith, IfSome, int_lt, is_lt, nat_cmp}
+use Rattle.cns_terms.specs.Common.{Account, Activity, AllByRecursion, Command, Cusip, Day, Entry, Execution, Journal, Notice, Pend, Posting, Rule, State, accounts, after, against_corporation, at_close, closings, converted, corporation, date, day, day_number, entries, entry, execution_entries, fill_entry, fills, first_refusal, holders, in_exchange, in_lieu, is_listed, is_member, is_not_after, issues, journal_of, last_close, list_any, members, new_entry, next, notice, notice_at, notices, old_entry, opened, option_map_or, pend_of, posting, price, slice_cmp, trade_entries, trades}
 use Rattle.std.proofs.lemmas.Bool.Decides.{nat_tests}
 use Rattle.std.proofs.lemmas.Bool.{not-false}
 use Rattle.std.proofs.lemmas.Slice.Eq.{bytes_eq-Decides}
 use Rattle.std.proofs.lemmas.Cmp.{nat_cmp_total, nat_list_cmp_total}
 use Rattle.cns_terms.specs.Positions.{position}
 use Rattle.cns_terms.specs.Refusals.{rules}
-use Rattle.cns_terms.proofs.Facts.{and_left, and_right, both_true, later, less_less, nat_eq_test, neither, price_branch, same_test}
+use Rattle.cns_terms.proofs.Facts.{and_left, and_right, both_true, later, less_less, nat_eq_test, neither, same_test}
 use Rattle.cns_terms.proofs.Accounts.{occurs, occurs-put, occurs_found, occurs_missing}
 use Rattle.cns_terms.proofs.BuyIns.{each_named, fills_each}
 use Rattle.cns_terms.proofs.EntrySums.{entries_for}
@@ -15,7 +15,6 @@ use Rattle.cns_terms.proofs.Everywhere.{any_put, each_append, each_filter, each_
 use Rattle.cns_terms.proofs.Rising.{above_put, is_rising, rising_put}
 use Rattle.cns_terms.proofs.ZeroSums.{AreKnown, AreOf}
 use Rattle.cns_terms.specs.declared.command.Activity.TheVariants as activity
-use Rattle.cns_terms.specs.declared.command.Command.TheVariants as command
 
 -- a number is one of the accounts
 abbrev pub IsIn : Journal → ℕ → Type 0
@@ -175,8 +174,7 @@ held_in : (J : Journal) (es : List Entry) → AreOf (accounts J) es → AreIn J 
 held_in J es h = each_weaker (λ (e : Entry). occurs e.account (accounts J) ≡ 1) (λ e. IsIn J e.account) es (λ e p. omega arith) h
 
 distinct-post : (opening : Day) (J : Journal) (x : Activity) → IsSound J → NoneHolds (rules opening J x) → (a : ℕ) → occurs a (accounts (posting opening J x ∷ J)) ≤ 1
-distinct-post opening J (activity.Member m) s h a = grind (arith, all_fail, occurs_missing, occurs-put, eqb-true)
-distinct-post opening J _ s h a = s.distinct a
+distinct-post opening J x h1 h2 a = grind (arith, occurs_missing, occurs-put)
 
 -- ---- one more activity: the order, and listed issues
 
@@ -207,13 +205,7 @@ still_listed : (opening : Day) (J : Journal) (x : Activity) (es : List Entry) �
 still_listed opening J x es h = each_weaker (λ (e : Entry). is_listed J e.issue ≡ true) (λ e. is_listed (posting opening J x ∷ J) e.issue ≡ true) es (λ e p. listed-post opening J x e.issue p) h
 
 unpriced-post : (opening : Day) (J : Journal) (x : Activity) → IsSound J → NoneHolds (rules opening J x) → (c : Cusip) → is_listed (posting opening J x ∷ J) c ≡ false → price (posting opening J x ∷ J) c ≡ 0
-unpriced-post opening J (activity.Issue l) s h c none =
-    let apart = neither (bytes_eq l.issue c) (is_listed J c) (sym (any_put (λ d. bytes_eq d c) issue_lt l.issue (issues J)) ∙ none) in
-    price_branch (bytes_eq l.issue c) l (find (λ l. bytes_eq l.issue c) (filter_map priced (activities J)))
-    ∙ ap (λ b. cond b l.price (price J c)) apart.0 ∙ s.unpriced c apart.1
-unpriced-post opening J (activity.Price l) s h c none = grind (arith, bytes_eq-Decides)
-unpriced-post opening J (activity.Member m) s h c none = s.unpriced c none
-unpriced-post opening J _ s h c none = s.unpriced c none
+unpriced-post opening J x h1 h2 c h3 = grind (arith, any_put, bytes_eq-Decides)
 
 -- notices stay as they were given
 still_noticed : (opening : Day) (J : Journal) (x : Activity) → IsSound J → AllByRecursion (IsNoticed (posting opening J x ∷ J)) (notices J)
@@ -288,9 +280,7 @@ whole-post opening J x w h =
     }
 
 pub whole-next : (S : State) (cmd : Command) → IsWhole S.opening (journal_of S) → IsWhole S.opening (journal_of (next S cmd))
-whole-next S (command.Activity x) w = grind (arith, whole-post)
-whole-next S (command.Position k) w = w
-whole-next S (command.Statement a d) w = w
+whole-next S cmd h1 = grind (arith, whole-post)
 
 pub whole_nil : {opening : Day} → IsWhole opening []
 whole_nil = record { now = sound_nil; past = tt; earlier = tt }

@@ -1,16 +1,15 @@
 -- The checks of trades.
 -- For `is_in_time` and `check_trade` of trades.rt.
-use Rattle.std.proofs.Common.{◌≡◌, refl, ◌≤◌, ◌^◌, ◌<◌, FitsSigned, of_z, to_z, ℤ, pos, ◌-ℤ◌, Bool, true, false, not, ◌&&◌, ◌||◌, ◌==◌, cond, List, [], ◌∷◌, Some, Ok, Err, arith, w64, int_le, unsigned_abs}
-use Rattle.cns_terms.proofs.Common.{Day, day_number, fits_signed_from_abs, ints, is_not_after, is_past, is_too_far, pend_of, position_limit, trade_entries}
+use Rattle.std.proofs.Common.{◌≡◌, refl, ◌≤◌, ◌^◌, ◌<◌, FitsSigned, of_z, to_z, ℤ, pos, ◌-ℤ◌, Bool, true, false, not, ◌&&◌, ◌||◌, ◌==◌, List, Some, arith, w64, int_le, unsigned_abs}
+use Rattle.cns_terms.proofs.Common.{Day, day_number, fits_signed_from_abs, ints, is_not_after, is_past, is_too_far, pend_of, position_limit}
 use Rattle.std.proofs.lemmas.Int.{to_z-of_z}
 use mir.Val.{hbits}
 use lib.Signed.{mag}
 use Rattle.cns_terms.specs.declared.command.Trade.{Trade}
 use Rattle.cns_terms.specs.declared.pend.Pend.{Pend}
-use Rattle.cns_terms.specs.declared.refusal.Refusal.TheVariants.{TooLarge}
 use Rattle.cns_terms.specs.Refusals.{days_ahead}
 use Rattle.cns_trades.specs.declared.facts.TradeFacts.{TradeFacts}
-use Rattle.cns_trades.specs.Checks.{book_answer, books_beyond, party, refusal_or, trade_answer}
+use Rattle.cns_trades.specs.Checks.{book_answer, party, trade_answer}
 
 -- the days on which a trade may settle, by numbers
 pub in_time : (d today : Day) → (int_le (pos 0) (day_number d -ℤ day_number today) && int_le (day_number d -ℤ day_number today) (pos days_ahead)) ≡ not (is_past d today || is_too_far d today)
@@ -32,8 +31,4 @@ failed false h = refl
 -- a trade that nothing else refuses and whose date has come
 pub books_now : (f : TradeFacts) (ps : List Pend) (seen : Bool) (t : Trade) (p q : ℤ) → f.buyer ≡ Some p → f.seller ≡ Some q → f.listed ≡ true → f.retired ≡ false → (t.buyer == t.seller) ≡ false → (is_past t.date f.today || is_too_far t.date f.today) ≡ false → seen ≡ false → is_not_after t.date f.today ≡ true
     → book_answer (party ps p t.buyer t.issue) (party ps q t.seller t.issue) (pend_of t) ≡ trade_answer f ps seen t
-books_now f ps seen t p q buyer seller listed retired apart day fresh now = rw (buyer, seller, listed, retired, apart, day, fresh, now) (by (books_beyond (party ps p t.buyer t.issue) (party ps q t.seller t.issue) (pend_of t)))
-  where
-    by : (b : Bool) → cond b (Err TooLarge) (Ok (Some (trade_entries (pend_of t)))) ≡ refusal_or ((TooLarge, b) ∷ []) (Some (trade_entries (pend_of t)))
-    by true = refl
-    by false = refl
+books_now f ps seen t p q buyer seller listed retired apart day fresh now = grind arith

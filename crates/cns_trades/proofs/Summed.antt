@@ -1,7 +1,7 @@
 -- Sums of sides by key.
 -- For `take`, `add` and `open` of sides.rt, `waits_in` of pending.rt and others.
-use Rattle.std.proofs.Common.{◌≡◌, ◌∙◌, sym, ap, subst, refl, ℕ, ◌+◌, ◌-◌, ◌≤◌, Bool, true, false, cond, Option, Some, None, unwrap_or, is_some, ◌*◌, ◌^◌, ◌<◌, ◌&&◌, ◌||◌, ◌==◌, List, ◌∷◌, ◌++◌, append-nil, drop, drop-cons, take, filter, get_or, length, add-one, arith, bytes_eq, take_all, is_eq}
-use Rattle.cns_terms.proofs.Common.{AllByRecursion, Cusip, added-each, bought_by, bytes_eq-Decides, drop_all, each_weaker, equal, exact_keys, key_cmp, keys_total, lookup, same_issue, same_key, shares_limit, sold_by, tied_itself, waits_in}
+use Rattle.std.proofs.Common.{◌≡◌, ◌∙◌, sym, ap, subst, refl, ℕ, ◌+◌, ◌≤◌, Bool, true, false, cond, Option, Some, None, unwrap_or, is_some, ◌*◌, ◌^◌, ◌<◌, ◌&&◌, ◌||◌, ◌==◌, List, ◌∷◌, ◌++◌, append-nil, drop, drop-cons, take, filter, get_or, length, add-one, arith, take_all, is_eq}
+use Rattle.cns_terms.proofs.Common.{AllByRecursion, Cusip, added-each, bytes_eq-Decides, drop_all, each_weaker, equal, exact_keys, key_cmp, keys_total, lookup, same_issue, same_key, shares_limit, tied_itself, waits_in}
 use Rattle.cns_terms.specs.declared.holding.Key.{Key}
 use Rattle.cns_terms.specs.declared.pend.Pend.{Pend}
 use Rattle.cns_terms.proofs.Waiting.{bought_added, sold_added}
@@ -22,11 +22,7 @@ same_there es key k e = ap (sides_at es) (exact_keys key k (equal _ e))
 
 -- what f makes of the sums at one key
 pub put_at : (f : Sides → Sides) (old new : SidesByKey) (key : Key) (o : Option Sides) → Puts old new key o → unwrap_or o no_sides ≡ f (sides_at old key) → (k : Key) → sides_at new k ≡ cond (is_eq (key_cmp key k)) (f (sides_at old k)) (sides_at old k)
-put_at f old new key o h is k = ap (λ o. unwrap_or o no_sides) (h k) ∙ by (is_eq (key_cmp key k)) refl
-  where
-    by : (b : Bool) → is_eq (key_cmp key k) ≡ b → unwrap_or (cond b o (found old k)) no_sides ≡ cond b (f (sides_at old k)) (sides_at old k)
-    by true e = is ∙ ap f (same_there old key k e)
-    by false e = refl
+put_at f old new key o h is k = grind (arith, same_there)
 
 -- no sums at a key: what f makes of nothing is nothing
 pub none_at : (f : Sides → Sides) (es : SidesByKey) (key : Key) → found es key ≡ None → f no_sides ≡ no_sides → (k : Key) → sides_at es k ≡ cond (is_eq (key_cmp key k)) (f (sides_at es k)) (sides_at es k)
@@ -48,19 +44,11 @@ opened_at old new key h none k = put_at (λ s. no_sides) old new key (Some no_si
 
 -- there is room where there was, and where something is put
 pub has_put : (old new : SidesByKey) (key : Key) (s : Sides) → Puts old new key (Some s) → (k : Key) → has_sides old k ≡ true → has_sides new k ≡ true
-has_put old new key s h k is = ap is_some (h k) ∙ by (is_eq (key_cmp key k))
-  where
-    by : (b : Bool) → is_some (cond b (Some s) (found old k)) ≡ true
-    by true = refl
-    by false = is
+has_put old new key s h k is = grind arith
 
 -- no room, and nothing there
 pub has_none : (es : SidesByKey) (k : Key) → has_sides es k ≡ false → found es k ≡ None
-has_none es k h = by (found es k) h
-  where
-    by : (o : Option Sides) → is_some o ≡ false → o ≡ None
-    by None h = refl
-    by (Some s) h = cc
+has_none es k h = grind arith
 
 -- sums that are the same on both sides
 sides_same : (s t : Sides) → s.bought ≡ t.bought → s.sold ≡ t.sold → s ≡ t
@@ -76,14 +64,7 @@ less_itself s = sides_same _ _ (omega arith) (omega arith)
 
 -- nothing less what is no more
 pub less_nothing : (es : SidesByKey) (k : Key) (d : Sides) → found es k ≡ None → d.bought ≤ (sides_at es k).bought → d.sold ≤ (sides_at es k).sold → less no_sides d ≡ no_sides
-less_nothing es k d none b s =
-    let here : sides_at es k ≡ no_sides = ap (λ o. unwrap_or o no_sides) none in
-    let bought : d.bought ≤ 0 = subst (λ (t : Sides). d.bought ≤ t.bought) here b in
-    let sold : d.sold ≤ 0 = subst (λ (t : Sides). d.sold ≤ t.sold) here s in
-    λ i. record { bought = none_left d.bought bought i; sold = none_left d.sold sold i }
-  where
-    none_left : (n : ℕ) → n ≤ 0 → 0 - n ≡ 0
-    none_left n h = omega (arith, h)
+less_nothing es k d none b s = grind arith
 
 -- ---- what trades add up to
 
@@ -114,14 +95,7 @@ taken_both false false n s = sides_same _ _ (omega arith) (omega arith)
 
 -- the trades' sums are as small as their number allows
 pub few_sides : (ps : List Pend) (k : Key) → AllByRecursion (λ (p : Pend). p.shares ≤ shares_limit) ps → ((sides_of ps k).bought ≤ shares_limit * length ps) × ((sides_of ps k).sold ≤ shares_limit * length ps)
-few_sides ps k small =
-    let bought = added-each (bought_by k.account k.issue) shares_limit ps (each_weaker (λ (p : Pend). p.shares ≤ shares_limit) (λ p. bought_by k.account k.issue p ≤ shares_limit) ps (λ p h. one ((p.buyer == k.account) && same_issue p.issue k.issue) p.shares h) small) in
-    let sold = added-each (sold_by k.account k.issue) shares_limit ps (each_weaker (λ (p : Pend). p.shares ≤ shares_limit) (λ p. sold_by k.account k.issue p ≤ shares_limit) ps (λ p h. one ((p.seller == k.account) && same_issue p.issue k.issue) p.shares h) small) in
-    (omega (arith, bought_added ps k.account k.issue, bought), omega (arith, sold_added ps k.account k.issue, sold))
-  where
-    one : (b : Bool) (n : ℕ) → n ≤ shares_limit → cond b n 0 ≤ shares_limit
-    one true n h = h
-    one false n h = omega arith
+few_sides ps k small = grind (arith, added-each, each_weaker, bought_added, sold_added)
 
 -- and so small that sums of them fit in 127 bits
 pub few_fits : (ps : List Pend) (es : SidesByKey) (k : Key) → AreSummed ps es → length ps < 2 ^ 63 → ((sides_at es k).bought < 2 ^ 127) × ((sides_at es k).sold < 2 ^ 127)
@@ -141,11 +115,7 @@ found_in ps i c p lt is same = ap (λ qs. waits_in qs c) (next_of ps i p lt is) 
 
 -- one in another is passed
 pub passed_in : (ps : List Pend) (i : ℕ) (c : Cusip) (p : Pend) (b : Bool) → i < length ps → p ≡ get_or ps i p → (p.issue ≡ c → b ≡ true) → b ≡ false → waits_in (drop i ps) c ≡ waits_in (drop (i + 1) ps) c
-passed_in ps i c p b lt is same other = ap (λ qs. waits_in qs c) (next_of ps i p lt is) ∙ ap (λ b. b || waits_in (drop (i + 1) ps) c) (by (bytes_eq p.issue c) refl)
-  where
-    by : (b : Bool) → bytes_eq p.issue c ≡ b → b ≡ false
-    by true e = let yes : b ≡ true = same ((bytes_eq-Decides p.issue c).0 e) in absurd (cc)
-    by false e = refl
+passed_in ps i c p b lt is same other = grind (arith, next_of, bytes_eq-Decides)
 
 -- in the end those are kept whose date is to come
 pub all_kept : (t : Pend → Bool) (ps : List Pend) (i : ℕ) → length ps ≤ i → filter t (take i ps) ++ drop i ps ≡ filter t ps

@@ -116,6 +116,7 @@ fn is_few(trades: &[Pend])
 }
 
 // Takes the trades out of the sums whose date has come at the close that names the next day.
+#[tactic(auto, using(crate::proofs::Summed::all_kept))]
 fn take_due<A: Allocator + Drop>(sums: &mut SideSums<A>, trades: &[Pend], next: Day)
     requires { (k : Key) → sides_at sums.old k ≡ sides_of trades.now k }
     ensures { (k : Key) → sides_at sums.new k ≡ sides_of (filter (λ p. not (is_due next p)) trades.now) k }
@@ -135,6 +136,7 @@ fn keep_later<A: Allocator>(trades: &mut Vec<Pend, A>, next: Day)
 }
 
 // Whether one of the trades is in an issue.
+#[tactic(auto, using(crate::proofs::Summed::found_in, crate::proofs::Summed::passed_in))]
 fn waits_in(trades: &[Pend], issue: &Cusip) -> bool
     ensures { result ≡ waits_in trades.now issue.now }
 {
@@ -182,6 +184,7 @@ impl<A: Allocator + Drop> Pending<A> {
 
     /// Adds a trade after the others, and uses its reference. Room is made for all of it first: where memory is refused
     /// neither is done.
+    #[tactic(auto, using(crate::proofs::Summed::few_fits))]
     pub(crate) fn push(
         &mut self,
         pend: &Pend,

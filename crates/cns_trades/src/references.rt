@@ -38,6 +38,7 @@ fn has_bit(bits: u64, place: u64) -> bool
 }
 
 // A page of bits with the one at a place.
+#[tactic(auto, using(crate::proofs::Pages::bit_more))]
 fn with_bit(bits: u64, place: u64) -> u64
     requires { place < 64 }
     ensures { (k : ℕ) → has_bit result k ≡ ((place == k) || has_bit bits k) }

@@ -1,8 +1,8 @@
-use Rattle.std.proofs.Common.{◌≡◌, ◌∙◌, ◌++◌, sym, ap, subst, unsigned_abs, ◌≤◌, flat_map}
-use Rattle.cns_actions.proofs.Common.{AllByRecursion, AreSmall, Holder, bookings_for, corporation, holding_at, member_bookings, oldest_of, opposite, position_limit}
+use Rattle.std.proofs.Common.{◌≡◌, ◌∙◌, ◌++◌, refl, unsigned_abs, ◌≤◌}
+use Rattle.cns_actions.proofs.Common.{bookings_for, corporation, has_position_or_age, holding_at, oldest_of, opposite, position_limit}
 use Rattle.cns_actions.proofs.BookingOrder.{bookings_next, small_bookings}
-use Rattle.cns_actions.proofs.Holders.{all_listed}
-use Rattle.cns_actions.proofs.Summing.{all_left}
+use Rattle.cns_actions.proofs.ByAccount.{each_listed, place}
+use Rattle.cns_actions.proofs.Skipping.{all_left}
 use Rattle.cns_actions.proofs.acting.all_bookings.Goals as goal
 
 pub loop-holder-init : goal.loop-holder-init
@@ -10,15 +10,14 @@ loop-holder-init g c =
     let R = g.P.Positions.rows c.args.positions.now in
     let x = c.args.action.now in
     let i = c.issue_of-issue.result in
-    let n = oldest_of (holding_at R (record { account = corporation; issue = i })) in
+    let n = oldest_of (holding_at R (place i corporation)) in
     let made : c.push_change.new.bookings.items ≡ bookings_for x corporation (opposite c.args.sum.now) n =
-    c.in_ok-push_change.ensures ∙ ap (λ bs. bs ++ bookings_for x corporation c.opposite.result c.corporation_age.result) c.new-bookings.ensures.items
-    ∙ (λ j. bookings_for x corporation (c.opposite.ensures.exact j) (c.corporation_age.ensures j)) in
-    record {
-      bookings = λ j. sym made j ++ flat_map (member_bookings x) (sym (all_left R i) j);
-      small = subst AreSmall (sym made) (subst (λ d. AreSmall (bookings_for x corporation d n)) c.opposite.ensures.exact (small_bookings x corporation c.opposite.result n c.opposite.ensures.few));
-      within = subst (AllByRecursion (λ (h : Holder). unsigned_abs h.shares ≤ position_limit)) (sym (all_left R i)) (all_listed R c.requires.order i c.requires.within).within;
-    }
+    c.in_ok-push_change.ensures ∙ (λ j. c.new-bookings.ensures.items j ++ bookings_for x corporation (c.opposite.ensures.exact j) (c.corporation_age.ensures j)) in
+    rw (made, all_left R c.requires.order i) (record {
+      bookings = refl;
+      small = small_bookings x corporation (opposite c.args.sum.now) n (rw c.opposite.ensures.exact at c.opposite.ensures.few);
+      within = each_listed has_position_or_age refl i R c.requires.order (λ h. unsigned_abs h.shares ≤ position_limit) (λ a le held. c.requires.within.members a i le);
+    })
 
 pub loop-holder-preserved : goal.loop-holder-preserved
 loop-holder-preserved g c =
@@ -26,5 +25,5 @@ loop-holder-preserved g c =
     record {
       bookings = bookings_next c.args.action.now _ l.bookings.items _ _ c.in-Some.holder _ c.in-Some.ensures.next l.invariant.bookings c.in_ok-push_member.ensures.bookings;
       small = c.in_ok-push_member.ensures.small;
-      within = (subst (AllByRecursion (λ (h : Holder). unsigned_abs h.shares ≤ position_limit)) c.in-Some.ensures.next l.invariant.within).1;
+      within = (rw c.in-Some.ensures.next at l.invariant.within).1;
     }

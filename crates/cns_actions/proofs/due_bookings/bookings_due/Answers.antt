@@ -1,5 +1,5 @@
+use Rattle.cns_actions.proofs.Common.{AreElsewhere}
 use Rattle.std.proofs.Common.{sym, subst}
-use Rattle.cns_actions.specs.Bookings.{AreElsewhere}
 use Rattle.cns_actions.proofs.due_bookings.bookings_due.Goals as goal
 
 pub returns-clause-others : goal.returns-clause-others

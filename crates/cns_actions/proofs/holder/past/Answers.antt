@@ -1,5 +1,4 @@
-use Rattle.cns_actions.proofs.Common.{keys_total}
-use Rattle.cns_terms.proofs.Finds.{not_itself}
+use Rattle.cns_actions.proofs.Common.{keys_total, not_itself}
 use Rattle.cns_actions.proofs.holder.past.Goals as goal
 
 pub returns-then-lt-clause-order : goal.returns-then-lt-clause-order

@@ -1,29 +1,23 @@
-use Rattle.std.proofs.Common.{◌≢◌, ◌∙◌, sym, subst}
-use Rattle.cns_actions.proofs.Common.{amount_at}
-use Rattle.cns_actions.specs.Bookings.{key_of}
-use Rattle.cns_actions.proofs.DueAmounts.{trade_bound, trade_room, trade_sums, where_ok}
+use Rattle.std.proofs.Common.{◌∙◌}
+use Rattle.std.proofs.lemmas.Result.{on_ok_weaker}
+use Rattle.cns_actions.proofs.Common.{amount_at, key_of}
+use Rattle.cns_actions.proofs.DueAmounts.{trade_bound, trade_room, trade_sums}
 use Rattle.cns_actions.proofs.due_amounts.DueAmounts.add_trade.Goals as goal
 
 pub add-requires-2-clause-room : goal.add-requires-2-clause-room
 add-requires-2-clause-room g c =
-    let b = c.buyer_entry in
-    let s = c.seller_entry in
-    let k = key_of s.result in
-    trade_room c.args.pend.now k b.result s.result b.ensures.entry s.ensures.entry (amount_at c.args.self.now k) (amount_at c.add.new.self k) (c.in_ok-add.ensures.amounts k) b.ensures.shares b.ensures.cents (c.requires k)
+    let b = c.buyer_entry.ensures in
+    let k = key_of c.seller_entry.result in
+    rw (c.in_ok-add.ensures.amounts k, b.entry, c.seller_entry.ensures.entry) (trade_room c.args.pend.now _ _ (rw b.entry at b.shares) (rw b.entry at b.cents) (rw c.seller_entry.ensures.entry at (c.requires k)))
 
 pub returns-clause-sums : goal.returns-clause-sums
-returns-clause-sums g c =
-    let b = c.buyer_entry in
-    let s = c.seller_entry in
-    where_ok c.add-2.result c.add-2.ensures.amounts (λ h k. trade_sums c.args.pend.now k b.result s.result b.ensures.entry s.ensures.entry (amount_at c.args.self.now k) (amount_at c.add.new.self k) (c.in_ok-add.ensures.amounts k) (amount_at c.add-2.new.self k) (h k))
+returns-clause-sums g c = on_ok_weaker c.add-2.result (λ h k. rw (h k, c.in_ok-add.ensures.amounts k, c.buyer_entry.ensures.entry, c.seller_entry.ensures.entry) (trade_sums c.args.pend.now k (amount_at c.args.self.now k))) c.add-2.ensures.amounts
 
 pub returns-clause-bound : goal.returns-clause-bound
 returns-clause-bound g c =
-    let b = c.buyer_entry in
-    let s = c.seller_entry in
-    where_ok c.add-2.result c.add-2.ensures.amounts (λ h k. trade_bound c.args.pend.now k b.result s.result b.ensures.entry s.ensures.entry (amount_at c.args.self.now k) (amount_at c.add.new.self k) (c.in_ok-add.ensures.amounts k) b.ensures.shares b.ensures.cents (amount_at c.add-2.new.self k) (h k))
+    let b = c.buyer_entry.ensures in
+    on_ok_weaker c.add-2.result (λ h k. rw (h k, c.in_ok-add.ensures.amounts k, b.entry, c.seller_entry.ensures.entry) (trade_bound c.args.pend.now k (amount_at c.args.self.now k) (rw b.entry at b.shares) (rw b.entry at b.cents))) c.add-2.ensures.amounts
 
 pub returns-clause-others : goal.returns-clause-others
 returns-clause-others g c =
-    where_ok c.add-2.result c.add-2.ensures.others (λ h k apart.
-    h k (subst (λ e. k ≢ key_of e) (sym c.seller_entry.ensures.entry) apart.1.0) ∙ c.in_ok-add.ensures.others k (subst (λ e. k ≢ key_of e) (sym c.buyer_entry.ensures.entry) apart.0))
+    on_ok_weaker c.add-2.result (λ h k apart. h k (rw c.seller_entry.ensures.entry apart.1.0) ∙ c.in_ok-add.ensures.others k (rw c.buyer_entry.ensures.entry apart.0)) c.add-2.ensures.others

@@ -1,6 +1,6 @@
-use Rattle.std.proofs.Common.{◌≡◌, ◌∙◌, None, Some, ◌≤◌, sym, ap, subst, refl, is_some, true≢false, IsSome}
+use Rattle.std.proofs.Common.{◌≡◌, ◌∙◌, None, Some, ◌≤◌, sym, ap, subst, refl, IsSome}
 use Rattle.cns_trades.specs.Sides.{less, no_sides, sides_at}
-use Rattle.cns_trades.proofs.Summed.{found, gone, less_itself, less_nothing, none_at, put_at}
+use Rattle.cns_trades.proofs.Summed.{found, less_nothing, none_at, put_at}
 use Rattle.cns_trades.proofs.sides.SideSums.take.Goals as goal
 
 pub returns-then-is_none-clause-sums : goal.returns-then-is_none-clause-sums
@@ -25,15 +25,3 @@ returns-clause-sums g c =
     (put_at (λ s. less s c.args.other.now) es (c.get_mut.follows.lender c.less-left.result).entries c.args.key (Some c.less-left.result)
     ((c.get_mut.follows.holds c.less-left.result).3 (subst (λ o. IsSome o) (c.in-Some.ensures.value) refl)).0
     (c.less-left.ensures ∙ ap (λ s. less s c.args.other.now) (c.at.ensures ∙ sym (ap (λ es. sides_at es c.args.key) c.self.view_is))))
-
-pub returns-then-is_none-clause-none : goal.returns-then-is_none-clause-none
-returns-then-is_none-clause-none g c same = gone c.self.inside.sums.entries c.remove.new.self.entries c.args.key c.remove.ensures.updates.0
-
-pub returns-in_default-clause-none : goal.returns-in_default-clause-none
-returns-in_default-clause-none g c same = rw c.get_mut.follows.holds-at-none (ap is_some (sym c.in_default.ensures.value))
-
-pub returns-clause-none : goal.returns-clause-none
-returns-clause-none g c same =
-    let left : less (sides_at c.args.self.now c.args.key) c.args.other.now ≡ no_sides = ap (λ s. less s c.args.other.now) same ∙ less_itself c.args.other.now in
-    let none : c.less-left.result ≡ no_sides = c.less-left.ensures ∙ ap (λ s. less s c.args.other.now) c.at.ensures ∙ left in
-    absurd (true≢false (sym (c.is_none.ensures.1 none) ∙ c.if-is_none.false))
