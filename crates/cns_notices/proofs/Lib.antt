@@ -1,5 +1,5 @@
 pub mod Places
-pub mod Listed
+pub mod Items
 pub mod Led
 pub mod Opens
 pub mod Ends

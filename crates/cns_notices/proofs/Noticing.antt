@@ -1,11 +1,13 @@
 -- What each activity makes of the notices, in the words of the list.
 -- For `count_by` of closed_days.rt in cns_book, `give_notice`, `withdraw_refusal` and `notice_refusal` of parts/notice.rt in cns_book and others.
-use Rattle.std.proofs.Common.{◌≡◌, ◌∙◌, ap, refl, ℕ, zero, suc, ◌+◌, ◌-◌, ◌≤◌, ◌<◌, Bool, cond, ◌&&◌, ◌==◌, List, [], ◌∷◌, ◌++◌, length, map, find, Some, arith, slice_get, bytes_eq}
-use Rattle.cns_notices.proofs.Common.{Cusip, Ended, Expired, Journal, Live, Movement, Notice, Noticed, Posting, Stage, Withdrawn, changed_at, day, each_weaker, ended, eqb_sym, execution, expired, first_reached, is_live, kept_notices, map-append, map_each, nat_list_eq_equiv, nat_tests, notice, notice_at, notices, receipt, receives, with_notice}
+use Rattle.std.proofs.Common.{◌≡◌, ◌∙◌, refl, ℕ, zero, suc, ◌+◌, ◌-◌, ◌≤◌, Bool, cond, ◌&&◌, ◌==◌, List, [], ◌∷◌, ◌++◌, length, map, map-id, find, Some, arith, slice_get, bytes_eq}
+use Rattle.cns_notices.proofs.Common.{Cusip, Ended, Expired, Journal, Live, Movement, Notice, Noticed, Posting, Stage, Withdrawn, changed_at, day, ended, eqb_sym, execution, expired, first_reached, is_live, kept_notices, map-append, nat_list_eq_equiv, nat_tests, notice, notice_at, notices, receipt, receives, with_notice}
+use Rattle.std.proofs.lemmas.Option.{slice_get-map}
+use Rattle.cns_notices.proofs.Items.{Changes, one_changed, same_changes}
 use Rattle.cns_terms.specs.declared.buy_in.Given.{Given}
 use Rattle.cns_terms.specs.declared.command.Activity.{Activity}
 use Rattle.cns_terms.specs.Notices.{stage_by}
-use Rattle.cns_notices.proofs.NoticeSteps.{AreNumberedFrom, each_given, given_now, numbered}
+use Rattle.cns_notices.proofs.NoticeSteps.{AreNumberedFrom, given_now, numbered}
 use Rattle.cns_notices.specs.Noticed.{executes, new_notice}
 use Rattle.cns_notices.specs.Kept.{kept}
 
@@ -21,36 +23,15 @@ touched x today k y =
     let n : Notice = record { number = k; given = y.given } in
     built y.given (first_reached y.stage (stage_by n today x)) (cond (is_live y.stage) (receipt n x) 0 + y.received) (execution n x + y.executed)
 
--- of all that were given
-all_next : (p : Posting) (J : Journal) → map (kept (p ∷ J)) (notices J) ≡ map (λ n. touched p.activity (day J) n.number (kept J n)) (notices J)
-all_next p J = grind (arith, map_each, each_weaker, each_given)
-
 -- an activity that does not touch it leaves a notice
 still : (y : Noticed) → built y.given (first_reached y.stage Live) (cond (is_live y.stage) 0 0 + y.received) (0 + y.executed) ≡ y
 still y = grind arith
 
 -- ---- by number
 
-module _ (f : Noticed → Noticed) (h : Notice → Noticed) where
-  -- the one with the number is changed
-  abbrev changed : ℕ → Notice → Noticed
-  changed k n = cond (k == n.number) (f (h n)) (h n)
-
-  others : (k j : ℕ) (ns : List Notice) → AreNumberedFrom j ns → k < j → map (changed k) ns ≡ map h ns
-  others k j [] a lt = refl
-  others k j (n ∷ ns) a lt = grind (arith, nat_tests, others k (suc j) ns a.1 (omega (arith, lt)))
-
-  -- and it stands at the place before its number
-  at_number : (i j k : ℕ) (ns : List Notice) → AreNumberedFrom j ns → k ≡ i + j → map (changed k) ns ≡ changed_at f i (map h ns)
-  at_number i j k [] a e = refl
-  at_number zero j k (n ∷ ns) a e = grind (arith, nat_tests, others k (suc j) ns a.1 (omega (arith, e)))
-  at_number (suc i) j k (n ∷ ns) a e = grind (arith, nat_tests, at_number i (suc j) k ns a.1 (omega (arith, e)))
-
 -- two changes that agree at the place
 pub changed_same : (f g : Noticed → Noticed) (i : ℕ) (xs : List Noticed) → ((x : Noticed) → slice_get xs i ≡ Some x → f x ≡ g x) → changed_at f i xs ≡ changed_at g i xs
-changed_same f g i [] h = refl
-changed_same f g zero (x ∷ xs) h = ap (λ y. y ∷ xs) (h x refl)
-changed_same f g (suc i) (x ∷ xs) h = ap (λ ys. x ∷ ys) (changed_same f g i xs h)
+changed_same f g i xs h = same_changes _ _ xs _ _ (one_changed f i xs) (one_changed g i xs) (λ j x at. grind (arith, nat_tests, h x))
 
 -- the notice with a number stands at the place before it
 found_at : (i j k : ℕ) (ns : List Notice) → AreNumberedFrom j ns → k ≡ i + j → find (λ n. n.number == k) ns ≡ slice_get ns i
@@ -63,27 +44,23 @@ notice_found J k h = found_at (k - 1) 1 k (notices J) (numbered J) (omega (arith
 
 -- ---- all notices, after each activity
 
--- two ways to work out the same kept notices
-mapped : (f : Noticed → Noticed) (g : Notice → Noticed) (ns : List Notice) → map (λ n. f (g n)) ns ≡ map f (map g ns)
-mapped f g [] = refl
-mapped f g (n ∷ ns) = rw (mapped f g ns) refl
-
-same : (f g : Notice → Noticed) → ((n : Notice) → f n ≡ g n) → (ns : List Notice) → map f ns ≡ map g ns
-same f g h [] = refl
-same f g h (n ∷ ns) = rw (h n, same f g h ns) refl
+at_its_number : (f : Noticed → Noticed) (x : Noticed) (k i : ℕ) → 1 ≤ k → cond (k == i + 1) (f x) x ≡ cond (k - 1 == i) (f x) x
+at_its_number f x k i le = grind (arith, nat_tests)
 
 module _ (J : Journal) (p : Posting) where
+  -- each as its number asks for
+  by_number : (f : ℕ → Noticed → Noticed) → ((k : ℕ) (y : Noticed) → touched p.activity (day J) k y ≡ f k y) → (j : ℕ) (ns : List Notice) → AreNumberedFrom j ns → length ns + j ≤ length (notices J) + 1 → Changes (λ i. f (i + j)) (map (kept J) ns) (map (kept (p ∷ J)) ns)
+  by_number f h j [] a le i = refl
+  by_number f h j (n ∷ ns) a le zero = grind (arith, nat_tests, h j (kept J n))
+  by_number f h j (n ∷ ns) a le (suc i) = grind (arith, by_number f h (suc j) ns a.1 (omega (arith, le)) i)
+
   -- one that changes each by itself
   pub changed_each : (f : Noticed → Noticed) → ((k : ℕ) (y : Noticed) → touched p.activity (day J) k y ≡ f y) → map (kept (p ∷ J)) (notices J) ≡ map f (kept_notices J)
-  changed_each f h = all_next p J ∙ same _ (λ n. f (kept J n)) (λ n. h n.number (kept J n)) (notices J) ∙ mapped f (kept J) (notices J)
-
-  -- an activity that touches none
-  pub untouched_by : ((k : ℕ) (y : Noticed) → touched p.activity (day J) k y ≡ built y.given (first_reached y.stage Live) (cond (is_live y.stage) 0 0 + y.received) (0 + y.executed)) → map (kept (p ∷ J)) (notices J) ≡ kept_notices J
-  untouched_by h = all_next p J ∙ same _ (kept J) (λ n. h n.number (kept J n) ∙ still (kept J n)) (notices J)
+  changed_each f h = same_changes _ (λ i. f) (kept_notices J) _ _ (by_number (λ k. f) h 1 (notices J) (numbered J) (omega arith)) (slice_get-map f (kept_notices J)) (λ i x at. refl)
 
   -- one that changes the notice with a number
   pub changed_one : (f : Noticed → Noticed) (k : ℕ) → 1 ≤ k → ((j : ℕ) (y : Noticed) → touched p.activity (day J) j y ≡ cond (k == j) (f y) y) → map (kept (p ∷ J)) (notices J) ≡ with_notice f k (kept_notices J)
-  changed_one f k le h = all_next p J ∙ same _ (changed f (kept J) k) (λ n. h n.number (kept J n)) (notices J) ∙ at_number f (kept J) (k - 1) 1 k (notices J) (numbered J) (omega (arith, le))
+  changed_one f k le h = same_changes _ _ (kept_notices J) _ _ (by_number (λ j y. cond (k == j) (f y) y) h 1 (notices J) (numbered J) (omega arith)) (one_changed f (k - 1) (kept_notices J)) (λ i x at. at_its_number f x k i le)
 
 -- a split, or an exchange of the issue
 pub ended_by : (c : Cusip) (y : Noticed) → built y.given (first_reached y.stage (cond (bytes_eq c y.given.issue) Ended Live)) (cond (is_live y.stage) 0 0 + y.received) (0 + y.executed) ≡ ended c y
@@ -111,4 +88,4 @@ executed_by b n y = grind arith
 -- a notice more
 pub notice_more : (p : Posting) (J : Journal) (m : Movement) → ((k : ℕ) (y : Noticed) → touched p.activity (day J) k y ≡ built y.given (first_reached y.stage Live) (cond (is_live y.stage) 0 0 + y.received) (0 + y.executed))
     → map (kept (p ∷ J)) (notices J ++ notice (length (notices J) + 1) (day J) m ∷ []) ≡ kept_notices J ++ new_notice (record { member = m.member; issue = m.issue; shares = m.shares; day = day J }) ∷ []
-notice_more p J m h = grind (arith, given_now, map-append, untouched_by)
+notice_more p J m h = grind (arith, given_now, map-append, changed_each J p (λ y. y) (λ k y. h k y ∙ still y), map-id)

@@ -1,19 +1,15 @@
 -- What changes of a tree's rows make of the holdings.
 -- For `first_rows`, `book`, `next_row` and `next_rows` of tree.rt and others.
-use Rattle.std.proofs.Common.{◌≡◌, ◌∙◌, ap, refl, Bool, true, false, is_some, ◌&&◌, cond, [], ◌∷◌, ◌++◌, Option, Some, None, MatchOption, unwrap_or, is_lt, filter}
-use Rattle.cns_positions.proofs.Common.{Holding, Key, Rows, closed_rows, filter-append, has_row, held_above, holding_at, is_held, key_cmp, rolled, zeros}
-use Rattle.std.specs.FinMap.{put, find}
+use Rattle.std.proofs.Common.{arith, ◌≡◌, refl, true, ◌&&◌, [], ◌∷◌, ◌++◌, Option, None, filter}
+use Rattle.cns_positions.proofs.Common.{Holding, Key, Rows, closed_rows, filter-append, has_row, held_above, holding_at, is_held, key_cmp, rolled}
+use Rattle.std.specs.FinMap.{put}
 use Rattle.cns_positions.specs.Rows.{is_above}
 use Rattle.cns_tree.specs.Changes.{ChangesAt, ChangesEach}
 use Rattle.cns_tree.specs.Search.{is_after}
 
 -- a change at a key that has a row is a put
 pub changed_at : {P : Holding → Holding → Type 0} (f : Holding → Holding) (es new : Rows) (k : Key) → has_row es k ≡ true → ((v w : Holding) → P v w → w ≡ f v) → ChangesAt P k es new → new ≡ put key_cmp k (f (holding_at es k)) es
-changed_at {P} f es new k there makes = by (find key_cmp k es) there
-  where
-    by : (o : Option Holding) → is_some o ≡ true → MatchOption o (new ≡ es) (λ v. (w : Holding) × P v w × (new ≡ put key_cmp k w es)) → new ≡ put key_cmp k (f (unwrap_or o zeros)) es
-    by None some h = cc
-    by (Some v) some (w, p, put_is) = put_is ∙ ap (λ x. put key_cmp k x es) (makes v w p)
+changed_at f es new k there makes h = grind (arith, makes)
 
 -- a change of each value that rolls it closes the rows
 pub rolled_each : {P : Holding → Holding → Type 0} (es new : Rows) → ((v w : Holding) → P v w → w ≡ rolled v) → ChangesEach P es new → new ≡ closed_rows es
@@ -26,17 +22,8 @@ rolled_each (r ∷ rs) (s ∷ ss) rolls (same, p, h) = λ i. (same i, rolls r.1 
 -- the rows above a key, without those of zeros, are those of the rows above it
 pub above_held : (rows : Rows) (after : Option Key) → held_above (filter (is_after after) rows) None ≡ held_above rows after
 above_held [] after = refl
-above_held (r ∷ rows) None = ap (λ h. cond (is_held r.1) (r ∷ h) h) (above_held rows None)
-above_held (r ∷ rows) (Some k) =
-    elim (is_lt (key_cmp k r.0)) as (λ b. held_above (cond b (r ∷ filter (is_after (Some k)) rows) (filter (is_after (Some k)) rows)) None ≡ cond (b && is_held r.1) (r ∷ held_above rows (Some k)) (held_above rows (Some k))) [
-      | true ↦ ap (λ h. cond (is_held r.1) (r ∷ h) h) (above_held rows (Some k))
-      | false ↦ above_held rows (Some k)
-    ]
+above_held (r ∷ rows) after = grind (arith, above_held rows after)
 
--- the rows that aren't zeros among rows with one more, which isn't
-pub held_push : (rows : Rows) (r : Key × Holding) (b : Bool) → is_held r.1 ≡ b → held_above (rows ++ r ∷ []) None ≡ held_above rows None ++ cond b (r ∷ []) []
-held_push rows r b is = filter-append (λ x. is_above None x.0 && is_held x.1) rows (r ∷ []) ∙ ap (λ c. held_above rows None ++ cond c (r ∷ []) []) is
-
--- and among two lists, one after the other
+-- the rows that aren't zeros among two lists, one after the other
 pub held_append : (rows more : Rows) → held_above (rows ++ more) None ≡ held_above rows None ++ held_above more None
 held_append rows more = filter-append (λ x. is_above None x.0 && is_held x.1) rows more

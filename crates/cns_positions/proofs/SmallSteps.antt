@@ -1,7 +1,7 @@
 -- Steps no larger than commands: their sums fit.
 -- For `check_steps` of positions.rt in cns_book_tests.
-use Rattle.std.proofs.Common.{ℕ, suc, ◌+◌, ◌*◌, ◌^◌, ◌≤◌, ℤ, pos, ◌+ℤ◌, ◌&&◌, ◌==◌, Bool, true, false, cond, List, [], ◌∷◌, length, arith, unsigned_abs}
-use Rattle.cns_positions.proofs.Common.{AllByRecursion, Key, Map, Step, StepFits, after_step, ints, nowhere, same_issue}
+use Rattle.std.proofs.Common.{ℕ, suc, ◌+◌, ◌*◌, ◌^◌, ◌≤◌, List, [], ◌∷◌, length, arith, unsigned_abs}
+use Rattle.cns_positions.proofs.Common.{AllByRecursion, Key, Map, Step, StepFits, after_step, ints, nowhere}
 use Rattle.cns_positions.specs.declared.steps.Step.TheVariants.{Get, Add, Roll}
 use Rattle.cns_positions.specs.Steps.{SumsFit}
 
@@ -16,26 +16,11 @@ record IsSmallMap (n : ℕ) (m : Map) : Type 0 where
   shares : (k : Key) → unsigned_abs (m k).now ≤ 10 ^ 9 * n
   cents : (k : Key) → unsigned_abs (m k).contract ≤ 10 ^ 18 * n
 
-more_shares : (b : Bool) (q s : ℤ) (n : ℕ) → unsigned_abs s ≤ 10 ^ 9 → unsigned_abs q ≤ 10 ^ 9 * n → unsigned_abs (q +ℤ cond b s (pos 0)) ≤ 10 ^ 9 * suc n
-more_shares true q s n p h = omega (arith, ints, p, h)
-more_shares false q s n p h = omega (arith, ints, p, h)
-
-more_cents : (b : Bool) (q s : ℤ) (n : ℕ) → unsigned_abs s ≤ 10 ^ 18 → unsigned_abs q ≤ 10 ^ 18 * n → unsigned_abs (q +ℤ cond b s (pos 0)) ≤ 10 ^ 18 * suc n
-more_cents true q s n p h = omega (arith, ints, p, h)
-more_cents false q s n p h = omega (arith, ints, p, h)
-
 small_after : (m : Map) (s : Step) (n : ℕ) → IsSmallStep s → IsSmallMap n m → IsSmallMap (suc n) (after_step m s)
-small_after m (Get q) n p h = record { shares = λ k. omega (arith, h.shares k); cents = λ k. omega (arith, h.cents k) }
-small_after m (Add q s c) n p h = record {
-  shares = λ k. more_shares ((q.account == k.account) && same_issue q.issue k.issue) (m k).now s n p.0 (h.shares k);
-  cents = λ k. more_cents ((q.account == k.account) && same_issue q.issue k.issue) (m k).contract c n p.1 (h.cents k);
-}
-small_after m Roll n p h = record { shares = λ k. omega (arith, h.shares k); cents = λ k. omega arith }
+small_after m s n p h = record { shares = λ k. grind (arith, ints, h.shares k); cents = λ k. grind (arith, ints, h.cents k) }
 
 step_fits : (m : Map) (s : Step) (n : ℕ) → n ≤ 2 ^ 32 → IsSmallStep s → IsSmallMap n m → StepFits m s
-step_fits m (Get q) n le p h = tt
-step_fits m (Add q s c) n le p h = (omega (arith, ints, p.0, h.shares q, le), omega (arith, ints, p.1, h.cents q, le))
-step_fits m Roll n le p h = tt
+step_fits m s n le p h = grind (arith, ints, h.shares, h.cents)
 
 fit_from : (m : Map) (ss : List Step) (n : ℕ) → n + length ss ≤ 2 ^ 32 → AllByRecursion IsSmallStep ss → IsSmallMap n m → SumsFit m ss
 unfolding SumsFit

@@ -1,32 +1,30 @@
 -- Steps, one after another.
 -- For `run` of steps.rt.
-use Rattle.std.proofs.Common.{◌≡◌, ◌∙◌, sym, ap, subst, ℕ, ◌+◌, ◌<◌, List, ◌∷◌, ◌++◌, append_assoc, length, drop, drop-cons, get_or, add-one}
+use Rattle.std.proofs.Common.{◌≡◌, ℕ, ◌+◌, ◌<◌, List, ◌∷◌, ◌++◌, append_assoc, length, drop, get_or, arith}
 use Rattle.cns_positions.proofs.Common.{Holding, Key, Map, Step, StepFits, after_step}
+use Rattle.std.proofs.lemmas.List.{drop_more}
 use Rattle.cns_positions.specs.Steps.{SumsFit, replies, reply_to}
 
 -- the steps that are left begin with the next one
 here : (ss : List Step) (i : ℕ) (s : Step) → i < length ss → s ≡ get_or ss i s → drop i ss ≡ s ∷ drop (i + 1) ss
-here ss i s lt there = rw add-one (drop-cons ss i s lt) ∙ ap (λ x. x ∷ drop (i + 1) ss) (sym there)
+here ss i s lt there = grind (arith, drop_more)
 
--- the sums of the next step fit, and then those of the steps after it
-pub fit-step : (m m' : Map) (ss : List Step) (i : ℕ) (s : Step) → i < length ss → s ≡ get_or ss i s → SumsFit m (drop i ss) → ((k : Key) → m' k ≡ after_step m s k) → SumsFit m' (drop (i + 1) ss)
-unfolding SumsFit
-fit-step m m' ss i s lt there fits same =
-    let map_is : m' ≡ after_step m s = λ j k. same k j in
-    let next : SumsFit m (s ∷ drop (i + 1) ss) = subst (SumsFit m) (here ss i s lt there) fits in
-    subst (λ f. SumsFit f (drop (i + 1) ss)) (sym map_is) next.1
+module _ (m : Map) (ss : List Step) (i : ℕ) (s : Step) (lt : i < length ss) (there : s ≡ get_or ss i s) where
+  -- the sums of the next step fit
+  pub next_fits : SumsFit m (drop i ss) → StepFits m s
+  unfolding SumsFit
+  next_fits fits = (rw (here ss i s lt there) at fits).0
 
-pub next_fits : (m : Map) (ss : List Step) (i : ℕ) (s : Step) → i < length ss → s ≡ get_or ss i s → SumsFit m (drop i ss) → StepFits m s
-unfolding SumsFit
-next_fits m ss i s lt there fits = let next : SumsFit m (s ∷ drop (i + 1) ss) = subst (SumsFit m) (here ss i s lt there) fits in next.0
+  module _ (m' : Map) (same : (k : Key) → m' k ≡ after_step m s k) where
+    map_is : m' ≡ after_step m s
+    map_is = λ j k. same k j
 
--- one step more is taken
-pub replies-step : (m m' : Map) (ss : List Step) (i : ℕ) (s : Step) (done : List Holding) (whole : List Holding) → i < length ss → s ≡ get_or ss i s → whole ≡ done ++ replies m (drop i ss) → ((k : Key) → m' k ≡ after_step m s k)
-    → whole ≡ (done ++ reply_to m s) ++ replies m' (drop (i + 1) ss)
-unfolding replies
-replies-step m m' ss i s done whole lt there is same =
-    let rest = drop (i + 1) ss in
-    let map_is : m' ≡ after_step m s = λ j k. same k j in
-    is ∙ ap (λ xs. done ++ replies m xs) (here ss i s lt there)
-    ∙ sym (append_assoc done (reply_to m s) (replies (after_step m s) rest))
-    ∙ ap (λ f. (done ++ reply_to m s) ++ replies f rest) (sym map_is)
+    -- and then those of the steps after it
+    pub fit-step : SumsFit m (drop i ss) → SumsFit m' (drop (i + 1) ss)
+    unfolding SumsFit
+    fit-step fits = rw map_is (rw (here ss i s lt there) at fits).1
+
+    -- one step more is taken
+    pub replies-step : (done whole : List Holding) → whole ≡ done ++ replies m (drop i ss) → whole ≡ (done ++ reply_to m s) ++ replies m' (drop (i + 1) ss)
+    unfolding replies
+    replies-step done whole is = rw map_is (cc (is, here ss i s lt there, append_assoc done (reply_to m s) (replies (after_step m s) (drop (i + 1) ss))))

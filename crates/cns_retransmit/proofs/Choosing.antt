@@ -1,77 +1,57 @@
 -- A loop that chooses the members of a batch.
 -- For `choose_ordered` of choice.rt.
-use Rattle.std.proofs.Common.{◌≡◌, ◌∙◌, sym, refl, ◌⊎◌, inl, inr, ◌≢◌, ℕ, ◌+◌, ◌<◌, ◌≤◌, Bool, cond, List, [], ◌∷◌, ◌++◌, append_assoc, map, filter, sum_by, nat_lt, arith, lt-ltb}
-use Rattle.cns_retransmit.proofs.Common.{⊤, IsOldestFirst, Liable, NoneOlder, Short, cond-true, is_called, liable_of, sum_by-append, sum_by-cons, sum_by_push}
+use Rattle.std.proofs.Common.{◌≡◌, refl, ◌⊎◌, ℕ, zero, suc, ◌+◌, ◌-◌, ◌<◌, ◌≤◌, cond, List, [], ◌∷◌, ◌++◌, append_assoc, get_or, length, take, drop, map, filter, sum_by, nat_lt, arith}
+use Rattle.cns_retransmit.proofs.Common.{IsOldestFirst, Liable, NoneOlder, Short, chosen_of, is_called, liable_of, nat_tests, sum_by-cons}
+use Rattle.std.proofs.lemmas.Bool.{cases_eq}
+use Rattle.std.proofs.lemmas.List.{get_or_default}
+use Rattle.std.proofs.lemmas.List.Sums.{sum_by_more}
 use Rattle.cns_terms.specs.Batches.{if_older}
+use Rattle.cns_retransmit.proofs.Lists.{drop_next}
 
--- none is younger than an age
-abbrev pub NoneYounger : ℕ → List Short → Type 0
-NoneYounger age [] = ⊤
-NoneYounger age (t ∷ ts) = (age ≤ t.age) × NoneYounger age ts
-
--- how far a loop over the shorts has come: those done that are called, what those older than an age total, and what all done total
-pub record Choosing (ss : List Short) (called : ℕ) (done rest : List Short) (liables : List Liable) (age older sum : ℕ) : Type 0 where
-  pub parts : ss ≡ done ++ rest
-  pub falls : IsOldestFirst rest
-  pub liables_are : liables ≡ map liable_of (filter (is_called ss called) done)
-  pub older_are : older ≡ sum_by (if_older age) done
-  pub sum_is : sum ≡ sum_by (λ s. s.shares) done
-  pub above : NoneYounger age done
-  pub below : (done ≡ []) ⊎ NoneOlder age rest
+-- no place of a list none of which is older has an older one
+none_at : (age : ℕ) (ss : List Short) (i : ℕ) (d : Short) → NoneOlder age ss → i < length ss → (get_or ss i d).age ≤ age
+none_at age [] i d h lt = absurd (omega arith)
+none_at age (s ∷ ss) zero d h lt = h.0
+none_at age (s ∷ ss) (suc i) d h lt = none_at age ss i d h.1 (omega arith)
 
 -- nobody is older than the oldest
 no_older : (age : ℕ) (ts : List Short) → NoneOlder age ts → sum_by (if_older age) ts ≡ 0
 no_older age [] h = refl
 no_older age (t ∷ ts) h = grind (arith, no_older age ts h.1)
 
--- where all are older, their shorts total what the list does
-all_older : (old age : ℕ) (ts : List Short) → age < old → NoneYounger old ts → sum_by (if_older age) ts ≡ sum_by (λ s. s.shares) ts
-all_older old age [] lt h = refl
-all_older old age (t ∷ ts) lt h =
-    let rest = all_older old age ts lt h.1 in
-    let above : old ≤ t.age = h.0 in
-    let one : if_older age t ≡ t.shares = cond-true (nat_lt age t.age) t.shares 0 (lt-ltb age t.age (omega arith)) in
-    sum_by-cons (if_older age) t ts ∙ (omega arith) ∙ sym (sum_by-cons (λ s. s.shares) t ts)
+-- those older than the next, where that is the first or younger than the one before it, are all that stand before it
+older_at : (ss : List Short) (i : ℕ) (d : Short) → IsOldestFirst ss → i < length ss → (i ≡ 0) ⊎ ((get_or ss i d).age < (get_or ss (i - 1) d).age) → sum_by (if_older (get_or ss i d).age) ss ≡ sum_by (λ s. s.shares) (take i ss)
+older_at [] i d falls lt down = absurd (omega arith)
+older_at (s ∷ ss) zero d falls lt down = grind (arith, sum_by-cons (if_older s.age) s ss, no_older s.age ss)
+older_at (s ∷ ss) (suc i) d falls lt down = grind (arith, nat_tests, sum_by-cons (if_older (get_or ss i d).age) s ss, sum_by-cons (λ (s : Short). s.shares) s (take i ss), older_at ss i d falls.1, none_at s.age ss (i - 1) d falls.0)
 
--- a lower bound holds too
-younger : (old age : ℕ) (ts : List Short) → age ≤ old → NoneYounger old ts → NoneYounger age ts
-younger old age [] le h = tt
-younger old age (t ∷ ts) le h = let a : old ≤ t.age = h.0 in (omega arith, younger old age ts le h.1)
+-- the ages do not rise
+falls_at : (ss : List Short) (i : ℕ) (d : Short) → IsOldestFirst ss → suc i < length ss → (get_or ss (suc i) d).age ≤ (get_or ss i d).age
+falls_at [] i d falls lt = absurd (omega arith)
+falls_at (s ∷ ss) zero d falls lt = none_at s.age ss 0 d falls.0 (omega arith)
+falls_at (s ∷ ss) (suc i) d falls lt = falls_at ss i d falls.1 (omega arith)
 
-younger_push : (age : ℕ) (ts : List Short) (s : Short) → NoneYounger age ts → age ≤ s.age → NoneYounger age (ts ++ s ∷ [])
-younger_push age [] s h le = (le, tt)
-younger_push age (t ∷ ts) s h le = (h.0, younger_push age ts s h.1 le)
+-- how far a loop over the shorts has come: what those before the next total, what is left to choose, and what those older than the last one total
+pub record Choosing (ss : List Short) (called i : ℕ) (liables : List Liable) (age older sum : ℕ) : Type 0 where
+  pub sum_is : sum ≡ sum_by (λ s. s.shares) (take i ss)
+  pub left : liables ++ map liable_of (filter (is_called ss called) (drop i ss)) ≡ chosen_of ss called
+  pub first : i ≡ 0 → older ≡ 0
+  pub later : (d : Short) → 0 < i → (age ≡ (get_or ss (i - 1) d).age) × (older ≡ sum_by (if_older age) ss)
 
--- those that are older than the next stand before it
-older_before : (done rest : List Short) (s : Short) → NoneOlder s.age rest → sum_by (if_older s.age) (done ++ s ∷ rest) ≡ sum_by (if_older s.age) done
-older_before done rest s h = grind (arith, no_older, sum_by-append)
+module _ {ss : List Short} {called i : ℕ} {s : Short} {liables : List Liable} {age older sum : ℕ} (falls : IsOldestFirst ss) (lt : i < length ss) (is : s ≡ get_or ss i s) (c : Choosing ss called i liables age older sum) where
+  -- what those older than the next total, where it is as old as the last
+  pub as_old : s.age ≡ age → older ≡ sum_by (if_older s.age) ss
+  as_old e = grind (arith, cases_eq i 0, c.first, c.later s, c.sum_is, older_at ss i s falls lt)
 
--- before any
-pub choosing_starts : (ss : List Short) (called age : ℕ) → IsOldestFirst ss → Choosing ss called [] ss [] age 0 0
-choosing_starts ss called age falls = record { parts = refl; falls = falls; liables_are = refl; older_are = refl; sum_is = refl; above = tt; below = inl refl }
+  -- and where it is not
+  pub younger : (s.age ≡ age → ⊥) → sum ≡ sum_by (if_older s.age) ss
+  younger ne = grind (arith, cases_eq i 0, c.later s, c.sum_is, older_at ss i s falls lt, falls_at ss (i - 1) s falls)
 
--- where the age goes down, all that are done are older
-all_done : (done rest : List Short) (s : Short) (age : ℕ) → NoneYounger age done → s.age ≢ age → (done ≡ []) ⊎ NoneOlder age (s ∷ rest) → (sum_by (λ t. t.shares) done ≡ sum_by (if_older s.age) done) × NoneYounger s.age done
-all_done done rest s age above ne below = grind (arith, all_older, younger)
-
--- the age goes down to the next one's
-pub older_next : (ss : List Short) (called : ℕ) (done rest : List Short) (s : Short) (liables : List Liable) (age older sum : ℕ) → Choosing ss called done (s ∷ rest) liables age older sum → s.age ≢ age → Choosing ss called done (s ∷ rest) liables s.age sum sum
-older_next ss called done rest s liables age older sum c ne =
-    let all = all_done done rest s age c.above ne c.below in
-    record {
-      parts = c.parts;
-      falls = c.falls;
-      liables_are = c.liables_are;
-      older_are = c.sum_is ∙ all.0;
-      sum_is = c.sum_is;
-      above = all.1;
-      below = inr (omega arith, c.falls.0);
-    }
-
-one_more : (p : Short → Bool) (done : List Short) (s : Short) → map liable_of (filter p (done ++ s ∷ [])) ≡ map liable_of (filter p done) ++ cond (p s) (liable_of s ∷ []) []
-one_more p [] s = grind arith
-one_more p (t ∷ ts) s = grind (arith, one_more p ts s)
-
--- the next one, of the age that stands
-pub choosing_more : (ss : List Short) (called : ℕ) (done rest : List Short) (s : Short) (liables : List Liable) (older sum : ℕ) → Choosing ss called done (s ∷ rest) liables s.age older sum → Choosing ss called (done ++ s ∷ []) rest (liables ++ cond (nat_lt older called) (liable_of s ∷ []) []) s.age older (sum + s.shares)
-choosing_more ss called done rest s liables older sum c = grind (arith, older_before, append_assoc, one_more, sum_by_push, younger_push)
+  -- the next, which is chosen or not
+  pub choosing_more : (more : List Liable) (now : ℕ) → now ≡ sum_by (if_older s.age) ss → more ≡ liables ++ cond (nat_lt now called) (liable_of s ∷ []) [] → Choosing ss called (i + 1) more s.age now (sum + s.shares)
+  choosing_more more now now_is more_is = record {
+    sum_is = grind (arith, sum_by_more (λ (s : Short). s.shares) ss i s, c.sum_is);
+    left = grind (arith, append_assoc, drop_next, c.left);
+    first = λ e. absurd (omega arith);
+    later = λ d h. grind (arith, get_or_default ss i d s);
+  }

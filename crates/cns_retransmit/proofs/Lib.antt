@@ -2,10 +2,8 @@ pub mod Calling
 pub mod Sought
 pub mod Lists
 pub mod FillSteps
-pub mod Capacities
 pub mod Charging
 pub mod Choosing
 pub mod Ordered
-pub mod Sorted
 pub mod Lefts
 pub mod Common

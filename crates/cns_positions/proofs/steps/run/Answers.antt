@@ -11,8 +11,8 @@ pub loop-step-preserved : goal.loop-step-preserved
 loop-step-preserved g c =
     let inv = c.loop-step.invariant in
     record {
-      done = rw c.in_ok-take_step.ensures.reply (replies-step _ _ c.args.steps.now c.loop-step.step-index c.step-item.result _ _ c.loop-step-test.true c.step-item.is inv.done c.in_ok-take_step.ensures.map);
-      fits = fit-step _ _ c.args.steps.now c.loop-step.step-index c.step-item.result c.loop-step-test.true c.step-item.is inv.fits c.in_ok-take_step.ensures.map;
+      done = rw c.in_ok-take_step.ensures.reply (replies-step _ c.args.steps.now c.loop-step.step-index c.step-item.result c.loop-step-test.true c.step-item.is _ c.in_ok-take_step.ensures.map _ _ inv.done);
+      fits = fit-step _ c.args.steps.now c.loop-step.step-index c.step-item.result c.loop-step-test.true c.step-item.is _ c.in_ok-take_step.ensures.map inv.fits;
     }
 
 pub returns : goal.returns

@@ -1,4 +1,4 @@
-use Rattle.std.proofs.Common.{◌∙◌, sym, subst, Contains, take_all}
+use Rattle.std.proofs.Common.{◌∙◌, sym, take_all}
 use Rattle.cns_positions.proofs.Entering.{absent_at, at_error, entered_more, other_key}
 use Rattle.cns_positions.proofs.tree.enter_all.Goals as goal
 
@@ -18,4 +18,4 @@ pub returns-in_err-enter-clause-memory : goal.returns-in_err-enter-clause-memory
 returns-in_err-enter-clause-memory g c = at_error c.from_residual.result (absent_at c.args.rows.now c.loop-key.rows c.args.keys.now c.loop-key.key-index c.key-item.result c.loop-key-test.true c.key-item.is c.loop-key.invariant.kept c.in_err-enter.ensures.memory)
 
 pub returns-clause-there : goal.returns-clause-there
-returns-clause-there g c k h = c.loop-key.invariant.there k (subst (λ ks. Contains ks k) (sym (take_all c.loop-key.key-index c.args.keys.now c.loop-key-test.false)) h)
+returns-clause-there g c = rw (sym (take_all c.loop-key.key-index c.args.keys.now c.loop-key-test.false)) c.loop-key.invariant.there

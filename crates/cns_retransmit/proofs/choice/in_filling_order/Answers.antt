@@ -1,9 +1,9 @@
 use Rattle.std.proofs.Common.{sym, rules, arith}
 use Rattle.cns_retransmit.proofs.Common.{answers_always}
-use Rattle.cns_retransmit.proofs.Sorted.{comes_first, says_before, sorted_is}
+use Rattle.cns_retransmit.proofs.Ordered.{sorted_is}
 use Rattle.cns_retransmit.proofs.choice.in_filling_order.Goals as goal
 
 pub returns : goal.returns
 returns g c =
     let up = c.sort_unstable_by_key.ensures.sorted (λ s. (record { 0 = s.age }, s.member)) (answers_always _ _ _ (λ f a r h k. search rules)) in
-    sorted_is comes_first says_before c.args.shorts.now c.sort_unstable_by_key.new.self.items c.requires (rw (sym c.in_ok-ordered.ensures.items) c.sort_unstable_by_key.ensures.permutation) (λ k d h. up k d (omega arith) h)
+    sorted_is c.args.shorts.now c.sort_unstable_by_key.new.self.items c.requires (rw (sym c.in_ok-ordered.ensures.items) c.sort_unstable_by_key.ensures.permutation) (λ k d h. up k d (omega arith) h)

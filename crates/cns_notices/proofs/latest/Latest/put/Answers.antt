@@ -1,7 +1,7 @@
-use Rattle.std.proofs.Common.{◌≡◌, ◌∙◌, sym, ap, Some, cond, is_eq, arith}
+use Rattle.std.proofs.Common.{◌≡◌, ◌∙◌, ◌<◌, sym, ap, Some, cond, is_eq, arith}
 use Rattle.cns_notices.proofs.Common.{Numbers, number_at, numbers_of}
-use Rattle.cns_notices.proofs.Places.{put_there}
-use Rattle.cns_notices.specs.Latest.{place_cmp}
+use Rattle.std.proofs.lemmas.Map.Views.{All-keys-insert_entry}
+use Rattle.cns_notices.specs.Latest.{Place, place_cmp}
 use Rattle.cns_notices.proofs.latest.Latest.put.Goals as goal
 use Rattle.cns_notices.proofs.latest.Latest.put.Goals.{in-Some, in-None+in_ok-clone-in-None, in-Ok, in-Err}
 
@@ -11,7 +11,7 @@ before g c = grind arith
 
 pub invariant_of-self-2 : goal.invariant_of-self-2
 invariant_of-self-2 g c = elim c.match-inserted.branch [
-  | in-Ok w ↦ put_there _ _ _ _ _ (before g c) c.self.invariant c.value.type_inv w.in-Ok.ensures.entries
+  | in-Ok w ↦ rw (w.in-Ok.ensures.entries, before g c) (All-keys-insert_entry place_cmp (c.args.cusip, c.value.result) c.args.number (λ (q : Place). q.1 < 65536) _ c.self.invariant c.value.type_inv)
   | in-Err w ↦ rw (w.in-Err.ensures.err, before g c) c.self.invariant
 ]
 

@@ -1,13 +1,9 @@
 use Rattle.std.proofs.Common.{◌∙◌, ◌-◌, sym, arith}
-use Rattle.cns_notices.proofs.Common.{has_received}
-use Rattle.cns_notices.proofs.Led.{live_item, live_within, received_keeps, received_none, received_one, set_led}
+use Rattle.cns_notices.proofs.Led.{live_item, live_within, received_none, received_one, set_led}
 use Rattle.cns_notices.proofs.notices.Notices.received.Goals as goal
 
 pub invariant_of-self : goal.invariant_of-self
-invariant_of-self g c =
-    let items = c.self.inside.listed.items in
-    let within = (live_within items c.args.member c.args.cusip c.in-Some.k (rw (sym c.self.view_is) at (sym c.live_of.ensures ∙ c.in-Some.is))).1 in
-    set_led (has_received c.args.n) (received_keeps c.args.n) c.self.inside.latest items (c.in-Some.k - 1) c.index_mut.result.now c.receive.new.self within c.index_mut.ensures.value c.receive.ensures c.self.invariant
+invariant_of-self g c = grind (arith, live_within, set_led c.self.invariant (c.in-Some.k - 1) c.index_mut.result.now c.receive.new.self)
 
 pub overflow_sub-k : goal.overflow_sub-k
 overflow_sub-k g c = (live_within c.args.self.now c.args.member c.args.cusip c.in-Some.k (sym c.live_of.ensures ∙ c.in-Some.is)).0
@@ -27,4 +23,4 @@ returns-in-Some g c =
     rw (sym c.self.view_is) (received_one c.self.inside.listed.items c.args.member c.args.cusip c.in-Some.k found c.self.inside.latest c.self.invariant c.args.n c.index_mut.result.now c.receive.new.self c.index_mut.ensures.value c.receive.ensures)
 
 pub returns-in_default : goal.returns-in_default
-returns-in_default g c = sym (received_none c.args.self.now c.args.member c.args.cusip c.args.n (sym c.live_of.ensures ∙ c.in_default.is))
+returns-in_default g c = grind (arith, received_none)

@@ -1,21 +1,12 @@
-use Rattle.std.proofs.Common.{◌∙◌, sym}
-use Rattle.cns_positions.proofs.Holdings.{written}
+use Rattle.std.proofs.Common.{take_at, drop, length, ◌∙◌}
 use Rattle.cns_positions.proofs.flat.FlatPositionsPositions.carry.Goals as goal
 
-pub returns-clause-carried : goal.returns-clause-carried
-returns-clause-carried g c k =
-    let rows = c.self.inside.rows.items in
-    rw (written c.self.inside.rows.len c.carry.new.rows rows (sym (c.carry.auto.rows ∙ c.as_mut_slice.ensures.len)), ← c.self.view_is)
-    (rw c.as_mut_slice.ensures.value at c.carry.ensures.carried k)
-
-pub returns-clause-others : goal.returns-clause-others
-returns-clause-others g c k apart =
-    let rows = c.self.inside.rows.items in
-    rw (written c.self.inside.rows.len c.carry.new.rows rows (sym (c.carry.auto.rows ∙ c.as_mut_slice.ensures.len)), ← c.self.view_is)
-    (rw c.as_mut_slice.ensures.value at c.carry.ensures.others k apart)
-
-pub returns-clause-places : goal.returns-clause-places
-returns-clause-places g c k =
-    let rows = c.self.inside.rows.items in
-    rw (written c.self.inside.rows.len c.carry.new.rows rows (sym (c.carry.auto.rows ∙ c.as_mut_slice.ensures.len)), ← c.self.view_is)
-    (rw c.as_mut_slice.ensures.value at c.carry.ensures.places k)
+pub returns : goal.returns
+returns g c =
+    let over = take_at c.carry.new.rows (drop (length c.carry.new.rows) c.self.inside.rows.items) c.self.inside.rows.len (c.carry.auto.rows ∙ c.as_mut_slice.ensures.len) in
+    record {
+      carried = λ k. rw (over, ← c.self.view_is) (rw c.as_mut_slice.ensures.value at c.carry.ensures.carried k);
+      others = λ k apart. rw (over, ← c.self.view_is) (rw c.as_mut_slice.ensures.value at c.carry.ensures.others k apart);
+      places = λ k. rw (over, ← c.self.view_is) (rw c.as_mut_slice.ensures.value at c.carry.ensures.places k);
+      order = rw over c.carry.ensures.sorted;
+    }

@@ -1,6 +1,5 @@
-use Rattle.std.proofs.Common.{◌≡◌, ◌∙◌, ap, sym, subst, sum_by, ◌≤◌, arith}
-use Rattle.cns_retransmit.proofs.Common.{CanBeCharged, Fill, Liables, Member, cents_of_fills, fills_of, shares_of_fills}
-use Rattle.cns_retransmit.specs.Members.{members_of}
+use Rattle.std.proofs.Common.{◌≡◌, sym, arith}
+use Rattle.cns_retransmit.proofs.Common.{cents_of_fills, fills_of, shares_of_fills}
 use Rattle.cns_retransmit.proofs.Charging.{fills_chargeable}
 use Rattle.cns_retransmit.proofs.batch.Batch.fill.Goals as goal
 
@@ -9,13 +8,10 @@ made : (g : _) (c : goal.In_ok-fills g) → c.in_ok-fills.fills.items ≡ fills_
 made g c = grind arith
 
 pub returns-clause-shares : goal.returns-clause-shares
-returns-clause-shares g c = ap (sum_by (λ (f : Fill). f.shares)) (made g c) ∙ shares_of_fills (g.S.Shorts.short_now c.args.now.now) c.args.shares c.args.money c.args.self.now.members c.requires
+returns-clause-shares g c = rw (made g c) (shares_of_fills _ _ _ _ c.requires)
 
 pub returns-clause-cents : goal.returns-clause-cents
-returns-clause-cents g c = ap (sum_by (λ (f : Fill). f.cents)) (made g c) ∙ cents_of_fills (g.S.Shorts.short_now c.args.now.now) c.args.shares c.args.money c.args.self.now.members c.value.ensures.range.0 c.requires
+returns-clause-cents g c = rw (made g c) (cents_of_fills _ _ _ _ c.value.ensures.range.0 c.requires)
 
 pub returns-clause-chargeable : goal.returns-clause-chargeable
-returns-clause-chargeable g c =
-    subst (λ fs. CanBeCharged fs c.args.self.now.members) (sym (made g c))
-    (fills_chargeable (g.S.Shorts.short_now c.args.now.now) c.args.shares c.args.money c.args.self.now.members
-    (subst (λ (b : Liables). (a : Member) → members_of a b.members ≤ 1) c.self.view_is c.self.invariant.once))
+returns-clause-chargeable g c = rw (made g c, sym c.self.view_is) (fills_chargeable _ _ _ _ c.self.invariant.once)

@@ -1,5 +1,5 @@
 use Rattle.std.proofs.Common.{arith}
-use Rattle.cns_retransmit.proofs.Capacities.{capacities_below}
+use Rattle.cns_retransmit.proofs.Lefts.{capacities_below}
 use Rattle.cns_retransmit.proofs.batch.Batch.room.Goals as goal
 
 pub returns : goal.returns

@@ -1,13 +1,18 @@
-use Rattle.std.proofs.Common.{sym}
-use Rattle.cns_retransmit.proofs.Common.{nat_list_cmp_total, sorted_from}
-use Rattle.cns_retransmit.proofs.Calling.{each_chosen, ok_too, rise_ok}
+use Rattle.std.proofs.Common.{sym, ◌≡◌, Some, arith}
+use Rattle.cns_retransmit.proofs.Common.{CalledIn, CanBeChosen, Cusip, ForSome, called_in, each_weaker, nat_list_cmp_total, sorted_from}
+use Rattle.std.proofs.lemmas.List.Elements.{recursion_from_All}
+use Rattle.std.proofs.lemmas.Result.{IfOk-weaker}
+use Rattle.cns_retransmit.proofs.Calling.{batches_rise}
 use Rattle.cns_retransmit.proofs.calls.Calls.choose.Goals as goal
 
 pub choose_each-requires : goal.choose_each-requires
-choose_each-requires g c = rw c.iter.ensures.rest (each_chosen c.self.inside.issues.entries c.iter.ensures.found (rw c.self.view_is c.requires))
+choose_each-requires g c =
+    let es = c.self.inside.issues.entries in
+    let can : (d : Cusip) → ForSome (called_in es d) CanBeChosen = rw c.self.view_is c.requires in
+    rw c.iter.ensures.rest (each_weaker (λ e. called_in es e.0 ≡ Some e.1) (λ e. CanBeChosen e.1) es (λ e is. can e.0 e.1 is) (recursion_from_All (λ (e : Cusip × CalledIn). called_in es e.0 ≡ Some e.1) es c.iter.ensures.found))
 
 pub returns-clause-rise : goal.returns-clause-rise
-returns-clause-rise g c = rise_ok c.choose_each.result (λ v. v.items) c.iter.result (rw c.iter.ensures.rest (sorted_from nat_list_cmp_total _ c.iter.ensures.ordered)) c.choose_each.ensures
+returns-clause-rise g c = IfOk-weaker c.choose_each.result _ _ (λ v is. rw is (batches_rise c.iter.result (rw c.iter.ensures.rest (sorted_from nat_list_cmp_total _ c.iter.ensures.ordered)))) c.choose_each.ensures
 
 pub returns-clause-order : goal.returns-clause-order
-returns-clause-order g c = rw (sym c.self.view_is) (ok_too c.choose_each.result (sorted_from nat_list_cmp_total _ c.iter.ensures.ordered))
+returns-clause-order g c = rw (sym c.self.view_is) (grind (arith, sorted_from nat_list_cmp_total _ c.iter.ensures.ordered))

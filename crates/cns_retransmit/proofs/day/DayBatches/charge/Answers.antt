@@ -1,6 +1,6 @@
-use Rattle.std.proofs.Common.{◌≡◌, ◌∙◌, ap, sym, subst, set, arith}
-use Rattle.cns_retransmit.proofs.Common.{RiseByIssue, charged_in}
-use Rattle.cns_retransmit.proofs.Sought.{batch_found, batch_missing, charged_rise, nothing_charged, written_charged}
+use Rattle.std.proofs.Common.{refl, ◌≡◌, sym, set, arith}
+use Rattle.cns_retransmit.proofs.Common.{charged_in}
+use Rattle.cns_retransmit.proofs.Sought.{batch_found, charged_rise, nothing_charged, written_charged}
 use Rattle.cns_retransmit.proofs.day.DayBatches.charge.Goals as goal
 
 -- the batches that are written
@@ -11,12 +11,12 @@ pub charge-requires : goal.charge-requires
 charge-requires g c = grind (arith, batch_found)
 
 pub invariant_of-self : goal.invariant_of-self
-invariant_of-self g c = subst RiseByIssue (sym (charges g c)) (charged_rise c.args.issue c.args.fills.now c.self.inside.batches.items c.self.invariant)
+invariant_of-self g c = rw (charges g c) (charged_rise c.args.issue c.args.fills.now c.self.inside.batches.items c.self.invariant)
 
 pub returns-in-Ok : goal.returns-in-Ok
-returns-in-Ok g c = charges g c ∙ ap (charged_in c.args.issue c.args.fills.now) c.self.view_is
+returns-in-Ok g c = rw (charges g c, sym c.self.view_is) refl
 
 pub returns-in_default : goal.returns-in_default
 returns-in_default g c =
     let gap = rw c.as_slice.ensures.value at c.in_default.ensures.absent in
-    rw (← c.self.view_is) (nothing_charged c.args.issue c.args.fills.now c.self.inside.batches.items (batch_missing c.self.inside.batches.items c.in_default.field-0 c.args.issue gap.0 gap.1))
+    rw (← c.self.view_is) (nothing_charged c.self.inside.batches.items c.in_default.field-0 c.args.issue c.args.fills.now gap.0 gap.1)
