@@ -1,34 +1,9 @@
 -- What moved a position adds up.
 -- For `moves_add_up` of laws.rt.
-use Rattle.std.proofs.Common.{◌*◌, neg_ℤ, unsigned_abs, FitsSigned, ◌≡◌, ◌∙◌, sym, ap, refl, subst, ℕ, ◌+◌, ◌-◌, ◌^◌, ◌<◌, ◌≤◌, ℤ, pos, ◌+ℤ◌, ◌-ℤ◌, ◌*ℤ◌, List, [], ◌∷◌, ◌++◌, length, reverse, Option, Some, None, arith}
-use Rattle.std.specs.Int.{Width, int_wrap, w128, w64}
-use Rattle.std.specs.List.{AllByRecursion}
-use Rattle.std.proofs.lemmas.Int.{fits_signed_from_abs, int_wrap-add_same, int_wrap_fits, ints}
-use Rattle.std.proofs.lemmas.List.{take_all}
-use mir.Val.{hbits}
-use Rattle.cns_terms.proofs.Common.{Day, State, added, added-all, amount_limit, corporation_limit, date, journal_of, last_close, length-reverse, member_limit, money_limit, open_day, opened, price_limit, reverse_onto, row, shares_limit, total, trades}
-use Rattle.cns_terms.proofs.Magnitudes.{added-append}
-use Rattle.cns_terms.proofs.Sound.{whole_nil}
-use Rattle.cns_terms.specs.Common.{IsReached}
+use Rattle.cns_account.proofs.Common.{◌*◌, neg_ℤ, unsigned_abs, FitsSigned, ◌≡◌, ◌∙◌, sym, ap, refl, subst, ℕ, ◌+◌, ◌-◌, ◌^◌, ◌<◌, ◌≤◌, ℤ, pos, ◌+ℤ◌, ◌-ℤ◌, ◌*ℤ◌, List, [], ◌∷◌, ◌++◌, length, reverse, Option, Some, None, arith, Width, int_wrap, w128, w64, AllByRecursion, fits_signed_from_abs, int_wrap-add_same, int_wrap_fits, ints, take_all, hbits, Day, State, added, added-all, amount_limit, corporation_limit, date, journal_of, last_close, length-reverse, member_limit, money_limit, open_day, opened, price_limit, reverse_onto, row, shares_limit, total, trades, added-append, whole_nil, IsReached, Entry, Holding, Key, Row, state_of, Line, blank_log, log_after, HistoryLine, history, lines_of, movements_at, row_on, Booking, IsLineInRange, MovesAddUp, closes, last_of, of_causes, moved_at, looked_at, moved, valued, Moved, Moves}
 use Rattle.cns_terms.specs.declared.command.Activity.TheVariants as activity
-use Rattle.cns_terms.specs.declared.holding.Entry.{Entry}
-use Rattle.cns_terms.specs.declared.holding.Holding.{Holding}
-use Rattle.cns_terms.specs.declared.holding.Key.{Key}
-use Rattle.cns_terms.specs.declared.sheet.Row.{Row}
-use Rattle.cns_book.specs.Log.{state_of}
-use Rattle.cns_feed.specs.Line.{Line}
-use Rattle.cns_feed.specs.Replay.{blank_log, log_after}
 use Rattle.cns_feed.proofs.PlayLemmas.{state_of-after}
-use Rattle.cns_history.specs.declared.line.HistoryLine.{HistoryLine}
-use Rattle.cns_history.specs.Lines.{history, lines_of, movements_at, row_on}
-use Rattle.cns_history.specs.declared.line.Booking.{Booking}
 use Rattle.cns_history.specs.declared.watched.Watched.TheVariants as watched
-use Rattle.cns_account.specs.Laws.{IsLineInRange, MovesAddUp, closes, last_of, of_causes}
-use Rattle.cns_account.specs.Moves.{moved_at}
-use Rattle.cns_account.specs.Past.{looked_at}
-use Rattle.cns_account.specs.Rows.{moved, valued}
-use Rattle.cns_account.specs.declared.moves.Moved.{Moved}
-use Rattle.cns_account.specs.declared.moves.Moves.{Moves}
 use Rattle.cns_account.proofs.Ledger.{all_booked, open_parts, settles, total-reverse}
 use Rattle.cns_account.proofs.Named.{more}
 use Rattle.cns_account.proofs.Marked.{AreSmall, marked}

@@ -1,30 +1,14 @@
 -- Of the lines of movements, those at a place.
 -- For `places_are_whole` and `moves_add_up` of laws.rt.
-use Rattle.std.proofs.Common.{◌≡◌, ◌∙◌, sym, ap, refl, ℕ, ◌+◌, ◌<◌, Bool, true, false, ◌&&◌, cond, List, [], ◌∷◌, ◌++◌, filter, filter_map, map, is_none, option_map, option_to_list, Option, Some, None, Ok, Err, subst, arith}
-use Rattle.std.specs.List.{cons_option}
-use Rattle.std.specs.Option.{option_map_or}
-use Rattle.std.proofs.lemmas.Int.{ints}
-use Rattle.cns_terms.proofs.Common.{Day, IsWhole, Journal, State, answer, date, filter-append, is_same_day, journal_of, next, opened, refusal}
-use Rattle.cns_terms.proofs.Sound.{whole-next, whole-post, whole_nil}
-use Rattle.cns_terms.specs.Machine.{activity_reply}
-use Rattle.cns_terms.specs.declared.command.Activity.{Activity}
+use Rattle.cns_account.proofs.Common.{◌≡◌, ◌∙◌, sym, ap, refl, ℕ, ◌+◌, ◌<◌, Bool, true, false, ◌&&◌, cond, List, [], ◌∷◌, ◌++◌, filter, filter_map, map, is_none, option_map, option_to_list, Option, Some, None, Ok, Err, subst, arith, cons_option, option_map_or, ints, Day, IsWhole, Journal, State, answer, date, filter-append, is_same_day, journal_of, next, opened, refusal, whole-next, whole-post, whole_nil, activity_reply, Activity, Holding, Key, Reply, Line, state_after_line, booked, booked_since, booking, bookings_at, bookings_since, closing, counted_from, is_movement, is_nothing, is_open, lines_at, lines_of, places, standing, stood, Booking, HistoryLine, PlacesAreWhole, is_line_at, is_moved, date_told, nat_tests}
 use Rattle.cns_terms.specs.declared.command.Command.TheVariants as command
-use Rattle.cns_terms.specs.declared.holding.Holding.{Holding}
-use Rattle.cns_terms.specs.declared.holding.Key.{Key}
 use Rattle.cns_terms.specs.declared.refusal.Refusal.{Refusal}
-use Rattle.cns_terms.specs.declared.reply.Reply.{Reply}
 use Rattle.cns_terms.specs.declared.reply.Reply.TheVariants as reply
-use Rattle.cns_feed.specs.Line.{Line}
-use Rattle.cns_feed.specs.Output.{state_after_line}
-use Rattle.cns_history.specs.Lines.{booked, booked_since, booking, bookings_at, bookings_since, closing, counted_from, history, is_movement, is_nothing, is_open, lines_at, lines_of, places, standing, stood}
-use Rattle.cns_history.specs.declared.line.Booking.{Booking}
+use Rattle.cns_history.specs.Lines.{history}
 use Rattle.cns_history.specs.declared.line.Closing.{Closing}
-use Rattle.cns_history.specs.declared.line.HistoryLine.{HistoryLine}
 use Rattle.cns_history.specs.declared.line.HistoryLine.TheVariants as line
 use Rattle.cns_history.specs.declared.watched.Watched.TheVariants as watched
 use Rattle.cns_history.specs.declared.watched.Whose.TheVariants as whose
-use Rattle.cns_account.specs.Laws.{PlacesAreWhole, is_line_at, is_moved}
-use Rattle.cns_account.specs.Past.{date_told}
 use Rattle.cns_account.proofs.Grid.{is_at}
 use Rattle.cns_account.proofs.Named.{IsSame, more, names}
 
@@ -40,22 +24,13 @@ line_for n S T x k = booked (booking k n (date T.opening (journal_of T)) x (stan
 from_same : (h : Holding) (r : Reply) → date_told r ≡ None → counted_from h r ≡ h
 from_same h r is = grind arith
 
-moved_reply : (opening : Day) (J : Journal) (x : Activity) → is_movement (command.Activity x) ≡ true → date_told (activity_reply opening J x) ≡ None
-moved_reply opening J x is = grind arith
-
-pub either_reply : (o : Option Refusal) (r : Reply) → date_told r ≡ None → date_told (option_map_or reply.Refused o r) ≡ None
-either_reply o r is = grind arith
-
 moved_answer : (S : State) (x : Activity) → is_movement (command.Activity x) ≡ true → date_told (answer S (command.Activity x)) ≡ None
-moved_answer S x is = either_reply (refusal S.opening (journal_of S) (command.Activity x)) _ (moved_reply S.opening (journal_of S) x is)
+moved_answer S x is = grind arith
 
 -- ---- what is booked nowhere has no line
 
-nothing_told : (k : Key) (n : ℕ) (d : Day) (x : Activity) (from to : Holding) → to.now ≡ from.now → to.contract ≡ from.contract → booked (booking k n d x from to) ≡ None
-nothing_told k n d x from to shares cents = grind (arith, ints)
-
 same_told : (n : ℕ) (S T : State) (x : Activity) (k : Key) → IsSame k S T → line_for n S T x k ≡ None
-same_told n S T x k same = nothing_told k n (date T.opening (journal_of T)) x (standing S k) (standing T k) same.shares same.cents
+same_told n S T x k same = grind arith
 
 -- ---- the lines at a place
 
@@ -69,15 +44,12 @@ told_at k n S T x (q ∷ ks) =
     let b = booking q n (date T.opening (journal_of T)) x (standing S q) (standing T q) in
     one_told k q b (is_nothing b) (is_at k q) (filter_map (booked_since n T x) (map (stood S) ks)) (filter (is_at k) ks) (line_for n S T x) refl refl (told_at k n S T x ks)
 
-as_list : {X : Type 0} (o : Option X) → cons_option o [] ≡ option_to_list o
-as_list o = grind arith
-
 none_told : (f : Key → Option HistoryLine) → ((q : Key) → f q ≡ None) → (ks : List Key) → filter_map f ks ≡ []
 none_told f none [] = refl
 none_told f none (q ∷ ks) = ap (λ o. cons_option o (filter_map f ks)) (none q) ∙ none_told f none ks
 
 there_or_not : (k : Key) (f : Key → Option HistoryLine) (there : Bool) → (there ≡ false → f k ≡ None) → filter_map f (cond there (k ∷ []) []) ≡ option_to_list (f k)
-there_or_not k f there none = grind (arith, as_list)
+there_or_not k f there none = grind arith
 
 -- those of a movement at a place are what it booked there
 pub movement_at : (k : Key) (n : ℕ) (S : State) (x : Activity) → k.account < 10000 → IsWhole S.opening (journal_of S) → is_movement (command.Activity x) ≡ true
@@ -116,9 +88,6 @@ moved_lines d b = moved_one (is_moved d) (line.Booking b) (is_nothing b) (is_sam
 closing_lines : (d : Day) (o : Option Closing) (ls : List HistoryLine) → filter (is_moved d) (option_to_list (option_map line.Closing o) ++ ls) ≡ filter (is_moved d) ls
 closing_lines d o ls = grind arith
 
-no_lines : {X : Type 0} (p : X → Bool) (b : Bool) → filter p (cond b [] []) ≡ []
-no_lines p b = grind arith
-
 where_open : (p : HistoryLine → Bool) (b c : Bool) (all here : List HistoryLine) → c ≡ b → filter p all ≡ here → filter p (cond b all []) ≡ cond c here []
 where_open p b c all here same is = grind arith
 
@@ -139,13 +108,6 @@ activity_line k d n S x few whole =
         (movement_at k n S x few whole is
         ∙ ap (λ h. option_to_list (booked (booking k n (date S.opening (journal_of (next S (command.Activity x)))) x h (standing (next S (command.Activity x)) k)))) (sym (from_same (standing S k) (answer S (command.Activity x)) (moved_answer S x is))))
 
-one_line : (k : Key) (d : Day) (n : ℕ) (S : State) (l : Line) → k.account < 10000 → IsWhole S.opening (journal_of S)
-    → filter (is_line_at k) (lines_of (watched.Movements d) n S l) ≡ filter (is_moved d) (lines_at k n S l)
-one_line k d n S (Err f) few whole = no_lines (is_line_at k) (is_open S d)
-one_line k d n S (Ok (command.Position q)) few whole = no_lines (is_line_at k) (is_open S d)
-one_line k d n S (Ok (command.Statement a e)) few whole = no_lines (is_line_at k) (is_open S d)
-one_line k d n S (Ok (command.Activity x)) few whole = activity_line k d n S x few whole
-
 -- what commands lead to stays whole
 pub whole_line : (S : State) (l : Line) → IsWhole S.opening (journal_of S) → IsWhole (state_after_line S l).opening (journal_of (state_after_line S l))
 whole_line S l h1 = grind (arith, whole-next)
@@ -154,10 +116,7 @@ all_lines : (k : Key) (d : Day) (n : ℕ) (S : State) (ls : List Line) → k.acc
     → filter (is_line_at k) (history (watched.Movements d) n S ls) ≡ filter (is_moved d) (history (watched.Place k) n S ls)
 unfolding history
 all_lines k d n S [] few whole = refl
-all_lines k d n S (l ∷ ls) few whole =
-    filter-append (is_line_at k) (lines_of (watched.Movements d) (n + 1) S l) (history (watched.Movements d) (n + 1) (state_after_line S l) ls)
-    ∙ (λ i. one_line k d (n + 1) S l few whole i ++ all_lines k d (n + 1) (state_after_line S l) ls few (whole_line S l whole) i)
-    ∙ sym (filter-append (is_moved d) (lines_at k (n + 1) S l) (history (watched.Place k) (n + 1) (state_after_line S l) ls))
+all_lines k d n S (l ∷ ls) few whole = grind (arith, filter-append, activity_line, all_lines k d (n + 1) (state_after_line S l) ls few (whole_line S l whole))
 
 pub places_are_whole : PlacesAreWhole
 places_are_whole k opening ls d low = all_lines k d 0 (opened opening) ls (omega arith) whole_nil

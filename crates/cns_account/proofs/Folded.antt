@@ -1,13 +1,7 @@
 -- What moved each position, of one entry or line after another.
 -- For `settled` and `moves_of_day` of day_moves.rt.
-use Rattle.std.proofs.Common.{◌≡◌, ◌∙◌, sym, ap, ℕ, ◌+◌, ◌<◌, List, [], ◌∷◌, ◌++◌, Option, add-one, get_or, length, take, take-suc}
-use Rattle.std.specs.List.{fold}
-use Rattle.std.proofs.lemmas.List.Sums.{fold-append}
+use Rattle.cns_account.proofs.Common.{◌≡◌, ◌∙◌, sym, ap, ℕ, ◌+◌, ◌<◌, List, [], ◌∷◌, ◌++◌, Option, add-one, get_or, length, take, take-suc, fold, fold-append, Taken, Key, HistoryLine, AreMoves, moves_at, unmoved, with_line, with_taken}
 use Rattle.cns_terms.specs.Common.{Day}
-use Rattle.cns_terms.specs.declared.history.Taken.{Taken}
-use Rattle.cns_terms.specs.declared.holding.Key.{Key}
-use Rattle.cns_history.specs.declared.line.HistoryLine.{HistoryLine}
-use Rattle.cns_account.specs.Moves.{AreMoves, moves_at, unmoved, with_line, with_taken}
 use Rattle.cns_account.specs.declared.day_moves.DayMoves.{DayMoves}
 
 -- one entry more

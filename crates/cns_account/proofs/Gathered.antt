@@ -1,7 +1,6 @@
 -- Rows that are gathered one after another.
 -- For `bookings_in` of booked.rt, `rows_of` of row.rt, `add_entry` of past.rt, `add_paid` of dividends.rt.
-use Rattle.std.proofs.Common.{◌≡◌, ◌∙◌, sym, ap, refl, ℕ, ◌+◌, ◌<◌, List, [], ◌∷◌, ◌++◌, Option, append_assoc, append-nil, add-one, filter_map, get_or, length, map, take, take-suc}
-use Rattle.std.specs.List.{cons_option}
+use Rattle.cns_account.proofs.Common.{◌≡◌, ◌∙◌, sym, ap, refl, ℕ, ◌+◌, ◌<◌, List, [], ◌∷◌, ◌++◌, Option, append_assoc, append-nil, add-one, filter_map, get_or, length, map, take, take-suc, cons_option}
 use Rattle.std.proofs.lemmas.List.Elements.{filter_map-append}
 
 -- one more of a list, where it gives something

@@ -1,11 +1,8 @@
 -- The places of accounts in issues, each once.
 -- For `places_are_whole` and `moves_add_up` of laws.rt.
-use Rattle.std.proofs.Common.{◌≡◌, ◌∙◌, ap, refl, ℕ, zero, suc, ◌+◌, ◌<◌, ◌≤◌, Bool, false, ◌&&◌, ◌||◌, ◌==◌, cond, eqb, List, [], ◌∷◌, ◌++◌, filter, flat_map, map, arith, bytes_eq, is_eq}
-use Rattle.std.specs.List.{range_with_len}
-use Rattle.cns_terms.proofs.Common.{bytes_eq-Decides, filter-append, key_cmp, nat_tests, same_key}
-use Rattle.cns_terms.specs.Common.{Account, Cusip}
-use Rattle.cns_terms.specs.declared.holding.Key.{Key}
-use Rattle.cns_history.specs.Lines.{numbers, place}
+use Rattle.cns_account.proofs.Common.{◌≡◌, ◌∙◌, ap, refl, ℕ, zero, suc, ◌+◌, ◌<◌, ◌≤◌, Bool, false, ◌&&◌, ◌||◌, ◌==◌, cond, eqb, List, [], ◌∷◌, ◌++◌, filter, flat_map, map, arith, bytes_eq, is_eq, range_with_len, bytes_eq-Decides, filter-append, key_cmp, same_key, Account, Cusip, Key, place, ints}
+use Rattle.cns_terms.proofs.Common.{nat_tests}
+use Rattle.cns_history.specs.Lines.{numbers}
 
 -- whether a place is the one
 abbrev pub is_at : Key → Key → Bool
@@ -21,24 +18,15 @@ in_row k a (c ∷ cs) =
     ap (λ b. cond b (place a c ∷ filter (is_at k) (map (place a) cs)) (filter (is_at k) (map (place a) cs))) (same_key (place a c) k)
     ∙ row_branch k a c (eqb a k.account) (bytes_eq c k.issue) (filter (λ c. bytes_eq c k.issue) cs) _ (in_row k a cs)
 
-grid_branch : (b : Bool) (a : Account) (f : Account → List Key) (bs : List Account) → cond b (f a) [] ++ flat_map f bs ≡ flat_map f (cond b (a ∷ bs) bs)
-grid_branch b a f bs = grind arith
-
 in_grid : (k : Key) (cs : List Cusip) (bs : List Account)
     → filter (is_at k) (flat_map (λ a. map (place a) cs) bs) ≡ flat_map (λ a. map (place a) (filter (λ c. bytes_eq c k.issue) cs)) (filter (λ a. eqb a k.account) bs)
 in_grid k cs [] = refl
-in_grid k cs (a ∷ bs) =
-    filter-append (is_at k) (map (place a) cs) (flat_map (λ a. map (place a) cs) bs)
-    ∙ (λ i. in_row k a cs i ++ in_grid k cs bs i)
-    ∙ grid_branch (eqb a k.account) a (λ a. map (place a) (filter (λ c. bytes_eq c k.issue) cs)) (filter (λ a. eqb a k.account) bs)
-
-once_branch : (k : Key) (t u : Bool) → flat_map (λ a. map (place a) (cond u (k.issue ∷ []) [])) (cond t (k.account ∷ []) []) ≡ cond (t && u) (k ∷ []) []
-once_branch k t u = grind arith
+in_grid k cs (a ∷ bs) = grind (arith, filter-append, in_row, in_grid k cs bs)
 
 -- a place whose account and issue are among them, each at most once
 pub once : (k : Key) (cs : List Cusip) (bs : List Account) (t u : Bool) → filter (λ a. eqb a k.account) bs ≡ cond t (k.account ∷ []) [] → filter (λ c. bytes_eq c k.issue) cs ≡ cond u (k.issue ∷ []) []
     → filter (is_at k) (flat_map (λ a. map (place a) cs) bs) ≡ cond (t && u) (k ∷ []) []
-once k cs bs t u is are = in_grid k cs bs ∙ (λ i. flat_map (λ a. map (place a) (are i)) (is i)) ∙ once_branch k t u
+once k cs bs t u is are = grind (arith, in_grid)
 
 -- ---- issues
 

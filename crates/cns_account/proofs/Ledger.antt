@@ -1,17 +1,10 @@
 -- What a day's activities booked.
 -- For `moves_add_up` of laws.rt.
-use Rattle.std.proofs.Common.{◌≡◌, ◌∙◌, refl, ℤ, pos, ◌+ℤ◌, Bool, true, false, not, ◌&&◌, cond, List, [], ◌∷◌, filter, reverse, slice_get, unwrap_or, Option, Some, None, arith, int_lt}
-use Rattle.std.specs.Option.{option_map_or}
-use Rattle.std.proofs.lemmas.Int.{ints}
+use Rattle.cns_account.proofs.Common.{◌≡◌, ◌∙◌, refl, ℤ, pos, ◌+ℤ◌, Bool, true, false, not, ◌&&◌, cond, List, [], ◌∷◌, filter, reverse, slice_get, unwrap_or, Option, Some, None, arith, int_lt, option_map_or, ints, Day, Journal, NoneHolds, all_fail, closings, date, day_number, entries, is_close, is_not_after, is_past, last_close, neither, open_day, pend_of, pending, reverse_onto, total, total-append, trade_entries, trades, Trade, Entry, Pend, is_within, nat_tests}
 use Rattle.cns_terms.proofs.SheetSums.{total-flat_map}
-use Rattle.cns_terms.proofs.Common.{Day, Journal, NoneHolds, all_fail, closings, date, day_number, entries, is_close, is_not_after, is_past, last_close, neither, open_day, pend_of, pending, reverse_onto, total, total-append, trade_entries, trades}
 use Rattle.cns_terms.specs.Pending.{due, is_due}
 use Rattle.cns_terms.specs.Refusals.{rules}
 use Rattle.cns_terms.specs.declared.command.Activity.TheVariants as activity
-use Rattle.cns_terms.specs.declared.command.Trade.{Trade}
-use Rattle.cns_terms.specs.declared.holding.Entry.{Entry}
-use Rattle.cns_terms.specs.declared.pend.Pend.{Pend}
-use Rattle.cns_account.specs.Moves.{is_within}
 
 pub total-reverse : {X : Type 0} (f : X → ℤ) (xs : List X) → total f (reverse xs) ≡ total f xs
 total-reverse f [] = refl
@@ -46,11 +39,7 @@ module _ (f : Entry → ℤ) where
 
   due_within : (today next : Day) (ps : List Pend) → total trade (filter (is_due next) (filter (λ p. not (is_due today p)) ps)) ≡ total (settles (Some today) next) ps
   due_within today next [] = refl
-  due_within today next (p ∷ ps) = by (is_not_after p.date today) (is_not_after p.date next) (filter (λ p. not (is_due today p)) ps) _ refl (due_within today next ps)
-    where
-      by : (b c : Bool) (qs : List Pend) (v : ℤ) → is_not_after p.date next ≡ c → total trade (filter (is_due next) qs) ≡ v
-          → total trade (filter (is_due next) (cond (not b) (p ∷ qs) qs)) ≡ cond (c && not b) (trade p) (pos 0) +ℤ v
-      by b c qs v is h = grind (arith, ints)
+  due_within today next (p ∷ ps) = grind (arith, due_within today next ps)
 
   -- what a close books: the trades that are dated after the day that it ends, up to the next
   pub close_settles : (opening : Day) (J : Journal) (next : Day) → total f (entries opening J (activity.Close next)) ≡ total (settles (Some (date opening J)) next) (trades J)

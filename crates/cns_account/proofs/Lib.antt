@@ -13,3 +13,4 @@ pub mod Taken
 pub mod Marked
 pub mod Sizes
 pub mod AddingUp
+pub mod Common

@@ -1,16 +1,10 @@
 -- How a mark comes about.
 -- For `moves_add_up` of laws.rt.
-use Rattle.std.proofs.Common.{◌≡◌, ◌∙◌, sym, ap, ℕ, ◌+◌, ◌-◌, ◌*◌, ◌^◌, ◌≤◌, ℤ, pos, ◌+ℤ◌, ◌-ℤ◌, ◌*ℤ◌, neg_ℤ, inl, inr, arith, unsigned_abs}
+use Rattle.cns_account.proofs.Common.{◌≡◌, ◌∙◌, sym, ap, ℕ, ◌+◌, ◌-◌, ◌*◌, ◌^◌, ◌≤◌, ℤ, pos, ◌+ℤ◌, ◌-ℤ◌, ◌*ℤ◌, neg_ℤ, inl, inr, arith, unsigned_abs, int_wrap_fits, ints, cases_lt, Price, Row, of_causes, Moved, Moves}
 use Rattle.std.proofs.Math.Nat.{mul-le-mul}
-use Rattle.std.proofs.lemmas.Int.{int_wrap_fits, ints}
-use Rattle.std.proofs.lemmas.Bool.{cases_lt}
 use Rattle.cns_terms.proofs.ZeroSums.{times_sum}
-use Rattle.cns_terms.specs.Common.{Price, amount_limit, price_limit}
-use Rattle.cns_terms.specs.declared.sheet.Row.{Row}
-use Rattle.cns_account.specs.Laws.{of_causes}
+use Rattle.cns_terms.specs.Common.{amount_limit, price_limit}
 use Rattle.cns_account.specs.Rows.{moved, valued}
-use Rattle.cns_account.specs.declared.moves.Moved.{Moved}
-use Rattle.cns_account.specs.declared.moves.Moves.{Moves}
 
 times_more : (z : ℤ) (m n : ℕ) → z *ℤ pos (m + n) ≡ (z *ℤ pos m) +ℤ (z *ℤ pos n)
 times_more z m n = grind arith

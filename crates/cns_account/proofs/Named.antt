@@ -1,28 +1,14 @@
 -- What an activity books stands at the places that it names.
 -- For `places_are_whole` and `moves_add_up` of laws.rt.
-use Rattle.std.proofs.Common.{◌≡◌, ◌∙◌, sym, ap, refl, ◌<◌, ℤ, pos, ◌+ℤ◌, Bool, true, false, ◌&&◌, ◌||◌, ◌==◌, cond, eqb, List, [], ◌∷◌, filter, flat_map, map, is_none, option_map, option_to_list, unwrap_or, Option, Some, None, IfSome, arith, bytes_eq, subst}
-use Rattle.std.specs.Option.{option_map_or}
-use Rattle.std.proofs.lemmas.Int.{ints}
+use Rattle.cns_account.proofs.Common.{◌≡◌, ◌∙◌, sym, ap, refl, ◌<◌, ℤ, pos, ◌+ℤ◌, Bool, true, false, ◌&&◌, ◌||◌, ◌==◌, cond, eqb, List, [], ◌∷◌, filter, flat_map, map, is_none, option_map, option_to_list, unwrap_or, Option, Some, None, IfSome, arith, bytes_eq, subst, option_map_or, ints, Day, IsSound, Journal, NoneHolds, Posting, State, against_corporation, all_fail, and_false, cents_for, corporation, each_append, each_map, entries, execution_entries, fill_entry, fills, holders, holding, holds, idle_parts, is_account, is_close, is_listed, issues, journal_of, last_close, list_any, members, money, nat_list_eq_equiv, neither, new_entry, notice_at, notices, old_entry, open_day, posting, refusal, row, shares_for, total, each_named, IsNoticed, both_hold, Notice, Execution, position, Account, Cusip, Activity, Entry, Holding, Key, notice_of, accounts_in, both, each, has_position, is_movement, is_wanted, named, place, places, standing}
 use Rattle.std.proofs.lemmas.List.Concat.{flat_map_single}
-use Rattle.cns_terms.proofs.Common.{AllByRecursion, Day, IsSound, Journal, NoneHolds, Posting, State, against_corporation, all_fail, and_false, cents_for, corporation, each_append, each_map, entries, execution_entries, fill_entry, fills, holders, holding, holds, idle_parts, is_account, is_close, is_listed, issues, journal_of, last_close, list_any, members, money, nat_list_eq_equiv, neither, new_entry, notice_at, notices, old_entry, open_day, posting, refusal, row, shares_for, total}
-use Rattle.cns_terms.proofs.BuyIns.{each_named}
+use Rattle.cns_terms.proofs.Common.{AllByRecursion}
 use Rattle.cns_terms.proofs.Elsewhere.{idle_at}
-use Rattle.cns_terms.proofs.Sound.{IsNoticed, both_hold}
 use Rattle.cns_terms.specs.Entries.{split_entry}
-use Rattle.cns_terms.specs.Notices.{Notice}
-use Rattle.cns_terms.specs.declared.buy_in.Execution.{Execution}
-use Rattle.cns_terms.specs.Positions.{position}
 use Rattle.cns_terms.specs.Refusals.{rules}
-use Rattle.cns_terms.specs.Common.{Account, Cusip}
-use Rattle.cns_terms.specs.declared.command.Activity.{Activity}
 use Rattle.cns_terms.specs.declared.command.Activity.TheVariants as activity
 use Rattle.cns_terms.specs.declared.command.Command.TheVariants as command
 use Rattle.cns_terms.specs.declared.command.Movement.{Movement}
-use Rattle.cns_terms.specs.declared.holding.Entry.{Entry}
-use Rattle.cns_terms.specs.declared.holding.Holding.{Holding}
-use Rattle.cns_terms.specs.declared.holding.Key.{Key}
-use Rattle.cns_book.specs.Shown.{notice_of}
-use Rattle.cns_history.specs.Lines.{accounts_in, both, each, has_position, is_movement, is_wanted, named, place, places, standing}
 use Rattle.cns_history.specs.declared.watched.Whose.TheVariants.{All}
 use Rattle.cns_account.proofs.Grid.{is_at, once, one_issue, one_number, two_accounts, two_issues}
 

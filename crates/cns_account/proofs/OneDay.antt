@@ -1,32 +1,15 @@
 -- What a day's records booked at a place.
 -- For `moves_add_up` of laws.rt.
-use Rattle.std.proofs.Common.{◌≡◌, ◌∙◌, sym, ap, refl, subst, ℕ, ◌+◌, ◌<◌, ℤ, pos, ◌+ℤ◌, ◌-ℤ◌, Bool, true, false, cond, List, [], ◌∷◌, ◌++◌, length, is_none, option_map, option_to_list, Option, Some, None, Ok, Err, arith, int_eq, int_lt}
-use Rattle.std.specs.Int.{Width}
-use Rattle.std.specs.Option.{option_map_or}
-use Rattle.std.proofs.lemmas.Int.{ints}
-use Rattle.cns_terms.proofs.Common.{Day, IsWhole, NoneHolds, State, all_fail, date, day_number, is_close, journal_of, next, open_day, opened, pend_of, refusal, total, total-append, trades}
+use Rattle.cns_account.proofs.Common.{◌≡◌, ◌∙◌, sym, ap, refl, subst, ℕ, ◌+◌, ◌<◌, ℤ, pos, ◌+ℤ◌, ◌-ℤ◌, Bool, true, false, cond, List, [], ◌∷◌, ◌++◌, length, is_none, option_map, option_to_list, Option, Some, None, Ok, Err, arith, int_eq, int_lt, Width, option_map_or, ints, Day, IsWhole, NoneHolds, State, all_fail, date, day_number, is_close, journal_of, next, open_day, opened, pend_of, refusal, total, total-append, trades, whole-post, whole_nil, traded, activity_reply, Activity, Pend, Entry, Holding, Key, Line, state_after_line, booked, booking, bookings_at, is_movement, lines_of, movements_at, standing, Booking, HistoryLine, day_closed, is_line_at, last_of, date_told, Moved}
 use Rattle.cns_terms.proofs.Facts.{later}
-use Rattle.cns_terms.proofs.Sound.{whole-post, whole_nil}
-use Rattle.cns_terms.specs.Listings.{traded}
-use Rattle.cns_terms.specs.Machine.{activity_reply}
 use Rattle.cns_terms.specs.Refusals.{rules}
-use Rattle.cns_terms.specs.declared.command.Activity.{Activity}
 use Rattle.cns_terms.specs.declared.command.Activity.TheVariants as activity
-use Rattle.cns_terms.specs.declared.pend.Pend.{Pend}
 use Rattle.cns_terms.specs.declared.command.Command.TheVariants as command
-use Rattle.cns_terms.specs.declared.holding.Entry.{Entry}
-use Rattle.cns_terms.specs.declared.holding.Holding.{Holding}
-use Rattle.cns_terms.specs.declared.holding.Key.{Key}
-use Rattle.cns_feed.specs.Line.{Line}
-use Rattle.cns_feed.specs.Output.{state_after, state_after_line}
-use Rattle.cns_history.specs.Lines.{booked, booking, bookings_at, history, is_movement, lines_of, movements_at, standing}
-use Rattle.cns_history.specs.declared.line.Booking.{Booking}
-use Rattle.cns_history.specs.declared.line.HistoryLine.{HistoryLine}
+use Rattle.cns_feed.specs.Output.{state_after}
+use Rattle.cns_history.specs.Lines.{history}
 use Rattle.cns_history.specs.declared.watched.Watched.TheVariants as watched
 use Rattle.cns_history.specs.declared.watched.Whose.TheVariants as whose
-use Rattle.cns_account.specs.Laws.{closes, day_closed, is_line_at, last_of}
-use Rattle.cns_account.specs.Past.{date_told}
-use Rattle.cns_account.specs.declared.moves.Moved.{Moved}
+use Rattle.cns_account.specs.Laws.{closes}
 use Rattle.cns_account.proofs.AtPlaces.{movement_at}
 use Rattle.cns_account.proofs.Ledger.{IsAfter, all_booked, close_settles, settles, trade_settles}
 use Rattle.cns_account.proofs.Named.{entered, more}

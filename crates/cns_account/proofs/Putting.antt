@@ -1,8 +1,7 @@
 -- A value that is put at a key.
 -- For `add_entry` and `add_line` of day_moves.rt; `add_side` of pending.rt in cns_page, `add` of issues.rt in cns_page.
-use Rattle.std.proofs.Common.{◌≡◌, cond, Option, Some, unwrap_or, is_eq, Ordering, arith}
+use Rattle.cns_account.proofs.Common.{◌≡◌, cond, Option, Some, unwrap_or, is_eq, Ordering, arith, equal}
 use Rattle.std.proofs.lemmas.Map.Lookups.{CmpEqualImpliesEq}
-use Rattle.cns_terms.proofs.Common.{equal}
 
 module _ {K V : Type 0} (cmp : K → K → Ordering) (exact : CmpEqualImpliesEq cmp) (none : V) (f : V → V) (old new : K → Option V) (key : K) (v : V)
     (updates : (q : K) → new q ≡ cond (is_eq (cmp key q)) (Some v) (old q)) (is : v ≡ f (unwrap_or (old key) none)) where

@@ -1,22 +1,13 @@
 -- The row of a place on the sheet of the last close, and its limits.
 -- For `moves_add_up` of laws.rt.
-use Rattle.std.proofs.Common.{◌≡◌, ◌∙◌, sym, ap, refl, Bool, true, false, cond, List, [], ◌∷◌, flat_map, map, not, Some, arith, is_eq, subst, ◌+◌, ◌<◌, ◌≤◌, length, Ok, Err, unsigned_abs}
-use Rattle.cns_terms.proofs.Common.{Account, AllByRecursion, Day, IsReached, Journal, State, accounts, amount_limit, corporation_limit, date, each_append, each_filter, each_map, equal, exact_keys, history_limit, is_idle, issues, journal, journal_of, key_cmp, last_close, limited, money, next, price, price_limit, row, rows_of, sheet_rows}
+use Rattle.cns_account.proofs.Common.{◌≡◌, ◌∙◌, sym, ap, refl, Bool, true, false, cond, List, [], ◌∷◌, flat_map, map, not, Some, arith, is_eq, subst, ◌+◌, ◌<◌, ◌≤◌, length, Ok, Err, unsigned_abs, Day, Journal, State, accounts, amount_limit, corporation_limit, date, each_append, each_filter, each_map, equal, exact_keys, history_limit, is_idle, issues, journal, journal_of, key_cmp, last_close, limited, money, next, price, price_limit, row, rows_of, sheet_rows, Key, Row, Cusip, position, Activity, row_at, Line, row_on, IsLineInRange}
+use Rattle.cns_terms.proofs.Common.{Account, AllByRecursion, IsReached}
 use Rattle.cns_terms.specs.declared.command.Activity.TheVariants as activity
-use Rattle.cns_terms.specs.declared.holding.Key.{Key}
-use Rattle.cns_terms.specs.declared.sheet.Row.{Row}
 use Rattle.cns_terms.proofs.Reached.{reached-from}
-use Rattle.cns_terms.specs.Common.{Cusip}
-use Rattle.cns_terms.specs.Positions.{position}
-use Rattle.cns_terms.specs.declared.command.Activity.{Activity}
 use Rattle.cns_sheets.specs.Build.{key_of}
-use Rattle.cns_sheets.specs.Search.{row_at}
-use Rattle.cns_feed.specs.Line.{Line}
 use Rattle.cns_feed.specs.Output.{state_after}
-use Rattle.cns_history.specs.Lines.{row_on}
 use Rattle.cns_history.proofs.Limits.{standing_small}
 use Rattle.cns_account.proofs.Named.{each_all, more, stands}
-use Rattle.cns_account.specs.Laws.{IsLineInRange}
 
 -- ---- the row
 

@@ -1,42 +1,14 @@
 -- How far records can take a position.
 -- For `moves_add_up` of laws.rt.
-use Rattle.std.proofs.Common.{◌≡◌, ◌∙◌, ap, refl, ℕ, ◌+◌, ◌*◌, ◌<◌, ◌≤◌, ℤ, ◌-ℤ◌, Bool, true, false, cond, List, [], ◌∷◌, is_none, map, option_and_then, option_to_list, Option, Some, None, Ok, Err, arith, sum_by, unsigned_abs}
-use Rattle.std.specs.Int.{Width}
-use Rattle.std.specs.List.{AllByRecursion}
-use Rattle.std.specs.Option.{option_map_or}
-use Rattle.std.proofs.lemmas.Int.{ints}
-use Rattle.std.proofs.lemmas.List.Sums.{sum_by-cons}
-use Rattle.cns_terms.proofs.BuyIns.{execution_cents}
-use Rattle.cns_terms.proofs.Common.{Day, IsExecutable, IsWhole, Journal, NoneHolds, State, added, added-more, answer, date, execution_entries, fill_entry, is_close, journal_of, magnitude, money_limit, next, pend_of, refusal, shares_limit, shares_of_fills, total_small, trade_entries}
-use Rattle.cns_terms.proofs.Magnitudes.{added-append}
-use Rattle.cns_terms.proofs.Sound.{whole-post}
-use Rattle.cns_terms.specs.Listings.{traded}
-use Rattle.cns_terms.specs.Notices.{Notice}
+use Rattle.cns_account.proofs.Common.{◌≡◌, ◌∙◌, ap, refl, ℕ, ◌+◌, ◌*◌, ◌<◌, ◌≤◌, ℤ, ◌-ℤ◌, Bool, true, false, cond, List, [], ◌∷◌, is_none, map, option_and_then, option_to_list, Option, Some, None, Ok, Err, arith, sum_by, unsigned_abs, Width, AllByRecursion, option_map_or, ints, sum_by-cons, execution_cents, Day, IsExecutable, IsWhole, Journal, NoneHolds, State, added, added-more, answer, date, execution_entries, fill_entry, is_close, journal_of, magnitude, money_limit, next, pend_of, refusal, shares_limit, shares_of_fills, total_small, trade_entries, added-append, whole-post, traded, Notice, Execution, Activity, Command, Trade, Entry, Holding, Key, Reply, Log, state_of, Line, state_after_line, log_after_line, booked, booking, bookings_at, is_movement, lines_of, movements_at, standing, Booking, HistoryLine, IsLineInRange, is_line_at, is_within, accepted_of, Moved, nat_tests}
 use Rattle.cns_terms.specs.Refusals.{rules}
-use Rattle.cns_terms.specs.declared.buy_in.Execution.{Execution}
 use Rattle.cns_terms.specs.declared.buy_in.Fill.{Fill}
-use Rattle.cns_terms.specs.declared.command.Activity.{Activity}
 use Rattle.cns_terms.specs.declared.command.Activity.TheVariants as activity
-use Rattle.cns_terms.specs.declared.command.Command.{Command}
 use Rattle.cns_terms.specs.declared.command.Command.TheVariants as command
-use Rattle.cns_terms.specs.declared.command.Trade.{Trade}
-use Rattle.cns_terms.specs.declared.holding.Entry.{Entry}
-use Rattle.cns_terms.specs.declared.holding.Holding.{Holding}
-use Rattle.cns_terms.specs.declared.holding.Key.{Key}
-use Rattle.cns_terms.specs.declared.reply.Reply.{Reply}
-use Rattle.cns_book.specs.Log.{Log, state_of}
-use Rattle.cns_feed.specs.Line.{Line}
-use Rattle.cns_feed.specs.Output.{state_after_line}
-use Rattle.cns_feed.specs.Replay.{log_after, log_after_line}
-use Rattle.cns_history.specs.Lines.{booked, booking, bookings_at, history, is_movement, lines_of, movements_at, standing}
-use Rattle.cns_history.specs.declared.line.Booking.{Booking}
-use Rattle.cns_history.specs.declared.line.HistoryLine.{HistoryLine}
+use Rattle.cns_feed.specs.Replay.{log_after}
+use Rattle.cns_history.specs.Lines.{history}
 use Rattle.cns_history.specs.declared.watched.Watched.{Watched}
 use Rattle.cns_history.specs.declared.watched.Whose.TheVariants as whose
-use Rattle.cns_account.specs.Laws.{IsLineInRange, is_line_at}
-use Rattle.cns_account.specs.Moves.{is_within}
-use Rattle.cns_account.specs.Past.{accepted_of}
-use Rattle.cns_account.specs.declared.moves.Moved.{Moved}
 use Rattle.cns_account.proofs.AtPlaces.{movement_at, whole_line}
 use Rattle.cns_account.proofs.Named.{entered}
 use Rattle.cns_account.proofs.Summed.{IsCounted, entry_at, entry_size, is_named, kept_added, line_room, line_size, taken_size}
@@ -48,9 +20,6 @@ fill_shares : (n : Notice) (fs : List Fill) → magnitude (λ (e : Entry). e.sha
 fill_shares n [] = refl
 fill_shares n (f ∷ fs) = rw (fill_shares n fs, sum_by-cons (λ (f : Fill). f.shares) f fs) (omega (arith, ints))
 
-execution_shares : (J : Journal) (x : Execution) (n : Notice) → IsExecutable J x n → magnitude (λ (e : Entry). e.shares) (execution_entries J x n) ≡ x.shares + x.shares
-execution_shares J x n ready = grind (arith, shares_of_fills, fill_shares)
-
 -- what it can book at most, by what a command can name
 abbrev IsFew : (Entry → ℤ) → ℕ → State → Activity → Type 0
 IsFew ent c S x = magnitude ent (entered S x) ≤ c
@@ -58,9 +27,6 @@ IsFew ent c S x = magnitude ent (entered S x) ≤ c
 executed_few : (ent : Entry → ℤ) (c : ℕ) (S : State) (x : Execution) → ((n : Notice) → IsExecutable (journal_of S) x n → magnitude ent (execution_entries (journal_of S) x n) ≤ c)
     → NoneHolds (rules S.opening (journal_of S) (activity.Execute x)) → IsFew ent c S (activity.Execute x)
 executed_few ent c S x h1 h2 = grind arith
-
-shares_named : (S : State) (x : Activity) → IsLineInRange (Ok (command.Activity x)) → NoneHolds (rules S.opening (journal_of S) x) → is_named x ≡ true → IsFew (λ e. e.shares) (2 * shares_limit) S x
-shares_named S x h1 h2 h3 = grind (arith, execution_shares)
 
 cents_named : (S : State) (x : Activity) → IsLineInRange (Ok (command.Activity x)) → NoneHolds (rules S.opening (journal_of S) x) → is_named x ≡ true → IsFew (λ e. e.cents) (2 * money_limit) S x
 cents_named S (activity.Deliver m) range none is = omega (arith, ints)
@@ -74,9 +40,6 @@ cents_named S x range none is = cc
 named_open : (x : Activity) → is_named x ≡ true → is_close x ≡ false
 named_open x is = grind arith
 
-counted : (t : Bool) (m n : ℕ) → m ≡ n → cond t m 0 + 0 ≤ cond t n 0
-counted t m n is = grind arith
-
 -- ---- what a record can book at most
 
 -- each activity and trade within limits books no more than a number
@@ -85,7 +48,7 @@ pub record AreLimited (ent : Entry → ℤ) (c : ℕ) : Type 0 where
   pub traded : (t : Trade) → IsLineInRange (Ok (command.Activity (activity.Trade t))) → magnitude ent (trade_entries (pend_of t)) ≤ c
 
 pub shares_limited : AreLimited (λ e. e.shares) (2 * shares_limit)
-shares_limited = record { named = shares_named; traded = λ t range. omega (arith, ints, range.1) }
+shares_limited = grind (arith, shares_of_fills, fill_shares)
 
 pub cents_limited : AreLimited (λ e. e.cents) (2 * money_limit)
 cents_limited = record { named = cents_named; traded = λ t range. omega (arith, ints, range.0) }

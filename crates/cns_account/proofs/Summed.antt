@@ -1,31 +1,10 @@
 -- What moved a position, of all causes together.
 -- For `moves_add_up` of laws.rt.
-use Rattle.std.proofs.Common.{◌≡◌, ◌∙◌, sym, ap, subst, ℕ, ◌+◌, ◌^◌, ◌≤◌, ℤ, pos, ◌+ℤ◌, ◌-ℤ◌, Bool, true, false, ◌&&◌, cond, eqb, filter, refl, List, [], ◌∷◌, Option, Some, None, inl, inr, arith, bytes_eq, is_eq, unsigned_abs, FitsSigned}
-use Rattle.std.specs.Int.{Width, int_wrap, w128, w64}
-use Rattle.std.specs.List.{fold}
-use Rattle.std.specs.Option.{option_map_or}
-use Rattle.std.proofs.lemmas.Bool.{cases_lt}
-use Rattle.std.proofs.lemmas.Int.{SFits-int_wrap, fits_signed_from_abs, int_wrap-add_right, int_wrap-add_same, int_wrap_fits, ints}
-use mir.Val.{hbits}
-use Rattle.cns_terms.proofs.Common.{Day, State, added, is_close, key_cmp, pend_of, same_key, total, trade_entries}
-use Rattle.cns_terms.specs.declared.command.Activity.{Activity}
+use Rattle.cns_account.proofs.Common.{◌≡◌, ◌∙◌, sym, ap, subst, ℕ, ◌+◌, ◌^◌, ◌≤◌, ℤ, pos, ◌+ℤ◌, ◌-ℤ◌, Bool, true, false, ◌&&◌, cond, eqb, filter, refl, List, [], ◌∷◌, Option, Some, None, inl, inr, arith, bytes_eq, is_eq, unsigned_abs, FitsSigned, Width, int_wrap, w128, w64, fold, option_map_or, cases_lt, SFits-int_wrap, fits_signed_from_abs, int_wrap-add_right, int_wrap-add_same, int_wrap_fits, ints, hbits, Day, State, added, is_close, key_cmp, pend_of, same_key, total, trade_entries, Activity, Trade, Taken, Entry, Holding, Key, booking, is_movement, is_nothing, standing, Booking, HistoryLine, is_line_at, of_causes, moved_at, of_cause, settled_by, unmoved, with_entry, with_line, with_more, with_taken, with_trade, Moved, Moves, nat_tests}
 use Rattle.cns_terms.specs.declared.command.Activity.TheVariants as activity
 use Rattle.cns_terms.specs.declared.command.Command.TheVariants as command
-use Rattle.cns_terms.specs.declared.command.Trade.{Trade}
-use Rattle.cns_terms.specs.declared.history.Taken.{Taken}
-use Rattle.cns_terms.specs.declared.holding.Entry.{Entry}
-use Rattle.cns_terms.specs.declared.holding.Holding.{Holding}
-use Rattle.cns_terms.specs.declared.holding.Key.{Key}
-use Rattle.cns_history.specs.Lines.{booking, is_movement, is_nothing, standing}
-use Rattle.cns_history.specs.declared.line.Booking.{Booking}
-use Rattle.cns_history.specs.declared.line.HistoryLine.{HistoryLine}
 use Rattle.cns_history.specs.declared.line.HistoryLine.TheVariants as line
-use Rattle.cns_account.specs.Laws.{is_line_at, of_causes}
-use Rattle.cns_account.specs.Moves.{moved_at, of_cause, settled_by, unmoved, with_entry, with_line, with_more, with_taken, with_trade}
-use Rattle.cns_account.specs.declared.moves.Moved.{Moved}
-use Rattle.cns_account.specs.declared.moves.Moves.{Moves}
 use Rattle.cns_account.proofs.Named.{AreSound, adds, entered, more}
-use Rattle.std.proofs.lemmas.Bool.Decides.{nat_tests}
 
 -- ---- shares or cents at a place, and how far they can take a position but by splits and exchanges
 
@@ -105,12 +84,6 @@ pub record IsCounted (k : Key) (w : Width) (g : Moved → ℤ) (ent : Entry → 
   pub of_booking : (n : ℕ) (d : Day) (x : Activity) (from to : Holding) → amt (booking k n d x from to) ≡ held to -ℤ held from
   pub of_nothing : (b : Booking) → is_nothing b ≡ true → amt b ≡ pos 0
   pub more_held : (S : State) (x : Activity) → AreSound S x → is_close x ≡ false → held (standing (more S x) k) ≡ total (entry_at ent k) (entered S x) +ℤ held (standing S k)
-
-no_shares : (b : Booking) → is_nothing b ≡ true → b.shares ≡ pos 0
-no_shares b is = grind (arith, ints)
-
-no_cents : (b : Booking) → is_nothing b ≡ true → b.cents ≡ pos 0
-no_cents b is = grind (arith, ints)
 
 pub shares_counted : (k : Key) → IsCounted k w64 (λ m. m.shares) (λ e. e.shares) (λ b. b.shares) (λ h. h.now)
 shares_counted k = grind (arith, adds)

@@ -1,21 +1,9 @@
 -- The trades of a history.
 -- For `moves_add_up` of laws.rt.
-use Rattle.std.proofs.Common.{◌≡◌, ◌∙◌, sym, ap, ◌+◌, ◌≤◌, ℤ, pos, ◌+ℤ◌, cond, List, [], ◌∷◌, length, option_and_then, Option, Some, None, Ok, Err, arith}
-use Rattle.std.specs.Option.{option_map_or}
-use Rattle.cns_terms.proofs.Common.{Day, State, answer, journal_of, next, pend_of, total, trade_entries, trades}
-use Rattle.cns_terms.specs.Listings.{traded}
-use Rattle.cns_terms.specs.declared.command.Command.{Command}
-use Rattle.cns_terms.specs.declared.holding.Entry.{Entry}
-use Rattle.cns_terms.specs.declared.holding.Key.{Key}
-use Rattle.cns_terms.specs.declared.reply.Reply.{Reply}
-use Rattle.cns_book.specs.Log.{Log, state_of}
-use Rattle.cns_feed.specs.Line.{Line}
-use Rattle.cns_feed.specs.Replay.{log_after, log_after_line}
-use Rattle.cns_account.specs.Moves.{is_within}
-use Rattle.cns_account.specs.Past.{accepted_of}
+use Rattle.cns_account.proofs.Common.{◌≡◌, ◌∙◌, sym, ap, ◌+◌, ◌≤◌, ℤ, pos, ◌+ℤ◌, cond, List, [], ◌∷◌, length, option_and_then, Option, Some, None, Ok, Err, arith, option_map_or, Day, State, answer, journal_of, next, pend_of, total, trade_entries, trades, traded, Command, Entry, Key, Reply, Log, state_of, Line, log_after_line, is_within, accepted_of, nat_tests}
+use Rattle.cns_feed.specs.Replay.{log_after}
 use Rattle.cns_account.proofs.Ledger.{settles}
 use Rattle.cns_account.proofs.Summed.{entry_at, taken_at}
-use Rattle.std.proofs.lemmas.Bool.Decides.{nat_tests}
 
 -- a history is no longer than the records that it is of
 pub few_taken : (b : Log) (ls : List Line) → length (log_after b ls).history ≤ length b.history + length ls

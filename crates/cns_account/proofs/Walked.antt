@@ -1,23 +1,15 @@
 -- The entries of a history, one after another.
 -- For `gather` of past.rt; `gather` of projection.rt in cns_page, `first` of sought.rt in cns_page, `live_notices` of notices.rt in cns_page.
-use Rattle.std.proofs.Common.{◌≡◌, ◌∙◌, sym, ap, ℕ, suc, ◌+◌, ◌-◌, ◌^◌, ◌<◌, ◌≤◌, List, [], ◌∷◌, ◌++◌, length, Some, None, take, take-suc, reverse, slice_get, arith}
-use Rattle.std.proofs.lemmas.List.{take_all}
+use Rattle.cns_account.proofs.Common.{◌≡◌, ◌∙◌, sym, ap, ℕ, suc, ◌+◌, ◌-◌, ◌^◌, ◌<◌, ◌≤◌, List, [], ◌∷◌, ◌++◌, length, Some, None, take, take-suc, reverse, slice_get, arith, take_all, Taken, entry_at, looked_at, ints, nat_tests}
 use Rattle.std.proofs.lemmas.Option.{get_or_from_slice_get, slice_get_within, slice_get_cases}
-use Rattle.cns_terms.specs.declared.history.Taken.{Taken}
-use Rattle.cns_book.specs.Shown.{entry_at}
-use Rattle.cns_account.specs.Past.{looked_at}
 
 -- one element more
 pub take_next : {X : Type 0} (xs : List X) (k : ℕ) (x : X) → slice_get xs k ≡ Some x → take (suc k) xs ≡ take k xs ++ x ∷ []
 take_next xs k x is = take-suc xs k x (slice_get_within xs k x is) ∙ ap (λ y. take k xs ++ (y ∷ [])) (get_or_from_slice_get xs k x x is)
 
--- no element is there
-none_past : {X : Type 0} (xs : List X) (k : ℕ) → slice_get xs k ≡ None → length xs ≤ k
-none_past xs k is = grind (arith, slice_get_cases)
-
 -- all of them
 pub take_past : {X : Type 0} (xs : List X) (k n : ℕ) → slice_get xs k ≡ None → k ≤ n → take k xs ≡ take n xs
-take_past xs k n is le = let past = none_past xs k is in take_all k xs past ∙ sym (take_all n xs (omega (arith, past)))
+take_past xs k n is le = grind (arith, take_all, slice_get_cases)
 
 -- an entry by its place
 entry_there : (H : List Taken) (place : ℕ) → 1 ≤ place → entry_at H place ≡ slice_get (reverse H) (place - 1)

@@ -1,11 +1,9 @@
 -- What a closed day did to an account.
 use Rattle.std.specs.Prelude.{◌≡◌, List, filter_map, map}
-use Rattle.cns_terms.specs.Common.{Account, DaySheet, State}
+use Rattle.cns_account.specs.Common.{Account, DaySheet, State, HistoryLine, DayMoves}
 use Rattle.cns_terms.specs.Sheets.{rows_for, statement}
-use Rattle.cns_history.specs.declared.line.HistoryLine.{HistoryLine}
 use Rattle.cns_account.specs.Rows.{account_row, booking_in, mark_row, totals_of}
 use Rattle.cns_account.specs.declared.day.AccountDay.{AccountDay}
-use Rattle.cns_account.specs.declared.day_moves.DayMoves.{DayMoves}
 
 -- of the state as the close left it, of the day's sheet, of what moved each position, and of the lines of what the day's records
 -- booked: the first line of the statement, the rows of the statement in order, each with what moved it, their sums, and the bookings

@@ -1,19 +1,9 @@
 -- What the dividends that a close pays bring an account.
 use Rattle.std.specs.Prelude.{ℕ, ℤ, pos, ◌-◌, ◌-ℤ◌, Bool, not, ◌==◌, ◌||◌, List, [], ◌∷◌, filter, filter_map, length, slice_get, take, Option, Some, None, if◌then◌else◌}
-use Rattle.std.specs.Int.{int_wrap, w128}
-use Rattle.std.specs.List.{flat_map, fold}
-use Rattle.std.specs.Option.{option_map_or}
-use Rattle.std.specs.Ordering.{int_eq}
-use Rattle.cns_terms.specs.Common.{Account, Cusip, Day, DaySheet, State, cash, corporation, is_not_after, journal_of, same_issue, sheet_on}
-use Rattle.cns_terms.specs.Dividends.{is_due}
-use Rattle.cns_terms.specs.declared.action.Declared.{Declared}
-use Rattle.cns_terms.specs.declared.sheet.Row.{Row}
+use Rattle.cns_account.specs.Common.{int_wrap, w128, flat_map, fold, option_map_or, int_eq, Account, Cusip, Day, DaySheet, State, cash, corporation, is_not_after, journal_of, same_issue, sheet_on, is_due, Declared, Row, row_of, ROW, Past}
 use Rattle.cns_sheets.specs.Payments.{closing_at, member_cash}
-use Rattle.cns_tables.specs.Tables.{row_of}
 use Rattle.cns_tables.specs.declared.piece.Piece.TheVariants as piece
-use Rattle.cns_tables.specs.declared.table.TheConstants.{ROW}
 use Rattle.cns_account.specs.declared.dividends.PaidDividend.{PaidDividend}
-use Rattle.cns_account.specs.declared.past.Past.{Past}
 
 -- ---- which
 

@@ -1,20 +1,11 @@
 -- Since when an account's shorts are short, and what the price did to them.
 use Rattle.std.specs.Prelude.{ℕ, ℤ, pos, ◌-◌, ◌+ℤ◌, int_lt, Bool, false, ◌||◌, List, [], ◌∷◌, ◌++◌, drop, length, slice_get, unwrap_or, if◌then◌else◌}
-use Rattle.std.specs.Int.{int_wrap, w128}
-use Rattle.std.specs.List.{fold}
-use Rattle.std.specs.Option.{option_map_or}
-use Rattle.cns_terms.specs.Common.{Account, Cusip, Day, DaySheet, State, journal_of, same_issue, sheet_on}
-use Rattle.cns_terms.specs.declared.action.Exchange.{Exchange}
-use Rattle.cns_terms.specs.declared.sheet.Row.{Row}
+use Rattle.cns_account.specs.Common.{int_wrap, w128, fold, option_map_or, Account, Cusip, Day, DaySheet, State, journal_of, same_issue, sheet_on, Exchange, Row, row_of, ROW, worth, Past}
 use Rattle.cns_sheets.specs.Search.{row_at}
-use Rattle.cns_tables.specs.Tables.{row_of}
 use Rattle.cns_tables.specs.declared.piece.Piece.{Piece}
 use Rattle.cns_tables.specs.declared.piece.Piece.TheVariants as piece
-use Rattle.cns_tables.specs.declared.table.TheConstants.{ROW}
-use Rattle.cns_history.specs.Texts.{worth}
 use Rattle.cns_account.specs.Rows.{moved}
 use Rattle.cns_account.specs.declared.fails.Fail.{Fail}
-use Rattle.cns_account.specs.declared.past.Past.{Past}
 
 -- ---- since when
 

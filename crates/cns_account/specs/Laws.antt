@@ -1,27 +1,18 @@
 -- The laws of a closed day.
 use Rattle.std.specs.Prelude.{◌≡◌, ◌≤◌, ◌<◌, ◌^◌, ℕ, ◌+◌, ◌-◌, ℤ, ◌+ℤ◌, Bool, false, ◌&&◌, List, [], ◌∷◌, ◌++◌, filter, length, option_map, option_to_list, Option, Some, None, Ok, Err, ⊤}
-use Rattle.std.specs.List.{AllByRecursion}
-use Rattle.std.specs.Ordering.{is_eq}
-use Rattle.cns_terms.specs.Common.{Day, State, answer, is_same_day, key_cmp, member_limit, opened, shares_limit}
+use Rattle.cns_account.specs.Common.{AllByRecursion, is_eq, Day, State, answer, is_same_day, key_cmp, member_limit, opened, shares_limit, Command, Key, Row, history, is_movement, row_on, HistoryLine, Moved, Moves}
 use Rattle.cns_terms.specs.Reached.{IsCommandInRange}
 use Rattle.cns_terms.specs.declared.command.Activity.TheVariants as activity
-use Rattle.cns_terms.specs.declared.command.Command.{Command}
 use Rattle.cns_terms.specs.declared.command.Command.TheVariants as command
-use Rattle.cns_terms.specs.declared.holding.Key.{Key}
-use Rattle.cns_terms.specs.declared.sheet.Row.{Row}
 use Rattle.cns_book.specs.Log.{state_of}
 use Rattle.cns_feed.specs.Line.{Line}
 use Rattle.cns_feed.specs.Output.{state_after_line}
 use Rattle.cns_feed.specs.Replay.{blank_log, log_after}
-use Rattle.cns_history.specs.Lines.{history, is_movement, row_on}
-use Rattle.cns_history.specs.declared.line.HistoryLine.{HistoryLine}
 use Rattle.cns_history.specs.declared.line.HistoryLine.TheVariants as line
 use Rattle.cns_history.specs.declared.watched.Watched.TheVariants as watched
 use Rattle.cns_account.specs.Moves.{moved_at}
 use Rattle.cns_account.specs.Past.{date_told, looked_at}
 use Rattle.cns_account.specs.Rows.{moved, valued}
-use Rattle.cns_account.specs.declared.moves.Moved.{Moved}
-use Rattle.cns_account.specs.declared.moves.Moves.{Moves}
 
 -- ---- the lines of movements
 

@@ -5,3 +5,4 @@ pub mod Fails
 pub mod Dividends
 pub mod Day
 pub mod Laws
+pub mod Common

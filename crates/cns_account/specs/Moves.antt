@@ -1,28 +1,16 @@
 -- What moved positions on a day, by cause.
 use Rattle.std.specs.Prelude.{◌≡◌, ℤ, pos, ◌+ℤ◌, Bool, true, not, ◌&&◌, if◌then◌else◌, List, Option, Some, None, option_and_then, unwrap_or}
+use Rattle.cns_account.specs.Common.{int_wrap, w128, w64, fold, option_map_or, is_eq, Day, is_not_after, Activity, Taken, Key, Booking, HistoryLine, DayMoves, Moved, Moves}
 use Rattle.std.specs.BTreeMap.{get}
-use Rattle.std.specs.Int.{int_wrap, w128, w64}
-use Rattle.std.specs.List.{fold}
-use Rattle.std.specs.Option.{option_map_or}
-use Rattle.std.specs.Ordering.{is_eq}
-use Rattle.cns_terms.specs.Common.{Day, is_not_after}
 use Rattle.cns_terms.specs.Entries.{trade_entries}
 use Rattle.cns_terms.specs.Keys.{key_cmp}
 use Rattle.cns_terms.specs.Listings.{traded}
 use Rattle.cns_terms.specs.Pending.{pend_of}
-use Rattle.cns_terms.specs.declared.command.Activity.{Activity}
 use Rattle.cns_terms.specs.declared.command.Activity.TheVariants as activity
 use Rattle.cns_terms.specs.declared.command.Trade.{Trade}
-use Rattle.cns_terms.specs.declared.history.Taken.{Taken}
 use Rattle.cns_terms.specs.declared.holding.Entry.{Entry}
-use Rattle.cns_terms.specs.declared.holding.Key.{Key}
-use Rattle.cns_history.specs.declared.line.Booking.{Booking}
-use Rattle.cns_history.specs.declared.line.HistoryLine.{HistoryLine}
 use Rattle.cns_history.specs.declared.line.HistoryLine.TheVariants as line
 use Rattle.cns_account.specs.Past.{accepted_of}
-use Rattle.cns_account.specs.declared.day_moves.DayMoves.{DayMoves}
-use Rattle.cns_account.specs.declared.moves.Moved.{Moved}
-use Rattle.cns_account.specs.declared.moves.Moves.{Moves}
 
 -- nothing
 abbrev pub nothing : Moved

@@ -1,16 +1,9 @@
 -- What the history of a book tells of closed days, exchanges and dividends.
 use Rattle.std.specs.Prelude.{◌≡◌, ◌-◌, ◌^◌, List, Option, Some, None, filter_map, reverse, take}
-use Rattle.cns_terms.specs.Common.{Day, exchanged}
-use Rattle.cns_terms.specs.Dividends.{declared}
-use Rattle.cns_terms.specs.declared.action.Declared.{Declared}
-use Rattle.cns_terms.specs.declared.action.Exchange.{Exchange}
-use Rattle.cns_terms.specs.declared.command.Activity.{Activity}
-use Rattle.cns_terms.specs.declared.command.Command.{Command}
+use Rattle.cns_account.specs.Common.{Day, exchanged, declared, Declared, Exchange, Activity, Command, Taken, Past}
 use Rattle.cns_terms.specs.declared.command.Command.TheVariants as command
-use Rattle.cns_terms.specs.declared.history.Taken.{Taken}
 use Rattle.cns_terms.specs.declared.reply.Reply.{Reply}
 use Rattle.cns_terms.specs.declared.reply.Reply.TheVariants as reply
-use Rattle.cns_account.specs.declared.past.Past.{Past}
 
 -- the entries of a history that are looked at, the oldest first: all, or all but the last where there are 2^32 - 1, the most that
 -- a book takes

@@ -1,30 +1,17 @@
 -- The rows of an account's day, and their texts.
 use Rattle.std.specs.Prelude.{ℕ, ℤ, pos, ◌+ℤ◌, ◌-ℤ◌, ◌*ℤ◌, int_lt, List, [], ◌∷◌, ◌++◌, Option, Some, None, if◌then◌else◌}
+use Rattle.cns_account.specs.Common.{int_wrap, w128, fold, Price, State, Key, Row, standing, worth, Booking, HistoryLine, row_of, texts, CELL, ROW, DayMoves, Moved, Moves}
 use Rattle.std.specs.Fmt.{decimal}
-use Rattle.std.specs.Int.{int_wrap, w128}
-use Rattle.std.specs.List.{fold}
-use Rattle.cns_terms.specs.Common.{Price, State}
-use Rattle.cns_terms.specs.declared.holding.Key.{Key}
-use Rattle.cns_terms.specs.declared.sheet.Row.{Row}
-use Rattle.cns_history.specs.Lines.{standing}
-use Rattle.cns_history.specs.Texts.{worth}
 use Rattle.cns_history.specs.Words.{what_text}
-use Rattle.cns_history.specs.declared.line.Booking.{Booking}
-use Rattle.cns_history.specs.declared.line.HistoryLine.{HistoryLine}
 use Rattle.cns_history.specs.declared.line.HistoryLine.TheVariants as line
 use Rattle.cns_tables.specs.Escape.{escaped}
 use Rattle.cns_tables.specs.Pieces.{piece_text}
-use Rattle.cns_tables.specs.Tables.{row_of, texts}
 use Rattle.cns_tables.specs.declared.piece.Piece.TheVariants as piece
-use Rattle.cns_tables.specs.declared.table.TheConstants.{CELL, ROW}
 use Rattle.cns_account.specs.Moves.{moves_at}
 use Rattle.cns_account.specs.declared.booked.Booked.{Booked}
 use Rattle.cns_account.specs.declared.booked.TheConstants.{END}
 use Rattle.cns_account.specs.declared.mark.MarkRow.{MarkRow}
-use Rattle.cns_account.specs.declared.day_moves.DayMoves.{DayMoves}
 use Rattle.cns_account.specs.declared.mark.Causes.{Causes}
-use Rattle.cns_account.specs.declared.moves.Moved.{Moved}
-use Rattle.cns_account.specs.declared.moves.Moves.{Moves}
 use Rattle.cns_account.specs.declared.row.AccountRow.{AccountRow}
 use Rattle.cns_account.specs.declared.totals.Totals.{Totals}
 

@@ -1,7 +1,6 @@
 -- What is booked for a split or an exchange: that its numbers are small, its order and its issues.
 -- For `all_bookings` and `bookings_for` of acting.rt, `book` of bookings.rt.
-use Rattle.std.proofs.Common.{◌≡◌, sym, subst, refl, ℕ, ◌^◌, ◌≤◌, ◌<◌, ℤ, pos, Bool, true, false, cond, unsigned_abs, List, [], ◌∷◌, ◌++◌, arith, int_eq, is_lt, nat_cmp, flat_map, append_assoc}
-use Rattle.cns_actions.proofs.Common.{Account, Action, AllByRecursion, AreInIssues, AreSmall, Booking, CanBeBooked, Change, Cusip, HasSpace, Holder, IsFew, IsForAnother, Key, Rows, age_for, all_bookings, all_holders_of, and_left, and_right, below_all, bookings_for, both_true, by_key, change_of, corporation, corporation_limit, each_append, has_position_or_age, holding_at, ints, is_eq-slice_cmp, is_sorted, issue_of, key_cmp, member_bookings, member_limit, nat_list_cmp_total, nat_tests, opposite, position_at, position_limit, same_issue, slice_cmp}
+use Rattle.cns_actions.proofs.Common.{◌≡◌, sym, subst, refl, ℕ, ◌^◌, ◌≤◌, ◌<◌, ℤ, pos, Bool, true, false, cond, unsigned_abs, List, [], ◌∷◌, ◌++◌, arith, int_eq, is_lt, nat_cmp, flat_map, append_assoc, Account, Action, AllByRecursion, AreInIssues, AreSmall, Booking, CanBeBooked, Change, Cusip, HasSpace, Holder, IsFew, IsForAnother, Key, Rows, age_for, all_bookings, all_holders_of, and_left, and_right, below_all, bookings_for, both_true, by_key, change_of, corporation, corporation_limit, each_append, has_position_or_age, holding_at, ints, is_eq-slice_cmp, is_sorted, issue_of, key_cmp, member_bookings, member_limit, nat_list_cmp_total, nat_tests, opposite, position_at, position_limit, same_issue, slice_cmp}
 use Rattle.cns_actions.proofs.ByAccount.{lower, above_zero, are_above, are_rising, each_listed, listed_rising, place}
 
 -- few members' changes make small entries

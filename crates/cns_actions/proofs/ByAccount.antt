@@ -1,8 +1,6 @@
 -- Members of an issue in the order of their accounts: searches among them, and sums over them.
 -- For `next_holder` of holder.rt, `sum_of`, `all_bookings` and `bookings_for` of acting.rt.
-use Rattle.std.proofs.Common.{◌≡◌, ◌∙◌, sym, ap, subst, refl, ℕ, ◌≤◌, ◌<◌, ℤ, pos, ◌+ℤ◌, Bool, true, false, cond, ◌&&◌, ◌==◌, nat_lt, List, [], ◌∷◌, map, filter, Option, Some, None, unwrap_or, arith, is_lt, nat_cmp, ltb-true}
-use Rattle.cns_actions.proofs.Common.{Account, AllByRecursion, Cusip, Holder, Holding, Key, Rows, and_left, and_right, below_all, bytes_eq-Decides, corporation, equal, find_below, held_above, held_same, held_sorted, holder_of, holders_in, holding_at, ints, is_holder, is_sorted, key_cmp, keys_total, nat_cmp_total, nat_list_cmp_total, nat_tests, occurs, option_map_or, same_issue, same_key, same_lists, tied_itself, total, total-add, total-zero, total-same, zeros}
-use Rattle.cns_actions.proofs.Common.{find, greatest, tied_below}
+use Rattle.cns_actions.proofs.Common.{◌≡◌, ◌∙◌, sym, ap, subst, refl, ℕ, ◌≤◌, ◌<◌, ℤ, pos, ◌+ℤ◌, Bool, true, false, cond, ◌&&◌, ◌==◌, nat_lt, List, [], ◌∷◌, map, filter, Option, Some, None, unwrap_or, arith, is_lt, nat_cmp, ltb-true, Account, AllByRecursion, Cusip, Holder, Holding, Key, Rows, and_left, and_right, below_all, bytes_eq-Decides, corporation, equal, find_below, held_above, held_same, held_sorted, holder_of, holders_in, holding_at, ints, is_holder, is_sorted, key_cmp, keys_total, nat_cmp_total, nat_list_cmp_total, nat_tests, occurs, option_map_or, same_issue, same_key, same_lists, tied_itself, total, total-add, total-zero, total-same, zeros, find, greatest, tied_below}
 use Rattle.std.proofs.lemmas.Map.Lookups.{exact_unsigned}
 use Rattle.cns_terms.proofs.Accounts.{given_once}
 use Rattle.std.proofs.lemmas.Option.{cond_some}

@@ -1,7 +1,6 @@
 -- What trades book, added up by key.
 -- For `listed` of due_bookings.rt, `add`, `add_trade` and `of` of due_amounts.rt.
-use Rattle.std.proofs.Common.{◌≡◌, ◌≢◌, ◌∙◌, sym, ap, refl, ℕ, ◌+◌, ◌*◌, ◌^◌, ◌≤◌, ◌<◌, ℤ, pos, ◌+ℤ◌, Bool, true, false, cond, ◌&&◌, unsigned_abs, List, [], ◌∷◌, map, Option, Some, None, unwrap_or, arith, is_eq, is_lt}
-use Rattle.cns_actions.proofs.Common.{AllByRecursion, IsSmall, each_map, each_weaker, Amount, AmountsByKey, AreApartFrom, AreElsewhere, AreSmall, Day, Entry, HasRoomForTrade, Holding, IsOneTradeMore, IsSmallAmount, Key, Pend, amount_at, amount_for, amount_of, and_left, and_right, as_booking, below_all, buyer_entry, by_key, due_entries, entered, equal, exact_keys, find, find_below, insert_entry, ints, is_sorted, key_cmp, key_of, keys_total, lookup, made, makes, money_limit, no_amount, same_key, seller_entry, shares_limit, tied_below, tied_itself, trade_entries, with_amount, with_entry}
+use Rattle.cns_actions.proofs.Common.{◌≡◌, ◌≢◌, ◌∙◌, sym, ap, refl, ℕ, ◌+◌, ◌*◌, ◌^◌, ◌≤◌, ◌<◌, ℤ, pos, ◌+ℤ◌, Bool, true, false, cond, ◌&&◌, unsigned_abs, List, [], ◌∷◌, map, Option, Some, None, unwrap_or, arith, is_eq, is_lt, AllByRecursion, IsSmall, each_map, each_weaker, Amount, AmountsByKey, AreApartFrom, AreElsewhere, AreSmall, Day, Entry, HasRoomForTrade, Holding, IsOneTradeMore, IsSmallAmount, Key, Pend, amount_at, amount_for, amount_of, and_left, and_right, as_booking, below_all, buyer_entry, by_key, due_entries, entered, equal, exact_keys, find, find_below, insert_entry, ints, is_sorted, key_cmp, key_of, keys_total, lookup, made, makes, money_limit, no_amount, same_key, seller_entry, shares_limit, tied_below, tied_itself, trade_entries, with_amount, with_entry}
 use Rattle.std.specs.BTreeMap.{is_at}
 use Rattle.cns_terms.specs.Pending.{is_due}
 use Rattle.std.proofs.lemmas.Cmp.{eq_by_cmp_equiv}

@@ -1,7 +1,6 @@
 -- Members as a list names them, and as rows show them: what is read of both adds up to the same.
 -- For `bookings_for` of acting.rt.
-use Rattle.std.proofs.Common.{◌≡◌, ◌∙◌, sym, ap, refl, ℕ, ◌≤◌, ℤ, pos, Bool, true, cond, not, List, [], ◌∷◌, map, filter, length, None, arith, int_eq}
-use Rattle.cns_actions.proofs.Common.{Account, AllByRecursion, AreHolders, Cusip, Entry, Holder, Member, Rows, are_distinct, each_weaker, has_position, held_above, holders, holders_in, holding_at, ints, is_sorted, key_cmp, list_any, nat_tests, occurs, occurs_found, occurs_missing, option_map_or, positions_in, total, total-map}
+use Rattle.cns_actions.proofs.Common.{◌≡◌, ◌∙◌, sym, ap, refl, ℕ, ◌≤◌, ℤ, pos, Bool, true, cond, not, List, [], ◌∷◌, map, filter, length, None, arith, int_eq, Account, AllByRecursion, AreHolders, Cusip, Entry, Holder, Member, Rows, are_distinct, each_weaker, has_position, held_above, holders, holders_in, holding_at, ints, is_sorted, key_cmp, list_any, nat_tests, occurs, occurs_found, occurs_missing, option_map_or, positions_in, total, total-map}
 use Rattle.cns_actions.proofs.ByAccount.{each_listed, listed_at, listed_rising, one, place, total_over, who}
 
 -- a sum over what a test keeps

@@ -1,9 +1,7 @@
 -- Bookings that are made one after another: what stands at each key.
 -- For `enter_all`, `book_one` and `book_all` of bookings.rt, `listed` of due_bookings.rt, and `prepare` of effect.rt in cns_book.
-use Rattle.std.proofs.Common.{◌≡◌, ◌≢◌, ◌∙◌, sym, ap, subst, refl, ℕ, ◌+◌, ◌<◌, max, ℤ, pos, ◌+ℤ◌, Bool, true, false, cond, ◌&&◌, ◌==◌, is_some, List, [], ◌∷◌, length, get_or, drop, arith, is_lt}
+use Rattle.cns_actions.proofs.Common.{◌≡◌, ◌≢◌, ◌∙◌, sym, ap, subst, refl, ℕ, ◌+◌, ◌<◌, max, ℤ, pos, ◌+ℤ◌, Bool, true, false, cond, ◌&&◌, ◌==◌, is_some, List, [], ◌∷◌, length, get_or, drop, arith, is_lt, AreElsewhere, AreEntered, AreSmall, Booking, HasSpace, HaveSpace, Holding, Key, Rows, aged, and_left, and_right, below_all, booked, by_key, carried_to, cents_for, entered, entries_in, entry_of, greatest, has_row, holding_at, ints, is_sorted, key_cmp, key_of, made, makes, same_issue, same_key, shares_for, total, with_age, All-from_recursion, All-get_or}
 use Rattle.cns_positions.specs.Rows.{row_at}
-use Rattle.cns_actions.proofs.Common.{AreElsewhere, AreEntered, AreSmall, Booking, HasSpace, HaveSpace, Holding, Key, Rows, aged, and_left, and_right, below_all, booked, by_key, carried_to, cents_for, entered, entries_in, entry_of, greatest, has_row, holding_at, ints, is_sorted, key_cmp, key_of, made, makes, same_issue, same_key, shares_for, total, with_age}
-use Rattle.std.proofs.lemmas.List.Elements.{All-from_recursion, All-get_or}
 use Rattle.std.proofs.lemmas.List.{drop_more}
 
 -- ---- what bookings make at a key

@@ -1,7 +1,6 @@
 -- Lists of members in order.
 -- For `split`, `exchange` and `bookings_for` of parts/actions.rt in cns_book, `close_day` of parts/closing.rt in cns_book and others.
-use Rattle.std.proofs.Common.{◌≡◌, refl, ℕ, true, false, ◌==◌, List, [], ◌∷◌, arith, nat_cmp}
-use Rattle.cns_actions.proofs.Common.{above_all, are_distinct, is_rising, list_any, nat_tests}
+use Rattle.cns_actions.proofs.Common.{◌≡◌, refl, ℕ, true, false, ◌==◌, List, [], ◌∷◌, arith, nat_cmp, above_all, are_distinct, is_rising, list_any, nat_tests}
 
 -- a number below all of a list is none of it
 above_none : (a : ℕ) (ms : List ℕ) → above_all nat_cmp a ms ≡ true → list_any (λ b. a == b) ms ≡ false

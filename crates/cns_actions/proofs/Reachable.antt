@@ -1,7 +1,6 @@
 -- Positions that can be booked stay so.
 -- For `open` of parts/opening.rt in cns_book, `close_day` of parts/closing.rt in cns_book, `make` of actions.rt in cns_growth_tests.
-use Rattle.std.proofs.Common.{◌≡◌, ap, sym, subst, ◌≤◌, unsigned_abs, [], arith}
-use Rattle.cns_actions.proofs.Common.{CanBeBooked, Holding, Key, Rows, amount_limit, corporation, holding_at, rolled}
+use Rattle.cns_actions.proofs.Common.{◌≡◌, ap, sym, subst, ◌≤◌, unsigned_abs, [], arith, CanBeBooked, Holding, Key, Rows, amount_limit, corporation, holding_at, rolled}
 
 -- nothing stands anywhere yet
 pub can_none : (rows : Rows) → rows ≡ [] → CanBeBooked rows

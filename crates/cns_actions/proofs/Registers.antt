@@ -1,8 +1,6 @@
 -- Small numbers, passed in registers.
 -- For `with` of due_amounts.rt and `book_one` of bookings.rt.
-use Rattle.std.proofs.Common.{◌≡◌, ◌^◌, ◌<◌, ℤ, unsigned_abs, w64, to_z, of_z, arith}
-use Rattle.cns_actions.proofs.Common.{fits_signed_from_abs, w128}
-use Rattle.std.proofs.lemmas.Int.{to_z-of_z}
+use Rattle.cns_actions.proofs.Common.{◌≡◌, ◌^◌, ◌<◌, ℤ, unsigned_abs, w64, to_z, of_z, arith, fits_signed_from_abs, w128, to_z-of_z}
 
 -- shares are as they were, and so are cents
 pub shares_passed : (z : ℤ) → unsigned_abs z < 2 ^ 63 → to_z w64 (of_z w64 z) ≡ z

@@ -1,10 +1,7 @@
 -- Members with a position or an age in an issue, account by account: all rows of an account but that in the issue are passed
 -- over.
 -- For `next_holder` of holder.rt, clause next.
-use Rattle.std.proofs.Common.{◌≡◌, ◌∙◌, sym, ap, subst, refl, ℕ, ◌≤◌, ◌<◌, Bool, true, false, cond, ◌&&◌, ◌==◌, nat_lt, List, [], ◌∷◌, filter, length, Option, Some, None, unwrap_or, arith, is_lt}
-use Rattle.cns_actions.proofs.Common.{Account, Cusip, Holder, Holding, Key, Rows, and_left, as_T, below_all, both_true, cons_option, corporation, exact_keys, find, find_below, has_position_or_age, held_above, held_same, held_sorted, holder_at, holder_of, holders_after, holders_in, holding_at, is_above, is_held, is_left, is_of_next, is_sorted, key_cmp, keys_total, less, nat_tests, zeros}
-use Rattle.std.specs.Prelude.{All}
-use Rattle.std.proofs.lemmas.List.Elements.{All-head, filter_passes}
+use Rattle.cns_actions.proofs.Common.{◌≡◌, ◌∙◌, sym, ap, subst, refl, ℕ, ◌≤◌, ◌<◌, Bool, true, false, cond, ◌&&◌, ◌==◌, nat_lt, List, [], ◌∷◌, filter, length, Option, Some, None, unwrap_or, arith, is_lt, Account, Cusip, Holder, Holding, Key, Rows, and_left, as_T, below_all, both_true, cons_option, corporation, exact_keys, find, find_below, has_position_or_age, held_above, held_same, held_sorted, holder_at, holder_of, holders_after, holders_in, holding_at, is_above, is_held, is_left, is_of_next, is_sorted, key_cmp, keys_total, less, nat_tests, zeros, All, All-head, filter_passes}
 use Rattle.cns_positions.proofs.Held.{filter_both}
 use lib.Ieee.Bits.{is_true}
 use Rattle.std.specs.FinMap.Entries.{find-where_key, is_sorted-where_key}

@@ -1,7 +1,6 @@
 -- Sums over the members with a position, as far as they were added up.
 -- For `sum_of` of acting.rt.
-use Rattle.std.proofs.Common.{◌≡◌, ◌∙◌, sym, ap, subst, refl, ℕ, ◌≤◌, ◌<◌, ℤ, pos, ◌+ℤ◌, Bool, true, false, not, ◌||◌, unsigned_abs, List, ◌∷◌, arith, int_eq}
-use Rattle.cns_actions.proofs.Common.{Action, AllByRecursion, CanBeBooked, Change, Cusip, Holder, IsFew, Rows, and_left, and_right, change_of, has_position, holders_of, ints, is_sorted, issue_of, key_cmp, list_any, member_limit, position_at, position_limit, sum_of, with_position}
+use Rattle.cns_actions.proofs.Common.{◌≡◌, ◌∙◌, sym, ap, subst, refl, ℕ, ◌≤◌, ◌<◌, ℤ, pos, ◌+ℤ◌, Bool, true, false, not, ◌||◌, unsigned_abs, List, ◌∷◌, arith, int_eq, Action, AllByRecursion, CanBeBooked, Change, Cusip, Holder, IsFew, Rows, and_left, and_right, change_of, has_position, holders_of, ints, is_sorted, issue_of, key_cmp, list_any, member_limit, position_at, position_limit, sum_of, with_position}
 use Rattle.cns_actions.proofs.ByAccount.{lower, above_zero, are_above, are_rising, each_listed, listed_rising}
 
 -- two changes together

@@ -1,11 +1,8 @@
 -- Where a split or an exchange books.
 -- For `split` and `exchange` of parts/actions.rt, clause places.
-use Rattle.std.proofs.Common.{◌≡◌, ◌≢◌, ◌∙◌, ◌⊎◌, inl, inr, ap, List}
-use Rattle.cns_book.proofs.Common.{Key, each_weaker, issue_of}
-use Rattle.cns_actions.specs.Bookings.{AreElsewhere, key_of}
+use Rattle.cns_book.proofs.Common.{◌≡◌, ◌≢◌, ◌∙◌, ◌⊎◌, inl, inr, ap, List, Key, each_weaker, issue_of, AreElsewhere, Action, Booking}
+use Rattle.cns_actions.specs.Bookings.{key_of}
 use Rattle.cns_actions.specs.Changes.{AreInIssues, new_issue}
-use Rattle.cns_actions.specs.declared.action.Action.{Action}
-use Rattle.cns_actions.specs.declared.booking.Booking.{Booking}
 
 -- at a key outside its issues none is booked
 pub elsewhere : (x : Action) (k : Key) (bs : List Booking) → ¬ ((k.issue ≡ issue_of x) ⊎ (k.issue ≡ new_issue x)) → AreInIssues x bs → AreElsewhere k bs

@@ -1,24 +1,13 @@
 -- Splits and exchanges.
 -- For `split` and `exchange` of parts/actions.rt, clause step.
-use Rattle.std.proofs.Common.{◌≡◌, ◌∙◌, sym, ap, subst, refl, ℕ, ◌≤◌, ℤ, Bool, true, false, ◌||◌, cond, List, ◌∷◌, map, reverse, Option, Some, None, arith, bytes_eq, is_none, IsSome, Ok, Err}
-use Rattle.cns_book.proofs.Common.{Account, Activity, AllByRecursion, AreHolders, Contents, Cusip, Entry, Follows, FollowsNotices, FollowsRows, HasRoom, Holding, IsInRange, IsLimited, IsReached, Key, Listed, Pend, Rows, Rule, account_lt, activity_of, age_brought, all_fail, and_right, books, bought_in, changed_each, each_both, each_in_order, entries, entries_of, first_refusal, holding_at, is_held_up, is_listed, is_retired, is_too_large, is_too_large_at, issue_of, issue_rules, journal, limited, list_any, member_limit, members, members_from_one, pending, position_limit, positions_in, posting, price_in, refusal, retired_in, sold_in, with_age}
-use Rattle.std.proofs.Math.Nat.{max-zero}
+use Rattle.cns_book.proofs.Common.{◌≡◌, ◌∙◌, sym, ap, subst, refl, ℕ, ◌≤◌, ℤ, Bool, true, false, ◌||◌, cond, List, ◌∷◌, map, reverse, Option, Some, None, arith, bytes_eq, is_none, IsSome, Ok, Err, Account, Activity, AllByRecursion, AreHolders, Contents, Cusip, Entry, Follows, FollowsNotices, FollowsRows, HasRoom, Holding, IsInRange, IsLimited, IsReached, Key, Listed, Pend, Rows, Rule, account_lt, activity_of, age_brought, all_fail, and_right, books, bought_in, changed_each, each_both, each_in_order, entries, entries_of, first_refusal, holding_at, is_held_up, is_listed, is_retired, is_too_large, is_too_large_at, issue_of, issue_rules, journal, limited, list_any, member_limit, members, members_from_one, pending, position_limit, positions_in, posting, price_in, refusal, retired_in, sold_in, with_age, max-zero, position, Refusal, are_too_large, carried_on, no_account_elsewhere, no_position, ended, ended_by, Action, exchange_rules}
 use Rattle.cns_terms.specs.declared.action.Exchange.{Exchange}
 use Rattle.cns_terms.specs.declared.action.Split.{Split}
 use Rattle.cns_terms.specs.Entries.{exchange_entries, split_entries}
-use Rattle.cns_terms.specs.Positions.{position}
-use Rattle.cns_terms.specs.declared.refusal.Refusal.{Refusal}
-use Rattle.cns_terms.specs.Refusals.{are_too_large}
-use Rattle.cns_terms.proofs.CarriedAges.{carried_on}
-use Rattle.cns_terms.proofs.Elsewhere.{no_account_elsewhere, no_position}
 use Rattle.cns_terms.specs.declared.command.Activity.TheVariants as activity
 use Rattle.cns_terms.specs.declared.command.Command.TheVariants as command
-use Rattle.cns_notices.specs.Noticed.{ended}
-use Rattle.cns_notices.proofs.Noticing.{ended_by}
 use Rattle.cns_actions.specs.Booked.{CanBeBooked, position_at, waits_for}
-use Rattle.cns_actions.specs.declared.action.Action.{Action}
 use Rattle.cns_actions.proofs.Members.{rising_distinct}
-use Rattle.cns_book.specs.Effects.{exchange_rules}
 use Rattle.cns_book.proofs.PendingSteps.{bought-reverse, sold-reverse, waits-reverse}
 use Rattle.cns_book.proofs.PartsStaying.{batches_stay, clock_stays, dividends_stay, sheets_stay}
 use Rattle.cns_book.proofs.PartsWithin.{member_within, rows_within}

@@ -1,11 +1,8 @@
 -- One command more in the history.
 -- For `take` of book.rt, clause ok.
-use Rattle.std.proofs.Common.{◌≡◌, sym, ap, subst, ℕ, ◌+◌, ◌-◌, ◌≤◌, ◌<◌, cond, eqb, List, [], ◌∷◌, ◌++◌, length, set, get_or, reverse, Ok, arith, get_or-set_other}
-use Rattle.cns_book.proofs.Common.{Command, Contents, Day, Follows, HasRoom, IsLegal, Reply, Taken, accepted, answer_to, count, history_limit, nat_tests, reverse-append, sum_by-cons}
+use Rattle.cns_book.proofs.Common.{◌≡◌, sym, ap, subst, ℕ, ◌+◌, ◌-◌, ◌≤◌, ◌<◌, cond, eqb, List, [], ◌∷◌, ◌++◌, length, set, get_or, reverse, Ok, arith, get_or-set_other, Command, Contents, Day, Follows, HasRoom, IsLegal, Reply, Taken, accepted, answer_to, count, history_limit, nat_tests, reverse-append, sum_by-cons, accepted_after, Steps}
 use Rattle.std.proofs.lemmas.Grind.{get_or-set_at}
 use Rattle.cns_terms.specs.declared.worker.Worker.{Worker}
-use Rattle.cns_terms.specs.Machine.{accepted_after}
-use Rattle.cns_book.specs.Follows.{Steps}
 use Rattle.cns_book.specs.Legal.{IsBook}
 
 -- no more activities than commands

@@ -1,13 +1,8 @@
 -- The entries of an execution, booked one after another.
 -- For `book_fills` of buy_in.rt.
-use Rattle.std.proofs.Common.{◌≡◌, ◌∙◌, sym, ap, subst, ℕ, zero, suc, ◌+◌, ◌<◌, false, ◌==◌, List, [], ◌∷◌, ◌++◌, length, map, take, get_or, arith, eqb-true}
-use Rattle.cns_book.proofs.Common.{AreApart, CanBeExecuted, CanBeFilled, Entry, Execution, Fill, Holding, Key, Notice, Rows, books, entries_by, eqb_sym, fill_entry, filled_at, holding_at, ints, map-append, originator_at, originator_entry, take_more}
-use Rattle.cns_terms.specs.declared.buy_in.Given.{Given}
-use Rattle.cns_positions.specs.Rows.{booked}
-use Rattle.cns_book.specs.Executions.{CanBeBought, notice_of}
+use Rattle.cns_book.proofs.Common.{◌≡◌, ◌∙◌, sym, ap, subst, ℕ, zero, suc, ◌+◌, ◌<◌, false, ◌==◌, List, [], ◌∷◌, ◌++◌, length, map, take, get_or, arith, eqb-true, AreApart, CanBeExecuted, CanBeFilled, Entry, Execution, Fill, Holding, Key, Notice, Rows, books, entries_by, eqb_sym, fill_entry, filled_at, holding_at, ints, map-append, originator_at, originator_entry, take_more, Given, booked, CanBeBought, notice_of, All-from_recursion}
 use Rattle.cns_book.proofs.EffectEntries.{books_more}
 use Rattle.cns_book.proofs.EffectPlaces.{books_none}
-use Rattle.std.proofs.lemmas.List.Elements.{All-from_recursion}
 
 -- an entry for another account passes a key by
 passed : (e : Entry) (es : List Entry) (k : Key) (h : Holding) → (e.account == k.account) ≡ false → books (e ∷ es) k h ≡ books es k h

@@ -1,12 +1,8 @@
 -- Searches for a closed day by its date.
 -- For closed_days.rt, and `sheet` of parts/reading.rt.
 -- For `place`, `count_by`, `as_of` and `find` of closed_days.rt and others.
-use Rattle.std.proofs.Common.{◌≡◌, ◌∙◌, ap, refl, ℕ, zero, suc, ◌+◌, ◌-◌, ◌<◌, ◌≤◌, ℤ, Bool, true, false, cond, List, [], ◌∷◌, length, get_or, map, reverse, find, Option, Some, None, Result, Ok, Err, IfOk, IfErr, inl, inr, arith, int_lt, not, option_map, HoldsAt, int_cmp, Ordering, is_none, unwrap_or}
-use Rattle.cns_book.proofs.Common.{Account, Activity, AllWithin, Contents, Day, DaySheet, Follows, IsAfter, IsBinarySearchResult, IsNonDecreasingBy, IsPartitionPoint, Journal, NoSuchMember, cases_lt, closings, day_number, day_sheet, first_refusal, ints, is_dated, is_dated_by, journal, length-map, length-reverse, option_map_or, ordering_index, reverse_onto, sheet_as_of, sheet_on, statement}
+use Rattle.cns_book.proofs.Common.{◌≡◌, ◌∙◌, ap, refl, ℕ, zero, suc, ◌+◌, ◌-◌, ◌<◌, ◌≤◌, ℤ, Bool, true, false, cond, List, [], ◌∷◌, length, get_or, map, reverse, find, Option, Some, None, Result, Ok, Err, IfOk, IfErr, inl, inr, arith, int_lt, not, option_map, HoldsAt, int_cmp, Ordering, is_none, unwrap_or, Account, Activity, AllWithin, Contents, Day, DaySheet, Follows, IsAfter, IsBinarySearchResult, IsNonDecreasingBy, IsPartitionPoint, Journal, NoSuchMember, cases_lt, closings, day_number, day_sheet, first_refusal, ints, is_dated, is_dated_by, journal, length-map, length-reverse, option_map_or, ordering_index, reverse_onto, sheet_as_of, sheet_on, statement, get_or-map, get_or-reverse, NoSuchDay, less_less}
 use Rattle.std.specs.List.Sorted.{IsPartitionedBy}
-use Rattle.std.proofs.lemmas.List.{get_or-map, get_or-reverse}
-use Rattle.cns_terms.specs.declared.refusal.Refusal.TheVariants.{NoSuchDay}
-use Rattle.cns_terms.proofs.Facts.{less_less}
 use Rattle.cns_book.specs.Dated.{AreFalling, dated_sheet}
 use Rattle.cns_terms.specs.declared.reply.Reply.TheVariants as reply
 use Rattle.std.proofs.lemmas.List.Folds.{find-append}

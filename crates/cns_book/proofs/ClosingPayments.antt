@@ -1,17 +1,10 @@
 -- What a close pays by the sheets of the record dates is what the definitions say.
 -- For `close_day` of parts/closing.rt, clause step.
-use Rattle.std.proofs.Common.{◌≡◌, ◌∙◌, sym, ap, refl, ℕ, ◌≤◌, ℤ, pos, neg_ℤ, Bool, true, false, not, ◌&&◌, ◌||◌, ◌==◌, cond, List, [], ◌∷◌, map, filter, find, Option, Some, None, unwrap_or, arith, bytes_eq, filter_map, option_map}
-use Rattle.cns_book.proofs.Common.{Account, AllByRecursion, Cusip, Day, DaySheet, Declared, IsSound, Journal, Key, Paying, Row, accounts, and_right, as_of, bytes_eq-Decides, cash, closings, corporation, date, day_sheet, dividend, dividend_of, dividends, exact_keys, find_filter, found_number, in_order, is_account, is_not_after, is_sorted, issues, kept_if, key_cmp, keys_total, last_date, list_any, members, numbers, occurs, occurs_found, occurs_missing, option_map_or, payments_by, pays_before, row, said, same_lists, same_sums, says, sheet_as_of, sheet_rows, sorted_numbers, total, total-map, total-neg, total-same, total-swap, total-zero, total_numbers}
+use Rattle.cns_book.proofs.Common.{◌≡◌, ◌∙◌, sym, ap, refl, ℕ, ◌≤◌, ℤ, pos, neg_ℤ, Bool, true, false, not, ◌&&◌, ◌||◌, ◌==◌, cond, List, [], ◌∷◌, map, filter, find, Option, Some, None, unwrap_or, arith, bytes_eq, filter_map, option_map, Account, AllByRecursion, Cusip, Day, DaySheet, Declared, IsSound, Journal, Key, Paying, Row, accounts, and_right, as_of, bytes_eq-Decides, cash, closings, corporation, date, day_sheet, dividend, dividend_of, dividends, exact_keys, find_filter, found_number, in_order, is_account, is_not_after, is_sorted, issues, kept_if, key_cmp, keys_total, last_date, list_any, members, numbers, occurs, occurs_found, occurs_missing, option_map_or, payments_by, pays_before, row, said, same_lists, same_sums, says, sheet_as_of, sheet_rows, sorted_numbers, total, total-map, total-neg, total-same, total-swap, total-zero, total_numbers, position, cells, find_cells, sorted_cells, idle_at, no_account_elsewhere, no_position, total-due, by_key, key_of, member_cash, paid}
 use Rattle.cns_terms.specs.Dividends.{due, is_due}
 use Rattle.std.specs.FinMap as finmap
-use Rattle.cns_terms.specs.Positions.{position}
-use Rattle.cns_terms.proofs.Cells.{cells, find_cells, sorted_cells}
-use Rattle.cns_terms.proofs.Elsewhere.{idle_at, no_account_elsewhere, no_position}
 use Rattle.cns_terms.proofs.Paid.{no_cash}
-use Rattle.cns_terms.proofs.SheetLimits.{total-due}
-use Rattle.cns_sheets.specs.Build.{by_key, key_of}
 use Rattle.cns_sheets.specs.Search.{row_at}
-use Rattle.cns_sheets.specs.Payments.{member_cash, paid}
 use Rattle.cns_book.proofs.ClosingRows.{closing_found, number_found, of_all, shown_rise}
 
 -- ---- the members of a sheet

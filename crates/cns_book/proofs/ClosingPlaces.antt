@@ -1,11 +1,6 @@
 -- Where a close books the trades that are due.
 -- For `close_day` of parts/closing.rt, clause places.
-use Rattle.std.proofs.Common.{◌≡◌, suc, sym, List, [], ◌∷◌, Contains, IfSome, Option, arith}
-use Rattle.cns_book.proofs.Common.{Entry, Key, Rows, has_row}
-use Rattle.cns_actions.specs.Bookings.{AreElsewhere}
-use Rattle.cns_actions.specs.DueAmounts.{AreApartFrom}
-use Rattle.cns_actions.specs.declared.booking.Booking.{Booking}
-use Rattle.cns_book.specs.Effects.{places_of}
+use Rattle.cns_book.proofs.Common.{◌≡◌, suc, sym, List, [], ◌∷◌, Contains, IfSome, Option, arith, Entry, Key, Rows, has_row, AreElsewhere, AreApartFrom, Booking, places_of}
 
 -- where a key is none of their places, none of the entries is booked at it
 apart : (k : Key) (es : List Entry) → ¬ Contains (places_of es) k → AreApartFrom k es

@@ -1,12 +1,7 @@
 -- What a closed day's sheet of the definitions shows at each key.
 -- For `close_day` of parts/closing.rt, clause step.
-use Rattle.std.proofs.Common.{◌≡◌, ◌∙◌, sym, ap, refl, ℤ, pos, Bool, true, false, cond, List, [], ◌∷◌, ◌++◌, map, filter, flat_map, arith}
-use Rattle.cns_book.proofs.Common.{Account, Cusip, Day, IsSound, Journal, Key, Row, accounts, closing_at, filter-append, find_filter, idle_parts, is_sorted, issues, key_cmp, keys_total, map-append, option_map_or, row, rows_of, says, sheet_rows, sorted_filter}
+use Rattle.cns_book.proofs.Common.{◌≡◌, ◌∙◌, sym, ap, refl, ℤ, pos, Bool, true, false, cond, List, [], ◌∷◌, ◌++◌, map, filter, flat_map, arith, Account, Cusip, Day, IsSound, Journal, Key, Row, accounts, closing_at, filter-append, find_filter, idle_parts, is_sorted, issues, key_cmp, keys_total, map-append, option_map_or, row, rows_of, says, sheet_rows, sorted_filter, position, cells, cells_of, find_cells, sorted_cells, idle_at, by_key, key_of}
 use Rattle.std.specs.FinMap.{find}
-use Rattle.cns_terms.specs.Positions.{position}
-use Rattle.cns_terms.proofs.Cells.{cells, cells_of, find_cells, sorted_cells}
-use Rattle.cns_terms.proofs.Elsewhere.{idle_at}
-use Rattle.cns_sheets.specs.Build.{by_key, key_of}
 
 -- one row more, or not, with its key
 with_key : (b : Bool) (r : Row) (rs : List Row) (es : List (Key × Row)) → by_key rs ≡ es → by_key (cond b (r ∷ rs) rs) ≡ cond b ((key_of r, r) ∷ es) es

@@ -1,15 +1,7 @@
 -- The close of a day.
 -- For `close_day` of parts/closing.rt, clause step.
-use Rattle.std.proofs.Common.{◌≡◌, ◌∙◌, ap, subst, refl, ◌+◌, ◌<◌, ℤ, true, false, not, List, [], ◌∷◌, ◌++◌, filter, flat_map, map, reverse, Option, Some, None, MatchOption, arith, IfSome, int_le, int_lt, is_none, int_cmp, is_le}
-use Rattle.cns_book.proofs.Common.{Activity, AllByRecursion, Contents, Day, DaySheet, Follows, HasRoom, IsAfter, IsWhole, Journal, Key, Liables, Pend, Rows, Traded, all_fail, batches_since, books, changed_each, closes, closings, date, day, day_number, day_sheet, entries, history_limit, holding, holding_at, ints, is_not_after, journal, journal_len, limited, pending, posting, refusal, rolled, trade_entries}
-use Rattle.cns_terms.specs.Pending.{due, is_due, trades as trades_of}
-use Rattle.cns_terms.specs.Refusals.{rules}
-use Rattle.cns_terms.proofs.CarriedAges.{oldest_le}
-use Rattle.cns_terms.specs.declared.holding.Holding.{Holding}
-use Rattle.cns_actions.specs.declared.booking.Booking.{Booking}
-use Rattle.cns_actions.specs.Bookings.{makes}
-use Rattle.cns_notices.specs.Noticed.{expired}
-use Rattle.cns_notices.proofs.Noticing.{expired_by}
+use Rattle.cns_book.proofs.Common.{◌≡◌, ◌∙◌, ap, subst, refl, ◌+◌, ◌<◌, ℤ, true, false, not, List, [], ◌∷◌, ◌++◌, filter, flat_map, map, reverse, Option, Some, None, MatchOption, arith, IfSome, int_le, int_lt, is_none, int_cmp, is_le, Activity, AllByRecursion, Contents, Day, DaySheet, Follows, HasRoom, IsAfter, IsWhole, Journal, Key, Liables, Pend, Rows, Traded, all_fail, batches_since, books, changed_each, closes, closings, date, day, day_number, day_sheet, entries, history_limit, holding, holding_at, ints, is_not_after, journal, journal_len, limited, pending, posting, refusal, rolled, trade_entries, due, is_due, rules, oldest_le, Holding, Booking, makes, expired, expired_by}
+use Rattle.cns_terms.specs.Pending.{trades as trades_of}
 use Rattle.cns_terms.specs.declared.command.Activity.TheVariants as activity
 use Rattle.cns_terms.specs.declared.command.Command.TheVariants as command
 use Rattle.cns_book.proofs.EffectPlaces.{books_none}

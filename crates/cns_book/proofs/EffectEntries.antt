@@ -1,11 +1,6 @@
 -- Entries, booked one after another.
 -- For `book` and `prepare` of effect.rt.
-use Rattle.std.proofs.Common.{◌≡◌, refl, ℕ, suc, ◌+◌, ◌*◌, ◌^◌, ◌≤◌, ◌<◌, ℤ, pos, ◌+ℤ◌, true, List, [], ◌∷◌, ◌++◌, length, take, get_or, arith, unsigned_abs, Contains}
-use Rattle.cns_book.proofs.Common.{AreSmallEntries, Entry, Holding, IsSmallEntry, Key, Rows, booking_limit, books, cents_for, corporation_limit, has_row, holding_at, ints, shares_for, take_more, total, total-append}
-use Rattle.cns_positions.specs.Rows.{booked}
-use Rattle.cns_book.specs.Effects.{AreThere, AreWithin, place_of, places_of}
-use Rattle.std.proofs.lemmas.List.Elements.{All-from_recursion, recursion_from_All, All-take}
-use Rattle.std.proofs.lemmas.List.{length-take}
+use Rattle.cns_book.proofs.Common.{◌≡◌, refl, ℕ, suc, ◌+◌, ◌*◌, ◌^◌, ◌≤◌, ◌<◌, ℤ, pos, ◌+ℤ◌, true, List, [], ◌∷◌, ◌++◌, length, take, get_or, arith, unsigned_abs, Contains, AreSmallEntries, Entry, Holding, IsSmallEntry, Key, Rows, booking_limit, books, cents_for, corporation_limit, has_row, holding_at, ints, shares_for, take_more, total, total-append, booked, AreThere, AreWithin, place_of, places_of, All-from_recursion, recursion_from_All, All-take, length-take}
 
 one_last : (a b q : ℤ) → (a +ℤ (b +ℤ pos 0)) +ℤ q ≡ (a +ℤ q) +ℤ b
 one_last a b q = omega (arith, ints)

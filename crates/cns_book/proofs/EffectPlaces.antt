@@ -1,8 +1,6 @@
 -- What one posting more makes of what stands at a key.
 -- For `book` of effect.rt, and every command, clause step.
-use Rattle.std.proofs.Common.{◌≡◌, false, [], ◌∷◌, None, arith}
-use Rattle.cns_book.proofs.Common.{Holding, Journal, Key, Posting, books, exchanged, holding, is_close, zero_add}
-use Rattle.cns_terms.proofs.CarriedAges.{carried_same}
+use Rattle.cns_book.proofs.Common.{◌≡◌, false, [], ◌∷◌, None, arith, Holding, Journal, Key, Posting, books, exchanged, holding, is_close, zero_add, carried_same}
 
 -- a posting that closes no day and exchanges no issue books its entries
 pub holding-post : (p : Posting) (J : Journal) (k : Key) → is_close p.activity ≡ false → exchanged p.activity ≡ None → holding (p ∷ J) k.account k.issue ≡ books p.entries k (holding J k.account k.issue)

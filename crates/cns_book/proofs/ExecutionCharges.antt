@@ -1,8 +1,6 @@
 -- The batches of the closed days after an execution.
 -- For `execute` of parts/execution.rt, clause step.
-use Rattle.std.proofs.Common.{◌≡◌, ◌∙◌, ap, refl, ℕ, zero, suc, ◌+◌, ◌<◌, Bool, true, false, cond, ◌&&◌, ◌==◌, List, [], ◌∷◌, ◌++◌, filter, length, map, Some, reverse, arith, nat_lt}
-use Rattle.cns_book.proofs.Common.{Cusip, Day, Execution, Fill, Journal, Liables, Notice, Posting, batch_since, batches_since, changed_at, charged, charged_on, closings, day, entries, eqb_sym, executes, execution_entries, fills, issues, kept_batches, length-map, length-reverse, nat_list_eq_equiv, notice_at, option_map_or, posting, reverse-append, same_issue}
-use Rattle.cns_terms.proofs.BatchSteps.{batch_charged, batch_same}
+use Rattle.cns_book.proofs.Common.{◌≡◌, ◌∙◌, ap, refl, ℕ, zero, suc, ◌+◌, ◌<◌, Bool, true, false, cond, ◌&&◌, ◌==◌, List, [], ◌∷◌, ◌++◌, filter, length, map, Some, reverse, arith, nat_lt, Cusip, Day, Execution, Fill, Journal, Liables, Notice, Posting, batch_since, batches_since, changed_at, charged, charged_on, closings, day, entries, eqb_sym, executes, execution_entries, fills, issues, kept_batches, length-map, length-reverse, nat_list_eq_equiv, notice_at, option_map_or, posting, reverse-append, same_issue, batch_charged, batch_same}
 use Rattle.cns_retransmit.specs.Days.{charged_if, charged_in}
 use Rattle.cns_book.proofs.RetransmittalBatches.{in_issue, since_same}
 use Rattle.cns_terms.specs.declared.command.Activity.TheVariants as activity

@@ -1,11 +1,7 @@
 -- The fills of an execution that is not refused can be booked.
 -- For `make_fills` of parts/execution.rt, clause booked.
-use Rattle.std.proofs.Common.{◌≡◌, ◌∙◌, ap, subst, sym, ℕ, ◌+◌, ◌≤◌, pos, true, false, List, [], ◌∷◌, filter, sum_by, arith, ◌==◌, int_lt, nat_lt}
-use Rattle.cns_book.proofs.Common.{Activity, AllByRecursion, AreApart, CanBeExecuted, CanBeFilled, Contents, Execution, Fill, Follows, IsExecutable, IsInRange, Key, Liable, Member, Notice, batch, capacity, cents_of_fills, each_both, each_filter, each_weaker, filled_at, fills, fills_laid, holding_at, journal, laid, nat_tests, originator_at, shares_of_fills, short, sum_by-cons}
-use Rattle.std.proofs.Math.Nat.{min-le_right}
-use Rattle.cns_terms.specs.Positions.{position}
+use Rattle.cns_book.proofs.Common.{◌≡◌, ◌∙◌, ap, subst, sym, ℕ, ◌+◌, ◌≤◌, pos, true, false, List, [], ◌∷◌, filter, sum_by, arith, ◌==◌, int_lt, nat_lt, Activity, AllByRecursion, AreApart, CanBeExecuted, CanBeFilled, Contents, Execution, Fill, Follows, IsExecutable, IsInRange, Key, Liable, Member, Notice, batch, capacity, cents_of_fills, each_both, each_filter, each_weaker, filled_at, fills, fills_laid, holding_at, journal, laid, nat_tests, originator_at, shares_of_fills, short, sum_by-cons, min-le_right, position, IsWithin}
 use Rattle.cns_terms.proofs.BuyIns.{batch_once, remains_long, times}
-use Rattle.cns_book.specs.Executions.{IsWithin}
 use Rattle.cns_book.proofs.ExecutionRoom.{sound_at}
 use Rattle.cns_terms.specs.declared.command.Activity.TheVariants as activity
 

@@ -1,14 +1,7 @@
 -- An execution: what it is refused for, and what it leaves.
 -- For `check_execution` of parts/execution.rt, clauses refused and accepted.
-use Rattle.std.proofs.Common.{◌≡◌, ◌∙◌, ap, sym, refl, ℕ, ◌+◌, ◌-◌, ◌≤◌, Bool, false, cond, List, ◌∷◌, length, Option, Some, None, is_none, arith, ◌==◌, nat_lt, option_map, unsigned_abs}
-use Rattle.std.proofs.lemmas.Option.{same_Some, slice_get_cases}
-use Rattle.cns_book.proofs.Common.{Activity, Contents, Day, ExceedsPosition, Execution, Follows, IsExecutable, IsInRange, Journal, Key, Live, NoSuchNotice, NotLive, Notice, Noticed, Posting, Refusal, Rows, Stage, all_fail, batch_on, books, capped_short, changed_one, charged_on, corporation_limit, entries_by, executable, fills, fills_of, holding_at, is_live, journal, kept_found, notice_at, posting, refusal, remaining, remaining_by, room, room_of, stage, with_notice}
-use Rattle.cns_terms.specs.declared.buy_in.Given.{Given}
-use Rattle.cns_terms.specs.declared.refusal.Refusal.TheVariants.{NotLiable, TooEarly}
-use Rattle.cns_terms.specs.Refusals.{rules}
-use Rattle.cns_notices.specs.Kept.{kept}
+use Rattle.cns_book.proofs.Common.{◌≡◌, ◌∙◌, ap, sym, refl, ℕ, ◌+◌, ◌-◌, ◌≤◌, Bool, false, cond, List, ◌∷◌, length, Option, Some, None, is_none, arith, ◌==◌, nat_lt, option_map, unsigned_abs, same_Some, slice_get_cases, Activity, Contents, Day, ExceedsPosition, Execution, Follows, IsExecutable, IsInRange, Journal, Key, Live, NoSuchNotice, NotLive, Notice, Noticed, Posting, Refusal, Rows, Stage, all_fail, batch_on, books, capped_short, changed_one, charged_on, corporation_limit, entries_by, executable, fills, fills_of, holding_at, is_live, journal, kept_found, notice_at, posting, refusal, remaining, remaining_by, room, room_of, stage, with_notice, Given, NotLiable, TooEarly, rules, kept, executed_by}
 use Rattle.cns_notices.specs.Noticed.{executes, notice_at as kept_at}
-use Rattle.cns_notices.proofs.Noticing.{executed_by}
 use Rattle.cns_book.proofs.RetransmittalCalls.{remaining_same}
 use Rattle.cns_book.proofs.ExecutionCharges.{batches_charged, booked_for}
 use Rattle.cns_book.proofs.ExecutionRoom.{batch_members, members_of, shorts_now}

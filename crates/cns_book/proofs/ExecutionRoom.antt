@@ -1,11 +1,7 @@
 -- The batch of a notice, and what it can be given, as the parts show them.
 -- For `check_execution` of parts/execution.rt, clause refused, and `batch` and `batches` of parts/reading.rt.
-use Rattle.std.proofs.Common.{◌≡◌, ◌∙◌, ap, sym, refl, ℕ, zero, suc, ◌+◌, ◌^◌, ◌-◌, ◌≤◌, min, Bool, true, cond, ◌||◌, ◌==◌, List, [], ◌∷◌, ◌++◌, filter, find, length, map, Option, Some, None, reverse, arith, slice_get, unwrap_or, nat_lt, unsigned_abs}
-use Rattle.cns_book.proofs.Common.{Activity, Contents, Cusip, Day, Follows, IsSound, Journal, Key, Liable, Liables, at_close, batch, batch_in, batch_on, batch_since, batches, batches_on, batches_since, bytes_eq-Decides, capped_short, closings, corporation_limit, day, each_found, holding_at, issues, journal, kept_batches, length-reverse, limited, list_any, nat_tests, option_map_or, reverse-append, same_issue, short, shorts}
-use Rattle.std.proofs.lemmas.Option.{slice_get-map}
-use Rattle.cns_terms.specs.Positions.{position}
+use Rattle.cns_book.proofs.Common.{◌≡◌, ◌∙◌, ap, sym, refl, ℕ, zero, suc, ◌+◌, ◌^◌, ◌-◌, ◌≤◌, min, Bool, true, cond, ◌||◌, ◌==◌, List, [], ◌∷◌, ◌++◌, filter, find, length, map, Option, Some, None, reverse, arith, slice_get, unwrap_or, nat_lt, unsigned_abs, Activity, Contents, Cusip, Day, Follows, IsSound, Journal, Key, Liable, Liables, at_close, batch, batch_in, batch_on, batch_since, batches, batches_on, batches_since, bytes_eq-Decides, capped_short, closings, corporation_limit, day, each_found, holding_at, issues, journal, kept_batches, length-reverse, limited, list_any, nat_tests, option_map_or, reverse-append, same_issue, short, shorts, slice_get-map, position, none_called}
 use Rattle.cns_book.proofs.RetransmittalBatches.{in_issue}
-use Rattle.cns_retransmit.proofs.Lefts.{none_called}
 use Rattle.cns_book.proofs.RetransmittalSteps.{uncalled}
 
 -- ---- the closings, the first day's first

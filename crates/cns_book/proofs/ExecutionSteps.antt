@@ -1,11 +1,7 @@
 -- What an accepted execution fills.
 -- For `make_fills` and `execute` of parts/execution.rt, clauses fills, booked and step.
-use Rattle.std.proofs.Common.{◌≡◌, ◌∙◌, ap, sym, subst, ℕ, ◌≤◌, List, [], ◌∷◌, length, Ok, Option, Some}
-use Rattle.cns_book.proofs.Common.{Activity, CanBeExecuted, Contents, Execution, Fill, Follows, HasRoom, IsAccepted, IsExecutable, Key, Liables, Notice, Noticed, Rows, batch_on, books, capped_short, charged_on, entries_by, fills, fills_by, fills_of, holding_at, journal, notice_at, option_map_or, room, room_of, with_notice}
-use Rattle.cns_terms.specs.declared.buy_in.Given.{Given}
-use Rattle.cns_notices.specs.Kept.{kept}
+use Rattle.cns_book.proofs.Common.{◌≡◌, ◌∙◌, ap, sym, subst, ℕ, ◌≤◌, List, [], ◌∷◌, length, Ok, Option, Some, Activity, CanBeExecuted, Contents, Execution, Fill, Follows, HasRoom, IsAccepted, IsExecutable, Key, Liables, Notice, Noticed, Rows, batch_on, books, capped_short, charged_on, entries_by, fills, fills_by, fills_of, holding_at, journal, notice_at, option_map_or, room, room_of, with_notice, Given, kept, Steps}
 use Rattle.cns_notices.specs.Noticed.{executes, notice_at as kept_at}
-use Rattle.cns_book.specs.Follows.{Steps}
 use Rattle.cns_terms.specs.declared.command.Activity.TheVariants as activity
 use Rattle.cns_terms.specs.declared.command.Command.TheVariants as command
 use Rattle.cns_book.proofs.ExecutionRefusals.{AreShort, executable_one, execute_follows, fills_same, named, read_of, room_by, room_same}

@@ -1,7 +1,6 @@
 -- How many postings and closes there are.
 -- For `close_day` of parts/closing.rt.
-use Rattle.std.proofs.Common.{◌≤◌, [], ◌∷◌, length, arith}
-use Rattle.cns_book.proofs.Common.{Journal, closes}
+use Rattle.cns_book.proofs.Common.{◌≤◌, [], ◌∷◌, length, arith, Journal, closes}
 
 -- no more closes than postings
 pub closes_le : (J : Journal) → closes J ≤ length J

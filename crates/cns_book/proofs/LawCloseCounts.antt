@@ -1,12 +1,7 @@
 -- A close tells the date of its day, and how many rows its sheet and how many members its batches have.
 -- For `close_counts` of laws.rt.
-use Rattle.std.proofs.Common.{◌≡◌, ◌∙◌, ap, sym, subst, refl, ◌≤◌, cond, List, [], ◌∷◌, flat_map, length, Option, Some, None, arith, is_none, length-append}
-use Rattle.cns_book.proofs.Common.{Command, Cusip, Day, IsWhole, Journal, Refusal, State, after, at_close, batch_at, batch_since, batches_since, closings, date, day, issues, journal, journal_of, left_of, length-map, next, opened, option_map_or, posting, refusal, sheet_rows}
+use Rattle.cns_book.proofs.Common.{◌≡◌, ◌∙◌, ap, sym, subst, refl, ◌≤◌, cond, List, [], ◌∷◌, flat_map, length, Option, Some, None, arith, is_none, length-append, Command, Cusip, Day, IsWhole, Journal, Refusal, State, after, at_close, batch_at, batch_since, batches_since, closings, date, day, issues, journal, journal_of, left_of, length-map, next, opened, option_map_or, posting, refusal, sheet_rows, liable_at, activity_reply, keeps-after, opening_stays, whole-after, whole-next}
 use Rattle.cns_terms.specs.declared.reply.Closed.{Closed}
-use Rattle.cns_terms.specs.Batches.{liable_at}
-use Rattle.cns_terms.specs.Machine.{activity_reply}
-use Rattle.cns_terms.proofs.ClosedDays.{keeps-after}
-use Rattle.cns_terms.proofs.Sound.{opening_stays, whole-after, whole-next}
 use Rattle.cns_terms.specs.declared.command.Activity.TheVariants as activity
 use Rattle.cns_book.specs.Closes.{CloseCounts, TellsDay, liable_in}
 use Rattle.cns_terms.specs.declared.command.Command.TheVariants as command

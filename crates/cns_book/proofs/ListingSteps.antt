@@ -1,17 +1,12 @@
 -- A member, an issue or a price more: each leaves all parts but its own.
 -- For parts/listing.rt, and `declare_dividend` of parts/dividend.rt, clause step.
 -- For `declare_dividend` of parts/dividend.rt, `list_issue`, `add_member` and `set_price` of parts/listing.rt.
-use Rattle.std.proofs.Common.{◌≡◌, ◌∙◌, sym, ap, ℕ, ◌≤◌, Bool, true, false, ◌||◌, cond, eqb, List, [], ◌∷◌, refl, bytes_eq, is_some, Option, Some, None, find, filter_map, arith}
-use Rattle.cns_book.proofs.Common.{Activity, Contents, Cusip, Declared, Follows, FollowsListings, FollowsPending, FollowsReferences, IsInRange, Listed, account_lt, activities, bytes_eq-Decides, entries, eqb_sym, is_close, is_listed, issue_lt, issues, journal, member_limit, members, pays_before, price_in, price_limit, priced, rate_limit, refusal, retired_in}
+use Rattle.cns_book.proofs.Common.{◌≡◌, ◌∙◌, sym, ap, ℕ, ◌≤◌, Bool, true, false, ◌||◌, cond, eqb, List, [], ◌∷◌, refl, bytes_eq, is_some, Option, Some, None, find, filter_map, arith, Activity, Contents, Cusip, Declared, Follows, FollowsListings, FollowsPending, FollowsReferences, IsInRange, Listed, account_lt, activities, bytes_eq-Decides, entries, eqb_sym, is_close, is_listed, issue_lt, issues, journal, member_limit, members, pays_before, price_in, price_limit, priced, rate_limit, refusal, retired_in, any_put, put, price_branch, FollowsDividends}
 use Rattle.cns_terms.specs.declared.command.Listing.{Listing}
-use Rattle.cns_terms.proofs.Everywhere.{any_put}
-use Rattle.cns_terms.specs.Sums.{put}
-use Rattle.cns_terms.proofs.Facts.{price_branch}
 use Rattle.cns_book.specs.Members.{has_member}
 use Rattle.cns_book.proofs.PartsStaying.{batches_stay, clock_stays, is_execution, is_noticing, notices_stay, rows_stay, sheets_stay}
 use Rattle.cns_terms.specs.declared.command.Activity.TheVariants as activity
 use Rattle.cns_terms.specs.declared.command.Command.TheVariants as command
-use Rattle.cns_book.specs.Follows.{FollowsDividends}
 
 module _ (L : List Activity) (s : Contents) where
   -- an activity that books nothing and closes no day, where the listings and the dividends follow it

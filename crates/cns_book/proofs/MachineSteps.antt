@@ -1,11 +1,8 @@
 -- The machine's reply and step, by whether a command is refused.
 -- For every command, clause step.
 -- For `give_notice`, `notice_refusal` and `withdraw` of parts/notice.rt, `split` of parts/actions.rt and others.
-use Rattle.std.proofs.Common.{◌≡◌, ◌∙◌, sym, ap, subst, refl, cond, false, List, [], ◌∷◌, ◌++◌, Some, None, Ok, is_none, Result, IsErr, arith}
-use Rattle.cns_book.proofs.Common.{Activity, AllByRecursion, Command, Contents, Follows, Refusal, Reply, Rule, first_refusal, journal, option_map_or, refusal}
+use Rattle.cns_book.proofs.Common.{◌≡◌, ◌∙◌, sym, ap, subst, refl, cond, false, List, [], ◌∷◌, ◌++◌, Some, None, Ok, is_none, Result, IsErr, arith, Activity, AllByRecursion, Command, Contents, Follows, Refusal, Reply, Rule, first_refusal, journal, option_map_or, refusal, activity_reply, Steps}
 use Rattle.cns_terms.specs.declared.fault.NoMemory.{NoMemory}
-use Rattle.cns_terms.specs.Machine.{activity_reply}
-use Rattle.cns_book.specs.Follows.{Steps}
 use Rattle.cns_terms.specs.declared.command.Command.TheVariants as command
 use Rattle.cns_terms.specs.declared.reply.Reply.TheVariants as reply
 

@@ -1,13 +1,8 @@
 -- How much is received and bought in on a notice, and of which days notices are.
 -- For parts/notice.rt, and `execute` of parts/execution.rt: what the calls of notices require.
 -- For `give_notice` of parts/notice.rt, `receive` of parts/trading.rt, `execute` of parts/execution.rt.
-use Rattle.std.proofs.Common.{ap, subst, ℕ, ◌+◌, ◌*◌, ◌-◌, ◌^◌, ◌≤◌, ◌<◌, List, [], ◌∷◌, length, arith, slice_get}
-use Rattle.std.proofs.lemmas.Option.{get_or_from_slice_get}
-use Rattle.cns_book.proofs.Common.{Activity, AllByRecursion, Contents, Day, ForSome, HasRoom, IsReached, Journal, Notice, Noticed, day, days_by, each_append, each_map, history_limit, journal, journal_len, kept_notices, length-map, notices, received_live, shares_executed, shares_limit, slice_get_within}
-use Rattle.cns_notices.specs.Kept.{kept}
+use Rattle.cns_book.proofs.Common.{ap, subst, ℕ, ◌+◌, ◌*◌, ◌-◌, ◌^◌, ◌≤◌, ◌<◌, List, [], ◌∷◌, length, arith, slice_get, get_or_from_slice_get, Activity, AllByRecursion, Contents, Day, ForSome, HasRoom, IsReached, Journal, Notice, Noticed, day, days_by, each_append, each_map, history_limit, journal, journal_len, kept_notices, length-map, notices, received_live, shares_executed, shares_limit, slice_get_within, kept, notices_few, All-from_recursion, recursion_from_All}
 use Rattle.cns_notices.specs.Noticed.{notice_at}
-use Rattle.cns_notices.proofs.NoticeFacts.{notices_few}
-use Rattle.std.proofs.lemmas.List.Elements.{All-from_recursion, recursion_from_All}
 
 -- what is received on a notice
 received_few : (opening : Day) (L : List Activity) (n : Notice) → IsReached opening L → received_live (journal opening L) n ≤ shares_limit * length L

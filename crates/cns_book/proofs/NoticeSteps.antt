@@ -1,21 +1,10 @@
 -- Notices and withdrawals: what they are refused for, and what they leave.
 -- For parts/notice.rt, clauses refusal and step.
 -- For `give_notice`, `withdraw_refusal`, `notice_refusal` and `withdraw` of parts/notice.rt and others.
-use Rattle.std.proofs.Common.{◌≡◌, ◌∙◌, ap, sym, refl, ℕ, zero, suc, ◌+◌, ◌-◌, ◌≤◌, ℤ, pos, true, false, cond, List, [], ◌∷◌, ◌++◌, length, map, Some, None, ◌⊎◌, is_some, arith, ◌==◌, find, int_le, option_map}
-use Rattle.std.proofs.lemmas.Option.{same_Some, slice_get_past}
-use Rattle.cns_book.proofs.Common.{Activity, AlreadyNoticed, Contents, Day, Ended, ExceedsPosition, Expired, Follows, FollowsNotices, FollowsPending, IsInRange, Journal, Live, Movement, NoSuchNotice, NotLive, NotLong, Notice, Noticed, Posting, Refusal, Rule, Stage, Withdrawn, books, changed_each, changed_one, entries, first_refusal, holding_at, is_close, is_exceeded, is_listed, is_live, is_member, is_retired, is_seen, issue_rules, journal, kept_found, length-map, live_number, notice_at, notices, option_map_or, posting, refusal, remaining_by, with_notice}
-use Rattle.cns_terms.specs.declared.buy_in.Given.{Given}
-use Rattle.cns_terms.specs.Notices.{live_notice}
-use Rattle.cns_terms.specs.Positions.{position}
-use Rattle.cns_notices.proofs.NoticeSteps.{AreNumberedFrom, numbered}
-use Rattle.cns_notices.specs.Kept.{kept}
-use Rattle.cns_notices.specs.Noticed.{at_stage, notice_at as kept_at, new_notice, receives}
-use Rattle.cns_notices.proofs.NoticeFacts.{live_same}
-use Rattle.cns_notices.proofs.Noticing.{changed_same, notice_found, notice_more, received_by, taken_back, withdrawn_by}
-use Rattle.cns_book.specs.Follows.{member_position}
+use Rattle.cns_book.proofs.Common.{◌≡◌, ◌∙◌, ap, sym, refl, ℕ, zero, suc, ◌+◌, ◌-◌, ◌≤◌, ℤ, pos, true, false, cond, List, [], ◌∷◌, ◌++◌, length, map, Some, None, ◌⊎◌, is_some, arith, ◌==◌, find, int_le, option_map, same_Some, slice_get_past, Activity, AlreadyNoticed, Contents, Day, Ended, ExceedsPosition, Expired, Follows, FollowsNotices, FollowsPending, IsInRange, Journal, Live, Movement, NoSuchNotice, NotLive, NotLong, Notice, Noticed, Posting, Refusal, Rule, Stage, Withdrawn, books, changed_each, changed_one, entries, first_refusal, holding_at, is_close, is_exceeded, is_listed, is_live, is_member, is_retired, is_seen, issue_rules, journal, kept_found, length-map, live_number, notice_at, notices, option_map_or, posting, refusal, remaining_by, with_notice, Given, live_notice, position, AreNumberedFrom, numbered, kept, at_stage, new_notice, receives, live_same, changed_same, notice_found, notice_more, received_by, taken_back, withdrawn_by, member_position, notice_listed}
+use Rattle.cns_notices.specs.Noticed.{notice_at as kept_at}
 use Rattle.cns_terms.specs.declared.command.Activity.TheVariants as activity
 use Rattle.cns_terms.specs.declared.command.Command.TheVariants as command
-use Rattle.cns_book.specs.Shown.{notice_listed}
 use Rattle.cns_book.proofs.RetransmittalCalls.{remaining_same}
 use Rattle.cns_book.proofs.EffectPlaces.{books_none}
 use Rattle.cns_book.proofs.MachineSteps.{still_refused}

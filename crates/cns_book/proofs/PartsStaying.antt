@@ -1,12 +1,8 @@
 -- What an activity leaves: of each group of parts, which activities change it.
 -- For every command, clause step.
 -- For `declare_dividend` of parts/dividend.rt, `list_issue`, `add_member` and `set_price` of parts/listing.rt and others.
-use Rattle.std.proofs.Common.{◌≡◌, ◌∙◌, sym, ap, Bool, true, false, [], ◌∷◌, None, is_some, reverse, arith}
-use Rattle.cns_book.proofs.Common.{Activity, Contents, FollowsListings, FollowsNotices, FollowsRows, Journal, Key, Rows, books, closings, entries, exchanged, holding_at, is_close, posting}
+use Rattle.cns_book.proofs.Common.{◌≡◌, ◌∙◌, sym, ap, Bool, true, false, [], ◌∷◌, None, is_some, reverse, arith, Activity, Contents, FollowsListings, FollowsNotices, FollowsRows, Journal, Key, Rows, books, closings, entries, exchanged, holding_at, is_close, posting, declared, executed, FollowsBatches, FollowsClock, FollowsDividends, FollowsSheets}
 use Rattle.cns_terms.specs.declared.command.Activity.TheVariants as activity
-use Rattle.cns_terms.specs.Dividends.{declared}
-use Rattle.cns_terms.specs.Notices.{executed}
-use Rattle.cns_book.specs.Follows.{FollowsBatches, FollowsClock, FollowsDividends, FollowsSheets}
 use Rattle.cns_book.proofs.RetransmittalBatches.{batches_same, executes_none}
 use Rattle.cns_book.proofs.EffectPlaces.{holding-post}
 

@@ -1,9 +1,7 @@
 -- With room for one activity more, all numbers are small enough.
 -- For every call of positions: what it requires.
 -- For `make_fills` and `check_execution` of parts/execution.rt, `two_holdings` and `holding` of parts/reading.rt and others.
-use Rattle.std.proofs.Common.{◌≡◌, ℕ, ◌≤◌, arith, unsigned_abs}
-use Rattle.cns_book.proofs.Common.{Contents, Cusip, HasRoom, Key, Rows, bounded, holding_at, journal, limited, near, position_limit}
-use Rattle.cns_book.specs.Effects.{AreWithin}
+use Rattle.cns_book.proofs.Common.{◌≡◌, ℕ, ◌≤◌, arith, unsigned_abs, Contents, Cusip, HasRoom, Key, Rows, bounded, holding_at, journal, limited, near, position_limit, AreWithin}
 use Rattle.cns_book.proofs.ClosingSheet.{cents_few}
 
 -- what stands at each key is within its limits

@@ -1,9 +1,7 @@
 -- Trades that wait, in the order in which they were taken.
 -- For `book_trade` of parts/trading.rt, `close_day` of parts/closing.rt, `split` and `exchange` of parts/actions.rt, clause step.
-use Rattle.std.proofs.Common.{◌≡◌, sym, ap, refl, ◌≤◌, Bool, false, not, List, [], ◌∷◌, append-nil, filter, length, map, reverse, Option, arith, filter_map}
-use Rattle.cns_book.proofs.Common.{Account, Activity, Contents, Cusip, Day, Follows, Journal, Pend, activities, bought_by, bought_in, date, filter-append, ints, is_not_after, journal, journal_len, length-map, length-reverse, list_any, neither, pend_of, pending, reverse_onto, sold_by, sold_in, waits_in}
+use Rattle.cns_book.proofs.Common.{◌≡◌, sym, ap, refl, ◌≤◌, Bool, false, not, List, [], ◌∷◌, append-nil, filter, length, map, reverse, Option, arith, filter_map, Account, Activity, Contents, Cusip, Day, Follows, Journal, Pend, activities, bought_by, bought_in, date, filter-append, ints, is_not_after, journal, journal_len, length-map, length-reverse, list_any, neither, pend_of, pending, reverse_onto, sold_by, sold_in, waits_in, is_due}
 use Rattle.cns_terms.specs.Listings.{traded}
-use Rattle.cns_terms.specs.Pending.{is_due}
 use Rattle.std.proofs.lemmas.List.Sorted.{sum_by-IsPermutation, IsPermutation-reverse, list_any-IsPermutation}
 
 -- ---- the other way round

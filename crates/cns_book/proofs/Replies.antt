@@ -1,14 +1,11 @@
 -- Entries keep their replies when a reply is added to the others.
 -- For `add_reply` and `push` of history.rt.
-use Rattle.std.proofs.Common.{◌≡◌, ◌∙◌, sym, refl, ℕ, List, [], ◌∷◌, ◌++◌, Option, None, Some, length, map, arith, length-append}
+use Rattle.cns_book.proofs.Common.{◌≡◌, ◌∙◌, sym, refl, ℕ, List, [], ◌∷◌, ◌++◌, Option, None, Some, length, map, arith, length-append, unwrap_or-slice_get, Reply, AreAmong, IsAmong, Stays, reply_in, taken_in}
 use Rattle.std.proofs.lemmas.List.{map-append}
-use Rattle.std.proofs.lemmas.Option.{unwrap_or-slice_get}
 use Rattle.std.proofs.Math.ListN.{get_or-append}
 use Rattle.std.proofs.Math.Seq.{get_or-append_seam}
-use Rattle.cns_book.proofs.Common.{Reply}
 use Rattle.cns_terms.specs.declared.reply.Reply.TheVariants as reply
 use Rattle.cns_book.specs.declared.history.Brief.{Brief}
-use Rattle.cns_book.specs.Replies.{AreAmong, IsAmong, Stays, reply_in, taken_in}
 
 same_reply : (rs : List Reply) (r : Reply) (p : Option ℕ) → IsAmong rs p → reply_in (rs ++ r ∷ []) p ≡ reply_in rs p
 same_reply rs r None h = refl

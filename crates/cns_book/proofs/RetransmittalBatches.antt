@@ -1,10 +1,7 @@
 -- The batches of the closed days after one activity more.
 -- For every command, clause step.
 -- For `count_by` of closed_days.rt, `give_notice`, `withdraw_refusal` and `notice_refusal` of parts/notice.rt and others.
-use Rattle.std.proofs.Common.{◌≡◌, ◌∙◌, ap, refl, ℕ, false, List, [], ◌∷◌, ◌++◌, length, map, filter, is_some, reverse, nat_lt, arith}
-use Rattle.cns_book.proofs.Common.{Activity, Cusip, Day, Journal, Liable, Liables, Posting, batch_since, batches_since, closings, day, executes, issues, kept_batches, map-append, posting, reverse-append}
-use Rattle.cns_terms.specs.Notices.{executed}
-use Rattle.cns_terms.proofs.BatchSteps.{batch_same}
+use Rattle.cns_book.proofs.Common.{◌≡◌, ◌∙◌, ap, refl, ℕ, false, List, [], ◌∷◌, ◌++◌, length, map, filter, is_some, reverse, nat_lt, arith, Activity, Cusip, Day, Journal, Liable, Liables, Posting, batch_since, batches_since, closings, day, executes, issues, kept_batches, map-append, posting, reverse-append, executed, batch_same}
 use Rattle.cns_terms.specs.declared.command.Activity.TheVariants as activity
 
 -- an activity that is no execution executes no notice

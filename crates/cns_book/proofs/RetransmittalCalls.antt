@@ -1,17 +1,8 @@
 -- What the notices of the open day call for.
 -- For `calls_of_day` of parts/retransmittal.rt.
-use Rattle.std.proofs.Common.{◌≡◌, ◌∙◌, ap, sym, subst, refl, ℕ, zero, suc, ◌+◌, ◌*◌, ◌-◌, ◌^◌, ◌≤◌, ◌<◌, true, false, cond, ◌&&◌, ◌==◌, List, [], ◌∷◌, ◌++◌, drop, filter, length, map, Some, sum_by, arith, slice_get, IsSomeAnd, option_map, get_or}
-use Rattle.cns_book.proofs.Common.{Activity, AllByRecursion, CalledIn, Contents, Cusip, Follows, ForSome, HasRoom, Journal, Notice, Noticed, Rows, bytes_eq-Decides, called, called_by, called_in, day, days_by, each_append, each_map, holding_at, journal, kept_notices, long, nat_tests, notices, remaining, remaining_by, same_issue, shares_limit, shorts_in, sum_by-cons, total_in}
-use Rattle.std.proofs.Math.Nat.{min-le_left}
-use Rattle.std.proofs.lemmas.Option.{same_Some, slice_get-get_or}
-use Rattle.cns_terms.specs.declared.buy_in.Given.{Given}
-use Rattle.cns_notices.proofs.NoticeSteps.{live_received}
-use Rattle.cns_notices.specs.Kept.{kept}
+use Rattle.cns_book.proofs.Common.{◌≡◌, ◌∙◌, ap, sym, subst, refl, ℕ, zero, suc, ◌+◌, ◌*◌, ◌-◌, ◌^◌, ◌≤◌, ◌<◌, true, false, cond, ◌&&◌, ◌==◌, List, [], ◌∷◌, ◌++◌, drop, filter, length, map, Some, sum_by, arith, slice_get, IsSomeAnd, option_map, get_or, Activity, AllByRecursion, CalledIn, Contents, Cusip, Follows, ForSome, HasRoom, Journal, Notice, Noticed, Rows, bytes_eq-Decides, called, called_by, called_in, day, days_by, each_append, each_map, holding_at, journal, kept_notices, long, nat_tests, notices, remaining, remaining_by, same_issue, shares_limit, shorts_in, sum_by-cons, total_in, min-le_left, same_Some, slice_get-get_or, Given, live_received, kept, call_of, All-from_recursion, recursion_from_All, All-drop, length-drop}
 use Rattle.cns_notices.specs.Noticed.{notice_at}
-use Rattle.cns_book.specs.Retransmittal.{call_of}
 use Rattle.cns_book.proofs.NoticeBounds.{each_at, given_few, notices_fit}
-use Rattle.std.proofs.lemmas.List.Elements.{All-from_recursion, recursion_from_All, All-drop}
-use Rattle.std.proofs.lemmas.List.{length-drop}
 
 -- ---- days rise along the notices
 

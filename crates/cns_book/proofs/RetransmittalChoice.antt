@@ -1,10 +1,7 @@
 -- The batches that a close chooses are those of the definitions.
 -- For `choose_batches` of parts/retransmittal.rt, clause batches.
-use Rattle.std.proofs.Common.{◌≡◌, ◌∙◌, ap, sym, refl, Bool, true, cond, List, [], ◌∷◌, filter, length, map, Option, Some, None, nat_cmp, bytes_eq, nat_lt, option_map, arith}
-use Rattle.cns_book.proofs.Common.{CalledIn, Cusip, Liable, Liables, batches_of, below_all, bytes_eq-Decides, called_in, chosen, exact_bytes, find_filter, find_with, is_rising, is_sorted, kept_if, list_any, nat_list_cmp_total, option_map_or, same_lists, same_test, slice_cmp, sorted_filter}
+use Rattle.cns_book.proofs.Common.{◌≡◌, ◌∙◌, ap, sym, refl, Bool, true, cond, List, [], ◌∷◌, filter, length, map, Option, Some, None, nat_cmp, bytes_eq, nat_lt, option_map, arith, CalledIn, Cusip, Liable, Liables, batches_of, below_all, bytes_eq-Decides, called_in, chosen, exact_bytes, find_filter, find_with, is_rising, is_sorted, kept_if, list_any, nat_list_cmp_total, option_map_or, same_lists, same_test, slice_cmp, sorted_filter, sorted_with, batch_of}
 use Rattle.std.specs.FinMap.{find}
-use Rattle.cns_terms.proofs.Valued.{sorted_with}
-use Rattle.cns_retransmit.specs.Calls.{batch_of}
 use Rattle.std.proofs.lemmas.Simd.{map-map}
 
 -- whether anybody is liable

@@ -1,9 +1,6 @@
 -- The members that are short in an issue, read off a sheet.
 -- For `choose_batches` of parts/retransmittal.rt, clause batches.
-use Rattle.std.proofs.Common.{◌≡◌, ◌∙◌, ap, refl, ◌+◌, ◌≤◌, ℤ, pos, Bool, true, false, not, cond, ◌&&◌, List, [], ◌∷◌, ◌++◌, map, filter, flat_map, Option, Some, None, arith, nat_cmp, filter_map, int_lt, nat_lt}
-use Rattle.cns_book.proofs.Common.{Account, AllByRecursion, Cusip, Day, IsSound, Journal, Member, Short, above_all, accounts, bytes_eq-Decides, bytes_refl, cons_option, filter_map-append, is_idle, is_listed, is_rising, issues, list_any, members, nat_list_cmp_total, nat_tests, oldest, row, rows_of, same_issue, sheet_rows, short, short_in, short_of, shorts, slice_cmp}
-use Rattle.cns_terms.specs.Positions.{position}
-use Rattle.cns_terms.proofs.Finds.{not_itself}
+use Rattle.cns_book.proofs.Common.{◌≡◌, ◌∙◌, ap, refl, ◌+◌, ◌≤◌, ℤ, pos, Bool, true, false, not, cond, ◌&&◌, List, [], ◌∷◌, ◌++◌, map, filter, flat_map, Option, Some, None, arith, nat_cmp, filter_map, int_lt, nat_lt, Account, AllByRecursion, Cusip, Day, IsSound, Journal, Member, Short, above_all, accounts, bytes_eq-Decides, bytes_refl, cons_option, filter_map-append, is_idle, is_listed, is_rising, issues, list_any, members, nat_list_cmp_total, nat_tests, oldest, row, rows_of, same_issue, sheet_rows, short, short_in, short_of, shorts, slice_cmp, position, not_itself}
 use Rattle.std.proofs.lemmas.Int.{ints}
 
 -- ---- lists

@@ -1,13 +1,7 @@
 -- The shorts of a close, given to what is called.
 -- For `add_shorts` of parts/retransmittal.rt.
-use Rattle.std.proofs.Common.{◌≡◌, ap, ℕ, ◌+◌, ◌*◌, ◌^◌, ◌≤◌, ◌<◌, ℤ, pos, true, false, cond, ◌&&◌, ◌==◌, List, [], ◌∷◌, ◌++◌, filter, flat_map, length, map, not, of_z, to_z, Option, None, sum_by, arith, filter_map, int_lt, is_some, nat_le, nat_lt, option_map, unsigned_abs, Result, Ok, Err, w64, append_assoc, append-nil}
-use Rattle.cns_book.proofs.Common.{Account, Activity, AllByRecursion, CalledIn, Contents, Cusip, Day, Follows, HasRoom, Holding, Journal, Key, Member, Row, Short, accounts, bytes_eq-Decides, corporation_limit, each_append, each_weaker, eqb_sym, filter_map-append, holding, is_idle, issues, journal, journal_len, member_limit, members, nat_tests, occurs, oldest, oldest_at, oldest_of, position_limit, row, rows_of, same_issue, sheet_rows, short, short_at, short_in, short_of, shorts, sum_by-cons, with_shorts}
-use lib.Signed.{le_z}
-use Rattle.cns_terms.specs.Positions.{position}
-use Rattle.cns_terms.proofs.CarriedAges.{oldest_le}
-use Rattle.cns_retransmit.specs.Calls.{with_short}
+use Rattle.cns_book.proofs.Common.{◌≡◌, ap, ℕ, ◌+◌, ◌*◌, ◌^◌, ◌≤◌, ◌<◌, ℤ, pos, true, false, cond, ◌&&◌, ◌==◌, List, [], ◌∷◌, ◌++◌, filter, flat_map, length, map, not, of_z, to_z, Option, None, sum_by, arith, filter_map, int_lt, is_some, nat_le, nat_lt, option_map, unsigned_abs, Result, Ok, Err, w64, append_assoc, append-nil, Account, Activity, AllByRecursion, CalledIn, Contents, Cusip, Day, Follows, HasRoom, Holding, Journal, Key, Member, Row, Short, accounts, bytes_eq-Decides, corporation_limit, each_append, each_weaker, eqb_sym, filter_map-append, holding, is_idle, issues, journal, journal_len, member_limit, members, nat_tests, occurs, oldest, oldest_at, oldest_of, position_limit, row, rows_of, same_issue, sheet_rows, short, short_at, short_in, short_of, shorts, sum_by-cons, with_shorts, le_z, position, oldest_le, with_short, is_short_in}
 use Rattle.cns_retransmit.specs.Chosen.{shorts_of}
-use Rattle.cns_book.specs.Retransmittal.{is_short_in}
 use Rattle.cns_book.proofs.JournalLengths.{closes_le}
 use Rattle.cns_book.proofs.PartsWithin.{rows_within}
 

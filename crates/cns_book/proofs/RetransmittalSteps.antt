@@ -1,20 +1,12 @@
 -- Whom a close makes liable, from what is called and who is short.
 -- For `choose_batches` of parts/retransmittal.rt and `close_day` of parts/closing.rt, clause step.
-use Rattle.std.proofs.Common.{◌≡◌, ◌∙◌, ap, sym, subst, refl, suc, ◌+◌, ◌*◌, ◌^◌, ◌≤◌, ◌<◌, Bool, true, false, ◌&&◌, ◌==◌, List, [], ◌∷◌, filter, flat_map, length, map, Option, Some, None, sum_by, arith, nat_cmp, filter_map, nat_lt, option_map, IfOk, OnOk, Result, mul-le-mul_right, length-append}
-use Rattle.std.proofs.lemmas.Option.{same_Some}
+use Rattle.cns_book.proofs.Common.{◌≡◌, ◌∙◌, ap, sym, subst, refl, suc, ◌+◌, ◌*◌, ◌^◌, ◌≤◌, ◌<◌, Bool, true, false, ◌&&◌, ◌==◌, List, [], ◌∷◌, filter, flat_map, length, map, Option, Some, None, sum_by, arith, nat_cmp, filter_map, nat_lt, option_map, IfOk, OnOk, Result, mul-le-mul_right, length-append, same_Some, Activity, AllByRecursion, CalledIn, Contents, Cusip, Day, Follows, ForSome, IsLimited, IsReached, IsSound, Journal, Liable, Liables, Notice, Row, batch_at, batch_since, batches_of, batches_since, bytes_eq-Decides, called, called_by, called_in, day, fills_before, history_limit, in_order, is_called, is_listed, is_sorted, issues, issues_few, journal, journal_len, length-map, liable_of, limited, members, members_few, members_from_one, nat_tests, near, notices, oldest, oldest_at, remaining, same_issue, sheet_rows, short_in, short_of, shorts, shorts_in, slice_cmp, sum_by-cons, total_in, with_shorts, liable_at, put, batch_new, unfilled, IsNoticed, CanBeChosen, none_called}
 use Rattle.cns_book.proofs.PendingSteps.{filter_few}
-use Rattle.cns_book.proofs.Common.{Activity, AllByRecursion, CalledIn, Contents, Cusip, Day, Follows, ForSome, IsLimited, IsReached, IsSound, Journal, Liable, Liables, Notice, Row, batch_at, batch_since, batches_of, batches_since, bytes_eq-Decides, called, called_by, called_in, day, fills_before, history_limit, in_order, is_called, is_listed, is_sorted, issues, issues_few, journal, journal_len, length-map, liable_of, limited, members, members_few, members_from_one, nat_tests, near, notices, oldest, oldest_at, remaining, same_issue, sheet_rows, short_in, short_of, shorts, shorts_in, slice_cmp, sum_by-cons, total_in, with_shorts}
-use Rattle.cns_terms.specs.Batches.{liable_at}
-use Rattle.cns_terms.specs.Sums.{put}
-use Rattle.cns_terms.proofs.BatchSteps.{batch_new, unfilled}
 use Rattle.cns_book.proofs.RetransmittalSheet.{shorts_off_sheet}
-use Rattle.cns_terms.proofs.Sound.{IsNoticed}
-use Rattle.cns_retransmit.specs.Calls.{CanBeChosen}
 use Rattle.cns_book.proofs.RetransmittalBatches.{in_issue}
 use Rattle.cns_book.proofs.RetransmittalCalls.{called_is}
 use Rattle.cns_book.proofs.RetransmittalChoice.{AreSameBatches, batches_same}
 use Rattle.cns_book.proofs.RetransmittalShorts.{HasShorts, ages_are, shorts_few, shorts_once}
-use Rattle.cns_retransmit.proofs.Lefts.{none_called}
 
 -- ---- issues in which nothing is called
 

@@ -1,11 +1,9 @@
 -- What a delivery or a receipt is refused for.
 -- For `deliver` and `receive` of parts/trading.rt, clause step.
-use Rattle.std.proofs.Common.{◌≡◌, List, arith}
-use Rattle.cns_book.proofs.Common.{Activity, Day, Movement, delivery_rules, first_refusal, journal, receipt_rules, refusal}
+use Rattle.cns_book.proofs.Common.{◌≡◌, List, arith, Activity, Day, Movement, delivery_rules, first_refusal, journal, receipt_rules, refusal, AreMoveFacts}
 use Rattle.cns_terms.specs.declared.command.Activity.TheVariants as activity
 use Rattle.cns_terms.specs.declared.command.Command.TheVariants as command
 use Rattle.cns_trades.specs.declared.facts.MoveFacts.{MoveFacts}
-use Rattle.cns_book.specs.Follows.{AreMoveFacts}
 
 -- what a delivery is refused for, over the facts
 pub delivery_refusal : (L : List Activity) (opening : Day) (m : Movement) (facts : MoveFacts) → AreMoveFacts (journal opening L) m facts → refusal opening (journal opening L) (command.Activity (activity.Deliver m)) ≡ first_refusal (delivery_rules facts m)

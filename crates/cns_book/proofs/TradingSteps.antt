@@ -1,15 +1,9 @@
 -- A trade: what it is refused for, and what it leaves.
 -- For `book_trade` of parts/trading.rt, clause step.
-use Rattle.std.proofs.Common.{◌≡◌, ◌∙◌, sym, ap, refl, ℕ, ◌+◌, ◌≤◌, ℤ, pos, ◌+ℤ◌, neg_ℤ, Bool, true, false, not, ◌&&◌, ◌||◌, cond, eqb, List, [], ◌∷◌, ◌++◌, reverse, Option, Some, None, arith, bytes_eq, is_some, sum_by, Ok, Err, unwrap_or}
-use Rattle.cns_book.proofs.Common.{Account, Activity, Contents, Cusip, Day, Entry, Follows, FollowsNotices, FollowsPending, FollowsReferences, IsInRange, Key, NoSuchIssue, NoSuchMember, Noticed, Pend, Refusal, Retired, Rows, Traded, WrongDay, books, bought_in, buyer_entry, bytes_refl, date, entries, eqb_refl, first_refusal, holding_at, ints, is_close, is_listed, is_member, is_not_after, is_past, is_retired, is_seen, is_too_far, is_too_large, is_too_large_at, journal, list_any, nat_tests, option_map_or, pend_of, pending, refusal, reverse_onto, seller_entry, shares_for, sold_in, sum_by-cons, total, trade_entries, trade_rules}
+use Rattle.cns_book.proofs.Common.{◌≡◌, ◌∙◌, sym, ap, refl, ℕ, ◌+◌, ◌≤◌, ℤ, pos, ◌+ℤ◌, neg_ℤ, Bool, true, false, not, ◌&&◌, ◌||◌, cond, eqb, List, [], ◌∷◌, ◌++◌, reverse, Option, Some, None, arith, bytes_eq, is_some, sum_by, Ok, Err, unwrap_or, Account, Activity, Contents, Cusip, Day, Entry, Follows, FollowsNotices, FollowsPending, FollowsReferences, IsInRange, Key, NoSuchIssue, NoSuchMember, Noticed, Pend, Refusal, Retired, Rows, Traded, WrongDay, books, bought_in, buyer_entry, bytes_refl, date, entries, eqb_refl, first_refusal, holding_at, ints, is_close, is_listed, is_member, is_not_after, is_past, is_retired, is_seen, is_too_far, is_too_large, is_too_large_at, journal, list_any, nat_tests, option_map_or, pend_of, pending, refusal, reverse_onto, seller_entry, shares_for, sold_in, sum_by-cons, total, trade_entries, trade_rules, SameParty, SeenReference, TooLarge, position, or_false, booking, books_beyond, party, takes_beyond, trade_answer, waits_beyond, is_used, AreTradeFacts}
 use Rattle.cns_terms.specs.declared.command.Trade.{Trade}
-use Rattle.cns_terms.specs.declared.refusal.Refusal.TheVariants.{SameParty, SeenReference, TooLarge}
-use Rattle.cns_terms.specs.Positions.{position}
-use Rattle.cns_terms.proofs.Facts.{or_false, zero_add}
-use Rattle.cns_trades.specs.Checks.{booking, books_beyond, party, takes_beyond, trade_answer, waits_beyond}
+use Rattle.cns_terms.proofs.Facts.{zero_add}
 use Rattle.cns_trades.specs.declared.facts.TradeFacts.{TradeFacts}
-use Rattle.cns_trades.specs.Used.{is_used}
-use Rattle.cns_book.specs.Follows.{AreTradeFacts}
 use Rattle.cns_book.proofs.EffectPlaces.{books_none}
 use Rattle.cns_book.proofs.PendingSteps.{bought-reverse, sold-reverse}
 use Rattle.cns_terms.specs.declared.command.Activity.TheVariants as activity

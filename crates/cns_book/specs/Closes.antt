@@ -1,8 +1,7 @@
 -- The law of what a close tells, over any list of commands.
 use Rattle.std.specs.Prelude.{ℕ, ◌≡◌, List, length, sum_by}
-use Rattle.cns_terms.specs.Common.{Day, Liables, State, after, answer, batches, journal_of, next, opened}
+use Rattle.cns_book.specs.Common.{Day, Liables, State, after, answer, batches, journal_of, next, opened, Command}
 use Rattle.cns_terms.specs.declared.command.Activity.TheVariants as activity
-use Rattle.cns_terms.specs.declared.command.Command.{Command}
 use Rattle.cns_terms.specs.declared.command.Command.TheVariants as command
 use Rattle.cns_terms.specs.declared.reply.Closed.{Closed}
 use Rattle.cns_terms.specs.declared.reply.Reply.TheVariants as reply

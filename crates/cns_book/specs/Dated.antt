@@ -1,7 +1,6 @@
 -- Closed days by their dates.
 use Rattle.std.specs.Prelude.{◌≡◌, true, int_lt, List, [], ◌∷◌, filter_map, find, Option, option_map, slice_get, Bool}
-use Rattle.cns_terms.specs.Common.{Day, DaySheet, day_number, is_not_after, is_same_day}
-use Rattle.cns_terms.specs.declared.action.Declared.{Declared}
+use Rattle.cns_book.specs.Common.{Day, DaySheet, day_number, is_not_after, is_same_day, Declared}
 use Rattle.cns_sheets.specs.Payments.{Paying}
 
 -- the date is after that of the day that was closed last

@@ -1,13 +1,9 @@
 -- Where entries are booked, and what splits and exchanges are checked for.
 use Rattle.std.specs.Prelude.{◌≡◌, ◌≤◌, true, ◌*◌, Bool, not, ◌&&◌, ◌||◌, List, [], ◌∷◌, map, unsigned_abs}
-use Rattle.cns_terms.specs.Common.{AllByRecursion, Day, Journal, Rule, booking_limit, corporation_limit, history_limit, is_listed, is_retired, pending, same_issue}
+use Rattle.cns_book.specs.Common.{AllByRecursion, Day, Journal, Rule, booking_limit, corporation_limit, history_limit, is_listed, is_retired, pending, same_issue, Activity, Entry, Key, Rows, has_row, holding_at}
 use Rattle.cns_terms.specs.declared.action.Exchange.{Exchange}
-use Rattle.cns_terms.specs.declared.command.Activity.{Activity}
 use Rattle.cns_terms.specs.declared.command.Activity.TheVariants as activity
-use Rattle.cns_terms.specs.declared.holding.Entry.{Entry}
-use Rattle.cns_terms.specs.declared.holding.Key.{Key}
 use Rattle.cns_terms.specs.declared.refusal.Refusal.TheVariants.{NoSuchIssue, Retired, SameIssue}
-use Rattle.cns_positions.specs.Rows.{Rows, has_row, holding_at}
 use Rattle.cns_actions.specs.declared.action.Action.{Action}
 use Rattle.cns_actions.specs.Booked.{waits_for}
 use Rattle.cns_actions.specs.declared.action.Action.TheVariants as action

@@ -1,17 +1,12 @@
 -- What an execution is booked by.
 use Rattle.std.specs.Prelude.{◌≡◌, ℕ, ◌-◌, ◌*◌, ◌^◌, ◌≤◌, min, pos, int_lt, true, false, ◌==◌, List, [], ◌∷◌, length, map, None, Some, option_map, unsigned_abs}
-use Rattle.cns_terms.specs.Common.{AllByRecursion, Cusip, IsInRange, Journal, Member, Notice, booking_limit, corporation_limit, fill_entry, fills, history_limit, journal, money_limit, notice_at, option_map_or, originator_entry, refusal, shares_limit, short}
+use Rattle.cns_book.specs.Common.{AllByRecursion, Cusip, IsInRange, Journal, Member, Notice, booking_limit, corporation_limit, fill_entry, fills, history_limit, journal, money_limit, notice_at, option_map_or, originator_entry, refusal, shares_limit, short, Activity, Entry, Holding, Key, Rows, holding_at}
 use Rattle.cns_terms.specs.declared.buy_in.Execution.{Execution}
 use Rattle.cns_terms.specs.declared.buy_in.Fill.{Fill}
 use Rattle.cns_terms.specs.declared.buy_in.Given.{Given}
-use Rattle.cns_terms.specs.declared.command.Activity.{Activity}
-use Rattle.cns_terms.specs.declared.holding.Entry.{Entry}
-use Rattle.cns_terms.specs.declared.holding.Holding.{Holding}
-use Rattle.cns_terms.specs.declared.holding.Key.{Key}
 use Rattle.cns_terms.specs.declared.command.Activity.TheVariants as activity
 use Rattle.cns_terms.specs.declared.command.Command.TheVariants as command
 use Rattle.cns_notices.specs.Noticed.{notice_at as kept_at}
-use Rattle.cns_positions.specs.Rows.{Rows, holding_at}
 use Rattle.cns_book.specs.Contents.{Contents}
 use Rattle.cns_book.specs.Follows.{Follows}
 

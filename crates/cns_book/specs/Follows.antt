@@ -1,24 +1,15 @@
 -- What ties the parts of a book to the accepted activities, by what changes together.
 use Rattle.std.specs.Prelude.{◌≡◌, ℕ, ℤ, ◌+◌, ◌≤◌, ◌<◌, Bool, true, false, List, map, length, reverse, Option, Some, None, Result, Ok, Err, if◌then◌else◌}
-use Rattle.cns_terms.specs.Common.{Cusip, Day, IsReached, Journal, Liables, Member, answer_to, batches_since, closes, closings, corporation, date, day_sheet, dividends, history_limit, holding, in_order, is_listed, is_member, is_retired, is_seen, journal, pays_before, pending, price, refusal}
-use Rattle.cns_terms.specs.declared.command.Activity.{Activity}
-use Rattle.cns_terms.specs.declared.command.Command.{Command}
+use Rattle.cns_book.specs.Common.{Cusip, Day, IsReached, Journal, Liables, Member, answer_to, batches_since, closes, closings, corporation, date, day_sheet, dividends, history_limit, holding, in_order, is_listed, is_member, is_retired, is_seen, journal, pays_before, pending, price, refusal, Activity, Command, NoMemory, Key, Refusal, Reply, holding_at, price_in, retired_in, is_used}
 use Rattle.cns_terms.specs.declared.command.Movement.{Movement}
 use Rattle.cns_terms.specs.declared.command.Activity.TheVariants as activity
 use Rattle.cns_terms.specs.declared.command.Trade.{Trade}
 use Rattle.cns_terms.specs.declared.command.Command.TheVariants as command
-use Rattle.cns_terms.specs.declared.fault.NoMemory.{NoMemory}
-use Rattle.cns_terms.specs.declared.holding.Key.{Key}
-use Rattle.cns_terms.specs.declared.refusal.Refusal.{Refusal}
-use Rattle.cns_terms.specs.declared.reply.Reply.{Reply}
 use Rattle.cns_terms.specs.Machine.{accepted_after}
 use Rattle.cns_terms.specs.Positions.{position}
 use Rattle.cns_notices.specs.Kept.{kept_notices}
-use Rattle.cns_positions.specs.Rows.{holding_at}
-use Rattle.cns_prices.specs.Listed.{price_in, retired_in}
 use Rattle.cns_trades.specs.declared.facts.MoveFacts.{MoveFacts}
 use Rattle.cns_trades.specs.declared.facts.TradeFacts.{TradeFacts}
-use Rattle.cns_trades.specs.Used.{is_used}
 use Rattle.cns_book.specs.Contents.{Contents}
 use Rattle.cns_book.specs.Members.{has_member}
 

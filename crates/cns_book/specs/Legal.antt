@@ -1,8 +1,6 @@
 -- What a book keeps true of its history and its parts.
 use Rattle.std.specs.Prelude.{◌≡◌, ℕ, ◌-◌, ◌<◌, ◌≤◌, List, length, slice_index}
-use Rattle.cns_terms.specs.Common.{IsLegal, accepted, count, history_limit}
-use Rattle.cns_terms.specs.declared.history.Taken.{Taken}
-use Rattle.cns_terms.specs.declared.worker.Worker.{Worker}
+use Rattle.cns_book.specs.Common.{IsLegal, accepted, count, history_limit, Taken, Worker}
 use Rattle.cns_book.specs.Contents.{Contents}
 use Rattle.cns_book.specs.Follows.{Follows}
 

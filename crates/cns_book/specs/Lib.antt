@@ -11,3 +11,4 @@ pub mod Log
 pub mod Members
 pub mod Retransmittal
 pub mod Shown
+pub mod Common

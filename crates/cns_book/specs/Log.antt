@@ -1,12 +1,7 @@
 -- What contracts see of a book, and what a command does to it.
 use Rattle.std.specs.Prelude.{◌≡◌, ℕ, ◌+◌, List, [], ◌∷◌, length}
-use Rattle.cns_terms.specs.Common.{Day, State, answer, count}
-use Rattle.cns_terms.specs.declared.command.Command.{Command}
-use Rattle.cns_terms.specs.declared.history.Taken.{Taken}
-use Rattle.cns_terms.specs.declared.worker.Worker.{Worker}
+use Rattle.cns_book.specs.Common.{Day, State, answer, count, Command, Taken, Worker, Rows, Receipt}
 use Rattle.cns_terms.specs.History.{state}
-use Rattle.cns_positions.specs.Rows.{Rows}
-use Rattle.cns_book.specs.declared.receipt.Receipt.{Receipt}
 
 -- what a book remembers: its opening date, the most commands that it takes, and its history, the newest first
 pub record Log : Type 0 where

@@ -1,21 +1,14 @@
 -- Where a command may give a key a row of the positions, and what one that is refused leaves.
 use Rattle.std.specs.Prelude.{◌≡◌, ◌⊎◌, List, [], ◌∷◌, Contains, reverse, Result, Ok, Err}
-use Rattle.cns_terms.specs.Common.{corporation, journal_of, moved_in, moved_out, pend_of, pending, trade_entries}
-use Rattle.cns_terms.specs.declared.command.Command.{Command}
+use Rattle.cns_book.specs.Common.{corporation, journal_of, moved_in, moved_out, pend_of, pending, trade_entries, Command, NoMemory, Key, Refusal, Reply, Rows, has_row, Receipt}
 use Rattle.cns_terms.specs.declared.command.Activity.TheVariants as activity
 use Rattle.cns_terms.specs.declared.command.Command.TheVariants as command
-use Rattle.cns_terms.specs.declared.fault.NoMemory.{NoMemory}
-use Rattle.cns_terms.specs.declared.holding.Key.{Key}
 use Rattle.cns_terms.specs.declared.pend.Pend.{Pend}
-use Rattle.cns_terms.specs.declared.refusal.Refusal.{Refusal}
-use Rattle.cns_terms.specs.declared.reply.Reply.{Reply}
 use Rattle.cns_terms.specs.declared.reply.Reply.TheVariants as reply
-use Rattle.cns_positions.specs.Rows.{Rows, has_row}
 use Rattle.cns_actions.specs.DueAmounts.{due_entries}
 use Rattle.cns_book.specs.Contents.{Contents}
 use Rattle.cns_book.specs.Effects.{places_of}
 use Rattle.cns_book.specs.Log.{Log, state_of}
-use Rattle.cns_book.specs.declared.receipt.Receipt.{Receipt}
 use Rattle.cns_book.specs.declared.receipt.TakeFault.{TakeFault}
 use Rattle.cns_book.specs.declared.receipt.TakeFault.TheVariants as fault
 

@@ -1,8 +1,7 @@
 -- How a history keeps its entries: replies other than 'accepted' stand in a list of their own.
 use Rattle.std.specs.Prelude.{◌≡◌, ◌<◌, ℕ, List, Option, Some, None, length, map, slice_get, unwrap_or}
+use Rattle.cns_book.specs.Common.{Taken, Reply}
 use Rattle.std.specs.List.{AllByRecursion}
-use Rattle.cns_terms.specs.declared.history.Taken.{Taken}
-use Rattle.cns_terms.specs.declared.reply.Reply.{Reply}
 use Rattle.cns_terms.specs.declared.reply.Reply.TheVariants as reply
 use Rattle.cns_book.specs.declared.history.Brief.{Brief}
 

@@ -1,11 +1,8 @@
 -- What the notices of a day call for, and who is short, by what the parts show.
 use Rattle.std.specs.Prelude.{ℕ, ◌+◌, pos, int_lt, Bool, ◌&&◌, ◌==◌, nat_lt, List, ◌++◌, Option, Some, None, sum_by, if◌then◌else◌}
-use Rattle.cns_terms.specs.Common.{Account, Cusip, oldest_of, same_issue, short}
+use Rattle.cns_book.specs.Common.{Account, Cusip, oldest_of, same_issue, short, Noticed, remaining_of, Rows, holding_at}
 use Rattle.cns_terms.specs.declared.buy_in.Short.{Short}
 use Rattle.cns_terms.specs.declared.sheet.Row.{Row}
-use Rattle.cns_notices.specs.declared.noticed.Noticed.{Noticed}
-use Rattle.cns_notices.specs.Noticed.{remaining_of}
-use Rattle.cns_positions.specs.Rows.{Rows, holding_at}
 use Rattle.cns_retransmit.specs.Calls.{CalledIn}
 
 -- what remains of a notice, by its member's position

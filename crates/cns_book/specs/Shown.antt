@@ -1,10 +1,7 @@
 -- What the reading calls of a book show.
 use Rattle.std.specs.Prelude.{ℕ, suc, zero, List, Option, Some, None, is_none, option_map, slice_get, reverse, if◌then◌else◌}
-use Rattle.cns_terms.specs.Common.{Cusip, Day, Journal, Liables, Price, State, batches, holding, is_listed, journal, notice_at, price, refusal, remaining, stage}
-use Rattle.cns_terms.specs.declared.history.Taken.{Taken}
-use Rattle.cns_terms.specs.declared.holding.Holding.{Holding}
+use Rattle.cns_book.specs.Common.{Cusip, Day, Journal, Liables, Price, State, batches, holding, is_listed, journal, notice_at, price, refusal, remaining, stage, Taken, Holding, Key}
 use Rattle.cns_terms.specs.declared.command.Command.TheVariants as command
-use Rattle.cns_terms.specs.declared.holding.Key.{Key}
 use Rattle.cns_terms.specs.Notices.{Notice as Listed}
 use Rattle.cns_retransmit.specs.Days.{batch_in}
 use Rattle.cns_book.specs.declared.notice.Notice.{Notice}

@@ -1,19 +1,15 @@
 -- The shares of a history's lines add up to its position.
 -- For `shares_add_up` of laws.rt.
-use Rattle.std.proofs.Common.{◌≡◌, ◌∙◌, ℕ, ◌+◌, pos, ◌-ℤ◌, List, [], ◌∷◌, Option, Ok, Err, option_map, option_to_list, arith}
+use Rattle.cns_history.proofs.Common.{◌≡◌, ◌∙◌, ℕ, ◌+◌, pos, ◌-ℤ◌, List, [], ◌∷◌, Option, Ok, Err, option_map, option_to_list, arith, Activity, Day, State, answer, date, journal_of, next, opened, total, Holding, Key, booked, booking, closing, counted_from, lines_at, standing}
 use Rattle.std.proofs.lemmas.Int.{ints}
 use Rattle.std.specs.Cmp.{signed_Decides}
 use Rattle.cns_terms.proofs.Common.{total-append}
-use Rattle.cns_terms.specs.declared.command.Activity.{Activity}
-use Rattle.cns_terms.specs.Common.{Day, State, answer, date, journal_of, next, opened, total}
 use Rattle.cns_terms.specs.declared.command.Command.TheVariants as command
-use Rattle.cns_terms.specs.declared.holding.Holding.{Holding}
-use Rattle.cns_terms.specs.declared.holding.Key.{Key}
 use Rattle.cns_terms.specs.declared.reply.Reply.{Reply}
 use Rattle.cns_feed.specs.Line.{Line}
 use Rattle.cns_feed.specs.Output.{state_after, state_after_line}
 use Rattle.cns_history.specs.Laws.{SharesAddUp, shares_of}
-use Rattle.cns_history.specs.Lines.{booked, booking, closing, counted_from, history, lines_at, standing}
+use Rattle.cns_history.specs.Lines.{history}
 use Rattle.cns_history.specs.declared.line.Booking.{Booking}
 use Rattle.cns_history.specs.declared.line.Closing.{Closing}
 use Rattle.cns_history.specs.declared.line.HistoryLine.TheVariants as line

@@ -1,3 +1,4 @@
 pub mod Limits
 pub mod Owned
 pub mod Adding
+pub mod Common

@@ -1,16 +1,11 @@
 -- What stands at a key is within the limits of a book.
 -- For `standing` of told.rt.
-use Rattle.std.proofs.Common.{◌≤◌, ◌<◌, zero, suc, Bool, true, false, List, [], ◌∷◌, Some, None, length, is_none, slice_get, unsigned_abs, unwrap_or, cond, arith}
-use Rattle.cns_terms.specs.Common.{Account, AllByRecursion, Cusip, Day, IsReached, Journal, State, amount_limit, closings, corporation_limit, history_limit, holding, journal, journal_of, refusal}
+use Rattle.cns_history.proofs.Common.{◌≤◌, ◌<◌, zero, suc, Bool, true, false, List, [], ◌∷◌, Some, None, length, is_none, slice_get, unsigned_abs, unwrap_or, cond, arith, Account, AllByRecursion, Cusip, Day, IsReached, Journal, State, amount_limit, closings, corporation_limit, history_limit, holding, journal, journal_of, refusal, Activity, Holding, Key, standing}
 use Rattle.cns_terms.specs.Positions.{position}
-use Rattle.cns_terms.specs.declared.command.Activity.{Activity}
-use Rattle.cns_terms.specs.declared.holding.Holding.{Holding}
-use Rattle.cns_terms.specs.declared.holding.Key.{Key}
 use Rattle.cns_terms.specs.declared.command.Command.TheVariants as command
 use Rattle.cns_terms.proofs.Amounts.{amounts}
 use Rattle.cns_terms.proofs.Reached.{IsLimited, bounded, bounds, limited_past}
 use Rattle.cns_positions.specs.Rows.{zeros}
-use Rattle.cns_history.specs.Lines.{standing}
 
 -- a position
 position_small : (opening : Day) (L : List Activity) (a : Account) (c : Cusip) → IsReached opening L → unsigned_abs (position (journal opening L) a c) ≤ corporation_limit

@@ -1,17 +1,12 @@
 -- Lines that are added one after another.
 -- For `add_each_since`, `add_each_opened`, `add_all_opened`, `add_opened_on` and `first_issue` of everywhere.rt; `accounts_in` of accounts.rt.
-use Rattle.std.proofs.Common.{◌≡◌, ◌∙◌, sym, ap, refl, ℕ, ◌+◌, ◌<◌, Bool, true, false, cond, filter, slice_get, Ok, arith, List, [], ◌∷◌, ◌++◌, Option, None, Some, append_assoc, append-nil, add-one, filter_map, get_or, length, map, take, take-suc}
-use Rattle.std.specs.List.{cons_option, flat_map}
+use Rattle.cns_history.proofs.Common.{◌≡◌, ◌∙◌, sym, ap, refl, ℕ, ◌+◌, ◌<◌, Bool, true, false, cond, filter, slice_get, Ok, arith, List, [], ◌∷◌, ◌++◌, Option, None, Some, append_assoc, append-nil, add-one, filter_map, get_or, length, map, take, take-suc, cons_option, flat_map, Account, Cusip, Day, Price, State, journal_of, sheet_on, Key, prices_above, accounts_of, each, issues_on, place, HistoryLine}
 use Rattle.std.specs.Option.{option_to_list}
 use Rattle.std.proofs.lemmas.List.{flat_map_more, map-id}
 use Rattle.std.proofs.lemmas.List.Elements.{filter-append, filter_map-append}
 use Rattle.std.proofs.lemmas.List.FromFn.{map-range_with_len_more}
-use Rattle.cns_terms.specs.Common.{Account, Cusip, Day, Price, State, journal_of, sheet_on}
-use Rattle.cns_terms.specs.declared.holding.Key.{Key}
-use Rattle.cns_sheets.specs.Search.{prices_above}
 use Rattle.cns_units.specs.Ranges.{within}
-use Rattle.cns_history.specs.Lines.{accounts_of, each, issues_on, numbers, place}
-use Rattle.cns_history.specs.declared.line.HistoryLine.{HistoryLine}
+use Rattle.cns_history.specs.Lines.{numbers}
 use Rattle.cns_history.specs.declared.watched.Whose.{Whose}
 
 -- one list, after another element

@@ -1,10 +1,6 @@
 -- The notices of an issue, ended one after another.
 -- For `end_issue` of notices.rt.
-use Rattle.std.proofs.Common.{◌≡◌, ℕ, suc, ◌-◌, ◌<◌, ◌≤◌, true, cond, eqb, List, [], ◌∷◌, length, map, Some, arith, All, slice_get}
-use Rattle.cns_notices.proofs.Common.{AllByRecursion, Cusip, Ended, Leads, Noticed, Numbers, Place, brought_to, each_weaker, ended, ended_each, equal, list_any, number_at, same_issue, slice_get_within, nat_tests}
-use Rattle.std.proofs.lemmas.List.Elements.{filter_passes, recursion_from_All}
-use Rattle.std.proofs.lemmas.Option.{slice_get-map}
-use Rattle.cns_notices.specs.Latest.{in_issue}
+use Rattle.cns_notices.proofs.Common.{◌≡◌, ℕ, suc, ◌-◌, ◌<◌, ◌≤◌, true, cond, eqb, List, [], ◌∷◌, length, map, Some, arith, All, slice_get, AllByRecursion, Cusip, Ended, Leads, Noticed, Numbers, Place, brought_to, each_weaker, ended, ended_each, equal, list_any, number_at, same_issue, slice_get_within, nat_tests, filter_passes, recursion_from_All, slice_get-map, in_issue}
 use Rattle.cns_notices.proofs.Items.{Changes, one_changed, same_changes}
 use Rattle.cns_notices.proofs.Places.{exact_places}
 

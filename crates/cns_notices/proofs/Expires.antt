@@ -1,10 +1,8 @@
 -- The notices of one day, among those whose days never fall.
 -- For `expire_from` and `span` of changes.rt, `expire` of notices.rt.
-use Rattle.std.proofs.Common.{◌≡◌, sym, refl, ℕ, ◌-◌, ◌<◌, ◌≤◌, true, false, ltb, leb, List, [], ◌∷◌, length, take, drop, map, arith, get_or-drop, get_or-take, length-drop, length-take, length-append}
-use Rattle.cns_notices.proofs.Common.{Expired, IsPartitionPoint, Noticed, brought_to, expired, expired_from, nat_tests}
+use Rattle.cns_notices.proofs.Common.{◌≡◌, sym, refl, ℕ, ◌-◌, ◌<◌, ◌≤◌, true, false, ltb, leb, List, [], ◌∷◌, length, take, drop, map, arith, get_or-drop, get_or-take, length-drop, length-take, length-append, Expired, IsPartitionPoint, Noticed, brought_to, expired, expired_from, nat_tests, new_notice}
 use Rattle.std.proofs.lemmas.List.{length-map, get_or-map, same_lists, get_or-append_right, get_or_append_left}
 use borrow.Rule.Slice.PartMut.{mid_of, put_mid}
-use Rattle.cns_notices.specs.Noticed.{new_notice}
 
 module _ (xs : List Noticed) (day i j : ℕ) (low : i ≤ length xs) (high : j ≤ length xs)
     (starts : IsPartitionPoint (λ x. ltb x.given.day day ≡ true) (λ x. ltb x.given.day day ≡ false) xs i)

@@ -1,8 +1,6 @@
 -- Lists item by item: what changes at their places make of them, and the first item that passes a test.
 -- For `live_of`, `received`, `end_issue` and `expire` of notices.rt and others.
-use Rattle.std.proofs.Common.{◌≡◌, ◌∙◌, sym, refl, ℕ, zero, suc, ◌+◌, Bool, true, false, cond, eqb, List, [], ◌∷◌, ◌++◌, ◌-◌, ◌≤◌, length, set, map, Option, Some, None, arith, option_map, slice_get, IsSomeAnd}
-use Rattle.cns_notices.proofs.Common.{changed_at, nat_tests, position_from}
-use Rattle.std.proofs.lemmas.Option.{gets}
+use Rattle.cns_notices.proofs.Common.{◌≡◌, ◌∙◌, sym, refl, ℕ, zero, suc, ◌+◌, Bool, true, false, cond, eqb, List, [], ◌∷◌, ◌++◌, ◌-◌, ◌≤◌, length, set, map, Option, Some, None, arith, option_map, slice_get, IsSomeAnd, changed_at, nat_tests, position_from, gets}
 
 -- ---- changes
 

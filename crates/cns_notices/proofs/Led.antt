@@ -1,8 +1,6 @@
 -- The numbers that lead to the notices.
 -- For `live_of`, `end_issue`, `executed` and `expire` of notices.rt and others.
-use Rattle.std.proofs.Common.{◌≡◌, ◌∙◌, refl, ℕ, suc, ◌-◌, ◌<◌, ◌≤◌, true, false, cond, eqb, List, length, get_or, set, map, Some, None, arith, slice_get}
-use Rattle.cns_notices.proofs.Common.{Cusip, Leads, Member, Noticed, Numbers, bytes_eq-Decides, bytes_refl, changed_at, ended, expired, has_received, is_live, is_live_of, live_number, nat_tests, number_at, receives, slice_get_read, slice_get_within}
-use Rattle.std.proofs.lemmas.Option.{gets, slice_get-map}
+use Rattle.cns_notices.proofs.Common.{◌≡◌, ◌∙◌, refl, ℕ, suc, ◌-◌, ◌<◌, ◌≤◌, true, false, cond, eqb, List, length, get_or, set, map, Some, None, arith, slice_get, Cusip, Leads, Member, Noticed, Numbers, bytes_eq-Decides, bytes_refl, changed_at, ended, expired, has_received, is_live, is_live_of, live_number, nat_tests, number_at, receives, slice_get_read, slice_get_within, gets, slice_get-map}
 use Rattle.cns_notices.proofs.Items.{Changes, found_at, map_none, none_from, one_changed, one_from, same_changes, same_length, written}
 
 -- ---- what the numbers say

@@ -1,12 +1,8 @@
 -- How many notices there are, of which days, and where one is found.
 -- For `give_notice`, `withdraw_refusal`, `notice_refusal` and `withdraw` of parts/notice.rt in cns_book and others.
-use Rattle.std.proofs.Common.{◌≡◌, ◌∙◌, ap, sym, refl, ℕ, suc, ◌-◌, ◌≤◌, Bool, ◌&&◌, ◌==◌, List, [], ◌∷◌, length, map, find, arith, option_map, length-append}
-use Rattle.cns_notices.proofs.Common.{AllByRecursion, Cusip, Journal, Member, Notice, day, each_append, each_weaker, is_live, is_live_of, kept_notices, live_number, notice_at, notices, position_from, same_issue, stage}
-use Rattle.std.proofs.lemmas.Option.{slice_get-map}
-use Rattle.cns_terms.specs.Notices.{live_notice}
+use Rattle.cns_notices.proofs.Common.{◌≡◌, ◌∙◌, ap, sym, refl, ℕ, suc, ◌-◌, ◌≤◌, Bool, ◌&&◌, ◌==◌, List, [], ◌∷◌, length, map, find, arith, option_map, length-append, AllByRecursion, Cusip, Journal, Member, Notice, day, each_append, each_weaker, is_live, is_live_of, kept_notices, live_number, notice_at, notices, position_from, same_issue, stage, slice_get-map, live_notice, kept}
 use Rattle.cns_notices.proofs.NoticeSteps.{AreNumberedFrom, numbered}
 use Rattle.cns_notices.specs.Noticed.{notice_at as kept_at}
-use Rattle.cns_notices.specs.Kept.{kept}
 use Rattle.cns_notices.proofs.Noticing.{notice_found}
 
 -- ---- how many, and of which days

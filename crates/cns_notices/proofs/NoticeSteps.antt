@@ -1,9 +1,6 @@
 -- How notices stand after one more activity.
 -- For `calls_of_day` of parts/retransmittal.rt in cns_book, `give_notice`, `withdraw_refusal` and `notice_refusal` of parts/notice.rt in cns_book and others.
-use Rattle.std.proofs.Common.{◌≡◌, refl, ℕ, suc, ◌+◌, ◌<◌, true, List, [], ◌∷◌, ◌++◌, length, arith, length-append}
-use Rattle.cns_notices.proofs.Common.{Journal, Live, Movement, Notice, Posting, day, is_live, notice, notices, shares_executed, stage}
-use Rattle.cns_terms.specs.Notices.{shares_received}
-use Rattle.cns_notices.specs.Kept.{received_live}
+use Rattle.cns_notices.proofs.Common.{◌≡◌, refl, ℕ, suc, ◌+◌, ◌<◌, true, List, [], ◌∷◌, ◌++◌, length, arith, length-append, Journal, Live, Movement, Notice, Posting, day, is_live, notice, notices, shares_executed, stage, shares_received, received_live}
 
 -- ---- numbers
 

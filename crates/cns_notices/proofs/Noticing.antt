@@ -1,15 +1,10 @@
 -- What each activity makes of the notices, in the words of the list.
 -- For `count_by` of closed_days.rt in cns_book, `give_notice`, `withdraw_refusal` and `notice_refusal` of parts/notice.rt in cns_book and others.
-use Rattle.std.proofs.Common.{◌≡◌, ◌∙◌, refl, ℕ, zero, suc, ◌+◌, ◌-◌, ◌≤◌, Bool, cond, ◌&&◌, ◌==◌, List, [], ◌∷◌, ◌++◌, length, map, map-id, find, Some, arith, slice_get, bytes_eq}
-use Rattle.cns_notices.proofs.Common.{Cusip, Ended, Expired, Journal, Live, Movement, Notice, Noticed, Posting, Stage, Withdrawn, changed_at, day, ended, eqb_sym, execution, expired, first_reached, is_live, kept_notices, map-append, nat_list_eq_equiv, nat_tests, notice, notice_at, notices, receipt, receives, with_notice}
-use Rattle.std.proofs.lemmas.Option.{slice_get-map}
+use Rattle.cns_notices.proofs.Common.{◌≡◌, ◌∙◌, refl, ℕ, zero, suc, ◌+◌, ◌-◌, ◌≤◌, Bool, cond, ◌&&◌, ◌==◌, List, [], ◌∷◌, ◌++◌, length, map, map-id, find, Some, arith, slice_get, bytes_eq, Cusip, Ended, Expired, Journal, Live, Movement, Notice, Noticed, Posting, Stage, Withdrawn, changed_at, day, ended, eqb_sym, execution, expired, first_reached, is_live, kept_notices, map-append, nat_list_eq_equiv, nat_tests, notice, notice_at, notices, receipt, receives, with_notice, slice_get-map, Given, stage_by, new_notice, kept}
 use Rattle.cns_notices.proofs.Items.{Changes, one_changed, same_changes}
-use Rattle.cns_terms.specs.declared.buy_in.Given.{Given}
 use Rattle.cns_terms.specs.declared.command.Activity.{Activity}
-use Rattle.cns_terms.specs.Notices.{stage_by}
 use Rattle.cns_notices.proofs.NoticeSteps.{AreNumberedFrom, given_now, numbered}
-use Rattle.cns_notices.specs.Noticed.{executes, new_notice}
-use Rattle.cns_notices.specs.Kept.{kept}
+use Rattle.cns_notices.specs.Noticed.{executes}
 
 -- ---- one notice
 

@@ -1,12 +1,7 @@
 -- One notice more.
 -- For `open` of notices.rt.
-use Rattle.std.proofs.Common.{◌≡◌, ◌+◌, ◌-◌, ◌<◌, ◌≤◌, ◌^◌, cond, List, [], ◌∷◌, ◌++◌, length, get_or, length-append, Some, None, arith, is_eq}
-use Rattle.cns_notices.proofs.Common.{Leads, Noticed, Numbers, Place, equal, is_live_of, live_number, number_at, tied_itself, nat_tests, slice_get_within, bytes_refl}
-use Rattle.std.proofs.lemmas.List.Sorted.{IsNonDecreasingBy-push}
-use Rattle.std.proofs.lemmas.Option.{slice_get-get_or}
-use Rattle.cns_terms.specs.declared.buy_in.Given.{Given}
-use Rattle.cns_notices.specs.Latest.{place_cmp, place_of}
-use Rattle.cns_notices.specs.Noticed.{notice_at, new_notice}
+use Rattle.cns_notices.proofs.Common.{◌≡◌, ◌+◌, ◌-◌, ◌<◌, ◌≤◌, ◌^◌, cond, List, [], ◌∷◌, ◌++◌, length, get_or, length-append, Some, None, arith, is_eq, Leads, Noticed, Numbers, Place, equal, is_live_of, live_number, number_at, tied_itself, nat_tests, slice_get_within, bytes_refl, IsNonDecreasingBy-push, slice_get-get_or, Given, place_cmp, place_of, new_notice}
+use Rattle.cns_notices.specs.Noticed.{notice_at}
 use Rattle.cns_notices.proofs.Items.{none_at, one_more}
 use Rattle.cns_notices.proofs.Places.{exact_places, places_total}
 

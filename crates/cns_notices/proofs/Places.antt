@@ -1,12 +1,9 @@
 -- Places of members in issues, and the numbers at them.
 -- For `put` and `of_issue` of latest.rt.
-use Rattle.std.proofs.Common.{◌≡◌, ap, refl, ◌<◌, false, [], ◌∷◌, filter, arith, is_gt, nat_cmp, Less}
-use Rattle.cns_notices.proofs.Common.{Cusip, Included, IsTotalOrder, Numbers, Place, exact_bytes, is_eq-slice_cmp, nat_cmp_total, nat_list_cmp_total, nat_tests, ordering_then, range_contains, same_issue, slice_cmp, tied_itself}
+use Rattle.cns_notices.proofs.Common.{◌≡◌, ap, refl, ◌<◌, false, [], ◌∷◌, filter, arith, is_gt, nat_cmp, Less, Cusip, Included, IsTotalOrder, Numbers, Place, exact_bytes, is_eq-slice_cmp, nat_cmp_total, nat_list_cmp_total, nat_tests, ordering_then, range_contains, same_issue, slice_cmp, tied_itself, All-head, All-tail, HaveSmallMembers, in_issue, place_cmp}
 use Rattle.std.specs.Map.{keys_of}
 use Rattle.std.proofs.lemmas.Cmp.{then_total, on_total}
-use Rattle.std.proofs.lemmas.List.Elements.{All-head, All-tail}
 use Rattle.std.proofs.lemmas.Map.Lookups.{CmpEqualImpliesEq, exact_pairs, exact_unsigned}
-use Rattle.cns_notices.specs.Latest.{HaveSmallMembers, in_issue, place_cmp}
 
 -- the order of places is total, and tells them apart
 pub places_total : IsTotalOrder place_cmp

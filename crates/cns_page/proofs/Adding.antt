@@ -1,7 +1,6 @@
 -- Rows that are added up one after another.
 -- For `sums_of` and `own_sums` of sums.rt.
-use Rattle.std.proofs.Common.{◌≡◌, ◌∙◌, sym, ap, List, [], ◌∷◌, map}
-use Rattle.std.specs.List.{fold}
+use Rattle.cns_page.proofs.Common.{◌≡◌, ◌∙◌, sym, ap, List, [], ◌∷◌, map, fold}
 
 -- the next of those that are left
 pub added_more : {X Y S : Type 0} (f : S → Y → S) (g : X → Y) (all sum new : S) (left rest : List X) (x : X) → left ≡ x ∷ rest → new ≡ f sum (g x)

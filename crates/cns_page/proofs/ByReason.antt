@@ -1,9 +1,7 @@
 -- Exceptions counted kind by kind.
 -- For `counts_of` of reasons.rt.
-use Rattle.std.proofs.Common.{◌≡◌, ◌∙◌, ℕ, ◌+◌, false, List, [], ◌∷◌, ◌++◌, ◌==◌, refl, sym, map, add-one, append-nil}
-use Rattle.std.proofs.lemmas.Bool.{ne_eqb}
-use Rattle.std.proofs.lemmas.List.{map-append}
-use Rattle.cns_page.specs.Listed.{count_at, count_shown, counted, counts_below}
+use Rattle.cns_page.proofs.Common.{◌≡◌, ◌∙◌, ℕ, ◌+◌, false, List, [], ◌∷◌, ◌++◌, ◌==◌, refl, sym, map, add-one, append-nil, ne_eqb, map-append, count_at, count_shown, counted}
+use Rattle.cns_page.specs.Listed.{counts_below}
 use Rattle.cns_page.specs.declared.finding.Outcome.{Outcome}
 use Rattle.cns_page.specs.declared.reasons.Counted.{Counted}
 

@@ -1,8 +1,7 @@
 -- What is known of the program's line.
 -- For `matches_in` of asked.rt.
-use Rattle.std.proofs.Common.{◌≡◌, true, refl}
+use Rattle.cns_page.proofs.Common.{◌≡◌, true, refl, is_simple, is_simple_and_free}
 use Rattle.clap.proofs.OnLiterals.{clap_on_literals}
-use Rattle.clap.specs.Words.{is_simple, is_simple_and_free}
 use Rattle.cns_page.specs.Asks.{dated_line, page_line}
 
 -- clap tells of lines of this form what they give

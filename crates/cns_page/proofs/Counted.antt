@@ -1,15 +1,8 @@
 -- The shorts of a sheet, row by row.
 -- For `shorts_of` of figures.rt, `gather` of shorts.rt.
-use Rattle.std.proofs.Common.{◌≡◌, ◌∙◌, sym, ap, ℕ, ◌-◌, ◌^◌, ◌<◌, true, cond, List, [], ◌∷◌, ◌++◌, min, map}
-use Rattle.std.specs.Prelude.{All, count_by}
-use Rattle.std.proofs.lemmas.List.{map-append}
-use Rattle.std.proofs.lemmas.List.Elements.{All-push, filter-append}
-use Rattle.cns_terms.specs.Common.{State}
-use Rattle.cns_terms.specs.declared.sheet.Row.{Row}
+use Rattle.cns_page.proofs.Common.{◌≡◌, ◌∙◌, sym, ap, ℕ, ◌-◌, ◌^◌, ◌<◌, true, cond, List, [], ◌∷◌, ◌++◌, min, map, count_by, map-append, All-push, filter-append, State, Row, is_short, aged, shorts_among, Aged}
+use Rattle.std.specs.Prelude.{All}
 use Rattle.cns_sheets.proofs.RowSums.{onward}
-use Rattle.cns_page.specs.Figures.{is_short}
-use Rattle.cns_page.specs.Listed.{aged, shorts_among}
-use Rattle.cns_page.specs.declared.shorts.Aged.{Aged}
 
 -- ---- how many they are
 

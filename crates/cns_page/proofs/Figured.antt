@@ -1,8 +1,6 @@
 -- The figures of a day, row by row.
 -- For `marks_of` of figures.rt.
-use Rattle.std.proofs.Common.{◌≡◌, ℕ, ◌-◌, ◌^◌, List, ◌++◌, min, unsigned_abs}
-use Rattle.std.specs.Prelude.{sum_by}
-use Rattle.cns_terms.specs.declared.sheet.Row.{Row}
+use Rattle.cns_page.proofs.Common.{◌≡◌, ℕ, ◌-◌, ◌^◌, List, ◌++◌, min, unsigned_abs, sum_by, Row}
 
 -- how far a loop over rows has come: the rows that it was given, and the sum of the amounts of their marks, as far as it goes
 pub record Figuring (all given left : List Row) (marks : ℕ) : Type 0 where

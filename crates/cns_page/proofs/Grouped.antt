@@ -1,10 +1,8 @@
 -- The lines of a sheet, row by row.
 -- For `lines_of` of accounts.rt.
-use Rattle.std.proofs.Common.{◌≡◌, Bool, List, ◌∷◌, ◌++◌, Option, Some, append_assoc, append-nil, [], ap, sym, ◌∙◌}
-use Rattle.cns_terms.specs.Common.{Account, DaySheet}
-use Rattle.cns_terms.specs.declared.sheet.Row.{Row}
+use Rattle.cns_page.proofs.Common.{◌≡◌, Bool, List, ◌∷◌, ◌++◌, Option, Some, append_assoc, append-nil, [], ap, sym, ◌∙◌, Account, DaySheet, Row, grouped}
 use Rattle.cns_account.specs.declared.day_moves.DayMoves.{DayMoves}
-use Rattle.cns_page.specs.Accounts.{grouped, lines_after}
+use Rattle.cns_page.specs.Accounts.{lines_after}
 use Rattle.cns_page.specs.declared.accounts.SheetLine.{SheetLine}
 
 -- one more row

@@ -1,10 +1,6 @@
 -- Pages that are kept one after another.
 -- For `keep_each` of folder.rt.
-use Rattle.std.proofs.Common.{◌≡◌, ◌∙◌, ◌<◌, ap, sym, subst, ℕ, ◌+◌, List, [], ◌∷◌, Option, drop, get_or, length}
-use Rattle.std.proofs.lemmas.List.{drop_more}
-use Rattle.cns_terms.specs.Common.{Account, DaySheet}
-use Rattle.cns_page.specs.Files.{KeptPages}
-use Rattle.cns_page.specs.Folder.{KeepsOwn}
+use Rattle.cns_page.proofs.Common.{◌≡◌, ◌∙◌, ◌<◌, ap, sym, subst, ℕ, ◌+◌, List, [], ◌∷◌, Option, drop, get_or, length, drop_more, Account, DaySheet, KeptPages, KeepsOwn}
 use Rattle.cns_page.specs.declared.closed.ClosedDay.{ClosedDay}
 use Rattle.cns_page.specs.declared.shared.Shared.{Shared}
 

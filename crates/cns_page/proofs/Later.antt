@@ -1,14 +1,6 @@
 -- The trades of a history that wait, entry by entry.
 -- For `gather` of projection.rt, `first` and `waiting` of sought.rt.
-use Rattle.std.proofs.Common.{◌≡◌, ◌∙◌, sym, ap, ℕ, ◌+◌, ◌-◌, ◌^◌, ◌≤◌, ◌<◌, List, [], ◌∷◌, ◌++◌, Option, Some, None, append-nil, take, reverse}
-use Rattle.std.specs.Option.{option_to_list}
-use Rattle.std.proofs.lemmas.List.Elements.{filter-append, filter_map-append}
-use Rattle.cns_terms.specs.Common.{Day}
-use Rattle.cns_terms.specs.declared.command.Trade.{Trade}
-use Rattle.cns_terms.specs.declared.history.Taken.{Taken}
-use Rattle.cns_account.proofs.Walked.{entries_end, entry_more}
-use Rattle.cns_book.specs.Shown.{entry_at}
-use Rattle.cns_page.specs.Listed.{looked_at, later_among}
+use Rattle.cns_page.proofs.Common.{◌≡◌, ◌∙◌, sym, ap, ℕ, ◌+◌, ◌-◌, ◌^◌, ◌≤◌, ◌<◌, List, [], ◌∷◌, ◌++◌, Option, Some, None, append-nil, take, reverse, option_to_list, filter-append, filter_map-append, Day, Trade, Taken, entries_end, entry_more, entry_at, looked_at, later_among}
 
 -- of some entries and others
 later_append : (today : Day) (ts us : List Taken) → later_among today (ts ++ us) ≡ later_among today ts ++ later_among today us

@@ -17,3 +17,4 @@ pub mod Projecting
 pub mod Pended
 pub mod Righted
 pub mod Keeping
+pub mod Common

@@ -1,13 +1,8 @@
 -- The list of days, close by close.
 -- For `line_of_days` of figures.rt.
-use Rattle.std.proofs.Common.{◌≡◌, ◌∙◌, sym, ap, ℕ, ◌+◌, ◌<◌, List, [], ◌∷◌, ◌++◌, Option, Some, None, append-nil, ◌-◌, ◌^◌, take, get_or, length, min, option_map, unsigned_abs}
-use Rattle.std.specs.Prelude.{count_by, sum_by}
+use Rattle.cns_page.proofs.Common.{◌≡◌, ◌∙◌, sym, ap, ℕ, ◌+◌, ◌<◌, List, [], ◌∷◌, ◌++◌, Option, Some, None, append-nil, ◌-◌, ◌^◌, take, get_or, length, min, option_map, unsigned_abs, count_by, sum_by, DaySheet, State, journal_of, sheet_on, is_short, figures, figures_at, figures_shown, Close}
 use Rattle.cns_account.proofs.Gathered.{given_more}
-use Rattle.cns_terms.specs.Common.{DaySheet, State, journal_of, sheet_on}
-use Rattle.cns_page.specs.Figures.{is_short}
-use Rattle.cns_page.specs.Listed.{figures, figures_at, figures_shown}
 use Rattle.cns_page.specs.declared.figures.Figures.{Figures}
-use Rattle.cns_page.specs.declared.survey.Close.{Close}
 
 -- the figures of a sheet, each by itself
 figures_are : (s : DaySheet) (n : ℕ) (f : Figures) → f.day ≡ n → f.date ≡ s.date → f.marks ≡ min (sum_by (λ r. unsigned_abs r.mark) s.rows) (2 ^ 128 - 1)

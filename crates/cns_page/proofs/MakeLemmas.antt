@@ -1,22 +1,15 @@
 -- A page that was made, whatever the input is.
 -- For `past_of` and `write_past` of make.rt, `make_of` of entry.rt.
-use Rattle.std.proofs.Common.{◌≡◌, ◌∙◌, ◌+◌, ap, ℕ, List, [], ◌∷◌, Option, Some, Result, IfSome, OnOk, length, refl, take, arith}
-use Rattle.cns_terms.specs.Common.{Day, State, opened}
-use Rattle.cns_book.specs.Log.{state_of}
-use Rattle.cns_feed.specs.Line.{Line}
-use Rattle.cns_feed.specs.Output.{lines_of, state_after_line}
-use Rattle.cns_feed.specs.Replay.{blank_log}
-use Rattle.cns_feed.proofs.PlayLemmas.{state_of-after}
+use Rattle.cns_page.proofs.Common.{◌≡◌, ◌∙◌, ◌+◌, ap, ℕ, List, [], ◌∷◌, Option, Some, Result, IfSome, OnOk, length, refl, take, arith, Day, State, opened, state_of, Line, lines_of, state_after_line, blank_log, state_of-after, ComesTo, IsClosedBy, Known, noted, nothing, Close}
 use Rattle.cns_history.specs.Page.{IsTold}
 use Rattle.cns_history.specs.declared.history.Told.{Told}
 use Rattle.cns_history.specs.declared.place.Place.{Place}
 use Rattle.cns_history.specs.declared.watched.Watched.TheVariants as watched
 use Rattle.cns_page.proofs.PlayLemmas.{noted_records}
 use Rattle.cns_page.specs.Asked.{HasPage, HasPlayed}
-use Rattle.cns_page.specs.Survey.{ComesTo, IsClosedBy, Known, noted, noted_all, nothing}
+use Rattle.cns_page.specs.Survey.{noted_all}
 use Rattle.cns_page.specs.declared.asked.Asked.{Asked}
 use Rattle.cns_page.specs.declared.play.Played.{Played}
-use Rattle.cns_page.specs.declared.survey.Close.{Close}
 
 -- each record is counted
 counted : (k : Known) (S : State) (ls : List Line) → (noted_all k S ls).records ≡ k.records + length ls

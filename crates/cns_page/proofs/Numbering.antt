@@ -1,19 +1,11 @@
 -- The notices of a journal, by number.
 -- For `live_notices` of notices.rt.
-use Rattle.std.proofs.Common.{◌≡◌, ◌∙◌, sym, ap, refl, ℕ, zero, suc, ◌+◌, ◌-◌, ◌^◌, ◌≤◌, ◌<◌, ◌==◌, true, false, cond, List, [], ◌∷◌, ◌++◌, length, map, find, Option, Some, None, append-nil, take, option_map, slice_get, length-append, arith}
-use Rattle.std.specs.Option.{option_map_or}
-use Rattle.std.proofs.lemmas.List.{map-append, take_all}
-use Rattle.std.proofs.lemmas.List.Elements.{filter-append}
-use Rattle.std.proofs.lemmas.Bool.{eq-eqb, ne_eqb}
-use Rattle.cns_terms.specs.Common.{Day, IsReached, Journal, Notice, day, is_live, journal, notice, notice_at, noticed, notices, refusal}
-use Rattle.cns_terms.specs.declared.command.Activity.{Activity}
+use Rattle.cns_page.proofs.Common.{◌≡◌, ◌∙◌, sym, ap, refl, ℕ, zero, suc, ◌+◌, ◌-◌, ◌^◌, ◌≤◌, ◌<◌, ◌==◌, true, false, cond, List, [], ◌∷◌, ◌++◌, length, map, find, Option, Some, None, append-nil, take, option_map, slice_get, length-append, arith, option_map_or, map-append, take_all, filter-append, eq-eqb, ne_eqb, Day, IsReached, Journal, Notice, day, is_live, journal, notice, notice_at, noticed, notices, refusal, Activity, notice_listed, notice_of, live_among, numbered, take_past}
 use Rattle.cns_terms.specs.declared.command.Command.TheVariants as command
 use Rattle.cns_terms.specs.declared.command.Movement.{Movement}
-use Rattle.cns_book.specs.Shown.{notice_listed, notice_of}
 use Rattle.cns_book.specs.declared.notice.Notice.{Notice as Shown}
-use Rattle.cns_page.specs.Listed.{live_among, numbered}
 use Rattle.cns_page.specs.declared.finding.Numbered.{Numbered}
-use Rattle.cns_account.proofs.Walked.{take_next, take_past}
+use Rattle.cns_account.proofs.Walked.{take_next}
 
 -- the notices are numbered on from a number
 abbrev AreNumbered : ℕ → List Notice → Type 0

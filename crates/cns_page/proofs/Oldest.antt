@@ -1,15 +1,8 @@
 -- Shorts in the order of how much their ages are below the greatest number: the oldest first.
 -- For `shorts_of` of shorts.rt.
-use Rattle.std.proofs.Common.{◌≡◌, ◌∙◌, sym, ap, refl, ℕ, ◌+◌, ◌-◌, ◌^◌, ◌<◌, ◌≤◌, Bool, true, false, cond, not, ◌&&◌, ◌⊎◌, inl, inr, List, [], ◌∷◌, filter, slice_index_or, arith}
-use Rattle.std.specs.List.{All, AllByRecursion}
-use Rattle.std.specs.List.Sorted.{ties}
-use Rattle.std.specs.Ordering.{is_lt, nat_cmp}
-use Rattle.std.proofs.lemmas.Bool.{cases_lt}
+use Rattle.cns_page.proofs.Common.{◌≡◌, ◌∙◌, sym, ap, refl, ℕ, ◌+◌, ◌-◌, ◌^◌, ◌<◌, ◌≤◌, Bool, true, false, cond, not, ◌&&◌, ◌⊎◌, inl, inr, List, [], ◌∷◌, filter, slice_index_or, arith, All, AllByRecursion, ties, is_lt, nat_cmp, cases_lt, recursion_from_All, IsInOrderOf, Aged}
 use Rattle.std.proofs.lemmas.Bool.Decides.{nat_tests}
-use Rattle.std.proofs.lemmas.List.Elements.{recursion_from_All}
 use Rattle.std.proofs.lemmas.List.Sorted.{All-permutation}
-use Rattle.cns_page.specs.Listed.{IsInOrderOf}
-use Rattle.cns_page.specs.declared.shorts.Aged.{Aged}
 
 -- two ages compare as what is left of them does, turned round
 turned : (m a b : ℕ) → a ≤ m → b ≤ m → is_lt (nat_cmp (m - a) (m - b)) ≡ is_lt (nat_cmp b a)

@@ -1,11 +1,8 @@
 -- What a stable sort by a key leaves.
 -- For `shorts_of` of shorts.rt, `later_trades` of projection.rt.
-use Rattle.std.proofs.Common.{◌≡◌, List, subst}
+use Rattle.cns_page.proofs.Common.{◌≡◌, List, subst, IsPermutation, IsSortedByKeyClosure, IsStableByKeyClosure, always_returns_same, IsInOrderOf}
 use Rattle.std.specs.Fn.{Called}
-use Rattle.std.specs.List.Sorted.{IsPermutation, IsSortedByKeyClosure, IsStableByKeyClosure}
 use Rattle.std.specs.declared.cmp.Ordering.{Ordering}
-use Rattle.std.proofs.lemmas.Fn.{always_returns_same}
-use Rattle.cns_page.specs.Listed.{IsInOrderOf}
 use denote.Param.Members.{Mut}
 use denote.Ref.{Bor}
 

@@ -1,14 +1,7 @@
 -- Pending shares, trade by trade.
 -- For `pending_shares` of pending.rt.
-use Rattle.std.proofs.Common.{◌≡◌, ◌∙◌, sym, ap, ℕ, ◌+◌, ◌<◌, List, [], ◌∷◌, None, get_or, length, take}
-use Rattle.std.specs.BTreeMap.{get}
-use Rattle.std.specs.List.{fold}
-use Rattle.std.proofs.lemmas.List.Sums.{fold-append}
-use Rattle.cns_retransmit.proofs.Lists.{take_next}
-use Rattle.cns_terms.specs.Keys.{key_cmp}
+use Rattle.cns_page.proofs.Common.{◌≡◌, ◌∙◌, sym, ap, ℕ, ◌+◌, ◌<◌, List, [], ◌∷◌, None, get_or, length, take, get, fold, fold-append, take_next, key_cmp, ArePending, with_due, PendingShares}
 use Rattle.cns_terms.specs.declared.holding.Key.{Key}
-use Rattle.cns_page.specs.Due.{ArePending, with_due}
-use Rattle.cns_page.specs.declared.pending.PendingShares.{PendingShares}
 use Rattle.cns_page.specs.declared.projection.Due.{Due}
 
 -- one trade more

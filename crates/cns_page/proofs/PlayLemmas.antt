@@ -1,22 +1,16 @@
 -- A book and what is known of its records, line after line.
 -- For `play_with` and `step` of play.rt.
-use Rattle.std.proofs.Common.{◌≡◌, Bool, true, ℕ, ◌+◌, List, [], ◌∷◌, ◌++◌, length, take, Option, refl, sym, ap, ◌∙◌, append_assoc, append-nil, length-append, arith}
+use Rattle.cns_page.proofs.Common.{◌≡◌, Bool, true, ℕ, ◌+◌, List, [], ◌∷◌, ◌++◌, length, take, Option, refl, sym, ap, ◌∙◌, append_assoc, append-nil, length-append, arith, State, Log, state_of, Line, state_after_line, Pending, log_after_line, log_after-append, state_of-after, Came, Known, Takes, Why, known, noted, replied, righted, wanted, Survey}
 use Rattle.std.proofs.Math.Seq.{take-append_seam}
-use Rattle.cns_terms.specs.Common.{State}
 use Rattle.cns_terms.specs.declared.command.Command.{Command}
 use Rattle.cns_terms.specs.declared.reply.Reply.{Reply}
-use Rattle.cns_book.specs.Log.{Log, state_of}
-use Rattle.cns_feed.specs.Line.{Line}
-use Rattle.cns_feed.specs.Output.{state_after, state_after_line}
-use Rattle.cns_feed.specs.Records.{Pending}
+use Rattle.cns_feed.specs.Output.{state_after}
 use Rattle.cns_feed.specs.declared.records.Records.{Records}
-use Rattle.cns_feed.specs.Replay.{log_after, log_after_line}
-use Rattle.cns_feed.proofs.PlayLemmas.{log_after-append, state_of-after}
+use Rattle.cns_feed.specs.Replay.{log_after}
 use Rattle.cns_history.specs.Lines.{history, lines_of}
 use Rattle.cns_history.specs.declared.line.HistoryLine.{HistoryLine}
 use Rattle.cns_history.specs.declared.watched.Watched.{Watched}
-use Rattle.cns_page.specs.Survey.{Came, Known, Takes, Why, known, noted, noted_all, replied, righted, wanted}
-use Rattle.cns_page.specs.declared.survey.Survey.{Survey}
+use Rattle.cns_page.specs.Survey.{noted_all}
 
 -- records and others behind them
 noted_all-append : (k : Known) (S : State) (a b : List Line) → noted_all k S (a ++ b) ≡ noted_all (noted_all k S a) (state_after S a) b

@@ -1,11 +1,7 @@
 -- What is due, issue by issue.
 -- For `projected_all` of due.rt.
-use Rattle.std.proofs.Common.{◌≡◌, ◌∙◌, sym, ap, Bool, true, false, not, cond, List, [], ◌∷◌, ◌++◌, append_assoc}
-use Rattle.cns_terms.specs.Common.{Account, Cusip, Price, State}
-use Rattle.cns_history.specs.Lines.{place}
-use Rattle.cns_page.specs.Due.{is_idle, projected, projected_all}
+use Rattle.cns_page.proofs.Common.{◌≡◌, ◌∙◌, sym, ap, Bool, true, false, not, cond, List, [], ◌∷◌, ◌++◌, append_assoc, Account, Cusip, Price, State, place, is_idle, projected, projected_all, PendingShares}
 use Rattle.cns_page.specs.declared.due.Projected.{Projected}
-use Rattle.cns_page.specs.declared.pending.PendingShares.{PendingShares}
 
 module _ (S : State) (a : Account) (ps : PendingShares) (all items : List Projected) (left rest : List (Cusip × Price)) (e : Cusip × Price) (p : Projected)
     (next : left ≡ e ∷ rest) (is : p ≡ projected S ps (place a e.0)) (was : all ≡ items ++ projected_all S a ps left) where

@@ -1,12 +1,8 @@
 -- Exceptions that an accepted trade puts right.
 -- For `note_accepted` of survey.rt.
-use Rattle.std.proofs.Common.{◌≡◌, ◌∙◌, ap, refl, ℕ, List, [], ◌∷◌, length, map, arith}
+use Rattle.cns_page.proofs.Common.{◌≡◌, ◌∙◌, ap, refl, ℕ, List, [], ◌∷◌, length, map, arith, length-map, with_items_is, known, put_right, put_right_by, told, Survey}
 use Rattle.std.specs.Vec.{with_items}
-use Rattle.std.proofs.lemmas.List.{length-map}
-use Rattle.std.proofs.lemmas.List.{with_items_is}
-use Rattle.cns_page.specs.Survey.{known, put_right, put_right_by, told}
 use Rattle.cns_page.specs.declared.finding.Finding.{Finding}
-use Rattle.cns_page.specs.declared.survey.Survey.{Survey}
 
 -- what is told of one
 told_right : (n r : ℕ) (f : Finding) → told (put_right n r f) ≡ put_right_by n r (told f)

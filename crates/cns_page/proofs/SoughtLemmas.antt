@@ -1,21 +1,8 @@
 -- What is looked for in a history, entry by entry.
 -- For `first` and `waiting` of sought.rt.
-use Rattle.std.proofs.Common.{◌≡◌, ◌∙◌, sym, ap, ℕ, ◌+◌, ◌-◌, ◌^◌, ◌≤◌, ◌<◌, List, [], ◌∷◌, ◌++◌, Option, Some, None, take, reverse, map, min, arith, ◌==◌, ◌&&◌, if◌then◌else◌}
-use Rattle.std.specs.Option.{option_to_list}
-use Rattle.std.specs.Prelude.{sum_by}
-use Rattle.std.proofs.lemmas.List.{map-append}
-use Rattle.std.proofs.lemmas.List.Elements.{filter-append, filter_map-append}
-use Rattle.std.proofs.lemmas.List.Sums.{sum_by-append}
-use Rattle.cns_terms.specs.Common.{Account, Cusip, pend_of}
+use Rattle.cns_page.proofs.Common.{◌≡◌, ◌∙◌, sym, ap, ℕ, ◌+◌, ◌-◌, ◌^◌, ◌≤◌, ◌<◌, List, [], ◌∷◌, ◌++◌, Option, Some, None, take, reverse, map, min, arith, ◌==◌, ◌&&◌, if◌then◌else◌, option_to_list, sum_by, map-append, filter-append, filter_map-append, sum_by-append, Account, Cusip, pend_of, Activity, Trade, Taken, entries_end, entry_more, entry_at, looked_at, IsFirst, sought_among, waiting_in, with_trade}
 use Rattle.cns_terms.specs.Sums.{same_issue}
-use Rattle.cns_terms.specs.declared.command.Activity.{Activity}
-use Rattle.cns_terms.specs.declared.command.Trade.{Trade}
-use Rattle.cns_terms.specs.declared.history.Taken.{Taken}
 use Rattle.cns_terms.specs.declared.pend.Pend.{Pend}
-use Rattle.cns_account.proofs.Walked.{entries_end, entry_more}
-use Rattle.cns_book.specs.Shown.{entry_at}
-use Rattle.cns_page.specs.Listed.{looked_at}
-use Rattle.cns_page.specs.Sought.{IsFirst, sought_among, waiting_in, with_trade}
 use Rattle.cns_page.specs.declared.sought.Sought.{Sought}
 
 -- ---- an activity that is looked for

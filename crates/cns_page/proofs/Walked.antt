@@ -1,10 +1,7 @@
 -- Lists that a loop goes through, an element at a time.
 -- For `gather` and `gather_batch` of liable.rt.
-use Rattle.std.proofs.Common.{◌≡◌, ◌∙◌, sym, ap, ℕ, ◌+◌, ◌<◌, ◌≤◌, get_or, map, List, [], ◌∷◌, ◌++◌, length, take}
-use Rattle.std.specs.List.{flat_map}
-use Rattle.std.proofs.lemmas.List.{flat_map_more, take_all}
+use Rattle.cns_page.proofs.Common.{◌≡◌, ◌∙◌, sym, ap, ℕ, ◌+◌, ◌<◌, ◌≤◌, get_or, map, List, [], ◌∷◌, ◌++◌, length, take, flat_map, flat_map_more, take_all, take_next}
 use Rattle.std.proofs.lemmas.List.Concat.{flat_map_single}
-use Rattle.cns_retransmit.proofs.Lists.{take_next}
 
 -- what one element more gives is added
 pub gathered : {X Y : Type 0} (f : X → List Y) (xs : List X) (i : ℕ) (x : X) (old items new : List Y) → i < length xs → get_or xs i x ≡ x → items ≡ old ++ flat_map f (take i xs)

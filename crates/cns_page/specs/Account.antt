@@ -1,22 +1,10 @@
 -- The page of an account's closed day.
 use Rattle.std.specs.Prelude.{◌≡◌, ℕ, ◌==◌, ◌||◌, Bool, true, false, List, [], ◌∷◌, ◌++◌, Option, filter, length, map}
-use Rattle.std.specs.Io.KnownBytes.{Appends}
-use Rattle.std.specs.Fmt.{decimal}
-use Rattle.std.specs.Option.{option_map_or}
-use Rattle.cns_units.specs.Day.{day_text}
-use Rattle.cns_terms.specs.Common.{Account, Day, DaySheet, State}
-use Rattle.cns_book.specs.Log.{state_of}
-use Rattle.cns_history.specs.declared.line.HistoryLine.{HistoryLine}
+use Rattle.cns_page.specs.Common.{Appends, decimal, option_map_or, day_text, Account, Day, DaySheet, State, state_of, HistoryLine, fail_text, booked_text, mark_text, position_text, Fail, piece_text, table_text, texts, STYLE, ClosedDay, Cited, Finding, AGAIN, AGAIN_DAY, DAY, NEXT, START, TITLE_END, Due, Shared}
 use Rattle.cns_account.specs.Day.{IsAccountDay}
 use Rattle.cns_account.specs.Dividends.{dividend_text, dividends_paid}
-use Rattle.cns_account.specs.Fails.{fail_text}
-use Rattle.cns_account.specs.Rows.{booked_text, mark_text, position_text}
 use Rattle.cns_account.specs.declared.day.AccountDay.{AccountDay}
-use Rattle.cns_account.specs.declared.fails.Fail.{Fail}
-use Rattle.cns_tables.specs.Pieces.{piece_text}
-use Rattle.cns_tables.specs.Tables.{table_text, texts}
 use Rattle.cns_tables.specs.declared.piece.Piece.TheVariants as piece
-use Rattle.cns_tables.specs.declared.style.TheConstants.{STYLE}
 use Rattle.cns_page.specs.Due.{projected_all, projected_text}
 use Rattle.cns_page.specs.Exceptions.{cited_text}
 use Rattle.cns_page.specs.Fails.{fail_at}
@@ -27,13 +15,6 @@ use Rattle.cns_page.specs.Shown.{next_day}
 use Rattle.cns_page.specs.declared.account.Own.{Own}
 use Rattle.cns_page.specs.declared.account.OwnCaptions.{OwnCaptions}
 use Rattle.cns_page.specs.declared.account.TheConstants.{ACCOUNT, ACCOUNT_OPTION, ALL_ACCOUNTS, ALL_ACCOUNTS_END, DIVIDEND, LONG, MAIN, MARK, NET, ON, SENTENCE_END, SHORT, SKIP}
-use Rattle.cns_page.specs.declared.closed.ClosedDay.{ClosedDay}
-use Rattle.cns_page.specs.declared.finding.Cited.{Cited}
-use Rattle.cns_page.specs.declared.finding.Finding.{Finding}
-use Rattle.cns_page.specs.declared.foot.TheConstants.{AGAIN, AGAIN_DAY}
-use Rattle.cns_page.specs.declared.page.TheConstants.{DAY, NEXT, START, TITLE_END}
-use Rattle.cns_page.specs.declared.projection.Due.{Due}
-use Rattle.cns_page.specs.declared.shared.Shared.{Shared}
 
 -- ---- the rows
 

@@ -1,24 +1,13 @@
 -- The lines of a sheet and their texts.
 use Rattle.std.specs.Prelude.{ℕ, pos, Bool, List, [], ◌∷◌, ◌++◌, Option, None, Some, if◌then◌else◌}
-use Rattle.std.specs.Fmt.{decimal}
-use Rattle.cns_units.specs.Day.{day_text}
-use Rattle.cns_terms.specs.Common.{Account, DaySheet}
-use Rattle.cns_terms.specs.Sheets.{statement}
-use Rattle.cns_terms.specs.declared.sheet.Row.{Row}
+use Rattle.cns_page.specs.Common.{decimal, day_text, Account, DaySheet, statement, Row, DayMoves, escaped, amount_text, signed_text, cells, texts, MovedRow, Sums, ROW}
 use Rattle.cns_statements.specs.Packs.{is_next}
 use Rattle.cns_account.specs.declared.mark.Causes.{Causes}
-use Rattle.cns_account.specs.declared.day_moves.DayMoves.{DayMoves}
-use Rattle.cns_tables.specs.Escape.{escaped}
-use Rattle.cns_tables.specs.Grouped.{amount_text, signed_text}
 use Rattle.cns_page.specs.Sums.{moved_row, own_sums, sums_of}
-use Rattle.cns_tables.specs.Tables.{cells, texts}
 use Rattle.cns_page.specs.declared.accounts.SheetLine.{SheetLine}
 use Rattle.cns_page.specs.declared.accounts.SheetLine.TheVariants as line
 use Rattle.cns_page.specs.declared.accounts.TheConstants.{ACCOUNT, ALL, LINK, LINK_ACCOUNT, LINK_END, LINK_NAME, NAME}
 use Rattle.cns_page.specs.declared.accounts.AccountLine.{AccountLine}
-use Rattle.cns_page.specs.declared.sums.MovedRow.{MovedRow}
-use Rattle.cns_page.specs.declared.sums.Sums.{Sums}
-use Rattle.cns_tables.specs.declared.table.TheConstants.{ROW}
 
 -- the line of an account, with the sums of its rows
 abbrev pub account_line : DaySheet → DayMoves → Bool → Account → AccountLine

@@ -1,8 +1,6 @@
 -- The page that is asked for.
 use Rattle.std.specs.Prelude.{◌≡◌, ◌-◌, ℕ, List, length, slice_get, take, Option, None, Some, false, option_map}
-use Rattle.cns_terms.specs.Common.{Account, Day, DaySheet, opened}
-use Rattle.cns_feed.specs.Line.{Line}
-use Rattle.cns_feed.specs.Output.{lines_of}
+use Rattle.cns_page.specs.Common.{Account, Day, DaySheet, opened, Line, lines_of, About, Asked, When, ClosedDay, Played, Shared, Close, Survey}
 use Rattle.cns_history.specs.Page.{ShowsHistory}
 use Rattle.cns_history.specs.declared.place.Place.{Place}
 use Rattle.cns_history.specs.declared.watched.Watched.TheVariants as watched
@@ -11,16 +9,8 @@ use Rattle.cns_page.specs.Account.{ShowsAccount}
 use Rattle.cns_page.specs.Shown.{AreShared, HasDay, IsClosedDay, IsSheetOf}
 use Rattle.cns_page.specs.Survey.{ComesTo, IsClosedBy, known, noted_all, nothing}
 use Rattle.cns_page.specs.Today.{HasToday}
-use Rattle.cns_page.specs.declared.asked.About.{About}
 use Rattle.cns_page.specs.declared.asked.About.TheVariants as about
-use Rattle.cns_page.specs.declared.asked.Asked.{Asked}
-use Rattle.cns_page.specs.declared.asked.When.{When}
 use Rattle.cns_page.specs.declared.asked.When.TheVariants as when
-use Rattle.cns_page.specs.declared.closed.ClosedDay.{ClosedDay}
-use Rattle.cns_page.specs.declared.play.Played.{Played}
-use Rattle.cns_page.specs.declared.shared.Shared.{Shared}
-use Rattle.cns_page.specs.declared.survey.Close.{Close}
-use Rattle.cns_page.specs.declared.survey.Survey.{Survey}
 
 -- the date of the last day that the records of an input close
 pub record IsLastDay (opening : Day) (input : List ℕ) (day : Day) : Type 0 where

@@ -1,16 +1,13 @@
 -- What a line asks for, as `clap` reads its words.
 use Rattle.std.specs.Prelude.{List, [], unwrap_or, Option, Some, None, if◌then◌else◌, option_and_then, option_map, codes}
+use Rattle.cns_page.specs.Common.{day_of, About, Asked, When}
 use Rattle.std.specs.Result.{result_ok}
 use Rattle.std.specs.Str.{bytes_eq}
 use Rattle.clap.specs.Words.{App, Row, Text, first_of, matches_of, with_rule}
 use Rattle.cns_units.specs.Cusip.{cusip_of}
-use Rattle.cns_units.specs.Day.{day_of}
 use Rattle.cns_feed.specs.Digits.{number_in}
 use Rattle.cns_shell.specs.Options.{bare, date_in, free_rule, if_taken, option_rule}
-use Rattle.cns_page.specs.declared.asked.About.{About}
 use Rattle.cns_page.specs.declared.asked.About.TheVariants as about
-use Rattle.cns_page.specs.declared.asked.Asked.{Asked}
-use Rattle.cns_page.specs.declared.asked.When.{When}
 use Rattle.cns_page.specs.declared.asked.When.TheVariants as when
 
 -- the date on which the book opens, and a day, where it is given

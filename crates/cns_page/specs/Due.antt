@@ -1,24 +1,15 @@
 -- What is due of an account in each issue.
 use Rattle.std.specs.Prelude.{◌≡◌, ℕ, pos, ◌+ℤ◌, ◌-ℤ◌, Bool, not, ◌&&◌, if◌then◌else◌, List, [], ◌∷◌, filter, map, Option, Some, None, unwrap_or}
-use Rattle.std.specs.BTreeMap.{get}
-use Rattle.std.specs.Int.{int_wrap, w64}
-use Rattle.std.specs.List.{fold}
-use Rattle.std.specs.Ordering.{is_eq, int_eq}
-use Rattle.cns_terms.specs.Common.{Account, Cusip, Price, State}
+use Rattle.cns_page.specs.Common.{get, int_wrap, w64, fold, is_eq, int_eq, Account, Cusip, Price, State, key_cmp, place, standing, row_of, ROW, Due}
 use Rattle.cns_terms.specs.Entries.{trade_entries}
-use Rattle.cns_terms.specs.Keys.{key_cmp}
 use Rattle.cns_terms.specs.Pending.{pend_of}
 use Rattle.cns_terms.specs.declared.holding.Entry.{Entry}
 use Rattle.cns_terms.specs.declared.holding.Key.{Key}
-use Rattle.cns_history.specs.Lines.{place, standing}
-use Rattle.cns_tables.specs.Tables.{row_of}
 use Rattle.cns_tables.specs.declared.piece.Piece.TheVariants as piece
-use Rattle.cns_tables.specs.declared.table.TheConstants.{ROW}
 use Rattle.cns_page.specs.declared.due.DueAt.{DueAt}
 use Rattle.cns_page.specs.declared.due.Projected.{Projected}
 use Rattle.cns_page.specs.declared.pending.PendingAt.{PendingAt}
 use Rattle.cns_page.specs.declared.pending.PendingShares.{PendingShares}
-use Rattle.cns_page.specs.declared.projection.Due.{Due}
 
 -- ---- pending shares
 

@@ -1,30 +1,13 @@
 -- The texts of exceptions.
 use Rattle.std.specs.Prelude.{ℕ, List, [], ◌∷◌, ◌++◌, Option, None, Some, codes, string_bytes}
-use Rattle.std.specs.Fmt.{decimal}
-use Rattle.std.specs.List.{flat_map}
-use Rattle.cns_units.specs.Day.{day_text}
-use Rattle.cns_terms.specs.Numbers.{refusal_number}
+use Rattle.cns_page.specs.Common.{decimal, flat_map, day_text, refusal_number, escaped, count_text, piece_text, texts, Cited, Exchanged, Fact, Finding, Numbered, Outcome, Pending, Seen, Waiting, CELL, ROW}
 use Rattle.cns_terms.specs.declared.buy_in.Stage.{Stage}
 use Rattle.cns_terms.specs.declared.buy_in.Stage.TheVariants as stage
 use Rattle.cns_feed.specs.Text.{fault_name}
-use Rattle.cns_tables.specs.Escape.{escaped}
-use Rattle.cns_tables.specs.Grouped.{count_text}
-use Rattle.cns_tables.specs.Pieces.{piece_text}
-use Rattle.cns_tables.specs.Tables.{texts}
 use Rattle.cns_page.specs.declared.exceptions.TheConstants.{AND, BOUGHT, BUYER, BUYS, DAY, EXCHANGED, FOR, FROM, GIVEN, GIVEN_END, GIVEN_ON, IN, INVALID, IS, MEMBER, NOTICE, OF, OF_RECORD, PENDING, POSITION_OF, PRICE_OF, PUT_RIGHT, REFUSED, REFUSED_END, REMAIN, RETIRED, ROOM, SOLD, TODAY, TRADE, WAITING}
-use Rattle.cns_page.specs.declared.finding.Cited.{Cited}
-use Rattle.cns_page.specs.declared.finding.Exchanged.{Exchanged}
-use Rattle.cns_page.specs.declared.finding.Fact.{Fact}
 use Rattle.cns_page.specs.declared.finding.Fact.TheVariants as fact
-use Rattle.cns_page.specs.declared.finding.Finding.{Finding}
-use Rattle.cns_page.specs.declared.finding.Numbered.{Numbered}
-use Rattle.cns_page.specs.declared.finding.Outcome.{Outcome}
 use Rattle.cns_page.specs.declared.finding.Outcome.TheVariants as outcome
-use Rattle.cns_page.specs.declared.finding.Pending.{Pending}
-use Rattle.cns_page.specs.declared.finding.Seen.{Seen}
-use Rattle.cns_page.specs.declared.finding.Waiting.{Waiting}
 use Rattle.cns_tables.specs.declared.piece.Piece.TheVariants as piece
-use Rattle.cns_tables.specs.declared.table.TheConstants.{CELL, ROW}
 
 -- how a notice stands
 abbrev pub stage_name : Stage → List ℕ

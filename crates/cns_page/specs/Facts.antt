@@ -1,22 +1,13 @@
 -- Facts that decided a refusal, as a book shows them.
 use Rattle.std.specs.Prelude.{◌≡◌, ℕ, IfSome, List, [], ◌∷◌, Option, Some, option_map}
-use Rattle.cns_terms.specs.Common.{Day, State, date, day, journal_of}
-use Rattle.cns_book.specs.Log.{Log, state_of}
-use Rattle.cns_book.specs.Shown.{notice_shown, position_shown, price_shown}
+use Rattle.cns_page.specs.Common.{Day, State, date, day, journal_of, Log, state_of, notice_shown, position_shown, price_shown, Refusal, Exchanged, Fact, Numbered, Pending, Seen, Waiting}
 use Rattle.cns_terms.specs.declared.command.Activity.TheVariants as activity
-use Rattle.cns_terms.specs.declared.refusal.Refusal.{Refusal}
 use Rattle.cns_terms.specs.declared.refusal.Refusal.TheVariants as refusal
 use Rattle.cns_page.specs.Listed.{later_among, looked_at}
 use Rattle.cns_page.specs.Sought.{IsFirst, record_at, waiting_in}
-use Rattle.cns_page.specs.declared.finding.Exchanged.{Exchanged}
-use Rattle.cns_page.specs.declared.finding.Fact.{Fact}
 use Rattle.cns_page.specs.declared.finding.Fact.TheVariants as fact
-use Rattle.cns_page.specs.declared.finding.Numbered.{Numbered}
-use Rattle.cns_page.specs.declared.finding.Pending.{Pending}
 use Rattle.cns_page.specs.declared.finding.Quote.{Quote}
-use Rattle.cns_page.specs.declared.finding.Seen.{Seen}
 use Rattle.cns_page.specs.declared.finding.Stand.{Stand}
-use Rattle.cns_page.specs.declared.finding.Waiting.{Waiting}
 use Rattle.cns_page.specs.declared.sought.Sought.TheVariants as sought
 
 -- an issue with the price that the book shows

@@ -1,6 +1,6 @@
 -- The figures of a closed day.
 use Rattle.std.specs.Prelude.{ℤ, pos, negsuc, Bool, true, false, ◌&&◌, ◌==◌, not}
-use Rattle.cns_terms.specs.declared.sheet.Row.{Row}
+use Rattle.cns_page.specs.Common.{Row}
 
 -- whether a number is below 0
 abbrev pub is_negative : ℤ → Bool

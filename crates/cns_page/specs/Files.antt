@@ -1,9 +1,6 @@
 -- The names of the files of a folder.
 use Rattle.std.specs.Prelude.{ℕ, List, [], ◌∷◌, ◌++◌, Option, None, Some, option_map}
-use Rattle.std.specs.Fmt.{decimal}
-use Rattle.cns_units.specs.Day.{day_text}
-use Rattle.cns_terms.specs.Common.{Account}
-use Rattle.cns_tables.specs.Tables.{texts}
+use Rattle.cns_page.specs.Common.{decimal, day_text, Account, texts}
 use Rattle.cns_page.specs.declared.files.Named.{Named}
 use Rattle.cns_page.specs.declared.files.TheConstants.{DASH, SLASH}
 

@@ -1,21 +1,13 @@
 -- The pages of a closed day that were kept.
 use Rattle.std.specs.Prelude.{◌≡◌, ℕ, List, [], ◌∷◌, Option, None, Some, filter, map, slice_get, true}
-use Rattle.cns_terms.specs.Common.{Account, Day, DaySheet}
-use Rattle.cns_book.specs.Log.{state_of}
-use Rattle.cns_history.specs.Lines.{accounts_of, is_line_of}
+use Rattle.cns_page.specs.Common.{Account, Day, DaySheet, state_of, accounts_of, is_line_of, About, Asked, When, ClosedDay, Contents, Shared}
 use Rattle.cns_history.specs.declared.watched.Watched.TheVariants as watched
 use Rattle.cns_history.specs.declared.watched.Whose.TheVariants as whose
 use Rattle.cns_page.specs.Account.{ShowsAccount}
 use Rattle.cns_page.specs.Asked.{IsClosedIn}
 use Rattle.cns_page.specs.Files.{KeptPages, and_kept}
 use Rattle.cns_page.specs.Shown.{AreContents, AreShared, IsClosedDay, IsSheetOf, ShowsDay}
-use Rattle.cns_page.specs.declared.asked.About.{About}
 use Rattle.cns_page.specs.declared.asked.About.TheVariants as about
-use Rattle.cns_page.specs.declared.asked.Asked.{Asked}
-use Rattle.cns_page.specs.declared.asked.When.{When}
-use Rattle.cns_page.specs.declared.closed.ClosedDay.{ClosedDay}
-use Rattle.cns_page.specs.declared.contents.Contents.{Contents}
-use Rattle.cns_page.specs.declared.shared.Shared.{Shared}
 
 -- a text is the page of an account, with links, by the lines among those of all that are the account's
 abbrev pub IsOwnPage : ClosedDay → DaySheet → Shared → Account → List ℕ → Type 0

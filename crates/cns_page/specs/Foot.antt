@@ -1,14 +1,8 @@
 -- The foot of a page.
 use Rattle.std.specs.Prelude.{◌≡◌, ℕ, List, [], ◌∷◌, ◌++◌, Option, None, Some, length, string_bytes}
-use Rattle.std.specs.Fmt.{decimal}
+use Rattle.cns_page.specs.Common.{decimal, day_text, Day, escaped, texts, Origin, AGAIN, AGAIN_DAY, DIGEST, END, MADE, ROWS, TODAY}
 use Rattle.hex.specs.Hex.{encode_lower}
 use Rattle.sha2.specs.Sha256.{sha256}
-use Rattle.cns_units.specs.Day.{day_text}
-use Rattle.cns_terms.specs.Common.{Day}
-use Rattle.cns_tables.specs.Escape.{escaped}
-use Rattle.cns_tables.specs.Tables.{texts}
-use Rattle.cns_page.specs.declared.foot.Origin.{Origin}
-use Rattle.cns_page.specs.declared.foot.TheConstants.{AGAIN, AGAIN_DAY, DIGEST, END, MADE, ROWS, TODAY}
 
 -- what some bytes are: how many, and their SHA-256 in hexadecimal digits
 pub record IsOrigin (input : List ℕ) (o : Origin) : Type 0 where

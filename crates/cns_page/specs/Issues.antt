@@ -1,15 +1,8 @@
 -- The sums by issue over all accounts.
 use Rattle.std.specs.Prelude.{◌≡◌, ℕ, pos, ◌+ℤ◌, int_lt, if◌then◌else◌, List, [], ◌∷◌, map, Option, Some, None, unwrap_or}
-use Rattle.std.specs.BTreeMap.{IsOrdered, get}
+use Rattle.cns_page.specs.Common.{IsOrdered, get, int_wrap, w128, w64, fold, is_eq, nat_cmp, Cusip, Row, row_of, ROW}
 use Rattle.std.specs.Cmp.Lexicographic.{slice_cmp}
-use Rattle.std.specs.Int.{int_wrap, w128, w64}
-use Rattle.std.specs.List.{fold}
-use Rattle.std.specs.Ordering.{is_eq, nat_cmp}
-use Rattle.cns_terms.specs.Common.{Cusip}
-use Rattle.cns_terms.specs.declared.sheet.Row.{Row}
-use Rattle.cns_tables.specs.Tables.{row_of}
 use Rattle.cns_tables.specs.declared.piece.Piece.TheVariants as piece
-use Rattle.cns_tables.specs.declared.table.TheConstants.{ROW}
 use Rattle.cns_page.specs.declared.issues.IssueLine.{IssueLine}
 use Rattle.cns_page.specs.declared.issues.IssueSums.{IssueSums}
 use Rattle.cns_page.specs.declared.issues.SumsByIssue.{SumsByIssue}

@@ -20,3 +20,4 @@ pub mod Shown
 pub mod Account
 pub mod Folder
 pub mod Asked
+pub mod Common

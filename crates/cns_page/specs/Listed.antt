@@ -1,34 +1,17 @@
 -- What the lists of a page are of.
 use Rattle.std.specs.Prelude.{ℕ, zero, suc, ◌-◌, ◌==◌, nat_lt, if◌then◌else◌, drop, length, slice_get, ◌^◌, List, [], ◌∷◌, ◌++◌, filter, filter_map, map, min, Option, None, not, option_map, sum_by, count_by, unsigned_abs}
+use Rattle.cns_page.specs.Common.{option_map_or, flat_map, Cusip, Day, Liables, DaySheet, Journal, State, is_live, is_not_after, journal_of, notices, stage, Command, Trade, Taken, Reply, Row, batches_shown, notice_of, position_shown, Figures, Numbered, Owing, Due, Aged, Outcome, Counted, Close, Survey, Span}
 use Rattle.std.specs.List.Sorted.{IsPermutation, IsSortedByKey, IsStableByKey}
-use Rattle.std.specs.Option.{option_map_or}
 use Rattle.std.specs.declared.cmp.Ordering.{Ordering}
-use Rattle.std.specs.List.{flat_map}
 use Rattle.cns_terms.specs.declared.buy_in.Liable.{Liable}
-use Rattle.cns_terms.specs.Common.{Cusip, Day, Liables, DaySheet, Journal, State, is_live, is_not_after, journal_of, notices, sheet_on, stage}
+use Rattle.cns_terms.specs.Common.{sheet_on}
 use Rattle.cns_terms.specs.Listings.{traded}
 use Rattle.cns_terms.specs.Notices.{Notice}
-use Rattle.cns_terms.specs.declared.command.Command.{Command}
 use Rattle.cns_terms.specs.declared.command.Command.TheVariants as command
-use Rattle.cns_terms.specs.declared.command.Trade.{Trade}
-use Rattle.cns_terms.specs.declared.history.Taken.{Taken}
-use Rattle.cns_terms.specs.declared.reply.Reply.{Reply}
 use Rattle.cns_terms.specs.declared.reply.Reply.TheVariants as reply
-use Rattle.cns_terms.specs.declared.sheet.Row.{Row}
-use Rattle.cns_book.specs.Shown.{batches_shown, notice_of, position_shown}
 pub use Rattle.cns_account.specs.Past.{looked_at}
 use Rattle.cns_page.specs.Figures.{is_short}
-use Rattle.cns_page.specs.declared.figures.Figures.{Figures}
-use Rattle.cns_page.specs.declared.finding.Numbered.{Numbered}
-use Rattle.cns_page.specs.declared.liable.Owing.{Owing}
-use Rattle.cns_page.specs.declared.projection.Due.{Due}
-use Rattle.cns_page.specs.declared.shorts.Aged.{Aged}
 use Rattle.cns_page.specs.Survey.{number, why}
-use Rattle.cns_page.specs.declared.finding.Outcome.{Outcome}
-use Rattle.cns_page.specs.declared.reasons.Counted.{Counted}
-use Rattle.cns_page.specs.declared.survey.Close.{Close}
-use Rattle.cns_page.specs.declared.survey.Survey.{Survey}
-use Rattle.cns_page.specs.declared.totals.Span.{Span}
 
 -- the second list is the first one in the order of keys: no element is below the one before it, and those that tie stand as they stood
 pub record IsInOrderOf {X K : Type 0} (key : X → K) (cmp : K → K → Ordering) (xs ys : List X) : Type 0 where

@@ -1,24 +1,12 @@
 -- The text of the page of a closed day.
 use Rattle.std.specs.Prelude.{ℕ, ◌-◌, ◌^◌, if◌then◌else◌, List, [], ◌∷◌, ◌++◌, Option, None, Some, length, min, sum_by}
-use Rattle.std.specs.Fmt.{decimal}
-use Rattle.cns_units.specs.Day.{day_text}
-use Rattle.cns_terms.specs.Common.{Day}
-use Rattle.cns_tables.specs.Grouped.{count_text}
-use Rattle.cns_tables.specs.Tables.{table_text, texts}
-use Rattle.cns_tables.specs.declared.style.TheConstants.{STYLE}
+use Rattle.cns_page.specs.Common.{decimal, day_text, Day, count_text, table_text, texts, STYLE, Captions, ClosedDay, Contents, Head, CLOSED, DAY, DAY_AFTER_END, DAY_BEFORE_END, DAY_LINK, EXCEPTIONS, HEADING, LINKS, MAIN, NEXT, RECORDS, START, TITLE_END, TO, Survey, Span}
 use Rattle.cns_page.specs.Accounts.{line_text}
 use Rattle.cns_page.specs.Due.{due_at_text}
 use Rattle.cns_page.specs.Exceptions.{finding_text}
 use Rattle.cns_page.specs.Foot.{foot_text}
 use Rattle.cns_page.specs.Issues.{issue_line_text}
 use Rattle.cns_page.specs.Rows.{counted_text, due_text, figures_text, notice_row, owing_text, short_text, span_text}
-use Rattle.cns_page.specs.declared.captions.Captions.{Captions}
-use Rattle.cns_page.specs.declared.closed.ClosedDay.{ClosedDay}
-use Rattle.cns_page.specs.declared.contents.Contents.{Contents}
-use Rattle.cns_page.specs.declared.contents.Head.{Head}
-use Rattle.cns_page.specs.declared.page.TheConstants.{CLOSED, DAY, DAY_AFTER_END, DAY_BEFORE_END, DAY_LINK, EXCEPTIONS, HEADING, LINKS, MAIN, NEXT, RECORDS, START, TITLE_END, TO}
-use Rattle.cns_page.specs.declared.survey.Survey.{Survey}
-use Rattle.cns_page.specs.declared.totals.Span.{Span}
 
 -- the head: the date in the title and in the heading, the day's number, its first and last record, how many of them are
 -- exceptions, and the date of the next day

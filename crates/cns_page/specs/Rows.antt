@@ -1,20 +1,7 @@
 -- The texts of the rows of the other tables.
 use Rattle.std.specs.Prelude.{ℕ, ◌+◌, ◌-◌, ◌^◌, min, pos, List, [], ◌∷◌}
-use Rattle.std.specs.Fmt.{decimal}
-use Rattle.cns_units.specs.Day.{day_text}
-use Rattle.cns_tables.specs.Escape.{escaped}
-use Rattle.cns_tables.specs.Grouped.{amount_text, count_text, signed_text}
-use Rattle.cns_tables.specs.Pieces.{piece_text}
-use Rattle.cns_tables.specs.Tables.{cells}
-use Rattle.cns_page.specs.declared.figures.Figures.{Figures}
-use Rattle.cns_page.specs.declared.finding.Numbered.{Numbered}
-use Rattle.cns_page.specs.declared.liable.Owing.{Owing}
+use Rattle.cns_page.specs.Common.{decimal, day_text, escaped, amount_text, count_text, signed_text, piece_text, cells, Figures, Numbered, Owing, Due, Counted, Aged, ROW, Span}
 use Rattle.cns_tables.specs.declared.piece.Piece.TheVariants as piece
-use Rattle.cns_page.specs.declared.projection.Due.{Due}
-use Rattle.cns_page.specs.declared.reasons.Counted.{Counted}
-use Rattle.cns_page.specs.declared.shorts.Aged.{Aged}
-use Rattle.cns_tables.specs.declared.table.TheConstants.{ROW}
-use Rattle.cns_page.specs.declared.totals.Span.{Span}
 
 -- a short: the issue, the member, its age, opening, closing
 abbrev pub short_text : Aged → List ℕ

@@ -1,20 +1,7 @@
 -- What a page that was written shows.
 use Rattle.std.specs.Prelude.{◌≡◌, ℕ, ◌+◌, ◌-◌, ◌^◌, Bool, false, List, length, map, min, take, Option, Some}
-use Rattle.std.specs.Io.KnownBytes.{Appends}
-use Rattle.std.specs.Ordering.{int_cmp, nat_cmp}
-use Rattle.cns_terms.specs.Common.{Day, DaySheet, date, journal_of, opened}
-use Rattle.cns_units.specs.Day.{day_number}
-use Rattle.cns_terms.specs.declared.command.Trade.{Trade}
-use Rattle.cns_terms.specs.Sheets.{sheet_on}
-use Rattle.cns_book.specs.Log.{Log, state_of}
-use Rattle.cns_feed.specs.Output.{lines_of}
-use Rattle.cns_feed.specs.Replay.{blank_log, log_after}
-use Rattle.std.specs.BTreeMap.{IsOrdered}
-use Rattle.cns_terms.specs.Keys.{key_cmp}
-use Rattle.cns_history.specs.Lines.{history}
-use Rattle.cns_history.specs.declared.watched.Watched.{Watched}
+use Rattle.cns_page.specs.Common.{Appends, int_cmp, nat_cmp, Day, DaySheet, date, journal_of, opened, day_number, Trade, sheet_on, Log, state_of, lines_of, blank_log, log_after, IsOrdered, key_cmp, history, Watched, AreMoves, Captions, ClosedDay, Contents, Head, Figures, Due, Shared, Aged, Close, Survey, Span}
 use Rattle.cns_history.specs.declared.watched.Watched.TheVariants as watched
-use Rattle.cns_account.specs.Moves.{AreMoves}
 use Rattle.cns_account.specs.Past.{IsPast}
 use Rattle.cns_page.specs.Accounts.{sheet_lines}
 use Rattle.cns_page.specs.Due.{ArePending, due_at}
@@ -23,17 +10,6 @@ use Rattle.cns_page.specs.Issues.{AreIssues}
 use Rattle.cns_page.specs.Listed.{IsInOrderOf, counted, counts, counts_shown, date_before, due, figures_shown, last_closes, later_among, liable_shown, live_shown, looked_at, shorts_among, spans_shown}
 use Rattle.cns_page.specs.Page.{page_text}
 use Rattle.cns_page.specs.Survey.{IsClosedBy, known, noted_all, nothing}
-use Rattle.cns_page.specs.declared.captions.Captions.{Captions}
-use Rattle.cns_page.specs.declared.closed.ClosedDay.{ClosedDay}
-use Rattle.cns_page.specs.declared.contents.Contents.{Contents}
-use Rattle.cns_page.specs.declared.contents.Head.{Head}
-use Rattle.cns_page.specs.declared.figures.Figures.{Figures}
-use Rattle.cns_page.specs.declared.projection.Due.{Due}
-use Rattle.cns_page.specs.declared.shared.Shared.{Shared}
-use Rattle.cns_page.specs.declared.shorts.Aged.{Aged}
-use Rattle.cns_page.specs.declared.survey.Close.{Close}
-use Rattle.cns_page.specs.declared.survey.Survey.{Survey}
-use Rattle.cns_page.specs.declared.totals.Span.{Span}
 
 -- the members' shorts on a sheet, the oldest first
 abbrev pub AreShorts : Log → DaySheet → List Aged → Type 0

@@ -1,16 +1,10 @@
 -- What a book's history has that decided a refusal.
 use Rattle.std.specs.Prelude.{◌≡◌, ℕ, ◌+◌, ◌-◌, ◌^◌, Bool, false, not, ◌==◌, ◌&&◌, if◌then◌else◌, List, [], ◌∷◌, filter, filter_map, map, min, nat_lt, reverse, take, Option, Some, None}
-use Rattle.std.specs.List.{fold}
-use Rattle.cns_terms.specs.Common.{Account, Cusip, bought_in, is_not_after, pend_of, sold_in}
-use Rattle.cns_terms.specs.Sums.{same_issue}
+use Rattle.cns_page.specs.Common.{fold, Account, Cusip, bought_in, is_not_after, pend_of, sold_in, same_issue, Command, Trade, Taken, Waiting}
 use Rattle.cns_terms.specs.declared.command.Activity.{Activity}
 use Rattle.cns_terms.specs.declared.command.Activity.TheVariants as activity
-use Rattle.cns_terms.specs.declared.command.Command.{Command}
 use Rattle.cns_terms.specs.declared.command.Command.TheVariants as command
-use Rattle.cns_terms.specs.declared.command.Trade.{Trade}
-use Rattle.cns_terms.specs.declared.history.Taken.{Taken}
 use Rattle.cns_page.specs.Listed.{if_accepted}
-use Rattle.cns_page.specs.declared.finding.Waiting.{Waiting}
 use Rattle.cns_page.specs.declared.sought.Sought.{Sought}
 use Rattle.cns_page.specs.declared.sought.Sought.TheVariants as sought
 

@@ -1,17 +1,7 @@
 -- The rows of a sheet with what their marks come from, and the sums of them.
 use Rattle.std.specs.Prelude.{ℤ, pos, ◌+ℤ◌, List, map}
-use Rattle.std.specs.Int.{int_wrap, w128}
-use Rattle.std.specs.List.{fold}
-use Rattle.cns_terms.specs.Common.{DaySheet}
-use Rattle.cns_terms.specs.Sheets.{rows_for}
-use Rattle.cns_terms.specs.Sums.{total}
+use Rattle.cns_page.specs.Common.{int_wrap, w128, fold, DaySheet, rows_for, total, Row, moves_at, causes, moved, no_causes, place_of, with_causes, DayMoves, MovedRow, Sums}
 use Rattle.cns_terms.specs.declared.reply.Stated.{Stated}
-use Rattle.cns_terms.specs.declared.sheet.Row.{Row}
-use Rattle.cns_account.specs.Moves.{moves_at}
-use Rattle.cns_account.specs.Rows.{causes, moved, no_causes, place_of, with_causes}
-use Rattle.cns_account.specs.declared.day_moves.DayMoves.{DayMoves}
-use Rattle.cns_page.specs.declared.sums.MovedRow.{MovedRow}
-use Rattle.cns_page.specs.declared.sums.Sums.{Sums}
 
 -- a row, with what its mark comes from
 abbrev pub moved_row : DayMoves → Row → MovedRow

@@ -1,31 +1,15 @@
 -- What is known of the records of an input: which of them are exceptions, and which closed a day.
 use Rattle.std.specs.Prelude.{◌≡◌, ◌≤◌, ℕ, ◌+◌, ◌-◌, ◌^◌, ◌==◌, ◌&&◌, Bool, false, is_none, List, [], ◌∷◌, ◌++◌, if◌then◌else◌, length, map, min, nat_lt, slice_get, take, true, Option, Some, None, Ok, Err}
-use Rattle.std.specs.Option.{option_map_or}
-use Rattle.cns_terms.specs.Common.{Day, State, answer, opened}
-use Rattle.cns_terms.specs.Numbers.{refusal_number}
+use Rattle.cns_page.specs.Common.{option_map_or, Day, State, answer, opened, refusal_number, Command, Refusal, Reply, Log, state_of, Line, state_after_line, blank_log, log_after, log_after_line, history, is_open, HistoryLine, Watched, Finding, Outcome, Played, Close, Survey}
 use Rattle.cns_terms.specs.declared.command.Activity.TheVariants as activity
-use Rattle.cns_terms.specs.declared.command.Command.{Command}
 use Rattle.cns_terms.specs.declared.command.Command.TheVariants as command
-use Rattle.cns_terms.specs.declared.refusal.Refusal.{Refusal}
 use Rattle.cns_terms.specs.declared.reply.Closed.{Closed}
-use Rattle.cns_terms.specs.declared.reply.Reply.{Reply}
 use Rattle.cns_terms.specs.declared.reply.Reply.TheVariants as reply
-use Rattle.cns_book.specs.Log.{Log, state_of}
-use Rattle.cns_feed.specs.Line.{Line}
-use Rattle.cns_feed.specs.Output.{state_after_line}
-use Rattle.cns_feed.specs.Replay.{blank_log, log_after, log_after_line}
 use Rattle.cns_feed.specs.Records.{IsReady, Pending}
 use Rattle.cns_feed.specs.declared.records.Records.{Records}
 use Rattle.cns_feed.specs.declared.fault.LineFault.{LineFault}
-use Rattle.cns_history.specs.Lines.{history, is_open, lines_of}
-use Rattle.cns_history.specs.declared.line.HistoryLine.{HistoryLine}
-use Rattle.cns_history.specs.declared.watched.Watched.{Watched}
-use Rattle.cns_page.specs.declared.finding.Finding.{Finding}
-use Rattle.cns_page.specs.declared.finding.Outcome.{Outcome}
+use Rattle.cns_history.specs.Lines.{lines_of}
 use Rattle.cns_page.specs.declared.finding.Outcome.TheVariants as outcome
-use Rattle.cns_page.specs.declared.play.Played.{Played}
-use Rattle.cns_page.specs.declared.survey.Close.{Close}
-use Rattle.cns_page.specs.declared.survey.Survey.{Survey}
 
 -- a closed day: its number and date, and the number of the record that closed it
 pub record Closing : Type 0 where

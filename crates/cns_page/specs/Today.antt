@@ -1,16 +1,7 @@
 -- The page of the day that is open.
 use Rattle.std.specs.Prelude.{◌≡◌, ℕ, ◌-◌, List, [], ◌∷◌, ◌++◌, length, map, None, Option, Some}
-use Rattle.std.specs.Fmt.{decimal}
-use Rattle.std.specs.Io.KnownBytes.{Appends}
-use Rattle.cns_units.specs.Day.{day_text}
-use Rattle.cns_terms.specs.Common.{Day, date, day, journal_of, opened}
-use Rattle.cns_book.specs.Log.{Log, state_of}
-use Rattle.cns_feed.specs.Output.{lines_of}
-use Rattle.cns_feed.specs.Replay.{blank_log, log_after}
-use Rattle.cns_tables.specs.Grouped.{count_text}
-use Rattle.cns_tables.specs.Tables.{table_text, texts}
+use Rattle.cns_page.specs.Common.{decimal, Appends, day_text, Day, date, day, journal_of, opened, Log, state_of, lines_of, blank_log, log_after, count_text, table_text, texts, STYLE, Origin, DAY, EXCEPTIONS, HEADING, START, TITLE_END, Counted, Survey, Span}
 use Rattle.cns_tables.specs.declared.table.Table.{Table}
-use Rattle.cns_tables.specs.declared.style.TheConstants.{STYLE}
 use Rattle.cns_page.specs.Exceptions.{finding_text}
 use Rattle.cns_page.specs.Foot.{IsOrigin, foot_text}
 use Rattle.cns_page.specs.Listed.{counted, counts, counts_shown, spans_shown}
@@ -18,13 +9,8 @@ use Rattle.cns_page.specs.Page.{sum_of}
 use Rattle.cns_page.specs.Rows.{counted_text, span_text}
 use Rattle.cns_page.specs.Shown.{next_day}
 use Rattle.cns_page.specs.Survey.{known, noted_all, nothing}
-use Rattle.cns_page.specs.declared.foot.Origin.{Origin}
-use Rattle.cns_page.specs.declared.page.TheConstants.{DAY, EXCEPTIONS, HEADING, START, TITLE_END}
-use Rattle.cns_page.specs.declared.reasons.Counted.{Counted}
-use Rattle.cns_page.specs.declared.survey.Survey.{Survey}
 use Rattle.cns_page.specs.declared.today.Heading.{Heading}
 use Rattle.cns_page.specs.declared.today.TheConstants.{COUNT, MAIN, OPEN, SO_FAR}
-use Rattle.cns_page.specs.declared.totals.Span.{Span}
 
 -- what the head tells
 abbrev pub heading_shown : Log → Survey → Heading

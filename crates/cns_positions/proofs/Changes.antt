@@ -1,9 +1,6 @@
 -- What changes of a tree's rows make of the holdings.
 -- For `first_rows`, `book`, `next_row` and `next_rows` of tree.rt and others.
-use Rattle.std.proofs.Common.{arith, ◌≡◌, refl, true, ◌&&◌, [], ◌∷◌, ◌++◌, Option, None, filter}
-use Rattle.cns_positions.proofs.Common.{Holding, Key, Rows, closed_rows, filter-append, has_row, held_above, holding_at, is_held, key_cmp, rolled}
-use Rattle.std.specs.FinMap.{put}
-use Rattle.cns_positions.specs.Rows.{is_above}
+use Rattle.cns_positions.proofs.Common.{arith, ◌≡◌, refl, true, ◌&&◌, [], ◌∷◌, ◌++◌, Option, None, filter, Holding, Key, Rows, closed_rows, filter-append, has_row, held_above, holding_at, is_held, key_cmp, rolled, put, is_above}
 use Rattle.cns_tree.specs.Changes.{ChangesAt, ChangesEach}
 use Rattle.cns_tree.specs.Search.{is_after}
 

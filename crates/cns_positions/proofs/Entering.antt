@@ -1,8 +1,6 @@
 -- Keys that are given rows one after another.
 -- For `enter` and `enter_all` of flat.rt, `enter` and `enter_all` of tree.rt.
-use Rattle.std.proofs.Common.{arith, ◌≡◌, ◌≢◌, sym, true, List, ℕ, ◌<◌, ◌+◌, length, get_or, take, inl, inr, None, Result, OnErr, Any, Contains}
-use Rattle.cns_positions.proofs.Common.{Contains-get_or, Key, Rows, has_row, take_more}
-use Rattle.std.proofs.lemmas.List.Elements.{Contains-push_cases}
+use Rattle.cns_positions.proofs.Common.{arith, ◌≡◌, ◌≢◌, sym, true, List, ℕ, ◌<◌, ◌+◌, length, get_or, take, inl, inr, None, Result, OnErr, Any, Contains, Contains-get_or, Key, Rows, has_row, take_more, Contains-push_cases}
 use Rattle.cns_positions.specs.Rows.{row_at}
 
 -- what holds at all holds at an error

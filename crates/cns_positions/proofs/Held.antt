@@ -1,10 +1,9 @@
 -- The rows that aren't zeros, above a key.
 -- For `first_rows`, `rows_above`, `next_row` and `next_rows` of flat.rt and others.
-use Rattle.std.proofs.Common.{arith, ◌≡◌, ◌∙◌, sym, ap, refl, Bool, true, false, ◌&&◌, ℕ, ◌≤◌, List, [], ◌∷◌, ◌++◌, filter, length, length-append, get_or, drop, Option, Some, None, MatchOption, is_le, Less, find}
-use Rattle.cns_positions.proofs.Common.{cases_lt, Holding, IsPartitionPoint, Key, Rows, filter_map-append, held_above, is_held, is_sorted, key_cmp, keys_total, less, next_above, present, sorted_filter}
+use Rattle.cns_positions.proofs.Common.{arith, ◌≡◌, ◌∙◌, sym, ap, refl, Bool, true, false, ◌&&◌, ℕ, ◌≤◌, List, [], ◌∷◌, ◌++◌, filter, length, length-append, get_or, drop, Option, Some, None, MatchOption, is_le, Less, cases_lt, Holding, IsPartitionPoint, Key, Rows, filter_map-append, held_above, is_held, is_sorted, key_cmp, keys_total, less, next_above, present, sorted_filter, AreNext, is_above, last_of}
+use Rattle.std.proofs.Common.{find}
 use Rattle.std.specs.List.Sorted.{IsPartitionedBy}
 use Rattle.std.proofs.Math.Bool.{and_comm}
-use Rattle.cns_positions.specs.Rows.{AreNext, is_above, last_of}
 use Rattle.cns_positions.proofs.Parted.{filter_back}
 use Rattle.cns_positions.proofs.Puts.{below_later}
 

@@ -1,12 +1,10 @@
 -- What stands at a key after a row is put.
 -- For `book`, `carry`, `enter`, `get` and `roll` of flat.rt and others.
-use Rattle.std.proofs.Common.{◌≡◌, ◌≢◌, ℕ, ℤ, pos, ◌+ℤ◌, true, [], ◌∷◌, length, get_or, set, ◌<◌, None, refl, ◌∙◌, arith, HoldsAt, Less, Equal, Greater}
-use Rattle.cns_positions.proofs.Common.{Holding, IsPartitionPoint, Key, Rows, below_all, closed_rows, equal, exact_keys, has_row, holding_at, ints, is_sorted, key_cmp, keys_total, rolled, same_key, zeros}
+use Rattle.cns_positions.proofs.Common.{◌≡◌, ◌≢◌, ℕ, ℤ, pos, ◌+ℤ◌, true, [], ◌∷◌, length, get_or, set, ◌<◌, None, refl, ◌∙◌, arith, HoldsAt, Less, Equal, Greater, Holding, IsPartitionPoint, Key, Rows, below_all, closed_rows, equal, exact_keys, has_row, holding_at, ints, is_sorted, key_cmp, keys_total, rolled, same_key, zeros, put, find, aged, booked, entry_of, with_age}
 use Rattle.cns_positions.proofs.Puts.{set_is_put, find_at, find_gap}
-use Rattle.std.specs.FinMap.{put, find}
 use Rattle.std.specs.FinMap.Entries.{find-put, is_sorted-put}
 use Rattle.std.proofs.lemmas.Cmp.{eq_by_cmp_equiv}
-use Rattle.cns_positions.specs.Rows.{aged, booked, entry_of, row_at, with_age}
+use Rattle.cns_positions.specs.Rows.{row_at}
 
 pub sorted_put : (k : Key) (v : Holding) (es : Rows) → is_sorted key_cmp es ≡ true → is_sorted key_cmp (put key_cmp k v es) ≡ true
 sorted_put k v es s = grind (arith, is_sorted-put key_cmp keys_total k v es)

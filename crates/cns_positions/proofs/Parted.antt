@@ -1,7 +1,6 @@
 -- What a test keeps of a list that it parts.
 -- For `rows_above` of flat.rt and others.
-use Rattle.std.proofs.Common.{◌≡◌, refl, ℕ, zero, suc, ◌≤◌, Bool, true, false, List, [], ◌∷◌, filter, length, drop, arith}
-use Rattle.cns_positions.proofs.Common.{AllWithin}
+use Rattle.cns_positions.proofs.Common.{◌≡◌, refl, ℕ, zero, suc, ◌≤◌, Bool, true, false, List, [], ◌∷◌, filter, length, drop, arith, AllWithin}
 
 module _ {X : Type 0} (t : X → Bool) where
   -- what all pass is kept whole

@@ -1,7 +1,6 @@
 -- Steps no larger than commands: their sums fit.
 -- For `check_steps` of positions.rt in cns_book_tests.
-use Rattle.std.proofs.Common.{ℕ, suc, ◌+◌, ◌*◌, ◌^◌, ◌≤◌, List, [], ◌∷◌, length, arith, unsigned_abs}
-use Rattle.cns_positions.proofs.Common.{AllByRecursion, Key, Map, Step, StepFits, after_step, ints, nowhere}
+use Rattle.cns_positions.proofs.Common.{ℕ, suc, ◌+◌, ◌*◌, ◌^◌, ◌≤◌, List, [], ◌∷◌, length, arith, unsigned_abs, AllByRecursion, Key, Map, Step, StepFits, after_step, ints, nowhere}
 use Rattle.cns_positions.specs.declared.steps.Step.TheVariants.{Get, Add, Roll}
 use Rattle.cns_positions.specs.Steps.{SumsFit}
 

@@ -1,9 +1,7 @@
 -- Steps, one after another.
 -- For `run` of steps.rt.
-use Rattle.std.proofs.Common.{◌≡◌, ℕ, ◌+◌, ◌<◌, List, ◌∷◌, ◌++◌, append_assoc, length, drop, get_or, arith}
-use Rattle.cns_positions.proofs.Common.{Holding, Key, Map, Step, StepFits, after_step}
-use Rattle.std.proofs.lemmas.List.{drop_more}
-use Rattle.cns_positions.specs.Steps.{SumsFit, replies, reply_to}
+use Rattle.cns_positions.proofs.Common.{◌≡◌, ℕ, ◌+◌, ◌<◌, List, ◌∷◌, ◌++◌, append_assoc, length, drop, get_or, arith, Holding, Key, Map, Step, StepFits, after_step, drop_more, reply_to}
+use Rattle.cns_positions.specs.Steps.{SumsFit, replies}
 
 -- the steps that are left begin with the next one
 here : (ss : List Step) (i : ℕ) (s : Step) → i < length ss → s ≡ get_or ss i s → drop i ss ≡ s ∷ drop (i + 1) ss

@@ -1,7 +1,6 @@
 -- Rows of zeros: they may be left out.
 -- For `copied` of beside.rt in cns_actions.
-use Rattle.std.proofs.Common.{◌≡◌, true, false, None, arith}
-use Rattle.cns_positions.proofs.Common.{nat_tests, ints, Holding, Key, Rows, find_filter, held_above, holding_at, is_held, is_sorted, key_cmp, keys_total, sorted_filter, zeros}
+use Rattle.cns_positions.proofs.Common.{◌≡◌, true, false, None, arith, nat_tests, ints, Holding, Key, Rows, find_filter, held_above, holding_at, is_held, is_sorted, key_cmp, keys_total, sorted_filter, zeros}
 
 -- what isn't held is zeros
 pub unheld : (h : Holding) → is_held h ≡ false → h ≡ zeros

@@ -1,7 +1,6 @@
 -- What calls and shorts change, and the batches that come of them.
 -- For `call`, `short` and `choose` of calls.rt.
-use Rattle.std.proofs.Common.{◌≡◌, refl, ℕ, ◌+◌, true, cond, List, [], ◌∷◌, Some, arith, bytes_eq, option_map, nat_cmp, is_eq}
-use Rattle.cns_retransmit.proofs.Common.{CalledIn, Cusip, RiseByIssue, Short, batches_of, below_all, by_issue, bytes_eq-Decides, called_in, is_eq-slice_cmp, is_sorted, slice_cmp}
+use Rattle.cns_retransmit.proofs.Common.{◌≡◌, refl, ℕ, ◌+◌, true, cond, List, [], ◌∷◌, Some, arith, bytes_eq, option_map, nat_cmp, is_eq, CalledIn, Cusip, RiseByIssue, Short, batches_of, below_all, by_issue, bytes_eq-Decides, called_in, is_eq-slice_cmp, is_sorted, slice_cmp}
 use Rattle.cns_retransmit.specs.Calls.{shorts_in, total_in, with_shares, with_short}
 
 -- a map whose new entries have y at an issue in place of x, and at each other what the old have

@@ -1,11 +1,6 @@
 -- A loop that chooses the members of a batch.
 -- For `choose_ordered` of choice.rt.
-use Rattle.std.proofs.Common.{◌≡◌, refl, ◌⊎◌, ℕ, zero, suc, ◌+◌, ◌-◌, ◌<◌, ◌≤◌, cond, List, [], ◌∷◌, ◌++◌, append_assoc, get_or, length, take, drop, map, filter, sum_by, nat_lt, arith}
-use Rattle.cns_retransmit.proofs.Common.{IsOldestFirst, Liable, NoneOlder, Short, chosen_of, is_called, liable_of, nat_tests, sum_by-cons}
-use Rattle.std.proofs.lemmas.Bool.{cases_eq}
-use Rattle.std.proofs.lemmas.List.{get_or_default}
-use Rattle.std.proofs.lemmas.List.Sums.{sum_by_more}
-use Rattle.cns_terms.specs.Batches.{if_older}
+use Rattle.cns_retransmit.proofs.Common.{◌≡◌, refl, ◌⊎◌, ℕ, zero, suc, ◌+◌, ◌-◌, ◌<◌, ◌≤◌, cond, List, [], ◌∷◌, ◌++◌, append_assoc, get_or, length, take, drop, map, filter, sum_by, nat_lt, arith, IsOldestFirst, Liable, NoneOlder, Short, chosen_of, is_called, liable_of, nat_tests, sum_by-cons, cases_eq, get_or_default, sum_by_more, if_older}
 use Rattle.cns_retransmit.proofs.Lists.{drop_next}
 
 -- no place of a list none of which is older has an older one

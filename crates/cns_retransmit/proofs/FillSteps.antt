@@ -1,8 +1,6 @@
 -- A loop that makes the fills of an execution.
 -- For `make_fills` of filling.rt.
-use Rattle.std.proofs.Common.{◌≡◌, refl, ℕ, ◌+◌, ◌-◌, ◌*◌, ◌/◌, ◌<◌, ◌≤◌, min, List, [], ◌∷◌, ◌++◌, append_assoc, append-nil, drop, filter, get_or, length, nat_lt, sum_by, take, arith}
-use Rattle.cns_retransmit.proofs.Common.{Fill, Liable, laid}
-use Rattle.std.proofs.lemmas.List.Sums.{sum_by_more}
+use Rattle.cns_retransmit.proofs.Common.{◌≡◌, refl, ℕ, ◌+◌, ◌-◌, ◌*◌, ◌/◌, ◌<◌, ◌≤◌, min, List, [], ◌∷◌, ◌++◌, append_assoc, append-nil, drop, filter, get_or, length, nat_lt, sum_by, take, arith, Fill, Liable, laid, sum_by_more}
 use Rattle.cns_retransmit.proofs.Lists.{drop_next}
 
 -- the fills that are left to make

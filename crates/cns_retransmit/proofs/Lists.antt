@@ -1,9 +1,6 @@
 -- Lists that a loop goes over, and lists in which each member stands at most once.
 -- For `make_fills` and `charge` of filling.rt, `choose_ordered` of choice.rt and others.
-use Rattle.std.proofs.Common.{◌≡◌, Bool, false, cond, ℕ, ◌+◌, ◌<◌, ◌≤◌, List, [], ◌∷◌, ◌++◌, arith, take, drop, get_or, length, sum_by, nat_eq, length-take, get_or-take}
-use Rattle.cns_retransmit.proofs.Common.{Member, take_more, nat_tests, sum_by-cons}
-use Rattle.std.proofs.lemmas.List.{drop_more}
-use Rattle.std.proofs.lemmas.List.Sums.{get_or-le-sum_by, sum_by_more_le}
+use Rattle.cns_retransmit.proofs.Common.{◌≡◌, Bool, false, cond, ℕ, ◌+◌, ◌<◌, ◌≤◌, List, [], ◌∷◌, ◌++◌, arith, take, drop, get_or, length, sum_by, nat_eq, length-take, get_or-take, Member, take_more, nat_tests, sum_by-cons, drop_more, get_or-le-sum_by, sum_by_more_le}
 
 -- 1 for what is counted, 0 for what is not
 abbrev pub one_if : Bool → ℕ

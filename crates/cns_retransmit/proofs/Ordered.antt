@@ -1,7 +1,6 @@
 -- Shorts in the order of filling.
 -- For `choose` and `in_filling_order` of choice.rt.
-use Rattle.std.proofs.Common.{◌≡◌, ◌∙◌, sym, ap, refl, ℕ, suc, ◌+◌, ◌<◌, ◌≤◌, Bool, true, false, cond, List, [], ◌∷◌, length, get_or, nat_eq, sum_by, arith, IsPermutation, is_lt, nat_cmp, add-one}
-use Rattle.cns_retransmit.proofs.Common.{AllByRecursion, each_weaker, ⊤, IsOldestFirst, Member, NoneOlder, Short, chosen, chosen_of, fills_before, in_order, nat_tests, ordering_then, shorts_of, sum_by-cons}
+use Rattle.cns_retransmit.proofs.Common.{◌≡◌, ◌∙◌, sym, ap, refl, ℕ, suc, ◌+◌, ◌<◌, ◌≤◌, Bool, true, false, cond, List, [], ◌∷◌, length, get_or, nat_eq, sum_by, arith, IsPermutation, is_lt, nat_cmp, add-one, AllByRecursion, each_weaker, ⊤, IsOldestFirst, Member, NoneOlder, Short, chosen, chosen_of, fills_before, in_order, nat_tests, ordering_then, shorts_of, sum_by-cons}
 use Rattle.std.proofs.lemmas.List.Sorted.{sum_by-IsPermutation}
 use Rattle.cns_terms.specs.Sums.{put}
 use Rattle.cns_retransmit.proofs.Lists.{first_once, many_more, one_if, places_apart, rest_once}

@@ -1,11 +1,7 @@
 -- What a search finds among batches whose issues rise, and what a charge changes there.
 -- For `place`, `charge` and `find` of day.rt, `charge` of batches.rt.
-use Rattle.std.proofs.Common.{◌≡◌, ◌∙◌, sym, ap, refl, ℕ, zero, suc, ◌-◌, ◌<◌, ◌≤◌, true, false, List, [], ◌∷◌, length, get_or, set, Some, None, Ordering, arith, Less, Equal, Greater, is_eq, nat_cmp, bytes_eq, All, get_or-set_same, get_or-set_other, length-set}
-use Rattle.cns_retransmit.proofs.Common.{nat_tests, AllWithin, Cusip, Fill, IsNonDecreasingBy, Liables, RiseByIssue, batch_in, below_all, by_issue, cases_lt, changed_at, charged_in, is_eq-slice_cmp, less, nat_list_cmp_total, ordering_index, slice_cmp}
-use Rattle.std.proofs.lemmas.List.{length-map, get_or-map, ext_get_or}
-use Rattle.std.proofs.lemmas.Bool.{cases_eq}
-use Rattle.std.proofs.lemmas.List.Folds.{find_at, map_fixed}
-use Rattle.std.proofs.lemmas.List.Sums.{position_or_len_is}
+use Rattle.cns_retransmit.proofs.Common.{◌≡◌, ◌∙◌, sym, ap, refl, ℕ, zero, suc, ◌-◌, ◌<◌, ◌≤◌, true, false, List, [], ◌∷◌, length, get_or, set, Some, None, Ordering, arith, Less, Equal, Greater, is_eq, nat_cmp, bytes_eq, All, get_or-set_same, get_or-set_other, length-set, nat_tests, AllWithin, Cusip, Fill, IsNonDecreasingBy, Liables, RiseByIssue, batch_in, below_all, by_issue, cases_lt, changed_at, charged_in, is_eq-slice_cmp, less, nat_list_cmp_total, ordering_index, slice_cmp, get_or-map, ext_get_or, cases_eq, find_at, map_fixed, position_or_len_is}
+use Rattle.std.proofs.lemmas.List.{length-map}
 use Rattle.std.proofs.lemmas.Option.{slice_get_past, slice_get-get_or}
 use Rattle.cns_retransmit.specs.Days.{charged_by, charged_if, charged_on}
 

@@ -1,11 +1,6 @@
 -- The digits of a whole number, written one after another.
 -- For `write_digits` of grouped.rt.
-use Rattle.std.proofs.Common.{◌≡◌, ◌∙◌, sym, ap, ℕ, ◌+◌, ◌-◌, ◌<◌, List, ◌∷◌, ◌++◌, Option, get_or, length, drop, add-one, drop-cons, length-drop, append_assoc, arith}
-use Rattle.std.specs.Io.KnownBytes.{Appends}
-use Rattle.std.proofs.KnownBytes.{Appends-trans}
-use Rattle.cns_units.specs.Output.{AppendsFront}
-use Rattle.cns_units.proofs.OutputLemmas.{front_later, front_longer}
-use Rattle.cns_tables.specs.Grouped.{digit_text, grouped}
+use Rattle.cns_tables.proofs.Common.{◌≡◌, ◌∙◌, sym, ap, ℕ, ◌+◌, ◌-◌, ◌<◌, List, ◌∷◌, ◌++◌, Option, get_or, length, drop, add-one, drop-cons, length-drop, append_assoc, arith, Appends, Appends-trans, AppendsFront, front_later, front_longer, digit_text, grouped}
 
 -- the digits from a place on
 digits_from : (ds : List ℕ) (i d : ℕ) → i < length ds → grouped (drop i ds) ≡ digit_text (get_or ds i d) (length ds - i - 1) ++ grouped (drop (i + 1) ds)

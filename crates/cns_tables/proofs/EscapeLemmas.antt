@@ -1,10 +1,7 @@
 -- What is escaped has no markup.
 -- For `write_escaped` of escape.rt.
-use Rattle.std.proofs.Common.{◌≡◌, ◌∙◌, ℕ, Bool, true, ◌&&◌, List, [], ◌∷◌, refl}
-use Rattle.std.specs.List.{list_all}
+use Rattle.cns_tables.proofs.Common.{◌≡◌, ◌∙◌, ℕ, Bool, true, ◌&&◌, List, [], ◌∷◌, refl, list_all, escaped, escaped_byte, is_plain, arith}
 use Rattle.std.proofs.lemmas.List.Folds.{list_all-append}
-use Rattle.cns_tables.specs.Escape.{escaped, escaped_byte, is_plain}
-use Rattle.std.proofs.Common.{arith}
 
 -- one byte
 byte_plain : (b : ℕ) → list_all is_plain (escaped_byte b) ≡ true

@@ -1,12 +1,9 @@
 -- One text after another.
 -- For `write_table` of table.rt, and for pages.
-use Rattle.std.proofs.Common.{◌≡◌, ◌==◌, ℕ, List, [], ◌∷◌, ◌++◌, Option, Result, Ok, Err, OnOk, length, true, false, refl, arith}
+use Rattle.cns_tables.proofs.Common.{◌≡◌, ◌==◌, ℕ, List, [], ◌∷◌, ◌++◌, Option, Result, Ok, Err, OnOk, length, true, false, refl, arith, none_of, some_of, Appends, Keeps, Appends-kept, Appends-trans, Writes}
 use Rattle.std.proofs.lemmas.Bool.Decides.{nat_tests}
-use Rattle.cns_tables.specs.Tables.{none_of, some_of, table_text}
+use Rattle.cns_tables.specs.Tables.{table_text}
 use Rattle.cns_tables.specs.declared.table.Table.{Table}
-use Rattle.std.specs.Io.KnownBytes.{Appends, Keeps}
-use Rattle.std.proofs.KnownBytes.{Appends-kept, Appends-trans}
-use Rattle.cns_units.specs.Output.{Writes}
 
 -- what a call wrote
 pub written : {T E : Type 0} (old new : Option (List ℕ)) (text : List ℕ) (r : Result T E) → Writes old new text r → OnOk r (Appends old new text)

@@ -1,11 +1,7 @@
 -- Values changed in place, around a row e with others on its left and right.
 -- For `change_counted` and `change_each` of tree.rt.
-use Rattle.std.proofs.Common.{◌≡◌, ℕ, ◌+◌, suc, length, ◌&&◌, true, cond, is_some, List, [], ◌∷◌, ◌++◌, Option, Some, None, refl, sym, ap, ◌∙◌, subst, MatchOption, IfSome, Less, Equal, Greater, is_lt}
-use Rattle.cns_terms.proofs.Common.{below_all, is_sorted, key_cmp, keys_total}
-use Rattle.std.specs.FinMap.{put, find}
-use Rattle.cns_terms.specs.declared.holding.Key.{Key}
-use Rattle.cns_tree.specs.Changes.{ChangesAt, ChangesEach}
-use Rattle.cns_tree.specs.Shape.{IsShallow}
+use Rattle.cns_tree.proofs.Common.{◌≡◌, ℕ, ◌+◌, suc, length, ◌&&◌, true, cond, is_some, List, [], ◌∷◌, ◌++◌, Option, Some, None, refl, sym, ap, ◌∙◌, subst, MatchOption, IfSome, Less, Equal, Greater, is_lt, below_all, is_sorted, key_cmp, keys_total, put, find, Key, ChangesAt, IsShallow, ints, nat_tests, arith}
+use Rattle.cns_tree.specs.Changes.{ChangesEach}
 use Rattle.cns_tree.proofs.Heights.{shallow_kept}
 use Rattle.cns_tree.proofs.Rows.{find_left, find_middle, find_right, length_put, puts_left, puts_middle, puts_right, rises_put}
 
@@ -32,14 +28,7 @@ pub record Kept {V : Type 0} (d new : List (Key × V)) : Type 0 where
 
 -- after a change at a key
 pub kept_at : {V : Type 0} (P : V → V → Type 0) (k : Key) (d new : List (Key × V)) → is_sorted key_cmp d ≡ true → ChangesAt P k d new → Kept d new
-kept_at {V} P k d new s = by (find key_cmp k d) refl
-  where
-    by : (o : Option V) → find key_cmp k d ≡ o → MatchOption o (new ≡ d) (λ v. (w : V) × P v w × (new ≡ put key_cmp k w d)) → Kept d new
-    by None f same = record { rises = ap (is_sorted key_cmp) same ∙ s; count = ap length same }
-    by (Some v) f (w, h, put_is) = record {
-      rises = ap (is_sorted key_cmp) put_is ∙ rises_put key_cmp keys_total k w d s;
-      count = ap length put_is ∙ length_put key_cmp keys_total k w d s ∙ ap (λ o. cond (is_some o) (length d) (length d + 1)) f;
-    }
+kept_at {V} P k d new s = grind (arith, rises_put, keys_total, length_put)
 
 module _ {V : Type 0} (P : V → V → Type 0) (k : Key) (d l : List (Key × V)) (e : Key × V) (r : List (Key × V)) (is : d ≡ l ++ e ∷ r) (s : is_sorted key_cmp (l ++ e ∷ r) ≡ true) where
   -- where the key is found
@@ -86,9 +75,7 @@ module _ {V : Type 0} (P : V → V → Type 0) (k : Key) (d l : List (Key × V))
 
   -- and in as many levels as before they have few
   pub shallow_changed : (new : List (Key × V)) (a b : ℕ) → Changed P k d new → IsShallow (length (l ++ e ∷ r)) a → b ≡ a → IsShallow (length new) b
-  shallow_changed new a b p shallow height =
-      let kept = kept_at P k d new (ap (is_sorted key_cmp) is ∙ s) p.rows in
-      shallow_kept _ _ a b shallow (kept.count ∙ ap length is) height
+  shallow_changed new a b p shallow height = grind (arith, kept_at)
 
 -- where each value is changed, a key is below the rows where it was
 below_each : {V : Type 0} (P : V → V → Type 0) (k : Key) (old new : List (Key × V)) → ChangesEach P old new → below_all key_cmp k new ≡ below_all key_cmp k old
@@ -104,8 +91,7 @@ unfolding ChangesEach
 sorted_each P [] [] h = refl
 sorted_each P [] (s ∷ ss) h = absurd h
 sorted_each P (r ∷ rs) [] h = absurd h
-sorted_each P (r ∷ rs) (s ∷ ss) (same, p, h) =
-    (λ i. below_all key_cmp (same i) ss && sorted_each P rs ss h i) ∙ ap (λ b. b && is_sorted key_cmp rs) (below_each P r.0 rs ss h)
+sorted_each P (r ∷ rs) (s ∷ ss) (same, p, h) = grind (arith, below_each, sorted_each P rs ss h)
 
 -- and there are as many
 pub length_each : {V : Type 0} (P : V → V → Type 0) (old new : List (Key × V)) → ChangesEach P old new → length new ≡ length old

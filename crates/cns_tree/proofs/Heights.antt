@@ -1,11 +1,9 @@
 -- Heights of trees: of any, and of those that are built by halves.
 -- For `join` of node.rt, `put_counted`, `change_counted` and `get_counted` of tree.rt.
-use Rattle.std.proofs.Common.{◌≡◌, ℕ, List, ◌∷◌, ◌++◌, zero, suc, ◌+◌, ◌*◌, ◌^◌, ◌<◌, ◌≤◌, max, length, length-append, arith, pow_mono, inl, inr}
-use Rattle.cns_terms.proofs.Common.{binary_digits, cases_lt}
+use Rattle.cns_tree.proofs.Common.{◌≡◌, ℕ, List, ◌∷◌, ◌++◌, zero, suc, ◌+◌, ◌*◌, ◌^◌, ◌<◌, ◌≤◌, max, length, length-append, arith, pow_mono, inl, inr, binary_digits, cases_lt, IsLean, IsShallow, ints, nat_tests}
 use Rattle.std.proofs.Math.Nat.{two-pow-succ}
 use Rattle.std.proofs.lemmas.Int.Digits.{all_below_base_digits_of, number_digits_of, number_lt}
 use Rattle.std.specs.Int.Digits.{digits_of}
-use Rattle.cns_tree.specs.Shape.{IsLean, IsShallow}
 use Rattle.cns_tree.specs.declared.node.Lean.{Lean}
 use Rattle.cns_tree.specs.declared.node.Lean.TheVariants.{Left, Even, Right}
 
@@ -22,12 +20,7 @@ shallow_none = record { levels = λ d few. omega arith }
 -- two sides with a node above them
 levels : (n m a b : ℕ) → a ≤ b + 1 → b ≤ a + 1 → IsShallow n a → IsShallow m b → (d : ℕ) → n + m + 1 < 2 ^ d → max a b + 1 ≤ 2 * d
 levels n m a b le ge p q zero few = absurd (omega (arith, few))
-levels n m a b le ge p q (suc d) few =
-    let twice = two-pow-succ d in
-    elim (cases_lt n (2 ^ d)) [
-      | inl lt ↦ let low = p.levels d lt in omega arith
-      | inr more ↦ let low = q.levels d (omega arith) in omega arith
-    ]
+levels n m a b le ge p q (suc d) few = grind arith
 
 -- are few levels of their rows
 pub shallow_joined : {E : Type 0} (l : List E) (e : E) (r : List E) (a b : ℕ) → a ≤ b + 1 → b ≤ a + 1 → IsShallow (length l) a → IsShallow (length r) b → IsShallow (length (l ++ e ∷ r)) (max a b + 1)
@@ -83,6 +76,4 @@ halves_level n m a b p q le more = (no_higher n m a b p q le, one_higher n m a b
 
 -- the rows and the height of two halves with a row between them
 pub halves_joined : {K V : Type 0} (d before after : List (K × V)) (row : K × V) (k : K) (v : V) (a b : ℕ) (left right joined : List (K × V) × ℕ) → joined ≡ (left.0 ++ (k, v) ∷ right.0, max left.1 right.1 + 1) → left ≡ (before, a) → right ≡ (after, b) → k ≡ row.0 → v ≡ row.1 → d ≡ before ++ row ∷ after → b ≤ a → joined ≡ (d, a + 1)
-halves_joined d before after row k v a b left right joined is l r key value parts le =
-    let level : max a b + 1 ≡ a + 1 = omega arith in
-    rw (is, l, r, key, value, parts, level)
+halves_joined d before after row k v a b left right joined is l r key value parts le = grind arith

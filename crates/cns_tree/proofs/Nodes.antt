@@ -1,11 +1,6 @@
 -- What is known of a subtree d once its top is a node.
 -- For `get`, `get_two`, `first_above` and `first_at_or_after` of node.rt and others.
-use Rattle.std.proofs.Common.{◌≡◌, ℕ, List, length, Box, Option, None, Some, Ordering, false, cond, is_eq, is_lt, sym, ap, ◌∙◌, subst, Less, Equal, Greater}
-use Rattle.cns_terms.proofs.Common.{key_cmp, keys_total}
-use Rattle.std.specs.FinMap.{find}
-use Rattle.cns_terms.specs.declared.holding.Key.{Key}
-use Rattle.cns_tree.specs.Shape.{rows, height, rows_and_height, IsBalanced, IsBalancedNode, IsShallow}
-use Rattle.cns_tree.specs.declared.node.Node.{Node}
+use Rattle.cns_tree.proofs.Common.{◌≡◌, ℕ, List, length, Box, Option, None, Some, Ordering, false, cond, is_eq, is_lt, sym, ap, ◌∙◌, subst, Less, Equal, Greater, key_cmp, keys_total, find, Key, rows, height, rows_and_height, IsBalanced, IsBalancedNode, IsShallow, Node, ints, nat_tests, arith}
 use Rattle.cns_tree.proofs.Heights.{shallow_none}
 use Rattle.cns_tree.proofs.Rows.{find_left, find_right}
 
@@ -15,15 +10,9 @@ pub record AtNode {V A : Type 0} (d : List (Key × V) × ℕ) (n : Node V A) : T
   pub height_is : d.1 ≡ height n
   pub balanced : IsBalancedNode n
 
--- a subtree that was opened at a box
-at_box : {V A : Type 0} {top : Option (Box (Node V A) A)} {d : List (Key × V) × ℕ} {b : Box (Node V A) A} → rows_and_height top ≡ d → IsBalanced top → top ≡ Some b → AtNode d b.value
-at_box view_is balanced is =
-    let e = sym view_is ∙ ap rows_and_height is in
-    record { rows_are = ap (λ d. d.0) e; height_is = ap (λ d. d.1) e; balanced = subst IsBalanced is balanced }
-
 -- and at the node in it
 pub at_node : {V A : Type 0} {top : Option (Box (Node V A) A)} {d : List (Key × V) × ℕ} {b : Box (Node V A) A} {n : Node V A} → rows_and_height top ≡ d → IsBalanced top → top ≡ Some b → n ≡ b.value → AtNode d n
-at_node {d = d} view_is balanced is same = subst (AtNode d) (sym same) (at_box view_is balanced is)
+at_node {d = d} view_is balanced is same = grind arith
 
 -- a subtree has few levels
 pub shallow_top : {V A : Type 0} {d : List (Key × V) × ℕ} (top : Option (Box (Node V A) A)) → rows_and_height top ≡ d → IsBalanced top → IsShallow (length d.0) d.1

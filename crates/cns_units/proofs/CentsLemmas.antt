@@ -1,7 +1,5 @@
 -- The text of an amount, by its sign.
-use Rattle.std.proofs.Common.{◌≡◌, ℤ, pos, negsuc, true, false, ◌∷◌, refl, arith}
-use Rattle.std.proofs.lemmas.Int.{ints}
-use Rattle.std.specs.Prelude.{unsigned_abs}
+use Rattle.cns_units.proofs.Common.{◌≡◌, ℤ, pos, negsuc, true, false, ◌∷◌, refl, arith, ints, unsigned_abs}
 use lib.Signed.{lt_z}
 use Rattle.cns_units.specs.Cents.{amount_text, cents_text}
 

@@ -1,7 +1,7 @@
 -- The sum over a CUSIP's characters, one after another.
-use Rattle.std.proofs.Common.{◌≡◌, ℕ, ◌+◌, ◌<◌, Bool, not, List, length, get_or, drop, Option, Some, None, option_map, refl, sym, ap, ◌∙◌, add-one, add-zero, add_assoc, drop-cons, ◌≤◌}
+use Rattle.cns_units.proofs.Common.{◌≡◌, ℕ, ◌+◌, ◌<◌, Bool, not, List, length, get_or, drop, Option, Some, None, option_map, refl, sym, ap, ◌∙◌, add-one, add-zero, add_assoc, drop-cons, ◌≤◌, character_value, weight, plus, after_value}
 use Rattle.std.proofs.lemmas.List.{drop_all}
-use Rattle.cns_units.specs.Cusip.{character_value, weight, plus, after_value, sum_of}
+use Rattle.cns_units.specs.Cusip.{sum_of}
 
 plus-plus : (m n : ℕ) (o : Option ℕ) → plus m (plus n o) ≡ plus (m + n) o
 plus-plus m n None = refl

@@ -1,17 +1,13 @@
 -- The characters before the check digit order CUSIPs as all nine do.
-use Rattle.std.proofs.Common.{◌≡◌, ◌∙◌, sym, ap, refl, ℕ, ◌+◌, ◌-◌, ◌*◌, ◌^◌, ◌<◌, ◌≤◌, ◌==◌, nat_le, Bool, true, false, not, List, [], ◌∷◌, ◌++◌, length, take, Option, Some, None, inl, inr, arith}
+use Rattle.cns_units.proofs.Common.{◌≡◌, ◌∙◌, sym, ap, refl, ℕ, ◌+◌, ◌-◌, ◌*◌, ◌^◌, ◌<◌, ◌≤◌, ◌==◌, nat_le, Bool, true, false, not, List, [], ◌∷◌, ◌++◌, length, take, Option, Some, None, inl, inr, arith, nat_cmp, ordering_then, slice_cmp, cases_lt, eqb-true, leb-true, if◌then◌else◌, slice_index, IsCusip, after_value, character_value, check_digit, is_digit, last_fault}
 use Rattle.std.specs.Int.{w64, from_be_bytes}
-use Rattle.std.specs.Ordering.{nat_cmp, ordering_then}
 use Rattle.std.specs.declared.cmp.Ordering.{Ordering}
 use Rattle.std.specs.declared.cmp.Ordering.TheVariants.{Less, Equal, Greater}
 use Rattle.std.specs.Cmp.{nat_cmp_is}
-use Rattle.std.specs.Cmp.Lexicographic.{slice_cmp}
-use Rattle.std.proofs.lemmas.Bool.{cases_lt, eqb-true, leb-true}
 use Rattle.std.proofs.lemmas.Map.Lookups.{exact_bytes}
 use Rattle.cns_units.specs.declared.fault.UnitFault.TheVariants as fault
 use Rattle.std.proofs.lemmas.Grind.{common_steps}
-use Rattle.std.specs.Prelude.{if◌then◌else◌, slice_index}
-use Rattle.cns_units.specs.Cusip.{IsCusip, after_value, character_value, check_digit, is_digit, last_fault, sum_of}
+use Rattle.cns_units.specs.Cusip.{sum_of}
 use Rattle.cns_units.proofs.CusipWeights.{and_left}
 
 -- a comparison, and then one that ties

@@ -1,7 +1,5 @@
 -- The tables of weights have what the definition says of each character.
-use Rattle.std.proofs.Common.{◌≡◌, ◌∙◌, sym, ap, refl, ℕ, zero, suc, ◌+◌, ◌<◌, ◌%◌, Bool, true, false, ◌&&◌, cond, eqb, List, [], ◌∷◌, length, get_or, Option, Some, None, option_map, arith}
-use Rattle.std.proofs.lemmas.Bool.{eqb-true, ne_eqb}
-use Rattle.cns_units.specs.Cusip.{character_value, weight}
+use Rattle.cns_units.proofs.Common.{◌≡◌, ◌∙◌, sym, ap, refl, ℕ, zero, suc, ◌+◌, ◌<◌, ◌%◌, Bool, true, false, ◌&&◌, cond, eqb, List, [], ◌∷◌, length, get_or, Option, Some, None, option_map, arith, eqb-true, ne_eqb, character_value, weight}
 
 -- the tables, from the character 35 on
 abbrev pub plain : List ℕ

@@ -5,3 +5,4 @@ pub mod DayLemmas
 pub mod CusipOrder
 pub mod CusipWeights
 pub mod Parts
+pub mod Common

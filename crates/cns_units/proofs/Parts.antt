@@ -1,9 +1,6 @@
 -- The texts of the items of a list, written one after another.
-use Rattle.std.proofs.Common.{◌≡◌, ℕ, ◌+◌, ◌<◌, List, ◌∷◌, ◌++◌, Option, get_or, length, drop, add-one, drop-cons, append_assoc, ap, sym, ◌∙◌}
+use Rattle.cns_units.proofs.Common.{◌≡◌, ℕ, ◌+◌, ◌<◌, List, ◌∷◌, ◌++◌, Option, get_or, length, drop, add-one, drop-cons, append_assoc, ap, sym, ◌∙◌, Appends, Appends-trans, AppendsFront}
 use Rattle.std.specs.List.{flat_map}
-use Rattle.std.specs.Io.KnownBytes.{Appends}
-use Rattle.std.proofs.KnownBytes.{Appends-trans}
-use Rattle.cns_units.specs.Output.{AppendsFront}
 use Rattle.cns_units.proofs.OutputLemmas.{front_later, front_longer}
 
 -- one more item's text was written, of those that an iterator has left

@@ -1,5 +1,4 @@
-use Rattle.std.proofs.Common.{◌∙◌, sym, append-nil, None, Some}
-use Rattle.cns_account.specs.Rows.{booking_in}
+use Rattle.cns_account.proofs.Common.{◌∙◌, sym, append-nil, None, Some, booking_in}
 use Rattle.cns_account.proofs.Gathered.{given_more}
 use Rattle.cns_account.proofs.booked.bookings_in.Goals as goal
 

@@ -1,5 +1,4 @@
-use Rattle.std.proofs.Common.{◌≡◌, filter_map, take}
-use Rattle.cns_account.specs.Rows.{booking_in}
+use Rattle.cns_account.proofs.Common.{◌≡◌, filter_map, take, booking_in}
 use Rattle.cns_account.proofs.booked.bookings_in.Given as goal
 
 abbrev pub invariant-loop-line : goal.invariant-loop-line

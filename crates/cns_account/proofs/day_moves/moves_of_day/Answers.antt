@@ -1,5 +1,4 @@
-use Rattle.std.proofs.Common.{sym}
-use Rattle.cns_account.specs.Past.{looked_at}
+use Rattle.cns_account.proofs.Common.{sym, looked_at}
 use Rattle.cns_account.proofs.Folded.{line_more}
 use Rattle.cns_account.proofs.day_moves.moves_of_day.Goals as goal
 

@@ -1,6 +1,4 @@
-use Rattle.std.proofs.Common.{take}
-use Rattle.cns_account.specs.Moves.{AreMoves}
-use Rattle.cns_account.specs.Past.{looked_at}
+use Rattle.cns_account.proofs.Common.{take, AreMoves, looked_at}
 use Rattle.cns_account.proofs.day_moves.moves_of_day.Given as goal
 
 abbrev pub invariant-loop-line : goal.invariant-loop-line

@@ -1,5 +1,4 @@
-use Rattle.std.proofs.Common.{◌≡◌, ◌∙◌, sym, ◌-◌, ◌^◌, reverse, subst, take, [], arith}
-use Rattle.cns_account.specs.Moves.{AreMoves}
+use Rattle.cns_account.proofs.Common.{◌≡◌, ◌∙◌, sym, ◌-◌, ◌^◌, reverse, subst, take, [], arith, AreMoves}
 use Rattle.cns_account.proofs.Folded.{settled_more}
 use Rattle.cns_account.proofs.Walked.{entries_end, entry_more}
 use Rattle.cns_account.proofs.day_moves.settled.Goals as goal

@@ -1,5 +1,4 @@
-use Rattle.std.proofs.Common.{◌-◌, reverse, take, []}
-use Rattle.cns_account.specs.Moves.{AreMoves}
+use Rattle.cns_account.proofs.Common.{◌-◌, reverse, take, [], AreMoves}
 use Rattle.cns_account.proofs.day_moves.settled.Given as goal
 
 abbrev pub invariant-loop-place : goal.invariant-loop-place

@@ -1,6 +1,4 @@
-use Rattle.std.proofs.Common.{sym}
-use Rattle.cns_book.specs.Log.{state_of}
-use Rattle.cns_account.specs.Dividends.{paid_in}
+use Rattle.cns_account.proofs.Common.{sym, state_of, paid_in}
 use Rattle.cns_account.proofs.Gathered.{added_more}
 use Rattle.cns_account.proofs.dividends.add_paid.Goals as goal
 

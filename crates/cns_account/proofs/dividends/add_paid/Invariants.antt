@@ -1,6 +1,4 @@
-use Rattle.std.proofs.Common.{◌≡◌, ◌++◌, filter_map, take}
-use Rattle.cns_book.specs.Log.{state_of}
-use Rattle.cns_account.specs.Dividends.{paid_in}
+use Rattle.cns_account.proofs.Common.{◌≡◌, ◌++◌, filter_map, take, state_of, paid_in}
 use Rattle.cns_account.proofs.dividends.add_paid.Given as goal
 
 abbrev pub invariant-loop-declared : goal.invariant-loop-declared

@@ -1,7 +1,5 @@
-use Rattle.std.proofs.Common.{◌≡◌}
+use Rattle.cns_account.proofs.Common.{◌≡◌, fold, less_cash}
 use Rattle.std.specs.Prelude.{pos}
-use Rattle.std.specs.List.{fold}
-use Rattle.cns_account.specs.Dividends.{less_cash}
 use Rattle.cns_account.proofs.dividends.against_members.Given as goal
 
 abbrev pub invariant-loop-row : goal.invariant-loop-row

@@ -1,4 +1,4 @@
-use Rattle.std.proofs.Common.{refl}
+use Rattle.cns_account.proofs.Common.{refl}
 use Rattle.cns_history.proofs.Owned.{all_above}
 use Rattle.cns_account.proofs.dividends.dividends_of.Goals as goal
 

@@ -1,9 +1,5 @@
-use Rattle.std.proofs.Common.{◌≡◌, ◌++◌, List, filter_map, length}
+use Rattle.cns_account.proofs.Common.{◌≡◌, ◌++◌, List, filter_map, length, Cusip, Price, state_of, prices_above, due_on, paid_in}
 use Rattle.std.specs.List.{flat_map}
-use Rattle.cns_terms.specs.Common.{Cusip, Price}
-use Rattle.cns_book.specs.Log.{state_of}
-use Rattle.cns_sheets.specs.Search.{prices_above}
-use Rattle.cns_account.specs.Dividends.{due_on, paid_in}
 use Rattle.cns_account.specs.declared.dividends.PaidDividend.{PaidDividend}
 use Rattle.cns_account.proofs.dividends.dividends_of.Given as goal
 

@@ -1,4 +1,4 @@
-use Rattle.std.proofs.Common.{rules, ◌∙◌, ap, filter}
+use Rattle.cns_account.proofs.Common.{rules, ◌∙◌, ap, filter}
 use Rattle.std.proofs.lemmas.Fn.{filter_same}
 use Rattle.cns_terms.specs.Dividends.{is_due}
 use Rattle.cns_account.proofs.dividends.due_on.Goals as goal

@@ -1,5 +1,4 @@
-use Rattle.std.proofs.Common.{◌≡◌, take}
-use Rattle.cns_account.specs.Dividends.{last_by}
+use Rattle.cns_account.proofs.Common.{◌≡◌, take, last_by}
 use Rattle.cns_account.proofs.dividends.last_by.Given as goal
 
 abbrev pub invariant-loop-day : goal.invariant-loop-day

@@ -1,5 +1,4 @@
-use Rattle.std.proofs.Common.{◌≡◌, take}
-use Rattle.cns_account.specs.Fails.{is_among}
+use Rattle.cns_account.proofs.Common.{◌≡◌, take, is_among}
 use Rattle.cns_account.proofs.fails.is_among.Given as goal
 
 abbrev pub invariant-loop-other : goal.invariant-loop-other

@@ -1,5 +1,4 @@
-use Rattle.std.proofs.Common.{◌≡◌, take}
-use Rattle.cns_account.specs.Fails.{issues_behind}
+use Rattle.cns_account.proofs.Common.{◌≡◌, take, issues_behind}
 use Rattle.cns_account.proofs.fails.issues_behind.Given as goal
 
 abbrev pub invariant-loop-exchange : goal.invariant-loop-exchange

@@ -1,6 +1,4 @@
-use Rattle.std.proofs.Common.{◌≡◌, take}
-use Rattle.cns_book.specs.Log.{state_of}
-use Rattle.cns_account.specs.Fails.{price_change}
+use Rattle.cns_account.proofs.Common.{◌≡◌, take, state_of, price_change}
 use Rattle.cns_account.proofs.fails.price_change.Given as goal
 
 abbrev pub invariant-loop-day : goal.invariant-loop-day

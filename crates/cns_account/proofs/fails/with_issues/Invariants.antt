@@ -1,6 +1,4 @@
-use Rattle.std.proofs.Common.{◌≡◌, take}
-use Rattle.std.specs.List.{fold}
-use Rattle.cns_account.specs.Fails.{with_issue}
+use Rattle.cns_account.proofs.Common.{◌≡◌, take, fold, with_issue}
 use Rattle.cns_account.proofs.fails.with_issues.Given as goal
 
 abbrev pub invariant-loop-issue : goal.invariant-loop-issue

@@ -1,5 +1,4 @@
-use Rattle.std.proofs.Common.{◌≡◌, map, take}
-use Rattle.cns_account.specs.Rows.{mark_row}
+use Rattle.cns_account.proofs.Common.{◌≡◌, map, take, mark_row}
 use Rattle.cns_account.proofs.mark.marks_of.Given as goal
 
 abbrev pub invariant-loop-row : goal.invariant-loop-row

@@ -1,5 +1,4 @@
-use Rattle.std.proofs.Common.{rules}
-use Rattle.std.proofs.lemmas.Int.{wraps}
+use Rattle.cns_account.proofs.Common.{rules, wraps}
 use Rattle.cns_account.proofs.moves.wrapped_shares.Goals as goal
 
 pub returns : goal.returns

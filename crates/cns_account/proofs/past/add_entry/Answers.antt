@@ -1,4 +1,4 @@
-use Rattle.cns_account.specs.Past.{closed_by, dividend_of, exchange_of}
+use Rattle.cns_account.proofs.Common.{closed_by, dividend_of, exchange_of}
 use Rattle.cns_account.proofs.Gathered.{told_more}
 use Rattle.cns_account.proofs.past.add_entry.Goals as goal
 

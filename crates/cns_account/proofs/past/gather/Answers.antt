@@ -1,5 +1,4 @@
-use Rattle.std.proofs.Common.{◌≡◌, ◌∙◌, sym, ◌-◌, ◌^◌, reverse, subst, take, arith}
-use Rattle.cns_account.specs.Past.{IsGathered}
+use Rattle.cns_account.proofs.Common.{◌≡◌, ◌∙◌, sym, ◌-◌, ◌^◌, reverse, subst, take, arith, IsGathered}
 use Rattle.cns_account.proofs.Walked.{entries_end, entry_more}
 use Rattle.cns_account.proofs.past.gather.Goals as goal
 

@@ -1,5 +1,4 @@
-use Rattle.std.proofs.Common.{◌-◌, reverse, take}
-use Rattle.cns_account.specs.Past.{IsGathered}
+use Rattle.cns_account.proofs.Common.{◌-◌, reverse, take, IsGathered}
 use Rattle.cns_account.proofs.past.gather.Given as goal
 
 abbrev pub invariant-loop-place : goal.invariant-loop-place

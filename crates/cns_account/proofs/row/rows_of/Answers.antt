@@ -1,5 +1,4 @@
-use Rattle.cns_book.specs.Log.{state_of}
-use Rattle.cns_account.specs.Rows.{account_row}
+use Rattle.cns_account.proofs.Common.{state_of, account_row}
 use Rattle.cns_account.proofs.Gathered.{made_all, made_more}
 use Rattle.cns_account.proofs.row.rows_of.Goals as goal
 

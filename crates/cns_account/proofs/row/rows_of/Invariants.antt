@@ -1,7 +1,5 @@
-use Rattle.std.proofs.Common.{◌≡◌, ◌++◌, map}
+use Rattle.cns_account.proofs.Common.{◌≡◌, ◌++◌, map, state_of, account_row}
 use Rattle.cns_terms.specs.Sheets.{rows_for}
-use Rattle.cns_book.specs.Log.{state_of}
-use Rattle.cns_account.specs.Rows.{account_row}
 use Rattle.cns_account.proofs.row.rows_of.Given as goal
 
 abbrev pub invariant-loop-row : goal.invariant-loop-row

@@ -1,5 +1,4 @@
-use Rattle.std.proofs.Common.{◌≡◌, take}
-use Rattle.cns_account.specs.Rows.{totals_of}
+use Rattle.cns_account.proofs.Common.{◌≡◌, take, totals_of}
 use Rattle.cns_account.proofs.totals.totals_of.Given as goal
 
 abbrev pub invariant-loop-row : goal.invariant-loop-row

@@ -1,5 +1,4 @@
-use Rattle.std.proofs.Common.{◌≡◌, ◌∙◌, ◌++◌, refl, unsigned_abs, ◌≤◌}
-use Rattle.cns_actions.proofs.Common.{bookings_for, corporation, has_position_or_age, holding_at, oldest_of, opposite, position_limit}
+use Rattle.cns_actions.proofs.Common.{◌≡◌, ◌∙◌, ◌++◌, refl, unsigned_abs, ◌≤◌, bookings_for, corporation, has_position_or_age, holding_at, oldest_of, opposite, position_limit}
 use Rattle.cns_actions.proofs.BookingOrder.{bookings_next, small_bookings}
 use Rattle.cns_actions.proofs.ByAccount.{each_listed, place}
 use Rattle.cns_actions.proofs.Skipping.{all_left}

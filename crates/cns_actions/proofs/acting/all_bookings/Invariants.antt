@@ -1,5 +1,4 @@
-use Rattle.std.proofs.Common.{◌≡◌, ◌≤◌, ◌++◌, None, length, unsigned_abs, flat_map}
-use Rattle.cns_actions.proofs.Common.{AllByRecursion, AreSmall, all_bookings, corporation, has_position_or_age, held_above, holders_after, holders_in, holding_at, member_bookings, oldest_of, position_limit}
+use Rattle.cns_actions.proofs.Common.{◌≡◌, ◌≤◌, ◌++◌, None, length, unsigned_abs, flat_map, AllByRecursion, AreSmall, all_bookings, corporation, has_position_or_age, held_above, holders_after, holders_in, holding_at, member_bookings, oldest_of, position_limit}
 use Rattle.cns_actions.proofs.acting.all_bookings.Given as goal
 
 abbrev pub invariant-loop-holder : goal.invariant-loop-holder

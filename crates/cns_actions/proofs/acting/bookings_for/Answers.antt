@@ -1,6 +1,4 @@
-use Rattle.std.proofs.Common.{◌∙◌, sym, ap, refl, Err}
-use Rattle.cns_terms.proofs.Common.{err_from_is_err_and}
-use Rattle.cns_actions.proofs.Common.{all_holders_of, holding_at}
+use Rattle.cns_actions.proofs.Common.{◌∙◌, sym, ap, refl, Err, err_from_is_err_and, all_holders_of, holding_at}
 use Rattle.cns_actions.proofs.BookingOrder.{all_in_issues, all_sorted}
 use Rattle.cns_actions.proofs.BookingLimits.{same_large}
 use Rattle.cns_actions.proofs.BookingSums.{same_makes}

@@ -1,5 +1,4 @@
-use Rattle.std.proofs.Common.{◌∙◌, ap, subst, sym, None}
-use Rattle.cns_actions.proofs.Common.{held_above, holders_of, issue_of, takes_beyond, with_position}
+use Rattle.cns_actions.proofs.Common.{◌∙◌, ap, subst, sym, None, held_above, holders_of, issue_of, takes_beyond, with_position}
 use Rattle.cns_actions.proofs.BookingSums.{positions_kept}
 use Rattle.cns_actions.proofs.Skipping.{all_left}
 use Rattle.cns_actions.proofs.Summing.{AddsUp, first_adds, next_adds, next_passes, next_within}

@@ -1,5 +1,4 @@
-use Rattle.std.proofs.Common.{length}
-use Rattle.cns_actions.proofs.Common.{holders_after, holders_of, takes_beyond, with_position}
+use Rattle.cns_actions.proofs.Common.{length, holders_after, holders_of, takes_beyond, with_position}
 use Rattle.cns_actions.proofs.Summing.{AddsUp}
 use Rattle.cns_actions.proofs.acting.sum_of.Given as goal
 

@@ -1,6 +1,4 @@
-use Rattle.std.proofs.Common.{◌∙◌}
-use Rattle.std.proofs.lemmas.Result.{IfOk-weaker}
-use Rattle.cns_actions.proofs.Common.{held_same, held_sorted}
+use Rattle.cns_actions.proofs.Common.{◌∙◌, IfOk-weaker, held_same, held_sorted}
 use Rattle.cns_actions.proofs.beside.copied.Goals as goal
 
 pub rebuilt-requires : goal.rebuilt-requires

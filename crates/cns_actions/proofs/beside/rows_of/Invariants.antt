@@ -1,5 +1,4 @@
-use Rattle.std.proofs.Common.{◌≡◌, ◌++◌, None, length}
-use Rattle.cns_actions.proofs.Common.{held_above}
+use Rattle.cns_actions.proofs.Common.{◌≡◌, ◌++◌, None, length, held_above}
 use Rattle.cns_actions.proofs.beside.rows_of.Given as goal
 
 abbrev pub invariant-loop-row : goal.invariant-loop-row

@@ -1,5 +1,4 @@
-use Rattle.std.proofs.Common.{◌∙◌, ◌+◌, drop, sym}
-use Rattle.cns_actions.proofs.Common.{holding_at}
+use Rattle.cns_actions.proofs.Common.{◌∙◌, ◌+◌, drop, sym, holding_at}
 use Rattle.cns_actions.proofs.Making.{left_first, makes_first, next_ready}
 use Rattle.cns_actions.proofs.bookings.book_all.Goals as goal
 

@@ -1,5 +1,4 @@
-use Rattle.std.proofs.Common.{◌≡◌, drop}
-use Rattle.cns_actions.proofs.Common.{Key, has_row, holding_at, makes}
+use Rattle.cns_actions.proofs.Common.{◌≡◌, drop, Key, has_row, holding_at, makes}
 use Rattle.cns_actions.proofs.Making.{AreReady}
 use Rattle.cns_actions.proofs.bookings.book_all.Given as goal
 

@@ -1,6 +1,4 @@
-use Rattle.std.proofs.Common.{◌≡◌, ◌∙◌, subst, take, take_all, true}
-use Rattle.std.proofs.lemmas.List.Elements.{All-more, All-weaker, recursion_from_All}
-use Rattle.cns_actions.proofs.Common.{Booking, has_row, key_of}
+use Rattle.cns_actions.proofs.Common.{◌≡◌, ◌∙◌, subst, take, take_all, true, All-more, All-weaker, recursion_from_All, Booking, has_row, key_of}
 use Rattle.cns_actions.proofs.Making.{elsewhere_at, others_stay}
 use Rattle.cns_actions.proofs.bookings.enter_all.Goals as goal
 

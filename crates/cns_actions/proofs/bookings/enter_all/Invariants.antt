@@ -1,6 +1,4 @@
-use Rattle.std.proofs.Common.{◌≡◌, take, true}
-use Rattle.std.specs.Prelude.{All}
-use Rattle.cns_actions.proofs.Common.{AreElsewhere, Key, has_row, holding_at, key_of}
+use Rattle.cns_actions.proofs.Common.{◌≡◌, take, true, All, AreElsewhere, Key, has_row, holding_at, key_of}
 use Rattle.cns_actions.proofs.bookings.enter_all.Given as goal
 
 abbrev pub invariant-loop-booking : goal.invariant-loop-booking

@@ -1,5 +1,4 @@
-use Rattle.std.proofs.Common.{◌≡◌, ◌∙◌, ap, pos, ◌*ℤ◌, ◌-ℤ◌, int_div, rules, w64}
-use Rattle.std.proofs.lemmas.Int.{rem_is}
+use Rattle.cns_actions.proofs.Common.{◌≡◌, ◌∙◌, ap, pos, ◌*ℤ◌, ◌-ℤ◌, int_div, rules, w64, rem_is}
 use Rattle.cns_terms.proofs.Quotients.{rest_of}
 use Rattle.cns_actions.proofs.conversion.fraction.Goals as goal
 

@@ -1,5 +1,4 @@
-use Rattle.cns_actions.proofs.Common.{AreElsewhere}
-use Rattle.std.proofs.Common.{sym, subst}
+use Rattle.cns_actions.proofs.Common.{AreElsewhere, sym, subst}
 use Rattle.cns_actions.proofs.due_bookings.bookings_due.Goals as goal
 
 pub returns-clause-others : goal.returns-clause-others

@@ -1,6 +1,5 @@
-use Rattle.std.proofs.Common.{arith}
+use Rattle.cns_actions.proofs.Common.{arith, IfOk-weaker}
 use Rattle.std.proofs.lemmas.Grind.{common_steps}
-use Rattle.std.proofs.lemmas.Result.{IfOk-weaker}
 use Rattle.cns_actions.proofs.DueAmounts.{amounts_elsewhere, amounts_small, bookings_make, sorted_bookings}
 use Rattle.cns_actions.proofs.due_bookings.listed.Goals as goal
 

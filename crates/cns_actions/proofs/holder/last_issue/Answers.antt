@@ -1,4 +1,4 @@
-use Rattle.std.proofs.Common.{rules}
+use Rattle.cns_actions.proofs.Common.{rules}
 use Rattle.cns_units.specs.Cusip.{sum_of}
 use Rattle.cns_actions.proofs.holder.last_issue.Goals as goal
 

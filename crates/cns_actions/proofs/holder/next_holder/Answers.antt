@@ -1,5 +1,4 @@
-use Rattle.std.proofs.Common.{◌∙◌, Some, ap, sym}
-use Rattle.cns_actions.proofs.Common.{cons_option, holders_after}
+use Rattle.cns_actions.proofs.Common.{◌∙◌, Some, ap, sym, cons_option, holders_after}
 use Rattle.cns_actions.proofs.Skipping.{fewer_above, next_left, none_left, same_left}
 use Rattle.cns_actions.proofs.holder.next_holder.Goals as goal
 

@@ -1,5 +1,4 @@
-use Rattle.std.proofs.Common.{◌≡◌, length}
-use Rattle.cns_actions.proofs.Common.{held_above, holders_after}
+use Rattle.cns_actions.proofs.Common.{◌≡◌, length, held_above, holders_after}
 use Rattle.cns_actions.proofs.holder.next_holder.Given as goal
 
 abbrev pub invariant-loop-row : goal.invariant-loop-row

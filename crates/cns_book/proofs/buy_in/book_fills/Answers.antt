@@ -1,4 +1,4 @@
-use Rattle.std.proofs.Common.{◌∙◌}
+use Rattle.cns_book.proofs.Common.{◌∙◌}
 use Rattle.cns_book.proofs.BuyInEntries.{next_booked, next_can}
 use Rattle.cns_book.proofs.buy_in.book_fills.Goals as goal
 

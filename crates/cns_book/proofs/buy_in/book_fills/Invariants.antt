@@ -1,5 +1,4 @@
-use Rattle.std.proofs.Common.{◌≡◌, take}
-use Rattle.cns_book.proofs.Common.{Key, books, entries_by, has_row, holding_at}
+use Rattle.cns_book.proofs.Common.{◌≡◌, take, Key, books, entries_by, has_row, holding_at}
 use Rattle.cns_book.proofs.buy_in.book_fills.Given as goal
 
 abbrev pub invariant-loop-fill : goal.invariant-loop-fill

@@ -1,11 +1,7 @@
-use Rattle.std.proofs.Common.{◌∙◌, ◌^◌, ◌≤◌, sym, ap, subst, unsigned_abs, take_all, arith}
-use Rattle.cns_book.proofs.Common.{Holding, IsSmallEntry, books, holding_at}
-use Rattle.cns_positions.specs.Rows.{booked}
-use Rattle.cns_book.specs.Effects.{place_of}
+use Rattle.cns_book.proofs.Common.{◌∙◌, ◌^◌, ◌≤◌, sym, ap, subst, unsigned_abs, take_all, arith, Holding, IsSmallEntry, books, holding_at, booked, place_of, All-from_recursion}
 use Rattle.cns_book.proofs.EffectEntries.{books_step, cents_fit, place_there, shares_fit}
 use Rattle.cns_book.proofs.EffectPlaces.{books_none}
 use Rattle.cns_book.proofs.effect.book.Goals as goal
-use Rattle.std.proofs.lemmas.List.Elements.{All-from_recursion}
 
 pub loop-entry-init : goal.loop-entry-init
 loop-entry-init g c = grind (arith, books_none)

@@ -1,5 +1,4 @@
-use Rattle.std.proofs.Common.{◌≡◌, take}
-use Rattle.cns_book.proofs.Common.{Key, books, has_row, holding_at}
+use Rattle.cns_book.proofs.Common.{◌≡◌, take, Key, books, has_row, holding_at}
 use Rattle.cns_book.proofs.effect.book.Given as goal
 
 abbrev pub invariant-loop-entry : goal.invariant-loop-entry

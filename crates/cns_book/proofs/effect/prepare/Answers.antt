@@ -1,5 +1,4 @@
-use Rattle.std.proofs.Common.{List, Contains, subst, arith}
-use Rattle.cns_book.proofs.Common.{Key}
+use Rattle.cns_book.proofs.Common.{List, Contains, subst, arith, Key}
 use Rattle.cns_actions.proofs.Making.{others_stay}
 use Rattle.cns_book.proofs.EffectEntries.{both_places, each_there}
 use Rattle.cns_book.proofs.effect.prepare.Goals as goal

@@ -1,4 +1,4 @@
-use Rattle.std.proofs.Common.{◌≡◌, ◌∙◌, [], ◌∷◌, length, length-append, arith}
+use Rattle.cns_book.proofs.Common.{◌≡◌, ◌∙◌, [], ◌∷◌, length, length-append, arith}
 use Rattle.cns_book.proofs.Replies.{longer, newest}
 use Rattle.cns_book.proofs.history.add_reply.Goals as goal
 

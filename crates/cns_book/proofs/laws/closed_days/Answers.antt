@@ -1,4 +1,4 @@
-use Rattle.cns_terms.proofs.ClosedDays.{closed_days}
+use Rattle.cns_book.proofs.Common.{closed_days}
 use Rattle.cns_book.proofs.laws.closed_days.Goals as goal
 
 pub returns : goal.returns

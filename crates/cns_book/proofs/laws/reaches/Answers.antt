@@ -1,4 +1,4 @@
-use Rattle.cns_terms.proofs.Reached.{reaches}
+use Rattle.cns_book.proofs.Common.{reaches}
 use Rattle.cns_book.proofs.laws.reaches.Goals as goal
 
 pub returns : goal.returns

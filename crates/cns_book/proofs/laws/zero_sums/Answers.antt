@@ -1,4 +1,4 @@
-use Rattle.cns_terms.proofs.SheetSums.{zero_sums}
+use Rattle.cns_book.proofs.Common.{zero_sums}
 use Rattle.cns_book.proofs.laws.zero_sums.Goals as goal
 
 pub returns : goal.returns

@@ -1,6 +1,4 @@
-use Rattle.std.proofs.Common.{◌≡◌, ◌∙◌, ap, sym, filter, arith}
-use Rattle.cns_book.specs.Log.{state_of}
-use Rattle.cns_history.specs.Lines.{has_position, numbers}
+use Rattle.cns_history.proofs.Common.{◌≡◌, ◌∙◌, ap, sym, filter, arith, state_of, has_position, numbers}
 use Rattle.cns_history.proofs.Owned.{account_is, no_numbers, number_in, number_out}
 use Rattle.cns_history.proofs.accounts.accounts_in.Goals as goal
 

@@ -1,6 +1,4 @@
-use Rattle.std.proofs.Common.{◌≡◌, filter}
-use Rattle.cns_book.specs.Log.{state_of}
-use Rattle.cns_history.specs.Lines.{has_position, numbers}
+use Rattle.cns_history.proofs.Common.{◌≡◌, filter, state_of, has_position, numbers}
 use Rattle.cns_history.proofs.accounts.accounts_in.Given as goal
 
 abbrev pub invariant-loop-number : goal.invariant-loop-number

@@ -1,5 +1,4 @@
-use Rattle.std.proofs.Common.{◌≡◌, filter, take}
-use Rattle.cns_history.specs.Lines.{is_line_of}
+use Rattle.cns_history.proofs.Common.{◌≡◌, filter, take, is_line_of}
 use Rattle.cns_history.proofs.booked.lines_for.Given as goal
 
 abbrev pub invariant-loop-line : goal.invariant-loop-line

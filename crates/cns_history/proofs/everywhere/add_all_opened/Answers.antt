@@ -1,6 +1,4 @@
-use Rattle.std.proofs.Common.{sym, map}
-use Rattle.cns_book.specs.Log.{state_of}
-use Rattle.cns_history.specs.Lines.{booked_since, opened_since, place}
+use Rattle.cns_history.proofs.Common.{sym, map, state_of, booked_since, opened_since, place}
 use Rattle.cns_history.proofs.Owned.{given_each}
 use Rattle.cns_history.proofs.everywhere.add_all_opened.Goals as goal
 

@@ -1,7 +1,4 @@
-use Rattle.std.proofs.Common.{◌≡◌, ◌++◌, filter_map, map, take}
-use Rattle.std.specs.List.{flat_map}
-use Rattle.cns_book.specs.Log.{state_of}
-use Rattle.cns_history.specs.Lines.{booked_since, opened_since, place}
+use Rattle.cns_history.proofs.Common.{◌≡◌, ◌++◌, filter_map, map, take, flat_map, state_of, booked_since, opened_since, place}
 use Rattle.cns_history.proofs.everywhere.add_all_opened.Given as goal
 
 abbrev pub invariant-loop-account : goal.invariant-loop-account

@@ -1,4 +1,4 @@
-use Rattle.std.proofs.Common.{refl}
+use Rattle.cns_history.proofs.Common.{refl}
 use Rattle.cns_history.proofs.Owned.{all_above}
 use Rattle.cns_history.proofs.everywhere.add_each_opened.Goals as goal
 

@@ -1,9 +1,4 @@
-use Rattle.std.proofs.Common.{◌≡◌, ◌++◌, length, filter_map, map, Option}
-use Rattle.cns_terms.specs.declared.holding.Key.{Key}
-use Rattle.cns_book.specs.Log.{state_of}
-use Rattle.cns_sheets.specs.Search.{prices_above}
-use Rattle.cns_history.specs.Lines.{booked_since, opened_since, place}
-use Rattle.cns_history.specs.declared.line.HistoryLine.{HistoryLine}
+use Rattle.cns_history.proofs.Common.{◌≡◌, ◌++◌, length, filter_map, map, Option, Key, state_of, prices_above, booked_since, opened_since, place, HistoryLine}
 use Rattle.cns_history.proofs.everywhere.add_each_opened.Given as goal
 
 abbrev pub invariant-loop-issue : goal.invariant-loop-issue

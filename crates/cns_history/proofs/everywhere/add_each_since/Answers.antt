@@ -1,6 +1,4 @@
-use Rattle.std.proofs.Common.{sym}
-use Rattle.cns_book.specs.Log.{state_of}
-use Rattle.cns_history.specs.Lines.{booked_since}
+use Rattle.cns_history.proofs.Common.{sym, state_of, booked_since}
 use Rattle.cns_history.proofs.Owned.{given_more}
 use Rattle.cns_history.proofs.everywhere.add_each_since.Goals as goal
 

@@ -1,6 +1,4 @@
-use Rattle.std.proofs.Common.{◌≡◌, ◌++◌, filter_map, take}
-use Rattle.cns_book.specs.Log.{state_of}
-use Rattle.cns_history.specs.Lines.{booked_since}
+use Rattle.cns_history.proofs.Common.{◌≡◌, ◌++◌, filter_map, take, state_of, booked_since}
 use Rattle.cns_history.proofs.everywhere.add_each_since.Given as goal
 
 abbrev pub invariant-loop-stood : goal.invariant-loop-stood

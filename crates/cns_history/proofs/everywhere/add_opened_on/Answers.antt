@@ -1,4 +1,4 @@
-use Rattle.cns_book.specs.Log.{state_of}
+use Rattle.cns_history.proofs.Common.{state_of}
 use Rattle.cns_history.proofs.Owned.{none_opened}
 use Rattle.cns_history.proofs.everywhere.add_opened_on.Goals as goal
 

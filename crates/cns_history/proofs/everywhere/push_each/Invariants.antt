@@ -1,8 +1,4 @@
-use Rattle.std.proofs.Common.{◌≡◌, ◌++◌, All, map, take}
-use Rattle.std.specs.List.{flat_map}
-use Rattle.cns_book.specs.Log.{state_of}
-use Rattle.cns_history.specs.Lines.{place, stood}
-use Rattle.cns_history.specs.Small.{IsSmall}
+use Rattle.cns_history.proofs.Common.{◌≡◌, ◌++◌, All, map, take, flat_map, state_of, place, stood, IsSmall}
 use Rattle.cns_history.proofs.everywhere.push_each.Given as goal
 
 abbrev pub invariant-loop-account : goal.invariant-loop-account

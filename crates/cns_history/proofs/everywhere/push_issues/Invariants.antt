@@ -1,7 +1,4 @@
-use Rattle.std.proofs.Common.{◌≡◌, ◌++◌, All, map, take}
-use Rattle.cns_book.specs.Log.{state_of}
-use Rattle.cns_history.specs.Lines.{place, stood}
-use Rattle.cns_history.specs.Small.{IsSmall}
+use Rattle.cns_history.proofs.Common.{◌≡◌, ◌++◌, All, map, take, state_of, place, stood, IsSmall}
 use Rattle.cns_history.proofs.everywhere.push_issues.Given as goal
 
 abbrev pub invariant-loop-issue : goal.invariant-loop-issue

@@ -1,4 +1,4 @@
-use Rattle.cns_tables.proofs.Written.{after}
+use Rattle.cns_history.proofs.Common.{after}
 use Rattle.cns_history.specs.Page.{foot_text}
 use Rattle.cns_history.proofs.history.write_foot.Goals as goal
 

@@ -1,4 +1,4 @@
-use Rattle.cns_tables.proofs.Written.{after}
+use Rattle.cns_history.proofs.Common.{after}
 use Rattle.cns_history.proofs.line.write_closing.Goals as goal
 
 pub returns : goal.returns

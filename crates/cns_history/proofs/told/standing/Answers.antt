@@ -1,5 +1,4 @@
-use Rattle.std.proofs.Common.{refl}
-use Rattle.cns_book.specs.Log.{state_of}
+use Rattle.cns_history.proofs.Common.{refl, state_of}
 use Rattle.cns_history.proofs.Limits.{standing_small}
 use Rattle.cns_history.proofs.told.standing.Goals as goal
 

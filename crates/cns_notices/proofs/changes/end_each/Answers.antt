@@ -1,4 +1,4 @@
-use Rattle.std.proofs.Common.{arith, length-set}
+use Rattle.cns_notices.proofs.Common.{arith, length-set}
 use Rattle.cns_notices.proofs.Led.{set_is}
 use Rattle.cns_notices.proofs.changes.end_each.Goals as goal
 

@@ -1,5 +1,4 @@
-use Rattle.std.proofs.Common.{◌≡◌, ◌<◌, ◌≤◌, length}
-use Rattle.cns_notices.proofs.Common.{AllByRecursion, ended_each}
+use Rattle.cns_notices.proofs.Common.{◌≡◌, ◌<◌, ◌≤◌, length, AllByRecursion, ended_each}
 use Rattle.cns_notices.proofs.changes.end_each.Given as goal
 
 abbrev pub invariant-loop-number : goal.invariant-loop-number

@@ -1,5 +1,4 @@
-use Rattle.std.proofs.Common.{arith}
-use Rattle.cns_notices.proofs.Common.{Expired, brought_to}
+use Rattle.cns_notices.proofs.Common.{arith, Expired, brought_to}
 use Rattle.std.proofs.lemmas.List.Edits.{map_over_more}
 use Rattle.cns_notices.proofs.changes.expire_each.Goals as goal
 

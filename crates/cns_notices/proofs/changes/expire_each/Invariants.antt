@@ -1,5 +1,4 @@
-use Rattle.std.proofs.Common.{◌≡◌, take, drop, map, ◌++◌}
-use Rattle.cns_notices.proofs.Common.{Expired, brought_to}
+use Rattle.cns_notices.proofs.Common.{◌≡◌, take, drop, map, ◌++◌, Expired, brought_to}
 use Rattle.cns_notices.proofs.changes.expire_each.Given as goal
 
 abbrev pub invariant-loop-noticed : goal.invariant-loop-noticed

@@ -1,6 +1,4 @@
-use Rattle.std.proofs.Common.{ltb, leb, rules}
-use Rattle.cns_notices.proofs.Common.{IsPartitionPoint-from_clause, Noticed}
-use Rattle.std.proofs.lemmas.List.Sorted.{IsPartitionedBy-leb, IsPartitionedBy-ltb}
+use Rattle.cns_notices.proofs.Common.{ltb, leb, rules, IsPartitionPoint-from_clause, Noticed, IsPartitionedBy-leb, IsPartitionedBy-ltb}
 use Rattle.cns_notices.proofs.Expires.{in_order}
 use Rattle.cns_notices.proofs.changes.span.Goals as goal
 

@@ -1,5 +1,4 @@
-use Rattle.std.proofs.Common.{◌≡◌, filter, map, take}
-use Rattle.cns_page.specs.Account.{cited, names}
+use Rattle.cns_page.proofs.Common.{◌≡◌, filter, map, take, cited, names}
 use Rattle.cns_page.proofs.account.own_exceptions.Given as goal
 
 abbrev pub invariant-loop-finding : goal.invariant-loop-finding

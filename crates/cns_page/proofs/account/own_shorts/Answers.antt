@@ -1,5 +1,4 @@
-use Rattle.std.proofs.Common.{rules, ◌==◌, ◌∙◌, ap, filter}
-use Rattle.std.proofs.lemmas.Fn.{filter_same}
+use Rattle.cns_page.proofs.Common.{rules, ◌==◌, ◌∙◌, ap, filter, filter_same}
 use Rattle.cns_page.proofs.account.own_shorts.Goals as goal
 
 pub returns : goal.returns

@@ -1,5 +1,4 @@
-use Rattle.std.proofs.Common.{◌≡◌, ◌++◌}
-use Rattle.cns_page.specs.Accounts.{lines_after, sheet_lines}
+use Rattle.cns_page.proofs.Common.{◌≡◌, ◌++◌, lines_after, sheet_lines}
 use Rattle.cns_page.proofs.accounts.lines_of.Given as goal
 
 abbrev pub invariant-loop-row : goal.invariant-loop-row

@@ -1,5 +1,4 @@
-use Rattle.std.proofs.Common.{ap, ◌∙◌}
-use Rattle.clap.specs.Words.{is_simple, is_simple_and_free}
+use Rattle.cns_page.proofs.Common.{ap, ◌∙◌, is_simple, is_simple_and_free}
 use Rattle.cns_page.proofs.CommandLine.{line_is_free, line_is_simple}
 use Rattle.cns_page.proofs.asked.matches_in.Goals as goal
 

@@ -1,5 +1,4 @@
-use Rattle.std.proofs.Common.{◌≡◌, ◌-◌, ◌^◌, min, take}
-use Rattle.std.specs.Prelude.{sum_by}
+use Rattle.cns_page.proofs.Common.{◌≡◌, ◌-◌, ◌^◌, min, take, sum_by}
 use Rattle.cns_page.proofs.contents.sum_of.Given as goal
 
 abbrev pub invariant-loop-count : goal.invariant-loop-count

@@ -1,6 +1,4 @@
-use Rattle.std.proofs.Common.{◌≡◌, ◌++◌, length, map}
-use Rattle.cns_book.specs.Log.{state_of}
-use Rattle.cns_page.specs.Due.{due_at}
+use Rattle.cns_page.proofs.Common.{◌≡◌, ◌++◌, length, map, state_of, due_at}
 use Rattle.cns_page.proofs.due.all_due.Given as goal
 
 abbrev pub invariant-loop-key : goal.invariant-loop-key

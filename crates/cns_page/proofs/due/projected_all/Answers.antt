@@ -1,5 +1,4 @@
-use Rattle.std.proofs.Common.{refl}
-use Rattle.cns_history.proofs.Owned.{all_above}
+use Rattle.cns_page.proofs.Common.{refl, all_above}
 use Rattle.cns_page.proofs.due.projected_all.Goals as goal
 
 pub loop-issue-init : goal.loop-issue-init

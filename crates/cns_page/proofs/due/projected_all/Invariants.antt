@@ -1,7 +1,5 @@
-use Rattle.std.proofs.Common.{◌≡◌, ◌++◌, length}
-use Rattle.cns_book.specs.Log.{state_of}
+use Rattle.cns_page.proofs.Common.{◌≡◌, ◌++◌, length, state_of, projected_all}
 use Rattle.cns_sheets.specs.Search.{prices_above}
-use Rattle.cns_page.specs.Due.{projected_all}
 use Rattle.cns_page.proofs.due.projected_all.Given as goal
 
 abbrev pub invariant-loop-issue : goal.invariant-loop-issue

@@ -1,5 +1,5 @@
+use Rattle.cns_page.proofs.Common.{fact_text}
 use Rattle.cns_units.proofs.Parts.{parts_more}
-use Rattle.cns_page.specs.Exceptions.{fact_text}
 use Rattle.cns_page.proofs.exceptions.write_facts.Goals as goal
 
 pub loop-fact-preserved : goal.loop-fact-preserved

@@ -1,7 +1,5 @@
-use Rattle.std.proofs.Common.{◌≡◌, ℕ, List, ◌++◌, drop}
-use Rattle.std.specs.List.{flat_map}
+use Rattle.cns_page.proofs.Common.{◌≡◌, ℕ, List, ◌++◌, drop, flat_map, fact_text}
 use Rattle.std.specs.Io.KnownBytes.{Appends}
-use Rattle.cns_page.specs.Exceptions.{fact_text}
 use Rattle.cns_page.proofs.exceptions.write_facts.Given as goal
 
 abbrev pub invariant-loop-fact : goal.invariant-loop-fact

@@ -1,4 +1,4 @@
-use Rattle.std.proofs.Common.{Some, ap, refl}
+use Rattle.cns_page.proofs.Common.{Some, ap, refl}
 use Rattle.cns_page.proofs.facts.facts_of.Goals as goal
 
 pub returns-clause-today : goal.returns-clause-today

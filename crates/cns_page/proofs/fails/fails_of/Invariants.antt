@@ -1,5 +1,4 @@
-use Rattle.std.proofs.Common.{◌≡◌, map, take}
-use Rattle.cns_book.specs.Log.{state_of}
+use Rattle.cns_page.proofs.Common.{◌≡◌, map, take, state_of}
 use Rattle.cns_page.specs.Fails.{fail_at}
 use Rattle.cns_page.proofs.fails.fails_of.Given as goal
 

@@ -1,7 +1,5 @@
-use Rattle.std.proofs.Common.{◌∙◌, sym, ap, option_map}
+use Rattle.cns_page.proofs.Common.{◌∙◌, sym, ap, option_map, option_copied, state_of}
 use Rattle.std.specs.Arc.{arc_value}
-use Rattle.std.specs.Option.{option_copied}
-use Rattle.cns_book.specs.Log.{state_of}
 use Rattle.cns_page.proofs.Lined.{line_added, line_passed}
 use Rattle.cns_page.proofs.figures.line_of_days.Goals as goal
 

@@ -1,6 +1,4 @@
-use Rattle.std.proofs.Common.{◌≡◌, take}
-use Rattle.cns_book.specs.Log.{state_of}
-use Rattle.cns_page.specs.Listed.{figures_shown}
+use Rattle.cns_page.proofs.Common.{◌≡◌, take, state_of, figures_shown}
 use Rattle.cns_page.proofs.figures.line_of_days.Given as goal
 
 abbrev pub invariant-loop-close : goal.invariant-loop-close

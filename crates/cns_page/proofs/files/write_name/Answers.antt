@@ -1,4 +1,4 @@
-use Rattle.cns_tables.proofs.Written.{after}
+use Rattle.cns_page.proofs.Common.{after}
 use Rattle.cns_page.proofs.files.write_name.Goals as goal
 
 pub returns : goal.returns

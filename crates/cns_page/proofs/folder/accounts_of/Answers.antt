@@ -1,5 +1,4 @@
-use Rattle.std.proofs.Common.{sym}
-use Rattle.cns_history.proofs.Owned.{first_of, none_of}
+use Rattle.cns_page.proofs.Common.{sym, first_of, none_of}
 use Rattle.cns_page.proofs.folder.accounts_of.Goals as goal
 
 pub returns-in-Some : goal.returns-in-Some

@@ -1,6 +1,4 @@
-use Rattle.std.proofs.Common.{Option, drop}
-use Rattle.cns_page.specs.Files.{KeptPages}
-use Rattle.cns_page.specs.Folder.{KeepsOwn}
+use Rattle.cns_page.proofs.Common.{Option, drop, KeptPages, KeepsOwn}
 use Rattle.cns_page.proofs.folder.keep_each.Given as goal
 
 abbrev pub invariant-loop-account : goal.invariant-loop-account

@@ -1,5 +1,4 @@
-use Rattle.std.proofs.Common.{◌≡◌, ◌++◌, length, map}
-use Rattle.cns_page.specs.Issues.{issue_line}
+use Rattle.cns_page.proofs.Common.{◌≡◌, ◌++◌, length, map, issue_line}
 use Rattle.cns_page.proofs.issues.issue_lines.Given as goal
 
 abbrev pub invariant-loop-issue : goal.invariant-loop-issue

@@ -1,9 +1,4 @@
-use Rattle.std.proofs.Common.{◌≡◌, ◌∙◌, ap, sym, rules}
-use Rattle.std.specs.BTreeMap.{get}
-use Rattle.std.specs.Cmp.Lexicographic.{slice_cmp}
-use Rattle.std.specs.List.{fold}
-use Rattle.std.specs.Ordering.{nat_cmp}
-use Rattle.cns_page.specs.Issues.{sums_in, with_row_in}
+use Rattle.cns_page.proofs.Common.{◌≡◌, ◌∙◌, ap, sym, rules, get, slice_cmp, fold, nat_cmp, sums_in, with_row_in}
 use Rattle.cns_page.proofs.issues.sums_by_issue.Goals as goal
 
 pub loop-row-init : goal.loop-row-init

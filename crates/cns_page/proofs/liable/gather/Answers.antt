@@ -1,5 +1,4 @@
-use Rattle.std.proofs.Common.{sym}
-use Rattle.cns_page.specs.Listed.{owings_in}
+use Rattle.cns_page.proofs.Common.{sym, owings_in}
 use Rattle.cns_page.proofs.Walked.{gathered}
 use Rattle.cns_page.proofs.liable.gather.Goals as goal
 

@@ -1,5 +1,4 @@
-use Rattle.std.proofs.Common.{◌≡◌, ◌++◌, take}
-use Rattle.cns_page.specs.Listed.{owing_among}
+use Rattle.cns_page.proofs.Common.{◌≡◌, ◌++◌, take, owing_among}
 use Rattle.cns_page.proofs.liable.gather.Given as goal
 
 abbrev pub invariant-loop-batch : goal.invariant-loop-batch

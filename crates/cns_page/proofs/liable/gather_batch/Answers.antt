@@ -1,5 +1,4 @@
-use Rattle.std.proofs.Common.{[], ◌∷◌, sym}
-use Rattle.cns_page.specs.Listed.{owing}
+use Rattle.cns_page.proofs.Common.{[], ◌∷◌, sym, owing}
 use Rattle.cns_page.proofs.Walked.{gathered, gathered_all}
 use Rattle.cns_page.proofs.liable.gather_batch.Goals as goal
 

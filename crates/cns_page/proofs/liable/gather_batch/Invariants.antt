@@ -1,6 +1,4 @@
-use Rattle.std.proofs.Common.{◌≡◌, ◌++◌, [], ◌∷◌, take}
-use Rattle.std.specs.List.{flat_map}
-use Rattle.cns_page.specs.Listed.{owing}
+use Rattle.cns_page.proofs.Common.{◌≡◌, ◌++◌, [], ◌∷◌, take, flat_map, owing}
 use Rattle.cns_page.proofs.liable.gather_batch.Given as goal
 
 abbrev pub invariant-loop-liable : goal.invariant-loop-liable

@@ -1,5 +1,4 @@
-use Rattle.std.proofs.Common.{ap, option_map, sym}
-use Rattle.cns_page.specs.declared.survey.Close.{Close}
+use Rattle.cns_page.proofs.Common.{ap, option_map, sym, Close}
 use Rattle.cns_page.proofs.make.last_day.Goals as goal
 
 pub returns-in-Some : goal.returns-in-Some

@@ -1,4 +1,4 @@
-use Rattle.std.proofs.lemmas.Result.{on_ok_weaker}
+use Rattle.cns_page.proofs.Common.{on_ok_weaker}
 use Rattle.cns_page.proofs.make.write_own_taken.Goals as goal
 
 pub returns : goal.returns

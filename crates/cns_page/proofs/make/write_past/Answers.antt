@@ -1,4 +1,4 @@
-use Rattle.std.proofs.Common.{refl}
+use Rattle.cns_page.proofs.Common.{refl}
 use Rattle.cns_page.proofs.MakeLemmas.{told_of}
 use Rattle.cns_page.proofs.make.write_past.Goals as goal
 

@@ -1,7 +1,4 @@
-use Rattle.std.proofs.Common.{◌≡◌, ◌∙◌, sym, ap, ◌-◌, ◌^◌, take, arith}
-use Rattle.cns_terms.specs.Common.{journal_of, notices}
-use Rattle.cns_book.specs.Log.{state_of}
-use Rattle.cns_page.specs.Listed.{live_among}
+use Rattle.cns_page.proofs.Common.{◌≡◌, ◌∙◌, sym, ap, ◌-◌, ◌^◌, take, arith, journal_of, notices, state_of, live_among}
 use Rattle.cns_page.proofs.Numbering.{live_added, live_ends, live_passed, live_whole}
 use Rattle.cns_page.proofs.notices.live_notices.Goals as goal
 

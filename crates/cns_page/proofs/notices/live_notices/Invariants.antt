@@ -1,7 +1,4 @@
-use Rattle.std.proofs.Common.{◌≡◌, ◌-◌, take}
-use Rattle.cns_terms.specs.Common.{journal_of, notices}
-use Rattle.cns_book.specs.Log.{state_of}
-use Rattle.cns_page.specs.Listed.{live_among}
+use Rattle.cns_page.proofs.Common.{◌≡◌, ◌-◌, take, journal_of, notices, state_of, live_among}
 use Rattle.cns_page.proofs.notices.live_notices.Given as goal
 
 abbrev pub invariant-loop-number : goal.invariant-loop-number

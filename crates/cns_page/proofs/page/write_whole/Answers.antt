@@ -1,4 +1,4 @@
-use Rattle.cns_tables.proofs.Written.{kept}
+use Rattle.cns_page.proofs.Common.{kept}
 use Rattle.cns_page.proofs.page.write_whole.Goals as goal
 
 pub returns : goal.returns

@@ -1,4 +1,4 @@
-use Rattle.std.proofs.Common.{sym}
+use Rattle.cns_page.proofs.Common.{sym}
 use Rattle.cns_page.proofs.Pended.{due_more}
 use Rattle.cns_page.proofs.pending.pending_shares.Goals as goal
 

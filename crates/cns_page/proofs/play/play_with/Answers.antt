@@ -1,4 +1,4 @@
-use Rattle.std.proofs.Common.{◌+◌, ap, false, ◌∙◌}
+use Rattle.cns_page.proofs.Common.{◌+◌, ap, false, ◌∙◌}
 use Rattle.cns_page.proofs.PlayLemmas.{along_came, along_end, along_line, along_none}
 use Rattle.cns_page.proofs.play.play_with.Goals as goal
 

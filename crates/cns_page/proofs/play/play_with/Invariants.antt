@@ -1,7 +1,4 @@
-use Rattle.std.proofs.Common.{◌≡◌, List}
-use Rattle.cns_feed.specs.Line.{Line}
-use Rattle.cns_feed.specs.Records.{IsReady, Pending}
-use Rattle.cns_page.specs.Survey.{known}
+use Rattle.cns_page.proofs.Common.{◌≡◌, List, Line, IsReady, Pending, known}
 use Rattle.cns_page.proofs.PlayLemmas.{Along}
 use Rattle.cns_page.proofs.play.play_with.Given as goal
 

@@ -1,6 +1,4 @@
-use Rattle.std.proofs.Common.{ap, ◌∙◌}
-use Rattle.cns_book.specs.Log.{state_of}
-use Rattle.cns_page.specs.Survey.{known}
+use Rattle.cns_page.proofs.Common.{ap, ◌∙◌, state_of, known}
 use Rattle.cns_page.proofs.PlayLemmas.{noted_records}
 use Rattle.cns_page.proofs.play.step.Goals as goal
 

@@ -1,4 +1,4 @@
-use Rattle.std.proofs.Common.{◌-◌, ◌≤◌, length}
+use Rattle.cns_page.proofs.Common.{◌-◌, ◌≤◌, length}
 use Rattle.cns_page.proofs.play.text_between.Given as goal
 
 abbrev pub invariant-front : goal.invariant-front

@@ -1,5 +1,4 @@
-use Rattle.std.proofs.Common.{◌≡◌, map, take}
-use Rattle.cns_page.specs.Listed.{due}
+use Rattle.cns_page.proofs.Common.{◌≡◌, map, take, due}
 use Rattle.cns_page.proofs.projection.dues.Given as goal
 
 abbrev pub invariant-loop-trade : goal.invariant-loop-trade

@@ -1,6 +1,4 @@
-use Rattle.std.proofs.Common.{◌≡◌, ◌∙◌, sym, ap, ◌-◌, ◌^◌, reverse, take, arith}
-use Rattle.std.specs.Option.{option_to_list}
-use Rattle.cns_page.specs.Listed.{later_among}
+use Rattle.cns_page.proofs.Common.{◌≡◌, ◌∙◌, sym, ap, ◌-◌, ◌^◌, reverse, take, arith, option_to_list, later_among}
 use Rattle.cns_page.proofs.Later.{later_added, later_ends, later_passed}
 use Rattle.cns_page.proofs.projection.gather.Goals as goal
 

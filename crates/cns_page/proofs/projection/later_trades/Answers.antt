@@ -1,7 +1,5 @@
-use Rattle.std.proofs.Common.{rules}
-use Rattle.std.specs.Ordering.{int_cmp}
+use Rattle.cns_page.proofs.Common.{rules, int_cmp, looked_at, later_among}
 use Rattle.cns_units.specs.Day.{day_number}
-use Rattle.cns_page.specs.Listed.{looked_at, later_among}
 use Rattle.cns_page.proofs.Ordered.{sorted_by_key}
 use Rattle.cns_page.proofs.projection.later_trades.Goals as goal
 

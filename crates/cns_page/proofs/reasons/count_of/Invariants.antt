@@ -1,6 +1,4 @@
-use Rattle.std.proofs.Common.{◌≡◌, ◌-◌, ◌^◌, ◌==◌, min, take}
-use Rattle.std.specs.Prelude.{count_by}
-use Rattle.cns_page.specs.Survey.{number, why}
+use Rattle.cns_page.proofs.Common.{◌≡◌, ◌-◌, ◌^◌, ◌==◌, min, take, count_by, number, why}
 use Rattle.cns_page.proofs.reasons.count_of.Given as goal
 
 abbrev pub invariant-loop-reason : goal.invariant-loop-reason

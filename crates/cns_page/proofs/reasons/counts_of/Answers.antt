@@ -1,4 +1,4 @@
-use Rattle.std.proofs.Common.{ap, arith, refl, ◌≡◌, ◌∙◌}
+use Rattle.cns_page.proofs.Common.{ap, arith, refl, ◌≡◌, ◌∙◌}
 use Rattle.cns_page.specs.Listed.{counts_below}
 use Rattle.cns_page.proofs.ByReason.{none_more, one_more}
 use Rattle.cns_page.proofs.reasons.counts_of.Goals as goal

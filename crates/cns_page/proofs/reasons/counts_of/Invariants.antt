@@ -1,5 +1,4 @@
-use Rattle.std.proofs.Common.{◌≡◌, map}
-use Rattle.cns_page.specs.Listed.{counted, counts_below}
+use Rattle.cns_page.proofs.Common.{◌≡◌, map, counted, counts_below}
 use Rattle.cns_page.proofs.reasons.counts_of.Given as goal
 
 abbrev pub invariant-loop-number : goal.invariant-loop-number

@@ -1,6 +1,4 @@
-use Rattle.std.proofs.Common.{◌∙◌, sym, ap, subst, ◌∷◌, [], ◌++◌}
-use Rattle.cns_book.specs.Log.{state_of}
-use Rattle.cns_page.specs.declared.shorts.Aged.{Aged}
+use Rattle.cns_page.proofs.Common.{◌∙◌, sym, ap, subst, ◌∷◌, [], ◌++◌, state_of, Aged}
 use Rattle.cns_page.proofs.Counted.{Aging, aging_more}
 use Rattle.cns_page.proofs.shorts.gather.Goals as goal
 

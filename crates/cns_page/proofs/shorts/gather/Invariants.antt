@@ -1,4 +1,4 @@
-use Rattle.cns_book.specs.Log.{state_of}
+use Rattle.cns_page.proofs.Common.{state_of}
 use Rattle.cns_page.proofs.Counted.{Aging}
 use Rattle.cns_page.proofs.shorts.gather.Given as goal
 

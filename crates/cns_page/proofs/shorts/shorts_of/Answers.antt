@@ -1,7 +1,4 @@
-use Rattle.std.proofs.Common.{◌-◌, ◌^◌, rules}
-use Rattle.std.specs.Ordering.{nat_cmp}
-use Rattle.cns_book.specs.Log.{state_of}
-use Rattle.cns_page.specs.Listed.{shorts_among}
+use Rattle.cns_page.proofs.Common.{◌-◌, ◌^◌, rules, nat_cmp, state_of, shorts_among}
 use Rattle.cns_page.proofs.Oldest.{oldest_first}
 use Rattle.cns_page.proofs.Ordered.{sorted_by_key}
 use Rattle.cns_page.proofs.shorts.shorts_of.Goals as goal

@@ -1,5 +1,4 @@
-use Rattle.std.proofs.Common.{◌-◌, ◌∙◌, sym, ap, arith}
-use Rattle.std.specs.Option.{option_to_list}
+use Rattle.cns_page.proofs.Common.{◌-◌, ◌∙◌, sym, ap, arith, option_to_list}
 use Rattle.cns_page.proofs.SoughtLemmas.{sought_ends, sought_found, sought_none, sought_passed}
 use Rattle.cns_page.proofs.sought.first.Goals as goal
 

@@ -1,5 +1,4 @@
-use Rattle.std.proofs.Common.{◌≡◌, ◌-◌, [], reverse, take}
-use Rattle.cns_page.specs.Sought.{sought_among}
+use Rattle.cns_page.proofs.Common.{◌≡◌, ◌-◌, [], reverse, take, sought_among}
 use Rattle.cns_page.proofs.sought.first.Given as goal
 
 abbrev pub invariant-loop-place : goal.invariant-loop-place

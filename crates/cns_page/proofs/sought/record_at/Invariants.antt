@@ -1,5 +1,4 @@
-use Rattle.std.proofs.Common.{◌≡◌, take}
-use Rattle.cns_page.specs.Sought.{record_at}
+use Rattle.cns_page.proofs.Common.{◌≡◌, take, record_at}
 use Rattle.cns_page.proofs.sought.record_at.Given as goal
 
 abbrev pub invariant-loop-other : goal.invariant-loop-other

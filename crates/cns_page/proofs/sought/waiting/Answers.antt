@@ -1,7 +1,4 @@
-use Rattle.std.proofs.Common.{◌≡◌, ◌∙◌, sym, ap, refl, ◌-◌, ◌^◌, reverse, take, arith}
-use Rattle.std.specs.Option.{option_to_list}
-use Rattle.cns_page.specs.Listed.{later_among, looked_at}
-use Rattle.cns_page.specs.Sought.{waiting_in, with_trade}
+use Rattle.cns_page.proofs.Common.{◌≡◌, ◌∙◌, sym, ap, refl, ◌-◌, ◌^◌, reverse, take, arith, option_to_list, later_among, looked_at, waiting_in, with_trade}
 use Rattle.cns_page.proofs.Later.{later_added, later_ends, later_passed}
 use Rattle.cns_page.proofs.SoughtLemmas.{waiting_more}
 use Rattle.cns_page.proofs.sought.waiting.Goals as goal

@@ -1,6 +1,4 @@
-use Rattle.std.proofs.Common.{◌≡◌, ◌-◌, reverse, take}
-use Rattle.cns_page.specs.Listed.{later_among}
-use Rattle.cns_page.specs.Sought.{waiting_in}
+use Rattle.cns_page.proofs.Common.{◌≡◌, ◌-◌, reverse, take, later_among, waiting_in}
 use Rattle.cns_page.proofs.sought.waiting.Given as goal
 
 abbrev pub invariant-loop-place : goal.invariant-loop-place

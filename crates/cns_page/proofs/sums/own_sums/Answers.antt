@@ -1,4 +1,4 @@
-use Rattle.cns_page.specs.Sums.{moved_row, with_row}
+use Rattle.cns_page.proofs.Common.{moved_row, with_row}
 use Rattle.cns_page.proofs.Adding.{added_more, all_added}
 use Rattle.cns_page.proofs.sums.own_sums.Goals as goal
 

@@ -1,6 +1,4 @@
-use Rattle.std.proofs.Common.{◌≡◌, map}
-use Rattle.std.specs.List.{fold}
-use Rattle.cns_page.specs.Sums.{moved_row, sums_of, with_row}
+use Rattle.cns_page.proofs.Common.{◌≡◌, map, fold, moved_row, sums_of, with_row}
 use Rattle.cns_page.proofs.sums.sums_of.Given as goal
 
 abbrev pub invariant-loop-row : goal.invariant-loop-row

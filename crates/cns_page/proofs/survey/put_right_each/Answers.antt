@@ -1,6 +1,5 @@
-use Rattle.std.proofs.Common.{◌∙◌, ap, get_or, set, arith}
+use Rattle.cns_page.proofs.Common.{◌∙◌, ap, get_or, set, arith, put_right}
 use Rattle.std.proofs.lemmas.List.Edits.{map_over_more}
-use Rattle.cns_page.specs.Survey.{put_right}
 use Rattle.cns_page.proofs.survey.put_right_each.Goals as goal
 
 pub loop-finding-preserved : goal.loop-finding-preserved

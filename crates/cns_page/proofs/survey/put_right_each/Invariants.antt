@@ -1,5 +1,4 @@
-use Rattle.std.proofs.Common.{◌≡◌, take, drop, map, ◌++◌}
-use Rattle.cns_page.specs.Survey.{put_right}
+use Rattle.cns_page.proofs.Common.{◌≡◌, take, drop, map, ◌++◌, put_right}
 use Rattle.cns_page.proofs.survey.put_right_each.Given as goal
 
 abbrev pub invariant-loop-finding : goal.invariant-loop-finding

@@ -1,5 +1,4 @@
-use Rattle.cns_positions.proofs.Common.{holding_at}
-use Rattle.cns_positions.specs.Rows.{with_age}
+use Rattle.cns_positions.proofs.Common.{holding_at, with_age}
 use Rattle.cns_positions.proofs.Holdings.{aged_put, changed_here, no_gap, other_row, places_put, sorted_put}
 use Rattle.cns_positions.proofs.flat.carry.Goals as goal
 

@@ -1,5 +1,4 @@
-use Rattle.std.proofs.Common.{get_or, arith}
-use Rattle.cns_positions.proofs.Common.{Holding, Key, rolled}
+use Rattle.cns_positions.proofs.Common.{get_or, arith, Holding, Key, rolled}
 use Rattle.std.proofs.lemmas.List.Edits.{map_over_more}
 use Rattle.cns_positions.proofs.flat.close_all.Goals as goal
 

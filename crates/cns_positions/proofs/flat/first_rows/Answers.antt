@@ -1,6 +1,4 @@
-use Rattle.std.proofs.Common.{take, take-append-drop, None, refl, arith, drop, append-nil}
-use Rattle.cns_positions.proofs.Common.{Key, Holding, held_above, is_held}
-use Rattle.std.proofs.lemmas.List.Elements.{filter_more}
+use Rattle.cns_positions.proofs.Common.{take, take-append-drop, None, refl, arith, drop, append-nil, Key, Holding, held_above, is_held, filter_more}
 use Rattle.cns_positions.proofs.Held.{each_push, present-push}
 use Rattle.cns_positions.proofs.Changes.{held_append}
 use Rattle.cns_positions.proofs.flat.first_rows.Goals as goal

@@ -1,5 +1,4 @@
-use Rattle.std.proofs.Common.{◌≡◌, None, length, take}
-use Rattle.cns_positions.proofs.Common.{held_above, present}
+use Rattle.cns_positions.proofs.Common.{◌≡◌, None, length, take, held_above, present}
 use Rattle.cns_positions.proofs.flat.first_rows.Given as goal
 
 abbrev pub invariant-loop-row : goal.invariant-loop-row

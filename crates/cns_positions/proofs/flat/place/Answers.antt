@@ -1,5 +1,4 @@
-use Rattle.std.proofs.Common.{rules, arith}
-use Rattle.cns_positions.proofs.Common.{key_cmp, keys_total, zeros}
+use Rattle.cns_positions.proofs.Common.{rules, arith, key_cmp, keys_total, zeros}
 use Rattle.std.proofs.lemmas.Fn.{always_returns_same}
 use Rattle.cns_positions.proofs.Puts.{comparisons_rise}
 use Rattle.cns_positions.proofs.flat.place.Goals as goal

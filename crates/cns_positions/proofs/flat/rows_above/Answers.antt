@@ -1,6 +1,4 @@
-use Rattle.std.proofs.Common.{rules, is_le}
-use Rattle.cns_positions.proofs.Common.{Holding, IsPartitionPoint-from_clause, Key, key_cmp}
-use Rattle.std.proofs.lemmas.List.{take_rest}
+use Rattle.cns_positions.proofs.Common.{rules, is_le, Holding, IsPartitionPoint-from_clause, Key, key_cmp, take_rest}
 use Rattle.cns_positions.proofs.Held.{above_parted, parted_at}
 use Rattle.cns_positions.proofs.flat.rows_above.Goals as goal
 

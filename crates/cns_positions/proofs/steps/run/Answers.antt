@@ -1,5 +1,4 @@
-use Rattle.std.proofs.Common.{◌∙◌, ◌++◌, append-nil, sym, ap}
-use Rattle.cns_positions.proofs.Common.{drop_all, holding_at}
+use Rattle.cns_positions.proofs.Common.{◌∙◌, ◌++◌, append-nil, sym, ap, drop_all, holding_at}
 use Rattle.cns_positions.specs.Steps.{replies}
 use Rattle.cns_positions.proofs.Stepping.{fit-step, next_fits, replies-step}
 use Rattle.cns_positions.proofs.steps.run.Goals as goal

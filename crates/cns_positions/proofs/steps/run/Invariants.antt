@@ -1,6 +1,4 @@
-use Rattle.std.proofs.Common.{◌≡◌, ◌++◌, drop}
-use Rattle.cns_positions.proofs.Common.{holding_at, nowhere}
-use Rattle.cns_positions.specs.Steps.{SumsFit, replies}
+use Rattle.cns_positions.proofs.Common.{◌≡◌, ◌++◌, drop, holding_at, nowhere, SumsFit, replies}
 use Rattle.cns_positions.proofs.steps.run.Given as goal
 
 abbrev pub invariant-loop-step : goal.invariant-loop-step

@@ -1,6 +1,4 @@
-use Rattle.std.proofs.Common.{◌≡◌, rules, w64, of_z, to_z}
-use Rattle.cns_positions.proofs.Common.{w128}
-use Rattle.std.proofs.lemmas.Int.{to_z-of_z}
+use Rattle.cns_positions.proofs.Common.{◌≡◌, rules, w64, of_z, to_z, w128, to_z-of_z}
 use Rattle.cns_positions.proofs.Changes.{changed_at}
 use Rattle.cns_positions.proofs.Holdings.{booked_put, other_row, places_put, with_booked}
 use Rattle.cns_positions.proofs.tree.book.Goals as goal

@@ -1,5 +1,4 @@
-use Rattle.std.proofs.Common.{rules}
-use Rattle.cns_positions.specs.Rows.{with_age}
+use Rattle.cns_positions.proofs.Common.{rules, with_age}
 use Rattle.cns_positions.proofs.Changes.{changed_at}
 use Rattle.cns_positions.proofs.Holdings.{aged_put, other_row, places_put}
 use Rattle.cns_positions.proofs.tree.carry.Goals as goal

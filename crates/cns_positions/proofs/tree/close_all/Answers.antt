@@ -1,4 +1,4 @@
-use Rattle.std.proofs.Common.{rules}
+use Rattle.cns_positions.proofs.Common.{rules}
 use Rattle.cns_positions.proofs.Changes.{rolled_each}
 use Rattle.cns_positions.proofs.tree.close_all.Goals as goal
 

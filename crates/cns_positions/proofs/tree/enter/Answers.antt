@@ -1,5 +1,4 @@
-use Rattle.std.proofs.Common.{rules, arith, ◌≡◌, None, sym, ◌∙◌}
-use Rattle.cns_positions.proofs.Common.{zeros}
+use Rattle.cns_positions.proofs.Common.{rules, arith, ◌≡◌, None, sym, ◌∙◌, zeros}
 use Rattle.cns_positions.specs.Rows.{row_at}
 use Rattle.cns_positions.proofs.Entering.{at_error}
 use Rattle.cns_positions.proofs.Holdings.{row_put, row_stays, entered, other_row}

@@ -1,4 +1,4 @@
-use Rattle.std.proofs.Common.{◌∙◌, sym, take_all}
+use Rattle.cns_positions.proofs.Common.{◌∙◌, sym, take_all}
 use Rattle.cns_positions.proofs.Entering.{absent_at, at_error, entered_more, other_key}
 use Rattle.cns_positions.proofs.tree.enter_all.Goals as goal
 

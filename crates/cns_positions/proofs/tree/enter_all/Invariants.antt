@@ -1,6 +1,4 @@
-use Rattle.std.proofs.Common.{◌≡◌, true, take, Contains}
-use Rattle.cns_positions.proofs.Common.{Key, has_row, holding_at, is_sorted, key_cmp}
-use Rattle.cns_positions.specs.Rows.{row_at}
+use Rattle.cns_positions.proofs.Common.{◌≡◌, true, take, Contains, Key, has_row, holding_at, is_sorted, key_cmp, row_at}
 use Rattle.cns_positions.proofs.tree.enter_all.Given as goal
 
 abbrev pub invariant-loop-key : goal.invariant-loop-key

@@ -1,7 +1,5 @@
-use Rattle.std.proofs.Common.{◌∙◌, rules, length, ap, sym}
-use Rattle.cns_positions.proofs.Common.{Holding, Key, YieldsFirst, YieldsList-from_shown, is_held}
+use Rattle.cns_positions.proofs.Common.{◌∙◌, rules, length, ap, sym, Holding, Key, YieldsFirst, YieldsList-from_shown, is_held, find_from_yields_List}
 use Rattle.std.proofs.lemmas.Iterator.Adapters.{option_map_id}
-use Rattle.std.proofs.lemmas.Iterator.Search.{find_from_yields_List}
 use Rattle.cns_positions.proofs.tree.first_held.Goals as goal
 
 pub returns : goal.returns

@@ -1,5 +1,4 @@
-use Rattle.std.proofs.Common.{◌∷◌, [], arith, None, refl, append_assoc}
-use Rattle.cns_positions.proofs.Common.{held_above}
+use Rattle.cns_positions.proofs.Common.{◌∷◌, [], arith, None, refl, append_assoc, held_above}
 use Rattle.cns_positions.proofs.Changes.{held_append}
 use Rattle.cns_positions.proofs.Held.{each_push, present-push}
 use Rattle.cns_positions.proofs.tree.first_rows.Goals as goal

@@ -1,4 +1,4 @@
-use Rattle.std.proofs.Common.{arith, append_assoc}
+use Rattle.cns_retransmit.proofs.Common.{arith, append_assoc}
 use Rattle.cns_retransmit.proofs.calls.choose_each.Goals as goal
 
 pub choose-requires : goal.choose-requires

@@ -1,5 +1,4 @@
-use Rattle.std.proofs.Common.{◌≡◌, ◌++◌}
-use Rattle.cns_retransmit.proofs.Common.{AllByRecursion, CanBeChosen, batches_of}
+use Rattle.cns_retransmit.proofs.Common.{◌≡◌, ◌++◌, AllByRecursion, CanBeChosen, batches_of}
 use Rattle.cns_retransmit.proofs.calls.choose_each.Given as goal
 
 abbrev pub invariant-loop-issue : goal.invariant-loop-issue

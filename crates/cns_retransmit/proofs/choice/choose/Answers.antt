@@ -1,4 +1,4 @@
-use Rattle.std.proofs.Common.{arith}
+use Rattle.cns_retransmit.proofs.Common.{arith}
 use Rattle.cns_retransmit.proofs.Ordered.{chosen_in_order, oldest_first, order_is, sum_in_order}
 use Rattle.cns_retransmit.proofs.choice.choose.Goals as goal
 

@@ -1,6 +1,4 @@
-use Rattle.std.proofs.Common.{◌≡◌, ◌∙◌, ◌++◌, sym, [], ◌∷◌, cond, nat_lt, refl, sum_by, arith, append-nil}
-use Rattle.cns_retransmit.proofs.Common.{drop_all, liable_of, nat_tests}
-use Rattle.cns_terms.specs.Batches.{if_older}
+use Rattle.cns_retransmit.proofs.Common.{◌≡◌, ◌∙◌, ◌++◌, sym, [], ◌∷◌, cond, nat_lt, refl, sum_by, arith, append-nil, drop_all, liable_of, nat_tests, if_older}
 use Rattle.cns_retransmit.proofs.Choosing.{as_old, choosing_more, younger}
 use Rattle.cns_retransmit.proofs.choice.choose_ordered.Goals.{then-short-age, else-short-age, then-older-called+in_ok-push, else-older-called}
 use Rattle.cns_retransmit.proofs.choice.choose_ordered.Goals as goal

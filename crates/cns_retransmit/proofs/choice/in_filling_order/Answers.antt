@@ -1,5 +1,4 @@
-use Rattle.std.proofs.Common.{sym, rules, arith}
-use Rattle.cns_retransmit.proofs.Common.{answers_always}
+use Rattle.cns_retransmit.proofs.Common.{sym, rules, arith, answers_always}
 use Rattle.cns_retransmit.proofs.Ordered.{sorted_is}
 use Rattle.cns_retransmit.proofs.choice.in_filling_order.Goals as goal
 

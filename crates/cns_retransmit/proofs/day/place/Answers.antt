@@ -1,5 +1,4 @@
-use Rattle.std.proofs.Common.{rules, arith}
-use Rattle.cns_retransmit.proofs.Common.{Liables, answers_always}
+use Rattle.cns_retransmit.proofs.Common.{rules, arith, Liables, answers_always}
 use Rattle.cns_retransmit.proofs.Sought.{comparisons_rise}
 use Rattle.cns_retransmit.proofs.day.place.Goals as goal
 

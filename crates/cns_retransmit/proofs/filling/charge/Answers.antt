@@ -1,6 +1,4 @@
-use Rattle.std.proofs.Common.{[], sym, arith}
-use Rattle.cns_retransmit.proofs.Common.{charged}
-use Rattle.std.proofs.lemmas.List.Folds.{map_fixed}
+use Rattle.cns_retransmit.proofs.Common.{[], sym, arith, charged, map_fixed}
 use Rattle.cns_retransmit.proofs.Charging.{lowered_at, next_charged, next_enough}
 use Rattle.cns_retransmit.proofs.filling.charge.Goals as goal
 

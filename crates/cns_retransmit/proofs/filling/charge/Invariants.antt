@@ -1,5 +1,4 @@
-use Rattle.std.proofs.Common.{◌≡◌, map, take}
-use Rattle.cns_retransmit.proofs.Common.{charged}
+use Rattle.cns_retransmit.proofs.Common.{◌≡◌, map, take, charged}
 use Rattle.cns_retransmit.proofs.filling.charge.Given as goal
 
 abbrev pub invariant-loop-fill : goal.invariant-loop-fill

@@ -1,5 +1,4 @@
-use Rattle.std.proofs.Common.{arith}
-use Rattle.cns_retransmit.proofs.Common.{drop_all}
+use Rattle.cns_retransmit.proofs.Common.{arith, drop_all}
 use Rattle.cns_retransmit.proofs.Lists.{drop_next}
 use Rattle.cns_retransmit.proofs.filling.left_for.Goals as goal
 

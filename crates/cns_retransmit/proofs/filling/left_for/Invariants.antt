@@ -1,4 +1,4 @@
-use Rattle.std.proofs.Common.{◌≡◌, drop}
+use Rattle.cns_retransmit.proofs.Common.{◌≡◌, drop}
 use Rattle.cns_retransmit.specs.Members.{left_of}
 use Rattle.cns_retransmit.proofs.filling.left_for.Given as goal
 

@@ -1,5 +1,4 @@
-use Rattle.std.proofs.Common.{◌≡◌, ◌-◌, min, arith, append-nil}
-use Rattle.cns_retransmit.proofs.Common.{capacity, drop_all, fills_laid}
+use Rattle.cns_retransmit.proofs.Common.{◌≡◌, ◌-◌, min, arith, append-nil, capacity, drop_all, fills_laid}
 use Rattle.cns_retransmit.proofs.FillSteps.{fill_last, fill_none, fill_some}
 use Rattle.cns_retransmit.proofs.filling.make_fills.Goals.{then-more-gt0+in_ok-push, else-more-gt0}
 use Rattle.cns_retransmit.proofs.filling.make_fills.Goals as goal

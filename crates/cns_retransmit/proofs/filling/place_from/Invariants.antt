@@ -1,5 +1,4 @@
-use Rattle.std.proofs.Common.{◌≡◌, drop}
-use Rattle.cns_retransmit.specs.Members.{members_of}
+use Rattle.cns_retransmit.proofs.Common.{◌≡◌, drop, members_of}
 use Rattle.cns_retransmit.proofs.filling.place_from.Given as goal
 
 abbrev pub invariant-loop-place : goal.invariant-loop-place

@@ -1,4 +1,4 @@
-use Rattle.std.proofs.Common.{arith}
+use Rattle.cns_retransmit.proofs.Common.{arith}
 use Rattle.cns_retransmit.proofs.Lefts.{room_fits}
 use Rattle.cns_retransmit.proofs.filling.room_up_to.Goals as goal
 

@@ -1,5 +1,4 @@
-use Rattle.std.proofs.Common.{◌≡◌, take, sum_by}
-use Rattle.cns_retransmit.proofs.Common.{capacity}
+use Rattle.cns_retransmit.proofs.Common.{◌≡◌, take, sum_by, capacity}
 use Rattle.cns_retransmit.proofs.filling.room_up_to.Given as goal
 
 abbrev pub invariant-loop-liable : goal.invariant-loop-liable

@@ -1,6 +1,4 @@
-use Rattle.std.proofs.lemmas.Result.{err_from_is_err_and}
-use Rattle.cns_units.proofs.Parts.{parts_failed, parts_more}
-use Rattle.cns_tables.specs.Escape.{escaped_byte}
+use Rattle.cns_tables.proofs.Common.{err_from_is_err_and, parts_failed, parts_more, escaped_byte}
 use Rattle.cns_tables.proofs.escape.write_escaped.Goals as goal
 
 pub loop-byte-preserved : goal.loop-byte-preserved

@@ -1,6 +1,4 @@
-use Rattle.std.proofs.Common.{◌≡◌, ℕ, List, ◌++◌, drop}
-use Rattle.std.specs.Io.KnownBytes.{Appends}
-use Rattle.cns_tables.specs.Escape.{escaped}
+use Rattle.cns_tables.proofs.Common.{◌≡◌, ℕ, List, ◌++◌, drop, Appends, escaped}
 use Rattle.cns_tables.proofs.escape.write_escaped.Given as goal
 
 abbrev pub invariant-loop-byte : goal.invariant-loop-byte

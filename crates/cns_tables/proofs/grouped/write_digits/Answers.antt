@@ -1,4 +1,4 @@
-use Rattle.std.proofs.lemmas.Result.{err_from_is_err_and}
+use Rattle.cns_tables.proofs.Common.{err_from_is_err_and}
 use Rattle.cns_tables.proofs.Digits.{digits_failed, digits_more}
 use Rattle.cns_tables.proofs.grouped.write_digits.Goals as goal
 

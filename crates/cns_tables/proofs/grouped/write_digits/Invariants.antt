@@ -1,6 +1,4 @@
-use Rattle.std.proofs.Common.{◌≡◌, ℕ, List, ◌++◌, drop}
-use Rattle.std.specs.Io.KnownBytes.{Appends}
-use Rattle.cns_tables.specs.Grouped.{grouped}
+use Rattle.cns_tables.proofs.Common.{◌≡◌, ℕ, List, ◌++◌, drop, Appends, grouped}
 use Rattle.cns_tables.proofs.grouped.write_digits.Given as goal
 
 abbrev pub invariant-loop-place : goal.invariant-loop-place

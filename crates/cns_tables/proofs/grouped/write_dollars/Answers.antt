@@ -1,5 +1,4 @@
-use Rattle.std.proofs.lemmas.Result.{err_from_is_err_and}
-use Rattle.cns_units.proofs.OutputLemmas.{front_longer, writes_then}
+use Rattle.cns_tables.proofs.Common.{err_from_is_err_and, front_longer, writes_then}
 use Rattle.cns_tables.proofs.grouped.write_dollars.Goals as goal
 
 pub returns-in_err-write_count : goal.returns-in_err-write_count

@@ -1,9 +1,4 @@
-use Rattle.std.proofs.Common.{◌≡◌, FitsSigned}
-use Rattle.std.specs.Prelude.{unsigned_abs}
-use mir.Syntax.{w128}
-use Rattle.std.proofs.lemmas.Int.{to_z-of_z}
-use Rattle.std.proofs.lemmas.Result.{err_from_is_err_and}
-use Rattle.cns_units.proofs.OutputLemmas.{front_longer, writes_then}
+use Rattle.cns_tables.proofs.Common.{◌≡◌, FitsSigned, unsigned_abs, w128, to_z-of_z, err_from_is_err_and, front_longer, writes_then}
 use Rattle.cns_tables.specs.Grouped.{signed_text}
 use Rattle.cns_tables.proofs.grouped.write_signed.Goals as goal
 

@@ -1,5 +1,4 @@
-use Rattle.cns_units.proofs.Parts.{parts_more}
-use Rattle.cns_tables.specs.Pieces.{piece_text}
+use Rattle.cns_tables.proofs.Common.{parts_more, piece_text}
 use Rattle.cns_tables.proofs.piece.write_pieces.Goals as goal
 
 pub loop-piece-preserved : goal.loop-piece-preserved

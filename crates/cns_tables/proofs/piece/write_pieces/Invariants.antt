@@ -1,6 +1,4 @@
-use Rattle.std.proofs.Common.{◌≡◌, ℕ, List, ◌++◌, drop}
-use Rattle.std.specs.Io.KnownBytes.{Appends}
-use Rattle.cns_tables.specs.Pieces.{pieces_text}
+use Rattle.cns_tables.proofs.Common.{◌≡◌, ℕ, List, ◌++◌, drop, Appends, pieces_text}
 use Rattle.cns_tables.proofs.piece.write_pieces.Given as goal
 
 abbrev pub invariant-loop-piece : goal.invariant-loop-piece

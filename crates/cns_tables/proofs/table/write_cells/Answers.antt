@@ -1,5 +1,4 @@
-use Rattle.cns_units.proofs.Parts.{parts_more}
-use Rattle.cns_tables.specs.Tables.{cell_of}
+use Rattle.cns_tables.proofs.Common.{parts_more, cell_of}
 use Rattle.cns_tables.proofs.table.write_cells.Goals as goal
 
 pub loop-piece-preserved : goal.loop-piece-preserved

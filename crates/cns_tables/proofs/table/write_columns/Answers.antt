@@ -1,6 +1,4 @@
-use Rattle.std.proofs.Common.{◌++◌}
-use Rattle.cns_units.proofs.Parts.{parts_more}
-use Rattle.cns_tables.specs.declared.table.TheConstants.{COLUMN}
+use Rattle.cns_tables.proofs.Common.{◌++◌, parts_more, COLUMN}
 use Rattle.cns_tables.proofs.table.write_columns.Goals as goal
 
 pub loop-column-preserved : goal.loop-column-preserved

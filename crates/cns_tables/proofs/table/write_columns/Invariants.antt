@@ -1,7 +1,4 @@
-use Rattle.std.proofs.Common.{◌≡◌, ℕ, List, ◌++◌, drop}
-use Rattle.std.specs.List.{flat_map}
-use Rattle.std.specs.Io.KnownBytes.{Appends}
-use Rattle.cns_tables.specs.declared.table.TheConstants.{COLUMN}
+use Rattle.cns_tables.proofs.Common.{◌≡◌, ℕ, List, ◌++◌, drop, flat_map, Appends, COLUMN}
 use Rattle.cns_tables.proofs.table.write_columns.Given as goal
 
 abbrev pub invariant-loop-column : goal.invariant-loop-column

@@ -1,4 +1,4 @@
-use Rattle.cns_units.proofs.Parts.{parts_more}
+use Rattle.cns_tables.proofs.Common.{parts_more}
 use Rattle.cns_tables.proofs.table.write_rows.Goals as goal
 
 pub loop-row-preserved : goal.loop-row-preserved

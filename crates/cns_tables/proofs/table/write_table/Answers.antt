@@ -1,4 +1,4 @@
-use Rattle.std.proofs.Common.{sym, ◌∙◌}
+use Rattle.cns_tables.proofs.Common.{sym, ◌∙◌}
 use Rattle.cns_tables.proofs.Written.{no_rows, some_rows}
 use Rattle.cns_tables.proofs.table.write_table.Goals as goal
 

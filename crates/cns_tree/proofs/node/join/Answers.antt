@@ -1,4 +1,4 @@
-use Rattle.std.proofs.Common.{rules}
+use Rattle.cns_tree.proofs.Common.{rules}
 use Rattle.cns_tree.proofs.Heights.{shallow_joined, within_one}
 use Rattle.cns_tree.proofs.Nodes.{shallow_top}
 use Rattle.cns_tree.proofs.node.join.Goals as goal

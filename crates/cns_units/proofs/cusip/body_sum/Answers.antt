@@ -1,4 +1,4 @@
-use Rattle.std.proofs.Common.{◌∙◌, arith}
+use Rattle.cns_units.proofs.Common.{◌∙◌, arith}
 use Rattle.cns_units.proofs.CusipLemmas.{sum-step, sum-stop, sum-all}
 use Rattle.cns_units.proofs.cusip.body_sum.Goals as goal
 

@@ -1,5 +1,4 @@
-use Rattle.std.proofs.Common.{◌≡◌, ◌≤◌, ◌*◌, drop, false}
-use Rattle.cns_units.specs.Cusip.{sum_of, plus}
+use Rattle.cns_units.proofs.Common.{◌≡◌, ◌≤◌, ◌*◌, drop, false, sum_of, plus}
 use Rattle.cns_units.proofs.cusip.body_sum.Given as goal
 
 abbrev pub invariant-loop-character : goal.invariant-loop-character

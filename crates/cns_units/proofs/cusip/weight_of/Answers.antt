@@ -1,4 +1,4 @@
-use Rattle.std.proofs.Common.{◌≡◌, ◌∙◌, ◌<◌, sym, ap, get_or, Some}
+use Rattle.cns_units.proofs.Common.{◌≡◌, ◌∙◌, ◌<◌, sym, ap, get_or, Some}
 use Rattle.cns_units.proofs.CusipWeights.{table, no_weight, some_weight}
 use Rattle.cns_units.proofs.cusip.weight_of.Goals as goal
 use Rattle.cns_units.proofs.cusip.weight_of.Goals.{then-is_doubled, else-is_doubled}

@@ -1,6 +1,5 @@
-use Rattle.std.proofs.Common.{◌≡◌, ◌∙◌, ◌/◌}
+use Rattle.cns_units.proofs.Common.{◌≡◌, ◌∙◌, ◌/◌, err_from_is_err_and}
 use Rattle.std.specs.Fmt.{decimal}
-use Rattle.std.proofs.lemmas.Result.{err_from_is_err_and}
 use Rattle.cns_units.proofs.OutputLemmas.{front_longer, writes_then}
 use Rattle.cns_units.proofs.money.write_amount.Goals as goal
 

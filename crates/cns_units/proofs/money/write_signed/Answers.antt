@@ -1,8 +1,5 @@
-use Rattle.std.proofs.Common.{◌≡◌, FitsSigned}
-use Rattle.std.specs.Prelude.{unsigned_abs}
+use Rattle.cns_units.proofs.Common.{◌≡◌, FitsSigned, unsigned_abs, err_from_is_err_and, to_z-of_z}
 use mir.Syntax.{w128}
-use Rattle.std.proofs.lemmas.Result.{err_from_is_err_and}
-use Rattle.std.proofs.lemmas.Int.{to_z-of_z}
 use Rattle.cns_units.proofs.OutputLemmas.{front_longer, writes_then}
 use Rattle.cns_units.proofs.CentsLemmas.{cents_text-negative, cents_text-positive}
 use Rattle.cns_units.proofs.money.write_signed.Goals.{then-cents-lt0+in_ok-write_bytes, else-cents-lt0}

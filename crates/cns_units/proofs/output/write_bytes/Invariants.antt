@@ -1,5 +1,4 @@
-use Rattle.std.proofs.Common.{length, take, ◌-◌, ◌≤◌}
-use Rattle.std.specs.Io.KnownBytes.{Appends}
+use Rattle.cns_units.proofs.Common.{length, take, ◌-◌, ◌≤◌, Appends}
 use Rattle.cns_units.proofs.output.write_bytes.Given as goal
 
 abbrev pub invariant-loop-at : goal.invariant-loop-at

@@ -1,5 +1,5 @@
 -- A call that was interrupted appends nothing.
-use Rattle.std.specs.Io.KnownBytes.{Keeps}
+use Rattle.cns_units.proofs.Common.{Keeps}
 use Rattle.cns_units.proofs.output.write_some.Given as goal
 
 abbrev pub invariant-loop : goal.invariant-loop

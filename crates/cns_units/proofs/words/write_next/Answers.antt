@@ -1,7 +1,5 @@
-use Rattle.std.proofs.Common.{[], ◌∷◌}
-use Rattle.std.proofs.lemmas.Result.{err_from_is_err_and}
+use Rattle.cns_units.proofs.Common.{[], ◌∷◌, err_from_is_err_and, word_text}
 use Rattle.cns_units.proofs.OutputLemmas.{front_longer, writes_then}
-use Rattle.cns_units.specs.Words.{word_text}
 use Rattle.cns_units.proofs.words.write_next.Goals as goal
 
 pub returns-in_err-write_bytes : goal.returns-in_err-write_bytes

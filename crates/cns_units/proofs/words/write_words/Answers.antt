@@ -1,8 +1,6 @@
-use Rattle.std.proofs.Common.{◌∷◌}
-use Rattle.std.proofs.lemmas.Result.{err_from_is_err_and}
+use Rattle.cns_units.proofs.Common.{◌∷◌, err_from_is_err_and, word_text}
 use Rattle.cns_units.proofs.Parts.{parts_more, parts_failed}
 use Rattle.cns_units.specs.declared.words.Word.{Word}
-use Rattle.cns_units.specs.Words.{word_text}
 use Rattle.cns_units.proofs.words.write_words.Goals as goal
 
 pub loop-word-preserved : goal.loop-word-preserved

@@ -1,6 +1,4 @@
-use Rattle.std.proofs.Common.{◌≡◌, ℕ, List, ◌++◌, drop}
-use Rattle.std.specs.Io.KnownBytes.{Appends}
-use Rattle.cns_units.specs.Words.{words_text}
+use Rattle.cns_units.proofs.Common.{◌≡◌, ℕ, List, ◌++◌, drop, Appends, words_text}
 use Rattle.cns_units.proofs.words.write_words.Given as goal
 
 abbrev pub invariant-loop-word : goal.invariant-loop-word

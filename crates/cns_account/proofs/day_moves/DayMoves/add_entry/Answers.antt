@@ -1,9 +1,5 @@
-use Rattle.std.proofs.Common.{◌∙◌, ap}
-use Rattle.std.specs.BTreeMap.{get}
+use Rattle.cns_account.proofs.Common.{◌∙◌, ap, get, exact_keys, unmoved, with_more, Moves}
 use Rattle.cns_terms.specs.Keys.{key_cmp}
-use Rattle.cns_terms.proofs.Common.{exact_keys}
-use Rattle.cns_account.specs.Moves.{unmoved, with_more}
-use Rattle.cns_account.specs.declared.moves.Moves.{Moves}
 use Rattle.cns_account.proofs.Putting.{put_at}
 use Rattle.cns_account.proofs.day_moves.DayMoves.add_entry.Goals as goal
 

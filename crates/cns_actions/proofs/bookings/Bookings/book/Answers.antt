@@ -1,4 +1,4 @@
-use Rattle.std.proofs.lemmas.List.Elements.{recursion_from_All}
+use Rattle.cns_actions.proofs.Common.{recursion_from_All}
 use Rattle.cns_actions.proofs.BookingOrder.{has_space}
 use Rattle.cns_actions.proofs.bookings.Bookings.book.Goals as goal
 

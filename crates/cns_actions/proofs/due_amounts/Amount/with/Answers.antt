@@ -1,5 +1,4 @@
-use Rattle.std.proofs.Common.{◌+ℤ◌, arith, refl}
-use Rattle.cns_actions.proofs.Common.{ints}
+use Rattle.cns_actions.proofs.Common.{◌+ℤ◌, arith, refl, ints}
 use Rattle.cns_actions.proofs.Registers.{cents_passed, shares_passed}
 use Rattle.cns_actions.proofs.due_amounts.Amount.with.Goals as goal
 

@@ -1,5 +1,4 @@
-use Rattle.std.proofs.Common.{◌∙◌, sym, ap}
-use Rattle.cns_actions.proofs.Common.{Amount, IsSmallAmount, keys_total, sorted_from, with_entry}
+use Rattle.cns_actions.proofs.Common.{◌∙◌, sym, ap, Amount, IsSmallAmount, keys_total, sorted_from, with_entry}
 use Rattle.cns_actions.proofs.DueAmounts.{amounts_added, found_apart, had_is, room_at, small_insert}
 use Rattle.cns_actions.proofs.due_amounts.DueAmounts.add.Goals as goal
 

@@ -1,6 +1,4 @@
-use Rattle.std.proofs.Common.{◌∙◌}
-use Rattle.std.proofs.lemmas.Result.{on_ok_weaker}
-use Rattle.cns_actions.proofs.Common.{amount_at, key_of}
+use Rattle.cns_actions.proofs.Common.{◌∙◌, on_ok_weaker, amount_at, key_of}
 use Rattle.cns_actions.proofs.DueAmounts.{trade_bound, trade_room, trade_sums}
 use Rattle.cns_actions.proofs.due_amounts.DueAmounts.add_trade.Goals as goal
 

@@ -1,5 +1,4 @@
-use Rattle.std.proofs.Common.{◌≡◌, ◌++◌, map, length}
-use Rattle.cns_actions.proofs.Common.{as_booking}
+use Rattle.cns_actions.proofs.Common.{◌≡◌, ◌++◌, map, length, as_booking}
 use Rattle.cns_actions.proofs.due_amounts.DueAmounts.bookings.Given as goal
 
 abbrev pub invariant-loop-key : goal.invariant-loop-key

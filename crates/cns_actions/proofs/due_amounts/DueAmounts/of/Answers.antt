@@ -1,5 +1,4 @@
-use Rattle.std.proofs.Common.{◌+◌, ◌∙◌, sym, drop}
-use Rattle.cns_actions.proofs.Common.{amount_at, drop_all, due_entries}
+use Rattle.cns_actions.proofs.Common.{◌+◌, ◌∙◌, sym, drop, amount_at, drop_all, due_entries}
 use Rattle.cns_actions.proofs.DueAmounts.{all_booked, none_booked, room_left, trade_booked, trade_passed}
 use Rattle.cns_actions.proofs.Making.{left_first}
 use Rattle.cns_actions.proofs.due_amounts.DueAmounts.of.Goals.{then-is_due+in_ok-add_trade, else-is_due}

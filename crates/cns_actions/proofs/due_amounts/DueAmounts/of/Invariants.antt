@@ -1,5 +1,4 @@
-use Rattle.std.proofs.Common.{drop}
-use Rattle.cns_actions.proofs.Common.{due_entries}
+use Rattle.cns_actions.proofs.Common.{drop, due_entries}
 use Rattle.cns_actions.proofs.DueAmounts.{IsBooked}
 use Rattle.cns_actions.proofs.due_amounts.DueAmounts.of.Given as goal
 

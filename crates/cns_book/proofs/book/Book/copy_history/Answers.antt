@@ -1,5 +1,4 @@
-use Rattle.std.proofs.Common.{reverse}
-use Rattle.std.proofs.lemmas.Result.{IfOk-weaker}
+use Rattle.cns_book.proofs.Common.{reverse, IfOk-weaker}
 use Rattle.cns_terms.proofs.LegalReplies.{legal_replies}
 use Rattle.cns_book.proofs.BookTaking.{few_accepted}
 use Rattle.cns_book.proofs.book.Book.copy_history.Goals as goal

@@ -1,4 +1,4 @@
-use Rattle.std.proofs.Common.{reverse}
+use Rattle.cns_book.proofs.Common.{reverse}
 use Rattle.cns_book.proofs.BookTaking.{few_accepted}
 use Rattle.cns_book.proofs.book.Book.history_len.Goals as goal
 

@@ -1,5 +1,4 @@
-use Rattle.std.proofs.Common.{◌∙◌, ◌≤◌, ap, length, Some}
-use Rattle.cns_book.proofs.Common.{arc_value}
+use Rattle.cns_book.proofs.Common.{◌∙◌, ◌≤◌, ap, length, Some, arc_value}
 use Rattle.cns_book.proofs.ClosedDaysSearch.{found_as_of, none_as_of}
 use Rattle.cns_book.proofs.closed_days.ClosedDays.as_of.Goals as goal
 

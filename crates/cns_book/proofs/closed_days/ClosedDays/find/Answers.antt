@@ -1,5 +1,4 @@
-use Rattle.std.proofs.Common.{◌∙◌, ◌<◌, ap, length, Some}
-use Rattle.cns_book.proofs.Common.{arc_value, is_dated}
+use Rattle.cns_book.proofs.Common.{◌∙◌, ◌<◌, ap, length, Some, arc_value, is_dated}
 use Rattle.cns_book.proofs.ClosedDaysSearch.{nowhere_back, sheet_at}
 use Rattle.cns_book.proofs.closed_days.ClosedDays.find.Goals as goal
 

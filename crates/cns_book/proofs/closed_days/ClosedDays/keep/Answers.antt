@@ -1,4 +1,4 @@
-use Rattle.std.proofs.Common.{refl}
+use Rattle.cns_book.proofs.Common.{refl}
 use Rattle.cns_book.proofs.closed_days.ClosedDays.keep.Goals as goal
 
 pub same-self : goal.same-self

@@ -1,5 +1,4 @@
-use Rattle.std.proofs.Common.{◌≡◌, ◌++◌, map}
-use Rattle.cns_book.proofs.Common.{payments_by}
+use Rattle.cns_book.proofs.Common.{◌≡◌, ◌++◌, map, payments_by}
 use Rattle.cns_book.proofs.closed_days.ClosedDays.payments.Given as goal
 
 abbrev pub invariant-loop-declared : goal.invariant-loop-declared

@@ -1,5 +1,4 @@
-use Rattle.std.proofs.Common.{◌≡◌, map, take}
-use Rattle.cns_book.specs.Replies.{taken_in}
+use Rattle.cns_book.proofs.Common.{◌≡◌, map, take, taken_in}
 use Rattle.cns_book.proofs.history.History.copied.Given as goal
 
 abbrev pub invariant-loop-brief : goal.invariant-loop-brief

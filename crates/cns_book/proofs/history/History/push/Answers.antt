@@ -1,7 +1,6 @@
-use Rattle.std.proofs.Common.{◌∙◌, ap, [], ◌∷◌, ◌++◌, length-append, map, arith}
+use Rattle.cns_book.proofs.Common.{◌∙◌, ap, [], ◌∷◌, ◌++◌, length-append, map, arith, taken_in}
 use Rattle.cns_terms.proofs.Everywhere.{each_append}
 use Rattle.cns_book.proofs.Replies.{taken_more}
-use Rattle.cns_book.specs.Replies.{taken_in}
 use Rattle.cns_book.proofs.history.History.push.Goals as goal
 
 pub invariant_of-self : goal.invariant_of-self

@@ -1,8 +1,6 @@
-use Rattle.std.proofs.Common.{◌∙◌, sym, ap, subst, refl}
+use Rattle.cns_book.proofs.Common.{◌∙◌, sym, ap, subst, refl, Contents, Follows, is_account, journal, rules}
 use Rattle.cns_terms.specs.declared.command.Activity.TheVariants as activity
 use Rattle.cns_terms.specs.declared.reply.Reply.TheVariants as reply
-use Rattle.cns_book.proofs.Common.{Contents, Follows, is_account, journal}
-use Rattle.cns_terms.specs.Refusals.{rules}
 use Rattle.cns_book.proofs.MachineSteps.{accepted, no_refusal}
 use Rattle.cns_book.proofs.ListingSteps.{member_added}
 use Rattle.cns_book.proofs.parts.Parts.add_member.Goals as goal

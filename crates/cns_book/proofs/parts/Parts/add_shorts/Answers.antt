@@ -1,6 +1,4 @@
-use Rattle.std.proofs.Common.{◌≡◌, ◌∙◌, ◌+◌, ◌≤◌, List, pos, true, false, sym, ap, append_assoc, subst, arith, int_lt, unsigned_abs}
-use Rattle.cns_book.proofs.Common.{AllByRecursion, Row, called_in, corporation_limit, oldest_at, oldest_of}
-use lib.Signed.{le_z}
+use Rattle.cns_book.proofs.Common.{◌≡◌, ◌∙◌, ◌+◌, ◌≤◌, List, pos, true, false, sym, ap, append_assoc, subst, arith, int_lt, unsigned_abs, AllByRecursion, Row, called_in, corporation_limit, oldest_at, oldest_of, le_z}
 use Rattle.cns_book.proofs.RetransmittalShorts.{ages_fit, not_below_zero, no_member, read_back, row_given, row_passed, short_is, some_member, uncalled_row}
 use Rattle.cns_book.proofs.parts.Parts.add_shorts.Goals.{then-row-ge0-via-then-row-ge0, then-row-ge0-via-else-row-ge0+then-not-is_called}
 use Rattle.cns_book.proofs.parts.Parts.add_shorts.Goals as goal

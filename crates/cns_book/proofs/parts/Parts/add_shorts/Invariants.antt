@@ -1,5 +1,4 @@
-use Rattle.std.proofs.Common.{◌≡◌, ◌≤◌, ◌++◌, unsigned_abs}
-use Rattle.cns_book.proofs.Common.{AllByRecursion, called_in, corporation_limit, oldest_at}
+use Rattle.cns_book.proofs.Common.{◌≡◌, ◌≤◌, ◌++◌, unsigned_abs, AllByRecursion, called_in, corporation_limit, oldest_at}
 use Rattle.cns_book.proofs.RetransmittalShorts.{HasShorts}
 use Rattle.cns_book.proofs.parts.Parts.add_shorts.Given as goal
 

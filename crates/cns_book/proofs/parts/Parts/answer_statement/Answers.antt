@@ -1,6 +1,5 @@
-use Rattle.std.proofs.Common.{◌≡◌, ◌∙◌, sym, ap, true, Some}
+use Rattle.cns_book.proofs.Common.{◌≡◌, ◌∙◌, sym, ap, true, Some, DaySheet, closed_on, is_account, journal}
 use Rattle.cns_terms.specs.declared.reply.Reply.TheVariants as reply
-use Rattle.cns_book.proofs.Common.{DaySheet, closed_on, is_account, journal}
 use Rattle.cns_book.proofs.ClosedDaysSearch.{answer_stated}
 use Rattle.cns_book.proofs.parts.Parts.answer_statement.Goals as goal
 

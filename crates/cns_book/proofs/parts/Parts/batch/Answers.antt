@@ -1,6 +1,4 @@
-use Rattle.std.proofs.Common.{◌≡◌, ◌∙◌, sym, ap, subst, List, option_copied}
-use Rattle.cns_book.proofs.Common.{Contents, Follows, Liables, batch_in, batch_on, journal}
-use Rattle.cns_book.specs.Shown.{batch_listed}
+use Rattle.cns_book.proofs.Common.{◌≡◌, ◌∙◌, sym, ap, subst, List, option_copied, Contents, Follows, Liables, batch_in, batch_on, journal, batch_listed}
 use Rattle.cns_book.proofs.ExecutionRoom.{on_day}
 use Rattle.cns_book.proofs.parts.Parts.batch.Goals as goal
 

@@ -1,5 +1,4 @@
-use Rattle.std.proofs.Common.{◌≡◌, ◌∙◌, sym, ap, subst, List}
-use Rattle.cns_book.proofs.Common.{Contents, Follows, Liables, batches, batches_on, journal}
+use Rattle.cns_book.proofs.Common.{◌≡◌, ◌∙◌, sym, ap, subst, List, Contents, Follows, Liables, batches, batches_on, journal}
 use Rattle.cns_book.proofs.ExecutionRoom.{on_day}
 use Rattle.cns_book.proofs.parts.Parts.batches.Goals as goal
 

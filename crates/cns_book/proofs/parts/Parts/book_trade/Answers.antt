@@ -1,12 +1,7 @@
-use Rattle.std.proofs.Common.{◌∙◌, sym, ap, subst, refl, None, Some, Ok, List, Contains}
+use Rattle.cns_book.proofs.Common.{◌∙◌, sym, ap, subst, refl, None, Some, Ok, List, Contains, AreSmallEntries, Entry, Follows, HasRoom, books, first_refusal, is_not_after, pend_of, trade_entries, trade_rules, is_due, places_of, booking, is_used}
 use Rattle.cns_terms.specs.declared.command.Activity.TheVariants as activity
 use Rattle.cns_terms.specs.declared.command.Command.TheVariants as command
 use Rattle.cns_terms.specs.declared.reply.Reply.TheVariants as reply
-use Rattle.cns_book.proofs.Common.{AreSmallEntries, Entry, Follows, HasRoom, books, first_refusal, is_not_after, pend_of, trade_entries, trade_rules}
-use Rattle.cns_terms.specs.Pending.{is_due}
-use Rattle.cns_book.specs.Effects.{places_of}
-use Rattle.cns_trades.specs.Checks.{booking}
-use Rattle.cns_trades.specs.Used.{is_used}
 use Rattle.cns_book.proofs.MachineSteps.{accepted, refused, stopped}
 use Rattle.cns_book.proofs.TradingSteps.{answer_err, same_rows, told_later, told_now, trade_booked, trade_refusal, trade_taken, trade_waits}
 use Rattle.cns_book.proofs.PartsWithin.{rows_within, same_within}

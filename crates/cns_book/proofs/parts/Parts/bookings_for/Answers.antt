@@ -1,8 +1,5 @@
-use Rattle.std.proofs.Common.{◌≡◌, ◌∙◌, ◌↔◌, sym, ap, subst, true, false, List, Err, IfOk}
-use Rattle.std.proofs.lemmas.Result.{IfOk-weaker}
-use Rattle.cns_book.proofs.Common.{Activity, AreHolders, Contents, Follows, HasRoom, Key, Member, activity_of, age_brought, books, entries, entries_of, holding_at, is_held_up, is_too_large, issue_of, journal, members, positions_in, with_age}
+use Rattle.cns_book.proofs.Common.{◌≡◌, ◌∙◌, ◌↔◌, sym, ap, subst, true, false, List, Err, IfOk, IfOk-weaker, Activity, AreHolders, Contents, Follows, HasRoom, Key, Member, activity_of, age_brought, books, entries, entries_of, holding_at, is_held_up, is_too_large, issue_of, journal, members, positions_in, with_age, makes}
 use Rattle.cns_book.proofs.ActionSteps.{can_be_booked, entries_are, few_wait, held_up_is, holders_are, size_is}
-use Rattle.cns_actions.specs.Bookings.{makes}
 use Rattle.cns_actions.specs.declared.fault.ActionFault.TheVariants as fault
 use Rattle.cns_book.proofs.parts.Parts.bookings_for.Goals as goal
 

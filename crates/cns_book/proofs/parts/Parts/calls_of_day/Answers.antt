@@ -1,5 +1,4 @@
-use Rattle.std.proofs.Common.{◌≡◌, ◌∙◌, ◌+◌, ◌==◌, true, sym, ap, subst, Some, arith, option_map, eq-eqb, ne_eqb}
-use Rattle.cns_book.proofs.Common.{Contents, HasRoom, Noticed}
+use Rattle.cns_book.proofs.Common.{◌≡◌, ◌∙◌, ◌+◌, ◌==◌, true, sym, ap, subst, Some, arith, option_map, eq-eqb, ne_eqb, Contents, HasRoom, Noticed}
 use Rattle.cns_notices.specs.Noticed.{notice_at}
 use Rattle.cns_book.proofs.RetransmittalCalls.{call_added, call_fits, call_passed, called_whole, notice_told, other_day}
 use Rattle.cns_book.proofs.ClosingSteps.{closes_fit}

@@ -1,4 +1,4 @@
-use Rattle.std.proofs.Common.{◌≤◌, length}
+use Rattle.cns_book.proofs.Common.{◌≤◌, length}
 use Rattle.cns_book.proofs.RetransmittalCalls.{AreCalledFrom}
 use Rattle.cns_book.proofs.parts.Parts.calls_of_day.Given as goal
 

@@ -1,5 +1,4 @@
-use Rattle.std.proofs.Common.{◌≡◌, ◌∙◌, ap, sym, subst, Option, Some, None, arith, min, option_map, nat_lt, true, List, ◌+◌}
-use Rattle.cns_book.proofs.Common.{Activity, Contents, Follows, Liables, Live, Noticed, batch_on, capped_short, journal, nat_tests, refusal, room_of}
+use Rattle.cns_book.proofs.Common.{◌≡◌, ◌∙◌, ap, sym, subst, Option, Some, None, arith, min, option_map, nat_lt, true, List, ◌+◌, Activity, Contents, Follows, Liables, Live, Noticed, batch_on, capped_short, journal, nat_tests, refusal, room_of}
 use Rattle.cns_notices.specs.Noticed.{notice_at}
 use Rattle.cns_book.proofs.ExecutionRefusals.{execute_missing, execute_not_live, read_live, room_by, execute_refusal, verdict}
 use Rattle.cns_book.proofs.NoticeSteps.{notice_missing, not_live}

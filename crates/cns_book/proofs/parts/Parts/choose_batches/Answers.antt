@@ -1,5 +1,4 @@
-use Rattle.std.proofs.Common.{◌≡◌, ◌∙◌, ap, arith, List}
-use Rattle.cns_book.proofs.Common.{Activity, DaySheet, Follows, batches_of, batches_since, journal, limited}
+use Rattle.cns_book.proofs.Common.{◌≡◌, ◌∙◌, ap, arith, List, Activity, DaySheet, Follows, batches_of, batches_since, journal, limited}
 use Rattle.cns_book.proofs.RetransmittalSteps.{AreGiven, calls_are, can_choose, chosen_same, given_are, none_given, ok_both}
 use Rattle.cns_book.proofs.RetransmittalShorts.{closings_few}
 use Rattle.cns_book.proofs.parts.Parts.choose_batches.Goals.{then-not-is_empty+in_ok-add_shorts, else-not-is_empty}

@@ -1,11 +1,8 @@
-use Rattle.std.proofs.Common.{◌≡◌, ◌∙◌, ◌+◌, refl, sym, ap, subst, length, filter, flat_map, List, arith, slice_get, Contains}
-use Rattle.cns_book.proofs.Common.{Contents, Declared, Follows, HasRoom, IsCut, Key, batches_since, books, day_sheet, has_row, holding_at, ints, journal, last_dated, nat_tests, payments_by, prices_of, rolled, trade_entries}
+use Rattle.cns_book.proofs.Common.{◌≡◌, ◌∙◌, ◌+◌, refl, sym, ap, subst, length, filter, flat_map, List, arith, slice_get, Contains, Contents, Declared, Follows, HasRoom, IsCut, Key, batches_since, books, day_sheet, has_row, holding_at, ints, journal, last_dated, nat_tests, payments_by, prices_of, rolled, trade_entries, due_entries, can_same, places_of}
 use Rattle.cns_terms.specs.Dividends.{is_due}
 use Rattle.cns_terms.specs.Pending.{is_due as due_on}
 use Rattle.cns_terms.specs.declared.command.Activity.TheVariants as activity
 use Rattle.cns_terms.specs.declared.reply.Reply.TheVariants as reply
-use Rattle.cns_actions.specs.DueAmounts.{due_entries}
-use Rattle.cns_actions.proofs.Reachable.{can_same}
 use Rattle.cns_book.proofs.ActionSteps.{can_be_booked}
 use Rattle.cns_book.proofs.TradingSteps.{same_rows}
 use Rattle.cns_book.proofs.ClosingPlaces.{due_stay}
@@ -16,7 +13,6 @@ use Rattle.cns_book.proofs.ClosingSheet.{can_be_cut, can_be_paid, sheet_is}
 use Rattle.cns_book.proofs.parts.Parts.close_day.Goals.{After-enter}
 use Rattle.cns_book.proofs.parts.Parts.close_day.Given as given
 use Rattle.cns_book.proofs.parts.Parts.close_day.Goals as goal
-use Rattle.cns_book.specs.Effects.{places_of}
 
 pub cut-requires-clause-ready : goal.cut-requires-clause-ready
 cut-requires-clause-ready g c = grind (arith, can_be_cut)

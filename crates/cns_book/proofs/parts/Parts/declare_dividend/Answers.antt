@@ -1,7 +1,6 @@
-use Rattle.std.proofs.Common.{◌∙◌, sym, subst, refl}
+use Rattle.cns_book.proofs.Common.{◌∙◌, sym, subst, refl, Follows}
 use Rattle.cns_terms.specs.declared.command.Activity.TheVariants as activity
 use Rattle.cns_terms.specs.declared.reply.Reply.TheVariants as reply
-use Rattle.cns_book.proofs.Common.{Follows}
 use Rattle.cns_book.proofs.ListingSteps.{dividend_declared}
 use Rattle.cns_book.proofs.MachineSteps.{accepted}
 use Rattle.cns_book.proofs.parts.Parts.declare_dividend.Goals as goal

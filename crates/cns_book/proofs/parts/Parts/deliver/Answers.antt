@@ -1,7 +1,6 @@
-use Rattle.std.proofs.Common.{◌∙◌, sym, subst, refl, [], ◌∷◌, arith}
+use Rattle.cns_book.proofs.Common.{◌∙◌, sym, subst, refl, [], ◌∷◌, arith, Follows, HasRoom, books, corporation, delivery_rules, first_refusal, moved_in, moved_out}
 use Rattle.cns_terms.specs.declared.command.Activity.TheVariants as activity
 use Rattle.cns_terms.specs.declared.reply.Reply.TheVariants as reply
-use Rattle.cns_book.proofs.Common.{Follows, HasRoom, books, corporation, delivery_rules, first_refusal, moved_in, moved_out}
 use Rattle.cns_book.proofs.MachineSteps.{accepted, refused, stopped}
 use Rattle.cns_book.proofs.TradingMovements.{delivery_refusal}
 use Rattle.cns_book.proofs.TradingSteps.{answer_err, answer_ok, booked_by, notices_kept, same_rows}

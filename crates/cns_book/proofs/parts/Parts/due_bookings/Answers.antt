@@ -1,8 +1,5 @@
-use Rattle.std.proofs.Common.{sym, ap, subst, length, List, arith}
-use Rattle.cns_book.proofs.Common.{Contents, HasRoom, Key, Pend}
+use Rattle.cns_book.proofs.Common.{sym, ap, subst, length, List, arith, Contents, HasRoom, Key, Pend, AreElsewhere, AreApartFrom, due_entries}
 use Rattle.cns_positions.proofs.Entering.{at_error}
-use Rattle.cns_actions.specs.Bookings.{AreElsewhere}
-use Rattle.cns_actions.specs.DueAmounts.{AreApartFrom, due_entries}
 use Rattle.cns_book.proofs.PendingSteps.{none_kept, pending_few}
 use Rattle.cns_book.proofs.parts.Parts.due_bookings.Goals as goal
 

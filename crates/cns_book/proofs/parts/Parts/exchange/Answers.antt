@@ -1,14 +1,10 @@
-use Rattle.std.proofs.Common.{◌≡◌, ◌∙◌, None, sym, subst, refl}
+use Rattle.cns_book.proofs.Common.{◌≡◌, ◌∙◌, None, sym, subst, refl, Contents, Follows, HasRoom, Key, age_brought, books, entries, first_refusal, holding_at, is_listed, is_retired, journal, neither, refusal, with_age, both_hold, exchange_rules, makes}
 use Rattle.cns_terms.specs.declared.command.Activity.TheVariants as activity
 use Rattle.cns_terms.specs.declared.command.Command.TheVariants as command
 use Rattle.cns_terms.specs.declared.reply.Reply.TheVariants as reply
-use Rattle.cns_book.proofs.Common.{Contents, Follows, HasRoom, Key, age_brought, books, entries, first_refusal, holding_at, is_listed, is_retired, journal, neither, refusal, with_age}
-use Rattle.cns_terms.proofs.Sound.{both_hold}
-use Rattle.cns_book.specs.Effects.{exchange_rules}
 use Rattle.cns_book.proofs.ActionSteps.{can_be_booked, exchange_follows, exchange_unrefused, no_fault, none_fails, price_there}
 use Rattle.cns_book.proofs.MachineSteps.{accepted, stopped}
 use Rattle.cns_book.proofs.TradingSteps.{same_rows}
-use Rattle.cns_actions.specs.Bookings.{makes}
 use Rattle.cns_book.proofs.ActionPlaces.{elsewhere}
 use Rattle.cns_actions.specs.declared.action.Action.TheVariants as action
 use Rattle.cns_book.proofs.parts.Parts.exchange.Goals as goal

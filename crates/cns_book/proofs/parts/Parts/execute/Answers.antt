@@ -1,5 +1,4 @@
-use Rattle.std.proofs.Common.{◌≡◌, ◌∙◌, sym, subst}
-use Rattle.cns_book.proofs.Common.{Contents, Follows, HasRoom, IsAccepted, fills_by, journal}
+use Rattle.cns_book.proofs.Common.{◌≡◌, ◌∙◌, sym, subst, Contents, Follows, HasRoom, IsAccepted, fills_by, journal}
 use Rattle.cns_book.proofs.ExecutionSteps.{accepted_steps}
 use Rattle.cns_book.proofs.NoticeBounds.{executions_fit}
 use Rattle.cns_book.proofs.parts.Parts.execute.Goals as goal

@@ -1,5 +1,4 @@
-use Rattle.std.proofs.Common.{sym, subst, length, arith, length-append}
-use Rattle.cns_book.proofs.Common.{HasRoom, journal, notices, refusal}
+use Rattle.cns_book.proofs.Common.{sym, subst, length, arith, length-append, HasRoom, journal, notices, refusal}
 use Rattle.cns_book.proofs.ClosingSteps.{closes_fit}
 use Rattle.cns_book.proofs.MachineSteps.{accepted}
 use Rattle.cns_book.proofs.NoticeBounds.{last_day, notices_fit}

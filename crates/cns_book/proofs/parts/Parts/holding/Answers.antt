@@ -1,5 +1,4 @@
-use Rattle.std.proofs.Common.{◌≤◌, sym, subst, unsigned_abs}
-use Rattle.cns_book.proofs.Common.{HasRoom, Holding, position_limit}
+use Rattle.cns_book.proofs.Common.{◌≤◌, sym, subst, unsigned_abs, HasRoom, Holding, position_limit}
 use Rattle.cns_book.proofs.PartsWithin.{member_within}
 use Rattle.cns_book.proofs.parts.Parts.holding.Goals as goal
 

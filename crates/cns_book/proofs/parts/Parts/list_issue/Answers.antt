@@ -1,8 +1,6 @@
-use Rattle.std.proofs.Common.{◌∙◌, sym, ap, subst, refl, is_some}
-use Rattle.cns_book.proofs.Common.{Follows, is_listed, journal}
+use Rattle.cns_book.proofs.Common.{◌∙◌, sym, ap, subst, refl, is_some, Follows, is_listed, journal, rules}
 use Rattle.cns_terms.specs.declared.command.Activity.TheVariants as activity
 use Rattle.cns_terms.specs.declared.reply.Reply.TheVariants as reply
-use Rattle.cns_terms.specs.Refusals.{rules}
 use Rattle.cns_book.proofs.MachineSteps.{accepted, no_refusal}
 use Rattle.cns_book.proofs.ListingSteps.{issue_listed, listed}
 use Rattle.cns_book.proofs.parts.Parts.list_issue.Goals as goal

@@ -1,5 +1,4 @@
-use Rattle.std.proofs.Common.{◌≡◌, ◌∙◌, ap, sym, subst, false}
-use Rattle.cns_book.proofs.Common.{Contents, Follows, is_retired, journal, option_map_or}
+use Rattle.cns_book.proofs.Common.{◌≡◌, ◌∙◌, ap, sym, subst, false, Contents, Follows, is_retired, journal, option_map_or}
 use Rattle.cns_prices.specs.declared.prices.Quote.{Quote}
 use Rattle.cns_book.proofs.parts.Parts.listed_and_retired.Goals as goal
 

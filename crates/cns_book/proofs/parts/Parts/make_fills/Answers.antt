@@ -1,5 +1,4 @@
-use Rattle.std.proofs.Common.{◌∙◌}
-use Rattle.std.proofs.lemmas.Result.{IfOk-weaker}
+use Rattle.cns_book.proofs.Common.{◌∙◌, IfOk-weaker}
 use Rattle.cns_book.proofs.ExecutionSteps.{accepted_can, accepted_fills, accepted_room}
 use Rattle.cns_book.proofs.PartsWithin.{rows_within}
 use Rattle.cns_book.proofs.parts.Parts.make_fills.Goals as goal

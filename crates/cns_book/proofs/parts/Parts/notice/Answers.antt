@@ -1,4 +1,4 @@
-use Rattle.std.proofs.Common.{arith}
+use Rattle.cns_book.proofs.Common.{arith}
 use Rattle.cns_book.proofs.NoticeSteps.{notice_missing, notice_read}
 use Rattle.cns_book.proofs.parts.Parts.notice.Goals as goal
 

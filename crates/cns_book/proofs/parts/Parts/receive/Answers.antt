@@ -1,7 +1,6 @@
-use Rattle.std.proofs.Common.{◌∙◌, ap, sym, subst, refl, [], ◌∷◌, arith}
+use Rattle.cns_book.proofs.Common.{◌∙◌, ap, sym, subst, refl, [], ◌∷◌, arith, Follows, HasRoom, books, corporation, first_refusal, holding_at, moved_in, moved_out, receipt_rules}
 use Rattle.cns_terms.specs.declared.command.Activity.TheVariants as activity
 use Rattle.cns_terms.specs.declared.reply.Reply.TheVariants as reply
-use Rattle.cns_book.proofs.Common.{Follows, HasRoom, books, corporation, first_refusal, holding_at, moved_in, moved_out, receipt_rules}
 use Rattle.cns_book.proofs.MachineSteps.{accepted, refused}
 use Rattle.cns_book.proofs.ReceiptPlaces.{receipt_there}
 use Rattle.cns_book.proofs.TradingMovements.{receipt_refusal}

@@ -1,9 +1,6 @@
-use Rattle.std.proofs.Common.{◌≡◌, ◌∙◌, sym, subst, refl}
-use Rattle.std.proofs.lemmas.Bool.{not-false}
+use Rattle.cns_book.proofs.Common.{◌≡◌, ◌∙◌, sym, subst, refl, not-false, Contents, Follows, HasRoom, first_refusal, is_listed, is_retired, issue_rules, journal, rules}
 use Rattle.cns_terms.specs.declared.command.Activity.TheVariants as activity
 use Rattle.cns_terms.specs.declared.reply.Reply.TheVariants as reply
-use Rattle.cns_book.proofs.Common.{Contents, Follows, HasRoom, first_refusal, is_listed, is_retired, issue_rules, journal}
-use Rattle.cns_terms.specs.Refusals.{rules}
 use Rattle.cns_book.proofs.ActionSteps.{none_fails, price_there}
 use Rattle.cns_book.proofs.ListingSteps.{price_set}
 use Rattle.cns_book.proofs.MachineSteps.{accepted, no_refusal}

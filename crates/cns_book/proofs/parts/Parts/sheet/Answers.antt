@@ -1,5 +1,4 @@
-use Rattle.std.proofs.Common.{◌∙◌, sym, subst}
-use Rattle.cns_book.proofs.Common.{Follows}
+use Rattle.cns_book.proofs.Common.{◌∙◌, sym, subst, Follows}
 use Rattle.cns_book.proofs.ClosedDaysSearch.{sheet_found}
 use Rattle.cns_book.proofs.parts.Parts.sheet.Goals as goal
 

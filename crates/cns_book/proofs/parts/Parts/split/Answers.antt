@@ -1,12 +1,10 @@
-use Rattle.std.proofs.Common.{◌≡◌, ◌∙◌, None, sym, subst, refl, arith}
+use Rattle.cns_book.proofs.Common.{◌≡◌, ◌∙◌, None, sym, subst, refl, arith, Contents, Follows, HasRoom, Key, books, entries, holding_at, journal, refusal, makes}
 use Rattle.cns_terms.specs.declared.command.Activity.TheVariants as activity
 use Rattle.cns_terms.specs.declared.command.Command.TheVariants as command
 use Rattle.cns_terms.specs.declared.reply.Reply.TheVariants as reply
-use Rattle.cns_book.proofs.Common.{Contents, Follows, HasRoom, Key, books, entries, holding_at, journal, refusal}
 use Rattle.cns_book.proofs.ActionSteps.{can_be_booked, no_fault, split_ends, split_unrefused, with_no_age}
 use Rattle.cns_book.proofs.MachineSteps.{accepted, stopped}
 use Rattle.cns_book.proofs.TradingSteps.{booked_by, same_rows}
-use Rattle.cns_actions.specs.Bookings.{makes}
 use Rattle.cns_book.proofs.ActionPlaces.{elsewhere}
 use Rattle.cns_book.proofs.parts.Parts.split.Goals as goal
 

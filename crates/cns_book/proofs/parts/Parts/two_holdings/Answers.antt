@@ -1,5 +1,4 @@
-use Rattle.std.proofs.Common.{◌≤◌, ◌∙◌, sym, ap, subst, unsigned_abs}
-use Rattle.cns_book.proofs.Common.{Contents, HasRoom, Holding, holding_at, position_limit}
+use Rattle.cns_book.proofs.Common.{◌≤◌, ◌∙◌, sym, ap, subst, unsigned_abs, Contents, HasRoom, Holding, holding_at, position_limit}
 use Rattle.cns_book.proofs.PartsWithin.{member_within}
 use Rattle.cns_book.proofs.parts.Parts.two_holdings.Goals as goal
 

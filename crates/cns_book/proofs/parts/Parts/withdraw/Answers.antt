@@ -1,5 +1,4 @@
-use Rattle.std.proofs.Common.{arith}
-use Rattle.cns_book.proofs.Common.{journal, refusal}
+use Rattle.cns_book.proofs.Common.{arith, journal, refusal}
 use Rattle.cns_book.proofs.MachineSteps.{accepted}
 use Rattle.cns_book.proofs.NoticeSteps.{notice_withdrawn}
 use Rattle.cns_book.proofs.parts.Parts.withdraw.Goals as goal

@@ -1,5 +1,4 @@
-use Rattle.std.proofs.Common.{sym, arith}
-use Rattle.cns_book.proofs.Common.{is_live, journal, refusal}
+use Rattle.cns_book.proofs.Common.{sym, arith, is_live, journal, refusal}
 use Rattle.cns_book.proofs.NoticeSteps.{not_live, notice_missing, withdraw_by_stage, withdraw_missing}
 use Rattle.cns_book.proofs.parts.Parts.withdraw_refusal.Goals as goal
 

@@ -1,6 +1,4 @@
-use Rattle.std.proofs.Common.{◌≡◌, drop}
-use Rattle.cns_book.proofs.Common.{list_any}
-use Rattle.cns_terms.specs.Pending.{is_due}
+use Rattle.cns_book.proofs.Common.{◌≡◌, drop, list_any, is_due}
 use Rattle.cns_book.proofs.parts.opening.is_any_due.Given as goal
 
 -- one is due if one is that is left

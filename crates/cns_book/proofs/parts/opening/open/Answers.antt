@@ -1,4 +1,4 @@
-use Rattle.cns_actions.proofs.Reachable.{can_rolled}
+use Rattle.cns_book.proofs.Common.{can_rolled}
 use Rattle.cns_book.proofs.parts.opening.open.Goals as goal
 
 pub book-requires-clause-within : goal.book-requires-clause-within

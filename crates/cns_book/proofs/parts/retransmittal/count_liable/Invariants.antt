@@ -1,5 +1,4 @@
-use Rattle.std.proofs.Common.{◌≡◌, length, sum_by, take}
-use Rattle.cns_book.proofs.Common.{Liables}
+use Rattle.cns_book.proofs.Common.{◌≡◌, length, sum_by, take, Liables}
 use Rattle.cns_book.proofs.parts.retransmittal.count_liable.Given as goal
 
 abbrev pub invariant-loop-batch : goal.invariant-loop-batch

@@ -1,4 +1,4 @@
-use Rattle.std.proofs.Common.{◌∙◌, sym, rules}
+use Rattle.cns_notices.proofs.Common.{◌∙◌, sym, rules}
 use Rattle.cns_notices.proofs.Places.{forward, range_of_issue}
 use Rattle.cns_notices.proofs.latest.Latest.of_issue.Goals as goal
 

@@ -1,7 +1,5 @@
-use Rattle.std.proofs.Common.{◌≡◌, ◌∙◌, ◌<◌, sym, ap, Some, cond, is_eq, arith}
-use Rattle.cns_notices.proofs.Common.{Numbers, number_at, numbers_of}
+use Rattle.cns_notices.proofs.Common.{◌≡◌, ◌∙◌, ◌<◌, sym, ap, Some, cond, is_eq, arith, Numbers, number_at, numbers_of, Place, place_cmp}
 use Rattle.std.proofs.lemmas.Map.Views.{All-keys-insert_entry}
-use Rattle.cns_notices.specs.Latest.{Place, place_cmp}
 use Rattle.cns_notices.proofs.latest.Latest.put.Goals as goal
 use Rattle.cns_notices.proofs.latest.Latest.put.Goals.{in-Some, in-None+in_ok-clone-in-None, in-Ok, in-Err}
 

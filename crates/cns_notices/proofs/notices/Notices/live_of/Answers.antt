@@ -1,5 +1,4 @@
-use Rattle.std.proofs.Common.{◌∙◌, sym, arith}
-use Rattle.cns_notices.proofs.Common.{slice_get_read}
+use Rattle.cns_notices.proofs.Common.{◌∙◌, sym, arith, slice_get_read}
 use Rattle.cns_notices.proofs.Led.{no_number, number_within, live_there, none_there}
 use Rattle.cns_notices.proofs.notices.Notices.live_of.Goals as goal
 

@@ -1,4 +1,4 @@
-use Rattle.std.proofs.Common.{◌≡◌, ◌∙◌, sym, length}
+use Rattle.cns_notices.proofs.Common.{◌≡◌, ◌∙◌, sym, length}
 use Rattle.cns_notices.proofs.Opens.{opened_led}
 use Rattle.cns_notices.proofs.notices.Notices.open.Goals as goal
 

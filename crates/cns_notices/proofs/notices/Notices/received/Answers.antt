@@ -1,4 +1,4 @@
-use Rattle.std.proofs.Common.{◌∙◌, ◌-◌, sym, arith}
+use Rattle.cns_notices.proofs.Common.{◌∙◌, ◌-◌, sym, arith}
 use Rattle.cns_notices.proofs.Led.{live_item, live_within, received_none, received_one, set_led}
 use Rattle.cns_notices.proofs.notices.Notices.received.Goals as goal
 

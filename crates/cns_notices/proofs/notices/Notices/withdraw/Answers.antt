@@ -1,5 +1,4 @@
-use Rattle.std.proofs.Common.{◌-◌, arith}
-use Rattle.cns_notices.proofs.Common.{Withdrawn, at_stage}
+use Rattle.cns_notices.proofs.Common.{◌-◌, arith, Withdrawn, at_stage}
 use Rattle.cns_notices.proofs.Led.{set_is, set_led}
 use Rattle.cns_notices.proofs.notices.Notices.withdraw.Goals as goal
 

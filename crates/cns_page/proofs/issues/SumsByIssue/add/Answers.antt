@@ -1,9 +1,5 @@
-use Rattle.std.proofs.Common.{◌∙◌, ap, unwrap_or}
-use Rattle.std.specs.BTreeMap.{get}
-use Rattle.std.specs.Cmp.Lexicographic.{slice_cmp}
-use Rattle.std.specs.Ordering.{nat_cmp}
+use Rattle.cns_page.proofs.Common.{◌∙◌, ap, unwrap_or, get, slice_cmp, nat_cmp, put_found}
 use Rattle.std.proofs.lemmas.Map.Lookups.{exact_bytes}
-use Rattle.cns_account.proofs.Putting.{put_found}
 use Rattle.cns_page.specs.Issues.{nothing, with_row}
 use Rattle.cns_page.specs.declared.issues.IssueSums.{IssueSums}
 use Rattle.cns_page.proofs.issues.SumsByIssue.add.Goals as goal

@@ -1,9 +1,5 @@
-use Rattle.std.proofs.Common.{◌∙◌, ap}
-use Rattle.std.specs.BTreeMap.{get}
-use Rattle.cns_terms.specs.Keys.{key_cmp}
+use Rattle.cns_page.proofs.Common.{◌∙◌, ap, get, key_cmp, put_found, no_shares, with_shares}
 use Rattle.cns_terms.proofs.Common.{exact_keys}
-use Rattle.cns_account.proofs.Putting.{put_found}
-use Rattle.cns_page.specs.Due.{no_shares, with_shares}
 use Rattle.cns_page.specs.declared.pending.PendingAt.{PendingAt}
 use Rattle.cns_page.proofs.pending.PendingShares.add_side.Goals as goal
 

@@ -1,6 +1,4 @@
-use Rattle.std.proofs.Common.{take_at, drop, length, ◌∙◌, w64}
-use Rattle.cns_positions.proofs.Common.{w128}
-use Rattle.std.proofs.lemmas.Int.{to_z-of_z}
+use Rattle.cns_positions.proofs.Common.{take_at, drop, length, ◌∙◌, w64, w128, to_z-of_z}
 use Rattle.cns_positions.proofs.flat.FlatPositionsPositions.add.Goals as goal
 
 pub returns : goal.returns

@@ -1,4 +1,4 @@
-use Rattle.std.proofs.Common.{take_at, drop, length, ◌∙◌}
+use Rattle.cns_positions.proofs.Common.{take_at, drop, length, ◌∙◌}
 use Rattle.cns_positions.proofs.flat.FlatPositionsPositions.carry.Goals as goal
 
 pub returns : goal.returns

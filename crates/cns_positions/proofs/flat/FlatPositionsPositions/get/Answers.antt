@@ -1,5 +1,4 @@
-use Rattle.std.proofs.Common.{arith, refl}
-use Rattle.cns_positions.proofs.Common.{keys_total}
+use Rattle.cns_positions.proofs.Common.{arith, refl, keys_total}
 use Rattle.cns_positions.proofs.Puts.{find_gap}
 use Rattle.cns_positions.proofs.Holdings.{found_here}
 use Rattle.cns_positions.proofs.flat.FlatPositionsPositions.get.Goals as goal

@@ -1,5 +1,4 @@
-use Rattle.std.proofs.Common.{◌∙◌, ap}
-use Rattle.cns_positions.proofs.Common.{held_above}
+use Rattle.cns_positions.proofs.Common.{◌∙◌, ap, held_above}
 use Rattle.cns_positions.proofs.Held.{first_found}
 use Rattle.cns_positions.proofs.flat.FlatPositionsPositions.next_row.Goals as goal
 

@@ -1,5 +1,4 @@
-use Rattle.std.proofs.Common.{◌∙◌, None, ap}
-use Rattle.cns_positions.proofs.Common.{held_above}
+use Rattle.cns_positions.proofs.Common.{◌∙◌, None, ap, held_above}
 use Rattle.cns_positions.proofs.Changes.{above_held}
 use Rattle.cns_positions.proofs.Held.{first_found}
 use Rattle.cns_positions.proofs.tree.TreePositionsPositions.next_row.Goals as goal

@@ -1,4 +1,4 @@
-use Rattle.std.proofs.Common.{◌∙◌}
+use Rattle.cns_positions.proofs.Common.{◌∙◌}
 use Rattle.cns_positions.proofs.Holdings.{holding_closed, row_closed, sorted_closed}
 use Rattle.cns_positions.proofs.tree.TreePositionsPositions.roll.Goals as goal
 

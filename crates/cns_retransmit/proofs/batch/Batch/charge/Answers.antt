@@ -1,4 +1,4 @@
-use Rattle.std.proofs.Common.{arith, take_at}
+use Rattle.cns_retransmit.proofs.Common.{arith, take_at}
 use Rattle.cns_retransmit.proofs.Lefts.{charged_is_batch}
 use Rattle.cns_retransmit.proofs.batch.Batch.charge.Goals as goal
 

@@ -1,5 +1,4 @@
-use Rattle.std.proofs.lemmas.List.{nil_from_length}
-use Rattle.std.proofs.Common.{arith}
+use Rattle.cns_retransmit.proofs.Common.{nil_from_length, arith}
 use Rattle.cns_retransmit.proofs.Lefts.{chosen_is_batch, none_called}
 use Rattle.cns_retransmit.proofs.batch.Batch.choose.Goals as goal
 use Rattle.cns_retransmit.proofs.batch.Batch.choose.Goals.{then-total-eq0-via-then-total-eq0, then-total-eq0-via-else-total-eq0+then-is_empty}

@@ -1,5 +1,4 @@
-use Rattle.std.proofs.Common.{◌≡◌, sym, arith}
-use Rattle.cns_retransmit.proofs.Common.{cents_of_fills, fills_of, shares_of_fills}
+use Rattle.cns_retransmit.proofs.Common.{◌≡◌, sym, arith, cents_of_fills, fills_of, shares_of_fills}
 use Rattle.cns_retransmit.proofs.Charging.{fills_chargeable}
 use Rattle.cns_retransmit.proofs.batch.Batch.fill.Goals as goal
 

@@ -1,4 +1,4 @@
-use Rattle.std.proofs.Common.{arith}
+use Rattle.cns_retransmit.proofs.Common.{arith}
 use Rattle.cns_retransmit.proofs.Lefts.{left_below}
 use Rattle.cns_retransmit.proofs.batch.Batch.liable.Goals as goal
 

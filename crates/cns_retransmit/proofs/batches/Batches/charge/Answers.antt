@@ -1,4 +1,4 @@
-use Rattle.std.proofs.Common.{arith}
+use Rattle.cns_retransmit.proofs.Common.{arith}
 use Rattle.cns_retransmit.proofs.Sought.{day_charged, day_uncharged}
 use Rattle.cns_retransmit.proofs.batches.Batches.charge.Goals as goal
 

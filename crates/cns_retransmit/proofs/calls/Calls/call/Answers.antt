@@ -1,4 +1,4 @@
-use Rattle.std.proofs.Common.{sym, refl}
+use Rattle.cns_retransmit.proofs.Common.{sym, refl}
 use Rattle.cns_retransmit.proofs.Calling.{called_more}
 use Rattle.cns_retransmit.proofs.calls.Calls.call.Goals as goal
 

@@ -1,7 +1,4 @@
-use Rattle.std.proofs.Common.{sym, ◌≡◌, Some, arith}
-use Rattle.cns_retransmit.proofs.Common.{CalledIn, CanBeChosen, Cusip, ForSome, called_in, each_weaker, nat_list_cmp_total, sorted_from}
-use Rattle.std.proofs.lemmas.List.Elements.{recursion_from_All}
-use Rattle.std.proofs.lemmas.Result.{IfOk-weaker}
+use Rattle.cns_retransmit.proofs.Common.{sym, ◌≡◌, Some, arith, CalledIn, CanBeChosen, Cusip, ForSome, called_in, each_weaker, nat_list_cmp_total, sorted_from, recursion_from_All, IfOk-weaker}
 use Rattle.cns_retransmit.proofs.Calling.{batches_rise}
 use Rattle.cns_retransmit.proofs.calls.Calls.choose.Goals as goal
 

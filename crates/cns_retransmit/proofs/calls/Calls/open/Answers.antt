@@ -1,5 +1,4 @@
-use Rattle.std.proofs.Common.{sym}
-use Rattle.cns_retransmit.proofs.Common.{is_eq-slice_cmp}
+use Rattle.cns_retransmit.proofs.Common.{sym, is_eq-slice_cmp}
 use Rattle.cns_retransmit.proofs.calls.Calls.open.Goals as goal
 
 pub returns-clause-ok : goal.returns-clause-ok

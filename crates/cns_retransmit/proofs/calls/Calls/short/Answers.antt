@@ -1,6 +1,5 @@
-use Rattle.std.proofs.Common.{sym, refl, arith}
+use Rattle.cns_retransmit.proofs.Common.{sym, refl, arith, on_ok_weaker}
 use Rattle.std.proofs.lemmas.Map.Steps.{set_value_same}
-use Rattle.std.proofs.lemmas.Result.{on_ok_weaker}
 use Rattle.cns_retransmit.proofs.Calling.{short_more}
 use Rattle.cns_retransmit.proofs.calls.Calls.short.Goals as goal
 

@@ -1,5 +1,4 @@
-use Rattle.std.proofs.Common.{refl, ◌≡◌, sym, set, arith}
-use Rattle.cns_retransmit.proofs.Common.{charged_in}
+use Rattle.cns_retransmit.proofs.Common.{refl, ◌≡◌, sym, set, arith, charged_in}
 use Rattle.cns_retransmit.proofs.Sought.{batch_found, charged_rise, nothing_charged, written_charged}
 use Rattle.cns_retransmit.proofs.day.DayBatches.charge.Goals as goal
 

@@ -1,4 +1,4 @@
-use Rattle.std.proofs.Common.{sym, arith}
+use Rattle.cns_retransmit.proofs.Common.{sym, arith}
 use Rattle.cns_retransmit.proofs.Sought.{batch_found, batch_missing}
 use Rattle.cns_retransmit.proofs.day.DayBatches.find.Goals as goal
 

@@ -1,7 +1,4 @@
-use Rattle.std.proofs.Common.{◌≡◌, ◌+◌, max, is_some, refl, sym, ap, ◌∙◌, subst, rules, IfSome, Less, Equal, Greater}
-use Rattle.cns_terms.proofs.Common.{key_cmp}
-use Rattle.std.specs.FinMap.{find}
-use Rattle.cns_tree.specs.Changes.{ChangesAt}
+use Rattle.cns_tree.proofs.Common.{◌≡◌, ◌+◌, max, is_some, refl, sym, ap, ◌∙◌, subst, rules, IfSome, Less, Equal, Greater, key_cmp, find, ChangesAt}
 use Rattle.cns_tree.proofs.Changed.{if_found, found_left, found_middle, found_right, changed_left, changed_middle, changed_right, shallow_changed}
 use Rattle.cns_tree.proofs.Nodes.{at_node}
 use Rattle.cns_tree.proofs.Rows.{equal_seen, greater_seen, less_seen, sides_shorter}

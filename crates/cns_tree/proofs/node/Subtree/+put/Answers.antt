@@ -1,6 +1,4 @@
-use Rattle.std.proofs.Common.{◌≡◌, ◌<◌, ◌⊎◌, true, is_some, sym, ap, ◌∙◌, subst, rules, arith, Less, Equal, Greater}
-use Rattle.cns_terms.proofs.Common.{key_cmp, keys_total}
-use Rattle.std.specs.FinMap.{find}
+use Rattle.cns_tree.proofs.Common.{◌≡◌, ◌<◌, ◌⊎◌, true, is_some, sym, ap, ◌∙◌, subst, rules, arith, Less, Equal, Greater, key_cmp, keys_total, find}
 use Rattle.cns_tree.proofs.Rows.{puts_left, puts_middle, puts_right, sides_shorter}
 use Rattle.cns_tree.proofs.node.Subtree.+put.Goals as goal
 

@@ -1,6 +1,4 @@
-use Rattle.std.proofs.Common.{◌≡◌, sym, ap, ◌∙◌, arith, Less, Equal, Greater}
-use Rattle.cns_terms.proofs.Common.{key_cmp, keys_total}
-use Rattle.std.specs.FinMap.{find}
+use Rattle.cns_tree.proofs.Common.{◌≡◌, sym, ap, ◌∙◌, arith, Less, Equal, Greater, key_cmp, keys_total, find}
 use Rattle.cns_tree.proofs.Nodes.{at_node, shallow_top}
 use Rattle.cns_tree.proofs.Rows.{find_left, find_middle, find_right, equal_seen, greater_seen, less_seen}
 use Rattle.cns_tree.proofs.node.Subtree.get.Goals as goal

@@ -1,6 +1,4 @@
-use Rattle.std.proofs.Common.{◌≡◌, ◌+◌, ◌≤◌, length}
-use Rattle.cns_terms.proofs.Common.{key_cmp}
-use Rattle.std.specs.FinMap.{find}
+use Rattle.cns_tree.proofs.Common.{◌≡◌, ◌+◌, ◌≤◌, length, key_cmp, find}
 use Rattle.cns_tree.proofs.node.Subtree.get.Given as goal
 
 -- the key stays, it is found on the side that is left, and there are comparisons for as many levels as that has

@@ -1,4 +1,4 @@
-use Rattle.std.proofs.Common.{◌∙◌, sym}
+use Rattle.cns_tree.proofs.Common.{◌∙◌, sym}
 use Rattle.cns_tree.proofs.Nodes.{at_node, found_aside}
 use Rattle.cns_tree.proofs.node.Subtree.get_two.Goals as goal
 

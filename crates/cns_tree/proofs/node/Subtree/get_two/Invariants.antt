@@ -1,6 +1,4 @@
-use Rattle.std.proofs.Common.{◌≡◌, length}
-use Rattle.cns_terms.proofs.Common.{key_cmp}
-use Rattle.std.specs.FinMap.{find}
+use Rattle.cns_tree.proofs.Common.{◌≡◌, length, key_cmp, find}
 use Rattle.cns_tree.proofs.node.Subtree.get_two.Given as goal
 
 -- each key is found on the side that is left of its way

@@ -1,5 +1,4 @@
-use Rattle.std.proofs.Common.{◌*◌, ◌≤◌, length, subst, arith}
-use Rattle.cns_terms.proofs.Common.{binary_digits}
+use Rattle.cns_tree.proofs.Common.{◌*◌, ◌≤◌, length, subst, arith, binary_digits}
 use Rattle.cns_tree.proofs.Heights.{few_digits}
 use Rattle.cns_tree.proofs.tree.Tree.get_counted.Goals as goal
 

@@ -1,5 +1,4 @@
-use Rattle.std.proofs.Common.{◌*◌, ◌≤◌, length, ap, ◌∙◌, subst, arith}
-use Rattle.cns_terms.proofs.Common.{binary_digits}
+use Rattle.cns_tree.proofs.Common.{◌*◌, ◌≤◌, length, ap, ◌∙◌, subst, arith, binary_digits}
 use Rattle.cns_tree.proofs.Counts.{put_counts}
 use Rattle.cns_tree.proofs.Heights.{few_digits}
 use Rattle.cns_tree.proofs.tree.Tree.put_counted.Goals as goal

@@ -1,7 +1,5 @@
 -- Texts that the order doesn't tell apart are the same.
-use Rattle.std.proofs.Common.{◌≡◌, ◌∙◌, sym, ℕ, Bool, true, List}
-use Rattle.std.specs.Cmp.Lexicographic.{slice_cmp}
-use Rattle.std.specs.Ordering.{is_eq, nat_cmp}
+use Rattle.cns_units.proofs.Common.{◌≡◌, ◌∙◌, sym, ℕ, Bool, true, List, slice_cmp, is_eq, nat_cmp}
 use Rattle.std.proofs.lemmas.Map.Text.{is_eq-slice_cmp}
 use Rattle.std.proofs.lemmas.Slice.Eq.{bytes_eq-Decides}
 use Rattle.cns_units.proofs.cusip.Cusip.is_same.Goals as goal

@@ -1,5 +1,4 @@
-use Rattle.std.proofs.Common.{◌∙◌}
-use Rattle.std.specs.Ordering.{nat_cmp}
+use Rattle.cns_units.proofs.Common.{◌∙◌, nat_cmp}
 use Rattle.cns_units.proofs.CusipOrder.{cusips_order}
 use Rattle.cns_units.proofs.cusip.CusipOrd.cmp.Goals as goal
 
