@@ -1,5 +1,7 @@
 -- The tables of weights have what the definition says of each character.
-use Rattle.cns_units.proofs.Common.{◌≡◌, ◌∙◌, sym, ap, refl, ℕ, zero, suc, ◌+◌, ◌<◌, ◌%◌, Bool, true, false, ◌&&◌, cond, eqb, List, [], ◌∷◌, length, get_or, Option, Some, None, option_map, arith, eqb-true, ne_eqb, character_value, weight}
+use Rattle.cns_units.proofs.Common.{◌≡◌, ◌∙◌, ap, refl, ℕ, zero, suc, ◌+◌, ◌<◌, ◌%◌, Bool, true, false, ◌&&◌, cond, eqb, List, [], ◌∷◌, length, get_or, Option, Some, None, option_map, arith, character_value, weight}
+use Rattle.std.proofs.Common.{zero-add}
+use Rattle.std.proofs.lemmas.Bool.Decides.{nat_tests}
 
 -- the tables, from the character 35 on
 abbrev pub plain : List ℕ
@@ -16,26 +18,12 @@ weighed doubled c = option_map (weight doubled) (character_value c)
 abbrev pub told : ℕ → Option ℕ
 told w = cond (eqb w 255) None (Some w)
 
+-- whether entries say the same
 abbrev same : Option ℕ → Option ℕ → Bool
 same None None = true
 same None (Some b) = false
 same (Some a) None = false
 same (Some a) (Some b) = eqb a b
-
-same-true : (a b : Option ℕ) → same a b ≡ true → a ≡ b
-same-true None None h = refl
-same-true None (Some b) h = cc
-same-true (Some a) None h = cc
-same-true (Some a) (Some b) h = ap Some (eqb-true a b h)
-
--- the first of two tests that hold together
-pub and_left : (a b : Bool) → (a && b) ≡ true → a ≡ true
-and_left true b h = refl
-and_left false b h = h
-
-pub and_right : (a b : Bool) → (a && b) ≡ true → b ≡ true
-and_right true b h = h
-and_right false b h = cc
 
 -- whether entries are right, of which the first is that of a character
 abbrev agree : Bool → List ℕ → ℕ → Bool
@@ -44,12 +32,13 @@ agree doubled (w ∷ ws) c = same (told w) (weighed doubled c) && agree doubled 
 
 agree_at : (doubled : Bool) (ws : List ℕ) (c p : ℕ) → agree doubled ws c ≡ true → p < length ws → told (get_or ws p 0) ≡ weighed doubled (p + c)
 agree_at doubled [] c p h lt = absurd (omega (arith, lt))
-agree_at doubled (w ∷ ws) c zero h lt =
-    let first : c ≡ 0 + c = omega arith in
-    same-true (told w) (weighed doubled c) (and_left _ _ h) ∙ ap (weighed doubled) first
+agree_at doubled (w ∷ ws) c zero h lt = rw zero-add (same-true (told w) (weighed doubled c) (grind (arith, h)))
+  where
+    same-true : (a b : Option ℕ) → same a b ≡ true → a ≡ b
+    same-true a b h = grind (arith, nat_tests, h)
 agree_at doubled (w ∷ ws) c (suc p) h lt =
     let same_place : p + suc c ≡ suc p + c = omega arith in
-    agree_at doubled ws (suc c) p (and_right _ _ h) (omega (arith, lt)) ∙ ap (weighed doubled) same_place
+    agree_at doubled ws (suc c) p (grind (arith, h)) (omega (arith, lt)) ∙ ap (weighed doubled) same_place
 
 -- the table of one kind of weights
 abbrev pub table : Bool → List ℕ
@@ -58,16 +47,17 @@ table false = plain
 
 -- the entry of a character
 entry : (doubled : Bool) (c p : ℕ) → p ≡ (c + 221) % 256 → c < 256 → p < 56 → told (get_or (table doubled) p 0) ≡ weighed doubled c
-entry true c p is small lt =
+entry doubled c p is small lt =
     let here : p + 35 ≡ c = omega (arith, is, small, lt) in
-    agree_at true twice 35 p refl lt ∙ ap (weighed true) here
-entry false c p is small lt =
-    let here : p + 35 ≡ c = omega (arith, is, small, lt) in
-    agree_at false plain 35 p refl lt ∙ ap (weighed false) here
+    first doubled ∙ ap (weighed doubled) here
+  where
+    first : (doubled : Bool) → told (get_or (table doubled) p 0) ≡ weighed doubled (p + 35)
+    first true = agree_at true twice 35 p refl lt
+    first false = agree_at false plain 35 p refl lt
 
 -- a character without a value, and one with a value
 pub no_weight : (doubled : Bool) (c p w : ℕ) → p ≡ (c + 221) % 256 → c < 256 → p < 56 → w ≡ get_or (table doubled) p 0 → w ≡ 255 → None ≡ weighed doubled c
-no_weight doubled c p w is small lt read none = sym (ap told (sym read ∙ none)) ∙ entry doubled c p is small lt
+no_weight doubled c p w is small lt read none = grind (arith, nat_tests, entry doubled c p is small lt)
 
 pub some_weight : (doubled : Bool) (c p w : ℕ) → p ≡ (c + 221) % 256 → c < 256 → p < 56 → w ≡ get_or (table doubled) p 0 → (w ≡ 255 → ⊥) → Some w ≡ weighed doubled c
-some_weight doubled c p w is small lt read some = sym (ap (λ b. cond b None (Some w)) (ne_eqb w 255 some)) ∙ ap told read ∙ entry doubled c p is small lt
+some_weight doubled c p w is small lt read some = grind (arith, nat_tests, entry doubled c p is small lt)

@@ -1,5 +1,5 @@
 -- No two days have the same number.
-use Rattle.cns_units.proofs.Common.{◌≡◌, ℕ, ◌≤◌, ℤ, pos, Bool, true, false, ◌&&◌, nat_le, nat_eq, refl, sym, ap, arith, eqb-true, eq-eqb, ints, int_eq}
+use Rattle.cns_units.proofs.Common.{◌≡◌, ℕ, ◌≤◌, ℤ, pos, Bool, true, false, ◌&&◌, nat_le, nat_eq, refl, ap, arith, ints, int_eq}
 use Rattle.std.proofs.Common.{unsigned_abs}
 use Rattle.std.proofs.lemmas.Bool.Decides.{nat_tests, Decides-int_eq}
 use Rattle.jiff_core.specs.declared.civil.date.Date.{Date}
@@ -19,8 +19,7 @@ date_of c h =
 
 -- the test of two numbers, where the numbers differ
 apart : (x y : ℤ) → (x ≡ y → ⊥) → (b : Bool) → int_eq x y ≡ b → false ≡ b
-apart x y h true e = absurd (h ((Decides-int_eq x y).0 e))
-apart x y h false e = refl
+apart x y h b e = grind (arith, Decides-int_eq x y, h)
 
 -- days whose parts differ have different numbers
 pub differ : (a b : CalendarDay) → is_calendar_day a.year a.month a.day ≡ true → is_calendar_day b.year b.month b.day ≡ true
@@ -29,12 +28,6 @@ unfolding date_of
 differ a b p q h = apart (day_number a) (day_number b) (λ e. let same = epoch_day_injective (date_of a p) (date_of b q) e in h (ap unsigned_abs same.0, same.1, same.2)) _ refl
 
 -- the test of two years, where the other parts agree
-years_of : (b : Bool) (x y m d m' d' : ℕ) → nat_eq x y ≡ b → is_calendar_day x m d ≡ true → is_calendar_day y m' d' ≡ true → m ≡ m' → d ≡ d' → b ≡ int_eq (day_number (record { year = x; month = m; day = d })) (day_number (record { year = y; month = m'; day = d' }))
-years_of true x y m d m' d' e p q em ed =
-    let z : ℤ = day_number (record { year = x; month = m; day = d }) in
-    rw (← eqb-true x y e, ← em, ← ed) (sym ((Decides-int_eq z z).1 refl))
-years_of false x y m d m' d' e p q em ed = differ (record { year = x; month = m; day = d }) (record { year = y; month = m'; day = d' }) p q (λ same. absurd (cc (e, eq-eqb x y same.0)))
-
 pub years_test : (a b : CalendarDay) → is_calendar_day a.year a.month a.day ≡ true → is_calendar_day b.year b.month b.day ≡ true
     → a.month ≡ b.month → a.day ≡ b.day → nat_eq a.year b.year ≡ int_eq (day_number a) (day_number b)
-years_test a b p q m d = years_of _ a.year b.year a.month a.day b.month b.day refl p q m d
+years_test a b p q m d = grind (arith, nat_tests, Decides-int_eq (day_number a) (day_number b), differ a b p q)

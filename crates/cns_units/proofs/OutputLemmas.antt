@@ -1,5 +1,5 @@
 -- One text after another, written to one writer.
-use Rattle.cns_units.proofs.Common.{◌≡◌, ℕ, ◌+◌, ◌-◌, ◌<◌, ◌≤◌, List, [], ◌∷◌, ◌++◌, Option, Some, None, Result, Ok, Err, refl, sym, ap, ◌∙◌, append_assoc, append-nil, arith, length, length-append, take, drop, take-append-drop, length-drop, Appends, Keeps, Appends-trans, AppendsFront, Writes}
+use Rattle.cns_units.proofs.Common.{◌≡◌, ℕ, ◌+◌, ◌-◌, ◌<◌, ◌≤◌, List, [], ◌++◌, Option, Result, sym, ap, ◌∙◌, append_assoc, append-nil, arith, length, length-append, take, drop, take-append-drop, length-drop, Appends, Keeps, Appends-trans, AppendsFront, Writes}
 use Rattle.std.proofs.Math.Seq.{take-add, take-length}
 
 pub front_longer : (old new : Option (List ℕ)) (a b : List ℕ) → AppendsFront old new a → AppendsFront old new (a ++ b)
@@ -22,8 +22,7 @@ front_later old mid new a b first w = record {
 
 -- a text that was written, and then what the last call did
 pub writes_then : {T E : Type 0} (old mid new : Option (List ℕ)) (a b : List ℕ) (r : Result T E) → Appends old mid a → Writes mid new b r → Writes old new (a ++ b) r
-writes_then old mid new a b (Ok x) first last = Appends-trans old mid new a b first last
-writes_then old mid new a b (Err e) first last = front_later old mid new a b first last
+writes_then old mid new a b r first last = grind (arith, Appends-trans old mid new a b first, front_later old mid new a b first, last)
 
 -- the first bytes of a text, which a writer took
 pub appends_front : (old new : Option (List ℕ)) (n : ℕ) (text : List ℕ) → n < length text → Appends old new (take n text) → AppendsFront old new text
@@ -36,10 +35,7 @@ appends_front old new n text lt h = record {
 }
 
 appends_kept : (old mid new : Option (List ℕ)) (a : List ℕ) → Appends old mid a → Keeps mid new → Appends old new a
-appends_kept None mid new a p q = tt
-appends_kept (Some x) None new a p q = absurd p
-appends_kept (Some x) (Some y) None a p q = absurd q
-appends_kept (Some x) (Some y) (Some z) a p q = q ∙ p
+appends_kept old mid new a p q = grind (arith, p, q)
 
 -- the part of the text from a place on
 rest_is : (bs : List ℕ) (at : ℕ) → take (length bs - at) (drop at bs) ≡ drop at bs
@@ -53,12 +49,8 @@ took_more old mid new bs at n le bound a b =
     let b' : Appends mid new (take n (drop at bs)) = rw rest_is at b in
     (omega (arith, length-drop at bs), rw (take-add at n bs) (Appends-trans old mid new (take at bs) (take n (drop at bs)) a b'))
 
-take_none : (xs : List ℕ) → take 0 xs ≡ []
-take_none [] = refl
-take_none (x ∷ xs) = refl
-
 pub took_none : (old mid new : Option (List ℕ)) (bs xs : List ℕ) (at n : ℕ) → at < length bs → n ≡ 0 → Appends old mid (take at bs) → Appends mid new (take n xs) → AppendsFront old new bs
-took_none old mid new bs xs at n lt zero a b = appends_front old new at bs lt (rw append-nil at (Appends-trans old mid new (take at bs) [] a (rw (zero, take_none) at b)))
+took_none old mid new bs xs at n lt zero a b = appends_front old new at bs lt (rw append-nil at (Appends-trans old mid new (take at bs) [] a (rw zero at b)))
 
 pub took_failed : (old mid new : Option (List ℕ)) (bs : List ℕ) (at : ℕ) → at < length bs → Appends old mid (take at bs) → Keeps mid new → AppendsFront old new bs
 took_failed old mid new bs at lt a b = appends_front old new at bs lt (appends_kept old mid new (take at bs) a b)

@@ -15,16 +15,12 @@ pub given_failed : {X : Type 0} (old mid new : Option (List ℕ)) (f : X → Lis
 given_failed old mid new f text left x rest done next whole a b =
     rw (whole, next) (front_later old mid new done (f x ++ flat_map f rest) a (front_longer mid new (f x) (flat_map f rest) b))
 
--- the items from a place on
-items_from : {X : Type 0} (xs : List X) (i : ℕ) (d : X) → i < length xs → drop i xs ≡ get_or xs i d ∷ drop (i + 1) xs
-items_from xs i d lt = rw add-one (drop-cons xs i d lt)
-
 -- the same of the items from a place on
 pub parts_more : {X : Type 0} (old mid new : Option (List ℕ)) (f : X → List ℕ) (xs : List X) (i : ℕ) (d : X) (done : List ℕ) → i < length xs
     → flat_map f xs ≡ done ++ flat_map f (drop i xs) → Appends old mid done → Appends mid new (f (get_or xs i d))
     → (more : List ℕ) × (flat_map f xs ≡ more ++ flat_map f (drop (i + 1) xs)) × Appends old new more
-parts_more old mid new f xs i d done lt whole a b = given_more old mid new f (flat_map f xs) (drop i xs) (get_or xs i d) (drop (i + 1) xs) done (items_from xs i d lt) whole a b
+parts_more old mid new f xs i d done lt whole a b = given_more old mid new f _ _ (get_or xs i d) (drop (i + 1) xs) done (rw add-one (drop-cons xs i d lt)) whole a b
 
 pub parts_failed : {X : Type 0} (old mid new : Option (List ℕ)) (f : X → List ℕ) (xs : List X) (i : ℕ) (d : X) (done : List ℕ) → i < length xs
     → flat_map f xs ≡ done ++ flat_map f (drop i xs) → Appends old mid done → AppendsFront mid new (f (get_or xs i d)) → AppendsFront old new (flat_map f xs)
-parts_failed old mid new f xs i d done lt whole a b = given_failed old mid new f (flat_map f xs) (drop i xs) (get_or xs i d) (drop (i + 1) xs) done (items_from xs i d lt) whole a b
+parts_failed old mid new f xs i d done lt whole a b = given_failed old mid new f _ _ (get_or xs i d) (drop (i + 1) xs) done (rw add-one (drop-cons xs i d lt)) whole a b
