@@ -175,6 +175,7 @@ fn push_member<A: Allocator + Drop>(
 
 // What is booked for a split or an exchange, in the order of keys: for the corporation the opposite of what the positions
 // of all members become together, and for the members; with each the age that an exchange brings.
+#[tactic(auto, using(crate::proofs::BookingOrder::bookings_next))]
 fn all_bookings<P: Positions<B>, B, A: Allocator + Drop + Clone>(
     alloc: &A,
     positions: &P,
@@ -237,6 +238,7 @@ fn all_bookings<P: Positions<B>, B, A: Allocator + Drop + Clone>(
 /// It looks twice at the place of each account in the issue, for the size and the sums and for what is booked, in an
 /// exchange once at its place in the successor, and once at what each member is to get and to give there. A copy of
 /// `alloc` keeps the bookings.
+#[tactic(auto, using(std::proofs::lemmas::Result::err_from_is_err_and, crate::proofs::BookingOrder::all_in_issues, crate::proofs::BookingOrder::all_sorted, crate::proofs::BookingLimits::same_large, crate::proofs::BookingSums::same_makes))]
 pub fn bookings_for<P: Positions<B>, B, A: Allocator + Drop + Clone, C: Allocator + Drop>(
     alloc: &A,
     positions: &P,

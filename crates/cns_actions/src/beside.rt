@@ -42,6 +42,7 @@ fn rows_of<P: Positions<B>, B, A: Allocator + Drop>(
 }
 
 // A copy of positions.
+#[tactic(auto, using(cns_positions::proofs::Unheld::held_same, cns_positions::proofs::Unheld::held_sorted))]
 fn copied<P: Positions<B>, B, A: Allocator + Drop>(alloc: A, positions: &P) -> Result<P, NoMemory>
     ensures { IfOk result (λ p. (k : Key) → holding_at (P.rows p) k ≡ holding_at (P.rows positions.now) k) }
 {

@@ -35,6 +35,7 @@ impl<A: Allocator + Drop> Model for Bookings<A> {
 }
 
 // Gives each key a row.
+#[tactic(auto, using(crate::proofs::Making::elsewhere_at, crate::proofs::Making::others_stay))]
 fn enter_all<P: Positions<A>, A>(positions: &mut P, bookings: &[Booking]) -> Result<(), NoMemory>
     ensures same { (k : Key) → holding_at (P.rows positions.new) k ≡ holding_at (P.rows positions.old) k }
     ensures there { OnOk result (AreEntered (P.rows positions.new) bookings.now) }
@@ -48,6 +49,7 @@ fn enter_all<P: Positions<A>, A>(positions: &mut P, bookings: &[Booking]) -> Res
 }
 
 // Books one: the opening and the age of the key's row stay.
+#[tactic(auto, using(crate::proofs::Making::made_alone, crate::proofs::Registers::cents_passed, crate::proofs::Registers::shares_passed))]
 fn book_one<P: Positions<A>, A>(positions: &mut P, booking: &Booking)
     requires there { has_row (P.rows positions.old) (key_of booking.now.entry) ≡ true }
     requires space { HasSpace (holding_at (P.rows positions.old) (key_of booking.now.entry)) }
@@ -64,6 +66,7 @@ fn book_one<P: Positions<A>, A>(positions: &mut P, booking: &Booking)
 }
 
 // Books them, one after another. It takes no memory.
+#[tactic(auto, using(crate::proofs::Making::left_first, crate::proofs::Making::makes_first, crate::proofs::Making::next_ready))]
 fn book_all<P: Positions<A>, A>(positions: &mut P, bookings: &[Booking])
     requires there { AreEntered (P.rows positions.old) bookings.now }
     requires space { HaveSpace (P.rows positions.old) bookings.now }
@@ -103,6 +106,7 @@ impl<A: Allocator + Drop> Bookings<A> {
     /// Makes the bookings: each key gets its shares and cents, and the age that is brought where that is greater than what was
     /// brought before. Its opening and its own age stay, and so does every other key. It takes no memory, and no key gets a
     /// row.
+    #[tactic(auto, using(std::proofs::lemmas::List::Elements::recursion_from_All, crate::proofs::BookingOrder::has_space))]
     pub fn book<P: Positions<B>, B>(&self, positions: &mut P)
         requires there { AreEntered (P.rows positions.old) self.now }
         requires within { CanBeBooked (P.rows positions.old) }

@@ -26,6 +26,7 @@ fn converted(q: i64, ratio: Ratio) -> i64
 }
 
 // What the cut leaves, in parts of a new share.
+#[tactic(auto, using(std::proofs::lemmas::Int::rem_is, cns_terms::proofs::Quotients::rest_of))]
 fn fraction(q: i64, ratio: Ratio) -> i64
     requires { unsigned_abs q ≤ position_limit }
     ensures exact { result ≡ fraction ratio q }

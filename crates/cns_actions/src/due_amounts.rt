@@ -29,6 +29,7 @@ impl Amount {
     };
 
     /// With what one more entry books.
+    #[tactic(auto, using(std::proofs::lemmas::Int::ints, crate::proofs::Registers::cents_passed, crate::proofs::Registers::shares_passed))]
     pub fn with(self, entry: &Entry) -> Amount
         requires room { IsSmallAmount self }
         requires small { IsSmall entry.now }
@@ -95,6 +96,7 @@ impl<A: Allocator + Drop + Clone> DueAmounts<A> {
     }
 
     // Books a trade, for its buyer and for its seller.
+    #[tactic(auto, using(std::proofs::lemmas::Result::on_ok_weaker, crate::proofs::DueAmounts::trade_sums))]
     fn add_trade(&mut self, pend: &Pend) -> Result<(), NoMemory>
         requires { (k : Key) → HasRoomForTrade (amount_at self.old k) }
         ensures sums { OnOk result ((k : Key)

@@ -40,6 +40,7 @@ fn last_issue() -> Cusip {
 }
 
 // A key from which on no rows of an account are left, and not before a row of it.
+#[tactic(auto, using(cns_terms::proofs::Keys::keys_total, cns_terms::proofs::Finds::not_itself))]
 fn past(row: &Key) -> Key
     ensures account { result.account ≡ row.now.account }
     ensures order { is_lt (key_cmp result row.now) ≡ false }
@@ -91,6 +92,7 @@ fn holder_at<P: Positions<A>, A>(positions: &P, account: Account, issue: &Cusip)
 /// key.
 ///
 /// An account costs two ways down, to its first row and to its place in the issue; its other rows are passed over.
+#[tactic(auto, using(crate::proofs::Skipping::none_left, crate::proofs::Skipping::same_left))]
 pub(crate) fn next_holder<P: Positions<A>, A>(
     positions: &P,
     issue: &Cusip,

@@ -1,6 +1,6 @@
 -- What a worker is given may go to another thread, and so may what it hands back.
 -- For `start` of threads.rt.
-use Rattle.cns_terms.proofs.Common.{IsSend, crosses, sendable}
+use Rattle.cns_desk.proofs.Common.{IsSend, crosses, sendable}
 use denote.Hole.{as_row}
 use denote.RattleType.{RattleType}
 use denote.Ref.{NamedLft}

@@ -1,7 +1,6 @@
 -- The sheet that is handed out with a statement.
 -- For `sheet` of kept.rt.
-use Rattle.std.proofs.Common.{◌≡◌, refl, cond, Bool, true, not, List, [], ◌∷◌, Some, None, Option, option_map, find, is_none, unwrap_or, arith}
-use Rattle.cns_terms.proofs.Common.{Day, DaySheet, Journal, accepted, answer_to, date, day_sheet, first_refusal, is_same_day, journal, option_map_or, sheet_on, statement}
+use Rattle.cns_desk.proofs.Common.{◌≡◌, refl, cond, Bool, true, not, List, [], ◌∷◌, Some, None, Option, option_map, find, is_none, unwrap_or, arith, Day, DaySheet, Journal, accepted, answer_to, date, day_sheet, first_refusal, is_same_day, journal, option_map_or, sheet_on, statement}
 use Rattle.cns_terms.specs.declared.history.Taken.{Taken}
 use Rattle.cns_terms.specs.declared.command.Command.TheVariants as command
 use Rattle.cns_terms.specs.declared.refusal.Refusal.TheVariants.{NoSuchDay, NoSuchMember}

@@ -1,11 +1,6 @@
 -- One worker more that was joined.
 -- For `join_all` of threads.rt, `run_audited` of run.rt.
-use Rattle.std.proofs.Common.{◌≡◌, ap, refl, Bool, ℕ, suc, ◌≤◌, ◌⊎◌, ◌↔◌, inl, inr, ◌<◌, List, [], ◌∷◌, ◌++◌, length, drop, Option, arith, append_assoc, IfSome, slice_index_or}
-use Rattle.cns_terms.proofs.Common.{AllByRecursion, PromisedHandle, Told, cases_lt}
-use Rattle.cns_desk.specs.Logged.{Logged}
-use Rattle.cns_desk.specs.Promised.{promised}
-use Rattle.cns_desk.specs.Worked.{HaveRun, Worked}
-use Rattle.cns_desk.specs.Seats.{AreFresh, IsFresh, Sitting, fresh}
+use Rattle.cns_desk.proofs.Common.{◌≡◌, ap, refl, Bool, ℕ, suc, ◌≤◌, ◌⊎◌, ◌↔◌, inl, inr, ◌<◌, List, [], ◌∷◌, ◌++◌, length, drop, Option, arith, append_assoc, IfSome, slice_index_or, AllByRecursion, PromisedHandle, Told, cases_lt, Logged, promised, HaveRun, Worked, AreFresh, IsFresh, Sitting, fresh}
 use Rattle.cns_desk.specs.declared.end.End.{End}
 use Rattle.cns_desk.specs.declared.threads.Works.{Works}
 
@@ -13,10 +8,7 @@ use Rattle.cns_desk.specs.declared.threads.Works.{Works}
 pub run_more : {S : Type 0} (fails : Bool) (told : S → Option Told) (ss : List S) (ls : List Logged) (es : List End) (s : S) (l : Logged) (e : End) → HaveRun fails told ss ls es → IfSome (told s) (λ t. Worked fails t l e) → HaveRun fails told (ss ++ s ∷ []) (ls ++ l ∷ []) (es ++ e ∷ [])
 run_more fails told [] [] [] s l e h k = (k, tt)
 run_more fails told (a ∷ ss) (b ∷ ls) (c ∷ es) s l e h k = (h.0, run_more fails told ss ls es s l e h.1 k)
-run_more fails told [] [] (c ∷ es) s l e h k = absurd h
-run_more fails told [] (b ∷ ls) es s l e h k = absurd h
-run_more fails told (a ∷ ss) [] es s l e h k = absurd h
-run_more fails told (a ∷ ss) (b ∷ ls) [] s l e h k = absurd h
+run_more fails told _ _ _ s l e h k = absurd h
 
 -- the sources of what was joined and of what is left
 pub sources_same : {T S : Type 0} (done all : List S) (old new : List (PromisedHandle T (Works S))) (h : PromisedHandle T (Works S)) → done ++ promised old ≡ all → 0 < length old → h ≡ slice_index_or old 0 h → new ≡ drop 1 old
@@ -27,10 +19,7 @@ sources_same done all old new h is some first rest = grind (arith, append_assoc)
 pub run_len : {S : Type 0} (fails : Bool) (told : S → Option Told) (ss : List S) (ls : List Logged) (es : List End) → HaveRun fails told ss ls es → length ls ≡ length ss
 run_len fails told [] [] [] h = refl
 run_len fails told (a ∷ ss) (b ∷ ls) (c ∷ es) h = ap suc (run_len fails told ss ls es h.1)
-run_len fails told [] [] (c ∷ es) h = absurd h
-run_len fails told [] (b ∷ ls) es h = absurd h
-run_len fails told (a ∷ ss) [] es h = absurd h
-run_len fails told (a ∷ ss) (b ∷ ls) [] h = absurd h
+run_len fails told _ _ _ h = absurd h
 
 -- seats whose counts are 0 are fresh
 fresh_each : (seats : List Sitting) (d : Sitting) → ((k : ℕ) → k < length seats → (slice_index_or seats k d).count ≡ 0) → AllByRecursion IsFresh seats

@@ -1,6 +1,6 @@
 -- Workers by their numbers.
 -- For `worker_of` of seat.rt.
-use Rattle.std.proofs.Common.{◌≡◌, ℕ, Ok, arith}
+use Rattle.cns_desk.proofs.Common.{◌≡◌, ℕ, Ok, arith}
 use Rattle.cns_units.specs.Ranges.{within}
 use Rattle.std.proofs.lemmas.Bool.Decides.{nat_tests}
 

@@ -57,6 +57,7 @@ fn fits<P: Positions<Global>>(
 }
 
 // The first place, from 1, at which the items are not the worker's part of the history.
+#[tactic(auto, using(crate::proofs::Differences::same_more, crate::proofs::Differences::too_many, crate::proofs::Differences::misfit, crate::proofs::Differences::too_few))]
 fn first_difference<P: Positions<Global>>(
     book: &Book<P, Global>,
     worker: Worker,
@@ -93,6 +94,7 @@ fn items_of(logs: &[Log], worker: Worker) -> &[LogItem]
 /// Ok exactly where each worker's log is its part of the history: of the same length, and at each place the entry of that
 /// worker with that number, with the command, the reply and, where a sheet was kept, the sheet of the log. The first log
 /// is that of worker 1; a worker without a log has an empty one. At most 64 logs. Takes no memory and waits for nobody.
+#[tactic(auto, using(crate::proofs::Differences::no_part))]
 pub fn audit<P: Positions<Global>>(book: &Book<P, Global>, logs: &[Log]) -> Result<(), Mismatch>
     requires { length logs.now ≤ 64 }
     ensures ok { (result ≡ Ok tt) ↔ AreParts book.now.log logs.now }

@@ -112,6 +112,7 @@ impl<L: Ledger, P: Positions<Global>> Kept<L, P> {
     /// worker. Where no closed day has the date, the command is refused and no sheet is handed out. `Full` exactly where the
     /// history is at its limit. `NoMemory` also where the copy of the sheet's `Arc` is refused, and then nothing is taken.
     /// After a fault the book and the seat are as they were.
+    #[tactic(auto, using(crate::proofs::Handing::hands))]
     pub fn sheet(
         &mut self,
         seat: &mut Seat<L>,

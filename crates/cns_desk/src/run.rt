@@ -69,6 +69,7 @@ fn gather<
 }
 
 // The same on a new desk of the ledger L. What the workers logged is audited before it is handed back.
+#[tactic(auto, using(crate::proofs::Joined::at_most, crate::proofs::Joined::run_len))]
 fn run_audited<
     L: Ledger + Send + Sync,
     S: Source + Send + Drop,

@@ -1,15 +1,9 @@
 -- The dividends that a close pays.
 -- For `due` of dividends.rt.
-use Rattle.std.proofs.Common.{◌≡◌, ◌∙◌, sym, ap, subst, refl, ℕ, ◌<◌, Bool, true, false, cond, [], ◌∷◌, length, filter, Option, Some, None, arith, int_cmp}
-use Rattle.cns_terms.proofs.Common.{Day, Included, day_number, nat_tests, range_contains}
-use Rattle.std.specs.BTreeMap.Range.{IsLeBy, IsLtBy}
-use Rattle.std.specs.Bound.{IsForward}
-use Rattle.std.specs.Ordering.{on, ord_min}
+use Rattle.cns_dividends.proofs.Common.{◌≡◌, ◌∙◌, sym, ap, subst, refl, ℕ, ◌<◌, Bool, true, false, cond, [], ◌∷◌, length, filter, Option, Some, None, arith, int_cmp, Day, Included, day_number, nat_tests, range_contains, IsLeBy, IsLtBy, IsForward, on, ord_min, Declared, AreBelow, Placed, dividends_of}
 use Rattle.std.specs.declared.ops.Bound.{Bound}
 use Rattle.std.specs.declared.ops.Bound.TheVariants.{Excluded, Unbounded}
-use Rattle.cns_terms.specs.declared.action.Declared.{Declared}
 use Rattle.cns_terms.specs.Dividends.{is_due}
-use Rattle.cns_dividends.specs.Placed.{AreBelow, Placed, dividends_of}
 use Rattle.cns_dividends.proofs.Places.{place_cmp}
 
 -- where a search begins: behind the day of the last close, or behind this one where that comes before it

@@ -1,11 +1,7 @@
 -- Dividends in their places.
 -- For `declare` and `due` of dividends.rt.
-use Rattle.std.proofs.Common.{◌≡◌, ◌∙◌, sym, ap, subst, refl, ℕ, suc, ◌<◌, cond, [], ◌∷◌, length, arith, int_lt, int_cmp, nat_cmp, Ordering, Less, Greater}
-use Rattle.cns_terms.proofs.Common.{Day, day_number, insert_entry, ordering_then, pays_before}
-use Rattle.std.specs.Ordering.{on}
-use Rattle.cns_terms.specs.declared.action.Declared.{Declared}
+use Rattle.cns_dividends.proofs.Common.{◌≡◌, ◌∙◌, sym, ap, subst, refl, ℕ, suc, ◌<◌, cond, [], ◌∷◌, length, arith, int_lt, int_cmp, nat_cmp, Ordering, Less, Greater, Day, day_number, insert_entry, ordering_then, pays_before, on, Declared, AreBelow, Placed, dividends_of}
 use Rattle.cns_terms.specs.Sums.{put}
-use Rattle.cns_dividends.specs.Placed.{AreBelow, Placed, dividends_of}
 
 -- the order of places: by the day, then by the number
 abbrev pub place_cmp : Day × ℕ → Day × ℕ → Ordering

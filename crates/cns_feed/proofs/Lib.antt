@@ -1,3 +1,4 @@
+pub mod Common
 pub mod DigitLemmas
 pub mod RecordLemmas
 pub mod PlayLemmas

@@ -1,17 +1,11 @@
 -- A book and a text after lines, and after one more.
 -- For `replay_up_to` and `play` of player.rt, `take_all` of loader.rt.
-use Rattle.std.proofs.Common.{◌≡◌, ◌≢◌, ℕ, ◌+◌, ◌≤◌, List, [], ◌∷◌, ◌++◌, length, Option, Some, None, Result, IfErr, IfOk, OnOk, refl, sym, ap, subst, ◌∙◌, append_assoc, append-nil, length-append, arith, IfSome}
-use Rattle.cns_terms.proofs.Common.{Appends, Keeps, State, sum_by-append}
-use Rattle.std.proofs.KnownBytes.{Appends-kept, Appends-nil, Appends-trans, Keeps-refl}
+use Rattle.cns_feed.proofs.Common.{◌≡◌, ℕ, ◌+◌, ◌≤◌, List, [], ◌∷◌, ◌++◌, length, Option, Some, None, refl, sym, ap, subst, ◌∙◌, append_assoc, append-nil, length-append, arith, IfSome, Appends, Keeps, State, sum_by-append, Appends-kept, Appends-nil, Appends-trans, Keeps-refl, Line, Gives, Pending, HasRoomFor, IsUpTo, LeavesAt, Stops, log_after_line, ReplayFault, Records}
 use Rattle.cns_book.specs.Log.{Log, state_of}
-use Rattle.cns_feed.specs.Line.{Line}
-use Rattle.cns_feed.specs.Output.{Adds, Counts, line_text, lines_of, no_counts, response_of, responses, state_after, state_after_line, texts}
-use Rattle.cns_feed.specs.Records.{Gives, Pending}
-use Rattle.cns_feed.specs.Replay.{HasRoomFor, IsUpTo, LeavesAt, Stops, log_after, log_after_line}
-use Rattle.cns_feed.specs.declared.fault.ReplayFault.{ReplayFault}
+use Rattle.cns_feed.specs.Output.{Adds, line_text, lines_of, no_counts, response_of, responses, state_after, state_after_line, texts}
+use Rattle.cns_feed.specs.Replay.{log_after}
 use Rattle.cns_feed.specs.declared.response.Response.{Response}
 use Rattle.cns_feed.specs.declared.fault.ReplayFault.TheVariants as fault
-use Rattle.cns_feed.specs.declared.records.Records.{Records}
 use Rattle.cns_feed.specs.declared.summary.Summary.{Summary}
 
 -- ---- lines after lines
@@ -49,9 +43,6 @@ up_to-none s zero = rw zero (record { commands = omega arith; lines = omega arit
 -- the counts after one more line
 pub up_to-line : (s t : Summary) (o : Response) (n : ℕ) → Adds s t (o ∷ []) → IsUpTo s n → IsUpTo t (n + 1)
 up_to-line s t o n adds le = grind arith
-
-pub up_to-less : (s : Summary) (m n : ℕ) → m ≤ n → IsUpTo s m → IsUpTo s n
-up_to-less s m n le p = grind arith
 
 -- ---- a book and its counts
 
@@ -203,31 +194,9 @@ along-between rem rs first now s e old mid new turns all Why why kept p = (
 pub stops-end : (old mid new : Option (List ℕ)) (S : State) (ls : List Line) → Appends old mid (texts S ls) → Keeps mid new → Stops fault.Write old new S ls
 stops-end old mid new S ls text kept = record { answered = ls; waiting = None; unread = []; whole = sym (append-nil ls); mid = mid; written = text; leaves = kept }
 
--- a fault at a line is not that the book is full
-pub leaves-not_full : (e : ReplayFault) (old new : Option (List ℕ)) (text : List ℕ) → LeavesAt e old new text → e ≢ fault.Full
-leaves-not_full e old new text h = grind arith
-
 -- ---- before the first read
 
 -- out of memory, whatever the input is
 pub stops-unread : (old : Option (List ℕ)) (S : State) (known : Option (List ℕ)) → IfSome known (λ input. Stops fault.NoMemory old old S (lines_of input))
 stops-unread old S None = tt
 stops-unread old S (Some input) = record { answered = []; waiting = None; unread = lines_of input; whole = refl; mid = old; written = text-none S old old (Keeps-refl old); leaves = Keeps-refl old }
-
--- where a play stops is where its replay does, if the input is known
-pub stops-known : {R : Type 0} (rem : R → Option (List ℕ)) (rs : Records R) (S : State) (old new : Option (List ℕ)) (known : Option (List ℕ)) (r : Result Summary ReplayFault) (Why : ReplayFault → List Line → Type 0)
-    → IfSome known (λ input. Pending rem rs (lines_of input)) → IfErr r (λ e. (all : List Line) → Pending rem rs all → StopsAt e old new S all (Why e))
-    → IfErr r (λ e. IfSome known (λ input. Stops e old new S (lines_of input)))
-stops-known rem rs S old new known r Why pending stops = grind arith
-
--- what a play counts is what its replay counts, if the input is known
-pub counts-known : {R : Type 0} (rem : R → Option (List ℕ)) (a : Records R) (S : State) (known : Option (List ℕ)) (r : Result Summary ReplayFault)
-    → IfSome known (λ input. Pending rem a (lines_of input)) → IfOk r (λ s. (all : List Line) → Pending rem a all → Counts s (responses S all))
-    → IfOk r (λ s. IfSome known (λ input. Counts s (responses S (lines_of input))))
-counts-known rem a S known r pending counts = grind arith
-
--- what a play that ended gives for its lines holds for those of the input, if it is known
-pub ended-known : {R : Type 0} (rem : R → Option (List ℕ)) (a : Records R) (known : Option (List ℕ)) (r : Result Summary ReplayFault) (Holds : List Line → Type 0)
-    → IfSome known (λ input. Pending rem a (lines_of input)) → OnOk r ((all : List Line) → Pending rem a all → Holds all)
-    → OnOk r (IfSome known (λ input. Holds (lines_of input)))
-ended-known rem a known r Holds pending ends = grind arith

@@ -1,19 +1,13 @@
 -- The records that a reader has left, and what a read takes of them.
 -- For `read_line` of records.rt, `play` of player.rt, `take_all` of loader.rt.
-use Rattle.std.proofs.Common.{◌≡◌, ◌≢◌, ℕ, zero, suc, ◌+◌, ◌<◌, ◌≤◌, Bool, true, false, List, [], ◌∷◌, length, map, Option, Some, None, refl, sym, ap, ◌∙◌, arith, inl, if◌then◌else◌}
+use Rattle.cns_feed.proofs.Common.{◌≡◌, ℕ, suc, ◌+◌, ◌<◌, ◌≤◌, Bool, true, false, List, [], ◌∷◌, length, map, Option, Some, None, refl, sym, ap, ◌∙◌, arith, inl, if◌then◌else◌, ReadRecord, default_config, Line, Record, line_of, EndsReading, Left, Setup, ReplayFault, Records}
 use Rattle.csv.specs.Machine.{Read, ends_at_end, is_end, next_record, step}
-use Rattle.csv.specs.Reading.{ExplainsRead, Reached, ReadRecord, default_config, has_failed, records_from, stops_reader}
-use Rattle.csv.specs.declared.error.ErrorKind.{ErrorKind}
+use Rattle.csv.specs.Reading.{Reached, records_from}
 use Rattle.csv.specs.declared.parser.Action.{Action}
 use Rattle.csv.specs.declared.parser.Config.{Config}
 use Rattle.csv.specs.declared.parser.State.{State}
 use Rattle.csv.specs.declared.reader.Reader.{Reader}
 use Rattle.csv.proofs.ReadFacts.{rows-more}
-use Rattle.cns_feed.specs.Line.{Line, Record, line_of}
-use Rattle.cns_feed.specs.Records.{EndsReading, Left, Setup, fault_of, remaining_under}
-use Rattle.cns_feed.specs.declared.fault.ReplayFault.{ReplayFault}
-use Rattle.cns_feed.specs.declared.fault.ReplayFault.TheVariants as fault
-use Rattle.cns_feed.specs.declared.records.Records.{Records}
 
 pick : {A : Type 0} (P : A → Type 0) (b : Bool) (x y : A) → (b ≡ true → P x) → (b ≡ false → P y) → P (if b then x else y)
 pick P b x y h k = grind arith
@@ -48,9 +42,8 @@ moves cfg s fields field (c ∷ rest) =
 -- the records of a text, whatever number above its length they are counted down from
 enough : (cfg : Config) (n m : ℕ) (s : State) (xs : List ℕ) → length xs < n → length xs < m → ends_at_end s ≡ false → records_from cfg n s xs ≡ records_from cfg m s xs
 unfolding records_from
-enough cfg zero m s xs lt lt2 between = absurd (omega arith)
-enough cfg (suc n) zero s xs lt lt2 between = absurd (omega arith)
 enough cfg (suc n) (suc m) s xs lt lt2 between = grind (arith, moves, enough cfg n m)
+enough cfg _ _ s xs lt lt2 between = absurd (omega arith)
 
 first_record : (cfg : Config) (s : State) (xs : List ℕ) (p : Read) → ends_at_end s ≡ false → next_record cfg s [] [] xs ≡ Some p
     → (records_from cfg (length xs + 1) s xs ≡ p.0 ∷ records_from cfg (length p.2 + 1) p.1 p.2) × (ends_at_end p.1 ≡ false)
@@ -87,15 +80,6 @@ no_line rem a b fields setup r all p = grind (arith, no_record)
 
 -- ---- a read that failed
 
--- why no more is read, by the error of the reader
-pub ends-failed : {R : Type 0} (rem : R → Option (List ℕ)) (a : Records R) (b : Records R) (why : ErrorKind)
-    → Setup a.rows → has_failed b.rows ≡ stops_reader why → ExplainsRead (remaining_under rem) a.rows b.rows false why → EndsReading (fault_of why) b ⊥
-ends-failed rem a b why setup failed explains = grind arith
-
 -- a reader that ended reading did so whatever was read
 pub ends-any : {R : Type 0} (e : ReplayFault) (rs : Records R) (Most : Type 0) → EndsReading e rs ⊥ → EndsReading e rs Most
 ends-any e rs Most h = grind arith
-
--- reading does not end for a full book
-pub ends-not_full : {R : Type 0} (e : ReplayFault) (rs : Records R) → EndsReading e rs ⊥ → e ≢ fault.Full
-ends-not_full e rs h = grind arith

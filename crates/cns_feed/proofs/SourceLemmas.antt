@@ -1,15 +1,9 @@
 -- What a source over records tells, and what a read takes of it.
 -- For `next` and `read_item` of source.rt.
-use Rattle.std.proofs.Common.{◌≡◌, ℕ, zero, suc, ◌+◌, ◌-◌, ◌<◌, true, List, [], ◌∷◌, length, map, Option, Some, None, IfSome, Ok, Err, refl, arith, nat_lt}
-use Rattle.cns_terms.proofs.Common.{nat_tests}
-use Rattle.csv.specs.Reading.{default_config, reader_state, records_from}
+use Rattle.cns_feed.proofs.Common.{◌≡◌, ℕ, zero, suc, ◌+◌, ◌-◌, ◌<◌, true, List, [], ◌∷◌, length, map, Option, Some, None, IfSome, Ok, Err, refl, arith, nat_lt, nat_tests, default_config, reader_state, records_from, Line, line_of, Gives, IsReady, Pending, GivesItem, ReadsItem, end_of, given_of, lines_left, told_at, told_of, Records}
 use Rattle.cns_terms.specs.Sources.{Answer, Gives as GivesAnswer, GivesEnd, GivesFirst}
 use Rattle.cns_terms.specs.declared.command.Command.{Command}
 use Rattle.cns_terms.specs.declared.source.Item.TheVariants as item
-use Rattle.cns_feed.specs.Line.{Line, line_of}
-use Rattle.cns_feed.specs.Records.{Gives, IsReady, Pending}
-use Rattle.cns_feed.specs.Source.{GivesItem, ReadsItem, end_of, given_of, lines_left, told_at, told_of}
-use Rattle.cns_feed.specs.declared.records.Records.{Records}
 
 -- the lines of bytes that are left
 abbrev lines_in : {R : Type 0} → Records R → List ℕ → List Line
@@ -21,7 +15,7 @@ left_pending rem rs all h = grind arith
 
 -- and the other way round
 pub pending_left : {R : Type 0} (rem : R → Option (List ℕ)) (rs : Records R) (all : List Line) → Pending rem rs all → lines_left rem rs ≡ Some all
-pending_left rem rs all p = rw (p.between, p.source, p.lines_are) refl
+pending_left rem rs all p = grind (arith, p)
 
 -- what holds of the lines that are left, where they are known
 pub where_known : (o : Option (List Line)) (P : List Line → Type 0) → ((all : List Line) → o ≡ Some all → P all) → IfSome o P
@@ -50,9 +44,7 @@ gives_item : {R : Type 0} (rem : R → Option (List ℕ)) (a b : Records R) (lef
     → 0 < left → IfSome old (λ all. (line : Line) × (rest : List Line) × (all ≡ line ∷ rest) × (given_of line ≡ x) × (lines_left rem b ≡ Some rest))
     → IfSome (told_at None left old) (λ t. GivesFirst t x (told_at None (left - 1) (lines_left rem b)))
 gives_item rem a b left x None more gives = tt
-gives_item rem a b left x (Some all) more gives =
-    let (line, rest, whole, given, others) = gives in
-    rw (whole, others) (first_told left x line rest more given)
+gives_item rem a b left x (Some all) more (line, rest, whole, given, others) = rw (whole, others) (first_told left x line rest more given)
 
 -- no item was left
 gives_end : (left : ℕ) (old : Option (List Line)) → 0 < left → IfSome old (λ all. all ≡ [])

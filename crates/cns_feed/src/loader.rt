@@ -20,6 +20,7 @@ use std::io::Read;
 
 /// Takes the command of each record that is left, of which fewer than `most` are read up to the end, over any form of
 /// positions.
+#[tactic(auto, using(std::proofs::lemmas::Result::err_from_is_err_and))]
 pub(crate) fn take_all<P: Positions<Global>, R: Read>(
     records: &mut Records<R>,
     book: &mut Book<P, Global>,

@@ -57,6 +57,7 @@ fn flush<R: Read, W: Write>(records: &Records<R>, writer: &mut W) -> Result<(), 
 }
 
 /// Each record that is left, of which fewer than `most` are read up to the end, over any form of positions.
+#[tactic(auto, using(std::proofs::lemmas::Result::err_from_is_err_and))]
 pub(crate) fn play<P: Positions<Global>, R: Read, W: Write>(
     records: &mut Records<R>,
     book: &mut Book<P, Global>,

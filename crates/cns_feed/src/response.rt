@@ -84,6 +84,7 @@ fn write_rest<P: Positions<Global>, W: Write>(
 }
 
 // Writes the text of an response, with the book as it was left.
+#[tactic(auto, using(std::proofs::lemmas::Result::err_from_is_err_and, cns_units::proofs::OutputLemmas::front_longer, cns_units::proofs::OutputLemmas::writes_then))]
 pub(crate) fn write_response<P: Positions<Global>, W: Write>(
     book: &Book<P, Global>,
     response: &Response,

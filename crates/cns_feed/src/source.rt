@@ -125,6 +125,7 @@ impl<R: Read> Source for CsvSource<R> {
 
     ghost may_fail = { true };
 
+    #[tactic(auto, using(crate::proofs::SourceLemmas::gives_told))]
     fn next(&mut self) -> Result<Item, SourceFault>
         ensures gives { Gives true self.old.told result self.new.told }
         ensures repeats { Repeats self.old.ended result self.new.ended }

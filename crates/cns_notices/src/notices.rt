@@ -121,6 +121,7 @@ impl<A: Allocator + Drop> Notices<A> {
     }
 
     /// The number of a member's live notice in an issue. It costs one search.
+    #[tactic(auto, using(std::proofs::lemmas::Option::slice_get_read, crate::proofs::Led::no_number, crate::proofs::Led::number_within, crate::proofs::Led::live_there, crate::proofs::Led::none_there))]
     pub fn live_of(&self, member: Member, cusip: Cusip) -> Option<u32>
         ensures { result ≡ live_number self.now member cusip }
     {
@@ -142,6 +143,7 @@ impl<A: Allocator + Drop> Notices<A> {
 
     /// Counts shares that a member received of an issue for its live notice there. Where it has none nothing changes. It
     /// takes no memory.
+    #[tactic(auto, using(crate::proofs::Led::live_item, crate::proofs::Led::live_within, crate::proofs::Led::received_none, crate::proofs::Led::received_one, crate::proofs::Led::set_led))]
     pub fn received(&mut self, member: Member, cusip: Cusip, n: Shares)
         requires fits { ForSome (live_number self.old member cusip)
             (λ k. ForSome (notice_at self.old k) (λ x. x.received + n < 2 ^ 64)) }

@@ -12,9 +12,8 @@ changed_at f es new k there makes h = grind (arith, makes)
 pub rolled_each : {P : Holding → Holding → Type 0} (es new : Rows) → ((v w : Holding) → P v w → w ≡ rolled v) → ChangesEach P es new → new ≡ closed_rows es
 unfolding ChangesEach
 rolled_each [] [] rolls h = refl
-rolled_each [] (s ∷ ss) rolls h = absurd h
-rolled_each (r ∷ rs) [] rolls h = absurd h
 rolled_each (r ∷ rs) (s ∷ ss) rolls (same, p, h) = λ i. (same i, rolls r.1 s.1 p i) ∷ rolled_each rs ss rolls h i
+rolled_each _ _ rolls h = absurd h
 
 -- the rows above a key, without those of zeros, are those of the rows above it
 pub above_held : (rows : Rows) (after : Option Key) → held_above (filter (is_after after) rows) None ≡ held_above rows after

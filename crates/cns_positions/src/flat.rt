@@ -206,6 +206,7 @@ impl<A: Allocator + Drop + Clone> Positions<A> for FlatPositions<A> {
         first_held(rows_above(self.rows.as_slice(), after))
     }
 
+    #[tactic(auto, using(crate::proofs::Held::next_given))]
     fn next_rows(&self, after: Option<Key>) -> NextRows {
         first_rows(rows_above(self.rows.as_slice(), after))
     }

@@ -65,6 +65,7 @@ fn enter<A: Allocator + Clone + Drop>(
 }
 
 // Gives each key a row of zeros where it has none.
+#[tactic(auto, using(crate::proofs::Entering::other_key))]
 fn enter_all<A: Allocator + Clone + Drop>(
     rows: &mut Tree<Holding, A>,
     keys: &[Key],
@@ -122,6 +123,7 @@ fn carry<A: Allocator + Clone + Drop>(rows: &mut Tree<Holding, A>, key: &Key, ag
 }
 
 // What a close makes of each row.
+#[tactic(auto, using(crate::proofs::Changes::rolled_each))]
 fn close_all<A: Allocator + Clone + Drop>(rows: &mut Tree<Holding, A>)
     ensures { rows.new ≡ closed_rows rows.old }
 {
@@ -229,6 +231,7 @@ impl<A: Allocator + Clone + Drop> Positions<A> for TreePositions<A> {
         carry(&mut self.rows, &key, age);
     }
 
+    #[tactic(auto, using(crate::proofs::Holdings::holding_closed, crate::proofs::Holdings::row_closed, crate::proofs::Holdings::sorted_closed))]
     fn roll(&mut self) {
         close_all(&mut self.rows);
     }
@@ -237,6 +240,7 @@ impl<A: Allocator + Clone + Drop> Positions<A> for TreePositions<A> {
         first_held(self.rows.walk_above(after))
     }
 
+    #[tactic(auto, using(crate::proofs::Changes::above_held, crate::proofs::Held::next_given))]
     fn next_rows(&self, after: Option<Key>) -> NextRows {
         first_rows(self.rows.walk_above(after))
     }

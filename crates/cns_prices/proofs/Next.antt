@@ -1,11 +1,8 @@
 -- The first listed issue above another.
 -- For `next_listed` of prices.rt.
-use Rattle.std.proofs.Common.{◌≡◌, ◌∙◌, sym, ap, refl, Bool, true, false, ◌&&◌, ◌∷◌, map, filter, Option, Some, None, is_lt, nat_cmp, Less}
-use Rattle.cns_terms.proofs.Common.{Cusip, is_sorted, less, nat_list_cmp_total, next_above, range_contains, slice_cmp}
+use Rattle.cns_prices.proofs.Common.{◌≡◌, ◌∙◌, sym, ap, Bool, true, ◌&&◌, ◌∷◌, map, filter, Option, Some, None, is_lt, nat_cmp, Less, Cusip, is_sorted, less, nat_list_cmp_total, next_above, range_contains, slice_cmp, Quote, Listed, is_after, listed_above, arith}
 use Rattle.std.specs.declared.ops.Bound.{Bound}
 use Rattle.std.specs.declared.ops.Bound.TheVariants.{Excluded, Unbounded}
-use Rattle.cns_prices.specs.declared.prices.Quote.{Quote}
-use Rattle.cns_prices.specs.Listed.{Listed, is_after, listed_above}
 
 -- where a search above an issue starts
 abbrev pub start_of : Option Cusip → Bound Cusip
@@ -13,20 +10,17 @@ start_of None = Unbounded
 start_of (Some low) = Excluded low
 
 and_true : (b : Bool) → (b && true) ≡ b
-and_true true = refl
-and_true false = refl
+and_true b = grind arith
 
 is_within : (after : Option Cusip) (c : Cusip) → range_contains (slice_cmp nat_cmp) (start_of after) Unbounded c ≡ is_after after c
-is_within None c = refl
-is_within (Some low) c = and_true (is_lt (slice_cmp nat_cmp low c))
+is_within after c = grind (arith, and_true, is_lt, slice_cmp, nat_cmp)
 
 -- the same entries by the two tests
 same_entries : (after : Option Cusip) (es : Listed) → filter (λ e. range_contains (slice_cmp nat_cmp) (start_of after) Unbounded e.0) es ≡ filter (λ e. is_after after e.0) es
 same_entries after es i = filter (λ e. is_within after e.0 i) es
 
 later : (after : Option Cusip) (c d : Cusip) → is_after after c ≡ true → slice_cmp nat_cmp c d ≡ Less → is_after after d ≡ true
-later None c d p l = refl
-later (Some low) c d p l = ap is_lt (nat_list_cmp_total.trans low c d (less _ p) l)
+later after c d h1 h2 = grind (arith, is_lt, nat_list_cmp_total, less)
 
 -- the first, and the rest above it
 pub next_listed : (es r rest : Listed) (after : Option Cusip) (c : Cusip) (q : Quote) → is_sorted (slice_cmp nat_cmp) es ≡ true → r ≡ filter (λ e. range_contains (slice_cmp nat_cmp) (start_of after) Unbounded e.0) es

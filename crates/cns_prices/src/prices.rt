@@ -100,6 +100,7 @@ impl<A: Allocator + Drop> Prices<A> {
     }
 
     /// Sets the price of an issue that is listed and not retired. It takes no memory.
+    #[tactic(auto, using(crate::proofs::Quoted::has_quote, crate::proofs::Quoted::priced, crate::proofs::Quoted::unmarked))]
     pub fn set(&mut self, cusip: Cusip, price: Price)
     where
         A: Clone,
@@ -117,6 +118,7 @@ impl<A: Allocator + Drop> Prices<A> {
     }
 
     /// Retires an issue that is listed and not retired, for good; its price stays. It takes no memory.
+    #[tactic(auto, using(crate::proofs::Quoted::repriced, crate::proofs::Quoted::retires))]
     pub fn retire(&mut self, cusip: Cusip)
     where
         A: Clone,
@@ -138,6 +140,7 @@ impl<A: Allocator + Drop> Prices<A> {
     }
 
     /// The first listed issue above another, or the first of all, with its price; retired ones too.
+    #[tactic(auto, using(std::proofs::lemmas::Cmp::nat_list_cmp_total, cns_terms::proofs::Finds::sorted_from, crate::proofs::Next::next_listed, crate::proofs::Next::start_of))]
     pub fn next_listed(&self, after: Option<Cusip>) -> Option<(Cusip, Price)>
         ensures next { MatchOption result (listed_above self.now after ≡ [])
             (λ e. listed_above self.now after ≡ e ∷ listed_above self.now (Some e.0)) }

@@ -1,9 +1,7 @@
 -- Fills charged to a batch one after another, in any order.
 -- For `charge` of filling.rt, `fill` of batch.rt.
-use Rattle.cns_retransmit.proofs.Common.{◌≡◌, refl, ℕ, zero, suc, ◌+◌, ◌-◌, ◌<◌, ◌≤◌, cond, List, [], ◌∷◌, ◌++◌, get_or, set, take, length, map, nat_eq, nat_lt, arith, get_or-set_same, get_or-set_other, length-set, AllByRecursion, CanBeCharged, Fill, Liable, Member, capacity, cases_lt, charged, each_filter, fills_laid, fills_of, laid, stretch, sum_by-cons, sum_by_push, nat_tests, cases_eq, ext_get_or, get_or_default, get_or-map, sum_by_more_le, All-from_recursion, All-get_or, recursion_from_All, members_of}
-use Rattle.std.proofs.lemmas.List.{length-map}
+use Rattle.cns_retransmit.proofs.Common.{◌≡◌, refl, ℕ, zero, suc, ◌+◌, ◌-◌, ◌<◌, ◌≤◌, cond, List, [], ◌∷◌, ◌++◌, get_or, set, take, length, map, nat_eq, nat_lt, arith, get_or-set_same, get_or-set_other, length-set, AllByRecursion, CanBeCharged, Fill, Liable, Member, capacity, cases_lt, charged, each_filter, fills_laid, fills_of, laid, stretch, sum_by-cons, sum_by_push, nat_tests, cases_eq, ext_get_or, get_or_default, get_or-map, sum_by_more_le, All-from_recursion, All-get_or, recursion_from_All, members_of, length-map, left_of}
 use Rattle.cns_terms.specs.Fills.{given_to}
-use Rattle.cns_retransmit.specs.Members.{left_of}
 use Rattle.cns_retransmit.specs.Charges.{IsWithin, fills_for}
 use Rattle.cns_retransmit.proofs.Lists.{counted, many_more, one_if, places_apart, rest_once, take_next}
 use Rattle.cns_retransmit.proofs.Lefts.{members_of_charged}

@@ -1,7 +1,7 @@
 -- The names that most proofs of this crate cite, passed on from one place: those of proofs/Common.antt of cns_terms, its types, and this crate's words. Declares nothing.
 pub use Rattle.std.proofs.Common.{All, Bool, Equal, Greater, IsPermutation, Less, List, None, Ordering, Some, [], add-one, ap, append-nil, append_assoc, arith, bytes_eq, cond, drop, false, filter, get_or, get_or-set_other, get_or-set_same, get_or-take, is_eq, is_lt, le-ltb, length, length-set, length-take, map, min, nat_cmp, nat_eq, nat_lt, option_map, refl, rules, set, suc, sum_by, sym, take, take_at, true, zero, ℕ, ◌*◌, ◌++◌, ◌+◌, ◌-◌, ◌/◌, ◌<◌, ◌^◌, ◌∙◌, ◌∷◌, ◌≡◌, ◌≤◌, ◌⊎◌}
 pub use Rattle.std.proofs.lemmas.Bool.{cases_eq}
-pub use Rattle.std.proofs.lemmas.List.{drop_more, ext_get_or, get_or-map, get_or_default, nil_from_length}
+pub use Rattle.std.proofs.lemmas.List.{drop_more, ext_get_or, get_or-map, get_or_default, length-map, nil_from_length}
 pub use Rattle.std.proofs.lemmas.List.Elements.{All-from_recursion, All-get_or, recursion_from_All}
 pub use Rattle.std.proofs.lemmas.List.Folds.{find_at, map_fixed}
 pub use Rattle.std.proofs.lemmas.List.Sums.{get_or-le-sum_by, position_or_len_is, sum_by-le-sum_by, sum_by_more, sum_by_more_le}
@@ -15,4 +15,4 @@ pub use Rattle.cns_retransmit.specs.Calls.{CalledIn, CanBeChosen, batches_of, ca
 pub use Rattle.cns_retransmit.specs.Charges.{CanBeCharged}
 pub use Rattle.cns_retransmit.specs.Chosen.{IsOldestFirst, NoneOlder, chosen_of, shorts_of}
 pub use Rattle.cns_retransmit.specs.Days.{RiseByIssue, batch_in, by_issue, charged_in}
-pub use Rattle.cns_retransmit.specs.Members.{IsBatch, members_of}
+pub use Rattle.cns_retransmit.specs.Members.{IsBatch, left_of, members_of}

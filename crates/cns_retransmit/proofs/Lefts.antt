@@ -1,8 +1,7 @@
 -- What is left of the liabilities of a batch, and what it can be given.
 -- For `left_for` and `room_up_to` of filling.rt, `charge`, `choose`, `room` and `liable` of batch.rt.
-use Rattle.cns_retransmit.proofs.Common.{◌≡◌, refl, ℕ, ◌+◌, ◌<◌, ◌≤◌, ◌^◌, Bool, false, cond, List, [], ◌∷◌, filter, get_or, length, map, nat_eq, sum_by, arith, le-ltb, take, Fill, IsBatch, Liable, Member, Short, capacity, charged, chosen, fills_before, in_order, is_called, liable_of, shorts_of, sum_by-cons, sum_by-le-sum_by, sum_by_more_le, members_of}
+use Rattle.cns_retransmit.proofs.Common.{◌≡◌, refl, ℕ, ◌+◌, ◌<◌, ◌≤◌, ◌^◌, Bool, false, cond, List, [], ◌∷◌, filter, get_or, length, map, nat_eq, sum_by, arith, le-ltb, take, Fill, IsBatch, Liable, Member, Short, capacity, charged, chosen, fills_before, in_order, is_called, liable_of, shorts_of, sum_by-cons, sum_by-le-sum_by, sum_by_more_le, members_of, left_of}
 use Rattle.std.proofs.lemmas.Grind.{common_steps}
-use Rattle.cns_retransmit.specs.Members.{left_of}
 use Rattle.cns_retransmit.proofs.Ordered.{sum_in_order}
 
 -- ---- a batch that was chosen

@@ -1,7 +1,6 @@
 -- What a search finds among batches whose issues rise, and what a charge changes there.
 -- For `place`, `charge` and `find` of day.rt, `charge` of batches.rt.
-use Rattle.cns_retransmit.proofs.Common.{◌≡◌, ◌∙◌, sym, ap, refl, ℕ, zero, suc, ◌-◌, ◌<◌, ◌≤◌, true, false, List, [], ◌∷◌, length, get_or, set, Some, None, Ordering, arith, Less, Equal, Greater, is_eq, nat_cmp, bytes_eq, All, get_or-set_same, get_or-set_other, length-set, nat_tests, AllWithin, Cusip, Fill, IsNonDecreasingBy, Liables, RiseByIssue, batch_in, below_all, by_issue, cases_lt, changed_at, charged_in, is_eq-slice_cmp, less, nat_list_cmp_total, ordering_index, slice_cmp, get_or-map, ext_get_or, cases_eq, find_at, map_fixed, position_or_len_is}
-use Rattle.std.proofs.lemmas.List.{length-map}
+use Rattle.cns_retransmit.proofs.Common.{◌≡◌, ◌∙◌, sym, ap, refl, ℕ, zero, suc, ◌-◌, ◌<◌, ◌≤◌, true, false, List, [], ◌∷◌, length, get_or, set, Some, None, Ordering, arith, Less, Equal, Greater, is_eq, nat_cmp, bytes_eq, All, get_or-set_same, get_or-set_other, length-set, nat_tests, AllWithin, Cusip, Fill, IsNonDecreasingBy, Liables, RiseByIssue, batch_in, below_all, by_issue, cases_lt, changed_at, charged_in, is_eq-slice_cmp, less, nat_list_cmp_total, ordering_index, slice_cmp, get_or-map, ext_get_or, cases_eq, find_at, map_fixed, position_or_len_is, length-map}
 use Rattle.std.proofs.lemmas.Option.{slice_get_past, slice_get-get_or}
 use Rattle.cns_retransmit.specs.Days.{charged_by, charged_if, charged_on}
 
@@ -17,10 +16,9 @@ below_each c (b ∷ bs) (suc i) d h lt = grind (arith, below_each c bs i d)
 
 -- the issue of an earlier batch is below that of a later
 below_later : (bs : List Liables) (i j : ℕ) (d : Liables) → RiseByIssue bs → i < j → j < length bs → issue_cmp (get_or bs i d).issue (get_or bs j d).issue ≡ Less
-below_later [] i j d s p q = absurd (omega arith)
-below_later (b ∷ bs) i zero d s p q = absurd (omega arith)
 below_later (b ∷ bs) zero (suc j) d s p q = grind (arith, below_each b.issue bs j d)
 below_later (b ∷ bs) (suc i) (suc j) d s p q = grind (arith, below_later bs i j d)
+below_later _ i _ d s p q = absurd (omega arith)
 
 -- how the issues of batches compare with one issue
 pub comparisons_rise : (bs : List Liables) (c : Cusip) (d : Liables) → RiseByIssue bs → IsNonDecreasingBy (λ b. ordering_index (issue_cmp b.issue c)) bs

@@ -110,6 +110,7 @@ impl<A: Allocator + Drop> Batch<A> {
     }
 
     /// What is left of a member's liability, in shares; 0 for a member that is not in the batch. It takes no memory.
+    #[tactic(auto, using(crate::proofs::Lefts::left_below))]
     pub fn liable(&self, member: Member) -> i64
         ensures { result ≡ pos (left_of member self.now.members) }
     {
@@ -118,6 +119,7 @@ impl<A: Allocator + Drop> Batch<A> {
 
     /// How many shares an execution can give the members now: of each what is left of its liability, or what it is short
     /// now where that is less. It takes no memory.
+    #[tactic(auto, using(crate::proofs::Lefts::capacities_below))]
     pub fn room<S: Shorts>(&self, now: &S) -> u64
         ensures { result ≡ room_of (S.short_now now.now) self.now.members }
     {

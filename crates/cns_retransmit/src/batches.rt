@@ -89,6 +89,7 @@ impl<A: Allocator + Drop> Batches<A> {
     /// Charges the batch of a day in an issue with fills, as `Batch::charge` does; where there is no such batch nothing
     /// changes. The fills may come in any order. They have to be for members of the batch, at most one for each, and none for
     /// more than is left. It takes no memory.
+    #[tactic(auto, using(crate::proofs::Sought::day_charged, crate::proofs::Sought::day_uncharged))]
     pub fn charge(&mut self, day: u64, issue: Cusip, fills: &[Fill])
         requires { ForSome (batch_on self.old day issue) (λ b. CanBeCharged fills.now b.members) }
         ensures { self.new ≡ charged_on self.old day issue fills.now }

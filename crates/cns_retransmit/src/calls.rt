@@ -138,6 +138,7 @@ impl<A: Allocator + Drop + Clone> Calls<A> {
     /// below 2^63 shares.
     ///
     /// `NoMemory` where an allocation or a copy of the allocator failed.
+    #[tactic(auto, using(std::proofs::lemmas::Cmp::nat_list_cmp_total, cns_terms::proofs::Finds::sorted_from, crate::proofs::Calling::batches_rise))]
     pub fn choose(&self) -> Result<Vec<Batch<A>, A>, NoMemory>
         requires { (c : Cusip) → ForSome (called_in self.now c) CanBeChosen }
         ensures batches { IfOk result (λ v. v.items ≡ batches_of self.now) }

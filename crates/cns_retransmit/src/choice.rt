@@ -10,6 +10,7 @@ use std::alloc::{AllocError, Allocator};
 use std::cmp::Reverse;
 
 // Whole groups of one age, the oldest first, until they are short of what is called, in the order of filling.
+#[tactic(auto, using(crate::proofs::Ordered::chosen_in_order, crate::proofs::Ordered::oldest_first, crate::proofs::Ordered::order_is, crate::proofs::Ordered::sum_in_order))]
 pub(crate) fn choose<A: Allocator + Drop + Clone>(
     alloc: A,
     shorts: &[Short],
@@ -37,6 +38,7 @@ fn in_filling_order<A: Allocator + Drop>(
 }
 
 // The choice where the oldest stand first.
+#[tactic(auto, using(std::proofs::lemmas::List::drop_all))]
 fn choose_ordered<A: Allocator + Drop>(
     alloc: A,
     shorts: &[Short],

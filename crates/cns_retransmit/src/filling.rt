@@ -32,6 +32,7 @@ fn capacity_of<S: Shorts>(liable: &Liable, now: &S) -> u64
 }
 
 // What is left of a member's liability among others, 0 for one that is not there.
+#[tactic(auto, using(std::proofs::lemmas::List::drop_all, crate::proofs::Lists::drop_next))]
 pub(crate) fn left_for(liables: &[Liable], member: Member) -> u64
     ensures { result ≡ left_of member liables.now }
 {
@@ -44,6 +45,7 @@ pub(crate) fn left_for(liables: &[Liable], member: Member) -> u64
 }
 
 // What the members of a batch can be given now, counted as far as so many shares.
+#[tactic(auto, using(crate::proofs::Lefts::room_fits))]
 pub(crate) fn room_up_to<S: Shorts>(liables: &[Liable], now: &S, most: u64) -> u64
     requires { sum_by (λ l. l.left) liables.now < 2 ^ 63 }
     ensures { result ≡ min most (room_of (S.short_now now.now) liables.now) }
@@ -70,6 +72,7 @@ fn part(money: Money, first: u64, shares: u64) -> u64
 
 // Gives the shares to the members of a batch, in their order, for the money. Each pays what belongs to the shares up to
 // its last, less what those before it pay, so the cents add up whatever is cut.
+#[tactic(auto, using(cns_terms::proofs::Laid::fills_laid, crate::proofs::FillSteps::fill_last))]
 pub(crate) fn make_fills<S: Shorts, A: Allocator + Drop>(
     alloc: A,
     liables: &[Liable],
@@ -133,6 +136,7 @@ fn place_of(liables: &[Liable], member: Member, from: usize) -> usize
 }
 
 // Lowers what is left of each liability by the fills.
+#[tactic(auto, using(std::proofs::lemmas::List::Folds::map_fixed, crate::proofs::Charging::lowered_at, crate::proofs::Charging::next_charged, crate::proofs::Charging::next_enough))]
 pub(crate) fn charge(liables: &mut [Liable], fills: &[Fill])
     requires distinct { (a : Member) → members_of a liables.old ≤ 1 }
     requires fills { CanBeCharged fills.now liables.old }

@@ -1,10 +1,8 @@
 -- Rows that are added up one after another, in sums that wrap.
 -- For `account_sums` and `sheet_sums` of sums.rt, `stated` of sheet.rt.
-use Rattle.std.proofs.Common.{◌≡◌, ℕ, ◌+◌, ◌≤◌, ℤ, ◌+ℤ◌, FitsSigned, List, [], ◌∷◌, ◌++◌, length, take, arith, unsigned_abs, take_all}
-use Rattle.cns_sheets.proofs.Common.{Row, int_wrap-add_left, ints, sum_limit, total, total-append, w128}
+use Rattle.cns_sheets.proofs.Common.{◌≡◌, ℕ, ◌+◌, ◌≤◌, ℤ, ◌+ℤ◌, FitsSigned, List, [], ◌∷◌, ◌++◌, length, take, arith, unsigned_abs, take_all, Row, int_wrap-add_left, ints, sum_limit, total, total-append, w128, length_push}
 use Rattle.std.specs.Int.{int_wrap}
 use Rattle.cns_sheets.specs.declared.sums.Totals.{Totals}
-use Rattle.std.proofs.lemmas.List.{length_push}
 use Rattle.cns_sheets.proofs.RowSums.{onward}
 
 -- how far a loop over rows has come: the rows that it was given, and what they add up to, as much of it as fits

@@ -1,13 +1,11 @@
 -- What payments book.
 -- For `pay_members`, `add` and `pay` of payments.rt.
-use Rattle.std.proofs.Common.{◌≡◌, ◌∙◌, sym, ap, refl, ◌+◌, ◌*◌, ◌^◌, ◌<◌, ◌≤◌, ◌==◌, ℤ, pos, ◌+ℤ◌, ◌-ℤ◌, neg_ℤ, of_z, to_z, Bool, true, not, cond, ◌&&◌, List, [], ◌∷◌, ◌++◌, Option, Some, None, unwrap_or, Ordering, arith, FitsSigned, unsigned_abs, sum_by, is_eq, Less, Equal, Greater}
-use Rattle.cns_sheets.proofs.Common.{CentsByKey, IsPayable, Key, Row, added-more, and_left, and_right, below_all, by_key, cash, cents_at, closing_at, corporation, equal, exact_keys, find, find_below, insert_entry, ints, is_sorted, key_cmp, key_of, keys_total, lookup, magnitude, match_ordering, member_cash, option_map_or, paid, row_at, same_issue, same_key, sum_by-cons, to_z-of_z, total, total-append, total_small, w128}
+use Rattle.cns_sheets.proofs.Common.{◌≡◌, ◌∙◌, sym, ap, refl, ◌+◌, ◌*◌, ◌^◌, ◌<◌, ◌≤◌, ◌==◌, ℤ, pos, ◌+ℤ◌, ◌-ℤ◌, neg_ℤ, of_z, to_z, Bool, true, not, cond, ◌&&◌, List, [], ◌∷◌, ◌++◌, Option, Some, None, unwrap_or, Ordering, arith, FitsSigned, unsigned_abs, sum_by, is_eq, Less, Equal, Greater, CentsByKey, IsPayable, Key, Row, added-more, and_left, and_right, below_all, by_key, cash, cents_at, closing_at, corporation, equal, exact_keys, find, find_below, insert_entry, ints, is_sorted, key_cmp, key_of, keys_total, lookup, magnitude, match_ordering, member_cash, option_map_or, paid, row_at, same_issue, same_key, sum_by-cons, to_z-of_z, total, total-append, total_small, w128, Declared}
 use Rattle.std.specs.BTreeMap.{is_at}
 use Rattle.std.proofs.lemmas.Cmp.{eq_by_cmp_equiv}
 use mir.Val.{hbits}
 use lib.Signed.{mag}
 use Rattle.cns_terms.proofs.Magnitudes.{added-append}
-use Rattle.cns_terms.specs.declared.action.Declared.{Declared}
 use Rattle.cns_sheets.proofs.Weaving.{below_later, gap_cents}
 
 -- ---- cents, added at a key
@@ -26,8 +24,7 @@ sum_added k v cents (e ∷ es) s is = sum_branch (key_cmp k e.0) k v cents e es 
 
 -- the two words for a search
 same_find : (k : Key) (es : CentsByKey) → find key_cmp k es ≡ lookup (is_at (key_cmp k)) es
-same_find k [] = refl
-same_find k (e ∷ es) = rw (same_find k es) refl
+same_find k es = grind arith
 
 -- what a search found, as the cents at a key
 pub had_is : (k : Key) (es : CentsByKey) (o : Option ℤ) (n : ℤ) → n ≡ unwrap_or o (pos 0) → o ≡ lookup (is_at (key_cmp k)) es → n ≡ cents_at es k

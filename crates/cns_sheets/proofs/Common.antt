@@ -1,21 +1,26 @@
 -- The names that most proofs of this crate cite, passed on from one place: those of proofs/Common.antt of cns_terms, its types, and this crate's words. Declares nothing.
-pub use Rattle.cns_terms.proofs.Common.{⊤, Account, AllByRecursion, AllWithin, Appends, AppendsFront, AreHolders, Contains-get_or, Cusip, Day, DaySheet, ForSome, Included, IsBalanced, IsBinarySearchResult, IsExecutable, IsInRange, IsLegal, IsLimited, IsNonDecreasingBy, IsNonDecreasingBy-from_default, IsPartitionPoint, IsPartitionPoint-from_clause, IsReached, IsSend, IsSound, IsTotalOrder, IsWhole, Journal, Keeps, Liables, Member, NoneHolds, Notice, Posting, Price, PromisedHandle, Rate, Ratio, Rule, State, Told, UnitFault, YieldsFirst, YieldsList-from_shown, above_all, accepted, account_lt, accounts, activities, added, added-all, added-each, added-more, after, against_corporation, all_ascii_digits, all_fail, amount_limit, and_false, and_left, and_right, answer, answer_to, answers_always, arc_value, as_of, at_close, batch, batch_at, batch_since, batches, batches_since, below_all, binary_digits, booking_limit, both_true, bought_by, bought_in, bounded, buyer_entry, bytes_eq-Decides, bytes_refl, called, capacity, cases_lt, cash, cents_for, cents_of_fills, cents_text, changed_at, charged, chosen, closed_on, closes, closings, cond-false, cond-true, cons_option, converted, corporation, corporation_limit, count, crosses, date, day, day_number, day_sheet, digits_value, dividend, dividends, drop_all, each_append, each_both, each_filter, each_found, each_in_order, each_map, each_weaker, entries, entry, eqb_refl, eqb_sym, equal, err_from_is_err_and, exact_bytes, exact_keys, exchanged, executable, executes, execution, execution_entries, fill_entry, fills, fills_before, fills_laid, fills_of, filter-append, filter_map-append, find_below, find_filter, find_with, first_reached, first_refusal, fits_signed_from_abs, front_longer, front_total, greatest, history_limit, holders, holding, holds, idle_parts, in_exchange, in_lieu, in_order, insert_entry, ints, is_account, is_beyond, is_called, is_close, is_eq-slice_cmp, is_exceeded, is_given, is_idle, is_listed, is_live, is_member, is_not_after, is_past, is_retired, is_rising, is_same_day, is_seen, is_so, is_sorted, is_too_far, is_too_large, is_too_large_at, issue_lt, issues, issues_few, journal, journal_len, journal_of, kept_if, key_cmp, keys_total, laid, last_close, last_date, left_of, length-map, length-reverse, less, liable_of, limited, limited_past, list_any, long, lookup, magnitude, map-append, map_each, mark, match_ordering, member_dividend, member_limit, members, members_few, members_from_one, money, money_limit, moved_in, moved_out, nat_cmp_total, nat_list_cmp_total, nat_list_eq_equiv, nat_tests, near, neither, new_entry, next, next_above, notice, notice_at, noticed, notices, occurs, occurs_found, occurs_missing, old_entry, oldest, oldest_of, one_issue, open_day, opened, option_map_or, option_or, or_right, ordering_index, ordering_reverse, ordering_then, originator_entry, over_all, parts_failed, parts_more, pays_before, pend_of, pending, position_from, position_limit, positions_zero, posting, price, price_limit, priced, range_contains, rate_limit, receipt, refusal, remaining, reverse-append, reverse_onto, room, room_of, row, rows_for, rows_of, same_issue, same_key, same_lists, same_test, says, seller_entry, sendable, shares_executed, shares_for, shares_limit, shares_of_fills, sheet_on, sheet_rows, short, short_of, shorts, slice_cmp, slice_get_read, slice_get_within, sold_by, sold_in, sorted_filter, sorted_from, stage, statement, stretch, sum_by-append, sum_by-cons, sum_by_push, take_more, text_line, tied_itself, total, total-add, total-append, total-map, total-neg, total-same, total-swap, total-zero, total_small, trade_entries, trades, unsigned_abs-mul, w128, waits_in, what_remains, zero-*ℤ, zero_add}
+pub use Rattle.std.proofs.Common.{Bool, Decides, Equal, Err, FitsSigned, Greater, HoldsAt, IfErr, IfOk, Less, List, MatchOption, None, Ok, OnOk, Option, Ordering, Result, Some, [], add-one, ap, append-nil, append_assoc, arith, cond, drop, drop-cons, eqb, eqb-true, false, filter, get_or, if◌then◌else◌, int_eq, is_eq, is_lt, is_some, length, length-append, length-take, map, nat_cmp, neg_ℤ, not, of_z, option_copied, option_map, pos, refl, replicate, rules, slice_index, subst, suc, sum_by, sym, take, take_all, to_z, true, unsigned_abs, unwrap_or, zero, ℕ, ℤ, ◌&&◌, ◌*ℤ◌, ◌*◌, ◌++◌, ◌+ℤ◌, ◌+◌, ◌-ℤ◌, ◌-◌, ◌<◌, ◌==◌, ◌^◌, ◌↔◌, ◌∙◌, ◌∷◌, ◌≡◌, ◌≤◌}
+pub use Rattle.std.proofs.lemmas.Int.{int_wrap-add_left, to_z-of_z}
+pub use Rattle.std.proofs.lemmas.List.{drop_more, length_push, take-append-drop}
+pub use Rattle.std.proofs.lemmas.List.Filters.{length-filter_both, sum_by-filter_both}
+pub use Rattle.std.proofs.lemmas.Result.{IfOk-weaker, on_ok_weaker}
+pub use Rattle.std.specs.FinMap.{find}
+pub use Rattle.std.specs.List.{find as first}
+pub use Rattle.cns_positions.proofs.Held.{filter_both, first_passing, last_given, none_given}
+pub use Rattle.cns_positions.proofs.Puts.{below_later, comparisons_rise, find_at, find_gap}
+pub use Rattle.cns_positions.proofs.Unheld.{held_same}
+pub use Rattle.cns_positions.specs.Rows.{AreNext, Rows, held_above, is_held, last_of, present, zeros}
+pub use Rattle.cns_prices.specs.Listed.{Listed, listed_above, price_in}
+pub use Rattle.cns_terms.proofs.Common.{Account, AllByRecursion, AllWithin, Cusip, DaySheet, IsBinarySearchResult, IsPartitionPoint, IsSend, IsTotalOrder, Price, added, added-each, added-more, amount_limit, and_left, and_right, below_all, both_true, bytes_eq-Decides, cash, corporation, crosses, drop_all, each_filter, each_weaker, equal, exact_keys, filter-append, find_below, find_filter, front_total, idle_parts, insert_entry, ints, is_eq-slice_cmp, is_idle, is_sorted, kept_if, key_cmp, keys_total, lookup, magnitude, map-append, match_ordering, member_limit, nat_list_cmp_total, nat_tests, next_above, option_map_or, option_or, ordering_reverse, ordering_then, rows_for, same_issue, same_key, same_lists, says, sendable, slice_cmp, sorted_filter, sorted_from, sum_by-cons, tied_itself, total, total-add, total-append, total-map, total-neg, total-same, total_small, unsigned_abs-mul, w128, zero-*ℤ, zero_add}
+pub use Rattle.cns_terms.specs.declared.action.Declared.{Declared}
 pub use Rattle.cns_terms.specs.declared.holding.Holding.{Holding}
 pub use Rattle.cns_terms.specs.declared.holding.Key.{Key}
 pub use Rattle.cns_terms.specs.declared.sheet.Row.{Row}
 pub use Rattle.cns_tree.specs.Search.{is_after, is_at_or_after}
-pub use Rattle.cns_positions.specs.Rows.{AreNext, Rows, held_above, holding_at, is_above, is_held, last_of, present, zeros}
-pub use Rattle.cns_positions.proofs.Held.{filter_both, first_passing, last_given, none_given}
-pub use Rattle.cns_positions.proofs.Puts.{below_later, comparisons_rise, find_at, find_gap}
-pub use Rattle.cns_positions.proofs.Unheld.{held_same}
-pub use Rattle.cns_prices.specs.Listed.{Listed, listed_above, price_in}
-pub use Rattle.cns_sheets.specs.Build.{AreBalanced, Columns, HasSmallCents, IsMarked, IsPlanted, IsSheet, PriceList, by_key, closing_in, full_row, full_rows, key_of, marked, price_on, priced_row, prices_of, sum_limit, worth}
+pub use Rattle.cns_sheets.specs.Build.{AreBalanced, Columns, HasSmallCents, IsMarked, PriceList, by_key, closing_in, full_row, full_rows, key_of, marked, price_on, priced_row, prices_of, sum_limit, worth}
 pub use Rattle.cns_sheets.specs.Condition.{CanBeCut, held_in, rows_before}
+pub use Rattle.cns_sheets.specs.InIssue.{AreAccounts, IsPlaceIn, entries_from, is_next_in, place_after, reaches, rows_from}
 pub use Rattle.cns_sheets.specs.Payments.{IsCut, IsPayable, Paying, closing_at, cut_row, dividend_of, member_cash, paid, paying, said}
+pub use Rattle.cns_sheets.specs.Search.{prices_above, row_at}
 pub use Rattle.cns_sheets.specs.Walking.{AreFrom, ahead_of, if_of, lowest_of, passed}
 pub use Rattle.cns_sheets.specs.Woven.{CentsByKey, Woven, cents_at, higher, lower, past, unheld, weave, woven_row, woven_rows}
-pub use Rattle.std.specs.FinMap.{find}
-pub use Rattle.cns_sheets.specs.Search.{prices_above, row_at}
-pub use Rattle.std.proofs.lemmas.Int.{int_wrap-add_left, to_z-of_z, wraps}
-pub use Rattle.std.specs.List.{find as first}
-pub use Rattle.std.proofs.lemmas.Result.{IfOk-weaker, on_ok_weaker}

@@ -1,7 +1,6 @@
 -- Lists in the order of keys: mapped, filtered, searched.
 -- For `of_rows`, `row`, `rows_of`, `rows_in` and `build` of sheet.rt, `first_in` of in_issue.rt and others.
-use Rattle.std.proofs.Common.{◌≡◌, ◌∙◌, sym, ap, refl, ℕ, ◌+◌, ◌<◌, Bool, true, cond, List, [], ◌∷◌, length, get_or, drop, drop-cons, add-one, map, filter, Option, Some, None, MatchOption, Ordering, is_lt, is_eq, Less, arith, option_map}
-use Rattle.cns_sheets.proofs.Common.{IsTotalOrder, Key, below_all, equal, exact_keys, find, first, first_passing, is_sorted, key_cmp, next_above}
+use Rattle.cns_sheets.proofs.Common.{◌≡◌, ◌∙◌, sym, ap, refl, ℕ, ◌+◌, ◌<◌, Bool, true, cond, List, [], ◌∷◌, length, get_or, drop, drop-cons, add-one, map, filter, Option, Some, None, MatchOption, Ordering, is_lt, is_eq, Less, arith, option_map, IsTotalOrder, Key, below_all, equal, exact_keys, find, first, first_passing, is_sorted, key_cmp, next_above}
 use lib.Ieee.Bits.{is_true}
 use Rattle.cns_terms.proofs.Finds.{as_T}
 use Rattle.std.specs.FinMap.Entries.{find-where_key, is_sorted-where_key}

@@ -1,7 +1,6 @@
 -- What a row gains beside the cents booked.
 -- For `new` of columns.rt.
-use Rattle.std.proofs.Common.{◌*◌, ◌^◌, ◌≤◌, ℤ, pos, ◌-ℤ◌, unsigned_abs, arith}
-use Rattle.cns_sheets.proofs.Common.{Price, ints, marked, unsigned_abs-mul, worth}
+use Rattle.cns_sheets.proofs.Common.{◌*◌, ◌^◌, ◌≤◌, ℤ, pos, ◌-ℤ◌, unsigned_abs, arith, Price, ints, marked, unsigned_abs-mul, worth}
 
 -- the worth of a position has a bound
 worth_small : (q : ℤ) (p : Price) → unsigned_abs q ≤ 2 ^ 63 → p ≤ 10 ^ 9 → unsigned_abs (worth q p) ≤ 2 ^ 63 * 10 ^ 9

@@ -1,8 +1,6 @@
 -- The rows in one issue, found account by account.
 -- For `rows_in` of sheet.rt, `first_in` and `next` of in_issue.rt.
-use Rattle.std.proofs.Common.{◌≡◌, ◌∙◌, sym, ap, refl, ℕ, ◌+◌, ◌-◌, ◌<◌, ◌≤◌, ◌&&◌, ◌↔◌, Bool, true, false, cond, List, [], ◌∷◌, filter, Option, Some, None, MatchOption, arith, is_lt, nat_cmp}
-use Rattle.cns_sheets.proofs.Common.{AllByRecursion, Columns, Cusip, IsMarked, Key, Row, bytes_eq-Decides, filter_both, first, full_row, full_rows, is_at_or_after, is_sorted, key_cmp, keys_total, member_limit, nat_list_cmp_total, nat_tests, option_map_or, same_issue, slice_cmp, tied_itself}
-use Rattle.cns_sheets.specs.InIssue.{AreAccounts, IsPlaceIn, entries_from, is_next_in, place_after, reaches, rows_from}
+use Rattle.cns_sheets.proofs.Common.{◌≡◌, ◌∙◌, sym, ap, refl, ℕ, ◌+◌, ◌-◌, ◌<◌, ◌≤◌, ◌&&◌, ◌↔◌, Bool, true, false, cond, List, [], ◌∷◌, filter, Option, Some, None, MatchOption, arith, is_lt, nat_cmp, AllByRecursion, Columns, Cusip, IsMarked, Key, Row, bytes_eq-Decides, filter_both, first, full_row, full_rows, is_at_or_after, is_sorted, key_cmp, keys_total, member_limit, nat_list_cmp_total, nat_tests, option_map_or, same_issue, slice_cmp, tied_itself, AreAccounts, IsPlaceIn, entries_from, is_next_in, place_after, reaches, rows_from}
 use Rattle.cns_sheets.proofs.Entries.{filter-map, first_above}
 use Rattle.cns_sheets.proofs.Walked.{from_later}
 

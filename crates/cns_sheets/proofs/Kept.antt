@@ -1,7 +1,6 @@
 -- What a sheet keeps of the rows that it is built from.
 -- For `build` of sheet.rt.
-use Rattle.std.proofs.Common.{◌≡◌, ◌∙◌, refl, ℤ, pos, true, List, [], ◌∷◌, map, filter, Option, None, unwrap_or, option_map, nat_cmp, arith}
-use Rattle.cns_sheets.proofs.Common.{CentsByKey, Cusip, Holding, IsCut, Key, Listed, Paying, PriceList, Row, Rows, Woven, by_key, cents_at, dividend_of, find, find_filter, held_above, held_same, is_held, is_sorted, kept_if, key_cmp, keys_total, listed_above, price_in, price_on, priced_row, said, says, slice_cmp, sorted_filter, weave, woven_row, woven_rows, zeros}
+use Rattle.cns_sheets.proofs.Common.{◌≡◌, ◌∙◌, refl, ℤ, pos, true, List, [], ◌∷◌, map, filter, Option, None, unwrap_or, option_map, nat_cmp, arith, CentsByKey, Cusip, Holding, IsCut, Key, Listed, Paying, PriceList, Row, Rows, Woven, by_key, cents_at, dividend_of, find, find_filter, held_above, held_same, is_held, is_sorted, kept_if, key_cmp, keys_total, listed_above, price_in, price_on, priced_row, said, says, slice_cmp, sorted_filter, weave, woven_row, woven_rows, zeros}
 use Rattle.cns_sheets.proofs.Entries.{find_keyed, sorted_if, sorted_keyed}
 use Rattle.cns_sheets.proofs.Weaving.{both_at, find_weave, sorted_weave}
 

@@ -1,7 +1,6 @@
 -- Sums over rows, one row after another.
 -- For `build` of sheet.rt, `pay_members` of payments.rt.
-use Rattle.std.proofs.Common.{◌≡◌, ◌∙◌, sym, ℕ, ◌*◌, ◌^◌, ◌≤◌, ℤ, ◌+ℤ◌, ◌-ℤ◌, List, [], ◌∷◌, ◌++◌, length, take, append_assoc, arith, unsigned_abs}
-use Rattle.cns_sheets.proofs.Common.{AllByRecursion, IsMarked, Row, added, added-each, amount_limit, each_weaker, front_total, ints, sum_limit, total, total-add, total-same}
+use Rattle.cns_sheets.proofs.Common.{◌≡◌, ◌∙◌, sym, ℕ, ◌*◌, ◌^◌, ◌≤◌, ℤ, ◌+ℤ◌, ◌-ℤ◌, List, [], ◌∷◌, ◌++◌, length, take, append_assoc, arith, unsigned_abs, AllByRecursion, IsMarked, Row, added, added-each, amount_limit, each_weaker, front_total, ints, sum_limit, total, total-add, total-same}
 
 -- what an iterator gave and has left, after one more
 pub onward : {X : Type 0} (xs ys left : List X) (x : X) (zs : List X) → xs ≡ ys ++ left → left ≡ x ∷ zs → xs ≡ (ys ++ x ∷ []) ++ zs

@@ -1,7 +1,6 @@
 -- What a search in sorted rows or prices finds.
 -- For `past` and `next_price` of search.rt.
-use Rattle.std.proofs.Common.{◌≡◌, ◌∙◌, sym, ap, refl, ℕ, ◌+◌, ◌<◌, ◌≤◌, true, false, [], ◌∷◌, length, get_or, drop, Option, Some, None, arith, MatchOption, option_copied, HoldsAt, is_lt, nat_cmp, Less, Equal, Greater}
-use Rattle.cns_sheets.proofs.Common.{AllWithin, Cusip, IsPartitionPoint, Price, PriceList, below_later, drop_all, is_sorted, nat_list_cmp_total, next_above, prices_above, slice_cmp}
+use Rattle.cns_sheets.proofs.Common.{◌≡◌, ◌∙◌, sym, ap, refl, ℕ, ◌+◌, ◌<◌, ◌≤◌, true, false, [], ◌∷◌, length, get_or, drop, Option, Some, None, arith, MatchOption, option_copied, HoldsAt, is_lt, nat_cmp, Less, Equal, Greater, AllWithin, Cusip, IsPartitionPoint, Price, PriceList, below_later, drop_all, is_sorted, nat_list_cmp_total, next_above, prices_above, slice_cmp}
 use denote.Bor.{Bor}
 use Rattle.cns_sheets.proofs.Entries.{next_is}
 use Rattle.cns_positions.proofs.Parted.{filter_back, filter_whole}

@@ -1,7 +1,6 @@
 -- The rows of an account, found from its first row on.
 -- For `of_rows`, `row`, `rows_of` and `rows_in` of sheet.rt and others.
-use Rattle.std.proofs.Common.{◌≡◌, ◌∙◌, sym, ap, refl, subst, ◌≤◌, ◌==◌, map, option_map, MatchOption, Bool, true, false, not, cond, List, [], ◌∷◌, filter, Option, Some, None, arith, is_lt, Less, eqb-true}
-use Rattle.cns_sheets.proofs.Common.{Account, AllByRecursion, AreFrom, Columns, IsMarked, Key, Row, ahead_of, and_left, below_all, by_key, find, first, full_row, full_rows, if_of, is_after, is_at_or_after, is_sorted, key_cmp, key_of, keys_total, lowest_of, nat_tests, passed, row_at, rows_for, sorted_filter}
+use Rattle.cns_sheets.proofs.Common.{◌≡◌, ◌∙◌, sym, ap, refl, subst, ◌≤◌, ◌==◌, map, option_map, MatchOption, Bool, true, false, not, cond, List, [], ◌∷◌, filter, Option, Some, None, arith, is_lt, Less, eqb-true, Account, AllByRecursion, AreFrom, Columns, IsMarked, Key, Row, ahead_of, and_left, below_all, by_key, find, first, full_row, full_rows, if_of, is_after, is_at_or_after, is_sorted, key_cmp, key_of, keys_total, lowest_of, nat_tests, passed, row_at, rows_for, sorted_filter}
 use Rattle.cns_sheets.proofs.Entries.{filter-map, find_keyed, first_above, sorted_if, sorted_keyed}
 
 -- ---- rows with their keys

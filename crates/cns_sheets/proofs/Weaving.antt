@@ -1,7 +1,6 @@
 -- Cents by key, and holdings that are woven with them.
 -- For `take` and `next_below` of in_order.rt, `push_holding`, `push_paid` and `collect` of cutting.rt and others.
-use Rattle.std.proofs.Common.{◌≡◌, sym, ap, refl, ℤ, pos, Bool, true, false, not, cond, List, [], ◌∷◌, ◌++◌, filter, Option, Some, None, unwrap_or, Ordering, MatchOption, option_map, is_eq, is_lt, ◌&&◌, Less, Equal, arith}
-use Rattle.cns_sheets.proofs.Common.{AllByRecursion, CentsByKey, Holding, Key, Rows, Woven, and_left, and_right, below_all, both_true, cents_at, exact_keys, find, find_below, higher, is_sorted, key_cmp, keys_total, lower, option_or, ordering_reverse, past, tied_itself, unheld, weave, zeros}
+use Rattle.cns_sheets.proofs.Common.{◌≡◌, sym, ap, refl, ℤ, pos, Bool, true, false, not, cond, List, [], ◌∷◌, ◌++◌, filter, Option, Some, None, unwrap_or, Ordering, MatchOption, option_map, is_eq, is_lt, ◌&&◌, Less, Equal, arith, AllByRecursion, CentsByKey, Holding, Key, Rows, Woven, and_left, and_right, below_all, both_true, cents_at, exact_keys, find, find_below, higher, is_sorted, key_cmp, keys_total, lower, option_or, ordering_reverse, past, tied_itself, unheld, weave, zeros}
 use Rattle.cns_sheets.specs.Woven.{is_below, left_of}
 use Rattle.cns_sheets.proofs.Entries.{below_keyed, find_if, find_keyed, sorted_if, sorted_keyed}
 

@@ -67,6 +67,7 @@ fn push_row<A: Allocator + Drop>(
 
 // Puts the rows of the dividends of lower keys after others, or of all that are left where no key is given. None of
 // these keys has a holding.
+#[tactic(auto, using(crate::proofs::Weaving::all_past))]
 fn push_paid<A: Allocator + Drop>(
     rows: &mut KeyedRows<A>,
     before: &mut Quotes,

@@ -101,6 +101,7 @@ impl<'a, A: Allocator + Clone> Iterator for IssueRows<'a, A> {
 
     ghost remaining = { item_count (λ r. r) };
 
+    #[tactic(auto, using(crate::proofs::InIssue::none_left))]
     fn next(&mut self) -> Option<Row> {
         let Some((key, columns)) = first_in(self.rows, &self.issue, self.from) else {
             self.from = None;

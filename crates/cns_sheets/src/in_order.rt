@@ -42,6 +42,7 @@ impl<'a> InOrder<'a> {
     }
 
     /// The next key with its cents, if it is below another; without one, the next of all.
+    #[tactic(auto, using(cns_terms::proofs::Facts::and_left, crate::proofs::Weaving::none_lower))]
     pub fn next_below(&mut self, high: Option<&Key>) -> Option<(Key, Cents)>
         ensures { MatchOption result ((self.new ≡ self.old) × (lower (option_copied high.entry) self.old ≡ []))
             (λ e. (self.old ≡ e ∷ self.new) × (is_below (option_copied high.entry) e.0 ≡ true)) }

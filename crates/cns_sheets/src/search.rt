@@ -9,6 +9,7 @@ use crate::prices;
 use cns_units::{Cusip, Price};
 
 // How many prices stand before those of the issues above one.
+#[tactic(auto, using(crate::proofs::Searched::all_prices, crate::proofs::Searched::prices_from_gap, crate::proofs::Searched::prices_past))]
 fn past(prices: &[(Cusip, Price)], after: Option<Cusip>) -> usize
     requires { is_sorted (slice_cmp nat_cmp) prices.now ≡ true }
     ensures above { drop result prices.now ≡ prices_above prices.now after }

@@ -109,6 +109,7 @@ impl<A: Allocator + Drop + Clone> Sheet<A> {
     }
 
     // The sheet of a date with some prices and rows.
+    #[tactic(auto, using(crate::proofs::Walked::sorted_filled))]
     fn of_rows(
         alloc: A,
         date: Day,
@@ -180,6 +181,7 @@ impl<A: Allocator + Drop + Clone> Sheet<A> {
     }
 
     /// The rows in an issue, in the order of accounts.
+    #[tactic(auto, using(crate::proofs::InIssue::all_in, crate::proofs::InIssue::marked_accounts, crate::proofs::Walked::sorted_kept))]
     pub(crate) fn rows_in(&self, issue: Cusip) -> IssueRows<'_, A>
         ensures rows { result ≡ filter (λ r. same_issue r.issue issue) self.now.rows }
         ensures order { is_sorted key_cmp (by_key result) ≡ true }
@@ -205,6 +207,7 @@ impl<A: Allocator + Drop + Clone> Sheet<A> {
 
     /// The first line of an account's statement: how many rows the account has, and the sums of their marks and of
     /// their dividends, in cents.
+    #[tactic(auto, using(crate::proofs::Added::small_fits))]
     pub fn stated(&self, account: Account) -> Stated
         ensures { result ≡ statement self.now account }
     {

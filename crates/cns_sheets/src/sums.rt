@@ -43,6 +43,7 @@ impl Totals {
 }
 
 // The sum of two amounts, as much of it as fits.
+#[tactic(auto, using(std::proofs::lemmas::Int::wraps))]
 fn wrapped_sum(a: Cents, b: Cents) -> Cents
     ensures { result ≡ int_wrap w128 (a +ℤ b) }
 {

@@ -37,6 +37,7 @@ pub fn bare_command<'a>(alloc: Global, name: &'a str) -> Command<'a>
 }
 
 /// What clap makes of the words; None where it refuses them. `NoMemory` where an allocation failed.
+#[tactic(auto, using(crate::proofs::Taken::refused, crate::proofs::Taken::taken))]
 pub fn matches_of<'a, S: AsStr>(
     line: Command<'a>,
     words: &'a [S],

@@ -1,10 +1,6 @@
 -- Workers of a packing, one after another.
 -- For `join_all`, `start_all` and `gather` of workers.rt.
-use Rattle.std.proofs.Common.{◌≡◌, ◌∙◌, sym, ap, refl, ◌<◌, List, [], ◌∷◌, ◌++◌, Vec, length, drop, map, arith, append_assoc, slice_index_or, flat_map}
-use Rattle.cns_terms.proofs.Common.{Account, DaySheet, PromisedHandle, map-append}
-use Rattle.std.specs.declared.alloc.Global.{Global}
-use Rattle.cns_statements.specs.Packs.{statement_on}
-use Rattle.cns_statements.specs.Promised.{AllAre, told, told_by}
+use Rattle.cns_statements.proofs.Common.{◌≡◌, ◌∙◌, sym, ap, refl, ◌<◌, List, [], ◌∷◌, ◌++◌, Vec, length, drop, map, arith, append_assoc, slice_index_or, flat_map, Account, DaySheet, PromisedHandle, map-append, Global, statement_on, AllAre, told, told_by}
 use Rattle.cns_statements.specs.declared.contents.Statement.{Statement}
 use Rattle.cns_statements.specs.declared.workers.Makes.{Makes}
 
@@ -18,8 +14,7 @@ pub all_more : {T : Type 0} (s : DaySheet) (ps : List (Vec Account Global)) (hs 
     → AllAre s ps hs → h.promise.sheet.value ≡ s → h.promise.accounts.value ≡ p → AllAre s (ps ++ p ∷ []) (hs ++ h ∷ [])
 all_more s [] [] p h all sheet part = (sheet, part, tt)
 all_more s (q ∷ ps) (k ∷ hs) p h all sheet part = (all.0, all.1, all_more s ps hs p h all.2 sheet part)
-all_more s [] (k ∷ hs) p h all sheet part = absurd all
-all_more s (q ∷ ps) [] p h all sheet part = absurd all
+all_more s _ _ p h all sheet part = absurd all
 
 -- the parts that were given out, and those that are left
 pub parts_same : (done old new all : List (Vec Account Global)) (p : Vec Account Global) → done ++ old ≡ all → 0 < length old → p ≡ slice_index_or old 0 p → new ≡ drop 1 old → (done ++ p ∷ []) ++ new ≡ all
@@ -36,5 +31,4 @@ told_more done made whole old new h is some first rest by =
 pub told_all : {T : Type 0} (s : DaySheet) (ps : List (Vec Account Global)) (hs : List (PromisedHandle T Makes)) → AllAre s ps hs → told hs ≡ map (statement_on s) (flat_map (λ p. p.items) ps)
 told_all s [] [] all = refl
 told_all s (p ∷ ps) (h ∷ hs) all = rw (all.0, all.1, told_all s ps hs all.2) (sym (map-append (statement_on s) p.items (flat_map (λ q. q.items) ps)))
-told_all s [] (h ∷ hs) all = absurd all
-told_all s (p ∷ ps) [] all = absurd all
+told_all s _ _ all = absurd all

@@ -78,6 +78,7 @@ fn write_kept<W: Write>(rows: &[Row], writer: &mut W) -> Result<(), WriteFault>
 /// Writes the text of a statement: its first line, and a line for each row.
 ///
 /// Where the writer fails or takes no byte it answers `WriteFault`, and a prefix of that text was written.
+#[tactic(auto, using(cns_units::proofs::OutputLemmas::writes_then))]
 pub fn write_statement<A: Allocator + Drop, W: Write>(
     statement: &Statement<A>,
     writer: &mut W,

@@ -87,6 +87,7 @@ fn start_all<'s, 'e, G: Gate + Sync, R: Threads + Wait + Sync>(
 }
 
 // Joins the workers, in order.
+#[tactic(auto, using(crate::proofs::Joined::told_more))]
 fn join_all<R: Threads>(
     rt: &R,
     alloc: Global,
@@ -108,6 +109,7 @@ fn join_all<R: Threads>(
 }
 
 // Starts a worker for each part, and joins them all.
+#[tactic(auto, using(crate::proofs::Joined::told_all))]
 pub(crate) fn gather<'s, 'e, G: Gate + Sync, R: Threads + Wait + Sync>(
     scope: &'s Scope<'s, &'e ()>,
     rt: &'e R,

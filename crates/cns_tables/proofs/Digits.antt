@@ -1,13 +1,10 @@
 -- The digits of a whole number, written one after another.
 -- For `write_digits` of grouped.rt.
-use Rattle.cns_tables.proofs.Common.{◌≡◌, ◌∙◌, sym, ap, ℕ, ◌+◌, ◌-◌, ◌<◌, List, ◌∷◌, ◌++◌, Option, get_or, length, drop, add-one, drop-cons, length-drop, append_assoc, arith, Appends, Appends-trans, AppendsFront, front_later, front_longer, digit_text, grouped}
+use Rattle.cns_tables.proofs.Common.{◌≡◌, ◌∙◌, sym, ap, ℕ, ◌+◌, ◌-◌, ◌<◌, List, ◌++◌, Option, get_or, length, drop, add-one, drop-cons, length-drop, append_assoc, arith, Appends, Appends-trans, AppendsFront, front_later, front_longer, digit_text, grouped}
 
 -- the digits from a place on
 digits_from : (ds : List ℕ) (i d : ℕ) → i < length ds → grouped (drop i ds) ≡ digit_text (get_or ds i d) (length ds - i - 1) ++ grouped (drop (i + 1) ds)
-digits_from ds i d lt =
-    let after : length (drop (i + 1) ds) ≡ length ds - i - 1 = omega (arith, length-drop (i + 1) ds) in
-    let first : drop i ds ≡ get_or ds i d ∷ drop (i + 1) ds = rw add-one (drop-cons ds i d lt) in
-    ap grouped first ∙ ap (λ n. digit_text (get_or ds i d) n ++ grouped (drop (i + 1) ds)) after
+digits_from ds i d h1 = grind (arith, length, drop, length-drop, get_or, add-one, drop-cons, grouped, digit_text)
 
 -- one more was written
 pub digits_more : (old mid new : Option (List ℕ)) (ds : List ℕ) (i d : ℕ) (done : List ℕ) → i < length ds

@@ -21,6 +21,7 @@ fn write_digit<W: Write>(digit: u8, after: usize, writer: &mut W) -> Result<(), 
 }
 
 // The digits of a whole number.
+#[tactic(auto, using(std::proofs::lemmas::Result::err_from_is_err_and, crate::proofs::Digits::digits_failed, crate::proofs::Digits::digits_more))]
 fn write_digits<W: Write>(digits: &[u8], writer: &mut W) -> Result<(), WriteFault>
     ensures { Writes (W.contents writer.old) (W.contents writer.new) (grouped digits.now) result }
 {
@@ -62,6 +63,7 @@ pub(crate) fn write_signed<W: Write>(number: i128, writer: &mut W) -> Result<(),
 }
 
 // Dollars, a point and two digits.
+#[tactic(auto, using(std::proofs::lemmas::Result::err_from_is_err_and, cns_units::proofs::OutputLemmas::front_longer, cns_units::proofs::OutputLemmas::writes_then))]
 fn write_dollars<W: Write>(cents: u128, writer: &mut W) -> Result<(), WriteFault>
     ensures { Writes (W.contents writer.old) (W.contents writer.new) (dollars_text cents) result }
 {
@@ -107,6 +109,7 @@ fn fraction(millionths: u128) -> [u8; 7]
 /// Writes millionths of a dollar as dollars with six digits after the point, as `1,234.567890`.
 ///
 /// Where the writer fails or takes no byte it answers `WriteFault`, and a prefix of that text was written.
+#[tactic(auto, using(std::proofs::lemmas::Result::err_from_is_err_and, cns_units::proofs::OutputLemmas::front_longer, cns_units::proofs::OutputLemmas::writes_then))]
 pub(crate) fn write_rate<W: Write>(millionths: u128, writer: &mut W) -> Result<(), WriteFault>
     ensures { Writes (W.contents writer.old) (W.contents writer.new) (rate_text millionths) result }
 {

@@ -71,6 +71,7 @@ fn write_cells<W: Write>(pieces: &[Piece<'_>], writer: &mut W) -> Result<(), Wri
     Ok(())
 }
 
+#[tactic(auto, using(crate::proofs::Written::after, crate::proofs::Written::written))]
 fn write_cell<W: Write>(piece: &Piece<'_>, writer: &mut W) -> Result<(), WriteFault>
     ensures { OnOk result (Appends (W.contents writer.old) (W.contents writer.new) (cell_of piece.now)) }
 {
@@ -81,6 +82,7 @@ fn write_cell<W: Write>(piece: &Piece<'_>, writer: &mut W) -> Result<(), WriteFa
 /// Writes a row: what stands before it, its first cell, and the other cells.
 ///
 /// Where the writer fails or takes no byte it answers `WriteFault`, and some of the row was written.
+#[tactic(auto, using(crate::proofs::Written::after))]
 pub fn write_line<W: Write>(
     head: &'static str,
     first: &Piece<'_>,
@@ -98,6 +100,7 @@ pub fn write_line<W: Write>(
 /// Writes rows, one after another.
 ///
 /// Where the writer fails or takes no byte it answers `WriteFault`, and some of them was written.
+#[tactic(auto, using(cns_units::proofs::Parts::parts_more))]
 pub fn write_rows<T: TableRow, W: Write>(rows: &[T], writer: &mut W) -> Result<(), WriteFault>
     ensures { OnOk result (Appends (W.contents writer.old) (W.contents writer.new) (flat_map T.text rows.now)) }
 {
@@ -107,6 +110,7 @@ pub fn write_rows<T: TableRow, W: Write>(rows: &[T], writer: &mut W) -> Result<(
     Ok(())
 }
 
+#[tactic(auto, using(crate::proofs::Written::after))]
 fn write_column<W: Write>(column: &'static str, writer: &mut W) -> Result<(), WriteFault>
     ensures { OnOk result (Appends (W.contents writer.old) (W.contents writer.new) (COLUMN.now ++ column.now)) }
 {
@@ -168,6 +172,7 @@ fn write_caption<W: Write>(table: &Table, writer: &mut W) -> Result<(), WriteFau
 }
 
 // Writes the table of some rows.
+#[tactic(auto, using(crate::proofs::Written::after))]
 fn write_some<T: TableRow, W: Write>(
     table: &Table,
     rows: &[T],
@@ -185,6 +190,7 @@ fn write_some<T: TableRow, W: Write>(
 /// Writes a table with its rows in order, or what stands there where it has none.
 ///
 /// Where the writer fails or takes no byte it answers `WriteFault`, and some of that text was written.
+#[tactic(auto, using(crate::proofs::Written::no_rows, crate::proofs::Written::some_rows))]
 pub fn write_table<T: TableRow, W: Write>(
     table: &Table,
     rows: &[T],

@@ -5,8 +5,6 @@ use Rattle.cns_terms.specs.Laws.{ClosedDays}
 use Rattle.cns_terms.specs.Sheets.{sheet_at}
 use Rattle.cns_terms.proofs.Sound.{opening_stays, whole-after, whole-next}
 
--- ---- by place
-
 -- ---- by date
 
 -- what is found passes the test, and what holds of each holds of it

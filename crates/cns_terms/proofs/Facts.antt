@@ -23,9 +23,6 @@ both_true a b h1 h2 = grind arith
 pub neither : (a b : Bool) → (a || b) ≡ false → (a ≡ false) × (b ≡ false)
 neither a b h1 = grind arith
 
-pub or_right : (a b : Bool) → b ≡ true → (a || b) ≡ true
-or_right a b h1 = grind arith
-
 pub or_false : (b : Bool) → (b || false) ≡ b
 or_false b = grind arith
 

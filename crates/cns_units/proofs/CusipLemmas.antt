@@ -10,10 +10,7 @@ sum-at doubled bs i lt = rw (add-one, drop-cons bs i 0 lt) refl
 
 pub sum-step : (doubled : Bool) (bs : List ℕ) (i sum w : ℕ) (whole : Option ℕ) → i < length bs → plus sum (sum_of doubled (drop i bs)) ≡ whole → Some w ≡ option_map (weight doubled) (character_value (get_or bs i 0))
     → plus (sum + w) (sum_of (not doubled) (drop (i + 1) bs)) ≡ whole
-sum-step doubled bs i sum w whole lt inv is = step _ _ (sum-at doubled bs i lt) inv is
-  where
-    step : (value rest : Option ℕ) {next : Option ℕ} → next ≡ after_value doubled value rest → plus sum next ≡ whole → Some w ≡ option_map (weight doubled) value → plus (sum + w) rest ≡ whole
-    step value rest next is some = grind (arith, next, is, some)
+sum-step doubled bs i sum w whole h1 h2 h3 = grind (arith, sum-at, after_value, plus, option_map, weight)
 
 pub sum-stop : (doubled : Bool) (bs : List ℕ) (i sum : ℕ) (whole : Option ℕ) → i < length bs → plus sum (sum_of doubled (drop i bs)) ≡ whole → None ≡ option_map (weight doubled) (character_value (get_or bs i 0)) → None ≡ whole
 sum-stop doubled bs i sum whole lt inv is = grind (arith, sum-at doubled bs i lt)

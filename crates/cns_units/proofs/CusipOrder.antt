@@ -33,12 +33,11 @@ bytes_order : (v w : ℕ) (xs ys : List ℕ) → length xs ≡ length ys → All
     → nat_cmp (number v xs) (number w ys) ≡ ordering_then (nat_cmp v w) (slice_cmp nat_cmp xs ys)
 unfolding number
 bytes_order v w [] [] len p q = sym (then_end (nat_cmp v w))
-bytes_order v w [] (y ∷ ys) len p q = absurd (omega (arith, len))
-bytes_order v w (x ∷ xs) [] len p q = absurd (omega (arith, len))
 bytes_order v w (x ∷ xs) (y ∷ ys) len p q =
     bytes_order (v * 256 + x) (w * 256 + y) xs ys (omega (arith, len)) p.1 q.1
     ∙ ap (λ o. ordering_then o (slice_cmp nat_cmp xs ys)) (byte_more v w x y p.0 q.0)
     ∙ then_then (nat_cmp v w) (nat_cmp x y) (slice_cmp nat_cmp xs ys)
+bytes_order v w _ _ len p q = absurd (omega (arith, len))
 
 -- the first items of a list, written out
 firsts : ℕ → List ℕ → List ℕ
@@ -48,9 +47,8 @@ firsts (suc n) xs = get_or xs 0 0 ∷ firsts n (drop 1 xs)
 all_firsts : (n : ℕ) (xs : List ℕ) → length xs ≡ n → firsts n xs ≡ xs
 unfolding firsts
 all_firsts zero [] len = refl
-all_firsts zero (x ∷ xs) len = absurd (omega (arith, len))
-all_firsts (suc n) [] len = absurd (omega (arith, len))
 all_firsts (suc n) (x ∷ xs) len = ap (◌∷◌ x) (all_firsts n xs (omega (arith, len)))
+all_firsts _ _ len = absurd (omega (arith, len))
 
 -- what eight bytes are as a number
 number_of : (xs : List ℕ) → length xs ≡ 8 → from_be_bytes w64 xs ≡ number 0 xs
@@ -76,9 +74,8 @@ same_check sum c d p q = grind (arith, nat_tests)
 -- one character more at the end of two texts
 at_end : (xs ys : List ℕ) (c d : ℕ) → length xs ≡ length ys → slice_cmp nat_cmp (xs ++ c ∷ []) (ys ++ d ∷ []) ≡ ordering_then (slice_cmp nat_cmp xs ys) (nat_cmp c d)
 at_end [] [] c d len = then_end (nat_cmp c d)
-at_end [] (y ∷ ys) c d len = absurd (omega (arith, len))
-at_end (x ∷ xs) [] c d len = absurd (omega (arith, len))
 at_end (x ∷ xs) (y ∷ ys) c d len = grind (arith, at_end xs ys c d, then_then)
+at_end _ _ c d len = absurd (omega (arith, len))
 
 -- where the characters before them are the same, so are the check digits
 same_then : (xs ys : List ℕ) (c d : ℕ) → last_fault (sum_of false xs) c ≡ None → last_fault (sum_of false ys) d ≡ None → ordering_then (slice_cmp nat_cmp xs ys) (nat_cmp c d) ≡ slice_cmp nat_cmp xs ys
@@ -101,12 +98,4 @@ is_made xs is =
 
 -- CUSIPs are in the order of what stands before their check digits
 pub cusips_order : (xs ys : List ℕ) → IsCusip xs → IsCusip ys → nat_cmp (from_be_bytes w64 (take 8 xs)) (from_be_bytes w64 (take 8 ys)) ≡ slice_cmp nat_cmp xs ys
-cusips_order xs ys one two =
-    let p = is_made xs one in
-    let q = is_made ys two in
-    let a = take 8 xs in
-    let b = take 8 ys in
-    (λ k. nat_cmp (number_of a p.body k) (number_of b q.body k))
-    ∙ bytes_order 0 0 a b (p.body ∙ sym q.body) (are_bytes false a _ p.sound) (are_bytes false b _ q.sound)
-    ∙ sym (at_end a b (slice_index xs 8) (slice_index ys 8) (p.body ∙ sym q.body) ∙ same_then a b (slice_index xs 8) (slice_index ys 8) p.sound q.sound)
-    ∙ (λ k. slice_cmp nat_cmp (p.whole k) (q.whole k))
+cusips_order xs ys one two = grind (arith, is_made, take, nat_cmp, number_of, bytes_order, are_bytes, at_end, slice_index, same_then, slice_cmp)

@@ -3,13 +3,7 @@ use Rattle.cns_units.proofs.Common.{◌≡◌, ℕ, ◌+◌, ◌-◌, ◌<◌, �
 use Rattle.std.proofs.Math.Seq.{take-add, take-length}
 
 pub front_longer : (old new : Option (List ℕ)) (a b : List ℕ) → AppendsFront old new a → AppendsFront old new (a ++ b)
-front_longer old new a b w = record {
-  front = w.front;
-  rest = w.rest ++ b;
-  whole = ap (λ l. l ++ b) w.whole ∙ append_assoc w.front w.rest b;
-  short = let sum = length-append w.rest b in let some = w.short in omega (arith, sum, some);
-  appended = w.appended;
-}
+front_longer old new a b h1 = grind (arith, append_assoc, length-append)
 
 pub front_later : (old mid new : Option (List ℕ)) (a b : List ℕ) → Appends old mid a → AppendsFront mid new b → AppendsFront old new (a ++ b)
 front_later old mid new a b first w = record {

@@ -51,6 +51,7 @@ const DOUBLED: [u8; 56] = [
 ];
 
 // What a character adds to the sum; nothing where it has no value.
+#[tactic(auto, using(crate::proofs::CusipWeights::no_weight, crate::proofs::CusipWeights::some_weight))]
 fn weight_of(is_doubled: bool, character: u8) -> Option<u32>
     ensures exact { result ≡ option_map (weight is_doubled) (character_value character) }
     ensures small { IfSome result (λ w. w ≤ 255) }
@@ -157,6 +158,7 @@ impl Ord for Cusip {
     ghost matches_eq = { Prim.search (comparing, rules) };
 
     // The check digit follows from the characters before it, so those decide.
+    #[tactic(auto, using(crate::proofs::CusipOrder::cusips_order))]
     fn cmp(&self, other: &Cusip) -> Ordering {
         self.body().cmp(&other.body())
     }

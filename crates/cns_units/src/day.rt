@@ -108,6 +108,7 @@ impl PartialEq for Day {
     ghost laws = { Prim.search (comparing, rules) };
 
     // No two days have the same number, so their parts are compared.
+    #[tactic(auto, using(crate::proofs::DayLemmas::differ, crate::proofs::DayLemmas::years_test))]
     fn eq(&self, other: &Day) -> bool {
         if self.day != other.day {
             return false;

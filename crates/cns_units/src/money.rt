@@ -93,6 +93,7 @@ impl Cents {
 }
 
 // Dollars, a point and two digits.
+#[tactic(auto, using(std::proofs::lemmas::Result::err_from_is_err_and, crate::proofs::OutputLemmas::front_longer, crate::proofs::OutputLemmas::writes_then))]
 fn write_amount<W: Write>(cents: u128, writer: &mut W) -> Result<(), WriteFault>
     ensures { Writes (W.contents writer.old) (W.contents writer.new) (amount_text cents) result }
 {

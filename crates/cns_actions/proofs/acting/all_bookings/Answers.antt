@@ -17,12 +17,3 @@ loop-holder-init g c =
       small = small_bookings x corporation (opposite c.args.sum.now) n (rw c.opposite.ensures.exact at c.opposite.ensures.few);
       within = each_listed has_position_or_age refl i R c.requires.order (λ h. unsigned_abs h.shares ≤ position_limit) (λ a le held. c.requires.within.members a i le);
     })
-
-pub loop-holder-preserved : goal.loop-holder-preserved
-loop-holder-preserved g c =
-    let l = c.loop-holder in
-    record {
-      bookings = bookings_next c.args.action.now _ l.bookings.items _ _ c.in-Some.holder _ c.in-Some.ensures.next l.invariant.bookings c.in_ok-push_member.ensures.bookings;
-      small = c.in_ok-push_member.ensures.small;
-      within = (rw c.in-Some.ensures.next at l.invariant.within).1;
-    }

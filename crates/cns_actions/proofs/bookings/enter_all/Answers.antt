@@ -17,8 +17,3 @@ loop-booking-preserved g c =
 
 pub returns-clause-there : goal.returns-clause-there
 returns-clause-there g c = recursion_from_All _ c.args.bookings.now (rw (take_all c.loop-booking.booking-index c.args.bookings.now c.loop-booking-test.false) at c.loop-booking.invariant.there)
-
-pub returns-in_err-enter-clause-others : goal.returns-in_err-enter-clause-others
-returns-in_err-enter-clause-others g c k e =
-    let l = c.loop-booking in
-    others_stay _ _ k (c.enter.ensures.others k (rw (← c.key_of.ensures) at (elsewhere_at k c.args.bookings.now l.booking-index c.booking-item.result c.loop-booking-test.true c.booking-item.is e))) ∙ l.invariant.others k e

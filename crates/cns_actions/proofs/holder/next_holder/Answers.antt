@@ -23,10 +23,3 @@ loop-row-preserved-in_default-holder_at g c =
 pub loop-row-smaller : goal.loop-row-smaller
 loop-row-smaller g c =
     fewer_above (g.P.Positions.rows c.args.positions.now) c.requires c.loop-row.passed (c.in-Some.row, c.in-Some.field-0-1) c.past.result c.in-Some.ensures c.past.ensures.order
-
-pub loop-row-preserved : goal.loop-row-preserved
-loop-row-preserved g c =
-    c.loop-row.invariant ∙ same_left (g.P.Positions.rows c.args.positions.now) c.requires c.args.issue.now c.loop-row.passed (c.in-Some.row, c.in-Some.field-0-1) c.past.result c.past.ensures.account (sym c.if-is_new.ensures)
-
-pub returns-clause-next : goal.returns-clause-next
-returns-clause-next g c = c.loop-row.invariant ∙ none_left (g.P.Positions.rows c.args.positions.now) c.requires c.args.issue.now c.loop-row.passed c.in_default.ensures

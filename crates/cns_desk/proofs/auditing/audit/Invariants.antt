@@ -1,6 +1,4 @@
-use Rattle.std.proofs.Common.{◌≤◌, ◌<◌}
-use Rattle.cns_terms.specs.declared.worker.Worker.{Worker}
-use Rattle.cns_desk.specs.Parts.{IsPart, part_of}
+use Rattle.cns_desk.proofs.Common.{◌≤◌, ◌<◌, Worker, IsPart, part_of}
 use Rattle.cns_desk.proofs.auditing.audit.Given as goal
 
 -- the lower workers' logs are their parts

@@ -1,6 +1,4 @@
-use Rattle.std.proofs.Common.{◌≤◌, ℕ}
-use Rattle.cns_terms.proofs.Common.{count}
-use Rattle.cns_desk.specs.Parts.{SameAt}
+use Rattle.cns_desk.proofs.Common.{◌≤◌, ℕ, count, SameAt}
 use Rattle.cns_desk.proofs.auditing.first_difference.Given as goal
 
 -- the places so far are the same

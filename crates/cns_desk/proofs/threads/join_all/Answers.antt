@@ -1,4 +1,4 @@
-use Rattle.std.proofs.Common.{rules, ◌≡◌, ◌<◌, ◌++◌, ◌∷◌, [], drop, length}
+use Rattle.cns_desk.proofs.Common.{rules, ◌≡◌, ◌<◌, ◌++◌, ◌∷◌, [], drop, length}
 use Rattle.cns_desk.proofs.Joined.{run_more, sources_same}
 use Rattle.cns_desk.proofs.threads.join_all.Goals as goal
 

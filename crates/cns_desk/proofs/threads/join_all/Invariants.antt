@@ -1,6 +1,4 @@
-use Rattle.std.proofs.Common.{◌≡◌, ◌+◌, ◌++◌, List, vec_len}
-use Rattle.cns_desk.specs.Promised.{promised}
-use Rattle.cns_desk.specs.Worked.{HaveRun}
+use Rattle.cns_desk.proofs.Common.{◌≡◌, ◌+◌, ◌++◌, List, vec_len, promised, HaveRun}
 use Rattle.cns_desk.proofs.threads.join_all.Given as goal
 
 -- the workers that were joined have run, and with the rest they are all

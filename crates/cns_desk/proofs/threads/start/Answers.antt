@@ -1,4 +1,4 @@
-use Rattle.cns_terms.proofs.Common.{crosses, sendable}
+use Rattle.cns_desk.proofs.Common.{crosses, sendable}
 use Rattle.cns_desk.proofs.Crossing.{done_send, seat_send, shared_sync}
 use Rattle.cns_desk.proofs.threads.start.Goals as goal
 

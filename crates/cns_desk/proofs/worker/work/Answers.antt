@@ -1,4 +1,4 @@
-use Rattle.std.proofs.Common.{arith}
+use Rattle.cns_desk.proofs.Common.{arith}
 use Rattle.cns_desk.proofs.SoFar.{more}
 use Rattle.cns_desk.proofs.worker.work.Goals as goal
 

@@ -1,6 +1,5 @@
 -- The buffer keeps its length, and a call that was interrupted consumes nothing.
-use Rattle.std.proofs.Common.{◌≡◌, length}
-use Rattle.cns_terms.proofs.Common.{Keeps}
+use Rattle.cns_feed.proofs.Common.{◌≡◌, length, Keeps}
 use Rattle.cns_feed.proofs.counting.read_some.Given as goal
 
 abbrev pub invariant-loop : goal.invariant-loop

@@ -1,4 +1,4 @@
-use Rattle.std.proofs.Common.{◌∙◌, ◌≤◌, sym, rules, arith}
+use Rattle.cns_feed.proofs.Common.{◌∙◌, ◌≤◌, sym, rules, arith}
 use Rattle.cns_feed.proofs.DigitLemmas.{digits-step, exact-step, longer, small_yet}
 use Rattle.cns_feed.proofs.digits.exact.Goals as goal
 

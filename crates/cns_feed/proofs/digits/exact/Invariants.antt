@@ -1,5 +1,4 @@
-use Rattle.std.proofs.Common.{◌≡◌, ◌^◌, ◌<◌, take, drop}
-use Rattle.cns_terms.proofs.Common.{all_ascii_digits, digits_value}
+use Rattle.cns_feed.proofs.Common.{◌≡◌, ◌^◌, ◌<◌, take, drop, all_ascii_digits, digits_value}
 use Rattle.cns_feed.proofs.digits.exact.Given as goal
 
 abbrev pub invariant-loop-byte : goal.invariant-loop-byte

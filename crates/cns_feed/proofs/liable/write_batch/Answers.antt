@@ -1,5 +1,4 @@
-use Rattle.cns_terms.proofs.Common.{err_from_is_err_and, parts_failed, parts_more}
-use Rattle.cns_feed.specs.Text.{liable_line}
+use Rattle.cns_feed.proofs.Common.{err_from_is_err_and, parts_failed, parts_more, liable_line}
 use Rattle.cns_feed.proofs.liable.write_batch.Goals as goal
 
 pub loop-liable-preserved : goal.loop-liable-preserved

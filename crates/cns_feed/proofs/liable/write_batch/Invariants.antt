@@ -1,6 +1,4 @@
-use Rattle.std.proofs.Common.{◌≡◌, ℕ, List, ◌++◌, drop, flat_map}
-use Rattle.cns_terms.proofs.Common.{Appends}
-use Rattle.cns_feed.specs.Text.{liable_line}
+use Rattle.cns_feed.proofs.Common.{◌≡◌, ℕ, List, ◌++◌, drop, flat_map, Appends, liable_line}
 use Rattle.cns_feed.proofs.liable.write_batch.Given as goal
 
 abbrev pub invariant-loop-liable : goal.invariant-loop-liable

@@ -1,5 +1,4 @@
-use Rattle.cns_terms.proofs.Common.{err_from_is_err_and, parts_failed, parts_more}
-use Rattle.cns_feed.specs.Text.{batch_text}
+use Rattle.cns_feed.proofs.Common.{err_from_is_err_and, parts_failed, parts_more, batch_text}
 use Rattle.cns_feed.proofs.liable.write_batches.Goals as goal
 
 pub loop-batch-preserved : goal.loop-batch-preserved

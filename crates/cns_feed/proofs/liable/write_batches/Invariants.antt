@@ -1,6 +1,4 @@
-use Rattle.std.proofs.Common.{◌≡◌, ℕ, List, ◌++◌, drop}
-use Rattle.cns_terms.proofs.Common.{Appends}
-use Rattle.cns_feed.specs.Text.{batches_text}
+use Rattle.cns_feed.proofs.Common.{◌≡◌, ℕ, List, ◌++◌, drop, Appends, batches_text}
 use Rattle.cns_feed.proofs.liable.write_batches.Given as goal
 
 abbrev pub invariant-loop-batch : goal.invariant-loop-batch

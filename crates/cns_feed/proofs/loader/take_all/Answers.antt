@@ -1,21 +1,9 @@
-use Rattle.std.proofs.Common.{◌≡◌, ◌+◌, ◌-◌, arith, inr, None}
-use Rattle.cns_terms.proofs.Common.{err_from_is_err_and}
-use Rattle.cns_feed.proofs.PlayLemmas.{along-all, along-line, along-longer, along-none, room-line, up_to-less, up_to-line, up_to-none}
-use Rattle.cns_feed.proofs.RecordLemmas.{ends-any}
+use Rattle.cns_feed.proofs.Common.{◌+◌, ◌-◌, arith, inr, None}
+use Rattle.cns_feed.proofs.PlayLemmas.{along-all, along-line, along-longer, along-none, room-line, up_to-line, up_to-none}
 use Rattle.cns_feed.proofs.loader.take_all.Goals as goal
 
 pub loop-turn-init : goal.loop-turn-init
-loop-turn-init g c = record {
-  counts = up_to-none _ c.new-summary.ensures;
-  ready = c.requires.ready;
-  room = let all : c.args.most - 0 ≡ c.args.most = omega arith in rw all c.requires.room;
-  along = λ all p. along-none g.R.Read.remaining c.args.records.now _ _ None all c.new-summary.ensures p;
-}
-
-pub returns-in_err-line-clause-err : goal.returns-in_err-line-clause-err
-returns-in_err-line-clause-err g c =
-    let p = err_from_is_err_and c.from_residual.result c.from_residual.ensures.1 in
-    rw (p.1, p.2) (inr (ends-any _ _ _ c.in_err-line.ensures))
+loop-turn-init g c = grind (arith, up_to-none, along-none)
 
 pub returns-in_default-clause-few : goal.returns-in_default-clause-few
 returns-in_default-clause-few g c all q =
@@ -33,9 +21,6 @@ pub returns-in_default-clause-counts : goal.returns-in_default-clause-counts
 returns-in_default-clause-counts g c all q =
     let none = rw c.in_default.is at c.in_ok-line.ensures in
     (along-all g.R.Read.remaining c.loop-turn.records _ _ _ None None _ all none (c.loop-turn.invariant.along all q)).takes.counts
-
-pub add-requires : goal.add-requires
-add-requires g c = up_to-less _ c.loop-turn._turn _ (omega (arith, c.loop-turn-test.true, c.requires.most)) c.loop-turn.invariant.counts
 
 pub loop-turn-preserved : goal.loop-turn-preserved
 loop-turn-preserved g c =

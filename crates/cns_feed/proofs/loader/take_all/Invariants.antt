@@ -1,7 +1,4 @@
-use Rattle.std.proofs.Common.{◌-◌, List, None}
-use Rattle.cns_feed.specs.Line.{Line}
-use Rattle.cns_feed.specs.Records.{IsReady, Pending}
-use Rattle.cns_feed.specs.Replay.{HasRoomFor, IsUpTo}
+use Rattle.cns_feed.proofs.Common.{◌-◌, List, None, Line, IsReady, Pending, HasRoomFor, IsUpTo}
 use Rattle.cns_feed.proofs.PlayLemmas.{Along}
 use Rattle.cns_feed.proofs.loader.take_all.Given as goal
 

@@ -1,17 +1,10 @@
-use Rattle.std.proofs.Common.{◌≡◌, ◌+◌, ◌-◌, arith, inl, inr}
-use Rattle.cns_terms.proofs.Common.{err_from_is_err_and}
-use Rattle.std.proofs.KnownBytes.{Keeps-refl}
-use Rattle.cns_feed.proofs.PlayLemmas.{along-all, along-at, along-between, along-kept, along-line, along-none, leaves-not_full, room-line, up_to-less, up_to-line, up_to-none}
-use Rattle.cns_feed.proofs.RecordLemmas.{ends-any, ends-not_full}
+use Rattle.cns_feed.proofs.Common.{◌+◌, ◌-◌, arith, inl, inr, err_from_is_err_and, Keeps-refl}
+use Rattle.cns_feed.proofs.PlayLemmas.{along-all, along-at, along-between, along-kept, along-line, along-none, room-line, up_to-line, up_to-none}
+use Rattle.cns_feed.proofs.RecordLemmas.{ends-any}
 use Rattle.cns_feed.proofs.player.play.Goals as goal
 
 pub loop-turn-init : goal.loop-turn-init
-loop-turn-init g c = record {
-  counts = up_to-none _ c.new-summary.ensures;
-  ready = c.requires.ready;
-  room = let all : c.args.most - 0 ≡ c.args.most = omega arith in rw all c.requires.room;
-  along = λ all p. along-none g.R.Read.remaining c.args.records.now _ _ _ all c.new-summary.ensures p;
-}
+loop-turn-init g c = grind (arith, up_to-none, along-none)
 
 pub returns-in_err-flush-clause-fault : goal.returns-in_err-flush-clause-fault
 returns-in_err-flush-clause-fault g c =
@@ -24,11 +17,6 @@ returns-in_err-line-clause-fault g c =
     let p = err_from_is_err_and c.from_residual-in_err-line.result c.from_residual-in_err-line.ensures.1 in
     rw (p.1, p.2) (λ all q.
     along-between g.R.Read.remaining c.loop-turn.records _ _ _ _ _ _ _ _ all _ (λ done count. inr (ends-any _ _ _ c.in_err-line.ensures)) c.flush.ensures.text (c.loop-turn.invariant.along all q))
-
-pub returns-in_err-line-clause-room : goal.returns-in_err-line-clause-room
-returns-in_err-line-clause-room g c =
-    let p = err_from_is_err_and c.from_residual-in_err-line.result c.from_residual-in_err-line.ensures.1 in
-    rw (p.1, p.2) (ends-not_full _ _ c.in_err-line.ensures)
 
 pub returns-in_default-clause-few : goal.returns-in_default-clause-few
 returns-in_default-clause-few g c all q =
@@ -54,14 +42,6 @@ returns-in_err-response-clause-fault g c =
     rw (p.1, p.2) (λ all q.
     along-at g.R.Read.remaining c.loop-turn.records c.read_line.new.self _ _ _ _ _ _ _ _ _ all _ one.0 c.in_err-response.ensures.err
     (along-kept g.R.Read.remaining c.loop-turn.records _ _ _ _ _ _ _ all c.flush.ensures.text (c.loop-turn.invariant.along all q)))
-
-pub returns-in_err-response-clause-room : goal.returns-in_err-response-clause-room
-returns-in_err-response-clause-room g c =
-    let p = err_from_is_err_and c.from_residual-in_err-response.result c.from_residual-in_err-response.ensures.1 in
-    rw (p.1, p.2) (leaves-not_full _ _ _ _ c.in_err-response.ensures.err)
-
-pub add-requires : goal.add-requires
-add-requires g c = up_to-less _ c.loop-turn._turn _ (omega (arith, c.loop-turn-test.true, c.requires.most)) c.loop-turn.invariant.counts
 
 pub loop-turn-preserved : goal.loop-turn-preserved
 loop-turn-preserved g c =

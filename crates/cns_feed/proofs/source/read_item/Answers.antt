@@ -1,5 +1,4 @@
-use Rattle.std.proofs.Common.{None, Some, arith, refl}
-use Rattle.cns_feed.specs.Source.{lines_left}
+use Rattle.cns_feed.proofs.Common.{None, Some, arith, refl, lines_left}
 use Rattle.cns_feed.proofs.SourceLemmas.{item_line, left_pending, where_known}
 use Rattle.cns_feed.proofs.source.read_item.Goals as goal
 

@@ -11,11 +11,5 @@ loop-key-preserved g c = record {
   same = λ k. c.enter.ensures.same k ∙ c.loop-key.invariant.same k;
 }
 
-pub returns-in_err-enter-clause-others : goal.returns-in_err-enter-clause-others
-returns-in_err-enter-clause-others g c k apart = c.enter.ensures.others k (other_key c.args.keys.now c.loop-key.key-index c.key-item.result c.loop-key-test.true c.key-item.is k apart) ∙ c.loop-key.invariant.others k apart
-
 pub returns-in_err-enter-clause-memory : goal.returns-in_err-enter-clause-memory
 returns-in_err-enter-clause-memory g c = at_error c.from_residual.result (absent_at c.args.rows.now c.loop-key.rows c.args.keys.now c.loop-key.key-index c.key-item.result c.loop-key-test.true c.key-item.is c.loop-key.invariant.kept c.in_err-enter.ensures.memory)
-
-pub returns-clause-there : goal.returns-clause-there
-returns-clause-there g c = rw (sym (take_all c.loop-key.key-index c.args.keys.now c.loop-key-test.false)) c.loop-key.invariant.there

@@ -3,9 +3,6 @@ use Rattle.cns_retransmit.proofs.Choosing.{as_old, choosing_more, younger}
 use Rattle.cns_retransmit.proofs.choice.choose_ordered.Goals.{then-short-age, else-short-age, then-older-called+in_ok-push, else-older-called}
 use Rattle.cns_retransmit.proofs.choice.choose_ordered.Goals as goal
 
-pub loop-short-init : goal.loop-short-init
-loop-short-init g c = rw c.new-liables.ensures.items (record { sum_is = refl; left = refl; first = λ e. refl; later = λ d lt. absurd (omega arith) })
-
 pub loop-short-preserved : goal.loop-short-preserved
 loop-short-preserved g c =
     let l = c.loop-short in
@@ -22,6 +19,3 @@ loop-short-preserved g c =
       | else-older-called w ↦ grind (arith, nat_tests, append-nil)
     ] in
     rw now.0 (choosing_more c.requires.order c.loop-short-test.true c.short-item.is l.invariant c.if-older-called.liables.items c.if-short-age.older now.1 more)
-
-pub returns : goal.returns
-returns g c = grind (arith, drop_all, append-nil)

@@ -1,5 +1,4 @@
-use Rattle.cns_retransmit.proofs.Common.{◌≡◌, drop}
-use Rattle.cns_retransmit.specs.Members.{left_of}
+use Rattle.cns_retransmit.proofs.Common.{◌≡◌, drop, left_of}
 use Rattle.cns_retransmit.proofs.filling.left_for.Given as goal
 
 abbrev pub invariant-loop-liable : goal.invariant-loop-liable

@@ -3,9 +3,6 @@ use Rattle.cns_retransmit.proofs.FillSteps.{fill_last, fill_none, fill_some}
 use Rattle.cns_retransmit.proofs.filling.make_fills.Goals.{then-more-gt0+in_ok-push, else-more-gt0}
 use Rattle.cns_retransmit.proofs.filling.make_fills.Goals as goal
 
-pub loop-liable-init : goal.loop-liable-init
-loop-liable-init g c = rw c.new-fills.ensures.items (grind arith)
-
 pub loop-liable-preserved : goal.loop-liable-preserved
 loop-liable-preserved g c =
     let l = c.loop-liable in
@@ -17,9 +14,6 @@ loop-liable-preserved g c =
       | else-more-gt0 w ↦ rw (w.fills-is, w.given-is, w.paid-is)
           (fill_none l.invariant c.liable-item.result c.min-more.result c.loop-liable-test.true c.liable-item.is more_is (omega (arith, w.if-more-gt0.false)))
     ]
-
-pub returns-then-given-shares : goal.returns-then-given-shares
-returns-then-given-shares g c = grind (arith, fill_last, fills_laid)
 
 pub returns : goal.returns
 returns g c = grind (arith, drop_all, fills_laid, append-nil)

@@ -1,5 +1,4 @@
-use Rattle.std.proofs.Common.{◌≡◌, ◌++◌, None, length}
-use Rattle.cns_sheets.proofs.Common.{AllByRecursion, IsMarked, held_above, weave, woven_rows}
+use Rattle.cns_sheets.proofs.Common.{◌≡◌, ◌++◌, None, length, AllByRecursion, IsMarked, held_above, weave, woven_rows}
 use Rattle.cns_sheets.proofs.cutting.collect.Given as goal
 
 abbrev pub invariant-loop-rows : goal.invariant-loop-rows

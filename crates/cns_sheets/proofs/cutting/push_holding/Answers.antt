@@ -1,5 +1,4 @@
-use Rattle.std.proofs.Common.{◌≡◌, ◌∙◌, ◌++◌, ◌∷◌, List, [], Some, append_assoc, arith}
-use Rattle.cns_sheets.proofs.Common.{CentsByKey, Holding, Key, PriceList, Row, Rows, Woven, cents_at, filter-append, higher, lower, map-append, on_ok_weaker, past, unheld, weave, woven_rows}
+use Rattle.cns_sheets.proofs.Common.{◌≡◌, ◌∙◌, ◌++◌, ◌∷◌, List, [], Some, append_assoc, arith, CentsByKey, Holding, Key, PriceList, Row, Rows, Woven, cents_at, filter-append, higher, lower, map-append, on_ok_weaker, past, unheld, weave, woven_rows}
 use Rattle.cns_sheets.proofs.Weaving.{cents_past, higher_past}
 use Rattle.cns_sheets.proofs.cutting.push_holding.Goals as goal
 

@@ -1,5 +1,4 @@
-use Rattle.std.proofs.Common.{◌≡◌, ◌++◌, length, option_copied}
-use Rattle.cns_sheets.proofs.Common.{AllByRecursion, IsMarked, lower, past, unheld, woven_rows}
+use Rattle.cns_sheets.proofs.Common.{◌≡◌, ◌++◌, length, option_copied, AllByRecursion, IsMarked, lower, past, unheld, woven_rows}
 use Rattle.cns_sheets.proofs.cutting.push_paid.Given as goal
 
 abbrev pub invariant-loop-key : goal.invariant-loop-key

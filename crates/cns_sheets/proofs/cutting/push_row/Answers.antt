@@ -1,5 +1,4 @@
-use Rattle.std.proofs.Common.{◌≡◌, ◌∙◌, ap, sym, refl, ℤ, true, false, List, [], ◌∷◌, ◌++◌, append-nil, Option, unwrap_or, arith}
-use Rattle.cns_sheets.proofs.Common.{Holding, Key, Price, PriceList, Row, full_row, is_idle, on_ok_weaker, price_on, priced_row, woven_row, woven_rows}
+use Rattle.cns_sheets.proofs.Common.{◌≡◌, ◌∙◌, ap, sym, refl, ℤ, true, false, List, [], ◌∷◌, ◌++◌, append-nil, Option, unwrap_or, arith, Holding, Key, Price, PriceList, Row, full_row, is_idle, on_ok_weaker, price_on, priced_row, woven_row, woven_rows}
 use Rattle.cns_sheets.proofs.cutting.push_row.Goals as goal
 
 -- a row at the prices that two lists show for its issue

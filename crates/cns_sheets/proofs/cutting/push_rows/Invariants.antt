@@ -1,5 +1,4 @@
-use Rattle.std.proofs.Common.{◌≡◌, ◌++◌, None, drop}
-use Rattle.cns_sheets.proofs.Common.{AllByRecursion, HasSmallCents, IsMarked, Rows, last_of, present, weave, woven_rows}
+use Rattle.cns_sheets.proofs.Common.{◌≡◌, ◌++◌, None, drop, AllByRecursion, HasSmallCents, IsMarked, Rows, last_of, present, weave, woven_rows}
 use Rattle.cns_sheets.proofs.cutting.push_rows.Given as goal
 
 abbrev pub invariant-loop-held : goal.invariant-loop-held

@@ -1,5 +1,4 @@
-use Rattle.std.proofs.Common.{◌≤◌, ◌∙◌, sym}
-use Rattle.cns_sheets.proofs.Common.{is_at_or_after, member_limit}
+use Rattle.cns_sheets.proofs.Common.{◌≤◌, ◌∙◌, sym, is_at_or_after, member_limit}
 use Rattle.cns_sheets.proofs.InIssue.{fewer_left, first_entry, is_place, none_left, told}
 use Rattle.cns_sheets.proofs.Entries.{first_passes}
 use Rattle.cns_terms.proofs.Everywhere.{each_found}

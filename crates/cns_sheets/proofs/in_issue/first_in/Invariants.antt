@@ -1,5 +1,4 @@
-use Rattle.std.proofs.Common.{◌≡◌}
-use Rattle.cns_sheets.specs.InIssue.{IsPlaceIn, entries_from}
+use Rattle.cns_sheets.proofs.Common.{◌≡◌, IsPlaceIn, entries_from}
 use Rattle.cns_sheets.proofs.InIssue.{accounts_left}
 use Rattle.cns_sheets.proofs.in_issue.first_in.Given as goal
 

@@ -1,5 +1,4 @@
-use Rattle.std.proofs.Common.{◌≡◌, ◌++◌, None, length}
-use Rattle.cns_sheets.proofs.Common.{listed_above}
+use Rattle.cns_sheets.proofs.Common.{◌≡◌, ◌++◌, None, length, listed_above}
 use Rattle.cns_sheets.proofs.prices.listed.Given as goal
 
 abbrev pub invariant-loop-issue : goal.invariant-loop-issue

@@ -1,5 +1,4 @@
-use Rattle.std.proofs.Common.{rules, ◌≡◌, ℕ, Result, Ok, Err, IfOk, IfErr, true, Less, Equal, Greater, HoldsAt, nat_cmp, arith}
-use Rattle.cns_sheets.proofs.Common.{Cusip, IsBinarySearchResult, IsPartitionPoint, PriceList, comparisons_rise, is_sorted, nat_list_cmp_total, slice_cmp}
+use Rattle.cns_sheets.proofs.Common.{rules, ◌≡◌, ℕ, Result, Ok, Err, IfOk, IfErr, true, Less, Equal, Greater, HoldsAt, nat_cmp, arith, Cusip, IsBinarySearchResult, IsPartitionPoint, PriceList, comparisons_rise, is_sorted, nat_list_cmp_total, slice_cmp}
 use Rattle.std.proofs.lemmas.Fn.{always_returns_same}
 use Rattle.cns_sheets.proofs.prices.place.Goals as goal
 

@@ -1,6 +1,5 @@
-use Rattle.std.proofs.Common.{◌≡◌, ◌&&◌, eqb, Decides, is_eq, nat_cmp, arith}
+use Rattle.cns_sheets.proofs.Common.{◌≡◌, ◌&&◌, eqb, Decides, is_eq, nat_cmp, arith, Cusip, Price, bytes_eq-Decides, is_eq-slice_cmp, slice_cmp}
 use Rattle.std.proofs.lemmas.Slice.Eq.{slice_eq-Decides}
-use Rattle.cns_sheets.proofs.Common.{Cusip, Price, bytes_eq-Decides, is_eq-slice_cmp, slice_cmp}
 use Rattle.cns_sheets.proofs.same.same_prices.Goals as goal
 
 -- the test of two issues with their prices

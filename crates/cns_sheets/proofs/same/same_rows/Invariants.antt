@@ -1,4 +1,4 @@
-use Rattle.std.proofs.Common.{◌≡◌, ◌++◌}
+use Rattle.cns_sheets.proofs.Common.{◌≡◌, ◌++◌}
 use Rattle.cns_sheets.proofs.same.same_rows.Given as goal
 
 abbrev pub invariant-loop-row : goal.invariant-loop-row

@@ -1,5 +1,4 @@
-use Rattle.std.proofs.Common.{◌∙◌, sym, ap, subst, List}
-use Rattle.cns_sheets.proofs.Common.{AreFrom, Columns, Key, full_row, full_rows, rows_for}
+use Rattle.cns_sheets.proofs.Common.{◌∙◌, sym, ap, subst, List, AreFrom, Columns, Key, full_row, full_rows, rows_for}
 use Rattle.cns_sheets.proofs.Walked.{none_is}
 use Rattle.cns_sheets.proofs.walks.next_of.Goals as goal
 

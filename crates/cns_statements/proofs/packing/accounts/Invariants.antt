@@ -1,5 +1,4 @@
-use Rattle.std.proofs.Common.{◌≡◌, ◌++◌}
-use Rattle.cns_statements.specs.Packs.{accounts_after, accounts_of}
+use Rattle.cns_statements.proofs.Common.{◌≡◌, ◌++◌, accounts_after, accounts_of}
 use Rattle.cns_statements.proofs.packing.accounts.Given as goal
 
 abbrev pub invariant-loop-row : goal.invariant-loop-row

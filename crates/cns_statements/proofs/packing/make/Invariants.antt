@@ -1,5 +1,4 @@
-use Rattle.std.proofs.Common.{◌≡◌, map, take}
-use Rattle.cns_statements.specs.Packs.{statement_on}
+use Rattle.cns_statements.proofs.Common.{◌≡◌, map, take, statement_on}
 use Rattle.cns_statements.proofs.packing.make.Given as goal
 
 abbrev pub invariant-loop-account : goal.invariant-loop-account

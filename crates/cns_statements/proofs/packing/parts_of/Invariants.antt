@@ -1,4 +1,4 @@
-use Rattle.std.proofs.Common.{◌≡◌, ◌++◌, [], vec_len, flat_map}
+use Rattle.cns_statements.proofs.Common.{◌≡◌, ◌++◌, [], vec_len, flat_map}
 use Rattle.cns_statements.proofs.packing.parts_of.Given as goal
 
 abbrev pub invariant-loop-taken : goal.invariant-loop-taken

@@ -1,5 +1,4 @@
-use Rattle.cns_terms.proofs.Common.{err_from_is_err_and, parts_failed, parts_more}
-use Rattle.cns_statements.specs.Texts.{row_line}
+use Rattle.cns_statements.proofs.Common.{err_from_is_err_and, parts_failed, parts_more, row_line}
 use Rattle.cns_statements.proofs.text.write_kept.Goals as goal
 
 pub loop-row-preserved : goal.loop-row-preserved

@@ -1,6 +1,4 @@
-use Rattle.std.proofs.Common.{◌≡◌, ℕ, List, ◌++◌, drop}
-use Rattle.cns_terms.proofs.Common.{Appends}
-use Rattle.cns_statements.specs.Texts.{rows_text}
+use Rattle.cns_statements.proofs.Common.{◌≡◌, ℕ, List, ◌++◌, drop, Appends, rows_text}
 use Rattle.cns_statements.proofs.text.write_kept.Given as goal
 
 abbrev pub invariant-loop-row : goal.invariant-loop-row

@@ -1,5 +1,4 @@
-use Rattle.cns_terms.proofs.Common.{err_from_is_err_and}
-use Rattle.cns_statements.specs.Texts.{row_line}
+use Rattle.cns_statements.proofs.Common.{err_from_is_err_and, row_line}
 use Rattle.cns_units.proofs.Parts.{given_more, given_failed}
 use Rattle.cns_statements.proofs.text.write_rows.Goals as goal
 

@@ -1,5 +1,4 @@
-use Rattle.std.proofs.Common.{◌≡◌, ◌++◌, vec_len}
-use Rattle.cns_statements.specs.Promised.{told}
+use Rattle.cns_statements.proofs.Common.{◌≡◌, ◌++◌, vec_len, told}
 use Rattle.cns_statements.proofs.workers.join_all.Given as goal
 
 -- what was joined and what is left are all

@@ -1,4 +1,4 @@
-use Rattle.std.proofs.Common.{rules, ◌≡◌, ◌<◌, ◌++◌, ◌∷◌, [], drop, length}
+use Rattle.cns_statements.proofs.Common.{rules, ◌≡◌, ◌<◌, ◌++◌, ◌∷◌, [], drop, length}
 use Rattle.cns_statements.proofs.Joined.{all_more, parts_same}
 use Rattle.cns_statements.proofs.workers.start_all.Goals as goal
 

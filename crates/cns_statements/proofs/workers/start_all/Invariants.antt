@@ -1,7 +1,4 @@
-use Rattle.std.proofs.Common.{◌≡◌, ◌+◌, ◌++◌, List, Vec, vec_len}
-use Rattle.cns_terms.proofs.Common.{Account}
-use Rattle.std.specs.declared.alloc.Global.{Global}
-use Rattle.cns_statements.specs.Promised.{AllAre}
+use Rattle.cns_statements.proofs.Common.{◌≡◌, ◌+◌, ◌++◌, List, Vec, vec_len, Account, Global, AllAre}
 use Rattle.cns_statements.proofs.workers.start_all.Given as goal
 
 -- the parts of the threads so far and those that are left are all

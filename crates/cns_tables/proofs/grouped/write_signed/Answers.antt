@@ -1,17 +1,12 @@
-use Rattle.cns_tables.proofs.Common.{◌≡◌, FitsSigned, unsigned_abs, w128, to_z-of_z, err_from_is_err_and, front_longer, writes_then}
+use Rattle.std.proofs.Common.{arith}
+use Rattle.cns_tables.proofs.Common.{to_z-of_z, err_from_is_err_and, front_longer, writes_then}
 use Rattle.cns_tables.specs.Grouped.{signed_text}
 use Rattle.cns_tables.proofs.grouped.write_signed.Goals as goal
 
 pub returns-in_err-write_sign : goal.returns-in_err-write_sign
 unfolding signed_text
-returns-in_err-write_sign g c =
-    let fits : FitsSigned w128 c.args.number = c.ranges.number in
-    let p = err_from_is_err_and c.from_residual.result c.from_residual.ensures.1 in
-    rw p.1 (front_longer _ _ _ _ (rw to_z-of_z at c.in_err-write_sign.ensures))
+returns-in_err-write_sign g c = grind (arith, err_from_is_err_and, front_longer, to_z-of_z)
 
 pub returns : goal.returns
 unfolding signed_text
-returns g c =
-    let fits : FitsSigned w128 c.args.number = c.ranges.number in
-    let size : c.unsigned_abs.result ≡ unsigned_abs c.args.number = rw to_z-of_z at c.unsigned_abs.ensures.value in
-    writes_then _ _ _ _ _ _ (rw to_z-of_z at c.in_ok-write_sign.ensures) (rw size at c.write_count.ensures)
+returns g c = grind (arith, to_z-of_z, writes_then)

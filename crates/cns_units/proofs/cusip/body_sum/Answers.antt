@@ -6,8 +6,7 @@ pub returns-in_err-sum : goal.returns-in_err-sum
 returns-in_err-sum c = c.from_residual.ensures ∙ sum-stop _ _ _ _ _ c.loop-character-test.true c.loop-character.invariant.1 c.in_err-sum.ensures.exact
 
 pub loop-character-preserved : goal.loop-character-preserved
-loop-character-preserved c =
-    (omega (arith, c.in_ok-sum.ensures.small), sum-step _ _ _ _ _ _ c.loop-character-test.true c.loop-character.invariant.1 c.in_ok-sum.ensures.exact)
+loop-character-preserved c = grind (arith, sum-step)
 
 pub returns : goal.returns
 returns c = sum-all _ _ _ _ _ c.loop-character-test.false c.loop-character.invariant.1

@@ -8,14 +8,7 @@ add-requires-2-clause-room g c =
     let k = key_of c.seller_entry.result in
     rw (c.in_ok-add.ensures.amounts k, b.entry, c.seller_entry.ensures.entry) (trade_room c.args.pend.now _ _ (rw b.entry at b.shares) (rw b.entry at b.cents) (rw c.seller_entry.ensures.entry at (c.requires k)))
 
-pub returns-clause-sums : goal.returns-clause-sums
-returns-clause-sums g c = on_ok_weaker c.add-2.result (λ h k. rw (h k, c.in_ok-add.ensures.amounts k, c.buyer_entry.ensures.entry, c.seller_entry.ensures.entry) (trade_sums c.args.pend.now k (amount_at c.args.self.now k))) c.add-2.ensures.amounts
-
 pub returns-clause-bound : goal.returns-clause-bound
 returns-clause-bound g c =
     let b = c.buyer_entry.ensures in
     on_ok_weaker c.add-2.result (λ h k. rw (h k, c.in_ok-add.ensures.amounts k, b.entry, c.seller_entry.ensures.entry) (trade_bound c.args.pend.now k (amount_at c.args.self.now k) (rw b.entry at b.shares) (rw b.entry at b.cents))) c.add-2.ensures.amounts
-
-pub returns-clause-others : goal.returns-clause-others
-returns-clause-others g c =
-    on_ok_weaker c.add-2.result (λ h k apart. h k (rw c.seller_entry.ensures.entry apart.1.0) ∙ c.in_ok-add.ensures.others k (rw c.buyer_entry.ensures.entry apart.0)) c.add-2.ensures.others

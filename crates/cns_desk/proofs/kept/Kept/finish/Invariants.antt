@@ -1,5 +1,4 @@
-use Rattle.std.proofs.Common.{◌≡◌, ◌+◌, length, vec_len}
-use Rattle.cns_desk.specs.Seats.{counts_of}
+use Rattle.cns_desk.proofs.Common.{◌≡◌, ◌+◌, length, vec_len, counts_of}
 use Rattle.cns_desk.proofs.kept.Kept.finish.Given as goal
 
 -- what is gathered and what is left are all

@@ -1,4 +1,4 @@
-use Rattle.std.proofs.Common.{sym}
+use Rattle.cns_dividends.proofs.Common.{sym}
 use Rattle.cns_dividends.proofs.Places.{below-declared, dividends-declared}
 use Rattle.cns_dividends.proofs.dividends.Dividends.declare.Goals as goal
 

@@ -1,10 +1,6 @@
-use Rattle.std.proofs.Common.{◌≡◌, ◌∙◌, sym, ap, subst}
-use Rattle.cns_terms.proofs.Common.{Included}
-use Rattle.std.specs.Bound.{IsForward}
-use Rattle.std.specs.BTreeMap.Range.{IsLeBy, IsLtBy}
+use Rattle.cns_dividends.proofs.Common.{◌≡◌, ◌∙◌, sym, ap, subst, Included, IsForward, IsLeBy, IsLtBy, dividends_of}
 use Rattle.cns_dividends.proofs.Chosen.{forward, found, start_is, start_of}
 use Rattle.cns_dividends.proofs.Places.{place_cmp}
-use Rattle.cns_dividends.specs.Placed.{dividends_of}
 use Rattle.cns_dividends.proofs.dividends.Dividends.due.Goals as goal
 use Rattle.cns_dividends.proofs.dividends.Dividends.due.Goals.{in-Some, in-None}
 

@@ -1,7 +1,6 @@
-use Rattle.std.proofs.Common.{true}
+use Rattle.cns_feed.proofs.Common.{true, remaining_under}
 use Rattle.csv.specs.Records.{fields_of}
-use Rattle.cns_feed.specs.Records.{remaining_under}
-use Rattle.cns_feed.proofs.RecordLemmas.{ends-failed, next_line, no_line, setup_kept}
+use Rattle.cns_feed.proofs.RecordLemmas.{next_line, no_line, setup_kept}
 use Rattle.cns_feed.proofs.records.Records.read_line.Goals as goal
 
 pub returns-in-Ok-true : goal.returns-in-Ok-true
@@ -19,8 +18,3 @@ returns-in-Ok-false g c =
     let setup = c.requires in
     let reads = (rw c.in-Ok-false.field-0-test at q.reads) setup.no_trim setup.ready in
     no_line (remaining_under g.R.Read.remaining) c.args.self.now.rows c.read_byte_record.new.self (fields_of c.read_byte_record.new.row) setup reads
-
-pub returns-in-Err : goal.returns-in-Err
-returns-in-Err g c =
-    let q = c.in-Err.ensures in
-    rw c.fault_of.ensures (ends-failed g.R.Read.remaining c.args.self.now _ _ c.requires q.fails (q.why c.requires.ready))

@@ -8,9 +8,6 @@ invariant_of-self g c = grind (arith, live_within, set_led c.self.invariant (c.i
 pub overflow_sub-k : goal.overflow_sub-k
 overflow_sub-k g c = (live_within c.args.self.now c.args.member c.args.cusip c.in-Some.k (sym c.live_of.ensures ∙ c.in-Some.is)).0
 
-pub index_mut-requires : goal.index_mut-requires
-index_mut-requires g c = grind (arith, live_within)
-
 pub receive-requires : goal.receive-requires
 receive-requires g c =
     let found = sym c.live_of.ensures ∙ c.in-Some.is in
@@ -21,6 +18,3 @@ pub returns-in-Some : goal.returns-in-Some
 returns-in-Some g c =
     let found = rw (sym c.self.view_is) at (sym c.live_of.ensures ∙ c.in-Some.is) in
     rw (sym c.self.view_is) (received_one c.self.inside.listed.items c.args.member c.args.cusip c.in-Some.k found c.self.inside.latest c.self.invariant c.args.n c.index_mut.result.now c.receive.new.self c.index_mut.ensures.value c.receive.ensures)
-
-pub returns-in_default : goal.returns-in_default
-returns-in_default g c = grind (arith, received_none)

@@ -1,5 +1,4 @@
-use Rattle.std.proofs.Common.{sym}
-use Rattle.cns_prices.specs.Listed.{quote_in}
+use Rattle.cns_prices.proofs.Common.{sym, quote_in}
 use Rattle.cns_prices.proofs.Quoted.{priced, unmarked, unlisted}
 use Rattle.cns_prices.proofs.prices.Prices.list.Goals as goal
 

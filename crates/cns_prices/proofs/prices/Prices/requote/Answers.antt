@@ -1,5 +1,4 @@
-use Rattle.std.proofs.Common.{sym}
-use Rattle.cns_prices.specs.Listed.{quote_in}
+use Rattle.cns_prices.proofs.Common.{sym, quote_in}
 use Rattle.cns_prices.proofs.Quoted.{not_missing, succeeded}
 use Rattle.cns_prices.proofs.prices.Prices.requote.Goals as goal
 

@@ -7,9 +7,3 @@ choose_each-requires g c =
     let es = c.self.inside.issues.entries in
     let can : (d : Cusip) → ForSome (called_in es d) CanBeChosen = rw c.self.view_is c.requires in
     rw c.iter.ensures.rest (each_weaker (λ e. called_in es e.0 ≡ Some e.1) (λ e. CanBeChosen e.1) es (λ e is. can e.0 e.1 is) (recursion_from_All (λ (e : Cusip × CalledIn). called_in es e.0 ≡ Some e.1) es c.iter.ensures.found))
-
-pub returns-clause-rise : goal.returns-clause-rise
-returns-clause-rise g c = IfOk-weaker c.choose_each.result _ _ (λ v is. rw is (batches_rise c.iter.result (rw c.iter.ensures.rest (sorted_from nat_list_cmp_total _ c.iter.ensures.ordered)))) c.choose_each.ensures
-
-pub returns-clause-order : goal.returns-clause-order
-returns-clause-order g c = rw (sym c.self.view_is) (grind (arith, sorted_from nat_list_cmp_total _ c.iter.ensures.ordered))

@@ -1,4 +1,4 @@
-use Rattle.std.proofs.Common.{sym}
+use Rattle.cns_sheets.proofs.Common.{sym}
 use Rattle.cns_sheets.proofs.Weaving.{nothing_here, same_at, same_taken}
 use Rattle.cns_sheets.proofs.in_order.InOrder.take.Goals as goal
 

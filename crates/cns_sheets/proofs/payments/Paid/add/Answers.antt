@@ -1,5 +1,4 @@
-use Rattle.std.proofs.Common.{◌≡◌, ◌∙◌, ◌+ℤ◌, ap, sym, arith}
-use Rattle.cns_sheets.proofs.Common.{cents_at, keys_total, sorted_from, nat_tests}
+use Rattle.cns_sheets.proofs.Common.{◌≡◌, ◌∙◌, ◌+ℤ◌, ap, sym, arith, cents_at, keys_total, sorted_from, nat_tests}
 use Rattle.cns_sheets.proofs.Booked.{cents_added, had_is, sum_added, sum_is, wide_fits}
 use Rattle.cns_sheets.proofs.payments.Paid.add.Goals as goal
 

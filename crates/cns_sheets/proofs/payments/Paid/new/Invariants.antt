@@ -1,5 +1,4 @@
-use Rattle.std.proofs.Common.{◌≡◌, ◌*◌, ◌+ℤ◌, ◌^◌, ◌≤◌, drop, pos, unsigned_abs}
-use Rattle.cns_sheets.proofs.Common.{AllByRecursion, IsPayable, Key, cents_at, dividend_of, paying, total}
+use Rattle.cns_sheets.proofs.Common.{◌≡◌, ◌*◌, ◌+ℤ◌, ◌^◌, ◌≤◌, drop, pos, unsigned_abs, AllByRecursion, IsPayable, Key, cents_at, dividend_of, paying, total}
 use Rattle.cns_sheets.proofs.payments.Paid.new.Given as goal
 
 abbrev pub invariant-loop-payment : goal.invariant-loop-payment

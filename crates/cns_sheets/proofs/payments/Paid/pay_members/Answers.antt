@@ -1,5 +1,4 @@
-use Rattle.std.proofs.Common.{append-nil, ◌∙◌, arith}
-use Rattle.cns_sheets.proofs.Common.{ints, member_cash, to_z-of_z, w128}
+use Rattle.cns_sheets.proofs.Common.{append-nil, ◌∙◌, arith, ints, member_cash, to_z-of_z, w128}
 use Rattle.cns_sheets.proofs.Booked.{booked, fits, step_small, total_push, wide_fits}
 use Rattle.cns_sheets.proofs.RowSums.{onward}
 use Rattle.cns_sheets.proofs.payments.Paid.pay_members.Goals as goal

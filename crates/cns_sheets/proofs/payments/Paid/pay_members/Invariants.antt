@@ -1,5 +1,4 @@
-use Rattle.std.proofs.Common.{◌≡◌, ◌+ℤ◌, ◌++◌, if◌then◌else◌, pos, is_eq}
-use Rattle.cns_sheets.proofs.Common.{Key, cents_at, key_cmp, key_of, member_cash, total}
+use Rattle.cns_sheets.proofs.Common.{◌≡◌, ◌+ℤ◌, ◌++◌, if◌then◌else◌, pos, is_eq, Key, cents_at, key_cmp, key_of, member_cash, total}
 use Rattle.cns_sheets.proofs.payments.Paid.pay_members.Given as goal
 
 abbrev pub invariant-loop-row : goal.invariant-loop-row

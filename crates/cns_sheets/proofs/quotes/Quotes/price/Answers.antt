@@ -1,5 +1,4 @@
-use Rattle.std.proofs.Common.{sym}
-use Rattle.cns_sheets.proofs.Common.{find_at, find_gap, nat_list_cmp_total}
+use Rattle.cns_sheets.proofs.Common.{sym, find_at, find_gap, nat_list_cmp_total}
 use Rattle.cns_sheets.proofs.quotes.Quotes.price.Goals as goal
 
 pub returns-in-Ok-clause-price : goal.returns-in-Ok-clause-price

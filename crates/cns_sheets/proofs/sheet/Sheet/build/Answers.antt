@@ -1,5 +1,4 @@
-use Rattle.std.proofs.Common.{◌==◌, arith, option_copied}
-use Rattle.cns_sheets.proofs.Common.{IfOk-weaker, IsCut, IsMarked, each_filter, paying, prices_of, rows_for}
+use Rattle.cns_sheets.proofs.Common.{◌==◌, arith, option_copied, IfOk-weaker, IsCut, IsMarked, each_filter, paying, prices_of, rows_for}
 use Rattle.cns_sheets.proofs.Balance.{cut_balanced}
 use Rattle.cns_sheets.proofs.Kept.{prices_rise, rows_cut}
 use Rattle.cns_sheets.proofs.RowSums.{marks_stay}

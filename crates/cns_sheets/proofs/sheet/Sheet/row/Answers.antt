@@ -1,5 +1,4 @@
-use Rattle.std.proofs.Common.{◌∙◌, ap, None, Some}
-use Rattle.cns_sheets.proofs.Common.{DaySheet, row_at}
+use Rattle.cns_sheets.proofs.Common.{◌∙◌, ap, None, Some, DaySheet, row_at}
 use Rattle.cns_sheets.proofs.Walked.{row_found}
 use Rattle.cns_sheets.proofs.sheet.Sheet.row.Goals as goal
 

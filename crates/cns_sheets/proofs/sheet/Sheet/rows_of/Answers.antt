@@ -1,5 +1,4 @@
-use Rattle.std.proofs.Common.{◌≡◌, ◌∙◌, sym, ap, arith}
-use Rattle.cns_sheets.proofs.Common.{AreFrom, DaySheet, ahead_of, full_rows, rows_for}
+use Rattle.cns_sheets.proofs.Common.{◌≡◌, ◌∙◌, sym, ap, arith, AreFrom, DaySheet, ahead_of, full_rows, rows_for}
 use Rattle.cns_sheets.proofs.Walked.{account_walk}
 use Rattle.cns_sheets.proofs.sheet.Sheet.rows_of.Goals.{After-walk_above-rest}
 use Rattle.cns_sheets.proofs.sheet.Sheet.rows_of.Given.{Over}

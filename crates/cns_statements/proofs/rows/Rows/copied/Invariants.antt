@@ -1,4 +1,4 @@
-use Rattle.std.proofs.Common.{◌≡◌, ◌++◌}
+use Rattle.cns_statements.proofs.Common.{◌≡◌, ◌++◌}
 use Rattle.cns_statements.proofs.rows.Rows.copied.Given as goal
 
 abbrev pub invariant-loop-row : goal.invariant-loop-row

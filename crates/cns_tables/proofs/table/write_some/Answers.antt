@@ -1,7 +1,0 @@
-use Rattle.cns_tables.proofs.Written.{after}
-use Rattle.cns_tables.proofs.table.write_some.Goals as goal
-
-pub returns : goal.returns
-returns g c =
-    after _ _ _ _ _ _ c.in_ok-write_caption.ensures (after _ _ _ _ _ _ c.in_ok-write_columns.ensures (after _ _ _ _ _ _ c.in_ok-write_markup.ensures
-    (after _ _ _ _ _ _ c.in_ok-write_rows.ensures c.write_markup-2.ensures)))
