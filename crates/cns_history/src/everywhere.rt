@@ -225,6 +225,7 @@ fn add_since(
 }
 
 // The same of each place.
+#[tactic(auto, using(crate::proofs::Owned::given_more))]
 fn add_each_since(
     book: &ReplayBook,
     before: &[Stood],
@@ -267,6 +268,7 @@ fn add_opened(
 }
 
 // The same in each issue that a sheet has a price of.
+#[tactic(auto, using(crate::proofs::Owned::all_above))]
 fn add_each_opened(
     book: &ReplayBook,
     account: Account,
@@ -288,6 +290,7 @@ fn add_each_opened(
 }
 
 // The first issue that a sheet has a price of, if there is one.
+#[tactic(auto, using(crate::proofs::Owned::first_of, crate::proofs::Owned::none_of))]
 fn first_issue(sheet: &Sheet<Global>) -> Option<Cusip>
     ensures { result ≡ slice_get (map (λ e. e.0) sheet.now.prices) 0 }
 {
@@ -319,6 +322,7 @@ fn add_all_opened(
 }
 
 // The same in each issue that was listed when the day with the date was closed.
+#[tactic(auto, using(crate::proofs::Owned::none_opened))]
 fn add_opened_on(
     book: &ReplayBook,
     whose: &Whose,

@@ -106,6 +106,7 @@ fn write_figures<W: Write>(booking: &Booking, writer: &mut W) -> Result<(), Writ
     write_pieces(&pieces, writer)
 }
 
+#[tactic(auto, using(cns_tables::proofs::Written::after))]
 fn write_booking<W: Write>(booking: &Booking, writer: &mut W) -> Result<(), WriteFault>
     ensures { OnOk result (Appends (W.contents writer.old) (W.contents writer.new) (booking_text booking.now)) }
 {
@@ -158,6 +159,7 @@ fn write_close_figures<W: Write>(row: &Row, age: u32, writer: &mut W) -> Result<
     write_pieces(&pieces, writer)
 }
 
+#[tactic(auto, using(cns_tables::proofs::Written::after))]
 fn write_closing<W: Write>(closing: &Closing, writer: &mut W) -> Result<(), WriteFault>
     ensures { OnOk result (Appends (W.contents writer.old) (W.contents writer.new) (closing_text closing.now)) }
 {

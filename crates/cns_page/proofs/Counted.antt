@@ -1,6 +1,6 @@
 -- The shorts of a sheet, row by row.
 -- For `shorts_of` of figures.rt, `gather` of shorts.rt.
-use Rattle.cns_page.proofs.Common.{◌≡◌, ◌∙◌, sym, ap, ℕ, ◌-◌, ◌^◌, ◌<◌, true, cond, List, [], ◌∷◌, ◌++◌, min, map, count_by, map-append, All-push, filter-append, State, Row, is_short, aged, shorts_among, Aged}
+use Rattle.cns_page.proofs.Common.{◌≡◌, ◌∙◌, sym, ap, ℕ, ◌-◌, ◌^◌, ◌<◌, true, cond, List, [], ◌∷◌, ◌++◌, min, map, count_by, map-append, All-push, filter-append, State, Row, is_short, aged, shorts_among, Aged, arith}
 use Rattle.std.specs.Prelude.{All}
 use Rattle.cns_sheets.proofs.RowSums.{onward}
 
@@ -25,11 +25,7 @@ append S rs us = simp (filter-append, map-append)
 
 module _ (S : State) (all given left rest : List Row) (row : Row) (items : List Aged) (was : Aging S all given left items) (next : left ≡ row ∷ rest) where
   more : (new : List Aged) → new ≡ items ++ shorts_among S (row ∷ []) → All (λ s. s.age < 2 ^ 32) new → Aging S all (given ++ row ∷ []) rest new
-  more new is fit = record {
-    parts = onward all given left row rest was.parts next;
-    items_are = is ∙ ap (λ xs. xs ++ shorts_among S (row ∷ [])) was.items_are ∙ sym (append S given (row ∷ []));
-    small = fit;
-  }
+  more new h1 h2 = grind (arith, onward, shorts_among, append)
 
   -- a short
   pub aging_more : (a : Aged) → is_short row ≡ true → a ≡ aged S row → a.age < 2 ^ 32 → Aging S all (given ++ row ∷ []) rest (items ++ a ∷ [])

@@ -1,14 +1,13 @@
 -- The list of days, close by close.
 -- For `line_of_days` of figures.rt.
-use Rattle.cns_page.proofs.Common.{◌≡◌, ◌∙◌, sym, ap, ℕ, ◌+◌, ◌<◌, List, [], ◌∷◌, ◌++◌, Option, Some, None, append-nil, ◌-◌, ◌^◌, take, get_or, length, min, option_map, unsigned_abs, count_by, sum_by, DaySheet, State, journal_of, sheet_on, is_short, figures, figures_at, figures_shown, Close}
+use Rattle.cns_page.proofs.Common.{◌≡◌, ◌∙◌, sym, ap, ℕ, ◌+◌, ◌<◌, List, [], ◌∷◌, ◌++◌, Option, Some, None, append-nil, ◌-◌, ◌^◌, take, get_or, length, min, option_map, unsigned_abs, count_by, sum_by, DaySheet, State, journal_of, sheet_on, is_short, figures, figures_at, figures_shown, Close, arith}
 use Rattle.cns_account.proofs.Gathered.{given_more}
 use Rattle.cns_page.specs.declared.figures.Figures.{Figures}
 
 -- the figures of a sheet, each by itself
 figures_are : (s : DaySheet) (n : ℕ) (f : Figures) → f.day ≡ n → f.date ≡ s.date → f.marks ≡ min (sum_by (λ r. unsigned_abs r.mark) s.rows) (2 ^ 128 - 1)
     → f.shorts ≡ min (count_by is_short s.rows) (2 ^ 64 - 1) → figures s n ≡ f
-figures_are s n f day date marks shorts =
-    let same : f ≡ figures s n = λ i. record { day = day i; date = date i; marks = marks i; shorts = shorts i } in sym same
+figures_are s n f h1 h2 h3 h4 = grind (arith, figures)
 
 -- one that the book has no sheet of
 pub line_passed : (S : State) (cs : List Close) (i : ℕ) (c : Close) (o : Option DaySheet) (items : List Figures) → i < length cs → get_or cs i c ≡ c

@@ -1,6 +1,6 @@
 -- A page that was made, whatever the input is.
 -- For `past_of` and `write_past` of make.rt, `make_of` of entry.rt.
-use Rattle.cns_page.proofs.Common.{◌≡◌, ◌∙◌, ◌+◌, ap, ℕ, List, [], ◌∷◌, Option, Some, Result, IfSome, OnOk, length, refl, take, arith, Day, State, opened, state_of, Line, lines_of, state_after_line, blank_log, state_of-after, ComesTo, IsClosedBy, Known, noted, nothing, Close}
+use Rattle.cns_page.proofs.Common.{◌≡◌, ◌+◌, ℕ, List, [], ◌∷◌, Option, Some, Result, IfSome, OnOk, length, refl, take, arith, Day, State, opened, state_of, Line, lines_of, state_after_line, blank_log, state_of-after, ComesTo, IsClosedBy, Known, noted, nothing, Close}
 use Rattle.cns_history.specs.Page.{IsTold}
 use Rattle.cns_history.specs.declared.history.Told.{Told}
 use Rattle.cns_history.specs.declared.place.Place.{Place}
@@ -20,11 +20,7 @@ counted k S (l ∷ ls) = omega (arith, counted (noted k S l) (state_after_line S
 -- what records came to at a place
 pub told_of : (p : Place) (all : List Line) (t : Told) (played : Played) → ComesTo p.opening p.day (watched.Place p.key) all played
     → t.book.now ≡ played.book → t.lines.now ≡ played.lines.items → t.records ≡ played.survey.records → IsTold p all t
-told_of p all t played came book lines records = record {
-  after = ap (λ b. state_of b.log) book ∙ ap state_of came.book ∙ state_of-after (blank_log p.opening) all;
-  counted = let n = records ∙ ap (λ k. k.records) came.all_known ∙ counted (nothing p.day) (opened p.opening) all in omega (arith, n);
-  lines_are = lines ∙ came.told;
-}
+told_of p all t played came book lines records = grind (arith, state_of, state_of-after, blank_log, counted, nothing, opened)
 
 -- what was played up to a close
 pub past_closed : (p : Place) (input : List ℕ) (d : Day) (c : Close) (t : Played) → p.day ≡ Some d → ComesTo p.opening (Some d) (watched.Place p.key) (take c.record (lines_of input)) t

@@ -88,8 +88,7 @@ module _ (J : Journal) (number : ℕ) (le : 1 ≤ number) where
 
   -- the one that is shown
   mapped : (s : Shown) (o : Option Notice) → option_map (notice_of J) o ≡ Some s → (n : Notice) × (o ≡ Some n) × (notice_of J n ≡ s)
-  mapped s None is = cc
-  mapped s (Some n) is = (n, refl, cc)
+  mapped s o h1 = grind arith
 
   -- one that is not live
   pub live_passed : (s : Shown) (items : List Numbered) → notice_listed J number ≡ Some s → is_live s.stage ≡ false → items ≡ live_among J (take (number - 1) (notices J))

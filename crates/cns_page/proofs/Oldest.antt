@@ -1,7 +1,6 @@
 -- Shorts in the order of how much their ages are below the greatest number: the oldest first.
 -- For `shorts_of` of shorts.rt.
-use Rattle.cns_page.proofs.Common.{◌≡◌, ◌∙◌, sym, ap, refl, ℕ, ◌+◌, ◌-◌, ◌^◌, ◌<◌, ◌≤◌, Bool, true, false, cond, not, ◌&&◌, ◌⊎◌, inl, inr, List, [], ◌∷◌, filter, slice_index_or, arith, All, AllByRecursion, ties, is_lt, nat_cmp, cases_lt, recursion_from_All, IsInOrderOf, Aged}
-use Rattle.std.proofs.lemmas.Bool.Decides.{nat_tests}
+use Rattle.cns_page.proofs.Common.{◌≡◌, ◌∙◌, sym, ap, refl, ℕ, ◌+◌, ◌-◌, ◌^◌, ◌<◌, ◌≤◌, Bool, true, false, cond, not, ◌&&◌, ◌⊎◌, inl, inr, List, [], ◌∷◌, filter, slice_index_or, arith, All, AllByRecursion, ties, is_lt, nat_cmp, cases_lt, recursion_from_All, IsInOrderOf, Aged, nat_tests}
 use Rattle.std.proofs.lemmas.List.Sorted.{All-permutation}
 
 -- two ages compare as what is left of them does, turned round
@@ -31,10 +30,7 @@ by_age x y = is_lt (nat_cmp y.age x.age)
 
 -- those that tie are the same
 ties_alike : (x y : Aged) → x.age < 2 ^ 32 → y.age < 2 ^ 32 → ties by_age x y ≡ ties by_rest x y
-ties_alike x y p q =
-    let one = turned (2 ^ 32 - 1) x.age y.age (omega arith) (omega arith) in
-    let other = turned (2 ^ 32 - 1) y.age x.age (omega arith) (omega arith) in
-    sym (λ i. not (one i) && not (other i))
+ties_alike x y h1 h2 = grind (arith, turned, not)
 
 -- and none ties with an age that is no number of 32 bits
 ties_none : (x y : Aged) → 2 ^ 32 ≤ x.age → y.age < 2 ^ 32 → ties by_age x y ≡ false

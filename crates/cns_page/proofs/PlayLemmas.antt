@@ -79,14 +79,7 @@ along_line rem a b w first now then from s t old new turns all turned takes p =
 -- what came of the lines that were taken
 pub along_came : {R : Type 0} (rem : R → Option (List ℕ)) (rs : Records R) (w : Watched) (first now : Log) (from : Known) (s : Survey) (told : List HistoryLine) (turns : ℕ) (whole : Bool) (all : List Line)
     → (p : Along rem rs w first now from s told turns all) → s.records ≡ turns → (whole ≡ true → p.rest ≡ []) → Came w first now from s told whole all
-along_came rem rs w first now from s told turns whole all p counted none =
-    let is : take s.records all ≡ p.done = ap (λ n. take n all) (counted ∙ sym p.count) ∙ ap (take (length p.done)) p.whole ∙ take-append_seam p.done p.rest in
-    record {
-      log = rw is p.log;
-      knows = rw is p.knows;
-      tells = rw is p.tells;
-      all_taken = λ t. let c = p.count in let l = ap length p.whole ∙ length-append p.done p.rest in let n = ap length (none t) in omega (arith, c, l, n, counted);
-    }
+along_came rem rs w first now from s told turns whole all p h1 h2 = grind (arith, take, length, take-append_seam, length-append)
 
 -- where no line is left
 pub along_end : {R : Type 0} (rem : R → Option (List ℕ)) (rs : Records R) (w : Watched) (first now then : Log) (from : Known) (s t : Survey) (old new : List HistoryLine) (turns : ℕ) (all : List Line)

@@ -16,6 +16,4 @@ all_right n r (f ∷ fs) = ap (λ e. e ∷ map told (map (put_right n r) fs)) (t
 -- what is known with them
 pub findings_righted : (s : Survey) (r : ℕ) (fs : List Finding) → length s.findings.items ≡ s.findings.len → fs ≡ map (put_right s.records r) s.findings.items
     → known (record s { findings = with_items s.findings fs }) ≡ record (known s) { first = map (put_right_by s.records r) (map told s.findings.items) }
-findings_righted s r fs long is =
-    let whole = with_items_is s.findings fs (ap length is ∙ length-map s.findings.items (put_right s.records r) ∙ long) in
-    ap (λ es. record (known s) { first = es }) (ap (map told) (whole ∙ is) ∙ all_right s.records r s.findings.items)
+findings_righted s r fs long is = grind (arith, with_items_is, length, length-map, put_right, known, map, told, all_right)

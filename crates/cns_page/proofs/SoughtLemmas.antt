@@ -41,9 +41,7 @@ stops n x M = omega arith
 -- one trade more
 module _ (f : Pend → ℕ) (ts : List Trade) (t : Trade) where
   summed : sum_by f (map pend_of (ts ++ t ∷ [])) ≡ sum_by f (map pend_of ts) + f (pend_of t)
-  summed =
-      let one : sum_by f (pend_of t ∷ []) ≡ f (pend_of t) = omega arith in
-      ap (sum_by f) (map-append pend_of ts (t ∷ [])) ∙ sum_by-append f (map pend_of ts) (pend_of t ∷ []) ∙ ap (λ n. sum_by f (map pend_of ts) + n) one
+  summed = grind (arith, sum_by, pend_of, map-append, sum_by-append, map)
 
   pub sum_stops : (M : ℕ) → min (min (sum_by f (map pend_of ts)) M + f (pend_of t)) M ≡ min (sum_by f (map pend_of (ts ++ t ∷ []))) M
   sum_stops M = stops (sum_by f (map pend_of ts)) (f (pend_of t)) M ∙ ap (λ n. min n M) (sym summed)

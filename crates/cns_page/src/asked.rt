@@ -66,6 +66,7 @@ fn command_line<'a>(alloc: Global) -> Result<Command<'a>, AllocError>
 }
 
 // What clap makes of the words; None where it refuses them.
+#[tactic(auto, using(crate::proofs::CommandLine::line_is_free, crate::proofs::CommandLine::line_is_simple))]
 fn matches_in<'a, S: AsStr>(
     alloc: Global,
     words: &'a [S],

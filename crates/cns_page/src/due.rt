@@ -60,6 +60,7 @@ fn is_idle(row: &Projected) -> bool
 }
 
 /// What is due of an account in each issue that was listed at the close, where anything is or was; of the book as the close left it.
+#[tactic(auto, using(cns_history::proofs::Owned::all_above))]
 pub fn projected_all(
     alloc: Global,
     book: &ReplayBook,

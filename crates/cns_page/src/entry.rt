@@ -44,6 +44,7 @@ fn check_asked<R: Files>(rt: &R, about: About, folder: &str) -> Result<(), Fault
 }
 
 // Writes what is asked for, of all that a reader gives.
+#[tactic(auto, using(crate::proofs::MakeLemmas::made_of))]
 fn make_of<R: AllocGlobal + Files<File = File>, I: Read, O: Write>(
     rt: &R,
     asked: &Asked,

@@ -294,6 +294,7 @@ impl TableRow for Finding {
 
     ghost text = { finding_text };
 
+    #[tactic(auto, using(cns_tables::proofs::Written::after))]
     fn write_row<W: Write>(&self, writer: &mut W) -> Result<(), WriteFault> {
         write_record(self, writer)?;
         write_reason(self, writer)?;

@@ -41,6 +41,7 @@ fn write_account<W: Write>(account: Option<Account>, writer: &mut W) -> Result<(
 }
 
 // Writes a file's name with its end: the date, and the account where the page is one's.
+#[tactic(auto, using(cns_tables::proofs::Written::after))]
 fn write_name<W: Write>(named: &Named, end: &'static str, writer: &mut W) -> Result<(), WriteFault>
     ensures { OnOk result (Appends (W.contents writer.old) (W.contents writer.new) (name_text named.now end.now)) }
 {

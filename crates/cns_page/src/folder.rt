@@ -22,6 +22,7 @@ use cns_units::Account;
 use std::alloc::Global;
 
 // The accounts of a book, by number: the corporation's and the members'. None where no issue is listed: then nothing is booked.
+#[tactic(auto, using(cns_history::proofs::Owned::first_of, cns_history::proofs::Owned::none_of))]
 fn accounts_of(
     alloc: Global,
     book: &ReplayBook,
@@ -81,6 +82,7 @@ fn keep_own<K: Keeps>(
 }
 
 // Keeps the page of each account.
+#[tactic(auto, using(crate::proofs::Keeping::keeps_next))]
 fn keep_each<K: Keeps>(
     alloc: Global,
     accounts: &[Account],

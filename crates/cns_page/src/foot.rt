@@ -87,6 +87,7 @@ pub(crate) fn write_made<W: Write>(
 }
 
 /// Writes the foot of the page of a closed day, or of the open one, with so many rows.
+#[tactic(auto, using(cns_tables::proofs::Written::after))]
 pub(crate) fn write_foot<W: Write>(
     opening: Day,
     day: Option<Day>,

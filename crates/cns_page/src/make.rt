@@ -163,6 +163,7 @@ fn write_asked<O: Write>(
 }
 
 // What a history is of: the records up to the close of the day, or all of the input where none is given.
+#[tactic(auto, using(crate::proofs::MakeLemmas::past_closed))]
 fn past_of(alloc: Global, place: &Place, input: &[u8]) -> Result<Played, Fault>
     ensures { IfOk result (HasPlayed place.now input.now) }
 {

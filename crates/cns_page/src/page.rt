@@ -188,6 +188,7 @@ fn write_text<W: Write>(
 }
 
 // Writes a page with some captions, and hands it on.
+#[tactic(auto, using(cns_tables::proofs::Written::kept))]
 fn write_whole<W: Write>(
     captions: &Captions,
     day: &ClosedDay,

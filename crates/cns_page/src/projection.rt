@@ -28,6 +28,7 @@ pub fn later(entry: &Taken, day: Day) -> Option<Trade>
 }
 
 // The trades of a book that are dated after a day, in the order in which they were taken.
+#[tactic(auto, using(crate::proofs::Later::later_added, crate::proofs::Later::later_ends, crate::proofs::Later::later_passed))]
 fn gather(alloc: Global, book: &ReplayBook, day: Day) -> Result<Vec<Trade>, NoMemory>
     ensures { IfOk result (λ v. v.items ≡ later_among day (looked_at book.now.log.history)) }
 {

@@ -54,6 +54,7 @@ fn told(entry: &Taken, sought: &Sought) -> Option<Activity>
 }
 
 /// The first accepted activity in a book's history that is looked for, and the place of its entry, from 1.
+#[tactic(auto, using(crate::proofs::SoughtLemmas::sought_ends, crate::proofs::SoughtLemmas::sought_none, crate::proofs::SoughtLemmas::sought_passed))]
 pub fn first(book: &ReplayBook, sought: &Sought) -> Option<(u32, Activity)>
     ensures found { IfSome result (λ f. IsFirst sought.now book.now.log.history f.0 f.1) }
     ensures none { result ≡ None → sought_among sought.now (looked_at book.now.log.history) ≡ [] }
@@ -116,6 +117,7 @@ fn with_trade(waiting: &Waiting, trade: &Trade) -> Waiting
 }
 
 /// What an account is to get and to give in an issue by trades that are pending.
+#[tactic(auto, using(crate::proofs::Later::later_added, crate::proofs::Later::later_passed, crate::proofs::SoughtLemmas::waiting_more))]
 pub fn waiting(book: &ReplayBook, account: Account, issue: Cusip) -> Waiting
     ensures { let S = state_of book.now.log in
         result ≡ waiting_in account issue (later_among (date S.opening (journal_of S)) (looked_at book.now.log.history)) }

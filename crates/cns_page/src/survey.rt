@@ -128,6 +128,7 @@ impl Survey {
     }
 
     // Notes of the exceptions with the reference of a trade that it was accepted.
+    #[tactic(auto, using(crate::proofs::Righted::findings_righted))]
     fn note_accepted(&mut self, command: &Command)
         ensures { known self.new ≡ righted (known self.old) (reference_of command.now) }
     {

@@ -1,17 +1,13 @@
 -- What is known of the program's line, for the functions that build it and read what clap makes of words.
 -- For `entered`, `run_command`, `matches_in` and `command_line` of asked.rt.
-use Rattle.std.proofs.Common.{◌≡◌, ◌&&◌, Bool, true, false, not, refl, Option, Some, None, option_map}
+use Rattle.cns_program.proofs.Common.{◌≡◌, ◌&&◌, Bool, true, false, not, refl, Option, Some, option_map, arith, is_simple, is_simple_and_free}
 use Rattle.std.specs.Option.{IsSomeAnd}
 use Rattle.clap.proofs.OnLiterals.{clap_on_literals}
-use Rattle.clap.specs.Words.{is_simple, is_simple_and_free}
 use Rattle.cns_program.specs.CommandLine.{program_line}
 
 -- the third of the settings of a plain command, by which it has no argument for all its subcommands
 pub third_is_off : (a b c rest : Bool) → (a && (not b && (not c && rest))) ≡ true → c ≡ false
-third_is_off true false false rest h = refl
-third_is_off true false true rest h = cc
-third_is_off true true c rest h = cc
-third_is_off false b c rest h = cc
+third_is_off a b c rest h = grind arith
 
 -- clap tells of lines of this form what they give
 pub line_is_simple : is_simple program_line ≡ true
@@ -29,12 +25,8 @@ both f g a = (f a, g a)
 pub paired : {A B C D : Type 0} (f : A → B) (g : A → C) (n : D → B) (w : D → C) (r : Option D) (o : Option A)
     → option_map n r ≡ option_map f o → option_map w r ≡ option_map (λ (p : B × C). p.1) (option_map (both f g) o)
     → option_map (both n w) r ≡ option_map (both f g) o
-paired f g n w None None one two = refl
-paired f g n w None (Some a) one two = cc
-paired f g n w (Some d) None one two = cc
-paired f g n w (Some d) (Some a) one two = cc
+paired f g n w r o one two = grind arith
 
 -- a value that has to be a given one
 pub only_value : {A : Type 0} (o : Option A) (a : A) → IsSomeAnd o (λ x. x ≡ a) → o ≡ Some a
-only_value None a h = absurd h
-only_value (Some x) a h = cc
+only_value o a h = grind arith

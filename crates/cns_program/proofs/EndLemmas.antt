@@ -1,16 +1,11 @@
 -- How the program ends.
 -- For `replay_input` of replaying.rt, `program` of entry.rt.
-use Rattle.std.proofs.Common.{◌≡◌, ◌∷◌, ◌++◌, ℕ, List, Option, Some, None, Result, Ok, Err, IfErr, IfSome, OnOk, inl, inr, option_to_list}
-use Rattle.cns_terms.proofs.Common.{Appends, Day, Keeps, State}
-use Rattle.std.proofs.KnownBytes.{Appends-kept, Keeps-trans}
+use Rattle.cns_program.proofs.Common.{◌≡◌, ◌∷◌, ◌++◌, ℕ, List, Option, Some, None, Result, Ok, Err, IfErr, IfSome, OnOk, inl, inr, option_to_list, Appends, Day, Keeps, State, Appends-kept, Keeps-trans, output, state_after, texts, FailsReplay, IsTold}
 use Rattle.cns_units.specs.Output.{Writes}
 use Rattle.cns_feed.specs.Line.{Line}
-use Rattle.cns_feed.specs.Output.{output, state_after, texts}
 use Rattle.cns_feed.specs.Replay.{Leaves, Stops, StopsReplay}
 use Rattle.cns_feed.specs.declared.fault.ReplayFault.{ReplayFault}
 use Rattle.cns_feed.proofs.PlayLemmas.{stops-end}
-use Rattle.cns_program.specs.Ends.{FailsReplay}
-use Rattle.cns_program.specs.Lines.{IsTold}
 use Rattle.cns_feed.specs.declared.fault.ReplayFault.TheVariants as fault
 
 -- a whole replay whose output could not be flushed
@@ -37,8 +32,7 @@ stops-unflushed fault.Write old m mid new S ls answered unread (Some l) whole te
     }
 stops-unflushed fault.NoMemory old m mid new S ls answered unread (Some l) whole text left kept =
     record { answered = answered; waiting = None; unread = l ∷ unread; whole = whole; mid = m; written = text; leaves = Keeps-trans m mid new left kept }
-stops-unflushed fault.Read old m mid new S ls answered unread (Some l) whole text left kept = absurd left
-stops-unflushed fault.Full old m mid new S ls answered unread (Some l) whole text left kept = absurd left
+stops-unflushed _ old m mid new S ls answered unread _ whole text left kept = absurd left
 
 -- a replay that ended with a fault, and whose output could not be flushed then
 fails-then_unflushed : (e : ReplayFault) (opening : Day) (input old mid new : Option (List ℕ))

@@ -1,11 +1,7 @@
 -- The lines of workers, written one after another.
 -- For `write_ends` of outcome.rt.
-use Rattle.std.proofs.Common.{◌≡◌, ℕ, ◌+◌, ◌<◌, List, ◌++◌, Option, get_or, length, drop, add-one, drop-cons, append_assoc, refl, sym, ◌∙◌}
-use Rattle.cns_terms.proofs.Common.{Appends, AppendsFront, front_longer}
-use Rattle.std.proofs.KnownBytes.{Appends-trans}
+use Rattle.cns_program.proofs.Common.{◌≡◌, ℕ, ◌+◌, ◌<◌, List, ◌++◌, Option, get_or, length, drop, add-one, drop-cons, append_assoc, refl, sym, ◌∙◌, Appends, AppendsFront, front_longer, Appends-trans, End, end_line, end_lines}
 use Rattle.cns_units.proofs.OutputLemmas.{front_later}
-use Rattle.cns_desk.specs.declared.end.End.{End}
-use Rattle.cns_program.specs.Lines.{end_line, end_lines}
 
 -- the lines from a place on are that of its worker and those after it
 line_at : (es : List End) (i : ℕ) (d : End) → i < length es → end_lines (i + 1) (drop i es) ≡ end_line (i + 1) (get_or es i d) ++ end_lines (i + 1 + 1) (drop (i + 1) es)

@@ -1,3 +1,4 @@
+pub mod Common
 pub mod EndLemmas
 pub mod EndsTold
 pub mod Tallied

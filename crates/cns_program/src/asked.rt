@@ -63,6 +63,7 @@ fn command_line<'a>(alloc: Global) -> Result<Command<'a>, AllocError>
 }
 
 // What clap makes of the words; None where it refuses them.
+#[tactic(auto, using(crate::proofs::CommandLine::line_is_free, crate::proofs::CommandLine::line_is_simple))]
 fn matches_in<'a, S: AsStr>(
     alloc: Global,
     words: &'a [S],
@@ -73,6 +74,7 @@ fn matches_in<'a, S: AsStr>(
 }
 
 // The subcommand that was used, and what was found for it.
+#[tactic(auto, using(crate::proofs::CommandLine::paired))]
 fn entered<'m, 'a>(matches: &'m ArgMatches<'a>) -> Option<(&'a str, &'m ArgMatches<'a>)>
     ensures { option_map (λ p. (p.0.now, rows_of (found_of p.1.now))) result ≡ subcommand_rows_of matches.now }
 {

@@ -52,6 +52,7 @@ fn write_end<E: Write>(number: u64, end: &End, errors: &mut E) -> Result<(), Wri
 }
 
 // Writes the lines of the workers that ended early.
+#[tactic(auto, using(std::proofs::lemmas::Result::err_from_is_err_and, crate::proofs::EndsTold::lines_more, crate::proofs::EndsTold::lines_failed))]
 fn write_ends<E: Write>(ends: &[End], errors: &mut E) -> Result<(), WriteFault>
     ensures { Writes (E.contents errors.old) (E.contents errors.new) (end_lines 1 ends.now) result }
 {

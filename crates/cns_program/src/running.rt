@@ -86,6 +86,7 @@ fn open_files<F: Read + Drop, R: AllocGlobal + Files<File = F>>(
 }
 
 // Opens the files and runs a worker for each. Where one cannot be opened no worker is started.
+#[tactic(auto, using(crate::proofs::Opened::ran_by))]
 fn run_files<F: Read + Send + Drop, R: AllocGlobal + Files<File = F> + Threads + Wait + Sync>(
     rt: &R,
     opening: Day,

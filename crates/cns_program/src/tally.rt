@@ -45,6 +45,7 @@ fn totals(outcome: &Outcome) -> (Cents, Cents)
 }
 
 // An amount of cents as text.
+#[tactic(auto, using(crate::proofs::Tallied::total_is_text))]
 fn amount(alloc: Global, cents: Cents) -> Result<String, NoMemory>
     requires { cents ≡ pos 0 }
     ensures { IfOk result (λ s. string_bytes s ≡ total_text) }

@@ -1,8 +1,7 @@
 -- Values changed in place, around a row e with others on its left and right.
 -- For `change_counted` and `change_each` of tree.rt.
-use Rattle.cns_tree.proofs.Common.{◌≡◌, ℕ, ◌+◌, suc, length, ◌&&◌, true, cond, is_some, List, [], ◌∷◌, ◌++◌, Option, Some, None, refl, sym, ap, ◌∙◌, subst, MatchOption, IfSome, Less, Equal, Greater, is_lt, below_all, is_sorted, key_cmp, keys_total, put, find, Key, ChangesAt, IsShallow, ints, nat_tests, arith}
+use Rattle.cns_tree.proofs.Common.{◌≡◌, ℕ, suc, length, ◌&&◌, true, List, [], ◌∷◌, ◌++◌, Option, Some, None, refl, sym, ap, ◌∙◌, subst, MatchOption, IfSome, Less, Equal, Greater, is_lt, below_all, is_sorted, key_cmp, keys_total, put, find, Key, ChangesAt, IsShallow, arith}
 use Rattle.cns_tree.specs.Changes.{ChangesEach}
-use Rattle.cns_tree.proofs.Heights.{shallow_kept}
 use Rattle.cns_tree.proofs.Rows.{find_left, find_middle, find_right, length_put, puts_left, puts_middle, puts_right, rises_put}
 
 -- what holds of the value that a key has
@@ -43,35 +42,15 @@ module _ {V : Type 0} (P : V → V → Type 0) (k : Key) (d l : List (Key × V))
 
   -- a change at e's key
   pub changed_middle : (w : V) → key_cmp k e.0 ≡ Equal → P e.1 w → Changed P k d (l ++ (e.0, w) ∷ r)
-  changed_middle w p h =
-      let at = puts_middle key_cmp keys_total k w d l e r p is s in
-      record { rows = something P k d _ e.1 w (found_middle p) h (sym at.is); rises = at.rises }
+  changed_middle w p h = grind (arith, puts_middle key_cmp keys_total k w d l e r p is s, found_middle)
 
   -- a change at a key below e is one on its left side
   pub changed_left : (m : List (Key × V)) → key_cmp k e.0 ≡ Less → ChangesAt P k l m → Changed P k d (m ++ e ∷ r)
-  changed_left m p = by (find key_cmp k l) refl
-    where
-      by : (o : Option V) → find key_cmp k l ≡ o → MatchOption o (m ≡ l) (λ v. (w : V) × P v w × (m ≡ put key_cmp k w l)) → Changed P k d (m ++ e ∷ r)
-      by None f same =
-          let whole = ap (λ u. u ++ e ∷ r) same in
-          record { rows = nothing P k d _ (found_left p ∙ f) (whole ∙ sym is); rises = ap (is_sorted key_cmp) whole ∙ s }
-      by (Some v) f (w, h, put_is) =
-          let at = puts_left key_cmp keys_total k w d l e r p is s in
-          let whole = ap (λ u. u ++ e ∷ r) put_is in
-          record { rows = something P k d _ v w (found_left p ∙ f) h (whole ∙ sym at.is); rises = ap (is_sorted key_cmp) whole ∙ at.rises }
+  changed_left m p h = grind (arith, (λ (w : V). puts_left key_cmp keys_total k w d l e r p is s), found_left, h)
 
   -- and one above e on its right side
   pub changed_right : (m : List (Key × V)) → key_cmp k e.0 ≡ Greater → ChangesAt P k r m → Changed P k d (l ++ e ∷ m)
-  changed_right m p = by (find key_cmp k r) refl
-    where
-      by : (o : Option V) → find key_cmp k r ≡ o → MatchOption o (m ≡ r) (λ v. (w : V) × P v w × (m ≡ put key_cmp k w r)) → Changed P k d (l ++ e ∷ m)
-      by None f same =
-          let whole = ap (λ u. l ++ e ∷ u) same in
-          record { rows = nothing P k d _ (found_right p ∙ f) (whole ∙ sym is); rises = ap (is_sorted key_cmp) whole ∙ s }
-      by (Some v) f (w, h, put_is) =
-          let at = puts_right key_cmp keys_total k w d l e r p is s in
-          let whole = ap (λ u. l ++ e ∷ u) put_is in
-          record { rows = something P k d _ v w (found_right p ∙ f) h (whole ∙ sym at.is); rises = ap (is_sorted key_cmp) whole ∙ at.rises }
+  changed_right m p h = grind (arith, (λ (w : V). puts_right key_cmp keys_total k w d l e r p is s), found_right, h)
 
   -- and in as many levels as before they have few
   pub shallow_changed : (new : List (Key × V)) (a b : ℕ) → Changed P k d new → IsShallow (length (l ++ e ∷ r)) a → b ≡ a → IsShallow (length new) b
@@ -81,25 +60,22 @@ module _ {V : Type 0} (P : V → V → Type 0) (k : Key) (d l : List (Key × V))
 below_each : {V : Type 0} (P : V → V → Type 0) (k : Key) (old new : List (Key × V)) → ChangesEach P old new → below_all key_cmp k new ≡ below_all key_cmp k old
 unfolding ChangesEach
 below_each P k [] [] h = refl
-below_each P k [] (s ∷ ss) h = absurd h
-below_each P k (r ∷ rs) [] h = absurd h
 below_each P k (r ∷ rs) (s ∷ ss) (same, p, h) = λ i. is_lt (key_cmp k (same i)) && below_each P k rs ss h i
+below_each P k _ _ h = absurd h
 
 -- and the keys rise where they did
 pub sorted_each : {V : Type 0} (P : V → V → Type 0) (old new : List (Key × V)) → ChangesEach P old new → is_sorted key_cmp new ≡ is_sorted key_cmp old
 unfolding ChangesEach
 sorted_each P [] [] h = refl
-sorted_each P [] (s ∷ ss) h = absurd h
-sorted_each P (r ∷ rs) [] h = absurd h
 sorted_each P (r ∷ rs) (s ∷ ss) (same, p, h) = grind (arith, below_each, sorted_each P rs ss h)
+sorted_each P _ _ h = absurd h
 
 -- and there are as many
 pub length_each : {V : Type 0} (P : V → V → Type 0) (old new : List (Key × V)) → ChangesEach P old new → length new ≡ length old
 unfolding ChangesEach
 length_each P [] [] h = refl
-length_each P [] (s ∷ ss) h = absurd h
-length_each P (r ∷ rs) [] h = absurd h
 length_each P (r ∷ rs) (s ∷ ss) (same, p, h) = ap suc (length_each P rs ss h)
+length_each P _ _ h = absurd h
 
 -- after a change of each value
 pub kept_each : {V : Type 0} (P : V → V → Type 0) (d new : List (Key × V)) → is_sorted key_cmp d ≡ true → ChangesEach P d new → Kept d new
@@ -109,9 +85,8 @@ kept_each P d new s h = record { rises = sorted_each P d new h ∙ s; count = le
 each_append : {V : Type 0} (P : V → V → Type 0) (l m : List (Key × V)) (e : Key × V) (w : V) (r s : List (Key × V)) → ChangesEach P l m → P e.1 w → ChangesEach P r s → ChangesEach P (l ++ e ∷ r) (m ++ (e.0, w) ∷ s)
 unfolding ChangesEach
 each_append P [] [] e w r s h p q = (refl, p, q)
-each_append P [] (y ∷ m) e w r s h p q = absurd h
-each_append P (x ∷ l) [] e w r s h p q = absurd h
 each_append P (x ∷ l) (y ∷ m) e w r s (same, t, h) p q = (same, t, each_append P l m e w r s h p q)
+each_append P _ _ e w r s h p q = absurd h
 
 -- so each value of the rows d
 pub each_changed : {V : Type 0} (P : V → V → Type 0) (d l m : List (Key × V)) (e : Key × V) (w : V) (r s : List (Key × V)) → d ≡ l ++ e ∷ r → ChangesEach P l m → P e.1 w → ChangesEach P r s → ChangesEach P d (m ++ (e.0, w) ∷ s)

@@ -1,17 +1,14 @@
 -- Heights of trees: of any, and of those that are built by halves.
 -- For `join` of node.rt, `put_counted`, `change_counted` and `get_counted` of tree.rt.
-use Rattle.cns_tree.proofs.Common.{◌≡◌, ℕ, List, ◌∷◌, ◌++◌, zero, suc, ◌+◌, ◌*◌, ◌^◌, ◌<◌, ◌≤◌, max, length, length-append, arith, pow_mono, inl, inr, binary_digits, cases_lt, IsLean, IsShallow, ints, nat_tests}
+use Rattle.cns_tree.proofs.Common.{◌≡◌, ℕ, List, ◌∷◌, ◌++◌, zero, suc, ◌+◌, ◌*◌, ◌^◌, ◌<◌, ◌≤◌, max, length, length-append, arith, pow_mono, binary_digits, IsLean, IsShallow}
 use Rattle.std.proofs.Math.Nat.{two-pow-succ}
 use Rattle.std.proofs.lemmas.Int.Digits.{all_below_base_digits_of, number_digits_of, number_lt}
 use Rattle.std.specs.Int.Digits.{digits_of}
 use Rattle.cns_tree.specs.declared.node.Lean.{Lean}
-use Rattle.cns_tree.specs.declared.node.Lean.TheVariants.{Left, Even, Right}
 
 -- sides that lean are within one level
 pub within_one : (lean : Lean) (a b : ℕ) → IsLean lean a b → (a ≤ b + 1) × (b ≤ a + 1)
-within_one Left a b p = (omega (arith, p), omega (arith, p))
-within_one Even a b p = (omega (arith, p), omega (arith, p))
-within_one Right a b p = (omega (arith, p), omega (arith, p))
+within_one lean a b p = grind (arith, p)
 
 -- no rows are few levels
 pub shallow_none : IsShallow 0 0
@@ -48,27 +45,15 @@ pub record IsFull (n a : ℕ) : Type 0 where
 
 -- fewer rows don't take more levels
 pub no_higher : (n m a b : ℕ) → IsFull n a → IsFull m b → m ≤ n → b ≤ a
-no_higher n m a b p q le =
-    elim (cases_lt a b) [
-      | inl lt ↦ absurd (omega (arith, two-pow-succ a, pow_mono {i = suc a} {j = b} (omega arith), p.high, q.low))
-      | inr ge ↦ omega arith
-    ]
+no_higher n m a b p q le = grind (arith, two-pow-succ a, pow_mono {i = suc a} {j = b}, p.high, q.low)
 
 -- and one row more takes at most one level more
 pub one_higher : (n m a b : ℕ) → IsFull n a → IsFull m b → n ≤ m + 1 → a ≤ b + 1
-one_higher n m a b p q le =
-    elim (cases_lt (b + 1) a) [
-      | inl lt ↦ absurd (omega (arith, two-pow-succ b, two-pow-succ (suc b), pow_mono {i = suc (suc b)} {j = a} (omega arith), p.low, q.high))
-      | inr ge ↦ omega arith
-    ]
+one_higher n m a b p q le = grind (arith, two-pow-succ b, two-pow-succ (suc b), pow_mono {i = suc (suc b)} {j = a}, p.low, q.high)
 
 -- few enough for any tree in memory
 pub few_levels : (n a : ℕ) → IsFull n a → n < 2 ^ 64 → a < 66
-few_levels n a p fits =
-    elim (cases_lt a 66) [
-      | inl lt ↦ lt
-      | inr ge ↦ absurd (omega (arith, pow_mono {i = 66} {j = a} (omega arith), p.low))
-    ]
+few_levels n a p fits = grind (arith, pow_mono {i = 66} {j = a}, p.low)
 
 -- what the two halves' heights are to each other
 pub halves_level : (n m a b : ℕ) → IsFull n a → IsFull m b → m ≤ n → n ≤ m + 1 → (b ≤ a) × (a ≤ b + 1)

@@ -1,6 +1,6 @@
 -- What is known of a subtree d once its top is a node.
 -- For `get`, `get_two`, `first_above` and `first_at_or_after` of node.rt and others.
-use Rattle.cns_tree.proofs.Common.{◌≡◌, ℕ, List, length, Box, Option, None, Some, Ordering, false, cond, is_eq, is_lt, sym, ap, ◌∙◌, subst, Less, Equal, Greater, key_cmp, keys_total, find, Key, rows, height, rows_and_height, IsBalanced, IsBalancedNode, IsShallow, Node, ints, nat_tests, arith}
+use Rattle.cns_tree.proofs.Common.{◌≡◌, ℕ, List, length, Box, Option, None, Some, Ordering, false, cond, is_eq, is_lt, sym, ap, ◌∙◌, subst, Less, Equal, Greater, key_cmp, keys_total, find, Key, rows, height, rows_and_height, IsBalanced, IsBalancedNode, IsShallow, Node, arith}
 use Rattle.cns_tree.proofs.Heights.{shallow_none}
 use Rattle.cns_tree.proofs.Rows.{find_left, find_right}
 

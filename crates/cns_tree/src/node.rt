@@ -131,6 +131,7 @@ impl<V: Copy, A: Allocator> Subtree<V, A> {
 
     /// The values at two keys. Both ways down are gone at once as far as both lead on, so that neither waits for the
     /// memory that the other reads.
+    #[tactic(auto, using(crate::proofs::Nodes::at_node, crate::proofs::Nodes::found_aside))]
     pub(crate) fn get_two(&self, first: Key, second: Key) -> (Option<V>, Option<V>)
         ensures first { result.0 ≡ find key_cmp first self.now.0 }
         ensures second { result.1 ≡ find key_cmp second self.now.0 }
@@ -192,6 +193,7 @@ impl<V: Copy, A: Allocator> Subtree<V, A> {
 }
 
 /// Puts a node together.
+#[tactic(auto, using(crate::proofs::Heights::shallow_joined, crate::proofs::Heights::within_one, crate::proofs::Nodes::shallow_top))]
 pub(crate) fn join<V: Copy, A: Allocator>(
     left: Subtree<V, A>,
     mut node: Box<Node<V, A>, A>,

@@ -121,6 +121,7 @@ impl<V: Copy, A: Allocator + Clone> Tree<V, A> {
 
     /// The value at a probe's key, as `get` gives it, after at most two comparisons for each binary digit of the number of
     /// rows.
+    #[tactic(auto, using(crate::proofs::Heights::few_digits))]
     pub fn get_counted(&self, probe: &mut Probe) -> Option<V>
         ensures value { result ≡ find key_cmp probe.old.0 self.now }
         ensures rises { is_sorted key_cmp self.now ≡ true }
@@ -151,6 +152,7 @@ impl<V: Copy, A: Allocator + Clone> Tree<V, A> {
 
     /// Gives a probe's key the value, as `put` does, after at most two comparisons for each binary digit of the number of
     /// rows that there were.
+    #[tactic(auto, using(crate::proofs::Heights::few_digits))]
     pub fn put_counted(&mut self, key: Key, value: V, spare: &mut Spare<V, A>, probe: &mut Probe)
         requires room { (is_some (find key_cmp key self.old) ≡ true) ⊎ (0 < spare.old) }
         requires same { probe.old.0 ≡ key }
@@ -181,6 +183,7 @@ impl<V: Copy, A: Allocator + Clone> Tree<V, A> {
 
     /// Changes the value at a probe's key, as `change` does, after at most two comparisons for each binary digit of the
     /// number of rows.
+    #[tactic(auto, using(crate::proofs::Changed::kept_at, crate::proofs::Heights::few_digits))]
     pub fn change_counted<F: FnOnce(V) -> V>(&mut self, probe: &mut Probe, change: F) -> bool
         requires { IfSome (find key_cmp probe.old.0 self.old) (F.pre change) }
         ensures found { result ≡ is_some (find key_cmp probe.old.0 self.old) }
@@ -193,6 +196,7 @@ impl<V: Copy, A: Allocator + Clone> Tree<V, A> {
     }
 
     /// Gives each value what `change` makes of it. It costs one pass over the rows.
+    #[tactic(auto, using(crate::proofs::Changed::kept_each))]
     pub fn change_each<F: Fn(V) -> V>(&mut self, change: F)
         requires { F.IsAlwaysCallable change }
         ensures rows { ChangesEach (F.post change) self.old self.new }
@@ -218,6 +222,7 @@ impl<V: Copy, A: Allocator + Clone> Tree<V, A> {
     }
 
     /// The rows in the order of their keys.
+    #[tactic(auto, using(crate::proofs::Walks::all_rows))]
     pub fn walk(&self) -> Walk<V, A>
         ensures rows { result ≡ self.now }
         ensures rises { is_sorted key_cmp self.now ≡ true }

@@ -10,15 +10,10 @@ returns-in_default c =
     (live_ends (journal_of S) c.loop-number.number c.loop-number.auto.number (2 ^ 32 - 2) c.loop-number.live.items (omega arith) (sym c.notice.ensures ∙ c.in_default.is) c.loop-number.invariant)
 
 pub loop-number-preserved-then-not-is_live : goal.loop-number-preserved-then-not-is_live
-loop-number-preserved-then-not-is_live c =
-    live_passed (journal_of (state_of c.args.book.now.log)) c.loop-number.number c.loop-number.auto.number c.in-Some.notice c.loop-number.live.items (sym c.notice.ensures ∙ c.in-Some.is)
-    (sym c.is_live.ensures ∙ c.if-not-is_live.true) c.loop-number.invariant
+loop-number-preserved-then-not-is_live c = grind (arith, live_passed)
 
 pub loop-number-preserved : goal.loop-number-preserved
-loop-number-preserved c =
-    c.in_ok-push.ensures.items
-    ∙ live_added (journal_of (state_of c.args.book.now.log)) c.loop-number.number c.loop-number.auto.number c.in-Some.notice c.loop-number.live.items (sym c.notice.ensures ∙ c.in-Some.is)
-    (sym c.is_live.ensures ∙ c.if-not-is_live.false) c.loop-number.invariant
+loop-number-preserved c = grind (arith, live_added)
 
 pub returns : goal.returns
 returns c =

@@ -5,11 +5,10 @@ use Rattle.cns_page.proofs.reasons.counts_of.Goals as goal
 
 pub loop-number-init : goal.loop-number-init
 unfolding counts_below
-loop-number-init c = rw c.new-counts.ensures.items refl
+loop-number-init c = grind (arith)
 
 pub loop-number-preserved-then-count-eq0 : goal.loop-number-preserved-then-count-eq0
-loop-number-preserved-then-count-eq0 c =
-    none_more c.loop-number.number c.args.reasons.now c.loop-number.counts.items c.count_of-count.result c.count_of-count.ensures c.if-count-eq0.true c.loop-number.invariant
+loop-number-preserved-then-count-eq0 c = grind (arith, none_more)
 
 pub loop-number-preserved : goal.loop-number-preserved
 loop-number-preserved c =

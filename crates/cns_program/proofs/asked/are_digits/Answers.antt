@@ -1,4 +1,4 @@
-use Rattle.std.proofs.Common.{◌∙◌, sym}
+use Rattle.cns_program.proofs.Common.{◌∙◌, sym}
 use Rattle.cns_feed.proofs.DigitLemmas.{digits-step, digits-stop}
 use Rattle.cns_program.proofs.asked.are_digits.Goals as goal
 

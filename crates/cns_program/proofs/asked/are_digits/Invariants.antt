@@ -1,4 +1,4 @@
-use Rattle.std.proofs.Common.{◌≡◌, drop}
+use Rattle.cns_program.proofs.Common.{◌≡◌, drop}
 use Rattle.cns_terms.proofs.Common.{all_ascii_digits}
 use Rattle.cns_program.proofs.asked.are_digits.Given as goal
 

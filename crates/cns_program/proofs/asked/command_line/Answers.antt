@@ -1,7 +1,5 @@
-use Rattle.std.proofs.Common.{rules, ap, ap₂, codes, true, ◌≡◌, ◌∙◌}
-use Rattle.std.proofs.lemmas.Result.{IfOk-weaker}
+use Rattle.cns_program.proofs.Common.{rules, ap, ap₂, codes, true, ◌≡◌, ◌∙◌, IfOk-weaker, App, Shape, app_of, with_subcommand}
 use Rattle.clap.specs.Simple.{on_top}
-use Rattle.clap.specs.Words.{App, Shape, app_of, with_subcommand}
 use Rattle.cns_shell.specs.Options.{bare}
 use Rattle.cns_program.specs.CommandLine.{program_line}
 use Rattle.cns_program.proofs.CommandLine.{third_is_off}

@@ -1,6 +1,4 @@
-use Rattle.std.proofs.Common.{ap₂, ◌∙◌}
-use Rattle.std.proofs.lemmas.Result.{IfOk-weaker}
-use Rattle.clap.specs.Words.{with_rule}
+use Rattle.cns_program.proofs.Common.{ap₂, ◌∙◌, IfOk-weaker, with_rule}
 use Rattle.cns_program.proofs.asked.subcommand.Goals as goal
 
 pub returns : goal.returns

@@ -1,5 +1,4 @@
-use Rattle.std.proofs.Common.{◌∙◌}
-use Rattle.clap.specs.Words.{found_of}
+use Rattle.cns_program.proofs.Common.{◌∙◌, found_of}
 use Rattle.clap.proofs.WalkLemmas.{raw_values-rows}
 use Rattle.cns_program.proofs.asked.values.Goals as goal
 

@@ -1,4 +1,4 @@
-use Rattle.std.proofs.Common.{rules, ◌≡◌, true}
+use Rattle.cns_program.proofs.Common.{rules, ◌≡◌, true}
 use Rattle.std.proofs.lemmas.Str.Parse.{numerals_by_value, parse_digits, tells_all_ascii_digits}
 use Rattle.cns_terms.specs.Common.{all_ascii_digits}
 use Rattle.cns_program.proofs.Workers.{unread}

@@ -1,6 +1,4 @@
-use Rattle.std.proofs.Common.{◌≡◌, ℕ, ◌+◌, List, ◌++◌, drop}
-use Rattle.cns_terms.proofs.Common.{Appends}
-use Rattle.cns_program.specs.Lines.{end_lines}
+use Rattle.cns_program.proofs.Common.{◌≡◌, ℕ, ◌+◌, List, ◌++◌, drop, Appends, end_lines}
 use Rattle.cns_program.proofs.outcome.write_ends.Given as goal
 
 abbrev pub invariant-loop-place : goal.invariant-loop-place

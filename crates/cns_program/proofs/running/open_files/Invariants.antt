@@ -1,5 +1,4 @@
-use Rattle.std.proofs.Common.{◌≡◌, List, length, vec_len}
-use Rattle.cns_program.specs.Ends.{ReadEach}
+use Rattle.cns_program.proofs.Common.{◌≡◌, List, length, vec_len, ReadEach}
 use Rattle.cns_program.proofs.running.open_files.Given as goal
 
 -- the sources so far tell what so many files do

@@ -1,4 +1,4 @@
-use Rattle.std.proofs.Common.{inl, inr}
+use Rattle.cns_program.proofs.Common.{inl, inr}
 use Rattle.cns_program.proofs.running.tell_run.Goals as goal
 
 pub returns-in-Ok-clause-done : goal.returns-in-Ok-clause-done

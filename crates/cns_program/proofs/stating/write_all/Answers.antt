@@ -1,5 +1,4 @@
-use Rattle.cns_terms.proofs.Common.{err_from_is_err_and, parts_failed, parts_more}
-use Rattle.cns_program.specs.Days.{text_of_one}
+use Rattle.cns_program.proofs.Common.{err_from_is_err_and, parts_failed, parts_more, text_of_one}
 use Rattle.cns_program.proofs.stating.write_all.Goals as goal
 
 pub loop-statement-preserved : goal.loop-statement-preserved

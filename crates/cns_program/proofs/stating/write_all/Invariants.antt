@@ -1,6 +1,4 @@
-use Rattle.std.proofs.Common.{◌≡◌, ℕ, List, ◌++◌, drop}
-use Rattle.cns_terms.proofs.Common.{Appends}
-use Rattle.cns_program.specs.Days.{statements_text}
+use Rattle.cns_program.proofs.Common.{◌≡◌, ℕ, List, ◌++◌, drop, Appends, statements_text}
 use Rattle.cns_program.proofs.stating.write_all.Given as goal
 
 abbrev pub invariant-loop-statement : goal.invariant-loop-statement

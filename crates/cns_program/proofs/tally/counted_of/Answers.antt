@@ -1,14 +1,6 @@
-use Rattle.std.proofs.Common.{◌≡◌, ◌+◌, ◌<◌, ◌≤◌, length, refl, rules}
+use Rattle.cns_program.proofs.Common.{◌≡◌, ◌+◌, ◌<◌, ◌≤◌, length, rules}
 use Rattle.cns_program.proofs.Tallied.{counts_more, lines_more}
 use Rattle.cns_program.proofs.tally.counted_of.Goals as goal
-
-pub loop-place-init : goal.loop-place-init
-loop-place-init c = record {
-  end = c.min-place-end.ensures;
-  counts = search rules;
-  lines = refl;
-  small = search rules;
-}
 
 pub loop-place-preserved : goal.loop-place-preserved
 loop-place-preserved c =

@@ -1,6 +1,4 @@
-use Rattle.std.proofs.Common.{◌≡◌, ◌≤◌, ◌*◌, map}
-use Rattle.serde_json.specs.View.{view}
-use Rattle.cns_program.specs.Tally.{counts_to, lines_to, whole, workers_of}
+use Rattle.cns_program.proofs.Common.{◌≡◌, ◌≤◌, ◌*◌, map, view, counts_to, lines_to, whole, workers_of}
 use Rattle.cns_program.proofs.tally.counted_of.Given as goal
 
 abbrev pub invariant-loop-place : goal.invariant-loop-place

@@ -1,7 +1,4 @@
-use Rattle.std.proofs.Common.{◌≡◌, ◌-◌, ◌∷◌, ◌++◌, [], map, string_bytes, refl, ap, rules, arith, ◌∙◌}
-use Rattle.serde_json.specs.Written.{compact_text}
-use Rattle.serde_json.specs.View.{view}
-use Rattle.cns_program.specs.Tally.{counts_to, lines_to, tally_of, total_text, whole, workers_of}
+use Rattle.cns_program.proofs.Common.{◌≡◌, ◌-◌, ◌∷◌, ◌++◌, [], map, string_bytes, refl, ap, rules, arith, ◌∙◌, compact_text, view, counts_to, lines_to, tally_of, total_text, whole, workers_of}
 use Rattle.cns_program.proofs.Tallied.{tally_is, tally_told}
 use Rattle.cns_program.proofs.tally.tally_line.Goals as goal
 

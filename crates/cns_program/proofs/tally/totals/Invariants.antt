@@ -1,4 +1,4 @@
-use Rattle.std.proofs.Common.{◌≡◌, pos}
+use Rattle.cns_program.proofs.Common.{◌≡◌, pos}
 use Rattle.cns_program.proofs.tally.totals.Given as goal
 
 abbrev pub invariant-loop-log : goal.invariant-loop-log

@@ -1,4 +1,4 @@
-use Rattle.std.proofs.Common.{◌≡◌, pos}
+use Rattle.cns_program.proofs.Common.{◌≡◌, pos}
 use Rattle.cns_program.proofs.tally.totals_of.Given as goal
 
 abbrev pub invariant-loop-item : goal.invariant-loop-item

@@ -1,6 +1,5 @@
-use Rattle.std.proofs.Common.{rules, not}
+use Rattle.cns_trades.proofs.Common.{rules, not, is_due}
 use Rattle.std.proofs.lemmas.Fn.{filter_same}
-use Rattle.cns_terms.specs.Pending.{is_due}
 use Rattle.cns_trades.proofs.pending.keep_later.Goals as goal
 
 -- the closure keeps what is not due, and stays as it was

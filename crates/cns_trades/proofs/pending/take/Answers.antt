@@ -1,8 +1,4 @@
-use Rattle.std.proofs.Common.{◌∙◌, ap, cond, ◌&&◌, ◌==◌, is_eq}
-use Rattle.cns_terms.proofs.Common.{key_cmp, same_issue}
-use Rattle.cns_terms.specs.declared.holding.Key.{Key}
-use Rattle.cns_trades.specs.declared.sides.Sides.{Sides}
-use Rattle.cns_trades.specs.Sides.{less, sides_at}
+use Rattle.cns_trades.proofs.Common.{◌∙◌, ap, cond, ◌&&◌, ◌==◌, is_eq, key_cmp, same_issue, Key, Sides, less, sides_at}
 use Rattle.cns_trades.proofs.Summed.{taken_both, both_keys}
 use Rattle.cns_trades.proofs.pending.take.Goals as goal
 

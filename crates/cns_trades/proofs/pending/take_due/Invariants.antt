@@ -1,7 +1,4 @@
-use Rattle.std.proofs.Common.{◌≡◌, ◌++◌, drop, filter, not, take}
-use Rattle.cns_terms.specs.declared.holding.Key.{Key}
-use Rattle.cns_terms.specs.Pending.{is_due}
-use Rattle.cns_trades.specs.Sides.{sides_at, sides_of}
+use Rattle.cns_trades.proofs.Common.{◌≡◌, ◌++◌, drop, filter, not, take, Key, is_due, sides_at, sides_of}
 use Rattle.cns_trades.proofs.pending.take_due.Given as goal
 
 -- the sums are those of the trades that were kept so far and of those that are left

@@ -1,5 +1,4 @@
-use Rattle.std.proofs.Common.{◌≡◌, drop}
-use Rattle.cns_terms.proofs.Common.{waits_in}
+use Rattle.cns_trades.proofs.Common.{◌≡◌, drop, waits_in}
 use Rattle.cns_trades.proofs.pending.waits_in.Given as goal
 
 -- a trade in the issue waits if one does that is left

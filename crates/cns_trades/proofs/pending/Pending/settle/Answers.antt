@@ -1,8 +1,4 @@
-use Rattle.std.proofs.Common.{◌≤◌, ap, filter, not, sym, subst, ◌∙◌}
-use Rattle.cns_terms.proofs.Common.{each_filter, shares_limit}
-use Rattle.cns_terms.specs.declared.pend.Pend.{Pend}
-use Rattle.cns_terms.specs.Pending.{is_due}
-use Rattle.cns_trades.specs.Sides.{AreSummed, sides_of}
+use Rattle.cns_trades.proofs.Common.{◌≤◌, ap, filter, not, sym, subst, ◌∙◌, each_filter, shares_limit, Pend, is_due, AreSummed, sides_of}
 use Rattle.cns_trades.proofs.pending.Pending.settle.Goals as goal
 
 pub invariant_of-self : goal.invariant_of-self

@@ -1,5 +1,4 @@
-use Rattle.std.proofs.Common.{◌∙◌, ap, sym, ne_eqb}
-use Rattle.cns_trades.specs.Used.{bits_in}
+use Rattle.cns_trades.proofs.Common.{◌∙◌, ap, sym, ne_eqb, bits_in}
 use Rattle.cns_trades.proofs.Pages.{turned}
 use Rattle.cns_trades.proofs.references.References.turn_to.Goals as goal
 

@@ -1,6 +1,4 @@
-use Rattle.std.proofs.Common.{◌≡◌, ◌∙◌, ◌+◌, ◌<◌, ◌^◌, Some, sym, ap, subst, refl, IsSome}
-use Rattle.cns_trades.specs.declared.sides.Sides.{Sides}
-use Rattle.cns_trades.specs.Sides.{more, sides_at}
+use Rattle.cns_trades.proofs.Common.{◌≡◌, ◌∙◌, ◌+◌, ◌<◌, ◌^◌, Some, sym, ap, subst, refl, IsSome, Sides, more, sides_at}
 use Rattle.cns_trades.proofs.Summed.{at_found, found, has_put, put_at}
 use Rattle.cns_trades.proofs.sides.SideSums.add.Goals as goal
 

@@ -1,5 +1,4 @@
-use Rattle.std.proofs.Common.{sym}
-use Rattle.cns_trades.specs.Sides.{no_sides}
+use Rattle.cns_trades.proofs.Common.{sym, no_sides}
 use Rattle.cns_trades.proofs.Summed.{has_none, has_put, opened_at}
 use Rattle.cns_trades.proofs.sides.SideSums.open.Goals as goal
 

@@ -1,5 +1,4 @@
-use Rattle.std.proofs.Common.{◌≡◌, ◌∙◌, None, Some, ◌≤◌, sym, ap, subst, refl, IsSome}
-use Rattle.cns_trades.specs.Sides.{less, no_sides, sides_at}
+use Rattle.cns_trades.proofs.Common.{◌≡◌, ◌∙◌, None, Some, ◌≤◌, sym, ap, subst, refl, IsSome, less, no_sides, sides_at}
 use Rattle.cns_trades.proofs.Summed.{found, less_nothing, none_at, put_at}
 use Rattle.cns_trades.proofs.sides.SideSums.take.Goals as goal
 

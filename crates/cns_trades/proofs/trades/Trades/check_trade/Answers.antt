@@ -1,7 +1,4 @@
-use Rattle.std.proofs.Common.{◌∙◌, ap, sym}
-use Rattle.cns_terms.specs.Pending.{is_due}
-use Rattle.cns_trades.specs.Checks.{book_answer, party}
-use Rattle.cns_trades.specs.Used.{is_used}
+use Rattle.cns_trades.proofs.Common.{◌∙◌, ap, sym, is_due, book_answer, party, is_used}
 use Rattle.cns_trades.proofs.Checking.{books_now, failed, passed}
 use Rattle.cns_trades.proofs.trades.Trades.check_trade.Goals as goal
 
