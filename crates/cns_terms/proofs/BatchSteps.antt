@@ -70,11 +70,6 @@ brought_by J x k a c is =
 pub batch_charged : (p : Posting) (J K : Journal) (c : Cusip) (x : Execution) (k : Notice) → executes J (day K) c p.activity ≡ true → p.entries ≡ execution_entries J x k → same_issue k.given.issue c ≡ true → batch_since (p ∷ J) K c ≡ map (charged (fills J x k)) (batch_since J K c)
 batch_charged p J K c x k is entries same = each (batch_at K c)
   where
-    lowered : (closing n f : ℕ) (b : Bool) (m : ℕ) → b ≡ true → m ≡ n → closing - (cond b m 0 + f) ≡ closing - f - n
-    lowered closing n f b m h1 h2 = grind arith
-
     each : (ls : List Liable) → map (left_of (p ∷ J) (day K) c) ls ≡ map (charged (fills J x k)) (map (left_of J (day K) c) ls)
     each [] = refl
-    each (l ∷ ls) =
-        let one = lowered l.closing (given_to l.member (fills J x k)) (filled J (day K) c l.member) (executes J (day K) c p.activity) (brought l.member c p.entries) is (ap (brought l.member c) entries ∙ brought_by J x k l.member c same) in
-        rw (one, each ls) refl
+    each (l ∷ ls) = grind (arith, brought_by J x k l.member c same, each ls)

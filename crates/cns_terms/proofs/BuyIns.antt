@@ -1,6 +1,6 @@
 -- Whom executions book for, and how much.
-use Rattle.std.proofs.Common.{◌≡◌, ◌∙◌, ap, subst, refl, ℕ, ◌+◌, ◌-◌, ◌*◌, ◌≤◌, min, ℤ, pos, negsuc, ◌+ℤ◌, neg_ℤ, Bool, true, false, not, cond, ◌&&◌, ◌==◌, List, [], ◌∷◌, map, filter, find, Option, sum_by, arith, IfSome, nat_lt, unsigned_abs, eqb-true}
-use Rattle.cns_terms.specs.Common.{Account, AllByRecursion, Cusip, Entry, Execution, Fill, Journal, Liable, Member, Notice, Short, at_close, batch, batch_at, called, capacity, day, execution_entries, fill_entry, fills, fills_before, in_order, is_called, is_live, is_so, left_of, liable_of, long, members, remaining, room, same_issue, shares_for, short, short_of, shorts, stage, stretch, total}
+use Rattle.std.proofs.Common.{◌≡◌, ◌∙◌, ap, subst, refl, ℕ, ◌+◌, ◌*◌, ◌≤◌, ℤ, pos, ◌+ℤ◌, neg_ℤ, Bool, true, false, not, cond, ◌&&◌, ◌==◌, List, [], ◌∷◌, map, filter, find, Option, sum_by, arith, IfSome, nat_lt, unsigned_abs, eqb-true}
+use Rattle.cns_terms.specs.Common.{Account, AllByRecursion, Cusip, Entry, Execution, Fill, Journal, Liable, Member, Notice, Short, at_close, batch, batch_at, called, capacity, day, execution_entries, fill_entry, fills, fills_before, in_order, is_called, is_live, is_so, left_of, liable_of, long, members, remaining, room, same_issue, shares_for, short, short_of, shorts, stage, total}
 use Rattle.std.proofs.Math.Nat.{min-le_right}
 use Rattle.std.proofs.lemmas.Int.{ints}
 use Rattle.std.proofs.lemmas.List.Sums.{sum_by-cons}
@@ -8,7 +8,7 @@ use Rattle.std.proofs.lemmas.Slice.Eq.{bytes_eq-Decides}
 use Rattle.cns_terms.specs.Positions.{position}
 use Rattle.cns_terms.specs.Sums.{put}
 use Rattle.cns_terms.proofs.Accounts.{occurs}
-use Rattle.cns_terms.proofs.Closer.{IsCloser, off_long, off_short}
+use Rattle.cns_terms.proofs.Closer.{IsCloser}
 use Rattle.cns_terms.proofs.Laid.{fills_laid, laid}
 use Rattle.cns_terms.proofs.EntrySums.{IsBalanced, cents_in, shares_in}
 use Rattle.cns_terms.proofs.Everywhere.{each_filter, each_in_order, each_map}
@@ -94,29 +94,7 @@ filled_by fs a = added (λ f. cond (f.member == a) f.shares 0) fs
 filled_few : (short_now : Member → ℕ) (n m from : ℕ) (a : Member) (ls : List Liable) → filled_by (filter (λ f. nat_lt 0 f.shares) (laid (capacity short_now) n m from ls)) a ≤ times (λ l. l.member) a ls * short_now a
 filled_few short_now n m from a [] = omega arith
 filled_few short_now n m from a (l ∷ ls) =
-    let to : ℕ = from + capacity short_now l in
-    let one = stretch_few from (capacity short_now l) n in
-    let less = min-le_right l.left (short_now l.member) in
-    let rest = filled_few short_now n m to a ls in
-    kept (nat_lt 0 (min n to - from)) (l.member == a) (a == l.member) refl (eqb_sym a l.member) (min n to - from) (stretch n m from to l.member) (filter (λ f. nat_lt 0 f.shares) (laid (capacity short_now) n m to ls)) refl refl
-    (omega (arith, one, less)) rest
-  where
-    stretch_few : (from c n : ℕ) → min n (from + c) - from ≤ c
-    stretch_few from c n = omega (arith, min-le_right n (from + c))
-
-    same_member : (t : Bool) → (l.member == a) ≡ t → (s : ℕ) → s ≤ short_now l.member → cond t s 0 ≤ cond t 1 0 * short_now a
-    same_member true e s h = let is : short_now l.member ≡ short_now a = ap short_now (eqb-true l.member a e) in omega (arith, h, is)
-    same_member false e s h = omega arith
-
-    sum_up : (t : ℕ) (p q o z : ℕ) → p ≤ t * z → q ≤ o * z → p + q ≤ (t + o) * z
-    sum_up t p q o z h k = omega (arith, h, k)
-
-    kept : (b t u : Bool) → (l.member == a) ≡ t → u ≡ t → (s : ℕ) (f : Fill) (fs : List Fill) → f.shares ≡ s → f.member ≡ l.member → s ≤ short_now l.member → filled_by fs a ≤ times (λ l. l.member) a ls * short_now a
-        → filled_by (cond b (f ∷ fs) fs) a ≤ (cond u 1 0 + times (λ l. l.member) a ls) * short_now a
-    kept true t u is same s f fs shares member h rest =
-        let one : cond (f.member == a) f.shares 0 ≤ cond u 1 0 * short_now a = rw (shares, member, is, same) (same_member t is s h) in
-        sum_up (cond u 1 0) (cond (f.member == a) f.shares 0) (filled_by fs a) (times (λ l. l.member) a ls) (short_now a) one rest
-    kept false t u is same s f fs shares member h rest = omega (arith, sum_up (cond u 1 0) 0 (filled_by fs a) (times (λ (l : Liable). l.member) a ls) (short_now a) (omega arith) rest)
+    grind (arith, eqb_sym a l.member, min-le_right l.left (short_now l.member), min-le_right n (from + capacity short_now l), filled_few short_now n m (from + capacity short_now l) a ls)
 
 -- what an execution gives a member is no more than it is short, where no number stands twice among the members
 pub fill_few : (J : Journal) (x : Execution) (k : Notice) (a : Member) → occurs a (members (at_close J k.given.day)) ≤ 1 → filled_by (fills J x k) a ≤ short (position J a k.given.issue)
@@ -134,10 +112,7 @@ pub executed_closer : (J : Journal) (x : Execution) (k : Notice) (a : Account) (
 executed_closer J x k a c ready once = by (same_issue k.given.issue c) refl
   where
     closer : (q : ℤ) (t : Bool) (n f : ℕ) → (t ≡ true → n ≤ long q) → f ≤ short q → IsCloser ((cond t (neg_ℤ (pos n)) (pos 0) +ℤ pos f) +ℤ q) q
-    closer (pos q) true n f g s = off_long _ (pos q) n (omega (arith, ints, s)) (g refl)
-    closer (pos q) false n f g s = off_short _ (pos q) f (omega (arith, ints)) s
-    closer (negsuc q) true n f g s = let none = g refl in off_short _ (negsuc q) f (omega (arith, ints, none)) s
-    closer (negsuc q) false n f g s = off_short _ (negsuc q) f (omega (arith, ints)) s
+    closer q t n f g s = grind (arith, ints, g)
 
     elsewhere : (t : Bool) (n : ℤ) (q : ℤ) → IsCloser ((cond (t && false) n (pos 0) +ℤ pos 0) +ℤ q) q
     elsewhere t n q = grind arith

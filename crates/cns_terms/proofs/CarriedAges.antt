@@ -1,5 +1,5 @@
 -- Ages over an exchange: what it brings into the successor, and that it brings nothing anywhere else.
-use Rattle.std.proofs.Common.{◌≡◌, ◌∙◌, sym, ap, refl, ℕ, zero, suc, ◌+◌, ◌≤◌, max, Bool, true, false, cond, ◌||◌, List, [], ◌∷◌, ◌++◌, filter, length, None, arith, is_none, flat_map}
+use Rattle.std.proofs.Common.{◌≡◌, ◌∙◌, ap, refl, ℕ, zero, suc, ◌≤◌, max, Bool, true, false, cond, List, [], ◌∷◌, ◌++◌, filter, length, None, arith, is_none, flat_map}
 use Rattle.cns_terms.proofs.Common.{⊤, Account, Activity, Cusip, Day, IsReached, Journal, Posting, all_fail, closes, closings, exchanged, greatest, is_close, is_retired, journal, list_any, neither, oldest, same_issue}
 use Rattle.cns_terms.specs.declared.action.Exchange.{Exchange}
 use Rattle.cns_terms.specs.Ages.{age, carried, closes_short, exchanges_today, forerunners, forerunners_today}
@@ -22,10 +22,7 @@ greatest_le f n h (x ∷ xs) = let rest = greatest_le f n h xs in let first = h 
 -- no short is older than there were closes
 pub closes_short_le : (Ks : List Journal) (a : Account) (c : Cusip) → closes_short Ks a c ≤ length Ks
 closes_short_le [] a c = omega arith
-closes_short_le (K ∷ Ks) a c = by _ (greatest_le (closes_short Ks a) (length Ks) (λ d. closes_short_le Ks a d) (c ∷ forerunners_today K c))
-  where
-    by : (b : Bool) {n : ℕ} → n ≤ length Ks → cond b (1 + n) 0 ≤ suc (length Ks)
-    by b h1 = grind arith
+closes_short_le (K ∷ Ks) a c = grind (arith, greatest_le (closes_short Ks a) (length Ks) (λ d. closes_short_le Ks a d) (c ∷ forerunners_today K c))
 
 -- and so with what exchanges brought
 pub oldest_le : (J : Journal) (a : Account) (c : Cusip) → oldest J a c ≤ closes J
@@ -46,13 +43,7 @@ AreFresh (x ∷ xs) = IsFresh x xs × AreFresh xs
 each_behind : (F G : Cusip → List Cusip) (s : Cusip) (t : Exchange → Bool) → ((d : Cusip) → same_issue s d ≡ false → F d ≡ G d)
     → (ys : List Exchange) → list_any (λ y. same_issue y.old s) ys ≡ false → flat_map (λ y. y.old ∷ F y.old) (filter t ys) ≡ flat_map (λ y. y.old ∷ G y.old) (filter t ys)
 each_behind F G s t same [] none = refl
-each_behind F G s t same (y ∷ ys) none = by (t y) (each_behind F G s t same ys apart.1)
-  where
-    apart : (same_issue y.old s ≡ false) × (list_any (λ y. same_issue y.old s) ys ≡ false)
-    apart = neither (same_issue y.old s) (list_any (λ y. same_issue y.old s) ys) none
-
-    by : (b : Bool) → flat_map (λ y. y.old ∷ F y.old) (filter t ys) ≡ flat_map (λ y. y.old ∷ G y.old) (filter t ys) → flat_map (λ y. y.old ∷ F y.old) (cond b (y ∷ filter t ys) (filter t ys)) ≡ flat_map (λ y. y.old ∷ G y.old) (cond b (y ∷ filter t ys) (filter t ys))
-    by b h1 = grind (arith, issues_differ)
+each_behind F G s t same (y ∷ ys) none = grind (arith, issues_differ y.old s, same y.old, each_behind F G s t same ys)
 
 module _ (x : Exchange) (xs : List Exchange) (fresh : IsFresh x xs) where
   -- the others' old issues are not the successor either
@@ -80,26 +71,12 @@ all_counted : (xs : List Exchange) → AreFresh xs → (n : ℕ) → length xs �
 all_counted [] fresh zero le d = refl
 all_counted [] fresh (suc n) le d = refl
 all_counted (x ∷ xs) fresh zero le d = absurd (omega (arith, le))
-all_counted (x ∷ xs) fresh (suc n) le d = by (all_counted xs fresh.1 n (omega (arith, le)) x.old) (all_counted xs fresh.1 (suc n) (omega (arith, le)) d) (same_issue x.successor d) refl
-  where
-    by : forerunners (suc n) xs x.old ≡ forerunners n xs x.old → forerunners (suc (suc n)) xs d ≡ forerunners (suc n) xs d → (b : Bool) → same_issue x.successor d ≡ b → forerunners (suc (suc n)) (x ∷ xs) d ≡ forerunners (suc n) (x ∷ xs) d
-    by old same true is = behind_successor x xs fresh.0 (suc n) d is ∙ (λ i. x.old ∷ old i ++ same i) ∙ sym (behind_successor x xs fresh.0 n d is)
-    by old same false other = behind_other x xs fresh.0 (suc (suc n)) d other ∙ same ∙ sym (behind_other x xs fresh.0 (suc n) d other)
+all_counted (x ∷ xs) fresh (suc n) le d = grind (arith, behind_successor x xs fresh.0 (suc n) d, behind_successor x xs fresh.0 n d, behind_other x xs fresh.0 (suc (suc n)) d, behind_other x xs fresh.0 (suc n) d, all_counted xs fresh.1 n (omega (arith, le)) x.old, all_counted xs fresh.1 (suc n) (omega (arith, le)) d)
 
 -- what one exchange more makes of the greatest at the issues behind one
 behind_more : (f : Cusip → ℕ) (x : Exchange) (xs : List Exchange) → AreFresh (x ∷ xs) → (d : Cusip)
     → greatest f (forerunners (suc (length xs)) (x ∷ xs) d) ≡ cond (same_issue x.successor d) (max (greatest f (forerunners (length xs) xs d)) (greatest f (x.old ∷ forerunners (length xs) xs x.old))) (greatest f (forerunners (length xs) xs d))
-behind_more f x xs fresh d = by (same_issue x.successor d) refl
-  where
-    n : ℕ
-    n = length xs
-
-    turned : (p q r : ℕ) → max p (max q r) ≡ max r (max p q)
-    turned p q r = omega arith
-
-    by : (b : Bool) → same_issue x.successor d ≡ b → greatest f (forerunners (suc n) (x ∷ xs) d) ≡ cond b (max (greatest f (forerunners n xs d)) (greatest f (x.old ∷ forerunners n xs x.old))) (greatest f (forerunners n xs d))
-    by true is = grind (arith, behind_successor, greatest-append, all_counted)
-    by false other = ap (greatest f) (behind_other x xs fresh.0 (suc n) d other ∙ all_counted xs fresh.1 n (omega arith) d)
+behind_more f x xs fresh d = grind (arith, behind_successor x xs fresh.0 (length xs) d, behind_other x xs fresh.0 (suc (length xs)) d, greatest-append, all_counted xs fresh.1 (length xs))
 
 -- ---- what brings nothing
 
@@ -114,9 +91,7 @@ module _ (opening : Day) where
   unexchanged : (L : List Activity) (c : Cusip) → is_retired (journal opening L) c ≡ false → list_any (λ y. same_issue y.old c) (exchanges_today (journal opening L)) ≡ false
   unexchanged [] c h = refl
   unexchanged (activity.Close d ∷ L) c h = refl
-  unexchanged (activity.Exchange x ∷ L) c h =
-      let apart = neither (same_issue x.old c) (is_retired (journal opening L) c) h in
-      λ i. apart.0 i || unexchanged L c apart.1 i
+  unexchanged (activity.Exchange x ∷ L) c h = grind (arith, unexchanged L c)
   unexchanged (x ∷ L) c h = unexchanged L c h
 
   -- no issue is turned into one that was exchanged
@@ -124,10 +99,8 @@ module _ (opening : Day) where
   reached_fresh [] r = tt
   reached_fresh (activity.Close d ∷ L) r = tt
   reached_fresh (activity.Exchange x ∷ L) r =
-      let J = journal opening L in
-      let fails = all_fail (rules opening J (activity.Exchange x)) (ap is_none r.1) in
-      let current = neither (is_retired J x.old) (is_retired J x.successor) fails.1.0 in
-      ((λ i. fails.1.1.0 i || unexchanged L x.successor current.1 i), reached_fresh L r.2)
+      let fails = all_fail (rules opening (journal opening L) (activity.Exchange x)) (ap is_none r.1) in
+      grind (arith, fails.1.0, fails.1.1.0, unexchanged L x.successor, reached_fresh L r.2)
   reached_fresh (x ∷ L) r = reached_fresh L r.2
 
   -- an exchange brings the successor the greatest age of the old issue, and no other issue any

@@ -1,5 +1,5 @@
 -- All places of some accounts in some issues, in the order of keys.
-use Rattle.std.proofs.Common.{◌≡◌, ◌∙◌, sym, ap, refl, Bool, true, false, ◌&&◌, ◌||◌, cond, eqb, List, [], ◌∷◌, ◌++◌, map, flat_map, Option, Some, None, bytes_eq, is_eq, is_lt, nat_cmp, Less, eqb-true}
+use Rattle.std.proofs.Common.{◌≡◌, ◌∙◌, sym, ap, refl, Bool, true, ◌&&◌, ◌||◌, cond, eqb, List, [], ◌∷◌, ◌++◌, map, flat_map, Some, None, bytes_eq, is_eq, is_lt, nat_cmp, Less, eqb-true}
 use Rattle.cns_terms.proofs.Common.{Account, Cusip, Key, above_all, and_left, and_right, below_all, both_true, bytes_eq-Decides, is_rising, is_sorted, key_cmp, less, list_any, nat_cmp_total, ordering_then, same_key, slice_cmp, tied_itself}
 use Rattle.std.specs.FinMap.{find}
 use Rattle.std.proofs.Common.{arith}
@@ -50,9 +50,6 @@ module _ {X : Type 0} (f : Key → X) where
   sorted_cells [] cs p q = refl
   sorted_cells (a ∷ bs) cs p q = sorted_append a cs bs cs (and_left _ _ p) (sorted_row a cs q) (sorted_cells bs cs (and_right _ _ p) q)
 
-  find_in : (b x y : Bool) (k k' : Key) → (b ≡ true → k' ≡ k) → b ≡ (x && y) → (rest : Bool) → cond b (Some (f k')) (cond (x && rest) (Some (f k)) None) ≡ cond (x && (y || rest)) (Some (f k)) None
-  find_in b x y k k' h1 h2 rest = grind arith
-
   tied : (k : Key) (a : Account) (c : Cusip) → is_eq (key_cmp k (key a c)) ≡ true → key a c ≡ k
   tied k a c h =
       let e = sym (same_key k (key a c)) ∙ h in
@@ -60,17 +57,11 @@ module _ {X : Type 0} (f : Key → X) where
 
   find_row : (k : Key) (a : Account) (cs : List Cusip) → find key_cmp k (cells_of f a cs) ≡ cond (eqb k.account a && list_any (λ c. bytes_eq k.issue c) cs) (Some (f k)) None
   find_row k a [] = grind arith
-  find_row k a (c ∷ cs) =
-      ap (cond (is_eq (key_cmp k (key a c))) (Some (f (key a c)))) (find_row k a cs)
-      ∙ find_in (is_eq (key_cmp k (key a c))) (eqb k.account a) (bytes_eq k.issue c) k (key a c) (tied k a c) (same_key k (key a c)) (list_any (λ c. bytes_eq k.issue c) cs)
-
-  first_step : (t b d : Bool) (k : Key) (x : X) (o o' : Option X) → (o ≡ cond b (Some (f k)) None → o' ≡ cond (b || d) (Some (f k)) None) → cond t (Some x) o ≡ cond b (Some (f k)) None → cond t (Some x) o' ≡ cond (b || d) (Some (f k)) None
-  first_step t b d k x o o' h1 h2 = grind arith
+  find_row k a (c ∷ cs) = grind (arith, tied k a c, same_key k (key a c), find_row k a cs)
 
   find_first : (k : Key) (es fs : List (Key × X)) (b d : Bool) → find key_cmp k es ≡ cond b (Some (f k)) None → find key_cmp k fs ≡ cond d (Some (f k)) None → find key_cmp k (es ++ fs) ≡ cond (b || d) (Some (f k)) None
-  find_first k [] fs true d p q = cc
-  find_first k [] fs false d p q = q
-  find_first k (e ∷ es) fs b d p q = first_step (is_eq (key_cmp k e.0)) b d k e.1 (find key_cmp k es) (find key_cmp k (es ++ fs)) (λ h. find_first k es fs b d h q) p
+  find_first k [] fs b d p q = grind arith
+  find_first k (e ∷ es) fs b d p q = grind (arith, find_first k es fs b d)
 
   either : (x y z : Bool) → ((x && z) || (y && z)) ≡ ((x || y) && z)
   either x y z = grind arith

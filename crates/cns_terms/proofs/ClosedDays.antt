@@ -1,5 +1,5 @@
 -- A closed day keeps its sheet.
-use Rattle.std.proofs.Common.{◌≡◌, ℕ, ◌≤◌, Bool, true, List, [], ◌∷◌, refl, sym, ◌∙◌, ap, subst, arith, cond, find, Option, Some, option_map}
+use Rattle.std.proofs.Common.{◌≡◌, ℕ, ◌≤◌, Bool, true, List, [], ◌∷◌, refl, sym, ◌∙◌, ap, subst, arith, find, Option, Some, option_map}
 use Rattle.cns_terms.proofs.Common.{AllByRecursion, Command, Day, DaySheet, IsWhole, Journal, State, after, at_close, closed_on, closes, day_sheet, journal_of, next, opened, rows_for, statement}
 use Rattle.cns_terms.specs.Laws.{ClosedDays}
 use Rattle.cns_terms.specs.Sheets.{sheet_at}
@@ -8,12 +8,9 @@ use Rattle.cns_terms.proofs.Sound.{opening_stays, whole-after, whole-next}
 -- ---- by date
 
 -- what is found passes the test, and what holds of each holds of it
-found_if : {X : Type 0} (P : X → Type 0) (t : X → Bool) (b : Bool) (y x : X) (o : Option X) → t y ≡ b → P y → (o ≡ Some x → P x × (t x ≡ true)) → cond b (Some y) o ≡ Some x → P x × (t x ≡ true)
-found_if P t b y x o h1 h2 h3 h4 = grind arith
-
 found : {X : Type 0} (P : X → Type 0) (t : X → Bool) (xs : List X) (x : X) → AllByRecursion P xs → find t xs ≡ Some x → P x × (t x ≡ true)
 found P t [] x a e = cc
-found P t (y ∷ ys) x a e = found_if P t (t y) y x (find t ys) refl a.0 (found P t ys x a.1) e
+found P t (y ∷ ys) x a e = grind (arith, found P t ys x a.1)
 
 -- ---- after commands
 

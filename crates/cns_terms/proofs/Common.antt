@@ -25,7 +25,7 @@ pub use Rattle.cns_terms.proofs.Accounts.{occurs, occurs_found, occurs_missing}
 pub use Rattle.cns_terms.proofs.BuyIns.{IsExecutable, executable}
 pub use Rattle.cns_terms.proofs.EntrySums.{IsBalanced}
 pub use Rattle.cns_terms.proofs.Everywhere.{each_append, each_both, each_filter, each_first, each_found, each_in_order, each_map, each_weaker}
-pub use Rattle.cns_terms.proofs.Facts.{and_false, and_left, and_right, both_true, bytes_refl, eqb_refl, eqb_sym, equal, holds, journal_len, less, map_each, neither, or_right, same_test, zero_add}
+pub use Rattle.cns_terms.proofs.Facts.{and_false, and_left, and_right, both_true, bytes_refl, eqb_refl, eqb_sym, equal, holds, journal_len, less, map_each, neither, same_test, zero_add}
 pub use Rattle.cns_terms.proofs.FillSums.{cents_of_fills, shares_of_fills}
 pub use Rattle.cns_terms.proofs.Finds.{find_below, find_filter, kept_if, next_above, same_lists, sorted_filter, sorted_from}
 pub use Rattle.cns_terms.proofs.Keys.{exact_keys, keys_total, same_key}

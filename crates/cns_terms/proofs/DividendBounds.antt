@@ -62,10 +62,7 @@ dividends_small opening K l closed few = omega (arith, corporation_small, member
     one a member = let small = member_small opening K closed a member l.whole.now.issues_rise l.rates in let none = dividends_few K in omega (arith, small, none, few)
 
     same : (a : Account) → 1 ≤ a → added (λ c. unsigned_abs (dividend opening K a c)) (issues K) ≤ account_limit
-    same a member = rw (other a member) (one a member)
-      where
-        other : (a : Account) → 1 ≤ a → (a == 0) ≡ false
-        other a h = grind (arith, nat_tests, h)
+    same a member = let other : (a == 0) ≡ false = grind (arith, nat_tests) in rw other (one a member)
 
     each : (P : Account → Type 0) → ((a : Account) → 1 ≤ a → P a) → AllByRecursion P (members K)
     each P h = each_weaker (λ a. 1 ≤ a) P (members K) h (members_from_one opening K l)

@@ -1,6 +1,6 @@
 -- A place at which nothing was booked has no row.
-use Rattle.std.proofs.Common.{◌≡◌, ◌∙◌, refl, ℕ, pos, ◌+ℤ◌, Bool, true, false, not, cond, ◌&&◌, ◌==◌, List, [], ◌∷◌, arith, bytes_eq}
-use Rattle.cns_terms.proofs.Common.{Account, AllByRecursion, Cusip, Day, Entry, IsSound, Journal, Key, accounts, as_of, bytes_eq-Decides, cents_for, closings, date, dividend, each_first, each_found, each_weaker, is_account, is_idle, is_listed, is_not_after, issues, last_close, list_any, money, nat_list_eq_equiv, neither, occurs, occurs_missing, row, same_issue, shares_for, total}
+use Rattle.std.proofs.Common.{◌≡◌, ◌∙◌, refl, ℕ, pos, ◌+ℤ◌, Bool, false, not, cond, ◌&&◌, ◌==◌, List, [], ◌∷◌, arith, bytes_eq}
+use Rattle.cns_terms.proofs.Common.{Account, AllByRecursion, Cusip, Day, Entry, IsSound, Journal, Key, accounts, as_of, bytes_eq-Decides, cents_for, closings, date, dividend, each_first, each_found, each_weaker, is_account, is_idle, is_listed, is_not_after, issues, last_close, list_any, money, nat_list_eq_equiv, occurs, occurs_missing, row, same_issue, shares_for, total}
 use Rattle.cns_terms.specs.Positions.{position}
 use Rattle.cns_terms.proofs.Paid.{no_dividend-account, no_dividend-issue}
 use Rattle.cns_terms.proofs.Sound.{AreOfListed}
@@ -73,12 +73,7 @@ no_issue_elsewhere J a c s none = each_weaker (λ p. AreOfListed J p.entries) (�
 
 -- at such a place the row says nothing
 by_place : (opening : Day) (J : Journal) (k : Key) (x y : Bool) → IsSound J → is_account J k.account ≡ x → is_listed J k.issue ≡ y → (x && y) ≡ false → not (is_idle (row opening J k.account k.issue)) ≡ false
-by_place opening J k false y s a l h =
-    let e = no_account_elsewhere J k.account k.issue s a in
-    idle_elsewhere opening J k.account k.issue e (no_dividend-account opening J k.issue k.account (neither _ _ a).0 (never_held opening k.account k.issue J e))
-by_place opening J k true false s a l h =
-    idle_elsewhere opening J k.account k.issue (no_issue_elsewhere J k.account k.issue s l) (no_dividend-issue opening J k.issue k.account (λ b. never_held opening b k.issue J (no_issue_elsewhere J b k.issue s l)))
-by_place opening J k true true s a l h = cc
+by_place opening J k x y s a l h = grind (arith, no_account_elsewhere J k.account k.issue s, no_issue_elsewhere J k.account k.issue s, idle_elsewhere opening J k.account k.issue, no_dividend-account opening J k.issue k.account, no_dividend-issue opening J k.issue k.account, never_held opening k.account k.issue J, (λ (b : Account). never_held opening b k.issue J), (λ (b : Account). no_issue_elsewhere J b k.issue s))
 
 -- a place of no account or of no listed issue has no row
 pub idle_at : (opening : Day) (J : Journal) (k : Key) → IsSound J → (is_account J k.account && list_any (λ c. bytes_eq k.issue c) (issues J)) ≡ false → not (is_idle (row opening J k.account k.issue)) ≡ false

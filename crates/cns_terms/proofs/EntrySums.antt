@@ -1,5 +1,5 @@
 -- Entries that add up to zero in each issue.
-use Rattle.std.proofs.Common.{◌≡◌, ℤ, pos, ◌+ℤ◌, neg_ℤ, Bool, true, false, cond, List, ◌++◌, map, arith}
+use Rattle.std.proofs.Common.{◌≡◌, ℤ, pos, ◌+ℤ◌, neg_ℤ, Bool, cond, List, ◌++◌, map, arith}
 use Rattle.cns_terms.specs.Common.{Account, Cusip, Entry, against_corporation, entry, same_issue, total}
 use Rattle.std.proofs.lemmas.Int.{ints}
 use Rattle.cns_terms.proofs.Totals.{total-append, total-map, total-zero}
@@ -19,8 +19,7 @@ pub record IsBalanced (es : List Entry) : Type 0 where
 
 -- numbers given in one issue, with the opposite of their sum
 opposed : (b : Bool) (f : Account → ℤ) (xs : List Account) → cond b (neg_ℤ (total f xs)) (pos 0) +ℤ total (λ a. cond b (f a) (pos 0)) xs ≡ pos 0
-opposed true f xs = omega (arith, ints)
-opposed false f xs = let e = total-zero xs in omega (arith, ints, e)
+opposed b f xs = grind (arith, ints, total-zero xs)
 
 -- an entry for each account in one issue
 abbrev pub entries_for : Cusip → (Account → ℤ) → (Account → ℤ) → List Account → List Entry

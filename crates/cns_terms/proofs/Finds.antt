@@ -25,34 +25,24 @@ module _ {K X : Type 0} {R : K → K → Ordering} (o : IsTotalOrder R) where
   find_below k (e ∷ es) b =
       ap (λ r. cond (is_eq r) (Some e.1) (find R k es)) (less _ (and_left _ _ b)) ∙ find_below k es (and_right _ _ b)
 
-  below_kept : (p : X → Bool) (k : K) (b : Bool) (e : K × X) (es : List (K × X)) → is_lt (R k e.0) ≡ true → below_all R k es ≡ true → below_all R k (cond b (e ∷ es) es) ≡ true
-  below_kept p k b e es h1 h2 = grind arith
-
   below_filter : (p : X → Bool) (k : K) (es : List (K × X)) → below_all R k es ≡ true → below_all R k (filter (λ e. p e.1) es) ≡ true
   below_filter p k [] b = refl
-  below_filter p k (e ∷ es) b = below_kept p k (p e.1) e (filter (λ e. p e.1) es) (and_left _ _ b) (below_filter p k es (and_right _ _ b))
-
-  sorted_kept : (b : Bool) (e : K × X) (es : List (K × X)) → below_all R e.0 es ≡ true → is_sorted R es ≡ true → is_sorted R (cond b (e ∷ es) es) ≡ true
-  sorted_kept b e es h1 h2 = grind arith
+  below_filter p k (e ∷ es) b = grind (arith, below_filter p k es)
 
   -- a filter keeps the order
   pub sorted_filter : (p : X → Bool) (es : List (K × X)) → is_sorted R es ≡ true → is_sorted R (filter (λ e. p e.1) es) ≡ true
   sorted_filter p [] s = refl
-  sorted_filter p (e ∷ es) s = sorted_kept (p e.1) e (filter (λ e. p e.1) es) (below_filter p e.0 es (and_left _ _ s)) (sorted_filter p es (and_right _ _ s))
+  sorted_filter p (e ∷ es) s = grind (arith, below_filter p e.0 es, sorted_filter p es)
 
   -- what ties with a key below all is below all
   pub tied_below : (q k : K) (es : List (K × X)) → R q k ≡ Equal → below_all R k es ≡ true → below_all R q es ≡ true
   tied_below q k [] t b = refl
   tied_below q k (e ∷ es) t b = both_true _ _ (ap is_lt (o.congr q k e.0 t) ∙ and_left _ _ b) (tied_below q k es t (and_right _ _ b))
 
-  find_kept : (p : X → Bool) (q : K) (b : Bool) (e : K × X) (es : List (K × X)) (r : Ordering) → R q e.0 ≡ r → p e.1 ≡ b → below_all R e.0 es ≡ true → find R q (filter (λ e. p e.1) es) ≡ kept_if p (find R q es)
-      → find R q (cond b (e ∷ filter (λ e. p e.1) es) (filter (λ e. p e.1) es)) ≡ kept_if p (cond (is_eq r) (Some e.1) (find R q es))
-  find_kept p q b e es r h1 h2 h3 h4 = grind (arith, find_below)
-
   -- a search in what a filter keeps
   pub find_filter : (p : X → Bool) (q : K) (es : List (K × X)) → is_sorted R es ≡ true → find R q (filter (λ e. p e.1) es) ≡ kept_if p (find R q es)
   find_filter p q [] s = refl
-  find_filter p q (e ∷ es) s = find_kept p q (p e.1) e es (R q e.0) refl refl (and_left _ _ s) (find_filter p q es (and_right _ _ s))
+  find_filter p q (e ∷ es) s = grind (arith, tied_below q e.0 es, find_below q es, find_filter p q es)
 
   -- two lists in order that answer alike are the same
   pub same_lists : IsAntisymmetric R → (es fs : List (K × X)) → is_sorted R es ≡ true → is_sorted R fs ≡ true → ((q : K) → find R q es ≡ find R q fs) → es ≡ fs
@@ -63,13 +53,10 @@ module _ {K X : Type 0} {R : K → K → Ordering} (o : IsTotalOrder R) where
       ∙ ap entries (same_map o a m n (λ q. get-from_sorted R es q (as_T _ s) ∙ h q ∙ sym (get-from_sorted R fs q (as_T _ t))))
       ∙ entries-from_sorted R fs (as_T _ t)
 
-  less_above : (k : K) (b : Bool) (x : K × X) (xs es : List (K × X)) (e : K × X) (rest : List (K × X)) → R k x.0 ≡ Less → ((e : K × X) (rest : List (K × X)) → es ≡ e ∷ rest → R k e.0 ≡ Less) → cond b (x ∷ es) es ≡ e ∷ rest → R k e.0 ≡ Less
-  less_above k b x xs es e rest h1 h2 h3 = grind arith
-
   -- what a filter keeps first lies above what lies below all
   first_above : (t : K → Bool) (k : K) (xs : List (K × X)) (e : K × X) (rest : List (K × X)) → below_all R k xs ≡ true → filter (λ x. t x.0) xs ≡ e ∷ rest → R k e.0 ≡ Less
   first_above t k [] e rest b h = cc
-  first_above t k (x ∷ xs) e rest b h = less_above k (t x.0) x xs (filter (λ x. t x.0) xs) e rest (less _ (and_left _ _ b)) (λ e rest h. first_above t k xs e rest (and_right _ _ b) h) h
+  first_above t k (x ∷ xs) e rest b h = grind (arith, first_above t k xs e rest)
 
   all_above : (t : K → Bool) (k : K) (xs : List (K × X)) → ((q : K) → R k q ≡ Less → t q ≡ true) → below_all R k xs ≡ true → filter (λ x. t x.0) xs ≡ xs
   all_above t k [] later b = refl
@@ -79,21 +66,7 @@ module _ {K X : Type 0} {R : K → K → Ordering} (o : IsTotalOrder R) where
       → (filter (λ y. t y.0) xs ≡ e ∷ rest → filter (λ y. is_lt (R e.0 y.0)) xs ≡ rest)
       → cond b (x ∷ filter (λ y. t y.0) xs) (filter (λ y. t y.0) xs) ≡ e ∷ rest
       → cond (is_lt (R e.0 x.0)) (x ∷ filter (λ y. is_lt (R e.0 y.0)) xs) (filter (λ y. is_lt (R e.0 y.0)) xs) ≡ rest
-  next_branch t true x xs e rest p up b more h =
-      let same : x ≡ e = head h in
-      let tail_is : filter (λ y. t y.0) xs ≡ rest = tail h in
-      let here : is_lt (R e.0 x.0) ≡ false = ap (λ q. is_lt (R e.0 q.0)) same ∙ not_itself o e.0 in
-      ap (λ c. cond c (x ∷ filter (λ y. is_lt (R e.0 y.0)) xs) (filter (λ y. is_lt (R e.0 y.0)) xs)) here
-      ∙ ap (λ q. filter (λ y. is_lt (R q.0 y.0)) xs) (sym same)
-      ∙ all_above (λ q. is_lt (R x.0 q)) x.0 xs (λ q l. ap is_lt l) b
-      ∙ sym (all_above t x.0 xs (λ q l. up x.0 q p l) b)
-      ∙ tail_is
-    where
-      head : x ∷ filter (λ y. t y.0) xs ≡ e ∷ rest → x ≡ e
-      head h = cc
-
-      tail : x ∷ filter (λ y. t y.0) xs ≡ e ∷ rest → filter (λ y. t y.0) xs ≡ rest
-      tail h = cc
+  next_branch t true x xs e rest p up b more h = grind (arith, not_itself o x.0, all_above (λ q. is_lt (R x.0 q)) x.0 xs (λ q l. ap is_lt l) b, all_above t x.0 xs (λ q l. up x.0 q p l) b)
   next_branch t false x xs e rest p up b more h = grind (arith, first_above)
 
   -- past the first that a rising test keeps, the rest are those above it

@@ -1,6 +1,6 @@
 -- One accepted activity keeps positions and cents within their limits.
-use Rattle.std.proofs.Common.{◌≡◌, ◌∙◌, ap, sym, subst, refl, ℕ, ◌+◌, ◌*◌, ◌≤◌, ℤ, pos, ◌+ℤ◌, ◌-ℤ◌, ◌*ℤ◌, neg_ℤ, Bool, true, false, not, ◌&&◌, ◌||◌, ◌==◌, cond, List, [], ◌∷◌, length, map, Option, Some, None, ◌⊎◌, inl, inr, arith, IfSome, int_eq, bytes_eq, int_le, nat_lt, unsigned_abs, mul-le-mul_left, mul-le-mul_right}
-use Rattle.cns_terms.specs.Common.{Account, Activity, AllByRecursion, Cusip, Day, Entry, Execution, IsInRange, Journal, Notice, Pend, Posting, Price, Ratio, against_corporation, booking_limit, bought_in, cents_for, converted, corporation, date, entries, entry, execution_entries, holders, in_exchange, in_lieu, is_beyond, is_exceeded, is_not_after, is_too_large, is_too_large_at, list_any, long, member_limit, members, money, money_limit, moved_in, moved_out, new_entry, notice_at, old_entry, open_day, option_map_or, pend_of, pending, position_limit, posting, price_limit, shares_for, short, sold_in, total, trade_entries}
+use Rattle.std.proofs.Common.{◌≡◌, refl, ℕ, ◌+◌, ◌*◌, ◌≤◌, ℤ, pos, ◌+ℤ◌, ◌-ℤ◌, ◌*ℤ◌, neg_ℤ, Bool, true, false, not, ◌&&◌, ◌==◌, cond, List, [], ◌∷◌, length, map, Option, Some, None, ◌⊎◌, inr, arith, IfSome, int_eq, bytes_eq, int_le, nat_lt, unsigned_abs, mul-le-mul_left, mul-le-mul_right}
+use Rattle.cns_terms.specs.Common.{Account, Activity, AllByRecursion, Cusip, Day, Entry, Execution, IsInRange, Journal, Notice, Pend, Posting, Price, Ratio, against_corporation, booking_limit, bought_in, cents_for, converted, corporation, date, entries, entry, execution_entries, holders, in_exchange, in_lieu, is_beyond, is_exceeded, is_not_after, is_too_large, list_any, member_limit, members, money, money_limit, moved_in, moved_out, new_entry, notice_at, old_entry, open_day, option_map_or, pend_of, pending, position_limit, posting, price_limit, shares_for, short, sold_in, total, trade_entries}
 use Rattle.std.proofs.lemmas.Bool.Decides.{nat_tests}
 use Rattle.std.proofs.lemmas.Int.{ints, unsigned_abs-mul}
 use Rattle.std.proofs.lemmas.Slice.Eq.{bytes_eq-Decides}
@@ -12,11 +12,10 @@ use Rattle.cns_terms.specs.Reached.{IsRatio}
 use Rattle.cns_terms.specs.Positions.{position}
 use Rattle.cns_terms.specs.Refusals.{places, rules}
 use Rattle.cns_terms.proofs.BuyIns.{IsExecutable, executable, executed_closer, execution_cents}
-use Rattle.cns_terms.proofs.Closer.{IsCloser, as_close, off_long, off_short}
+use Rattle.cns_terms.proofs.Closer.{IsCloser, as_close}
 use Rattle.cns_terms.proofs.EntrySums.{entries_for}
 use Rattle.cns_terms.specs.declared.command.Activity.TheVariants as activity
 use Rattle.cns_terms.proofs.Everywhere.{each_found, each_weaker}
-use Rattle.cns_terms.proofs.Facts.{neither}
 use Rattle.cns_terms.proofs.Magnitudes.{added, added-append, added-each, added-filter, added-map, added-more, magnitude, total_small}
 use Rattle.cns_terms.proofs.Quotients.{fraction_few, quotient_few}
 use Rattle.cns_terms.proofs.Sound.{IsWhole, NoneHolds, all_fail}
@@ -60,23 +59,14 @@ not_beyond a q b s h m = grind arith
 -- entries of other places book nothing at a place
 none_there : (a : Account) (c : Cusip) (es : List Entry) → list_any (is_of a c) es ≡ false → total (shares_for a c) es ≡ pos 0
 none_there a c [] h = refl
-none_there a c (e ∷ es) h =
-    let both = neither (is_of a c e) (list_any (is_of a c) es) h in
-    rw (both.0, none_there a c es both.1) refl
+none_there a c (e ∷ es) h = grind (arith, none_there a c es)
 
 -- where no entry's place is beyond the limits, a member is within them at a place, or no entry is there
 within_or_none : (T : Account → Cusip → ℤ) (B S : Account → Cusip → ℕ) (a : Account) (c : Cusip) (es : List Entry) → 1 ≤ a
     → list_any (λ e. nat_lt corporation e.account && is_beyond (T e.account e.issue) (B e.account e.issue) (S e.account e.issue)) es ≡ false
     → IsWithin (T a c) (B a c) (S a c) ⊎ (list_any (is_of a c) es ≡ false)
 within_or_none T B S a c [] m h = inr refl
-within_or_none T B S a c (e ∷ es) m h =
-    let both = neither (nat_lt corporation e.account && is_beyond (T e.account e.issue) (B e.account e.issue) (S e.account e.issue)) _ h in
-    here (is_of a c e) refl both.0 (within_or_none T B S a c es m both.1)
-  where
-    here : (t : Bool) → is_of a c e ≡ t → (nat_lt corporation e.account && is_beyond (T e.account e.issue) (B e.account e.issue) (S e.account e.issue)) ≡ false → IsWithin (T a c) (B a c) (S a c) ⊎ (list_any (is_of a c) es ≡ false) → IsWithin (T a c) (B a c) (S a c) ⊎ (list_any (is_of a c) (e ∷ es) ≡ false)
-    here true is fails rest = inl (not_beyond a (T a c) (B a c) (S a c) (at_place (λ b d. (nat_lt corporation b && is_beyond (T b d) (B b d) (S b d)) ≡ false) a c e is fails) m)
-    here false is fails (inl w) = inl w
-    here false is fails (inr z) = inr (ap (λ b. b || list_any (is_of a c) es) is ∙ z)
+within_or_none T B S a c (e ∷ es) m h = grind (arith, not_beyond a (T a c) (B a c) (S a c), at_place (λ b d. (nat_lt corporation b && is_beyond (T b d) (B b d) (S b d)) ≡ false) a c e, within_or_none T B S a c es m)
 
 -- ---- activities that are looked at as a whole
 
@@ -85,11 +75,7 @@ within-whole : (opening : Day) (J : Journal) (x : Activity) → places opening J
 within-whole opening J x all still fails w a c m =
     let ps = pending opening (posting opening J x ∷ J) in
     let es = entries opening J x in
-    elim (within_or_none (λ a c. total (shares_for a c) es +ℤ position J a c) (bought_in ps) (sold_in ps) a c es m (ap (list_any (is_too_large_at (position J) ps es)) (sym all) ∙ fails)) [
-      | inl h ↦ h
-      | inr z ↦ subst (λ qs. IsWithin (total (shares_for a c) es +ℤ position J a c) (bought_in qs a c) (sold_in qs a c)) (sym still)
-          (nothing (total (shares_for a c) es) (position J a c) _ _ (none_there a c es z) (w a c m))
-    ]
+    grind (arith, within_or_none (λ a c. total (shares_for a c) es +ℤ position J a c) (bought_in ps) (sold_in ps) a c es m, all, fails, still, none_there a c es, w a c m)
 
 -- a trade that waits elsewhere changes nothing at a place
 waits_elsewhere : (p : Pend) (ps : List Pend) (a : Account) (c : Cusip) → list_any (is_of a c) (trade_entries p) ≡ false → (bought_in (p ∷ ps) a c ≡ bought_in ps a c) × (sold_in (p ∷ ps) a c ≡ sold_in ps a c)
@@ -102,18 +88,12 @@ within-trade opening J t fails w a c m =
     let x : Activity = activity.Trade t in
     let ps = pending opening (posting opening J x ∷ J) in
     let es = entries opening J x in
-    elim (within_or_none (λ a c. total (shares_for a c) es +ℤ position J a c) (bought_in ps) (sold_in ps) a c (trade_entries p) m fails) [
-      | inl h ↦ h
-      | inr z ↦ elsewhere (is_due (date opening J) p) z
-    ]
+    grind (arith, within_or_none (λ a c. total (shares_for a c) es +ℤ position J a c) (bought_in ps) (sold_in ps) a c (trade_entries p) m fails, elsewhere (is_due (date opening J) p))
   where
     elsewhere : (b : Bool) → list_any (is_of a c) (trade_entries (pend_of t)) ≡ false
         → IsWithin (total (shares_for a c) (cond b (trade_entries (pend_of t)) []) +ℤ position J a c)
         (bought_in (cond (not b) (pend_of t ∷ pending opening J) (pending opening J)) a c) (sold_in (cond (not b) (pend_of t ∷ pending opening J) (pending opening J)) a c)
-    elsewhere true z = nothing _ (position J a c) _ _ (none_there a c (trade_entries (pend_of t)) z) (w a c m)
-    elsewhere false z =
-        let same = waits_elsewhere (pend_of t) (pending opening J) a c z in
-        rw (same.0, same.1) (nothing (pos 0) (position J a c) _ _ refl (w a c m))
+    elsewhere b z = grind (arith, none_there a c (trade_entries (pend_of t)) z, waits_elsewhere (pend_of t) (pending opening J) a c z, w a c m)
 
 -- ---- a movement
 
@@ -121,37 +101,17 @@ within-trade opening J t fails w a c m =
 apart : (a : Account) → 1 ≤ a → (corporation == a) ≡ false
 apart a h = grind (arith, nat_tests)
 
--- no more shares than a position is short
-few_short : (q : ℤ) (n : ℕ) → nat_lt (short q) n ≡ false → n ≤ short q
-few_short q n h = grind (arith, nat_tests)
-
--- no more than it is long
-few_long : (q : ℤ) (n : ℕ) → is_exceeded q n ≡ false → int_le q (pos 0) ≡ false → n ≤ long q
-few_long q n h1 h2 = grind arith
-
--- a movement brings a position closer to zero, where it does so at the member's place
-moved_if : (t : Bool) (s q : ℤ) → (t ≡ true → IsCloser (q +ℤ s) q) → IsCloser ((cond t s (pos 0) +ℤ (pos 0 +ℤ pos 0)) +ℤ q) q
-moved_if t s q h1 = grind arith
-
 -- a delivery keeps each member within its limits
 within-deliver : (opening : Day) (J : Journal) (m : Movement) → NoneHolds (rules opening J (activity.Deliver m)) → AreWithin opening J → AreWithin opening (posting opening J (activity.Deliver m) ∷ J)
 within-deliver opening J m h w a c n =
     let fails = (all_fail (rules opening J (activity.Deliver m)) h).1.1.1 in
-    let e = moved_in m.member m in
-    let q : ℤ = position J a c in
-    rw (apart a n)
-    (closer_within _ q _ _ (moved_if (is_of a c e) e.shares q (λ here. off_short _ q m.shares refl (few_short q m.shares (at_place (λ b d. nat_lt (short (position J b d)) m.shares ≡ false) a c e here fails.0)))) (w a c n))
+    grind (arith, nat_tests, at_place (λ b d. nat_lt (short (position J b d)) m.shares ≡ false) a c (moved_in m.member m), fails.0, w a c n)
 
 -- and so does a receipt
 within-receive : (opening : Day) (J : Journal) (m : Movement) → NoneHolds (rules opening J (activity.Receive m)) → AreWithin opening J → AreWithin opening (posting opening J (activity.Receive m) ∷ J)
 within-receive opening J m h w a c n =
     let fails = (all_fail (rules opening J (activity.Receive m)) h).1.1.1 in
-    let e = moved_out m.member m in
-    let q : ℤ = position J a c in
-    rw (apart a n)
-    (closer_within _ q _ _ (moved_if (is_of a c e) e.shares q (λ here. off_long _ q m.shares refl (few_long q m.shares
-    (at_place (λ b d. is_exceeded (position J b d) m.shares ≡ false) a c e here fails.0)
-    (at_place (λ b d. int_le (position J b d) (pos 0) ≡ false) a c e here fails.1.1.0)))) (w a c n))
+    grind (arith, nat_tests, at_place (λ b d. is_exceeded (position J b d) m.shares ≡ false) a c (moved_out m.member m), at_place (λ b d. int_le (position J b d) (pos 0) ≡ false) a c (moved_out m.member m), fails.0, fails.1.1.0, w a c n)
 
 -- ---- an execution
 
@@ -162,8 +122,6 @@ ready opening J x h = let fails = all_fail (rules opening J (activity.Execute x)
 -- an execution keeps each member within its limits
 within-execute : (opening : Day) (J : Journal) (x : Execution) → IsWhole opening J → AreWithin opening J → (o : Option Notice) → IfSome o (IsExecutable J x) → (a : Account) (c : Cusip) → 1 ≤ a → IsWithin (total (shares_for a c) (option_map_or (execution_entries J x) o []) +ℤ position J a c) (bought_in (pending opening J) a c) (sold_in (pending opening J) a c)
 within-execute opening J x h1 h2 o h3 a c h4 = grind (arith, executed_closer, each_found)
-
--- ---- a close
 
 -- ---- one more activity
 
@@ -268,7 +226,6 @@ booked_few opening J (activity.Exchange x) r h are =
     (against_few J x.successor x.old (λ a. converted x.ratio (q a)) (in_exchange x.ratio x.lieu x.cash) holder_limit are (λ z w. exchange_few x.ratio x.lieu x.cash z r.0 r.1 r.2 w)))
 booked_few opening J (activity.Execute x) r h are = with_waiting _ (waiting_cents opening J) (execution_few J x (notice_at J x.notice) r.0 r.2 (ready opening J x h))
 booked_few opening J (activity.Close d) r h are = grind (arith, all_fail, booked_cents, settled)
-booked_few opening J (activity.Notice m) r h are = with_waiting 0 (waiting_cents opening J) (omega arith)
 booked_few opening J _ r h are = with_waiting 0 (waiting_cents opening J) (omega arith)
 
 -- the open day's cents are among the journal's

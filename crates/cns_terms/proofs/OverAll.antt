@@ -1,9 +1,8 @@
 -- A number for each account in each issue.
-use Rattle.std.proofs.Common.{◌≡◌, ◌∙◌, ap, refl, sym, ℕ, ◌+◌, ◌≤◌, ℤ, pos, Bool, true, false, ◌&&◌, cond, List, [], ◌∷◌, arith, is_eq, is_lt, nat_cmp, Ordering, bytes_eq, unsigned_abs}
+use Rattle.std.proofs.Common.{◌≡◌, refl, ℕ, ◌+◌, ◌≤◌, ℤ, pos, Bool, true, ◌&&◌, cond, List, [], ◌∷◌, arith, nat_cmp, bytes_eq, unsigned_abs}
 use Rattle.cns_terms.specs.Common.{Account, Cusip, Journal, accounts, issues, slice_cmp}
 use Rattle.std.proofs.lemmas.Map.Text.{is_eq-slice_cmp}
 use Rattle.std.proofs.lemmas.Slice.Eq.{bytes_eq-Decides}
-use Rattle.cns_terms.proofs.Facts.{and_left, and_right}
 use Rattle.cns_terms.proofs.Magnitudes.{added, added-add, added-more}
 use Rattle.cns_terms.proofs.Rising.{above_all, is_rising}
 
@@ -26,30 +25,12 @@ over_add g h K =
 
 -- ---- a number of one issue
 
--- what comes before another is not the same
-not_same : (r : Ordering) → is_lt r ≡ true → is_eq r ≡ false
-not_same r h1 = grind arith
-
--- an issue's number, where its issue is none of those
-no_term : (b t : Bool) (z : ℤ) (n : ℕ) → t ≡ false → n ≡ 0 → unsigned_abs (cond (b && t) z (pos 0)) + n ≡ 0
-no_term b t z n h1 h2 = grind arith
-
 -- a number given to an issue is given to none of the issues after it
 none_above : (b : Bool) (i c : Cusip) (z : ℤ) (cs : List Cusip) → i ≡ c → above_all (slice_cmp nat_cmp) c cs ≡ true → added (λ d. unsigned_abs (cond (b && bytes_eq i d) z (pos 0))) cs ≡ 0
 none_above b i c z [] e h = refl
-none_above b i c z (d ∷ cs) e h =
-    no_term b (bytes_eq i d) z (added (λ d. unsigned_abs (cond (b && bytes_eq i d) z (pos 0))) cs)
-    (ap (λ j. bytes_eq j d) e ∙ sym (is_eq-slice_cmp c d) ∙ not_same (slice_cmp nat_cmp c d) (and_left _ _ h))
-    (none_above b i c z cs e (and_right _ _ h))
-
--- a number given to one issue, with what is given to those after it
-one_term : (b t : Bool) (z : ℤ) (n : ℕ) → (t ≡ true → n ≡ 0) → n ≤ unsigned_abs z → unsigned_abs (cond (b && t) z (pos 0)) + n ≤ unsigned_abs z
-one_term b t z n h1 h2 = grind arith
+none_above b i c z (d ∷ cs) e h = grind (arith, is_eq-slice_cmp c d, none_above b i c z cs)
 
 -- a number given to one of the issues
 pub one_issue : (b : Bool) (i : Cusip) (z : ℤ) (cs : List Cusip) → is_rising (slice_cmp nat_cmp) cs ≡ true → added (λ c. unsigned_abs (cond (b && bytes_eq i c) z (pos 0))) cs ≤ unsigned_abs z
 one_issue b i z [] h = omega arith
-one_issue b i z (c ∷ cs) h =
-    one_term b (bytes_eq i c) z (added (λ d. unsigned_abs (cond (b && bytes_eq i d) z (pos 0))) cs)
-    (λ e. none_above b i c z cs ((bytes_eq-Decides i c).0 e) (and_left _ _ h))
-    (one_issue b i z cs (and_right _ _ h))
+one_issue b i z (c ∷ cs) h = grind (arith, bytes_eq-Decides i c, none_above b i c z cs, one_issue b i z cs)

@@ -1,6 +1,6 @@
 -- The sheets of closed days add up to zero.
 use Rattle.std.proofs.Common.{◌≡◌, ℤ, pos, ◌+ℤ◌, Bool, false, not, cond, ◌==◌, unwrap_or, Option, Some, None, List, [], ◌∷◌, map, filter, flat_map, refl, ◌∙◌, ap, subst, arith, option_map}
-use Rattle.cns_terms.specs.Common.{Account, Cusip, Day, DaySheet, Journal, Row, accounts, at_close, closed_on, closings, date, day, day_sheet, dividend, is_idle, is_same_day, issues, journal, last_close, mark, open_day, price, row, rows_of, total}
+use Rattle.cns_terms.specs.Common.{Account, Cusip, Day, DaySheet, Journal, Row, accounts, at_close, closed_on, closings, date, day, day_sheet, dividend, is_idle, is_same_day, issues, journal, last_close, mark, open_day, row, rows_of, total}
 use lib.IntN.{zero-*ℤ}
 use Rattle.cns_terms.specs.Laws.{AddsUpToZero, Positions, ZeroSums}
 use Rattle.cns_terms.proofs.Paid.{dividends_zero}
@@ -21,18 +21,14 @@ pub idle_parts : (r : Row) → not (is_idle r) ≡ false → (r.opening ≡ pos 
 idle_parts r h1 = grind arith
 
 no_mark : (opening : Day) (K : Journal) (a : Account) (c : Cusip) → not (is_idle (row opening K a c)) ≡ false → mark K a c ≡ pos 0
-no_mark opening K a c h =
-    let p = idle_parts (row opening K a c) h in
-    rw (p.0, p.1, p.2, zero-*ℤ (pos (price K c)), zero-*ℤ (pos (price (last_close K) c))) refl
+no_mark opening K a c h = grind (arith, idle_parts (row opening K a c) h, zero-*ℤ)
 
 no_dividend : (opening : Day) (K : Journal) (a : Account) (c : Cusip) → not (is_idle (row opening K a c)) ≡ false → dividend opening K a c ≡ pos 0
 no_dividend opening K a c h = (idle_parts (row opening K a c) h).3
 
 marks_of_rows : (opening : Day) (K : Journal) (a : Account) (cs : List Cusip) → total (λ r. r.mark) (filter (λ r. not (is_idle r)) (map (row opening K a) cs)) ≡ total (λ c. mark K a c) cs
 marks_of_rows opening K a [] = refl
-marks_of_rows opening K a (c ∷ cs) =
-    kept_or_not (λ (r : Row). r.mark) (not (is_idle (row opening K a c))) (row opening K a c) (filter (λ r. not (is_idle r)) (map (row opening K a) cs)) (no_mark opening K a c)
-    ∙ ap (λ n. mark K a c +ℤ n) (marks_of_rows opening K a cs)
+marks_of_rows opening K a (c ∷ cs) = grind (arith, no_mark opening K a c, marks_of_rows opening K a cs)
 
 -- the dividends of an account over its rows are those over all issues
 dividends_of_rows : (opening : Day) (K : Journal) (a : Account) (cs : List Cusip) → total (λ r. r.dividend) (filter (λ r. not (is_idle r)) (map (row opening K a) cs)) ≡ total (λ c. dividend opening K a c) cs

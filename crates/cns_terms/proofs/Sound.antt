@@ -1,6 +1,6 @@
 -- What accepted commands keep true of the journal.
-use Rattle.std.proofs.Common.{◌≡◌, ℕ, ◌+◌, ◌≤◌, ℤ, pos, ◌-ℤ◌, neg_ℤ, Bool, true, false, not, cond, ◌&&◌, ◌==◌, List, [], ◌∷◌, length, map, is_none, Option, Some, None, flat_map, refl, ◌∙◌, arith, IfSome, int_lt, is_lt, nat_cmp}
-use Rattle.cns_terms.specs.Common.{Account, Activity, AllByRecursion, Command, Cusip, Day, Entry, Execution, Journal, Notice, Pend, Posting, Rule, State, accounts, after, against_corporation, at_close, closings, converted, corporation, date, day, day_number, entries, entry, execution_entries, fill_entry, fills, first_refusal, holders, in_exchange, in_lieu, is_listed, is_member, is_not_after, issues, journal_of, last_close, list_any, members, new_entry, next, notice, notice_at, notices, old_entry, opened, option_map_or, pend_of, posting, price, slice_cmp, trade_entries, trades}
+use Rattle.std.proofs.Common.{◌≡◌, ℕ, ◌+◌, ◌≤◌, ℤ, pos, ◌-ℤ◌, neg_ℤ, Bool, true, false, not, ◌&&◌, ◌==◌, List, [], ◌∷◌, length, map, is_none, Option, Some, None, flat_map, refl, ◌∙◌, arith, IfSome, int_lt, is_lt, nat_cmp}
+use Rattle.cns_terms.specs.Common.{Account, Activity, AllByRecursion, Command, Cusip, Day, Entry, Execution, Journal, Notice, Pend, Posting, Rule, State, accounts, after, against_corporation, at_close, closings, converted, corporation, date, day, day_number, entries, entry, execution_entries, fill_entry, fills, first_refusal, holders, in_exchange, in_lieu, is_listed, is_member, issues, journal_of, last_close, list_any, members, new_entry, next, notice, notice_at, notices, old_entry, opened, option_map_or, posting, price, slice_cmp, trade_entries, trades}
 use Rattle.std.proofs.lemmas.Bool.Decides.{nat_tests}
 use Rattle.std.proofs.lemmas.Bool.{not-false}
 use Rattle.std.proofs.lemmas.Slice.Eq.{bytes_eq-Decides}
@@ -65,13 +65,10 @@ sound_nil = grind arith
 abbrev pub NoneHolds : List Rule → Type 0
 NoneHolds rs = is_none (first_refusal rs) ≡ true
 
-first_fails : (r : Rule) (rs : List Rule) → NoneHolds (r ∷ rs) → (r.1 ≡ false) × NoneHolds rs
-first_fails r rs h1 = grind arith
-
 -- of an activity that is not refused, no rule's condition holds
 pub all_fail : (rs : List Rule) → NoneHolds rs → AllByRecursion (λ (r : Rule). r.1 ≡ false) rs
 all_fail [] h = tt
-all_fail (r ∷ rs) h = let e = first_fails r rs h in (e.0, all_fail rs e.1)
+all_fail (r ∷ rs) h = grind (arith, all_fail rs)
 
 pub both_hold : (x y : Bool) → not (x && y) ≡ false → (x ≡ true) × (y ≡ true)
 both_hold x y h1 = grind arith
@@ -124,29 +121,15 @@ executed_known : (J : Journal) (x : Execution) (o : Option Notice) → IfSome o 
 executed_known J x None h = tt
 executed_known J x (Some k) h = (h, each_map (IsKnown J) (fill_entry k) (fills J x k) (each_weaker (λ f. IsIn J f.member) (λ f. IsIn J f.member × (is_listed J k.given.issue ≡ true)) (fills J x k) (λ f p. (p, h.1)) (fills_each (IsIn J) J x k (closed_in J k.given.day))))
 
--- what holds of each of the entries of a trade, whether it books now or later
-now_or_later : (P : Entry → Type 0) (b : Bool) (p : Pend) → AllByRecursion P (trade_entries p) → AllByRecursion P (cond b (trade_entries p) [])
-now_or_later P b p h1 = grind arith
-
 -- what holds of the entries of each trade holds of all of them
 booked_each : (P : Entry → Type 0) (ps : List Pend) → AllByRecursion (λ p. AllByRecursion P (trade_entries p)) ps → AllByRecursion P (flat_map trade_entries ps)
 booked_each P [] h = tt
 booked_each P (p ∷ ps) h = each_append P (trade_entries p) (flat_map trade_entries ps) h.0 (booked_each P ps h.1)
 
 entries_known : (opening : Day) (J : Journal) (x : Activity) → IsSound J → NoneHolds (rules opening J x) → AreKnownEntries J (entries opening J x)
-entries_known opening J (activity.Trade t) s h =
-    let fails = all_fail (rules opening J (activity.Trade t)) h in
-    let both = both_hold (is_member J t.buyer) (is_member J t.seller) fails.0 in
-    let listed = not-false (is_listed J t.issue) fails.1.0 in
-    now_or_later (IsKnown J) (is_not_after t.date (date opening J)) (pend_of t) ((member_in J t.buyer both.0, listed), ((member_in J t.seller both.1, listed), tt))
-entries_known opening J (activity.Deliver m) s h =
-    let fails = all_fail (rules opening J (activity.Deliver m)) h in
-    let listed = not-false (is_listed J m.issue) fails.1.0 in
-    ((member_in J m.member (not-false (is_member J m.member) fails.0), listed), ((zero_in J, listed), tt))
-entries_known opening J (activity.Receive m) s h =
-    let fails = all_fail (rules opening J (activity.Receive m)) h in
-    let listed = not-false (is_listed J m.issue) fails.1.0 in
-    ((member_in J m.member (not-false (is_member J m.member) fails.0), listed), ((zero_in J, listed), tt))
+entries_known opening J (activity.Trade t) s h = grind (arith, h, member_in J t.buyer, member_in J t.seller)
+entries_known opening J (activity.Deliver m) s h = grind (arith, h, member_in J m.member, zero_in J)
+entries_known opening J (activity.Receive m) s h = grind (arith, h, member_in J m.member, zero_in J)
 entries_known opening J (activity.Split s) w h =
     let q : Account → ℤ = λ a. position J a s.issue in
     against_known J s.issue (λ a. converted s.ratio (q a) -ℤ q a) (λ a. in_lieu s.ratio s.lieu (q a)) q (not-false (is_listed J s.issue) (all_fail (rules opening J (activity.Split s)) h).0)
@@ -214,34 +197,17 @@ still_noticed opening J x s = each_weaker (IsNoticed J) (IsNoticed (posting open
 noticed-post : (opening : Day) (J : Journal) (x : Activity) → IsSound J → NoneHolds (rules opening J x) → AllByRecursion (IsNoticed (posting opening J x ∷ J)) (notices (posting opening J x ∷ J))
 noticed-post opening J (activity.Notice m) s h =
     let x : Activity = activity.Notice m in
-    let fails = all_fail (rules opening J x) h in
-    let member = member_in J m.member (not-false (is_member J m.member) fails.0) in
-    each_append (IsNoticed (posting opening J x ∷ J)) (notices J) (notice (length (notices J) + 1) (day J) m ∷ []) (still_noticed opening J x s)
-    ((omega (arith, member, grown-post (posting opening J x) J m.member), listed-post opening J x m.issue (not-false (is_listed J m.issue) fails.1.0)), tt)
+    grind (arith, h, each_append (IsNoticed (posting opening J x ∷ J)) (notices J) (notice (length (notices J) + 1) (day J) m ∷ []), still_noticed opening J x s, member_in J m.member, grown-post (posting opening J x) J m.member, listed-post opening J x m.issue)
 noticed-post opening J x s h = still_noticed opening J x s
 
 -- trades stay as they were made
 still_traded : (opening : Day) (J : Journal) (x : Activity) → IsSound J → AllByRecursion (IsTraded (posting opening J x ∷ J)) (trades J)
-still_traded opening J x s = each_weaker (IsTraded J) (IsTraded (posting opening J x ∷ J)) (trades J) (λ p k. record {
-  buyer = omega (arith, k.buyer, grown-post (posting opening J x) J p.buyer);
-  seller = omega (arith, k.seller, grown-post (posting opening J x) J p.seller);
-  listed = listed-post opening J x p.issue k.listed;
-}) s.traded
+still_traded opening J x s = each_weaker (IsTraded J) (IsTraded (posting opening J x ∷ J)) (trades J) (λ p k. grind (arith, k, grown-post (posting opening J x) J p.buyer, grown-post (posting opening J x) J p.seller, listed-post opening J x p.issue)) s.traded
 
 traded-post : (opening : Day) (J : Journal) (x : Activity) → IsSound J → NoneHolds (rules opening J x) → AllByRecursion (IsTraded (posting opening J x ∷ J)) (trades (posting opening J x ∷ J))
 traded-post opening J (activity.Trade t) s h =
     let x : Activity = activity.Trade t in
-    let fails = all_fail (rules opening J x) h in
-    let both = both_hold (is_member J t.buyer) (is_member J t.seller) fails.0 in
-    let buyer = member_in J t.buyer both.0 in
-    let seller = member_in J t.seller both.1 in (
-      record {
-        buyer = omega (arith, buyer, grown-post (posting opening J x) J t.buyer);
-        seller = omega (arith, seller, grown-post (posting opening J x) J t.seller);
-        listed = listed-post opening J x t.issue (not-false (is_listed J t.issue) fails.1.0);
-      },
-      still_traded opening J x s,
-    )
+    grind (arith, h, still_traded opening J x s, member_in J t.buyer, member_in J t.seller, grown-post (posting opening J x) J t.buyer, grown-post (posting opening J x) J t.seller, listed-post opening J x t.issue)
 traded-post opening J x s h = still_traded opening J x s
 
 past-post : (opening : Day) (J : Journal) (x : Activity) → IsWhole opening J → AllByRecursion IsSound (closings (posting opening J x ∷ J))
@@ -250,7 +216,7 @@ past-post opening J x h1 = grind arith
 earlier-post : (opening : Day) (J : Journal) (x : Activity) → IsWhole opening J → NoneHolds (rules opening J x) → AreEarlier opening (posting opening J x ∷ J)
 earlier-post opening J (activity.Close d) w h =
     let next = later (day_number d) (day_number (date opening J)) (all_fail (rules opening J (activity.Close d)) h).0 in
-    (next, each_weaker (λ K. int_lt (day_number (date opening K)) (day_number (date opening J)) ≡ true) (λ K. int_lt (day_number (date opening K)) (day_number d) ≡ true) (closings J) (λ K e. less_less (day_number (date opening K)) _ _ e next) w.earlier)
+    (next, each_weaker _ (λ K. int_lt (day_number (date opening K)) (day_number d) ≡ true) (closings J) (λ K e. less_less (day_number (date opening K)) _ _ e next) w.earlier)
 earlier-post opening J _ w h = w.earlier
 
 -- one accepted activity keeps the journal sound

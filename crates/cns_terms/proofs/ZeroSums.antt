@@ -37,15 +37,11 @@ sound_of bs (p ∷ J) k b = (record { balanced = b.0; known = k.0 }, sound_of bs
 -- what entries book for all of the accounts is what they book
 shares_of_all : (bs : List Account) (c : Cusip) (es : List Entry) → AreOf bs es → total (λ e. total (λ a. shares_for a c e) bs) es ≡ total (shares_in c) es
 shares_of_all bs c [] h = refl
-shares_of_all bs c (e ∷ es) h =
-    let one : total (λ a. shares_for a c e) bs ≡ shares_in c e = given_once e.account (same_issue e.issue c) e.shares bs h.0 in
-    rw (one, shares_of_all bs c es h.1) refl
+shares_of_all bs c (e ∷ es) h = rw (given_once e.account (same_issue e.issue c) e.shares bs h.0, shares_of_all bs c es h.1) refl
 
 cents_of_all : (bs : List Account) (c : Cusip) (es : List Entry) → AreOf bs es → total (λ e. total (λ a. cents_for a c e) bs) es ≡ total (cents_in c) es
 cents_of_all bs c [] h = refl
-cents_of_all bs c (e ∷ es) h =
-    let one : total (λ a. cents_for a c e) bs ≡ cents_in c e = given_once e.account (same_issue e.issue c) e.cents bs h.0 in
-    rw (one, cents_of_all bs c es h.1) refl
+cents_of_all bs c (e ∷ es) h = rw (given_once e.account (same_issue e.issue c) e.cents bs h.0, cents_of_all bs c es h.1) refl
 
 -- the positions of all accounts in an issue add up to zero
 pub positions_zero : (bs : List Account) (c : Cusip) (J : Journal) → AreSound bs J → total (λ a. position J a c) bs ≡ pos 0
