@@ -79,9 +79,7 @@ module _ (f : Key × ℤ → ℤ) (nothing : (k : Key) → f (k, pos 0) ≡ pos 
   -- zeros add nothing
   counted : (xs : List (Key × ℤ)) → total f (filter (λ e. counts e.1) xs) ≡ total f xs
   counted [] = refl
-  counted (e ∷ xs) =
-      kept_or_not f (counts e.1) e (filter (λ e. counts e.1) xs) (λ h. ap (λ n. f (e.0, n)) (counts_or_zero e.1 h) ∙ nothing e.0)
-      ∙ ap (λ n. f e +ℤ n) (counted xs)
+  counted (e ∷ xs) = grind (arith, ints, counts_or_zero e.1, nothing e.0, counted xs)
 
   -- they have the same sums
   pub same_sums : (xs ys : List (Key × ℤ)) → is_sorted key_cmp xs ≡ true → is_sorted key_cmp ys ≡ true → ((k : Key) → unwrap_or (find key_cmp k xs) (pos 0) ≡ unwrap_or (find key_cmp k ys) (pos 0)) → total f xs ≡ total f ys

@@ -30,16 +30,12 @@ same_find k es = grind arith
 pub had_is : (k : Key) (es : CentsByKey) (o : Option ℤ) (n : ℤ) → n ≡ unwrap_or o (pos 0) → o ≡ lookup (is_at (key_cmp k)) es → n ≡ cents_at es k
 had_is k es o n is found = rw (same_find k es, ← found) is
 
--- cents at a key, added to or not
-added_branch : (b : Bool) (o : Option ℤ) (v was cents : ℤ) → v ≡ was +ℤ cents → (b ≡ true → was ≡ unwrap_or o (pos 0)) → unwrap_or (cond b (Some v) o) (pos 0) ≡ unwrap_or o (pos 0) +ℤ cond b cents (pos 0)
-added_branch b o v was cents is same = grind arith
-
 -- the cents at each key, where they are added to at one
 pub cents_added : (old new : CentsByKey) (key : Key) (v cents : ℤ) → ((q : Key) → lookup (is_at (key_cmp q)) new ≡ cond (is_eq (key_cmp key q)) (Some v) (lookup (is_at (key_cmp q)) old)) → v ≡ cents_at old key +ℤ cents
     → (k : Key) → cents_at new k ≡ cents_at old k +ℤ cond (is_eq (key_cmp k key)) cents (pos 0)
 cents_added old new key v cents updates is k =
     rw (same_find k new, updates k, ← same_find k old, (eq_by_cmp_equiv keys_total).symm key k)
-    (added_branch (is_eq (key_cmp k key)) (find key_cmp k old) v (cents_at old key) cents is (λ e. ap (cents_at old) (sym (exact_keys k key (equal _ e)))))
+    (grind (arith, ints, is, exact_keys k key))
 
 -- ---- registers of 128 bits
 

@@ -46,10 +46,7 @@ module _ {K X Y : Type 0} (R : K → K → Ordering) (f : K × X → Y) where
 -- a search among values that are made of others and of their keys
 pub find_keyed : {X Y : Type 0} (f : Key × X → Y) (k : Key) (es : List (Key × X)) → find key_cmp k (map (λ e. (e.0, f e)) es) ≡ option_map (λ v. f (k, v)) (find key_cmp k es)
 find_keyed f k [] = refl
-find_keyed {X} {Y} f k (e ∷ es) = by (is_eq (key_cmp k e.0)) _ _ (λ h. exact_keys k e.0 (equal _ h)) (find_keyed f k es)
-  where
-    by : (b : Bool) (o : Option Y) (p : Option X) → (b ≡ true → k ≡ e.0) → o ≡ option_map (λ v. f (k, v)) p → cond b (Some (f e)) o ≡ option_map (λ v. f (k, v)) (cond b (Some e.1) p)
-    by b o p same h = grind arith
+find_keyed f k (e ∷ es) = grind (arith, exact_keys k e.0, find_keyed f k es)
 
 -- a search among the keys that pass a test
 pub find_if : {X : Type 0} (t : Key → Bool) (k : Key) (es : List (Key × X)) → find key_cmp k (filter (λ e. t e.0) es) ≡ cond (t k) (find key_cmp k es) None

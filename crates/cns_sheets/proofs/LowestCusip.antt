@@ -20,9 +20,7 @@ first_or_rest c rest le h = grind arith
 body_first : (doubled : Bool) (cs rest low : List ℕ) → is_some (sum_of doubled cs) ≡ true → (cs ≡ replicate (length cs) 35 → is_lt (slice_cmp nat_cmp rest low) ≡ false) → is_lt (slice_cmp nat_cmp (cs ++ rest) (replicate (length cs) 35 ++ low)) ≡ false
 unfolding sum_of
 body_first doubled [] rest low s h = h refl
-body_first doubled (c ∷ cs) rest low s h =
-    let parts = some_parts doubled (character_value c) (sum_of (not doubled) cs) s in
-    first_or_rest c _ (valued c parts.0) (λ same. body_first (not doubled) cs rest low parts.1 (λ all. h (λ i. same i ∷ all i)))
+body_first doubled (c ∷ cs) rest low s h = grind (arith, some_parts doubled (character_value c) (sum_of (not doubled) cs) s, first_or_rest c, valued c, body_first (not doubled) cs rest low, h)
 
 -- eight characters that add up, and the fault of a ninth
 sums : (o : Option ℕ) (x : ℕ) → last_fault o x ≡ None → is_some o ≡ true

@@ -33,6 +33,4 @@ pub price_at : (prices : PriceList) (after : Option Cusip) (i : ℕ) (r : Option
     → MatchOption r (length prices ≤ i) (λ x. (i < length prices) × HoldsAt (λ y. x.now ≡ y) prices i)
     → MatchOption (option_copied r) (prices_above prices after ≡ []) (λ e. prices_above prices after ≡ e ∷ prices_above prices (Some e.0))
 price_at prices after i None s whole h = sym whole ∙ drop_all i prices h
-price_at prices after i (Some x) s whole h =
-    let first = sym whole ∙ next_is prices i x.now h.0 (h.1 x.now) in
-    first ∙ ap (λ rest. x.now ∷ rest) (sym (next_above nat_list_cmp_total (is_after after) prices x.now (drop (i + 1) prices) (above_later after) s first))
+price_at prices after i (Some x) s whole h = grind (arith, next_is prices i x.now h.0 (h.1 x.now), next_above nat_list_cmp_total (is_after after) prices x.now (drop (i + 1) prices) (above_later after) s)
