@@ -1,49 +1,35 @@
 -- The names that most proofs cite, passed on from one place. Declares nothing.
-pub use Rattle.std.proofs.Common.{Bool, Err, FitsSigned, IfSome, List, None, Ok, Option, Ordering, Some, [], add-one, ap, append-nil, append_assoc, arith, bytes_eq, cond, eqb, false, filter, filter_map, flat_map, get_or, inl, inr, int_eq, int_lt, is_eq, is_none, length, map, neg_ℤ, not, option_and_then, option_map, option_to_list, pos, refl, reverse, rules, slice_get, subst, suc, sum_by, sym, take, take-suc, true, unsigned_abs, unwrap_or, zero, ℕ, ℤ, ◌&&◌, ◌*ℤ◌, ◌*◌, ◌++◌, ◌+ℤ◌, ◌+◌, ◌-ℤ◌, ◌-◌, ◌<◌, ◌==◌, ◌^◌, ◌||◌, ◌∙◌, ◌∷◌, ◌≡◌, ◌≤◌}
-pub use Rattle.std.proofs.lemmas.Bool.{cases_lt}
-pub use Rattle.std.proofs.lemmas.Bool.Decides.{nat_tests}
-pub use Rattle.std.proofs.lemmas.Int.{SFits-int_wrap, fits_signed_from_abs, int_wrap-add_right, int_wrap-add_same, int_wrap_fits, ints, wraps}
+pub use Rattle.std.proofs.Common.{Bool, Err, FitsSigned, IfSome, List, None, Ok, Option, Ordering, Some, [], add-one, ap, append-nil, append_assoc, arith, bytes_eq, cond, eqb, false, filter, filter_map, flat_map, get_or, int_lt, is_eq, is_none, length, map, neg_ℤ, not, option_and_then, option_map, option_to_list, pos, refl, reverse, rules, slice_get, subst, suc, sum_by, sym, take, take-suc, true, unsigned_abs, unwrap_or, zero, ℕ, ℤ, ◌&&◌, ◌*ℤ◌, ◌*◌, ◌++◌, ◌+ℤ◌, ◌+◌, ◌-ℤ◌, ◌-◌, ◌<◌, ◌==◌, ◌^◌, ◌||◌, ◌∙◌, ◌∷◌, ◌≡◌, ◌≤◌}
+pub use Rattle.std.proofs.lemmas.Int.{SFits-int_wrap, fits_signed_from_abs, int_wrap-add_right, int_wrap-add_same, int_wrap_fits, ints}
 pub use Rattle.std.proofs.lemmas.List.{take_all}
 pub use Rattle.std.proofs.lemmas.List.Sums.{fold-append, sum_by-cons}
 pub use Rattle.std.specs.BTreeMap.{get}
 pub use Rattle.std.specs.Int.{Width, int_wrap, w128, w64}
 pub use Rattle.std.specs.List.{AllByRecursion, cons_option, fold, range_with_len}
-pub use Rattle.std.specs.Option.{option_map_or}
 pub use mir.Val.{hbits}
 pub use Rattle.cns_book.specs.Log.{Log, state_of}
 pub use Rattle.cns_book.specs.Shown.{entry_at, notice_of}
 pub use Rattle.cns_feed.specs.Line.{Line}
 pub use Rattle.cns_feed.specs.Output.{state_after_line}
-pub use Rattle.cns_feed.specs.Replay.{blank_log, log_after, log_after_line}
-pub use Rattle.cns_history.specs.Lines.{accounts_in, booked, booked_since, booking, bookings_at, bookings_since, both, closing, counted_from, each, has_position, history, is_movement, is_nothing, is_open, is_wanted, lines_at, lines_of, movements_at, named, place, places, row_on, standing, stood}
-pub use Rattle.cns_history.specs.declared.line.Booking.{Booking}
-pub use Rattle.cns_history.specs.declared.line.HistoryLine.{HistoryLine}
+pub use Rattle.cns_feed.specs.Replay.{blank_log, log_after_line}
+pub use Rattle.cns_history.specs.Lines.{accounts_in, booked, booked_since, booking, bookings_at, bookings_since, both, closing, counted_from, each, has_position, is_movement, is_nothing, is_open, is_wanted, lines_at, lines_of, named, place, places, row_on, standing, stood}
 pub use Rattle.cns_sheets.specs.Search.{prices_above, row_at}
 pub use Rattle.cns_terms.proofs.BuyIns.{each_named, execution_cents}
-pub use Rattle.cns_terms.proofs.Common.{Day, IsExecutable, IsSound, IsWhole, Journal, NoneHolds, Posting, State, accounts, added, added-all, added-more, against_corporation, all_fail, amount_limit, and_false, answer, bytes_eq-Decides, cents_for, closings, corporation, corporation_limit, date, day_number, each_append, each_filter, each_map, entries, equal, exact_keys, execution_entries, fill_entry, fills, filter-append, history_limit, holders, holding, holds, idle_parts, is_account, is_close, is_idle, is_listed, is_not_after, is_past, is_same_day, issues, journal, journal_of, key_cmp, last_close, length-reverse, limited, list_any, magnitude, member_limit, members, money, money_limit, nat_list_eq_equiv, neither, new_entry, next, notice_at, notices, old_entry, open_day, opened, pend_of, pending, posting, price, price_limit, refusal, reverse_onto, row, rows_of, same_key, shares_for, shares_limit, shares_of_fills, sheet_rows, total, total-append, total_small, trade_entries, trades}
-pub use Rattle.cns_terms.proofs.Magnitudes.{added-append}
+pub use Rattle.cns_terms.proofs.Common.{Account, Cusip, Day, IsExecutable, IsReached, IsSound, IsWhole, Journal, NoneHolds, Notice, Price, State, accounts, added-more, against_corporation, all_fail, amount_limit, and_false, answer, bytes_eq-Decides, cases_lt, cents_for, closings, corporation, date, day_number, each_append, entries, equal, exact_keys, execution_entries, fill_entry, fills, filter-append, holders, holding, holds, idle_parts, is_account, is_close, is_idle, is_listed, is_past, is_same_day, issues, journal, journal_of, key_cmp, last_close, length-reverse, limited, list_any, magnitude, members, money, money_limit, nat_list_eq_equiv, nat_tests, neither, new_entry, next, notice_at, notices, old_entry, open_day, opened, option_map_or, pend_of, pending, posting, price, price_limit, refusal, reverse_onto, row, rows_of, same_key, shares_for, shares_limit, shares_of_fills, sheet_rows, total, total-append, total_small, trade_entries, trades}
+pub use Rattle.cns_terms.specs.declared.buy_in.Execution.{Execution}
+pub use Rattle.cns_terms.specs.declared.holding.Entry.{Entry}
+pub use Rattle.cns_terms.specs.declared.pend.Pend.{Pend}
 pub use Rattle.cns_terms.proofs.Sound.{IsNoticed, both_hold, whole-next, whole-post, whole_nil}
-pub use Rattle.cns_terms.specs.Common.{Account, Cusip, IsReached, Price}
 pub use Rattle.cns_terms.specs.Listings.{traded}
 pub use Rattle.cns_terms.specs.Machine.{activity_reply}
-pub use Rattle.cns_terms.specs.Notices.{Notice}
 pub use Rattle.cns_terms.specs.Positions.{position}
-pub use Rattle.cns_terms.specs.declared.buy_in.Execution.{Execution}
-pub use Rattle.cns_terms.specs.declared.command.Activity.{Activity}
-pub use Rattle.cns_terms.specs.declared.command.Command.{Command}
 pub use Rattle.cns_terms.specs.declared.command.Trade.{Trade}
-pub use Rattle.cns_terms.specs.declared.history.Taken.{Taken}
-pub use Rattle.cns_terms.specs.declared.holding.Entry.{Entry}
 pub use Rattle.cns_terms.specs.declared.holding.Holding.{Holding}
-pub use Rattle.cns_terms.specs.declared.holding.Key.{Key}
-pub use Rattle.cns_terms.specs.declared.pend.Pend.{Pend}
 pub use Rattle.cns_terms.specs.declared.reply.Reply.{Reply}
-pub use Rattle.cns_terms.specs.declared.sheet.Row.{Row}
 pub use Rattle.cns_account.specs.Dividends.{due_on, last_by, less_cash, paid_in}
 pub use Rattle.cns_account.specs.Fails.{is_among, issues_behind, price_change, with_issue}
-pub use Rattle.cns_account.specs.Laws.{IsLineInRange, MovesAddUp, PlacesAreWhole, closes, day_closed, is_line_at, is_moved, last_of, of_causes}
-pub use Rattle.cns_account.specs.Moves.{AreMoves, is_within, moved_at, moves_at, of_cause, settled_by, unmoved, with_entry, with_line, with_more, with_taken, with_trade}
-pub use Rattle.cns_account.specs.Past.{IsGathered, accepted_of, closed_by, date_told, dividend_of, exchange_of, looked_at}
-pub use Rattle.cns_account.specs.Rows.{account_row, booking_in, mark_row, moved, totals_of, valued}
-pub use Rattle.cns_account.specs.declared.moves.Moved.{Moved}
-pub use Rattle.cns_account.specs.declared.moves.Moves.{Moves}
+pub use Rattle.cns_account.specs.Laws.{IsLineInRange, MovesAddUp, PlacesAreWhole, day_closed, is_line_at, is_moved, last_of, of_causes}
+pub use Rattle.cns_account.specs.Moves.{AreMoves, is_within, moved_at, of_cause, settled_by, unmoved, with_entry, with_line, with_more, with_taken, with_trade}
+pub use Rattle.cns_account.specs.Past.{IsGathered, accepted_of, date_told, looked_at}
+pub use Rattle.cns_account.specs.Rows.{account_row, booking_in, mark_row, totals_of}
+pub use Rattle.cns_account.specs.Common.{Activity, Booking, Command, Key, Row, HistoryLine, Moved, Moves, Taken}

@@ -1,6 +1,6 @@
 -- What a day's activities booked.
 -- For `moves_add_up` of laws.rt.
-use Rattle.cns_account.proofs.Common.{◌≡◌, ◌∙◌, refl, ℤ, pos, ◌+ℤ◌, Bool, true, false, not, ◌&&◌, cond, List, [], ◌∷◌, filter, reverse, slice_get, unwrap_or, Option, Some, None, arith, int_lt, option_map_or, ints, Day, Journal, NoneHolds, all_fail, closings, date, day_number, entries, is_close, is_not_after, is_past, last_close, neither, open_day, pend_of, pending, reverse_onto, total, total-append, trade_entries, trades, Trade, Entry, Pend, is_within, nat_tests}
+use Rattle.cns_account.proofs.Common.{◌≡◌, ◌∙◌, refl, ℤ, pos, ◌+ℤ◌, true, not, cond, List, [], ◌∷◌, filter, reverse, Option, Some, arith, int_lt, option_map_or, ints, Day, Journal, NoneHolds, all_fail, date, day_number, entries, is_past, last_close, neither, open_day, pend_of, pending, reverse_onto, total, total-append, trade_entries, trades, Trade, Entry, Pend, is_within, Bool, false, slice_get, unwrap_or, closings, is_close}
 use Rattle.cns_terms.proofs.SheetSums.{total-flat_map}
 use Rattle.cns_terms.specs.Pending.{due, is_due}
 use Rattle.cns_terms.specs.Refusals.{rules}
@@ -33,23 +33,17 @@ module _ (f : Entry → ℤ) where
   abbrev pub settles : Option Day → Day → Pend → ℤ
   settles before day p = cond (is_within before day p.date) (total f (trade_entries p)) (pos 0)
 
-  -- what trades book
-  abbrev pub trade : Pend → ℤ
-  trade p = total f (trade_entries p)
-
-  due_within : (today next : Day) (ps : List Pend) → total trade (filter (is_due next) (filter (λ p. not (is_due today p)) ps)) ≡ total (settles (Some today) next) ps
+  due_within : (today next : Day) (ps : List Pend) → total (λ p. total f (trade_entries p)) (filter (is_due next) (filter (λ p. not (is_due today p)) ps)) ≡ total (settles (Some today) next) ps
   due_within today next [] = refl
   due_within today next (p ∷ ps) = grind (arith, due_within today next ps)
 
   -- what a close books: the trades that are dated after the day that it ends, up to the next
   pub close_settles : (opening : Day) (J : Journal) (next : Day) → total f (entries opening J (activity.Close next)) ≡ total (settles (Some (date opening J)) next) (trades J)
-  close_settles opening J next =
-      total-flat_map f trade_entries (due opening J next) ∙ total-reverse trade (filter (is_due next) (pending opening J)) ∙ due_within (date opening J) next (trades J)
+  close_settles opening J next = total-flat_map f trade_entries (due opening J next) ∙ total-reverse (λ p. total f (trade_entries p)) (filter (is_due next) (pending opening J)) ∙ due_within (date opening J) next (trades J)
 
   -- what a trade of the day books at once
   pub trade_settles : (opening : Day) (J : Journal) (before : Option Day) (t : Trade) → NoneHolds (rules opening J (activity.Trade t)) → IsAfter before (date opening J)
       → total f (entries opening J (activity.Trade t)) ≡ settles before (date opening J) (pend_of t)
-  trade_settles opening J None t none after = grind arith
-  trade_settles opening J (Some d) t none after =
+  trade_settles opening J before t none after =
       let late = neither (is_past t.date (date opening J)) _ ((all_fail (rules opening J (activity.Trade t)) none).1.1.1.1.0) in
       grind (arith, ints, late.0)

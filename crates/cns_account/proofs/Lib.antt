@@ -1,16 +1,13 @@
 pub mod Gathered
 pub mod Walked
 pub mod Putting
-pub mod Folded
 pub mod Ledger
 pub mod Grid
 pub mod Named
 pub mod AtPlaces
 pub mod Summed
-pub mod OneDay
+pub mod Recorded
 pub mod Rows
-pub mod Taken
 pub mod Marked
-pub mod Sizes
 pub mod AddingUp
 pub mod Common

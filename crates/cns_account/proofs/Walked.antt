@@ -1,6 +1,6 @@
 -- The entries of a history, one after another.
 -- For `gather` of past.rt; `gather` of projection.rt in cns_page, `first` of sought.rt in cns_page, `live_notices` of notices.rt in cns_page.
-use Rattle.cns_account.proofs.Common.{◌≡◌, ◌∙◌, sym, ap, ℕ, suc, ◌+◌, ◌-◌, ◌^◌, ◌<◌, ◌≤◌, List, [], ◌∷◌, ◌++◌, length, Some, None, take, take-suc, reverse, slice_get, arith, take_all, Taken, entry_at, looked_at, ints, nat_tests}
+use Rattle.cns_account.proofs.Common.{◌≡◌, ◌∙◌, sym, ap, ℕ, suc, ◌+◌, ◌-◌, ◌^◌, ◌<◌, ◌≤◌, List, [], ◌∷◌, ◌++◌, Some, None, take, take-suc, reverse, slice_get, arith, take_all, Taken, entry_at, looked_at}
 use Rattle.std.proofs.lemmas.Option.{get_or_from_slice_get, slice_get_within, slice_get_cases}
 
 -- one element more

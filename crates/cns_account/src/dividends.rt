@@ -190,6 +190,7 @@ fn paid_in(
 }
 
 // Adds what dividends pay an account in an issue.
+#[tactic(auto, using(crate::proofs::Gathered::both_given, std::proofs::lemmas::Grind::common_steps))]
 fn add_paid(
     book: &ReplayBook,
     days: &[Day],
@@ -210,6 +211,7 @@ fn add_paid(
 
 /// What the dividends that a book's last close paid brought an account, by the close's sheet: in the order of the bytes of their
 /// issues, and those of one issue in the order in which they were declared.
+#[tactic(auto, using(cns_history::proofs::Owned::all_above))]
 pub fn dividends_of(
     alloc: Global,
     book: &ReplayBook,

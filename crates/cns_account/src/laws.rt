@@ -2,6 +2,7 @@
 ghost use Rattle.cns_account.specs.Laws.{MovesAddUp, PlacesAreWhole};
 
 /// Of the lines of movements, those at a place are all that movements booked there, each once.
+#[tactic(auto, using(crate::proofs::AtPlaces::places_are_whole))]
 pub fn places_are_whole()
     ensures { PlacesAreWhole }
 {}

@@ -47,6 +47,7 @@ impl Moved {
 }
 
 /// The sum of two counts of shares, as much of it as fits.
+#[tactic(auto, using(std::proofs::lemmas::Int::wraps))]
 pub fn wrapped_shares(a: i64, b: i64) -> i64
     ensures { result ≡ int_wrap w64 (a +ℤ b) }
 {
@@ -54,6 +55,7 @@ pub fn wrapped_shares(a: i64, b: i64) -> i64
 }
 
 /// The sum of two amounts, as much of it as fits.
+#[tactic(auto, using(std::proofs::lemmas::Int::wraps))]
 pub fn wrapped_sum(a: Cents, b: Cents) -> Cents
     ensures { result ≡ int_wrap w128 (a +ℤ b) }
 {
@@ -61,6 +63,7 @@ pub fn wrapped_sum(a: Cents, b: Cents) -> Cents
 }
 
 /// The difference of two amounts, as much of it as fits.
+#[tactic(auto, using(std::proofs::lemmas::Int::wraps))]
 pub(crate) fn wrapped_difference(a: Cents, b: Cents) -> Cents
     ensures { result ≡ int_wrap w128 (a -ℤ b) }
 {

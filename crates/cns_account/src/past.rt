@@ -64,6 +64,7 @@ pub(crate) fn add_if_any<T: Copy>(items: &mut Vec<T>, item: Option<T>) -> Result
 }
 
 // Adds what an entry tells.
+#[tactic(auto, using(crate::proofs::Gathered::both_given, std::proofs::lemmas::Grind::common_steps))]
 fn add_entry(past: &mut Past, entry: &Taken) -> Result<(), NoMemory>
     ensures { OnOk result ((ts : List Taken) → IsGathered ts past.old → IsGathered (ts ++ entry.now ∷ []) past.new) }
 {
@@ -74,6 +75,7 @@ fn add_entry(past: &mut Past, entry: &Taken) -> Result<(), NoMemory>
 }
 
 // The same, with the exchanges in the order in which they were taken.
+#[tactic(auto, using(crate::proofs::Walked::entries_end))]
 fn gather(alloc: Global, book: &ReplayBook) -> Result<Past, NoMemory>
     ensures { IfOk result (IsGathered (looked_at book.now.log.history)) }
 {

@@ -1,36 +1,28 @@
 -- Splits and exchanges.
--- For `split` and `exchange` of parts/actions.rt, clause step.
-use Rattle.cns_book.proofs.Common.{◌≡◌, ◌∙◌, sym, ap, subst, refl, ℕ, ◌≤◌, ℤ, Bool, true, false, ◌||◌, cond, List, ◌∷◌, map, reverse, Option, Some, None, arith, bytes_eq, is_none, IsSome, Ok, Err, Account, Activity, AllByRecursion, AreHolders, Contents, Cusip, Entry, Follows, FollowsNotices, FollowsRows, HasRoom, Holding, IsInRange, IsLimited, IsReached, Key, Listed, Pend, Rows, Rule, account_lt, activity_of, age_brought, all_fail, and_right, books, bought_in, changed_each, each_both, each_in_order, entries, entries_of, first_refusal, holding_at, is_held_up, is_listed, is_retired, is_too_large, is_too_large_at, issue_of, issue_rules, journal, limited, list_any, member_limit, members, members_from_one, pending, position_limit, positions_in, posting, price_in, refusal, retired_in, sold_in, with_age, max-zero, position, Refusal, are_too_large, carried_on, no_account_elsewhere, no_position, ended, ended_by, Action, exchange_rules}
+-- For `split` and `exchange` of parts/actions.rt, clauses step and places.
+use Rattle.cns_book.proofs.Common.{◌≡◌, ◌∙◌, sym, subst, refl, ◌≤◌, ℤ, true, false, ◌||◌, List, ◌∷◌, map, reverse, Option, None, arith, bytes_eq, IsSome, Ok, Err, Account, Activity, AreHolders, Contents, Cusip, Entry, Follows, FollowsNotices, FollowsRows, HasRoom, Holding, IsInRange, IsLimited, IsReached, Key, Listed, Pend, Rows, account_lt, activity_of, age_brought, and_right, books, bought_in, changed_each, each_both, each_in_order, entries, entries_of, first_refusal, holding_at, is_held_up, is_listed, is_retired, is_too_large, is_too_large_at, issue_of, issue_rules, journal, limited, list_any, member_limit, members, members_from_one, pending, position_limit, positions_in, posting, price_in, refusal, retired_in, sold_in, with_age, max-zero, position, Refusal, carried_on, no_account_elsewhere, no_position, ended, ended_by, Action, exchange_rules, ◌⊎◌, each_weaker, AreElsewhere, Booking, Command, Steps, Reply}
+use Rattle.cns_terms.specs.Refusals.{are_too_large}
 use Rattle.cns_terms.specs.declared.action.Exchange.{Exchange}
 use Rattle.cns_terms.specs.declared.action.Split.{Split}
 use Rattle.cns_terms.specs.Entries.{exchange_entries, split_entries}
-use Rattle.cns_terms.specs.declared.command.Activity.TheVariants as activity
-use Rattle.cns_terms.specs.declared.command.Command.TheVariants as command
 use Rattle.cns_actions.specs.Booked.{CanBeBooked, position_at, waits_for}
 use Rattle.cns_actions.proofs.Members.{rising_distinct}
 use Rattle.cns_book.proofs.PendingSteps.{bought-reverse, sold-reverse, waits-reverse}
-use Rattle.cns_book.proofs.PartsStaying.{batches_stay, clock_stays, dividends_stay, sheets_stay}
+use Rattle.cns_book.proofs.PartsStaying.{accepted, batches_stay}
 use Rattle.cns_book.proofs.PartsWithin.{member_within, rows_within}
-use Rattle.cns_actions.specs.declared.action.Action.TheVariants as action
-
--- ---- what can be booked
+use Rattle.cns_actions.specs.Changes.{AreInIssues, new_issue}
 
 -- with room for one activity more, no member is to get or to give more than its limit
 pub few_wait : (s : Contents) → HasRoom s → (a : Account) (c : Cusip) → 1 ≤ a → (bought_in s.trades.pending a c ≤ position_limit) × (sold_in s.trades.pending a c ≤ position_limit)
-few_wait s r a c le =
-    let ps = pending s.opening (journal s.opening r.activities) in
-    let w = (limited s.opening r.activities r.follows.reached).within a c le in
-    rw (r.follows.pending, bought-reverse ps a c, sold-reverse ps a c) (omega (arith, w.above), omega (arith, w.below))
+few_wait s r a c le = grind (arith, limited, bought-reverse, sold-reverse)
 
 -- with room for one activity more, positions can be booked
 pub can_be_booked : (s : Contents) → HasRoom s → CanBeBooked s.rows
-can_be_booked s r =
-    let w = rows_within s r in
-    record {
-      members = λ a c le. member_within s a c le r;
-      corporation = λ c. w.shares (record { account = 0; issue = c });
-      cents = λ k. omega (arith, w.cents k);
-    }
+can_be_booked s r = record {
+  members = λ a c le. member_within s a c le r;
+  corporation = λ c. (rows_within s r).shares (record { account = 0; issue = c });
+  cents = λ k. omega (arith, (rows_within s r).cents k);
+}
 
 -- ---- the members, and their positions
 
@@ -63,8 +55,8 @@ module _ (s : Contents) (L : List Activity) (f : Follows L s) where
 
   -- so are the entries
   pub entries_are : (x : Action) → entries_of x (positions_in s.rows (issue_of x)) (members (journal s.opening L)) ≡ entries s.opening (journal s.opening L) (activity_of x)
-  entries_are (action.Split p) = λ i. split_entries p (λ a. same_positions i a p.issue) (members (journal s.opening L))
-  entries_are (action.Exchange x) = λ i. exchange_entries x (λ a. same_positions i a x.old) (members (journal s.opening L))
+  entries_are (Action.Split p) = λ i. split_entries p (λ a. same_positions i a p.issue) (members (journal s.opening L))
+  entries_are (Action.Exchange x) = λ i. exchange_entries x (λ a. same_positions i a x.old) (members (journal s.opening L))
 
   -- and whether they are too large
   pub size_is : (x : Action) (ps : List Pend) → ps ≡ s.trades.pending → are_too_large (position_at s.rows) ps (entries_of x (positions_in s.rows (issue_of x)) (members (journal s.opening L))) ≡ is_too_large s.opening (journal s.opening L) (activity_of x)
@@ -83,21 +75,17 @@ module _ (s : Contents) (L : List Activity) (f : Follows L s) where
 pub no_fault : {A E : Type 0} (x : A) (e : E) → Ok x ≡ Err e → ⊥
 no_fault x e h = cc
 
--- of rules that refuse nothing, none holds
-pub none_fails : (rs : List Rule) → first_refusal rs ≡ None → AllByRecursion (λ r. r.1 ≡ false) rs
-none_fails rs e = all_fail rs (ap is_none e)
-
 -- a split is not refused where its issue's rules don't refuse it and it is not too large
-pub split_unrefused : (L : List Activity) (s : Contents) (x : Split) (r : Option Refusal) → r ≡ first_refusal (issue_rules (is_listed (journal s.opening L) x.issue) (is_retired (journal s.opening L) x.issue)) → r ≡ None → (is_too_large s.opening (journal s.opening L) (activity.Split x) ≡ true → ⊥) → refusal s.opening (journal s.opening L) (command.Activity (activity.Split x)) ≡ None
+pub split_unrefused : (L : List Activity) (s : Contents) (x : Split) (r : Option Refusal) → r ≡ first_refusal (issue_rules (is_listed (journal s.opening L) x.issue) (is_retired (journal s.opening L) x.issue)) → r ≡ None → (is_too_large s.opening (journal s.opening L) (Activity.Split x) ≡ true → ⊥) → refusal s.opening (journal s.opening L) (Command.Activity (Activity.Split x)) ≡ None
 split_unrefused L s x r said is size = grind arith
 
--- and so an exchange, where no trades hold it up
-pub exchange_unrefused : (L : List Activity) (s : Contents) (x : Exchange) (r : Option Refusal) → r ≡ first_refusal (exchange_rules (journal s.opening L) x) → r ≡ None → (is_too_large s.opening (journal s.opening L) (activity.Exchange x) ≡ true → ⊥) → ((is_too_large s.opening (journal s.opening L) (activity.Exchange x) ≡ false) × (is_held_up s.opening (journal s.opening L) (action.Exchange x) ≡ true) → ⊥) → refusal s.opening (journal s.opening L) (command.Activity (activity.Exchange x)) ≡ None
-exchange_unrefused L s x r said is size waits = grind arith
+-- an issue that the rules let be exchanged is listed, and is not retired
+pub exchange_current : (L : List Activity) (s : Contents) (x : Exchange) (o : Option Refusal) → Follows L s → o ≡ first_refusal (exchange_rules (journal s.opening L) x) → o ≡ None → IsSome (price_in s.prices x.old) × (retired_in s.prices x.old ≡ false)
+exchange_current L s x o f said is = grind (arith, f.listings.prices x.old, f.listings.retired x.old)
 
--- a listed issue has a price
-pub price_there : (b : Bool) (p : ℕ) (o : Option ℕ) → o ≡ cond b (Some p) None → b ≡ true → IsSome o
-price_there b p o h1 h2 = grind arith
+-- and so an exchange, where no trades hold it up
+pub exchange_unrefused : (L : List Activity) (s : Contents) (x : Exchange) (r : Option Refusal) → r ≡ first_refusal (exchange_rules (journal s.opening L) x) → r ≡ None → (is_too_large s.opening (journal s.opening L) (Activity.Exchange x) ≡ true → ⊥) → ((is_too_large s.opening (journal s.opening L) (Activity.Exchange x) ≡ false) × (is_held_up s.opening (journal s.opening L) (Action.Exchange x) ≡ true) → ⊥) → refusal s.opening (journal s.opening L) (Command.Activity (Activity.Exchange x)) ≡ None
+exchange_unrefused L s x r said is size waits = grind arith
 
 -- ---- what stands after a split or an exchange
 
@@ -106,34 +94,24 @@ pub with_no_age : (h : Holding) → with_age 0 h ≡ h
 with_no_age h = λ i. record h { carried = max-zero h.carried i }
 
 -- what an exchange books, with the age that it brings
-exchanged_rows : (s : Contents) (L : List Activity) (x : Exchange) (rows : Rows) → IsReached s.opening (activity.Exchange x ∷ L) → FollowsRows (journal s.opening L) s
-    → ((k : Key) → holding_at rows k ≡ with_age (age_brought s.rows (action.Exchange x) k) (books (entries s.opening (journal s.opening L) (activity.Exchange x)) k (holding_at s.rows k)))
-    → FollowsRows (journal s.opening (activity.Exchange x ∷ L)) (record s { rows = rows })
-exchanged_rows s L x rows reached f b k =
-    let now = f k in
-    let old = f (record { account = k.account; issue = x.old }) in
-    let carried = carried_on s.opening L x reached k.account k.issue in
-    let booked = b k in
-    grind arith
+exchanged_rows : (s : Contents) (L : List Activity) (x : Exchange) (rows : Rows) → IsReached s.opening (Activity.Exchange x ∷ L) → FollowsRows (journal s.opening L) s
+    → ((k : Key) → holding_at rows k ≡ with_age (age_brought s.rows (Action.Exchange x) k) (books (entries s.opening (journal s.opening L) (Activity.Exchange x)) k (holding_at s.rows k)))
+    → FollowsRows (journal s.opening (Activity.Exchange x ∷ L)) (record s { rows = rows })
+exchanged_rows s L x rows reached f b k = grind (arith, f k, f (record { account = k.account; issue = x.old }), carried_on s.opening L x reached k.account k.issue, b k)
 
 -- an exchange that is not refused
-pub exchange_follows : (L : List Activity) (s : Contents) (x : Exchange) (prices : Listed) (rows : Rows) → Follows L s → IsInRange (activity.Exchange x) → refusal s.opening (journal s.opening L) (command.Activity (activity.Exchange x)) ≡ None
+pub exchange_follows : (L : List Activity) (s : Contents) (x : Exchange) (prices : Listed) (rows : Rows) → Follows L s → IsInRange (Activity.Exchange x) → refusal s.opening (journal s.opening L) (Command.Activity (Activity.Exchange x)) ≡ None
     → ((c : Cusip) → price_in prices c ≡ price_in s.prices c) → ((c : Cusip) → retired_in prices c ≡ (bytes_eq x.old c || retired_in s.prices c))
-    → ((k : Key) → holding_at rows k ≡ with_age (age_brought s.rows (action.Exchange x) k) (books (entries s.opening (journal s.opening L) (activity.Exchange x)) k (holding_at s.rows k)))
-    → Follows (activity.Exchange x ∷ L) (record s { prices = prices; rows = rows; notices = map (ended x.old) s.notices })
+    → ((k : Key) → holding_at rows k ≡ with_age (age_brought s.rows (Action.Exchange x) k) (books (entries s.opening (journal s.opening L) (Activity.Exchange x)) k (holding_at s.rows k)))
+    → Steps L (Command.Activity (Activity.Exchange x)) (Ok Reply.Accepted) (record s { prices = prices; rows = rows; notices = map (ended x.old) s.notices })
 exchange_follows L s x prices rows f range none p r b =
     let J = journal s.opening L in
-    let reached : IsReached s.opening (activity.Exchange x ∷ L) = (range, none, f.reached) in
-    let clock = clock_stays s J (activity.Exchange x) refl f.clock in
-    let dividends = dividends_stay s J (activity.Exchange x) refl f.dividends in
-    let kept = exchanged_rows s L x rows reached f.rows b in
-    let sheets = sheets_stay s J (activity.Exchange x) refl f.sheets in
-    let notices = ap (map (ended x.old)) f.notices ∙ sym (changed_each J (posting s.opening J (activity.Exchange x)) (ended x.old) (λ k y. ended_by x.old y)) in
-    let batches = batches_stay s J (activity.Exchange x) refl refl f.batches in
-    grind (arith, f)
+    accepted L (Activity.Exchange x) Reply.Accepted none refl (grind (arith, f, exchanged_rows s L x rows (range, none, f.reached) f.rows b, changed_each J (posting s.opening J (Activity.Exchange x)) (ended x.old) (λ k y. ended_by x.old y), batches_stay s J (Activity.Exchange x) refl refl f.batches))
 
 -- the notices after a split
-pub split_ends : {s : Contents} (L : List Activity) (x : Split) → Follows L s → FollowsNotices (journal s.opening (activity.Split x ∷ L)) (record s { notices = map (ended x.issue) s.notices })
-split_ends {s} L x f =
-    let J = journal s.opening L in
-    ap (map (ended x.issue)) f.notices ∙ sym (changed_each J (posting s.opening J (activity.Split x)) (ended x.issue) (λ k y. ended_by x.issue y))
+pub split_ends : {s : Contents} (L : List Activity) (x : Split) → Follows L s → FollowsNotices (journal s.opening (Activity.Split x ∷ L)) (record s { notices = map (ended x.issue) s.notices })
+split_ends {s} L x f = grind (arith, changed_each, ended_by)
+
+-- at a key outside its issues none is booked
+pub elsewhere : (x : Action) (k : Key) (bs : List Booking) → ¬ ((k.issue ≡ issue_of x) ⊎ (k.issue ≡ new_issue x)) → AreInIssues x bs → AreElsewhere k bs
+elsewhere x k bs apart within = grind (arith, each_weaker)

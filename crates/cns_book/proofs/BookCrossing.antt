@@ -1,7 +1,6 @@
 -- A book may go to another thread, where its positions may. Rattle shows as much by itself of a type that nothing below it
 -- holds itself; a tree's boxes do, so it is shown here of what a sheet stands in.
--- For the struct Book of book.rt and the struct Parts of parts.rt.
--- For `start` of threads.rt in cns_desk.
+-- For `start` of threads.rt in cns_desk: the struct Book of book.rt, and the struct Parts of parts.rt.
 use Rattle.cns_book.proofs.Common.{IsSend, crosses, sendable}
 use denote.RattleType.{RattleType}
 use denote.Param.Send.{view_send}
@@ -36,41 +35,8 @@ members_send = search (sendable, crosses) depth 20
 
 -- the parts of a book may, field by field
 parts_send : (P : RattleType) (g : positions.Ghosts P.Denot (Global.the_row).Denot) → IsSend P → IsSend (Parts.the_row P Global.the_row g allocates.ghosts (copied.ghosts Global.the_row))
-parts_send P g s = view_send _ _ _ _ _ (declared_send (of_parts.the_type P Global.the_row g allocates.ghosts (copied.ghosts Global.the_row)) (
-  search sendable depth 20,
-  (
-    search (sendable, day.the_send) depth 20,
-    (
-      search (sendable, day.the_send) depth 20,
-      (
-        search sendable depth 20,
-        (
-          members_send,
-          (
-            prices.the_send Global.the_row allocates.ghosts send frees,
-            (
-              trades.the_send Global.the_row allocates.ghosts send frees,
-              (
-                dividends.the_send Global.the_row allocates.ghosts send frees,
-                (
-                  search (sendable, s) depth 20,
-                  (
-                    days_send,
-                    (notices.the_send Global.the_row allocates.ghosts send frees, (batches.the_send Global.the_row allocates.ghosts send frees, tt)),
-                  ),
-                ),
-              ),
-            ),
-          ),
-        ),
-      ),
-    ),
-  ),
-))
+parts_send P g s = view_send _ _ _ _ _ (declared_send (of_parts.the_type P Global.the_row g allocates.ghosts (copied.ghosts Global.the_row)) (search sendable depth 20, (search (sendable, day.the_send) depth 20, (search (sendable, day.the_send) depth 20, (search sendable depth 20, (members_send, (prices.the_send Global.the_row allocates.ghosts send frees, (trades.the_send Global.the_row allocates.ghosts send frees, (dividends.the_send Global.the_row allocates.ghosts send frees, (search (sendable, s) depth 20, (days_send, (notices.the_send Global.the_row allocates.ghosts send frees, (batches.the_send Global.the_row allocates.ghosts send frees, tt)))))))))))))
 
 -- a book may
 pub book_send : (P : RattleType) (g : positions.Ghosts P.Denot (Global.the_row).Denot) → IsSend P → IsSend (Book.the_row P Global.the_row g allocates.ghosts (copied.ghosts Global.the_row))
-book_send P g s = view_send _ _ _ _ _ (declared_send (of_book.the_type P Global.the_row g allocates.ghosts (copied.ghosts Global.the_row)) (
-  search sendable depth 20,
-  (history.the_send Global.the_row allocates.ghosts (copied.ghosts Global.the_row) send frees, (search sendable depth 20, (parts_send P g s, tt))),
-))
+book_send P g s = view_send _ _ _ _ _ (declared_send (of_book.the_type P Global.the_row g allocates.ghosts (copied.ghosts Global.the_row)) (search sendable depth 20, (history.the_send Global.the_row allocates.ghosts (copied.ghosts Global.the_row) send frees, (search sendable depth 20, (parts_send P g s, tt)))))

@@ -1,9 +1,29 @@
--- One command more in the history.
--- For `take` of book.rt, clause ok.
-use Rattle.cns_book.proofs.Common.{◌≡◌, sym, ap, subst, ℕ, ◌+◌, ◌-◌, ◌≤◌, ◌<◌, cond, eqb, List, [], ◌∷◌, ◌++◌, length, set, get_or, reverse, Ok, arith, get_or-set_other, Command, Contents, Day, Follows, HasRoom, IsLegal, Reply, Taken, accepted, answer_to, count, history_limit, nat_tests, reverse-append, sum_by-cons, accepted_after, Steps}
+-- One command more in the history, whose entries keep their replies when one is added to the others.
+-- For `take` of book.rt, clause ok, and `add_reply` and `push` of history.rt.
+use Rattle.cns_book.proofs.Common.{◌≡◌, sym, ap, subst, ℕ, ◌+◌, ◌-◌, ◌≤◌, ◌<◌, cond, eqb, List, [], ◌∷◌, ◌++◌, length, set, get_or, reverse, Ok, arith, get_or-set_other, Command, Contents, Day, Follows, HasRoom, IsLegal, Reply, Taken, accepted, answer_to, count, history_limit, nat_tests, reverse-append, sum_by-cons, accepted_after, Steps, ◌∙◌, refl, Option, Some, map, length-append, unwrap_or-slice_get, AreAmong, IsAmong, Stays, reply_in, taken_in}
 use Rattle.std.proofs.lemmas.Grind.{get_or-set_at}
 use Rattle.cns_terms.specs.declared.worker.Worker.{Worker}
 use Rattle.cns_book.specs.Legal.{IsBook}
+use Rattle.std.proofs.lemmas.List.{map-append}
+use Rattle.std.proofs.Math.ListN.{get_or-append}
+use Rattle.std.proofs.Math.Seq.{get_or-append_seam}
+use Rattle.cns_book.specs.declared.history.Brief.{Brief}
+
+same_reply : (rs : List Reply) (r : Reply) (p : Option ℕ) → IsAmong rs p → reply_in (rs ++ r ∷ []) p ≡ reply_in rs p
+same_reply rs r p h1 = grind (arith, unwrap_or-slice_get, get_or-append)
+
+-- one reply more
+pub longer : (rs : List Reply) (r : Reply) → Stays rs (rs ++ r ∷ [])
+longer rs r [] all = (tt, refl)
+longer rs r (b ∷ bs) all = grind (arith, length-append, same_reply rs r b.place all.0, longer rs r bs all.1)
+
+-- the reply that was added
+pub newest : (rs : List Reply) (r : Reply) → reply_in (rs ++ r ∷ []) (Some (length rs)) ≡ r
+newest rs r = unwrap_or-slice_get (rs ++ r ∷ []) (length rs) Reply.Accepted ∙ get_or-append_seam rs r [] Reply.Accepted
+
+-- one entry more
+pub taken_more : (old new : List Reply) (bs : List Brief) (b : Brief) → Stays old new → AreAmong old bs → map (taken_in new) (bs ++ b ∷ []) ≡ map (taken_in old) bs ++ taken_in new b ∷ []
+taken_more old new bs b stays all = grind (arith, map-append, (stays bs all).1)
 
 -- no more activities than commands
 pub accepted_le : (opening : Day) (H : List Taken) → length (accepted opening H) ≤ length H
@@ -16,11 +36,7 @@ few_accepted limit H counts parts b = omega (arith, accepted_le parts.opening H,
 
 -- below its limit a book has room for one command more
 pub has_room : (limit : ℕ) (H : List Taken) (counts : List ℕ) (s : Contents) → IsBook limit H counts s → length H < limit → HasRoom s
-has_room limit H counts s b few = record {
-  activities = accepted s.opening H;
-  follows = b.follows;
-  few = omega (arith, accepted_le s.opening H, few, b.limited);
-}
+has_room limit H counts s b few = grind (arith, accepted_le)
 
 -- a command that found no memory
 pub book_stays : (limit : ℕ) (H : List Taken) (counts : List ℕ) (s s' : Contents) → IsBook limit H counts s → s'.opening ≡ s.opening → Follows (accepted s.opening H) s' → IsBook limit H counts s'

@@ -1,10 +1,8 @@
 -- Searches for a closed day by its date.
--- For closed_days.rt, and `sheet` of parts/reading.rt.
--- For `place`, `count_by`, `as_of` and `find` of closed_days.rt and others.
-use Rattle.cns_book.proofs.Common.{◌≡◌, ◌∙◌, ap, refl, ℕ, zero, suc, ◌+◌, ◌-◌, ◌<◌, ◌≤◌, ℤ, Bool, true, false, cond, List, [], ◌∷◌, length, get_or, map, reverse, find, Option, Some, None, Result, Ok, Err, IfOk, IfErr, inl, inr, arith, int_lt, not, option_map, HoldsAt, int_cmp, Ordering, is_none, unwrap_or, Account, Activity, AllWithin, Contents, Day, DaySheet, Follows, IsAfter, IsBinarySearchResult, IsNonDecreasingBy, IsPartitionPoint, Journal, NoSuchMember, cases_lt, closings, day_number, day_sheet, first_refusal, ints, is_dated, is_dated_by, journal, length-map, length-reverse, option_map_or, ordering_index, reverse_onto, sheet_as_of, sheet_on, statement, get_or-map, get_or-reverse, NoSuchDay, less_less}
+-- For `place`, `count_by`, `as_of` and `find` of closed_days.rt, and `sheet` of parts/reading.rt.
+use Rattle.cns_book.proofs.Common.{◌≡◌, ◌∙◌, ap, refl, ℕ, zero, suc, ◌+◌, ◌-◌, ◌<◌, ◌≤◌, ℤ, Bool, true, false, cond, List, [], ◌∷◌, length, get_or, map, reverse, find, Some, None, Result, IfOk, IfErr, inl, inr, arith, int_lt, option_map, HoldsAt, int_cmp, Ordering, Activity, AllWithin, Contents, Day, DaySheet, Follows, IsAfter, IsBinarySearchResult, IsNonDecreasingBy, IsPartitionPoint, cases_lt, closings, day_number, day_sheet, ints, is_dated, is_dated_by, journal, length-map, length-reverse, ordering_index, reverse_onto, sheet_as_of, sheet_on, get_or-map, get_or-reverse, less_less}
 use Rattle.std.specs.List.Sorted.{IsPartitionedBy}
 use Rattle.cns_book.specs.Dated.{AreFalling, dated_sheet}
-use Rattle.cns_terms.specs.declared.reply.Reply.TheVariants as reply
 use Rattle.std.proofs.lemmas.List.Folds.{find-append}
 use Rattle.std.specs.Option.{option_or}
 
@@ -88,17 +86,11 @@ module _ {X : Type 0} (f : X → DaySheet) (d : Day) where
   found_at xs r h1 = grind (arith, ints)
 
   pub found_nowhere : (xs : List X) (r : Result ℕ ℕ) → AreFalling (reverse (map f xs)) → IsBinarySearchResult compared xs r → IfErr r (λ _. AllWithin (λ x. is_dated d (f x) ≡ false) xs 0 (length xs))
-  found_nowhere xs (Ok i) falling h = tt
-  found_nowhere xs (Err i) falling h = λ j e p q. let parted = h (compared_rise xs falling) in elim (cases_lt j i) [
-    | inl l ↦ let less = parted.0 j e p l in grind (arith, ints)
-    | inr l ↦ let more = parted.1 j e l q in grind (arith, ints)
-  ]
+  found_nowhere xs r h1 h2 = grind (arith, compared_rise, cases_lt)
 
   -- what stands at the place is what a look from the newest back finds
   pub sheet_at : (xs : List X) (i : ℕ) (e : X) → AreFalling (reverse (map f xs)) → i < length xs → is_dated d (f (get_or xs i e)) ≡ true → Some (f (get_or xs i e)) ≡ dated_sheet (reverse (map f xs)) d
   sheet_at xs i e falling lt h = found_back f (is_dated d) xs i e lt h (λ j o p q. let less = later xs i j e o falling (omega arith) q in grind (arith, ints))
-
--- ---- the sheets of the definitions
 
 -- what is found among images is the image of what is found
 find_image : {X Y : Type 0} (f : X → Y) (p : Y → Bool) (xs : List X) → find p (map f xs) ≡ option_map f (find (λ x. p (f x)) xs)
@@ -108,8 +100,3 @@ find_image f p (x ∷ xs) = grind (arith, find_image f p xs)
 -- the sheet of the day with a date
 pub sheet_found : (L : List Activity) (s : Contents) (d : Day) → Follows L s → dated_sheet s.sheets d ≡ sheet_on s.opening (journal s.opening L) d
 sheet_found L s d f = ap (λ ss. dated_sheet ss d) f.sheets ∙ find_image (day_sheet s.opening) (is_dated d) (closings (journal s.opening L))
-
--- the answer to a STATEMENT, by whether the account is there and the day is closed
-pub answer_stated : (opening : Day) (is : Bool) (o : Option Journal) (a : Account) (sheet : DaySheet) → is ≡ true → option_map (day_sheet opening) o ≡ Some sheet
-    → reply.Stated (statement sheet a) ≡ option_map_or reply.Refused (first_refusal ((NoSuchMember, not is) ∷ (NoSuchDay, is_none o) ∷ [])) (reply.Stated (statement (unwrap_or (option_map (day_sheet opening) o) (day_sheet opening [])) a))
-answer_stated opening is o a sheet h1 h2 = grind arith

@@ -1,11 +1,49 @@
 -- What a close pays by the sheets of the record dates is what the definitions say.
 -- For `close_day` of parts/closing.rt, clause step.
-use Rattle.cns_book.proofs.Common.{◌≡◌, ◌∙◌, sym, ap, refl, ℕ, ◌≤◌, ℤ, pos, neg_ℤ, Bool, true, false, not, ◌&&◌, ◌||◌, ◌==◌, cond, List, [], ◌∷◌, map, filter, find, Option, Some, None, unwrap_or, arith, bytes_eq, filter_map, option_map, Account, AllByRecursion, Cusip, Day, DaySheet, Declared, IsSound, Journal, Key, Paying, Row, accounts, and_right, as_of, bytes_eq-Decides, cash, closings, corporation, date, day_sheet, dividend, dividend_of, dividends, exact_keys, find_filter, found_number, in_order, is_account, is_not_after, is_sorted, issues, kept_if, key_cmp, keys_total, last_date, list_any, members, numbers, occurs, occurs_found, occurs_missing, option_map_or, payments_by, pays_before, row, said, same_lists, same_sums, says, sheet_as_of, sheet_rows, sorted_numbers, total, total-map, total-neg, total-same, total-swap, total-zero, total_numbers, position, cells, find_cells, sorted_cells, idle_at, no_account_elsewhere, no_position, total-due, by_key, key_of, member_cash, paid}
+use Rattle.cns_book.proofs.Common.{◌≡◌, ◌∙◌, sym, ap, refl, ℕ, ◌≤◌, ℤ, pos, neg_ℤ, Bool, true, false, not, ◌&&◌, ◌||◌, ◌==◌, cond, List, [], ◌∷◌, map, filter, find, Option, Some, None, unwrap_or, arith, bytes_eq, filter_map, option_map, Account, AllByRecursion, Cusip, Day, DaySheet, Declared, IsSound, Journal, Key, Paying, Row, accounts, and_right, as_of, bytes_eq-Decides, cash, closings, corporation, date, day_sheet, dividend, dividend_of, dividends, exact_keys, find_filter, found_number, in_order, is_not_after, is_sorted, issues, kept_if, key_cmp, keys_total, last_date, list_any, members, numbers, occurs, occurs_found, occurs_missing, option_map_or, payments_by, pays_before, row, said, same_lists, same_sums, says, sheet_as_of, sheet_rows, sorted_numbers, total, total-map, total-neg, total-same, total-swap, total-zero, total_numbers, position, idle_at, no_account_elsewhere, no_position, total-due, by_key, key_of, member_cash, paid, ◌++◌, flat_map, closing_at, filter-append, idle_parts, map-append, rows_of, sorted_filter}
+use Rattle.cns_terms.proofs.Cells.{cells, cells_of, find_cells, sorted_cells}
 use Rattle.cns_terms.specs.Dividends.{due, is_due}
 use Rattle.std.specs.FinMap as finmap
 use Rattle.cns_terms.proofs.Paid.{no_cash}
 use Rattle.cns_sheets.specs.Search.{row_at}
-use Rattle.cns_book.proofs.ClosingRows.{closing_found, number_found, of_all, shown_rise}
+
+-- one row more, or not, with its key
+with_key : (b : Bool) (r : Row) (rs : List Row) (es : List (Key × Row)) → by_key rs ≡ es → by_key (cond b (r ∷ rs) rs) ≡ cond b ((key_of r, r) ∷ es) es
+with_key b r rs es h1 = grind arith
+
+module _ (opening : Day) (K : Journal) where
+  -- the row at each key
+  abbrev row_of : Key → Row
+  row_of k = row opening K k.account k.issue
+
+  of_account : (a : Account) (cs : List Cusip) → by_key (filter says (map (row opening K a) cs)) ≡ filter (λ e. says e.1) (cells_of row_of a cs)
+  of_account a [] = refl
+  of_account a (c ∷ cs) = with_key (says (row opening K a c)) (row opening K a c) (filter says (map (row opening K a) cs)) (filter (λ e. says e.1) (cells_of row_of a cs)) (of_account a cs)
+
+  -- the rows of all accounts, with their keys
+  pub of_all : (bs : List Account) → by_key (flat_map (rows_of opening K) bs) ≡ filter (λ e. says e.1) (cells row_of bs (issues K))
+  of_all [] = refl
+  of_all (a ∷ bs) =
+      map-append (λ r. (key_of r, r)) (rows_of opening K a) (flat_map (rows_of opening K) bs)
+      ∙ (λ i. of_account a (issues K) i ++ of_all bs i)
+      ∙ sym (filter-append (λ (e : Key × Row). says e.1) (cells_of row_of a (issues K)) (cells row_of bs (issues K)))
+
+  module _ (g : Row → ℤ) (idle : (r : Row) → says r ≡ false → g r ≡ pos 0) where
+    -- a number of the row at a key, 0 where it has none, is that of the definitions
+    pub number_found : (k : Key) → IsSound K → option_map_or g (finmap.find key_cmp k (by_key (sheet_rows opening K))) (pos 0) ≡ g (row_of k)
+    number_found k s =
+        let kept = ap (finmap.find key_cmp k) (of_all (accounts K)) ∙ find_filter keys_total says k (cells row_of (accounts K) (issues K)) (sorted_cells row_of (accounts K) (issues K) s.accounts_rise s.issues_rise) in
+        grind (arith, find_cells row_of k (accounts K) (issues K), idle_at opening K k s, idle (row_of k))
+
+  -- the rows are in the order of their keys
+  pub shown_rise : IsSound K → is_sorted key_cmp (by_key (sheet_rows opening K)) ≡ true
+  shown_rise s =
+      ap (is_sorted key_cmp) (of_all (accounts K))
+      ∙ sorted_filter keys_total says (cells row_of (accounts K) (issues K)) (sorted_cells row_of (accounts K) (issues K) s.accounts_rise s.issues_rise)
+
+  -- the closing at a key, 0 where it has no row, is the position at the close
+  pub closing_found : (k : Key) → IsSound K → closing_at (sheet_rows opening K) k ≡ position K k.account k.issue
+  closing_found k s = number_found (λ r. r.closing) (λ r h. (idle_parts r h).1) k s
 
 -- ---- the members of a sheet
 
@@ -16,18 +54,11 @@ module _ (opening : Day) (K J : Journal) (k_sound : IsSound K) (j_sound : IsSoun
 
   -- nothing is paid to who was not there
   none_absent : (a : Account) (c : Cusip) → occurs a (accounts J) ≡ 0 → cash (position K a c) d.rate ≡ pos 0
-  none_absent a c h =
-      let absent : is_account K a ≡ false = grind (arith, occurs_found a (accounts K), among a) in
-      ap (λ q. cash q d.rate) (no_position a c K (no_account_elsewhere K a c k_sound absent)) ∙ no_cash d.rate
+  none_absent a c h = grind (arith, occurs_found, no_position, no_account_elsewhere, no_cash)
 
   -- what is paid at a key, by the members that are there now
   same_number : (k : Key) (s n m : Bool) → bytes_eq k.issue d.issue ≡ s → (k.account == corporation) ≡ n → list_any (λ a. k.account == a) (members J) ≡ m → cond (s && not n) (at_place k) (pos 0) ≡ unwrap_or (cond (m && (s || false)) (Some (at_place k)) None) (pos 0)
-  same_number k false n m is first me = grind arith
-  same_number k true true true is first me =
-      let twice : 2 ≤ occurs k.account (accounts J) = rw first (omega (arith, occurs_found k.account (members J) me)) in
-      absurd (omega (arith, twice, j_sound.distinct k.account))
-  same_number k true false false is first me = none_absent k.account k.issue (rw first (omega (arith, occurs_missing k.account (members J) me)))
-  same_number k true n m is first me = grind arith
+  same_number k s n m h1 h2 h3 = grind (arith, occurs_found, none_absent, occurs_missing)
 
   -- the rows of the sheet with their keys, as the definitions make them
   abbrev shown : List (Key × Row)
@@ -72,9 +103,7 @@ module _ (opening : Day) (J : Journal) (sound : IsSound J) where
 
   -- where no day is closed it books nothing
   books_none : (d : Declared) (k : Key) → pos 0 ≡ books_at d k []
-  books_none d k =
-      let nothing = total-same (λ a. cash (pos 0) d.rate) (λ a. pos 0) (members J) (λ a. no_cash d.rate) ∙ total-zero (members J) in
-      grind (arith, no_cash d.rate)
+  books_none d k = grind (arith, no_cash d.rate, total-same (λ a. cash (pos 0) d.rate) (λ a. pos 0) (members J) (λ a. no_cash d.rate) ∙ total-zero (members J))
 
   one_paid : (d : Declared) (k : Key) (Ks : List Journal) → AllByRecursion IsEarlier Ks
       → option_map_or (λ s. paid d s.rows k) (sheet_as_of (map (day_sheet opening) Ks) d.recorded) (pos 0) ≡ books_at d k (unwrap_or (find (λ K. is_not_after (date opening K) d.recorded) Ks) [])
@@ -93,8 +122,7 @@ module _ (opening : Day) (J : Journal) (sound : IsSound J) where
   all_due : (a : Account) (c : Cusip) → total (in_issue a c) (due opening J c) ≡ dividend opening J a c
   all_due a c =
       let paid : Declared → Account → ℤ = λ d b. cash (position (as_of opening J d.recorded) b c) d.rate in
-      let against = total-neg (λ d. total (paid d) (members J)) (due opening J c) ∙ ap neg_ℤ (total-swap paid (due opening J c) (members J)) in
-      grind arith
+      grind (arith, total-neg (λ d. total (paid d) (members J)) (due opening J c) ∙ ap neg_ℤ (total-swap paid (due opening J c) (members J)))
 
   -- what a close pays at a key
   pub dividends_are : (k : Key) → AllByRecursion IsEarlier (closings J) → dividend_of (payments_by (map (day_sheet opening) (closings J)) (filter (is_due (last_date opening J) (date opening J)) (in_order pays_before (dividends J)))) k ≡ dividend opening J k.account k.issue
@@ -105,8 +133,6 @@ module _ (opening : Day) (J : Journal) (sound : IsSound J) where
       ∙ total-same _ _ ds (λ d. grind (arith, one_paid d k (closings J) e) ∙ of_issue (bytes_eq k.issue d.issue) k.account k.issue d (λ t. sym ((bytes_eq-Decides k.issue d.issue).0 t)))
       ∙ total-due (in_issue k.account k.issue) (is_due (last_date opening J) (date opening J)) k.issue (dividends J)
       ∙ all_due k.account k.issue
-
--- ---- the rows of a close
 
 -- rows without their keys
 without_keys : (rs : List Row) → map (λ e. e.1) (by_key rs) ≡ rs

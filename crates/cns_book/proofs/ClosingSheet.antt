@@ -1,20 +1,18 @@
 -- The sheet that a close cuts is the one of the definitions.
 -- For `close_day` of parts/closing.rt, clause step.
-use Rattle.cns_book.proofs.Common.{◌≡◌, ◌∙◌, sym, ap, subst, refl, ℕ, ◌+◌, ◌*◌, ◌≤◌, ◌<◌, ℤ, pos, true, false, cond, List, [], ◌∷◌, length, map, filter, Some, None, unwrap_or, arith, option_map, slice_get, unsigned_abs, is_eq, nat_cmp, Activity, AllByRecursion, CanBePaid, Contents, Cusip, Day, DaySheet, Declared, Follows, Holding, IsCut, IsLimited, IsReady, IsSound, Journal, Key, Listed, Paying, Row, Rows, accounts, amount_limit, and_left, and_right, booking_limit, closing_at, closings, cons_option, date, day_sheet, dividend, dividend_of, dividends, each_both, each_filter, each_in_order, equal, exact_bytes, find_below, find_with, found_number, history_limit, holding_at, idle_parts, in_order, is_listed, is_sorted, issues, issues_few, journal, journal_len, key_cmp, keys_total, last_close, last_date, last_dated, limited, limited_past, money, nat_list_cmp_total, numbers, occurs, option_map_or, payments_by, pays_before, price, price_in, prices_of, rate_limit, row, rows_for, said, same_issue, same_lists, same_sums, sheet_as_of, sheet_rows, slice_cmp, sorted_numbers, tied_itself, total, total-map, total_numbers, position, tied_below, sorted_with, AreSmallRates, account_cents_small, account_dividends_small, accounts_grew, due_few, payable, sound_last, zeros, HaveSmallAmounts, by_key, key_of, priced_row, IsPayable, cut_row, slice_get-map}
+use Rattle.cns_book.proofs.Common.{◌≡◌, ◌∙◌, sym, ap, subst, refl, ℕ, ◌+◌, ◌≤◌, ◌<◌, ℤ, pos, true, false, cond, List, [], ◌∷◌, length, map, filter, Some, None, unwrap_or, arith, option_map, slice_get, unsigned_abs, is_eq, nat_cmp, Activity, AllByRecursion, Contents, Cusip, Day, DaySheet, Declared, Follows, Holding, IsCut, IsLimited, IsSound, Journal, Key, Listed, Paying, Row, Rows, accounts, amount_limit, and_left, and_right, closing_at, closings, cons_option, date, day_sheet, dividend, dividend_of, dividends, each_both, each_filter, each_in_order, equal, exact_bytes, find_below, find_with, found_number, history_limit, holding_at, idle_parts, in_order, is_listed, is_sorted, issues, issues_few, journal, journal_len, key_cmp, keys_total, last_close, last_date, last_dated, limited, limited_past, nat_list_cmp_total, numbers, occurs, option_map_or, payments_by, pays_before, price, price_in, prices_of, rate_limit, row, rows_for, said, same_issue, same_lists, same_sums, sheet_as_of, sheet_rows, slice_cmp, sorted_numbers, tied_itself, total, total-map, total_numbers, position, tied_below, sorted_with, AreSmallRates, account_cents_small, account_dividends_small, accounts_grew, due_few, payable, sound_last, zeros, HaveSmallAmounts, by_key, key_of, priced_row, IsPayable, cut_row, slice_get-map}
 use Rattle.std.specs.FinMap.{find}
 use Rattle.cns_terms.specs.Dividends.{is_due}
 use Rattle.cns_terms.specs.Sheets.{sheet_prices}
 use Rattle.cns_terms.proofs.PriceLists.{price_or_zero, sheet_price}
 use Rattle.cns_terms.proofs.SheetBounds.{closings_zero, moneys_zero, rows_few}
 use Rattle.cns_prices.specs.Listed.{listed_above}
-use Rattle.cns_sheets.specs.Condition.{held_in, rows_before}
+use Rattle.cns_sheets.specs.Condition.{held_in, rows_before, CanBePaid, IsReady}
 use Rattle.cns_sheets.proofs.Balance.{none_in, numbers_in}
 use Rattle.cns_sheets.proofs.Kept.{listed_found, prices_rise}
 use Rattle.cns_book.proofs.ClosingSteps.{whole_reached}
-use Rattle.cns_book.proofs.ClosingPayments.{dividends_are, rows_are_cut}
-use Rattle.cns_book.proofs.ClosingRows.{closing_found, shown_rise, number_found}
-
--- ---- prices
+use Rattle.cns_book.proofs.PartsWithin.{cents_few}
+use Rattle.cns_book.proofs.ClosingPayments.{dividends_are, rows_are_cut, closing_found, shown_rise, number_found}
 
 -- the list of prices is that of the definitions
 prices_are : (J : Journal) (es : Listed) → IsSound J → is_sorted (slice_cmp nat_cmp) es ≡ true → ((c : Cusip) → price_in es c ≡ cond (is_listed J c) (Some (price J c)) None) → listed_above es None ≡ sheet_prices J
@@ -52,17 +50,6 @@ module _ (L : List Activity) (s : Contents) (f : Follows L s) where
   pub cut_is : (rows : List Row) → IsCut (prices_of (slice_get s.sheets 0)) s.prices s.rows (paid_now s) rows → rows ≡ sheet_rows s.opening journal_now
   cut_is rows cut = rows_are_cut s.opening journal_now rows (whole_reached L f).now cut.order (λ k. cut.each k ∙ ap said (row_is k))
 
--- ---- what a sheet asks of positions
-
--- the cents at each key are few
-pub cents_few : (L : List Activity) (s : Contents) (k : Key) → Follows L s → length L + 1 < history_limit → unsigned_abs (holding_at s.rows k).contract ≤ booking_limit * history_limit
-cents_few L s k f room =
-    let J = journal s.opening L in
-    let cents = (limited s.opening L f.reached).cents k.account k.issue in
-    let now = f.rows k in
-    let few : unsigned_abs (money J k.account k.issue) ≤ booking_limit * history_limit = omega (arith, cents, journal_len s.opening L) in
-    grind arith
-
 -- what holds at each key holds of each row
 each_row : (Q : Holding → Type 0) (R : Rows) → Q zeros → is_sorted key_cmp R ≡ true → ((k : Key) → Q (holding_at R k)) → AllByRecursion (λ e. Q e.1) R
 each_row Q [] z s h = tt
@@ -79,8 +66,6 @@ each_row Q (e ∷ R) z s h =
 opening_is : (opening : Day) (Ks : List Journal) (k : Key) → AllByRecursion IsSound Ks → position (unwrap_or (slice_get Ks 0) []) k.account k.issue ≡ closing_at (rows_before (slice_get (map (day_sheet opening) Ks) 0)) k
 opening_is opening [] k h = refl
 opening_is opening (K ∷ Ks) k h = sym (closing_found opening K k h.0)
-
--- ---- what holds of rows at keys
 
 -- a number of the holding at each key adds up in each issue as that of the rows
 same_by_issue : (f : Holding → ℤ) (g : Row → ℤ) (R : Rows) (rows : List Row) (c : Cusip) → is_sorted key_cmp R ≡ true → is_sorted key_cmp (by_key rows) ≡ true
@@ -134,20 +119,8 @@ paying_few ss (d ∷ ds) = grind (arith, paying_few ss ds)
 
 -- the dividends of a close can be paid
 pub can_be_paid : (L : List Activity) (s : Contents) → Follows L s → length L + 1 < history_limit → CanBePaid (paid_now s)
-can_be_paid L s f room =
-    let J = journal s.opening L in
-    let due = is_due (last_date s.opening J) (date s.opening J) in
-    let ds = filter due (in_order pays_before (dividends J)) in
-    let low = each_filter (λ d. d.rate ≤ rate_limit) due (in_order pays_before (dividends J)) (each_in_order (λ d. d.rate ≤ rate_limit) pays_before (dividends J) (limited s.opening L f.reached).rates) in
-    subst CanBePaid (sym (paid_is_due L s f)) (record {
-      payable = all_payable s.opening (closings J) ds (limited_past s.opening L f.reached) low;
-      few = omega (arith, paying_few (map (day_sheet s.opening) (closings J)) ds, due_few due J, journal_len s.opening L, room);
-    })
+can_be_paid L s f room = grind (arith, each_filter, each_in_order, limited, paid_is_due, payable, all_payable, limited_past, paying_few, due_few, journal_len)
 
 -- the sheet
 pub sheet_is : (L : List Activity) (s : Contents) (sheet : DaySheet) → Follows L s → is_sorted (slice_cmp nat_cmp) s.prices ≡ true → sheet.date ≡ s.today → sheet.prices ≡ listed_above s.prices None → IsCut (prices_of (slice_get s.sheets 0)) s.prices s.rows (paid_now s) sheet.rows → sheet ≡ day_sheet s.opening (journal s.opening L)
-sheet_is L s sheet f order dated listed cut = λ i. record {
-  date = (dated ∙ f.clock.today) i;
-  prices = (listed ∙ prices_are (journal s.opening L) s.prices (whole_reached L f).now order f.listings.prices) i;
-  rows = cut_is L s f sheet.rows cut i;
-}
+sheet_is L s sheet f order dated listed cut = grind (arith, prices_are, whole_reached, cut_is)

@@ -1,15 +1,53 @@
 -- What an accepted execution fills.
 -- For `make_fills` and `execute` of parts/execution.rt, clauses fills, booked and step.
-use Rattle.cns_book.proofs.Common.{◌≡◌, ◌∙◌, ap, sym, subst, ℕ, ◌≤◌, List, [], ◌∷◌, length, Ok, Option, Some, Activity, CanBeExecuted, Contents, Execution, Fill, Follows, HasRoom, IsAccepted, IsExecutable, Key, Liables, Notice, Noticed, Rows, batch_on, books, capped_short, charged_on, entries_by, fills, fills_by, fills_of, holding_at, journal, notice_at, option_map_or, room, room_of, with_notice, Given, kept, Steps}
-use Rattle.cns_notices.specs.Noticed.{executes, notice_at as kept_at}
-use Rattle.cns_terms.specs.declared.command.Activity.TheVariants as activity
-use Rattle.cns_terms.specs.declared.command.Command.TheVariants as command
-use Rattle.cns_book.proofs.ExecutionRefusals.{AreShort, executable_one, execute_follows, fills_same, named, read_of, room_by, room_same}
-use Rattle.cns_terms.specs.declared.reply.Reply.TheVariants as reply
-use Rattle.cns_book.proofs.ExecutionFills.{can_execute}
-use Rattle.cns_book.proofs.MachineSteps.{accepted}
-use Rattle.cns_book.proofs.ExecutionRoom.{members_of}
+use Rattle.cns_book.proofs.Common.{◌≡◌, ◌∙◌, ap, sym, subst, ℕ, ◌≤◌, List, [], ◌∷◌, length, Ok, Option, Some, Activity, CanBeExecuted, Contents, Execution, Fill, Follows, HasRoom, IsAccepted, IsExecutable, Key, Liables, Notice, Noticed, Rows, batch_on, books, capped_short, charged_on, entries_by, fills, fills_by, fills_of, holding_at, journal, notice_at, option_map_or, room, room_of, with_notice, Given, Steps, ◌+◌, false, filter, sum_by, arith, ◌==◌, nat_lt, AllByRecursion, AreApart, CanBeFilled, IsInRange, Liable, Member, batch, capacity, cents_of_fills, each_both, each_filter, each_weaker, filled_at, fills_laid, laid, nat_tests, originator_at, shares_of_fills, short, sum_by-cons, min-le_right, position, IsWithin, Command, Reply}
+use Rattle.cns_notices.specs.Noticed.{executes}
+use Rattle.cns_book.proofs.ExecutionRefusals.{AreShort, executable_one, execute_follows, fills_same, named, room_by, room_same, members_of, sound_at}
+use Rattle.cns_book.proofs.PartsStaying.{accepted}
 use Rattle.cns_book.proofs.PartsWithin.{rows_within}
+use Rattle.cns_terms.proofs.BuyIns.{batch_once, remains_long, times}
+
+module _ (now : Member → ℕ) (n m : ℕ) where
+  -- the fills of members whose stretches begin at a share
+  abbrev filled_from : ℕ → List Liable → List Fill
+  filled_from from ls = filter (λ f. nat_lt 0 f.shares) (laid (capacity now) n m from ls)
+
+  short_each : (from : ℕ) (ls : List Liable) → AllByRecursion (λ f. 1 ≤ now f.member) (filled_from from ls)
+  short_each from [] = tt
+  short_each from (l ∷ ls) = grind (arith, nat_tests, min-le_right n (from + capacity now l), short_each (from + capacity now l) ls)
+
+  -- members other than those of the batch's rest
+  others_each : (a : Member) (from : ℕ) (ls : List Liable) → times (λ (l : Liable). l.member) a ls ≤ 0 → AllByRecursion (λ f. (f.member == a) ≡ false) (laid (capacity now) n m from ls)
+  others_each a from [] h = tt
+  others_each a from (l ∷ ls) h = grind (arith, others_each a (from + capacity now l) ls (omega (arith, h)))
+
+  apart_each : (from : ℕ) (ls : List Liable) → ((a : Member) → times (λ (l : Liable). l.member) a ls ≤ 1) → AreApart (filled_from from ls)
+  apart_each from [] once = tt
+  apart_each from (l ∷ ls) once =
+      let only : times (λ (k : Liable). k.member) l.member ls ≤ 0 = grind (arith, once l.member) in
+      grind (arith, each_filter (λ (f : Fill). (f.member == l.member) ≡ false) (λ f. nat_lt 0 f.shares) (laid (capacity now) n m (from + capacity now l) ls) (others_each l.member (from + capacity now l) ls only), apart_each (from + capacity now l) ls (λ a. omega (arith, once a)))
+
+each_few : (h : Fill → ℕ) (fs : List Fill) (n : ℕ) → sum_by h fs ≤ n → AllByRecursion (λ f. h f ≤ n) fs
+each_few h [] n le = tt
+each_few h (f ∷ fs) n le = grind (arith, sum_by-cons h f fs, each_few h fs n)
+
+-- ---- all fills can be booked
+
+pub can_execute : (L : List Activity) (s : Contents) (x : Execution) (k : Notice) → Follows L s → ((key : Key) → IsWithin (holding_at s.rows key)) → IsInRange (Activity.Execute x) → IsExecutable (journal s.opening L) x k → CanBeExecuted s.rows k.given (fills (journal s.opening L) x k)
+can_execute L s x k f within range can =
+    let J = journal s.opening L in
+    let now : Member → ℕ = λ a. short (position J a k.given.issue) in
+    let ls = batch J k.given.day k.given.issue in
+    let fs = fills J x k in
+    let laid_is : fs ≡ filled_from now x.shares x.money 0 ls = fills_laid now x.shares x.money ls in
+    record {
+      bought = record { within = within (originator_at k.given); long = grind (arith, f.rows (originator_at k.given), remains_long J k, can.enough, range.0) };
+      filled = each_weaker (λ g. (1 ≤ now g.member) × ((g.shares ≤ x.shares) × (g.cents ≤ x.money))) (λ g. CanBeFilled (holding_at s.rows (filled_at k.given g)) g) fs
+          (λ g h. record { within = within (filled_at k.given g); short = grind (arith, f.rows (filled_at k.given g), h.0); shares = omega (arith, h.1.0, range.1); cents = omega (arith, h.1.1, range.2) })
+          (each_both (λ g. 1 ≤ now g.member) (λ g. (g.shares ≤ x.shares) × (g.cents ≤ x.money)) fs (subst (λ gs. AllByRecursion (λ g. 1 ≤ now g.member) gs) (sym laid_is) (short_each now x.shares x.money 0 ls))
+          (each_both (λ g. g.shares ≤ x.shares) (λ g. g.cents ≤ x.money) fs (each_few (λ g. g.shares) fs x.shares (omega (arith, shares_of_fills now x.shares x.money ls can.roomy))) (each_few (λ g. g.cents) fs x.money (omega (arith, cents_of_fills now x.shares x.money ls range.0 can.roomy)))));
+      apart = subst AreApart (sym laid_is) (apart_each now x.shares x.money 0 ls (λ a. omega (arith, batch_once J k.given.day k.given.issue a, (sound_at s.opening L k.given.day f.reached).distinct a)));
+    }
 
 -- the notice of an accepted execution
 pub record IsOfNotice (L : List Activity) (s : Contents) (x : Execution) (g : Given) (k : Notice) : Type 0 where
@@ -19,14 +57,8 @@ pub record IsOfNotice (L : List Activity) (s : Contents) (x : Execution) (g : Gi
 
 pub of_notice : (L : List Activity) (s : Contents) (x : Execution) (g : Given) → Follows L s → IsAccepted s x g → (k : Notice) × IsOfNotice L s x g k
 of_notice L s x g f a =
-    let n = named L s x.notice f a.named in (
-      n.0,
-      record {
-        found = n.1.found;
-        given = read_of (λ y. y.given) (kept_at s.notices x.notice) (kept (journal s.opening L) n.0) g n.1.kept a.there;
-        can = executable_one s.opening (journal s.opening L) x n.0 (a.accepted L f) n.1.found;
-      },
-    )
+    let n = named L s x.notice f a.named in
+    (n.0, grind (arith, n.1.found, n.1.kept, a.there, executable_one s.opening (journal s.opening L) x n.0 (a.accepted L f) n.1.found))
 
 -- its batch has room for it
 pub accepted_room : (s : Contents) (x : Execution) (g : Given) (b : Liables) → HasRoom s → IsAccepted s x g → batch_on s.batches g.day g.issue ≡ Some b → x.shares ≤ room_of (capped_short s.rows g.issue) b.members
@@ -53,22 +85,18 @@ accepted_can s x g b fs r a e is =
     let same : fs ≡ fills (journal s.opening r.activities) x n.0 = is ∙ accepted_fills r.activities s x g b r.follows w.shares a e ∙ ap (λ o. option_map_or (fills (journal s.opening r.activities) x) o []) n.1.found in
     rw (n.1.given, same) (can_execute r.activities s x n.0 r.follows (λ k. record { shares = w.shares k; cents = w.cents k }) a.range n.1.can)
 
--- ---- what it leaves
-
 -- the reply is the machine's, and so is the step
 pub accepted_steps : (L : List Activity) (s : Contents) (x : Execution) (g : Given) (fs : List Fill) (n : ℕ) (rows : Rows) (notices : List Noticed) (batches : List (List Liables)) (day : ℕ) (gs : List Fill) → Follows L s → IsAccepted s x g → fs ≡ fills_by (journal s.opening L) x → n ≡ length fs
     → ((k : Key) → holding_at rows k ≡ books (entries_by x g fs) k (holding_at s.rows k))
     → notices ≡ with_notice (executes x.shares) x.notice s.notices
     → batches ≡ charged_on s.batches day g.issue gs → day ≡ g.day → gs ≡ fs
-    → Steps L (command.Activity (activity.Execute x)) (Ok (reply.Executed n)) (record s { rows = rows; notices = notices; batches = batches })
+    → Steps L (Command.Activity (Activity.Execute x)) (Ok (Reply.Executed n)) (record s { rows = rows; notices = notices; batches = batches })
 accepted_steps L s x g fs n rows notices batches day gs f a is count booked ns bs days charges =
     let J = journal s.opening L in
     let one = of_notice L s x g f a in
-    let given = one.1.given in
-    let none = a.accepted L f in
     let same : fs ≡ fills J x one.0 = is ∙ ap (λ o. option_map_or (fills J x) o []) one.1.found in
-    let charged : batches ≡ charged_on s.batches one.0.given.day one.0.given.issue (fills J x one.0) = bs ∙ (λ i. charged_on s.batches (days i) g.issue (charges i)) ∙ (λ i. charged_on s.batches (given i).day (given i).issue (same i)) in
-    accepted {s = record s { rows = rows; notices = notices; batches = batches }} L (activity.Execute x) (reply.Executed n) none
-    (ap reply.Executed (count ∙ ap length same ∙ sym (ap (λ o. option_map_or (λ k. length (fills J x k)) o 0) one.1.found)))
-    (subst (Follows (activity.Execute x ∷ L)) (λ i. record s { rows = rows; notices = sym ns i; batches = sym charged i })
-    (execute_follows L s x one.0 rows f a.range none a.named.0 one.1.found (λ k. booked k ∙ (λ i. books (entries_by x (given i) (same i)) k (holding_at s.rows k)))))
+    let charged : batches ≡ charged_on s.batches one.0.given.day one.0.given.issue (fills J x one.0) = bs ∙ (λ i. charged_on s.batches (days i) g.issue (charges i)) ∙ (λ i. charged_on s.batches (one.1.given i).day (one.1.given i).issue (same i)) in
+    accepted {s = record s { rows = rows; notices = notices; batches = batches }} L (Activity.Execute x) (Reply.Executed n) (a.accepted L f)
+    (ap Reply.Executed (count ∙ ap length same ∙ sym (ap (λ o. option_map_or (λ k. length (fills J x k)) o 0) one.1.found)))
+    (subst (Follows (Activity.Execute x ∷ L)) (λ i. record s { rows = rows; notices = sym ns i; batches = sym charged i })
+    (execute_follows L s x one.0 rows f a.range (a.accepted L f) a.named.0 one.1.found (λ k. booked k ∙ (λ i. books (entries_by x (one.1.given i) (same i)) k (holding_at s.rows k)))))

@@ -1,12 +1,10 @@
 -- A close tells the date of its day, and how many rows its sheet and how many members its batches have.
 -- For `close_counts` of laws.rt.
-use Rattle.cns_book.proofs.Common.{◌≡◌, ◌∙◌, ap, sym, subst, refl, ◌≤◌, cond, List, [], ◌∷◌, flat_map, length, Option, Some, None, arith, is_none, length-append, Command, Cusip, Day, IsWhole, Journal, Refusal, State, after, at_close, batch_at, batch_since, batches_since, closings, date, day, issues, journal, journal_of, left_of, length-map, next, opened, option_map_or, posting, refusal, sheet_rows, liable_at, activity_reply, keeps-after, opening_stays, whole-after, whole-next}
+use Rattle.cns_book.proofs.Common.{Activity, ◌≡◌, ◌∙◌, ap, sym, subst, refl, ◌≤◌, cond, List, [], ◌∷◌, flat_map, length, Option, Some, None, arith, is_none, length-append, Command, Cusip, Day, IsWhole, Journal, Refusal, State, after, at_close, batch_at, batch_since, batches_since, closings, date, day, issues, journal, journal_of, left_of, length-map, next, opened, option_map_or, posting, refusal, sheet_rows, liable_at, activity_reply, opening_stays, whole-after, whole-next, Reply}
+use Rattle.cns_terms.proofs.ClosedDays.{keeps-after}
 use Rattle.cns_terms.specs.declared.reply.Closed.{Closed}
-use Rattle.cns_terms.specs.declared.command.Activity.TheVariants as activity
 use Rattle.cns_book.specs.Closes.{CloseCounts, TellsDay, liable_in}
-use Rattle.cns_terms.specs.declared.command.Command.TheVariants as command
 use Rattle.cns_book.proofs.RetransmittalSteps.{sum_of}
-use Rattle.cns_terms.specs.declared.reply.Reply.TheVariants as reply
 
 -- executions leave the members in their batches
 still_liable : (J K : Journal) (cs : List Cusip) → length (flat_map (batch_since J K) cs) ≡ length (flat_map (batch_at K) cs)
@@ -14,21 +12,21 @@ still_liable J K [] = refl
 still_liable J K (c ∷ cs) = grind (arith, length-append, length-map (batch_at K c) (left_of J (day K) c), still_liable J K cs)
 
 -- what an accepted close tells, and what the journal has at the close of its day from then on
-by_refusal : (S : State) (more : List Command) (d : Day) (c : Closed) (o : Option Refusal) → IsWhole S.opening (journal_of S) → refusal S.opening (journal_of S) (command.Activity (activity.Close d)) ≡ o
-    → option_map_or reply.Refused o (activity_reply S.opening (journal_of S) (activity.Close d)) ≡ reply.Closed c
-    → TellsDay (after (next S (command.Activity (activity.Close d))) more) c
+by_refusal : (S : State) (more : List Command) (d : Day) (c : Closed) (o : Option Refusal) → IsWhole S.opening (journal_of S) → refusal S.opening (journal_of S) (Command.Activity (Activity.Close d)) ≡ o
+    → option_map_or Reply.Refused o (activity_reply S.opening (journal_of S) (Activity.Close d)) ≡ Reply.Closed c
+    → TellsDay (after (next S (Command.Activity (Activity.Close d))) more) c
 by_refusal S more d c (Some r) w o e = cc
 by_refusal S more d c None w o e =
     let J = journal_of S in
-    let close = command.Activity (activity.Close d) in
+    let close = Command.Activity (Activity.Close d) in
     let S' = next S close in
     let J' = journal_of (after S' more) in
-    let told : activity_reply S.opening J (activity.Close d) ≡ reply.Closed c = e in
+    let told : activity_reply S.opening J (Activity.Close d) ≡ Reply.Closed c = e in
     let liable : length (liable_at J) ≡ c.liable = cc in
     let rows : length (sheet_rows S.opening J) ≡ c.rows = cc in
     let dated : date S.opening J ≡ c.date = cc in
     let on : day J ≡ c.day = cc in
-    let closed : journal_of S' ≡ posting S.opening J (activity.Close d) ∷ J = ap (λ r. journal S.opening (cond (is_none r) (activity.Close d ∷ S.accepted) S.accepted)) o in
+    let closed : journal_of S' ≡ posting S.opening J (Activity.Close d) ∷ J = ap (λ r. journal S.opening (cond (is_none r) (Activity.Close d ∷ S.accepted) S.accepted)) o in
     let k = keeps-after S' more (whole-next S close w) in
     let found : at_close (journal_of S') (day J) ≡ J = ap (λ K. at_close K (day J)) closed ∙ grind arith in
     let fits : day J ≤ length (closings (journal_of S')) = subst (λ K. day J ≤ length (closings K)) (sym closed) (omega arith) in

@@ -1,28 +1,69 @@
--- What an activity leaves: of each group of parts, which activities change it.
--- For every command, clause step.
--- For `declare_dividend` of parts/dividend.rt, `list_issue`, `add_member` and `set_price` of parts/listing.rt and others.
-use Rattle.cns_book.proofs.Common.{◌≡◌, ◌∙◌, sym, ap, Bool, true, false, [], ◌∷◌, None, is_some, reverse, arith, Activity, Contents, FollowsListings, FollowsNotices, FollowsRows, Journal, Key, Rows, books, closings, entries, exchanged, holding_at, is_close, posting, declared, executed, FollowsBatches, FollowsClock, FollowsDividends, FollowsSheets}
-use Rattle.cns_terms.specs.declared.command.Activity.TheVariants as activity
-use Rattle.cns_book.proofs.RetransmittalBatches.{batches_same, executes_none}
-use Rattle.cns_book.proofs.EffectPlaces.{holding-post}
+-- What an activity leaves of each group of parts, and the machine's reply and step, by whether a command is refused.
+-- For `add_member` of parts/listing.rt, `withdraw` of parts/notice.rt and every other command, clause step.
+use Rattle.cns_book.proofs.Common.{all_fail, ◌≡◌, ap, false, List, [], ◌∷◌, Some, None, Ok, is_none, Result, IsErr, arith, Activity, AllByRecursion, Command, Contents, Follows, Refusal, Reply, Rule, first_refusal, journal, refusal, activity_reply, Steps, ◌∙◌, sym, Bool, true, is_some, FollowsNotices, FollowsRows, Journal, Key, Rows, books, entries, exchanged, holding_at, is_close, posting, FollowsBatches, refl, ℕ, ◌++◌, length, map, filter, reverse, nat_lt, Cusip, Day, Liable, Liables, Posting, batch_since, batches_since, closings, day, executes, issues, kept_batches, map-append, reverse-append, batch_same}
+use Rattle.cns_terms.specs.Notices.{executed}
+use Rattle.cns_terms.specs.Dividends.{declared}
+use Rattle.cns_terms.specs.declared.fault.NoMemory.{NoMemory}
+use Rattle.cns_book.proofs.EffectEntries.{holding-post}
+
+-- an activity that is no execution executes no notice
+pub executes_none : (J : Journal) (n : ℕ) (c : Cusip) (x : Activity) → is_some (executed x) ≡ false → executes J n c x ≡ false
+executes_none J n c x h1 = grind arith
+
+-- a batch in an issue
+abbrev pub in_issue : (Cusip → List Liable) → Cusip → Liables
+in_issue f c = record { issue = c; members = f c }
+
+-- the batches of a day, after an activity that executes no notice of that day
+pub since_same : (p : Posting) (J K : Journal) → ((c : Cusip) → executes J (day K) c p.activity ≡ false) → batches_since (p ∷ J) K ≡ batches_since J K
+since_same p J K h = ap (filter (λ b. nat_lt 0 (length b.members))) (each (issues K))
+  where
+    each : (cs : List Cusip) → map (in_issue (batch_since (p ∷ J) K)) cs ≡ map (in_issue (batch_since J K)) cs
+    each [] = refl
+    each (c ∷ cs) = grind (arith, batch_same p J K c (h c), each cs)
+
+-- those of many days, after one that executes none at all
+pub batches_same : (p : Posting) (J : Journal) (Ks : List Journal) → ((n : ℕ) (c : Cusip) → executes J n c p.activity ≡ false) → map (batches_since (p ∷ J)) Ks ≡ map (batches_since J) Ks
+batches_same p J [] h = refl
+batches_same p J (K ∷ Ks) h = λ i. since_same p J K (h (day K)) i ∷ batches_same p J Ks h i
+
+-- the batches of the day that was closed come last
+pub batches_more : (opening : Day) (J : Journal) (d : Day) → kept_batches (posting opening J (Activity.Close d) ∷ J) ≡ kept_batches J ++ batches_since J J ∷ []
+batches_more opening J d = grind (arith, reverse-append (J ∷ []) (closings J), map-append, batches_same (posting opening J (Activity.Close d)) J (reverse (closings J)) (λ n c. executes_none J n c (Activity.Close d) refl), since_same (posting opening J (Activity.Close d)) J J (λ c. executes_none J (day J) c (Activity.Close d) refl))
+
+-- an accepted activity
+pub accepted : {s : Contents} (L : List Activity) (x : Activity) (r : Reply) → refusal s.opening (journal s.opening L) (Command.Activity x) ≡ None → r ≡ activity_reply s.opening (journal s.opening L) x → Follows (x ∷ L) s → Steps L (Command.Activity x) (Ok r) s
+accepted {s} L x r none same f = grind arith
+
+-- a refused one
+pub refused : {s : Contents} (L : List Activity) (x : Activity) (r : Refusal) → refusal s.opening (journal s.opening L) (Command.Activity x) ≡ Some r → Follows L s → Steps L (Command.Activity x) (Ok (Reply.Refused r)) s
+refused {s} L x r some f = grind arith
+
+-- of rules that refuse nothing, none holds
+pub none_fails : (rs : List Rule) → first_refusal rs ≡ None → AllByRecursion (λ r. r.1 ≡ false) rs
+none_fails rs e = all_fail rs (ap is_none e)
+
+-- without memory nothing that is shown has changed
+pub stopped : {s : Contents} (L : List Activity) (cmd : Command) (r : Result Reply NoMemory) → IsErr r → refusal s.opening (journal s.opening L) cmd ≡ None → Follows L s → Steps L cmd r s
+stopped L cmd r h1 h2 h3 = grind arith
 
 -- whether an activity changes members, listed issues or retired ones
 abbrev pub is_listing : Activity → Bool
-is_listing (activity.Member m) = true
-is_listing (activity.Issue l) = true
-is_listing (activity.Price l) = true
-is_listing (activity.Exchange x) = true
+is_listing (Activity.Member m) = true
+is_listing (Activity.Issue l) = true
+is_listing (Activity.Price l) = true
+is_listing (Activity.Exchange x) = true
 is_listing _ = false
 
 -- whether an activity gives notice or touches one
 abbrev pub is_noticing : Activity → Bool
-is_noticing (activity.Receive m) = true
-is_noticing (activity.Split s) = true
-is_noticing (activity.Exchange x) = true
-is_noticing (activity.Notice m) = true
-is_noticing (activity.Withdraw k) = true
-is_noticing (activity.Execute x) = true
-is_noticing (activity.Close d) = true
+is_noticing (Activity.Receive m) = true
+is_noticing (Activity.Split s) = true
+is_noticing (Activity.Exchange x) = true
+is_noticing (Activity.Notice m) = true
+is_noticing (Activity.Withdraw k) = true
+is_noticing (Activity.Execute x) = true
+is_noticing (Activity.Close d) = true
 is_noticing _ = false
 
 -- whether an activity executes a notice
@@ -36,18 +77,6 @@ is_dividend x = is_some (declared x)
 module _ (s : Contents) (J : Journal) where
   abbrev after : Activity → Journal
   after x = posting s.opening J x ∷ J
-
-  pub clock_stays : (x : Activity) → is_close x ≡ false → FollowsClock J s → FollowsClock (after x) s
-  clock_stays x h f = grind arith
-
-  pub listings_stay : (x : Activity) → is_listing x ≡ false → FollowsListings J s → FollowsListings (after x) s
-  listings_stay x h f = grind arith
-
-  pub dividends_stay : (x : Activity) → is_dividend x ≡ false → FollowsDividends J s → FollowsDividends (after x) s
-  dividends_stay x h1 h2 = grind arith
-
-  pub sheets_stay : (x : Activity) → is_close x ≡ false → FollowsSheets J s → FollowsSheets (after x) s
-  sheets_stay x h1 h2 = grind arith
 
   -- what an activity books that is no exchange, and no more, is the effect on the rows
   pub rows_booked : (x : Activity) (rows : Rows) → is_close x ≡ false → is_listing x ≡ false → ((k : Key) → holding_at rows k ≡ books (entries s.opening J x) k (holding_at s.rows k)) → FollowsRows J s → FollowsRows (after x) (record s { rows = rows })
@@ -63,6 +92,4 @@ module _ (s : Contents) (J : Journal) where
 
   -- one that executes none leaves the batches
   pub batches_stay : (x : Activity) → is_close x ≡ false → is_execution x ≡ false → FollowsBatches J s → FollowsBatches (after x) s
-  batches_stay x still unexecuted f =
-      let same = batches_same (posting s.opening J x) J (reverse (closings J)) (λ n c. executes_none J n c x unexecuted) in
-      grind arith
+  batches_stay x still unexecuted f = grind (arith, batches_same, executes_none)

@@ -1,10 +1,7 @@
 -- Trades that wait, in the order in which they were taken.
 -- For `book_trade` of parts/trading.rt, `close_day` of parts/closing.rt, `split` and `exchange` of parts/actions.rt, clause step.
-use Rattle.cns_book.proofs.Common.{◌≡◌, sym, ap, refl, ◌≤◌, Bool, false, not, List, [], ◌∷◌, append-nil, filter, length, map, reverse, Option, arith, filter_map, Account, Activity, Contents, Cusip, Day, Follows, Journal, Pend, activities, bought_by, bought_in, date, filter-append, ints, is_not_after, journal, journal_len, length-map, length-reverse, list_any, neither, pend_of, pending, reverse_onto, sold_by, sold_in, waits_in, is_due}
-use Rattle.cns_terms.specs.Listings.{traded}
+use Rattle.cns_book.proofs.Common.{◌≡◌, sym, refl, ◌≤◌, Bool, false, not, List, [], ◌∷◌, append-nil, filter, length, reverse, Option, arith, filter_map, Account, Activity, Contents, Cusip, Day, Follows, Journal, Pend, bought_by, bought_in, filter-append, ints, is_not_after, journal_len, length-map, length-reverse, list_any, neither, reverse_onto, sold_by, sold_in, waits_in, is_due, closes}
 use Rattle.std.proofs.lemmas.List.Sorted.{sum_by-IsPermutation, IsPermutation-reverse, list_any-IsPermutation}
-
--- ---- the other way round
 
 pub bought-reverse : (ps : List Pend) (a : Account) (c : Cusip) → bought_in (reverse ps) a c ≡ bought_in ps a c
 bought-reverse ps a c = sum_by-IsPermutation (bought_by a c) ps (reverse ps) (IsPermutation-reverse ps)
@@ -19,8 +16,6 @@ pub filter-reverse : {X : Type 0} (t : X → Bool) (xs : List X) → filter t (r
 filter-reverse t [] = refl
 filter-reverse t (x ∷ xs) = grind (arith, reverse_onto, filter-append, append-nil, filter-reverse t xs)
 
--- ---- what a close leaves
-
 -- what waits for a later day also waited for an earlier one
 pub still_later : (today next : Day) (ps : List Pend) → is_not_after next today ≡ false → filter (λ p. not (is_due next p)) (filter (λ p. not (is_due today p)) ps) ≡ filter (λ p. not (is_due next p)) ps
 still_later today next [] h = refl
@@ -30,8 +25,6 @@ still_later today next (p ∷ ps) h = grind (arith, ints, still_later today next
 pub none_kept : {X : Type 0} (t : X → Bool) (xs : List X) → list_any t xs ≡ false → filter t xs ≡ []
 none_kept t [] h = refl
 none_kept t (x ∷ xs) h = grind (arith, neither, none_kept t xs)
-
--- ---- how many wait
 
 -- no more are kept than there are
 pub filter_few : {X : Type 0} (t : X → Bool) (xs : List X) → length (filter t xs) ≤ length xs
@@ -44,16 +37,9 @@ chosen_few f (x ∷ xs) = grind (arith, chosen_few f xs)
 
 -- no more trades wait than there are activities
 pub pending_few : (s : Contents) (L : List Activity) → Follows L s → length s.trades.pending ≤ length L
-pending_few s L f =
-    let J : Journal = journal s.opening L in
-    let ts = filter_map traded (activities J) in
-    omega (
-      arith,
-      ap (λ (ps : List Pend). length ps) f.pending,
-      length-reverse (pending s.opening J),
-      filter_few (λ p. not (is_due (date s.opening J) p)) (map pend_of ts),
-      length-map ts pend_of,
-      chosen_few traded (activities J),
-      length-map J (λ p. p.activity),
-      journal_len s.opening L,
-    )
+pending_few s L f = grind (arith, length-reverse, filter_few, length-map, chosen_few, journal_len)
+
+-- no more closes than postings
+pub closes_le : (J : Journal) → closes J ≤ length J
+closes_le [] = omega arith
+closes_le (p ∷ J) = grind (arith, closes_le J)

@@ -8,18 +8,21 @@ ghost use Rattle.cns_book.specs.Closes.{CloseCounts};
 
 /// What is accepted of any list of commands whose values are in their ranges, as those of [`cns_units`] are, was not
 /// refused after what was accepted before it.
+#[tactic(auto, using(cns_terms::proofs::Reached::reaches))]
 pub fn reaches()
     ensures { Reaches }
 {}
 
 /// The marks of each closed day's sheet add up to zero cents over all accounts, the corporation's included, and so do
 /// its dividends. The day is named by its place or by its date.
+#[tactic(auto, using(cns_terms::proofs::SheetSums::zero_sums))]
 pub fn zero_sums()
     ensures { ZeroSums }
 {}
 
 /// A closed day keeps its sheet, date, prices and rows, whatever is taken later, and each account its statement on it.
 /// The day is named by its place or by its date.
+#[tactic(auto, using(cns_terms::proofs::ClosedDays::closed_days))]
 pub fn closed_days()
     ensures { ClosedDays }
 {}
@@ -44,6 +47,7 @@ pub fn amounts()
 
 /// The rules of each command stand in the order of their refusals' numbers, so that the first that holds is the one of
 /// least number.
+#[tactic(auto, using(cns_terms::proofs::RefusalOrder::refusal_order))]
 pub fn refusal_order()
     ensures { RefusalOrder }
 {}

@@ -1,6 +1,6 @@
 -- The shares of a history's lines add up to its position.
 -- For `shares_add_up` of laws.rt.
-use Rattle.cns_history.proofs.Common.{◌≡◌, ◌∙◌, ℕ, ◌+◌, pos, ◌-ℤ◌, List, [], ◌∷◌, Option, Ok, Err, option_map, option_to_list, arith, Activity, Day, State, answer, date, journal_of, next, opened, total, Holding, Key, booked, booking, closing, counted_from, lines_at, standing}
+use Rattle.cns_history.proofs.Common.{◌≡◌, ◌∙◌, ℕ, ◌+◌, pos, ◌-ℤ◌, List, [], ◌∷◌, Option, Ok, Err, option_map, option_to_list, arith, Day, State, answer, date, journal_of, next, opened, total, Holding, Key, booked, booking, closing, counted_from, lines_at, standing}
 use Rattle.std.proofs.lemmas.Int.{ints}
 use Rattle.std.specs.Cmp.{signed_Decides}
 use Rattle.cns_terms.proofs.Common.{total-append}
@@ -27,17 +27,13 @@ counted_now : (h : Holding) (r : Reply) → (counted_from h r).now ≡ h.now
 counted_now h r = grind arith
 
 -- they add up to what the position changed by
-activity_shares : (k : Key) (n : ℕ) (S : State) (x : Activity) → let T = next S (command.Activity x) in
-    total shares_of (lines_at k n S (Ok (command.Activity x))) ≡ (standing T k).now -ℤ (standing S k).now
-activity_shares k n S x =
+line_shares : (k : Key) (n : ℕ) (S : State) (l : Line) → total shares_of (lines_at k n S l) ≡ (standing (state_after_line S l) k).now -ℤ (standing S k).now
+line_shares k n S (Ok (command.Activity x)) =
     let T = next S (command.Activity x) in
     let r = answer S (command.Activity x) in
     let b = booking k n (date T.opening (journal_of T)) x (counted_from (standing S k) r) (standing T k) in
     total-append shares_of (option_to_list (option_map line.Closing (closing T k n r))) (option_to_list (booked b))
     ∙ omega (arith, ints, no_shares (closing T k n r), booked_shares b, counted_now (standing S k) r)
-
-line_shares : (k : Key) (n : ℕ) (S : State) (l : Line) → total shares_of (lines_at k n S l) ≡ (standing (state_after_line S l) k).now -ℤ (standing S k).now
-line_shares k n S (Ok (command.Activity x)) = activity_shares k n S x
 line_shares k n S (Ok (command.Position q)) = omega (arith, ints)
 line_shares k n S (Ok (command.Statement a d)) = omega (arith, ints)
 line_shares k n S (Err f) = omega (arith, ints)
@@ -49,8 +45,7 @@ unfolding history state_after
 history_shares k n S [] = omega (arith, ints)
 history_shares k n S (l ∷ ls) =
     let T = state_after_line S l in
-    total-append shares_of (lines_at k (n + 1) S l) (history (watched.Place k) (n + 1) T ls)
-    ∙ omega (arith, ints, line_shares k (n + 1) S l, history_shares k (n + 1) T ls)
+    omega (arith, ints, total-append shares_of (lines_at k (n + 1) S l) (history (watched.Place k) (n + 1) T ls), line_shares k (n + 1) S l, history_shares k (n + 1) T ls)
 
 -- at first nothing stands anywhere
 nothing_stands : (k : Key) (d : Day) → (standing (opened d) k).now ≡ pos 0

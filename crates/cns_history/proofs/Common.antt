@@ -1,13 +1,13 @@
 -- The names that most proofs cite, passed on from one place. Declares nothing.
-pub use Rattle.std.proofs.Common.{All, Bool, Err, List, None, Ok, Option, Some, [], add-one, ap, append-nil, append_assoc, arith, cond, false, filter, filter_map, get_or, is_none, length, map, option_map, option_to_list, pos, refl, slice_get, suc, sym, take, take-suc, true, unsigned_abs, unwrap_or, zero, ℕ, ◌++◌, ◌+◌, ◌-ℤ◌, ◌<◌, ◌∙◌, ◌∷◌, ◌≡◌, ◌≤◌}
+pub use Rattle.std.proofs.Common.{All, Bool, Err, List, None, Ok, Option, Some, [], ap, append-nil, append_assoc, arith, cond, false, filter, filter_map, is_none, length, map, option_map, option_to_list, pos, refl, slice_get, suc, sym, take, true, unsigned_abs, unwrap_or, zero, ℕ, ◌++◌, ◌+◌, ◌-ℤ◌, ◌<◌, ◌∙◌, ◌∷◌, ◌≡◌, ◌≤◌}
 pub use Rattle.std.specs.List.{cons_option, flat_map}
 pub use Rattle.cns_book.specs.Log.{state_of}
 pub use Rattle.cns_sheets.specs.Search.{prices_above}
 pub use Rattle.cns_tables.proofs.Written.{after}
-pub use Rattle.cns_terms.specs.Common.{Account, AllByRecursion, Cusip, Day, IsReached, Journal, Price, State, amount_limit, answer, closings, corporation_limit, date, history_limit, holding, journal, journal_of, next, opened, refusal, sheet_on, total}
+pub use Rattle.cns_terms.specs.Common.{Account, AllByRecursion, Cusip, Day, IsReached, Journal, Price, State, amount_limit, answer, closings, corporation_limit, date, history_limit, holding, journal, journal_of, next, opened, refusal, total}
 pub use Rattle.cns_terms.specs.declared.command.Activity.{Activity}
 pub use Rattle.cns_terms.specs.declared.holding.Holding.{Holding}
 pub use Rattle.cns_terms.specs.declared.holding.Key.{Key}
-pub use Rattle.cns_history.specs.Lines.{accounts_of, booked, booked_since, booking, closing, counted_from, each, has_position, is_line_of, issues_on, lines_at, numbers, opened_since, place, standing, stood}
+pub use Rattle.cns_history.specs.Lines.{booked, booked_since, booking, closing, counted_from, has_position, is_line_of, lines_at, numbers, opened_since, place, standing, stood}
 pub use Rattle.cns_history.specs.Small.{IsSmall}
 pub use Rattle.cns_history.specs.declared.line.HistoryLine.{HistoryLine}

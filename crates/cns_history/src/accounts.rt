@@ -21,7 +21,7 @@ fn has_position(book: &ReplayBook, issue: Cusip, account: Account) -> bool
 }
 
 /// The accounts that have a position in an issue, by number: the corporation's and the members', where the issue is listed.
-#[tactic(auto, using(crate::proofs::Owned::account_is, crate::proofs::Owned::no_numbers, crate::proofs::Owned::number_in, crate::proofs::Owned::number_out))]
+#[tactic(auto, using(crate::proofs::Owned::number_more, crate::proofs::Owned::account_is, crate::proofs::Owned::no_numbers))]
 pub fn accounts_in(alloc: Global, book: &ReplayBook, issue: Cusip) -> Result<Vec<Account>, NoMemory>
     ensures { IfOk result (λ v. v.items ≡ accounts_in (state_of book.now.log) issue) }
 {

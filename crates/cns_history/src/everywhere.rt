@@ -225,7 +225,7 @@ fn add_since(
 }
 
 // The same of each place.
-#[tactic(auto, using(crate::proofs::Owned::given_more))]
+#[tactic(auto, using(crate::proofs::Owned::both_given, crate::proofs::Owned::as_list, std::proofs::lemmas::Grind::common_steps))]
 fn add_each_since(
     book: &ReplayBook,
     before: &[Stood],
@@ -301,6 +301,7 @@ fn first_issue(sheet: &Sheet<Global>) -> Option<Cusip>
 }
 
 // The same of each account whose bookings are wanted.
+#[tactic(auto, using(crate::proofs::Owned::both_given, crate::proofs::Owned::both_mapped, std::proofs::lemmas::Grind::common_steps))]
 fn add_all_opened(
     book: &ReplayBook,
     whose: &Whose,
@@ -322,7 +323,7 @@ fn add_all_opened(
 }
 
 // The same in each issue that was listed when the day with the date was closed.
-#[tactic(auto, using(crate::proofs::Owned::none_opened))]
+#[tactic(auto, using(crate::proofs::Owned::nowhere))]
 fn add_opened_on(
     book: &ReplayBook,
     whose: &Whose,

@@ -1,6 +1,6 @@
 -- What is known of a subtree d once its top is a node.
 -- For `get`, `get_two`, `first_above` and `first_at_or_after` of node.rt and others.
-use Rattle.cns_tree.proofs.Common.{◌≡◌, ℕ, List, length, Box, Option, None, Some, Ordering, false, cond, is_eq, is_lt, sym, ap, ◌∙◌, subst, Less, Equal, Greater, key_cmp, keys_total, find, Key, rows, height, rows_and_height, IsBalanced, IsBalancedNode, IsShallow, Node, arith}
+use Rattle.cns_tree.proofs.Common.{◌≡◌, ℕ, List, length, Box, Option, Some, Ordering, false, cond, is_eq, is_lt, sym, ap, ◌∙◌, Less, Equal, Greater, key_cmp, keys_total, find, Key, rows, height, rows_and_height, IsBalanced, IsBalancedNode, IsShallow, Node, arith}
 use Rattle.cns_tree.proofs.Heights.{shallow_none}
 use Rattle.cns_tree.proofs.Rows.{find_left, find_right}
 
@@ -16,8 +16,7 @@ at_node {d = d} view_is balanced is same = grind arith
 
 -- a subtree has few levels
 pub shallow_top : {V A : Type 0} {d : List (Key × V) × ℕ} (top : Option (Box (Node V A) A)) → rows_and_height top ≡ d → IsBalanced top → IsShallow (length d.0) d.1
-shallow_top None view_is balanced = subst (λ d. IsShallow (length d.0) d.1) view_is shallow_none
-shallow_top (Some b) view_is balanced = subst (λ d. IsShallow (length d.0) d.1) view_is balanced.shallow
+shallow_top top h1 h2 = grind (arith, length, shallow_none)
 
 -- a key that isn't the node's is found on the side to which it stands
 pub found_aside : {V A : Type 0} (k : Key) {d : List (Key × V) × ℕ} (n : Node V A) (s : List (Key × V) × ℕ) (r : Ordering) → AtNode d n → r ≡ key_cmp k n.key → is_eq r ≡ false → s ≡ cond (is_lt r) n.left n.right → find key_cmp k d.0 ≡ find key_cmp k s.0

@@ -106,6 +106,7 @@ impl<V: Copy, A: Allocator> Subtree<V, A> {
     }
 
     /// The value at a probe's key, after at most one comparison for each level.
+    #[tactic(auto, using(crate::proofs::Nodes::at_node, crate::proofs::Nodes::shallow_top, crate::proofs::Rows::find_left, crate::proofs::Rows::find_middle, crate::proofs::Rows::find_right, cns_terms::proofs::Keys::keys_total))]
     pub(crate) fn get(&self, probe: &mut Probe) -> Option<V>
         ensures value { result ≡ find key_cmp probe.old.0 self.now.0 }
         ensures key { probe.new.0 ≡ probe.old.0 }
@@ -156,6 +157,7 @@ impl<V: Copy, A: Allocator> Subtree<V, A> {
     }
 
     /// The first row whose key is the key or above it.
+    #[tactic(auto, using(crate::proofs::Nodes::at_node, crate::proofs::Firsts::after_left, crate::proofs::Firsts::after_right, crate::proofs::Firsts::option_or_some))]
     pub(crate) fn first_at_or_after(&self, key: Key) -> Option<(Key, V)>
         ensures { result ≡ first (is_at_or_after key) self.now.0 }
     {

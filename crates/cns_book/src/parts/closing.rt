@@ -17,6 +17,7 @@ impl<P: Positions<A>, A: Allocator + Drop + Clone> Parts<P, A> {
     /// CLOSE. The sheet, with the dividends that are due, the batches for the day's notices and what is booked as the next day
     /// opens are made before anything changes. Notices of two days ago expire after the batches are chosen, and
     /// trades that are due on the next day are booked after all of the day that ends.
+    #[tactic(auto, using(crate::proofs::ClosingSheet::can_be_cut, crate::proofs::ClosingSheet::can_be_paid, crate::proofs::ClosingSteps::after_last, crate::proofs::ClosingSteps::not_late, crate::proofs::ClosingSteps::le_test, crate::proofs::PartsStaying::refused, crate::proofs::PartsStaying::stopped))]
     pub fn close_day(&mut self, next: Day) -> Result<Reply, NoMemory>
         requires { HasRoom self.old }
         ensures opening { self.new.opening ≡ self.old.opening }

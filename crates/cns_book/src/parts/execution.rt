@@ -85,6 +85,7 @@ impl<P: Positions<A>, A: Allocator + Drop + Clone> Parts<P, A> {
     }
 
     // What an accepted EXECUTE gives each member that is liable, and what each pays.
+    #[tactic(auto, using(crate::proofs::ExecutionSteps::accepted_room, crate::proofs::ExecutionSteps::accepted_can))]
     fn make_fills(
         &self,
         execution: &Execution,

@@ -42,6 +42,7 @@ impl<P: Positions<A>, A: Allocator + Drop + Clone> Parts<P, A> {
     }
 
     /// NOTICE. The reply tells the notice's number.
+    #[tactic(auto, using(crate::proofs::PartsWithin::notices_fit, crate::proofs::PartsWithin::last_day))]
     pub fn give_notice(&mut self, movement: &Movement) -> Result<Reply, NoMemory>
         requires { HasRoom self.old }
         ensures opening { self.new.opening ≡ self.old.opening }
@@ -71,6 +72,7 @@ impl<P: Positions<A>, A: Allocator + Drop + Clone> Parts<P, A> {
     }
 
     // Why a WITHDRAW is refused.
+    #[tactic(auto, using(crate::proofs::NoticeSteps::withdraw_missing, crate::proofs::NoticeSteps::notice_missing, crate::proofs::NoticeSteps::withdraw_by_stage, crate::proofs::NoticeSteps::not_live))]
     fn withdraw_refusal(&self, number: u32) -> Option<Refusal>
         ensures refusal { Refuses self.now (command.Activity (activity.Withdraw number)) result }
         ensures there { ForNone result ((1 ≤ number) × (number ≤ length self.now.notices)) }
@@ -86,6 +88,7 @@ impl<P: Positions<A>, A: Allocator + Drop + Clone> Parts<P, A> {
     }
 
     /// WITHDRAW.
+    #[tactic(auto, using(crate::proofs::PartsStaying::accepted, crate::proofs::NoticeSteps::notice_withdrawn))]
     pub fn withdraw(&mut self, number: u32) -> Reply
         ensures opening { self.new.opening ≡ self.old.opening }
         ensures step { Answers self.old (command.Activity (activity.Withdraw number)) (Ok result) self.new }

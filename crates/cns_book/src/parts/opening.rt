@@ -46,6 +46,7 @@ pub(super) fn enter<P: Positions<B>, B, A: Allocator + Drop>(
 }
 
 /// Rolls positions, and books what is due, for which there are rows. It takes no memory.
+#[tactic(auto, using(cns_actions::proofs::Reachable::can_rolled))]
 pub(super) fn open<P: Positions<B>, B, A: Allocator + Drop>(
     positions: &mut P,
     due: &Option<Bookings<A>>,
@@ -67,6 +68,7 @@ pub(super) fn open<P: Positions<B>, B, A: Allocator + Drop>(
 impl<P: Positions<A>, A: Allocator + Drop + Clone> Parts<P, A> {
     // What the trades book that are due on the next day. None where none is: most days are opened so, and then no memory is
     // asked for.
+    #[tactic(auto, using(crate::proofs::PendingSteps::none_kept, crate::proofs::PendingSteps::pending_few, cns_positions::proofs::Entering::at_error))]
     pub(super) fn due_bookings(&self, next: Day) -> Result<Option<Bookings<A>>, NoMemory>
         requires { HasRoom self.now }
         ensures booked { IfOk result (λ o. MatchOption o (filter (is_due next) self.now.trades.pending ≡ [])

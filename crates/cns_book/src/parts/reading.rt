@@ -180,6 +180,7 @@ impl<P: Positions<A>, A: Allocator + Drop + Clone> Parts<P, A> {
     }
 
     /// The sheet of the closed day with the date; None where no closed day has it.
+    #[tactic(auto, using(crate::proofs::ClosedDaysSearch::sheet_found))]
     pub fn sheet(&self, date: Day) -> Option<&Arc<Sheet<A>, A>>
         ensures now { option_map arc_value (option_copied result) ≡ dated_sheet self.now.sheets date }
         ensures value { Shows self.now
@@ -189,6 +190,7 @@ impl<P: Positions<A>, A: Allocator + Drop + Clone> Parts<P, A> {
     }
 
     /// A notice as it stands; None where none has the number.
+    #[tactic(auto, using(crate::proofs::NoticeSteps::notice_missing, crate::proofs::NoticeSteps::notice_read))]
     pub fn notice(&self, number: u32) -> Option<Notice>
         ensures { Shows self.now (λ J. result ≡ notice_listed J number) }
     {
@@ -207,6 +209,7 @@ impl<P: Positions<A>, A: Allocator + Drop + Clone> Parts<P, A> {
     }
 
     /// The batches of a day, in the order of the bytes of their issues; none where the day is not closed.
+    #[tactic(auto, using(crate::proofs::ExecutionRefusals::on_day))]
     pub fn batches(&self, day: u32) -> &[Batch<A>]
         ensures { Shows self.now (λ J. result.now ≡ batches J day) }
     {
@@ -214,6 +217,7 @@ impl<P: Positions<A>, A: Allocator + Drop + Clone> Parts<P, A> {
     }
 
     /// The batch of a day in an issue; None where nobody is liable there.
+    #[tactic(auto, using(crate::proofs::ExecutionRefusals::on_day))]
     pub fn batch(&self, day: u32, cusip: Cusip) -> Option<&Batch<A>>
         ensures { Shows self.now (λ J. option_copied result ≡ batch_listed J day cusip) }
     {

@@ -1,5 +1,5 @@
 use Rattle.cns_book.proofs.Common.{◌∙◌}
-use Rattle.cns_book.proofs.BuyInEntries.{next_booked, next_can}
+use Rattle.cns_book.proofs.EffectEntries.{next_booked, next_can}
 use Rattle.cns_book.proofs.buy_in.book_fills.Goals as goal
 
 pub book_fill-requires : goal.book_fill-requires

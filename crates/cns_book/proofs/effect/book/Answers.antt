@@ -1,14 +1,12 @@
-use Rattle.cns_book.proofs.Common.{◌∙◌, ◌^◌, ◌≤◌, sym, ap, subst, unsigned_abs, take_all, arith, Holding, IsSmallEntry, books, holding_at, booked, place_of, All-from_recursion}
-use Rattle.cns_book.proofs.EffectEntries.{books_step, cents_fit, place_there, shares_fit}
-use Rattle.cns_book.proofs.EffectPlaces.{books_none}
+use Rattle.cns_book.proofs.Common.{◌∙◌, ◌^◌, ◌≤◌, sym, ap, subst, unsigned_abs, take_all, arith, Holding, IsSmallEntry, holding_at, booked, place_of, All-from_recursion}
+use Rattle.cns_book.proofs.EffectEntries.{books_step, cents_fit, place_there, shares_fit, books_none}
 use Rattle.cns_book.proofs.effect.book.Goals as goal
 
 pub loop-entry-init : goal.loop-entry-init
 loop-entry-init g c = grind (arith, books_none)
 
 pub add-requires-clause-there : goal.add-requires-clause-there
-add-requires-clause-there g c =
-    c.loop-entry.invariant.places (place_of c.entry-item.result) ∙ place_there (g.P.Positions.rows c.args.positions.now) c.args.entries.now c.loop-entry.entry-index c.entry-item.result c.requires.there c.loop-entry-test.true c.entry-item.is
+add-requires-clause-there g c = grind (arith, place_there)
 
 pub add-requires-clause-entry : goal.add-requires-clause-entry
 add-requires-clause-entry g c = subst IsSmallEntry (sym c.entry-item.is) (All-from_recursion IsSmallEntry c.args.entries.now c.requires.small c.loop-entry.entry-index c.entry-item.result c.loop-entry-test.true)
@@ -33,5 +31,4 @@ loop-entry-preserved g c =
     }
 
 pub returns-clause-booked : goal.returns-clause-booked
-returns-clause-booked g c k =
-    c.loop-entry.invariant.booked k ∙ ap (λ es. books es k (holding_at (g.P.Positions.rows c.args.positions.now) k)) (take_all c.loop-entry.entry-index c.args.entries.now c.loop-entry-test.false)
+returns-clause-booked g c k = grind (arith, take_all, c.loop-entry.invariant.booked k)

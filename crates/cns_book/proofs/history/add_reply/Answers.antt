@@ -1,5 +1,5 @@
 use Rattle.cns_book.proofs.Common.{◌≡◌, ◌∙◌, [], ◌∷◌, length, length-append, arith}
-use Rattle.cns_book.proofs.Replies.{longer, newest}
+use Rattle.cns_book.proofs.BookTaking.{longer, newest}
 use Rattle.cns_book.proofs.history.add_reply.Goals as goal
 
 pub returns : goal.returns

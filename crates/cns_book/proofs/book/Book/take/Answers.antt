@@ -9,10 +9,7 @@ answer-requires g c =
     has_room c.self.inside.limit H c.self.inside.counts c.self.inside.parts c.self.invariant (below (length H) c.self.inside.limit c.self.invariant.few (λ e. let z = sym ((rw (← c.self.view_is) at c.is_full.ensures).1 e) ∙ c.if-is_full.false in cc))
 
 pub push-requires : goal.push-requires
-push-requires g c =
-    let H = reverse c.self.inside.history.taken in
-    let few : length H < c.self.inside.limit = below (length H) c.self.inside.limit c.self.invariant.few (λ e. let z = sym ((rw (← c.self.view_is) at c.is_full.ensures).1 e) ∙ c.if-is_full.false in cc) in
-    record { room = c.in_ok-reserve.ensures.ok; few = rw c.in_ok-reserve.ensures.taken (omega (arith, few, c.self.invariant.limited, length-reverse c.self.inside.history.taken)) }
+push-requires g c = grind (arith, below, length-reverse)
 
 pub invariant_of-self-in_err-reply : goal.invariant_of-self-in_err-reply
 invariant_of-self-in_err-reply g c = grind (arith, below, book_stays, accepted)
@@ -24,24 +21,20 @@ invariant_of-self-2 g c =
     let few : length H < c.self.inside.limit = below (length H) c.self.inside.limit c.self.invariant.few (λ e. let z = sym ((rw (← c.self.view_is) at c.is_full.ensures).1 e) ∙ c.if-is_full.false in cc) in
     let taken : Taken = record { worker = c.args.worker; seq = get_or c.self.inside.counts (c.value.result - 1) 0 + 1; command = c.args.command; reply = c.in_ok-reply.reply } in
     let pushed : c.push.new.self.taken ≡ c.self.inside.history.taken ++ taken ∷ [] = c.push.ensures ∙ ap (λ es. es ++ taken ∷ []) c.in_ok-reserve.ensures.taken in
-    let step = c.in_ok-reply.ensures.step L c.self.invariant.follows in
-    let same : c.value.result ≡ c.args.worker = c.value.ensures.value in
     rw (pushed, reverse_push c.self.inside.history.taken taken)
-    (rw same (book_grows c.self.inside.limit H c.self.inside.counts c.self.inside.parts c.answer.new.self c.args.worker c.args.command c.in_ok-reply.reply c.self.invariant few c.value.ensures.range.0 c.value.ensures.range.1 (search rules) c.in_ok-reply.ensures.opening step))
+    (rw c.value.ensures.value (book_grows c.self.inside.limit H c.self.inside.counts c.self.inside.parts c.answer.new.self c.args.worker c.args.command c.in_ok-reply.reply c.self.invariant few c.value.ensures.range.0 c.value.ensures.range.1 (search rules) c.in_ok-reply.ensures.opening (c.in_ok-reply.ensures.step L c.self.invariant.follows)))
 
 pub returns-clause-ok : goal.returns-clause-ok
 returns-clause-ok g c =
     let H = reverse c.self.inside.history.taken in
     let L = accepted c.self.inside.parts.opening H in
-    let few : length H < c.self.inside.limit = below (length H) c.self.inside.limit c.self.invariant.few (λ e. let z = sym ((rw (← c.self.view_is) at c.is_full.ensures).1 e) ∙ c.if-is_full.false in cc) in
     let taken : Taken = record { worker = c.args.worker; seq = get_or c.self.inside.counts (c.value.result - 1) 0 + 1; command = c.args.command; reply = c.in_ok-reply.reply } in
     let pushed : c.push.new.self.taken ≡ c.self.inside.history.taken ++ taken ∷ [] = c.push.ensures ∙ ap (λ es. es ++ taken ∷ []) c.in_ok-reserve.ensures.taken in
     let step = c.in_ok-reply.ensures.step L c.self.invariant.follows in
-    let same : c.value.result ≡ c.args.worker = c.value.ensures.value in
     let history : reverse c.push.new.self.taken ≡ taken ∷ H = ap reverse pushed ∙ reverse_push c.self.inside.history.taken taken in
     rw (← c.self.view_is) (record {
       index = omega (arith, c.len.ensures, ap length pushed, length-append c.self.inside.history.taken (taken ∷ []), length-reverse c.self.inside.history.taken);
-      seq = ap (λ n. n + 1) (rw same (c.self.invariant.counted c.args.worker c.value.ensures.range.0 c.value.ensures.range.1));
+      seq = ap (λ n. n + 1) (rw c.value.ensures.value (c.self.invariant.counted c.args.worker c.value.ensures.range.0 c.value.ensures.range.1));
       reply = step.0 ∙ ap (λ o. answer_to o L c.args.command) c.in_ok-reply.ensures.opening;
       after = λ i. record { opening = c.in_ok-reply.ensures.opening i; limit = c.self.inside.limit; history = history i };
     })

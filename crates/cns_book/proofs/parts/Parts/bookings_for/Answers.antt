@@ -12,20 +12,18 @@ bookings_for-requires-clause-waiting g c = rw c.waiting.ensures (few_wait _ (sub
 pub returns-clause-too_large : goal.returns-clause-too_large
 returns-clause-too_large g c L f =
     let f' = subst (Follows L) (sym c.self.view_is) f in
-    let x = c.args.action.now in
-    let both = c.bookings_for.ensures.too_large (members (journal c.self.inside.opening L)) (holders_are _ L f' (issue_of x)) in
-    let same = size_is _ L f' x c.waiting.result.now c.waiting.ensures in
-    subst (λ (t : Contents). (c.bookings_for.result ≡ Err fault.TooLarge) ↔ (is_too_large t.opening (journal t.opening L) (activity_of x) ≡ true)) c.self.view_is
+    let both = c.bookings_for.ensures.too_large (members (journal c.self.inside.opening L)) (holders_are _ L f' (issue_of c.args.action.now)) in
+    let same = size_is _ L f' c.args.action.now c.waiting.result.now c.waiting.ensures in
+    subst (λ (t : Contents). (c.bookings_for.result ≡ Err fault.TooLarge) ↔ (is_too_large t.opening (journal t.opening L) (activity_of c.args.action.now) ≡ true)) c.self.view_is
     ((λ e. sym same ∙ both.0 e), (λ e. both.1 (same ∙ e)))
 
 pub returns-clause-pending : goal.returns-clause-pending
 returns-clause-pending g c L f =
     let f' = subst (Follows L) (sym c.self.view_is) f in
-    let x = c.args.action.now in
-    let both = c.bookings_for.ensures.pending (members (journal c.self.inside.opening L)) (holders_are _ L f' (issue_of x)) in
-    let same = size_is _ L f' x c.waiting.result.now c.waiting.ensures in
-    let held = held_up_is _ L f' x c.waiting.result.now c.waiting.ensures in
-    subst (λ (t : Contents). (c.bookings_for.result ≡ Err fault.PendingTrades) ↔ ((is_too_large t.opening (journal t.opening L) (activity_of x) ≡ false) × (is_held_up t.opening (journal t.opening L) x ≡ true))) c.self.view_is
+    let both = c.bookings_for.ensures.pending (members (journal c.self.inside.opening L)) (holders_are _ L f' (issue_of c.args.action.now)) in
+    let same = size_is _ L f' c.args.action.now c.waiting.result.now c.waiting.ensures in
+    let held = held_up_is _ L f' c.args.action.now c.waiting.result.now c.waiting.ensures in
+    subst (λ (t : Contents). (c.bookings_for.result ≡ Err fault.PendingTrades) ↔ ((is_too_large t.opening (journal t.opening L) (activity_of c.args.action.now) ≡ false) × (is_held_up t.opening (journal t.opening L) c.args.action.now ≡ true))) c.self.view_is
     ((λ e. let p = both.0 e in (sym same ∙ p.0, sym held ∙ p.1)), (λ e. both.1 (same ∙ e.0, held ∙ e.1)))
 
 pub returns-clause-booked : goal.returns-clause-booked

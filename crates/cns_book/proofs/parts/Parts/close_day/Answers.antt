@@ -1,36 +1,22 @@
-use Rattle.cns_book.proofs.Common.{◌≡◌, ◌∙◌, ◌+◌, refl, sym, ap, subst, length, filter, flat_map, List, arith, slice_get, Contains, Contents, Declared, Follows, HasRoom, IsCut, Key, batches_since, books, day_sheet, has_row, holding_at, ints, journal, last_dated, nat_tests, payments_by, prices_of, rolled, trade_entries, due_entries, can_same, places_of}
+use Rattle.cns_book.proofs.Common.{◌≡◌, ◌∙◌, ◌+◌, refl, sym, ap, subst, length, filter, flat_map, List, arith, slice_get, Contains, Contents, Declared, Follows, HasRoom, IsCut, Key, batches_since, books, day_sheet, has_row, holding_at, ints, journal, last_dated, nat_tests, payments_by, prices_of, rolled, trade_entries, due_entries, places_of, Activity, Reply}
+use Rattle.cns_actions.proofs.Reachable.{can_same}
 use Rattle.cns_terms.specs.Dividends.{is_due}
 use Rattle.cns_terms.specs.Pending.{is_due as due_on}
-use Rattle.cns_terms.specs.declared.command.Activity.TheVariants as activity
-use Rattle.cns_terms.specs.declared.reply.Reply.TheVariants as reply
 use Rattle.cns_book.proofs.ActionSteps.{can_be_booked}
 use Rattle.cns_book.proofs.TradingSteps.{same_rows}
-use Rattle.cns_book.proofs.ClosingPlaces.{due_stay}
-use Rattle.cns_book.proofs.ClosingSteps.{after_last, closes_fit, day_closed, le_test, not_late, opened_rows}
-use Rattle.cns_book.proofs.MachineSteps.{accepted, refused, stopped}
+use Rattle.cns_book.proofs.ClosingSteps.{due_stay, closes_fit, day_closed, not_late, opened_rows}
+use Rattle.cns_book.proofs.PartsStaying.{accepted, stopped}
 use Rattle.cns_book.proofs.RetransmittalSteps.{liable_counted, liable_few}
-use Rattle.cns_book.proofs.ClosingSheet.{can_be_cut, can_be_paid, sheet_is}
+use Rattle.cns_book.proofs.ClosingSheet.{sheet_is}
 use Rattle.cns_book.proofs.parts.Parts.close_day.Goals.{After-enter}
 use Rattle.cns_book.proofs.parts.Parts.close_day.Given as given
 use Rattle.cns_book.proofs.parts.Parts.close_day.Goals as goal
 
-pub cut-requires-clause-ready : goal.cut-requires-clause-ready
-cut-requires-clause-ready g c = grind (arith, can_be_cut)
-
-pub cut-requires-clause-paid : goal.cut-requires-clause-paid
-cut-requires-clause-paid g c = grind (arith, can_be_paid)
-
-pub keep-requires-2 : goal.keep-requires-2
-keep-requires-2 g c = grind (arith, after_last)
-
 pub overflow_add-closed : goal.overflow_add-closed
-overflow_add-closed g c = let few = closes_fit _ (subst HasRoom (sym c.self.view_is) c.requires) in omega (arith, few)
+overflow_add-closed g c = omega (arith, closes_fit _ (subst HasRoom (sym c.self.view_is) c.requires))
 
 pub overflow_add-self : goal.overflow_add-self
-overflow_add-self g c = let few = closes_fit _ (subst HasRoom (sym c.self.view_is) c.requires) in omega (arith, few)
-
-pub returns-then-le-clause-step : goal.returns-then-le-clause-step
-returns-then-le-clause-step g c L f = grind (arith, le_test, refused)
+overflow_add-self g c = omega (arith, closes_fit _ (subst HasRoom (sym c.self.view_is) c.requires))
 
 pub choose_batches-requires-clause-cut : goal.choose_batches-requires-clause-cut
 choose_batches-requires-clause-cut g c L f =
@@ -38,12 +24,6 @@ choose_batches-requires-clause-cut g c L f =
     let same : c.due-due.result ≡ filter (is_due (last_dated c.self.inside.closed) c.self.inside.today) c.self.inside.dividends = c.due-due.ensures.due ∙ ap (λ o. filter (is_due o c.self.inside.today) c.self.inside.dividends) c.last_date.ensures in
     let cut = subst (λ (ds : List Declared). IsCut (prices_of (slice_get c.self.inside.closed 0)) c.self.inside.prices (g.P.Positions.rows c.self.inside.positions) (payments_by c.self.inside.closed ds) c.in_ok-sheet.sheet.rows) same c.in_ok-sheet.ensures.cut in
     subst (λ (t : Contents). c.in_ok-sheet.sheet ≡ day_sheet t.opening (journal t.opening L)) c.self.view_is (sheet_is L _ c.in_ok-sheet.sheet f' c.in_ok-sheet.ensures.prices c.in_ok-sheet.ensures.date c.in_ok-sheet.ensures.listed cut)
-
-pub returns-in_err-batches-clause-step : goal.returns-in_err-batches-clause-step
-returns-in_err-batches-clause-step g c L f = grind (arith, not_late, stopped)
-
-pub returns-in_err-opening-clause-step : goal.returns-in_err-opening-clause-step
-returns-in_err-opening-clause-step g c L f = grind (arith, not_late, stopped)
 
 pub returns-in_err-enter-clause-step : goal.returns-in_err-enter-clause-step
 returns-in_err-enter-clause-step g c L f =
@@ -88,9 +68,9 @@ returns-clause-step g c L f =
     let rows : (k : Key) → holding_at (g.P.Positions.rows c.open.new.positions) k ≡ books (flat_map trade_entries due) k (rolled (holding_at (g.P.Positions.rows c.self.inside.positions) k)) = λ k.
     opened_rows c.in_ok-opening.opening due (g.P.Positions.rows c.enter.new.positions) (g.P.Positions.rows c.open.new.positions) made c.open.ensures.rolled c.open.ensures.booked k
     ∙ ap (λ h. books (flat_map trade_entries due) k (rolled h)) (c.enter.ensures.same k) in
-    accepted L (activity.Close c.args.next) (reply.Closed (record { day = c.self.inside.closes + 1; date = c.self.inside.today; rows = c.len.result; liable = c.count_liable.result }))
+    accepted L (Activity.Close c.args.next) (Reply.Closed (record { day = c.self.inside.closes + 1; date = c.self.inside.today; rows = c.len.result; liable = c.count_liable.result }))
     none
-    (λ i. reply.Closed (record { day = f'.clock.closes i + 1; date = f'.clock.today i; rows = count i; liable = liable i }))
+    (λ i. Reply.Closed (record { day = f'.clock.closes i + 1; date = f'.clock.today i; rows = count i; liable = liable i }))
     (rw (c.in_default.ensures.ok, c.in_ok-keep.ensures.ok, c.expire.ensures) (day_closed L _ c.args.next c.settle.new.self (g.P.Positions.rows c.open.new.positions) c.in_ok-sheet.sheet c.in_ok-batches.batches.items f' (closes_fit _ room) none c.settle.ensures.references c.settle.ensures.pending rows is chosen))
 
 -- where nothing that is due is booked there is a row where there was one

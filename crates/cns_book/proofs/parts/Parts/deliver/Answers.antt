@@ -1,27 +1,17 @@
-use Rattle.cns_book.proofs.Common.{◌∙◌, sym, subst, refl, [], ◌∷◌, arith, Follows, HasRoom, books, corporation, delivery_rules, first_refusal, moved_in, moved_out}
-use Rattle.cns_terms.specs.declared.command.Activity.TheVariants as activity
-use Rattle.cns_terms.specs.declared.reply.Reply.TheVariants as reply
-use Rattle.cns_book.proofs.MachineSteps.{accepted, refused, stopped}
-use Rattle.cns_book.proofs.TradingMovements.{delivery_refusal}
-use Rattle.cns_book.proofs.TradingSteps.{answer_err, answer_ok, booked_by, notices_kept, same_rows}
+use Rattle.cns_book.proofs.Common.{◌∙◌, sym, subst, refl, [], ◌∷◌, arith, Follows, HasRoom, books, corporation, delivery_rules, first_refusal, moved_in, moved_out, Activity, Reply}
+use Rattle.cns_book.proofs.PartsStaying.{accepted, refused, stopped}
+use Rattle.cns_book.proofs.TradingSteps.{delivery_refusal, answer_err, answer_ok, booked_by, notices_kept, same_rows}
 use Rattle.cns_book.proofs.PartsWithin.{rows_within, same_within}
 use Rattle.cns_book.proofs.parts.Parts.deliver.Goals as goal
 
 pub returns-in-Err-clause-step : goal.returns-in-Err-clause-step
 returns-in-Err-clause-step g c L f =
-    let s = c.args.self.now in
     let m = c.args.movement.now in
-    let facts = c.move_facts-facts.result in
-    refused {s = s} L (activity.Deliver m) c.in-Err.refusal
-    (delivery_refusal L s.opening m facts (c.move_facts-facts.ensures.facts L f) ∙ answer_err (first_refusal (delivery_rules facts m)) (moved_in m.member m ∷ moved_out corporation m ∷ []) c.in-Err.refusal c.in-Err.ensures.answer)
-    f
+    let none = delivery_refusal L c.args.self.now.opening m c.move_facts-facts.result (c.move_facts-facts.ensures.facts L f) ∙ answer_err (first_refusal (delivery_rules c.move_facts-facts.result m)) (moved_in m.member m ∷ moved_out corporation m ∷ []) c.in-Err.refusal c.in-Err.ensures.answer in
+    refused L (Activity.Deliver m) c.in-Err.refusal none f
 
 pub returns-in_err-prepare-clause-step : goal.returns-in_err-prepare-clause-step
-returns-in_err-prepare-clause-step g c L f =
-    let f' = subst (Follows L) (sym c.self.view_is) f in
-    let facts = c.move_facts-facts.ensures.facts L f in
-    let same = same_rows L _ _ f' c.in_err-prepare.ensures.same in
-    grind (arith, delivery_refusal, answer_ok, stopped)
+returns-in_err-prepare-clause-step g c L f = grind (arith, same_rows, delivery_refusal, answer_ok, stopped, c.move_facts-facts.ensures.facts L f)
 
 pub book-requires-clause-rows : goal.book-requires-clause-rows
 book-requires-clause-rows g c = same_within _ _ c.in_ok-prepare.ensures.same (rows_within _ (subst HasRoom (sym c.self.view_is) c.requires))
@@ -30,10 +20,8 @@ pub returns-clause-step : goal.returns-clause-step
 returns-clause-step g c L f =
     let f' = subst (Follows L) (sym c.self.view_is) f in
     let m = c.args.movement.now in
-    let facts = c.move_facts-facts.result in
-    let are = rw (← c.self.view_is) at (c.move_facts-facts.ensures.facts L f) in
-    let done = answer_ok (first_refusal (delivery_rules facts m)) (moved_in m.member m ∷ moved_out corporation m ∷ []) c.in-Ok.entries c.in-Ok.ensures.answer in
-    let none = delivery_refusal L c.self.inside.opening m facts are ∙ done.0 in
-    accepted L (activity.Deliver m) reply.Accepted none refl
-    (booked_by L _ (activity.Deliver m) c.self.inside.trades c.self.inside.notices (g.P.Positions.rows c.book.new.positions) f' tt none refl refl refl refl f'.references f'.pending (notices_kept L (activity.Deliver m) refl f')
+    let done = answer_ok (first_refusal (delivery_rules c.move_facts-facts.result m)) (moved_in m.member m ∷ moved_out corporation m ∷ []) c.in-Ok.entries c.in-Ok.ensures.answer in
+    let none = delivery_refusal L c.self.inside.opening m c.move_facts-facts.result (rw (← c.self.view_is) at (c.move_facts-facts.ensures.facts L f)) ∙ done.0 in
+    accepted L (Activity.Deliver m) Reply.Accepted none refl
+    (booked_by L _ (Activity.Deliver m) c.self.inside.trades c.self.inside.notices (g.P.Positions.rows c.book.new.positions) f' tt none refl refl refl refl f'.references f'.pending (notices_kept L (Activity.Deliver m) refl f')
     (λ k. c.book.ensures.booked k ∙ (λ i. books (done.1 i) k (c.in_ok-prepare.ensures.same k i))))

@@ -1,6 +1,6 @@
 use Rattle.cns_book.proofs.Common.{◌≡◌, ◌∙◌, sym, subst, Contents, Follows, HasRoom, IsAccepted, fills_by, journal}
 use Rattle.cns_book.proofs.ExecutionSteps.{accepted_steps}
-use Rattle.cns_book.proofs.NoticeBounds.{executions_fit}
+use Rattle.cns_book.proofs.PartsWithin.{executions_fit}
 use Rattle.cns_book.proofs.parts.Parts.execute.Goals as goal
 
 pub executed-requires-clause-fits : goal.executed-requires-clause-fits

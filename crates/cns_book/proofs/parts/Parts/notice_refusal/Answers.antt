@@ -1,5 +1,6 @@
-use Rattle.cns_book.proofs.Common.{◌≡◌, ◌∙◌, sym, ap, Some, of_z, to_z, arith, w64, option_map, not-false, is_listed, is_retired, issue_rules, journal, live_number}
-use Rattle.cns_book.proofs.ActionSteps.{none_fails}
+use Rattle.cns_book.proofs.Common.{◌≡◌, ◌∙◌, sym, ap, Some, of_z, to_z, arith, w64, option_map, is_listed, is_retired, issue_rules, journal, live_number}
+use Rattle.std.proofs.lemmas.Bool.{not-false}
+use Rattle.cns_book.proofs.PartsStaying.{none_fails}
 use Rattle.cns_book.proofs.NoticeSteps.{notice_answer, notice_issue}
 use Rattle.cns_book.proofs.RetransmittalShorts.{read_back}
 use Rattle.cns_book.proofs.parts.Parts.notice_refusal.Goals as goal

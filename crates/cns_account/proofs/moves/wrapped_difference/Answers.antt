@@ -1,5 +1,0 @@
-use Rattle.cns_account.proofs.Common.{rules, wraps}
-use Rattle.cns_account.proofs.moves.wrapped_difference.Goals as goal
-
-pub returns : goal.returns
-returns c = search (rules, wraps)
