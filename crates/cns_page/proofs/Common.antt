@@ -3,7 +3,6 @@ pub use Rattle.std.proofs.Common.{Bool, IfSome, List, None, OnOk, Option, Result
 pub use Rattle.std.proofs.lemmas.Bool.{cases_lt, eq-eqb, ne_eqb}
 pub use Rattle.std.proofs.lemmas.Bool.Decides.{nat_tests}
 pub use Rattle.std.proofs.lemmas.Fn.{always_returns_same, filter_same}
-pub use Rattle.std.proofs.lemmas.Int.{ints}
 pub use Rattle.std.proofs.lemmas.List.{drop_more, flat_map_more, length-map, map-append, take_all, with_items_is}
 pub use Rattle.std.proofs.lemmas.List.Elements.{All-push, filter-append, filter_map-append, recursion_from_All}
 pub use Rattle.std.proofs.lemmas.List.Sums.{fold-append, sum_by-append}

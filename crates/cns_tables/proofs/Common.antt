@@ -1,12 +1,10 @@
 -- The names that most proofs cite, passed on from one place. Declares nothing.
-pub use Rattle.std.proofs.Common.{Bool, Err, FitsSigned, List, Ok, OnOk, Option, Result, [], add-one, ap, append_assoc, arith, drop, drop-cons, false, get_or, length, length-drop, refl, sym, true, ℕ, ◌&&◌, ◌++◌, ◌+◌, ◌-◌, ◌<◌, ◌==◌, ◌∙◌, ◌∷◌, ◌≡◌}
-pub use Rattle.std.specs.Prelude.{unsigned_abs}
-pub use Rattle.std.proofs.KnownBytes.{Appends-kept, Appends-trans}
+pub use Rattle.std.proofs.Common.{Bool, Err, List, Ok, OnOk, Option, Result, [], add-one, ap, append_assoc, arith, drop, drop-cons, false, get_or, length, length-drop, refl, sym, true, ℕ, ◌&&◌, ◌++◌, ◌+◌, ◌-◌, ◌<◌, ◌==◌, ◌∙◌, ◌∷◌, ◌≡◌}
+pub use Rattle.std.proofs.KnownBytes.{Appends-trans}
 pub use Rattle.std.proofs.lemmas.Int.{to_z-of_z}
 pub use Rattle.std.proofs.lemmas.Result.{err_from_is_err_and}
 pub use Rattle.std.specs.Io.KnownBytes.{Appends, Keeps}
 pub use Rattle.std.specs.List.{flat_map, list_all}
-pub use mir.Syntax.{w128}
 pub use Rattle.cns_units.proofs.OutputLemmas.{front_later, front_longer, writes_then}
 pub use Rattle.cns_units.proofs.Parts.{parts_failed, parts_more}
 pub use Rattle.cns_units.specs.Output.{AppendsFront, Writes}

@@ -1,9 +1,7 @@
 -- The names that most proofs cite, passed on from one place. Declares nothing.
-pub use Rattle.std.proofs.Common.{Bool, Bor, Box, Equal, Greater, IfSome, IsSome, Less, List, MatchOption, None, Option, Ordering, Some, T, [], ap, append-nil, append_assoc, arith, cond, false, filter, inl, inr, is_eq, is_lt, is_some, length, length-append, max, not, option_to_list, pow_mono, refl, rules, subst, suc, sym, true, zero, ℕ, ◌&&◌, ◌*◌, ◌++◌, ◌+◌, ◌<◌, ◌^◌, ◌∙◌, ◌∷◌, ◌≡◌, ◌≤◌, ◌⊎◌}
-pub use Rattle.std.proofs.lemmas.Bool.Decides.{nat_tests}
-pub use Rattle.std.proofs.lemmas.Int.{ints}
+pub use Rattle.std.proofs.Common.{Bool, Bor, Box, Equal, Greater, IfSome, IsSome, Less, List, MatchOption, None, Option, Ordering, Some, [], ap, append-nil, append_assoc, arith, cond, false, filter, is_eq, is_lt, is_some, length, length-append, max, not, option_to_list, pow_mono, refl, rules, subst, suc, sym, true, zero, ℕ, ◌&&◌, ◌*◌, ◌++◌, ◌+◌, ◌<◌, ◌^◌, ◌∙◌, ◌∷◌, ◌≡◌, ◌≤◌, ◌⊎◌}
 pub use Rattle.std.specs.FinMap.{find, put}
-pub use Rattle.cns_terms.proofs.Common.{IsTotalOrder, and_left, and_right, below_all, binary_digits, cases_lt, is_sorted, key_cmp, keys_total, less, option_or, ordering_reverse, tied_itself}
+pub use Rattle.cns_terms.proofs.Common.{IsTotalOrder, and_left, and_right, below_all, binary_digits, is_sorted, key_cmp, keys_total, less, option_or, tied_itself}
 pub use Rattle.cns_terms.specs.declared.holding.Key.{Key}
 pub use Rattle.cns_tree.specs.Changes.{ChangesAt}
 pub use Rattle.cns_tree.specs.Pending.{AreNodes, IsFront, IsOnItsWay, rows_from, rows_pending}
