@@ -1,6 +1,6 @@
 -- The notices of a journal, by number.
 -- For `live_notices` of notices.rt.
-use Rattle.cns_page.proofs.Common.{◌≡◌, ◌∙◌, sym, ap, refl, ℕ, zero, suc, ◌+◌, ◌-◌, ◌^◌, ◌≤◌, ◌<◌, ◌==◌, true, false, cond, List, [], ◌∷◌, ◌++◌, length, map, find, Option, Some, None, append-nil, take, option_map, slice_get, length-append, arith, option_map_or, map-append, take_all, filter-append, eq-eqb, ne_eqb, Day, IsReached, Journal, Notice, day, is_live, journal, notice, notice_at, noticed, notices, refusal, Activity, notice_listed, notice_of, live_among, numbered, take_past}
+use Rattle.cns_page.proofs.Common.{◌≡◌, ◌∙◌, sym, ap, refl, ℕ, zero, suc, ◌+◌, ◌-◌, ◌^◌, ◌≤◌, ◌<◌, ◌==◌, true, false, List, [], ◌∷◌, ◌++◌, length, find, Option, Some, None, append-nil, take, option_map, slice_get, length-append, arith, option_map_or, map-append, take_all, filter-append, eq-eqb, ne_eqb, Day, IsReached, Journal, Notice, day, is_live, journal, notice, notice_at, noticed, notices, refusal, Activity, notice_listed, notice_of, live_among, take_past}
 use Rattle.cns_terms.specs.declared.command.Command.TheVariants as command
 use Rattle.cns_terms.specs.declared.command.Movement.{Movement}
 use Rattle.cns_book.specs.declared.notice.Notice.{Notice as Shown}
@@ -81,10 +81,7 @@ module _ (J : Journal) (number : ℕ) (le : 1 ≤ number) where
   -- one more
   onward : (n : Notice) (items : List Numbered) → notice_at J number ≡ Some n → items ≡ live_among J (take (number - 1) (notices J))
       → items ++ live_among J (n ∷ []) ≡ live_among J (take (number + 1 - 1) (notices J))
-  onward n items is was =
-      let later : suc (number - 1) ≡ number + 1 - 1 = omega arith in
-      ap (λ ns. ns ++ live_among J (n ∷ [])) was ∙ sym (append (take (number - 1) (notices J)) (n ∷ []))
-      ∙ ap (live_among J) (sym (take_next (notices J) (number - 1) n (sym there ∙ is)) ∙ ap (λ k. take k (notices J)) later)
+  onward n items is was = grind (arith, was, append (take (number - 1) (notices J)) (n ∷ []), take_next (notices J) (number - 1) n (sym there ∙ is))
 
   -- the one that is shown
   mapped : (s : Shown) (o : Option Notice) → option_map (notice_of J) o ≡ Some s → (n : Notice) × (o ≡ Some n) × (notice_of J n ≡ s)
@@ -93,16 +90,11 @@ module _ (J : Journal) (number : ℕ) (le : 1 ≤ number) where
   -- one that is not live
   pub live_passed : (s : Shown) (items : List Numbered) → notice_listed J number ≡ Some s → is_live s.stage ≡ false → items ≡ live_among J (take (number - 1) (notices J))
       → items ≡ live_among J (take (number + 1 - 1) (notices J))
-  live_passed s items shown dead was =
-      let (n, is, same) = mapped s (notice_at J number) shown in
-      sym (append-nil items) ∙ ap (λ b. items ++ map (numbered J) (cond b (n ∷ []) [])) (sym (ap (λ x. is_live x.stage) same ∙ dead)) ∙ onward n items is was
+  live_passed s items shown dead was = let (n, is, same) = mapped s (notice_at J number) shown in grind (arith, is, same, append-nil items, onward n items is was)
 
   -- one that is live
   pub live_added : (s : Shown) (items : List Numbered) → notice_listed J number ≡ Some s → is_live s.stage ≡ true → items ≡ live_among J (take (number - 1) (notices J))
       → items ++ record { number = number; notice = s } ∷ [] ≡ live_among J (take (number + 1 - 1) (notices J))
   live_added s items shown live was =
       let (n, is, same) = mapped s (notice_at J number) shown in
-      let at = number_at 0 (number - 1) (notices J) n (all_numbered J) (sym there ∙ is) in
-      let its : n.number ≡ number = omega (arith, at) in
-      let pushed : numbered J n ≡ record { number = number; notice = s } = λ i. record { number = its i; notice = same i } in
-      ap (λ x. items ++ x ∷ []) (sym pushed) ∙ ap (λ b. items ++ map (numbered J) (cond b (n ∷ []) [])) (sym (ap (λ x. is_live x.stage) same ∙ live)) ∙ onward n items is was
+      grind (arith, is, same, number_at 0 (number - 1) (notices J) n (all_numbered J) (sym there ∙ is), onward n items is was)

@@ -48,7 +48,4 @@ module _ (f : Pend → ℕ) (ts : List Trade) (t : Trade) where
 
 -- what waits with one trade more
 pub waiting_more : (a : Account) (c : Cusip) (ts : List Trade) (t : Trade) → with_trade (waiting_in a c ts) t ≡ waiting_in a c (ts ++ t ∷ [])
-waiting_more a c ts t =
-    let bought = sum_stops (λ p. if (p.buyer == a) && same_issue p.issue c then p.shares else 0) ts t (2 ^ 64 - 1) in
-    let sold = sum_stops (λ p. if (p.seller == a) && same_issue p.issue c then p.shares else 0) ts t (2 ^ 64 - 1) in
-    λ i. record { account = a; issue = c; bought = bought i; sold = sold i }
+waiting_more a c ts t = cc (sum_stops (λ p. if (p.buyer == a) && same_issue p.issue c then p.shares else 0) ts t (2 ^ 64 - 1), sum_stops (λ p. if (p.seller == a) && same_issue p.issue c then p.shares else 0) ts t (2 ^ 64 - 1))

@@ -21,15 +21,7 @@ stops-unflushed : (e : ReplayFault) (old m mid new : Option (List ℕ)) (S : Sta
 stops-unflushed e old m mid new S ls answered unread None whole text left kept =
     record { answered = answered; waiting = None; unread = unread; whole = whole; mid = m; written = text; leaves = Keeps-trans m mid new left kept }
 stops-unflushed fault.Write old m mid new S ls answered unread (Some l) whole text left kept =
-    record {
-      answered = answered;
-      waiting = Some l;
-      unread = unread;
-      whole = whole;
-      mid = m;
-      written = text;
-      leaves = record { front = left.front; rest = left.rest; whole = left.whole; short = left.short; appended = Appends-kept m mid new left.front left.appended kept };
-    }
+    record { answered = answered; waiting = Some l; unread = unread; whole = whole; mid = m; written = text; leaves = record { front = left.front; rest = left.rest; whole = left.whole; short = left.short; appended = Appends-kept m mid new left.front left.appended kept } }
 stops-unflushed fault.NoMemory old m mid new S ls answered unread (Some l) whole text left kept =
     record { answered = answered; waiting = None; unread = l ∷ unread; whole = whole; mid = m; written = text; leaves = Keeps-trans m mid new left kept }
 stops-unflushed _ old m mid new S ls answered unread _ whole text left kept = absurd left
@@ -38,10 +30,7 @@ stops-unflushed _ old m mid new S ls answered unread _ whole text left kept = ab
 fails-then_unflushed : (e : ReplayFault) (opening : Day) (input old mid new : Option (List ℕ))
     → IfSome input (λ bytes. StopsReplay e opening bytes old mid) → Keeps mid new → FailsReplay fault.Write opening input old new
 fails-then_unflushed e opening None old mid new stops kept = record { room = λ is. cc is; stops = tt }
-fails-then_unflushed e opening (Some bytes) old mid new p kept = record {
-  room = λ is. cc is;
-  stops = stops-unflushed e old p.mid mid new _ _ p.answered p.unread p.waiting p.whole p.written p.leaves kept;
-}
+fails-then_unflushed e opening (Some bytes) old mid new p kept = record { room = λ is. cc is; stops = stops-unflushed e old p.mid mid new _ _ p.answered p.unread p.waiting p.whole p.written p.leaves kept }
 
 -- a replay, whatever it came to, whose output could not be flushed then
 pub fails-flushing : {T : Type 0} (opening : Day) (input old mid new : Option (List ℕ)) (r : Result T ReplayFault)

@@ -15,9 +15,7 @@ counts_more b n w vs v at before is = rw (map-append view vs (v ∷ []), before,
 
 -- one worker's invalid records more
 pub lines_more : (logs : List Logged) (n was more : ℕ) (l : Logged) → n < length logs → l ≡ get_or logs n l → was ≡ lines_to logs n → more ≡ l.lines → was + more ≡ lines_to logs (n + 1)
-lines_more logs n was more l inside is before lines =
-    let read : l ≡ get_or logs n empty_logged = is ∙ get_or_default logs n l empty_logged inside in
-    rw (before, lines, add-one) (ap (λ m. lines_to logs n + m.lines) read)
+lines_more logs n was more l inside is before lines = grind (arith, is, get_or_default logs n l empty_logged inside)
 
 -- each byte of the text is ASCII
 digits_ascii : (i : ℕ) → slice_index (46 ∷ 48 ∷ 48 ∷ []) i < 128

@@ -11,6 +11,4 @@ of_parts v wide d low high h = grind (arith, nat_tests, wide)
 -- digits that are no number of 64 bits
 pub unread : (bs : List ℕ) → ((0 < length bs) × (digits_value 10 bs < 2 ^ 64) → ⊥) → None ≡ workers_read bs
 unread [] none = refl
-unread (c ∷ cs) none =
-    let v = digits_value 10 (c ∷ cs) in
-    sym (of_parts v (λ fits. none (omega arith, fits)) (all_ascii_digits (c ∷ cs)) (nat_le 1 v) (nat_le v 64) refl)
+unread (c ∷ cs) none = sym (of_parts (digits_value 10 (c ∷ cs)) (λ fits. none (omega arith, fits)) (all_ascii_digits (c ∷ cs)) _ _ refl)
