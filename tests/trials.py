@@ -58,7 +58,7 @@ def read(path, crate):
         source = sources.get(file) or (crate / file).read_text(encoding="utf-8")
         if source.count(old) != 1:
             return None
-        functions.update((file, it) for it in function_at(source, source.index(old)))
+        functions.update((file, it) for it in function_at(source, source.index(old)) or [""])
         sources[file] = source.replace(old, new)
     return Edit(path.stem, pairs, frozenset(functions))
 
@@ -74,17 +74,17 @@ def apply(edit, crate):
 
 
 def verdict(log, file, function):
-    """What a check said of a function: proved, refused, or nothing that tells."""
+    """What a check said of a function, or of all functions of a file: refused, proved, or nothing that tells."""
     module = [it for it in re.split(r"/|\.rt$", file.removeprefix("src/")) if it not in ("lib", "main", "")]
     told = [
         (head, rest) for head, rest in re.findall(r"^fn (\S+): (.*)$", log, re.MULTILINE)
-        if head.split("::")[-1] == function and all(it in head for it in module[:1])
+        if function in ("", head.split("::")[-1]) and all(it in head for it in module[:1])
     ]
-    if any(rest.startswith("proved") for _, rest in told):
-        return "proved"
-    errors = [it for it in re.findall(rf"^\./proofs/\S*/\+?{function}/.*: error.*$", log, re.MULTILINE) if not NAMES.search(it)]
-    unproved = [rest for _, rest in told if rest.startswith("no proof: expected answers in")]
-    return "refused" if errors or unproved else ""
+    place = rf"\S*/\+?{function}/" if function else "/".join(module[:1])
+    errors = [it for it in re.findall(rf"^\./proofs/{place}.*: error.*$", log, re.MULTILINE) if not NAMES.search(it)]
+    if errors or any(rest.startswith("no proof: expected answers in") for _, rest in told):
+        return "refused"
+    return "proved" if any(rest.startswith("proved") for _, rest in told) else ""
 
 
 def check(crate):
