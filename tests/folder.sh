@@ -29,7 +29,7 @@ run() {
 
 # A page without the links that a page in a folder has.
 unlinked() {
-    sed -e '/^<li><a href=2.*\.html>The \(day before\|next day\)<\/a>$/d' -e '/^<nav aria-label=Pages>.*\.html>All accounts on this day<\/a><\/ul><\/nav>$/d' \
+    sed -e '/^<li><a href=2.*\.html>The \(day before\|next day\)<\/a>$/d' -e '/^<li><details><summary>Accounts without a row/,/^<\/details>$/d' -e '/^<nav aria-label=Pages>.*\.html>All accounts on this day<\/a><\/ul><\/nav>$/d' \
         -e 's/<a href=[0-9-]*\.html>\([0-9]*\)<\/a>/\1/' "$1"
 }
 
@@ -57,8 +57,8 @@ for sample in examples/*.csv; do
         members=$(grep -vE '^(row|liable) ' "${sample%.csv}.replies" | paste -d , "$sample" - \
             | awk -F , -v closed="^closed [0-9]* $day " '$1 == "MEMBER" && $NF == "ok" { members++ } $NF ~ closed { print members + 1; exit }')
         [ "$accounts" = "$members" ] || fail "$sample, $day: $accounts accounts, where $members were due"
-        # Each account that has rows is a link to its page, and each of these pages leads back.
-        [ "$(grep -c ' id=account-' "$folder/$day.html")" = "$(grep -c "<a href=$day-[0-9]*\.html>" "$folder/$day.html")" ] || fail "$sample, $day: an account without a link"
+        # One link leads to the page of each account, and each of these pages leads back.
+        [ "$(sed -n "s/.*<a href=\($day-[0-9]*\.html\)>.*/\1/p" "$folder/$day.html" | sort)" = "$(cd "$folder" && printf '%s\n' "$day"-*.html | sort)" ] || fail "$sample, $day: an account without a link"
         [ "$(grep -l "<a href=$day\.html>All accounts" "$folder/$day"-*.html | wc -l)" = "$accounts" ] || fail "$sample, $day: a page without a link to the day"
         pages=$((pages + accounts + 1))
     done

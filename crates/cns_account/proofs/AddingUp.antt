@@ -1,12 +1,6 @@
 -- What moved a position adds up.
 -- For `moves_add_up` of laws.rt.
-use Rattle.cns_account.proofs.Common.{◌*◌, ◌≡◌, ◌∙◌, sym, ap, refl, ℕ, ◌+◌, ◌-◌, ◌^◌, ◌<◌, ◌≤◌, ℤ, ◌+ℤ◌, List, [], ◌∷◌, ◌++◌, length, option_map, option_to_list, reverse, Option, Some, None, Ok, arith, Pend, total, trades, next, Width, AllByRecursion, ints, take_all, Day, State, journal_of, length-reverse, open_day, opened, row, Key, Row, Log, state_of, Line, state_after_line, blank_log, log_after_line, IsLineInRange, IsReached, MovesAddUp, day_closed, last_of, of_causes, moved_at, Moves, subst, Taken, looked_at, answer, unsigned_abs, amount_limit, limited, Command}
-use Rattle.cns_terms.specs.declared.command.Activity.TheVariants as activity
-use Rattle.cns_terms.specs.declared.command.Command.TheVariants as command
-use Rattle.cns_feed.specs.Replay.{log_after}
-use Rattle.cns_history.specs.Lines.{history}
-use Rattle.cns_account.specs.Laws.{AddUp, closes}
-use Rattle.cns_history.specs.declared.watched.Watched.TheVariants as watched
+use Rattle.cns_account.proofs.Common.{◌*◌, ◌≡◌, ◌∙◌, sym, ap, refl, ℕ, ◌+◌, ◌-◌, ◌^◌, ◌<◌, ◌≤◌, ℤ, ◌+ℤ◌, List, [], ◌∷◌, ◌++◌, length, option_map, option_to_list, reverse, Option, Some, None, Ok, arith, Pend, total, trades, next, Width, AllByRecursion, ints, take_all, Day, State, journal_of, length-reverse, open_day, opened, row, Key, Row, Log, state_of, Line, state_after_line, blank_log, log_after_line, IsLineInRange, IsReached, MovesAddUp, day_closed, last_of, of_causes, moved_at, Moves, subst, Taken, looked_at, answer, unsigned_abs, amount_limit, limited, Command, Activity, AddUp, Watched}
 use Rattle.cns_account.proofs.Ledger.{all_booked, open_parts, settles}
 use Rattle.cns_account.proofs.Marked.{marked}
 use Rattle.cns_account.proofs.Recorded.{IsClose, IsCounted, all_records, at_first, cents_counted, closing_line, kept_more, shares_counted, size_few, state_line}
@@ -14,6 +8,9 @@ use Rattle.cns_history.proofs.Limits.{standing_small}
 use Rattle.cns_account.proofs.Named.{stands}
 use Rattle.cns_account.proofs.Rows.{price_few, last_row}
 use Rattle.cns_account.proofs.Summed.{Comes, entry_at, exact, same}
+use Rattle.cns_feed.specs.Replay.{log_after}
+use Rattle.cns_history.specs.Lines.{history}
+use Rattle.cns_account.specs.Laws.{closes}
 
 -- ---- the last close
 
@@ -25,8 +22,8 @@ pub record IsLast (n : ℕ) (b : Log) (ls : List Line) (cs : List (ℕ × Day)) 
   pub count : length ls ≡ length front + 1
   pub before : closes n (state_of b) front ≡ cs
   pub close : IsClose (state_of (log_after b front)) line d
-  pub log : log_after b ls ≡ log_after_line (log_after b front) (Ok (command.Activity (activity.Close close.next)))
-  pub told : history (watched.Movements d) n (state_of b) ls ≡ history (watched.Movements d) n (state_of b) front
+  pub log : log_after b ls ≡ log_after_line (log_after b front) (Ok (Command.Activity (Activity.Close close.next)))
+  pub told : history (Watched.Movements d) n (state_of b) ls ≡ history (Watched.Movements d) n (state_of b) front
 
 only_close : (n : ℕ) (b : Log) (l : Line) (ls : List Line) (e d : Day) (cs : List (ℕ × Day)) → day_closed (state_of b) l ≡ Some e → (n + 1, e) ∷ cs ≡ (n + length (l ∷ ls), d) ∷ [] → IsLast n b (l ∷ ls) [] d
 unfolding closes log_after history
@@ -62,7 +59,7 @@ split (l ∷ ls) n b cs d range is = by cs (day_closed (state_of b) l) refl is (
 
 -- ---- all causes
 
-close_trades : (v : Pend → ℤ) (S : State) (e : Day) → total v (trades (journal_of (next S (command.Activity (activity.Close e))))) ≡ total v (trades (journal_of S))
+close_trades : (v : Pend → ℤ) (S : State) (e : Day) → total v (trades (journal_of (next S (Command.Activity (Activity.Close e))))) ≡ total v (trades (journal_of S))
 close_trades v S e = grind arith
 
 module _ (k : Key) (opening : Day) (ls : List Line) (cs : List (ℕ × Day)) (d : Day) (low : k.account < 10000) (z : IsLast 0 (blank_log opening) ls cs d) where
@@ -74,10 +71,10 @@ module _ (k : Key) (opening : Day) (ls : List Line) (cs : List (ℕ × Day)) (d 
   S = state_of b
 
   abbrev ends : Command
-  ends = command.Activity (activity.Close z.close.next)
+  ends = Command.Activity (Activity.Close z.close.next)
 
   abbrev m : Moves
-  m = moved_at (last_of None cs) d (reverse (log_after_line b (Ok ends)).history) (history (watched.Movements d) 0 (opened opening) z.front) k
+  m = moved_at (last_of None cs) d (reverse (log_after_line b (Ok ends)).history) (history (Watched.Movements d) 0 (opened opening) z.front) k
 
   -- what moved the position comes to what was booked since the close before
   came : {w : Width} {pick : ℤ → ℤ → ℤ} {c : ℕ} → IsCounted k w pick c → Comes w pick m (all_booked (entry_at pick k) (open_day (journal_of S))) (c * (length z.front + 1))
@@ -111,6 +108,6 @@ pub moves_add_up : MovesAddUp
 moves_add_up k opening ls cs d r low range short closed is =
     let z = split ls 0 (blank_log opening) cs d range (let none : length ls ≡ 0 + length ls = omega arith in closed ∙ ap (λ n. cs ++ (n, d) ∷ []) none) in
     let a = adds_up k opening ls cs d (omega arith) z r short (last_row (state_of (log_after (blank_log opening) z.front)) z.close.next k r (grind (arith, z.log, z.close.date, z.close.none, is))) in
-    let all = all_of (log_after_line (log_after (blank_log opening) z.front) (Ok (command.Activity (activity.Close z.close.next)))).history
+    let all = all_of (log_after_line (log_after (blank_log opening) z.front) (Ok (Command.Activity (Activity.Close z.close.next)))).history
     (let n = (reached k opening ls cs d (omega arith) z).2 in let count = z.count in omega arith) in
-    subst (AddUp r) (sym ((λ i. moved_at (last_of None cs) d (looked_at (z.log i).history) (z.told i) k) ∙ (λ i. moved_at (last_of None cs) d (all i) (history (watched.Movements d) 0 (opened opening) z.front) k))) a
+    subst (AddUp r) (sym ((λ i. moved_at (last_of None cs) d (looked_at (z.log i).history) (z.told i) k) ∙ (λ i. moved_at (last_of None cs) d (all i) (history (Watched.Movements d) 0 (opened opening) z.front) k))) a

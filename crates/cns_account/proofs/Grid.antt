@@ -1,7 +1,6 @@
 -- The places of accounts in issues, each once.
 -- For `places_are_whole` and `moves_add_up` of laws.rt.
-use Rattle.cns_account.proofs.Common.{◌≡◌, ◌∙◌, ap, refl, ℕ, zero, suc, ◌+◌, ◌<◌, ◌≤◌, Bool, false, ◌&&◌, ◌||◌, ◌==◌, cond, eqb, List, [], ◌∷◌, filter, flat_map, map, arith, bytes_eq, is_eq, range_with_len, bytes_eq-Decides, filter-append, key_cmp, same_key, Account, Cusip, Key, place}
-use Rattle.cns_terms.proofs.Common.{nat_tests}
+use Rattle.cns_account.proofs.Common.{◌≡◌, ◌∙◌, ap, refl, ℕ, zero, suc, ◌+◌, ◌<◌, ◌≤◌, Bool, false, ◌&&◌, ◌||◌, ◌==◌, cond, eqb, List, [], ◌∷◌, filter, flat_map, map, arith, bytes_eq, is_eq, range_with_len, bytes_eq-Decides, filter-append, key_cmp, same_key, Account, Cusip, Key, place, nat_tests}
 use Rattle.cns_history.specs.Lines.{numbers}
 
 -- whether a place is the one
@@ -27,8 +26,6 @@ in_grid k cs (a ∷ bs) = grind (arith, filter-append, in_row, in_grid k cs bs)
 pub once : (k : Key) (cs : List Cusip) (bs : List Account) (t u : Bool) → filter (λ a. eqb a k.account) bs ≡ cond t (k.account ∷ []) [] → filter (λ c. bytes_eq c k.issue) cs ≡ cond u (k.issue ∷ []) []
     → filter (is_at k) (flat_map (λ a. map (place a) cs) bs) ≡ cond (t && u) (k ∷ []) []
 once k cs bs t u is are = grind (arith, in_grid)
-
--- ---- issues
 
 pub one_issue : (c i : Cusip) → filter (λ d. bytes_eq d i) (c ∷ []) ≡ cond (bytes_eq c i) (i ∷ []) []
 one_issue c i = grind (arith, bytes_eq-Decides)

@@ -1,10 +1,9 @@
 -- What a day's activities booked.
 -- For `moves_add_up` of laws.rt.
-use Rattle.cns_account.proofs.Common.{◌≡◌, ◌∙◌, refl, ℤ, pos, ◌+ℤ◌, true, not, cond, List, [], ◌∷◌, filter, reverse, Option, Some, arith, int_lt, option_map_or, ints, Day, Journal, NoneHolds, all_fail, date, day_number, entries, is_past, last_close, neither, open_day, pend_of, pending, reverse_onto, total, total-append, trade_entries, trades, Trade, Entry, Pend, is_within, Bool, false, slice_get, unwrap_or, closings, is_close}
+use Rattle.cns_account.proofs.Common.{◌≡◌, ◌∙◌, refl, ℤ, pos, ◌+ℤ◌, true, not, cond, List, [], ◌∷◌, filter, reverse, Option, Some, arith, int_lt, option_map_or, ints, Day, Journal, NoneHolds, all_fail, date, day_number, entries, is_past, last_close, neither, open_day, pend_of, pending, reverse_onto, total, total-append, trade_entries, trades, Trade, Entry, Pend, is_within, Bool, false, slice_get, unwrap_or, closings, is_close, Activity}
 use Rattle.cns_terms.proofs.SheetSums.{total-flat_map}
 use Rattle.cns_terms.specs.Pending.{due, is_due}
 use Rattle.cns_terms.specs.Refusals.{rules}
-use Rattle.cns_terms.specs.declared.command.Activity.TheVariants as activity
 
 pub total-reverse : {X : Type 0} (f : X → ℤ) (xs : List X) → total f (reverse xs) ≡ total f xs
 total-reverse f [] = refl
@@ -38,12 +37,12 @@ module _ (f : Entry → ℤ) where
   due_within today next (p ∷ ps) = grind (arith, due_within today next ps)
 
   -- what a close books: the trades that are dated after the day that it ends, up to the next
-  pub close_settles : (opening : Day) (J : Journal) (next : Day) → total f (entries opening J (activity.Close next)) ≡ total (settles (Some (date opening J)) next) (trades J)
+  pub close_settles : (opening : Day) (J : Journal) (next : Day) → total f (entries opening J (Activity.Close next)) ≡ total (settles (Some (date opening J)) next) (trades J)
   close_settles opening J next = total-flat_map f trade_entries (due opening J next) ∙ total-reverse (λ p. total f (trade_entries p)) (filter (is_due next) (pending opening J)) ∙ due_within (date opening J) next (trades J)
 
   -- what a trade of the day books at once
-  pub trade_settles : (opening : Day) (J : Journal) (before : Option Day) (t : Trade) → NoneHolds (rules opening J (activity.Trade t)) → IsAfter before (date opening J)
-      → total f (entries opening J (activity.Trade t)) ≡ settles before (date opening J) (pend_of t)
+  pub trade_settles : (opening : Day) (J : Journal) (before : Option Day) (t : Trade) → NoneHolds (rules opening J (Activity.Trade t)) → IsAfter before (date opening J)
+      → total f (entries opening J (Activity.Trade t)) ≡ settles before (date opening J) (pend_of t)
   trade_settles opening J before t none after =
-      let late = neither (is_past t.date (date opening J)) _ ((all_fail (rules opening J (activity.Trade t)) none).1.1.1.1.0) in
+      let late = neither (is_past t.date (date opening J)) _ ((all_fail (rules opening J (Activity.Trade t)) none).1.1.1.1.0) in
       grind (arith, ints, late.0)

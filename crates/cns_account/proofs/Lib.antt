@@ -1,6 +1,4 @@
 pub mod Gathered
-pub mod Walked
-pub mod Putting
 pub mod Ledger
 pub mod Grid
 pub mod Named

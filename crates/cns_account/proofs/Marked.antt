@@ -6,7 +6,8 @@ use Rattle.std.proofs.Math.Nat.{mul-le-mul}
 use Rattle.std.specs.Prelude.{negsuc, suc}
 use Rattle.cns_terms.proofs.ZeroSums.{times_sum}
 use Rattle.cns_terms.specs.Common.{amount_limit, price_limit}
-use Rattle.cns_account.specs.Rows.{moved, valued}
+use Rattle.cns_account.specs.Rows.{moved}
+use Rattle.cns_account.specs.Rows.{valued}
 
 times_all : (a b z : ℤ) → (a +ℤ b) *ℤ z ≡ (a *ℤ z) +ℤ (b *ℤ z)
 times_all a b (pos n) = times_sum a b n

@@ -1,12 +1,9 @@
 -- What an activity books stands at the places that it names.
 -- For `places_are_whole` and `moves_add_up` of laws.rt.
-use Rattle.cns_account.proofs.Common.{◌≡◌, ◌∙◌, sym, ap, refl, ◌<◌, ℤ, pos, ◌+ℤ◌, Bool, true, false, ◌&&◌, ◌||◌, ◌==◌, cond, eqb, List, [], ◌∷◌, filter, flat_map, map, is_none, option_map, option_to_list, Option, Some, None, IfSome, arith, bytes_eq, ints, Day, IsSound, Journal, NoneHolds, State, against_corporation, all_fail, and_false, cents_for, corporation, entries, execution_entries, fill_entry, fills, holders, holding, holds, idle_parts, is_account, is_close, is_listed, issues, journal_of, last_close, list_any, members, money, nat_list_eq_equiv, neither, new_entry, notice_at, notices, old_entry, open_day, posting, refusal, row, shares_for, total, each_named, IsNoticed, both_hold, Notice, Execution, position, Account, Cusip, Activity, next, Entry, Holding, Key, notice_of, accounts_in, both, each, has_position, is_movement, is_wanted, named, place, places, standing, unwrap_or, IsWhole, total-append, whole-post}
+use Rattle.cns_account.proofs.Common.{◌≡◌, ◌∙◌, sym, ap, refl, ◌<◌, ℤ, pos, ◌+ℤ◌, Bool, true, false, ◌&&◌, ◌||◌, ◌==◌, cond, eqb, List, [], ◌∷◌, filter, flat_map, map, is_none, option_map, option_to_list, Option, Some, None, IfSome, arith, bytes_eq, ints, Day, IsSound, Journal, NoneHolds, State, against_corporation, all_fail, and_false, cents_for, corporation, entries, execution_entries, fill_entry, fills, holders, holding, holds, idle_parts, is_account, is_close, is_listed, issues, journal_of, last_close, list_any, members, money, nat_list_eq_equiv, neither, new_entry, notice_at, notices, old_entry, open_day, posting, refusal, row, shares_for, total, each_named, IsNoticed, both_hold, Notice, Execution, position, Account, Cusip, Activity, next, Entry, Holding, Key, notice_of, accounts_in, both, each, has_position, is_movement, is_wanted, named, place, places, standing, unwrap_or, IsWhole, total-append, whole-post, Command, split_entry}
 use Rattle.std.proofs.lemmas.List.Concat.{flat_map_single}
 use Rattle.cns_terms.proofs.Elsewhere.{idle_at}
-use Rattle.cns_terms.specs.Entries.{split_entry}
 use Rattle.cns_terms.specs.Refusals.{rules}
-use Rattle.cns_terms.specs.declared.command.Activity.TheVariants as activity
-use Rattle.cns_terms.specs.declared.command.Command.TheVariants as command
 use Rattle.cns_terms.specs.declared.command.Movement.{Movement}
 use Rattle.cns_history.specs.declared.watched.Whose.TheVariants.{All}
 use Rattle.cns_account.proofs.Grid.{is_at, once, one_issue, one_number, two_accounts, two_issues}
@@ -14,7 +11,7 @@ use Rattle.cns_account.proofs.Grid.{is_at, once, one_issue, one_number, two_acco
 -- ---- what stands at a place
 
 -- where a POSITION is not refused
-shown_where : (opening : Day) (J : Journal) (k : Key) → is_none (refusal opening J (command.Position k)) ≡ (is_account J k.account && is_listed J k.issue)
+shown_where : (opening : Day) (J : Journal) (k : Key) → is_none (refusal opening J (Command.Position k)) ≡ (is_account J k.account && is_listed J k.issue)
 shown_where opening J k = grind arith
 
 -- what stands at a place is what was booked there
@@ -25,9 +22,9 @@ pub record Stands (J : Journal) (k : Key) (h : Holding) : Type 0 where
 
 -- nothing, where a POSITION is refused
 pub stands : (S : State) (k : Key) → IsSound (journal_of S) → Stands (journal_of S) k (standing S k)
-stands S k sound = by _ (is_none (refusal S.opening (journal_of S) (command.Position k))) refl refl refl refl
+stands S k sound = by _ (is_none (refusal S.opening (journal_of S) (Command.Position k))) refl refl refl refl
   where
-    by : (z : Holding) (b : Bool) → z.now ≡ pos 0 → z.contract ≡ pos 0 → z.opening ≡ pos 0 → is_none (refusal S.opening (journal_of S) (command.Position k)) ≡ b → Stands (journal_of S) k (unwrap_or (cond b (Some (holding (journal_of S) k.account k.issue)) None) z)
+    by : (z : Holding) (b : Bool) → z.now ≡ pos 0 → z.contract ≡ pos 0 → z.opening ≡ pos 0 → is_none (refusal S.opening (journal_of S) (Command.Position k)) ≡ b → Stands (journal_of S) k (unwrap_or (cond b (Some (holding (journal_of S) k.account k.issue)) None) z)
     by z true now cents found is = record { shares = refl; cents = refl; found = refl }
     by z false now cents found is =
         let out = (λ i. is_account (journal_of S) k.account && list_any (λ c. nat_list_eq_equiv.symm k.issue c i) (issues (journal_of S))) ∙ sym (shown_where S.opening (journal_of S) k) ∙ is in
@@ -41,10 +38,10 @@ abbrev pub more : State → Activity → State
 more S x = record { opening = S.opening; accepted = x ∷ S.accepted }
 
 -- what a command leads to: the state stays, or has an activity more
-pub at_next : (P : State → Type 0) (S : State) (x : Activity) → P S → (NoneHolds (rules S.opening (journal_of S) x) → P (more S x)) → P (next S (command.Activity x))
-at_next P S x stays goes = by (is_none (refusal S.opening (journal_of S) (command.Activity x))) refl
+pub at_next : (P : State → Type 0) (S : State) (x : Activity) → P S → (NoneHolds (rules S.opening (journal_of S) x) → P (more S x)) → P (next S (Command.Activity x))
+at_next P S x stays goes = by (is_none (refusal S.opening (journal_of S) (Command.Activity x))) refl
   where
-    by : (b : Bool) → is_none (refusal S.opening (journal_of S) (command.Activity x)) ≡ b → P (record { opening = S.opening; accepted = cond b (x ∷ S.accepted) S.accepted })
+    by : (b : Bool) → is_none (refusal S.opening (journal_of S) (Command.Activity x)) ≡ b → P (record { opening = S.opening; accepted = cond b (x ∷ S.accepted) S.accepted })
     by true none = goes none
     by false refused = stays
 
@@ -132,31 +129,31 @@ in_execution : (k : Key) (J : Journal) (x : Execution) (n : Notice) → bytes_eq
 in_execution k J x n other v = grind (arith, ints, and_false, elsewhere_all k (fill_entry n) (fills J x n) (λ f. other) v)
 
 -- all places at which a movement that is accepted books are among those that it names
-pub names : (S : State) (x : Activity) (k : Key) → k.account < 10000 → IsWhole S.opening (journal_of S) → NoneHolds (rules S.opening (journal_of S) x) → is_movement (command.Activity x) ≡ true
+pub names : (S : State) (x : Activity) (k : Key) → k.account < 10000 → IsWhole S.opening (journal_of S) → NoneHolds (rules S.opening (journal_of S) x) → is_movement (Command.Activity x) ≡ true
     → IsNamed k S (more S x) (places All S x)
-names S (activity.Deliver m) k few whole none is = both_named S (activity.Deliver m) m k whole none refl (λ h v. grind (arith, ints))
-names S (activity.Receive m) k few whole none is = both_named S (activity.Receive m) m k whole none refl (λ h v. grind (arith, ints))
-names S (activity.Split s) k few whole none is =
+names S (Activity.Deliver m) k few whole none is = both_named S (Activity.Deliver m) m k whole none refl (λ h v. grind (arith, ints))
+names S (Activity.Receive m) k few whole none is = both_named S (Activity.Receive m) m k whole none refl (λ h v. grind (arith, ints))
+names S (Activity.Split s) k few whole none is =
     let q : Account → ℤ = λ a. position (journal_of S) a s.issue in
-    each_named_once S (activity.Split s) s.issue [] k _ few whole none refl (holds _ (all_fail (rules S.opening (journal_of S) (activity.Split s)) none).0) (λ h. h) (one_issue s.issue k.issue)
+    each_named_once S (Activity.Split s) s.issue [] k _ few whole none refl (holds _ (all_fail (rules S.opening (journal_of S) (Activity.Split s)) none).0) (λ h. h) (one_issue s.issue k.issue)
     (against_others k s.issue (split_entry s q) (holders q (members (journal_of S))) (λ a. refl))
-names S (activity.Exchange x) k few whole none is =
+names S (Activity.Exchange x) k few whole none is =
     let q : Account → ℤ = λ a. position (journal_of S) a x.old in
     let hs = holders q (members (journal_of S)) in
-    let fails = all_fail (rules S.opening (journal_of S) (activity.Exchange x)) none in
-    each_named_once S (activity.Exchange x) x.old (x.successor ∷ []) k _ few whole none refl (both_hold _ _ fails.0).0 (λ h. h) (two_issues x.old x.successor k.issue fails.1.1.0)
+    let fails = all_fail (rules S.opening (journal_of S) (Activity.Exchange x)) none in
+    each_named_once S (Activity.Exchange x) x.old (x.successor ∷ []) k _ few whole none refl (both_hold _ _ fails.0).0 (λ h. h) (two_issues x.old x.successor k.issue fails.1.1.0)
     (λ h. let off = neither (bytes_eq x.old k.issue) (bytes_eq x.successor k.issue) h in
     λ v. rw (total-append _ (against_corporation x.old (map (old_entry x q) hs)) (against_corporation x.successor (map (new_entry x q) hs)), against_others k x.old (old_entry x q) hs (λ a. refl) off.0 v, against_others k x.successor (new_entry x q) hs (λ a. refl) off.1 v) refl)
-names S (activity.Execute x) k few whole none is = by (notice_at (journal_of S) x.notice) refl (each_named (IsNoticed (journal_of S)) (λ n. n.number == x.notice) (notices (journal_of S)) whole.now.noticed)
+names S (Activity.Execute x) k few whole none is = by (notice_at (journal_of S) x.notice) refl (each_named (IsNoticed (journal_of S)) (λ n. n.number == x.notice) (notices (journal_of S)) whole.now.noticed)
   where
     by : (o : Option Notice) → notice_at (journal_of S) x.notice ≡ o → IfSome o (IsNoticed (journal_of S))
-        → IsNamed k S (more S (activity.Execute x)) (each All S (option_to_list (option_map (λ n. n.issue) (option_map (notice_of (journal_of S)) o))))
+        → IsNamed k S (more S (Activity.Execute x)) (each All S (option_to_list (option_map (λ n. n.issue) (option_map (notice_of (journal_of S)) o))))
     by None is known = record {
       there = false;
       once = refl;
-      others = λ h. same_elsewhere S (activity.Execute x) k whole none refl (λ v. rw (is) refl);
+      others = λ h. same_elsewhere S (Activity.Execute x) k whole none refl (λ v. rw (is) refl);
     }
     by (Some n) is known =
-        each_named_once S (activity.Execute x) n.given.issue [] k _ few whole none refl known.1 (λ h. h) (one_issue n.given.issue k.issue)
+        each_named_once S (Activity.Execute x) n.given.issue [] k _ few whole none refl known.1 (λ h. h) (one_issue n.given.issue k.issue)
         (λ other v. rw (is) (in_execution k (journal_of S) x n other v))
 names S x k few whole none is = cc

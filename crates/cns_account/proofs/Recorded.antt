@@ -1,24 +1,18 @@
 -- What a day's records booked at a place.
 -- For `moves_add_up` of laws.rt.
-use Rattle.cns_account.proofs.Common.{◌≡◌, ◌∙◌, sym, refl, subst, ℕ, ◌+◌, ◌*◌, ◌<◌, ◌≤◌, ℤ, pos, ◌+ℤ◌, ◌-ℤ◌, Bool, true, false, cond, List, [], ◌∷◌, ◌++◌, append-nil, append_assoc, blank_log, filter, length, map, reverse, is_none, option_and_then, option_map, option_to_list, Option, Some, None, Ok, Err, arith, int_lt, sum_by, sum_by-cons, unsigned_abs, Width, w64, w128, AllByRecursion, fold, fold-append, option_map_or, ints, nat_tests, Day, IsReached, IsWhole, NoneHolds, State, added-more, all_fail, answer, date, day_number, execution_cents, fill_entry, is_close, journal_of, limited, magnitude, money_limit, next, open_day, pend_of, refusal, same_key, shares_limit, shares_of_fills, total, total_small, trade_entries, trades, traded, activity_reply, Activity, Command, Notice, Pend, Trade, Entry, Holding, Key, Reply, Log, state_of, Line, log_after_line, bookings_at, is_movement, is_open, lines_of, standing, Booking, HistoryLine, IsLineInRange, accepted_of, date_told, day_closed, is_line_at, is_within, last_of, unmoved, with_line, with_taken, Moves, ap, is_nothing, IsExecutable, execution_entries, Execution, state_after_line, opened}
+use Rattle.cns_account.proofs.Common.{◌≡◌, ◌∙◌, sym, refl, subst, ℕ, ◌+◌, ◌*◌, ◌<◌, ◌≤◌, ℤ, pos, ◌+ℤ◌, ◌-ℤ◌, Bool, true, false, cond, List, [], ◌∷◌, ◌++◌, append-nil, append_assoc, blank_log, filter, length, map, reverse, is_none, option_and_then, option_map, option_to_list, Option, Some, None, Ok, Err, arith, int_lt, sum_by, sum_by-cons, unsigned_abs, Width, w64, w128, AllByRecursion, fold, fold-append, option_map_or, ints, nat_tests, Day, IsReached, IsWhole, NoneHolds, State, added-more, all_fail, answer, date, day_number, execution_cents, fill_entry, is_close, journal_of, limited, magnitude, money_limit, next, open_day, pend_of, refusal, same_key, shares_limit, shares_of_fills, total, total_small, trade_entries, trades, traded, activity_reply, Activity, Command, Notice, Pend, Trade, Entry, Holding, Key, Reply, Log, state_of, Line, log_after_line, bookings_at, is_movement, is_open, lines_of, standing, Booking, HistoryLine, IsLineInRange, accepted_of, date_told, day_closed, is_line_at, is_within, last_of, unmoved, with_line, with_taken, Moves, ap, is_nothing, IsExecutable, execution_entries, Execution, state_after_line, opened, Watched, Whose}
 use Rattle.cns_terms.proofs.Facts.{bytes_refl, later}
 use Rattle.cns_terms.proofs.Reached.{reached-from}
 use Rattle.cns_terms.specs.Refusals.{rules}
 use Rattle.cns_terms.specs.declared.buy_in.Fill.{Fill}
-use Rattle.cns_terms.specs.declared.command.Activity.TheVariants as activity
-use Rattle.cns_terms.specs.declared.command.Command.TheVariants as command
 use Rattle.cns_terms.specs.declared.refusal.Refusal.{Refusal}
-use Rattle.cns_terms.specs.declared.reply.Reply.TheVariants as reply
-use Rattle.cns_feed.specs.Replay.{log_after}
-use Rattle.cns_history.specs.Lines.{history}
-use Rattle.cns_history.specs.declared.line.HistoryLine.TheVariants as line
-use Rattle.cns_history.specs.declared.watched.Watched.TheVariants as watched
-use Rattle.cns_history.specs.declared.watched.Whose.TheVariants as whose
-use Rattle.cns_account.specs.Laws.{closes}
 use Rattle.cns_account.proofs.AtPlaces.{movement_at}
 use Rattle.cns_account.proofs.Ledger.{IsAfter, all_booked, close_settles, settles, trade_settles}
 use Rattle.cns_account.proofs.Named.{at_next, adds, entered, more}
 use Rattle.cns_account.proofs.Summed.{Comes, IsPicked, cause_more, entry_at, is_named, none_moved, of_entry, same, taken_last}
+use Rattle.cns_feed.specs.Replay.{log_after}
+use Rattle.cns_history.specs.Lines.{history}
+use Rattle.cns_account.specs.Laws.{closes}
 
 -- ---- shares or cents
 
@@ -36,18 +30,18 @@ pub record IsCounted (k : Key) (w : Width) (pick : ℤ → ℤ → ℤ) (c : ℕ
   pub picked : IsPicked w pick
   pub less : (a b s t : ℤ) → pick (a -ℤ b) (s -ℤ t) ≡ pick a s -ℤ pick b t
   pub held : (S : State) (x : Activity) → IsWhole S.opening (journal_of S) → NoneHolds (rules S.opening (journal_of S) x) → is_close x ≡ false → of_held pick (standing (more S x) k) ≡ total (entry_at pick k) (entered S x) +ℤ of_held pick (standing S k)
-  pub named : (S : State) (x : Activity) → IsLineInRange (Ok (command.Activity x)) → NoneHolds (rules S.opening (journal_of S) x) → is_named x ≡ true → magnitude (of_entry pick) (entered S x) ≤ c
-  pub traded : (t : Trade) → IsLineInRange (Ok (command.Activity (activity.Trade t))) → magnitude (of_entry pick) (trade_entries (pend_of t)) ≤ c
+  pub named : (S : State) (x : Activity) → IsLineInRange (Ok (Command.Activity x)) → NoneHolds (rules S.opening (journal_of S) x) → is_named x ≡ true → magnitude (of_entry pick) (entered S x) ≤ c
+  pub traded : (t : Trade) → IsLineInRange (Ok (Command.Activity (Activity.Trade t))) → magnitude (of_entry pick) (trade_entries (pend_of t)) ≤ c
 
-shares_named : (S : State) (x : Activity) → IsLineInRange (Ok (command.Activity x)) → NoneHolds (rules S.opening (journal_of S) x) → is_named x ≡ true → magnitude (λ e. e.shares) (entered S x) ≤ 2 * shares_limit
+shares_named : (S : State) (x : Activity) → IsLineInRange (Ok (Command.Activity x)) → NoneHolds (rules S.opening (journal_of S) x) → is_named x ≡ true → magnitude (λ e. e.shares) (entered S x) ≤ 2 * shares_limit
 shares_named S x range none is = grind (arith, shares_of_fills, fill_shares)
 
 executed_few : (ent : Entry → ℤ) (c : ℕ) (S : State) (x : Execution) → ((n : Notice) → IsExecutable (journal_of S) x n → magnitude ent (execution_entries (journal_of S) x n) ≤ c)
-    → NoneHolds (rules S.opening (journal_of S) (activity.Execute x)) → magnitude ent (entered S (activity.Execute x)) ≤ c
+    → NoneHolds (rules S.opening (journal_of S) (Activity.Execute x)) → magnitude ent (entered S (Activity.Execute x)) ≤ c
 executed_few ent c S x h1 h2 = grind arith
 
-cents_named : (S : State) (x : Activity) → IsLineInRange (Ok (command.Activity x)) → NoneHolds (rules S.opening (journal_of S) x) → is_named x ≡ true → magnitude (λ e. e.cents) (entered S x) ≤ 2 * money_limit
-cents_named S (activity.Execute x) range none is = executed_few (λ e. e.cents) (2 * money_limit) S x (λ n ready. let e = execution_cents (journal_of S) x n range.0.0 ready in omega (arith, e, range.0.2)) none
+cents_named : (S : State) (x : Activity) → IsLineInRange (Ok (Command.Activity x)) → NoneHolds (rules S.opening (journal_of S) x) → is_named x ≡ true → magnitude (λ e. e.cents) (entered S x) ≤ 2 * money_limit
+cents_named S (Activity.Execute x) range none is = executed_few (λ e. e.cents) (2 * money_limit) S x (λ n ready. let e = execution_cents (journal_of S) x n range.0.0 ready in omega (arith, e, range.0.2)) none
 cents_named S x range none is = grind (arith, ints)
 
 pub shares_counted : (k : Key) → IsCounted k w64 (λ s c. s) (2 * shares_limit)
@@ -71,19 +65,19 @@ trade_taken f last d S cmd = grind (arith, nat_tests)
 
 -- what an activity books is a trade's or a movement's
 books_parts : (f : Entry → ℤ) (before : Option Day) (S : State) (x : Activity) → NoneHolds (rules S.opening (journal_of S) x) → IsAfter before (date S.opening (journal_of S)) → is_close x ≡ false
-    → total f (entered S x) ≡ option_map_or (λ t. settles f before (date S.opening (journal_of S)) (pend_of t)) (traded x) (pos 0) +ℤ cond (is_movement (command.Activity x)) (total f (entered S x)) (pos 0)
-books_parts f before S (activity.Trade t) none after is = let e = trade_settles f S.opening (journal_of S) before t none after in e ∙ omega (arith, ints)
-books_parts f before S (activity.Close d) none after is = cc
+    → total f (entered S x) ≡ option_map_or (λ t. settles f before (date S.opening (journal_of S)) (pend_of t)) (traded x) (pos 0) +ℤ cond (is_movement (Command.Activity x)) (total f (entered S x)) (pos 0)
+books_parts f before S (Activity.Trade t) none after is = let e = trade_settles f S.opening (journal_of S) before t none after in e ∙ omega (arith, ints)
+books_parts f before S (Activity.Close d) none after is = cc
 books_parts f before S x none after is = omega (arith, ints)
 
 -- a record that closes a day
 pub record IsClose (S : State) (l : Line) (d : Day) : Type 0 where
   pub next : Day
-  pub line : l ≡ Ok (command.Activity (activity.Close next))
-  pub none : NoneHolds (rules S.opening (journal_of S) (activity.Close next))
+  pub line : l ≡ Ok (Command.Activity (Activity.Close next))
+  pub none : NoneHolds (rules S.opening (journal_of S) (Activity.Close next))
   pub date : d ≡ date S.opening (journal_of S)
 
-closing_reply : (S : State) (x : Activity) (d : Day) → is_none (refusal S.opening (journal_of S) (command.Activity x)) ≡ true → date_told (activity_reply S.opening (journal_of S) x) ≡ Some d → IsClose S (Ok (command.Activity x)) d
+closing_reply : (S : State) (x : Activity) (d : Day) → is_none (refusal S.opening (journal_of S) (Command.Activity x)) ≡ true → date_told (activity_reply S.opening (journal_of S) x) ≡ Some d → IsClose S (Ok (Command.Activity x)) d
 closing_reply S x d h1 h2 = grind arith
 
 pub closing_line : (S : State) (l : Line) (d : Day) → day_closed S l ≡ Some d → IsClose S l d
@@ -93,7 +87,7 @@ pub state_line : (b : Log) (l : Line) → state_of (log_after_line b l) ≡ stat
 state_line b l = grind arith
 
 -- no question closes a day
-not_closed : (o : Option Refusal) (r : Reply) → date_told r ≡ None → date_told (option_map_or reply.Refused o r) ≡ None
+not_closed : (o : Option Refusal) (r : Reply) → date_told r ≡ None → date_told (option_map_or Reply.Refused o r) ≡ None
 not_closed o r is = grind arith
 
 no_lines : (b : Bool) (ls : List HistoryLine) → ls ++ cond b [] [] ≡ ls
@@ -114,16 +108,16 @@ module _ {k : Key} {w : Width} {pick : ℤ → ℤ → ℤ} {c : ℕ} (low : k.a
 
   -- by what an activity changes what stands here
   abbrev change : State → Activity → ℤ
-  change S x = of_held pick (standing (next S (command.Activity x)) k) -ℤ of_held pick (standing S k)
+  change S x = of_held pick (standing (next S (Command.Activity x)) k) -ℤ of_held pick (standing S k)
 
-  change_few : (S : State) (x : Activity) → IsWhole S.opening (journal_of S) → IsLineInRange (Ok (command.Activity x)) → is_named x ≡ true → unsigned_abs (change S x) ≤ c
+  change_few : (S : State) (x : Activity) → IsWhole S.opening (journal_of S) → IsLineInRange (Ok (Command.Activity x)) → is_named x ≡ true → unsigned_abs (change S x) ≤ c
   change_few S x whole range named =
       at_next (λ T. unsigned_abs (of_held pick (standing T k) -ℤ of_held pick (standing S k)) ≤ c) S x (omega (arith, ints))
       (λ none. omega (arith, ints, counted.held S x whole none (grind arith), total_small f (entered S x), added-more (λ e. unsigned_abs (f e)) (λ e. unsigned_abs (of_entry pick e)) (entered S x) (λ e. grind arith), counted.named S x range none named))
 
   -- the line of what a movement booked here
-  line_more : (m : Moves) (v z : ℤ) (n : ℕ) (b : Booking) (t : Bool) → Comes w pick m v n → is_nothing b ≡ t → pick b.shares b.cents ≡ z → is_line_at k (line.Booking b) ≡ true → is_movement (command.Activity b.activity) ≡ true
-      → (is_named b.activity ≡ true → unsigned_abs z ≤ c) → Comes w pick (fold (with_line k) m (option_to_list (cond t None (Some (line.Booking b))))) (v +ℤ z) (n + c)
+  line_more : (m : Moves) (v z : ℤ) (n : ℕ) (b : Booking) (t : Bool) → Comes w pick m v n → is_nothing b ≡ t → pick b.shares b.cents ≡ z → is_line_at k (HistoryLine.Booking b) ≡ true → is_movement (Command.Activity b.activity) ≡ true
+      → (is_named b.activity ≡ true → unsigned_abs z ≤ c) → Comes w pick (fold (with_line k) m (option_to_list (cond t None (Some (HistoryLine.Booking b))))) (v +ℤ z) (n + c)
   line_more m v z n b true come none is here moves few = same counted.picked m v (v +ℤ z) n (n + c) come (grind (arith, ints, counted.picked.none)) (omega arith)
   line_more m v z n b false come some is here moves few =
       let e : cond (is_named b.activity) (unsigned_abs (pick b.shares b.cents)) 0 ≤ c = grind arith in
@@ -144,25 +138,25 @@ module _ {k : Key} {w : Width} {pick : ℤ → ℤ → ℤ} {c : ℕ} (low : k.a
 
     -- what the lines of a movement add up to
     abbrev told_of : State → Activity → ℤ
-    told_of S x = cond (is_open S d) (cond (is_movement (command.Activity x)) (change S x) (pos 0)) (pos 0)
+    told_of S x = cond (is_open S d) (cond (is_movement (Command.Activity x)) (change S x) (pos 0)) (pos 0)
 
     -- what closes no day leaves its date, and books trades and movements
-    stays : (before : Option Day) (S : State) (x : Activity) → IsWhole S.opening (journal_of S) → IsAfter before (date S.opening (journal_of S)) → day_closed S (Ok (command.Activity x)) ≡ None
-        → let T = next S (command.Activity x) in let D = date S.opening (journal_of S) in
-        (date T.opening (journal_of T) ≡ D) × (left before D T ≡ left before D S +ℤ cond (is_movement (command.Activity x)) (change S x) (pos 0))
+    stays : (before : Option Day) (S : State) (x : Activity) → IsWhole S.opening (journal_of S) → IsAfter before (date S.opening (journal_of S)) → day_closed S (Ok (Command.Activity x)) ≡ None
+        → let T = next S (Command.Activity x) in let D = date S.opening (journal_of S) in
+        (date T.opening (journal_of T) ≡ D) × (left before D T ≡ left before D S +ℤ cond (is_movement (Command.Activity x)) (change S x) (pos 0))
     stays before S x whole after stay =
         let D = date S.opening (journal_of S) in
-        at_next (λ T. (date T.opening (journal_of T) ≡ D) × (left before D T ≡ left before D S +ℤ cond (is_movement (command.Activity x)) (of_held pick (standing T k) -ℤ of_held pick (standing S k)) (pos 0))) S x
-        (refl, left_same (is_movement (command.Activity x)) (left before D S) (of_held pick (standing S k)))
+        at_next (λ T. (date T.opening (journal_of T) ≡ D) × (left before D T ≡ left before D S +ℤ cond (is_movement (Command.Activity x)) (of_held pick (standing T k) -ℤ of_held pick (standing S k)) (pos 0))) S x
+        (refl, left_same (is_movement (Command.Activity x)) (left before D S) (of_held pick (standing S k)))
         (λ none. let ends : is_close x ≡ false = grind arith in
         let here = counted.held S x whole none ends in
         let opens = ap (λ b. total f (entered S x) +ℤ all_booked f (cond b [] (open_day (journal_of S)))) ends in
-        let told : cond (is_movement (command.Activity x)) (of_held pick (standing (more S x) k) -ℤ of_held pick (standing S k)) (pos 0) ≡ cond (is_movement (command.Activity x)) (total f (entered S x)) (pos 0) =
-        ap (λ z. cond (is_movement (command.Activity x)) z (pos 0)) (omega (arith, ints, here)) in
+        let told : cond (is_movement (Command.Activity x)) (of_held pick (standing (more S x) k) -ℤ of_held pick (standing S k)) (pos 0) ≡ cond (is_movement (Command.Activity x)) (total f (entered S x)) (pos 0) =
+        ap (λ z. cond (is_movement (Command.Activity x)) z (pos 0)) (omega (arith, ints, here)) in
         (grind arith, omega (arith, ints, opens, books_parts f before S x none after ends, trades_more (settles f before D) S x, told)))
 
-    told_activity : (before : Option Day) (j : ℕ) (S : State) (x : Activity) (ls : List HistoryLine) (u : ℕ) → IsWhole S.opening (journal_of S) → IsLineInRange (Ok (command.Activity x)) → day_closed S (Ok (command.Activity x)) ≡ None
-        → Told before S ls u → Told before (next S (command.Activity x)) (ls ++ lines_of (watched.Movements d) j S (Ok (command.Activity x))) (u + cond (is_movement (command.Activity x)) c 0)
+    told_activity : (before : Option Day) (j : ℕ) (S : State) (x : Activity) (ls : List HistoryLine) (u : ℕ) → IsWhole S.opening (journal_of S) → IsLineInRange (Ok (Command.Activity x)) → day_closed S (Ok (Command.Activity x)) ≡ None
+        → Told before S ls u → Told before (next S (Command.Activity x)) (ls ++ lines_of (Watched.Movements d) j S (Ok (Command.Activity x))) (u + cond (is_movement (Command.Activity x)) c 0)
     told_activity before j S x ls u whole range stay t =
         let is = stays before S x whole t.after stay in
         record {
@@ -170,22 +164,22 @@ module _ {k : Key} {w : Width} {pick : ℤ → ℤ → ℤ} {c : ℕ} (low : k.a
           after = subst (IsAfter before) (sym is.0) t.after;
           late = λ later. let was = subst (λ e. int_lt (day_number e) (day_number d) ≡ true) is.0 later in let other : is_open S d ≡ false = grind (arith, ints) in rw other (omega (arith, ints, t.late was));
           sum = λ today. let here = sym is.0 ∙ today in let one : is_open S d ≡ true = grind (arith, ints) in
-              rw one (subst (λ e. left before e (next S (command.Activity x)) ≡ left before e S +ℤ cond (is_movement (command.Activity x)) (change S x) (pos 0)) here is.1 ∙ ap (λ z. z +ℤ _) (t.sum here));
-          comes = λ m v n come. rw (fold-append (with_line k) m ls (lines_of (watched.Movements d) j S (Ok (command.Activity x))))
-              (same counted.picked _ (v +ℤ t.seen +ℤ told_of S x) (v +ℤ (t.seen +ℤ told_of S x)) (n + u + cond (is_movement (command.Activity x)) c 0) (n + (u + cond (is_movement (command.Activity x)) c 0)) (by (is_open S d) (is_movement (command.Activity x)) refl _ _ _ (t.comes m v n come)) (omega (arith, ints)) (omega arith));
+              rw one (subst (λ e. left before e (next S (Command.Activity x)) ≡ left before e S +ℤ cond (is_movement (Command.Activity x)) (change S x) (pos 0)) here is.1 ∙ ap (λ z. z +ℤ _) (t.sum here));
+          comes = λ m v n come. rw (fold-append (with_line k) m ls (lines_of (Watched.Movements d) j S (Ok (Command.Activity x))))
+              (same counted.picked _ (v +ℤ t.seen +ℤ told_of S x) (v +ℤ (t.seen +ℤ told_of S x)) (n + u + cond (is_movement (Command.Activity x)) c 0) (n + (u + cond (is_movement (Command.Activity x)) c 0)) (by (is_open S d) (is_movement (Command.Activity x)) refl _ _ _ (t.comes m v n come)) (omega (arith, ints)) (omega arith));
         }
       where
-        by : (o b : Bool) → is_movement (command.Activity x) ≡ b → (m : Moves) (v : ℤ) (n : ℕ) → Comes w pick m v n
-            → Comes w pick (fold (with_line k) m (cond o (cond b (bookings_at whose.All j S (Ok (command.Activity x))) []) [])) (v +ℤ cond o (cond b (change S x) (pos 0)) (pos 0)) (n + cond b c 0)
+        by : (o b : Bool) → is_movement (Command.Activity x) ≡ b → (m : Moves) (v : ℤ) (n : ℕ) → Comes w pick m v n
+            → Comes w pick (fold (with_line k) m (cond o (cond b (bookings_at Whose.All j S (Ok (Command.Activity x))) []) [])) (v +ℤ cond o (cond b (change S x) (pos 0)) (pos 0)) (n + cond b c 0)
         by true true is m v n come =
-            rw (fold_kept k m (bookings_at whose.All j S (Ok (command.Activity x))), movement_at k j S x low whole is) (line_more m v (change S x) n _ _ come refl (counted.less _ _ _ _) (grind (arith, same_key, nat_tests, bytes_refl k.issue)) is (change_few S x whole range))
+            rw (fold_kept k m (bookings_at Whose.All j S (Ok (Command.Activity x))), movement_at k j S x low whole is) (line_more m v (change S x) n _ _ come refl (counted.less _ _ _ _) (grind (arith, same_key, nat_tests, bytes_refl k.issue)) is (change_few S x whole range))
         by false b is m v n come = same counted.picked m v _ n _ come (omega (arith, ints)) (omega arith)
         by true false is m v n come = same counted.picked m v _ n _ come (omega (arith, ints)) (omega arith)
 
-    told_close : (before : Option Day) (S : State) (e : Day) (ls : List HistoryLine) (u : ℕ) → NoneHolds (rules S.opening (journal_of S) (activity.Close e))
-        → Told before S ls u → Told (Some (date S.opening (journal_of S))) (more S (activity.Close e)) ls u
+    told_close : (before : Option Day) (S : State) (e : Day) (ls : List HistoryLine) (u : ℕ) → NoneHolds (rules S.opening (journal_of S) (Activity.Close e))
+        → Told before S ls u → Told (Some (date S.opening (journal_of S))) (more S (Activity.Close e)) ls u
     told_close before S e ls u none t =
-        let after = later (day_number e) (day_number (date S.opening (journal_of S))) (all_fail (rules S.opening (journal_of S) (activity.Close e)) none).0 in
+        let after = later (day_number e) (day_number (date S.opening (journal_of S))) (all_fail (rules S.opening (journal_of S) (Activity.Close e)) none).0 in
         record { seen = t.seen; after = after; late = λ later. t.late (grind (arith, ints)); sum = λ today. grind (arith, ints, close_settles f S.opening (journal_of S) e, t.late); comes = t.comes }
 
     -- ---- the history
@@ -231,26 +225,26 @@ module _ {k : Key} {w : Width} {pick : ℤ → ℤ → ℤ} {c : ℕ} (low : k.a
 
       -- a record more
       open_more : (before : Option Day) (b : Log) (ls : List HistoryLine) (n : ℕ) (l : Line) → IsLineInRange l → Open before b ls n
-          → Open (last_of before (option_to_list (option_map (λ e. (n + 1, e)) (day_closed (state_of b) l)))) (log_after_line b l) (ls ++ lines_of (watched.Movements d) (n + 1) (state_of b) l) (n + 1)
+          → Open (last_of before (option_to_list (option_map (λ e. (n + 1, e)) (day_closed (state_of b) l)))) (log_after_line b l) (ls ++ lines_of (Watched.Movements d) (n + 1) (state_of b) l) (n + 1)
       open_more before b ls n (Err e) range o = grind (arith, append-nil)
-      open_more before b ls n (Ok (command.Position q)) range o =
-          record { t = _; u = o.u; kept = kept_more b n o.t (command.Position q) range o.kept; told = rw (not_closed _ (reply.Held _) refl, no_lines (is_open (state_of b) d) ls) o.told; few = omega (arith, o.few, size_few (command.Position q) (answer (state_of b) (command.Position q)) range) }
-      open_more before b ls n (Ok (command.Statement a e)) range o =
-          record { t = _; u = o.u; kept = kept_more b n o.t (command.Statement a e) range o.kept; told = rw (not_closed _ (reply.Stated _) refl, no_lines (is_open (state_of b) d) ls) o.told; few = omega (arith, o.few, size_few (command.Statement a e) (answer (state_of b) (command.Statement a e)) range) }
-      open_more before b ls n (Ok (command.Activity x)) range o = by (day_closed (state_of b) (Ok (command.Activity x))) refl
+      open_more before b ls n (Ok (Command.Position q)) range o =
+          record { t = _; u = o.u; kept = kept_more b n o.t (Command.Position q) range o.kept; told = rw (not_closed _ (Reply.Held _) refl, no_lines (is_open (state_of b) d) ls) o.told; few = omega (arith, o.few, size_few (Command.Position q) (answer (state_of b) (Command.Position q)) range) }
+      open_more before b ls n (Ok (Command.Statement a e)) range o =
+          record { t = _; u = o.u; kept = kept_more b n o.t (Command.Statement a e) range o.kept; told = rw (not_closed _ (Reply.Stated _) refl, no_lines (is_open (state_of b) d) ls) o.told; few = omega (arith, o.few, size_few (Command.Statement a e) (answer (state_of b) (Command.Statement a e)) range) }
+      open_more before b ls n (Ok (Command.Activity x)) range o = by (day_closed (state_of b) (Ok (Command.Activity x))) refl
         where
-          by : (e : Option Day) → day_closed (state_of b) (Ok (command.Activity x)) ≡ e
-              → Open (last_of before (option_to_list (option_map (λ e. (n + 1, e)) e))) (log_after_line b (Ok (command.Activity x))) (ls ++ lines_of (watched.Movements d) (n + 1) (state_of b) (Ok (command.Activity x))) (n + 1)
+          by : (e : Option Day) → day_closed (state_of b) (Ok (Command.Activity x)) ≡ e
+              → Open (last_of before (option_to_list (option_map (λ e. (n + 1, e)) e))) (log_after_line b (Ok (Command.Activity x))) (ls ++ lines_of (Watched.Movements d) (n + 1) (state_of b) (Ok (Command.Activity x))) (n + 1)
           by None is =
               let told = told_activity before (n + 1) (state_of b) x ls o.u (limited _ _ o.kept.reached).whole range is o.told in
-              record { t = _; u = _; kept = kept_more b n o.t (command.Activity x) range o.kept; told = told; few = omega (arith, o.few, size_few (command.Activity x) (answer (state_of b) (command.Activity x)) range) }
+              record { t = _; u = _; kept = kept_more b n o.t (Command.Activity x) range o.kept; told = told; few = omega (arith, o.few, size_few (Command.Activity x) (answer (state_of b) (Command.Activity x)) range) }
           by (Some e) is =
-              let z = closing_line (state_of b) (Ok (command.Activity x)) e is in
+              let z = closing_line (state_of b) (Ok (Command.Activity x)) e is in
               let told = told_close before (state_of b) z.next ls o.u z.none o.told in
-              record { t = _; u = o.u; kept = kept_more b n o.t (command.Activity x) range o.kept; told = grind (arith, append-nil, z.line, z.date, z.none); few = omega (arith, o.few, size_few (command.Activity x) (answer (state_of b) (command.Activity x)) range) }
+              record { t = _; u = o.u; kept = kept_more b n o.t (Command.Activity x) range o.kept; told = grind (arith, append-nil, z.line, z.date, z.none); few = omega (arith, o.few, size_few (Command.Activity x) (answer (state_of b) (Command.Activity x)) range) }
 
       pub all_records : (front : List Line) (before : Option Day) (b : Log) (ls : List HistoryLine) (n : ℕ) → AllByRecursion IsLineInRange front → Open before b ls n
-          → Open (last_of before (closes n (state_of b) front)) (log_after b front) (ls ++ history (watched.Movements d) n (state_of b) front) (n + length front)
+          → Open (last_of before (closes n (state_of b) front)) (log_after b front) (ls ++ history (Watched.Movements d) n (state_of b) front) (n + length front)
       unfolding closes log_after history
       all_records [] before b ls n range o = grind (arith, append-nil ls)
       all_records (l ∷ front) before b ls n range o =
@@ -258,7 +252,7 @@ module _ {k : Key} {w : Width} {pick : ℤ → ℤ → ℤ} {c : ℕ} (low : k.a
           rw (
             ← state_line b l,
             last_of-append before (option_to_list (option_map (λ e. (n + 1, e)) (day_closed (state_of b) l))) (closes (n + 1) (state_of (log_after_line b l)) front),
-            ← append_assoc ls (lines_of (watched.Movements d) (n + 1) (state_of b) l) (history (watched.Movements d) (n + 1) (state_of (log_after_line b l)) front),
+            ← append_assoc ls (lines_of (Watched.Movements d) (n + 1) (state_of b) l) (history (Watched.Movements d) (n + 1) (state_of (log_after_line b l)) front),
             more,
           )
           (all_records front _ _ _ (n + 1) range.1 (open_more before b ls n l range.0 o))

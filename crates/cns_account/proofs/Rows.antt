@@ -2,7 +2,6 @@
 -- For `moves_add_up` of laws.rt.
 use Rattle.cns_account.proofs.Common.{◌≡◌, refl, List, [], ◌∷◌, flat_map, map, not, Some, arith, ◌≤◌, Day, Journal, State, accounts, date, each_append, equal, exact_keys, is_idle, issues, journal, journal_of, key_cmp, next, price, price_limit, row, rows_of, sheet_rows, Key, Row, Cusip, Activity, row_at, row_on, Bool, ap, cond, false, is_eq, sym, true, ◌∙◌, filter}
 use Rattle.cns_terms.proofs.Common.{Account, AllByRecursion, IsReached}
-use Rattle.cns_terms.specs.declared.command.Activity.TheVariants as activity
 use Rattle.cns_sheets.specs.Build.{key_of}
 use Rattle.cns_account.proofs.Named.{more}
 
@@ -35,7 +34,7 @@ module _ (opening : Day) (K : Journal) where
   row_is k r is = found_row (sheet_rows opening K) k r (placed_all (accounts K)) is
 
 -- the row on the sheet of the day that the last close ended
-pub last_row : (S : State) (next : Day) (k : Key) (r : Row) → row_on (more S (activity.Close next)) k (date S.opening (journal_of S)) ≡ Some r → r ≡ row S.opening (journal_of S) k.account k.issue
+pub last_row : (S : State) (next : Day) (k : Key) (r : Row) → row_on (more S (Activity.Close next)) k (date S.opening (journal_of S)) ≡ Some r → r ≡ row S.opening (journal_of S) k.account k.issue
 last_row S next k r h1 = grind (arith, row_is)
 
 -- no price is beyond its limit

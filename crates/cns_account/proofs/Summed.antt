@@ -1,18 +1,13 @@
 -- What moved a position, of all causes together.
 -- For `moves_add_up` of laws.rt.
-use Rattle.cns_account.proofs.Common.{◌≡◌, ℕ, ◌+◌, ◌^◌, ◌<◌, ◌≤◌, ℤ, pos, ◌+ℤ◌, ◌-ℤ◌, neg_ℤ, Bool, true, false, ◌&&◌, cond, eqb, Option, Some, None, arith, bytes_eq, unsigned_abs, FitsSigned, Width, int_wrap, option_map_or, cases_lt, SFits-int_wrap, fits_signed_from_abs, int_wrap-add_right, int_wrap-add_same, int_wrap_fits, ints, hbits, Day, magnitude, pend_of, same_key, total, trade_entries, Activity, Trade, Taken, Entry, Key, is_movement, Booking, of_causes, of_cause, settled_by, unmoved, with_entry, with_more, with_taken, with_trade, Moved, Moves, List, [], reverse, ◌∷◌, fold-append, fold, reverse_onto}
-use Rattle.cns_terms.specs.declared.command.Activity.TheVariants as activity
-use Rattle.cns_terms.specs.declared.command.Command.TheVariants as command
-use Rattle.cns_terms.specs.Entries.{buyer_entry, seller_entry}
+use Rattle.cns_account.proofs.Common.{◌≡◌, ℕ, ◌+◌, ◌^◌, ◌<◌, ◌≤◌, ℤ, pos, ◌+ℤ◌, ◌-ℤ◌, neg_ℤ, Bool, true, false, ◌&&◌, cond, eqb, Option, Some, None, arith, bytes_eq, unsigned_abs, FitsSigned, Width, int_wrap, option_map_or, cases_lt, SFits-int_wrap, fits_signed_from_abs, int_wrap-add_right, int_wrap-add_same, int_wrap_fits, ints, hbits, Day, magnitude, pend_of, same_key, total, trade_entries, Activity, Trade, Taken, Entry, Key, is_movement, Booking, of_causes, of_cause, settled_by, unmoved, with_entry, with_more, with_taken, with_trade, Moved, Moves, List, [], reverse, ◌∷◌, fold-append, fold, reverse_onto, Command, buyer_entry, seller_entry}
 
 -- whether an activity moves by a number that a command names
 abbrev pub is_named : Activity → Bool
-is_named (activity.Deliver m) = true
-is_named (activity.Receive m) = true
-is_named (activity.Execute x) = true
+is_named (Activity.Deliver m) = true
+is_named (Activity.Receive m) = true
+is_named (Activity.Execute x) = true
 is_named _ = false
-
--- ---- what wraps
 
 -- no farther from zero
 wrap_few : (w : Width) (z : ℤ) → unsigned_abs (int_wrap w z) ≤ unsigned_abs z
@@ -91,12 +86,12 @@ module _ {w : Width} {pick : ℤ → ℤ → ℤ} (picked : IsPicked w pick) whe
 
   -- a booking
   pub cause_more : (m : Moves) (v : ℤ) (n : ℕ) (b : Booking) (x : Activity) → Comes w pick m v n
-      → Comes w pick (of_cause m b x) (v +ℤ cond (is_movement (command.Activity x)) (pick b.shares b.cents) (pos 0)) (n + cond (is_named x) (unsigned_abs (pick b.shares b.cents)) 0)
-  cause_more m v n b (activity.Deliver x) c = part_more m (record m { delivered = with_more m.delivered b.shares b.cents }) m.delivered b.shares b.cents v n _ c (omega (arith, ints)) (omega (arith, few_more m.delivered b.shares b.cents)) c.fits
-  cause_more m v n b (activity.Receive x) c = part_more m (record m { received = with_more m.received b.shares b.cents }) m.received b.shares b.cents v n _ c (omega (arith, ints)) (omega (arith, few_more m.received b.shares b.cents)) c.fits
-  cause_more m v n b (activity.Execute x) c = part_more m (record m { buy_ins = with_more m.buy_ins b.shares b.cents }) m.buy_ins b.shares b.cents v n _ c (omega (arith, ints)) (omega (arith, few_more m.buy_ins b.shares b.cents)) c.fits
-  cause_more m v n b (activity.Split x) c = action_more m v n b c
-  cause_more m v n b (activity.Exchange x) c = action_more m v n b c
+      → Comes w pick (of_cause m b x) (v +ℤ cond (is_movement (Command.Activity x)) (pick b.shares b.cents) (pos 0)) (n + cond (is_named x) (unsigned_abs (pick b.shares b.cents)) 0)
+  cause_more m v n b (Activity.Deliver x) c = part_more m (record m { delivered = with_more m.delivered b.shares b.cents }) m.delivered b.shares b.cents v n _ c (omega (arith, ints)) (omega (arith, few_more m.delivered b.shares b.cents)) c.fits
+  cause_more m v n b (Activity.Receive x) c = part_more m (record m { received = with_more m.received b.shares b.cents }) m.received b.shares b.cents v n _ c (omega (arith, ints)) (omega (arith, few_more m.received b.shares b.cents)) c.fits
+  cause_more m v n b (Activity.Execute x) c = part_more m (record m { buy_ins = with_more m.buy_ins b.shares b.cents }) m.buy_ins b.shares b.cents v n _ c (omega (arith, ints)) (omega (arith, few_more m.buy_ins b.shares b.cents)) c.fits
+  cause_more m v n b (Activity.Split x) c = action_more m v n b c
+  cause_more m v n b (Activity.Exchange x) c = action_more m v n b c
   cause_more m v n b x c = same m v (v +ℤ pos 0) n (n + 0) c (omega (arith, ints)) (omega arith)
 
 -- the sums are exact

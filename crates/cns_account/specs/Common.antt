@@ -7,8 +7,9 @@ pub use Rattle.cns_history.specs.Lines.{history, is_movement, row_on, standing}
 pub use Rattle.cns_history.specs.Texts.{worth}
 pub use Rattle.cns_history.specs.declared.line.Booking.{Booking}
 pub use Rattle.cns_history.specs.declared.line.HistoryLine.{HistoryLine}
-pub use Rattle.cns_tables.specs.Tables.{row_of, texts}
-pub use Rattle.cns_tables.specs.declared.table.TheConstants.{CELL, ROW}
+pub use Rattle.cns_tables.specs.Tables.{row_of}
+pub use Rattle.cns_tables.specs.Pieces.{filled}
+pub use Rattle.cns_tables.specs.declared.table.TheConstants.{ROW}
 pub use Rattle.cns_terms.specs.Common.{Account, Cusip, Day, DaySheet, Price, State, answer, cash, corporation, exchanged, is_not_after, is_same_day, journal_of, key_cmp, member_limit, opened, same_issue, shares_limit, sheet_on}
 pub use Rattle.cns_terms.specs.Dividends.{declared, is_due}
 pub use Rattle.cns_terms.specs.declared.action.Declared.{Declared}
@@ -22,3 +23,4 @@ pub use Rattle.cns_account.specs.declared.day_moves.DayMoves.{DayMoves}
 pub use Rattle.cns_account.specs.declared.moves.Moved.{Moved}
 pub use Rattle.cns_account.specs.declared.moves.Moves.{Moves}
 pub use Rattle.cns_account.specs.declared.past.Past.{Past}
+pub use Rattle.cns_tables.specs.declared.piece.Piece.{Piece}

@@ -1,8 +1,7 @@
 -- What the dividends that a close pays bring an account.
 use Rattle.std.specs.Prelude.{ℕ, ℤ, pos, ◌-◌, ◌-ℤ◌, Bool, not, ◌==◌, ◌||◌, List, [], ◌∷◌, filter, filter_map, length, slice_get, take, Option, Some, None, if◌then◌else◌}
-use Rattle.cns_account.specs.Common.{int_wrap, w128, flat_map, fold, option_map_or, int_eq, Account, Cusip, Day, DaySheet, State, cash, corporation, is_not_after, journal_of, same_issue, sheet_on, is_due, Declared, Row, row_of, ROW, Past}
+use Rattle.cns_account.specs.Common.{int_wrap, w128, flat_map, fold, option_map_or, int_eq, Account, Cusip, Day, DaySheet, State, cash, corporation, is_not_after, journal_of, same_issue, sheet_on, is_due, Declared, Row, row_of, ROW, Past, Piece}
 use Rattle.cns_sheets.specs.Payments.{closing_at, member_cash}
-use Rattle.cns_tables.specs.declared.piece.Piece.TheVariants as piece
 use Rattle.cns_account.specs.declared.dividends.PaidDividend.{PaidDividend}
 
 -- ---- which
@@ -70,6 +69,6 @@ dividends_paid S p a s = flat_map (λ e. filter_map (paid_in S p.days.items a e.
 -- a dividend: the issue, the record date, the payable date, the rate, the position, and what was paid
 abbrev pub dividend_text : PaidDividend → List ℕ
 dividend_text p =
-    row_of ROW.now (piece.Issue p.declared.issue)
-    (piece.Date p.declared.recorded ∷ piece.Date p.declared.payable ∷ piece.Rate p.declared.rate ∷ piece.Signed p.position
-    ∷ piece.Amount p.cents ∷ [])
+    row_of ROW.now (Piece.Issue p.declared.issue)
+    (Piece.Date p.declared.recorded ∷ Piece.Date p.declared.payable ∷ Piece.Rate p.declared.rate ∷ Piece.Signed p.position
+    ∷ Piece.Amount p.cents ∷ [])

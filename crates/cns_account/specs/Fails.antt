@@ -1,9 +1,7 @@
 -- Since when an account's shorts are short, and what the price did to them.
 use Rattle.std.specs.Prelude.{ℕ, ℤ, pos, ◌-◌, ◌+ℤ◌, int_lt, Bool, false, ◌||◌, List, [], ◌∷◌, ◌++◌, drop, length, slice_get, unwrap_or, if◌then◌else◌}
-use Rattle.cns_account.specs.Common.{int_wrap, w128, fold, option_map_or, Account, Cusip, Day, DaySheet, State, journal_of, same_issue, sheet_on, Exchange, Row, row_of, ROW, worth, Past}
+use Rattle.cns_account.specs.Common.{int_wrap, w128, fold, option_map_or, Account, Cusip, Day, DaySheet, State, journal_of, same_issue, sheet_on, Exchange, Row, row_of, ROW, worth, Past, Piece}
 use Rattle.cns_sheets.specs.Search.{row_at}
-use Rattle.cns_tables.specs.declared.piece.Piece.{Piece}
-use Rattle.cns_tables.specs.declared.piece.Piece.TheVariants as piece
 use Rattle.cns_account.specs.Rows.{moved}
 use Rattle.cns_account.specs.declared.fails.Fail.{Fail}
 
@@ -66,9 +64,9 @@ fail S p d r n = record {
 -- of a fail: closes short, the date of the first of them, opening, closing, price, value, and what the price did
 abbrev pub fail_cells : Fail → List Piece
 fail_cells f =
-    piece.Number f.age ∷ piece.Date f.since ∷ piece.Signed f.row.opening ∷ piece.Signed f.row.closing ∷ piece.Amount (pos f.row.price)
-    ∷ piece.Amount (worth f.row) ∷ piece.Amount f.change ∷ []
+    Piece.Number f.age ∷ Piece.Date f.since ∷ Piece.Signed f.row.opening ∷ Piece.Signed f.row.closing ∷ Piece.Amount (pos f.row.price)
+    ∷ Piece.Amount (worth f.row) ∷ Piece.Amount f.change ∷ []
 
 -- the same after the issue
 abbrev pub fail_text : Fail → List ℕ
-fail_text f = row_of ROW.now (piece.Issue f.row.issue) (fail_cells f)
+fail_text f = row_of ROW.now (Piece.Issue f.row.issue) (fail_cells f)

@@ -1,15 +1,12 @@
 -- The laws of a closed day.
 use Rattle.std.specs.Prelude.{◌≡◌, ◌≤◌, ◌<◌, ◌^◌, ℕ, ◌+◌, ◌-◌, ℤ, ◌+ℤ◌, Bool, false, ◌&&◌, List, [], ◌∷◌, ◌++◌, filter, length, option_map, option_to_list, Option, Some, None, Ok, Err, ⊤}
-use Rattle.cns_account.specs.Common.{AllByRecursion, is_eq, Day, State, answer, is_same_day, key_cmp, member_limit, opened, shares_limit, Command, Key, Row, history, is_movement, row_on, HistoryLine, Moved, Moves}
+use Rattle.cns_account.specs.Common.{AllByRecursion, is_eq, Day, State, answer, is_same_day, key_cmp, member_limit, opened, shares_limit, Command, Key, Row, history, is_movement, row_on, HistoryLine, Moved, Moves, Activity}
 use Rattle.cns_terms.specs.Reached.{IsCommandInRange}
-use Rattle.cns_terms.specs.declared.command.Activity.TheVariants as activity
-use Rattle.cns_terms.specs.declared.command.Command.TheVariants as command
 use Rattle.cns_book.specs.Log.{state_of}
 use Rattle.cns_feed.specs.Line.{Line}
 use Rattle.cns_feed.specs.Output.{state_after_line}
 use Rattle.cns_feed.specs.Replay.{blank_log, log_after}
-use Rattle.cns_history.specs.declared.line.HistoryLine.TheVariants as line
-use Rattle.cns_history.specs.declared.watched.Watched.TheVariants as watched
+use Rattle.cns_history.specs.declared.watched.Watched.{Watched}
 use Rattle.cns_account.specs.Moves.{moved_at}
 use Rattle.cns_account.specs.Past.{date_told, looked_at}
 use Rattle.cns_account.specs.Rows.{moved, valued}
@@ -18,19 +15,19 @@ use Rattle.cns_account.specs.Rows.{moved, valued}
 
 -- whether a line tells what was booked at a place
 abbrev pub is_line_at : Key → HistoryLine → Bool
-is_line_at k (line.Booking b) = is_eq (key_cmp (record { account = b.account; issue = b.issue }) k)
-is_line_at k (line.Closing c) = false
+is_line_at k (HistoryLine.Booking b) = is_eq (key_cmp (record { account = b.account; issue = b.issue }) k)
+is_line_at k (HistoryLine.Closing c) = false
 
 -- whether a line tells what a movement booked on the day with the date
 abbrev pub is_moved : Day → HistoryLine → Bool
-is_moved d (line.Booking b) = is_same_day b.date d && is_movement (command.Activity b.activity)
-is_moved d (line.Closing c) = false
+is_moved d (HistoryLine.Booking b) = is_same_day b.date d && is_movement (Command.Activity b.activity)
+is_moved d (HistoryLine.Closing c) = false
 
 -- of the lines of a day's movements, those at a place are all that movements booked there on the day, each once
 abbrev pub PlacesAreWhole : Type 0
 PlacesAreWhole = (k : Key) (opening : Day) (ls : List Line) (d : Day) → k.account ≤ member_limit →
-    filter (is_line_at k) (history (watched.Movements d) 0 (opened opening) ls)
-    ≡ filter (is_moved d) (history (watched.Place k) 0 (opened opening) ls)
+    filter (is_line_at k) (history (Watched.Movements d) 0 (opened opening) ls)
+    ≡ filter (is_moved d) (history (Watched.Place k) 0 (opened opening) ls)
 
 -- ---- a day's records
 
@@ -64,8 +61,8 @@ pub record AddUp (r : Row) (m : Moves) : Type 0 where
 
 -- the shares of a trade or a delivery are in their range
 abbrev pub HasFewShares : Command → Type 0
-HasFewShares (command.Activity (activity.Trade t)) = t.shares ≤ shares_limit
-HasFewShares (command.Activity (activity.Deliver m)) = m.shares ≤ shares_limit
+HasFewShares (Command.Activity (Activity.Trade t)) = t.shares ≤ shares_limit
+HasFewShares (Command.Activity (Activity.Deliver m)) = m.shares ≤ shares_limit
 HasFewShares _ = ⊤
 
 -- and the values of a record's command are in theirs
@@ -80,5 +77,5 @@ MovesAddUp = (k : Key) (opening : Day) (ls : List Line) (cs : List (ℕ × Day))
     k.account ≤ member_limit → AllByRecursion IsLineInRange ls → length ls < 2 ^ 32 - 1 →
     closes 0 (opened opening) ls ≡ cs ++ (length ls, d) ∷ [] →
     let log = log_after (blank_log opening) ls in
-    let lines = history (watched.Movements d) 0 (opened opening) ls in
+    let lines = history (Watched.Movements d) 0 (opened opening) ls in
     row_on (state_of log) k d ≡ Some r → AddUp r (moved_at (last_of None cs) d (looked_at log.history) lines k)

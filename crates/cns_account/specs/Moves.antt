@@ -6,10 +6,8 @@ use Rattle.cns_terms.specs.Entries.{trade_entries}
 use Rattle.cns_terms.specs.Keys.{key_cmp}
 use Rattle.cns_terms.specs.Listings.{traded}
 use Rattle.cns_terms.specs.Pending.{pend_of}
-use Rattle.cns_terms.specs.declared.command.Activity.TheVariants as activity
 use Rattle.cns_terms.specs.declared.command.Trade.{Trade}
 use Rattle.cns_terms.specs.declared.holding.Entry.{Entry}
-use Rattle.cns_history.specs.declared.line.HistoryLine.TheVariants as line
 use Rattle.cns_account.specs.Past.{accepted_of}
 
 -- nothing
@@ -51,11 +49,11 @@ with_taken before day k m t = option_map_or (with_trade k m) (settled_by before 
 
 -- a booking, by its cause: deliveries, receipts, splits and exchanges, buy-ins; trades are told by the history
 abbrev pub of_cause : Moves → Booking → Activity → Moves
-of_cause m b (activity.Deliver x) = record m { delivered = with_more m.delivered b.shares b.cents }
-of_cause m b (activity.Receive x) = record m { received = with_more m.received b.shares b.cents }
-of_cause m b (activity.Split s) = record m { actions = with_more m.actions b.shares b.cents }
-of_cause m b (activity.Exchange x) = record m { actions = with_more m.actions b.shares b.cents }
-of_cause m b (activity.Execute x) = record m { buy_ins = with_more m.buy_ins b.shares b.cents }
+of_cause m b (Activity.Deliver x) = record m { delivered = with_more m.delivered b.shares b.cents }
+of_cause m b (Activity.Receive x) = record m { received = with_more m.received b.shares b.cents }
+of_cause m b (Activity.Split s) = record m { actions = with_more m.actions b.shares b.cents }
+of_cause m b (Activity.Exchange x) = record m { actions = with_more m.actions b.shares b.cents }
+of_cause m b (Activity.Execute x) = record m { buy_ins = with_more m.buy_ins b.shares b.cents }
 of_cause m b _ = m
 
 -- the same at a place
@@ -64,8 +62,8 @@ with_booking k m b = if is_eq (key_cmp (record { account = b.account; issue = b.
 
 -- a line, where it is a booking
 abbrev pub with_line : Key → Moves → HistoryLine → Moves
-with_line k m (line.Booking b) = with_booking k m b
-with_line k m (line.Closing x) = m
+with_line k m (HistoryLine.Booking b) = with_booking k m b
+with_line k m (HistoryLine.Closing x) = m
 
 -- ---- the day
 

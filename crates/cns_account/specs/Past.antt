@@ -1,9 +1,7 @@
 -- What the history of a book tells of closed days, exchanges and dividends.
 use Rattle.std.specs.Prelude.{◌≡◌, ◌-◌, ◌^◌, List, Option, Some, None, filter_map, reverse, take}
 use Rattle.cns_account.specs.Common.{Day, exchanged, declared, Declared, Exchange, Activity, Command, Taken, Past}
-use Rattle.cns_terms.specs.declared.command.Command.TheVariants as command
 use Rattle.cns_terms.specs.declared.reply.Reply.{Reply}
-use Rattle.cns_terms.specs.declared.reply.Reply.TheVariants as reply
 
 -- the entries of a history that are looked at, the oldest first: all, or all but the last where there are 2^32 - 1, the most that
 -- a book takes
@@ -12,12 +10,12 @@ looked_at H = take (2 ^ 32 - 2) (reverse H)
 
 -- the date of the closed day that a reply tells
 abbrev pub date_told : Reply → Option Day
-date_told (reply.Closed c) = Some c.date
+date_told (Reply.Closed c) = Some c.date
 date_told _ = None
 
 -- what is read of an activity, where it was accepted
 abbrev pub accepted_of : {X : Type 0} → (Activity → Option X) → Command → Reply → Option X
-accepted_of f (command.Activity x) reply.Accepted = f x
+accepted_of f (Command.Activity x) Reply.Accepted = f x
 accepted_of f _ _ = None
 
 -- the date of the day that an entry closed, the exchange and the dividend that it is

@@ -1,15 +1,13 @@
 -- The rows of an account's day, and their texts.
 use Rattle.std.specs.Prelude.{ℕ, ℤ, pos, ◌+ℤ◌, ◌-ℤ◌, ◌*ℤ◌, int_lt, List, [], ◌∷◌, ◌++◌, Option, Some, None, if◌then◌else◌}
-use Rattle.cns_account.specs.Common.{int_wrap, w128, fold, Price, State, Key, Row, standing, worth, Booking, HistoryLine, row_of, texts, CELL, ROW, DayMoves, Moved, Moves}
+use Rattle.cns_account.specs.Common.{int_wrap, w128, fold, Price, State, Key, Row, standing, worth, Booking, HistoryLine, row_of, filled, ROW, DayMoves, Moved, Moves, Piece}
 use Rattle.std.specs.Fmt.{decimal}
 use Rattle.cns_history.specs.Words.{what_text}
-use Rattle.cns_history.specs.declared.line.HistoryLine.TheVariants as line
 use Rattle.cns_tables.specs.Escape.{escaped}
 use Rattle.cns_tables.specs.Pieces.{piece_text}
-use Rattle.cns_tables.specs.declared.piece.Piece.TheVariants as piece
 use Rattle.cns_account.specs.Moves.{moves_at}
 use Rattle.cns_account.specs.declared.booked.Booked.{Booked}
-use Rattle.cns_account.specs.declared.booked.TheConstants.{END}
+use Rattle.cns_account.specs.declared.booked.TheConstants.{BEGIN, FIGURES}
 use Rattle.cns_account.specs.declared.mark.MarkRow.{MarkRow}
 use Rattle.cns_account.specs.declared.mark.Causes.{Causes}
 use Rattle.cns_account.specs.declared.row.AccountRow.{AccountRow}
@@ -31,8 +29,8 @@ mark_row r = record { line = r }
 
 -- the booking of a line; None of a close's own line
 abbrev pub booking_in : HistoryLine → Option Booked
-booking_in (line.Booking b) = Some (record { booking = b })
-booking_in (line.Closing c) = None
+booking_in (HistoryLine.Booking b) = Some (record { booking = b })
+booking_in (HistoryLine.Closing c) = None
 
 -- ---- amounts
 
@@ -86,31 +84,29 @@ totals_of rs = fold with_row (record { long = pos 0; short = pos 0; net = pos 0 
 -- a position: opening, the five movements, closing, closes short, price, value, mark and dividend
 abbrev pub position_text : AccountRow → List ℕ
 position_text r =
-    row_of ROW.now (piece.Issue r.row.issue)
-    (piece.Signed r.row.opening ∷ piece.Signed r.moves.trades.shares ∷ piece.Signed r.moves.delivered.shares
-    ∷ piece.Signed r.moves.received.shares ∷ piece.Signed r.moves.actions.shares ∷ piece.Signed r.moves.buy_ins.shares
-    ∷ piece.Signed r.row.closing ∷ piece.Number r.age ∷ piece.Amount (pos r.row.price) ∷ piece.Amount (worth r.row)
-    ∷ piece.Amount r.row.mark ∷ piece.Amount r.row.dividend ∷ [])
+    row_of ROW.now (Piece.Issue r.row.issue)
+    (Piece.Signed r.row.opening ∷ Piece.Signed r.moves.trades.shares ∷ Piece.Signed r.moves.delivered.shares
+    ∷ Piece.Signed r.moves.received.shares ∷ Piece.Signed r.moves.actions.shares ∷ Piece.Signed r.moves.buy_ins.shares
+    ∷ Piece.Signed r.row.closing ∷ Piece.Number r.age ∷ Piece.Amount (pos r.row.price) ∷ Piece.Amount (worth r.row)
+    ∷ Piece.Amount r.row.mark ∷ Piece.Amount r.row.dividend ∷ [])
 
 -- a mark: the two prices, the price change, what each movement brings, the mark, and the settling money
 abbrev pub mark_text : MarkRow → List ℕ
 mark_text m =
     let r = m.line.row in
     let c = causes r.price m.line.moves in
-    row_of ROW.now (piece.Issue r.issue)
-    (piece.Amount (pos r.opening_price) ∷ piece.Amount (pos r.price) ∷ piece.Amount (moved r)
-    ∷ piece.Amount c.trades ∷ piece.Amount c.delivered ∷ piece.Amount c.received ∷ piece.Amount c.actions ∷ piece.Amount c.buy_ins
-    ∷ piece.Amount r.mark ∷ piece.Amount r.money ∷ [])
+    row_of ROW.now (Piece.Issue r.issue)
+    (Piece.Amount (pos r.opening_price) ∷ Piece.Amount (pos r.price) ∷ Piece.Amount (moved r)
+    ∷ Piece.Amount c.trades ∷ Piece.Amount c.delivered ∷ Piece.Amount c.received ∷ Piece.Amount c.actions ∷ Piece.Amount c.buy_ins
+    ∷ Piece.Amount r.mark ∷ Piece.Amount r.money ∷ [])
 
 -- the number and the issue of what a record booked
 unfoldable pub begin_text : Booking → List ℕ
-begin_text b = texts (ROW.now ∷ decimal b.number ∷ CELL.now ∷ escaped b.issue ∷ CELL.now ∷ [])
+begin_text b = filled BEGIN.now (decimal b.number ∷ escaped b.issue ∷ [])
 
 -- its shares, cents and the position after it
 unfoldable pub figures_text : Booking → List ℕ
-figures_text b =
-    texts (CELL.now ∷ piece_text (piece.Signed b.shares) ∷ CELL.now ∷ piece_text (piece.Amount b.cents) ∷ CELL.now
-    ∷ piece_text (piece.Signed b.position) ∷ END.now ∷ [])
+figures_text b = filled FIGURES.now (piece_text (Piece.Signed b.shares) ∷ piece_text (Piece.Amount b.cents) ∷ piece_text (Piece.Signed b.position) ∷ [])
 
 -- what a record booked: its number, the issue, what it was, shares, cents and the position after it
 abbrev pub booked_text : Booked → List ℕ

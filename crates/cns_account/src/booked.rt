@@ -4,14 +4,16 @@ ghost use Rattle.std.specs.Io.KnownBytes.{Appends};
 ghost use Rattle.cns_account.specs.Rows.{begin_text, booking_in, figures_text};
 
 use cns_history::{Booking, HistoryLine, write_what};
-use cns_tables::{CELL, Piece, ROW, TableRow, write_pieces};
+use cns_tables::{Piece, TableRow, write_form};
 use cns_terms::NoMemory;
 use cns_units::WriteFault;
 use std::alloc::Global;
 use std::io::Write;
 
-// What ends a row.
-const END: &str = "\n";
+// A row: the number and the issue before what it was, and after it shares, cents and position.
+const BEGIN: &str = "<tr><th scope=row>_<td>_<td>";
+
+const FIGURES: &str = "<td>_<td>_<td>_\n";
 
 /// What a record booked for an account in an issue.
 #[derive(Clone, Copy)]
@@ -49,14 +51,8 @@ pub(crate) fn bookings_in(alloc: Global, lines: &[HistoryLine]) -> Result<Vec<Bo
 fn write_begin<W: Write>(booking: &Booking, writer: &mut W) -> Result<(), WriteFault>
     ensures { OnOk result (Appends (W.contents writer.old) (W.contents writer.new) (begin_text booking.now)) }
 {
-    let pieces = [
-        Piece::Markup(ROW),
-        Piece::Number(booking.number),
-        Piece::Markup(CELL),
-        Piece::Issue(booking.issue),
-        Piece::Markup(CELL),
-    ];
-    write_pieces(&pieces, writer)
+    let pieces = [Piece::Number(booking.number), Piece::Issue(booking.issue)];
+    write_form(BEGIN, &pieces, writer)
 }
 
 // Writes shares, cents and position.
@@ -65,15 +61,11 @@ fn write_figures<W: Write>(booking: &Booking, writer: &mut W) -> Result<(), Writ
     ensures { OnOk result (Appends (W.contents writer.old) (W.contents writer.new) (figures_text booking.now)) }
 {
     let pieces = [
-        Piece::Markup(CELL),
         Piece::Signed(booking.shares),
-        Piece::Markup(CELL),
         Piece::Amount(booking.cents),
-        Piece::Markup(CELL),
         Piece::Signed(booking.position),
-        Piece::Markup(END),
     ];
-    write_pieces(&pieces, writer)
+    write_form(FIGURES, &pieces, writer)
 }
 
 impl TableRow for Booked {

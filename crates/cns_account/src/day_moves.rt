@@ -110,7 +110,7 @@ fn settled_by(entry: &Taken, before: &Option<Day>, day: Day) -> Option<Trade>
 }
 
 // What the trades that settled on a day moved.
-#[tactic(auto, using(crate::proofs::Walked::entries_end))]
+#[tactic(auto, using(crate::proofs::Gathered::entries_end))]
 fn settled(
     alloc: Global,
     book: &ReplayBook,

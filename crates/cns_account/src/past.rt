@@ -75,7 +75,7 @@ fn add_entry(past: &mut Past, entry: &Taken) -> Result<(), NoMemory>
 }
 
 // The same, with the exchanges in the order in which they were taken.
-#[tactic(auto, using(crate::proofs::Walked::entries_end))]
+#[tactic(auto, using(crate::proofs::Gathered::entries_end))]
 fn gather(alloc: Global, book: &ReplayBook) -> Result<Past, NoMemory>
     ensures { IfOk result (IsGathered (looked_at book.now.log.history)) }
 {

@@ -1,11 +1,10 @@
 -- Whether a split or an exchange takes a member beyond its limits: just where the definitions say so.
 -- For `bookings_for` of acting.rt.
-use Rattle.cns_actions.proofs.Common.{◌≡◌, ◌∙◌, ap, refl, ℕ, ◌≤◌, ℤ, pos, ◌+ℤ◌, ◌-ℤ◌, neg_ℤ, Bool, true, false, cond, ◌&&◌, ◌||◌, ◌==◌, nat_lt, List, [], ◌∷◌, ◌++◌, map, arith, lt-ltb, Account, Action, AllByRecursion, AreHolders, Cusip, Entry, Holder, IsForAnother, Member, Pend, Rows, against_corporation, bought_in, bytes_refl, converted, corporation, entries_of, entry, has_position, holder_of, holders_of, holding_at, in_exchange, in_lieu, ints, is_beyond, is_sorted, issue_of, key_cmp, list_any, nat_tests, option_map_or, position_at, position_limit, positions_in, same_issue, shares_for, sold_in, takes_beyond, total, total-append, total-map, zero_add}
+use Rattle.cns_actions.proofs.Common.{◌≡◌, ◌∙◌, ap, refl, ℕ, ◌≤◌, ℤ, pos, ◌+ℤ◌, ◌-ℤ◌, neg_ℤ, Bool, true, false, cond, ◌&&◌, ◌||◌, ◌==◌, nat_lt, List, [], ◌∷◌, ◌++◌, map, arith, lt-ltb, Account, Action, AllByRecursion, AreHolders, Cusip, Entry, Holder, IsForAnother, Member, Pend, Rows, against_corporation, bought_in, bytes_refl, converted, corporation, entries_of, entry, has_position, holder_of, holders_of, holding_at, in_exchange, in_lieu, ints, is_beyond, is_sorted, issue_of, key_cmp, list_any, nat_tests, position_at, position_limit, positions_in, same_issue, shares_for, sold_in, takes_beyond, total, total-append, total-map, zero_add}
 use Rattle.cns_terms.specs.Refusals.{are_too_large, is_too_large_at}
 use Rattle.cns_terms.proofs.Facts.{issues_differ}
-use Rattle.std.proofs.lemmas.List.Folds.{list_any-append}
-use Rattle.cns_actions.specs.declared.action.Action.TheVariants as action
-use Rattle.cns_actions.proofs.ByAccount.{each_listed, listed_at, listed_rising, one, place, total_at}
+use Rattle.std.proofs.lemmas.List.Folds.{list_any-append, list_any_none}
+use Rattle.cns_actions.proofs.ByAccount.{each_listed, listed_at, listed_rising, place, total_at}
 use Rattle.cns_actions.proofs.Holders.{Alike, any_alike, shown}
 use Rattle.cns_actions.proofs.BookingSums.{entries_alike, entries_by, new_leg, old_leg, split_leg}
 
@@ -29,13 +28,7 @@ none_beyond b s h = grind arith
 module _ (R : Rows) (order : is_sorted key_cmp R ≡ true) (ps : List Pend) where
   -- what entries in an issue book for a member that is shown
   leg_shares : (c l d : Cusip) (F G : ℤ → ℤ) (a : Account) → 1 ≤ a → has_position (holding_at R (place c a)) ≡ true → total (shares_for a d) (against_corporation l (map (λ h. entry h.account l (F h.shares) (G h.shares)) (shown R c))) ≡ cond (same_issue l d) (F (position_at R a c)) (pos 0)
-  leg_shares c l d F G a le held =
-      corporation_apart a (same_issue l d) _ _ le ∙ total-map (shares_for a d) (λ h. entry h.account l (F h.shares) (G h.shares)) (shown R c)
-      ∙ total_at (λ h. F h.shares) a (same_issue l d) (shown R c) (listed_rising has_position refl c R order)
-      ∙ ap (λ o. cond (same_issue l d) (option_map_or (λ (h : Holder). F h.shares) o (pos 0)) (pos 0)) (listed_at has_position refl c R order a) ∙ by (same_issue l d)
-    where
-      by : (t : Bool) → cond t (option_map_or (λ (h : Holder). F h.shares) (one has_position refl c a (holding_at R (place c a))) (pos 0)) (pos 0) ≡ cond t (F (position_at R a c)) (pos 0)
-      by t = grind (arith, nat_tests)
+  leg_shares c l d F G a le held = grind (arith, nat_tests, corporation_apart, total-map (shares_for a d) (λ h. entry h.account l (F h.shares) (G h.shares)) (shown R c), total_at (λ h. F h.shares) a (same_issue l d) (shown R c) (listed_rising has_position refl c R order), listed_at has_position refl c R order a)
 
   -- entries with the same sums take the same members beyond their limits
   large_alike : (es fs : List Entry) → Alike es fs → are_too_large (position_at R) ps es ≡ are_too_large (position_at R) ps fs
@@ -45,7 +38,7 @@ module _ (R : Rows) (order : is_sorted key_cmp R ≡ true) (ps : List Pend) wher
 
   -- a test of an entry's place, by what is booked there
   at_place : (a : Account) (c : Cusip) (z n : ℤ) → 1 ≤ a → z ≡ n → (nat_lt corporation a && is_beyond z (bought_in ps a c) (sold_in ps a c)) ≡ is_beyond n (bought_in ps a c) (sold_in ps a c)
-  at_place a c z n le e = λ i. lt-ltb corporation a le i && is_beyond (e i) (bought_in ps a c) (sold_in ps a c)
+  at_place a c z n le e = grind (arith, lt-ltb corporation a le)
 
   -- tests of entries for the members that are shown
   any_shown : (c : Cusip) (t : Entry → Bool) (L : Account → ℤ → Entry) (u : Holder → Bool) → ((a : Account) → 1 ≤ a → has_position (holding_at R (place c a)) ≡ true → t (L a (position_at R a c)) ≡ u (holder_of (place c a, holding_at R (place c a))))
@@ -53,14 +46,11 @@ module _ (R : Rows) (order : is_sorted key_cmp R ≡ true) (ps : List Pend) wher
   any_shown c t L u same = any_legs t (λ h. L h.account h.shares) u (shown R c) (each_listed has_position refl c R order (λ h. t (L h.account h.shares) ≡ u h) same)
 
   large_by : AreFewShares ps → (x : Action) → IsForAnother x → are_too_large (position_at R) ps (entries_by x (holders_of x R)) ≡ list_any (takes_beyond R ps x) (holders_of x R)
-  large_by few (action.Split s) another =
-      any_shown s.issue (is_too_large_at (position_at R) ps (entries_by (action.Split s) (shown R s.issue))) (split_leg s) (takes_beyond R ps (action.Split s)) (λ a le held.
+  large_by few (Action.Split s) another =
+      any_shown s.issue (is_too_large_at (position_at R) ps (entries_by (Action.Split s) (shown R s.issue))) (split_leg s) (takes_beyond R ps (Action.Split s)) (λ a le held.
       let q = position_at R a s.issue in
-      at_place a s.issue _ _ le (ap (λ z. z +ℤ q) (leg_shares s.issue s.issue s.issue (λ n. converted s.ratio n -ℤ n) (in_lieu s.ratio s.lieu) a le held ∙ ap (λ b. cond b (converted s.ratio q -ℤ q) (pos 0)) (bytes_refl s.issue)) ∙ back (converted s.ratio q) q))
-    where
-      back : (x y : ℤ) → (x -ℤ y) +ℤ y ≡ x
-      back x y = omega (arith, ints)
-  large_by few (action.Exchange x) another =
+      at_place a s.issue _ _ le (ap (λ z. z +ℤ q) (leg_shares s.issue s.issue s.issue (λ n. converted s.ratio n -ℤ n) (in_lieu s.ratio s.lieu) a le held ∙ ap (λ b. cond b (converted s.ratio q -ℤ q) (pos 0)) (bytes_refl s.issue)) ∙ (let back : (converted s.ratio q -ℤ q) +ℤ q ≡ converted s.ratio q = omega (arith, ints) in back)))
+  large_by few (Action.Exchange x) another =
       let hs = shown R x.old in
       let olds = against_corporation x.old (map (λ h. old_leg x h.account h.shares) hs) in
       let news = against_corporation x.successor (map (λ h. new_leg x h.account h.shares) hs) in
@@ -70,17 +60,10 @@ module _ (R : Rows) (order : is_sorted key_cmp R ≡ true) (ps : List Pend) wher
       list_any-append t olds news
       ∙ (λ i. (any_shown x.old t (old_leg x) (λ h. false) (λ a le held.
       let q = position_at R a x.old in
-      at_place a x.old _ _ le (ap (λ z. z +ℤ q) (booked x.old a le held ∙ (λ j. cond (bytes_refl x.old j) (neg_ℤ q) (pos 0) +ℤ cond (issues_differ x.old x.successor another j) (converted x.ratio q) (pos 0))) ∙ gone q) ∙ none_beyond _ _ (few a x.old le)) ∙ any_none hs) i
-      || any_shown x.old t (new_leg x) (takes_beyond R ps (action.Exchange x)) (λ a le held.
+      at_place a x.old _ _ le (ap (λ z. z +ℤ q) (booked x.old a le held ∙ (λ j. cond (bytes_refl x.old j) (neg_ℤ q) (pos 0) +ℤ cond (issues_differ x.old x.successor another j) (converted x.ratio q) (pos 0))) ∙ (let gone : (neg_ℤ q +ℤ pos 0) +ℤ q ≡ pos 0 = omega (arith, ints) in gone)) ∙ none_beyond _ _ (few a x.old le)) ∙ list_any_none (λ h. false) hs (λ k d lt. refl)) i
+      || any_shown x.old t (new_leg x) (takes_beyond R ps (Action.Exchange x)) (λ a le held.
       let n = converted x.ratio (position_at R a x.old) in
       at_place a x.successor _ _ le (ap (λ z. z +ℤ position_at R a x.successor) (booked x.successor a le held ∙ (λ j. cond (another j) (neg_ℤ (position_at R a x.old)) (pos 0) +ℤ cond (bytes_refl x.successor j) n (pos 0)) ∙ zero_add n))) i)
-    where
-      gone : (z : ℤ) → (neg_ℤ z +ℤ pos 0) +ℤ z ≡ pos 0
-      gone z = omega (arith, ints)
-
-      any_none : (hs : List Holder) → list_any (λ h. false) hs ≡ false
-      any_none [] = refl
-      any_none (h ∷ hs) = any_none hs
 
   -- what is looked for is what the definitions refuse
   pub same_large : AreFewShares ps → (x : Action) → IsForAnother x → (ms : List Member) → AreHolders (positions_in R (issue_of x)) ms → are_too_large (position_at R) ps (entries_of x (positions_in R (issue_of x)) ms) ≡ list_any (takes_beyond R ps x) (holders_of x R)

@@ -1,7 +1,7 @@
 -- What is booked for a split or an exchange: that its numbers are small, its order and its issues.
 -- For `all_bookings` and `bookings_for` of acting.rt, `book` of bookings.rt.
-use Rattle.cns_actions.proofs.Common.{◌≡◌, sym, subst, refl, ℕ, ◌^◌, ◌≤◌, ◌<◌, ℤ, pos, Bool, true, false, cond, unsigned_abs, List, [], ◌∷◌, ◌++◌, arith, int_eq, is_lt, nat_cmp, flat_map, append_assoc, Account, Action, AllByRecursion, AreInIssues, AreSmall, Booking, CanBeBooked, Change, Cusip, HasSpace, Holder, IsFew, IsForAnother, Key, Rows, age_for, all_bookings, all_holders_of, and_left, and_right, below_all, bookings_for, both_true, by_key, change_of, corporation, corporation_limit, each_append, has_position_or_age, holding_at, ints, is_eq-slice_cmp, is_sorted, issue_of, key_cmp, member_bookings, member_limit, nat_list_cmp_total, nat_tests, opposite, position_at, position_limit, same_issue, slice_cmp}
-use Rattle.cns_actions.proofs.ByAccount.{lower, above_zero, are_above, are_rising, each_listed, listed_rising, place}
+use Rattle.cns_actions.proofs.Common.{◌≡◌, sym, subst, refl, ℕ, ◌^◌, ◌≤◌, ◌<◌, ℤ, true, false, unsigned_abs, List, [], ◌∷◌, ◌++◌, arith, is_lt, nat_cmp, flat_map, append_assoc, Account, Action, AllByRecursion, AreInIssues, AreSmall, Booking, CanBeBooked, Change, Cusip, HasSpace, Holder, IsFew, IsForAnother, Key, Rows, age_for, all_bookings, all_holders_of, below_all, bookings_for, both_true, by_key, change_of, corporation, corporation_limit, each_append, has_position_or_age, holding_at, ints, is_eq-slice_cmp, is_sorted, issue_of, key_cmp, member_bookings, member_limit, nat_list_cmp_total, nat_tests, opposite, position_at, position_limit, same_issue, slice_cmp}
+use Rattle.cns_actions.proofs.ByAccount.{above_zero, are_above, are_rising, each_listed, listed_rising, place}
 
 -- few members' changes make small entries
 pub small_bookings : (x : Action) (a : Account) (c : Change) (n : ℕ) → IsFew member_limit c → AreSmall (bookings_for x a c n)
@@ -27,10 +27,6 @@ issues_less a c d h = grind (arith, nat_tests)
 issues_more : (a : ℕ) (c d : Cusip) → same_issue c d ≡ false → is_lt (slice_cmp nat_cmp c d) ≡ false → is_lt (key_cmp (place d a) (place c a)) ≡ true
 issues_more a c d other h = grind (arith, nat_tests, nat_list_cmp_total.antisymm d c, is_eq-slice_cmp c d)
 
--- what holds of two lists holds of either
-either : (P : List Booking → Type 0) (t : Bool) (bs ds : List Booking) → P bs → P ds → P (cond t bs ds)
-either P t bs ds h1 h2 = grind arith
-
 -- bookings of an account, and then those of higher ones, are in order
 change_sorted : (x : Action) → IsForAnother x → (a : Account) (c : Change) (n : ℕ) (ds : List Booking) → AllByRecursion (λ b. a < b.entry.account) ds → is_sorted key_cmp (by_key ds) ≡ true → is_sorted key_cmp (by_key (bookings_for x a c n ++ ds)) ≡ true
 change_sorted x another a c n ds above sorted = grind (arith, below_accounts, issues_less, issues_more)
@@ -40,46 +36,28 @@ age_sorted : (x : Action) (a : Account) (n : ℕ) (ds : List Booking) → AllByR
 age_sorted x a n ds above sorted = grind (arith, both_true, below_accounts)
 
 module _ (x : Action) (another : IsForAnother x) where
-  -- a member's bookings are its own
-  own_bookings : (P : Account → Type 0) (h : Holder) → P h.account → AllByRecursion (λ b. P b.entry.account) (member_bookings x h)
-  own_bookings P h p = grind arith
-
   -- the bookings of higher members
   above_bookings : (a : ℕ) (hs : List Holder) → are_above a hs ≡ true → AllByRecursion (λ b. a < b.entry.account) (flat_map (member_bookings x) hs)
   above_bookings a [] l = tt
-  above_bookings a (h ∷ hs) l = each_append _ (member_bookings x h) (flat_map (member_bookings x) hs) (own_bookings (λ n. a < n) h (lower a h.account (and_left _ _ l))) (above_bookings a hs (and_right _ _ l))
+  above_bookings a (h ∷ hs) l = each_append _ (member_bookings x h) (flat_map (member_bookings x) hs) (grind (arith, nat_tests)) (above_bookings a hs (grind arith))
 
   -- members' bookings are in order
   members_sorted : (hs : List Holder) → are_rising hs ≡ true → is_sorted key_cmp (by_key (flat_map (member_bookings x) hs)) ≡ true
   members_sorted [] r = refl
-  members_sorted (h ∷ hs) r =
-      let above = above_bookings h.account hs (and_left _ _ r) in
-      let rest = members_sorted hs (and_right _ _ r) in
-      either (λ bs. is_sorted key_cmp (by_key (bs ++ flat_map (member_bookings x) hs)) ≡ true) (int_eq h.shares (pos 0)) (age_for x h.account h.oldest) (bookings_for x h.account (change_of x h.shares) h.oldest)
-      (age_sorted x h.account h.oldest (flat_map (member_bookings x) hs) above rest) (change_sorted x another h.account (change_of x h.shares) h.oldest (flat_map (member_bookings x) hs) above rest)
+  members_sorted (h ∷ hs) r = grind (arith, age_sorted x h.account h.oldest (flat_map (member_bookings x) hs), change_sorted x another h.account (change_of x h.shares) h.oldest (flat_map (member_bookings x) hs), above_bookings h.account hs, members_sorted hs)
 
   -- and so with the corporation's before them
   pub all_sorted : (sum : Change) (n : ℕ) (R : Rows) → is_sorted key_cmp R ≡ true → is_sorted key_cmp (by_key (all_bookings x sum n (all_holders_of x R))) ≡ true
-  all_sorted sum n R order =
-      change_sorted x another corporation (opposite sum) n _ (above_bookings corporation (all_holders_of x R) (above_zero _ (each_listed has_position_or_age refl (issue_of x) R order (λ h. 1 ≤ h.account) (λ a le held. le))))
-      (members_sorted (all_holders_of x R) (listed_rising has_position_or_age refl (issue_of x) R order))
+  all_sorted sum n R order = grind (arith, nat_tests, change_sorted x another corporation (opposite sum) n, above_bookings corporation (all_holders_of x R), above_zero (all_holders_of x R), each_listed has_position_or_age refl (issue_of x) R order (λ h. 1 ≤ h.account) (λ a le held. le), members_sorted (all_holders_of x R), listed_rising has_position_or_age refl (issue_of x) R order)
 
 -- the bookings with those of one member more
 pub bookings_next : (x : Action) (all made new : List Booking) (left : List Holder) (h : Holder) (rest : List Holder) → left ≡ h ∷ rest → all ≡ made ++ flat_map (member_bookings x) left → new ≡ made ++ member_bookings x h → all ≡ new ++ flat_map (member_bookings x) rest
 bookings_next x all made new left h rest first is pushed = rw (is, first, pushed) (sym (append_assoc made (member_bookings x h) (flat_map (member_bookings x) rest)))
 
--- ---- their issues
-
-in_issues : (x : Action) (h : Holder) (bs : List Booking) → AreInIssues x bs → AreInIssues x (member_bookings x h ++ bs)
-in_issues x h bs more = grind arith
-
 members_in_issues : (x : Action) (hs : List Holder) → AreInIssues x (flat_map (member_bookings x) hs)
 members_in_issues x [] = tt
-members_in_issues x (h ∷ hs) = in_issues x h _ (members_in_issues x hs)
+members_in_issues x (h ∷ hs) = grind (arith, members_in_issues x hs)
 
 -- each booking is in one of the issues of the split or exchange
 pub all_in_issues : (x : Action) (sum : Change) (n : ℕ) (hs : List Holder) → AreInIssues x (all_bookings x sum n hs)
-all_in_issues x sum n hs = by x (flat_map (member_bookings x) hs) (members_in_issues x hs)
-  where
-    by : (x : Action) (bs : List Booking) → AreInIssues x bs → AreInIssues x (bookings_for x corporation (opposite sum) n ++ bs)
-    by x bs more = grind arith
+all_in_issues x sum n hs = grind (arith, members_in_issues x hs)

@@ -1,10 +1,9 @@
 -- What is booked for a split or an exchange: that it makes of every holding what the definitions do.
 -- For `bookings_for` of acting.rt.
-use Rattle.cns_actions.proofs.Common.{◌≡◌, ◌∙◌, sym, ap, refl, ℕ, max, ℤ, pos, ◌+ℤ◌, ◌-ℤ◌, neg_ℤ, Bool, true, false, cond, ◌&&◌, ◌==◌, List, [], ◌∷◌, ◌++◌, map, None, arith, int_eq, flat_map, Account, Action, AreHolders, Booking, Change, Cusip, Entry, Exchange, Holder, Holding, Key, Member, Rows, Split, against_corporation, age_brought, all_bookings, all_holders_of, bookings_for, books, carried_to, cents_for, converted, corporation, entries_in, entries_of, entry, greatest, has_position, has_position_or_age, held_above, holders, holders_in, holders_of, holding_at, ints, is_sorted, issue_of, key_cmp, makes, map-append, member_bookings, nat_tests, new_entry, old_entry, oldest_of, opposite, option_map_or, positions_in, same_issue, shares_for, sum_of, total, total-add, total-append, total-map, total-zero, with_age, with_position}
+use Rattle.cns_actions.proofs.Common.{◌≡◌, ◌∙◌, sym, ap, refl, ℕ, ℤ, pos, ◌+ℤ◌, ◌-ℤ◌, neg_ℤ, Bool, true, false, cond, ◌&&◌, ◌==◌, List, [], ◌∷◌, ◌++◌, map, None, arith, int_eq, flat_map, Account, Action, AreHolders, Booking, Change, Cusip, Entry, Exchange, Holder, Holding, Key, Member, Rows, Split, against_corporation, age_brought, all_bookings, all_holders_of, bookings_for, books, carried_to, cents_for, converted, corporation, entries_in, entries_of, entry, greatest, has_position, has_position_or_age, held_above, holders, holders_in, holders_of, holding_at, ints, is_sorted, issue_of, key_cmp, makes, map-append, member_bookings, nat_tests, new_entry, old_entry, oldest_of, opposite, positions_in, same_issue, shares_for, sum_of, total, total-add, total-append, total-map, total-zero, with_age, with_position}
 use Rattle.cns_terms.specs.Entries.{split_entry}
 use Rattle.cns_terms.proofs.CarriedAges.{greatest-append}
-use Rattle.cns_actions.specs.declared.action.Action.TheVariants as action
-use Rattle.cns_actions.proofs.ByAccount.{listed_at, listed_rising, one, place, greatest_at}
+use Rattle.cns_actions.proofs.ByAccount.{listed_at, listed_rising, place, greatest_at}
 use Rattle.cns_actions.proofs.Holders.{Alike, legs_alike, shown}
 
 -- ---- the entries of the definitions, by the members that are shown
@@ -22,20 +21,16 @@ new_leg x a n = new_entry x (λ _. n) a
 
 -- the entries for such members
 abbrev pub entries_by : Action → List Holder → List Entry
-entries_by (action.Split s) hs = against_corporation s.issue (map (λ h. split_leg s h.account h.shares) hs)
-entries_by (action.Exchange x) hs = against_corporation x.old (map (λ h. old_leg x h.account h.shares) hs) ++ against_corporation x.successor (map (λ h. new_leg x h.account h.shares) hs)
+entries_by (Action.Split s) hs = against_corporation s.issue (map (λ h. split_leg s h.account h.shares) hs)
+entries_by (Action.Exchange x) hs = against_corporation x.old (map (λ h. old_leg x h.account h.shares) hs) ++ against_corporation x.successor (map (λ h. new_leg x h.account h.shares) hs)
 
 -- they are alike, whether the members are named or shown
 against_alike : (c : Cusip) (es fs : List Entry) → Alike es fs → Alike (against_corporation c es) (against_corporation c fs)
 against_alike c es fs same f = λ i. f (entry corporation c (neg_ℤ (same (λ e. e.shares) i)) (neg_ℤ (same (λ e. e.cents) i))) +ℤ same f i
 
 pub entries_alike : (R : Rows) → is_sorted key_cmp R ≡ true → (x : Action) (ms : List Member) → AreHolders (positions_in R (issue_of x)) ms → Alike (entries_of x (positions_in R (issue_of x)) ms) (entries_by x (holders_of x R))
-entries_alike R order (action.Split s) ms are f = against_alike s.issue _ _ (legs_alike R order s.issue ms are (split_leg s)) f
-entries_alike R order (action.Exchange x) ms are f =
-    let old = legs_alike R order x.old ms are (old_leg x) in
-    let new = legs_alike R order x.old ms are (new_leg x) in
-    total-append f (against_corporation x.old (map (old_entry x (positions_in R x.old)) (holders (positions_in R x.old) ms))) _ ∙ (λ i. against_alike x.old _ _ old f i +ℤ against_alike x.successor _ _ new f i)
-    ∙ sym (total-append f (against_corporation x.old (map (λ h. old_leg x h.account h.shares) (shown R x.old))) _)
+entries_alike R order (Action.Split s) ms are f = against_alike s.issue _ _ (legs_alike R order s.issue ms are (split_leg s)) f
+entries_alike R order (Action.Exchange x) ms are f = grind (arith, against_alike x.old _ _ (legs_alike R order x.old ms are (old_leg x)) f, against_alike x.successor _ _ (legs_alike R order x.old ms are (new_leg x)) f, total-append f (against_corporation x.old (map (old_entry x (positions_in R x.old)) (holders (positions_in R x.old) ms))), total-append f (against_corporation x.old (map (λ h. old_leg x h.account h.shares) (shown R x.old))))
 
 -- ---- what is booked adds up to the same
 
@@ -45,8 +40,8 @@ IsSum f = (a : Account) (c : Cusip) → f (entry a c (pos 0) (pos 0)) ≡ pos 0
 
 -- a sum over a member's entries
 abbrev legs : (Entry → ℤ) → Action → Holder → ℤ
-legs f (action.Split s) h = f (split_leg s h.account h.shares)
-legs f (action.Exchange x) h = f (old_leg x h.account h.shares) +ℤ f (new_leg x h.account h.shares)
+legs f (Action.Split s) h = f (split_leg s h.account h.shares)
+legs f (Action.Exchange x) h = f (old_leg x h.account h.shares) +ℤ f (new_leg x h.account h.shares)
 
 -- what is booked for members adds up over those with a position
 member_total : (f : Entry → ℤ) → IsSum f → (x : Action) (h : Holder) → total f (entries_in (member_bookings x h)) ≡ cond (int_eq h.shares (pos 0)) (pos 0) (legs f x h)
@@ -72,17 +67,17 @@ pair_total f t b d bs = grind (arith, ints)
 
 -- with the corporation's, all that is booked
 bookings_alike : (f : Entry → ℤ) → IsSum f → (x : Action) (n : ℕ) (hs : List Holder) → total f (entries_in (all_bookings x (sum_of x (with_position hs)) n hs)) ≡ total f (entries_by x (with_position hs))
-bookings_alike f sum (action.Split s) n hs =
+bookings_alike f sum (Action.Split s) n hs =
     let ks = with_position hs in
     let L = λ (h : Holder). split_leg s h.account h.shares in
-    rw (members_total f sum (action.Split s) hs, total-map f L ks, total-map (λ e. e.shares) L ks, total-map (λ e. e.cents) L ks, differences (λ h. converted s.ratio h.shares) (λ h. h.shares) ks) refl
-bookings_alike f sum (action.Exchange x) n hs =
+    rw (members_total f sum (Action.Split s) hs, total-map f L ks, total-map (λ e. e.shares) L ks, total-map (λ e. e.cents) L ks, differences (λ h. converted s.ratio h.shares) (λ h. h.shares) ks) refl
+bookings_alike f sum (Action.Exchange x) n hs =
     let ks = with_position hs in
     let O = λ (h : Holder). old_leg x h.account h.shares in
     let N = λ (h : Holder). new_leg x h.account h.shares in
-    pair_total f _ _ _ (flat_map (member_bookings (action.Exchange x)) hs)
+    pair_total f _ _ _ (flat_map (member_bookings (Action.Exchange x)) hs)
     ∙ rw (
-      members_total f sum (action.Exchange x) hs,
+      members_total f sum (Action.Exchange x) hs,
       total-add (λ h. f (O h)) (λ h. f (N h)) ks,
       neg_total (λ h. h.shares) ks,
       total-append f (against_corporation x.old (map O ks)) (against_corporation x.successor (map N ks)),
@@ -108,19 +103,19 @@ positions_kept c (r ∷ rows) = grind (arith, positions_kept c rows)
 
 -- whether ages are brought to a key
 abbrev brings : Action → Key → Bool
-brings (action.Split s) k = false
-brings (action.Exchange x) k = same_issue x.successor k.issue
+brings (Action.Split s) k = false
+brings (Action.Exchange x) k = same_issue x.successor k.issue
 
 -- the age that an account's bookings bring to a key, and the greatest that the members' do
 own_age : (x : Action) (k : Key) (c : Change) (a : Account) (n : ℕ) → greatest (carried_to k) (bookings_for x a c n) ≡ cond ((a == k.account) && brings x k) n 0
 own_age x k c a n = grind arith
 
 member_age : (x : Action) (k : Key) (h : Holder) → greatest (carried_to k) (member_bookings x h) ≡ cond ((h.account == k.account) && brings x k) h.oldest 0
-member_age x k h = grind arith
+member_age x k h = grind (arith, nat_tests)
 
 members_age : (x : Action) (k : Key) (hs : List Holder) → greatest (carried_to k) (flat_map (member_bookings x) hs) ≡ greatest (λ h. cond ((h.account == k.account) && brings x k) h.oldest 0) hs
 members_age x k [] = refl
-members_age x k (h ∷ hs) = greatest-append (carried_to k) (member_bookings x h) (flat_map (member_bookings x) hs) ∙ (λ i. max (member_age x k h i) (members_age x k hs i))
+members_age x k (h ∷ hs) = grind (arith, greatest-append (carried_to k) (member_bookings x h) (flat_map (member_bookings x) hs), member_age x k h, members_age x k hs)
 
 -- the age of an account's short in an issue
 abbrev oldest_in : Rows → Cusip → Account → ℕ
@@ -133,12 +128,8 @@ brought_is R x k = grind arith
 same_ages : (R : Rows) → is_sorted key_cmp R ≡ true → (k : Key) (x : Action) (sum : Change) → greatest (carried_to k) (all_bookings x sum (oldest_in R (issue_of x) corporation) (all_holders_of x R)) ≡ age_brought R x k
 same_ages R order k x sum =
     let hs = all_holders_of x R in
-    let members = members_age x k hs ∙ greatest_at k.account (brings x k) hs (listed_rising has_position_or_age refl (issue_of x) R order) ∙ ap (λ o. cond (brings x k) (option_map_or (λ (h : Holder). h.oldest) o 0) 0) (listed_at has_position_or_age refl (issue_of x) R order k.account) in
-    greatest-append (carried_to k) (bookings_for x corporation (opposite sum) (oldest_in R (issue_of x) corporation)) (flat_map (member_bookings x) hs)
-    ∙ (λ i. max (own_age x k (opposite sum) corporation (oldest_in R (issue_of x) corporation) i) (members i)) ∙ by (issue_of x) k.account (brings x k) ∙ brought_is R x k
-  where
-    by : (c : Cusip) (a : Account) (t : Bool) → max (cond ((corporation == a) && t) (oldest_in R c corporation) 0) (cond t (option_map_or (λ (h : Holder). h.oldest) (one has_position_or_age refl c a (holding_at R (place c a))) 0) 0) ≡ cond t (oldest_in R c a) 0
-    by c a t = grind (arith, nat_tests)
+    let rising = listed_rising has_position_or_age refl (issue_of x) R order in
+    grind (arith, nat_tests, members_age x k hs, greatest_at k.account (brings x k) hs rising, listed_at has_position_or_age refl (issue_of x) R order k.account, greatest-append (carried_to k) (bookings_for x corporation (opposite sum) (oldest_in R (issue_of x) corporation)) (flat_map (member_bookings x) hs), own_age x k (opposite sum) corporation (oldest_in R (issue_of x) corporation), brought_is R x k)
 
 -- what is booked makes of a holding what the definitions do
 pub same_makes : (R : Rows) → is_sorted key_cmp R ≡ true → (x : Action) (ms : List Member) → AreHolders (positions_in R (issue_of x)) ms → (k : Key) (h : Holding)

@@ -1,6 +1,6 @@
 -- Members of an issue in the order of their accounts: searches among them, and sums over them.
 -- For `next_holder` of holder.rt, `sum_of`, `all_bookings` and `bookings_for` of acting.rt.
-use Rattle.cns_actions.proofs.Common.{◌≡◌, ◌∙◌, sym, ap, subst, refl, ℕ, ◌≤◌, ◌<◌, ℤ, pos, ◌+ℤ◌, Bool, true, false, cond, ◌&&◌, ◌==◌, nat_lt, List, [], ◌∷◌, map, filter, Option, Some, None, unwrap_or, arith, is_lt, nat_cmp, ltb-true, Account, AllByRecursion, Cusip, Holder, Holding, Key, Rows, and_left, and_right, below_all, bytes_eq-Decides, corporation, equal, find_below, held_above, held_same, held_sorted, holder_of, holders_in, holding_at, ints, is_holder, is_sorted, key_cmp, keys_total, nat_cmp_total, nat_list_cmp_total, nat_tests, occurs, option_map_or, same_issue, same_key, same_lists, tied_itself, total, total-add, total-zero, total-same, zeros, find, greatest, tied_below}
+use Rattle.cns_actions.proofs.Common.{◌≡◌, ◌∙◌, sym, ap, subst, refl, ℕ, ◌≤◌, ℤ, pos, ◌+ℤ◌, Bool, true, false, cond, ◌&&◌, ◌==◌, nat_lt, List, [], ◌∷◌, map, Option, Some, None, arith, is_lt, nat_cmp, Account, AllByRecursion, Cusip, Holder, Holding, Key, Rows, and_right, below_all, bytes_eq-Decides, corporation, equal, find_below, held_above, held_same, held_sorted, holder_of, holders_in, holding_at, ints, is_sorted, key_cmp, keys_total, nat_cmp_total, nat_list_cmp_total, nat_tests, occurs, option_map_or, same_issue, same_key, same_lists, tied_itself, total, total-add, total-zero, total-same, zeros, find, greatest, tied_below}
 use Rattle.std.proofs.lemmas.Map.Lookups.{exact_unsigned}
 use Rattle.cns_terms.proofs.Accounts.{given_once}
 use Rattle.std.proofs.lemmas.Option.{cond_some}
@@ -27,21 +27,10 @@ pub above_zero : (hs : List Holder) → AllByRecursion (λ h. 1 ≤ h.account) h
 above_zero [] h = refl
 above_zero (h ∷ hs) p = grind (arith, nat_tests, above_zero hs p.1)
 
--- a number that compares as lower is lower
-pub lower : (a b : ℕ) → is_lt (nat_cmp a b) ≡ true → a < b
-lower a b e = grind (arith, nat_tests)
-
--- the first is found, and so are those after it
-first_found : (h : Holder) (hs : List Holder) → who h.account (h ∷ hs) ≡ Some h
-first_found h hs = grind (arith, nat_tests)
-
-later_found : (h g : Holder) (hs : List Holder) → are_above h.account hs ≡ true → who g.account hs ≡ Some g → who g.account (h ∷ hs) ≡ Some g
-later_found h g hs b e = grind (arith, nat_tests, find_below nat_cmp_total h.account (by_account hs) b)
-
 -- what holds of each that a search finds holds of all
 pub each_found : (P : Holder → Type 0) (hs : List Holder) → are_rising hs ≡ true → ((h : Holder) → who h.account hs ≡ Some h → P h) → AllByRecursion P hs
 each_found P [] s f = tt
-each_found P (h ∷ hs) s f = (f h (first_found h hs), each_found P hs (and_right _ _ s) (λ g e. f g (later_found h g hs (and_left _ _ s) e)))
+each_found P (h ∷ hs) s f = (f h (grind (arith, nat_tests)), each_found P hs (grind arith) (λ g e. f g (grind (arith, nat_tests, find_below nat_cmp_total h.account (by_account hs)))))
 
 -- rising lists with the same holder of each account are the same
 pub same_holders : (hs gs : List Holder) → are_rising hs ≡ true → are_rising gs ≡ true → ((a : ℕ) → who a hs ≡ who a gs) → hs ≡ gs
@@ -67,12 +56,9 @@ pub total_over : (f : Holder → ℤ) (hs : List Holder) (ns : List ℕ) → are
     → total (λ a. option_map_or f (who a hs) (pos 0)) ns ≡ total f hs
 total_over f [] ns s once = total-zero ns
 total_over f (h ∷ hs) ns s once =
-    total-same _ _ ns first
+    total-same _ _ ns (λ a. grind (arith, nat_tests, ints, find_below nat_cmp_total h.account (by_account hs)))
     ∙ total-add (λ a. cond ((h.account == a) && true) (f h) (pos 0)) (λ a. option_map_or f (who a hs) (pos 0)) ns
     ∙ (λ i. given_once h.account true (f h) ns once.0 i +ℤ total_over f hs ns (and_right _ _ s) once.1 i)
-  where
-    first : (a : ℕ) → option_map_or f (who a (h ∷ hs)) (pos 0) ≡ cond ((h.account == a) && true) (f h) (pos 0) +ℤ option_map_or f (who a hs) (pos 0)
-    first a = grind (arith, nat_tests, ints, find_below nat_cmp_total h.account (by_account hs) (and_left _ _ s))
 
 -- ---- as rows show them
 
@@ -89,17 +75,10 @@ module _ (kind : Holding → Bool) (idle : kind zeros ≡ false) (c : Cusip) whe
   abbrev pub one : Account → Holding → Option Holder
   one a h = cond (nat_lt corporation a && kind h) (Some (holder_of (place c a, h))) None
 
-  -- one row more, at the account's place or not
-  found_branch : (a : Account) (r : Key × Holding) (rs : Rows) (o : Option Holding) (t : Bool) → t ≡ ((a == r.0.account) && same_issue c r.0.issue) → (t ≡ true → o ≡ None) → who a (map holder_of rs) ≡ one a (unwrap_or o zeros)
-      → who a (map holder_of (cond (is_holder kind c r) (r ∷ rs) rs)) ≡ one a (unwrap_or (cond t (Some r.1) o) zeros)
-  found_branch a r rs o t is none rest = grind (arith, bytes_eq-Decides, nat_tests)
-
   -- the holder of an account is what stands at its place
   pub found : (a : Account) (rows : Rows) → is_sorted key_cmp rows ≡ true → who a (holders_in kind c rows) ≡ one a (holding_at rows (place c a))
   found a [] s = grind arith
-  found a (r ∷ rows) s =
-      found_branch a r (filter (is_holder kind c) rows) (find key_cmp (place c a) rows) _ (same_key (place c a) r.0)
-      (λ e. find_below keys_total (place c a) rows (tied_below keys_total (place c a) r.0 rows (equal _ e) (and_left _ _ s))) (found a rows (and_right _ _ s))
+  found a (r ∷ rows) s = grind (arith, bytes_eq-Decides, nat_tests, same_key (place c a) r.0, equal, find_below keys_total (place c a) rows, tied_below keys_total (place c a) r.0 rows, found a rows)
 
   -- holders of rows in order are in order
   pub above_holders : (k : Key) (rows : Rows) → k.issue ≡ c → below_all key_cmp k rows ≡ true → are_above k.account (holders_in kind c rows) ≡ true
@@ -123,7 +102,6 @@ module _ (kind : Holding → Bool) (idle : kind zeros ≡ false) (c : Cusip) whe
 
     -- what holds of each member with such a holding at its place
     pub each_listed : (P : Holder → Type 0) → ((a : Account) → 1 ≤ a → kind (holding_at R (place c a)) ≡ true → P (holder_of (place c a, holding_at R (place c a)))) → AllByRecursion P listed
-    each_listed P f = each_found P listed listed_rising (λ h e. by h (cond_some _ _ h (sym (listed_at h.account) ∙ e)))
-      where
-        by : (h : Holder) → ((nat_lt corporation h.account && kind (holding_at R (place c h.account))) ≡ true) × (holder_of (place c h.account, holding_at R (place c h.account)) ≡ h) → P h
-        by h e = subst P e.1 (f h.account (ltb-true corporation h.account (and_left _ _ e.0)) (and_right (nat_lt corporation h.account) _ e.0))
+    each_listed P f = each_found P listed listed_rising (λ h e.
+        let is = cond_some _ _ h (sym (listed_at h.account) ∙ e) in
+        subst P is.1 (f h.account (grind (arith, nat_tests, is.0)) (grind (arith, is.0))))

@@ -1,22 +1,16 @@
 -- What trades book, added up by key.
 -- For `listed` of due_bookings.rt, `add`, `add_trade` and `of` of due_amounts.rt.
-use Rattle.cns_actions.proofs.Common.{◌≡◌, ◌≢◌, ◌∙◌, sym, ap, refl, ℕ, ◌+◌, ◌*◌, ◌^◌, ◌≤◌, ◌<◌, ℤ, pos, ◌+ℤ◌, Bool, true, false, cond, ◌&&◌, unsigned_abs, List, [], ◌∷◌, map, Option, Some, None, unwrap_or, arith, is_eq, is_lt, AllByRecursion, IsSmall, each_map, each_weaker, Amount, AmountsByKey, AreApartFrom, AreElsewhere, AreSmall, Day, Entry, HasRoomForTrade, Holding, IsOneTradeMore, IsSmallAmount, Key, Pend, amount_at, amount_for, amount_of, and_left, and_right, as_booking, below_all, buyer_entry, by_key, due_entries, entered, equal, exact_keys, find, find_below, insert_entry, ints, is_sorted, key_cmp, key_of, keys_total, lookup, made, makes, money_limit, no_amount, same_key, seller_entry, shares_limit, tied_below, tied_itself, trade_entries, with_amount, with_entry}
+use Rattle.cns_actions.proofs.Common.{◌≡◌, ◌≢◌, ◌∙◌, sym, ap, refl, ℕ, ◌+◌, ◌*◌, ◌^◌, ◌≤◌, ◌<◌, ◌+ℤ◌, Bool, true, false, cond, ◌&&◌, unsigned_abs, List, [], ◌∷◌, map, Option, Some, None, unwrap_or, arith, is_eq, is_lt, AllByRecursion, IsSmall, each_map, each_weaker, Amount, AmountsByKey, AreApartFrom, AreElsewhere, AreSmall, Day, Entry, HasRoomForTrade, Holding, IsOneTradeMore, IsSmallAmount, Key, Pend, amount_at, amount_for, amount_of, as_booking, below_all, buyer_entry, by_key, due_entries, equal, exact_keys, find, find_below, insert_entry, ints, is_sorted, key_cmp, key_of, keys_total, lookup, makes, money_limit, no_amount, same_key, seller_entry, shares_limit, tied_below, tied_itself, trade_entries, with_amount, with_entry, +ℤ_assoc, +ℤ_comm, +ℤ_idl, +ℤ_idr, max-zero}
 use Rattle.std.specs.BTreeMap.{is_at}
 use Rattle.cns_terms.specs.Pending.{is_due}
 use Rattle.std.proofs.lemmas.Cmp.{eq_by_cmp_equiv}
 use Rattle.cns_actions.proofs.Making.{makes_first}
-use Rattle.std.proofs.Math.Nat.{max-zero}
 
 -- ---- amounts
 
--- the two words for a search
-same_find : (k : Key) (es : AmountsByKey) → find key_cmp k es ≡ lookup (is_at (key_cmp k)) es
-same_find k [] = refl
-same_find k (e ∷ es) = ap (cond (is_eq (key_cmp k e.0)) (Some e.1)) (same_find k es)
-
 -- what a search found, as the amount at a key
 pub had_is : (k : Key) (es : AmountsByKey) (o : Option Amount) (a : Amount) → a ≡ unwrap_or o no_amount → o ≡ lookup (is_at (key_cmp k)) es → a ≡ amount_at es k
-had_is k es o a is found = rw (is, found, same_find k es) refl
+had_is k es o a is found = rw found at is
 
 -- what is booked at a key has room, where each amount has
 pub room_at : (k : Key) (es : AmountsByKey) → AllByRecursion (λ e. IsSmallAmount e.1) es → IsSmallAmount (amount_at es k)
@@ -28,24 +22,14 @@ pub small_insert : (k : Key) (a : Amount) (es : AmountsByKey) → IsSmallAmount 
 small_insert k a [] h small = (h, tt)
 small_insert k a (e ∷ es) h small = grind (arith, small_insert k a es h small.1)
 
--- an amount that is put in at a key, or another
-added_branch : (b : Bool) (a now : Amount) (e : Entry) (o : Option Amount) → now ≡ unwrap_or o no_amount → (b ≡ true → a ≡ with_entry now e) → unwrap_or (cond b (Some a) o) no_amount ≡ with_amount now (record { shares = cond b e.shares (pos 0); cents = cond b e.cents (pos 0) })
-added_branch b a now e o h1 h2 = grind (arith, ints)
-
 module _ (old new : AmountsByKey) (key : Key) (a : Amount) (updates : (q : Key) → lookup (is_at (key_cmp q)) new ≡ cond (is_eq (key_cmp key q)) (Some a) (lookup (is_at (key_cmp q)) old)) where
-  found_new : (k : Key) → find key_cmp k new ≡ cond (is_eq (key_cmp key k)) (Some a) (find key_cmp k old)
-  found_new k = rw (same_find k new, same_find k old) (updates k)
-
   -- the amount at each key, where an entry is added
   pub amounts_added : (e : Entry) → key ≡ key_of e → a ≡ with_entry (amount_at old key) e → (k : Key) → amount_at new k ≡ with_amount (amount_at old k) (amount_for e k)
-  amounts_added e own is k =
-      ap (λ o. unwrap_or o no_amount) (found_new k)
-      ∙ added_branch (is_eq (key_cmp key k)) a (amount_at old k) e (find key_cmp k old) refl (λ t. is ∙ ap (λ q. with_entry (amount_at old q) e) (exact_keys key k (equal _ t)))
-      ∙ ap (λ b. with_amount (amount_at old k) (record { shares = cond b e.shares (pos 0); cents = cond b e.cents (pos 0) })) (ap (λ q. is_eq (key_cmp q k)) own ∙ same_key (key_of e) k)
+  amounts_added e own is k = grind (arith, ints, updates k, exact_keys key k, equal, same_key key k)
 
   -- at another key nothing is put in
   pub found_apart : (k : Key) → k ≢ key → find key_cmp k new ≡ find key_cmp k old
-  found_apart k apart = grind (arith, found_new k, exact_keys key k)
+  found_apart k apart = grind (arith, updates k, exact_keys key k)
 
 -- ---- as bookings
 
@@ -60,7 +44,7 @@ sorted_bookings (e ∷ es) = λ i. below_bookings e.0 es i && sorted_bookings es
 
 -- and small
 pub amounts_small : (es : AmountsByKey) → AllByRecursion (λ e. IsSmallAmount e.1) es → AreSmall (map as_booking es)
-amounts_small es h = each_map (λ b. IsSmall b.entry) as_booking es (each_weaker _ _ es (λ e h. record { shares = h.shares; cents = h.cents }) h)
+amounts_small es h = each_map (λ b. IsSmall b.entry) as_booking es (each_weaker _ _ es (λ e h. grind (arith, h)) h)
 
 -- and none is at a key at which nothing is booked
 pub amounts_elsewhere : (k : Key) (es : AmountsByKey) → find key_cmp k es ≡ None → AreElsewhere k (map as_booking es)
@@ -74,17 +58,7 @@ with_holding a h = record h { now = a.shares +ℤ h.now; contract = a.cents +ℤ
 -- each key gets its amount
 pub bookings_make : (es : AmountsByKey) → is_sorted key_cmp es ≡ true → (k : Key) (h : Holding) → makes (map as_booking es) k h ≡ with_holding (amount_at es k) h
 bookings_make [] s k h = grind arith
-bookings_make (e ∷ es) s k h =
-    makes_first (as_booking e) (map as_booking es) k h ∙ bookings_make es (and_right _ _ s) k (made (as_booking e) k h)
-    ∙ ap (λ t. with_holding (amount_at es k) (cond t (entered (as_booking e) h) h)) (sym ((eq_by_cmp_equiv keys_total).symm k e.0 ∙ same_key e.0 k))
-    ∙ by (is_eq (key_cmp k e.0)) (find key_cmp k es) (λ t. find_below keys_total k es (tied_below keys_total k e.0 es (equal _ t) (and_left _ _ s)))
-  where
-    other_order : (x y : ℤ) → pos 0 +ℤ (x +ℤ y) ≡ y +ℤ x
-    other_order x y = omega (arith, ints)
-
-    by : (t : Bool) (o : Option Amount) → (t ≡ true → o ≡ None) → with_holding (unwrap_or o no_amount) (cond t (entered (as_booking e) h) h) ≡ with_holding (unwrap_or (cond t (Some e.1) o) no_amount) h
-    by true o none = rw (none refl, other_order h.now e.1.shares, other_order h.contract e.1.cents, max-zero h.carried) refl
-    by false o none = refl
+bookings_make (e ∷ es) s k h = grind (arith, +ℤ_idl, +ℤ_comm h.now e.1.shares, +ℤ_comm h.contract e.1.cents, makes_first (as_booking e) (map as_booking es) k h, bookings_make es, same_key e.0 k, (eq_by_cmp_equiv keys_total).symm k e.0, equal, find_below keys_total k es, tied_below keys_total k e.0 es, max-zero)
 
 -- ---- trades
 
@@ -109,16 +83,11 @@ none_booked all = record { sums = λ k. grind (arith, ints); others = λ k apart
 
 -- a trade is passed over
 pub trade_passed : (all : List Entry) (next : Day) (n : ℕ) (now : AmountsByKey) (p : Pend) (rest : List Pend) → is_due next p ≡ false → IsBooked all n now (due_entries next (p ∷ rest)) → IsBooked all (n + 1) now (due_entries next rest)
-trade_passed all next n now p rest due b =
-    let left = due_first next p rest false due in
-    record { sums = rw left at b.sums; others = rw left at b.others; few = λ k. record { shares = omega (arith, (b.few k).shares); cents = omega (arith, (b.few k).cents) } }
+trade_passed all next n now p rest due b = grind (arith, b)
 
 -- amounts one after another
 together : (a b s r : Amount) → with_amount a (record { shares = b.shares +ℤ (s.shares +ℤ r.shares); cents = b.cents +ℤ (s.cents +ℤ r.cents) }) ≡ with_amount (with_amount (with_amount a b) s) r
-together a b s r = λ i. record { shares = by a.shares b.shares s.shares r.shares i; cents = by a.cents b.cents s.cents r.cents i }
-  where
-    by : (a b s r : ℤ) → a +ℤ (b +ℤ (s +ℤ r)) ≡ ((a +ℤ b) +ℤ s) +ℤ r
-    by a b s r = omega (arith, ints)
+together a b s r = simp +ℤ_assoc
 
 none_more : (a : Amount) → with_amount a no_amount ≡ a
 none_more a = grind (arith, ints)
@@ -128,7 +97,7 @@ abbrev pub after_trade : Pend → Key → Amount → Amount
 after_trade p k a = with_amount (with_amount a (amount_for (buyer_entry p) k)) (amount_for (seller_entry p) k)
 
 pub trade_sums : (p : Pend) (k : Key) (a : Amount) → after_trade p k a ≡ with_amount a (amount_of (trade_entries p) k)
-trade_sums p k a = sym (together a (amount_for (buyer_entry p) k) (amount_for (seller_entry p) k) no_amount ∙ none_more (after_trade p k a))
+trade_sums p k a = simp (+ℤ_assoc, +ℤ_idr)
 
 -- or booked
 pub trade_booked : (all : List Entry) (next : Day) (n : ℕ) (now new : AmountsByKey) (p : Pend) (rest : List Pend) → is_due next p ≡ true → ((k : Key) → amount_at new k ≡ with_amount (amount_at now k) (amount_of (trade_entries p) k)) → ((k : Key) → IsOneTradeMore (amount_at now k) (amount_at new k))

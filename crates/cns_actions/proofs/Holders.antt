@@ -1,7 +1,7 @@
 -- Members as a list names them, and as rows show them: what is read of both adds up to the same.
 -- For `bookings_for` of acting.rt.
-use Rattle.cns_actions.proofs.Common.{◌≡◌, ◌∙◌, sym, ap, refl, ℕ, ◌≤◌, ℤ, pos, Bool, true, cond, not, List, [], ◌∷◌, map, filter, length, None, arith, int_eq, Account, AllByRecursion, AreHolders, Cusip, Entry, Holder, Member, Rows, are_distinct, each_weaker, has_position, held_above, holders, holders_in, holding_at, ints, is_sorted, key_cmp, list_any, nat_tests, occurs, occurs_found, occurs_missing, option_map_or, positions_in, total, total-map}
-use Rattle.cns_actions.proofs.ByAccount.{each_listed, listed_at, listed_rising, one, place, total_over, who}
+use Rattle.cns_actions.proofs.Common.{◌≡◌, ◌∙◌, sym, ap, refl, ℕ, ◌≤◌, ℤ, pos, Bool, true, cond, not, List, [], ◌∷◌, map, filter, length, None, arith, int_eq, Account, AllByRecursion, AreHolders, Cusip, Entry, Holder, Member, Rows, are_distinct, each_weaker, has_position, held_above, holders, holders_in, ints, is_sorted, key_cmp, list_any, nat_tests, occurs, occurs_found, occurs_missing, option_map_or, positions_in, total, total-map}
+use Rattle.cns_actions.proofs.ByAccount.{each_listed, listed_at, listed_rising, total_over, who}
 
 -- a sum over what a test keeps
 kept_total : {X : Type 0} (t : X → Bool) (f g : X → ℤ) (xs : List X) → AllByRecursion (λ x. g x ≡ cond (t x) (f x) (pos 0)) xs → total f (filter t xs) ≡ total g xs
@@ -45,9 +45,6 @@ module _ (R : Rows) (order : is_sorted key_cmp R ≡ true) (c : Cusip) (ms : Lis
   pub legs_alike : (L : Account → ℤ → Entry) → Alike (map (λ a. L a (q a)) (holders q ms)) (map (λ h. L h.account h.shares) (shown R c))
   legs_alike L f =
       total-map f (λ a. L a (q a)) (holders q ms)
-      ∙ kept_total (λ a. not (int_eq (q a) (pos 0))) (λ a. f (L a (q a))) (λ a. option_map_or (λ h. f (L h.account h.shares)) (who a (shown R c)) (pos 0)) ms (each_weaker _ _ ms (λ a n. ap (λ o. option_map_or (λ (h : Holder). f (L h.account h.shares)) o (pos 0)) (listed_at has_position refl c R order a) ∙ by a n.0) are.numbers)
+      ∙ kept_total (λ a. not (int_eq (q a) (pos 0))) (λ a. f (L a (q a))) (λ a. option_map_or (λ h. f (L h.account h.shares)) (who a (shown R c)) (pos 0)) ms (each_weaker _ _ ms (λ a n. grind (arith, nat_tests, listed_at has_position refl c R order a, n.0)) are.numbers)
       ∙ total_over (λ h. f (L h.account h.shares)) (shown R c) ms (listed_rising has_position refl c R order) (each_listed has_position refl c R order (λ h. occurs h.account ms ≡ 1) once)
       ∙ sym (total-map f (λ h. L h.account h.shares) (shown R c))
-    where
-      by : (a : Account) → 1 ≤ a → option_map_or (λ (h : Holder). f (L h.account h.shares)) (one has_position refl c a (holding_at R (place c a))) (pos 0) ≡ cond (not (int_eq (q a) (pos 0))) (f (L a (q a))) (pos 0)
-      by a le = grind (arith, nat_tests)

@@ -1,8 +1,8 @@
 -- Bookings that are made one after another: what stands at each key.
 -- For `enter_all`, `book_one` and `book_all` of bookings.rt, `listed` of due_bookings.rt, and `prepare` of effect.rt in cns_book.
-use Rattle.cns_actions.proofs.Common.{◌≡◌, ◌≢◌, ◌∙◌, sym, ap, subst, refl, ℕ, ◌+◌, ◌<◌, max, ℤ, pos, ◌+ℤ◌, Bool, true, false, cond, ◌&&◌, ◌==◌, is_some, List, [], ◌∷◌, length, get_or, drop, arith, is_lt, AreElsewhere, AreEntered, AreSmall, Booking, HasSpace, HaveSpace, Holding, Key, Rows, aged, and_left, and_right, below_all, booked, by_key, carried_to, cents_for, entered, entries_in, entry_of, greatest, has_row, holding_at, ints, is_sorted, key_cmp, key_of, made, makes, same_issue, same_key, shares_for, total, with_age, All-from_recursion, All-get_or}
-use Rattle.cns_positions.specs.Rows.{row_at}
+use Rattle.cns_actions.proofs.Common.{◌≡◌, ◌≢◌, ◌∙◌, sym, ap, refl, ℕ, ◌+◌, ◌<◌, max, ℤ, pos, ◌+ℤ◌, Bool, true, false, cond, ◌&&◌, ◌==◌, is_some, List, [], ◌∷◌, length, get_or, drop, arith, is_lt, AreElsewhere, AreEntered, AreSmall, Booking, HaveSpace, Holding, Key, Rows, aged, below_all, booked, by_key, carried_to, cents_for, entered, entries_in, entry_of, greatest, has_row, holding_at, ints, is_sorted, key_cmp, key_of, made, makes, same_issue, same_key, shares_for, total, with_age, All-from_recursion, All-get_or, +ℤ_idr, max-zero}
 use Rattle.std.proofs.lemmas.List.{drop_more}
+use Rattle.cns_positions.specs.Rows.{row_at}
 
 -- ---- what bookings make at a key
 
@@ -23,17 +23,11 @@ makes_first b bs k h = by ((b.entry.account == k.account) && same_issue b.entry.
 
 -- shares and cents that are booked, and an age that is brought, are the booking
 pub one_made : (b : Booking) (k : Key) (h : Holding) → aged (key_of b.entry) b.carried k (booked (entry_of (key_of b.entry) b.entry.shares b.entry.cents) k h) ≡ made b k h
-one_made b k h = by ((b.entry.account == k.account) && same_issue b.entry.issue k.issue)
-  where
-    by : (t : Bool) → cond t (with_age b.carried (record h { now = h.now +ℤ cond t b.entry.shares (pos 0); contract = h.contract +ℤ cond t b.entry.cents (pos 0) })) (record h { now = h.now +ℤ cond t b.entry.shares (pos 0); contract = h.contract +ℤ cond t b.entry.cents (pos 0) }) ≡ cond t (entered b h) h
-    by t = grind (arith, ints)
+one_made b k h = grind (arith, +ℤ_idr, max-zero)
 
 -- so are they alone, where no age is brought
 pub made_alone : (b : Booking) (k : Key) (h : Holding) → b.carried ≡ 0 → booked (entry_of (key_of b.entry) b.entry.shares b.entry.cents) k h ≡ made b k h
-made_alone b k h none = by ((b.entry.account == k.account) && same_issue b.entry.issue k.issue)
-  where
-    by : (t : Bool) → record h { now = h.now +ℤ cond t b.entry.shares (pos 0); contract = h.contract +ℤ cond t b.entry.cents (pos 0) } ≡ cond t (entered b h) h
-    by t = grind (arith, ints)
+made_alone b k h none = grind (arith, +ℤ_idr, max-zero)
 
 -- what stands above the key of a booking stays
 made_above : (b : Booking) (k : Key) (h : Holding) → is_lt (key_cmp (key_of b.entry) k) ≡ true → made b k h ≡ h
@@ -54,14 +48,10 @@ left_first xs i x lt is = drop_more xs i x lt ∙ ap (λ y. y ∷ drop (i + 1) x
 module _ (b : Booking) (old new : Rows) (one : (k : Key) → holding_at new k ≡ made b k (holding_at old k)) (places : (k : Key) → has_row new k ≡ has_row old k) where
   others_ready : (bs : List Booking) → below_all key_cmp (key_of b.entry) (by_key bs) ≡ true → AreEntered old bs → HaveSpace old bs → AreEntered new bs × HaveSpace new bs
   others_ready [] l t s = (tt, tt)
-  others_ready (d ∷ ds) l t s =
-      let rest = others_ready ds (and_right _ _ l) t.1 s.1 in
-      ((places (key_of d.entry) ∙ t.0, rest.0), (subst HasSpace (sym (one (key_of d.entry) ∙ made_above b (key_of d.entry) _ (and_left _ _ l))) s.0, rest.1))
+  others_ready (d ∷ ds) l t s = grind (arith, places (key_of d.entry), one (key_of d.entry), made_above b (key_of d.entry), others_ready ds)
 
   pub next_ready : (bs : List Booking) → AreReady old (b ∷ bs) → AreReady new bs
-  next_ready bs ready =
-      let rest = others_ready bs (and_left _ _ ready.rise) ready.there.1 ready.space.1 in
-      record { there = rest.0; space = rest.1; small = ready.small.1; rise = and_right _ _ ready.rise }
+  next_ready bs ready = grind (arith, ready, others_ready bs)
 
 -- a key where none is booked is not that of the booking at a place
 pub elsewhere_at : (k : Key) (bs : List Booking) (i : ℕ) (b : Booking) → i < length bs → b ≡ get_or bs i b → AreElsewhere k bs → k ≢ key_of b.entry

@@ -1,14 +1,10 @@
 -- Positions that can be booked stay so.
 -- For `open` of parts/opening.rt in cns_book, `close_day` of parts/closing.rt in cns_book, `make` of actions.rt in cns_growth_tests.
-use Rattle.cns_actions.proofs.Common.{◌≡◌, ap, sym, subst, ◌≤◌, unsigned_abs, [], arith, CanBeBooked, Holding, Key, Rows, amount_limit, corporation, holding_at, rolled}
+use Rattle.cns_actions.proofs.Common.{◌≡◌, ap, ◌≤◌, unsigned_abs, [], arith, CanBeBooked, Holding, Key, Rows, amount_limit, corporation, holding_at, rolled}
 
 -- nothing stands anywhere yet
 pub can_none : (rows : Rows) → rows ≡ [] → CanBeBooked rows
-can_none rows e = subst CanBeBooked (sym e) (record {
-  members = λ a c le. omega arith;
-  corporation = λ c. omega arith;
-  cents = λ k. omega arith;
-})
+can_none rows e = grind arith
 
 -- positions that are the same, with cents within the limit
 kept : (rows new : Rows) → CanBeBooked rows → ((k : Key) → (holding_at new k).now ≡ (holding_at rows k).now) → ((k : Key) → unsigned_abs (holding_at new k).contract ≤ amount_limit) → CanBeBooked new
@@ -16,7 +12,7 @@ kept rows new can same cents = record { members = λ a c le. rw (same (record { 
 
 -- what stands at each key is all that counts
 pub can_same : (rows new : Rows) → CanBeBooked rows → ((k : Key) → holding_at new k ≡ holding_at rows k) → CanBeBooked new
-can_same rows new can same = kept rows new can (λ k. ap (λ (h : Holding). h.now) (same k)) (λ k. rw (same k) (can.cents k))
+can_same rows new can same = kept rows new can (λ k. grind (arith, same k)) (λ k. grind (arith, same k, can.cents k))
 
 -- and so after a close
 pub can_rolled : (rows new : Rows) → CanBeBooked rows → ((q : Key) → holding_at new q ≡ rolled (holding_at rows q)) → CanBeBooked new

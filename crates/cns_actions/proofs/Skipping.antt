@@ -1,11 +1,11 @@
 -- Members with a position or an age in an issue, account by account: all rows of an account but that in the issue are passed
 -- over.
 -- For `next_holder` of holder.rt, clause next.
-use Rattle.cns_actions.proofs.Common.{◌≡◌, ◌∙◌, sym, ap, subst, refl, ℕ, ◌≤◌, ◌<◌, Bool, true, false, cond, ◌&&◌, ◌==◌, nat_lt, List, [], ◌∷◌, filter, length, Option, Some, None, unwrap_or, arith, is_lt, Account, Cusip, Holder, Holding, Key, Rows, and_left, as_T, below_all, both_true, cons_option, corporation, exact_keys, find, find_below, has_position_or_age, held_above, held_same, held_sorted, holder_at, holder_of, holders_after, holders_in, holding_at, is_above, is_held, is_left, is_of_next, is_sorted, key_cmp, keys_total, less, nat_tests, zeros, All, All-head, filter_passes}
+use Rattle.cns_actions.proofs.Common.{◌≡◌, ◌∙◌, sym, ap, subst, refl, ℕ, ◌≤◌, ◌<◌, Bool, true, false, cond, ◌&&◌, ◌==◌, nat_lt, List, [], ◌∷◌, filter, length, Option, Some, None, arith, is_lt, Account, Cusip, Holder, Holding, Key, Rows, and_left, as_T, below_all, cons_option, corporation, exact_keys, find, find_below, has_position_or_age, held_above, held_same, held_sorted, holder_at, holder_of, holders_after, holders_in, holding_at, is_above, is_held, is_left, is_of_next, is_sorted, key_cmp, keys_total, less, nat_tests, zeros, All, All-head, filter_passes}
 use Rattle.cns_positions.proofs.Held.{filter_both}
 use lib.Ieee.Bits.{is_true}
 use Rattle.std.specs.FinMap.Entries.{find-where_key, is_sorted-where_key}
-use Rattle.cns_actions.proofs.ByAccount.{are_above, are_rising, found, above_holders, listed_at, listed_rising, one, place, rising_holders, same_holders, who}
+use Rattle.cns_actions.proofs.ByAccount.{are_above, are_rising, found, above_holders, listed_at, listed_rising, place, rising_holders, same_holders, who}
 
 -- ---- tests and keys
 
@@ -31,7 +31,7 @@ below_later k (r ∷ rows) = grind (arith, nat_tests, account_before, below_late
 
 -- a key below the first of rows in order is below all
 below_first : (k : Key) (r : Key × Holding) (rows : Rows) → is_lt (key_cmp k r.0) ≡ true → below_all key_cmp r.0 rows ≡ true → below_all key_cmp k (r ∷ rows) ≡ true
-below_first k r [] l b = both_true _ _ l refl
+below_first k r [] l b = grind arith
 below_first k r (e ∷ es) l b = grind (arith, less, keys_total.trans k r.0 e.0, below_first k r es l)
 
 -- ---- accounts that are left
@@ -60,10 +60,7 @@ module _ (R : Rows) (order : is_sorted key_cmp R ≡ true) where
   kept_sorted t = is_true _ (is_sorted-where_key key_cmp t all (as_T _ (held_sorted R order)))
 
   kept_at : (t : Key → Bool) (k : Key) → holding_at (filter (λ r. t r.0) all) k ≡ cond (t k) (holding_at R k) zeros
-  kept_at t k = rw (find-where_key key_cmp t k (λ q e. ap t (sym (exact_keys k q e))) all) (by (t k) (find key_cmp k all) ∙ ap (λ h. cond (t k) h zeros) (held_same R k order))
-    where
-      by : (b : Bool) (o : Option Holding) → unwrap_or (cond b o None) zeros ≡ cond b (unwrap_or o zeros) zeros
-      by b o = grind arith
+  kept_at t k = grind (arith, find-where_key key_cmp t k (λ q e. ap t (sym (exact_keys k q e))) all, held_same R k order)
 
   -- fewer rows are above a key that is not before one of them
   pub fewer_above : (passed : Option Key) (r : Key × Holding) (q : Key) → held_above R passed ≡ r ∷ held_above R (Some r.0) → is_lt (key_cmp q r.0) ≡ false → length (held_above R (Some q)) < length (held_above R passed)
@@ -72,12 +69,7 @@ module _ (R : Rows) (order : is_sorted key_cmp R ≡ true) where
   module _ (c : Cusip) (passed : Option Key) where
     -- the holder of an account among those that are left
     left_at : (a : Account) → who a (holders_after R c passed) ≡ cond (is_left passed (place c a)) (holder_at R a c) None
-    left_at a =
-        found has_position_or_age refl c a (filter (λ r. is_left passed r.0) all) (kept_sorted (is_left passed))
-        ∙ ap (one has_position_or_age refl c a) (kept_at (is_left passed) (place c a)) ∙ by (is_left passed (place c a)) (holding_at R (place c a))
-      where
-        by : (b : Bool) (h : Holding) → one has_position_or_age refl c a (cond b h zeros) ≡ cond b (one has_position_or_age refl c a h) None
-        by b h = grind arith
+    left_at a = grind (arith, found has_position_or_age refl c a (filter (λ r. is_left passed r.0) all) (kept_sorted (is_left passed)), kept_at (is_left passed) (place c a))
 
     left_rising : are_rising (holders_after R c passed) ≡ true
     left_rising = rising_holders has_position_or_age refl c (filter (λ r. is_left passed r.0) all) (kept_sorted (is_left passed))
@@ -88,15 +80,11 @@ module _ (R : Rows) (order : is_sorted key_cmp R ≡ true) where
 
       -- nothing stands at the place of an account that is left where no row above what is passed is at it
       none_there : (a : Account) → find key_cmp (place c a) rs ≡ None → is_left passed (place c a) ≡ true → holding_at R (place c a) ≡ zeros
-      none_there a none left =
-          ap (λ b. cond b (holding_at R (place c a)) zeros) (sym (left_above passed (place c a) left)) ∙ sym (kept_at (is_above passed) (place c a)) ∙ ap (λ rs. holding_at rs (place c a)) above_is ∙ ap (λ o. unwrap_or o zeros) none
+      none_there a none left = grind (arith, left_above passed (place c a), kept_at (is_above passed) (place c a), above_is)
 
     -- where no row is above what is passed, no holder is left
     pub none_left : held_above R passed ≡ [] → holders_after R c passed ≡ []
-    none_left next = same_holders (holders_after R c passed) [] left_rising refl (λ a. left_at a ∙ by a (is_left passed (place c a)) (none_there [] next a refl))
-      where
-        by : (a : Account) (b : Bool) → (b ≡ true → holding_at R (place c a) ≡ zeros) → cond b (holder_at R a c) None ≡ None
-        by a b h = grind arith
+    none_left next = same_holders (holders_after R c passed) [] left_rising refl (λ a. grind (arith, left_at a, none_there [] next a))
 
   -- at first all are left
   pub all_left : (c : Cusip) → holders_after R c None ≡ holders_in has_position_or_age c all

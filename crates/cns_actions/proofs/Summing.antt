@@ -1,7 +1,7 @@
 -- Sums over the members with a position, as far as they were added up.
 -- For `sum_of` of acting.rt.
-use Rattle.cns_actions.proofs.Common.{◌≡◌, ◌∙◌, sym, ap, subst, refl, ℕ, ◌≤◌, ◌<◌, ℤ, pos, ◌+ℤ◌, Bool, true, false, not, ◌||◌, unsigned_abs, List, ◌∷◌, arith, int_eq, Action, AllByRecursion, CanBeBooked, Change, Cusip, Holder, IsFew, Rows, and_left, and_right, change_of, has_position, holders_of, ints, is_sorted, issue_of, key_cmp, list_any, member_limit, position_at, position_limit, sum_of, with_position}
-use Rattle.cns_actions.proofs.ByAccount.{lower, above_zero, are_above, are_rising, each_listed, listed_rising}
+use Rattle.cns_actions.proofs.Common.{nat_tests, ◌≡◌, ◌∙◌, sym, ap, subst, refl, ℕ, ◌≤◌, ◌<◌, pos, ◌+ℤ◌, Bool, true, false, not, ◌||◌, unsigned_abs, List, ◌∷◌, arith, int_eq, Action, AllByRecursion, CanBeBooked, Change, Cusip, Holder, IsFew, Rows, and_left, and_right, change_of, has_position, holders_of, ints, is_sorted, issue_of, key_cmp, list_any, member_limit, position_at, position_limit, sum_of, with_position, +ℤ_assoc}
+use Rattle.cns_actions.proofs.ByAccount.{above_zero, are_above, are_rising, each_listed, listed_rising}
 
 -- two changes together
 abbrev pub plus : Change → Change → Change
@@ -10,11 +10,8 @@ plus c d = record { before = c.before +ℤ d.before; after = c.after +ℤ d.afte
 none_plus : (c : Change) → c ≡ plus (record { before = pos 0; after = pos 0; cents = pos 0 }) c
 none_plus c = grind (arith, ints)
 
-moved : (a b c : ℤ) → a +ℤ (b +ℤ c) ≡ (a +ℤ b) +ℤ c
-moved a b c = omega (arith, ints)
-
 plus_assoc : (a b c : Change) → plus a (plus b c) ≡ plus (plus a b) c
-plus_assoc a b c = rw (moved a.before b.before c.before, moved a.after b.after c.after, moved a.cents b.cents c.cents) refl
+plus_assoc a b c = simp +ℤ_assoc
 
 -- the sum over the members up to a number, and those above it that are left: both together sum up to what all do, and any of all
 -- passes a test where one of those that are left does
@@ -30,16 +27,7 @@ pub record AddsUp (x : Action) (t : Holder → Bool) (all : List Holder) (sum : 
 
 -- at first all are left
 pub first_adds : (R : Rows) → is_sorted key_cmp R ≡ true → CanBeBooked R → (x : Action) (t : Holder → Bool) → AddsUp x t (holders_of x R) (record { before = pos 0; after = pos 0; cents = pos 0 }) (holders_of x R)
-first_adds R order can x t = record {
-  last = 0;
-  most = omega arith;
-  few = record { before = omega arith; after = omega arith; cents = omega arith };
-  above = above_zero (holders_of x R) (each_listed has_position refl (issue_of x) R order (λ h. 1 ≤ h.account) (λ a le held. le));
-  rising = listed_rising has_position refl (issue_of x) R order;
-  within = each_listed has_position refl (issue_of x) R order (λ h. unsigned_abs h.shares ≤ position_limit) (λ a le held. can.members a (issue_of x) le);
-  sums = none_plus (sum_of x (holders_of x R));
-  fits = refl;
-}
+first_adds R order can x t = grind (arith, ints, above_zero (holders_of x R) (each_listed has_position refl (issue_of x) R order (λ h. 1 ≤ h.account) (λ a le held. le)), listed_rising has_position refl (issue_of x) R order, each_listed has_position refl (issue_of x) R order (λ h. unsigned_abs h.shares ≤ position_limit) (λ a le held. can.members a (issue_of x) le), none_plus (sum_of x (holders_of x R)))
 
 module _ {x : Action} {t : Holder → Bool} {all : List Holder} {sum : Change} {left : List Holder} (h : Holder) {rest : List Holder} (first : left ≡ h ∷ rest) (held : not (int_eq h.shares (pos 0)) ≡ true) (was : AddsUp x t all sum (with_position left)) where
   -- the next member with a position is the next of those
@@ -48,7 +36,7 @@ module _ {x : Action} {t : Holder → Bool} {all : List Holder} {sum : Change} {
 
   -- it is above those before it
   next_above : now.last < h.account
-  next_above = lower now.last h.account (and_left _ _ now.above)
+  next_above = grind (arith, nat_tests, now.above)
 
   -- so its positions are within their limits
   pub next_within : (R : Rows) → CanBeBooked R → (c : Cusip) → unsigned_abs (position_at R h.account c) ≤ position_limit

@@ -1,16 +1,9 @@
 -- What entries make of positions.
 use Rattle.std.specs.Prelude.{◌≡◌, ◌≤◌, ℕ, ℤ, Bool, false, List, unsigned_abs, if◌then◌else◌}
-use Rattle.cns_terms.specs.Common.{Account, Cusip, Member, amount_limit, corporation, corporation_limit, oldest_of, position_limit, same_issue, waits_in}
-use Rattle.cns_terms.specs.declared.holding.Entry.{Entry}
-use Rattle.cns_terms.specs.declared.holding.Holding.{Holding}
-use Rattle.cns_terms.specs.declared.holding.Key.{Key}
+use Rattle.cns_actions.specs.Common.{Account, Cusip, Member, amount_limit, corporation, corporation_limit, oldest_of, position_limit, same_issue, waits_in, Entry, Holding, Key, Pend, Rows, books, holding_at, with_age, Action}
 use Rattle.cns_terms.specs.Actions.{AreHolders}
 use Rattle.cns_terms.specs.Entries.{exchange_entries, split_entries}
 use Rattle.cns_terms.specs.Refusals.{are_too_large}
-use Rattle.cns_terms.specs.declared.pend.Pend.{Pend}
-use Rattle.cns_positions.specs.Rows.{Rows, books, holding_at, with_age}
-use Rattle.cns_actions.specs.declared.action.Action.{Action}
-use Rattle.cns_actions.specs.declared.action.Action.TheVariants as action
 
 -- an account's position in an issue
 abbrev pub position_at : Rows → Account → Cusip → ℤ
@@ -22,28 +15,28 @@ positions_in rows c a = position_at rows a c
 
 -- the issue whose positions count
 abbrev pub issue_of : Action → Cusip
-issue_of (action.Split s) = s.issue
-issue_of (action.Exchange x) = x.old
+issue_of (Action.Split s) = s.issue
+issue_of (Action.Exchange x) = x.old
 
 -- the entries of a split or an exchange, by the positions in that issue
 abbrev pub entries_of : Action → (Account → ℤ) → List Member → List Entry
-entries_of (action.Split s) q ms = split_entries s q ms
-entries_of (action.Exchange x) q ms = exchange_entries x q ms
+entries_of (Action.Split s) q ms = split_entries s q ms
+entries_of (Action.Exchange x) q ms = exchange_entries x q ms
 
 -- an exchange is for another issue
 abbrev pub IsForAnother : Action → Type 0
-IsForAnother (action.Split s) = Unit {0}
-IsForAnother (action.Exchange x) = same_issue x.old x.successor ≡ false
+IsForAnother (Action.Split s) = Unit {0}
+IsForAnother (Action.Exchange x) = same_issue x.old x.successor ≡ false
 
 -- whether it has to wait for trades: none may wait in an issue that is exchanged
 abbrev pub waits_for : Action → List Pend → Bool
-waits_for (action.Split s) ps = false
-waits_for (action.Exchange x) ps = waits_in ps x.old
+waits_for (Action.Split s) ps = false
+waits_for (Action.Exchange x) ps = waits_in ps x.old
 
 -- the age that is brought to a key: in an exchange the successor gets the oldest of the account's short in the old issue
 abbrev pub age_brought : Rows → Action → Key → ℕ
-age_brought rows (action.Split s) k = 0
-age_brought rows (action.Exchange x) k =
+age_brought rows (Action.Split s) k = 0
+age_brought rows (Action.Exchange x) k =
     if same_issue x.successor k.issue then oldest_of (holding_at rows (record { account = k.account; issue = x.old })) else 0
 
 -- the members that hold the issue whose positions count

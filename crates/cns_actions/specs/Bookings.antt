@@ -1,11 +1,6 @@
 -- What is booked at several keys, and what it makes of rows.
 use Rattle.std.specs.Prelude.{◌≡◌, ◌≢◌, ◌<◌, ◌^◌, ℕ, ◌+ℤ◌, true, ◌&&◌, ◌==◌, List, map, unsigned_abs, if◌then◌else◌}
-use Rattle.cns_terms.specs.Common.{AllByRecursion, greatest, is_sorted, key_cmp, same_issue}
-use Rattle.cns_terms.specs.declared.holding.Entry.{Entry}
-use Rattle.cns_terms.specs.declared.holding.Holding.{Holding}
-use Rattle.cns_terms.specs.declared.holding.Key.{Key}
-use Rattle.cns_positions.specs.Rows.{Rows, books, has_row, holding_at, with_age}
-use Rattle.cns_actions.specs.declared.booking.Booking.{Booking}
+use Rattle.cns_actions.specs.Common.{AllByRecursion, greatest, is_sorted, key_cmp, same_issue, Entry, Holding, Key, Rows, books, has_row, holding_at, with_age, Booking}
 
 -- where an entry is booked
 abbrev pub key_of : Entry → Key

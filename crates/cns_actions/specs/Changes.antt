@@ -1,18 +1,10 @@
 -- What splits and exchanges make of positions.
 use Rattle.std.specs.Prelude.{◌≡◌, ◌⊎◌, ◌≤◌, ◌*◌, ◌^◌, ℕ, ℤ, pos, ◌+ℤ◌, ◌-ℤ◌, neg_ℤ, Bool, not, ◌&&◌, ◌||◌, ◌==◌, nat_lt, List, [], ◌∷◌, ◌++◌, map, filter, unsigned_abs, None, if◌then◌else◌, flat_map}
-use Rattle.cns_terms.specs.Common.{Account, AllByRecursion, Cusip, bought_in, converted, corporation, entry, in_exchange, in_lieu, is_beyond, is_lt, nat_cmp, oldest_of, same_issue, slice_cmp, sold_in, total}
+use Rattle.cns_actions.specs.Common.{Account, AllByRecursion, Cusip, bought_in, converted, corporation, entry, in_exchange, in_lieu, is_beyond, is_lt, nat_cmp, oldest_of, same_issue, slice_cmp, sold_in, total, Holding, Key, Pend, Rows, held_above, Action, Booking, Holder}
 use Rattle.std.specs.Ordering.{int_eq}
-use Rattle.cns_terms.specs.declared.holding.Holding.{Holding}
-use Rattle.cns_terms.specs.declared.holding.Key.{Key}
-use Rattle.cns_terms.specs.declared.pend.Pend.{Pend}
-use Rattle.cns_positions.specs.Rows.{Rows, held_above}
-use Rattle.cns_actions.specs.declared.action.Action.{Action}
-use Rattle.cns_actions.specs.declared.booking.Booking.{Booking}
 use Rattle.cns_actions.specs.declared.change.Change.{Change}
-use Rattle.cns_actions.specs.declared.holder.Holder.{Holder}
 use Rattle.cns_actions.specs.Booked.{issue_of, position_at}
 use Rattle.cns_actions.specs.Bookings.{booking}
-use Rattle.cns_actions.specs.declared.action.Action.TheVariants as action
 
 -- whether a position stands there
 abbrev pub has_position : Holding → Bool
@@ -48,8 +40,8 @@ with_position hs = filter (λ h. not (int_eq h.shares (pos 0))) hs
 
 -- what a position becomes
 abbrev pub change_of : Action → ℤ → Change
-change_of (action.Split s) q = record { before = q; after = converted s.ratio q; cents = in_lieu s.ratio s.lieu q }
-change_of (action.Exchange x) q = record { before = q; after = converted x.ratio q; cents = in_exchange x.ratio x.lieu x.cash q }
+change_of (Action.Split s) q = record { before = q; after = converted s.ratio q; cents = in_lieu s.ratio s.lieu q }
+change_of (Action.Exchange x) q = record { before = q; after = converted x.ratio q; cents = in_exchange x.ratio x.lieu x.cash q }
 
 -- what the positions of members become together
 abbrev pub sum_of : Action → List Holder → Change
@@ -74,14 +66,14 @@ in_issue_order b d = if is_lt (slice_cmp nat_cmp b.entry.issue d.entry.issue) th
 
 -- what a change books for an account, with the age that an exchange brings
 abbrev pub bookings_for : Action → Account → Change → ℕ → List Booking
-bookings_for (action.Split s) a c n = booking (entry a s.issue (c.after -ℤ c.before) c.cents) 0 ∷ []
-bookings_for (action.Exchange x) a c n =
+bookings_for (Action.Split s) a c n = booking (entry a s.issue (c.after -ℤ c.before) c.cents) 0 ∷ []
+bookings_for (Action.Exchange x) a c n =
     in_issue_order (booking (entry a x.old (neg_ℤ c.before) (pos 0)) 0) (booking (entry a x.successor c.after c.cents) n)
 
 -- what is booked for an account without a position: the age alone
 abbrev pub age_for : Action → Account → ℕ → List Booking
-age_for (action.Split s) a n = []
-age_for (action.Exchange x) a n = booking (entry a x.successor (pos 0) (pos 0)) n ∷ []
+age_for (Action.Split s) a n = []
+age_for (Action.Exchange x) a n = booking (entry a x.successor (pos 0) (pos 0)) n ∷ []
 
 -- what is booked for a member
 abbrev pub member_bookings : Action → Holder → List Booking
@@ -94,8 +86,8 @@ all_bookings x sum n hs = bookings_for x corporation (opposite sum) n ++ flat_ma
 
 -- the issue of the new shares
 abbrev pub new_issue : Action → Cusip
-new_issue (action.Split s) = s.issue
-new_issue (action.Exchange x) = x.successor
+new_issue (Action.Split s) = s.issue
+new_issue (Action.Exchange x) = x.successor
 
 -- each booking is in the issue that is split or exchanged, or in that of the new shares
 abbrev pub AreInIssues : Action → List Booking → Type 0
@@ -103,8 +95,8 @@ AreInIssues x bs = AllByRecursion (λ b. (b.entry.issue ≡ issue_of x) ⊎ (b.e
 
 -- a member's position after it, in the issue of the new shares
 abbrev pub position_after : Rows → Action → Holder → ℤ
-position_after rows (action.Split s) h = converted s.ratio h.shares
-position_after rows (action.Exchange x) h = converted x.ratio h.shares +ℤ position_at rows h.account x.successor
+position_after rows (Action.Split s) h = converted s.ratio h.shares
+position_after rows (Action.Exchange x) h = converted x.ratio h.shares +ℤ position_at rows h.account x.successor
 
 -- whether it is beyond the member's limits, with the trades in that issue that wait
 abbrev pub takes_beyond : Rows → List Pend → Action → Holder → Bool

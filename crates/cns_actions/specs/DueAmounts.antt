@@ -1,12 +1,8 @@
 -- What trades book once their date has come, added up by key.
 use Rattle.std.specs.Prelude.{◌≡◌, ◌≢◌, ◌<◌, ◌≤◌, ◌+◌, ◌^◌, pos, ◌+ℤ◌, true, List, filter, unwrap_or, unsigned_abs, flat_map}
-use Rattle.cns_terms.specs.Common.{AllByRecursion, Day, cents_for, entry, is_sorted, key_cmp, money_limit, shares_for, shares_limit, total, trade_entries}
+use Rattle.cns_actions.specs.Common.{AllByRecursion, Day, cents_for, entry, is_sorted, key_cmp, money_limit, shares_for, shares_limit, total, trade_entries, Entry, Key, Pend, Booking}
 use Rattle.std.specs.FinMap.{find}
-use Rattle.cns_terms.specs.declared.holding.Entry.{Entry}
-use Rattle.cns_terms.specs.declared.holding.Key.{Key}
-use Rattle.cns_terms.specs.declared.pend.Pend.{Pend}
 use Rattle.cns_terms.specs.Pending.{is_due}
-use Rattle.cns_actions.specs.declared.booking.Booking.{Booking}
 use Rattle.cns_actions.specs.declared.due_amounts.Amount.{Amount}
 use Rattle.cns_actions.specs.Bookings.{booking, key_of}
 

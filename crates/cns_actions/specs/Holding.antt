@@ -1,9 +1,6 @@
 -- The members with a position or an age in an issue, account by account.
 use Rattle.std.specs.Prelude.{Bool, true, not, ◌&&◌, ◌==◌, nat_lt, List, filter, Option, Some, None, if◌then◌else◌}
-use Rattle.cns_terms.specs.Common.{Account, Cusip, corporation}
-use Rattle.cns_terms.specs.declared.holding.Key.{Key}
-use Rattle.cns_positions.specs.Rows.{Rows, held_above, holding_at}
-use Rattle.cns_actions.specs.declared.holder.Holder.{Holder}
+use Rattle.cns_actions.specs.Common.{Account, Cusip, corporation, Key, Rows, held_above, holding_at, Holder}
 use Rattle.cns_actions.specs.Changes.{has_position_or_age, holder_of, holders_in}
 
 -- whether a key's account comes after those that are passed, if any are

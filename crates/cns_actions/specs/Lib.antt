@@ -1,3 +1,4 @@
+pub mod Common
 pub mod Booked
 pub mod Bookings
 pub mod Changes

@@ -72,6 +72,7 @@ impl<A: Allocator + Drop> Model for DueAmounts<A> {
 
 impl<A: Allocator + Drop + Clone> DueAmounts<A> {
     /// What the trades that are due on a day book. Where none is due it takes no memory.
+    #[tactic(auto, using(crate::proofs::DueAmounts::all_booked, crate::proofs::DueAmounts::none_booked, crate::proofs::DueAmounts::room_left, std::proofs::lemmas::List::drop_all))]
     pub fn of(alloc: A, pending: &[Pend], next: Day) -> Result<Self, NoMemory>
         requires { length pending.now ≤ 2 ^ 32 }
         ensures amounts { IfOk result (λ s. (k : Key) → amount_at s k ≡ amount_of (due_entries next pending.now) k) }

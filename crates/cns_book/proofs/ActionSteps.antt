@@ -1,11 +1,10 @@
 -- Splits and exchanges.
 -- For `split` and `exchange` of parts/actions.rt, clauses step and places.
-use Rattle.cns_book.proofs.Common.{◌≡◌, ◌∙◌, sym, subst, refl, ◌≤◌, ℤ, true, false, ◌||◌, List, ◌∷◌, map, reverse, Option, None, arith, bytes_eq, IsSome, Ok, Err, Account, Activity, AreHolders, Contents, Cusip, Entry, Follows, FollowsNotices, FollowsRows, HasRoom, Holding, IsInRange, IsLimited, IsReached, Key, Listed, Pend, Rows, account_lt, activity_of, age_brought, and_right, books, bought_in, changed_each, each_both, each_in_order, entries, entries_of, first_refusal, holding_at, is_held_up, is_listed, is_retired, is_too_large, is_too_large_at, issue_of, issue_rules, journal, limited, list_any, member_limit, members, members_from_one, pending, position_limit, positions_in, posting, price_in, refusal, retired_in, sold_in, with_age, max-zero, position, Refusal, carried_on, no_account_elsewhere, no_position, ended, ended_by, Action, exchange_rules, ◌⊎◌, each_weaker, AreElsewhere, Booking, Command, Steps, Reply}
+use Rattle.cns_book.proofs.Common.{◌≡◌, ◌∙◌, sym, subst, refl, ◌≤◌, ℤ, true, false, ◌||◌, List, ◌∷◌, map, reverse, Option, None, arith, bytes_eq, IsSome, Ok, Err, Account, Activity, AreHolders, Contents, Cusip, Entry, Follows, FollowsNotices, FollowsRows, HasRoom, Holding, IsInRange, IsLimited, IsReached, Key, Listed, Pend, Rows, account_lt, activity_of, age_brought, and_right, books, bought_in, changed_each, each_both, each_in_order, entries, entries_of, first_refusal, holding_at, is_held_up, is_listed, is_retired, is_too_large, is_too_large_at, issue_of, issue_rules, journal, limited, list_any, member_limit, members, members_from_one, pending, position_limit, positions_in, posting, price_in, refusal, retired_in, sold_in, with_age, max-zero, position, Refusal, carried_on, no_account_elsewhere, no_position, ended, ended_by, Action, exchange_rules, ◌⊎◌, each_weaker, AreElsewhere, Booking, Command, Steps, Reply, CanBeBooked, position_at, waits_for}
 use Rattle.cns_terms.specs.Refusals.{are_too_large}
 use Rattle.cns_terms.specs.declared.action.Exchange.{Exchange}
 use Rattle.cns_terms.specs.declared.action.Split.{Split}
 use Rattle.cns_terms.specs.Entries.{exchange_entries, split_entries}
-use Rattle.cns_actions.specs.Booked.{CanBeBooked, position_at, waits_for}
 use Rattle.cns_actions.proofs.Members.{rising_distinct}
 use Rattle.cns_book.proofs.PendingSteps.{bought-reverse, sold-reverse, waits-reverse}
 use Rattle.cns_book.proofs.PartsStaying.{accepted, batches_stay}

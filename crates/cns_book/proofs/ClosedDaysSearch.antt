@@ -1,8 +1,7 @@
 -- Searches for a closed day by its date.
 -- For `place`, `count_by`, `as_of` and `find` of closed_days.rt, and `sheet` of parts/reading.rt.
-use Rattle.cns_book.proofs.Common.{◌≡◌, ◌∙◌, ap, refl, ℕ, zero, suc, ◌+◌, ◌-◌, ◌<◌, ◌≤◌, ℤ, Bool, true, false, cond, List, [], ◌∷◌, length, get_or, map, reverse, find, Some, None, Result, IfOk, IfErr, inl, inr, arith, int_lt, option_map, HoldsAt, int_cmp, Ordering, Activity, AllWithin, Contents, Day, DaySheet, Follows, IsAfter, IsBinarySearchResult, IsNonDecreasingBy, IsPartitionPoint, cases_lt, closings, day_number, day_sheet, ints, is_dated, is_dated_by, journal, length-map, length-reverse, ordering_index, reverse_onto, sheet_as_of, sheet_on, get_or-map, get_or-reverse, less_less}
+use Rattle.cns_book.proofs.Common.{◌≡◌, ◌∙◌, ap, refl, ℕ, zero, suc, ◌+◌, ◌-◌, ◌<◌, ◌≤◌, ℤ, Bool, true, false, cond, List, [], ◌∷◌, length, get_or, map, reverse, find, Some, None, Result, IfOk, IfErr, inl, inr, arith, int_lt, option_map, HoldsAt, int_cmp, Ordering, Activity, AllWithin, Contents, Day, DaySheet, Follows, IsAfter, IsBinarySearchResult, IsNonDecreasingBy, IsPartitionPoint, cases_lt, closings, day_number, day_sheet, ints, is_dated, is_dated_by, journal, length-map, length-reverse, ordering_index, reverse_onto, sheet_as_of, sheet_on, get_or-map, get_or-reverse, less_less, AreFalling, dated_sheet}
 use Rattle.std.specs.List.Sorted.{IsPartitionedBy}
-use Rattle.cns_book.specs.Dated.{AreFalling, dated_sheet}
 use Rattle.std.proofs.lemmas.List.Folds.{find-append}
 use Rattle.std.specs.Option.{option_or}
 

@@ -1,14 +1,12 @@
 -- The sheet that a close cuts is the one of the definitions.
 -- For `close_day` of parts/closing.rt, clause step.
-use Rattle.cns_book.proofs.Common.{◌≡◌, ◌∙◌, sym, ap, subst, refl, ℕ, ◌+◌, ◌≤◌, ◌<◌, ℤ, pos, true, false, cond, List, [], ◌∷◌, length, map, filter, Some, None, unwrap_or, arith, option_map, slice_get, unsigned_abs, is_eq, nat_cmp, Activity, AllByRecursion, Contents, Cusip, Day, DaySheet, Declared, Follows, Holding, IsCut, IsLimited, IsSound, Journal, Key, Listed, Paying, Row, Rows, accounts, amount_limit, and_left, and_right, closing_at, closings, cons_option, date, day_sheet, dividend, dividend_of, dividends, each_both, each_filter, each_in_order, equal, exact_bytes, find_below, find_with, found_number, history_limit, holding_at, idle_parts, in_order, is_listed, is_sorted, issues, issues_few, journal, journal_len, key_cmp, keys_total, last_close, last_date, last_dated, limited, limited_past, nat_list_cmp_total, numbers, occurs, option_map_or, payments_by, pays_before, price, price_in, prices_of, rate_limit, row, rows_for, said, same_issue, same_lists, same_sums, sheet_as_of, sheet_rows, slice_cmp, sorted_numbers, tied_itself, total, total-map, total_numbers, position, tied_below, sorted_with, AreSmallRates, account_cents_small, account_dividends_small, accounts_grew, due_few, payable, sound_last, zeros, HaveSmallAmounts, by_key, key_of, priced_row, IsPayable, cut_row, slice_get-map}
+use Rattle.cns_book.proofs.Common.{◌≡◌, ◌∙◌, sym, ap, subst, refl, ℕ, ◌+◌, ◌≤◌, ◌<◌, ℤ, pos, true, false, cond, List, [], ◌∷◌, length, map, filter, Some, None, unwrap_or, arith, option_map, slice_get, unsigned_abs, is_eq, nat_cmp, Activity, AllByRecursion, Contents, Cusip, Day, DaySheet, Declared, Follows, Holding, IsCut, IsLimited, IsSound, Journal, Key, Listed, Paying, Row, Rows, accounts, amount_limit, and_left, and_right, closing_at, closings, cons_option, date, day_sheet, dividend, dividend_of, dividends, each_both, each_filter, each_in_order, equal, exact_bytes, find_below, find_with, found_number, history_limit, holding_at, idle_parts, in_order, is_listed, is_sorted, issues, issues_few, journal, journal_len, key_cmp, keys_total, last_close, last_date, last_dated, limited, limited_past, nat_list_cmp_total, numbers, occurs, option_map_or, payments_by, pays_before, price, price_in, prices_of, rate_limit, row, rows_for, said, same_issue, same_lists, same_sums, sheet_as_of, sheet_rows, slice_cmp, sorted_numbers, tied_itself, total, total-map, total_numbers, position, tied_below, sorted_with, AreSmallRates, account_cents_small, account_dividends_small, accounts_grew, due_few, payable, sound_last, zeros, HaveSmallAmounts, by_key, key_of, priced_row, IsPayable, cut_row, slice_get-map, listed_above, none_in, numbers_in}
 use Rattle.std.specs.FinMap.{find}
 use Rattle.cns_terms.specs.Dividends.{is_due}
 use Rattle.cns_terms.specs.Sheets.{sheet_prices}
 use Rattle.cns_terms.proofs.PriceLists.{price_or_zero, sheet_price}
 use Rattle.cns_terms.proofs.SheetBounds.{closings_zero, moneys_zero, rows_few}
-use Rattle.cns_prices.specs.Listed.{listed_above}
 use Rattle.cns_sheets.specs.Condition.{held_in, rows_before, CanBePaid, IsReady}
-use Rattle.cns_sheets.proofs.Balance.{none_in, numbers_in}
 use Rattle.cns_sheets.proofs.Kept.{listed_found, prices_rise}
 use Rattle.cns_book.proofs.ClosingSteps.{whole_reached}
 use Rattle.cns_book.proofs.PartsWithin.{cents_few}

@@ -1,7 +1,6 @@
 -- The close of a day.
 -- For `close_day` of parts/closing.rt, clauses step and places.
-use Rattle.cns_book.proofs.Common.{◌≡◌, ◌∙◌, refl, ◌+◌, ◌<◌, ℤ, true, false, not, List, [], ◌∷◌, ◌++◌, filter, flat_map, map, Option, Some, None, MatchOption, arith, IfSome, int_le, int_lt, int_cmp, is_le, Activity, AllByRecursion, Contents, Day, DaySheet, Follows, HasRoom, IsAfter, IsWhole, Journal, Key, Liables, Pend, Rows, Traded, batches_since, books, changed_each, closes, closings, date, day, day_number, day_sheet, entries, history_limit, holding, holding_at, ints, is_not_after, journal, journal_len, limited, pending, posting, refusal, rolled, trade_entries, due, is_due, oldest_le, Holding, Booking, makes, expired, expired_by, suc, sym, Contains, Entry, has_row, AreElsewhere, AreApartFrom, places_of, Command}
-use Rattle.cns_terms.specs.Pending.{trades as trades_of}
+use Rattle.cns_book.proofs.Common.{◌≡◌, ◌∙◌, refl, ◌+◌, ◌<◌, ℤ, true, false, not, List, [], ◌∷◌, ◌++◌, filter, flat_map, map, Option, Some, None, MatchOption, arith, IfSome, int_le, int_lt, int_cmp, is_le, Activity, AllByRecursion, Contents, Day, DaySheet, Follows, HasRoom, IsAfter, IsWhole, Journal, Key, Liables, Pend, Rows, Traded, batches_since, books, changed_each, closes, closings, date, day, day_number, day_sheet, entries, history_limit, holding, holding_at, ints, is_not_after, journal, journal_len, limited, pending, posting, refusal, rolled, trade_entries, due, is_due, oldest_le, Holding, Booking, makes, expired, expired_by, suc, sym, Contains, Entry, has_row, AreElsewhere, AreApartFrom, places_of, Command, trades_of}
 use Rattle.cns_book.proofs.EffectEntries.{books_none}
 use Rattle.cns_book.proofs.PendingSteps.{filter-reverse, still_later, closes_le}
 use Rattle.cns_book.proofs.PartsStaying.{batches_more}

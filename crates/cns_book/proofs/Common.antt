@@ -1,11 +1,11 @@
 -- The names that most proofs of this crate cite, passed on from one place: those of proofs/Common.antt of cns_terms, its types, and this crate's words. Declares nothing.
-pub use Rattle.std.proofs.Common.{Bool, Contains, Err, HoldsAt, IfErr, IfOk, IfSome, IsErr, IsSome, List, MatchOption, None, Ok, OnOk, Option, Ordering, Result, Some, [], ap, append-nil, append_assoc, arith, bytes_eq, cond, drop, eqb, eqb-true, false, filter, filter_map, find, flat_map, get_or, get_or-set_other, inl, inr, int_cmp, int_le, int_lt, is_eq, is_le, is_none, is_some, length, length-append, map, min, mul-le-mul_right, nat_cmp, nat_lt, neg_ℤ, not, of_z, option_map, pos, refl, replicate, reverse, set, slice_get, slice_index, subst, suc, sum_by, sym, take, take_all, to_z, true, unsigned_abs, unwrap_or, w64, zero, ℕ, ℤ, ◌&&◌, ◌*◌, ◌++◌, ◌+ℤ◌, ◌+◌, ◌-◌, ◌<◌, ◌==◌, ◌^◌, ◌||◌, ◌↔◌, ◌∙◌, ◌∷◌, ◌≡◌, ◌≤◌, ◌⊎◌}
+pub use Rattle.std.proofs.Common.{Bool, Contains, Err, HoldsAt, IfErr, IfOk, IfSome, IsErr, IsSome, List, MatchOption, None, Ok, OnOk, Option, Ordering, Result, Some, [], ap, append-nil, append_assoc, arith, bytes_eq, cond, drop, eqb, eqb-true, false, filter, filter_map, find, flat_map, get_or, get_or-set_other, inl, inr, int_cmp, int_le, int_lt, is_eq, is_le, is_none, is_some, length, length-append, map, min, mul-le-mul_right, nat_cmp, nat_lt, neg_ℤ, not, of_z, option_map, pos, refl, replicate, reverse, set, slice_get, slice_index, subst, suc, sum_by, sym, take, take_all, to_z, true, unsigned_abs, unwrap_or, w64, zero, ℕ, ℤ, ◌&&◌, ◌*◌, ◌++◌, ◌+ℤ◌, ◌+◌, ◌-◌, ◌<◌, ◌==◌, ◌^◌, ◌||◌, ◌↔◌, ◌∙◌, ◌∷◌, ◌≡◌, ◌≤◌, ◌⊎◌, rules}
 pub use Rattle.std.proofs.Math.Nat.{max-zero, min-le_left, min-le_right}
-pub use Rattle.std.proofs.lemmas.List.{get_or-map, get_or-reverse, length-take}
+pub use Rattle.std.proofs.lemmas.List.{get_or-map, get_or-reverse, length-take, get_or-take}
 pub use Rattle.std.proofs.lemmas.List.Elements.{All-from_recursion, All-take, recursion_from_All}
 pub use Rattle.std.proofs.lemmas.Option.{get_or_from_slice_get, same_Some, slice_get-get_or, slice_get-map, slice_get_cases, slice_get_past, unwrap_or-slice_get}
 pub use Rattle.std.proofs.lemmas.Result.{IfOk-weaker}
-pub use Rattle.cns_actions.specs.Booked.{age_brought, entries_of, issue_of, positions_in}
+pub use Rattle.cns_actions.specs.Booked.{age_brought, entries_of, issue_of, positions_in, CanBeBooked, position_at, waits_for}
 pub use Rattle.cns_actions.specs.Bookings.{AreElsewhere, makes}
 pub use Rattle.cns_actions.specs.DueAmounts.{AreApartFrom, due_entries}
 pub use Rattle.cns_actions.specs.declared.action.Action.{Action}
@@ -14,14 +14,14 @@ pub use Rattle.cns_notices.proofs.NoticeFacts.{days_by, kept_found, live_same, n
 pub use Rattle.cns_notices.proofs.NoticeSteps.{AreNumberedFrom, live_received, numbered}
 pub use Rattle.cns_notices.proofs.Noticing.{changed_each, changed_one, changed_same, ended_by, executed_by, expired_by, notice_found, notice_more, received_by, taken_back, withdrawn_by}
 pub use Rattle.cns_notices.specs.Kept.{kept, kept_notices, received_live}
-pub use Rattle.cns_notices.specs.Noticed.{notice_at as kept_at, at_stage, ended, expired, live_number, new_notice, receives, with_notice}
+pub use Rattle.cns_notices.specs.Noticed.{notice_at as kept_at, at_stage, ended, expired, live_number, new_notice, receives, with_notice, executes as executes_more}
 pub use Rattle.cns_notices.specs.declared.noticed.Noticed.{Noticed}
 pub use Rattle.cns_positions.specs.Rows.{Rows, booked, books, has_row, holding_at, rolled, with_age, zeros}
-pub use Rattle.cns_prices.specs.Listed.{Listed, price_in, retired_in}
+pub use Rattle.cns_prices.specs.Listed.{Listed, price_in, retired_in, listed_above}
 pub use Rattle.cns_retransmit.proofs.Lefts.{none_called}
 pub use Rattle.cns_retransmit.specs.Calls.{CalledIn, CanBeChosen, batch_of, batches_of, called_in, shorts_in, total_in, with_short}
-pub use Rattle.cns_retransmit.specs.Days.{batch_in, batch_on, batches_on, charged_on}
-pub use Rattle.cns_sheets.proofs.Balance.{found_number, numbers, same_sums, sorted_numbers, total_numbers}
+pub use Rattle.cns_retransmit.specs.Days.{batch_in, batch_on, batches_on, charged_on, charged_if, charged_in}
+pub use Rattle.cns_sheets.proofs.Balance.{found_number, numbers, same_sums, sorted_numbers, total_numbers, none_in, numbers_in}
 pub use Rattle.cns_sheets.specs.Build.{HaveSmallAmounts, by_key, key_of, priced_row, prices_of}
 pub use Rattle.cns_sheets.specs.Payments.{IsCut, IsPayable, Paying, closing_at, cut_row, dividend_of, member_cash, paid, said}
 pub use Rattle.cns_terms.proofs.BatchSteps.{batch_charged, batch_new, batch_same, unfilled}
@@ -36,7 +36,7 @@ pub use Rattle.cns_terms.proofs.Sound.{IsNoticed, opening_stays, sound_last, who
 pub use Rattle.cns_terms.proofs.Valued.{sorted_with}
 pub use Rattle.cns_terms.specs.Batches.{liable_at}
 pub use Rattle.cns_terms.specs.Machine.{accepted_after, activity_reply}
-pub use Rattle.cns_terms.specs.Pending.{due, is_due}
+pub use Rattle.cns_terms.specs.Pending.{due, is_due, is_due as due_on, trades as trades_of}
 pub use Rattle.cns_terms.specs.Positions.{position}
 pub use Rattle.cns_terms.specs.Sums.{put}
 pub use Rattle.cns_terms.specs.declared.action.Declared.{Declared}
@@ -60,10 +60,13 @@ pub use Rattle.cns_terms.specs.declared.sheet.Row.{Row}
 pub use Rattle.cns_trades.specs.Checks.{AreSmallEntries, IsSmallEntry, booking, books_beyond, delivery_rules, issue_rules, party, receipt_rules, takes_beyond, trade_answer, trade_rules, waits_beyond}
 pub use Rattle.cns_trades.specs.Used.{Traded, is_used}
 pub use Rattle.cns_book.specs.Contents.{Contents}
-pub use Rattle.cns_book.specs.Dated.{IsAfter, is_dated, is_dated_by, last_dated, payments_by, sheet_as_of}
+pub use Rattle.cns_book.specs.Dated.{IsAfter, is_dated, is_dated_by, last_dated, payments_by, sheet_as_of, AreFalling, dated_sheet}
 pub use Rattle.cns_book.specs.Effects.{AreThere, AreWithin, activity_of, exchange_rules, is_held_up, place_of, places_of}
 pub use Rattle.cns_book.specs.Executions.{AreApart, CanBeBought, CanBeExecuted, CanBeFilled, IsAccepted, IsWithin, capped_short, entries_by, filled_at, fills_by, notice_of, originator_at}
 pub use Rattle.cns_book.specs.Follows.{AreMoveFacts, AreTradeFacts, Follows, FollowsBatches, FollowsDividends, FollowsListings, FollowsNotices, FollowsPending, FollowsReferences, FollowsRows, HasRoom, Steps, kept_batches, member_position}
 pub use Rattle.cns_book.specs.Replies.{AreAmong, IsAmong, Stays, reply_in, taken_in}
 pub use Rattle.cns_book.specs.Retransmittal.{call_of, called_by, is_short_in, oldest_at, remaining_by, short_at, short_in, with_shorts}
 pub use Rattle.cns_book.specs.Shown.{notice_listed}
+pub use Rattle.cns_terms.specs.Notices.{executed, notice, noticed}
+pub use Rattle.cns_terms.specs.Dividends.{declared}
+pub use Rattle.std.proofs.lemmas.List.Sorted.{IsNonDecreasingBy-push, IsPermutation-reverse, list_any-IsPermutation, sum_by-IsPermutation}

@@ -1,11 +1,9 @@
 -- An execution: its batch, what it is refused for, and what it leaves.
 -- For `check_execution` and `execute` of parts/execution.rt, clauses refused, accepted and step, and `batch` and `batches` of parts/reading.rt.
-use Rattle.cns_book.proofs.Common.{◌≡◌, ◌∙◌, ap, sym, refl, ℕ, ◌+◌, ◌-◌, ◌≤◌, Bool, false, cond, List, ◌∷◌, length, Option, Some, None, arith, ◌==◌, nat_lt, option_map, unsigned_abs, slice_get_cases, Activity, Contents, Day, ExceedsPosition, Execution, Follows, IsExecutable, IsInRange, Journal, Key, NoSuchNotice, NotLive, Notice, Noticed, Refusal, Rows, Stage, batch_on, books, capped_short, changed_one, charged_on, corporation_limit, entries_by, fills, fills_of, holding_at, is_live, journal, kept_found, notice_at, refusal, remaining_by, room, room_of, stage, with_notice, Given, NotLiable, TooEarly, kept, executed_by, zero, suc, ◌^◌, min, true, ◌||◌, [], ◌++◌, filter, find, map, reverse, slice_get, unwrap_or, Cusip, IsSound, Liable, Liables, at_close, batch, batch_in, batch_since, batches, batches_on, batches_since, bytes_eq-Decides, closings, day, each_found, issues, kept_batches, length-reverse, limited, list_any, nat_tests, option_map_or, reverse-append, same_issue, short, shorts, slice_get-map, position, none_called, Command, map-append, ◌&&◌, Fill, Posting, charged, entries, eqb_sym, executes, execution_entries, length-map, nat_list_eq_equiv, posting, batch_charged, batch_same}
-use Rattle.cns_notices.specs.Noticed.{executes as executes_more, notice_at as kept_at}
+use Rattle.cns_book.proofs.Common.{◌≡◌, ◌∙◌, ap, sym, refl, ℕ, ◌+◌, ◌-◌, ◌≤◌, Bool, false, cond, List, ◌∷◌, length, Option, Some, None, arith, ◌==◌, nat_lt, option_map, unsigned_abs, slice_get_cases, Activity, Contents, Day, ExceedsPosition, Execution, Follows, IsExecutable, IsInRange, Journal, Key, NoSuchNotice, NotLive, Notice, Noticed, Refusal, Rows, Stage, batch_on, books, capped_short, changed_one, charged_on, corporation_limit, entries_by, fills, fills_of, holding_at, is_live, journal, kept_found, notice_at, refusal, remaining_by, room, room_of, stage, with_notice, Given, NotLiable, TooEarly, kept, executed_by, zero, suc, ◌^◌, min, true, ◌||◌, [], ◌++◌, filter, find, map, reverse, slice_get, unwrap_or, Cusip, IsSound, Liable, Liables, at_close, batch, batch_in, batch_since, batches, batches_on, batches_since, bytes_eq-Decides, closings, day, each_found, issues, kept_batches, length-reverse, limited, list_any, nat_tests, option_map_or, reverse-append, same_issue, short, shorts, slice_get-map, position, none_called, Command, map-append, ◌&&◌, Fill, Posting, charged, entries, eqb_sym, executes, execution_entries, length-map, nat_list_eq_equiv, posting, batch_charged, batch_same, executes_more, kept_at, charged_if, charged_in}
 use Rattle.cns_book.proofs.RetransmittalCalls.{remaining_same}
 use Rattle.cns_book.proofs.PartsStaying.{rows_booked, in_issue, since_same}
 use Rattle.cns_book.proofs.RetransmittalSteps.{uncalled}
-use Rattle.cns_retransmit.specs.Days.{charged_if, charged_in}
 
 module _ (c : Cusip) (fs : List Fill) where
   -- one day more

@@ -1,8 +1,6 @@
 -- What an activity leaves of each group of parts, and the machine's reply and step, by whether a command is refused.
 -- For `add_member` of parts/listing.rt, `withdraw` of parts/notice.rt and every other command, clause step.
-use Rattle.cns_book.proofs.Common.{all_fail, ◌≡◌, ap, false, List, [], ◌∷◌, Some, None, Ok, is_none, Result, IsErr, arith, Activity, AllByRecursion, Command, Contents, Follows, Refusal, Reply, Rule, first_refusal, journal, refusal, activity_reply, Steps, ◌∙◌, sym, Bool, true, is_some, FollowsNotices, FollowsRows, Journal, Key, Rows, books, entries, exchanged, holding_at, is_close, posting, FollowsBatches, refl, ℕ, ◌++◌, length, map, filter, reverse, nat_lt, Cusip, Day, Liable, Liables, Posting, batch_since, batches_since, closings, day, executes, issues, kept_batches, map-append, reverse-append, batch_same}
-use Rattle.cns_terms.specs.Notices.{executed}
-use Rattle.cns_terms.specs.Dividends.{declared}
+use Rattle.cns_book.proofs.Common.{all_fail, ◌≡◌, ap, false, List, [], ◌∷◌, Some, None, Ok, is_none, Result, IsErr, arith, Activity, AllByRecursion, Command, Contents, Follows, Refusal, Reply, Rule, first_refusal, journal, refusal, activity_reply, Steps, ◌∙◌, sym, Bool, true, is_some, FollowsNotices, FollowsRows, Journal, Key, Rows, books, entries, exchanged, holding_at, is_close, posting, FollowsBatches, refl, ℕ, ◌++◌, length, map, filter, reverse, nat_lt, Cusip, Day, Liable, Liables, Posting, batch_since, batches_since, closings, day, executes, issues, kept_batches, map-append, reverse-append, batch_same, executed, declared}
 use Rattle.cns_terms.specs.declared.fault.NoMemory.{NoMemory}
 use Rattle.cns_book.proofs.EffectEntries.{holding-post}
 

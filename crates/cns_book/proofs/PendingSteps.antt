@@ -1,7 +1,6 @@
 -- Trades that wait, in the order in which they were taken.
 -- For `book_trade` of parts/trading.rt, `close_day` of parts/closing.rt, `split` and `exchange` of parts/actions.rt, clause step.
-use Rattle.cns_book.proofs.Common.{◌≡◌, sym, refl, ◌≤◌, Bool, false, not, List, [], ◌∷◌, append-nil, filter, length, reverse, Option, arith, filter_map, Account, Activity, Contents, Cusip, Day, Follows, Journal, Pend, bought_by, bought_in, filter-append, ints, is_not_after, journal_len, length-map, length-reverse, list_any, neither, reverse_onto, sold_by, sold_in, waits_in, is_due, closes}
-use Rattle.std.proofs.lemmas.List.Sorted.{sum_by-IsPermutation, IsPermutation-reverse, list_any-IsPermutation}
+use Rattle.cns_book.proofs.Common.{◌≡◌, sym, refl, ◌≤◌, Bool, false, not, List, [], ◌∷◌, append-nil, filter, length, reverse, Option, arith, filter_map, Account, Activity, Contents, Cusip, Day, Follows, Journal, Pend, bought_by, bought_in, filter-append, ints, is_not_after, journal_len, length-map, length-reverse, list_any, neither, reverse_onto, sold_by, sold_in, waits_in, is_due, closes, sum_by-IsPermutation, IsPermutation-reverse, list_any-IsPermutation}
 
 pub bought-reverse : (ps : List Pend) (a : Account) (c : Cusip) → bought_in (reverse ps) a c ≡ bought_in ps a c
 bought-reverse ps a c = sum_by-IsPermutation (bought_by a c) ps (reverse ps) (IsPermutation-reverse ps)

@@ -1,10 +1,7 @@
 -- What the notices of the open day call for.
 -- For `calls_of_day` of parts/retransmittal.rt.
-use Rattle.cns_book.proofs.Common.{◌++◌, ◌≡◌, ◌∙◌, refl, ℕ, ◌+◌, ◌-◌, ◌^◌, ◌≤◌, ◌<◌, false, cond, ◌&&◌, ◌==◌, List, [], ◌∷◌, filter, length, map, take, Some, sum_by, arith, option_map, option_map_or, get_or, Activity, AllByRecursion, CalledIn, Contents, Cusip, Follows, ForSome, HasRoom, IsNonDecreasingBy, Journal, Notice, Noticed, Rows, bytes_eq-Decides, called, called_by, called_in, day, days_by, each_map, journal, nat_tests, notices, remaining, remaining_by, same_issue, shares_limit, shorts_in, sum_by-cons, total_in, min-le_left, slice_get-get_or, Given, None, bytes_refl, ◌⊎◌, length-take, new_notice, live_received, kept, call_of, map-append, All-from_recursion, kept_at}
-use Rattle.std.proofs.lemmas.List.{get_or-take}
-use Rattle.std.proofs.lemmas.List.Sorted.{IsNonDecreasingBy-push}
+use Rattle.cns_book.proofs.Common.{◌++◌, ◌≡◌, ◌∙◌, refl, ℕ, ◌+◌, ◌-◌, ◌^◌, ◌≤◌, ◌<◌, false, cond, ◌&&◌, ◌==◌, List, [], ◌∷◌, filter, length, map, take, Some, sum_by, arith, option_map, option_map_or, get_or, Activity, AllByRecursion, CalledIn, Contents, Cusip, Follows, ForSome, HasRoom, IsNonDecreasingBy, Journal, Notice, Noticed, Rows, bytes_eq-Decides, called, called_by, called_in, day, days_by, each_map, journal, nat_tests, notices, remaining, remaining_by, same_issue, shares_limit, shorts_in, sum_by-cons, total_in, min-le_left, slice_get-get_or, Given, None, bytes_refl, ◌⊎◌, length-take, new_notice, live_received, kept, call_of, map-append, All-from_recursion, kept_at, get_or-take, IsNonDecreasingBy-push, notice, noticed}
 use Rattle.std.proofs.lemmas.List.Sums.{sum_by-le, sum_by_more}
-use Rattle.cns_terms.specs.Notices.{notice, noticed}
 use Rattle.cns_book.proofs.PartsWithin.{given_few, last_day, notices_fit}
 
 -- no notice is of a day before that of an earlier one

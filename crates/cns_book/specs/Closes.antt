@@ -1,10 +1,7 @@
 -- The law of what a close tells, over any list of commands.
 use Rattle.std.specs.Prelude.{ℕ, ◌≡◌, List, length, sum_by}
-use Rattle.cns_book.specs.Common.{Day, Liables, State, after, answer, batches, journal_of, next, opened, Command}
-use Rattle.cns_terms.specs.declared.command.Activity.TheVariants as activity
-use Rattle.cns_terms.specs.declared.command.Command.TheVariants as command
+use Rattle.cns_book.specs.Common.{Day, Liables, State, after, answer, batches, journal_of, next, opened, Command, Activity, Reply}
 use Rattle.cns_terms.specs.declared.reply.Closed.{Closed}
-use Rattle.cns_terms.specs.declared.reply.Reply.TheVariants as reply
 use Rattle.cns_terms.specs.Sheets.{sheet_at}
 
 -- how many members batches have
@@ -21,5 +18,5 @@ pub record TellsDay (S : State) (c : Closed) : Type 0 where
 abbrev pub CloseCounts : Type 0
 CloseCounts = (opening : Day) (cmds more : List Command) (d : Day) (c : Closed) →
     let S = after (opened opening) cmds in
-    let close = command.Activity (activity.Close d) in
-    answer S close ≡ reply.Closed c → TellsDay (after (next S close) more) c
+    let close = Command.Activity (Activity.Close d) in
+    answer S close ≡ Reply.Closed c → TellsDay (after (next S close) more) c

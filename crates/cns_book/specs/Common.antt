@@ -1,5 +1,5 @@
 -- The names that most definitions cite, passed on from one place. Declares nothing.
-pub use Rattle.cns_notices.specs.Noticed.{remaining_of}
+pub use Rattle.cns_notices.specs.Noticed.{remaining_of, notice_at as kept_at}
 pub use Rattle.cns_notices.specs.declared.noticed.Noticed.{Noticed}
 pub use Rattle.cns_positions.specs.Rows.{Rows, has_row, holding_at}
 pub use Rattle.cns_prices.specs.Listed.{Listed, price_in, retired_in}

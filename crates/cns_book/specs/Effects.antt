@@ -2,11 +2,9 @@
 use Rattle.std.specs.Prelude.{◌≡◌, ◌≤◌, true, ◌*◌, Bool, not, ◌&&◌, ◌||◌, List, [], ◌∷◌, map, unsigned_abs}
 use Rattle.cns_book.specs.Common.{AllByRecursion, Day, Journal, Rule, booking_limit, corporation_limit, history_limit, is_listed, is_retired, pending, same_issue, Activity, Entry, Key, Rows, has_row, holding_at}
 use Rattle.cns_terms.specs.declared.action.Exchange.{Exchange}
-use Rattle.cns_terms.specs.declared.command.Activity.TheVariants as activity
 use Rattle.cns_terms.specs.declared.refusal.Refusal.TheVariants.{NoSuchIssue, Retired, SameIssue}
 use Rattle.cns_actions.specs.declared.action.Action.{Action}
 use Rattle.cns_actions.specs.Booked.{waits_for}
-use Rattle.cns_actions.specs.declared.action.Action.TheVariants as action
 
 -- where an entry is booked
 abbrev pub place_of : Entry → Key
@@ -27,8 +25,8 @@ pub record AreWithin (rows : Rows) : Type 0 where
 
 -- the activity that a split or an exchange is
 abbrev pub activity_of : Action → Activity
-activity_of (action.Split s) = activity.Split s
-activity_of (action.Exchange x) = activity.Exchange x
+activity_of (Action.Split s) = Activity.Split s
+activity_of (Action.Exchange x) = Activity.Exchange x
 
 -- whether trades that wait hold it up: an issue with such trades is not exchanged
 abbrev pub is_held_up : Day → Journal → Action → Bool

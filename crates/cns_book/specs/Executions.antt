@@ -1,12 +1,9 @@
 -- What an execution is booked by.
 use Rattle.std.specs.Prelude.{◌≡◌, ℕ, ◌-◌, ◌*◌, ◌^◌, ◌≤◌, min, pos, int_lt, true, false, ◌==◌, List, [], ◌∷◌, length, map, None, Some, option_map, unsigned_abs}
-use Rattle.cns_book.specs.Common.{AllByRecursion, Cusip, IsInRange, Journal, Member, Notice, booking_limit, corporation_limit, fill_entry, fills, history_limit, journal, money_limit, notice_at, option_map_or, originator_entry, refusal, shares_limit, short, Activity, Entry, Holding, Key, Rows, holding_at}
+use Rattle.cns_book.specs.Common.{AllByRecursion, Cusip, IsInRange, Journal, Member, Notice, booking_limit, corporation_limit, fill_entry, fills, history_limit, journal, money_limit, notice_at, option_map_or, originator_entry, refusal, shares_limit, short, Activity, Entry, Holding, Key, Rows, holding_at, Command, kept_at}
 use Rattle.cns_terms.specs.declared.buy_in.Execution.{Execution}
 use Rattle.cns_terms.specs.declared.buy_in.Fill.{Fill}
 use Rattle.cns_terms.specs.declared.buy_in.Given.{Given}
-use Rattle.cns_terms.specs.declared.command.Activity.TheVariants as activity
-use Rattle.cns_terms.specs.declared.command.Command.TheVariants as command
-use Rattle.cns_notices.specs.Noticed.{notice_at as kept_at}
 use Rattle.cns_book.specs.Contents.{Contents}
 use Rattle.cns_book.specs.Follows.{Follows}
 
@@ -63,7 +60,7 @@ fills_by J x = option_map_or (fills J x) (notice_at J x.notice) []
 
 -- an execution is accepted, and names a notice as it was given
 pub record IsAccepted (s : Contents) (x : Execution) (g : Given) : Type 0 where
-  pub range : IsInRange (activity.Execute x)
+  pub range : IsInRange (Activity.Execute x)
   pub named : (1 ≤ x.notice) × (x.notice ≤ length s.notices)
   pub there : Some g ≡ option_map (λ y. y.given) (kept_at s.notices x.notice)
-  pub accepted : (L : List Activity) → Follows L s → refusal s.opening (journal s.opening L) (command.Activity (activity.Execute x)) ≡ None
+  pub accepted : (L : List Activity) → Follows L s → refusal s.opening (journal s.opening L) (Command.Activity (Activity.Execute x)) ≡ None

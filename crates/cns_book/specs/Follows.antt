@@ -2,9 +2,7 @@
 use Rattle.std.specs.Prelude.{◌≡◌, ℕ, ℤ, ◌+◌, ◌≤◌, ◌<◌, Bool, true, false, List, map, length, reverse, Option, Some, None, Result, Ok, Err, if◌then◌else◌}
 use Rattle.cns_book.specs.Common.{Cusip, Day, IsReached, Journal, Liables, Member, answer_to, batches_since, closes, closings, corporation, date, day_sheet, dividends, history_limit, holding, in_order, is_listed, is_member, is_retired, is_seen, journal, pays_before, pending, price, refusal, Activity, Command, NoMemory, Key, Refusal, Reply, holding_at, price_in, retired_in, is_used}
 use Rattle.cns_terms.specs.declared.command.Movement.{Movement}
-use Rattle.cns_terms.specs.declared.command.Activity.TheVariants as activity
 use Rattle.cns_terms.specs.declared.command.Trade.{Trade}
-use Rattle.cns_terms.specs.declared.command.Command.TheVariants as command
 use Rattle.cns_terms.specs.Machine.{accepted_after}
 use Rattle.cns_terms.specs.Positions.{position}
 use Rattle.cns_notices.specs.Kept.{kept_notices}
@@ -95,12 +93,12 @@ Answers old cmd r new = (L : List Activity) → Follows L old → Steps L cmd r 
 
 -- whether a command may need more memory than its entry in the history does
 abbrev pub may_grow : Command → Bool
-may_grow (command.Activity (activity.Price l)) = false
-may_grow (command.Activity (activity.Receive m)) = false
-may_grow (command.Activity (activity.Withdraw k)) = false
-may_grow (command.Activity _) = true
-may_grow (command.Position k) = false
-may_grow (command.Statement a d) = false
+may_grow (Command.Activity (Activity.Price l)) = false
+may_grow (Command.Activity (Activity.Receive m)) = false
+may_grow (Command.Activity (Activity.Withdraw k)) = false
+may_grow (Command.Activity _) = true
+may_grow (Command.Position k) = false
+may_grow (Command.Statement a d) = false
 
 -- a member's position, where the account is a member's
 abbrev pub member_position : Journal → Member → Cusip → Option ℤ

@@ -2,7 +2,6 @@
 use Rattle.std.specs.Prelude.{◌≡◌, ◌<◌, ℕ, List, Option, Some, None, length, map, slice_get, unwrap_or}
 use Rattle.cns_book.specs.Common.{Taken, Reply}
 use Rattle.std.specs.List.{AllByRecursion}
-use Rattle.cns_terms.specs.declared.reply.Reply.TheVariants as reply
 use Rattle.cns_book.specs.declared.history.Brief.{Brief}
 
 -- what contracts see of a history: its entries, the oldest first, and for how many more it has room
@@ -12,8 +11,8 @@ pub record HistoryView : Type 0 where
 
 -- the reply at a place among others; 'accepted' where there is no place
 abbrev pub reply_in : List Reply → Option ℕ → Reply
-reply_in rs None = reply.Accepted
-reply_in rs (Some k) = unwrap_or (slice_get rs k) reply.Accepted
+reply_in rs None = Reply.Accepted
+reply_in rs (Some k) = unwrap_or (slice_get rs k) Reply.Accepted
 
 -- an entry with its reply
 abbrev pub taken_in : List Reply → Brief → Taken

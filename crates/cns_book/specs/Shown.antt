@@ -1,7 +1,6 @@
 -- What the reading calls of a book show.
 use Rattle.std.specs.Prelude.{ℕ, suc, zero, List, Option, Some, None, is_none, option_map, slice_get, reverse, if◌then◌else◌}
-use Rattle.cns_book.specs.Common.{Cusip, Day, Journal, Liables, Price, State, batches, holding, is_listed, journal, notice_at, price, refusal, remaining, stage, Taken, Holding, Key}
-use Rattle.cns_terms.specs.declared.command.Command.TheVariants as command
+use Rattle.cns_book.specs.Common.{Cusip, Day, Journal, Liables, Price, State, batches, holding, is_listed, journal, notice_at, price, refusal, remaining, stage, Taken, Holding, Key, Command}
 use Rattle.cns_terms.specs.Notices.{Notice as Listed}
 use Rattle.cns_retransmit.specs.Days.{batch_in}
 use Rattle.cns_book.specs.declared.notice.Notice.{Notice}
@@ -9,7 +8,7 @@ use Rattle.cns_book.specs.declared.notice.Notice.{Notice}
 -- what stands at a key, where a POSITION is not refused
 abbrev pub position_listed : Day → Journal → Key → Option Holding
 position_listed opening J k =
-    if is_none (refusal opening J (command.Position k)) then Some (holding J k.account k.issue) else None
+    if is_none (refusal opening J (Command.Position k)) then Some (holding J k.account k.issue) else None
 
 -- the same of a state
 abbrev pub position_shown : State → Key → Option Holding

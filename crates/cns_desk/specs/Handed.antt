@@ -2,7 +2,6 @@
 use Rattle.std.specs.Prelude.{◌≡◌, true, Option, Some, None}
 use Rattle.cns_terms.specs.Common.{Day, DaySheet, is_same_day, statement}
 use Rattle.cns_terms.specs.declared.reply.Reply.{Reply}
-use Rattle.cns_terms.specs.declared.reply.Reply.TheVariants as reply
 use Rattle.cns_terms.specs.declared.reply.Stated.{Stated}
 
 -- the sheet has the date, and the reply tells of its rows of the corporation
@@ -14,5 +13,5 @@ pub record IsStated (date : Day) (s : Stated) (o : Option DaySheet) : Type 0 whe
 
 -- a sheet is handed out exactly where the reply is Stated
 abbrev pub Hands : Day → Reply → Option DaySheet → Type 0
-Hands date (reply.Stated s) o = IsStated date s o
+Hands date (Reply.Stated s) o = IsStated date s o
 Hands date _ o = o ≡ None

@@ -2,7 +2,6 @@
 use Rattle.std.specs.Prelude.{◌≡◌, ℕ, ◌+◌, ◌-◌, ◌<◌, ◌≤◌, ◌⊎◌, List, length, Option, Some, None, option_map, slice_get, slice_index_or, ⊤}
 use Rattle.cns_terms.specs.Common.{DaySheet, arc_value, count, journal_of, sheet_on}
 use Rattle.cns_terms.specs.declared.command.Command.{Command}
-use Rattle.cns_terms.specs.declared.command.Command.TheVariants as command
 use Rattle.cns_terms.specs.declared.worker.Worker.{Worker}
 use Rattle.cns_book.specs.Log.{Log, state_of}
 use Rattle.cns_book.specs.Shown.{entry_at}
@@ -13,9 +12,9 @@ use Rattle.cns_desk.specs.declared.log.LogItem.{LogItem}
 -- a sheet that was kept is the book's, of the day that the command states; no sheet fits anywhere
 abbrev pub SheetFits : Log → Command → Option DaySheet → Type 0
 SheetFits b cmd None = ⊤
-SheetFits b (command.Statement a d) (Some s) = sheet_on b.opening (journal_of (state_of b)) d ≡ Some s
-SheetFits b (command.Activity x) (Some s) = ⊥
-SheetFits b (command.Position k) (Some s) = ⊥
+SheetFits b (Command.Statement a d) (Some s) = sheet_on b.opening (journal_of (state_of b)) d ≡ Some s
+SheetFits b (Command.Activity x) (Some s) = ⊥
+SheetFits b (Command.Position k) (Some s) = ⊥
 
 -- an item is what the history has at the worker's place j, from 1
 pub record Fits (b : Log) (w : Worker) (j : ℕ) (i : LogItem) : Type 0 where

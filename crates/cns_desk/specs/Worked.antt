@@ -2,16 +2,13 @@
 use Rattle.std.specs.Prelude.{◌≡◌, ℕ, ◌+◌, ◌-◌, ◌<◌, ◌^◌, ◌⊎◌, Bool, true, List, [], ◌∷◌, ◌++◌, length, map, Option, Some, None, Ok, Err, ⊤, IfSome}
 use Rattle.cns_terms.specs.Common.{AllByRecursion, Told}
 use Rattle.cns_terms.specs.declared.command.Command.{Command}
-use Rattle.cns_terms.specs.declared.source.Item.TheVariants as item
-use Rattle.cns_terms.specs.declared.source.SourceFault.TheVariants as fault
+use Rattle.cns_terms.specs.declared.source.Item.{Item}
+use Rattle.cns_terms.specs.declared.source.SourceFault.{SourceFault}
 use Rattle.cns_terms.specs.Sources.{GivesFirst}
 use Rattle.cns_desk.specs.Logged.{Logged}
 use Rattle.cns_desk.specs.declared.end.End.{End}
-use Rattle.cns_desk.specs.declared.end.End.TheVariants as ended
 use Rattle.cns_desk.specs.declared.fault.OpenFault.{OpenFault}
-use Rattle.cns_desk.specs.declared.fault.OpenFault.TheVariants as opening
 use Rattle.cns_desk.specs.declared.fault.RunFault.{RunFault}
-use Rattle.cns_desk.specs.declared.fault.RunFault.TheVariants as faults
 use Rattle.cns_desk.specs.declared.log.LogItem.{LogItem}
 
 -- the commands among what a source gave, in order
@@ -47,20 +44,20 @@ StaysLogged old new = (new.items ≡ old.items) × (new.lines ≡ old.lines)
 
 -- an end for lack of memory, or at the limit of the history
 abbrev pub EndsAtSubmit : End → Type 0
-EndsAtSubmit ended.Complete = ⊥
-EndsAtSubmit (ended.Source f) = ⊥
-EndsAtSubmit ended.NoMemory = ⊤
-EndsAtSubmit ended.Full = ⊤
+EndsAtSubmit End.Complete = ⊥
+EndsAtSubmit (End.Source f) = ⊥
+EndsAtSubmit End.NoMemory = ⊤
+EndsAtSubmit End.Full = ⊤
 
 -- ---- what a worker makes of a source that tells; the first argument says whether the source may fail
 
 -- the source was at the end that the worker met
 abbrev pub MetEnd : Bool → Told → End → Type 0
-MetEnd fails t ended.Complete = (t.items ≡ []) × (t.end ≡ Ok item.Finished)
-MetEnd fails t (ended.Source fault.Read) = (fails ≡ true) ⊎ ((t.items ≡ []) × (t.end ≡ Err fault.Read))
-MetEnd fails t (ended.Source fault.NoMemory) = ⊤
-MetEnd fails t ended.NoMemory = ⊤
-MetEnd fails t ended.Full = ⊤
+MetEnd fails t End.Complete = (t.items ≡ []) × (t.end ≡ Ok Item.Finished)
+MetEnd fails t (End.Source SourceFault.Read) = (fails ≡ true) ⊎ ((t.items ≡ []) × (t.end ≡ Err SourceFault.Read))
+MetEnd fails t (End.Source SourceFault.NoMemory) = ⊤
+MetEnd fails t End.NoMemory = ⊤
+MetEnd fails t End.Full = ⊤
 
 -- one record: it was the first of what is left, and is in the log; or the worker ended
 abbrev pub Steps : Bool → Told → Option End → Option Told → Logged → Logged → Type 0
@@ -69,11 +66,11 @@ Steps fails t (Some e) now old new = StaysLogged old new × MetEnd fails t e
 
 -- what the end says of what was left: nothing, where the worker met the end of its source before the most records were read
 abbrev pub LeftAt : Bool → Told → List (Option Command) → List (Option Command) → End → Type 0
-LeftAt fails t given rest ended.Complete = (rest ≡ []) × (t.end ≡ Ok item.Finished)
-LeftAt fails t given rest (ended.Source fault.Read) = length given < 2 ^ 32 - 1 → (fails ≡ true) ⊎ ((rest ≡ []) × (t.end ≡ Err fault.Read))
-LeftAt fails t given rest (ended.Source fault.NoMemory) = ⊤
-LeftAt fails t given rest ended.NoMemory = ⊤
-LeftAt fails t given rest ended.Full = ⊤
+LeftAt fails t given rest End.Complete = (rest ≡ []) × (t.end ≡ Ok Item.Finished)
+LeftAt fails t given rest (End.Source SourceFault.Read) = length given < 2 ^ 32 - 1 → (fails ≡ true) ⊎ ((rest ≡ []) × (t.end ≡ Err SourceFault.Read))
+LeftAt fails t given rest (End.Source SourceFault.NoMemory) = ⊤
+LeftAt fails t given rest End.NoMemory = ⊤
+LeftAt fails t given rest End.Full = ⊤
 
 -- a worker's log and end: the log is that of what was given up to where the worker ended
 pub record Worked (fails : Bool) (t : Told) (log : Logged) (end : End) : Type 0 where
@@ -96,12 +93,12 @@ HaveRun fails told (s ∷ ss) (l ∷ ls) [] = ⊥
 
 -- a fault of a run that was begun
 abbrev pub IsLate : RunFault → Type 0
-IsLate faults.Workers = ⊥
-IsLate faults.Spawn = ⊤
-IsLate faults.NoMemory = ⊤
-IsLate faults.Mismatch = ⊤
+IsLate RunFault.Workers = ⊥
+IsLate RunFault.Spawn = ⊤
+IsLate RunFault.NoMemory = ⊤
+IsLate RunFault.Mismatch = ⊤
 
 -- what it is to a run that a desk was not opened
 abbrev pub run_fault_of : OpenFault → RunFault
-run_fault_of opening.Workers = faults.Workers
-run_fault_of opening.NoMemory = faults.NoMemory
+run_fault_of OpenFault.Workers = RunFault.Workers
+run_fault_of OpenFault.NoMemory = RunFault.NoMemory

@@ -5,7 +5,6 @@ use Rattle.cns_book.specs.Log.{Log, state_of}
 use Rattle.cns_feed.specs.Output.{Adds, line_text, lines_of, no_counts, response_of, responses, state_after, state_after_line, texts}
 use Rattle.cns_feed.specs.Replay.{log_after}
 use Rattle.cns_feed.specs.declared.response.Response.{Response}
-use Rattle.cns_feed.specs.declared.fault.ReplayFault.TheVariants as fault
 use Rattle.cns_feed.specs.declared.summary.Summary.{Summary}
 
 -- ---- lines after lines
@@ -85,8 +84,6 @@ pub text-more : (k m : Log) (a b : Summary) (old mid new : Option (List ℕ)) (x
     → Takes k m a b x → Appends old mid (texts (state_of k) x) → Appends mid new (texts (state_of m) y) → Appends old new (texts (state_of k) (x ++ y))
 text-more k m a b old mid new x y p one two =
     rw (texts-append (state_of k) x y) (Appends-trans old mid new _ _ one (subst (λ S. Appends mid new (texts S y)) (taken_state k m a b x p) two))
-
--- ---- room
 
 -- the room that is left after a line
 pub room-line : (k more : Log) (l : Line) (n : ℕ) → more ≡ log_after_line k l → HasRoomFor k (n + 1) → HasRoomFor more n
@@ -191,12 +188,10 @@ along-between rem rs first now s e old mid new turns all Why why kept p = (
 )
 
 -- after all lines were answered, at a writer that could not be flushed
-pub stops-end : (old mid new : Option (List ℕ)) (S : State) (ls : List Line) → Appends old mid (texts S ls) → Keeps mid new → Stops fault.Write old new S ls
+pub stops-end : (old mid new : Option (List ℕ)) (S : State) (ls : List Line) → Appends old mid (texts S ls) → Keeps mid new → Stops ReplayFault.Write old new S ls
 stops-end old mid new S ls text kept = record { answered = ls; waiting = None; unread = []; whole = sym (append-nil ls); mid = mid; written = text; leaves = kept }
 
--- ---- before the first read
-
 -- out of memory, whatever the input is
-pub stops-unread : (old : Option (List ℕ)) (S : State) (known : Option (List ℕ)) → IfSome known (λ input. Stops fault.NoMemory old old S (lines_of input))
+pub stops-unread : (old : Option (List ℕ)) (S : State) (known : Option (List ℕ)) → IfSome known (λ input. Stops ReplayFault.NoMemory old old S (lines_of input))
 stops-unread old S None = tt
 stops-unread old S (Some input) = record { answered = []; waiting = None; unread = lines_of input; whole = refl; mid = old; written = text-none S old old (Keeps-refl old); leaves = Keeps-refl old }

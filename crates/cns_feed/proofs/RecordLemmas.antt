@@ -12,8 +12,6 @@ use Rattle.csv.proofs.ReadFacts.{rows-more}
 pick : {A : Type 0} (P : A → Type 0) (b : Bool) (x y : A) → (b ≡ true → P x) → (b ≡ false → P y) → P (if b then x else y)
 pick P b x y h k = grind arith
 
--- ---- the state after a record ends no record at the end of a text
-
 abbrev IsClean : State × Action → Type 0
 IsClean p = is_end p.1 ≡ true → ends_at_end p.0 ≡ false
 
@@ -77,8 +75,6 @@ next_line rem a b fields line is setup r all p =
 pub no_line : {R : Type 0} (rem : R → Option (List ℕ)) (a b : Reader R) (fields : Record)
     → Setup a → ReadRecord rem a b false fields → (all : List Line) → Left rem a all → all ≡ []
 no_line rem a b fields setup r all p = grind (arith, no_record)
-
--- ---- a read that failed
 
 -- a reader that ended reading did so whatever was read
 pub ends-any : {R : Type 0} (e : ReplayFault) (rs : Records R) (Most : Type 0) → EndsReading e rs ⊥ → EndsReading e rs Most

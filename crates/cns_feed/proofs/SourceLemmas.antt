@@ -3,7 +3,7 @@
 use Rattle.cns_feed.proofs.Common.{◌≡◌, ℕ, zero, suc, ◌+◌, ◌-◌, ◌<◌, true, List, [], ◌∷◌, length, map, Option, Some, None, IfSome, Ok, Err, refl, arith, nat_lt, nat_tests, default_config, reader_state, records_from, Line, line_of, Gives, IsReady, Pending, GivesItem, ReadsItem, end_of, given_of, lines_left, told_at, told_of, Records}
 use Rattle.cns_terms.specs.Sources.{Answer, Gives as GivesAnswer, GivesEnd, GivesFirst}
 use Rattle.cns_terms.specs.declared.command.Command.{Command}
-use Rattle.cns_terms.specs.declared.source.Item.TheVariants as item
+use Rattle.cns_terms.specs.declared.source.Item.{Item}
 
 -- the lines of bytes that are left
 abbrev lines_in : {R : Type 0} → Records R → List ℕ → List Line
@@ -48,7 +48,7 @@ gives_item rem a b left x (Some all) more (line, rest, whole, given, others) = r
 
 -- no item was left
 gives_end : (left : ℕ) (old : Option (List Line)) → 0 < left → IfSome old (λ all. all ≡ [])
-    → IfSome (told_at None left old) (λ t. GivesEnd t (Ok item.Finished) (Some (record { items = []; end = Ok item.Finished })))
+    → IfSome (told_at None left old) (λ t. GivesEnd t (Ok Item.Finished) (Some (record { items = []; end = Ok Item.Finished })))
 gives_end left None more gives = tt
 gives_end zero (Some all) more gives = absurd (omega (arith, more))
 gives_end (suc n) (Some all) more gives = let least : nat_lt 0 (suc n) ≡ true = grind (arith, nat_tests) in rw (gives, least) (refl, refl, refl)
@@ -56,7 +56,7 @@ gives_end (suc n) (Some all) more gives = let least : nat_lt 0 (suc n) ≡ true 
 -- what a source gives that has not ended
 pub gives_told : {R : Type 0} (rem : R → Option (List ℕ)) (a b : Records R) (left : ℕ) (x : Answer)
     → ReadsItem rem left a b x → GivesAnswer true (told_at None left (lines_left rem a)) x (told_at (end_of x) (left - 1) (lines_left rem b))
-gives_told rem a b left (Ok (item.Given cmd)) read = gives_item rem a b left (Some cmd) (lines_left rem a) read.0 read.2
-gives_told rem a b left (Ok item.Line) read = gives_item rem a b left None (lines_left rem a) read.0 read.2
-gives_told rem a b left (Ok item.Finished) read = gives_end left (lines_left rem a) read.0 read.1
+gives_told rem a b left (Ok (Item.Given cmd)) read = gives_item rem a b left (Some cmd) (lines_left rem a) read.0 read.2
+gives_told rem a b left (Ok Item.Line) read = gives_item rem a b left None (lines_left rem a) read.0 read.2
+gives_told rem a b left (Ok Item.Finished) read = gives_end left (lines_left rem a) read.0 read.1
 gives_told rem a b left (Err f) read = grind arith

@@ -1,3 +1,4 @@
+pub mod Common
 pub mod Digits
 pub mod Line
 pub mod Text

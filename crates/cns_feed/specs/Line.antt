@@ -1,20 +1,13 @@
 -- The command that a record is, or its first fault.
 use Rattle.std.specs.Prelude.{ℕ, ◌-◌, ◌^◌, ◌==◌, if◌then◌else◌, List, [], length, codes, unwrap_or, Result, Ok, Err, bytes_eq}
-use Rattle.cns_terms.specs.Common.{Account, Cusip, Day, Member, Price, Rate, Ratio, UnitFault}
+use Rattle.cns_feed.specs.Common.{Account, Cusip, Day, Member, Price, Rate, Ratio, UnitFault, Activity, day_of, ratio_of, Command, LineFault}
 use Rattle.csv.specs.Records.{field_at}
 use Rattle.cns_units.specs.Cusip.{cusip_of}
-use Rattle.cns_units.specs.Day.{day_of}
-use Rattle.cns_units.specs.Ranges.{ratio_of}
 use Rattle.cns_units.specs.declared.money.Money.{Money}
 use Rattle.cns_units.specs.declared.shares.Shares.{Shares}
-use Rattle.cns_terms.specs.declared.command.Command.{Command}
 use Rattle.cns_terms.specs.declared.command.Listing.{Listing}
 use Rattle.cns_terms.specs.declared.command.Movement.{Movement}
 use Rattle.cns_feed.specs.Digits.{in_range, number_in}
-use Rattle.cns_feed.specs.declared.fault.LineFault.{LineFault}
-use Rattle.cns_terms.specs.declared.command.Activity.TheVariants as activity
-use Rattle.cns_terms.specs.declared.command.Command.TheVariants as command
-use Rattle.cns_feed.specs.declared.fault.LineFault.TheVariants as fault
 
 -- a record: its fields, each a list of bytes
 abbrev pub Record : Type 0
@@ -73,7 +66,7 @@ part_at fields i = number_in 1 (10 ^ 4) (field fields i)
 -- a text that is no CUSIP is a fault of its own
 abbrev pub or_cusip_fault : Result Cusip UnitFault → Result Cusip LineFault
 or_cusip_fault (Ok c) = Ok c
-or_cusip_fault (Err e) = Err fault.Cusip
+or_cusip_fault (Err e) = Err LineFault.Cusip
 
 -- the CUSIP
 abbrev pub cusip_at : Record → ℕ → Result Cusip LineFault
@@ -82,7 +75,7 @@ cusip_at fields i = or_cusip_fault (cusip_of (field fields i))
 -- a text that is no date is a fault of its own
 abbrev pub or_date_fault : Result Day UnitFault → Result Day LineFault
 or_date_fault (Ok d) = Ok d
-or_date_fault (Err e) = Err fault.Date
+or_date_fault (Err e) = Err LineFault.Date
 
 -- the date
 abbrev pub date_at : Record → ℕ → Result Day LineFault
@@ -97,13 +90,13 @@ ratio_at fields i j = do
 
 -- what is read of a record with so many fields, the kind among them
 abbrev pub counted : {A : Type 0} → ℕ → Record → Result A LineFault → Result A LineFault
-counted n fields read = if length fields == n then read else Err fault.Count
+counted n fields read = if length fields == n then read else Err LineFault.Count
 
 -- MEMBER: a member
 unfoldable pub member_line : Record → Line
 member_line fields = counted 2 fields (do
   member ← member_at fields 1
-  Ok (command.Activity (activity.Member member)))
+  Ok (Command.Activity (Activity.Member member)))
 
 -- an issue and a price
 unfoldable pub listing_at : Record → Result Listing LineFault
@@ -116,13 +109,13 @@ listing_at fields = counted 3 fields (do
 unfoldable pub issue_line : Record → Line
 issue_line fields = do
   listing ← listing_at fields
-  Ok (command.Activity (activity.Issue listing))
+  Ok (Command.Activity (Activity.Issue listing))
 
 -- PRICE: an issue and its new price
 unfoldable pub price_line : Record → Line
 price_line fields = do
   listing ← listing_at fields
-  Ok (command.Activity (activity.Price listing))
+  Ok (Command.Activity (Activity.Price listing))
 
 -- TRADE: the reference, the buyer, the seller, the issue, the shares, the money and the settlement date
 unfoldable pub trade_line : Record → Line
@@ -134,7 +127,7 @@ trade_line fields = counted 8 fields (do
   shares ← shares_at fields 5
   money ← money_at fields 6
   date ← date_at fields 7
-  Ok (command.Activity (activity.Trade (record { reference = reference; money = money; shares = shares; buyer = buyer; seller = seller; date = date; issue = issue }))))
+  Ok (Command.Activity (Activity.Trade (record { reference = reference; money = money; shares = shares; buyer = buyer; seller = seller; date = date; issue = issue }))))
 
 -- a member, an issue and the shares that move, or that it means to buy in
 unfoldable pub movement_at : Record → Result Movement LineFault
@@ -148,13 +141,13 @@ movement_at fields = counted 4 fields (do
 unfoldable pub deliver_line : Record → Line
 deliver_line fields = do
   movement ← movement_at fields
-  Ok (command.Activity (activity.Deliver movement))
+  Ok (Command.Activity (Activity.Deliver movement))
 
 -- RECEIVE: what a member receives
 unfoldable pub receive_line : Record → Line
 receive_line fields = do
   movement ← movement_at fields
-  Ok (command.Activity (activity.Receive movement))
+  Ok (Command.Activity (Activity.Receive movement))
 
 -- DIVIDEND: the issue, the record date, the payable date and the rate
 unfoldable pub dividend_line : Record → Line
@@ -163,7 +156,7 @@ dividend_line fields = counted 5 fields (do
   recorded ← date_at fields 2
   payable ← date_at fields 3
   rate ← rate_at fields 4
-  Ok (command.Activity (activity.Dividend (record { issue = issue; recorded = recorded; payable = payable; rate = rate }))))
+  Ok (Command.Activity (Activity.Dividend (record { issue = issue; recorded = recorded; payable = payable; rate = rate }))))
 
 -- SPLIT: the issue, the new shares, the old ones, and the cents in lieu of a new share
 unfoldable pub split_line : Record → Line
@@ -171,7 +164,7 @@ split_line fields = counted 5 fields (do
   issue ← cusip_at fields 1
   ratio ← ratio_at fields 2 3
   lieu ← price_at fields 4
-  Ok (command.Activity (activity.Split (record { issue = issue; ratio = ratio; lieu = lieu }))))
+  Ok (Command.Activity (Activity.Split (record { issue = issue; ratio = ratio; lieu = lieu }))))
 
 -- EXCHANGE: the old issue, the successor, the new shares, the old ones, the cents in lieu of a new share, and the cash for
 -- an old one
@@ -182,19 +175,19 @@ exchange_line fields = counted 7 fields (do
   ratio ← ratio_at fields 3 4
   lieu ← price_at fields 5
   cash ← price_at fields 6
-  Ok (command.Activity (activity.Exchange (record { old = old; successor = successor; ratio = ratio; lieu = lieu; cash = cash }))))
+  Ok (Command.Activity (Activity.Exchange (record { old = old; successor = successor; ratio = ratio; lieu = lieu; cash = cash }))))
 
 -- NOTICE: what a member means to buy in
 unfoldable pub notice_line : Record → Line
 notice_line fields = do
   movement ← movement_at fields
-  Ok (command.Activity (activity.Notice movement))
+  Ok (Command.Activity (Activity.Notice movement))
 
 -- WITHDRAW: a notice's number
 unfoldable pub withdraw_line : Record → Line
 withdraw_line fields = counted 2 fields (do
   notice ← notice_at fields 1
-  Ok (command.Activity (activity.Withdraw notice)))
+  Ok (Command.Activity (Activity.Withdraw notice)))
 
 -- EXECUTE: a notice's number, the shares that were bought in, and their money
 unfoldable pub execute_line : Record → Line
@@ -202,27 +195,27 @@ execute_line fields = counted 4 fields (do
   notice ← notice_at fields 1
   shares ← shares_at fields 2
   money ← money_at fields 3
-  Ok (command.Activity (activity.Execute (record { notice = notice; shares = shares; money = money }))))
+  Ok (Command.Activity (Activity.Execute (record { notice = notice; shares = shares; money = money }))))
 
 -- CLOSE: the next date
 unfoldable pub close_line : Record → Line
 close_line fields = counted 2 fields (do
   date ← date_at fields 1
-  Ok (command.Activity (activity.Close date)))
+  Ok (Command.Activity (Activity.Close date)))
 
 -- POSITION: an account and an issue
 unfoldable pub position_line : Record → Line
 position_line fields = counted 3 fields (do
   account ← account_at fields 1
   issue ← cusip_at fields 2
-  Ok (command.Position (record { account = account; issue = issue })))
+  Ok (Command.Position (record { account = account; issue = issue })))
 
 -- STATEMENT: an account and a closed day's date
 unfoldable pub statement_line : Record → Line
 statement_line fields = counted 3 fields (do
   account ← account_at fields 1
   date ← date_at fields 2
-  Ok (command.Statement account date))
+  Ok (Command.Statement account date))
 
 -- the command of a record by its kind, or the first fault: the kind, the count of fields, the fields from left to right
 unfoldable pub line_of : Record → Line
@@ -243,4 +236,4 @@ line_of fields =
     else if bytes_eq kind (codes "CLOSE") then close_line fields
     else if bytes_eq kind (codes "POSITION") then position_line fields
     else if bytes_eq kind (codes "STATEMENT") then statement_line fields
-    else Err fault.Kind
+    else Err LineFault.Kind

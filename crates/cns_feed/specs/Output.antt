@@ -1,18 +1,12 @@
 -- What a replay makes of lines: their responses and the text that is written.
 use Rattle.std.specs.Prelude.{◌≡◌, ℕ, ◌+◌, Bool, true, false, count_by, map, List, [], ◌∷◌, ◌++◌, Ok, Err}
-use Rattle.cns_terms.specs.Common.{Day, State, answer, batches, journal_of, next, opened, rows_for}
-use Rattle.csv.specs.Reading.{records, default_config, strip_bom}
-use Rattle.cns_terms.specs.declared.reply.Reply.{Reply}
-use Rattle.cns_terms.specs.declared.reply.Reply.TheVariants as reply
+use Rattle.cns_feed.specs.Common.{Day, State, answer, batches, journal_of, next, opened, rows_for, records, default_config, strip_bom, Reply, rows_text, Summary}
 use Rattle.cns_terms.specs.declared.reply.Stated.{Stated}
 use Rattle.cns_terms.specs.declared.sheet.Row.{Row}
 use Rattle.cns_terms.specs.Sheets.{sheet_named}
-use Rattle.cns_statements.specs.Texts.{rows_text}
 use Rattle.cns_feed.specs.Line.{Line, line_of}
 use Rattle.cns_feed.specs.Text.{batches_text, reply_line, fault_line}
 use Rattle.cns_feed.specs.declared.response.Response.{Response}
-use Rattle.cns_feed.specs.declared.summary.Summary.{Summary}
-use Rattle.cns_feed.specs.declared.response.Response.TheVariants as response
 
 -- the lines of an input, after a byte order mark where there is one
 abbrev pub lines_of : List ℕ → List Line
@@ -20,8 +14,8 @@ lines_of input = map line_of (records default_config (strip_bom input))
 
 -- what a line comes to in a state
 abbrev pub response_of : State → Line → Response
-response_of S (Ok cmd) = response.Replied (answer S cmd)
-response_of S (Err f) = response.AtFault f
+response_of S (Ok cmd) = Response.Replied (answer S cmd)
+response_of S (Err f) = Response.AtFault f
 
 -- the state after a line; an invalid one changes nothing
 abbrev pub state_after_line : State → Line → State
@@ -35,14 +29,14 @@ rows_stated S s = rows_for (sheet_named S.opening (journal_of S) s.date).rows s.
 -- what follows the first line of a reply, in the state after it: the liable members of the day that a close ended, or a
 -- statement's rows
 abbrev pub rest_text : State → Reply → List ℕ
-rest_text S (reply.Closed c) = batches_text (batches (journal_of S) c.day)
-rest_text S (reply.Stated s) = rows_text (rows_stated S s)
+rest_text S (Reply.Closed c) = batches_text (batches (journal_of S) c.day)
+rest_text S (Reply.Stated s) = rows_text (rows_stated S s)
 rest_text S _ = []
 
 -- what is written for an response, in the state after it
 abbrev pub response_text : State → Response → List ℕ
-response_text S (response.Replied r) = reply_line r ++ rest_text S r
-response_text S (response.AtFault f) = fault_line f
+response_text S (Response.Replied r) = reply_line r ++ rest_text S r
+response_text S (Response.AtFault f) = fault_line f
 
 -- what is written for a line in a state
 abbrev pub line_text : State → Line → List ℕ
@@ -69,23 +63,23 @@ output opening input = texts (opened opening) (lines_of input)
 
 -- whether a record was a command
 abbrev pub is_command : Response → Bool
-is_command (response.Replied r) = true
-is_command (response.AtFault f) = false
+is_command (Response.Replied r) = true
+is_command (Response.AtFault f) = false
 
 -- whether a record was invalid
 abbrev pub is_at_fault : Response → Bool
-is_at_fault (response.Replied r) = false
-is_at_fault (response.AtFault f) = true
+is_at_fault (Response.Replied r) = false
+is_at_fault (Response.AtFault f) = true
 
 -- whether a reply is that of an accepted close
 abbrev pub is_closed : Reply → Bool
-is_closed (reply.Closed c) = true
+is_closed (Reply.Closed c) = true
 is_closed _ = false
 
 -- whether a record was a close that was accepted
 abbrev pub is_accepted_close : Response → Bool
-is_accepted_close (response.Replied r) = is_closed r
-is_accepted_close (response.AtFault f) = false
+is_accepted_close (Response.Replied r) = is_closed r
+is_accepted_close (Response.AtFault f) = false
 
 -- a summary with responses added: how many were commands, invalid, and accepted closes
 pub record Adds (old new : Summary) (os : List Response) : Type 0 where

@@ -1,16 +1,11 @@
 -- The lines that a reader of records has left, and what a read takes of them.
 use Rattle.std.specs.Prelude.{◌≡◌, ℕ, ◌+◌, ◌⊎◌, true, false, length, map, List, [], ◌∷◌, Option, Some, None, Result, Ok, Err}
-use Rattle.csv.specs.Machine.{ends_at_end}
-use Rattle.csv.specs.Reading.{Ready, default_config, has_failed, is_flexible, reader_config, reader_state, reader_trim, records_from, source_of}
+use Rattle.cns_feed.specs.Common.{ends_at_end, Ready, default_config, has_failed, is_flexible, reader_config, reader_state, reader_trim, records_from, source_of, ReplayFault, Records}
 use Rattle.csv.specs.declared.error.ErrorKind.{ErrorKind}
-use Rattle.csv.specs.declared.error.ErrorKind.TheVariants as kind
 use Rattle.csv.specs.declared.reader.Reader.{Reader}
-use Rattle.csv.specs.declared.reader.Trim.TheVariants as trim
+use Rattle.csv.specs.declared.reader.Trim.{Trim}
 use Rattle.cns_feed.specs.Line.{Line, line_of}
-use Rattle.cns_feed.specs.declared.fault.ReplayFault.{ReplayFault}
-use Rattle.cns_feed.specs.declared.fault.ReplayFault.TheVariants as fault
 use Rattle.cns_feed.specs.declared.counting.CountingReader.{CountingReader}
-use Rattle.cns_feed.specs.declared.records.Records.{Records}
 
 -- the bytes that are left of the reader underneath
 abbrev pub remaining_under : {R : Type 0} → (R → Option (List ℕ)) → CountingReader R → Option (List ℕ)
@@ -18,7 +13,7 @@ remaining_under rem g = rem g.reader
 
 -- how the reader reads: each record as it is, with any number of fields
 pub record Setup {R : Type 0} (rdr : Reader R) : Type 0 where
-  pub no_trim : reader_trim rdr ≡ trim.None
+  pub no_trim : reader_trim rdr ≡ Trim.None
   pub ready : Ready rdr
   pub config : reader_config rdr ≡ default_config
   pub flexible : is_flexible rdr ≡ true
@@ -40,19 +35,19 @@ IsReady rs = Setup rs.rows
 
 -- what an error of the reader is to a replay
 abbrev pub fault_of : ErrorKind → ReplayFault
-fault_of (kind.Io e) = fault.Read
-fault_of kind.OutOfMemory = fault.NoMemory
-fault_of (kind.UnequalLengths pos expected len) = fault.Read
-fault_of (kind.Utf8 pos err) = fault.Read
-fault_of (kind.Serialize text) = fault.Read
-fault_of (kind.Deserialize pos err) = fault.Read
+fault_of (ErrorKind.Io e) = ReplayFault.Read
+fault_of ErrorKind.OutOfMemory = ReplayFault.NoMemory
+fault_of (ErrorKind.UnequalLengths pos expected len) = ReplayFault.Read
+fault_of (ErrorKind.Utf8 pos err) = ReplayFault.Read
+fault_of (ErrorKind.Serialize text) = ReplayFault.Read
+fault_of (ErrorKind.Deserialize pos err) = ReplayFault.Read
 
 -- why no more is read: the reader failed, or was refused memory; or the most records were read, as the last argument says
 abbrev pub EndsReading : {R : Type 0} → ReplayFault → Records R → Type 0 → Type 0
-EndsReading fault.Read rs Most = (has_failed rs.rows ≡ true) ⊎ Most
-EndsReading fault.NoMemory rs Most = has_failed rs.rows ≡ true
-EndsReading fault.Write rs Most = ⊥
-EndsReading fault.Full rs Most = ⊥
+EndsReading ReplayFault.Read rs Most = (has_failed rs.rows ≡ true) ⊎ Most
+EndsReading ReplayFault.NoMemory rs Most = has_failed rs.rows ≡ true
+EndsReading ReplayFault.Write rs Most = ⊥
+EndsReading ReplayFault.Full rs Most = ⊥
 
 -- a read took this line, and the others are left
 abbrev pub Gives : {R : Type 0} → (R → Option (List ℕ)) → Records R → Records R → Line → Type 0

@@ -1,27 +1,22 @@
 -- What a replay does to its book, and where it stops.
 use Rattle.std.specs.Prelude.{◌≡◌, ℕ, ◌+◌, ◌-◌, ◌^◌, ◌≤◌, List, [], ◌∷◌, ◌++◌, length, Option, Some, None, Ok, Err, option_to_list}
-use Rattle.cns_terms.specs.Common.{Appends, AppendsFront, Day, Keeps, State, answer, count, opened}
-use Rattle.cns_terms.specs.declared.command.Command.{Command}
+use Rattle.cns_feed.specs.Common.{Appends, AppendsFront, Day, Keeps, State, answer, count, opened, Command, ReplayFault, Summary}
 use Rattle.cns_book.specs.Log.{Log, empty_log, state_of, with_taken}
 use Rattle.cns_book.specs.declared.receipt.TakeFault.{TakeFault}
-use Rattle.cns_book.specs.declared.receipt.TakeFault.TheVariants as taking
 use Rattle.cns_feed.specs.Line.{Line}
 use Rattle.cns_feed.specs.Output.{line_text, lines_of, state_after, texts}
-use Rattle.cns_feed.specs.declared.fault.ReplayFault.{ReplayFault}
-use Rattle.cns_feed.specs.declared.summary.Summary.{Summary}
-use Rattle.cns_feed.specs.declared.fault.ReplayFault.TheVariants as fault
 
 -- what it is to a replay that a command was not taken
 abbrev pub fault_of_take : TakeFault → ReplayFault
-fault_of_take taking.Full = fault.Full
-fault_of_take taking.NoMemory = fault.NoMemory
+fault_of_take TakeFault.Full = ReplayFault.Full
+fault_of_take TakeFault.NoMemory = ReplayFault.NoMemory
 
 -- what a fault at a record leaves of its text: a front that is not all of it, or nothing; no other fault comes at a record
 abbrev pub LeavesAt : ReplayFault → Option (List ℕ) → Option (List ℕ) → List ℕ → Type 0
-LeavesAt fault.Write old new text = AppendsFront old new text
-LeavesAt fault.NoMemory old new text = Keeps old new
-LeavesAt fault.Read old new text = ⊥
-LeavesAt fault.Full old new text = ⊥
+LeavesAt ReplayFault.Write old new text = AppendsFront old new text
+LeavesAt ReplayFault.NoMemory old new text = Keeps old new
+LeavesAt ReplayFault.Read old new text = ⊥
+LeavesAt ReplayFault.Full old new text = ⊥
 
 -- what a fault leaves of the record that waits for its reply, in the state before it; nothing where none waits
 abbrev pub Leaves : ReplayFault → Option (List ℕ) → Option (List ℕ) → State → Option Line → Type 0

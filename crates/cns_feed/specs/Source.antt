@@ -1,29 +1,24 @@
 -- What a source over the records of a reader tells, and when it reads no more.
 use Rattle.std.specs.Prelude.{◌≡◌, ◌⊎◌, ℕ, ◌+◌, ◌<◌, Bool, true, nat_lt, if◌then◌else◌, length, map, take, List, [], ◌∷◌, Option, Some, None, IfSome, option_map, Ok, Err, ⊤}
-use Rattle.cns_terms.specs.Common.{Told}
-use Rattle.csv.specs.Machine.{ends_at_end}
-use Rattle.csv.specs.Reading.{default_config, has_failed, reader_state, records_from, source_of}
+use Rattle.cns_feed.specs.Common.{Told, ends_at_end, default_config, has_failed, reader_state, records_from, source_of, Command, Records}
 use Rattle.cns_terms.specs.Sources.{Answer}
-use Rattle.cns_terms.specs.declared.source.Item.TheVariants as item
-use Rattle.cns_terms.specs.declared.source.SourceFault.TheVariants as fault
-use Rattle.cns_terms.specs.declared.command.Command.{Command}
+use Rattle.cns_terms.specs.declared.source.Item.{Item}
+use Rattle.cns_terms.specs.declared.source.SourceFault.{SourceFault}
 use Rattle.cns_feed.specs.Line.{Line, line_of}
 use Rattle.cns_feed.specs.Records.{IsReady, remaining_under}
-use Rattle.cns_feed.specs.declared.records.Records.{Records}
 use Rattle.cns_feed.specs.declared.source.SourceEnd.{SourceEnd}
-use Rattle.cns_feed.specs.declared.source.SourceEnd.TheVariants as end
 
 -- the answer of a source that has ended
 abbrev pub answer_of : SourceEnd → Answer
-answer_of end.Finished = Ok item.Finished
-answer_of (end.Fault f) = Err f
+answer_of SourceEnd.Finished = Ok Item.Finished
+answer_of (SourceEnd.Fault f) = Err f
 
 -- the end that an answer is, if it is one
 abbrev pub end_of : Answer → Option SourceEnd
-end_of (Ok (item.Given c)) = None
-end_of (Ok item.Line) = None
-end_of (Ok item.Finished) = Some end.Finished
-end_of (Err f) = Some (end.Fault f)
+end_of (Ok (Item.Given c)) = None
+end_of (Ok Item.Line) = None
+end_of (Ok Item.Finished) = Some SourceEnd.Finished
+end_of (Err f) = Some (SourceEnd.Fault f)
 
 -- a source: what it tells, its end, how many records it may still read, and whether the reader underneath failed or was
 -- refused memory
@@ -42,7 +37,7 @@ given_of (Err f) = None
 abbrev pub told_of : ℕ → List Line → Told
 told_of most lines = record {
   items = map given_of (take most lines);
-  end = if nat_lt (length lines) most then Ok item.Finished else Err fault.Read;
+  end = if nat_lt (length lines) most then Ok Item.Finished else Err SourceFault.Read;
 }
 
 -- the lines that a reader of records has left, where the bytes are known
@@ -63,12 +58,12 @@ told_at None most lines = option_map (told_of most) lines
 
 -- Read comes where the reader underneath failed, or as many records were read as may be
 abbrev pub FailsRead : Telling → Answer → Telling → Type 0
-FailsRead old a new = old.ended ≡ None → a ≡ Err fault.Read → (new.failed ≡ true) ⊎ (old.left ≡ 0)
+FailsRead old a new = old.ended ≡ None → a ≡ Err SourceFault.Read → (new.failed ≡ true) ⊎ (old.left ≡ 0)
 
 -- what the read of an item came to, of which at most so many are read
 abbrev pub ReadsItem : {R : Type 0} → (R → Option (List ℕ)) → ℕ → Records R → Records R → Answer → Type 0
-ReadsItem rem left old new (Ok (item.Given c)) = GivesItem rem left old new (Some c)
-ReadsItem rem left old new (Ok item.Line) = GivesItem rem left old new None
-ReadsItem rem left old new (Ok item.Finished) = (0 < left) × IfSome (lines_left rem old) (λ all. all ≡ [])
-ReadsItem rem left old new (Err fault.Read) = (has_failed new.rows ≡ true) ⊎ (left ≡ 0)
-ReadsItem rem left old new (Err fault.NoMemory) = ⊤
+ReadsItem rem left old new (Ok (Item.Given c)) = GivesItem rem left old new (Some c)
+ReadsItem rem left old new (Ok Item.Line) = GivesItem rem left old new None
+ReadsItem rem left old new (Ok Item.Finished) = (0 < left) × IfSome (lines_left rem old) (λ all. all ≡ [])
+ReadsItem rem left old new (Err SourceFault.Read) = (has_failed new.rows ≡ true) ⊎ (left ≡ 0)
+ReadsItem rem left old new (Err SourceFault.NoMemory) = ⊤

@@ -1,19 +1,12 @@
 -- The texts of replies and of invalid records.
 use Rattle.std.specs.Prelude.{ℕ, ◌∷◌, [], List, codes, decimal, flat_map}
-use Rattle.cns_terms.specs.Common.{Cusip, Liables, cents_text, text_line}
+use Rattle.cns_feed.specs.Common.{Cusip, Liables, cents_text, text_line, day_text, Reply, stated_line, LineFault}
 use Rattle.std.specs.Fmt.{signed_decimal}
-use Rattle.cns_units.specs.Day.{day_text}
 use Rattle.cns_terms.specs.Numbers.{refusal_number}
 use Rattle.cns_terms.specs.declared.buy_in.Liable.{Liable}
 use Rattle.cns_terms.specs.declared.refusal.Refusal.{Refusal}
 use Rattle.cns_terms.specs.declared.reply.Closed.{Closed}
 use Rattle.cns_terms.specs.declared.reply.Held.{Held}
-use Rattle.cns_terms.specs.declared.reply.Reply.{Reply}
-use Rattle.cns_terms.specs.declared.refusal.Refusal.TheVariants as refusal
-use Rattle.cns_statements.specs.Texts.{stated_line}
-use Rattle.cns_feed.specs.declared.fault.LineFault.{LineFault}
-use Rattle.cns_terms.specs.declared.reply.Reply.TheVariants as reply
-use Rattle.cns_feed.specs.declared.fault.LineFault.TheVariants as fault
 
 -- `notice NUMBER`
 abbrev pub noticed_line : ℕ → List ℕ
@@ -34,8 +27,8 @@ held_line h =
 
 -- what is written after a refusal's number: the live notice's number, or the room
 abbrev pub refusal_detail : Refusal → List (List ℕ)
-refusal_detail (refusal.AlreadyNoticed notice) = decimal notice ∷ []
-refusal_detail (refusal.NotLiable room) = decimal room ∷ []
+refusal_detail (Refusal.AlreadyNoticed notice) = decimal notice ∷ []
+refusal_detail (Refusal.NotLiable room) = decimal room ∷ []
 refusal_detail _ = []
 
 -- `refused NUMBER`, and the detail where there is one
@@ -44,13 +37,13 @@ refused_line r = text_line (codes "refused") (decimal (refusal_number r) ∷ ref
 
 -- the first line of a reply
 abbrev pub reply_line : Reply → List ℕ
-reply_line reply.Accepted = text_line (codes "ok") []
-reply_line (reply.Noticed n) = noticed_line n
-reply_line (reply.Executed n) = executed_line n
-reply_line (reply.Closed c) = closed_line c
-reply_line (reply.Held h) = held_line h
-reply_line (reply.Stated s) = stated_line s
-reply_line (reply.Refused r) = refused_line r
+reply_line Reply.Accepted = text_line (codes "ok") []
+reply_line (Reply.Noticed n) = noticed_line n
+reply_line (Reply.Executed n) = executed_line n
+reply_line (Reply.Closed c) = closed_line c
+reply_line (Reply.Held h) = held_line h
+reply_line (Reply.Stated s) = stated_line s
+reply_line (Reply.Refused r) = refused_line r
 
 -- `liable CUSIP MEMBER SHARES AGE` of a member that is liable in an issue: its short at the close, and the age of that short
 abbrev pub liable_line : Cusip → Liable → List ℕ
@@ -66,13 +59,13 @@ batches_text bs = flat_map batch_text bs
 
 -- the name of a line fault
 abbrev pub fault_name : LineFault → List ℕ
-fault_name fault.Kind = codes "Kind"
-fault_name fault.Count = codes "Count"
-fault_name fault.Number = codes "Number"
-fault_name fault.Date = codes "Date"
-fault_name fault.Cusip = codes "Cusip"
-fault_name fault.Range = codes "Range"
-fault_name fault.NoMemory = codes "NoMemory"
+fault_name LineFault.Kind = codes "Kind"
+fault_name LineFault.Count = codes "Count"
+fault_name LineFault.Number = codes "Number"
+fault_name LineFault.Date = codes "Date"
+fault_name LineFault.Cusip = codes "Cusip"
+fault_name LineFault.Range = codes "Range"
+fault_name LineFault.NoMemory = codes "NoMemory"
 
 -- `line KIND` of an invalid record
 abbrev pub fault_line : LineFault → List ℕ

@@ -3,7 +3,6 @@ pub use Rattle.std.proofs.Common.{All, Bool, Err, List, None, Ok, Option, Some, 
 pub use Rattle.std.specs.List.{cons_option, flat_map}
 pub use Rattle.cns_book.specs.Log.{state_of}
 pub use Rattle.cns_sheets.specs.Search.{prices_above}
-pub use Rattle.cns_tables.proofs.Written.{after}
 pub use Rattle.cns_terms.specs.Common.{Account, AllByRecursion, Cusip, Day, IsReached, Journal, Price, State, amount_limit, answer, closings, corporation_limit, date, history_limit, holding, journal, journal_of, next, opened, refusal, total}
 pub use Rattle.cns_terms.specs.declared.command.Activity.{Activity}
 pub use Rattle.cns_terms.specs.declared.holding.Holding.{Holding}

@@ -2,7 +2,7 @@
 -- For `standing` of told.rt.
 use Rattle.cns_history.proofs.Common.{◌≤◌, ◌<◌, zero, suc, Bool, true, false, List, [], ◌∷◌, Some, None, length, is_none, slice_get, unsigned_abs, unwrap_or, cond, arith, Account, AllByRecursion, Cusip, Day, IsReached, Journal, State, amount_limit, closings, corporation_limit, history_limit, holding, journal, journal_of, refusal, Activity, Holding, Key, standing}
 use Rattle.cns_terms.specs.Positions.{position}
-use Rattle.cns_terms.specs.declared.command.Command.TheVariants as command
+use Rattle.cns_terms.specs.declared.command.Command.{Command}
 use Rattle.cns_terms.proofs.Amounts.{amounts}
 use Rattle.cns_terms.proofs.Reached.{IsLimited, bounded, bounds, limited_past}
 use Rattle.cns_positions.specs.Rows.{zeros}
@@ -26,7 +26,7 @@ pub record IsSmall (h : Holding) : Type 0 where
   pub cents : unsigned_abs h.contract ≤ amount_limit
 
 pub standing_small : (S : State) (k : Key) → IsReached S.opening S.accepted → length S.accepted < history_limit → IsSmall (standing S k)
-standing_small S k reached few = branch (is_none (refusal S.opening (journal_of S) (command.Position k)))
+standing_small S k reached few = branch (is_none (refusal S.opening (journal_of S) (Command.Position k)))
   where
     branch : (b : Bool) → IsSmall (unwrap_or (cond b (Some (holding (journal_of S) k.account k.issue)) None) zeros)
     branch true = record {

@@ -1,3 +1,4 @@
+pub mod Common
 pub mod Lines
 pub mod Small
 pub mod Words

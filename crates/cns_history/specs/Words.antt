@@ -1,40 +1,35 @@
 -- What booked, in the field's words.
-use Rattle.std.specs.Prelude.{ℕ, List, [], ◌∷◌, ◌++◌, ◌==◌, if◌then◌else◌}
-use Rattle.std.specs.Fmt.{decimal}
-use Rattle.cns_terms.specs.Common.{Account, Member, Ratio}
+use Rattle.std.specs.Prelude.{ℕ, List, [], ◌∷◌, ◌==◌, if◌then◌else◌}
+use Rattle.cns_history.specs.Common.{decimal, Account, Member, Ratio, Activity, escaped, filled}
 use Rattle.cns_terms.specs.declared.action.Exchange.{Exchange}
-use Rattle.cns_terms.specs.declared.command.Activity.{Activity}
-use Rattle.cns_terms.specs.declared.command.Activity.TheVariants as activity
 use Rattle.cns_terms.specs.declared.command.Trade.{Trade}
-use Rattle.cns_tables.specs.Escape.{escaped}
-use Rattle.cns_tables.specs.Tables.{texts}
-use Rattle.cns_history.specs.declared.words.TheConstants.{BOUGHT, BUY_IN, DELIVERED, DUE, EXCHANGE, EXCHANGE_FOR, NEW, OLD, RATIO_OF, RECEIVED, SOLD, SPLIT, TRADE}
+use Rattle.cns_history.specs.declared.words.TheConstants.{BOUGHT, BUY_IN, DELIVERED, DUE, EXCHANGE, RECEIVED, SOLD, SPLIT}
 
 -- a trade, as an account sees it
 abbrev pub trade_text : Account → Trade → List ℕ
 trade_text a t =
-    if t.buyer == a then texts (TRADE.now ∷ decimal t.reference ∷ BOUGHT.now ∷ decimal t.seller ∷ [])
-    else texts (TRADE.now ∷ decimal t.reference ∷ SOLD.now ∷ decimal t.buyer ∷ [])
+    if t.buyer == a then filled BOUGHT.now (decimal t.reference ∷ decimal t.seller ∷ [])
+    else filled SOLD.now (decimal t.reference ∷ decimal t.buyer ∷ [])
 
--- some words and a member
+-- a movement of a member
 abbrev pub party_text : List ℕ → Member → List ℕ
-party_text words m = texts (words ∷ decimal m ∷ [])
+party_text form m = filled form (decimal m ∷ [])
 
 -- so many new shares for so many old ones
-abbrev pub ratio_text : Ratio → List ℕ
-ratio_text r = texts (decimal r.new ∷ NEW.now ∷ decimal r.old ∷ OLD.now ∷ [])
+abbrev pub split_text : Ratio → List ℕ
+split_text r = filled SPLIT.now (decimal r.new ∷ decimal r.old ∷ [])
 
 -- an exchange: the issues and the ratio
 abbrev pub exchange_text : Exchange → List ℕ
-exchange_text x = texts (EXCHANGE.now ∷ escaped x.old ∷ EXCHANGE_FOR.now ∷ escaped x.successor ∷ RATIO_OF.now ∷ []) ++ ratio_text x.ratio
+exchange_text x = filled EXCHANGE.now (escaped x.old ∷ escaped x.successor ∷ decimal x.ratio.new ∷ decimal x.ratio.old ∷ [])
 
 -- an activity, for an account at whose place it booked
 abbrev pub what_text : Account → Activity → List ℕ
-what_text a (activity.Trade t) = trade_text a t
-what_text a (activity.Deliver m) = party_text DELIVERED.now m.member
-what_text a (activity.Receive m) = party_text RECEIVED.now m.member
-what_text a (activity.Split s) = SPLIT.now ++ ratio_text s.ratio
-what_text a (activity.Exchange x) = exchange_text x
-what_text a (activity.Execute x) = texts (BUY_IN.now ∷ decimal x.notice ∷ [])
-what_text a (activity.Close d) = DUE.now
+what_text a (Activity.Trade t) = trade_text a t
+what_text a (Activity.Deliver m) = party_text DELIVERED.now m.member
+what_text a (Activity.Receive m) = party_text RECEIVED.now m.member
+what_text a (Activity.Split s) = split_text s.ratio
+what_text a (Activity.Exchange x) = exchange_text x
+what_text a (Activity.Execute x) = filled BUY_IN.now (decimal x.notice ∷ [])
+what_text a (Activity.Close d) = DUE.now
 what_text a _ = []

@@ -11,7 +11,7 @@ use crate::place::Place;
 use crate::table::HISTORY;
 use cns_feed::ReplayBook;
 use cns_shell::Fault;
-use cns_tables::{Piece, Table, hand_on, page_style, write_pieces, write_table};
+use cns_tables::{Piece, START, Table, hand_on, page_style, write_form, write_table};
 use cns_terms::Key;
 use cns_units::{Day, WriteFault};
 use std::io::Write;
@@ -27,49 +27,29 @@ pub struct Told<'a> {
     pub lines: &'a [HistoryLine],
 }
 
-// The words of the head and of the foot.
-const START: &str = "<!DOCTYPE html>
-<html lang=en>
-<meta charset=utf-8>
-<meta name=viewport content=\"width=device-width, initial-scale=1\">
-<title>History of account ";
-
-const IN: &str = " in ";
-
-const TITLE_END: &str = "</title>\n";
-
-const HEADING: &str = "<style>
+// The head: start, account, issue, style, account, issue, the date on which the book opened, the last record and the position.
+const HEAD: &str = "_History of account _ in _</title>
+_<style>
 [aria-labelledby=history] td:nth-child(3) { text-align: left; }
 [aria-labelledby=history] .close > * { background: var(--sum); font-weight: 600; }
 </style>
 <a class=skip href=#main>Skip to the history</a>
 <header>
-<h1>History of account ";
-
-const OPENED: &str = "</h1>
-<p>A book that opened on ";
-
-const RECORDS: &str = ", from its first record to record ";
-
-const POSITION: &str = ". The position after it: ";
-
-const HEAD_END: &str = " (shares).</p>
+<h1>History of account _ in _</h1>
+<p>A book that opened on _, from its first record to record _. The position after it: _ (shares).</p>
 </header>
 <main id=main>
 ";
 
+// The foot: the opening date, the day if there is one, and account and issue.
 const FOOT: &str = "</main>
 <footer>
 <p>This line makes the page again, from the same records:</p>
-<pre tabindex=0><code>cnspage --open ";
+<pre tabindex=0><code>cnspage --open _";
 
-const DAY_OPTION: &str = " --day ";
+const DAY_OPTION: &str = " --day _";
 
-const ACCOUNT_OPTION: &str = " --account ";
-
-const ISSUE_OPTION: &str = " --issue ";
-
-const FOOT_END: &str = " &lt; records &gt; history.html</code></pre>
+const FOOT_END: &str = " --account _ --issue _ &lt; records &gt; history.html</code></pre>
 </footer>
 </html>
 ";
@@ -87,23 +67,15 @@ fn write_head<W: Write>(
     let pieces = [
         Piece::Markup(START),
         Piece::Number(account),
-        Piece::Markup(IN),
         Piece::Issue(place.key.issue),
-        Piece::Markup(TITLE_END),
         Piece::Markup(page_style()),
-        Piece::Markup(HEADING),
         Piece::Number(account),
-        Piece::Markup(IN),
         Piece::Issue(place.key.issue),
-        Piece::Markup(OPENED),
         Piece::Date(place.opening),
-        Piece::Markup(RECORDS),
         Piece::Number(records),
-        Piece::Markup(POSITION),
         Piece::Position(position),
-        Piece::Markup(HEAD_END),
     ];
-    write_pieces(&pieces, writer)
+    write_form(HEAD, &pieces, writer)
 }
 
 // Writes the option for the closed day, where one is asked for.
@@ -111,26 +83,23 @@ fn write_day_option<W: Write>(day: Option<Day>, writer: &mut W) -> Result<(), Wr
     ensures { OnOk result (Appends (W.contents writer.old) (W.contents writer.new) (day_option day)) }
 {
     match day {
-        Some(day) => write_pieces(&[Piece::Markup(DAY_OPTION), Piece::Date(day)], writer),
+        Some(day) => write_form(DAY_OPTION, &[Piece::Date(day)], writer),
         None => Ok(()),
     }
 }
 
 // Writes the line that makes the page again, and the end of the page.
-#[tactic(auto, unfolding(crate::specs::Page::foot_text))]
+#[tactic(auto, unfolding(crate::specs::Page::foot_text), using(cns_tables::proofs::Written::after))]
 fn write_foot<W: Write>(place: &Place, writer: &mut W) -> Result<(), WriteFault>
     ensures { OnOk result (Appends (W.contents writer.old) (W.contents writer.new) (foot_text place.now)) }
 {
-    let options = [
-        Piece::Markup(ACCOUNT_OPTION),
+    let pieces = [
         Piece::Number(u64::from(place.key.account.value())),
-        Piece::Markup(ISSUE_OPTION),
         Piece::Issue(place.key.issue),
-        Piece::Markup(FOOT_END),
     ];
-    write_pieces(&[Piece::Markup(FOOT), Piece::Date(place.opening)], writer)?;
+    write_form(FOOT, &[Piece::Date(place.opening)], writer)?;
     write_day_option(place.day, writer)?;
-    write_pieces(&options, writer)
+    write_form(FOOT_END, &pieces, writer)
 }
 
 // The position at a key now, in shares; None where a POSITION would be refused.

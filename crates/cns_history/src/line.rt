@@ -1,10 +1,10 @@
 // The lines of a history.
 ghost use Rattle.std.specs.Prelude.{◌≡◌, OnOk};
 ghost use Rattle.std.specs.Io.KnownBytes.{Appends};
-ghost use Rattle.cns_history.specs.Texts.{begin_text, booking_text, close_begin, close_figures, closing_text, figures_text, worth};
+ghost use Rattle.cns_history.specs.Texts.{begin_text, booking_text, closing_text, figures_text, worth};
 
 use crate::words::write_what;
-use cns_tables::{CELL, Piece, ROW, TableRow, cents_of, write_pieces};
+use cns_tables::{Piece, TableRow, cents_of, write_form};
 use cns_terms::{Activity, Row};
 use cns_units::{Account, Cents, Cusip, Day, WriteFault};
 use std::io::Write;
@@ -51,18 +51,15 @@ pub enum HistoryLine {
     Closing(Closing),
 }
 
-// What stands before the row of a close.
-const CLOSE: &str = "<tr class=close><th scope=row>";
+// The row of what a record booked: its number and date before what it was, and after it shares, cents, position and money. A close
+// alone has the other cells.
+const BEGIN: &str = "<tr><th scope=row>_<td>_<td>";
 
-const CLOSE_OF: &str = "Close of day ";
+const FIGURES: &str = "<td>_<td>_<td>_<td>_<td><td><td><td><td>\n";
 
-// Cells that a close alone has, and the end of the row.
-const NO_CLOSE: &str = "<td><td><td><td><td>\n";
-
-// No shares and no money, since a close's own line books none.
-const NOTHING: &str = "<td><td><td>";
-
-const END: &str = "\n";
+// The row of a close, which has no shares and no money of its own.
+const CLOSE: &str =
+    "<tr class=close><th scope=row>_<td>_<td>Close of day _<td><td><td>_<td>_<td>_<td>_<td>_<td>_<td>_\n";
 
 /// What a position is worth at the close's price, in cents.
 #[tactic(auto, unfolding(crate::specs::Texts::worth))]
@@ -77,14 +74,8 @@ pub fn worth(row: &Row) -> Cents
 fn write_begin<W: Write>(booking: &Booking, writer: &mut W) -> Result<(), WriteFault>
     ensures { OnOk result (Appends (W.contents writer.old) (W.contents writer.new) (begin_text booking.now)) }
 {
-    let pieces = [
-        Piece::Markup(ROW),
-        Piece::Number(booking.number),
-        Piece::Markup(CELL),
-        Piece::Date(booking.date),
-        Piece::Markup(CELL),
-    ];
-    write_pieces(&pieces, writer)
+    let pieces = [Piece::Number(booking.number), Piece::Date(booking.date)];
+    write_form(BEGIN, &pieces, writer)
 }
 
 // Writes shares, cents, position and money.
@@ -93,17 +84,12 @@ fn write_figures<W: Write>(booking: &Booking, writer: &mut W) -> Result<(), Writ
     ensures { OnOk result (Appends (W.contents writer.old) (W.contents writer.new) (figures_text booking.now)) }
 {
     let pieces = [
-        Piece::Markup(CELL),
         Piece::Signed(booking.shares),
-        Piece::Markup(CELL),
         Piece::Amount(booking.cents),
-        Piece::Markup(CELL),
         Piece::Signed(booking.position),
-        Piece::Markup(CELL),
         Piece::Amount(booking.money),
-        Piece::Markup(NO_CLOSE),
     ];
-    write_pieces(&pieces, writer)
+    write_form(FIGURES, &pieces, writer)
 }
 
 #[tactic(auto, using(cns_tables::proofs::Written::after))]
@@ -115,56 +101,25 @@ fn write_booking<W: Write>(booking: &Booking, writer: &mut W) -> Result<(), Writ
     write_figures(booking, writer)
 }
 
-// Writes the number, the date and the day of a close.
-#[tactic(auto, unfolding(crate::specs::Texts::close_begin))]
-fn write_close_begin<W: Write>(closing: &Closing, writer: &mut W) -> Result<(), WriteFault>
-    ensures { OnOk result (Appends (W.contents writer.old) (W.contents writer.new) (close_begin closing.now)) }
-{
-    let pieces = [
-        Piece::Markup(CLOSE),
-        Piece::Number(closing.number),
-        Piece::Markup(CELL),
-        Piece::Date(closing.date),
-        Piece::Markup(CELL),
-        Piece::Markup(CLOSE_OF),
-        Piece::Number(u64::from(closing.day)),
-        Piece::Markup(NOTHING),
-    ];
-    write_pieces(&pieces, writer)
-}
-
-// Writes position, settling money, price, value, mark, closes short and dividend.
-#[tactic(auto, unfolding(crate::specs::Texts::close_figures))]
-fn write_close_figures<W: Write>(row: &Row, age: u32, writer: &mut W) -> Result<(), WriteFault>
-    ensures { OnOk result (Appends (W.contents writer.old) (W.contents writer.new) (close_figures row.now age)) }
-{
-    let value = worth(row);
-    let price = cents_of(row.price.value());
-    let pieces = [
-        Piece::Signed(row.closing),
-        Piece::Markup(CELL),
-        Piece::Amount(row.money),
-        Piece::Markup(CELL),
-        Piece::Amount(price),
-        Piece::Markup(CELL),
-        Piece::Amount(value),
-        Piece::Markup(CELL),
-        Piece::Amount(row.mark),
-        Piece::Markup(CELL),
-        Piece::Number(u64::from(age)),
-        Piece::Markup(CELL),
-        Piece::Amount(row.dividend),
-        Piece::Markup(END),
-    ];
-    write_pieces(&pieces, writer)
-}
-
-#[tactic(auto, using(cns_tables::proofs::Written::after))]
+// Writes the number, the date, the day, position, settling money, price, value, mark, closes short and dividend.
+#[tactic(auto, unfolding(crate::specs::Texts::closing_text))]
 fn write_closing<W: Write>(closing: &Closing, writer: &mut W) -> Result<(), WriteFault>
     ensures { OnOk result (Appends (W.contents writer.old) (W.contents writer.new) (closing_text closing.now)) }
 {
-    write_close_begin(closing, writer)?;
-    write_close_figures(&closing.row, closing.age, writer)
+    let row = &closing.row;
+    let pieces = [
+        Piece::Number(closing.number),
+        Piece::Date(closing.date),
+        Piece::Number(u64::from(closing.day)),
+        Piece::Signed(row.closing),
+        Piece::Amount(row.money),
+        Piece::Amount(cents_of(row.price.value())),
+        Piece::Amount(worth(row)),
+        Piece::Amount(row.mark),
+        Piece::Number(u64::from(closing.age)),
+        Piece::Amount(row.dividend),
+    ];
+    write_form(CLOSE, &pieces, writer)
 }
 
 impl TableRow for HistoryLine {

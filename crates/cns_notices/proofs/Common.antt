@@ -11,5 +11,5 @@ pub use Rattle.cns_terms.specs.declared.buy_in.Stage.TheVariants.{Ended, Expired
 pub use Rattle.cns_terms.specs.declared.command.Movement.{Movement}
 pub use Rattle.cns_notices.specs.Kept.{kept, kept_notices, received_live}
 pub use Rattle.cns_notices.specs.Latest.{HaveSmallMembers, Leads, Numbers, Place, ended_each, in_issue, number_at, numbers_of, place_cmp, place_of}
-pub use Rattle.cns_notices.specs.Noticed.{at_stage, brought_to, ended, expired, expired_from, has_received, is_live_of, live_number, new_notice, receives, with_notice}
+pub use Rattle.cns_notices.specs.Noticed.{at_stage, brought_to, ended, expired, expired_from, has_received, is_live_of, live_number, new_notice, receives, with_notice, executes, notice_at as kept_at}
 pub use Rattle.cns_notices.specs.declared.noticed.Noticed.{Noticed}

@@ -26,10 +26,7 @@ module _ {X : Type 0} where
   -- one item changed
   pub one_changed : (f : X → X) (k : ℕ) (xs : List X) → Changes (λ i x. cond (eqb k i) (f x) x) xs (changed_at f k xs)
   one_changed f k [] i = grind (arith, nat_tests)
-  one_changed f zero (x ∷ xs) zero = grind (arith, nat_tests)
-  one_changed f zero (x ∷ xs) (suc i) = grind (arith, nat_tests)
-  one_changed f (suc k) (x ∷ xs) zero = grind (arith, nat_tests)
-  one_changed f (suc k) (x ∷ xs) (suc i) = grind (arith, nat_tests, one_changed f k xs i)
+  one_changed f k (x ∷ xs) i = grind (arith, nat_tests, one_changed f (k - 1) xs (i - 1))
 
   -- such a list is as long
   pub same_length : (g : ℕ → X → X) (xs ys : List X) → Changes g xs ys → length ys ≡ length xs
@@ -37,16 +34,13 @@ module _ {X : Type 0} where
 
   -- one item more
   pub one_more : (xs : List X) (y : X) (i : ℕ) → slice_get (xs ++ y ∷ []) i ≡ cond (eqb i (length xs)) (Some y) (slice_get xs i)
-  one_more [] y zero = grind (arith, nat_tests)
-  one_more [] y (suc i) = grind (arith, nat_tests)
-  one_more (x ∷ xs) y zero = grind (arith, nat_tests)
-  one_more (x ∷ xs) y (suc i) = grind (arith, nat_tests, one_more xs y i)
+  one_more [] y i = grind (arith, nat_tests)
+  one_more (x ∷ xs) y i = grind (arith, nat_tests, one_more xs y (i - 1))
 
   -- a write of f of what was read
   pub written : (f : X → X) (i : ℕ) (xs : List X) (x : X) → slice_get xs i ≡ Some x → set xs i (f x) ≡ changed_at f i xs
   written f i [] x h = refl
-  written f zero (y ∷ xs) x h = cc
-  written f (suc i) (y ∷ xs) x h = cc (written f i xs x h)
+  written f i (y ∷ xs) x h = grind (arith, written f (i - 1) xs x)
 
 -- ---- the first that passes
 

@@ -52,9 +52,7 @@ module _ {ns : Numbers} {xs : List Noticed} (leads : Leads ns xs) where
 
   -- after a write of one that keeps
   pub set_led : (k : ℕ) (x y : Noticed) → k < length xs → x ≡ get_or xs k x → Keeps x y → Leads ns (set xs k y)
-  set_led k x y lt read keeps =
-      let at = slice_get_read xs (length xs) k x refl lt read in
-      rw (written (λ z. y) k xs x at) (kept (λ i z. cond (eqb k i) y z) ns xs (changed_at (λ z. y) k xs) (one_changed (λ z. y) k xs) (λ i z h. grind (arith, nat_tests)) leads)
+  set_led k x y lt read keeps = grind (arith, nat_tests, slice_get_read xs (length xs) k x refl lt read, written (λ z. y) k xs x, kept (λ i z. cond (eqb k i) y z) ns xs (changed_at (λ z. y) k xs) (one_changed (λ z. y) k xs))
 
 -- ---- one written
 

@@ -1,9 +1,7 @@
 pub mod Places
 pub mod Items
 pub mod Led
-pub mod Opens
-pub mod Ends
-pub mod Expires
+pub mod Changing
 pub mod NoticeSteps
 pub mod Noticing
 pub mod NoticeFacts

@@ -1,11 +1,8 @@
 -- How many notices there are, of which days, and where one is found.
 -- For `give_notice`, `withdraw_refusal`, `notice_refusal` and `withdraw` of parts/notice.rt in cns_book and others.
-use Rattle.cns_notices.proofs.Common.{◌≡◌, ◌∙◌, ap, sym, refl, ℕ, suc, ◌-◌, ◌≤◌, Bool, ◌&&◌, ◌==◌, List, [], ◌∷◌, length, map, find, arith, option_map, length-append, AllByRecursion, Cusip, Journal, Member, Notice, day, each_append, each_weaker, is_live, is_live_of, kept_notices, live_number, notice_at, notices, position_from, same_issue, stage, slice_get-map, live_notice, kept}
+use Rattle.cns_notices.proofs.Common.{◌≡◌, ◌∙◌, ap, sym, refl, ℕ, suc, ◌-◌, ◌≤◌, Bool, ◌&&◌, ◌==◌, List, [], ◌∷◌, length, map, find, arith, option_map, length-append, AllByRecursion, Cusip, Journal, Member, Notice, day, each_append, each_weaker, is_live, is_live_of, kept_notices, live_number, notice_at, notices, position_from, same_issue, stage, slice_get-map, live_notice, kept, kept_at}
 use Rattle.cns_notices.proofs.NoticeSteps.{AreNumberedFrom, numbered}
-use Rattle.cns_notices.specs.Noticed.{notice_at as kept_at}
 use Rattle.cns_notices.proofs.Noticing.{notice_found}
-
--- ---- how many, and of which days
 
 -- no more notices than activities
 pub notices_few : (J : Journal) → length (notices J) ≤ length J

@@ -1,10 +1,9 @@
 -- What each activity makes of the notices, in the words of the list.
 -- For `count_by` of closed_days.rt in cns_book, `give_notice`, `withdraw_refusal` and `notice_refusal` of parts/notice.rt in cns_book and others.
-use Rattle.cns_notices.proofs.Common.{◌≡◌, ◌∙◌, refl, ℕ, zero, suc, ◌+◌, ◌-◌, ◌≤◌, Bool, cond, ◌&&◌, ◌==◌, List, [], ◌∷◌, ◌++◌, length, map, map-id, find, Some, arith, slice_get, bytes_eq, Cusip, Ended, Expired, Journal, Live, Movement, Notice, Noticed, Posting, Stage, Withdrawn, changed_at, day, ended, eqb_sym, execution, expired, first_reached, is_live, kept_notices, map-append, nat_list_eq_equiv, nat_tests, notice, notice_at, notices, receipt, receives, with_notice, slice_get-map, Given, stage_by, new_notice, kept}
+use Rattle.cns_notices.proofs.Common.{◌≡◌, ◌∙◌, refl, ℕ, zero, suc, ◌+◌, ◌-◌, ◌≤◌, Bool, cond, ◌&&◌, ◌==◌, List, [], ◌∷◌, ◌++◌, length, map, map-id, find, Some, arith, slice_get, bytes_eq, Cusip, Ended, Expired, Journal, Live, Movement, Notice, Noticed, Posting, Stage, Withdrawn, changed_at, day, ended, eqb_sym, execution, expired, first_reached, is_live, kept_notices, map-append, nat_list_eq_equiv, nat_tests, notice, notice_at, notices, receipt, receives, with_notice, slice_get-map, Given, stage_by, new_notice, kept, executes}
 use Rattle.cns_notices.proofs.Items.{Changes, one_changed, same_changes}
 use Rattle.cns_terms.specs.declared.command.Activity.{Activity}
 use Rattle.cns_notices.proofs.NoticeSteps.{AreNumberedFrom, given_now, numbered}
-use Rattle.cns_notices.specs.Noticed.{executes}
 
 -- ---- one notice
 
@@ -31,8 +30,7 @@ changed_same f g i xs h = same_changes _ _ xs _ _ (one_changed f i xs) (one_chan
 -- the notice with a number stands at the place before it
 found_at : (i j k : ℕ) (ns : List Notice) → AreNumberedFrom j ns → k ≡ i + j → find (λ n. n.number == k) ns ≡ slice_get ns i
 found_at i j k [] a e = refl
-found_at zero j k (n ∷ ns) a e = grind (arith, nat_tests)
-found_at (suc i) j k (n ∷ ns) a e = grind (arith, nat_tests, found_at i (suc j) k ns a.1 (omega (arith, e)))
+found_at i j k (n ∷ ns) a e = grind (arith, nat_tests, found_at (i - 1) (suc j) k ns a.1)
 
 pub notice_found : (J : Journal) (k : ℕ) → 1 ≤ k → notice_at J k ≡ slice_get (notices J) (k - 1)
 notice_found J k h = found_at (k - 1) 1 k (notices J) (numbered J) (omega (arith, h))
@@ -46,8 +44,7 @@ module _ (J : Journal) (p : Posting) where
   -- each as its number asks for
   by_number : (f : ℕ → Noticed → Noticed) → ((k : ℕ) (y : Noticed) → touched p.activity (day J) k y ≡ f k y) → (j : ℕ) (ns : List Notice) → AreNumberedFrom j ns → length ns + j ≤ length (notices J) + 1 → Changes (λ i. f (i + j)) (map (kept J) ns) (map (kept (p ∷ J)) ns)
   by_number f h j [] a le i = refl
-  by_number f h j (n ∷ ns) a le zero = grind (arith, nat_tests, h j (kept J n))
-  by_number f h j (n ∷ ns) a le (suc i) = grind (arith, by_number f h (suc j) ns a.1 (omega (arith, le)) i)
+  by_number f h j (n ∷ ns) a le i = grind (arith, nat_tests, h j (kept J n), by_number f h (suc j) ns a.1 (omega (arith, le)) (i - 1))
 
   -- one that changes each by itself
   pub changed_each : (f : Noticed → Noticed) → ((k : ℕ) (y : Noticed) → touched p.activity (day J) k y ≡ f y) → map (kept (p ∷ J)) (notices J) ≡ map f (kept_notices J)

@@ -45,7 +45,7 @@ fn span(notices: &[Noticed], day: u32) -> (usize, usize)
 }
 
 /// Expires each notice of a day that is live. Days never fall along the notices, so those of one day stand together.
-#[tactic(auto, using(crate::proofs::Expires::expired_part))]
+#[tactic(auto, using(crate::proofs::Changing::expired_part))]
 pub fn expire_from(notices: &mut [Noticed], day: u32)
     requires { IsNonDecreasingBy (λ x. x.given.day) notices.old }
     ensures { notices.new ≡ map (expired_from day) notices.old }

@@ -15,8 +15,7 @@ pub use Rattle.std.specs.Option.{option_map_or, option_to_list}
 pub use Rattle.std.specs.Ordering.{int_cmp, is_lt, nat_cmp}
 pub use Rattle.std.specs.Prelude.{count_by, sum_by}
 pub use Rattle.clap.specs.Words.{is_simple, is_simple_and_free}
-pub use Rattle.cns_account.proofs.Putting.{put_found}
-pub use Rattle.cns_account.proofs.Walked.{entries_end, entry_more, take_past}
+pub use Rattle.cns_account.proofs.Gathered.{put_found, entries_end, entry_more, take_past}
 pub use Rattle.cns_book.specs.Log.{Log, state_of}
 pub use Rattle.cns_book.specs.Shown.{entry_at, notice_listed, notice_of}
 pub use Rattle.cns_feed.proofs.PlayLemmas.{log_after-append, state_of-after}
@@ -24,10 +23,9 @@ pub use Rattle.cns_feed.specs.Line.{Line}
 pub use Rattle.cns_feed.specs.Output.{lines_of, state_after_line}
 pub use Rattle.cns_feed.specs.Records.{IsReady, Pending}
 pub use Rattle.cns_feed.specs.Replay.{blank_log, log_after_line}
-pub use Rattle.cns_history.specs.Lines.{place}
 pub use Rattle.cns_retransmit.proofs.Lists.{take_next}
 pub use Rattle.cns_tables.proofs.Written.{after}
-pub use Rattle.cns_terms.specs.Common.{Account, Cusip, Day, DaySheet, IsReached, Journal, Notice, Price, State, day, is_live, journal, journal_of, notice, notice_at, noticed, notices, opened, pend_of, refusal, sheet_on}
+pub use Rattle.cns_terms.specs.Common.{Account, Cusip, Day, DaySheet, IsReached, Journal, Notice, State, day, is_live, journal, journal_of, notice, notice_at, noticed, notices, opened, pend_of, refusal, sheet_on}
 pub use Rattle.cns_terms.specs.Keys.{key_cmp}
 pub use Rattle.cns_terms.specs.declared.command.Activity.{Activity}
 pub use Rattle.cns_terms.specs.declared.command.Trade.{Trade}
@@ -35,17 +33,19 @@ pub use Rattle.cns_terms.specs.declared.history.Taken.{Taken}
 pub use Rattle.cns_terms.specs.declared.sheet.Row.{Row}
 pub use Rattle.cns_page.specs.Account.{cited, is_party, names}
 pub use Rattle.cns_page.specs.Accounts.{grouped, lines_after, sheet_lines}
-pub use Rattle.cns_page.specs.Due.{ArePending, due_at, is_idle, no_shares, projected, projected_all, with_due, with_shares}
+pub use Rattle.cns_page.specs.Due.{ArePending, due_at, no_shares, projected_all, with_due, with_shares}
 pub use Rattle.cns_page.specs.Exceptions.{fact_text}
 pub use Rattle.cns_page.specs.Figures.{is_short}
 pub use Rattle.cns_page.specs.Files.{KeptPages}
 pub use Rattle.cns_page.specs.Folder.{KeepsOwn}
 pub use Rattle.cns_page.specs.Issues.{issue_line, sums_in, with_row_in}
-pub use Rattle.cns_page.specs.Listed.{IsInOrderOf, aged, count_at, count_shown, counted, counts_below, due, figures, figures_at, figures_shown, later_among, live_among, looked_at, numbered, owing, owing_among, shorts_among}
+pub use Rattle.cns_page.specs.Listed.{IsInOrderOf, aged, count_at, count_shown, counted, counts_below, due, figures, figures_at, figures_shown, later_among, live_among, looked_at, owing, owing_among, shorts_among}
 pub use Rattle.cns_page.specs.Sought.{IsFirst, record_at, sought_among, waiting_in, with_trade}
 pub use Rattle.cns_page.specs.Sums.{moved_row, own_sums, sums_of, with_row}
-pub use Rattle.cns_page.specs.Survey.{Came, ComesTo, IsClosedBy, Known, Takes, Why, known, noted, nothing, number, put_right, put_right_by, replied, righted, told, wanted, why}
+pub use Rattle.cns_page.specs.Survey.{Came, ComesTo, IsClosedBy, Known, Takes, known, noted, nothing, number, put_right, put_right_by, replied, righted, told, wanted}
 pub use Rattle.cns_page.specs.declared.pending.PendingShares.{PendingShares}
 pub use Rattle.cns_page.specs.declared.shorts.Aged.{Aged}
 pub use Rattle.cns_page.specs.declared.survey.Close.{Close}
 pub use Rattle.cns_page.specs.declared.survey.Survey.{Survey}
+pub use Rattle.cns_history.specs.declared.watched.Watched.{Watched}
+pub use Rattle.cns_terms.specs.declared.command.Command.{Command}

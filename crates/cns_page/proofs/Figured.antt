@@ -1,8 +1,66 @@
--- The figures of a day, row by row.
--- For `marks_of` of figures.rt.
-use Rattle.cns_page.proofs.Common.{◌≡◌, ℕ, ◌-◌, ◌^◌, List, ◌++◌, min, unsigned_abs, sum_by, Row}
+-- Figures, and the rows that they are of.
+-- For `marks_of` of figures.rt; `line_of_days` of figures.rt; `shorts_of` of figures.rt, `gather` of shorts.rt; `shorts_of` of shorts.rt, `later_trades` of projection.rt.
+use Rattle.cns_page.proofs.Common.{◌≡◌, ℕ, ◌-◌, ◌^◌, List, ◌++◌, min, unsigned_abs, sum_by, Row, ◌∙◌, sym, ap, ◌+◌, ◌<◌, [], ◌∷◌, Option, Some, None, append-nil, take, get_or, length, option_map, count_by, DaySheet, State, journal_of, sheet_on, is_short, figures, figures_at, figures_shown, Close, arith, true, cond, map, map-append, All-push, filter-append, aged, shorts_among, Aged, IsPermutation, IsSortedByKeyClosure, IsStableByKeyClosure, always_returns_same, IsInOrderOf}
+use Rattle.cns_account.proofs.Gathered.{given_more}
+use Rattle.cns_page.specs.declared.figures.Figures.{Figures}
+use Rattle.std.specs.Prelude.{All}
+use Rattle.cns_sheets.proofs.RowSums.{onward}
+use Rattle.std.specs.Fn.{Called}
+use Rattle.std.specs.declared.cmp.Ordering.{Ordering}
+use denote.Param.Members.{Mut}
+use denote.Ref.{Bor}
 
 -- how far a loop over rows has come: the rows that it was given, and the sum of the amounts of their marks, as far as it goes
 pub record Figuring (all given left : List Row) (marks : ℕ) : Type 0 where
   pub parts : all ≡ given ++ left
   pub marks_are : marks ≡ min (sum_by (λ r. unsigned_abs r.mark) given) (2 ^ 128 - 1)
+
+-- the figures of a sheet, each by itself
+figures_are : (s : DaySheet) (n : ℕ) (f : Figures) → f.day ≡ n → f.date ≡ s.date → f.marks ≡ min (sum_by (λ r. unsigned_abs r.mark) s.rows) (2 ^ 128 - 1)
+    → f.shorts ≡ min (count_by is_short s.rows) (2 ^ 64 - 1) → figures s n ≡ f
+figures_are s n f h1 h2 h3 h4 = grind (arith, figures)
+
+-- one that the book has no sheet of
+pub line_passed : (S : State) (cs : List Close) (i : ℕ) (c : Close) (o : Option DaySheet) (items : List Figures) → i < length cs → get_or cs i c ≡ c
+    → o ≡ sheet_on S.opening (journal_of S) c.date → o ≡ None
+    → items ≡ figures_shown S (take i cs) → items ≡ figures_shown S (take (i + 1) cs)
+line_passed S cs i c o items lt at told none was = sym (append-nil items) ∙ given_more (figures_at S) cs i c None items lt at (ap (option_map (λ s. figures s c.day)) (sym told ∙ none)) was
+
+-- one that it has a sheet of
+pub line_added : (S : State) (cs : List Close) (i : ℕ) (c : Close) (s t : DaySheet) (f : Figures) (items : List Figures) → i < length cs → get_or cs i c ≡ c
+    → Some t ≡ sheet_on S.opening (journal_of S) c.date → s ≡ t → f.day ≡ c.day → f.date ≡ s.date → f.marks ≡ min (sum_by (λ r. unsigned_abs r.mark) s.rows) (2 ^ 128 - 1)
+    → f.shorts ≡ min (count_by is_short s.rows) (2 ^ 64 - 1) → items ≡ figures_shown S (take i cs) → items ++ f ∷ [] ≡ figures_shown S (take (i + 1) cs)
+line_added S cs i c s t f items lt at told same day date marks shorts was =
+    given_more (figures_at S) cs i c (Some f) items lt at (ap (option_map (λ x. figures x c.day)) (sym told ∙ ap Some (sym same)) ∙ ap Some (figures_are s c.day f day date marks shorts)) was
+
+-- ---- how many they are
+
+-- how far a loop over rows has come: the rows that it was given, and the count of shorts, as far as it goes
+pub record Counting (all given left : List Row) (shorts : ℕ) : Type 0 where
+  pub parts : all ≡ given ++ left
+  pub shorts_are : shorts ≡ min (count_by is_short given) (2 ^ 64 - 1)
+
+-- ---- which they are
+
+-- how far a loop over rows has come: the rows that it was given, and the shorts among them with their ages
+pub record Aging (S : State) (all given left : List Row) (items : List Aged) : Type 0 where
+  pub parts : all ≡ given ++ left
+  pub items_are : items ≡ shorts_among S given
+  pub small : All (λ s. s.age < 2 ^ 32) items
+
+-- of some rows and others
+append : (S : State) (rs us : List Row) → shorts_among S (rs ++ us) ≡ shorts_among S rs ++ shorts_among S us
+append S rs us = simp (filter-append, map-append)
+
+module _ (S : State) (all given left rest : List Row) (row : Row) (items : List Aged) (was : Aging S all given left items) (next : left ≡ row ∷ rest) where
+  more : (new : List Aged) → new ≡ items ++ shorts_among S (row ∷ []) → All (λ s. s.age < 2 ^ 32) new → Aging S all (given ++ row ∷ []) rest new
+  more new h1 h2 = grind (arith, onward, shorts_among, append)
+
+  -- a short
+  pub aging_more : (a : Aged) → is_short row ≡ true → a ≡ aged S row → a.age < 2 ^ 32 → Aging S all (given ++ row ∷ []) rest (items ++ a ∷ [])
+  aging_more a short is fit = more (items ++ a ∷ []) (ap (λ x. items ++ x ∷ []) is ∙ ap (λ b. items ++ map (aged S) (cond b (row ∷ []) [])) (sym short)) (All-push (λ s. s.age < 2 ^ 32) items a was.small fit)
+
+-- where each call of the closure gives the key of the element, and leaves the closure as it was
+pub sorted_by_key : {X K F : Type 0} (key : X → K) (cmp : K → K → Ordering) {g : Mut F (Bor X × Unit {0}) K} {f : F} (xs ys all : List X) → xs ≡ all → IsPermutation xs ys
+    → IsSortedByKeyClosure g cmp f ys → IsStableByKeyClosure g cmp f xs ys → ((a : Bor X × Unit {0}) (r : K) (f' : F) → Called g f a r f' → (r ≡ key a.0.now) × (f' ≡ f)) → IsInOrderOf key cmp all ys
+sorted_by_key key cmp xs ys all h1 h2 h3 h4 h5 = grind (arith, always_returns_same)

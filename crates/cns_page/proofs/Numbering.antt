@@ -1,11 +1,10 @@
 -- The notices of a journal, by number.
 -- For `live_notices` of notices.rt.
-use Rattle.cns_page.proofs.Common.{◌≡◌, ◌∙◌, sym, ap, refl, ℕ, zero, suc, ◌+◌, ◌-◌, ◌^◌, ◌≤◌, ◌<◌, ◌==◌, true, false, List, [], ◌∷◌, ◌++◌, length, find, Option, Some, None, append-nil, take, option_map, slice_get, length-append, arith, option_map_or, map-append, take_all, filter-append, eq-eqb, ne_eqb, Day, IsReached, Journal, Notice, day, is_live, journal, notice, notice_at, noticed, notices, refusal, Activity, notice_listed, notice_of, live_among, take_past}
-use Rattle.cns_terms.specs.declared.command.Command.TheVariants as command
+use Rattle.cns_page.proofs.Common.{◌≡◌, ◌∙◌, sym, ap, refl, ℕ, zero, suc, ◌+◌, ◌-◌, ◌^◌, ◌≤◌, ◌<◌, ◌==◌, true, false, List, [], ◌∷◌, ◌++◌, length, find, Option, Some, None, append-nil, take, option_map, slice_get, length-append, arith, option_map_or, map-append, take_all, filter-append, eq-eqb, ne_eqb, Day, IsReached, Journal, Notice, day, is_live, journal, notice, notice_at, noticed, notices, refusal, Activity, notice_listed, notice_of, live_among, take_past, Command}
 use Rattle.cns_terms.specs.declared.command.Movement.{Movement}
 use Rattle.cns_book.specs.declared.notice.Notice.{Notice as Shown}
 use Rattle.cns_page.specs.declared.finding.Numbered.{Numbered}
-use Rattle.cns_account.proofs.Walked.{take_next}
+use Rattle.cns_account.proofs.Gathered.{take_next}
 
 -- the notices are numbered on from a number
 abbrev AreNumbered : ℕ → List Notice → Type 0
@@ -41,7 +40,7 @@ length_by : (J : Journal) (o : Option Movement) → length (option_map_or (λ m.
 length_by J o = grind (arith, length-append)
 
 -- the first activity is no notice
-first_is_none : (opening : Day) (x : Activity) → refusal opening [] (command.Activity x) ≡ None → noticed x ≡ None
+first_is_none : (opening : Day) (x : Activity) → refusal opening [] (Command.Activity x) ≡ None → noticed x ≡ None
 first_is_none opening x e = grind arith
 
 -- fewer than the activities

@@ -1,16 +1,15 @@
 -- A book and what is known of its records, line after line.
 -- For `play_with` and `step` of play.rt.
-use Rattle.cns_page.proofs.Common.{◌≡◌, Bool, true, ℕ, ◌+◌, List, [], ◌∷◌, ◌++◌, length, take, Option, refl, sym, ap, ◌∙◌, append_assoc, append-nil, length-append, arith, State, Log, state_of, Line, state_after_line, Pending, log_after_line, log_after-append, state_of-after, Came, Known, Takes, Why, known, noted, replied, righted, wanted, Survey}
+use Rattle.cns_page.proofs.Common.{◌≡◌, Bool, true, ℕ, ◌+◌, List, [], ◌∷◌, ◌++◌, length, take, Option, refl, sym, ap, ◌∙◌, append_assoc, append-nil, length-append, arith, State, Log, state_of, Line, state_after_line, Pending, log_after_line, log_after-append, state_of-after, Came, Known, Takes, known, noted, replied, righted, wanted, Survey, Command, Watched}
 use Rattle.std.proofs.Math.Seq.{take-append_seam}
-use Rattle.cns_terms.specs.declared.command.Command.{Command}
 use Rattle.cns_terms.specs.declared.reply.Reply.{Reply}
-use Rattle.cns_feed.specs.Output.{state_after}
 use Rattle.cns_feed.specs.declared.records.Records.{Records}
-use Rattle.cns_feed.specs.Replay.{log_after}
 use Rattle.cns_history.specs.Lines.{history, lines_of}
 use Rattle.cns_history.specs.declared.line.HistoryLine.{HistoryLine}
-use Rattle.cns_history.specs.declared.watched.Watched.{Watched}
+use Rattle.cns_feed.specs.Output.{state_after}
+use Rattle.cns_feed.specs.Replay.{log_after}
 use Rattle.cns_page.specs.Survey.{noted_all}
+use Rattle.cns_page.specs.declared.finding.Outcome.{Outcome}
 
 -- records and others behind them
 noted_all-append : (k : Known) (S : State) (a b : List Line) → noted_all k S (a ++ b) ≡ noted_all (noted_all k S a) (state_after S a) b
@@ -18,7 +17,7 @@ unfolding noted_all state_after
 noted_all-append k S [] b = refl
 noted_all-append k S (l ∷ a) b = noted_all-append (noted k S l) (state_after_line S l) a b
 
-wanted_records : (k : Known) (w : Why) (r : Option ℕ) → (wanted k w r).records ≡ k.records
+wanted_records : (k : Known) (w : Outcome) (r : Option ℕ) → (wanted k w r).records ≡ k.records
 wanted_records k w r = grind arith
 
 righted_records : (k : Known) (r : Option ℕ) → (righted k r).records ≡ k.records

@@ -1,20 +1,19 @@
 -- The page of an account's closed day.
-use Rattle.std.specs.Prelude.{◌≡◌, ℕ, ◌==◌, ◌||◌, Bool, true, false, List, [], ◌∷◌, ◌++◌, Option, filter, length, map}
-use Rattle.cns_page.specs.Common.{Appends, decimal, option_map_or, day_text, Account, Day, DaySheet, State, state_of, HistoryLine, fail_text, booked_text, mark_text, position_text, Fail, piece_text, table_text, texts, STYLE, ClosedDay, Cited, Finding, AGAIN, AGAIN_DAY, DAY, NEXT, START, TITLE_END, Due, Shared}
+use Rattle.std.specs.Prelude.{◌≡◌, ℕ, ◌==◌, ◌||◌, Bool, true, false, List, [], ◌∷◌, ◌++◌, Option, filter, length, map, Some}
+use Rattle.cns_page.specs.Common.{Appends, decimal, option_map_or, day_text, Account, Day, DaySheet, State, state_of, HistoryLine, fail_text, booked_text, mark_text, position_text, Fail, piece_text, table_text, STYLE, ClosedDay, Cited, Finding, START, Due, Shared, Piece, filled, Close}
 use Rattle.cns_account.specs.Day.{IsAccountDay}
 use Rattle.cns_account.specs.Dividends.{dividend_text, dividends_paid}
 use Rattle.cns_account.specs.declared.day.AccountDay.{AccountDay}
-use Rattle.cns_tables.specs.declared.piece.Piece.TheVariants as piece
 use Rattle.cns_page.specs.Due.{projected_all, projected_text}
 use Rattle.cns_page.specs.Exceptions.{cited_text}
 use Rattle.cns_page.specs.Fails.{fail_at}
-use Rattle.cns_page.specs.Foot.{made_text}
+use Rattle.cns_page.specs.Foot.{again_text, made_text}
 use Rattle.cns_page.specs.Page.{sum_of}
 use Rattle.cns_page.specs.Rows.{due_text, notice_row, owing_text}
 use Rattle.cns_page.specs.Shown.{next_day}
 use Rattle.cns_page.specs.declared.account.Own.{Own}
 use Rattle.cns_page.specs.declared.account.OwnCaptions.{OwnCaptions}
-use Rattle.cns_page.specs.declared.account.TheConstants.{ACCOUNT, ACCOUNT_OPTION, ALL_ACCOUNTS, ALL_ACCOUNTS_END, DIVIDEND, LONG, MAIN, MARK, NET, ON, SENTENCE_END, SHORT, SKIP}
+use Rattle.cns_page.specs.declared.account.TheConstants.{ACCOUNT_OPTION, HEAD, LINKED, MAIN}
 
 -- ---- the rows
 
@@ -54,22 +53,17 @@ row_counts o =
 
 -- ---- the text
 
--- the account and the day in the title, and in the heading
-unfoldable pub title_text : Account → Day → List ℕ
-title_text a d =
-    texts (START.now ∷ ACCOUNT.now ∷ decimal a ∷ ON.now ∷ day_text d ∷ TITLE_END.now ∷ STYLE.now ∷ SKIP.now ∷ ACCOUNT.now ∷ decimal a
-    ∷ ON.now ∷ day_text d ∷ DAY.now ∷ [])
-
--- the day's number, what the positions above 0, those below 0 and all are worth, the marks, the dividends, and the next day
-unfoldable pub summary_text : ℕ → AccountDay → Day → List ℕ
-summary_text n d next =
-    texts (decimal n ∷ LONG.now ∷ piece_text (piece.Amount d.totals.long) ∷ SHORT.now ∷ piece_text (piece.Amount d.totals.short) ∷ NET.now
-    ∷ piece_text (piece.Amount d.totals.net) ∷ MARK.now ∷ piece_text (piece.Amount d.stated.mark) ∷ DIVIDEND.now
-    ∷ piece_text (piece.Amount d.stated.dividend) ∷ NEXT.now ∷ day_text next ∷ SENTENCE_END.now ∷ [])
+-- the account and the day in the title and in the heading, the day's number, what the positions above 0, those below 0 and all are
+-- worth, the marks, the dividends, and the next day
+unfoldable pub head_text : Account → Close → AccountDay → Day → List ℕ
+head_text a c d next =
+    filled HEAD.now (START.now ∷ decimal a ∷ day_text c.date ∷ STYLE.now ∷ decimal a ∷ day_text c.date ∷ decimal c.day
+    ∷ piece_text (Piece.Amount d.totals.long) ∷ piece_text (Piece.Amount d.totals.short) ∷ piece_text (Piece.Amount d.totals.net)
+    ∷ piece_text (Piece.Amount d.stated.mark) ∷ piece_text (Piece.Amount d.stated.dividend) ∷ day_text next ∷ [])
 
 -- the link to the page of the day, where there is one, and the end of the head
 unfoldable pub nav_text : Bool → Day → List ℕ
-nav_text true d = texts (ALL_ACCOUNTS.now ∷ day_text d ∷ ALL_ACCOUNTS_END.now ∷ MAIN.now ∷ [])
+nav_text true d = filled LINKED.now (day_text d ∷ [])
 nav_text false d = MAIN.now
 
 -- these tables in this order
@@ -87,15 +81,14 @@ tables_text t o =
     ++ table_text cited_text t.exceptions o.exceptions.items))))))))
 
 -- the line that makes the page again, but for its end
-unfoldable pub again_text : Day → Day → Account → List ℕ
-again_text opening d a =
-    texts (AGAIN.now ∷ day_text opening ∷ AGAIN_DAY.now ∷ day_text d ∷ ACCOUNT_OPTION.now ∷ decimal a ∷ [])
+abbrev pub again_of : Day → Day → Account → List ℕ
+again_of opening d a = again_text opening (Some d) ++ filled ACCOUNT_OPTION.now (decimal a ∷ [])
 
 -- a page with some captions: the head, the tables, and the foot
 abbrev pub account_text : OwnCaptions → ClosedDay → Account → Bool → Own → List ℕ
 account_text t d a linked own =
-    title_text a d.close.date ++ (summary_text d.close.day own.day (next_day d.book.log) ++ (nav_text linked d.close.date ++ (tables_text t own
-    ++ (again_text d.opening d.close.date a ++ made_text d.origin (sum_of (row_counts own))))))
+    head_text a d.close own.day (next_day d.book.log) ++ (nav_text linked d.close.date ++ (tables_text t own
+    ++ (again_of d.opening d.close.date a ++ made_text d.origin (sum_of (row_counts own)))))
 
 -- what was written is the text of the page of an account's day, with some captions
 pub record ShowsAccount (d : ClosedDay) (sheet : DaySheet) (a : Account) (linked : Bool) (ls : List HistoryLine) (g : Shared) (old new : Option (List ℕ)) : Type 0 where

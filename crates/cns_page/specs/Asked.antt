@@ -1,16 +1,12 @@
 -- The page that is asked for.
 use Rattle.std.specs.Prelude.{◌≡◌, ◌-◌, ℕ, List, length, slice_get, take, Option, None, Some, false, option_map}
-use Rattle.cns_page.specs.Common.{Account, Day, DaySheet, opened, Line, lines_of, About, Asked, When, ClosedDay, Played, Shared, Close, Survey}
+use Rattle.cns_page.specs.Common.{Account, Day, DaySheet, opened, Line, lines_of, About, Asked, When, ClosedDay, Played, Shared, Close, Survey, Watched, Whose}
 use Rattle.cns_history.specs.Page.{ShowsHistory}
 use Rattle.cns_history.specs.declared.place.Place.{Place}
-use Rattle.cns_history.specs.declared.watched.Watched.TheVariants as watched
-use Rattle.cns_history.specs.declared.watched.Whose.TheVariants as whose
 use Rattle.cns_page.specs.Account.{ShowsAccount}
 use Rattle.cns_page.specs.Shown.{AreShared, HasDay, IsClosedDay, IsSheetOf}
 use Rattle.cns_page.specs.Survey.{ComesTo, IsClosedBy, known, noted_all, nothing}
 use Rattle.cns_page.specs.Today.{HasToday}
-use Rattle.cns_page.specs.declared.asked.About.TheVariants as about
-use Rattle.cns_page.specs.declared.asked.When.TheVariants as when
 
 -- the date of the last day that the records of an input close
 pub record IsLastDay (opening : Day) (input : List ℕ) (day : Day) : Type 0 where
@@ -20,9 +16,9 @@ pub record IsLastDay (opening : Day) (input : List ℕ) (day : Day) : Type 0 whe
 
 -- the date of the closed day that is asked for
 abbrev pub IsClosedIn : Day → List ℕ → When → Day → Type 0
-IsClosedIn opening input when.Last day = IsLastDay opening input day
-IsClosedIn opening input (when.Closed d) day = day ≡ d
-IsClosedIn opening input when.Today day = ⊥
+IsClosedIn opening input When.Last day = IsLastDay opening input day
+IsClosedIn opening input (When.Closed d) day = day ≡ d
+IsClosedIn opening input When.Today day = ⊥
 
 -- the page of the closed day that is asked for
 abbrev pub HasClosed : Day → List ℕ → When → Option (List ℕ) → Option (List ℕ) → Type 0
@@ -30,9 +26,8 @@ HasClosed opening input w old new = (day : Day) × IsClosedIn opening input w da
 
 -- of the day that is asked for
 abbrev pub HasAsked : Day → List ℕ → When → Option (List ℕ) → Option (List ℕ) → Type 0
-HasAsked opening input when.Last old new = HasClosed opening input when.Last old new
-HasAsked opening input (when.Closed d) old new = HasClosed opening input (when.Closed d) old new
-HasAsked opening input when.Today old new = HasToday opening input old new
+HasAsked opening input When.Today old new = HasToday opening input old new
+HasAsked opening input w old new = HasClosed opening input w old new
 
 -- what was written is the page of what a closed day did to an account, by itself
 pub record WritesOwn (a : Account) (d : ClosedDay) (old new : Option (List ℕ)) : Type 0 where
@@ -47,20 +42,20 @@ pub record HasOwn (a : Account) (opening : Day) (input : List ℕ) (w : When) (o
   pub day : Day
   pub asked : IsClosedIn opening input w day
   pub closed : ClosedDay
-  pub is : IsClosedDay opening input day (watched.Bookings (whose.One a) day) closed
+  pub is : IsClosedDay opening input day (Watched.Bookings (Whose.One a) day) closed
   pub written : WritesOwn a closed old new
 
 -- the records that a history is of: those up to the close of the day with the date, or all of the input where none is given
 abbrev pub AreUpTo : Day → List ℕ → Option Day → List Line → Type 0
 AreUpTo opening input None all = all ≡ lines_of input
 AreUpTo opening input (Some d) all = (s : Survey) × (c : Close) × (known s ≡ noted_all (nothing (Some d)) (opened opening) all)
-    × IsClosedBy s d c × (all ≡ take c.record (lines_of input))
+    × IsClosedBy s d c × (all ≡ take c.number (lines_of input))
 
 -- what was played for the history of a place
 pub record HasPlayed (p : Place) (input : List ℕ) (t : Played) : Type 0 where
   pub all : List Line
   pub up_to : AreUpTo p.opening input p.day all
-  pub played : ComesTo p.opening p.day (watched.Place p.key) all t
+  pub played : ComesTo p.opening p.day (Watched.Place p.key) all t
 
 -- the history of a place
 abbrev pub HasPast : Place → List ℕ → Option (List ℕ) → Option (List ℕ) → Type 0
@@ -68,17 +63,17 @@ HasPast p input old new = (all : List Line) × AreUpTo p.opening input p.day all
 
 -- the day up to whose close a history goes; None for all records
 abbrev pub closed_in : When → Option Day
-closed_in when.Last = None
-closed_in (when.Closed d) = Some d
-closed_in when.Today = None
+closed_in When.Last = None
+closed_in (When.Closed d) = Some d
+closed_in When.Today = None
 
 -- what is asked for: the page of the day, what the closed day did to the account, or the history of the place; nothing where pages
 -- went into a folder
 abbrev pub HasShown : About → Day → List ℕ → When → Option (List ℕ) → Option (List ℕ) → Type 0
-HasShown about.All opening input w old new = HasAsked opening input w old new
-HasShown (about.Account a) opening input w old new = HasOwn a opening input w old new
-HasShown (about.Place k) opening input w old new = HasPast (record { opening = opening; day = closed_in w; key = k }) input old new
-HasShown about.Folder opening input w old new = new ≡ old
+HasShown About.All opening input w old new = HasAsked opening input w old new
+HasShown (About.Account a) opening input w old new = HasOwn a opening input w old new
+HasShown (About.Place k) opening input w old new = HasPast (record { opening = opening; day = closed_in w; key = k }) input old new
+HasShown About.Folder opening input w old new = new ≡ old
 
 -- the page that is asked for, of the records of an input
 abbrev pub HasPage : Asked → List ℕ → Option (List ℕ) → Option (List ℕ) → Type 0

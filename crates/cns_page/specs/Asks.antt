@@ -8,7 +8,6 @@ use Rattle.cns_units.specs.Cusip.{cusip_of}
 use Rattle.cns_feed.specs.Digits.{number_in}
 use Rattle.cns_shell.specs.Options.{bare, date_in, free_rule, if_taken, option_rule}
 use Rattle.cns_page.specs.declared.asked.About.TheVariants as about
-use Rattle.cns_page.specs.declared.asked.When.TheVariants as when
 
 -- the date on which the book opens, and a day, where it is given
 unfoldable pub dated_line : App
@@ -24,8 +23,8 @@ found_by words = if_taken page_line words (Some (matches_of page_line words))
 
 -- the day of an option that may be missing; None where it is there, and neither `today` nor a date
 abbrev pub day_read : Option Text → Option When
-day_read None = Some when.Last
-day_read (Some t) = if bytes_eq t (codes "today") then Some when.Today else option_map when.Closed (result_ok (day_of t))
+day_read None = Some When.Last
+day_read (Some t) = if bytes_eq t (codes "today") then Some When.Today else option_map When.Closed (result_ok (day_of t))
 
 -- what the page is about, of options that may be missing: all accounts, one account, its place in an issue, or all into a folder;
 -- None where one of the two is none, an issue is there without an account, or a folder with one of them

@@ -21,10 +21,10 @@ pub use Rattle.cns_history.specs.declared.line.HistoryLine.{HistoryLine}
 pub use Rattle.cns_history.specs.declared.watched.Watched.{Watched}
 pub use Rattle.cns_tables.specs.Escape.{escaped}
 pub use Rattle.cns_tables.specs.Grouped.{amount_text, count_text, signed_text}
-pub use Rattle.cns_tables.specs.Pieces.{piece_text}
-pub use Rattle.cns_tables.specs.Tables.{cells, row_of, table_text, texts}
-pub use Rattle.cns_tables.specs.declared.style.TheConstants.{STYLE}
-pub use Rattle.cns_tables.specs.declared.table.TheConstants.{CELL, ROW}
+pub use Rattle.cns_tables.specs.Pieces.{filled, piece_text}
+pub use Rattle.cns_tables.specs.Tables.{cells, row_of, table_text}
+pub use Rattle.cns_tables.specs.declared.style.TheConstants.{START, STYLE}
+pub use Rattle.cns_tables.specs.declared.table.TheConstants.{ROW}
 pub use Rattle.cns_terms.specs.Common.{Account, Cusip, Day, DaySheet, Journal, Liables, Price, State, answer, bought_in, date, day, is_live, is_not_after, journal_of, notices, opened, pend_of, sold_in, stage}
 pub use Rattle.cns_terms.specs.Keys.{key_cmp}
 pub use Rattle.cns_terms.specs.Numbers.{refusal_number}
@@ -55,9 +55,7 @@ pub use Rattle.cns_page.specs.declared.finding.Pending.{Pending}
 pub use Rattle.cns_page.specs.declared.finding.Seen.{Seen}
 pub use Rattle.cns_page.specs.declared.finding.Waiting.{Waiting}
 pub use Rattle.cns_page.specs.declared.foot.Origin.{Origin}
-pub use Rattle.cns_page.specs.declared.foot.TheConstants.{AGAIN, AGAIN_DAY, DIGEST, END, MADE, ROWS, TODAY}
 pub use Rattle.cns_page.specs.declared.liable.Owing.{Owing}
-pub use Rattle.cns_page.specs.declared.page.TheConstants.{CLOSED, DAY, DAY_AFTER_END, DAY_BEFORE_END, DAY_LINK, EXCEPTIONS, HEADING, LINKS, MAIN, NEXT, RECORDS, START, TITLE_END, TO}
 pub use Rattle.cns_page.specs.declared.play.Played.{Played}
 pub use Rattle.cns_page.specs.declared.projection.Due.{Due}
 pub use Rattle.cns_page.specs.declared.reasons.Counted.{Counted}
@@ -68,3 +66,7 @@ pub use Rattle.cns_page.specs.declared.sums.Sums.{Sums}
 pub use Rattle.cns_page.specs.declared.survey.Close.{Close}
 pub use Rattle.cns_page.specs.declared.survey.Survey.{Survey}
 pub use Rattle.cns_page.specs.declared.totals.Span.{Span}
+pub use Rattle.cns_tables.specs.declared.piece.Piece.{Piece}
+pub use Rattle.cns_history.specs.declared.watched.Whose.{Whose}
+pub use Rattle.cns_terms.specs.declared.command.Activity.{Activity}
+pub use Rattle.cns_page.specs.declared.sought.Sought.{Sought}

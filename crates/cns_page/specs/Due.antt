@@ -1,11 +1,10 @@
 -- What is due of an account in each issue.
 use Rattle.std.specs.Prelude.{◌≡◌, ℕ, pos, ◌+ℤ◌, ◌-ℤ◌, Bool, not, ◌&&◌, if◌then◌else◌, List, [], ◌∷◌, filter, map, Option, Some, None, unwrap_or}
-use Rattle.cns_page.specs.Common.{get, int_wrap, w64, fold, is_eq, int_eq, Account, Cusip, Price, State, key_cmp, place, standing, row_of, ROW, Due}
+use Rattle.cns_page.specs.Common.{get, int_wrap, w64, fold, is_eq, int_eq, Account, Cusip, Price, State, key_cmp, place, standing, row_of, ROW, Due, Piece}
 use Rattle.cns_terms.specs.Entries.{trade_entries}
 use Rattle.cns_terms.specs.Pending.{pend_of}
 use Rattle.cns_terms.specs.declared.holding.Entry.{Entry}
 use Rattle.cns_terms.specs.declared.holding.Key.{Key}
-use Rattle.cns_tables.specs.declared.piece.Piece.TheVariants as piece
 use Rattle.cns_page.specs.declared.due.DueAt.{DueAt}
 use Rattle.cns_page.specs.declared.due.Projected.{Projected}
 use Rattle.cns_page.specs.declared.pending.PendingAt.{PendingAt}
@@ -69,11 +68,11 @@ projected_all S a ps prices = filter (λ p. not (is_idle p)) (map (λ e. project
 -- the issue, the closing position, what the close booked, what is due on the next day, and after all
 abbrev pub projected_text : Projected → List ℕ
 projected_text p =
-    row_of ROW.now (piece.Issue p.issue) (piece.Signed p.closing ∷ piece.Signed p.booked ∷ piece.Signed p.due ∷ piece.Signed p.after ∷ [])
+    row_of ROW.now (Piece.Issue p.issue) (Piece.Signed p.closing ∷ Piece.Signed p.booked ∷ Piece.Signed p.due ∷ Piece.Signed p.after ∷ [])
 
 -- the same, with the account
 abbrev pub due_at_text : DueAt → List ℕ
 due_at_text d =
     let p = d.projected in
-    row_of ROW.now (piece.Issue p.issue)
-    (piece.Number d.account ∷ piece.Signed p.closing ∷ piece.Signed p.booked ∷ piece.Signed p.due ∷ piece.Signed p.after ∷ [])
+    row_of ROW.now (Piece.Issue p.issue)
+    (Piece.Number d.account ∷ Piece.Signed p.closing ∷ Piece.Signed p.booked ∷ Piece.Signed p.due ∷ Piece.Signed p.after ∷ [])

@@ -1,13 +1,10 @@
 -- The pages of a closed day that were kept.
 use Rattle.std.specs.Prelude.{◌≡◌, ℕ, List, [], ◌∷◌, Option, None, Some, filter, map, slice_get, true}
-use Rattle.cns_page.specs.Common.{Account, Day, DaySheet, state_of, accounts_of, is_line_of, About, Asked, When, ClosedDay, Contents, Shared}
-use Rattle.cns_history.specs.declared.watched.Watched.TheVariants as watched
-use Rattle.cns_history.specs.declared.watched.Whose.TheVariants as whose
+use Rattle.cns_page.specs.Common.{Account, Day, DaySheet, state_of, accounts_of, is_line_of, About, Asked, When, ClosedDay, Contents, Shared, Watched, Whose}
 use Rattle.cns_page.specs.Account.{ShowsAccount}
 use Rattle.cns_page.specs.Asked.{IsClosedIn}
 use Rattle.cns_page.specs.Files.{KeptPages, and_kept}
 use Rattle.cns_page.specs.Shown.{AreContents, AreShared, IsClosedDay, IsSheetOf, ShowsDay}
-use Rattle.cns_page.specs.declared.asked.About.TheVariants as about
 
 -- a text is the page of an account, with links, by the lines among those of all that are the account's
 abbrev pub IsOwnPage : ClosedDay → DaySheet → Shared → Account → List ℕ → Type 0
@@ -27,7 +24,7 @@ KeepsPages d s l accounts old new =
 
 -- the accounts of a closed day: those that have a position in the first of the listed issues
 abbrev pub accounts_on : ClosedDay → DaySheet → List Account
-accounts_on d s = accounts_of whose.All (state_of d.book.log) (slice_get (map (λ e. e.0) s.prices) 0)
+accounts_on d s = accounts_of Whose.All (state_of d.book.log) (slice_get (map (λ e. e.0) s.prices) 0)
 
 -- the pages of a closed day were kept, with links between them
 pub record KeepsDay (d : ClosedDay) (old new : Option KeptPages) : Type 0 where
@@ -35,7 +32,7 @@ pub record KeepsDay (d : ClosedDay) (old new : Option KeptPages) : Type 0 where
   pub closed : IsSheetOf d sheet
   pub contents : Contents
   pub gathered : AreShared d sheet contents.shared.now
-  pub rows : AreContents d sheet true contents
+  pub rows : AreContents d sheet true (accounts_on d sheet) contents
   pub pages : KeepsPages d sheet contents (accounts_on d sheet) old new
 
 -- those of the closed day that is asked for
@@ -43,12 +40,12 @@ pub record KeepsClosed (opening : Day) (input : List ℕ) (w : When) (old new : 
   pub day : Day
   pub asked : IsClosedIn opening input w day
   pub closed : ClosedDay
-  pub is : IsClosedDay opening input day (watched.Bookings whose.All day) closed
+  pub is : IsClosedDay opening input day (Watched.Bookings Whose.All day) closed
   pub kept : KeepsDay closed old new
 
 -- what was kept of what is asked for: the pages of the closed day where they are for a folder, else nothing
 abbrev pub KeepsAsked : About → Day → List ℕ → When → Option KeptPages → Option KeptPages → Type 0
-KeepsAsked about.Folder opening input w old new = KeepsClosed opening input w old new
+KeepsAsked About.Folder opening input w old new = KeepsClosed opening input w old new
 KeepsAsked _ opening input w old new = new ≡ old
 
 -- of the records of an input

@@ -1,6 +1,7 @@
 -- The foot of a page.
 use Rattle.std.specs.Prelude.{◌≡◌, ℕ, List, [], ◌∷◌, ◌++◌, Option, None, Some, length, string_bytes}
-use Rattle.cns_page.specs.Common.{decimal, day_text, Day, escaped, texts, Origin, AGAIN, AGAIN_DAY, DIGEST, END, MADE, ROWS, TODAY}
+use Rattle.cns_page.specs.Common.{decimal, day_text, Day, escaped, Origin, filled}
+use Rattle.cns_page.specs.declared.foot.TheConstants.{AGAIN, MADE, TODAY}
 use Rattle.hex.specs.Hex.{encode_lower}
 use Rattle.sha2.specs.Sha256.{sha256}
 
@@ -16,9 +17,12 @@ day_word (Some d) = day_text d
 
 -- what a page was made of, and how many rows its tables have
 unfoldable pub made_text : Origin → ℕ → List ℕ
-made_text o rows =
-    texts (MADE.now ∷ decimal o.bytes ∷ DIGEST.now ∷ escaped (string_bytes o.digest) ∷ ROWS.now ∷ decimal rows ∷ END.now ∷ [])
+made_text o rows = filled MADE.now (decimal o.bytes ∷ escaped (string_bytes o.digest) ∷ decimal rows ∷ [])
+
+-- the line that makes the page again, but for its end
+abbrev pub again_text : Day → Option Day → List ℕ
+again_text opening day = filled AGAIN.now (day_text opening ∷ day_word day ∷ [])
 
 -- the line that makes the page again, what it was made of, and how many rows its tables have
 abbrev pub foot_text : Day → Option Day → Origin → ℕ → List ℕ
-foot_text opening day o rows = texts (AGAIN.now ∷ day_text opening ∷ AGAIN_DAY.now ∷ []) ++ (day_word day ++ made_text o rows)
+foot_text opening day o rows = again_text opening day ++ made_text o rows

@@ -1,8 +1,7 @@
 -- The sums by issue over all accounts.
 use Rattle.std.specs.Prelude.{◌≡◌, ℕ, pos, ◌+ℤ◌, int_lt, if◌then◌else◌, List, [], ◌∷◌, map, Option, Some, None, unwrap_or}
-use Rattle.cns_page.specs.Common.{IsOrdered, get, int_wrap, w128, w64, fold, is_eq, nat_cmp, Cusip, Row, row_of, ROW}
+use Rattle.cns_page.specs.Common.{IsOrdered, get, int_wrap, w128, w64, fold, is_eq, nat_cmp, Cusip, Row, row_of, ROW, Piece}
 use Rattle.std.specs.Cmp.Lexicographic.{slice_cmp}
-use Rattle.cns_tables.specs.declared.piece.Piece.TheVariants as piece
 use Rattle.cns_page.specs.declared.issues.IssueLine.{IssueLine}
 use Rattle.cns_page.specs.declared.issues.IssueSums.{IssueSums}
 use Rattle.cns_page.specs.declared.issues.SumsByIssue.{SumsByIssue}
@@ -49,6 +48,6 @@ pub record AreIssues (rs : List Row) (ls : List IssueLine) : Type 0 where
 abbrev pub issue_line_text : IssueLine → List ℕ
 issue_line_text l =
     let s = l.sums in
-    row_of ROW.now (piece.Issue l.issue)
-    (piece.Signed s.long ∷ piece.Signed s.short ∷ piece.Signed s.closing ∷ piece.Amount s.money ∷ piece.Amount s.mark
-    ∷ piece.Amount s.dividend ∷ [])
+    row_of ROW.now (Piece.Issue l.issue)
+    (Piece.Signed s.long ∷ Piece.Signed s.short ∷ Piece.Signed s.closing ∷ Piece.Amount s.money ∷ Piece.Amount s.mark
+    ∷ Piece.Amount s.dividend ∷ [])

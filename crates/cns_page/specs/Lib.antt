@@ -4,6 +4,7 @@ pub mod Figures
 pub mod Exceptions
 pub mod Accounts
 pub mod Rows
+pub mod Rowless
 pub mod Due
 pub mod Fails
 pub mod Facts

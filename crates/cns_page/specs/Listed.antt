@@ -7,11 +7,9 @@ use Rattle.cns_terms.specs.declared.buy_in.Liable.{Liable}
 use Rattle.cns_terms.specs.Common.{sheet_on}
 use Rattle.cns_terms.specs.Listings.{traded}
 use Rattle.cns_terms.specs.Notices.{Notice}
-use Rattle.cns_terms.specs.declared.command.Command.TheVariants as command
-use Rattle.cns_terms.specs.declared.reply.Reply.TheVariants as reply
 pub use Rattle.cns_account.specs.Past.{looked_at}
 use Rattle.cns_page.specs.Figures.{is_short}
-use Rattle.cns_page.specs.Survey.{number, why}
+use Rattle.cns_page.specs.Survey.{number}
 
 -- the second list is the first one in the order of keys: no element is below the one before it, and those that tie stand as they stood
 pub record IsInOrderOf {X K : Type 0} (key : X → K) (cmp : K → K → Ordering) (xs ys : List X) : Type 0 where
@@ -42,7 +40,7 @@ counted c = (c.number, c.count)
 
 -- how many exceptions have the number of a kind, as far as the count goes
 abbrev pub count_at : ℕ → List Outcome → ℕ
-count_at n os = min (count_by (λ o. number (why o) == n) os) (2 ^ 64 - 1)
+count_at n os = min (count_by (λ o. number o == n) os) (2 ^ 64 - 1)
 
 -- the same as a row, where there is any
 abbrev pub count_shown : ℕ → List Outcome → List (ℕ × ℕ)
@@ -75,13 +73,13 @@ live_shown S = live_among (journal_of S) (notices (journal_of S))
 
 -- the trade that a command hands in
 abbrev pub trade_in : Command → Option Trade
-trade_in (command.Activity x) = traded x
-trade_in (command.Position k) = None
-trade_in (command.Statement a d) = None
+trade_in (Command.Activity x) = traded x
+trade_in (Command.Position k) = None
+trade_in (Command.Statement a d) = None
 
 -- what a command hands in, where it was accepted
 abbrev pub if_accepted : {X : Type 0} → Reply → Option X → Option X
-if_accepted reply.Accepted x = x
+if_accepted Reply.Accepted x = x
 if_accepted _ x = None
 
 -- the accepted trades among entries of a history

@@ -1,7 +1,6 @@
 -- The texts of the rows of the other tables.
 use Rattle.std.specs.Prelude.{ℕ, ◌+◌, ◌-◌, ◌^◌, min, pos, List, [], ◌∷◌}
-use Rattle.cns_page.specs.Common.{decimal, day_text, escaped, amount_text, count_text, signed_text, piece_text, cells, Figures, Numbered, Owing, Due, Counted, Aged, ROW, Span}
-use Rattle.cns_tables.specs.declared.piece.Piece.TheVariants as piece
+use Rattle.cns_page.specs.Common.{decimal, day_text, escaped, amount_text, count_text, signed_text, piece_text, cells, Figures, Numbered, Owing, Due, Counted, Aged, ROW, Span, Piece}
 
 -- a short: the issue, the member, its age, opening, closing
 abbrev pub short_text : Aged → List ℕ
@@ -26,7 +25,7 @@ abbrev pub due_text : Due → List ℕ
 due_text d =
     cells ROW.now (day_text d.trade.date)
     (decimal d.trade.reference ∷ decimal d.trade.buyer ∷ decimal d.trade.seller ∷ escaped d.trade.issue ∷ count_text d.trade.shares
-    ∷ amount_text (pos d.trade.money) ∷ piece_text (piece.Booked d.is_booked) ∷ [])
+    ∷ amount_text (pos d.trade.money) ∷ piece_text (Piece.Booked d.is_booked) ∷ [])
 
 -- a closed day: its date, its number, the sum of the amounts of its marks, the count of shorts
 abbrev pub figures_text : Figures → List ℕ

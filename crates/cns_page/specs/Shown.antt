@@ -1,7 +1,6 @@
 -- What a page that was written shows.
-use Rattle.std.specs.Prelude.{◌≡◌, ℕ, ◌+◌, ◌-◌, ◌^◌, Bool, false, List, length, map, min, take, Option, Some}
-use Rattle.cns_page.specs.Common.{Appends, int_cmp, nat_cmp, Day, DaySheet, date, journal_of, opened, day_number, Trade, sheet_on, Log, state_of, lines_of, blank_log, log_after, IsOrdered, key_cmp, history, Watched, AreMoves, Captions, ClosedDay, Contents, Head, Figures, Due, Shared, Aged, Close, Survey, Span}
-use Rattle.cns_history.specs.declared.watched.Watched.TheVariants as watched
+use Rattle.std.specs.Prelude.{[], ◌≡◌, ℕ, ◌+◌, ◌-◌, ◌^◌, Bool, false, List, length, map, min, take, Option, Some}
+use Rattle.cns_page.specs.Common.{Account, Appends, int_cmp, nat_cmp, Day, DaySheet, date, journal_of, opened, day_number, Trade, sheet_on, Log, state_of, lines_of, blank_log, log_after, IsOrdered, key_cmp, history, Watched, AreMoves, Captions, ClosedDay, Contents, Head, Figures, Due, Shared, Aged, Close, Survey, Span}
 use Rattle.cns_account.specs.Past.{IsPast}
 use Rattle.cns_page.specs.Accounts.{sheet_lines}
 use Rattle.cns_page.specs.Due.{ArePending, due_at}
@@ -9,6 +8,7 @@ use Rattle.cns_page.specs.Foot.{IsOrigin}
 use Rattle.cns_page.specs.Issues.{AreIssues}
 use Rattle.cns_page.specs.Listed.{IsInOrderOf, counted, counts, counts_shown, date_before, due, figures_shown, last_closes, later_among, liable_shown, live_shown, looked_at, shorts_among, spans_shown}
 use Rattle.cns_page.specs.Page.{page_text}
+use Rattle.cns_page.specs.Rowless.{without_row}
 use Rattle.cns_page.specs.Survey.{IsClosedBy, known, noted_all, nothing}
 
 -- the members' shorts on a sheet, the oldest first
@@ -38,7 +38,7 @@ head_shown log s c linked = record {
   date = c.date;
   day = c.day;
   first = min (s.from + 1) (2 ^ 64 - 1);
-  last = c.record;
+  last = c.number;
   exceptions = length s.reasons.items;
   before = date_before s.closes.items;
   next = next_day log;
@@ -56,11 +56,12 @@ pub record AreShared (d : ClosedDay) (sheet : DaySheet) (g : Shared) : Type 0 wh
   pub moves : AreMoves (date_before d.survey.closes.items) d.close.date (looked_at d.book.log.history) d.lines.items g.moves
   pub past : IsPast (looked_at d.book.log.history) g.past
 
--- the rows of the page of a closed day beside them, with links or without
-pub record AreContents (d : ClosedDay) (sheet : DaySheet) (linked : Bool) (l : Contents) : Type 0 where
+-- the rows of the page of a closed day beside them, with links or without; in a folder the accounts have pages of their own
+pub record AreContents (d : ClosedDay) (sheet : DaySheet) (linked : Bool) (accounts : List Account) (l : Contents) : Type 0 where
   pub head : l.head ≡ head_shown d.book.log d.survey d.close linked
   pub reasons : map counted l.reasons.items ≡ counts_shown d.survey.reasons.items
   pub lines : l.lines.items ≡ sheet_lines sheet l.shared.now.moves linked
+  pub rowless : l.rowless.items ≡ without_row sheet accounts
   pub issues : AreIssues sheet.rows l.issues.items
   pub due : l.due.items ≡ map (λ e. due_at (state_of d.book.log) l.shared.now.pending e.0) l.shared.now.pending.shares.entries
   pub days : l.days.items ≡ days_shown d.book.log d.survey
@@ -77,9 +78,9 @@ pub record ShowsDay (d : ClosedDay) (l : Contents) (old new : Option (List ℕ))
 pub record IsClosedDay (opening : Day) (input : List ℕ) (day : Day) (w : Watched) (d : ClosedDay) : Type 0 where
   pub opened_on : d.opening ≡ opening
   pub ended_by : IsClosedBy d.survey day d.close
-  pub taken : d.book.log ≡ log_after (blank_log opening) (take d.close.record (lines_of input))
-  pub all_known : known d.survey ≡ noted_all (nothing (Some day)) (opened opening) (take d.close.record (lines_of input))
-  pub told : d.lines.items ≡ history w 0 (opened opening) (take d.close.record (lines_of input))
+  pub taken : d.book.log ≡ log_after (blank_log opening) (take d.close.number (lines_of input))
+  pub all_known : known d.survey ≡ noted_all (nothing (Some day)) (opened opening) (take d.close.number (lines_of input))
+  pub told : d.lines.items ≡ history w 0 (opened opening) (take d.close.number (lines_of input))
   pub made_of : (bytes : ℕ) × IsOrigin (take bytes input) d.origin
 
 -- the sheet that a closed day has in its book
@@ -92,11 +93,11 @@ pub record WritesDay (d : ClosedDay) (old new : Option (List ℕ)) : Type 0 wher
   pub closed : IsSheetOf d sheet
   pub contents : Contents
   pub gathered : AreShared d sheet contents.shared.now
-  pub rows : AreContents d sheet false contents
+  pub rows : AreContents d sheet false [] contents
   pub shown : ShowsDay d contents old new
 
 -- the page of the closed day with the date
 pub record HasDay (opening : Day) (input : List ℕ) (day : Day) (old new : Option (List ℕ)) : Type 0 where
   pub closed : ClosedDay
-  pub is : IsClosedDay opening input day (watched.Movements day) closed
+  pub is : IsClosedDay opening input day (Watched.Movements day) closed
   pub written : WritesDay closed old new

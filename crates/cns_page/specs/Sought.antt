@@ -1,24 +1,19 @@
 -- What a book's history has that decided a refusal.
 use Rattle.std.specs.Prelude.{◌≡◌, ℕ, ◌+◌, ◌-◌, ◌^◌, Bool, false, not, ◌==◌, ◌&&◌, if◌then◌else◌, List, [], ◌∷◌, filter, filter_map, map, min, nat_lt, reverse, take, Option, Some, None}
-use Rattle.cns_page.specs.Common.{fold, Account, Cusip, bought_in, is_not_after, pend_of, sold_in, same_issue, Command, Trade, Taken, Waiting}
-use Rattle.cns_terms.specs.declared.command.Activity.{Activity}
-use Rattle.cns_terms.specs.declared.command.Activity.TheVariants as activity
-use Rattle.cns_terms.specs.declared.command.Command.TheVariants as command
+use Rattle.cns_page.specs.Common.{fold, Account, Cusip, bought_in, is_not_after, pend_of, sold_in, same_issue, Command, Trade, Taken, Waiting, Activity, Sought}
 use Rattle.cns_page.specs.Listed.{if_accepted}
-use Rattle.cns_page.specs.declared.sought.Sought.{Sought}
-use Rattle.cns_page.specs.declared.sought.Sought.TheVariants as sought
 
 -- the activity that a command hands in
 abbrev pub activity_in : Command → Option Activity
-activity_in (command.Activity x) = Some x
-activity_in (command.Position k) = None
-activity_in (command.Statement a d) = None
+activity_in (Command.Activity x) = Some x
+activity_in (Command.Position k) = None
+activity_in (Command.Statement a d) = None
 
 -- whether an activity is one that is looked for
 abbrev pub is_sought : Sought → Activity → Bool
-is_sought (sought.Exchange c) (activity.Exchange x) = same_issue x.old c
-is_sought (sought.Reference n) (activity.Trade t) = t.reference == n
-is_sought (sought.Pending c d) (activity.Trade t) = same_issue t.issue c && not (is_not_after t.date d)
+is_sought (Sought.Exchange c) (Activity.Exchange x) = same_issue x.old c
+is_sought (Sought.Reference n) (Activity.Trade t) = t.reference == n
+is_sought (Sought.Pending c d) (Activity.Trade t) = same_issue t.issue c && not (is_not_after t.date d)
 is_sought _ _ = false
 
 -- those among the accepted activities of entries of a history

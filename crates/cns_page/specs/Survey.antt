@@ -1,32 +1,16 @@
 -- What is known of the records of an input: which of them are exceptions, and which closed a day.
 use Rattle.std.specs.Prelude.{◌≡◌, ◌≤◌, ℕ, ◌+◌, ◌-◌, ◌^◌, ◌==◌, ◌&&◌, Bool, false, is_none, List, [], ◌∷◌, ◌++◌, if◌then◌else◌, length, map, min, nat_lt, slice_get, take, true, Option, Some, None, Ok, Err}
-use Rattle.cns_page.specs.Common.{option_map_or, Day, State, answer, opened, refusal_number, Command, Refusal, Reply, Log, state_of, Line, state_after_line, blank_log, log_after, log_after_line, history, is_open, HistoryLine, Watched, Finding, Outcome, Played, Close, Survey}
-use Rattle.cns_terms.specs.declared.command.Activity.TheVariants as activity
-use Rattle.cns_terms.specs.declared.command.Command.TheVariants as command
+use Rattle.cns_page.specs.Common.{option_map_or, Day, State, answer, opened, refusal_number, Command, Reply, Log, state_of, Line, state_after_line, blank_log, log_after, log_after_line, history, is_open, HistoryLine, Watched, Finding, Outcome, Played, Close, Survey, Activity}
 use Rattle.cns_terms.specs.declared.reply.Closed.{Closed}
-use Rattle.cns_terms.specs.declared.reply.Reply.TheVariants as reply
 use Rattle.cns_feed.specs.Records.{IsReady, Pending}
 use Rattle.cns_feed.specs.declared.records.Records.{Records}
-use Rattle.cns_feed.specs.declared.fault.LineFault.{LineFault}
 use Rattle.cns_history.specs.Lines.{lines_of}
-use Rattle.cns_page.specs.declared.finding.Outcome.TheVariants as outcome
-
--- a closed day: its number and date, and the number of the record that closed it
-pub record Closing : Type 0 where
-  pub day : ℕ
-  pub date : Day
-  pub number : ℕ
-
--- why a record is an exception: it is invalid, or its command is refused
-pub data Why : Type 0 where
-  at_fault : LineFault → Why
-  refused : Refusal → Why
 
 -- an exception: the number of its record, from 1, why it is one, the reference of a trade, and the number of the first later record
 -- whose trade with that reference was accepted
 pub record Exception : Type 0 where
   pub number : ℕ
-  pub why : Why
+  pub why : Outcome
   pub reference : Option ℕ
   pub put_right : Option ℕ
 
@@ -39,9 +23,9 @@ pub record Known : Type 0 where
   pub from : ℕ
   pub records : ℕ
   pub exceptions : ℕ
-  pub reasons : List Why
+  pub reasons : List Outcome
   pub first : List Exception
-  pub closes : List Closing
+  pub closes : List Close
   pub invalid : List ℕ
 
 -- of no records
@@ -65,20 +49,20 @@ abbrev pub one_invalid : Known → Known
 one_invalid k = record k { invalid = k.invalid ++ k.records ∷ [] }
 
 -- it is one of the first, too
-abbrev pub first_too : Known → Why → Option ℕ → Known
+abbrev pub first_too : Known → Outcome → Option ℕ → Known
 first_too k w r = record k { first = k.first ++ record { number = k.records; why = w; reference = r; put_right = None } ∷ [] }
 
 -- its reason, where it is looked at closely
-abbrev pub of_day : Known → Why → Option ℕ → Known
+abbrev pub of_day : Known → Outcome → Option ℕ → Known
 of_day k w r = let with = record k { reasons = k.reasons ++ w ∷ [] } in if nat_lt (length k.first) 200 then first_too with w r else with
 
 -- it is an exception, of a command with the reference, if it is a trade
-abbrev pub wanted : Known → Why → Option ℕ → Known
+abbrev pub wanted : Known → Outcome → Option ℕ → Known
 wanted k w r = if k.is_of_day then of_day (one_more k) w r else one_more k
 
 -- the reference of a trade
 abbrev pub reference_of : Command → Option ℕ
-reference_of (command.Activity (activity.Trade t)) = Some t.reference
+reference_of (Command.Activity (Activity.Trade t)) = Some t.reference
 reference_of _ = None
 
 -- whether a reference is the one
@@ -103,15 +87,15 @@ day_closed k c = record k {
 
 -- what the reply to its command tells
 abbrev pub replied : Known → Command → Reply → Known
-replied k cmd (reply.Closed c) = day_closed k c
-replied k cmd (reply.Refused r) = wanted k (refused r) (reference_of cmd)
-replied k cmd reply.Accepted = righted k (reference_of cmd)
+replied k cmd (Reply.Closed c) = day_closed k c
+replied k cmd (Reply.Refused r) = wanted k (Outcome.Refused r) (reference_of cmd)
+replied k cmd Reply.Accepted = righted k (reference_of cmd)
 replied k cmd _ = k
 
 -- what it tells, in the state before it
 abbrev pub told_by : Known → State → Line → Known
 told_by k S (Ok cmd) = replied k cmd (answer S cmd)
-told_by k S (Err f) = wanted (one_invalid k) (at_fault f) None
+told_by k S (Err f) = wanted (one_invalid k) (Outcome.AtFault f) None
 
 -- one record more, and what it tells
 abbrev pub noted : Known → State → Line → Known
@@ -122,27 +106,18 @@ unfoldable pub noted_all : Known → State → List Line → Known
 noted_all k S [] = k
 noted_all k S (l ∷ ls) = noted_all (noted k S l) (state_after_line S l) ls
 
--- why a finding's record is an exception
-abbrev pub why : Outcome → Why
-why (outcome.AtFault f) = at_fault f
-why (outcome.Refused r) = refused r
-
 -- the number of a refusal; 0 for an invalid record
-abbrev pub number : Why → ℕ
-number (at_fault f) = 0
-number (refused r) = refusal_number r
+abbrev pub number : Outcome → ℕ
+number (Outcome.AtFault f) = 0
+number (Outcome.Refused r) = refusal_number r
 
 -- a finding without its text and what decided it
 abbrev pub told : Finding → Exception
-told f = record { number = f.record; why = why f.outcome; reference = f.parties.reference; put_right = f.put_right }
+told f = record { number = f.record; why = f.outcome; reference = f.parties.reference; put_right = f.put_right }
 
 -- a finding, where a trade with a reference was accepted by the record with a number
 abbrev pub put_right : ℕ → ℕ → Finding → Finding
 put_right n r f = if is_none f.put_right && is_reference r f.parties.reference then record f { put_right = Some n } else f
-
--- a close without the place of its record
-abbrev pub closing : Close → Closing
-closing c = record { day = c.day; date = c.date; number = c.record }
 
 -- what a survey knows
 abbrev pub known : Survey → Known
@@ -152,16 +127,16 @@ known s = record {
   from = s.from;
   records = s.records;
   exceptions = s.exceptions;
-  reasons = map why s.reasons.items;
+  reasons = s.reasons.items;
   first = map told s.findings.items;
-  closes = map closing s.closes.items;
+  closes = s.closes.items;
   invalid = s.invalid.items;
 }
 
 -- the last record of a survey closed the day with the date
 pub record IsClosedBy (s : Survey) (day : Day) (c : Close) : Type 0 where
   pub last : slice_get s.closes.items (length s.closes.items - 1) ≡ Some c
-  pub ended : c.record ≡ s.records
+  pub ended : c.number ≡ s.records
   pub dated : c.date ≡ day
 
 -- the first of some lines was taken and noted, and the lines of what is watched were added; the others are left

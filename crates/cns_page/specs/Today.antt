@@ -1,6 +1,6 @@
 -- The page of the day that is open.
 use Rattle.std.specs.Prelude.{◌≡◌, ℕ, ◌-◌, List, [], ◌∷◌, ◌++◌, length, map, None, Option, Some}
-use Rattle.cns_page.specs.Common.{decimal, Appends, day_text, Day, date, day, journal_of, opened, Log, state_of, lines_of, blank_log, log_after, count_text, table_text, texts, STYLE, Origin, DAY, EXCEPTIONS, HEADING, START, TITLE_END, Counted, Survey, Span}
+use Rattle.cns_page.specs.Common.{decimal, Appends, day_text, Day, date, day, journal_of, opened, Log, state_of, lines_of, blank_log, log_after, count_text, table_text, STYLE, Origin, START, Counted, Survey, Span, filled}
 use Rattle.cns_tables.specs.declared.table.Table.{Table}
 use Rattle.cns_page.specs.Exceptions.{finding_text}
 use Rattle.cns_page.specs.Foot.{IsOrigin, foot_text}
@@ -10,7 +10,7 @@ use Rattle.cns_page.specs.Rows.{counted_text, span_text}
 use Rattle.cns_page.specs.Shown.{next_day}
 use Rattle.cns_page.specs.Survey.{known, noted_all, nothing}
 use Rattle.cns_page.specs.declared.today.Heading.{Heading}
-use Rattle.cns_page.specs.declared.today.TheConstants.{COUNT, MAIN, OPEN, SO_FAR}
+use Rattle.cns_page.specs.declared.today.TheConstants.{HEAD}
 
 -- what the head tells
 abbrev pub heading_shown : Log → Survey → Heading
@@ -26,8 +26,8 @@ heading_shown log s = record {
 -- them are exceptions
 unfoldable pub heading_text : Heading → List ℕ
 heading_text h =
-    texts (START.now ∷ OPEN.now ∷ day_text h.date ∷ TITLE_END.now ∷ STYLE.now ∷ HEADING.now ∷ OPEN.now ∷ day_text h.date ∷ DAY.now
-    ∷ decimal h.day ∷ SO_FAR.now ∷ decimal h.from ∷ COUNT.now ∷ count_text h.records ∷ EXCEPTIONS.now ∷ count_text h.exceptions ∷ MAIN.now ∷ [])
+    filled HEAD.now (START.now ∷ day_text h.date ∷ STYLE.now ∷ day_text h.date ∷ decimal h.day ∷ decimal h.from ∷ count_text h.records
+    ∷ count_text h.exceptions ∷ [])
 
 -- how many rows each table has
 abbrev pub row_counts : Survey → List Counted → List Span → List ℕ

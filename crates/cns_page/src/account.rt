@@ -2,7 +2,7 @@
 ghost use Rattle.std.specs.Prelude.{◌≡◌, ◌==◌, IfOk, OnOk, filter, map};
 ghost use Rattle.std.specs.Io.KnownBytes.{Appends};
 ghost use Rattle.cns_book.specs.Log.{state_of};
-ghost use Rattle.cns_page.specs.Account.{AreOwn, ShowsAccount, account_text, again_text, cited, is_party, names, nav_text, own_fails, row_counts, summary_text, tables_text, title_text};
+ghost use Rattle.cns_page.specs.Account.{AreOwn, ShowsAccount, account_text, again_of, cited, head_text, is_party, names, nav_text, own_fails, row_counts, tables_text};
 ghost use Rattle.cns_page.specs.Page.{sum_of};
 
 use crate::captions::{LIABLE, NOTICES, PROJECTION};
@@ -11,19 +11,19 @@ use crate::contents::sum_of;
 use crate::due::{Projected, projected_all};
 use crate::fails::fails_of;
 use crate::finding::{Cited, Finding, Numbered};
-use crate::foot::{AGAIN, AGAIN_DAY, write_made};
+use crate::foot::{write_again, write_made};
 use crate::liable::Owing;
-use crate::page::{DAY, NEXT, START, TITLE_END};
 use crate::projection::Due;
 use crate::shared::Shared;
 use crate::shorts::Aged;
+use crate::survey::Close;
 use cns_account::{
     AccountDay, BOOKINGS, DIVIDENDS, FAILS, Fail, MARKS, POSITIONS, PaidDividend, account_day,
     dividends_of,
 };
 use cns_history::HistoryLine;
 use cns_shell::Fault;
-use cns_tables::{Piece, Table, hand_on, page_style, write_markup, write_pieces, write_table};
+use cns_tables::{Piece, START, Table, hand_on, page_style, write_form, write_markup, write_table};
 use cns_terms::NoMemory;
 use cns_units::{Account, Day, WriteFault};
 use std::alloc::Global;
@@ -107,38 +107,28 @@ const TABLES: OwnCaptions = OwnCaptions {
     exceptions: NAMING,
 };
 
-// The words of the head and of the foot.
-const ACCOUNT: &str = "Account ";
-
-const ON: &str = " on ";
-
-const SKIP: &str = "<a class=skip href=#main>Skip to the account</a>
+// The head: start, account, date, style, account, date, the day's number, market value long, short and net, mark, dividends, and the
+// next day.
+const HEAD: &str = "_Account _ on _</title>
+_<a class=skip href=#main>Skip to the account</a>
 <header>
-<h1>";
-
-const LONG: &str = ", as its close left it. Market value of the positions (dollars): long ";
-
-const SHORT: &str = ", short ";
-
-const NET: &str = ", net ";
-
-const MARK: &str = ". Mark ";
-
-const DIVIDEND: &str = ", dividends ";
-
-const SENTENCE_END: &str = ".</p>
+<h1>Account _ on _</h1>
+<p>Day _, as its close left it. Market value of the positions (dollars): long _, short _, net _. Mark _, dividends _. The next day \
+is _.</p>
 ";
 
-const ALL_ACCOUNTS: &str = "<nav aria-label=Pages><ul><li><a href=";
-
-const ALL_ACCOUNTS_END: &str = ".html>All accounts on this day</a></ul></nav>
+// The end of the head, with a link to the page of the day before it where the page stands in a folder.
+const LINKED: &str =
+    "<nav aria-label=Pages><ul><li><a href=_.html>All accounts on this day</a></ul></nav>
+</header>
+<main id=main>
 ";
 
 const MAIN: &str = "</header>
 <main id=main>
 ";
 
-const ACCOUNT_OPTION: &str = " --account ";
+const ACCOUNT_OPTION: &str = " --account _";
 
 // Whether an account is the one that the page is of.
 fn is_own(account: Account, other: Account) -> bool
@@ -269,57 +259,34 @@ pub(crate) fn own_of<'a>(
     })
 }
 
-// Writes the account and the day in the title, and in the heading.
-#[tactic(auto, unfolding(crate::specs::Account::title_text))]
-fn write_title<W: Write>(account: Account, date: Day, writer: &mut W) -> Result<(), WriteFault>
-    ensures { OnOk result (Appends (W.contents writer.old) (W.contents writer.new) (title_text account date)) }
-{
-    let number = u64::from(account.value());
-    let pieces = [
-        Piece::Markup(START),
-        Piece::Markup(ACCOUNT),
-        Piece::Number(number),
-        Piece::Markup(ON),
-        Piece::Date(date),
-        Piece::Markup(TITLE_END),
-        Piece::Markup(page_style()),
-        Piece::Markup(SKIP),
-        Piece::Markup(ACCOUNT),
-        Piece::Number(number),
-        Piece::Markup(ON),
-        Piece::Date(date),
-        Piece::Markup(DAY),
-    ];
-    write_pieces(&pieces, writer)
-}
-
-// Writes the day's number, what the positions are worth, mark and dividends, and the next day.
-#[tactic(auto, unfolding(crate::specs::Account::summary_text))]
-fn write_summary<W: Write>(
-    number: u32,
+// Writes the account and the day, what the positions are worth, mark and dividends, and the next day.
+#[tactic(auto, unfolding(crate::specs::Account::head_text))]
+fn write_head<W: Write>(
+    account: Account,
+    close: &Close,
     day: &AccountDay,
     next: Day,
     writer: &mut W,
 ) -> Result<(), WriteFault>
-    ensures { OnOk result (Appends (W.contents writer.old) (W.contents writer.new) (summary_text number day.now next)) }
+    ensures { OnOk result (Appends (W.contents writer.old) (W.contents writer.new) (head_text account close.now day.now next)) }
 {
+    let number = u64::from(account.value());
     let pieces = [
-        Piece::Number(u64::from(number)),
-        Piece::Markup(LONG),
+        Piece::Markup(START),
+        Piece::Number(number),
+        Piece::Date(close.date),
+        Piece::Markup(page_style()),
+        Piece::Number(number),
+        Piece::Date(close.date),
+        Piece::Number(u64::from(close.day)),
         Piece::Amount(day.totals.long),
-        Piece::Markup(SHORT),
         Piece::Amount(day.totals.short),
-        Piece::Markup(NET),
         Piece::Amount(day.totals.net),
-        Piece::Markup(MARK),
         Piece::Amount(day.stated.mark),
-        Piece::Markup(DIVIDEND),
         Piece::Amount(day.stated.dividend),
-        Piece::Markup(NEXT),
         Piece::Date(next),
-        Piece::Markup(SENTENCE_END),
     ];
-    write_pieces(&pieces, writer)
+    write_form(HEAD, &pieces, writer)
 }
 
 // Writes the link to the page of the day, where the page stands in a folder with it, and the end of the head.
@@ -327,16 +294,11 @@ fn write_summary<W: Write>(
 fn write_nav<W: Write>(is_linked: bool, date: Day, writer: &mut W) -> Result<(), WriteFault>
     ensures { OnOk result (Appends (W.contents writer.old) (W.contents writer.new) (nav_text is_linked date)) }
 {
-    if !is_linked {
-        return write_markup(MAIN, writer);
+    if is_linked {
+        write_form(LINKED, &[Piece::Date(date)], writer)
+    } else {
+        write_markup(MAIN, writer)
     }
-    let pieces = [
-        Piece::Markup(ALL_ACCOUNTS),
-        Piece::Date(date),
-        Piece::Markup(ALL_ACCOUNTS_END),
-        Piece::Markup(MAIN),
-    ];
-    write_pieces(&pieces, writer)
 }
 
 // Writes the tables.
@@ -378,24 +340,18 @@ fn rows_of(own: &Own<'_>) -> u64
 }
 
 // Writes the line that makes the page again, but for its end.
-#[tactic(auto, unfolding(crate::specs::Account::again_text))]
-fn write_again<W: Write>(
+#[tactic(auto, using(cns_tables::proofs::Written::after))]
+fn write_again_of<W: Write>(
     opening: Day,
     date: Day,
     account: Account,
     writer: &mut W,
 ) -> Result<(), WriteFault>
-    ensures { OnOk result (Appends (W.contents writer.old) (W.contents writer.new) (again_text opening date account)) }
+    ensures { OnOk result (Appends (W.contents writer.old) (W.contents writer.new) (again_of opening date account)) }
 {
-    let pieces = [
-        Piece::Markup(AGAIN),
-        Piece::Date(opening),
-        Piece::Markup(AGAIN_DAY),
-        Piece::Date(date),
-        Piece::Markup(ACCOUNT_OPTION),
-        Piece::Number(u64::from(account.value())),
-    ];
-    write_pieces(&pieces, writer)
+    let account = Piece::Number(u64::from(account.value()));
+    write_again(opening, Some(date), writer)?;
+    write_form(ACCOUNT_OPTION, &[account], writer)
 }
 
 // Writes the page with some captions, and hands it on.
@@ -411,11 +367,10 @@ fn write_whole<W: Write>(
 {
     let day = page.day;
     let date = day.close.date;
-    write_title(account, date, writer)?;
-    write_summary(day.close.day, &own.day, day.book.today(), writer)?;
+    write_head(account, &day.close, &own.day, day.book.today(), writer)?;
     write_nav(page.is_linked, date, writer)?;
     write_tables(captions, own, writer)?;
-    write_again(day.opening, date, account, writer)?;
+    write_again_of(day.opening, date, account, writer)?;
     write_made(&day.origin, rows_of(own), writer)?;
     hand_on(writer)
 }

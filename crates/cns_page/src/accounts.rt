@@ -2,14 +2,16 @@
 ghost use Rattle.std.specs.Prelude.{◌≡◌, ◌++◌, IfOk, OnOk};
 ghost use Rattle.std.specs.Io.KnownBytes.{Appends};
 ghost use Rattle.cns_statements.specs.Packs.{is_next};
-ghost use Rattle.cns_page.specs.Accounts.{account_line, account_text, all_text, grouped, issue_text, name_text, own_text, sheet_lines};
+ghost use Rattle.cns_page.specs.Accounts.{account_line, account_text, all_text, grouped, issue_text, link_text, name_text, own_text, sheet_lines};
 
 use crate::sums::{MovedRow, Sums, moved_row, own_sums, sums_of};
 use cns_account::DayMoves;
 use cns_sheets::Sheet;
-use cns_tables::{Piece, ROW, TableRow, cents_of, write_line, write_markup, write_pieces};
+use cns_tables::{
+    Piece, ROW, TableRow, cents_of, write_form, write_line, write_markup, write_piece,
+};
 use cns_terms::{NoMemory, Row, Stated};
-use cns_units::{Account, WriteFault};
+use cns_units::{Account, Day, WriteFault};
 use std::alloc::Global;
 use std::io::Write;
 
@@ -43,18 +45,10 @@ const ACCOUNT: &str =
 <thead><tr><th scope=col>Issue<th scope=col>Opening<th scope=col>Closing<th scope=col>Price before<th scope=col>Price\
 <th scope=col>Settling money<th scope=col>Price change on opening<th scope=col>Settling trades<th scope=col>Delivered\
 <th scope=col>Received<th scope=col>Corporate actions<th scope=col>Buy-ins<th scope=col>Mark<th scope=col>Dividend\
-\n</thead><tbody>\n<tr class=sum><th scope=rowgroup colspan=5 id=account-";
+\n</thead><tbody>\n<tr class=sum><th scope=rowgroup colspan=5 id=account-_>Account ";
 
-const NAME: &str = ">Account ";
-
-// What stands around the parts of a link to an account's page.
-const LINK: &str = "<a href=";
-
-const LINK_ACCOUNT: &str = "-";
-
-const LINK_NAME: &str = ".html>";
-
-const LINK_END: &str = "</a>";
+// A link to an account's page: the date and its number, and the number.
+const LINK: &str = "<a href=_-_.html>_</a>";
 
 // Whether an account is not the one before.
 fn is_next(before: Option<Account>, account: Account) -> bool
@@ -122,25 +116,34 @@ pub fn lines_of(
     Ok(lines)
 }
 
+/// Writes an account's number as a link to its page of the day with the date.
+#[tactic(auto, unfolding(crate::specs::Accounts::link_text))]
+pub(crate) fn write_link<W: Write>(
+    date: Day,
+    account: Account,
+    writer: &mut W,
+) -> Result<(), WriteFault>
+    ensures { OnOk result (Appends (W.contents writer.old) (W.contents writer.new) (link_text date account)) }
+{
+    let number = u64::from(account.value());
+    let pieces = [
+        Piece::Date(date),
+        Piece::Number(number),
+        Piece::Number(number),
+    ];
+    write_form(LINK, &pieces, writer)
+}
+
 // Writes the account's number, with a link to its page where there is one.
-#[tactic(auto, unfolding(crate::specs::Accounts::name_text))]
+#[tactic(auto, using(cns_tables::proofs::Written::written))]
 fn write_name<W: Write>(line: &AccountLine, writer: &mut W) -> Result<(), WriteFault>
     ensures { OnOk result (Appends (W.contents writer.old) (W.contents writer.new) (name_text line.now)) }
 {
-    let number = u64::from(line.stated.account.value());
-    if !line.is_linked {
-        return write_pieces(&[Piece::Number(number)], writer);
+    let account = line.stated.account;
+    if line.is_linked {
+        return write_link(line.stated.date, account, writer);
     }
-    let pieces = [
-        Piece::Markup(LINK),
-        Piece::Date(line.stated.date),
-        Piece::Markup(LINK_ACCOUNT),
-        Piece::Number(number),
-        Piece::Markup(LINK_NAME),
-        Piece::Number(number),
-        Piece::Markup(LINK_END),
-    ];
-    write_pieces(&pieces, writer)
+    write_piece(&Piece::Number(u64::from(account.value())), writer)
 }
 
 fn write_sums<W: Write>(sums: &Sums, writer: &mut W) -> Result<(), WriteFault>
@@ -171,10 +174,7 @@ fn write_account<W: Write>(line: &AccountLine, writer: &mut W) -> Result<(), Wri
     ensures { OnOk result (Appends (W.contents writer.old) (W.contents writer.new) (account_text line.now)) }
 {
     let account = Piece::Number(u64::from(line.stated.account.value()));
-    write_pieces(
-        &[Piece::Markup(ACCOUNT), account, Piece::Markup(NAME)],
-        writer,
-    )?;
+    write_form(ACCOUNT, &[account], writer)?;
     write_name(line, writer)?;
     write_sums(&line.sums, writer)
 }

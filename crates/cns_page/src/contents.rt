@@ -10,11 +10,12 @@ use crate::due::{DueAt, all_due};
 use crate::figures::{Figures, line_of_days};
 use crate::issues::{IssueLine, issue_lines};
 use crate::reasons::{Counted, counts_of};
+use crate::rowless::{Rowless, without_row};
 use crate::shared::{Shared, date_before};
 use crate::survey::{Close, Survey};
 use crate::totals::Span;
 use cns_terms::NoMemory;
-use cns_units::Day;
+use cns_units::{Account, Day};
 use std::alloc::Global;
 
 /// What the head of a page tells.
@@ -44,6 +45,8 @@ pub struct Contents<'a> {
     pub shared: &'a Shared,
     pub reasons: Vec<Counted>,
     pub lines: Vec<SheetLine>,
+    /// The accounts of the page's folder that have no row.
+    pub rowless: Vec<Rowless>,
     /// What the rows of each issue add up to.
     pub issues: Vec<IssueLine>,
     /// What is due at each place with pending trades.
@@ -70,7 +73,7 @@ fn head_of(day: &ClosedDay, is_linked: bool) -> Head
         date: day.close.date,
         day: day.close.day,
         first: day.survey.from.saturating_add(1),
-        last: day.close.record,
+        last: day.close.number,
         exceptions: day.survey.reasons.len() as u64,
         before: date_before(day.survey.closes.as_slice()),
         next: day.book.today(),
@@ -78,18 +81,20 @@ fn head_of(day: &ClosedDay, is_linked: bool) -> Head
     }
 }
 
-/// What the page of a day shows, beside what it shares.
+/// What the page of a day shows, beside what it shares. In a folder the accounts have pages of their own.
 pub fn contents_of<'a>(
     alloc: Global,
     page: &Page<'_>,
     shared: &'a Shared,
+    accounts: &[Account],
 ) -> Result<Contents<'a>, NoMemory>
     ensures shared { IfOk result (λ l. l.shared.now ≡ shared.now) }
-    ensures rows { IfOk result (AreContents page.now.day.now page.now.sheet.now page.now.is_linked) }
+    ensures rows { IfOk result (AreContents page.now.day.now page.now.sheet.now page.now.is_linked accounts.now) }
 {
     let day = page.day;
     let reasons = counts_of(alloc, day.survey.reasons.as_slice())?;
     let lines = lines_of(alloc, page.sheet, &shared.moves, page.is_linked)?;
+    let rowless = without_row(alloc, page.sheet, accounts)?;
     let issues = issue_lines(alloc, page.sheet)?;
     let due = all_due(alloc, &day.book, &shared.pending)?;
     let days = line_of_days(alloc, &day.book, last_of(day.survey.closes.as_slice()))?;
@@ -98,6 +103,7 @@ pub fn contents_of<'a>(
         shared,
         reasons,
         lines,
+        rowless,
         issues,
         due,
         days,

@@ -6,112 +6,63 @@ ghost use Rattle.cns_page.specs.Exceptions.{exchanged_text, fact_text, notice_te
 
 use crate::finding::{Cited, Exchanged, Fact, Finding, Numbered, Outcome, Pending, Seen, Waiting};
 use crate::words::{fault_name, stage_name};
-use cns_tables::{CELL, Piece, ROW, TableRow, write_markup, write_pieces};
+use cns_tables::{Piece, TableRow, write_form, write_markup};
 use cns_units::WriteFault;
 use std::io::Write;
 
-// The words around the facts of an exception.
-const GIVEN: &str = "<td><code>";
+// A row: the number of the record and what was given, why it is an exception, its facts, and the record that put it right.
+const RECORD: &str = "<tr><th scope=row>_<td><code>_</code><td>";
 
-const GIVEN_END: &str = "</code><td>";
+const INVALID: &str = "<strong>Invalid record</strong>. __<td>";
 
-const INVALID: &str = "<strong>Invalid record</strong>. ";
+const REFUSED: &str = "<strong>Refused _</strong>_<td>";
 
-const REFUSED: &str = "<strong>Refused ";
+const PUT_RIGHT: &str = ". Put right by record _";
 
-const REFUSED_END: &str = "</strong>";
+// The facts.
+const TODAY: &str = "Today was _, day _";
 
-const TODAY: &str = "Today was ";
+const PRICE: &str = ". Price of _: _";
 
-const DAY: &str = ", day ";
+const EXCHANGED: &str = ". The issue _ was exchanged for _";
 
-const PRICE_OF: &str = ". Price of ";
+const POSITION: &str = ". Position of _ in _: _";
 
-const POSITION_OF: &str = ". Position of ";
+const WAITING: &str = " (pending: _ bought, _ sold)";
 
-const RETIRED: &str = ". The issue ";
+const SEEN: &str = ". Trade _ of record _: member _ bought _ of _ from member _, for _";
 
-const EXCHANGED: &str = " was exchanged for ";
+const PENDING: &str = ". Trade _, for _, is pending";
 
-const WAITING: &str = " (pending: ";
+const NOTICE: &str = ". Notice _ of member _ in _: given on day _, _, _ of _ shares remain";
 
-const BOUGHT: &str = " bought, ";
-
-const SOLD: &str = " sold)";
-
-const TRADE: &str = ". Trade ";
-
-const OF_RECORD: &str = " of record ";
-
-const BUYER: &str = ": member ";
-
-const BUYS: &str = " bought ";
-
-const FROM: &str = " from member ";
-
-const FOR: &str = ", for ";
-
-const PENDING: &str = ", is pending";
-
-const NOTICE: &str = ". Notice ";
-
-const MEMBER: &str = " of member ";
-
-const IN: &str = " in ";
-
-const IS: &str = ": ";
-
-const GIVEN_ON: &str = ": given on day ";
-
-const AND: &str = ", ";
-
-const OF: &str = " of ";
-
-const REMAIN: &str = " shares remain";
-
-const ROOM: &str = ". Shares that they can be given: ";
-
-const PUT_RIGHT: &str = ". Put right by record ";
+const ROOM: &str = ". Shares that they can be given: _";
 
 fn write_fact<W: Write>(fact: &Fact, writer: &mut W) -> Result<(), WriteFault>
     ensures { OnOk result (Appends (W.contents writer.old) (W.contents writer.new) (some_fact_text fact.now)) }
 {
     match fact {
         Fact::Today(date, day) => {
-            let pieces = [
-                Piece::Markup(TODAY),
-                Piece::Date(*date),
-                Piece::Markup(DAY),
-                Piece::Number(*day),
-            ];
-            write_pieces(&pieces, writer)
+            write_form(TODAY, &[Piece::Date(*date), Piece::Number(*day)], writer)
         }
         Fact::Price(quote) => {
-            let pieces = [
-                Piece::Markup(PRICE_OF),
-                Piece::Issue(quote.issue),
-                Piece::Markup(IS),
-                Piece::Price(quote.price),
-            ];
-            write_pieces(&pieces, writer)
+            let pieces = [Piece::Issue(quote.issue), Piece::Price(quote.price)];
+            write_form(PRICE, &pieces, writer)
         }
         Fact::Exchanged(exchanged) => write_exchanged(exchanged, writer),
         Fact::Position(stand) => {
             let pieces = [
-                Piece::Markup(POSITION_OF),
                 Piece::Number(u64::from(stand.account.value())),
-                Piece::Markup(IN),
                 Piece::Issue(stand.issue),
-                Piece::Markup(IS),
                 Piece::Position(stand.position),
             ];
-            write_pieces(&pieces, writer)
+            write_form(POSITION, &pieces, writer)
         }
         Fact::Waiting(waiting) => write_waiting(waiting, writer),
         Fact::Seen(seen) => write_seen(seen, writer),
         Fact::Pending(pending) => write_pending(pending, writer),
         Fact::Notice(numbered) => write_notice(numbered, writer),
-        Fact::Room(room) => write_pieces(&[Piece::Markup(ROOM), Piece::Count(*room)], writer),
+        Fact::Room(room) => write_form(ROOM, &[Piece::Count(*room)], writer),
     }
 }
 
@@ -120,26 +71,18 @@ fn write_exchanged<W: Write>(exchanged: &Exchanged, writer: &mut W) -> Result<()
     ensures { OnOk result (Appends (W.contents writer.old) (W.contents writer.new) (exchanged_text exchanged.now)) }
 {
     let pieces = [
-        Piece::Markup(RETIRED),
         Piece::Issue(exchanged.issue),
-        Piece::Markup(EXCHANGED),
         Piece::Issue(exchanged.exchange.successor),
     ];
-    write_pieces(&pieces, writer)
+    write_form(EXCHANGED, &pieces, writer)
 }
 
 // What waits beside a position.
 fn write_waiting<W: Write>(waiting: &Waiting, writer: &mut W) -> Result<(), WriteFault>
     ensures { OnOk result (Appends (W.contents writer.old) (W.contents writer.new) (waiting_text waiting.now)) }
 {
-    let pieces = [
-        Piece::Markup(WAITING),
-        Piece::Count(waiting.bought),
-        Piece::Markup(BOUGHT),
-        Piece::Count(waiting.sold),
-        Piece::Markup(SOLD),
-    ];
-    write_pieces(&pieces, writer)
+    let pieces = [Piece::Count(waiting.bought), Piece::Count(waiting.sold)];
+    write_form(WAITING, &pieces, writer)
 }
 
 // The trade that has a reference.
@@ -148,22 +91,15 @@ fn write_seen<W: Write>(seen: &Seen, writer: &mut W) -> Result<(), WriteFault>
 {
     let trade = &seen.trade;
     let pieces = [
-        Piece::Markup(TRADE),
         Piece::Number(seen.reference),
-        Piece::Markup(OF_RECORD),
         Piece::Number(seen.record),
-        Piece::Markup(BUYER),
         Piece::Number(u64::from(trade.buyer.value())),
-        Piece::Markup(BUYS),
         Piece::Count(trade.shares.value()),
-        Piece::Markup(OF),
         Piece::Issue(trade.issue),
-        Piece::Markup(FROM),
         Piece::Number(u64::from(trade.seller.value())),
-        Piece::Markup(FOR),
         Piece::Date(trade.date),
     ];
-    write_pieces(&pieces, writer)
+    write_form(SEEN, &pieces, writer)
 }
 
 // The first trade that is pending.
@@ -171,13 +107,10 @@ fn write_pending<W: Write>(pending: &Pending, writer: &mut W) -> Result<(), Writ
     ensures { OnOk result (Appends (W.contents writer.old) (W.contents writer.new) (pending_text pending.now)) }
 {
     let pieces = [
-        Piece::Markup(TRADE),
         Piece::Number(pending.trade.reference),
-        Piece::Markup(FOR),
         Piece::Date(pending.trade.date),
-        Piece::Markup(PENDING),
     ];
-    write_pieces(&pieces, writer)
+    write_form(PENDING, &pieces, writer)
 }
 
 // A notice as it stood.
@@ -186,23 +119,15 @@ fn write_notice<W: Write>(numbered: &Numbered, writer: &mut W) -> Result<(), Wri
 {
     let notice = &numbered.notice;
     let pieces = [
-        Piece::Markup(NOTICE),
         Piece::Number(u64::from(numbered.number)),
-        Piece::Markup(MEMBER),
         Piece::Number(u64::from(notice.member.value())),
-        Piece::Markup(IN),
         Piece::Issue(notice.issue),
-        Piece::Markup(GIVEN_ON),
         Piece::Number(u64::from(notice.given)),
-        Piece::Markup(AND),
         Piece::Markup(stage_name(notice.stage)),
-        Piece::Markup(AND),
         Piece::Count(notice.remaining),
-        Piece::Markup(OF),
         Piece::Count(notice.shares.value()),
-        Piece::Markup(REMAIN),
     ];
-    write_pieces(&pieces, writer)
+    write_form(NOTICE, &pieces, writer)
 }
 
 // Writes the facts that there are, one after another.
@@ -230,10 +155,7 @@ fn write_put_right<W: Write>(number: Option<u64>, writer: &mut W) -> Result<(), 
 {
     match number {
         None => Ok(()),
-        Some(number) => {
-            let pieces = [Piece::Markup(PUT_RIGHT), Piece::Number(number)];
-            write_pieces(&pieces, writer)
-        }
+        Some(number) => write_form(PUT_RIGHT, &[Piece::Number(number)], writer),
     }
 }
 
@@ -242,25 +164,14 @@ fn write_reason<W: Write>(finding: &Finding, writer: &mut W) -> Result<(), Write
     ensures { OnOk result (Appends (W.contents writer.old) (W.contents writer.new)
         (reason_text finding.now.outcome finding.now.words.now)) }
 {
+    let words = Piece::Markup(finding.words);
     match finding.outcome {
         Outcome::AtFault(fault) => {
-            let pieces = [
-                Piece::Markup(INVALID),
-                Piece::Markup(fault_name(fault)),
-                Piece::Markup(finding.words),
-                Piece::Markup(CELL),
-            ];
-            write_pieces(&pieces, writer)
+            write_form(INVALID, &[Piece::Markup(fault_name(fault)), words], writer)
         }
         Outcome::Refused(refusal) => {
-            let pieces = [
-                Piece::Markup(REFUSED),
-                Piece::Number(u64::from(refusal.number())),
-                Piece::Markup(REFUSED_END),
-                Piece::Markup(finding.words),
-                Piece::Markup(CELL),
-            ];
-            write_pieces(&pieces, writer)
+            let number = Piece::Number(u64::from(refusal.number()));
+            write_form(REFUSED, &[number, words], writer)
         }
     }
 }
@@ -270,13 +181,10 @@ fn write_record<W: Write>(finding: &Finding, writer: &mut W) -> Result<(), Write
     ensures { OnOk result (Appends (W.contents writer.old) (W.contents writer.new) (record_text finding.now)) }
 {
     let pieces = [
-        Piece::Markup(ROW),
         Piece::Number(finding.record),
-        Piece::Markup(GIVEN),
         Piece::Text(finding.text.as_str()),
-        Piece::Markup(GIVEN_END),
     ];
-    write_pieces(&pieces, writer)
+    write_form(RECORD, &pieces, writer)
 }
 
 impl<'a> TableRow for Cited<'a> {

@@ -70,7 +70,7 @@ pub fn figures_of(sheet: &Sheet<Global>, day: u32) -> Figures
 }
 
 /// The figures of closed days, in order; of those that the book has a sheet of.
-#[tactic(auto, using(crate::proofs::Lined::line_added, crate::proofs::Lined::line_passed))]
+#[tactic(auto, using(crate::proofs::Figured::line_added, crate::proofs::Figured::line_passed))]
 pub fn line_of_days(
     alloc: Global,
     book: &ReplayBook,

@@ -4,7 +4,7 @@ ghost use Rattle.std.specs.Io.KnownBytes.{Appends};
 ghost use Rattle.cns_page.specs.Files.{account_part, and_kept, name_text};
 
 use cns_shell::Fault;
-use cns_tables::{Piece, write_markup, write_pieces};
+use cns_tables::{Piece, write_form, write_markup};
 use cns_terms::NoMemory;
 use cns_units::{Account, Day, WriteFault};
 use std::alloc::Global;
@@ -20,9 +20,10 @@ pub(crate) struct Named {
     pub(crate) account: Option<Account>,
 }
 
-const SLASH: &str = "/";
+// A file's name, but for its end: the date, and the account where the page is one's.
+const OF_DAY: &str = "/_";
 
-const DASH: &str = "-";
+const OF_ACCOUNT: &str = "-_";
 
 const PAGE: &str = ".html";
 
@@ -33,11 +34,14 @@ const PART: &str = ".html.part";
 fn write_account<W: Write>(account: Option<Account>, writer: &mut W) -> Result<(), WriteFault>
     ensures { OnOk result (Appends (W.contents writer.old) (W.contents writer.new) (account_part account)) }
 {
-    let Some(account) = account else {
-        return Ok(());
-    };
-    let account = Piece::Number(u64::from(account.value()));
-    write_pieces(&[Piece::Markup(DASH), account], writer)
+    match account {
+        Some(account) => write_form(
+            OF_ACCOUNT,
+            &[Piece::Number(u64::from(account.value()))],
+            writer,
+        ),
+        None => Ok(()),
+    }
 }
 
 // Writes a file's name with its end: the date, and the account where the page is one's.
@@ -45,7 +49,7 @@ fn write_account<W: Write>(account: Option<Account>, writer: &mut W) -> Result<(
 fn write_name<W: Write>(named: &Named, end: &'static str, writer: &mut W) -> Result<(), WriteFault>
     ensures { OnOk result (Appends (W.contents writer.old) (W.contents writer.new) (name_text named.now end.now)) }
 {
-    write_pieces(&[Piece::Markup(SLASH), Piece::Date(named.date)], writer)?;
+    write_form(OF_DAY, &[Piece::Date(named.date)], writer)?;
     write_account(named.account, writer)?;
     write_markup(end, writer)
 }

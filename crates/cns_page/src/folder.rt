@@ -82,7 +82,7 @@ fn keep_own<K: Keeps>(
 }
 
 // Keeps the page of each account.
-#[tactic(auto, using(crate::proofs::Keeping::keeps_next))]
+#[tactic(auto, using(crate::proofs::Gathered::keeps_next))]
 fn keep_each<K: Keeps>(
     alloc: Global,
     accounts: &[Account],
@@ -128,9 +128,10 @@ pub(crate) fn keep_day<K: Keeps>(
 {
     let page = day.page(true)?;
     let shared = shared_of(alloc, &page)?;
-    let contents = contents_of(alloc, &page, &shared)?;
     let accounts = accounts_of(alloc, &day.book, page.sheet)?;
-    keep_each(alloc, accounts.as_slice(), &page, &shared, keeper)?;
+    let accounts = accounts.as_slice();
+    let contents = contents_of(alloc, &page, &shared, accounts)?;
+    keep_each(alloc, accounts, &page, &shared, keeper)?;
     keep_day_page(alloc, day, &contents, keeper)?;
     Ok(())
 }

@@ -2,9 +2,10 @@
 // seen.
 ghost use Rattle.std.specs.Prelude.{◌≡◌, IfOk, OnOk};
 ghost use Rattle.std.specs.Io.KnownBytes.{Appends};
-ghost use Rattle.cns_page.specs.Foot.{IsOrigin, day_word, foot_text, made_text};
+ghost use Rattle.cns_page.specs.Foot.{IsOrigin, again_text, day_word, foot_text, made_text};
+ghost use Rattle.cns_tables.specs.Pieces.{piece_text};
 
-use cns_tables::{Piece, write_markup, write_pieces};
+use cns_tables::{Piece, write_form};
 use cns_terms::NoMemory;
 use cns_units::{Day, WriteFault};
 use sha2::{Digest, Sha256};
@@ -20,26 +21,18 @@ pub struct Origin {
     pub digest: String,
 }
 
-/// What stands before the opening date in the line that makes a page again.
-pub(crate) const AGAIN: &str = "</main>
+// The line that makes a page again, but for its end: the opening date and the day.
+const AGAIN: &str = "</main>
 <footer>
 <p>This line makes the page again, from the same records:</p>
-<pre tabindex=0><code>cnspage --open ";
-
-/// What stands before its day.
-pub(crate) const AGAIN_DAY: &str = " --day ";
+<pre tabindex=0><code>cnspage --open _ --day _";
 
 const TODAY: &str = "today";
 
+// Its end, how many bytes the page was made of, their digest, and how many rows its tables have.
 const MADE: &str = " &lt; records &gt; day.html</code></pre>
-<p>Made by cnspage 0.1.0 of the first ";
-
-const DIGEST: &str = " bytes of the records, whose SHA-256 is <code>";
-
-const ROWS: &str = "</code>.</p>
-<p>End of the page. Its tables have so many rows: ";
-
-const END: &str = "</p>
+<p>Made by cnspage 0.1.0 of the first _ bytes of the records, whose SHA-256 is <code>_</code>.</p>
+<p>End of the page. Its tables have so many rows: _</p>
 </footer>
 </html>
 ";
@@ -55,14 +48,25 @@ pub(crate) fn origin_of(alloc: Global, input: &[u8]) -> Result<Origin, NoMemory>
     })
 }
 
-// Writes what `--day` takes for a closed day, or for the day that is open.
-fn write_word<W: Write>(day: Option<Day>, writer: &mut W) -> Result<(), WriteFault>
-    ensures { OnOk result (Appends (W.contents writer.old) (W.contents writer.new) (day_word day)) }
+// What `--day` takes for a closed day, or for the day that is open.
+fn day_word(day: Option<Day>) -> Piece<'static>
+    ensures { piece_text result ≡ day_word day }
 {
     match day {
-        Some(day) => write_pieces(&[Piece::Date(day)], writer),
-        None => write_markup(TODAY, writer),
+        Some(day) => Piece::Date(day),
+        None => Piece::Markup(TODAY),
     }
+}
+
+/// Writes the line that makes the page of a closed day again, or that of the open one, but for its end.
+pub(crate) fn write_again<W: Write>(
+    opening: Day,
+    day: Option<Day>,
+    writer: &mut W,
+) -> Result<(), WriteFault>
+    ensures { OnOk result (Appends (W.contents writer.old) (W.contents writer.new) (again_text opening day)) }
+{
+    write_form(AGAIN, &[Piece::Date(opening), day_word(day)], writer)
 }
 
 /// Writes what a page was made of, and how many rows its tables have.
@@ -75,15 +79,11 @@ pub(crate) fn write_made<W: Write>(
     ensures { OnOk result (Appends (W.contents writer.old) (W.contents writer.new) (made_text origin.now rows)) }
 {
     let pieces = [
-        Piece::Markup(MADE),
         Piece::Number(origin.bytes),
-        Piece::Markup(DIGEST),
         Piece::Text(origin.digest.as_str()),
-        Piece::Markup(ROWS),
         Piece::Number(rows),
-        Piece::Markup(END),
     ];
-    write_pieces(&pieces, writer)
+    write_form(MADE, &pieces, writer)
 }
 
 /// Writes the foot of the page of a closed day, or of the open one, with so many rows.
@@ -97,14 +97,6 @@ pub(crate) fn write_foot<W: Write>(
 ) -> Result<(), WriteFault>
     ensures { OnOk result (Appends (W.contents writer.old) (W.contents writer.new) (foot_text opening day origin.now rows)) }
 {
-    write_pieces(
-        &[
-            Piece::Markup(AGAIN),
-            Piece::Date(opening),
-            Piece::Markup(AGAIN_DAY),
-        ],
-        writer,
-    )?;
-    write_word(day, writer)?;
+    write_again(opening, day, writer)?;
     write_made(origin, rows, writer)
 }

@@ -20,7 +20,7 @@ pub struct Owing {
 }
 
 // The members of a batch, in the order of filling.
-#[tactic(auto, using(crate::proofs::Walked::gathered, crate::proofs::Walked::gathered_all))]
+#[tactic(auto, using(crate::proofs::Gathered::gathered, crate::proofs::Gathered::gathered_all))]
 fn gather_batch(owing: &mut Vec<Owing>, day: u32, batch: &Batch<Global>) -> Result<(), NoMemory>
     ensures { OnOk result (owing.new.items ≡ owing.old.items ++ owings_in day batch.now) }
 {
@@ -36,7 +36,7 @@ fn gather_batch(owing: &mut Vec<Owing>, day: u32, batch: &Batch<Global>) -> Resu
 }
 
 // Those of the batches of a day.
-#[tactic(auto, using(crate::proofs::Walked::gathered))]
+#[tactic(auto, using(crate::proofs::Gathered::gathered))]
 fn gather(owing: &mut Vec<Owing>, day: u32, batches: &[Batch<Global>]) -> Result<(), NoMemory>
     ensures { OnOk result (owing.new.items ≡ owing.old.items ++ owing_among day batches.now) }
 {

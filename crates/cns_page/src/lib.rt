@@ -37,6 +37,7 @@ mod pending;
 mod play;
 mod projection;
 mod reasons;
+mod rowless;
 mod shared;
 mod shorts;
 mod sought;

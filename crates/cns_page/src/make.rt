@@ -53,7 +53,7 @@ fn write_taken<O: Write>(alloc: Global, day: &ClosedDay, output: &mut O) -> Resu
 {
     let page = day.page(false)?;
     let shared = shared_of(alloc, &page)?;
-    let contents = contents_of(alloc, &page, &shared)?;
+    let contents = contents_of(alloc, &page, &shared, &[])?;
     write_page(day, &contents, output)?;
     Ok(())
 }

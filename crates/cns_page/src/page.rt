@@ -8,44 +8,19 @@ use crate::captions::{CAPTIONS, Captions};
 use crate::closed::ClosedDay;
 use crate::contents::{Contents, Head, rows_of};
 use crate::foot::write_foot;
+use crate::rowless::{Rowless, write_rowless};
 use crate::totals::{Span, spans_of};
-use cns_tables::{Piece, hand_on, page_style, write_markup, write_pieces, write_table};
+use cns_tables::{Piece, START, hand_on, page_style, write_form, write_markup, write_table};
 use cns_units::{Day, WriteFault};
 use std::io::Write;
 
-/// What stands before the title of a page.
-pub(crate) const START: &str = "<!DOCTYPE html>
-<html lang=en>
-<meta charset=utf-8>
-<meta name=viewport content=\"width=device-width, initial-scale=1\">
-<title>";
-
-/// What stands between the title and the style.
-pub(crate) const TITLE_END: &str = "</title>
-";
-
-/// What stands before the heading.
-pub(crate) const HEADING: &str = "<a class=skip href=#main>Skip to the day</a>
+// The head up to the links within the page: start, date, style, date, the day's number, its first record and its last one, how many
+// exceptions, and the date of the next day.
+const HEAD: &str = "_Closed day _</title>
+_<a class=skip href=#main>Skip to the day</a>
 <header>
-<h1>";
-
-/// What stands between the heading and the day's number.
-pub(crate) const DAY: &str = "</h1>
-<p>Day ";
-
-/// What stands before the count of exceptions.
-pub(crate) const EXCEPTIONS: &str = "; exceptions: ";
-
-const CLOSED: &str = "Closed day ";
-
-const RECORDS: &str = " of the book, as its close left it: records ";
-
-const TO: &str = " to ";
-
-/// What stands before the date of the next day.
-pub(crate) const NEXT: &str = ". The next day is ";
-
-const LINKS: &str = ".</p>
+<h1>Closed day _</h1>
+<p>Day _ of the book, as its close left it: records _ to _; exceptions: _. The next day is _.</p>
 <nav aria-label=Contents><ul>
 <li><a href=#exceptions>Exceptions</a>
 <li><a href=#accounts>CNS Accounting Summary</a>
@@ -59,13 +34,11 @@ const LINKS: &str = ".</p>
 <li><a href=#totals>Control totals</a>
 ";
 
-// What stands before the date in a link to the page of another day.
-const DAY_LINK: &str = "<li><a href=";
-
-const DAY_BEFORE_END: &str = ".html>The day before</a>
+// The links to the pages of other days.
+const DAY_BEFORE: &str = "<li><a href=_.html>The day before</a>
 ";
 
-const DAY_AFTER_END: &str = ".html>The next day</a>
+const DAY_AFTER: &str = "<li><a href=_.html>The next day</a>
 ";
 
 const MAIN: &str = "</ul></nav>
@@ -80,26 +53,16 @@ fn write_head<W: Write>(head: &Head, writer: &mut W) -> Result<(), WriteFault>
 {
     let pieces = [
         Piece::Markup(START),
-        Piece::Markup(CLOSED),
         Piece::Date(head.date),
-        Piece::Markup(TITLE_END),
         Piece::Markup(page_style()),
-        Piece::Markup(HEADING),
-        Piece::Markup(CLOSED),
         Piece::Date(head.date),
-        Piece::Markup(DAY),
         Piece::Number(u64::from(head.day)),
-        Piece::Markup(RECORDS),
         Piece::Number(head.first),
-        Piece::Markup(TO),
         Piece::Number(head.last),
-        Piece::Markup(EXCEPTIONS),
         Piece::Count(head.exceptions),
-        Piece::Markup(NEXT),
         Piece::Date(head.next),
-        Piece::Markup(LINKS),
     ];
-    write_pieces(&pieces, writer)
+    write_form(HEAD, &pieces, writer)
 }
 
 // Writes the link to the page of the day before, if there was one.
@@ -107,15 +70,10 @@ fn write_head<W: Write>(head: &Head, writer: &mut W) -> Result<(), WriteFault>
 fn write_before<W: Write>(before: Option<Day>, writer: &mut W) -> Result<(), WriteFault>
     ensures { OnOk result (Appends (W.contents writer.old) (W.contents writer.new) (before_text before)) }
 {
-    let Some(date) = before else {
-        return Ok(());
-    };
-    let pieces = [
-        Piece::Markup(DAY_LINK),
-        Piece::Date(date),
-        Piece::Markup(DAY_BEFORE_END),
-    ];
-    write_pieces(&pieces, writer)
+    match before {
+        Some(date) => write_form(DAY_BEFORE, &[Piece::Date(date)], writer),
+        None => Ok(()),
+    }
 }
 
 // Writes the link to the page of the next day.
@@ -123,31 +81,28 @@ fn write_before<W: Write>(before: Option<Day>, writer: &mut W) -> Result<(), Wri
 fn write_after<W: Write>(next: Day, writer: &mut W) -> Result<(), WriteFault>
     ensures { OnOk result (Appends (W.contents writer.old) (W.contents writer.new) (after_text next)) }
 {
-    let pieces = [
-        Piece::Markup(DAY_LINK),
-        Piece::Date(next),
-        Piece::Markup(DAY_AFTER_END),
-    ];
-    write_pieces(&pieces, writer)
+    write_form(DAY_AFTER, &[Piece::Date(next)], writer)
 }
 
-// Writes the links to the pages of other days, where there are any.
-fn write_links<W: Write>(head: &Head, writer: &mut W) -> Result<(), WriteFault>
-    ensures { OnOk result (Appends (W.contents writer.old) (W.contents writer.new) (links_text head.now)) }
+// Writes the links to the pages of other days and of accounts without a row, where there are any.
+#[tactic(auto, using(cns_tables::proofs::Written::after))]
+fn write_links<W: Write>(head: &Head, others: &[Rowless], writer: &mut W) -> Result<(), WriteFault>
+    ensures { OnOk result (Appends (W.contents writer.old) (W.contents writer.new) (links_text head.now others.now)) }
 {
     if !head.is_linked {
         return Ok(());
     }
     write_before(head.before, writer)?;
-    write_after(head.next, writer)
+    write_after(head.next, writer)?;
+    write_rowless(others, writer)
 }
 
 // Writes the head.
-fn write_begin<W: Write>(head: &Head, writer: &mut W) -> Result<(), WriteFault>
-    ensures { OnOk result (Appends (W.contents writer.old) (W.contents writer.new) (begin_text head.now)) }
+fn write_begin<W: Write>(head: &Head, others: &[Rowless], writer: &mut W) -> Result<(), WriteFault>
+    ensures { OnOk result (Appends (W.contents writer.old) (W.contents writer.new) (begin_text head.now others.now)) }
 {
     write_head(head, writer)?;
-    write_links(head, writer)?;
+    write_links(head, others, writer)?;
     write_markup(MAIN, writer)
 }
 
@@ -162,7 +117,8 @@ fn write_text<W: Write>(
     ensures { OnOk result (Appends (W.contents writer.old) (W.contents writer.new)
         (page_text captions.now day.now contents.now totals.now)) }
 {
-    write_begin(&contents.head, writer)?;
+    let others = contents.rowless.as_slice();
+    write_begin(&contents.head, others, writer)?;
     write_table(&captions.exceptions, day.survey.findings.as_slice(), writer)?;
     write_table(&captions.reasons, contents.reasons.as_slice(), writer)?;
     write_table(&captions.accounts, contents.lines.as_slice(), writer)?;

@@ -79,7 +79,7 @@ impl PendingShares {
 }
 
 /// The pending shares of trades that settle later.
-#[tactic(auto, using(crate::proofs::Pended::due_more))]
+#[tactic(auto, using(crate::proofs::Gathered::due_more))]
 pub(crate) fn pending_shares(alloc: Global, dues: &[Due]) -> Result<PendingShares, NoMemory>
     ensures { IfOk result (ArePending dues.now) }
 {

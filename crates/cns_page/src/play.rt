@@ -188,7 +188,7 @@ pub(crate) fn play_closed(
     day: Day,
     watched: &Watched,
 ) -> Result<(Close, Played), Fault>
-    ensures after { IfOk result (λ r. ComesTo opening (Some day) watched.now (take r.0.record (lines_of input.now)) r.1) }
+    ensures after { IfOk result (λ r. ComesTo opening (Some day) watched.now (take r.0.number (lines_of input.now)) r.1) }
     ensures closed { IfOk result (λ r. IsClosedBy r.1.survey day r.0) }
 {
     let played = play(alloc, input, opening, Some(day), watched)?;

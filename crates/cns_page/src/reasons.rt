@@ -1,7 +1,7 @@
 // How many exceptions a day has by what they are.
 ghost use Rattle.std.specs.Prelude.{◌≡◌, IfOk, map};
 ghost use Rattle.cns_page.specs.Listed.{count_at, counted, counts_shown};
-ghost use Rattle.cns_page.specs.Survey.{number, why};
+ghost use Rattle.cns_page.specs.Survey.{number};
 
 use crate::finding::Outcome;
 use crate::words::{KINDS, kind_name};
@@ -22,7 +22,7 @@ pub struct Counted {
 
 // The number of a refusal; 0 for an invalid record.
 fn number_of(outcome: Outcome) -> usize
-    ensures { result ≡ number (why outcome) }
+    ensures { result ≡ number outcome }
 {
     match outcome {
         Outcome::AtFault(_) => 0,

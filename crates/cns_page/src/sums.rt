@@ -69,7 +69,7 @@ fn none_of(mark: Cents, dividend: Cents) -> Sums
 }
 
 /// The sums over all rows of a sheet.
-#[tactic(auto, using(crate::proofs::Adding::added_more, crate::proofs::Adding::all_added))]
+#[tactic(auto, using(crate::proofs::Gathered::added_more, crate::proofs::Gathered::all_added))]
 pub(crate) fn sums_of(sheet: &Sheet<Global>, moves: &DayMoves) -> Sums
     ensures { result ≡ sums_of moves.now sheet.now.rows }
 {
@@ -81,7 +81,7 @@ pub(crate) fn sums_of(sheet: &Sheet<Global>, moves: &DayMoves) -> Sums
 }
 
 /// The sums over an account's rows of a sheet, by the first line of its statement.
-#[tactic(auto, using(crate::proofs::Adding::added_more, crate::proofs::Adding::all_added))]
+#[tactic(auto, using(crate::proofs::Gathered::added_more, crate::proofs::Gathered::all_added))]
 pub(crate) fn own_sums(sheet: &Sheet<Global>, moves: &DayMoves, stated: &Stated) -> Sums
     ensures { result ≡ own_sums sheet.now moves.now stated.now }
 {

@@ -1,7 +1,7 @@
 // What the records of an input come to, one after another.
 ghost use Rattle.std.specs.Prelude.{◌≡◌, ◌<◌, ◌-◌, ◌^◌, ◌&&◌, IfSome, None, OnOk, length, map, nat_lt};
 ghost use Rattle.cns_book.specs.Log.{state_of};
-ghost use Rattle.cns_page.specs.Survey.{IsClosedBy, counted, day_closed, first_too, is_day, known, nothing, of_day, one_invalid, put_right, reference_of, replied, righted, wanted, why};
+ghost use Rattle.cns_page.specs.Survey.{IsClosedBy, counted, day_closed, first_too, is_day, known, nothing, of_day, one_invalid, put_right, reference_of, replied, righted, wanted};
 
 use crate::facts::{facts_of, parties_of, reference_of};
 use crate::finding::{Facts, Finding, NO_FACTS, NO_PARTIES, Outcome, Parties};
@@ -23,7 +23,7 @@ pub struct Close {
     /// The closed day's date.
     pub date: Day,
     /// The number of the record that closed it, from 1.
-    pub record: u64,
+    pub number: u64,
 }
 
 /// What the records of an input came to.
@@ -91,7 +91,7 @@ impl Survey {
         ensures { IfSome result (IsClosedBy self.now day) }
     {
         let close = *self.closes.last()?;
-        if close.record == self.records && close.date.is_same(&day) {
+        if close.number == self.records && close.date.is_same(&day) {
             Some(close)
         } else {
             None
@@ -128,7 +128,7 @@ impl Survey {
     }
 
     // Notes of the exceptions with the reference of a trade that it was accepted.
-    #[tactic(auto, using(crate::proofs::Righted::findings_righted))]
+    #[tactic(auto, using(crate::proofs::Gathered::findings_righted))]
     fn note_accepted(&mut self, command: &Command)
         ensures { known self.new ≡ righted (known self.old) (reference_of command.now) }
     {
@@ -146,7 +146,7 @@ impl Survey {
         let close = Close {
             day: closed.day,
             date: closed.date,
-            record: self.records,
+            number: self.records,
         };
         self.closes.push(close)?;
         if !self.is_of_day {
@@ -169,7 +169,7 @@ impl Survey {
         command: &Command,
         refusal: Refusal,
     ) -> Result<(), NoMemory>
-        ensures { OnOk result (known self.new ≡ wanted (known self.old) (why (Outcome.Refused refusal)) (reference_of command.now)) }
+        ensures { OnOk result (known self.new ≡ wanted (known self.old) (Outcome.Refused refusal) (reference_of command.now)) }
     {
         let facts = if self.has_room() {
             facts_of(book, self.invalid.as_slice(), command, refusal)
@@ -183,7 +183,7 @@ impl Survey {
 
     /// Notes that a record with the text is invalid.
     pub(crate) fn note_fault(&mut self, text: &[u8], fault: LineFault) -> Result<(), NoMemory>
-        ensures { OnOk result (known self.new ≡ wanted (one_invalid (known self.old)) (why (Outcome.AtFault fault)) None) }
+        ensures { OnOk result (known self.new ≡ wanted (one_invalid (known self.old)) (Outcome.AtFault fault) None) }
     {
         self.invalid.push(self.records)?;
         let words = fault_words(fault);
@@ -199,7 +199,7 @@ impl Survey {
         facts: Facts,
         parties: Parties,
     ) -> Result<(), NoMemory>
-        ensures { OnOk result (known self.new ≡ wanted (known self.old) (why outcome) parties.reference) }
+        ensures { OnOk result (known self.new ≡ wanted (known self.old) outcome parties.reference) }
     {
         self.exceptions = self.exceptions.saturating_add(1);
         if self.is_of_day {
@@ -217,7 +217,7 @@ impl Survey {
         facts: Facts,
         parties: Parties,
     ) -> Result<(), NoMemory>
-        ensures { OnOk result (known self.new ≡ of_day (known self.old) (why outcome) parties.reference) }
+        ensures { OnOk result (known self.new ≡ of_day (known self.old) outcome parties.reference) }
     {
         self.reasons.push(outcome)?;
         if self.findings.len() < MOST {
@@ -235,7 +235,7 @@ impl Survey {
         facts: Facts,
         parties: Parties,
     ) -> Result<(), NoMemory>
-        ensures { OnOk result (known self.new ≡ first_too (known self.old) (why outcome) parties.reference) }
+        ensures { OnOk result (known self.new ≡ first_too (known self.old) outcome parties.reference) }
     {
         let text = given(*self.findings.allocator(), text)?;
         self.findings.push(Finding {

@@ -7,13 +7,12 @@ ghost use Rattle.cns_page.specs.Today.{ShowsToday, heading_shown, heading_text, 
 use crate::captions::{CAPTIONS, Captions};
 use crate::contents::sum_of;
 use crate::foot::{Origin, origin_of, write_foot};
-use crate::page::{DAY, EXCEPTIONS, HEADING, START, TITLE_END};
 use crate::reasons::{Counted, counts_of};
 use crate::survey::Survey;
 use crate::totals::{Span, spans_of};
 use cns_feed::ReplayBook;
 use cns_shell::Fault;
-use cns_tables::{Piece, hand_on, page_style, write_pieces, write_table};
+use cns_tables::{Piece, START, hand_on, page_style, write_form, write_table};
 use cns_units::{Day, WriteFault};
 use std::alloc::Global;
 use std::io::Write;
@@ -30,13 +29,12 @@ pub struct OpenDay<'a> {
     pub book: &'a ReplayBook,
 }
 
-const OPEN: &str = "Open day ";
-
-const SO_FAR: &str = " of the book so far. Records after number ";
-
-const COUNT: &str = ": ";
-
-const MAIN: &str = ".</p>
+// The head: start, date, style, date, the day's number, the number of the record before it, how many records, and exceptions.
+const HEAD: &str = "_Open day _</title>
+_<a class=skip href=#main>Skip to the day</a>
+<header>
+<h1>Open day _</h1>
+<p>Day _ of the book so far. Records after number _: _; exceptions: _.</p>
 </header>
 <main id=main>
 ";
@@ -74,24 +72,15 @@ fn write_heading<W: Write>(heading: &Heading, writer: &mut W) -> Result<(), Writ
 {
     let pieces = [
         Piece::Markup(START),
-        Piece::Markup(OPEN),
         Piece::Date(heading.date),
-        Piece::Markup(TITLE_END),
         Piece::Markup(page_style()),
-        Piece::Markup(HEADING),
-        Piece::Markup(OPEN),
         Piece::Date(heading.date),
-        Piece::Markup(DAY),
         Piece::Number(heading.day),
-        Piece::Markup(SO_FAR),
         Piece::Number(heading.from),
-        Piece::Markup(COUNT),
         Piece::Count(heading.records),
-        Piece::Markup(EXCEPTIONS),
         Piece::Count(heading.exceptions),
-        Piece::Markup(MAIN),
     ];
-    write_pieces(&pieces, writer)
+    write_form(HEAD, &pieces, writer)
 }
 
 // How many rows the tables of the page have.

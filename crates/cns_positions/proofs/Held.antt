@@ -1,6 +1,6 @@
 -- The rows that aren't zeros, above a key.
 -- For `first_rows`, `rows_above`, `next_row` and `next_rows` of flat.rt and others.
-use Rattle.cns_positions.proofs.Common.{arith, ◌≡◌, ◌∙◌, sym, ap, refl, Bool, true, false, ◌&&◌, ℕ, ◌≤◌, List, [], ◌∷◌, ◌++◌, filter, length, length-append, get_or, drop, Option, Some, None, MatchOption, is_le, Less, cases_lt, Holding, IsPartitionPoint, Key, Rows, filter_map-append, held_above, is_held, is_sorted, key_cmp, keys_total, less, next_above, present, sorted_filter, AreNext, is_above, last_of}
+use Rattle.cns_positions.proofs.Common.{arith, ◌≡◌, ◌∙◌, sym, ap, refl, Bool, true, false, ◌&&◌, ℕ, ◌≤◌, List, [], ◌∷◌, ◌++◌, filter, length, get_or, drop, Option, Some, None, MatchOption, is_le, cases_lt, Holding, IsPartitionPoint, Key, Rows, filter_map-append, held_above, is_held, is_sorted, key_cmp, keys_total, less, next_above, present, sorted_filter, AreNext, is_above, last_of}
 use Rattle.std.proofs.Common.{find}
 use Rattle.std.specs.List.Sorted.{IsPartitionedBy}
 use Rattle.std.proofs.Math.Bool.{and_comm}
@@ -23,13 +23,12 @@ pub held_rest : (rows : Rows) (after : Option Key) (given rest : Rows) → is_so
 held_rest rows after [] rest s e = e
 held_rest rows after (r ∷ given) rest s e = held_rest rows (Some r.0) given rest s (held_next rows after r (given ++ rest) s e)
 
--- what is below a key that is no greater than another is no greater either
-le_first : (a b k : Key) → key_cmp a b ≡ Less → is_le (key_cmp b k) ≡ true → is_le (key_cmp a k) ≡ true
-le_first a b k l h = grind (arith, keys_total)
-
 -- keys in order are parted by whether they are above a key
 pub parted_at : (rows : Rows) (k : Key) → is_sorted key_cmp rows ≡ true → IsPartitionedBy (λ r. is_le (key_cmp r.0 k)) rows
-parted_at rows k s i j d p q h = grind (arith, cases_lt i j, below_later keys_total rows i j d s, le_first (get_or rows i d).0 (get_or rows j d).0 k)
+parted_at rows k s i j d p q h =
+    let a = (get_or rows i d).0 in
+    let b = (get_or rows j d).0 in
+    grind (arith, cases_lt i j, below_later keys_total rows i j d s, keys_total.trans a b k, keys_total.congr b k a, keys_total.antisymm a b, keys_total.antisymm a k)
 
 -- the rows from the first above a key on
 pub above_parted : (rows : Rows) (k : Key) (i : ℕ) → i ≤ length rows → IsPartitionPoint (λ r. is_le (key_cmp r.0 k) ≡ true) (λ r. is_le (key_cmp r.0 k) ≡ false) rows i → held_above (drop i rows) None ≡ held_above rows (Some k)
@@ -61,20 +60,12 @@ pub last_given : (after : Option Key) (given : Rows) (k : Key) → last_of None 
 last_given after [] k is = cc
 last_given after (r ∷ given) k is = is
 
--- something that is given has a last
-some_last : (k : Key) (given : Rows) → last_of (Some k) given ≡ None → ⊥
-some_last k [] is = cc
-some_last k (r ∷ given) is = some_last r.0 given is
-
 -- where nothing is last, nothing is given
 pub none_given : (given : Rows) → last_of None given ≡ None → given ≡ []
 none_given [] is = refl
-none_given (r ∷ given) is = absurd (some_last r.0 given is)
+none_given (r ∷ []) is = cc
+none_given (r ∷ s ∷ given) is = let none : s ∷ given ≡ [] = none_given (s ∷ given) is in cc
 
 -- one value more that is there
 pub present-push : {X : Type 0} (xs : List (Option X)) (x : X) → present (xs ++ Some x ∷ []) ≡ present xs ++ x ∷ []
 present-push xs x = filter_map-append (λ y. y) xs (Some x ∷ [])
-
--- where all are there, one more that is there leaves it so
-pub each_push : {X : Type 0} (xs : List (Option X)) (x : X) → length (present xs) ≡ length xs → length (present (xs ++ Some x ∷ [])) ≡ length (xs ++ Some x ∷ [])
-each_push xs x each = grind (arith, present-push, length-append)

@@ -1,9 +1,10 @@
 -- What stands at a key after a row is put.
 -- For `book`, `carry`, `enter`, `get` and `roll` of flat.rt and others.
-use Rattle.cns_positions.proofs.Common.{◌≡◌, ◌≢◌, ℕ, ℤ, pos, ◌+ℤ◌, true, [], ◌∷◌, length, get_or, set, ◌<◌, None, refl, ◌∙◌, arith, HoldsAt, Less, Equal, Greater, Holding, IsPartitionPoint, Key, Rows, below_all, closed_rows, equal, exact_keys, has_row, holding_at, ints, is_sorted, key_cmp, keys_total, rolled, same_key, zeros, put, find, aged, booked, entry_of, with_age}
+use Rattle.cns_positions.proofs.Common.{◌≡◌, ◌≢◌, ℕ, ℤ, ◌+ℤ◌, true, [], ◌∷◌, length, get_or, set, ◌<◌, None, refl, ◌∙◌, arith, HoldsAt, Less, Equal, Greater, Holding, IsPartitionPoint, Key, Rows, below_all, closed_rows, equal, exact_keys, has_row, holding_at, ints, is_sorted, key_cmp, keys_total, rolled, same_key, zeros, put, find, aged, booked, entry_of, with_age, is_eq, option_map}
 use Rattle.cns_positions.proofs.Puts.{set_is_put, find_at, find_gap}
 use Rattle.std.specs.FinMap.Entries.{find-put, is_sorted-put}
 use Rattle.std.proofs.lemmas.Cmp.{eq_by_cmp_equiv}
+use Rattle.std.proofs.lemmas.Map.Made.{lookup-map_values}
 use Rattle.cns_positions.specs.Rows.{row_at}
 
 pub sorted_put : (k : Key) (v : Holding) (es : Rows) → is_sorted key_cmp es ≡ true → is_sorted key_cmp (put key_cmp k v es) ≡ true
@@ -31,17 +32,13 @@ row_put es k v = grind (arith, find-put key_cmp keys_total k k v es, (eq_by_cmp_
 pub entered : (es : Rows) (k : Key) → find key_cmp k es ≡ None → (q : Key) → holding_at (put key_cmp k zeros es) q ≡ holding_at es q
 entered es k none q = grind (arith, find-put key_cmp keys_total q k zeros es, exact_keys q k, equal)
 
--- nothing added
-pub add_zero : (n : ℤ) → n +ℤ pos 0 ≡ n
-add_zero n = omega (arith, ints)
-
 -- shares and cents booked in a holding
 abbrev pub with_booked : Holding → ℤ → ℤ → Holding
 with_booked h shares cents = record h { now = h.now +ℤ shares; contract = h.contract +ℤ cents }
 
 -- booking in the key's row is booking the entry
 pub booked_put : (es : Rows) (k : Key) (s c : ℤ) (q : Key) → holding_at (put key_cmp k (with_booked (holding_at es k) s c) es) q ≡ booked (entry_of k s c) q (holding_at es q)
-booked_put es k s c q = grind (arith, find-put key_cmp keys_total q k (with_booked (holding_at es k) s c) es, exact_keys q k, equal, add_zero, same_key k q, (eq_by_cmp_equiv keys_total).symm q k)
+booked_put es k s c q = grind (arith, find-put key_cmp keys_total q k (with_booked (holding_at es k) s c) es, exact_keys q k, equal, ints, same_key k q, (eq_by_cmp_equiv keys_total).symm q k)
 
 -- an age in the key's row is brought to it
 pub aged_put : (es : Rows) (k : Key) (n : ℕ) (q : Key) → holding_at (put key_cmp k (with_age n (holding_at es k)) es) q ≡ aged k n q (holding_at es q)
@@ -57,13 +54,8 @@ no_gap es i k there gap = grind (arith, find_gap keys_total es i k gap.0 gap.1)
 
 -- ---- a close
 
-pub holding_closed : (es : Rows) (k : Key) → holding_at (closed_rows es) k ≡ rolled (holding_at es k)
-holding_closed [] k = refl
-holding_closed (e ∷ es) k = grind (arith, holding_closed es k)
-
-pub row_closed : (es : Rows) (k : Key) → has_row (closed_rows es) k ≡ has_row es k
-row_closed [] k = refl
-row_closed (e ∷ es) k = grind (arith, row_closed es k)
+pub find_closed : (es : Rows) (k : Key) → find key_cmp k (closed_rows es) ≡ option_map rolled (find key_cmp k es)
+find_closed es k = lookup-map_values rolled (λ q. is_eq (key_cmp k q)) es
 
 below_closed : (k : Key) (es : Rows) → below_all key_cmp k (closed_rows es) ≡ below_all key_cmp k es
 below_closed k [] = refl

@@ -1,6 +1,6 @@
 -- Steps no larger than commands: their sums fit.
 -- For `check_steps` of positions.rt in cns_book_tests.
-use Rattle.cns_positions.proofs.Common.{ℕ, suc, ◌+◌, ◌*◌, ◌^◌, ◌≤◌, List, [], ◌∷◌, length, arith, unsigned_abs, AllByRecursion, Key, Map, Step, StepFits, after_step, ints, nowhere}
+use Rattle.cns_positions.proofs.Common.{ℕ, suc, ◌+◌, ◌*◌, ◌^◌, ◌≤◌, List, [], ◌∷◌, length, arith, unsigned_abs, AllByRecursion, Key, Map, Step, after_step, ints, nowhere}
 use Rattle.cns_positions.specs.declared.steps.Step.TheVariants.{Get, Add, Roll}
 use Rattle.cns_positions.specs.Steps.{SumsFit}
 
@@ -15,16 +15,11 @@ record IsSmallMap (n : ℕ) (m : Map) : Type 0 where
   shares : (k : Key) → unsigned_abs (m k).now ≤ 10 ^ 9 * n
   cents : (k : Key) → unsigned_abs (m k).contract ≤ 10 ^ 18 * n
 
-small_after : (m : Map) (s : Step) (n : ℕ) → IsSmallStep s → IsSmallMap n m → IsSmallMap (suc n) (after_step m s)
-small_after m s n p h = record { shares = λ k. grind (arith, ints, h.shares k); cents = λ k. grind (arith, ints, h.cents k) }
-
-step_fits : (m : Map) (s : Step) (n : ℕ) → n ≤ 2 ^ 32 → IsSmallStep s → IsSmallMap n m → StepFits m s
-step_fits m s n le p h = grind (arith, ints, h.shares, h.cents)
-
 fit_from : (m : Map) (ss : List Step) (n : ℕ) → n + length ss ≤ 2 ^ 32 → AllByRecursion IsSmallStep ss → IsSmallMap n m → SumsFit m ss
 unfolding SumsFit
 fit_from m [] n le p h = tt
-fit_from m (s ∷ ss) n le p h = (step_fits m s n (omega (arith, le)) p.0 h, fit_from (after_step m s) ss (suc n) (omega (arith, le)) p.1 (small_after m s n p.0 h))
+fit_from m (s ∷ ss) n le p h =
+    (grind (arith, ints, h.shares, h.cents), fit_from (after_step m s) ss (suc n) (omega (arith, le)) p.1 (record { shares = λ k. grind (arith, ints, h.shares k); cents = λ k. grind (arith, ints, h.cents k) }))
 
 -- as many small steps as a history has entries fit
 pub small_fit : (ss : List Step) → length ss ≤ 2 ^ 32 → AllByRecursion IsSmallStep ss → SumsFit nowhere ss

@@ -1,10 +1,6 @@
 -- Rows of zeros: they may be left out.
 -- For `copied` of beside.rt in cns_actions.
-use Rattle.cns_positions.proofs.Common.{◌≡◌, true, false, None, arith, nat_tests, ints, Holding, Key, Rows, find_filter, held_above, holding_at, is_held, is_sorted, key_cmp, keys_total, sorted_filter, zeros}
-
--- what isn't held is zeros
-pub unheld : (h : Holding) → is_held h ≡ false → h ≡ zeros
-unheld h e = grind (arith, nat_tests, ints)
+use Rattle.cns_positions.proofs.Common.{◌≡◌, true, None, arith, nat_tests, ints, Key, Rows, find_filter, held_above, holding_at, is_held, is_sorted, key_cmp, keys_total, sorted_filter}
 
 -- the rows that aren't zeros are in order
 pub held_sorted : (rows : Rows) → is_sorted key_cmp rows ≡ true → is_sorted key_cmp (held_above rows None) ≡ true
@@ -12,4 +8,4 @@ held_sorted rows s = sorted_filter keys_total is_held rows s
 
 -- and the same stands at each key among them
 pub held_same : (rows : Rows) (k : Key) → is_sorted key_cmp rows ≡ true → holding_at (held_above rows None) k ≡ holding_at rows k
-held_same rows k s = grind (arith, find_filter keys_total is_held k rows s, unheld)
+held_same rows k s = grind (arith, nat_tests, ints, find_filter keys_total is_held k rows s)

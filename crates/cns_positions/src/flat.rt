@@ -68,6 +68,7 @@ fn enter<A: Allocator + Drop>(rows: &mut Vec<Row, A>, key: &Key) -> Result<(), N
 }
 
 // Gives each key a row of zeros where it has none.
+#[tactic(auto, using(crate::proofs::Entering::other_key, std::proofs::lemmas::List::take_all))]
 fn enter_all<A: Allocator + Drop>(rows: &mut Vec<Row, A>, keys: &[Key]) -> Result<(), NoMemory>
     requires { is_sorted key_cmp rows.old.items ≡ true }
     ensures sorted { is_sorted key_cmp rows.new.items ≡ true }
@@ -171,6 +172,7 @@ impl<A: Allocator + Drop + Clone> Positions<A> for FlatPositions<A> {
         let _ = self.rows.as_slice();
     }
 
+    #[tactic(auto, using(crate::proofs::Holdings::found_here))]
     fn get(&self, key: Key) -> Holding {
         match place(self.rows.as_slice(), &key) {
             Ok(at) => self.rows[at].1,
@@ -190,14 +192,17 @@ impl<A: Allocator + Drop + Clone> Positions<A> for FlatPositions<A> {
         enter(&mut self.rows, &key)
     }
 
+    #[tactic(auto, using(std::proofs::lemmas::List::take_at))]
     fn add(&mut self, key: Key, shares: i64, cents: i128) {
         book(self.rows.as_mut_slice(), &key, shares, cents);
     }
 
+    #[tactic(auto, using(std::proofs::lemmas::List::take_at))]
     fn carry(&mut self, key: Key, age: u32) {
         carry(self.rows.as_mut_slice(), &key, age);
     }
 
+    #[tactic(auto, using(crate::proofs::Holdings::find_closed, crate::proofs::Holdings::sorted_closed, std::proofs::lemmas::List::take_at))]
     fn roll(&mut self) {
         close_all(self.rows.as_mut_slice());
     }

@@ -45,6 +45,7 @@ impl<A: Allocator + Clone + Drop> Drop for TreePositions<A> {
 }
 
 // Gives the key a row of zeros where it has none.
+#[tactic(auto, using(crate::proofs::Entering::at_error, crate::proofs::Holdings::entered, crate::proofs::Holdings::other_row, crate::proofs::Holdings::row_put, crate::proofs::Holdings::row_stays, crate::proofs::Holdings::sorted_put))]
 fn enter<A: Allocator + Clone + Drop>(
     rows: &mut Tree<Holding, A>,
     key: &Key,
@@ -65,7 +66,7 @@ fn enter<A: Allocator + Clone + Drop>(
 }
 
 // Gives each key a row of zeros where it has none.
-#[tactic(auto, using(crate::proofs::Entering::other_key))]
+#[tactic(auto, using(crate::proofs::Entering::other_key, std::proofs::lemmas::List::take_all))]
 fn enter_all<A: Allocator + Clone + Drop>(
     rows: &mut Tree<Holding, A>,
     keys: &[Key],
@@ -109,6 +110,7 @@ fn book<A: Allocator + Clone + Drop>(
 }
 
 // Brings an age to the key's row.
+#[tactic(auto, using(crate::proofs::Changes::changed_at, crate::proofs::Holdings::aged_put, crate::proofs::Holdings::other_row, crate::proofs::Holdings::places_put))]
 fn carry<A: Allocator + Clone + Drop>(rows: &mut Tree<Holding, A>, key: &Key, age: u32)
     requires { has_row rows.old key.now ≡ true }
     ensures sorted { is_sorted key_cmp rows.new ≡ true }
@@ -231,7 +233,7 @@ impl<A: Allocator + Clone + Drop> Positions<A> for TreePositions<A> {
         carry(&mut self.rows, &key, age);
     }
 
-    #[tactic(auto, using(crate::proofs::Holdings::holding_closed, crate::proofs::Holdings::row_closed, crate::proofs::Holdings::sorted_closed))]
+    #[tactic(auto, using(crate::proofs::Holdings::find_closed, crate::proofs::Holdings::sorted_closed))]
     fn roll(&mut self) {
         close_all(&mut self.rows);
     }

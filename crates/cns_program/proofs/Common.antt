@@ -7,10 +7,11 @@ pub use Rattle.cns_desk.specs.Logged.{Logged, empty_logged}
 pub use Rattle.cns_desk.specs.declared.end.End.{End}
 pub use Rattle.cns_feed.specs.Output.{lines_of, output, state_after, texts}
 pub use Rattle.cns_terms.proofs.Common.{Appends, AppendsFront, Day, Keeps, State, count, day, err_from_is_err_and, front_longer, journal_of, map-append, parts_failed, parts_more}
-pub use Rattle.cns_terms.specs.Common.{Told, digits_value}
+pub use Rattle.cns_terms.specs.Common.{Told, digits_value, all_ascii_digits}
 pub use Rattle.serde_json.specs.View.{items_of, view}
 pub use Rattle.serde_json.specs.Written.{compact_text, has_float, items_have_float}
 pub use Rattle.cns_program.specs.Days.{statements_text, text_of_one}
 pub use Rattle.cns_program.specs.Ends.{FailsReplay, ReadEach, Reads, told_by}
 pub use Rattle.cns_program.specs.Lines.{IsTold, end_line, end_lines}
 pub use Rattle.cns_program.specs.Tally.{counts_to, lines_to, tally_of, total_text, whole, workers_of}
+pub use Rattle.cns_program.specs.CommandLine.{words_rule}

@@ -6,36 +6,35 @@ use Rattle.cns_feed.specs.Line.{Line}
 use Rattle.cns_feed.specs.Replay.{Leaves, Stops, StopsReplay}
 use Rattle.cns_feed.specs.declared.fault.ReplayFault.{ReplayFault}
 use Rattle.cns_feed.proofs.PlayLemmas.{stops-end}
-use Rattle.cns_feed.specs.declared.fault.ReplayFault.TheVariants as fault
 
 -- a whole replay whose output could not be flushed
 fails-unflushed : (opening : Day) (input old mid new : Option (List ℕ))
-    → IfSome input (λ bytes. Appends old mid (output opening bytes)) → Keeps mid new → FailsReplay fault.Write opening input old new
+    → IfSome input (λ bytes. Appends old mid (output opening bytes)) → Keeps mid new → FailsReplay ReplayFault.Write opening input old new
 fails-unflushed opening None old mid new text kept = record { room = λ is. cc is; stops = tt }
 fails-unflushed opening (Some bytes) old mid new text kept = record { room = λ is. cc is; stops = stops-end old mid new _ _ text kept }
 
 -- where a replay stopped whose output could not be flushed then: a record that found no memory was not answered
 stops-unflushed : (e : ReplayFault) (old m mid new : Option (List ℕ)) (S : State) (ls answered unread : List Line) (waiting : Option Line)
     → ls ≡ answered ++ (option_to_list waiting ++ unread) → Appends old m (texts S answered) → Leaves e m mid (state_after S answered) waiting → Keeps mid new
-    → Stops fault.Write old new S ls
+    → Stops ReplayFault.Write old new S ls
 stops-unflushed e old m mid new S ls answered unread None whole text left kept =
     record { answered = answered; waiting = None; unread = unread; whole = whole; mid = m; written = text; leaves = Keeps-trans m mid new left kept }
-stops-unflushed fault.Write old m mid new S ls answered unread (Some l) whole text left kept =
+stops-unflushed ReplayFault.Write old m mid new S ls answered unread (Some l) whole text left kept =
     record { answered = answered; waiting = Some l; unread = unread; whole = whole; mid = m; written = text; leaves = record { front = left.front; rest = left.rest; whole = left.whole; short = left.short; appended = Appends-kept m mid new left.front left.appended kept } }
-stops-unflushed fault.NoMemory old m mid new S ls answered unread (Some l) whole text left kept =
+stops-unflushed ReplayFault.NoMemory old m mid new S ls answered unread (Some l) whole text left kept =
     record { answered = answered; waiting = None; unread = l ∷ unread; whole = whole; mid = m; written = text; leaves = Keeps-trans m mid new left kept }
 stops-unflushed _ old m mid new S ls answered unread _ whole text left kept = absurd left
 
 -- a replay that ended with a fault, and whose output could not be flushed then
 fails-then_unflushed : (e : ReplayFault) (opening : Day) (input old mid new : Option (List ℕ))
-    → IfSome input (λ bytes. StopsReplay e opening bytes old mid) → Keeps mid new → FailsReplay fault.Write opening input old new
+    → IfSome input (λ bytes. StopsReplay e opening bytes old mid) → Keeps mid new → FailsReplay ReplayFault.Write opening input old new
 fails-then_unflushed e opening None old mid new stops kept = record { room = λ is. cc is; stops = tt }
 fails-then_unflushed e opening (Some bytes) old mid new p kept = record { room = λ is. cc is; stops = stops-unflushed e old p.mid mid new _ _ p.answered p.unread p.waiting p.whole p.written p.leaves kept }
 
 -- a replay, whatever it came to, whose output could not be flushed then
 pub fails-flushing : {T : Type 0} (opening : Day) (input old mid new : Option (List ℕ)) (r : Result T ReplayFault)
     → OnOk r (IfSome input (λ bytes. Appends old mid (output opening bytes))) → IfErr r (λ e. IfSome input (λ bytes. StopsReplay e opening bytes old mid))
-    → Keeps mid new → FailsReplay fault.Write opening input old new
+    → Keeps mid new → FailsReplay ReplayFault.Write opening input old new
 fails-flushing opening input old mid new (Ok s) text stops kept = fails-unflushed opening input old mid new text kept
 fails-flushing opening input old mid new (Err e) text stops kept = fails-then_unflushed e opening input old mid new stops kept
 

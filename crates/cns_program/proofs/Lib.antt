@@ -3,5 +3,4 @@ pub mod EndLemmas
 pub mod EndsTold
 pub mod Tallied
 pub mod CommandLine
-pub mod Workers
 pub mod Opened

@@ -1,18 +1,14 @@
 -- What a line asks for.
 use Rattle.std.specs.Prelude.{◌≡◌, ◌≤◌, ℕ, ◌&&◌, nat_le, if◌then◌else◌, List, length, map, Option, Some, None, option_and_then, option_map, codes, vec_len, ⊤}
+use Rattle.cns_program.specs.Common.{Day, all_ascii_digits, digits_value, Row, Text, all_of, first_of, date_in, Asked}
 use Rattle.std.specs.Str.{bytes_eq}
-use Rattle.cns_terms.specs.Common.{Day, all_ascii_digits, digits_value}
-use Rattle.clap.specs.Words.{Row, Text, all_of, first_of}
-use Rattle.cns_shell.specs.Options.{date_in}
 use Rattle.cns_program.specs.CommandLine.{found_by}
-use Rattle.cns_program.specs.declared.asked.Asked.{Asked}
-use Rattle.cns_program.specs.declared.asked.Asked.TheVariants as asked
 
 -- a run has 1 to 64 files, and statements are made by 1 to 64 workers
 abbrev pub HasWorkers : Asked → Type 0
-HasWorkers (asked.Replay opening) = ⊤
-HasWorkers (asked.Run opening files) = (1 ≤ vec_len files) × (vec_len files ≤ 64)
-HasWorkers (asked.Statements opening day workers) = (1 ≤ workers) × (workers ≤ 64)
+HasWorkers (Asked.Replay opening) = ⊤
+HasWorkers (Asked.Run opening files) = (1 ≤ vec_len files) × (vec_len files ≤ 64)
+HasWorkers (Asked.Statements opening day workers) = (1 ≤ workers) × (workers ≤ 64)
 
 -- a replay that opens on a date; a run that opens on a date, of files by their names; the statements of the second date by
 -- a book that opens on the first, made by so many workers
@@ -23,9 +19,9 @@ pub data Question : Type 0 where
 
 -- the same of what the program was asked
 abbrev pub question_of : Asked → Question
-question_of (asked.Replay opening) = replay opening
-question_of (asked.Run opening files) = run opening (map (λ f. f.now) files.items)
-question_of (asked.Statements opening day workers) = statements opening day workers
+question_of (Asked.Replay opening) = replay opening
+question_of (Asked.Run opening files) = run opening (map (λ f. f.now) files.items)
+question_of (Asked.Statements opening day workers) = statements opening day workers
 
 -- digits alone, for a number from 1 to 64
 abbrev pub workers_read : Text → Option ℕ

@@ -1,10 +1,9 @@
 -- The lines that the program takes, as `clap` reads them.
 use Rattle.std.specs.Prelude.{true, List, Option, Some, codes}
+use Rattle.cns_program.specs.Common.{App, Row, Rule, Text, new_rule, subcommand_of, with_rule, with_subcommand, bare, if_taken, option_rule}
 use Rattle.clap.specs.Lexer.{usize_max}
 use Rattle.clap.specs.Simple.{on_top}
-use Rattle.clap.specs.Words.{App, Row, Rule, Text, new_rule, subcommand_of, with_rule, with_subcommand}
 use Rattle.clap.specs.declared.builder.action.ArgAction.TheVariants.{Append}
-use Rattle.cns_shell.specs.Options.{bare, if_taken, option_rule}
 
 -- words that are no options, of which there has to be one
 abbrev pub words_rule : Text → Rule

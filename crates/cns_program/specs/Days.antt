@@ -1,16 +1,11 @@
 -- The statements of a day, as the program writes them.
 use Rattle.std.specs.Prelude.{◌≡◌, ℕ, List, Option, None, MatchOption, flat_map}
-use Rattle.cns_terms.specs.Common.{Appends, Day, DaySheet, journal_of, sheet_on}
+use Rattle.cns_program.specs.Common.{Appends, Day, DaySheet, journal_of, sheet_on, Log, state_of, lines_of, blank_log, log_after, Fault}
 use Rattle.std.specs.declared.alloc.Global.{Global}
-use Rattle.cns_book.specs.Log.{Log, state_of}
-use Rattle.cns_feed.specs.Output.{lines_of}
-use Rattle.cns_feed.specs.Replay.{blank_log, log_after}
 use Rattle.cns_statements.specs.Packs.{statements_of}
 use Rattle.cns_statements.specs.Texts.{statement_text}
 use Rattle.cns_statements.specs.declared.contents.Statement.{Statement}
 use Rattle.cns_program.specs.Lines.{IsTold}
-use Rattle.cns_shell.specs.declared.fault.Fault.{Fault}
-use Rattle.cns_shell.specs.declared.fault.Fault.TheVariants as fault
 
 -- the text of one statement
 abbrev pub text_of_one : Statement Global → List ℕ
@@ -34,15 +29,15 @@ WritesDay b day old new = MatchOption (sheet_of b day) ⊥ (λ s. Appends old ne
 
 -- they were not: nothing was written, or, where writing failed, a prefix of them
 abbrev pub FailsDay : Fault → Log → Day → Option (List ℕ) → Option (List ℕ) → Type 0
-FailsDay fault.Read b day old new = new ≡ old
-FailsDay fault.Write b day old new = MatchOption (sheet_of b day) ⊥ (λ s. IsTold old new (statements_text (statements_of s)))
-FailsDay fault.NoMemory b day old new = new ≡ old
-FailsDay fault.Full b day old new = ⊥
-FailsDay (fault.Open file) b day old new = ⊥
-FailsDay fault.Spawn b day old new = new ≡ old
-FailsDay fault.Mismatch b day old new = ⊥
-FailsDay fault.NoSuchDay b day old new = (new ≡ old) × (sheet_of b day ≡ None)
-FailsDay fault.NoSuchMember b day old new = ⊥
-FailsDay fault.NoSuchIssue b day old new = ⊥
-FailsDay fault.NoSuchFolder b day old new = ⊥
-FailsDay (fault.OtherPage d a) b day old new = ⊥
+FailsDay Fault.Read b day old new = new ≡ old
+FailsDay Fault.Write b day old new = MatchOption (sheet_of b day) ⊥ (λ s. IsTold old new (statements_text (statements_of s)))
+FailsDay Fault.NoMemory b day old new = new ≡ old
+FailsDay Fault.Full b day old new = ⊥
+FailsDay (Fault.Open file) b day old new = ⊥
+FailsDay Fault.Spawn b day old new = new ≡ old
+FailsDay Fault.Mismatch b day old new = ⊥
+FailsDay Fault.NoSuchDay b day old new = (new ≡ old) × (sheet_of b day ≡ None)
+FailsDay Fault.NoSuchMember b day old new = ⊥
+FailsDay Fault.NoSuchIssue b day old new = ⊥
+FailsDay Fault.NoSuchFolder b day old new = ⊥
+FailsDay (Fault.OtherPage d a) b day old new = ⊥

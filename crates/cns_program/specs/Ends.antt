@@ -1,35 +1,26 @@
 -- How the program ends, by what its line asks for.
 use Rattle.std.specs.Prelude.{◌≡◌, ◌≢◌, ◌⊎◌, ℕ, ◌-◌, ◌^◌, true, List, [], ◌∷◌, length, Option, Some, option_map, Result, IfSome, vec_len, ⊤}
-use Rattle.cns_terms.specs.Common.{AllByRecursion, Appends, Day, Told}
+use Rattle.cns_program.specs.Common.{AllByRecursion, Appends, Day, Told, lines_of, output, StopsReplay, End, Fault, Asked}
 use Rattle.cns_units.specs.Output.{Writes}
-use Rattle.cns_feed.specs.Output.{lines_of, output}
-use Rattle.cns_feed.specs.Replay.{StopsReplay}
 use Rattle.cns_feed.specs.declared.fault.ReplayFault.{ReplayFault}
 use Rattle.cns_feed.specs.Source.{told_of}
 use Rattle.cns_desk.specs.Parts.{AreParts}
 use Rattle.cns_desk.specs.Worked.{HaveRun}
-use Rattle.cns_desk.specs.declared.end.End.{End}
-use Rattle.cns_feed.specs.declared.fault.ReplayFault.TheVariants as replays
 use Rattle.cns_desk.specs.declared.run.Outcome.{Outcome}
-use Rattle.cns_shell.specs.declared.fault.Fault.{Fault}
-use Rattle.cns_desk.specs.declared.end.End.TheVariants as ended
-use Rattle.cns_program.specs.declared.asked.Asked.{Asked}
 use Rattle.cns_shell.specs.Faults.{fault_line, of_replay}
 use Rattle.cns_program.specs.Faults.{IsOfRun}
-use Rattle.cns_shell.specs.declared.fault.Fault.TheVariants as fault
 use Rattle.cns_program.specs.Lines.{IsTold, end_lines}
-use Rattle.cns_program.specs.declared.asked.Asked.TheVariants as asked
 use Rattle.cns_program.specs.Days.{FailsDay, WritesDay, loaded}
 use Rattle.cns_program.specs.Tally.{tally_line}
 
 -- a replay that opens on the date failed with the fault, which is not that its book was full
 pub record FailsReplay (f : ReplayFault) (opening : Day) (input old new : Option (List ℕ)) : Type 0 where
-  pub room : f ≢ replays.Full
+  pub room : f ≢ ReplayFault.Full
   pub stops : IfSome input (λ bytes. StopsReplay f opening bytes old new)
 
 -- a worker came to the end of its source
 abbrev pub IsComplete : End → Type 0
-IsComplete e = e ≡ ended.Complete
+IsComplete e = e ≡ End.Complete
 
 -- all workers did
 abbrev pub AreComplete : List End → Type 0
@@ -41,8 +32,8 @@ text_of o = tally_line o.book.log o.logs.items
 
 -- the tally was not written whole: it could not be made, and nothing was written, or writing it failed
 abbrev pub FailsTally : Fault → Outcome → Option (List ℕ) → Option (List ℕ) → Type 0
-FailsTally fault.NoMemory o old new = new ≡ old
-FailsTally fault.Write o old new = IsTold old new (text_of o)
+FailsTally Fault.NoMemory o old new = new ≡ old
+FailsTally Fault.Write o old new = IsTold old new (text_of o)
 FailsTally _ o old new = ⊥
 
 -- a worker ended early: the tally was written, and the lines of such workers are told
@@ -102,12 +93,12 @@ TellsDay opening day input old new told_old told_new told =
 -- the work that a line asks for was done: the replies to all of the input were written, or the tally of a run, or the
 -- statements of a day; the first argument says what opened files have
 abbrev pub IsDone : {F : Type 0} → (F → Option (List ℕ)) → Asked → Option (List ℕ) → Option (List ℕ) → Option (List ℕ) → Type 0
-IsDone rem (asked.Replay opening) input old new = IfSome input (λ bytes. Appends old new (output opening bytes))
-IsDone rem (asked.Run opening files) input old new = IsRun rem (vec_len files) old new
-IsDone rem (asked.Statements opening day workers) input old new = IfSome input (λ bytes. WritesDay (loaded opening bytes) day old new)
+IsDone rem (Asked.Replay opening) input old new = IfSome input (λ bytes. Appends old new (output opening bytes))
+IsDone rem (Asked.Run opening files) input old new = IsRun rem (vec_len files) old new
+IsDone rem (Asked.Statements opening day workers) input old new = IfSome input (λ bytes. WritesDay (loaded opening bytes) day old new)
 
 -- it was not, and what came instead is told
 abbrev pub TellsWork : {F T E : Type 0} → (F → Option (List ℕ)) → Asked → Option (List ℕ) → Option (List ℕ) → Option (List ℕ) → Option (List ℕ) → Option (List ℕ) → Result T E → Type 0
-TellsWork rem (asked.Replay opening) input old new told_old told_new told = TellsReplay opening input old new told_old told_new told
-TellsWork rem (asked.Run opening files) input old new told_old told_new told = TellsRun rem (vec_len files) old new told_old told_new told
-TellsWork rem (asked.Statements opening day workers) input old new told_old told_new told = TellsDay opening day input old new told_old told_new told
+TellsWork rem (Asked.Replay opening) input old new told_old told_new told = TellsReplay opening input old new told_old told_new told
+TellsWork rem (Asked.Run opening files) input old new told_old told_new told = TellsRun rem (vec_len files) old new told_old told_new told
+TellsWork rem (Asked.Statements opening day workers) input old new told_old told_new told = TellsDay opening day input old new told_old told_new told

@@ -1,3 +1,4 @@
+pub mod Common
 pub mod CommandLine
 pub mod Asks
 pub mod Faults

@@ -1,9 +1,7 @@
 -- What the program writes to standard error.
 use Rattle.std.specs.Prelude.{ℕ, ◌+◌, ◌++◌, ◌∷◌, [], List, Option, Some, None, ◌⊎◌, codes, decimal}
-use Rattle.cns_terms.specs.Common.{Appends, AppendsFront, text_line}
-use Rattle.cns_desk.specs.declared.end.End.{End}
-use Rattle.cns_terms.specs.declared.source.SourceFault.TheVariants as source
-use Rattle.cns_desk.specs.declared.end.End.TheVariants as ended
+use Rattle.cns_program.specs.Common.{Appends, AppendsFront, text_line, End}
+use Rattle.cns_terms.specs.declared.source.SourceFault.{SourceFault}
 
 -- the usage, for a refused line
 abbrev pub usage_line : List ℕ
@@ -11,11 +9,11 @@ usage_line = codes "usage: cnsbook replay --open DATE | run --open DATE FILE... 
 
 -- the word for the end of a worker that ended early
 abbrev pub end_name : End → Option (List ℕ)
-end_name ended.Complete = None
-end_name (ended.Source source.Read) = Some (codes "Read")
-end_name (ended.Source source.NoMemory) = Some (codes "NoMemory")
-end_name ended.NoMemory = Some (codes "NoMemory")
-end_name ended.Full = Some (codes "Full")
+end_name End.Complete = None
+end_name (End.Source SourceFault.Read) = Some (codes "Read")
+end_name (End.Source SourceFault.NoMemory) = Some (codes "NoMemory")
+end_name End.NoMemory = Some (codes "NoMemory")
+end_name End.Full = Some (codes "Full")
 
 -- `worker`, its number and the word
 abbrev pub named_line : ℕ → Option (List ℕ) → List ℕ

@@ -1,7 +1,6 @@
 -- The tally of a run, as the program writes it.
 use Rattle.std.specs.Prelude.{ℕ, zero, suc, ◌+◌, ◌-◌, min, List, [], ◌∷◌, ◌++◌, length, map, slice_index_or, codes, pos}
-use Rattle.cns_terms.specs.Common.{cents_text, count, day, journal_of}
-use Rattle.cns_book.specs.Log.{Log, state_of}
+use Rattle.cns_program.specs.Common.{cents_text, count, day, journal_of, Log, state_of}
 use Rattle.cns_desk.specs.Logged.{Logged, empty_logged}
 use Rattle.serde_json.specs.Data.{Data, unsigned, number, string, array, object, no_members, member}
 use Rattle.serde_json.specs.View.{items_of}

@@ -1,19 +1,10 @@
--- What calls and shorts change, and the batches that come of them.
--- For `call`, `short` and `choose` of calls.rt.
-use Rattle.cns_retransmit.proofs.Common.{◌≡◌, refl, ℕ, ◌+◌, true, cond, List, [], ◌∷◌, Some, arith, bytes_eq, option_map, nat_cmp, is_eq, CalledIn, Cusip, RiseByIssue, Short, batches_of, below_all, by_issue, bytes_eq-Decides, called_in, is_eq-slice_cmp, is_sorted, slice_cmp}
-use Rattle.cns_retransmit.specs.Calls.{shorts_in, total_in, with_shares, with_short}
+-- What a short changes, and the batches that come of the calls.
+-- For `short` and `choose` of calls.rt.
+use Rattle.cns_retransmit.proofs.Common.{Option, ◌≡◌, refl, true, cond, List, [], ◌∷◌, Some, arith, bytes_eq, option_map, nat_cmp, is_eq, CalledIn, Cusip, RiseByIssue, Short, batches_of, below_all, by_issue, bytes_eq-Decides, is_eq-slice_cmp, is_sorted, slice_cmp, with_short}
 
--- a map whose new entries have y at an issue in place of x, and at each other what the old have
-module _ (old new : List (Cusip × CalledIn)) (k : Cusip) (x y : CalledIn) (found : called_in old k ≡ Some x) (puts : (c : Cusip) → called_in new c ≡ cond (is_eq (slice_cmp nat_cmp k c)) (Some y) (called_in old c)) where
-  -- shares more in an issue in which something is called
-  pub called_more : (n : ℕ) → y ≡ with_shares n x → (c : Cusip) → called_in new c ≡ cond (bytes_eq k c) (Some (record { total = total_in old k + n; shorts = shorts_in old k })) (called_in old c)
-  called_more n is c = grind (arith, puts c, is_eq-slice_cmp k c)
-
-  -- a short more
-  pub short_more : (s : Short) → y ≡ with_short s x → (c : Cusip) → called_in new c ≡ cond (bytes_eq k c) (option_map (with_short s) (called_in old c)) (called_in old c)
-  short_more s is c = grind (arith, puts c, is_eq-slice_cmp k c, bytes_eq-Decides)
-
--- ---- batches
+-- a short more in one issue
+pub short_more : (old : Cusip → Option CalledIn) (k c : Cusip) (s : Short) (x y : CalledIn) → old k ≡ Some x → y ≡ with_short s x → cond (is_eq (slice_cmp nat_cmp k c)) (Some y) (old c) ≡ cond (bytes_eq k c) (option_map (with_short s) (old c)) (old c)
+short_more old k c s x y found is = grind (arith, is_eq-slice_cmp k c, bytes_eq-Decides)
 
 below_batches : (k : Cusip) (es : List (Cusip × CalledIn)) → below_all (slice_cmp nat_cmp) k es ≡ true → below_all (slice_cmp nat_cmp) k (by_issue (batches_of es)) ≡ true
 below_batches k [] h = refl

@@ -1,6 +1,6 @@
 -- A loop that makes the fills of an execution.
 -- For `make_fills` of filling.rt.
-use Rattle.cns_retransmit.proofs.Common.{◌≡◌, refl, ℕ, ◌+◌, ◌-◌, ◌*◌, ◌/◌, ◌<◌, ◌≤◌, min, List, [], ◌∷◌, ◌++◌, append_assoc, append-nil, drop, filter, get_or, length, nat_lt, sum_by, take, arith, Fill, Liable, laid, sum_by_more}
+use Rattle.cns_retransmit.proofs.Common.{◌≡◌, refl, ℕ, ◌+◌, ◌-◌, ◌*◌, ◌/◌, ◌<◌, ◌≤◌, min, List, [], ◌∷◌, ◌++◌, append_assoc, append-nil, drop, drop_all, filter, get_or, length, nat_lt, sum_by, take, arith, Fill, Liable, laid, sum_by_more}
 use Rattle.cns_retransmit.proofs.Lists.{drop_next}
 
 -- the fills that are left to make
@@ -18,15 +18,11 @@ none_past : (each : Liable → ℕ) (n m from : ℕ) (ls : List Liable) → n �
 none_past each n m from [] h = refl
 none_past each n m from (l ∷ ls) h = grind (arith, none_past each n m (from + each l) ls (omega arith))
 
-module _ {each : Liable → ℕ} {n m : ℕ} {ls : List Liable} {i : ℕ} {done : List Fill} {given paid : ℕ} (inv : Filling each n m ls i done given paid) where
-  pub fill_last : given ≡ n → done ≡ fills_from each n m 0 ls
-  fill_last full = grind (arith, inv.made, none_past each n m (sum_by each (take i ls)) (drop i ls), append-nil)
+-- at the end of the batch, or once all shares are given, all fills are made
+pub fill_last : {each : Liable → ℕ} {n m : ℕ} {ls : List Liable} {i : ℕ} {done : List Fill} {given paid : ℕ} → Filling each n m ls i done given paid → (i < length ls → given ≡ n) → done ≡ fills_from each n m 0 ls
+fill_last {each} {n} {m} {ls} {i} inv full = grind (arith, inv, none_past each n m (sum_by each (take i ls)) (drop i ls), append-nil, drop_all)
 
-  module _ (l : Liable) (more : ℕ) (lt : i < length ls) (is : l ≡ get_or ls i l) (more_is : more ≡ min (each l) (n - given)) where
-    -- a member that is given something
-    pub fill_some : (due : ℕ) → 0 < more → due ≡ (m * (given + more)) / n → Filling each n m ls (i + 1) (done ++ record { member = l.member; shares = more; cents = due - paid } ∷ []) (given + more) due
-    fill_some due some due_is = grind (arith, inv, append_assoc, drop_next ls i l, sum_by_more each ls i l)
-
-    -- a member that is given nothing
-    pub fill_none : more ≡ 0 → Filling each n m ls (i + 1) done given paid
-    fill_none none = grind (arith, inv, drop_next ls i l, sum_by_more each ls i l)
+-- one member more, which is given something or nothing
+pub fill_more : {each : Liable → ℕ} {n m : ℕ} {ls : List Liable} {i : ℕ} {done : List Fill} {given paid : ℕ} → Filling each n m ls i done given paid → (l : Liable) (more : ℕ) → i < length ls → l ≡ get_or ls i l → more ≡ min (each l) (n - given) → (now : List Fill) (to due : ℕ)
+    → (0 < more → (now ≡ done ++ record { member = l.member; shares = more; cents = due - paid } ∷ []) × (to ≡ given + more) × (due ≡ (m * to) / n)) → (more ≡ 0 → (now ≡ done) × (to ≡ given) × (due ≡ paid)) → Filling each n m ls (i + 1) now to due
+fill_more {each} {ls = ls} {i = i} inv l more lt is more_is now to due some none = grind (arith, inv, append_assoc, drop_next ls i l, sum_by_more each ls i l)

@@ -1,7 +1,6 @@
 -- What is left of the liabilities of a batch, and what it can be given.
 -- For `left_for` and `room_up_to` of filling.rt, `charge`, `choose`, `room` and `liable` of batch.rt.
-use Rattle.cns_retransmit.proofs.Common.{◌≡◌, refl, ℕ, ◌+◌, ◌<◌, ◌≤◌, ◌^◌, Bool, false, cond, List, [], ◌∷◌, filter, get_or, length, map, nat_eq, sum_by, arith, le-ltb, take, Fill, IsBatch, Liable, Member, Short, capacity, charged, chosen, fills_before, in_order, is_called, liable_of, shorts_of, sum_by-cons, sum_by-le-sum_by, sum_by_more_le, members_of, left_of}
-use Rattle.std.proofs.lemmas.Grind.{common_steps}
+use Rattle.cns_retransmit.proofs.Common.{◌≡◌, nat_tests, ◌⊎◌, nil_from_length, refl, ℕ, ◌+◌, ◌<◌, ◌≤◌, Bool, false, cond, List, [], ◌∷◌, filter, get_or, length, map, nat_eq, sum_by, arith, take, Fill, Liable, Member, Short, capacity, charged, chosen, fills_before, in_order, is_called, liable_of, shorts_of, sum_by-cons, sum_by-le-sum_by, sum_by_more_le, members_of, left_of, common_steps}
 use Rattle.cns_retransmit.proofs.Ordered.{sum_in_order}
 
 -- ---- a batch that was chosen
@@ -17,14 +16,20 @@ none_pass p (s ∷ ss) none = grind (arith, none s, none_pass p ss none)
 
 -- nobody is chosen where nothing is called
 pub none_called : (ss : List Short) → chosen ss 0 ≡ []
-none_called ss = rw (none_pass (is_called ss 0) (in_order fills_before ss) (λ s. le-ltb _ 0 (omega arith)))
+none_called ss = rw (none_pass (is_called ss 0) (in_order fills_before ss) (λ s. grind (arith, nat_tests)))
 
--- what is chosen is a batch
-pub chosen_is_batch : (ss : List Short) (called : ℕ) → ((a : Member) → shorts_of a ss ≤ 1) → sum_by (λ s. s.shares) ss < 2 ^ 63 → IsBatch (chosen ss called)
-chosen_is_batch ss called once fits = record {
-  once = λ a. omega (arith, once a, called_below (λ (l : Liable). cond (nat_eq l.member a) 1 0) (is_called ss called) (in_order fills_before ss), sum_in_order (λ (s : Short). cond (nat_eq s.member a) 1 0) fills_before ss);
-  fits = omega (arith, fits, called_below (λ (l : Liable). l.left) (is_called ss called) (in_order fills_before ss), sum_in_order (λ (s : Short). s.shares) fills_before ss);
-}
+pub none_chosen : (ss : List Short) (called : ℕ) → (called ≡ 0) ⊎ (length ss ≡ 0) → chosen ss called ≡ []
+none_chosen ss called none = grind (arith, none_called ss, nil_from_length ss)
+
+-- what is chosen totals no more than all, of each member and together
+chosen_below : (g : Liable → ℕ) (ss : List Short) (called : ℕ) → sum_by g (chosen ss called) ≤ sum_by (λ s. g (liable_of s)) ss
+chosen_below g ss called = omega (arith, called_below g (is_called ss called) (in_order fills_before ss), sum_in_order (λ s. g (liable_of s)) fills_before ss)
+
+pub chosen_members : (a : Member) (ss : List Short) (called : ℕ) → members_of a (chosen ss called) ≤ shorts_of a ss
+chosen_members a = chosen_below (λ l. cond (nat_eq l.member a) 1 0)
+
+pub chosen_left : (ss : List Short) (called : ℕ) → sum_by (λ l. l.left) (chosen ss called) ≤ sum_by (λ s. s.shares) ss
+chosen_left = chosen_below (λ l. l.left)
 
 -- ---- a batch that is charged
 
@@ -33,8 +38,8 @@ pub members_of_charged : (a : Member) (fs : List Fill) (ls : List Liable) → me
 members_of_charged a fs ls = grind (arith, common_steps)
 
 -- and no more than was left
-pub charged_is_batch : (fs : List Fill) (ls : List Liable) → IsBatch ls → IsBatch (map (charged fs) ls)
-charged_is_batch fs ls is = grind (arith, common_steps, members_of_charged, sum_by-le-sum_by (λ l. (charged fs l).left) (λ (l : Liable). l.left) ls (λ l. omega arith))
+pub charged_below : (fs : List Fill) (ls : List Liable) → sum_by (λ l. l.left) (map (charged fs) ls) ≤ sum_by (λ l. l.left) ls
+charged_below fs ls = grind (arith, common_steps, sum_by-le-sum_by (λ l. (charged fs l).left) (λ (l : Liable). l.left) ls (λ l. omega arith))
 
 -- what is left of one is no more than what is left of all
 pub left_below : (a : Member) (ls : List Liable) → left_of a ls ≤ sum_by (λ l. l.left) ls

@@ -25,17 +25,9 @@ module _ {X : Type 0} (of : X → Member) where
   pub many_more : (a : Member) (x : X) (xs : List X) → many a (x ∷ xs) ≡ one_if (nat_eq (of x) a) + many a xs
   many_more a x xs = sum_by-cons (λ x. one_if (nat_eq (of x) a)) x xs
 
-  -- one that stands somewhere is counted
-  pub counted : (xs : List X) (i : ℕ) (d : X) → i < length xs → 0 < many (of (get_or xs i d)) xs
-  counted xs i d lt = grind (arith, nat_tests, get_or-le-sum_by (λ x. one_if (nat_eq (of x) (of (get_or xs i d)))) xs i d)
-
-  -- where each member stands once, the first is not among the rest
-  pub first_once : (x : X) (xs : List X) → ((a : Member) → many a (x ∷ xs) ≤ 1) → many (of x) xs ≡ 0
-  first_once x xs once = grind (arith, nat_tests, many_more (of x) x xs, once (of x))
-
-  -- and each of the rest stands there once
-  pub rest_once : (x : X) (xs : List X) → ((a : Member) → many a (x ∷ xs) ≤ 1) → (a : Member) → many a xs ≤ 1
-  rest_once x xs once a = omega (arith, many_more a x xs, once a)
+  -- where each member stands once, the first is not among the rest, where each stands once
+  pub rest_once : (x : X) (xs : List X) → ((a : Member) → many a (x ∷ xs) ≤ 1) → (many (of x) xs ≡ 0) × ((a : Member) → many a xs ≤ 1)
+  rest_once x xs once = (grind (arith, nat_tests, many_more (of x) x xs, once (of x)), λ a. omega (arith, many_more a x xs, once a))
 
   -- two places are not of one member
   pub places_apart : (xs : List X) (i j : ℕ) (d : X) → ((a : Member) → many a xs ≤ 1) → i < j → j < length xs → nat_eq (of (get_or xs i d)) (of (get_or xs j d)) ≡ false

@@ -1,7 +1,6 @@
 -- What is called at a close in each issue, and who is short there.
 use Rattle.std.specs.Prelude.{ℕ, ◌+◌, ◌^◌, ◌<◌, ◌≤◌, nat_lt, List, [], ◌∷◌, ◌++◌, filter, length, map, sum_by, Option}
-use Rattle.cns_terms.specs.Common.{Cusip, Liables, Member, chosen, is_eq, lookup, nat_cmp, option_map_or, slice_cmp}
-use Rattle.cns_terms.specs.declared.buy_in.Short.{Short}
+use Rattle.cns_retransmit.specs.Common.{Cusip, Liables, Member, chosen, is_eq, lookup, nat_cmp, option_map_or, slice_cmp, Short}
 use Rattle.cns_retransmit.specs.Chosen.{shorts_of}
 
 -- ---- one issue

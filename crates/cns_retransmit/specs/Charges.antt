@@ -1,8 +1,6 @@
 -- Fills with which a batch can be charged.
 use Rattle.std.specs.Prelude.{ℕ, ◌≤◌, ◌<◌, ◌==◌, All, List, sum_by, if◌then◌else◌}
-use Rattle.cns_terms.specs.Common.{Member}
-use Rattle.cns_terms.specs.declared.buy_in.Fill.{Fill}
-use Rattle.cns_terms.specs.declared.buy_in.Liable.{Liable}
+use Rattle.cns_retransmit.specs.Common.{Member, Fill, Liable}
 use Rattle.cns_retransmit.specs.Members.{left_of, members_of}
 
 -- how many of the fills are a member's

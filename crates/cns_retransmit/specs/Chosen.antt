@@ -1,8 +1,6 @@
 -- The shorts from which a batch is chosen.
 use Rattle.std.specs.Prelude.{ℕ, ◌≤◌, ◌==◌, List, [], ◌∷◌, filter, map, sum_by, ⊤, if◌then◌else◌}
-use Rattle.cns_terms.specs.Common.{Member, is_called, liable_of}
-use Rattle.cns_terms.specs.declared.buy_in.Liable.{Liable}
-use Rattle.cns_terms.specs.declared.buy_in.Short.{Short}
+use Rattle.cns_retransmit.specs.Common.{Member, is_called, liable_of, Liable, Short}
 
 -- how many of the shorts are a member's
 abbrev pub shorts_of : Member → List Short → ℕ

@@ -1,7 +1,6 @@
 -- The batches of the closed days.
 use Rattle.std.specs.Prelude.{◌≡◌, ℕ, zero, suc, true, List, [], map, Option, None, if◌then◌else◌, find, slice_get, unwrap_or}
-use Rattle.cns_terms.specs.Common.{Cusip, Liables, changed_at, charged, is_sorted, nat_cmp, same_issue, slice_cmp}
-use Rattle.cns_terms.specs.declared.buy_in.Fill.{Fill}
+use Rattle.cns_retransmit.specs.Common.{Cusip, Liables, changed_at, charged, is_sorted, nat_cmp, same_issue, slice_cmp, Fill}
 
 -- ---- the batches of one day
 

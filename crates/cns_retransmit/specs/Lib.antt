@@ -1,3 +1,4 @@
+pub mod Common
 pub mod Calls
 pub mod Charges
 pub mod Chosen

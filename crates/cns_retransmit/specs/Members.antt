@@ -1,7 +1,6 @@
 -- A batch, as contracts see it.
 use Rattle.std.specs.Prelude.{ℕ, ◌≤◌, ◌<◌, ◌^◌, ◌==◌, List, [], ◌∷◌, sum_by, if◌then◌else◌}
-use Rattle.cns_terms.specs.Common.{Member}
-use Rattle.cns_terms.specs.declared.buy_in.Liable.{Liable}
+use Rattle.cns_retransmit.specs.Common.{Member, Liable}
 
 -- how many of the liabilities are a member's
 abbrev pub members_of : Member → List Liable → ℕ

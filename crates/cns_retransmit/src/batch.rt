@@ -41,6 +41,7 @@ impl<A: Allocator + Drop + Clone> Batch<A> {
     ///
     /// No member may stand twice among the shorts, and together they have to be below 2^63 shares. `NoMemory` where a growth
     /// or a copy of the allocator was refused; where nothing is called, or nobody is short, none is asked for.
+    #[tactic(auto, using(crate::proofs::Lefts::chosen_left, crate::proofs::Lefts::chosen_members, crate::proofs::Lefts::none_chosen))]
     pub fn choose(
         alloc: A,
         cusip: Cusip,
@@ -76,6 +77,7 @@ impl<A: Allocator + Drop + Clone> Batch<A> {
     ///
     /// A member that is given nothing has no fill. The batch is not changed; `charge` does that. The shares have to be no
     /// more than the room. `NoMemory` where an allocation or the copy of the allocator failed.
+    #[tactic(auto, using(cns_terms::proofs::Laid::shares_of_fills, cns_terms::proofs::Laid::cents_of_fills))]
     pub fn fill<S: Shorts>(
         &self,
         now: &S,
@@ -137,6 +139,7 @@ impl<A: Allocator + Drop> Batch<A> {
     /// Lowers what is left of each liability by what the fills give its member. The fills may come in any order. They have to
     /// be for members of the batch, at most one for each, and none for more than is left, as those are that `fill` makes.
     /// It takes no memory, and a step for each member where the fills come in the order of the batch.
+    #[tactic(auto, using(std::proofs::lemmas::List::take_at, crate::proofs::Lefts::members_of_charged, crate::proofs::Lefts::charged_below))]
     pub fn charge(&mut self, fills: &[Fill])
         requires { CanBeCharged fills.now self.old.members }
         ensures { self.new ≡ record { issue = self.old.issue; members = map (charged fills.now) self.old.members } }

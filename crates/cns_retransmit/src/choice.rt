@@ -10,7 +10,7 @@ use std::alloc::{AllocError, Allocator};
 use std::cmp::Reverse;
 
 // Whole groups of one age, the oldest first, until they are short of what is called, in the order of filling.
-#[tactic(auto, using(crate::proofs::Ordered::chosen_in_order, crate::proofs::Ordered::oldest_first, crate::proofs::Ordered::order_is, crate::proofs::Ordered::sum_in_order))]
+#[tactic(auto, using(crate::proofs::Ordered::oldest_first, crate::proofs::Ordered::order_is, crate::proofs::Ordered::sum_in_order))]
 pub(crate) fn choose<A: Allocator + Drop + Clone>(
     alloc: A,
     shorts: &[Short],

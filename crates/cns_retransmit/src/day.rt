@@ -62,6 +62,7 @@ impl<A: Allocator + Drop> DayBatches<A> {
     }
 
     /// The batch of an issue.
+    #[tactic(auto, using(crate::proofs::Sought::batch_found))]
     pub(crate) fn find(&self, issue: Cusip) -> Option<&Batch<A>>
         ensures { option_copied result ≡ batch_in self.now issue }
     {

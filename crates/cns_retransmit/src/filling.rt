@@ -136,7 +136,7 @@ fn place_of(liables: &[Liable], member: Member, from: usize) -> usize
 }
 
 // Lowers what is left of each liability by the fills.
-#[tactic(auto, using(std::proofs::lemmas::List::Folds::map_fixed, crate::proofs::Charging::lowered_at, crate::proofs::Charging::next_charged, crate::proofs::Charging::next_enough))]
+#[tactic(auto, using(std::proofs::lemmas::List::Folds::map_fixed, crate::proofs::Charging::next_charged, crate::proofs::Charging::next_enough))]
 pub(crate) fn charge(liables: &mut [Liable], fills: &[Fill])
     requires distinct { (a : Member) → members_of a liables.old ≤ 1 }
     requires fills { CanBeCharged fills.now liables.old }

@@ -1,17 +1,10 @@
 -- The marks of a sheet add up to zero.
 -- For `build` of sheet.rt.
-use Rattle.cns_sheets.proofs.Common.{◌≡◌, ◌∙◌, sym, ap, refl, ℕ, zero, suc, ◌≤◌, ℤ, pos, ◌+ℤ◌, ◌-ℤ◌, ◌*ℤ◌, neg_ℤ, Bool, true, false, not, cond, List, [], ◌∷◌, length, map, filter, Option, option_map, unwrap_or, arith, int_eq, AreBalanced, CanBeCut, CentsByKey, Cusip, DaySheet, Holding, IsCut, Key, Listed, Paying, Row, Rows, by_key, bytes_eq-Decides, cents_at, closing_in, cut_row, dividend_of, exact_keys, find, find_filter, held_in, idle_parts, ints, is_sorted, kept_if, key_cmp, key_of, keys_total, marked, option_map_or, price_in, price_on, prices_of, row_at, rows_before, said, same_issue, same_lists, says, sorted_filter, total, total-add, total-map, total-neg, total-same, worth, zero-*ℤ, zero_add, zeros, length-filter_both}
-use Rattle.cns_terms.proofs.SheetSums.{kept_or_not}
+use Rattle.cns_sheets.proofs.Common.{◌≡◌, ◌∙◌, sym, ap, refl, ℕ, zero, suc, ◌≤◌, ℤ, pos, ◌+ℤ◌, ◌-ℤ◌, ◌*ℤ◌, neg_ℤ, Bool, true, false, not, cond, List, [], ◌∷◌, length, map, filter, Option, unwrap_or, arith, int_eq, AreBalanced, CanBeCut, CentsByKey, Cusip, DaySheet, Holding, IsCut, Key, Listed, Paying, Row, Rows, by_key, bytes_eq-Decides, cents_at, closing_in, cut_row, dividend_of, exact_keys, find, find_filter, held_in, idle_parts, ints, is_sorted, kept_if, key_cmp, key_of, keys_total, marked, option_map_or, price_in, price_on, prices_of, row_at, rows_before, same_issue, same_lists, says, sorted_filter, total, total-add, total-map, total-neg, total-same, worth, zero-*ℤ, zero_add, length-filter_both}
 use Rattle.cns_terms.proofs.ZeroSums.{times_sum}
 use Rattle.cns_sheets.proofs.Entries.{find_keyed, sorted_keyed}
 
 -- ---- sums by issue
-
-zero_out : (b : Bool) (n : ℤ) → n ≡ pos 0 → cond b (pos 0) n ≡ pos 0
-zero_out b n h = grind arith
-
-zero_in : (b : Bool) (n : ℤ) → n ≡ pos 0 → cond b n (pos 0) ≡ pos 0
-zero_in b n h = grind arith
 
 module _ {X : Type 0} (issue : X → Cusip) (f : X → ℤ) where
   -- a number, if it is in the issue
@@ -46,7 +39,7 @@ module _ {X : Type 0} (issue : X → Cusip) (f : X → ℤ) where
     zero_upto zero (x ∷ xs) le h = absurd (omega (arith, le))
     zero_upto (suc n) (x ∷ xs) le h =
         sym (split (issue x) (x ∷ xs))
-        ∙ rw (h (issue x), zero-*ℤ (pos (w (issue x))), zero_upto n (others (issue x) (x ∷ xs)) (omega (arith, first_gone, le)) (λ d. elsewhere (issue x) d (x ∷ xs) ∙ zero_out (same_issue (issue x) d) _ (h d))) refl
+        ∙ rw (h (issue x), zero-*ℤ (pos (w (issue x))), zero_upto n (others (issue x) (x ∷ xs)) (omega (arith, first_gone, le)) (λ d. grind (arith, elsewhere (issue x) d (x ∷ xs), h d))) refl
       where
         first_gone : length (others (issue x) (x ∷ xs)) ≤ length xs
         first_gone = rw ((bytes_eq-Decides (issue x) (issue x)).1 refl) (omega (arith, length-filter_both (λ y. same_issue (issue y) (issue x)) (λ y. not (same_issue (issue y) (issue x))) (λ y. refl) xs))
@@ -91,12 +84,9 @@ module _ (f : Key × ℤ → ℤ) (nothing : (k : Key) → f (k, pos 0) ≡ pos 
 
 -- none of an issue
 pub none_in : (c : Cusip) (k : Key) → numbers_in c (k, pos 0) ≡ pos 0
-none_in c k = zero_in (same_issue k.issue c) (pos 0) refl
+none_in c k = grind arith
 
 -- ---- one number of each value
-
-or_zero : {V : Type 0} (f : V → ℤ) (o : Option V) (n : ℤ) → unwrap_or (option_map f o) n ≡ option_map_or f o n
-or_zero f o n = grind arith
 
 module _ {V : Type 0} (f : V → ℤ) where
   abbrev pub numbers : List (Key × V) → List (Key × ℤ)
@@ -106,7 +96,7 @@ module _ {V : Type 0} (f : V → ℤ) where
   sorted_numbers es h = rw (sorted_keyed key_cmp (λ e. f e.1) es) h
 
   pub found_number : (k : Key) (n : ℤ) (es : List (Key × V)) → unwrap_or (find key_cmp k (numbers es)) n ≡ option_map_or f (find key_cmp k es) n
-  found_number k n es = rw (find_keyed (λ e. f e.1) k es) (or_zero f (find key_cmp k es) n)
+  found_number k n es = grind (arith, find_keyed (λ e. f e.1) k es)
 
   pub total_numbers : (s : Key × ℤ → ℤ) (es : List (Key × V)) → total s (numbers es) ≡ total (λ e. s (e.0, f e.1)) es
   total_numbers s es = total-map s (λ e. (e.0, f e.1)) es
@@ -116,23 +106,10 @@ same_numbers : {V W : Type 0} (f : Key × V → ℤ) (g : Key × W → ℤ) (s :
     → ((k : Key) → option_map_or (λ v. f (k, v)) (find key_cmp k es) (pos 0) ≡ option_map_or (λ w. g (k, w)) (find key_cmp k fs) (pos 0)) → total (λ e. s (e.0, f e)) es ≡ total (λ e. s (e.0, g e)) fs
 same_numbers f g s nothing es fs a b h =
     sym (total-map s (λ e. (e.0, f e)) es)
-    ∙ same_sums s nothing (map (λ e. (e.0, f e)) es) (map (λ e. (e.0, g e)) fs) (rw (sorted_keyed key_cmp f es) a) (rw (sorted_keyed key_cmp g fs) b)
-    (λ k. rw (find_keyed f k es, find_keyed g k fs) (or_zero (λ v. f (k, v)) (find key_cmp k es) (pos 0) ∙ h k ∙ sym (or_zero (λ w. g (k, w)) (find key_cmp k fs) (pos 0))))
+    ∙ same_sums s nothing (map (λ e. (e.0, f e)) es) (map (λ e. (e.0, g e)) fs) (rw (sorted_keyed key_cmp f es) a) (rw (sorted_keyed key_cmp g fs) b) (λ k. grind (arith, find_keyed f k es, find_keyed g k fs, h k))
     ∙ total-map s (λ e. (e.0, g e)) fs
 
 -- ---- rows, holdings and cents
-
--- a number of a holding, or zero
-held_number : (g : Holding → ℤ) → pos 0 ≡ g zeros → (o : Option Holding) → option_map_or g o (pos 0) ≡ g (unwrap_or o zeros)
-held_number g z o = grind arith
-
--- a number of a row that says something, or zero
-said_number : (f : Row → ℤ) (r : Row) → (says r ≡ false → f r ≡ pos 0) → option_map_or f (said r) (pos 0) ≡ f r
-said_number f r idle = grind arith
-
--- cents, or zero
-cents_or_zero : (p : Option ℤ) → option_map_or (λ n. n) p (pos 0) ≡ unwrap_or p (pos 0)
-cents_or_zero p = grind arith
 
 -- by the rule of marks, where there are no positions and no cents there is no mark
 no_mark : (p q : ℕ) → (worth (pos 0) p -ℤ worth (pos 0) q) +ℤ pos 0 ≡ pos 0
@@ -156,12 +133,12 @@ module _ (before : Option DaySheet) (prices : Listed) (R : Rows) (ps : List Payi
 
   -- a number of it
   number_at : (f : Row → ℤ) (k : Key) → (says (row_of k) ≡ false → f (row_of k) ≡ pos 0) → option_map_or f (row_at rows k) (pos 0) ≡ f (row_of k)
-  number_at f k idle = rw (cut.each k) (said_number f (row_of k) idle)
+  number_at f k idle = grind (arith, cut.each k, idle)
 
   -- the openings of an issue add up to zero, as the closings before did
   openings : (c : Cusip) → total (held_in (λ h. h.opening) c) R ≡ pos 0
   openings c =
-      same_numbers (λ e. e.1.opening) (λ e. e.1.closing) (numbers_in c) (none_in c) R (by_key (rows_before before)) sorted rise (λ k. held_number (λ h. h.opening) refl (find key_cmp k R) ∙ ready.openings k)
+      same_numbers (λ e. e.1.opening) (λ e. e.1.closing) (numbers_in c) (none_in c) R (by_key (rows_before before)) sorted rise (λ k. grind (arith, ready.openings k))
       ∙ total-map (λ (e : Key × Row). cond (same_issue e.0.issue c) e.1.closing (pos 0)) (λ r. (key_of r, r)) (rows_before before) ∙ closed c
 
   -- the marks of holdings add up to zero
@@ -181,14 +158,12 @@ module _ (before : Option DaySheet) (prices : Listed) (R : Rows) (ps : List Payi
   cut_balanced cs cents_rise none cents = record {
     closings = λ c.
         sym (total-map (λ (e : Key × Row). cond (same_issue e.0.issue c) e.1.closing (pos 0)) (λ r. (key_of r, r)) rows)
-        ∙ same_numbers (λ e. e.1.closing) (λ e. e.1.now) (numbers_in c) (none_in c) (by_key rows) R cut.order sorted
-        (λ k. number_at (λ r. r.closing) k (λ h. (idle_parts (row_of k) h).1) ∙ sym (held_number (λ h. h.now) refl (find key_cmp k R))) ∙ ready.shares c;
+        ∙ same_numbers (λ e. e.1.closing) (λ e. e.1.now) (numbers_in c) (none_in c) (by_key rows) R cut.order sorted (λ k. grind (arith, number_at (λ r. r.closing) k (λ h. (idle_parts (row_of k) h).1))) ∙ ready.shares c;
     marks =
         sym (total-map (λ (e : Key × Row). e.1.mark) (λ r. (key_of r, r)) rows)
         ∙ same_numbers (λ e. e.1.mark) mark_of (λ e. e.1) (λ k. refl) (by_key rows) R cut.order sorted (λ k.
-        number_at (λ r. r.mark) k (λ h. let p = idle_parts (row_of k) h in rw (p.0, p.1, p.2) (no_mark (price_now k.issue) (price_then k.issue)))
-        ∙ sym (held_number (λ h. mark_of (k, h)) (sym (no_mark (price_now k.issue) (price_then k.issue))) (find key_cmp k R))) ∙ marks;
+        grind (arith, no_mark (price_now k.issue) (price_then k.issue), number_at (λ r. r.mark) k (λ h. let p = idle_parts (row_of k) h in rw (p.0, p.1, p.2) (no_mark (price_now k.issue) (price_then k.issue))))) ∙ marks;
     dividends =
         sym (total-map (λ (e : Key × Row). e.1.dividend) (λ r. (key_of r, r)) rows)
-        ∙ same_numbers (λ e. e.1.dividend) (λ e. e.1) (λ e. e.1) (λ k. refl) (by_key rows) cs cut.order cents_rise (λ k. number_at (λ r. r.dividend) k (λ h. (idle_parts (row_of k) h).3) ∙ sym (cents_or_zero (find key_cmp k cs) ∙ cents k)) ∙ none;
+        ∙ same_numbers (λ e. e.1.dividend) (λ e. e.1) (λ e. e.1) (λ k. refl) (by_key rows) cs cut.order cents_rise (λ k. grind (arith, cents k, number_at (λ r. r.dividend) k (λ h. (idle_parts (row_of k) h).3))) ∙ none;
   }

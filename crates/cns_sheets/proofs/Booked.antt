@@ -1,7 +1,8 @@
 -- What payments book.
 -- For `pay_members`, `add` and `pay` of payments.rt.
-use Rattle.cns_sheets.proofs.Common.{◌≡◌, ◌∙◌, sym, ap, refl, ◌+◌, ◌*◌, ◌^◌, ◌<◌, ◌≤◌, ◌==◌, ℤ, pos, ◌+ℤ◌, ◌-ℤ◌, neg_ℤ, of_z, to_z, Bool, true, not, cond, ◌&&◌, List, [], ◌∷◌, ◌++◌, Option, Some, None, unwrap_or, Ordering, arith, FitsSigned, unsigned_abs, sum_by, is_eq, Less, Equal, Greater, CentsByKey, IsPayable, Key, Row, added-more, and_left, and_right, below_all, by_key, cash, cents_at, closing_at, corporation, equal, exact_keys, find, find_below, insert_entry, ints, is_sorted, key_cmp, key_of, keys_total, lookup, magnitude, match_ordering, member_cash, option_map_or, paid, row_at, same_issue, same_key, sum_by-cons, to_z-of_z, total, total-append, total_small, w128, Declared}
+use Rattle.cns_sheets.proofs.Common.{◌≡◌, ◌∙◌, sym, refl, ◌+◌, ◌*◌, ◌^◌, ◌<◌, ◌≤◌, ◌==◌, ℤ, pos, ◌+ℤ◌, ◌-ℤ◌, neg_ℤ, of_z, to_z, Bool, true, not, cond, ◌&&◌, List, [], ◌∷◌, ◌++◌, Option, Some, unwrap_or, arith, FitsSigned, unsigned_abs, sum_by, is_eq, CentsByKey, IsPayable, Key, Row, added-more, by_key, cash, cents_at, closing_at, corporation, equal, exact_keys, find_below, insert_entry, ints, is_sorted, key_cmp, key_of, keys_total, lookup, magnitude, member_cash, paid, same_issue, same_key, sum_by-cons, to_z-of_z, total, total-append, total_small, w128, Declared}
 use Rattle.std.specs.BTreeMap.{is_at}
+use Rattle.std.proofs.Math.IntN.{+ℤ_assoc, +ℤ_comm, +ℤ_idl, +ℤ_idr}
 use Rattle.std.proofs.lemmas.Cmp.{eq_by_cmp_equiv}
 use mir.Val.{hbits}
 use lib.Signed.{mag}
@@ -10,32 +11,19 @@ use Rattle.cns_sheets.proofs.Weaving.{below_later, gap_cents}
 
 -- ---- cents, added at a key
 
--- a sum of cents, with more put in place of those at one key
-sum_branch : (r : Ordering) (k : Key) (v cents : ℤ) (e : Key × ℤ) (es later : CentsByKey) → key_cmp k e.0 ≡ r → below_all key_cmp e.0 es ≡ true → v ≡ unwrap_or (cond (is_eq r) (Some e.1) (find key_cmp k es)) (pos 0) +ℤ cents
-    → (v ≡ cents_at es k +ℤ cents → total (λ e. e.1) later ≡ total (λ e. e.1) es +ℤ cents) → total (λ e. e.1) (match_ordering r ((k, v) ∷ e ∷ es) ((e.0, v) ∷ es) (e ∷ later)) ≡ (e.1 +ℤ total (λ e. e.1) es) +ℤ cents
-sum_branch Less k v cents e es later c b is h = let none = gap_cents k es (below_later k e.0 es c b) in omega (arith, ints, none, is)
-sum_branch Equal k v cents e es later c b is h = omega (arith, ints, is)
-sum_branch Greater k v cents e es later c b is h = let more = h is in omega (arith, ints, more)
-
 -- the sum of cents, with more at one key
 pub sum_added : (k : Key) (v cents : ℤ) (es : CentsByKey) → is_sorted key_cmp es ≡ true → v ≡ cents_at es k +ℤ cents → total (λ e. e.1) (insert_entry key_cmp es k v) ≡ total (λ e. e.1) es +ℤ cents
 sum_added k v cents [] s is = omega (arith, ints, is)
-sum_added k v cents (e ∷ es) s is = sum_branch (key_cmp k e.0) k v cents e es (insert_entry key_cmp es k v) refl (and_left _ _ s) is (sum_added k v cents es (and_right _ _ s))
-
--- the two words for a search
-same_find : (k : Key) (es : CentsByKey) → find key_cmp k es ≡ lookup (is_at (key_cmp k)) es
-same_find k es = grind arith
+sum_added k v cents (e ∷ es) s is = grind (arith, is, +ℤ_idl, +ℤ_assoc, +ℤ_comm cents (e.1 +ℤ total (λ e. e.1) es), +ℤ_comm cents (total (λ e. e.1) es), gap_cents k es, below_later k e.0 es, sum_added k v cents es)
 
 -- what a search found, as the cents at a key
 pub had_is : (k : Key) (es : CentsByKey) (o : Option ℤ) (n : ℤ) → n ≡ unwrap_or o (pos 0) → o ≡ lookup (is_at (key_cmp k)) es → n ≡ cents_at es k
-had_is k es o n is found = rw (same_find k es, ← found) is
+had_is k es o n is found = rw found at is
 
 -- the cents at each key, where they are added to at one
 pub cents_added : (old new : CentsByKey) (key : Key) (v cents : ℤ) → ((q : Key) → lookup (is_at (key_cmp q)) new ≡ cond (is_eq (key_cmp key q)) (Some v) (lookup (is_at (key_cmp q)) old)) → v ≡ cents_at old key +ℤ cents
     → (k : Key) → cents_at new k ≡ cents_at old k +ℤ cond (is_eq (key_cmp k key)) cents (pos 0)
-cents_added old new key v cents updates is k =
-    rw (same_find k new, updates k, ← same_find k old, (eq_by_cmp_equiv keys_total).symm key k)
-    (grind (arith, ints, is, exact_keys k key))
+cents_added old new key v cents updates is k = rw (updates k, (eq_by_cmp_equiv keys_total).symm key k) (grind (arith, ints, is, exact_keys k key))
 
 -- ---- registers of 128 bits
 
@@ -49,7 +37,7 @@ wide_fits z h = record { sfits = h }
 
 -- a sum in a register
 pub sum_is : (m n : ℤ) → FitsSigned w128 m → FitsSigned w128 n → unsigned_abs (m +ℤ n) ≤ 10 ^ 34 → to_z w128 (of_z w128 (to_z w128 (of_z w128 m) +ℤ to_z w128 (of_z w128 n))) ≡ m +ℤ n
-sum_is m n a b h = rw (to_z-of_z w128 m a, to_z-of_z w128 n b) (to_z-of_z w128 (m +ℤ n) (fits (m +ℤ n) h))
+sum_is m n a b h = grind (arith, to_z-of_z w128 m a, to_z-of_z w128 n b, to_z-of_z w128 (m +ℤ n) (fits (m +ℤ n) h))
 
 -- the opposite of a number
 pub neg_is : (z : ℤ) → unsigned_abs z ≤ 10 ^ 21 → to_z w128 (of_z w128 (pos 0 -ℤ to_z w128 (of_z w128 z))) ≡ neg_ℤ z
@@ -73,7 +61,7 @@ module _ (d : Declared) where
   -- the two words for a sum of magnitudes
   as_added : (xs : List Row) → magnitude (member_cash d) xs ≡ sum_by (λ r. unsigned_abs (member_cash d r)) xs
   as_added [] = refl
-  as_added (x ∷ xs) = ap (λ n. unsigned_abs (member_cash d x) + n) (as_added xs) ∙ sym (sum_by-cons (λ r. unsigned_abs (member_cash d r)) x xs)
+  as_added (x ∷ xs) = grind (arith, sum_by-cons (λ r. unsigned_abs (member_cash d r)) x xs, as_added xs)
 
   -- what all members get is small, added up without signs, and so is what is booked at a key
   booked_small : (k : Key) (rows : List Row) → magnitude (member_cash d) rows ≤ 10 ^ 21 → magnitude (booked k) rows ≤ 10 ^ 21
@@ -88,7 +76,7 @@ module _ (d : Declared) where
 
   -- and at a key
   pub all_booked_small : (rows : List Row) → IsPayable (d, rows) → (k : Key) → unsigned_abs (total (booked k) rows) ≤ 10 ^ 21
-  all_booked_small rows payable k = omega (arith, total_small (booked k) rows, (small k rows payable).1)
+  all_booked_small rows payable k = omega (arith, total_small (booked k) rows, booked_small k rows, as_added rows, payable)
 
   -- and the first of them, and the next one
   pub step_small : (rows xs ys left zs : List Row) (r : Row) → IsPayable (d, rows) → xs ≡ rows → xs ≡ ys ++ left → left ≡ r ∷ zs → (k : Key)
@@ -106,14 +94,9 @@ module _ (d : Declared) where
   cash_at k closing = cond (same_issue k.issue d.issue && not (k.account == corporation)) (cash closing d.rate) (pos 0)
 
   -- the sum over the rows of a key has one term
-  once_branch : (e : Bool) (k : Key) (r : Row) (o : Option Row) (s : ℤ) → (e ≡ true → k ≡ key_of r) → (e ≡ true → o ≡ None) → s ≡ cash_at k (option_map_or (λ r. r.closing) o (pos 0))
-      → cond e (member_cash d r) (pos 0) +ℤ s ≡ cash_at k (option_map_or (λ r. r.closing) (cond e (Some r) o) (pos 0))
-  once_branch e k r o s same none h = grind arith
-
   booked_once : (k : Key) (rows : List Row) → is_sorted key_cmp (by_key rows) ≡ true → total (booked k) rows ≡ cash_at k (closing_at rows k)
   booked_once k [] s = grind arith
-  booked_once k (r ∷ rows) s = once_branch (is_eq (key_cmp k (key_of r))) k r (row_at rows k) _ (λ e. exact_keys k (key_of r) (equal _ e))
-      (λ e. find_below keys_total k (by_key rows) (ap (λ q. below_all key_cmp q (by_key rows)) (exact_keys k (key_of r) (equal _ e)) ∙ and_left _ _ s)) (booked_once k rows (and_right _ _ s))
+  booked_once k (r ∷ rows) s = grind (arith, +ℤ_idl, +ℤ_idr, exact_keys k (key_of r), equal, find_below keys_total k (by_key rows), booked_once k rows)
 
   -- the corporation's key is no member's
   with_corporation : (k corp : Key) (closing part : ℤ) → corp.account ≡ corporation → corp.issue ≡ d.issue

@@ -1,6 +1,6 @@
 -- Lists in the order of keys: mapped, filtered, searched.
 -- For `of_rows`, `row`, `rows_of`, `rows_in` and `build` of sheet.rt, `first_in` of in_issue.rt and others.
-use Rattle.cns_sheets.proofs.Common.{◌≡◌, ◌∙◌, sym, ap, refl, ℕ, ◌+◌, ◌<◌, Bool, true, cond, List, [], ◌∷◌, length, get_or, drop, drop-cons, add-one, map, filter, Option, Some, None, MatchOption, Ordering, is_lt, is_eq, Less, arith, option_map, IsTotalOrder, Key, below_all, equal, exact_keys, find, first, first_passing, is_sorted, key_cmp, next_above}
+use Rattle.cns_sheets.proofs.Common.{◌≡◌, ◌∙◌, sym, ap, refl, ℕ, ◌+◌, ◌<◌, Bool, true, cond, List, [], ◌∷◌, length, get_or, drop, drop_more, map, filter, Option, Some, None, MatchOption, Ordering, is_lt, Less, arith, option_map, IsTotalOrder, Key, below_all, exact_keys, find, first, first_passing, is_sorted, key_cmp, next_above}
 use lib.Ieee.Bits.{is_true}
 use Rattle.cns_terms.proofs.Finds.{as_T}
 use Rattle.std.specs.FinMap.Entries.{find-where_key, is_sorted-where_key}
@@ -17,7 +17,7 @@ first_passes t (x ∷ xs) f h = grind (arith, first_passes t xs f)
 
 -- the elements from a place on begin with the one there
 pub next_is : {X : Type 0} (xs : List X) (i : ℕ) (x : X) → i < length xs → x ≡ get_or xs i x → drop i xs ≡ x ∷ drop (i + 1) xs
-next_is xs i x lt is = rw add-one (drop-cons xs i x lt) ∙ ap (λ y. y ∷ drop (i + 1) xs) (sym is)
+next_is xs i x lt is = grind (arith, drop_more)
 
 module _ {K X : Type 0} (R : K → K → Ordering) where
   -- what a test of keys keeps is in order
@@ -50,4 +50,4 @@ find_keyed f k (e ∷ es) = grind (arith, exact_keys k e.0, find_keyed f k es)
 
 -- a search among the keys that pass a test
 pub find_if : {X : Type 0} (t : Key → Bool) (k : Key) (es : List (Key × X)) → find key_cmp k (filter (λ e. t e.0) es) ≡ cond (t k) (find key_cmp k es) None
-find_if t k es = find-where_key key_cmp t k (λ q e. ap t (sym (exact_keys k q e))) es
+find_if t k es = grind (arith, find-where_key key_cmp t k (λ q e. ap t (sym (exact_keys k q e))) es)

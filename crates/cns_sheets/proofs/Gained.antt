@@ -4,7 +4,7 @@ use Rattle.cns_sheets.proofs.Common.{◌*◌, ◌^◌, ◌≤◌, ℤ, pos, ◌-
 
 -- the worth of a position has a bound
 worth_small : (q : ℤ) (p : Price) → unsigned_abs q ≤ 2 ^ 63 → p ≤ 10 ^ 9 → unsigned_abs (worth q p) ≤ 2 ^ 63 * 10 ^ 9
-worth_small q p a b = rw (unsigned_abs-mul q (pos p)) (grind (arith, a, b))
+worth_small q p a b = grind (arith, unsigned_abs-mul q (pos p))
 
 -- what is gained is small enough to be added up
 pub gained : (opening closing : ℤ) (opening_price price : Price) (money : ℤ) → unsigned_abs opening ≤ 2 ^ 63 → unsigned_abs closing ≤ 2 ^ 63 → opening_price ≤ 10 ^ 9 → price ≤ 10 ^ 9

@@ -7,7 +7,7 @@ use Rattle.cns_sheets.proofs.Walked.{from_later}
 -- tests that tell the elements of a list apart alike keep the same of it
 filter_alike : {X : Type 0} (P : X → Type 0) (u v : X → Bool) → ((x : X) → P x → u x ≡ v x) → (xs : List X) → AllByRecursion P xs → filter u xs ≡ filter v xs
 filter_alike P u v same [] all = refl
-filter_alike P u v same (x ∷ xs) all = rw (same x all.0, filter_alike P u v same xs all.1) refl
+filter_alike P u v same (x ∷ xs) all = grind (arith, same x all.0, filter_alike P u v same xs all.1)
 
 -- what a test of issues told
 pub told : (i c : Cusip) (b : Bool) → (b ≡ true) ↔ (i ≡ c) → same_issue i c ≡ b
@@ -58,10 +58,7 @@ module _ (c : Cusip) where
 
     -- from the first account on, all rows in the issue are left
     pub all_in : rows_from es c (Some (record { account = 0; issue = c })) ≡ filter (λ r. same_issue r.issue c) (full_rows es)
-    all_in = ap full_rows (filter_alike (λ e. e.0.account ≤ member_limit) (is_next_in c (Some (record { account = 0; issue = c }))) is_in alone es accounts) ∙ sym (filter-map (λ (r : Row). same_issue r.issue c) full_row es)
-      where
-        alone : (e : Key × Columns) → e.0.account ≤ member_limit → is_next_in c (Some (record { account = 0; issue = c })) e ≡ is_in e
-        alone e le = grind (arith, nat_tests, bytes_eq-Decides, itself)
+    all_in = ap full_rows (filter_alike (λ e. e.0.account ≤ member_limit) (is_next_in c (Some (record { account = 0; issue = c }))) is_in (λ e le. grind (arith, nat_tests, bytes_eq-Decides, itself)) es accounts) ∙ sym (filter-map (λ (r : Row). same_issue r.issue c) full_row es)
 
 -- the accounts of marked rows are accounts
 pub marked_accounts : (es : List (Key × Columns)) → AllByRecursion IsMarked (full_rows es) → AreAccounts es

@@ -1,14 +1,12 @@
 -- What a sheet keeps of the rows that it is built from.
 -- For `build` of sheet.rt.
-use Rattle.cns_sheets.proofs.Common.{◌≡◌, ◌∙◌, refl, ℤ, pos, true, List, [], ◌∷◌, map, filter, Option, None, unwrap_or, option_map, nat_cmp, arith, CentsByKey, Cusip, Holding, IsCut, Key, Listed, Paying, PriceList, Row, Rows, Woven, by_key, cents_at, dividend_of, find, find_filter, held_above, held_same, is_held, is_sorted, kept_if, key_cmp, keys_total, listed_above, price_in, price_on, priced_row, said, says, slice_cmp, sorted_filter, weave, woven_row, woven_rows, zeros}
+use Rattle.cns_sheets.proofs.Common.{◌≡◌, refl, ℤ, pos, true, List, [], ◌∷◌, map, filter, Option, None, unwrap_or, option_map, nat_cmp, arith, CentsByKey, Cusip, Holding, IsCut, Key, Listed, Paying, PriceList, Row, Rows, Woven, by_key, cents_at, dividend_of, find, find_filter, held_above, held_same, is_held, is_sorted, kept_if, key_cmp, keys_total, listed_above, price_in, said, says, slice_cmp, sorted_filter, weave, woven_row, woven_rows, zeros}
 use Rattle.cns_sheets.proofs.Entries.{find_keyed, sorted_if, sorted_keyed}
 use Rattle.cns_sheets.proofs.Weaving.{both_at, find_weave, sorted_weave}
 
--- ---- prices
-
 -- the list of prices is in the order of issues
 pub prices_rise : (es : Listed) → is_sorted (slice_cmp nat_cmp) es ≡ true → is_sorted (slice_cmp nat_cmp) (listed_above es None) ≡ true
-prices_rise es s = rw (sorted_keyed (slice_cmp nat_cmp) (λ e. e.1.price) (filter (λ e. true) es)) (sorted_if (slice_cmp nat_cmp) (λ c. true) es s)
+prices_rise es s = grind (arith, sorted_keyed (slice_cmp nat_cmp) (λ e. e.1.price) (filter (λ e. true) es), sorted_if (slice_cmp nat_cmp) (λ c. true) es s)
 
 -- the list shows the price of each issue
 pub listed_found : (c : Cusip) (es : Listed) → find (slice_cmp nat_cmp) c (listed_above es None) ≡ price_in es c
@@ -37,8 +35,5 @@ rows_cut before prices R ps cs s t cents =
     let order : is_sorted key_cmp es ≡ true = rw (sorted_keyed key_cmp (woven_row before now) (weave (held_above R None) cs)) (sorted_weave (held_above R None) cs rise t) in
     record {
       order = rw (with_keys before now (weave (held_above R None) cs)) (sorted_filter keys_total says es order);
-      each = λ k.
-          rw (with_keys before now (weave (held_above R None) cs), find_filter keys_total says k es order, find_keyed (woven_row before now) k (weave (held_above R None) cs), find_weave k (held_above R None) cs rise)
-          (kept_row before now k (find key_cmp k (held_above R None)) (find key_cmp k cs)
-          ∙ (λ i. said (priced_row (unwrap_or (price_on before k.issue) 0) (unwrap_or (listed_found k.issue prices i) 0) (cents k i) (k, held_same R k s i))));
+      each = λ k. grind (arith, with_keys before now (weave (held_above R None) cs), find_filter keys_total says k es order, find_keyed (woven_row before now) k (weave (held_above R None) cs), find_weave k (held_above R None) cs rise, kept_row before now k (find key_cmp k (held_above R None)) (find key_cmp k cs), listed_found k.issue prices, cents k, held_same R k s);
     }

@@ -1,8 +1,8 @@
 -- No CUSIP comes before the lowest.
 -- For `new` of columns.rt.
-use Rattle.cns_sheets.proofs.Common.{◌≡◌, ◌∙◌, ap, sym, refl, subst, ℕ, ◌≤◌, Bool, true, false, not, List, [], ◌∷◌, ◌++◌, take, length, length-take, replicate, Option, Some, None, arith, is_some, slice_index, eqb-true, is_lt, nat_cmp, Ordering, Cusip, drop_all, nat_tests, ordering_then, slice_cmp, drop_more, take-append-drop}
-use Rattle.cns_units.specs.Cusip.{IsCusip, after_value, character_value, last_fault, sum_of}
+use Rattle.cns_sheets.proofs.Common.{◌≡◌, ◌∙◌, ap, sym, refl, subst, ℕ, ◌≤◌, Bool, true, false, not, List, [], ◌∷◌, ◌++◌, take, length, length-take, replicate, Option, Some, None, arith, is_some, slice_index, eqb-true, is_lt, nat_cmp, Ordering, Cusip, drop_all, nat_tests, ordering_then, slice_cmp, drop_more, take-append-drop, IsCusip, after_value, character_value, last_fault}
 use Rattle.cns_sheets.specs.LowestCusip.{IsFromLowest}
+use Rattle.cns_units.specs.Cusip.{sum_of}
 
 -- a character with a value is not below `#`
 valued : (c : ℕ) → is_some (character_value c) ≡ true → 35 ≤ c

@@ -1,6 +1,6 @@
 -- Sums over rows, one row after another.
 -- For `build` of sheet.rt, `pay_members` of payments.rt.
-use Rattle.cns_sheets.proofs.Common.{◌≡◌, ◌∙◌, sym, ℕ, ◌*◌, ◌^◌, ◌≤◌, ℤ, ◌+ℤ◌, ◌-ℤ◌, List, [], ◌∷◌, ◌++◌, length, take, append_assoc, arith, unsigned_abs, AllByRecursion, IsMarked, Row, added, added-each, amount_limit, each_weaker, front_total, ints, sum_limit, total, total-add, total-same}
+use Rattle.cns_sheets.proofs.Common.{◌≡◌, ◌∙◌, sym, ℕ, ◌*◌, ◌^◌, ◌≤◌, ◌+ℤ◌, ◌-ℤ◌, List, [], ◌∷◌, ◌++◌, length, take, append_assoc, arith, unsigned_abs, AllByRecursion, IsMarked, Row, added, added-each, amount_limit, each_weaker, front_total, ints, sum_limit, total, total-add, total-same}
 
 -- what an iterator gave and has left, after one more
 pub onward : {X : Type 0} (xs ys left : List X) (x : X) (zs : List X) → xs ≡ ys ++ left → left ≡ x ∷ zs → xs ≡ (ys ++ x ∷ []) ++ zs
@@ -14,17 +14,8 @@ gains_few rows a = added-each (λ r. unsigned_abs (r.mark -ℤ r.money)) (2 ^ 64
 
 -- marks are gains and cents
 parts : (rows : List Row) → total (λ r. r.mark) rows ≡ total (λ r. r.mark -ℤ r.money) rows +ℤ total (λ r. r.money) rows
-parts rows = total-same (λ (r : Row). r.mark) (λ r. (r.mark -ℤ r.money) +ℤ r.money) rows (λ r. whole r.mark r.money) ∙ total-add (λ (r : Row). r.mark -ℤ r.money) (λ r. r.money) rows
-  where
-    whole : (m c : ℤ) → m ≡ (m -ℤ c) +ℤ c
-    whole m c = omega (arith, ints)
-
--- few rows gain little
-gained : (g c m : ℤ) (k : ℕ) → m ≡ g +ℤ c → unsigned_abs g ≤ 2 ^ 64 * 10 ^ 9 * k → k ≤ 2 ^ 32 → unsigned_abs c ≤ amount_limit → unsigned_abs m ≤ sum_limit
-gained g c m k e p few q = omega (arith, ints, e, p, few, q)
+parts rows = total-same (λ (r : Row). r.mark) (λ r. (r.mark -ℤ r.money) +ℤ r.money) rows (λ r. omega (arith, ints)) ∙ total-add (λ (r : Row). r.mark -ℤ r.money) (λ r. r.money) rows
 
 -- so the marks of few rows stay small, where the cents do
 pub marks_stay : (rows : List Row) → AllByRecursion IsMarked rows → length rows ≤ 2 ^ 32 → (n : ℕ) → unsigned_abs (total (λ r. r.money) (take n rows)) ≤ amount_limit → unsigned_abs (total (λ r. r.mark) (take n rows)) ≤ sum_limit
-marks_stay rows a few n small =
-    gained (total (λ r. r.mark -ℤ r.money) (take n rows)) (total (λ r. r.money) (take n rows)) (total (λ r. r.mark) (take n rows)) (length rows) (parts (take n rows))
-    (front_total (λ (r : Row). r.mark -ℤ r.money) n (2 ^ 64 * 10 ^ 9 * length rows) rows (gains_few rows a)) few small
+marks_stay rows a few n small = omega (arith, ints, parts (take n rows), front_total (λ (r : Row). r.mark -ℤ r.money) n (2 ^ 64 * 10 ^ 9 * length rows) rows (gains_few rows a), few, small)

@@ -1,6 +1,6 @@
 -- What a search in sorted rows or prices finds.
 -- For `past` and `next_price` of search.rt.
-use Rattle.cns_sheets.proofs.Common.{◌≡◌, ◌∙◌, sym, ap, refl, ℕ, ◌+◌, ◌<◌, ◌≤◌, true, false, [], ◌∷◌, length, get_or, drop, Option, Some, None, arith, MatchOption, option_copied, HoldsAt, is_lt, nat_cmp, Less, Equal, Greater, AllWithin, Cusip, IsPartitionPoint, Price, PriceList, below_later, drop_all, is_sorted, nat_list_cmp_total, next_above, prices_above, slice_cmp}
+use Rattle.cns_sheets.proofs.Common.{◌≡◌, ◌∙◌, sym, refl, ℕ, ◌+◌, ◌<◌, ◌≤◌, true, [], ◌∷◌, length, get_or, drop, Option, Some, None, arith, MatchOption, option_copied, HoldsAt, nat_cmp, Less, Equal, Greater, Cusip, IsPartitionPoint, Price, PriceList, below_later, drop_all, is_sorted, nat_list_cmp_total, next_above, prices_above, slice_cmp}
 use denote.Bor.{Bor}
 use Rattle.cns_sheets.proofs.Entries.{next_is}
 use Rattle.cns_positions.proofs.Parted.{filter_back, filter_whole}
@@ -16,13 +16,9 @@ prices_from_gap prices c i le h = grind (arith, filter_back, nat_list_cmp_total.
 
 -- the prices past that of the issue
 pub prices_past : (prices : PriceList) (c : Cusip) (i : ℕ) → is_sorted (slice_cmp nat_cmp) prices ≡ true → i < length prices → HoldsAt (λ e. slice_cmp nat_cmp e.0 c ≡ Equal) prices i → drop (i + 1) prices ≡ prices_above prices (Some c)
-prices_past prices c i s lt tied = sym (filter_back (λ e. is_after (Some c) e.0) prices (i + 1) (omega arith) before later)
-  where
-    before : AllWithin (λ e. is_after (Some c) e.0 ≡ false) prices 0 (i + 1)
-    before k d p q = grind (arith, nat_list_cmp_total.congr (get_or prices i d).0 c (get_or prices k d).0 (tied d), nat_list_cmp_total.antisymm, below_later nat_list_cmp_total prices k i d s)
-
-    later : AllWithin (λ e. is_after (Some c) e.0 ≡ true) prices (i + 1) (length prices)
-    later k d p q = ap is_lt (sym (nat_list_cmp_total.congr (get_or prices i d).0 c (get_or prices k d).0 (tied d)) ∙ below_later nat_list_cmp_total prices i k d s (omega arith) q)
+prices_past prices c i s lt tied = sym (filter_back (λ e. is_after (Some c) e.0) prices (i + 1) (omega arith)
+    (λ k d p q. grind (arith, nat_list_cmp_total.congr (get_or prices i d).0 c (get_or prices k d).0 (tied d), nat_list_cmp_total.antisymm, below_later nat_list_cmp_total prices k i d s))
+    (λ k d p q. grind (arith, nat_list_cmp_total.congr (get_or prices i d).0 c (get_or prices k d).0 (tied d), below_later nat_list_cmp_total prices i k d s)))
 
 -- what comes after an issue that is passed is passed too
 above_later : (after : Option Cusip) (c d : Cusip) → is_after after c ≡ true → slice_cmp nat_cmp c d ≡ Less → is_after after d ≡ true

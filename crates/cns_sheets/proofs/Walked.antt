@@ -1,6 +1,6 @@
 -- The rows of an account, found from its first row on.
 -- For `of_rows`, `row`, `rows_of` and `rows_in` of sheet.rt and others.
-use Rattle.cns_sheets.proofs.Common.{◌≡◌, ◌∙◌, sym, ap, refl, subst, ◌≤◌, ◌==◌, map, option_map, MatchOption, Bool, true, false, not, cond, List, [], ◌∷◌, filter, Option, Some, None, arith, is_lt, Less, eqb-true, Account, AllByRecursion, AreFrom, Columns, IsMarked, Key, Row, ahead_of, and_left, below_all, by_key, find, first, full_row, full_rows, if_of, is_after, is_at_or_after, is_sorted, key_cmp, key_of, keys_total, lowest_of, nat_tests, passed, row_at, rows_for, sorted_filter}
+use Rattle.cns_sheets.proofs.Common.{◌≡◌, ◌∙◌, ap, refl, subst, ◌≤◌, ◌==◌, map, option_map, MatchOption, Bool, true, false, not, cond, List, [], ◌∷◌, filter, Option, Some, None, arith, is_lt, Less, eqb-true, Account, AllByRecursion, AreFrom, Columns, IsMarked, Key, Row, ahead_of, below_all, by_key, find, first, full_row, full_rows, if_of, is_after, is_at_or_after, is_sorted, key_cmp, key_of, keys_total, lowest_of, nat_tests, passed, row_at, rows_for, sorted_filter}
 use Rattle.cns_sheets.proofs.Entries.{filter-map, find_keyed, first_above, sorted_if, sorted_keyed}
 
 -- ---- rows with their keys
@@ -12,11 +12,11 @@ rows_keyed (e ∷ es) = rw (rows_keyed es) refl
 
 -- the keys of rows rise where those of their columns do
 pub sorted_filled : (es : List (Key × Columns)) → is_sorted key_cmp (by_key (full_rows es)) ≡ is_sorted key_cmp es
-sorted_filled es = rw (rows_keyed es) (sorted_keyed key_cmp full_row es)
+sorted_filled es = grind (arith, rows_keyed es, sorted_keyed key_cmp full_row es)
 
 -- what is found among the columns, as a row
 pub row_found : (k : Key) (es : List (Key × Columns)) (o : Option Columns) → o ≡ find key_cmp k es → option_map (λ v. full_row (k, v)) o ≡ row_at (full_rows es) k
-row_found k es o h = rw (rows_keyed es, h) (sym (find_keyed full_row k es))
+row_found k es o h = grind (arith, rows_keyed es, find_keyed full_row k es)
 
 -- rows that a test keeps are in order, where all are
 pub sorted_kept : (p : Row → Bool) (rows : List Row) → is_sorted key_cmp (by_key rows) ≡ true → is_sorted key_cmp (by_key (filter p rows)) ≡ true
@@ -36,7 +36,7 @@ none_above a k (r ∷ rs) le other b = grind (arith, none_above a k rs le other)
 
 -- where the first of rows from an account on is not the account's, none is
 pub none_is : (a : Account) (r : Row) (rs : List Row) → AreFrom a (r ∷ rs) → (r.account == a) ≡ false → rows_for (r ∷ rs) a ≡ []
-none_is a r rs h e = rw e (none_above a (key_of r) rs h.past.0 e (and_left _ _ h.rise))
+none_is a r rs h e = grind (arith, h.past.0, h.rise, none_above a (key_of r) rs)
 
 -- ---- the first row of an account
 

@@ -1,7 +1,6 @@
 -- Cents by key, and holdings that are woven with them.
 -- For `take` and `next_below` of in_order.rt, `push_holding`, `push_paid` and `collect` of cutting.rt and others.
-use Rattle.cns_sheets.proofs.Common.{◌≡◌, sym, ap, refl, ℤ, pos, Bool, true, false, not, cond, List, [], ◌∷◌, ◌++◌, filter, Option, Some, None, unwrap_or, Ordering, MatchOption, option_map, is_eq, is_lt, ◌&&◌, Less, Equal, arith, AllByRecursion, CentsByKey, Holding, Key, Rows, Woven, and_left, and_right, below_all, both_true, cents_at, exact_keys, find, find_below, higher, is_sorted, key_cmp, keys_total, lower, option_or, ordering_reverse, past, tied_itself, unheld, weave, zeros}
-use Rattle.cns_sheets.specs.Woven.{is_below, left_of}
+use Rattle.cns_sheets.proofs.Common.{◌≡◌, sym, ap, refl, ℤ, pos, Bool, true, false, not, List, [], ◌∷◌, ◌++◌, filter, Option, Some, None, unwrap_or, MatchOption, is_lt, ◌&&◌, Less, arith, AllByRecursion, CentsByKey, Holding, Key, Rows, Woven, below_all, cents_at, exact_keys, find, find_below, higher, is_sorted, key_cmp, keys_total, lower, option_or, past, tied_itself, unheld, weave, zeros, is_below, left_of}
 use Rattle.cns_sheets.proofs.Entries.{below_keyed, find_if, find_keyed, sorted_if, sorted_keyed}
 
 -- cents without a holding
@@ -13,8 +12,7 @@ bare c = (zeros, c.1)
 -- where a key is not below another, none above it is
 pub none_lower : (high : Option Key) (k : Key) (cs : CentsByKey) → is_below high k ≡ false → below_all key_cmp k cs ≡ true → lower high cs ≡ []
 none_lower high k [] h b = refl
-none_lower None k (c ∷ cs) h b = cc
-none_lower (Some high) k (c ∷ cs) h b = grind (arith, keys_total.trans, none_lower (Some high) k cs h)
+none_lower high k (c ∷ cs) h b = grind (arith, keys_total.trans, none_lower high k cs)
 
 -- without a key all are lower
 pub all_lower : (cs : CentsByKey) → lower None cs ≡ cs
@@ -42,7 +40,7 @@ gap_cents k cs b = ap (λ o. unwrap_or o (pos 0)) (find_below keys_total k cs b)
 
 -- the cents at a key stand past those of lower keys
 pub cents_past : (k : Key) (cs : CentsByKey) → cents_at (past (Some k) cs) k ≡ cents_at cs k
-cents_past k cs = rw (find_if (λ q. not (is_lt (key_cmp q k))) k cs, tied_itself keys_total k) refl
+cents_past k cs = grind (arith, find_if (λ q. not (is_lt (key_cmp q k))) k cs, tied_itself keys_total k)
 
 -- so do those of higher keys
 pub higher_past : (k : Key) (cs : CentsByKey) → higher k (past (Some k) cs) ≡ higher k cs
@@ -77,23 +75,10 @@ both_at (Some h) o = Some (h, unwrap_or o (pos 0))
 both_at None (Some n) = Some (zeros, n)
 both_at None None = None
 
--- a key that is lower than a holding's, the same, or higher
-woven_case : (r q : Ordering) (h : Holding) (n : ℤ) (o : Option Holding) (p : Option ℤ) → q ≡ ordering_reverse r → (r ≡ Less → o ≡ None) → (r ≡ Equal → n ≡ unwrap_or p (pos 0))
-    → option_or (option_map (λ n. (zeros, n)) (cond (is_lt r) p None)) (cond (is_eq r) (Some (h, n)) (both_at o (cond (is_lt q) p None))) ≡ both_at (cond (is_eq r) (Some h) o) p
-woven_case r q h n o p turned out same = grind arith
-
 -- what a search in woven lists finds
 pub find_weave : (k : Key) (hs : Rows) (cs : CentsByKey) → is_sorted key_cmp hs ≡ true → find key_cmp k (weave hs cs) ≡ both_at (find key_cmp k hs) (find key_cmp k cs)
 find_weave k [] cs s = grind (arith, find_keyed bare k cs)
-find_weave k (h ∷ hs) cs s =
-    let rest : is_sorted key_cmp hs ≡ true = and_right _ _ s in
-    rw (
-      find-append k (unheld (lower (Some h.0) cs)) ((h.0, (h.1, cents_at cs h.0)) ∷ weave hs (higher h.0 cs)),
-      find_keyed bare k (lower (Some h.0) cs),
-      find_if (is_below (Some h.0)) k cs,
-      find_weave k hs (higher h.0 cs) rest,
-      find_if (λ q. is_lt (key_cmp h.0 q)) k cs,
-    ) (woven_case (key_cmp k h.0) (key_cmp h.0 k) h.1 (cents_at cs h.0) (find key_cmp k hs) (find key_cmp k cs) (keys_total.antisymm h.0 k) (λ l. find_below keys_total k hs (below_later k h.0 hs l (and_left _ _ s))) (λ e. ap (cents_at cs) (sym (exact_keys k h.0 e))))
+find_weave k (h ∷ hs) cs s = grind (arith, find-append k (unheld (lower (Some h.0) cs)) ((h.0, (h.1, cents_at cs h.0)) ∷ weave hs (higher h.0 cs)), find_keyed bare k (lower (Some h.0) cs), find_if (is_below (Some h.0)) k cs, find_weave k hs (higher h.0 cs), find_if (λ q. is_lt (key_cmp h.0 q)) k cs, keys_total.antisymm h.0 k, find_below keys_total k hs, below_later k h.0 hs, exact_keys k h.0)
 
 -- ---- order
 
@@ -125,13 +110,9 @@ below_higher k (c ∷ cs) = grind (arith, below_higher k cs)
 -- what is below all holdings and all cents is below all that is woven of them
 below_weave : (k : Key) (hs : Rows) (cs : CentsByKey) → below_all key_cmp k hs ≡ true → below_all key_cmp k cs ≡ true → below_all key_cmp k (weave hs cs) ≡ true
 below_weave k [] cs b d = rw (below_keyed key_cmp bare k cs) d
-below_weave k (h ∷ hs) cs b d =
-    rw (below-append k (unheld (lower (Some h.0) cs)) ((h.0, (h.1, cents_at cs h.0)) ∷ weave hs (higher h.0 cs)), below_keyed key_cmp bare k (lower (Some h.0) cs), below_if (is_below (Some h.0)) k cs d)
-    (both_true _ _ (and_left _ _ b) (below_weave k hs (higher h.0 cs) (and_right _ _ b) (below_if (λ q. is_lt (key_cmp h.0 q)) k cs d)))
+below_weave k (h ∷ hs) cs b d = grind (arith, below-append k (unheld (lower (Some h.0) cs)) ((h.0, (h.1, cents_at cs h.0)) ∷ weave hs (higher h.0 cs)), below_keyed key_cmp bare k (lower (Some h.0) cs), below_if (is_below (Some h.0)) k cs, below_weave k hs (higher h.0 cs), below_if (λ q. is_lt (key_cmp h.0 q)) k cs)
 
 -- what is woven of lists in order is in order
 pub sorted_weave : (hs : Rows) (cs : CentsByKey) → is_sorted key_cmp hs ≡ true → is_sorted key_cmp cs ≡ true → is_sorted key_cmp (weave hs cs) ≡ true
 sorted_weave [] cs s t = rw (sorted_keyed key_cmp bare cs) t
-sorted_weave (h ∷ hs) cs s t =
-    sorted-append (unheld (lower (Some h.0) cs)) (h.0, (h.1, cents_at cs h.0)) (weave hs (higher h.0 cs)) (rw (sorted_keyed key_cmp bare (lower (Some h.0) cs)) (sorted_if key_cmp (is_below (Some h.0)) cs t)) (each_lower h.0 cs)
-    (both_true _ _ (below_weave h.0 hs (higher h.0 cs) (and_left _ _ s) (below_higher h.0 cs)) (sorted_weave hs (higher h.0 cs) (and_right _ _ s) (sorted_if key_cmp (λ q. is_lt (key_cmp h.0 q)) cs t)))
+sorted_weave (h ∷ hs) cs s t = grind (arith, sorted-append (unheld (lower (Some h.0) cs)) (h.0, (h.1, cents_at cs h.0)) (weave hs (higher h.0 cs)), sorted_keyed key_cmp bare (lower (Some h.0) cs), sorted_if key_cmp (is_below (Some h.0)) cs t, each_lower h.0 cs, below_weave h.0 hs (higher h.0 cs), below_higher h.0 cs, sorted_weave hs (higher h.0 cs), sorted_if key_cmp (λ q. is_lt (key_cmp h.0 q)) cs t)

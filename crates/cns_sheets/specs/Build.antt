@@ -1,10 +1,6 @@
 -- A row of a sheet, and what a sheet keeps.
 use Rattle.std.specs.Prelude.{◌≡◌, ℕ, ◌*◌, ◌^◌, ◌<◌, ◌≤◌, ℤ, pos, ◌+ℤ◌, ◌-ℤ◌, ◌*ℤ◌, true, List, [], length, map, take, Option, Some, None, unsigned_abs, if◌then◌else◌}
-use Rattle.cns_terms.specs.Common.{Account, AllByRecursion, Cusip, DaySheet, Price, amount_limit, is_sorted, key_cmp, member_limit, nat_cmp, rows_for, same_issue, slice_cmp, total}
-use Rattle.std.specs.FinMap.{find}
-use Rattle.cns_terms.specs.declared.holding.Holding.{Holding}
-use Rattle.cns_terms.specs.declared.holding.Key.{Key}
-use Rattle.cns_terms.specs.declared.sheet.Row.{Row}
+use Rattle.cns_sheets.specs.Common.{Account, AllByRecursion, Cusip, DaySheet, Price, amount_limit, is_sorted, key_cmp, member_limit, nat_cmp, rows_for, same_issue, slice_cmp, total, find, Holding, Key, Row}
 use Rattle.cns_sheets.specs.LowestCusip.{IsFromLowest}
 
 -- issues with their prices, in the order of the bytes of the issues

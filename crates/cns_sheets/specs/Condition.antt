@@ -1,11 +1,6 @@
 -- The positions of which a sheet can be cut.
 use Rattle.std.specs.Prelude.{◌≡◌, ◌^◌, ◌≤◌, ℤ, pos, true, List, [], length, Option, Some, None, if◌then◌else◌}
-use Rattle.cns_terms.specs.Common.{AllByRecursion, Cusip, DaySheet, is_sorted, key_cmp, same_issue, total}
-use Rattle.cns_terms.specs.declared.holding.Holding.{Holding}
-use Rattle.cns_terms.specs.declared.holding.Key.{Key}
-use Rattle.cns_terms.specs.declared.sheet.Row.{Row}
-use Rattle.cns_positions.specs.Rows.{Rows, holding_at}
-use Rattle.cns_prices.specs.Listed.{Listed}
+use Rattle.cns_sheets.specs.Common.{AllByRecursion, Cusip, DaySheet, is_sorted, key_cmp, same_issue, total, Holding, Key, Row, Rows, holding_at, Listed}
 use Rattle.cns_sheets.specs.Build.{AreFew, HasSmallCents, HaveSmallAmounts, prices_of}
 use Rattle.cns_sheets.specs.Payments.{IsCut, IsPayable, Paying, closing_at}
 

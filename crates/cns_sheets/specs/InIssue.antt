@@ -1,9 +1,7 @@
 -- The rows in an issue, found account by account.
 use Rattle.std.specs.Prelude.{◌≡◌, ◌+◌, ◌≤◌, ◌&&◌, Bool, false, not, nat_lt, if◌then◌else◌, IfSome, List, Option, Some, None}
+use Rattle.cns_sheets.specs.Common.{AllByRecursion, Cusip, is_lt, key_cmp, member_limit, nat_cmp, same_issue, slice_cmp, Key, Row}
 use Rattle.std.specs.List.{filter}
-use Rattle.cns_terms.specs.Common.{AllByRecursion, Cusip, is_lt, key_cmp, member_limit, nat_cmp, same_issue, slice_cmp}
-use Rattle.cns_terms.specs.declared.holding.Key.{Key}
-use Rattle.cns_terms.specs.declared.sheet.Row.{Row}
 use Rattle.cns_sheets.specs.Build.{Columns, full_rows}
 
 -- whether a key is another or above it, if there is another

@@ -1,3 +1,4 @@
+pub mod Common
 pub mod Build
 pub mod Search
 pub mod Payments

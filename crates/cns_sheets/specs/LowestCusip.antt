@@ -1,6 +1,6 @@
 -- The lowest CUSIP.
 use Rattle.std.specs.Prelude.{[], ◌∷◌, ◌≡◌, false}
-use Rattle.cns_terms.specs.Common.{Cusip, is_lt, nat_cmp, slice_cmp}
+use Rattle.cns_sheets.specs.Common.{Cusip, is_lt, nat_cmp, slice_cmp}
 
 -- `########4`: eight times the character of the lowest code that has a value, and the check digit
 abbrev pub lowest : Cusip

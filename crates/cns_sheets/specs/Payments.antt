@@ -1,11 +1,7 @@
 -- What a close pays of dividends, and the rows that it cuts.
 use Rattle.std.specs.Prelude.{◌≡◌, ◌^◌, ◌≤◌, ◌==◌, ◌&&◌, ℤ, pos, neg_ℤ, true, not, List, map, Option, Some, None, unwrap_or, unsigned_abs, if◌then◌else◌, sum_by}
-use Rattle.cns_terms.specs.Common.{cash, corporation, is_idle, is_sorted, key_cmp, option_map_or, same_issue, total}
+use Rattle.cns_sheets.specs.Common.{cash, corporation, is_idle, is_sorted, key_cmp, option_map_or, same_issue, total, Key, Row, Rows, holding_at, Listed, price_in}
 use Rattle.cns_terms.specs.declared.action.Declared.{Declared}
-use Rattle.cns_terms.specs.declared.holding.Key.{Key}
-use Rattle.cns_terms.specs.declared.sheet.Row.{Row}
-use Rattle.cns_positions.specs.Rows.{Rows, holding_at}
-use Rattle.cns_prices.specs.Listed.{Listed, price_in}
 use Rattle.cns_sheets.specs.Build.{PriceList, by_key, price_on, priced_row}
 use Rattle.cns_sheets.specs.Search.{row_at}
 use Rattle.cns_sheets.specs.declared.payments.Payment.{Payment}

@@ -1,10 +1,6 @@
 -- What is looked up in a sheet.
 use Rattle.std.specs.Prelude.{List, filter, Option}
-use Rattle.cns_terms.specs.Common.{Cusip, key_cmp}
-use Rattle.std.specs.FinMap.{find}
-use Rattle.cns_terms.specs.declared.holding.Key.{Key}
-use Rattle.cns_terms.specs.declared.sheet.Row.{Row}
-use Rattle.cns_prices.specs.Listed.{is_after}
+use Rattle.cns_sheets.specs.Common.{Cusip, key_cmp, find, Key, Row, is_after}
 use Rattle.cns_sheets.specs.Build.{PriceList, by_key}
 
 -- the row of an account in an issue, if there is one

@@ -1,8 +1,6 @@
 -- The rows of an account, found from its first row on.
 use Rattle.std.specs.Prelude.{◌≡◌, ◌≤◌, ◌==◌, true, if◌then◌else◌, List, [], ◌∷◌, Option, Some, None}
-use Rattle.cns_terms.specs.Common.{Account, AllByRecursion, is_sorted, key_cmp, rows_for}
-use Rattle.cns_terms.specs.declared.holding.Key.{Key}
-use Rattle.cns_terms.specs.declared.sheet.Row.{Row}
+use Rattle.cns_sheets.specs.Common.{Account, AllByRecursion, is_sorted, key_cmp, rows_for, Key, Row}
 use Rattle.cns_sheets.specs.Build.{Columns, by_key, full_row, key_of}
 use Rattle.cns_sheets.specs.LowestCusip.{lowest}
 

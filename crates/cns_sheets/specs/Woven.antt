@@ -1,11 +1,6 @@
 -- Holdings and cents of dividends, woven into one list by their keys.
 use Rattle.std.specs.Prelude.{ℤ, pos, Bool, true, not, List, [], ◌∷◌, ◌++◌, map, filter, Option, Some, None, unwrap_or}
-use Rattle.cns_terms.specs.Common.{is_idle, is_lt, key_cmp}
-use Rattle.std.specs.FinMap.{find}
-use Rattle.cns_terms.specs.declared.holding.Holding.{Holding}
-use Rattle.cns_terms.specs.declared.holding.Key.{Key}
-use Rattle.cns_terms.specs.declared.sheet.Row.{Row}
-use Rattle.cns_positions.specs.Rows.{Rows, zeros}
+use Rattle.cns_sheets.specs.Common.{is_idle, is_lt, key_cmp, find, Holding, Key, Row, Rows, zeros}
 use Rattle.cns_sheets.specs.Build.{PriceList, price_on, priced_row}
 
 -- cents by key

@@ -6,13 +6,12 @@ use Rattle.cns_statements.specs.Packs.{statement_on}
 use Rattle.cns_statements.specs.declared.contents.Statement.{Statement}
 use Rattle.cns_statements.specs.declared.fault.PackFault.{PackFault}
 use Rattle.cns_statements.specs.declared.workers.Makes.{Makes}
-use Rattle.cns_statements.specs.declared.fault.PackFault.TheVariants as faults
 
 -- a fault of a packing that was begun
 abbrev pub IsLate : PackFault → Type 0
-IsLate faults.Workers = ⊥
-IsLate faults.Spawn = ⊤
-IsLate faults.NoMemory = ⊤
+IsLate PackFault.Workers = ⊥
+IsLate PackFault.Spawn = ⊤
+IsLate PackFault.NoMemory = ⊤
 
 -- one thread for each part of the accounts, in order, on the sheet
 abbrev pub AllAre : {T : Type 0} → DaySheet → List (Vec Account Global) → List (PromisedHandle T Makes) → Type 0

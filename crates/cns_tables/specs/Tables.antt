@@ -1,14 +1,10 @@
 -- The texts of tables.
 use Rattle.std.specs.Prelude.{ℕ, List, [], ◌∷◌, ◌++◌}
 use Rattle.std.specs.List.{flat_map}
-use Rattle.cns_tables.specs.Pieces.{piece_text}
+use Rattle.cns_tables.specs.Pieces.{filled, piece_text}
 use Rattle.cns_tables.specs.declared.piece.Piece.{Piece}
 use Rattle.cns_tables.specs.declared.table.Table.{Table}
-use Rattle.cns_tables.specs.declared.table.TheConstants.{BEGIN, CAPTION, CELL, COLUMN, COLUMNS, END, NONE, NONE_END, ROWS, SECTION, TITLE, TITLE_END}
-
--- texts, one after another
-abbrev pub texts : List (List ℕ) → List ℕ
-texts ts = flat_map (λ t. t) ts
+use Rattle.cns_tables.specs.declared.table.TheConstants.{BEGIN, CELL, COLUMN, END, NONE, ROWS}
 
 -- ---- rows
 
@@ -32,14 +28,11 @@ cells head first others = head ++ (first ++ (flat_map (λ t. CELL.now ++ t) othe
 
 -- one with no rows
 unfoldable pub none_of : Table → List ℕ
-none_of t =
-    texts (SECTION.now ∷ t.id.now ∷ TITLE.now ∷ t.id.now ∷ TITLE_END.now ∷ t.title.now ∷ NONE.now ∷ t.none.now ∷ NONE_END.now ∷ [])
+none_of t = filled NONE.now (t.id.now ∷ t.id.now ∷ t.title.now ∷ t.none.now ∷ [])
 
 -- what stands before the columns of one with rows
 unfoldable pub caption_of : Table → List ℕ
-caption_of t =
-    texts (SECTION.now ∷ t.id.now ∷ TITLE.now ∷ t.id.now ∷ TITLE_END.now ∷ t.title.now ∷ BEGIN.now ∷ t.title.now ∷ CAPTION.now
-    ∷ t.caption.now ∷ COLUMNS.now ∷ [])
+caption_of t = filled BEGIN.now (t.id.now ∷ t.id.now ∷ t.title.now ∷ t.title.now ∷ t.caption.now ∷ [])
 
 -- the names of its columns
 abbrev pub columns_of : Table → List ℕ

@@ -13,6 +13,6 @@ mod style;
 mod table;
 
 pub use escape::write_escaped;
-pub use piece::{Piece, cents_of, hand_on, write_markup, write_piece, write_pieces};
-pub use style::{STYLE, page_style};
+pub use piece::{Piece, cents_of, hand_on, write_form, write_markup, write_piece};
+pub use style::{START, STYLE, page_style};
 pub use table::{CELL, ROW, Table, TableRow, write_line, write_rows, write_table};

@@ -1,9 +1,9 @@
 // The pieces that a page is written of.
-ghost use Rattle.std.specs.Prelude.{◌≡◌, ◌++◌, pos, OnOk};
+ghost use Rattle.std.specs.Prelude.{◌≡◌, ◌++◌, ◌∷◌, List, ℕ, map, pos, OnOk};
 ghost use Rattle.std.specs.Fmt.{decimal};
 ghost use Rattle.std.specs.Io.KnownBytes.{Appends, Keeps};
 ghost use Rattle.cns_units.specs.Output.{Writes};
-ghost use Rattle.cns_tables.specs.Pieces.{piece_text, pieces_text};
+ghost use Rattle.cns_tables.specs.Pieces.{filled, piece_text};
 
 use crate::escape::write_escaped;
 use crate::grouped::{write_amount, write_count, write_rate, write_signed};
@@ -83,22 +83,42 @@ pub fn write_piece<W: Write>(piece: &Piece<'_>, writer: &mut W) -> Result<(), Wr
 /// Writes markup of the page itself.
 ///
 /// Where the writer fails or takes no byte it answers `WriteFault`, and some of it was written.
+#[tactic(auto, using(crate::proofs::Written::written))]
 pub fn write_markup<W: Write>(markup: &'static str, writer: &mut W) -> Result<(), WriteFault>
     ensures { OnOk result (Appends (W.contents writer.old) (W.contents writer.new) markup.now) }
 {
-    write_pieces(&[Piece::Markup(markup)], writer)
+    write_bytes(markup.as_bytes(), writer)
 }
 
-/// Writes pieces, one after another.
+// What stands before the first blank of a form, and after it; where it has none, all of it, and nothing.
+fn cut(form: &'static str) -> (&'static str, &'static str)
+    ensures { (text : List ℕ) (texts : List (List ℕ)) → filled form.now (text ∷ texts) ≡ result.0.now ++ (text ++ filled result.1.now texts) }
+{
+    match form.split_once('_') {
+        Some(parts) => parts,
+        None => (form, ""),
+    }
+}
+
+/// Writes a form with a piece in each of its blanks, in order. A blank is a `_`. Each piece is written: those for which there is no
+/// blank stand at the end, and blanks for which there is no piece stay.
 ///
 /// Where the writer fails or takes no byte it answers `WriteFault`, and some of that text was written.
-pub fn write_pieces<W: Write>(pieces: &[Piece<'_>], writer: &mut W) -> Result<(), WriteFault>
-    ensures { OnOk result (Appends (W.contents writer.old) (W.contents writer.new) (pieces_text pieces.now)) }
+pub fn write_form<W: Write>(
+    form: &'static str,
+    pieces: &[Piece<'_>],
+    writer: &mut W,
+) -> Result<(), WriteFault>
+    ensures { OnOk result (Appends (W.contents writer.old) (W.contents writer.new) (filled form.now (map piece_text pieces.now))) }
 {
+    let mut rest = form;
     for piece in pieces {
+        let (before, after) = cut(rest);
+        write_markup(before, writer)?;
         write_piece(piece, writer)?;
+        rest = after;
     }
-    Ok(())
+    write_markup(rest, writer)
 }
 
 /// Flushes a writer. `WriteFault` where it cannot be flushed.

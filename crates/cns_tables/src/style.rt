@@ -2,6 +2,13 @@
 ghost use Rattle.std.specs.Prelude.{◌≡◌};
 ghost use Rattle.cns_tables.specs.declared.style.TheConstants.{STYLE};
 
+/// What stands before the title of a page.
+pub const START: &str = "<!DOCTYPE html>
+<html lang=en>
+<meta charset=utf-8>
+<meta name=viewport content=\"width=device-width, initial-scale=1\">
+<title>";
+
 /// The style of the page. Text has a contrast of 4.5 or more on its ground, in the light and in the dark scheme. The column of
 /// issues stays in sight where a table is wider than the screen. No figure breaks: the columns of all accounts have the same
 /// widths, but for an account with figures that need more.

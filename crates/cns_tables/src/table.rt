@@ -4,7 +4,7 @@ ghost use Rattle.std.specs.Io.KnownBytes.{Appends};
 ghost use Rattle.std.specs.List.{flat_map};
 ghost use Rattle.cns_tables.specs.Tables.{caption_of, cell_of, cells_of, columns_of, none_of, row_of, some_of, table_text};
 
-use crate::piece::{Piece, write_markup, write_piece, write_pieces};
+use crate::piece::{Piece, write_form, write_markup, write_piece};
 use cns_units::WriteFault;
 use std::io::Write;
 
@@ -38,22 +38,21 @@ pub const ROW: &str = "<tr><th scope=row>";
 /// What stands before another cell than the first.
 pub const CELL: &str = "<td>";
 
-// What stands around the parts of a table.
-const SECTION: &str = "<section aria-labelledby=";
+// What stands for a table that has no rows: id, id, title, and the sentence.
+const NONE: &str = "<section aria-labelledby=_>
+<h2 id=_>_</h2>
+<p>_</p>
+</section>
+";
 
-const TITLE: &str = ">\n<h2 id=";
-
-const TITLE_END: &str = ">";
-
-const NONE: &str = "</h2>\n<p>";
-
-const NONE_END: &str = "</p>\n</section>\n";
-
-const BEGIN: &str = "</h2>\n<div class=wide tabindex=0 role=region aria-label=\"";
-
-const CAPTION: &str = "\">\n<div class=part>\n<table>\n<caption>";
-
-const COLUMNS: &str = "</caption>\n<thead><tr>";
+// What stands before the columns of one that has rows: id, id, title, title and caption.
+const BEGIN: &str = "<section aria-labelledby=_>
+<h2 id=_>_</h2>
+<div class=wide tabindex=0 role=region aria-label=\"_\">
+<div class=part>
+<table>
+<caption>_</caption>
+<thead><tr>";
 
 const COLUMN: &str = "<th scope=col>";
 
@@ -132,20 +131,13 @@ fn write_columns<W: Write>(table: &Table, writer: &mut W) -> Result<(), WriteFau
 fn write_none<W: Write>(table: &Table, writer: &mut W) -> Result<(), WriteFault>
     ensures { OnOk result (Appends (W.contents writer.old) (W.contents writer.new) (none_of table.now)) }
 {
-    write_pieces(
-        &[
-            Piece::Markup(SECTION),
-            Piece::Markup(table.id),
-            Piece::Markup(TITLE),
-            Piece::Markup(table.id),
-            Piece::Markup(TITLE_END),
-            Piece::Markup(table.title),
-            Piece::Markup(NONE),
-            Piece::Markup(table.none),
-            Piece::Markup(NONE_END),
-        ],
-        writer,
-    )
+    let pieces = [
+        Piece::Markup(table.id),
+        Piece::Markup(table.id),
+        Piece::Markup(table.title),
+        Piece::Markup(table.none),
+    ];
+    write_form(NONE, &pieces, writer)
 }
 
 // Writes the title and what stands before the columns.
@@ -153,22 +145,14 @@ fn write_none<W: Write>(table: &Table, writer: &mut W) -> Result<(), WriteFault>
 fn write_caption<W: Write>(table: &Table, writer: &mut W) -> Result<(), WriteFault>
     ensures { OnOk result (Appends (W.contents writer.old) (W.contents writer.new) (caption_of table.now)) }
 {
-    write_pieces(
-        &[
-            Piece::Markup(SECTION),
-            Piece::Markup(table.id),
-            Piece::Markup(TITLE),
-            Piece::Markup(table.id),
-            Piece::Markup(TITLE_END),
-            Piece::Markup(table.title),
-            Piece::Markup(BEGIN),
-            Piece::Markup(table.title),
-            Piece::Markup(CAPTION),
-            Piece::Markup(table.caption),
-            Piece::Markup(COLUMNS),
-        ],
-        writer,
-    )
+    let pieces = [
+        Piece::Markup(table.id),
+        Piece::Markup(table.id),
+        Piece::Markup(table.title),
+        Piece::Markup(table.title),
+        Piece::Markup(table.caption),
+    ];
+    write_form(BEGIN, &pieces, writer)
 }
 
 // Writes the table of some rows.

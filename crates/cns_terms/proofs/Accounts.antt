@@ -1,7 +1,7 @@
 -- How often an account stands among the accounts.
 use Rattle.std.proofs.Common.{◌≡◌, ℕ, ◌+◌, ◌≤◌, ℤ, pos, Bool, true, false, cond, ◌&&◌, ◌==◌, List, [], ◌∷◌, refl, arith}
 use Rattle.cns_terms.specs.Common.{account_lt, list_any, total}
-use Rattle.cns_terms.specs.Sums.{put}
+use Rattle.cns_terms.proofs.Facts.{put, same_put}
 
 -- how often a number stands in a list
 abbrev pub occurs : ℕ → List ℕ → ℕ
@@ -10,8 +10,7 @@ occurs a (b ∷ bs) = cond (a == b) 1 0 + occurs a bs
 
 -- a member put in order stands once more
 pub occurs-put : (a m : ℕ) (ms : List ℕ) → occurs a (put account_lt m ms) ≡ cond (a == m) 1 0 + occurs a ms
-occurs-put a m [] = refl
-occurs-put a m (b ∷ bs) = grind (arith, occurs-put a m bs)
+occurs-put a = same_put (occurs a) (λ b n. cond (a == b) 1 0 + n) (λ b bs. refl) (λ b c n. omega arith) account_lt
 
 -- what a search finds stands there, and what it does not find does not
 pub occurs_found : (a : ℕ) (bs : List ℕ) → list_any (λ b. a == b) bs ≡ true → 1 ≤ occurs a bs

@@ -1,11 +1,10 @@
 -- Ages over an exchange: what it brings into the successor, and that it brings nothing anywhere else.
-use Rattle.std.proofs.Common.{◌≡◌, ◌∙◌, ap, refl, ℕ, zero, suc, ◌≤◌, max, Bool, true, false, cond, List, [], ◌∷◌, ◌++◌, filter, length, None, arith, is_none, flat_map}
-use Rattle.cns_terms.proofs.Common.{⊤, Account, Activity, Cusip, Day, IsReached, Journal, Posting, all_fail, closes, closings, exchanged, greatest, is_close, is_retired, journal, list_any, neither, oldest, same_issue}
+use Rattle.std.proofs.Common.{◌≡◌, ap, refl, ℕ, zero, suc, ◌≤◌, max, Bool, true, false, cond, List, [], ◌∷◌, ◌++◌, filter, length, None, arith, is_none, flat_map}
+use Rattle.cns_terms.proofs.Common.{⊤, Account, Activity, Cusip, Day, IsReached, Journal, Posting, all_fail, closes, closings, exchanged, greatest, is_close, is_retired, journal, list_any, oldest, same_issue}
 use Rattle.cns_terms.specs.declared.action.Exchange.{Exchange}
 use Rattle.cns_terms.specs.Ages.{age, carried, closes_short, exchanges_today, forerunners, forerunners_today}
 use Rattle.cns_terms.specs.Refusals.{rules}
 use Rattle.cns_terms.proofs.Facts.{issues_differ}
-use Rattle.cns_terms.specs.declared.command.Activity.TheVariants as activity
 
 -- ---- the greatest
 
@@ -17,7 +16,7 @@ greatest-append f (x ∷ xs) ys = let rest = greatest-append f xs ys in omega (a
 -- no more than what none is above
 pub greatest_le : {X : Type 0} (f : X → ℕ) (n : ℕ) → ((x : X) → f x ≤ n) → (xs : List X) → greatest f xs ≤ n
 greatest_le f n h [] = omega arith
-greatest_le f n h (x ∷ xs) = let rest = greatest_le f n h xs in let first = h x in omega (arith, first, rest)
+greatest_le f n h (x ∷ xs) = omega (arith, greatest_le f n h xs, h x)
 
 -- no short is older than there were closes
 pub closes_short_le : (Ks : List Journal) (a : Account) (c : Cusip) → closes_short Ks a c ≤ length Ks
@@ -46,25 +45,14 @@ each_behind F G s t same [] none = refl
 each_behind F G s t same (y ∷ ys) none = grind (arith, issues_differ y.old s, same y.old, each_behind F G s t same ys)
 
 module _ (x : Exchange) (xs : List Exchange) (fresh : IsFresh x xs) where
-  -- the others' old issues are not the successor either
-  apart : (same_issue x.old x.successor ≡ false) × (list_any (λ y. same_issue y.old x.successor) xs ≡ false)
-  apart = neither (same_issue x.old x.successor) (list_any (λ y. same_issue y.old x.successor) xs) fresh
-
   -- it turns nothing into an issue that is not its successor
   behind_other : (n : ℕ) (d : Cusip) → same_issue x.successor d ≡ false → forerunners n (x ∷ xs) d ≡ forerunners n xs d
   behind_other zero d other = refl
-  behind_other (suc n) d other =
-      let t : Exchange → Bool = λ y. same_issue y.successor d in
-      ap (λ b. flat_map (λ y. y.old ∷ forerunners n (x ∷ xs) y.old) (cond b (x ∷ filter t xs) (filter t xs))) other
-      ∙ each_behind (forerunners n (x ∷ xs)) (forerunners n xs) x.successor t (behind_other n) xs apart.1
+  behind_other (suc n) d other = grind (arith, fresh, each_behind (forerunners n (x ∷ xs)) (forerunners n xs) x.successor (λ y. same_issue y.successor d) (behind_other n) xs)
 
   -- into the successor it turns its old issue, and what had been turned into that
   behind_successor : (n : ℕ) (d : Cusip) → same_issue x.successor d ≡ true → forerunners (suc n) (x ∷ xs) d ≡ x.old ∷ forerunners n xs x.old ++ forerunners (suc n) xs d
-  behind_successor n d is =
-      let t : Exchange → Bool = λ y. same_issue y.successor d in
-      ap (λ b. flat_map (λ y. y.old ∷ forerunners n (x ∷ xs) y.old) (cond b (x ∷ filter t xs) (filter t xs))) is
-      ∙ (λ i. x.old ∷ behind_other n x.old (issues_differ x.old x.successor apart.0) i
-      ++ each_behind (forerunners n (x ∷ xs)) (forerunners n xs) x.successor t (behind_other n) xs apart.1 i)
+  behind_successor n d is = grind (arith, fresh, behind_other n x.old, issues_differ x.old x.successor, each_behind (forerunners n (x ∷ xs)) (forerunners n xs) x.successor (λ y. same_issue y.successor d) (behind_other n) xs)
 
 -- no issue has more exchanges behind it than there are
 all_counted : (xs : List Exchange) → AreFresh xs → (n : ℕ) → length xs ≤ n → (d : Cusip) → forerunners (suc n) xs d ≡ forerunners n xs d
@@ -78,8 +66,6 @@ behind_more : (f : Cusip → ℕ) (x : Exchange) (xs : List Exchange) → AreFre
     → greatest f (forerunners (suc (length xs)) (x ∷ xs) d) ≡ cond (same_issue x.successor d) (max (greatest f (forerunners (length xs) xs d)) (greatest f (x.old ∷ forerunners (length xs) xs x.old))) (greatest f (forerunners (length xs) xs d))
 behind_more f x xs fresh d = grind (arith, behind_successor x xs fresh.0 (length xs) d, behind_other x xs fresh.0 (suc (length xs)) d, greatest-append, all_counted xs fresh.1 (length xs))
 
--- ---- what brings nothing
-
 -- a posting that closes no day and exchanges no issue
 pub carried_same : (p : Posting) (J : Journal) (a : Account) (c : Cusip) → is_close p.activity ≡ false → exchanged p.activity ≡ None → carried (p ∷ J) a c ≡ carried J a c
 carried_same p J a c still none = grind arith
@@ -90,20 +76,15 @@ module _ (opening : Day) where
   -- an issue that is not retired is no old issue of the open day
   unexchanged : (L : List Activity) (c : Cusip) → is_retired (journal opening L) c ≡ false → list_any (λ y. same_issue y.old c) (exchanges_today (journal opening L)) ≡ false
   unexchanged [] c h = refl
-  unexchanged (activity.Close d ∷ L) c h = refl
-  unexchanged (activity.Exchange x ∷ L) c h = grind (arith, unexchanged L c)
-  unexchanged (x ∷ L) c h = unexchanged L c h
+  unexchanged (x ∷ L) c h = grind (arith, unexchanged L c)
 
   -- no issue is turned into one that was exchanged
   pub reached_fresh : (L : List Activity) → IsReached opening L → AreFresh (exchanges_today (journal opening L))
   reached_fresh [] r = tt
-  reached_fresh (activity.Close d ∷ L) r = tt
-  reached_fresh (activity.Exchange x ∷ L) r =
-      let fails = all_fail (rules opening (journal opening L) (activity.Exchange x)) (ap is_none r.1) in
-      grind (arith, fails.1.0, fails.1.1.0, unexchanged L x.successor, reached_fresh L r.2)
-  reached_fresh (x ∷ L) r = reached_fresh L r.2
+  reached_fresh (Activity.Exchange x ∷ L) r = grind (arith, all_fail (rules opening (journal opening L) (Activity.Exchange x)) (ap is_none r.1), unexchanged L x.successor, reached_fresh L r.2)
+  reached_fresh (x ∷ L) r = grind (arith, reached_fresh L r.2)
 
   -- an exchange brings the successor the greatest age of the old issue, and no other issue any
-  pub carried_on : (L : List Activity) (x : Exchange) → IsReached opening (activity.Exchange x ∷ L) → (a : Account) (c : Cusip)
-      → carried (journal opening (activity.Exchange x ∷ L)) a c ≡ cond (same_issue x.successor c) (max (carried (journal opening L) a c) (oldest (journal opening L) a x.old)) (carried (journal opening L) a c)
-  carried_on L x r a c = behind_more (age (journal opening L) a) x (exchanges_today (journal opening L)) (reached_fresh (activity.Exchange x ∷ L) r) c
+  pub carried_on : (L : List Activity) (x : Exchange) → IsReached opening (Activity.Exchange x ∷ L) → (a : Account) (c : Cusip)
+      → carried (journal opening (Activity.Exchange x ∷ L)) a c ≡ cond (same_issue x.successor c) (max (carried (journal opening L) a c) (oldest (journal opening L) a x.old)) (carried (journal opening L) a c)
+  carried_on L x r a c = behind_more (age (journal opening L) a) x (exchanges_today (journal opening L)) (reached_fresh (Activity.Exchange x ∷ L) r) c

@@ -1,11 +1,9 @@
 -- A closed day keeps its sheet.
-use Rattle.std.proofs.Common.{◌≡◌, ℕ, ◌≤◌, Bool, true, List, [], ◌∷◌, refl, sym, ◌∙◌, ap, subst, arith, find, Option, Some, option_map}
+use Rattle.std.proofs.Common.{◌≡◌, ℕ, ◌≤◌, Bool, true, List, [], ◌∷◌, sym, ◌∙◌, ap, subst, arith, find, Option, Some, option_map}
 use Rattle.cns_terms.proofs.Common.{AllByRecursion, Command, Day, DaySheet, IsWhole, Journal, State, after, at_close, closed_on, closes, day_sheet, journal_of, next, opened, rows_for, statement}
 use Rattle.cns_terms.specs.Laws.{ClosedDays}
 use Rattle.cns_terms.specs.Sheets.{sheet_at}
 use Rattle.cns_terms.proofs.Sound.{opening_stays, whole-after, whole-next}
-
--- ---- by date
 
 -- what is found passes the test, and what holds of each holds of it
 found : {X : Type 0} (P : X → Type 0) (t : X → Bool) (xs : List X) (x : X) → AllByRecursion P xs → find t xs ≡ Some x → P x × (t x ≡ true)
@@ -20,16 +18,13 @@ pub record Keeps (opening : Day) (J J' : Journal) : Type 0 where
   pub by_place : (i : ℕ) → i ≤ closes J → at_close J' i ≡ at_close J i
   pub by_date : (d : Day) (K : Journal) → closed_on opening J d ≡ Some K → closed_on opening J' d ≡ Some K
 
-keeps_same : (opening : Day) (J : Journal) → Keeps opening J J
-keeps_same opening J = record { more = omega arith; by_place = λ i h. refl; by_date = λ d K is. is }
-
 -- a command keeps what stood at the earlier closes
 keeps-next : (S : State) (cmd : Command) → IsWhole S.opening (journal_of S) → Keeps S.opening (journal_of S) (journal_of (next S cmd))
 keeps-next S cmd h1 = grind (arith, found)
 
 -- and so do commands
 pub keeps-after : (S : State) (cmds : List Command) → IsWhole S.opening (journal_of S) → Keeps S.opening (journal_of S) (journal_of (after S cmds))
-keeps-after S [] w = keeps_same S.opening (journal_of S)
+keeps-after S [] w = grind arith
 keeps-after S (cmd ∷ cmds) w =
     let one = keeps-next S cmd w in
     let more = keeps-after (next S cmd) cmds (whole-next S cmd w) in

@@ -1,8 +1,7 @@
 -- No dividends of a day leave the limit of amounts.
-use Rattle.std.proofs.Common.{◌≡◌, ℕ, ◌*◌, ◌^◌, ◌≤◌, ◌<◌, ℤ, pos, neg_ℤ, Bool, true, false, ◌&&◌, ◌==◌, cond, filter, List, [], ◌∷◌, length, arith, nat_cmp, bytes_eq, unsigned_abs}
-use Rattle.cns_terms.proofs.Common.{Account, AllByRecursion, Cusip, Day, Declared, IsLimited, Journal, Rate, added, added-all, added-each, added-more, amount_limit, as_of, cash, closings, date, dividend, dividends, each_found, each_weaker, history_limit, ints, is_rising, issues, last_date, member_dividend, members, members_few, members_from_one, nat_tests, one_issue, over_all, position_limit, rate_limit, slice_cmp, total, total_small}
+use Rattle.std.proofs.Common.{◌≡◌, ℕ, ◌*◌, ◌^◌, ◌≤◌, ◌<◌, ℤ, pos, Bool, true, false, ◌&&◌, ◌==◌, cond, filter, List, [], ◌∷◌, length, arith, nat_cmp, bytes_eq, unsigned_abs}
+use Rattle.cns_terms.proofs.Common.{Account, AllByRecursion, Cusip, Day, Declared, IsLimited, Journal, Rate, added, added-all, added-more, amount_limit, as_of, cash, closings, date, dividend, dividends, each_found, for_members, history_limit, ints, is_rising, issues, last_date, magnitude, member_dividend, member_limit, members, nat_tests, one_issue, over_all, position_limit, rate_limit, slice_cmp, total_small, position}
 use Rattle.cns_terms.specs.Dividends.{due, is_due}
-use Rattle.cns_terms.specs.Positions.{position}
 use Rattle.cns_terms.proofs.Magnitudes.{added-swap}
 use Rattle.cns_terms.proofs.Reached.{AreSmallRates}
 
@@ -49,33 +48,21 @@ dividends_few (p ∷ K) = grind (arith, dividends_few K)
 abbrev account_limit : ℕ
 account_limit = cash_limit * history_limit
 
--- a number, and the opposite of one
-opposite : (z : ℤ) → unsigned_abs (neg_ℤ z) ≡ unsigned_abs z
-opposite z = omega (arith, ints)
-
 -- the dividends of all accounts in all issues
 pub dividends_small : (opening : Day) (K : Journal) → IsLimited opening K → AllByRecursion (IsLimited opening) (closings K) → length K < history_limit
     → over_all (λ a c. unsigned_abs (dividend opening K a c)) K ≤ amount_limit
-dividends_small opening K l closed few = omega (arith, corporation_small, members_small, members_few opening K l)
+dividends_small opening K l closed few =
+    let apart : (a : Account) → 1 ≤ a → (a == 0) ≡ false = λ a member. grind (arith, nat_tests) in
+    omega (arith, corporation_small, for_members opening K (λ a. added (λ c. unsigned_abs (dividend opening K a c)) (issues K)) account_limit l (λ a member. rw (apart a member) (one a member)))
   where
     one : (a : Account) → 1 ≤ a → added (λ c. unsigned_abs (member_dividend opening K c a)) (issues K) ≤ account_limit
-    one a member = let small = member_small opening K closed a member l.whole.now.issues_rise l.rates in let none = dividends_few K in omega (arith, small, none, few)
+    one a member = omega (arith, member_small opening K closed a member l.whole.now.issues_rise l.rates, dividends_few K, few)
 
-    same : (a : Account) → 1 ≤ a → added (λ c. unsigned_abs (dividend opening K a c)) (issues K) ≤ account_limit
-    same a member = let other : (a == 0) ≡ false = grind (arith, nat_tests) in rw other (one a member)
-
-    each : (P : Account → Type 0) → ((a : Account) → 1 ≤ a → P a) → AllByRecursion P (members K)
-    each P h = each_weaker (λ a. 1 ≤ a) P (members K) h (members_from_one opening K l)
-
-    members_small : added (λ a. added (λ c. unsigned_abs (dividend opening K a c)) (issues K)) (members K) ≤ account_limit * length (members K)
-    members_small = added-each (λ a. added (λ c. unsigned_abs (dividend opening K a c)) (issues K)) account_limit (members K) (each _ same)
-
-    corporation_small : added (λ c. unsigned_abs (dividend opening K 0 c)) (issues K) ≤ account_limit * length (members K)
+    corporation_small : added (λ c. unsigned_abs (dividend opening K 0 c)) (issues K) ≤ account_limit * member_limit
     corporation_small =
         omega (
           arith,
-          added-more (λ (c : Cusip). unsigned_abs (dividend opening K 0 c)) (λ c. added (λ a. unsigned_abs (member_dividend opening K c a)) (members K)) (issues K) (λ c.
-              omega (arith, opposite (total (member_dividend opening K c) (members K)), total_small (member_dividend opening K c) (members K))),
-          added-swap (λ (c : Cusip) (a : Account). unsigned_abs (member_dividend opening K c a)) (issues K) (members K),
-          added-each (λ (a : Account). added (λ c. unsigned_abs (member_dividend opening K c a)) (issues K)) account_limit (members K) (each _ one),
+          added-more (λ c. unsigned_abs (dividend opening K 0 c)) (λ c. magnitude (member_dividend opening K c) (members K)) (issues K) (λ c. omega (arith, ints, total_small (member_dividend opening K c) (members K))),
+          added-swap (λ c a. unsigned_abs (member_dividend opening K c a)) (issues K) (members K),
+          for_members opening K (λ a. added (λ c. unsigned_abs (member_dividend opening K c a)) (issues K)) account_limit l one,
         )

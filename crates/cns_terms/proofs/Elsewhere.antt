@@ -1,47 +1,27 @@
 -- A place at which nothing was booked has no row.
-use Rattle.std.proofs.Common.{◌≡◌, ◌∙◌, refl, ℕ, pos, ◌+ℤ◌, Bool, false, not, cond, ◌&&◌, ◌==◌, List, [], ◌∷◌, arith, bytes_eq}
-use Rattle.cns_terms.proofs.Common.{Account, AllByRecursion, Cusip, Day, Entry, IsSound, Journal, Key, accounts, as_of, bytes_eq-Decides, cents_for, closings, date, dividend, each_first, each_found, each_weaker, is_account, is_idle, is_listed, is_not_after, issues, last_close, list_any, money, nat_list_eq_equiv, occurs, occurs_missing, row, same_issue, shares_for, total}
-use Rattle.cns_terms.specs.Positions.{position}
+use Rattle.std.proofs.Common.{ℤ, ◌≡◌, ◌∙◌, refl, pos, Bool, false, not, ◌&&◌, [], ◌∷◌, arith, bytes_eq}
+use Rattle.cns_terms.proofs.Common.{Account, AllByRecursion, Cusip, Day, Entry, IsSound, Journal, Key, accounts, as_of, bytes_eq-Decides, closings, date, dividend, each_found, each_weaker, is_account, is_idle, is_listed, is_not_after, issues, last_close, list_any, open_day, total, nat_list_eq_equiv, nat_tests, occurs_missing, row, position}
+use Rattle.cns_terms.proofs.ZeroSums.{at_place, is_at, none_at, each_part}
 use Rattle.cns_terms.proofs.Paid.{no_dividend-account, no_dividend-issue}
-use Rattle.cns_terms.proofs.Sound.{AreOfListed}
-use Rattle.cns_terms.proofs.ZeroSums.{AreOf}
-
--- whether an entry is booked at a place
-abbrev is_at : Account → Cusip → Entry → Bool
-is_at a c e = (e.account == a) && same_issue e.issue c
+use Rattle.cns_terms.proofs.Sound.{AreKnown, IsPlace}
 
 -- none of the entries is booked at the place
 abbrev pub AreElsewhere : Account → Cusip → Journal → Type 0
 AreElsewhere a c J = AllByRecursion (λ p. AllByRecursion (λ e. is_at a c e ≡ false) p.entries) J
 
--- entries elsewhere book no shares there
-no_shares : (a : Account) (c : Cusip) (es : List Entry) → AllByRecursion (λ e. is_at a c e ≡ false) es → total (shares_for a c) es ≡ pos 0
-no_shares a c [] h = refl
-no_shares a c (e ∷ es) h = (λ i. cond (h.0 i) e.shares (pos 0) +ℤ no_shares a c es h.1 i)
-
--- nor cents
-no_cents : (a : Account) (c : Cusip) (es : List Entry) → AllByRecursion (λ e. is_at a c e ≡ false) es → total (cents_for a c) es ≡ pos 0
-no_cents a c [] h = refl
-no_cents a c (e ∷ es) h = (λ i. cond (h.0 i) e.cents (pos 0) +ℤ no_cents a c es h.1 i)
+-- where nothing was booked, all that was adds up to nothing
+none_booked : (f : Entry → ℤ) (a : Account) (c : Cusip) (J : Journal) → AreElsewhere a c J → total (λ p. total (at_place f a c) p.entries) J ≡ pos 0
+none_booked f a c [] h = refl
+none_booked f a c (p ∷ J) h = grind (arith, none_at f a c p.entries, none_booked f a c J h.1)
 
 -- so there is no position
 pub no_position : (a : Account) (c : Cusip) (J : Journal) → AreElsewhere a c J → position J a c ≡ pos 0
-no_position a c [] h = refl
-no_position a c (p ∷ J) h = (λ i. no_shares a c p.entries h.0 i +ℤ no_position a c J h.1 i)
-
--- nor are there cents of the open day
-no_money : (a : Account) (c : Cusip) (J : Journal) → AreElsewhere a c J → money J a c ≡ pos 0
-no_money a c [] h = refl
-no_money a c (p ∷ J) h = grind (arith, no_cents, no_money a c J h.1)
+no_position = none_booked (λ e. e.shares)
 
 -- nothing was booked there at any close
 elsewhere_closed : (a : Account) (c : Cusip) (K : Journal) → AreElsewhere a c K → AllByRecursion (AreElsewhere a c) (closings K)
 elsewhere_closed a c [] h = tt
-elsewhere_closed a c (p ∷ K) h = grind (arith, elsewhere_closed a c K h.1)
-
--- or before the last of them
-elsewhere_before : (a : Account) (c : Cusip) (K : Journal) → AreElsewhere a c K → AreElsewhere a c (last_close K)
-elsewhere_before a c K h = each_first (AreElsewhere a c) [] (closings K) tt (elsewhere_closed a c K h)
+elsewhere_closed a c (p ∷ K) h = grind (arith, elsewhere_closed a c K)
 
 -- no shares stood there at any close
 never_held : (opening : Day) (a : Account) (c : Cusip) (K : Journal) → AreElsewhere a c K → (d : Day) → position (as_of opening K d) a c ≡ pos 0
@@ -49,27 +29,22 @@ never_held opening a c K h d = no_position a c (as_of opening K d) (each_found (
 
 -- nor does one of a place at which nothing was booked and nothing is paid
 idle_elsewhere : (opening : Day) (J : Journal) (a : Account) (c : Cusip) → AreElsewhere a c J → dividend opening J a c ≡ pos 0 → not (is_idle (row opening J a c)) ≡ false
-idle_elsewhere opening J a c h paid = grind (arith, no_position, elsewhere_before, no_money)
+idle_elsewhere opening J a c h paid =
+    let parts : AreElsewhere a c (open_day J) × AreElsewhere a c (last_close J) = each_part _ J h in
+    grind (arith, no_position a c J h, no_position a c (last_close J) parts.1, none_booked (λ e. e.cents) a c (open_day J) parts.0)
 
 -- ---- an account that is not there, and an issue that is not listed
 
--- entries for some accounts are elsewhere for all others
-account_elsewhere : (a : Account) (c : Cusip) (bs : List ℕ) (es : List Entry) → occurs a bs ≡ 0 → AreOf bs es → AllByRecursion (λ e. is_at a c e ≡ false) es
-account_elsewhere a c bs [] none h = tt
-account_elsewhere a c bs (e ∷ es) none h = grind (arith, account_elsewhere a c bs es none h.1)
+-- nothing was booked at what is no place of the journal
+no_place_elsewhere : (J : Journal) (a : Account) (c : Cusip) → IsSound J → ((e : Entry) → IsPlace J e.account e.issue → is_at a c e ≡ false) → AreElsewhere a c J
+no_place_elsewhere J a c s other = each_weaker (λ p. AreKnown J p.entries) (λ p. AllByRecursion (λ e. is_at a c e ≡ false) p.entries) J (λ p. each_weaker (λ e. IsPlace J e.account e.issue) (λ e. is_at a c e ≡ false) p.entries other) s.known
 
--- entries in listed issues are elsewhere for all others
-issue_elsewhere : (a : Account) (c : Cusip) (J : Journal) (es : List Entry) → is_listed J c ≡ false → AreOfListed J es → AllByRecursion (λ e. is_at a c e ≡ false) es
-issue_elsewhere a c J [] none h = tt
-issue_elsewhere a c J (e ∷ es) none h = grind (arith, bytes_eq-Decides, issue_elsewhere a c J es none h.1)
-
--- nothing was booked for an account that is not there
+-- for an account that is not there, or in an issue that is not listed
 pub no_account_elsewhere : (J : Journal) (a : Account) (c : Cusip) → IsSound J → is_account J a ≡ false → AreElsewhere a c J
-no_account_elsewhere J a c s none = each_weaker (λ p. AreOf (accounts J) p.entries) (λ p. AllByRecursion (λ e. is_at a c e ≡ false) p.entries) J (λ p known. account_elsewhere a c (accounts J) p.entries (occurs_missing a (accounts J) none) known) s.known
+no_account_elsewhere J a c s none = no_place_elsewhere J a c s (λ e k. grind (arith, nat_tests, occurs_missing a (accounts J) none, k.0))
 
--- or in an issue that is not listed
 no_issue_elsewhere : (J : Journal) (a : Account) (c : Cusip) → IsSound J → is_listed J c ≡ false → AreElsewhere a c J
-no_issue_elsewhere J a c s none = each_weaker (λ p. AreOfListed J p.entries) (λ p. AllByRecursion (λ e. is_at a c e ≡ false) p.entries) J (λ p listed. issue_elsewhere a c J p.entries none listed) s.issued
+no_issue_elsewhere J a c s none = no_place_elsewhere J a c s (λ e k. grind (arith, bytes_eq-Decides e.issue c, none, k.1))
 
 -- at such a place the row says nothing
 by_place : (opening : Day) (J : Journal) (k : Key) (x y : Bool) → IsSound J → is_account J k.account ≡ x → is_listed J k.issue ≡ y → (x && y) ≡ false → not (is_idle (row opening J k.account k.issue)) ≡ false

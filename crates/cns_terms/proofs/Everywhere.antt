@@ -1,9 +1,9 @@
 -- What holds of each element of a list.
-use Rattle.std.proofs.Common.{ℕ, ◌≤◌, Bool, ◌≡◌, subst, sym, ◌||◌, List, [], ◌∷◌, ◌++◌, map, filter, find, slice_get, reverse, unwrap_or, refl, arith}
+use Rattle.std.proofs.Common.{ℕ, ◌≤◌, Bool, ◌≡◌, ◌||◌, List, [], ◌∷◌, ◌++◌, map, filter, find, slice_get, reverse, unwrap_or, refl, arith}
 use Rattle.cns_terms.specs.Common.{AllByRecursion, in_order, list_any}
 use Rattle.std.proofs.lemmas.Grind.{reverse_onto}
-use Rattle.cns_terms.specs.Sums.{put}
 use Rattle.cns_terms.proofs.Accounts.{occurs}
+use Rattle.cns_terms.proofs.Facts.{put, same_put}
 
 pub each_weaker : {X : Type 0} (P Q : X → Type 0) (xs : List X) → ((x : X) → P x → Q x) → AllByRecursion P xs → AllByRecursion Q xs
 each_weaker P Q [] h a = tt
@@ -24,7 +24,7 @@ each_append P (x ∷ xs) ys a b = (a.0, each_append P xs ys a.1 b)
 
 pub each_reverse : {X : Type 0} (P : X → Type 0) (xs : List X) → AllByRecursion P xs → AllByRecursion P (reverse xs)
 each_reverse P [] a = tt
-each_reverse P (x ∷ xs) a = subst (AllByRecursion P) (sym (reverse_onto xs x [])) (each_append P (reverse xs) (x ∷ []) (each_reverse P xs a.1) (a.0, tt))
+each_reverse P (x ∷ xs) a = grind (arith, reverse_onto, each_append P (reverse xs) (x ∷ []), each_reverse P xs)
 
 pub each_filter : {X : Type 0} (P : X → Type 0) (t : X → Bool) (xs : List X) → AllByRecursion P xs → AllByRecursion P (filter t xs)
 each_filter P t [] a = tt
@@ -49,8 +49,7 @@ each_stands (b ∷ bs) = grind (arith, each_weaker, each_stands bs)
 
 -- some element of a list, with one more put in its place
 pub any_put : {X : Type 0} (p : X → Bool) (before : X → X → Bool) (x : X) (ys : List X) → list_any p (put before x ys) ≡ (p x || list_any p ys)
-any_put p before x [] = refl
-any_put p before x (y ∷ ys) = grind (arith, any_put p before x ys)
+any_put p = same_put (list_any p) (λ x b. p x || b) (λ x xs. refl) (λ x y b. grind arith)
 
 -- the first of a list, or what stands in its place
 pub each_first : {X : Type 0} (P : X → Type 0) (d : X) (xs : List X) → P d → AllByRecursion P xs → P (unwrap_or (slice_get xs 0) d)

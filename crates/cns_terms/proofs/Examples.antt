@@ -3,10 +3,7 @@ use Rattle.std.proofs.Common.{◌≡◌, ◌==◌, if◌then◌else◌, refl, �
 use Rattle.cns_terms.proofs.Common.{Activity, Command, Cusip, Day, Liable, answer_to, chosen, fills_of, in_lieu, ints, is_not_after, is_same_day}
 use Rattle.cns_terms.specs.Ages.{forerunners}
 use Rattle.cns_terms.specs.declared.action.Exchange.{Exchange}
-use Rattle.cns_terms.specs.declared.command.Activity.TheVariants as activity
-use Rattle.cns_terms.specs.declared.command.Command.TheVariants as command
 use Rattle.cns_terms.specs.declared.reply.Reply.{Reply}
-use Rattle.cns_terms.specs.declared.reply.Reply.TheVariants as reply
 
 abbrev apple : Cusip
 apple = codes "037833100"
@@ -20,20 +17,20 @@ microsoft = codes "594918104"
 -- ---- days, the activities from the newest back
 
 abbrev price : ℕ → Activity
-price p = activity.Price (record { issue = apple; price = p })
+price p = Activity.Price (record { issue = apple; price = p })
 
 abbrev deliver : ℕ → ℕ → Activity
-deliver m n = activity.Deliver (record { member = m; issue = apple; shares = n })
+deliver m n = Activity.Deliver (record { member = m; issue = apple; shares = n })
 
 -- what stands at an account's place
 abbrev position : ℕ → Command
-position a = command.Position (record { account = a; issue = apple })
+position a = Command.Position (record { account = a; issue = apple })
 
 abbrev held : ℕ → ℤ → ℤ → ℤ → ℕ → Reply
-held a now opening contract run = reply.Held (record { contract = contract; position = now; opening = opening; age = run; key = record { account = a; issue = apple } })
+held a now opening contract run = Reply.Held (record { contract = contract; position = now; opening = opening; age = run; key = record { account = a; issue = apple } })
 
 abbrev stated : ℕ → Day → ℕ → ℤ → Reply
-stated a d rows mark = reply.Stated (record { account = a; date = d; rows = rows; mark = mark; dividend = pos 0 })
+stated a d rows mark = Reply.Stated (record { account = a; date = d; rows = rows; mark = mark; dividend = pos 0 })
 
 -- a day is itself
 same : (d : Day) → is_same_day d d ≡ true
@@ -46,8 +43,8 @@ now d = grind (arith, ints)
 -- a trade of 100 shares for 19,500.00 between two members in an issue
 abbrev traded : Day → List Activity
 traded d =
-    activity.Trade (record { reference = 1; money = 1950000; shares = 100; buyer = 101; seller = 202; date = d; issue = apple })
-    ∷ activity.Issue (record { issue = apple; price = 19500 }) ∷ activity.Member 202 ∷ activity.Member 101 ∷ []
+    Activity.Trade (record { reference = 1; money = 1950000; shares = 100; buyer = 101; seller = 202; date = d; issue = apple })
+    ∷ Activity.Issue (record { issue = apple; price = 19500 }) ∷ Activity.Member 202 ∷ Activity.Member 101 ∷ []
 
 the_buyers_position : (d : Day) → answer_to d (traded d) (position 101) ≡ held 101 (pos 100) (pos 0) (neg_ℤ (pos 1950000)) 0
 the_buyers_position d = rw (now d) refl
@@ -59,24 +56,24 @@ the_sellers_position d = rw (now d) refl
 nothing_is_booked_yet : (d e : Day) → is_not_after e d ≡ false → answer_to d (traded e) (position 101) ≡ held 101 (pos 0) (pos 0) (pos 0) 0
 nothing_is_booked_yet d e ahead = rw ahead refl
 
-booked_on_its_date : (d e : Day) → is_not_after e d ≡ false → answer_to d (activity.Close e ∷ traded e) (position 101) ≡ held 101 (pos 100) (pos 0) (neg_ℤ (pos 1950000)) 0
+booked_on_its_date : (d e : Day) → is_not_after e d ≡ false → answer_to d (Activity.Close e ∷ traded e) (position 101) ≡ held 101 (pos 100) (pos 0) (neg_ℤ (pos 1950000)) 0
 booked_on_its_date d e ahead = rw (ahead, now e) refl
 
 -- the price rises by a dollar before the close
 abbrev priced : Day → List Activity
 priced d = price 19600 ∷ traded d
 
-the_first_close : (d e : Day) → is_not_after e d ≡ false → answer_to d (priced d) (command.Activity (activity.Close e)) ≡ reply.Closed (record { day = 1; date = d; rows = 2; liable = 0 })
+the_first_close : (d e : Day) → is_not_after e d ≡ false → answer_to d (priced d) (Command.Activity (Activity.Close e)) ≡ Reply.Closed (record { day = 1; date = d; rows = 2; liable = 0 })
 the_first_close d e later = rw (later, now d) refl
 
-the_buyer_gains : (d e : Day) → answer_to d (activity.Close e ∷ priced d) (command.Statement 101 d) ≡ stated 101 d 1 (pos 10000)
+the_buyer_gains : (d e : Day) → answer_to d (Activity.Close e ∷ priced d) (Command.Statement 101 d) ≡ stated 101 d 1 (pos 10000)
 the_buyer_gains d e = rw (same d, now d) refl
 
-a_short_grows_old : (d e : Day) → answer_to d (activity.Close e ∷ priced d) (position 202) ≡ held 202 (neg_ℤ (pos 100)) (neg_ℤ (pos 100)) (pos 0) 1
+a_short_grows_old : (d e : Day) → answer_to d (Activity.Close e ∷ priced d) (position 202) ≡ held 202 (neg_ℤ (pos 100)) (neg_ℤ (pos 100)) (pos 0) 1
 a_short_grows_old d e = rw (now d) refl
 
 -- the price falls by a dollar on the second day; the corporation owes on what was delivered to it
-the_corporations_mark : (d e f : Day) → answer_to d (activity.Close f ∷ price 19500 ∷ deliver 202 100 ∷ activity.Close e ∷ priced d) (command.Statement 0 e) ≡ stated 0 e 1 (neg_ℤ (pos 1950000))
+the_corporations_mark : (d e f : Day) → answer_to d (Activity.Close f ∷ price 19500 ∷ deliver 202 100 ∷ Activity.Close e ∷ priced d) (Command.Statement 0 e) ≡ stated 0 e 1 (neg_ℤ (pos 1950000))
 the_corporations_mark d e f = rw (same e, now d) refl
 
 -- ---- splits, exchanges and buy-ins

@@ -1,11 +1,15 @@
--- Facts that proofs of several crates use: tests, comparisons, numbers.
-use Rattle.std.proofs.Common.{◌≡◌, ◌∙◌, sym, ap, refl, suc, ℕ, ℤ, pos, ◌+ℤ◌, Bool, true, false, not, ◌&&◌, ◌||◌, cond, eqb, List, [], ◌∷◌, length, map, Option, Some, arith, bytes_eq, int_le, int_lt, is_eq, is_lt, nat_cmp, Ordering, Less, Equal}
-use Rattle.cns_terms.specs.Common.{Activity, AllByRecursion, Cusip, Day, journal, option_map_or, slice_cmp, tied_itself}
-use Rattle.std.proofs.lemmas.Bool.Decides.{nat_tests}
-use Rattle.std.proofs.lemmas.Cmp.{nat_list_cmp_total, nat_list_eq_equiv}
-use Rattle.std.proofs.lemmas.Int.{ints}
-use Rattle.std.proofs.lemmas.Map.Text.{is_eq-slice_cmp}
+-- Facts that proofs of several crates use: tests, comparisons, numbers, lists. Passes on names that files below Common.antt cite.
+use Rattle.std.proofs.Common.{◌≡◌, ◌∙◌, sym, ap, refl, suc, ℕ, ℤ, pos, ◌+ℤ◌, Bool, true, false, not, ◌&&◌, ◌||◌, cond, eqb, List, [], ◌∷◌, length, Option, Some, arith, filter, ◌≤◌, bytes_eq, int_le, int_lt, is_eq, is_lt, nat_cmp, Ordering, Less, Equal}
+use Rattle.cns_terms.specs.Common.{Activity, Cusip, Day, journal, option_map_or, in_order, slice_cmp, tied_itself}
+pub use Rattle.cns_terms.specs.Sums.{put}
+pub use Rattle.std.proofs.lemmas.Bool.Decides.{nat_tests}
+pub use Rattle.std.proofs.lemmas.Cmp.{nat_cmp_total, nat_list_cmp_total, nat_list_eq_equiv, on_total, then_total}
+pub use Rattle.std.proofs.lemmas.Int.{ints, unsigned_abs-mul}
+pub use Rattle.std.proofs.lemmas.Map.Text.{is_eq-slice_cmp}
 use Rattle.cns_terms.specs.declared.command.Listing.{Listing}
+pub use Rattle.std.proofs.lemmas.Slice.Eq.{bytes_eq-Decides}
+pub use Rattle.std.proofs.lemmas.List.Sums.{sum_by-append, sum_by-cons}
+pub use Rattle.cns_terms.specs.Positions.{position}
 
 -- ---- tests
 
@@ -61,7 +65,7 @@ same_test c d = is_eq-slice_cmp c d ∙ nat_list_eq_equiv.symm c d
 
 -- two issues differ both ways
 pub issues_differ : (c d : Cusip) → bytes_eq c d ≡ false → bytes_eq d c ≡ false
-issues_differ c d e = sym (same_test c d) ∙ is_eq-slice_cmp c d ∙ e
+issues_differ c d e = cc (same_test c d, is_eq-slice_cmp c d)
 
 -- ---- numbers
 
@@ -75,8 +79,6 @@ less_less a b c p q = grind (arith, ints)
 pub later : (a b : ℤ) → int_le a b ≡ false → int_lt b a ≡ true
 later a b h = grind (arith, ints)
 
--- ---- journals
-
 -- the price of the listing that is found first
 pub price_branch : (t : Bool) (l : Listing) (o : Option Listing) → option_map_or (λ (l : Listing). l.price) (cond t (Some l) o) 0 ≡ cond t l.price (option_map_or (λ l. l.price) o 0)
 price_branch t l o = grind arith
@@ -88,7 +90,17 @@ journal_len opening (x ∷ L) = ap suc (journal_len opening L)
 
 -- ---- lists
 
--- two functions that agree on each element
-pub map_each : {X Y : Type 0} (f g : X → Y) (xs : List X) → AllByRecursion (λ x. f x ≡ g x) xs → map f xs ≡ map g xs
-map_each f g [] h = refl
-map_each f g (x ∷ xs) h = rw (h.0, map_each f g xs h.1) refl
+-- what is kept is no more
+pub filter_len : {X : Type 0} (p : X → Bool) (xs : List X) → length (filter p xs) ≤ length xs
+filter_len p [] = omega arith
+filter_len p (x ∷ xs) = grind (arith, filter_len p xs)
+
+-- what is made of a list one element at a time, in any order: one more put in its place, and the whole list put in order
+module _ {X Y : Type 0} (F : List X → Y) (op : X → Y → Y) (more : (x : X) (xs : List X) → F (x ∷ xs) ≡ op x (F xs)) (swap : (x y : X) (z : Y) → op x (op y z) ≡ op y (op x z)) (before : X → X → Bool) where
+  pub same_put : (x : X) (ys : List X) → F (put before x ys) ≡ op x (F ys)
+  same_put x [] = more x []
+  same_put x (y ∷ ys) = grind (arith, more, swap x y (F ys), same_put x ys)
+
+  pub same_order : (xs : List X) → F (in_order before xs) ≡ F xs
+  same_order [] = refl
+  same_order (x ∷ xs) = cc (same_put x (in_order before xs), same_order xs, more x xs)

@@ -1,10 +1,9 @@
 -- Searches in lists whose keys strictly rise.
-use Rattle.std.proofs.Common.{◌≡◌, ◌∙◌, sym, ap, refl, Bool, true, false, cond, List, [], ◌∷◌, map, filter, Option, Some, None, is_eq, is_lt, Ordering, Less, Equal, T}
+use Rattle.std.proofs.Common.{◌≡◌, ◌∙◌, sym, ap, refl, Bool, true, false, cond, List, [], ◌∷◌, map, filter, Option, Some, None, is_lt, Ordering, Less, Equal, T, arith}
 use Rattle.cns_terms.specs.Common.{AllByRecursion, IsTotalOrder, below_all, is_sorted, tied_itself}
 use Rattle.std.specs.FinMap.{FinMap, entries, entries-from_sorted, find, from_sorted, get-from_sorted, same_map, IsAntisymmetric}
 use Rattle.std.specs.List.Sorted.{IsStrictlySortedBy}
-use Rattle.cns_terms.proofs.Facts.{and_left, and_right, both_true, less}
-use Rattle.std.proofs.Common.{arith}
+use Rattle.cns_terms.proofs.Facts.{less}
 
 -- an option kept where its value passes a test
 abbrev pub kept_if : {X : Type 0} → (X → Bool) → Option X → Option X
@@ -22,8 +21,7 @@ module _ {K X : Type 0} {R : K → K → Ordering} (o : IsTotalOrder R) where
   -- what lies above a key does not have it
   pub find_below : (k : K) (es : List (K × X)) → below_all R k es ≡ true → find R k es ≡ None
   find_below k [] b = refl
-  find_below k (e ∷ es) b =
-      ap (λ r. cond (is_eq r) (Some e.1) (find R k es)) (less _ (and_left _ _ b)) ∙ find_below k es (and_right _ _ b)
+  find_below k (e ∷ es) b = grind (arith, less, find_below k es)
 
   below_filter : (p : X → Bool) (k : K) (es : List (K × X)) → below_all R k es ≡ true → below_all R k (filter (λ e. p e.1) es) ≡ true
   below_filter p k [] b = refl
@@ -37,7 +35,7 @@ module _ {K X : Type 0} {R : K → K → Ordering} (o : IsTotalOrder R) where
   -- what ties with a key below all is below all
   pub tied_below : (q k : K) (es : List (K × X)) → R q k ≡ Equal → below_all R k es ≡ true → below_all R q es ≡ true
   tied_below q k [] t b = refl
-  tied_below q k (e ∷ es) t b = both_true _ _ (ap is_lt (o.congr q k e.0 t) ∙ and_left _ _ b) (tied_below q k es t (and_right _ _ b))
+  tied_below q k (e ∷ es) t b = grind (arith, o.congr q k e.0, tied_below q k es)
 
   -- a search in what a filter keeps
   pub find_filter : (p : X → Bool) (q : K) (es : List (K × X)) → is_sorted R es ≡ true → find R q (filter (λ e. p e.1) es) ≡ kept_if p (find R q es)
@@ -60,26 +58,19 @@ module _ {K X : Type 0} {R : K → K → Ordering} (o : IsTotalOrder R) where
 
   all_above : (t : K → Bool) (k : K) (xs : List (K × X)) → ((q : K) → R k q ≡ Less → t q ≡ true) → below_all R k xs ≡ true → filter (λ x. t x.0) xs ≡ xs
   all_above t k [] later b = refl
-  all_above t k (x ∷ xs) later b = ap (λ c. cond c (x ∷ filter (λ x. t x.0) xs) (filter (λ x. t x.0) xs)) (later x.0 (less _ (and_left _ _ b))) ∙ ap (λ ys. x ∷ ys) (all_above t k xs later (and_right _ _ b))
-
-  next_branch : (t : K → Bool) (b : Bool) (x : K × X) (xs : List (K × X)) (e : K × X) (rest : List (K × X)) → t x.0 ≡ b → ((k q : K) → t k ≡ true → R k q ≡ Less → t q ≡ true) → below_all R x.0 xs ≡ true
-      → (filter (λ y. t y.0) xs ≡ e ∷ rest → filter (λ y. is_lt (R e.0 y.0)) xs ≡ rest)
-      → cond b (x ∷ filter (λ y. t y.0) xs) (filter (λ y. t y.0) xs) ≡ e ∷ rest
-      → cond (is_lt (R e.0 x.0)) (x ∷ filter (λ y. is_lt (R e.0 y.0)) xs) (filter (λ y. is_lt (R e.0 y.0)) xs) ≡ rest
-  next_branch t true x xs e rest p up b more h = grind (arith, not_itself o x.0, all_above (λ q. is_lt (R x.0 q)) x.0 xs (λ q l. ap is_lt l) b, all_above t x.0 xs (λ q l. up x.0 q p l) b)
-  next_branch t false x xs e rest p up b more h = grind (arith, first_above)
+  all_above t k (x ∷ xs) later b = grind (arith, less, later x.0, all_above t k xs later)
 
   -- past the first that a rising test keeps, the rest are those above it
   pub next_above : (t : K → Bool) (xs : List (K × X)) (e : K × X) (rest : List (K × X)) → ((k q : K) → t k ≡ true → R k q ≡ Less → t q ≡ true) → is_sorted R xs ≡ true → filter (λ y. t y.0) xs ≡ e ∷ rest → filter (λ y. is_lt (R e.0 y.0)) xs ≡ rest
   next_above t [] e rest up s h = cc
-  next_above t (x ∷ xs) e rest up s h = next_branch t (t x.0) x xs e rest refl up (and_left _ _ s) (next_above t xs e rest up (and_right _ _ s)) h
+  next_above t (x ∷ xs) e rest up s h = grind (arith, not_itself o x.0, all_above (λ q. is_lt (R x.0 q)) x.0 xs (λ q l. ap is_lt l), all_above t x.0 xs, up x.0, first_above t x.0 xs e rest, next_above t xs e rest up)
 
   below_from : (k : K) (es : List (K × X)) → AllByRecursion (λ q. R k q ≡ Less) (map (λ e. e.0) es) → below_all R k es ≡ true
   below_from k [] h = refl
-  below_from k (e ∷ es) h = both_true _ _ (ap is_lt h.0) (below_from k es h.1)
+  below_from k (e ∷ es) h = grind (arith, below_from k es)
 
   -- the two words for keys that strictly rise
   pub sorted_from : (es : List (K × X)) → IsStrictlySortedBy R (map (λ e. e.0) es) → is_sorted R es ≡ true
   unfolding IsStrictlySortedBy
   sorted_from [] h = refl
-  sorted_from (e ∷ es) h = both_true _ _ (below_from e.0 es h.0) (sorted_from es h.1)
+  sorted_from (e ∷ es) h = grind (arith, below_from, sorted_from es)

@@ -1,10 +1,9 @@
 -- A legal history has the replies of the machine to its commands, one after another.
-use Rattle.std.proofs.Common.{◌≡◌, ◌∙◌, sym, ap, refl, List, [], ◌∷◌, ◌++◌}
+use Rattle.std.proofs.Common.{◌≡◌, refl, List, [], ◌∷◌, ◌++◌, arith}
 use Rattle.cns_terms.proofs.Common.{Command, Day, IsLegal, State, after, answer, next, opened}
 use Rattle.cns_terms.specs.declared.history.Taken.{Taken}
 use Rattle.cns_terms.specs.History.{commands_of, replies_of, state}
 use Rattle.cns_terms.specs.Machine.{replies}
-use Rattle.std.proofs.Common.{arith}
 
 after_one : (S : State) (cmds : List Command) (cmd : Command) → after S (cmds ++ cmd ∷ []) ≡ next (after S cmds) cmd
 after_one S [] cmd = refl
@@ -12,12 +11,12 @@ after_one S (c ∷ cmds) cmd = after_one (next S c) cmds cmd
 
 replies_one : (S : State) (cmds : List Command) (cmd : Command) → replies S (cmds ++ cmd ∷ []) ≡ replies S cmds ++ answer (after S cmds) cmd ∷ []
 replies_one S [] cmd = refl
-replies_one S (c ∷ cmds) cmd = ap (λ rs. answer S c ∷ rs) (replies_one (next S c) cmds cmd)
+replies_one S (c ∷ cmds) cmd = cc (replies_one (next S c) cmds cmd)
 
 -- the state after a history is that after its commands
 pub state_after : (opening : Day) (H : List Taken) → state opening H ≡ after (opened opening) (commands_of H)
 state_after opening [] = refl
-state_after opening (t ∷ H) = ap (λ S. next S t.command) (state_after opening H) ∙ sym (after_one (opened opening) (commands_of H) t.command)
+state_after opening (t ∷ H) = cc (state_after opening H, after_one (opened opening) (commands_of H) t.command)
 
 -- the replies of a legal history are the machine's to its commands
 pub legal_replies : (opening : Day) (H : List Taken) → IsLegal opening H → replies_of H ≡ replies (opened opening) (commands_of H)

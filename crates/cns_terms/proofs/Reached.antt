@@ -1,37 +1,46 @@
 -- What is so of each journal that commands reach.
-use Rattle.std.proofs.Common.{◌≡◌, ap, ℕ, ◌+◌, ◌*◌, ◌≤◌, ◌<◌, ℤ, pos, ◌+ℤ◌, true, List, [], ◌∷◌, length, is_none, arith, filter_map, unsigned_abs, is_lt, nat_cmp}
-use Rattle.cns_terms.specs.Common.{Activity, AllByRecursion, Command, Cusip, Day, Declared, IsInRange, IsReached, Journal, State, account_lt, accounts, activities, after, booking_limit, closings, corporation_limit, dividends, journal, member_limit, members, next, opened, position_limit, posting, rate_limit, total}
-use Rattle.std.proofs.lemmas.Bool.Decides.{nat_tests}
-use Rattle.std.proofs.lemmas.Int.{ints}
-use Rattle.cns_terms.specs.Laws.{Bounds, IsBounded, Reaches}
-use Rattle.cns_terms.specs.Listings.{added}
-use Rattle.cns_terms.specs.Positions.{position}
-use Rattle.cns_terms.specs.Reached.{IsCommandInRange}
+use Rattle.std.proofs.Common.{◌≡◌, ap, ℕ, ◌+◌, ◌*◌, ◌≤◌, ◌<◌, true, List, [], ◌∷◌, length, is_none, arith, filter_map, unsigned_abs, nat_cmp, IfSome, None, Option, Some, int_eq, map, mul-le-mul_left, not, pos, refl, ℤ, flat_map}
+use Rattle.cns_terms.specs.Common.{Account, Activity, AllByRecursion, Command, Cusip, Day, Declared, IsReached, Journal, State, account_lt, accounts, activities, after, booking_limit, closings, dividends, journal, member_limit, members, money, next, opened, position_limit, Posting, posting, price, price_limit, rate_limit, Entry, Execution, IsInRange, Notice, Price, Ratio, against_corporation, execution_entries, holders, in_exchange, in_lieu, money_limit, new_entry, notice_at, old_entry, option_map_or, Pend, entries, trade_entries}
+use Rattle.std.proofs.Math.Nat.{mul-le-mul}
+use Rattle.cns_terms.specs.Limits.{ratio_limit}
 use Rattle.cns_terms.specs.Refusals.{rules}
-use Rattle.cns_terms.proofs.Balanced.{entries_balanced}
-use Rattle.cns_terms.proofs.Facts.{and_left, and_right}
-use Rattle.cns_terms.proofs.Everywhere.{each_in_order, each_weaker}
-use Rattle.cns_terms.proofs.Limits.{AreWithin, HasFewCents, IsNear, booked_few, cents_of, money_few, near, waiting_cents, within-post}
-use Rattle.cns_terms.proofs.Magnitudes.{added as added_up}
-use Rattle.cns_terms.proofs.Rising.{above_all, is_rising}
-use Rattle.cns_terms.proofs.Sound.{IsWhole, NoneHolds, whole-post, whole_nil}
-use Rattle.cns_terms.proofs.ZeroSums.{AreBalanced, AreSound, positions_zero, sound_of}
+use Rattle.cns_terms.specs.Entries.{split_entry}
+use Rattle.cns_terms.proofs.BuyIns.{IsExecutable, execution_cents, execution_balanced}
+use Rattle.cns_terms.proofs.Quotients.{fraction_few, quotient_few}
+use Rattle.cns_terms.proofs.Waiting.{booked_cents, settled}
+use Rattle.cns_terms.specs.Laws.{Bounds, IsBounded, Reaches}
+use Rattle.cns_terms.specs.Listings.{added as member_added}
+use Rattle.cns_terms.specs.Reached.{IsCommandInRange, IsRatio}
+use Rattle.cns_terms.proofs.ZeroSums.{IsBalanced, AreBalanced, AreOf, AreSound, positions_zero, against_balanced, both_balanced}
+use Rattle.cns_terms.proofs.Facts.{and_left, ints, nat_tests, position, unsigned_abs-mul}
+use Rattle.cns_terms.proofs.Everywhere.{each_both, each_in_order, each_weaker}
+use Rattle.cns_terms.proofs.Limits.{AreWithin, IsNear, cents_of, money_few, near, ready, waiting_cents, within-post}
+use Rattle.cns_terms.proofs.Magnitudes.{added, added-append, added-each, added-filter, added-map, magnitude, total_small}
+use Rattle.cns_terms.proofs.Rising.{from_one, is_rising}
+use Rattle.cns_terms.proofs.Sound.{NoneHolds, all_fail, AreKnown, IsPlace, IsWhole, whole-post}
+use Rattle.cns_terms.specs.Pending.{due}
+
+-- what trades book
+trades_balanced : (ps : List Pend) → IsBalanced (flat_map trade_entries ps)
+trades_balanced [] = grind arith
+trades_balanced (p ∷ ps) = grind (arith, trades_balanced ps)
+
+-- the entries of an activity in its ranges that is not refused add up to zero in each issue
+pub entries_balanced : (opening : Day) (J : Journal) (x : Activity) → IsInRange x → NoneHolds (rules opening J x) → IsBalanced (entries opening J x)
+entries_balanced opening J (Activity.Split s) r h = against_balanced s.issue (split_entry s (λ a. position J a s.issue)) _ (λ a. refl)
+entries_balanced opening J (Activity.Exchange x) r h =
+    both_balanced _ _ (against_balanced x.old (old_entry x (λ a. position J a x.old)) _ (λ a. refl)) (against_balanced x.successor (new_entry x (λ a. position J a x.old)) _ (λ a. refl))
+entries_balanced opening J (Activity.Execute x) r h = grind (arith, execution_balanced)
+entries_balanced opening J (Activity.Close d) r h = trades_balanced (due opening J d)
+entries_balanced opening J _ r h = grind (arith, nat_tests)
 
 -- the members' numbers are within their limit
 abbrev pub AreNumbered : Journal → Type 0
-AreNumbered J = AllByRecursion (λ a. a ≤ member_limit) (filter_map added (activities J))
-
--- an activity in its ranges keeps them so
-numbered-post : (opening : Day) (J : Journal) (x : Activity) → IsInRange x → AreNumbered J → AreNumbered (posting opening J x ∷ J)
-numbered-post opening J x h1 h2 = grind arith
+AreNumbered J = AllByRecursion (λ a. a ≤ member_limit) (filter_map member_added (activities J))
 
 -- the rates of the dividends are within their limit
 abbrev pub AreSmallRates : List Declared → Type 0
 AreSmallRates ds = AllByRecursion (λ d. d.rate ≤ rate_limit) ds
-
--- and an activity in its ranges keeps them so
-rates-post : (opening : Day) (J : Journal) (x : Activity) → IsInRange x → AreSmallRates (dividends J) → AreSmallRates (dividends (posting opening J x ∷ J))
-rates-post opening J x h1 h2 = grind arith
 
 -- a journal that commands reach is sound and balanced, and members' numbers, their positions, cents and rates are within their limits
 pub record IsLimited (opening : Day) (J : Journal) : Type 0 where
@@ -39,34 +48,17 @@ pub record IsLimited (opening : Day) (J : Journal) : Type 0 where
   pub balanced : AreBalanced J
   pub numbered : AreNumbered J
   pub within : AreWithin opening J
-  pub cents : HasFewCents J
+  pub cents : (a : Account) (c : Cusip) → unsigned_abs (money J a c) ≤ booking_limit * length J
   pub rates : AreSmallRates (dividends J)
-  pub booked : added_up cents_of J + waiting_cents opening J ≤ booking_limit * length J
+  pub prices : (c : Cusip) → price J c ≤ price_limit
+  pub booked : added cents_of J + waiting_cents opening J ≤ booking_limit * length J
 
 -- ---- the corporation's position makes up for the members'
-
--- a number that comes before another is less
-less_than : (a b : ℕ) → is_lt (nat_cmp a b) ≡ true → a + 1 ≤ b
-less_than a b h = grind (arith, nat_tests)
-
--- what comes after 0 is 1 at least
-from_one : (bs : List ℕ) → above_all nat_cmp 0 bs ≡ true → AllByRecursion (λ b. 1 ≤ b) bs
-from_one [] h = tt
-from_one (b ∷ bs) h = (less_than 0 b (and_left _ _ h), from_one bs (and_right _ _ h))
 
 -- numbers that rise from a number up to a limit are no more than fit between
 few_rising : (a n : ℕ) (bs : List ℕ) → a ≤ n → is_rising nat_cmp (a ∷ bs) ≡ true → AllByRecursion (λ b. b ≤ n) bs → a + length bs ≤ n
 few_rising a n [] h rise most = omega (arith, h)
-few_rising a n (b ∷ bs) h rise most = omega (arith, less_than a b (and_left _ _ (and_left _ _ rise)), few_rising b n bs most.0 (and_right (above_all nat_cmp a (b ∷ bs)) _ rise) most.1)
-
--- what is within the limits each adds up to no more than the limits together
-total_within : (f : ℕ → ℤ) (bs : List ℕ) → AllByRecursion (λ b. IsNear (f b)) bs → unsigned_abs (total f bs) ≤ position_limit * length bs
-total_within f [] h = omega (arith, ints)
-total_within f (b ∷ bs) h = grind (arith, total_within f bs h.1)
-
--- what the rest makes up for is no more than the rest
-made_up : (q r : ℤ) (n : ℕ) → q +ℤ r ≡ pos 0 → unsigned_abs r ≤ position_limit * n → n ≤ member_limit → unsigned_abs q ≤ corporation_limit
-made_up q r n h k le = omega (arith, ints, h, k, le)
+few_rising a n (b ∷ bs) h rise most = grind (arith, nat_tests, few_rising b n bs)
 
 -- members' numbers are 1 at least
 pub members_from_one : (opening : Day) (J : Journal) → IsLimited opening J → AllByRecursion (λ a. 1 ≤ a) (members J)
@@ -74,21 +66,70 @@ members_from_one opening J l = from_one (members J) (and_left _ _ l.whole.now.ac
 
 -- there are no more members than numbers for them
 pub members_few : (opening : Day) (J : Journal) → IsLimited opening J → length (members J) ≤ member_limit
-members_few opening J l =
-    let few = few_rising 0 member_limit (members J) (omega arith) l.whole.now.accounts_rise (each_in_order (λ a. a ≤ member_limit) account_lt (filter_map added (activities J)) l.numbered) in
-    omega (arith, few)
+members_few opening J l = omega (arith, few_rising 0 member_limit (members J) (omega arith) l.whole.now.accounts_rise (each_in_order (λ a. a ≤ member_limit) account_lt (filter_map member_added (activities J)) l.numbered))
 
--- an activity in its ranges books few cents, but those that waited
-books_few : (opening : Day) (J : Journal) (x : Activity) → IsInRange x → NoneHolds (rules opening J x) → IsLimited opening J → cents_of (posting opening J x) + waiting_cents opening (posting opening J x ∷ J) ≤ booking_limit + waiting_cents opening J
-books_few opening J x r h l = grind (arith, booked_few, members_from_one, members_few)
+-- a small number for each member, over all of them
+pub for_members : (opening : Day) (J : Journal) (f : Account → ℕ) (m : ℕ) → IsLimited opening J → ((a : Account) → 1 ≤ a → f a ≤ m) → added f (members J) ≤ m * member_limit
+for_members opening J f m l h = omega (arith, added-each f m (members J) (each_weaker (λ a. 1 ≤ a) (λ a. f a ≤ m) (members J) h (members_from_one opening J l)), mul-le-mul_left m (members_few opening J l))
+
+-- ---- the cents of one more activity
+
+-- the cents in lieu of less than a share
+lieu_few : (r : Ratio) (lieu : Price) (q : ℤ) → IsRatio r → lieu ≤ price_limit → unsigned_abs (in_lieu r lieu q) ≤ ratio_limit * price_limit
+lieu_few r lieu q ratio h = grind (arith, fraction_few, quotient_few, unsigned_abs-mul)
+
+-- the most cents that a split or an exchange books for a member
+abbrev holder_limit : ℕ
+holder_limit = ratio_limit * price_limit + position_limit * price_limit
+
+-- those of an exchange
+exchange_few : (r : Ratio) (lieu cash : Price) (q : ℤ) → IsRatio r → lieu ≤ price_limit → cash ≤ price_limit → IsNear q → unsigned_abs (in_exchange r lieu cash q) ≤ holder_limit
+exchange_few r lieu cash q ratio h k w = omega (arith, ints, lieu_few r lieu q ratio h, unsigned_abs-mul q (pos cash), mul-le-mul w k)
+
+-- the cents of the corporation and of members with an entry each
+against_few : (opening : Day) (J : Journal) (c d : Cusip) (g : Account → Entry) (f : ℤ → ℤ) (m : ℕ) → IsLimited opening J → ((a : Account) → (g a).cents ≡ f (position J a d)) → ((q : ℤ) → IsNear q → unsigned_abs (f q) ≤ m)
+    → magnitude (λ e. e.cents) (against_corporation c (map g (holders (λ a. position J a d) (members J)))) ≤ 2 * (m * member_limit)
+against_few opening J c d g f m l is small =
+    let q : Account → ℤ = λ a. position J a d in
+    let hs : List Account = holders q (members J) in
+    let all = for_members opening J (λ a. unsigned_abs (g a).cents) m l (λ a k. rw (is a) (small (q a) (near (q a) _ _ (l.within a d k)))) in
+    let some = added-filter (λ a. unsigned_abs (g a).cents) (λ a. not (int_eq (q a) (pos 0))) (members J) in
+    omega (arith, ints, added-map (λ (e : Entry). unsigned_abs e.cents) g hs, total_small (λ (e : Entry). e.cents) (map g hs), all, some)
+
+-- an execution's money is booked twice
+execution_few : (J : Journal) (x : Execution) (o : Option Notice) → 1 ≤ x.shares → x.money ≤ money_limit → IfSome o (IsExecutable J x) → magnitude (λ (e : Entry). e.cents) (option_map_or (execution_entries J x) o []) ≤ booking_limit
+execution_few J x None some few h = omega arith
+execution_few J x (Some k) some few h = omega (arith, few, execution_cents J x k some h)
+
+-- an activity that is not refused books few cents, but those that waited
+pub booked_few : (opening : Day) (J : Journal) (x : Activity) → IsInRange x → NoneHolds (rules opening J x) → IsLimited opening J → cents_of (posting opening J x) + waiting_cents opening (posting opening J x ∷ J) ≤ booking_limit + waiting_cents opening J
+booked_few opening J (Activity.Split s) r h l =
+    omega (arith, against_few opening J s.issue s.issue (split_entry s (λ a. position J a s.issue)) (in_lieu s.ratio s.lieu) holder_limit l (λ a. refl) (λ z w. omega (arith, lieu_few s.ratio s.lieu z r.0 r.1)))
+booked_few opening J (Activity.Exchange x) r h l =
+    let q : Account → ℤ = λ a. position J a x.old in
+    let hs : List Account = holders q (members J) in
+    omega (
+      arith,
+      added-append (λ (e : Entry). unsigned_abs e.cents) (against_corporation x.old (map (old_entry x q) hs)) (against_corporation x.successor (map (new_entry x q) hs)),
+      against_few opening J x.old x.old (old_entry x q) (λ z. pos 0) 0 l (λ a. refl) (λ z w. omega arith),
+      against_few opening J x.successor x.old (new_entry x q) (in_exchange x.ratio x.lieu x.cash) holder_limit l (λ a. refl) (λ z w. exchange_few x.ratio x.lieu x.cash z r.0 r.1 r.2 w),
+    )
+booked_few opening J (Activity.Execute x) r h l = omega (arith, execution_few J x (notice_at J x.notice) r.0 r.2 (ready opening J x h))
+booked_few opening J (Activity.Close d) r h l = grind (arith, all_fail, booked_cents, settled)
+booked_few opening J _ r h l = grind (arith, ints)
+
+-- ---- one more activity
 
 -- each of its postings adds up to zero, and books for its accounts alone
 pub sound_journal : (opening : Day) (J : Journal) → IsLimited opening J → AreSound (accounts J) J
-sound_journal opening J l = sound_of (accounts J) J l.whole.now.known l.balanced
+sound_journal opening J l =
+    let now = l.whole.now in
+    let once : (p : Posting) → AreKnown J p.entries → AreOf (accounts J) p.entries = λ p. each_weaker (λ e. IsPlace J e.account e.issue) _ p.entries (λ e k. omega (arith, k.0, now.distinct e.account)) in
+    each_both (λ p. IsBalanced p.entries) (λ p. AreOf (accounts J) p.entries) J l.balanced (each_weaker (λ p. AreKnown J p.entries) _ J once now.known)
 
 -- a journal of nothing has its limits
 pub limited_nil : {opening : Day} → IsLimited opening []
-limited_nil = record { whole = whole_nil; balanced = tt; numbered = tt; within = λ a c m. record { above = omega arith; below = omega arith }; cents = λ a c. omega (arith, ints); rates = tt; booked = omega arith }
+limited_nil = grind (arith, ints)
 
 -- and so has one that commands reach
 pub limited : (opening : Day) (L : List Activity) → IsReached opening L → IsLimited opening (journal opening L)
@@ -98,16 +139,15 @@ limited opening (x ∷ L) r =
     let J' : Journal = posting opening J x ∷ J in
     let before = limited opening L r.2 in
     let fails = ap is_none r.1 in
-    let few = books_few opening J x r.0 fails before in
-    let past = before.booked in
-    let booked : added_up cents_of J' + waiting_cents opening J' ≤ booking_limit * length J' = omega (arith, few, past) in
+    let booked : added cents_of J' + waiting_cents opening J' ≤ booking_limit * length J' = omega (arith, booked_few opening J x r.0 fails before, before.booked) in
     record {
       whole = whole-post opening J x before.whole fails;
       balanced = (entries_balanced opening J x r.0 fails, before.balanced);
-      numbered = numbered-post opening J x r.0 before.numbered;
+      numbered = grind (arith, r.0, before.numbered);
       within = within-post opening J x fails before.whole before.within;
       cents = λ a c. omega (arith, money_few J' a c, booked);
-      rates = rates-post opening J x r.0 before.rates;
+      rates = grind (arith, r.0, before.rates);
+      prices = λ c. grind (arith, r.0, before.prices c);
       booked = booked;
     }
 
@@ -122,23 +162,24 @@ limited_past opening L r = each_closing opening (IsLimited opening) (length L + 
 
 -- positions are within their limits
 pub bounded : (opening : Day) (J : Journal) (c : Cusip) → IsLimited opening J → IsBounded opening J c
-bounded opening J c l =
-    let each = each_weaker (λ a. 1 ≤ a) (λ a. IsNear (position J a c)) (members J) (λ a m. near _ _ _ (l.within a c m)) (members_from_one opening J l) in
-    record {
-      members = λ a m. near _ _ _ (l.within a c m);
-      waiting = λ a m. l.within a c m;
-      corporation = made_up (position J 0 c) (total (λ a. position J a c) (members J)) (length (members J)) (positions_zero (accounts J) c J (sound_journal opening J l)) (total_within (λ a. position J a c) (members J) each) (members_few opening J l);
-    }
+bounded opening J c l = record {
+  members = λ a m. near _ _ _ (l.within a c m);
+  waiting = λ a m. l.within a c m;
+  corporation = omega (
+    arith,
+    ints,
+    positions_zero (accounts J) c J (sound_journal opening J l),
+    total_small (λ a. position J a c) (members J),
+    for_members opening J (λ a. unsigned_abs (position J a c)) position_limit l (λ a m. near _ _ _ (l.within a c m)),
+  );
+}
 
 -- ---- any commands
 
-reached-next : (S : State) (cmd : Command) → IsCommandInRange cmd → IsReached S.opening S.accepted → IsReached S.opening (next S cmd).accepted
-reached-next S cmd h1 h2 = grind arith
-
--- and so do commands
+-- commands in their ranges keep it so
 pub reached-from : (S : State) (cmds : List Command) → AllByRecursion IsCommandInRange cmds → IsReached S.opening S.accepted → IsReached S.opening (after S cmds).accepted
 reached-from S [] n r = r
-reached-from S (cmd ∷ cmds) n r = reached-from (next S cmd) cmds n.1 (reached-next S cmd n.0 r)
+reached-from S (cmd ∷ cmds) n r = grind (arith, reached-from (next S cmd) cmds n.1)
 
 -- what commands in their ranges reach
 pub reaches : Reaches

@@ -1,9 +1,7 @@
 -- Lists that strictly rise.
-use Rattle.std.proofs.Common.{◌≡◌, ap, refl, Bool, true, false, ◌&&◌, List, [], ◌∷◌, is_eq, is_lt, Ordering, Less}
-use Rattle.cns_terms.specs.Common.{IsTotalOrder, list_any}
-use Rattle.cns_terms.specs.Sums.{put}
-use Rattle.cns_terms.proofs.Facts.{and_left, and_right, both_true, less}
-use Rattle.std.proofs.Common.{arith}
+use Rattle.std.proofs.Common.{ℕ, ◌≤◌, nat_cmp, ◌≡◌, refl, Bool, true, false, ◌&&◌, List, [], ◌∷◌, is_eq, is_lt, Ordering, Less, arith}
+use Rattle.cns_terms.specs.Common.{AllByRecursion, IsTotalOrder, list_any}
+use Rattle.cns_terms.proofs.Facts.{both_true, less, nat_tests, put}
 
 -- whether x comes before each
 abbrev pub above_all : {K : Type 0} → (K → K → Ordering) → K → List K → Bool
@@ -15,11 +13,16 @@ abbrev pub is_rising : {K : Type 0} → (K → K → Ordering) → List K → Bo
 is_rising R [] = true
 is_rising R (x ∷ xs) = above_all R x xs && is_rising R xs
 
+-- what comes after 0 is 1 at least
+pub from_one : (bs : List ℕ) → above_all nat_cmp 0 bs ≡ true → AllByRecursion (λ b. 1 ≤ b) bs
+from_one [] h = tt
+from_one (b ∷ bs) h = grind (arith, nat_tests, from_one bs)
+
 module _ {K : Type 0} {R : K → K → Ordering} (o : IsTotalOrder R) where
   -- what comes before one that comes before all comes before all
   pub above_through : (x y : K) (ys : List K) → R x y ≡ Less → above_all R y ys ≡ true → above_all R x ys ≡ true
   above_through x y [] l h = refl
-  above_through x y (z ∷ ys) l h = both_true _ _ (ap is_lt (o.trans x y z l (less _ (and_left _ _ h)))) (above_through x y ys l (and_right _ _ h))
+  above_through x y (z ∷ ys) l h = grind (arith, o.trans x y z, less, above_through x y ys)
 
   -- one more put in its place stays above what comes before it
   pub above_put : (y x : K) (zs : List K) → is_lt (R y x) ≡ true → above_all R y zs ≡ true → above_all R y (put (λ a b. is_lt (R a b)) x zs) ≡ true

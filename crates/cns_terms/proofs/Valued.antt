@@ -1,22 +1,20 @@
 -- A value for each of some issues.
-use Rattle.std.proofs.Common.{◌≡◌, refl, true, cond, List, [], ◌∷◌, map, Some, None, bytes_eq, nat_cmp}
+use Rattle.std.proofs.Common.{◌≡◌, refl, true, cond, List, [], ◌∷◌, map, Some, None, bytes_eq, nat_cmp, arith}
 use Rattle.cns_terms.specs.Common.{Cusip, below_all, is_sorted, list_any, slice_cmp}
 use Rattle.std.specs.FinMap.{find}
-use Rattle.std.proofs.lemmas.Slice.Eq.{bytes_eq-Decides}
-use Rattle.cns_terms.proofs.Facts.{and_left, and_right, both_true, same_test}
+use Rattle.cns_terms.proofs.Facts.{bytes_eq-Decides, same_test}
 use Rattle.cns_terms.proofs.Rising.{above_all, is_rising}
-use Rattle.std.proofs.Common.{arith}
 
 module _ {X : Type 0} (p : Cusip → X) where
   -- what stands above an issue stands above it with its value
   above_with : (c : Cusip) (cs : List Cusip) → above_all (slice_cmp nat_cmp) c cs ≡ true → below_all (slice_cmp nat_cmp) c (map (λ d. (d, p d)) cs) ≡ true
   above_with c [] h = refl
-  above_with c (d ∷ cs) h = both_true _ _ (and_left _ _ h) (above_with c cs (and_right _ _ h))
+  above_with c (d ∷ cs) h = grind (arith, above_with c cs)
 
   -- values of issues in order are in that order
   pub sorted_with : (cs : List Cusip) → is_rising (slice_cmp nat_cmp) cs ≡ true → is_sorted (slice_cmp nat_cmp) (map (λ d. (d, p d)) cs) ≡ true
   sorted_with [] h = refl
-  sorted_with (c ∷ cs) h = both_true _ _ (above_with c cs (and_left _ _ h)) (sorted_with cs (and_right _ _ h))
+  sorted_with (c ∷ cs) h = grind (arith, above_with, sorted_with cs)
 
   -- the value of an issue among those of issues
   pub find_with : (c : Cusip) (cs : List Cusip) → find (slice_cmp nat_cmp) c (map (λ d. (d, p d)) cs) ≡ cond (list_any (λ d. bytes_eq d c) cs) (Some (p c)) None

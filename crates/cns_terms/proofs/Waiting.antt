@@ -1,23 +1,20 @@
 -- Trades that wait: what they add up to, and what they book.
-use Rattle.std.proofs.Common.{◌≡◌, ◌∙◌, ap, refl, ℕ, ◌+◌, ℤ, pos, ◌+ℤ◌, ◌-ℤ◌, neg_ℤ, Bool, true, false, not, ◌&&◌, ◌==◌, cond, List, [], ◌∷◌, filter, flat_map, reverse, sum_by, arith}
+use Rattle.std.proofs.Common.{◌≡◌, refl, ℕ, ◌+◌, pos, ◌-ℤ◌, neg_ℤ, Bool, false, not, ◌&&◌, ◌==◌, cond, List, [], ◌∷◌, filter, flat_map, reverse, sum_by, arith}
 use Rattle.cns_terms.specs.Common.{Account, Cusip, Day, Entry, Journal, Pend, bought_in, date, is_not_after, pending, same_issue, shares_for, sold_in, total, trade_entries, trades}
 use Rattle.std.proofs.lemmas.Grind.{reverse_onto}
-use Rattle.std.proofs.lemmas.Int.{ints}
-use Rattle.std.proofs.lemmas.List.Sums.{sum_by-cons}
 use Rattle.cns_terms.specs.Pending.{due, is_due}
 use Rattle.cns_terms.proofs.Magnitudes.{added, added-append, magnitude}
+use Rattle.cns_terms.proofs.Facts.{ints, sum_by-cons}
 
 -- a sum, term by term
 pub sum_added : {X : Type 0} (f : X → ℕ) (xs : List X) → sum_by f xs ≡ added f xs
 sum_added f [] = refl
-sum_added f (x ∷ xs) = sum_by-cons f x xs ∙ ap (λ n. f x + n) (sum_added f xs)
+sum_added f (x ∷ xs) = grind (arith, sum_by-cons f x xs, sum_added f xs)
 
 -- the same the other way round
 added-reverse : {X : Type 0} (f : X → ℕ) (xs : List X) → added f (reverse xs) ≡ added f xs
 added-reverse f [] = refl
 added-reverse f (x ∷ xs) = rw (reverse_onto xs x []) (omega (arith, added-append f (reverse xs) (x ∷ []), added-reverse f xs))
-
--- ---- what is settled at a close
 
 -- what waits on a day is what waits on a later one and what is due on that
 waits_or_due : (f : Pend → ℕ) (today next : Day) (ps : List Pend) → is_not_after next today ≡ false
@@ -50,13 +47,10 @@ sold_added ps a c = sum_added (sold_by a c) ps
 -- the shares that trades book for an account in an issue
 pub booked_shares : (a : Account) (c : Cusip) (ps : List Pend) → total (shares_for a c) (flat_map trade_entries ps) ≡ pos (added (bought_by a c) ps) -ℤ pos (added (sold_by a c) ps)
 booked_shares a c [] = refl
-booked_shares a c (p ∷ ps) = one ((p.buyer == a) && same_issue p.issue c) ((p.seller == a) && same_issue p.issue c) p.shares (added (bought_by a c) ps) (added (sold_by a c) ps) _ (booked_shares a c ps)
+booked_shares a c (p ∷ ps) = omega (arith, ints, booked_shares a c ps, either ((p.buyer == a) && same_issue p.issue c) p.shares, either ((p.seller == a) && same_issue p.issue c) p.shares)
   where
-    one : (t u : Bool) (n b s : ℕ) (r : ℤ) → r ≡ pos b -ℤ pos s → cond t (pos n) (pos 0) +ℤ (cond u (neg_ℤ (pos n)) (pos 0) +ℤ r) ≡ pos (cond t n 0 + b) -ℤ pos (cond u n 0 + s)
-    one true true n b s r e = omega (arith, ints, e)
-    one true false n b s r e = omega (arith, ints, e)
-    one false true n b s r e = omega (arith, ints, e)
-    one false false n b s r e = omega (arith, ints, e)
+    either : (b : Bool) (n : ℕ) → (cond b (pos n) (pos 0) ≡ pos (cond b n 0)) × (cond b (neg_ℤ (pos n)) (pos 0) ≡ neg_ℤ (pos (cond b n 0)))
+    either b n = grind arith
 
 -- the cents that they book, whatever their signs
 abbrev pub both_cents : Pend → ℕ

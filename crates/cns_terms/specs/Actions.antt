@@ -1,8 +1,6 @@
 -- The members whose positions splits and exchanges book.
 use Rattle.std.specs.Prelude.{◌≡◌, ◌≤◌, ℕ, ℤ, pos, Bool, true, false, not, ◌&&◌, ◌==◌, List, [], ◌∷◌}
-use Rattle.std.specs.List.{AllByRecursion, list_any}
-use Rattle.cns_units.specs.declared.account.Account.{Account}
-use Rattle.cns_units.specs.declared.account.Member.{Member}
+use Rattle.cns_terms.specs.Types.{AllByRecursion, list_any, Account, Member}
 use Rattle.cns_terms.specs.Limits.{member_limit}
 
 -- whether no number stands twice in a list

@@ -1,8 +1,6 @@
 -- Ages of shorts, which exchanges carry into the successor.
 use Rattle.std.specs.Prelude.{ℕ, zero, suc, ◌+◌, max, pos, int_lt, List, [], ◌∷◌, filter, filter_map, length, if◌then◌else◌, flat_map}
-use Rattle.cns_units.specs.declared.account.Account.{Account}
-use Rattle.cns_units.specs.declared.cusip.Cusip.{Cusip}
-use Rattle.cns_terms.specs.declared.action.Exchange.{Exchange}
+use Rattle.cns_terms.specs.Types.{Account, Cusip, Exchange}
 use Rattle.cns_terms.specs.Sums.{greatest, same_issue}
 use Rattle.cns_terms.specs.Postings.{Journal, activities}
 use Rattle.cns_terms.specs.Days.{closings, open_day}

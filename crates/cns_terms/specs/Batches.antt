@@ -1,8 +1,6 @@
 -- Retransmittal: the members that are liable for the notices of a day.
 use Rattle.std.specs.Prelude.{ℕ, Bool, ◌&&◌, ◌||◌, ◌==◌, nat_lt, List, ◌∷◌, filter, flat_map, map, sum_by, if◌then◌else◌}
-use Rattle.cns_units.specs.declared.account.Member.{Member}
-use Rattle.cns_units.specs.declared.cusip.Cusip.{Cusip}
-use Rattle.cns_terms.specs.declared.buy_in.Liable.{Liable}
+use Rattle.cns_terms.specs.Types.{Member, Cusip, Liable}
 use Rattle.cns_terms.specs.declared.buy_in.Short.{Short}
 use Rattle.cns_terms.specs.Sums.{in_order, same_issue, short}
 use Rattle.cns_terms.specs.Postings.{Journal}

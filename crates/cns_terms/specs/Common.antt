@@ -4,33 +4,26 @@ pub use Rattle.std.specs.Arc.{arc_value}
 pub use Rattle.std.specs.BTreeMap.{insert_entry}
 pub use Rattle.std.specs.BTreeMap.Range.{range_contains}
 pub use Rattle.std.specs.Cmp.{IsTotalOrder, tied_itself}
-pub use Rattle.std.specs.Cmp.Lexicographic.{slice_cmp}
+pub use Rattle.cns_terms.specs.Types.{Account, Activity, AllByRecursion, Command, Cusip, Day, Entry, Execution, Fill, Key, Liable, Member, Pend, Price, Ratio, Row, day_number, is_lt, list_any, nat_cmp, option_map_or, ordering_then, slice_cmp}
 pub use Rattle.std.specs.FinMap.{is_sorted}
 pub use Rattle.std.specs.FinMap.Entries.{below_all}
 pub use Rattle.std.specs.Int.{w128}
 pub use Rattle.std.specs.Io.KnownBytes.{Appends, Keeps}
 pub use Rattle.std.specs.Iterator.{YieldsFirst}
-pub use Rattle.std.specs.List.{AllByRecursion, AllWithin, cons_option, list_any, position_from}
+pub use Rattle.std.specs.List.{AllWithin, cons_option, position_from}
 pub use Rattle.std.specs.List.Sorted.{IsBinarySearchResult, IsNonDecreasingBy, IsPartitionPoint}
 pub use Rattle.std.specs.Map.{lookup}
-pub use Rattle.std.specs.Option.{ForSome, option_map_or, option_or}
-pub use Rattle.std.specs.Ordering.{is_eq, is_lt, match_ordering, nat_cmp, ordering_index, ordering_reverse, ordering_then}
+pub use Rattle.std.specs.Option.{ForSome, option_or}
+pub use Rattle.std.specs.Ordering.{is_eq, ordering_index}
 pub use Rattle.std.specs.Str.{all_ascii_digits}
 pub use Rattle.std.specs.Str.Parse.{digits_value}
 pub use Rattle.std.specs.declared.ops.Bound.TheVariants.{Included}
 pub use Rattle.std.specs.declared.thread.PromisedHandle.{PromisedHandle}
 pub use Rattle.cns_units.specs.Cents.{cents_text}
-pub use Rattle.cns_units.specs.Day.{day_number}
 pub use Rattle.cns_units.specs.Output.{AppendsFront}
 pub use Rattle.cns_units.specs.Words.{text_line}
-pub use Rattle.cns_units.specs.declared.account.Account.{Account}
-pub use Rattle.cns_units.specs.declared.account.Member.{Member}
-pub use Rattle.cns_units.specs.declared.cusip.Cusip.{Cusip}
-pub use Rattle.cns_units.specs.declared.day.Day.{Day}
 pub use Rattle.cns_units.specs.declared.fault.UnitFault.{UnitFault}
-pub use Rattle.cns_units.specs.declared.price.Price.{Price}
 pub use Rattle.cns_units.specs.declared.rate.Rate.{Rate}
-pub use Rattle.cns_units.specs.declared.ratio.Ratio.{Ratio}
 pub use Rattle.cns_terms.specs.Actions.{AreHolders}
 pub use Rattle.cns_terms.specs.Ages.{oldest}
 pub use Rattle.cns_terms.specs.Batches.{Liables, batch_at, called, chosen, fills_before, is_called, liable_of, short_of, shorts}
@@ -48,7 +41,7 @@ pub use Rattle.cns_terms.specs.Limits.{amount_limit, booking_limit, corporation_
 pub use Rattle.cns_terms.specs.Listings.{account_lt, accounts, exchanged, is_account, is_listed, is_member, is_retired, is_seen, issue_lt, issues, members, price, priced}
 pub use Rattle.cns_terms.specs.Machine.{State, after, answer, answer_to, next, opened}
 pub use Rattle.cns_terms.specs.Marks.{mark}
-pub use Rattle.cns_terms.specs.Notices.{Notice, execution, first_reached, is_given, is_live, is_so, notice, notice_at, noticed, notices, receipt, remaining, shares_executed, stage, what_remains}
+pub use Rattle.cns_terms.specs.Notices.{Notice, execution, first_reached, is_given, is_live, notice, notice_at, noticed, notices, receipt, remaining, shares_executed, stage, what_remains}
 pub use Rattle.cns_terms.specs.Pending.{bought_in, pend_of, pending, sold_in, trades, waits_in}
 pub use Rattle.cns_terms.specs.Positions.{cents_for, money, shares_for}
 pub use Rattle.cns_terms.specs.Postings.{Journal, Posting, activities}
@@ -58,13 +51,4 @@ pub use Rattle.cns_terms.specs.Sheets.{DaySheet, day_sheet, is_idle, row, rows_f
 pub use Rattle.cns_terms.specs.Sources.{Told}
 pub use Rattle.cns_terms.specs.Sums.{changed_at, greatest, in_order, long, same_issue, short, total}
 pub use Rattle.cns_terms.specs.declared.action.Declared.{Declared}
-pub use Rattle.cns_terms.specs.declared.buy_in.Execution.{Execution}
-pub use Rattle.cns_terms.specs.declared.buy_in.Fill.{Fill}
-pub use Rattle.cns_terms.specs.declared.buy_in.Liable.{Liable}
 pub use Rattle.cns_terms.specs.declared.buy_in.Short.{Short}
-pub use Rattle.cns_terms.specs.declared.command.Activity.{Activity}
-pub use Rattle.cns_terms.specs.declared.command.Command.{Command}
-pub use Rattle.cns_terms.specs.declared.holding.Entry.{Entry}
-pub use Rattle.cns_terms.specs.declared.holding.Key.{Key}
-pub use Rattle.cns_terms.specs.declared.pend.Pend.{Pend}
-pub use Rattle.cns_terms.specs.declared.sheet.Row.{Row}

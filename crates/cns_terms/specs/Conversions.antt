@@ -1,7 +1,6 @@
 -- What shares become in a split or an exchange.
 use Rattle.std.specs.Prelude.{ℤ, pos, ◌+ℤ◌, ◌-ℤ◌, ◌*ℤ◌, int_div}
-use Rattle.cns_units.specs.declared.price.Price.{Price}
-use Rattle.cns_units.specs.declared.ratio.Ratio.{Ratio}
+use Rattle.cns_terms.specs.Types.{Price, Ratio}
 
 -- the whole new shares for q old ones, cut towards zero
 abbrev pub converted : Ratio → ℤ → ℤ

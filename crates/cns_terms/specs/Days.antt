@@ -1,10 +1,6 @@
 -- Days of the book, and the journal as each close found it.
 use Rattle.std.specs.Prelude.{ℕ, ◌+◌, Bool, List, [], ◌∷◌, length, Option, Some, None, is_some, unwrap_or, find, ◌==◌, slice_get, int_le, if◌then◌else◌}
-use Rattle.std.specs.Ordering.{int_eq}
-use Rattle.cns_units.specs.declared.day.Day.{Day}
-use Rattle.cns_terms.specs.declared.command.Activity.{Activity}
-use Rattle.cns_terms.specs.declared.command.Activity.TheVariants as activity
-use Rattle.cns_units.specs.Day.{day_number}
+use Rattle.cns_terms.specs.Types.{int_eq, Day, Activity, day_number}
 use Rattle.cns_terms.specs.Postings.{Journal}
 
 -- whether two days are the same, by their numbers
@@ -17,7 +13,7 @@ is_not_after d e = int_le (day_number d) (day_number e)
 
 -- the date that a CLOSE names
 abbrev pub next_date : Activity → Option Day
-next_date (activity.Close d) = Some d
+next_date (Activity.Close d) = Some d
 next_date _ = None
 
 -- whether an activity ends a day

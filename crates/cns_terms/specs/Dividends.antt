@@ -1,14 +1,8 @@
 -- Dividends: what is paid, and when.
 use Rattle.std.specs.Prelude.{ℤ, pos, ◌*ℤ◌, neg_ℤ, int_div, int_lt, Bool, true, not, ◌&&◌, ◌==◌, List, [], Option, Some, None, option_map, unwrap_or, find, filter, filter_map, slice_get, if◌then◌else◌}
-use Rattle.std.specs.Option.{option_map_or}
-use Rattle.cns_units.specs.Day.{day_number}
-use Rattle.cns_units.specs.declared.account.Account.{Account}
-use Rattle.cns_units.specs.declared.cusip.Cusip.{Cusip}
-use Rattle.cns_units.specs.declared.day.Day.{Day}
+use Rattle.cns_terms.specs.Types.{option_map_or, day_number, Account, Cusip, Day, Activity}
 use Rattle.cns_units.specs.declared.rate.Rate.{Rate}
 use Rattle.cns_terms.specs.declared.action.Declared.{Declared}
-use Rattle.cns_terms.specs.declared.command.Activity.{Activity}
-use Rattle.cns_terms.specs.declared.command.Activity.TheVariants as activity
 use Rattle.cns_terms.specs.Sums.{total, same_issue}
 use Rattle.cns_terms.specs.Postings.{Journal, activities}
 use Rattle.cns_terms.specs.Days.{closings, date, is_not_after}
@@ -18,7 +12,7 @@ use Rattle.cns_terms.specs.Entries.{corporation}
 
 -- the dividend that an activity declares
 abbrev pub declared : Activity → Option Declared
-declared (activity.Dividend d) = Some d
+declared (Activity.Dividend d) = Some d
 declared _ = None
 
 -- the dividends that were declared, the newest first

@@ -1,20 +1,7 @@
 -- What accepted activities book.
 use Rattle.std.specs.Prelude.{ℤ, pos, ◌-ℤ◌, neg_ℤ, not, List, [], ◌∷◌, ◌++◌, map, filter, if◌then◌else◌, flat_map}
-use Rattle.std.specs.Option.{option_map_or}
-use Rattle.std.specs.Ordering.{int_eq}
-use Rattle.cns_units.specs.declared.account.Account.{Account}
-use Rattle.cns_units.specs.declared.account.Member.{Member}
-use Rattle.cns_units.specs.declared.cusip.Cusip.{Cusip}
-use Rattle.cns_units.specs.declared.day.Day.{Day}
-use Rattle.cns_terms.specs.declared.action.Exchange.{Exchange}
+use Rattle.cns_terms.specs.Types.{option_map_or, int_eq, Account, Member, Cusip, Day, Exchange, Execution, Fill, Activity, Movement, Entry, Pend}
 use Rattle.cns_terms.specs.declared.action.Split.{Split}
-use Rattle.cns_terms.specs.declared.buy_in.Execution.{Execution}
-use Rattle.cns_terms.specs.declared.buy_in.Fill.{Fill}
-use Rattle.cns_terms.specs.declared.command.Activity.{Activity}
-use Rattle.cns_terms.specs.declared.command.Movement.{Movement}
-use Rattle.cns_terms.specs.declared.command.Activity.TheVariants as activity
-use Rattle.cns_terms.specs.declared.holding.Entry.{Entry}
-use Rattle.cns_terms.specs.declared.pend.Pend.{Pend}
 use Rattle.cns_terms.specs.Conversions.{converted, in_lieu, in_exchange}
 use Rattle.cns_terms.specs.Days.{date, is_not_after}
 use Rattle.cns_terms.specs.Fills.{fills}
@@ -99,19 +86,19 @@ execution_entries J x k = originator_entry x k ∷ map (fill_entry k) (fills J x
 -- date or a later one; a delivery raises the member's position, a receipt the corporation's; splits and exchanges book for
 -- all who have a position
 abbrev pub entries : Day → Journal → Activity → List Entry
-entries opening J (activity.Member m) = []
-entries opening J (activity.Issue l) = []
-entries opening J (activity.Trade t) = if is_not_after t.date (date opening J) then trade_entries (pend_of t) else []
-entries opening J (activity.Price l) = []
-entries opening J (activity.Deliver m) = moved_in m.member m ∷ moved_out corporation m ∷ []
-entries opening J (activity.Receive m) = moved_out m.member m ∷ moved_in corporation m ∷ []
-entries opening J (activity.Dividend d) = []
-entries opening J (activity.Split s) = split_entries s (λ a. position J a s.issue) (members J)
-entries opening J (activity.Exchange x) = exchange_entries x (λ a. position J a x.old) (members J)
-entries opening J (activity.Notice m) = []
-entries opening J (activity.Withdraw k) = []
-entries opening J (activity.Execute x) = option_map_or (execution_entries J x) (notice_at J x.notice) []
-entries opening J (activity.Close d) = flat_map trade_entries (due opening J d)
+entries opening J (Activity.Member m) = []
+entries opening J (Activity.Issue l) = []
+entries opening J (Activity.Trade t) = if is_not_after t.date (date opening J) then trade_entries (pend_of t) else []
+entries opening J (Activity.Price l) = []
+entries opening J (Activity.Deliver m) = moved_in m.member m ∷ moved_out corporation m ∷ []
+entries opening J (Activity.Receive m) = moved_out m.member m ∷ moved_in corporation m ∷ []
+entries opening J (Activity.Dividend d) = []
+entries opening J (Activity.Split s) = split_entries s (λ a. position J a s.issue) (members J)
+entries opening J (Activity.Exchange x) = exchange_entries x (λ a. position J a x.old) (members J)
+entries opening J (Activity.Notice m) = []
+entries opening J (Activity.Withdraw k) = []
+entries opening J (Activity.Execute x) = option_map_or (execution_entries J x) (notice_at J x.notice) []
+entries opening J (Activity.Close d) = flat_map trade_entries (due opening J d)
 
 -- an activity with the entries that it books on a journal
 abbrev pub posting : Day → Journal → Activity → Posting

@@ -1,10 +1,7 @@
 -- Histories: the commands that were taken, with their replies, the newest first.
 use Rattle.std.specs.Prelude.{ℕ, ◌≡◌, ◌+◌, ◌==◌, List, [], ◌∷◌, ◌++◌, ⊤, count_by}
-use Rattle.cns_units.specs.declared.day.Day.{Day}
-use Rattle.cns_terms.specs.declared.command.Activity.{Activity}
-use Rattle.cns_terms.specs.declared.command.Command.{Command}
+use Rattle.cns_terms.specs.Types.{Day, Activity, Command, Reply}
 use Rattle.cns_terms.specs.declared.history.Taken.{Taken}
-use Rattle.cns_terms.specs.declared.reply.Reply.{Reply}
 use Rattle.cns_terms.specs.declared.worker.Worker.{Worker}
 use Rattle.cns_terms.specs.Machine.{State, accepted_after, answer}
 

@@ -1,9 +1,7 @@
 -- What stands at a key, and what a POSITION tells of it.
 use Rattle.std.specs.Prelude.{ℕ, max}
-use Rattle.cns_units.specs.declared.account.Account.{Account}
-use Rattle.cns_units.specs.declared.cusip.Cusip.{Cusip}
+use Rattle.cns_terms.specs.Types.{Account, Cusip, Key}
 use Rattle.cns_terms.specs.declared.holding.Holding.{Holding}
-use Rattle.cns_terms.specs.declared.holding.Key.{Key}
 use Rattle.cns_terms.specs.declared.reply.Held.{Held}
 use Rattle.cns_terms.specs.Ages.{age, carried}
 use Rattle.cns_terms.specs.Days.{last_close}

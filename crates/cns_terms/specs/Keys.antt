@@ -1,8 +1,6 @@
 -- The order of keys.
 use Rattle.std.specs.declared.cmp.Ordering.{Ordering}
-use Rattle.std.specs.Cmp.Lexicographic.{slice_cmp}
-use Rattle.std.specs.Ordering.{nat_cmp, ordering_then}
-use Rattle.cns_terms.specs.declared.holding.Key.{Key}
+use Rattle.cns_terms.specs.Types.{slice_cmp, nat_cmp, ordering_then, Key}
 
 -- by account, and then by the bytes of the issue
 abbrev pub key_cmp : Key → Key → Ordering

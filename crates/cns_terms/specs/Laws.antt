@@ -1,13 +1,6 @@
 -- The laws of the definitions, over any list of commands.
 use Rattle.std.specs.Prelude.{ℕ, ◌≡◌, ◌≤◌, ◌<◌, ℤ, pos, ◌*ℤ◌, unsigned_abs, nat_lt, Bool, true, ◌&&◌, List, [], ◌∷◌, length, map, slice_get, take, Some}
-use Rattle.std.specs.List.{AllByRecursion}
-use Rattle.std.specs.Option.{option_map_or}
-use Rattle.cns_units.specs.declared.account.Account.{Account}
-use Rattle.cns_units.specs.declared.cusip.Cusip.{Cusip}
-use Rattle.cns_units.specs.declared.day.Day.{Day}
-use Rattle.cns_terms.specs.declared.command.Activity.{Activity}
-use Rattle.cns_terms.specs.declared.command.Command.{Command}
-use Rattle.cns_terms.specs.declared.sheet.Row.{Row}
+use Rattle.cns_terms.specs.Types.{AllByRecursion, option_map_or, Account, Cusip, Day, Activity, Command, Row}
 use Rattle.cns_terms.specs.Pending.{bought_in, pending, sold_in}
 use Rattle.cns_terms.specs.Sums.{total}
 use Rattle.cns_terms.specs.Postings.{Journal}

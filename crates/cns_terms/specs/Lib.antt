@@ -1,3 +1,4 @@
+pub mod Types
 pub mod Sums
 pub mod Postings
 pub mod Keys

@@ -1,50 +1,39 @@
 -- Members, issues, prices, retired issues and references.
 use Rattle.std.specs.Prelude.{◌∷◌, ℕ, Bool, ◌==◌, List, Option, Some, None, find, filter_map, map}
-use Rattle.std.specs.List.{list_any}
-use Rattle.std.specs.Option.{option_map_or}
-use Rattle.std.specs.Ordering.{nat_cmp, is_lt}
-use Rattle.std.specs.Cmp.Lexicographic.{slice_cmp}
-use Rattle.cns_units.specs.declared.account.Account.{Account}
-use Rattle.cns_units.specs.declared.account.Member.{Member}
-use Rattle.cns_units.specs.declared.cusip.Cusip.{Cusip}
-use Rattle.cns_units.specs.declared.price.Price.{Price}
-use Rattle.cns_terms.specs.declared.action.Exchange.{Exchange}
-use Rattle.cns_terms.specs.declared.command.Activity.{Activity}
-use Rattle.cns_terms.specs.declared.command.Activity.TheVariants as activity
+use Rattle.cns_terms.specs.Types.{list_any, option_map_or, nat_cmp, is_lt, slice_cmp, Account, Member, Cusip, Price, Exchange, Activity, Trade}
 use Rattle.cns_terms.specs.declared.command.Listing.{Listing}
-use Rattle.cns_terms.specs.declared.command.Trade.{Trade}
 use Rattle.cns_terms.specs.Sums.{same_issue, in_order}
 use Rattle.cns_terms.specs.Postings.{Journal, activities}
 
 -- the member that an activity adds
 abbrev pub added : Activity → Option Member
-added (activity.Member m) = Some m
+added (Activity.Member m) = Some m
 added _ = None
 
 -- the listing that an activity makes
 abbrev pub listed : Activity → Option Listing
-listed (activity.Issue l) = Some l
+listed (Activity.Issue l) = Some l
 listed _ = None
 
 -- the listing by which an activity sets a price
 abbrev pub priced : Activity → Option Listing
-priced (activity.Issue l) = Some l
-priced (activity.Price l) = Some l
+priced (Activity.Issue l) = Some l
+priced (Activity.Price l) = Some l
 priced _ = None
 
 -- the trade that an activity is
 abbrev pub traded : Activity → Option Trade
-traded (activity.Trade t) = Some t
+traded (Activity.Trade t) = Some t
 traded _ = None
 
 -- the exchange that an activity is
 abbrev pub exchanged : Activity → Option Exchange
-exchanged (activity.Exchange x) = Some x
+exchanged (Activity.Exchange x) = Some x
 exchanged _ = None
 
 -- the issue that an activity replaces by its successor
 abbrev pub replaced : Activity → Option Cusip
-replaced (activity.Exchange x) = Some x.old
+replaced (Activity.Exchange x) = Some x.old
 replaced _ = None
 
 -- the order of accounts, by their numbers

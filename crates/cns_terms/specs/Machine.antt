@@ -1,13 +1,6 @@
 -- The machine that keeps only the accepted activities and recomputes.
 use Rattle.std.specs.Prelude.{List, [], ◌∷◌, length, ◌+◌, is_none, if◌then◌else◌}
-use Rattle.std.specs.Option.{option_map_or}
-use Rattle.cns_units.specs.declared.day.Day.{Day}
-use Rattle.cns_terms.specs.declared.command.Activity.{Activity}
-use Rattle.cns_terms.specs.declared.command.Activity.TheVariants as activity
-use Rattle.cns_terms.specs.declared.command.Command.{Command}
-use Rattle.cns_terms.specs.declared.command.Command.TheVariants as command
-use Rattle.cns_terms.specs.declared.reply.Reply.{Reply}
-use Rattle.cns_terms.specs.declared.reply.Reply.TheVariants as reply
+use Rattle.cns_terms.specs.Types.{option_map_or, Day, Activity, Command, Reply}
 use Rattle.cns_terms.specs.Postings.{Journal}
 use Rattle.cns_terms.specs.Days.{day, date}
 use Rattle.cns_terms.specs.Batches.{liable_at}
@@ -29,19 +22,19 @@ opened d = record { opening = d; accepted = [] }
 
 -- the reply to an activity that is not refused
 abbrev pub activity_reply : Day → Journal → Activity → Reply
-activity_reply opening J (activity.Member m) = reply.Accepted
-activity_reply opening J (activity.Issue l) = reply.Accepted
-activity_reply opening J (activity.Trade t) = reply.Accepted
-activity_reply opening J (activity.Price l) = reply.Accepted
-activity_reply opening J (activity.Deliver m) = reply.Accepted
-activity_reply opening J (activity.Receive m) = reply.Accepted
-activity_reply opening J (activity.Dividend d) = reply.Accepted
-activity_reply opening J (activity.Split s) = reply.Accepted
-activity_reply opening J (activity.Exchange x) = reply.Accepted
-activity_reply opening J (activity.Notice m) = reply.Noticed (length (notices J) + 1)
-activity_reply opening J (activity.Withdraw k) = reply.Accepted
-activity_reply opening J (activity.Execute x) = reply.Executed (option_map_or (λ n. length (fills J x n)) (notice_at J x.notice) 0)
-activity_reply opening J (activity.Close d) = reply.Closed (record {
+activity_reply opening J (Activity.Member m) = Reply.Accepted
+activity_reply opening J (Activity.Issue l) = Reply.Accepted
+activity_reply opening J (Activity.Trade t) = Reply.Accepted
+activity_reply opening J (Activity.Price l) = Reply.Accepted
+activity_reply opening J (Activity.Deliver m) = Reply.Accepted
+activity_reply opening J (Activity.Receive m) = Reply.Accepted
+activity_reply opening J (Activity.Dividend d) = Reply.Accepted
+activity_reply opening J (Activity.Split s) = Reply.Accepted
+activity_reply opening J (Activity.Exchange x) = Reply.Accepted
+activity_reply opening J (Activity.Notice m) = Reply.Noticed (length (notices J) + 1)
+activity_reply opening J (Activity.Withdraw k) = Reply.Accepted
+activity_reply opening J (Activity.Execute x) = Reply.Executed (option_map_or (λ n. length (fills J x n)) (notice_at J x.notice) 0)
+activity_reply opening J (Activity.Close d) = Reply.Closed (record {
   day = day J;
   date = date opening J;
   rows = length (sheet_rows opening J);
@@ -50,13 +43,13 @@ activity_reply opening J (activity.Close d) = reply.Closed (record {
 
 -- the reply to a command that is not refused
 abbrev pub command_reply : Day → Journal → Command → Reply
-command_reply opening J (command.Activity x) = activity_reply opening J x
-command_reply opening J (command.Position k) = reply.Held (held_of k (holding J k.account k.issue))
-command_reply opening J (command.Statement a d) = reply.Stated (statement (sheet_named opening J d) a)
+command_reply opening J (Command.Activity x) = activity_reply opening J x
+command_reply opening J (Command.Position k) = Reply.Held (held_of k (holding J k.account k.issue))
+command_reply opening J (Command.Statement a d) = Reply.Stated (statement (sheet_named opening J d) a)
 
 -- the reply to a command over a journal
 abbrev pub answer_over : Day → Journal → Command → Reply
-answer_over opening J cmd = option_map_or reply.Refused (refusal opening J cmd) (command_reply opening J cmd)
+answer_over opening J cmd = option_map_or Reply.Refused (refusal opening J cmd) (command_reply opening J cmd)
 
 -- the reply to a command over accepted activities
 abbrev pub answer_to : Day → List Activity → Command → Reply
@@ -64,9 +57,9 @@ answer_to opening L cmd = answer_over opening (journal opening L) cmd
 
 -- the accepted activities after a command: a refused command and a query change nothing
 abbrev pub accepted_after : Day → List Activity → Command → List Activity
-accepted_after opening L (command.Activity x) = if is_none (refusal opening (journal opening L) (command.Activity x)) then x ∷ L else L
-accepted_after opening L (command.Position k) = L
-accepted_after opening L (command.Statement a d) = L
+accepted_after opening L (Command.Activity x) = if is_none (refusal opening (journal opening L) (Command.Activity x)) then x ∷ L else L
+accepted_after opening L (Command.Position k) = L
+accepted_after opening L (Command.Statement a d) = L
 
 -- the reply to a command
 abbrev pub answer : State → Command → Reply

@@ -1,7 +1,6 @@
 -- The mark of a day: the current market value less that of the close before, and the cents booked.
 use Rattle.std.specs.Prelude.{ℤ, pos, ◌+ℤ◌, ◌-ℤ◌, ◌*ℤ◌}
-use Rattle.cns_units.specs.declared.account.Account.{Account}
-use Rattle.cns_units.specs.declared.cusip.Cusip.{Cusip}
+use Rattle.cns_terms.specs.Types.{Account, Cusip}
 use Rattle.cns_terms.specs.Postings.{Journal}
 use Rattle.cns_terms.specs.Days.{last_close}
 use Rattle.cns_terms.specs.Positions.{position, money}

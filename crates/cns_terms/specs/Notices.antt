@@ -1,15 +1,9 @@
 -- Notices of intention to buy in, and what remains of them.
 use Rattle.std.specs.Prelude.{ℕ, ◌+◌, ◌-◌, min, ℤ, Bool, true, false, ◌&&◌, ◌==◌, nat_le, List, [], ◌∷◌, ◌++◌, length, Option, Some, None, find, if◌then◌else◌}
-use Rattle.std.specs.Option.{option_map_or}
-use Rattle.cns_units.specs.declared.cusip.Cusip.{Cusip}
-use Rattle.cns_units.specs.declared.account.Member.{Member}
-use Rattle.cns_terms.specs.declared.buy_in.Execution.{Execution}
+use Rattle.cns_terms.specs.Types.{option_map_or, Cusip, Member, Execution, Activity, Movement}
 use Rattle.cns_terms.specs.declared.buy_in.Given.{Given}
 use Rattle.cns_terms.specs.declared.buy_in.Stage.{Stage}
 use Rattle.cns_terms.specs.declared.buy_in.Stage.TheVariants.{Live, Withdrawn, Ended, Expired}
-use Rattle.cns_terms.specs.declared.command.Activity.{Activity}
-use Rattle.cns_terms.specs.declared.command.Activity.TheVariants as activity
-use Rattle.cns_terms.specs.declared.command.Movement.{Movement}
 use Rattle.cns_terms.specs.Sums.{long, same_issue}
 use Rattle.cns_terms.specs.Postings.{Journal}
 use Rattle.cns_terms.specs.Days.{day}
@@ -19,17 +13,17 @@ use Rattle.cns_terms.specs.Positions.{position}
 
 -- what an activity notices: the member, the issue and the shares
 abbrev pub noticed : Activity → Option Movement
-noticed (activity.Notice m) = Some m
+noticed (Activity.Notice m) = Some m
 noticed _ = None
 
 -- the movement by which a member receives
 abbrev pub received : Activity → Option Movement
-received (activity.Receive m) = Some m
+received (Activity.Receive m) = Some m
 received _ = None
 
 -- the execution that an activity is
 abbrev pub executed : Activity → Option Execution
-executed (activity.Execute x) = Some x
+executed (Activity.Execute x) = Some x
 executed _ = None
 
 -- ---- the notices
@@ -71,10 +65,10 @@ is_live Expired = false
 
 -- what an activity makes of a live notice; the number is that of the day on which it is accepted
 abbrev pub stage_by : Notice → ℕ → Activity → Stage
-stage_by n today (activity.Split s) = if same_issue s.issue n.given.issue then Ended else Live
-stage_by n today (activity.Exchange x) = if same_issue x.old n.given.issue then Ended else Live
-stage_by n today (activity.Withdraw k) = if k == n.number then Withdrawn else Live
-stage_by n today (activity.Close d) = if today == n.given.day + 2 then Expired else Live
+stage_by n today (Activity.Split s) = if same_issue s.issue n.given.issue then Ended else Live
+stage_by n today (Activity.Exchange x) = if same_issue x.old n.given.issue then Ended else Live
+stage_by n today (Activity.Withdraw k) = if k == n.number then Withdrawn else Live
+stage_by n today (Activity.Close d) = if today == n.given.day + 2 then Expired else Live
 stage_by n today _ = Live
 
 -- the stage that was reached first

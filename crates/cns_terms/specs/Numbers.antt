@@ -1,6 +1,6 @@
 -- The numbers of refusals.
 use Rattle.std.specs.Prelude.{ℕ}
-use Rattle.cns_terms.specs.declared.refusal.Refusal.{Refusal}
+use Rattle.cns_terms.specs.Types.{Refusal}
 use Rattle.cns_terms.specs.declared.refusal.Refusal.TheVariants.{MemberExists, NoSuchMember, IssueExists, NoSuchIssue, Retired, SameParty, SameIssue, WrongDay, SeenReference, ExceedsPosition, NotOnHand, NotLong, AlreadyNoticed, NoSuchNotice, NotLive, TooEarly, NotLiable, TooLarge, NoSuchDay, PendingTrades}
 
 -- the number by which a refusal is written, and by which the first of several is found

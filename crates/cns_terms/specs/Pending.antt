@@ -1,11 +1,6 @@
 -- Trades that wait for their date.
 use Rattle.std.specs.Prelude.{ℕ, Bool, not, ◌&&◌, ◌==◌, List, filter, filter_map, map, reverse, sum_by, if◌then◌else◌}
-use Rattle.std.specs.List.{list_any}
-use Rattle.cns_units.specs.declared.account.Account.{Account}
-use Rattle.cns_units.specs.declared.cusip.Cusip.{Cusip}
-use Rattle.cns_units.specs.declared.day.Day.{Day}
-use Rattle.cns_terms.specs.declared.command.Trade.{Trade}
-use Rattle.cns_terms.specs.declared.pend.Pend.{Pend}
+use Rattle.cns_terms.specs.Types.{list_any, Account, Cusip, Day, Trade, Pend}
 use Rattle.cns_terms.specs.Sums.{same_issue}
 use Rattle.cns_terms.specs.Postings.{Journal, activities}
 use Rattle.cns_terms.specs.Days.{date, is_not_after}

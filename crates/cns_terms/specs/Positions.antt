@@ -1,8 +1,6 @@
 -- Positions, and the cents of the open day.
 use Rattle.std.specs.Prelude.{ℤ, pos, ◌&&◌, ◌==◌, if◌then◌else◌}
-use Rattle.cns_units.specs.declared.account.Account.{Account}
-use Rattle.cns_units.specs.declared.cusip.Cusip.{Cusip}
-use Rattle.cns_terms.specs.declared.holding.Entry.{Entry}
+use Rattle.cns_terms.specs.Types.{Account, Cusip, Entry}
 use Rattle.cns_terms.specs.Sums.{total, same_issue}
 use Rattle.cns_terms.specs.Postings.{Journal}
 use Rattle.cns_terms.specs.Days.{open_day}

@@ -1,7 +1,6 @@
 -- The journal: each accepted activity with the entries that it booked.
 use Rattle.std.specs.Prelude.{List, map}
-use Rattle.cns_terms.specs.declared.command.Activity.{Activity}
-use Rattle.cns_terms.specs.declared.holding.Entry.{Entry}
+use Rattle.cns_terms.specs.Types.{Activity, Entry}
 
 -- an accepted activity, with the entries that it booked
 pub record Posting : Type 0 where

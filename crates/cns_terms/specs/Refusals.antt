@@ -1,18 +1,6 @@
 -- What is refused, and why.
 use Rattle.std.specs.Prelude.{ℕ, ◌+◌, is_none, is_some, ℤ, pos, ◌+ℤ◌, neg_ℤ, int_lt, int_le, Bool, not, ◌&&◌, ◌||◌, ◌==◌, nat_lt, List, [], ◌∷◌, Option, option_map, find}
-use Rattle.std.specs.List.{list_any}
-use Rattle.std.specs.Option.{option_map_or}
-use Rattle.cns_units.specs.Day.{day_number}
-use Rattle.cns_units.specs.declared.account.Account.{Account}
-use Rattle.cns_units.specs.declared.cusip.Cusip.{Cusip}
-use Rattle.cns_units.specs.declared.day.Day.{Day}
-use Rattle.cns_terms.specs.declared.command.Activity.{Activity}
-use Rattle.cns_terms.specs.declared.command.Activity.TheVariants as activity
-use Rattle.cns_terms.specs.declared.command.Command.{Command}
-use Rattle.cns_terms.specs.declared.command.Command.TheVariants as command
-use Rattle.cns_terms.specs.declared.holding.Entry.{Entry}
-use Rattle.cns_terms.specs.declared.pend.Pend.{Pend}
-use Rattle.cns_terms.specs.declared.refusal.Refusal.{Refusal}
+use Rattle.cns_terms.specs.Types.{list_any, option_map_or, day_number, Account, Cusip, Day, Activity, Command, Entry, Pend, Refusal}
 use Rattle.cns_terms.specs.declared.refusal.Refusal.TheVariants.{MemberExists, NoSuchMember, IssueExists, NoSuchIssue, Retired, SameParty, SameIssue, WrongDay, SeenReference, ExceedsPosition, NotOnHand, NotLong, AlreadyNoticed, NoSuchNotice, NotLive, TooEarly, NotLiable, TooLarge, NoSuchDay, PendingTrades}
 use Rattle.cns_terms.specs.Sums.{long, same_issue, short, total}
 use Rattle.cns_terms.specs.Postings.{Journal}
@@ -46,7 +34,7 @@ are_too_large before ps es = list_any (is_too_large_at before ps es) es
 
 -- where an activity may take a member beyond its limit: a trade also where it books later
 abbrev pub places : Day → Journal → Activity → List Entry
-places opening J (activity.Trade t) = trade_entries (pend_of t)
+places opening J (Activity.Trade t) = trade_entries (pend_of t)
 places opening J x = entries opening J x
 
 -- whether the whole activity does so
@@ -72,67 +60,67 @@ is_too_far d today = int_lt (day_number today +ℤ pos days_ahead) (day_number d
 
 -- the rules of an activity, by the refusal's number
 abbrev pub rules : Day → Journal → Activity → List Rule
-rules opening J (activity.Member m) = (MemberExists, is_account J m) ∷ []
-rules opening J (activity.Issue l) = (IssueExists, is_listed J l.issue) ∷ []
-rules opening J (activity.Trade t) =
+rules opening J (Activity.Member m) = (MemberExists, is_account J m) ∷ []
+rules opening J (Activity.Issue l) = (IssueExists, is_listed J l.issue) ∷ []
+rules opening J (Activity.Trade t) =
     (NoSuchMember, not (is_member J t.buyer && is_member J t.seller))
     ∷ (NoSuchIssue, not (is_listed J t.issue))
     ∷ (Retired, is_retired J t.issue)
     ∷ (SameParty, t.buyer == t.seller)
     ∷ (WrongDay, is_past t.date (date opening J) || is_too_far t.date (date opening J))
     ∷ (SeenReference, is_seen J t.reference)
-    ∷ (TooLarge, is_too_large opening J (activity.Trade t)) ∷ []
-rules opening J (activity.Price l) = (NoSuchIssue, not (is_listed J l.issue)) ∷ (Retired, is_retired J l.issue) ∷ []
-rules opening J (activity.Deliver m) =
+    ∷ (TooLarge, is_too_large opening J (Activity.Trade t)) ∷ []
+rules opening J (Activity.Price l) = (NoSuchIssue, not (is_listed J l.issue)) ∷ (Retired, is_retired J l.issue) ∷ []
+rules opening J (Activity.Deliver m) =
     (NoSuchMember, not (is_member J m.member))
     ∷ (NoSuchIssue, not (is_listed J m.issue))
     ∷ (Retired, is_retired J m.issue)
     ∷ (ExceedsPosition, nat_lt (short (position J m.member m.issue)) m.shares) ∷ []
-rules opening J (activity.Receive m) =
+rules opening J (Activity.Receive m) =
     (NoSuchMember, not (is_member J m.member))
     ∷ (NoSuchIssue, not (is_listed J m.issue))
     ∷ (Retired, is_retired J m.issue)
     ∷ (ExceedsPosition, is_exceeded (position J m.member m.issue) m.shares)
     ∷ (NotOnHand, int_lt (neg_ℤ (pos m.shares)) (position J corporation m.issue))
     ∷ (NotLong, int_le (position J m.member m.issue) (pos 0)) ∷ []
-rules opening J (activity.Dividend d) =
+rules opening J (Activity.Dividend d) =
     (NoSuchIssue, not (is_listed J d.issue))
     ∷ (Retired, is_retired J d.issue)
     ∷ (WrongDay, is_past d.recorded (date opening J) || is_not_after d.payable d.recorded) ∷ []
-rules opening J (activity.Split s) =
+rules opening J (Activity.Split s) =
     (NoSuchIssue, not (is_listed J s.issue))
     ∷ (Retired, is_retired J s.issue)
-    ∷ (TooLarge, is_too_large opening J (activity.Split s)) ∷ []
-rules opening J (activity.Exchange x) =
+    ∷ (TooLarge, is_too_large opening J (Activity.Split s)) ∷ []
+rules opening J (Activity.Exchange x) =
     (NoSuchIssue, not (is_listed J x.old && is_listed J x.successor))
     ∷ (Retired, is_retired J x.old || is_retired J x.successor)
     ∷ (SameIssue, same_issue x.old x.successor)
-    ∷ (TooLarge, is_too_large opening J (activity.Exchange x))
+    ∷ (TooLarge, is_too_large opening J (Activity.Exchange x))
     ∷ (PendingTrades, waits_in (pending opening J) x.old) ∷ []
-rules opening J (activity.Notice m) =
+rules opening J (Activity.Notice m) =
     (NoSuchMember, not (is_member J m.member))
     ∷ (NoSuchIssue, not (is_listed J m.issue))
     ∷ (Retired, is_retired J m.issue)
     ∷ (ExceedsPosition, is_exceeded (position J m.member m.issue) m.shares)
     ∷ (NotLong, int_le (position J m.member m.issue) (pos 0))
     ∷ (let live = live_notice J m.member m.issue in (AlreadyNoticed (option_map_or (λ n. n.number) live 0), is_some live)) ∷ []
-rules opening J (activity.Withdraw k) =
+rules opening J (Activity.Withdraw k) =
     (NoSuchNotice, is_none (notice_at J k))
     ∷ (NotLive, is_so (λ n. not (is_live (stage J n))) (notice_at J k)) ∷ []
-rules opening J (activity.Execute x) =
+rules opening J (Activity.Execute x) =
     (ExceedsPosition, is_so (λ n. is_live (stage J n) && nat_lt (remaining J n) x.shares) (notice_at J x.notice))
     ∷ (NoSuchNotice, is_none (notice_at J x.notice))
     ∷ (NotLive, is_so (λ n. not (is_live (stage J n))) (notice_at J x.notice))
     ∷ (TooEarly, is_so (λ n. nat_lt (day J) (n.given.day + 2)) (notice_at J x.notice))
     ∷ (NotLiable (option_map_or (room J) (notice_at J x.notice) 0), is_so (λ n. nat_lt (room J n) x.shares) (notice_at J x.notice)) ∷ []
-rules opening J (activity.Close d) = (WrongDay, is_not_after d (date opening J)) ∷ []
+rules opening J (Activity.Close d) = (WrongDay, is_not_after d (date opening J)) ∷ []
 
 -- the rules of a command
 abbrev pub rules_of : Day → Journal → Command → List Rule
-rules_of opening J (command.Activity x) = rules opening J x
-rules_of opening J (command.Position k) =
+rules_of opening J (Command.Activity x) = rules opening J x
+rules_of opening J (Command.Position k) =
     (NoSuchMember, not (is_account J k.account)) ∷ (NoSuchIssue, not (is_listed J k.issue)) ∷ []
-rules_of opening J (command.Statement a d) =
+rules_of opening J (Command.Statement a d) =
     (NoSuchMember, not (is_account J a)) ∷ (NoSuchDay, is_none (closed_on opening J d)) ∷ []
 
 -- the first refusal of a list of rules whose condition holds

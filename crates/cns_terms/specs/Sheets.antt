@@ -1,11 +1,6 @@
 -- The sheet of a closed day, and the statements cut from it.
 use Rattle.std.specs.Prelude.{ℕ, pos, Bool, not, ◌&&◌, ◌==◌, List, [], map, filter, flat_map, length, Option, option_map, unwrap_or}
-use Rattle.std.specs.Ordering.{int_eq}
-use Rattle.cns_units.specs.declared.account.Account.{Account}
-use Rattle.cns_units.specs.declared.cusip.Cusip.{Cusip}
-use Rattle.cns_units.specs.declared.day.Day.{Day}
-use Rattle.cns_units.specs.declared.price.Price.{Price}
-use Rattle.cns_terms.specs.declared.sheet.Row.{Row}
+use Rattle.cns_terms.specs.Types.{int_eq, Account, Cusip, Day, Price, Row}
 use Rattle.cns_terms.specs.declared.reply.Stated.{Stated}
 use Rattle.cns_terms.specs.Sums.{total}
 use Rattle.cns_terms.specs.Postings.{Journal}

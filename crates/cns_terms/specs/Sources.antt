@@ -1,10 +1,8 @@
 -- What a source tells of what it still has to give.
 use Rattle.std.specs.Prelude.{◌≡◌, ◌⊎◌, Bool, true, List, [], ◌∷◌, Option, Some, None, Result, Ok, Err, ⊤, IfSome}
-use Rattle.cns_terms.specs.declared.command.Command.{Command}
+use Rattle.cns_terms.specs.Types.{Command}
 use Rattle.cns_terms.specs.declared.source.Item.{Item}
-use Rattle.cns_terms.specs.declared.source.Item.TheVariants as item
 use Rattle.cns_terms.specs.declared.source.SourceFault.{SourceFault}
-use Rattle.cns_terms.specs.declared.source.SourceFault.TheVariants as fault
 
 -- what a source answers
 abbrev pub Answer : Type 0
@@ -25,11 +23,11 @@ GivesEnd t a new = (t.items ≡ []) × (t.end ≡ a) × (new ≡ Some t)
 
 -- an answer of a source that tells, and what it tells then; the first argument says whether it may fail
 abbrev pub GivesTold : Bool → Told → Answer → Option Told → Type 0
-GivesTold fails t (Ok (item.Given c)) new = GivesFirst t (Some c) new
-GivesTold fails t (Ok item.Line) new = GivesFirst t None new
-GivesTold fails t (Ok item.Finished) new = GivesEnd t (Ok item.Finished) new
-GivesTold fails t (Err fault.Read) new = (fails ≡ true) ⊎ GivesEnd t (Err fault.Read) new
-GivesTold fails t (Err fault.NoMemory) new = ⊤
+GivesTold fails t (Ok (Item.Given c)) new = GivesFirst t (Some c) new
+GivesTold fails t (Ok Item.Line) new = GivesFirst t None new
+GivesTold fails t (Ok Item.Finished) new = GivesEnd t (Ok Item.Finished) new
+GivesTold fails t (Err SourceFault.Read) new = (fails ≡ true) ⊎ GivesEnd t (Err SourceFault.Read) new
+GivesTold fails t (Err SourceFault.NoMemory) new = ⊤
 
 -- an answer of any source
 abbrev pub Gives : Bool → Option Told → Answer → Option Told → Type 0
@@ -41,7 +39,7 @@ Repeats old a new = IfSome old (λ e. (a ≡ e) × (new ≡ old))
 
 -- Finished or a fault is kept
 abbrev pub Ends : Answer → Option Answer → Type 0
-Ends (Ok (item.Given c)) new = ⊤
-Ends (Ok item.Line) new = ⊤
-Ends (Ok item.Finished) new = new ≡ Some (Ok item.Finished)
+Ends (Ok (Item.Given c)) new = ⊤
+Ends (Ok Item.Line) new = ⊤
+Ends (Ok Item.Finished) new = new ≡ Some (Ok Item.Finished)
 Ends (Err e) new = new ≡ Some (Err e)

@@ -1,6 +1,6 @@
 -- Sums, lists in order, and lists changed at a place.
 use Rattle.std.specs.Prelude.{ℕ, zero, suc, max, ℤ, pos, negsuc, ◌+ℤ◌, Bool, List, [], ◌∷◌, bytes_eq, if◌then◌else◌}
-use Rattle.cns_units.specs.declared.cusip.Cusip.{Cusip}
+use Rattle.cns_terms.specs.Types.{Cusip}
 
 -- f of each, added up
 abbrev pub total : {X : Type 0} → (X → ℤ) → List X → ℤ

@@ -22,8 +22,7 @@ passed z h = to_z-of_z w64 z (fits_signed_from_abs w64 z (omega (arith, h)))
 
 -- what does not hold fails
 pub failed : (b : Bool) → not b ≡ true → b ≡ false
-failed true h = cc
-failed false h = refl
+failed b h = grind arith
 
 -- a trade that nothing else refuses and whose date has come
 pub books_now : (f : TradeFacts) (ps : List Pend) (seen : Bool) (t : Trade) (p q : ℤ) → f.buyer ≡ Some p → f.seller ≡ Some q → f.listed ≡ true → f.retired ≡ false → (t.buyer == t.seller) ≡ false → (is_past t.date f.today || is_too_far t.date f.today) ≡ false → seen ≡ false → is_not_after t.date f.today ≡ true

@@ -15,9 +15,7 @@ one_bit bits place k false e = grind (arith, bit_at_or, bit_at-pow_other)
 
 -- a page with one bit more
 pub bit_more : (bits place k : ℕ) → place < 64 → has_bit (bit_or bits (1 * 2 ^ place % 18446744073709551616)) k ≡ (eqb place k || has_bit bits k)
-bit_more bits place k h = ap (λ n. has_bit (bit_or bits n) k) (one_shl place 64 h) ∙ one_bit bits place k (eqb place k) refl
-
--- ---- pages
+bit_more bits place k h = grind (arith, one_shl place 64 h, one_bit bits place k (eqb place k) refl)
 
 -- another page in the place of the one that was written last, which goes to the others
 pub turned : (p page next bits found : ℕ) (others others' : List (ℕ × ℕ)) → eqb next page ≡ false → found ≡ bits_in (record { page = page; bits = bits; others = others }) next

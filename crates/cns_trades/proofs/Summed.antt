@@ -21,13 +21,7 @@ put_at f old new key o h is k = grind (arith, same_there)
 
 -- no sums at a key: what f makes of nothing is nothing
 pub none_at : (f : Sides → Sides) (es : SidesByKey) (key : Key) → found es key ≡ None → f no_sides ≡ no_sides → (k : Key) → sides_at es k ≡ cond (is_eq (key_cmp key k)) (f (sides_at es k)) (sides_at es k)
-none_at f es key none is k = by (is_eq (key_cmp key k)) refl
-  where
-    by : (b : Bool) → is_eq (key_cmp key k) ≡ b → sides_at es k ≡ cond b (f (sides_at es k)) (sides_at es k)
-    by true e =
-        let here : sides_at es k ≡ no_sides = sym (same_there es key k e) ∙ ap (λ o. unwrap_or o no_sides) none in
-        here ∙ sym (ap f here ∙ is)
-    by false e = refl
+none_at f es key none is k = grind (arith, same_there es key k)
 
 -- what is found at a key stands there
 pub at_found : (es : SidesByKey) (k : Key) (s : Sides) → found es k ≡ Some s → sides_at es k ≡ s
@@ -35,7 +29,7 @@ at_found es k s h = ap (λ o. unwrap_or o no_sides) h
 
 -- where nothing is put in the place of nothing, all sums stay
 pub opened_at : (old new : SidesByKey) (key : Key) → Puts old new key (Some no_sides) → found old key ≡ None → (k : Key) → sides_at new k ≡ sides_at old k
-opened_at old new key h none k = put_at (λ s. no_sides) old new key (Some no_sides) h refl k ∙ sym (none_at (λ s. no_sides) old key none refl k)
+opened_at old new key h none k = grind (arith, put_at (λ s. no_sides) old new key (Some no_sides) h refl k, none_at (λ s. no_sides) old key none refl k)
 
 -- there is room where there was, and where something is put
 pub has_put : (old new : SidesByKey) (key : Key) (s : Sides) → Puts old new key (Some s) → (k : Key) → has_sides old k ≡ true → has_sides new k ≡ true
@@ -51,7 +45,7 @@ sides_same s t p q = λ i. record { bought = p i; sold = q i }
 
 -- no room where nothing is put
 pub gone : (old new : SidesByKey) (key : Key) → Puts old new key None → has_sides new key ≡ false
-gone old new key h = ap is_some (h key ∙ ap (λ o. cond (is_eq o) None (found old key)) (tied_itself keys_total key))
+gone old new key h = grind (arith, h key, tied_itself keys_total key)
 
 -- sums less themselves
 pub less_itself : (s : Sides) → less s s ≡ no_sides
@@ -69,24 +63,15 @@ module _ (f : Sides → Sides → Sides) (p : Pend) (before between after : Key 
       → ((k : Key) → after k ≡ cond (is_eq (key_cmp (sold_key p) k)) (f (between k) (record { bought = 0; sold = p.shares })) (between k))
       → (k : Key) → after k ≡ cond ((p.seller == k.account) && same_issue p.issue k.issue) (f (cond ((p.buyer == k.account) && same_issue p.issue k.issue) (f (before k) (record { bought = p.shares; sold = 0 })) (before k)) (record { bought = 0; sold = p.shares }))
       (cond ((p.buyer == k.account) && same_issue p.issue k.issue) (f (before k) (record { bought = p.shares; sold = 0 })) (before k))
-  both_keys one two k =
-      two k ∙ ap (λ b. cond b (f (between k) (record { bought = 0; sold = p.shares })) (between k)) (same_key (sold_key p) k)
-      ∙ ap (λ s. cond ((p.seller == k.account) && same_issue p.issue k.issue) (f s (record { bought = 0; sold = p.shares })) s)
-      (one k ∙ ap (λ b. cond b (f (before k) (record { bought = p.shares; sold = 0 })) (before k)) (same_key (bought_key p) k))
+  both_keys one two k = grind (arith, one k, two k, same_key (sold_key p) k, same_key (bought_key p) k)
 
 -- a trade is added
 pub added_both : (t u : Bool) (n : ℕ) (s : Sides) → cond u (more (cond t (more s (record { bought = n; sold = 0 })) s) (record { bought = 0; sold = n })) (cond t (more s (record { bought = n; sold = 0 })) s) ≡ more (record { bought = cond t n 0; sold = cond u n 0 }) s
-added_both true true n s = sides_same _ _ (omega arith) (omega arith)
-added_both true false n s = sides_same _ _ (omega arith) (omega arith)
-added_both false true n s = sides_same _ _ (omega arith) (omega arith)
-added_both false false n s = sides_same _ _ (omega arith) (omega arith)
+added_both t u n s = grind (arith, sides_same)
 
 -- and taken
 pub taken_both : (t u : Bool) (n : ℕ) (s : Sides) → cond u (less (cond t (less s (record { bought = n; sold = 0 })) s) (record { bought = 0; sold = n })) (cond t (less s (record { bought = n; sold = 0 })) s) ≡ less s (record { bought = cond t n 0; sold = cond u n 0 })
-taken_both true true n s = sides_same _ _ (omega arith) (omega arith)
-taken_both true false n s = sides_same _ _ (omega arith) (omega arith)
-taken_both false true n s = sides_same _ _ (omega arith) (omega arith)
-taken_both false false n s = sides_same _ _ (omega arith) (omega arith)
+taken_both t u n s = grind (arith, sides_same)
 
 -- the trades' sums are as small as their number allows
 pub few_sides : (ps : List Pend) (k : Key) → AllByRecursion (λ (p : Pend). p.shares ≤ shares_limit) ps → ((sides_of ps k).bought ≤ shares_limit * length ps) × ((sides_of ps k).sold ≤ shares_limit * length ps)
@@ -94,9 +79,7 @@ few_sides ps k small = grind (arith, added-each, each_weaker, bought_added, sold
 
 -- and so small that sums of them fit in 127 bits
 pub few_fits : (ps : List Pend) (es : SidesByKey) (k : Key) → AreSummed ps es → length ps < 2 ^ 63 → ((sides_at es k).bought < 2 ^ 127) × ((sides_at es k).sold < 2 ^ 127)
-few_fits ps es k are few =
-    let both = few_sides ps k are.small in
-    (subst (λ (s : Sides). s.bought < 2 ^ 127) (sym (are.sums k)) (omega (arith, both.0, few)), subst (λ (s : Sides). s.sold < 2 ^ 127) (sym (are.sums k)) (omega (arith, both.1, few)))
+few_fits ps es k are few = grind (arith, few_sides ps k, are.small, are.sums k)
 
 -- ---- the next trade of a list
 
@@ -106,7 +89,7 @@ next_of ps i p lt is = rw add-one (drop-cons ps i p lt) ∙ ap (λ q. q ∷ drop
 
 -- one in the issue is found
 pub found_in : (ps : List Pend) (i : ℕ) (c : Cusip) (p : Pend) → i < length ps → p ≡ get_or ps i p → p.issue ≡ c → waits_in (drop i ps) c ≡ true
-found_in ps i c p lt is same = ap (λ qs. waits_in qs c) (next_of ps i p lt is) ∙ ap (λ b. b || waits_in (drop (i + 1) ps) c) ((bytes_eq-Decides p.issue c).1 same)
+found_in ps i c p lt is same = grind (arith, next_of, bytes_eq-Decides)
 
 -- one in another is passed
 pub passed_in : (ps : List Pend) (i : ℕ) (c : Cusip) (p : Pend) (b : Bool) → i < length ps → p ≡ get_or ps i p → (p.issue ≡ c → b ≡ true) → b ≡ false → waits_in (drop i ps) c ≡ waits_in (drop (i + 1) ps) c

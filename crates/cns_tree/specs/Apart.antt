@@ -1,7 +1,6 @@
 -- A node's box, with what the node was put together of.
 use Rattle.std.specs.Prelude.{◌≡◌, ℕ, ◌+◌, max, List, ◌∷◌, ◌++◌, length, true}
-use Rattle.cns_terms.specs.Common.{is_sorted, key_cmp}
-use Rattle.cns_terms.specs.declared.holding.Key.{Key}
+use Rattle.cns_tree.specs.Common.{is_sorted, key_cmp, Key}
 use Rattle.cns_tree.specs.Shape.{IsLean, IsShallow}
 use Rattle.cns_tree.specs.declared.node.Parts.{Parts}
 

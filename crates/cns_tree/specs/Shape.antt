@@ -1,8 +1,6 @@
 -- What a node is seen as, and what holds of it.
 use Rattle.std.specs.Prelude.{◌≡◌, ℕ, Box, ◌+◌, ◌*◌, ◌^◌, ◌<◌, ◌≤◌, max, List, [], ◌∷◌, ◌++◌, length, Option, Some, None, Bool, true, if◌then◌else◌}
-use Rattle.cns_terms.specs.Common.{is_sorted, key_cmp}
-use Rattle.cns_terms.specs.declared.holding.Key.{Key}
-use Rattle.cns_tree.specs.declared.node.Node.{Node}
+use Rattle.cns_tree.specs.Common.{is_sorted, key_cmp, Key, Node}
 use Rattle.cns_tree.specs.declared.node.Lean.{Lean}
 use Rattle.cns_tree.specs.declared.node.Lean.TheVariants.{Left, Even, Right}
 

@@ -1,12 +1,7 @@
 -- The characters before the check digit order CUSIPs as all nine do: for `cmp` of cusip.rt.
-use Rattle.cns_units.proofs.Common.{◌≡◌, ◌∙◌, sym, ap, refl, ℕ, zero, suc, ◌+◌, ◌*◌, ◌^◌, ◌<◌, Bool, false, not, List, [], ◌∷◌, ◌++◌, length, take, take-append-drop, get_or, drop, drop-cons, Option, None, arith, nat_cmp, ordering_then, slice_cmp, slice_index, IsCusip, last_fault}
-use Rattle.std.proofs.Common.{subst}
+use Rattle.cns_units.proofs.Common.{◌≡◌, ℕ, ◌+◌, ◌*◌, ◌<◌, Bool, false, not, List, [], ◌∷◌, ◌++◌, length, take, take-append-drop, drop-cons, None, arith, nat_cmp, ordering_then, slice_cmp, slice_index, IsCusip, last_fault, AllByRecursion, nat_tests, drop_all, length-take}
 use Rattle.std.specs.Int.{w64, from_be_bytes}
-use Rattle.std.specs.List.{AllByRecursion}
 use Rattle.std.specs.declared.cmp.Ordering.{Ordering}
-use Rattle.std.specs.declared.cmp.Ordering.TheVariants.{Equal}
-use Rattle.std.proofs.lemmas.Bool.Decides.{nat_tests}
-use Rattle.std.proofs.lemmas.List.{drop_all, length-take}
 use Rattle.std.proofs.lemmas.Map.Lookups.{exact_bytes}
 use Rattle.std.proofs.lemmas.Grind.{common_steps}
 use Rattle.cns_units.specs.Cusip.{sum_of}
@@ -14,10 +9,6 @@ use Rattle.cns_units.specs.Cusip.{sum_of}
 -- of three comparisons the first that does not tie decides
 then_then : (o p q : Ordering) → ordering_then (ordering_then o p) q ≡ ordering_then o (ordering_then p q)
 then_then o p q = grind arith
-
--- a comparison, and then one that ties
-then_end : (o : Ordering) → ordering_then o Equal ≡ o
-then_end o = grind arith
 
 -- one more byte of two numbers
 byte_more : (v w a b : ℕ) → a < 256 → b < 256 → nat_cmp (v * 256 + a) (w * 256 + b) ≡ ordering_then (nat_cmp v w) (nat_cmp a b)
@@ -32,31 +23,15 @@ number v (x ∷ xs) = number (v * 256 + x) xs
 bytes_order : (v w : ℕ) (xs ys : List ℕ) → length xs ≡ length ys → AllByRecursion (λ x. x < 256) xs → AllByRecursion (λ x. x < 256) ys
     → nat_cmp (number v xs) (number w ys) ≡ ordering_then (nat_cmp v w) (slice_cmp nat_cmp xs ys)
 unfolding number
-bytes_order v w [] [] len p q = sym (then_end (nat_cmp v w))
-bytes_order v w (x ∷ xs) (y ∷ ys) len p q =
-    bytes_order (v * 256 + x) (w * 256 + y) xs ys (omega (arith, len)) p.1 q.1
-    ∙ ap (λ o. ordering_then o (slice_cmp nat_cmp xs ys)) (byte_more v w x y p.0 q.0)
-    ∙ then_then (nat_cmp v w) (nat_cmp x y) (slice_cmp nat_cmp xs ys)
+bytes_order v w [] [] len p q = grind arith
+bytes_order v w (x ∷ xs) (y ∷ ys) len p q = grind (arith, byte_more v w x y, then_then, bytes_order (v * 256 + x) (w * 256 + y) xs ys)
 bytes_order v w _ _ len p q = absurd (omega (arith, len))
-
--- the first items of a list, written out
-firsts : ℕ → List ℕ → List ℕ
-firsts zero xs = []
-firsts (suc n) xs = get_or xs 0 0 ∷ firsts n (drop 1 xs)
-
-all_firsts : (n : ℕ) (xs : List ℕ) → length xs ≡ n → firsts n xs ≡ xs
-unfolding firsts
-all_firsts zero [] len = refl
-all_firsts (suc n) (x ∷ xs) len = ap (◌∷◌ x) (all_firsts n xs (omega (arith, len)))
-all_firsts _ _ len = absurd (omega (arith, len))
 
 -- what eight bytes are as a number
 number_of : (xs : List ℕ) → length xs ≡ 8 → from_be_bytes w64 xs ≡ number 0 xs
-unfolding number firsts
-number_of xs len = subst (λ ys. from_be_bytes w64 ys ≡ number 0 ys) (all_firsts 8 xs len) (eight _ _ _ _ _ _ _ _)
-  where
-    eight : (a b c d e f g h : ℕ) → a * 256 ^ 7 + b * 256 ^ 6 + c * 256 ^ 5 + d * 256 ^ 4 + e * 256 ^ 3 + f * 256 ^ 2 + g * 256 ^ 1 + h ≡ number 0 (a ∷ b ∷ c ∷ d ∷ e ∷ f ∷ g ∷ h ∷ [])
-    eight a b c d e f g h = omega arith
+unfolding number
+number_of (a ∷ b ∷ c ∷ d ∷ e ∷ f ∷ g ∷ h ∷ []) len = omega arith
+number_of _ len = absurd (omega (arith, len))
 
 -- characters that have a sum are bytes
 are_bytes : (doubled : Bool) (xs : List ℕ) (c : ℕ) → last_fault (sum_of doubled xs) c ≡ None → AllByRecursion (λ x. x < 256) xs
@@ -67,19 +42,15 @@ are_bytes doubled xs c e = summed doubled xs (grind (arith, e))
     summed doubled [] some = tt
     summed doubled (x ∷ xs) some = grind (arith, common_steps, nat_tests, some, summed (not doubled) xs)
 
--- of two characters after one sum both are its check digit
-same_check : (sum : Option ℕ) (c d : ℕ) → last_fault sum c ≡ None → last_fault sum d ≡ None → c ≡ d
-same_check sum c d p q = grind (arith, nat_tests)
-
 -- one character more at the end of two texts
 at_end : (xs ys : List ℕ) (c d : ℕ) → length xs ≡ length ys → slice_cmp nat_cmp (xs ++ c ∷ []) (ys ++ d ∷ []) ≡ ordering_then (slice_cmp nat_cmp xs ys) (nat_cmp c d)
-at_end [] [] c d len = then_end (nat_cmp c d)
+at_end [] [] c d len = grind arith
 at_end (x ∷ xs) (y ∷ ys) c d len = grind (arith, at_end xs ys c d, then_then)
 at_end _ _ c d len = absurd (omega (arith, len))
 
 -- where the characters before them are the same, so are the check digits
 same_then : (xs ys : List ℕ) (c d : ℕ) → last_fault (sum_of false xs) c ≡ None → last_fault (sum_of false ys) d ≡ None → ordering_then (slice_cmp nat_cmp xs ys) (nat_cmp c d) ≡ slice_cmp nat_cmp xs ys
-same_then xs ys c d p q = grind (arith, nat_tests, exact_bytes xs ys, same_check (sum_of false ys) c d)
+same_then xs ys c d p q = grind (arith, nat_tests, exact_bytes xs ys)
 
 -- of what a CUSIP is made
 record IsMade (xs : List ℕ) : Type 0 where
@@ -88,13 +59,7 @@ record IsMade (xs : List ℕ) : Type 0 where
   whole : take 8 xs ++ slice_index xs 8 ∷ [] ≡ xs
 
 is_made : (xs : List ℕ) → IsCusip xs → IsMade xs
-is_made xs is =
-    let long : length xs ≡ 9 = grind (arith, nat_tests, is) in
-    record {
-      body = omega (arith, length-take 8 xs, long);
-      sound = grind (arith, nat_tests, is, long);
-      whole = grind (arith, take-append-drop 8 xs, drop-cons xs 8 0, drop_all 9 xs, long);
-    }
+is_made xs is = grind (arith, nat_tests, length-take 8 xs, take-append-drop 8 xs, drop-cons xs 8 0, drop_all 9 xs)
 
 -- CUSIPs are in the order of what stands before their check digits
 pub cusips_order : (xs ys : List ℕ) → IsCusip xs → IsCusip ys → nat_cmp (from_be_bytes w64 (take 8 xs)) (from_be_bytes w64 (take 8 ys)) ≡ slice_cmp nat_cmp xs ys

@@ -1,7 +1,5 @@
 -- The tables of weights have what the definition says of each character.
-use Rattle.cns_units.proofs.Common.{◌≡◌, ◌∙◌, ap, refl, ℕ, zero, suc, ◌+◌, ◌<◌, ◌%◌, Bool, true, false, ◌&&◌, cond, eqb, List, [], ◌∷◌, length, get_or, Option, Some, None, option_map, arith, character_value, weight}
-use Rattle.std.proofs.Common.{zero-add}
-use Rattle.std.proofs.lemmas.Bool.Decides.{nat_tests}
+use Rattle.cns_units.proofs.Common.{◌≡◌, ◌∙◌, ap, refl, ℕ, zero, suc, ◌+◌, ◌<◌, ◌%◌, Bool, true, false, ◌&&◌, cond, eqb, List, [], ◌∷◌, length, get_or, Option, Some, None, option_map, arith, character_value, weight, zero-add, nat_tests}
 
 -- the tables, from the character 35 on
 abbrev pub plain : List ℕ

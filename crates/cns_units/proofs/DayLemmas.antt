@@ -1,7 +1,5 @@
 -- No two days have the same number.
-use Rattle.cns_units.proofs.Common.{◌≡◌, ℕ, ◌≤◌, ℤ, pos, Bool, true, false, ◌&&◌, nat_le, nat_eq, refl, ap, arith, ints, int_eq}
-use Rattle.std.proofs.Common.{unsigned_abs}
-use Rattle.std.proofs.lemmas.Bool.Decides.{nat_tests, Decides-int_eq}
+use Rattle.cns_units.proofs.Common.{◌≡◌, ℕ, ◌≤◌, pos, true, false, ◌&&◌, nat_le, nat_eq, arith, ints, int_eq, nat_tests, Decides-int_eq}
 use Rattle.jiff_core.specs.declared.civil.date.Date.{Date}
 use Rattle.jiff_core.specs.Calendar.{days_in_month}
 use Rattle.jiff_core.proofs.DateLemmas.{epoch_day_injective}
@@ -17,15 +15,11 @@ date_of c h =
     let p = valid_parts c.year c.month c.day (days_in_month (pos c.year) c.month) h in
     record { year = pos c.year; month = c.month; day = c.day; year_in = (omega (arith, ints), omega (arith, ints)); month_in = (p.2, p.3); day_in = (p.4, p.5) }
 
--- the test of two numbers, where the numbers differ
-apart : (x y : ℤ) → (x ≡ y → ⊥) → (b : Bool) → int_eq x y ≡ b → false ≡ b
-apart x y h b e = grind (arith, Decides-int_eq x y, h)
-
 -- days whose parts differ have different numbers
 pub differ : (a b : CalendarDay) → is_calendar_day a.year a.month a.day ≡ true → is_calendar_day b.year b.month b.day ≡ true
     → ((a.year ≡ b.year) × (a.month ≡ b.month) × (a.day ≡ b.day) → ⊥) → false ≡ int_eq (day_number a) (day_number b)
 unfolding date_of
-differ a b p q h = apart (day_number a) (day_number b) (λ e. let same = epoch_day_injective (date_of a p) (date_of b q) e in h (ap unsigned_abs same.0, same.1, same.2)) _ refl
+differ a b p q h = grind (arith, ints, Decides-int_eq (day_number a) (day_number b), epoch_day_injective (date_of a p) (date_of b q), h)
 
 -- the test of two years, where the other parts agree
 pub years_test : (a b : CalendarDay) → is_calendar_day a.year a.month a.day ≡ true → is_calendar_day b.year b.month b.day ≡ true

@@ -6,13 +6,7 @@ pub front_longer : (old new : Option (List ℕ)) (a b : List ℕ) → AppendsFro
 front_longer old new a b h1 = grind (arith, append_assoc, length-append)
 
 pub front_later : (old mid new : Option (List ℕ)) (a b : List ℕ) → Appends old mid a → AppendsFront mid new b → AppendsFront old new (a ++ b)
-front_later old mid new a b first w = record {
-  front = a ++ w.front;
-  rest = w.rest;
-  whole = ap (λ l. a ++ l) w.whole ∙ sym (append_assoc a w.front w.rest);
-  short = w.short;
-  appended = Appends-trans old mid new a w.front first w.appended;
-}
+front_later old mid new a b first w = grind (arith, append_assoc, Appends-trans old mid new a w.front first)
 
 -- a text that was written, and then what the last call did
 pub writes_then : {T E : Type 0} (old mid new : Option (List ℕ)) (a b : List ℕ) (r : Result T E) → Appends old mid a → Writes mid new b r → Writes old new (a ++ b) r
@@ -20,16 +14,7 @@ writes_then old mid new a b r first last = grind (arith, Appends-trans old mid n
 
 -- the first bytes of a text, which a writer took
 pub appends_front : (old new : Option (List ℕ)) (n : ℕ) (text : List ℕ) → n < length text → Appends old new (take n text) → AppendsFront old new text
-appends_front old new n text lt h = record {
-  front = take n text;
-  rest = drop n text;
-  whole = sym (take-append-drop n text);
-  short = omega (arith, length-drop n text, lt);
-  appended = h;
-}
-
-appends_kept : (old mid new : Option (List ℕ)) (a : List ℕ) → Appends old mid a → Keeps mid new → Appends old new a
-appends_kept old mid new a p q = grind (arith, p, q)
+appends_front old new n text lt h = grind (arith, take-append-drop n text, length-drop n text)
 
 -- the part of the text from a place on
 rest_is : (bs : List ℕ) (at : ℕ) → take (length bs - at) (drop at bs) ≡ drop at bs
@@ -38,13 +23,10 @@ rest_is bs at = ap (λ k. take k (drop at bs)) (sym (length-drop at bs)) ∙ tak
 -- one more call of `write`
 pub took_more : (old mid new : Option (List ℕ)) (bs : List ℕ) (at n : ℕ) → at ≤ length bs → n ≤ length (take (length bs - at) (drop at bs))
     → Appends old mid (take at bs) → Appends mid new (take n (take (length bs - at) (drop at bs))) → (at + n ≤ length bs) × Appends old new (take (at + n) bs)
-took_more old mid new bs at n le bound a b =
-    let bound' : n ≤ length (drop at bs) = rw rest_is at bound in
-    let b' : Appends mid new (take n (drop at bs)) = rw rest_is at b in
-    (omega (arith, length-drop at bs), rw (take-add at n bs) (Appends-trans old mid new (take at bs) (take n (drop at bs)) a b'))
+took_more old mid new bs at n le bound a b = grind (arith, rest_is bs at, length-drop at bs, take-add at n bs, Appends-trans old mid new (take at bs) (take n (drop at bs)))
 
 pub took_none : (old mid new : Option (List ℕ)) (bs xs : List ℕ) (at n : ℕ) → at < length bs → n ≡ 0 → Appends old mid (take at bs) → Appends mid new (take n xs) → AppendsFront old new bs
-took_none old mid new bs xs at n lt zero a b = appends_front old new at bs lt (rw append-nil at (Appends-trans old mid new (take at bs) [] a (rw zero at b)))
+took_none old mid new bs xs at n lt zero a b = grind (arith, append-nil, appends_front old new at bs, Appends-trans old mid new (take at bs) [])
 
 pub took_failed : (old mid new : Option (List ℕ)) (bs : List ℕ) (at : ℕ) → at < length bs → Appends old mid (take at bs) → Keeps mid new → AppendsFront old new bs
-took_failed old mid new bs at lt a b = appends_front old new at bs lt (appends_kept old mid new (take at bs) a b)
+took_failed old mid new bs at lt a b = grind (arith, appends_front old new at bs)

@@ -1,6 +1,5 @@
 -- The texts of the items of a list, written one after another.
-use Rattle.cns_units.proofs.Common.{◌≡◌, ℕ, ◌+◌, ◌<◌, List, ◌∷◌, ◌++◌, Option, get_or, length, drop, add-one, drop-cons, append_assoc, ap, sym, ◌∙◌, Appends, Appends-trans, AppendsFront}
-use Rattle.std.specs.List.{flat_map}
+use Rattle.cns_units.proofs.Common.{arith, ◌≡◌, ℕ, ◌+◌, ◌<◌, List, ◌∷◌, ◌++◌, Option, get_or, length, drop, add-one, drop-cons, append_assoc, ap, sym, ◌∙◌, Appends, Appends-trans, AppendsFront, flat_map}
 use Rattle.cns_units.proofs.OutputLemmas.{front_later, front_longer}
 
 -- one more item's text was written, of those that an iterator has left
@@ -12,8 +11,7 @@ given_more old mid new f text left x rest done next whole a b =
 -- writing an item's text failed: a prefix of all the texts was written
 pub given_failed : {X : Type 0} (old mid new : Option (List ℕ)) (f : X → List ℕ) (text : List ℕ) (left : List X) (x : X) (rest : List X) (done : List ℕ) → left ≡ x ∷ rest
     → text ≡ done ++ flat_map f left → Appends old mid done → AppendsFront mid new (f x) → AppendsFront old new text
-given_failed old mid new f text left x rest done next whole a b =
-    rw (whole, next) (front_later old mid new done (f x ++ flat_map f rest) a (front_longer mid new (f x) (flat_map f rest) b))
+given_failed old mid new f text left x rest done next whole a b = grind (arith, front_later old mid new done (f x ++ flat_map f rest), front_longer mid new (f x) (flat_map f rest) b)
 
 -- the same of the items from a place on
 pub parts_more : {X : Type 0} (old mid new : Option (List ℕ)) (f : X → List ℕ) (xs : List X) (i : ℕ) (d : X) (done : List ℕ) → i < length xs

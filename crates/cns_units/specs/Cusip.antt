@@ -1,7 +1,6 @@
 -- CUSIP: eight characters and a check digit.
 use Rattle.std.specs.Prelude.{◌≡◌, ℕ, ◌+◌, ◌-◌, ◌*◌, ◌/◌, ◌%◌, Bool, false, not, ◌&&◌, ◌==◌, nat_le, if◌then◌else◌, List, [], ◌∷◌, length, take, slice_index, Option, Some, None, Result, Ok, Err}
 use Rattle.cns_units.specs.declared.fault.UnitFault.{UnitFault}
-use Rattle.cns_units.specs.declared.fault.UnitFault.TheVariants as fault
 
 -- the value of a character
 abbrev pub character_value : ℕ → Option ℕ
@@ -39,16 +38,16 @@ is_digit c = nat_le 48 c && nat_le c 57
 
 -- what a ninth character is, after a sum of the others
 abbrev pub last_fault : Option ℕ → ℕ → Option UnitFault
-last_fault None c = Some fault.Character
+last_fault None c = Some UnitFault.Character
 last_fault (Some sum) c =
-    if is_digit c then (if c - 48 == check_digit sum then None else Some fault.CheckDigit)
-    else Some fault.Character
+    if is_digit c then (if c - 48 == check_digit sum then None else Some UnitFault.CheckDigit)
+    else Some UnitFault.Character
 
 -- the first fault of a text
 abbrev pub cusip_fault : List ℕ → Option UnitFault
 cusip_fault bytes =
     if length bytes == 9 then last_fault (sum_of false (take 8 bytes)) (slice_index bytes 8)
-    else Some fault.Length
+    else Some UnitFault.Length
 
 -- a text that is a CUSIP
 abbrev pub IsCusip : List ℕ → Type 0

@@ -4,7 +4,6 @@ use Rattle.jiff.specs.Words.{days_in_month}
 use Rattle.jiff_core.specs.Calendar.{days_from_civil}
 use Rattle.cns_units.specs.Cusip.{is_digit}
 use Rattle.cns_units.specs.declared.fault.UnitFault.{UnitFault}
-use Rattle.cns_units.specs.declared.fault.UnitFault.TheVariants as fault
 
 -- a day by its parts
 pub record CalendarDay : Type 0 where
@@ -35,18 +34,18 @@ two_at bytes i =
 
 -- the day with these parts, where the calendar has it
 abbrev pub valid_day : ℕ → ℕ → ℕ → Result CalendarDay UnitFault
-valid_day y m d = if is_calendar_day y m d then Ok (record { year = y; month = m; day = d }) else Err fault.Date
+valid_day y m d = if is_calendar_day y m d then Ok (record { year = y; month = m; day = d }) else Err UnitFault.Date
 
 abbrev pub day_from : Option ℕ → Option ℕ → Option ℕ → Option ℕ → Result CalendarDay UnitFault
 day_from (Some c) (Some y) (Some m) (Some d) = valid_day (c * 100 + y) m d
-day_from (Some c) (Some y) (Some m) None = Err fault.Date
-day_from (Some c) (Some y) None d = Err fault.Date
-day_from (Some c) None m d = Err fault.Date
-day_from None y m d = Err fault.Date
+day_from (Some c) (Some y) (Some m) None = Err UnitFault.Date
+day_from (Some c) (Some y) None d = Err UnitFault.Date
+day_from (Some c) None m d = Err UnitFault.Date
+day_from None y m d = Err UnitFault.Date
 
 -- the day that a text of the form `YYYY-MM-DD` is
 abbrev pub day_of : List ℕ → Result CalendarDay UnitFault
 day_of bytes =
     if (length bytes == 10) && (slice_index bytes 4 == 45) && (slice_index bytes 7 == 45)
     then day_from (two_at bytes 0) (two_at bytes 2) (two_at bytes 5) (two_at bytes 8)
-    else Err fault.Date
+    else Err UnitFault.Date

@@ -1,11 +1,10 @@
 -- Values that must lie in a range.
 use Rattle.std.specs.Prelude.{ℕ, Bool, ◌^◌, ◌&&◌, nat_le, if◌then◌else◌, Result, Ok, Err}
 use Rattle.cns_units.specs.declared.fault.UnitFault.{UnitFault}
-use Rattle.cns_units.specs.declared.fault.UnitFault.TheVariants as fault
 
 -- the number, where it lies from the least to the most
 abbrev pub within : ℕ → ℕ → ℕ → Result ℕ UnitFault
-within least most n = if nat_le least n && nat_le n most then Ok n else Err fault.OutOfRange
+within least most n = if nat_le least n && nat_le n most then Ok n else Err UnitFault.OutOfRange
 
 -- new shares, and the old ones for which they stand
 pub record NewForOld : Type 0 where
@@ -18,4 +17,4 @@ is_part n = nat_le 1 n && nat_le n (10 ^ 4)
 
 -- the ratio of two numbers, where both are in range
 abbrev pub ratio_of : ℕ → ℕ → Result NewForOld UnitFault
-ratio_of new old = if is_part new && is_part old then Ok (record { new = new; old = old }) else Err fault.OutOfRange
+ratio_of new old = if is_part new && is_part old then Ok (record { new = new; old = old }) else Err UnitFault.OutOfRange

@@ -5,15 +5,14 @@ use Rattle.std.specs.List.{flat_map}
 use Rattle.cns_units.specs.Cents.{cents_text}
 use Rattle.cns_units.specs.Day.{day_text}
 use Rattle.cns_units.specs.declared.words.Word.{Word}
-use Rattle.cns_units.specs.declared.words.Word.TheVariants as word
 
 -- the text of a word: plain decimal, cents with a point, dates as `YYYY-MM-DD`
 abbrev pub word_text : Word → List ℕ
-word_text (word.Text t) = t.now
-word_text (word.Number n) = decimal n
-word_text (word.Signed z) = signed_decimal z
-word_text (word.Amount z) = cents_text z
-word_text (word.Date d) = day_text d
+word_text (Word.Text t) = t.now
+word_text (Word.Number n) = decimal n
+word_text (Word.Signed z) = signed_decimal z
+word_text (Word.Amount z) = cents_text z
+word_text (Word.Date d) = day_text d
 
 -- words, each after a space
 abbrev pub words_text : List Word → List ℕ

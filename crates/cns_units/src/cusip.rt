@@ -73,6 +73,7 @@ fn weight_of(is_doubled: bool, character: u8) -> Option<u32>
 }
 
 // The sum over the first eight characters.
+#[tactic(auto, using(crate::proofs::CusipLemmas::sum_step, crate::proofs::CusipLemmas::sum_stop, crate::proofs::CusipLemmas::sum_all))]
 fn body_sum(body: &[u8]) -> Option<u32>
     requires { length body.now ≤ 8 }
     ensures { result ≡ sum_of Bool.false body.now }

@@ -1,5 +1,4 @@
-use Rattle.cns_account.proofs.Common.{arith}
-use Rattle.std.proofs.lemmas.Grind.{common_steps}
+use Rattle.cns_account.proofs.Common.{arith, common_steps}
 use Rattle.cns_account.proofs.day_moves.moves_of_day.Goals as goal
 
 pub loop-line-preserved : goal.loop-line-preserved

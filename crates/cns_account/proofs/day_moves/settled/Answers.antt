@@ -1,6 +1,5 @@
-use Rattle.cns_account.proofs.Common.{◌≡◌, ◌∙◌, ◌-◌, ◌^◌, arith, sym}
-use Rattle.std.proofs.lemmas.Grind.{common_steps}
-use Rattle.cns_account.proofs.Walked.{entry_more}
+use Rattle.cns_account.proofs.Common.{◌≡◌, ◌∙◌, ◌-◌, ◌^◌, arith, sym, common_steps}
+use Rattle.cns_account.proofs.Gathered.{entry_more}
 use Rattle.cns_account.proofs.day_moves.settled.Goals as goal
 
 pub loop-place-preserved : goal.loop-place-preserved

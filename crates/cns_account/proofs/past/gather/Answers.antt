@@ -1,5 +1,5 @@
 use Rattle.cns_account.proofs.Common.{◌≡◌, ◌∙◌, ◌-◌, ◌^◌, arith, sym}
-use Rattle.cns_account.proofs.Walked.{entry_more}
+use Rattle.cns_account.proofs.Gathered.{entry_more}
 use Rattle.cns_account.proofs.past.gather.Goals as goal
 
 pub loop-place-preserved : goal.loop-place-preserved

@@ -1,5 +1,4 @@
-use Rattle.cns_account.proofs.Common.{arith}
-use Rattle.std.proofs.lemmas.Grind.{common_steps}
+use Rattle.cns_account.proofs.Common.{arith, common_steps}
 use Rattle.cns_account.proofs.row.rows_of.Goals as goal
 
 pub loop-row-preserved : goal.loop-row-preserved

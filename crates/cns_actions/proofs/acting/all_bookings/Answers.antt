@@ -1,5 +1,5 @@
 use Rattle.cns_actions.proofs.Common.{◌≡◌, ◌∙◌, ◌++◌, refl, unsigned_abs, ◌≤◌, bookings_for, corporation, has_position_or_age, holding_at, oldest_of, opposite, position_limit}
-use Rattle.cns_actions.proofs.BookingOrder.{bookings_next, small_bookings}
+use Rattle.cns_actions.proofs.BookingOrder.{small_bookings}
 use Rattle.cns_actions.proofs.ByAccount.{each_listed, place}
 use Rattle.cns_actions.proofs.Skipping.{all_left}
 use Rattle.cns_actions.proofs.acting.all_bookings.Goals as goal

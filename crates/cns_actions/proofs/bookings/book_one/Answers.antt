@@ -1,5 +1,5 @@
 use Rattle.cns_actions.proofs.Common.{◌∙◌, ap, arith, aged, holding_at, key_of}
-use Rattle.cns_actions.proofs.Making.{made_alone, one_made}
+use Rattle.cns_actions.proofs.Making.{one_made}
 use Rattle.cns_actions.proofs.Registers.{cents_passed, shares_passed}
 use Rattle.cns_actions.proofs.bookings.book_one.Goals as goal
 

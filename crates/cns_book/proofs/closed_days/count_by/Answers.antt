@@ -1,5 +1,4 @@
-use Rattle.cns_book.proofs.Common.{IsPartitionPoint-from_clause, arc_value, is_dated_by}
-use Rattle.std.proofs.Common.{rules}
+use Rattle.cns_book.proofs.Common.{IsPartitionPoint-from_clause, arc_value, is_dated_by, rules}
 use Rattle.cns_book.proofs.ClosingSteps.{le_test}
 use Rattle.cns_book.proofs.ClosedDaysSearch.{dated_parted}
 use Rattle.cns_book.proofs.closed_days.count_by.Goals as goal

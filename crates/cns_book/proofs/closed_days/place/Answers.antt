@@ -1,5 +1,4 @@
-use Rattle.cns_book.proofs.Common.{answers_always, arc_value}
-use Rattle.std.proofs.Common.{rules}
+use Rattle.cns_book.proofs.Common.{answers_always, arc_value, rules}
 use Rattle.cns_book.proofs.ClosedDaysSearch.{found_at, found_nowhere}
 use Rattle.cns_book.proofs.closed_days.place.Goals as goal
 

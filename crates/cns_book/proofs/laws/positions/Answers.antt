@@ -1,4 +1,3 @@
-use Rattle.cns_book.proofs.Common.{}
 use Rattle.cns_terms.proofs.SheetSums.{positions_balanced}
 use Rattle.cns_book.proofs.laws.positions.Goals as goal
 

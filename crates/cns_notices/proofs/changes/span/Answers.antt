@@ -1,5 +1,5 @@
 use Rattle.cns_notices.proofs.Common.{ltb, leb, rules, IsPartitionPoint-from_clause, Noticed, IsPartitionedBy-leb, IsPartitionedBy-ltb}
-use Rattle.cns_notices.proofs.Expires.{in_order}
+use Rattle.cns_notices.proofs.Changing.{in_order}
 use Rattle.cns_notices.proofs.changes.span.Goals as goal
 
 pub returns : goal.returns

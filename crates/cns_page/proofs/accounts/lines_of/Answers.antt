@@ -1,4 +1,4 @@
-use Rattle.cns_page.proofs.Grouped.{lines_end, lines_more}
+use Rattle.cns_page.proofs.Gathered.{lines_end, lines_more}
 use Rattle.cns_page.proofs.accounts.lines_of.Goals as goal
 
 pub loop-row-preserved : goal.loop-row-preserved

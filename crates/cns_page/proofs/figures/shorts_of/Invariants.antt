@@ -1,4 +1,4 @@
-use Rattle.cns_page.proofs.Counted.{Counting}
+use Rattle.cns_page.proofs.Figured.{Counting}
 use Rattle.cns_page.proofs.figures.shorts_of.Given as goal
 
 abbrev pub invariant-loop-row : goal.invariant-loop-row

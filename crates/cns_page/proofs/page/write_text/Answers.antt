@@ -3,7 +3,7 @@ use Rattle.cns_page.proofs.page.write_text.Goals as goal
 
 pub returns : goal.returns
 returns g c =
-    after _ _ _ _ _ _ c.in_ok-write_begin.ensures
+    after _ _ _ _ _ _ (rw c.as_slice-others.ensures.value at c.in_ok-write_begin.ensures)
     (after _ _ _ _ _ _ (rw c.as_slice.ensures.value at c.in_ok-write_table.ensures)
     (after _ _ _ _ _ _ (rw c.as_slice-2.ensures.value at c.in_ok-write_table-2.ensures)
     (after _ _ _ _ _ _ (rw c.as_slice-3.ensures.value at c.in_ok-write_table-3.ensures)

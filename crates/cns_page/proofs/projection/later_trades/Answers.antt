@@ -1,6 +1,6 @@
 use Rattle.cns_page.proofs.Common.{rules, int_cmp, looked_at, later_among}
 use Rattle.cns_units.specs.Day.{day_number}
-use Rattle.cns_page.proofs.Ordered.{sorted_by_key}
+use Rattle.cns_page.proofs.Figured.{sorted_by_key}
 use Rattle.cns_page.proofs.projection.later_trades.Goals as goal
 
 pub returns : goal.returns

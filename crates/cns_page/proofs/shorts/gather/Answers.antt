@@ -1,5 +1,5 @@
 use Rattle.cns_page.proofs.Common.{◌∙◌, sym, ap, subst, ◌∷◌, [], ◌++◌, state_of, Aged}
-use Rattle.cns_page.proofs.Counted.{Aging, aging_more}
+use Rattle.cns_page.proofs.Figured.{Aging, aging_more}
 use Rattle.cns_page.proofs.shorts.gather.Goals as goal
 
 pub loop-row-preserved : goal.loop-row-preserved

@@ -1,5 +1,5 @@
 use Rattle.cns_page.proofs.Common.{state_of}
-use Rattle.cns_page.proofs.Counted.{Aging}
+use Rattle.cns_page.proofs.Figured.{Aging}
 use Rattle.cns_page.proofs.shorts.gather.Given as goal
 
 abbrev pub invariant-loop-row : goal.invariant-loop-row

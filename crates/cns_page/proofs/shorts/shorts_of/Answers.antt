@@ -1,6 +1,6 @@
 use Rattle.cns_page.proofs.Common.{◌-◌, ◌^◌, rules, nat_cmp, state_of, shorts_among}
 use Rattle.cns_page.proofs.Oldest.{oldest_first}
-use Rattle.cns_page.proofs.Ordered.{sorted_by_key}
+use Rattle.cns_page.proofs.Figured.{sorted_by_key}
 use Rattle.cns_page.proofs.shorts.shorts_of.Goals as goal
 
 pub returns : goal.returns

@@ -1,16 +1,11 @@
-use Rattle.cns_positions.proofs.Common.{holding_at, with_age}
+use Rattle.cns_positions.proofs.Common.{arith, with_age}
 use Rattle.cns_positions.proofs.Holdings.{aged_put, changed_here, no_gap, other_row, places_put, sorted_put}
 use Rattle.cns_positions.proofs.flat.carry.Goals as goal
 
 pub returns-in-Ok : goal.returns-in-Ok
 returns-in-Ok c =
     let is = changed_here (with_age c.args.age) c.args.rows.now c.in-Ok.at c.args.key.now c.index-rows-at.result c.carry_to.new.holding c.requires.sorted c.in-Ok.ensures.bound c.in-Ok.ensures.found c.carry_to.ensures in
-    record {
-      sorted = rw is (sorted_put c.args.key.now (with_age c.args.age (holding_at c.args.rows.now c.args.key.now)) c.args.rows.now c.requires.sorted);
-      places = λ k. rw is (places_put _ _ _ c.requires.there k);
-      others = λ k apart. rw is (other_row c.args.rows.now c.args.key.now (with_age c.args.age (holding_at c.args.rows.now c.args.key.now)) k apart);
-      carried = λ k. rw is (aged_put _ _ _ k);
-    }
+    grind (arith, is, sorted_put, places_put, other_row, aged_put)
 
 pub returns-in_default-clause-carried : goal.returns-in_default-clause-carried
 returns-in_default-clause-carried c = absurd (no_gap c.args.rows.now c.in_default.field-0 c.args.key.now c.requires.there c.in_default.ensures.absent)

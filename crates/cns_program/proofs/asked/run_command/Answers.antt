@@ -1,6 +1,5 @@
-use Rattle.cns_program.proofs.Common.{rules, ap₂, codes, Some, ◌≡◌, ◌∙◌, IfOk-weaker, rule_of, with_rule}
+use Rattle.cns_program.proofs.Common.{rules, ap₂, codes, Some, ◌≡◌, ◌∙◌, IfOk-weaker, rule_of, with_rule, words_rule}
 use Rattle.clap.specs.Lexer.{usize_max}
-use Rattle.cns_program.specs.CommandLine.{words_rule}
 use Rattle.cns_program.proofs.CommandLine.{only_value}
 use Rattle.cns_program.proofs.asked.run_command.Goals as goal
 

@@ -1,7 +1,6 @@
-use Rattle.cns_program.proofs.Common.{rules, ◌≡◌, true}
+use Rattle.cns_program.proofs.Common.{rules, ◌≡◌, true, all_ascii_digits}
 use Rattle.std.proofs.lemmas.Str.Parse.{numerals_by_value, parse_digits, tells_all_ascii_digits}
-use Rattle.cns_terms.specs.Common.{all_ascii_digits}
-use Rattle.cns_program.proofs.Workers.{unread}
+use Rattle.cns_program.proofs.CommandLine.{unread}
 use Rattle.cns_program.proofs.asked.workers_read.Goals as goal
 
 pub returns-in_default-clause-value : goal.returns-in_default-clause-value

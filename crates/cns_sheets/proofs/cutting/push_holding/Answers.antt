@@ -1,18 +1,12 @@
-use Rattle.cns_sheets.proofs.Common.{◌≡◌, ◌∙◌, ◌++◌, ◌∷◌, List, [], Some, append_assoc, arith, CentsByKey, Holding, Key, PriceList, Row, Rows, Woven, cents_at, filter-append, higher, lower, map-append, on_ok_weaker, past, unheld, weave, woven_rows}
+use Rattle.cns_sheets.proofs.Common.{◌≡◌, ◌++◌, ◌∷◌, List, [], Some, append_assoc, arith, CentsByKey, Holding, Key, PriceList, Row, Rows, cents_at, filter-append, higher, lower, map-append, on_ok_weaker, past, unheld, weave, woven_rows}
 use Rattle.cns_sheets.proofs.Weaving.{cents_past, higher_past}
 use Rattle.cns_sheets.proofs.cutting.push_holding.Goals as goal
 
 module _ (before now : PriceList) (rows : List Row) where
-  -- what comes behind rows, in two parts
-  rows_more : (rows : List Row) (es fs : Woven) → rows ++ woven_rows before now (es ++ fs) ≡ (rows ++ woven_rows before now es) ++ woven_rows before now fs
-  rows_more rows es fs = grind (arith, append_assoc, map-append, filter-append)
-
   -- the row of a holding, behind those of lower keys
   holding_step : (k : Key) (h : Holding) (cs : CentsByKey) (rest : Rows) → rows ++ woven_rows before now (weave ((k, h) ∷ rest) cs)
       ≡ ((rows ++ woven_rows before now (unheld (lower (Some k) cs))) ++ woven_rows before now ((k, (h, cents_at (past (Some k) cs) k)) ∷ [])) ++ woven_rows before now (weave rest (higher k (past (Some k) cs)))
-  holding_step k h cs rest =
-      rw (cents_past k cs, higher_past k cs)
-      (rows_more rows (unheld (lower (Some k) cs)) ((k, (h, cents_at cs k)) ∷ weave rest (higher k cs)) ∙ rows_more (rows ++ woven_rows before now (unheld (lower (Some k) cs))) ((k, (h, cents_at cs k)) ∷ []) (weave rest (higher k cs)))
+  holding_step k h cs rest = grind (arith, append_assoc, map-append, filter-append, cents_past k cs, higher_past k cs)
 
 pub returns-clause-rows : goal.returns-clause-rows
 returns-clause-rows g c =

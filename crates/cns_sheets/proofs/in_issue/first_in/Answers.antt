@@ -1,19 +1,14 @@
-use Rattle.cns_sheets.proofs.Common.{◌≤◌, ◌∙◌, sym, is_at_or_after, member_limit}
+use Rattle.cns_sheets.proofs.Common.{arith, ◌≤◌, ◌∙◌, sym, is_at_or_after, member_limit}
 use Rattle.cns_sheets.proofs.InIssue.{fewer_left, first_entry, is_place, none_left, told}
 use Rattle.cns_sheets.proofs.Entries.{first_passes}
 use Rattle.cns_terms.proofs.Everywhere.{each_found}
 use Rattle.cns_sheets.proofs.in_issue.first_in.Goals as goal
 
 pub returns-in_err-key : goal.returns-in_err-key
-returns-in_err-key g c =
-    let none = rw (← c.in_err-key.ensures.row) at (first_entry c.args.issue.now c.args.rows.now c.requires.accounts c.in_err-key.ensures.rises c.in-Some.low) in
-    rw c.from_residual.ensures cc
+returns-in_err-key g c = grind (arith, first_entry c.args.issue.now c.args.rows.now c.requires.accounts c.in_err-key.ensures.rises c.in-Some.low, c.in_err-key.ensures.row, c.from_residual.ensures)
 
 pub returns-then-is_same : goal.returns-then-is_same
-returns-then-is_same g c =
-    let own = told c.in_ok-key.key.issue c.args.issue.now c.is_same.result c.is_same.ensures ∙ c.if-is_same.true in
-    let found = rw (← c.in_ok-key.ensures.row, own) at (first_entry c.args.issue.now c.args.rows.now c.requires.accounts c.in_ok-key.ensures.rises c.in-Some.low) in
-    cc
+returns-then-is_same g c = grind (arith, told c.in_ok-key.key.issue c.args.issue.now c.is_same.result c.is_same.ensures, first_entry c.args.issue.now c.args.rows.now c.requires.accounts c.in_ok-key.ensures.rises c.in-Some.low, c.in_ok-key.ensures.row)
 
 pub loop-place-smaller : goal.loop-place-smaller
 loop-place-smaller g c =

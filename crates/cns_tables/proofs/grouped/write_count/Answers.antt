@@ -1,4 +1,4 @@
-use Rattle.std.proofs.Common.{arith}
+use Rattle.cns_tables.proofs.Common.{arith}
 use Rattle.cns_tables.specs.Grouped.{count_text}
 use Rattle.cns_tables.proofs.grouped.write_count.Goals as goal
 

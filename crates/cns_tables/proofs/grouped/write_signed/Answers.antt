@@ -1,5 +1,4 @@
-use Rattle.std.proofs.Common.{arith}
-use Rattle.cns_tables.proofs.Common.{to_z-of_z, err_from_is_err_and, front_longer, writes_then}
+use Rattle.cns_tables.proofs.Common.{to_z-of_z, err_from_is_err_and, front_longer, writes_then, arith}
 use Rattle.cns_tables.specs.Grouped.{signed_text}
 use Rattle.cns_tables.proofs.grouped.write_signed.Goals as goal
 

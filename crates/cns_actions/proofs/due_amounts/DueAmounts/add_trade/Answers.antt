@@ -1,5 +1,5 @@
-use Rattle.cns_actions.proofs.Common.{◌∙◌, on_ok_weaker, amount_at, key_of}
-use Rattle.cns_actions.proofs.DueAmounts.{trade_bound, trade_room, trade_sums}
+use Rattle.cns_actions.proofs.Common.{on_ok_weaker, amount_at, key_of}
+use Rattle.cns_actions.proofs.DueAmounts.{trade_bound, trade_room}
 use Rattle.cns_actions.proofs.due_amounts.DueAmounts.add_trade.Goals as goal
 
 pub add-requires-2-clause-room : goal.add-requires-2-clause-room

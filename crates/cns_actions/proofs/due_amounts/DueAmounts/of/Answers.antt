@@ -1,14 +1,8 @@
-use Rattle.cns_actions.proofs.Common.{◌+◌, ◌∙◌, sym, drop, amount_at, drop_all, due_entries}
-use Rattle.cns_actions.proofs.DueAmounts.{all_booked, none_booked, room_left, trade_booked, trade_passed}
+use Rattle.cns_actions.proofs.Common.{◌+◌, ◌∙◌, sym, drop}
+use Rattle.cns_actions.proofs.DueAmounts.{trade_booked, trade_passed}
 use Rattle.cns_actions.proofs.Making.{left_first}
 use Rattle.cns_actions.proofs.due_amounts.DueAmounts.of.Goals.{then-is_due+in_ok-add_trade, else-is_due}
 use Rattle.cns_actions.proofs.due_amounts.DueAmounts.of.Goals as goal
-
-pub loop-pend-init : goal.loop-pend-init
-loop-pend-init g c = rw c.nothing-amounts.ensures (none_booked (due_entries c.args.next c.args.pending.now))
-
-pub add_trade-requires : goal.add_trade-requires
-add_trade-requires g c k = room_left c.loop-pend.pend-index _ (amount_at c.loop-pend.amounts k) c.loop-pend-test.true c.requires (c.loop-pend.invariant.few k)
 
 pub loop-pend-preserved : goal.loop-pend-preserved
 loop-pend-preserved g c =
@@ -20,6 +14,3 @@ loop-pend-preserved g c =
       | then-is_due+in_ok-add_trade w ↦ let e = w.in_ok-add_trade.ensures in rw w.amounts-is (trade_booked _ c.args.next l.pend-index l.amounts w.add_trade.new.self p rest (sym c.is_due.ensures ∙ w.if-is_due.true) e.sums e.bound e.others now)
       | else-is_due w ↦ rw w.amounts-is (trade_passed _ c.args.next l.pend-index l.amounts p rest (sym c.is_due.ensures ∙ w.if-is_due.false) now)
     ]
-
-pub returns-clause-amounts : goal.returns-clause-amounts
-returns-clause-amounts g c k = all_booked (due_entries c.args.next c.args.pending.now) c.loop-pend.pend-index c.loop-pend.amounts k (rw (drop_all c.loop-pend.pend-index c.args.pending.now c.loop-pend-test.false) at c.loop-pend.invariant)

@@ -1,5 +1,4 @@
-use Rattle.cns_book.proofs.Common.{◌≡◌, ◌∙◌, sym, ap, reverse, length, arith, ◌<◌, ◌+◌, ◌-◌, ◌∷◌, [], ◌++◌, get_or, length-append, Taken, accepted, answer_to, length-reverse}
-use Rattle.std.proofs.Common.{rules}
+use Rattle.cns_book.proofs.Common.{◌≡◌, ◌∙◌, sym, ap, reverse, length, arith, ◌<◌, ◌+◌, ◌-◌, ◌∷◌, [], ◌++◌, get_or, length-append, Taken, accepted, answer_to, length-reverse, rules}
 use Rattle.cns_book.proofs.BookTaking.{below, has_room, book_stays, book_grows, reverse_push}
 use Rattle.cns_book.proofs.book.Book.take.Goals as goal
 

@@ -1,7 +1,6 @@
-use Rattle.cns_book.proofs.Common.{◌≡◌, ◌∙◌, ◌+◌, refl, sym, ap, subst, length, filter, flat_map, List, arith, slice_get, Contains, Contents, Declared, Follows, HasRoom, IsCut, Key, batches_since, books, day_sheet, has_row, holding_at, ints, journal, last_dated, nat_tests, payments_by, prices_of, rolled, trade_entries, due_entries, places_of, Activity, Reply}
+use Rattle.cns_book.proofs.Common.{◌≡◌, ◌∙◌, ◌+◌, refl, sym, ap, subst, length, filter, flat_map, List, arith, slice_get, Contains, Contents, Declared, Follows, HasRoom, IsCut, Key, batches_since, books, day_sheet, has_row, holding_at, ints, journal, last_dated, nat_tests, payments_by, prices_of, rolled, trade_entries, due_entries, places_of, Activity, Reply, due_on}
 use Rattle.cns_actions.proofs.Reachable.{can_same}
 use Rattle.cns_terms.specs.Dividends.{is_due}
-use Rattle.cns_terms.specs.Pending.{is_due as due_on}
 use Rattle.cns_book.proofs.ActionSteps.{can_be_booked}
 use Rattle.cns_book.proofs.TradingSteps.{same_rows}
 use Rattle.cns_book.proofs.ClosingSteps.{due_stay, closes_fit, day_closed, not_late, opened_rows}

@@ -1,5 +1,5 @@
 use Rattle.cns_notices.proofs.Common.{◌≡◌, ◌++◌, drop, length, map, refl, sym, [], take, take_at, arith, ended}
-use Rattle.cns_notices.proofs.Ends.{ends_issue, within_all}
+use Rattle.cns_notices.proofs.Changing.{ends_issue, within_all}
 use Rattle.cns_notices.proofs.Led.{ended_led}
 use Rattle.cns_notices.proofs.notices.Notices.end_issue.Goals as goal
 

@@ -1,5 +1,5 @@
 use Rattle.cns_notices.proofs.Common.{◌≡◌, arith, ◌++◌, drop, length, sym, refl, take, take_at, map, expired}
-use Rattle.cns_notices.proofs.Expires.{none_expired}
+use Rattle.cns_notices.proofs.Changing.{none_expired}
 use Rattle.cns_notices.proofs.Led.{expired_led}
 use Rattle.cns_notices.proofs.notices.Notices.expire.Goals as goal
 

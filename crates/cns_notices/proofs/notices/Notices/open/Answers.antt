@@ -1,5 +1,5 @@
 use Rattle.cns_notices.proofs.Common.{◌≡◌, ◌∙◌, sym, length}
-use Rattle.cns_notices.proofs.Opens.{opened_led}
+use Rattle.cns_notices.proofs.Changing.{opened_led}
 use Rattle.cns_notices.proofs.notices.Notices.open.Goals as goal
 
 pub invariant_of-self-2 : goal.invariant_of-self-2

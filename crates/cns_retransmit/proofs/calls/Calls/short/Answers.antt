@@ -1,4 +1,4 @@
-use Rattle.cns_retransmit.proofs.Common.{sym, refl, arith, on_ok_weaker}
+use Rattle.cns_retransmit.proofs.Common.{◌∙◌, sym, refl, arith, called_in, on_ok_weaker}
 use Rattle.std.proofs.lemmas.Map.Steps.{set_value_same}
 use Rattle.cns_retransmit.proofs.Calling.{short_more}
 use Rattle.cns_retransmit.proofs.calls.Calls.short.Goals as goal
@@ -6,8 +6,8 @@ use Rattle.cns_retransmit.proofs.calls.Calls.short.Goals as goal
 pub returns-clause-ok : goal.returns-clause-ok
 returns-clause-ok g c =
     let found = sym c.in-Some.ensures.value in
-    rw (sym c.self.view_is) (on_ok_weaker c.push.result
-    (short_more c.self.inside.issues.entries (c.get_mut.follows.lender c.push.new.self).entries c.args.issue c.in-Some.called.now c.push.new.self found ((c.get_mut.follows.holds c.push.new.self).3 (rw found refl)).0 c.args.short) c.push.ensures.ok)
+    let puts = (c.get_mut.follows.holds c.push.new.self).3 (rw found refl) in
+    rw (sym c.self.view_is) (on_ok_weaker c.push.result (λ is d. puts.0 d ∙ short_more (called_in c.self.inside.issues.entries) c.args.issue d c.args.short _ _ found is) c.push.ensures.ok)
 
 pub returns-clause-err : goal.returns-clause-err
 returns-clause-err g c = grind (arith, set_value_same)

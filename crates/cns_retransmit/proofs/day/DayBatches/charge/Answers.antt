@@ -16,6 +16,4 @@ pub returns-in-Ok : goal.returns-in-Ok
 returns-in-Ok g c = rw (charges g c, sym c.self.view_is) refl
 
 pub returns-in_default : goal.returns-in_default
-returns-in_default g c =
-    let gap = rw c.as_slice.ensures.value at c.in_default.ensures.absent in
-    rw (← c.self.view_is) (nothing_charged c.self.inside.batches.items c.in_default.field-0 c.args.issue c.args.fills.now gap.0 gap.1)
+returns-in_default g c = let gap = rw c.as_slice.ensures.value at c.in_default.ensures.absent in rw (← c.self.view_is) (nothing_charged _ _ _ c.args.fills.now gap.0 gap.1)
