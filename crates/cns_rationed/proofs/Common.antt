@@ -32,6 +32,6 @@ pub use prog.Wp.{Tables, WpFn}
 pub use seplogic.Ra.Ura.{Ura}
 pub use sound.WpLaws.{WpFn-mono, fm_of}
 pub use types.ByLocal.{alloc_all, env, free_all, get, lands_as, look_at, pass_all, sets, through}
-pub use types.Kit.{!, Item, at_ret, await, by, check, done, feq_i, feq_l, fjoin, fsplit, given, join, keep, later, learn, move, pick, qed, raw, show, some, split, split3, suffices, updating, use0, use1, use2, ‵, ◌$◌, ◌∵◌, ◌⊛◌, now as at_once}
+pub use types.Kit.{ !, Item, at_ret, await, by, check, done, feq_i, feq_l, fjoin, fsplit, given, join, keep, later, learn, move, pick, qed, raw, show, some, split, split3, suffices, updating, use0, use1, use2, ‵, ◌$◌, ◌∵◌, ◌⊛◌, now as at_once}
 pub use types.Logic.{Logic, sem}
 pub use types.Run.{addr, and_then, branches, enter, exec, first, fld, lit, no_more, of_opd, returns, returns_within, skips, stop, unit_lit}
