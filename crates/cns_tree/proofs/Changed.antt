@@ -1,19 +1,8 @@
 -- Values changed in place, around a row e with others on its left and right.
 -- For `change_counted` and `change_each` of tree.rt.
-use Rattle.cns_tree.proofs.Common.{◌≡◌, ℕ, suc, length, ◌&&◌, true, List, [], ◌∷◌, ◌++◌, Option, Some, None, refl, sym, ap, ◌∙◌, subst, MatchOption, IfSome, Less, Equal, Greater, is_lt, below_all, is_sorted, key_cmp, keys_total, put, find, Key, ChangesAt, IsShallow, arith}
+use Rattle.cns_tree.proofs.Common.{◌≡◌, ℕ, suc, length, ◌&&◌, true, List, [], ◌∷◌, ◌++◌, Some, refl, sym, ap, ◌∙◌, subst, Less, Equal, Greater, is_lt, below_all, is_sorted, key_cmp, keys_total, find, Key, ChangesAt, IsShallow, arith}
 use Rattle.cns_tree.specs.Changes.{ChangesEach}
 use Rattle.cns_tree.proofs.Rows.{find_left, find_middle, find_right, length_put, puts_left, puts_middle, puts_right, rises_put}
-
--- what holds of the value that a key has
-pub if_found : {V : Type 0} (P : V → Type 0) (o : Option V) (v : V) → o ≡ Some v → IfSome o P → P v
-if_found P o v is h = subst (λ x. IfSome x P) is h
-
--- a change at a key that has no row, or that has one
-nothing : {V : Type 0} (P : V → V → Type 0) (k : Key) (d new : List (Key × V)) → find key_cmp k d ≡ None → new ≡ d → ChangesAt P k d new
-nothing {V} P k d new is same = subst (λ o. MatchOption o (new ≡ d) (λ v. (w : V) × P v w × (new ≡ put key_cmp k w d))) (sym is) same
-
-something : {V : Type 0} (P : V → V → Type 0) (k : Key) (d new : List (Key × V)) (v w : V) → find key_cmp k d ≡ Some v → P v w → new ≡ put key_cmp k w d → ChangesAt P k d new
-something {V} P k d new v w is p at = subst (λ o. MatchOption o (new ≡ d) (λ v. (w : V) × P v w × (new ≡ put key_cmp k w d))) (sym is) (w, p, at)
 
 -- what a change makes of the rows d
 pub record Changed {V : Type 0} (P : V → V → Type 0) (k : Key) (d new : List (Key × V)) : Type 0 where

@@ -12,6 +12,7 @@ use std::alloc::Allocator;
 impl<V: Copy, A: Allocator> Subtree<V, A> {
     /// Gives the value at a probe's key, if the key has a row, what `change` makes of it. One way down, with at most one
     /// comparison for each level; nothing moves.
+    #[tactic(auto, using(crate::proofs::Nodes::at_node, crate::proofs::Rows::find_left, crate::proofs::Rows::find_middle, crate::proofs::Rows::find_right, crate::proofs::Rows::sides_shorter, cns_terms::proofs::Keys::keys_total))]
     pub(crate) fn change<F: FnOnce(V) -> V>(&mut self, probe: &mut Probe, change: F) -> bool
         requires { IfSome (find key_cmp probe.old.0 self.old.0) (F.pre change) }
         ensures found { result ≡ is_some (find key_cmp probe.old.0 self.old.0) }

@@ -3,15 +3,7 @@ use Rattle.cns_tree.proofs.Counts.{put_counts}
 use Rattle.cns_tree.proofs.tree.Tree.put_counted.Goals as goal
 
 pub invariant_of-self : goal.invariant_of-self
-invariant_of-self g c =
-    let root = c.replace-root.ensures.value in
-    let p = put_counts c.args.key c.args.value c.self.inside.root.0 c.put.result.side.0 c.args.spare.now c.put.new.spare c.self.invariant.rises (rw root at c.put.ensures.rows) (rw root at c.put.ensures.spare) in
-    let more = p.1 (omega arith) in
-    record { rises = p.0; count_is = omega arith }
+invariant_of-self g c = grind (arith, put_counts c.args.key c.args.value c.self.inside.root.0 c.put.result.side.0 c.args.spare.now c.put.new.spare c.self.invariant.rises)
 
 pub invariant_of-self-else-len-held : goal.invariant_of-self-else-len-held
-invariant_of-self-else-len-held g c =
-    let root = c.replace-root.ensures.value in
-    let p = put_counts c.args.key c.args.value c.self.inside.root.0 c.put.result.side.0 c.args.spare.now c.put.new.spare c.self.invariant.rises (rw root at c.put.ensures.rows) (rw root at c.put.ensures.spare) in
-    let same = p.2 (omega arith) in
-    record { rises = p.0; count_is = omega arith }
+invariant_of-self-else-len-held g c = grind (arith, put_counts c.args.key c.args.value c.self.inside.root.0 c.put.result.side.0 c.args.spare.now c.put.new.spare c.self.invariant.rises)
