@@ -1,6 +1,6 @@
 -- The checks of trades.
 -- For `is_in_time` and `check_trade` of trades.rt.
-use Rattle.cns_trades.proofs.Common.{◌≡◌, refl, ◌≤◌, ◌^◌, ◌<◌, FitsSigned, of_z, to_z, ℤ, pos, ◌-ℤ◌, Bool, true, false, not, ◌&&◌, ◌||◌, ◌==◌, List, Some, arith, w64, int_le, unsigned_abs, Day, day_number, fits_signed_from_abs, ints, is_not_after, is_past, is_too_far, pend_of, position_limit, Pend, book_answer, party, trade_answer}
+use Rattle.cns_trades.proofs.Common.{◌≡◌, ◌≤◌, ◌^◌, ◌<◌, FitsSigned, of_z, to_z, ℤ, pos, ◌-ℤ◌, Bool, true, false, not, ◌&&◌, ◌||◌, ◌==◌, List, Some, arith, w64, int_le, unsigned_abs, Day, day_number, fits_signed_from_abs, ints, is_not_after, is_past, is_too_far, pend_of, position_limit, Pend, book_answer, party, trade_answer}
 use Rattle.std.proofs.lemmas.Int.{to_z-of_z}
 use mir.Val.{hbits}
 use lib.Signed.{mag}

@@ -1,6 +1,6 @@
 -- Pages of bits.
 -- For `with_bit` and `turn_to` of references.rt.
-use Rattle.cns_trades.proofs.Common.{◌≡◌, ◌∙◌, ap, ℕ, ◌*◌, ◌^◌, ◌<◌, ◌%◌, Bool, true, false, cond, eqb, ◌||◌, refl, arith, List, Some, bit_or, nat_cmp, is_eq, lookup, nat_tests, bits_in, has_bit}
+use Rattle.cns_trades.proofs.Common.{◌≡◌, ℕ, ◌*◌, ◌^◌, ◌<◌, ◌%◌, Bool, true, false, cond, eqb, ◌||◌, refl, arith, List, Some, bit_or, nat_cmp, is_eq, lookup, nat_tests, bits_in, has_bit}
 use Rattle.std.proofs.lemmas.Nat.{one_shl}
 use Rattle.std.proofs.lemmas.Nat.Bits.{bit_at_or, bit_at-pow_same, bit_at-pow_other}
 

@@ -1,6 +1,6 @@
 -- Sums of sides by key.
 -- For `take`, `add` and `open` of sides.rt, `waits_in` of pending.rt and others.
-use Rattle.cns_trades.proofs.Common.{◌≡◌, ◌∙◌, sym, ap, subst, refl, ℕ, ◌+◌, ◌≤◌, Bool, true, false, cond, Option, Some, None, unwrap_or, is_some, ◌*◌, ◌^◌, ◌<◌, ◌&&◌, ◌||◌, ◌==◌, List, ◌∷◌, ◌++◌, append-nil, drop, drop-cons, take, filter, get_or, length, add-one, arith, take_all, is_eq, AllByRecursion, Cusip, added-each, bytes_eq-Decides, drop_all, each_weaker, equal, exact_keys, key_cmp, keys_total, lookup, same_issue, same_key, shares_limit, tied_itself, waits_in, Key, Pend, Sides, AreSummed, SidesByKey, bought_key, has_sides, less, more, no_sides, sides_at, sides_of, sold_key}
+use Rattle.cns_trades.proofs.Common.{◌≡◌, ◌∙◌, sym, ap, refl, ℕ, ◌+◌, ◌≤◌, Bool, true, false, cond, Option, Some, None, unwrap_or, ◌*◌, ◌^◌, ◌<◌, ◌&&◌, ◌==◌, List, ◌∷◌, ◌++◌, append-nil, drop, drop-cons, take, filter, get_or, length, add-one, arith, take_all, is_eq, AllByRecursion, Cusip, added-each, bytes_eq-Decides, drop_all, each_weaker, equal, exact_keys, key_cmp, keys_total, lookup, same_issue, same_key, shares_limit, tied_itself, waits_in, Key, Pend, Sides, AreSummed, SidesByKey, bought_key, has_sides, less, more, no_sides, sides_at, sides_of, sold_key}
 use Rattle.cns_terms.proofs.Waiting.{bought_added, sold_added}
 
 -- what stands at a key, if anything
