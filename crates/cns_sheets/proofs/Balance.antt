@@ -58,9 +58,6 @@ module _ {X : Type 0} (issue : X → Cusip) (f : X → ℤ) where
 abbrev counts : ℤ → Bool
 counts n = not (int_eq n (pos 0))
 
-counts_or_zero : (n : ℤ) → counts n ≡ false → n ≡ pos 0
-counts_or_zero n h = grind arith
-
 alike : (o p : Option ℤ) → unwrap_or o (pos 0) ≡ unwrap_or p (pos 0) → kept_if counts o ≡ kept_if counts p
 alike o p h = grind arith
 
@@ -72,7 +69,7 @@ module _ (f : Key × ℤ → ℤ) (nothing : (k : Key) → f (k, pos 0) ≡ pos 
   -- zeros add nothing
   counted : (xs : List (Key × ℤ)) → total f (filter (λ e. counts e.1) xs) ≡ total f xs
   counted [] = refl
-  counted (e ∷ xs) = grind (arith, ints, counts_or_zero e.1, nothing e.0, counted xs)
+  counted (e ∷ xs) = grind (arith, ints, nothing e.0, counted xs)
 
   -- they have the same sums
   pub same_sums : (xs ys : List (Key × ℤ)) → is_sorted key_cmp xs ≡ true → is_sorted key_cmp ys ≡ true → ((k : Key) → unwrap_or (find key_cmp k xs) (pos 0) ≡ unwrap_or (find key_cmp k ys) (pos 0)) → total f xs ≡ total f ys

@@ -1,8 +1,8 @@
 -- What a sheet keeps of the rows that it is built from.
 -- For `build` of sheet.rt.
-use Rattle.cns_sheets.proofs.Common.{◌≡◌, refl, ℤ, pos, true, List, [], ◌∷◌, map, filter, Option, None, unwrap_or, option_map, nat_cmp, arith, CentsByKey, Cusip, Holding, IsCut, Key, Listed, Paying, PriceList, Row, Rows, Woven, by_key, cents_at, dividend_of, find, find_filter, held_above, held_same, is_held, is_sorted, kept_if, key_cmp, keys_total, listed_above, price_in, said, says, slice_cmp, sorted_filter, weave, woven_row, woven_rows, zeros}
+use Rattle.cns_sheets.proofs.Common.{◌≡◌, refl, true, List, [], ◌∷◌, map, filter, None, nat_cmp, arith, CentsByKey, Cusip, IsCut, Key, Listed, Paying, PriceList, Row, Rows, Woven, by_key, cents_at, dividend_of, find, find_filter, held_above, held_same, is_held, is_sorted, key_cmp, keys_total, listed_above, price_in, says, slice_cmp, sorted_filter, weave, woven_row, woven_rows}
 use Rattle.cns_sheets.proofs.Entries.{find_keyed, sorted_if, sorted_keyed}
-use Rattle.cns_sheets.proofs.Weaving.{both_at, find_weave, sorted_weave}
+use Rattle.cns_sheets.proofs.Weaving.{find_weave, sorted_weave}
 
 -- the list of prices is in the order of issues
 pub prices_rise : (es : Listed) → is_sorted (slice_cmp nat_cmp) es ≡ true → is_sorted (slice_cmp nat_cmp) (listed_above es None) ≡ true
@@ -21,10 +21,6 @@ module _ (before now : PriceList) where
   with_keys [] = refl
   with_keys (e ∷ es) = grind (arith, with_keys es)
 
-  -- what is kept of a key's row
-  kept_row : (k : Key) (o : Option Holding) (p : Option ℤ) → kept_if says (option_map (λ v. woven_row before now (k, v)) (both_at o p)) ≡ said (woven_row before now (k, (unwrap_or o zeros, unwrap_or p (pos 0))))
-  kept_row k o p = grind arith
-
 -- the rows of holdings and of the cents that dividends book are those that a close cuts
 pub rows_cut : (before : PriceList) (prices : Listed) (R : Rows) (ps : List Paying) (cs : CentsByKey) → is_sorted key_cmp R ≡ true → is_sorted key_cmp cs ≡ true → ((k : Key) → cents_at cs k ≡ dividend_of ps k)
     → IsCut before prices R ps (woven_rows before (listed_above prices None) (weave (held_above R None) cs))
@@ -35,5 +31,5 @@ rows_cut before prices R ps cs s t cents =
     let order : is_sorted key_cmp es ≡ true = rw (sorted_keyed key_cmp (woven_row before now) (weave (held_above R None) cs)) (sorted_weave (held_above R None) cs rise t) in
     record {
       order = rw (with_keys before now (weave (held_above R None) cs)) (sorted_filter keys_total says es order);
-      each = λ k. grind (arith, with_keys before now (weave (held_above R None) cs), find_filter keys_total says k es order, find_keyed (woven_row before now) k (weave (held_above R None) cs), find_weave k (held_above R None) cs rise, kept_row before now k (find key_cmp k (held_above R None)) (find key_cmp k cs), listed_found k.issue prices, cents k, held_same R k s);
+      each = λ k. grind (arith, with_keys before now (weave (held_above R None) cs), find_filter keys_total says k es order, find_keyed (woven_row before now) k (weave (held_above R None) cs), find_weave k (held_above R None) cs rise, listed_found k.issue prices, cents k, held_same R k s);
     }

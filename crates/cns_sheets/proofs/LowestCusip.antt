@@ -1,26 +1,14 @@
 -- No CUSIP comes before the lowest.
 -- For `new` of columns.rt.
-use Rattle.cns_sheets.proofs.Common.{◌≡◌, ◌∙◌, ap, sym, refl, subst, ℕ, ◌≤◌, Bool, true, false, not, List, [], ◌∷◌, ◌++◌, take, length, length-take, replicate, Option, Some, None, arith, is_some, slice_index, eqb-true, is_lt, nat_cmp, Ordering, Cusip, drop_all, nat_tests, ordering_then, slice_cmp, drop_more, take-append-drop, IsCusip, after_value, character_value, last_fault}
+use Rattle.cns_sheets.proofs.Common.{◌≡◌, ◌∙◌, ap, sym, refl, subst, ℕ, Bool, true, false, not, List, [], ◌∷◌, ◌++◌, take, length, length-take, replicate, Option, Some, None, arith, is_some, slice_index, eqb-true, is_lt, nat_cmp, Cusip, drop_all, nat_tests, slice_cmp, drop_more, take-append-drop, IsCusip, last_fault}
 use Rattle.cns_sheets.specs.LowestCusip.{IsFromLowest}
 use Rattle.cns_units.specs.Cusip.{sum_of}
-
--- a character with a value is not below `#`
-valued : (c : ℕ) → is_some (character_value c) ≡ true → 35 ≤ c
-valued c h = grind (arith, nat_tests)
-
--- where characters add up, the first has a value, and the others add up
-some_parts : (doubled : Bool) (v r : Option ℕ) → is_some (after_value doubled v r) ≡ true → (is_some v ≡ true) × (is_some r ≡ true)
-some_parts doubled v r h = grind arith
-
--- a text comes not before another with a `#` first, unless its own first character is one
-first_or_rest : (c : ℕ) (rest : Ordering) → 35 ≤ c → (c ≡ 35 → is_lt rest ≡ false) → is_lt (ordering_then (nat_cmp c 35) rest) ≡ false
-first_or_rest c rest le h = grind arith
 
 -- texts that begin alike but for characters above `#` compare by them, or by what follows
 body_first : (doubled : Bool) (cs rest low : List ℕ) → is_some (sum_of doubled cs) ≡ true → (cs ≡ replicate (length cs) 35 → is_lt (slice_cmp nat_cmp rest low) ≡ false) → is_lt (slice_cmp nat_cmp (cs ++ rest) (replicate (length cs) 35 ++ low)) ≡ false
 unfolding sum_of
 body_first doubled [] rest low s h = h refl
-body_first doubled (c ∷ cs) rest low s h = grind (arith, some_parts doubled (character_value c) (sum_of (not doubled) cs) s, first_or_rest c, valued c, body_first (not doubled) cs rest low, h)
+body_first doubled (c ∷ cs) rest low s h = grind (arith, nat_tests, body_first (not doubled) cs rest low, h)
 
 -- eight characters that add up, and the fault of a ninth
 sums : (o : Option ℕ) (x : ℕ) → last_fault o x ≡ None → is_some o ≡ true

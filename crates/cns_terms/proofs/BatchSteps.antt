@@ -1,29 +1,20 @@
 -- How batches stand after one more activity.
 use Rattle.std.proofs.Common.{◌≡◌, refl, ℕ, ◌+◌, ◌≤◌, true, false, cond, ◌==◌, List, [], ◌∷◌, map, filter, sum_by, arith}
-use Rattle.cns_terms.proofs.Common.{Activity, Cusip, Day, Execution, Fill, IsReached, Journal, Liable, Member, NoneHolds, Notice, Posting, Short, batch_at, batch_since, called, charged, day, executes, execution_entries, fill_entry, fills, fills_before, in_order, is_called, journal, left_of, liable_of, long, originator_entry, same_issue, shares_for, shorts, sum_by-cons, ints}
+use Rattle.cns_terms.proofs.Common.{Activity, Cusip, Day, Execution, Fill, IsReached, Journal, Liable, Member, Notice, Posting, Short, batch_at, batch_since, called, charged, day, executes, execution_entries, fill_entry, fills, fills_before, in_order, is_called, journal, left_of, liable_of, long, originator_entry, same_issue, shares_for, shorts, sum_by-cons, ints}
 use Rattle.cns_terms.specs.Fills.{brought, filled, given_to}
-use Rattle.cns_terms.specs.Refusals.{rules}
-
--- an activity that executes no notice of the day in the issue fills nothing of its batch
-filled_same : (p : Posting) (J : Journal) (n : ℕ) (c : Cusip) (a : Member) → executes J n c p.activity ≡ false → filled (p ∷ J) n c a ≡ filled J n c a
-filled_same p J n c a h1 = grind arith
 
 -- and leaves it
 pub batch_same : (p : Posting) (J K : Journal) (c : Cusip) → executes J (day K) c p.activity ≡ false → batch_since (p ∷ J) K c ≡ batch_since J K c
 batch_same p J K c h =
-    let same : (l : Liable) → left_of (p ∷ J) (day K) c l ≡ left_of J (day K) c l = λ l. grind (arith, filled_same p J (day K) c l.member h) in
+    let same : (l : Liable) → left_of (p ∷ J) (day K) c l ≡ left_of J (day K) c l = λ l. grind arith in
     λ i. map (λ l. same l i) (batch_at K c)
 
 -- ---- no notice of a day is executed before the second day after it
 
--- an activity that is not refused executes no notice of the open day, nor of the day before it
-none_executed : (opening : Day) (J : Journal) (n : ℕ) (c : Cusip) (x : Activity) → NoneHolds (rules opening J x) → day J ≤ n + 1 → executes J n c x ≡ false
-none_executed opening J n c x h1 h2 = grind arith
-
 -- nothing is filled of the notices of the open day, nor of the day before it
 pub unfilled : (opening : Day) (L : List Activity) (n : ℕ) (c : Cusip) (a : Member) → IsReached opening L → day (journal opening L) ≤ n + 1 → filled (journal opening L) n c a ≡ 0
 unfilled opening [] n c a r le = refl
-unfilled opening (x ∷ L) n c a r le = grind (arith, none_executed opening (journal opening L) n c x, unfilled opening L n c a r.2)
+unfilled opening (x ∷ L) n c a r le = grind (arith, unfilled opening L n c a r.2)
 
 -- liabilities that nothing was filled of
 left_whole : (J : Journal) (n : ℕ) (c : Cusip) (ss : List Short) → ((a : Member) → filled J n c a ≡ 0) → map (left_of J n c) (map liable_of ss) ≡ map liable_of ss

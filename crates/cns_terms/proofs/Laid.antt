@@ -1,5 +1,5 @@
 -- Stretches laid end to end, each from where the one before it ends: so the fills of an execution are its shares and its money, whole.
-use Rattle.std.proofs.Common.{◌≡◌, ap, refl, ℕ, ◌+◌, List, [], ◌∷◌, ◌++◌, append_assoc, filter, length, map, nat_lt, sum_by, arith, length-append, le_trans, ◌*◌, ◌/◌, ◌<◌, ◌≤◌, min, Bool, false, cond, div-mul-le_self, mul-le-mul_left}
+use Rattle.std.proofs.Common.{◌≡◌, ap, refl, ℕ, ◌+◌, List, [], ◌∷◌, ◌++◌, append_assoc, filter, length, map, nat_lt, sum_by, arith, length-append, le_trans, ◌*◌, ◌/◌, ◌<◌, ◌≤◌, min, false, div-mul-le_self, mul-le-mul_left}
 use Rattle.cns_terms.specs.Common.{Fill, Liable, Member, capacity, fills_of, stretch, room_of}
 use Rattle.std.specs.List.{enumerate_from}
 use Rattle.std.proofs.Math.Seq.{take-append_seam}

@@ -1,16 +1,11 @@
 -- The checks of trades.
 -- For `is_in_time` and `check_trade` of trades.rt.
-use Rattle.cns_trades.proofs.Common.{◌≡◌, ◌≤◌, ◌^◌, ◌<◌, FitsSigned, of_z, to_z, ℤ, pos, ◌-ℤ◌, Bool, true, false, not, ◌&&◌, ◌||◌, ◌==◌, List, Some, arith, w64, int_le, unsigned_abs, Day, day_number, fits_signed_from_abs, ints, is_not_after, is_past, is_too_far, pend_of, position_limit, Pend, book_answer, party, trade_answer}
+use Rattle.cns_trades.proofs.Common.{◌≡◌, ◌≤◌, ◌^◌, ◌<◌, FitsSigned, of_z, to_z, ℤ, Bool, true, false, not, ◌||◌, ◌==◌, List, Some, arith, w64, unsigned_abs, fits_signed_from_abs, is_not_after, is_past, is_too_far, pend_of, position_limit, Pend, book_answer, party, trade_answer}
 use Rattle.std.proofs.lemmas.Int.{to_z-of_z}
 use mir.Val.{hbits}
 use lib.Signed.{mag}
 use Rattle.cns_terms.specs.declared.command.Trade.{Trade}
-use Rattle.cns_terms.specs.Refusals.{days_ahead}
 use Rattle.cns_trades.specs.declared.facts.TradeFacts.{TradeFacts}
-
--- the days on which a trade may settle, by numbers
-pub in_time : (d today : Day) → (int_le (pos 0) (day_number d -ℤ day_number today) && int_le (day_number d -ℤ day_number today) (pos days_ahead)) ≡ not (is_past d today || is_too_far d today)
-in_time d today = grind (arith, ints)
 
 -- a number within 64 bits
 pub wide_fits : (z : ℤ) → mag z < 2 ^ hbits w64 → FitsSigned w64 z

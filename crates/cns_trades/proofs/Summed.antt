@@ -1,6 +1,6 @@
 -- Sums of sides by key.
 -- For `take`, `add` and `open` of sides.rt, `waits_in` of pending.rt and others.
-use Rattle.cns_trades.proofs.Common.{◌≡◌, ◌∙◌, sym, ap, refl, ℕ, ◌+◌, ◌≤◌, Bool, true, false, cond, Option, Some, None, unwrap_or, ◌*◌, ◌^◌, ◌<◌, ◌&&◌, ◌==◌, List, ◌∷◌, ◌++◌, append-nil, drop, drop-cons, take, filter, get_or, length, add-one, arith, take_all, is_eq, AllByRecursion, Cusip, added-each, bytes_eq-Decides, drop_all, each_weaker, equal, exact_keys, key_cmp, keys_total, lookup, same_issue, same_key, shares_limit, tied_itself, waits_in, Key, Pend, Sides, AreSummed, SidesByKey, bought_key, has_sides, less, more, no_sides, sides_at, sides_of, sold_key}
+use Rattle.cns_trades.proofs.Common.{◌≡◌, ◌∙◌, sym, ap, refl, ℕ, ◌+◌, ◌≤◌, Bool, true, false, cond, Option, Some, None, unwrap_or, ◌*◌, ◌<◌, ◌&&◌, ◌==◌, List, ◌∷◌, ◌++◌, append-nil, drop, drop-cons, take, filter, get_or, length, add-one, arith, take_all, is_eq, AllByRecursion, Cusip, added-each, bytes_eq-Decides, drop_all, each_weaker, equal, exact_keys, key_cmp, lookup, same_issue, same_key, shares_limit, waits_in, Key, Pend, Sides, SidesByKey, bought_key, has_sides, less, more, no_sides, sides_at, sides_of, sold_key}
 use Rattle.cns_terms.proofs.Waiting.{bought_added, sold_added}
 
 -- what stands at a key, if anything
@@ -43,10 +43,6 @@ has_none es k h = grind arith
 sides_same : (s t : Sides) → s.bought ≡ t.bought → s.sold ≡ t.sold → s ≡ t
 sides_same s t p q = λ i. record { bought = p i; sold = q i }
 
--- no room where nothing is put
-pub gone : (old new : SidesByKey) (key : Key) → Puts old new key None → has_sides new key ≡ false
-gone old new key h = grind (arith, h key, tied_itself keys_total key)
-
 -- sums less themselves
 pub less_itself : (s : Sides) → less s s ≡ no_sides
 less_itself s = sides_same _ _ (omega arith) (omega arith)
@@ -76,10 +72,6 @@ taken_both t u n s = grind (arith, sides_same)
 -- the trades' sums are as small as their number allows
 pub few_sides : (ps : List Pend) (k : Key) → AllByRecursion (λ (p : Pend). p.shares ≤ shares_limit) ps → ((sides_of ps k).bought ≤ shares_limit * length ps) × ((sides_of ps k).sold ≤ shares_limit * length ps)
 few_sides ps k small = grind (arith, added-each, each_weaker, bought_added, sold_added)
-
--- and so small that sums of them fit in 127 bits
-pub few_fits : (ps : List Pend) (es : SidesByKey) (k : Key) → AreSummed ps es → length ps < 2 ^ 63 → ((sides_at es k).bought < 2 ^ 127) × ((sides_at es k).sold < 2 ^ 127)
-few_fits ps es k are few = grind (arith, few_sides ps k, are.small, are.sums k)
 
 -- ---- the next trade of a list
 

@@ -184,7 +184,7 @@ impl<A: Allocator + Drop> Pending<A> {
 
     /// Adds a trade after the others, and uses its reference. Room is made for all of it first: where memory is refused
     /// neither is done.
-    #[tactic(auto, using(crate::proofs::Summed::few_fits))]
+    #[tactic(auto, using(crate::proofs::Summed::few_sides))]
     pub(crate) fn push(
         &mut self,
         pend: &Pend,

@@ -115,7 +115,7 @@ impl<A: Allocator + Drop> SideSums<A> {
     }
 
     /// Takes from the sums at a key. Where nothing is left the key is given up.
-    #[tactic(auto, using(crate::proofs::Summed::less_itself, crate::proofs::Summed::gone))]
+    #[tactic(auto, using(crate::proofs::Summed::less_itself))]
     pub fn take(&mut self, key: Key, other: &Sides)
         requires bought { other.now.bought ≤ (sides_at self.old key).bought }
         requires sold { other.now.sold ≤ (sides_at self.old key).sold }

@@ -52,7 +52,7 @@ fn is_ahead_in_time(ahead: i64) -> bool
 }
 
 // Whether a trade may settle on a day: on today, or on one of the next five calendar days.
-#[tactic(auto, using(crate::proofs::Checking::wide_fits, crate::proofs::Checking::in_time))]
+#[tactic(auto, using(crate::proofs::Checking::wide_fits, std::proofs::lemmas::Int::ints))]
 fn is_in_time(date: Day, today: Day) -> bool
     ensures { result ≡ not (is_past date today || is_too_far date today) }
 {
