@@ -1,6 +1,6 @@
 -- Splits and exchanges.
 -- For `split` and `exchange` of parts/actions.rt, clauses step and places.
-use Rattle.cns_book.proofs.Common.{◌≡◌, ◌∙◌, sym, subst, refl, ◌≤◌, ℤ, true, false, ◌||◌, List, ◌∷◌, map, reverse, Option, None, arith, bytes_eq, IsSome, Ok, Err, Account, Activity, AreHolders, Contents, Cusip, Entry, Follows, FollowsNotices, FollowsRows, HasRoom, Holding, IsInRange, IsLimited, IsReached, Key, Listed, Pend, Rows, account_lt, activity_of, age_brought, and_right, books, bought_in, changed_each, each_both, each_in_order, entries, entries_of, first_refusal, holding_at, is_held_up, is_listed, is_retired, is_too_large, is_too_large_at, issue_of, issue_rules, journal, limited, list_any, member_limit, members, members_from_one, pending, position_limit, positions_in, posting, price_in, refusal, retired_in, sold_in, with_age, max-zero, position, Refusal, carried_on, no_account_elsewhere, no_position, ended, ended_by, Action, exchange_rules, ◌⊎◌, each_weaker, AreElsewhere, Booking, Command, Steps, Reply, CanBeBooked, position_at, waits_for}
+use Rattle.cns_book.proofs.Common.{◌≡◌, ◌∙◌, refl, ◌≤◌, ℤ, true, false, ◌||◌, List, ◌∷◌, map, reverse, Option, None, arith, bytes_eq, IsSome, Ok, Err, Account, Activity, AreHolders, Contents, Cusip, Entry, Follows, FollowsNotices, HasRoom, Holding, IsInRange, Key, Listed, Pend, Rows, account_lt, activity_of, age_brought, and_right, books, bought_in, changed_each, each_both, each_in_order, entries, entries_of, first_refusal, holding_at, is_held_up, is_listed, is_retired, is_too_large, is_too_large_at, issue_of, issue_rules, journal, limited, list_any, member_limit, members, members_from_one, pending, position_limit, positions_in, posting, price_in, refusal, retired_in, sold_in, with_age, max-zero, position, Refusal, carried_on, no_account_elsewhere, no_position, ended, ended_by, Action, exchange_rules, ◌⊎◌, each_weaker, AreElsewhere, Booking, Command, Steps, Reply, CanBeBooked, position_at, waits_for, ap}
 use Rattle.cns_terms.specs.Refusals.{are_too_large}
 use Rattle.cns_terms.specs.declared.action.Exchange.{Exchange}
 use Rattle.cns_terms.specs.declared.action.Split.{Split}
@@ -25,17 +25,6 @@ can_be_booked s r = record {
 
 -- ---- the members, and their positions
 
--- the members are all who have a position in an issue
-members_hold : (s : Contents) (L : List Activity) (c : Cusip) → Follows L s → AreHolders (λ a. position (journal s.opening L) a c) (members (journal s.opening L))
-members_hold s L c f =
-    let J = journal s.opening L in
-    let l : IsLimited s.opening J = limited s.opening L f.reached in
-    record {
-      numbers = each_both (λ a. 1 ≤ a) (λ a. a ≤ member_limit) (members J) (members_from_one s.opening J l) (each_in_order (λ a. a ≤ member_limit) account_lt _ l.numbered);
-      distinct = rising_distinct (members J) (and_right _ _ l.whole.now.accounts_rise);
-      others = λ a h none. no_position a c J (no_account_elsewhere J a c l.whole.now (grind arith));
-    }
-
 -- an entry is too large whichever way round the trades that wait stand
 same_large : (before : Account → Cusip → ℤ) (ps : List Pend) (es : List Entry) (e : Entry) → is_too_large_at before (reverse ps) es e ≡ is_too_large_at before ps es e
 same_large before ps es e = grind (arith, bought-reverse, sold-reverse)
@@ -50,7 +39,13 @@ module _ (s : Contents) (L : List Activity) (f : Follows L s) where
   same_positions i a c = (f.rows (record { account = a; issue = c }) i).now
 
   pub holders_are : (c : Cusip) → AreHolders (positions_in s.rows c) (members (journal s.opening L))
-  holders_are c = subst (λ (q : Account → ℤ). AreHolders q (members (journal s.opening L))) (sym (λ i a. same_positions i a c)) (members_hold s L c f)
+  holders_are c =
+      let l = limited s.opening L f.reached in
+      record {
+        numbers = each_both (λ a. 1 ≤ a) (λ a. a ≤ member_limit) (members (journal s.opening L)) (members_from_one s.opening (journal s.opening L) l) (each_in_order (λ a. a ≤ member_limit) account_lt _ l.numbered);
+        distinct = rising_distinct (members (journal s.opening L)) (and_right _ _ l.whole.now.accounts_rise);
+        others = λ a h none. ap (λ (q : Account → Cusip → ℤ). q a c) same_positions ∙ no_position a c (journal s.opening L) (no_account_elsewhere (journal s.opening L) a c l.whole.now (grind arith));
+      }
 
   -- so are the entries
   pub entries_are : (x : Action) → entries_of x (positions_in s.rows (issue_of x)) (members (journal s.opening L)) ≡ entries s.opening (journal s.opening L) (activity_of x)
@@ -92,12 +87,6 @@ exchange_unrefused L s x r said is size waits = grind arith
 pub with_no_age : (h : Holding) → with_age 0 h ≡ h
 with_no_age h = λ i. record h { carried = max-zero h.carried i }
 
--- what an exchange books, with the age that it brings
-exchanged_rows : (s : Contents) (L : List Activity) (x : Exchange) (rows : Rows) → IsReached s.opening (Activity.Exchange x ∷ L) → FollowsRows (journal s.opening L) s
-    → ((k : Key) → holding_at rows k ≡ with_age (age_brought s.rows (Action.Exchange x) k) (books (entries s.opening (journal s.opening L) (Activity.Exchange x)) k (holding_at s.rows k)))
-    → FollowsRows (journal s.opening (Activity.Exchange x ∷ L)) (record s { rows = rows })
-exchanged_rows s L x rows reached f b k = grind (arith, f k, f (record { account = k.account; issue = x.old }), carried_on s.opening L x reached k.account k.issue, b k)
-
 -- an exchange that is not refused
 pub exchange_follows : (L : List Activity) (s : Contents) (x : Exchange) (prices : Listed) (rows : Rows) → Follows L s → IsInRange (Activity.Exchange x) → refusal s.opening (journal s.opening L) (Command.Activity (Activity.Exchange x)) ≡ None
     → ((c : Cusip) → price_in prices c ≡ price_in s.prices c) → ((c : Cusip) → retired_in prices c ≡ (bytes_eq x.old c || retired_in s.prices c))
@@ -105,7 +94,7 @@ pub exchange_follows : (L : List Activity) (s : Contents) (x : Exchange) (prices
     → Steps L (Command.Activity (Activity.Exchange x)) (Ok Reply.Accepted) (record s { prices = prices; rows = rows; notices = map (ended x.old) s.notices })
 exchange_follows L s x prices rows f range none p r b =
     let J = journal s.opening L in
-    accepted L (Activity.Exchange x) Reply.Accepted none refl (grind (arith, f, exchanged_rows s L x rows (range, none, f.reached) f.rows b, changed_each J (posting s.opening J (Activity.Exchange x)) (ended x.old) (λ k y. ended_by x.old y), batches_stay s J (Activity.Exchange x) refl refl f.batches))
+    accepted L (Activity.Exchange x) Reply.Accepted none refl (grind (arith, f, carried_on s.opening L x (range, none, f.reached), b, changed_each J (posting s.opening J (Activity.Exchange x)) (ended x.old) (λ k y. ended_by x.old y), batches_stay s J (Activity.Exchange x) refl refl f.batches))
 
 -- the notices after a split
 pub split_ends : {s : Contents} (L : List Activity) (x : Split) → Follows L s → FollowsNotices (journal s.opening (Activity.Split x ∷ L)) (record s { notices = map (ended x.issue) s.notices })

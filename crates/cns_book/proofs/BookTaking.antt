@@ -1,6 +1,6 @@
 -- One command more in the history, whose entries keep their replies when one is added to the others.
 -- For `take` of book.rt, clause ok, and `add_reply` and `push` of history.rt.
-use Rattle.cns_book.proofs.Common.{◌≡◌, sym, ap, subst, ℕ, ◌+◌, ◌-◌, ◌≤◌, ◌<◌, cond, eqb, List, [], ◌∷◌, ◌++◌, length, set, get_or, reverse, Ok, arith, get_or-set_other, Command, Contents, Day, Follows, HasRoom, IsLegal, Reply, Taken, accepted, answer_to, count, history_limit, nat_tests, reverse-append, sum_by-cons, accepted_after, Steps, ◌∙◌, refl, Option, Some, map, length-append, unwrap_or-slice_get, AreAmong, IsAmong, Stays, reply_in, taken_in}
+use Rattle.cns_book.proofs.Common.{◌≡◌, sym, ap, subst, ℕ, ◌+◌, ◌-◌, ◌≤◌, ◌<◌, cond, eqb, List, [], ◌∷◌, ◌++◌, length, set, get_or, Ok, arith, get_or-set_other, Command, Contents, Day, Follows, HasRoom, IsLegal, Reply, Taken, accepted, answer_to, count, history_limit, nat_tests, sum_by-cons, accepted_after, Steps, ◌∙◌, refl, Some, map, length-append, unwrap_or-slice_get, AreAmong, Stays, reply_in, taken_in}
 use Rattle.std.proofs.lemmas.Grind.{get_or-set_at}
 use Rattle.cns_terms.specs.declared.worker.Worker.{Worker}
 use Rattle.cns_book.specs.Legal.{IsBook}
@@ -9,13 +9,10 @@ use Rattle.std.proofs.Math.ListN.{get_or-append}
 use Rattle.std.proofs.Math.Seq.{get_or-append_seam}
 use Rattle.cns_book.specs.declared.history.Brief.{Brief}
 
-same_reply : (rs : List Reply) (r : Reply) (p : Option ℕ) → IsAmong rs p → reply_in (rs ++ r ∷ []) p ≡ reply_in rs p
-same_reply rs r p h1 = grind (arith, unwrap_or-slice_get, get_or-append)
-
 -- one reply more
 pub longer : (rs : List Reply) (r : Reply) → Stays rs (rs ++ r ∷ [])
 longer rs r [] all = (tt, refl)
-longer rs r (b ∷ bs) all = grind (arith, length-append, same_reply rs r b.place all.0, longer rs r bs all.1)
+longer rs r (b ∷ bs) all = grind (arith, length-append, unwrap_or-slice_get, get_or-append, longer rs r bs all.1)
 
 -- the reply that was added
 pub newest : (rs : List Reply) (r : Reply) → reply_in (rs ++ r ∷ []) (Some (length rs)) ≡ r
@@ -55,11 +52,3 @@ book_grows limit H counts s s' w cmd r b few low high len same step = record {
       grind (arith, nat_tests, get_or-set_at counts (w - 1) (v - 1) seq 0, get_or-set_other counts (w - 1) (v - 1) seq 0, b.counted v p q);
   follows = subst (λ o. Follows (accepted_after s'.opening (accepted o H) cmd) s') (sym same) step.1;
 }
-
--- the history's newest entry is the vector's last
-pub reverse_push : {X : Type 0} (xs : List X) (x : X) → reverse (xs ++ x ∷ []) ≡ x ∷ reverse xs
-reverse_push xs x = reverse-append xs (x ∷ [])
-
--- what is no more than a limit and is not the limit is less
-pub below : (n m : ℕ) → n ≤ m → (n ≡ m → ⊥) → n < m
-below n m h1 h2 = grind arith

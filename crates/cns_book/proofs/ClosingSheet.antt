@@ -1,6 +1,6 @@
 -- The sheet that a close cuts is the one of the definitions.
 -- For `close_day` of parts/closing.rt, clause step.
-use Rattle.cns_book.proofs.Common.{◌≡◌, ◌∙◌, sym, ap, subst, refl, ℕ, ◌+◌, ◌≤◌, ◌<◌, ℤ, pos, true, false, cond, List, [], ◌∷◌, length, map, filter, Some, None, unwrap_or, arith, option_map, slice_get, unsigned_abs, is_eq, nat_cmp, Activity, AllByRecursion, Contents, Cusip, Day, DaySheet, Declared, Follows, Holding, IsCut, IsLimited, IsSound, Journal, Key, Listed, Paying, Row, Rows, accounts, amount_limit, and_left, and_right, closing_at, closings, cons_option, date, day_sheet, dividend, dividend_of, dividends, each_both, each_filter, each_in_order, equal, exact_bytes, find_below, find_with, found_number, history_limit, holding_at, idle_parts, in_order, is_listed, is_sorted, issues, issues_few, journal, journal_len, key_cmp, keys_total, last_close, last_date, last_dated, limited, limited_past, nat_list_cmp_total, numbers, occurs, option_map_or, payments_by, pays_before, price, price_in, prices_of, rate_limit, row, rows_for, said, same_issue, same_lists, same_sums, sheet_as_of, sheet_rows, slice_cmp, sorted_numbers, tied_itself, total, total-map, total_numbers, position, tied_below, sorted_with, AreSmallRates, account_cents_small, account_dividends_small, accounts_grew, due_few, payable, sound_last, zeros, HaveSmallAmounts, by_key, key_of, priced_row, IsPayable, cut_row, slice_get-map, listed_above, none_in, numbers_in}
+use Rattle.cns_book.proofs.Common.{◌≡◌, ◌∙◌, sym, ap, subst, refl, ℕ, ◌+◌, ◌≤◌, ◌<◌, ℤ, pos, true, false, cond, List, [], ◌∷◌, length, map, filter, Some, None, unwrap_or, arith, option_map, slice_get, unsigned_abs, is_eq, nat_cmp, Activity, AllByRecursion, Contents, Cusip, Day, DaySheet, Declared, Follows, Holding, IsCut, IsLimited, IsSound, Journal, Key, Listed, Paying, Row, Rows, accounts, amount_limit, and_left, and_right, closing_at, closings, cons_option, date, day_sheet, dividend_of, dividends, each_both, each_filter, each_in_order, equal, exact_bytes, find_below, find_with, found_number, history_limit, holding_at, idle_parts, in_order, is_listed, is_sorted, issues, issues_few, journal, journal_len, key_cmp, keys_total, last_close, last_date, last_dated, limited, limited_past, nat_list_cmp_total, numbers, occurs, option_map_or, payments_by, pays_before, price, price_in, prices_of, rate_limit, row, rows_for, said, same_issue, same_lists, same_sums, sheet_as_of, sheet_rows, slice_cmp, sorted_numbers, tied_itself, total, total-map, total_numbers, position, tied_below, sorted_with, AreSmallRates, account_cents_small, account_dividends_small, accounts_grew, due_few, payable, sound_last, zeros, HaveSmallAmounts, by_key, key_of, IsPayable, cut_row, slice_get-map, listed_above, none_in, numbers_in}
 use Rattle.std.specs.FinMap.{find}
 use Rattle.cns_terms.specs.Dividends.{is_due}
 use Rattle.cns_terms.specs.Sheets.{sheet_prices}
@@ -9,6 +9,7 @@ use Rattle.cns_terms.proofs.SheetBounds.{closings_zero, moneys_zero, rows_few}
 use Rattle.cns_sheets.specs.Condition.{held_in, rows_before, CanBePaid, IsReady}
 use Rattle.cns_sheets.proofs.Kept.{listed_found, prices_rise}
 use Rattle.cns_book.proofs.ClosingSteps.{whole_reached}
+use Rattle.cns_book.proofs.PendingSteps.{chosen_few}
 use Rattle.cns_book.proofs.PartsWithin.{cents_few}
 use Rattle.cns_book.proofs.ClosingPayments.{dividends_are, rows_are_cut, closing_found, shown_rise, number_found}
 
@@ -36,13 +37,8 @@ module _ (L : List Activity) (s : Contents) (f : Follows L s) where
   row_is : (k : Key) → cut_row (prices_of (slice_get s.sheets 0)) s.prices s.rows (paid_now s) k ≡ row s.opening journal_now k.account k.issue
   row_is k =
       let w = whole_reached L f in
-      let before = prices_of (slice_get s.sheets 0) in
-      let old : before ≡ sheet_prices (last_close journal_now) = (let sheets = f.sheets in grind (arith, slice_get-map (day_sheet s.opening) (closings journal_now) 0)) in
-      let now : unwrap_or (price_in s.prices k.issue) 0 ≡ price journal_now k.issue = ap (λ o. unwrap_or o 0) (f.listings.prices k.issue) ∙ price_or_zero journal_now k.issue w.now in
-      let then : unwrap_or (find (slice_cmp nat_cmp) k.issue before) 0 ≡ price (last_close journal_now) k.issue = ap (λ ps. unwrap_or (find (slice_cmp nat_cmp) k.issue ps) 0) old ∙ sheet_price (last_close journal_now) k.issue (sound_last journal_now w) in
       let earlier = each_both IsSound (λ K. (a : ℕ) → occurs a (accounts K) ≤ occurs a (accounts journal_now)) (closings journal_now) w.past (accounts_grew journal_now) in
-      let paid : dividend_of (paid_now s) k ≡ dividend s.opening journal_now k.account k.issue = ap (λ ps. dividend_of ps k) paid_is_due ∙ dividends_are s.opening journal_now w.now k earlier in
-      λ i. priced_row (then i) (now i) (paid i) (k, f.rows k i)
+      grind (arith, f.sheets, slice_get-map (day_sheet s.opening) (closings journal_now) 0, f.listings.prices k.issue, price_or_zero journal_now k.issue w.now, sheet_price (last_close journal_now) k.issue (sound_last journal_now w), ap (λ ps. dividend_of ps k) paid_is_due ∙ dividends_are s.opening journal_now w.now k earlier, f.rows k)
 
   -- rows that are cut are those of the definitions
   pub cut_is : (rows : List Row) → IsCut (prices_of (slice_get s.sheets 0)) s.prices s.rows (paid_now s) rows → rows ≡ sheet_rows s.opening journal_now
@@ -111,13 +107,9 @@ all_payable : (opening : Day) (Ks : List Journal) (ds : List Declared) → AllBy
 all_payable opening Ks [] l r = tt
 all_payable opening Ks (d ∷ ds) l r = payable_one opening d Ks (payments_by (map (day_sheet opening) Ks) ds) l r.0 (all_payable opening Ks ds l r.1)
 
-paying_few : (ss : List DaySheet) (ds : List Declared) → length (payments_by ss ds) ≤ length ds
-paying_few ss [] = omega arith
-paying_few ss (d ∷ ds) = grind (arith, paying_few ss ds)
-
 -- the dividends of a close can be paid
 pub can_be_paid : (L : List Activity) (s : Contents) → Follows L s → length L + 1 < history_limit → CanBePaid (paid_now s)
-can_be_paid L s f room = grind (arith, each_filter, each_in_order, limited, paid_is_due, payable, all_payable, limited_past, paying_few, due_few, journal_len)
+can_be_paid L s f room = grind (arith, each_filter, each_in_order, limited, paid_is_due, payable, all_payable, limited_past, chosen_few, due_few, journal_len)
 
 -- the sheet
 pub sheet_is : (L : List Activity) (s : Contents) (sheet : DaySheet) → Follows L s → is_sorted (slice_cmp nat_cmp) s.prices ≡ true → sheet.date ≡ s.today → sheet.prices ≡ listed_above s.prices None → IsCut (prices_of (slice_get s.sheets 0)) s.prices s.rows (paid_now s) sheet.rows → sheet ≡ day_sheet s.opening (journal s.opening L)

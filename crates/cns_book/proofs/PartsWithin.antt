@@ -22,14 +22,9 @@ pub member_within : (s : Contents) (a : ℕ) (c : Cusip) → 1 ≤ a → HasRoom
 member_within s a c m r = rw r.follows.rows (near _ _ _ ((limited s.opening r.activities r.follows.reached).within a c m))
 
 -- what is received on a notice
-received_few : (opening : Day) (L : List Activity) (n : Notice) → IsReached opening L → received_live (journal opening L) n ≤ shares_limit * length L
-received_few opening [] n r = omega arith
-received_few opening (x ∷ L) n r = let range = r.0 in grind (arith, received_few opening L n r.2)
-
--- what is bought in on it
-executed_few : (opening : Day) (L : List Activity) (n : Notice) → IsReached opening L → shares_executed (journal opening L) n ≤ shares_limit * length L
-executed_few opening [] n r = omega arith
-executed_few opening (x ∷ L) n r = let range = r.0 in grind (arith, executed_few opening L n r.2)
+counted_few : (opening : Day) (L : List Activity) (n : Notice) → IsReached opening L → (received_live (journal opening L) n ≤ shares_limit * length L) × (shares_executed (journal opening L) n ≤ shares_limit * length L)
+counted_few opening [] n r = (omega arith, omega arith)
+counted_few opening (x ∷ L) n r = let range = r.0 in grind (arith, counted_few opening L n r.2)
 
 -- what notices are given for
 pub given_few : (opening : Day) (L : List Activity) → IsReached opening L → AllByRecursion (λ n. n.given.shares ≤ shares_limit) (notices (journal opening L))
@@ -45,12 +40,8 @@ each_kept : (P : Noticed → Type 0) (J : Journal) → ((n : Notice) → P (kept
 each_kept P J h = each_map P (kept J) (notices J) (recursion_from_All (λ n. P (kept J n)) (notices J) (λ i n lt. h _))
 
 -- a receipt can be counted on any notice
-pub receipts_fit : (s : Contents) → HasRoom s → (m : ℕ) → m ≤ shares_limit → (k : ℕ) → ForSome (kept_at s.notices k) (λ x. x.received + m < 2 ^ 64)
-receipts_fit s room m small k = rw room.follows.notices (each_at (λ x. x.received + m < 2 ^ 64) (kept_notices (journal s.opening room.activities)) (k - 1) (each_kept (λ x. x.received + m < 2 ^ 64) (journal s.opening room.activities) (λ n. omega (arith, received_few s.opening room.activities n room.follows.reached, room.few, small))))
-
--- and so can an execution
-pub executions_fit : (s : Contents) → HasRoom s → (m : ℕ) → m ≤ shares_limit → (k : ℕ) → ForSome (kept_at s.notices k) (λ x. x.executed + m < 2 ^ 64)
-executions_fit s room m small k = rw room.follows.notices (each_at (λ x. x.executed + m < 2 ^ 64) (kept_notices (journal s.opening room.activities)) (k - 1) (each_kept (λ x. x.executed + m < 2 ^ 64) (journal s.opening room.activities) (λ n. omega (arith, executed_few s.opening room.activities n room.follows.reached, room.few, small))))
+pub counts_fit : (s : Contents) → HasRoom s → (m : ℕ) → m ≤ shares_limit → (k : ℕ) → ForSome (kept_at s.notices k) (λ x. (x.received + m < 2 ^ 64) × (x.executed + m < 2 ^ 64))
+counts_fit s room m small k = rw room.follows.notices (each_at (λ x. (x.received + m < 2 ^ 64) × (x.executed + m < 2 ^ 64)) (kept_notices (journal s.opening room.activities)) (k - 1) (each_kept (λ x. (x.received + m < 2 ^ 64) × (x.executed + m < 2 ^ 64)) (journal s.opening room.activities) (λ n. grind (arith, counted_few s.opening room.activities n room.follows.reached, room.few, small))))
 
 -- one notice more can be numbered
 pub notices_fit : (s : Contents) → HasRoom s → length s.notices + 1 < history_limit

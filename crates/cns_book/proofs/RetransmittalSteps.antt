@@ -1,12 +1,10 @@
 -- Whom a close makes liable, from what is called and who is short.
 -- For `choose_batches` of parts/retransmittal.rt and `close_day` of parts/closing.rt, clause step.
-use Rattle.cns_book.proofs.Common.{◌≡◌, ◌∙◌, ap, sym, subst, refl, suc, ◌+◌, ◌*◌, ◌^◌, ◌≤◌, ◌<◌, Bool, true, false, ◌&&◌, ◌==◌, List, [], ◌∷◌, filter, flat_map, length, map, Some, None, sum_by, arith, nat_cmp, filter_map, nat_lt, option_map, IfOk, OnOk, Result, mul-le-mul_right, length-append, same_Some, Activity, AllByRecursion, CalledIn, Contents, Cusip, Day, Follows, ForSome, IsReached, IsSound, Journal, Liable, Liables, Notice, Row, batch_at, batch_since, batches_of, batches_since, bytes_eq-Decides, called, called_by, called_in, day, history_limit, in_order, is_listed, is_sorted, issues, issues_few, journal, journal_len, length-map, limited, members, members_few, members_from_one, nat_tests, near, notices, oldest_at, remaining, same_issue, sheet_rows, short_in, shorts, shorts_in, slice_cmp, sum_by-cons, total_in, with_shorts, liable_at, put, batch_new, unfilled, IsNoticed, CanBeChosen, none_called, cond, Option, bytes_eq, below_all, chosen, exact_bytes, find_filter, find_with, is_rising, kept_if, list_any, nat_list_cmp_total, option_map_or, same_lists, same_test, sorted_filter, sorted_with, batch_of}
-use Rattle.cns_book.proofs.PendingSteps.{filter_few}
-use Rattle.cns_book.proofs.RetransmittalShorts.{shorts_off_sheet, ages_are, shorts_few, shorts_once}
+use Rattle.cns_book.proofs.Common.{◌≡◌, ◌∙◌, ap, sym, subst, refl, suc, ◌+◌, ◌*◌, ◌^◌, ◌≤◌, ◌<◌, Bool, true, false, ◌&&◌, ◌==◌, List, [], ◌∷◌, filter, flat_map, length, map, Some, None, sum_by, arith, nat_cmp, filter_map, nat_lt, option_map, IfOk, OnOk, Result, mul-le-mul_right, length-append, same_Some, Activity, AllByRecursion, CalledIn, Contents, Cusip, Day, Follows, ForSome, IsReached, IsSound, Journal, Liable, Liables, Notice, Row, batch_at, batch_since, batches_of, batches_since, bytes_eq-Decides, called, called_by, called_in, day, history_limit, is_listed, is_sorted, issues, issues_few, journal, journal_len, length-map, limited, members, members_few, members_from_one, nat_tests, near, notices, oldest_at, remaining, same_issue, sheet_rows, short_in, shorts, shorts_in, slice_cmp, sum_by-cons, total_in, with_shorts, liable_at, batch_new, unfilled, IsNoticed, CanBeChosen, none_called, cond, bytes_eq, below_all, chosen, exact_bytes, find_filter, find_with, is_rising, list_any, nat_list_cmp_total, option_map_or, same_lists, same_test, sorted_filter, sorted_with, batch_of, filter_len, map-map, same_order, fills_before}
+use Rattle.cns_book.proofs.RetransmittalShorts.{shorts_off_sheet, ages_are, few, shorts_once}
 use Rattle.cns_book.proofs.PartsStaying.{in_issue}
 use Rattle.cns_book.proofs.RetransmittalCalls.{called_is}
 use Rattle.std.specs.FinMap.{find}
-use Rattle.std.proofs.lemmas.Simd.{map-map}
 
 -- whether anybody is liable
 abbrev has_members : Liables → Bool
@@ -33,10 +31,6 @@ find_batch c (e ∷ es) = grind (arith, bytes_eq-Decides, same_test, find_batch 
 abbrev pub AreSameBatches : (Cusip → List Liable) → List Cusip → List (Cusip × CalledIn) → Type 0
 AreSameBatches g cs es = (c : Cusip) → option_map_or (λ x. chosen x.shorts x.total) (called_in es c) [] ≡ cond (list_any (λ d. bytes_eq d c) cs) (g c) []
 
--- a batch in which nobody is is none
-same_kept : (c : Cusip) (o : Option CalledIn) (b : Bool) (ls : List Liable) → option_map_or (λ x. chosen x.shorts x.total) o [] ≡ cond b ls [] → kept_if has_members (option_map (λ x. batch_of (c, x)) o) ≡ kept_if has_members (cond b (Some (record { issue = c; members = ls })) None)
-same_kept c o b ls h1 = grind arith
-
 -- the values of a filtered list
 filtered_values : (es : List (Cusip × Liables)) → map (λ e. e.1) (filter (λ e. has_members e.1) es) ≡ filter has_members (map (λ e. e.1) es)
 filtered_values [] = refl
@@ -52,11 +46,7 @@ batches_same g cs es rising sorted h =
     let s = sorted_batches es sorted in
     let t = sorted_with p cs rising in
     let alike : (c : Cusip) → find R c (filter (λ e. has_members e.1) xs) ≡ find R c (filter (λ e. has_members e.1) ys) = λ c.
-    find_filter nat_list_cmp_total has_members c xs s
-    ∙ ap (kept_if has_members) (find_batch c es)
-    ∙ same_kept c (called_in es c) (list_any (λ d. bytes_eq d c) cs) (g c) (h c)
-    ∙ ap (kept_if has_members) (sym (find_with p c cs))
-    ∙ sym (find_filter nat_list_cmp_total has_members c ys t) in
+    grind (arith, find_filter nat_list_cmp_total has_members c xs s, find_batch c es, h c, find_with p c cs, find_filter nat_list_cmp_total has_members c ys t) in
     let lists = same_lists nat_list_cmp_total exact_bytes (filter (λ e. has_members e.1) xs) (filter (λ e. has_members e.1) ys) (sorted_filter nat_list_cmp_total has_members xs s) (sorted_filter nat_list_cmp_total has_members ys t) alike in
     ap (filter has_members) (sym (map-map (λ e. e.1) (λ e. (e.0, batch_of e)) es)) ∙ sym (filtered_values xs)
     ∙ ap (map (λ e. e.1)) lists
@@ -79,10 +69,9 @@ module _ (L : List Activity) (s : Contents) (f : Follows L s) (rs : List Row) (s
   in_listed : (c : Cusip) (x : CalledIn) → called_in before c ≡ Some x → (is_listed now c ≡ true) × (called_in es c ≡ Some (record { total = called now c; shorts = shorts now c }))
   in_listed c x is =
       let l = limited s.opening L f.reached in
-      let total = totals c ∙ called_is L s f c in
-      let listed : is_listed now c ≡ true = grind (arith, uncalled now c l.whole.now, some c x is) in
+      let listed : is_listed now c ≡ true = grind (arith, uncalled now c l.whole.now, some c x is, totals c, called_is L s f c) in
       let all = (λ i. filter_map (short_in (ages_are L s f i) c) (sheet i)) ∙ shorts_off_sheet s.opening now c l.whole.now (members_from_one s.opening now l) listed in
-      grind (arith, given c, none c)
+      grind (arith, given c, none c, totals c, called_is L s f c)
 
   -- the shorts of each issue can be chosen from
   pub can_choose : (c : Cusip) → ForSome (called_in es c) CanBeChosen
@@ -90,7 +79,7 @@ module _ (L : List Activity) (s : Contents) (f : Follows L s) (rs : List Row) (s
     | None ↦ λ none. let is' = given c in absurd (cc)
     | Some x ↦ λ some. let l = limited s.opening L f.reached in subst CanBeChosen (same_Some _ _ (sym (in_listed c x some).1 ∙ is)) (record {
       distinct = λ a. omega (arith, shorts_once now c a (members now), l.whole.now.distinct a);
-      fits = shorts_few now c (λ a m. near _ _ _ (l.within a c m)) (members_from_one s.opening now l) (members_few s.opening now l);
+      fits = omega (arith, few now c (λ a m. near _ _ _ (l.within a c m)) (members now) (members_from_one s.opening now l), members_few s.opening now l);
     })
   ] refl
 
@@ -110,17 +99,9 @@ sum_of g (c ∷ cs) = grind (arith, nat_tests, sum_by-cons (λ (b : Liables). le
 pub liable_counted : (opening : Day) (L : List Activity) (bs : List Liables) → IsReached opening L → bs ≡ batches_since (journal opening L) (journal opening L) → sum_by (λ b. length b.members) bs ≡ length (liable_at (journal opening L))
 liable_counted opening L bs r is = rw is (sum_of (batch_since (journal opening L) (journal opening L)) (issues (journal opening L)) ∙ (λ i. length (flat_map (λ c. batch_new (journal opening L) (journal opening L) c (λ a. unfilled opening L (day (journal opening L)) c a r (omega arith)) i) (issues (journal opening L)))))
 
-put_len : {X : Type 0} (before : X → X → Bool) (x : X) (ys : List X) → length (put before x ys) ≡ suc (length ys)
-put_len before x [] = refl
-put_len before x (y ∷ ys) = grind (arith, put_len before x ys)
-
-ordered_len : {X : Type 0} (before : X → X → Bool) (xs : List X) → length (in_order before xs) ≡ length xs
-ordered_len before [] = refl
-ordered_len before (x ∷ xs) = grind (arith, put_len, ordered_len before xs)
-
 -- no batch has more members than there are
 batch_few : (J : Journal) (c : Cusip) → length (batch_at J c) ≤ length (members J)
-batch_few J c = grind (arith, length-map, filter_few, ordered_len)
+batch_few J c = grind (arith, length-map, filter_len, same_order length (λ s n. suc n) (λ s ss. refl) (λ s t n. refl) fills_before (shorts J c))
 
 batches_few : (J : Journal) (cs : List Cusip) → length (flat_map (batch_at J) cs) ≤ length (members J) * length cs
 batches_few J [] = omega arith

@@ -1,12 +1,6 @@
 use Rattle.cns_book.proofs.Common.{◌∙◌, ◌^◌, ◌≤◌, sym, ap, subst, unsigned_abs, take_all, arith, Holding, IsSmallEntry, holding_at, booked, place_of, All-from_recursion}
-use Rattle.cns_book.proofs.EffectEntries.{books_step, cents_fit, place_there, shares_fit, books_none}
+use Rattle.cns_book.proofs.EffectEntries.{books_step, cents_fit, shares_fit}
 use Rattle.cns_book.proofs.effect.book.Goals as goal
-
-pub loop-entry-init : goal.loop-entry-init
-loop-entry-init g c = grind (arith, books_none)
-
-pub add-requires-clause-there : goal.add-requires-clause-there
-add-requires-clause-there g c = grind (arith, place_there)
 
 pub add-requires-clause-entry : goal.add-requires-clause-entry
 add-requires-clause-entry g c = subst IsSmallEntry (sym c.entry-item.is) (All-from_recursion IsSmallEntry c.args.entries.now c.requires.small c.loop-entry.entry-index c.entry-item.result c.loop-entry-test.true)

@@ -1,6 +1,6 @@
 use Rattle.cns_book.proofs.Common.{◌≡◌, ◌∙◌, ap, sym, subst, Option, Some, None, arith, min, option_map, nat_lt, true, List, ◌+◌, Activity, Contents, Follows, Liables, Noticed, batch_on, capped_short, journal, nat_tests, refusal, room_of, Command, kept_at}
 use Rattle.cns_book.proofs.ExecutionRefusals.{execute_missing, execute_not_live, room_by, execute_refusal, verdict, members_of}
-use Rattle.cns_book.proofs.NoticeSteps.{notice_missing, not_live}
+use Rattle.cns_book.proofs.NoticeSteps.{notice_missing}
 use Rattle.cns_book.proofs.PartsWithin.{rows_within}
 use Rattle.cns_book.proofs.parts.Parts.check_execution.Goals.{After-remaining, After-room_up_to-room}
 use Rattle.cns_book.proofs.parts.Parts.check_execution.Given as given
@@ -31,7 +31,7 @@ returns-then-not-is_noticed-clause-refused g c L f = grind (arith, execute_missi
 pub returns-in-Withdrawn : goal.returns-in-Withdrawn
 returns-in-Withdrawn g c =
     let stage = subst (λ (s : Contents). Some c.stage.result ≡ option_map (λ (n : Noticed). n.stage) (kept_at s.notices c.args.execution.now.notice)) c.self.view_is c.stage.ensures in
-    record { refused = λ L f. execute_not_live L c.args.self.now c.args.execution.now c.stage.result (c.is_noticed.ensures.0 c.if-not-is_noticed.false) stage (not_live c.stage.result c.in-Withdrawn.is) f; accepted = tt; batch = tt }
+    record { refused = λ L f. execute_not_live L c.args.self.now c.args.execution.now c.stage.result (c.is_noticed.ensures.0 c.if-not-is_noticed.false) stage (grind (arith, c.in-Withdrawn.is)) f; accepted = tt; batch = tt }
 
 pub returns-then-remaining-shares-clause-refused : goal.returns-then-remaining-shares-clause-refused
 returns-then-remaining-shares-clause-refused g c L f = grind (arith, nat_tests, told g (goal.at.returns-then-remaining-shares-clause-refused g c).After-remaining L f, c.if-remaining-shares.true, c.value-shares.ensures.value)

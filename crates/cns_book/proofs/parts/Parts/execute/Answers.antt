@@ -1,11 +1,11 @@
 use Rattle.cns_book.proofs.Common.{◌≡◌, ◌∙◌, sym, subst, Contents, Follows, HasRoom, IsAccepted, fills_by, journal}
 use Rattle.cns_book.proofs.ExecutionSteps.{accepted_steps}
-use Rattle.cns_book.proofs.PartsWithin.{executions_fit}
+use Rattle.cns_book.proofs.PartsWithin.{counts_fit}
 use Rattle.cns_book.proofs.parts.Parts.execute.Goals as goal
 
 pub executed-requires-clause-fits : goal.executed-requires-clause-fits
 executed-requires-clause-fits g c =
-    executions_fit _ (subst HasRoom (sym c.self.view_is) c.requires) c.args.execution.now.shares c.in-Ok.ensures.accepted.range.1 c.args.execution.now.notice
+    λ x is. (counts_fit _ (subst HasRoom (sym c.self.view_is) c.requires) c.args.execution.now.shares c.in-Ok.ensures.accepted.range.1 c.args.execution.now.notice x is).1
 
 pub returns-clause-step : goal.returns-clause-step
 returns-clause-step g c L f =

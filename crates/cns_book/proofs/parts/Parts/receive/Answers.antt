@@ -1,7 +1,7 @@
 use Rattle.cns_book.proofs.Common.{◌∙◌, ap, sym, subst, refl, [], ◌∷◌, arith, Follows, HasRoom, books, corporation, first_refusal, holding_at, moved_in, moved_out, receipt_rules, Activity, Reply}
 use Rattle.cns_book.proofs.PartsStaying.{accepted, refused}
 use Rattle.cns_book.proofs.TradingSteps.{receipt_there, answer_err, answer_ok, booked_by, receipt_refusal}
-use Rattle.cns_book.proofs.PartsWithin.{receipts_fit, rows_within}
+use Rattle.cns_book.proofs.PartsWithin.{counts_fit, rows_within}
 use Rattle.cns_book.proofs.NoticeSteps.{receipt_counted}
 use Rattle.cns_book.proofs.parts.Parts.receive.Goals as goal
 
@@ -28,4 +28,4 @@ returns-clause-step g c L f =
     (λ k. c.book.ensures.booked k ∙ ap (λ es. books es k (holding_at (g.P.Positions.rows c.self.inside.positions) k)) done.1))
 
 pub received-requires : goal.received-requires
-received-requires g c = record { fits = λ k is. receipts_fit _ (subst HasRoom (sym c.self.view_is) c.requires) c.args.movement.now.shares c.value.ensures.range.1 k }
+received-requires g c = record { fits = λ k is x at. (counts_fit _ (subst HasRoom (sym c.self.view_is) c.requires) c.args.movement.now.shares c.value.ensures.range.1 k x at).0 }
