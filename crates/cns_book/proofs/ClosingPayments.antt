@@ -12,7 +12,6 @@ with_key : (b : Bool) (r : Row) (rs : List Row) (es : List (Key × Row)) → by_
 with_key b r rs es h1 = grind arith
 
 module _ (opening : Day) (K : Journal) where
-  -- the row at each key
   abbrev row_of : Key → Row
   row_of k = row opening K k.account k.issue
 
@@ -33,7 +32,6 @@ module _ (opening : Day) (K : Journal) where
     pub number_found : (k : Key) → IsSound K → option_map_or g (finmap.find key_cmp k (by_key (sheet_rows opening K))) (pos 0) ≡ g (row_of k)
     number_found k s = grind (arith, of_all (accounts K), find_filter keys_total says k (cells row_of (accounts K) (issues K)) (sorted_cells row_of (accounts K) (issues K) s.accounts_rise s.issues_rise), find_cells row_of k (accounts K) (issues K), idle_at opening K k s, idle (row_of k))
 
-  -- the rows are in the order of their keys
   pub shown_rise : IsSound K → is_sorted key_cmp (by_key (sheet_rows opening K)) ≡ true
   shown_rise s = rw (of_all (accounts K)) (sorted_filter keys_total says (cells row_of (accounts K) (issues K)) (sorted_cells row_of (accounts K) (issues K) s.accounts_rise s.issues_rise))
 
@@ -44,7 +42,6 @@ module _ (opening : Day) (K : Journal) where
 -- ---- the members of a sheet
 
 module _ (opening : Day) (K J : Journal) (k_sound : IsSound K) (j_sound : IsSound J) (among : (a : ℕ) → occurs a (accounts K) ≤ occurs a (accounts J)) (d : Declared) where
-  -- the cash at a place
   abbrev at_place : Key → ℤ
   at_place k = cash (position K k.account k.issue) d.rate
 
@@ -78,15 +75,11 @@ total-given f g [] = refl
 total-given f g (x ∷ xs) = grind (arith, total-given f g xs)
 
 module _ (opening : Day) (J : Journal) (sound : IsSound J) where
-  -- what is so of each journal of a close
-  abbrev pub IsEarlier : Journal → Type 0
-  IsEarlier K = IsSound K × ((a : ℕ) → occurs a (accounts K) ≤ occurs a (accounts J))
-
   -- what a dividend books at a key, by the positions that a journal has
   abbrev books_at : Declared → Key → Journal → ℤ
   books_at d k K = cond (bytes_eq k.issue d.issue) (cond (k.account == corporation) (neg_ℤ (total (λ a. cash (position K a d.issue) d.rate) (members J))) (cash (position K k.account k.issue) d.rate)) (pos 0)
 
-  one_paid : (d : Declared) (k : Key) (Ks : List Journal) → AllByRecursion IsEarlier Ks
+  one_paid : (d : Declared) (k : Key) (Ks : List Journal) → AllByRecursion (λ K. IsSound K × ((a : ℕ) → occurs a (accounts K) ≤ occurs a (accounts J))) Ks
       → option_map_or (λ s. paid d s.rows k) (sheet_as_of (map (day_sheet opening) Ks) d.recorded) (pos 0) ≡ books_at d k (unwrap_or (find (λ K. is_not_after (date opening K) d.recorded) Ks) [])
   one_paid d k [] e = grind (arith, no_cash d.rate, total-same (λ a. cash (pos 0) d.rate) (λ a. pos 0) (members J) (λ a. no_cash d.rate) ∙ total-zero (members J))
   one_paid d k (K ∷ Ks) e = grind (arith, paid_is opening K J e.0.0 sound e.0.1 d k, one_paid d k Ks e.1)
@@ -101,8 +94,7 @@ module _ (opening : Day) (J : Journal) (sound : IsSound J) where
       let paid : Declared → Account → ℤ = λ d b. cash (position (as_of opening J d.recorded) b c) d.rate in
       grind (arith, total-neg (λ d. total (paid d) (members J)) (due opening J c) ∙ ap neg_ℤ (total-swap paid (due opening J c) (members J)))
 
-  -- what a close pays at a key
-  pub dividends_are : (k : Key) → AllByRecursion IsEarlier (closings J) → dividend_of (payments_by (map (day_sheet opening) (closings J)) (filter (is_due (last_date opening J) (date opening J)) (in_order pays_before (dividends J)))) k ≡ dividend opening J k.account k.issue
+  pub dividends_are : (k : Key) → AllByRecursion (λ K. IsSound K × ((a : ℕ) → occurs a (accounts K) ≤ occurs a (accounts J))) (closings J) → dividend_of (payments_by (map (day_sheet opening) (closings J)) (filter (is_due (last_date opening J) (date opening J)) (in_order pays_before (dividends J)))) k ≡ dividend opening J k.account k.issue
   dividends_are k e =
       let ds : List Declared = filter (is_due (last_date opening J) (date opening J)) (in_order pays_before (dividends J)) in
       let ss : List DaySheet = map (day_sheet opening) (closings J) in
@@ -115,8 +107,7 @@ module _ (opening : Day) (J : Journal) (sound : IsSound J) where
 pub rows_are_cut : (opening : Day) (J : Journal) (rows : List Row) → IsSound J → is_sorted key_cmp (by_key rows) ≡ true → ((k : Key) → row_at rows k ≡ said (row opening J k.account k.issue)) → rows ≡ sheet_rows opening J
 rows_are_cut opening J rows s order is =
     let g : Key → Row = λ k. row opening J k.account k.issue in
-    let all = sorted_cells g (accounts J) (issues J) s.accounts_rise s.issues_rise in
-    let kept = of_all opening J (accounts J) in
+    let all = sorted_cells g (accounts J) (issues J) s.accounts_rise s.issues_rise in let kept = of_all opening J (accounts J) in
     sym (map-map (λ e. e.1) (λ r. (key_of r, r)) rows ∙ map-id rows)
     ∙ ap (map (λ e. e.1)) (same_lists keys_total exact_keys (by_key rows) (by_key (sheet_rows opening J)) order
     (shown_rise opening J s)

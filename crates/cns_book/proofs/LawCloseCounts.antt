@@ -17,9 +17,7 @@ by_refusal : (S : State) (more : List Command) (d : Day) (c : Closed) (o : Optio
     → TellsDay (after (next S (Command.Activity (Activity.Close d))) more) c
 by_refusal S more d c (Some r) w o e = cc
 by_refusal S more d c None w o e =
-    let J = journal_of S in
-    let S' = next S (Command.Activity (Activity.Close d)) in
-    let J' = journal_of (after S' more) in
+    let J = journal_of S in let S' = next S (Command.Activity (Activity.Close d)) in let J' = journal_of (after S' more) in
     let told : activity_reply S.opening J (Activity.Close d) ≡ Reply.Closed c = e in
     let C : Closed = record { day = day J; date = date S.opening J; rows = length (sheet_rows S.opening J); liable = length (liable_at J) } in
     let is : C ≡ c = cc in

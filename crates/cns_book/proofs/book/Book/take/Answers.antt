@@ -15,8 +15,7 @@ invariant_of-self-in_err-reply g c = grind (arith, book_stays, accepted)
 
 pub invariant_of-self-2 : goal.invariant_of-self-2
 invariant_of-self-2 g c =
-    let H = reverse c.self.inside.history.taken in
-    let L = accepted c.self.inside.parts.opening H in
+    let H = reverse c.self.inside.history.taken in let L = accepted c.self.inside.parts.opening H in
     let few : length H < c.self.inside.limit = grind (arith, (rw (← c.self.view_is) at c.is_full.ensures).1) in
     let taken : Taken = record { worker = c.args.worker; seq = get_or c.self.inside.counts (c.value.result - 1) 0 + 1; command = c.args.command; reply = c.in_ok-reply.reply } in
     let pushed : c.push.new.self.taken ≡ c.self.inside.history.taken ++ taken ∷ [] = c.push.ensures ∙ ap (λ es. es ++ taken ∷ []) c.in_ok-reserve.ensures.taken in
@@ -25,8 +24,7 @@ invariant_of-self-2 g c =
 
 pub returns-clause-ok : goal.returns-clause-ok
 returns-clause-ok g c =
-    let H = reverse c.self.inside.history.taken in
-    let L = accepted c.self.inside.parts.opening H in
+    let H = reverse c.self.inside.history.taken in let L = accepted c.self.inside.parts.opening H in
     let taken : Taken = record { worker = c.args.worker; seq = get_or c.self.inside.counts (c.value.result - 1) 0 + 1; command = c.args.command; reply = c.in_ok-reply.reply } in
     let pushed : c.push.new.self.taken ≡ c.self.inside.history.taken ++ taken ∷ [] = c.push.ensures ∙ ap (λ es. es ++ taken ∷ []) c.in_ok-reserve.ensures.taken in
     let step = c.in_ok-reply.ensures.step L c.self.invariant.follows in

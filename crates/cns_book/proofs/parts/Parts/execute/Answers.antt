@@ -9,9 +9,7 @@ executed-requires-clause-fits g c =
 
 pub returns-clause-step : goal.returns-clause-step
 returns-clause-step g c L f =
-    let x = c.args.execution.now in
-    let y = c.in-Ok.checked.0 in
-    let fs = c.as_slice.result.now in
+    let x = c.args.execution.now in let y = c.in-Ok.checked.0 in let fs = c.as_slice.result.now in
     let accepted = subst (λ (s : Contents). IsAccepted s x y) (sym c.self.view_is) c.in-Ok.ensures.accepted in
     let fills = subst (λ (s : Contents). c.in_ok-fills.fills.items ≡ fills_by (journal s.opening L) x) (sym c.self.view_is) (c.in_ok-fills.ensures.fills L f) in
     accepted_steps L _ x y fs c.len.result (g.P.Positions.rows c.book_fills.new.positions) c.executed.new.self c.charge.new.self c.from.result c.as_slice-2.result.now

@@ -19,8 +19,7 @@ book-requires-clause-rows g c = rows_within _ (subst HasRoom (sym c.self.view_is
 
 pub returns-clause-step : goal.returns-clause-step
 returns-clause-step g c L f =
-    let f' = subst (Follows L) (sym c.self.view_is) f in
-    let m = c.args.movement.now in
+    let f' = subst (Follows L) (sym c.self.view_is) f in let m = c.args.movement.now in
     let done = answer_ok (first_refusal (receipt_rules c.move_facts-facts.result m)) (moved_out m.member m ∷ moved_in corporation m ∷ []) c.in-Ok.entries c.in-Ok.ensures.answer in
     let none = receipt_refusal L c.self.inside.opening m c.move_facts-facts.result (rw (← c.self.view_is) at (c.move_facts-facts.ensures.facts L f)) ∙ done.0 in
     accepted L (Activity.Receive m) Reply.Accepted none refl
