@@ -8,7 +8,6 @@ use Rattle.cns_terms.proofs.PriceLists.{price_or_zero, sheet_price}
 use Rattle.cns_terms.proofs.SheetBounds.{closings_zero, moneys_zero, rows_few}
 use Rattle.cns_sheets.specs.Condition.{held_in, CanBePaid, IsReady}
 use Rattle.cns_sheets.proofs.Kept.{listed_found, prices_rise}
-use Rattle.cns_book.proofs.ClosingSteps.{whole_reached}
 use Rattle.cns_book.proofs.PendingSteps.{chosen_few}
 use Rattle.cns_book.proofs.PartsWithin.{cents_few}
 use Rattle.cns_book.proofs.ClosingPayments.{dividends_are, rows_are_cut, closing_found, shown_rise, number_found}
@@ -33,12 +32,12 @@ module _ (L : List Activity) (s : Contents) (f : Follows L s) where
 
   row_is : (k : Key) → cut_row (prices_of (slice_get s.sheets 0)) s.prices s.rows (paid_now s) k ≡ row s.opening journal_now k.account k.issue
   row_is k =
-      let w = whole_reached L f in
+      let w = (limited s.opening L f.reached).whole in
       let earlier = each_both IsSound (λ K. (a : ℕ) → occurs a (accounts K) ≤ occurs a (accounts journal_now)) (closings journal_now) w.past (accounts_grew journal_now) in
       grind (arith, f.sheets, slice_get-map (day_sheet s.opening) (closings journal_now) 0, f.listings.prices k.issue, price_or_zero journal_now k.issue w.now, sheet_price (last_close journal_now) k.issue (sound_last journal_now w), ap (λ ps. dividend_of ps k) paid_is_due ∙ dividends_are s.opening journal_now w.now k earlier, f.rows k)
 
   pub cut_is : (rows : List Row) → IsCut (prices_of (slice_get s.sheets 0)) s.prices s.rows (paid_now s) rows → rows ≡ sheet_rows s.opening journal_now
-  cut_is rows cut = rows_are_cut s.opening journal_now rows (whole_reached L f).now cut.order (λ k. cut.each k ∙ ap said (row_is k))
+  cut_is rows cut = rows_are_cut s.opening journal_now rows (limited s.opening L f.reached).whole.now cut.order (λ k. cut.each k ∙ ap said (row_is k))
 
 -- what holds at each key holds of each row
 each_row : (Q : Holding → Type 0) (R : Rows) → Q zeros → is_sorted key_cmp R ≡ true → ((k : Key) → Q (holding_at R k)) → AllByRecursion (λ e. Q e.1) R
@@ -64,7 +63,7 @@ same_by_issue f g R rows c order rise alike =
 
 pub can_be_cut : (L : List Activity) (s : Contents) → Follows L s → length L + 1 < history_limit → IsReady (slice_get s.sheets 0) s.prices s.rows (paid_now s)
 can_be_cut L s f room order =
-    let J = journal s.opening L in let w = whole_reached L f in let l = limited s.opening L f.reached in
+    let J = journal s.opening L in let w = (limited s.opening L f.reached).whole in let l = limited s.opening L f.reached in
     let short : length J < history_limit = omega (arith, room, journal_len s.opening L) in let shown = sheet_rows s.opening J in
     record {
       shares = λ c.
@@ -98,4 +97,4 @@ pub can_be_paid : (L : List Activity) (s : Contents) → Follows L s → length 
 can_be_paid L s f room = grind (arith, each_filter, each_in_order, limited, paid_is_due, payable, all_payable, limited_past, chosen_few, due_few, journal_len)
 
 pub sheet_is : (L : List Activity) (s : Contents) (sheet : DaySheet) → Follows L s → is_sorted (slice_cmp nat_cmp) s.prices ≡ true → sheet.date ≡ s.today → sheet.prices ≡ listed_above s.prices None → IsCut (prices_of (slice_get s.sheets 0)) s.prices s.rows (paid_now s) sheet.rows → sheet ≡ day_sheet s.opening (journal s.opening L)
-sheet_is L s sheet f order dated listed cut = grind (arith, prices_are, whole_reached, cut_is)
+sheet_is L s sheet f order dated listed cut = grind (arith, prices_are, limited, cut_is)

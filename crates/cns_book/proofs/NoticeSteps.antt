@@ -1,6 +1,6 @@
 -- Notices and withdrawals: what they are refused for, and what they leave.
 -- For `give_notice`, `withdraw_refusal`, `notice_refusal` and `withdraw` of parts/notice.rt, clauses refusal and step.
-use Rattle.cns_book.proofs.Common.{◌≡◌, ◌∙◌, ap, sym, refl, ℕ, zero, suc, ◌+◌, ◌-◌, ◌≤◌, ℤ, pos, true, false, cond, List, [], ◌∷◌, ◌++◌, length, map, Some, None, arith, ◌==◌, find, int_le, option_map, same_Some, slice_get_past, Activity, AlreadyNoticed, Contents, Follows, FollowsNotices, IsInRange, Movement, NotLive, Notice, Noticed, Refusal, Stage, changed_each, changed_one, first_refusal, holding_at, is_exceeded, is_listed, is_live, is_member, is_retired, issue_rules, journal, kept_found, length-map, live_number, notice_at, notices, posting, refusal, remaining_by, with_notice, Given, position, AreNumberedFrom, numbered, kept, at_stage, new_notice, receives, live_same, changed_same, notice_found, notice_more, received_by, taken_back, withdrawn_by, member_position, notice_listed, Command, kept_at}
+use Rattle.cns_book.proofs.Common.{◌≡◌, ◌∙◌, sym, refl, ℕ, zero, suc, ◌+◌, ◌-◌, ◌≤◌, ℤ, pos, true, false, cond, List, [], ◌∷◌, ◌++◌, length, map, Some, None, arith, ◌==◌, find, int_le, option_map, same_Some, slice_get_past, Activity, AlreadyNoticed, Contents, Follows, FollowsNotices, IsInRange, Movement, NotLive, Notice, Noticed, Refusal, Stage, changed_each, changed_one, first_refusal, holding_at, is_exceeded, is_listed, is_live, is_member, is_retired, issue_rules, journal, kept_found, length-map, live_number, notice_at, notices, posting, refusal, remaining_by, with_notice, Given, position, AreNumberedFrom, numbered, kept, at_stage, new_notice, receives, live_same, changed_same, notice_found, notice_more, received_by, taken_back, withdrawn_by, member_position, notice_listed, Command, kept_at}
 use Rattle.cns_terms.specs.declared.buy_in.Stage.TheVariants.{Live, Withdrawn}
 use Rattle.cns_book.proofs.RetransmittalCalls.{remaining_same}
 use Rattle.cns_book.proofs.EffectEntries.{books_none}
@@ -24,16 +24,13 @@ pub notice_answer : (L : List Activity) (s : Contents) (m : Movement) (q : ℤ) 
     → is_exceeded q m.shares ≡ false → int_le q (pos 0) ≡ false → refusal s.opening (journal s.opening L) (Command.Activity (Activity.Notice m)) ≡ option_map AlreadyNoticed (live_number s.notices m.member m.issue)
 notice_answer L s m q f member listed current enough long = grind (arith, live_same)
 
-pub notices_counted : (L : List Activity) (s : Contents) → Follows L s → length s.notices ≡ length (notices (journal s.opening L))
-notices_counted L s f = ap (λ (xs : List Noticed). length xs) f.notices ∙ length-map (notices (journal s.opening L)) (kept (journal s.opening L))
-
 none_zero : (ns : List Notice) (j : ℕ) → AreNumberedFrom (suc j) ns → find (λ n. n.number == 0) ns ≡ None
 none_zero [] j h = refl
 none_zero (n ∷ ns) j h = grind (arith, none_zero ns (suc j) h.1)
 
 pub notice_missing : (L : List Activity) (s : Contents) (k : ℕ) → Follows L s → ((1 ≤ k) × (k ≤ length s.notices) → ⊥) → notice_at (journal s.opening L) k ≡ None
 notice_missing L s zero f never = none_zero (notices (journal s.opening L)) 0 (numbered (journal s.opening L))
-notice_missing L s (suc k) f never = notice_found (journal s.opening L) (suc k) (omega arith) ∙ slice_get_past (notices (journal s.opening L)) (suc k - 1) (grind (arith, notices_counted L s f))
+notice_missing L s (suc k) f never = notice_found (journal s.opening L) (suc k) (omega arith) ∙ slice_get_past (notices (journal s.opening L)) (suc k - 1) (grind (arith, f.notices, length-map))
 
 pub withdraw_by_stage : (L : List Activity) (s : Contents) (k : ℕ) (st : Stage) → Follows L s → 1 ≤ k → Some st ≡ option_map (λ (x : Noticed). x.stage) (kept_at s.notices k) → refusal s.opening (journal s.opening L) (Command.Activity (Activity.Withdraw k)) ≡ cond (is_live st) None (Some NotLive)
 withdraw_by_stage L s k st f le is = let kept = f.notices in grind (arith, kept_found, kept)

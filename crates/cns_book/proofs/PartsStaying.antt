@@ -1,6 +1,6 @@
 -- What an activity leaves of each group of parts, and the machine's reply and step, by whether a command is refused.
 -- For `add_member` of parts/listing.rt, `withdraw` of parts/notice.rt and every other command, clause step.
-use Rattle.cns_book.proofs.Common.{all_fail, ◌≡◌, ap, false, List, [], ◌∷◌, Some, None, Ok, is_none, Result, IsErr, arith, Activity, AllByRecursion, Command, Contents, Follows, Refusal, Reply, Rule, first_refusal, journal, refusal, activity_reply, Steps, ◌∙◌, sym, Bool, true, is_some, FollowsNotices, FollowsRows, Journal, Key, Rows, books, entries, exchanged, holding_at, is_close, posting, FollowsBatches, refl, ℕ, ◌++◌, length, map, filter, reverse, nat_lt, Cusip, Day, Liable, Liables, Posting, batches_since, closings, day, executes, issues, kept_batches, map-append, reverse-append, batch_same, executed}
+use Rattle.cns_book.proofs.Common.{◌≡◌, ap, false, List, [], ◌∷◌, Some, None, Ok, Result, IsErr, arith, Activity, Command, Contents, Follows, Refusal, Reply, journal, refusal, activity_reply, Steps, ◌∙◌, sym, Bool, true, is_some, FollowsNotices, FollowsRows, Journal, Key, Rows, books, entries, exchanged, holding_at, is_close, posting, FollowsBatches, refl, ℕ, ◌++◌, length, map, filter, reverse, nat_lt, Cusip, Day, Liable, Liables, Posting, batches_since, closings, day, executes, issues, kept_batches, map-append, reverse-append, batch_same, executed}
 use Rattle.cns_terms.specs.declared.fault.NoMemory.{NoMemory}
 use Rattle.cns_book.proofs.EffectEntries.{holding-post}
 
@@ -24,9 +24,6 @@ accepted {s} L x r none same f = grind arith
 
 pub refused : {s : Contents} (L : List Activity) (x : Activity) (r : Refusal) → refusal s.opening (journal s.opening L) (Command.Activity x) ≡ Some r → Follows L s → Steps L (Command.Activity x) (Ok (Reply.Refused r)) s
 refused {s} L x r some f = grind arith
-
-pub none_fails : (rs : List Rule) → first_refusal rs ≡ None → AllByRecursion (λ r. r.1 ≡ false) rs
-none_fails rs e = all_fail rs (ap is_none e)
 
 -- without memory nothing that is shown has changed
 pub stopped : {s : Contents} (L : List Activity) (cmd : Command) (r : Result Reply NoMemory) → IsErr r → refusal s.opening (journal s.opening L) cmd ≡ None → Follows L s → Steps L cmd r s

@@ -1,6 +1,6 @@
 -- Trades, deliveries and receipts: what they are refused for, and what they leave.
 -- For `book_trade`, `deliver` and `receive` of parts/trading.rt, clause step.
-use Rattle.cns_book.proofs.Common.{◌≡◌, ◌∙◌, sym, ap, refl, ℕ, ◌+◌, ◌≤◌, ℤ, pos, ◌+ℤ◌, neg_ℤ, Bool, true, false, not, ◌||◌, cond, eqb, List, [], ◌∷◌, ◌++◌, reverse, Option, Some, None, arith, is_some, Ok, Err, Account, Activity, Contents, Cusip, Day, Entry, Follows, FollowsNotices, FollowsPending, FollowsReferences, IsInRange, Key, Noticed, Pend, Refusal, Rows, Traded, books, bytes_refl, date, entries, eqb_refl, first_refusal, holding_at, ints, is_close, is_member, is_not_after, is_seen, is_too_large, is_too_large_at, journal, list_any, nat_tests, option_map_or, pend_of, pending, refusal, reverse_onto, shares_for, sum_by-cons, total, trade_entries, trade_rules, position, or_false, books_beyond, party, takes_beyond, trade_answer, waits_beyond, is_used, AreTradeFacts, Movement, corporation, moved_in, moved_out, AreThere, delivery_rules, receipt_rules, AreMoveFacts, Command, bought_by, sold_by, eqb_sym, declared, executed}
+use Rattle.cns_book.proofs.Common.{◌≡◌, ◌∙◌, sym, ap, refl, ℕ, ◌+◌, ◌≤◌, ℤ, Bool, true, false, not, ◌||◌, cond, eqb, List, [], ◌∷◌, ◌++◌, reverse, Option, Some, None, arith, is_some, Ok, Err, Account, Activity, Contents, Cusip, Day, Entry, Follows, FollowsNotices, FollowsPending, FollowsReferences, IsInRange, Key, Noticed, Pend, Refusal, Rows, Traded, books, bytes_refl, date, entries, eqb_refl, first_refusal, holding_at, ints, is_close, is_member, is_not_after, is_seen, is_too_large, is_too_large_at, journal, list_any, nat_tests, option_map_or, pend_of, pending, refusal, reverse_onto, sum_by-cons, trade_entries, trade_rules, position, or_false, books_beyond, party, takes_beyond, trade_answer, waits_beyond, is_used, AreTradeFacts, Movement, corporation, moved_in, moved_out, AreThere, delivery_rules, receipt_rules, AreMoveFacts, Command, bought_by, sold_by, eqb_sym, declared, executed}
 use Rattle.cns_terms.specs.declared.command.Trade.{Trade}
 use Rattle.cns_terms.proofs.Facts.{zero_add}
 use Rattle.cns_trades.specs.declared.facts.TradeFacts.{TradeFacts}
@@ -15,20 +15,10 @@ answer_err o es r h1 = grind arith
 pub answer_ok : {X : Type 0} (o : Option Refusal) (es fs : X) → Ok fs ≡ option_map_or Err o (Ok es) → (o ≡ None) × (fs ≡ es)
 answer_ok o es fs h1 = grind arith
 
-abbrev pub at_member : Bool → ℤ → Option ℤ
-at_member b q = cond b (Some q) None
-
--- the parties' positions after a trade
-buyer_after : (p : Pend) (q : ℤ) → eqb p.buyer p.seller ≡ false → total (shares_for p.buyer p.issue) (trade_entries p) +ℤ q ≡ q +ℤ pos p.shares
-buyer_after p q h = grind (arith, ints, nat_tests, eqb_sym p.seller p.buyer, eqb_refl, bytes_refl)
-
-seller_after : (p : Pend) (q : ℤ) → eqb p.buyer p.seller ≡ false → total (shares_for p.seller p.issue) (trade_entries p) +ℤ q ≡ q +ℤ neg_ℤ (pos p.shares)
-seller_after p q h = grind (arith, ints, nat_tests, eqb_refl, bytes_refl)
-
 -- whether a trade is too large, by its parties: whether it books now or is to wait
 module _ (before : Account → Cusip → ℤ) (ps : List Pend) (p : Pend) (b : 1 ≤ p.buyer) (s : 1 ≤ p.seller) (apart : eqb p.buyer p.seller ≡ false) where
   pub large_if : (now : Bool) → list_any (is_too_large_at before (cond (not now) (p ∷ ps) ps) (cond now (trade_entries p) [])) (trade_entries p) ≡ cond now (books_beyond (party ps (before p.buyer p.issue) p.buyer p.issue) (party ps (before p.seller p.issue) p.seller p.issue) p) (waits_beyond (party ps (before p.buyer p.issue) p.buyer p.issue) (party ps (before p.seller p.issue) p.seller p.issue) p)
-  large_if true = grind (arith, nat_tests, buyer_after, or_false, seller_after)
+  large_if true = grind (arith, ints, nat_tests, eqb_sym p.seller p.buyer, eqb_refl, bytes_refl, or_false)
   large_if false = grind (arith, nat_tests, zero_add, bytes_refl, eqb_refl, eqb_sym p.seller p.buyer, or_false, sum_by-cons (bought_by p.buyer p.issue) p ps, sum_by-cons (bought_by p.seller p.issue) p ps, sum_by-cons (sold_by p.buyer p.issue) p ps, sum_by-cons (sold_by p.seller p.issue) p ps)
 
 pub trade_refusal : (L : List Activity) (opening : Day) (t : Trade) (facts : TradeFacts) (seen : Bool) (ps : List Pend) → AreTradeFacts opening (journal opening L) t facts → seen ≡ is_seen (journal opening L) t.reference → ps ≡ reverse (pending opening (journal opening L))

@@ -10,8 +10,7 @@ make-requires g c = can_be_booked _ (subst HasRoom (sym c.self.view_is) c.requir
 pub returns-in_err-make-in-Ok-clause-step : goal.returns-in_err-make-in-Ok-clause-step
 returns-in_err-make-in-Ok-clause-step g c L f =
     let f' = subst (Follows L) (sym c.self.view_is) f in let said = c.issue_refusal.ensures L f in
-    let size = c.in-Ok.ensures.too_large L f in let same = same_rows L _ _ f' c.in_err-make-in-Ok.ensures.err in
-    grind (arith, split_unrefused, stopped)
+    let size = c.in-Ok.ensures.too_large L f in let same = same_rows L _ _ f' c.in_err-make-in-Ok.ensures.err in grind (arith, split_unrefused, stopped)
 
 pub returns-in_ok-make-in-Ok-clause-step : goal.returns-in_ok-make-in-Ok-clause-step
 returns-in_ok-make-in-Ok-clause-step g c L f =
