@@ -58,8 +58,6 @@ module _ (s : Contents) (L : List Activity) (f : Follows L s) where
   pub held_up_is : (x : Action) (ps : List Pend) → ps ≡ s.trades.pending → waits_for x ps ≡ is_held_up s.opening (journal s.opening L) x
   held_up_is x ps h1 = grind (arith, waits-reverse)
 
--- ---- what is refused
-
 -- a split is not refused where its issue's rules don't refuse it and it is not too large
 pub split_unrefused : (L : List Activity) (s : Contents) (x : Split) (r : Option Refusal) → r ≡ first_refusal (issue_rules (is_listed (journal s.opening L) x.issue) (is_retired (journal s.opening L) x.issue)) → r ≡ None → (is_too_large s.opening (journal s.opening L) (Activity.Split x) ≡ true → ⊥) → refusal s.opening (journal s.opening L) (Command.Activity (Activity.Split x)) ≡ None
 split_unrefused L s x r said is size = grind arith
@@ -70,8 +68,6 @@ exchange_current L s x o f said is = grind (arith, f.listings.prices x.old, f.li
 -- and so an exchange, where no trades hold it up
 pub exchange_unrefused : (L : List Activity) (s : Contents) (x : Exchange) (r : Option Refusal) → r ≡ first_refusal (exchange_rules (journal s.opening L) x) → r ≡ None → (is_too_large s.opening (journal s.opening L) (Activity.Exchange x) ≡ true → ⊥) → ((is_too_large s.opening (journal s.opening L) (Activity.Exchange x) ≡ false) × (is_held_up s.opening (journal s.opening L) (Action.Exchange x) ≡ true) → ⊥) → refusal s.opening (journal s.opening L) (Command.Activity (Activity.Exchange x)) ≡ None
 exchange_unrefused L s x r said is size waits = grind arith
-
--- ---- what stands after a split or an exchange
 
 pub with_no_age : (h : Holding) → with_age 0 h ≡ h
 with_no_age h = λ i. record h { carried = max-zero h.carried i }

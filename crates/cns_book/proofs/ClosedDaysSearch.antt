@@ -17,8 +17,6 @@ falls (s ∷ []) zero (suc j) e o f p q = absurd (omega arith)
 falls (s ∷ t ∷ ss) zero (suc zero) e o f p q = f.0
 falls (s ∷ t ∷ ss) zero (suc (suc j)) e o f p q = less_less _ (number t) _ (falls (t ∷ ss) zero (suc j) e t f.1 (omega arith) (omega arith)) f.0
 
--- ---- a look from the last back
-
 module _ {X Y : Type 0} (f : X → Y) where
   -- one from the first on, among those from the last back
   mirrored : (xs : List X) (i : ℕ) (e : X) → i < length xs → get_or (reverse (map f xs)) (length xs - 1 - i) (f e) ≡ f (get_or xs i e)
@@ -40,8 +38,6 @@ module _ {X Y : Type 0} (f : X → Y) where
     found_back [] i e lt h behind = absurd (omega arith)
     found_back (x ∷ xs) zero e lt h behind = grind (arith, one_more x xs, nowhere_back xs (λ j o l k. behind (suc j) o (omega arith) (omega arith)))
     found_back (x ∷ xs) (suc i) e lt h behind = grind (arith, one_more x xs, found_back xs i e (omega arith) h (λ j o l k. behind (suc j) o (omega arith) (omega arith)))
-
--- ---- a search by date
 
 module _ {X : Type 0} (f : X → DaySheet) (d : Day) where
   later : (xs : List X) (i j : ℕ) (e o : X) → AreFalling (reverse (map f xs)) → i < j → j < length xs → int_lt (number (f (get_or xs i e))) (number (f (get_or xs j o))) ≡ true

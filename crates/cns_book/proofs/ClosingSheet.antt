@@ -17,8 +17,6 @@ prices_are J es s sorted is =
     same_lists nat_list_cmp_total exact_bytes (listed_above es None) (sheet_prices J) (prices_rise es sorted) (sorted_with (price J) (issues J) s.issues_rise)
     (λ c. listed_found c es ∙ is c ∙ sym (find_with (price J) c (issues J)))
 
--- ---- rows
-
 -- the dividends that a close pays, with the rows of the sheets of their record dates
 abbrev pub paid_now : Contents → List Paying
 paid_now s = payments_by s.sheets (filter (is_due (last_dated s.sheets) s.today) s.dividends)
@@ -82,8 +80,6 @@ can_be_cut L s f room order =
         dividends = λ a n. account_dividends_small s.opening J a n l (limited_past s.opening L f.reached) short;
       });
     }
-
--- ---- what a close pays can be paid
 
 payable_one : (opening : Day) (d : Declared) (Ks : List Journal) (ps : List Paying) → AllByRecursion (IsLimited opening) Ks → d.rate ≤ rate_limit → AllByRecursion IsPayable ps → AllByRecursion IsPayable (cons_option (option_map (λ s. (d, s.rows)) (sheet_as_of (map (day_sheet opening) Ks) d.recorded)) ps)
 payable_one opening d [] ps l low h = h

@@ -82,8 +82,6 @@ batch_members L s n c f =
 pub shorts_now : (L : List Activity) (s : Contents) (c : Cusip) (a : Member) → Follows L s → ((k : Key) → unsigned_abs (holding_at s.rows k).now ≤ corporation_limit) → capped_short s.rows c a ≡ short (position (journal s.opening L) a c)
 shorts_now L s c a f within = grind (arith, within (record { account = a; issue = c }), f.rows (record { account = a; issue = c }))
 
--- ---- what an execution is refused for
-
 -- of a notice that is there
 abbrev pub verdict : Bool → Bool → Bool → Bool → ℕ → Option Refusal
 verdict live exceeds early over n = cond live (cond exceeds (Some ExceedsPosition) (cond early (Some TooEarly) (cond over (Some (NotLiable n)) None))) (Some NotLive)

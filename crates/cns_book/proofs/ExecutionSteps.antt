@@ -29,8 +29,6 @@ each_few : (h : Fill → ℕ) (fs : List Fill) (n : ℕ) → sum_by h fs ≤ n �
 each_few h [] n le = tt
 each_few h (f ∷ fs) n le = grind (arith, sum_by-cons h f fs, each_few h fs n)
 
--- ---- all fills can be booked
-
 pub can_execute : (L : List Activity) (s : Contents) (x : Execution) (k : Notice) → Follows L s → ((key : Key) → IsWithin (holding_at s.rows key)) → IsInRange (Activity.Execute x) → IsExecutable (journal s.opening L) x k → CanBeExecuted s.rows k.given (fills (journal s.opening L) x k)
 can_execute L s x k f within range can =
     let J = journal s.opening L in let now : Member → ℕ = λ a. short (position J a k.given.issue) in

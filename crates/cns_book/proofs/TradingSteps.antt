@@ -71,8 +71,6 @@ pub trade_waits : (L : List Activity) (s : Contents) (t : Trade) (trades : Trade
 trade_waits L s t trades f range none later used waits =
     booked_by L s (Activity.Trade t) trades s.notices s.rows f range none refl refl refl refl (λ r. grind (arith, used r, f.references r)) (grind (arith, f.pending, reverse_onto (pending s.opening (journal s.opening L)) (pend_of t) [])) (notices_kept L (Activity.Trade t) refl f) (λ k. grind (arith, later, books_none k (holding_at s.rows k)))
 
--- ---- a receipt
-
 pub receipt_there : (L : List Activity) (s : Contents) (m : Movement) → Follows L s → 1 ≤ m.shares → refusal s.opening (journal s.opening L) (Command.Activity (Activity.Receive m)) ≡ None → AreThere s.rows (moved_out m.member m ∷ moved_in corporation m ∷ [])
 receipt_there L s m f least none = grind arith
 
