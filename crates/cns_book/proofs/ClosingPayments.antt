@@ -1,6 +1,6 @@
 -- What a close pays by the sheets of the record dates is what the definitions say.
 -- For `close_day` of parts/closing.rt, clause step.
-use Rattle.cns_book.proofs.Common.{◌≡◌, ◌∙◌, sym, ap, refl, ℕ, ◌≤◌, ℤ, pos, neg_ℤ, Bool, true, false, not, ◌&&◌, ◌||◌, ◌==◌, cond, List, [], ◌∷◌, map, filter, find, Option, Some, None, unwrap_or, arith, bytes_eq, filter_map, option_map, Account, AllByRecursion, Cusip, Day, DaySheet, Declared, IsSound, Journal, Key, Paying, Row, accounts, and_right, as_of, bytes_eq-Decides, cash, closings, corporation, date, day_sheet, dividend, dividend_of, dividends, exact_keys, find_filter, found_number, in_order, is_not_after, is_sorted, issues, kept_if, key_cmp, keys_total, last_date, list_any, members, numbers, occurs, occurs_found, occurs_missing, option_map_or, payments_by, pays_before, row, said, same_lists, same_sums, says, sheet_as_of, sheet_rows, sorted_numbers, total, total-map, total-neg, total-same, total-swap, total-zero, total_numbers, position, idle_at, no_account_elsewhere, no_position, total-due, by_key, key_of, member_cash, paid, ◌++◌, flat_map, closing_at, filter-append, idle_parts, map-append, rows_of, sorted_filter}
+use Rattle.cns_book.proofs.Common.{◌≡◌, ◌∙◌, sym, ap, refl, ℕ, ◌≤◌, ℤ, pos, neg_ℤ, Bool, true, false, not, ◌&&◌, ◌||◌, ◌==◌, cond, List, [], ◌∷◌, map, filter, find, Option, Some, None, unwrap_or, arith, bytes_eq, filter_map, option_map, Account, AllByRecursion, Cusip, Day, DaySheet, Declared, IsSound, Journal, Key, Paying, Row, accounts, and_right, as_of, bytes_eq-Decides, cash, closings, corporation, date, day_sheet, dividend, dividend_of, dividends, exact_keys, find_filter, found_number, in_order, is_not_after, is_sorted, issues, kept_if, key_cmp, keys_total, last_date, list_any, members, numbers, occurs, occurs_found, occurs_missing, option_map_or, payments_by, pays_before, row, said, same_lists, same_sums, says, sheet_as_of, sheet_rows, sorted_numbers, total, total-map, total-neg, total-same, total-swap, total-zero, total_numbers, position, idle_at, no_account_elsewhere, no_position, total-due, by_key, key_of, member_cash, paid, ◌++◌, flat_map, closing_at, filter-append, idle_parts, map-append, rows_of, sorted_filter, map-map, map-id}
 use Rattle.cns_terms.proofs.Cells.{cells, cells_of, find_cells, sorted_cells}
 use Rattle.cns_terms.specs.Dividends.{due, is_due}
 use Rattle.std.specs.FinMap as finmap
@@ -12,7 +12,6 @@ with_key : (b : Bool) (r : Row) (rs : List Row) (es : List (Key × Row)) → by_
 with_key b r rs es h1 = grind arith
 
 module _ (opening : Day) (K : Journal) where
-  -- the row at each key
   abbrev row_of : Key → Row
   row_of k = row opening K k.account k.issue
 
@@ -31,15 +30,10 @@ module _ (opening : Day) (K : Journal) where
   module _ (g : Row → ℤ) (idle : (r : Row) → says r ≡ false → g r ≡ pos 0) where
     -- a number of the row at a key, 0 where it has none, is that of the definitions
     pub number_found : (k : Key) → IsSound K → option_map_or g (finmap.find key_cmp k (by_key (sheet_rows opening K))) (pos 0) ≡ g (row_of k)
-    number_found k s =
-        let kept = ap (finmap.find key_cmp k) (of_all (accounts K)) ∙ find_filter keys_total says k (cells row_of (accounts K) (issues K)) (sorted_cells row_of (accounts K) (issues K) s.accounts_rise s.issues_rise) in
-        grind (arith, find_cells row_of k (accounts K) (issues K), idle_at opening K k s, idle (row_of k))
+    number_found k s = grind (arith, of_all (accounts K), find_filter keys_total says k (cells row_of (accounts K) (issues K)) (sorted_cells row_of (accounts K) (issues K) s.accounts_rise s.issues_rise), find_cells row_of k (accounts K) (issues K), idle_at opening K k s, idle (row_of k))
 
-  -- the rows are in the order of their keys
   pub shown_rise : IsSound K → is_sorted key_cmp (by_key (sheet_rows opening K)) ≡ true
-  shown_rise s =
-      ap (is_sorted key_cmp) (of_all (accounts K))
-      ∙ sorted_filter keys_total says (cells row_of (accounts K) (issues K)) (sorted_cells row_of (accounts K) (issues K) s.accounts_rise s.issues_rise)
+  shown_rise s = rw (of_all (accounts K)) (sorted_filter keys_total says (cells row_of (accounts K) (issues K)) (sorted_cells row_of (accounts K) (issues K) s.accounts_rise s.issues_rise))
 
   -- the closing at a key, 0 where it has no row, is the position at the close
   pub closing_found : (k : Key) → IsSound K → closing_at (sheet_rows opening K) k ≡ position K k.account k.issue
@@ -48,28 +42,16 @@ module _ (opening : Day) (K : Journal) where
 -- ---- the members of a sheet
 
 module _ (opening : Day) (K J : Journal) (k_sound : IsSound K) (j_sound : IsSound J) (among : (a : ℕ) → occurs a (accounts K) ≤ occurs a (accounts J)) (d : Declared) where
-  -- the cash at a place
   abbrev at_place : Key → ℤ
   at_place k = cash (position K k.account k.issue) d.rate
 
-  -- nothing is paid to who was not there
-  none_absent : (a : Account) (c : Cusip) → occurs a (accounts J) ≡ 0 → cash (position K a c) d.rate ≡ pos 0
-  none_absent a c h = grind (arith, occurs_found, no_position, no_account_elsewhere, no_cash)
-
   -- what is paid at a key, by the members that are there now
   same_number : (k : Key) (s n m : Bool) → bytes_eq k.issue d.issue ≡ s → (k.account == corporation) ≡ n → list_any (λ a. k.account == a) (members J) ≡ m → cond (s && not n) (at_place k) (pos 0) ≡ unwrap_or (cond (m && (s || false)) (Some (at_place k)) None) (pos 0)
-  same_number k s n m h1 h2 h3 = grind (arith, occurs_found, none_absent, occurs_missing)
+  same_number k s n m h1 h2 h3 = grind (arith, occurs_found, occurs_missing, no_position, no_account_elsewhere, no_cash)
 
   -- the rows of the sheet with their keys, as the definitions make them
   abbrev shown : List (Key × Row)
   shown = by_key (sheet_rows opening K)
-
-  -- what each row is paid, with its key, and what each member is paid that is there now
-  abbrev of_rows : List (Key × ℤ)
-  of_rows = numbers (member_cash d) shown
-
-  abbrev of_members : List (Key × ℤ)
-  of_members = cells at_place (members J) (d.issue ∷ [])
 
   members_sum : (ms : List Account) → total (λ e. e.1) (cells at_place ms (d.issue ∷ [])) ≡ total (λ a. cash (position K a d.issue) d.rate) ms
   members_sum [] = refl
@@ -79,7 +61,7 @@ module _ (opening : Day) (K J : Journal) (k_sound : IsSound K) (j_sound : IsSoun
   pub members_paid : total (member_cash d) (sheet_rows opening K) ≡ total (λ a. cash (position K a d.issue) d.rate) (members J)
   members_paid =
       sym (total_numbers (member_cash d) (λ e. e.1) shown ∙ total-map (λ (e : Key × Row). member_cash d e.1) (λ r. (key_of r, r)) (sheet_rows opening K))
-      ∙ same_sums (λ e. e.1) (λ k. refl) of_rows of_members (sorted_numbers (member_cash d) shown (shown_rise opening K k_sound)) (sorted_cells at_place (members J) (d.issue ∷ []) (and_right _ _ j_sound.accounts_rise) refl)
+      ∙ same_sums (λ e. e.1) (λ k. refl) (numbers (member_cash d) shown) (cells at_place (members J) (d.issue ∷ [])) (sorted_numbers (member_cash d) shown (shown_rise opening K k_sound)) (sorted_cells at_place (members J) (d.issue ∷ []) (and_right _ _ j_sound.accounts_rise) refl)
       (λ k. found_number (member_cash d) k (pos 0) shown ∙ number_found opening K (member_cash d) (λ r h. grind arith) k k_sound ∙ same_number k _ _ _ refl refl refl ∙ sym (ap (λ o. unwrap_or o (pos 0)) (find_cells at_place k (members J) (d.issue ∷ []))))
       ∙ members_sum (members J)
 
@@ -93,30 +75,18 @@ total-given f g [] = refl
 total-given f g (x ∷ xs) = grind (arith, total-given f g xs)
 
 module _ (opening : Day) (J : Journal) (sound : IsSound J) where
-  -- what is so of each journal of a close
-  abbrev pub IsEarlier : Journal → Type 0
-  IsEarlier K = IsSound K × ((a : ℕ) → occurs a (accounts K) ≤ occurs a (accounts J))
-
   -- what a dividend books at a key, by the positions that a journal has
   abbrev books_at : Declared → Key → Journal → ℤ
   books_at d k K = cond (bytes_eq k.issue d.issue) (cond (k.account == corporation) (neg_ℤ (total (λ a. cash (position K a d.issue) d.rate) (members J))) (cash (position K k.account k.issue) d.rate)) (pos 0)
 
-  -- where no day is closed it books nothing
-  books_none : (d : Declared) (k : Key) → pos 0 ≡ books_at d k []
-  books_none d k = grind (arith, no_cash d.rate, total-same (λ a. cash (pos 0) d.rate) (λ a. pos 0) (members J) (λ a. no_cash d.rate) ∙ total-zero (members J))
-
-  one_paid : (d : Declared) (k : Key) (Ks : List Journal) → AllByRecursion IsEarlier Ks
+  one_paid : (d : Declared) (k : Key) (Ks : List Journal) → AllByRecursion (λ K. IsSound K × ((a : ℕ) → occurs a (accounts K) ≤ occurs a (accounts J))) Ks
       → option_map_or (λ s. paid d s.rows k) (sheet_as_of (map (day_sheet opening) Ks) d.recorded) (pos 0) ≡ books_at d k (unwrap_or (find (λ K. is_not_after (date opening K) d.recorded) Ks) [])
-  one_paid d k [] e = books_none d k
+  one_paid d k [] e = grind (arith, no_cash d.rate, total-same (λ a. cash (pos 0) d.rate) (λ a. pos 0) (members J) (λ a. no_cash d.rate) ∙ total-zero (members J))
   one_paid d k (K ∷ Ks) e = grind (arith, paid_is opening K J e.0.0 sound e.0.1 d k, one_paid d k Ks e.1)
 
   -- what a dividend books where it is of the issue
   abbrev in_issue : Account → Cusip → Declared → ℤ
   in_issue a c d = cond (a == corporation) (neg_ℤ (total (λ b. cash (position (as_of opening J d.recorded) b c) d.rate) (members J))) (cash (position (as_of opening J d.recorded) a c) d.rate)
-
-  of_issue : (b : Bool) (a : Account) (c : Cusip) (d : Declared) → (b ≡ true → d.issue ≡ c)
-      → cond b (cond (a == corporation) (neg_ℤ (total (λ b. cash (position (as_of opening J d.recorded) b d.issue) d.rate) (members J))) (cash (position (as_of opening J d.recorded) a c) d.rate)) (pos 0) ≡ cond b (in_issue a c d) (pos 0)
-  of_issue b a c d h1 = grind arith
 
   -- the dividends that are due in an issue book what the definitions say
   all_due : (a : Account) (c : Cusip) → total (in_issue a c) (due opening J c) ≡ dividend opening J a c
@@ -124,31 +94,24 @@ module _ (opening : Day) (J : Journal) (sound : IsSound J) where
       let paid : Declared → Account → ℤ = λ d b. cash (position (as_of opening J d.recorded) b c) d.rate in
       grind (arith, total-neg (λ d. total (paid d) (members J)) (due opening J c) ∙ ap neg_ℤ (total-swap paid (due opening J c) (members J)))
 
-  -- what a close pays at a key
-  pub dividends_are : (k : Key) → AllByRecursion IsEarlier (closings J) → dividend_of (payments_by (map (day_sheet opening) (closings J)) (filter (is_due (last_date opening J) (date opening J)) (in_order pays_before (dividends J)))) k ≡ dividend opening J k.account k.issue
+  pub dividends_are : (k : Key) → AllByRecursion (λ K. IsSound K × ((a : ℕ) → occurs a (accounts K) ≤ occurs a (accounts J))) (closings J) → dividend_of (payments_by (map (day_sheet opening) (closings J)) (filter (is_due (last_date opening J) (date opening J)) (in_order pays_before (dividends J)))) k ≡ dividend opening J k.account k.issue
   dividends_are k e =
       let ds : List Declared = filter (is_due (last_date opening J) (date opening J)) (in_order pays_before (dividends J)) in
       let ss : List DaySheet = map (day_sheet opening) (closings J) in
       total-given (λ (p : Paying). paid p.0 p.1 k) (λ d. option_map (λ s. (d, s.rows)) (sheet_as_of ss d.recorded)) ds
-      ∙ total-same _ _ ds (λ d. grind (arith, one_paid d k (closings J) e) ∙ of_issue (bytes_eq k.issue d.issue) k.account k.issue d (λ t. sym ((bytes_eq-Decides k.issue d.issue).0 t)))
+      ∙ total-same _ _ ds (λ d. grind (arith, one_paid d k (closings J) e, (bytes_eq-Decides k.issue d.issue).0))
       ∙ total-due (in_issue k.account k.issue) (is_due (last_date opening J) (date opening J)) k.issue (dividends J)
       ∙ all_due k.account k.issue
-
--- rows without their keys
-without_keys : (rs : List Row) → map (λ e. e.1) (by_key rs) ≡ rs
-without_keys [] = refl
-without_keys (r ∷ rs) = grind (arith, without_keys rs)
 
 -- rows in the order of keys that show the row of each key are those of the definitions
 pub rows_are_cut : (opening : Day) (J : Journal) (rows : List Row) → IsSound J → is_sorted key_cmp (by_key rows) ≡ true → ((k : Key) → row_at rows k ≡ said (row opening J k.account k.issue)) → rows ≡ sheet_rows opening J
 rows_are_cut opening J rows s order is =
     let g : Key → Row = λ k. row opening J k.account k.issue in
-    let all = sorted_cells g (accounts J) (issues J) s.accounts_rise s.issues_rise in
-    let kept = of_all opening J (accounts J) in
-    sym (without_keys rows)
+    let all = sorted_cells g (accounts J) (issues J) s.accounts_rise s.issues_rise in let kept = of_all opening J (accounts J) in
+    sym (map-map (λ e. e.1) (λ r. (key_of r, r)) rows ∙ map-id rows)
     ∙ ap (map (λ e. e.1)) (same_lists keys_total exact_keys (by_key rows) (by_key (sheet_rows opening J)) order
     (shown_rise opening J s)
     (λ k. is k
     ∙ grind (arith, idle_at opening J k s)
     ∙ sym (ap (finmap.find key_cmp k) kept ∙ find_filter keys_total says k (cells g (accounts J) (issues J)) all ∙ ap (kept_if says) (find_cells g k (accounts J) (issues J)))))
-    ∙ without_keys (sheet_rows opening J)
+    ∙ map-map (λ e. e.1) (λ r. (key_of r, r)) (sheet_rows opening J) ∙ map-id (sheet_rows opening J)

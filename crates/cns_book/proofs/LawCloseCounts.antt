@@ -17,26 +17,15 @@ by_refusal : (S : State) (more : List Command) (d : Day) (c : Closed) (o : Optio
     → TellsDay (after (next S (Command.Activity (Activity.Close d))) more) c
 by_refusal S more d c (Some r) w o e = cc
 by_refusal S more d c None w o e =
-    let J = journal_of S in
-    let close = Command.Activity (Activity.Close d) in
-    let S' = next S close in
-    let J' = journal_of (after S' more) in
+    let J = journal_of S in let S' = next S (Command.Activity (Activity.Close d)) in let J' = journal_of (after S' more) in
     let told : activity_reply S.opening J (Activity.Close d) ≡ Reply.Closed c = e in
-    let liable : length (liable_at J) ≡ c.liable = cc in
-    let rows : length (sheet_rows S.opening J) ≡ c.rows = cc in
-    let dated : date S.opening J ≡ c.date = cc in
-    let on : day J ≡ c.day = cc in
+    let C : Closed = record { day = day J; date = date S.opening J; rows = length (sheet_rows S.opening J); liable = length (liable_at J) } in
+    let is : C ≡ c = cc in
     let closed : journal_of S' ≡ posting S.opening J (Activity.Close d) ∷ J = ap (λ r. journal S.opening (cond (is_none r) (Activity.Close d ∷ S.accepted) S.accepted)) o in
-    let k = keeps-after S' more (whole-next S close w) in
-    let found : at_close (journal_of S') (day J) ≡ J = ap (λ K. at_close K (day J)) closed ∙ grind arith in
-    let fits : day J ≤ length (closings (journal_of S')) = subst (λ K. day J ≤ length (closings K)) (sym closed) (omega arith) in
-    let there : at_close J' c.day ≡ J = ap (at_close J') (sym on) ∙ k.by_place (day J) fits ∙ found in
-    let same : (after S' more).opening ≡ S.opening = opening_stays S' more in
-    record {
-      date = (λ i. date (same i) (there i)) ∙ dated;
-      rows = sym rows ∙ (λ i. length (sheet_rows (sym same i) (sym there i)));
-      liable = sym liable ∙ sym (sum_of (batch_since J' J) (issues J) ∙ still_liable J' J (issues J)) ∙ ap (λ K. liable_in (batches_since J' K)) (sym there);
-    }
+    let there : at_close J' (day J) ≡ J = (keeps-after S' more (whole-next S (Command.Activity (Activity.Close d)) w)).by_place (day J) (subst (λ K. day J ≤ length (closings K)) (sym closed) (omega arith)) ∙ ap (λ K. at_close K (day J)) closed ∙ grind arith in
+    let same = opening_stays S' more in
+    let liable = ap (λ K. liable_in (batches_since J' K)) there ∙ sum_of (batch_since J' J) (issues J) ∙ still_liable J' J (issues J) in
+    subst (TellsDay (after S' more)) is (record { date = λ i. date (same i) (there i); rows = λ i. length (sheet_rows (sym same i) (sym there i)); liable = sym liable })
 
 -- whatever is taken later, a closed day is as its close told
 pub close_counts : CloseCounts

@@ -1,45 +1,29 @@
 -- What an activity leaves of each group of parts, and the machine's reply and step, by whether a command is refused.
 -- For `add_member` of parts/listing.rt, `withdraw` of parts/notice.rt and every other command, clause step.
-use Rattle.cns_book.proofs.Common.{all_fail, ◌≡◌, ap, false, List, [], ◌∷◌, Some, None, Ok, is_none, Result, IsErr, arith, Activity, AllByRecursion, Command, Contents, Follows, Refusal, Reply, Rule, first_refusal, journal, refusal, activity_reply, Steps, ◌∙◌, sym, Bool, true, is_some, FollowsNotices, FollowsRows, Journal, Key, Rows, books, entries, exchanged, holding_at, is_close, posting, FollowsBatches, refl, ℕ, ◌++◌, length, map, filter, reverse, nat_lt, Cusip, Day, Liable, Liables, Posting, batch_since, batches_since, closings, day, executes, issues, kept_batches, map-append, reverse-append, batch_same, executed, declared}
+use Rattle.cns_book.proofs.Common.{◌≡◌, ap, false, List, [], ◌∷◌, Some, None, Ok, Result, IsErr, arith, Activity, Command, Contents, Follows, Refusal, Reply, journal, refusal, activity_reply, Steps, ◌∙◌, sym, Bool, true, is_some, FollowsNotices, FollowsRows, Journal, Key, Rows, books, entries, exchanged, holding_at, is_close, posting, FollowsBatches, refl, ℕ, ◌++◌, length, map, filter, reverse, nat_lt, Cusip, Day, Liable, Liables, Posting, batches_since, closings, day, executes, issues, kept_batches, map-append, reverse-append, batch_same, executed}
 use Rattle.cns_terms.specs.declared.fault.NoMemory.{NoMemory}
 use Rattle.cns_book.proofs.EffectEntries.{holding-post}
 
--- an activity that is no execution executes no notice
-pub executes_none : (J : Journal) (n : ℕ) (c : Cusip) (x : Activity) → is_some (executed x) ≡ false → executes J n c x ≡ false
-executes_none J n c x h1 = grind arith
-
--- a batch in an issue
 abbrev pub in_issue : (Cusip → List Liable) → Cusip → Liables
 in_issue f c = record { issue = c; members = f c }
 
 -- the batches of a day, after an activity that executes no notice of that day
 pub since_same : (p : Posting) (J K : Journal) → ((c : Cusip) → executes J (day K) c p.activity ≡ false) → batches_since (p ∷ J) K ≡ batches_since J K
-since_same p J K h = ap (filter (λ b. nat_lt 0 (length b.members))) (each (issues K))
-  where
-    each : (cs : List Cusip) → map (in_issue (batch_since (p ∷ J) K)) cs ≡ map (in_issue (batch_since J K)) cs
-    each [] = refl
-    each (c ∷ cs) = grind (arith, batch_same p J K c (h c), each cs)
+since_same p J K h i = filter (λ b. nat_lt 0 (length b.members)) (map (λ c. record { issue = c; members = batch_same p J K c (h c) i }) (issues K))
 
 -- those of many days, after one that executes none at all
 pub batches_same : (p : Posting) (J : Journal) (Ks : List Journal) → ((n : ℕ) (c : Cusip) → executes J n c p.activity ≡ false) → map (batches_since (p ∷ J)) Ks ≡ map (batches_since J) Ks
-batches_same p J [] h = refl
-batches_same p J (K ∷ Ks) h = λ i. since_same p J K (h (day K)) i ∷ batches_same p J Ks h i
+batches_same p J Ks h i = map (λ K. since_same p J K (h (day K)) i) Ks
 
 -- the batches of the day that was closed come last
 pub batches_more : (opening : Day) (J : Journal) (d : Day) → kept_batches (posting opening J (Activity.Close d) ∷ J) ≡ kept_batches J ++ batches_since J J ∷ []
-batches_more opening J d = grind (arith, reverse-append (J ∷ []) (closings J), map-append, batches_same (posting opening J (Activity.Close d)) J (reverse (closings J)) (λ n c. executes_none J n c (Activity.Close d) refl), since_same (posting opening J (Activity.Close d)) J J (λ c. executes_none J (day J) c (Activity.Close d) refl))
+batches_more opening J d = grind (arith, reverse-append (J ∷ []) (closings J), map-append, batches_same (posting opening J (Activity.Close d)) J (reverse (closings J)) (λ n c. refl), since_same (posting opening J (Activity.Close d)) J J (λ c. refl))
 
--- an accepted activity
 pub accepted : {s : Contents} (L : List Activity) (x : Activity) (r : Reply) → refusal s.opening (journal s.opening L) (Command.Activity x) ≡ None → r ≡ activity_reply s.opening (journal s.opening L) x → Follows (x ∷ L) s → Steps L (Command.Activity x) (Ok r) s
 accepted {s} L x r none same f = grind arith
 
--- a refused one
 pub refused : {s : Contents} (L : List Activity) (x : Activity) (r : Refusal) → refusal s.opening (journal s.opening L) (Command.Activity x) ≡ Some r → Follows L s → Steps L (Command.Activity x) (Ok (Reply.Refused r)) s
 refused {s} L x r some f = grind arith
-
--- of rules that refuse nothing, none holds
-pub none_fails : (rs : List Rule) → first_refusal rs ≡ None → AllByRecursion (λ r. r.1 ≡ false) rs
-none_fails rs e = all_fail rs (ap is_none e)
 
 -- without memory nothing that is shown has changed
 pub stopped : {s : Contents} (L : List Activity) (cmd : Command) (r : Result Reply NoMemory) → IsErr r → refusal s.opening (journal s.opening L) cmd ≡ None → Follows L s → Steps L cmd r s
@@ -64,14 +48,6 @@ is_noticing (Activity.Execute x) = true
 is_noticing (Activity.Close d) = true
 is_noticing _ = false
 
--- whether an activity executes a notice
-abbrev pub is_execution : Activity → Bool
-is_execution x = is_some (executed x)
-
--- whether an activity declares a dividend
-abbrev pub is_dividend : Activity → Bool
-is_dividend x = is_some (declared x)
-
 module _ (s : Contents) (J : Journal) where
   abbrev after : Activity → Journal
   after x = posting s.opening J x ∷ J
@@ -84,10 +60,8 @@ module _ (s : Contents) (J : Journal) where
   pub rows_stay : (x : Activity) → is_close x ≡ false → is_noticing x ≡ false → entries s.opening J x ≡ [] → FollowsRows J s → FollowsRows (after x) s
   rows_stay x still unnoticed nothing f k = grind arith
 
-  -- an activity that touches no notice leaves them
   pub notices_stay : (x : Activity) → is_noticing x ≡ false → FollowsNotices J s → FollowsNotices (after x) s
   notices_stay x h1 h2 = grind arith
 
-  -- one that executes none leaves the batches
-  pub batches_stay : (x : Activity) → is_close x ≡ false → is_execution x ≡ false → FollowsBatches J s → FollowsBatches (after x) s
-  batches_stay x still unexecuted f = grind (arith, batches_same, executes_none)
+  pub batches_stay : (x : Activity) → is_close x ≡ false → is_some (executed x) ≡ false → FollowsBatches J s → FollowsBatches (after x) s
+  batches_stay x still unexecuted f = grind (arith, batches_same)

@@ -1,6 +1,6 @@
 -- What the notices of the open day call for.
 -- For `calls_of_day` of parts/retransmittal.rt.
-use Rattle.cns_book.proofs.Common.{◌++◌, ◌≡◌, ◌∙◌, refl, ℕ, ◌+◌, ◌-◌, ◌^◌, ◌≤◌, ◌<◌, false, cond, ◌&&◌, ◌==◌, List, [], ◌∷◌, filter, length, map, take, Some, sum_by, arith, option_map, option_map_or, get_or, Activity, AllByRecursion, CalledIn, Contents, Cusip, Follows, ForSome, HasRoom, IsNonDecreasingBy, Journal, Notice, Noticed, Rows, bytes_eq-Decides, called, called_by, called_in, day, days_by, each_map, journal, nat_tests, notices, remaining, remaining_by, same_issue, shares_limit, shorts_in, sum_by-cons, total_in, min-le_left, slice_get-get_or, Given, None, bytes_refl, ◌⊎◌, length-take, new_notice, live_received, kept, call_of, map-append, All-from_recursion, kept_at, get_or-take, IsNonDecreasingBy-push, notice, noticed}
+use Rattle.cns_book.proofs.Common.{◌++◌, ◌≡◌, ◌∙◌, refl, ℕ, ◌+◌, ◌-◌, ◌^◌, ◌≤◌, ◌<◌, false, cond, ◌&&◌, ◌==◌, List, [], ◌∷◌, filter, length, map, take, Some, sum_by, arith, option_map, option_map_or, get_or, Activity, AllByRecursion, CalledIn, Contents, Cusip, Follows, ForSome, HasRoom, IsNonDecreasingBy, Journal, Notice, Noticed, bytes_eq-Decides, called, called_by, called_in, day, days_by, each_map, journal, nat_tests, notices, remaining, remaining_by, same_issue, shares_limit, shorts_in, sum_by-cons, total_in, min-le_left, slice_get-get_or, Given, None, bytes_refl, ◌⊎◌, length-take, new_notice, live_received, kept, call_of, map-append, All-from_recursion, kept_at, get_or-take, IsNonDecreasingBy-push, notice, noticed}
 use Rattle.std.proofs.lemmas.List.Sums.{sum_by-le, sum_by_more}
 use Rattle.cns_book.proofs.PartsWithin.{given_few, last_day, notices_fit}
 
@@ -19,34 +19,24 @@ none_earlier s room k c le other =
     let rise : IsNonDecreasingBy (λ x. x.given.day) s.notices = rw room.follows.notices (days_rise J J) in
     omega (arith, sum_by-le (call_of s.rows (s.closes + 1) c) 0 (take k s.notices) (λ i d lt. grind (arith, nat_tests, length-take k s.notices, get_or-take k s.notices i d, slice_get-get_or s.notices (k - 1) d, other (omega (arith, lt, length-take k s.notices)) (get_or s.notices (k - 1) d), last_day s room k (get_or s.notices (k - 1) d), rise i (k - 1) d)))
 
--- one notice more
 called_more : (s : Contents) (n : ℕ) (g : Given) (m : ℕ) (c : Cusip) → 1 ≤ n → n ≤ length s.notices → Some g ≡ option_map (λ (x : Noticed). x.given) (kept_at s.notices n) → Some m ≡ option_map (remaining_by s.rows) (kept_at s.notices n)
     → called_by s.rows (s.closes + 1) c (take n s.notices) ≡ called_by s.rows (s.closes + 1) c (take (n - 1) s.notices) + cond ((g.day == s.closes + 1) && same_issue g.issue c) m 0
 called_more s n g m c some le given remains = grind (arith, sum_by_more (call_of s.rows (s.closes + 1) c) s.notices (n - 1) (new_notice g), slice_get-get_or s.notices (n - 1) (new_notice g))
 
--- what remains of a kept notice
 pub remaining_same : (L : List Activity) (s : Contents) → Follows L s → (n : Notice) → remaining_by s.rows (kept (journal s.opening L) n) ≡ remaining (journal s.opening L) n
 remaining_same L s f n = grind (arith, live_received (journal s.opening L) n, f.rows (record { account = n.given.member; issue = n.given.issue }))
 
 called_each : (L : List Activity) (s : Contents) → Follows L s → (c : Cusip) (ns : List Notice) → called_by s.rows (day (journal s.opening L)) c (map (kept (journal s.opening L)) ns) ≡ sum_by (remaining (journal s.opening L)) (filter (λ n. (n.given.day == day (journal s.opening L)) && same_issue n.given.issue c) ns)
 called_each L s f c [] = refl
-called_each L s f c (n ∷ ns) =
-    let now = journal s.opening L in
-    grind (arith, remaining_same L s f n, sum_by-cons (call_of s.rows (day now) c) (kept now n) (map (kept now) ns), sum_by-cons (remaining now) n (filter (λ n. (n.given.day == day now) && same_issue n.given.issue c) ns), called_each L s f c ns)
+called_each L s f c (n ∷ ns) = grind (arith, remaining_same L s f n, sum_by-cons (call_of s.rows (day (journal s.opening L)) c) (kept (journal s.opening L) n) (map (kept (journal s.opening L)) ns), sum_by-cons (remaining (journal s.opening L)) n (filter (λ n. (n.given.day == day (journal s.opening L)) && same_issue n.given.issue c) ns), called_each L s f c ns)
 
--- what all of them call for
 pub called_is : (L : List Activity) (s : Contents) → Follows L s → (c : Cusip) → called_by s.rows (s.closes + 1) c s.notices ≡ called (journal s.opening L) c
 called_is L s f c = (λ i. called_by s.rows (f.clock.closes i + 1) c (f.notices i)) ∙ called_each L s f c (notices (journal s.opening L))
 
--- what notices call for can be added up
-remains_few : (rows : Rows) (n : ℕ) (c : Cusip) (x : Noticed) → x.given.shares ≤ shares_limit → call_of rows n c x ≤ shares_limit
-remains_few rows n c x h = grind (arith, min-le_left)
-
 called_fit : (s : Contents) → HasRoom s → (c : Cusip) → called_by s.rows (s.closes + 1) c s.notices < 2 ^ 64
 called_fit s room c =
-    let J = journal s.opening room.activities in
-    let few : AllByRecursion (λ x. x.given.shares ≤ shares_limit) s.notices = rw room.follows.notices (each_map (λ (x : Noticed). x.given.shares ≤ shares_limit) (kept J) (notices J) (given_few s.opening room.activities room.follows.reached)) in
-    omega (arith, notices_fit s room, sum_by-le (call_of s.rows (s.closes + 1) c) shares_limit s.notices (λ k d lt. remains_few s.rows (s.closes + 1) c _ (All-from_recursion (λ (x : Noticed). x.given.shares ≤ shares_limit) s.notices few k d lt)))
+    let few : AllByRecursion (λ x. x.given.shares ≤ shares_limit) s.notices = rw room.follows.notices (each_map (λ (x : Noticed). x.given.shares ≤ shares_limit) (kept (journal s.opening room.activities)) (notices (journal s.opening room.activities)) (given_few s.opening room.activities room.follows.reached)) in
+    omega (arith, notices_fit s room, sum_by-le (call_of s.rows (s.closes + 1) c) shares_limit s.notices (λ k d lt. grind (arith, min-le_left, All-from_recursion (λ (x : Noticed). x.given.shares ≤ shares_limit) s.notices few k d lt)))
 
 -- what was called, where so many notices are left
 pub record AreCalled (s : Contents) (k : ℕ) (es : List (Cusip × CalledIn)) : Type 0 where

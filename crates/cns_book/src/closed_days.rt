@@ -110,6 +110,7 @@ impl<A: Allocator + Drop + Clone> ClosedDays<A> {
     }
 
     /// The sheet of the closed day with the date; None where no closed day has it.
+    #[tactic(auto, using(crate::proofs::ClosedDaysSearch::nowhere_back))]
     pub fn find(&self, date: Day) -> Option<&Arc<Sheet<A>, A>>
         ensures { option_map arc_value (option_copied result) ≡ dated_sheet self.now date }
     {

@@ -9,6 +9,7 @@ use cns_positions::Positions;
 use cns_terms::{Entry, Key, NoMemory};
 
 /// Gives the places of two entries rows, before anything changes. What stands at each key stays, also where memory is refused.
+#[tactic(auto, using(crate::proofs::EffectEntries::both_places, crate::proofs::EffectEntries::each_there))]
 pub fn prepare<P: Positions<A>, A>(positions: &mut P, entries: &[Entry; 2]) -> Result<(), NoMemory>
     ensures same { (k : Key) → holding_at (P.rows positions.new) k ≡ holding_at (P.rows positions.old) k }
     ensures others { (k : Key) → ¬ Contains (places_of entries.now) k
@@ -22,6 +23,7 @@ pub fn prepare<P: Positions<A>, A>(positions: &mut P, entries: &[Entry; 2]) -> R
 }
 
 /// Books entries at keys that have rows, one after another. It takes no memory.
+#[tactic(auto, using(crate::proofs::EffectEntries::books_none, crate::proofs::EffectEntries::place_there))]
 pub fn book<P: Positions<A>, A>(positions: &mut P, entries: &[Entry])
     requires there { AreThere (P.rows positions.old) entries.now }
     requires small { AreSmallEntries entries.now }

@@ -72,7 +72,7 @@ impl<P: Positions<A>, A: Allocator + Drop + Clone> Parts<P, A> {
     }
 
     // Why a WITHDRAW is refused.
-    #[tactic(auto, using(crate::proofs::NoticeSteps::withdraw_missing, crate::proofs::NoticeSteps::notice_missing, crate::proofs::NoticeSteps::withdraw_by_stage, crate::proofs::NoticeSteps::not_live))]
+    #[tactic(auto, using(crate::proofs::NoticeSteps::notice_missing, crate::proofs::NoticeSteps::withdraw_by_stage))]
     fn withdraw_refusal(&self, number: u32) -> Option<Refusal>
         ensures refusal { Refuses self.now (command.Activity (activity.Withdraw number)) result }
         ensures there { ForNone result ((1 ≤ number) × (number ≤ length self.now.notices)) }

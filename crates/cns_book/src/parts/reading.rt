@@ -225,6 +225,7 @@ impl<P: Positions<A>, A: Allocator + Drop + Clone> Parts<P, A> {
     }
 
     /// STATEMENT.
+    #[tactic(auto, using(crate::proofs::ClosedDaysSearch::sheet_found))]
     pub fn answer_statement(&self, account: Account, date: Day) -> Reply
         ensures { Shows self.now (λ J. result ≡ answer_over self.now.opening J (command.Statement account date)) }
     {

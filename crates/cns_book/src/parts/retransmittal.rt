@@ -48,6 +48,7 @@ impl<P: Positions<A>, A: Allocator + Drop + Clone> Parts<P, A> {
 
     // What the notices of the open day call for, in each issue. Days never fall along the notices, so those of the open
     // day are the last ones.
+    #[tactic(auto, using(crate::proofs::RetransmittalCalls::call_fits))]
     fn calls_of_day(&self) -> Result<Calls<A>, NoMemory>
         requires { HasRoom self.now }
         ensures total { IfOk result
@@ -107,6 +108,7 @@ impl<P: Positions<A>, A: Allocator + Drop + Clone> Parts<P, A> {
 
     /// The batches that a close chooses: of the issues in which notices of the open day call for anything, by the shorts on
     /// the sheet that the close cut (this project's profile of NSCC Procedure X).
+    #[tactic(auto, using(crate::proofs::RetransmittalShorts::closings_few))]
     pub fn choose_batches(&self, sheet: &Sheet<A>) -> Result<Vec<Batch<A>, A>, NoMemory>
         requires room { HasRoom self.now }
         requires cut { Shows self.now (λ J. sheet.now ≡ day_sheet self.now.opening J) }

@@ -1,30 +1,18 @@
 use Rattle.cns_book.proofs.Common.{◌∙◌, ◌^◌, ◌≤◌, sym, ap, subst, unsigned_abs, take_all, arith, Holding, IsSmallEntry, holding_at, booked, place_of, All-from_recursion}
-use Rattle.cns_book.proofs.EffectEntries.{books_step, cents_fit, place_there, shares_fit, books_none}
+use Rattle.cns_book.proofs.EffectEntries.{place_there, books_step, cents_fit, shares_fit}
 use Rattle.cns_book.proofs.effect.book.Goals as goal
 
-pub loop-entry-init : goal.loop-entry-init
-loop-entry-init g c = grind (arith, books_none)
-
-pub add-requires-clause-there : goal.add-requires-clause-there
-add-requires-clause-there g c = grind (arith, place_there)
-
-pub add-requires-clause-entry : goal.add-requires-clause-entry
-add-requires-clause-entry g c = subst IsSmallEntry (sym c.entry-item.is) (All-from_recursion IsSmallEntry c.args.entries.now c.requires.small c.loop-entry.entry-index c.entry-item.result c.loop-entry-test.true)
-
-pub add-requires-clause-shares : goal.add-requires-clause-shares
-add-requires-clause-shares g c =
-    let k = place_of c.entry-item.result in
-    subst (λ (h : Holding). unsigned_abs h.now ≤ 2 ^ 62) (sym (c.loop-entry.invariant.booked k)) (shares_fit c.args.entries.now c.loop-entry.entry-index (g.P.Positions.rows c.args.positions.now) k c.requires.small c.requires.few c.requires.rows)
-
-pub add-requires-clause-cents : goal.add-requires-clause-cents
-add-requires-clause-cents g c =
-    let k = place_of c.entry-item.result in
-    subst (λ (h : Holding). unsigned_abs h.contract ≤ 2 ^ 126) (sym (c.loop-entry.invariant.booked k)) (cents_fit c.args.entries.now c.loop-entry.entry-index (g.P.Positions.rows c.args.positions.now) k c.requires.small c.requires.few c.requires.rows)
+pub add-requires : goal.add-requires
+add-requires g c = let k = place_of c.entry-item.result in record {
+  there = grind (arith, place_there);
+  entry = subst IsSmallEntry (sym c.entry-item.is) (All-from_recursion IsSmallEntry c.args.entries.now c.requires.small c.loop-entry.entry-index c.entry-item.result c.loop-entry-test.true);
+  shares = subst (λ (h : Holding). unsigned_abs h.now ≤ 2 ^ 62) (sym (c.loop-entry.invariant.booked k)) (shares_fit c.args.entries.now c.loop-entry.entry-index (g.P.Positions.rows c.args.positions.now) k c.requires.small c.requires.few c.requires.rows);
+  cents = subst (λ (h : Holding). unsigned_abs h.contract ≤ 2 ^ 126) (sym (c.loop-entry.invariant.booked k)) (cents_fit c.args.entries.now c.loop-entry.entry-index (g.P.Positions.rows c.args.positions.now) k c.requires.small c.requires.few c.requires.rows);
+}
 
 pub loop-entry-preserved : goal.loop-entry-preserved
 loop-entry-preserved g c =
-    let e = c.entry-item.result in
-    let inv = c.loop-entry.invariant in
+    let e = c.entry-item.result in let inv = c.loop-entry.invariant in
     record {
       places = λ k. c.add.ensures.places k ∙ inv.places k;
       booked = λ k. c.add.ensures.booked k ∙ ap (booked e k) (inv.booked k) ∙ books_step c.args.entries.now c.loop-entry.entry-index e k (holding_at (g.P.Positions.rows c.args.positions.now) k) c.loop-entry-test.true c.entry-item.is;

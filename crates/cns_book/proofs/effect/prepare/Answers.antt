@@ -1,6 +1,6 @@
 use Rattle.cns_book.proofs.Common.{List, Contains, subst, arith, Key}
 use Rattle.cns_actions.proofs.Making.{others_stay}
-use Rattle.cns_book.proofs.EffectEntries.{both_places, each_there}
+use Rattle.cns_book.proofs.EffectEntries.{both_places}
 use Rattle.cns_book.proofs.effect.prepare.Goals as goal
 
 pub returns-in_err-prepare-clause-others : goal.returns-in_err-prepare-clause-others
@@ -10,6 +10,3 @@ returns-in_err-prepare-clause-others g c k apart =
 
 pub returns-clause-others : goal.returns-clause-others
 returns-clause-others g c k apart = grind (arith, both_places, others_stay)
-
-pub returns-clause-there : goal.returns-clause-there
-returns-clause-there g c = grind (arith, both_places, each_there)

@@ -9,8 +9,7 @@ AreFew rs = AllByRecursion (λ r. unsigned_abs r.closing ≤ corporation_limit) 
 
 pub loop-row-preserved-then-row-ge0 : goal.loop-row-preserved-then-row-ge0
 loop-row-preserved-then-row-ge0 g c =
-    let few = subst AreFew c.in-Some.ensures.steps c.loop-row.invariant.few in
-    let same = read_back c.in-Some.row.closing few.0 in
+    let few = subst AreFew c.in-Some.ensures.steps c.loop-row.invariant.few in let same = read_back c.in-Some.row.closing few.0 in
     record {
       few = few.1;
       left = λ d. row_passed (oldest_at c.args.self.now.rows) d c.in-Some.row _ _ (called_in c.loop-row.calls d) _ c.in-Some.ensures.steps (c.loop-row.invariant.left d) (elim c.then-row-ge0.branch [
@@ -29,6 +28,5 @@ overflow_add-oldest g c = omega (arith, ages_fit c.args.self.now c.requires.room
 
 pub loop-row-preserved : goal.loop-row-preserved
 loop-row-preserved g c =
-    let few = subst AreFew c.in-Some.ensures.steps c.loop-row.invariant.few in
-    let same = read_back c.in-Some.row.closing few.0 in
+    let few = subst AreFew c.in-Some.ensures.steps c.loop-row.invariant.few in let same = read_back c.in-Some.row.closing few.0 in
     record { few = few.1; left = λ d. row_given (oldest_at c.args.self.now.rows) d c.in-Some.row _ _ _ (called_in c.loop-row.calls d) _ _ c.in-Some.ensures.steps (c.loop-row.invariant.left d) (grind (arith, nat_tests)) (grind arith) (grind arith) (c.in_ok-short.ensures.ok d) }

@@ -1,7 +1,7 @@
-use Rattle.cns_book.proofs.Common.{◌∙◌, sym, ap, subst, refl, None, Ok, List, Contains, AreSmallEntries, Entry, Follows, HasRoom, books, first_refusal, is_not_after, pend_of, trade_entries, trade_rules, places_of, booking, is_used, Activity, Command, Reply, refusal, journal, date, has_row, Key, ◌≡◌, true, false}
+use Rattle.cns_book.proofs.Common.{◌∙◌, sym, ap, subst, refl, None, Ok, List, Contains, AreSmallEntries, Entry, Follows, HasRoom, books, first_refusal, is_not_after, pend_of, trade_entries, trade_rules, places_of, booking, is_used, Activity, Command, Reply, refusal, journal, date, has_row, Key, ◌≡◌, true, false, arith}
 use Rattle.cns_book.proofs.PartsStaying.{accepted, refused, stopped}
 use Rattle.cns_book.proofs.TradingSteps.{answer_err, same_rows, trade_later, trade_now, trade_booked, trade_refusal, trade_waits}
-use Rattle.cns_book.proofs.PartsWithin.{rows_within, same_within}
+use Rattle.cns_book.proofs.PartsWithin.{rows_within}
 use Rattle.cns_book.proofs.parts.Parts.book_trade.Given as given
 use Rattle.cns_book.proofs.parts.Parts.book_trade.Goals.{After-prepare, In-Ok-None, In-Ok-Some}
 use Rattle.cns_book.proofs.parts.Parts.book_trade.Goals as goal
@@ -16,8 +16,7 @@ books_now g c L f = trade_now L _ c.args.trade.now c.trade_facts-facts.result c.
 
 pub returns-in-Err-clause-step : goal.returns-in-Err-clause-step
 returns-in-Err-clause-step g c L f =
-    let s = c.args.self.now in
-    let t = c.args.trade.now in
+    let s = c.args.self.now in let t = c.args.trade.now in
     refused {s = s} L (Activity.Trade t) c.in-Err.refusal (trade_refusal L s.opening t c.trade_facts-facts.result (is_used s.trades.references t.reference) s.trades.pending (c.trade_facts-facts.ensures.facts L f) (f.references t.reference) f.pending ∙ answer_err (first_refusal (trade_rules c.trade_facts-facts.result s.trades.pending (is_used s.trades.references t.reference) t)) (booking c.trade_facts-facts.result.today (pend_of t)) c.in-Err.refusal (rw (← c.self.view_is) c.in-Err.ensures.answer)) f
 
 pub returns-in_err-pend-in-Ok-None-clause-step : goal.returns-in_err-pend-in-Ok-None-clause-step
@@ -38,7 +37,7 @@ returns-in_err-note_reference-clause-step g c L f =
     stopped L (Command.Activity (Activity.Trade c.args.trade.now)) c.from_residual-in_err-note_reference.result c.from_residual-in_err-note_reference.ensures.0 (books_now g (goal.at.returns-in_err-note_reference-clause-step g c).In-Ok-Some L f).0 (rw c.in_err-note_reference.ensures.err (same_rows L _ _ (subst (Follows L) (sym c.self.view_is) f) c.in_ok-prepare.ensures.same))
 
 pub book-requires-clause-rows : goal.book-requires-clause-rows
-book-requires-clause-rows g c = same_within _ _ c.in_ok-prepare.ensures.same (rows_within _ (subst HasRoom (sym c.self.view_is) c.requires))
+book-requires-clause-rows g c = grind (arith, rows_within _ (subst HasRoom (sym c.self.view_is) c.requires), c.in_ok-prepare.ensures.same)
 
 pub returns-clause-step : goal.returns-clause-step
 returns-clause-step g c L f =

@@ -28,9 +28,7 @@ returns-clause-pending g c L f =
 
 pub returns-clause-booked : goal.returns-clause-booked
 returns-clause-booked g c =
-    let s = c.args.self.now in
-    let x = c.args.action.now in
-    let R = s.rows in
+    let s = c.args.self.now in let x = c.args.action.now in let R = s.rows in
     IfOk-weaker c.bookings_for.result
     (λ b. (ms : List Member) → AreHolders (positions_in R (issue_of x)) ms → (k : Key) → makes b k (holding_at R k) ≡ with_age (age_brought R x k) (books (entries_of x (positions_in R (issue_of x)) ms) k (holding_at R k)))
     (λ b. (L : List Activity) → Follows L s → (k : Key) → makes b k (holding_at R k) ≡ with_age (age_brought R x k) (books (entries s.opening (journal s.opening L) (activity_of x)) k (holding_at R k)))

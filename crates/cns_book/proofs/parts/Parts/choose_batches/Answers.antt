@@ -1,12 +1,8 @@
 use Rattle.cns_book.proofs.Common.{◌≡◌, ◌∙◌, ap, arith, List, Activity, Cusip, DaySheet, Follows, batches_of, batches_since, called_in, filter_map, journal, oldest_at, option_map, short_in, with_shorts}
 use Rattle.cns_book.proofs.RetransmittalSteps.{can_choose, chosen_same, ok_both}
-use Rattle.cns_book.proofs.RetransmittalShorts.{closings_few}
 use Rattle.cns_book.proofs.parts.Parts.choose_batches.Given as given
-use Rattle.cns_book.proofs.parts.Parts.choose_batches.Goals.{Joined-not-is_empty, then-not-is_empty+in_ok-add_shorts, else-not-is_empty}
+use Rattle.cns_book.proofs.parts.Parts.choose_batches.Goals.{Joined-not-is_empty}
 use Rattle.cns_book.proofs.parts.Parts.choose_batches.Goals as goal
-
-pub add_shorts-requires : goal.add_shorts-requires
-add_shorts-requires g c = grind (arith, closings_few)
 
 -- the shorts on the sheet were given, if anything was called
 added : (g : given.Over) (c : Joined-not-is_empty g) (d : Cusip) → called_in c.if-not-is_empty.calls d ≡ option_map (with_shorts (filter_map (short_in (oldest_at c.args.self.now.rows) d) c.args.sheet.now.rows)) (called_in c.in_ok-calls.calls d)

@@ -26,8 +26,7 @@ choose_batches-requires-clause-cut g c L f =
 
 pub returns-in_err-enter-clause-step : goal.returns-in_err-enter-clause-step
 returns-in_err-enter-clause-step g c L f =
-    let f' = subst (Follows L) (sym c.self.view_is) f in
-    let same = same_rows L _ _ f' c.enter.ensures.same in
+    let f' = subst (Follows L) (sym c.self.view_is) f in let same = same_rows L _ _ f' c.enter.ensures.same in
     grind (arith, not_late, stopped)
 
 pub open-requires-clause-within : goal.open-requires-clause-within
@@ -38,23 +37,19 @@ count_liable-requires g c = grind (arith, nat_tests, ints, liable_few, liable_co
 
 pub returns-in_err-keep-clause-step : goal.returns-in_err-keep-clause-step
 returns-in_err-keep-clause-step g c L f =
-    let f' = subst (Follows L) (sym c.self.view_is) f in
-    let same = same_rows L _ _ f' c.enter.ensures.same in
+    let f' = subst (Follows L) (sym c.self.view_is) f in let same = same_rows L _ _ f' c.enter.ensures.same in
     grind (arith, not_late, stopped)
 
 pub returns-in-Err-clause-step : goal.returns-in-Err-clause-step
 returns-in-Err-clause-step g c L f =
-    let f' = subst (Follows L) (sym c.self.view_is) f in
-    let same = same_rows L _ _ f' c.enter.ensures.same in
+    let f' = subst (Follows L) (sym c.self.view_is) f in let same = same_rows L _ _ f' c.enter.ensures.same in
     let last = c.forget_last.ensures.last c.self.inside.batches c.in_ok-batches.batches.items c.in_ok-keep.ensures.ok in
     grind (arith, not_late)
 
 pub returns-clause-step : goal.returns-clause-step
 returns-clause-step g c L f =
-    let f' = subst (Follows L) (sym c.self.view_is) f in
-    let room = subst HasRoom (sym c.self.view_is) c.requires in
-    let o = c.self.inside.opening in
-    let J = journal o L in
+    let f' = subst (Follows L) (sym c.self.view_is) f in let room = subst HasRoom (sym c.self.view_is) c.requires in
+    let o = c.self.inside.opening in let J = journal o L in
     let none = not_late L _ c.args.next f' (sym c.le.ensures ∙ c.if-le.false) in
     let same : c.due-due.result ≡ filter (is_due (last_dated c.self.inside.closed) c.self.inside.today) c.self.inside.dividends = c.due-due.ensures.due ∙ ap (λ o. filter (is_due o c.self.inside.today) c.self.inside.dividends) c.last_date.ensures in
     let cut = subst (λ (ds : List Declared). IsCut (prices_of (slice_get c.self.inside.closed 0)) c.self.inside.prices (g.P.Positions.rows c.self.inside.positions) (payments_by c.self.inside.closed ds) c.in_ok-sheet.sheet.rows) same c.in_ok-sheet.ensures.cut in

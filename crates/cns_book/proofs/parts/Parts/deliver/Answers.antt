@@ -1,7 +1,7 @@
 use Rattle.cns_book.proofs.Common.{◌∙◌, sym, subst, refl, [], ◌∷◌, arith, Follows, HasRoom, books, corporation, delivery_rules, first_refusal, moved_in, moved_out, Activity, Reply}
 use Rattle.cns_book.proofs.PartsStaying.{accepted, refused, stopped}
 use Rattle.cns_book.proofs.TradingSteps.{delivery_refusal, answer_err, answer_ok, booked_by, notices_kept, same_rows}
-use Rattle.cns_book.proofs.PartsWithin.{rows_within, same_within}
+use Rattle.cns_book.proofs.PartsWithin.{rows_within}
 use Rattle.cns_book.proofs.parts.Parts.deliver.Goals as goal
 
 pub returns-in-Err-clause-step : goal.returns-in-Err-clause-step
@@ -14,12 +14,11 @@ pub returns-in_err-prepare-clause-step : goal.returns-in_err-prepare-clause-step
 returns-in_err-prepare-clause-step g c L f = grind (arith, same_rows, delivery_refusal, answer_ok, stopped, c.move_facts-facts.ensures.facts L f)
 
 pub book-requires-clause-rows : goal.book-requires-clause-rows
-book-requires-clause-rows g c = same_within _ _ c.in_ok-prepare.ensures.same (rows_within _ (subst HasRoom (sym c.self.view_is) c.requires))
+book-requires-clause-rows g c = grind (arith, rows_within _ (subst HasRoom (sym c.self.view_is) c.requires), c.in_ok-prepare.ensures.same)
 
 pub returns-clause-step : goal.returns-clause-step
 returns-clause-step g c L f =
-    let f' = subst (Follows L) (sym c.self.view_is) f in
-    let m = c.args.movement.now in
+    let f' = subst (Follows L) (sym c.self.view_is) f in let m = c.args.movement.now in
     let done = answer_ok (first_refusal (delivery_rules c.move_facts-facts.result m)) (moved_in m.member m ∷ moved_out corporation m ∷ []) c.in-Ok.entries c.in-Ok.ensures.answer in
     let none = delivery_refusal L c.self.inside.opening m c.move_facts-facts.result (rw (← c.self.view_is) at (c.move_facts-facts.ensures.facts L f)) ∙ done.0 in
     accepted L (Activity.Deliver m) Reply.Accepted none refl

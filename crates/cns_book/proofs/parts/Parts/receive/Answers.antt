@@ -1,7 +1,7 @@
 use Rattle.cns_book.proofs.Common.{◌∙◌, ap, sym, subst, refl, [], ◌∷◌, arith, Follows, HasRoom, books, corporation, first_refusal, holding_at, moved_in, moved_out, receipt_rules, Activity, Reply}
 use Rattle.cns_book.proofs.PartsStaying.{accepted, refused}
 use Rattle.cns_book.proofs.TradingSteps.{receipt_there, answer_err, answer_ok, booked_by, receipt_refusal}
-use Rattle.cns_book.proofs.PartsWithin.{receipts_fit, rows_within}
+use Rattle.cns_book.proofs.PartsWithin.{counts_fit, rows_within}
 use Rattle.cns_book.proofs.NoticeSteps.{receipt_counted}
 use Rattle.cns_book.proofs.parts.Parts.receive.Goals as goal
 
@@ -19,8 +19,7 @@ book-requires-clause-rows g c = rows_within _ (subst HasRoom (sym c.self.view_is
 
 pub returns-clause-step : goal.returns-clause-step
 returns-clause-step g c L f =
-    let f' = subst (Follows L) (sym c.self.view_is) f in
-    let m = c.args.movement.now in
+    let f' = subst (Follows L) (sym c.self.view_is) f in let m = c.args.movement.now in
     let done = answer_ok (first_refusal (receipt_rules c.move_facts-facts.result m)) (moved_out m.member m ∷ moved_in corporation m ∷ []) c.in-Ok.entries c.in-Ok.ensures.answer in
     let none = receipt_refusal L c.self.inside.opening m c.move_facts-facts.result (rw (← c.self.view_is) at (c.move_facts-facts.ensures.facts L f)) ∙ done.0 in
     accepted L (Activity.Receive m) Reply.Accepted none refl
@@ -28,4 +27,4 @@ returns-clause-step g c L f =
     (λ k. c.book.ensures.booked k ∙ ap (λ es. books es k (holding_at (g.P.Positions.rows c.self.inside.positions) k)) done.1))
 
 pub received-requires : goal.received-requires
-received-requires g c = record { fits = λ k is. receipts_fit _ (subst HasRoom (sym c.self.view_is) c.requires) c.args.movement.now.shares c.value.ensures.range.1 k }
+received-requires g c = record { fits = λ k is x at. (counts_fit _ (subst HasRoom (sym c.self.view_is) c.requires) c.args.movement.now.shares c.value.ensures.range.1 k x at).0 }
