@@ -11,7 +11,7 @@ use Rattle.cns_actions.proofs.BookingSums.{entries_alike, entries_by, new_leg, o
 -- tests that agree
 any_legs : (t : Entry → Bool) (L : Holder → Entry) (u : Holder → Bool) (hs : List Holder) → AllByRecursion (λ h. t (L h) ≡ u h) hs → list_any t (map L hs) ≡ list_any u hs
 any_legs t L u [] h = refl
-any_legs t L u (k ∷ hs) h = λ i. h.0 i || any_legs t L u hs h.1 i
+any_legs t L u (k ∷ hs) h = grind (arith, any_legs t L u hs h.1)
 
 -- nothing is booked for a member with the corporation
 corporation_apart : (a : ℕ) (k : Bool) (x r : ℤ) → 1 ≤ a → cond ((corporation == a) && k) x (pos 0) +ℤ r ≡ r
@@ -47,9 +47,7 @@ module _ (R : Rows) (order : is_sorted key_cmp R ≡ true) (ps : List Pend) wher
 
   large_by : AreFewShares ps → (x : Action) → IsForAnother x → are_too_large (position_at R) ps (entries_by x (holders_of x R)) ≡ list_any (takes_beyond R ps x) (holders_of x R)
   large_by few (Action.Split s) another =
-      any_shown s.issue (is_too_large_at (position_at R) ps (entries_by (Action.Split s) (shown R s.issue))) (split_leg s) (takes_beyond R ps (Action.Split s)) (λ a le held.
-      let q = position_at R a s.issue in
-      at_place a s.issue _ _ le (ap (λ z. z +ℤ q) (leg_shares s.issue s.issue s.issue (λ n. converted s.ratio n -ℤ n) (in_lieu s.ratio s.lieu) a le held ∙ ap (λ b. cond b (converted s.ratio q -ℤ q) (pos 0)) (bytes_refl s.issue)) ∙ (let back : (converted s.ratio q -ℤ q) +ℤ q ≡ converted s.ratio q = omega (arith, ints) in back)))
+      any_shown s.issue (is_too_large_at (position_at R) ps (entries_by (Action.Split s) (shown R s.issue))) (split_leg s) (takes_beyond R ps (Action.Split s)) (λ a le held. grind (arith, ints, lt-ltb corporation a le, bytes_refl, leg_shares s.issue s.issue s.issue (λ n. converted s.ratio n -ℤ n) (in_lieu s.ratio s.lieu) a le held))
   large_by few (Action.Exchange x) another =
       let hs = shown R x.old in
       let olds = against_corporation x.old (map (λ h. old_leg x h.account h.shares) hs) in

@@ -1,19 +1,15 @@
 -- What is booked for a split or an exchange: that its numbers are small, its order and its issues.
 -- For `all_bookings` and `bookings_for` of acting.rt, `book` of bookings.rt.
-use Rattle.cns_actions.proofs.Common.{◌≡◌, sym, subst, refl, ℕ, ◌^◌, ◌≤◌, ◌<◌, ℤ, true, false, unsigned_abs, List, [], ◌∷◌, ◌++◌, arith, is_lt, nat_cmp, flat_map, append_assoc, Account, Action, AllByRecursion, AreInIssues, AreSmall, Booking, CanBeBooked, Change, Cusip, HasSpace, Holder, IsFew, IsForAnother, Key, Rows, age_for, all_bookings, all_holders_of, below_all, bookings_for, both_true, by_key, change_of, corporation, corporation_limit, each_append, has_position_or_age, holding_at, ints, is_eq-slice_cmp, is_sorted, issue_of, key_cmp, member_bookings, member_limit, nat_list_cmp_total, nat_tests, opposite, position_at, position_limit, same_issue, slice_cmp}
+use Rattle.cns_actions.proofs.Common.{◌≡◌, sym, refl, ℕ, ◌≤◌, ◌<◌, true, false, List, [], ◌∷◌, ◌++◌, arith, is_lt, nat_cmp, flat_map, append_assoc, Account, Action, AllByRecursion, AreInIssues, AreSmall, Booking, CanBeBooked, Change, Cusip, HasSpace, Holder, IsFew, IsForAnother, Key, Rows, age_for, all_bookings, all_holders_of, below_all, bookings_for, both_true, by_key, change_of, corporation, each_append, has_position_or_age, holding_at, ints, is_eq-slice_cmp, is_sorted, issue_of, key_cmp, member_bookings, member_limit, nat_list_cmp_total, nat_tests, opposite, same_issue, slice_cmp}
 use Rattle.cns_actions.proofs.ByAccount.{above_zero, are_above, are_rising, each_listed, listed_rising, place}
 
 -- few members' changes make small entries
 pub small_bookings : (x : Action) (a : Account) (c : Change) (n : ℕ) → IsFew member_limit c → AreSmall (bookings_for x a c n)
 small_bookings x a c n few = grind (arith, ints)
 
--- a position within the limit of its account leaves room for more
-near : (a : ℕ) (z : ℤ) → (1 ≤ a → unsigned_abs z ≤ position_limit) → (a ≡ 0 → unsigned_abs z ≤ corporation_limit) → unsigned_abs z < 2 ^ 62
-near a z p q = grind arith
-
--- so do all positions that can be booked
+-- positions that can be booked leave room for more
 pub has_space : (R : Rows) → CanBeBooked R → (k : Key) → HasSpace (holding_at R k)
-has_space R can k = record { shares = near k.account (holding_at R k).now (can.members k.account k.issue) (λ e. subst (λ b. unsigned_abs (position_at R b k.issue) ≤ corporation_limit) (sym e) (can.corporation k.issue)); cents = omega (arith, can.cents k) }
+has_space R can k = grind (arith, can.members k.account k.issue, can.corporation k.issue, can.cents k)
 
 -- a key is below those of higher accounts
 below_accounts : (k : Key) (bs : List Booking) → AllByRecursion (λ b. k.account < b.entry.account) bs → below_all key_cmp k (by_key bs) ≡ true

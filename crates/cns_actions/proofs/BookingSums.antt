@@ -1,6 +1,6 @@
 -- What is booked for a split or an exchange: that it makes of every holding what the definitions do.
 -- For `bookings_for` of acting.rt.
-use Rattle.cns_actions.proofs.Common.{◌≡◌, ◌∙◌, sym, ap, refl, ℕ, ℤ, pos, ◌+ℤ◌, ◌-ℤ◌, neg_ℤ, Bool, true, false, cond, ◌&&◌, ◌==◌, List, [], ◌∷◌, ◌++◌, map, None, arith, int_eq, flat_map, Account, Action, AreHolders, Booking, Change, Cusip, Entry, Exchange, Holder, Holding, Key, Member, Rows, Split, against_corporation, age_brought, all_bookings, all_holders_of, bookings_for, books, carried_to, cents_for, converted, corporation, entries_in, entries_of, entry, greatest, has_position, has_position_or_age, held_above, holders, holders_in, holders_of, holding_at, ints, is_sorted, issue_of, key_cmp, makes, map-append, member_bookings, nat_tests, new_entry, old_entry, oldest_of, opposite, positions_in, same_issue, shares_for, sum_of, total, total-add, total-append, total-map, total-zero, with_age, with_position}
+use Rattle.cns_actions.proofs.Common.{◌≡◌, ◌∙◌, sym, refl, ℕ, ℤ, pos, ◌+ℤ◌, ◌-ℤ◌, neg_ℤ, Bool, true, false, cond, ◌&&◌, ◌==◌, List, [], ◌∷◌, ◌++◌, map, None, arith, int_eq, flat_map, Account, Action, AreHolders, Booking, Change, Cusip, Entry, Exchange, Holder, Holding, Key, Member, Rows, Split, against_corporation, age_brought, all_bookings, all_holders_of, bookings_for, books, carried_to, cents_for, converted, corporation, entries_in, entries_of, entry, greatest, has_position, has_position_or_age, held_above, holders, holders_in, holders_of, holding_at, ints, is_sorted, issue_of, key_cmp, makes, map-append, member_bookings, nat_tests, new_entry, old_entry, oldest_of, opposite, positions_in, same_issue, shares_for, sum_of, total, total-add, total-append, total-map, total-zero, with_age, with_position}
 use Rattle.cns_terms.specs.Entries.{split_entry}
 use Rattle.cns_terms.proofs.CarriedAges.{greatest-append}
 use Rattle.cns_actions.proofs.ByAccount.{listed_at, listed_rising, place, greatest_at}
@@ -90,10 +90,6 @@ bookings_alike f sum (Action.Exchange x) n hs =
       total-zero ks,
     ) (omega (arith, ints))
 
--- entries with the same sums make the same of a holding
-same_sums : (es fs : List Entry) (k : Key) (h : Holding) → ((f : Entry → ℤ) → IsSum f → total f es ≡ total f fs) → books es k h ≡ books fs k h
-same_sums es fs k h same = rw (same (shares_for k.account k.issue) (λ a c. grind arith), same (cents_for k.account k.issue) (λ a c. grind arith)) refl
-
 -- those with a position are the holders of one
 pub positions_kept : (c : Cusip) (rows : Rows) → with_position (holders_in has_position_or_age c rows) ≡ holders_in has_position c rows
 positions_kept c [] = refl
@@ -110,32 +106,23 @@ brings (Action.Exchange x) k = same_issue x.successor k.issue
 own_age : (x : Action) (k : Key) (c : Change) (a : Account) (n : ℕ) → greatest (carried_to k) (bookings_for x a c n) ≡ cond ((a == k.account) && brings x k) n 0
 own_age x k c a n = grind arith
 
-member_age : (x : Action) (k : Key) (h : Holder) → greatest (carried_to k) (member_bookings x h) ≡ cond ((h.account == k.account) && brings x k) h.oldest 0
-member_age x k h = grind (arith, nat_tests)
-
 members_age : (x : Action) (k : Key) (hs : List Holder) → greatest (carried_to k) (flat_map (member_bookings x) hs) ≡ greatest (λ h. cond ((h.account == k.account) && brings x k) h.oldest 0) hs
 members_age x k [] = refl
-members_age x k (h ∷ hs) = grind (arith, greatest-append (carried_to k) (member_bookings x h) (flat_map (member_bookings x) hs), member_age x k h, members_age x k hs)
+members_age x k (h ∷ hs) = grind (arith, nat_tests, greatest-append (carried_to k) (member_bookings x h) (flat_map (member_bookings x) hs), members_age x k hs)
 
 -- the age of an account's short in an issue
 abbrev oldest_in : Rows → Cusip → Account → ℕ
 oldest_in R c a = oldest_of (holding_at R (place c a))
 
--- what they bring is what the definitions do
-brought_is : (R : Rows) (x : Action) (k : Key) → cond (brings x k) (oldest_in R (issue_of x) k.account) 0 ≡ age_brought R x k
-brought_is R x k = grind arith
-
 same_ages : (R : Rows) → is_sorted key_cmp R ≡ true → (k : Key) (x : Action) (sum : Change) → greatest (carried_to k) (all_bookings x sum (oldest_in R (issue_of x) corporation) (all_holders_of x R)) ≡ age_brought R x k
 same_ages R order k x sum =
     let hs = all_holders_of x R in
     let rising = listed_rising has_position_or_age refl (issue_of x) R order in
-    grind (arith, nat_tests, members_age x k hs, greatest_at k.account (brings x k) hs rising, listed_at has_position_or_age refl (issue_of x) R order k.account, greatest-append (carried_to k) (bookings_for x corporation (opposite sum) (oldest_in R (issue_of x) corporation)) (flat_map (member_bookings x) hs), own_age x k (opposite sum) corporation (oldest_in R (issue_of x) corporation), brought_is R x k)
+    grind (arith, nat_tests, members_age x k hs, greatest_at k.account (brings x k) hs rising, listed_at has_position_or_age refl (issue_of x) R order k.account, greatest-append (carried_to k) (bookings_for x corporation (opposite sum) (oldest_in R (issue_of x) corporation)) (flat_map (member_bookings x) hs), own_age x k (opposite sum) corporation (oldest_in R (issue_of x) corporation))
 
 -- what is booked makes of a holding what the definitions do
 pub same_makes : (R : Rows) → is_sorted key_cmp R ≡ true → (x : Action) (ms : List Member) → AreHolders (positions_in R (issue_of x)) ms → (k : Key) (h : Holding)
     → makes (all_bookings x (sum_of x (holders_of x R)) (oldest_in R (issue_of x) corporation) (all_holders_of x R)) k h ≡ with_age (age_brought R x k) (books (entries_of x (positions_in R (issue_of x)) ms) k h)
-same_makes R order x ms are k h i =
-    with_age (same_ages R order k x (sum_of x (holders_of x R)) i)
-    (same_sums (entries_in (all_bookings x (sum_of x (holders_of x R)) (oldest_in R (issue_of x) corporation) (all_holders_of x R))) (entries_of x (positions_in R (issue_of x)) ms) k h (λ f sum.
-    ap (λ hs. total f (entries_in (all_bookings x (sum_of x hs) (oldest_in R (issue_of x) corporation) (all_holders_of x R)))) (sym (positions_kept (issue_of x) (held_above R None)))
-    ∙ bookings_alike f sum x (oldest_in R (issue_of x) corporation) (all_holders_of x R) ∙ ap (λ hs. total f (entries_by x hs)) (positions_kept (issue_of x) (held_above R None)) ∙ sym (entries_alike R order x ms are f)) i)
+same_makes R order x ms are k h =
+    let same = λ (f : Entry → ℤ) (sum : IsSum f). (rw (positions_kept (issue_of x) (held_above R None)) at (bookings_alike f sum x (oldest_in R (issue_of x) corporation) (all_holders_of x R))) ∙ sym (entries_alike R order x ms are f) in
+    rw (same_ages R order k x (sum_of x (holders_of x R)), same (shares_for k.account k.issue) (λ a c. grind arith), same (cents_for k.account k.issue) (λ a c. grind arith)) refl

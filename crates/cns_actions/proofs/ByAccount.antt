@@ -1,6 +1,6 @@
 -- Members of an issue in the order of their accounts: searches among them, and sums over them.
 -- For `next_holder` of holder.rt, `sum_of`, `all_bookings` and `bookings_for` of acting.rt.
-use Rattle.cns_actions.proofs.Common.{◌≡◌, ◌∙◌, sym, ap, subst, refl, ℕ, ◌≤◌, ℤ, pos, ◌+ℤ◌, Bool, true, false, cond, ◌&&◌, ◌==◌, nat_lt, List, [], ◌∷◌, map, Option, Some, None, arith, is_lt, nat_cmp, Account, AllByRecursion, Cusip, Holder, Holding, Key, Rows, and_right, below_all, bytes_eq-Decides, corporation, equal, find_below, held_above, held_same, held_sorted, holder_of, holders_in, holding_at, ints, is_sorted, key_cmp, keys_total, nat_cmp_total, nat_list_cmp_total, nat_tests, occurs, option_map_or, same_issue, same_key, same_lists, tied_itself, total, total-add, total-zero, total-same, zeros, find, greatest, tied_below}
+use Rattle.cns_actions.proofs.Common.{◌≡◌, ◌∙◌, sym, ap, subst, refl, ℕ, ◌≤◌, ℤ, pos, ◌+ℤ◌, Bool, true, false, cond, ◌&&◌, ◌==◌, nat_lt, List, [], ◌∷◌, map, Option, Some, None, arith, nat_cmp, Account, AllByRecursion, Cusip, Holder, Holding, Key, Rows, and_right, below_all, bytes_eq-Decides, corporation, equal, find_below, held_above, held_same, held_sorted, holder_of, holders_in, holding_at, ints, is_sorted, key_cmp, keys_total, nat_cmp_total, nat_list_cmp_total, nat_tests, occurs, option_map_or, same_key, same_lists, tied_itself, total, total-add, total-zero, total-same, zeros, find, greatest, tied_below}
 use Rattle.std.proofs.lemmas.Map.Lookups.{exact_unsigned}
 use Rattle.cns_terms.proofs.Accounts.{given_once}
 use Rattle.std.proofs.lemmas.Option.{cond_some}
@@ -66,10 +66,6 @@ total_over f (h ∷ hs) ns s once =
 abbrev pub place : Cusip → Account → Key
 place c a = record { account = a; issue = c }
 
--- keys in one issue are in the order of accounts
-accounts_less : (k q : Key) → same_issue k.issue q.issue ≡ true → is_lt (key_cmp k q) ≡ true → is_lt (nat_cmp k.account q.account) ≡ true
-accounts_less k q same l = grind (arith, bytes_eq-Decides, tied_itself nat_list_cmp_total k.issue)
-
 module _ (kind : Holding → Bool) (idle : kind zeros ≡ false) (c : Cusip) where
   -- an account as a holder, by what stands at its place
   abbrev pub one : Account → Holding → Option Holder
@@ -83,7 +79,7 @@ module _ (kind : Holding → Bool) (idle : kind zeros ≡ false) (c : Cusip) whe
   -- holders of rows in order are in order
   pub above_holders : (k : Key) (rows : Rows) → k.issue ≡ c → below_all key_cmp k rows ≡ true → are_above k.account (holders_in kind c rows) ≡ true
   above_holders k [] same b = refl
-  above_holders k (r ∷ rows) same b = grind (arith, accounts_less, bytes_eq-Decides, above_holders k rows same)
+  above_holders k (r ∷ rows) same b = grind (arith, bytes_eq-Decides, tied_itself nat_list_cmp_total c, above_holders k rows same)
 
   pub rising_holders : (rows : Rows) → is_sorted key_cmp rows ≡ true → are_rising (holders_in kind c rows) ≡ true
   rising_holders [] s = refl

@@ -89,9 +89,6 @@ trade_passed all next n now p rest due b = grind (arith, b)
 together : (a b s r : Amount) → with_amount a (record { shares = b.shares +ℤ (s.shares +ℤ r.shares); cents = b.cents +ℤ (s.cents +ℤ r.cents) }) ≡ with_amount (with_amount (with_amount a b) s) r
 together a b s r = simp +ℤ_assoc
 
-none_more : (a : Amount) → with_amount a no_amount ≡ a
-none_more a = grind (arith, ints)
-
 -- what a trade books at a key, one entry after the other
 abbrev pub after_trade : Pend → Key → Amount → Amount
 after_trade p k a = with_amount (with_amount a (amount_for (buyer_entry p) k)) (amount_for (seller_entry p) k)
@@ -116,7 +113,7 @@ room_left i n a lt le few = record { shares = omega (arith, lt, le, few.shares);
 
 -- at the end nothing is left
 pub all_booked : (all : List Entry) (n : ℕ) (now : AmountsByKey) (k : Key) → IsBooked all n now [] → amount_at now k ≡ amount_of all k
-all_booked all n now k b = sym (b.sums k ∙ none_more (amount_at now k))
+all_booked all n now k b = grind (arith, ints, b.sums k)
 
 -- which is no more than the trade at any key
 pub trade_bound : (p : Pend) (k : Key) (a : Amount) → unsigned_abs (buyer_entry p).shares ≤ shares_limit → unsigned_abs (buyer_entry p).cents ≤ money_limit → IsOneTradeMore a (after_trade p k a)

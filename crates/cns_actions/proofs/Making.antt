@@ -1,6 +1,6 @@
 -- Bookings that are made one after another: what stands at each key.
 -- For `enter_all`, `book_one` and `book_all` of bookings.rt, `listed` of due_bookings.rt, and `prepare` of effect.rt in cns_book.
-use Rattle.cns_actions.proofs.Common.{◌≡◌, ◌≢◌, ◌∙◌, sym, ap, refl, ℕ, ◌+◌, ◌<◌, max, ℤ, pos, ◌+ℤ◌, Bool, true, false, cond, ◌&&◌, ◌==◌, is_some, List, [], ◌∷◌, length, get_or, drop, arith, is_lt, AreElsewhere, AreEntered, AreSmall, Booking, HaveSpace, Holding, Key, Rows, aged, below_all, booked, by_key, carried_to, cents_for, entered, entries_in, entry_of, greatest, has_row, holding_at, ints, is_sorted, key_cmp, key_of, made, makes, same_issue, same_key, shares_for, total, with_age, All-from_recursion, All-get_or, +ℤ_idr, max-zero}
+use Rattle.cns_actions.proofs.Common.{◌≡◌, ◌≢◌, ap, refl, ℕ, ◌+◌, ◌<◌, max, ℤ, pos, ◌+ℤ◌, Bool, true, false, cond, ◌&&◌, ◌==◌, is_some, List, [], ◌∷◌, length, get_or, drop, arith, is_lt, AreElsewhere, AreEntered, AreSmall, Booking, HaveSpace, Holding, Key, Rows, aged, below_all, booked, by_key, carried_to, cents_for, entered, entries_in, entry_of, greatest, has_row, holding_at, ints, is_sorted, key_cmp, key_of, made, makes, same_issue, same_key, shares_for, total, with_age, All-from_recursion, All-get_or, +ℤ_idr, max-zero}
 use Rattle.std.proofs.lemmas.List.{drop_more}
 use Rattle.cns_positions.specs.Rows.{row_at}
 
@@ -42,7 +42,7 @@ pub record AreReady (rows : Rows) (bs : List Booking) : Type 0 where
 
 -- what is left from a place on begins with what stands there
 pub left_first : {X : Type 0} (xs : List X) (i : ℕ) (x : X) → i < length xs → x ≡ get_or xs i x → drop i xs ≡ x ∷ drop (i + 1) xs
-left_first xs i x lt is = drop_more xs i x lt ∙ ap (λ y. y ∷ drop (i + 1) xs) (sym is)
+left_first xs i x lt is = grind (arith, drop_more)
 
 -- where the first of them is made, the others can be made still
 module _ (b : Booking) (old new : Rows) (one : (k : Key) → holding_at new k ≡ made b k (holding_at old k)) (places : (k : Key) → has_row new k ≡ has_row old k) where

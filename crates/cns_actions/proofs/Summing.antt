@@ -44,7 +44,7 @@ module _ {x : Action} {t : Holder → Bool} {all : List Holder} {sum : Change} {
 
   -- where it passes the test, one of all does
   pub next_passes : t h ≡ true → list_any t all ≡ true
-  next_passes e = now.fits ∙ ap (λ b. b || list_any t (with_position rest)) e
+  next_passes e = grind (arith, now.fits)
 
   -- else it is added
   pub next_adds : (new d : Change) → h.account ≤ member_limit → d ≡ change_of x h.shares → IsFew 1 d → new ≡ plus sum d → t h ≡ false → AddsUp x t all new (with_position rest)
