@@ -1,6 +1,6 @@
 -- What is booked for a split or an exchange: that it makes of every holding what the definitions do.
 -- For `bookings_for` of acting.rt.
-use Rattle.cns_actions.proofs.Common.{◌≡◌, ◌∙◌, sym, refl, ℕ, ℤ, pos, ◌+ℤ◌, ◌-ℤ◌, neg_ℤ, Bool, true, false, cond, ◌&&◌, ◌==◌, List, [], ◌∷◌, ◌++◌, map, None, arith, int_eq, flat_map, Account, Action, AreHolders, Booking, Change, Cusip, Entry, Exchange, Holder, Holding, Key, Member, Rows, Split, against_corporation, age_brought, all_bookings, all_holders_of, bookings_for, books, carried_to, cents_for, converted, corporation, entries_in, entries_of, entry, greatest, has_position, has_position_or_age, held_above, holders, holders_in, holders_of, holding_at, ints, is_sorted, issue_of, key_cmp, makes, map-append, member_bookings, nat_tests, new_entry, old_entry, oldest_of, opposite, positions_in, same_issue, shares_for, sum_of, total, total-add, total-append, total-map, total-zero, with_age, with_position}
+use Rattle.cns_actions.proofs.Common.{◌≡◌, ◌∙◌, sym, refl, ℕ, ℤ, pos, ◌+ℤ◌, ◌-ℤ◌, neg_ℤ, Bool, true, false, cond, ◌&&◌, ◌==◌, List, [], ◌∷◌, ◌++◌, map, None, arith, int_eq, flat_map, Account, Action, AreHolders, Booking, Change, Cusip, Entry, Exchange, Holder, Holding, Key, Member, Rows, Split, against_corporation, age_brought, all_bookings, all_holders_of, bookings_for, books, carried_to, cents_for, converted, corporation, entries_in, entries_of, entry, greatest, has_position, has_position_or_age, held_above, holders, holders_in, holders_of, holding_at, ints, is_sorted, issue_of, key_cmp, makes, map-append, member_bookings, nat_tests, new_entry, old_entry, oldest_of, opposite, positions_in, same_issue, shares_for, sum_of, total, total-add, total-append, total-map, total-zero, with_age, with_position, total-neg}
 use Rattle.cns_terms.specs.Entries.{split_entry}
 use Rattle.cns_terms.proofs.CarriedAges.{greatest-append}
 use Rattle.cns_actions.proofs.ByAccount.{listed_at, listed_rising, place, greatest_at}
@@ -53,13 +53,11 @@ members_total f sum x (h ∷ hs) = grind (arith, ints, map-append, total-append,
 
 -- a sum of differences
 differences : (f g : Holder → ℤ) (hs : List Holder) → neg_ℤ (total f hs) -ℤ neg_ℤ (total g hs) ≡ neg_ℤ (total (λ h. f h -ℤ g h) hs)
-differences f g [] = refl
-differences f g (h ∷ hs) = omega (arith, ints, differences f g hs)
+differences f g hs = omega (arith, ints, total-add f (λ h. neg_ℤ (g h)) hs, total-neg g hs)
 
--- and of opposites
-neg_total : (f : Holder → ℤ) (hs : List Holder) → neg_ℤ (neg_ℤ (total f hs)) ≡ neg_ℤ (total (λ h. neg_ℤ (f h)) hs)
-neg_total f [] = refl
-neg_total f (h ∷ hs) = omega (arith, ints, neg_total f hs)
+-- a sum over the entries for members, and the corporation's against them
+against : (f : Entry → ℤ) (c : Cusip) (L : Holder → Entry) (hs : List Holder) → total f (against_corporation c (map L hs)) ≡ f (entry corporation c (neg_ℤ (total (λ h. (L h).shares) hs)) (neg_ℤ (total (λ h. (L h).cents) hs))) +ℤ total (λ h. f (L h)) hs
+against f c L hs = rw (total-map f L hs, total-map (λ e. e.shares) L hs, total-map (λ e. e.cents) L hs) refl
 
 -- a sum over two bookings in either order
 pair_total : (f : Entry → ℤ) (t : Bool) (b d : Booking) (bs : List Booking) → total f (entries_in (cond t (b ∷ d ∷ []) (d ∷ b ∷ []) ++ bs)) ≡ f b.entry +ℤ (f d.entry +ℤ total f (entries_in bs))
@@ -69,26 +67,14 @@ pair_total f t b d bs = grind (arith, ints)
 bookings_alike : (f : Entry → ℤ) → IsSum f → (x : Action) (n : ℕ) (hs : List Holder) → total f (entries_in (all_bookings x (sum_of x (with_position hs)) n hs)) ≡ total f (entries_by x (with_position hs))
 bookings_alike f sum (Action.Split s) n hs =
     let ks = with_position hs in
-    let L = λ (h : Holder). split_leg s h.account h.shares in
-    rw (members_total f sum (Action.Split s) hs, total-map f L ks, total-map (λ e. e.shares) L ks, total-map (λ e. e.cents) L ks, differences (λ h. converted s.ratio h.shares) (λ h. h.shares) ks) refl
+    rw (members_total f sum (Action.Split s) hs, against f s.issue (λ h. split_leg s h.account h.shares) ks, differences (λ h. converted s.ratio h.shares) (λ h. h.shares) ks) refl
 bookings_alike f sum (Action.Exchange x) n hs =
     let ks = with_position hs in
     let O = λ (h : Holder). old_leg x h.account h.shares in
     let N = λ (h : Holder). new_leg x h.account h.shares in
     pair_total f _ _ _ (flat_map (member_bookings (Action.Exchange x)) hs)
-    ∙ rw (
-      members_total f sum (Action.Exchange x) hs,
-      total-add (λ h. f (O h)) (λ h. f (N h)) ks,
-      neg_total (λ h. h.shares) ks,
-      total-append f (against_corporation x.old (map O ks)) (against_corporation x.successor (map N ks)),
-      total-map f O ks,
-      total-map f N ks,
-      total-map (λ e. e.shares) O ks,
-      total-map (λ e. e.cents) O ks,
-      total-map (λ e. e.shares) N ks,
-      total-map (λ e. e.cents) N ks,
-      total-zero ks,
-    ) (omega (arith, ints))
+    ∙ rw (members_total f sum (Action.Exchange x) hs, total-add (λ h. f (O h)) (λ h. f (N h)) ks, total-append f (against_corporation x.old (map O ks)) (against_corporation x.successor (map N ks)), against f x.old O ks, against f x.successor N ks, total-neg (λ h. h.shares) ks, total-zero ks)
+    (omega (arith, ints))
 
 -- those with a position are the holders of one
 pub positions_kept : (c : Cusip) (rows : Rows) → with_position (holders_in has_position_or_age c rows) ≡ holders_in has_position c rows

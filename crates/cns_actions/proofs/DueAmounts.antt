@@ -1,6 +1,6 @@
 -- What trades book, added up by key.
 -- For `listed` of due_bookings.rt, `add`, `add_trade` and `of` of due_amounts.rt.
-use Rattle.cns_actions.proofs.Common.{◌≡◌, ◌≢◌, ◌∙◌, sym, ap, refl, ℕ, ◌+◌, ◌*◌, ◌^◌, ◌≤◌, ◌<◌, ◌+ℤ◌, Bool, true, false, cond, ◌&&◌, unsigned_abs, List, [], ◌∷◌, map, Option, Some, None, unwrap_or, arith, is_eq, is_lt, AllByRecursion, IsSmall, each_map, each_weaker, Amount, AmountsByKey, AreApartFrom, AreElsewhere, AreSmall, Day, Entry, HasRoomForTrade, Holding, IsOneTradeMore, IsSmallAmount, Key, Pend, amount_at, amount_for, amount_of, as_booking, below_all, buyer_entry, by_key, due_entries, equal, exact_keys, find, find_below, insert_entry, ints, is_sorted, key_cmp, key_of, keys_total, lookup, makes, money_limit, no_amount, same_key, seller_entry, shares_limit, tied_below, tied_itself, trade_entries, with_amount, with_entry, +ℤ_assoc, +ℤ_comm, +ℤ_idl, +ℤ_idr, max-zero}
+use Rattle.cns_actions.proofs.Common.{◌≡◌, ◌≢◌, ◌∙◌, ap, refl, ℕ, ◌+◌, ◌*◌, ◌^◌, ◌≤◌, ◌<◌, ◌+ℤ◌, true, false, cond, ◌&&◌, unsigned_abs, List, [], ◌∷◌, map, Option, Some, None, unwrap_or, arith, is_eq, is_lt, AllByRecursion, IsSmall, each_map, each_weaker, Amount, AmountsByKey, AreApartFrom, AreElsewhere, AreSmall, Day, Entry, HasRoomForTrade, Holding, IsOneTradeMore, IsSmallAmount, Key, Pend, amount_at, amount_for, amount_of, as_booking, below_all, buyer_entry, by_key, due_entries, equal, exact_keys, find, find_below, insert_entry, ints, is_sorted, key_cmp, key_of, keys_total, lookup, makes, money_limit, no_amount, same_key, seller_entry, shares_limit, tied_below, tied_itself, trade_entries, with_amount, with_entry, +ℤ_assoc, +ℤ_comm, +ℤ_idl, +ℤ_idr, max-zero}
 use Rattle.std.specs.BTreeMap.{is_at}
 use Rattle.cns_terms.specs.Pending.{is_due}
 use Rattle.std.proofs.lemmas.Cmp.{eq_by_cmp_equiv}
@@ -73,10 +73,6 @@ pub record IsBooked (all : List Entry) (n : ℕ) (now : AmountsByKey) (left : Li
   pub others : (k : Key) → AreApartFrom k all → AreApartFrom k left × (find key_cmp k now ≡ None)
   pub few : (k : Key) → IsOfTrades n (amount_at now k)
 
--- the entries of a trade, if it is due, and of those after it
-due_first : (next : Day) (p : Pend) (rest : List Pend) (t : Bool) → is_due next p ≡ t → due_entries next (p ∷ rest) ≡ cond t (buyer_entry p ∷ seller_entry p ∷ due_entries next rest) (due_entries next rest)
-due_first next p rest t e = grind arith
-
 -- before the first
 pub none_booked : (all : List Entry) → IsBooked all 0 [] all
 none_booked all = record { sums = λ k. grind (arith, ints); others = λ k apart. (apart, refl); few = λ k. record { shares = omega arith; cents = omega arith } }
@@ -84,10 +80,6 @@ none_booked all = record { sums = λ k. grind (arith, ints); others = λ k apart
 -- a trade is passed over
 pub trade_passed : (all : List Entry) (next : Day) (n : ℕ) (now : AmountsByKey) (p : Pend) (rest : List Pend) → is_due next p ≡ false → IsBooked all n now (due_entries next (p ∷ rest)) → IsBooked all (n + 1) now (due_entries next rest)
 trade_passed all next n now p rest due b = grind (arith, b)
-
--- amounts one after another
-together : (a b s r : Amount) → with_amount a (record { shares = b.shares +ℤ (s.shares +ℤ r.shares); cents = b.cents +ℤ (s.cents +ℤ r.cents) }) ≡ with_amount (with_amount (with_amount a b) s) r
-together a b s r = simp +ℤ_assoc
 
 -- what a trade books at a key, one entry after the other
 abbrev pub after_trade : Pend → Key → Amount → Amount
@@ -100,12 +92,7 @@ trade_sums p k a = simp (+ℤ_assoc, +ℤ_idr)
 pub trade_booked : (all : List Entry) (next : Day) (n : ℕ) (now new : AmountsByKey) (p : Pend) (rest : List Pend) → is_due next p ≡ true → ((k : Key) → amount_at new k ≡ with_amount (amount_at now k) (amount_of (trade_entries p) k)) → ((k : Key) → IsOneTradeMore (amount_at now k) (amount_at new k))
     → ((k : Key) → AreApartFrom k (trade_entries p) → find key_cmp k new ≡ find key_cmp k now) → IsBooked all n now (due_entries next (p ∷ rest)) → IsBooked all (n + 1) new (due_entries next rest)
 trade_booked all next n now new p rest due more bound others b =
-    let left = due_first next p rest true due in
-    record {
-      sums = λ k. (rw left at b.sums) k ∙ together (amount_at now k) (amount_for (buyer_entry p) k) (amount_for (seller_entry p) k) (amount_of (due_entries next rest) k) ∙ ap (λ a. with_amount a (amount_of (due_entries next rest) k)) (trade_sums p k (amount_at now k) ∙ sym (more k));
-      others = λ k apart. let h = (rw left at b.others) k apart in (h.0.1.1, others k (h.0.0, (h.0.1.0, tt)) ∙ h.1);
-      few = λ k. record { shares = omega (arith, (b.few k).shares, (bound k).shares); cents = omega (arith, (b.few k).cents, (bound k).cents) };
-    }
+    record { sums = λ k. (rw due at b.sums) k ∙ rw (more k) (simp (+ℤ_assoc, +ℤ_idr)); others = λ k apart. let h = (rw due at b.others) k apart in (h.0.1.1, others k (h.0.0, (h.0.1.0, tt)) ∙ h.1); few = λ k. grind (arith, b.few k, bound k) }
 
 -- as many as may wait leave room for one more
 pub room_left : (i n : ℕ) (a : Amount) → i < n → n ≤ 2 ^ 32 → IsOfTrades i a → HasRoomForTrade a

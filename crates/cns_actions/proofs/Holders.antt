@@ -1,6 +1,6 @@
 -- Members as a list names them, and as rows show them: what is read of both adds up to the same.
 -- For `bookings_for` of acting.rt.
-use Rattle.cns_actions.proofs.Common.{◌≡◌, ◌∙◌, sym, ap, refl, ℕ, ◌≤◌, ℤ, pos, Bool, true, cond, not, List, [], ◌∷◌, map, filter, length, None, arith, int_eq, Account, AllByRecursion, AreHolders, Cusip, Entry, Holder, Member, Rows, are_distinct, each_weaker, has_position, held_above, holders, holders_in, ints, is_sorted, key_cmp, list_any, nat_tests, occurs, occurs_found, occurs_missing, option_map_or, positions_in, total, total-map}
+use Rattle.cns_actions.proofs.Common.{◌≡◌, ◌∙◌, sym, refl, ℕ, ◌≤◌, ℤ, pos, Bool, true, cond, not, List, [], ◌∷◌, map, filter, length, None, arith, int_eq, Account, AllByRecursion, AreHolders, Cusip, Entry, Holder, Member, Rows, are_distinct, each_weaker, has_position, held_above, holders, holders_in, ints, is_sorted, key_cmp, list_any, nat_tests, occurs, occurs_found, occurs_missing, option_map_or, positions_in, total, total-map}
 use Rattle.cns_actions.proofs.ByAccount.{each_listed, listed_at, listed_rising, total_over, who}
 
 -- a sum over what a test keeps
@@ -14,20 +14,16 @@ at_most_once x [] h = omega arith
 at_most_once x (m ∷ ms) h = grind (arith, nat_tests, occurs_missing m ms, at_most_once x ms)
 
 -- whether any element passes a test, by a sum
-counted : {X : Type 0} (t : X → Bool) (xs : List X) → total (λ x. cond (t x) (pos 1) (pos 0)) xs ≡ pos (length (filter t xs))
-counted t [] = refl
-counted t (x ∷ xs) = grind (arith, ints, counted t xs)
-
-any_counted : {X : Type 0} (t : X → Bool) (xs : List X) → list_any t xs ≡ not (int_eq (pos (length (filter t xs))) (pos 0))
-any_counted t [] = refl
-any_counted t (x ∷ xs) = grind (arith, nat_tests, any_counted t xs)
+any_counted : {X : Type 0} (t : X → Bool) (xs : List X) → (total (λ x. cond (t x) (pos 1) (pos 0)) xs ≡ pos (length (filter t xs))) × (list_any t xs ≡ not (int_eq (pos (length (filter t xs))) (pos 0)))
+any_counted t [] = (refl, refl)
+any_counted t (x ∷ xs) = grind (arith, ints, nat_tests, any_counted t xs)
 
 -- lists with the same sums of whatever is read of them
 abbrev pub Alike : {X : Type 0} → List X → List X → Type 0
 Alike {X} xs ys = (f : X → ℤ) → total f xs ≡ total f ys
 
 pub any_alike : {X : Type 0} (t : X → Bool) (xs ys : List X) → Alike xs ys → list_any t xs ≡ list_any t ys
-any_alike t xs ys same = any_counted t xs ∙ ap (λ z. not (int_eq z (pos 0))) (sym (counted t xs) ∙ same (λ x. cond (t x) (pos 1) (pos 0)) ∙ counted t ys) ∙ sym (any_counted t ys)
+any_alike t xs ys same = grind (arith, any_counted t xs, any_counted t ys, same (λ x. cond (t x) (pos 1) (pos 0)))
 
 -- the members that are shown
 abbrev pub shown : Rows → Cusip → List Holder

@@ -3,7 +3,7 @@ use Rattle.cns_actions.proofs.DueAmounts.{amounts_added, found_apart, had_is, ro
 use Rattle.cns_actions.proofs.due_amounts.DueAmounts.add.Goals as goal
 
 pub with-requires-clause-room : goal.with-requires-clause-room
-with-requires-clause-room g c = grind (arith, had_is, room_at c.key_of-key.result c.self.inside.amounts.entries c.self.invariant.small)
+with-requires-clause-room g c = grind (arith, room_at c.key_of-key.result c.self.inside.amounts.entries c.self.invariant.small)
 
 pub invariant_of-self-2 : goal.invariant_of-self-2
 invariant_of-self-2 g c =
