@@ -89,9 +89,6 @@ brings (Action.Split s) k = false
 brings (Action.Exchange x) k = same_issue x.successor k.issue
 
 -- the age that an account's bookings bring to a key, and the greatest that the members' do
-own_age : (x : Action) (k : Key) (c : Change) (a : Account) (n : ℕ) → greatest (carried_to k) (bookings_for x a c n) ≡ cond ((a == k.account) && brings x k) n 0
-own_age x k c a n = grind arith
-
 members_age : (x : Action) (k : Key) (hs : List Holder) → greatest (carried_to k) (flat_map (member_bookings x) hs) ≡ greatest (λ h. cond ((h.account == k.account) && brings x k) h.oldest 0) hs
 members_age x k [] = refl
 members_age x k (h ∷ hs) = grind (arith, nat_tests, greatest-append (carried_to k) (member_bookings x h) (flat_map (member_bookings x) hs), members_age x k hs)
@@ -104,7 +101,7 @@ same_ages : (R : Rows) → is_sorted key_cmp R ≡ true → (k : Key) (x : Actio
 same_ages R order k x sum =
     let hs = all_holders_of x R in
     let rising = listed_rising has_position_or_age refl (issue_of x) R order in
-    grind (arith, nat_tests, members_age x k hs, greatest_at k.account (brings x k) hs rising, listed_at has_position_or_age refl (issue_of x) R order k.account, greatest-append (carried_to k) (bookings_for x corporation (opposite sum) (oldest_in R (issue_of x) corporation)) (flat_map (member_bookings x) hs), own_age x k (opposite sum) corporation (oldest_in R (issue_of x) corporation))
+    grind (arith, nat_tests, members_age x k hs, greatest_at k.account (brings x k) hs rising, listed_at has_position_or_age refl (issue_of x) R order k.account, greatest-append (carried_to k) (bookings_for x corporation (opposite sum) (oldest_in R (issue_of x) corporation)) (flat_map (member_bookings x) hs))
 
 -- what is booked makes of a holding what the definitions do
 pub same_makes : (R : Rows) → is_sorted key_cmp R ≡ true → (x : Action) (ms : List Member) → AreHolders (positions_in R (issue_of x)) ms → (k : Key) (h : Holding)

@@ -1,16 +1,12 @@
 -- What trades book, added up by key.
 -- For `listed` of due_bookings.rt, `add`, `add_trade` and `of` of due_amounts.rt.
-use Rattle.cns_actions.proofs.Common.{◌≡◌, ◌≢◌, ◌∙◌, ap, refl, ℕ, ◌+◌, ◌*◌, ◌^◌, ◌≤◌, ◌<◌, ◌+ℤ◌, true, false, cond, ◌&&◌, unsigned_abs, List, [], ◌∷◌, map, Option, Some, None, unwrap_or, arith, is_eq, is_lt, AllByRecursion, IsSmall, each_map, each_weaker, Amount, AmountsByKey, AreApartFrom, AreElsewhere, AreSmall, Day, Entry, HasRoomForTrade, Holding, IsOneTradeMore, IsSmallAmount, Key, Pend, amount_at, amount_for, amount_of, as_booking, below_all, buyer_entry, by_key, due_entries, equal, exact_keys, find, find_below, insert_entry, ints, is_sorted, key_cmp, key_of, keys_total, lookup, makes, money_limit, no_amount, same_key, seller_entry, shares_limit, tied_below, tied_itself, trade_entries, with_amount, with_entry, +ℤ_assoc, +ℤ_comm, +ℤ_idl, +ℤ_idr, max-zero}
+use Rattle.cns_actions.proofs.Common.{◌≡◌, ◌≢◌, ◌∙◌, ap, refl, ℕ, ◌+◌, ◌*◌, ◌^◌, ◌≤◌, ◌<◌, ◌+ℤ◌, true, false, cond, ◌&&◌, unsigned_abs, List, [], ◌∷◌, map, Some, None, arith, is_eq, is_lt, AllByRecursion, IsSmall, each_map, each_weaker, Amount, AmountsByKey, AreApartFrom, AreElsewhere, AreSmall, Day, Entry, HasRoomForTrade, Holding, IsOneTradeMore, IsSmallAmount, Key, Pend, amount_at, amount_for, amount_of, as_booking, below_all, buyer_entry, by_key, due_entries, equal, exact_keys, find, find_below, insert_entry, ints, is_sorted, key_cmp, key_of, keys_total, lookup, makes, money_limit, same_key, seller_entry, shares_limit, tied_below, tied_itself, trade_entries, with_amount, with_entry, +ℤ_assoc, +ℤ_comm, +ℤ_idl, +ℤ_idr, max-zero}
 use Rattle.std.specs.BTreeMap.{is_at}
 use Rattle.cns_terms.specs.Pending.{is_due}
 use Rattle.std.proofs.lemmas.Cmp.{eq_by_cmp_equiv}
 use Rattle.cns_actions.proofs.Making.{makes_first}
 
 -- ---- amounts
-
--- what a search found, as the amount at a key
-pub had_is : (k : Key) (es : AmountsByKey) (o : Option Amount) (a : Amount) → a ≡ unwrap_or o no_amount → o ≡ lookup (is_at (key_cmp k)) es → a ≡ amount_at es k
-had_is k es o a is found = rw found at is
 
 -- what is booked at a key has room, where each amount has
 pub room_at : (k : Key) (es : AmountsByKey) → AllByRecursion (λ e. IsSmallAmount e.1) es → IsSmallAmount (amount_at es k)

@@ -1,6 +1,5 @@
 pub mod Members
 pub mod Reachable
-pub mod Registers
 pub mod ByAccount
 pub mod Skipping
 pub mod Holders

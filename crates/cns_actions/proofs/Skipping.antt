@@ -1,7 +1,7 @@
 -- Members with a position or an age in an issue, account by account: all rows of an account but that in the issue are passed
 -- over.
 -- For `next_holder` of holder.rt, clause next.
-use Rattle.cns_actions.proofs.Common.{◌≡◌, ◌∙◌, sym, ap, refl, ℕ, ◌≤◌, ◌<◌, Bool, true, false, cond, ◌&&◌, ◌==◌, nat_lt, List, [], ◌∷◌, filter, length, Option, Some, None, arith, is_lt, Account, Cusip, Holder, Holding, Key, Rows, and_left, as_T, below_all, cons_option, corporation, exact_keys, find, find_below, has_position_or_age, held_above, held_same, held_sorted, holder_at, holder_of, holders_after, holders_in, holding_at, is_above, is_held, is_left, is_of_next, is_sorted, key_cmp, keys_total, less, nat_tests, zeros, All-head, filter_passes}
+use Rattle.cns_actions.proofs.Common.{◌≡◌, ◌∙◌, sym, ap, refl, ℕ, ◌≤◌, ◌<◌, Bool, true, false, cond, ◌&&◌, ◌==◌, nat_lt, List, [], ◌∷◌, filter, length, Option, Some, None, arith, is_lt, Account, Cusip, Holder, Holding, Key, Rows, and_left, as_T, below_all, cons_option, exact_keys, find, find_below, has_position_or_age, held_above, held_same, held_sorted, holder_at, holders_after, holders_in, holding_at, is_above, is_held, is_left, is_of_next, is_sorted, key_cmp, keys_total, less, nat_tests, zeros, All-head, filter_passes}
 use Rattle.cns_positions.proofs.Held.{filter_both}
 use lib.Ieee.Bits.{is_true}
 use Rattle.std.specs.FinMap.Entries.{find-where_key, is_sorted-where_key}
@@ -87,29 +87,10 @@ module _ (R : Rows) (order : is_sorted key_cmp R ≡ true) where
     -- no account that is left comes before that of the next row
     pub next_left : (rest : Rows) → held_above R passed ≡ r ∷ rest → is_of_next passed r.0 ≡ true → holders_after R c passed ≡ cons_option (holder_at R r.0.account c) (holders_after R c (Some q))
     next_left rest next h =
-        same_holders (holders_after R c passed) _ (left_rising c passed) (cons_rising held own (holders_after R c (Some q)) above (left_rising c (Some q)))
-        (λ x. left_at c passed x ∙ by x (left_at c (Some q) x) ∙ sym (who_cons x held own (holders_after R c (Some q))))
-      where
-        a : Account
-        a = r.0.account
-
-        held : Bool
-        held = nat_lt corporation a && has_position_or_age (holding_at R (place c a))
-
-        own : Holder
-        own = holder_of (place c a, holding_at R (place c a))
-
-        above : are_above a (holders_after R c (Some q)) ≡ true
-        above = above_holders has_position_or_age refl c (place c a) (filter (λ r. nat_lt q.account r.0.account) all) refl (rw same (below_later (place c a) all))
-
-        row_above : is_above passed r.0 ≡ true
-        row_above = and_left _ _ (All-head (λ (x : Key × Holding). (is_above passed x.0 && is_held x.1) ≡ true) r rest (rw next at (filter_passes (λ x. is_above passed x.0 && is_held x.1) R)))
-
-        sorted : is_sorted key_cmp (r ∷ rest) ≡ true
-        sorted = rw (filter_both (λ x. is_above passed x.0) (λ x. is_held x.1) R, next) at (kept_sorted (is_above passed))
-
-        before : (x : Account) → x < a → is_left passed (place c x) ≡ true → holding_at R (place c x) ≡ zeros
-        before x lt = none_there c passed x (rw next (find_below keys_total (place c x) (r ∷ rest) (below_first (place c x) r rest (account_before (place c x) r.0 lt) (and_left _ _ sorted))))
-
-        by : (x : Account) → who x (holders_after R c (Some q)) ≡ cond (nat_lt q.account x) (holder_at R x c) None → cond (is_left passed (place c x)) (holder_at R x c) None ≡ cond (held && (a == x)) (Some own) (who x (holders_after R c (Some q)))
-        by x e = grind (arith, nat_tests, before x, from_row passed r.0 (place c x) row_above h)
+        let a = r.0.account in
+        let above : are_above a (holders_after R c (Some q)) ≡ true = above_holders has_position_or_age refl c (place c a) (filter (λ r. nat_lt q.account r.0.account) all) refl (rw same (below_later (place c a) all)) in
+        let row_above : is_above passed r.0 ≡ true = and_left _ _ (All-head (λ (x : Key × Holding). (is_above passed x.0 && is_held x.1) ≡ true) r rest (rw next at (filter_passes (λ x. is_above passed x.0 && is_held x.1) R))) in
+        let sorted : is_sorted key_cmp (r ∷ rest) ≡ true = rw (filter_both (λ x. is_above passed x.0) (λ x. is_held x.1) R, next) at (kept_sorted (is_above passed)) in
+        let before : (x : Account) → x < a → is_left passed (place c x) ≡ true → holding_at R (place c x) ≡ zeros = λ x lt. none_there c passed x (rw next (find_below keys_total (place c x) (r ∷ rest) (below_first (place c x) r rest (account_before (place c x) r.0 lt) (and_left _ _ sorted)))) in
+        same_holders (holders_after R c passed) _ (left_rising c passed) (cons_rising _ _ (holders_after R c (Some q)) above (left_rising c (Some q)))
+        (λ x. rw (left_at c passed x, who_cons, left_at c (Some q) x) (grind (arith, nat_tests, before x, from_row passed r.0 (place c x) row_above h)))

@@ -1,6 +1,5 @@
 use Rattle.cns_actions.proofs.Common.{◌∙◌, ap, arith, aged, holding_at, key_of}
-use Rattle.cns_actions.proofs.Making.{one_made}
-use Rattle.cns_actions.proofs.Registers.{cents_passed, shares_passed}
+use Rattle.cns_actions.proofs.Making.{cents_passed, one_made, shares_passed}
 use Rattle.cns_actions.proofs.bookings.book_one.Goals as goal
 
 pub returns-then-booking-gt0-clause-made : goal.returns-then-booking-gt0-clause-made
