@@ -3,7 +3,6 @@
 use Rattle.cns_actions.proofs.Common.{◌≡◌, refl, ℕ, ◌≤◌, ◌<◌, true, false, List, [], ◌∷◌, ◌++◌, arith, is_lt, nat_cmp, flat_map, Account, Action, AllByRecursion, AreInIssues, AreSmall, Booking, CanBeBooked, Change, Cusip, HasSpace, Holder, IsFew, IsForAnother, Key, Rows, all_bookings, all_holders_of, below_all, bookings_for, by_key, change_of, corporation, each_append, has_position_or_age, holding_at, ints, is_eq-slice_cmp, is_sorted, issue_of, key_cmp, member_bookings, member_limit, nat_list_cmp_total, nat_tests, opposite, same_issue, slice_cmp, not}
 use Rattle.cns_actions.proofs.ByAccount.{above_zero, are_above, are_rising, each_listed, listed_rising, place}
 
--- few members' changes make small entries
 pub small_bookings : (x : Action) (a : Account) (c : Change) (n : ℕ) → IsFew member_limit c → AreSmall (bookings_for x a c n)
 small_bookings x a c n few = grind (arith, ints)
 
@@ -11,7 +10,6 @@ small_bookings x a c n few = grind (arith, ints)
 pub has_space : (R : Rows) → CanBeBooked R → (k : Key) → HasSpace (holding_at R k)
 has_space R can k = grind (arith, can.members k.account k.issue, can.corporation k.issue, can.cents k)
 
--- a key is below those of higher accounts
 below_accounts : (k : Key) (bs : List Booking) → AllByRecursion (λ b. k.account < b.entry.account) bs → below_all key_cmp k (by_key bs) ≡ true
 below_accounts k [] h = refl
 below_accounts k (b ∷ bs) h = grind (arith, nat_tests, below_accounts k bs h.1)
@@ -30,7 +28,6 @@ module _ (x : Action) (another : IsForAnother x) where
   above_bookings a [] l = tt
   above_bookings a (h ∷ hs) l = each_append _ (member_bookings x h) (flat_map (member_bookings x) hs) (grind (arith, nat_tests)) (above_bookings a hs (grind arith))
 
-  -- members' bookings are in order
   members_sorted : (hs : List Holder) → are_rising hs ≡ true → is_sorted key_cmp (by_key (flat_map (member_bookings x) hs)) ≡ true
   members_sorted [] r = refl
   members_sorted (h ∷ hs) r = grind (arith, below_accounts, change_sorted x another h.account (change_of x h.shares) h.oldest (flat_map (member_bookings x) hs), above_bookings h.account hs, members_sorted hs)

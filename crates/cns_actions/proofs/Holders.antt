@@ -25,7 +25,6 @@ Alike {X} xs ys = (f : X → ℤ) → total f xs ≡ total f ys
 pub any_alike : {X : Type 0} (t : X → Bool) (xs ys : List X) → Alike xs ys → list_any t xs ≡ list_any t ys
 any_alike t xs ys same = grind (arith, any_counted t xs, any_counted t ys, same (λ x. cond (t x) (pos 1) (pos 0)))
 
--- the members that are shown
 abbrev pub shown : Rows → Cusip → List Holder
 shown R c = holders_in has_position c (held_above R None)
 

@@ -4,8 +4,6 @@ use Rattle.cns_actions.proofs.Common.{◌≡◌, ◌≢◌, ap, refl, ℕ, ◌+�
 use Rattle.std.proofs.lemmas.List.{drop_more}
 use Rattle.cns_positions.specs.Rows.{row_at}
 
--- ---- what bookings make at a key
-
 max_assoc : (a b c : ℕ) → max a (max b c) ≡ max (max a b) c
 max_assoc a b c = omega arith
 

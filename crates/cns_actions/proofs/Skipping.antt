@@ -7,8 +7,6 @@ use lib.Ieee.Bits.{is_true}
 use Rattle.std.specs.FinMap.Entries.{find-where_key, is_sorted-where_key}
 use Rattle.cns_actions.proofs.ByAccount.{are_above, are_rising, found, above_holders, listed_at, listed_rising, place, rising_holders, same_holders, who}
 
--- ---- tests and keys
-
 -- no more pass a test that implies another
 fewer_pass : {X : Type 0} (t u : X → Bool) (xs : List X) → ((x : X) → t x ≡ true → u x ≡ true) → length (filter t xs) ≤ length (filter u xs)
 fewer_pass t u [] h = omega arith
@@ -31,16 +29,11 @@ below_first : (k : Key) (r : Key × Holding) (rows : Rows) → is_lt (key_cmp k 
 below_first k r [] l b = grind arith
 below_first k r (e ∷ es) l b = grind (arith, less, keys_total.trans k r.0 e.0, below_first k r es l)
 
--- ---- accounts that are left
-
 -- accounts from that of the next row on are left
 from_row : (passed : Option Key) (r k : Key) → is_above passed r ≡ true → is_of_next passed r ≡ true → r.account ≤ k.account → is_left passed k ≡ true
 from_row passed r k h1 h2 h3 = grind (arith, nat_tests)
 
 -- one holder more, if there is one
-cons_rising : (b : Bool) (h : Holder) (hs : List Holder) → are_above h.account hs ≡ true → are_rising hs ≡ true → are_rising (cons_option (cond b (Some h) None) hs) ≡ true
-cons_rising b h hs h1 h2 = grind arith
-
 who_cons : (a : ℕ) (b : Bool) (h : Holder) (hs : List Holder) → who a (cons_option (cond b (Some h) None) hs) ≡ cond (b && (h.account == a)) (Some h) (who a hs)
 who_cons a b h hs = grind (arith, nat_tests)
 
@@ -92,5 +85,5 @@ module _ (R : Rows) (order : is_sorted key_cmp R ≡ true) where
         let row_above : is_above passed r.0 ≡ true = and_left _ _ (All-head (λ (x : Key × Holding). (is_above passed x.0 && is_held x.1) ≡ true) r rest (rw next at (filter_passes (λ x. is_above passed x.0 && is_held x.1) R))) in
         let sorted : is_sorted key_cmp (r ∷ rest) ≡ true = rw (filter_both (λ x. is_above passed x.0) (λ x. is_held x.1) R, next) at (kept_sorted (is_above passed)) in
         let before : (x : Account) → x < a → is_left passed (place c x) ≡ true → holding_at R (place c x) ≡ zeros = λ x lt. none_there c passed x (rw next (find_below keys_total (place c x) (r ∷ rest) (below_first (place c x) r rest (account_before (place c x) r.0 lt) (and_left _ _ sorted)))) in
-        same_holders (holders_after R c passed) _ (left_rising c passed) (cons_rising _ _ (holders_after R c (Some q)) above (left_rising c (Some q)))
+        same_holders (holders_after R c passed) _ (left_rising c passed) (grind (arith, above, left_rising c (Some q)))
         (λ x. rw (left_at c passed x, who_cons, left_at c (Some q) x) (grind (arith, nat_tests, before x, from_row passed r.0 (place c x) row_above h)))

@@ -3,12 +3,8 @@
 use Rattle.cns_actions.proofs.Common.{nat_tests, ◌≡◌, ◌∙◌, ap, subst, refl, ℕ, ◌≤◌, ◌<◌, pos, ◌+ℤ◌, Bool, true, false, not, ◌||◌, unsigned_abs, List, ◌∷◌, arith, int_eq, Action, AllByRecursion, CanBeBooked, Change, Cusip, Holder, IsFew, Rows, and_left, and_right, change_of, has_position, holders_of, ints, is_sorted, issue_of, key_cmp, list_any, member_limit, position_at, position_limit, sum_of, with_position, +ℤ_assoc}
 use Rattle.cns_actions.proofs.ByAccount.{above_zero, are_above, are_rising, each_listed, listed_rising}
 
--- two changes together
 abbrev pub plus : Change → Change → Change
 plus c d = record { before = c.before +ℤ d.before; after = c.after +ℤ d.after; cents = c.cents +ℤ d.cents }
-
-none_plus : (c : Change) → c ≡ plus (record { before = pos 0; after = pos 0; cents = pos 0 }) c
-none_plus c = grind (arith, ints)
 
 -- the sum over the members up to a number, and those above it that are left: both together sum up to what all do, and any of all
 -- passes a test where one of those that are left does
@@ -24,7 +20,7 @@ pub record AddsUp (x : Action) (t : Holder → Bool) (all : List Holder) (sum : 
 
 -- at first all are left
 pub first_adds : (R : Rows) → is_sorted key_cmp R ≡ true → CanBeBooked R → (x : Action) (t : Holder → Bool) → AddsUp x t (holders_of x R) (record { before = pos 0; after = pos 0; cents = pos 0 }) (holders_of x R)
-first_adds R order can x t = grind (arith, ints, above_zero (holders_of x R) (each_listed has_position refl (issue_of x) R order (λ h. 1 ≤ h.account) (λ a le held. le)), listed_rising has_position refl (issue_of x) R order, each_listed has_position refl (issue_of x) R order (λ h. unsigned_abs h.shares ≤ position_limit) (λ a le held. can.members a (issue_of x) le), none_plus (sum_of x (holders_of x R)))
+first_adds R order can x t = grind (arith, ints, above_zero (holders_of x R) (each_listed has_position refl (issue_of x) R order (λ h. 1 ≤ h.account) (λ a le held. le)), listed_rising has_position refl (issue_of x) R order, each_listed has_position refl (issue_of x) R order (λ h. unsigned_abs h.shares ≤ position_limit) (λ a le held. can.members a (issue_of x) le))
 
 module _ {x : Action} {t : Holder → Bool} {all : List Holder} {sum : Change} {left : List Holder} (h : Holder) {rest : List Holder} (first : left ≡ h ∷ rest) (held : not (int_eq h.shares (pos 0)) ≡ true) (was : AddsUp x t all sum (with_position left)) where
   -- the next member with a position is the next of those
