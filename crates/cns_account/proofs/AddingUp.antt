@@ -12,8 +12,6 @@ use Rattle.cns_feed.specs.Replay.{log_after}
 use Rattle.cns_history.specs.Lines.{history}
 use Rattle.cns_account.specs.Laws.{closes}
 
--- ---- the last close
-
 -- records that end with a close, and those before it
 pub record IsLast (n : ℕ) (b : Log) (ls : List Line) (cs : List (ℕ × Day)) (d : Day) : Type 0 where
   pub front : List Line
@@ -56,8 +54,6 @@ split (l ∷ ls) n b cs d range is = by cs (day_closed (state_of b) l) refl is (
         let head : (n + 1, e) ≡ c = cc in
         let tail : closes (n + 1) (state_after_line (state_of b) l) ls ≡ cs ++ (n + length (l ∷ ls), d) ∷ [] = cc in
         rw (ends, head) at (more_before n b l ls cs d range.0 (rest cs (rw (state_line b l) (tail ∙ ap (λ m. cs ++ (m, d) ∷ []) (omega arith)))))
-
--- ---- all causes
 
 close_trades : (v : Pend → ℤ) (S : State) (e : Day) → total v (trades (journal_of (next S (Command.Activity (Activity.Close e))))) ≡ total v (trades (journal_of S))
 close_trades v S e = grind arith

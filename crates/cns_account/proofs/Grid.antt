@@ -1,21 +1,14 @@
 -- The places of accounts in issues, each once.
 -- For `places_are_whole` and `moves_add_up` of laws.rt.
-use Rattle.cns_account.proofs.Common.{◌≡◌, ◌∙◌, ap, refl, ℕ, zero, suc, ◌+◌, ◌<◌, ◌≤◌, Bool, false, ◌&&◌, ◌||◌, ◌==◌, cond, eqb, List, [], ◌∷◌, filter, flat_map, map, arith, bytes_eq, is_eq, range_with_len, bytes_eq-Decides, filter-append, key_cmp, same_key, Account, Cusip, Key, place, nat_tests}
+use Rattle.cns_account.proofs.Common.{◌≡◌, refl, ℕ, zero, suc, ◌+◌, ◌<◌, ◌≤◌, Bool, false, ◌&&◌, ◌||◌, ◌==◌, cond, eqb, List, [], ◌∷◌, filter, flat_map, map, arith, bytes_eq, is_eq, range_with_len, bytes_eq-Decides, filter-append, key_cmp, same_key, Account, Cusip, Key, place, nat_tests}
 use Rattle.cns_history.specs.Lines.{numbers}
 
--- whether a place is the one
 abbrev pub is_at : Key → Key → Bool
 is_at k q = is_eq (key_cmp q k)
 
-row_branch : (k : Key) (a : Account) (c : Cusip) (b u : Bool) (cs : List Cusip) (rest : List Key) → rest ≡ cond b (map (place a) cs) []
-    → cond (b && u) (place a c ∷ rest) rest ≡ cond b (map (place a) (cond u (c ∷ cs) cs)) []
-row_branch k a c b u cs rest h = grind arith
-
 in_row : (k : Key) (a : Account) (cs : List Cusip) → filter (is_at k) (map (place a) cs) ≡ cond (eqb a k.account) (map (place a) (filter (λ c. bytes_eq c k.issue) cs)) []
 in_row k a [] = grind arith
-in_row k a (c ∷ cs) =
-    ap (λ b. cond b (place a c ∷ filter (is_at k) (map (place a) cs)) (filter (is_at k) (map (place a) cs))) (same_key (place a c) k)
-    ∙ row_branch k a c (eqb a k.account) (bytes_eq c k.issue) (filter (λ c. bytes_eq c k.issue) cs) _ (in_row k a cs)
+in_row k a (c ∷ cs) = grind (arith, same_key (place a c) k, in_row k a cs)
 
 in_grid : (k : Key) (cs : List Cusip) (bs : List Account)
     → filter (is_at k) (flat_map (λ a. map (place a) cs) bs) ≡ flat_map (λ a. map (place a) (filter (λ c. bytes_eq c k.issue) cs)) (filter (λ a. eqb a k.account) bs)
@@ -32,8 +25,6 @@ one_issue c i = grind (arith, bytes_eq-Decides)
 
 pub two_issues : (c d i : Cusip) → bytes_eq c d ≡ false → filter (λ e. bytes_eq e i) (c ∷ d ∷ []) ≡ cond (bytes_eq c i || bytes_eq d i) (i ∷ []) []
 two_issues c d i apart = grind (arith, bytes_eq-Decides)
-
--- ---- accounts
 
 pub two_accounts : (a b x : Account) → filter (λ c. eqb c x) (cond (b == a) (a ∷ []) (a ∷ b ∷ [])) ≡ cond (eqb a x || eqb b x) (x ∷ []) []
 two_accounts a b x = grind (arith, nat_tests)

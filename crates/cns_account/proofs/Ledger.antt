@@ -1,6 +1,6 @@
 -- What a day's activities booked.
 -- For `moves_add_up` of laws.rt.
-use Rattle.cns_account.proofs.Common.{◌≡◌, ◌∙◌, refl, ℤ, pos, ◌+ℤ◌, true, not, cond, List, [], ◌∷◌, filter, reverse, Option, Some, arith, int_lt, option_map_or, ints, Day, Journal, NoneHolds, all_fail, date, day_number, entries, is_past, last_close, neither, open_day, pend_of, pending, reverse_onto, total, total-append, trade_entries, trades, Trade, Entry, Pend, is_within, Bool, false, slice_get, unwrap_or, closings, is_close, Activity}
+use Rattle.cns_account.proofs.Common.{◌≡◌, ◌∙◌, refl, ℤ, pos, ◌+ℤ◌, true, not, cond, List, [], ◌∷◌, filter, reverse, Option, Some, arith, int_lt, option_map_or, ints, Day, Journal, NoneHolds, all_fail, date, day_number, entries, last_close, open_day, pend_of, pending, reverse_onto, total, total-append, trade_entries, trades, Trade, Entry, Pend, is_within, is_close, Activity, inl, inr, cases_Bool}
 use Rattle.cns_terms.proofs.SheetSums.{total-flat_map}
 use Rattle.cns_terms.specs.Pending.{due, is_due}
 use Rattle.cns_terms.specs.Refusals.{rules}
@@ -21,12 +21,10 @@ module _ (f : Entry → ℤ) where
   -- what the open day booked, and what was booked before the close that opened it
   pub open_parts : (J : Journal) → all_booked J ≡ all_booked (open_day J) +ℤ all_booked (last_close J)
   open_parts [] = refl
-  open_parts (p ∷ J) = by (is_close p.activity) (open_parts J)
-    where
-      by : (b : Bool) → all_booked J ≡ all_booked (open_day J) +ℤ all_booked (last_close J)
-          → all_booked (p ∷ J) ≡ all_booked (p ∷ cond b [] (open_day J)) +ℤ all_booked (unwrap_or (slice_get (cond b (J ∷ closings J) (closings J)) 0) [])
-      by true h = omega (arith, ints)
-      by false h = omega (arith, ints, h)
+  open_parts (p ∷ J) = elim (cases_Bool (is_close p.activity)) [
+    | inl ends ↦ rw ends (omega (arith, ints))
+    | inr stays ↦ rw stays (omega (arith, ints, open_parts J))
+  ]
 
   -- what a trade books, if its date is after the day before and up to the day
   abbrev pub settles : Option Day → Day → Pend → ℤ
@@ -44,5 +42,4 @@ module _ (f : Entry → ℤ) where
   pub trade_settles : (opening : Day) (J : Journal) (before : Option Day) (t : Trade) → NoneHolds (rules opening J (Activity.Trade t)) → IsAfter before (date opening J)
       → total f (entries opening J (Activity.Trade t)) ≡ settles before (date opening J) (pend_of t)
   trade_settles opening J before t none after =
-      let late = neither (is_past t.date (date opening J)) _ ((all_fail (rules opening J (Activity.Trade t)) none).1.1.1.1.0) in
-      grind (arith, ints, late.0)
+      grind (arith, ints, (all_fail (rules opening J (Activity.Trade t)) none).1.1.1.1.0)

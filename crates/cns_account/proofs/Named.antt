@@ -1,14 +1,12 @@
 -- What an activity books stands at the places that it names.
 -- For `places_are_whole` and `moves_add_up` of laws.rt.
-use Rattle.cns_account.proofs.Common.{◌≡◌, ◌∙◌, sym, ap, refl, ◌<◌, ℤ, pos, ◌+ℤ◌, Bool, true, false, ◌&&◌, ◌||◌, ◌==◌, cond, eqb, List, [], ◌∷◌, filter, flat_map, map, is_none, option_map, option_to_list, Option, Some, None, IfSome, arith, bytes_eq, ints, Day, IsSound, Journal, NoneHolds, State, against_corporation, all_fail, and_false, cents_for, corporation, entries, execution_entries, fill_entry, fills, holders, holding, holds, idle_parts, is_account, is_close, is_listed, issues, journal_of, last_close, list_any, members, money, nat_list_eq_equiv, neither, new_entry, notice_at, notices, old_entry, open_day, posting, refusal, row, shares_for, total, each_named, IsNoticed, both_hold, Notice, Execution, position, Account, Cusip, Activity, next, Entry, Holding, Key, notice_of, accounts_in, both, each, has_position, is_movement, is_wanted, named, place, places, standing, unwrap_or, IsWhole, total-append, whole-post, Command, split_entry}
+use Rattle.cns_account.proofs.Common.{◌≡◌, ◌∙◌, sym, ap, refl, ◌<◌, ℤ, pos, ◌+ℤ◌, Bool, true, false, ◌&&◌, ◌||◌, ◌==◌, cond, eqb, List, [], ◌∷◌, filter, flat_map, map, is_none, option_map, option_to_list, Option, Some, None, IfSome, arith, bytes_eq, ints, Day, IsSound, Journal, NoneHolds, State, against_corporation, all_fail, and_false, cents_for, corporation, entries, execution_entries, fill_entry, fills, holders, holds, idle_parts, is_account, is_close, is_listed, issues, journal_of, last_close, list_any, members, money, nat_list_eq_equiv, neither, new_entry, notice_at, notices, old_entry, open_day, posting, refusal, row, shares_for, total, each_named, IsNoticed, both_hold, Notice, Execution, position, Account, Cusip, Activity, next, Entry, Holding, Key, notice_of, accounts_in, both, each, has_position, is_movement, is_wanted, named, place, places, standing, IsWhole, total-append, whole-post, Command, split_entry, cond_both, inl, inr, cases_Bool}
 use Rattle.std.proofs.lemmas.List.Concat.{flat_map_single}
 use Rattle.cns_terms.proofs.Elsewhere.{idle_at}
 use Rattle.cns_terms.specs.Refusals.{rules}
 use Rattle.cns_terms.specs.declared.command.Movement.{Movement}
 use Rattle.cns_history.specs.declared.watched.Whose.TheVariants.{All}
 use Rattle.cns_account.proofs.Grid.{is_at, once, one_issue, one_number, two_accounts, two_issues}
-
--- ---- what stands at a place
 
 -- where a POSITION is not refused
 shown_where : (opening : Day) (J : Journal) (k : Key) → is_none (refusal opening J (Command.Position k)) ≡ (is_account J k.account && is_listed J k.issue)
@@ -22,16 +20,12 @@ pub record Stands (J : Journal) (k : Key) (h : Holding) : Type 0 where
 
 -- nothing, where a POSITION is refused
 pub stands : (S : State) (k : Key) → IsSound (journal_of S) → Stands (journal_of S) k (standing S k)
-stands S k sound = by _ (is_none (refusal S.opening (journal_of S) (Command.Position k))) refl refl refl refl
-  where
-    by : (z : Holding) (b : Bool) → z.now ≡ pos 0 → z.contract ≡ pos 0 → z.opening ≡ pos 0 → is_none (refusal S.opening (journal_of S) (Command.Position k)) ≡ b → Stands (journal_of S) k (unwrap_or (cond b (Some (holding (journal_of S) k.account k.issue)) None) z)
-    by z true now cents found is = record { shares = refl; cents = refl; found = refl }
-    by z false now cents found is =
-        let out = (λ i. is_account (journal_of S) k.account && list_any (λ c. nat_list_eq_equiv.symm k.issue c i) (issues (journal_of S))) ∙ sym (shown_where S.opening (journal_of S) k) ∙ is in
-        let idle = idle_parts (row S.opening (journal_of S) k.account k.issue) (idle_at S.opening (journal_of S) k sound out) in
-        record { shares = now ∙ sym idle.1; cents = cents ∙ sym idle.2; found = found ∙ sym idle.0 }
-
--- ---- after an activity
+stands S k sound = elim (cases_Bool (is_none (refusal S.opening (journal_of S) (Command.Position k)))) [
+  | inl shown ↦ rw shown (record { shares = refl; cents = refl; found = refl })
+  | inr hidden ↦
+      let out = (λ i. is_account (journal_of S) k.account && list_any (λ c. nat_list_eq_equiv.symm k.issue c i) (issues (journal_of S))) ∙ sym (shown_where S.opening (journal_of S) k) ∙ hidden in
+      let idle = idle_parts (row S.opening (journal_of S) k.account k.issue) (idle_at S.opening (journal_of S) k sound out) in rw hidden (record { shares = sym idle.1; cents = sym idle.2; found = sym idle.0 })
+]
 
 -- a state with an activity more
 abbrev pub more : State → Activity → State
@@ -39,22 +33,14 @@ more S x = record { opening = S.opening; accepted = x ∷ S.accepted }
 
 -- what a command leads to: the state stays, or has an activity more
 pub at_next : (P : State → Type 0) (S : State) (x : Activity) → P S → (NoneHolds (rules S.opening (journal_of S) x) → P (more S x)) → P (next S (Command.Activity x))
-at_next P S x stays goes = by (is_none (refusal S.opening (journal_of S) (Command.Activity x))) refl
-  where
-    by : (b : Bool) → is_none (refusal S.opening (journal_of S) (Command.Activity x)) ≡ b → P (record { opening = S.opening; accepted = cond b (x ∷ S.accepted) S.accepted })
-    by true none = goes none
-    by false refused = stays
+at_next P S x stays goes = cond_both (is_none (refusal S.opening (journal_of S) (Command.Activity x))) (x ∷ S.accepted) S.accepted (λ L. P (record { opening = S.opening; accepted = L })) goes (λ refused. stays)
 
--- what its entries are
 abbrev pub entered : State → Activity → List Entry
 entered S x = entries S.opening (journal_of S) x
 
 -- what it adds to what stands at a place
-pub record Adds (S : State) (x : Activity) (k : Key) : Type 0 where
-  pub shares : (standing (more S x) k).now ≡ total (shares_for k.account k.issue) (entered S x) +ℤ (standing S k).now
-  pub cents : (standing (more S x) k).contract ≡ total (cents_for k.account k.issue) (entered S x) +ℤ (standing S k).contract
-
-pub adds : (S : State) (x : Activity) (k : Key) → IsWhole S.opening (journal_of S) → NoneHolds (rules S.opening (journal_of S) x) → is_close x ≡ false → Adds S x k
+pub adds : (S : State) (x : Activity) (k : Key) → IsWhole S.opening (journal_of S) → NoneHolds (rules S.opening (journal_of S) x) → is_close x ≡ false
+    → ((standing (more S x) k).now ≡ total (shares_for k.account k.issue) (entered S x) +ℤ (standing S k).now) × ((standing (more S x) k).contract ≡ total (cents_for k.account k.issue) (entered S x) +ℤ (standing S k).contract)
 adds S x k whole none ends =
     let s = stands S k whole.now in
     let t = stands (more S x) k (whole-post S.opening (journal_of S) x whole none).now in
@@ -75,8 +61,6 @@ same_elsewhere S x k whole none ends out = grind (arith, ints, adds S x k whole 
 same_nowhere : (S : State) (x : Activity) (k : Key) → is_account (journal_of S) k.account ≡ false → is_account (journal_of (more S x)) k.account ≡ false → IsSame k S (more S x)
 same_nowhere S x k h1 h2 = grind arith
 
--- ---- the places that it names
-
 -- a place is one of some places, once, or nothing was booked there
 pub record IsNamed (k : Key) (S T : State) (ks : List Key) : Type 0 where
   pub there : Bool
@@ -92,12 +76,7 @@ both_named : (S : State) (x : Activity) (m : Movement) (k : Key) → IsWhole S.o
     → (((eqb corporation k.account || eqb m.member k.account) && bytes_eq m.issue k.issue) ≡ false → AreElsewhere k (entered S x)) → IsNamed k S (more S x) (both All corporation m.member m.issue)
 both_named S x m k whole none ends elsewhere =
     let bs = named corporation m.member in
-    record {
-      there = (eqb corporation k.account || eqb m.member k.account) && bytes_eq m.issue k.issue;
-      once = ap (filter (is_at k)) (ap (map (λ a. place a m.issue)) (all_wanted bs) ∙ sym (flat_map_single (λ a. place a m.issue) bs))
-          ∙ once k (m.issue ∷ []) bs _ _ (two_accounts corporation m.member k.account) (one_issue m.issue k.issue);
-      others = λ out. same_elsewhere S x k whole none ends (elsewhere out);
-    }
+    record { there = (eqb corporation k.account || eqb m.member k.account) && bytes_eq m.issue k.issue; once = rw (all_wanted bs, ← flat_map_single (λ a. place a m.issue) bs) (once k (m.issue ∷ []) bs _ _ (two_accounts corporation m.member k.account) (one_issue m.issue k.issue)); others = λ out. same_elsewhere S x k whole none ends (elsewhere out) }
 
 -- the accounts that have a position
 shown_there : (S : State) (c : Cusip) (a : Account) → has_position S c a ≡ (is_account (journal_of S) a && is_listed (journal_of S) c)
@@ -111,11 +90,9 @@ each_named_once : (S : State) (x : Activity) (c : Cusip) (cs : List Cusip) (k : 
     → (is_account (journal_of S) k.account ≡ false → is_account (journal_of (more S x)) k.account ≡ false)
     → filter (λ d. bytes_eq d k.issue) (c ∷ cs) ≡ cond u (k.issue ∷ []) [] → (u ≡ false → AreElsewhere k (entered S x))
     → IsNamed k S (more S x) (flat_map (λ a. map (place a) (c ∷ cs)) (accounts_in S c))
-each_named_once S x c cs k u few whole none ends listed stays is elsewhere = record {
-  there = has_position S c k.account && u;
-  once = once k (c ∷ cs) (accounts_in S c) _ u (one_number (has_position S c) k.account 10000 few) is;
-  others = either_same k S (more S x) _ _ _ u (shown_there S c k.account) listed (λ h. same_nowhere S x k h (stays h)) (λ h. same_elsewhere S x k whole none ends (elsewhere h));
-}
+each_named_once S x c cs k u few whole none ends listed stays is elsewhere =
+    let others = either_same k S (more S x) _ _ _ u (shown_there S c k.account) listed (λ h. same_nowhere S x k h (stays h)) (λ h. same_elsewhere S x k whole none ends (elsewhere h)) in
+    record { there = has_position S c k.account && u; once = once k (c ∷ cs) (accounts_in S c) _ u (one_number (has_position S c) k.account 10000 few) is; others = others }
 
 -- entries in another issue
 elsewhere_all : {X : Type 0} (k : Key) (f : X → Entry) (xs : List X) → ((x : X) → bytes_eq (f x).issue k.issue ≡ false) → AreElsewhere k (map f xs)
@@ -148,11 +125,7 @@ names S (Activity.Execute x) k few whole none is = by (notice_at (journal_of S) 
   where
     by : (o : Option Notice) → notice_at (journal_of S) x.notice ≡ o → IfSome o (IsNoticed (journal_of S))
         → IsNamed k S (more S (Activity.Execute x)) (each All S (option_to_list (option_map (λ n. n.issue) (option_map (notice_of (journal_of S)) o))))
-    by None is known = record {
-      there = false;
-      once = refl;
-      others = λ h. same_elsewhere S (Activity.Execute x) k whole none refl (λ v. rw (is) refl);
-    }
+    by None is known = record { there = false; once = refl; others = λ h. same_elsewhere S (Activity.Execute x) k whole none refl (λ v. rw (is) refl) }
     by (Some n) is known =
         each_named_once S (Activity.Execute x) n.given.issue [] k _ few whole none refl known.1 (λ h. h) (one_issue n.given.issue k.issue)
         (λ other v. rw (is) (in_execution k (journal_of S) x n other v))

@@ -1,6 +1,6 @@
 -- What a day's records booked at a place.
 -- For `moves_add_up` of laws.rt.
-use Rattle.cns_account.proofs.Common.{◌≡◌, ◌∙◌, sym, refl, subst, ℕ, ◌+◌, ◌*◌, ◌<◌, ◌≤◌, ℤ, pos, ◌+ℤ◌, ◌-ℤ◌, Bool, true, false, cond, List, [], ◌∷◌, ◌++◌, append-nil, append_assoc, blank_log, filter, length, map, reverse, is_none, option_and_then, option_map, option_to_list, Option, Some, None, Ok, Err, arith, int_lt, sum_by, sum_by-cons, unsigned_abs, Width, w64, w128, AllByRecursion, fold, fold-append, option_map_or, ints, nat_tests, Day, IsReached, IsWhole, NoneHolds, State, added-more, all_fail, answer, date, day_number, execution_cents, fill_entry, is_close, journal_of, limited, magnitude, money_limit, next, open_day, pend_of, refusal, same_key, shares_limit, shares_of_fills, total, total_small, trade_entries, trades, traded, activity_reply, Activity, Command, Notice, Pend, Trade, Entry, Holding, Key, Reply, Log, state_of, Line, log_after_line, bookings_at, is_movement, is_open, lines_of, standing, Booking, HistoryLine, IsLineInRange, accepted_of, date_told, day_closed, is_line_at, is_within, last_of, unmoved, with_line, with_taken, Moves, ap, is_nothing, IsExecutable, execution_entries, Execution, state_after_line, opened, Watched, Whose}
+use Rattle.cns_account.proofs.Common.{◌≡◌, ◌∙◌, sym, refl, subst, ℕ, ◌+◌, ◌*◌, ◌<◌, ◌≤◌, ℤ, pos, ◌+ℤ◌, ◌-ℤ◌, Bool, true, false, cond, List, [], ◌∷◌, ◌++◌, append-nil, append_assoc, blank_log, filter, length, map, reverse, option_and_then, option_map, option_to_list, Option, Some, None, Ok, Err, arith, int_lt, sum_by, sum_by-cons, unsigned_abs, Width, w64, w128, AllByRecursion, fold, fold-append, option_map_or, ints, nat_tests, Day, IsReached, IsWhole, NoneHolds, State, added-more, all_fail, answer, date, day_number, execution_cents, fill_entry, is_close, journal_of, limited, magnitude, money_limit, next, open_day, pend_of, same_key, shares_limit, shares_of_fills, total, total_small, trade_entries, trades, traded, Activity, Command, Notice, Pend, Trade, Entry, Holding, Key, Reply, Log, state_of, Line, log_after_line, bookings_at, is_movement, is_open, lines_of, standing, Booking, HistoryLine, IsLineInRange, accepted_of, date_told, day_closed, is_line_at, is_within, last_of, unmoved, with_line, with_taken, Moves, ap, is_nothing, IsExecutable, execution_entries, Execution, state_after_line, opened, Watched, Whose}
 use Rattle.cns_terms.proofs.Facts.{bytes_refl, later}
 use Rattle.cns_terms.proofs.Reached.{reached-from}
 use Rattle.cns_terms.specs.Refusals.{rules}
@@ -13,8 +13,6 @@ use Rattle.cns_account.proofs.Summed.{Comes, IsPicked, cause_more, entry_at, is_
 use Rattle.cns_feed.specs.Replay.{log_after}
 use Rattle.cns_history.specs.Lines.{history}
 use Rattle.cns_account.specs.Laws.{closes}
-
--- ---- shares or cents
 
 -- of an execution the shares, twice: the originator's and those of the fills
 fill_shares : (n : Notice) (fs : List Fill) → magnitude (λ (e : Entry). e.shares) (map (fill_entry n) fs) ≡ sum_by (λ f. f.shares) fs
@@ -45,12 +43,10 @@ cents_named S (Activity.Execute x) range none is = executed_few (λ e. e.cents) 
 cents_named S x range none is = grind (arith, ints)
 
 pub shares_counted : (k : Key) → IsCounted k w64 (λ s c. s) (2 * shares_limit)
-shares_counted k = record { picked = grind arith; less = λ a b s t. refl; held = λ S x whole none ends. (adds S x k whole none ends).shares; named = shares_named; traded = λ t range. omega (arith, ints, range.1) }
+shares_counted k = record { picked = grind arith; less = λ a b s t. refl; held = λ S x whole none ends. (adds S x k whole none ends).0; named = shares_named; traded = λ t range. omega (arith, ints, range.1) }
 
 pub cents_counted : (k : Key) → IsCounted k w128 (λ s c. c) (2 * money_limit)
-cents_counted k = record { picked = grind arith; less = λ a b s t. refl; held = λ S x whole none ends. (adds S x k whole none ends).cents; named = cents_named; traded = λ t range. omega (arith, ints, range.0) }
-
--- ---- one activity more
+cents_counted k = record { picked = grind arith; less = λ a b s t. refl; held = λ S x whole none ends. (adds S x k whole none ends).1; named = cents_named; traded = λ t range. omega (arith, ints, range.0) }
 
 -- all trades but one that is new stay
 trades_more : (v : Pend → ℤ) (S : State) (x : Activity) → total v (trades (journal_of (more S x))) ≡ option_map_or (λ t. v (pend_of t)) (traded x) (pos 0) +ℤ total v (trades (journal_of S))
@@ -77,11 +73,8 @@ pub record IsClose (S : State) (l : Line) (d : Day) : Type 0 where
   pub none : NoneHolds (rules S.opening (journal_of S) (Activity.Close next))
   pub date : d ≡ date S.opening (journal_of S)
 
-closing_reply : (S : State) (x : Activity) (d : Day) → is_none (refusal S.opening (journal_of S) (Command.Activity x)) ≡ true → date_told (activity_reply S.opening (journal_of S) x) ≡ Some d → IsClose S (Ok (Command.Activity x)) d
-closing_reply S x d h1 h2 = grind arith
-
 pub closing_line : (S : State) (l : Line) (d : Day) → day_closed S l ≡ Some d → IsClose S l d
-closing_line S l d h1 = grind (arith, closing_reply)
+closing_line S l d h1 = grind arith
 
 pub state_line : (b : Log) (l : Line) → state_of (log_after_line b l) ≡ state_after_line (state_of b) l
 state_line b l = grind arith
@@ -182,8 +175,6 @@ module _ {k : Key} {w : Width} {pick : ℤ → ℤ → ℤ} {c : ℕ} (low : k.a
         let after = later (day_number e) (day_number (date S.opening (journal_of S))) (all_fail (rules S.opening (journal_of S) (Activity.Close e)) none).0 in
         record { seen = t.seen; after = after; late = λ later. t.late (grind (arith, ints)); sum = λ today. grind (arith, ints, close_settles f S.opening (journal_of S) e, t.late); comes = t.comes }
 
-    -- ---- the history
-
     module _ (last : Option Day) where
       -- a log's state is within its limits, and its trades that settle come to a number
       pub record Kept (b : Log) (n t : ℕ) : Type 0 where
@@ -201,13 +192,8 @@ module _ {k : Key} {w : Width} {pick : ℤ → ℤ → ℤ} {c : ℕ} (low : k.a
 
       pub kept_more : (b : Log) (n t : ℕ) (cmd : Command) → IsLineInRange (Ok cmd) → Kept b n t → Kept (log_after_line b (Ok cmd)) (n + 1) (t + size_taken cmd (answer (state_of b) cmd))
       kept_more b n t cmd range o =
-          let S = state_of b in
-          record {
-            reached = reached-from S (cmd ∷ []) (range.0, tt) o.reached;
-            count = let e = o.count in omega arith;
-            accepted = let e = o.accepted in grind arith;
-            taken = rw (trade_taken f last d S cmd) (taken_last counted.picked k last d b.history _ _ t _ o.taken (omega arith));
-          }
+          let taken = taken_last counted.picked k last d b.history _ _ t _ o.taken (omega arith) in
+          record { reached = reached-from (state_of b) (cmd ∷ []) (range.0, tt) o.reached; count = omega (arith, o.count); accepted = grind (arith, o.accepted); taken = rw (trade_taken f last d (state_of b) cmd) taken }
 
       -- both, and how far they can take the position
       pub record Open (before : Option Day) (b : Log) (ls : List HistoryLine) (n : ℕ) : Type 0 where
@@ -219,11 +205,9 @@ module _ {k : Key} {w : Width} {pick : ℤ → ℤ → ℤ} {c : ℕ} (low : k.a
 
       pub at_first : (opening : Day) → Open None (blank_log opening) [] 0
       at_first opening =
-          let kept : Kept (blank_log opening) 0 0 = record { reached = tt; count = omega arith; accepted = omega arith; taken = none_moved counted.picked } in
           let told : Told None (opened opening) [] 0 = record { seen = pos 0; after = refl; late = λ h. refl; sum = λ h. refl; comes = λ m v n come. same counted.picked m v _ n _ come (omega (arith, ints)) (omega arith) } in
-          record { t = 0; u = 0; kept = kept; told = told; few = omega arith }
+          record { t = 0; u = 0; kept = record { reached = tt; count = omega arith; accepted = omega arith; taken = none_moved counted.picked }; told = told; few = omega arith }
 
-      -- a record more
       open_more : (before : Option Day) (b : Log) (ls : List HistoryLine) (n : ℕ) (l : Line) → IsLineInRange l → Open before b ls n
           → Open (last_of before (option_to_list (option_map (λ e. (n + 1, e)) (day_closed (state_of b) l)))) (log_after_line b l) (ls ++ lines_of (Watched.Movements d) (n + 1) (state_of b) l) (n + 1)
       open_more before b ls n (Err e) range o = grind (arith, append-nil)
@@ -249,10 +233,5 @@ module _ {k : Key} {w : Width} {pick : ℤ → ℤ → ℤ} {c : ℕ} (low : k.a
       all_records [] before b ls n range o = grind (arith, append-nil ls)
       all_records (l ∷ front) before b ls n range o =
           let more : n + length (l ∷ front) ≡ n + 1 + length front = omega arith in
-          rw (
-            ← state_line b l,
-            last_of-append before (option_to_list (option_map (λ e. (n + 1, e)) (day_closed (state_of b) l))) (closes (n + 1) (state_of (log_after_line b l)) front),
-            ← append_assoc ls (lines_of (Watched.Movements d) (n + 1) (state_of b) l) (history (Watched.Movements d) (n + 1) (state_of (log_after_line b l)) front),
-            more,
-          )
+          rw (← state_line b l, last_of-append before (option_to_list (option_map (λ e. (n + 1, e)) (day_closed (state_of b) l))) _, ← append_assoc ls (lines_of (Watched.Movements d) (n + 1) (state_of b) l), more)
           (all_records front _ _ _ (n + 1) range.1 (open_more before b ls n l range.0 o))

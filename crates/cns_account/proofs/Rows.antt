@@ -1,12 +1,9 @@
 -- The row of a place on the sheet of the last close, and its price.
 -- For `moves_add_up` of laws.rt.
-use Rattle.cns_account.proofs.Common.{◌≡◌, refl, List, [], ◌∷◌, flat_map, map, not, Some, arith, ◌≤◌, Day, Journal, State, accounts, date, each_append, equal, exact_keys, is_idle, issues, journal, journal_of, key_cmp, next, price, price_limit, row, rows_of, sheet_rows, Key, Row, Cusip, Activity, row_at, row_on, Bool, ap, cond, false, is_eq, sym, true, ◌∙◌, filter}
+use Rattle.cns_account.proofs.Common.{◌≡◌, List, [], ◌∷◌, flat_map, map, not, Some, arith, ◌≤◌, Day, Journal, State, accounts, date, each_append, equal, exact_keys, is_idle, issues, journal, journal_of, key_cmp, next, price, price_limit, row, rows_of, sheet_rows, Key, Row, Cusip, Activity, row_at, row_on, ap, is_eq, sym, ◌∙◌, filter, cond_both}
 use Rattle.cns_terms.proofs.Common.{Account, AllByRecursion, IsReached}
 use Rattle.cns_sheets.specs.Build.{key_of}
 use Rattle.cns_account.proofs.Named.{more}
-
-each_kept : (P : Row → Type 0) (b : Bool) (r : Row) (rs : List Row) → P r → AllByRecursion P rs → AllByRecursion P (cond (not b) (r ∷ rs) rs)
-each_kept P b r rs p ps = grind arith
 
 module _ (opening : Day) (K : Journal) where
   -- a row is that of its place
@@ -15,7 +12,7 @@ module _ (opening : Day) (K : Journal) where
 
   placed_of : (a : Account) (cs : List Cusip) → AllByRecursion IsPlaced (filter (λ r. not (is_idle r)) (map (row opening K a) cs))
   placed_of a [] = tt
-  placed_of a (c ∷ cs) = each_kept IsPlaced (is_idle (row opening K a c)) (row opening K a c) _ refl (placed_of a cs)
+  placed_of a (c ∷ cs) = grind (arith, placed_of a cs)
 
   placed_all : (bs : List Account) → AllByRecursion IsPlaced (flat_map (rows_of opening K) bs)
   placed_all [] = tt
@@ -23,11 +20,9 @@ module _ (opening : Day) (K : Journal) where
 
   found_row : (rows : List Row) (k : Key) (r : Row) → AllByRecursion IsPlaced rows → row_at rows k ≡ Some r → r ≡ row opening K k.account k.issue
   found_row [] k r all is = cc
-  found_row (x ∷ rows) k r all is = by (is_eq (key_cmp k (key_of x))) refl (found_row rows k r all.1) is
-    where
-      by : (t : Bool) → is_eq (key_cmp k (key_of x)) ≡ t → (row_at rows k ≡ Some r → r ≡ row opening K k.account k.issue) → cond t (Some x) (row_at rows k) ≡ Some r → r ≡ row opening K k.account k.issue
-      by true same rest is = let e : r ≡ x = cc in e ∙ all.0 ∙ ap (λ (q : Key). row opening K q.account q.issue) (sym (exact_keys k (key_of x) (equal _ same)))
-      by false other rest is = rest is
+  found_row (x ∷ rows) k r all is =
+      cond_both (is_eq (key_cmp k (key_of x))) (Some x) (row_at rows k) (λ o. o ≡ Some r → r ≡ row opening K k.account k.issue)
+      (λ same e. let first : r ≡ x = cc in first ∙ all.0 ∙ ap (λ (q : Key). row opening K q.account q.issue) (sym (exact_keys k (key_of x) (equal _ same)))) (λ other. found_row rows k r all.1) is
 
   -- the row that is found at a place
   pub row_is : (k : Key) (r : Row) → row_at (sheet_rows opening K) k ≡ Some r → r ≡ row opening K k.account k.issue

@@ -1,6 +1,6 @@
 -- What moved a position, of all causes together.
 -- For `moves_add_up` of laws.rt.
-use Rattle.cns_account.proofs.Common.{◌≡◌, ℕ, ◌+◌, ◌^◌, ◌<◌, ◌≤◌, ℤ, pos, ◌+ℤ◌, ◌-ℤ◌, neg_ℤ, Bool, true, false, ◌&&◌, cond, eqb, Option, Some, None, arith, bytes_eq, unsigned_abs, FitsSigned, Width, int_wrap, option_map_or, cases_lt, SFits-int_wrap, fits_signed_from_abs, int_wrap-add_right, int_wrap-add_same, int_wrap_fits, ints, hbits, Day, magnitude, pend_of, same_key, total, trade_entries, Activity, Trade, Taken, Entry, Key, is_movement, Booking, of_causes, of_cause, settled_by, unmoved, with_entry, with_more, with_taken, with_trade, Moved, Moves, List, [], reverse, ◌∷◌, fold-append, fold, reverse_onto, Command, buyer_entry, seller_entry}
+use Rattle.cns_account.proofs.Common.{◌≡◌, ℕ, ◌+◌, ◌^◌, ◌<◌, ◌≤◌, ℤ, pos, ◌+ℤ◌, ◌-ℤ◌, neg_ℤ, Bool, true, false, ◌&&◌, cond, eqb, Option, Some, None, arith, bytes_eq, unsigned_abs, FitsSigned, Width, int_wrap, option_map_or, cases_lt, SFits-int_wrap, fits_signed_from_abs, int_wrap-add_right, int_wrap-add_same, int_wrap_fits, ints, hbits, Day, magnitude, pend_of, same_key, total, trade_entries, Activity, Trade, Taken, Entry, Key, is_movement, Booking, of_causes, of_cause, settled_by, unmoved, with_entry, with_more, with_taken, with_trade, Moved, Moves, List, [], reverse, ◌∷◌, fold-append, fold, reverse_onto, Command, buyer_entry, seller_entry, trades}
 
 -- whether an activity moves by a number that a command names
 abbrev pub is_named : Activity → Bool
@@ -19,8 +19,6 @@ sum_more w x y d old new v is are same =
     let back : (old -ℤ x) +ℤ (x +ℤ y) ≡ old +ℤ y = omega (arith, ints) in
     let all : new ≡ (old -ℤ x) +ℤ d = omega (arith, ints) in
     grind (arith, int_wrap-add_right, int_wrap-add_same)
-
--- ---- shares or cents
 
 -- those of what moved a position, as they are picked
 abbrev pub of_moved : (ℤ → ℤ → ℤ) → Moved → ℤ
@@ -64,11 +62,9 @@ module _ {w : Width} {pick : ℤ → ℤ → ℤ} (picked : IsPicked w pick) whe
   part_more m m' x a b v n u c all size fits = record { sum = sum_more w (of_moved pick x) (pick a b) (of_moved pick (with_more x a b)) _ _ v (picked.more x a b) all c.sum; few = omega (arith, size, c.few); fits = fits }
 
   entry_more : (k : Key) (m : Moves) (v : ℤ) (n : ℕ) (e : Entry) → Comes w pick m v n → Comes w pick (with_entry k m e) (v +ℤ entry_at pick k e) (n + unsigned_abs (of_entry pick e))
-  entry_more k m v n e c = rw (same_key (record { account = e.account; issue = e.issue }) k) (by (eqb e.account k.account && bytes_eq e.issue k.issue))
-    where
-      by : (b : Bool) → Comes w pick (cond b (record m { trades = with_more m.trades e.shares e.cents }) m) (v +ℤ cond b (of_entry pick e) (pos 0)) (n + unsigned_abs (of_entry pick e))
-      by true = part_more m (record m { trades = with_more m.trades e.shares e.cents }) m.trades e.shares e.cents v n _ c (omega (arith, ints)) (omega (arith, few_more m.trades e.shares e.cents)) c.fits
-      by false = same m v (v +ℤ pos 0) n (n + unsigned_abs (of_entry pick e)) c (omega (arith, ints)) (omega arith)
+  entry_more k m v n e c =
+      let more = part_more m (record m { trades = with_more m.trades e.shares e.cents }) m.trades e.shares e.cents v n (unsigned_abs (of_entry pick e)) c (omega (arith, ints)) (omega (arith, few_more m.trades e.shares e.cents)) c.fits in
+      rw (same_key (record { account = e.account; issue = e.issue }) k) (grind (arith, ints, more))
 
   -- a trade of the history, which has no more than some number
   pub taken_last : (k : Key) (before : Option Day) (day : Day) (H : List Taken) (t : Taken) (v : ℤ) (n few : ℕ) → Comes w pick (fold (with_taken before day k) unmoved (reverse H)) v n
@@ -78,7 +74,7 @@ module _ {w : Width} {pick : ℤ → ℤ → ℤ} (picked : IsPicked w pick) whe
     where
       by : (o : Option Trade) (m : Moves) → Comes w pick m v n → option_map_or (λ x. magnitude (of_entry pick) (trade_entries (pend_of x))) o 0 ≤ few
           → Comes w pick (option_map_or (with_trade k m) o m) (option_map_or (λ x. total (entry_at pick k) (trade_entries (pend_of x))) o (pos 0) +ℤ v) (n + few)
-      by None m c le = same m v (pos 0 +ℤ v) n (n + few) c (omega (arith, ints)) (omega arith)
+      by None m c le = grind (arith, ints)
       by (Some x) m c le = same _ _ (total (entry_at pick k) (trade_entries (pend_of x)) +ℤ v) _ (n + few) (entry_more k _ _ _ (seller_entry (pend_of x)) (entry_more k m v n (buyer_entry (pend_of x)) c)) (omega (arith, ints)) (omega arith)
 
   action_more : (m : Moves) (v : ℤ) (n : ℕ) (b : Booking) → Comes w pick m v n → Comes w pick (record m { actions = with_more m.actions b.shares b.cents }) (v +ℤ pick b.shares b.cents) (n + 0)
@@ -94,7 +90,6 @@ module _ {w : Width} {pick : ℤ → ℤ → ℤ} (picked : IsPicked w pick) whe
   cause_more m v n b (Activity.Exchange x) c = action_more m v n b c
   cause_more m v n b x c = same m v (v +ℤ pos 0) n (n + 0) c (omega (arith, ints)) (omega arith)
 
--- the sums are exact
 exact_all : (w : Width) (all acts others q : ℤ) → int_wrap w all ≡ int_wrap w q → FitsSigned w acts → all ≡ others +ℤ acts → unsigned_abs q + unsigned_abs others < 2 ^ hbits w → all ≡ q
 exact_all w all acts others q c fits sum small =
     let near : FitsSigned w (q -ℤ others) = fits_signed_from_abs w _ (omega (arith, ints)) in
