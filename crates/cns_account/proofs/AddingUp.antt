@@ -87,13 +87,12 @@ module _ (k : Key) (opening : Day) (ls : List Line) (cs : List (ℕ × Day)) (d 
   adds_up r short is =
       let s = came (shares_counted k) in
       let c = came (cents_counted k) in
-      let count = z.count in
-      let small = standing_small S k reached.0 (let e = reached.1 in omega arith) in
+      let small = standing_small S k reached.0 (omega (arith, reached.1, z.count)) in
       let stand = stands S k (limited S.opening S.accepted reached.0).whole.now in
       let money : unsigned_abs r.money ≤ amount_limit = rw (is, ← stand.cents) small.cents in
-      let shares = exact m (all_booked (entry_at (λ s c. s) k) (open_day (journal_of S))) _ s (omega (arith, ints, open_parts (entry_at (λ s c. s) k) (journal_of S), rw stand.shares at small.shares, rw stand.found at small.found)) in
+      let shares = exact m (all_booked (entry_at (λ s c. s) k) (open_day (journal_of S))) _ s (omega (arith, ints, z.count, open_parts (entry_at (λ s c. s) k) (journal_of S), rw stand.shares at small.shares, rw stand.found at small.found)) in
       let sum : r.opening +ℤ of_causes (λ x. x.shares) m ≡ r.closing = rw is (omega (arith, ints, shares, open_parts (entry_at (λ s c. s) k) (journal_of S))) in
-      let all : of_causes (λ x. x.cents) m ≡ r.money = rw is (exact m (all_booked (entry_at (λ s c. c) k) (open_day (journal_of S))) _ c (omega (arith, ints, rw is at money))) in
+      let all : of_causes (λ x. x.cents) m ≡ r.money = rw is (exact m (all_booked (entry_at (λ s c. c) k) (open_day (journal_of S))) _ c (omega (arith, ints, z.count, rw is at money))) in
       record { shares = sum; cents = all; mark = marked r m (rw is (price_few S.opening S.accepted k.issue reached.0)) (let few = s.few in let fits = s.fits in let less = c.few in grind (arith, ints)) (rw is refl) sum all }
 
 -- all entries of a short history are looked at
@@ -104,6 +103,5 @@ pub moves_add_up : MovesAddUp
 moves_add_up k opening ls cs d r low range short closed is =
     let z = split ls 0 (blank_log opening) cs d range (let none : length ls ≡ 0 + length ls = omega arith in closed ∙ ap (λ n. cs ++ (n, d) ∷ []) none) in
     let a = adds_up k opening ls cs d (omega arith) z r short (last_row (state_of (log_after (blank_log opening) z.front)) z.close.next k r (grind (arith, z.log, z.close.date, z.close.none, is))) in
-    let all = all_of (log_after_line (log_after (blank_log opening) z.front) (Ok (Command.Activity (Activity.Close z.close.next)))).history
-    (let n = (reached k opening ls cs d (omega arith) z).2 in let count = z.count in omega arith) in
+    let all = all_of (log_after_line (log_after (blank_log opening) z.front) (Ok (Command.Activity (Activity.Close z.close.next)))).history (omega (arith, (reached k opening ls cs d (omega arith) z).2, z.count)) in
     subst (AddUp r) (sym ((λ i. moved_at (last_of None cs) d (looked_at (z.log i).history) (z.told i) k) ∙ (λ i. moved_at (last_of None cs) d (all i) (history (Watched.Movements d) 0 (opened opening) z.front) k))) a

@@ -70,15 +70,11 @@ activity_line k d n S x few whole =
       | inr is ↦ rw is (grind arith)
     ])
 
--- what commands lead to stays whole
-pub whole_line : (S : State) (l : Line) → IsWhole S.opening (journal_of S) → IsWhole (state_after_line S l).opening (journal_of (state_after_line S l))
-whole_line S l h1 = grind (arith, whole-next)
-
 all_lines : (k : Key) (d : Day) (n : ℕ) (S : State) (ls : List Line) → k.account < 10000 → IsWhole S.opening (journal_of S)
     → filter (is_line_at k) (history (Watched.Movements d) n S ls) ≡ filter (is_moved d) (history (Watched.Place k) n S ls)
 unfolding history
 all_lines k d n S [] few whole = refl
-all_lines k d n S (l ∷ ls) few whole = grind (arith, filter-append, activity_line, all_lines k d (n + 1) (state_after_line S l) ls few (whole_line S l whole))
+all_lines k d n S (l ∷ ls) few whole = grind (arith, filter-append, activity_line, all_lines k d (n + 1) (state_after_line S l) ls few (grind (arith, whole-next, whole)))
 
 pub places_are_whole : PlacesAreWhole
 places_are_whole k opening ls d low = all_lines k d 0 (opened opening) ls (omega arith) whole_nil

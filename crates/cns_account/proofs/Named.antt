@@ -119,8 +119,7 @@ names S (Activity.Exchange x) k few whole none is =
     let hs = holders q (members (journal_of S)) in
     let fails = all_fail (rules S.opening (journal_of S) (Activity.Exchange x)) none in
     each_named_once S (Activity.Exchange x) x.old (x.successor ∷ []) k _ few whole none refl (both_hold _ _ fails.0).0 (λ h. h) (two_issues x.old x.successor k.issue fails.1.1.0)
-    (λ h. let off = neither (bytes_eq x.old k.issue) (bytes_eq x.successor k.issue) h in
-    λ v. rw (total-append _ (against_corporation x.old (map (old_entry x q) hs)) (against_corporation x.successor (map (new_entry x q) hs)), against_others k x.old (old_entry x q) hs (λ a. refl) off.0 v, against_others k x.successor (new_entry x q) hs (λ a. refl) off.1 v) refl)
+    (λ h v. let off = neither (bytes_eq x.old k.issue) (bytes_eq x.successor k.issue) h in rw (total-append _ (against_corporation x.old (map (old_entry x q) hs)) (against_corporation x.successor (map (new_entry x q) hs)), against_others k x.old (old_entry x q) hs (λ a. refl) off.0 v, against_others k x.successor (new_entry x q) hs (λ a. refl) off.1 v) refl)
 names S (Activity.Execute x) k few whole none is = by (notice_at (journal_of S) x.notice) refl (each_named (IsNoticed (journal_of S)) (λ n. n.number == x.notice) (notices (journal_of S)) whole.now.noticed)
   where
     by : (o : Option Notice) → notice_at (journal_of S) x.notice ≡ o → IfSome o (IsNoticed (journal_of S))

@@ -1,6 +1,6 @@
 -- What a day's records booked at a place.
 -- For `moves_add_up` of laws.rt.
-use Rattle.cns_account.proofs.Common.{◌≡◌, ◌∙◌, sym, refl, subst, ℕ, ◌+◌, ◌*◌, ◌<◌, ◌≤◌, ℤ, pos, ◌+ℤ◌, ◌-ℤ◌, Bool, true, false, cond, List, [], ◌∷◌, ◌++◌, append-nil, append_assoc, blank_log, filter, length, map, reverse, option_and_then, option_map, option_to_list, Option, Some, None, Ok, Err, arith, int_lt, sum_by, sum_by-cons, unsigned_abs, Width, w64, w128, AllByRecursion, fold, fold-append, option_map_or, ints, nat_tests, Day, IsReached, IsWhole, NoneHolds, State, added-more, all_fail, answer, date, day_number, execution_cents, fill_entry, is_close, journal_of, limited, magnitude, money_limit, next, open_day, pend_of, same_key, shares_limit, shares_of_fills, total, total_small, trade_entries, trades, traded, Activity, Command, Notice, Pend, Trade, Entry, Holding, Key, Reply, Log, state_of, Line, log_after_line, bookings_at, is_movement, is_open, lines_of, standing, Booking, HistoryLine, IsLineInRange, accepted_of, date_told, day_closed, is_line_at, is_within, last_of, unmoved, with_line, with_taken, Moves, ap, is_nothing, IsExecutable, execution_entries, Execution, state_after_line, opened, Watched, Whose}
+use Rattle.cns_account.proofs.Common.{◌≡◌, ◌∙◌, sym, refl, subst, ℕ, ◌+◌, ◌*◌, ◌<◌, ◌≤◌, ℤ, pos, ◌+ℤ◌, ◌-ℤ◌, Bool, true, false, cond, List, [], ◌∷◌, ◌++◌, append-nil, append_assoc, blank_log, filter, length, map, reverse, option_and_then, option_map, option_to_list, Option, Some, None, Ok, Err, arith, int_lt, sum_by, sum_by-cons, unsigned_abs, Width, w64, w128, AllByRecursion, fold, fold-append, option_map_or, ints, nat_tests, Day, IsReached, IsWhole, NoneHolds, State, added-more, all_fail, answer, date, day_number, execution_cents, fill_entry, is_close, journal_of, limited, magnitude, money_limit, next, open_day, pend_of, same_key, shares_limit, shares_of_fills, total, total_small, trade_entries, trades, traded, Activity, Command, Notice, Pend, Trade, Entry, Holding, Key, Reply, Log, state_of, Line, log_after_line, bookings_at, is_movement, is_open, lines_of, standing, Booking, HistoryLine, IsLineInRange, accepted_of, date_told, day_closed, is_line_at, is_within, last_of, unmoved, with_line, with_taken, Moves, ap, is_nothing, state_after_line, opened, Watched, Whose}
 use Rattle.cns_terms.proofs.Facts.{bytes_refl, later}
 use Rattle.cns_terms.proofs.Reached.{reached-from}
 use Rattle.cns_terms.specs.Refusals.{rules}
@@ -9,7 +9,7 @@ use Rattle.cns_terms.specs.declared.refusal.Refusal.{Refusal}
 use Rattle.cns_account.proofs.AtPlaces.{movement_at}
 use Rattle.cns_account.proofs.Ledger.{IsAfter, all_booked, close_settles, settles, trade_settles}
 use Rattle.cns_account.proofs.Named.{at_next, adds, entered, more}
-use Rattle.cns_account.proofs.Summed.{Comes, IsPicked, cause_more, entry_at, is_named, none_moved, of_entry, same, taken_last}
+use Rattle.cns_account.proofs.Summed.{Comes, IsPicked, cause_more, entry_at, is_named, of_entry, same, taken_last}
 use Rattle.cns_feed.specs.Replay.{log_after}
 use Rattle.cns_history.specs.Lines.{history}
 use Rattle.cns_account.specs.Laws.{closes}
@@ -34,12 +34,8 @@ pub record IsCounted (k : Key) (w : Width) (pick : ℤ → ℤ → ℤ) (c : ℕ
 shares_named : (S : State) (x : Activity) → IsLineInRange (Ok (Command.Activity x)) → NoneHolds (rules S.opening (journal_of S) x) → is_named x ≡ true → magnitude (λ e. e.shares) (entered S x) ≤ 2 * shares_limit
 shares_named S x range none is = grind (arith, shares_of_fills, fill_shares)
 
-executed_few : (ent : Entry → ℤ) (c : ℕ) (S : State) (x : Execution) → ((n : Notice) → IsExecutable (journal_of S) x n → magnitude ent (execution_entries (journal_of S) x n) ≤ c)
-    → NoneHolds (rules S.opening (journal_of S) (Activity.Execute x)) → magnitude ent (entered S (Activity.Execute x)) ≤ c
-executed_few ent c S x h1 h2 = grind arith
-
 cents_named : (S : State) (x : Activity) → IsLineInRange (Ok (Command.Activity x)) → NoneHolds (rules S.opening (journal_of S) x) → is_named x ≡ true → magnitude (λ e. e.cents) (entered S x) ≤ 2 * money_limit
-cents_named S (Activity.Execute x) range none is = executed_few (λ e. e.cents) (2 * money_limit) S x (λ n ready. let e = execution_cents (journal_of S) x n range.0.0 ready in omega (arith, e, range.0.2)) none
+cents_named S (Activity.Execute x) range none is = grind (arith, execution_cents (journal_of S) x, range.0.0, range.0.2)
 cents_named S x range none is = grind (arith, ints)
 
 pub shares_counted : (k : Key) → IsCounted k w64 (λ s c. s) (2 * shares_limit)
@@ -142,11 +138,9 @@ module _ {k : Key} {w : Width} {pick : ℤ → ℤ → ℤ} {c : ℕ} (low : k.a
         at_next (λ T. (date T.opening (journal_of T) ≡ D) × (left before D T ≡ left before D S +ℤ cond (is_movement (Command.Activity x)) (of_held pick (standing T k) -ℤ of_held pick (standing S k)) (pos 0))) S x
         (refl, left_same (is_movement (Command.Activity x)) (left before D S) (of_held pick (standing S k)))
         (λ none. let ends : is_close x ≡ false = grind arith in
-        let here = counted.held S x whole none ends in
-        let opens = ap (λ b. total f (entered S x) +ℤ all_booked f (cond b [] (open_day (journal_of S)))) ends in
         let told : cond (is_movement (Command.Activity x)) (of_held pick (standing (more S x) k) -ℤ of_held pick (standing S k)) (pos 0) ≡ cond (is_movement (Command.Activity x)) (total f (entered S x)) (pos 0) =
-        ap (λ z. cond (is_movement (Command.Activity x)) z (pos 0)) (omega (arith, ints, here)) in
-        (grind arith, omega (arith, ints, opens, books_parts f before S x none after ends, trades_more (settles f before D) S x, told)))
+        ap (λ z. cond (is_movement (Command.Activity x)) z (pos 0)) (omega (arith, ints, counted.held S x whole none ends)) in
+        (grind arith, omega (arith, ints, ap (λ b. total f (entered S x) +ℤ all_booked f (cond b [] (open_day (journal_of S)))) ends, books_parts f before S x none after ends, trades_more (settles f before D) S x, told)))
 
     told_activity : (before : Option Day) (j : ℕ) (S : State) (x : Activity) (ls : List HistoryLine) (u : ℕ) → IsWhole S.opening (journal_of S) → IsLineInRange (Ok (Command.Activity x)) → day_closed S (Ok (Command.Activity x)) ≡ None
         → Told before S ls u → Told before (next S (Command.Activity x)) (ls ++ lines_of (Watched.Movements d) j S (Ok (Command.Activity x))) (u + cond (is_movement (Command.Activity x)) c 0)
@@ -166,8 +160,7 @@ module _ {k : Key} {w : Width} {pick : ℤ → ℤ → ℤ} {c : ℕ} (low : k.a
             → Comes w pick (fold (with_line k) m (cond o (cond b (bookings_at Whose.All j S (Ok (Command.Activity x))) []) [])) (v +ℤ cond o (cond b (change S x) (pos 0)) (pos 0)) (n + cond b c 0)
         by true true is m v n come =
             rw (fold_kept k m (bookings_at Whose.All j S (Ok (Command.Activity x))), movement_at k j S x low whole is) (line_more m v (change S x) n _ _ come refl (counted.less _ _ _ _) (grind (arith, same_key, nat_tests, bytes_refl k.issue)) is (change_few S x whole range))
-        by false b is m v n come = same counted.picked m v _ n _ come (omega (arith, ints)) (omega arith)
-        by true false is m v n come = same counted.picked m v _ n _ come (omega (arith, ints)) (omega arith)
+        by _ _ is m v n come = same counted.picked m v _ n _ come (omega (arith, ints)) (omega arith)
 
     told_close : (before : Option Day) (S : State) (e : Day) (ls : List HistoryLine) (u : ℕ) → NoneHolds (rules S.opening (journal_of S) (Activity.Close e))
         → Told before S ls u → Told (Some (date S.opening (journal_of S))) (more S (Activity.Close e)) ls u
@@ -206,7 +199,7 @@ module _ {k : Key} {w : Width} {pick : ℤ → ℤ → ℤ} {c : ℕ} (low : k.a
       pub at_first : (opening : Day) → Open None (blank_log opening) [] 0
       at_first opening =
           let told : Told None (opened opening) [] 0 = record { seen = pos 0; after = refl; late = λ h. refl; sum = λ h. refl; comes = λ m v n come. same counted.picked m v _ n _ come (omega (arith, ints)) (omega arith) } in
-          record { t = 0; u = 0; kept = record { reached = tt; count = omega arith; accepted = omega arith; taken = none_moved counted.picked }; told = told; few = omega arith }
+          record { t = 0; u = 0; kept = record { reached = tt; count = omega arith; accepted = omega arith; taken = grind (arith, ints, counted.picked.none) }; told = told; few = omega arith }
 
       open_more : (before : Option Day) (b : Log) (ls : List HistoryLine) (n : ℕ) (l : Line) → IsLineInRange l → Open before b ls n
           → Open (last_of before (option_to_list (option_map (λ e. (n + 1, e)) (day_closed (state_of b) l)))) (log_after_line b l) (ls ++ lines_of (Watched.Movements d) (n + 1) (state_of b) l) (n + 1)
@@ -220,8 +213,7 @@ module _ {k : Key} {w : Width} {pick : ℤ → ℤ → ℤ} {c : ℕ} (low : k.a
           by : (e : Option Day) → day_closed (state_of b) (Ok (Command.Activity x)) ≡ e
               → Open (last_of before (option_to_list (option_map (λ e. (n + 1, e)) e))) (log_after_line b (Ok (Command.Activity x))) (ls ++ lines_of (Watched.Movements d) (n + 1) (state_of b) (Ok (Command.Activity x))) (n + 1)
           by None is =
-              let told = told_activity before (n + 1) (state_of b) x ls o.u (limited _ _ o.kept.reached).whole range is o.told in
-              record { t = _; u = _; kept = kept_more b n o.t (Command.Activity x) range o.kept; told = told; few = omega (arith, o.few, size_few (Command.Activity x) (answer (state_of b) (Command.Activity x)) range) }
+              record { t = _; u = _; kept = kept_more b n o.t (Command.Activity x) range o.kept; told = told_activity before (n + 1) (state_of b) x ls o.u (limited _ _ o.kept.reached).whole range is o.told; few = omega (arith, o.few, size_few (Command.Activity x) (answer (state_of b) (Command.Activity x)) range) }
           by (Some e) is =
               let z = closing_line (state_of b) (Ok (Command.Activity x)) e is in
               let told = told_close before (state_of b) z.next ls o.u z.none o.told in

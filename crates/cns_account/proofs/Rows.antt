@@ -1,7 +1,6 @@
 -- The row of a place on the sheet of the last close, and its price.
 -- For `moves_add_up` of laws.rt.
-use Rattle.cns_account.proofs.Common.{◌≡◌, List, [], ◌∷◌, flat_map, map, not, Some, arith, ◌≤◌, Day, Journal, State, accounts, date, each_append, equal, exact_keys, is_idle, issues, journal, journal_of, key_cmp, next, price, price_limit, row, rows_of, sheet_rows, Key, Row, Cusip, Activity, row_at, row_on, ap, is_eq, sym, ◌∙◌, filter, cond_both}
-use Rattle.cns_terms.proofs.Common.{Account, AllByRecursion, IsReached}
+use Rattle.cns_account.proofs.Common.{◌≡◌, List, [], ◌∷◌, flat_map, map, not, Some, arith, ◌≤◌, Day, Journal, State, accounts, date, each_append, equal, exact_keys, is_idle, issues, journal, journal_of, key_cmp, next, price, price_limit, row, rows_of, sheet_rows, Key, Row, Cusip, Activity, row_at, row_on, ap, is_eq, sym, ◌∙◌, filter, cond_both, AllByRecursion, Account, IsReached}
 use Rattle.cns_sheets.specs.Build.{key_of}
 use Rattle.cns_account.proofs.Named.{more}
 

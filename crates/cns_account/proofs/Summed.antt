@@ -50,9 +50,6 @@ module _ {w : Width} {pick : ℤ → ℤ → ℤ} (picked : IsPicked w pick) whe
   pub same : (m : Moves) (v v' : ℤ) (n n' : ℕ) → Comes w pick m v n → v ≡ v' → n ≤ n' → Comes w pick m v' n'
   same m v v' n n' c is le = grind arith
 
-  pub none_moved : Comes w pick unmoved (pos 0) 0
-  none_moved = grind (arith, ints, picked.none)
-
   few_more : (x : Moved) (a b : ℤ) → unsigned_abs (of_moved pick (with_more x a b)) ≤ unsigned_abs (of_moved pick x) + unsigned_abs (pick a b)
   few_more x a b = rw (picked.more x a b) (let e = wrap_few w (of_moved pick x +ℤ pick a b) in omega (arith, ints))
 
@@ -92,9 +89,7 @@ module _ {w : Width} {pick : ℤ → ℤ → ℤ} (picked : IsPicked w pick) whe
 
 exact_all : (w : Width) (all acts others q : ℤ) → int_wrap w all ≡ int_wrap w q → FitsSigned w acts → all ≡ others +ℤ acts → unsigned_abs q + unsigned_abs others < 2 ^ hbits w → all ≡ q
 exact_all w all acts others q c fits sum small =
-    let near : FitsSigned w (q -ℤ others) = fits_signed_from_abs w _ (omega (arith, ints)) in
-    let left : all +ℤ neg_ℤ others ≡ acts = omega (arith, ints) in
-    grind (arith, ints, int_wrap_fits w acts fits, int_wrap_fits w (q -ℤ others) near, int_wrap-add_same w all q (neg_ℤ others) c)
+    grind (arith, ints, int_wrap_fits w acts fits, int_wrap_fits w (q -ℤ others) (fits_signed_from_abs w _ (omega (arith, ints))), int_wrap-add_same w all q (neg_ℤ others) c)
 
 pub exact : {w : Width} {pick : ℤ → ℤ → ℤ} (m : Moves) (q : ℤ) (n : ℕ) → Comes w pick m q n → unsigned_abs q + n < 2 ^ hbits w → of_causes (of_moved pick) m ≡ q
 exact {w} {pick} m q n c small =
