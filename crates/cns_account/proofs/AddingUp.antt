@@ -1,6 +1,6 @@
 -- What moved a position adds up.
 -- For `moves_add_up` of laws.rt.
-use Rattle.cns_account.proofs.Common.{◌*◌, ◌≡◌, ◌∙◌, sym, ap, refl, ℕ, ◌+◌, ◌-◌, ◌^◌, ◌<◌, ◌≤◌, ℤ, ◌+ℤ◌, List, [], ◌∷◌, ◌++◌, length, option_map, option_to_list, reverse, Option, Some, None, Ok, arith, Pend, total, trades, next, Width, AllByRecursion, ints, take_all, Day, State, journal_of, length-reverse, open_day, opened, row, Key, Row, Log, state_of, Line, state_after_line, blank_log, log_after_line, IsLineInRange, IsReached, MovesAddUp, day_closed, last_of, of_causes, moved_at, Moves, subst, Taken, looked_at, answer, unsigned_abs, amount_limit, limited, Command, Activity, AddUp, Watched}
+use Rattle.cns_account.proofs.Common.{◌*◌, ◌≡◌, ◌∙◌, sym, ap, refl, ℕ, ◌+◌, ◌-◌, ◌^◌, ◌<◌, ◌≤◌, ℤ, ◌+ℤ◌, List, [], ◌∷◌, ◌++◌, length, option_map, option_to_list, reverse, Option, Some, None, Ok, arith, Pend, total, trades, next, Width, AllByRecursion, ints, take_all, Day, State, journal_of, length-reverse, open_day, opened, row, Key, Row, Log, state_of, Line, state_after_line, blank_log, log_after_line, IsLineInRange, IsReached, MovesAddUp, day_closed, last_of, of_causes, moved_at, Moves, subst, Taken, looked_at, answer, unsigned_abs, amount_limit, limited, Command, Activity, AddUp, Watched, ◌⊎◌, inl, inr, nil_from_length}
 use Rattle.cns_account.proofs.Ledger.{all_booked, open_parts, settles}
 use Rattle.cns_account.proofs.Marked.{marked}
 use Rattle.cns_account.proofs.Recorded.{IsClose, IsCounted, all_records, at_first, cents_counted, closing_line, kept_more, shares_counted, size_few, state_line}
@@ -23,37 +23,26 @@ pub record IsLast (n : ℕ) (b : Log) (ls : List Line) (cs : List (ℕ × Day)) 
   pub log : log_after b ls ≡ log_after_line (log_after b front) (Ok (Command.Activity (Activity.Close close.next)))
   pub told : history (Watched.Movements d) n (state_of b) ls ≡ history (Watched.Movements d) n (state_of b) front
 
-only_close : (n : ℕ) (b : Log) (l : Line) (ls : List Line) (e d : Day) (cs : List (ℕ × Day)) → day_closed (state_of b) l ≡ Some e → (n + 1, e) ∷ cs ≡ (n + length (l ∷ ls), d) ∷ [] → IsLast n b (l ∷ ls) [] d
-unfolding closes log_after history
-only_close n b l [] e d cs closed is =
-    let head : ◌≡◌ {A = ℕ × Day} (n + 1, e) (n + length (l ∷ []), d) = cc in
-    let z = closing_line (state_of b) l d (closed ∙ ap (λ (p : ℕ × Day). Some p.1) head) in
-    record { front = []; line = l; range = tt; count = omega arith; before = refl; close = z; log = grind (arith, z.line); told = grind (arith, z.line) }
-only_close n b l (x ∷ ls) e d cs closed is =
-    let head : ◌≡◌ {A = ℕ × Day} (n + 1, e) (n + length (l ∷ x ∷ ls), d) = cc in
-    absurd (omega (arith, ap (λ (p : ℕ × Day). p.0) head))
-
-more_before : (n : ℕ) (b : Log) (l : Line) (ls : List Line) (cs : List (ℕ × Day)) (d : Day) → IsLineInRange l → IsLast (n + 1) (log_after_line b l) ls cs d
-    → IsLast n b (l ∷ ls) (option_to_list (option_map (λ e. (n + 1, e)) (day_closed (state_of b) l)) ++ cs) d
-unfolding closes log_after history
-more_before n b l ls cs d range z =
-    record { front = l ∷ z.front; line = z.line; range = (range, z.range); count = omega (arith, z.count); before = grind (arith, z.before, state_line b l); close = z.close; log = z.log; told = grind (arith, z.told, state_line b l) }
+-- where the first of some closes stands apart, the last is that one, or is among the rest
+last_left : (o : Option Day) (n m : ℕ) (d : Day) (rest cs : List (ℕ × Day)) → option_to_list (option_map (λ e. (n, e)) o) ++ rest ≡ cs ++ (m, d) ∷ []
+    → ((o ≡ Some d) × (n ≡ m) × (cs ≡ []) × (rest ≡ [])) ⊎ ((ds : List (ℕ × Day)) × (option_to_list (option_map (λ e. (n, e)) o) ++ ds ≡ cs) × (rest ≡ ds ++ (m, d) ∷ []))
+last_left None n m d rest cs is = inr (cs, refl, is)
+last_left (Some e) n m d rest [] is = let head : ◌≡◌ {A = ℕ × Day} (n, e) (m, d) = cc in inl (ap (λ (p : ℕ × Day). Some p.1) head, ap (λ (p : ℕ × Day). p.0) head, refl, cc)
+last_left (Some e) n m d rest (c ∷ cs) is = inr (cs, cc, cc)
 
 split : (ls : List Line) (n : ℕ) (b : Log) (cs : List (ℕ × Day)) (d : Day) → AllByRecursion IsLineInRange ls → closes n (state_of b) ls ≡ cs ++ (n + length ls, d) ∷ [] → IsLast n b ls cs d
-unfolding closes
+unfolding closes log_after history
 split [] n b [] d range is = cc
 split [] n b (c ∷ cs) d range is = cc
-split (l ∷ ls) n b cs d range is = by cs (day_closed (state_of b) l) refl is (λ cs h. split ls (n + 1) (log_after_line b l) cs d range.1 h)
-  where
-    by : (cs : List (ℕ × Day)) (o : Option Day) → day_closed (state_of b) l ≡ o
-        → option_to_list (option_map (λ e. (n + 1, e)) o) ++ closes (n + 1) (state_after_line (state_of b) l) ls ≡ cs ++ (n + length (l ∷ ls), d) ∷ []
-        → ((cs : List (ℕ × Day)) → closes (n + 1) (state_of (log_after_line b l)) ls ≡ cs ++ (n + 1 + length ls, d) ∷ [] → IsLast (n + 1) (log_after_line b l) ls cs d) → IsLast n b (l ∷ ls) cs d
-    by cs None stay is rest = rw stay at (more_before n b l ls cs d range.0 (rest cs (rw (state_line b l) (is ∙ ap (λ m. cs ++ (m, d) ∷ []) (omega arith)))))
-    by [] (Some e) ends is rest = only_close n b l ls e d _ ends is
-    by (c ∷ cs) (Some e) ends is rest =
-        let head : (n + 1, e) ≡ c = cc in
-        let tail : closes (n + 1) (state_after_line (state_of b) l) ls ≡ cs ++ (n + length (l ∷ ls), d) ∷ [] = cc in
-        rw (ends, head) at (more_before n b l ls cs d range.0 (rest cs (rw (state_line b l) (tail ∙ ap (λ m. cs ++ (m, d) ∷ []) (omega arith)))))
+split (l ∷ ls) n b cs d range is = elim (last_left (day_closed (state_of b) l) (n + 1) (n + length (l ∷ ls)) d (closes (n + 1) (state_after_line (state_of b) l) ls) cs is) [
+  | inl h ↦
+      let z = closing_line (state_of b) l d h.0 in
+      let none : ls ≡ [] = nil_from_length ls (omega (arith, h.1)) in
+      rw (none, h.2) (record { front = []; line = l; range = tt; count = omega arith; before = refl; close = z; log = grind (arith, z.line); told = grind (arith, z.line) })
+  | inr h ↦
+      let z = split ls (n + 1) (log_after_line b l) h.0 d range.1 (rw (state_line b l) (h.2 ∙ ap (λ m. h.0 ++ (m, d) ∷ []) (omega arith))) in
+      rw (← h.1) (record { front = l ∷ z.front; line = z.line; range = (range.0, z.range); count = omega (arith, z.count); before = grind (arith, z.before, state_line b l); close = z.close; log = z.log; told = grind (arith, z.told, state_line b l) })
+]
 
 close_trades : (v : Pend → ℤ) (S : State) (e : Day) → total v (trades (journal_of (next S (Command.Activity (Activity.Close e))))) ≡ total v (trades (journal_of S))
 close_trades v S e = grind arith

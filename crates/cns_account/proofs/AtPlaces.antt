@@ -6,7 +6,6 @@ use Rattle.cns_account.proofs.Grid.{is_at}
 use Rattle.cns_account.proofs.Named.{at_next, IsSame, more, names}
 use Rattle.cns_history.specs.Lines.{history}
 
--- no movement is a close
 since_told : (n : ℕ) (S T : State) (x : Activity) (before : List _) → is_movement (Command.Activity x) ≡ true → bookings_since Whose.All n T x (answer S (Command.Activity x)) before ≡ filter_map (booked_since n T x) before
 since_told n S T x before is = grind arith
 

@@ -14,7 +14,6 @@ abbrev pub IsAfter : Option Day → Day → Type 0
 IsAfter before day = option_map_or (λ b. int_lt (day_number b) (day_number day)) before true ≡ true
 
 module _ (f : Entry → ℤ) where
-  -- what all postings of a journal booked
   abbrev pub all_booked : Journal → ℤ
   all_booked J = total (λ p. total f p.entries) J
 

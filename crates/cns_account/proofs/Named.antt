@@ -1,6 +1,6 @@
 -- What an activity books stands at the places that it names.
 -- For `places_are_whole` and `moves_add_up` of laws.rt.
-use Rattle.cns_account.proofs.Common.{◌≡◌, ◌∙◌, sym, ap, refl, ◌<◌, ℤ, pos, ◌+ℤ◌, Bool, true, false, ◌&&◌, ◌||◌, ◌==◌, cond, eqb, List, [], ◌∷◌, filter, flat_map, map, is_none, option_map, option_to_list, Option, Some, None, IfSome, arith, bytes_eq, ints, Day, IsSound, Journal, NoneHolds, State, against_corporation, all_fail, and_false, cents_for, corporation, entries, execution_entries, fill_entry, fills, holders, holds, idle_parts, is_account, is_close, is_listed, issues, journal_of, last_close, list_any, members, money, nat_list_eq_equiv, neither, new_entry, notice_at, notices, old_entry, open_day, posting, refusal, row, shares_for, total, each_named, IsNoticed, both_hold, Notice, Execution, position, Account, Cusip, Activity, next, Entry, Holding, Key, notice_of, accounts_in, both, each, has_position, is_movement, is_wanted, named, place, places, standing, IsWhole, total-append, whole-post, Command, split_entry, cond_both, inl, inr, cases_Bool}
+use Rattle.cns_account.proofs.Common.{◌≡◌, ◌∙◌, sym, ap, refl, ◌<◌, ℤ, pos, ◌+ℤ◌, Bool, true, false, ◌&&◌, ◌||◌, ◌==◌, cond, eqb, List, [], ◌∷◌, filter, flat_map, map, is_none, option_map, option_to_list, Option, Some, None, IfSome, arith, bytes_eq, ints, Day, IsSound, Journal, NoneHolds, State, against_corporation, all_fail, and_false, cents_for, corporation, entries, fill_entry, fills, holders, holds, idle_parts, is_account, is_close, is_listed, issues, journal_of, last_close, list_any, members, money, nat_list_eq_equiv, neither, new_entry, notice_at, notices, old_entry, open_day, posting, refusal, row, shares_for, total, each_named, IsNoticed, both_hold, Notice, position, Account, Cusip, Activity, next, Entry, Holding, Key, notice_of, accounts_in, both, each, has_position, is_movement, is_wanted, named, place, places, standing, IsWhole, total-append, whole-post, Command, split_entry, cond_both, inl, inr, cases_Bool}
 use Rattle.std.proofs.lemmas.List.Concat.{flat_map_single}
 use Rattle.cns_terms.proofs.Elsewhere.{idle_at}
 use Rattle.cns_terms.specs.Refusals.{rules}
@@ -58,9 +58,6 @@ AreElsewhere k es = (v : Entry → ℤ) → total (λ e. cond (eqb e.account k.a
 same_elsewhere : (S : State) (x : Activity) (k : Key) → IsWhole S.opening (journal_of S) → NoneHolds (rules S.opening (journal_of S) x) → is_close x ≡ false → AreElsewhere k (entered S x) → IsSame k S (more S x)
 same_elsewhere S x k whole none ends out = grind (arith, ints, adds S x k whole none ends, out (λ e. e.shares), out (λ e. e.cents))
 
-same_nowhere : (S : State) (x : Activity) (k : Key) → is_account (journal_of S) k.account ≡ false → is_account (journal_of (more S x)) k.account ≡ false → IsSame k S (more S x)
-same_nowhere S x k h1 h2 = grind arith
-
 -- a place is one of some places, once, or nothing was booked there
 pub record IsNamed (k : Key) (S T : State) (ks : List Key) : Type 0 where
   pub there : Bool
@@ -78,10 +75,6 @@ both_named S x m k whole none ends elsewhere =
     let bs = named corporation m.member in
     record { there = (eqb corporation k.account || eqb m.member k.account) && bytes_eq m.issue k.issue; once = rw (all_wanted bs, ← flat_map_single (λ a. place a m.issue) bs) (once k (m.issue ∷ []) bs _ _ (two_accounts corporation m.member k.account) (one_issue m.issue k.issue)); others = λ out. same_elsewhere S x k whole none ends (elsewhere out) }
 
--- the accounts that have a position
-shown_there : (S : State) (c : Cusip) (a : Account) → has_position S c a ≡ (is_account (journal_of S) a && is_listed (journal_of S) c)
-shown_there S c a = grind (arith, shown_where S.opening (journal_of S) (place a c))
-
 either_same : (k : Key) (S T : State) (p a l u : Bool) → p ≡ (a && l) → l ≡ true → (a ≡ false → IsSame k S T) → (u ≡ false → IsSame k S T) → (p && u) ≡ false → IsSame k S T
 either_same k S T p a l u is listed none other h = grind arith
 
@@ -91,7 +84,7 @@ each_named_once : (S : State) (x : Activity) (c : Cusip) (cs : List Cusip) (k : 
     → filter (λ d. bytes_eq d k.issue) (c ∷ cs) ≡ cond u (k.issue ∷ []) [] → (u ≡ false → AreElsewhere k (entered S x))
     → IsNamed k S (more S x) (flat_map (λ a. map (place a) (c ∷ cs)) (accounts_in S c))
 each_named_once S x c cs k u few whole none ends listed stays is elsewhere =
-    let others = either_same k S (more S x) _ _ _ u (shown_there S c k.account) listed (λ h. same_nowhere S x k h (stays h)) (λ h. same_elsewhere S x k whole none ends (elsewhere h)) in
+    let others = either_same k S (more S x) (has_position S c k.account) (is_account (journal_of S) k.account) (is_listed (journal_of S) c) u (grind (arith, shown_where S.opening (journal_of S) (place k.account c))) listed (λ h. grind (arith, stays h)) (λ h. same_elsewhere S x k whole none ends (elsewhere h)) in
     record { there = has_position S c k.account && u; once = once k (c ∷ cs) (accounts_in S c) _ u (one_number (has_position S c) k.account 10000 few) is; others = others }
 
 -- entries in another issue
@@ -101,9 +94,6 @@ elsewhere_all k f (x ∷ xs) h v = grind (arith, ints, h x, and_false, elsewhere
 
 against_others : (k : Key) (c : Cusip) (f : Account → Entry) (bs : List Account) → ((a : Account) → (f a).issue ≡ c) → bytes_eq c k.issue ≡ false → AreElsewhere k (against_corporation c (map f bs))
 against_others k c f bs of_c other v = grind (arith, ints, and_false, elsewhere_all k f bs (λ a. grind (arith, of_c a)) v)
-
-in_execution : (k : Key) (J : Journal) (x : Execution) (n : Notice) → bytes_eq n.given.issue k.issue ≡ false → AreElsewhere k (execution_entries J x n)
-in_execution k J x n other v = grind (arith, ints, and_false, elsewhere_all k (fill_entry n) (fills J x n) (λ f. other) v)
 
 -- all places at which a movement that is accepted books are among those that it names
 pub names : (S : State) (x : Activity) (k : Key) → k.account < 10000 → IsWhole S.opening (journal_of S) → NoneHolds (rules S.opening (journal_of S) x) → is_movement (Command.Activity x) ≡ true
@@ -127,5 +117,5 @@ names S (Activity.Execute x) k few whole none is = by (notice_at (journal_of S) 
     by None is known = record { there = false; once = refl; others = λ h. same_elsewhere S (Activity.Execute x) k whole none refl (λ v. rw (is) refl) }
     by (Some n) is known =
         each_named_once S (Activity.Execute x) n.given.issue [] k _ few whole none refl known.1 (λ h. h) (one_issue n.given.issue k.issue)
-        (λ other v. rw (is) (in_execution k (journal_of S) x n other v))
+        (λ other v. rw (is) (grind (arith, ints, and_false, elsewhere_all k (fill_entry n) (fills (journal_of S) x n) (λ f. other) v)))
 names S x k few whole none is = cc

@@ -23,7 +23,6 @@ module _ (opening : Day) (K : Journal) where
       cond_both (is_eq (key_cmp k (key_of x))) (Some x) (row_at rows k) (λ o. o ≡ Some r → r ≡ row opening K k.account k.issue)
       (λ same e. let first : r ≡ x = cc in first ∙ all.0 ∙ ap (λ (q : Key). row opening K q.account q.issue) (sym (exact_keys k (key_of x) (equal _ same)))) (λ other. found_row rows k r all.1) is
 
-  -- the row that is found at a place
   pub row_is : (k : Key) (r : Row) → row_at (sheet_rows opening K) k ≡ Some r → r ≡ row opening K k.account k.issue
   row_is k r is = found_row (sheet_rows opening K) k r (placed_all (accounts K)) is
 
