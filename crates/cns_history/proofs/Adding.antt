@@ -1,6 +1,6 @@
 -- The shares of a history's lines add up to its position.
 -- For `shares_add_up` of laws.rt.
-use Rattle.cns_history.proofs.Common.{◌≡◌, ◌∙◌, ℕ, ◌+◌, pos, ◌-ℤ◌, List, [], ◌∷◌, Option, Ok, Err, option_map, option_to_list, arith, Day, State, answer, date, journal_of, next, opened, total, Holding, Key, booked, booking, closing, counted_from, lines_at, standing, HistoryLine}
+use Rattle.cns_history.proofs.Common.{◌≡◌, ◌∙◌, ℕ, ◌+◌, pos, ◌-ℤ◌, List, [], ◌∷◌, Option, Ok, Err, option_map, option_to_list, arith, State, answer, date, journal_of, next, opened, total, Holding, Key, booked, booking, closing, counted_from, lines_at, standing, HistoryLine}
 use Rattle.std.proofs.lemmas.Int.{ints}
 use Rattle.std.specs.Cmp.{signed_Decides}
 use Rattle.cns_terms.proofs.Common.{total-append}
@@ -46,9 +46,5 @@ history_shares k n S (l ∷ ls) =
     let T = state_after_line S l in
     omega (arith, ints, total-append shares_of (lines_at k (n + 1) S l) (history (Watched.Place k) (n + 1) T ls), line_shares k (n + 1) S l, history_shares k (n + 1) T ls)
 
--- at first nothing stands anywhere
-nothing_stands : (k : Key) (d : Day) → (standing (opened d) k).now ≡ pos 0
-nothing_stands k d = grind arith
-
 pub shares_add_up : SharesAddUp
-shares_add_up k d ls = omega (arith, ints, history_shares k 0 (opened d) ls, nothing_stands k d)
+shares_add_up k d ls = grind (arith, ints, history_shares k 0 (opened d) ls)
