@@ -55,16 +55,14 @@ module _ (k : Key) (opening : Day) (ls : List Line) (cs : List (ℕ × Day)) (d 
   abbrev S : State
   S = state_of b
 
-  abbrev ends : Command
-  ends = Command.Activity (Activity.Close z.close.next)
-
   abbrev m : Moves
-  m = moved_at (last_of None cs) d (reverse (log_after_line b (Ok ends)).history) (history (Watched.Movements d) 0 (opened opening) z.front) k
+  m = moved_at (last_of None cs) d (reverse (log_after_line b (Ok (Command.Activity (Activity.Close z.close.next)))).history) (history (Watched.Movements d) 0 (opened opening) z.front) k
 
   -- what moved the position comes to what was booked since the close before
   came : {w : Width} {pick : ℤ → ℤ → ℤ} {c : ℕ} → IsCounted k w pick c → Comes w pick m (all_booked (entry_at pick k) (open_day (journal_of S))) (c * (length z.front + 1))
   came {w} {pick} {c} counted =
       let o = rw z.before at (all_records low counted d (last_of None cs) z.front None (blank_log opening) [] 0 z.range (at_first low counted d (last_of None cs) opening)) in
+      let ends = Command.Activity (Activity.Close z.close.next) in
       let kept = kept_more low counted d (last_of None cs) b (0 + length z.front) o.t ends (tt, tt) o.kept in
       same counted.picked m _ (all_booked (entry_at pick k) (open_day (journal_of S))) _ (c * (length z.front + 1)) (o.told.comes _ _ _ kept.taken)
       (omega (arith, ints, o.told.sum (sym z.close.date), close_trades (settles (entry_at pick k) (last_of None cs) d) S z.close.next)) (omega (arith, o.few, size_few low counted d (last_of None cs) ends (answer S ends) (tt, tt)))

@@ -43,8 +43,7 @@ pub movement_at : (k : Key) (n : ℕ) (S : State) (x : Activity) → k.account <
 movement_at k n S x few whole is =
     ap (filter (is_line_at k)) (since_told n S (next S (Command.Activity x)) x (map (stood S) (places Whose.All S x)) is) ∙ told_at k n S (next S (Command.Activity x)) x (places Whose.All S x)
     ∙ at_next (λ T. filter_map (line_for n S T x) (filter (is_at k) (places Whose.All S x)) ≡ option_to_list (line_for n S T x k)) S x
-    (let none : (q : Key) → line_for n S S x q ≡ None = λ q. same_told n S S x q (record { shares = refl; cents = refl }) in
-    none_told (line_for n S S x) none (filter (is_at k) (places Whose.All S x)) ∙ ap option_to_list (sym (none k)))
+    (grind (arith, none_told (line_for n S S x) (λ q. same_told n S S x q (record { shares = refl; cents = refl })) (filter (is_at k) (places Whose.All S x)), same_told n S S x k (record { shares = refl; cents = refl })))
     (λ none. let e = names S x k few whole none is in there_or_not k (line_for n S (more S x) x) e.there _ e.once (λ h. same_told n S (more S x) x k (e.others h)))
 
 -- no movement opens a day

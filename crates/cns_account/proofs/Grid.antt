@@ -1,6 +1,6 @@
 -- The places of accounts in issues, each once.
 -- For `places_are_whole` and `moves_add_up` of laws.rt.
-use Rattle.cns_account.proofs.Common.{◌≡◌, refl, ℕ, zero, suc, ◌+◌, ◌<◌, ◌≤◌, Bool, false, ◌&&◌, ◌||◌, ◌==◌, cond, eqb, List, [], ◌∷◌, filter, flat_map, map, arith, bytes_eq, is_eq, range_with_len, bytes_eq-Decides, filter-append, key_cmp, same_key, Account, Cusip, Key, place, nat_tests}
+use Rattle.cns_account.proofs.Common.{◌≡◌, refl, ℕ, zero, suc, ◌+◌, ◌<◌, Bool, false, ◌&&◌, ◌||◌, ◌==◌, cond, eqb, List, [], ◌∷◌, filter, flat_map, map, arith, bytes_eq, is_eq, range_with_len, bytes_eq-Decides, filter-append, key_cmp, same_key, Account, Cusip, Key, place, nat_tests, nat_lt, not}
 use Rattle.cns_history.specs.Lines.{numbers}
 
 abbrev pub is_at : Key → Key → Bool
@@ -29,15 +29,11 @@ two_issues c d i apart = grind (arith, bytes_eq-Decides)
 pub two_accounts : (a b x : Account) → filter (λ c. eqb c x) (cond (b == a) (a ∷ []) (a ∷ b ∷ [])) ≡ cond (eqb a x || eqb b x) (x ∷ []) []
 two_accounts a b x = grind (arith, nat_tests)
 
-none_from : (p : Account → Bool) (x a n : ℕ) → x < a → filter (λ b. eqb b x) (filter p (range_with_len a n)) ≡ []
-none_from p x a zero lt = refl
-none_from p x a (suc n) lt = let e = none_from p x (a + 1) n (omega arith) in grind (arith, nat_tests)
-
-one_from : (p : Account → Bool) (x a n : ℕ) → a ≤ x → x < a + n → filter (λ b. eqb b x) (filter p (range_with_len a n)) ≡ cond (p x) (x ∷ []) []
-one_from p x a zero le lt = absurd (omega arith)
-one_from p x a (suc n) le lt = grind (arith, nat_tests, none_from, one_from p x (a + 1) n)
+one_from : (p : Account → Bool) (x a n : ℕ) → filter (λ b. eqb b x) (filter p (range_with_len a n)) ≡ cond (p x && (nat_lt x (a + n) && not (nat_lt x a))) (x ∷ []) []
+one_from p x a zero = grind (arith, nat_tests)
+one_from p x a (suc n) = grind (arith, nat_tests, one_from p x (a + 1) n)
 
 -- an account among the first numbers of which something holds
 pub one_number : (p : Account → Bool) (x n : ℕ) → x < n → filter (λ b. eqb b x) (filter p (numbers n)) ≡ cond (p x) (x ∷ []) []
 unfolding numbers
-one_number p x n lt = one_from p x 0 n (omega arith) (omega arith)
+one_number p x n lt = grind (arith, nat_tests, one_from p x 0 n)

@@ -125,10 +125,6 @@ module _ {k : Key} {w : Width} {pick : ℤ → ℤ → ℤ} {c : ℕ} (low : k.a
       pub sum : date S.opening (journal_of S) ≡ d → left before d S ≡ seen
       pub comes : (m : Moves) (v : ℤ) (n : ℕ) → Comes w pick m v n → Comes w pick (fold (with_line k) m ls) (v +ℤ seen) (n + u)
 
-    -- what the lines of a movement add up to
-    abbrev told_of : State → Activity → ℤ
-    told_of S x = cond (is_open S d) (cond (is_movement (Command.Activity x)) (change S x) (pos 0)) (pos 0)
-
     -- what closes no day leaves its date, and books trades and movements
     stays : (before : Option Day) (S : State) (x : Activity) → IsWhole S.opening (journal_of S) → IsAfter before (date S.opening (journal_of S)) → day_closed S (Ok (Command.Activity x)) ≡ None
         → let T = next S (Command.Activity x) in let D = date S.opening (journal_of S) in
@@ -147,13 +143,13 @@ module _ {k : Key} {w : Width} {pick : ℤ → ℤ → ℤ} {c : ℕ} (low : k.a
     told_activity before j S x ls u whole range stay t =
         let is = stays before S x whole t.after stay in
         record {
-          seen = t.seen +ℤ told_of S x;
+          seen = t.seen +ℤ cond (is_open S d) (cond (is_movement (Command.Activity x)) (change S x) (pos 0)) (pos 0);
           after = subst (IsAfter before) (sym is.0) t.after;
           late = λ later. let was = subst (λ e. int_lt (day_number e) (day_number d) ≡ true) is.0 later in let other : is_open S d ≡ false = grind (arith, ints) in rw other (omega (arith, ints, t.late was));
           sum = λ today. let here = sym is.0 ∙ today in let one : is_open S d ≡ true = grind (arith, ints) in
               rw one (subst (λ e. left before e (next S (Command.Activity x)) ≡ left before e S +ℤ cond (is_movement (Command.Activity x)) (change S x) (pos 0)) here is.1 ∙ ap (λ z. z +ℤ _) (t.sum here));
           comes = λ m v n come. rw (fold-append (with_line k) m ls (lines_of (Watched.Movements d) j S (Ok (Command.Activity x))))
-              (same counted.picked _ (v +ℤ t.seen +ℤ told_of S x) (v +ℤ (t.seen +ℤ told_of S x)) (n + u + cond (is_movement (Command.Activity x)) c 0) (n + (u + cond (is_movement (Command.Activity x)) c 0)) (by (is_open S d) (is_movement (Command.Activity x)) refl _ _ _ (t.comes m v n come)) (omega (arith, ints)) (omega arith));
+              (same counted.picked _ _ _ _ _ (by (is_open S d) (is_movement (Command.Activity x)) refl _ _ _ (t.comes m v n come)) (omega (arith, ints)) (omega arith));
         }
       where
         by : (o b : Bool) → is_movement (Command.Activity x) ≡ b → (m : Moves) (v : ℤ) (n : ℕ) → Comes w pick m v n
