@@ -1,12 +1,47 @@
 -- What an activity books stands at the places that it names.
 -- For `places_are_whole` and `moves_add_up` of laws.rt.
-use Rattle.cns_account.proofs.Common.{◌≡◌, ◌∙◌, sym, ap, refl, ◌<◌, ℤ, pos, ◌+ℤ◌, Bool, true, false, ◌&&◌, ◌||◌, ◌==◌, cond, eqb, List, [], ◌∷◌, filter, flat_map, map, is_none, option_map, option_to_list, Option, Some, None, IfSome, arith, bytes_eq, ints, Day, IsSound, Journal, NoneHolds, State, against_corporation, all_fail, and_false, cents_for, corporation, entries, fill_entry, fills, holders, holds, idle_parts, is_account, is_close, is_listed, issues, journal_of, last_close, list_any, members, money, nat_list_eq_equiv, neither, new_entry, notice_at, notices, old_entry, open_day, posting, refusal, row, shares_for, total, each_named, IsNoticed, both_hold, Notice, position, Account, Cusip, Activity, next, Entry, Holding, Key, notice_of, accounts_in, both, each, has_position, is_movement, is_wanted, named, place, places, standing, IsWhole, total-append, whole-post, Command, split_entry, cond_both, inl, inr, cases_Bool}
+use Rattle.cns_account.proofs.Common.{◌≡◌, ◌∙◌, sym, ap, refl, ◌<◌, ℤ, pos, ◌+ℤ◌, Bool, true, false, ◌&&◌, ◌||◌, ◌==◌, cond, eqb, List, [], ◌∷◌, filter, flat_map, map, is_none, option_map, option_to_list, Option, Some, None, IfSome, arith, bytes_eq, ints, Day, IsSound, Journal, NoneHolds, State, against_corporation, all_fail, and_false, cents_for, corporation, entries, fill_entry, fills, holders, holds, idle_parts, is_account, is_close, is_listed, issues, journal_of, last_close, list_any, members, money, nat_list_eq_equiv, neither, new_entry, notice_at, notices, old_entry, open_day, posting, refusal, row, shares_for, total, each_named, IsNoticed, both_hold, Notice, position, Account, Cusip, Activity, next, Entry, Holding, Key, notice_of, accounts_in, both, each, has_position, is_movement, is_wanted, named, place, places, standing, IsWhole, total-append, whole-post, Command, split_entry, cond_both, inl, inr, cases_Bool, ℕ, zero, suc, ◌+◌, is_eq, range_with_len, bytes_eq-Decides, filter-append, key_cmp, same_key, nat_tests, nat_lt, not}
 use Rattle.std.proofs.lemmas.List.Concat.{flat_map_single}
 use Rattle.cns_terms.proofs.Elsewhere.{idle_at}
 use Rattle.cns_terms.specs.Refusals.{rules}
 use Rattle.cns_terms.specs.declared.command.Movement.{Movement}
 use Rattle.cns_history.specs.declared.watched.Whose.TheVariants.{All}
-use Rattle.cns_account.proofs.Grid.{is_at, once, one_issue, one_number, two_accounts, two_issues}
+use Rattle.cns_history.specs.Lines.{numbers}
+
+abbrev pub is_at : Key → Key → Bool
+is_at k q = is_eq (key_cmp q k)
+
+in_row : (k : Key) (a : Account) (cs : List Cusip) → filter (is_at k) (map (place a) cs) ≡ cond (eqb a k.account) (map (place a) (filter (λ c. bytes_eq c k.issue) cs)) []
+in_row k a [] = grind arith
+in_row k a (c ∷ cs) = grind (arith, same_key (place a c) k, in_row k a cs)
+
+in_grid : (k : Key) (cs : List Cusip) (bs : List Account)
+    → filter (is_at k) (flat_map (λ a. map (place a) cs) bs) ≡ flat_map (λ a. map (place a) (filter (λ c. bytes_eq c k.issue) cs)) (filter (λ a. eqb a k.account) bs)
+in_grid k cs [] = refl
+in_grid k cs (a ∷ bs) = grind (arith, filter-append, in_row, in_grid k cs bs)
+
+-- a place whose account and issue are among them, each at most once
+pub once : (k : Key) (cs : List Cusip) (bs : List Account) (t u : Bool) → filter (λ a. eqb a k.account) bs ≡ cond t (k.account ∷ []) [] → filter (λ c. bytes_eq c k.issue) cs ≡ cond u (k.issue ∷ []) []
+    → filter (is_at k) (flat_map (λ a. map (place a) cs) bs) ≡ cond (t && u) (k ∷ []) []
+once k cs bs t u is are = grind (arith, in_grid)
+
+pub one_issue : (c i : Cusip) → filter (λ d. bytes_eq d i) (c ∷ []) ≡ cond (bytes_eq c i) (i ∷ []) []
+one_issue c i = grind (arith, bytes_eq-Decides)
+
+pub two_issues : (c d i : Cusip) → bytes_eq c d ≡ false → filter (λ e. bytes_eq e i) (c ∷ d ∷ []) ≡ cond (bytes_eq c i || bytes_eq d i) (i ∷ []) []
+two_issues c d i apart = grind (arith, bytes_eq-Decides)
+
+pub two_accounts : (a b x : Account) → filter (λ c. eqb c x) (cond (b == a) (a ∷ []) (a ∷ b ∷ [])) ≡ cond (eqb a x || eqb b x) (x ∷ []) []
+two_accounts a b x = grind (arith, nat_tests)
+
+one_from : (p : Account → Bool) (x a n : ℕ) → filter (λ b. eqb b x) (filter p (range_with_len a n)) ≡ cond (p x && (nat_lt x (a + n) && not (nat_lt x a))) (x ∷ []) []
+one_from p x a zero = grind (arith, nat_tests)
+one_from p x a (suc n) = grind (arith, nat_tests, one_from p x (a + 1) n)
+
+-- an account among the first numbers of which something holds
+pub one_number : (p : Account → Bool) (x n : ℕ) → x < n → filter (λ b. eqb b x) (filter p (numbers n)) ≡ cond (p x) (x ∷ []) []
+unfolding numbers
+one_number p x n lt = grind (arith, nat_tests, one_from p x 0 n)
 
 -- where a POSITION is not refused
 shown_where : (opening : Day) (J : Journal) (k : Key) → is_none (refusal opening J (Command.Position k)) ≡ (is_account J k.account && is_listed J k.issue)
@@ -18,7 +53,6 @@ pub record Stands (J : Journal) (k : Key) (h : Holding) : Type 0 where
   pub cents : h.contract ≡ money J k.account k.issue
   pub found : h.opening ≡ position (last_close J) k.account k.issue
 
--- nothing, where a POSITION is refused
 pub stands : (S : State) (k : Key) → IsSound (journal_of S) → Stands (journal_of S) k (standing S k)
 stands S k sound = elim (cases_Bool (is_none (refusal S.opening (journal_of S) (Command.Position k)))) [
   | inl shown ↦ rw shown (record { shares = refl; cents = refl; found = refl })
@@ -35,12 +69,9 @@ more S x = record { opening = S.opening; accepted = x ∷ S.accepted }
 pub at_next : (P : State → Type 0) (S : State) (x : Activity) → P S → (NoneHolds (rules S.opening (journal_of S) x) → P (more S x)) → P (next S (Command.Activity x))
 at_next P S x stays goes = cond_both (is_none (refusal S.opening (journal_of S) (Command.Activity x))) (x ∷ S.accepted) S.accepted (λ L. P (record { opening = S.opening; accepted = L })) goes (λ refused. stays)
 
-abbrev pub entered : State → Activity → List Entry
-entered S x = entries S.opening (journal_of S) x
-
 -- what it adds to what stands at a place
 pub adds : (S : State) (x : Activity) (k : Key) → IsWhole S.opening (journal_of S) → NoneHolds (rules S.opening (journal_of S) x) → is_close x ≡ false
-    → ((standing (more S x) k).now ≡ total (shares_for k.account k.issue) (entered S x) +ℤ (standing S k).now) × ((standing (more S x) k).contract ≡ total (cents_for k.account k.issue) (entered S x) +ℤ (standing S k).contract)
+    → ((standing (more S x) k).now ≡ total (shares_for k.account k.issue) (entries S.opening (journal_of S) x) +ℤ (standing S k).now) × ((standing (more S x) k).contract ≡ total (cents_for k.account k.issue) (entries S.opening (journal_of S) x) +ℤ (standing S k).contract)
 adds S x k whole none ends =
     let s = stands S k whole.now in
     let t = stands (more S x) k (whole-post S.opening (journal_of S) x whole none).now in
@@ -55,7 +86,7 @@ pub record IsSame (k : Key) (S T : State) : Type 0 where
 abbrev AreElsewhere : Key → List Entry → Type 0
 AreElsewhere k es = (v : Entry → ℤ) → total (λ e. cond (eqb e.account k.account && bytes_eq e.issue k.issue) (v e) (pos 0)) es ≡ pos 0
 
-same_elsewhere : (S : State) (x : Activity) (k : Key) → IsWhole S.opening (journal_of S) → NoneHolds (rules S.opening (journal_of S) x) → is_close x ≡ false → AreElsewhere k (entered S x) → IsSame k S (more S x)
+same_elsewhere : (S : State) (x : Activity) (k : Key) → IsWhole S.opening (journal_of S) → NoneHolds (rules S.opening (journal_of S) x) → is_close x ≡ false → AreElsewhere k (entries S.opening (journal_of S) x) → IsSame k S (more S x)
 same_elsewhere S x k whole none ends out = grind (arith, ints, adds S x k whole none ends, out (λ e. e.shares), out (λ e. e.cents))
 
 -- a place is one of some places, once, or nothing was booked there
@@ -70,7 +101,7 @@ all_wanted (b ∷ bs) = ap (λ bs. b ∷ bs) (all_wanted bs)
 
 -- those of the corporation and a member in an issue
 both_named : (S : State) (x : Activity) (m : Movement) (k : Key) → IsWhole S.opening (journal_of S) → NoneHolds (rules S.opening (journal_of S) x) → is_close x ≡ false
-    → (((eqb corporation k.account || eqb m.member k.account) && bytes_eq m.issue k.issue) ≡ false → AreElsewhere k (entered S x)) → IsNamed k S (more S x) (both All corporation m.member m.issue)
+    → (((eqb corporation k.account || eqb m.member k.account) && bytes_eq m.issue k.issue) ≡ false → AreElsewhere k (entries S.opening (journal_of S) x)) → IsNamed k S (more S x) (both All corporation m.member m.issue)
 both_named S x m k whole none ends elsewhere =
     let bs = named corporation m.member in
     record { there = (eqb corporation k.account || eqb m.member k.account) && bytes_eq m.issue k.issue; once = rw (all_wanted bs, ← flat_map_single (λ a. place a m.issue) bs) (once k (m.issue ∷ []) bs _ _ (two_accounts corporation m.member k.account) (one_issue m.issue k.issue)); others = λ out. same_elsewhere S x k whole none ends (elsewhere out) }
@@ -81,7 +112,7 @@ either_same k S T p a l u is listed none other h = grind arith
 -- those of all accounts in some issues, of which one is listed
 each_named_once : (S : State) (x : Activity) (c : Cusip) (cs : List Cusip) (k : Key) (u : Bool) → k.account < 10000 → IsWhole S.opening (journal_of S) → NoneHolds (rules S.opening (journal_of S) x) → is_close x ≡ false → is_listed (journal_of S) c ≡ true
     → (is_account (journal_of S) k.account ≡ false → is_account (journal_of (more S x)) k.account ≡ false)
-    → filter (λ d. bytes_eq d k.issue) (c ∷ cs) ≡ cond u (k.issue ∷ []) [] → (u ≡ false → AreElsewhere k (entered S x))
+    → filter (λ d. bytes_eq d k.issue) (c ∷ cs) ≡ cond u (k.issue ∷ []) [] → (u ≡ false → AreElsewhere k (entries S.opening (journal_of S) x))
     → IsNamed k S (more S x) (flat_map (λ a. map (place a) (c ∷ cs)) (accounts_in S c))
 each_named_once S x c cs k u few whole none ends listed stays is elsewhere =
     let others = either_same k S (more S x) (has_position S c k.account) (is_account (journal_of S) k.account) (is_listed (journal_of S) c) u (grind (arith, shown_where S.opening (journal_of S) (place k.account c))) listed (λ h. grind (arith, stays h)) (λ h. same_elsewhere S x k whole none ends (elsewhere h)) in

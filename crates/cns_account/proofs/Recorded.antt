@@ -1,18 +1,57 @@
 -- What a day's records booked at a place.
 -- For `moves_add_up` of laws.rt.
-use Rattle.cns_account.proofs.Common.{◌≡◌, ◌∙◌, sym, refl, subst, ℕ, ◌+◌, ◌*◌, ◌<◌, ◌≤◌, ℤ, pos, ◌+ℤ◌, ◌-ℤ◌, Bool, true, false, cond, List, [], ◌∷◌, ◌++◌, append-nil, append_assoc, blank_log, filter, length, map, reverse, option_and_then, option_map, option_to_list, Option, Some, None, Ok, Err, arith, int_lt, sum_by, sum_by-cons, unsigned_abs, Width, w64, w128, AllByRecursion, fold, fold-append, option_map_or, ints, nat_tests, Day, IsReached, IsWhole, NoneHolds, State, added-more, all_fail, answer, date, day_number, execution_cents, fill_entry, is_close, journal_of, limited, magnitude, money_limit, next, open_day, pend_of, same_key, shares_limit, shares_of_fills, total, total_small, trade_entries, trades, traded, Activity, Command, Notice, Pend, Trade, Entry, Holding, Key, Reply, Log, state_of, Line, log_after_line, bookings_at, is_movement, is_open, lines_of, standing, Booking, HistoryLine, IsLineInRange, accepted_of, date_told, day_closed, is_line_at, is_within, last_of, unmoved, with_line, with_taken, Moves, ap, is_nothing, state_after_line, opened, Watched, Whose}
+use Rattle.cns_account.proofs.Common.{◌≡◌, ◌∙◌, sym, refl, subst, ℕ, ◌+◌, ◌*◌, ◌<◌, ◌≤◌, ℤ, pos, ◌+ℤ◌, ◌-ℤ◌, Bool, true, false, cond, List, [], ◌∷◌, ◌++◌, append-nil, append_assoc, blank_log, filter, length, map, reverse, option_and_then, option_map, option_to_list, Option, Some, None, Ok, Err, arith, int_lt, sum_by, sum_by-cons, unsigned_abs, Width, w64, w128, AllByRecursion, fold, fold-append, option_map_or, ints, nat_tests, Day, IsReached, IsWhole, NoneHolds, State, added-more, all_fail, answer, date, day_number, execution_cents, fill_entry, is_close, journal_of, limited, magnitude, money_limit, next, open_day, pend_of, same_key, shares_limit, shares_of_fills, total, total_small, trade_entries, trades, traded, Activity, Command, Notice, Pend, Trade, Entry, Holding, Key, Reply, Log, state_of, Line, log_after_line, bookings_at, is_movement, is_open, lines_of, standing, Booking, HistoryLine, IsLineInRange, accepted_of, date_told, day_closed, is_line_at, is_within, last_of, unmoved, with_line, with_taken, Moves, ap, is_nothing, state_after_line, opened, Watched, Whose, entries, not, Journal, last_close, pending, reverse_onto, total-append, inl, inr, cases_Bool}
 use Rattle.cns_terms.proofs.Facts.{bytes_refl, later}
 use Rattle.cns_terms.proofs.Reached.{reached-from}
 use Rattle.cns_terms.specs.Refusals.{rules}
 use Rattle.cns_terms.specs.declared.buy_in.Fill.{Fill}
 use Rattle.cns_terms.specs.declared.refusal.Refusal.{Refusal}
 use Rattle.cns_account.proofs.AtPlaces.{movement_at}
-use Rattle.cns_account.proofs.Ledger.{IsAfter, all_booked, close_settles, settles, trade_settles}
-use Rattle.cns_account.proofs.Named.{at_next, adds, entered, more}
+use Rattle.cns_account.proofs.Named.{at_next, adds, more}
 use Rattle.cns_account.proofs.Summed.{Comes, IsPicked, cause_more, entry_at, is_named, of_entry, same, taken_last}
 use Rattle.cns_feed.specs.Replay.{log_after}
 use Rattle.cns_history.specs.Lines.{history}
 use Rattle.cns_account.specs.Laws.{closes}
+use Rattle.cns_terms.proofs.SheetSums.{total-flat_map}
+use Rattle.cns_terms.specs.Pending.{due, is_due}
+
+pub total-reverse : {X : Type 0} (f : X → ℤ) (xs : List X) → total f (reverse xs) ≡ total f xs
+total-reverse f [] = refl
+total-reverse f (x ∷ xs) = rw (reverse_onto xs x []) (omega (arith, ints, total-append f (reverse xs) (x ∷ []), total-reverse f xs))
+
+-- a day is later than the day before, if there was one
+abbrev pub IsAfter : Option Day → Day → Type 0
+IsAfter before day = option_map_or (λ b. int_lt (day_number b) (day_number day)) before true ≡ true
+
+module _ (f : Entry → ℤ) where
+  abbrev pub all_booked : Journal → ℤ
+  all_booked J = total (λ p. total f p.entries) J
+
+  -- what the open day booked, and what was booked before the close that opened it
+  pub open_parts : (J : Journal) → all_booked J ≡ all_booked (open_day J) +ℤ all_booked (last_close J)
+  open_parts [] = refl
+  open_parts (p ∷ J) = elim (cases_Bool (is_close p.activity)) [
+    | inl ends ↦ rw ends (omega (arith, ints))
+    | inr stays ↦ rw stays (omega (arith, ints, open_parts J))
+  ]
+
+  -- what a trade books, if its date is after the day before and up to the day
+  abbrev pub settles : Option Day → Day → Pend → ℤ
+  settles before day p = cond (is_within before day p.date) (total f (trade_entries p)) (pos 0)
+
+  due_within : (today next : Day) (ps : List Pend) → total (λ p. total f (trade_entries p)) (filter (is_due next) (filter (λ p. not (is_due today p)) ps)) ≡ total (settles (Some today) next) ps
+  due_within today next [] = refl
+  due_within today next (p ∷ ps) = grind (arith, due_within today next ps)
+
+  -- what a close books: the trades that are dated after the day that it ends, up to the next
+  pub close_settles : (opening : Day) (J : Journal) (next : Day) → total f (entries opening J (Activity.Close next)) ≡ total (settles (Some (date opening J)) next) (trades J)
+  close_settles opening J next = total-flat_map f trade_entries (due opening J next) ∙ total-reverse (λ p. total f (trade_entries p)) (filter (is_due next) (pending opening J)) ∙ due_within (date opening J) next (trades J)
+
+  -- what a trade of the day books at once
+  pub trade_settles : (opening : Day) (J : Journal) (before : Option Day) (t : Trade) → NoneHolds (rules opening J (Activity.Trade t)) → IsAfter before (date opening J)
+      → total f (entries opening J (Activity.Trade t)) ≡ settles before (date opening J) (pend_of t)
+  trade_settles opening J before t none after =
+      grind (arith, ints, (all_fail (rules opening J (Activity.Trade t)) none).1.1.1.1.0)
 
 -- of an execution the shares, twice: the originator's and those of the fills
 fill_shares : (n : Notice) (fs : List Fill) → magnitude (λ (e : Entry). e.shares) (map (fill_entry n) fs) ≡ sum_by (λ f. f.shares) fs
@@ -27,14 +66,14 @@ of_held pick h = pick h.now h.contract
 pub record IsCounted (k : Key) (w : Width) (pick : ℤ → ℤ → ℤ) (c : ℕ) : Type 0 where
   pub picked : IsPicked w pick
   pub less : (a b s t : ℤ) → pick (a -ℤ b) (s -ℤ t) ≡ pick a s -ℤ pick b t
-  pub held : (S : State) (x : Activity) → IsWhole S.opening (journal_of S) → NoneHolds (rules S.opening (journal_of S) x) → is_close x ≡ false → of_held pick (standing (more S x) k) ≡ total (entry_at pick k) (entered S x) +ℤ of_held pick (standing S k)
-  pub named : (S : State) (x : Activity) → IsLineInRange (Ok (Command.Activity x)) → NoneHolds (rules S.opening (journal_of S) x) → is_named x ≡ true → magnitude (of_entry pick) (entered S x) ≤ c
+  pub held : (S : State) (x : Activity) → IsWhole S.opening (journal_of S) → NoneHolds (rules S.opening (journal_of S) x) → is_close x ≡ false → of_held pick (standing (more S x) k) ≡ total (entry_at pick k) (entries S.opening (journal_of S) x) +ℤ of_held pick (standing S k)
+  pub named : (S : State) (x : Activity) → IsLineInRange (Ok (Command.Activity x)) → NoneHolds (rules S.opening (journal_of S) x) → is_named x ≡ true → magnitude (of_entry pick) (entries S.opening (journal_of S) x) ≤ c
   pub traded : (t : Trade) → IsLineInRange (Ok (Command.Activity (Activity.Trade t))) → magnitude (of_entry pick) (trade_entries (pend_of t)) ≤ c
 
-shares_named : (S : State) (x : Activity) → IsLineInRange (Ok (Command.Activity x)) → NoneHolds (rules S.opening (journal_of S) x) → is_named x ≡ true → magnitude (λ e. e.shares) (entered S x) ≤ 2 * shares_limit
+shares_named : (S : State) (x : Activity) → IsLineInRange (Ok (Command.Activity x)) → NoneHolds (rules S.opening (journal_of S) x) → is_named x ≡ true → magnitude (λ e. e.shares) (entries S.opening (journal_of S) x) ≤ 2 * shares_limit
 shares_named S x range none is = grind (arith, shares_of_fills, fill_shares)
 
-cents_named : (S : State) (x : Activity) → IsLineInRange (Ok (Command.Activity x)) → NoneHolds (rules S.opening (journal_of S) x) → is_named x ≡ true → magnitude (λ e. e.cents) (entered S x) ≤ 2 * money_limit
+cents_named : (S : State) (x : Activity) → IsLineInRange (Ok (Command.Activity x)) → NoneHolds (rules S.opening (journal_of S) x) → is_named x ≡ true → magnitude (λ e. e.cents) (entries S.opening (journal_of S) x) ≤ 2 * money_limit
 cents_named S (Activity.Execute x) range none is = grind (arith, execution_cents (journal_of S) x, range.0.0, range.0.2)
 cents_named S x range none is = grind (arith, ints)
 
@@ -57,7 +96,7 @@ trade_taken f last d S cmd = grind (arith, nat_tests)
 
 -- what an activity books is a trade's or a movement's
 books_parts : (f : Entry → ℤ) (before : Option Day) (S : State) (x : Activity) → NoneHolds (rules S.opening (journal_of S) x) → IsAfter before (date S.opening (journal_of S)) → is_close x ≡ false
-    → total f (entered S x) ≡ option_map_or (λ t. settles f before (date S.opening (journal_of S)) (pend_of t)) (traded x) (pos 0) +ℤ cond (is_movement (Command.Activity x)) (total f (entered S x)) (pos 0)
+    → total f (entries S.opening (journal_of S) x) ≡ option_map_or (λ t. settles f before (date S.opening (journal_of S)) (pend_of t)) (traded x) (pos 0) +ℤ cond (is_movement (Command.Activity x)) (total f (entries S.opening (journal_of S) x)) (pos 0)
 books_parts f before S (Activity.Trade t) none after is = let e = trade_settles f S.opening (journal_of S) before t none after in e ∙ omega (arith, ints)
 books_parts f before S (Activity.Close d) none after is = cc
 books_parts f before S x none after is = omega (arith, ints)
@@ -102,7 +141,7 @@ module _ {k : Key} {w : Width} {pick : ℤ → ℤ → ℤ} {c : ℕ} (low : k.a
   change_few : (S : State) (x : Activity) → IsWhole S.opening (journal_of S) → IsLineInRange (Ok (Command.Activity x)) → is_named x ≡ true → unsigned_abs (change S x) ≤ c
   change_few S x whole range named =
       at_next (λ T. unsigned_abs (of_held pick (standing T k) -ℤ of_held pick (standing S k)) ≤ c) S x (omega (arith, ints))
-      (λ none. omega (arith, ints, counted.held S x whole none (grind arith), total_small f (entered S x), added-more (λ e. unsigned_abs (f e)) (λ e. unsigned_abs (of_entry pick e)) (entered S x) (λ e. grind arith), counted.named S x range none named))
+      (λ none. omega (arith, ints, counted.held S x whole none (grind arith), total_small f (entries S.opening (journal_of S) x), added-more (λ e. unsigned_abs (f e)) (λ e. unsigned_abs (of_entry pick e)) (entries S.opening (journal_of S) x) (λ e. grind arith), counted.named S x range none named))
 
   -- the line of what a movement booked here
   line_more : (m : Moves) (v z : ℤ) (n : ℕ) (b : Booking) (t : Bool) → Comes w pick m v n → is_nothing b ≡ t → pick b.shares b.cents ≡ z → is_line_at k (HistoryLine.Booking b) ≡ true → is_movement (Command.Activity b.activity) ≡ true
@@ -134,9 +173,9 @@ module _ {k : Key} {w : Width} {pick : ℤ → ℤ → ℤ} {c : ℕ} (low : k.a
         at_next (λ T. (date T.opening (journal_of T) ≡ D) × (left before D T ≡ left before D S +ℤ cond (is_movement (Command.Activity x)) (of_held pick (standing T k) -ℤ of_held pick (standing S k)) (pos 0))) S x
         (refl, left_same (is_movement (Command.Activity x)) (left before D S) (of_held pick (standing S k)))
         (λ none. let ends : is_close x ≡ false = grind arith in
-        let told : cond (is_movement (Command.Activity x)) (of_held pick (standing (more S x) k) -ℤ of_held pick (standing S k)) (pos 0) ≡ cond (is_movement (Command.Activity x)) (total f (entered S x)) (pos 0) =
+        let told : cond (is_movement (Command.Activity x)) (of_held pick (standing (more S x) k) -ℤ of_held pick (standing S k)) (pos 0) ≡ cond (is_movement (Command.Activity x)) (total f (entries S.opening (journal_of S) x)) (pos 0) =
         ap (λ z. cond (is_movement (Command.Activity x)) z (pos 0)) (omega (arith, ints, counted.held S x whole none ends)) in
-        (grind arith, omega (arith, ints, ap (λ b. total f (entered S x) +ℤ all_booked f (cond b [] (open_day (journal_of S)))) ends, books_parts f before S x none after ends, trades_more (settles f before D) S x, told)))
+        (grind arith, omega (arith, ints, ap (λ b. total f (entries S.opening (journal_of S) x) +ℤ all_booked f (cond b [] (open_day (journal_of S)))) ends, books_parts f before S x none after ends, trades_more (settles f before D) S x, told)))
 
     told_activity : (before : Option Day) (j : ℕ) (S : State) (x : Activity) (ls : List HistoryLine) (u : ℕ) → IsWhole S.opening (journal_of S) → IsLineInRange (Ok (Command.Activity x)) → day_closed S (Ok (Command.Activity x)) ≡ None
         → Told before S ls u → Told before (next S (Command.Activity x)) (ls ++ lines_of (Watched.Movements d) j S (Ok (Command.Activity x))) (u + cond (is_movement (Command.Activity x)) c 0)
@@ -172,7 +211,6 @@ module _ {k : Key} {w : Width} {pick : ℤ → ℤ → ℤ} {c : ℕ} (low : k.a
         pub accepted : length (state_of b).accepted ≤ n
         pub taken : Comes w pick (fold (with_taken last d k) unmoved (reverse b.history)) (total (settles f last d) (trades (journal_of (state_of b)))) t
 
-      -- what its trade can book
       abbrev size_taken : Command → Reply → ℕ
       size_taken cmd r = option_map_or (λ x. magnitude (of_entry pick) (trade_entries (pend_of x))) (option_and_then (λ x. cond (is_within last d x.date) (Some x) None) (accepted_of traded cmd r)) 0
 
