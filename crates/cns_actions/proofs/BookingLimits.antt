@@ -1,12 +1,12 @@
 -- Whether a split or an exchange takes a member beyond its limits: just where the definitions say so.
 -- For `bookings_for` of acting.rt.
-use Rattle.cns_actions.proofs.Common.{◌≡◌, ◌∙◌, refl, ℕ, ◌≤◌, ℤ, pos, ◌+ℤ◌, ◌-ℤ◌, neg_ℤ, Bool, true, false, cond, ◌&&◌, ◌||◌, ◌==◌, nat_lt, List, [], ◌∷◌, ◌++◌, map, arith, lt-ltb, Account, Action, AllByRecursion, AreHolders, Cusip, Entry, Holder, IsForAnother, Member, Pend, Rows, against_corporation, bought_in, bytes_refl, converted, corporation, entries_of, entry, has_position, holder_of, holders_of, holding_at, in_exchange, in_lieu, ints, is_beyond, is_sorted, issue_of, key_cmp, list_any, nat_tests, position_at, position_limit, positions_in, same_issue, shares_for, sold_in, takes_beyond, total, total-append, total-map, zero_add}
+use Rattle.cns_actions.proofs.Common.{◌≡◌, ◌∙◌, refl, ℕ, ◌≤◌, ℤ, pos, ◌+ℤ◌, ◌-ℤ◌, neg_ℤ, Bool, true, false, cond, ◌&&◌, ◌||◌, ◌==◌, nat_lt, List, [], ◌∷◌, ◌++◌, map, arith, lt-ltb, Account, Action, AllByRecursion, AreHolders, Cusip, Entry, Holder, IsForAnother, Member, Pend, Rows, against_corporation, bought_in, bytes_refl, converted, corporation, entries_of, entry, has_position, holder_of, holders_of, holding_at, in_exchange, in_lieu, ints, is_beyond, is_sorted, issue_of, key_cmp, list_any, nat_tests, position_at, position_limit, positions_in, same_issue, shares_for, sold_in, takes_beyond, total, total-append, total-map, zero_add, new_entry, old_entry}
 use Rattle.cns_terms.specs.Refusals.{are_too_large, is_too_large_at}
+use Rattle.cns_terms.specs.Entries.{split_entry}
 use Rattle.cns_terms.proofs.Facts.{issues_differ}
 use Rattle.std.proofs.lemmas.List.Folds.{list_any-append, list_any_none}
-use Rattle.cns_actions.proofs.ByAccount.{each_listed, listed_at, listed_rising, place, total_at}
-use Rattle.cns_actions.proofs.Holders.{Alike, any_alike, shown}
-use Rattle.cns_actions.proofs.BookingSums.{entries_alike, entries_by, new_leg, old_leg, split_leg}
+use Rattle.cns_actions.proofs.ByAccount.{each_listed, listed_at, listed_rising, place, total_at, Alike, any_alike, shown}
+use Rattle.cns_actions.proofs.BookingSums.{entries_alike, entries_by}
 
 -- tests that agree
 any_legs : (t : Entry → Bool) (L : Holder → Entry) (u : Holder → Bool) (hs : List Holder) → AllByRecursion (λ h. t (L h) ≡ u h) hs → list_any t (map L hs) ≡ list_any u hs
@@ -39,17 +39,17 @@ module _ (R : Rows) (order : is_sorted key_cmp R ≡ true) (ps : List Pend) wher
 
   large_by : AreFewShares ps → (x : Action) → IsForAnother x → are_too_large (position_at R) ps (entries_by x (holders_of x R)) ≡ list_any (takes_beyond R ps x) (holders_of x R)
   large_by few (Action.Split s) another =
-      any_shown s.issue (is_too_large_at (position_at R) ps (entries_by (Action.Split s) (shown R s.issue))) (split_leg s) (takes_beyond R ps (Action.Split s)) (λ a le held. grind (arith, ints, lt-ltb corporation a le, bytes_refl, leg_shares s.issue s.issue s.issue (λ n. converted s.ratio n -ℤ n) (in_lieu s.ratio s.lieu) a le held))
+      any_shown s.issue (is_too_large_at (position_at R) ps (entries_by (Action.Split s) (shown R s.issue))) (λ a n. split_entry s (λ _. n) a) (takes_beyond R ps (Action.Split s)) (λ a le held. grind (arith, ints, lt-ltb corporation a le, bytes_refl, leg_shares s.issue s.issue s.issue (λ n. converted s.ratio n -ℤ n) (in_lieu s.ratio s.lieu) a le held))
   large_by few (Action.Exchange x) another =
       let hs = shown R x.old in
-      let olds = against_corporation x.old (map (λ h. old_leg x h.account h.shares) hs) in
-      let news = against_corporation x.successor (map (λ h. new_leg x h.account h.shares) hs) in
+      let olds = against_corporation x.old (map (λ h. old_entry x (λ _. h.shares) h.account) hs) in
+      let news = against_corporation x.successor (map (λ h. new_entry x (λ _. h.shares) h.account) hs) in
       let t = is_too_large_at (position_at R) ps (olds ++ news) in
       let sums = λ (d : Cusip) (a : Account) (le : 1 ≤ a) (held : has_position (holding_at R (place x.old a)) ≡ true).
       total-append (shares_for a d) olds news ∙ (λ i. leg_shares x.old x.old d neg_ℤ (λ n. pos 0) a le held i +ℤ leg_shares x.old x.successor d (converted x.ratio) (in_exchange x.ratio x.lieu x.cash) a le held i) in
       list_any-append t olds news
-      ∙ (λ i. (any_shown x.old t (old_leg x) (λ h. false) (λ a le held. rw (sums x.old a le held, bytes_refl x.old, issues_differ x.old x.successor another) (let none : (neg_ℤ (position_at R a x.old) +ℤ pos 0) +ℤ position_at R a x.old ≡ pos 0 = omega (arith, ints) in rw none (grind (arith, few a x.old le)))) ∙ list_any_none (λ h. false) hs (λ k d lt. refl)) i
-      || any_shown x.old t (new_leg x) (takes_beyond R ps (Action.Exchange x)) (λ a le held. rw (sums x.successor a le held, another, bytes_refl x.successor, zero_add, lt-ltb corporation a le) refl) i)
+      ∙ (λ i. (any_shown x.old t (λ a n. old_entry x (λ _. n) a) (λ h. false) (λ a le held. rw (sums x.old a le held, bytes_refl x.old, issues_differ x.old x.successor another) (let none : (neg_ℤ (position_at R a x.old) +ℤ pos 0) +ℤ position_at R a x.old ≡ pos 0 = omega (arith, ints) in rw none (grind (arith, few a x.old le)))) ∙ list_any_none (λ h. false) hs (λ k d lt. refl)) i
+      || any_shown x.old t (λ a n. new_entry x (λ _. n) a) (takes_beyond R ps (Action.Exchange x)) (λ a le held. rw (sums x.successor a le held, another, bytes_refl x.successor, zero_add, lt-ltb corporation a le) refl) i)
 
   -- what is looked for is what the definitions refuse
   pub same_large : AreFewShares ps → (x : Action) → IsForAnother x → (ms : List Member) → AreHolders (positions_in R (issue_of x)) ms → are_too_large (position_at R) ps (entries_of x (positions_in R (issue_of x)) ms) ≡ list_any (takes_beyond R ps x) (holders_of x R)

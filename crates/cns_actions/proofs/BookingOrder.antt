@@ -23,7 +23,6 @@ change_sorted : (x : Action) → IsForAnother x → (a : Account) (c : Change) (
 change_sorted x another a c n ds above sorted = grind (arith, nat_tests, below_accounts, in_issues)
 
 module _ (x : Action) (another : IsForAnother x) where
-  -- the bookings of higher members
   above_bookings : (a : ℕ) (hs : List Holder) → are_above a hs ≡ true → AllByRecursion (λ b. a < b.entry.account) (flat_map (member_bookings x) hs)
   above_bookings a [] l = tt
   above_bookings a (h ∷ hs) l = each_append _ (member_bookings x h) (flat_map (member_bookings x) hs) (grind (arith, nat_tests)) (above_bookings a hs (grind arith))

@@ -58,11 +58,9 @@ pub record IsBooked (all : List Entry) (n : ℕ) (now : AmountsByKey) (left : Li
   pub others : (k : Key) → AreApartFrom k all → AreApartFrom k left × (find key_cmp k now ≡ None)
   pub few : (k : Key) → IsOfTrades n (amount_at now k)
 
--- before the first
 pub none_booked : (all : List Entry) → IsBooked all 0 [] all
 none_booked all = record { sums = λ k. grind (arith, ints); others = λ k apart. (apart, refl); few = λ k. record { shares = omega arith; cents = omega arith } }
 
--- a trade is passed over
 pub trade_passed : (all : List Entry) (next : Day) (n : ℕ) (now : AmountsByKey) (p : Pend) (rest : List Pend) → is_due next p ≡ false → IsBooked all n now (due_entries next (p ∷ rest)) → IsBooked all (n + 1) now (due_entries next rest)
 trade_passed all next n now p rest due b = grind (arith, b)
 
@@ -70,7 +68,6 @@ trade_passed all next n now p rest due b = grind (arith, b)
 pub trade_sums : (p : Pend) (k : Key) (a : Amount) → with_amount (with_amount a (amount_for (buyer_entry p) k)) (amount_for (seller_entry p) k) ≡ with_amount a (amount_of (trade_entries p) k)
 trade_sums p k a = simp (+ℤ_assoc, +ℤ_idr)
 
--- or booked
 pub trade_booked : (all : List Entry) (next : Day) (n : ℕ) (now new : AmountsByKey) (p : Pend) (rest : List Pend) → is_due next p ≡ true → ((k : Key) → amount_at new k ≡ with_amount (amount_at now k) (amount_of (trade_entries p) k)) → ((k : Key) → IsOneTradeMore (amount_at now k) (amount_at new k))
     → ((k : Key) → AreApartFrom k (trade_entries p) → find key_cmp k new ≡ find key_cmp k now) → IsBooked all n now (due_entries next (p ∷ rest)) → IsBooked all (n + 1) new (due_entries next rest)
 trade_booked all next n now new p rest due more bound others b =

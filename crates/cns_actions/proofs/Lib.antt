@@ -2,7 +2,6 @@ pub mod Members
 pub mod Reachable
 pub mod ByAccount
 pub mod Skipping
-pub mod Holders
 pub mod Summing
 pub mod BookingOrder
 pub mod BookingSums

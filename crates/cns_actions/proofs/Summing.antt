@@ -27,7 +27,6 @@ module _ {x : Action} {t : Holder → Bool} {all : List Holder} {sum : Change} {
   now : AddsUp x t all sum (h ∷ with_position rest)
   now = subst (AddsUp x t all sum) (rw (first, held) refl) was
 
-  -- it is above those before it
   next_above : now.last < h.account
   next_above = grind (arith, nat_tests, now.above)
 
@@ -35,11 +34,9 @@ module _ {x : Action} {t : Holder → Bool} {all : List Holder} {sum : Change} {
   pub next_within : (R : Rows) → CanBeBooked R → (c : Cusip) → unsigned_abs (position_at R h.account c) ≤ position_limit
   next_within R can c = can.members h.account c (omega (arith, next_above))
 
-  -- where it passes the test, one of all does
   pub next_passes : t h ≡ true → list_any t all ≡ true
   next_passes e = grind (arith, now.fits)
 
-  -- else it is added
   pub next_adds : (new d : Change) → h.account ≤ member_limit → d ≡ change_of x h.shares → IsFew 1 d → new ≡ plus sum d → t h ≡ false → AddsUp x t all new (with_position rest)
   next_adds new d most same few is fails =
       let near : IsFew h.account (plus sum d) = record { before = omega (arith, ints, next_above, now.few.before, few.before); after = omega (arith, ints, next_above, now.few.after, few.after); cents = omega (arith, ints, next_above, now.few.cents, few.cents) } in

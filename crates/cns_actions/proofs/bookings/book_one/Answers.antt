@@ -6,5 +6,4 @@ pub returns-then-booking-gt0-clause-made : goal.returns-then-booking-gt0-clause-
 returns-then-booking-gt0-clause-made g c k =
     let b = c.args.booking.now in
     let added = rw (shares_passed b.entry.shares (omega (arith, c.requires.small.shares)), cents_passed b.entry.cents (omega (arith, c.requires.small.cents)), c.key_of.ensures) at c.add.ensures.booked k in
-    let carried = rw c.key_of.ensures at c.carry.ensures.carried k in
-    carried ∙ ap (aged (key_of b.entry) b.carried k) added ∙ one_made b k (holding_at (g.P.Positions.rows c.args.positions.now) k)
+    (rw c.key_of.ensures at c.carry.ensures.carried k) ∙ ap (aged (key_of b.entry) b.carried k) added ∙ one_made b k (holding_at (g.P.Positions.rows c.args.positions.now) k)
