@@ -1,6 +1,6 @@
 -- What moved a position, of all causes together.
 -- For `moves_add_up` of laws.rt.
-use Rattle.cns_account.proofs.Common.{◌≡◌, ℕ, ◌+◌, ◌^◌, ◌<◌, ◌≤◌, ℤ, pos, ◌+ℤ◌, ◌-ℤ◌, neg_ℤ, Bool, true, false, ◌&&◌, cond, eqb, Option, Some, None, arith, bytes_eq, unsigned_abs, FitsSigned, Width, int_wrap, option_map_or, cases_lt, SFits-int_wrap, fits_signed_from_abs, int_wrap-add_right, int_wrap-add_same, int_wrap_fits, ints, hbits, Day, magnitude, pend_of, same_key, total, trade_entries, Activity, Trade, Taken, Entry, Key, is_movement, Booking, of_causes, of_cause, settled_by, unmoved, with_entry, with_more, with_taken, with_trade, Moved, Moves, List, [], reverse, ◌∷◌, fold-append, fold, reverse_onto, Command, buyer_entry, seller_entry, trades}
+use Rattle.cns_account.proofs.Common.{◌≡◌, ℕ, ◌+◌, ◌^◌, ◌<◌, ◌≤◌, ℤ, pos, ◌+ℤ◌, ◌-ℤ◌, neg_ℤ, Bool, true, false, ◌&&◌, cond, eqb, Option, Some, None, arith, bytes_eq, unsigned_abs, FitsSigned, Width, int_wrap, option_map_or, cases_lt, SFits-int_wrap, fits_signed_from_abs, int_wrap-add_right, int_wrap-add_same, int_wrap_fits, ints, hbits, Day, magnitude, pend_of, same_key, total, trade_entries, Activity, Trade, Taken, Entry, Key, is_movement, Booking, of_causes, of_cause, settled_by, unmoved, with_entry, with_more, with_taken, with_trade, Moved, Moves, List, [], reverse, ◌∷◌, fold-append, fold, reverse_onto, Command, buyer_entry, seller_entry}
 
 -- whether an activity moves by a number that a command names
 abbrev pub is_named : Activity → Bool
