@@ -1,12 +1,10 @@
 -- Of the lines of movements, those at a place.
 -- For `places_are_whole` and `moves_add_up` of laws.rt.
-use Rattle.cns_account.proofs.Common.{◌≡◌, ◌∙◌, sym, ap, refl, ℕ, ◌+◌, ◌<◌, Bool, true, false, cond, List, [], ◌∷◌, ◌++◌, filter, filter_map, map, option_map, option_to_list, Option, None, Ok, arith, cons_option, Day, IsWhole, State, answer, date, filter-append, journal_of, next, opened, whole-next, whole_nil, Activity, Holding, Key, Line, state_after_line, booked, booked_since, booking, bookings_at, bookings_since, closing, counted_from, is_movement, lines_at, lines_of, places, standing, stood, HistoryLine, PlacesAreWhole, is_line_at, is_moved, Some, is_nothing, Booking, ◌&&◌, is_open, is_same_day, Command, Watched, Whose}
+use Rattle.cns_account.proofs.Common.{◌≡◌, ◌∙◌, sym, ap, refl, ℕ, ◌+◌, ◌<◌, Bool, true, false, cond, List, [], ◌∷◌, ◌++◌, filter, filter_map, map, option_map, option_to_list, Option, None, Ok, arith, cons_option, Day, IsWhole, State, answer, date, filter-append, journal_of, next, opened, whole-next, whole_nil, Activity, Holding, Key, Line, state_after_line, booked, booked_since, booking, bookings_at, bookings_since, closing, counted_from, is_movement, lines_at, lines_of, places, standing, stood, HistoryLine, PlacesAreWhole, is_line_at, is_moved, Some, is_nothing, Booking, ◌&&◌, is_open, is_same_day, Command, Watched, Whose, inl, inr, cases_Bool}
 use Rattle.cns_history.specs.declared.line.Closing.{Closing}
-use Rattle.cns_account.proofs.Grid.{is_at}
-use Rattle.cns_account.proofs.Named.{at_next, IsSame, more, names}
+use Rattle.cns_account.proofs.Named.{is_at, at_next, IsSame, more, names}
 use Rattle.cns_history.specs.Lines.{history}
 
--- no movement is a close
 since_told : (n : ℕ) (S T : State) (x : Activity) (before : List _) → is_movement (Command.Activity x) ≡ true → bookings_since Whose.All n T x (answer S (Command.Activity x)) before ≡ filter_map (booked_since n T x) before
 since_told n S T x before is = grind arith
 
@@ -20,8 +18,6 @@ from_same S x h is = grind arith
 -- what is booked nowhere has no line
 same_told : (n : ℕ) (S T : State) (x : Activity) (k : Key) → IsSame k S T → line_for n S T x k ≡ None
 same_told n S T x k same = grind arith
-
--- ---- the lines at a place
 
 one_told : (k q : Key) (b : Booking) (t u : Bool) (lines : List HistoryLine) (more : List Key) (f : Key → Option HistoryLine) → is_line_at k (HistoryLine.Booking b) ≡ u → f q ≡ cond t None (Some (HistoryLine.Booking b))
     → filter (is_line_at k) lines ≡ filter_map f more → filter (is_line_at k) (cons_option (cond t None (Some (HistoryLine.Booking b))) lines) ≡ filter_map f (cond u (q ∷ more) more)
@@ -46,11 +42,8 @@ pub movement_at : (k : Key) (n : ℕ) (S : State) (x : Activity) → k.account <
 movement_at k n S x few whole is =
     ap (filter (is_line_at k)) (since_told n S (next S (Command.Activity x)) x (map (stood S) (places Whose.All S x)) is) ∙ told_at k n S (next S (Command.Activity x)) x (places Whose.All S x)
     ∙ at_next (λ T. filter_map (line_for n S T x) (filter (is_at k) (places Whose.All S x)) ≡ option_to_list (line_for n S T x k)) S x
-    (let none : (q : Key) → line_for n S S x q ≡ None = λ q. same_told n S S x q (record { shares = refl; cents = refl }) in
-    none_told (line_for n S S x) none (filter (is_at k) (places Whose.All S x)) ∙ ap option_to_list (sym (none k)))
+    (grind (arith, none_told (line_for n S S x) (λ q. same_told n S S x q (record { shares = refl; cents = refl })) (filter (is_at k) (places Whose.All S x)), same_told n S S x k (record { shares = refl; cents = refl })))
     (λ none. let e = names S x k few whole none is in there_or_not k (line_for n S (more S x) x) e.there _ e.once (λ h. same_told n S (more S x) x k (e.others h)))
-
--- ---- the lines of a history
 
 -- no movement opens a day
 pub movement_stays : (S : State) (x : Activity) → is_movement (Command.Activity x) ≡ true → date S.opening (journal_of (next S (Command.Activity x))) ≡ date S.opening (journal_of S)
@@ -67,26 +60,18 @@ activity_line : (k : Key) (d : Day) (n : ℕ) (S : State) (x : Activity) → k.a
     → filter (is_line_at k) (lines_of (Watched.Movements d) n S (Ok (Command.Activity x))) ≡ filter (is_moved d) (lines_at k n S (Ok (Command.Activity x)))
 activity_line k d n S x few whole =
     let T = next S (Command.Activity x) in let r = answer S (Command.Activity x) in
-    rw (moved_lines d (booking k n (date T.opening (journal_of T)) x (counted_from (standing S k) r) (standing T k)) (is_nothing _) (is_open T d) (is_movement (Command.Activity x)) (closing T k n r) refl) (by (is_movement (Command.Activity x)) refl)
-  where
-    by : (m : Bool) → is_movement (Command.Activity x) ≡ m → let T = next S (Command.Activity x) in let r = answer S (Command.Activity x) in
-        filter (is_line_at k) (cond (is_open S d) (cond m (bookings_at Whose.All n S (Ok (Command.Activity x))) []) [])
-        ≡ cond (is_open T d) (cond m (option_to_list (booked (booking k n (date T.opening (journal_of T)) x (counted_from (standing S k) r) (standing T k)))) []) []
-    by false is = grind arith
-    by true is =
-        let T = next S (Command.Activity x) in
-        where_open (is_line_at k) (is_open S d) (is_open T d) _ _ (ap (λ e. is_same_day e d) (movement_stays S x is))
-        (movement_at k n S x few whole is ∙ ap (λ h. option_to_list (booked (booking k n (date T.opening (journal_of T)) x h (standing T k)))) (sym (from_same S x (standing S k) is)))
-
--- what commands lead to stays whole
-pub whole_line : (S : State) (l : Line) → IsWhole S.opening (journal_of S) → IsWhole (state_after_line S l).opening (journal_of (state_after_line S l))
-whole_line S l h1 = grind (arith, whole-next)
+    rw (moved_lines d (booking k n (date T.opening (journal_of T)) x (counted_from (standing S k) r) (standing T k)) (is_nothing _) (is_open T d) (is_movement (Command.Activity x)) (closing T k n r) refl)
+    (elim (cases_Bool (is_movement (Command.Activity x))) [
+      | inl is ↦ rw is (where_open (is_line_at k) (is_open S d) (is_open T d) _ _ (ap (λ e. is_same_day e d) (movement_stays S x is))
+          (movement_at k n S x few whole is ∙ ap (λ h. option_to_list (booked (booking k n (date T.opening (journal_of T)) x h (standing T k)))) (sym (from_same S x (standing S k) is))))
+      | inr is ↦ rw is (grind arith)
+    ])
 
 all_lines : (k : Key) (d : Day) (n : ℕ) (S : State) (ls : List Line) → k.account < 10000 → IsWhole S.opening (journal_of S)
     → filter (is_line_at k) (history (Watched.Movements d) n S ls) ≡ filter (is_moved d) (history (Watched.Place k) n S ls)
 unfolding history
 all_lines k d n S [] few whole = refl
-all_lines k d n S (l ∷ ls) few whole = grind (arith, filter-append, activity_line, all_lines k d (n + 1) (state_after_line S l) ls few (whole_line S l whole))
+all_lines k d n S (l ∷ ls) few whole = grind (arith, filter-append, activity_line, all_lines k d (n + 1) (state_after_line S l) ls few (grind (arith, whole-next, whole)))
 
 pub places_are_whole : PlacesAreWhole
 places_are_whole k opening ls d low = all_lines k d 0 (opened opening) ls (omega arith) whole_nil

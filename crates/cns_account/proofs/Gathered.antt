@@ -1,20 +1,16 @@
 -- Lists and maps that are gathered item by item, of lines or of a history.
 -- For `bookings_in` of booked.rt, `add_entry` of past.rt, `add_paid` of dividends.rt; `line_of_days` of figures.rt in cns_page; `add_entry` and `add_line` of day_moves.rt; `add_side` of pending.rt in cns_page, `add` of issues.rt in cns_page; `gather` of past.rt; `gather` of projection.rt in cns_page, `first` of sought.rt in cns_page, `live_notices` of notices.rt in cns_page.
-use Rattle.cns_account.proofs.Common.{◌≡◌, ◌∙◌, sym, ap, ℕ, ◌+◌, ◌<◌, List, [], ◌∷◌, ◌++◌, Option, add-one, filter_map, get_or, length, take, take-suc, cons_option, cond, Some, unwrap_or, is_eq, Ordering, arith, equal, suc, ◌-◌, ◌^◌, ◌≤◌, None, reverse, slice_get, take_all, Taken, entry_at, looked_at}
+use Rattle.cns_account.proofs.Common.{◌≡◌, ◌∙◌, sym, ap, ℕ, ◌+◌, ◌<◌, List, [], ◌∷◌, ◌++◌, Option, filter_map, get_or, length, take, take-suc, cons_option, cond, Some, unwrap_or, is_eq, Ordering, arith, equal, suc, ◌-◌, ◌^◌, ◌≤◌, None, reverse, slice_get, take_all, Taken, entry_at, looked_at, refl, take_more}
 use Rattle.std.proofs.lemmas.List.Elements.{filter_map-append}
 use Rattle.std.proofs.lemmas.Map.Lookups.{CmpEqualImpliesEq}
 use Rattle.std.proofs.lemmas.Option.{get_or_from_slice_get, slice_get_within, slice_get_cases}
 
--- two lists
 pub both_given : {X Y : Type 0} (f : X → Option Y) (xs ys : List X) → filter_map f (xs ++ ys) ≡ filter_map f xs ++ filter_map f ys
 both_given f xs ys = filter_map-append f xs ys
 
--- one more of a list
 pub given_more : {X Y : Type 0} (f : X → Option Y) (xs : List X) (i : ℕ) (x : X) (o : Option Y) (items : List Y) → i < length xs → get_or xs i x ≡ x → f x ≡ o
     → items ≡ filter_map f (take i xs) → items ++ cons_option o [] ≡ filter_map f (take (i + 1) xs)
-given_more f xs i x o items lt at is was =
-    rw (was, ← is) (sym (filter_map-append f (take i xs) (x ∷ []))
-    ∙ ap (filter_map f) (ap (λ y. take i xs ++ y ∷ []) (sym at) ∙ sym (take-suc xs i x lt) ∙ ap (λ n. take n xs) (sym (add-one i))))
+given_more f xs i x o items lt at is was = rw (was, ← is, take_more xs i x lt, at, filter_map-append f (take i xs) (x ∷ [])) refl
 
 module _ {K V : Type 0} (cmp : K → K → Ordering) (exact : CmpEqualImpliesEq cmp) (none : V) (f : V → V) (old new : K → Option V) (key : K) (v : V)
     (updates : (q : K) → new q ≡ cond (is_eq (cmp key q)) (Some v) (old q)) (is : v ≡ f (unwrap_or (old key) none)) where
@@ -26,24 +22,19 @@ module _ {K V : Type 0} (cmp : K → K → Ordering) (exact : CmpEqualImpliesEq 
   pub put_at : (k : K) → unwrap_or (new k) none ≡ cond (is_eq (cmp key k)) (f (unwrap_or (old k) none)) (unwrap_or (old k) none)
   put_at k = grind (arith, put_found k)
 
--- one element more
 pub take_next : {X : Type 0} (xs : List X) (k : ℕ) (x : X) → slice_get xs k ≡ Some x → take (suc k) xs ≡ take k xs ++ x ∷ []
 take_next xs k x is = take-suc xs k x (slice_get_within xs k x is) ∙ ap (λ y. take k xs ++ (y ∷ [])) (get_or_from_slice_get xs k x x is)
 
--- all of them
 pub take_past : {X : Type 0} (xs : List X) (k n : ℕ) → slice_get xs k ≡ None → k ≤ n → take k xs ≡ take n xs
 take_past xs k n is le = grind (arith, take_all, slice_get_cases)
 
--- an entry by its place
 entry_there : (H : List Taken) (place : ℕ) → 1 ≤ place → entry_at H place ≡ slice_get (reverse H) (place - 1)
 entry_there H place le = grind arith
 
--- one entry more
 pub entry_more : (H : List Taken) (place : ℕ) (t : Taken) → 1 ≤ place → entry_at H place ≡ Some t → take (place - 1) (reverse H) ++ t ∷ [] ≡ take (place + 1 - 1) (reverse H)
 entry_more H place t le there =
     let later : suc (place - 1) ≡ place + 1 - 1 = omega arith in
     sym (take_next (reverse H) (place - 1) t (sym (entry_there H place le) ∙ there)) ∙ ap (λ n. take n (reverse H)) later
 
--- no entry is left
 pub entries_end : (H : List Taken) (place : ℕ) → 1 ≤ place → place < 2 ^ 32 - 1 → entry_at H place ≡ None → take (place - 1) (reverse H) ≡ looked_at H
 entries_end H place le lt none = take_past (reverse H) (place - 1) (2 ^ 32 - 2) (sym (entry_there H place le) ∙ none) (omega arith)

@@ -1,11 +1,8 @@
 pub mod Gathered
-pub mod Ledger
-pub mod Grid
 pub mod Named
 pub mod AtPlaces
 pub mod Summed
 pub mod Recorded
-pub mod Rows
 pub mod Marked
 pub mod AddingUp
 pub mod Common

@@ -16,20 +16,15 @@ wrap_few w z = let e = SFits-int_wrap w z in let f = fits_signed_from_abs w z in
 -- what is added to one of some numbers is added to their sum
 sum_more : (w : Width) (x y d old new v : ℤ) → d ≡ int_wrap w (x +ℤ y) → new +ℤ x ≡ old +ℤ d → int_wrap w old ≡ int_wrap w v → int_wrap w new ≡ int_wrap w (v +ℤ y)
 sum_more w x y d old new v is are same =
-    let back : (old -ℤ x) +ℤ (x +ℤ y) ≡ old +ℤ y = omega (arith, ints) in
-    let all : new ≡ (old -ℤ x) +ℤ d = omega (arith, ints) in
+    let both : ((old -ℤ x) +ℤ (x +ℤ y) ≡ old +ℤ y) × (new ≡ (old -ℤ x) +ℤ d) = (omega (arith, ints), omega (arith, ints)) in
     grind (arith, int_wrap-add_right, int_wrap-add_same)
 
--- ---- shares or cents
-
--- those of what moved a position, as they are picked
 abbrev pub of_moved : (ℤ → ℤ → ℤ) → Moved → ℤ
 of_moved pick m = pick m.shares m.cents
 
 abbrev pub of_entry : (ℤ → ℤ → ℤ) → Entry → ℤ
 of_entry pick e = pick e.shares e.cents
 
--- at a place
 abbrev pub entry_at : (ℤ → ℤ → ℤ) → Key → Entry → ℤ
 entry_at pick k e = cond (eqb e.account k.account && bytes_eq e.issue k.issue) (of_entry pick e) (pos 0)
 
@@ -52,23 +47,17 @@ module _ {w : Width} {pick : ℤ → ℤ → ℤ} (picked : IsPicked w pick) whe
   pub same : (m : Moves) (v v' : ℤ) (n n' : ℕ) → Comes w pick m v n → v ≡ v' → n ≤ n' → Comes w pick m v' n'
   same m v v' n n' c is le = grind arith
 
-  pub none_moved : Comes w pick unmoved (pos 0) 0
-  none_moved = grind (arith, ints, picked.none)
-
   few_more : (x : Moved) (a b : ℤ) → unsigned_abs (of_moved pick (with_more x a b)) ≤ unsigned_abs (of_moved pick x) + unsigned_abs (pick a b)
   few_more x a b = rw (picked.more x a b) (let e = wrap_few w (of_moved pick x +ℤ pick a b) in omega (arith, ints))
 
-  -- one cause more
   part_more : (m m' : Moves) (x : Moved) (a b v : ℤ) (n u : ℕ) → Comes w pick m v n → of_causes (of_moved pick) m' +ℤ of_moved pick x ≡ of_causes (of_moved pick) m +ℤ of_moved pick (with_more x a b)
       → size_of pick m' ≤ size_of pick m + u → FitsSigned w (of_moved pick m'.actions) → Comes w pick m' (v +ℤ pick a b) (n + u)
   part_more m m' x a b v n u c all size fits = record { sum = sum_more w (of_moved pick x) (pick a b) (of_moved pick (with_more x a b)) _ _ v (picked.more x a b) all c.sum; few = omega (arith, size, c.few); fits = fits }
 
   entry_more : (k : Key) (m : Moves) (v : ℤ) (n : ℕ) (e : Entry) → Comes w pick m v n → Comes w pick (with_entry k m e) (v +ℤ entry_at pick k e) (n + unsigned_abs (of_entry pick e))
-  entry_more k m v n e c = rw (same_key (record { account = e.account; issue = e.issue }) k) (by (eqb e.account k.account && bytes_eq e.issue k.issue))
-    where
-      by : (b : Bool) → Comes w pick (cond b (record m { trades = with_more m.trades e.shares e.cents }) m) (v +ℤ cond b (of_entry pick e) (pos 0)) (n + unsigned_abs (of_entry pick e))
-      by true = part_more m (record m { trades = with_more m.trades e.shares e.cents }) m.trades e.shares e.cents v n _ c (omega (arith, ints)) (omega (arith, few_more m.trades e.shares e.cents)) c.fits
-      by false = same m v (v +ℤ pos 0) n (n + unsigned_abs (of_entry pick e)) c (omega (arith, ints)) (omega arith)
+  entry_more k m v n e c =
+      let more = part_more m (record m { trades = with_more m.trades e.shares e.cents }) m.trades e.shares e.cents v n (unsigned_abs (of_entry pick e)) c (omega (arith, ints)) (omega (arith, few_more m.trades e.shares e.cents)) c.fits in
+      rw (same_key (record { account = e.account; issue = e.issue }) k) (grind (arith, ints, more))
 
   -- a trade of the history, which has no more than some number
   pub taken_last : (k : Key) (before : Option Day) (day : Day) (H : List Taken) (t : Taken) (v : ℤ) (n few : ℕ) → Comes w pick (fold (with_taken before day k) unmoved (reverse H)) v n
@@ -78,13 +67,12 @@ module _ {w : Width} {pick : ℤ → ℤ → ℤ} (picked : IsPicked w pick) whe
     where
       by : (o : Option Trade) (m : Moves) → Comes w pick m v n → option_map_or (λ x. magnitude (of_entry pick) (trade_entries (pend_of x))) o 0 ≤ few
           → Comes w pick (option_map_or (with_trade k m) o m) (option_map_or (λ x. total (entry_at pick k) (trade_entries (pend_of x))) o (pos 0) +ℤ v) (n + few)
-      by None m c le = same m v (pos 0 +ℤ v) n (n + few) c (omega (arith, ints)) (omega arith)
+      by None m c le = grind (arith, ints)
       by (Some x) m c le = same _ _ (total (entry_at pick k) (trade_entries (pend_of x)) +ℤ v) _ (n + few) (entry_more k _ _ _ (seller_entry (pend_of x)) (entry_more k m v n (buyer_entry (pend_of x)) c)) (omega (arith, ints)) (omega arith)
 
   action_more : (m : Moves) (v : ℤ) (n : ℕ) (b : Booking) → Comes w pick m v n → Comes w pick (record m { actions = with_more m.actions b.shares b.cents }) (v +ℤ pick b.shares b.cents) (n + 0)
   action_more m v n b c = part_more m (record m { actions = with_more m.actions b.shares b.cents }) m.actions b.shares b.cents v n 0 c (omega (arith, ints)) (omega arith) (rw (picked.more m.actions b.shares b.cents) (SFits-int_wrap w _))
 
-  -- a booking
   pub cause_more : (m : Moves) (v : ℤ) (n : ℕ) (b : Booking) (x : Activity) → Comes w pick m v n
       → Comes w pick (of_cause m b x) (v +ℤ cond (is_movement (Command.Activity x)) (pick b.shares b.cents) (pos 0)) (n + cond (is_named x) (unsigned_abs (pick b.shares b.cents)) 0)
   cause_more m v n b (Activity.Deliver x) c = part_more m (record m { delivered = with_more m.delivered b.shares b.cents }) m.delivered b.shares b.cents v n _ c (omega (arith, ints)) (omega (arith, few_more m.delivered b.shares b.cents)) c.fits
@@ -94,12 +82,9 @@ module _ {w : Width} {pick : ℤ → ℤ → ℤ} (picked : IsPicked w pick) whe
   cause_more m v n b (Activity.Exchange x) c = action_more m v n b c
   cause_more m v n b x c = same m v (v +ℤ pos 0) n (n + 0) c (omega (arith, ints)) (omega arith)
 
--- the sums are exact
 exact_all : (w : Width) (all acts others q : ℤ) → int_wrap w all ≡ int_wrap w q → FitsSigned w acts → all ≡ others +ℤ acts → unsigned_abs q + unsigned_abs others < 2 ^ hbits w → all ≡ q
 exact_all w all acts others q c fits sum small =
-    let near : FitsSigned w (q -ℤ others) = fits_signed_from_abs w _ (omega (arith, ints)) in
-    let left : all +ℤ neg_ℤ others ≡ acts = omega (arith, ints) in
-    grind (arith, ints, int_wrap_fits w acts fits, int_wrap_fits w (q -ℤ others) near, int_wrap-add_same w all q (neg_ℤ others) c)
+    grind (arith, ints, int_wrap_fits w acts fits, int_wrap_fits w (q -ℤ others) (fits_signed_from_abs w _ (omega (arith, ints))), int_wrap-add_same w all q (neg_ℤ others) c)
 
 pub exact : {w : Width} {pick : ℤ → ℤ → ℤ} (m : Moves) (q : ℤ) (n : ℕ) → Comes w pick m q n → unsigned_abs q + n < 2 ^ hbits w → of_causes (of_moved pick) m ≡ q
 exact {w} {pick} m q n c small =

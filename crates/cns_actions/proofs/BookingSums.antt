@@ -1,47 +1,30 @@
 -- What is booked for a split or an exchange: that it makes of every holding what the definitions do.
 -- For `bookings_for` of acting.rt.
-use Rattle.cns_actions.proofs.Common.{◌≡◌, ◌∙◌, sym, ap, refl, ℕ, ℤ, pos, ◌+ℤ◌, ◌-ℤ◌, neg_ℤ, Bool, true, false, cond, ◌&&◌, ◌==◌, List, [], ◌∷◌, ◌++◌, map, None, arith, int_eq, flat_map, Account, Action, AreHolders, Booking, Change, Cusip, Entry, Exchange, Holder, Holding, Key, Member, Rows, Split, against_corporation, age_brought, all_bookings, all_holders_of, bookings_for, books, carried_to, cents_for, converted, corporation, entries_in, entries_of, entry, greatest, has_position, has_position_or_age, held_above, holders, holders_in, holders_of, holding_at, ints, is_sorted, issue_of, key_cmp, makes, map-append, member_bookings, nat_tests, new_entry, old_entry, oldest_of, opposite, positions_in, same_issue, shares_for, sum_of, total, total-add, total-append, total-map, total-zero, with_age, with_position}
+use Rattle.cns_actions.proofs.Common.{◌≡◌, ◌∙◌, sym, refl, ℕ, ℤ, pos, ◌+ℤ◌, ◌-ℤ◌, neg_ℤ, Bool, true, false, cond, ◌&&◌, ◌==◌, List, [], ◌∷◌, ◌++◌, map, None, arith, int_eq, flat_map, Account, Action, AreHolders, Booking, Change, Cusip, Entry, Holder, Holding, Key, Member, Rows, against_corporation, age_brought, all_bookings, all_holders_of, bookings_for, books, carried_to, cents_for, converted, corporation, entries_in, entries_of, entry, greatest, has_position, has_position_or_age, held_above, holders, holders_in, holders_of, holding_at, ints, is_sorted, issue_of, key_cmp, makes, map-append, member_bookings, nat_tests, new_entry, old_entry, oldest_of, opposite, positions_in, same_issue, shares_for, sum_of, total, total-add, total-append, total-map, total-zero, with_age, with_position, total-neg}
 use Rattle.cns_terms.specs.Entries.{split_entry}
 use Rattle.cns_terms.proofs.CarriedAges.{greatest-append}
-use Rattle.cns_actions.proofs.ByAccount.{listed_at, listed_rising, place, greatest_at}
-use Rattle.cns_actions.proofs.Holders.{Alike, legs_alike, shown}
-
--- ---- the entries of the definitions, by the members that are shown
-
--- what a split books for a member
-abbrev pub split_leg : Split → Account → ℤ → Entry
-split_leg s a n = split_entry s (λ _. n) a
-
--- what an exchange does, in the old issue and in the successor
-abbrev pub old_leg : Exchange → Account → ℤ → Entry
-old_leg x a n = old_entry x (λ _. n) a
-
-abbrev pub new_leg : Exchange → Account → ℤ → Entry
-new_leg x a n = new_entry x (λ _. n) a
+use Rattle.cns_actions.proofs.ByAccount.{listed_at, listed_rising, place, greatest_at, Alike, legs_alike, shown}
 
 -- the entries for such members
 abbrev pub entries_by : Action → List Holder → List Entry
-entries_by (Action.Split s) hs = against_corporation s.issue (map (λ h. split_leg s h.account h.shares) hs)
-entries_by (Action.Exchange x) hs = against_corporation x.old (map (λ h. old_leg x h.account h.shares) hs) ++ against_corporation x.successor (map (λ h. new_leg x h.account h.shares) hs)
+entries_by (Action.Split s) hs = against_corporation s.issue (map (λ h. split_entry s (λ _. h.shares) h.account) hs)
+entries_by (Action.Exchange x) hs = against_corporation x.old (map (λ h. old_entry x (λ _. h.shares) h.account) hs) ++ against_corporation x.successor (map (λ h. new_entry x (λ _. h.shares) h.account) hs)
 
 -- they are alike, whether the members are named or shown
 against_alike : (c : Cusip) (es fs : List Entry) → Alike es fs → Alike (against_corporation c es) (against_corporation c fs)
 against_alike c es fs same f = λ i. f (entry corporation c (neg_ℤ (same (λ e. e.shares) i)) (neg_ℤ (same (λ e. e.cents) i))) +ℤ same f i
 
 pub entries_alike : (R : Rows) → is_sorted key_cmp R ≡ true → (x : Action) (ms : List Member) → AreHolders (positions_in R (issue_of x)) ms → Alike (entries_of x (positions_in R (issue_of x)) ms) (entries_by x (holders_of x R))
-entries_alike R order (Action.Split s) ms are f = against_alike s.issue _ _ (legs_alike R order s.issue ms are (split_leg s)) f
-entries_alike R order (Action.Exchange x) ms are f = grind (arith, against_alike x.old _ _ (legs_alike R order x.old ms are (old_leg x)) f, against_alike x.successor _ _ (legs_alike R order x.old ms are (new_leg x)) f, total-append f (against_corporation x.old (map (old_entry x (positions_in R x.old)) (holders (positions_in R x.old) ms))), total-append f (against_corporation x.old (map (λ h. old_leg x h.account h.shares) (shown R x.old))))
-
--- ---- what is booked adds up to the same
+entries_alike R order (Action.Split s) ms are f = against_alike s.issue _ _ (legs_alike R order s.issue ms are (λ a n. split_entry s (λ _. n) a)) f
+entries_alike R order (Action.Exchange x) ms are f = grind (arith, against_alike x.old _ _ (legs_alike R order x.old ms are (λ a n. old_entry x (λ _. n) a)) f, against_alike x.successor _ _ (legs_alike R order x.old ms are (λ a n. new_entry x (λ _. n) a)) f, total-append f (against_corporation x.old (map (old_entry x (positions_in R x.old)) (holders (positions_in R x.old) ms))), total-append f (against_corporation x.old (map (λ h. old_entry x (λ _. h.shares) h.account) (shown R x.old))))
 
 -- sums that nothing adds to
 abbrev IsSum : (Entry → ℤ) → Type 0
 IsSum f = (a : Account) (c : Cusip) → f (entry a c (pos 0) (pos 0)) ≡ pos 0
 
--- a sum over a member's entries
 abbrev legs : (Entry → ℤ) → Action → Holder → ℤ
-legs f (Action.Split s) h = f (split_leg s h.account h.shares)
-legs f (Action.Exchange x) h = f (old_leg x h.account h.shares) +ℤ f (new_leg x h.account h.shares)
+legs f (Action.Split s) h = f (split_entry s (λ _. h.shares) h.account)
+legs f (Action.Exchange x) h = f (old_entry x (λ _. h.shares) h.account) +ℤ f (new_entry x (λ _. h.shares) h.account)
 
 -- what is booked for members adds up over those with a position
 member_total : (f : Entry → ℤ) → IsSum f → (x : Action) (h : Holder) → total f (entries_in (member_bookings x h)) ≡ cond (int_eq h.shares (pos 0)) (pos 0) (legs f x h)
@@ -51,17 +34,13 @@ members_total : (f : Entry → ℤ) → IsSum f → (x : Action) (hs : List Hold
 members_total f sum x [] = refl
 members_total f sum x (h ∷ hs) = grind (arith, ints, map-append, total-append, member_total f sum x h, members_total f sum x hs)
 
--- a sum of differences
 differences : (f g : Holder → ℤ) (hs : List Holder) → neg_ℤ (total f hs) -ℤ neg_ℤ (total g hs) ≡ neg_ℤ (total (λ h. f h -ℤ g h) hs)
-differences f g [] = refl
-differences f g (h ∷ hs) = omega (arith, ints, differences f g hs)
+differences f g hs = omega (arith, ints, total-add f (λ h. neg_ℤ (g h)) hs, total-neg g hs)
 
--- and of opposites
-neg_total : (f : Holder → ℤ) (hs : List Holder) → neg_ℤ (neg_ℤ (total f hs)) ≡ neg_ℤ (total (λ h. neg_ℤ (f h)) hs)
-neg_total f [] = refl
-neg_total f (h ∷ hs) = omega (arith, ints, neg_total f hs)
+-- a sum over the entries for members, and the corporation's against them
+against : (f : Entry → ℤ) (c : Cusip) (L : Holder → Entry) (hs : List Holder) → total f (against_corporation c (map L hs)) ≡ f (entry corporation c (neg_ℤ (total (λ h. (L h).shares) hs)) (neg_ℤ (total (λ h. (L h).cents) hs))) +ℤ total (λ h. f (L h)) hs
+against f c L hs = rw (total-map f L hs, total-map (λ e. e.shares) L hs, total-map (λ e. e.cents) L hs) refl
 
--- a sum over two bookings in either order
 pair_total : (f : Entry → ℤ) (t : Bool) (b d : Booking) (bs : List Booking) → total f (entries_in (cond t (b ∷ d ∷ []) (d ∷ b ∷ []) ++ bs)) ≡ f b.entry +ℤ (f d.entry +ℤ total f (entries_in bs))
 pair_total f t b d bs = grind (arith, ints)
 
@@ -69,37 +48,19 @@ pair_total f t b d bs = grind (arith, ints)
 bookings_alike : (f : Entry → ℤ) → IsSum f → (x : Action) (n : ℕ) (hs : List Holder) → total f (entries_in (all_bookings x (sum_of x (with_position hs)) n hs)) ≡ total f (entries_by x (with_position hs))
 bookings_alike f sum (Action.Split s) n hs =
     let ks = with_position hs in
-    let L = λ (h : Holder). split_leg s h.account h.shares in
-    rw (members_total f sum (Action.Split s) hs, total-map f L ks, total-map (λ e. e.shares) L ks, total-map (λ e. e.cents) L ks, differences (λ h. converted s.ratio h.shares) (λ h. h.shares) ks) refl
+    rw (members_total f sum (Action.Split s) hs, against f s.issue (λ h. split_entry s (λ _. h.shares) h.account) ks, differences (λ h. converted s.ratio h.shares) (λ h. h.shares) ks) refl
 bookings_alike f sum (Action.Exchange x) n hs =
     let ks = with_position hs in
-    let O = λ (h : Holder). old_leg x h.account h.shares in
-    let N = λ (h : Holder). new_leg x h.account h.shares in
+    let O = λ (h : Holder). old_entry x (λ _. h.shares) h.account in
+    let N = λ (h : Holder). new_entry x (λ _. h.shares) h.account in
     pair_total f _ _ _ (flat_map (member_bookings (Action.Exchange x)) hs)
-    ∙ rw (
-      members_total f sum (Action.Exchange x) hs,
-      total-add (λ h. f (O h)) (λ h. f (N h)) ks,
-      neg_total (λ h. h.shares) ks,
-      total-append f (against_corporation x.old (map O ks)) (against_corporation x.successor (map N ks)),
-      total-map f O ks,
-      total-map f N ks,
-      total-map (λ e. e.shares) O ks,
-      total-map (λ e. e.cents) O ks,
-      total-map (λ e. e.shares) N ks,
-      total-map (λ e. e.cents) N ks,
-      total-zero ks,
-    ) (omega (arith, ints))
-
--- entries with the same sums make the same of a holding
-same_sums : (es fs : List Entry) (k : Key) (h : Holding) → ((f : Entry → ℤ) → IsSum f → total f es ≡ total f fs) → books es k h ≡ books fs k h
-same_sums es fs k h same = rw (same (shares_for k.account k.issue) (λ a c. grind arith), same (cents_for k.account k.issue) (λ a c. grind arith)) refl
+    ∙ rw (members_total f sum (Action.Exchange x) hs, total-add (λ h. f (O h)) (λ h. f (N h)) ks, total-append f (against_corporation x.old (map O ks)) (against_corporation x.successor (map N ks)), against f x.old O ks, against f x.successor N ks, total-neg (λ h. h.shares) ks, total-zero ks)
+    (omega (arith, ints))
 
 -- those with a position are the holders of one
 pub positions_kept : (c : Cusip) (rows : Rows) → with_position (holders_in has_position_or_age c rows) ≡ holders_in has_position c rows
 positions_kept c [] = refl
 positions_kept c (r ∷ rows) = grind (arith, positions_kept c rows)
-
--- ---- the ages
 
 -- whether ages are brought to a key
 abbrev brings : Action → Key → Bool
@@ -107,35 +68,19 @@ brings (Action.Split s) k = false
 brings (Action.Exchange x) k = same_issue x.successor k.issue
 
 -- the age that an account's bookings bring to a key, and the greatest that the members' do
-own_age : (x : Action) (k : Key) (c : Change) (a : Account) (n : ℕ) → greatest (carried_to k) (bookings_for x a c n) ≡ cond ((a == k.account) && brings x k) n 0
-own_age x k c a n = grind arith
-
-member_age : (x : Action) (k : Key) (h : Holder) → greatest (carried_to k) (member_bookings x h) ≡ cond ((h.account == k.account) && brings x k) h.oldest 0
-member_age x k h = grind (arith, nat_tests)
-
 members_age : (x : Action) (k : Key) (hs : List Holder) → greatest (carried_to k) (flat_map (member_bookings x) hs) ≡ greatest (λ h. cond ((h.account == k.account) && brings x k) h.oldest 0) hs
 members_age x k [] = refl
-members_age x k (h ∷ hs) = grind (arith, greatest-append (carried_to k) (member_bookings x h) (flat_map (member_bookings x) hs), member_age x k h, members_age x k hs)
+members_age x k (h ∷ hs) = grind (arith, nat_tests, greatest-append (carried_to k) (member_bookings x h) (flat_map (member_bookings x) hs), members_age x k hs)
 
--- the age of an account's short in an issue
-abbrev oldest_in : Rows → Cusip → Account → ℕ
-oldest_in R c a = oldest_of (holding_at R (place c a))
-
--- what they bring is what the definitions do
-brought_is : (R : Rows) (x : Action) (k : Key) → cond (brings x k) (oldest_in R (issue_of x) k.account) 0 ≡ age_brought R x k
-brought_is R x k = grind arith
-
-same_ages : (R : Rows) → is_sorted key_cmp R ≡ true → (k : Key) (x : Action) (sum : Change) → greatest (carried_to k) (all_bookings x sum (oldest_in R (issue_of x) corporation) (all_holders_of x R)) ≡ age_brought R x k
+same_ages : (R : Rows) → is_sorted key_cmp R ≡ true → (k : Key) (x : Action) (sum : Change) → greatest (carried_to k) (all_bookings x sum (oldest_of (holding_at R (place (issue_of x) corporation))) (all_holders_of x R)) ≡ age_brought R x k
 same_ages R order k x sum =
     let hs = all_holders_of x R in
     let rising = listed_rising has_position_or_age refl (issue_of x) R order in
-    grind (arith, nat_tests, members_age x k hs, greatest_at k.account (brings x k) hs rising, listed_at has_position_or_age refl (issue_of x) R order k.account, greatest-append (carried_to k) (bookings_for x corporation (opposite sum) (oldest_in R (issue_of x) corporation)) (flat_map (member_bookings x) hs), own_age x k (opposite sum) corporation (oldest_in R (issue_of x) corporation), brought_is R x k)
+    grind (arith, nat_tests, members_age x k hs, greatest_at k.account (brings x k) hs rising, listed_at has_position_or_age refl (issue_of x) R order k.account, greatest-append (carried_to k) (bookings_for x corporation (opposite sum) (oldest_of (holding_at R (place (issue_of x) corporation)))) (flat_map (member_bookings x) hs))
 
 -- what is booked makes of a holding what the definitions do
 pub same_makes : (R : Rows) → is_sorted key_cmp R ≡ true → (x : Action) (ms : List Member) → AreHolders (positions_in R (issue_of x)) ms → (k : Key) (h : Holding)
-    → makes (all_bookings x (sum_of x (holders_of x R)) (oldest_in R (issue_of x) corporation) (all_holders_of x R)) k h ≡ with_age (age_brought R x k) (books (entries_of x (positions_in R (issue_of x)) ms) k h)
-same_makes R order x ms are k h i =
-    with_age (same_ages R order k x (sum_of x (holders_of x R)) i)
-    (same_sums (entries_in (all_bookings x (sum_of x (holders_of x R)) (oldest_in R (issue_of x) corporation) (all_holders_of x R))) (entries_of x (positions_in R (issue_of x)) ms) k h (λ f sum.
-    ap (λ hs. total f (entries_in (all_bookings x (sum_of x hs) (oldest_in R (issue_of x) corporation) (all_holders_of x R)))) (sym (positions_kept (issue_of x) (held_above R None)))
-    ∙ bookings_alike f sum x (oldest_in R (issue_of x) corporation) (all_holders_of x R) ∙ ap (λ hs. total f (entries_by x hs)) (positions_kept (issue_of x) (held_above R None)) ∙ sym (entries_alike R order x ms are f)) i)
+    → makes (all_bookings x (sum_of x (holders_of x R)) (oldest_of (holding_at R (place (issue_of x) corporation))) (all_holders_of x R)) k h ≡ with_age (age_brought R x k) (books (entries_of x (positions_in R (issue_of x)) ms) k h)
+same_makes R order x ms are k h =
+    let same = λ (f : Entry → ℤ) (sum : IsSum f). (rw (positions_kept (issue_of x) (held_above R None)) at (bookings_alike f sum x (oldest_of (holding_at R (place (issue_of x) corporation))) (all_holders_of x R))) ∙ sym (entries_alike R order x ms are f) in
+    rw (same_ages R order k x (sum_of x (holders_of x R)), same (shares_for k.account k.issue) (λ a c. grind arith), same (cents_for k.account k.issue) (λ a c. grind arith)) refl

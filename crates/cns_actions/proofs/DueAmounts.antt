@@ -1,16 +1,10 @@
 -- What trades book, added up by key.
 -- For `listed` of due_bookings.rt, `add`, `add_trade` and `of` of due_amounts.rt.
-use Rattle.cns_actions.proofs.Common.{◌≡◌, ◌≢◌, ◌∙◌, sym, ap, refl, ℕ, ◌+◌, ◌*◌, ◌^◌, ◌≤◌, ◌<◌, ◌+ℤ◌, Bool, true, false, cond, ◌&&◌, unsigned_abs, List, [], ◌∷◌, map, Option, Some, None, unwrap_or, arith, is_eq, is_lt, AllByRecursion, IsSmall, each_map, each_weaker, Amount, AmountsByKey, AreApartFrom, AreElsewhere, AreSmall, Day, Entry, HasRoomForTrade, Holding, IsOneTradeMore, IsSmallAmount, Key, Pend, amount_at, amount_for, amount_of, as_booking, below_all, buyer_entry, by_key, due_entries, equal, exact_keys, find, find_below, insert_entry, ints, is_sorted, key_cmp, key_of, keys_total, lookup, makes, money_limit, no_amount, same_key, seller_entry, shares_limit, tied_below, tied_itself, trade_entries, with_amount, with_entry, +ℤ_assoc, +ℤ_comm, +ℤ_idl, +ℤ_idr, max-zero}
+use Rattle.cns_actions.proofs.Common.{◌≡◌, ◌≢◌, ◌∙◌, refl, ℕ, ◌+◌, ◌*◌, ◌^◌, ◌≤◌, ◌<◌, ◌+ℤ◌, true, false, cond, unsigned_abs, List, [], ◌∷◌, map, Some, None, arith, is_eq, AllByRecursion, IsSmall, each_map, each_weaker, Amount, AmountsByKey, AreApartFrom, AreElsewhere, AreSmall, Day, Entry, HasRoomForTrade, Holding, IsOneTradeMore, IsSmallAmount, Key, Pend, amount_at, amount_for, amount_of, as_booking, below_all, buyer_entry, by_key, due_entries, equal, exact_keys, find, find_below, insert_entry, ints, is_sorted, key_cmp, key_of, keys_total, lookup, makes, money_limit, same_key, seller_entry, shares_limit, tied_below, tied_itself, trade_entries, with_amount, with_entry, +ℤ_assoc, +ℤ_comm, +ℤ_idl, +ℤ_idr, max-zero}
 use Rattle.std.specs.BTreeMap.{is_at}
 use Rattle.cns_terms.specs.Pending.{is_due}
 use Rattle.std.proofs.lemmas.Cmp.{eq_by_cmp_equiv}
 use Rattle.cns_actions.proofs.Making.{makes_first}
-
--- ---- amounts
-
--- what a search found, as the amount at a key
-pub had_is : (k : Key) (es : AmountsByKey) (o : Option Amount) (a : Amount) → a ≡ unwrap_or o no_amount → o ≡ lookup (is_at (key_cmp k)) es → a ≡ amount_at es k
-had_is k es o a is found = rw found at is
 
 -- what is booked at a key has room, where each amount has
 pub room_at : (k : Key) (es : AmountsByKey) → AllByRecursion (λ e. IsSmallAmount e.1) es → IsSmallAmount (amount_at es k)
@@ -31,18 +25,15 @@ module _ (old new : AmountsByKey) (key : Key) (a : Amount) (updates : (q : Key) 
   pub found_apart : (k : Key) → k ≢ key → find key_cmp k new ≡ find key_cmp k old
   found_apart k apart = grind (arith, updates k, exact_keys key k)
 
--- ---- as bookings
-
 -- they are in order, at the same keys
 below_bookings : (k : Key) (es : AmountsByKey) → below_all key_cmp k (by_key (map as_booking es)) ≡ below_all key_cmp k es
 below_bookings k [] = refl
-below_bookings k (e ∷ es) = ap (λ b. is_lt (key_cmp k e.0) && b) (below_bookings k es)
+below_bookings k (e ∷ es) = grind (arith, below_bookings k es)
 
 pub sorted_bookings : (es : AmountsByKey) → is_sorted key_cmp (by_key (map as_booking es)) ≡ is_sorted key_cmp es
 sorted_bookings [] = refl
-sorted_bookings (e ∷ es) = λ i. below_bookings e.0 es i && sorted_bookings es i
+sorted_bookings (e ∷ es) = grind (arith, below_bookings e.0 es, sorted_bookings es)
 
--- and small
 pub amounts_small : (es : AmountsByKey) → AllByRecursion (λ e. IsSmallAmount e.1) es → AreSmall (map as_booking es)
 amounts_small es h = each_map (λ b. IsSmall b.entry) as_booking es (each_weaker _ _ es (λ e h. grind (arith, h)) h)
 
@@ -51,16 +42,10 @@ pub amounts_elsewhere : (k : Key) (es : AmountsByKey) → find key_cmp k es ≡ 
 amounts_elsewhere k [] none = tt
 amounts_elsewhere k (e ∷ es) none = grind (arith, tied_itself keys_total k, amounts_elsewhere k es)
 
--- what an amount makes of a holding
-abbrev pub with_holding : Amount → Holding → Holding
-with_holding a h = record h { now = a.shares +ℤ h.now; contract = a.cents +ℤ h.contract }
-
 -- each key gets its amount
-pub bookings_make : (es : AmountsByKey) → is_sorted key_cmp es ≡ true → (k : Key) (h : Holding) → makes (map as_booking es) k h ≡ with_holding (amount_at es k) h
+pub bookings_make : (es : AmountsByKey) → is_sorted key_cmp es ≡ true → (k : Key) (h : Holding) → makes (map as_booking es) k h ≡ record h { now = (amount_at es k).shares +ℤ h.now; contract = (amount_at es k).cents +ℤ h.contract }
 bookings_make [] s k h = grind arith
 bookings_make (e ∷ es) s k h = grind (arith, +ℤ_idl, +ℤ_comm h.now e.1.shares, +ℤ_comm h.contract e.1.cents, makes_first (as_booking e) (map as_booking es) k h, bookings_make es, same_key e.0 k, (eq_by_cmp_equiv keys_total).symm k e.0, equal, find_below keys_total k es, tied_below keys_total k e.0 es, max-zero)
-
--- ---- trades
 
 -- what so many trades may book at a key
 pub record IsOfTrades (n : ℕ) (a : Amount) : Type 0 where
@@ -73,42 +58,20 @@ pub record IsBooked (all : List Entry) (n : ℕ) (now : AmountsByKey) (left : Li
   pub others : (k : Key) → AreApartFrom k all → AreApartFrom k left × (find key_cmp k now ≡ None)
   pub few : (k : Key) → IsOfTrades n (amount_at now k)
 
--- the entries of a trade, if it is due, and of those after it
-due_first : (next : Day) (p : Pend) (rest : List Pend) (t : Bool) → is_due next p ≡ t → due_entries next (p ∷ rest) ≡ cond t (buyer_entry p ∷ seller_entry p ∷ due_entries next rest) (due_entries next rest)
-due_first next p rest t e = grind arith
-
--- before the first
 pub none_booked : (all : List Entry) → IsBooked all 0 [] all
 none_booked all = record { sums = λ k. grind (arith, ints); others = λ k apart. (apart, refl); few = λ k. record { shares = omega arith; cents = omega arith } }
 
--- a trade is passed over
 pub trade_passed : (all : List Entry) (next : Day) (n : ℕ) (now : AmountsByKey) (p : Pend) (rest : List Pend) → is_due next p ≡ false → IsBooked all n now (due_entries next (p ∷ rest)) → IsBooked all (n + 1) now (due_entries next rest)
 trade_passed all next n now p rest due b = grind (arith, b)
 
--- amounts one after another
-together : (a b s r : Amount) → with_amount a (record { shares = b.shares +ℤ (s.shares +ℤ r.shares); cents = b.cents +ℤ (s.cents +ℤ r.cents) }) ≡ with_amount (with_amount (with_amount a b) s) r
-together a b s r = simp +ℤ_assoc
-
-none_more : (a : Amount) → with_amount a no_amount ≡ a
-none_more a = grind (arith, ints)
-
 -- what a trade books at a key, one entry after the other
-abbrev pub after_trade : Pend → Key → Amount → Amount
-after_trade p k a = with_amount (with_amount a (amount_for (buyer_entry p) k)) (amount_for (seller_entry p) k)
-
-pub trade_sums : (p : Pend) (k : Key) (a : Amount) → after_trade p k a ≡ with_amount a (amount_of (trade_entries p) k)
+pub trade_sums : (p : Pend) (k : Key) (a : Amount) → with_amount (with_amount a (amount_for (buyer_entry p) k)) (amount_for (seller_entry p) k) ≡ with_amount a (amount_of (trade_entries p) k)
 trade_sums p k a = simp (+ℤ_assoc, +ℤ_idr)
 
--- or booked
 pub trade_booked : (all : List Entry) (next : Day) (n : ℕ) (now new : AmountsByKey) (p : Pend) (rest : List Pend) → is_due next p ≡ true → ((k : Key) → amount_at new k ≡ with_amount (amount_at now k) (amount_of (trade_entries p) k)) → ((k : Key) → IsOneTradeMore (amount_at now k) (amount_at new k))
     → ((k : Key) → AreApartFrom k (trade_entries p) → find key_cmp k new ≡ find key_cmp k now) → IsBooked all n now (due_entries next (p ∷ rest)) → IsBooked all (n + 1) new (due_entries next rest)
 trade_booked all next n now new p rest due more bound others b =
-    let left = due_first next p rest true due in
-    record {
-      sums = λ k. (rw left at b.sums) k ∙ together (amount_at now k) (amount_for (buyer_entry p) k) (amount_for (seller_entry p) k) (amount_of (due_entries next rest) k) ∙ ap (λ a. with_amount a (amount_of (due_entries next rest) k)) (trade_sums p k (amount_at now k) ∙ sym (more k));
-      others = λ k apart. let h = (rw left at b.others) k apart in (h.0.1.1, others k (h.0.0, (h.0.1.0, tt)) ∙ h.1);
-      few = λ k. record { shares = omega (arith, (b.few k).shares, (bound k).shares); cents = omega (arith, (b.few k).cents, (bound k).cents) };
-    }
+    record { sums = λ k. (rw due at b.sums) k ∙ rw (more k) (simp (+ℤ_assoc, +ℤ_idr)); others = λ k apart. let h = (rw due at b.others) k apart in (h.0.1.1, others k (h.0.0, (h.0.1.0, tt)) ∙ h.1); few = λ k. grind (arith, b.few k, bound k) }
 
 -- as many as may wait leave room for one more
 pub room_left : (i n : ℕ) (a : Amount) → i < n → n ≤ 2 ^ 32 → IsOfTrades i a → HasRoomForTrade a
@@ -116,10 +79,10 @@ room_left i n a lt le few = record { shares = omega (arith, lt, le, few.shares);
 
 -- at the end nothing is left
 pub all_booked : (all : List Entry) (n : ℕ) (now : AmountsByKey) (k : Key) → IsBooked all n now [] → amount_at now k ≡ amount_of all k
-all_booked all n now k b = sym (b.sums k ∙ none_more (amount_at now k))
+all_booked all n now k b = grind (arith, ints, b.sums k)
 
 -- which is no more than the trade at any key
-pub trade_bound : (p : Pend) (k : Key) (a : Amount) → unsigned_abs (buyer_entry p).shares ≤ shares_limit → unsigned_abs (buyer_entry p).cents ≤ money_limit → IsOneTradeMore a (after_trade p k a)
+pub trade_bound : (p : Pend) (k : Key) (a : Amount) → unsigned_abs (buyer_entry p).shares ≤ shares_limit → unsigned_abs (buyer_entry p).cents ≤ money_limit → IsOneTradeMore a (with_amount (with_amount a (amount_for (buyer_entry p) k)) (amount_for (seller_entry p) k))
 trade_bound p k a h1 h2 = grind (arith, ints)
 
 -- so there is room for the seller's entry after the buyer's

@@ -1,9 +1,7 @@
 pub mod Members
 pub mod Reachable
-pub mod Registers
 pub mod ByAccount
 pub mod Skipping
-pub mod Holders
 pub mod Summing
 pub mod BookingOrder
 pub mod BookingSums

@@ -1,10 +1,8 @@
 -- Bookings that are made one after another: what stands at each key.
--- For `enter_all`, `book_one` and `book_all` of bookings.rt, `listed` of due_bookings.rt, and `prepare` of effect.rt in cns_book.
-use Rattle.cns_actions.proofs.Common.{◌≡◌, ◌≢◌, ◌∙◌, sym, ap, refl, ℕ, ◌+◌, ◌<◌, max, ℤ, pos, ◌+ℤ◌, Bool, true, false, cond, ◌&&◌, ◌==◌, is_some, List, [], ◌∷◌, length, get_or, drop, arith, is_lt, AreElsewhere, AreEntered, AreSmall, Booking, HaveSpace, Holding, Key, Rows, aged, below_all, booked, by_key, carried_to, cents_for, entered, entries_in, entry_of, greatest, has_row, holding_at, ints, is_sorted, key_cmp, key_of, made, makes, same_issue, same_key, shares_for, total, with_age, All-from_recursion, All-get_or, +ℤ_idr, max-zero}
+-- For `enter_all`, `book_one` and `book_all` of bookings.rt, `with` of due_amounts.rt, `listed` of due_bookings.rt, and `prepare` of effect.rt in cns_book.
+use Rattle.cns_actions.proofs.Common.{◌≡◌, ◌≢◌, ap, refl, ℕ, ◌+◌, ◌<◌, max, ℤ, pos, ◌+ℤ◌, Bool, true, false, cond, ◌&&◌, ◌==◌, is_some, List, [], ◌∷◌, length, get_or, drop, arith, is_lt, AreElsewhere, AreEntered, AreSmall, Booking, HaveSpace, Holding, Key, Rows, aged, below_all, booked, by_key, carried_to, cents_for, entered, entries_in, entry_of, greatest, has_row, holding_at, ints, is_sorted, key_cmp, key_of, made, makes, same_issue, same_key, shares_for, total, with_age, All-from_recursion, All-get_or, +ℤ_idr, max-zero, ◌^◌, of_z, to_z, unsigned_abs, w64, to_z-of_z, fits_signed_from_abs, w128}
 use Rattle.std.proofs.lemmas.List.{drop_more}
 use Rattle.cns_positions.specs.Rows.{row_at}
-
--- ---- what bookings make at a key
 
 max_assoc : (a b c : ℕ) → max a (max b c) ≡ max (max a b) c
 max_assoc a b c = omega arith
@@ -33,6 +31,13 @@ made_alone b k h none = grind (arith, +ℤ_idr, max-zero)
 made_above : (b : Booking) (k : Key) (h : Holding) → is_lt (key_cmp (key_of b.entry) k) ≡ true → made b k h ≡ h
 made_above b k h l = grind (arith, same_key (key_of b.entry) k)
 
+-- shares that are passed in registers are as they were, and so are cents
+pub shares_passed : (z : ℤ) → unsigned_abs z < 2 ^ 63 → to_z w64 (of_z w64 z) ≡ z
+shares_passed z h = grind (arith, to_z-of_z, fits_signed_from_abs)
+
+pub cents_passed : (z : ℤ) → unsigned_abs z < 2 ^ 127 → to_z w128 (of_z w128 z) ≡ z
+cents_passed z h = grind (arith, to_z-of_z, fits_signed_from_abs)
+
 -- bookings that can be made
 pub record AreReady (rows : Rows) (bs : List Booking) : Type 0 where
   pub there : AreEntered rows bs
@@ -42,7 +47,7 @@ pub record AreReady (rows : Rows) (bs : List Booking) : Type 0 where
 
 -- what is left from a place on begins with what stands there
 pub left_first : {X : Type 0} (xs : List X) (i : ℕ) (x : X) → i < length xs → x ≡ get_or xs i x → drop i xs ≡ x ∷ drop (i + 1) xs
-left_first xs i x lt is = drop_more xs i x lt ∙ ap (λ y. y ∷ drop (i + 1) xs) (sym is)
+left_first xs i x lt is = grind (arith, drop_more)
 
 -- where the first of them is made, the others can be made still
 module _ (b : Booking) (old new : Rows) (one : (k : Key) → holding_at new k ≡ made b k (holding_at old k)) (places : (k : Key) → has_row new k ≡ has_row old k) where

@@ -12,7 +12,7 @@ kept rows new can same cents = record { members = λ a c le. rw (same (record { 
 
 -- what stands at each key is all that counts
 pub can_same : (rows new : Rows) → CanBeBooked rows → ((k : Key) → holding_at new k ≡ holding_at rows k) → CanBeBooked new
-can_same rows new can same = kept rows new can (λ k. grind (arith, same k)) (λ k. grind (arith, same k, can.cents k))
+can_same rows new can same = kept rows new can (λ k. ap (λ (h : Holding). h.now) (same k)) (λ k. rw (same k) (can.cents k))
 
 -- and so after a close
 pub can_rolled : (rows new : Rows) → CanBeBooked rows → ((q : Key) → holding_at new q ≡ rolled (holding_at rows q)) → CanBeBooked new

@@ -1,13 +1,11 @@
 -- Members with a position or an age in an issue, account by account: all rows of an account but that in the issue are passed
 -- over.
 -- For `next_holder` of holder.rt, clause next.
-use Rattle.cns_actions.proofs.Common.{◌≡◌, ◌∙◌, sym, ap, subst, refl, ℕ, ◌≤◌, ◌<◌, Bool, true, false, cond, ◌&&◌, ◌==◌, nat_lt, List, [], ◌∷◌, filter, length, Option, Some, None, arith, is_lt, Account, Cusip, Holder, Holding, Key, Rows, and_left, as_T, below_all, cons_option, corporation, exact_keys, find, find_below, has_position_or_age, held_above, held_same, held_sorted, holder_at, holder_of, holders_after, holders_in, holding_at, is_above, is_held, is_left, is_of_next, is_sorted, key_cmp, keys_total, less, nat_tests, zeros, All, All-head, filter_passes}
+use Rattle.cns_actions.proofs.Common.{◌≡◌, ◌∙◌, sym, ap, refl, ℕ, ◌≤◌, ◌<◌, Bool, true, false, cond, ◌&&◌, ◌==◌, nat_lt, List, [], ◌∷◌, filter, length, Option, Some, None, arith, is_lt, Account, Cusip, Holder, Holding, Key, Rows, and_left, as_T, below_all, cons_option, exact_keys, find, find_below, has_position_or_age, held_above, held_same, held_sorted, holder_at, holders_after, holders_in, holding_at, is_above, is_held, is_left, is_of_next, is_sorted, key_cmp, keys_total, less, nat_tests, zeros, All-head, filter_passes}
 use Rattle.cns_positions.proofs.Held.{filter_both}
 use lib.Ieee.Bits.{is_true}
 use Rattle.std.specs.FinMap.Entries.{find-where_key, is_sorted-where_key}
 use Rattle.cns_actions.proofs.ByAccount.{are_above, are_rising, found, above_holders, listed_at, listed_rising, place, rising_holders, same_holders, who}
-
--- ---- tests and keys
 
 -- no more pass a test that implies another
 fewer_pass : {X : Type 0} (t u : X → Bool) (xs : List X) → ((x : X) → t x ≡ true → u x ≡ true) → length (filter t xs) ≤ length (filter u xs)
@@ -19,9 +17,6 @@ onward : (r q k : Key) (b : Bool) → is_lt (key_cmp q r) ≡ false → (is_lt (
 onward r q k b h e = grind (arith, keys_total.trans r q k, keys_total.antisymm r q, keys_total.congr r q k, keys_total.antisymm q r)
 
 -- keys are in the order of accounts first
-account_le : (k q : Key) → is_lt (key_cmp k q) ≡ true → k.account ≤ q.account
-account_le k q h1 = grind arith
-
 account_before : (k q : Key) → k.account < q.account → is_lt (key_cmp k q) ≡ true
 account_before k q h1 = grind (arith, nat_tests)
 
@@ -34,20 +29,11 @@ below_first : (k : Key) (r : Key × Holding) (rows : Rows) → is_lt (key_cmp k 
 below_first k r [] l b = grind arith
 below_first k r (e ∷ es) l b = grind (arith, less, keys_total.trans k r.0 e.0, below_first k r es l)
 
--- ---- accounts that are left
-
--- rows whose accounts are left are above what is passed
-left_above : (passed : Option Key) (k : Key) → is_left passed k ≡ true → is_above passed k ≡ true
-left_above passed k h1 = grind arith
-
 -- accounts from that of the next row on are left
 from_row : (passed : Option Key) (r k : Key) → is_above passed r ≡ true → is_of_next passed r ≡ true → r.account ≤ k.account → is_left passed k ≡ true
-from_row passed r k h1 h2 h3 = grind (arith, nat_tests, account_le)
+from_row passed r k h1 h2 h3 = grind (arith, nat_tests)
 
 -- one holder more, if there is one
-cons_rising : (b : Bool) (h : Holder) (hs : List Holder) → are_above h.account hs ≡ true → are_rising hs ≡ true → are_rising (cons_option (cond b (Some h) None) hs) ≡ true
-cons_rising b h hs h1 h2 = grind arith
-
 who_cons : (a : ℕ) (b : Bool) (h : Holder) (hs : List Holder) → who a (cons_option (cond b (Some h) None) hs) ≡ cond (b && (h.account == a)) (Some h) (who a hs)
 who_cons a b h hs = grind (arith, nat_tests)
 
@@ -74,17 +60,13 @@ module _ (R : Rows) (order : is_sorted key_cmp R ≡ true) where
     left_rising : are_rising (holders_after R c passed) ≡ true
     left_rising = rising_holders has_position_or_age refl c (filter (λ r. is_left passed r.0) all) (kept_sorted (is_left passed))
 
-    module _ (rs : Rows) (next : held_above R passed ≡ rs) where
-      above_is : filter (λ x. is_above passed x.0) all ≡ rs
-      above_is = filter_both (λ x. is_above passed x.0) (λ x. is_held x.1) R ∙ next
-
-      -- nothing stands at the place of an account that is left where no row above what is passed is at it
-      none_there : (a : Account) → find key_cmp (place c a) rs ≡ None → is_left passed (place c a) ≡ true → holding_at R (place c a) ≡ zeros
-      none_there a none left = grind (arith, left_above passed (place c a), kept_at (is_above passed) (place c a), above_is)
+    -- nothing stands at the place of an account that is left where no row above what is passed is at it
+    none_there : (a : Account) → find key_cmp (place c a) (held_above R passed) ≡ None → is_left passed (place c a) ≡ true → holding_at R (place c a) ≡ zeros
+    none_there a none left = grind (arith, kept_at (is_above passed) (place c a), filter_both (λ x. is_above passed x.0) (λ x. is_held x.1) R)
 
     -- where no row is above what is passed, no holder is left
     pub none_left : held_above R passed ≡ [] → holders_after R c passed ≡ []
-    none_left next = same_holders (holders_after R c passed) [] left_rising refl (λ a. grind (arith, left_at a, none_there [] next a))
+    none_left next = same_holders (holders_after R c passed) [] left_rising refl (λ a. grind (arith, left_at a, none_there a, next))
 
   -- at first all are left
   pub all_left : (c : Cusip) → holders_after R c None ≡ holders_in has_position_or_age c all
@@ -93,37 +75,15 @@ module _ (R : Rows) (order : is_sorted key_cmp R ≡ true) where
   module _ (c : Cusip) (passed : Option Key) (r : Key × Holding) (q : Key) (same : q.account ≡ r.0.account) where
     -- a row of the account that was passed last changes nothing
     pub same_left : is_of_next passed r.0 ≡ false → holders_after R c passed ≡ holders_after R c (Some q)
-    same_left h = λ i. holders_in has_position_or_age c (filter (λ x. alike x.0 i) all)
-      where
-        alike : (k : Key) → is_left passed k ≡ is_left (Some q) k
-        alike k = grind (arith, nat_tests)
+    same_left h = let alike : (k : Key) → is_left passed k ≡ is_left (Some q) k = λ k. grind (arith, nat_tests) in λ i. holders_in has_position_or_age c (filter (λ x. alike x.0 i) all)
 
     -- no account that is left comes before that of the next row
     pub next_left : (rest : Rows) → held_above R passed ≡ r ∷ rest → is_of_next passed r.0 ≡ true → holders_after R c passed ≡ cons_option (holder_at R r.0.account c) (holders_after R c (Some q))
     next_left rest next h =
-        same_holders (holders_after R c passed) _ (left_rising c passed) (cons_rising held own (holders_after R c (Some q)) above (left_rising c (Some q)))
-        (λ x. left_at c passed x ∙ by x (left_at c (Some q) x) ∙ sym (who_cons x held own (holders_after R c (Some q))))
-      where
-        a : Account
-        a = r.0.account
-
-        held : Bool
-        held = nat_lt corporation a && has_position_or_age (holding_at R (place c a))
-
-        own : Holder
-        own = holder_of (place c a, holding_at R (place c a))
-
-        above : are_above a (holders_after R c (Some q)) ≡ true
-        above = above_holders has_position_or_age refl c (place c a) (filter (λ r. nat_lt q.account r.0.account) all) refl (ap (λ n. below_all key_cmp (place c a) (filter (λ r. nat_lt n r.0.account) all)) same ∙ below_later (place c a) all)
-
-        row_above : is_above passed r.0 ≡ true
-        row_above = and_left _ _ (All-head (λ (x : Key × Holding). (is_above passed x.0 && is_held x.1) ≡ true) r rest (subst (All (λ (x : Key × Holding). (is_above passed x.0 && is_held x.1) ≡ true)) next (filter_passes (λ x. is_above passed x.0 && is_held x.1) R)))
-
-        sorted : is_sorted key_cmp (r ∷ rest) ≡ true
-        sorted = ap (is_sorted key_cmp) (sym (above_is c passed (r ∷ rest) next)) ∙ kept_sorted (is_above passed)
-
-        before : (x : Account) → x < a → is_left passed (place c x) ≡ true → holding_at R (place c x) ≡ zeros
-        before x lt = none_there c passed (r ∷ rest) next x (find_below keys_total (place c x) (r ∷ rest) (below_first (place c x) r rest (account_before (place c x) r.0 lt) (and_left _ _ sorted)))
-
-        by : (x : Account) → who x (holders_after R c (Some q)) ≡ cond (nat_lt q.account x) (holder_at R x c) None → cond (is_left passed (place c x)) (holder_at R x c) None ≡ cond (held && (a == x)) (Some own) (who x (holders_after R c (Some q)))
-        by x e = grind (arith, nat_tests, before x, from_row passed r.0 (place c x) row_above h)
+        let a = r.0.account in
+        let above : are_above a (holders_after R c (Some q)) ≡ true = above_holders has_position_or_age refl c (place c a) (filter (λ r. nat_lt q.account r.0.account) all) refl (rw same (below_later (place c a) all)) in
+        let row_above : is_above passed r.0 ≡ true = and_left _ _ (All-head (λ (x : Key × Holding). (is_above passed x.0 && is_held x.1) ≡ true) r rest (rw next at (filter_passes (λ x. is_above passed x.0 && is_held x.1) R))) in
+        let sorted : is_sorted key_cmp (r ∷ rest) ≡ true = rw (filter_both (λ x. is_above passed x.0) (λ x. is_held x.1) R, next) at (kept_sorted (is_above passed)) in
+        let before : (x : Account) → x < a → is_left passed (place c x) ≡ true → holding_at R (place c x) ≡ zeros = λ x lt. none_there c passed x (rw next (find_below keys_total (place c x) (r ∷ rest) (below_first (place c x) r rest (account_before (place c x) r.0 lt) (and_left _ _ sorted)))) in
+        same_holders (holders_after R c passed) _ (left_rising c passed) (grind (arith, above, left_rising c (Some q)))
+        (λ x. rw (left_at c passed x, who_cons, left_at c (Some q) x) (grind (arith, nat_tests, before x, from_row passed r.0 (place c x) row_above h)))

@@ -49,7 +49,7 @@ fn enter_all<P: Positions<A>, A>(positions: &mut P, bookings: &[Booking]) -> Res
 }
 
 // Books one: the opening and the age of the key's row stay.
-#[tactic(auto, using(crate::proofs::Making::made_alone, crate::proofs::Registers::cents_passed, crate::proofs::Registers::shares_passed))]
+#[tactic(auto, using(crate::proofs::Making::made_alone, crate::proofs::Making::cents_passed, crate::proofs::Making::shares_passed))]
 fn book_one<P: Positions<A>, A>(positions: &mut P, booking: &Booking)
     requires there { has_row (P.rows positions.old) (key_of booking.now.entry) ≡ true }
     requires space { HasSpace (holding_at (P.rows positions.old) (key_of booking.now.entry)) }

@@ -29,7 +29,7 @@ impl Amount {
     };
 
     /// With what one more entry books.
-    #[tactic(auto, using(std::proofs::lemmas::Int::ints, crate::proofs::Registers::cents_passed, crate::proofs::Registers::shares_passed))]
+    #[tactic(auto, using(std::proofs::lemmas::Int::ints, crate::proofs::Making::cents_passed, crate::proofs::Making::shares_passed))]
     pub fn with(self, entry: &Entry) -> Amount
         requires room { IsSmallAmount self }
         requires small { IsSmall entry.now }

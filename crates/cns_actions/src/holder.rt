@@ -32,6 +32,7 @@ impl Holder {
 
 // The issue that comes last in the order of bytes: `Z` has the highest code of all characters that have a value. Only
 // speed rests on it: if rows of an account came after it, they would be passed one by one.
+#[tactic(auto, unfolding(cns_units::specs::Cusip::sum_of))]
 fn last_issue() -> Cusip {
     let Ok(issue) = Cusip::parse(b"ZZZZZZZZ0") else {
         unreachable!()

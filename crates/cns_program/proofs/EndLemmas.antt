@@ -1,17 +1,11 @@
 -- How the program ends.
 -- For `replay_input` of replaying.rt, `program` of entry.rt.
-use Rattle.cns_program.proofs.Common.{◌≡◌, ◌∷◌, ◌++◌, ℕ, List, Option, Some, None, Result, Ok, Err, IfErr, IfSome, OnOk, inl, inr, option_to_list, Appends, Day, Keeps, State, Appends-kept, Keeps-trans, output, state_after, texts, FailsReplay, IsTold}
+use Rattle.cns_program.proofs.Common.{◌≡◌, ◌∷◌, ◌++◌, ℕ, List, Option, Some, None, Result, Ok, Err, IfErr, IfSome, OnOk, inl, inr, option_to_list, Appends, Day, Keeps, State, Appends-kept, Keeps-trans, output, state_after, texts, FailsReplay, IsTold, whole}
 use Rattle.cns_units.specs.Output.{Writes}
 use Rattle.cns_feed.specs.Line.{Line}
 use Rattle.cns_feed.specs.Replay.{Leaves, Stops, StopsReplay}
 use Rattle.cns_feed.specs.declared.fault.ReplayFault.{ReplayFault}
 use Rattle.cns_feed.proofs.PlayLemmas.{stops-end}
-
--- a whole replay whose output could not be flushed
-fails-unflushed : (opening : Day) (input old mid new : Option (List ℕ))
-    → IfSome input (λ bytes. Appends old mid (output opening bytes)) → Keeps mid new → FailsReplay ReplayFault.Write opening input old new
-fails-unflushed opening None old mid new text kept = record { room = λ is. cc is; stops = tt }
-fails-unflushed opening (Some bytes) old mid new text kept = record { room = λ is. cc is; stops = stops-end old mid new _ _ text kept }
 
 -- where a replay stopped whose output could not be flushed then: a record that found no memory was not answered
 stops-unflushed : (e : ReplayFault) (old m mid new : Option (List ℕ)) (S : State) (ls answered unread : List Line) (waiting : Option Line)
@@ -25,18 +19,13 @@ stops-unflushed ReplayFault.NoMemory old m mid new S ls answered unread (Some l)
     record { answered = answered; waiting = None; unread = l ∷ unread; whole = whole; mid = m; written = text; leaves = Keeps-trans m mid new left kept }
 stops-unflushed _ old m mid new S ls answered unread _ whole text left kept = absurd left
 
--- a replay that ended with a fault, and whose output could not be flushed then
-fails-then_unflushed : (e : ReplayFault) (opening : Day) (input old mid new : Option (List ℕ))
-    → IfSome input (λ bytes. StopsReplay e opening bytes old mid) → Keeps mid new → FailsReplay ReplayFault.Write opening input old new
-fails-then_unflushed e opening None old mid new stops kept = record { room = λ is. cc is; stops = tt }
-fails-then_unflushed e opening (Some bytes) old mid new p kept = record { room = λ is. cc is; stops = stops-unflushed e old p.mid mid new _ _ p.answered p.unread p.waiting p.whole p.written p.leaves kept }
-
 -- a replay, whatever it came to, whose output could not be flushed then
 pub fails-flushing : {T : Type 0} (opening : Day) (input old mid new : Option (List ℕ)) (r : Result T ReplayFault)
     → OnOk r (IfSome input (λ bytes. Appends old mid (output opening bytes))) → IfErr r (λ e. IfSome input (λ bytes. StopsReplay e opening bytes old mid))
     → Keeps mid new → FailsReplay ReplayFault.Write opening input old new
-fails-flushing opening input old mid new (Ok s) text stops kept = fails-unflushed opening input old mid new text kept
-fails-flushing opening input old mid new (Err e) text stops kept = fails-then_unflushed e opening input old mid new stops kept
+fails-flushing opening None old mid new r text stops kept = record { room = λ is. cc is; stops = tt }
+fails-flushing opening (Some bytes) old mid new (Ok s) text stops kept = record { room = λ is. cc is; stops = stops-end old mid new _ _ text kept }
+fails-flushing opening (Some bytes) old mid new (Err e) text p kept = record { room = λ is. cc is; stops = stops-unflushed e old p.mid mid new _ _ p.answered p.unread p.waiting p.whole p.written p.leaves kept }
 
 -- what writing a line came to, told without its result
 pub told : {T E : Type 0} (old new : Option (List ℕ)) (line : List ℕ) (r : Result T E) → Writes old new line r → IsTold old new line

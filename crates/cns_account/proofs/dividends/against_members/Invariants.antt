@@ -1,5 +1,4 @@
-use Rattle.cns_account.proofs.Common.{◌≡◌, fold, less_cash}
-use Rattle.std.specs.Prelude.{pos}
+use Rattle.cns_account.proofs.Common.{◌≡◌, fold, less_cash, pos}
 use Rattle.cns_account.proofs.dividends.against_members.Given as goal
 
 abbrev pub invariant-loop-row : goal.invariant-loop-row

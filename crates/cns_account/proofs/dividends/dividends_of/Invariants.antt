@@ -1,5 +1,4 @@
-use Rattle.cns_account.proofs.Common.{◌≡◌, ◌++◌, List, filter_map, length, Cusip, Price, state_of, prices_above, due_on, paid_in}
-use Rattle.std.specs.List.{flat_map}
+use Rattle.cns_account.proofs.Common.{◌≡◌, ◌++◌, List, filter_map, length, Cusip, Price, state_of, prices_above, due_on, paid_in, flat_map}
 use Rattle.cns_account.specs.declared.dividends.PaidDividend.{PaidDividend}
 use Rattle.cns_account.proofs.dividends.dividends_of.Given as goal
 

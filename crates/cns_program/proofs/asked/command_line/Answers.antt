@@ -12,11 +12,6 @@ returns c =
     let replay_is = c.in_ok-subcommand.ensures in
     let run_is = c.in_ok-run_command.ensures in
     let statements_is = c.in_ok-statements_command.ensures in
-    let with_replay = c.in_ok-subcommand-2.ensures.shape (third_is_off _ _ _ _ (ap (λ (a : App). a.top.is_plain) replay_is))
-    ∙ ap₂ with_subcommand top_is (ap (λ (a : App). a.top) replay_is) in
-    let with_run = c.in_ok-subcommand-3.ensures.shape (third_is_off _ _ _ _ (ap (λ (a : App). a.top.is_plain) run_is))
-    ∙ ap₂ with_subcommand with_replay (ap (λ (a : App). a.top) run_is) in
-    IfOk-weaker c.subcommand-4.result _ _
-    (λ r h. h.shape (third_is_off _ _ _ _ (ap (λ (a : App). a.top.is_plain) statements_is))
-    ∙ ap₂ with_subcommand with_run (ap (λ (a : App). a.top) statements_is))
-    c.subcommand-4.ensures
+    let with_replay = c.in_ok-subcommand-2.ensures.shape (third_is_off _ _ _ _ (ap (λ (a : App). a.top.is_plain) replay_is)) ∙ ap₂ with_subcommand top_is (ap (λ (a : App). a.top) replay_is) in
+    let with_run = c.in_ok-subcommand-3.ensures.shape (third_is_off _ _ _ _ (ap (λ (a : App). a.top.is_plain) run_is)) ∙ ap₂ with_subcommand with_replay (ap (λ (a : App). a.top) run_is) in
+    IfOk-weaker c.subcommand-4.result _ _ (λ r h. h.shape (third_is_off _ _ _ _ (ap (λ (a : App). a.top.is_plain) statements_is)) ∙ ap₂ with_subcommand with_run (ap (λ (a : App). a.top) statements_is)) c.subcommand-4.ensures

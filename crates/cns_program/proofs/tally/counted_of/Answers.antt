@@ -8,9 +8,5 @@ loop-place-preserved c =
     let worker : c.in-Ok.worker ≡ c.loop-place.place + 1 = search rules in
     let lines : c.from-lines.result ≡ c.index-logs-place.result.lines = search rules in
     let fits : c.from-lines.result ≤ 4294967295 = search rules in
-    record {
-      end = c.loop-place.invariant.end;
-      counts = rw c.in-Ok-push.ensures.items (counts_more c.args.book.now.log c.loop-place.place c.in-Ok.worker c.loop-place.counts.items c.from.result worker c.loop-place.invariant.counts (search rules));
-      lines = lines_more _ _ _ _ c.index-logs-place.result inside c.index-logs-place.is c.loop-place.invariant.lines lines;
-      small = search rules;
-    }
+    let counts = counts_more c.args.book.now.log c.loop-place.place c.in-Ok.worker c.loop-place.counts.items c.from.result worker c.loop-place.invariant.counts (search rules) in
+    record { end = c.loop-place.invariant.end; counts = rw c.in-Ok-push.ensures.items counts; lines = lines_more _ _ _ _ c.index-logs-place.result inside c.index-logs-place.is c.loop-place.invariant.lines lines; small = search rules }

@@ -1,5 +1,4 @@
-use Rattle.cns_account.proofs.Common.{get, exact_keys, unmoved, with_more}
-use Rattle.cns_terms.specs.Keys.{key_cmp}
+use Rattle.cns_account.proofs.Common.{get, exact_keys, unmoved, with_more, key_cmp}
 use Rattle.cns_account.proofs.Gathered.{put_at}
 use Rattle.cns_account.proofs.day_moves.DayMoves.add_entry.Goals as goal
 

@@ -1,5 +1,4 @@
-use Rattle.cns_account.proofs.Common.{◌∙◌, ap, get, exact_keys, of_cause, unmoved, Moves}
-use Rattle.cns_terms.specs.Keys.{key_cmp}
+use Rattle.cns_account.proofs.Common.{◌∙◌, ap, get, exact_keys, key_cmp, of_cause, unmoved, Moves}
 use Rattle.cns_account.proofs.Gathered.{put_at}
 use Rattle.cns_account.proofs.day_moves.DayMoves.add_line.Goals as goal
 

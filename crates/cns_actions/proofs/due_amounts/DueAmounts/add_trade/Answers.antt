@@ -1,12 +1,11 @@
-use Rattle.cns_actions.proofs.Common.{on_ok_weaker, amount_at, key_of}
+use Rattle.cns_actions.proofs.Common.{on_ok_weaker, amount_at, key_of, arith}
 use Rattle.cns_actions.proofs.DueAmounts.{trade_bound, trade_room}
 use Rattle.cns_actions.proofs.due_amounts.DueAmounts.add_trade.Goals as goal
 
 pub add-requires-2-clause-room : goal.add-requires-2-clause-room
 add-requires-2-clause-room g c =
-    let b = c.buyer_entry.ensures in
     let k = key_of c.seller_entry.result in
-    rw (c.in_ok-add.ensures.amounts k, b.entry, c.seller_entry.ensures.entry) (trade_room c.args.pend.now _ _ (rw b.entry at b.shares) (rw b.entry at b.cents) (rw c.seller_entry.ensures.entry at (c.requires k)))
+    grind (arith, trade_room c.args.pend.now k, c.in_ok-add.ensures.amounts k, c.requires k)
 
 pub returns-clause-bound : goal.returns-clause-bound
 returns-clause-bound g c =
