@@ -1,4 +1,4 @@
-use Rattle.cns_program.proofs.Common.{rules, arith, ◌++◌, ◌∷◌, [], length-append, count}
+use Rattle.cns_program.proofs.Common.{rules, arith, ◌++◌, ◌∷◌, [], length-append}
 use Rattle.cns_program.proofs.Opened.{read_more}
 use Rattle.cns_program.proofs.running.open_files.Goals as goal
 
