@@ -1,18 +1,17 @@
 -- The names that most proofs cite, passed on from one place. Declares nothing.
-pub use Rattle.std.proofs.Common.{Bool, IfSome, List, None, OnOk, Option, Result, Some, [], add-one, ap, append-nil, append_assoc, arith, cond, drop, false, filter, find, get_or, if◌then◌else◌, inl, inr, length, length-append, map, min, not, option_map, refl, reverse, rules, set, slice_get, slice_index_or, subst, suc, sym, take, true, unsigned_abs, unwrap_or, zero, ℕ, ◌&&◌, ◌++◌, ◌+◌, ◌-◌, ◌<◌, ◌==◌, ◌^◌, ◌∙◌, ◌∷◌, ◌≡◌, ◌≤◌, ◌⊎◌}
-pub use Rattle.std.proofs.lemmas.Bool.{cases_lt, eq-eqb, ne_eqb}
-pub use Rattle.std.proofs.lemmas.Bool.Decides.{nat_tests}
+pub use Rattle.std.proofs.Common.{Bool, IfSome, List, None, OnOk, Option, Result, Some, [], add-one, ap, append-nil, append_assoc, arith, drop, false, filter, find, get_or, if◌then◌else◌, length, length-append, map, min, option_map, refl, reverse, rules, set, slice_get, subst, suc, sym, take, true, unsigned_abs, unwrap_or, zero, ℕ, ◌&&◌, ◌++◌, ◌+◌, ◌-◌, ◌<◌, ◌==◌, ◌^◌, ◌∙◌, ◌∷◌, ◌≡◌, ◌≤◌}
+pub use Rattle.std.proofs.lemmas.Bool.{eq-eqb, ne_eqb}
 pub use Rattle.std.proofs.lemmas.Fn.{always_returns_same, filter_same}
 pub use Rattle.std.proofs.lemmas.List.{drop_more, flat_map_more, length-map, map-append, take_all, with_items_is}
-pub use Rattle.std.proofs.lemmas.List.Elements.{All-push, filter-append, filter_map-append, recursion_from_All}
+pub use Rattle.std.proofs.lemmas.List.Elements.{filter-append, filter_map-append}
 pub use Rattle.std.proofs.lemmas.List.Sums.{fold-append, sum_by-append}
 pub use Rattle.std.proofs.lemmas.Result.{on_ok_weaker}
 pub use Rattle.std.specs.BTreeMap.{get}
 pub use Rattle.std.specs.Cmp.Lexicographic.{slice_cmp}
-pub use Rattle.std.specs.List.{All, AllByRecursion, flat_map, fold}
-pub use Rattle.std.specs.List.Sorted.{IsPermutation, IsSortedByKeyClosure, IsStableByKeyClosure, ties}
+pub use Rattle.std.specs.List.{flat_map, fold}
+pub use Rattle.std.specs.List.Sorted.{IsPermutation, IsSortedByKeyClosure, IsStableByKeyClosure}
 pub use Rattle.std.specs.Option.{option_map_or, option_to_list}
-pub use Rattle.std.specs.Ordering.{int_cmp, is_lt, nat_cmp}
+pub use Rattle.std.specs.Ordering.{int_cmp, nat_cmp}
 pub use Rattle.std.specs.Prelude.{count_by, sum_by}
 pub use Rattle.clap.specs.Words.{is_simple, is_simple_and_free}
 pub use Rattle.cns_account.proofs.Gathered.{put_found, entries_end, entry_more, take_past}
@@ -39,7 +38,7 @@ pub use Rattle.cns_page.specs.Figures.{is_short}
 pub use Rattle.cns_page.specs.Files.{KeptPages}
 pub use Rattle.cns_page.specs.Folder.{KeepsOwn}
 pub use Rattle.cns_page.specs.Issues.{issue_line, sums_in, with_row_in}
-pub use Rattle.cns_page.specs.Listed.{IsInOrderOf, aged, count_at, count_shown, counted, counts_below, due, figures, figures_at, figures_shown, later_among, live_among, looked_at, owing, owing_among, shorts_among}
+pub use Rattle.cns_page.specs.Listed.{IsInOrderOf, count_at, count_shown, counted, counts_below, due, figures, figures_at, figures_shown, later_among, live_among, looked_at, owing, owing_among, shorts_among}
 pub use Rattle.cns_page.specs.Sought.{IsFirst, record_at, sought_among, waiting_in, with_trade}
 pub use Rattle.cns_page.specs.Sums.{moved_row, own_sums, sums_of, with_row}
 pub use Rattle.cns_page.specs.Survey.{Came, ComesTo, IsClosedBy, Known, Takes, known, noted, nothing, number, put_right, put_right_by, replied, righted, told, wanted}

@@ -1,10 +1,8 @@
 -- Figures, and the rows that they are of.
 -- For `marks_of` of figures.rt; `line_of_days` of figures.rt; `shorts_of` of figures.rt, `gather` of shorts.rt; `shorts_of` of shorts.rt, `later_trades` of projection.rt.
-use Rattle.cns_page.proofs.Common.{◌≡◌, ℕ, ◌-◌, ◌^◌, List, ◌++◌, min, unsigned_abs, sum_by, Row, ◌∙◌, sym, ap, ◌+◌, ◌<◌, [], ◌∷◌, Option, Some, None, append-nil, take, get_or, length, option_map, count_by, DaySheet, State, journal_of, sheet_on, is_short, figures, figures_at, figures_shown, Close, arith, true, cond, map, map-append, All-push, filter-append, aged, shorts_among, Aged, IsPermutation, IsSortedByKeyClosure, IsStableByKeyClosure, always_returns_same, IsInOrderOf}
+use Rattle.cns_page.proofs.Common.{◌≡◌, ℕ, ◌-◌, ◌^◌, List, ◌++◌, min, unsigned_abs, sum_by, Row, ◌∙◌, sym, ap, ◌+◌, ◌<◌, [], ◌∷◌, Option, Some, None, append-nil, take, get_or, length, option_map, count_by, DaySheet, State, journal_of, sheet_on, is_short, figures, figures_at, figures_shown, Close, arith, map-append, filter-append, shorts_among, Aged, IsPermutation, IsSortedByKeyClosure, IsStableByKeyClosure, always_returns_same, IsInOrderOf}
 use Rattle.cns_account.proofs.Gathered.{given_more}
 use Rattle.cns_page.specs.declared.figures.Figures.{Figures}
-use Rattle.std.specs.Prelude.{All}
-use Rattle.cns_sheets.proofs.RowSums.{onward}
 use Rattle.std.specs.Fn.{Called}
 use Rattle.std.specs.declared.cmp.Ordering.{Ordering}
 use denote.Param.Members.{Mut}
@@ -46,19 +44,10 @@ pub record Counting (all given left : List Row) (shorts : ℕ) : Type 0 where
 pub record Aging (S : State) (all given left : List Row) (items : List Aged) : Type 0 where
   pub parts : all ≡ given ++ left
   pub items_are : items ≡ shorts_among S given
-  pub small : All (λ s. s.age < 2 ^ 32) items
 
 -- of some rows and others
-append : (S : State) (rs us : List Row) → shorts_among S (rs ++ us) ≡ shorts_among S rs ++ shorts_among S us
-append S rs us = simp (filter-append, map-append)
-
-module _ (S : State) (all given left rest : List Row) (row : Row) (items : List Aged) (was : Aging S all given left items) (next : left ≡ row ∷ rest) where
-  more : (new : List Aged) → new ≡ items ++ shorts_among S (row ∷ []) → All (λ s. s.age < 2 ^ 32) new → Aging S all (given ++ row ∷ []) rest new
-  more new h1 h2 = grind (arith, onward, shorts_among, append)
-
-  -- a short
-  pub aging_more : (a : Aged) → is_short row ≡ true → a ≡ aged S row → a.age < 2 ^ 32 → Aging S all (given ++ row ∷ []) rest (items ++ a ∷ [])
-  aging_more a short is fit = more (items ++ a ∷ []) (ap (λ x. items ++ x ∷ []) is ∙ ap (λ b. items ++ map (aged S) (cond b (row ∷ []) [])) (sym short)) (All-push (λ s. s.age < 2 ^ 32) items a was.small fit)
+pub shorts_append : (S : State) (rs us : List Row) → shorts_among S (rs ++ us) ≡ shorts_among S rs ++ shorts_among S us
+shorts_append S rs us = simp (filter-append, map-append)
 
 -- where each call of the closure gives the key of the element, and leaves the closure as it was
 pub sorted_by_key : {X K F : Type 0} (key : X → K) (cmp : K → K → Ordering) {g : Mut F (Bor X × Unit {0}) K} {f : F} (xs ys all : List X) → xs ≡ all → IsPermutation xs ys

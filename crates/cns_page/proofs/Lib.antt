@@ -5,6 +5,5 @@ pub mod PlayLemmas
 pub mod Numbering
 pub mod Later
 pub mod SoughtLemmas
-pub mod Oldest
 pub mod MakeLemmas
 pub mod Common

@@ -1,5 +1,5 @@
 // Shorts with their ages.
-ghost use Rattle.std.specs.Prelude.{◌≡◌, ◌<◌, ◌^◌, All, IfOk};
+ghost use Rattle.std.specs.Prelude.{◌≡◌, IfOk};
 ghost use Rattle.std.specs.Ordering.{nat_cmp};
 ghost use Rattle.cns_book.specs.Log.{state_of};
 ghost use Rattle.cns_page.specs.Listed.{IsInOrderOf, age_shown, shorts_among};
@@ -11,6 +11,7 @@ use cns_tables::{Piece, ROW, TableRow, write_line};
 use cns_terms::{NoMemory, Row};
 use cns_units::WriteFault;
 use std::alloc::Global;
+use std::cmp::Reverse;
 use std::io::Write;
 
 /// A member's short at a close.
@@ -33,8 +34,7 @@ fn age_of(book: &ReplayBook, row: &Row) -> u32
 
 // The members' shorts on a sheet, in its order.
 fn gather(alloc: Global, book: &ReplayBook, sheet: &Sheet<Global>) -> Result<Vec<Aged>, NoMemory>
-    ensures shorts { IfOk result (λ v. v.items ≡ shorts_among (state_of book.now.log) sheet.now.rows) }
-    ensures ages { IfOk result (λ v. All (λ s. s.age < 2 ^ 32) v.items) }
+    ensures { IfOk result (λ v. v.items ≡ shorts_among (state_of book.now.log) sheet.now.rows) }
 {
     let mut shorts = Vec::new(alloc);
     for row in sheet.rows() {
@@ -58,7 +58,7 @@ pub fn shorts_of(
         (shorts_among (state_of book.now.log) sheet.now.rows) v.items) }
 {
     let mut shorts = gather(alloc, book, sheet)?;
-    shorts.sort_by_key(|short| u32::MAX - short.age)?;
+    shorts.sort_by_key(|short| Reverse(short.age))?;
     Ok(shorts)
 }
 
