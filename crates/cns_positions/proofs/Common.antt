@@ -1,5 +1,5 @@
 -- The names that most proofs of this crate cite, passed on from one place: those of proofs/Common.antt of cns_terms, its types, and this crate's words. Declares nothing.
-pub use Rattle.std.proofs.Common.{Any, Bool, Contains, Equal, Greater, HoldsAt, Less, List, MatchOption, None, OnErr, Option, Ordering, Result, Some, [], ap, append-nil, append_assoc, arith, drop, false, filter, get_or, inl, inr, insert, is_eq, is_le, length, length-append, of_z, refl, rules, set, suc, sym, take, take-append-drop, take_at, to_z, true, unsigned_abs, w64, zero, ℕ, ℤ, ◌&&◌, ◌*◌, ◌++◌, ◌+ℤ◌, ◌+◌, ◌<◌, ◌^◌, ◌∙◌, ◌∷◌, ◌≡◌, ◌≢◌, ◌≤◌, option_map, ◌-◌}
+pub use Rattle.std.proofs.Common.{Any, Bool, Contains, Equal, Greater, HoldsAt, Less, List, MatchOption, None, OnErr, Option, Ordering, Result, Some, [], ap, append-nil, append_assoc, arith, drop, false, filter, get_or, inl, inr, insert, is_eq, is_le, length, length-append, refl, rules, set, suc, sym, take, take-append-drop, take_at, true, unsigned_abs, w64, zero, ℕ, ℤ, ◌&&◌, ◌*◌, ◌++◌, ◌+ℤ◌, ◌+◌, ◌<◌, ◌^◌, ◌∙◌, ◌∷◌, ◌≡◌, ◌≢◌, ◌≤◌, option_map, ◌-◌}
 pub use Rattle.std.proofs.lemmas.Int.{to_z-of_z}
 pub use Rattle.std.proofs.lemmas.Iterator.Search.{find_from_yields_List}
 pub use Rattle.std.proofs.lemmas.List.{drop_more, take_rest}
