@@ -1,14 +1,11 @@
 -- What moved a position adds up.
 -- For `moves_add_up` of laws.rt.
-use Rattle.cns_account.proofs.Common.{◌*◌, ◌≡◌, ◌∙◌, sym, ap, refl, ℕ, ◌+◌, ◌-◌, ◌^◌, ◌<◌, ◌≤◌, ℤ, ◌+ℤ◌, List, [], ◌∷◌, ◌++◌, length, option_map, option_to_list, reverse, Option, Some, None, Ok, arith, Pend, total, trades, next, Width, AllByRecursion, ints, take_all, Day, State, journal_of, length-reverse, open_day, opened, row, Key, Row, Log, state_of, Line, state_after_line, blank_log, log_after_line, IsLineInRange, IsReached, MovesAddUp, day_closed, last_of, of_causes, moved_at, Moves, subst, Taken, looked_at, answer, unsigned_abs, amount_limit, limited, Command, Activity, AddUp, Watched, ◌⊎◌, inl, inr, nil_from_length, flat_map, map, not, Journal, accounts, date, each_append, equal, exact_keys, is_idle, issues, journal, key_cmp, price, price_limit, rows_of, sheet_rows, Cusip, row_at, row_on, is_eq, filter, cond_both, Account}
+use Rattle.cns_account.proofs.Common.{◌*◌, ◌≡◌, ◌∙◌, sym, ap, refl, ℕ, ◌+◌, ◌-◌, ◌^◌, ◌<◌, ◌≤◌, ℤ, ◌+ℤ◌, List, [], ◌∷◌, ◌++◌, length, option_map, option_to_list, reverse, Option, Some, None, Ok, arith, Pend, total, trades, next, Width, AllByRecursion, ints, take_all, Day, State, journal_of, length-reverse, open_day, opened, row, Key, Row, Log, state_of, Line, state_after_line, blank_log, log_after_line, IsLineInRange, IsReached, MovesAddUp, day_closed, last_of, of_causes, moved_at, Moves, subst, Taken, looked_at, answer, unsigned_abs, amount_limit, limited, Command, Activity, AddUp, Watched, ◌⊎◌, inl, inr, nil_from_length, flat_map, map, not, Journal, accounts, date, each_append, equal, exact_keys, is_idle, issues, journal, key_cmp, price, price_limit, rows_of, sheet_rows, Cusip, row_at, row_on, is_eq, filter, cond_both, Account, log_after, history, closes}
 use Rattle.cns_account.proofs.Recorded.{all_booked, open_parts, settles, IsClose, IsCounted, all_records, at_first, cents_counted, closing_line, kept_more, shares_counted, size_few, state_line}
 use Rattle.cns_account.proofs.Marked.{marked}
 use Rattle.cns_history.proofs.Limits.{standing_small}
 use Rattle.cns_account.proofs.Named.{stands, more}
 use Rattle.cns_account.proofs.Summed.{Comes, entry_at, exact, same}
-use Rattle.cns_feed.specs.Replay.{log_after}
-use Rattle.cns_history.specs.Lines.{history}
-use Rattle.cns_account.specs.Laws.{closes}
 use Rattle.cns_sheets.specs.Build.{key_of}
 
 module _ (opening : Day) (K : Journal) where

@@ -1,9 +1,8 @@
 -- Of the lines of movements, those at a place.
 -- For `places_are_whole` and `moves_add_up` of laws.rt.
-use Rattle.cns_account.proofs.Common.{◌≡◌, ◌∙◌, sym, ap, refl, ℕ, ◌+◌, ◌<◌, Bool, true, false, cond, List, [], ◌∷◌, ◌++◌, filter, filter_map, map, option_map, option_to_list, Option, None, Ok, arith, cons_option, Day, IsWhole, State, answer, date, filter-append, journal_of, next, opened, whole-next, whole_nil, Activity, Holding, Key, Line, state_after_line, booked, booked_since, booking, bookings_at, bookings_since, closing, counted_from, is_movement, lines_at, lines_of, places, standing, stood, HistoryLine, PlacesAreWhole, is_line_at, is_moved, Some, is_nothing, Booking, ◌&&◌, is_open, is_same_day, Command, Watched, Whose, inl, inr, cases_Bool}
+use Rattle.cns_account.proofs.Common.{◌≡◌, ◌∙◌, sym, ap, refl, ℕ, ◌+◌, ◌<◌, Bool, true, false, cond, List, [], ◌∷◌, ◌++◌, filter, filter_map, map, option_map, option_to_list, Option, None, Ok, arith, cons_option, Day, IsWhole, State, answer, date, filter-append, journal_of, next, opened, whole-next, whole_nil, Activity, Holding, Key, Line, state_after_line, booked, booked_since, booking, bookings_at, bookings_since, closing, counted_from, is_movement, lines_at, lines_of, places, standing, stood, HistoryLine, PlacesAreWhole, is_line_at, is_moved, Some, is_nothing, Booking, ◌&&◌, is_open, is_same_day, Command, Watched, Whose, inl, inr, cases_Bool, history}
 use Rattle.cns_history.specs.declared.line.Closing.{Closing}
 use Rattle.cns_account.proofs.Named.{is_at, at_next, IsSame, more, names}
-use Rattle.cns_history.specs.Lines.{history}
 
 since_told : (n : ℕ) (S T : State) (x : Activity) (before : List _) → is_movement (Command.Activity x) ≡ true → bookings_since Whose.All n T x (answer S (Command.Activity x)) before ≡ filter_map (booked_since n T x) before
 since_told n S T x before is = grind arith

@@ -1,13 +1,11 @@
 -- How a mark comes about.
 -- For `moves_add_up` of laws.rt.
-use Rattle.cns_account.proofs.Common.{◌≡◌, ◌∙◌, sym, ap, ◌*◌, ◌^◌, ◌≤◌, ℤ, pos, ◌+ℤ◌, ◌-ℤ◌, ◌*ℤ◌, arith, unsigned_abs, int_wrap_fits, ints, Price, Row, of_causes, Moved, Moves}
+use Rattle.cns_account.proofs.Common.{◌≡◌, ◌∙◌, sym, ap, ◌*◌, ◌^◌, ◌≤◌, ℤ, pos, ◌+ℤ◌, ◌-ℤ◌, ◌*ℤ◌, arith, unsigned_abs, int_wrap_fits, ints, Price, Row, of_causes, Moved, Moves, moved, valued}
 use Rattle.std.proofs.Math.IntN.{*ℤ-negsuc, *ℤ_comm}
 use Rattle.std.proofs.Math.Nat.{mul-le-mul}
 use Rattle.std.specs.Prelude.{negsuc, suc}
 use Rattle.cns_terms.proofs.ZeroSums.{times_sum}
 use Rattle.cns_terms.specs.Common.{amount_limit, price_limit}
-use Rattle.cns_account.specs.Rows.{moved}
-use Rattle.cns_account.specs.Rows.{valued}
 
 times_all : (a b z : ℤ) → (a +ℤ b) *ℤ z ≡ (a *ℤ z) +ℤ (b *ℤ z)
 times_all a b (pos n) = times_sum a b n

@@ -1,12 +1,11 @@
 -- What an activity books stands at the places that it names.
 -- For `places_are_whole` and `moves_add_up` of laws.rt.
-use Rattle.cns_account.proofs.Common.{◌≡◌, ◌∙◌, sym, ap, refl, ◌<◌, ℤ, pos, ◌+ℤ◌, Bool, true, false, ◌&&◌, ◌||◌, ◌==◌, cond, eqb, List, [], ◌∷◌, filter, flat_map, map, is_none, option_map, option_to_list, Option, Some, None, IfSome, arith, bytes_eq, ints, Day, IsSound, Journal, NoneHolds, State, against_corporation, all_fail, and_false, cents_for, corporation, entries, fill_entry, fills, holders, holds, idle_parts, is_account, is_close, is_listed, issues, journal_of, last_close, list_any, members, money, nat_list_eq_equiv, neither, new_entry, notice_at, notices, old_entry, open_day, posting, refusal, row, shares_for, total, each_named, IsNoticed, both_hold, Notice, position, Account, Cusip, Activity, next, Entry, Holding, Key, notice_of, accounts_in, both, each, has_position, is_movement, is_wanted, named, place, places, standing, IsWhole, total-append, whole-post, Command, split_entry, cond_both, inl, inr, cases_Bool, ℕ, zero, suc, ◌+◌, is_eq, range_with_len, bytes_eq-Decides, filter-append, key_cmp, same_key, nat_tests, nat_lt, not}
+use Rattle.cns_account.proofs.Common.{◌≡◌, ◌∙◌, sym, ap, refl, ◌<◌, ℤ, pos, ◌+ℤ◌, Bool, true, false, ◌&&◌, ◌||◌, ◌==◌, cond, eqb, List, [], ◌∷◌, filter, flat_map, map, is_none, option_map, option_to_list, Option, Some, None, IfSome, arith, bytes_eq, ints, Day, IsSound, Journal, NoneHolds, State, against_corporation, all_fail, and_false, cents_for, corporation, entries, fill_entry, fills, holders, holds, idle_parts, is_account, is_close, is_listed, issues, journal_of, last_close, list_any, members, money, nat_list_eq_equiv, neither, new_entry, notice_at, notices, old_entry, open_day, posting, refusal, row, shares_for, total, each_named, IsNoticed, both_hold, Notice, position, Account, Cusip, Activity, next, Entry, Holding, Key, notice_of, accounts_in, both, each, has_position, is_movement, is_wanted, named, place, places, standing, IsWhole, total-append, whole-post, Command, split_entry, cond_both, inl, inr, cases_Bool, ℕ, zero, suc, ◌+◌, is_eq, range_with_len, bytes_eq-Decides, filter-append, key_cmp, same_key, nat_tests, nat_lt, not, numbers}
 use Rattle.std.proofs.lemmas.List.Concat.{flat_map_single}
 use Rattle.cns_terms.proofs.Elsewhere.{idle_at}
 use Rattle.cns_terms.specs.Refusals.{rules}
 use Rattle.cns_terms.specs.declared.command.Movement.{Movement}
 use Rattle.cns_history.specs.declared.watched.Whose.TheVariants.{All}
-use Rattle.cns_history.specs.Lines.{numbers}
 
 abbrev pub is_at : Key → Key → Bool
 is_at k q = is_eq (key_cmp q k)

@@ -1,6 +1,6 @@
 -- What a day's records booked at a place.
 -- For `moves_add_up` of laws.rt.
-use Rattle.cns_account.proofs.Common.{◌≡◌, ◌∙◌, sym, refl, subst, ℕ, ◌+◌, ◌*◌, ◌<◌, ◌≤◌, ℤ, pos, ◌+ℤ◌, ◌-ℤ◌, Bool, true, false, cond, List, [], ◌∷◌, ◌++◌, append-nil, append_assoc, blank_log, filter, length, map, reverse, option_and_then, option_map, option_to_list, Option, Some, None, Ok, Err, arith, int_lt, sum_by, sum_by-cons, unsigned_abs, Width, w64, w128, AllByRecursion, fold, fold-append, option_map_or, ints, nat_tests, Day, IsReached, IsWhole, NoneHolds, State, added-more, all_fail, answer, date, day_number, execution_cents, fill_entry, is_close, journal_of, limited, magnitude, money_limit, next, open_day, pend_of, same_key, shares_limit, shares_of_fills, total, total_small, trade_entries, trades, traded, Activity, Command, Notice, Pend, Trade, Entry, Holding, Key, Reply, Log, state_of, Line, log_after_line, bookings_at, is_movement, is_open, lines_of, standing, Booking, HistoryLine, IsLineInRange, accepted_of, date_told, day_closed, is_line_at, is_within, last_of, unmoved, with_line, with_taken, Moves, ap, is_nothing, state_after_line, opened, Watched, Whose, entries, not, Journal, last_close, pending, reverse_onto, total-append, inl, inr, cases_Bool}
+use Rattle.cns_account.proofs.Common.{◌≡◌, ◌∙◌, sym, refl, subst, ℕ, ◌+◌, ◌*◌, ◌<◌, ◌≤◌, ℤ, pos, ◌+ℤ◌, ◌-ℤ◌, Bool, true, false, cond, List, [], ◌∷◌, ◌++◌, append-nil, append_assoc, blank_log, filter, length, map, reverse, option_and_then, option_map, option_to_list, Option, Some, None, Ok, Err, arith, int_lt, sum_by, sum_by-cons, unsigned_abs, Width, w64, w128, AllByRecursion, fold, fold-append, option_map_or, ints, nat_tests, Day, IsReached, IsWhole, NoneHolds, State, added-more, all_fail, answer, date, day_number, execution_cents, fill_entry, is_close, journal_of, limited, magnitude, money_limit, next, open_day, pend_of, same_key, shares_limit, shares_of_fills, total, total_small, trade_entries, trades, traded, Activity, Command, Notice, Pend, Trade, Entry, Holding, Key, Reply, Log, state_of, Line, log_after_line, bookings_at, is_movement, is_open, lines_of, standing, Booking, HistoryLine, IsLineInRange, accepted_of, date_told, day_closed, is_line_at, is_within, last_of, unmoved, with_line, with_taken, Moves, ap, is_nothing, state_after_line, opened, Watched, Whose, entries, not, Journal, last_close, pending, reverse_onto, total-append, inl, inr, cases_Bool, log_after, history, closes}
 use Rattle.cns_terms.proofs.Facts.{bytes_refl, later}
 use Rattle.cns_terms.proofs.Reached.{reached-from}
 use Rattle.cns_terms.specs.Refusals.{rules}
@@ -9,9 +9,6 @@ use Rattle.cns_terms.specs.declared.refusal.Refusal.{Refusal}
 use Rattle.cns_account.proofs.AtPlaces.{movement_at}
 use Rattle.cns_account.proofs.Named.{at_next, adds, more}
 use Rattle.cns_account.proofs.Summed.{Comes, IsPicked, cause_more, entry_at, is_named, of_entry, same, taken_last}
-use Rattle.cns_feed.specs.Replay.{log_after}
-use Rattle.cns_history.specs.Lines.{history}
-use Rattle.cns_account.specs.Laws.{closes}
 use Rattle.cns_terms.proofs.SheetSums.{total-flat_map}
 use Rattle.cns_terms.specs.Pending.{due, is_due}
 

@@ -1,10 +1,9 @@
 -- The rows of an account's day, and their texts.
 use Rattle.std.specs.Prelude.{ℕ, ℤ, pos, ◌+ℤ◌, ◌-ℤ◌, ◌*ℤ◌, int_lt, List, [], ◌∷◌, ◌++◌, Option, Some, None, if◌then◌else◌}
-use Rattle.cns_account.specs.Common.{int_wrap, w128, fold, Price, State, Key, Row, standing, worth, Booking, HistoryLine, row_of, filled, ROW, DayMoves, Moved, Moves, Piece}
+use Rattle.cns_account.specs.Common.{int_wrap, w128, fold, Price, State, Key, Row, standing, worth, Booking, HistoryLine, row_of, filled, ROW, DayMoves, Moved, Moves, Piece, piece_text}
 use Rattle.std.specs.Fmt.{decimal}
 use Rattle.cns_history.specs.Words.{what_text}
 use Rattle.cns_tables.specs.Escape.{escaped}
-use Rattle.cns_tables.specs.Pieces.{piece_text}
 use Rattle.cns_account.specs.Moves.{moves_at}
 use Rattle.cns_account.specs.declared.booked.Booked.{Booked}
 use Rattle.cns_account.specs.declared.booked.TheConstants.{BEGIN, FIGURES}

@@ -1,8 +1,7 @@
 -- Whether a split or an exchange takes a member beyond its limits: just where the definitions say so.
 -- For `bookings_for` of acting.rt.
-use Rattle.cns_actions.proofs.Common.{◌≡◌, ◌∙◌, refl, ℕ, ◌≤◌, ℤ, pos, ◌+ℤ◌, ◌-ℤ◌, neg_ℤ, Bool, true, false, cond, ◌&&◌, ◌||◌, ◌==◌, nat_lt, List, [], ◌∷◌, ◌++◌, map, arith, lt-ltb, Account, Action, AllByRecursion, AreHolders, Cusip, Entry, Holder, IsForAnother, Member, Pend, Rows, against_corporation, bought_in, bytes_refl, converted, corporation, entries_of, entry, has_position, holder_of, holders_of, holding_at, in_exchange, in_lieu, ints, is_beyond, is_sorted, issue_of, key_cmp, list_any, nat_tests, position_at, position_limit, positions_in, same_issue, shares_for, sold_in, takes_beyond, total, total-append, total-map, zero_add, new_entry, old_entry}
+use Rattle.cns_actions.proofs.Common.{◌≡◌, ◌∙◌, refl, ℕ, ◌≤◌, ℤ, pos, ◌+ℤ◌, ◌-ℤ◌, neg_ℤ, Bool, true, false, cond, ◌&&◌, ◌||◌, ◌==◌, nat_lt, List, [], ◌∷◌, ◌++◌, map, arith, lt-ltb, Account, Action, AllByRecursion, AreHolders, Cusip, Entry, Holder, IsForAnother, Member, Pend, Rows, against_corporation, bought_in, bytes_refl, converted, corporation, entries_of, entry, has_position, holder_of, holders_of, holding_at, in_exchange, in_lieu, ints, is_beyond, is_sorted, issue_of, key_cmp, list_any, nat_tests, position_at, position_limit, positions_in, same_issue, shares_for, sold_in, takes_beyond, total, total-append, total-map, zero_add, new_entry, old_entry, split_entry}
 use Rattle.cns_terms.specs.Refusals.{are_too_large, is_too_large_at}
-use Rattle.cns_terms.specs.Entries.{split_entry}
 use Rattle.cns_terms.proofs.Facts.{issues_differ}
 use Rattle.std.proofs.lemmas.List.Folds.{list_any-append, list_any_none}
 use Rattle.cns_actions.proofs.ByAccount.{each_listed, listed_at, listed_rising, place, total_at, Alike, any_alike, shown}

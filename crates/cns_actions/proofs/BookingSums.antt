@@ -1,7 +1,6 @@
 -- What is booked for a split or an exchange: that it makes of every holding what the definitions do.
 -- For `bookings_for` of acting.rt.
-use Rattle.cns_actions.proofs.Common.{◌≡◌, ◌∙◌, sym, refl, ℕ, ℤ, pos, ◌+ℤ◌, ◌-ℤ◌, neg_ℤ, Bool, true, false, cond, ◌&&◌, ◌==◌, List, [], ◌∷◌, ◌++◌, map, None, arith, int_eq, flat_map, Account, Action, AreHolders, Booking, Change, Cusip, Entry, Holder, Holding, Key, Member, Rows, against_corporation, age_brought, all_bookings, all_holders_of, bookings_for, books, carried_to, cents_for, converted, corporation, entries_in, entries_of, entry, greatest, has_position, has_position_or_age, held_above, holders, holders_in, holders_of, holding_at, ints, is_sorted, issue_of, key_cmp, makes, map-append, member_bookings, nat_tests, new_entry, old_entry, oldest_of, opposite, positions_in, same_issue, shares_for, sum_of, total, total-add, total-append, total-map, total-zero, with_age, with_position, total-neg}
-use Rattle.cns_terms.specs.Entries.{split_entry}
+use Rattle.cns_actions.proofs.Common.{◌≡◌, ◌∙◌, sym, refl, ℕ, ℤ, pos, ◌+ℤ◌, ◌-ℤ◌, neg_ℤ, Bool, true, false, cond, ◌&&◌, ◌==◌, List, [], ◌∷◌, ◌++◌, map, None, arith, int_eq, flat_map, Account, Action, AreHolders, Booking, Change, Cusip, Entry, Holder, Holding, Key, Member, Rows, against_corporation, age_brought, all_bookings, all_holders_of, bookings_for, books, carried_to, cents_for, converted, corporation, entries_in, entries_of, entry, greatest, has_position, has_position_or_age, held_above, holders, holders_in, holders_of, holding_at, ints, is_sorted, issue_of, key_cmp, makes, map-append, member_bookings, nat_tests, new_entry, old_entry, oldest_of, opposite, positions_in, same_issue, shares_for, sum_of, total, total-add, total-append, total-map, total-zero, with_age, with_position, total-neg, split_entry}
 use Rattle.cns_terms.proofs.CarriedAges.{greatest-append}
 use Rattle.cns_actions.proofs.ByAccount.{listed_at, listed_rising, place, greatest_at, Alike, legs_alike, shown}
 

@@ -8,3 +8,4 @@ pub use Rattle.cns_desk.specs.Promised.{promised}
 pub use Rattle.cns_desk.specs.Seats.{AreFresh, IsFresh, Sitting, counts_of, fresh}
 pub use Rattle.cns_desk.specs.Worked.{Adds, HasNoSheet, HaveRun, Logs, Steps, Worked, commands_in, lines_in}
 pub use Rattle.cns_desk.specs.declared.log.LogItem.{LogItem}
+pub use Rattle.cns_terms.specs.declared.command.Command.{Command}

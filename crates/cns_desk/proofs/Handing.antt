@@ -1,8 +1,7 @@
 -- The sheet that is handed out with a statement.
 -- For `sheet` of kept.rt.
-use Rattle.cns_desk.proofs.Common.{◌≡◌, refl, cond, Bool, true, not, List, [], ◌∷◌, Some, None, Option, option_map, find, is_none, unwrap_or, arith, Day, DaySheet, Journal, accepted, answer_to, date, day_sheet, first_refusal, is_same_day, journal, option_map_or, sheet_on, statement}
+use Rattle.cns_desk.proofs.Common.{◌≡◌, refl, cond, Bool, true, not, List, [], ◌∷◌, Some, None, Option, option_map, find, is_none, unwrap_or, arith, Day, DaySheet, Journal, accepted, answer_to, date, day_sheet, first_refusal, is_same_day, journal, option_map_or, sheet_on, statement, Command}
 use Rattle.cns_terms.specs.declared.history.Taken.{Taken}
-use Rattle.cns_terms.specs.declared.command.Command.{Command}
 use Rattle.cns_terms.specs.declared.refusal.Refusal.TheVariants.{NoSuchDay, NoSuchMember}
 use Rattle.cns_terms.specs.declared.reply.Reply.{Reply}
 use Rattle.cns_desk.specs.Handed.{Hands}

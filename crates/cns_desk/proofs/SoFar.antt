@@ -1,7 +1,6 @@
 -- One record more.
 -- For `work` of worker.rt.
-use Rattle.cns_desk.proofs.Common.{◌≡◌, ◌∙◌, sym, ap, subst, refl, ℕ, ◌+◌, Bool, List, [], ◌∷◌, ◌++◌, map, Some, None, Option, append_assoc, length, length-append, IfSome, arith, AllByRecursion, Told, Logged, Adds, HasNoSheet, Logs, Steps, commands_in, lines_in, LogItem}
-use Rattle.cns_terms.specs.declared.command.Command.{Command}
+use Rattle.cns_desk.proofs.Common.{◌≡◌, ◌∙◌, sym, ap, subst, refl, ℕ, ◌+◌, Bool, List, [], ◌∷◌, ◌++◌, map, Some, None, Option, append_assoc, length, length-append, IfSome, arith, AllByRecursion, Told, Logged, Adds, HasNoSheet, Logs, Steps, commands_in, lines_in, LogItem, Command}
 
 -- a worker's log so far: that of what its source gave, which now tells what is left
 pub record SoFar (t : Told) (now : Option Told) (log : Logged) (turns : ℕ) : Type 0 where

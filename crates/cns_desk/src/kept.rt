@@ -2,7 +2,7 @@
 ghost use Rattle.std.specs.Prelude.{◌≡◌, ◌-◌, ◌^◌, ◌<◌, ◌≤◌, ◌↔◌, ◌⊎◌, Err, IfOk, OnErr, length, option_map, vec_len};
 ghost use Rattle.std.specs.Arc.{arc_value};
 ghost use Rattle.cns_terms.specs.declared.command.Command.TheVariants as command_is;
-ghost use Rattle.cns_terms.specs.Laws.{journal_of};
+ghost use Rattle.cns_terms.specs.Machine.{journal_of};
 ghost use Rattle.cns_terms.specs.Sheets.{sheet_on};
 ghost use Rattle.cns_book.specs.Log.{TakesStep, empty_log, state_of};
 ghost use Rattle.cns_desk.specs.Handed.{Hands};

@@ -1,6 +1,6 @@
 -- The shares of a history's lines add up to its position.
 -- For `shares_add_up` of laws.rt.
-use Rattle.cns_history.proofs.Common.{◌≡◌, ◌∙◌, ℕ, ◌+◌, pos, ◌-ℤ◌, List, [], ◌∷◌, Option, Ok, option_map, option_to_list, arith, State, answer, date, journal_of, next, opened, total, Holding, Key, booked, booking, closing, counted_from, lines_at, standing, HistoryLine}
+use Rattle.cns_history.proofs.Common.{◌≡◌, ◌∙◌, ℕ, ◌+◌, pos, ◌-ℤ◌, List, [], ◌∷◌, Option, Ok, option_map, option_to_list, arith, State, answer, date, journal_of, next, opened, total, Holding, Key, booked, booking, closing, counted_from, lines_at, standing, HistoryLine, history}
 use Rattle.std.proofs.lemmas.Int.{ints}
 use Rattle.std.specs.Cmp.{signed_Decides}
 use Rattle.cns_terms.proofs.Common.{total-append}
@@ -11,7 +11,6 @@ use Rattle.cns_history.specs.Laws.{SharesAddUp, shares_of}
 use Rattle.cns_history.specs.declared.line.Booking.{Booking}
 use Rattle.cns_history.specs.declared.line.Closing.{Closing}
 use Rattle.cns_history.specs.declared.watched.Watched.{Watched}
-use Rattle.cns_history.specs.Lines.{history}
 use Rattle.cns_terms.specs.declared.command.Command.{Command}
 
 booked_shares : (b : Booking) → total shares_of (option_to_list (booked b)) ≡ b.shares

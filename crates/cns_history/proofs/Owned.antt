@@ -1,12 +1,11 @@
 -- Lines that are added one after another.
 -- For `add_each_since`, `add_each_opened`, `add_all_opened`, `add_opened_on` and `first_issue` of everywhere.rt; `accounts_in` of accounts.rt.
-use Rattle.cns_history.proofs.Common.{◌≡◌, ◌∙◌, sym, ap, refl, ℕ, ◌+◌, ◌<◌, Bool, false, cond, filter, slice_get, Ok, arith, List, [], ◌∷◌, ◌++◌, Option, None, Some, append_assoc, append-nil, filter_map, map, cons_option, flat_map, Account, Cusip, Price, prices_above, place}
+use Rattle.cns_history.proofs.Common.{◌≡◌, ◌∙◌, sym, ap, refl, ℕ, ◌+◌, ◌<◌, Bool, false, cond, filter, slice_get, Ok, arith, List, [], ◌∷◌, ◌++◌, Option, None, Some, append_assoc, append-nil, filter_map, map, cons_option, flat_map, Account, Cusip, Price, prices_above, place, numbers}
 use Rattle.std.specs.Option.{option_to_list}
 use Rattle.std.proofs.lemmas.List.{map-id}
 use Rattle.std.proofs.lemmas.List.Elements.{filter-append, filter_map-append}
 use Rattle.std.proofs.lemmas.List.FromFn.{map-range_with_len_more}
 use Rattle.cns_units.specs.Ranges.{within}
-use Rattle.cns_history.specs.Lines.{numbers}
 
 pub both_given : {X Y : Type 0} (f : X → Option Y) (xs ys : List X) → filter_map f (xs ++ ys) ≡ filter_map f xs ++ filter_map f ys
 both_given f xs ys = filter_map-append f xs ys

@@ -1,9 +1,8 @@
 -- The page of a history.
 use Rattle.std.specs.Prelude.{◌≡◌, ℕ, ℤ, List, [], ◌∷◌, ◌++◌, length, map, Option, Some, None, option_map}
-use Rattle.cns_history.specs.Common.{decimal, day_text, Day, opened, position_shown, Line, state_after, escaped, table_text, filled, Watched}
+use Rattle.cns_history.specs.Common.{decimal, day_text, Day, opened, position_shown, Line, state_after, escaped, table_text, filled, Watched, piece_text}
 use Rattle.std.specs.Io.KnownBytes.{Appends}
 use Rattle.cns_book.specs.Log.{state_of}
-use Rattle.cns_tables.specs.Pieces.{piece_text}
 use Rattle.cns_tables.specs.declared.piece.Piece.{Piece}
 use Rattle.cns_tables.specs.declared.table.Table.{Table}
 use Rattle.cns_tables.specs.declared.style.TheConstants.{START, STYLE}

@@ -1,12 +1,9 @@
 -- Lists that are gathered item by item.
 -- For `sums_of` and `own_sums` of sums.rt; `counts_of` of reasons.rt; `lines_of` of accounts.rt; `keep_each` of folder.rt; `pending_shares` of pending.rt; `note_accepted` of survey.rt; `gather` and `gather_batch` of liable.rt.
-use Rattle.cns_page.proofs.Common.{◌≡◌, ◌∙◌, sym, ap, List, [], ◌∷◌, map, fold, ℕ, ◌+◌, ◌++◌, add-one, append-nil, ne_eqb, map-append, count_at, count_shown, counted, arith, Bool, Option, Some, append_assoc, Account, DaySheet, Row, grouped, ◌<◌, subst, drop, get_or, length, drop_more, KeptPages, KeepsOwn, None, take, get, fold-append, take_next, key_cmp, ArePending, with_due, PendingShares, refl, length-map, with_items_is, known, put_right, put_right_by, told, Survey, ◌≤◌, flat_map, flat_map_more, take_all}
-use Rattle.cns_page.specs.declared.finding.Outcome.{Outcome}
+use Rattle.cns_page.proofs.Common.{◌≡◌, ◌∙◌, sym, ap, List, [], ◌∷◌, map, fold, ℕ, ◌+◌, ◌++◌, add-one, append-nil, ne_eqb, map-append, count_at, count_shown, counted, arith, Bool, Option, Some, append_assoc, Account, DaySheet, Row, grouped, ◌<◌, subst, drop, get_or, length, drop_more, KeptPages, KeepsOwn, None, take, get, fold-append, take_next, key_cmp, ArePending, with_due, PendingShares, refl, length-map, with_items_is, known, put_right, put_right_by, told, Survey, ◌≤◌, flat_map, flat_map_more, take_all, Outcome, counts_below, lines_after}
 use Rattle.cns_page.specs.declared.reasons.Counted.{Counted}
-use Rattle.cns_page.specs.Listed.{counts_below}
 use Rattle.cns_account.specs.declared.day_moves.DayMoves.{DayMoves}
 use Rattle.cns_page.specs.declared.accounts.SheetLine.{SheetLine}
-use Rattle.cns_page.specs.Accounts.{lines_after}
 use Rattle.cns_page.specs.declared.closed.ClosedDay.{ClosedDay}
 use Rattle.cns_page.specs.declared.shared.Shared.{Shared}
 use Rattle.cns_terms.specs.declared.holding.Key.{Key}

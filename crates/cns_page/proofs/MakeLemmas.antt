@@ -1,6 +1,6 @@
 -- A page that was made, whatever the input is.
 -- For `past_of` and `write_past` of make.rt, `make_of` of entry.rt.
-use Rattle.cns_page.proofs.Common.{◌≡◌, ◌+◌, ℕ, List, [], ◌∷◌, Option, Some, Result, IfSome, OnOk, length, refl, take, arith, Day, State, opened, state_of, Line, lines_of, state_after_line, blank_log, state_of-after, ComesTo, IsClosedBy, Known, noted, nothing, Close, Watched}
+use Rattle.cns_page.proofs.Common.{◌≡◌, ◌+◌, ℕ, List, [], ◌∷◌, Option, Some, Result, IfSome, OnOk, length, refl, take, arith, Day, State, opened, state_of, Line, lines_of, state_after_line, blank_log, state_of-after, ComesTo, IsClosedBy, Known, noted, nothing, Close, Watched, noted_all}
 use Rattle.cns_history.specs.Page.{IsTold}
 use Rattle.cns_history.specs.declared.history.Told.{Told}
 use Rattle.cns_history.specs.declared.place.Place.{Place}
@@ -8,7 +8,6 @@ use Rattle.cns_page.proofs.PlayLemmas.{noted_records}
 use Rattle.cns_page.specs.Asked.{HasPage, HasPlayed}
 use Rattle.cns_page.specs.declared.asked.Asked.{Asked}
 use Rattle.cns_page.specs.declared.play.Played.{Played}
-use Rattle.cns_page.specs.Survey.{noted_all}
 
 -- each record is counted
 counted : (k : Known) (S : State) (ls : List Line) → (noted_all k S ls).records ≡ k.records + length ls

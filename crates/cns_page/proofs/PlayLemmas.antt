@@ -1,15 +1,11 @@
 -- A book and what is known of its records, line after line.
 -- For `play_with` and `step` of play.rt.
-use Rattle.cns_page.proofs.Common.{◌≡◌, Bool, true, ℕ, ◌+◌, List, [], ◌∷◌, ◌++◌, length, take, Option, refl, sym, ap, ◌∙◌, append_assoc, append-nil, length-append, arith, State, Log, state_of, Line, state_after_line, Pending, log_after_line, log_after-append, state_of-after, Came, Known, Takes, known, noted, replied, righted, wanted, Survey, Command, Watched}
+use Rattle.cns_page.proofs.Common.{◌≡◌, Bool, true, ℕ, ◌+◌, List, [], ◌∷◌, ◌++◌, length, take, Option, refl, sym, ap, ◌∙◌, append_assoc, append-nil, length-append, arith, State, Log, state_of, Line, state_after_line, Pending, log_after_line, log_after-append, state_of-after, Came, Known, Takes, known, noted, replied, righted, wanted, Survey, Command, Watched, state_after, log_after, noted_all, Outcome}
 use Rattle.std.proofs.Math.Seq.{take-append_seam}
 use Rattle.cns_terms.specs.declared.reply.Reply.{Reply}
 use Rattle.cns_feed.specs.declared.records.Records.{Records}
 use Rattle.cns_history.specs.Lines.{history, lines_of}
 use Rattle.cns_history.specs.declared.line.HistoryLine.{HistoryLine}
-use Rattle.cns_feed.specs.Output.{state_after}
-use Rattle.cns_feed.specs.Replay.{log_after}
-use Rattle.cns_page.specs.Survey.{noted_all}
-use Rattle.cns_page.specs.declared.finding.Outcome.{Outcome}
 
 -- records and others behind them
 noted_all-append : (k : Known) (S : State) (a b : List Line) → noted_all k S (a ++ b) ≡ noted_all (noted_all k S a) (state_after S a) b

@@ -1,9 +1,8 @@
 -- The words of a line.
 -- For `entered`, `run_command`, `matches_in` and `command_line` of asked.rt; `workers_read` of asked.rt.
-use Rattle.cns_program.proofs.Common.{◌≡◌, ◌&&◌, Bool, true, false, not, refl, Option, Some, option_map, arith, is_simple, is_simple_and_free, ◌<◌, ◌^◌, ℕ, sym, List, [], ◌∷◌, length, None, nat_le, if◌then◌else◌, digits_value, all_ascii_digits}
+use Rattle.cns_program.proofs.Common.{◌≡◌, ◌&&◌, Bool, true, false, not, refl, Option, Some, option_map, arith, is_simple, is_simple_and_free, ◌<◌, ◌^◌, ℕ, sym, List, [], ◌∷◌, length, None, nat_le, if◌then◌else◌, digits_value, all_ascii_digits, program_line}
 use Rattle.std.specs.Option.{IsSomeAnd}
 use Rattle.clap.proofs.OnLiterals.{clap_on_literals}
-use Rattle.cns_program.specs.CommandLine.{program_line}
 use Rattle.std.proofs.lemmas.Bool.Decides.{nat_tests}
 use Rattle.cns_program.specs.Asks.{workers_read}
 

@@ -13,5 +13,5 @@ pub use Rattle.serde_json.specs.Written.{compact_text, has_float, items_have_flo
 pub use Rattle.cns_program.specs.Days.{statements_text, text_of_one}
 pub use Rattle.cns_program.specs.Ends.{FailsReplay, ReadEach, Reads, told_by}
 pub use Rattle.cns_program.specs.Lines.{IsTold, end_line, end_lines}
-pub use Rattle.cns_program.specs.Tally.{counts_to, lines_to, tally_of, total_text, whole, workers_of}
-pub use Rattle.cns_program.specs.CommandLine.{words_rule}
+unfoldable pub use Rattle.cns_program.specs.Tally.{counts_to, lines_to, tally_of, total_text, whole, workers_of}
+unfoldable pub use Rattle.cns_program.specs.CommandLine.{words_rule, program_line}

@@ -1,13 +1,12 @@
 -- What a tally says of the workers, worker by worker.
 -- For `tally_line`, `amount` and `counted_of` of tally.rt.
-use Rattle.cns_program.proofs.Common.{◌≡◌, ℕ, zero, suc, false, ◌+◌, ◌-◌, ◌<◌, arith, codes, List, [], ◌∷◌, ◌++◌, map, length, get_or, add-one, refl, sym, ap, ◌∙◌, decimal, slice_index, IsUtf8, count, day, journal_of, map-append, items_of, view, compact_text, has_float, items_have_float, Logged, empty_logged, counts_to, lines_to, total_text, whole, workers_of}
+use Rattle.cns_program.proofs.Common.{◌≡◌, ℕ, zero, suc, false, ◌+◌, ◌-◌, ◌<◌, arith, codes, List, [], ◌∷◌, ◌++◌, map, length, get_or, add-one, refl, sym, ap, ◌∙◌, decimal, slice_index, IsUtf8, count, day, journal_of, map-append, items_of, view, compact_text, has_float, items_have_float, Logged, empty_logged, counts_to, lines_to, total_text, whole, workers_of, tally_of}
 use Rattle.std.proofs.lemmas.List.{get_or_default}
 use Rattle.std.proofs.lemmas.Fmt.{IsAscii-decimal_wide}
 use Rattle.std.proofs.lemmas.Str.{IsAscii-append, IsUtf8-from_ascii}
 use Rattle.serde_json.specs.Data.{array, member, no_members, object, string}
 use Rattle.serde_json.specs.declared.value.Value.{Value}
 use Rattle.cns_book.specs.Log.{Log, state_of}
-use Rattle.cns_program.specs.Tally.{tally_of}
 
 -- one worker's count more
 pub counts_more : (b : Log) (n w : ℕ) (vs : List Value) (v : Value) → w ≡ n + 1 → map view vs ≡ map whole (counts_to b n) → view v ≡ whole (count b.history w) → map view (vs ++ v ∷ []) ≡ map whole (counts_to b (n + 1))

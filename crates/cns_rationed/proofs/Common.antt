@@ -5,7 +5,7 @@ pub use base.Fml.{Lft, Share, ffalse, flft, froom, fsep, ftrue}
 pub use base.Logic.{SProp, ent, ex, guard, id⊢, never_e, sep}
 pub use contract.BorrowLft.{⊑_trans, ◌⊑◌}
 pub use contract.Monad.{Fun, fact}
-pub use contract.Running.{tables}
+unfoldable pub use contract.Running.{tables, tables_of}
 pub use denote.Builtin.{RawPtr, RefOf, bool, unit, usize}
 pub use denote.Exit.{yes}
 pub use denote.Opens.{unhide}

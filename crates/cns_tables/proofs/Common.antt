@@ -3,7 +3,7 @@ pub use Rattle.std.proofs.lemmas.Bool.Decides.{nat_tests}
 pub use Rattle.std.proofs.Common.{rules, suc, map, ◌≢◌, Bool, Err, List, Ok, OnOk, Option, Result, [], add-one, ap, append_assoc, arith, drop, drop-cons, false, get_or, length, length-drop, refl, sym, true, ℕ, ◌&&◌, ◌++◌, ◌+◌, ◌-◌, ◌<◌, ◌==◌, ◌∙◌, ◌∷◌, ◌≡◌}
 pub use Rattle.std.proofs.KnownBytes.{Appends-trans}
 pub use Rattle.std.proofs.lemmas.Int.{to_z-of_z}
-pub use Rattle.std.proofs.lemmas.List.{drop_all}
+pub use Rattle.std.proofs.lemmas.List.{drop_all, drop_more}
 pub use Rattle.std.proofs.lemmas.Result.{err_from_is_err_and}
 pub use Rattle.std.specs.Io.KnownBytes.{Appends, Keeps}
 pub use Rattle.std.specs.List.{flat_map, list_all}
@@ -11,7 +11,7 @@ pub use Rattle.cns_units.proofs.OutputLemmas.{front_later, front_longer, writes_
 pub use Rattle.cns_units.proofs.Parts.{parts_failed, parts_more}
 pub use Rattle.cns_units.specs.Output.{AppendsFront, Writes}
 pub use Rattle.cns_tables.specs.Escape.{escaped, escaped_byte, is_plain}
-pub use Rattle.cns_tables.specs.Grouped.{digit_text, grouped}
-pub use Rattle.cns_tables.specs.Pieces.{piece_text}
-pub use Rattle.cns_tables.specs.Tables.{cell_of, none_of, some_of}
+unfoldable pub use Rattle.cns_tables.specs.Grouped.{digit_text, grouped, amount_text, count_text, signed_text}
+unfoldable pub use Rattle.cns_tables.specs.Pieces.{piece_text, filled}
+unfoldable pub use Rattle.cns_tables.specs.Tables.{cell_of, none_of, some_of, table_text}
 pub use Rattle.cns_tables.specs.declared.table.TheConstants.{COLUMN}

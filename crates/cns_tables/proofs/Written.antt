@@ -1,11 +1,8 @@
 -- One text after another.
 -- For `write_table` of table.rt, `cut`, `write_form` and `write_markup` of piece.rt, and for pages.
-use Rattle.cns_tables.specs.Pieces.{filled}
-use Rattle.std.proofs.lemmas.List.{drop_more}
 use Rattle.cns_tables.specs.declared.piece.Piece.{Piece}
-use Rattle.cns_tables.proofs.Common.{append_assoc, ◌+◌, drop, map, piece_text, suc, nat_tests, ◌≢◌, ◌<◌, get_or, [], ◌∷◌, refl, ◌≡◌, ◌==◌, ℕ, List, ◌++◌, Option, Result, Ok, Err, OnOk, length, true, false, arith, none_of, some_of, Appends, Keeps, Appends-trans, Writes}
+use Rattle.cns_tables.proofs.Common.{append_assoc, ◌+◌, drop, map, piece_text, suc, nat_tests, ◌≢◌, ◌<◌, get_or, [], ◌∷◌, refl, ◌≡◌, ◌==◌, ℕ, List, ◌++◌, Option, Result, Ok, Err, OnOk, length, true, false, arith, none_of, some_of, Appends, Keeps, Appends-trans, Writes, filled, drop_more, table_text}
 use Rattle.cns_tables.specs.declared.table.Table.{Table}
-use Rattle.cns_tables.specs.Tables.{table_text}
 
 -- what a call wrote
 pub written : {T E : Type 0} (old new : Option (List ℕ)) (text : List ℕ) (r : Result T E) → Writes old new text r → OnOk r (Appends old new text)

@@ -1,7 +1,5 @@
 -- How often an account stands among the accounts.
-use Rattle.std.proofs.Common.{◌≡◌, ℕ, ◌+◌, ◌≤◌, ℤ, pos, Bool, true, false, cond, ◌&&◌, ◌==◌, List, [], ◌∷◌, refl, arith}
-use Rattle.cns_terms.specs.Common.{account_lt, list_any, total}
-use Rattle.cns_terms.proofs.Facts.{put, same_put}
+use Rattle.cns_terms.proofs.Facts.{◌≡◌, ℕ, ◌+◌, ◌≤◌, ℤ, pos, Bool, true, false, cond, ◌&&◌, ◌==◌, List, [], ◌∷◌, refl, arith, account_lt, list_any, total, put, same_put}
 
 -- how often a number stands in a list
 abbrev pub occurs : ℕ → List ℕ → ℕ

@@ -1,14 +1,6 @@
 -- No sum of a day leaves the limit of amounts.
-use Rattle.std.proofs.Common.{ℕ, ◌+◌, ◌*◌, ◌≤◌, ◌<◌, ℤ, pos, neg_ℤ, ◌*ℤ◌, ◌==◌, cond, not, List, [], ◌∷◌, length, map, arith, unsigned_abs, mul-le-mul_left}
-use Rattle.std.proofs.Math.Nat.{mul-le-mul}
-use Rattle.cns_terms.proofs.Common.{Account, Activity, AllByRecursion, Cusip, Day, Entry, IsLimited, IsReached, IsSound, Journal, Posting, Row, accounts, added, added-all, added-more, amount_limit, at_close, booking_limit, bounded, cents_for, closings, corporation_limit, day, day_sheet, each_closing, each_first, each_found, for_members, front_total, history_limit, ints, is_idle, issues, issues_few, journal, journal_len, last_close, limited, limited_past, mark, member_limit, money, occurs, one_issue, open_day, over_all, position_limit, price, price_limit, row, rows_of, sheet_rows, total, unsigned_abs-mul, position}
-use Rattle.cns_terms.specs.Laws.{Amounts, HasSmallSums, StaysSmall}
-use Rattle.cns_terms.specs.Marks.{value}
+use Rattle.cns_terms.proofs.Common.{ℕ, ◌+◌, ◌*◌, ◌≤◌, ◌<◌, ℤ, pos, neg_ℤ, ◌*ℤ◌, ◌==◌, cond, not, List, [], ◌∷◌, length, map, arith, unsigned_abs, mul-le-mul_left, mul-le-mul, Account, Activity, AllByRecursion, Cusip, Day, Entry, IsLimited, IsReached, IsSound, Journal, Posting, Row, accounts, added, added-all, added-more, amount_limit, at_close, booking_limit, bounded, cents_for, closings, corporation_limit, day, day_sheet, each_closing, each_first, each_found, for_members, front_total, history_limit, ints, is_idle, issues, issues_few, journal, journal_len, last_close, limited, limited_past, mark, member_limit, money, occurs, one_issue, open_day, over_all, position_limit, price, price_limit, row, rows_of, sheet_rows, total, unsigned_abs-mul, position, Amounts, HasSmallSums, StaysSmall, value, cents_of, open_small, added-filter, added-flat_map, added-map, over_more, over_total, limited_nil, at_most_one}
 use Rattle.cns_terms.proofs.DividendBounds.{dividends_small}
-use Rattle.cns_terms.proofs.Limits.{cents_of, open_small}
-use Rattle.cns_terms.proofs.Magnitudes.{added-filter, added-flat_map, added-map, over_more, over_total}
-use Rattle.cns_terms.proofs.Reached.{limited_nil}
-use Rattle.cns_terms.proofs.SheetBounds.{at_most_one}
 
 -- a journal with its limits, and those of its closes; there are few postings
 record AreSmall (opening : Day) (K : Journal) : Type 0 where

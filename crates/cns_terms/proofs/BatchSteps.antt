@@ -1,7 +1,5 @@
 -- How batches stand after one more activity.
-use Rattle.std.proofs.Common.{◌≡◌, refl, ℕ, ◌+◌, ◌≤◌, true, false, cond, ◌==◌, List, [], ◌∷◌, map, filter, sum_by, arith}
-use Rattle.cns_terms.proofs.Common.{Activity, Cusip, Day, Execution, Fill, IsReached, Journal, Liable, Member, Notice, Posting, Short, batch_at, batch_since, called, charged, day, executes, execution_entries, fill_entry, fills, fills_before, in_order, is_called, journal, left_of, liable_of, long, originator_entry, same_issue, shares_for, shorts, sum_by-cons, ints}
-use Rattle.cns_terms.specs.Fills.{brought, filled, given_to}
+use Rattle.cns_terms.proofs.Common.{◌≡◌, refl, ℕ, ◌+◌, ◌≤◌, true, false, cond, ◌==◌, List, [], ◌∷◌, map, filter, sum_by, arith, Activity, Cusip, Day, Execution, Fill, IsReached, Journal, Liable, Member, Notice, Posting, Short, batch_at, batch_since, called, charged, day, executes, execution_entries, fill_entry, fills, fills_before, in_order, is_called, journal, left_of, liable_of, long, originator_entry, same_issue, shares_for, shorts, sum_by-cons, ints, brought, filled, given_to}
 
 -- and leaves it
 pub batch_same : (p : Posting) (J K : Journal) (c : Cusip) → executes J (day K) c p.activity ≡ false → batch_since (p ∷ J) K c ≡ batch_since J K c

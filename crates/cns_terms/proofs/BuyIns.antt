@@ -1,13 +1,9 @@
 -- Whom executions book for, and how much.
-use Rattle.std.proofs.Common.{◌≡◌, refl, ℕ, ◌+◌, ◌*◌, ◌≤◌, pos, ◌+ℤ◌, neg_ℤ, Bool, true, cond, ◌==◌, List, [], ◌∷◌, map, filter, find, sum_by, arith, IfSome, nat_lt}
-use Rattle.cns_terms.specs.Common.{Account, AllByRecursion, Cusip, Entry, Execution, Fill, Journal, Liable, Member, Notice, Short, at_close, batch, batch_at, called, capacity, day, execution_entries, fill_entry, fills, fills_before, in_order, is_called, is_live, left_of, liable_of, long, members, originator_entry, remaining, room, same_issue, shares_for, short, short_of, shorts, stage, total}
-use Rattle.std.proofs.Math.Nat.{min-le_right}
+use Rattle.cns_terms.proofs.Facts.{◌≡◌, refl, ℕ, ◌+◌, ◌*◌, ◌≤◌, pos, ◌+ℤ◌, neg_ℤ, Bool, true, cond, ◌==◌, List, [], ◌∷◌, map, filter, find, sum_by, arith, IfSome, nat_lt, Account, AllByRecursion, Cusip, Entry, Execution, Fill, Journal, Liable, Member, Notice, Short, at_close, batch, batch_at, called, capacity, day, execution_entries, fill_entry, fills, fills_before, in_order, is_called, is_live, left_of, liable_of, long, members, originator_entry, remaining, room, same_issue, shares_for, short, short_of, shorts, stage, total, min-le_right, IsWithin, bytes_eq-Decides, eqb_sym, ints, nat_tests, position, same_order, sum_by-cons}
 use Rattle.cns_terms.proofs.Accounts.{occurs}
-use Rattle.cns_terms.specs.Limits.{IsWithin}
 use Rattle.cns_terms.proofs.Laid.{fills_laid, laid, cents_of_fills, shares_of_fills}
 use Rattle.cns_terms.proofs.ZeroSums.{IsBalanced, balanced_in}
 use Rattle.cns_terms.proofs.Everywhere.{each_filter, each_weaker}
-use Rattle.cns_terms.proofs.Facts.{bytes_eq-Decides, eqb_sym, ints, nat_tests, position, same_order, sum_by-cons}
 use Rattle.cns_terms.proofs.Magnitudes.{added, magnitude, added-filter, added-map}
 
 -- ---- what an execution that is not refused has met

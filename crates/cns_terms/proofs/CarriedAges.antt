@@ -1,10 +1,5 @@
 -- Ages over an exchange: what it brings into the successor, and that it brings nothing anywhere else.
-use Rattle.std.proofs.Common.{◌≡◌, ap, refl, ℕ, zero, suc, ◌≤◌, max, Bool, true, false, cond, List, [], ◌∷◌, ◌++◌, filter, length, None, arith, is_none, flat_map}
-use Rattle.cns_terms.proofs.Common.{⊤, Account, Activity, Cusip, Day, IsReached, Journal, Posting, all_fail, closes, closings, exchanged, greatest, is_close, is_retired, journal, list_any, oldest, same_issue}
-use Rattle.cns_terms.specs.declared.action.Exchange.{Exchange}
-use Rattle.cns_terms.specs.Ages.{age, carried, closes_short, exchanges_today, forerunners, forerunners_today}
-use Rattle.cns_terms.specs.Refusals.{rules}
-use Rattle.cns_terms.proofs.Facts.{issues_differ}
+use Rattle.cns_terms.proofs.Common.{◌≡◌, ap, refl, ℕ, zero, suc, ◌≤◌, max, Bool, true, false, cond, List, [], ◌∷◌, ◌++◌, filter, length, None, arith, is_none, flat_map, ⊤, Account, Activity, Cusip, Day, IsReached, Journal, Posting, all_fail, closes, closings, exchanged, greatest, is_close, is_retired, journal, list_any, oldest, same_issue, Exchange, age, carried, closes_short, exchanges_today, forerunners, forerunners_today, rules, issues_differ}
 
 -- ---- the greatest
 

@@ -1,6 +1,5 @@
 -- All places of some accounts in some issues, in the order of keys.
-use Rattle.std.proofs.Common.{◌≡◌, refl, Bool, true, ◌&&◌, ◌||◌, cond, eqb, List, [], ◌∷◌, ◌++◌, map, flat_map, Some, None, bytes_eq, nat_cmp, is_lt, arith}
-use Rattle.cns_terms.proofs.Common.{Account, Cusip, Key, above_all, below_all, bytes_eq-Decides, is_rising, is_sorted, key_cmp, list_any, nat_cmp_total, same_key, slice_cmp, tied_itself, nat_tests}
+use Rattle.cns_terms.proofs.Common.{◌≡◌, refl, Bool, true, ◌&&◌, ◌||◌, cond, eqb, List, [], ◌∷◌, ◌++◌, map, flat_map, Some, None, bytes_eq, nat_cmp, is_lt, arith, Account, Cusip, Key, above_all, below_all, bytes_eq-Decides, is_rising, is_sorted, key_cmp, list_any, nat_cmp_total, same_key, slice_cmp, tied_itself, nat_tests}
 use Rattle.std.specs.FinMap.{find}
 
 -- an account's place in an issue

@@ -1,9 +1,5 @@
 -- A closed day keeps its sheet.
-use Rattle.std.proofs.Common.{◌≡◌, ℕ, ◌≤◌, Bool, true, List, [], ◌∷◌, sym, ◌∙◌, ap, subst, arith, find, Option, Some, option_map}
-use Rattle.cns_terms.proofs.Common.{AllByRecursion, Command, Day, DaySheet, IsWhole, Journal, State, after, at_close, closed_on, closes, day_sheet, journal_of, next, opened, rows_for, statement}
-use Rattle.cns_terms.specs.Laws.{ClosedDays}
-use Rattle.cns_terms.specs.Sheets.{sheet_at}
-use Rattle.cns_terms.proofs.Sound.{opening_stays, whole-after, whole-next}
+use Rattle.cns_terms.proofs.Common.{◌≡◌, ℕ, ◌≤◌, Bool, true, List, [], ◌∷◌, sym, ◌∙◌, ap, subst, arith, find, Option, Some, option_map, AllByRecursion, Command, Day, DaySheet, IsWhole, Journal, State, after, at_close, closed_on, closes, day_sheet, journal_of, next, opened, rows_for, statement, ClosedDays, sheet_at, opening_stays, whole-after, whole-next}
 
 -- what is found passes the test, and what holds of each holds of it
 found : {X : Type 0} (P : X → Type 0) (t : X → Bool) (xs : List X) (x : X) → AllByRecursion P xs → find t xs ≡ Some x → P x × (t x ≡ true)

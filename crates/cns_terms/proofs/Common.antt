@@ -20,16 +20,16 @@ pub use Rattle.cns_units.proofs.Parts.{parts_failed, parts_more}
 pub use Rattle.cns_terms.proofs.Accounts.{occurs, occurs_found, occurs_missing}
 pub use Rattle.cns_terms.proofs.BuyIns.{IsExecutable}
 pub use Rattle.cns_terms.proofs.Everywhere.{each_append, each_both, each_filter, each_first, each_found, each_in_order, each_map, each_weaker}
-pub use Rattle.cns_terms.proofs.Facts.{and_false, and_left, and_right, both_true, bytes_eq-Decides, bytes_refl, eqb_refl, eqb_sym, equal, holds, is_eq-slice_cmp, journal_len, less, nat_cmp_total, nat_list_cmp_total, nat_list_eq_equiv, nat_tests, neither, position, same_test, zero_add}
+pub use Rattle.cns_terms.proofs.Facts.{and_false, and_left, and_right, both_true, bytes_eq-Decides, bytes_refl, eqb_refl, eqb_sym, equal, holds, is_eq-slice_cmp, journal_len, less, nat_cmp_total, nat_list_cmp_total, nat_list_eq_equiv, nat_tests, neither, position, same_test, zero_add, ◌≡◌, refl, ℕ, ◌+◌, ◌≤◌, true, false, cond, ◌==◌, List, [], ◌∷◌, map, filter, sum_by, arith, brought, filled, given_to, ◌*◌, ◌<◌, ℤ, pos, neg_ℤ, ◌*ℤ◌, not, length, unsigned_abs, mul-le-mul_left, mul-le-mul, Amounts, HasSmallSums, StaysSmall, value, ◌++◌, commands_of, replies_of, state, replies, ap, zero, suc, max, Bool, None, is_none, flat_map, Exchange, age, carried, closes_short, exchanges_today, forerunners, forerunners_today, rules, issues_differ, sym, ◌∙◌, subst, find, Option, Some, option_map, ClosedDays, sheet_at, if◌then◌else◌, codes, ◌&&◌, bytes_eq, ◌^◌, nat_cmp, ◌||◌, eqb, is_lt, unwrap_or, sheet_prices, ◌+ℤ◌, take, filter_len, same_order}
 pub use Rattle.cns_terms.proofs.Laid.{cents_of_fills, shares_of_fills, fills_laid, laid}
 pub use Rattle.cns_terms.proofs.Finds.{find_below, find_filter, kept_if, next_above, same_lists, sorted_filter, sorted_from}
-pub use Rattle.cns_terms.proofs.Keys.{exact_keys, keys_total, same_key}
-pub use Rattle.cns_terms.proofs.Limits.{near}
-pub use Rattle.cns_terms.proofs.Magnitudes.{added, added-all, added-each, added-more, front_total, magnitude, total_small, one_issue, over_all, total-add, total-append, total-map, total-neg, total-same, total-swap, total-zero}
-pub use Rattle.cns_terms.proofs.Reached.{IsLimited, bounded, each_closing, for_members, limited, limited_past, members_few, members_from_one}
+pub use Rattle.cns_terms.proofs.Keys.{exact_keys, keys_total, same_key, pairs_cmp}
+pub use Rattle.cns_terms.proofs.Limits.{near, cents_of, open_small}
+pub use Rattle.cns_terms.proofs.Magnitudes.{added, added-all, added-each, added-more, front_total, magnitude, total_small, one_issue, over_all, total-add, total-append, total-map, total-neg, total-same, total-swap, total-zero, added-filter, added-flat_map, added-map, over_more, over_total, added-swap}
+pub use Rattle.cns_terms.proofs.Reached.{IsLimited, bounded, each_closing, for_members, limited, limited_past, members_few, members_from_one, limited_nil, AreSmallRates}
 pub use Rattle.cns_terms.proofs.Rising.{above_all, is_rising}
-pub use Rattle.cns_terms.proofs.SheetBounds.{issues_few}
+pub use Rattle.cns_terms.proofs.SheetBounds.{issues_few, at_most_one}
 pub use Rattle.cns_terms.proofs.SheetSums.{idle_parts, says}
-pub use Rattle.cns_terms.proofs.Sound.{IsSound, IsWhole, NoneHolds, all_fail}
+pub use Rattle.cns_terms.proofs.Sound.{IsSound, IsWhole, NoneHolds, all_fail, opening_stays, whole-after, whole-next, AreKnown, IsPlace}
 pub use Rattle.cns_terms.proofs.Valued.{find_with}
-pub use Rattle.cns_terms.proofs.Waiting.{bought_by, sold_by}
+pub use Rattle.cns_terms.proofs.Waiting.{bought_by, sold_by, sum_added}

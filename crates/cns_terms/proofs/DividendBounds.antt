@@ -1,9 +1,6 @@
 -- No dividends of a day leave the limit of amounts.
-use Rattle.std.proofs.Common.{◌≡◌, ℕ, ◌*◌, ◌^◌, ◌≤◌, ◌<◌, ℤ, pos, Bool, true, false, ◌&&◌, ◌==◌, cond, filter, List, [], ◌∷◌, length, arith, nat_cmp, bytes_eq, unsigned_abs}
-use Rattle.cns_terms.proofs.Common.{Account, AllByRecursion, Cusip, Day, Declared, IsLimited, Journal, Rate, added, added-all, added-more, amount_limit, as_of, cash, closings, date, dividend, dividends, each_found, for_members, history_limit, ints, is_rising, issues, last_date, magnitude, member_dividend, member_limit, members, nat_tests, one_issue, over_all, position_limit, rate_limit, slice_cmp, total_small, position}
+use Rattle.cns_terms.proofs.Common.{◌≡◌, ℕ, ◌*◌, ◌^◌, ◌≤◌, ◌<◌, ℤ, pos, Bool, true, false, ◌&&◌, ◌==◌, cond, filter, List, [], ◌∷◌, length, arith, nat_cmp, bytes_eq, unsigned_abs, Account, AllByRecursion, Cusip, Day, Declared, IsLimited, Journal, Rate, added, added-all, added-more, amount_limit, as_of, cash, closings, date, dividend, dividends, each_found, for_members, history_limit, ints, is_rising, issues, last_date, magnitude, member_dividend, member_limit, members, nat_tests, one_issue, over_all, position_limit, rate_limit, slice_cmp, total_small, position, added-swap, AreSmallRates}
 use Rattle.cns_terms.specs.Dividends.{due, is_due}
-use Rattle.cns_terms.proofs.Magnitudes.{added-swap}
-use Rattle.cns_terms.proofs.Reached.{AreSmallRates}
 
 -- the most cents that a dividend pays on a member's position
 abbrev pub cash_limit : ℕ

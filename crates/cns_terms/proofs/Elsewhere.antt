@@ -1,9 +1,7 @@
 -- A place at which nothing was booked has no row.
-use Rattle.std.proofs.Common.{ℤ, ◌≡◌, ◌∙◌, refl, pos, Bool, false, not, ◌&&◌, [], ◌∷◌, arith, bytes_eq}
-use Rattle.cns_terms.proofs.Common.{Account, AllByRecursion, Cusip, Day, Entry, IsSound, Journal, Key, accounts, as_of, bytes_eq-Decides, closings, date, dividend, each_found, each_weaker, is_account, is_idle, is_listed, is_not_after, issues, last_close, list_any, open_day, total, nat_list_eq_equiv, nat_tests, occurs_missing, row, position}
+use Rattle.cns_terms.proofs.Common.{ℤ, ◌≡◌, ◌∙◌, refl, pos, Bool, false, not, ◌&&◌, [], ◌∷◌, arith, bytes_eq, Account, AllByRecursion, Cusip, Day, Entry, IsSound, Journal, Key, accounts, as_of, bytes_eq-Decides, closings, date, dividend, each_found, each_weaker, is_account, is_idle, is_listed, is_not_after, issues, last_close, list_any, open_day, total, nat_list_eq_equiv, nat_tests, occurs_missing, row, position, AreKnown, IsPlace}
 use Rattle.cns_terms.proofs.ZeroSums.{at_place, is_at, none_at, each_part}
 use Rattle.cns_terms.proofs.Paid.{no_dividend-account, no_dividend-issue}
-use Rattle.cns_terms.proofs.Sound.{AreKnown, IsPlace}
 
 -- none of the entries is booked at the place
 abbrev pub AreElsewhere : Account → Cusip → Journal → Type 0

@@ -1,9 +1,6 @@
 -- What holds of each element of a list.
-use Rattle.std.proofs.Common.{ℕ, ◌≤◌, Bool, ◌≡◌, ◌||◌, List, [], ◌∷◌, ◌++◌, map, filter, find, slice_get, reverse, unwrap_or, refl, arith}
-use Rattle.cns_terms.specs.Common.{AllByRecursion, in_order, list_any}
-use Rattle.std.proofs.lemmas.Grind.{reverse_onto}
+use Rattle.cns_terms.proofs.Facts.{ℕ, ◌≤◌, Bool, ◌≡◌, ◌||◌, List, [], ◌∷◌, ◌++◌, map, filter, find, slice_get, reverse, unwrap_or, refl, arith, AllByRecursion, in_order, list_any, reverse_onto, put, same_put}
 use Rattle.cns_terms.proofs.Accounts.{occurs}
-use Rattle.cns_terms.proofs.Facts.{put, same_put}
 
 pub each_weaker : {X : Type 0} (P Q : X → Type 0) (xs : List X) → ((x : X) → P x → Q x) → AllByRecursion P xs → AllByRecursion Q xs
 each_weaker P Q [] h a = tt

@@ -1,8 +1,5 @@
 -- Worked examples, computed from the definitions, whatever the days are. Many more are cases of `cns_cases`.
-use Rattle.std.proofs.Common.{◌≡◌, ◌==◌, if◌then◌else◌, refl, ℕ, ℤ, pos, neg_ℤ, true, false, List, [], ◌∷◌, arith, codes}
-use Rattle.cns_terms.proofs.Common.{Activity, Command, Cusip, Day, Liable, answer_to, chosen, fills_of, in_lieu, ints, is_not_after, is_same_day}
-use Rattle.cns_terms.specs.Ages.{forerunners}
-use Rattle.cns_terms.specs.declared.action.Exchange.{Exchange}
+use Rattle.cns_terms.proofs.Common.{◌≡◌, ◌==◌, if◌then◌else◌, refl, ℕ, ℤ, pos, neg_ℤ, true, false, List, [], ◌∷◌, arith, codes, Activity, Command, Cusip, Day, Liable, answer_to, chosen, fills_of, in_lieu, ints, is_not_after, is_same_day, forerunners, Exchange}
 use Rattle.cns_terms.specs.declared.reply.Reply.{Reply}
 
 abbrev apple : Cusip

@@ -1,6 +1,7 @@
 -- Facts that proofs of several crates use: tests, comparisons, numbers, lists. Passes on names that files below Common.antt cite.
-use Rattle.std.proofs.Common.{◌≡◌, ◌∙◌, sym, ap, refl, suc, ℕ, ℤ, pos, ◌+ℤ◌, Bool, true, false, not, ◌&&◌, ◌||◌, cond, eqb, List, [], ◌∷◌, length, Option, Some, arith, filter, ◌≤◌, bytes_eq, int_le, int_lt, is_eq, is_lt, nat_cmp, Ordering, Less, Equal}
-use Rattle.cns_terms.specs.Common.{Activity, Cusip, Day, journal, option_map_or, in_order, slice_cmp, tied_itself}
+pub use Rattle.std.proofs.Common.{◌≡◌, ◌∙◌, sym, ap, refl, suc, ℕ, ℤ, pos, ◌+ℤ◌, Bool, true, false, not, ◌&&◌, ◌||◌, cond, eqb, List, [], ◌∷◌, length, Option, Some, arith, filter, ◌≤◌, bytes_eq, int_le, int_lt, is_eq, is_lt, nat_cmp, Ordering, Less, Equal, ◌+◌, ◌==◌, map, sum_by, ◌*◌, ◌<◌, is_none, filter_map, unsigned_abs, IfSome, None, int_eq, mul-le-mul_left, flat_map, neg_ℤ, ◌*ℤ◌, ◌⊎◌, inr, nat_lt, find, ◌-ℤ◌, zero, ◌++◌, unwrap_or, option_map, reverse, max, subst, if◌then◌else◌, codes, int_div, int_rem, slice_get, ◌^◌, T, append_assoc, length-append, le_trans, ◌/◌, min, div-mul-le_self, take}
+pub use Rattle.cns_terms.specs.Common.{Activity, Cusip, Day, journal, option_map_or, in_order, slice_cmp, tied_itself, brought, filled, given_to, Account, AllByRecursion, Command, Declared, IsReached, Journal, State, account_lt, accounts, activities, after, booking_limit, closings, dividends, member_limit, members, money, next, opened, position_limit, Posting, posting, price, price_limit, rate_limit, Entry, Execution, IsInRange, Notice, Price, Ratio, against_corporation, execution_entries, holders, in_exchange, in_lieu, money_limit, new_entry, notice_at, old_entry, Pend, entries, trade_entries, ratio_limit, rules, split_entry, member_added, IsCommandInRange, IsRatio, due, value, day, bought_in, cents_for, corporation, date, is_beyond, is_exceeded, is_too_large, list_any, moved_in, moved_out, open_day, pend_of, pending, shares_for, short, sold_in, total, IsWithin, is_due, places, Fill, Liable, Member, Short, at_close, batch, batch_at, called, capacity, fill_entry, fills, fills_before, is_called, is_live, left_of, liable_of, long, originator_entry, remaining, room, same_issue, short_of, shorts, stage, last_close, mark, DaySheet, Row, closed_on, day_sheet, is_idle, is_same_day, issues, row, rows_of, sheet_rows, IsTotalOrder, commands_of, replies_of, state, replies, is_not_after, trades, age, carried, closes_short, exchanges_today, forerunners, forerunners_today, below_all, is_sorted, sheet_at, Rate, as_of, cash, dividend, member_dividend, Rule, day_number, first_refusal, is_listed, journal_of, notices, fraction, Key, key_cmp, ordering_then, fills_of, stretch, room_of, stretch_at, issue_lt, sheet_prices, position}
+pub use Rattle.cns_terms.specs.Laws.{AddsUpToZero, Amounts, Bounds, ClosedDays, HasSmallSums, IsBounded, Positions, Reaches, RefusalOrder, StaysSmall, ZeroSums}
 pub use Rattle.cns_terms.specs.Sums.{put}
 pub use Rattle.std.proofs.lemmas.Bool.Decides.{nat_tests}
 pub use Rattle.std.proofs.lemmas.Cmp.{nat_cmp_total, nat_list_cmp_total, nat_list_eq_equiv, on_total, then_total}
@@ -9,7 +10,11 @@ pub use Rattle.std.proofs.lemmas.Map.Text.{is_eq-slice_cmp}
 use Rattle.cns_terms.specs.declared.command.Listing.{Listing}
 pub use Rattle.std.proofs.lemmas.Slice.Eq.{bytes_eq-Decides}
 pub use Rattle.std.proofs.lemmas.List.Sums.{sum_by-append, sum_by-cons}
-pub use Rattle.cns_terms.specs.Positions.{position}
+pub use Rattle.std.proofs.Math.Nat.{mul-le-mul, min-le_right}
+pub use lib.IntN.{zero-*ℤ, *ℤ_comm, suc_ℤ-*ℤ, *ℤ-zero}
+pub use Rattle.std.proofs.lemmas.Grind.{reverse_onto}
+pub use Rattle.cns_terms.specs.declared.action.Exchange.{Exchange}
+pub use Rattle.std.specs.FinMap.{FinMap, entries-from_sorted, from_sorted, get-from_sorted, same_map, IsAntisymmetric}
 
 -- ---- tests
 

@@ -1,9 +1,7 @@
 -- Searches in lists whose keys strictly rise.
-use Rattle.std.proofs.Common.{◌≡◌, ◌∙◌, sym, ap, refl, Bool, true, false, cond, List, [], ◌∷◌, map, filter, Option, Some, None, is_lt, Ordering, Less, Equal, T, arith}
-use Rattle.cns_terms.specs.Common.{AllByRecursion, IsTotalOrder, below_all, is_sorted, tied_itself}
-use Rattle.std.specs.FinMap.{FinMap, entries, entries-from_sorted, find, from_sorted, get-from_sorted, same_map, IsAntisymmetric}
+use Rattle.cns_terms.proofs.Facts.{◌≡◌, ◌∙◌, sym, ap, refl, Bool, true, false, cond, List, [], ◌∷◌, map, filter, Option, Some, None, is_lt, Ordering, Less, Equal, T, arith, AllByRecursion, IsTotalOrder, below_all, is_sorted, tied_itself, FinMap, entries-from_sorted, from_sorted, get-from_sorted, same_map, IsAntisymmetric, less}
+use Rattle.std.specs.FinMap.{entries, find}
 use Rattle.std.specs.List.Sorted.{IsStrictlySortedBy}
-use Rattle.cns_terms.proofs.Facts.{less}
 
 -- an option kept where its value passes a test
 abbrev pub kept_if : {X : Type 0} → (X → Bool) → Option X → Option X

@@ -1,8 +1,6 @@
 -- The order of keys.
-use Rattle.std.proofs.Common.{◌≡◌, ℕ, ◌+◌, ◌*◌, ◌^◌, ◌<◌, ◌&&◌, eqb, List, ap, bytes_eq, nat_cmp, is_eq, arith}
-use Rattle.cns_terms.specs.Common.{IsTotalOrder, Key, key_cmp, ordering_then, slice_cmp}
+use Rattle.cns_terms.proofs.Facts.{◌≡◌, ℕ, ◌+◌, ◌*◌, ◌^◌, ◌<◌, ◌&&◌, eqb, List, ap, bytes_eq, nat_cmp, is_eq, arith, IsTotalOrder, Key, key_cmp, ordering_then, slice_cmp, is_eq-slice_cmp, nat_cmp_total, nat_list_cmp_total, on_total, then_total}
 use Rattle.std.proofs.lemmas.Map.Lookups.{CmpEqualImpliesEq, exact_pairs, exact_unsigned, exact_bytes}
-use Rattle.cns_terms.proofs.Facts.{is_eq-slice_cmp, nat_cmp_total, nat_list_cmp_total, on_total, then_total}
 
 pub keys_total : IsTotalOrder key_cmp
 keys_total = then_total (on_total (λ k. k.account) nat_cmp_total) (on_total (λ k. k.issue) nat_list_cmp_total)

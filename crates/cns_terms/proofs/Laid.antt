@@ -1,10 +1,7 @@
 -- Stretches laid end to end, each from where the one before it ends: so the fills of an execution are its shares and its money, whole.
-use Rattle.std.proofs.Common.{◌≡◌, ap, refl, ℕ, ◌+◌, List, [], ◌∷◌, ◌++◌, append_assoc, filter, length, map, nat_lt, sum_by, arith, length-append, le_trans, ◌*◌, ◌/◌, ◌<◌, ◌≤◌, min, false, div-mul-le_self, mul-le-mul_left}
-use Rattle.cns_terms.specs.Common.{Fill, Liable, Member, capacity, fills_of, stretch, room_of}
+use Rattle.cns_terms.proofs.Facts.{◌≡◌, ap, refl, ℕ, ◌+◌, List, [], ◌∷◌, ◌++◌, append_assoc, filter, length, map, nat_lt, sum_by, arith, length-append, le_trans, ◌*◌, ◌/◌, ◌<◌, ◌≤◌, min, false, div-mul-le_self, mul-le-mul_left, Fill, Liable, Member, capacity, fills_of, stretch, room_of, stretch_at, sum_by-append, sum_by-cons}
 use Rattle.std.specs.List.{enumerate_from}
 use Rattle.std.proofs.Math.Seq.{take-append_seam}
-use Rattle.std.proofs.lemmas.List.Sums.{sum_by-append, sum_by-cons}
-use Rattle.cns_terms.specs.Fills.{stretch_at}
 use Rattle.std.proofs.lemmas.Nat.{le-div}
 
 -- the stretches of members, laid end to end from a share on

@@ -1,9 +1,6 @@
 -- A legal history has the replies of the machine to its commands, one after another.
-use Rattle.std.proofs.Common.{◌≡◌, refl, List, [], ◌∷◌, ◌++◌, arith}
-use Rattle.cns_terms.proofs.Common.{Command, Day, IsLegal, State, after, answer, next, opened}
+use Rattle.cns_terms.proofs.Common.{◌≡◌, refl, List, [], ◌∷◌, ◌++◌, arith, Command, Day, IsLegal, State, after, answer, next, opened, commands_of, replies_of, state, replies}
 use Rattle.cns_terms.specs.declared.history.Taken.{Taken}
-use Rattle.cns_terms.specs.History.{commands_of, replies_of, state}
-use Rattle.cns_terms.specs.Machine.{replies}
 
 after_one : (S : State) (cmds : List Command) (cmd : Command) → after S (cmds ++ cmd ∷ []) ≡ next (after S cmds) cmd
 after_one S [] cmd = refl

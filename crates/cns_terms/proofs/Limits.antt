@@ -1,12 +1,7 @@
 -- One accepted activity keeps positions and cents within their limits.
-use Rattle.std.proofs.Common.{◌≡◌, ℕ, ◌≤◌, ℤ, pos, ◌+ℤ◌, Bool, true, false, not, ◌&&◌, ◌==◌, cond, List, [], ◌∷◌, Option, Some, None, ◌⊎◌, inr, arith, IfSome, int_le, nat_lt, unsigned_abs}
-use Rattle.cns_terms.specs.Common.{closings, day, Account, Activity, AllByRecursion, Cusip, Day, Entry, Execution, Journal, Notice, Pend, Posting, bought_in, cents_for, corporation, date, entries, execution_entries, is_beyond, is_exceeded, is_too_large, list_any, money, moved_in, moved_out, notice_at, open_day, option_map_or, pend_of, pending, position_limit, posting, shares_for, short, sold_in, total, trade_entries}
-use Rattle.cns_terms.specs.Limits.{IsWithin}
-use Rattle.cns_terms.specs.Pending.{is_due}
-use Rattle.cns_terms.specs.Refusals.{places, rules}
+use Rattle.cns_terms.proofs.Facts.{◌≡◌, ℕ, ◌≤◌, ℤ, pos, ◌+ℤ◌, Bool, true, false, not, ◌&&◌, ◌==◌, cond, List, [], ◌∷◌, Option, Some, None, ◌⊎◌, inr, arith, IfSome, int_le, nat_lt, unsigned_abs, closings, day, Account, Activity, AllByRecursion, Cusip, Day, Entry, Execution, Journal, Notice, Pend, Posting, bought_in, cents_for, corporation, date, entries, execution_entries, is_beyond, is_exceeded, is_too_large, list_any, money, moved_in, moved_out, notice_at, open_day, option_map_or, pend_of, pending, position_limit, posting, shares_for, short, sold_in, total, trade_entries, IsWithin, is_due, places, rules, bytes_eq-Decides, nat_tests, position, zero_add}
 use Rattle.cns_terms.proofs.BuyIns.{IsExecutable, executed_within}
 use Rattle.cns_terms.proofs.ZeroSums.{is_at, none_at}
-use Rattle.cns_terms.proofs.Facts.{bytes_eq-Decides, nat_tests, position, zero_add}
 use Rattle.cns_terms.proofs.Everywhere.{each_found}
 use Rattle.cns_terms.proofs.Magnitudes.{added, added-more, magnitude, total_small}
 use Rattle.cns_terms.proofs.Sound.{IsSound, sound_nil, IsWhole, NoneHolds, all_fail}

@@ -1,8 +1,6 @@
 -- Sums of numbers with a sign, sums of absolute values, which bound them, and a number for each account in each issue.
-use Rattle.std.proofs.Common.{◌≡◌, ap, refl, ℕ, zero, suc, ◌+◌, ◌*◌, ◌≤◌, ℤ, Bool, List, [], ◌∷◌, ◌++◌, length, map, filter, flat_map, take, arith, unsigned_abs, pos, true, ◌&&◌, cond, nat_cmp, bytes_eq, ◌+ℤ◌, neg_ℤ, sym, ◌∙◌}
-use Rattle.cns_terms.specs.Common.{AllByRecursion, total, Account, Cusip, Journal, accounts, issues, slice_cmp}
+use Rattle.cns_terms.proofs.Facts.{◌≡◌, ap, refl, ℕ, zero, suc, ◌+◌, ◌*◌, ◌≤◌, ℤ, Bool, List, [], ◌∷◌, ◌++◌, length, map, filter, flat_map, take, arith, unsigned_abs, pos, true, ◌&&◌, cond, nat_cmp, bytes_eq, ◌+ℤ◌, neg_ℤ, sym, ◌∙◌, AllByRecursion, total, Account, Cusip, Journal, accounts, issues, slice_cmp, bytes_eq-Decides, ints, is_eq-slice_cmp}
 use Rattle.cns_terms.proofs.Rising.{above_all, is_rising}
-use Rattle.cns_terms.proofs.Facts.{bytes_eq-Decides, ints, is_eq-slice_cmp}
 
 pub total-append : {X : Type 0} (f : X → ℤ) (xs ys : List X) → total f (xs ++ ys) ≡ total f xs +ℤ total f ys
 total-append f [] ys = omega (arith, ints)

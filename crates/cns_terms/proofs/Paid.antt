@@ -1,9 +1,6 @@
 -- Dividends add up to zero.
-use Rattle.std.proofs.Common.{◌≤◌, ◌≡◌, refl, pos, true, false, ◌==◌, List, [], ◌∷◌, arith, nat_cmp}
-use Rattle.cns_terms.specs.Common.{Account, AllByRecursion, Cusip, Day, Declared, Journal, Rate, accounts, as_of, cash, dividend, member_dividend, members, total}
-use lib.IntN.{zero-*ℤ}
+use Rattle.cns_terms.proofs.Facts.{◌≤◌, ◌≡◌, refl, pos, true, false, ◌==◌, List, [], ◌∷◌, arith, nat_cmp, Account, AllByRecursion, Cusip, Day, Declared, Journal, Rate, accounts, as_of, cash, dividend, member_dividend, members, total, zero-*ℤ, and_left, ints, nat_tests, position}
 use Rattle.cns_terms.specs.Dividends.{due}
-use Rattle.cns_terms.proofs.Facts.{and_left, ints, nat_tests, position}
 use Rattle.cns_terms.proofs.Rising.{from_one, is_rising}
 use Rattle.cns_terms.proofs.Magnitudes.{total-same, total-zero}
 

@@ -1,8 +1,6 @@
 -- The prices of a sheet.
-use Rattle.std.proofs.Common.{◌≡◌, ◌∙◌, ap, cond, Some, None, unwrap_or, nat_cmp, arith}
-use Rattle.cns_terms.proofs.Common.{Cusip, IsSound, Journal, find_with, is_listed, issues, price, slice_cmp}
+use Rattle.cns_terms.proofs.Common.{◌≡◌, ◌∙◌, ap, cond, Some, None, unwrap_or, nat_cmp, arith, Cusip, IsSound, Journal, find_with, is_listed, issues, price, slice_cmp, sheet_prices}
 use Rattle.std.specs.FinMap.{find}
-use Rattle.cns_terms.specs.Sheets.{sheet_prices}
 
 -- the price that holds, or 0 where the issue is not listed
 pub price_or_zero : (J : Journal) (c : Cusip) → IsSound J → unwrap_or (cond (is_listed J c) (Some (price J c)) None) 0 ≡ price J c

@@ -1,8 +1,5 @@
 -- What a division that is cut towards zero leaves.
-use Rattle.std.proofs.Common.{◌≡◌, ℕ, ◌≤◌, ℤ, pos, ◌-ℤ◌, ◌*ℤ◌, int_div, int_rem, arith, unsigned_abs}
-use Rattle.cns_terms.specs.Common.{Ratio}
-use Rattle.std.proofs.lemmas.Int.{ints}
-use Rattle.cns_terms.specs.Conversions.{fraction}
+use Rattle.cns_terms.proofs.Facts.{◌≡◌, ℕ, ◌≤◌, ℤ, pos, ◌-ℤ◌, ◌*ℤ◌, int_div, int_rem, arith, unsigned_abs, Ratio, fraction, ints}
 
 -- the rest is what the quotient times the divisor lacks
 pub rest_of : (a d : ℤ) → int_rem a d ≡ a -ℤ (int_div a d *ℤ d)

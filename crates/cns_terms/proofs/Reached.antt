@@ -1,24 +1,14 @@
 -- What is so of each journal that commands reach.
-use Rattle.std.proofs.Common.{◌≡◌, ap, ℕ, ◌+◌, ◌*◌, ◌≤◌, ◌<◌, true, List, [], ◌∷◌, length, is_none, arith, filter_map, unsigned_abs, nat_cmp, IfSome, None, Option, Some, int_eq, map, mul-le-mul_left, not, pos, refl, ℤ, flat_map}
-use Rattle.cns_terms.specs.Common.{Account, Activity, AllByRecursion, Command, Cusip, Day, Declared, IsReached, Journal, State, account_lt, accounts, activities, after, booking_limit, closings, dividends, journal, member_limit, members, money, next, opened, position_limit, Posting, posting, price, price_limit, rate_limit, Entry, Execution, IsInRange, Notice, Price, Ratio, against_corporation, execution_entries, holders, in_exchange, in_lieu, money_limit, new_entry, notice_at, old_entry, option_map_or, Pend, entries, trade_entries}
-use Rattle.std.proofs.Math.Nat.{mul-le-mul}
-use Rattle.cns_terms.specs.Limits.{ratio_limit}
-use Rattle.cns_terms.specs.Refusals.{rules}
-use Rattle.cns_terms.specs.Entries.{split_entry}
+use Rattle.cns_terms.proofs.Facts.{◌≡◌, ap, ℕ, ◌+◌, ◌*◌, ◌≤◌, ◌<◌, true, List, [], ◌∷◌, length, is_none, arith, filter_map, unsigned_abs, nat_cmp, IfSome, None, Option, Some, int_eq, map, mul-le-mul_left, not, pos, refl, ℤ, flat_map, Account, Activity, AllByRecursion, Command, Cusip, Day, Declared, IsReached, Journal, State, account_lt, accounts, activities, after, booking_limit, closings, dividends, journal, member_limit, members, money, next, opened, position_limit, Posting, posting, price, price_limit, rate_limit, Entry, Execution, IsInRange, Notice, Price, Ratio, against_corporation, execution_entries, holders, in_exchange, in_lieu, money_limit, new_entry, notice_at, old_entry, option_map_or, Pend, entries, trade_entries, mul-le-mul, ratio_limit, rules, split_entry, Bounds, IsBounded, Reaches, member_added, IsCommandInRange, IsRatio, and_left, ints, nat_tests, position, unsigned_abs-mul, due}
 use Rattle.cns_terms.proofs.BuyIns.{IsExecutable, execution_cents, execution_balanced}
 use Rattle.cns_terms.proofs.Quotients.{fraction_few, quotient_few}
 use Rattle.cns_terms.proofs.Waiting.{booked_cents, settled}
-use Rattle.cns_terms.specs.Laws.{Bounds, IsBounded, Reaches}
-use Rattle.cns_terms.specs.Listings.{added as member_added}
-use Rattle.cns_terms.specs.Reached.{IsCommandInRange, IsRatio}
 use Rattle.cns_terms.proofs.ZeroSums.{IsBalanced, AreBalanced, AreOf, AreSound, positions_zero, against_balanced, both_balanced}
-use Rattle.cns_terms.proofs.Facts.{and_left, ints, nat_tests, position, unsigned_abs-mul}
 use Rattle.cns_terms.proofs.Everywhere.{each_both, each_in_order, each_weaker}
 use Rattle.cns_terms.proofs.Limits.{AreWithin, IsNear, cents_of, money_few, near, ready, waiting_cents, within-post}
 use Rattle.cns_terms.proofs.Magnitudes.{added, added-append, added-each, added-filter, added-map, magnitude, total_small}
 use Rattle.cns_terms.proofs.Rising.{from_one, is_rising}
 use Rattle.cns_terms.proofs.Sound.{NoneHolds, all_fail, AreKnown, IsPlace, IsWhole, whole-post}
-use Rattle.cns_terms.specs.Pending.{due}
 
 -- what trades book
 trades_balanced : (ps : List Pend) → IsBalanced (flat_map trade_entries ps)

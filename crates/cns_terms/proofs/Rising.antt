@@ -1,7 +1,5 @@
 -- Lists that strictly rise.
-use Rattle.std.proofs.Common.{ℕ, ◌≤◌, nat_cmp, ◌≡◌, refl, Bool, true, false, ◌&&◌, List, [], ◌∷◌, is_eq, is_lt, Ordering, Less, arith}
-use Rattle.cns_terms.specs.Common.{AllByRecursion, IsTotalOrder, list_any}
-use Rattle.cns_terms.proofs.Facts.{both_true, less, nat_tests, put}
+use Rattle.cns_terms.proofs.Facts.{ℕ, ◌≤◌, nat_cmp, ◌≡◌, refl, Bool, true, false, ◌&&◌, List, [], ◌∷◌, is_eq, is_lt, Ordering, Less, arith, AllByRecursion, IsTotalOrder, list_any, both_true, less, nat_tests, put}
 
 -- whether x comes before each
 abbrev pub above_all : {K : Type 0} → (K → K → Ordering) → K → List K → Bool

@@ -1,6 +1,5 @@
 -- Sums and counts over the rows of a sheet.
-use Rattle.std.proofs.Common.{suc, ◌≡◌, refl, ℕ, ◌*◌, ◌≤◌, ℤ, pos, Bool, true, false, not, cond, ◌==◌, List, [], ◌∷◌, length, map, filter, flat_map, arith, length-append}
-use Rattle.cns_terms.specs.Common.{Account, Cusip, Day, Journal, accounts, is_idle, issue_lt, issues, open_day, row, money, same_issue, sheet_rows, total}
+use Rattle.cns_terms.proofs.Facts.{suc, ◌≡◌, refl, ℕ, ◌*◌, ◌≤◌, ℤ, pos, Bool, true, false, not, cond, ◌==◌, List, [], ◌∷◌, length, map, filter, flat_map, arith, length-append, Account, Cusip, Day, Journal, accounts, is_idle, issue_lt, issues, open_day, row, money, same_issue, sheet_rows, total, filter_len, position, same_put}
 use Rattle.std.proofs.lemmas.List.Elements.{filter-append}
 use Rattle.cns_terms.proofs.Accounts.{occurs}
 use Rattle.cns_terms.proofs.Reached.{IsLimited, sound_journal}
@@ -8,7 +7,6 @@ use Rattle.cns_terms.proofs.SheetSums.{idle_parts, rows_zero}
 use Rattle.cns_terms.proofs.Sound.{IsSound}
 use Rattle.cns_terms.proofs.Magnitudes.{total-zero}
 use Rattle.cns_terms.proofs.ZeroSums.{cents_zero, each_part, positions_zero}
-use Rattle.cns_terms.proofs.Facts.{filter_len, position, same_put}
 use Rattle.std.proofs.lemmas.List.{length-map}
 
 -- ---- sums in an issue

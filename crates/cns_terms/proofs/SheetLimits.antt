@@ -1,11 +1,7 @@
 -- What the sheet of a close asks of its amounts, and of the dividends that it pays.
-use Rattle.std.proofs.Common.{◌≡◌, ◌∙◌, refl, ℕ, suc, ◌^◌, ◌≤◌, ◌<◌, ℤ, pos, ◌+ℤ◌, Bool, true, not, ◌&&◌, ◌==◌, cond, List, [], ◌∷◌, length, filter, take, arith, bytes_eq, unsigned_abs, sum_by}
-use Rattle.cns_terms.proofs.Waiting.{sum_added}
-use Rattle.cns_terms.proofs.Common.{Account, AllByRecursion, Cusip, Day, Declared, IsLimited, Journal, Rate, Row, accounts, added, added-all, added-more, amount_limit, bytes_eq-Decides, cash, closings, dividends, front_total, history_limit, in_order, ints, issues, members_few, nat_list_eq_equiv, one_issue, over_all, pays_before, rate_limit, row, rows_for, sheet_rows, total, position}
+use Rattle.cns_terms.proofs.Common.{◌≡◌, ◌∙◌, refl, ℕ, suc, ◌^◌, ◌≤◌, ◌<◌, ℤ, pos, ◌+ℤ◌, Bool, true, not, ◌&&◌, ◌==◌, cond, List, [], ◌∷◌, length, filter, take, arith, bytes_eq, unsigned_abs, sum_by, Account, AllByRecursion, Cusip, Day, Declared, IsLimited, Journal, Rate, Row, accounts, added, added-all, added-more, amount_limit, bytes_eq-Decides, cash, closings, dividends, front_total, history_limit, in_order, ints, issues, members_few, nat_list_eq_equiv, one_issue, over_all, pays_before, rate_limit, row, rows_for, sheet_rows, total, position, filter_len, same_order, sum_added, added-filter}
 use Rattle.cns_terms.proofs.Amounts.{cents_small, rows_small}
 use Rattle.cns_terms.proofs.DividendBounds.{cash_limit, dividends_few, dividends_small}
-use Rattle.cns_terms.proofs.Magnitudes.{added-filter}
-use Rattle.cns_terms.proofs.Facts.{filter_len, same_order}
 pub use Rattle.cns_terms.proofs.Sound.{accounts_grew}
 
 -- ---- the rows of one account

@@ -1,8 +1,5 @@
 -- The sheets of closed days add up to zero.
-use Rattle.std.proofs.Common.{◌≡◌, ℤ, pos, ◌+ℤ◌, Bool, false, not, cond, ◌==◌, unwrap_or, Option, Some, None, List, [], ◌∷◌, map, filter, flat_map, refl, ◌∙◌, ap, arith, option_map}
-use Rattle.cns_terms.specs.Common.{Account, Cusip, Day, DaySheet, Journal, Row, accounts, at_close, closed_on, closings, date, day, day_sheet, is_idle, is_same_day, issues, journal, open_day, row, rows_of, sheet_rows, total}
-use lib.IntN.{zero-*ℤ}
-use Rattle.cns_terms.specs.Laws.{AddsUpToZero, Positions, ZeroSums}
+use Rattle.cns_terms.proofs.Facts.{◌≡◌, ℤ, pos, ◌+ℤ◌, Bool, false, not, cond, ◌==◌, unwrap_or, Option, Some, None, List, [], ◌∷◌, map, filter, flat_map, refl, ◌∙◌, ap, arith, option_map, Account, Cusip, Day, DaySheet, Journal, Row, accounts, at_close, closed_on, closings, date, day, day_sheet, is_idle, is_same_day, issues, journal, open_day, row, rows_of, sheet_rows, total, zero-*ℤ, AddsUpToZero, Positions, ZeroSums}
 use Rattle.cns_terms.proofs.Paid.{dividends_zero}
 use Rattle.cns_terms.proofs.Magnitudes.{total-append, total-same, total-zero, total-swap}
 use Rattle.cns_terms.proofs.Everywhere.{each_found}

@@ -1,12 +1,8 @@
 -- What accepted commands keep true of the journal.
-use Rattle.std.proofs.Common.{◌≡◌, ℕ, ◌≤◌, ℤ, Bool, true, false, not, ◌&&◌, ◌==◌, List, [], ◌∷◌, map, is_none, Option, Some, None, flat_map, refl, ◌∙◌, arith, IfSome, int_lt, nat_cmp}
-use Rattle.cns_terms.specs.Common.{is_eq, Account, Activity, AllByRecursion, Command, Cusip, Day, Entry, Execution, Journal, Notice, Pend, Posting, Rule, State, accounts, after, against_corporation, at_close, closings, corporation, date, day, day_number, entries, execution_entries, fill_entry, fills, first_refusal, holders, is_listed, issues, journal_of, last_close, list_any, members, new_entry, next, notice_at, notices, old_entry, opened, option_map_or, posting, price, slice_cmp, trade_entries, trades}
+use Rattle.cns_terms.proofs.Facts.{◌≡◌, ℕ, ◌≤◌, ℤ, Bool, true, false, not, ◌&&◌, ◌==◌, List, [], ◌∷◌, map, is_none, Option, Some, None, flat_map, refl, ◌∙◌, arith, IfSome, int_lt, nat_cmp, Account, Activity, AllByRecursion, Command, Cusip, Day, Entry, Execution, Journal, Notice, Pend, Posting, Rule, State, accounts, after, against_corporation, at_close, closings, corporation, date, day, day_number, entries, execution_entries, fill_entry, fills, first_refusal, holders, is_listed, issues, journal_of, last_close, list_any, members, new_entry, next, notice_at, notices, old_entry, opened, option_map_or, posting, price, slice_cmp, trade_entries, trades, rules, bytes_eq-Decides, later, less_less, nat_cmp_total, nat_eq_test, nat_list_cmp_total, nat_tests, position, same_test, split_entry, is_eq}
 use Rattle.std.proofs.lemmas.Bool.{not-false}
-use Rattle.cns_terms.specs.Refusals.{rules}
-use Rattle.cns_terms.proofs.Facts.{bytes_eq-Decides, later, less_less, nat_cmp_total, nat_eq_test, nat_list_cmp_total, nat_tests, position, same_test}
 use Rattle.cns_terms.proofs.Accounts.{occurs, occurs-put, occurs_found, occurs_missing}
 use Rattle.cns_terms.proofs.BuyIns.{each_named, fills_each}
-use Rattle.cns_terms.specs.Entries.{split_entry}
 use Rattle.cns_terms.proofs.Everywhere.{any_put, each_append, each_filter, each_first, each_found, each_map, each_reverse, each_stands, each_weaker}
 use Rattle.cns_terms.proofs.Rising.{above_put, is_rising, rising_put}
 

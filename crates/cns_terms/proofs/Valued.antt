@@ -1,8 +1,6 @@
 -- A value for each of some issues.
-use Rattle.std.proofs.Common.{◌≡◌, refl, true, cond, List, [], ◌∷◌, map, Some, None, bytes_eq, nat_cmp, arith}
-use Rattle.cns_terms.specs.Common.{Cusip, below_all, is_sorted, list_any, slice_cmp}
+use Rattle.cns_terms.proofs.Facts.{◌≡◌, refl, true, cond, List, [], ◌∷◌, map, Some, None, bytes_eq, nat_cmp, arith, Cusip, below_all, is_sorted, list_any, slice_cmp, bytes_eq-Decides, same_test}
 use Rattle.std.specs.FinMap.{find}
-use Rattle.cns_terms.proofs.Facts.{bytes_eq-Decides, same_test}
 use Rattle.cns_terms.proofs.Rising.{above_all, is_rising}
 
 module _ {X : Type 0} (p : Cusip → X) where

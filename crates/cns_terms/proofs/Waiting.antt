@@ -1,10 +1,6 @@
 -- Trades that wait: what they add up to, and what they book.
-use Rattle.std.proofs.Common.{◌≡◌, refl, ℕ, ◌+◌, pos, ◌-ℤ◌, neg_ℤ, Bool, false, not, ◌&&◌, ◌==◌, cond, List, [], ◌∷◌, filter, flat_map, reverse, sum_by, arith}
-use Rattle.cns_terms.specs.Common.{Account, Cusip, Day, Entry, Journal, Pend, bought_in, date, is_not_after, pending, same_issue, shares_for, sold_in, total, trade_entries, trades}
-use Rattle.std.proofs.lemmas.Grind.{reverse_onto}
-use Rattle.cns_terms.specs.Pending.{due, is_due}
+use Rattle.cns_terms.proofs.Facts.{◌≡◌, refl, ℕ, ◌+◌, pos, ◌-ℤ◌, neg_ℤ, Bool, false, not, ◌&&◌, ◌==◌, cond, List, [], ◌∷◌, filter, flat_map, reverse, sum_by, arith, Account, Cusip, Day, Entry, Journal, Pend, bought_in, date, is_not_after, pending, same_issue, shares_for, sold_in, total, trade_entries, trades, reverse_onto, due, is_due, ints, sum_by-cons}
 use Rattle.cns_terms.proofs.Magnitudes.{added, added-append, magnitude}
-use Rattle.cns_terms.proofs.Facts.{ints, sum_by-cons}
 
 -- a sum, term by term
 pub sum_added : {X : Type 0} (f : X → ℕ) (xs : List X) → sum_by f xs ≡ added f xs

@@ -1,11 +1,7 @@
 -- Entries that add up to zero in each issue, and so positions, cents and marks of all accounts do.
-use Rattle.std.proofs.Common.{◌≡◌, ℕ, ℤ, pos, ◌+ℤ◌, ◌-ℤ◌, ◌*ℤ◌, neg_ℤ, suc, zero, List, [], ◌∷◌, refl, sym, ◌∙◌, ap, arith, ◌&&◌, ◌==◌, false, Bool, cond, ◌++◌, map}
-use Rattle.cns_terms.specs.Common.{Account, AllByRecursion, Cusip, Entry, Journal, Posting, cents_for, last_close, mark, money, open_day, price, same_issue, total, against_corporation}
-use lib.IntN.{zero-*ℤ, *ℤ_comm, suc_ℤ-*ℤ, *ℤ-zero}
-use Rattle.cns_terms.specs.Marks.{value}
+use Rattle.cns_terms.proofs.Facts.{◌≡◌, ℕ, ℤ, pos, ◌+ℤ◌, ◌-ℤ◌, ◌*ℤ◌, neg_ℤ, suc, zero, List, [], ◌∷◌, refl, sym, ◌∙◌, ap, arith, ◌&&◌, ◌==◌, false, Bool, cond, ◌++◌, map, Account, AllByRecursion, Cusip, Entry, Journal, Posting, cents_for, last_close, mark, money, open_day, price, same_issue, total, against_corporation, zero-*ℤ, *ℤ_comm, suc_ℤ-*ℤ, *ℤ-zero, value, ints, position}
 use Rattle.cns_terms.proofs.Magnitudes.{total-zero, total-add, total-neg, total-swap, total-append}
 use Rattle.cns_terms.proofs.Accounts.{occurs, given_once}
-use Rattle.cns_terms.proofs.Facts.{ints, position}
 
 -- whether an entry is booked at a place
 abbrev pub is_at : Account → Cusip → Entry → Bool

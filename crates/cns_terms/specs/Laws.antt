@@ -1,23 +1,7 @@
 -- The laws of the definitions, over any list of commands.
 use Rattle.std.specs.Prelude.{ℕ, ◌≡◌, ◌≤◌, ◌<◌, ℤ, pos, ◌*ℤ◌, unsigned_abs, nat_lt, Bool, true, ◌&&◌, List, [], ◌∷◌, length, map, slice_get, take, Some}
-use Rattle.cns_terms.specs.Types.{AllByRecursion, option_map_or, Account, Cusip, Day, Activity, Command, Row}
-use Rattle.cns_terms.specs.Pending.{bought_in, pending, sold_in}
-use Rattle.cns_terms.specs.Sums.{total}
-use Rattle.cns_terms.specs.Postings.{Journal}
-use Rattle.cns_terms.specs.Days.{closes}
-use Rattle.cns_terms.specs.Positions.{position, money}
-use Rattle.cns_terms.specs.Limits.{IsWithin, amount_limit, corporation_limit, history_limit, position_limit}
-use Rattle.cns_terms.specs.Listings.{accounts}
-use Rattle.cns_terms.specs.Entries.{journal}
+use Rattle.cns_terms.specs.Common.{Account, Activity, AllByRecursion, Command, Cusip, Day, DaySheet, IsCommandInRange, IsReached, IsWithin, Journal, Row, accounts, after, amount_limit, bought_in, closes, corporation_limit, history_limit, journal, journal_of, money, opened, option_map_or, pending, position, position_limit, rows_for, rules_of, sheet_at, sheet_on, sold_in, statement, total}
 use Rattle.cns_terms.specs.Numbers.{refusal_number}
-use Rattle.cns_terms.specs.Reached.{IsCommandInRange, IsReached}
-use Rattle.cns_terms.specs.Refusals.{rules_of}
-use Rattle.cns_terms.specs.Sheets.{DaySheet, rows_for, sheet_at, sheet_on, statement}
-use Rattle.cns_terms.specs.Machine.{State, opened, after}
-
--- the journal of a state
-abbrev pub journal_of : State → Journal
-journal_of S = journal S.opening S.accepted
 
 -- ---- what commands lead to
 

@@ -16,6 +16,10 @@ pub record State : Type 0 where
   pub opening : Day
   pub accepted : List Activity
 
+-- the journal of a state
+abbrev pub journal_of : State → Journal
+journal_of S = journal S.opening S.accepted
+
 -- a state in which nothing is accepted yet
 abbrev pub opened : Day → State
 opened d = record { opening = d; accepted = [] }

@@ -1,7 +1,6 @@
 -- Values changed in place, around a row e with others on its left and right.
 -- For `change_counted` and `change_each` of tree.rt.
-use Rattle.cns_tree.proofs.Common.{◌≡◌, ℕ, suc, length, ◌&&◌, true, List, [], ◌∷◌, ◌++◌, Some, refl, sym, ap, ◌∙◌, subst, Less, Equal, Greater, is_lt, below_all, is_sorted, key_cmp, keys_total, find, Key, ChangesAt, IsShallow, arith}
-use Rattle.cns_tree.specs.Changes.{ChangesEach}
+use Rattle.cns_tree.proofs.Common.{◌≡◌, ℕ, suc, length, ◌&&◌, true, List, [], ◌∷◌, ◌++◌, Some, refl, sym, ap, ◌∙◌, subst, Less, Equal, Greater, is_lt, below_all, is_sorted, key_cmp, keys_total, find, Key, ChangesAt, IsShallow, arith, ChangesEach}
 use Rattle.cns_tree.proofs.Rows.{find_left, find_middle, find_right, length_put, puts_left, puts_middle, puts_right, rises_put}
 
 -- what a change makes of the rows d

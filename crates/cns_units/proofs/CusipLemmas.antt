@@ -1,6 +1,5 @@
 -- The sum over a CUSIP's characters, one after another.
-use Rattle.cns_units.proofs.Common.{◌≡◌, ℕ, ◌+◌, ◌<◌, Bool, not, List, length, get_or, drop, Option, Some, None, option_map, refl, add-one, add-zero, arith, drop-cons, ◌≤◌, character_value, weight, plus, after_value, drop_all}
-use Rattle.cns_units.specs.Cusip.{sum_of}
+use Rattle.cns_units.proofs.Common.{◌≡◌, ℕ, ◌+◌, ◌<◌, Bool, not, List, length, get_or, drop, Option, Some, None, option_map, refl, add-one, add-zero, arith, drop-cons, ◌≤◌, character_value, weight, plus, after_value, drop_all, sum_of}
 
 sum_at : (doubled : Bool) (bs : List ℕ) (i : ℕ) → i < length bs
     → sum_of doubled (drop i bs) ≡ after_value doubled (character_value (get_or bs i 0)) (sum_of (not doubled) (drop (i + 1) bs))

@@ -1,10 +1,9 @@
 -- The characters before the check digit order CUSIPs as all nine do: for `cmp` of cusip.rt.
-use Rattle.cns_units.proofs.Common.{◌≡◌, ℕ, ◌+◌, ◌*◌, ◌<◌, Bool, false, not, List, [], ◌∷◌, ◌++◌, length, take, take-append-drop, drop-cons, None, arith, nat_cmp, ordering_then, slice_cmp, slice_index, IsCusip, last_fault, AllByRecursion, nat_tests, drop_all, length-take}
+use Rattle.cns_units.proofs.Common.{◌≡◌, ℕ, ◌+◌, ◌*◌, ◌<◌, Bool, false, not, List, [], ◌∷◌, ◌++◌, length, take, take-append-drop, drop-cons, None, arith, nat_cmp, ordering_then, slice_cmp, slice_index, IsCusip, last_fault, AllByRecursion, nat_tests, drop_all, length-take, sum_of}
 use Rattle.std.specs.Int.{w64, from_be_bytes}
 use Rattle.std.specs.declared.cmp.Ordering.{Ordering}
 use Rattle.std.proofs.lemmas.Map.Lookups.{exact_bytes}
 use Rattle.std.proofs.lemmas.Grind.{common_steps}
-use Rattle.cns_units.specs.Cusip.{sum_of}
 
 -- of three comparisons the first that does not tie decides
 then_then : (o p q : Ordering) → ordering_then (ordering_then o p) q ≡ ordering_then o (ordering_then p q)

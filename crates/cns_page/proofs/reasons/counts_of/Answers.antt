@@ -1,6 +1,5 @@
-use Rattle.cns_page.proofs.Common.{ap, arith, refl, ◌≡◌, ◌∙◌}
+use Rattle.cns_page.proofs.Common.{ap, arith, refl, ◌≡◌, ◌∙◌, counts_below}
 use Rattle.cns_page.proofs.Gathered.{none_more, one_more}
-use Rattle.cns_page.specs.Listed.{counts_below}
 use Rattle.cns_page.proofs.reasons.counts_of.Goals as goal
 
 pub loop-number-init : goal.loop-number-init

@@ -1,8 +1,7 @@
-use Rattle.cns_program.proofs.Common.{rules, ap, ap₂, codes, true, ◌≡◌, ◌∙◌, IfOk-weaker, App, Shape, app_of, with_subcommand}
+use Rattle.cns_program.proofs.Common.{rules, ap, ap₂, codes, true, ◌≡◌, ◌∙◌, IfOk-weaker, App, Shape, app_of, with_subcommand, program_line}
 use Rattle.clap.specs.Simple.{on_top}
 use Rattle.cns_shell.specs.Options.{bare}
 use Rattle.cns_program.proofs.CommandLine.{third_is_off}
-use Rattle.cns_program.specs.CommandLine.{program_line}
 use Rattle.cns_program.proofs.asked.command_line.Goals as goal
 
 pub returns : goal.returns

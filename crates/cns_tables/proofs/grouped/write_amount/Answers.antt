@@ -1,5 +1,4 @@
-use Rattle.cns_tables.proofs.Common.{to_z-of_z, err_from_is_err_and, front_longer, writes_then, arith}
-use Rattle.cns_tables.specs.Grouped.{amount_text}
+use Rattle.cns_tables.proofs.Common.{to_z-of_z, err_from_is_err_and, front_longer, writes_then, arith, amount_text}
 use Rattle.cns_tables.proofs.grouped.write_amount.Goals as goal
 
 pub returns-in_err-write_sign : goal.returns-in_err-write_sign

@@ -1,5 +1,4 @@
-use Rattle.cns_tables.proofs.Common.{arith}
-use Rattle.cns_tables.specs.Grouped.{count_text}
+use Rattle.cns_tables.proofs.Common.{arith, count_text}
 use Rattle.cns_tables.proofs.grouped.write_count.Goals as goal
 
 pub returns : goal.returns

@@ -1,5 +1,4 @@
-use Rattle.cns_tables.proofs.Common.{to_z-of_z, err_from_is_err_and, front_longer, writes_then, arith}
-use Rattle.cns_tables.specs.Grouped.{signed_text}
+use Rattle.cns_tables.proofs.Common.{to_z-of_z, err_from_is_err_and, front_longer, writes_then, arith, signed_text}
 use Rattle.cns_tables.proofs.grouped.write_signed.Goals as goal
 
 pub returns-in_err-write_sign : goal.returns-in_err-write_sign

@@ -1,5 +1,4 @@
-use Rattle.cns_tables.proofs.Common.{◌≡◌, ℕ, List, ◌++◌, drop, map, Appends, piece_text}
-use Rattle.cns_tables.specs.Pieces.{filled}
+use Rattle.cns_tables.proofs.Common.{◌≡◌, ℕ, List, ◌++◌, drop, map, Appends, piece_text, filled}
 use denote.Shadow.{shadow}
 use denote.Text.{Utf8}
 use Rattle.cns_tables.proofs.piece.write_form.Given as goal

@@ -1,7 +1,5 @@
-use Rattle.std.proofs.Common.{◌∙◌, ap, nat_cmp}
-use Rattle.cns_terms.proofs.Common.{ordering_then}
+use Rattle.cns_terms.proofs.Common.{◌∙◌, ap, nat_cmp, ordering_then, pairs_cmp}
 use Rattle.cns_units.proofs.CusipOrder.{cusips_order}
-use Rattle.cns_terms.proofs.Keys.{pairs_cmp}
 use Rattle.cns_terms.proofs.holding.KeyOrd.cmp.Goals as goal
 
 pub returns : goal.returns
