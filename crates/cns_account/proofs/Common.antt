@@ -12,8 +12,10 @@ pub use Rattle.cns_book.specs.Log.{Log, state_of}
 pub use Rattle.cns_book.specs.Shown.{entry_at, notice_of}
 pub use Rattle.cns_feed.specs.Line.{Line}
 pub use Rattle.cns_feed.specs.Output.{state_after_line}
-unfoldable pub use Rattle.cns_feed.specs.Replay.{blank_log, log_after_line, log_after}
-unfoldable pub use Rattle.cns_history.specs.Lines.{accounts_in, booked, booked_since, booking, bookings_at, bookings_since, both, closing, counted_from, each, has_position, is_movement, is_nothing, is_open, is_wanted, lines_at, lines_of, named, place, places, row_on, standing, stood, history, numbers}
+unfoldable pub use Rattle.cns_feed.specs.Replay.{log_after}
+pub use Rattle.cns_feed.specs.Replay.{blank_log, log_after_line}
+unfoldable pub use Rattle.cns_history.specs.Lines.{history, numbers}
+pub use Rattle.cns_history.specs.Lines.{accounts_in, booked, booked_since, booking, bookings_at, bookings_since, both, closing, counted_from, each, has_position, is_movement, is_nothing, is_open, is_wanted, lines_at, lines_of, named, place, places, row_on, standing, stood}
 pub use Rattle.cns_sheets.specs.Search.{prices_above, row_at}
 pub use Rattle.cns_terms.proofs.BuyIns.{each_named, execution_cents}
 pub use Rattle.cns_terms.proofs.Common.{Account, Cusip, Day, IsReached, IsSound, IsWhole, Journal, NoneHolds, Notice, Price, State, accounts, added-more, against_corporation, all_fail, amount_limit, and_false, answer, bytes_eq-Decides, cases_lt, cents_for, corporation, date, day_number, each_append, entries, equal, exact_keys, fill_entry, fills, filter-append, holders, holds, idle_parts, is_account, is_close, is_idle, is_listed, is_same_day, issues, journal, journal_of, key_cmp, last_close, length-reverse, limited, list_any, magnitude, members, money, money_limit, nat_list_eq_equiv, nat_tests, neither, new_entry, next, notice_at, notices, old_entry, open_day, opened, option_map_or, pend_of, pending, posting, price, price_limit, refusal, reverse_onto, row, rows_of, same_key, shares_for, shares_limit, shares_of_fills, sheet_rows, total, total-append, total_small, trade_entries, trades}
@@ -27,11 +29,12 @@ pub use Rattle.cns_terms.specs.declared.holding.Holding.{Holding}
 pub use Rattle.cns_terms.specs.declared.reply.Reply.{Reply}
 pub use Rattle.cns_account.specs.Dividends.{due_on, last_by, less_cash, paid_in}
 pub use Rattle.cns_account.specs.Fails.{is_among, issues_behind, price_change, with_issue}
-unfoldable pub use Rattle.cns_account.specs.Laws.{IsLineInRange, MovesAddUp, PlacesAreWhole, day_closed, is_line_at, is_moved, last_of, of_causes, closes}
-pub use Rattle.cns_account.specs.Laws.{AddUp}
+unfoldable pub use Rattle.cns_account.specs.Laws.{closes}
+pub use Rattle.cns_account.specs.Laws.{AddUp, IsLineInRange, MovesAddUp, PlacesAreWhole, day_closed, is_line_at, is_moved, last_of, of_causes}
 pub use Rattle.cns_account.specs.Moves.{AreMoves, is_within, moved_at, of_cause, settled_by, unmoved, with_entry, with_line, with_more, with_taken, with_trade}
 pub use Rattle.cns_account.specs.Past.{IsGathered, accepted_of, date_told, looked_at}
-unfoldable pub use Rattle.cns_account.specs.Rows.{account_row, booking_in, mark_row, totals_of, moved, valued}
+unfoldable pub use Rattle.cns_account.specs.Rows.{moved, valued}
+pub use Rattle.cns_account.specs.Rows.{account_row, booking_in, mark_row, totals_of}
 pub use Rattle.cns_account.specs.Common.{Activity, Booking, Command, Key, Row, HistoryLine, Moved, Moves, Taken}
 pub use Rattle.cns_history.specs.declared.watched.Watched.{Watched}
 pub use Rattle.cns_history.specs.declared.watched.Whose.{Whose}

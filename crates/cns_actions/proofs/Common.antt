@@ -6,7 +6,8 @@ pub use Rattle.std.proofs.lemmas.List.Elements.{All-from_recursion, All-get_or, 
 pub use Rattle.std.proofs.lemmas.Result.{on_ok_weaker}
 pub use Rattle.std.specs.FinMap.{find}
 pub use Rattle.cns_positions.proofs.Unheld.{held_same, held_sorted}
-unfoldable pub use Rattle.cns_positions.specs.Rows.{Rows, aged, booked, books, entry_of, has_row, held_above, holding_at, is_above, is_held, rolled, with_age, zeros, row_at}
+unfoldable pub use Rattle.cns_positions.specs.Rows.{row_at}
+pub use Rattle.cns_positions.specs.Rows.{Rows, aged, booked, books, entry_of, has_row, held_above, holding_at, is_above, is_held, rolled, with_age, zeros}
 pub use Rattle.cns_terms.proofs.Common.{Account, AllByRecursion, AreHolders, Cusip, Day, Member, above_all, against_corporation, amount_limit, and_left, and_right, below_all, bought_in, buyer_entry, bytes_eq-Decides, bytes_refl, cents_for, cons_option, converted, corporation, each_append, each_map, each_weaker, entry, equal, exact_keys, find_below, fits_signed_from_abs, greatest, holders, in_exchange, in_lieu, insert_entry, ints, is_beyond, is_eq-slice_cmp, is_rising, is_sorted, key_cmp, keys_total, less, list_any, lookup, map-append, member_limit, money_limit, nat_cmp_total, nat_list_cmp_total, nat_tests, new_entry, occurs, occurs_found, occurs_missing, old_entry, oldest_of, option_map_or, position_limit, same_issue, same_key, same_lists, seller_entry, shares_for, shares_limit, slice_cmp, sold_in, sorted_from, tied_itself, total, total-add, total-append, total-map, total-neg, total-same, total-zero, trade_entries, w128, zero_add}
 pub use Rattle.cns_terms.proofs.Finds.{as_T, tied_below}
 pub use Rattle.cns_terms.specs.Actions.{are_distinct}

@@ -14,17 +14,13 @@ has_position h = not (int_eq h.now (pos 0))
 abbrev pub has_position_or_age : Holding → Bool
 has_position_or_age h = has_position h || not (oldest_of h == 0)
 
--- whether a row is that of a member in an issue with a holding of the kind
-abbrev pub is_holder : (Holding → Bool) → Cusip → Key × Holding → Bool
-is_holder kind c r = nat_lt corporation r.0.account && same_issue r.0.issue c && kind r.1
-
 -- the member, with its position and its age
 abbrev pub holder_of : Key × Holding → Holder
 holder_of r = record { account = r.0.account; shares = r.1.now; oldest = oldest_of r.1 }
 
 -- the members with such holdings in an issue, in the order of rows
 abbrev pub holders_in : (Holding → Bool) → Cusip → Rows → List Holder
-holders_in kind c rows = map holder_of (filter (is_holder kind c) rows)
+holders_in kind c rows = map holder_of (filter (λ r. nat_lt corporation r.0.account && same_issue r.0.issue c && kind r.1) rows)
 
 -- those that a split or an exchange is booked for
 abbrev pub holders_of : Action → Rows → List Holder

@@ -10,13 +10,9 @@ use Rattle.cns_actions.specs.Bookings.{booking, key_of}
 abbrev pub AmountsByKey : Type 0
 AmountsByKey = List (Key × Amount)
 
--- what is booked at a key that no entry names
-abbrev pub no_amount : Amount
-no_amount = record { shares = pos 0; cents = pos 0 }
-
--- what is booked at a key
+-- what is booked at a key; zeros where no entry names it
 abbrev pub amount_at : AmountsByKey → Key → Amount
-amount_at es k = unwrap_or (find key_cmp k es) no_amount
+amount_at es k = unwrap_or (find key_cmp k es) (record { shares = pos 0; cents = pos 0 })
 
 -- with what one more entry books
 abbrev pub with_entry : Amount → Entry → Amount

@@ -38,10 +38,6 @@ FollowsDividends J s = s.dividends ≡ in_order pays_before (dividends J)
 abbrev pub FollowsRows : Journal → Contents → Type 0
 FollowsRows J s = (k : Key) → holding_at s.rows k ≡ holding J k.account k.issue
 
--- the sheets of the closed days
-abbrev pub FollowsSheets : Journal → Contents → Type 0
-FollowsSheets J s = s.sheets ≡ map (day_sheet s.opening) (closings J)
-
 -- the notices, with what became of each
 abbrev pub FollowsNotices : Journal → Contents → Type 0
 FollowsNotices J s = s.notices ≡ kept_notices J
@@ -63,7 +59,7 @@ pub record Follows (L : List Activity) (s : Contents) : Type 0 where
   pub pending : FollowsPending (journal s.opening L) s
   pub dividends : FollowsDividends (journal s.opening L) s
   pub rows : FollowsRows (journal s.opening L) s
-  pub sheets : FollowsSheets (journal s.opening L) s
+  pub sheets : s.sheets ≡ map (day_sheet s.opening) (closings (journal s.opening L))
   pub notices : FollowsNotices (journal s.opening L) s
   pub batches : FollowsBatches (journal s.opening L) s
 
@@ -93,12 +89,8 @@ Answers old cmd r new = (L : List Activity) → Follows L old → Steps L cmd r 
 
 -- whether a command may need more memory than its entry in the history does
 abbrev pub may_grow : Command → Bool
-may_grow (Command.Activity (Activity.Price l)) = false
-may_grow (Command.Activity (Activity.Receive m)) = false
-may_grow (Command.Activity (Activity.Withdraw k)) = false
 may_grow (Command.Activity _) = true
-may_grow (Command.Position k) = false
-may_grow (Command.Statement a d) = false
+may_grow _ = false
 
 -- a member's position, where the account is a member's
 abbrev pub member_position : Journal → Member → Cusip → Option ℤ

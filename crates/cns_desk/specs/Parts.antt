@@ -13,8 +13,7 @@ use Rattle.cns_desk.specs.declared.log.LogItem.{LogItem}
 abbrev pub SheetFits : Log → Command → Option DaySheet → Type 0
 SheetFits b cmd None = ⊤
 SheetFits b (Command.Statement a d) (Some s) = sheet_on b.opening (journal_of (state_of b)) d ≡ Some s
-SheetFits b (Command.Activity x) (Some s) = ⊥
-SheetFits b (Command.Position k) (Some s) = ⊥
+SheetFits b _ (Some s) = ⊥
 
 -- an item is what the history has at the worker's place j, from 1
 pub record Fits (b : Log) (w : Worker) (j : ℕ) (i : LogItem) : Type 0 where

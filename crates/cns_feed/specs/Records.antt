@@ -35,19 +35,14 @@ IsReady rs = Setup rs.rows
 
 -- what an error of the reader is to a replay
 abbrev pub fault_of : ErrorKind → ReplayFault
-fault_of (ErrorKind.Io e) = ReplayFault.Read
 fault_of ErrorKind.OutOfMemory = ReplayFault.NoMemory
-fault_of (ErrorKind.UnequalLengths pos expected len) = ReplayFault.Read
-fault_of (ErrorKind.Utf8 pos err) = ReplayFault.Read
-fault_of (ErrorKind.Serialize text) = ReplayFault.Read
-fault_of (ErrorKind.Deserialize pos err) = ReplayFault.Read
+fault_of _ = ReplayFault.Read
 
 -- why no more is read: the reader failed, or was refused memory; or the most records were read, as the last argument says
 abbrev pub EndsReading : {R : Type 0} → ReplayFault → Records R → Type 0 → Type 0
 EndsReading ReplayFault.Read rs Most = (has_failed rs.rows ≡ true) ⊎ Most
 EndsReading ReplayFault.NoMemory rs Most = has_failed rs.rows ≡ true
-EndsReading ReplayFault.Write rs Most = ⊥
-EndsReading ReplayFault.Full rs Most = ⊥
+EndsReading _ rs Most = ⊥
 
 -- a read took this line, and the others are left
 abbrev pub Gives : {R : Type 0} → (R → Option (List ℕ)) → Records R → Records R → Line → Type 0

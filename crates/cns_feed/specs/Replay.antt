@@ -37,13 +37,10 @@ pub record Stops (e : ReplayFault) (old new : Option (List ℕ)) (first : State)
 abbrev pub StopsReplay : ReplayFault → Day → List ℕ → Option (List ℕ) → Option (List ℕ) → Type 0
 StopsReplay e opening input old new = Stops e old new (opened opening) (lines_of input)
 
--- a book after it took a command of the first worker: one entry more, with the machine's reply
-abbrev pub with_command : Log → Command → Log
-with_command b cmd = with_taken b (record { worker = 1; seq = count b.history 1 + 1; command = cmd; reply = answer (state_of b) cmd })
-
--- a book after a line; an invalid one changes nothing
+-- a book after a line: a command is the first worker's, and brings one entry more, with the machine's reply; an invalid line changes
+-- nothing
 abbrev pub log_after_line : Log → Line → Log
-log_after_line b (Ok cmd) = with_command b cmd
+log_after_line b (Ok cmd) = with_taken b (record { worker = 1; seq = count b.history 1 + 1; command = cmd; reply = answer (state_of b) cmd })
 log_after_line b (Err f) = b
 
 -- a book after lines, in order

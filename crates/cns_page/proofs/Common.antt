@@ -19,9 +19,11 @@ pub use Rattle.cns_book.specs.Log.{Log, state_of}
 pub use Rattle.cns_book.specs.Shown.{entry_at, notice_listed, notice_of}
 pub use Rattle.cns_feed.proofs.PlayLemmas.{log_after-append, state_of-after}
 pub use Rattle.cns_feed.specs.Line.{Line}
-unfoldable pub use Rattle.cns_feed.specs.Output.{lines_of, state_after_line, state_after}
+unfoldable pub use Rattle.cns_feed.specs.Output.{state_after}
+pub use Rattle.cns_feed.specs.Output.{lines_of, state_after_line}
 pub use Rattle.cns_feed.specs.Records.{IsReady, Pending}
-unfoldable pub use Rattle.cns_feed.specs.Replay.{blank_log, log_after_line, log_after}
+unfoldable pub use Rattle.cns_feed.specs.Replay.{log_after}
+pub use Rattle.cns_feed.specs.Replay.{blank_log, log_after_line}
 pub use Rattle.cns_retransmit.proofs.Lists.{take_next}
 pub use Rattle.cns_tables.proofs.Written.{after}
 pub use Rattle.cns_terms.specs.Common.{Account, Cusip, Day, DaySheet, IsReached, Journal, Notice, State, day, is_live, journal, journal_of, notice, notice_at, noticed, notices, opened, pend_of, refusal, sheet_on}
@@ -31,19 +33,20 @@ pub use Rattle.cns_terms.specs.declared.command.Trade.{Trade}
 pub use Rattle.cns_terms.specs.declared.history.Taken.{Taken}
 pub use Rattle.cns_terms.specs.declared.sheet.Row.{Row}
 pub use Rattle.cns_page.specs.Account.{cited, is_party, names}
-unfoldable pub use Rattle.cns_page.specs.Accounts.{grouped, lines_after, sheet_lines}
+unfoldable pub use Rattle.cns_page.specs.Accounts.{lines_after}
+pub use Rattle.cns_page.specs.Accounts.{grouped, sheet_lines}
 pub use Rattle.cns_page.specs.Due.{ArePending, due_at, no_shares, projected_all, with_due, with_shares}
 pub use Rattle.cns_page.specs.Exceptions.{fact_text}
 pub use Rattle.cns_page.specs.Figures.{is_short}
 pub use Rattle.cns_page.specs.Files.{KeptPages}
 pub use Rattle.cns_page.specs.Folder.{KeepsOwn}
 pub use Rattle.cns_page.specs.Issues.{issue_line, sums_in, with_row_in}
-unfoldable pub use Rattle.cns_page.specs.Listed.{count_at, count_shown, counted, counts_below, due, figures, figures_at, figures_shown, later_among, live_among, owing, owing_among, shorts_among}
-pub use Rattle.cns_page.specs.Listed.{IsInOrderOf, looked_at}
+unfoldable pub use Rattle.cns_page.specs.Listed.{counts_below}
+pub use Rattle.cns_page.specs.Listed.{IsInOrderOf, looked_at, count_at, count_shown, counted, due, figures, figures_at, figures_shown, later_among, live_among, owing, owing_among, shorts_among}
 pub use Rattle.cns_page.specs.Sought.{IsFirst, record_at, sought_among, waiting_in, with_trade}
 pub use Rattle.cns_page.specs.Sums.{moved_row, own_sums, sums_of, with_row}
-unfoldable pub use Rattle.cns_page.specs.Survey.{known, noted, nothing, number, put_right, put_right_by, replied, righted, told, wanted, noted_all}
-pub use Rattle.cns_page.specs.Survey.{Came, ComesTo, IsClosedBy, Known, Takes}
+unfoldable pub use Rattle.cns_page.specs.Survey.{noted_all}
+pub use Rattle.cns_page.specs.Survey.{Came, ComesTo, IsClosedBy, Known, Takes, known, noted, nothing, number, put_right, put_right_by, replied, righted, told, wanted}
 pub use Rattle.cns_page.specs.declared.pending.PendingShares.{PendingShares}
 pub use Rattle.cns_page.specs.declared.shorts.Aged.{Aged}
 pub use Rattle.cns_page.specs.declared.survey.Close.{Close}

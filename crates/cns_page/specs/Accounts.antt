@@ -31,10 +31,6 @@ sheet_lines s ms linked = SheetLine.All (sums_of ms s.rows) ∷ lines_after s ms
 abbrev pub causes_cells : Causes → List (List ℕ)
 causes_cells c = amount_text c.trades ∷ amount_text c.delivered ∷ amount_text c.received ∷ amount_text c.actions ∷ amount_text c.buy_ins ∷ []
 
--- sums: money, the price change and the causes, the mark that they are, and dividends
-abbrev pub sums_cells : Sums → List (List ℕ)
-sums_cells s = amount_text s.money ∷ amount_text s.moved ∷ (causes_cells s.causes ++ amount_text s.mark ∷ amount_text s.dividend ∷ [])
-
 -- an account's number as a link to its page of a day
 unfoldable pub link_text : Day → Account → List ℕ
 link_text d a = filled LINK.now (day_text d ∷ decimal a ∷ decimal a ∷ [])
@@ -43,9 +39,10 @@ link_text d a = filled LINK.now (day_text d ∷ decimal a ∷ decimal a ∷ [])
 abbrev pub name_text : AccountLine → List ℕ
 name_text l = if l.is_linked then link_text l.stated.date l.stated.account else decimal l.stated.account
 
--- the sums of an account's rows
+-- the sums of an account's rows: money, the price change and the causes, the mark that they are, and dividends
 abbrev pub own_text : Sums → List ℕ
-own_text s = cells [] [] (sums_cells s)
+own_text s =
+    cells [] [] (amount_text s.money ∷ amount_text s.moved ∷ (causes_cells s.causes ++ amount_text s.mark ∷ amount_text s.dividend ∷ []))
 
 -- the sums over all rows
 abbrev pub all_text : Sums → List ℕ

@@ -63,9 +63,8 @@ HasPast p input old new = (all : List Line) × AreUpTo p.opening input p.day all
 
 -- the day up to whose close a history goes; None for all records
 abbrev pub closed_in : When → Option Day
-closed_in When.Last = None
 closed_in (When.Closed d) = Some d
-closed_in When.Today = None
+closed_in _ = None
 
 -- what is asked for: the page of the day, what the closed day did to the account, or the history of the place; nothing where pages
 -- went into a folder

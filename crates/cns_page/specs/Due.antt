@@ -29,13 +29,9 @@ with_side booked k o e =
 abbrev pub with_due : Key → Option PendingAt → Due → Option PendingAt
 with_due k o d = fold (with_side d.is_booked k) o (trade_entries (pend_of d.trade))
 
--- the pending shares at a place, where a trade names it
-abbrev pub pending_at : List Due → Key → Option PendingAt
-pending_at ds k = fold (with_due k) None ds
-
--- those at each place
+-- the pending shares at each place that a trade names
 abbrev pub ArePending : List Due → PendingShares → Type 0
-ArePending ds ps = (k : Key) → get key_cmp ps.shares k ≡ pending_at ds k
+ArePending ds ps = (k : Key) → get key_cmp ps.shares k ≡ fold (with_due k) None ds
 
 -- ---- rows
 

@@ -74,21 +74,16 @@ live_shown S = live_among (journal_of S) (notices (journal_of S))
 -- the trade that a command hands in
 abbrev pub trade_in : Command → Option Trade
 trade_in (Command.Activity x) = traded x
-trade_in (Command.Position k) = None
-trade_in (Command.Statement a d) = None
+trade_in _ = None
 
 -- what a command hands in, where it was accepted
 abbrev pub if_accepted : {X : Type 0} → Reply → Option X → Option X
 if_accepted Reply.Accepted x = x
 if_accepted _ x = None
 
--- the accepted trades among entries of a history
-abbrev pub trades_among : List Taken → List Trade
-trades_among ts = filter_map (λ t. if_accepted t.reply (trade_in t.command)) ts
-
--- those that are dated after a day
+-- the accepted trades among entries of a history that are dated after a day
 abbrev pub later_among : Day → List Taken → List Trade
-later_among day ts = filter (λ t. not (is_not_after t.date day)) (trades_among ts)
+later_among day ts = filter (λ t. not (is_not_after t.date day)) (filter_map (λ t. if_accepted t.reply (trade_in t.command)) ts)
 
 -- a trade, with whether it was booked into the next day
 abbrev pub due : Day → Trade → Due

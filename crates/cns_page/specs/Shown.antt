@@ -1,6 +1,6 @@
 -- What a page that was written shows.
 use Rattle.std.specs.Prelude.{[], ◌≡◌, ℕ, ◌+◌, ◌-◌, ◌^◌, Bool, false, List, length, map, min, take, Option, Some}
-use Rattle.cns_page.specs.Common.{Account, Appends, int_cmp, nat_cmp, Day, DaySheet, date, journal_of, opened, day_number, Trade, sheet_on, Log, state_of, lines_of, blank_log, log_after, IsOrdered, key_cmp, history, Watched, AreMoves, Captions, ClosedDay, Contents, Head, Figures, Due, Shared, Aged, Close, Survey, Span}
+use Rattle.cns_page.specs.Common.{Account, Appends, int_cmp, nat_cmp, Day, DaySheet, date, journal_of, opened, day_number, Trade, sheet_on, Log, state_of, lines_of, blank_log, log_after, IsOrdered, key_cmp, history, Watched, AreMoves, Captions, ClosedDay, Contents, Head, Due, Shared, Close, Survey, Span}
 use Rattle.cns_account.specs.Past.{IsPast}
 use Rattle.cns_page.specs.Accounts.{sheet_lines}
 use Rattle.cns_page.specs.Due.{ArePending, due_at}
@@ -11,26 +11,15 @@ use Rattle.cns_page.specs.Page.{page_text}
 use Rattle.cns_page.specs.Rowless.{without_row}
 use Rattle.cns_page.specs.Survey.{IsClosedBy, known, noted_all, nothing}
 
--- the members' shorts on a sheet, the oldest first
-abbrev pub AreShorts : Log → DaySheet → List Aged → Type 0
-AreShorts log sheet xs = IsInOrderOf (λ s. s.age) (λ a b. nat_cmp b a) (shorts_among (state_of log) sheet.rows) xs
-
 -- the day that a book's last close opened
 abbrev pub next_day : Log → Day
 next_day log = date log.opening (journal_of (state_of log))
 
 -- the accepted trades that settle after a day, by date: those that its close booked into the next day, and those
 -- that are pending
-abbrev pub AreLater : Log → Day → List Trade → Type 0
-AreLater log d xs = IsInOrderOf (λ t. day_number t.date) int_cmp (later_among d (looked_at log.history)) xs
-
--- the same as rows of a page
 abbrev pub AreTradesAfter : Log → Day → List Due → Type 0
-AreTradesAfter log d xs = (ts : List Trade) × AreLater log d ts × (xs ≡ map (due (next_day log)) ts)
-
--- the list of days up to the last close of a survey, the last 60 at most
-abbrev pub days_shown : Log → Survey → List Figures
-days_shown log s = figures_shown (state_of log) (last_closes s.closes.items)
+AreTradesAfter log d xs =
+    (ts : List Trade) × IsInOrderOf (λ t. day_number t.date) int_cmp (later_among d (looked_at log.history)) ts × (xs ≡ map (due (next_day log)) ts)
 
 -- what the head of the page tells, of the day that a close ends
 abbrev pub head_shown : Log → Survey → Close → Bool → Head
@@ -45,9 +34,10 @@ head_shown log s c linked = record {
   is_linked = linked;
 }
 
--- the rows that the page of a closed day and those of its accounts show both, by the day's sheet
+-- the rows that the page of a closed day and those of its accounts show both, by the day's sheet; the members' shorts stand the oldest
+-- first
 pub record AreShared (d : ClosedDay) (sheet : DaySheet) (g : Shared) : Type 0 where
-  pub shorts : AreShorts d.book.log sheet g.shorts.items
+  pub shorts : IsInOrderOf (λ s. s.age) (λ a b. nat_cmp b a) (shorts_among (state_of d.book.log) sheet.rows) g.shorts.items
   pub liable : g.liable.items ≡ liable_shown (state_of d.book.log) d.close.day
   pub notices : g.notices.items ≡ live_shown (state_of d.book.log)
   pub trades : AreTradesAfter d.book.log sheet.date g.trades.items
@@ -64,7 +54,7 @@ pub record AreContents (d : ClosedDay) (sheet : DaySheet) (linked : Bool) (accou
   pub rowless : l.rowless.items ≡ without_row sheet accounts
   pub issues : AreIssues sheet.rows l.issues.items
   pub due : l.due.items ≡ map (λ e. due_at (state_of d.book.log) l.shared.now.pending e.0) l.shared.now.pending.shares.entries
-  pub days : l.days.items ≡ days_shown d.book.log d.survey
+  pub days : l.days.items ≡ figures_shown (state_of d.book.log) (last_closes d.survey.closes.items)
 
 -- what was written is the text of the page of a day, with some captions
 pub record ShowsDay (d : ClosedDay) (l : Contents) (old new : Option (List ℕ)) : Type 0 where

@@ -6,8 +6,7 @@ use Rattle.cns_page.specs.Listed.{if_accepted}
 -- the activity that a command hands in
 abbrev pub activity_in : Command → Option Activity
 activity_in (Command.Activity x) = Some x
-activity_in (Command.Position k) = None
-activity_in (Command.Statement a d) = None
+activity_in _ = None
 
 -- whether an activity is one that is looked for
 abbrev pub is_sought : Sought → Activity → Bool

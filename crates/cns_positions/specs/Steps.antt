@@ -25,8 +25,7 @@ after_step m Roll = λ q. rolled (m q)
 -- the reply to a step, if it is a Get
 abbrev pub reply_to : Map → Step → List Holding
 reply_to m (Get k) = m k ∷ []
-reply_to m (Add k shares cents) = []
-reply_to m Roll = []
+reply_to m _ = []
 
 -- the replies to the Gets among steps
 unfoldable pub replies : Map → List Step → List Holding
@@ -35,9 +34,8 @@ replies m (s ∷ ss) = reply_to m s ++ replies (after_step m s) ss
 
 -- the sums of a step fit in what holds them
 abbrev pub StepFits : Map → Step → Type 0
-StepFits m (Get k) = Unit {0}
 StepFits m (Add k shares cents) = FitsSigned w64 ((m k).now +ℤ shares) × FitsSigned w128 ((m k).contract +ℤ cents)
-StepFits m Roll = Unit {0}
+StepFits m _ = Unit {0}
 
 -- and so do those of each step, one after another
 unfoldable pub SumsFit : Map → List Step → Type 0

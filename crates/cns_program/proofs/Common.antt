@@ -13,5 +13,7 @@ pub use Rattle.serde_json.specs.Written.{compact_text, has_float, items_have_flo
 pub use Rattle.cns_program.specs.Days.{statements_text, text_of_one}
 pub use Rattle.cns_program.specs.Ends.{FailsReplay, ReadEach, Reads, told_by}
 pub use Rattle.cns_program.specs.Lines.{IsTold, end_line, end_lines}
-unfoldable pub use Rattle.cns_program.specs.Tally.{counts_to, lines_to, tally_of, total_text, whole, workers_of}
-unfoldable pub use Rattle.cns_program.specs.CommandLine.{words_rule, program_line}
+unfoldable pub use Rattle.cns_program.specs.Tally.{tally_of}
+pub use Rattle.cns_program.specs.Tally.{counts_to, lines_to, total_text, whole, workers_of}
+unfoldable pub use Rattle.cns_program.specs.CommandLine.{program_line}
+pub use Rattle.cns_program.specs.CommandLine.{words_rule}

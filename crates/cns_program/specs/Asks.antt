@@ -32,13 +32,10 @@ workers_read t =
 abbrev pub workers_in : List Row → Option ℕ
 workers_in rows = option_and_then workers_read (first_of (codes "workers") rows)
 
--- at least one name, and no more than 64
-abbrev pub names_read : List Text → Option (List Text)
-names_read names = if nat_le 1 (length names) && nat_le (length names) 64 then Some names else None
-
--- the names of the files
+-- the names of the files: at least one, and no more than 64
 abbrev pub files_in : List Row → Option (List Text)
-files_in rows = option_and_then names_read (all_of (codes "files") rows)
+files_in rows =
+    option_and_then (λ names. if nat_le 1 (length names) && nat_le (length names) 64 then Some names else None) (all_of (codes "files") rows)
 
 abbrev pub replay_in : List Row → Option Question
 replay_in rows = option_map replay (date_in rows (codes "open"))

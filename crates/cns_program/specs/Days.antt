@@ -32,12 +32,6 @@ abbrev pub FailsDay : Fault → Log → Day → Option (List ℕ) → Option (Li
 FailsDay Fault.Read b day old new = new ≡ old
 FailsDay Fault.Write b day old new = MatchOption (sheet_of b day) ⊥ (λ s. IsTold old new (statements_text (statements_of s)))
 FailsDay Fault.NoMemory b day old new = new ≡ old
-FailsDay Fault.Full b day old new = ⊥
-FailsDay (Fault.Open file) b day old new = ⊥
 FailsDay Fault.Spawn b day old new = new ≡ old
-FailsDay Fault.Mismatch b day old new = ⊥
 FailsDay Fault.NoSuchDay b day old new = (new ≡ old) × (sheet_of b day ≡ None)
-FailsDay Fault.NoSuchMember b day old new = ⊥
-FailsDay Fault.NoSuchIssue b day old new = ⊥
-FailsDay Fault.NoSuchFolder b day old new = ⊥
-FailsDay (Fault.OtherPage d a) b day old new = ⊥
+FailsDay _ b day old new = ⊥

@@ -18,13 +18,9 @@ pub record FailsReplay (f : ReplayFault) (opening : Day) (input old new : Option
   pub room : f ≢ ReplayFault.Full
   pub stops : IfSome input (λ bytes. StopsReplay f opening bytes old new)
 
--- a worker came to the end of its source
-abbrev pub IsComplete : End → Type 0
-IsComplete e = e ≡ End.Complete
-
--- all workers did
+-- all workers came to the ends of their sources
 abbrev pub AreComplete : List End → Type 0
-AreComplete = AllByRecursion IsComplete
+AreComplete = AllByRecursion (λ e. e ≡ End.Complete)
 
 -- the tally of an outcome
 abbrev pub text_of : Outcome → List ℕ
@@ -70,14 +66,11 @@ pub record IsOutcome {F : Type 0} (rem : F → Option (List ℕ)) (files : ℕ) 
 abbrev pub IsRun : {F : Type 0} → (F → Option (List ℕ)) → ℕ → Option (List ℕ) → Option (List ℕ) → Type 0
 IsRun rem files old new = (o : Outcome) × IsOutcome rem files o × AreComplete o.ends.items × Appends old new (text_of o)
 
--- a run over so many files ended with a fault: before anything was written, or at its tally
-abbrev pub FailsRun : {F : Type 0} → (F → Option (List ℕ)) → Fault → ℕ → Option (List ℕ) → Option (List ℕ) → Type 0
-FailsRun rem f files old new = (IsOfRun files f × (new ≡ old)) ⊎ ((o : Outcome) × IsOutcome rem files o × FailsTally f o old new)
-
--- such a run ended with a fault, whose line is told, or a worker of it ended early
+-- a run over so many files ended with a fault, before anything was written or at its tally, and the fault's line is told; or a worker
+-- of it ended early
 abbrev pub TellsRun : {F T E : Type 0} → (F → Option (List ℕ)) → ℕ → Option (List ℕ) → Option (List ℕ) → Option (List ℕ) → Option (List ℕ) → Result T E → Type 0
 TellsRun rem files old new told_old told_new told =
-    ((f : Fault) × FailsRun rem f files old new × Writes told_old told_new (fault_line f) told)
+    ((f : Fault) × ((IsOfRun files f × (new ≡ old)) ⊎ ((o : Outcome) × IsOutcome rem files o × FailsTally f o old new)) × Writes told_old told_new (fault_line f) told)
     ⊎ ((o : Outcome) × IsOutcome rem files o × EndsEarly o old new told_old told_new told)
 
 -- a replay ended with a fault, whose line is told

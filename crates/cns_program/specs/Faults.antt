@@ -19,30 +19,14 @@ of_pack PackFault.NoMemory = Some Fault.NoMemory
 
 -- a fault of opening so many files: it names one of them, or memory was refused
 abbrev pub IsOfOpening : ℕ → Fault → Type 0
-IsOfOpening files Fault.Read = ⊥
-IsOfOpening files Fault.Write = ⊥
 IsOfOpening files Fault.NoMemory = ⊤
-IsOfOpening files Fault.Full = ⊥
 IsOfOpening files (Fault.Open file) = (1 ≤ file) × (file ≤ files)
-IsOfOpening files Fault.Spawn = ⊥
-IsOfOpening files Fault.Mismatch = ⊥
-IsOfOpening files Fault.NoSuchDay = ⊥
-IsOfOpening files Fault.NoSuchMember = ⊥
-IsOfOpening files Fault.NoSuchIssue = ⊥
-IsOfOpening files Fault.NoSuchFolder = ⊥
-IsOfOpening files (Fault.OtherPage d a) = ⊥
+IsOfOpening files _ = ⊥
 
 -- a fault of a run over so many files, before anything is written
 abbrev pub IsOfRun : ℕ → Fault → Type 0
-IsOfRun files Fault.Read = ⊥
-IsOfRun files Fault.Write = ⊥
 IsOfRun files Fault.NoMemory = ⊤
-IsOfRun files Fault.Full = ⊥
 IsOfRun files (Fault.Open file) = (1 ≤ file) × (file ≤ files)
 IsOfRun files Fault.Spawn = ⊤
 IsOfRun files Fault.Mismatch = ⊤
-IsOfRun files Fault.NoSuchDay = ⊥
-IsOfRun files Fault.NoSuchMember = ⊥
-IsOfRun files Fault.NoSuchIssue = ⊥
-IsOfRun files Fault.NoSuchFolder = ⊥
-IsOfRun files (Fault.OtherPage d a) = ⊥
+IsOfRun files _ = ⊥

@@ -30,18 +30,9 @@ fault_name (Fault.OtherPage d a) = codes "OtherPage"
 
 -- what follows the word: the number of a file that could not be opened, from 1, or the date and the account of a page
 abbrev pub fault_file : Fault → List (List ℕ)
-fault_file Fault.Read = []
-fault_file Fault.Write = []
-fault_file Fault.NoMemory = []
-fault_file Fault.Full = []
 fault_file (Fault.Open file) = decimal file ∷ []
-fault_file Fault.Spawn = []
-fault_file Fault.Mismatch = []
-fault_file Fault.NoSuchDay = []
-fault_file Fault.NoSuchMember = []
-fault_file Fault.NoSuchIssue = []
-fault_file Fault.NoSuchFolder = []
 fault_file (Fault.OtherPage d a) = day_text d ∷ option_map_or (λ n. decimal n ∷ []) a []
+fault_file _ = []
 
 -- `fault`, its word and what follows
 abbrev pub fault_line : Fault → List ℕ

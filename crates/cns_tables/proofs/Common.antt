@@ -11,7 +11,10 @@ pub use Rattle.cns_units.proofs.OutputLemmas.{front_later, front_longer, writes_
 pub use Rattle.cns_units.proofs.Parts.{parts_failed, parts_more}
 pub use Rattle.cns_units.specs.Output.{AppendsFront, Writes}
 pub use Rattle.cns_tables.specs.Escape.{escaped, escaped_byte, is_plain}
-unfoldable pub use Rattle.cns_tables.specs.Grouped.{digit_text, grouped, amount_text, count_text, signed_text}
-unfoldable pub use Rattle.cns_tables.specs.Pieces.{piece_text, filled}
-unfoldable pub use Rattle.cns_tables.specs.Tables.{cell_of, none_of, some_of, table_text}
+unfoldable pub use Rattle.cns_tables.specs.Grouped.{amount_text, count_text, signed_text}
+pub use Rattle.cns_tables.specs.Grouped.{digit_text, grouped}
+unfoldable pub use Rattle.cns_tables.specs.Pieces.{filled}
+pub use Rattle.cns_tables.specs.Pieces.{piece_text}
+unfoldable pub use Rattle.cns_tables.specs.Tables.{none_of, table_text}
+pub use Rattle.cns_tables.specs.Tables.{cell_of, some_of}
 pub use Rattle.cns_tables.specs.declared.table.TheConstants.{COLUMN}

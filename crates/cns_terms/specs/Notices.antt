@@ -59,9 +59,7 @@ is_so holds n = option_map_or holds n false
 -- whether a notice stands
 abbrev pub is_live : Stage → Bool
 is_live Live = true
-is_live Withdrawn = false
-is_live Ended = false
-is_live Expired = false
+is_live _ = false
 
 -- what an activity makes of a live notice; the number is that of the day on which it is accepted
 abbrev pub stage_by : Notice → ℕ → Activity → Stage

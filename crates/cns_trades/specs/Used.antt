@@ -14,13 +14,9 @@ pub record Used : Type 0 where
 abbrev pub has_bit : ℕ → ℕ → Bool
 has_bit bits k = bit_at bits k == 1
 
--- the bits of a page among others, none where it is not there
-abbrev pub page_among : List (ℕ × ℕ) → ℕ → ℕ
-page_among others p = unwrap_or (lookup (λ q. is_eq (nat_cmp p q)) others) 0
-
--- the bits of a page
+-- the bits of a page, none where it is not there
 abbrev pub bits_in : Used → ℕ → ℕ
-bits_in u p = if p == u.page then u.bits else page_among u.others p
+bits_in u p = if p == u.page then u.bits else unwrap_or (lookup (λ q. is_eq (nat_cmp p q)) u.others) 0
 
 -- whether the number was used
 unfoldable pub is_used : Used → ℕ → Bool

@@ -3,9 +3,10 @@ pub use Rattle.std.proofs.Common.{Bool, Bor, Box, Equal, Greater, IfSome, IsSome
 pub use Rattle.std.specs.FinMap.{find, put}
 pub use Rattle.cns_terms.proofs.Common.{IsTotalOrder, and_left, and_right, below_all, binary_digits, is_sorted, key_cmp, keys_total, less, option_or, tied_itself}
 pub use Rattle.cns_terms.specs.declared.holding.Key.{Key}
-unfoldable pub use Rattle.cns_tree.specs.Changes.{ChangesAt, ChangesEach}
-unfoldable pub use Rattle.cns_tree.specs.Pending.{AreNodes, rows_from, rows_pending}
-pub use Rattle.cns_tree.specs.Pending.{IsFront, IsOnItsWay}
+unfoldable pub use Rattle.cns_tree.specs.Changes.{ChangesEach}
+pub use Rattle.cns_tree.specs.Changes.{ChangesAt}
+unfoldable pub use Rattle.cns_tree.specs.Pending.{rows_pending}
+pub use Rattle.cns_tree.specs.Pending.{IsFront, IsOnItsWay, AreNodes, rows_from}
 pub use Rattle.cns_tree.specs.Search.{is_above, is_after, is_at_or_after, is_past}
 pub use Rattle.cns_tree.specs.Shape.{IsBalanced, IsBalancedNode, IsLean, IsShallow, height, rows, rows_and_height}
 pub use Rattle.cns_tree.specs.declared.node.Node.{Node}

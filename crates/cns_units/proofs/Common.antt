@@ -7,7 +7,8 @@ pub use Rattle.std.proofs.lemmas.Result.{err_from_is_err_and}
 pub use Rattle.std.specs.Cmp.Lexicographic.{slice_cmp}
 pub use Rattle.std.specs.Io.KnownBytes.{Appends, Keeps}
 pub use Rattle.std.specs.Ordering.{int_eq, nat_cmp, ordering_then}
-unfoldable pub use Rattle.cns_units.specs.Cusip.{IsCusip, after_value, character_value, last_fault, plus, sum_of, weight}
+unfoldable pub use Rattle.cns_units.specs.Cusip.{sum_of}
+pub use Rattle.cns_units.specs.Cusip.{IsCusip, after_value, character_value, last_fault, plus, weight}
 pub use Rattle.cns_units.specs.Output.{AppendsFront, Writes}
 pub use Rattle.cns_units.specs.Words.{word_text, words_text}
 pub use Rattle.std.proofs.lemmas.List.{drop_all, length-take}

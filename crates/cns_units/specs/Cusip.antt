@@ -29,18 +29,14 @@ unfoldable pub sum_of : Bool → List ℕ → Option ℕ
 sum_of doubled [] = Some 0
 sum_of doubled (c ∷ cs) = after_value doubled (character_value c) (sum_of (not doubled) cs)
 
--- the check digit of a sum
-abbrev pub check_digit : ℕ → ℕ
-check_digit sum = (10 - sum % 10) % 10
-
 abbrev pub is_digit : ℕ → Bool
 is_digit c = nat_le 48 c && nat_le c 57
 
--- what a ninth character is, after a sum of the others
+-- what a ninth character is, after a sum of the others, which the check digit makes a multiple of 10
 abbrev pub last_fault : Option ℕ → ℕ → Option UnitFault
 last_fault None c = Some UnitFault.Character
 last_fault (Some sum) c =
-    if is_digit c then (if c - 48 == check_digit sum then None else Some UnitFault.CheckDigit)
+    if is_digit c then (if c - 48 == (10 - sum % 10) % 10 then None else Some UnitFault.CheckDigit)
     else Some UnitFault.Character
 
 -- the first fault of a text

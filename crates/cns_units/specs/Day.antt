@@ -32,16 +32,11 @@ two_at bytes i =
     if is_digit (slice_index bytes i) && is_digit (slice_index bytes (i + 1)) then Some ((slice_index bytes i - 48) * 10 + (slice_index bytes (i + 1) - 48))
     else None
 
--- the day with these parts, where the calendar has it
-abbrev pub valid_day : ℕ → ℕ → ℕ → Result CalendarDay UnitFault
-valid_day y m d = if is_calendar_day y m d then Ok (record { year = y; month = m; day = d }) else Err UnitFault.Date
-
+-- the day with these parts, where the calendar has it: the century, the year in it, the month and the day
 abbrev pub day_from : Option ℕ → Option ℕ → Option ℕ → Option ℕ → Result CalendarDay UnitFault
-day_from (Some c) (Some y) (Some m) (Some d) = valid_day (c * 100 + y) m d
-day_from (Some c) (Some y) (Some m) None = Err UnitFault.Date
-day_from (Some c) (Some y) None d = Err UnitFault.Date
-day_from (Some c) None m d = Err UnitFault.Date
-day_from None y m d = Err UnitFault.Date
+day_from (Some c) (Some y) (Some m) (Some d) =
+    let year = c * 100 + y in if is_calendar_day year m d then Ok (record { year = year; month = m; day = d }) else Err UnitFault.Date
+day_from _ _ _ _ = Err UnitFault.Date
 
 -- the day that a text of the form `YYYY-MM-DD` is
 abbrev pub day_of : List ℕ → Result CalendarDay UnitFault
