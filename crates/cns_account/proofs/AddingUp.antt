@@ -39,6 +39,8 @@ pub price_few : (opening : Day) (L : List Activity) (c : Cusip) → IsReached op
 price_few opening [] c r = omega arith
 price_few opening (x ∷ L) c r = let range = r.0 in grind (arith, price_few opening L c r.2)
 
+-- ---- the last close
+
 -- records that end with a close, and those before it
 pub record IsLast (n : ℕ) (b : Log) (ls : List Line) (cs : List (ℕ × Day)) (d : Day) : Type 0 where
   pub front : List Line
@@ -70,6 +72,8 @@ split (l ∷ ls) n b cs d range is = elim (last_left (day_closed (state_of b) l)
       let z = split ls (n + 1) (log_after_line b l) h.0 d range.1 (rw (state_line b l) (h.2 ∙ ap (λ m. h.0 ++ (m, d) ∷ []) (omega arith))) in
       rw (← h.1) (record { front = l ∷ z.front; line = z.line; range = (range.0, z.range); count = omega (arith, z.count); before = grind (arith, z.before, state_line b l); close = z.close; log = z.log; told = grind (arith, z.told, state_line b l) })
 ]
+
+-- ---- all causes
 
 close_trades : (v : Pend → ℤ) (S : State) (e : Day) → total v (trades (journal_of (next S (Command.Activity (Activity.Close e))))) ≡ total v (trades (journal_of S))
 close_trades v S e = grind arith

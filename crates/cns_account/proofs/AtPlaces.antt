@@ -4,6 +4,7 @@ use Rattle.cns_account.proofs.Common.{◌≡◌, ◌∙◌, sym, ap, refl, ℕ, 
 use Rattle.cns_history.specs.declared.line.Closing.{Closing}
 use Rattle.cns_account.proofs.Named.{is_at, at_next, IsSame, more, names}
 
+-- no movement is a close
 since_told : (n : ℕ) (S T : State) (x : Activity) (before : List _) → is_movement (Command.Activity x) ≡ true → bookings_since Whose.All n T x (answer S (Command.Activity x)) before ≡ filter_map (booked_since n T x) before
 since_told n S T x before is = grind arith
 
@@ -17,6 +18,8 @@ from_same S x h is = grind arith
 -- what is booked nowhere has no line
 same_told : (n : ℕ) (S T : State) (x : Activity) (k : Key) → IsSame k S T → line_for n S T x k ≡ None
 same_told n S T x k same = grind arith
+
+-- ---- the lines at a place
 
 one_told : (k q : Key) (b : Booking) (t u : Bool) (lines : List HistoryLine) (more : List Key) (f : Key → Option HistoryLine) → is_line_at k (HistoryLine.Booking b) ≡ u → f q ≡ cond t None (Some (HistoryLine.Booking b))
     → filter (is_line_at k) lines ≡ filter_map f more → filter (is_line_at k) (cons_option (cond t None (Some (HistoryLine.Booking b))) lines) ≡ filter_map f (cond u (q ∷ more) more)
@@ -43,6 +46,8 @@ movement_at k n S x few whole is =
     ∙ at_next (λ T. filter_map (line_for n S T x) (filter (is_at k) (places Whose.All S x)) ≡ option_to_list (line_for n S T x k)) S x
     (grind (arith, none_told (line_for n S S x) (λ q. same_told n S S x q (record { shares = refl; cents = refl })) (filter (is_at k) (places Whose.All S x)), same_told n S S x k (record { shares = refl; cents = refl })))
     (λ none. let e = names S x k few whole none is in there_or_not k (line_for n S (more S x) x) e.there _ e.once (λ h. same_told n S (more S x) x k (e.others h)))
+
+-- ---- the lines of a history
 
 -- no movement opens a day
 pub movement_stays : (S : State) (x : Activity) → is_movement (Command.Activity x) ≡ true → date S.opening (journal_of (next S (Command.Activity x))) ≡ date S.opening (journal_of S)

@@ -5,9 +5,11 @@ use Rattle.std.proofs.lemmas.List.Elements.{filter_map-append}
 use Rattle.std.proofs.lemmas.Map.Lookups.{CmpEqualImpliesEq}
 use Rattle.std.proofs.lemmas.Option.{get_or_from_slice_get, slice_get_within, slice_get_cases}
 
+-- two lists
 pub both_given : {X Y : Type 0} (f : X → Option Y) (xs ys : List X) → filter_map f (xs ++ ys) ≡ filter_map f xs ++ filter_map f ys
 both_given f xs ys = filter_map-append f xs ys
 
+-- one more of a list
 pub given_more : {X Y : Type 0} (f : X → Option Y) (xs : List X) (i : ℕ) (x : X) (o : Option Y) (items : List Y) → i < length xs → get_or xs i x ≡ x → f x ≡ o
     → items ≡ filter_map f (take i xs) → items ++ cons_option o [] ≡ filter_map f (take (i + 1) xs)
 given_more f xs i x o items lt at is was = rw (was, ← is, take_more xs i x lt, at, filter_map-append f (take i xs) (x ∷ [])) refl

@@ -11,6 +11,8 @@ times_all : (a b z : ℤ) → (a +ℤ b) *ℤ z ≡ (a *ℤ z) +ℤ (b *ℤ z)
 times_all a b (pos n) = times_sum a b n
 times_all a b (negsuc n) = omega (arith, ints, *ℤ-negsuc a n, *ℤ-negsuc b n, *ℤ-negsuc (a +ℤ b) n, times_sum a b (suc n))
 
+-- ---- what the causes bring
+
 -- shares and cents whose value fits
 abbrev pub IsSmall : Moved → Type 0
 IsSmall x = (unsigned_abs x.shares ≤ 2 ^ 63) × (unsigned_abs x.cents ≤ 2 * amount_limit)

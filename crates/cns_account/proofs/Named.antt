@@ -42,6 +42,8 @@ pub one_number : (p : Account → Bool) (x n : ℕ) → x < n → filter (λ b. 
 unfolding numbers
 one_number p x n lt = grind (arith, nat_tests, one_from p x 0 n)
 
+-- ---- what stands at a place
+
 -- where a POSITION is not refused
 shown_where : (opening : Day) (J : Journal) (k : Key) → is_none (refusal opening J (Command.Position k)) ≡ (is_account J k.account && is_listed J k.issue)
 shown_where opening J k = grind arith
@@ -52,6 +54,7 @@ pub record Stands (J : Journal) (k : Key) (h : Holding) : Type 0 where
   pub cents : h.contract ≡ money J k.account k.issue
   pub found : h.opening ≡ position (last_close J) k.account k.issue
 
+-- nothing, where a POSITION is refused
 pub stands : (S : State) (k : Key) → IsSound (journal_of S) → Stands (journal_of S) k (standing S k)
 stands S k sound = elim (cases_Bool (is_none (refusal S.opening (journal_of S) (Command.Position k)))) [
   | inl shown ↦ rw shown (record { shares = refl; cents = refl; found = refl })
@@ -59,6 +62,8 @@ stands S k sound = elim (cases_Bool (is_none (refusal S.opening (journal_of S) (
       let out = (λ i. is_account (journal_of S) k.account && list_any (λ c. nat_list_eq_equiv.symm k.issue c i) (issues (journal_of S))) ∙ sym (shown_where S.opening (journal_of S) k) ∙ hidden in
       let idle = idle_parts (row S.opening (journal_of S) k.account k.issue) (idle_at S.opening (journal_of S) k sound out) in rw hidden (record { shares = sym idle.1; cents = sym idle.2; found = sym idle.0 })
 ]
+
+-- ---- after an activity
 
 -- a state with an activity more
 abbrev pub more : State → Activity → State
@@ -87,6 +92,8 @@ AreElsewhere k es = (v : Entry → ℤ) → total (λ e. cond (eqb e.account k.a
 
 same_elsewhere : (S : State) (x : Activity) (k : Key) → IsWhole S.opening (journal_of S) → NoneHolds (rules S.opening (journal_of S) x) → is_close x ≡ false → AreElsewhere k (entries S.opening (journal_of S) x) → IsSame k S (more S x)
 same_elsewhere S x k whole none ends out = grind (arith, ints, adds S x k whole none ends, out (λ e. e.shares), out (λ e. e.cents))
+
+-- ---- the places that it names
 
 -- a place is one of some places, once, or nothing was booked there
 pub record IsNamed (k : Key) (S T : State) (ks : List Key) : Type 0 where

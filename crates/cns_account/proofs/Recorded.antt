@@ -50,6 +50,8 @@ module _ (f : Entry → ℤ) where
   trade_settles opening J before t none after =
       grind (arith, ints, (all_fail (rules opening J (Activity.Trade t)) none).1.1.1.1.0)
 
+-- ---- shares or cents
+
 -- of an execution the shares, twice: the originator's and those of the fills
 fill_shares : (n : Notice) (fs : List Fill) → magnitude (λ (e : Entry). e.shares) (map (fill_entry n) fs) ≡ sum_by (λ f. f.shares) fs
 fill_shares n [] = refl
@@ -79,6 +81,8 @@ shares_counted k = record { picked = grind arith; less = λ a b s t. refl; held 
 
 pub cents_counted : (k : Key) → IsCounted k w128 (λ s c. c) (2 * money_limit)
 cents_counted k = record { picked = grind arith; less = λ a b s t. refl; held = λ S x whole none ends. (adds S x k whole none ends).1; named = cents_named; traded = λ t range. omega (arith, ints, range.0) }
+
+-- ---- one activity more
 
 -- all trades but one that is new stay
 trades_more : (v : Pend → ℤ) (S : State) (x : Activity) → total v (trades (journal_of (more S x))) ≡ option_map_or (λ t. v (pend_of t)) (traded x) (pos 0) +ℤ total v (trades (journal_of S))
@@ -201,6 +205,8 @@ module _ {k : Key} {w : Width} {pick : ℤ → ℤ → ℤ} {c : ℕ} (low : k.a
         record { seen = t.seen; after = after; late = λ later. t.late (grind (arith, ints)); sum = λ today. grind (arith, ints, close_settles f S.opening (journal_of S) e, t.late); comes = t.comes }
 
     module _ (last : Option Day) where
+      -- ---- the history
+
       -- a log's state is within its limits, and its trades that settle come to a number
       pub record Kept (b : Log) (n t : ℕ) : Type 0 where
         pub reached : IsReached (state_of b).opening (state_of b).accepted
@@ -208,6 +214,7 @@ module _ {k : Key} {w : Width} {pick : ℤ → ℤ → ℤ} {c : ℕ} (low : k.a
         pub accepted : length (state_of b).accepted ≤ n
         pub taken : Comes w pick (fold (with_taken last d k) unmoved (reverse b.history)) (total (settles f last d) (trades (journal_of (state_of b)))) t
 
+      -- what its trade can book
       abbrev size_taken : Command → Reply → ℕ
       size_taken cmd r = option_map_or (λ x. magnitude (of_entry pick) (trade_entries (pend_of x))) (option_and_then (λ x. cond (is_within last d x.date) (Some x) None) (accepted_of traded cmd r)) 0
 
@@ -232,6 +239,7 @@ module _ {k : Key} {w : Width} {pick : ℤ → ℤ → ℤ} {c : ℕ} (low : k.a
           let told : Told None (opened opening) [] 0 = record { seen = pos 0; after = refl; late = λ h. refl; sum = λ h. refl; comes = λ m v n come. same counted.picked m v _ n _ come (omega (arith, ints)) (omega arith) } in
           record { t = 0; u = 0; kept = record { reached = tt; count = omega arith; accepted = omega arith; taken = grind (arith, ints, counted.picked.none) }; told = told; few = omega arith }
 
+      -- a record more
       open_more : (before : Option Day) (b : Log) (ls : List HistoryLine) (n : ℕ) (l : Line) → IsLineInRange l → Open before b ls n
           → Open (last_of before (option_to_list (option_map (λ e. (n + 1, e)) (day_closed (state_of b) l)))) (log_after_line b l) (ls ++ lines_of (Watched.Movements d) (n + 1) (state_of b) l) (n + 1)
       open_more before b ls n (Err e) range o = grind (arith, append-nil)

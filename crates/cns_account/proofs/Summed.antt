@@ -9,6 +9,8 @@ is_named (Activity.Receive m) = true
 is_named (Activity.Execute x) = true
 is_named _ = false
 
+-- ---- what wraps
+
 -- no farther from zero
 wrap_few : (w : Width) (z : ℤ) → unsigned_abs (int_wrap w z) ≤ unsigned_abs z
 wrap_few w z = let e = SFits-int_wrap w z in let f = fits_signed_from_abs w z in let g = int_wrap_fits w z in let h = cases_lt (unsigned_abs z) (2 ^ hbits w) in grind arith
@@ -19,12 +21,16 @@ sum_more w x y d old new v is are same =
     let both : ((old -ℤ x) +ℤ (x +ℤ y) ≡ old +ℤ y) × (new ≡ (old -ℤ x) +ℤ d) = (omega (arith, ints), omega (arith, ints)) in
     grind (arith, int_wrap-add_right, int_wrap-add_same)
 
+-- ---- shares or cents
+
+-- those of what moved a position, as they are picked
 abbrev pub of_moved : (ℤ → ℤ → ℤ) → Moved → ℤ
 of_moved pick m = pick m.shares m.cents
 
 abbrev pub of_entry : (ℤ → ℤ → ℤ) → Entry → ℤ
 of_entry pick e = pick e.shares e.cents
 
+-- at a place
 abbrev pub entry_at : (ℤ → ℤ → ℤ) → Key → Entry → ℤ
 entry_at pick k e = cond (eqb e.account k.account && bytes_eq e.issue k.issue) (of_entry pick e) (pos 0)
 
@@ -50,6 +56,7 @@ module _ {w : Width} {pick : ℤ → ℤ → ℤ} (picked : IsPicked w pick) whe
   few_more : (x : Moved) (a b : ℤ) → unsigned_abs (of_moved pick (with_more x a b)) ≤ unsigned_abs (of_moved pick x) + unsigned_abs (pick a b)
   few_more x a b = rw (picked.more x a b) (let e = wrap_few w (of_moved pick x +ℤ pick a b) in omega (arith, ints))
 
+  -- one cause more
   part_more : (m m' : Moves) (x : Moved) (a b v : ℤ) (n u : ℕ) → Comes w pick m v n → of_causes (of_moved pick) m' +ℤ of_moved pick x ≡ of_causes (of_moved pick) m +ℤ of_moved pick (with_more x a b)
       → size_of pick m' ≤ size_of pick m + u → FitsSigned w (of_moved pick m'.actions) → Comes w pick m' (v +ℤ pick a b) (n + u)
   part_more m m' x a b v n u c all size fits = record { sum = sum_more w (of_moved pick x) (pick a b) (of_moved pick (with_more x a b)) _ _ v (picked.more x a b) all c.sum; few = omega (arith, size, c.few); fits = fits }
@@ -73,6 +80,7 @@ module _ {w : Width} {pick : ℤ → ℤ → ℤ} (picked : IsPicked w pick) whe
   action_more : (m : Moves) (v : ℤ) (n : ℕ) (b : Booking) → Comes w pick m v n → Comes w pick (record m { actions = with_more m.actions b.shares b.cents }) (v +ℤ pick b.shares b.cents) (n + 0)
   action_more m v n b c = part_more m (record m { actions = with_more m.actions b.shares b.cents }) m.actions b.shares b.cents v n 0 c (omega (arith, ints)) (omega arith) (rw (picked.more m.actions b.shares b.cents) (SFits-int_wrap w _))
 
+  -- a booking
   pub cause_more : (m : Moves) (v : ℤ) (n : ℕ) (b : Booking) (x : Activity) → Comes w pick m v n
       → Comes w pick (of_cause m b x) (v +ℤ cond (is_movement (Command.Activity x)) (pick b.shares b.cents) (pos 0)) (n + cond (is_named x) (unsigned_abs (pick b.shares b.cents)) 0)
   cause_more m v n b (Activity.Deliver x) c = part_more m (record m { delivered = with_more m.delivered b.shares b.cents }) m.delivered b.shares b.cents v n _ c (omega (arith, ints)) (omega (arith, few_more m.delivered b.shares b.cents)) c.fits
@@ -82,6 +90,7 @@ module _ {w : Width} {pick : ℤ → ℤ → ℤ} (picked : IsPicked w pick) whe
   cause_more m v n b (Activity.Exchange x) c = action_more m v n b c
   cause_more m v n b x c = same m v (v +ℤ pos 0) n (n + 0) c (omega (arith, ints)) (omega arith)
 
+-- the sums are exact
 exact_all : (w : Width) (all acts others q : ℤ) → int_wrap w all ≡ int_wrap w q → FitsSigned w acts → all ≡ others +ℤ acts → unsigned_abs q + unsigned_abs others < 2 ^ hbits w → all ≡ q
 exact_all w all acts others q c fits sum small =
     grind (arith, ints, int_wrap_fits w acts fits, int_wrap_fits w (q -ℤ others) (fits_signed_from_abs w _ (omega (arith, ints))), int_wrap-add_same w all q (neg_ℤ others) c)

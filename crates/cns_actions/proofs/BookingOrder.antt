@@ -3,6 +3,7 @@
 use Rattle.cns_actions.proofs.Common.{◌≡◌, refl, ℕ, ◌≤◌, ◌<◌, true, false, List, [], ◌∷◌, ◌++◌, arith, is_lt, nat_cmp, flat_map, Account, Action, AllByRecursion, AreInIssues, AreSmall, Booking, CanBeBooked, Change, Cusip, HasSpace, Holder, IsFew, IsForAnother, Key, Rows, all_bookings, all_holders_of, below_all, bookings_for, by_key, change_of, corporation, each_append, has_position_or_age, holding_at, ints, is_eq-slice_cmp, is_sorted, issue_of, key_cmp, member_bookings, member_limit, nat_list_cmp_total, nat_tests, opposite, same_issue, slice_cmp, not}
 use Rattle.cns_actions.proofs.ByAccount.{above_zero, are_above, are_rising, each_listed, listed_rising, place}
 
+-- few members' changes make small entries
 pub small_bookings : (x : Action) (a : Account) (c : Change) (n : ℕ) → IsFew member_limit c → AreSmall (bookings_for x a c n)
 small_bookings x a c n few = grind (arith, ints)
 
@@ -10,9 +11,12 @@ small_bookings x a c n few = grind (arith, ints)
 pub has_space : (R : Rows) → CanBeBooked R → (k : Key) → HasSpace (holding_at R k)
 has_space R can k = grind (arith, can.members k.account k.issue, can.corporation k.issue, can.cents k)
 
+-- a key is below those of higher accounts
 below_accounts : (k : Key) (bs : List Booking) → AllByRecursion (λ b. k.account < b.entry.account) bs → below_all key_cmp k (by_key bs) ≡ true
 below_accounts k [] h = refl
 below_accounts k (b ∷ bs) h = grind (arith, nat_tests, below_accounts k bs h.1)
+
+-- ---- their issues
 
 -- an account's keys in two issues, in either order
 in_issues : (a : ℕ) (c d : Cusip) → same_issue c d ≡ false → is_lt (key_cmp (place d a) (place c a)) ≡ not (is_lt (slice_cmp nat_cmp c d))
@@ -23,10 +27,12 @@ change_sorted : (x : Action) → IsForAnother x → (a : Account) (c : Change) (
 change_sorted x another a c n ds above sorted = grind (arith, nat_tests, below_accounts, in_issues)
 
 module _ (x : Action) (another : IsForAnother x) where
+  -- the bookings of higher members
   above_bookings : (a : ℕ) (hs : List Holder) → are_above a hs ≡ true → AllByRecursion (λ b. a < b.entry.account) (flat_map (member_bookings x) hs)
   above_bookings a [] l = tt
   above_bookings a (h ∷ hs) l = each_append _ (member_bookings x h) (flat_map (member_bookings x) hs) (grind (arith, nat_tests)) (above_bookings a hs (grind arith))
 
+  -- members' bookings are in order
   members_sorted : (hs : List Holder) → are_rising hs ≡ true → is_sorted key_cmp (by_key (flat_map (member_bookings x) hs)) ≡ true
   members_sorted [] r = refl
   members_sorted (h ∷ hs) r = grind (arith, below_accounts, change_sorted x another h.account (change_of x h.shares) h.oldest (flat_map (member_bookings x) hs), above_bookings h.account hs, members_sorted hs)

@@ -17,10 +17,13 @@ pub entries_alike : (R : Rows) → is_sorted key_cmp R ≡ true → (x : Action)
 entries_alike R order (Action.Split s) ms are f = against_alike s.issue _ _ (legs_alike R order s.issue ms are (λ a n. split_entry s (λ _. n) a)) f
 entries_alike R order (Action.Exchange x) ms are f = grind (arith, against_alike x.old _ _ (legs_alike R order x.old ms are (λ a n. old_entry x (λ _. n) a)) f, against_alike x.successor _ _ (legs_alike R order x.old ms are (λ a n. new_entry x (λ _. n) a)) f, total-append f (against_corporation x.old (map (old_entry x (positions_in R x.old)) (holders (positions_in R x.old) ms))), total-append f (against_corporation x.old (map (λ h. old_entry x (λ _. h.shares) h.account) (shown R x.old))))
 
+-- ---- what is booked adds up to the same
+
 -- sums that nothing adds to
 abbrev IsSum : (Entry → ℤ) → Type 0
 IsSum f = (a : Account) (c : Cusip) → f (entry a c (pos 0) (pos 0)) ≡ pos 0
 
+-- a sum over a member's entries
 abbrev legs : (Entry → ℤ) → Action → Holder → ℤ
 legs f (Action.Split s) h = f (split_entry s (λ _. h.shares) h.account)
 legs f (Action.Exchange x) h = f (old_entry x (λ _. h.shares) h.account) +ℤ f (new_entry x (λ _. h.shares) h.account)
@@ -33,6 +36,7 @@ members_total : (f : Entry → ℤ) → IsSum f → (x : Action) (hs : List Hold
 members_total f sum x [] = refl
 members_total f sum x (h ∷ hs) = grind (arith, ints, map-append, total-append, member_total f sum x h, members_total f sum x hs)
 
+-- a sum of differences
 differences : (f g : Holder → ℤ) (hs : List Holder) → neg_ℤ (total f hs) -ℤ neg_ℤ (total g hs) ≡ neg_ℤ (total (λ h. f h -ℤ g h) hs)
 differences f g hs = omega (arith, ints, total-add f (λ h. neg_ℤ (g h)) hs, total-neg g hs)
 
@@ -40,6 +44,7 @@ differences f g hs = omega (arith, ints, total-add f (λ h. neg_ℤ (g h)) hs, t
 against : (f : Entry → ℤ) (c : Cusip) (L : Holder → Entry) (hs : List Holder) → total f (against_corporation c (map L hs)) ≡ f (entry corporation c (neg_ℤ (total (λ h. (L h).shares) hs)) (neg_ℤ (total (λ h. (L h).cents) hs))) +ℤ total (λ h. f (L h)) hs
 against f c L hs = rw (total-map f L hs, total-map (λ e. e.shares) L hs, total-map (λ e. e.cents) L hs) refl
 
+-- a sum over two bookings in either order
 pair_total : (f : Entry → ℤ) (t : Bool) (b d : Booking) (bs : List Booking) → total f (entries_in (cond t (b ∷ d ∷ []) (d ∷ b ∷ []) ++ bs)) ≡ f b.entry +ℤ (f d.entry +ℤ total f (entries_in bs))
 pair_total f t b d bs = grind (arith, ints)
 
@@ -60,6 +65,8 @@ bookings_alike f sum (Action.Exchange x) n hs =
 pub positions_kept : (c : Cusip) (rows : Rows) → with_position (holders_in has_position_or_age c rows) ≡ holders_in has_position c rows
 positions_kept c [] = refl
 positions_kept c (r ∷ rows) = grind (arith, positions_kept c rows)
+
+-- ---- the ages
 
 -- whether ages are brought to a key
 abbrev brings : Action → Key → Bool

@@ -5,6 +5,8 @@ use Rattle.std.proofs.lemmas.Map.Lookups.{exact_unsigned}
 use Rattle.cns_terms.proofs.Accounts.{given_once}
 use Rattle.std.proofs.lemmas.Option.{cond_some}
 
+-- ---- lists of them
+
 abbrev pub by_account : List Holder → List (ℕ × Holder)
 by_account hs = map (λ h. (h.account, h)) hs
 
@@ -12,12 +14,15 @@ by_account hs = map (λ h. (h.account, h)) hs
 abbrev pub who : ℕ → List Holder → Option Holder
 who a hs = find nat_cmp a (by_account hs)
 
+-- whether all are of higher accounts
 abbrev pub are_above : ℕ → List Holder → Bool
 are_above a hs = below_all nat_cmp a (by_account hs)
 
+-- whether they are in order
 abbrev pub are_rising : List Holder → Bool
 are_rising hs = is_sorted nat_cmp (by_account hs)
 
+-- all members are above 0
 pub above_zero : (hs : List Holder) → AllByRecursion (λ h. 1 ≤ h.account) hs → are_above 0 hs ≡ true
 above_zero [] h = refl
 above_zero (h ∷ hs) p = grind (arith, nat_tests, above_zero hs p.1)
@@ -55,6 +60,9 @@ total_over f (h ∷ hs) ns s once =
     ∙ total-add (λ a. cond ((h.account == a) && true) (f h) (pos 0)) (λ a. option_map_or f (who a hs) (pos 0)) ns
     ∙ (λ i. given_once h.account true (f h) ns once.0 i +ℤ total_over f hs ns (and_right _ _ s) once.1 i)
 
+-- ---- as rows show them
+
+-- an account's place in an issue
 abbrev pub place : Cusip → Account → Key
 place c a = record { account = a; issue = c }
 

@@ -25,6 +25,8 @@ module _ (old new : AmountsByKey) (key : Key) (a : Amount) (updates : (q : Key) 
   pub found_apart : (k : Key) → k ≢ key → find key_cmp k new ≡ find key_cmp k old
   found_apart k apart = grind (arith, updates k, exact_keys key k)
 
+-- ---- as bookings
+
 -- they are in order, at the same keys
 below_bookings : (k : Key) (es : AmountsByKey) → below_all key_cmp k (by_key (map as_booking es)) ≡ below_all key_cmp k es
 below_bookings k [] = refl
@@ -34,6 +36,7 @@ pub sorted_bookings : (es : AmountsByKey) → is_sorted key_cmp (by_key (map as_
 sorted_bookings [] = refl
 sorted_bookings (e ∷ es) = grind (arith, below_bookings e.0 es, sorted_bookings es)
 
+-- and small
 pub amounts_small : (es : AmountsByKey) → AllByRecursion (λ e. IsSmallAmount e.1) es → AreSmall (map as_booking es)
 amounts_small es h = each_map (λ b. IsSmall b.entry) as_booking es (each_weaker _ _ es (λ e h. grind (arith, h)) h)
 
@@ -47,6 +50,8 @@ pub bookings_make : (es : AmountsByKey) → is_sorted key_cmp es ≡ true → (k
 bookings_make [] s k h = grind arith
 bookings_make (e ∷ es) s k h = grind (arith, +ℤ_idl, +ℤ_comm h.now e.1.shares, +ℤ_comm h.contract e.1.cents, makes_first (as_booking e) (map as_booking es) k h, bookings_make es, same_key e.0 k, (eq_by_cmp_equiv keys_total).symm k e.0, equal, find_below keys_total k es, tied_below keys_total k e.0 es, max-zero)
 
+-- ---- trades
+
 -- what so many trades may book at a key
 pub record IsOfTrades (n : ℕ) (a : Amount) : Type 0 where
   pub shares : unsigned_abs a.shares ≤ shares_limit * n
@@ -58,9 +63,11 @@ pub record IsBooked (all : List Entry) (n : ℕ) (now : AmountsByKey) (left : Li
   pub others : (k : Key) → AreApartFrom k all → AreApartFrom k left × (find key_cmp k now ≡ None)
   pub few : (k : Key) → IsOfTrades n (amount_at now k)
 
+-- before the first
 pub none_booked : (all : List Entry) → IsBooked all 0 [] all
 none_booked all = record { sums = λ k. grind (arith, ints); others = λ k apart. (apart, refl); few = λ k. record { shares = omega arith; cents = omega arith } }
 
+-- a trade is passed over
 pub trade_passed : (all : List Entry) (next : Day) (n : ℕ) (now : AmountsByKey) (p : Pend) (rest : List Pend) → is_due next p ≡ false → IsBooked all n now (due_entries next (p ∷ rest)) → IsBooked all (n + 1) now (due_entries next rest)
 trade_passed all next n now p rest due b = grind (arith, b)
 
@@ -68,6 +75,7 @@ trade_passed all next n now p rest due b = grind (arith, b)
 pub trade_sums : (p : Pend) (k : Key) (a : Amount) → with_amount (with_amount a (amount_for (buyer_entry p) k)) (amount_for (seller_entry p) k) ≡ with_amount a (amount_of (trade_entries p) k)
 trade_sums p k a = simp (+ℤ_assoc, +ℤ_idr)
 
+-- or booked
 pub trade_booked : (all : List Entry) (next : Day) (n : ℕ) (now new : AmountsByKey) (p : Pend) (rest : List Pend) → is_due next p ≡ true → ((k : Key) → amount_at new k ≡ with_amount (amount_at now k) (amount_of (trade_entries p) k)) → ((k : Key) → IsOneTradeMore (amount_at now k) (amount_at new k))
     → ((k : Key) → AreApartFrom k (trade_entries p) → find key_cmp k new ≡ find key_cmp k now) → IsBooked all n now (due_entries next (p ∷ rest)) → IsBooked all (n + 1) new (due_entries next rest)
 trade_booked all next n now new p rest due more bound others b =

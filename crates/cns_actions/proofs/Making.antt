@@ -3,6 +3,8 @@
 use Rattle.cns_actions.proofs.Common.{◌≡◌, ◌≢◌, ap, refl, ℕ, ◌+◌, ◌<◌, max, ℤ, pos, ◌+ℤ◌, Bool, true, false, cond, ◌&&◌, ◌==◌, is_some, List, [], ◌∷◌, length, get_or, drop, arith, is_lt, AreElsewhere, AreEntered, AreSmall, Booking, HaveSpace, Holding, Key, Rows, aged, below_all, booked, by_key, carried_to, cents_for, entered, entries_in, entry_of, greatest, has_row, holding_at, ints, is_sorted, key_cmp, key_of, made, makes, same_issue, same_key, shares_for, total, with_age, All-from_recursion, All-get_or, +ℤ_idr, max-zero, ◌^◌, of_z, to_z, unsigned_abs, w64, to_z-of_z, fits_signed_from_abs, w128, row_at}
 use Rattle.std.proofs.lemmas.List.{drop_more}
 
+-- ---- what bookings make at a key
+
 max_assoc : (a b c : ℕ) → max a (max b c) ≡ max (max a b) c
 max_assoc a b c = omega arith
 

@@ -7,6 +7,8 @@ use lib.Ieee.Bits.{is_true}
 use Rattle.std.specs.FinMap.Entries.{find-where_key, is_sorted-where_key}
 use Rattle.cns_actions.proofs.ByAccount.{are_above, are_rising, found, above_holders, listed_at, listed_rising, place, rising_holders, same_holders, who}
 
+-- ---- tests and keys
+
 -- no more pass a test that implies another
 fewer_pass : {X : Type 0} (t u : X → Bool) (xs : List X) → ((x : X) → t x ≡ true → u x ≡ true) → length (filter t xs) ≤ length (filter u xs)
 fewer_pass t u [] h = omega arith

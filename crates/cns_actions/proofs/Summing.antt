@@ -3,6 +3,7 @@
 use Rattle.cns_actions.proofs.Common.{nat_tests, ◌≡◌, ◌∙◌, ap, subst, refl, ℕ, ◌≤◌, ◌<◌, pos, ◌+ℤ◌, Bool, true, false, not, ◌||◌, unsigned_abs, List, ◌∷◌, arith, int_eq, Action, AllByRecursion, CanBeBooked, Change, Cusip, Holder, IsFew, Rows, and_left, and_right, change_of, has_position, holders_of, ints, is_sorted, issue_of, key_cmp, list_any, member_limit, position_at, position_limit, sum_of, with_position, +ℤ_assoc}
 use Rattle.cns_actions.proofs.ByAccount.{above_zero, are_above, are_rising, each_listed, listed_rising}
 
+-- two changes together
 abbrev pub plus : Change → Change → Change
 plus c d = record { before = c.before +ℤ d.before; after = c.after +ℤ d.after; cents = c.cents +ℤ d.cents }
 
@@ -27,6 +28,7 @@ module _ {x : Action} {t : Holder → Bool} {all : List Holder} {sum : Change} {
   now : AddsUp x t all sum (h ∷ with_position rest)
   now = subst (AddsUp x t all sum) (rw (first, held) refl) was
 
+  -- it is above those before it
   next_above : now.last < h.account
   next_above = grind (arith, nat_tests, now.above)
 
@@ -34,9 +36,11 @@ module _ {x : Action} {t : Holder → Bool} {all : List Holder} {sum : Change} {
   pub next_within : (R : Rows) → CanBeBooked R → (c : Cusip) → unsigned_abs (position_at R h.account c) ≤ position_limit
   next_within R can c = can.members h.account c (omega (arith, next_above))
 
+  -- where it passes the test, one of all does
   pub next_passes : t h ≡ true → list_any t all ≡ true
   next_passes e = grind (arith, now.fits)
 
+  -- else it is added
   pub next_adds : (new d : Change) → h.account ≤ member_limit → d ≡ change_of x h.shares → IsFew 1 d → new ≡ plus sum d → t h ≡ false → AddsUp x t all new (with_position rest)
   next_adds new d most same few is fails =
       let near : IsFew h.account (plus sum d) = record { before = omega (arith, ints, next_above, now.few.before, few.before); after = omega (arith, ints, next_above, now.few.after, few.after); cents = omega (arith, ints, next_above, now.few.cents, few.cents) } in

@@ -25,9 +25,11 @@ use Rattle.cns_book.specs.contracts.parts.Parts.TheInside as of_parts
 use Rattle.cns_book.specs.contracts.book.Book
 use Rattle.cns_book.specs.contracts.book.Book.TheInside as of_book
 
+-- closed days may go to another thread
 days_send : IsSend (ClosedDays.the_row Global.the_row allocates.ghosts (copied.ghosts Global.the_row))
 days_send = search (sendable, crosses, sheet_send, sheet_sync) depth 20
 
+-- and the members' accounts
 members_send : IsSend (Members.the_row Global.the_row allocates.ghosts)
 members_send = search (sendable, crosses) depth 20
 
@@ -35,5 +37,6 @@ members_send = search (sendable, crosses) depth 20
 parts_send : (P : RattleType) (g : positions.Ghosts P.Denot (Global.the_row).Denot) → IsSend P → IsSend (Parts.the_row P Global.the_row g allocates.ghosts (copied.ghosts Global.the_row))
 parts_send P g s = view_send _ _ _ _ _ (declared_send (of_parts.the_type P Global.the_row g allocates.ghosts (copied.ghosts Global.the_row)) (search sendable depth 20, (search (sendable, day.the_send) depth 20, (search (sendable, day.the_send) depth 20, (search sendable depth 20, (members_send, (prices.the_send Global.the_row allocates.ghosts send frees, (trades.the_send Global.the_row allocates.ghosts send frees, (dividends.the_send Global.the_row allocates.ghosts send frees, (search (sendable, s) depth 20, (days_send, (notices.the_send Global.the_row allocates.ghosts send frees, (batches.the_send Global.the_row allocates.ghosts send frees, tt)))))))))))))
 
+-- and a book
 pub book_send : (P : RattleType) (g : positions.Ghosts P.Denot (Global.the_row).Denot) → IsSend P → IsSend (Book.the_row P Global.the_row g allocates.ghosts (copied.ghosts Global.the_row))
 book_send P g s = view_send _ _ _ _ _ (declared_send (of_book.the_type P Global.the_row g allocates.ghosts (copied.ghosts Global.the_row)) (search sendable depth 20, (history.the_send Global.the_row allocates.ghosts (copied.ghosts Global.the_row) send frees, (search sendable depth 20, (parts_send P g s, tt)))))

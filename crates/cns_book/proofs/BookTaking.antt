@@ -8,6 +8,7 @@ use Rattle.std.proofs.lemmas.List.{map-append}
 use Rattle.std.proofs.Math.ListN.{get_or-append}
 use Rattle.cns_book.specs.declared.history.Brief.{Brief}
 
+-- one reply more
 pub longer : (rs : List Reply) (r : Reply) → Stays rs (rs ++ r ∷ [])
 longer rs r [] all = (tt, refl)
 longer rs r (b ∷ bs) all = grind (arith, length-append, unwrap_or-slice_get, get_or-append, longer rs r bs all.1)
@@ -16,13 +17,16 @@ longer rs r (b ∷ bs) all = grind (arith, length-append, unwrap_or-slice_get, g
 pub taken_more : (old new : List Reply) (bs : List Brief) (b : Brief) → Stays old new → AreAmong old bs → map (taken_in new) (bs ++ b ∷ []) ≡ map (taken_in old) bs ++ taken_in new b ∷ []
 taken_more old new bs b stays all = grind (arith, map-append, (stays bs all).1)
 
+-- no more activities than commands
 pub accepted_le : (opening : Day) (H : List Taken) → length (accepted opening H) ≤ length H
 accepted_le opening [] = omega arith
 accepted_le opening (t ∷ H) = grind (arith, accepted_le opening H)
 
+-- a book's accepted activities are few
 pub few_accepted : (limit : ℕ) (H : List Taken) (counts : List ℕ) (parts : Contents) → IsBook limit H counts parts → length (accepted parts.opening H) < history_limit
 few_accepted limit H counts parts b = omega (arith, accepted_le parts.opening H, b.few, b.limited)
 
+-- below its limit a book has room for one command more
 pub has_room : (limit : ℕ) (H : List Taken) (counts : List ℕ) (s : Contents) → IsBook limit H counts s → length H < limit → HasRoom s
 has_room limit H counts s b few = grind (arith, accepted_le)
 
@@ -30,6 +34,7 @@ has_room limit H counts s b few = grind (arith, accepted_le)
 pub book_stays : (limit : ℕ) (H : List Taken) (counts : List ℕ) (s s' : Contents) → IsBook limit H counts s → s'.opening ≡ s.opening → Follows (accepted s.opening H) s' → IsBook limit H counts s'
 book_stays limit H counts s s' b same f = grind (arith, b, f)
 
+-- a command that was taken
 pub book_grows : (limit : ℕ) (H : List Taken) (counts : List ℕ) (s s' : Contents) (w : Worker) (cmd : Command) (r : Reply) → IsBook limit H counts s → length H < limit → 1 ≤ w → w ≤ 64 → length counts ≡ 64 → s'.opening ≡ s.opening → Steps (accepted s.opening H) cmd (Ok r) s'
     → IsBook limit (record { worker = w; seq = get_or counts (w - 1) 0 + 1; command = cmd; reply = r } ∷ H) (set counts (w - 1) (get_or counts (w - 1) 0 + 1)) s'
 book_grows limit H counts s s' w cmd r b few low high len same step = record {

@@ -5,6 +5,7 @@ use Rattle.std.specs.List.Sorted.{IsPartitionedBy}
 use Rattle.std.proofs.lemmas.List.Folds.{find-append}
 use Rattle.std.specs.Option.{option_or}
 
+-- the number of a sheet's day
 abbrev pub number : DaySheet → ℤ
 number s = day_number s.date
 
@@ -18,6 +19,8 @@ falls (s ∷ t ∷ ss) zero (suc zero) e o f p q = f.0
 falls (s ∷ t ∷ ss) zero (suc (suc j)) e o f p q = less_less _ (number t) _ (falls (t ∷ ss) zero (suc j) e t f.1 (omega arith) (omega arith)) f.0
 
 module _ {X Y : Type 0} (f : X → Y) where
+  -- ---- a look from the last back
+
   -- one from the first on, among those from the last back
   mirrored : (xs : List X) (i : ℕ) (e : X) → i < length xs → get_or (reverse (map f xs)) (length xs - 1 - i) (f e) ≡ f (get_or xs i e)
   mirrored xs i e h =
@@ -29,6 +32,7 @@ module _ {X Y : Type 0} (f : X → Y) where
     one_more : (x : X) (xs : List X) → find p (reverse (map f (x ∷ xs))) ≡ option_or (find p (reverse (map f xs))) (cond (p (f x)) (Some (f x)) None)
     one_more x xs = ap (find p) (reverse_onto (map f xs) (f x) []) ∙ find-append p (reverse (map f xs)) (f x ∷ [])
 
+    -- where none passes, none is found
     pub nowhere_back : (xs : List X) → AllWithin (λ x. p (f x) ≡ false) xs 0 (length xs) → None ≡ find p (reverse (map f xs))
     nowhere_back [] h = refl
     nowhere_back (x ∷ xs) h = grind (arith, one_more x xs, nowhere_back xs (λ j e l k. h (suc j) e (omega arith) (omega arith)), h 0 x (omega arith) (omega arith))
@@ -40,6 +44,9 @@ module _ {X Y : Type 0} (f : X → Y) where
     found_back (x ∷ xs) (suc i) e lt h behind = grind (arith, one_more x xs, found_back xs i e (omega arith) h (λ j o l k. behind (suc j) o (omega arith) (omega arith)))
 
 module _ {X : Type 0} (f : X → DaySheet) (d : Day) where
+  -- ---- a search by date
+
+  -- days further on are later
   later : (xs : List X) (i j : ℕ) (e o : X) → AreFalling (reverse (map f xs)) → i < j → j < length xs → int_lt (number (f (get_or xs i e))) (number (f (get_or xs j o))) ≡ true
   later xs i j e o falling p lt =
       rw (← mirrored f xs i e (omega arith), ← mirrored f xs j o lt) (falls (reverse (map f xs)) (length xs - 1 - j) (length xs - 1 - i) (f e) (f o) falling (omega arith) (omega (arith, length-reverse (map f xs), length-map xs f)))
@@ -47,6 +54,7 @@ module _ {X : Type 0} (f : X → DaySheet) (d : Day) where
   abbrev pub compared : X → Ordering
   compared x = int_cmp (number (f x)) (day_number d)
 
+  -- from the oldest on, the comparisons rise
   compared_rise : (xs : List X) → AreFalling (reverse (map f xs)) → IsNonDecreasingBy (λ x. ordering_index (compared x)) xs
   compared_rise xs falling i j e le lt = grind (arith, ints, cases_lt i j, later xs i j e e falling)
 
@@ -72,9 +80,11 @@ module _ {X : Type 0} (f : X → DaySheet) (d : Day) where
   pub sheet_at : (xs : List X) (i : ℕ) (e : X) → AreFalling (reverse (map f xs)) → i < length xs → is_dated d (f (get_or xs i e)) ≡ true → Some (f (get_or xs i e)) ≡ dated_sheet (reverse (map f xs)) d
   sheet_at xs i e falling lt h = found_back f (is_dated d) xs i e lt h (λ j o p q. let less = later xs i j e o falling (omega arith) q in grind (arith, ints))
 
+-- what is found among images is the image of what is found
 find_image : {X Y : Type 0} (f : X → Y) (p : Y → Bool) (xs : List X) → find p (map f xs) ≡ option_map f (find (λ x. p (f x)) xs)
 find_image f p [] = refl
 find_image f p (x ∷ xs) = grind (arith, find_image f p xs)
 
+-- the sheet of the day with a date
 pub sheet_found : (L : List Activity) (s : Contents) (d : Day) → Follows L s → dated_sheet s.sheets d ≡ sheet_on s.opening (journal s.opening L) d
 sheet_found L s d f = rw f.sheets (find_image (day_sheet s.opening) (is_dated d) (closings (journal s.opening L)))

@@ -12,6 +12,7 @@ with_key : (b : Bool) (r : Row) (rs : List Row) (es : List (Key × Row)) → by_
 with_key b r rs es h1 = grind arith
 
 module _ (opening : Day) (K : Journal) where
+  -- the row at each key
   abbrev row_of : Key → Row
   row_of k = row opening K k.account k.issue
 
@@ -32,6 +33,7 @@ module _ (opening : Day) (K : Journal) where
     pub number_found : (k : Key) → IsSound K → option_map_or g (finmap.find key_cmp k (by_key (sheet_rows opening K))) (pos 0) ≡ g (row_of k)
     number_found k s = grind (arith, of_all (accounts K), find_filter keys_total says k (cells row_of (accounts K) (issues K)) (sorted_cells row_of (accounts K) (issues K) s.accounts_rise s.issues_rise), find_cells row_of k (accounts K) (issues K), idle_at opening K k s, idle (row_of k))
 
+  -- the rows are in the order of their keys
   pub shown_rise : IsSound K → is_sorted key_cmp (by_key (sheet_rows opening K)) ≡ true
   shown_rise s = rw (of_all (accounts K)) (sorted_filter keys_total says (cells row_of (accounts K) (issues K)) (sorted_cells row_of (accounts K) (issues K) s.accounts_rise s.issues_rise))
 
@@ -42,6 +44,7 @@ module _ (opening : Day) (K : Journal) where
 -- ---- the members of a sheet
 
 module _ (opening : Day) (K J : Journal) (k_sound : IsSound K) (j_sound : IsSound J) (among : (a : ℕ) → occurs a (accounts K) ≤ occurs a (accounts J)) (d : Declared) where
+  -- the cash at a place
   abbrev at_place : Key → ℤ
   at_place k = cash (position K k.account k.issue) d.rate
 
@@ -94,6 +97,7 @@ module _ (opening : Day) (J : Journal) (sound : IsSound J) where
       let paid : Declared → Account → ℤ = λ d b. cash (position (as_of opening J d.recorded) b c) d.rate in
       grind (arith, total-neg (λ d. total (paid d) (members J)) (due opening J c) ∙ ap neg_ℤ (total-swap paid (due opening J c) (members J)))
 
+  -- what a close pays at a key
   pub dividends_are : (k : Key) → AllByRecursion (λ K. IsSound K × ((a : ℕ) → occurs a (accounts K) ≤ occurs a (accounts J))) (closings J) → dividend_of (payments_by (map (day_sheet opening) (closings J)) (filter (is_due (last_date opening J) (date opening J)) (in_order pays_before (dividends J)))) k ≡ dividend opening J k.account k.issue
   dividends_are k e =
       let ds : List Declared = filter (is_due (last_date opening J) (date opening J)) (in_order pays_before (dividends J)) in

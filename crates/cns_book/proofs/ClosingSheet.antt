@@ -12,6 +12,7 @@ use Rattle.cns_book.proofs.PendingSteps.{chosen_few}
 use Rattle.cns_book.proofs.PartsWithin.{cents_few}
 use Rattle.cns_book.proofs.ClosingPayments.{dividends_are, rows_are_cut, closing_found, shown_rise, number_found}
 
+-- the list of prices is that of the definitions
 prices_are : (J : Journal) (es : Listed) → IsSound J → is_sorted (slice_cmp nat_cmp) es ≡ true → ((c : Cusip) → price_in es c ≡ cond (is_listed J c) (Some (price J c)) None) → listed_above es None ≡ sheet_prices J
 prices_are J es s sorted is =
     same_lists nat_list_cmp_total exact_bytes (listed_above es None) (sheet_prices J) (prices_rise es sorted) (sorted_with (price J) (issues J) s.issues_rise)
@@ -25,15 +26,18 @@ module _ (L : List Activity) (s : Contents) (f : Follows L s) where
   abbrev journal_now : Journal
   journal_now = journal s.opening L
 
+  -- the dividends that a close pays are those that are due
   paid_is_due : paid_now s ≡ payments_by (map (day_sheet s.opening) (closings journal_now)) (filter (is_due (last_date s.opening journal_now) (date s.opening journal_now)) (in_order pays_before (dividends journal_now)))
   paid_is_due = let sheets = f.sheets in let today = f.clock.today in grind (arith, slice_get-map (day_sheet s.opening) (closings journal_now) 0)
 
+  -- the row of each key is that of the definitions
   row_is : (k : Key) → cut_row (prices_of (slice_get s.sheets 0)) s.prices s.rows (paid_now s) k ≡ row s.opening journal_now k.account k.issue
   row_is k =
       let w = (limited s.opening L f.reached).whole in
       let earlier = each_both IsSound (λ K. (a : ℕ) → occurs a (accounts K) ≤ occurs a (accounts journal_now)) (closings journal_now) w.past (accounts_grew journal_now) in
       grind (arith, f.sheets, slice_get-map (day_sheet s.opening) (closings journal_now) 0, f.listings.prices k.issue, price_or_zero journal_now k.issue w.now, sheet_price (last_close journal_now) k.issue (sound_last journal_now w), ap (λ ps. dividend_of ps k) paid_is_due ∙ dividends_are s.opening journal_now w.now k earlier, f.rows k)
 
+  -- rows that are cut are those of the definitions
   pub cut_is : (rows : List Row) → IsCut (prices_of (slice_get s.sheets 0)) s.prices s.rows (paid_now s) rows → rows ≡ sheet_rows s.opening journal_now
   cut_is rows cut = rows_are_cut s.opening journal_now rows (limited s.opening L f.reached).whole.now cut.order (λ k. cut.each k ∙ ap said (row_is k))
 
@@ -59,6 +63,7 @@ same_by_issue f g R rows c order rise alike =
     ∙ total_numbers g (numbers_in c) (by_key rows)
     ∙ total-map (λ (e : Key × Row). cond (same_issue e.0.issue c) (g e.1) (pos 0)) (λ r. (key_of r, r)) rows
 
+-- a sheet can be cut of the positions
 pub can_be_cut : (L : List Activity) (s : Contents) → Follows L s → length L + 1 < history_limit → IsReady (slice_get s.sheets 0) s.prices s.rows (paid_now s)
 can_be_cut L s f room order =
     let J = journal s.opening L in let w = (limited s.opening L f.reached).whole in let l = limited s.opening L f.reached in
@@ -81,6 +86,8 @@ can_be_cut L s f room order =
       });
     }
 
+-- ---- what a close pays can be paid
+
 payable_one : (opening : Day) (d : Declared) (Ks : List Journal) (ps : List Paying) → AllByRecursion (IsLimited opening) Ks → d.rate ≤ rate_limit → AllByRecursion IsPayable ps → AllByRecursion IsPayable (cons_option (option_map (λ s. (d, s.rows)) (sheet_as_of (map (day_sheet opening) Ks) d.recorded)) ps)
 payable_one opening d [] ps l low h = h
 payable_one opening d (K ∷ Ks) ps l low h = grind (arith, payable opening K l.0 d.issue d.rate low, payable_one opening d Ks ps l.1 low h)
@@ -89,8 +96,10 @@ all_payable : (opening : Day) (Ks : List Journal) (ds : List Declared) → AllBy
 all_payable opening Ks [] l r = tt
 all_payable opening Ks (d ∷ ds) l r = payable_one opening d Ks (payments_by (map (day_sheet opening) Ks) ds) l r.0 (all_payable opening Ks ds l r.1)
 
+-- the dividends of a close can be paid
 pub can_be_paid : (L : List Activity) (s : Contents) → Follows L s → length L + 1 < history_limit → CanBePaid (paid_now s)
 can_be_paid L s f room = grind (arith, each_filter, each_in_order, limited, paid_is_due, payable, all_payable, limited_past, chosen_few, due_few, journal_len)
 
+-- the sheet
 pub sheet_is : (L : List Activity) (s : Contents) (sheet : DaySheet) → Follows L s → is_sorted (slice_cmp nat_cmp) s.prices ≡ true → sheet.date ≡ s.today → sheet.prices ≡ listed_above s.prices None → IsCut (prices_of (slice_get s.sheets 0)) s.prices s.rows (paid_now s) sheet.rows → sheet ≡ day_sheet s.opening (journal s.opening L)
 sheet_is L s sheet f order dated listed cut = grind (arith, prices_are, limited, cut_is)

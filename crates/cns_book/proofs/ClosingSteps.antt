@@ -17,9 +17,11 @@ after_last L s f = rw (f.sheets, f.clock.today) (first (closings (journal s.open
     first [] h = tt
     first (K ∷ Ks) h = h.0
 
+-- one close more can be counted
 pub closes_fit : (s : Contents) → HasRoom s → s.closes + 1 < history_limit
 closes_fit s r = grind (arith, closes_le, journal_len)
 
+-- a close that is not refused
 pub day_closed : (L : List Activity) (s : Contents) (d : Day) (trades : Traded) (rows : Rows) (sheet : DaySheet) (chosen : List Liables) → Follows L s → s.closes + 1 < history_limit → refusal s.opening (journal s.opening L) (Command.Activity (Activity.Close d)) ≡ None
     → trades.references ≡ s.trades.references → trades.pending ≡ filter (λ p. not (is_due d p)) s.trades.pending
     → ((k : Key) → holding_at rows k ≡ books (flat_map trade_entries (filter (is_due d) s.trades.pending)) k (rolled (holding_at s.rows k))) → sheet ≡ day_sheet s.opening (journal s.opening L)
@@ -41,6 +43,7 @@ opened_rows (Some b) ps old new made roll book k = book k ∙ made k (rolled (ho
 pub le_test : (a b : ℤ) → is_le (int_cmp a b) ≡ int_le a b
 le_test a b = grind (arith, ints)
 
+-- a close that names a later day is not refused
 pub not_late : (L : List Activity) (s : Contents) (next : Day) → Follows L s → is_le (int_cmp (day_number next) (day_number s.today)) ≡ false → refusal s.opening (journal s.opening L) (Command.Activity (Activity.Close next)) ≡ None
 not_late L s next f late = grind arith
 

@@ -6,6 +6,7 @@ use Rattle.cns_book.proofs.PartsStaying.{rows_booked, in_issue, since_same}
 use Rattle.cns_book.proofs.RetransmittalSteps.{uncalled}
 
 module _ (c : Cusip) (fs : List Fill) where
+  -- one day more
   charged_push : (n : ℕ) (V : List (List Liables)) (bs : List Liables) → charged_on (V ++ bs ∷ []) (suc n) c fs ≡ charged_on V (suc n) c fs ++ cond (length V == n) (charged_in c fs bs) bs ∷ []
   charged_push n [] bs = grind arith
   charged_push n (x ∷ V) bs = grind (arith, charged_push (n - 1) V bs)
@@ -22,6 +23,7 @@ charged_kept c fs [] = refl
 charged_kept c fs (b ∷ bs) = grind (arith, length-map b.members (charged fs), charged_kept c fs bs)
 
 module _ (opening : Day) (J : Journal) (x : Execution) (k : Notice) (is : notice_at J x.notice ≡ Some k) where
+  -- the execution of a notice
   abbrev post : Posting
   post = posting opening J (Activity.Execute x)
 
@@ -32,14 +34,17 @@ module _ (opening : Day) (J : Journal) (x : Execution) (k : Notice) (is : notice
   all_charged : (K : Journal) (ds : List Cusip) → (day K == k.given.day) ≡ true → map (in_issue (batch_since (post ∷ J) K)) ds ≡ map (charged_if k.given.issue (fills J x k)) (map (in_issue (batch_since J K)) ds)
   all_charged K ds today = (λ i. map (λ d. one_charged K d today i) ds) ∙ sym (map-map (charged_if k.given.issue (fills J x k)) (in_issue (batch_since J K)) ds)
 
+  -- the batches of a day
   day_charged : (K : Journal) → batches_since (post ∷ J) K ≡ cond (day K == k.given.day) (charged_in k.given.issue (fills J x k) (batches_since J K)) (batches_since J K)
   day_charged K = grind (arith, is, eqb_sym k.given.day (day K), all_charged K (issues K), charged_kept k.given.issue (fills J x k) (map (in_issue (batch_since J K)) (issues K)), since_same post J K)
 
+  -- the batches of all closed days
   pub batches_charged : kept_batches (post ∷ J) ≡ charged_on (kept_batches J) k.given.day k.given.issue (fills J x k)
   batches_charged = days_charged k.given.issue (fills J x k) (batches_since (post ∷ J)) (batches_since J) k.given.day day_charged J
 
 -- ---- the closings, the first day's first
 
+-- one item more
 get_last : {X : Type 0} (xs : List X) (y : X) (n : ℕ) → slice_get (xs ++ y ∷ []) n ≡ cond (length xs + 1 == suc n) (Some y) (slice_get xs n)
 get_last [] y n = grind arith
 get_last (x ∷ xs) y n = grind (arith, get_last xs y (n - 1))
@@ -49,10 +54,12 @@ closing_at : (J : Journal) (n : ℕ) → slice_get (reverse (closings J)) n ≡ 
 closing_at [] n = refl
 closing_at (p ∷ J) n = grind (arith, reverse-append (J ∷ []) (closings J), get_last (reverse (closings J)) J n, length-reverse (closings J), closing_at J n)
 
+-- no day has the number 0
 no_day_zero : (Ks : List Journal) → find (λ K. day K == 0) Ks ≡ None
 no_day_zero [] = refl
 no_day_zero (K ∷ Ks) = grind (arith, no_day_zero Ks)
 
+-- the batches of a day
 pub on_day : (J : Journal) (n : ℕ) → batches_on (kept_batches J) n ≡ batches J n
 on_day J zero = ap (λ o. batches_since J (unwrap_or o [])) (sym (no_day_zero (closings J)))
 on_day J (suc n) = grind (arith, slice_get-map (batches_since J) (reverse (closings J)) n, closing_at J n)
@@ -74,18 +81,23 @@ members_in g (d ∷ cs) c = one_more d c (g d) (g c) _ _ (λ e. ap g ((bytes_eq-
 pub sound_at : (opening : Day) (L : List Activity) (n : ℕ) → Rattle.cns_terms.specs.Reached.IsReached opening L → IsSound (at_close (journal opening L) n)
 sound_at opening L n r = each_found IsSound (λ K. day K == n) [] (closings (journal opening L)) (limited opening [] tt).whole.now (limited opening L r).whole.past
 
+-- the members of the batch of a day in an issue
 pub batch_members : (L : List Activity) (s : Contents) (n : ℕ) (c : Cusip) → Follows L s → members_of (batch_on s.batches n c) ≡ batch (journal s.opening L) n c
 batch_members L s n c f =
     let K = at_close (journal s.opening L) n in
     rw (f.batches, on_day (journal s.opening L) n) (grind (arith, members_in (batch_since (journal s.opening L) K) (issues K) c, uncalled K c (sound_at s.opening L n f.reached), none_called (shorts K c)))
 
+-- how much each member is short
 pub shorts_now : (L : List Activity) (s : Contents) (c : Cusip) (a : Member) → Follows L s → ((k : Key) → unsigned_abs (holding_at s.rows k).now ≤ corporation_limit) → capped_short s.rows c a ≡ short (position (journal s.opening L) a c)
 shorts_now L s c a f within = grind (arith, within (record { account = a; issue = c }), f.rows (record { account = a; issue = c }))
+
+-- ---- what an execution is refused for
 
 -- of a notice that is there
 abbrev pub verdict : Bool → Bool → Bool → Bool → ℕ → Option Refusal
 verdict live exceeds early over n = cond live (cond exceeds (Some ExceedsPosition) (cond early (Some TooEarly) (cond over (Some (NotLiable n)) None))) (Some NotLive)
 
+-- no position is beyond its limit
 abbrev pub AreShort : Contents → Type 0
 AreShort s = (k : Key) → unsigned_abs (holding_at s.rows k).now ≤ corporation_limit
 
@@ -96,6 +108,7 @@ room_by s g = room_of (capped_short s.rows g.issue) (members_of (batch_on s.batc
 pub room_same : (L : List Activity) (s : Contents) (k : Notice) → Follows L s → AreShort s → room_by s k.given ≡ room (journal s.opening L) k
 room_same L s k f within i = room_of (λ a. shorts_now L s k.given.issue a f within i) (batch_members L s k.given.day k.given.issue f i)
 
+-- and its fills are those of the definitions
 pub fills_same : (L : List Activity) (s : Contents) (x : Execution) (k : Notice) → Follows L s → AreShort s → fills_of (capped_short s.rows k.given.issue) x.shares x.money (members_of (batch_on s.batches k.given.day k.given.issue)) ≡ fills (journal s.opening L) x k
 fills_same L s x k f within i = fills_of (λ a. shorts_now L s k.given.issue a f within i) x.shares x.money (batch_members L s k.given.day k.given.issue f i)
 
@@ -104,6 +117,7 @@ pub execute_refusal : (L : List Activity) (s : Contents) (x : Execution) (t : St
     → refusal s.opening (journal s.opening L) (Command.Activity (Activity.Execute x)) ≡ verdict (is_live t) (nat_lt r x.shares) (nat_lt (s.closes + 1) (g.day + 2)) (nat_lt (room_by s g) x.shares) (room_by s g)
 execute_refusal L s x t g r there stage given remains f within = grind (arith, f.notices, kept_found (journal s.opening L) x.notice there.0, remaining_same L s f, room_same L s, f.clock.closes)
 
+-- a notice that isn't live
 pub execute_not_live : (L : List Activity) (s : Contents) (x : Execution) (t : Stage) → (1 ≤ x.notice) × (x.notice ≤ length s.notices) → Some t ≡ option_map (λ y. y.stage) (kept_at s.notices x.notice) → is_live t ≡ false → Follows L s → refusal s.opening (journal s.opening L) (Command.Activity (Activity.Execute x)) ≡ Some NotLive
 execute_not_live L s x t there stage dead f = grind (arith, f.notices, kept_found (journal s.opening L) x.notice there.0)
 

@@ -29,6 +29,8 @@ each_few : (h : Fill → ℕ) (fs : List Fill) (n : ℕ) → sum_by h fs ≤ n �
 each_few h [] n le = tt
 each_few h (f ∷ fs) n le = grind (arith, sum_by-cons h f fs, each_few h fs n)
 
+-- ---- all fills can be booked
+
 pub can_execute : (L : List Activity) (s : Contents) (x : Execution) (k : Notice) → Follows L s → ((key : Key) → IsWithin (holding_at s.rows key)) → IsInRange (Activity.Execute x) → IsExecutable (journal s.opening L) x k → CanBeExecuted s.rows k.given (fills (journal s.opening L) x k)
 can_execute L s x k f within range can =
     let J = journal s.opening L in let now : Member → ℕ = λ a. short (position J a k.given.issue) in
@@ -55,9 +57,11 @@ of_notice L s x g f a = elim (notice_at (journal s.opening L) x.notice) as (λ o
   | None ↦ λ e. grind (arith, f.notices, kept_found (journal s.opening L) x.notice a.named.0, a.there)
 ] refl
 
+-- its batch has room for it
 pub accepted_room : (s : Contents) (x : Execution) (g : Given) (b : Liables) → HasRoom s → IsAccepted s x g → batch_on s.batches g.day g.issue ≡ Some b → x.shares ≤ room_of (capped_short s.rows g.issue) b.members
 accepted_room s x g b r a e = let n = of_notice r.activities s x g r.follows a in grind (arith, room_same r.activities s n.0 r.follows (rows_within s r).shares)
 
+-- what it fills is what the definitions say
 pub accepted_fills : (L : List Activity) (s : Contents) (x : Execution) (g : Given) (b : Liables) → Follows L s → AreShort s → IsAccepted s x g → batch_on s.batches g.day g.issue ≡ Some b → fills_of (capped_short s.rows g.issue) x.shares x.money b.members ≡ fills_by (journal s.opening L) x
 accepted_fills L s x g b f within a e =
     let n = of_notice L s x g f a in
@@ -66,6 +70,7 @@ accepted_fills L s x g b f within a e =
     ∙ fills_same L s x n.0 f within
     ∙ sym (ap (λ o. option_map_or (fills (journal s.opening L) x) o []) n.1.found)
 
+-- and can be booked
 pub accepted_can : (s : Contents) (x : Execution) (g : Given) (b : Liables) (fs : List Fill) → HasRoom s → IsAccepted s x g → batch_on s.batches g.day g.issue ≡ Some b → fs ≡ fills_of (capped_short s.rows g.issue) x.shares x.money b.members → CanBeExecuted s.rows g fs
 accepted_can s x g b fs r a e is =
     let n = of_notice r.activities s x g r.follows a in

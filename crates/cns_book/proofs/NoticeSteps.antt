@@ -6,9 +6,11 @@ use Rattle.cns_book.proofs.RetransmittalCalls.{remaining_same}
 use Rattle.cns_book.proofs.EffectEntries.{books_none}
 use Rattle.cns_book.proofs.TradingSteps.{booked_by}
 
+-- the notices after a receipt
 pub receipt_counted : {s : Contents} (L : List Activity) (m : Movement) → Follows L s → FollowsNotices (journal s.opening (Activity.Receive m ∷ L)) (record s { notices = map (receives m.member m.issue m.shares) s.notices })
 receipt_counted {s} L m f = grind (arith, changed_each, received_by)
 
+-- the notices after one more
 pub notice_given : (L : List Activity) (s : Contents) (m : Movement) → Follows L s → IsInRange (Activity.Notice m) → refusal s.opening (journal s.opening L) (Command.Activity (Activity.Notice m)) ≡ None
     → Follows (Activity.Notice m ∷ L) (record s { notices = s.notices ++ new_notice (record { member = m.member; issue = m.issue; shares = m.shares; day = s.closes + 1 }) ∷ [] })
 notice_given L s m f range none =
@@ -28,13 +30,16 @@ none_zero : (ns : List Notice) (j : ℕ) → AreNumberedFrom (suc j) ns → find
 none_zero [] j h = refl
 none_zero (n ∷ ns) j h = grind (arith, none_zero ns (suc j) h.1)
 
+-- where none has the number, none is found
 pub notice_missing : (L : List Activity) (s : Contents) (k : ℕ) → Follows L s → ((1 ≤ k) × (k ≤ length s.notices) → ⊥) → notice_at (journal s.opening L) k ≡ None
 notice_missing L s zero f never = none_zero (notices (journal s.opening L)) 0 (numbered (journal s.opening L))
 notice_missing L s (suc k) f never = notice_found (journal s.opening L) (suc k) (omega arith) ∙ slice_get_past (notices (journal s.opening L)) (suc k - 1) (grind (arith, f.notices, length-map))
 
+-- by its stage
 pub withdraw_by_stage : (L : List Activity) (s : Contents) (k : ℕ) (st : Stage) → Follows L s → 1 ≤ k → Some st ≡ option_map (λ (x : Noticed). x.stage) (kept_at s.notices k) → refusal s.opening (journal s.opening L) (Command.Activity (Activity.Withdraw k)) ≡ cond (is_live st) None (Some NotLive)
 withdraw_by_stage L s k st f le is = let kept = f.notices in grind (arith, kept_found, kept)
 
+-- the notices after a withdrawal
 pub notice_withdrawn : (L : List Activity) (s : Contents) (k : ℕ) → Follows L s → refusal s.opening (journal s.opening L) (Command.Activity (Activity.Withdraw k)) ≡ None → 1 ≤ k → Some Live ≡ option_map (λ (x : Noticed). x.stage) (kept_at s.notices k)
     → Follows (Activity.Withdraw k ∷ L) (record s { notices = with_notice (at_stage Withdrawn) k s.notices })
 notice_withdrawn L s k f none le live =

@@ -4,6 +4,7 @@ use Rattle.cns_book.proofs.Common.{◌≡◌, ap, false, List, [], ◌∷◌, So
 use Rattle.cns_terms.specs.declared.fault.NoMemory.{NoMemory}
 use Rattle.cns_book.proofs.EffectEntries.{holding-post}
 
+-- a batch in an issue
 abbrev pub in_issue : (Cusip → List Liable) → Cusip → Liables
 in_issue f c = record { issue = c; members = f c }
 
@@ -19,9 +20,11 @@ batches_same p J Ks h i = map (λ K. since_same p J K (h (day K)) i) Ks
 pub batches_more : (opening : Day) (J : Journal) (d : Day) → kept_batches (posting opening J (Activity.Close d) ∷ J) ≡ kept_batches J ++ batches_since J J ∷ []
 batches_more opening J d = grind (arith, reverse-append (J ∷ []) (closings J), map-append, batches_same (posting opening J (Activity.Close d)) J (reverse (closings J)) (λ n c. refl), since_same (posting opening J (Activity.Close d)) J J (λ c. refl))
 
+-- an accepted activity
 pub accepted : {s : Contents} (L : List Activity) (x : Activity) (r : Reply) → refusal s.opening (journal s.opening L) (Command.Activity x) ≡ None → r ≡ activity_reply s.opening (journal s.opening L) x → Follows (x ∷ L) s → Steps L (Command.Activity x) (Ok r) s
 accepted {s} L x r none same f = grind arith
 
+-- a refused one
 pub refused : {s : Contents} (L : List Activity) (x : Activity) (r : Refusal) → refusal s.opening (journal s.opening L) (Command.Activity x) ≡ Some r → Follows L s → Steps L (Command.Activity x) (Ok (Reply.Refused r)) s
 refused {s} L x r some f = grind arith
 
@@ -60,8 +63,10 @@ module _ (s : Contents) (J : Journal) where
   pub rows_stay : (x : Activity) → is_close x ≡ false → is_noticing x ≡ false → entries s.opening J x ≡ [] → FollowsRows J s → FollowsRows (after x) s
   rows_stay x still unnoticed nothing f k = grind arith
 
+  -- an activity that touches no notice leaves them
   pub notices_stay : (x : Activity) → is_noticing x ≡ false → FollowsNotices J s → FollowsNotices (after x) s
   notices_stay x h1 h2 = grind arith
 
+  -- one that executes none leaves the batches
   pub batches_stay : (x : Activity) → is_close x ≡ false → is_some (executed x) ≡ false → FollowsBatches J s → FollowsBatches (after x) s
   batches_stay x still unexecuted f = grind (arith, batches_same)

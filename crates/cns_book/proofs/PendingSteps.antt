@@ -20,6 +20,7 @@ pub still_later : (today next : Day) (ps : List Pend) → is_not_after next toda
 still_later today next [] h = refl
 still_later today next (p ∷ ps) h = grind (arith, ints, still_later today next ps h)
 
+-- where none is due nothing is kept
 pub none_kept : {X : Type 0} (t : X → Bool) (xs : List X) → list_any t xs ≡ false → filter t xs ≡ []
 none_kept t [] h = refl
 none_kept t (x ∷ xs) h = grind (arith, neither, none_kept t xs)
@@ -28,9 +29,11 @@ pub chosen_few : {X Y : Type 0} (f : X → Option Y) (xs : List X) → length (f
 chosen_few f [] = omega arith
 chosen_few f (x ∷ xs) = grind (arith, chosen_few f xs)
 
+-- no more trades wait than there are activities
 pub pending_few : (s : Contents) (L : List Activity) → Follows L s → length s.trades.pending ≤ length L
 pending_few s L f = grind (arith, length-reverse, filter_len, length-map, chosen_few, journal_len)
 
+-- no more closes than postings
 pub closes_le : (J : Journal) → closes J ≤ length J
 closes_le [] = omega arith
 closes_le (p ∷ J) = grind (arith, closes_le J)

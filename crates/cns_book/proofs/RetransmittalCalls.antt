@@ -19,10 +19,12 @@ none_earlier s room k c le other =
     let rise : IsNonDecreasingBy (λ x. x.given.day) s.notices = rw room.follows.notices (days_rise J J) in
     omega (arith, sum_by-le (call_of s.rows (s.closes + 1) c) 0 (take k s.notices) (λ i d lt. grind (arith, nat_tests, length-take k s.notices, get_or-take k s.notices i d, slice_get-get_or s.notices (k - 1) d, other (omega (arith, lt, length-take k s.notices)) (get_or s.notices (k - 1) d), last_day s room k (get_or s.notices (k - 1) d), rise i (k - 1) d)))
 
+-- one notice more
 called_more : (s : Contents) (n : ℕ) (g : Given) (m : ℕ) (c : Cusip) → 1 ≤ n → n ≤ length s.notices → Some g ≡ option_map (λ (x : Noticed). x.given) (kept_at s.notices n) → Some m ≡ option_map (remaining_by s.rows) (kept_at s.notices n)
     → called_by s.rows (s.closes + 1) c (take n s.notices) ≡ called_by s.rows (s.closes + 1) c (take (n - 1) s.notices) + cond ((g.day == s.closes + 1) && same_issue g.issue c) m 0
 called_more s n g m c some le given remains = grind (arith, sum_by_more (call_of s.rows (s.closes + 1) c) s.notices (n - 1) (new_notice g), slice_get-get_or s.notices (n - 1) (new_notice g))
 
+-- what remains of a kept notice
 pub remaining_same : (L : List Activity) (s : Contents) → Follows L s → (n : Notice) → remaining_by s.rows (kept (journal s.opening L) n) ≡ remaining (journal s.opening L) n
 remaining_same L s f n = grind (arith, live_received (journal s.opening L) n, f.rows (record { account = n.given.member; issue = n.given.issue }))
 
@@ -30,6 +32,7 @@ called_each : (L : List Activity) (s : Contents) → Follows L s → (c : Cusip)
 called_each L s f c [] = refl
 called_each L s f c (n ∷ ns) = grind (arith, remaining_same L s f n, sum_by-cons (call_of s.rows (day (journal s.opening L)) c) (kept (journal s.opening L) n) (map (kept (journal s.opening L)) ns), sum_by-cons (remaining (journal s.opening L)) n (filter (λ n. (n.given.day == day (journal s.opening L)) && same_issue n.given.issue c) ns), called_each L s f c ns)
 
+-- what all of them call for
 pub called_is : (L : List Activity) (s : Contents) → Follows L s → (c : Cusip) → called_by s.rows (s.closes + 1) c s.notices ≡ called (journal s.opening L) c
 called_is L s f c = (λ i. called_by s.rows (f.clock.closes i + 1) c (f.notices i)) ∙ called_each L s f c (notices (journal s.opening L))
 

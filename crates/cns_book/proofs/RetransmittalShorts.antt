@@ -50,6 +50,7 @@ with_rows age c rs o = option_map (with_shorts (filter_map (short_in age c) rs))
 pub row_passed : (age : Account → Cusip → ℕ) (c : Cusip) (r : Row) (all rs : List Row) (now first : Option CalledIn) → all ≡ r ∷ rs → with_rows age c all now ≡ first → (is_short_in c r ≡ true → now ≡ None) → with_rows age c rs now ≡ first
 row_passed age c r all rs now first h1 h2 h3 = grind arith
 
+-- one that is given
 pub row_given : (age : Account → Cusip → ℕ) (c : Cusip) (r : Row) (all rs : List Row) (s : Short) (now after first : Option CalledIn) → all ≡ r ∷ rs → with_rows age c all now ≡ first → nat_lt 0 r.account ≡ true → int_lt r.closing (pos 0) ≡ true → s ≡ short_at age r
     → after ≡ cond (same_issue r.issue c) (option_map (with_short s) now) now → with_rows age c rs after ≡ first
 row_given age c r all rs s now after first h1 h2 h3 h4 h5 h6 = grind (arith, append_assoc)
@@ -71,14 +72,17 @@ ages_fit s room k h is =
     let J = journal s.opening room.activities in
     omega (arith, ap oldest_of (is room.activities room.follows), oldest_le J k.account k.issue, closes_le J, journal_len s.opening room.activities, room.few)
 
+-- the ages that stand are those of the definitions
 pub ages_are : (L : List Activity) (s : Contents) → Follows L s → oldest_at s.rows ≡ oldest (journal s.opening L)
 ages_are L s f i a c = oldest_of (f.rows (record { account = a; issue = c }) i)
 
 module _ (J : Journal) (c : Cusip) where
+  -- no member is short twice
   pub shorts_once : (a : ℕ) (ms : List Member) → shorts_of a (filter (λ s. nat_lt 0 s.shares) (map (short_of J c) ms)) ≤ occurs a ms
   shorts_once a [] = omega arith
   shorts_once a (m ∷ ms) = grind (arith, nat_tests, sum_by-cons (λ (s : Short). cond (s.member == a) 1 0) (short_of J c m) (filter (λ s. nat_lt 0 s.shares) (map (short_of J c) ms)), eqb_sym m a, shorts_once a ms)
 
+  -- nor for more than a member may be
   pub few : ((a : Account) → 1 ≤ a → unsigned_abs (position J a c) ≤ position_limit) → (ms : List Member) → AllByRecursion (λ a. 1 ≤ a) ms → sum_by (λ s. s.shares) (filter (λ s. nat_lt 0 s.shares) (map (short_of J c) ms)) ≤ position_limit * length ms
   few w [] h = omega arith
   few w (m ∷ ms) h = grind (arith, w m h.0, sum_by-cons (λ (s : Short). s.shares) (short_of J c m) (filter (λ s. nat_lt 0 s.shares) (map (short_of J c) ms)), few w ms h.1)
@@ -88,6 +92,7 @@ closings_are : (opening : Day) (J : Journal) (bs : List Account) → AllByRecurs
 closings_are opening J [] = tt
 closings_are opening J (b ∷ bs) = grind (arith, each_append, each_filter (λ (r : Row). r.closing ≡ position J r.account r.issue) (λ r. not (is_idle r)) (map (row opening J b) (issues J)) (each_map (λ (r : Row). r.closing ≡ position J r.account r.issue) (row opening J b) (issues J) (recursion_from_All (λ c. position J b c ≡ position J b c) (issues J) (λ i d lt. refl))), closings_are opening J bs)
 
+-- which is within its limits
 pub closings_few : (s : Contents) (room : HasRoom s) (rs : List Row) → rs ≡ sheet_rows s.opening (journal s.opening room.activities) → AllByRecursion (λ r. unsigned_abs r.closing ≤ corporation_limit) rs
 closings_few s room rs is =
     rw is (each_weaker (λ (r : Row). r.closing ≡ position (journal s.opening room.activities) r.account r.issue) (λ r. unsigned_abs r.closing ≤ corporation_limit) (sheet_rows s.opening (journal s.opening room.activities))

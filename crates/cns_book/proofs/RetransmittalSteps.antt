@@ -6,9 +6,11 @@ use Rattle.cns_book.proofs.PartsStaying.{in_issue}
 use Rattle.cns_book.proofs.RetransmittalCalls.{called_is}
 use Rattle.std.specs.FinMap.{find}
 
+-- whether anybody is liable
 abbrev has_members : Liables → Bool
 has_members b = nat_lt 0 (length b.members)
 
+-- each issue with its batch
 abbrev with_batches : List (Cusip × CalledIn) → List (Cusip × Liables)
 with_batches es = map (λ e. (e.0, batch_of e)) es
 
@@ -20,10 +22,12 @@ sorted_batches : (es : List (Cusip × CalledIn)) → is_sorted (slice_cmp nat_cm
 sorted_batches [] h = refl
 sorted_batches (e ∷ es) h = grind (arith, below_batches e.0 es, sorted_batches es)
 
+-- the batch of an issue
 find_batch : (c : Cusip) (es : List (Cusip × CalledIn)) → find (slice_cmp nat_cmp) c (with_batches es) ≡ option_map (λ x. batch_of (c, x)) (called_in es c)
 find_batch c [] = refl
 find_batch c (e ∷ es) = grind (arith, bytes_eq-Decides, same_test, find_batch c es)
 
+-- the values of a filtered list
 filtered_values : (es : List (Cusip × Liables)) → map (λ e. e.1) (filter (λ e. has_members e.1) es) ≡ filter has_members (map (λ e. e.1) es)
 filtered_values [] = refl
 filtered_values (e ∷ es) = grind (arith, filtered_values es)
@@ -41,6 +45,7 @@ batches_same g cs es rising sorted h =
     ∙ ap (map (λ e. e.1)) lists
     ∙ filtered_values ys ∙ ap (filter has_members) (map-map (λ e. e.1) (λ c. (c, p c)) cs)
 
+-- in an issue that is not listed nothing is called
 nothing : (J : Journal) (c : Cusip) (ns : List Notice) → is_listed J c ≡ false → AllByRecursion (IsNoticed J) ns → filter (λ n. (n.given.day == day J) && same_issue n.given.issue c) ns ≡ []
 nothing J c [] none h = refl
 nothing J c (n ∷ ns) none h = grind (arith, bytes_eq-Decides, h.0.1, nothing J c ns none h.1)
@@ -61,12 +66,14 @@ module _ (L : List Activity) (s : Contents) (f : Follows L s) (rs : List Row) (s
       let all = (λ i. filter_map (short_in (ages_are L s f i) c) (sheet i)) ∙ shorts_off_sheet s.opening now c l.whole.now (members_from_one s.opening now l) listed in
       grind (arith, given c, none c, totals c, called_is L s f c)
 
+  -- the shorts of each issue can be chosen from
   pub can_choose : (c : Cusip) → ForSome (called_in es c) CanBeChosen
   can_choose c y is = elim (called_in before c) as (λ o. called_in before c ≡ o → CanBeChosen y) [
     | None ↦ λ none. let is' = given c in absurd (cc)
     | Some x ↦ λ some. let l = limited s.opening L f.reached in subst CanBeChosen (same_Some _ _ (sym (in_listed c x some).1 ∙ is)) (record { distinct = λ a. omega (arith, shorts_once now c a (members now), l.whole.now.distinct a); fits = omega (arith, few now c (λ a m. near _ _ _ (l.within a c m)) (members now) (members_from_one s.opening now l), members_few s.opening now l) })
   ] refl
 
+  -- the batches that are chosen are those of the definitions
   pub chosen_same : is_sorted (slice_cmp nat_cmp) es ≡ true → batches_of es ≡ batches_since now now
   chosen_same sorted =
       let l = limited s.opening L f.reached in
@@ -78,9 +85,11 @@ pub sum_of : (g : Cusip → List Liable) (cs : List Cusip) → sum_by (λ b. len
 sum_of g [] = refl
 sum_of g (c ∷ cs) = grind (arith, nat_tests, sum_by-cons (λ (b : Liables). length b.members) (in_issue g c) (filter (λ b. nat_lt 0 (length b.members)) (map (in_issue g) cs)), length-append, sum_of g cs)
 
+-- the members that are liable by a close
 pub liable_counted : (opening : Day) (L : List Activity) (bs : List Liables) → IsReached opening L → bs ≡ batches_since (journal opening L) (journal opening L) → sum_by (λ b. length b.members) bs ≡ length (liable_at (journal opening L))
 liable_counted opening L bs r is = rw is (sum_of (batch_since (journal opening L) (journal opening L)) (issues (journal opening L)) ∙ (λ i. length (flat_map (λ c. batch_new (journal opening L) (journal opening L) c (λ a. unfilled opening L (day (journal opening L)) c a r (omega arith)) i) (issues (journal opening L)))))
 
+-- no batch has more members than there are
 batch_few : (J : Journal) (c : Cusip) → length (batch_at J c) ≤ length (members J)
 batch_few J c = grind (arith, length-map, filter_len, same_order length (λ s n. suc n) (λ s ss. refl) (λ s t n. refl) fills_before (shorts J c))
 
@@ -88,6 +97,7 @@ batches_few : (J : Journal) (cs : List Cusip) → length (flat_map (batch_at J) 
 batches_few J [] = omega arith
 batches_few J (c ∷ cs) = omega (arith, length-append (batch_at J c) (flat_map (batch_at J) cs), batch_few J c, batches_few J cs)
 
+-- they can be counted
 pub liable_few : (opening : Day) (L : List Activity) → IsReached opening L → length L + 1 < history_limit → length (liable_at (journal opening L)) < 2 ^ 64
 liable_few opening L r few = grind (arith, limited opening L r, batches_few (journal opening L) (issues (journal opening L)), mul-le-mul_right (length (issues (journal opening L))) (members_few opening (journal opening L) (limited opening L r)), issues_few, journal_len)
 

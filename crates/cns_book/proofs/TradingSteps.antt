@@ -9,6 +9,7 @@ use Rattle.cns_book.proofs.PendingSteps.{bought-reverse, sold-reverse}
 use Rattle.cns_book.proofs.PartsStaying.{batches_stay, is_listing, is_noticing, notices_stay, rows_booked}
 use Rattle.cns_trades.specs.declared.facts.MoveFacts.{MoveFacts}
 
+-- what an answer says of the refusal
 pub answer_err : {X : Type 0} (o : Option Refusal) (es : X) (r : Refusal) → Err r ≡ option_map_or Err o (Ok es) → o ≡ Some r
 answer_err o es r h1 = grind arith
 
@@ -21,6 +22,7 @@ module _ (before : Account → Cusip → ℤ) (ps : List Pend) (p : Pend) (b : 1
   large_if true = grind (arith, ints, nat_tests, eqb_sym p.seller p.buyer, eqb_refl, bytes_refl, or_false)
   large_if false = grind (arith, nat_tests, zero_add, bytes_refl, eqb_refl, eqb_sym p.seller p.buyer, or_false, sum_by-cons (bought_by p.buyer p.issue) p ps, sum_by-cons (bought_by p.seller p.issue) p ps, sum_by-cons (sold_by p.buyer p.issue) p ps, sum_by-cons (sold_by p.seller p.issue) p ps)
 
+-- what a trade is refused for, over the facts and the trades that wait
 pub trade_refusal : (L : List Activity) (opening : Day) (t : Trade) (facts : TradeFacts) (seen : Bool) (ps : List Pend) → AreTradeFacts opening (journal opening L) t facts → seen ≡ is_seen (journal opening L) t.reference → ps ≡ reverse (pending opening (journal opening L))
     → refusal opening (journal opening L) (Command.Activity (Activity.Trade t)) ≡ first_refusal (trade_rules facts ps seen t)
 trade_refusal L opening t facts seen ps a e w =
@@ -32,6 +34,7 @@ trade_refusal L opening t facts seen ps a e w =
 pub same_rows : (L : List Activity) (s : Contents) (new : Rows) → Follows L s → ((k : Key) → holding_at new k ≡ holding_at s.rows k) → Follows L (record s { rows = new })
 same_rows L s new f h = grind (arith, f)
 
+-- an activity that touches no notice leaves them
 pub notices_kept : {s : Contents} (L : List Activity) (x : Activity) → is_noticing x ≡ false → Follows L s → FollowsNotices (journal s.opening (x ∷ L)) s
 notices_kept {s} L x unnoticed f = notices_stay s (journal s.opening L) x unnoticed f.notices
 
@@ -58,6 +61,7 @@ pub trade_later : (L : List Activity) (s : Contents) (t : Trade) (facts : TradeF
     → (refusal s.opening (journal s.opening L) (Command.Activity (Activity.Trade t)) ≡ None) × (is_not_after t.date (date s.opening (journal s.opening L)) ≡ false)
 trade_later L s t facts f are answered = grind (arith, are.today, trade_refusal L s.opening t facts (is_used s.trades.references t.reference) s.trades.pending are (f.references t.reference) f.pending)
 
+-- a trade that books now
 pub trade_booked : (L : List Activity) (s : Contents) (t : Trade) (trades : Traded) (rows : Rows) → Follows L s → IsInRange (Activity.Trade t) → refusal s.opening (journal s.opening L) (Command.Activity (Activity.Trade t)) ≡ None
     → is_not_after t.date (date s.opening (journal s.opening L)) ≡ true → ((r : ℕ) → is_used trades.references r ≡ (eqb t.reference r || is_used s.trades.references r)) → trades.pending ≡ s.trades.pending
     → ((k : Key) → holding_at rows k ≡ books (trade_entries (pend_of t)) k (holding_at s.rows k)) → Follows (Activity.Trade t ∷ L) (record s { trades = trades; rows = rows })
@@ -65,17 +69,22 @@ trade_booked L s t trades rows f range none now used waits b =
     booked_by L s (Activity.Trade t) trades s.notices rows f range none refl refl refl refl (λ r. grind (arith, used r, f.references r)) (grind (arith, f.pending))
     (notices_kept L (Activity.Trade t) refl f) (λ k. grind (arith, b k))
 
+-- one that is to wait
 pub trade_waits : (L : List Activity) (s : Contents) (t : Trade) (trades : Traded) → Follows L s → IsInRange (Activity.Trade t) → refusal s.opening (journal s.opening L) (Command.Activity (Activity.Trade t)) ≡ None
     → is_not_after t.date (date s.opening (journal s.opening L)) ≡ false → ((r : ℕ) → is_used trades.references r ≡ (eqb t.reference r || is_used s.trades.references r)) → trades.pending ≡ s.trades.pending ++ pend_of t ∷ []
     → Follows (Activity.Trade t ∷ L) (record s { trades = trades })
 trade_waits L s t trades f range none later used waits =
     booked_by L s (Activity.Trade t) trades s.notices s.rows f range none refl refl refl refl (λ r. grind (arith, used r, f.references r)) (grind (arith, f.pending, reverse_onto (pending s.opening (journal s.opening L)) (pend_of t) [])) (notices_kept L (Activity.Trade t) refl f) (λ k. grind (arith, later, books_none k (holding_at s.rows k)))
 
+-- ---- a receipt
+
 pub receipt_there : (L : List Activity) (s : Contents) (m : Movement) → Follows L s → 1 ≤ m.shares → refusal s.opening (journal s.opening L) (Command.Activity (Activity.Receive m)) ≡ None → AreThere s.rows (moved_out m.member m ∷ moved_in corporation m ∷ [])
 receipt_there L s m f least none = grind arith
 
+-- what a delivery is refused for, over the facts
 pub delivery_refusal : (L : List Activity) (opening : Day) (m : Movement) (facts : MoveFacts) → AreMoveFacts (journal opening L) m facts → refusal opening (journal opening L) (Command.Activity (Activity.Deliver m)) ≡ first_refusal (delivery_rules facts m)
 delivery_refusal L opening m facts a = let member = a.member in let listed = a.listed in let retired = a.retired in grind arith
 
+-- what a receipt is refused for, over the facts
 pub receipt_refusal : (L : List Activity) (opening : Day) (m : Movement) (facts : MoveFacts) → AreMoveFacts (journal opening L) m facts → refusal opening (journal opening L) (Command.Activity (Activity.Receive m)) ≡ first_refusal (receipt_rules facts m)
 receipt_refusal L opening m facts a = let member = a.member in let corporation = a.corporation in let listed = a.listed in let retired = a.retired in grind arith

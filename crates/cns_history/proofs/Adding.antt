@@ -13,6 +13,8 @@ use Rattle.cns_history.specs.declared.line.Closing.{Closing}
 use Rattle.cns_history.specs.declared.watched.Watched.{Watched}
 use Rattle.cns_terms.specs.declared.command.Command.{Command}
 
+-- ---- the lines of a record
+
 booked_shares : (b : Booking) → total shares_of (option_to_list (booked b)) ≡ b.shares
 booked_shares b = grind (arith, ints, signed_Decides)
 
@@ -30,6 +32,8 @@ line_shares k n S (Ok (Command.Activity x)) =
     total-append shares_of (option_to_list (option_map HistoryLine.Closing (closing T k n r))) (option_to_list (booked b))
     ∙ omega (arith, ints, no_shares (closing T k n r), booked_shares b, counted_now (standing S k) r)
 line_shares k n S l = omega (arith, ints)
+
+-- ---- all lines
 
 history_shares : (k : Key) (n : ℕ) (S : State) (ls : List Line) → total shares_of (history (Watched.Place k) n S ls) ≡ (standing (state_after S ls) k).now -ℤ (standing S k).now
 unfolding history state_after

@@ -5,6 +5,7 @@ use Rattle.cns_terms.specs.Positions.{position}
 use Rattle.cns_terms.proofs.Amounts.{amounts}
 use Rattle.cns_terms.proofs.Reached.{IsLimited, bounded, bounds, limited_past}
 
+-- a position
 position_small : (opening : Day) (L : List Activity) (a : Account) (c : Cusip) → IsReached opening L → unsigned_abs (position (journal opening L) a c) ≤ corporation_limit
 position_small opening L a c r = grind (arith, (bounds opening L c r).corporation, (bounds opening L c r).members a)
 
