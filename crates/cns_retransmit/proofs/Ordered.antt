@@ -5,6 +5,7 @@ use Rattle.std.proofs.lemmas.List.Sorted.{sum_by-IsPermutation}
 use Rattle.std.specs.Cmp.{IsTotalOrder}
 use mathlib.Core.Path.{fun_ext}
 use Rattle.cns_terms.specs.Sums.{put}
+use Rattle.cns_terms.proofs.Facts.{same_order as sum_of_order}
 use Rattle.cns_terms.proofs.Rising.{above_through, rising_put}
 use Rattle.cns_retransmit.proofs.Lists.{many_more, one_if, places_apart, rest_once}
 
@@ -12,15 +13,9 @@ use Rattle.cns_retransmit.proofs.Lists.{many_more, one_if, places_apart, rest_on
 abbrev of : Short → Member
 of s = s.member
 
--- putting one in adds what is its
-sum_put : {X : Type 0} (f : X → ℕ) (before : X → X → Bool) (x : X) (ys : List X) → sum_by f (put before x ys) ≡ f x + sum_by f ys
-sum_put f before x [] = sum_by-cons f x []
-sum_put f before x (y ∷ ys) = grind (arith, sum_by-cons f x (y ∷ ys), sum_by-cons f y ys, sum_by-cons f y (put before x ys), sum_put f before x ys)
-
 -- the order changes no sum
 pub sum_in_order : {X : Type 0} (f : X → ℕ) (before : X → X → Bool) (xs : List X) → sum_by f (in_order before xs) ≡ sum_by f xs
-sum_in_order f before [] = refl
-sum_in_order f before (x ∷ xs) = omega (arith, sum_put f before x (in_order before xs), sum_by-cons f x xs, sum_in_order f before xs)
+sum_in_order f = sum_of_order (sum_by f) (λ x n. f x + n) (sum_by-cons f) (λ x y n. omega arith)
 
 -- ---- the order
 
