@@ -1,6 +1,6 @@
 -- The marks of a sheet add up to zero.
 -- For `build` of sheet.rt.
-use Rattle.cns_sheets.proofs.Common.{◌&&◌, ◌≡◌, ◌∙◌, sym, ap, refl, ℕ, zero, suc, ◌≤◌, ℤ, pos, ◌+ℤ◌, ◌-ℤ◌, ◌*ℤ◌, neg_ℤ, Bool, true, false, not, cond, List, [], ◌∷◌, length, map, filter, Option, unwrap_or, arith, int_eq, AreBalanced, CanBeCut, CentsByKey, Cusip, DaySheet, Holding, IsCut, Key, Listed, Paying, Row, Rows, by_key, bytes_eq-Decides, cents_at, closing_in, cut_row, dividend_of, exact_keys, find, find_filter, held_in, idle_parts, ints, is_sorted, kept_if, key_cmp, key_of, keys_total, marked, option_map_or, price_in, price_on, prices_of, row_at, rows_before, same_issue, same_lists, says, sorted_filter, total, total-add, total-map, total-neg, total-same, worth, zero-*ℤ, zero_add, length-filter_both}
+use Rattle.cns_sheets.proofs.Common.{◌&&◌, ◌≡◌, ◌∙◌, sym, ap, refl, ℕ, ℤ, pos, ◌+ℤ◌, ◌-ℤ◌, ◌*ℤ◌, neg_ℤ, Bool, true, false, not, cond, List, [], ◌∷◌, map, filter, Option, unwrap_or, arith, int_eq, AreBalanced, CanBeCut, CentsByKey, Cusip, DaySheet, Holding, IsCut, Key, Listed, Paying, Row, Rows, by_key, bytes_eq-Decides, cents_at, closing_in, cut_row, dividend_of, exact_keys, find, find_filter, held_in, idle_parts, ints, is_sorted, key_cmp, key_of, keys_total, marked, option_map_or, price_in, price_on, prices_of, row_at, rows_before, same_issue, same_lists, says, sorted_filter, total, total-add, total-map, total-neg, total-same, worth, zero-*ℤ, zero_add}
 use Rattle.std.proofs.Math.IntN.{+ℤ_assoc}
 use Rattle.cns_terms.proofs.ZeroSums.{times_sum}
 use Rattle.cns_sheets.proofs.Entries.{find_keyed, sorted_keyed}

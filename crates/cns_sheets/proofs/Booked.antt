@@ -1,6 +1,6 @@
 -- What payments book.
 -- For `pay_members`, `add` and `pay` of payments.rt.
-use Rattle.cns_sheets.proofs.Common.{◌≡◌, ◌∙◌, sym, refl, ◌+◌, ◌*◌, ◌^◌, ◌<◌, ◌≤◌, ◌==◌, ℤ, pos, ◌+ℤ◌, ◌-ℤ◌, neg_ℤ, of_z, to_z, Bool, true, not, cond, ◌&&◌, List, [], ◌∷◌, ◌++◌, Option, Some, unwrap_or, arith, FitsSigned, unsigned_abs, sum_by, is_eq, CentsByKey, IsPayable, Key, Row, added-more, by_key, cash, cents_at, closing_at, corporation, equal, exact_keys, find_below, insert_entry, ints, is_sorted, key_cmp, key_of, keys_total, lookup, magnitude, member_cash, paid, same_issue, same_key, sum_by-cons, sum_by-append, to_z-of_z, total, total-append, total_small, w128, Declared}
+use Rattle.cns_sheets.proofs.Common.{◌≡◌, refl, ◌+◌, ◌*◌, ◌^◌, ◌<◌, ◌≤◌, ◌==◌, ℤ, pos, ◌+ℤ◌, ◌-ℤ◌, neg_ℤ, of_z, to_z, Bool, true, not, cond, ◌&&◌, List, [], ◌∷◌, ◌++◌, Option, Some, unwrap_or, arith, FitsSigned, unsigned_abs, sum_by, is_eq, CentsByKey, IsPayable, Key, Row, by_key, cash, cents_at, closing_at, corporation, equal, exact_keys, find_below, insert_entry, ints, is_sorted, key_cmp, key_of, keys_total, lookup, member_cash, paid, same_issue, same_key, sum_by-cons, sum_by-append, total, w128, Declared}
 use Rattle.std.specs.BTreeMap.{is_at}
 use Rattle.std.proofs.Math.IntN.{+ℤ_assoc, +ℤ_comm, +ℤ_idl, +ℤ_idr}
 use Rattle.std.proofs.lemmas.Cmp.{eq_by_cmp_equiv}

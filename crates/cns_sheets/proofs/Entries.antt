@@ -1,6 +1,6 @@
 -- Lists in the order of keys: mapped, filtered, searched.
 -- For `of_rows`, `row`, `rows_of`, `rows_in` and `build` of sheet.rt, `first_in` of in_issue.rt and others.
-use Rattle.cns_sheets.proofs.Common.{◌≡◌, ◌∙◌, sym, ap, refl, ℕ, ◌+◌, ◌<◌, Bool, true, cond, List, [], ◌∷◌, length, get_or, drop, drop_more, map, filter, Option, Some, None, MatchOption, Ordering, is_lt, Less, arith, option_map, IsTotalOrder, Key, below_all, exact_keys, find, first, first_passing, is_sorted, key_cmp, next_above}
+use Rattle.cns_sheets.proofs.Common.{◌≡◌, sym, ap, refl, ℕ, ◌+◌, ◌<◌, Bool, true, cond, List, [], ◌∷◌, length, get_or, drop, drop_more, map, filter, Some, None, MatchOption, Ordering, is_lt, Less, arith, option_map, IsTotalOrder, Key, below_all, exact_keys, find, first, first_passing, is_sorted, key_cmp, next_above}
 use lib.Ieee.Bits.{is_true}
 use Rattle.cns_terms.proofs.Finds.{as_T}
 use Rattle.std.specs.FinMap.Entries.{find-where_key, is_sorted-where_key}

@@ -1,6 +1,6 @@
 -- The rows in one issue, found account by account.
 -- For `rows_in` of sheet.rt, `first_in` and `next` of in_issue.rt.
-use Rattle.cns_sheets.proofs.Common.{◌≡◌, ◌∙◌, sym, ap, refl, ℕ, ◌+◌, ◌-◌, ◌<◌, ◌≤◌, ◌&&◌, ◌↔◌, Bool, true, false, cond, List, [], ◌∷◌, filter, Option, Some, None, MatchOption, arith, is_lt, nat_cmp, AllByRecursion, Columns, Cusip, IsMarked, Key, Row, bytes_eq-Decides, filter_both, first, full_row, full_rows, is_at_or_after, is_sorted, key_cmp, keys_total, member_limit, nat_list_cmp_total, nat_tests, option_map_or, same_issue, slice_cmp, tied_itself, AreAccounts, IsPlaceIn, entries_from, is_next_in, place_after, reaches, rows_from}
+use Rattle.cns_sheets.proofs.Common.{◌≡◌, ◌∙◌, sym, ap, refl, ℕ, ◌+◌, ◌-◌, ◌<◌, ◌≤◌, ◌&&◌, Bool, true, cond, List, [], ◌∷◌, filter, Option, Some, None, MatchOption, arith, is_lt, AllByRecursion, Columns, Cusip, IsMarked, Key, Row, bytes_eq-Decides, filter_both, first, full_row, full_rows, is_at_or_after, is_sorted, key_cmp, keys_total, member_limit, nat_list_cmp_total, nat_tests, option_map_or, same_issue, tied_itself, AreAccounts, entries_from, is_next_in, place_after, reaches, rows_from}
 use Rattle.cns_sheets.proofs.Entries.{filter-map, first_above}
 use Rattle.cns_sheets.proofs.Walked.{from_later}
 
@@ -33,16 +33,12 @@ module _ (c : Cusip) where
     alike k e le = grind (arith, bytes_eq-Decides, tied_itself nat_list_cmp_total c)
 
     -- the first key from a place on, if it is in the issue, before those from the place after it on
-    pub first_entry : is_sorted key_cmp es ≡ true → (low : Key)
-        → MatchOption (first (is_at_or_after low) es) (entries_from es c (Some low) ≡ []) (λ f. entries_from es c (Some low) ≡ cond (is_in f) (f ∷ entries_from es c (place_after f.0 c)) (entries_from es c (place_after f.0 c)))
-    first_entry s low = by (first (is_at_or_after low) es) (first_above key_cmp keys_total (reaches (Some low)) es (from_later low) s)
-      where
-        by : (r : Option (Key × Columns)) → MatchOption r (filter (λ e. reaches (Some low) e.0) es ≡ []) (λ f. filter (λ e. reaches (Some low) e.0) es ≡ f ∷ filter (λ e. is_lt (key_cmp f.0 e.0)) es)
-            → MatchOption r (entries_from es c (Some low) ≡ []) (λ f. entries_from es c (Some low) ≡ cond (is_in f) (f ∷ entries_from es c (place_after f.0 c)) (entries_from es c (place_after f.0 c)))
-        by None h = sym (filter_both is_in (λ e. reaches (Some low) e.0) es) ∙ ap (filter is_in) h
-        by (Some f) h =
-            sym (filter_both is_in (λ e. reaches (Some low) e.0) es) ∙ ap (filter is_in) h
-            ∙ ap (λ ys. cond (is_in f) (f ∷ ys) ys) (filter_both is_in (λ e. is_lt (key_cmp f.0 e.0)) es ∙ filter_alike (λ e. e.0.account ≤ member_limit) _ (is_next_in c (place_after f.0 c)) (alike f.0) es accounts)
+    pub first_entry : is_sorted key_cmp es ≡ true → (low : Key) (o : Option (Key × Columns)) → o ≡ first (is_at_or_after low) es
+        → MatchOption o (entries_from es c (Some low) ≡ []) (λ f. entries_from es c (Some low) ≡ cond (is_in f) (f ∷ entries_from es c (place_after f.0 c)) (entries_from es c (place_after f.0 c)))
+    first_entry s low None is = sym (filter_both is_in (λ e. reaches (Some low) e.0) es) ∙ ap (filter is_in) (rw (← is) at (first_above key_cmp keys_total (reaches (Some low)) es (from_later low) s))
+    first_entry s low (Some f) is =
+        sym (filter_both is_in (λ e. reaches (Some low) e.0) es) ∙ ap (filter is_in) (rw (← is) at (first_above key_cmp keys_total (reaches (Some low)) es (from_later low) s))
+        ∙ ap (λ ys. cond (is_in f) (f ∷ ys) ys) (filter_both is_in (λ e. is_lt (key_cmp f.0 e.0)) es ∙ filter_alike (λ e. e.0.account ≤ member_limit) _ (is_next_in c (place_after f.0 c)) (alike f.0) es accounts)
 
     -- from the first account on, all rows in the issue are left
     pub all_in : rows_from es c (Some (record { account = 0; issue = c })) ≡ filter (λ r. same_issue r.issue c) (full_rows es)

@@ -1,6 +1,6 @@
 -- No CUSIP comes before the lowest.
 -- For `new` of columns.rt.
-use Rattle.cns_sheets.proofs.Common.{◌≡◌, ◌∙◌, ap, sym, refl, subst, ℕ, Bool, true, false, not, List, [], ◌∷◌, ◌++◌, take, length, length-take, replicate, Option, Some, None, arith, is_some, slice_index, eqb-true, is_lt, nat_cmp, Cusip, drop_all, nat_tests, slice_cmp, drop_more, take-append-drop, IsCusip, last_fault}
+use Rattle.cns_sheets.proofs.Common.{◌≡◌, ◌∙◌, ap, sym, refl, ℕ, Bool, true, false, not, List, [], ◌∷◌, ◌++◌, take, length, length-take, replicate, Option, None, arith, is_some, slice_index, eqb-true, is_lt, nat_cmp, Cusip, drop_all, nat_tests, slice_cmp, drop_more, take-append-drop, IsCusip, last_fault}
 use Rattle.cns_sheets.specs.LowestCusip.{IsFromLowest}
 use Rattle.cns_units.specs.Cusip.{sum_of}
 

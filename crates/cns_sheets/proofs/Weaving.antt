@@ -1,6 +1,6 @@
 -- Cents by key, and holdings that are woven with them.
 -- For `take` and `next_below` of in_order.rt, `push_holding`, `push_paid` and `collect` of cutting.rt and others.
-use Rattle.cns_sheets.proofs.Common.{◌≡◌, sym, ap, refl, ℤ, pos, Bool, true, false, not, List, [], ◌∷◌, ◌++◌, filter, Option, Some, None, unwrap_or, MatchOption, is_lt, ◌&&◌, Less, arith, AllByRecursion, CentsByKey, Holding, Key, Rows, Woven, below_all, cents_at, exact_keys, find, find_below, higher, is_sorted, key_cmp, keys_total, lower, option_or, past, tied_itself, unheld, weave, zeros, is_below, left_of}
+use Rattle.cns_sheets.proofs.Common.{◌≡◌, ap, refl, ℤ, pos, Bool, true, false, not, List, [], ◌∷◌, ◌++◌, filter, Option, Some, None, unwrap_or, is_lt, ◌&&◌, Less, arith, AllByRecursion, CentsByKey, Holding, Key, Rows, Woven, below_all, cents_at, exact_keys, find, find_below, higher, is_sorted, key_cmp, keys_total, lower, option_or, past, tied_itself, unheld, weave, zeros, is_below}
 use Rattle.cns_sheets.proofs.Entries.{below_keyed, find_if, find_keyed, sorted_if, sorted_keyed}
 
 -- cents without a holding

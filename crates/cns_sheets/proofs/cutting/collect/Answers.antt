@@ -1,4 +1,4 @@
-use Rattle.cns_sheets.proofs.Common.{◌≡◌, ◌∙◌, ◌<◌, List, [], ◌∷◌, ◌++◌, None, Some, Option, length, length-append, sym, arith, AllByRecursion, AreNext, Key, Rows, each_filter, held_above, last_given, last_of, none_given, present}
+use Rattle.cns_sheets.proofs.Common.{List, [], ◌∷◌, ◌++◌, length-append, arith, AllByRecursion, each_filter, last_given, none_given}
 use Rattle.std.proofs.lemmas.List.{nil_from_length}
 use Rattle.cns_sheets.proofs.Weaving.{all_lower}
 use Rattle.cns_sheets.proofs.cutting.collect.Goals as goal

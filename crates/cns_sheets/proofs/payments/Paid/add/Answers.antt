@@ -1,4 +1,4 @@
-use Rattle.cns_sheets.proofs.Common.{◌≡◌, ◌∙◌, ◌+ℤ◌, ap, sym, arith, cents_at, keys_total, sorted_from, nat_tests, ints}
+use Rattle.cns_sheets.proofs.Common.{arith, keys_total, sorted_from, nat_tests, ints}
 use Rattle.cns_sheets.proofs.Booked.{cents_added, had_is, sum_added}
 use Rattle.cns_sheets.proofs.payments.Paid.add.Goals as goal
 

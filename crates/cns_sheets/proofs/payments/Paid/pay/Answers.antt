@@ -1,4 +1,4 @@
-use Rattle.cns_sheets.proofs.Common.{◌≡◌, ◌∙◌, ◌+ℤ◌, OnOk, sym, ap, cond, pos, neg_ℤ, is_eq, arith, Key, cents_at, ints, key_cmp, member_cash, nat_tests, on_ok_weaker, total}
+use Rattle.cns_sheets.proofs.Common.{sym, arith, Key, cents_at, ints, member_cash, nat_tests, on_ok_weaker, total}
 use Rattle.cns_sheets.proofs.Booked.{all_booked_small, all_small, both_small, fits, neg_is, paid_is}
 use Rattle.cns_sheets.proofs.payments.Paid.pay.Goals as goal
 
