@@ -1,5 +1,5 @@
 -- The names that most proofs of this crate cite, passed on from one place. Declares nothing.
-pub use Rattle.std.proofs.Common.{Bool, Greater, Less, None, Option, Ordering, Some, [], ap, arith, cond, false, filter, int_cmp, int_lt, length, nat_cmp, refl, subst, suc, sym, true, ℕ, ◌<◌, ◌∙◌, ◌∷◌, ◌≡◌}
+pub use Rattle.std.proofs.Common.{Bool, None, Option, Ordering, Some, [], arith, filter, int_cmp, length, nat_cmp, refl, suc, sym, ℕ, ◌<◌, ◌∷◌, ◌≡◌}
 pub use Rattle.std.specs.BTreeMap.Range.{IsLeBy, IsLtBy}
 pub use Rattle.std.specs.Bound.{IsForward}
 pub use Rattle.std.specs.Ordering.{on, ord_min}

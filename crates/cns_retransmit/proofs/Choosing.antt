@@ -22,8 +22,6 @@ pub choosing_more : {ss : List Short} {called i : ℕ} {s : Short} {liables : Li
     → (now < called → more ≡ liables ++ liable_of s ∷ []) → (called ≤ now → more ≡ liables) → Choosing ss called (i + 1) more s.age now (sum + s.shares)
 choosing_more {ss} {called} {i} {s} {liables} {age} {older} {sum} c lt is more now as_old younger taken left =
     let next : drop i ss ≡ s ∷ drop (i + 1) ss = drop_next ss i s lt is in
-    let falls : IsOldestFirst (s ∷ drop (i + 1) ss) = rw next at c.falls in
-    let none : 0 < i → s.age ≤ age = λ h. (rw next at (c.later h).1).0 in
-    let now_is : now ≡ sum_by (if_older s.age) ss = grind (arith, nat_tests, cases_eq i 0, c, none, next, c.ages s.age, no_older s.age (drop (i + 1) ss) falls.0, sum_by-cons (if_older s.age) s (drop (i + 1) ss)) in
     let cons : (a : ℕ) → sum_by (if_older a) (drop i ss) ≡ if_older a s + sum_by (if_older a) (drop (i + 1) ss) = λ a. rw next (sum_by-cons (if_older a) s (drop (i + 1) ss)) in
-    grind (arith, nat_tests, c, falls, none, next, now_is, append_assoc, cons, sum_by_more (λ (s : Short). s.shares) ss i s)
+    let now_is : now ≡ sum_by (if_older s.age) ss = grind (arith, nat_tests, cases_eq i 0, c, next, cons s.age, no_older s.age (drop (i + 1) ss)) in
+    grind (arith, nat_tests, c, next, now_is, append_assoc, cons, sum_by_more (λ (s : Short). s.shares) ss i s)

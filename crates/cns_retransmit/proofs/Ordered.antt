@@ -1,10 +1,11 @@
 -- Shorts in the order of filling.
 -- For `choose` and `in_filling_order` of choice.rt.
-use Rattle.cns_retransmit.proofs.Common.{◌≡◌, ◌∙◌, sym, ap, refl, ℕ, suc, ◌+◌, ◌<◌, ◌≤◌, Bool, true, false, cond, List, [], ◌∷◌, length, get_or, nat_eq, sum_by, arith, IsPermutation, is_lt, nat_cmp, add-one, IsOldestFirst, Member, NoneOlder, Short, fills_before, in_order, nat_tests, ordering_then, shorts_of, sum_by-cons, above_all, is_rising, list_any, Ordering, is_eq, subst}
+use Rattle.cns_retransmit.proofs.Common.{◌&&◌, ◌≡◌, ◌∙◌, sym, ap, refl, ℕ, suc, ◌+◌, ◌<◌, ◌≤◌, Bool, true, false, List, [], ◌∷◌, length, get_or, nat_eq, sum_by, arith, IsPermutation, is_lt, nat_cmp, add-one, IsOldestFirst, Member, NoneOlder, Short, fills_before, in_order, nat_tests, ordering_then, shorts_of, sum_by-cons, above_all, is_rising, list_any, Ordering, is_eq, subst}
 use Rattle.std.proofs.lemmas.List.Sorted.{sum_by-IsPermutation}
 use Rattle.std.specs.Cmp.{IsTotalOrder}
 use mathlib.Core.Path.{fun_ext}
 use Rattle.cns_terms.specs.Sums.{put}
+use Rattle.cns_terms.proofs.Facts.{same_order as sum_of_order}
 use Rattle.cns_terms.proofs.Rising.{above_through, rising_put}
 use Rattle.cns_retransmit.proofs.Lists.{many_more, one_if, places_apart, rest_once}
 
@@ -12,15 +13,9 @@ use Rattle.cns_retransmit.proofs.Lists.{many_more, one_if, places_apart, rest_on
 abbrev of : Short → Member
 of s = s.member
 
--- putting one in adds what is its
-sum_put : {X : Type 0} (f : X → ℕ) (before : X → X → Bool) (x : X) (ys : List X) → sum_by f (put before x ys) ≡ f x + sum_by f ys
-sum_put f before x [] = sum_by-cons f x []
-sum_put f before x (y ∷ ys) = grind (arith, sum_by-cons f x (y ∷ ys), sum_by-cons f y ys, sum_by-cons f y (put before x ys), sum_put f before x ys)
-
 -- the order changes no sum
 pub sum_in_order : {X : Type 0} (f : X → ℕ) (before : X → X → Bool) (xs : List X) → sum_by f (in_order before xs) ≡ sum_by f xs
-sum_in_order f before [] = refl
-sum_in_order f before (x ∷ xs) = omega (arith, sum_put f before x (in_order before xs), sum_by-cons f x xs, sum_in_order f before xs)
+sum_in_order f = sum_of_order (sum_by f) (λ x n. f x + n) (sum_by-cons f) (λ x y n. omega arith)
 
 -- ---- the order
 
@@ -55,22 +50,14 @@ order_is (s ∷ ss) once = subst (λ before. is_rising order (put before s (in_o
 
 -- ---- a sort
 
--- what counts for none that comes after a short counts for none of those after it
-uncounted : (f : Short → ℕ) (s : Short) (ts : List Short) → above_all order s ts ≡ true → ((t : Short) → is_lt (order s t) ≡ true → f t ≡ 0) → sum_by f ts ≡ 0
-uncounted f s [] h none = refl
-uncounted f s (t ∷ ts) h none = grind (arith, sum_by-cons f t ts, none t, uncounted f s ts)
+-- whether two shorts are one
+abbrev same : Short → Short → Bool
+same s t = nat_eq s.member t.member && nat_eq s.age t.age && nat_eq s.shares t.shares
 
--- of two lists with the same sums, that of one does not begin before the first of the other, which is in order
-not_before : (u v : Short) (us vs : List Short) → above_all order u us ≡ true → ((f : Short → ℕ) → sum_by f (u ∷ us) ≡ sum_by f (v ∷ vs)) → is_lt (order v u) ≡ false
-not_before u v us vs h sums =
-    let f : Short → ℕ = λ t. one_if (is_lt (order t u)) in
-    grind (arith, nat_tests, sums f, sum_by-cons f u us, sum_by-cons f v vs, uncounted f u us h (λ t e. grind (arith, nat_tests)))
-
--- two lists in order whose sums are the same begin with the same
-first_same : (u v : Short) (us vs : List Short) → above_all order u us ≡ true → above_all order v vs ≡ true → ((f : Short → ℕ) → sum_by f (u ∷ us) ≡ sum_by f (v ∷ vs)) → u ≡ v
-first_same u v us vs h k sums =
-    let f : Short → ℕ = λ t. cond (is_lt (order u t)) 0 t.shares in
-    grind (arith, nat_tests, not_before u v us vs h sums, not_before v u vs us k (λ g. sym (sums g)), sums f, sum_by-cons f u us, sum_by-cons f v vs, uncounted f u us h (λ t e. grind arith), uncounted f v vs k)
+-- one that stands among those after another comes after it
+later : (s t : Short) (us : List Short) → above_all order s us ≡ true → 0 < sum_by (λ u. one_if (same u t)) us → is_lt (order s t) ≡ true
+later s t [] h some = absurd (omega arith)
+later s t (u ∷ us) h some = grind (arith, nat_tests, sum_by-cons (λ u. one_if (same u t)) u us, later s t us)
 
 -- two lists in order whose sums are the same are the same
 same_order : (us vs : List Short) → is_rising order us ≡ true → is_rising order vs ≡ true → ((f : Short → ℕ) → sum_by f us ≡ sum_by f vs) → us ≡ vs
@@ -78,8 +65,9 @@ same_order [] [] h k sums = refl
 same_order [] (v ∷ vs) h k sums = absurd (omega (arith, sums (λ s. 1), sum_by-cons (λ s. 1) v vs))
 same_order (u ∷ us) [] h k sums = absurd (omega (arith, sums (λ s. 1), sum_by-cons (λ s. 1) u us))
 same_order (u ∷ us) (v ∷ vs) h k sums =
-    let first : u ≡ v = first_same u v us vs (grind arith) (grind arith) sums in
-    cc (first, same_order us vs (grind arith) (grind arith) (λ f. omega (arith, sums f, sum_by-cons f u us, sum_by-cons f v vs, ap f first)))
+    let cons : (f : Short → ℕ) → f u + sum_by f us ≡ f v + sum_by f vs = λ f. rw (← sum_by-cons f u us, ← sum_by-cons f v vs) (sums f) in
+    let first : u ≡ v = grind (arith, nat_tests, cons (λ t. one_if (same t u)), cons (λ t. one_if (same t v)), later u v us, later v u vs) in
+    cc (first, same_order us vs (grind arith) (grind arith) (λ f. omega (arith, cons f, ap f first)))
 
 -- what a sort leaves of distinct members is in order
 sorted_in_order : (ss : List Short) → ((a : Member) → shorts_of a ss ≤ 1) → ((k : ℕ) (d : Short) → suc k < length ss → is_lt (order (get_or ss (suc k) d) (get_or ss k d)) ≡ false) → is_rising order ss ≡ true

@@ -1,52 +1,40 @@
 -- The marks of a sheet add up to zero.
 -- For `build` of sheet.rt.
-use Rattle.cns_sheets.proofs.Common.{◌≡◌, ◌∙◌, sym, ap, refl, ℕ, zero, suc, ◌≤◌, ℤ, pos, ◌+ℤ◌, ◌-ℤ◌, ◌*ℤ◌, neg_ℤ, Bool, true, false, not, cond, List, [], ◌∷◌, length, map, filter, Option, unwrap_or, arith, int_eq, AreBalanced, CanBeCut, CentsByKey, Cusip, DaySheet, Holding, IsCut, Key, Listed, Paying, Row, Rows, by_key, bytes_eq-Decides, cents_at, closing_in, cut_row, dividend_of, exact_keys, find, find_filter, held_in, idle_parts, ints, is_sorted, kept_if, key_cmp, key_of, keys_total, marked, option_map_or, price_in, price_on, prices_of, row_at, rows_before, same_issue, same_lists, says, sorted_filter, total, total-add, total-map, total-neg, total-same, worth, zero-*ℤ, zero_add, length-filter_both}
+use Rattle.cns_sheets.proofs.Common.{◌&&◌, ◌≡◌, ◌∙◌, sym, ap, refl, ℕ, ℤ, pos, ◌+ℤ◌, ◌-ℤ◌, ◌*ℤ◌, neg_ℤ, Bool, true, false, not, cond, List, [], ◌∷◌, map, filter, Option, unwrap_or, arith, int_eq, AreBalanced, CanBeCut, CentsByKey, Cusip, DaySheet, Holding, IsCut, Key, Listed, Paying, Row, Rows, by_key, bytes_eq-Decides, cents_at, closing_in, cut_row, dividend_of, exact_keys, find, find_filter, held_in, idle_parts, ints, is_sorted, key_cmp, key_of, keys_total, marked, option_map_or, price_in, price_on, prices_of, row_at, rows_before, same_issue, same_lists, says, sorted_filter, total, total-add, total-map, total-neg, total-same, worth, zero-*ℤ, zero_add}
+use Rattle.std.proofs.Math.IntN.{+ℤ_assoc}
 use Rattle.cns_terms.proofs.ZeroSums.{times_sum}
 use Rattle.cns_sheets.proofs.Entries.{find_keyed, sorted_keyed}
 
 -- ---- sums by issue
+
+swapped : (a b c : ℤ) → a +ℤ (b +ℤ c) ≡ b +ℤ (a +ℤ c)
+swapped a b c = omega (arith, ints)
 
 module _ {X : Type 0} (issue : X → Cusip) (f : X → ℤ) where
   -- a number, if it is in the issue
   abbrev in_issue : Cusip → X → ℤ
   in_issue c x = cond (same_issue (issue x) c) (f x) (pos 0)
 
-  -- those of other issues
-  abbrev others : Cusip → List X → List X
-  others c xs = filter (λ x. not (same_issue (issue x) c)) xs
-
-  -- what the others sum up to in an issue
-  elsewhere : (c d : Cusip) (xs : List X) → total (in_issue d) (others c xs) ≡ cond (same_issue c d) (pos 0) (total (in_issue d) xs)
-  elsewhere c d [] = grind arith
-  elsewhere c d (x ∷ xs) = grind (arith, bytes_eq-Decides, elsewhere c d xs)
-
   module _ (w : Cusip → ℕ) where
-    abbrev weighed : X → ℤ
-    weighed x = f x *ℤ pos (w (issue x))
-
-    -- one term more, of the issue or of another
-    split_branch : (b : Bool) (c : Cusip) (x : X) (xs : List X) (s o : ℤ) → (b ≡ true → issue x ≡ c) → (s *ℤ pos (w c)) +ℤ total weighed xs ≡ o → ((cond b (f x) (pos 0) +ℤ s) *ℤ pos (w c)) +ℤ total weighed (cond (not b) (x ∷ xs) xs) ≡ weighed x +ℤ o
-    split_branch true c x xs s o same h = rw (times_sum (f x) s (w c), same refl) (omega (arith, ints, h))
-    split_branch false c x xs s o same h = rw (zero_add s) (omega (arith, ints, h))
+    -- by a price for each issue, if a test keeps the issue
+    abbrev weighed : (Cusip → Bool) → X → ℤ
+    weighed t x = cond (t (issue x)) (f x *ℤ pos (w (issue x))) (pos 0)
 
     -- a sum is that of one issue and that of the others
-    split : (c : Cusip) (xs : List X) → (total (in_issue c) xs *ℤ pos (w c)) +ℤ total weighed (others c xs) ≡ total weighed xs
-    split c [] = ap (λ n. n +ℤ pos 0) (zero-*ℤ (pos (w c)))
-    split c (x ∷ xs) = split_branch (same_issue (issue x) c) c x (others c xs) (total (in_issue c) xs) (total weighed xs) (bytes_eq-Decides (issue x) c).0 (split c xs)
+    split : (t : Cusip → Bool) (c : Cusip) (xs : List X) → total (weighed t) xs ≡ cond (t c) (total (in_issue c) xs *ℤ pos (w c)) (pos 0) +ℤ total (weighed (λ d. t d && not (same_issue d c))) xs
+    split t c [] = grind (arith, ints, zero-*ℤ (pos (w c)))
+    split t c (x ∷ xs) =
+        let s = total (in_issue c) xs *ℤ pos (w c) in
+        let rest = total (weighed (λ d. t d && not (same_issue d c))) xs in
+        grind (arith, zero_add, bytes_eq-Decides (issue x) c, times_sum (f x) (total (in_issue c) xs) (w c), +ℤ_assoc (f x *ℤ pos (w c)) s rest, swapped (weighed t x) (cond (t c) s (pos 0)) rest, split t c xs)
 
-    zero_upto : (n : ℕ) (xs : List X) → length xs ≤ n → ((c : Cusip) → total (in_issue c) xs ≡ pos 0) → total weighed xs ≡ pos 0
-    zero_upto n [] le h = refl
-    zero_upto zero (x ∷ xs) le h = absurd (omega (arith, le))
-    zero_upto (suc n) (x ∷ xs) le h =
-        sym (split (issue x) (x ∷ xs))
-        ∙ rw (h (issue x), zero-*ℤ (pos (w (issue x))), zero_upto n (others (issue x) (x ∷ xs)) (omega (arith, first_gone, le)) (λ d. grind (arith, elsewhere (issue x) d (x ∷ xs), h d))) refl
-      where
-        first_gone : length (others (issue x) (x ∷ xs)) ≤ length xs
-        first_gone = rw ((bytes_eq-Decides (issue x) (issue x)).1 refl) (omega (arith, length-filter_both (λ y. same_issue (issue y) (issue x)) (λ y. not (same_issue (issue y) (issue x))) (λ y. refl) xs))
+    -- what adds up to zero in each issue that is kept does so by a price for each issue
+    kept_zero : (t : Cusip → Bool) (xs : List X) → ((c : Cusip) → t c ≡ true → total (in_issue c) xs ≡ pos 0) → total (weighed t) xs ≡ pos 0
+    kept_zero t [] h = refl
+    kept_zero t (x ∷ xs) h = grind (arith, ints, split t (issue x) xs, times_sum (f x) (total (in_issue (issue x)) xs) (w (issue x)), zero-*ℤ (pos (w (issue x))), bytes_eq-Decides (issue x) (issue x), h (issue x), kept_zero (λ d. t d && not (same_issue d (issue x))) xs (λ c q. grind (arith, ints, bytes_eq-Decides (issue x) c, bytes_eq-Decides c (issue x), h c)))
 
-    -- what adds up to zero in each issue does so by a price for each issue
-    zero_weighed : (xs : List X) → ((c : Cusip) → total (in_issue c) xs ≡ pos 0) → total weighed xs ≡ pos 0
-    zero_weighed xs h = zero_upto (length xs) xs (omega arith) h
+    zero_weighed : (xs : List X) → ((c : Cusip) → total (in_issue c) xs ≡ pos 0) → total (λ x. f x *ℤ pos (w (issue x))) xs ≡ pos 0
+    zero_weighed xs h = kept_zero (λ c. true) xs (λ c q. h c)
 
   -- and as it is
   zero_by_issue : (xs : List X) → ((c : Cusip) → total (in_issue c) xs ≡ pos 0) → total f xs ≡ pos 0
@@ -57,9 +45,6 @@ module _ {X : Type 0} (issue : X → Cusip) (f : X → ℤ) where
 -- a number that is not zero
 abbrev counts : ℤ → Bool
 counts n = not (int_eq n (pos 0))
-
-alike : (o p : Option ℤ) → unwrap_or o (pos 0) ≡ unwrap_or p (pos 0) → kept_if counts o ≡ kept_if counts p
-alike o p h = grind arith
 
 -- the numbers in an issue
 abbrev pub numbers_in : Cusip → Key × ℤ → ℤ
@@ -75,8 +60,7 @@ module _ (f : Key × ℤ → ℤ) (nothing : (k : Key) → f (k, pos 0) ≡ pos 
   pub same_sums : (xs ys : List (Key × ℤ)) → is_sorted key_cmp xs ≡ true → is_sorted key_cmp ys ≡ true → ((k : Key) → unwrap_or (find key_cmp k xs) (pos 0) ≡ unwrap_or (find key_cmp k ys) (pos 0)) → total f xs ≡ total f ys
   same_sums xs ys s t h =
       sym (counted xs)
-      ∙ ap (total f) (same_lists keys_total exact_keys (filter (λ e. counts e.1) xs) (filter (λ e. counts e.1) ys) (sorted_filter keys_total counts xs s) (sorted_filter keys_total counts ys t)
-      (λ k. find_filter keys_total counts k xs s ∙ alike (find key_cmp k xs) (find key_cmp k ys) (h k) ∙ sym (find_filter keys_total counts k ys t)))
+      ∙ ap (total f) (same_lists keys_total exact_keys _ _ (sorted_filter keys_total counts xs s) (sorted_filter keys_total counts ys t) (λ k. grind (arith, find_filter keys_total counts k xs s, find_filter keys_total counts k ys t, h k)))
       ∙ counted ys
 
 -- none of an issue
@@ -98,13 +82,13 @@ module _ {V : Type 0} (f : V → ℤ) where
   pub total_numbers : (s : Key × ℤ → ℤ) (es : List (Key × V)) → total s (numbers es) ≡ total (λ e. s (e.0, f e.1)) es
   total_numbers s es = total-map s (λ e. (e.0, f e.1)) es
 
--- numbers that two lists have alike at each key
-same_numbers : {V W : Type 0} (f : Key × V → ℤ) (g : Key × W → ℤ) (s : Key × ℤ → ℤ) → ((k : Key) → s (k, pos 0) ≡ pos 0) → (es : List (Key × V)) (fs : List (Key × W)) → is_sorted key_cmp es ≡ true → is_sorted key_cmp fs ≡ true
-    → ((k : Key) → option_map_or (λ v. f (k, v)) (find key_cmp k es) (pos 0) ≡ option_map_or (λ w. g (k, w)) (find key_cmp k fs) (pos 0)) → total (λ e. s (e.0, f e)) es ≡ total (λ e. s (e.0, g e)) fs
-same_numbers f g s nothing es fs a b h =
-    sym (total-map s (λ e. (e.0, f e)) es)
-    ∙ same_sums s nothing (map (λ e. (e.0, f e)) es) (map (λ e. (e.0, g e)) fs) (rw (sorted_keyed key_cmp f es) a) (rw (sorted_keyed key_cmp g fs) b) (λ k. grind (arith, find_keyed f k es, find_keyed g k fs, h k))
-    ∙ total-map s (λ e. (e.0, g e)) fs
+-- numbers that rows and a list have alike at each key
+same_numbers : {V : Type 0} (g : Row → ℤ) (f : Key × V → ℤ) (s : Key × ℤ → ℤ) → ((k : Key) → s (k, pos 0) ≡ pos 0) → (rows : List Row) (es : List (Key × V)) → is_sorted key_cmp (by_key rows) ≡ true → is_sorted key_cmp es ≡ true
+    → ((k : Key) → option_map_or g (row_at rows k) (pos 0) ≡ option_map_or (λ v. f (k, v)) (find key_cmp k es) (pos 0)) → total (λ r. s (key_of r, g r)) rows ≡ total (λ e. s (e.0, f e)) es
+same_numbers g f s nothing rows es a b h =
+    sym (total_numbers g s (by_key rows) ∙ total-map (λ (e : Key × Row). s (e.0, g e.1)) (λ r. (key_of r, r)) rows)
+    ∙ same_sums s nothing (numbers g (by_key rows)) (map (λ e. (e.0, f e)) es) (sorted_numbers g (by_key rows) a) (rw (sorted_keyed key_cmp f es) b) (λ k. grind (arith, found_number g k (pos 0) (by_key rows), find_keyed f k es, h k))
+    ∙ total-map s (λ e. (e.0, f e)) es
 
 -- ---- rows, holdings and cents
 
@@ -134,9 +118,7 @@ module _ (before : Option DaySheet) (prices : Listed) (R : Rows) (ps : List Payi
 
   -- the openings of an issue add up to zero, as the closings before did
   openings : (c : Cusip) → total (held_in (λ h. h.opening) c) R ≡ pos 0
-  openings c =
-      same_numbers (λ e. e.1.opening) (λ e. e.1.closing) (numbers_in c) (none_in c) R (by_key (rows_before before)) sorted rise (λ k. grind (arith, ready.openings k))
-      ∙ total-map (λ (e : Key × Row). cond (same_issue e.0.issue c) e.1.closing (pos 0)) (λ r. (key_of r, r)) (rows_before before) ∙ closed c
+  openings c = sym (same_numbers (λ r. r.closing) (λ e. e.1.opening) (numbers_in c) (none_in c) (rows_before before) R rise sorted (λ k. grind (arith, ready.openings k))) ∙ closed c
 
   -- the marks of holdings add up to zero
   marks : total mark_of R ≡ pos 0
@@ -153,14 +135,7 @@ module _ (before : Option DaySheet) (prices : Listed) (R : Rows) (ps : List Payi
   -- what a sheet keeps of sums holds of the rows that are cut
   pub cut_balanced : (cs : CentsByKey) → is_sorted key_cmp cs ≡ true → total (λ e. e.1) cs ≡ pos 0 → ((k : Key) → cents_at cs k ≡ dividend_of ps k) → AreBalanced rows
   cut_balanced cs cents_rise none cents = record {
-    closings = λ c.
-        sym (total-map (λ (e : Key × Row). cond (same_issue e.0.issue c) e.1.closing (pos 0)) (λ r. (key_of r, r)) rows)
-        ∙ same_numbers (λ e. e.1.closing) (λ e. e.1.now) (numbers_in c) (none_in c) (by_key rows) R cut.order sorted (λ k. grind (arith, number_at (λ r. r.closing) k (λ h. (idle_parts (row_of k) h).1))) ∙ ready.shares c;
-    marks =
-        sym (total-map (λ (e : Key × Row). e.1.mark) (λ r. (key_of r, r)) rows)
-        ∙ same_numbers (λ e. e.1.mark) mark_of (λ e. e.1) (λ k. refl) (by_key rows) R cut.order sorted (λ k.
-        grind (arith, no_mark (price_now k.issue) (price_then k.issue), number_at (λ r. r.mark) k (λ h. let p = idle_parts (row_of k) h in rw (p.0, p.1, p.2) (no_mark (price_now k.issue) (price_then k.issue))))) ∙ marks;
-    dividends =
-        sym (total-map (λ (e : Key × Row). e.1.dividend) (λ r. (key_of r, r)) rows)
-        ∙ same_numbers (λ e. e.1.dividend) (λ e. e.1) (λ e. e.1) (λ k. refl) (by_key rows) cs cut.order cents_rise (λ k. grind (arith, cents k, number_at (λ r. r.dividend) k (λ h. (idle_parts (row_of k) h).3))) ∙ none;
+    closings = λ c. same_numbers (λ r. r.closing) (λ e. e.1.now) (numbers_in c) (none_in c) rows R cut.order sorted (λ k. grind (arith, number_at (λ r. r.closing) k (λ h. (idle_parts (row_of k) h).1))) ∙ ready.shares c;
+    marks = same_numbers (λ r. r.mark) mark_of (λ e. e.1) (λ k. refl) rows R cut.order sorted (λ k. grind (arith, no_mark (price_now k.issue) (price_then k.issue), number_at (λ r. r.mark) k (λ h. let p = idle_parts (row_of k) h in rw (p.0, p.1, p.2) (no_mark (price_now k.issue) (price_then k.issue))))) ∙ marks;
+    dividends = same_numbers (λ r. r.dividend) (λ e. e.1) (λ e. e.1) (λ k. refl) rows cs cut.order cents_rise (λ k. grind (arith, cents k, number_at (λ r. r.dividend) k (λ h. (idle_parts (row_of k) h).3))) ∙ none;
   }

@@ -1,12 +1,11 @@
 -- What payments book.
 -- For `pay_members`, `add` and `pay` of payments.rt.
-use Rattle.cns_sheets.proofs.Common.{◌≡◌, ◌∙◌, sym, refl, ◌+◌, ◌*◌, ◌^◌, ◌<◌, ◌≤◌, ◌==◌, ℤ, pos, ◌+ℤ◌, ◌-ℤ◌, neg_ℤ, of_z, to_z, Bool, true, not, cond, ◌&&◌, List, [], ◌∷◌, ◌++◌, Option, Some, unwrap_or, arith, FitsSigned, unsigned_abs, sum_by, is_eq, CentsByKey, IsPayable, Key, Row, added-more, by_key, cash, cents_at, closing_at, corporation, equal, exact_keys, find_below, insert_entry, ints, is_sorted, key_cmp, key_of, keys_total, lookup, magnitude, member_cash, paid, same_issue, same_key, sum_by-cons, to_z-of_z, total, total-append, total_small, w128, Declared}
+use Rattle.cns_sheets.proofs.Common.{◌≡◌, refl, ◌+◌, ◌*◌, ◌^◌, ◌<◌, ◌≤◌, ◌==◌, ℤ, pos, ◌+ℤ◌, ◌-ℤ◌, neg_ℤ, of_z, to_z, Bool, true, not, cond, ◌&&◌, List, [], ◌∷◌, ◌++◌, Option, Some, unwrap_or, arith, FitsSigned, unsigned_abs, sum_by, is_eq, CentsByKey, IsPayable, Key, Row, by_key, cash, cents_at, closing_at, corporation, equal, exact_keys, find_below, insert_entry, ints, is_sorted, key_cmp, key_of, keys_total, lookup, member_cash, paid, same_issue, same_key, sum_by-cons, sum_by-append, total, w128, Declared}
 use Rattle.std.specs.BTreeMap.{is_at}
 use Rattle.std.proofs.Math.IntN.{+ℤ_assoc, +ℤ_comm, +ℤ_idl, +ℤ_idr}
 use Rattle.std.proofs.lemmas.Cmp.{eq_by_cmp_equiv}
 use mir.Val.{hbits}
 use lib.Signed.{mag}
-use Rattle.cns_terms.proofs.Magnitudes.{added-append}
 use Rattle.cns_sheets.proofs.Weaving.{below_later, gap_cents}
 
 -- ---- cents, added at a key
@@ -35,10 +34,6 @@ fits z h = omega (arith, ints, h)
 pub wide_fits : (z : ℤ) → mag z < 2 ^ hbits w128 → FitsSigned w128 z
 wide_fits z h = record { sfits = h }
 
--- a sum in a register
-pub sum_is : (m n : ℤ) → FitsSigned w128 m → FitsSigned w128 n → unsigned_abs (m +ℤ n) ≤ 10 ^ 34 → to_z w128 (of_z w128 (to_z w128 (of_z w128 m) +ℤ to_z w128 (of_z w128 n))) ≡ m +ℤ n
-sum_is m n a b h = grind (arith, to_z-of_z w128 m a, to_z-of_z w128 n b, to_z-of_z w128 (m +ℤ n) (fits (m +ℤ n) h))
-
 -- the opposite of a number
 pub neg_is : (z : ℤ) → unsigned_abs z ≤ 10 ^ 21 → to_z w128 (of_z w128 (pos 0 -ℤ to_z w128 (of_z w128 z))) ≡ neg_ℤ z
 neg_is z h = grind arith
@@ -49,43 +44,27 @@ both_small e old part now new sum was is a b = grind arith
 
 -- ---- the members of one payment
 
--- one term more
-pub total_push : {X : Type 0} (f : X → ℤ) (xs : List X) (x : X) → total f (xs ++ x ∷ []) ≡ total f xs +ℤ f x
-total_push f xs x = omega (arith, ints, total-append f xs (x ∷ []))
-
 module _ (d : Declared) where
   -- what is booked for a row at a key
   abbrev pub booked : Key → Row → ℤ
   booked k r = cond (is_eq (key_cmp k (key_of r))) (member_cash d r) (pos 0)
 
-  -- the two words for a sum of magnitudes
-  as_added : (xs : List Row) → magnitude (member_cash d) xs ≡ sum_by (λ r. unsigned_abs (member_cash d r)) xs
-  as_added [] = refl
-  as_added (x ∷ xs) = grind (arith, sum_by-cons (λ r. unsigned_abs (member_cash d r)) x xs, as_added xs)
-
-  -- what all members get is small, added up without signs, and so is what is booked at a key
-  booked_small : (k : Key) (rows : List Row) → magnitude (member_cash d) rows ≤ 10 ^ 21 → magnitude (booked k) rows ≤ 10 ^ 21
-  booked_small k rows small = grind (arith, added-more)
-
-  small : (k : Key) (rows : List Row) → IsPayable (d, rows) → (magnitude (member_cash d) rows ≤ 10 ^ 21) × (magnitude (booked k) rows ≤ 10 ^ 21)
-  small k rows payable = let most : magnitude (member_cash d) rows ≤ 10 ^ 21 = rw (as_added rows) payable in (most, booked_small k rows most)
+  -- what is at most the cash of each row adds up to no more than all of it, whatever the signs
+  within : (f : Row → ℤ) → ((r : Row) → unsigned_abs (f r) ≤ unsigned_abs (member_cash d r)) → (rows : List Row) → unsigned_abs (total f rows) ≤ sum_by (λ r. unsigned_abs (member_cash d r)) rows
+  within f le [] = omega arith
+  within f le (r ∷ rows) = omega (arith, ints, sum_by-cons (λ r. unsigned_abs (member_cash d r)) r rows, le r, within f le rows)
 
   -- what all members get
   pub all_small : (rows : List Row) → IsPayable (d, rows) → unsigned_abs (total (member_cash d) rows) ≤ 10 ^ 21
-  all_small rows payable = omega (arith, total_small (member_cash d) rows, as_added rows, payable)
+  all_small rows payable = omega (arith, within (member_cash d) (λ r. omega arith) rows, payable)
 
   -- and at a key
   pub all_booked_small : (rows : List Row) → IsPayable (d, rows) → (k : Key) → unsigned_abs (total (booked k) rows) ≤ 10 ^ 21
-  all_booked_small rows payable k = omega (arith, total_small (booked k) rows, booked_small k rows, as_added rows, payable)
+  all_booked_small rows payable k = omega (arith, within (booked k) (λ r. grind arith) rows, payable)
 
   -- and the first of them, and the next one
-  pub step_small : (rows xs ys left zs : List Row) (r : Row) → IsPayable (d, rows) → xs ≡ rows → xs ≡ ys ++ left → left ≡ r ∷ zs → (k : Key)
-      → (unsigned_abs (total (booked k) ys) ≤ 10 ^ 21) × (unsigned_abs (member_cash d r) ≤ 10 ^ 21) × (unsigned_abs (total (member_cash d) ys) ≤ 10 ^ 21)
-  step_small rows xs ys left zs r payable given whole next k =
-      let both = rw (sym given ∙ whole, next) at (small k rows payable) in
-      let most = added-append (λ x. unsigned_abs (member_cash d x)) ys (r ∷ zs) in
-      let at = added-append (λ x. unsigned_abs (booked k x)) ys (r ∷ zs) in
-      (omega (arith, both.1, at, total_small (booked k) ys), omega (arith, both.0, most), omega (arith, both.0, most, total_small (member_cash d) ys))
+  pub step_small : (k : Key) (ys zs : List Row) (r : Row) → IsPayable (d, ys ++ r ∷ zs) → (unsigned_abs (total (booked k) ys) ≤ 10 ^ 21) × (unsigned_abs (member_cash d r) ≤ 10 ^ 21) × (unsigned_abs (total (member_cash d) ys) ≤ 10 ^ 21)
+  step_small k ys zs r payable = grind (arith, sum_by-append (λ r. unsigned_abs (member_cash d r)) ys (r ∷ zs), sum_by-cons (λ r. unsigned_abs (member_cash d r)) r zs, all_small ys, all_booked_small ys)
 
   -- ---- what a payment books at a key
 

@@ -1,6 +1,6 @@
 -- Lists in the order of keys: mapped, filtered, searched.
 -- For `of_rows`, `row`, `rows_of`, `rows_in` and `build` of sheet.rt, `first_in` of in_issue.rt and others.
-use Rattle.cns_sheets.proofs.Common.{◌≡◌, ◌∙◌, sym, ap, refl, ℕ, ◌+◌, ◌<◌, Bool, true, cond, List, [], ◌∷◌, length, get_or, drop, drop_more, map, filter, Option, Some, None, MatchOption, Ordering, is_lt, Less, arith, option_map, IsTotalOrder, Key, below_all, exact_keys, find, first, first_passing, is_sorted, key_cmp, next_above}
+use Rattle.cns_sheets.proofs.Common.{◌≡◌, sym, ap, refl, ℕ, ◌+◌, ◌<◌, Bool, true, cond, List, [], ◌∷◌, length, get_or, drop, drop_more, map, filter, Some, None, MatchOption, Ordering, is_lt, Less, arith, option_map, IsTotalOrder, Key, below_all, exact_keys, find, first, first_passing, is_sorted, key_cmp, next_above}
 use lib.Ieee.Bits.{is_true}
 use Rattle.cns_terms.proofs.Finds.{as_T}
 use Rattle.std.specs.FinMap.Entries.{find-where_key, is_sorted-where_key}
@@ -27,11 +27,7 @@ module _ {K X : Type 0} (R : K → K → Ordering) where
   -- the first that passes a test which all later keys pass, and then those above it are all that do
   pub first_above : (o : IsTotalOrder R) (t : K → Bool) (es : List (K × X)) → ((k q : K) → t k ≡ true → R k q ≡ Less → t q ≡ true) → is_sorted R es ≡ true
       → MatchOption (first (λ e. t e.0) es) (filter (λ e. t e.0) es ≡ []) (λ f. filter (λ e. t e.0) es ≡ f ∷ filter (λ e. is_lt (R f.0 e.0)) es)
-  first_above o t es up s = by (first (λ e. t e.0) es) (first_passing (λ e. t e.0) es)
-    where
-      by : (r : Option (K × X)) → MatchOption r (filter (λ e. t e.0) es ≡ []) (λ f. (rest : List (K × X)) × (filter (λ e. t e.0) es ≡ f ∷ rest)) → MatchOption r (filter (λ e. t e.0) es ≡ []) (λ f. filter (λ e. t e.0) es ≡ f ∷ filter (λ e. is_lt (R f.0 e.0)) es)
-      by None h = h
-      by (Some f) h = h.1 ∙ ap (λ ys. f ∷ ys) (sym (next_above o t es f h.0 up s h.1))
+  first_above o t es up s = grind (arith, first_passing (λ e. t e.0) es, next_above o t es)
 
 module _ {K X Y : Type 0} (R : K → K → Ordering) (f : K × X → Y) where
   pub below_keyed : (k : K) (es : List (K × X)) → below_all R k (map (λ e. (e.0, f e)) es) ≡ below_all R k es

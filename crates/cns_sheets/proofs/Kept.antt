@@ -22,14 +22,14 @@ module _ (before now : PriceList) where
   with_keys (e ∷ es) = grind (arith, with_keys es)
 
 -- the rows of holdings and of the cents that dividends book are those that a close cuts
-pub rows_cut : (before : PriceList) (prices : Listed) (R : Rows) (ps : List Paying) (cs : CentsByKey) → is_sorted key_cmp R ≡ true → is_sorted key_cmp cs ≡ true → ((k : Key) → cents_at cs k ≡ dividend_of ps k)
-    → IsCut before prices R ps (woven_rows before (listed_above prices None) (weave (held_above R None) cs))
-rows_cut before prices R ps cs s t cents =
+pub rows_cut : {before earlier now : PriceList} {rows : List Row} (prices : Listed) (R : Rows) (ps : List Paying) (cs : CentsByKey) → is_sorted key_cmp R ≡ true → is_sorted key_cmp cs ≡ true → ((k : Key) → cents_at cs k ≡ dividend_of ps k)
+    → earlier ≡ before → now ≡ listed_above prices None → rows ≡ woven_rows earlier now (weave (held_above R None) cs) → IsCut before prices R ps rows
+rows_cut {before} prices R ps cs s t cents earlier_is now_is is =
     let now = listed_above prices None in
     let rise = sorted_filter keys_total is_held R s in
     let es : List (Key × Row) = map (λ e. (e.0, woven_row before now e)) (weave (held_above R None) cs) in
     let order : is_sorted key_cmp es ≡ true = rw (sorted_keyed key_cmp (woven_row before now) (weave (held_above R None) cs)) (sorted_weave (held_above R None) cs rise t) in
-    record {
+    rw (is, earlier_is, now_is) (record {
       order = rw (with_keys before now (weave (held_above R None) cs)) (sorted_filter keys_total says es order);
       each = λ k. grind (arith, with_keys before now (weave (held_above R None) cs), find_filter keys_total says k es order, find_keyed (woven_row before now) k (weave (held_above R None) cs), find_weave k (held_above R None) cs rise, listed_found k.issue prices, cents k, held_same R k s);
-    }
+    })

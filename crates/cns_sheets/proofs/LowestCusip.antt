@@ -1,6 +1,6 @@
 -- No CUSIP comes before the lowest.
 -- For `new` of columns.rt.
-use Rattle.cns_sheets.proofs.Common.{◌≡◌, ◌∙◌, ap, sym, refl, subst, ℕ, Bool, true, false, not, List, [], ◌∷◌, ◌++◌, take, length, length-take, replicate, Option, Some, None, arith, is_some, slice_index, eqb-true, is_lt, nat_cmp, Cusip, drop_all, nat_tests, slice_cmp, drop_more, take-append-drop, IsCusip, last_fault}
+use Rattle.cns_sheets.proofs.Common.{◌≡◌, ◌∙◌, ap, sym, refl, ℕ, Bool, true, false, not, List, [], ◌∷◌, ◌++◌, take, length, length-take, replicate, Option, None, arith, is_some, slice_index, eqb-true, is_lt, nat_cmp, Cusip, drop_all, nat_tests, slice_cmp, drop_more, take-append-drop, IsCusip, last_fault}
 use Rattle.cns_sheets.specs.LowestCusip.{IsFromLowest}
 use Rattle.cns_units.specs.Cusip.{sum_of}
 
@@ -14,10 +14,6 @@ body_first doubled (c ∷ cs) rest low s h = grind (arith, nat_tests, body_first
 sums : (o : Option ℕ) (x : ℕ) → last_fault o x ≡ None → is_some o ≡ true
 sums o x h = grind arith
 
--- the check digit of eight times `#` is not below 4
-last_digit : (x : ℕ) → last_fault (Some 96) x ≡ None → is_lt (slice_cmp nat_cmp (x ∷ []) (52 ∷ [])) ≡ false
-last_digit x h = grind (arith, nat_tests)
-
 -- a text of nine characters without a fault is not below the lowest
 from_nine : (c : List ℕ) → length c ≡ 9 → last_fault (sum_of false (take 8 c)) (slice_index c 8) ≡ None → IsFromLowest c
 unfolding sum_of
@@ -25,7 +21,7 @@ from_nine c n s =
     let eight : length (take 8 c) ≡ 8 = omega (arith, length-take {A = ℕ}) in
     let whole : take 8 c ++ (slice_index c 8 ∷ []) ≡ c = ap (λ xs. take 8 c ++ xs) (sym (rw (drop_all 9 c (omega arith)) at (drop_more c 8 0 (omega arith)))) ∙ take-append-drop 8 c in
     let all = body_first false (take 8 c) (slice_index c 8 ∷ []) (52 ∷ []) (sums (sum_of false (take 8 c)) (slice_index c 8) s)
-    (λ same. last_digit (slice_index c 8) (subst (λ cs. last_fault (sum_of false cs) (slice_index c 8) ≡ None) (same ∙ ap (λ n. replicate n 35) eight) s)) in
+    (λ same. let at = rw (same, eight) at s in grind (arith, nat_tests)) in
     rw (whole, eight) at all
 
 -- no CUSIP is below the lowest

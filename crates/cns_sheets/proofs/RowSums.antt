@@ -1,10 +1,14 @@
 -- Sums over rows, one row after another.
 -- For `build` of sheet.rt, `pay_members` of payments.rt.
-use Rattle.cns_sheets.proofs.Common.{◌≡◌, ◌∙◌, sym, ℕ, ◌*◌, ◌^◌, ◌≤◌, ◌+ℤ◌, ◌-ℤ◌, List, [], ◌∷◌, ◌++◌, length, take, append_assoc, arith, unsigned_abs, AllByRecursion, IsMarked, Row, added, added-each, amount_limit, each_weaker, front_total, ints, sum_limit, total, total-add, total-same}
+use Rattle.cns_sheets.proofs.Common.{◌≡◌, ◌∙◌, sym, ℕ, ◌*◌, ◌^◌, ◌≤◌, ◌+ℤ◌, ◌-ℤ◌, List, [], ◌∷◌, ◌++◌, length, take, append_assoc, arith, unsigned_abs, AllByRecursion, IsMarked, Row, added, added-each, amount_limit, total-append, ℤ, each_weaker, front_total, ints, sum_limit, total, total-add, total-same}
 
 -- what an iterator gave and has left, after one more
 pub onward : {X : Type 0} (xs ys left : List X) (x : X) (zs : List X) → xs ≡ ys ++ left → left ≡ x ∷ zs → xs ≡ (ys ++ x ∷ []) ++ zs
 onward xs ys left x zs whole next = rw (whole, next) (sym (append_assoc ys (x ∷ []) zs))
+
+-- one term more
+pub total_push : {X : Type 0} (f : X → ℤ) (xs : List X) (x : X) → total f (xs ++ x ∷ []) ≡ total f xs +ℤ f x
+total_push f xs x = omega (arith, ints, total-append f xs (x ∷ []))
 
 -- ---- the marks of an account
 

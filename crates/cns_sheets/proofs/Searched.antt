@@ -20,13 +20,9 @@ prices_past prices c i s lt tied = sym (filter_back (λ e. is_after (Some c) e.0
     (λ k d p q. grind (arith, nat_list_cmp_total.congr (get_or prices i d).0 c (get_or prices k d).0 (tied d), nat_list_cmp_total.antisymm, below_later nat_list_cmp_total prices k i d s))
     (λ k d p q. grind (arith, nat_list_cmp_total.congr (get_or prices i d).0 c (get_or prices k d).0 (tied d), below_later nat_list_cmp_total prices i k d s)))
 
--- what comes after an issue that is passed is passed too
-above_later : (after : Option Cusip) (c d : Cusip) → is_after after c ≡ true → slice_cmp nat_cmp c d ≡ Less → is_after after d ≡ true
-above_later after c d p l = grind (arith, nat_list_cmp_total.trans)
-
 -- what stands at a place, if anything does, where the prices above an issue begin there
 pub price_at : (prices : PriceList) (after : Option Cusip) (i : ℕ) (r : Option (Bor (Cusip × Price))) → is_sorted (slice_cmp nat_cmp) prices ≡ true → drop i prices ≡ prices_above prices after
     → MatchOption r (length prices ≤ i) (λ x. (i < length prices) × HoldsAt (λ y. x.now ≡ y) prices i)
     → MatchOption (option_copied r) (prices_above prices after ≡ []) (λ e. prices_above prices after ≡ e ∷ prices_above prices (Some e.0))
 price_at prices after i None s whole h = sym whole ∙ drop_all i prices h
-price_at prices after i (Some x) s whole h = grind (arith, next_is prices i x.now h.0 (h.1 x.now), next_above nat_list_cmp_total (is_after after) prices x.now (drop (i + 1) prices) (above_later after) s)
+price_at prices after i (Some x) s whole h = grind (arith, next_is prices i x.now h.0 (h.1 x.now), next_above nat_list_cmp_total (is_after after) prices x.now (drop (i + 1) prices) (λ c d p l. grind (arith, nat_list_cmp_total.trans)) s)

@@ -15,8 +15,8 @@ pub sorted_filled : (es : List (Key × Columns)) → is_sorted key_cmp (by_key (
 sorted_filled es = grind (arith, rows_keyed es, sorted_keyed key_cmp full_row es)
 
 -- what is found among the columns, as a row
-pub row_found : (k : Key) (es : List (Key × Columns)) (o : Option Columns) → o ≡ find key_cmp k es → option_map (λ v. full_row (k, v)) o ≡ row_at (full_rows es) k
-row_found k es o h = grind (arith, rows_keyed es, find_keyed full_row k es)
+pub row_found : (k : Key) (es : List (Key × Columns)) → row_at (full_rows es) k ≡ option_map (λ v. full_row (k, v)) (find key_cmp k es)
+row_found k es = grind (arith, rows_keyed es, find_keyed full_row k es)
 
 -- rows that a test keeps are in order, where all are
 pub sorted_kept : (p : Row → Bool) (rows : List Row) → is_sorted key_cmp (by_key rows) ≡ true → is_sorted key_cmp (by_key (filter p rows)) ≡ true

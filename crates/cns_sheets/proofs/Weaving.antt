@@ -1,6 +1,6 @@
 -- Cents by key, and holdings that are woven with them.
 -- For `take` and `next_below` of in_order.rt, `push_holding`, `push_paid` and `collect` of cutting.rt and others.
-use Rattle.cns_sheets.proofs.Common.{◌≡◌, sym, ap, refl, ℤ, pos, Bool, true, false, not, List, [], ◌∷◌, ◌++◌, filter, Option, Some, None, unwrap_or, MatchOption, is_lt, ◌&&◌, Less, arith, AllByRecursion, CentsByKey, Holding, Key, Rows, Woven, below_all, cents_at, exact_keys, find, find_below, higher, is_sorted, key_cmp, keys_total, lower, option_or, past, tied_itself, unheld, weave, zeros, is_below, left_of}
+use Rattle.cns_sheets.proofs.Common.{◌≡◌, ap, refl, ℤ, pos, Bool, true, false, not, List, [], ◌∷◌, ◌++◌, filter, Option, Some, None, unwrap_or, is_lt, ◌&&◌, Less, arith, AllByRecursion, CentsByKey, Holding, Key, Rows, Woven, below_all, cents_at, exact_keys, find, find_below, higher, is_sorted, key_cmp, keys_total, lower, option_or, past, tied_itself, unheld, weave, zeros, is_below}
 use Rattle.cns_sheets.proofs.Entries.{below_keyed, find_if, find_keyed, sorted_if, sorted_keyed}
 
 -- cents without a holding
@@ -47,20 +47,10 @@ pub higher_past : (k : Key) (cs : CentsByKey) → higher k (past (Some k) cs) �
 higher_past k [] = refl
 higher_past k (c ∷ cs) = grind (arith, keys_total.antisymm, higher_past k cs)
 
--- ---- the first of the cents, read ahead
-
-module _ (k : Key) (next : Option (Key × ℤ)) (rest all : CentsByKey) (c : Key × ℤ) (whole : all ≡ left_of next rest) where
-  -- where the first one is not the key's, it has none, and all that is left is higher
-  pub nothing_here : is_sorted key_cmp (left_of next rest) ≡ true → next ≡ Some c → (b : Bool) → (c.0 ≡ k → b ≡ true) → b ≡ false → lower (Some k) all ≡ [] → (pos 0 ≡ cents_at all k) × (all ≡ higher k all)
-  nothing_here s is b same other none = let below : below_all key_cmp k all ≡ true = grind (arith, below_later, exact_keys, keys_total.antisymm) in (sym (gap_cents k all below), sym (all_higher k all below))
-
-  -- the first one has its own
-  pub same_at : next ≡ Some c → c.0 ≡ k → c.1 ≡ cents_at all k
-  same_at is same = grind (arith, keys_total)
-
-  -- and leaves those of higher keys
-  pub same_taken : (r : Option (Key × ℤ)) (left : CentsByKey) → is_sorted key_cmp (left_of next rest) ≡ true → next ≡ Some c → c.0 ≡ k → MatchOption r ((rest ≡ []) × (left ≡ [])) (λ e. rest ≡ e ∷ left) → left_of r left ≡ higher k all
-  same_taken r left s is same gives = grind (arith, keys_total, all_higher)
+-- the first of the cents is a key's, which has none lower, and the rest are of higher keys; or the key has none, and all are
+pub taken : (k : Key) (c : Key × ℤ) (cs : CentsByKey) → lower (Some k) (c ∷ cs) ≡ [] → is_sorted key_cmp (c ∷ cs) ≡ true
+    → (c.0 ≡ k → (cents_at (c ∷ cs) k ≡ c.1) × (higher k (c ∷ cs) ≡ cs)) × ((c.0 ≡ k → ⊥) → (cents_at (c ∷ cs) k ≡ pos 0) × (higher k (c ∷ cs) ≡ c ∷ cs))
+taken k c cs none s = grind (arith, keys_total, exact_keys k c.0, keys_total.antisymm k c.0, below_later k c.0 cs, gap_cents k (c ∷ cs), all_higher k (c ∷ cs), all_higher k cs)
 
 -- ---- searches
 

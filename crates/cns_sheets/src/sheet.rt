@@ -164,6 +164,7 @@ impl<A: Allocator + Drop + Clone> Sheet<A> {
     }
 
     /// The row of an account in an issue; None where the sheet has none, since it would say nothing.
+    #[tactic(auto, using(crate::proofs::Walked::row_found))]
     pub fn row(&self, key: Key) -> Option<Row>
         ensures { result ≡ row_at self.now.rows key }
     {

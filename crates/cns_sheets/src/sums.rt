@@ -51,6 +51,7 @@ fn wrapped_sum(a: Cents, b: Cents) -> Cents
 }
 
 /// The count of an account's rows, the sum of their marks, and that of their dividends.
+#[tactic(auto, using(crate::proofs::Added::more, crate::proofs::RowSums::onward, std::proofs::lemmas::List::length_push))]
 pub fn account_sums<A: Allocator + Clone>(rows: AccountRows<'_, A>) -> Totals
     requires few { length rows < 2 ^ 64 }
     requires mark { FitsSigned w128 (total (λ r. r.mark) rows) }
@@ -67,6 +68,7 @@ pub fn account_sums<A: Allocator + Clone>(rows: AccountRows<'_, A>) -> Totals
 }
 
 /// The same of all rows of a sheet.
+#[tactic(auto, using(crate::proofs::Added::more, crate::proofs::RowSums::onward, std::proofs::lemmas::List::length_push))]
 pub fn sheet_sums<A: Allocator + Clone>(rows: SheetRows<'_, A>) -> Totals
     requires few { length rows < 2 ^ 64 }
     requires mark { FitsSigned w128 (total (λ r. r.mark) rows) }

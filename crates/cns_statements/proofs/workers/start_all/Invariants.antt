@@ -1,10 +1,10 @@
-use Rattle.cns_statements.proofs.Common.{◌≡◌, ◌+◌, ◌++◌, List, Vec, vec_len, Account, Global, AllAre}
+use Rattle.cns_statements.proofs.Common.{◌≡◌, ◌+◌, ◌++◌, vec_len, AllAre}
 use Rattle.cns_statements.proofs.workers.start_all.Given as goal
 
--- the parts of the threads so far and those that are left are all
+-- threads for the parts that are left would do, beside those so far
 abbrev pub invariant-starting : goal.invariant-starting
 invariant-starting g l = record {
-  all : (done : List (Vec Account Global)) × (done ++ l.parts.items ≡ l.fn.parts.items) × AllAre l.sheet done l.handles.items;
+  all : (hs : _) → AllAre l.sheet l.parts.items hs → AllAre l.sheet l.fn.parts.items (l.handles.items ++ hs);
   number : l.number + vec_len l.parts ≡ vec_len l.fn.parts;
 }
 

@@ -1,4 +1,4 @@
-use Rattle.cns_sheets.proofs.Common.{◌≡◌, ◌∙◌, refl, not, true, List, [], ◌∷◌, filter, unsigned_abs, arith, IsPayable, Key, Row, by_key, ints, key_of, member_cash, paid, row_at, same_issue, total, sum_by-filter_both, Declared}
+use Rattle.cns_sheets.proofs.Common.{◌≡◌, ◌∙◌, refl, not, true, List, [], ◌∷◌, filter, unsigned_abs, arith, IsPayable, Key, Row, by_key, ints, key_of, member_cash, paid, same_issue, total, sum_by-filter_both, Declared}
 use Rattle.cns_sheets.proofs.Entries.{filter-map, find_if, next_is}
 use Rattle.cns_sheets.proofs.payments.Paid.new.Goals as goal
 
@@ -16,27 +16,19 @@ module _ (d : Declared) where
   payable_in : (rows : List Row) → IsPayable (d, rows) → IsPayable (d, rows_in rows)
   payable_in rows h = omega (arith, sum_by-filter_both (λ r. same_issue r.issue d.issue) (λ r. not (same_issue r.issue d.issue)) (λ r. refl) (λ r. unsigned_abs (member_cash d r)) rows, h)
 
-  -- a key in the issue has the same row
-  same_row : (k : Key) → same_issue k.issue d.issue ≡ true → (rows : List Row) → row_at (rows_in rows) k ≡ row_at rows k
-  same_row k own rows = rw (← filter-map (λ (e : Key × Row). same_issue e.0.issue d.issue) (λ r. (key_of r, r)) rows, find_if (λ q. same_issue q.issue d.issue) k (by_key rows), own) refl
-
   -- what a dividend pays on the rows in its issue is what it pays on all
   paid_in : (rows : List Row) (k : Key) → paid d (rows_in rows) k ≡ paid d rows k
-  paid_in rows k = grind (arith, same_total, same_row)
+  paid_in rows k = grind (arith, same_total rows, filter-map (λ (e : Key × Row). same_issue e.0.issue d.issue) (λ r. (key_of r, r)) rows, find_if (λ q. same_issue q.issue d.issue) k (by_key rows))
 
 pub pay-requires-clause-payable : goal.pay-requires-clause-payable
-pay-requires-clause-payable g c =
-    let kept = rw (next_is c.args.payments.now c.loop-payment.payment-index c.payment-item.result c.loop-payment-test.true c.payment-item.is) at c.loop-payment.invariant.payable in
-    rw c.rows_in-rows.ensures.rows (payable_in c.payment-item.result.declared _ kept.0)
+pay-requires-clause-payable g c = grind (arith, payable_in c.payment-item.result.declared c.payment-item.result.sheet.now.rows, next_is c.args.payments.now c.loop-payment.payment-index c.payment-item.result)
 
 pub loop-payment-preserved : goal.loop-payment-preserved
 loop-payment-preserved g c =
-    let kept = rw (next_is c.args.payments.now c.loop-payment.payment-index c.payment-item.result c.loop-payment-test.true c.payment-item.is) at c.loop-payment.invariant in
+    let next = next_is c.args.payments.now c.loop-payment.payment-index c.payment-item.result c.loop-payment-test.true c.payment-item.is in
     record {
-      cents = λ k.
-          let more = rw c.rows_in-rows.ensures.rows at (c.in_ok-pay.ensures.cents c.rows_in-rows.ensures.order k) in
-          omega (arith, ints, kept.cents k, more, paid_in c.payment-item.result.declared c.payment-item.result.sheet.now.rows k);
-      payable = kept.payable.1;
+      cents = λ k. omega (arith, ints, rw next at (c.loop-payment.invariant.cents k), rw c.rows_in-rows.ensures.rows at (c.in_ok-pay.ensures.cents c.rows_in-rows.ensures.order k), paid_in c.payment-item.result.declared c.payment-item.result.sheet.now.rows k);
+      payable = grind (arith, next);
       small = λ k. omega (arith, c.loop-payment.invariant.small k, c.in_ok-pay.ensures.bound k);
       zero = c.in_ok-pay.ensures.sum ∙ c.loop-payment.invariant.zero;
     }
