@@ -6,14 +6,14 @@ use Rattle.std.proofs.Math.IntN.{+ℤ_assoc, +ℤ_comm, +ℤ_idl, +ℤ_idr}
 use Rattle.std.proofs.lemmas.Cmp.{eq_by_cmp_equiv}
 use mir.Val.{hbits}
 use lib.Signed.{mag}
-use Rattle.cns_sheets.proofs.Weaving.{below_later, gap_cents}
+use Rattle.cns_sheets.proofs.Weaving.{below_later}
 
 -- ---- cents, added at a key
 
 -- the sum of cents, with more at one key
 pub sum_added : (k : Key) (v cents : ℤ) (es : CentsByKey) → is_sorted key_cmp es ≡ true → v ≡ cents_at es k +ℤ cents → total (λ e. e.1) (insert_entry key_cmp es k v) ≡ total (λ e. e.1) es +ℤ cents
 sum_added k v cents [] s is = omega (arith, ints, is)
-sum_added k v cents (e ∷ es) s is = grind (arith, is, +ℤ_idl, +ℤ_assoc, +ℤ_comm cents (e.1 +ℤ total (λ e. e.1) es), +ℤ_comm cents (total (λ e. e.1) es), gap_cents k es, below_later k e.0 es, sum_added k v cents es)
+sum_added k v cents (e ∷ es) s is = grind (arith, is, +ℤ_idl, +ℤ_assoc, +ℤ_comm cents (e.1 +ℤ total (λ e. e.1) es), +ℤ_comm cents (total (λ e. e.1) es), find_below keys_total k es, below_later k e.0 es, sum_added k v cents es)
 
 -- what a search found, as the cents at a key
 pub had_is : (k : Key) (es : CentsByKey) (o : Option ℤ) (n : ℤ) → n ≡ unwrap_or o (pos 0) → o ≡ lookup (is_at (key_cmp k)) es → n ≡ cents_at es k
