@@ -33,12 +33,9 @@ module _ {X : Type 0} (issue : X → Cusip) (f : X → ℤ) where
     kept_zero t [] h = refl
     kept_zero t (x ∷ xs) h = grind (arith, ints, split t (issue x) xs, times_sum (f x) (total (in_issue (issue x)) xs) (w (issue x)), zero-*ℤ (pos (w (issue x))), bytes_eq-Decides (issue x) (issue x), h (issue x), kept_zero (λ d. t d && not (same_issue d (issue x))) xs (λ c q. grind (arith, ints, bytes_eq-Decides (issue x) c, bytes_eq-Decides c (issue x), h c)))
 
-    zero_weighed : (xs : List X) → ((c : Cusip) → total (in_issue c) xs ≡ pos 0) → total (λ x. f x *ℤ pos (w (issue x))) xs ≡ pos 0
-    zero_weighed xs h = kept_zero (λ c. true) xs (λ c q. h c)
-
   -- and as it is
   zero_by_issue : (xs : List X) → ((c : Cusip) → total (in_issue c) xs ≡ pos 0) → total f xs ≡ pos 0
-  zero_by_issue xs h = total-same f (λ x. f x *ℤ pos 1) xs (λ x. omega (arith, ints)) ∙ zero_weighed (λ c. 1) xs h
+  zero_by_issue xs h = total-same f (λ x. f x *ℤ pos 1) xs (λ x. omega (arith, ints)) ∙ kept_zero (λ c. 1) (λ c. true) xs (λ c q. h c)
 
 -- ---- two lists of numbers by keys that answer alike
 
@@ -127,8 +124,8 @@ module _ (before : Option DaySheet) (prices : Listed) (R : Rows) (ps : List Payi
       ∙ rw (
         total-add (λ e. worth e.1.now (price_now e.0.issue)) (λ e. neg_ℤ (worth e.1.opening (price_then e.0.issue))) R,
         total-neg (λ e. worth e.1.opening (price_then e.0.issue)) R,
-        zero_weighed (λ e. e.0.issue) (λ e. e.1.now) price_now R ready.shares,
-        zero_weighed (λ e. e.0.issue) (λ e. e.1.opening) price_then R openings,
+        kept_zero (λ e. e.0.issue) (λ e. e.1.now) price_now (λ c. true) R (λ c q. ready.shares c),
+        kept_zero (λ e. e.0.issue) (λ e. e.1.opening) price_then (λ c. true) R (λ c q. openings c),
         zero_by_issue (λ e. e.0.issue) (λ e. e.1.contract) R ready.cents,
       ) refl
 

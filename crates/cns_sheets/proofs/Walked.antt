@@ -57,20 +57,20 @@ module _ (a : Account) where
     from_kept t h = record { rise = rw (sorted_filled (filter (λ e. t e.0) es)) (sorted_if key_cmp t es (rw sorted_filled at s)); past = each_map (λ r. a ≤ r.account) full_row _ (each_weaker (λ e. t e.0 ≡ true) (λ e. a ≤ e.0.account) _ (λ e. h e.0) (recursion_from_All _ _ (filter_passes (λ e. t e.0) es))) }
 
     -- what the walk past a row has left
-    abbrev Walked : Option Row → Type 0
-    Walked o = AreFrom a (full_rows (filter (is_after (Some (passed a o))) es)) × (rows_for (full_rows es) a ≡ ahead_of o (full_rows (filter (is_after (Some (passed a o))) es)) a)
+    abbrev Walked : Option Row → List (Key × Columns) → Type 0
+    Walked o walk = AreFrom a (full_rows walk) × (rows_for (full_rows es) a ≡ ahead_of o (full_rows walk) a)
 
     -- above a key of the account are rows from it on
     above_from : (k : Key) → k.account ≡ a → AreFrom a (full_rows (filter (is_after (Some k)) es))
     above_from k same = from_kept (λ q. is_lt (key_cmp k q)) (λ q e. grind (arith, nat_tests))
 
     -- the first row from the account on is the account's, or the account has none
-    walked : (b : Bool) (f : Key × Columns) → (f.0.account == a) ≡ b → filter (λ e. is_from e.0) es ≡ f ∷ filter (λ e. is_lt (key_cmp f.0 e.0)) es → Walked (cond b (Some (full_row f)) None)
+    walked : (b : Bool) (f : Key × Columns) → (f.0.account == a) ≡ b → filter (λ e. is_from e.0) es ≡ f ∷ filter (λ e. is_lt (key_cmp f.0 e.0)) es → Walked (cond b (Some (full_row f)) None) (filter (is_after (Some (passed a (cond b (Some (full_row f)) None)))) es)
     walked true f own is = (above_from f.0 (eqb-true _ _ own), all_from es m ∙ ap (λ xs. rows_for (full_rows xs) a) is ∙ rw own refl)
     walked false f own is =
         (above_from (lowest_of a) refl, all_from es m ∙ ap (λ xs. rows_for (full_rows xs) a) is ∙ none_is a (full_row f) _ (subst (λ xs. AreFrom a (full_rows xs)) is (from_kept is_from (λ k e. grind (arith, nat_tests)))) own)
 
     -- what a search finds of the account: its first row, followed by those above it
-    pub account_walk : (r : Option (Key × Columns)) → r ≡ first (is_at_or_after (lowest_of a)) es → Walked (if_of a r)
-    account_walk None is = (above_from (lowest_of a) refl, all_from es m ∙ ap (λ xs. rows_for (full_rows xs) a) (rw (← is) at (first_above key_cmp keys_total is_from es (from_later (lowest_of a)) (rw sorted_filled at s))))
-    account_walk (Some f) is = walked (f.0.account == a) f refl (rw (← is) at (first_above key_cmp keys_total is_from es (from_later (lowest_of a)) (rw sorted_filled at s)))
+    pub account_walk : {o : Option Row} {walk : List (Key × Columns)} (r : Option (Key × Columns)) → r ≡ first (is_at_or_after (lowest_of a)) es → o ≡ if_of a r → walk ≡ filter (is_after (Some (passed a o))) es → Walked o walk
+    account_walk None is row_is walk_is = rw (walk_is, row_is) (above_from (lowest_of a) refl, all_from es m ∙ ap (λ xs. rows_for (full_rows xs) a) (rw (← is) at (first_above key_cmp keys_total is_from es (from_later (lowest_of a)) (rw sorted_filled at s))))
+    account_walk (Some f) is row_is walk_is = rw (walk_is, row_is) (walked (f.0.account == a) f refl (rw (← is) at (first_above key_cmp keys_total is_from es (from_later (lowest_of a)) (rw sorted_filled at s))))
