@@ -1,6 +1,6 @@
 -- Cents by key, and holdings that are woven with them.
 -- For `take` and `next_below` of in_order.rt, `push_holding`, `push_paid` and `collect` of cutting.rt and others.
-use Rattle.cns_sheets.proofs.Common.{◌≡◌, ap, refl, ℤ, pos, Bool, true, false, not, List, [], ◌∷◌, ◌++◌, filter, Option, Some, None, unwrap_or, is_lt, Less, arith, CentsByKey, Holding, Key, Rows, Woven, below_all, cents_at, exact_keys, find, find_below, higher, is_sorted, key_cmp, keys_total, lower, option_or, past, tied_itself, unheld, weave, zeros, is_below}
+use Rattle.cns_sheets.proofs.Common.{◌≡◌, ap, refl, ℤ, pos, Bool, true, false, List, [], ◌∷◌, ◌++◌, filter, Option, Some, None, unwrap_or, is_lt, Less, arith, CentsByKey, Holding, Key, Rows, Woven, below_all, cents_at, exact_keys, find, find_below, higher, is_sorted, key_cmp, keys_total, lower, option_or, past, unheld, weave, zeros, is_below}
 use Rattle.cns_sheets.proofs.Entries.{below_keyed, find_if, find_keyed, sorted_if, sorted_keyed}
 
 -- cents without a holding
@@ -34,11 +34,7 @@ pub below_later : (k q : Key) {X : Type 0} (cs : List (Key × X)) → key_cmp k 
 below_later k q [] l b = refl
 below_later k q (c ∷ cs) l b = grind (arith, keys_total.trans k q c.0, below_later k q cs l)
 
--- the cents at a key stand past those of lower keys
-pub cents_past : (k : Key) (cs : CentsByKey) → cents_at (past (Some k) cs) k ≡ cents_at cs k
-cents_past k cs = grind (arith, find_if (λ q. not (is_lt (key_cmp q k))) k cs, tied_itself keys_total k)
-
--- so do those of higher keys
+-- the cents of higher keys stand past those of lower keys
 pub higher_past : (k : Key) (cs : CentsByKey) → higher k (past (Some k) cs) ≡ higher k cs
 higher_past k [] = refl
 higher_past k (c ∷ cs) = grind (arith, keys_total.antisymm, higher_past k cs)
