@@ -1,4 +1,4 @@
-use Rattle.cns_retransmit.proofs.Common.{◌∙◌, sym, refl, arith, called_in, on_ok_weaker}
+use Rattle.cns_retransmit.proofs.Common.{◌∙◌, sym, refl, called_in, on_ok_weaker}
 use Rattle.cns_retransmit.proofs.Calling.{short_more}
 use Rattle.cns_retransmit.proofs.calls.Calls.short.Goals as goal
 
