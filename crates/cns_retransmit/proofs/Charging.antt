@@ -25,8 +25,7 @@ module _ (fills : List Fill) (initial : List Liable) (i : ℕ) (f : Fill) (can :
   pub next_enough : f.shares ≤ (get_or now p d).left
   next_enough =
       let within : IsWithin initial f = rw is (All-get_or (IsWithin initial) fills i f lt can.within) in
-      let first = ungiven f.member (take i fills) (grind (arith, nat_tests, sum_by_more_le (λ (g : Fill). one_if (nat_eq g.member f.member)) fills i f, can.once f.member)) in
-      grind (arith, length-map, get_or-map (charged (take i fills)) initial p d d, left_at f.member initial p d once, first, within.enough)
+      grind (arith, nat_tests, length-map, get_or-map (charged (take i fills)) initial p d d, left_at f.member initial p d once, ungiven f.member (take i fills), sum_by_more_le (λ (g : Fill). one_if (nat_eq g.member f.member)) fills i f, can.once f.member, within.enough)
 
   -- with it one more is charged
   pub next_charged : (e : Liable) → set now p (record { member = (get_or now p e).member; age = (get_or now p e).age; closing = (get_or now p e).closing; left = (get_or now p d).left - f.shares }) ≡ map (charged (take (i + 1) fills)) initial
@@ -45,9 +44,7 @@ fills_count each n m from a (l ∷ ls) = grind (arith, fills_count each n m (fro
 -- and each is for a member of the batch, and for no more than is left there
 each_within : (each : Liable → ℕ) (n m from : ℕ) (ls : List Liable) → ((a : Member) → members_of a ls ≤ 1) → ((l : Liable) → each l ≤ l.left) → AllByRecursion (IsWithin ls) (laid each n m from ls)
 each_within each n m from [] once le = tt
-each_within each n m from (l ∷ ls) once le =
-    let first = (rest_once of l ls once).0 in
-    (grind (arith, nat_tests, le l, many_more of l.member l ls), each_weaker (IsWithin ls) (IsWithin (l ∷ ls)) _ (λ f w. grind (arith, nat_tests, first, w, many_more of f.member l ls)) (each_within each n m (from + each l) ls (rest_once of l ls once).1 le))
+each_within each n m from (l ∷ ls) once le = grind (arith, nat_tests, le l, many_more of l.member l ls, each_weaker (IsWithin ls) (IsWithin (l ∷ ls)) (laid each n m (from + each l) ls) (λ f w. grind (arith, nat_tests, (rest_once of l ls once).0, w, many_more of f.member l ls)), each_within each n m (from + each l) ls (rest_once of l ls once).1 le)
 
 -- a batch can be charged with the fills of an execution
 pub fills_chargeable : (short : Member → ℕ) (n m : ℕ) (ls : List Liable) → ((a : Member) → members_of a ls ≤ 1) → CanBeCharged (fills_of short n m ls) ls

@@ -23,5 +23,4 @@ pub choosing_more : {ss : List Short} {called i : ℕ} {s : Short} {liables : Li
 choosing_more {ss} {called} {i} {s} {liables} {age} {older} {sum} c lt is more now as_old younger taken left =
     let next : drop i ss ≡ s ∷ drop (i + 1) ss = drop_next ss i s lt is in
     let cons : (a : ℕ) → sum_by (if_older a) (drop i ss) ≡ if_older a s + sum_by (if_older a) (drop (i + 1) ss) = λ a. rw next (sum_by-cons (if_older a) s (drop (i + 1) ss)) in
-    let now_is : now ≡ sum_by (if_older s.age) ss = grind (arith, nat_tests, cases_eq i 0, c, next, cons s.age, no_older s.age (drop (i + 1) ss)) in
-    grind (arith, nat_tests, c, next, now_is, append_assoc, cons, sum_by_more (λ (s : Short). s.shares) ss i s)
+    grind (arith, nat_tests, cases_eq i 0, c, next, cons, no_older s.age (drop (i + 1) ss), append_assoc, sum_by_more (λ (s : Short). s.shares) ss i s)

@@ -1,5 +1,5 @@
 -- The names that most proofs of this crate cite, passed on from one place: those of proofs/Common.antt of cns_terms, its types, and this crate's words. Declares nothing.
-pub use Rattle.std.proofs.Common.{All, Bool, Equal, Greater, IsPermutation, Less, List, None, Option, Ordering, Some, [], add-one, ap, append-nil, append_assoc, arith, bytes_eq, cond, drop, false, filter, get_or, get_or-set_other, get_or-set_same, get_or-take, is_eq, is_lt, length, length-set, length-take, map, min, nat_cmp, nat_eq, nat_lt, option_map, refl, rules, set, suc, sum_by, sym, take, true, zero, ℕ, ◌*◌, ◌++◌, ◌+◌, ◌-◌, ◌/◌, ◌&&◌, ◌<◌, ◌∙◌, ◌∷◌, ◌≡◌, ◌≤◌, ◌⊎◌, subst}
+pub use Rattle.std.proofs.Common.{All, Bool, Equal, Greater, IsPermutation, Less, List, None, Option, Ordering, Some, [], add-one, ap, append-nil, append_assoc, arith, bytes_eq, cond, drop, false, filter, get_or, get_or-set_other, get_or-set_same, get_or-take, is_eq, is_lt, length, length-set, length-take, map, min, nat_cmp, nat_eq, nat_lt, option_map, refl, rules, set, suc, sum_by, sym, take, true, zero, ℕ, ◌*◌, ◌++◌, ◌+◌, ◌-◌, ◌/◌, ◌&&◌, ◌<◌, ◌∙◌, ◌∷◌, ◌≡◌, ◌≤◌, ◌⊎◌}
 pub use Rattle.std.proofs.lemmas.Bool.{cases_eq}
 pub use Rattle.std.proofs.lemmas.List.{drop_more, ext_get_or, get_or-map, get_or_default, length-map, nil_from_length, set_past}
 pub use Rattle.std.proofs.lemmas.List.Elements.{All-from_recursion, All-get_or, recursion_from_All}

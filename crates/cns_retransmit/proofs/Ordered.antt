@@ -1,10 +1,9 @@
 -- Shorts in the order of filling.
 -- For `choose` and `in_filling_order` of choice.rt.
-use Rattle.cns_retransmit.proofs.Common.{◌&&◌, ◌≡◌, ◌∙◌, sym, ap, refl, ℕ, suc, ◌+◌, ◌<◌, ◌≤◌, Bool, true, false, List, [], ◌∷◌, length, get_or, nat_eq, sum_by, arith, IsPermutation, is_lt, nat_cmp, add-one, IsOldestFirst, Member, NoneOlder, Short, fills_before, in_order, nat_tests, ordering_then, shorts_of, sum_by-cons, above_all, is_rising, list_any, Ordering, is_eq, subst}
+use Rattle.cns_retransmit.proofs.Common.{◌&&◌, ◌≡◌, ◌∙◌, sym, ap, refl, ℕ, suc, ◌+◌, ◌<◌, ◌≤◌, Bool, true, false, List, [], ◌∷◌, length, get_or, nat_eq, sum_by, arith, IsPermutation, is_lt, nat_cmp, add-one, IsOldestFirst, Member, NoneOlder, Short, fills_before, in_order, nat_tests, ordering_then, shorts_of, sum_by-cons, above_all, is_rising, list_any, Ordering, is_eq}
 use Rattle.std.proofs.lemmas.List.Sorted.{sum_by-IsPermutation}
 use Rattle.std.specs.Cmp.{IsTotalOrder}
 use mathlib.Core.Path.{fun_ext}
-use Rattle.cns_terms.specs.Sums.{put}
 use Rattle.cns_terms.proofs.Facts.{same_order as sum_of_order}
 use Rattle.cns_terms.proofs.Rising.{above_through, rising_put}
 use Rattle.cns_retransmit.proofs.Lists.{many_more, one_if, places_apart, rest_once}
@@ -45,8 +44,7 @@ absent s (t ∷ ts) none = grind (arith, nat_tests, many_more of s.member t ts, 
 -- shorts of distinct members, in the order of filling
 pub order_is : (ss : List Short) → ((a : Member) → shorts_of a ss ≤ 1) → is_rising order (in_order fills_before ss) ≡ true
 order_is [] once = refl
-order_is (s ∷ ss) once = subst (λ before. is_rising order (put before s (in_order fills_before ss)) ≡ true) before_is
-    (rising_put order_total s (in_order fills_before ss) (order_is ss (rest_once of s ss once).1) (absent s (in_order fills_before ss) (sum_in_order _ fills_before ss ∙ (rest_once of s ss once).0)))
+order_is (s ∷ ss) once = rw (← before_is) (rising_put order_total s (in_order fills_before ss) (order_is ss (rest_once of s ss once).1) (absent s (in_order fills_before ss) (sum_in_order _ fills_before ss ∙ (rest_once of s ss once).0)))
 
 -- ---- a sort
 

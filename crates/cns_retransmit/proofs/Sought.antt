@@ -1,6 +1,6 @@
 -- What a search finds among batches whose issues rise, and what a charge changes there.
 -- For `place`, `charge` and `find` of day.rt, `charge` of batches.rt.
-use Rattle.cns_retransmit.proofs.Common.{◌≡◌, ◌∙◌, sym, ap, refl, ℕ, zero, suc, ◌-◌, ◌<◌, ◌≤◌, true, false, List, [], ◌∷◌, length, get_or, set, Some, None, Ordering, arith, Less, Equal, Greater, is_eq, nat_cmp, bytes_eq, All, get_or-set_same, get_or-set_other, length-set, nat_tests, AllWithin, Cusip, Fill, IsNonDecreasingBy, Liables, RiseByIssue, batch_in, below_all, by_issue, cases_lt, changed_at, charged_in, is_eq-slice_cmp, less, nat_list_cmp_total, ordering_index, slice_cmp, get_or-map, ext_get_or, cases_eq, find_at, map_fixed, position_or_len_is, length-map, get_or_head, get_or_tail, set_past, charged_by, charged_if, charged_on}
+use Rattle.cns_retransmit.proofs.Common.{◌≡◌, sym, refl, ℕ, zero, suc, ◌-◌, ◌<◌, ◌≤◌, true, false, List, [], ◌∷◌, length, get_or, set, Some, None, Ordering, arith, Less, Equal, Greater, nat_cmp, bytes_eq, All, get_or-set_same, get_or-set_other, length-set, nat_tests, AllWithin, Cusip, Fill, IsNonDecreasingBy, Liables, RiseByIssue, batch_in, below_all, by_issue, cases_lt, changed_at, charged_in, is_eq-slice_cmp, less, nat_list_cmp_total, ordering_index, slice_cmp, get_or-map, ext_get_or, cases_eq, find_at, map_fixed, position_or_len_is, length-map, get_or_head, get_or_tail, set_past, charged_by, charged_if, charged_on}
 use Rattle.std.proofs.lemmas.Option.{slice_get_past, slice_get-get_or}
 
 -- the order of issues
@@ -27,14 +27,14 @@ alone bs i c d s lt tied k h ne = grind (arith, is_eq-slice_cmp (get_or bs k d).
 
 -- the batch of an issue, where a search ended
 pub batch_found : (bs : List Liables) (i : ℕ) (c : Cusip) (d : Liables) → RiseByIssue bs → i < length bs → issue_cmp (get_or bs i d).issue c ≡ Equal → batch_in bs c ≡ Some (get_or bs i d)
-batch_found bs i c d s lt tied = find_at (λ b. bytes_eq b.issue c) bs ∙ rw (position_or_len_is (λ b. bytes_eq b.issue c) bs i d (omega arith) (λ k h. alone bs i c d s lt tied k (omega arith) (λ e. omega arith)) (λ h. sym (is_eq-slice_cmp (get_or bs i d).issue c) ∙ ap is_eq tied)) (slice_get-get_or bs i d lt)
+batch_found bs i c d s lt tied = grind (arith, find_at (λ b. bytes_eq b.issue c) bs, position_or_len_is (λ b. bytes_eq b.issue c) bs i d, is_eq-slice_cmp (get_or bs i d).issue c, alone bs i c d s lt tied, slice_get-get_or bs i d lt)
 
 -- where it found a gap, no batch is of the issue
 all_apart : (bs : List Liables) (i : ℕ) (c : Cusip) → AllWithin (λ b. issue_cmp b.issue c ≡ Less) bs 0 i → AllWithin (λ b. issue_cmp b.issue c ≡ Greater) bs i (length bs) → All (λ b. bytes_eq b.issue c ≡ false) bs
 all_apart bs i c low high k d lt = grind (arith, is_eq-slice_cmp (get_or bs k d).issue c, low k d, high k d)
 
 pub batch_missing : (bs : List Liables) (i : ℕ) (c : Cusip) → AllWithin (λ b. issue_cmp b.issue c ≡ Less) bs 0 i → AllWithin (λ b. issue_cmp b.issue c ≡ Greater) bs i (length bs) → batch_in bs c ≡ None
-batch_missing bs i c low high = find_at (λ b. bytes_eq b.issue c) bs ∙ rw (position_or_len_is (λ b. bytes_eq b.issue c) bs (length bs) (record { issue = c; members = [] }) (omega arith) (λ k lt. all_apart bs i c low high k _ lt) (λ h. absurd (omega arith))) (slice_get_past bs (length bs) (omega arith))
+batch_missing bs i c low high = grind (arith, find_at (λ b. bytes_eq b.issue c) bs, position_or_len_is (λ b. bytes_eq b.issue c) bs (length bs) (record { issue = c; members = [] }), slice_get_past, all_apart bs i c low high)
 
 -- ---- charges
 

@@ -40,6 +40,7 @@ impl<A: Allocator + Drop> Model for Calls<A> {
 }
 
 // Chooses the batches of the issues that an iterator has left.
+#[tactic(auto, using(std::proofs::lemmas::List::append_assoc))]
 fn choose_each<A: Allocator + Drop + Clone>(
     alloc: &A,
     issues: Iter<'_, Cusip, Called<A>>,
@@ -119,6 +120,7 @@ impl<A: Allocator + Drop + Clone> Calls<A> {
     /// changes and no memory is asked for.
     ///
     /// `NoMemory` where an allocation failed, and then nothing changes.
+    #[tactic(auto, using(std::proofs::lemmas::Map::Steps::set_value_same))]
     pub fn short(&mut self, issue: Cusip, short: Short) -> Result<(), NoMemory>
         ensures ok { OnOk result
             ((c : Cusip) → called_in self.new c

@@ -73,6 +73,7 @@ impl<A: Allocator + Drop> DayBatches<A> {
     }
 
     /// Charges the batch of an issue with fills; where there is none nothing changes.
+    #[tactic(auto, using(crate::proofs::Sought::batch_found, crate::proofs::Sought::written_charged))]
     pub(crate) fn charge(&mut self, issue: Cusip, fills: &[Fill])
         requires { ForSome (batch_in self.old issue) (λ b. CanBeCharged fills.now b.members) }
         ensures { self.new ≡ charged_in issue fills.now self.old }

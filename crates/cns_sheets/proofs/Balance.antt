@@ -1,14 +1,11 @@
 -- The marks of a sheet add up to zero.
 -- For `build` of sheet.rt.
 use Rattle.cns_sheets.proofs.Common.{◌&&◌, ◌≡◌, ◌∙◌, sym, ap, refl, ℕ, ℤ, pos, ◌+ℤ◌, ◌-ℤ◌, ◌*ℤ◌, neg_ℤ, Bool, true, false, not, cond, List, [], ◌∷◌, map, filter, Option, unwrap_or, arith, int_eq, AreBalanced, CanBeCut, CentsByKey, Cusip, DaySheet, Holding, IsCut, Key, Listed, Paying, Row, Rows, by_key, bytes_eq-Decides, cents_at, closing_in, cut_row, dividend_of, exact_keys, find, find_filter, held_in, idle_parts, ints, is_sorted, key_cmp, key_of, keys_total, marked, option_map_or, price_in, price_on, prices_of, row_at, rows_before, same_issue, same_lists, says, sorted_filter, total, total-add, total-map, total-neg, total-same, worth, zero-*ℤ, zero_add}
-use Rattle.std.proofs.Math.IntN.{+ℤ_assoc}
+use Rattle.std.proofs.Math.IntN.{+ℤ_assoc, +ℤ_comm}
 use Rattle.cns_terms.proofs.ZeroSums.{times_sum}
 use Rattle.cns_sheets.proofs.Entries.{find_keyed, sorted_keyed}
 
 -- ---- sums by issue
-
-swapped : (a b c : ℤ) → a +ℤ (b +ℤ c) ≡ b +ℤ (a +ℤ c)
-swapped a b c = omega (arith, ints)
 
 module _ {X : Type 0} (issue : X → Cusip) (f : X → ℤ) where
   -- a number, if it is in the issue
@@ -23,22 +20,16 @@ module _ {X : Type 0} (issue : X → Cusip) (f : X → ℤ) where
     -- a sum is that of one issue and that of the others
     split : (t : Cusip → Bool) (c : Cusip) (xs : List X) → total (weighed t) xs ≡ cond (t c) (total (in_issue c) xs *ℤ pos (w c)) (pos 0) +ℤ total (weighed (λ d. t d && not (same_issue d c))) xs
     split t c [] = grind (arith, ints, zero-*ℤ (pos (w c)))
-    split t c (x ∷ xs) =
-        let s = total (in_issue c) xs *ℤ pos (w c) in
-        let rest = total (weighed (λ d. t d && not (same_issue d c))) xs in
-        grind (arith, zero_add, bytes_eq-Decides (issue x) c, times_sum (f x) (total (in_issue c) xs) (w c), +ℤ_assoc (f x *ℤ pos (w c)) s rest, swapped (weighed t x) (cond (t c) s (pos 0)) rest, split t c xs)
+    split t c (x ∷ xs) = grind (arith, zero_add, +ℤ_assoc, +ℤ_comm, bytes_eq-Decides (issue x) c, times_sum (f x) (total (in_issue c) xs) (w c), split t c xs)
 
     -- what adds up to zero in each issue that is kept does so by a price for each issue
     kept_zero : (t : Cusip → Bool) (xs : List X) → ((c : Cusip) → t c ≡ true → total (in_issue c) xs ≡ pos 0) → total (weighed t) xs ≡ pos 0
     kept_zero t [] h = refl
     kept_zero t (x ∷ xs) h = grind (arith, ints, split t (issue x) xs, times_sum (f x) (total (in_issue (issue x)) xs) (w (issue x)), zero-*ℤ (pos (w (issue x))), bytes_eq-Decides (issue x) (issue x), h (issue x), kept_zero (λ d. t d && not (same_issue d (issue x))) xs (λ c q. grind (arith, ints, bytes_eq-Decides (issue x) c, bytes_eq-Decides c (issue x), h c)))
 
-    zero_weighed : (xs : List X) → ((c : Cusip) → total (in_issue c) xs ≡ pos 0) → total (λ x. f x *ℤ pos (w (issue x))) xs ≡ pos 0
-    zero_weighed xs h = kept_zero (λ c. true) xs (λ c q. h c)
-
   -- and as it is
   zero_by_issue : (xs : List X) → ((c : Cusip) → total (in_issue c) xs ≡ pos 0) → total f xs ≡ pos 0
-  zero_by_issue xs h = total-same f (λ x. f x *ℤ pos 1) xs (λ x. omega (arith, ints)) ∙ zero_weighed (λ c. 1) xs h
+  zero_by_issue xs h = total-same f (λ x. f x *ℤ pos 1) xs (λ x. omega (arith, ints)) ∙ kept_zero (λ c. 1) (λ c. true) xs (λ c q. h c)
 
 -- ---- two lists of numbers by keys that answer alike
 
@@ -127,8 +118,8 @@ module _ (before : Option DaySheet) (prices : Listed) (R : Rows) (ps : List Payi
       ∙ rw (
         total-add (λ e. worth e.1.now (price_now e.0.issue)) (λ e. neg_ℤ (worth e.1.opening (price_then e.0.issue))) R,
         total-neg (λ e. worth e.1.opening (price_then e.0.issue)) R,
-        zero_weighed (λ e. e.0.issue) (λ e. e.1.now) price_now R ready.shares,
-        zero_weighed (λ e. e.0.issue) (λ e. e.1.opening) price_then R openings,
+        kept_zero (λ e. e.0.issue) (λ e. e.1.now) price_now (λ c. true) R (λ c q. ready.shares c),
+        kept_zero (λ e. e.0.issue) (λ e. e.1.opening) price_then (λ c. true) R (λ c q. openings c),
         zero_by_issue (λ e. e.0.issue) (λ e. e.1.contract) R ready.cents,
       ) refl
 

@@ -1,19 +1,17 @@
 -- What payments book.
 -- For `pay_members`, `add` and `pay` of payments.rt.
-use Rattle.cns_sheets.proofs.Common.{◌≡◌, refl, ◌+◌, ◌*◌, ◌^◌, ◌<◌, ◌≤◌, ◌==◌, ℤ, pos, ◌+ℤ◌, ◌-ℤ◌, neg_ℤ, of_z, to_z, Bool, true, not, cond, ◌&&◌, List, [], ◌∷◌, ◌++◌, Option, Some, unwrap_or, arith, FitsSigned, unsigned_abs, sum_by, is_eq, CentsByKey, IsPayable, Key, Row, by_key, cash, cents_at, closing_at, corporation, equal, exact_keys, find_below, insert_entry, ints, is_sorted, key_cmp, key_of, keys_total, lookup, member_cash, paid, same_issue, same_key, sum_by-cons, sum_by-append, total, w128, Declared}
+use Rattle.cns_sheets.proofs.Common.{◌≡◌, refl, ◌+◌, ◌*◌, ◌^◌, ◌≤◌, ◌==◌, ℤ, pos, ◌+ℤ◌, ◌-ℤ◌, neg_ℤ, of_z, to_z, Bool, true, not, cond, ◌&&◌, List, [], ◌∷◌, ◌++◌, Option, Some, unwrap_or, arith, FitsSigned, unsigned_abs, sum_by, is_eq, CentsByKey, IsPayable, Key, Row, by_key, cash, cents_at, closing_at, corporation, equal, exact_keys, find_below, insert_entry, ints, is_sorted, key_cmp, key_of, keys_total, lookup, member_cash, paid, same_issue, same_key, sum_by-cons, sum_by-append, total, w128, Declared}
 use Rattle.std.specs.BTreeMap.{is_at}
 use Rattle.std.proofs.Math.IntN.{+ℤ_assoc, +ℤ_comm, +ℤ_idl, +ℤ_idr}
 use Rattle.std.proofs.lemmas.Cmp.{eq_by_cmp_equiv}
-use mir.Val.{hbits}
-use lib.Signed.{mag}
-use Rattle.cns_sheets.proofs.Weaving.{below_later, gap_cents}
+use Rattle.cns_sheets.proofs.Weaving.{below_later}
 
 -- ---- cents, added at a key
 
 -- the sum of cents, with more at one key
 pub sum_added : (k : Key) (v cents : ℤ) (es : CentsByKey) → is_sorted key_cmp es ≡ true → v ≡ cents_at es k +ℤ cents → total (λ e. e.1) (insert_entry key_cmp es k v) ≡ total (λ e. e.1) es +ℤ cents
 sum_added k v cents [] s is = omega (arith, ints, is)
-sum_added k v cents (e ∷ es) s is = grind (arith, is, +ℤ_idl, +ℤ_assoc, +ℤ_comm cents (e.1 +ℤ total (λ e. e.1) es), +ℤ_comm cents (total (λ e. e.1) es), gap_cents k es, below_later k e.0 es, sum_added k v cents es)
+sum_added k v cents (e ∷ es) s is = grind (arith, is, +ℤ_idl, +ℤ_assoc, +ℤ_comm cents (e.1 +ℤ total (λ e. e.1) es), +ℤ_comm cents (total (λ e. e.1) es), find_below keys_total k es, below_later k e.0 es, sum_added k v cents es)
 
 -- what a search found, as the cents at a key
 pub had_is : (k : Key) (es : CentsByKey) (o : Option ℤ) (n : ℤ) → n ≡ unwrap_or o (pos 0) → o ≡ lookup (is_at (key_cmp k)) es → n ≡ cents_at es k
@@ -29,10 +27,6 @@ cents_added old new key v cents updates is k = rw (updates k, (eq_by_cmp_equiv k
 -- small numbers fit
 pub fits : (z : ℤ) → unsigned_abs z ≤ 10 ^ 34 → FitsSigned w128 z
 fits z h = omega (arith, ints, h)
-
--- so does what a call hands out
-pub wide_fits : (z : ℤ) → mag z < 2 ^ hbits w128 → FitsSigned w128 z
-wide_fits z h = record { sfits = h }
 
 -- the opposite of a number
 pub neg_is : (z : ℤ) → unsigned_abs z ≤ 10 ^ 21 → to_z w128 (of_z w128 (pos 0 -ℤ to_z w128 (of_z w128 z))) ≡ neg_ℤ z

@@ -6,7 +6,7 @@ pub use Rattle.std.proofs.lemmas.List.Filters.{sum_by-filter_both}
 pub use Rattle.std.proofs.lemmas.Result.{IfOk-weaker, on_ok_weaker}
 pub use Rattle.std.specs.FinMap.{find}
 pub use Rattle.std.specs.List.{find as first}
-pub use Rattle.cns_positions.proofs.Held.{filter_both, first_passing, last_given, none_given}
+pub use Rattle.cns_positions.proofs.Held.{filter_both, first_passing, last_given}
 pub use Rattle.cns_positions.proofs.Puts.{below_later, comparisons_rise, find_at, find_gap}
 pub use Rattle.cns_positions.proofs.Unheld.{held_same}
 pub use Rattle.cns_positions.specs.Rows.{Rows, held_above, is_held, last_of, present, zeros}

@@ -16,9 +16,7 @@ prices_from_gap prices c i le h = grind (arith, filter_back, nat_list_cmp_total.
 
 -- the prices past that of the issue
 pub prices_past : (prices : PriceList) (c : Cusip) (i : ℕ) → is_sorted (slice_cmp nat_cmp) prices ≡ true → i < length prices → HoldsAt (λ e. slice_cmp nat_cmp e.0 c ≡ Equal) prices i → drop (i + 1) prices ≡ prices_above prices (Some c)
-prices_past prices c i s lt tied = sym (filter_back (λ e. is_after (Some c) e.0) prices (i + 1) (omega arith)
-    (λ k d p q. grind (arith, nat_list_cmp_total.congr (get_or prices i d).0 c (get_or prices k d).0 (tied d), nat_list_cmp_total.antisymm, below_later nat_list_cmp_total prices k i d s))
-    (λ k d p q. grind (arith, nat_list_cmp_total.congr (get_or prices i d).0 c (get_or prices k d).0 (tied d), below_later nat_list_cmp_total prices i k d s)))
+prices_past prices c i s lt tied = grind (arith, filter_back, (λ (k : ℕ) (d : Cusip × Price). nat_list_cmp_total.congr (get_or prices i d).0 c (get_or prices k d).0 (tied d)), nat_list_cmp_total.antisymm, below_later nat_list_cmp_total prices)
 
 -- what stands at a place, if anything does, where the prices above an issue begin there
 pub price_at : (prices : PriceList) (after : Option Cusip) (i : ℕ) (r : Option (Bor (Cusip × Price))) → is_sorted (slice_cmp nat_cmp) prices ≡ true → drop i prices ≡ prices_above prices after

@@ -1,6 +1,8 @@
 -- The rows of an account, found from its first row on.
 -- For `of_rows`, `row`, `rows_of` and `rows_in` of sheet.rt and others.
-use Rattle.cns_sheets.proofs.Common.{◌≡◌, ◌∙◌, ap, refl, subst, ◌≤◌, ◌==◌, map, option_map, MatchOption, Bool, true, false, not, cond, List, [], ◌∷◌, filter, Option, Some, None, arith, is_lt, Less, eqb-true, Account, AllByRecursion, AreFrom, Columns, IsMarked, Key, Row, ahead_of, below_all, by_key, find, first, full_row, full_rows, if_of, is_after, is_at_or_after, is_sorted, key_cmp, key_of, keys_total, lowest_of, nat_tests, passed, row_at, rows_for, sorted_filter}
+use Rattle.cns_sheets.proofs.Common.{◌≡◌, ◌∙◌, each_weaker, ap, refl, subst, ◌≤◌, ◌==◌, map, option_map, Bool, true, false, not, List, [], ◌∷◌, filter, Option, Some, None, arith, is_lt, Less, Account, AllByRecursion, AreFrom, Columns, IsMarked, Key, Row, ahead_of, below_all, by_key, find, first, full_row, full_rows, if_of, is_after, is_at_or_after, is_sorted, key_cmp, key_of, keys_total, lowest_of, nat_tests, passed, row_at, rows_for, sorted_filter}
+use Rattle.std.proofs.lemmas.List.Elements.{filter_passes, recursion_from_All}
+use Rattle.cns_terms.proofs.Everywhere.{each_map}
 use Rattle.cns_sheets.proofs.Entries.{filter-map, find_keyed, first_above, sorted_if, sorted_keyed}
 
 -- ---- rows with their keys
@@ -23,11 +25,6 @@ pub sorted_kept : (p : Row → Bool) (rows : List Row) → is_sorted key_cmp (by
 sorted_kept p rows s = rw (← filter-map (λ (e : Key × Row). p e.1) (λ r. (key_of r, r)) rows) (sorted_filter keys_total p (by_key rows) s)
 
 -- ---- rows from an account on
-
--- each row that a test keeps passes it
-each_kept : (t : Key → Bool) (a : Account) (es : List (Key × Columns)) → ((k : Key) → t k ≡ true → a ≤ k.account) → AllByRecursion (λ r. a ≤ r.account) (full_rows (filter (λ e. t e.0) es))
-each_kept t a [] h = tt
-each_kept t a (e ∷ es) h = grind (arith, each_kept t a es h)
 
 -- what stands above a key of a higher account is not the account's
 none_above : (a : Account) (k : Key) (rs : List Row) → a ≤ k.account → (k.account == a) ≡ false → below_all key_cmp k (by_key rs) ≡ true → rows_for rs a ≡ []
@@ -57,26 +54,21 @@ module _ (a : Account) where
   module _ (es : List (Key × Columns)) (s : is_sorted key_cmp (by_key (full_rows es)) ≡ true) (m : AllByRecursion IsMarked (full_rows es)) where
     -- what a test of keys keeps, where it keeps no lower account
     from_kept : (t : Key → Bool) → ((k : Key) → t k ≡ true → a ≤ k.account) → AreFrom a (full_rows (filter (λ e. t e.0) es))
-    from_kept t h = record { rise = rw (sorted_filled (filter (λ e. t e.0) es)) (sorted_if key_cmp t es (rw sorted_filled at s)); past = each_kept t a es h }
+    from_kept t h = record { rise = rw (sorted_filled (filter (λ e. t e.0) es)) (sorted_if key_cmp t es (rw sorted_filled at s)); past = each_map (λ r. a ≤ r.account) full_row _ (each_weaker (λ e. t e.0 ≡ true) (λ e. a ≤ e.0.account) _ (λ e. h e.0) (recursion_from_All _ _ (filter_passes (λ e. t e.0) es))) }
 
     -- what the walk past a row has left
-    abbrev Walked : Option Row → Type 0
-    Walked o = AreFrom a (full_rows (filter (is_after (Some (passed a o))) es)) × (rows_for (full_rows es) a ≡ ahead_of o (full_rows (filter (is_after (Some (passed a o))) es)) a)
+    abbrev Walked : Option Row → List (Key × Columns) → Type 0
+    Walked o walk = AreFrom a (full_rows walk) × (rows_for (full_rows es) a ≡ ahead_of o (full_rows walk) a)
 
     -- above a key of the account are rows from it on
     above_from : (k : Key) → k.account ≡ a → AreFrom a (full_rows (filter (is_after (Some k)) es))
     above_from k same = from_kept (λ q. is_lt (key_cmp k q)) (λ q e. grind (arith, nat_tests))
 
-    -- the first row from the account on is the account's, or the account has none
-    walked : (b : Bool) (f : Key × Columns) → (f.0.account == a) ≡ b → filter (λ e. is_from e.0) es ≡ f ∷ filter (λ e. is_lt (key_cmp f.0 e.0)) es → Walked (cond b (Some (full_row f)) None)
-    walked true f own is = (above_from f.0 (eqb-true _ _ own), all_from es m ∙ ap (λ xs. rows_for (full_rows xs) a) is ∙ rw own refl)
-    walked false f own is =
-        (above_from (lowest_of a) refl, all_from es m ∙ ap (λ xs. rows_for (full_rows xs) a) is ∙ none_is a (full_row f) _ (subst (λ xs. AreFrom a (full_rows xs)) is (from_kept is_from (λ k e. grind (arith, nat_tests)))) own)
-
-    found : (r : Option (Key × Columns)) → MatchOption r (filter (λ e. is_from e.0) es ≡ []) (λ f. filter (λ e. is_from e.0) es ≡ f ∷ filter (λ e. is_lt (key_cmp f.0 e.0)) es) → Walked (if_of a r)
-    found None h = (above_from (lowest_of a) refl, all_from es m ∙ ap (λ xs. rows_for (full_rows xs) a) h)
-    found (Some f) h = walked (f.0.account == a) f refl h
-
     -- what a search finds of the account: its first row, followed by those above it
-    pub account_walk : Walked (if_of a (first (is_at_or_after (lowest_of a)) es))
-    account_walk = found (first (is_at_or_after (lowest_of a)) es) (first_above key_cmp keys_total is_from es (from_later (lowest_of a)) (rw sorted_filled at s))
+    pub account_walk : {o : Option Row} {walk : List (Key × Columns)} (r : Option (Key × Columns)) → r ≡ first (is_at_or_after (lowest_of a)) es → o ≡ if_of a r → walk ≡ filter (is_after (Some (passed a o))) es → Walked o walk
+    account_walk None is row_is walk_is = rw (walk_is, row_is) (above_from (lowest_of a) refl, all_from es m ∙ ap (λ xs. rows_for (full_rows xs) a) (rw (← is) at (first_above key_cmp keys_total is_from es (from_later (lowest_of a)) (rw sorted_filled at s))))
+    account_walk (Some f) is row_is walk_is =
+        let next = rw (← is) at (first_above key_cmp keys_total is_from es (from_later (lowest_of a)) (rw sorted_filled at s)) in
+        let rows : rows_for (full_rows es) a ≡ rows_for (full_row f ∷ full_rows (filter (λ e. is_lt (key_cmp f.0 e.0)) es)) a = all_from es m ∙ ap (λ xs. rows_for (full_rows xs) a) next in
+        let from : AreFrom a (full_row f ∷ full_rows (filter (λ e. is_lt (key_cmp f.0 e.0)) es)) = subst (λ xs. AreFrom a (full_rows xs)) next (from_kept is_from (λ k e. grind (arith, nat_tests))) in
+        rw (walk_is, row_is) (grind (arith, nat_tests, rows, above_from f.0, above_from (lowest_of a) refl, none_is a (full_row f) (full_rows (filter (λ e. is_lt (key_cmp f.0 e.0)) es)) from))

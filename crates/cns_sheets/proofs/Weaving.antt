@@ -1,6 +1,6 @@
 -- Cents by key, and holdings that are woven with them.
 -- For `take` and `next_below` of in_order.rt, `push_holding`, `push_paid` and `collect` of cutting.rt and others.
-use Rattle.cns_sheets.proofs.Common.{◌≡◌, ap, refl, ℤ, pos, Bool, true, false, not, List, [], ◌∷◌, ◌++◌, filter, Option, Some, None, unwrap_or, is_lt, ◌&&◌, Less, arith, AllByRecursion, CentsByKey, Holding, Key, Rows, Woven, below_all, cents_at, exact_keys, find, find_below, higher, is_sorted, key_cmp, keys_total, lower, option_or, past, tied_itself, unheld, weave, zeros, is_below}
+use Rattle.cns_sheets.proofs.Common.{◌≡◌, ap, refl, ℤ, pos, Bool, true, false, List, [], ◌∷◌, ◌++◌, filter, Option, Some, None, unwrap_or, is_lt, Less, arith, CentsByKey, Holding, Key, Rows, Woven, below_all, cents_at, exact_keys, find, find_below, higher, is_sorted, key_cmp, keys_total, lower, option_or, past, unheld, weave, zeros, is_below}
 use Rattle.cns_sheets.proofs.Entries.{below_keyed, find_if, find_keyed, sorted_if, sorted_keyed}
 
 -- cents without a holding
@@ -34,15 +34,7 @@ pub below_later : (k q : Key) {X : Type 0} (cs : List (Key × X)) → key_cmp k 
 below_later k q [] l b = refl
 below_later k q (c ∷ cs) l b = grind (arith, keys_total.trans k q c.0, below_later k q cs l)
 
--- and has no cents
-pub gap_cents : (k : Key) (cs : CentsByKey) → below_all key_cmp k cs ≡ true → cents_at cs k ≡ pos 0
-gap_cents k cs b = ap (λ o. unwrap_or o (pos 0)) (find_below keys_total k cs b)
-
--- the cents at a key stand past those of lower keys
-pub cents_past : (k : Key) (cs : CentsByKey) → cents_at (past (Some k) cs) k ≡ cents_at cs k
-cents_past k cs = grind (arith, find_if (λ q. not (is_lt (key_cmp q k))) k cs, tied_itself keys_total k)
-
--- so do those of higher keys
+-- the cents of higher keys stand past those of lower keys
 pub higher_past : (k : Key) (cs : CentsByKey) → higher k (past (Some k) cs) ≡ higher k cs
 higher_past k [] = refl
 higher_past k (c ∷ cs) = grind (arith, keys_total.antisymm, higher_past k cs)
@@ -50,7 +42,7 @@ higher_past k (c ∷ cs) = grind (arith, keys_total.antisymm, higher_past k cs)
 -- the first of the cents is a key's, which has none lower, and the rest are of higher keys; or the key has none, and all are
 pub taken : (k : Key) (c : Key × ℤ) (cs : CentsByKey) → lower (Some k) (c ∷ cs) ≡ [] → is_sorted key_cmp (c ∷ cs) ≡ true
     → (c.0 ≡ k → (cents_at (c ∷ cs) k ≡ c.1) × (higher k (c ∷ cs) ≡ cs)) × ((c.0 ≡ k → ⊥) → (cents_at (c ∷ cs) k ≡ pos 0) × (higher k (c ∷ cs) ≡ c ∷ cs))
-taken k c cs none s = grind (arith, keys_total, exact_keys k c.0, keys_total.antisymm k c.0, below_later k c.0 cs, gap_cents k (c ∷ cs), all_higher k (c ∷ cs), all_higher k cs)
+taken k c cs none s = grind (arith, keys_total, exact_keys k c.0, keys_total.antisymm k c.0, below_later k c.0 cs, find_below keys_total k (c ∷ cs), all_higher k (c ∷ cs), all_higher k cs)
 
 -- ---- searches
 
@@ -77,20 +69,16 @@ below_if : (t : Key → Bool) (k : Key) (cs : CentsByKey) → below_all key_cmp 
 below_if t k [] b = refl
 below_if t k (c ∷ cs) b = grind (arith, below_if t k cs)
 
--- what is below two lists is below both together
-below-append : (k : Key) (xs ys : Woven) → below_all key_cmp k (xs ++ ys) ≡ (below_all key_cmp k xs && below_all key_cmp k ys)
-below-append k [] ys = refl
-below-append k (x ∷ xs) ys = grind (arith, below-append k xs ys)
+module _ (high : Key) (v : Holding × ℤ) (rest : Woven) where
+  -- what is below some cents and a higher key with its rest is below the lower of those cents, with the rest after them
+  below_lower : (k : Key) (cs : CentsByKey) → below_all key_cmp k cs ≡ true → key_cmp k high ≡ Less → below_all key_cmp k rest ≡ true → below_all key_cmp k (unheld (lower (Some high) cs) ++ (high, v) ∷ rest) ≡ true
+  below_lower k [] b l c = grind arith
+  below_lower k (c ∷ cs) b l d = grind (arith, below_lower k cs)
 
--- two lists in order, the first below the second
-sorted-append : (xs : Woven) (y : Key × (Holding × ℤ)) (ys : Woven) → is_sorted key_cmp xs ≡ true → AllByRecursion (λ x. key_cmp x.0 y.0 ≡ Less) xs → is_sorted key_cmp (y ∷ ys) ≡ true → is_sorted key_cmp (xs ++ y ∷ ys) ≡ true
-sorted-append [] y ys s l t = t
-sorted-append (x ∷ xs) y ys s l t = grind (arith, below-append, below_later, sorted-append xs y ys)
-
--- the keys of lower cents are lower
-each_lower : (high : Key) (cs : CentsByKey) → AllByRecursion (λ x. key_cmp x.0 high ≡ Less) (unheld (lower (Some high) cs))
-each_lower high [] = tt
-each_lower high (c ∷ cs) = grind (arith, each_lower high cs)
+  -- which are in order
+  sorted_lower : (cs : CentsByKey) → is_sorted key_cmp cs ≡ true → is_sorted key_cmp ((high, v) ∷ rest) ≡ true → is_sorted key_cmp (unheld (lower (Some high) cs) ++ (high, v) ∷ rest) ≡ true
+  sorted_lower [] s t = t
+  sorted_lower (c ∷ cs) s t = grind (arith, below_later c.0 high rest, below_lower c.0 cs, sorted_lower cs)
 
 -- a key is below the keys of higher cents
 below_higher : (k : Key) (cs : CentsByKey) → below_all key_cmp k (higher k cs) ≡ true
@@ -100,9 +88,9 @@ below_higher k (c ∷ cs) = grind (arith, below_higher k cs)
 -- what is below all holdings and all cents is below all that is woven of them
 below_weave : (k : Key) (hs : Rows) (cs : CentsByKey) → below_all key_cmp k hs ≡ true → below_all key_cmp k cs ≡ true → below_all key_cmp k (weave hs cs) ≡ true
 below_weave k [] cs b d = rw (below_keyed key_cmp bare k cs) d
-below_weave k (h ∷ hs) cs b d = grind (arith, below-append k (unheld (lower (Some h.0) cs)) ((h.0, (h.1, cents_at cs h.0)) ∷ weave hs (higher h.0 cs)), below_keyed key_cmp bare k (lower (Some h.0) cs), below_if (is_below (Some h.0)) k cs, below_weave k hs (higher h.0 cs), below_if (λ q. is_lt (key_cmp h.0 q)) k cs)
+below_weave k (h ∷ hs) cs b d = grind (arith, below_lower h.0 (h.1, cents_at cs h.0) (weave hs (higher h.0 cs)) k cs, below_weave k hs (higher h.0 cs), below_if (λ q. is_lt (key_cmp h.0 q)) k cs)
 
 -- what is woven of lists in order is in order
 pub sorted_weave : (hs : Rows) (cs : CentsByKey) → is_sorted key_cmp hs ≡ true → is_sorted key_cmp cs ≡ true → is_sorted key_cmp (weave hs cs) ≡ true
 sorted_weave [] cs s t = rw (sorted_keyed key_cmp bare cs) t
-sorted_weave (h ∷ hs) cs s t = grind (arith, sorted-append (unheld (lower (Some h.0) cs)) (h.0, (h.1, cents_at cs h.0)) (weave hs (higher h.0 cs)), sorted_keyed key_cmp bare (lower (Some h.0) cs), sorted_if key_cmp (is_below (Some h.0)) cs t, each_lower h.0 cs, below_weave h.0 hs (higher h.0 cs), below_higher h.0 cs, sorted_weave hs (higher h.0 cs), sorted_if key_cmp (λ q. is_lt (key_cmp h.0 q)) cs t)
+sorted_weave (h ∷ hs) cs s t = grind (arith, sorted_lower h.0 (h.1, cents_at cs h.0) (weave hs (higher h.0 cs)) cs t, below_weave h.0 hs (higher h.0 cs), below_higher h.0 cs, sorted_weave hs (higher h.0 cs), sorted_if key_cmp (λ q. is_lt (key_cmp h.0 q)) cs t)

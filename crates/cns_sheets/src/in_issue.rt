@@ -70,6 +70,7 @@ fn place_after(key: &Key, issue: &Cusip) -> Option<Key>
 }
 
 // The first key in an issue that is another or above it, with the columns there.
+#[tactic(auto, using(crate::proofs::InIssue::none_left))]
 fn first_in<A: Allocator + Clone>(
     rows: &Tree<Columns, A>,
     issue: &Cusip,

@@ -9,6 +9,7 @@ use cns_terms::{Key, Row};
 use cns_units::{Account, Cusip};
 
 // The lowest CUSIP in the order of bytes: `#` has the lowest code of all characters that have a value.
+#[tactic(auto, unfolding(cns_units::specs::Cusip::sum_of))]
 fn lowest() -> Cusip
     ensures { result ≡ lowest }
 {

@@ -86,6 +86,7 @@ impl<A: Allocator + Drop + Clone> Paid<A> {
 
     /// Books a dividend on the rows in its issue on the sheet of its record date. The corporation gets the opposite of what all members
     /// get, so the cents add up to what they did.
+    #[tactic(auto, using(crate::proofs::Booked::fits, crate::proofs::Booked::all_small))]
     pub fn pay<B: Allocator + Clone>(
         &mut self,
         declared: &Declared,

@@ -1,5 +1,5 @@
 use Rattle.cns_sheets.proofs.Common.{arith, ◌≤◌, sym, bytes_eq-Decides, is_at_or_after, member_limit}
-use Rattle.cns_sheets.proofs.InIssue.{fewer_left, first_entry, none_left}
+use Rattle.cns_sheets.proofs.InIssue.{fewer_left, first_entry}
 use Rattle.cns_sheets.proofs.Entries.{first_passes}
 use Rattle.cns_terms.proofs.Everywhere.{each_found}
 use Rattle.cns_sheets.proofs.in_issue.first_in.Goals as goal
@@ -15,6 +15,3 @@ loop-place-smaller g c = grind (arith, fewer_left c.args.issue.now c.in_ok-key.k
 
 pub loop-place-preserved : goal.loop-place-preserved
 loop-place-preserved g c = grind (arith, bytes_eq-Decides, first_entry c.args.issue.now c.args.rows.now c.requires.accounts c.in_ok-key.ensures.rises c.in-Some.low _ c.in_ok-key.ensures.row, each_found (λ e. e.0.account ≤ member_limit) (is_at_or_after c.in-Some.low) (c.in-Some.low, c.in_ok-key.columns) c.args.rows.now)
-
-pub returns : goal.returns
-returns g c = grind (arith, none_left c.args.issue.now c.args.rows.now)

@@ -8,6 +8,5 @@ loop-row-preserved g c =
 
 pub returns-in_err-write_row : goal.returns-in_err-write_row
 returns-in_err-write_row g c =
-    let p = err_from_is_err_and c.from_residual.result c.from_residual.ensures.1 in
     let inv = c.loop-row.invariant in
-    rw p.1 (parts_failed _ _ _ row_line _ _ c.row-item.result inv.0 c.loop-row-test.true inv.1 inv.2 (rw (← c.row-item.is) c.in_err-write_row.ensures))
+    rw (err_from_is_err_and c.from_residual.result c.from_residual.ensures.1).1 (parts_failed _ _ _ row_line _ _ c.row-item.result inv.0 c.loop-row-test.true inv.1 inv.2 (rw (← c.row-item.is) c.in_err-write_row.ensures))

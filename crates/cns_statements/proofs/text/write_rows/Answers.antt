@@ -9,6 +9,5 @@ loop-row-preserved g c =
 
 pub returns-in_err-write_row : goal.returns-in_err-write_row
 returns-in_err-write_row g c =
-    let p = err_from_is_err_and c.from_residual.result c.from_residual.ensures.1 in
     let inv = c.loop-row.invariant in
-    rw (p.1, ← c.into_iter-row-iterator.ensures.into_iter_gives) (given_failed _ _ _ row_line _ _ c.in-Some.row _ inv.0 c.in-Some.ensures.steps inv.1 inv.2 c.in_err-write_row.ensures)
+    rw ((err_from_is_err_and c.from_residual.result c.from_residual.ensures.1).1, ← c.into_iter-row-iterator.ensures.into_iter_gives) (given_failed _ _ _ row_line _ _ c.in-Some.row _ inv.0 c.in-Some.ensures.steps inv.1 inv.2 c.in_err-write_row.ensures)

@@ -1,5 +1,4 @@
-use Rattle.cns_retransmit.proofs.Common.{◌∙◌, sym, refl, arith, called_in, on_ok_weaker}
-use Rattle.std.proofs.lemmas.Map.Steps.{set_value_same}
+use Rattle.cns_retransmit.proofs.Common.{◌∙◌, sym, refl, called_in, on_ok_weaker}
 use Rattle.cns_retransmit.proofs.Calling.{short_more}
 use Rattle.cns_retransmit.proofs.calls.Calls.short.Goals as goal
 
@@ -8,6 +7,3 @@ returns-clause-ok g c =
     let found = sym c.in-Some.ensures.value in
     let puts = (c.get_mut.follows.holds c.push.new.self).3 (rw found refl) in
     rw (sym c.self.view_is) (on_ok_weaker c.push.result (λ is d. puts.0 d ∙ short_more (called_in c.self.inside.issues.entries) c.args.issue d c.args.short _ _ found is) c.push.ensures.ok)
-
-pub returns-clause-err : goal.returns-clause-err
-returns-clause-err g c = grind (arith, set_value_same)

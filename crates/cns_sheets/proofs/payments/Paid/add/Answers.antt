@@ -10,6 +10,6 @@ invariant_of-self-2 g c = sorted_from keys_total _ c.insert.ensures.ordered
 
 pub returns : goal.returns
 returns g c = record {
-  cents = λ k. grind (arith, ints, had_is, cents_added c.self.inside.cents.entries c.insert.new.self.entries c.args.key c.of.result c.args.cents c.in_ok-insert.ensures.updates.0);
-  sum = grind (arith, ints, had_is, sum_added c.args.key c.of.result c.args.cents c.self.inside.cents.entries, c.in_ok-insert.ensures.entries);
+  cents = λ k. grind (arith, ints, c.get.ensures.value, cents_added c.self.inside.cents.entries c.insert.new.self.entries c.args.key c.of.result c.args.cents c.in_ok-insert.ensures.updates.0);
+  sum = grind (arith, ints, c.get.ensures.value, sum_added c.args.key c.of.result c.args.cents c.self.inside.cents.entries, c.in_ok-insert.ensures.entries);
 }

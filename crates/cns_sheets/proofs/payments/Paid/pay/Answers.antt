@@ -1,9 +1,6 @@
 use Rattle.cns_sheets.proofs.Common.{sym, arith, Key, cents_at, ints, member_cash, nat_tests, on_ok_weaker, total}
-use Rattle.cns_sheets.proofs.Booked.{all_booked_small, all_small, both_small, fits, neg_is, paid_is}
+use Rattle.cns_sheets.proofs.Booked.{all_booked_small, all_small, both_small, neg_is, paid_is}
 use Rattle.cns_sheets.proofs.payments.Paid.pay.Goals as goal
-
-pub overflow_sub-sum : goal.overflow_sub-sum
-overflow_sub-sum g c = grind (arith, fits, all_small)
 
 pub add-requires : goal.add-requires
 add-requires g c =

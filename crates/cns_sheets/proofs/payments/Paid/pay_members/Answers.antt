@@ -1,5 +1,5 @@
 use Rattle.cns_sheets.proofs.Common.{◌∙◌, append-nil, arith, ints, member_cash, to_z-of_z, w128}
-use Rattle.cns_sheets.proofs.Booked.{booked, step_small, wide_fits}
+use Rattle.cns_sheets.proofs.Booked.{booked, step_small}
 use Rattle.cns_sheets.proofs.RowSums.{onward, total_push}
 use Rattle.cns_sheets.proofs.payments.Paid.pay_members.Goals as goal
 
@@ -13,7 +13,7 @@ pub loop-row-preserved : goal.loop-row-preserved
 loop-row-preserved g c =
     let kept = c.loop-row.invariant in
     let few = step_small c.args.declared.now c.key_of.result c.loop-row.yielded c.next.new.self c.in-Some.row (rw (← c.in-Some.ensures.steps, ← kept.left, c.into_iter-row-iterator.ensures.into_iter_gives) c.requires.payable) in
-    let passed = to_z-of_z w128 c.member_cash-cents.result (wide_fits _ c.member_cash-cents.type_inv) ∙ c.member_cash-cents.ensures in
+    let passed = to_z-of_z w128 c.member_cash-cents.result (record { sfits = c.member_cash-cents.type_inv }) ∙ c.member_cash-cents.ensures in
     record {
       left = onward _ _ _ _ _ kept.left c.in-Some.ensures.steps;
       cents = λ k. let more = rw (passed, c.key_of.ensures) at (c.in_ok-add.ensures.cents k) in omega (arith, ints, total_push (booked c.args.declared.now k) c.loop-row.yielded c.in-Some.row, kept.cents k, more);
