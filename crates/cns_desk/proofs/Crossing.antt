@@ -48,13 +48,9 @@ desk_sync L P l g s = declared_sync (Desk.the_type L P l g) (Mutex-sync (Kept.th
 pub seat_send : (L : RattleType) (l : ledger.Ghosts L.Denot) → IsSend (Seat.the_row L l)
 seat_send L l = view_send _ _ _ _ _ (declared_send (of_seat.the_type L l) (worker.the_send, (search sendable depth 20, (share_send L l, tt))))
 
--- how a worker ended may
-end_send : IsSend End.the_row
-end_send = search sendable depth 20
-
 -- what a worker hands back may
 pub done_send : (L : RattleType) (l : ledger.Ghosts L.Denot) → IsSend (Done.the_row L l)
-done_send L l = declared_send (Done.the_type L l) (seat_send L l, (log_send, (end_send, tt)))
+done_send L l = declared_send (Done.the_type L l) (seat_send L l, (log_send, (search sendable depth 20, tt)))
 
 -- what all workers share may be used by each
 pub shared_sync : (e : NamedLft) (L P G R : RattleType) (l : ledger.Ghosts L.Denot) (g : positions.Ghosts P.Denot (Global.the_row).Denot) → IsSend P → IsSync G → IsSync R → IsSync (Shared.the_row e L P G R l g)

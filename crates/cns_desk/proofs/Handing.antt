@@ -1,6 +1,7 @@
 -- The sheet that is handed out with a statement.
 -- For `sheet` of kept.rt.
-use Rattle.cns_desk.proofs.Common.{◌≡◌, refl, cond, Bool, true, not, List, [], ◌∷◌, Some, None, Option, option_map, find, is_none, unwrap_or, arith, Day, DaySheet, Journal, accepted, answer_to, date, day_sheet, first_refusal, is_same_day, journal, option_map_or, sheet_on, statement, Command}
+use Rattle.cns_desk.proofs.Common.{◌≡◌, refl, Bool, true, not, List, [], ◌∷◌, Some, None, Option, option_map, find, is_none, unwrap_or, arith, Day, DaySheet, Journal, accepted, answer_to, date, day_sheet, first_refusal, is_same_day, journal, option_map_or, sheet_on, statement, Command}
+use Rattle.std.proofs.lemmas.Option.{same_Some}
 use Rattle.cns_terms.specs.declared.history.Taken.{Taken}
 use Rattle.cns_terms.specs.declared.refusal.Refusal.TheVariants.{NoSuchDay, NoSuchMember}
 use Rattle.cns_terms.specs.declared.reply.Reply.{Reply}
@@ -8,17 +9,10 @@ use Rattle.cns_desk.specs.Handed.{Hands}
 
 -- ---- what is found
 
-some_same : {X : Type 0} (x y : X) → Some x ≡ Some y → x ≡ y
-some_same x y h = cc
-
-module _ {X : Type 0} (p : X → Bool) where
-  found_branch : (b : Bool) (y : X) (rest : Option X) (x : X) → p y ≡ b → (rest ≡ Some x → p x ≡ true) → cond b (Some y) rest ≡ Some x → p x ≡ true
-  found_branch b y rest x e more h = grind (arith, some_same)
-
-  -- what is found meets the test
-  find_meets : (xs : List X) (x : X) → find p xs ≡ Some x → p x ≡ true
-  find_meets [] x h = grind arith
-  find_meets (y ∷ ys) x h = found_branch (p y) y (find p ys) x refl (find_meets ys x) h
+-- what is found meets the test
+find_meets : {X : Type 0} (p : X → Bool) (xs : List X) (x : X) → find p xs ≡ Some x → p x ≡ true
+find_meets p [] x h = cc
+find_meets p (y ∷ ys) x h = grind (arith, same_Some, find_meets p ys x)
 
 -- the sheet of a day that was looked for, and the reply to the statement of the corporation on it
 hands_found : (o d : Day) (q : Option Journal) → ((K : Journal) → q ≡ Some K → is_same_day (date o K) d ≡ true)

@@ -1,6 +1,7 @@
 -- One worker more that was joined.
 -- For `join_all` of threads.rt, `run_audited` of run.rt.
 use Rattle.cns_desk.proofs.Common.{◌≡◌, ap, refl, Bool, ℕ, suc, ◌≤◌, ◌⊎◌, ◌↔◌, inl, inr, ◌<◌, List, [], ◌∷◌, ◌++◌, length, drop, Option, arith, append_assoc, IfSome, slice_index_or, AllByRecursion, PromisedHandle, Told, cases_lt, Logged, promised, HaveRun, Worked, AreFresh, IsFresh, Sitting, fresh}
+use Rattle.std.proofs.ByRecursion.{All-from_get_or}
 use Rattle.cns_desk.specs.declared.end.End.{End}
 use Rattle.cns_desk.specs.declared.threads.Works.{Works}
 
@@ -21,14 +22,9 @@ run_len fails told [] [] [] h = refl
 run_len fails told (a ∷ ss) (b ∷ ls) (c ∷ es) h = ap suc (run_len fails told ss ls es h.1)
 run_len fails told _ _ _ h = absurd h
 
--- seats whose counts are 0 are fresh
-fresh_each : (seats : List Sitting) (d : Sitting) → ((k : ℕ) → k < length seats → (slice_index_or seats k d).count ≡ 0) → AllByRecursion IsFresh seats
-fresh_each [] d h = tt
-fresh_each (s ∷ seats) d h = (h 0 (omega arith), fresh_each seats d (λ k low. h (suc k) (omega (arith, low))))
-
 -- under new seats nothing was taken
 pub fresh_all : (n : ℕ) (seats : List Sitting) → AreFresh n seats → AllByRecursion IsFresh seats
-fresh_all n seats (len, each) = fresh_each seats (fresh 0) (λ k low. ap (λ (s : Sitting). s.count) (each k (omega (arith, low, len))))
+fresh_all n seats (len, each) = All-from_get_or IsFresh seats (fresh 0) (λ k low. ap (λ (s : Sitting). s.count) (each k (omega (arith, low, len))))
 
 -- what was not refused is at most 64
 pub at_most : {R : Type 0} (n : ℕ) (ok err : R) → ((ok ≡ err) ↔ ((n < 1) ⊎ (64 < n))) → (ok ≡ err → ⊥) → n ≤ 64

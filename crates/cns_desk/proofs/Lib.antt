@@ -1,5 +1,4 @@
 pub mod Common
-pub mod Numbered
 pub mod Handing
 pub mod Differences
 pub mod SoFar

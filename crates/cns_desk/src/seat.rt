@@ -44,7 +44,7 @@ impl<L: Ledger> Seat<L> {
 }
 
 // The worker with that number.
-#[tactic(auto, using(crate::proofs::Numbered::is_number))]
+#[tactic(auto, using(std::proofs::lemmas::Bool::Decides::nat_tests))]
 pub(crate) fn worker_of(number: u8) -> Worker
     requires { (1 ≤ number) × (number ≤ 64) }
     ensures { result ≡ number }

@@ -1,6 +1,6 @@
 -- The records that a reader has left, and what a read takes of them.
 -- For `read_line` of records.rt, `play` of player.rt, `take_all` of loader.rt.
-use Rattle.cns_feed.proofs.Common.{◌≡◌, ℕ, suc, ◌+◌, ◌<◌, ◌≤◌, Bool, true, false, List, [], ◌∷◌, length, map, Option, Some, None, refl, sym, ap, ◌∙◌, arith, inl, if◌then◌else◌, ReadRecord, default_config, Line, Record, line_of, EndsReading, Left, Setup, ReplayFault, Records}
+use Rattle.cns_feed.proofs.Common.{if◌then◌else◌, Bool, ◌≡◌, ℕ, suc, ◌+◌, ◌<◌, ◌≤◌, true, false, List, [], ◌∷◌, length, map, Option, Some, None, refl, sym, ap, ◌∙◌, arith, inl, ReadRecord, default_config, Line, Record, line_of, EndsReading, Left, Setup, ReplayFault, Records}
 use Rattle.csv.specs.Machine.{Read, ends_at_end, is_end, next_record, step}
 use Rattle.csv.specs.Reading.{Reached, records_from}
 use Rattle.csv.specs.declared.parser.Action.{Action}
@@ -27,13 +27,13 @@ IsMove s n (Some p) = (length p.2 ≤ n) × (ends_at_end s ≡ false → length 
 move_longer : (s t : State) (n : ℕ) (o : Option Read) → IsMove t n o → IsMove s (suc n) o
 move_longer s t n o h = grind arith
 
-moves : (cfg : Config) (s : State) (fields : List (List ℕ)) (field : List ℕ) (xs : List ℕ) → IsMove s (length xs) (next_record cfg s fields field xs)
+moves : (cfg : Config) (xs : List ℕ) (s : State) (fields : List (List ℕ)) (field : List ℕ) → IsMove s (length xs) (next_record cfg s fields field xs)
 unfolding next_record
-moves cfg s fields field [] = grind arith
-moves cfg s fields field (c ∷ rest) =
+moves cfg [] s fields field = grind arith
+moves cfg (c ∷ rest) s fields field =
     pick (IsMove s (suc (length rest))) (is_end (step cfg s c).1) _ _
     (λ e. (omega arith, (λ f. omega arith), clean_step cfg s c e))
-    (λ e. move_longer s (step cfg s c).0 (length rest) _ (moves cfg (step cfg s c).0 _ _ rest))
+    (λ e. move_longer s (step cfg s c).0 (length rest) _ (moves cfg rest (step cfg s c).0 _ _))
 
 -- ---- the first record of a text
 

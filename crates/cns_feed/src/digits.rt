@@ -23,6 +23,7 @@ fn exact(bytes: &[u8]) -> Option<u64>
 }
 
 // The number that digits stand for, or the greatest number where it is greater; nothing where one is no digit.
+#[tactic(auto, using(crate::proofs::DigitLemmas::digits))]
 fn capped(bytes: &[u8]) -> Option<u64>
     ensures { result ≡ (if all_ascii_digits bytes.now then Some
         (min (digits_value 10 bytes.now) (2 ^ 64 - 1)) else None) }

@@ -1,6 +1,6 @@
 -- How many notices there are, of which days, and where one is found.
 -- For `give_notice`, `withdraw_refusal`, `notice_refusal` and `withdraw` of parts/notice.rt in cns_book and others.
-use Rattle.cns_notices.proofs.Common.{◌≡◌, ◌∙◌, ap, sym, refl, ℕ, suc, ◌-◌, ◌≤◌, Bool, ◌&&◌, ◌==◌, List, [], ◌∷◌, length, map, find, arith, option_map, length-append, AllByRecursion, Cusip, Journal, Member, Notice, day, each_append, each_weaker, is_live, is_live_of, kept_notices, live_number, notice_at, notices, position_from, same_issue, stage, slice_get-map, live_notice, kept, kept_at}
+use Rattle.cns_notices.proofs.Common.{◌≡◌, ◌∙◌, ap, sym, refl, ℕ, suc, ◌-◌, ◌≤◌, ◌&&◌, ◌==◌, List, [], ◌∷◌, length, map, find, arith, option_map, length-append, AllByRecursion, Cusip, Journal, Member, Notice, day, each_append, each_weaker, is_live, is_live_of, kept_notices, live_number, notice_at, notices, position_from, same_issue, stage, slice_get-map, live_notice, kept, kept_at}
 use Rattle.cns_notices.proofs.NoticeSteps.{AreNumberedFrom, numbered}
 use Rattle.cns_notices.proofs.Noticing.{notice_found}
 
@@ -16,12 +16,8 @@ days_by (p ∷ J) = grind (arith, each_weaker, each_append, days_by J)
 
 -- ---- searches
 
--- whether a notice is a member's live one in an issue
-abbrev is_one : Journal → Member → Cusip → Notice → Bool
-is_one J a c n = is_live (stage J n) && (n.given.member == a) && same_issue n.given.issue c
-
--- the first such notice is at the place of its number
-first_live : (J : Journal) (a : Member) (c : Cusip) (i : ℕ) (ns : List Notice) → AreNumberedFrom i ns → position_from (is_live_of a c) i (map (kept J) ns) ≡ option_map (λ n. n.number) (find (is_one J a c) ns)
+-- the first live one of a member in an issue is at the place of its number
+first_live : (J : Journal) (a : Member) (c : Cusip) (i : ℕ) (ns : List Notice) → AreNumberedFrom i ns → position_from (is_live_of a c) i (map (kept J) ns) ≡ option_map (λ n. n.number) (find (λ n. is_live (stage J n) && (n.given.member == a) && same_issue n.given.issue c) ns)
 first_live J a c i [] h = refl
 first_live J a c i (n ∷ ns) h = grind (arith, first_live J a c (suc i) ns h.1)
 

@@ -1,6 +1,6 @@
 -- How notices stand after one more activity.
 -- For `calls_of_day` of parts/retransmittal.rt in cns_book, `give_notice`, `withdraw_refusal` and `notice_refusal` of parts/notice.rt in cns_book and others.
-use Rattle.cns_notices.proofs.Common.{◌≡◌, refl, ℕ, suc, ◌+◌, ◌<◌, true, List, [], ◌∷◌, ◌++◌, length, arith, length-append, Journal, Live, Movement, Notice, Posting, day, is_live, notice, notices, shares_executed, stage, shares_received, received_live}
+use Rattle.cns_notices.proofs.Common.{◌≡◌, refl, ℕ, suc, ◌+◌, ◌<◌, true, List, [], ◌∷◌, ◌++◌, length, arith, length-append, Journal, Live, Notice, is_live, notices, shares_executed, stage, shares_received, received_live}
 
 -- ---- numbers
 
@@ -27,8 +27,3 @@ live_received (p ∷ J) n h = grind (arith, live_received J n)
 pub untouched : (J : Journal) (n : Notice) → length (notices J) < n.number → (stage J n ≡ Live) × (received_live J n ≡ 0) × (shares_executed J n ≡ 0)
 untouched [] n h = (refl, refl, refl)
 untouched (p ∷ J) n h = grind (arith, length-append, untouched J n)
-
--- nor of one that the activity itself gives
-pub given_now : (p : Posting) (J : Journal) (m : Movement) → let n = notice (length (notices J) + 1) (day J) m in
-    (stage (p ∷ J) n ≡ Live) × (received_live (p ∷ J) n ≡ 0) × (shares_executed (p ∷ J) n ≡ 0)
-given_now p J m = grind (arith, untouched J (notice (length (notices J) + 1) (day J) m))

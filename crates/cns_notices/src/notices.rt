@@ -134,6 +134,7 @@ impl<A: Allocator + Drop> Notices<A> {
     }
 
     /// Withdraws a notice, whatever its stage was. It takes no memory.
+    #[tactic(auto, using(crate::proofs::Items::set_is))]
     pub fn withdraw(&mut self, k: u32)
         requires there { (1 ≤ k) × (k ≤ length self.old) }
         ensures { self.new ≡ with_notice (at_stage Withdrawn) k self.old }
@@ -143,7 +144,7 @@ impl<A: Allocator + Drop> Notices<A> {
 
     /// Counts shares that a member received of an issue for its live notice there. Where it has none nothing changes. It
     /// takes no memory.
-    #[tactic(auto, using(crate::proofs::Led::live_item, crate::proofs::Led::live_within, crate::proofs::Led::received_none, crate::proofs::Led::received_one, crate::proofs::Led::set_led))]
+    #[tactic(auto, using(crate::proofs::Led::live_within))]
     pub fn received(&mut self, member: Member, cusip: Cusip, n: Shares)
         requires fits { ForSome (live_number self.old member cusip)
             (λ k. ForSome (notice_at self.old k) (λ x. x.received + n < 2 ^ 64)) }
@@ -155,6 +156,7 @@ impl<A: Allocator + Drop> Notices<A> {
     }
 
     /// Counts shares that were bought in on a notice, whatever its stage. It takes no memory.
+    #[tactic(auto, using(crate::proofs::Items::set_is))]
     pub fn executed(&mut self, k: u32, n: Shares)
         requires there { (1 ≤ k) × (k ≤ length self.old) }
         requires fits { ForSome (notice_at self.old k) (λ x. x.executed + n < 2 ^ 64) }

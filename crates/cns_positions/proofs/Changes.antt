@@ -1,6 +1,6 @@
 -- What changes of a tree's rows make of the holdings.
 -- For `first_rows`, `book`, `next_row` and `next_rows` of tree.rt and others.
-use Rattle.cns_positions.proofs.Common.{arith, ◌≡◌, refl, true, ◌&&◌, [], ◌∷◌, ◌++◌, Option, None, filter, Holding, Key, Rows, closed_rows, filter-append, has_row, held_above, holding_at, is_held, key_cmp, rolled, put, is_above}
+use Rattle.cns_positions.proofs.Common.{arith, ◌≡◌, refl, true, [], ◌∷◌, Option, None, filter, Holding, Key, Rows, closed_rows, has_row, held_above, holding_at, key_cmp, rolled, put}
 use Rattle.cns_tree.specs.Changes.{ChangesAt, ChangesEach}
 use Rattle.cns_tree.specs.Search.{is_after}
 
@@ -19,7 +19,3 @@ rolled_each _ _ rolls h = absurd h
 pub above_held : (rows : Rows) (after : Option Key) → held_above (filter (is_after after) rows) None ≡ held_above rows after
 above_held [] after = refl
 above_held (r ∷ rows) after = grind (arith, above_held rows after)
-
--- the rows that aren't zeros among two lists, one after the other
-pub held_append : (rows more : Rows) → held_above (rows ++ more) None ≡ held_above rows None ++ held_above more None
-held_append rows more = filter-append (λ x. is_above None x.0 && is_held x.1) rows more

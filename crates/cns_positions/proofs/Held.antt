@@ -41,19 +41,14 @@ above_parted rows k i le parted =
 pub next_given : (rows : Rows) (after : Option Key) (given rest : Rows) → is_sorted key_cmp rows ≡ true → held_above rows after ≡ given ++ rest → (given ≡ [] → held_above rows after ≡ []) → AreNext rows after given
 next_given rows after given rest s e left = record { first = e ∙ ap (λ rs. given ++ rs) (sym (held_rest rows after given rest s e)); left = left }
 
--- the first row above a key
-pub next_found : (rows : Rows) (after : Option Key) (r : Option (Key × Holding)) → is_sorted key_cmp rows ≡ true → MatchOption r (held_above rows after ≡ []) (λ r. (rest : Rows) × (held_above rows after ≡ r ∷ rest)) → MatchOption r (held_above rows after ≡ []) (λ r. held_above rows after ≡ r ∷ held_above rows (Some r.0))
-next_found rows after None s h = h
-next_found rows after (Some r) s h = h.1 ∙ ap (λ rs. r ∷ rs) (sym (held_next rows after r h.0 s h.1))
-
 -- the first that passes a test is the first of those that pass it
 pub first_passing : {X : Type 0} (p : X → Bool) (xs : List X) → MatchOption (find p xs) (filter p xs ≡ []) (λ x. (rest : List X) × (filter p xs ≡ x ∷ rest))
 first_passing p [] = refl
 first_passing p (x ∷ xs) = grind (arith, first_passing p xs)
 
--- the same, found among the rows above the key
+-- the first row above a key, found among those above it
 pub first_found : (rows above : Rows) (after : Option Key) (r : Option (Key × Holding)) → is_sorted key_cmp rows ≡ true → held_above above None ≡ held_above rows after → r ≡ find (λ r. is_held r.1) above → MatchOption r (held_above rows after ≡ []) (λ r. held_above rows after ≡ r ∷ held_above rows (Some r.0))
-first_found rows above after r s same found = next_found rows after r s (rw found (rw same at (first_passing (λ (r : Key × Holding). is_held r.1) above)))
+first_found rows above after r s same found = grind (arith, found, same, first_passing (λ (r : Key × Holding). is_held r.1) above, held_next rows after)
 
 -- where something is given, it makes no odds where one began
 pub last_given : (after : Option Key) (given : Rows) (k : Key) → last_of None given ≡ Some k → last_of after given ≡ Some k

@@ -64,6 +64,7 @@ fn take_step<P: Positions<A>, A, B: Allocator + Drop>(
 ///
 /// Any form of positions gives the same replies. The sums at each key have to fit in what holds them; no more is asked.
 /// `NoMemory` where an allocation failed.
+#[tactic(auto, using(std::proofs::lemmas::Grind::common_steps), unfolding(crate::specs::Steps::replies))]
 pub fn run<P: Positions<A>, A: Allocator + Clone + Drop>(
     alloc: A,
     steps: &[Step],

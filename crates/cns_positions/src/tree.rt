@@ -45,7 +45,7 @@ impl<A: Allocator + Clone + Drop> Drop for TreePositions<A> {
 }
 
 // Gives the key a row of zeros where it has none.
-#[tactic(auto, using(crate::proofs::Entering::at_error, crate::proofs::Holdings::entered, crate::proofs::Holdings::other_row, crate::proofs::Holdings::row_put, crate::proofs::Holdings::row_stays, crate::proofs::Holdings::sorted_put))]
+#[tactic(auto, using(crate::proofs::Entering::at_error, crate::proofs::Holdings::entered, crate::proofs::Holdings::other_row, crate::proofs::Holdings::row_put, crate::proofs::Holdings::row_stays, crate::proofs::Holdings::sorted_put), unfolding(crate::specs::Rows::row_at))]
 fn enter<A: Allocator + Clone + Drop>(
     rows: &mut Tree<Holding, A>,
     key: &Key,
@@ -86,6 +86,7 @@ fn enter_all<A: Allocator + Clone + Drop>(
 }
 
 // Books shares and cents in the row of a probe's key.
+#[tactic(auto, using(crate::proofs::Changes::changed_at, crate::proofs::Holdings::booked_put, crate::proofs::Holdings::other_row, crate::proofs::Holdings::places_put, std::proofs::lemmas::Int::wraps))]
 fn book<A: Allocator + Clone + Drop>(
     rows: &mut Tree<Holding, A>,
     probe: &mut Probe,

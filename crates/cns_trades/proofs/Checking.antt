@@ -15,11 +15,7 @@ wide_fits z h = record { sfits = h }
 pub passed : (z : ℤ) → unsigned_abs z ≤ position_limit → to_z w64 (of_z w64 z) ≡ z
 passed z h = to_z-of_z w64 z (fits_signed_from_abs w64 z (omega (arith, h)))
 
--- what does not hold fails
-pub failed : (b : Bool) → not b ≡ true → b ≡ false
-failed b h = grind arith
-
 -- a trade that nothing else refuses and whose date has come
-pub books_now : (f : TradeFacts) (ps : List Pend) (seen : Bool) (t : Trade) (p q : ℤ) → f.buyer ≡ Some p → f.seller ≡ Some q → f.listed ≡ true → f.retired ≡ false → (t.buyer == t.seller) ≡ false → (is_past t.date f.today || is_too_far t.date f.today) ≡ false → seen ≡ false → is_not_after t.date f.today ≡ true
+pub books_now : (f : TradeFacts) (ps : List Pend) (seen : Bool) (t : Trade) (p q : ℤ) → f.buyer ≡ Some p → f.seller ≡ Some q → f.listed ≡ true → f.retired ≡ false → (t.buyer == t.seller) ≡ false → not (is_past t.date f.today || is_too_far t.date f.today) ≡ true → seen ≡ false → is_not_after t.date f.today ≡ true
     → book_answer (party ps p t.buyer t.issue) (party ps q t.seller t.issue) (pend_of t) ≡ trade_answer f ps seen t
 books_now f ps seen t p q buyer seller listed retired apart day fresh now = grind arith

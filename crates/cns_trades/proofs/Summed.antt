@@ -1,6 +1,6 @@
 -- Sums of sides by key.
 -- For `take`, `add` and `open` of sides.rt, `waits_in` of pending.rt and others.
-use Rattle.cns_trades.proofs.Common.{◌≡◌, ◌∙◌, sym, ap, refl, ℕ, ◌+◌, ◌≤◌, Bool, true, false, cond, Option, Some, None, unwrap_or, ◌*◌, ◌<◌, ◌&&◌, ◌==◌, List, ◌∷◌, ◌++◌, append-nil, drop, drop-cons, take, filter, get_or, length, add-one, arith, take_all, is_eq, AllByRecursion, Cusip, added-each, bytes_eq-Decides, drop_all, each_weaker, equal, exact_keys, key_cmp, lookup, same_issue, same_key, shares_limit, waits_in, Key, Pend, Sides, SidesByKey, bought_key, has_sides, less, more, no_sides, sides_at, sides_of, sold_key}
+use Rattle.cns_trades.proofs.Common.{◌≡◌, ◌∙◌, sym, ap, ℕ, ◌+◌, ◌≤◌, Bool, true, false, cond, Option, Some, None, unwrap_or, ◌*◌, ◌<◌, List, ◌∷◌, ◌++◌, append-nil, drop, drop-cons, take, filter, get_or, length, add-one, arith, take_all, is_eq, AllByRecursion, Cusip, added-each, bytes_eq-Decides, drop_all, each_weaker, equal, exact_keys, key_cmp, lookup, same_key, shares_limit, waits_in, Key, Pend, Sides, SidesByKey, bought_key, has_sides, less, more, no_sides, sides_at, sides_by, sides_of, sold_key}
 use Rattle.cns_terms.proofs.Waiting.{bought_added, sold_added}
 
 -- what stands at a key, if anything
@@ -15,59 +15,43 @@ Puts old new key o = (q : Key) → found new q ≡ cond (is_eq (key_cmp key q)) 
 same_there : (es : SidesByKey) (key k : Key) → is_eq (key_cmp key k) ≡ true → sides_at es key ≡ sides_at es k
 same_there es key k e = ap (sides_at es) (exact_keys key k (equal _ e))
 
+-- sums that are the same on both sides
+sides_same : (s t : Sides) → s.bought ≡ t.bought → s.sold ≡ t.sold → s ≡ t
+sides_same s t p q = λ i. record { bought = p i; sold = q i }
+
 -- what f makes of the sums at one key
 pub put_at : (f : Sides → Sides) (old new : SidesByKey) (key : Key) (o : Option Sides) → Puts old new key o → unwrap_or o no_sides ≡ f (sides_at old key) → (k : Key) → sides_at new k ≡ cond (is_eq (key_cmp key k)) (f (sides_at old k)) (sides_at old k)
 put_at f old new key o h is k = grind (arith, same_there)
 
--- no sums at a key: what f makes of nothing is nothing
-pub none_at : (f : Sides → Sides) (es : SidesByKey) (key : Key) → found es key ≡ None → f no_sides ≡ no_sides → (k : Key) → sides_at es k ≡ cond (is_eq (key_cmp key k)) (f (sides_at es k)) (sides_at es k)
-none_at f es key none is k = grind (arith, same_there es key k)
+-- no sums at a key: there is nothing to take
+pub none_taken : (es : SidesByKey) (key : Key) (d : Sides) → found es key ≡ None → d.bought ≤ (sides_at es key).bought → d.sold ≤ (sides_at es key).sold → (k : Key) → sides_at es k ≡ cond (is_eq (key_cmp key k)) (less (sides_at es k) d) (sides_at es k)
+none_taken es key d none b s k = grind (arith, same_there es key k, sides_same)
 
 -- what is found at a key stands there
 pub at_found : (es : SidesByKey) (k : Key) (s : Sides) → found es k ≡ Some s → sides_at es k ≡ s
 at_found es k s h = ap (λ o. unwrap_or o no_sides) h
 
 -- where nothing is put in the place of nothing, all sums stay
-pub opened_at : (old new : SidesByKey) (key : Key) → Puts old new key (Some no_sides) → found old key ≡ None → (k : Key) → sides_at new k ≡ sides_at old k
-opened_at old new key h none k = grind (arith, put_at (λ s. no_sides) old new key (Some no_sides) h refl k, none_at (λ s. no_sides) old key none refl k)
+pub opened_at : (old new : SidesByKey) (key : Key) → Puts old new key (Some no_sides) → has_sides old key ≡ false → (k : Key) → sides_at new k ≡ sides_at old k
+opened_at old new key h none k = grind (arith, h k, same_there old key k)
 
 -- there is room where there was, and where something is put
 pub has_put : (old new : SidesByKey) (key : Key) (s : Sides) → Puts old new key (Some s) → (k : Key) → has_sides old k ≡ true → has_sides new k ≡ true
 has_put old new key s h k is = grind arith
 
--- no room, and nothing there
-pub has_none : (es : SidesByKey) (k : Key) → has_sides es k ≡ false → found es k ≡ None
-has_none es k h = grind arith
-
--- sums that are the same on both sides
-sides_same : (s t : Sides) → s.bought ≡ t.bought → s.sold ≡ t.sold → s ≡ t
-sides_same s t p q = λ i. record { bought = p i; sold = q i }
-
 -- sums less themselves
 pub less_itself : (s : Sides) → less s s ≡ no_sides
 less_itself s = sides_same _ _ (omega arith) (omega arith)
 
--- nothing less what is no more
-pub less_nothing : (es : SidesByKey) (k : Key) (d : Sides) → found es k ≡ None → d.bought ≤ (sides_at es k).bought → d.sold ≤ (sides_at es k).sold → less no_sides d ≡ no_sides
-less_nothing es k d none b s = grind arith
-
 -- ---- what trades add up to
 
 -- what is done at the buyer's key and then at the seller's, in the words of the definitions
-module _ (f : Sides → Sides → Sides) (p : Pend) (before between after : Key → Sides) where
-  pub both_keys : ((k : Key) → between k ≡ cond (is_eq (key_cmp (bought_key p) k)) (f (before k) (record { bought = p.shares; sold = 0 })) (before k))
-      → ((k : Key) → after k ≡ cond (is_eq (key_cmp (sold_key p) k)) (f (between k) (record { bought = 0; sold = p.shares })) (between k))
-      → (k : Key) → after k ≡ cond ((p.seller == k.account) && same_issue p.issue k.issue) (f (cond ((p.buyer == k.account) && same_issue p.issue k.issue) (f (before k) (record { bought = p.shares; sold = 0 })) (before k)) (record { bought = 0; sold = p.shares }))
-      (cond ((p.buyer == k.account) && same_issue p.issue k.issue) (f (before k) (record { bought = p.shares; sold = 0 })) (before k))
-  both_keys one two k = grind (arith, one k, two k, same_key (sold_key p) k, same_key (bought_key p) k)
+module _ (p : Pend) (before between after : Key → Sides) (one two : Key) (b s : Sides) (at_one : one ≡ bought_key p) (brings : b ≡ record { bought = p.shares; sold = 0 }) (at_two : two ≡ sold_key p) (takes : s ≡ record { bought = 0; sold = p.shares }) where
+  pub added_both : ((k : Key) → between k ≡ cond (is_eq (key_cmp one k)) (more (before k) b) (before k)) → ((k : Key) → after k ≡ cond (is_eq (key_cmp two k)) (more (between k) s) (between k)) → (k : Key) → after k ≡ more (sides_by p k) (before k)
+  added_both first second k = grind (arith, sides_same, first k, second k, same_key one k, same_key two k)
 
--- a trade is added
-pub added_both : (t u : Bool) (n : ℕ) (s : Sides) → cond u (more (cond t (more s (record { bought = n; sold = 0 })) s) (record { bought = 0; sold = n })) (cond t (more s (record { bought = n; sold = 0 })) s) ≡ more (record { bought = cond t n 0; sold = cond u n 0 }) s
-added_both t u n s = grind (arith, sides_same)
-
--- and taken
-pub taken_both : (t u : Bool) (n : ℕ) (s : Sides) → cond u (less (cond t (less s (record { bought = n; sold = 0 })) s) (record { bought = 0; sold = n })) (cond t (less s (record { bought = n; sold = 0 })) s) ≡ less s (record { bought = cond t n 0; sold = cond u n 0 })
-taken_both t u n s = grind (arith, sides_same)
+  pub taken : ((k : Key) → between k ≡ cond (is_eq (key_cmp one k)) (less (before k) b) (before k)) → ((k : Key) → after k ≡ cond (is_eq (key_cmp two k)) (less (between k) s) (between k)) → (k : Key) → after k ≡ less (before k) (sides_by p k)
+  taken first second k = grind (arith, sides_same, first k, second k, same_key one k, same_key two k)
 
 -- the trades' sums are as small as their number allows
 pub few_sides : (ps : List Pend) (k : Key) → AllByRecursion (λ (p : Pend). p.shares ≤ shares_limit) ps → ((sides_of ps k).bought ≤ shares_limit * length ps) × ((sides_of ps k).sold ≤ shares_limit * length ps)

@@ -1,5 +1,5 @@
 use Rattle.cns_notices.proofs.Common.{arith, length-set}
-use Rattle.cns_notices.proofs.Led.{set_is}
+use Rattle.cns_notices.proofs.Items.{set_is}
 use Rattle.cns_notices.proofs.changes.end_each.Goals as goal
 
 pub loop-number-preserved : goal.loop-number-preserved

@@ -1,7 +1,7 @@
 use Rattle.cns_notices.proofs.Common.{◌≡◌, ◌∙◌, ◌<◌, sym, ap, Some, cond, is_eq, arith, Numbers, number_at, numbers_of, Place, place_cmp}
 use Rattle.std.proofs.lemmas.Map.Views.{All-keys-insert_entry}
 use Rattle.cns_notices.proofs.latest.Latest.put.Goals as goal
-use Rattle.cns_notices.proofs.latest.Latest.put.Goals.{in-Some, in-None+in_ok-clone-in-None, in-Ok, in-Err}
+use Rattle.cns_notices.proofs.latest.Latest.put.Goals.{in-Ok, in-Err}
 
 -- the map that is changed has the numbers from before
 before : (g : _) (c : goal.Joined-inserted g) → c.match-take.numbers.entries ≡ numbers_of c.self.inside.numbers

@@ -1,9 +1,6 @@
 use Rattle.cns_notices.proofs.Common.{◌-◌, arith}
-use Rattle.cns_notices.proofs.Led.{set_is, set_led}
+use Rattle.cns_notices.proofs.Led.{set_led}
 use Rattle.cns_notices.proofs.notices.Notices.executed.Goals as goal
 
 pub invariant_of-self : goal.invariant_of-self
 invariant_of-self g c = grind (arith, set_led c.self.invariant (c.args.k - 1) c.index_mut.result.now c.execute.new.self)
-
-pub returns : goal.returns
-returns g c = grind (arith, set_is)
