@@ -40,7 +40,6 @@ impl<A: Allocator + Drop> Model for Calls<A> {
 }
 
 // Chooses the batches of the issues that an iterator has left.
-#[tactic(auto, using(std::proofs::lemmas::List::append_assoc))]
 fn choose_each<A: Allocator + Drop + Clone>(
     alloc: &A,
     issues: Iter<'_, Cusip, Called<A>>,
