@@ -86,14 +86,19 @@ execution_entries J x k = originator_entry x k ∷ map (fill_entry k) (fills J x
 -- date or a later one; a delivery raises the member's position, a receipt the corporation's; splits and exchanges book for
 -- all who have a position
 abbrev pub entries : Day → Journal → Activity → List Entry
+entries opening J (Activity.Member m) = []
+entries opening J (Activity.Issue l) = []
 entries opening J (Activity.Trade t) = if is_not_after t.date (date opening J) then trade_entries (pend_of t) else []
+entries opening J (Activity.Price l) = []
 entries opening J (Activity.Deliver m) = moved_in m.member m ∷ moved_out corporation m ∷ []
 entries opening J (Activity.Receive m) = moved_out m.member m ∷ moved_in corporation m ∷ []
+entries opening J (Activity.Dividend d) = []
 entries opening J (Activity.Split s) = split_entries s (λ a. position J a s.issue) (members J)
 entries opening J (Activity.Exchange x) = exchange_entries x (λ a. position J a x.old) (members J)
+entries opening J (Activity.Notice m) = []
+entries opening J (Activity.Withdraw k) = []
 entries opening J (Activity.Execute x) = option_map_or (execution_entries J x) (notice_at J x.notice) []
 entries opening J (Activity.Close d) = flat_map trade_entries (due opening J d)
-entries opening J _ = []
 
 -- an activity with the entries that it books on a journal
 abbrev pub posting : Day → Journal → Activity → Posting

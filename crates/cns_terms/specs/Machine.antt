@@ -26,7 +26,17 @@ opened d = record { opening = d; accepted = [] }
 
 -- the reply to an activity that is not refused
 abbrev pub activity_reply : Day → Journal → Activity → Reply
+activity_reply opening J (Activity.Member m) = Reply.Accepted
+activity_reply opening J (Activity.Issue l) = Reply.Accepted
+activity_reply opening J (Activity.Trade t) = Reply.Accepted
+activity_reply opening J (Activity.Price l) = Reply.Accepted
+activity_reply opening J (Activity.Deliver m) = Reply.Accepted
+activity_reply opening J (Activity.Receive m) = Reply.Accepted
+activity_reply opening J (Activity.Dividend d) = Reply.Accepted
+activity_reply opening J (Activity.Split s) = Reply.Accepted
+activity_reply opening J (Activity.Exchange x) = Reply.Accepted
 activity_reply opening J (Activity.Notice m) = Reply.Noticed (length (notices J) + 1)
+activity_reply opening J (Activity.Withdraw k) = Reply.Accepted
 activity_reply opening J (Activity.Execute x) = Reply.Executed (option_map_or (λ n. length (fills J x n)) (notice_at J x.notice) 0)
 activity_reply opening J (Activity.Close d) = Reply.Closed (record {
   day = day J;
@@ -34,7 +44,6 @@ activity_reply opening J (Activity.Close d) = Reply.Closed (record {
   rows = length (sheet_rows opening J);
   liable = length (liable_at J);
 })
-activity_reply opening J _ = Reply.Accepted
 
 -- the reply to a command that is not refused
 abbrev pub command_reply : Day → Journal → Command → Reply
@@ -53,7 +62,8 @@ answer_to opening L cmd = answer_over opening (journal opening L) cmd
 -- the accepted activities after a command: a refused command and a query change nothing
 abbrev pub accepted_after : Day → List Activity → Command → List Activity
 accepted_after opening L (Command.Activity x) = if is_none (refusal opening (journal opening L) (Command.Activity x)) then x ∷ L else L
-accepted_after opening L _ = L
+accepted_after opening L (Command.Position k) = L
+accepted_after opening L (Command.Statement a d) = L
 
 -- the reply to a command
 abbrev pub answer : State → Command → Reply
