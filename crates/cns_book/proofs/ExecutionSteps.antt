@@ -3,7 +3,6 @@
 use Rattle.cns_book.proofs.Common.{◌≡◌, ◌∙◌, ap, sym, subst, ℕ, ◌≤◌, List, [], ◌∷◌, length, Ok, Option, Some, Activity, CanBeExecuted, Contents, Execution, Fill, Follows, HasRoom, IsAccepted, IsExecutable, Key, Liables, Notice, Noticed, Rows, batch_on, books, capped_short, charged_on, entries_by, fills, fills_by, fills_of, holding_at, journal, notice_at, option_map_or, room_of, with_notice, Given, Steps, ◌+◌, false, filter, sum_by, arith, ◌==◌, nat_lt, AllByRecursion, AreApart, CanBeFilled, IsInRange, Liable, Member, batch, capacity, cents_of_fills, each_both, each_filter, each_weaker, filled_at, fills_laid, laid, nat_tests, originator_at, shares_of_fills, short, sum_by-cons, min-le_right, position, IsWithin, Command, Reply, kept_found, None, refl}
 use Rattle.cns_notices.specs.Noticed.{executes}
 use Rattle.cns_book.proofs.ExecutionRefusals.{AreShort, execute_follows, fills_same, room_same, members_of, sound_at}
-use Rattle.cns_book.proofs.PartsStaying.{accepted}
 use Rattle.cns_book.proofs.PartsWithin.{rows_within}
 use Rattle.cns_terms.proofs.BuyIns.{batch_once, remains_long, times}
 

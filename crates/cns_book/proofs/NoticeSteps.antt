@@ -1,6 +1,6 @@
 -- Notices and withdrawals: what they are refused for, and what they leave.
 -- For `give_notice`, `withdraw_refusal`, `notice_refusal` and `withdraw` of parts/notice.rt, clauses refusal and step.
-use Rattle.cns_book.proofs.Common.{◌≡◌, ◌∙◌, sym, refl, ℕ, zero, suc, ◌+◌, ◌-◌, ◌≤◌, ℤ, pos, true, false, cond, List, [], ◌∷◌, ◌++◌, length, map, Some, None, arith, ◌==◌, find, int_le, option_map, same_Some, slice_get_past, Activity, AlreadyNoticed, Contents, Follows, FollowsNotices, IsInRange, Movement, NotLive, Notice, Noticed, Refusal, Stage, changed_each, changed_one, first_refusal, holding_at, is_exceeded, is_listed, is_live, is_member, is_retired, issue_rules, journal, kept_found, length-map, live_number, notice_at, notices, posting, refusal, remaining_by, with_notice, Given, position, AreNumberedFrom, numbered, kept, at_stage, new_notice, receives, live_same, changed_same, notice_found, notice_more, received_by, taken_back, withdrawn_by, member_position, notice_listed, Command, kept_at}
+use Rattle.cns_book.proofs.Common.{◌≡◌, ◌∙◌, sym, refl, ℕ, zero, suc, ◌+◌, ◌-◌, ◌≤◌, ℤ, pos, true, false, cond, List, [], ◌∷◌, ◌++◌, length, map, Some, None, arith, ◌==◌, find, int_le, option_map, same_Some, slice_get_past, Activity, AlreadyNoticed, Contents, Follows, FollowsNotices, IsInRange, Movement, NotLive, Notice, Noticed, Refusal, Stage, changed_each, changed_one, first_refusal, holding_at, is_exceeded, is_listed, is_live, is_member, is_retired, issue_rules, journal, kept_found, length-map, live_number, notice_at, notices, posting, refusal, remaining_by, with_notice, Given, position, AreNumberedFrom, numbered, at_stage, new_notice, receives, live_same, changed_same, notice_found, notice_more, received_by, taken_back, withdrawn_by, member_position, notice_listed, Command, kept_at}
 use Rattle.cns_terms.specs.declared.buy_in.Stage.TheVariants.{Live, Withdrawn}
 use Rattle.cns_book.proofs.RetransmittalCalls.{remaining_same}
 use Rattle.cns_book.proofs.EffectEntries.{books_none}

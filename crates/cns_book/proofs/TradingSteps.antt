@@ -1,6 +1,6 @@
 -- Trades, deliveries and receipts: what they are refused for, and what they leave.
 -- For `book_trade`, `deliver` and `receive` of parts/trading.rt, clause step.
-use Rattle.cns_book.proofs.Common.{◌≡◌, ◌∙◌, sym, ap, refl, ℕ, ◌+◌, ◌≤◌, ℤ, Bool, true, false, not, ◌||◌, cond, eqb, List, [], ◌∷◌, ◌++◌, reverse, Option, Some, None, arith, is_some, Ok, Err, Account, Activity, Contents, Cusip, Day, Entry, Follows, FollowsNotices, FollowsPending, FollowsReferences, IsInRange, Key, Noticed, Pend, Refusal, Rows, Traded, books, bytes_refl, date, entries, eqb_refl, first_refusal, holding_at, ints, is_close, is_member, is_not_after, is_seen, is_too_large, is_too_large_at, journal, list_any, nat_tests, option_map_or, pend_of, pending, refusal, reverse_onto, sum_by-cons, trade_entries, trade_rules, position, or_false, books_beyond, party, takes_beyond, trade_answer, waits_beyond, is_used, AreTradeFacts, Movement, corporation, moved_in, moved_out, AreThere, delivery_rules, receipt_rules, AreMoveFacts, Command, bought_by, sold_by, eqb_sym, declared, executed}
+use Rattle.cns_book.proofs.Common.{◌≡◌, ◌∙◌, sym, ap, refl, ℕ, ◌≤◌, ℤ, Bool, true, false, not, ◌||◌, cond, eqb, List, [], ◌∷◌, ◌++◌, reverse, Option, Some, None, arith, is_some, Ok, Err, Account, Activity, Contents, Cusip, Day, Entry, Follows, FollowsNotices, FollowsPending, FollowsReferences, IsInRange, Key, Noticed, Pend, Refusal, Rows, Traded, books, bytes_refl, date, entries, eqb_refl, first_refusal, holding_at, ints, is_close, is_member, is_not_after, is_seen, is_too_large, is_too_large_at, journal, list_any, nat_tests, option_map_or, pend_of, pending, refusal, reverse_onto, sum_by-cons, trade_entries, trade_rules, position, or_false, books_beyond, party, takes_beyond, trade_answer, waits_beyond, is_used, AreTradeFacts, Movement, corporation, moved_in, moved_out, AreThere, delivery_rules, receipt_rules, AreMoveFacts, Command, bought_by, sold_by, eqb_sym, declared, executed}
 use Rattle.cns_terms.specs.declared.command.Trade.{Trade}
 use Rattle.cns_terms.proofs.Facts.{zero_add}
 use Rattle.cns_trades.specs.declared.facts.TradeFacts.{TradeFacts}
