@@ -54,7 +54,9 @@ EndsAtSubmit _ = ⊥
 abbrev pub MetEnd : Bool → Told → End → Type 0
 MetEnd fails t End.Complete = (t.items ≡ []) × (t.end ≡ Ok Item.Finished)
 MetEnd fails t (End.Source SourceFault.Read) = (fails ≡ true) ⊎ ((t.items ≡ []) × (t.end ≡ Err SourceFault.Read))
-MetEnd fails t _ = ⊤
+MetEnd fails t (End.Source SourceFault.NoMemory) = ⊤
+MetEnd fails t End.NoMemory = ⊤
+MetEnd fails t End.Full = ⊤
 
 -- one record: it was the first of what is left, and is in the log; or the worker ended
 abbrev pub Steps : Bool → Told → Option End → Option Told → Logged → Logged → Type 0
@@ -65,7 +67,9 @@ Steps fails t (Some e) now old new = StaysLogged old new × MetEnd fails t e
 abbrev pub LeftAt : Bool → Told → List (Option Command) → List (Option Command) → End → Type 0
 LeftAt fails t given rest End.Complete = (rest ≡ []) × (t.end ≡ Ok Item.Finished)
 LeftAt fails t given rest (End.Source SourceFault.Read) = length given < 2 ^ 32 - 1 → (fails ≡ true) ⊎ ((rest ≡ []) × (t.end ≡ Err SourceFault.Read))
-LeftAt fails t given rest _ = ⊤
+LeftAt fails t given rest (End.Source SourceFault.NoMemory) = ⊤
+LeftAt fails t given rest End.NoMemory = ⊤
+LeftAt fails t given rest End.Full = ⊤
 
 -- a worker's log and end: the log is that of what was given up to where the worker ended
 pub record Worked (fails : Bool) (t : Told) (log : Logged) (end : End) : Type 0 where
@@ -89,7 +93,9 @@ HaveRun fails told (s ∷ ss) (l ∷ ls) [] = ⊥
 -- a fault of a run that was begun
 abbrev pub IsLate : RunFault → Type 0
 IsLate RunFault.Workers = ⊥
-IsLate _ = ⊤
+IsLate RunFault.Spawn = ⊤
+IsLate RunFault.NoMemory = ⊤
+IsLate RunFault.Mismatch = ⊤
 
 -- what it is to a run that a desk was not opened
 abbrev pub run_fault_of : OpenFault → RunFault
