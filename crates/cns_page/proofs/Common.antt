@@ -1,7 +1,7 @@
 -- The names that most proofs cite, passed on from one place. Declares nothing.
 pub use Rattle.std.proofs.Common.{Bool, IfSome, List, None, OnOk, Option, Result, Some, [], add-one, ap, append-nil, append_assoc, arith, drop, false, filter, find, get_or, if◌then◌else◌, length, length-append, map, min, option_map, refl, reverse, rules, set, slice_get, subst, suc, sym, take, true, unsigned_abs, unwrap_or, zero, ℕ, ◌&&◌, ◌++◌, ◌+◌, ◌-◌, ◌<◌, ◌==◌, ◌^◌, ◌∙◌, ◌∷◌, ◌≡◌, ◌≤◌}
 pub use Rattle.std.proofs.lemmas.Bool.{eq-eqb, ne_eqb}
-pub use Rattle.std.proofs.lemmas.Fn.{always_returns_same, filter_same}
+pub use Rattle.std.proofs.lemmas.Fn.{always_returns_same}
 pub use Rattle.std.proofs.lemmas.List.{drop_more, flat_map_more, length-map, map-append, take_all, with_items_is}
 pub use Rattle.std.proofs.lemmas.List.Elements.{filter-append, filter_map-append}
 pub use Rattle.std.proofs.lemmas.List.Sums.{fold-append, sum_by-append}
@@ -25,14 +25,14 @@ pub use Rattle.cns_feed.specs.Records.{IsReady, Pending}
 unfoldable pub use Rattle.cns_feed.specs.Replay.{log_after}
 pub use Rattle.cns_feed.specs.Replay.{blank_log, log_after_line}
 pub use Rattle.cns_retransmit.proofs.Lists.{take_next}
-pub use Rattle.cns_tables.proofs.Written.{after}
+pub use Rattle.cns_tables.proofs.Written.{after, kept}
 pub use Rattle.cns_terms.specs.Common.{Account, Cusip, Day, DaySheet, IsReached, Journal, Notice, State, day, is_live, journal, journal_of, notice, notice_at, noticed, notices, opened, pend_of, refusal, sheet_on}
 pub use Rattle.cns_terms.specs.Keys.{key_cmp}
 pub use Rattle.cns_terms.specs.declared.command.Activity.{Activity}
 pub use Rattle.cns_terms.specs.declared.command.Trade.{Trade}
 pub use Rattle.cns_terms.specs.declared.history.Taken.{Taken}
 pub use Rattle.cns_terms.specs.declared.sheet.Row.{Row}
-pub use Rattle.cns_page.specs.Account.{cited, is_party, names}
+pub use Rattle.cns_page.specs.Account.{names}
 unfoldable pub use Rattle.cns_page.specs.Accounts.{lines_after}
 pub use Rattle.cns_page.specs.Accounts.{grouped, sheet_lines}
 pub use Rattle.cns_page.specs.Due.{ArePending, due_at, no_shares, projected_all, with_due, with_shares}

@@ -1,17 +1,16 @@
 -- The page of an account's closed day.
 use Rattle.std.specs.Prelude.{◌≡◌, ℕ, ◌==◌, ◌||◌, Bool, true, false, List, [], ◌∷◌, ◌++◌, Option, filter, length, map, Some}
-use Rattle.cns_page.specs.Common.{Appends, decimal, option_map_or, day_text, Account, Day, DaySheet, State, state_of, HistoryLine, fail_text, booked_text, mark_text, position_text, Fail, piece_text, table_text, STYLE, ClosedDay, Cited, Finding, START, Due, Shared, Piece, filled, Close}
+use Rattle.cns_page.specs.Common.{Appends, decimal, option_map_or, day_text, Account, Day, DaySheet, State, state_of, HistoryLine, fail_text, booked_text, mark_text, position_text, Fail, piece_text, table_text, STYLE, ClosedDay, Finding, START, Due, Shared, Piece, filled, Close}
 use Rattle.cns_account.specs.Day.{IsAccountDay}
 use Rattle.cns_account.specs.Dividends.{dividend_text, dividends_paid}
 use Rattle.cns_account.specs.declared.day.AccountDay.{AccountDay}
 use Rattle.cns_page.specs.Due.{projected_all, projected_text}
-use Rattle.cns_page.specs.Exceptions.{cited_text}
+use Rattle.cns_page.specs.Exceptions.{finding_text}
 use Rattle.cns_page.specs.Fails.{fail_at}
 use Rattle.cns_page.specs.Foot.{again_text, made_text}
-use Rattle.cns_page.specs.Page.{sum_of}
+use Rattle.cns_page.specs.Page.{next_day, sum_of}
 use Rattle.cns_page.specs.Rows.{due_text, notice_row, owing_text}
-use Rattle.cns_page.specs.Shown.{next_day}
-use Rattle.cns_page.specs.declared.account.Own.{Own}
+use Rattle.cns_page.specs.declared.own.Own.{Own}
 use Rattle.cns_page.specs.declared.account.OwnCaptions.{OwnCaptions}
 use Rattle.cns_page.specs.declared.account.TheConstants.{ACCOUNT_OPTION, HEAD, LINKED, MAIN}
 
@@ -24,10 +23,6 @@ is_party a d = d.trade.buyer == a || d.trade.seller == a
 -- whether a refused record names an account
 abbrev pub names : Account → Finding → Bool
 names a f = option_map_or (λ b. b == a) f.parties.account false || option_map_or (λ b. b == a) f.parties.other false
-
--- the exception that a row tells
-abbrev pub cited : Cited → Finding
-cited c = c.finding.now
 
 -- its fails: its shorts among those of all members, each with its first close and what the price did to it since
 abbrev pub own_fails : Account → State → DaySheet → Shared → List Fail
@@ -43,7 +38,7 @@ pub record AreOwn (a : Account) (d : ClosedDay) (sheet : DaySheet) (ls : List Hi
   pub fails : own.fails.items ≡ own_fails a (state_of d.book.log) sheet g
   pub liable : own.liable.items ≡ filter (λ o. o.liable.member == a) g.liable.items
   pub notices : own.notices.items ≡ filter (λ n. n.notice.member == a) g.notices.items
-  pub exceptions : map cited own.exceptions.items ≡ filter (names a) d.survey.findings.items
+  pub exceptions : map (λ c. c.finding.now) own.exceptions.items ≡ filter (names a) d.survey.findings.items
 
 -- how many rows each table has
 abbrev pub row_counts : Own → List ℕ
@@ -78,7 +73,7 @@ tables_text t o =
     ++ (table_text notice_row t.notices o.notices.items
     ++ (table_text due_text t.trades o.trades.items
     ++ (table_text booked_text t.bookings o.day.bookings.items
-    ++ table_text cited_text t.exceptions o.exceptions.items))))))))
+    ++ table_text (λ c. finding_text c.finding.now) t.exceptions o.exceptions.items))))))))
 
 -- the line that makes the page again, but for its end
 abbrev pub again_of : Day → Day → Account → List ℕ

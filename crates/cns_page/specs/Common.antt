@@ -43,15 +43,11 @@ pub use Rattle.cns_page.specs.declared.asked.When.{When}
 pub use Rattle.cns_page.specs.declared.captions.Captions.{Captions}
 pub use Rattle.cns_page.specs.declared.closed.ClosedDay.{ClosedDay}
 pub use Rattle.cns_page.specs.declared.contents.Contents.{Contents}
-pub use Rattle.cns_page.specs.declared.contents.Head.{Head}
 pub use Rattle.cns_page.specs.declared.figures.Figures.{Figures}
-pub use Rattle.cns_page.specs.declared.finding.Cited.{Cited}
-pub use Rattle.cns_page.specs.declared.finding.Exchanged.{Exchanged}
 pub use Rattle.cns_page.specs.declared.finding.Fact.{Fact}
 pub use Rattle.cns_page.specs.declared.finding.Finding.{Finding}
 pub use Rattle.cns_page.specs.declared.finding.Numbered.{Numbered}
 pub use Rattle.cns_page.specs.declared.finding.Outcome.{Outcome}
-pub use Rattle.cns_page.specs.declared.finding.Pending.{Pending}
 pub use Rattle.cns_page.specs.declared.finding.Seen.{Seen}
 pub use Rattle.cns_page.specs.declared.finding.Waiting.{Waiting}
 pub use Rattle.cns_page.specs.declared.foot.Origin.{Origin}

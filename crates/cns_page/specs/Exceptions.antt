@@ -1,6 +1,6 @@
 -- The texts of exceptions.
 use Rattle.std.specs.Prelude.{ℕ, List, [], ◌∷◌, ◌++◌, Option, None, Some, codes, string_bytes}
-use Rattle.cns_page.specs.Common.{decimal, flat_map, day_text, refusal_number, escaped, count_text, piece_text, Cited, Exchanged, Fact, Finding, Numbered, Outcome, Pending, Seen, Waiting, Piece, filled}
+use Rattle.cns_page.specs.Common.{decimal, flat_map, day_text, refusal_number, escaped, count_text, piece_text, Fact, Finding, Numbered, Outcome, Seen, Piece, filled}
 use Rattle.cns_terms.specs.declared.buy_in.Stage.{Stage}
 use Rattle.cns_feed.specs.Text.{fault_name}
 use Rattle.cns_page.specs.declared.exceptions.TheConstants.{EXCHANGED, INVALID, NOTICE, PENDING, POSITION, PRICE, PUT_RIGHT, RECORD, REFUSED, ROOM, SEEN, TODAY, WAITING}
@@ -12,23 +12,11 @@ stage_name Stage.Withdrawn = codes "withdrawn"
 stage_name Stage.Ended = codes "ended by a split or an exchange"
 stage_name Stage.Expired = codes "expired"
 
--- a retired issue, and its successor
-abbrev pub exchanged_text : Exchanged → List ℕ
-exchanged_text e = filled EXCHANGED.now (escaped e.issue ∷ escaped e.exchange.successor ∷ [])
-
--- what waits beside a position
-abbrev pub waiting_text : Waiting → List ℕ
-waiting_text w = filled WAITING.now (count_text w.bought ∷ count_text w.sold ∷ [])
-
 -- the trade that has a reference: the number of its record, its buyer, shares, issue, seller and date
 abbrev pub seen_text : Seen → List ℕ
 seen_text s =
     let t = s.trade in
     filled SEEN.now (decimal s.reference ∷ decimal s.record ∷ decimal t.buyer ∷ count_text t.shares ∷ escaped t.issue ∷ decimal t.seller ∷ day_text t.date ∷ [])
-
--- the first trade that is pending: its reference and date
-abbrev pub pending_text : Pending → List ℕ
-pending_text p = filled PENDING.now (decimal p.trade.reference ∷ day_text p.trade.date ∷ [])
 
 -- a notice as it stood
 abbrev pub notice_text : Numbered → List ℕ
@@ -36,15 +24,16 @@ notice_text n =
     let k = n.notice in
     filled NOTICE.now (decimal n.number ∷ decimal k.member ∷ escaped k.issue ∷ decimal k.given ∷ stage_name k.stage ∷ count_text k.remaining ∷ count_text k.shares ∷ [])
 
--- something that a refusal looked at
+-- something that a refusal looked at: the open day; an issue's price; a retired issue and its successor; a position, and what waits
+-- beside it; the trade that has a reference; the reference and date of the first trade that is pending; a notice; the room
 abbrev pub some_fact_text : Fact → List ℕ
 some_fact_text (Fact.Today d n) = filled TODAY.now (day_text d ∷ decimal n ∷ [])
 some_fact_text (Fact.Price q) = filled PRICE.now (escaped q.issue ∷ piece_text (Piece.Price q.price) ∷ [])
-some_fact_text (Fact.Exchanged e) = exchanged_text e
+some_fact_text (Fact.Exchanged e) = filled EXCHANGED.now (escaped e.issue ∷ escaped e.exchange.successor ∷ [])
 some_fact_text (Fact.Position s) = filled POSITION.now (decimal s.account ∷ escaped s.issue ∷ piece_text (Piece.Position s.position) ∷ [])
-some_fact_text (Fact.Waiting w) = waiting_text w
+some_fact_text (Fact.Waiting w) = filled WAITING.now (count_text w.bought ∷ count_text w.sold ∷ [])
 some_fact_text (Fact.Seen s) = seen_text s
-some_fact_text (Fact.Pending p) = pending_text p
+some_fact_text (Fact.Pending p) = filled PENDING.now (decimal p.trade.reference ∷ day_text p.trade.date ∷ [])
 some_fact_text (Fact.Notice n) = notice_text n
 some_fact_text (Fact.Room n) = filled ROOM.now (count_text n ∷ [])
 
@@ -70,7 +59,3 @@ put_right_text (Some n) = filled PUT_RIGHT.now (decimal n ∷ [])
 abbrev pub finding_text : Finding → List ℕ
 finding_text f =
     record_text f ++ (reason_text f.outcome f.words.now ++ (flat_map fact_text f.facts ++ (put_right_text f.put_right ++ 10 ∷ [])))
-
--- on the page of an account
-abbrev pub cited_text : Cited → List ℕ
-cited_text c = finding_text c.finding.now

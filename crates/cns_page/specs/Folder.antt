@@ -19,7 +19,7 @@ KeepsOwn d s g (a ∷ others) old new =
 -- and then that of the day, by its date
 abbrev pub KeepsPages : ClosedDay → DaySheet → Contents → List Account → Option KeptPages → Option KeptPages → Type 0
 KeepsPages d s l accounts old new =
-    (mid : Option KeptPages) × KeepsOwn d s l.shared.now accounts old mid × (text : List ℕ) × ShowsDay d l (Some []) (Some text)
+    (mid : Option KeptPages) × KeepsOwn d s l.shared.now accounts old mid × (text : List ℕ) × ShowsDay d true l (Some []) (Some text)
     × (new ≡ and_kept mid (record { date = d.close.date; account = None }) text)
 
 -- the accounts of a closed day: those that have a position in the first of the listed issues

@@ -1,38 +1,21 @@
 -- What a page that was written shows.
-use Rattle.std.specs.Prelude.{[], ◌≡◌, ℕ, ◌+◌, ◌-◌, ◌^◌, Bool, false, List, length, map, min, take, Option, Some}
-use Rattle.cns_page.specs.Common.{Account, Appends, int_cmp, nat_cmp, Day, DaySheet, date, journal_of, opened, day_number, Trade, sheet_on, Log, state_of, lines_of, blank_log, log_after, IsOrdered, key_cmp, history, Watched, AreMoves, Captions, ClosedDay, Contents, Head, Due, Shared, Close, Survey, Span}
+use Rattle.std.specs.Prelude.{[], ◌≡◌, ℕ, Bool, false, List, map, take, Option, Some}
+use Rattle.cns_page.specs.Common.{Account, Appends, int_cmp, nat_cmp, Day, DaySheet, journal_of, opened, day_number, Trade, sheet_on, Log, state_of, lines_of, blank_log, log_after, IsOrdered, key_cmp, history, Watched, AreMoves, Captions, ClosedDay, Contents, Due, Shared, Span}
 use Rattle.cns_account.specs.Past.{IsPast}
 use Rattle.cns_page.specs.Accounts.{sheet_lines}
 use Rattle.cns_page.specs.Due.{ArePending, due_at}
 use Rattle.cns_page.specs.Foot.{IsOrigin}
 use Rattle.cns_page.specs.Issues.{AreIssues}
 use Rattle.cns_page.specs.Listed.{IsInOrderOf, counted, counts, counts_shown, date_before, due, figures_shown, last_closes, later_among, liable_shown, live_shown, looked_at, shorts_among, spans_shown}
-use Rattle.cns_page.specs.Page.{page_text}
+use Rattle.cns_page.specs.Page.{next_day, page_text}
 use Rattle.cns_page.specs.Rowless.{without_row}
 use Rattle.cns_page.specs.Survey.{IsClosedBy, known, noted_all, nothing}
-
--- the day that a book's last close opened
-abbrev pub next_day : Log → Day
-next_day log = date log.opening (journal_of (state_of log))
 
 -- the accepted trades that settle after a day, by date: those that its close booked into the next day, and those
 -- that are pending
 abbrev pub AreTradesAfter : Log → Day → List Due → Type 0
 AreTradesAfter log d xs =
     (ts : List Trade) × IsInOrderOf (λ t. day_number t.date) int_cmp (later_among d (looked_at log.history)) ts × (xs ≡ map (due (next_day log)) ts)
-
--- what the head of the page tells, of the day that a close ends
-abbrev pub head_shown : Log → Survey → Close → Bool → Head
-head_shown log s c linked = record {
-  date = c.date;
-  day = c.day;
-  first = min (s.from + 1) (2 ^ 64 - 1);
-  last = c.number;
-  exceptions = length s.reasons.items;
-  before = date_before s.closes.items;
-  next = next_day log;
-  is_linked = linked;
-}
 
 -- the rows that the page of a closed day and those of its accounts show both, by the day's sheet; the members' shorts stand the oldest
 -- first
@@ -48,7 +31,6 @@ pub record AreShared (d : ClosedDay) (sheet : DaySheet) (g : Shared) : Type 0 wh
 
 -- the rows of the page of a closed day beside them, with links or without; in a folder the accounts have pages of their own
 pub record AreContents (d : ClosedDay) (sheet : DaySheet) (linked : Bool) (accounts : List Account) (l : Contents) : Type 0 where
-  pub head : l.head ≡ head_shown d.book.log d.survey d.close linked
   pub reasons : map counted l.reasons.items ≡ counts_shown d.survey.reasons.items
   pub lines : l.lines.items ≡ sheet_lines sheet l.shared.now.moves linked
   pub rowless : l.rowless.items ≡ without_row sheet accounts
@@ -56,12 +38,12 @@ pub record AreContents (d : ClosedDay) (sheet : DaySheet) (linked : Bool) (accou
   pub due : l.due.items ≡ map (λ e. due_at (state_of d.book.log) l.shared.now.pending e.0) l.shared.now.pending.shares.entries
   pub days : l.days.items ≡ figures_shown (state_of d.book.log) (last_closes d.survey.closes.items)
 
--- what was written is the text of the page of a day, with some captions
-pub record ShowsDay (d : ClosedDay) (l : Contents) (old new : Option (List ℕ)) : Type 0 where
+-- what was written is the text of the page of a day, with some captions, with links or without
+pub record ShowsDay (d : ClosedDay) (linked : Bool) (l : Contents) (old new : Option (List ℕ)) : Type 0 where
   pub captions : Captions
   pub spans : List Span
   pub totals : map counts spans ≡ spans_shown d.survey
-  pub written : Appends old new (page_text captions d l spans)
+  pub written : Appends old new (page_text captions d linked l spans)
 
 -- the closed day with a date: its book took the records up to its close and no more, and its lines are those of what is watched. The
 -- origin is that of some first bytes of the input
@@ -84,7 +66,7 @@ pub record WritesDay (d : ClosedDay) (old new : Option (List ℕ)) : Type 0 wher
   pub contents : Contents
   pub gathered : AreShared d sheet contents.shared.now
   pub rows : AreContents d sheet false [] contents
-  pub shown : ShowsDay d contents old new
+  pub shown : ShowsDay d false contents old new
 
 -- the page of the closed day with the date
 pub record HasDay (opening : Day) (input : List ℕ) (day : Day) (old new : Option (List ℕ)) : Type 0 where

@@ -1,42 +1,31 @@
 -- The page of the day that is open.
 use Rattle.std.specs.Prelude.{◌≡◌, ℕ, ◌-◌, List, [], ◌∷◌, ◌++◌, length, map, None, Option, Some}
-use Rattle.cns_page.specs.Common.{decimal, Appends, day_text, Day, date, day, journal_of, opened, Log, state_of, lines_of, blank_log, log_after, count_text, table_text, STYLE, Origin, START, Counted, Survey, Span, filled}
+use Rattle.cns_page.specs.Common.{decimal, Appends, day_text, Day, day, journal_of, opened, Log, state_of, lines_of, blank_log, log_after, count_text, table_text, STYLE, Origin, START, Counted, Survey, Span, filled}
 use Rattle.cns_tables.specs.declared.table.Table.{Table}
 use Rattle.cns_page.specs.Exceptions.{finding_text}
 use Rattle.cns_page.specs.Foot.{IsOrigin, foot_text}
 use Rattle.cns_page.specs.Listed.{counted, counts, counts_shown, spans_shown}
-use Rattle.cns_page.specs.Page.{sum_of}
+use Rattle.cns_page.specs.Page.{next_day, sum_of}
 use Rattle.cns_page.specs.Rows.{counted_text, span_text}
-use Rattle.cns_page.specs.Shown.{next_day}
 use Rattle.cns_page.specs.Survey.{known, noted_all, nothing}
-use Rattle.cns_page.specs.declared.today.Heading.{Heading}
 use Rattle.cns_page.specs.declared.today.TheConstants.{HEAD}
-
--- what the head tells
-abbrev pub heading_shown : Log → Survey → Heading
-heading_shown log s = record {
-  date = date log.opening (journal_of (state_of log));
-  day = day (journal_of (state_of log));
-  from = s.from;
-  records = s.records - s.from;
-  exceptions = length s.reasons.items;
-}
 
 -- the head: the date and the number of the day, the number of the record before it, how many records it has, and how many of
 -- them are exceptions
-unfoldable pub heading_text : Heading → List ℕ
-heading_text h =
-    filled HEAD.now (START.now ∷ day_text h.date ∷ STYLE.now ∷ day_text h.date ∷ decimal h.day ∷ decimal h.from ∷ count_text h.records
-    ∷ count_text h.exceptions ∷ [])
+unfoldable pub head_text : Log → Survey → List ℕ
+head_text log s =
+    let d = day_text (next_day log) in
+    filled HEAD.now (START.now ∷ d ∷ STYLE.now ∷ d ∷ decimal (day (journal_of (state_of log))) ∷ decimal s.from ∷ count_text (s.records - s.from)
+    ∷ count_text (length s.reasons.items) ∷ [])
 
 -- how many rows each table has
 abbrev pub row_counts : Survey → List Counted → List Span → List ℕ
 row_counts s reasons totals = length s.findings.items ∷ length reasons ∷ length totals ∷ []
 
--- a page with these tables in this order
+-- a page with some captions: the head, these tables in this order, and the foot
 abbrev pub today_text : Table → Table → Table → Day → Log → Survey → List Counted → List Span → Origin → List ℕ
 today_text exceptions by_reason control opening log s reasons totals o =
-    heading_text (heading_shown log s)
+    head_text log s
     ++ (table_text finding_text exceptions s.findings.items
     ++ (table_text counted_text by_reason reasons
     ++ (table_text span_text control totals

@@ -1,51 +1,23 @@
 // The page of an account's closed day: a head, tables in a fixed order, and a foot.
-ghost use Rattle.std.specs.Prelude.{◌≡◌, ◌==◌, IfOk, OnOk, filter, map};
+ghost use Rattle.std.specs.Prelude.{◌≡◌, OnOk};
 ghost use Rattle.std.specs.Io.KnownBytes.{Appends};
-ghost use Rattle.cns_book.specs.Log.{state_of};
-ghost use Rattle.cns_page.specs.Account.{AreOwn, ShowsAccount, account_text, again_of, cited, head_text, is_party, names, nav_text, own_fails, row_counts, tables_text};
+ghost use Rattle.cns_page.specs.Account.{ShowsAccount, account_text, again_of, head_text, nav_text, row_counts, tables_text};
 ghost use Rattle.cns_page.specs.Page.{sum_of};
 
 use crate::captions::{LIABLE, NOTICES, PROJECTION};
 use crate::closed::Page;
 use crate::contents::sum_of;
-use crate::due::{Projected, projected_all};
-use crate::fails::fails_of;
-use crate::finding::{Cited, Finding, Numbered};
 use crate::foot::{write_again, write_made};
-use crate::liable::Owing;
-use crate::projection::Due;
+use crate::own::{Own, own_of};
 use crate::shared::Shared;
-use crate::shorts::Aged;
 use crate::survey::Close;
-use cns_account::{
-    AccountDay, BOOKINGS, DIVIDENDS, FAILS, Fail, MARKS, POSITIONS, PaidDividend, account_day,
-    dividends_of,
-};
+use cns_account::{AccountDay, BOOKINGS, DIVIDENDS, FAILS, MARKS, POSITIONS};
 use cns_history::HistoryLine;
 use cns_shell::Fault;
 use cns_tables::{Piece, START, Table, hand_on, page_style, write_form, write_markup, write_table};
-use cns_terms::NoMemory;
 use cns_units::{Account, Day, WriteFault};
 use std::alloc::Global;
 use std::io::Write;
-
-/// The rows of an account's page.
-#[derive(Drop)]
-pub struct Own<'a> {
-    pub day: AccountDay,
-    /// The dividends that the close paid it.
-    pub dividends: Vec<PaidDividend>,
-    pub due: Vec<Projected>,
-    /// Its shorts, the oldest first.
-    pub fails: Vec<Fail>,
-    pub liable: Vec<Owing>,
-    /// Its live notices, by number.
-    pub notices: Vec<Numbered>,
-    /// Its trades that settle after the day, by date.
-    pub trades: Vec<Due>,
-    /// The day's first refused records that name it.
-    pub exceptions: Vec<Cited<'a>>,
-}
 
 /// The tables of an account's page.
 pub struct OwnCaptions {
@@ -129,135 +101,6 @@ const MAIN: &str = "</header>
 ";
 
 const ACCOUNT_OPTION: &str = " --account _";
-
-// Whether an account is the one that the page is of.
-fn is_own(account: Account, other: Account) -> bool
-    ensures { result ≡ (other == account) }
-{
-    other == account
-}
-
-/// Whether a refused record names an account.
-pub(crate) fn names(account: Account, finding: &Finding) -> bool
-    ensures { result ≡ names account finding.now }
-{
-    finding.parties.account == Some(account) || finding.parties.other == Some(account)
-}
-
-// Whether a trade is the account's.
-fn is_party(account: Account, due: &Due) -> bool
-    ensures { result ≡ is_party account due.now }
-{
-    due.trade.buyer.account() == account || due.trade.seller.account() == account
-}
-
-// The account's trades among those that settle after the day.
-fn own_trades(alloc: Global, account: Account, trades: &[Due]) -> Result<Vec<Due>, NoMemory>
-    ensures { IfOk result (λ v. v.items ≡ filter (is_party account) trades.now) }
-{
-    let mut own = Vec::new(alloc);
-    own.extend_from_slice(trades)?;
-    own.retain(|due| is_party(account, due));
-    Ok(own)
-}
-
-// Its shorts among those of all members.
-fn own_shorts(alloc: Global, account: Account, shorts: &[Aged]) -> Result<Vec<Aged>, NoMemory>
-    ensures { IfOk result (λ v. v.items ≡ filter (λ s. s.row.account == account) shorts.now) }
-{
-    let mut own = Vec::new(alloc);
-    own.extend_from_slice(shorts)?;
-    own.retain(|short| is_own(account, short.row.account));
-    Ok(own)
-}
-
-// The same, each with its first close and what the price did to it since.
-fn own_fails(
-    alloc: Global,
-    account: Account,
-    page: &Page<'_>,
-    shared: &Shared,
-) -> Result<Vec<Fail>, NoMemory>
-    ensures { IfOk result (λ v. v.items ≡ own_fails account (state_of page.now.day.now.book.log) page.now.sheet.now shared.now) }
-{
-    let shorts = own_shorts(alloc, account, shared.shorts.as_slice())?;
-    let date = page.sheet.date();
-    fails_of(alloc, &page.day.book, &shared.past, date, shorts.as_slice())
-}
-
-// What is left of its liabilities, among those of all members.
-fn own_liable(alloc: Global, account: Account, liable: &[Owing]) -> Result<Vec<Owing>, NoMemory>
-    ensures { IfOk result (λ v. v.items ≡ filter (λ o. o.liable.member == account) liable.now) }
-{
-    let mut own = Vec::new(alloc);
-    own.extend_from_slice(liable)?;
-    own.retain(|owing| is_own(account, owing.liable.member.account()));
-    Ok(own)
-}
-
-// Its notices among the live ones.
-fn own_notices(
-    alloc: Global,
-    account: Account,
-    notices: &[Numbered],
-) -> Result<Vec<Numbered>, NoMemory>
-    ensures { IfOk result (λ v. v.items ≡ filter (λ n. n.notice.member == account) notices.now) }
-{
-    let mut own = Vec::new(alloc);
-    own.extend_from_slice(notices)?;
-    own.retain(|numbered| is_own(account, numbered.notice.member.account()));
-    Ok(own)
-}
-
-// The refused records that name it.
-fn own_exceptions<'a>(
-    alloc: Global,
-    account: Account,
-    findings: &'a [Finding],
-) -> Result<Vec<Cited<'a>>, NoMemory>
-    ensures { IfOk result (λ v. map cited v.items ≡ filter (names account) findings.now) }
-{
-    let mut own = Vec::new(alloc);
-    for finding in findings {
-        if names(account, finding) {
-            own.push(Cited { finding })?;
-        }
-    }
-    Ok(own)
-}
-
-/// The rows of the page of an account, among those of the page of the day, and by the lines of what the day's records booked for it.
-pub(crate) fn own_of<'a>(
-    alloc: Global,
-    account: Account,
-    page: &Page<'a>,
-    shared: &Shared,
-    lines: &[HistoryLine],
-) -> Result<Own<'a>, NoMemory>
-    ensures { IfOk result (AreOwn account page.now.day.now page.now.sheet.now lines.now shared.now) }
-{
-    let book = &page.day.book;
-    let sheet = page.sheet;
-    let findings = page.day.survey.findings.as_slice();
-    let trades = own_trades(alloc, account, shared.trades.as_slice())?;
-    let day = account_day(alloc, book, sheet, account, &shared.moves, lines)?;
-    let dividends = dividends_of(alloc, book, &shared.past, sheet, account)?;
-    let due = projected_all(alloc, book, sheet, account, &shared.pending)?;
-    let fails = own_fails(alloc, account, page, shared)?;
-    let liable = own_liable(alloc, account, shared.liable.as_slice())?;
-    let notices = own_notices(alloc, account, shared.notices.as_slice())?;
-    let exceptions = own_exceptions(alloc, account, findings)?;
-    Ok(Own {
-        day,
-        dividends,
-        due,
-        fails,
-        liable,
-        notices,
-        trades,
-        exceptions,
-    })
-}
 
 // Writes the account and the day, what the positions are worth, mark and dividends, and the next day.
 #[tactic(auto, unfolding(crate::specs::Account::head_text))]

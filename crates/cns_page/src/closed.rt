@@ -72,16 +72,17 @@ fn first_of(input: &[u8], bytes: usize) -> &[u8]
     &input[..bytes.min(input.len())]
 }
 
-/// The closed day with the date, of the records up to its close alone.
+/// The closed day with the date, of the records up to its close alone. The input is let go.
 pub(crate) fn closed_day(
     alloc: Global,
     opening: Day,
-    input: &[u8],
+    input: Vec<u8>,
     day: Day,
     watched: &Watched,
 ) -> Result<ClosedDay, Fault>
-    ensures { IfOk result (IsClosedDay opening input.now day watched.now) }
+    ensures { IfOk result (IsClosedDay opening input.items day watched.now) }
 {
+    let input = input.as_slice();
     let (close, played) = play_closed(alloc, input, opening, day, watched)?;
     let Played {
         survey,

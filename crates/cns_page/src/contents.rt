@@ -2,45 +2,25 @@
 ghost use Rattle.std.specs.Prelude.{◌≡◌, ◌-◌, ◌^◌, IfOk, min, sum_by};
 ghost use Rattle.cns_page.specs.Listed.{last_closes};
 ghost use Rattle.cns_page.specs.Page.{row_counts};
-ghost use Rattle.cns_page.specs.Shown.{AreContents, head_shown};
+ghost use Rattle.cns_page.specs.Shown.{AreContents};
 
 use crate::accounts::{SheetLine, lines_of};
-use crate::closed::{ClosedDay, Page};
+use crate::closed::Page;
 use crate::due::{DueAt, all_due};
 use crate::figures::{Figures, line_of_days};
 use crate::issues::{IssueLine, issue_lines};
 use crate::reasons::{Counted, counts_of};
 use crate::rowless::{Rowless, without_row};
-use crate::shared::{Shared, date_before};
+use crate::shared::Shared;
 use crate::survey::{Close, Survey};
 use crate::totals::Span;
 use cns_terms::NoMemory;
-use cns_units::{Account, Day};
+use cns_units::Account;
 use std::alloc::Global;
-
-/// What the head of a page tells.
-#[derive(Clone, Copy)]
-pub struct Head {
-    pub date: Day,
-    /// The day's number, from 1.
-    pub day: u32,
-    /// The numbers of the day's first record and of its last, which closed it, from 1.
-    pub first: u64,
-    pub last: u64,
-    /// How many of them are exceptions.
-    pub exceptions: u64,
-    /// The date of the day before, if a day was closed before.
-    pub before: Option<Day>,
-    /// The date of the day that the close opened.
-    pub next: Day,
-    /// Whether links lead to the pages of the days before and after.
-    pub is_linked: bool,
-}
 
 /// The rows of the tables of a day's page, beside exceptions and control totals.
 #[derive(Drop)]
 pub struct Contents<'a> {
-    pub head: Head,
     /// Those that pages of accounts show too.
     pub shared: &'a Shared,
     pub reasons: Vec<Counted>,
@@ -65,22 +45,6 @@ fn last_of(closes: &[Close]) -> &[Close]
     &closes[closes.len().saturating_sub(MOST)..]
 }
 
-// What the head tells.
-fn head_of(day: &ClosedDay, is_linked: bool) -> Head
-    ensures { result ≡ head_shown day.now.book.log day.now.survey day.now.close is_linked }
-{
-    Head {
-        date: day.close.date,
-        day: day.close.day,
-        first: day.survey.from.saturating_add(1),
-        last: day.close.number,
-        exceptions: day.survey.reasons.len() as u64,
-        before: date_before(day.survey.closes.as_slice()),
-        next: day.book.today(),
-        is_linked,
-    }
-}
-
 /// What the page of a day shows, beside what it shares. In a folder the accounts have pages of their own.
 pub fn contents_of<'a>(
     alloc: Global,
@@ -99,7 +63,6 @@ pub fn contents_of<'a>(
     let due = all_due(alloc, &day.book, &shared.pending)?;
     let days = line_of_days(alloc, &day.book, last_of(day.survey.closes.as_slice()))?;
     Ok(Contents {
-        head: head_of(day, page.is_linked),
         shared,
         reasons,
         lines,

@@ -59,7 +59,7 @@ fn make_of<R: AllocGlobal + Files<File = File>, I: Read, O: Write>(
     let alloc = rt.alloc();
     let bytes = bytes_of(alloc, input)?;
     let mut folder = Folder { rt, path: folder };
-    make(alloc, asked, bytes.as_slice(), &mut folder, output)
+    make(alloc, asked, bytes, &mut folder, output)
 }
 
 /// Runs the program on the words of its line, its name first, and tells what writing its line to `errors` came to.

@@ -2,9 +2,9 @@
 ghost use Rattle.std.specs.Prelude.{OnOk};
 ghost use Rattle.std.specs.Io.KnownBytes.{Appends};
 ghost use Rattle.std.specs.List.{flat_map};
-ghost use Rattle.cns_page.specs.Exceptions.{exchanged_text, fact_text, notice_text, pending_text, put_right_text, reason_text, record_text, seen_text, some_fact_text, waiting_text};
+ghost use Rattle.cns_page.specs.Exceptions.{fact_text, notice_text, put_right_text, reason_text, record_text, seen_text, some_fact_text};
 
-use crate::finding::{Cited, Exchanged, Fact, Finding, Numbered, Outcome, Pending, Seen, Waiting};
+use crate::finding::{Cited, Fact, Finding, Numbered, Outcome, Seen};
 use crate::words::{fault_name, stage_name};
 use cns_tables::{Piece, TableRow, write_form, write_markup};
 use cns_units::WriteFault;
@@ -49,7 +49,13 @@ fn write_fact<W: Write>(fact: &Fact, writer: &mut W) -> Result<(), WriteFault>
             let pieces = [Piece::Issue(quote.issue), Piece::Price(quote.price)];
             write_form(PRICE, &pieces, writer)
         }
-        Fact::Exchanged(exchanged) => write_exchanged(exchanged, writer),
+        Fact::Exchanged(exchanged) => {
+            let pieces = [
+                Piece::Issue(exchanged.issue),
+                Piece::Issue(exchanged.exchange.successor),
+            ];
+            write_form(EXCHANGED, &pieces, writer)
+        }
         Fact::Position(stand) => {
             let pieces = [
                 Piece::Number(u64::from(stand.account.value())),
@@ -58,31 +64,19 @@ fn write_fact<W: Write>(fact: &Fact, writer: &mut W) -> Result<(), WriteFault>
             ];
             write_form(POSITION, &pieces, writer)
         }
-        Fact::Waiting(waiting) => write_waiting(waiting, writer),
+        Fact::Waiting(waiting) => {
+            let pieces = [Piece::Count(waiting.bought), Piece::Count(waiting.sold)];
+            write_form(WAITING, &pieces, writer)
+        }
         Fact::Seen(seen) => write_seen(seen, writer),
-        Fact::Pending(pending) => write_pending(pending, writer),
+        Fact::Pending(pending) => {
+            let trade = &pending.trade;
+            let pieces = [Piece::Number(trade.reference), Piece::Date(trade.date)];
+            write_form(PENDING, &pieces, writer)
+        }
         Fact::Notice(numbered) => write_notice(numbered, writer),
         Fact::Room(room) => write_form(ROOM, &[Piece::Count(*room)], writer),
     }
-}
-
-// A retired issue, and its successor.
-fn write_exchanged<W: Write>(exchanged: &Exchanged, writer: &mut W) -> Result<(), WriteFault>
-    ensures { OnOk result (Appends (W.contents writer.old) (W.contents writer.new) (exchanged_text exchanged.now)) }
-{
-    let pieces = [
-        Piece::Issue(exchanged.issue),
-        Piece::Issue(exchanged.exchange.successor),
-    ];
-    write_form(EXCHANGED, &pieces, writer)
-}
-
-// What waits beside a position.
-fn write_waiting<W: Write>(waiting: &Waiting, writer: &mut W) -> Result<(), WriteFault>
-    ensures { OnOk result (Appends (W.contents writer.old) (W.contents writer.new) (waiting_text waiting.now)) }
-{
-    let pieces = [Piece::Count(waiting.bought), Piece::Count(waiting.sold)];
-    write_form(WAITING, &pieces, writer)
 }
 
 // The trade that has a reference.
@@ -100,17 +94,6 @@ fn write_seen<W: Write>(seen: &Seen, writer: &mut W) -> Result<(), WriteFault>
         Piece::Date(trade.date),
     ];
     write_form(SEEN, &pieces, writer)
-}
-
-// The first trade that is pending.
-fn write_pending<W: Write>(pending: &Pending, writer: &mut W) -> Result<(), WriteFault>
-    ensures { OnOk result (Appends (W.contents writer.old) (W.contents writer.new) (pending_text pending.now)) }
-{
-    let pieces = [
-        Piece::Number(pending.trade.reference),
-        Piece::Date(pending.trade.date),
-    ];
-    write_form(PENDING, &pieces, writer)
 }
 
 // A notice as it stood.
@@ -188,9 +171,9 @@ fn write_record<W: Write>(finding: &Finding, writer: &mut W) -> Result<(), Write
 }
 
 impl<'a> TableRow for Cited<'a> {
-    ghost use Rattle.cns_page.specs.Exceptions.{cited_text};
+    ghost use Rattle.cns_page.specs.Exceptions.{finding_text};
 
-    ghost text = { cited_text };
+    ghost text = { λ c. finding_text c.finding.now };
 
     fn write_row<W: Write>(&self, writer: &mut W) -> Result<(), WriteFault> {
         self.finding.write_row(writer)

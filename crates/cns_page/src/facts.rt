@@ -1,7 +1,7 @@
 // The facts that decided a refusal.
 ghost use Rattle.std.specs.Prelude.{◌≡◌, ℕ, IfSome, List, option_map, slice_get};
 ghost use Rattle.cns_book.specs.Log.{Log, state_of};
-ghost use Rattle.cns_book.specs.Shown.{notice_shown, position_shown, price_shown};
+ghost use Rattle.cns_book.specs.Shown.{position_shown, price_shown};
 ghost use Rattle.cns_page.specs.Facts.{AreShown, IsShown, today_in};
 ghost use Rattle.cns_page.specs.Survey.{reference_of};
 

@@ -53,11 +53,11 @@ fn own_page(
 }
 
 // The page of the day.
-fn day_page(alloc: Global, day: &ClosedDay, contents: &Contents<'_>) -> Result<Vec<u8>, Fault>
-    ensures { IfOk result (λ v. ShowsDay day.now contents.now (Some []) (Some v.items)) }
+fn day_page(alloc: Global, page: &Page<'_>, contents: &Contents<'_>) -> Result<Vec<u8>, Fault>
+    ensures { IfOk result (λ v. ShowsDay page.now.day.now page.now.is_linked contents.now (Some []) (Some v.items)) }
 {
     let mut bytes = Vec::new(alloc);
-    write_page(day, contents, &mut bytes)?;
+    write_page(page, contents, &mut bytes)?;
     Ok(bytes)
 }
 
@@ -73,11 +73,9 @@ fn keep_own<K: Keeps>(
     ensures { OnOk result (KeepsOwn page.now.day.now page.now.sheet.now shared.now (account ∷ []) (K.kept keeper.old) (K.kept keeper.new)) }
 {
     let bytes = own_page(alloc, account, page, shared)?;
-    let named = Named {
-        date: page.day.close.date,
-        account: Some(account),
-    };
-    keeper.keep(&named, bytes.as_slice())?;
+    let date = page.day.close.date;
+    let account = Some(account);
+    keeper.keep(&Named { date, account }, bytes.as_slice())?;
     Ok(())
 }
 
@@ -102,16 +100,16 @@ fn keep_each<K: Keeps>(
 // Keeps the page of the day.
 fn keep_day_page<K: Keeps>(
     alloc: Global,
-    day: &ClosedDay,
+    page: &Page<'_>,
     contents: &Contents<'_>,
     keeper: &mut K,
 ) -> Result<(), Fault>
-    ensures { OnOk result ((text : List ℕ) × ShowsDay day.now contents.now (Some []) (Some text)
-        × (K.kept keeper.new ≡ and_kept (K.kept keeper.old) (record { date = day.now.close.date; account = None }) text)) }
+    ensures { OnOk result ((text : List ℕ) × ShowsDay page.now.day.now page.now.is_linked contents.now (Some []) (Some text)
+        × (K.kept keeper.new ≡ and_kept (K.kept keeper.old) (record { date = page.now.day.now.close.date; account = None }) text)) }
 {
-    let bytes = day_page(alloc, day, contents)?;
+    let bytes = day_page(alloc, page, contents)?;
     let named = Named {
-        date: day.close.date,
+        date: page.day.close.date,
         account: None,
     };
     keeper.keep(&named, bytes.as_slice())?;
@@ -132,6 +130,6 @@ pub(crate) fn keep_day<K: Keeps>(
     let accounts = accounts.as_slice();
     let contents = contents_of(alloc, &page, &shared, accounts)?;
     keep_each(alloc, accounts, &page, &shared, keeper)?;
-    keep_day_page(alloc, day, &contents, keeper)?;
+    keep_day_page(alloc, &page, &contents, keeper)?;
     Ok(())
 }

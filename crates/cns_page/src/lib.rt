@@ -32,6 +32,7 @@ mod issues;
 mod liable;
 mod make;
 mod notices;
+mod own;
 mod page;
 mod pending;
 mod play;

@@ -4,7 +4,8 @@ ghost use Rattle.cns_feed.specs.Output.{lines_of};
 ghost use Rattle.cns_feed.specs.Replay.{blank_log, log_after};
 ghost use Rattle.cns_page.specs.Asked.{HasAsked, HasClosed, HasOwn, HasPage, HasPast, IsClosedIn, IsLastDay, HasPlayed, WritesOwn, closed_in};
 ghost use Rattle.cns_page.specs.Folder.{HasKept, KeepsClosed};
-ghost use Rattle.cns_page.specs.Shown.{WritesDay, next_day as today};
+ghost use Rattle.cns_page.specs.Page.{next_day as today};
+ghost use Rattle.cns_page.specs.Shown.{WritesDay};
 ghost use Rattle.cns_page.specs.Today.{HasToday};
 
 use crate::account::write_account;
@@ -16,7 +17,7 @@ use crate::folder::keep_day;
 use crate::page::write_page;
 use crate::play::{Played, play_all, play_closed};
 use crate::shared::shared_of;
-use crate::today::{OpenDay, write_today};
+use crate::today::write_today;
 use cns_feed::ReplayBook;
 use cns_history::{Place, Told, Watched, Whose, write_history};
 use cns_sheets::Sheet;
@@ -54,7 +55,7 @@ fn write_taken<O: Write>(alloc: Global, day: &ClosedDay, output: &mut O) -> Resu
     let page = day.page(false)?;
     let shared = shared_of(alloc, &page)?;
     let contents = contents_of(alloc, &page, &shared, &[])?;
-    write_page(day, &contents, output)?;
+    write_page(&page, &contents, output)?;
     Ok(())
 }
 
@@ -62,13 +63,13 @@ fn write_taken<O: Write>(alloc: Global, day: &ClosedDay, output: &mut O) -> Resu
 fn write_closed<O: Write>(
     alloc: Global,
     opening: Day,
-    input: &[u8],
+    input: Vec<u8>,
     when: When,
     output: &mut O,
 ) -> Result<(), Fault>
-    ensures { OnOk result (HasClosed opening input.now when (O.contents output.old) (O.contents output.new)) }
+    ensures { OnOk result (HasClosed opening input.items when (O.contents output.old) (O.contents output.new)) }
 {
-    let date = day_in(alloc, opening, input, when)?;
+    let date = day_in(alloc, opening, input.as_slice(), when)?;
     let day = closed_day(alloc, opening, input, date, &Watched::Movements(date))?;
     write_taken(alloc, &day, output)?;
     Ok(())
@@ -105,13 +106,13 @@ fn write_own<O: Write>(
     alloc: Global,
     opening: Day,
     account: Account,
-    input: &[u8],
+    input: Vec<u8>,
     when: When,
     output: &mut O,
 ) -> Result<(), Fault>
-    ensures { OnOk result (HasOwn account opening input.now when (O.contents output.old) (O.contents output.new)) }
+    ensures { OnOk result (HasOwn account opening input.items when (O.contents output.old) (O.contents output.new)) }
 {
-    let date = day_in(alloc, opening, input, when)?;
+    let date = day_in(alloc, opening, input.as_slice(), when)?;
     let watched = Watched::Bookings(Whose::One(account), date);
     let day = closed_day(alloc, opening, input, date, &watched)?;
     write_own_taken(alloc, account, &day, output)?;
@@ -137,36 +138,31 @@ fn write_open<O: Write>(
 {
     let date = open_day(alloc, opening, input)?;
     let played = play_all(alloc, input, opening, Some(date), &Watched::Nothing)?;
-    let day = OpenDay {
-        opening,
-        input,
-        survey: &played.survey,
-        book: &played.book,
-    };
-    write_today(alloc, &day, output)
+    write_today(alloc, opening, input, &played, output)
 }
 
 // Writes the page of the day that is asked for.
 fn write_asked<O: Write>(
     alloc: Global,
     opening: Day,
-    input: &[u8],
+    input: Vec<u8>,
     when: When,
     output: &mut O,
 ) -> Result<(), Fault>
-    ensures { OnOk result (HasAsked opening input.now when (O.contents output.old) (O.contents output.new)) }
+    ensures { OnOk result (HasAsked opening input.items when (O.contents output.old) (O.contents output.new)) }
 {
     match when {
-        When::Today => write_open(alloc, opening, input, output),
+        When::Today => write_open(alloc, opening, input.as_slice(), output),
         When::Last | When::Closed(_) => write_closed(alloc, opening, input, when, output),
     }
 }
 
 // What a history is of: the records up to the close of the day, or all of the input where none is given.
 #[tactic(auto, using(crate::proofs::MakeLemmas::past_closed))]
-fn past_of(alloc: Global, place: &Place, input: &[u8]) -> Result<Played, Fault>
-    ensures { IfOk result (HasPlayed place.now input.now) }
+fn past_of(alloc: Global, place: &Place, input: Vec<u8>) -> Result<Played, Fault>
+    ensures { IfOk result (HasPlayed place.now input.items) }
 {
+    let input = input.as_slice();
     let watched = Watched::Place(place.key);
     match place.day {
         Some(day) => {
@@ -181,10 +177,10 @@ fn past_of(alloc: Global, place: &Place, input: &[u8]) -> Result<Played, Fault>
 fn write_past<O: Write>(
     alloc: Global,
     place: &Place,
-    input: &[u8],
+    input: Vec<u8>,
     output: &mut O,
 ) -> Result<(), Fault>
-    ensures { OnOk result (HasPast place.now input.now (O.contents output.old) (O.contents output.new)) }
+    ensures { OnOk result (HasPast place.now input.items (O.contents output.old) (O.contents output.new)) }
 {
     let played = past_of(alloc, place, input)?;
     let told = Told {
@@ -210,13 +206,13 @@ fn closed_in(day: When) -> Option<Day>
 fn keep_closed<K: Keeps>(
     alloc: Global,
     opening: Day,
-    input: &[u8],
+    input: Vec<u8>,
     when: When,
     keeper: &mut K,
 ) -> Result<(), Fault>
-    ensures { OnOk result (KeepsClosed opening input.now when (K.kept keeper.old) (K.kept keeper.new)) }
+    ensures { OnOk result (KeepsClosed opening input.items when (K.kept keeper.old) (K.kept keeper.new)) }
 {
-    let date = day_in(alloc, opening, input, when)?;
+    let date = day_in(alloc, opening, input.as_slice(), when)?;
     let watched = Watched::Bookings(Whose::All, date);
     let day = closed_day(alloc, opening, input, date, &watched)?;
     keep_day(alloc, &day, keeper)?;
@@ -226,7 +222,7 @@ fn keep_closed<K: Keeps>(
 /// Writes the page that is asked for, of the records of an input, and hands it on; or hands the pages for a folder to its keeper.
 ///
 /// The records of a closed day that is named are played once, up to its close. The date of the last one, and that of the open day, are
-/// found by playing all records first.
+/// found by playing all records first. The input is let go before anything is gathered, but for the page of the open day.
 ///
 /// `NoMemory` where an allocation failed, `Read` where there are 4,294,967,295 records or more before the close that is asked for, or
 /// at all where none is, or a file of the folder cannot be read, `NoSuchDay` where no closed day has the date, or no day is closed,
@@ -236,12 +232,12 @@ fn keep_closed<K: Keeps>(
 pub(crate) fn make<K: Keeps, O: Write>(
     alloc: Global,
     asked: &Asked,
-    input: &[u8],
+    input: Vec<u8>,
     keeper: &mut K,
     output: &mut O,
 ) -> Result<(), Fault>
-    ensures page { OnOk result (HasPage asked.now input.now (O.contents output.old) (O.contents output.new)) }
-    ensures kept { OnOk result (HasKept asked.now input.now (K.kept keeper.old) (K.kept keeper.new)) }
+    ensures page { OnOk result (HasPage asked.now input.items (O.contents output.old) (O.contents output.new)) }
+    ensures kept { OnOk result (HasKept asked.now input.items (K.kept keeper.old) (K.kept keeper.new)) }
 {
     let opening = asked.opening;
     let when = asked.day;

@@ -1,14 +1,15 @@
 // The page of a closed day: a head, tables in a fixed order, and a foot.
-ghost use Rattle.std.specs.Prelude.{◌≡◌, OnOk};
+ghost use Rattle.std.specs.Prelude.{OnOk};
 ghost use Rattle.std.specs.Io.KnownBytes.{Appends};
 ghost use Rattle.cns_page.specs.Page.{after_text, before_text, begin_text, head_text, links_text, page_text};
 ghost use Rattle.cns_page.specs.Shown.{ShowsDay};
 
 use crate::captions::{CAPTIONS, Captions};
-use crate::closed::ClosedDay;
-use crate::contents::{Contents, Head, rows_of};
+use crate::closed::{ClosedDay, Page};
+use crate::contents::{Contents, rows_of};
 use crate::foot::write_foot;
 use crate::rowless::{Rowless, write_rowless};
+use crate::shared::date_before;
 use crate::totals::{Span, spans_of};
 use cns_tables::{Piece, START, hand_on, page_style, write_form, write_markup, write_table};
 use cns_units::{Day, WriteFault};
@@ -48,19 +49,20 @@ const MAIN: &str = "</ul></nav>
 
 // Writes the head, up to the links within the page.
 #[tactic(auto, unfolding(crate::specs::Page::head_text))]
-fn write_head<W: Write>(head: &Head, writer: &mut W) -> Result<(), WriteFault>
-    ensures { OnOk result (Appends (W.contents writer.old) (W.contents writer.new) (head_text head.now)) }
+fn write_head<W: Write>(day: &ClosedDay, writer: &mut W) -> Result<(), WriteFault>
+    ensures { OnOk result (Appends (W.contents writer.old) (W.contents writer.new) (head_text day.now)) }
 {
+    let date = day.close.date;
     let pieces = [
         Piece::Markup(START),
-        Piece::Date(head.date),
+        Piece::Date(date),
         Piece::Markup(page_style()),
-        Piece::Date(head.date),
-        Piece::Number(u64::from(head.day)),
-        Piece::Number(head.first),
-        Piece::Number(head.last),
-        Piece::Count(head.exceptions),
-        Piece::Date(head.next),
+        Piece::Date(date),
+        Piece::Number(u64::from(day.close.day)),
+        Piece::Number(day.survey.first_of_day()),
+        Piece::Number(day.close.number),
+        Piece::Count(day.survey.exceptions_of_day()),
+        Piece::Date(day.book.today()),
     ];
     write_form(HEAD, &pieces, writer)
 }
@@ -84,78 +86,66 @@ fn write_after<W: Write>(next: Day, writer: &mut W) -> Result<(), WriteFault>
     write_form(DAY_AFTER, &[Piece::Date(next)], writer)
 }
 
-// Writes the links to the pages of other days and of accounts without a row, where there are any.
+// Writes the links to the pages of other days and of accounts without a row, where the page stands in a folder with them.
 #[tactic(auto, using(cns_tables::proofs::Written::after))]
-fn write_links<W: Write>(head: &Head, others: &[Rowless], writer: &mut W) -> Result<(), WriteFault>
-    ensures { OnOk result (Appends (W.contents writer.old) (W.contents writer.new) (links_text head.now others.now)) }
+fn write_links<W: Write>(
+    page: &Page<'_>,
+    others: &[Rowless],
+    writer: &mut W,
+) -> Result<(), WriteFault>
+    ensures { OnOk result (Appends (W.contents writer.old) (W.contents writer.new)
+        (links_text page.now.day.now page.now.is_linked others.now)) }
 {
-    if !head.is_linked {
+    if !page.is_linked {
         return Ok(());
     }
-    write_before(head.before, writer)?;
-    write_after(head.next, writer)?;
+    let day = page.day;
+    write_before(date_before(day.survey.closes.as_slice()), writer)?;
+    write_after(day.book.today(), writer)?;
     write_rowless(others, writer)
 }
 
 // Writes the head.
-fn write_begin<W: Write>(head: &Head, others: &[Rowless], writer: &mut W) -> Result<(), WriteFault>
-    ensures { OnOk result (Appends (W.contents writer.old) (W.contents writer.new) (begin_text head.now others.now)) }
+fn write_begin<W: Write>(
+    page: &Page<'_>,
+    others: &[Rowless],
+    writer: &mut W,
+) -> Result<(), WriteFault>
+    ensures { OnOk result (Appends (W.contents writer.old) (W.contents writer.new)
+        (begin_text page.now.day.now page.now.is_linked others.now)) }
 {
-    write_head(head, writer)?;
-    write_links(head, others, writer)?;
+    write_head(page.day, writer)?;
+    write_links(page, others, writer)?;
     write_markup(MAIN, writer)
 }
 
-// Writes a page with some captions.
+// Writes a page with some captions, and hands it on.
 fn write_text<W: Write>(
     captions: &Captions,
-    day: &ClosedDay,
+    page: &Page<'_>,
     contents: &Contents<'_>,
     totals: &[Span],
     writer: &mut W,
 ) -> Result<(), WriteFault>
     ensures { OnOk result (Appends (W.contents writer.old) (W.contents writer.new)
-        (page_text captions.now day.now contents.now totals.now)) }
+        (page_text captions.now page.now.day.now page.now.is_linked contents.now totals.now)) }
 {
-    let others = contents.rowless.as_slice();
-    write_begin(&contents.head, others, writer)?;
+    let day = page.day;
+    let shared = contents.shared;
+    write_begin(page, contents.rowless.as_slice(), writer)?;
     write_table(&captions.exceptions, day.survey.findings.as_slice(), writer)?;
     write_table(&captions.reasons, contents.reasons.as_slice(), writer)?;
     write_table(&captions.accounts, contents.lines.as_slice(), writer)?;
     write_table(&captions.issues, contents.issues.as_slice(), writer)?;
-    write_table(&captions.fails, contents.shared.shorts.as_slice(), writer)?;
-    write_table(&captions.liable, contents.shared.liable.as_slice(), writer)?;
-    write_table(
-        &captions.notices,
-        contents.shared.notices.as_slice(),
-        writer,
-    )?;
+    write_table(&captions.fails, shared.shorts.as_slice(), writer)?;
+    write_table(&captions.liable, shared.liable.as_slice(), writer)?;
+    write_table(&captions.notices, shared.notices.as_slice(), writer)?;
     write_table(&captions.due, contents.due.as_slice(), writer)?;
-    write_table(
-        &captions.projection,
-        contents.shared.trades.as_slice(),
-        writer,
-    )?;
+    write_table(&captions.projection, shared.trades.as_slice(), writer)?;
     write_table(&captions.days, contents.days.as_slice(), writer)?;
     write_table(&captions.totals, totals, writer)?;
     let rows = rows_of(&day.survey, contents, totals);
-    let date = Some(contents.head.date);
-    write_foot(day.opening, date, &day.origin, rows, writer)
-}
-
-// Writes a page with some captions, and hands it on.
-#[tactic(auto, using(cns_tables::proofs::Written::kept))]
-fn write_whole<W: Write>(
-    captions: &Captions,
-    day: &ClosedDay,
-    contents: &Contents<'_>,
-    totals: &[Span],
-    writer: &mut W,
-) -> Result<(), WriteFault>
-    ensures { OnOk result (Appends (W.contents writer.old) (W.contents writer.new)
-        (page_text captions.now day.now contents.now totals.now)) }
-{
-    write_text(captions, day, contents, totals, writer)?;
+    write_foot(day.opening, Some(day.close.date), &day.origin, rows, writer)?;
     hand_on(writer)
 }
 
@@ -163,13 +153,13 @@ fn write_whole<W: Write>(
 ///
 /// `Write` where the writer fails, takes no byte or cannot be flushed. What was written before stands.
 pub fn write_page<W: Write>(
-    day: &ClosedDay,
+    page: &Page<'_>,
     contents: &Contents<'_>,
     writer: &mut W,
 ) -> Result<(), WriteFault>
-    ensures { OnOk result (ShowsDay day.now contents.now (W.contents writer.old) (W.contents writer.new)) }
+    ensures { OnOk result (ShowsDay page.now.day.now page.now.is_linked contents.now (W.contents writer.old) (W.contents writer.new)) }
 {
-    let totals = spans_of(&day.survey);
-    write_whole(&CAPTIONS, day, contents, &totals, writer)?;
+    let totals = spans_of(&page.day.survey);
+    write_text(&CAPTIONS, page, contents, &totals, writer)?;
     Ok(())
 }

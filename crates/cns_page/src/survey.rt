@@ -1,7 +1,7 @@
 // What the records of an input come to, one after another.
-ghost use Rattle.std.specs.Prelude.{◌≡◌, ◌<◌, ◌-◌, ◌^◌, ◌&&◌, IfSome, None, OnOk, length, map, nat_lt};
+ghost use Rattle.std.specs.Prelude.{◌≡◌, ◌<◌, ◌+◌, ◌-◌, ◌^◌, ◌&&◌, IfSome, None, OnOk, length, map, min, nat_lt};
 ghost use Rattle.cns_book.specs.Log.{state_of};
-ghost use Rattle.cns_page.specs.Survey.{IsClosedBy, counted, day_closed, first_too, is_day, known, nothing, of_day, one_invalid, put_right, reference_of, replied, righted, wanted};
+ghost use Rattle.cns_page.specs.Survey.{IsClosedBy, counted, day_closed, is_day, known, nothing, one_invalid, put_right, reference_of, replied, righted, wanted};
 
 use crate::facts::{facts_of, parties_of, reference_of};
 use crate::finding::{Facts, Finding, NO_FACTS, NO_PARTIES, Outcome, Parties};
@@ -84,6 +84,27 @@ impl Survey {
     {
         self.records += 1;
         self.is_of_day = is_day(book, self.day);
+    }
+
+    /// The number of the first record after the close before the day.
+    pub(crate) fn first_of_day(&self) -> u64
+        ensures { result ≡ min (self.now.from + 1) (2 ^ 64 - 1) }
+    {
+        self.from.saturating_add(1)
+    }
+
+    /// How many records there are from that one on.
+    pub(crate) fn records_of_day(&self) -> u64
+        ensures { result ≡ self.now.records - self.now.from }
+    {
+        self.records.saturating_sub(self.from)
+    }
+
+    /// How many of the day's records are exceptions.
+    pub(crate) fn exceptions_of_day(&self) -> u64
+        ensures { result ≡ length self.now.reasons.items }
+    {
+        self.reasons.len() as u64
     }
 
     /// The close of the day with the date, where the last record is the one that closed it.
@@ -202,51 +223,22 @@ impl Survey {
         ensures { OnOk result (known self.new ≡ wanted (known self.old) outcome parties.reference) }
     {
         self.exceptions = self.exceptions.saturating_add(1);
-        if self.is_of_day {
-            self.note_reason(text, outcome, words, facts, parties)
-        } else {
-            Ok(())
+        if !self.is_of_day {
+            return Ok(());
         }
-    }
-
-    fn note_reason(
-        &mut self,
-        text: &[u8],
-        outcome: Outcome,
-        words: &'static str,
-        facts: Facts,
-        parties: Parties,
-    ) -> Result<(), NoMemory>
-        ensures { OnOk result (known self.new ≡ of_day (known self.old) outcome parties.reference) }
-    {
         self.reasons.push(outcome)?;
         if self.findings.len() < MOST {
-            self.note_finding(text, outcome, words, facts, parties)
-        } else {
-            Ok(())
+            let text = given(*self.findings.allocator(), text)?;
+            self.findings.push(Finding {
+                record: self.records,
+                text,
+                outcome,
+                words,
+                facts,
+                parties,
+                put_right: None,
+            })?;
         }
-    }
-
-    fn note_finding(
-        &mut self,
-        text: &[u8],
-        outcome: Outcome,
-        words: &'static str,
-        facts: Facts,
-        parties: Parties,
-    ) -> Result<(), NoMemory>
-        ensures { OnOk result (known self.new ≡ first_too (known self.old) outcome parties.reference) }
-    {
-        let text = given(*self.findings.allocator(), text)?;
-        self.findings.push(Finding {
-            record: self.records,
-            text,
-            outcome,
-            words,
-            facts,
-            parties,
-            put_right: None,
-        })?;
         Ok(())
     }
 }

@@ -2,32 +2,20 @@
 ghost use Rattle.std.specs.Prelude.{◌≡◌, OnOk};
 ghost use Rattle.std.specs.Io.KnownBytes.{Appends};
 ghost use Rattle.cns_page.specs.Page.{sum_of};
-ghost use Rattle.cns_page.specs.Today.{ShowsToday, heading_shown, heading_text, row_counts, today_text};
+ghost use Rattle.cns_page.specs.Today.{ShowsToday, head_text, row_counts, today_text};
 
 use crate::captions::{CAPTIONS, Captions};
 use crate::contents::sum_of;
 use crate::foot::{Origin, origin_of, write_foot};
+use crate::play::Played;
 use crate::reasons::{Counted, counts_of};
 use crate::survey::Survey;
 use crate::totals::{Span, spans_of};
-use cns_feed::ReplayBook;
 use cns_shell::Fault;
 use cns_tables::{Piece, START, hand_on, page_style, write_form, write_table};
 use cns_units::{Day, WriteFault};
 use std::alloc::Global;
 use std::io::Write;
-
-/// What a page of the open day is of.
-#[derive(Clone, Copy)]
-pub struct OpenDay<'a> {
-    /// The date on which the book was opened.
-    pub opening: Day,
-    /// All records.
-    pub input: &'a [u8],
-    /// What they came to, those after the last close looked at closely.
-    pub survey: &'a Survey,
-    pub book: &'a ReplayBook,
-}
 
 // The head: start, date, style, date, the day's number, the number of the record before it, how many records, and exceptions.
 const HEAD: &str = "_Open day _</title>
@@ -39,46 +27,22 @@ _<a class=skip href=#main>Skip to the day</a>
 <main id=main>
 ";
 
-/// What the head of such a page tells.
-#[derive(Clone, Copy)]
-pub struct Heading {
-    pub date: Day,
-    /// The day's number, from 1.
-    pub day: u64,
-    /// The number of the record that closed the day before.
-    pub from: u64,
-    /// How many records came after it.
-    pub records: u64,
-    /// How many of them are exceptions.
-    pub exceptions: u64,
-}
-
-// What the head tells.
-fn heading_of(day: &OpenDay<'_>) -> Heading
-    ensures { result ≡ heading_shown day.now.book.now.log day.now.survey.now }
+// Writes the head.
+#[tactic(auto, unfolding(crate::specs::Today::head_text))]
+fn write_head<W: Write>(played: &Played, writer: &mut W) -> Result<(), WriteFault>
+    ensures { OnOk result (Appends (W.contents writer.old) (W.contents writer.new) (head_text played.now.book.log played.now.survey)) }
 {
-    Heading {
-        date: day.book.today(),
-        day: day.book.day(),
-        from: day.survey.from,
-        records: day.survey.records.saturating_sub(day.survey.from),
-        exceptions: day.survey.reasons.len() as u64,
-    }
-}
-
-#[tactic(auto, unfolding(crate::specs::Today::heading_text))]
-fn write_heading<W: Write>(heading: &Heading, writer: &mut W) -> Result<(), WriteFault>
-    ensures { OnOk result (Appends (W.contents writer.old) (W.contents writer.new) (heading_text heading.now)) }
-{
+    let survey = &played.survey;
+    let date = played.book.today();
     let pieces = [
         Piece::Markup(START),
-        Piece::Date(heading.date),
+        Piece::Date(date),
         Piece::Markup(page_style()),
-        Piece::Date(heading.date),
-        Piece::Number(heading.day),
-        Piece::Number(heading.from),
-        Piece::Count(heading.records),
-        Piece::Count(heading.exceptions),
+        Piece::Date(date),
+        Piece::Number(played.book.day()),
+        Piece::Number(survey.from),
+        Piece::Count(survey.records_of_day()),
+        Piece::Count(survey.exceptions_of_day()),
     ];
     write_form(HEAD, &pieces, writer)
 }
@@ -90,54 +54,55 @@ fn rows_of(survey: &Survey, reasons: &[Counted], totals: &[Span]) -> u64
     sum_of(&[survey.findings.len(), reasons.len(), totals.len()])
 }
 
-// Writes the page with some captions.
+// Writes the page with some captions, and hands it on.
 fn write_text<W: Write>(
     captions: &Captions,
-    day: &OpenDay<'_>,
+    opening: Day,
+    played: &Played,
     reasons: &[Counted],
-    totals: &[Span],
     origin: &Origin,
+    totals: &[Span],
     writer: &mut W,
 ) -> Result<(), WriteFault>
     ensures { OnOk result (Appends (W.contents writer.old) (W.contents writer.new)
-        (today_text captions.now.exceptions captions.now.reasons captions.now.totals day.now.opening day.now.book.now.log day.now.survey.now reasons.now totals.now origin.now)) }
+        (today_text captions.now.exceptions captions.now.reasons captions.now.totals opening played.now.book.log played.now.survey reasons.now totals.now origin.now)) }
 {
-    write_heading(&heading_of(day), writer)?;
-    write_table(&captions.exceptions, day.survey.findings.as_slice(), writer)?;
+    let survey = &played.survey;
+    write_head(played, writer)?;
+    write_table(&captions.exceptions, survey.findings.as_slice(), writer)?;
     write_table(&captions.reasons, reasons, writer)?;
     write_table(&captions.totals, totals, writer)?;
-    let rows = rows_of(day.survey, reasons, totals);
-    write_foot(day.opening, None, origin, rows, writer)
-}
-
-// Writes the page with some captions, and hands it on.
-#[tactic(auto, using(cns_tables::proofs::Written::kept))]
-fn write_whole<W: Write>(
-    captions: &Captions,
-    day: &OpenDay<'_>,
-    reasons: &[Counted],
-    totals: &[Span],
-    origin: &Origin,
-    writer: &mut W,
-) -> Result<(), WriteFault>
-    ensures { OnOk result (Appends (W.contents writer.old) (W.contents writer.new)
-        (today_text captions.now.exceptions captions.now.reasons captions.now.totals day.now.opening day.now.book.now.log day.now.survey.now reasons.now totals.now origin.now)) }
-{
-    write_text(captions, day, reasons, totals, origin, writer)?;
+    let rows = rows_of(survey, reasons, totals);
+    write_foot(opening, None, origin, rows, writer)?;
     hand_on(writer)
 }
 
-/// Writes the page of the day that is open, and hands it on.
+/// Writes the page of the day that is open after all records of an input, which were played, those after the last close looked at
+/// closely, on a book that was opened on a date; and hands it on.
 ///
 /// `NoMemory` where an allocation failed, and `Write` where the writer fails, takes no byte or cannot be flushed.
 /// What was written before stands.
-pub fn write_today<W: Write>(alloc: Global, day: &OpenDay<'_>, writer: &mut W) -> Result<(), Fault>
-    ensures { OnOk result (ShowsToday day.now.opening day.now.input.now day.now.book.now.log day.now.survey.now
+pub fn write_today<W: Write>(
+    alloc: Global,
+    opening: Day,
+    input: &[u8],
+    played: &Played,
+    writer: &mut W,
+) -> Result<(), Fault>
+    ensures { OnOk result (ShowsToday opening input.now played.now.book.log played.now.survey
         (W.contents writer.old) (W.contents writer.new)) }
 {
-    let reasons = counts_of(alloc, day.survey.reasons.as_slice())?;
-    let totals = spans_of(day.survey);
-    let origin = origin_of(alloc, day.input)?;
-    write_whole(&CAPTIONS, day, reasons.as_slice(), &totals, &origin, writer)?;
+    let reasons = counts_of(alloc, played.survey.reasons.as_slice())?;
+    let totals = spans_of(&played.survey);
+    let origin = origin_of(alloc, input)?;
+    write_text(
+        &CAPTIONS,
+        opening,
+        played,
+        reasons.as_slice(),
+        &origin,
+        &totals,
+        writer,
+    )?;
     Ok(())
 }

@@ -20,7 +20,7 @@ pub struct Span {
 pub(crate) fn spans_of(survey: &Survey) -> [Span; 3]
     ensures { map counts result ≡ spans_shown survey.now }
 {
-    let exceptions = survey.reasons.len() as u64;
+    let exceptions = survey.exceptions_of_day();
     [
         Span {
             name: "Before this day",
@@ -29,7 +29,7 @@ pub(crate) fn spans_of(survey: &Survey) -> [Span; 3]
         },
         Span {
             name: "This day",
-            records: survey.records.saturating_sub(survey.from),
+            records: survey.records_of_day(),
             exceptions,
         },
         Span {

@@ -1,7 +1,7 @@
 use Rattle.cns_page.proofs.folder.keep_day.Goals as goal
 
 pub returns : goal.returns
-returns g c = let (text, shown, kept) = c.in_ok-keep_day_page.ensures in record {
+returns g c = let (text, shown, kept) = rw (c.in_ok-page.ensures.day, c.in_ok-page.ensures.linked) at c.in_ok-keep_day_page.ensures in record {
   sheet = _;
   closed = c.in_ok-page.ensures.sheet;
   contents = _;

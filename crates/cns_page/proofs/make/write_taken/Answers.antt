@@ -7,5 +7,5 @@ returns g c = record {
   contents = _;
   gathered = rw c.in_ok-contents.ensures.shared (rw c.in_ok-page.ensures.day at c.in_ok-shared.ensures);
   rows = rw (c.in_ok-page.ensures.day, c.in_ok-page.ensures.linked) at c.in_ok-contents.ensures.rows;
-  shown = c.in_ok-write_page.ensures;
+  shown = rw (c.in_ok-page.ensures.day, c.in_ok-page.ensures.linked) at c.in_ok-write_page.ensures;
 }

@@ -5,5 +5,5 @@ returns g c = record {
   captions = _;
   spans = c.spans_of-totals.result;
   totals = c.spans_of-totals.ensures;
-  written = c.in_ok-write_whole.ensures;
+  written = c.in_ok-write_text.ensures;
 }

@@ -11,5 +11,5 @@ returns g c = record {
   spans = c.spans_of-totals.ensures;
   origin = c.in_ok-origin.origin;
   made_of = c.in_ok-origin.ensures;
-  written = rw c.as_slice-2.ensures.value at c.in_ok-write_whole.ensures;
+  written = rw c.as_slice-2.ensures.value at c.in_ok-write_text.ensures;
 }

@@ -1,4 +1,4 @@
-use Rattle.cns_page.proofs.account.own_of.Goals as goal
+use Rattle.cns_page.proofs.own.own_of.Goals as goal
 
 pub returns : goal.returns
 returns c = record {
