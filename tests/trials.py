@@ -6,9 +6,9 @@ usage: tests/trials.py [CRATE..]
        tests/trials.py --apply
 
 A check goes function by function, and a caller's part rests on what the called function promises alone. So edits of different
-functions are tried in one check, on a copy, begun with what was proved of the same texts in this checkout: minutes for a
-crate. A function that is not checked since it calls one that is not proved, or that a proof refuses only for a name that the
-edit took away, says nothing of its edit: it is tried again, at last alone.
+functions are tried in one check, on a copy, of the functions that they change and of those that these call. A function that is
+not checked since it calls one that is not proved, or that a proof refuses only for a name that the edit took away, says nothing
+of its edit: it is tried again, at last alone, in a check of the whole crate.
 
 Prints a line for each trial that is not refused, and one for each crate; the status is 1 where a trial is not refused. With
 --apply it tells only whether each of them can still be applied.
@@ -26,6 +26,9 @@ import time
 
 ROOT = pathlib.Path(__file__).resolve().parent.parent
 FUNCTION = re.compile(r"^ *(?:pub(?:\(crate\))? )?(?:unsafe )?fn (\w+)", re.MULTILINE)
+# A type or a trait where it is declared, the first line of a block of methods, and its end.
+TYPE = re.compile(r"^(?:pub(?:\(crate\))? )?(?:struct|enum|trait) (\w+)", re.MULTILINE)
+BLOCK = re.compile(r"^(?:(?:unsafe )?impl\b.*|(?:pub(?:\(crate\))? )?trait .*|\})$", re.MULTILINE)
 # Refusals that rest on a proof's words alone.
 NAMES = re.compile(r"has no field|is not in scope|has no `|was not admitted|`: module `")
 
@@ -46,21 +49,51 @@ def pairs_of(path):
 
 
 def function_at(source, place):
-    """The name of the function that a place is in; a text that begins before a function's head is of that one."""
+    """The head of the function that a place is in; a text that begins before a function's head is of that one."""
     heads = [it for it in FUNCTION.finditer(source) if it.start() <= place] + [FUNCTION.match(source, place)]
-    return [it[1] for it in heads if it][-1:]
+    return [it for it in heads if it][-1:]
+
+
+def modules_of(file):
+    return [it for it in re.split(r"/|\.rt$", file.removeprefix("src/")) if it not in ("lib", "main", "")]
+
+
+def home_of(name, crate):
+    """The modules in which a type or a trait of a crate is declared."""
+    for file in crate.glob("src/**/*.rt"):
+        if name in TYPE.findall(file.read_text(encoding="utf-8")):
+            return modules_of(str(file.relative_to(crate)))
+    return []
+
+
+def path_of(file, found, source, crate):
+    """How a check names a function of a file: by its modules, and a method by its type, where that is declared, or by the type and a
+    trait; "" for a method of a type at some other types alone."""
+    head = [it[0] for it in BLOCK.finditer(source, 0, found.start())][-1:]
+    if found[0][0] != " " or head in ([], ["}"]):
+        return "::".join([*modules_of(file), found[1]])
+    given = re.search(r"\bFrom<(\w+)>", head[0])
+    plain = re.sub(r"^(?:unsafe )?impl\b", "", head[0])
+    while "<" in plain and (less := re.sub(r"<[^<>]*>", "", plain)) != plain:
+        plain = less
+    of, owner = re.search(r"(?:(?:\w+::)*(\w+) for )?&?(\w+)", plain.split("trait ")[-1]).groups()
+    if not of and re.search(rf"\b{owner}<[^>]*<", head[0]):
+        return ""
+    modules = modules_of(file) if of else home_of(owner, crate)
+    return "::".join([*modules, owner + (of or "") + (given[1] if given else ""), found[1]])
 
 
 def read(path, crate):
     """An edit, with the files and functions that it changes; None where it cannot be applied."""
-    pairs, functions, sources = pairs_of(path), set(), {}
+    pairs, functions, sources = pairs_of(path), {}, {}
     for file, old, new in pairs:
         source = sources.get(file) or (crate / file).read_text(encoding="utf-8")
         if source.count(old) != 1:
             return None
-        functions.update((file, it) for it in function_at(source, source.index(old)) or [""])
+        found = function_at(source, source.index(old))
+        functions.update({(file, it[1]): path_of(file, it, source, crate) for it in found} or {(file, ""): ""})
         sources[file] = source.replace(old, new)
-    return Edit(path.stem, pairs, frozenset(functions))
+    return Edit(path.stem, pairs, functions)
 
 
 def edits_of(crate):
@@ -73,33 +106,35 @@ def apply(edit, crate):
         path.write_text(path.read_text(encoding="utf-8").replace(old, new), encoding="utf-8")
 
 
-def verdict(log, file, function):
+def verdict(log, file, function, path):
     """What a check said of a function, or of all functions of a file: refused, proved, or nothing that tells."""
-    module = [it for it in re.split(r"/|\.rt$", file.removeprefix("src/")) if it not in ("lib", "main", "")]
+    module = modules_of(file)[:1]
     told = [
-        (head, rest) for head, rest in re.findall(r"^fn (\S+): (.*)$", log, re.MULTILINE)
-        if function in ("", head.split("::")[-1]) and all(it in head for it in module[:1])
+        rest for head, rest in re.findall(r"^fn \w+?::(\S+): (.*)$", log, re.MULTILINE)
+        if (head == path if path else all(it in head for it in module))
     ]
-    place = rf"\S*/\+?{function}/" if function else "/".join(module[:1])
+    place = rf"(?:{path.replace('::', '/')}|\S*\+{function})/" if path else "/".join(module)
     errors = [it for it in re.findall(rf"^\./proofs/{place}.*: error.*$", log, re.MULTILINE) if not NAMES.search(it)]
-    if errors or any(rest.startswith("no proof: expected answers in") for _, rest in told):
+    if errors or any(it.startswith("no proof: expected answers in") for it in told):
         return "refused"
-    return "proved" if any(rest.startswith("proved") for _, rest in told) else ""
+    return "proved" if any(it.startswith("proved") for it in told) else ""
 
 
-def check(crate):
-    return subprocess.run(["rt", "check"], cwd=crate, capture_output=True, text=True, check=False).stdout
+def check(crate, paths):
+    """What a check says of these functions and those that they call, or of the whole crate where none are given."""
+    only = [word for it in sorted(paths) for word in ("--only", it)]
+    return subprocess.run(["rt", "check", *only], cwd=crate, capture_output=True, text=True, check=False).stdout
 
 
 def round_of(edits, alone):
-    """Edits of different functions, or one alone."""
+    """Edits of different functions that a check can name, or one alone."""
+    if alone:
+        return edits[:1]
     used, chosen = set(), []
     for edit in edits:
-        if not edit.functions & used:
+        if all(edit.functions.values()) and not edit.functions.keys() & used:
             chosen.append(edit)
-            used |= edit.functions
-        if alone:
-            break
+            used |= edit.functions.keys()
     return chosen
 
 
@@ -110,12 +145,15 @@ def try_all(name, room):
     missed, alone = [], False
     while left:
         chosen = round_of(left, alone)
+        if not chosen:
+            alone = True
+            continue
         for edit in chosen:
             apply(edit, crate)
-        log = check(crate)
+        log = check(crate, () if alone else {it for edit in chosen for it in edit.functions.values()})
         shutil.rmtree(crate / "src")
         shutil.copytree(source / "src", crate / "src")
-        said = {edit.name: [verdict(log, *it) for it in edit.functions] for edit in chosen}
+        said = {edit.name: [verdict(log, *key, path) for key, path in edit.functions.items()] for edit in chosen}
         known = [it for it in chosen if alone or "refused" in said[it.name] or set(said[it.name]) == {"proved"}]
         missed += [(it.name, "is proved" if "proved" in said[it.name] else "has no verdict")
                    for it in known if "refused" not in said[it.name]]
