@@ -101,9 +101,16 @@ def edits_of(crate):
 
 
 def apply(edit, crate):
+    """Makes the changes of an edit, where no other of the round took one of its old texts away or made it a second time."""
+    sources = {}
     for file, old, new in edit.pairs:
-        path = crate / file
-        path.write_text(path.read_text(encoding="utf-8").replace(old, new), encoding="utf-8")
+        source = sources.get(file) or (crate / file).read_text(encoding="utf-8")
+        if source.count(old) != 1:
+            return False
+        sources[file] = source.replace(old, new)
+    for file, source in sources.items():
+        (crate / file).write_text(source, encoding="utf-8")
+    return True
 
 
 def verdict(log, file, function, path):
@@ -144,12 +151,10 @@ def try_all(name, room):
     left = [it for it in edits_of(source).values() if it]
     missed, alone = [], False
     while left:
-        chosen = round_of(left, alone)
+        chosen = [it for it in round_of(left, alone) if apply(it, crate)]
         if not chosen:
             alone = True
             continue
-        for edit in chosen:
-            apply(edit, crate)
         log = check(crate, () if alone else {it for edit in chosen for it in edit.functions.values()})
         shutil.rmtree(crate / "src")
         shutil.copytree(source / "src", crate / "src")
