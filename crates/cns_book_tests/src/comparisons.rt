@@ -99,7 +99,7 @@ fn turn_share(positions: &mut TreePositions<Global>, key: &Key) -> u64
     ensures { has_row positions.new key.now ≡ true }
 {
     let held = positions.get(*key);
-    if held.contract != 0 || held.now < 0 || held.now > 1 {
+    if held.contract.value() != 0 || held.now < 0 || held.now > 1 {
         return 0;
     }
     let mut probe = Probe::new(*key);

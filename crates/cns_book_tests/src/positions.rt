@@ -7,6 +7,7 @@ ghost use Rattle.cns_terms.specs.Keys.{key_cmp};
 use crate::values::{APPLE, key};
 use cns_positions::{FlatPositions, NextRows, Positions, Step, TreePositions, run};
 use cns_terms::{Holding, Key};
+use cns_units::Cents;
 use std::alloc::Global;
 use std::process::Abort;
 
@@ -21,7 +22,7 @@ fn holding(now: i64, opening: i64, contract: i128, run: u32) -> Holding {
     Holding {
         now,
         opening,
-        contract,
+        contract: Cents::of(contract),
         run,
         carried: 0,
     }
@@ -37,7 +38,7 @@ fn book<P: Positions<Global>>(
 ) {
     positions.prepare(&[*key]).expect(rt, "memory");
     let held = positions.get(*key);
-    if held.now == 0 && held.contract == 0 {
+    if held.now == 0 && held.contract == Cents::ZERO {
         positions.add(*key, i64::from(shares), i128::from(cents));
     }
 }

@@ -183,7 +183,7 @@ fn held<P: Positions<Global>>(rt: &impl Abort, book: &Book<P, Global>) -> Option
     let account = Account::new(101).expect(rt, "an account");
     let issue = Cusip::parse(APPLE.as_bytes()).expect(rt, "an issue");
     match book.position(account, issue) {
-        Some(held) => Some((held.now, held.contract)),
+        Some(held) => Some((held.now, held.contract.value())),
         None => None,
     }
 }

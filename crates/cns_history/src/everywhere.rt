@@ -13,7 +13,7 @@ use crate::watched::Whose;
 use cns_feed::ReplayBook;
 use cns_sheets::Sheet;
 use cns_terms::{Activity, Holding, Key, NoMemory, Reply};
-use cns_units::{Account, Cusip, Day};
+use cns_units::{Account, Cents, Cusip, Day};
 use std::alloc::Global;
 
 /// An account's place in an issue, with what stood there.
@@ -260,7 +260,7 @@ fn add_opened(
         key,
         holding: Holding {
             now: holding.opening,
-            contract: 0,
+            contract: Cents::ZERO,
             ..holding
         },
     };

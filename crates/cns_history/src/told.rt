@@ -41,7 +41,7 @@ fn counted_from(before: &Holding, reply: &Reply) -> Holding
 {
     match reply {
         Reply::Closed(_) => Holding {
-            contract: 0,
+            contract: Cents::ZERO,
             ..*before
         },
         _ => *before,
@@ -58,12 +58,12 @@ pub fn shares_between(from: i64, to: i64) -> i64
 }
 
 // What changes one sum of cents into another.
-fn cents_between(from: i128, to: i128) -> Cents
+fn cents_between(from: Cents, to: Cents) -> Cents
     requires from { unsigned_abs from ≤ amount_limit }
     requires to { unsigned_abs to ≤ amount_limit }
     ensures { result ≡ to -ℤ from }
 {
-    Cents::of(to - from)
+    Cents::of(to.value() - from.value())
 }
 
 /// What an activity booked at a key, on a date.
@@ -87,7 +87,7 @@ pub(crate) fn booking_of(
         shares: shares_between(from.now, to.now),
         cents: cents_between(from.contract, to.contract),
         position: to.now,
-        money: Cents::of(to.contract),
+        money: to.contract,
     }
 }
 

@@ -4,6 +4,7 @@ ghost use Rattle.std.specs.Int.{w64, w128};
 ghost use Rattle.cns_positions.specs.Rows.{rolled, is_held, with_age};
 
 use cns_terms::Holding;
+use cns_units::Cents;
 
 /// What a close makes of a holding: its position is the next day's opening, its cents are gone, and a short is one close
 /// older than its age and than what exchanges brought on the day, up to the highest number that an age can have (NSCC
@@ -14,7 +15,7 @@ pub fn rolled(holding: Holding) -> Holding
     Holding {
         now: holding.now,
         opening: holding.now,
-        contract: 0,
+        contract: Cents::ZERO,
         run: if holding.now < 0 {
             holding.oldest().saturating_add(1)
         } else {
@@ -32,7 +33,7 @@ pub(crate) fn add_to(holding: &mut Holding, shares: i64, cents: i128)
         ≡ record holding.old { now = holding.old.now +ℤ shares; contract = holding.old.contract +ℤ cents } }
 {
     holding.now += shares;
-    holding.contract += cents;
+    holding.contract = Cents::of(holding.contract.value() + cents);
 }
 
 /// Brings the age of a short to a holding, where the greatest that came on the day stays.
@@ -48,7 +49,7 @@ pub(crate) fn is_held(holding: Holding) -> bool
 {
     holding.now != 0
         || holding.opening != 0
-        || holding.contract != 0
+        || holding.contract != Cents::ZERO
         || holding.run != 0
         || holding.carried != 0
 }

@@ -1,6 +1,6 @@
 -- Rows that are added up one after another, in sums that wrap.
 -- For `account_sums` and `sheet_sums` of sums.rt, `stated` of sheet.rt.
-use Rattle.cns_sheets.proofs.Common.{◌≡◌, refl, ℕ, ◌+◌, ◌≤◌, ℤ, ◌+ℤ◌, FitsSigned, List, [], ◌∷◌, ◌++◌, length, take, arith, unsigned_abs, take_all, Row, int_wrap-add_left, ints, sum_limit, total, w128}
+use Rattle.cns_sheets.proofs.Common.{◌≡◌, refl, ℕ, ◌≤◌, ℤ, ◌+ℤ◌, FitsSigned, List, [], ◌∷◌, ◌++◌, length, take, arith, unsigned_abs, take_all, Row, int_wrap-add_left, ints, sum_limit, total, w128}
 use Rattle.std.specs.Int.{int_wrap}
 use Rattle.cns_sheets.specs.declared.sums.Totals.{Totals}
 use Rattle.cns_sheets.proofs.RowSums.{total_push}

@@ -1,3 +1,4 @@
+pub mod Alike
 pub mod Entries
 pub mod Weaving
 pub mod Booked

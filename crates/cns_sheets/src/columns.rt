@@ -71,7 +71,7 @@ impl Columns {
             closing: holding.now,
             opening_price,
             price,
-            money: Cents::of(holding.contract),
+            money: holding.contract,
             dividend,
         }
     }

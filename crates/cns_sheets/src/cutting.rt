@@ -36,11 +36,14 @@ fn is_silent(holding: &Holding, dividend: Cents) -> bool
     ensures { (k : Key) (before : Price) (now : Price) → result
         ≡ is_idle (priced_row before now dividend (k, holding.entry.now)) }
 {
-    holding.opening == 0 && holding.now == 0 && holding.contract == 0 && dividend == Cents::ZERO
+    holding.opening == 0
+        && holding.now == 0
+        && holding.contract == Cents::ZERO
+        && dividend == Cents::ZERO
 }
 
 // Puts the row of a holding and the cents of dividends after others, if it says something.
-fn push_row<A: Allocator + Drop>(
+fn push_row<A: Allocator + Drop + Clone>(
     rows: &mut KeyedRows<A>,
     before: &mut Quotes,
     now: &mut Quotes,
@@ -68,7 +71,7 @@ fn push_row<A: Allocator + Drop>(
 // Puts the rows of the dividends of lower keys after others, or of all that are left where no key is given. None of
 // these keys has a holding.
 #[tactic(auto, using(crate::proofs::Weaving::all_past))]
-fn push_paid<A: Allocator + Drop>(
+fn push_paid<A: Allocator + Drop + Clone>(
     rows: &mut KeyedRows<A>,
     before: &mut Quotes,
     now: &mut Quotes,
@@ -91,7 +94,7 @@ fn push_paid<A: Allocator + Drop>(
 }
 
 // Puts the row of a holding after others, behind those of the dividends of lower keys.
-fn push_holding<A: Allocator + Drop>(
+fn push_holding<A: Allocator + Drop + Clone>(
     rows: &mut KeyedRows<A>,
     before: &mut Quotes,
     now: &mut Quotes,
@@ -116,7 +119,7 @@ fn push_holding<A: Allocator + Drop>(
 
 // Puts the rows of holdings after others, with those of the dividends up to the last, and returns the key of the last
 // holding.
-fn push_rows<A: Allocator + Drop>(
+fn push_rows<A: Allocator + Drop + Clone>(
     rows: &mut KeyedRows<A>,
     before: &mut Quotes,
     now: &mut Quotes,
@@ -147,7 +150,7 @@ fn push_rows<A: Allocator + Drop>(
 /// The rows of a day, in the order of keys, of which `room` are expected, by the prices of the close before and of this
 /// one. Where memory is refused nothing has changed.
 #[tactic(auto, using(cns_positions::proofs::Held::last_given, cns_positions::proofs::Held::none_given, crate::proofs::Weaving::all_lower))]
-pub fn collect<P: Positions<B>, B, A: Allocator + Drop>(
+pub fn collect<P: Positions<B>, B, A: Allocator + Drop + Clone>(
     alloc: A,
     room: usize,
     positions: &P,

@@ -21,7 +21,10 @@ pub(crate) fn same_rows<A: Allocator + Clone>(
 {
     let mut other = other;
     for row in one {
-        if !other.next().is_some_and(|next| next.is_same(&row)) {
+        let Some(next) = other.next() else {
+            return false;
+        };
+        if !next.is_same(&row) {
             return false;
         }
     }

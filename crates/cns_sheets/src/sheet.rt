@@ -97,30 +97,17 @@ impl<A: Allocator + Drop + Clone> Sheet<A> {
         let prices = listed(alloc.clone()?, earlier.len(), prices)?;
         let room = before.map_or(0, |sheet| sheet.len());
         let paid = Paid::new(alloc.clone()?, payments)?;
-        let rows = collect(
-            alloc.clone()?,
-            room,
-            positions,
-            &paid,
-            earlier,
-            prices.as_slice(),
-        )?;
-        Sheet::of_rows(alloc, date, prices, &rows)
+        let rows = collect(alloc, room, positions, &paid, earlier, prices.as_slice())?;
+        Ok(Sheet::of_rows(date, prices, rows))
     }
 
     // The sheet of a date with some prices and rows.
-    #[tactic(auto, using(crate::proofs::Walked::sorted_filled))]
-    fn of_rows(
-        alloc: A,
-        date: Day,
-        prices: Vec<(Cusip, Price), A>,
-        rows: &KeyedRows<A>,
-    ) -> Result<Self, NoMemory>
-        requires { IsSheet prices.items rows.now }
-        ensures { IfOk result (λ s. s ≡ record { date = date; prices = prices.items; rows = rows.now }) }
+    fn of_rows(date: Day, prices: Vec<(Cusip, Price), A>, rows: KeyedRows<A>) -> Self
+        requires { IsSheet prices.items rows }
+        ensures { result ≡ record { date = date; prices = prices.items; rows = rows } }
     {
-        let rows = Tree::from_sorted(alloc, rows.as_slice())?;
-        Ok(Sheet { date, prices, rows })
+        let rows = rows.tree();
+        Sheet { date, prices, rows }
     }
 }
 

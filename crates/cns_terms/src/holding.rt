@@ -10,7 +10,7 @@ ghost use Rattle.cns_terms.specs.Holdings.{oldest_of};
 ghost use Rattle.cns_terms.specs.Keys.{key_cmp};
 ghost use Rattle.cns_terms.specs.Sums.{long};
 
-use cns_units::{Account, Cusip};
+use cns_units::{Account, Cents, Cusip};
 use std::cmp::Ordering;
 
 /// An account's place in an issue. Keys are in the order of accounts, and then of the bytes of the CUSIP.
@@ -81,7 +81,7 @@ pub struct Holding {
     /// The position at the last close, in shares.
     pub opening: i64,
     /// The cents booked on the open day: since the last close, and by it for trades that were due.
-    pub contract: i128,
+    pub contract: Cents,
     /// The age of a short: at how many closes in a row, up to the last, the position was below 0, there or in an issue that
     /// was exchanged for this one.
     pub run: u32,
@@ -95,7 +95,7 @@ impl Holding {
     pub const ZEROS: Holding = Holding {
         now: 0,
         opening: 0,
-        contract: 0,
+        contract: Cents::ZERO,
         run: 0,
         carried: 0,
     };

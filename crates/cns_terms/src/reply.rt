@@ -95,7 +95,7 @@ impl Held {
         ensures { result ≡ held_of key holding }
     {
         Held {
-            contract: Cents::of(holding.contract),
+            contract: holding.contract,
             position: holding.now,
             opening: holding.opening,
             age: holding.run,

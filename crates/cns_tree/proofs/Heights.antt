@@ -1,5 +1,5 @@
 -- Heights of trees: of any, and of those that are built by halves.
--- For `join` of node.rt, `put_counted`, `change_counted` and `get_counted` of tree.rt.
+-- For `join` of node.rt, `take_last` of build.rt, `put_counted`, `change_counted` and `get_counted` of tree.rt.
 use Rattle.cns_tree.proofs.Common.{◌≡◌, ℕ, List, ◌∷◌, ◌++◌, zero, suc, ◌+◌, ◌*◌, ◌^◌, ◌<◌, ◌≤◌, max, length, length-append, arith, pow_mono, binary_digits, IsLean, IsShallow}
 use Rattle.std.proofs.Math.Nat.{two-pow-succ}
 use Rattle.std.proofs.lemmas.Int.Digits.{all_below_base_digits_of, number_digits_of, number_lt}
@@ -58,7 +58,3 @@ few_levels n a p fits = grind (arith, pow_mono {i = 66} {j = a}, p.low)
 -- what the two halves' heights are to each other
 pub halves_level : (n m a b : ℕ) → IsFull n a → IsFull m b → m ≤ n → n ≤ m + 1 → (b ≤ a) × (a ≤ b + 1)
 halves_level n m a b p q le more = (no_higher n m a b p q le, one_higher n m a b p q more)
-
--- the rows and the height of two halves with a row between them
-pub halves_joined : {K V : Type 0} (d before after : List (K × V)) (row : K × V) (k : K) (v : V) (a b : ℕ) (left right joined : List (K × V) × ℕ) → joined ≡ (left.0 ++ (k, v) ∷ right.0, max left.1 right.1 + 1) → left ≡ (before, a) → right ≡ (after, b) → k ≡ row.0 → v ≡ row.1 → d ≡ before ++ row ∷ after → b ≤ a → joined ≡ (d, a + 1)
-halves_joined d before after row k v a b left right joined is l r key value parts le = grind arith

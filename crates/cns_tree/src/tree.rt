@@ -6,9 +6,10 @@ ghost use Rattle.std.specs.List.{filter, find as first};
 ghost use Rattle.cns_terms.specs.Digits.{binary_digits};
 ghost use Rattle.cns_terms.specs.Keys.{key_cmp};
 ghost use Rattle.cns_tree.specs.Changes.{ChangesAt, ChangesEach};
+ghost use Rattle.cns_tree.specs.Counted.{IsCounted};
 ghost use Rattle.cns_tree.specs.Search.{is_at_or_after, is_above, is_after};
 
-use crate::build::{boxed, build};
+use crate::build::{Builder, boxed};
 use crate::node::Subtree;
 use crate::spare::Spare;
 use crate::walk::Walk;
@@ -56,17 +57,28 @@ impl<V: Copy, A: Allocator + Clone> Tree<V, A> {
     /// A tree of rows whose keys strictly rise. It takes time in proportion to their number.
     ///
     /// `NoMemory` where a box was refused; those that it had are given back. A tree of no rows asks for none.
+    #[tactic(auto, using(std::proofs::lemmas::List::take_all))]
     pub fn from_sorted(alloc: A, rows: &[(Key, V)]) -> Result<Self, NoMemory>
         requires { is_sorted key_cmp rows.now ≡ true }
         ensures rows { IfOk result (λ tree. tree ≡ rows.now) }
         ensures memory { OnErr result (0 < length rows.now) }
     {
-        let built = build(&alloc, rows)?;
-        Ok(Tree {
-            root: built.side,
-            count: rows.len(),
-            alloc,
-        })
+        if rows.is_empty() {
+            return Ok(Tree::new(alloc));
+        }
+        let mut builder = Builder::with_capacity(alloc, rows.len())?;
+        for (key, value) in rows {
+            builder.push(*key, *value)?;
+        }
+        Ok(builder.tree())
+    }
+
+    // The tree of a root and how many rows it has.
+    pub(crate) fn over(root: Subtree<V, A>, count: usize, alloc: A) -> Self
+        requires { IsCounted root.0 count }
+        ensures { result ≡ root.0 }
+    {
+        Tree { root, count, alloc }
     }
 
     /// A tree with the same rows, in boxes of its own from the same allocator.

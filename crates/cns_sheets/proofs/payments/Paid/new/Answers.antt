@@ -1,4 +1,4 @@
-use Rattle.cns_sheets.proofs.Common.{◌≡◌, ◌∙◌, refl, not, true, List, [], ◌∷◌, filter, unsigned_abs, arith, IsPayable, Key, Row, by_key, ints, key_of, member_cash, paid, same_issue, total, sum_by-filter_both, Declared}
+use Rattle.cns_sheets.proofs.Common.{◌≡◌, ◌∙◌, refl, not, List, [], ◌∷◌, filter, unsigned_abs, arith, IsPayable, Key, Row, by_key, ints, key_of, member_cash, paid, same_issue, total, sum_by-filter_both, Declared}
 use Rattle.cns_sheets.proofs.Entries.{filter-map, find_if, next_is}
 use Rattle.cns_sheets.proofs.payments.Paid.new.Goals as goal
 

@@ -7,7 +7,11 @@ pub add-requires : goal.add-requires
 add-requires g c = grind (arith, ints, step_small c.args.declared.now c.key_of.result c.loop-row.yielded c.next.new.self c.in-Some.row, c.requires.small c.key_of.result, c.loop-row.invariant.cents c.key_of.result)
 
 pub overflow_add-sum : goal.overflow_add-sum
-overflow_add-sum g c = grind (arith, ints, step_small c.args.declared.now c.key_of.result c.loop-row.yielded c.next.new.self c.in-Some.row)
+overflow_add-sum g c =
+    let kept = c.loop-row.invariant in
+    let few = step_small c.args.declared.now c.key_of.result c.loop-row.yielded c.next.new.self c.in-Some.row (rw (← c.in-Some.ensures.steps, ← kept.left, c.into_iter-row-iterator.ensures.into_iter_gives) c.requires.payable) in
+    let passed = to_z-of_z w128 c.member_cash-cents.result (record { sfits = c.member_cash-cents.type_inv }) ∙ c.member_cash-cents.ensures in
+    grind (arith, ints, few, passed, kept.sum)
 
 pub loop-row-preserved : goal.loop-row-preserved
 loop-row-preserved g c =

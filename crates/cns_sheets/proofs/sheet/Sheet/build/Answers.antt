@@ -1,4 +1,4 @@
-use Rattle.cns_sheets.proofs.Common.{◌∙◌, ◌==◌, arith, option_copied, IfOk-weaker, IsMarked, each_filter, paying, rows_for}
+use Rattle.cns_sheets.proofs.Common.{◌∙◌, ◌==◌, arith, option_copied, IsMarked, each_filter, paying, rows_for}
 use Rattle.cns_sheets.proofs.Balance.{cut_balanced}
 use Rattle.cns_sheets.proofs.Kept.{prices_rise, rows_cut}
 use Rattle.cns_sheets.proofs.RowSums.{marks_stay}
@@ -25,4 +25,4 @@ of_rows-requires g c =
 pub returns-clause-cut : goal.returns-clause-cut
 returns-clause-cut g c =
     let cut = rows_cut c.args.prices.now (g.P.Positions.rows c.args.positions.now) (paying c.args.payments.now) c.in_ok-paid.paid c.in_ok-rows.ensures.order c.in_ok-rows.ensures.paid_rise c.in_ok-paid.ensures.cents c.prices_before-earlier.ensures.prices (c.as_slice.ensures.value ∙ c.in_ok-prices.ensures.prices) c.in_ok-rows.ensures.rows in
-    IfOk-weaker c.of_rows.result _ _ (λ s is. rw is cut) c.of_rows.ensures
+    rw c.of_rows.ensures cut
