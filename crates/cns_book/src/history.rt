@@ -21,7 +21,7 @@ struct Brief {
 /// more there is room.
 ///
 /// Most replies are `Accepted`. The others stand in a list of their own, so that an entry takes 72 bytes where a `Taken`
-/// takes 128.
+/// takes 120.
 #[derive(Drop)]
 pub struct History<A: Allocator + Drop + Clone> {
     entries: Vec<Brief, A>,

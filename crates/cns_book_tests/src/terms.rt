@@ -12,5 +12,5 @@ fn what_is_kept_by_the_million_stays_small(rt: HostRuntime) {
         size_of::<Taken>(),
         size_of::<Row>(),
     ];
-    assert!(rt; sizes == [48, 56, 64, 128, 96]);
+    assert!(rt; sizes == [48, 56, 56, 120, 88]);
 }
