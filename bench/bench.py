@@ -18,9 +18,9 @@ import threading
 OPENING = '2024-06-03'
 LEGEND = """
 records/s is by processor time. bytes/command is the most memory held, less that for a single record, over the records:
-  history         72 bytes for each command, and 64 more for a reply that is not ok alone
-  closed sheets   128 bytes a row: one for each closed day, account and issue with a position or a booking
-  positions       112 bytes for each account and issue that was ever booked
+  history         72 bytes for each command, and 56 more for a reply that is not ok alone
+  closed sheets   112 bytes a row: one for each closed day, account and issue with a position or a booking
+  positions       96 bytes for each account and issue that was ever booked
 The files have up to 200,000 pairs of account and issue, and up to 25 closed days."""
 VALUES = {c: i for i, c in enumerate('0123456789ABCDEFGHIJKLMNOPQRSTUVWXYZ')}
 

@@ -1,5 +1,5 @@
 -- Positions that can be booked stay so.
--- For `open` of parts/opening.rt in cns_book, `close_day` of parts/closing.rt in cns_book, `make` of actions.rt in cns_growth_tests.
+-- For `open` of parts/opening.rt in cns_book, `close_day` of parts/closing.rt in cns_book, `make` of growth/actions.rt in cns_tests.
 use Rattle.cns_actions.proofs.Common.{◌≡◌, ap, ◌≤◌, unsigned_abs, [], arith, CanBeBooked, Holding, Key, Rows, amount_limit, corporation, holding_at, rolled}
 
 -- nothing stands anywhere yet

@@ -1,5 +1,5 @@
 -- Steps no larger than commands: their sums fit.
--- For `check_steps` of positions.rt in cns_book_tests.
+-- For `check_steps` of book/positions.rt in cns_tests.
 use Rattle.cns_positions.proofs.Common.{ℕ, suc, ◌+◌, ◌*◌, ◌^◌, ◌≤◌, List, [], ◌∷◌, length, arith, unsigned_abs, AllByRecursion, Key, Map, Step, after_step, ints, nowhere}
 use Rattle.cns_positions.specs.declared.steps.Step.TheVariants.{Get, Add, Roll}
 use Rattle.cns_positions.specs.Steps.{SumsFit}

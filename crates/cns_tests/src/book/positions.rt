@@ -1,0 +1,229 @@
+// Tests of the positions, over every form of them; a new form is one line more in the test. What may abort borrows positions,
+// and tells whether they are as they should be: each way out of a function that owns some is longer to check.
+ghost use Rattle.std.specs.Prelude.{◌≡◌, ◌<◌, true};
+ghost use Rattle.std.specs.FinMap.{is_sorted};
+ghost use Rattle.cns_terms.specs.Keys.{key_cmp};
+
+use crate::book::values::{APPLE, key};
+use cns_positions::{FlatPositions, NextRows, Positions, Step, TreePositions, run};
+use cns_terms::{Holding, Key};
+use cns_units::Cents;
+use std::alloc::Global;
+use std::process::Abort;
+
+type Flat = FlatPositions<Global>;
+
+type Balanced = TreePositions<Global>;
+
+// A key and what stands at it.
+type Row = (Key, Holding);
+
+fn holding(now: i64, opening: i64, contract: i128, run: u32) -> Holding {
+    Holding {
+        now,
+        opening,
+        contract: Cents::of(contract),
+        run,
+        carried: 0,
+    }
+}
+
+// Books shares and cents at a key where nothing stands yet.
+fn book<P: Positions<Global>>(
+    rt: &impl Abort,
+    positions: &mut P,
+    key: &Key,
+    shares: i32,
+    cents: i32,
+) {
+    positions.prepare(&[*key]).expect(rt, "memory");
+    let held = positions.get(*key);
+    if held.now == 0 && held.contract == Cents::ZERO {
+        positions.add(*key, i64::from(shares), i128::from(cents));
+    }
+}
+
+// What stands at a key when it is asked for: shares now and at the opening, cents, and closes since it went short.
+const REPLIES: [(i64, i64, i128, u32); 7] = [
+    (0, 0, 0, 0),
+    (5, 0, -10, 0),
+    (5, 5, 0, 0),
+    (-5, -5, 0, 1),
+    (-5, -5, 0, 2),
+    (0, 0, 0, 0),
+    (-1, 0, 0, 0),
+];
+
+fn are_replies(found: &[Holding]) -> bool {
+    for (held, (now, opening, contract, run)) in found.iter().zip(&REPLIES) {
+        if *held != holding(*now, *opening, *contract, *run) {
+            return false;
+        }
+    }
+    found.len() == REPLIES.len()
+}
+
+fn check_steps<P: Positions<Global>>(rt: &(impl Abort + AllocGlobal)) {
+    let (one, two) = (&key(rt, 1, APPLE), &key(rt, 2, APPLE));
+    let steps = [
+        Step::Get(*one),
+        Step::Add {
+            key: *one,
+            shares: 5,
+            cents: -10,
+        },
+        Step::Get(*one),
+        Step::Add {
+            key: *two,
+            shares: -5,
+            cents: 10,
+        },
+        Step::Roll,
+        Step::Get(*one),
+        Step::Get(*two),
+        Step::Roll,
+        Step::Get(*two),
+        Step::Add {
+            key: *two,
+            shares: 5,
+            cents: 0,
+        },
+        Step::Roll,
+        Step::Get(*two),
+        Step::Add {
+            key: *two,
+            shares: -1,
+            cents: 0,
+        },
+        Step::Get(*two),
+    ];
+    let found = run::<P, Global>(rt.alloc(), &steps).expect(rt, "memory");
+    assert!(rt; are_replies(found.as_slice()));
+}
+
+// Whether positions that are rebuilt from at most one row have that row first.
+fn is_rebuilt<P: Positions<Global>>(positions: &P, rows: &[Row]) -> bool
+    requires { is_sorted key_cmp rows.now ≡ true }
+{
+    match positions.rebuilt(rows) {
+        Ok(rebuilt) => rebuilt.next_row(None) == rows.first().copied(),
+        Err(_) => false,
+    }
+}
+
+// Whether a booking stands, is closed, and is the only row that the positions and those rebuilt from it have.
+fn is_booked_and_closed<P: Positions<Global>>(rt: &impl Abort, positions: &mut P) -> bool {
+    let apple = &key(rt, 1, APPLE);
+    book(rt, positions, apple, 5, -10);
+    let is_booked = positions.get(*apple) == holding(5, 0, -10, 0);
+    positions.roll();
+    let row = &(*apple, holding(5, 5, 0, 0));
+    is_booked
+        && positions.next_row(None) == Some(*row)
+        && positions.next_row(Some(*apple)).is_none()
+        && is_rebuilt(positions, &[*row])
+        && is_rebuilt(positions, &[])
+}
+
+fn check_booking<P: Positions<Global>>(rt: &(impl Abort + AllocGlobal)) {
+    let mut positions = P::new(rt.alloc());
+    assert!(rt; is_booked_and_closed(rt, &mut positions));
+}
+
+// What a digit of a CUSIP adds to its sum: at every other place it counts twice, and then digit by digit.
+fn weight(place: usize, digit: u8) -> u8
+    requires { digit < 10 }
+    ensures { result < 10 }
+{
+    if place % 2 == 0 {
+        digit
+    } else {
+        2 * digit / 10 + 2 * digit % 10
+    }
+}
+
+// The key of an account in an issue whose CUSIP is a number of eight digits and its check digit.
+fn key_numbered(rt: &impl Abort, account: u16, number: u32) -> Key {
+    let mut text = [b'0'; 9];
+    let mut rest = number;
+    let mut sum = 0u8;
+    for place in (0..8).rev() {
+        let digit = (rest % 10) as u8;
+        text[place] = b'0' + digit;
+        sum = sum % 10 + weight(place, digit);
+        rest /= 10;
+    }
+    text[8] = b'0' + (10 - sum % 10) % 10;
+    key(rt, account, &text)
+}
+
+// How many of the given rows there are, and the key of the last.
+fn counted(given: &NextRows) -> (usize, Option<Key>) {
+    let mut count = 0usize;
+    let mut last = None;
+    for row in given.as_slice() {
+        if let Some(row) = row {
+            count = count.saturating_add(1);
+            last = Some(row.0);
+        }
+    }
+    (count, last)
+}
+
+// How many rows a pass by `next_rows` gives.
+fn count_of_pass<P: Positions<Global>>(positions: &P) -> usize {
+    let mut rows = 0usize;
+    let mut after = None;
+    for _ in 0..100_000 {
+        let (count, last) = counted(&positions.next_rows(after));
+        if last.is_none() {
+            break;
+        }
+        rows = rows.saturating_add(count);
+        after = last;
+    }
+    rows
+}
+
+// The number of an issue and the shares that stand there.
+const NUMBERED: [(u32, i64); 6] = [
+    (0, 1),
+    (1, 1),
+    (32_768, 1),
+    (65_535, 1),
+    (65_536, 1),
+    (65_537, 0),
+];
+
+// Whether an account has shares in more issues than sixteen bits count.
+fn has_many_issues<P: Positions<Global>>(rt: &impl Abort, positions: &mut P) -> bool {
+    for number in 0..65_537 {
+        book(rt, positions, &key_numbered(rt, 1, number), 1, 0);
+    }
+    for (number, shares) in &NUMBERED {
+        if positions.get(key_numbered(rt, 1, *number)) != holding(*shares, 0, 0, 0) {
+            return false;
+        }
+    }
+    count_of_pass(positions) == 65_537
+}
+
+fn check_many_issues<P: Positions<Global>>(rt: &(impl Abort + AllocGlobal)) {
+    let mut positions = P::new(rt.alloc());
+    assert!(rt; has_many_issues(rt, &mut positions));
+}
+
+// Joins the checks: a call at a form of positions is longer to check than one at any form.
+fn check_form<P: Positions<Global>>(rt: &(impl Abort + AllocGlobal)) {
+    check_steps::<P>(rt);
+    check_booking::<P>(rt);
+    check_many_issues::<P>(rt);
+}
+
+#[test]
+fn positions_reply_to_steps_book_close_are_rebuilt_and_have_more_issues_than_sixteen_bits_count(
+    rt: HostRuntime,
+) {
+    check_form::<Flat>(&rt);
+    check_form::<Balanced>(&rt);
+}

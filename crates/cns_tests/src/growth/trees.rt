@@ -1,0 +1,96 @@
+// The calls of a tree that take memory.
+ghost use Rattle.std.specs.Prelude.{◌≡◌, IfOk};
+
+use crate::growth::refusing::Call;
+use crate::growth::units::key;
+use cns_terms::Key;
+use cns_tree::Tree;
+use std::alloc::{AllocError, Allocator, Global};
+use std::process::Abort;
+
+// Puts the keys 1 to `count`, each with its number as value.
+fn fill<A: Allocator + Clone>(rt: &impl Abort, tree: &mut Tree<u16, A>, count: u16) {
+    for number in 1..=count {
+        let mut spare = tree.spare(1, 0).expect(rt, "memory");
+        tree.put(key(rt, number), number, &mut spare);
+    }
+}
+
+fn filled<A: Allocator + Clone>(rt: &impl Abort, alloc: A, count: u16) -> Tree<u16, A> {
+    let mut tree = Tree::new(alloc);
+    fill(rt, &mut tree, count);
+    tree
+}
+
+pub(crate) fn rows_of<V: Copy, A: Allocator + Clone>(
+    tree: &Tree<V, A>,
+    alloc: Global,
+) -> Result<Vec<(Key, V)>, AllocError>
+    ensures { IfOk result (λ rows. rows.items ≡ tree.now) }
+{
+    tree.walk().collect(alloc)
+}
+
+// Four boxes.
+#[derive(Drop)]
+pub(crate) struct Spare<H: Allocator + Clone> {
+    tree: Tree<u16, H>,
+}
+
+impl<H: Allocator + Drop + Clone> Call<H> for Spare<H> {
+    fn prepared(rt: &impl Abort, _global: Global, alloc: H, size: u16) -> Self {
+        Spare {
+            tree: filled(rt, alloc, size),
+        }
+    }
+
+    fn make(&mut self, _rt: &impl Abort) -> bool {
+        self.tree.spare(4, 0).is_ok()
+    }
+}
+
+// A tree beside another, on a copy of its allocator.
+#[derive(Drop)]
+pub(crate) struct Copied<H: Allocator + Clone> {
+    tree: Tree<u16, H>,
+}
+
+impl<H: Allocator + Drop + Clone> Call<H> for Copied<H> {
+    fn prepared(rt: &impl Abort, _global: Global, alloc: H, size: u16) -> Self {
+        Copied {
+            tree: filled(rt, alloc, size),
+        }
+    }
+
+    fn make(&mut self, _rt: &impl Abort) -> bool {
+        self.tree.copied().is_ok()
+    }
+}
+
+// A tree of rows that are sorted.
+#[derive(Drop)]
+pub(crate) struct FromSorted<H> {
+    alloc: H,
+    global: Global,
+    rows: Tree<u16, Global>,
+}
+
+impl<H: Allocator + Drop + Clone> Call<H> for FromSorted<H> {
+    fn prepared(rt: &impl Abort, global: Global, alloc: H, size: u16) -> Self {
+        FromSorted {
+            alloc,
+            global,
+            rows: filled(rt, global, size),
+        }
+    }
+
+    fn make(&mut self, rt: &impl Abort) -> bool {
+        // The call tells the prover that the rows are in order.
+        let _ = self.rows.len();
+        let rows = rows_of(&self.rows, self.global).expect(rt, "memory");
+        match self.alloc.clone() {
+            Ok(alloc) => Tree::from_sorted(alloc, rows.as_slice()).is_ok(),
+            Err(_) => false,
+        }
+    }
+}

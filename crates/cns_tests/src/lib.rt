@@ -1,0 +1,12 @@
+//! Tests of the crates up to the desk, in one crate of their own: they use public names alone, so that no crate below is
+//! proved once more for its tests, and what a test program links is gone through once.
+//!
+//! `book` has the book and the crates below it, `growth` their calls with each growth refused in turn, `desk` the workers.
+#![tactic(auto)]
+
+#[cfg(test)]
+mod book;
+#[cfg(test)]
+mod desk;
+#[cfg(test)]
+mod growth;
