@@ -1,5 +1,5 @@
 -- With room for one activity more, all numbers are small enough: positions, cents, and those of notices.
--- For `two_holdings` and `holding` of parts/reading.rt, `give_notice` of parts/notice.rt, `receive` of parts/trading.rt, and `make_fills`, `check_execution` and `execute` of parts/execution.rt.
+-- For `two_positions` and `holding` of parts/reading.rt, `give_notice` of parts/notice.rt, `receive` of parts/trading.rt, and `make_fills`, `check_execution` and `execute` of parts/execution.rt.
 use Rattle.cns_book.proofs.Common.{ℕ, ◌≤◌, ◌<◌, ◌+◌, ◌*◌, List, length, Activity, Follows, booking_limit, history_limit, journal_len, arith, unsigned_abs, Contents, Cusip, HasRoom, Key, bounded, holding_at, journal, limited, near, position_limit, AreWithin, subst, ◌-◌, ◌^◌, [], ◌∷◌, slice_get, get_or_from_slice_get, AllByRecursion, Day, ForSome, IsReached, Journal, Notice, Noticed, day, days_by, each_append, each_map, kept_notices, length-map, notices, received_live, shares_executed, shares_limit, slice_get_within, kept, notices_few, All-from_recursion, recursion_from_All, kept_at}
 
 -- the cents at each key are few

@@ -96,16 +96,16 @@ impl<P: Positions<A>, A: Allocator + Drop + Clone> Parts<P, A> {
         self.positions.get(key)
     }
 
-    /// What stands at two accounts' places in an issue, which are looked up at once.
+    /// The positions at two accounts' places in an issue, in shares, which are looked up at once.
     #[inline(always)]
-    pub fn two_holdings(&self, first: Account, second: Account, issue: Cusip) -> (Holding, Holding)
-        ensures first { Shows self.now (λ J. result.0 ≡ holding J first issue) }
-        ensures second { Shows self.now (λ J. result.1 ≡ holding J second issue) }
-        ensures first_member { HasRoom self.now → 1 ≤ first → unsigned_abs result.0.now ≤ position_limit }
-        ensures second_member { HasRoom self.now → 1 ≤ second → unsigned_abs result.1.now ≤ position_limit }
+    pub fn two_positions(&self, first: Account, second: Account, issue: Cusip) -> (i64, i64)
+        ensures first { Shows self.now (λ J. result.0 ≡ (holding J first issue).now) }
+        ensures second { Shows self.now (λ J. result.1 ≡ (holding J second issue).now) }
+        ensures first_member { HasRoom self.now → 1 ≤ first → unsigned_abs result.0 ≤ position_limit }
+        ensures second_member { HasRoom self.now → 1 ≤ second → unsigned_abs result.1 ≤ position_limit }
     {
         let issue = &issue;
-        self.positions.get_two(
+        let (first, second) = self.positions.get_two(
             Key {
                 account: first,
                 issue: *issue,
@@ -114,7 +114,8 @@ impl<P: Positions<A>, A: Allocator + Drop + Clone> Parts<P, A> {
                 account: second,
                 issue: *issue,
             },
-        )
+        );
+        (first.now, second.now)
     }
 
     /// A position, None where the account that has it is no member's.

@@ -73,6 +73,14 @@ impl<P: Positions<A>, A: Allocator + Drop + Clone> Parts<P, A> {
         Ok(calls)
     }
 
+    // The age of the short at a key, which counts the close.
+    fn age_at_close(&self, key: Key) -> u32
+        requires { HasRoom self.now }
+        ensures { result ≡ oldest_at self.now.rows key.account key.issue + 1 }
+    {
+        self.holding(key).oldest() + 1
+    }
+
     // Gives the calls the shorts on the rows of a sheet, each with its age, which counts the close. The row of an issue
     // in which nothing is called is passed over.
     fn add_shorts(&self, calls: &mut Calls<A>, rows: SheetRows<'_, A>) -> Result<(), NoMemory>
@@ -90,7 +98,7 @@ impl<P: Positions<A>, A: Allocator + Drop + Clone> Parts<P, A> {
             let Ok(member) = Member::new(row.account.value()) else {
                 continue;
             };
-            let holding = self.holding(Key {
+            let age = self.age_at_close(Key {
                 account: row.account,
                 issue: row.issue,
             });
@@ -99,7 +107,7 @@ impl<P: Positions<A>, A: Allocator + Drop + Clone> Parts<P, A> {
                 Short {
                     member,
                     shares: row.closing.unsigned_abs(),
-                    age: holding.oldest() + 1,
+                    age,
                 },
             )?;
         }

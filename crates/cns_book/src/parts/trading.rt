@@ -24,15 +24,15 @@ impl<P: Positions<A>, A: Allocator + Drop + Clone> Parts<P, A> {
         ensures seller { ForSome result.seller (λ q. unsigned_abs q ≤ position_limit) }
     {
         // The positions first: their rows may be far away, and what follows needn't wait for them.
-        let (buyer, seller) = self.two_holdings(
+        let (buyer, seller) = self.two_positions(
             trade.buyer.account(),
             trade.seller.account(),
             trade.issue,
         );
         let (listed, retired) = self.listed_and_retired(trade.issue);
         TradeFacts {
-            buyer: self.if_member(trade.buyer, buyer.now),
-            seller: self.if_member(trade.seller, seller.now),
+            buyer: self.if_member(trade.buyer, buyer),
+            seller: self.if_member(trade.seller, seller),
             listed,
             retired,
             today: self.today,
@@ -43,15 +43,15 @@ impl<P: Positions<A>, A: Allocator + Drop + Clone> Parts<P, A> {
     fn move_facts(&self, movement: &Movement) -> MoveFacts
         ensures facts { Shows self.now (λ J. AreMoveFacts J movement.now result) }
     {
-        let (member, corporation) = self.two_holdings(
+        let (member, corporation) = self.two_positions(
             movement.member.account(),
             Account::CORPORATION,
             movement.issue,
         );
         let (listed, retired) = self.listed_and_retired(movement.issue);
         MoveFacts {
-            member: self.if_member(movement.member, member.now),
-            corporation: corporation.now,
+            member: self.if_member(movement.member, member),
+            corporation,
             listed,
             retired,
         }

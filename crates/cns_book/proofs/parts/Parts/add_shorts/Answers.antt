@@ -1,5 +1,5 @@
 use Rattle.cns_book.proofs.Common.{◌∙◌, sym, subst, List, arith, nat_tests, ◌≤◌, unsigned_abs, AllByRecursion, Row, called_in, corporation_limit, oldest_at}
-use Rattle.cns_book.proofs.RetransmittalShorts.{above_zero, ages_fit, read_back, row_given, row_passed, uncalled_row}
+use Rattle.cns_book.proofs.RetransmittalShorts.{above_zero, read_back, row_given, row_passed, uncalled_row}
 use Rattle.cns_book.proofs.parts.Parts.add_shorts.Goals.{then-row-ge0-via-then-row-ge0, then-row-ge0-via-else-row-ge0+then-not-is_called}
 use Rattle.cns_book.proofs.parts.Parts.add_shorts.Goals as goal
 
@@ -22,9 +22,6 @@ pub loop-row-preserved-in_default : goal.loop-row-preserved-in_default
 loop-row-preserved-in_default g c =
     let few = subst AreFew c.in-Some.ensures.steps c.loop-row.invariant.few in
     record { few = few.1; left = λ d. grind (arith, nat_tests, row_passed, c.loop-row.invariant.left d) }
-
-pub overflow_add-oldest : goal.overflow_add-oldest
-overflow_add-oldest g c = omega (arith, ages_fit c.args.self.now c.requires.room (record { account = c.in-Some.row.account; issue = c.in-Some.row.issue }) c.holding-holding.result c.holding-holding.ensures.value, c.oldest.ensures)
 
 pub loop-row-preserved : goal.loop-row-preserved
 loop-row-preserved g c =

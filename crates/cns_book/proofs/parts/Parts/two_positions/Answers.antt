@@ -1,6 +1,6 @@
 use Rattle.cns_book.proofs.Common.{◌≤◌, ◌∙◌, sym, ap, subst, unsigned_abs, Contents, HasRoom, Holding, holding_at, position_limit}
 use Rattle.cns_book.proofs.PartsWithin.{member_within}
-use Rattle.cns_book.proofs.parts.Parts.two_holdings.Goals as goal
+use Rattle.cns_book.proofs.parts.Parts.two_positions.Goals as goal
 
 pub returns : goal.returns
 returns g c = record {
