@@ -28,6 +28,13 @@ use cns_units::{Account, Cusip, Day, Member, Price};
 use std::alloc::Allocator;
 use std::sync::Arc;
 
+// The position of a holding, in shares.
+fn shares_of(holding: &Holding) -> i64
+    ensures { result ≡ holding.entry.now.now }
+{
+    holding.now
+}
+
 impl<P: Positions<A>, A: Allocator + Drop + Clone> Parts<P, A> {
     /// The open day's date.
     pub fn today(&self) -> Day
@@ -115,7 +122,7 @@ impl<P: Positions<A>, A: Allocator + Drop + Clone> Parts<P, A> {
                 issue: *issue,
             },
         );
-        (first.now, second.now)
+        (shares_of(&first), shares_of(&second))
     }
 
     /// A position, None where the account that has it is no member's.
