@@ -1,5 +1,5 @@
 // The sums by issue over all accounts.
-ghost use Rattle.std.specs.Prelude.{◌≡◌, IfOk, None, OnOk};
+ghost use Rattle.std.specs.Prelude.{◌≡◌, IfOk, None, OnOk, if◌then◌else◌, int_lt, pos};
 ghost use Rattle.std.specs.BTreeMap.{get};
 ghost use Rattle.std.specs.Cmp.Lexicographic.{slice_cmp};
 ghost use Rattle.std.specs.Ordering.{nat_cmp};
@@ -43,6 +43,20 @@ pub struct SumsByIssue {
     pub(crate) sums: BTreeMap<Cusip, IssueSums>,
 }
 
+// A position above 0, and else 0.
+fn long_of(closing: i64) -> i64
+    ensures { result ≡ (if int_lt closing (pos 0) then pos 0 else closing) }
+{
+    if closing < 0 { 0 } else { closing }
+}
+
+// A position below 0, and else 0.
+fn short_of(closing: i64) -> i64
+    ensures { result ≡ (if int_lt closing (pos 0) then closing else pos 0) }
+{
+    if closing < 0 { closing } else { 0 }
+}
+
 impl IssueSums {
     const NOTHING: IssueSums = IssueSums {
         long: 0,
@@ -57,14 +71,9 @@ impl IssueSums {
     fn with(&self, row: &Row) -> IssueSums
         ensures { result ≡ with_row self.now row.now }
     {
-        let (long, short) = if row.closing < 0 {
-            (0, row.closing)
-        } else {
-            (row.closing, 0)
-        };
         IssueSums {
-            long: wrapped_shares(self.long, long),
-            short: wrapped_shares(self.short, short),
+            long: wrapped_shares(self.long, long_of(row.closing)),
+            short: wrapped_shares(self.short, short_of(row.closing)),
             closing: wrapped_shares(self.closing, row.closing),
             money: wrapped_sum(self.money, row.money),
             mark: wrapped_sum(self.mark, row.mark),

@@ -1,13 +1,14 @@
 // The positions after a split, and those with which a day opens, beside those that stand, over both forms.
-ghost use Rattle.std.specs.Prelude.{IfOk, OnOk};
+ghost use Rattle.std.specs.Prelude.{◌≡◌, IfOk, OnOk, pos, true};
 ghost use Rattle.cns_actions.specs.Booked.{CanBeBooked};
+ghost use Rattle.cns_positions.specs.Rows.{holding_at};
 
 use crate::growth::parts::trade;
 use crate::growth::refusing::Call;
 use crate::growth::units::{day, issue, key, price};
 use cns_actions::{Action, Split, next_positions, opened};
 use cns_positions::Positions;
-use cns_terms::{Key, NoMemory, Pend};
+use cns_terms::{Holding, Key, NoMemory, Pend};
 use cns_trades::Trades;
 use cns_units::Ratio;
 use std::alloc::{Allocator, Global};
@@ -61,13 +62,27 @@ pub(crate) struct NextPositions<P, H: Drop> {
     form: PhantomData<P>,
 }
 
+// Whether no shares stand there.
+fn is_flat(holding: &Holding) -> bool
+    ensures { result ≡ true → holding.entry.now.now ≡ pos 0 }
+{
+    holding.now == 0
+}
+
+// Whether no shares stand at a key.
+fn is_free<P: Positions<B>, B>(positions: &P, key: &Key) -> bool
+    ensures { result ≡ true → (holding_at (P.rows positions.now) key.now).now ≡ pos 0 }
+{
+    is_flat(&positions.get(*key))
+}
+
 // Books shares at a key where none are.
 fn book<P: Positions<B>, B>(positions: &mut P, key: &Key, shares: u16) -> Result<(), NoMemory>
     requires { CanBeBooked (P.rows positions.old) }
     ensures { OnOk result (CanBeBooked (P.rows positions.new)) }
 {
     positions.enter(*key)?;
-    if positions.get(*key).now == 0 {
+    if is_free(positions, key) {
         positions.add(*key, i64::from(shares), 0);
     }
     Ok(())
