@@ -10,3 +10,5 @@ mod book;
 mod desk;
 #[cfg(test)]
 mod growth;
+#[cfg(test)]
+mod meeting;

@@ -1,5 +1,6 @@
 // Statements of a whole day: how the accounts are shared out, and that they are made at once.
 use crate::book::script::{TreeBook, first_day, new_book, read};
+use crate::meeting::Meeting;
 use cns_sheets::Sheet;
 use cns_statements::pack;
 use cns_terms::{Gate, Worker};
@@ -10,9 +11,8 @@ use std::process::Abort;
 use std::sync::atomic::AtomicU64;
 use std::sync::atomic::Ordering::SeqCst;
 use std::sync::{Arc, Wait};
-use std::thread;
 use std::thread::Threads;
-use std::time::{Clock, Duration};
+use std::time::Clock;
 
 // Writes the records of a day on which so many members, 2 at least, have a position, or nobody: all others buy of member 1.
 fn write_records(rt: &impl Abort, text: &mut String, members: u16) {
@@ -124,36 +124,6 @@ fn a_gate_stands_around_each_statement_and_the_parts_are_even(rt: HostRuntime) {
     }
 }
 
-// The most turns of a millisecond that a worker is held.
-const MOST_TURNS: u32 = 10_000;
-
-// Holds each worker's first statement until the first ones of so many workers have begun.
-#[derive(Drop)]
-struct Meeting<C> {
-    clock: C,
-    wanted: u64,
-    came: AtomicU64,
-    late: AtomicU64,
-}
-
-impl<C: Clock> Gate for Meeting<C> {
-    fn before<R: Wait>(&self, _rt: &R, _worker: Worker, seq: u32) {
-        if seq != 1 {
-            return;
-        }
-        self.came.fetch_add(1, SeqCst);
-        for _turn in 0..MOST_TURNS {
-            if self.came.load(SeqCst) >= self.wanted {
-                return;
-            }
-            thread::sleep(&self.clock, Duration::from_millis(1));
-        }
-        self.late.fetch_add(1, SeqCst);
-    }
-
-    fn answered<R: Wait>(&self, _rt: &R, _worker: Worker, _seq: u32) {}
-}
-
 // Whether so many workers have begun their first statements of a sheet before any of them went on.
 fn are_made_at_once<R: Clock + Threads + Wait + Sync>(
     rt: &R,
@@ -161,13 +131,8 @@ fn are_made_at_once<R: Clock + Threads + Wait + Sync>(
     sheet: &Arc<Sheet<Global>>,
     workers: u16,
 ) -> bool {
-    let gate = Meeting {
-        clock: rt,
-        wanted: u64::from(workers),
-        came: AtomicU64::new(0),
-        late: AtomicU64::new(0),
-    };
-    pack(rt, alloc, sheet, usize::from(workers), &gate).is_ok() && gate.late.load(SeqCst) == 0
+    let gate = Meeting::new(rt, u64::from(workers));
+    pack(rt, alloc, sheet, usize::from(workers), &gate).is_ok() && gate.is_in_time()
 }
 
 #[test]

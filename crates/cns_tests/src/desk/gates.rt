@@ -6,6 +6,7 @@ use crate::desk::audits::are_named;
 use crate::desk::inputs::{ending, failing};
 use crate::desk::runs::{MEMBERS, run, trades, two};
 use crate::desk::script::APPLE;
+use crate::meeting::{MOST_TURNS, Meeting};
 use cns_book::Book;
 use cns_desk::{End, LogItem, Outcome};
 use cns_feed::reply_text;
@@ -20,53 +21,6 @@ use std::sync::atomic::Ordering::SeqCst;
 use std::thread;
 use std::thread::Threads;
 use std::time::{Clock, Duration};
-
-// The most turns of a millisecond that a worker is held.
-const MOST_TURNS: u32 = 10_000;
-
-// Holds each worker's first command until the first commands of so many workers have come.
-#[derive(Drop)]
-struct Meeting<C> {
-    clock: C,
-    wanted: u64,
-    came: AtomicU64,
-    // How many workers waited in vain.
-    late: AtomicU64,
-}
-
-impl<C> Meeting<C> {
-    fn new(clock: C, wanted: u64) -> Meeting<C> {
-        Meeting {
-            clock,
-            wanted,
-            came: AtomicU64::new(0),
-            late: AtomicU64::new(0),
-        }
-    }
-
-    // Whether no worker waited in vain.
-    fn is_in_time(&self) -> bool {
-        self.late.load(SeqCst) == 0
-    }
-}
-
-impl<C: Clock> Gate for Meeting<C> {
-    fn before<R: Wait>(&self, _rt: &R, _worker: Worker, seq: u32) {
-        if seq != 1 {
-            return;
-        }
-        self.came.fetch_add(1, SeqCst);
-        for _turn in 0..MOST_TURNS {
-            if self.came.load(SeqCst) >= self.wanted {
-                return;
-            }
-            thread::sleep(&self.clock, Duration::from_millis(1));
-        }
-        self.late.fetch_add(1, SeqCst);
-    }
-
-    fn answered<R: Wait>(&self, _rt: &R, _worker: Worker, _seq: u32) {}
-}
 
 // Holds worker 2's first command until worker 1 has so many answers.
 #[derive(Drop)]
