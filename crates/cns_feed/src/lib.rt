@@ -29,7 +29,7 @@ pub use fault::{LineFault, ReplayFault};
 pub use fields::account_of;
 pub use line::{Line, command_of};
 pub use loader::{load, load_up_to};
-pub use player::{replay, replay_up_to};
+pub use player::{replay, replay_last, replay_up_to};
 pub use records::{MOST_RECORDS, Records};
 pub use response::ReplayBook;
 pub use scan::is_line_end;

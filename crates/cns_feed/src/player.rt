@@ -12,13 +12,14 @@ ghost use Rattle.cns_feed.specs.declared.fault.ReplayFault.TheVariants as fault;
 use crate::fault::ReplayFault;
 use crate::line::Line;
 use crate::records::{MOST_RECORDS, Records};
-use crate::response::{Response, take_line, write_response};
+use crate::response::{ReplayBook, Response, take_line, write_response};
 use crate::summary::Summary;
 use cns_book::Book;
 use cns_positions::{Positions, TreePositions};
 use cns_units::Day;
 use std::alloc::Global;
 use std::io::{Read, Write};
+use std::mem;
 
 // Takes the command that a record was read as, if it is one, and writes what it came to.
 fn play_line<P: Positions<Global>, W: Write>(
@@ -142,4 +143,32 @@ pub fn replay<R: Read + Drop, W: Write>(
     ensures room { IfErr result (λ e. e ≢ fault.Full) }
 {
     replay_up_to::<TreePositions<Global>, R, W>(alloc, reader, writer, date, MOST_RECORDS)
+}
+
+/// The same as `replay`, as a program's last work: the book is forgotten, not dropped, so that no box of it is visited once
+/// more. Its memory is the system's again when the program ends.
+pub fn replay_last<R: Read + Drop, W: Write>(
+    alloc: Global,
+    reader: R,
+    writer: &mut W,
+    date: Day,
+) -> Result<Summary, ReplayFault>
+    ensures output { OnOk result (IfSome (R.remaining reader)
+        (λ input. Appends (W.contents writer.old) (W.contents writer.new) (output date input))) }
+    ensures counts { IfOk result (λ s. IfSome (R.remaining reader)
+        (λ input. Counts s (responses (opened date) (lines_of input)))) }
+    ensures few { OnOk result (IfSome (R.remaining reader) (λ input. length (lines_of input) < 2 ^ 32 - 1)) }
+    ensures fault { IfErr result (λ e. IfSome (R.remaining reader)
+        (λ input. StopsReplay e date input (W.contents writer.old) (W.contents writer.new))) }
+    ensures room { IfErr result (λ e. e ≢ fault.Full) }
+{
+    let mut book = ReplayBook::new(alloc, date)?;
+    let played = play(
+        &mut Records::new(alloc, reader),
+        &mut book,
+        writer,
+        MOST_RECORDS,
+    );
+    mem::forget(book);
+    played
 }

@@ -4,7 +4,7 @@ ghost use Rattle.std.specs.Io.KnownBytes.{Appends};
 ghost use Rattle.cns_feed.specs.Output.{output as output_of};
 ghost use Rattle.cns_program.specs.Ends.{FailsReplay, TellsReplay};
 
-use cns_feed::{ReplayFault, replay};
+use cns_feed::{ReplayFault, replay_last};
 use cns_shell::{Ended, Fault, fail};
 use cns_units::Day;
 use std::alloc::Global;
@@ -24,7 +24,7 @@ fn replay_input<I: Read + Drop, O: Write>(
     ensures fault { IfErr result
         (λ f. FailsReplay f opening (I.remaining input) (O.contents output.old) (O.contents output.new)) }
 {
-    let played = replay(alloc, input, output, opening);
+    let played = replay_last(alloc, input, output, opening);
     if let Err(ReplayFault::Write) = played {
         return Err(ReplayFault::Write);
     }

@@ -13,6 +13,7 @@ use cns_units::{Day, WriteFault};
 use std::alloc::Global;
 use std::convert::From;
 use std::io::{Read, Write};
+use std::mem;
 use std::sync::Wait;
 use std::thread::Threads;
 
@@ -70,7 +71,12 @@ fn write_statements<R: AllocGlobal + Threads + Wait + Sync, I: Read + Drop, O: W
         (λ bytes. FailsDay f (loaded opening bytes) day (O.contents output.old) (O.contents output.new))) }
 {
     match load(rt.alloc(), input, opening) {
-        Ok((book, _)) => write_day(rt, &book, day, workers, output),
+        Ok((book, _)) => {
+            let written = write_day(rt, &book, day, workers, output);
+            // The program ends here: the book's memory goes back to the system with it, unvisited.
+            mem::forget(book);
+            written
+        }
         Err(fault) => Err(Fault::from(fault)),
     }
 }

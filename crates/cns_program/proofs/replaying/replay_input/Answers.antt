@@ -3,4 +3,4 @@ use Rattle.cns_program.proofs.replaying.replay_input.Goals as goal
 
 pub returns-in-Err-clause-fault : goal.returns-in-Err-clause-fault
 returns-in-Err-clause-fault g c =
-    fails-flushing c.args.opening (g.I.Read.remaining c.args.input) _ _ _ c.replay-played.result c.replay-played.ensures.output c.replay-played.ensures.fault c.in-Err.ensures.bytes
+    fails-flushing c.args.opening (g.I.Read.remaining c.args.input) _ _ _ c.replay_last-played.result c.replay_last-played.ensures.output c.replay_last-played.ensures.fault c.in-Err.ensures.bytes
