@@ -192,7 +192,6 @@ impl<A: Allocator + Drop + Clone> Positions<A> for FlatPositions<A> {
         enter(&mut self.rows, &key)
     }
 
-    #[tactic(auto, using(std::proofs::lemmas::Int::wraps, std::proofs::lemmas::List::take_at))]
     fn add(&mut self, key: Key, shares: i64, cents: i128) {
         book(self.rows.as_mut_slice(), &key, shares, cents);
     }

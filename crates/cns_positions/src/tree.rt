@@ -86,7 +86,6 @@ fn enter_all<A: Allocator + Clone + Drop>(
 }
 
 // Books shares and cents in the row of a probe's key.
-#[tactic(auto, using(crate::proofs::Changes::changed_at, crate::proofs::Holdings::booked_put, crate::proofs::Holdings::other_row, crate::proofs::Holdings::places_put, std::proofs::lemmas::Int::wraps))]
 fn book<A: Allocator + Clone + Drop>(
     rows: &mut Tree<Holding, A>,
     probe: &mut Probe,

@@ -149,7 +149,7 @@ fn push_rows<A: Allocator + Drop + Clone>(
 
 /// The rows of a day, in the order of keys, of which `room` are expected, by the prices of the close before and of this
 /// one. Where memory is refused nothing has changed.
-#[tactic(auto, using(cns_positions::proofs::Held::last_given, cns_positions::proofs::Held::none_given, crate::proofs::Weaving::all_lower))]
+#[tactic(auto, using(cns_positions::proofs::Held::last_given, cns_positions::proofs::Held::none_given))]
 pub fn collect<P: Positions<B>, B, A: Allocator + Drop + Clone>(
     alloc: A,
     room: usize,

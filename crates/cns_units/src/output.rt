@@ -11,7 +11,6 @@ use std::io::{ErrorKind, Write};
 ///
 /// The first call that fails or takes no byte ends it with `WriteFault`; what was taken before is a prefix of the bytes,
 /// and not all of them. A call that a signal interrupts has failed nothing and is made again, as in std's `write_all`.
-#[tactic(auto, using(crate::proofs::OutputLemmas::took_more, crate::proofs::OutputLemmas::took_none, crate::proofs::OutputLemmas::took_failed))]
 pub fn write_bytes<W: Write>(bytes: &[u8], writer: &mut W) -> Result<(), WriteFault>
     ensures { Writes (W.contents writer.old) (W.contents writer.new) bytes.now result }
 {

@@ -59,7 +59,6 @@ fn write_words<W: Write>(words: &[Word<'_>], writer: &mut W) -> Result<(), Write
 /// Writes a line: a first word and others, with a space between two, and a line feed.
 ///
 /// Where the writer fails or takes no byte it answers `WriteFault`, and a prefix of that line was written.
-#[tactic(auto, using(std::proofs::lemmas::Result::err_from_is_err_and, crate::proofs::OutputLemmas::front_later, crate::proofs::OutputLemmas::front_longer, crate::proofs::OutputLemmas::writes_then))]
 pub fn write_line<W: Write>(
     first: &[u8],
     others: &[Word<'_>],

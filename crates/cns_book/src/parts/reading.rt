@@ -28,7 +28,8 @@ use cns_units::{Account, Cusip, Day, Member, Price};
 use std::alloc::Allocator;
 use std::sync::Arc;
 
-// The position of a holding, in shares.
+// The position of a holding, in shares. It stands apart since the proof of a longer function takes up each field of a holding
+// that it has in hand, its cents too.
 fn shares_of(holding: &Holding) -> i64
     ensures { result ≡ holding.entry.now.now }
 {
