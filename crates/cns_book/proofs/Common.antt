@@ -63,7 +63,7 @@ pub use Rattle.cns_trades.specs.Checks.{AreSmallEntries, IsSmallEntry, booking, 
 pub use Rattle.cns_trades.specs.Used.{Traded, is_used}
 pub use Rattle.cns_book.specs.Contents.{Contents}
 pub use Rattle.cns_book.specs.Dated.{IsAfter, is_dated, is_dated_by, last_dated, payments_by, sheet_as_of, AreFalling, dated_sheet}
-pub use Rattle.cns_book.specs.Effects.{AreThere, AreWithin, activity_of, exchange_rules, is_held_up, place_of, places_of}
+pub use Rattle.cns_book.specs.Effects.{AreThere, AreWithin, activity_of, exchange_rules, is_held_up, place_of, places_of, stands}
 pub use Rattle.cns_book.specs.Executions.{AreApart, CanBeBought, CanBeExecuted, CanBeFilled, IsAccepted, IsWithin, capped_short, entries_by, filled_at, fills_by, notice_of, originator_at}
 pub use Rattle.cns_book.specs.Follows.{AreMoveFacts, AreTradeFacts, Follows, FollowsBatches, FollowsDividends, FollowsListings, FollowsNotices, FollowsPending, FollowsReferences, FollowsRows, HasRoom, Steps, kept_batches, member_position}
 pub use Rattle.cns_book.specs.Replies.{AreAmong, Stays, taken_in}

@@ -1,6 +1,6 @@
 -- Trades, deliveries and receipts: what they are refused for, and what they leave.
--- For `book_trade`, `deliver` and `receive` of parts/trading.rt, clause step.
-use Rattle.cns_book.proofs.Common.{◌≡◌, ◌∙◌, sym, ap, refl, ℕ, ◌≤◌, ℤ, Bool, true, false, not, ◌||◌, cond, eqb, List, [], ◌∷◌, ◌++◌, reverse, Option, Some, None, arith, is_some, Ok, Err, Account, Activity, Contents, Cusip, Day, Entry, Follows, FollowsNotices, FollowsPending, FollowsReferences, IsInRange, Key, Noticed, Pend, Refusal, Rows, Traded, books, bytes_refl, date, entries, eqb_refl, first_refusal, holding_at, ints, is_close, is_member, is_not_after, is_seen, is_too_large, is_too_large_at, journal, list_any, nat_tests, option_map_or, pend_of, pending, refusal, reverse_onto, sum_by-cons, trade_entries, trade_rules, position, or_false, books_beyond, party, takes_beyond, trade_answer, waits_beyond, is_used, AreTradeFacts, Movement, corporation, moved_in, moved_out, AreThere, delivery_rules, receipt_rules, AreMoveFacts, Command, bought_by, sold_by, eqb_sym, declared, executed}
+-- For `book_trade`, `deliver` and `receive` of parts/trading.rt, clause step, and the rows that `prepare` needn't look for.
+use Rattle.cns_book.proofs.Common.{◌≡◌, ◌∙◌, sym, ap, refl, ℕ, ◌≤◌, ℤ, Bool, true, false, not, ◌&&◌, ◌||◌, cond, eqb, List, [], ◌∷◌, ◌++◌, reverse, Option, Some, None, arith, is_some, Ok, Err, Account, Activity, Contents, Cusip, Day, Entry, Follows, FollowsNotices, FollowsPending, FollowsReferences, IsInRange, Key, Noticed, Pend, Refusal, Rows, Traded, books, bytes_refl, date, entries, eqb_refl, first_refusal, holding_at, ints, is_close, is_member, is_not_after, is_seen, is_too_large, is_too_large_at, journal, list_any, nat_tests, option_map_or, pend_of, pending, refusal, reverse_onto, sum_by-cons, trade_entries, trade_rules, position, or_false, books_beyond, party, takes_beyond, trade_answer, waits_beyond, is_used, AreTradeFacts, Movement, corporation, moved_in, moved_out, AreThere, delivery_rules, receipt_rules, AreMoveFacts, Command, bought_by, sold_by, eqb_sym, declared, executed, stands}
 use Rattle.cns_terms.specs.declared.command.Trade.{Trade}
 use Rattle.cns_terms.proofs.Facts.{zero_add}
 use Rattle.cns_trades.specs.declared.facts.TradeFacts.{TradeFacts}
@@ -21,6 +21,14 @@ module _ (before : Account → Cusip → ℤ) (ps : List Pend) (p : Pend) (b : 1
   pub large_if : (now : Bool) → list_any (is_too_large_at before (cond (not now) (p ∷ ps) ps) (cond now (trade_entries p) [])) (trade_entries p) ≡ cond now (books_beyond (party ps (before p.buyer p.issue) p.buyer p.issue) (party ps (before p.seller p.issue) p.seller p.issue) p) (waits_beyond (party ps (before p.buyer p.issue) p.buyer p.issue) (party ps (before p.seller p.issue) p.seller p.issue) p)
   large_if true = grind (arith, ints, nat_tests, eqb_sym p.seller p.buyer, eqb_refl, bytes_refl, or_false)
   large_if false = grind (arith, nat_tests, zero_add, bytes_refl, eqb_refl, eqb_sym p.seller p.buyer, or_false, sum_by-cons (bought_by p.buyer p.issue) p ps, sum_by-cons (bought_by p.seller p.issue) p ps, sum_by-cons (sold_by p.buyer p.issue) p ps, sum_by-cons (sold_by p.seller p.issue) p ps)
+
+-- a position of some shares has its row: those of a trade's parties
+pub trade_stands : (L : List Activity) (s : Contents) (t : Trade) (facts : TradeFacts) → Follows L s → AreTradeFacts s.opening (journal s.opening L) t facts → (stands facts.buyer && stands facts.seller) ≡ true → AreThere s.rows (trade_entries (pend_of t))
+trade_stands L s t facts f are both = grind (arith, ints, f.rows (record { account = t.buyer; issue = t.issue }), f.rows (record { account = t.seller; issue = t.issue }), are.buyer, are.seller)
+
+-- and those of a delivery
+pub delivery_stands : (L : List Activity) (s : Contents) (m : Movement) (facts : MoveFacts) → Follows L s → AreMoveFacts (journal s.opening L) m facts → (stands facts.member && stands (Some facts.corporation)) ≡ true → AreThere s.rows (moved_in m.member m ∷ moved_out corporation m ∷ [])
+delivery_stands L s m facts f are both = grind (arith, ints, f.rows (record { account = m.member; issue = m.issue }), f.rows (record { account = corporation; issue = m.issue }), are.member, are.corporation)
 
 -- what a trade is refused for, over the facts and the trades that wait
 pub trade_refusal : (L : List Activity) (opening : Day) (t : Trade) (facts : TradeFacts) (seen : Bool) (ps : List Pend) → AreTradeFacts opening (journal opening L) t facts → seen ≡ is_seen (journal opening L) t.reference → ps ≡ reverse (pending opening (journal opening L))

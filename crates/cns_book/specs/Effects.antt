@@ -1,5 +1,6 @@
 -- Where entries are booked, and what splits and exchanges are checked for.
-use Rattle.std.specs.Prelude.{◌≡◌, ◌≤◌, true, ◌*◌, Bool, not, ◌&&◌, ◌||◌, List, [], ◌∷◌, map, unsigned_abs}
+use Rattle.std.specs.Prelude.{◌≡◌, ◌≤◌, true, false, ◌*◌, Bool, not, ◌&&◌, ◌||◌, List, [], ◌∷◌, map, Option, None, Some, ℤ, pos, unsigned_abs}
+use Rattle.std.specs.Ordering.{int_eq}
 use Rattle.cns_book.specs.Common.{AllByRecursion, Day, Journal, Rule, booking_limit, corporation_limit, history_limit, is_listed, is_retired, pending, same_issue, Activity, Entry, Key, Rows, has_row, holding_at}
 use Rattle.cns_terms.specs.declared.action.Exchange.{Exchange}
 use Rattle.cns_terms.specs.declared.refusal.Refusal.TheVariants.{NoSuchIssue, Retired, SameIssue}
@@ -17,6 +18,11 @@ places_of es = map place_of es
 -- each of their places has a row
 abbrev pub AreThere : Rows → List Entry → Type 0
 AreThere rows es = AllByRecursion (λ e. has_row rows (place_of e) ≡ true) es
+
+-- whether a position has its row: one of no shares may be without
+abbrev pub stands : Option ℤ → Bool
+stands None = false
+stands (Some q) = not (int_eq q (pos 0))
 
 -- no position is beyond its limit, and no cents beyond what all activities can book
 pub record AreWithin (rows : Rows) : Type 0 where

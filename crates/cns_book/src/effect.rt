@@ -3,19 +3,38 @@ ghost use Rattle.std.specs.Prelude.{◌≡◌, List, ◌≤◌, ◌*◌, ◌^◌
 ghost use Rattle.cns_terms.specs.declared.holding.Key.{Key};
 ghost use Rattle.cns_positions.specs.Rows.{booked, books, has_row, holding_at};
 ghost use Rattle.cns_trades.specs.Checks.{AreSmallEntries, IsSmallEntry};
-ghost use Rattle.cns_book.specs.Effects.{AreThere, AreWithin, place_of, places_of};
+ghost use Rattle.cns_book.specs.Effects.{AreThere, AreWithin, place_of, places_of, stands};
 
 use cns_positions::Positions;
 use cns_terms::{Entry, Key, NoMemory};
 
-/// Gives the places of two entries rows, before anything changes. What stands at each key stays, also where memory is refused.
+/// Whether a position has its row: one of no shares may be without.
+pub fn stands(position: Option<i64>) -> bool
+    ensures { result ≡ stands position }
+{
+    match position {
+        Some(shares) => shares != 0,
+        None => false,
+    }
+}
+
+/// Gives the places of two entries rows, before anything changes, unless both are known to have theirs. What stands at each
+/// key stays, also where memory is refused.
 #[tactic(auto, using(crate::proofs::EffectEntries::both_places, crate::proofs::EffectEntries::each_there))]
-pub fn prepare<P: Positions<A>, A>(positions: &mut P, entries: &[Entry; 2]) -> Result<(), NoMemory>
+pub fn prepare<P: Positions<A>, A>(
+    positions: &mut P,
+    entries: &[Entry; 2],
+    have_rows: bool,
+) -> Result<(), NoMemory>
+    requires { have_rows ≡ true → AreThere (P.rows positions.old) entries.now }
     ensures same { (k : Key) → holding_at (P.rows positions.new) k ≡ holding_at (P.rows positions.old) k }
     ensures others { (k : Key) → ¬ Contains (places_of entries.now) k
         → has_row (P.rows positions.new) k ≡ has_row (P.rows positions.old) k }
     ensures there { OnOk result (AreThere (P.rows positions.new) entries.now) }
 {
+    if have_rows {
+        return Ok(());
+    }
     let [first, second] = entries;
     let keys = [key_of(first), key_of(second)];
     positions.prepare(&keys)?;

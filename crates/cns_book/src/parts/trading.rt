@@ -7,7 +7,7 @@ ghost use Rattle.cns_terms.specs.Limits.{position_limit};
 ghost use Rattle.cns_book.specs.Follows.{AreMoveFacts, AreTradeFacts, Answers, HasRoom, Shows};
 ghost use Rattle.cns_book.specs.Places.{PlacesStay, StaysIfRefused};
 
-use crate::effect::{book, prepare};
+use crate::effect::{book, prepare, stands};
 use crate::parts::Parts;
 use cns_positions::Positions;
 use cns_terms::{Movement, NoMemory, Reply, Trade};
@@ -76,7 +76,8 @@ impl<P: Positions<A>, A: Allocator + Drop + Clone> Parts<P, A> {
             }
             Err(refusal) => return Ok(Reply::Refused(refusal)),
         };
-        prepare(&mut self.positions, &entries)?;
+        let have_rows = stands(facts.buyer) && stands(facts.seller);
+        prepare(&mut self.positions, &entries, have_rows)?;
         self.trades.note_reference(trade.reference)?;
         book(&mut self.positions, &entries);
         Ok(Reply::Accepted)
@@ -95,7 +96,8 @@ impl<P: Positions<A>, A: Allocator + Drop + Clone> Parts<P, A> {
             Ok(entries) => entries,
             Err(refusal) => return Ok(Reply::Refused(refusal)),
         };
-        prepare(&mut self.positions, &entries)?;
+        let have_rows = stands(facts.member) && stands(Some(facts.corporation));
+        prepare(&mut self.positions, &entries, have_rows)?;
         book(&mut self.positions, &entries);
         Ok(Reply::Accepted)
     }

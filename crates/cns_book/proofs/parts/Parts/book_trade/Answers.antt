@@ -1,6 +1,6 @@
 use Rattle.cns_book.proofs.Common.{◌∙◌, sym, ap, subst, refl, None, Ok, List, Contains, AreSmallEntries, Entry, Follows, HasRoom, books, first_refusal, is_not_after, pend_of, trade_entries, trade_rules, places_of, booking, is_used, Activity, Command, Reply, refusal, journal, date, has_row, Key, ◌≡◌, true, false, arith}
 use Rattle.cns_book.proofs.PartsStaying.{accepted, refused, stopped}
-use Rattle.cns_book.proofs.TradingSteps.{answer_err, same_rows, trade_later, trade_now, trade_booked, trade_refusal, trade_waits}
+use Rattle.cns_book.proofs.TradingSteps.{answer_err, same_rows, trade_later, trade_now, trade_booked, trade_refusal, trade_stands, trade_waits}
 use Rattle.cns_book.proofs.PartsWithin.{rows_within}
 use Rattle.cns_book.proofs.parts.Parts.book_trade.Given as given
 use Rattle.cns_book.proofs.parts.Parts.book_trade.Goals.{After-prepare, In-Ok-None, In-Ok-Some}
@@ -27,6 +27,11 @@ pub returns-in-Ok-None-clause-step : goal.returns-in-Ok-None-clause-step
 returns-in-Ok-None-clause-step g c L f =
     let none = waits g (goal.at.returns-in-Ok-None-clause-step g c).In-Ok-None L f in
     accepted L (Activity.Trade c.args.trade.now) Reply.Accepted none.0 refl (trade_waits L _ c.args.trade.now c.pend.new.self (subst (Follows L) (sym c.self.view_is) f) c.value.ensures.range none.0 none.1 c.in_ok-pend-in-Ok-None.ensures.references c.in_ok-pend-in-Ok-None.ensures.pending)
+
+pub prepare-requires : goal.prepare-requires
+prepare-requires g c both =
+    let L = c.requires.activities in let f = c.requires.follows in
+    rw ((books_now g (goal.at.prepare-requires g c).In-Ok-Some L f).1.1) (trade_stands L _ c.args.trade.now c.trade_facts-facts.result (subst (Follows L) (sym c.self.view_is) f) (rw (← c.self.view_is) at (c.trade_facts-facts.ensures.facts L f)) (grind arith))
 
 pub returns-in_err-prepare-clause-step : goal.returns-in_err-prepare-clause-step
 returns-in_err-prepare-clause-step g c L f =
