@@ -1,5 +1,5 @@
 // How the marks of an account come about.
-ghost use Rattle.std.specs.Prelude.{◌≡◌, ◌*ℤ◌, IfOk, map, pos};
+ghost use Rattle.std.specs.Prelude.{◌≡◌, IfOk, map};
 ghost use Rattle.cns_account.specs.Rows.{causes, mark_row, moved, valued, with_causes};
 
 use crate::moves::{Moved, Moves, wrapped_sum};
@@ -26,20 +26,13 @@ pub fn price_move(row: &Row) -> Cents
     Cents::of(i128::from(row.opening) * change)
 }
 
-// What shares are worth at a price, in cents.
-fn worth_at(shares: i64, price: Price) -> Cents
-    ensures { result ≡ shares *ℤ pos price }
-{
-    Cents::of(i128::from(shares) * i128::from(price.value()))
-}
-
 // What a movement brings to the mark, in cents: its shares at a price, and its cents. It is exact where it fits 128 bits, as it does
 // on each day of a book.
 #[tactic(auto, unfolding(crate::specs::Rows::valued))]
 fn valued(moved: &Moved, price: Price) -> Cents
     ensures { result ≡ valued price moved.now }
 {
-    wrapped_sum(worth_at(moved.shares, price), moved.cents)
+    wrapped_sum(Cents::of(price.worth(moved.shares)), moved.cents)
 }
 
 /// What a day's movements bring to a mark, by cause. Each amount is exact where it fits 128 bits, as it does on each day of a book.

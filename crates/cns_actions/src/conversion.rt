@@ -42,7 +42,7 @@ fn priced(parts: i64, lieu: Price) -> i128
     ensures exact { result ≡ parts *ℤ pos lieu }
     ensures small { unsigned_abs result ≤ 10 ^ 13 }
 {
-    i128::from(parts) * lieu.value() as i128
+    lieu.worth(parts)
 }
 
 // The cents for what the cut leaves, cut towards zero.
@@ -61,7 +61,7 @@ fn in_cash(q: i64, cash: Price) -> i128
     ensures exact { result ≡ q *ℤ pos cash }
     ensures small { unsigned_abs result ≤ 10 ^ 19 }
 {
-    i128::from(q) * cash.value() as i128
+    cash.worth(q)
 }
 
 /// What a position of `q` shares becomes in a split: the new position, and the cents in lieu of what the cut to whole

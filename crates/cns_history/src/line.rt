@@ -66,7 +66,7 @@ const CLOSE: &str =
 pub fn worth(row: &Row) -> Cents
     ensures { result ≡ worth row.now }
 {
-    Cents::of(i128::from(row.closing) * i128::from(row.price.value()))
+    Cents::of(row.price.worth(row.closing))
 }
 
 // Writes the number and the date.

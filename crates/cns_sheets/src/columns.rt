@@ -1,7 +1,7 @@
 // What a sheet keeps of a row beside its key.
 ghost use Rattle.std.specs.Prelude.{◌≡◌, ◌*◌, ◌^◌, ◌≤◌, ◌+ℤ◌, ◌-ℤ◌, unsigned_abs};
 ghost use Rattle.cns_terms.specs.Limits.{amount_limit};
-ghost use Rattle.cns_sheets.specs.Build.{HasSmallCents, IsMarked, columns_of, full_row, marked, worth};
+ghost use Rattle.cns_sheets.specs.Build.{HasSmallCents, IsMarked, columns_of, full_row, marked};
 
 use cns_terms::{Holding, Key, Row};
 use cns_units::{Cents, Price};
@@ -101,21 +101,13 @@ impl Columns {
     }
 }
 
-// What a position is worth at a price, in cents.
-fn worth(shares: i64, price: Price) -> i128
-    ensures exact { result ≡ worth shares price }
-    ensures small { unsigned_abs result ≤ 2 ^ 63 * 10 ^ 9 }
-{
-    i128::from(shares) * price.value() as i128
-}
-
 // The mark of a day: what a position is worth now, less what it was worth at the close before, and the cents booked.
 fn marked(opening: i64, closing: i64, opening_price: Price, price: Price, money: i128) -> i128
     requires { unsigned_abs money ≤ amount_limit }
     ensures exact { result ≡ marked opening closing opening_price price money }
     ensures small { unsigned_abs result ≤ 2 * amount_limit }
 {
-    let gained = less(worth(closing, price), worth(opening, opening_price));
+    let gained = less(price.worth(closing), opening_price.worth(opening));
     plus(gained, money)
 }
 

@@ -1,5 +1,5 @@
 // Prices.
-ghost use Rattle.std.specs.Prelude.{◌≡◌, ◌^◌, ◌≤◌};
+ghost use Rattle.std.specs.Prelude.{◌≡◌, ◌^◌, ◌≤◌, ◌*◌, ◌*ℤ◌, pos, unsigned_abs};
 ghost use Rattle.cns_units.specs.Ranges.{within};
 
 use crate::fault::UnitFault;
@@ -47,5 +47,13 @@ impl Price {
         ensures range { self ≤ 10 ^ 9 }
     {
         u64::from(self.cents)
+    }
+
+    /// What that many shares are worth at the price, in cents: below 0 for a short position.
+    pub fn worth(self, shares: i64) -> i128
+        ensures exact { result ≡ shares *ℤ pos self }
+        ensures small { unsigned_abs result ≤ 2 ^ 63 * 10 ^ 9 }
+    {
+        i128::from(shares) * i128::from(self.cents)
     }
 }
