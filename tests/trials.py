@@ -25,10 +25,10 @@ import tempfile
 import time
 
 ROOT = pathlib.Path(__file__).resolve().parent.parent
-FUNCTION = re.compile(r"^ *(?:pub(?:\(crate\))? )?(?:unsafe )?fn (\w+)", re.MULTILINE)
+FUNCTION = re.compile(r"^ *(?:pub(?:\(\w+\))? )?(?:unsafe )?fn (\w+)", re.MULTILINE)
 # A type or a trait where it is declared, the first line of a block of methods, and its end.
-TYPE = re.compile(r"^(?:pub(?:\(crate\))? )?(?:struct|enum|trait) (\w+)", re.MULTILINE)
-BLOCK = re.compile(r"^(?:(?:unsafe )?impl\b.*|(?:pub(?:\(crate\))? )?trait .*|\})$", re.MULTILINE)
+TYPE = re.compile(r"^(?:pub(?:\(\w+\))? )?(?:struct|enum|trait) (\w+)", re.MULTILINE)
+BLOCK = re.compile(r"^(?:(?:unsafe )?impl\b.*|(?:pub(?:\(\w+\))? )?trait .*|\})$", re.MULTILINE)
 # Refusals that rest on a proof's words alone.
 NAMES = re.compile(r"has no field|is not in scope|has no `|was not admitted|`: module `")
 
