@@ -72,7 +72,6 @@ fn part(money: Money, first: u64, shares: u64) -> u64
 
 // Gives the shares to the members of a batch, in their order, for the money. Each pays what belongs to the shares up to
 // its last, less what those before it pay, so the cents add up whatever is cut.
-#[tactic(auto, using(cns_terms::proofs::Laid::fills_laid, crate::proofs::FillSteps::fill_last))]
 pub(crate) fn make_fills<S: Shorts, A: Allocator + Drop>(
     alloc: A,
     liables: &[Liable],
