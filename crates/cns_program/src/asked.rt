@@ -2,7 +2,7 @@
 ghost use Rattle.std.specs.Prelude.{◌≡◌, ◌≤◌, IfOk, IfSome, false, map, option_and_then, option_map, vec_len};
 ghost use Rattle.cns_terms.specs.Common.{all_ascii_digits};
 ghost use Rattle.clap.specs.Words.{all_of, app_of, found_of, rows_of, subcommand_rows_of};
-ghost use Rattle.cns_program.specs.Asks.{Asks, HasWorkers, files_in, question_of, replay_in, run_in, statements_in, workers_in, workers_read};
+ghost use Rattle.cns_program.specs.Asks.{Asks, HasWorkers, files_in, question_in, question_of, replay_in, run_in, statements_in, workers_in, workers_read};
 ghost use Rattle.cns_program.specs.CommandLine.{found_by, opening_command, program_line, run_command, statements_command};
 
 use clap::{Arg, ArgAction, ArgMatches, Command};
@@ -63,7 +63,6 @@ fn command_line<'a>(alloc: Global) -> Result<Command<'a>, AllocError>
 }
 
 // What clap makes of the words; None where it refuses them.
-#[tactic(auto, using(crate::proofs::CommandLine::line_is_free, crate::proofs::CommandLine::line_is_simple))]
 fn matches_in<'a, S: AsStr>(
     alloc: Global,
     words: &'a [S],
@@ -173,6 +172,27 @@ fn statements_of<'a>(matches: &ArgMatches<'_>) -> Option<Asked<'a>>
     Some(Asked::Statements(opening, day, workers))
 }
 
+// What a subcommand asks for, by what was found for its arguments.
+fn asked_in<'a>(
+    alloc: Global,
+    name: &str,
+    matches: &ArgMatches<'a>,
+) -> Result<Option<Asked<'a>>, NoMemory>
+    ensures question { IfOk result
+        (λ r. option_map question_of r ≡ question_in (name.now, rows_of (found_of matches.now))) }
+    ensures workers { IfOk result (λ r. IfSome r HasWorkers) }
+{
+    if name == "replay" {
+        Ok(replay_of(matches))
+    } else if name == "run" {
+        run_of(alloc, matches)
+    } else if name == "statements" {
+        Ok(statements_of(matches))
+    } else {
+        Ok(None)
+    }
+}
+
 /// What the words of a line ask for, the name of the program first; None where the line, a date or a number is refused.
 /// `NoMemory` where an allocation failed.
 pub fn asked_of<'a, S: AsStr>(alloc: Global, words: &'a [S]) -> Result<Option<Asked<'a>>, NoMemory>
@@ -182,16 +202,8 @@ pub fn asked_of<'a, S: AsStr>(alloc: Global, words: &'a [S]) -> Result<Option<As
     let Some(matches) = matches_in(alloc, words)? else {
         return Ok(None);
     };
-    let Some((name, matches)) = entered(&matches) else {
-        return Ok(None);
-    };
-    if name == "replay" {
-        Ok(replay_of(matches))
-    } else if name == "run" {
-        run_of(alloc, matches)
-    } else if name == "statements" {
-        Ok(statements_of(matches))
-    } else {
-        Ok(None)
+    match entered(&matches) {
+        Some((name, matches)) => asked_in(alloc, name, matches),
+        None => Ok(None),
     }
 }

@@ -99,11 +99,16 @@ fn turn_share(positions: &mut TreePositions<Global>, key: &Key) -> u64
     ensures { has_row positions.new key.now ≡ true }
 {
     let held = positions.get(*key);
-    if held.contract.value() != 0 || held.now < 0 || held.now > 1 {
+    let shares = match held.now {
+        0 => 1,
+        1 => -1,
+        _ => return 0,
+    };
+    if held.contract.value() != 0 {
         return 0;
     }
     let mut probe = Probe::new(*key);
-    positions.add_counted(&mut probe, 1 - 2 * held.now, 0);
+    positions.add_counted(&mut probe, shares, 0);
     probe.count()
 }
 

@@ -7,39 +7,79 @@ use crate::growth::parts::{Declare, List, NoteReference, Open, PendTrade};
 use crate::growth::refusing::{Handle, Rations, Refusing, most_growths};
 use crate::growth::statements::Cut;
 use crate::growth::trees::{Copied, FromSorted, Spare};
-use cns_positions::{FlatPositions, TreePositions};
+use cns_positions::{FlatPositions, Positions, TreePositions};
 use cns_rationed::Rationed;
 use std::alloc::Global;
 use std::process::Abort;
 
-// The number after a call is the least that its growths can be where its arguments have 24 items: its boxes, or one block. A
-// refused growth leaves nothing but rows of zeros, at the four keys that are prepared and in the sums of a trade's parties.
-fn refuse_each<'a, H: Handle<'a>>(rt: &impl Abort, global: Global, rationed: Rations<'a>) {
+// The calls stand in groups, since the check of a function takes the longer the more of them it has. The number after a call is the
+// least that its growths can be where its arguments have 24 items: its boxes, or one block. A refused growth leaves nothing but rows
+// of zeros, at the four keys that are prepared and in the sums of a trade's parties.
+
+// Those numbers for the calls over a form of positions.
+struct Least {
+    prepare: u64,
+    rebuilt: u64,
+    run: u64,
+    next: u64,
+    opened: u64,
+}
+
+const IN_TREE: Least = Least {
+    prepare: 4,
+    rebuilt: 24,
+    run: 25,
+    next: 50,
+    opened: 25,
+};
+
+const IN_FLAT: Least = Least {
+    prepare: 1,
+    rebuilt: 1,
+    run: 2,
+    next: 4,
+    opened: 3,
+};
+
+fn refuse_trees<'a, H: Handle<'a>>(rt: &impl Abort, global: Global, rationed: Rations<'a>) {
     assert!(rt; most_growths::<H, Spare<H>>(rt, global, rationed, 0) >= 4);
     assert!(rt; most_growths::<H, Copied<H>>(rt, global, rationed, 0) >= 24);
     assert!(rt; most_growths::<H, FromSorted<H>>(rt, global, rationed, 0) >= 24);
-    assert!(rt; most_growths::<H, Prepare<TreePositions<H>>>(rt, global, rationed, 4) >= 4);
-    assert!(rt; most_growths::<H, Prepare<FlatPositions<H>>>(rt, global, rationed, 4) >= 1);
-    assert!(rt; most_growths::<H, Rebuilt<TreePositions<H>>>(rt, global, rationed, 0) >= 24);
-    assert!(rt; most_growths::<H, Rebuilt<FlatPositions<H>>>(rt, global, rationed, 0) >= 1);
-    assert!(rt; most_growths::<H, Run<TreePositions<H>, H>>(rt, global, rationed, 0) >= 25);
-    assert!(rt; most_growths::<H, Run<FlatPositions<H>, H>>(rt, global, rationed, 0) >= 2);
-    assert!(rt;
-        most_growths::<H, NextPositions<TreePositions<H>, H>>(rt, global, rationed, 0) >= 50
-    );
-    assert!(rt;
-        most_growths::<H, NextPositions<FlatPositions<H>, H>>(rt, global, rationed, 0) >= 4
-    );
-    assert!(rt; most_growths::<H, Opened<TreePositions<H>, H>>(rt, global, rationed, 0) >= 25);
-    assert!(rt; most_growths::<H, Opened<FlatPositions<H>, H>>(rt, global, rationed, 0) >= 3);
+}
+
+fn refuse_positions<'a, P: Positions<H>, H: Handle<'a>>(
+    rt: &impl Abort,
+    global: Global,
+    rationed: Rations<'a>,
+    least: &Least,
+) {
+    assert!(rt; most_growths::<H, Prepare<P>>(rt, global, rationed, 4) >= least.prepare);
+    assert!(rt; most_growths::<H, Rebuilt<P>>(rt, global, rationed, 0) >= least.rebuilt);
+    assert!(rt; most_growths::<H, Run<P, H>>(rt, global, rationed, 0) >= least.run);
+    assert!(rt; most_growths::<H, NextPositions<P, H>>(rt, global, rationed, 0) >= least.next);
+    assert!(rt; most_growths::<H, Opened<P, H>>(rt, global, rationed, 0) >= least.opened);
+}
+
+fn refuse_trades<'a, H: Handle<'a>>(rt: &impl Abort, global: Global, rationed: Rations<'a>) {
     assert!(rt; most_growths::<H, List<H>>(rt, global, rationed, 0) >= 1);
     assert!(rt; most_growths::<H, NoteReference<H>>(rt, global, rationed, 0) >= 1);
     assert!(rt; most_growths::<H, PendTrade<H>>(rt, global, rationed, 2) >= 2);
     assert!(rt; most_growths::<H, Declare<H>>(rt, global, rationed, 0) >= 1);
+}
+
+fn refuse_notices<'a, H: Handle<'a>>(rt: &impl Abort, global: Global, rationed: Rations<'a>) {
     assert!(rt; most_growths::<H, Open<H>>(rt, global, rationed, 0) >= 2);
     assert!(rt; most_growths::<H, Choose<H>>(rt, global, rationed, 0) >= 2);
     assert!(rt; most_growths::<H, Fill<H>>(rt, global, rationed, 0) >= 1);
     assert!(rt; most_growths::<H, Cut<H>>(rt, global, rationed, 0) >= 1);
+}
+
+fn refuse_each<'a, H: Handle<'a>>(rt: &impl Abort, global: Global, rationed: Rations<'a>) {
+    refuse_trees::<H>(rt, global, rationed);
+    refuse_positions::<TreePositions<H>, H>(rt, global, rationed, &IN_TREE);
+    refuse_positions::<FlatPositions<H>, H>(rt, global, rationed, &IN_FLAT);
+    refuse_trades::<H>(rt, global, rationed);
+    refuse_notices::<H>(rt, global, rationed);
 }
 
 #[test]
