@@ -175,7 +175,6 @@ fn push_member<A: Allocator + Drop>(
 
 // What is booked for a split or an exchange, in the order of keys: for the corporation the opposite of what the positions
 // of all members become together, and for the members; with each the age that an exchange brings.
-#[tactic(auto, using(std::proofs::Common::append_assoc))]
 fn all_bookings<P: Positions<B>, B, A: Allocator + Drop + Clone>(
     alloc: &A,
     positions: &P,

@@ -16,7 +16,6 @@ use cns_units::Day;
 use std::alloc::Allocator;
 
 // The same as a list, one entry a key, in the order of keys.
-#[tactic(auto, using(std::proofs::lemmas::Grind::common_steps, crate::proofs::DueAmounts::amounts_elsewhere, crate::proofs::DueAmounts::amounts_small, crate::proofs::DueAmounts::bookings_make, crate::proofs::DueAmounts::sorted_bookings))]
 fn listed<A: Allocator + Drop + Clone>(
     alloc: &A,
     pending: &[Pend],

@@ -1,6 +1,6 @@
 -- Entries, booked one after another.
 -- For `book` and `prepare` of effect.rt, `book_fills` of buy_in.rt, and every command, clause step.
-use Rattle.cns_book.proofs.Common.{◌≡◌, refl, ℕ, suc, ◌+◌, ◌*◌, ◌^◌, ◌≤◌, ◌<◌, ℤ, pos, ◌+ℤ◌, true, List, [], ◌∷◌, ◌++◌, length, take, get_or, arith, unsigned_abs, Contains, AreSmallEntries, Entry, Holding, IsSmallEntry, Key, Rows, booking_limit, books, cents_for, corporation_limit, has_row, holding_at, ints, shares_for, take_more, total, total-append, booked, AreThere, AreWithin, place_of, places_of, All-from_recursion, recursion_from_All, All-take, length-take, false, None, Journal, Posting, exchanged, holding, is_close, zero_add, carried_same, zero, ◌==◌, map, eqb-true, AreApart, CanBeExecuted, CanBeFilled, Execution, Fill, Notice, entries_by, eqb_sym, fill_entry, filled_at, map-append, originator_at, Given, CanBeBought, notice_of}
+use Rattle.cns_book.proofs.Common.{◌≡◌, ◌∙◌, sym, subst, refl, ℕ, suc, ◌+◌, ◌*◌, ◌^◌, ◌≤◌, ◌<◌, ℤ, pos, ◌+ℤ◌, true, List, [], ◌∷◌, ◌++◌, length, take, get_or, arith, unsigned_abs, Contains, AreSmallEntries, Entry, Holding, IsSmallEntry, Key, Rows, booking_limit, books, cents_for, corporation_limit, has_row, holding_at, ints, shares_for, take_more, total, total-append, booked, AreThere, AreWithin, place_of, places_of, All-from_recursion, recursion_from_All, All-take, length-take, false, None, Journal, Posting, exchanged, holding, is_close, zero_add, carried_same, zero, ◌==◌, map, eqb-true, AreApart, CanBeExecuted, CanBeFilled, Execution, Fill, Notice, entries_by, eqb_sym, fill_entry, filled_at, map-append, originator_at, Given, CanBeBought, notice_of}
 
 -- a posting that closes no day and exchanges no issue books its entries
 pub holding-post : (p : Posting) (J : Journal) (k : Key) → is_close p.activity ≡ false → exchanged p.activity ≡ None → holding (p ∷ J) k.account k.issue ≡ books p.entries k (holding J k.account k.issue)
@@ -56,7 +56,7 @@ passed e es k h apart = grind (arith, ints)
 others_passed : (n : Notice) (fs : List Fill) (i : ℕ) (f : Fill) (h : Holding) → AreApart fs → i < length fs → f ≡ get_or fs i f → books (map (fill_entry n) (take i fs)) (filled_at n.given f) h ≡ h
 others_passed n [] i f h a lt is = absurd (omega (arith, lt))
 others_passed n (g ∷ fs) zero f h a lt is = books_none (filled_at n.given f) h
-others_passed n (g ∷ fs) (suc i) f h a lt is = grind (arith, All-from_recursion (λ (e : Fill). (e.member == g.member) ≡ false) fs a.0 i f (omega arith), passed, eqb_sym g.member f.member, others_passed n fs i f h a.1 (omega arith) is)
+others_passed n (g ∷ fs) (suc i) f h a lt is = passed (fill_entry n g) (map (fill_entry n) (take i fs)) (filled_at n.given f) h (eqb_sym g.member f.member ∙ subst (λ (e : Fill). (e.member == g.member) ≡ false) (sym is) (All-from_recursion (λ (e : Fill). (e.member == g.member) ≡ false) fs a.0 i f (omega (arith, lt)))) ∙ others_passed n fs i f h a.1 (omega (arith, lt)) is
 
 -- who is long is not who is short
 long_or_short : (rows : Rows) (g : Given) (f : Fill) → CanBeBought (holding_at rows (originator_at g)) → CanBeFilled (holding_at rows (filled_at g f)) f → (g.member == f.member) ≡ false

@@ -98,7 +98,7 @@ impl<A: Allocator + Drop + Clone> ClosedDays<A> {
     }
 
     /// The sheet of the last closed day that is dated on or before the date; None where each is dated after it.
-    #[tactic(auto, using(crate::proofs::ClosedDaysSearch::none_as_of, crate::proofs::ClosedDaysSearch::found_as_of))]
+    #[tactic(auto, using(crate::proofs::ClosedDaysSearch::none_as_of))]
     pub fn as_of(&self, date: Day) -> Option<&Sheet<A>>
         ensures { option_copied result ≡ sheet_as_of self.now date }
     {

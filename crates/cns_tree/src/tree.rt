@@ -57,7 +57,6 @@ impl<V: Copy, A: Allocator + Clone> Tree<V, A> {
     /// A tree of rows whose keys strictly rise. It takes time in proportion to their number.
     ///
     /// `NoMemory` where a box was refused; those that it had are given back. A tree of no rows asks for none.
-    #[tactic(auto, using(std::proofs::lemmas::List::take_all))]
     pub fn from_sorted(alloc: A, rows: &[(Key, V)]) -> Result<Self, NoMemory>
         requires { is_sorted key_cmp rows.now ≡ true }
         ensures rows { IfOk result (λ tree. tree ≡ rows.now) }
@@ -164,7 +163,6 @@ impl<V: Copy, A: Allocator + Clone> Tree<V, A> {
 
     /// Gives a probe's key the value, as `put` does, after at most two comparisons for each binary digit of the number of
     /// rows that there were.
-    #[tactic(auto, using(crate::proofs::Heights::few_digits))]
     pub fn put_counted(&mut self, key: Key, value: V, spare: &mut Spare<V, A>, probe: &mut Probe)
         requires room { (is_some (find key_cmp key self.old) ≡ true) ⊎ (0 < spare.old) }
         requires same { probe.old.0 ≡ key }

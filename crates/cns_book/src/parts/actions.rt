@@ -41,7 +41,6 @@ impl<P: Positions<A>, A: Allocator + Drop + Clone> Parts<P, A> {
 
     /// SPLIT. What it books is made first, and then booked at once; the notices of the issue end. Trades that wait stay as
     /// they were made.
-    #[tactic(auto, using(crate::proofs::ActionSteps::elsewhere))]
     pub fn split(&mut self, split: &Split) -> Result<Reply, NoMemory>
         requires { HasRoom self.old }
         ensures opening { self.new.opening ≡ self.old.opening }
@@ -86,7 +85,6 @@ impl<P: Positions<A>, A: Allocator + Drop + Clone> Parts<P, A> {
 
     /// EXCHANGE. What it books, with the ages that the successor takes over, is made first, and then booked at once; then the
     /// old issue is retired, and its notices end.
-    #[tactic(auto, using(crate::proofs::ActionSteps::elsewhere))]
     pub fn exchange(&mut self, exchange: &Exchange) -> Result<Reply, NoMemory>
         requires { HasRoom self.old }
         ensures opening { self.new.opening ≡ self.old.opening }

@@ -48,7 +48,6 @@ impl<P: Positions<A>, A: Allocator + Drop + Clone> Parts<P, A> {
 
     // What the notices of the open day call for, in each issue. Days never fall along the notices, so those of the open
     // day are the last ones.
-    #[tactic(auto, using(crate::proofs::RetransmittalCalls::call_fits))]
     fn calls_of_day(&self) -> Result<Calls<A>, NoMemory>
         requires { HasRoom self.now }
         ensures total { IfOk result

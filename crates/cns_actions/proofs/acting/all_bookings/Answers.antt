@@ -1,7 +1,8 @@
-use Rattle.cns_actions.proofs.Common.{◌≡◌, ◌∙◌, ◌++◌, refl, unsigned_abs, ◌≤◌, bookings_for, corporation, has_position_or_age, holding_at, oldest_of, opposite, position_limit}
+use Rattle.cns_actions.proofs.Common.{arith, ◌≡◌, ◌∙◌, ◌++◌, refl, unsigned_abs, ◌≤◌, bookings_for, corporation, has_position_or_age, holding_at, oldest_of, opposite, position_limit}
 use Rattle.cns_actions.proofs.BookingOrder.{small_bookings}
 use Rattle.cns_actions.proofs.ByAccount.{each_listed, place}
 use Rattle.cns_actions.proofs.Skipping.{all_left}
+use Rattle.std.proofs.Common.{append_assoc}
 use Rattle.cns_actions.proofs.acting.all_bookings.Goals as goal
 
 pub loop-holder-init : goal.loop-holder-init
@@ -17,3 +18,6 @@ loop-holder-init g c =
       small = small_bookings x corporation (opposite c.args.sum.now) n (rw c.opposite.ensures.exact at c.opposite.ensures.few);
       within = each_listed has_position_or_age refl i R c.requires.order (λ h. unsigned_abs h.shares ≤ position_limit) (λ a le held. c.requires.within.members a i le);
     })
+
+pub loop-holder-preserved : goal.loop-holder-preserved
+loop-holder-preserved g c = grind (arith, append_assoc)

@@ -1,11 +1,14 @@
 use Rattle.cns_book.proofs.Common.{◌∙◌, ◌≡◌, ◌+◌, sym, ap, subst, inl, inr, Some, arith, nat_tests, option_map, Contents, HasRoom, Noticed, kept_at}
-use Rattle.cns_book.proofs.RetransmittalCalls.{called_next, none_earlier}
+use Rattle.cns_book.proofs.RetransmittalCalls.{call_fits, called_next, none_earlier}
 use Rattle.cns_book.proofs.ClosingSteps.{closes_fit}
 use Rattle.cns_book.proofs.parts.Parts.calls_of_day.Goals.{else-loop-number-test, then-loop-number-test+then-given-today, then-shares-gt0+in_ok-call, else-shares-gt0}
 use Rattle.cns_book.proofs.parts.Parts.calls_of_day.Goals as goal
 
 pub overflow_add-today : goal.overflow_add-today
 overflow_add-today g c = omega (arith, closes_fit _ (subst HasRoom (sym c.self.view_is) c.requires))
+
+pub call-requires : goal.call-requires
+call-requires g c = grind (arith, call_fits c.args.self.now c.requires)
 
 pub loop-number-preserved : goal.loop-number-preserved
 loop-number-preserved g c =

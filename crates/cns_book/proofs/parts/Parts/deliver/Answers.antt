@@ -36,3 +36,9 @@ returns-clause-places g c k apart =
     let m = c.args.movement.now in
     let told = answer_ok (first_refusal (delivery_rules c.move_facts-facts.result m)) (moved_in m.member m ∷ moved_out corporation m ∷ []) c.in-Ok.entries c.in-Ok.ensures.answer in
     c.book.ensures.places k ∙ rw (← c.self.view_is) (c.prepare.ensures.others k (λ h. apart (subst (λ (es : List Entry). Contains (places_of es) k) told.1 h)))
+
+pub returns-in_err-prepare-clause-places : goal.returns-in_err-prepare-clause-places
+returns-in_err-prepare-clause-places g c k apart =
+    let m = c.args.movement.now in
+    let told = answer_ok (first_refusal (delivery_rules c.move_facts-facts.result m)) (moved_in m.member m ∷ moved_out corporation m ∷ []) c.in-Ok.entries c.in-Ok.ensures.answer in
+    rw (← c.self.view_is) (c.prepare.ensures.others k (λ h. apart (subst (λ (es : List Entry). Contains (places_of es) k) told.1 h)))

@@ -1,5 +1,5 @@
-use Rattle.cns_book.proofs.Common.{◌≡◌, ◌∙◌, None, sym, subst, Contents, Follows, HasRoom, Key, age_brought, books, entries, holding_at, journal, refusal, with_age, makes, Activity, Command, Action}
-use Rattle.cns_book.proofs.ActionSteps.{can_be_booked, exchange_follows, exchange_unrefused, exchange_current}
+use Rattle.cns_book.proofs.Common.{◌≡◌, ◌∙◌, None, sym, subst, arith, Contents, Follows, HasRoom, Key, age_brought, books, entries, holding_at, journal, refusal, with_age, makes, Activity, Command, Action}
+use Rattle.cns_book.proofs.ActionSteps.{can_be_booked, elsewhere, exchange_follows, exchange_unrefused, exchange_current}
 use Rattle.cns_book.proofs.PartsStaying.{stopped}
 use Rattle.cns_book.proofs.TradingSteps.{same_rows}
 use Rattle.cns_book.proofs.parts.Parts.exchange.Goals as goal
@@ -20,3 +20,9 @@ returns-in_ok-make-in-Ok-clause-step g c L f =
     let none = subst (λ (t : Contents). refusal t.opening (journal t.opening L) (Command.Activity (Activity.Exchange c.args.exchange.now)) ≡ None) (sym c.self.view_is) (exchange_unrefused L c.args.self.now c.args.exchange.now c.exchange_refusal.result (c.exchange_refusal.ensures L f) c.in_default.is (λ b. let z = (c.in-Ok.ensures.too_large L f).1 b in cc) (λ b. let z = (c.in-Ok.ensures.pending L f).1 b in cc)) in
     let made = subst (λ (t : Contents). (k : Key) → makes c.in-Ok.bookings k (holding_at t.rows k) ≡ with_age (age_brought t.rows (Action.Exchange c.args.exchange.now) k) (books (entries t.opening (journal t.opening L) (Activity.Exchange c.args.exchange.now)) k (holding_at t.rows k))) (sym c.self.view_is) (c.in-Ok.ensures.booked L f) in
     rw c.end_issue.ensures (exchange_follows L _ c.args.exchange.now c.retire.new.self (g.P.Positions.rows c.make.new.positions) (subst (Follows L) (sym c.self.view_is) f) (c.parts.ensures.old_range, c.value.ensures.range, c.value-2.ensures.range) none c.retire.ensures.price c.retire.ensures.retired (λ k. c.in_ok-make-in-Ok.ensures.ok k ∙ made k))
+
+pub returns-in_err-make-in-Ok-clause-places : goal.returns-in_err-make-in-Ok-clause-places
+returns-in_err-make-in-Ok-clause-places g c = grind (arith, elsewhere)
+
+pub returns-in_ok-make-in-Ok-clause-places : goal.returns-in_ok-make-in-Ok-clause-places
+returns-in_ok-make-in-Ok-clause-places g c = grind (arith, elsewhere)

@@ -26,3 +26,6 @@ pub returns-clause-cut : goal.returns-clause-cut
 returns-clause-cut g c =
     let cut = rows_cut c.args.prices.now (g.P.Positions.rows c.args.positions.now) (paying c.args.payments.now) c.in_ok-paid.paid c.in_ok-rows.ensures.order c.in_ok-rows.ensures.paid_rise c.in_ok-paid.ensures.cents c.prices_before-earlier.ensures.prices (c.as_slice.ensures.value ∙ c.in_ok-prices.ensures.prices) c.in_ok-rows.ensures.rows in
     rw c.of_rows.ensures cut
+
+pub collect-requires-clause-small : goal.collect-requires-clause-small
+collect-requires-clause-small g c = λ order. (c.requires.ready order).small
