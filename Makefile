@@ -85,7 +85,7 @@ cases:
 # build: proves every crate that the program stands on, and builds the program
 build:
 	@echo "Proves $(words $(BUILT)) crates, lowest first, each on up to 4 processors in up to 8 GB of memory:"; \
-	    echo "in minutes or seconds where this machine has kept the work, in some 40 minutes from nothing."; \
+	    echo "in minutes or seconds where this machine has kept the work, in an hour or less from nothing."; \
 	    number=0; log=$$(mktemp); trap 'rm -f "$$log"' EXIT; \
 	    for crate in $(BUILT); do \
 	        number=$$((number + 1)); begun=$$SECONDS; \
