@@ -49,6 +49,26 @@ pub(crate) fn take_all<P: Positions<Global>, R: Read>(
     Err(ReplayFault::Read)
 }
 
+// The same of all that a reader gives.
+fn take_from<P: Positions<Global>, R: Read + Drop>(
+    alloc: Global,
+    reader: R,
+    book: &mut Book<P, Global>,
+    most: u32,
+) -> Result<Summary, ReplayFault>
+    requires room { HasRoomFor book.old.log most }
+    requires most { most ≤ 2 ^ 32 - 1 }
+    ensures after { OnOk result (IfSome (R.remaining reader)
+        (λ input. book.new.log ≡ log_after book.old.log (lines_of input))) }
+    ensures counts { IfOk result (λ s. IfSome (R.remaining reader)
+        (λ input. Counts s (responses (state_of book.old.log) (lines_of input)))) }
+    ensures few { OnOk result (IfSome (R.remaining reader) (λ input. length (lines_of input) < most)) }
+    ensures err { IfErr result (λ e. (e ≡ fault.NoMemory) ⊎ (e ≡ fault.Read)) }
+{
+    let mut records = Records::new(alloc, reader);
+    take_all(&mut records, book, most)
+}
+
 /// The book after the command of each record of the reader, in order, all of the first worker, on a new book over the
 /// form of positions `P` that opens on the date, and the counts; nothing is written. At most so many records are read.
 ///
@@ -68,7 +88,7 @@ pub fn load_up_to<P: Positions<Global>, R: Read + Drop>(
     ensures err { IfErr result (λ e. (e ≡ fault.NoMemory) ⊎ (e ≡ fault.Read)) }
 {
     let mut book = Book::<P, Global>::new(alloc, date)?;
-    let summary = take_all(&mut Records::new(alloc, reader), &mut book, most)?;
+    let summary = take_from(alloc, reader, &mut book, most)?;
     Ok((book, summary))
 }
 

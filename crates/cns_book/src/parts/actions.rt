@@ -41,6 +41,7 @@ impl<P: Positions<A>, A: Allocator + Drop + Clone> Parts<P, A> {
 
     /// SPLIT. What it books is made first, and then booked at once; the notices of the issue end. Trades that wait stay as
     /// they were made.
+    #[tactic(auto, using(crate::proofs::ActionSteps::elsewhere))]
     pub fn split(&mut self, split: &Split) -> Result<Reply, NoMemory>
         requires { HasRoom self.old }
         ensures opening { self.new.opening ≡ self.old.opening }

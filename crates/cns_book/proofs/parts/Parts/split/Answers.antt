@@ -1,5 +1,5 @@
 use Rattle.cns_book.proofs.Common.{◌≡◌, ◌∙◌, None, sym, subst, refl, arith, Contents, Follows, HasRoom, Key, books, entries, holding_at, journal, refusal, makes, Activity, Command, Reply}
-use Rattle.cns_book.proofs.ActionSteps.{can_be_booked, elsewhere, split_ends, split_unrefused, with_no_age}
+use Rattle.cns_book.proofs.ActionSteps.{can_be_booked, split_ends, split_unrefused, with_no_age}
 use Rattle.cns_book.proofs.PartsStaying.{accepted, stopped}
 use Rattle.cns_book.proofs.TradingSteps.{booked_by, same_rows}
 use Rattle.cns_book.proofs.parts.Parts.split.Goals as goal
@@ -19,9 +19,3 @@ returns-in_ok-make-in-Ok-clause-step g c L f =
     let made = subst (λ (t : Contents). (k : Key) → makes c.in-Ok.bookings k (holding_at t.rows k) ≡ books (entries t.opening (journal t.opening L) x) k (holding_at t.rows k)) (sym c.self.view_is) (λ k. c.in-Ok.ensures.booked L f k ∙ with_no_age _) in
     accepted L x Reply.Accepted none refl
     (booked_by L _ x c.self.inside.trades c.end_issue.new.self (g.P.Positions.rows c.make.new.positions) f' (c.parts.ensures.old_range, c.value.ensures.range) none refl refl refl refl f'.references f'.pending (c.end_issue.ensures ∙ split_ends L s f') (λ k. c.in_ok-make-in-Ok.ensures.ok k ∙ made k))
-
-pub returns-in_err-make-in-Ok-clause-places : goal.returns-in_err-make-in-Ok-clause-places
-returns-in_err-make-in-Ok-clause-places g c = grind (arith, elsewhere)
-
-pub returns-in_ok-make-in-Ok-clause-places : goal.returns-in_ok-make-in-Ok-clause-places
-returns-in_ok-make-in-Ok-clause-places g c = grind (arith, elsewhere)

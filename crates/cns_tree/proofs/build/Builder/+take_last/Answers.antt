@@ -1,4 +1,4 @@
-use Rattle.cns_tree.proofs.Common.{◌-◌, ◌/◌, ◌≤◌, ◌<◌, length, length-append, rules, arith, key_cmp}
+use Rattle.cns_tree.proofs.Common.{◌-◌, ◌/◌, ◌≤◌, ◌<◌, length, append_assoc, length-append, rules, arith, key_cmp}
 use Rattle.cns_tree.proofs.Heights.{IsFull, halves_level, few_levels}
 use Rattle.cns_tree.proofs.Rows.{sorted_left, sorted_taken}
 use Rattle.cns_tree.proofs.build.Builder.+take_last.Goals as goal
@@ -31,3 +31,9 @@ returns-clause-height g t c =
     let right : IsFull ((c.args.count - 1) / 2) c.take_last-right.result.height = grind (arith, c.take_last-right.ensures) in
     let level = halves_level _ _ _ _ left right (omega arith) (omega arith) in
     grind (arith, level, c.join.ensures)
+
+pub returns-clause-rows : goal.returns-clause-rows
+returns-clause-rows g t c = grind (arith, append_assoc)
+
+pub returns-clause-count : goal.returns-clause-count
+returns-clause-count g t c = grind (arith, length-append)
