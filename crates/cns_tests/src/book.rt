@@ -14,4 +14,3 @@ mod script;
 mod terms;
 mod tree;
 mod units;
-mod values;

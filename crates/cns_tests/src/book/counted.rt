@@ -1,7 +1,7 @@
 // What a book over the tree tells where look-ups are counted.
 use crate::book::script::{TreeBook, new_book, read};
+use crate::values::{APPLE, account, cusip};
 use cns_terms::{Key, Probe};
-use cns_units::{Account, Cusip};
 use std::alloc::Global;
 use std::process::Abort;
 
@@ -20,8 +20,8 @@ fn rows(book: &TreeBook) -> usize {
 
 // How many comparisons a look-up takes.
 fn comparisons(rt: &impl Abort, book: &TreeBook, number: u16, issue: &str) -> u64 {
-    let account = Account::new(number).expect(rt, "an account");
-    let issue = Cusip::parse(issue.as_bytes()).expect(rt, "an issue");
+    let account = account(rt, number);
+    let issue = cusip(rt, issue);
     let mut probe = Probe::new(Key { account, issue });
     let _ = book.position_counted(account, issue, &mut probe);
     probe.count()
@@ -37,7 +37,7 @@ fn are_few(rt: &impl Abort, book: &TreeBook) -> bool {
             return false;
         }
     }
-    rows(book) == 5 && comparisons(rt, book, 1, "037833100") == 0
+    rows(book) == 5 && comparisons(rt, book, 1, APPLE) == 0
 }
 
 fn are_counted(rt: &impl Abort, alloc: Global) -> bool {

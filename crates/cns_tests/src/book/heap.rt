@@ -1,5 +1,6 @@
 // A book in a small heap.
-use crate::book::script::{first_day, play, trade};
+use crate::book::script::{play, trade};
+use crate::values::first_day;
 use cns_book::{Book, TakeFault};
 use cns_positions::{Positions, TreePositions};
 use cns_terms::{Activity, Command, Holding, Key, Reply, Row, Trade, Worker};
@@ -37,18 +38,15 @@ fn show<P: Positions<A>, A: Allocator + Drop + Clone>(
     (book.history_len(), held(book, key), row(rt, book, key))
 }
 
-// Whether a book has memory for a trade, which it then accepts.
-fn has_memory<P: Positions<A>, A: Allocator + Drop + Clone>(
-    rt: &impl Abort,
+// Whether a book accepts a trade; None where it finds no memory.
+fn accepts<P: Positions<A>, A: Allocator + Drop + Clone>(
     book: &mut Book<P, A>,
     trade: &Trade,
-) -> bool {
+) -> Option<bool> {
     match book.take(Worker::FIRST, Command::Activity(Activity::Trade(*trade))) {
-        Ok(receipt) => matches!(receipt.reply, Reply::Accepted),
-        Err(fault) => {
-            assert!(rt; fault == TakeFault::NoMemory);
-            false
-        }
+        Ok(receipt) => Some(matches!(receipt.reply, Reply::Accepted)),
+        Err(TakeFault::NoMemory) => None,
+        Err(TakeFault::Full) => Some(false),
     }
 }
 
@@ -69,9 +67,13 @@ fn is_exhausted<P: Positions<A>, A: Allocator + Drop + Clone>(
             reference,
             ..*trade
         };
-        if !has_memory(rt, book, next) {
-            let (_, held, row) = before;
-            return held.is_some() && row.is_some() && before == show(rt, book, key);
+        match accepts(book, next) {
+            Some(true) => (),
+            Some(false) => return false,
+            None => {
+                let (_, held, row) = before;
+                return held.is_some() && row.is_some() && before == show(rt, book, key);
+            }
         }
     }
     false

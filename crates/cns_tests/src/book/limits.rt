@@ -1,5 +1,8 @@
 // Books with a limit of their history, which are filled up to it.
-use crate::book::script::{TreeBook, command, first_day, take};
+use crate::book::script::{TreeBook, take};
+use crate::checks::check_at;
+use crate::records::command;
+use crate::values::first_day;
 use cns_book::{Book, TakeFault};
 use cns_positions::Positions;
 use cns_terms::{Command, Worker};
@@ -46,6 +49,6 @@ fn takes(rt: &impl Abort, alloc: Global, most: u32) -> bool {
 #[test]
 fn a_book_at_its_limit_takes_nothing_more_and_copies_its_history(rt: HostRuntime) {
     for most in [0, 2, 3_000] {
-        assert!(rt; takes(&rt, rt.alloc(), most), "{most}");
+        check_at(&rt, takes(&rt, rt.alloc(), most), u64::from(most));
     }
 }

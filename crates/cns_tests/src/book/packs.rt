@@ -1,6 +1,8 @@
 // Statements of a whole day: how the accounts are shared out, and that they are made at once.
-use crate::book::script::{TreeBook, first_day, new_book, read};
+use crate::book::script::{TreeBook, new_book, read};
+use crate::checks::check_at;
 use crate::meeting::Meeting;
+use crate::values::first_day;
 use cns_sheets::Sheet;
 use cns_statements::pack;
 use cns_terms::{Gate, Worker};
@@ -120,7 +122,7 @@ fn a_gate_stands_around_each_statement_and_the_parts_are_even(rt: HostRuntime) {
     for (members, workers, wanted) in &PARTS {
         let sheet = sheet_with(&rt, rt.alloc(), *members);
         let is_so = are_told(&rt, rt.alloc(), &sheet, *workers, wanted);
-        assert!(&rt; is_so, "{members} for {workers}");
+        check_at(&rt, is_so, u64::from(*members));
     }
 }
 
@@ -139,9 +141,7 @@ fn are_made_at_once<R: Clock + Threads + Wait + Sync>(
 fn statements_are_made_at_once(rt: HostRuntime) {
     for workers in [2, 8, 64] {
         let sheet = sheet_with(&rt, rt.alloc(), workers);
-        assert!(&rt;
-            are_made_at_once(&rt, rt.alloc(), &sheet, workers),
-            "{workers}"
-        );
+        let is_so = are_made_at_once(&rt, rt.alloc(), &sheet, workers);
+        check_at(&rt, is_so, u64::from(workers));
     }
 }

@@ -4,7 +4,7 @@ ghost use Rattle.std.specs.Prelude.{◌≡◌, ◌<◌, true};
 ghost use Rattle.std.specs.FinMap.{is_sorted};
 ghost use Rattle.cns_terms.specs.Keys.{key_cmp};
 
-use crate::book::values::{APPLE, key};
+use crate::values::{APPLE, account, key, numbered};
 use cns_positions::{FlatPositions, NextRows, Positions, Step, TreePositions, run};
 use cns_terms::{Holding, Key};
 use cns_units::Cents;
@@ -54,9 +54,14 @@ const REPLIES: [(i64, i64, i128, u32); 7] = [
     (-1, 0, 0, 0),
 ];
 
+fn is_reply(held: &Holding, wanted: &(i64, i64, i128, u32)) -> bool {
+    let (now, opening, contract, run) = *wanted;
+    *held == holding(now, opening, contract, run)
+}
+
 fn are_replies(found: &[Holding]) -> bool {
-    for (held, (now, opening, contract, run)) in found.iter().zip(&REPLIES) {
-        if *held != holding(*now, *opening, *contract, *run) {
+    for (held, wanted) in found.iter().zip(&REPLIES) {
+        if !is_reply(held, wanted) {
             return false;
         }
     }
@@ -130,31 +135,12 @@ fn check_booking<P: Positions<Global>>(rt: &(impl Abort + AllocGlobal)) {
     assert!(rt; is_booked_and_closed(rt, &mut positions));
 }
 
-// What a digit of a CUSIP adds to its sum: at every other place it counts twice, and then digit by digit.
-fn weight(place: usize, digit: u8) -> u8
-    requires { digit < 10 }
-    ensures { result < 10 }
-{
-    if place % 2 == 0 {
-        digit
-    } else {
-        2 * digit / 10 + 2 * digit % 10
+// The key of an account in the issue with a number.
+fn key_numbered(rt: &impl Abort, number: u16, issue: u32) -> Key {
+    Key {
+        account: account(rt, number),
+        issue: numbered(rt, issue),
     }
-}
-
-// The key of an account in an issue whose CUSIP is a number of eight digits and its check digit.
-fn key_numbered(rt: &impl Abort, account: u16, number: u32) -> Key {
-    let mut text = [b'0'; 9];
-    let mut rest = number;
-    let mut sum = 0u8;
-    for place in (0..8).rev() {
-        let digit = (rest % 10) as u8;
-        text[place] = b'0' + digit;
-        sum = sum % 10 + weight(place, digit);
-        rest /= 10;
-    }
-    text[8] = b'0' + (10 - sum % 10) % 10;
-    key(rt, account, &text)
 }
 
 // How many of the given rows there are, and the key of the last.

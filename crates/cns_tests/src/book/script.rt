@@ -1,38 +1,22 @@
 // Books and commands from the records that a clerk writes.
+use crate::checks::check;
+use crate::records::{command, next};
+use crate::values::first_day;
 use cns_book::{Book, Receipt};
 use cns_feed::{CsvSource, reply_text};
 use cns_positions::{Positions, TreePositions};
-use cns_terms::{Activity, Command, Item, Reply, Source, Trade, Worker};
-use cns_units::Day;
+use cns_terms::{Activity, Command, Reply, Trade, Worker};
 use std::alloc::{Allocator, Global};
 use std::process::Abort;
 
 // The book of each test. All else is told over any form of positions, which is less to check than over this one.
 pub(crate) type TreeBook = Book<TreePositions<Global>, Global>;
 
-pub(crate) fn first_day(rt: &impl Abort) -> Day {
-    Day::parse(b"2024-06-03".as_slice()).expect(rt, "a date")
-}
-
-// The next command. A check of a caller need not go through all that a source promises of it.
-fn next(source: &mut CsvSource<&[u8]>) -> Option<Command> {
-    match source.next() {
-        Ok(Item::Given(command)) => Some(command),
-        _ => None,
-    }
-}
-
-// The command of a record.
-pub(crate) fn command(rt: &impl Abort, alloc: Global, record: &str) -> Command {
-    let command = next(&mut CsvSource::new(alloc, record.as_bytes()));
-    command.expect(rt, "a command")
-}
-
 // The trade of a record.
 pub(crate) fn trade(rt: &impl Abort, alloc: Global, record: &str) -> Trade {
     match command(rt, alloc, record) {
         Command::Activity(Activity::Trade(trade)) => trade,
-        _ => panic!(rt; "no trade: {record}"),
+        _ => panic!(rt; "no trade"),
     }
 }
 
@@ -60,8 +44,21 @@ pub(crate) fn play<P: Positions<A>, A: Allocator + Drop + Clone>(
 ) {
     for (record, reply) in records {
         let receipt = take(rt, book, command(rt, alloc, record));
-        assert!(rt; is_told(alloc, &receipt.reply, reply), "{record}");
+        check(rt, is_told(alloc, &receipt.reply, reply), record);
     }
+}
+
+// Gives a book the next command of a source; false where there is none.
+fn take_next<P: Positions<A>, A: Allocator + Drop + Clone>(
+    rt: &impl Abort,
+    source: &mut CsvSource<&[u8]>,
+    book: &mut Book<P, A>,
+) -> bool {
+    let Some(command) = next(source) else {
+        return false;
+    };
+    take(rt, book, command);
+    true
 }
 
 // Gives a book the commands of a source, up to its end.
@@ -71,10 +68,9 @@ fn take_all<P: Positions<A>, A: Allocator + Drop + Clone>(
     book: &mut Book<P, A>,
 ) {
     for _record in 0..1_000 {
-        let Some(command) = next(source) else {
+        if !take_next(rt, source, book) {
             return;
-        };
-        take(rt, book, command);
+        }
     }
     panic!(rt; "too many records");
 }

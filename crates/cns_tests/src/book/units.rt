@@ -1,5 +1,6 @@
 // Texts of values: CUSIPs, days, cents. The ranges of numbers are shown by the cases of fields.
-use crate::book::values::day;
+use crate::checks::check;
+use crate::values::day;
 use cns_units::{Cents, Cusip, Day, UnitFault, write_cents, write_day};
 use std::alloc::Global;
 use std::process::Abort;
@@ -18,7 +19,7 @@ const READ_CUSIPS: [(&str, Option<UnitFault>); 8] = [
 #[test]
 fn a_cusip_is_read_by_its_characters_and_its_check_digit(rt: HostRuntime) {
     for (text, fault) in &READ_CUSIPS {
-        assert!(rt; Cusip::parse(text.as_bytes()).err() == *fault, "{text}");
+        check(&rt, Cusip::parse(text.as_bytes()).err() == *fault, text);
     }
 }
 
@@ -46,7 +47,7 @@ fn number_of_day(text: &str) -> Option<i32> {
 #[test]
 fn a_day_is_read_only_as_year_month_and_day(rt: HostRuntime) {
     for (text, number) in &READ_DAYS {
-        assert!(rt; number_of_day(text) == *number, "{text}");
+        check(&rt, number_of_day(text) == *number, text);
     }
 }
 
@@ -69,7 +70,7 @@ fn are_cents_written(alloc: Global, cents: Cents, text: &str) -> bool {
 fn cents_are_written_as_dollars_and_two_digits(rt: HostRuntime) {
     for (cents, text) in &WRITTEN_CENTS {
         let cents = Cents::new(*cents).expect(&rt, "cents");
-        assert!(rt; are_cents_written(rt.alloc(), cents, text), "{text}");
+        check(&rt, are_cents_written(rt.alloc(), cents, text), text);
     }
 }
 
@@ -83,7 +84,7 @@ fn is_day_written(alloc: Global, day: Day, text: &str) -> bool {
 #[test]
 fn a_day_is_written_as_it_is_read(rt: HostRuntime) {
     for text in &WRITTEN_DAYS {
-        let day = day(&rt, text.as_bytes());
-        assert!(rt; is_day_written(rt.alloc(), day, text), "{text}");
+        let day = day(&rt, text);
+        check(&rt, is_day_written(rt.alloc(), day, text), text);
     }
 }

@@ -5,14 +5,13 @@ ghost use Rattle.cns_terms.specs.declared.source.SourceFault.TheVariants as faul
 use crate::desk::audits::are_named;
 use crate::desk::inputs::{ending, failing};
 use crate::desk::runs::{MEMBERS, run, trades, two};
-use crate::desk::script::APPLE;
 use crate::meeting::{MOST_TURNS, Meeting};
+use crate::values::{APPLE, account, cusip};
 use cns_book::Book;
 use cns_desk::{End, LogItem, Outcome};
 use cns_feed::reply_text;
 use cns_positions::Positions;
 use cns_terms::{Gate, Item, NoGate, Source, SourceFault, Worker};
-use cns_units::{Account, Cusip};
 use std::alloc::Global;
 use std::process::Abort;
 use std::sync::Wait;
@@ -134,9 +133,7 @@ fn second_is_told(alloc: Global, outcome: &Outcome, text: &str) -> bool {
 
 // The shares of member 101, and the cents that were booked for them.
 fn held<P: Positions<Global>>(rt: &impl Abort, book: &Book<P, Global>) -> Option<(i64, i128)> {
-    let account = Account::new(101).expect(rt, "an account");
-    let issue = Cusip::parse(APPLE.as_bytes()).expect(rt, "an issue");
-    match book.position(account, issue) {
+    match book.position(account(rt, 101), cusip(rt, APPLE)) {
         Some(held) => Some((held.now, held.contract.value())),
         None => None,
     }

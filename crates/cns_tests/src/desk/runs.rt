@@ -1,6 +1,6 @@
 // Runs of workers, and the records of two of them.
 use crate::desk::inputs::{Records, ending};
-use crate::desk::script::first_day;
+use crate::values::first_day;
 use cns_desk::{Outcome, run_workers};
 use cns_terms::{Gate, Source};
 use std::alloc::Global;
@@ -12,15 +12,20 @@ use std::thread::Threads;
 // Members 101 and 202, and an issue.
 pub(crate) const MEMBERS: &str = "MEMBER,101\nMEMBER,202\nISSUE,037833100,19500\n";
 
+// Puts the record of a trade of one share after a text; false where there is no memory.
+fn add_trade(text: &mut Vec<u8>, reference: u64) -> bool {
+    write!(
+        text,
+        "TRADE,{reference},101,202,037833100,1,19500,2024-06-03\n"
+    )
+    .is_ok()
+}
+
 // Puts the records of trades of one share after a text, with the references from the first to the last: member 101 buys from
 // member 202, for 195 dollars.
 fn add_trades(rt: &impl Abort, text: &mut Vec<u8>, first: u64, last: u64) {
     for reference in first..=last {
-        write!(
-            text,
-            "TRADE,{reference},101,202,037833100,1,19500,2024-06-03\n"
-        )
-        .expect(rt, "memory");
+        assert!(rt; add_trade(text, reference));
     }
 }
 

@@ -1,44 +1,27 @@
 // Commands, replies and statements as the texts that a clerk reads.
+use crate::records::next;
+use crate::values::account;
 use cns_feed::{CsvSource, reply_text};
 use cns_sheets::Sheet;
 use cns_statements::{statement, write_statement};
-use cns_terms::{Command, Item, Reply, Source};
-use cns_units::{Account, Day};
+use cns_terms::{Command, Reply};
 use std::alloc::Global;
 use std::process::Abort;
 
-// The day on which each book opens, and the next one.
-pub(crate) const FIRST: &str = "2024-06-03";
-
-pub(crate) const SECOND: &str = "2024-06-04";
-
-// The issue that is traded.
-pub(crate) const APPLE: &str = "037833100";
-
-pub(crate) fn day(rt: &impl Abort, text: &str) -> Day {
-    Day::parse(text.as_bytes()).expect(rt, "a date")
-}
-
-pub(crate) fn first_day(rt: &impl Abort) -> Day {
-    day(rt, FIRST)
-}
-
-// Puts the commands of a text of records, none of which is invalid, into a list.
-fn read(rt: &impl Abort, alloc: Global, records: &str, commands: &mut Vec<Command>) {
-    let mut source = CsvSource::new(alloc, records.as_bytes());
-    for _record in 0..=records.len() {
-        match source.next() {
-            Ok(Item::Given(command)) => commands.push(command).expect(rt, "memory"),
-            Ok(Item::Finished) => return,
-            _ => panic!(rt; "no command"),
-        }
+// Puts the commands of a source into a list.
+fn read(rt: &impl Abort, source: &mut CsvSource<&[u8]>, commands: &mut Vec<Command>) {
+    for _record in 0..1_000 {
+        let Some(command) = next(source) else {
+            return;
+        };
+        assert!(rt; commands.push(command).is_ok());
     }
-    panic!(rt; "no end of the records");
 }
 
 pub(crate) fn commands(rt: &impl Abort, alloc: Global, records: &str) -> Vec<Command> {
     let mut commands = Vec::new(alloc);
-    read(rt, alloc, records, &mut commands);
+    let mut source = CsvSource::new(alloc, records.as_bytes());
+    read(rt, &mut source, &mut commands);
     commands
 }
 
@@ -60,7 +43,7 @@ pub(crate) fn is_stated(
     number: u16,
     text: &str,
 ) -> bool {
-    let account = Account::new(number).expect(rt, "an account");
+    let account = account(rt, number);
     let mut told = Vec::new(alloc);
     match statement(alloc, sheet, account) {
         Ok(statement) => {

@@ -1,7 +1,8 @@
 // Commands under a seat, by one caller.
 ghost use Rattle.std.specs.Prelude.{◌≡◌};
 
-use crate::desk::script::{FIRST, SECOND, are_same, commands, day, first_day, is_stated, tell};
+use crate::desk::script::{are_same, commands, is_stated, tell};
+use crate::values::{FIRST, SECOND, day, first_day};
 use cns_desk::{Desk, Kept, Seat};
 use cns_positions::TreePositions;
 use cns_sheets::Sheet;

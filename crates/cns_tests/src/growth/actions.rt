@@ -5,7 +5,8 @@ ghost use Rattle.cns_positions.specs.Rows.{holding_at};
 
 use crate::growth::parts::trade;
 use crate::growth::refusing::Call;
-use crate::growth::units::{day, issue, key, price};
+use crate::growth::units::{key, price};
+use crate::values::{day, issue};
 use cns_actions::{Action, Split, next_positions, opened};
 use cns_positions::Positions;
 use cns_terms::{Holding, Key, NoMemory, Pend};

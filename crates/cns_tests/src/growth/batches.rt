@@ -4,7 +4,8 @@ ghost use Rattle.cns_units.specs.declared.account.Member.{Member};
 ghost use Rattle.cns_retransmit.specs.Chosen.{shorts_of};
 
 use crate::growth::refusing::Call;
-use crate::growth::units::{issue, member};
+use crate::growth::units::member;
+use crate::values::issue;
 use cns_retransmit::{Batch, Short, Shorts};
 use cns_units::{Member, Money, Shares};
 use std::alloc::{AllocError, Allocator, Global};

@@ -2,14 +2,16 @@
 mod cases;
 mod same;
 
+use crate::checks::check;
 use crate::growth::refusing::{Handle, MOST, Rations, Refusing};
-use crate::growth::units::day;
+use crate::records::{command, next};
+use crate::values::first_day;
 use cases::{ACCEPTED, Case, REFUSED, UNPAID_DUE, UNPAID_LATER};
 use cns_book::{Book, Receipt, TakeFault};
 use cns_feed::CsvSource;
 use cns_positions::{Positions, TreePositions};
 use cns_rationed::Rationed;
-use cns_terms::{Command, Item, Reply, Source, Worker};
+use cns_terms::{Command, Reply, Worker};
 use same::agree;
 use std::alloc::{Allocator, Global};
 use std::process::Abort;
@@ -24,21 +26,13 @@ pub(crate) fn opened<P: Positions<H>, H: Allocator + Drop + Clone>(
     rt: &impl Abort,
     alloc: H,
 ) -> Book<P, H> {
-    Book::new(alloc, day(rt, "2024-06-03")).expect(rt, "memory")
+    Book::new(alloc, first_day(rt)).expect(rt, "memory")
 }
 
 fn is_refusal(reply: &Reply) -> bool {
     match reply {
         Reply::Refused(_) => true,
         _ => false,
-    }
-}
-
-// The next command. A check of a caller need not go through all that a source promises of it.
-fn next(source: &mut CsvSource<&[u8]>) -> Option<Command> {
-    match source.next() {
-        Ok(Item::Given(command)) => Some(command),
-        _ => None,
     }
 }
 
@@ -50,6 +44,20 @@ fn take<P: Positions<H>, H: Allocator + Drop + Clone>(
     book.take(Worker::FIRST, *command)
 }
 
+// Gives a book the next command of a source, which is not refused; false where there is none.
+fn play_next<P: Positions<H>, H: Allocator + Drop + Clone>(
+    rt: &impl Abort,
+    source: &mut CsvSource<&[u8]>,
+    book: &mut Book<P, H>,
+) -> bool {
+    let Some(command) = next(source) else {
+        return false;
+    };
+    let receipt = take(book, &command).expect(rt, "taken");
+    assert!(rt; !is_refusal(&receipt.reply));
+    true
+}
+
 // Gives a book the commands of a source, none of which is refused.
 fn play_all<P: Positions<H>, H: Allocator + Drop + Clone>(
     rt: &impl Abort,
@@ -57,11 +65,9 @@ fn play_all<P: Positions<H>, H: Allocator + Drop + Clone>(
     book: &mut Book<P, H>,
 ) {
     for _record in 0..100 {
-        let Some(command) = next(source) else {
+        if !play_next(rt, source, book) {
             return;
-        };
-        let receipt = take(book, &command).expect(rt, "taken");
-        assert!(rt; !is_refusal(&receipt.reply));
+        }
     }
 }
 
@@ -72,12 +78,6 @@ pub(crate) fn play<P: Positions<H>, H: Allocator + Drop + Clone>(
     records: &str,
 ) {
     play_all(rt, &mut CsvSource::new(global, records.as_bytes()), book);
-}
-
-// The command of a record.
-fn command(rt: &impl Abort, global: Global, record: &str) -> Command {
-    let command = next(&mut CsvSource::new(global, record.as_bytes()));
-    command.expect(rt, "a command")
 }
 
 // Has a book take the records before a command, and so many questions more.
@@ -202,10 +202,10 @@ fn count_growths<'a, P: Positions<H>, H: Handle<'a>>(
     let held = rationed.held();
     let command = &command(rt, global, case.record);
     let receipt = &take(after, command).expect(rt, "taken");
-    assert!(rt;
+    check(
+        rt,
         is_refusal(&receipt.reply) == case.is_refused,
-        "{}",
-        case.record
+        case.record,
     );
     let all = rationed.held();
     let untouched = &Untouched {
@@ -218,16 +218,16 @@ fn count_growths<'a, P: Positions<H>, H: Handle<'a>>(
     };
     for growths in 0..MOST {
         let is_refused = is_refused(rt, global, rationed, case, questions, untouched, growths);
-        assert!(rt;
+        check(
+            rt,
             is_refused.is_some() && rationed.held() == all,
-            "{}, growth {growths}",
-            case.record
+            case.record,
         );
         if is_refused == Some(false) {
             return growths;
         }
     }
-    panic!(rt; "no end of growths: {}", case.record);
+    panic!(rt; "no end of growths");
 }
 
 // The same beside the book before it.
@@ -284,12 +284,14 @@ fn check_case<'a, P: Positions<H>, H: Handle<'a>>(
     let (fewest, most) = span_of_growths::<P, H>(rt, global, rationed, case);
     let is_so = fewest >= case.growths && (case.growths > 0 || fewest == 0);
     let is_one_more = most == fewest.saturating_add(1) && rationed.held() == 0;
-    assert!(rt; is_so && is_one_more, "{}: {fewest} to {most}", case.record);
+    check(rt, is_so && is_one_more, case.record);
 }
 
-#[test]
-fn each_growth_of_each_command_is_refused_in_turn(rt: HostRuntime) {
-    let rationed = Rationed::new(rt.alloc());
+fn check_accepted<'a, P: Positions<H>, H: Handle<'a>>(
+    rt: &impl Abort,
+    global: Global,
+    rationed: Rations<'a>,
+) {
     for (before, record, growths, left) in &ACCEPTED {
         let case = &Case {
             before: *before,
@@ -298,13 +300,21 @@ fn each_growth_of_each_command_is_refused_in_turn(rt: HostRuntime) {
             growths: *growths,
             left: *left,
         };
-        check_case::<Tree<Refusing>, Refusing>(&rt, rt.alloc(), &rationed, case);
+        check_case::<P, H>(rt, global, rationed, case);
     }
 }
 
 #[test]
-fn a_command_that_breaks_a_rule_asks_for_room_in_the_history_alone(rt: HostRuntime) {
+fn each_growth_of_each_command_is_refused_in_turn(rt: HostRuntime) {
     let rationed = Rationed::new(rt.alloc());
+    check_accepted::<Tree<Refusing>, Refusing>(&rt, rt.alloc(), &rationed);
+}
+
+fn check_refused<'a, P: Positions<H>, H: Handle<'a>>(
+    rt: &impl Abort,
+    global: Global,
+    rationed: Rations<'a>,
+) {
     for (before, record) in &REFUSED {
         let case = &Case {
             before: *before,
@@ -313,8 +323,14 @@ fn a_command_that_breaks_a_rule_asks_for_room_in_the_history_alone(rt: HostRunti
             growths: 0,
             left: 0,
         };
-        check_case::<Tree<Refusing>, Refusing>(&rt, rt.alloc(), &rationed, case);
+        check_case::<P, H>(rt, global, rationed, case);
     }
+}
+
+#[test]
+fn a_command_that_breaks_a_rule_asks_for_room_in_the_history_alone(rt: HostRuntime) {
+    let rationed = Rationed::new(rt.alloc());
+    check_refused::<Tree<Refusing>, Refusing>(&rt, rt.alloc(), &rationed);
 }
 
 // The one growth more is that of the list of what is due.
@@ -325,7 +341,7 @@ fn check_unpaid<'a, P: Positions<H>, H: Handle<'a>>(
 ) {
     let due = growths_of::<P, H>(rt, global, rationed, &UNPAID_DUE, 0);
     let later = growths_of::<P, H>(rt, global, rationed, &UNPAID_LATER, 0);
-    assert!(rt; due <= later.saturating_add(1), "{due} and {later}");
+    assert!(rt; due <= later.saturating_add(1));
 }
 
 #[test]

@@ -1,4 +1,5 @@
 // Bytes of any number are written whole, a few at a time.
+use crate::checks::check_at;
 use cns_units::write_bytes;
 use std::alloc::Global;
 use std::process::Abort;
@@ -23,6 +24,10 @@ fn are_written(global: Global, bytes: &[u8]) -> bool {
 fn bytes_of_any_number_are_written_whole(rt: HostRuntime) {
     for length in &LENGTHS {
         let bytes = bytes(&rt, rt.alloc(), *length);
-        assert!(rt; are_written(rt.alloc(), bytes.as_slice()), "{length}");
+        check_at(
+            &rt,
+            are_written(rt.alloc(), bytes.as_slice()),
+            *length as u64,
+        );
     }
 }

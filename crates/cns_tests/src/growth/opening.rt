@@ -1,7 +1,7 @@
 // A book that has taken nothing, on copies of an allocator.
 use crate::growth::book::RationedBook;
 use crate::growth::refusing::Call;
-use crate::growth::units::day;
+use crate::values::first_day;
 use cns_book::Book;
 use std::alloc::{Allocator, Global};
 use std::process::Abort;
@@ -20,7 +20,7 @@ impl<H: Allocator + Drop + Clone> Call<H> for Opening<H> {
         let Ok(alloc) = self.alloc.clone() else {
             return false;
         };
-        let opened: Result<RationedBook<H>, _> = Book::new(alloc, day(rt, "2024-06-03"));
+        let opened: Result<RationedBook<H>, _> = Book::new(alloc, first_day(rt));
         opened.is_ok()
     }
 }

@@ -4,7 +4,8 @@ ghost use Rattle.std.specs.Option.{ForSome};
 ghost use Rattle.cns_notices.specs.Noticed.{live_number, notice_at};
 
 use crate::growth::refusing::Call;
-use crate::growth::units::{day, issue, member, price, rate};
+use crate::growth::units::{member, price, rate};
+use crate::values::{day, issue};
 use cns_dividends::Dividends;
 use cns_notices::Notices;
 use cns_prices::Prices;
@@ -29,7 +30,7 @@ fn list_one<H: Allocator + Drop + Clone>(
 ) -> Result<(), NoMemory> {
     let issue = issue(rt, number);
     if prices.price(issue).is_some() {
-        panic!(rt; "issue {number} is listed");
+        panic!(rt; "an issue is listed");
     }
     prices.list(issue, price(rt, u64::from(number) + 1))
 }
@@ -192,7 +193,7 @@ fn give<A: Allocator + Drop + Clone>(
         panic!(rt; "no shares");
     };
     if !may_open(notices, member, cusip, 1) {
-        panic!(rt; "no notice of {number}");
+        panic!(rt; "no notice");
     }
     notices.open(member, cusip, shares, 1)
 }

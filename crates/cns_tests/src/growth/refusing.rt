@@ -1,4 +1,5 @@
 // Handles on an allocator that refuses one growth, and the loop over the growths of a call.
+use crate::checks::check_at;
 use cns_rationed::Rationed;
 use std::alloc::{Allocator, Global};
 use std::process::Abort;
@@ -75,7 +76,7 @@ fn growths_of<'a, H: Handle<'a>, C: Call<H>>(
     for growths in 0..MOST {
         let is_refused = is_refused::<H, C>(rt, global, rationed, size, left, growths);
         let is_so = is_refused.is_some() && rationed.held() == 0;
-        assert!(rt; is_so, "size {size}, growth {growths}");
+        check_at(rt, is_so, u64::from(size));
         if is_refused == Some(false) {
             return growths;
         }
@@ -113,7 +114,11 @@ pub(crate) fn most_growths<'a, H: Handle<'a>, C: Call<H>>(
         most = growths_of::<H, C>(rt, global, rationed, *size, left).max(most);
     }
     for size in &LARGE_SIZES {
-        assert!(rt; is_made::<H, C>(rt, global, rationed, *size), "size {size}");
+        check_at(
+            rt,
+            is_made::<H, C>(rt, global, rationed, *size),
+            u64::from(*size),
+        );
     }
     most
 }

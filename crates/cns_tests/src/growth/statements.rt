@@ -1,7 +1,8 @@
 // A statement cut from the sheet of a closed day.
 use crate::growth::book::{RationedBook, opened, play};
 use crate::growth::refusing::Call;
-use crate::growth::units::{day, key};
+use crate::growth::units::key;
+use crate::values::day;
 use cns_statements::statement;
 use std::alloc::{Allocator, Global};
 use std::process::Abort;
