@@ -4,7 +4,7 @@ use crate::growth::batches::{Choose, Fill};
 use crate::growth::maps::{Prepare, Rebuilt, Run};
 use crate::growth::opening::Opening;
 use crate::growth::parts::{Declare, List, NoteReference, Open, PendTrade};
-use crate::growth::refusing::{Handle, Rations, Refusing, most_growths};
+use crate::growth::refusing::{Call, Handle, Rations, Refusing, most_growths};
 use crate::growth::statements::Cut;
 use crate::growth::trees::{Copied, FromSorted, Spare};
 use cns_positions::{FlatPositions, Positions, TreePositions};
@@ -41,10 +41,21 @@ const IN_FLAT: Least = Least {
     opened: 3,
 };
 
+// Refuses each growth of a call in turn, of which there have to be so many. An assertion after each call is longer to check.
+fn at_least<'a, H: Handle<'a>, C: Call<H>>(
+    rt: &impl Abort,
+    global: Global,
+    rationed: Rations<'a>,
+    left: u64,
+    growths: u64,
+) {
+    assert!(rt; most_growths::<H, C>(rt, global, rationed, left) >= growths);
+}
+
 fn refuse_trees<'a, H: Handle<'a>>(rt: &impl Abort, global: Global, rationed: Rations<'a>) {
-    assert!(rt; most_growths::<H, Spare<H>>(rt, global, rationed, 0) >= 4);
-    assert!(rt; most_growths::<H, Copied<H>>(rt, global, rationed, 0) >= 24);
-    assert!(rt; most_growths::<H, FromSorted<H>>(rt, global, rationed, 0) >= 24);
+    at_least::<H, Spare<H>>(rt, global, rationed, 0, 4);
+    at_least::<H, Copied<H>>(rt, global, rationed, 0, 24);
+    at_least::<H, FromSorted<H>>(rt, global, rationed, 0, 24);
 }
 
 fn refuse_positions<'a, P: Positions<H>, H: Handle<'a>>(
@@ -53,25 +64,25 @@ fn refuse_positions<'a, P: Positions<H>, H: Handle<'a>>(
     rationed: Rations<'a>,
     least: &Least,
 ) {
-    assert!(rt; most_growths::<H, Prepare<P>>(rt, global, rationed, 4) >= least.prepare);
-    assert!(rt; most_growths::<H, Rebuilt<P>>(rt, global, rationed, 0) >= least.rebuilt);
-    assert!(rt; most_growths::<H, Run<P, H>>(rt, global, rationed, 0) >= least.run);
-    assert!(rt; most_growths::<H, NextPositions<P, H>>(rt, global, rationed, 0) >= least.next);
-    assert!(rt; most_growths::<H, Opened<P, H>>(rt, global, rationed, 0) >= least.opened);
+    at_least::<H, Prepare<P>>(rt, global, rationed, 4, least.prepare);
+    at_least::<H, Rebuilt<P>>(rt, global, rationed, 0, least.rebuilt);
+    at_least::<H, Run<P, H>>(rt, global, rationed, 0, least.run);
+    at_least::<H, NextPositions<P, H>>(rt, global, rationed, 0, least.next);
+    at_least::<H, Opened<P, H>>(rt, global, rationed, 0, least.opened);
 }
 
 fn refuse_trades<'a, H: Handle<'a>>(rt: &impl Abort, global: Global, rationed: Rations<'a>) {
-    assert!(rt; most_growths::<H, List<H>>(rt, global, rationed, 0) >= 1);
-    assert!(rt; most_growths::<H, NoteReference<H>>(rt, global, rationed, 0) >= 1);
-    assert!(rt; most_growths::<H, PendTrade<H>>(rt, global, rationed, 2) >= 2);
-    assert!(rt; most_growths::<H, Declare<H>>(rt, global, rationed, 0) >= 1);
+    at_least::<H, List<H>>(rt, global, rationed, 0, 1);
+    at_least::<H, NoteReference<H>>(rt, global, rationed, 0, 1);
+    at_least::<H, PendTrade<H>>(rt, global, rationed, 2, 2);
+    at_least::<H, Declare<H>>(rt, global, rationed, 0, 1);
 }
 
 fn refuse_notices<'a, H: Handle<'a>>(rt: &impl Abort, global: Global, rationed: Rations<'a>) {
-    assert!(rt; most_growths::<H, Open<H>>(rt, global, rationed, 0) >= 2);
-    assert!(rt; most_growths::<H, Choose<H>>(rt, global, rationed, 0) >= 2);
-    assert!(rt; most_growths::<H, Fill<H>>(rt, global, rationed, 0) >= 1);
-    assert!(rt; most_growths::<H, Cut<H>>(rt, global, rationed, 0) >= 1);
+    at_least::<H, Open<H>>(rt, global, rationed, 0, 2);
+    at_least::<H, Choose<H>>(rt, global, rationed, 0, 2);
+    at_least::<H, Fill<H>>(rt, global, rationed, 0, 1);
+    at_least::<H, Cut<H>>(rt, global, rationed, 0, 1);
 }
 
 fn refuse_each<'a, H: Handle<'a>>(rt: &impl Abort, global: Global, rationed: Rations<'a>) {
@@ -80,12 +91,11 @@ fn refuse_each<'a, H: Handle<'a>>(rt: &impl Abort, global: Global, rationed: Rat
     refuse_positions::<FlatPositions<H>, H>(rt, global, rationed, &IN_FLAT);
     refuse_trades::<H>(rt, global, rationed);
     refuse_notices::<H>(rt, global, rationed);
+    at_least::<H, Opening<H>>(rt, global, rationed, 0, 2);
 }
 
 #[test]
 fn each_growth_of_each_call_below_the_book_is_refused_in_turn(rt: HostRuntime) {
     let rationed = Rationed::new(rt.alloc());
     refuse_each::<Refusing>(&rt, rt.alloc(), &rationed);
-    let copies = most_growths::<Refusing, Opening<Refusing>>(&rt, rt.alloc(), &rationed, 0);
-    assert!(rt; copies >= 2);
 }

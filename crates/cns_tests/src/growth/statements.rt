@@ -2,8 +2,10 @@
 use crate::growth::book::{RationedBook, opened, play};
 use crate::growth::refusing::Call;
 use crate::growth::units::key;
-use crate::values::day;
+use crate::values::first_day;
+use cns_sheets::Sheet;
 use cns_statements::statement;
+use cns_units::Account;
 use std::alloc::{Allocator, Global};
 use std::process::Abort;
 
@@ -27,10 +29,14 @@ impl<H: Allocator + Drop + Clone> Call<H> for Cut<H> {
 
     fn make(&mut self, rt: &impl Abort) -> bool {
         let account = key(rt, 1).account;
-        let sheet = self.book.sheet(day(rt, "2024-06-03")).expect(rt, "a sheet");
-        match self.alloc.clone() {
-            Ok(alloc) => statement(alloc, &**sheet, account).is_ok(),
-            Err(_) => false,
-        }
+        let sheet = self.book.sheet(first_day(rt)).expect(rt, "a sheet");
+        is_cut(&self.alloc, &**sheet, account)
+    }
+}
+
+fn is_cut<H: Allocator + Drop + Clone>(alloc: &H, sheet: &Sheet<H>, account: Account) -> bool {
+    match alloc.clone() {
+        Ok(alloc) => statement(alloc, sheet, account).is_ok(),
+        Err(_) => false,
     }
 }
