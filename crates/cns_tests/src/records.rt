@@ -12,12 +12,8 @@ pub(crate) fn next(source: &mut CsvSource<&[u8]>) -> Option<Command> {
     }
 }
 
-// The command of a record, if it has one.
-fn read(alloc: Global, record: &str) -> Option<Command> {
-    next(&mut CsvSource::new(alloc, record.as_bytes()))
-}
-
 // The command of a record.
 pub(crate) fn command(rt: &impl Abort, alloc: Global, record: &str) -> Command {
-    read(alloc, record).expect(rt, "a command")
+    let command = next(&mut CsvSource::new(alloc, record.as_bytes()));
+    command.expect(rt, "a command")
 }

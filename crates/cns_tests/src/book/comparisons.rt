@@ -8,7 +8,7 @@ use crate::values::{APPLE, key};
 use cns_positions::{Positions, TreePositions};
 use cns_terms::{Holding, Key, Probe};
 use cns_tree::Tree;
-use std::alloc::{Allocator, Global};
+use std::alloc::Global;
 use std::process::Abort;
 
 // Numbers of rows, with twice their binary digits.
@@ -42,14 +42,8 @@ fn is_changed(tree: &mut Tree<u32, Global>, key: &Key, most: u64) -> bool {
 }
 
 // Whether a put takes few comparisons.
-fn is_put<V: Copy, A: Allocator + Clone>(
-    rt: &impl Abort,
-    tree: &mut Tree<V, A>,
-    key: &Key,
-    value: V,
-    most: u64,
-) -> bool {
-    let mut spare = tree.spare(1, value).expect(rt, "memory");
+fn is_put(rt: &impl Abort, tree: &mut Tree<u32, Global>, key: &Key, value: u32, most: u64) -> bool {
+    let mut spare = tree.spare(1, 0).expect(rt, "memory");
     let mut probe = Probe::new(*key);
     tree.put_counted(*key, value, &mut spare, &mut probe);
     is_few(probe.count(), most)
@@ -71,25 +65,16 @@ fn is_added(rt: &impl Abort, tree: &mut Tree<u32, Global>, key: &Key, most: u64)
         && tree.get(*key) == Some(7)
 }
 
-// Whether few comparisons are taken at each row of a tree.
-fn are_rows(
-    rt: &impl Abort,
-    tree: &mut Tree<u32, Global>,
-    order: Order,
-    size: &(u32, u64),
-) -> bool {
-    for place in 0..size.0 {
-        let key = &placed_key(rt, order, size.0, place);
-        if !is_row(rt, tree, key, place, size.1) {
+// Whether few comparisons are taken at each row of a tree, and at a key that it does not have.
+fn are_few(rt: &impl Abort, tree: &mut Tree<u32, Global>, order: Order, size: &(u32, u64)) -> bool {
+    let (rows, most) = *size;
+    for place in 0..rows {
+        let key = &placed_key(rt, order, rows, place);
+        if !is_row(rt, tree, key, place, most) {
             return false;
         }
     }
-    true
-}
-
-// The same, and at a key that it does not have.
-fn are_few(rt: &impl Abort, tree: &mut Tree<u32, Global>, order: Order, size: &(u32, u64)) -> bool {
-    are_rows(rt, tree, order, size) && is_added(rt, tree, &key(rt, 9_999, APPLE), size.1)
+    is_added(rt, tree, &key(rt, 9_999, APPLE), most)
 }
 
 fn check_size(rt: &impl Abort, alloc: Global, order: Order, size: &(u32, u64)) {
@@ -97,18 +82,14 @@ fn check_size(rt: &impl Abort, alloc: Global, order: Order, size: &(u32, u64)) {
     assert!(rt; are_few(rt, &mut tree, order, size));
 }
 
-fn check_order(rt: &impl Abort, alloc: Global, order: Order) {
-    for size in &SIZES {
-        check_size(rt, alloc, order, size);
-    }
-}
-
 #[test]
 fn a_look_up_takes_two_comparisons_for_each_binary_digit_at_most_and_none_in_an_empty_tree(
     rt: HostRuntime,
 ) {
     for order in &ORDERS {
-        check_order(&rt, rt.alloc(), *order);
+        for size in &SIZES {
+            check_size(&rt, rt.alloc(), *order, size);
+        }
     }
 }
 

@@ -48,19 +48,6 @@ pub(crate) fn play<P: Positions<A>, A: Allocator + Drop + Clone>(
     }
 }
 
-// Gives a book the next command of a source; false where there is none.
-fn take_next<P: Positions<A>, A: Allocator + Drop + Clone>(
-    rt: &impl Abort,
-    source: &mut CsvSource<&[u8]>,
-    book: &mut Book<P, A>,
-) -> bool {
-    let Some(command) = next(source) else {
-        return false;
-    };
-    take(rt, book, command);
-    true
-}
-
 // Gives a book the commands of a source, up to its end.
 fn take_all<P: Positions<A>, A: Allocator + Drop + Clone>(
     rt: &impl Abort,
@@ -68,9 +55,10 @@ fn take_all<P: Positions<A>, A: Allocator + Drop + Clone>(
     book: &mut Book<P, A>,
 ) {
     for _record in 0..1_000 {
-        if !take_next(rt, source, book) {
+        let Some(command) = next(source) else {
             return;
-        }
+        };
+        take(rt, book, command);
     }
     panic!(rt; "too many records");
 }

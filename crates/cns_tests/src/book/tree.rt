@@ -22,17 +22,12 @@ fn filled<A: Allocator + Clone>(rt: &impl Abort, alloc: A, count: u16) -> Tree<u
     tree
 }
 
-// Whether a row is that of a number.
-fn is_row(rt: &impl Abort, row: &(Key, u64), number: u16) -> bool {
-    row.0 == key(rt, number, APPLE) && row.1 == u64::from(number)
-}
-
 // Whether there are so many rows, and a walk gives the keys 1 to `count`, each with its number as value.
 fn counts_to<A: Allocator + Clone>(rt: &impl Abort, tree: &Tree<u64, A>, count: u16) -> bool {
     let mut number = 0u16;
     for row in tree.walk() {
         number = number.saturating_add(1);
-        if !is_row(rt, &row, number) {
+        if row != (key(rt, number, APPLE), u64::from(number)) {
             return false;
         }
     }
@@ -143,18 +138,13 @@ pub(crate) fn placed_tree(
     tree
 }
 
-// Account and issue, as numbers that rise as keys do.
-fn numbers_of(key: &Key) -> (u16, u64) {
-    (key.account.value(), key.issue.body())
-}
-
 // The sum of the values that a walk gives, as 32 bits hold it, where its keys strictly rise: by account, and then by the
 // bytes of the issue.
 fn sum_of_walk(tree: &Tree<u32, Global>) -> Option<u32> {
     let mut sum = 0u32;
     let mut last = (0u16, 0u64);
     for (key, value) in tree.walk() {
-        let next = numbers_of(&key);
+        let next = (key.account.value(), key.issue.body());
         if next <= last {
             return None;
         }

@@ -8,10 +8,11 @@ use cns_terms::{Command, Reply};
 use std::alloc::Global;
 use std::process::Abort;
 
-// Puts the commands of a source into a list.
-fn read(rt: &impl Abort, source: &mut CsvSource<&[u8]>, commands: &mut Vec<Command>) {
+// Puts the commands of a text of records into a list.
+fn read(rt: &impl Abort, alloc: Global, records: &str, commands: &mut Vec<Command>) {
+    let mut source = CsvSource::new(alloc, records.as_bytes());
     for _record in 0..1_000 {
-        let Some(command) = next(source) else {
+        let Some(command) = next(&mut source) else {
             return;
         };
         assert!(rt; commands.push(command).is_ok());
@@ -20,8 +21,7 @@ fn read(rt: &impl Abort, source: &mut CsvSource<&[u8]>, commands: &mut Vec<Comma
 
 pub(crate) fn commands(rt: &impl Abort, alloc: Global, records: &str) -> Vec<Command> {
     let mut commands = Vec::new(alloc);
-    let mut source = CsvSource::new(alloc, records.as_bytes());
-    read(rt, &mut source, &mut commands);
+    read(rt, alloc, records, &mut commands);
     commands
 }
 

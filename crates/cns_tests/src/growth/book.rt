@@ -44,20 +44,6 @@ fn take<P: Positions<H>, H: Allocator + Drop + Clone>(
     book.take(Worker::FIRST, *command)
 }
 
-// Gives a book the next command of a source, which is not refused; false where there is none.
-fn play_next<P: Positions<H>, H: Allocator + Drop + Clone>(
-    rt: &impl Abort,
-    source: &mut CsvSource<&[u8]>,
-    book: &mut Book<P, H>,
-) -> bool {
-    let Some(command) = next(source) else {
-        return false;
-    };
-    let receipt = take(book, &command).expect(rt, "taken");
-    assert!(rt; !is_refusal(&receipt.reply));
-    true
-}
-
 // Gives a book the commands of a source, none of which is refused.
 fn play_all<P: Positions<H>, H: Allocator + Drop + Clone>(
     rt: &impl Abort,
@@ -65,9 +51,11 @@ fn play_all<P: Positions<H>, H: Allocator + Drop + Clone>(
     book: &mut Book<P, H>,
 ) {
     for _record in 0..100 {
-        if !play_next(rt, source, book) {
+        let Some(command) = next(source) else {
             return;
-        }
+        };
+        let receipt = take(book, &command).expect(rt, "taken");
+        assert!(rt; !is_refusal(&receipt.reply));
     }
 }
 
@@ -287,11 +275,9 @@ fn check_case<'a, P: Positions<H>, H: Handle<'a>>(
     check(rt, is_so && is_one_more, case.record);
 }
 
-fn check_accepted<'a, P: Positions<H>, H: Handle<'a>>(
-    rt: &impl Abort,
-    global: Global,
-    rationed: Rations<'a>,
-) {
+#[test]
+fn each_growth_of_each_command_is_refused_in_turn(rt: HostRuntime) {
+    let rationed = Rationed::new(rt.alloc());
     for (before, record, growths, left) in &ACCEPTED {
         let case = &Case {
             before: *before,
@@ -300,21 +286,13 @@ fn check_accepted<'a, P: Positions<H>, H: Handle<'a>>(
             growths: *growths,
             left: *left,
         };
-        check_case::<P, H>(rt, global, rationed, case);
+        check_case::<Tree<Refusing>, Refusing>(&rt, rt.alloc(), &rationed, case);
     }
 }
 
 #[test]
-fn each_growth_of_each_command_is_refused_in_turn(rt: HostRuntime) {
+fn a_command_that_breaks_a_rule_asks_for_room_in_the_history_alone(rt: HostRuntime) {
     let rationed = Rationed::new(rt.alloc());
-    check_accepted::<Tree<Refusing>, Refusing>(&rt, rt.alloc(), &rationed);
-}
-
-fn check_refused<'a, P: Positions<H>, H: Handle<'a>>(
-    rt: &impl Abort,
-    global: Global,
-    rationed: Rations<'a>,
-) {
     for (before, record) in &REFUSED {
         let case = &Case {
             before: *before,
@@ -323,14 +301,8 @@ fn check_refused<'a, P: Positions<H>, H: Handle<'a>>(
             growths: 0,
             left: 0,
         };
-        check_case::<P, H>(rt, global, rationed, case);
+        check_case::<Tree<Refusing>, Refusing>(&rt, rt.alloc(), &rationed, case);
     }
-}
-
-#[test]
-fn a_command_that_breaks_a_rule_asks_for_room_in_the_history_alone(rt: HostRuntime) {
-    let rationed = Rationed::new(rt.alloc());
-    check_refused::<Tree<Refusing>, Refusing>(&rt, rt.alloc(), &rationed);
 }
 
 // The one growth more is that of the list of what is due.

@@ -19,24 +19,17 @@ const ISSUES: [&str; 3] = ["037833100", "17275R102", "594918104"];
 // More entries than a history here has.
 const ENTRIES: u32 = 40;
 
-fn same_entry<P: Positions<H>, H: Allocator + Drop + Clone>(
-    one: &Book<P, H>,
-    other: &Book<P, H>,
-    place: u32,
-) -> bool {
-    match (one.entry(place), other.entry(place)) {
-        (Some(entry), Some(twin)) => entry.is_same(&twin),
-        (None, None) => true,
-        _ => false,
-    }
-}
-
 fn same_entries<P: Positions<H>, H: Allocator + Drop + Clone>(
     one: &Book<P, H>,
     other: &Book<P, H>,
 ) -> bool {
     for place in 0..ENTRIES {
-        if !same_entry(one, other, place) {
+        let alike = match (one.entry(place), other.entry(place)) {
+            (Some(entry), Some(twin)) => entry.is_same(&twin),
+            (None, None) => true,
+            _ => false,
+        };
+        if !alike {
             return false;
         }
     }
