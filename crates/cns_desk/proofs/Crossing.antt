@@ -26,7 +26,6 @@ use Rattle.cns_desk.specs.contracts.worker.Done
 use Rattle.cns_desk.specs.contracts.worker.Shared
 use Rattle.cns_desk.specs.contracts.seat.Seat
 use Rattle.cns_desk.specs.contracts.seat.Seat.TheInside as of_seat
-use Rattle.cns_desk.specs.contracts.end.End
 
 -- an item of a log may
 item_send : IsSend LogItem.the_row

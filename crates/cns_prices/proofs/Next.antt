@@ -1,6 +1,6 @@
 -- The first listed issue above another.
 -- For `next_listed` of prices.rt.
-use Rattle.cns_prices.proofs.Common.{◌≡◌, ◌∙◌, sym, ap, Bool, true, ◌&&◌, ◌∷◌, map, filter, Option, Some, None, is_lt, nat_cmp, Less, Cusip, is_sorted, less, nat_list_cmp_total, next_above, range_contains, slice_cmp, Quote, Listed, is_after, listed_above, arith}
+use Rattle.cns_prices.proofs.Common.{◌≡◌, ◌∙◌, sym, ap, true, ◌∷◌, map, filter, Option, Some, None, is_lt, nat_cmp, Less, Cusip, is_sorted, less, nat_list_cmp_total, next_above, range_contains, slice_cmp, Quote, Listed, is_after, listed_above, arith}
 use Rattle.std.specs.declared.ops.Bound.{Bound}
 use Rattle.std.specs.declared.ops.Bound.TheVariants.{Excluded, Unbounded}
 
@@ -9,11 +9,8 @@ abbrev pub start_of : Option Cusip → Bound Cusip
 start_of None = Unbounded
 start_of (Some low) = Excluded low
 
-and_true : (b : Bool) → (b && true) ≡ b
-and_true b = grind arith
-
 is_within : (after : Option Cusip) (c : Cusip) → range_contains (slice_cmp nat_cmp) (start_of after) Unbounded c ≡ is_after after c
-is_within after c = grind (arith, and_true, is_lt, slice_cmp, nat_cmp)
+is_within after c = grind (arith, is_lt, slice_cmp, nat_cmp)
 
 -- the same entries by the two tests
 same_entries : (after : Option Cusip) (es : Listed) → filter (λ e. range_contains (slice_cmp nat_cmp) (start_of after) Unbounded e.0) es ≡ filter (λ e. is_after after e.0) es

@@ -100,7 +100,6 @@ impl<A: Allocator + Drop> Prices<A> {
     }
 
     /// Sets the price of an issue that is listed and not retired. It takes no memory.
-    #[tactic(auto, using(crate::proofs::Quoted::has_quote, crate::proofs::Quoted::priced, crate::proofs::Quoted::unmarked))]
     pub fn set(&mut self, cusip: Cusip, price: Price)
     where
         A: Clone,
@@ -118,7 +117,6 @@ impl<A: Allocator + Drop> Prices<A> {
     }
 
     /// Retires an issue that is listed and not retired, for good; its price stays. It takes no memory.
-    #[tactic(auto, using(crate::proofs::Quoted::repriced, crate::proofs::Quoted::retires))]
     pub fn retire(&mut self, cusip: Cusip)
     where
         A: Clone,

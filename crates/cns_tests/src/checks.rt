@@ -1,4 +1,4 @@
-// Ends of tests: an assertion with a text of its own takes some seconds to check wherever it stands, so those stand here.
+// Ends of tests: an assertion with a text of its own takes a second or two to check wherever it stands, so those stand here.
 use std::process::Abort;
 
 // Ends the test, with the words for what was looked at, where something is not so.

@@ -1,22 +1,23 @@
 // Commands, replies and statements as the texts that a clerk reads.
-use crate::records::next;
 use crate::values::account;
 use cns_feed::{CsvSource, reply_text};
 use cns_sheets::Sheet;
 use cns_statements::{statement, write_statement};
-use cns_terms::{Command, Reply};
+use cns_terms::{Command, Item, Reply, Source};
 use std::alloc::Global;
 use std::process::Abort;
 
-// Puts the commands of a text of records into a list.
+// Puts the commands of a text of records, none of which is invalid, into a list.
 fn read(rt: &impl Abort, alloc: Global, records: &str, commands: &mut Vec<Command>) {
     let mut source = CsvSource::new(alloc, records.as_bytes());
-    for _record in 0..1_000 {
-        let Some(command) = next(&mut source) else {
-            return;
-        };
-        assert!(rt; commands.push(command).is_ok());
+    for _record in 0..=records.len() {
+        match source.next() {
+            Ok(Item::Given(command)) => commands.push(command).expect(rt, "memory"),
+            Ok(Item::Finished) => return,
+            _ => panic!(rt; "no command"),
+        }
     }
+    panic!(rt; "no end of the records");
 }
 
 pub(crate) fn commands(rt: &impl Abort, alloc: Global, records: &str) -> Vec<Command> {

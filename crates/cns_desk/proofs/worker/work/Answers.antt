@@ -8,3 +8,6 @@ loop-turn-preserved g c = record {
   count = omega (arith, c.loop-turn.invariant.count, c.step.ensures.seat);
   lines = omega (arith, c.loop-turn.invariant.lines, c.step.ensures.lines);
 }
+
+pub returns : goal.returns
+returns g c = grind (arith, c.loop-turn.invariant.told, c.loop-turn-test.false)

@@ -1,5 +1,5 @@
-use Rattle.cns_prices.proofs.Common.{sym, quote_in}
-use Rattle.cns_prices.proofs.Quoted.{priced, unmarked, unlisted}
+use Rattle.cns_prices.proofs.Common.{◌≡◌, sym, None, price_in, arith}
+use Rattle.cns_prices.proofs.Quoted.{priced, unmarked}
 use Rattle.cns_prices.proofs.prices.Prices.list.Goals as goal
 
 pub returns-clause-price : goal.returns-clause-price
@@ -7,4 +7,4 @@ returns-clause-price g c = rw (sym c.self.view_is) (priced c.self.inside.issues.
 
 pub returns-clause-retired : goal.returns-clause-retired
 returns-clause-retired g c = rw (sym c.self.view_is) (unmarked c.self.inside.issues.entries c.insert.new.self.entries c.args.cusip _ c.in_ok-insert.ensures.updates.0
-    (unlisted (quote_in c.self.inside.issues.entries c.args.cusip) (rw c.self.view_is c.requires)))
+    (let none : price_in c.self.inside.issues.entries c.args.cusip ≡ None = rw c.self.view_is c.requires in grind (arith, none)))
