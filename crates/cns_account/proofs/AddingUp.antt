@@ -1,12 +1,11 @@
 -- What moved a position adds up.
 -- For `moves_add_up` of laws.rt.
-use Rattle.cns_account.proofs.Common.{◌*◌, ◌≡◌, ◌∙◌, sym, ap, refl, ℕ, ◌+◌, ◌-◌, ◌^◌, ◌<◌, ◌≤◌, ℤ, ◌+ℤ◌, List, [], ◌∷◌, ◌++◌, length, option_map, option_to_list, reverse, Option, Some, None, Ok, arith, Pend, total, trades, next, Width, AllByRecursion, ints, take_all, Day, State, journal_of, length-reverse, open_day, opened, row, Key, Row, Log, state_of, Line, state_after_line, blank_log, log_after_line, IsLineInRange, IsReached, MovesAddUp, day_closed, last_of, of_causes, moved_at, Moves, subst, Taken, looked_at, answer, unsigned_abs, amount_limit, limited, Command, Activity, AddUp, Watched, ◌⊎◌, inl, inr, nil_from_length, flat_map, map, not, Journal, accounts, date, each_append, equal, exact_keys, is_idle, issues, journal, key_cmp, price, price_limit, rows_of, sheet_rows, Cusip, row_at, row_on, is_eq, filter, cond_both, Account, log_after, history, closes}
+use Rattle.cns_account.proofs.Common.{row_key, ◌*◌, ◌≡◌, ◌∙◌, sym, ap, refl, ℕ, ◌+◌, ◌-◌, ◌^◌, ◌<◌, ◌≤◌, ℤ, ◌+ℤ◌, List, [], ◌∷◌, ◌++◌, length, option_map, option_to_list, reverse, Option, Some, None, Ok, arith, Pend, total, trades, next, Width, AllByRecursion, ints, take_all, Day, State, journal_of, length-reverse, open_day, opened, row, Key, Row, Log, state_of, Line, state_after_line, blank_log, log_after_line, IsLineInRange, IsReached, MovesAddUp, day_closed, last_of, of_causes, moved_at, Moves, subst, Taken, looked_at, answer, unsigned_abs, amount_limit, limited, Command, Activity, AddUp, Watched, ◌⊎◌, inl, inr, nil_from_length, flat_map, map, not, Journal, accounts, date, each_append, equal, exact_keys, is_idle, issues, journal, key_cmp, price, price_limit, rows_of, sheet_rows, Cusip, row_at, row_on, is_eq, filter, cond_both, Account, log_after, history, closes}
 use Rattle.cns_account.proofs.Recorded.{all_booked, open_parts, settles, IsClose, IsCounted, all_records, at_first, cents_counted, closing_line, kept_more, shares_counted, size_few, state_line}
 use Rattle.cns_account.proofs.Marked.{marked}
 use Rattle.cns_history.proofs.Limits.{standing_small}
 use Rattle.cns_account.proofs.Named.{stands, more}
 use Rattle.cns_account.proofs.Summed.{Comes, entry_at, exact, same}
-use Rattle.cns_sheets.specs.Build.{key_of}
 
 module _ (opening : Day) (K : Journal) where
   -- a row is that of its place
@@ -24,8 +23,8 @@ module _ (opening : Day) (K : Journal) where
   found_row : (rows : List Row) (k : Key) (r : Row) → AllByRecursion IsPlaced rows → row_at rows k ≡ Some r → r ≡ row opening K k.account k.issue
   found_row [] k r all is = cc
   found_row (x ∷ rows) k r all is =
-      cond_both (is_eq (key_cmp k (key_of x))) (Some x) (row_at rows k) (λ o. o ≡ Some r → r ≡ row opening K k.account k.issue)
-      (λ same e. let first : r ≡ x = cc in first ∙ all.0 ∙ ap (λ (q : Key). row opening K q.account q.issue) (sym (exact_keys k (key_of x) (equal _ same)))) (λ other. found_row rows k r all.1) is
+      cond_both (is_eq (key_cmp k (row_key x))) (Some x) (row_at rows k) (λ o. o ≡ Some r → r ≡ row opening K k.account k.issue)
+      (λ same e. let first : r ≡ x = cc in first ∙ all.0 ∙ ap (λ (q : Key). row opening K q.account q.issue) (sym (exact_keys k (row_key x) (equal _ same)))) (λ other. found_row rows k r all.1) is
 
   pub row_is : (k : Key) (r : Row) → row_at (sheet_rows opening K) k ≡ Some r → r ≡ row opening K k.account k.issue
   row_is k r is = found_row (sheet_rows opening K) k r (placed_all (accounts K)) is

@@ -18,7 +18,7 @@ unfoldable pub use Rattle.cns_history.specs.Lines.{history, numbers}
 pub use Rattle.cns_history.specs.Lines.{accounts_in, booked, booked_since, booking, bookings_at, bookings_since, both, closing, counted_from, each, has_position, is_movement, is_nothing, is_open, is_wanted, lines_at, lines_of, named, place, places, row_on, standing, stood}
 pub use Rattle.cns_sheets.specs.Search.{prices_above, row_at}
 pub use Rattle.cns_terms.proofs.BuyIns.{each_named, execution_cents}
-pub use Rattle.cns_terms.proofs.Common.{Account, Cusip, Day, IsReached, IsSound, IsWhole, Journal, NoneHolds, Notice, Price, State, accounts, added-more, against_corporation, all_fail, amount_limit, and_false, answer, bytes_eq-Decides, cases_lt, cents_for, corporation, date, day_number, each_append, entries, equal, exact_keys, fill_entry, fills, filter-append, holders, holds, idle_parts, is_account, is_close, is_idle, is_listed, is_same_day, issues, journal, journal_of, key_cmp, last_close, length-reverse, limited, list_any, magnitude, members, money, money_limit, nat_list_eq_equiv, nat_tests, neither, new_entry, next, notice_at, notices, old_entry, open_day, opened, option_map_or, pend_of, pending, posting, price, price_limit, refusal, reverse_onto, row, rows_of, same_key, shares_for, shares_limit, shares_of_fills, sheet_rows, total, total-append, total_small, trade_entries, trades}
+pub use Rattle.cns_terms.proofs.Common.{Account, Cusip, Day, IsReached, IsSound, IsWhole, Journal, NoneHolds, Notice, Price, State, accounts, added-more, against_corporation, all_fail, amount_limit, and_false, answer, bytes_eq-Decides, cases_lt, cents_for, corporation, date, day_number, each_append, entries, equal, exact_keys, fill_entry, fills, filter-append, holders, holds, idle_parts, is_account, is_close, is_idle, is_listed, is_same_day, issues, journal, journal_of, key_cmp, last_close, length-reverse, limited, list_any, magnitude, members, money, money_limit, nat_list_eq_equiv, nat_tests, neither, new_entry, next, notice_at, notices, old_entry, open_day, opened, option_map_or, pend_of, pending, posting, price, price_limit, refusal, reverse_onto, row, row_key, rows_of, same_key, shares_for, shares_limit, shares_of_fills, sheet_rows, total, total-append, total_small, trade_entries, trades}
 pub use Rattle.cns_terms.specs.declared.holding.Entry.{Entry}
 pub use Rattle.cns_terms.specs.declared.pend.Pend.{Pend}
 pub use Rattle.cns_terms.proofs.Sound.{IsNoticed, both_hold, whole-next, whole-post, whole_nil}

@@ -1,13 +1,9 @@
 -- Lists and maps that are gathered item by item, of lines or of a history.
--- For `bookings_in` of booked.rt, `add_entry` of past.rt, `add_paid` of dividends.rt; `line_of_days` of figures.rt in cns_page; `add_entry` and `add_line` of day_moves.rt; `add_side` of pending.rt in cns_page, `add` of issues.rt in cns_page; `gather` of past.rt; `gather` of projection.rt in cns_page, `first` of sought.rt in cns_page, `live_notices` of notices.rt in cns_page.
+-- For `line_of_days` of figures.rt in cns_page; `add_entry` and `add_line` of day_moves.rt; `add_side` of pending.rt in cns_page, `add` of issues.rt in cns_page; `gather` of past.rt; `gather` of projection.rt in cns_page, `first` of sought.rt in cns_page, `live_notices` of notices.rt in cns_page.
 use Rattle.cns_account.proofs.Common.{◌≡◌, ◌∙◌, sym, ap, ℕ, ◌+◌, ◌<◌, List, [], ◌∷◌, ◌++◌, Option, filter_map, get_or, length, take, take-suc, cons_option, cond, Some, unwrap_or, is_eq, Ordering, arith, equal, suc, ◌-◌, ◌^◌, ◌≤◌, None, reverse, slice_get, take_all, Taken, entry_at, looked_at, refl, take_more}
 use Rattle.std.proofs.lemmas.List.Elements.{filter_map-append}
 use Rattle.std.proofs.lemmas.Map.Lookups.{CmpEqualImpliesEq}
 use Rattle.std.proofs.lemmas.Option.{get_or_from_slice_get, slice_get_within, slice_get_cases}
-
--- two lists
-pub both_given : {X Y : Type 0} (f : X → Option Y) (xs ys : List X) → filter_map f (xs ++ ys) ≡ filter_map f xs ++ filter_map f ys
-both_given f xs ys = filter_map-append f xs ys
 
 -- one more of a list
 pub given_more : {X Y : Type 0} (f : X → Option Y) (xs : List X) (i : ℕ) (x : X) (o : Option Y) (items : List Y) → i < length xs → get_or xs i x ≡ x → f x ≡ o

@@ -1,6 +1,6 @@
 -- The rows of an account's day, and their texts.
 use Rattle.std.specs.Prelude.{ℕ, ℤ, pos, ◌+ℤ◌, ◌-ℤ◌, ◌*ℤ◌, int_lt, List, [], ◌∷◌, ◌++◌, Option, Some, None, if◌then◌else◌}
-use Rattle.cns_account.specs.Common.{int_wrap, w128, fold, Price, State, Key, Row, standing, worth, Booking, HistoryLine, row_of, filled, ROW, DayMoves, Moved, Moves, Piece, piece_text}
+use Rattle.cns_account.specs.Common.{int_wrap, row_key, w128, fold, Price, State, Key, Row, standing, worth, Booking, HistoryLine, row_of, filled, ROW, DayMoves, Moved, Moves, Piece, piece_text}
 use Rattle.std.specs.Fmt.{decimal}
 use Rattle.cns_history.specs.Words.{what_text}
 use Rattle.cns_tables.specs.Escape.{escaped}
@@ -14,13 +14,9 @@ use Rattle.cns_account.specs.declared.totals.Totals.{Totals}
 
 -- ---- the rows
 
--- the place of a row
-abbrev pub place_of : Row → Key
-place_of r = record { account = r.account; issue = r.issue }
-
 -- a row of the sheet, with what moved it on the day, and the age that the book shows
 abbrev pub account_row : State → DayMoves → Row → AccountRow
-account_row S ms r = record { row = r; moves = moves_at ms (place_of r); age = (standing S (place_of r)).run }
+account_row S ms r = record { row = r; moves = moves_at ms (row_key r); age = (standing S (row_key r)).run }
 
 -- the same for the table of marks
 abbrev pub mark_row : AccountRow → MarkRow

@@ -32,7 +32,7 @@ fn booking_in(line: &HistoryLine) -> Option<Booked>
 }
 
 /// The bookings among lines, in order.
-#[tactic(auto, using(crate::proofs::Gathered::both_given, std::proofs::lemmas::Grind::common_steps))]
+#[tactic(auto, using(cns_history::proofs::Owned::both_given, std::proofs::lemmas::Grind::common_steps))]
 pub(crate) fn bookings_in(alloc: Global, lines: &[HistoryLine]) -> Result<Vec<Booked>, NoMemory>
     ensures { IfOk result (λ v. v.items ≡ filter_map booking_in lines.now) }
 {

@@ -190,7 +190,7 @@ fn paid_in(
 }
 
 // Adds what dividends pay an account in an issue.
-#[tactic(auto, using(crate::proofs::Gathered::both_given, std::proofs::lemmas::Grind::common_steps))]
+#[tactic(auto, using(cns_history::proofs::Owned::both_given, std::proofs::lemmas::Grind::common_steps))]
 fn add_paid(
     book: &ReplayBook,
     days: &[Day],

@@ -64,7 +64,7 @@ pub(crate) fn add_if_any<T: Copy>(items: &mut Vec<T>, item: Option<T>) -> Result
 }
 
 // Adds what an entry tells.
-#[tactic(auto, using(crate::proofs::Gathered::both_given, std::proofs::lemmas::Grind::common_steps))]
+#[tactic(auto, using(cns_history::proofs::Owned::both_given, std::proofs::lemmas::Grind::common_steps))]
 fn add_entry(past: &mut Past, entry: &Taken) -> Result<(), NoMemory>
     ensures { OnOk result ((ts : List Taken) → IsGathered ts past.old → IsGathered (ts ++ entry.now ∷ []) past.new) }
 {

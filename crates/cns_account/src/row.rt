@@ -28,10 +28,7 @@ pub struct AccountRow {
 fn account_row(book: &ReplayBook, moves: &DayMoves, row: &Row) -> AccountRow
     ensures { result ≡ account_row (state_of book.now.log) moves.now row.now }
 {
-    let key = Key {
-        account: row.account,
-        issue: row.issue,
-    };
+    let key = row.key();
     AccountRow {
         row: *row,
         moves: moves.at(&key),

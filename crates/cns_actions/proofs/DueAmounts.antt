@@ -1,6 +1,6 @@
 -- What trades book, added up by key.
 -- For `listed` of due_bookings.rt, `add`, `add_trade` and `of` of due_amounts.rt.
-use Rattle.cns_actions.proofs.Common.{◌≡◌, ◌≢◌, ◌∙◌, refl, ℕ, ◌+◌, ◌*◌, ◌^◌, ◌≤◌, ◌<◌, ◌+ℤ◌, true, false, cond, unsigned_abs, List, [], ◌∷◌, map, Some, None, arith, is_eq, AllByRecursion, IsSmall, each_map, each_weaker, Amount, AmountsByKey, AreApartFrom, AreElsewhere, AreSmall, Day, Entry, HasRoomForTrade, Holding, IsOneTradeMore, IsSmallAmount, Key, Pend, amount_at, amount_for, amount_of, as_booking, below_all, buyer_entry, by_key, due_entries, equal, exact_keys, find, find_below, insert_entry, ints, is_sorted, key_cmp, key_of, keys_total, lookup, makes, money_limit, same_key, seller_entry, shares_limit, tied_below, tied_itself, trade_entries, with_amount, with_entry, +ℤ_assoc, +ℤ_comm, +ℤ_idl, +ℤ_idr, max-zero}
+use Rattle.cns_actions.proofs.Common.{◌≡◌, ◌≢◌, ◌∙◌, refl, ℕ, ◌+◌, ◌*◌, ◌^◌, ◌≤◌, ◌<◌, ◌+ℤ◌, true, false, cond, unsigned_abs, List, [], ◌∷◌, map, Some, None, arith, is_eq, AllByRecursion, IsSmall, each_map, each_weaker, Amount, AmountsByKey, AreApartFrom, AreElsewhere, AreSmall, Day, Entry, HasRoomForTrade, Holding, IsOneTradeMore, IsSmallAmount, Key, Pend, amount_at, amount_for, amount_of, as_booking, below_all, buyer_entry, by_key, due_entries, equal, exact_keys, find, find_below, insert_entry, ints, is_sorted, key_cmp, entry_key, keys_total, lookup, makes, money_limit, same_key, seller_entry, shares_limit, tied_below, tied_itself, trade_entries, with_amount, with_entry, +ℤ_assoc, +ℤ_comm, +ℤ_idl, +ℤ_idr, max-zero}
 use Rattle.std.specs.BTreeMap.{is_at}
 use Rattle.cns_terms.specs.Pending.{is_due}
 use Rattle.std.proofs.lemmas.Cmp.{eq_by_cmp_equiv}
@@ -18,7 +18,7 @@ small_insert k a (e ∷ es) h small = grind (arith, small_insert k a es h small.
 
 module _ (old new : AmountsByKey) (key : Key) (a : Amount) (updates : (q : Key) → lookup (is_at (key_cmp q)) new ≡ cond (is_eq (key_cmp key q)) (Some a) (lookup (is_at (key_cmp q)) old)) where
   -- the amount at each key, where an entry is added
-  pub amounts_added : (e : Entry) → key ≡ key_of e → a ≡ with_entry (amount_at old key) e → (k : Key) → amount_at new k ≡ with_amount (amount_at old k) (amount_for e k)
+  pub amounts_added : (e : Entry) → key ≡ entry_key e → a ≡ with_entry (amount_at old key) e → (k : Key) → amount_at new k ≡ with_amount (amount_at old k) (amount_for e k)
   amounts_added e own is k = grind (arith, ints, updates k, exact_keys key k, equal, same_key key k)
 
   -- at another key nothing is put in

@@ -1,7 +1,6 @@
 -- Bookings that are made one after another: what stands at each key.
 -- For `enter_all`, `book_one` and `book_all` of bookings.rt, `with` of due_amounts.rt, `listed` of due_bookings.rt, and `prepare` of effect.rt in cns_book.
-use Rattle.cns_actions.proofs.Common.{◌≡◌, ◌≢◌, ap, refl, ℕ, ◌+◌, ◌<◌, max, ℤ, pos, ◌+ℤ◌, Bool, true, false, cond, ◌&&◌, ◌==◌, is_some, List, [], ◌∷◌, length, get_or, drop, arith, is_lt, AreElsewhere, AreEntered, AreSmall, Booking, HaveSpace, Holding, Key, Rows, aged, below_all, booked, by_key, carried_to, cents_for, entered, entries_in, entry_of, greatest, has_row, holding_at, ints, is_sorted, key_cmp, key_of, made, makes, same_issue, same_key, shares_for, total, with_age, All-from_recursion, All-get_or, +ℤ_idr, max-zero, ◌^◌, of_z, to_z, unsigned_abs, w64, to_z-of_z, fits_signed_from_abs, w128, row_at}
-use Rattle.std.proofs.lemmas.List.{drop_more}
+use Rattle.cns_actions.proofs.Common.{◌≡◌, ◌≢◌, ap, refl, ℕ, ◌+◌, ◌<◌, max, ℤ, pos, ◌+ℤ◌, Bool, true, false, cond, ◌&&◌, ◌==◌, is_some, List, [], ◌∷◌, length, get_or, drop, arith, is_lt, AreElsewhere, AreEntered, AreSmall, Booking, HaveSpace, Holding, Key, Rows, aged, below_all, booked, by_key, carried_to, cents_for, entered, entries_in, entry_of, greatest, has_row, holding_at, ints, is_sorted, key_cmp, entry_key, made, makes, same_issue, same_key, shares_for, total, with_age, All-from_recursion, All-get_or, +ℤ_idr, max-zero, ◌^◌, of_z, to_z, unsigned_abs, w64, to_z-of_z, fits_signed_from_abs, w128, row_at}
 
 -- ---- what bookings make at a key
 
@@ -21,16 +20,16 @@ makes_first b bs k h = by ((b.entry.account == k.account) && same_issue b.entry.
     by false x y n = grind (arith, ints)
 
 -- shares and cents that are booked, and an age that is brought, are the booking
-pub one_made : (b : Booking) (k : Key) (h : Holding) → aged (key_of b.entry) b.carried k (booked (entry_of (key_of b.entry) b.entry.shares b.entry.cents) k h) ≡ made b k h
+pub one_made : (b : Booking) (k : Key) (h : Holding) → aged (entry_key b.entry) b.carried k (booked (entry_of (entry_key b.entry) b.entry.shares b.entry.cents) k h) ≡ made b k h
 one_made b k h = grind (arith, +ℤ_idr, max-zero)
 
 -- so are they alone, where no age is brought
-pub made_alone : (b : Booking) (k : Key) (h : Holding) → b.carried ≡ 0 → booked (entry_of (key_of b.entry) b.entry.shares b.entry.cents) k h ≡ made b k h
+pub made_alone : (b : Booking) (k : Key) (h : Holding) → b.carried ≡ 0 → booked (entry_of (entry_key b.entry) b.entry.shares b.entry.cents) k h ≡ made b k h
 made_alone b k h none = grind (arith, +ℤ_idr, max-zero)
 
 -- what stands above the key of a booking stays
-made_above : (b : Booking) (k : Key) (h : Holding) → is_lt (key_cmp (key_of b.entry) k) ≡ true → made b k h ≡ h
-made_above b k h l = grind (arith, same_key (key_of b.entry) k)
+made_above : (b : Booking) (k : Key) (h : Holding) → is_lt (key_cmp (entry_key b.entry) k) ≡ true → made b k h ≡ h
+made_above b k h l = grind (arith, same_key (entry_key b.entry) k)
 
 -- shares that are passed in registers are as they were, and so are cents
 pub shares_passed : (z : ℤ) → unsigned_abs z < 2 ^ 63 → to_z w64 (of_z w64 z) ≡ z
@@ -46,22 +45,18 @@ pub record AreReady (rows : Rows) (bs : List Booking) : Type 0 where
   pub small : AreSmall bs
   pub rise : is_sorted key_cmp (by_key bs) ≡ true
 
--- what is left from a place on begins with what stands there
-pub left_first : {X : Type 0} (xs : List X) (i : ℕ) (x : X) → i < length xs → x ≡ get_or xs i x → drop i xs ≡ x ∷ drop (i + 1) xs
-left_first xs i x lt is = grind (arith, drop_more)
-
 -- where the first of them is made, the others can be made still
 module _ (b : Booking) (old new : Rows) (one : (k : Key) → holding_at new k ≡ made b k (holding_at old k)) (places : (k : Key) → has_row new k ≡ has_row old k) where
-  others_ready : (bs : List Booking) → below_all key_cmp (key_of b.entry) (by_key bs) ≡ true → AreEntered old bs → HaveSpace old bs → AreEntered new bs × HaveSpace new bs
+  others_ready : (bs : List Booking) → below_all key_cmp (entry_key b.entry) (by_key bs) ≡ true → AreEntered old bs → HaveSpace old bs → AreEntered new bs × HaveSpace new bs
   others_ready [] l t s = (tt, tt)
-  others_ready (d ∷ ds) l t s = grind (arith, places (key_of d.entry), one (key_of d.entry), made_above b (key_of d.entry), others_ready ds)
+  others_ready (d ∷ ds) l t s = grind (arith, places (entry_key d.entry), one (entry_key d.entry), made_above b (entry_key d.entry), others_ready ds)
 
   pub next_ready : (bs : List Booking) → AreReady old (b ∷ bs) → AreReady new bs
   next_ready bs ready = grind (arith, ready, others_ready bs)
 
 -- a key where none is booked is not that of the booking at a place
-pub elsewhere_at : (k : Key) (bs : List Booking) (i : ℕ) (b : Booking) → i < length bs → b ≡ get_or bs i b → AreElsewhere k bs → k ≢ key_of b.entry
-elsewhere_at k bs i b lt is e = rw is (All-get_or (λ b. k ≢ key_of b.entry) bs i b lt (All-from_recursion _ bs e))
+pub elsewhere_at : (k : Key) (bs : List Booking) (i : ℕ) (b : Booking) → i < length bs → b ≡ get_or bs i b → AreElsewhere k bs → k ≢ entry_key b.entry
+elsewhere_at k bs i b lt is e = rw is (All-get_or (λ b. k ≢ entry_key b.entry) bs i b lt (All-from_recursion _ bs e))
 
 -- the same row is there or not
 pub others_stay : (new old : Rows) (k : Key) → row_at new k ≡ row_at old k → has_row new k ≡ has_row old k

@@ -1,7 +1,7 @@
 -- Members with a position or an age in an issue, account by account: all rows of an account but that in the issue are passed
 -- over.
 -- For `next_holder` of holder.rt, clause next.
-use Rattle.cns_actions.proofs.Common.{◌≡◌, ◌∙◌, sym, ap, refl, ℕ, ◌≤◌, ◌<◌, Bool, true, false, cond, ◌&&◌, ◌==◌, nat_lt, List, [], ◌∷◌, filter, length, Option, Some, None, arith, is_lt, Account, Cusip, Holder, Holding, Key, Rows, and_left, as_T, below_all, cons_option, exact_keys, find, find_below, has_position_or_age, held_above, held_same, held_sorted, holder_at, holders_after, holders_in, holding_at, is_above, is_held, is_left, is_of_next, is_sorted, key_cmp, keys_total, less, nat_tests, zeros, All-head, filter_passes}
+use Rattle.cns_actions.proofs.Common.{◌≡◌, ◌∙◌, sym, ap, refl, ℕ, ◌≤◌, ◌<◌, Bool, true, false, cond, ◌&&◌, ◌==◌, nat_lt, List, [], ◌∷◌, filter, length, Option, Some, None, arith, is_lt, Account, Cusip, Holder, Holding, Key, Rows, and_left, as_T, below_all, cons_option, exact_keys, find, find_below, has_position_or_age, held_above, held_same, held_sorted, holder_at, holders_after, holders_in, holding_at, key_after, is_held, is_left, is_of_next, is_sorted, key_cmp, keys_total, less, nat_tests, zeros, All-head, filter_passes}
 use Rattle.cns_positions.proofs.Held.{filter_both}
 use lib.Ieee.Bits.{is_true}
 use Rattle.std.specs.FinMap.Entries.{find-where_key, is_sorted-where_key}
@@ -32,7 +32,7 @@ below_first k r [] l b = grind arith
 below_first k r (e ∷ es) l b = grind (arith, less, keys_total.trans k r.0 e.0, below_first k r es l)
 
 -- accounts from that of the next row on are left
-from_row : (passed : Option Key) (r k : Key) → is_above passed r ≡ true → is_of_next passed r ≡ true → r.account ≤ k.account → is_left passed k ≡ true
+from_row : (passed : Option Key) (r k : Key) → key_after passed r ≡ true → is_of_next passed r ≡ true → r.account ≤ k.account → is_left passed k ≡ true
 from_row passed r k h1 h2 h3 = grind (arith, nat_tests)
 
 -- one holder more, if there is one
@@ -64,7 +64,7 @@ module _ (R : Rows) (order : is_sorted key_cmp R ≡ true) where
 
     -- nothing stands at the place of an account that is left where no row above what is passed is at it
     none_there : (a : Account) → find key_cmp (place c a) (held_above R passed) ≡ None → is_left passed (place c a) ≡ true → holding_at R (place c a) ≡ zeros
-    none_there a none left = grind (arith, kept_at (is_above passed) (place c a), filter_both (λ x. is_above passed x.0) (λ x. is_held x.1) R)
+    none_there a none left = grind (arith, kept_at (key_after passed) (place c a), filter_both (λ x. key_after passed x.0) (λ x. is_held x.1) R)
 
     -- where no row is above what is passed, no holder is left
     pub none_left : held_above R passed ≡ [] → holders_after R c passed ≡ []
@@ -84,8 +84,8 @@ module _ (R : Rows) (order : is_sorted key_cmp R ≡ true) where
     next_left rest next h =
         let a = r.0.account in
         let above : are_above a (holders_after R c (Some q)) ≡ true = above_holders has_position_or_age refl c (place c a) (filter (λ r. nat_lt q.account r.0.account) all) refl (rw same (below_later (place c a) all)) in
-        let row_above : is_above passed r.0 ≡ true = and_left _ _ (All-head (λ (x : Key × Holding). (is_above passed x.0 && is_held x.1) ≡ true) r rest (rw next at (filter_passes (λ x. is_above passed x.0 && is_held x.1) R))) in
-        let sorted : is_sorted key_cmp (r ∷ rest) ≡ true = rw (filter_both (λ x. is_above passed x.0) (λ x. is_held x.1) R, next) at (kept_sorted (is_above passed)) in
+        let row_above : key_after passed r.0 ≡ true = and_left _ _ (All-head (λ (x : Key × Holding). (key_after passed x.0 && is_held x.1) ≡ true) r rest (rw next at (filter_passes (λ x. key_after passed x.0 && is_held x.1) R))) in
+        let sorted : is_sorted key_cmp (r ∷ rest) ≡ true = rw (filter_both (λ x. key_after passed x.0) (λ x. is_held x.1) R, next) at (kept_sorted (key_after passed)) in
         let before : (x : Account) → x < a → is_left passed (place c x) ≡ true → holding_at R (place c x) ≡ zeros = λ x lt. none_there c passed x (rw next (find_below keys_total (place c x) (r ∷ rest) (below_first (place c x) r rest (account_before (place c x) r.0 lt) (and_left _ _ sorted)))) in
         same_holders (holders_after R c passed) _ (left_rising c passed) (grind (arith, above, left_rising c (Some q)))
         (λ x. rw (left_at c passed x, who_cons, left_at c (Some q) x) (grind (arith, nat_tests, before x, from_row passed r.0 (place c x) row_above h)))

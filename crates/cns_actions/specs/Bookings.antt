@@ -1,10 +1,6 @@
 -- What is booked at several keys, and what it makes of rows.
 use Rattle.std.specs.Prelude.{◌≡◌, ◌≢◌, ◌<◌, ◌^◌, ℕ, ◌+ℤ◌, true, ◌&&◌, ◌==◌, List, map, unsigned_abs, if◌then◌else◌}
-use Rattle.cns_actions.specs.Common.{AllByRecursion, greatest, is_sorted, key_cmp, same_issue, Entry, Holding, Key, Rows, books, has_row, holding_at, with_age, Booking}
-
--- where an entry is booked
-abbrev pub key_of : Entry → Key
-key_of e = record { account = e.account; issue = e.issue }
+use Rattle.cns_actions.specs.Common.{AllByRecursion, entry_key, greatest, is_sorted, key_cmp, same_issue, Entry, Holding, Key, Rows, books, has_row, holding_at, with_age, Booking}
 
 -- an entry, and an age that is brought to its key
 abbrev pub booking : Entry → ℕ → Booking
@@ -12,7 +8,7 @@ booking e n = record { entry = e; carried = n }
 
 -- bookings, each with its key
 abbrev pub by_key : List Booking → List (Key × Booking)
-by_key bs = map (λ b. (key_of b.entry, b)) bs
+by_key bs = map (λ b. (entry_key b.entry, b)) bs
 
 -- what a booking makes of what stands at its key
 abbrev pub entered : Booking → Holding → Holding
@@ -55,12 +51,12 @@ pub record AreOrdered (bs : List Booking) : Type 0 where
 
 -- each key has a row
 abbrev pub AreEntered : Rows → List Booking → Type 0
-AreEntered rows bs = AllByRecursion (λ b. has_row rows (key_of b.entry) ≡ true) bs
+AreEntered rows bs = AllByRecursion (λ b. has_row rows (entry_key b.entry) ≡ true) bs
 
 -- and what stands there has space
 abbrev pub HaveSpace : Rows → List Booking → Type 0
-HaveSpace rows bs = AllByRecursion (λ b. HasSpace (holding_at rows (key_of b.entry))) bs
+HaveSpace rows bs = AllByRecursion (λ b. HasSpace (holding_at rows (entry_key b.entry))) bs
 
 -- none of them is booked at a key
 abbrev pub AreElsewhere : Key → List Booking → Type 0
-AreElsewhere k bs = AllByRecursion (λ b. k ≢ key_of b.entry) bs
+AreElsewhere k bs = AllByRecursion (λ b. k ≢ entry_key b.entry) bs

@@ -1,10 +1,10 @@
 -- What trades book once their date has come, added up by key.
 use Rattle.std.specs.Prelude.{◌≡◌, ◌≢◌, ◌<◌, ◌≤◌, ◌+◌, ◌^◌, pos, ◌+ℤ◌, true, List, filter, unwrap_or, unsigned_abs, flat_map}
-use Rattle.cns_actions.specs.Common.{AllByRecursion, Day, cents_for, entry, is_sorted, key_cmp, money_limit, shares_for, shares_limit, total, trade_entries, Entry, Key, Pend, Booking}
+use Rattle.cns_actions.specs.Common.{AllByRecursion, Day, cents_for, entry, entry_key, is_sorted, key_cmp, money_limit, shares_for, shares_limit, total, trade_entries, Entry, Key, Pend, Booking}
 use Rattle.std.specs.FinMap.{find}
 use Rattle.cns_terms.specs.Pending.{is_due}
 use Rattle.cns_actions.specs.declared.due_amounts.Amount.{Amount}
-use Rattle.cns_actions.specs.Bookings.{booking, key_of}
+use Rattle.cns_actions.specs.Bookings.{booking}
 
 -- what is booked at each key, in the order of keys
 abbrev pub AmountsByKey : Type 0
@@ -39,7 +39,7 @@ due_entries next ps = flat_map trade_entries (filter (is_due next) ps)
 
 -- none of the entries is booked at a key
 abbrev pub AreApartFrom : Key → List Entry → Type 0
-AreApartFrom k es = AllByRecursion (λ e. k ≢ key_of e) es
+AreApartFrom k es = AllByRecursion (λ e. k ≢ entry_key e) es
 
 -- what is booked at a key, as one entry, which brings no age
 abbrev pub as_booking : Key × Amount → Booking

@@ -1,8 +1,8 @@
 // What is booked at a key.
 ghost use Rattle.std.specs.Prelude.{◌≡◌};
-ghost use Rattle.cns_actions.specs.Bookings.{booking, key_of};
+ghost use Rattle.cns_actions.specs.Bookings.{booking};
 
-use cns_terms::{Entry, Key};
+use cns_terms::Entry;
 
 /// An entry, and the age that an exchange brings to its key.
 #[derive(Clone, Copy)]
@@ -21,15 +21,5 @@ impl Booking {
             entry: *entry,
             carried: 0,
         }
-    }
-}
-
-/// The key of an entry.
-pub(crate) fn key_of(entry: &Entry) -> Key
-    ensures { result ≡ key_of entry.now }
-{
-    Key {
-        account: entry.account,
-        issue: entry.issue,
     }
 }

@@ -2,12 +2,12 @@
 ghost use Rattle.std.specs.Prelude.{◌≡◌, OnErr, OnOk, true};
 ghost use Rattle.std.specs.FinMap.{is_sorted};
 ghost use Rattle.cns_terms.specs.declared.holding.Key.{Key};
-ghost use Rattle.cns_terms.specs.Keys.{key_cmp};
+ghost use Rattle.cns_terms.specs.Keys.{entry_key, key_cmp};
 ghost use Rattle.cns_positions.specs.Rows.{has_row, holding_at};
 ghost use Rattle.cns_actions.specs.Booked.{CanBeBooked};
-ghost use Rattle.cns_actions.specs.Bookings.{AreElsewhere, AreEntered, AreSmall, HasSpace, HaveSpace, IsSmall, by_key, key_of, made, makes};
+ghost use Rattle.cns_actions.specs.Bookings.{AreElsewhere, AreEntered, AreSmall, HasSpace, HaveSpace, IsSmall, by_key, made, makes};
 
-use crate::booking::{Booking, key_of};
+use crate::booking::Booking;
 use cns_positions::Positions;
 use cns_terms::NoMemory;
 use std::alloc::Allocator;
@@ -43,7 +43,7 @@ fn enter_all<P: Positions<A>, A>(positions: &mut P, bookings: &[Booking]) -> Res
         → has_row (P.rows positions.new) k ≡ has_row (P.rows positions.old) k }
 {
     for booking in bookings {
-        positions.enter(key_of(&booking.entry))?;
+        positions.enter(booking.entry.key())?;
     }
     Ok(())
 }
@@ -51,14 +51,14 @@ fn enter_all<P: Positions<A>, A>(positions: &mut P, bookings: &[Booking]) -> Res
 // Books one: the opening and the age of the key's row stay.
 #[tactic(auto, using(crate::proofs::Making::made_alone, crate::proofs::Making::cents_passed, crate::proofs::Making::shares_passed))]
 fn book_one<P: Positions<A>, A>(positions: &mut P, booking: &Booking)
-    requires there { has_row (P.rows positions.old) (key_of booking.now.entry) ≡ true }
-    requires space { HasSpace (holding_at (P.rows positions.old) (key_of booking.now.entry)) }
+    requires there { has_row (P.rows positions.old) (entry_key booking.now.entry) ≡ true }
+    requires space { HasSpace (holding_at (P.rows positions.old) (entry_key booking.now.entry)) }
     requires small { IsSmall booking.now.entry }
     ensures made { (k : Key) → holding_at (P.rows positions.new) k
         ≡ made booking.now k (holding_at (P.rows positions.old) k) }
     ensures places { (k : Key) → has_row (P.rows positions.new) k ≡ has_row (P.rows positions.old) k }
 {
-    let key = &key_of(&booking.entry);
+    let key = &booking.entry.key();
     positions.add(*key, booking.entry.shares, booking.entry.cents);
     if booking.carried > 0 {
         positions.carry(*key, booking.carried);
@@ -66,7 +66,7 @@ fn book_one<P: Positions<A>, A>(positions: &mut P, booking: &Booking)
 }
 
 // Books them, one after another. It takes no memory.
-#[tactic(auto, using(crate::proofs::Making::left_first, crate::proofs::Making::makes_first, crate::proofs::Making::next_ready))]
+#[tactic(auto, using(cns_terms::proofs::Facts::left_first, crate::proofs::Making::makes_first, crate::proofs::Making::next_ready))]
 fn book_all<P: Positions<A>, A>(positions: &mut P, bookings: &[Booking])
     requires there { AreEntered (P.rows positions.old) bookings.now }
     requires space { HaveSpace (P.rows positions.old) bookings.now }

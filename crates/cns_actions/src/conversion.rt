@@ -1,40 +1,9 @@
 // What a position becomes in a split or an exchange.
 ghost use Rattle.std.specs.Prelude.{◌≡◌, ◌^◌, ◌*◌, ◌≤◌, ◌*ℤ◌, pos, unsigned_abs};
-ghost use Rattle.cns_terms.specs.Conversions.{converted, fraction, in_exchange, in_lieu};
+ghost use Rattle.cns_terms.specs.Conversions.{converted, in_exchange, in_lieu};
 ghost use Rattle.cns_terms.specs.Limits.{position_limit};
 
 use cns_units::{Cents, Price, Ratio};
-
-// A position times the new shares of a ratio.
-fn multiplied(q: i64, new: u16) -> i64
-    requires position { unsigned_abs q ≤ position_limit }
-    requires ratio { new ≤ 10 ^ 4 }
-    ensures exact { result ≡ q *ℤ pos new }
-    ensures small { unsigned_abs result ≤ 10 ^ 14 }
-{
-    q * i64::from(new)
-}
-
-// The whole new shares for a position, cut towards zero.
-fn converted(q: i64, ratio: Ratio) -> i64
-    requires { unsigned_abs q ≤ position_limit }
-    ensures exact { result ≡ converted ratio q }
-    ensures small { unsigned_abs result ≤ 10 ^ 14 }
-{
-    let (new, old) = ratio.parts();
-    multiplied(q, new) / i64::from(old)
-}
-
-// What the cut leaves, in parts of a new share.
-#[tactic(auto, using(std::proofs::lemmas::Int::rem_is, cns_terms::proofs::Quotients::rest_of))]
-fn fraction(q: i64, ratio: Ratio) -> i64
-    requires { unsigned_abs q ≤ position_limit }
-    ensures exact { result ≡ fraction ratio q }
-    ensures small { unsigned_abs result ≤ 10 ^ 4 }
-{
-    let (new, old) = ratio.parts();
-    multiplied(q, new) % i64::from(old)
-}
 
 // Parts of a new share times the cents for a whole one.
 fn priced(parts: i64, lieu: Price) -> i128
@@ -52,7 +21,7 @@ fn in_lieu(q: i64, ratio: Ratio, lieu: Price) -> i128
     ensures small { unsigned_abs result ≤ 10 ^ 13 }
 {
     let (_, old) = ratio.parts();
-    priced(fraction(q, ratio), lieu) / i128::from(old)
+    priced(ratio.rest(q), lieu) / i128::from(old)
 }
 
 // The cents that an exchange pays beside, for each old share.
@@ -76,7 +45,7 @@ pub fn split_of(q: i64, ratio: Ratio, lieu: Price) -> (i64, Cents)
     ensures few_shares { unsigned_abs result.0 ≤ 10 ^ 14 }
     ensures few_cents { unsigned_abs result.1 ≤ 10 ^ 13 }
 {
-    (converted(q, ratio), Cents::of(in_lieu(q, ratio, lieu)))
+    (ratio.whole(q), Cents::of(in_lieu(q, ratio, lieu)))
 }
 
 /// What a position of `q` shares becomes in an exchange: the position in the successor, and the cents in lieu of what
@@ -93,7 +62,7 @@ pub fn exchange_of(q: i64, ratio: Ratio, lieu: Price, cash: Price) -> (i64, Cent
     ensures few_cents { unsigned_abs result.1 ≤ 2 * 10 ^ 19 }
 {
     (
-        converted(q, ratio),
+        ratio.whole(q),
         Cents::of(in_lieu(q, ratio, lieu) + in_cash(q, cash)),
     )
 }

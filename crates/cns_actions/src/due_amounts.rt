@@ -3,11 +3,11 @@ ghost use Rattle.std.specs.Prelude.{◌≡◌, ◌≢◌, ◌≤◌, ◌^◌, []
 ghost use Rattle.std.specs.FinMap.{find};
 ghost use Rattle.cns_terms.specs.declared.holding.Key.{Key};
 ghost use Rattle.cns_terms.specs.Entries.{trade_entries};
-ghost use Rattle.cns_terms.specs.Keys.{key_cmp};
-ghost use Rattle.cns_actions.specs.Bookings.{IsSmall, key_of};
+ghost use Rattle.cns_terms.specs.Keys.{entry_key, key_cmp};
+ghost use Rattle.cns_actions.specs.Bookings.{IsSmall};
 ghost use Rattle.cns_actions.specs.DueAmounts.{AreAmounts, AreApartFrom, IsSmallAmount, HasRoomForTrade, IsOneTradeMore, amount_at, amount_for, due_entries, as_booking, with_entry, amount_of, with_amount};
 
-use crate::booking::{Booking, key_of};
+use crate::booking::Booking;
 use cns_terms::{Entry, Key, NoMemory, Pend};
 use cns_units::Day;
 use std::alloc::Allocator;
@@ -113,12 +113,12 @@ impl<A: Allocator + Drop + Clone> DueAmounts<A> {
     // Books an entry.
     fn add(&mut self, entry: &Entry) -> Result<(), NoMemory>
         requires small { IsSmall entry.now }
-        requires room { IsSmallAmount (with_entry (amount_at self.old (key_of entry.now)) entry.now) }
+        requires room { IsSmallAmount (with_entry (amount_at self.old (entry_key entry.now)) entry.now) }
         ensures amounts { OnOk result ((k : Key)
             → amount_at self.new k ≡ with_amount (amount_at self.old k) (amount_for entry.now k)) }
-        ensures others { OnOk result ((k : Key) → k ≢ key_of entry.now → find key_cmp k self.new ≡ find key_cmp k self.old) }
+        ensures others { OnOk result ((k : Key) → k ≢ entry_key entry.now → find key_cmp k self.new ≡ find key_cmp k self.old) }
     {
-        let key = key_of(entry);
+        let key = entry.key();
         let had = self.amounts.get(&key).copied().unwrap_or(Amount::NONE);
         self.amounts.insert(key, had.with(entry))?;
         Ok(())

@@ -1,6 +1,6 @@
 -- What a close pays by the sheets of the record dates is what the definitions say.
 -- For `close_day` of parts/closing.rt, clause step.
-use Rattle.cns_book.proofs.Common.{◌≡◌, ◌∙◌, sym, ap, refl, ℕ, ◌≤◌, ℤ, pos, neg_ℤ, Bool, true, false, not, ◌&&◌, ◌||◌, ◌==◌, cond, List, [], ◌∷◌, map, filter, find, Option, Some, None, unwrap_or, arith, bytes_eq, filter_map, option_map, Account, AllByRecursion, Cusip, Day, DaySheet, Declared, IsSound, Journal, Key, Paying, Row, accounts, and_right, as_of, bytes_eq-Decides, cash, closings, corporation, date, day_sheet, dividend, dividend_of, dividends, exact_keys, find_filter, found_number, in_order, is_not_after, is_sorted, issues, kept_if, key_cmp, keys_total, last_date, list_any, members, numbers, occurs, occurs_found, occurs_missing, option_map_or, payments_by, pays_before, row, said, same_lists, same_sums, says, sheet_as_of, sheet_rows, sorted_numbers, total, total-map, total-neg, total-same, total-swap, total-zero, total_numbers, position, idle_at, no_account_elsewhere, no_position, total-due, by_key, key_of, member_cash, paid, ◌++◌, flat_map, closing_at, filter-append, idle_parts, map-append, rows_of, sorted_filter, map-map, map-id}
+use Rattle.cns_book.proofs.Common.{◌≡◌, ◌∙◌, sym, ap, refl, ℕ, ◌≤◌, ℤ, pos, neg_ℤ, Bool, true, false, not, ◌&&◌, ◌||◌, ◌==◌, cond, List, [], ◌∷◌, map, filter, find, Option, Some, None, unwrap_or, arith, bytes_eq, filter_map, option_map, Account, AllByRecursion, Cusip, Day, DaySheet, Declared, IsSound, Journal, Key, Paying, Row, accounts, and_right, as_of, bytes_eq-Decides, cash, closings, corporation, date, day_sheet, dividend, dividend_of, dividends, exact_keys, find_filter, found_number, in_order, is_not_after, is_sorted, issues, kept_if, key_cmp, keys_total, last_date, list_any, members, numbers, occurs, occurs_found, occurs_missing, option_map_or, payments_by, pays_before, row, said, same_lists, same_sums, says, sheet_as_of, sheet_rows, sorted_numbers, total, total-map, total-neg, total-same, total-swap, total-zero, total_numbers, position, idle_at, no_account_elsewhere, no_position, total-due, by_key, row_key, member_cash, paid, ◌++◌, flat_map, closing_at, filter-append, idle_parts, map-append, rows_of, sorted_filter, map-map, map-id}
 use Rattle.cns_terms.proofs.Cells.{cells, cells_of, find_cells, sorted_cells}
 use Rattle.cns_terms.specs.Dividends.{due, is_due}
 use Rattle.std.specs.FinMap as finmap
@@ -8,7 +8,7 @@ use Rattle.cns_terms.proofs.Paid.{no_cash}
 use Rattle.cns_sheets.specs.Search.{row_at}
 
 -- one row more, or not, with its key
-with_key : (b : Bool) (r : Row) (rs : List Row) (es : List (Key × Row)) → by_key rs ≡ es → by_key (cond b (r ∷ rs) rs) ≡ cond b ((key_of r, r) ∷ es) es
+with_key : (b : Bool) (r : Row) (rs : List Row) (es : List (Key × Row)) → by_key rs ≡ es → by_key (cond b (r ∷ rs) rs) ≡ cond b ((row_key r, r) ∷ es) es
 with_key b r rs es h1 = grind arith
 
 module _ (opening : Day) (K : Journal) where
@@ -24,7 +24,7 @@ module _ (opening : Day) (K : Journal) where
   pub of_all : (bs : List Account) → by_key (flat_map (rows_of opening K) bs) ≡ filter (λ e. says e.1) (cells row_of bs (issues K))
   of_all [] = refl
   of_all (a ∷ bs) =
-      map-append (λ r. (key_of r, r)) (rows_of opening K a) (flat_map (rows_of opening K) bs)
+      map-append (λ r. (row_key r, r)) (rows_of opening K a) (flat_map (rows_of opening K) bs)
       ∙ (λ i. of_account a (issues K) i ++ of_all bs i)
       ∙ sym (filter-append (λ (e : Key × Row). says e.1) (cells_of row_of a (issues K)) (cells row_of bs (issues K)))
 
@@ -63,7 +63,7 @@ module _ (opening : Day) (K J : Journal) (k_sound : IsSound K) (j_sound : IsSoun
   -- the rows of the sheet are paid what the members are that are there now
   pub members_paid : total (member_cash d) (sheet_rows opening K) ≡ total (λ a. cash (position K a d.issue) d.rate) (members J)
   members_paid =
-      sym (total_numbers (member_cash d) (λ e. e.1) shown ∙ total-map (λ (e : Key × Row). member_cash d e.1) (λ r. (key_of r, r)) (sheet_rows opening K))
+      sym (total_numbers (member_cash d) (λ e. e.1) shown ∙ total-map (λ (e : Key × Row). member_cash d e.1) (λ r. (row_key r, r)) (sheet_rows opening K))
       ∙ same_sums (λ e. e.1) (λ k. refl) (numbers (member_cash d) shown) (cells at_place (members J) (d.issue ∷ [])) (sorted_numbers (member_cash d) shown (shown_rise opening K k_sound)) (sorted_cells at_place (members J) (d.issue ∷ []) (and_right _ _ j_sound.accounts_rise) refl)
       (λ k. found_number (member_cash d) k (pos 0) shown ∙ number_found opening K (member_cash d) (λ r h. grind arith) k k_sound ∙ same_number k _ _ _ refl refl refl ∙ sym (ap (λ o. unwrap_or o (pos 0)) (find_cells at_place k (members J) (d.issue ∷ []))))
       ∙ members_sum (members J)
@@ -112,10 +112,10 @@ pub rows_are_cut : (opening : Day) (J : Journal) (rows : List Row) → IsSound J
 rows_are_cut opening J rows s order is =
     let g : Key → Row = λ k. row opening J k.account k.issue in
     let all = sorted_cells g (accounts J) (issues J) s.accounts_rise s.issues_rise in let kept = of_all opening J (accounts J) in
-    sym (map-map (λ e. e.1) (λ r. (key_of r, r)) rows ∙ map-id rows)
+    sym (map-map (λ e. e.1) (λ r. (row_key r, r)) rows ∙ map-id rows)
     ∙ ap (map (λ e. e.1)) (same_lists keys_total exact_keys (by_key rows) (by_key (sheet_rows opening J)) order
     (shown_rise opening J s)
     (λ k. is k
     ∙ grind (arith, idle_at opening J k s)
     ∙ sym (ap (finmap.find key_cmp k) kept ∙ find_filter keys_total says k (cells g (accounts J) (issues J)) all ∙ ap (kept_if says) (find_cells g k (accounts J) (issues J)))))
-    ∙ map-map (λ e. e.1) (λ r. (key_of r, r)) (sheet_rows opening J) ∙ map-id (sheet_rows opening J)
+    ∙ map-map (λ e. e.1) (λ r. (row_key r, r)) (sheet_rows opening J) ∙ map-id (sheet_rows opening J)

@@ -1,6 +1,6 @@
 -- The sheet that a close cuts is the one of the definitions.
 -- For `close_day` of parts/closing.rt, clause step.
-use Rattle.cns_book.proofs.Common.{◌≡◌, ◌∙◌, sym, ap, subst, refl, ℕ, ◌+◌, ◌≤◌, ◌<◌, ℤ, pos, true, false, cond, List, [], ◌∷◌, length, map, filter, Some, None, unwrap_or, arith, option_map, slice_get, unsigned_abs, is_eq, nat_cmp, Activity, AllByRecursion, Contents, Cusip, Day, DaySheet, Declared, Follows, Holding, IsCut, IsLimited, IsSound, Journal, Key, Listed, Paying, Row, Rows, accounts, amount_limit, and_left, and_right, closings, cons_option, date, day_sheet, dividend_of, dividends, each_both, each_filter, each_in_order, equal, exact_bytes, find_below, find_with, found_number, history_limit, holding_at, idle_parts, in_order, is_listed, is_sorted, issues, issues_few, journal, journal_len, key_cmp, keys_total, last_close, last_date, last_dated, limited, limited_past, nat_list_cmp_total, numbers, occurs, option_map_or, payments_by, pays_before, price, price_in, prices_of, rate_limit, row, rows_for, said, same_issue, same_lists, same_sums, sheet_as_of, sheet_rows, slice_cmp, sorted_numbers, tied_itself, total, total-map, total_numbers, tied_below, sorted_with, AreSmallRates, account_cents_small, account_dividends_small, accounts_grew, due_few, payable, sound_last, zeros, HaveSmallAmounts, by_key, key_of, IsPayable, cut_row, slice_get-map, listed_above, none_in, numbers_in}
+use Rattle.cns_book.proofs.Common.{◌≡◌, ◌∙◌, sym, ap, subst, refl, ℕ, ◌+◌, ◌≤◌, ◌<◌, ℤ, pos, true, false, cond, List, [], ◌∷◌, length, map, filter, Some, None, unwrap_or, arith, option_map, slice_get, unsigned_abs, is_eq, nat_cmp, Activity, AllByRecursion, Contents, Cusip, Day, DaySheet, Declared, Follows, Holding, IsCut, IsLimited, IsSound, Journal, Key, Listed, Paying, Row, Rows, accounts, amount_limit, and_left, and_right, closings, cons_option, date, day_sheet, dividend_of, dividends, each_both, each_filter, each_in_order, equal, exact_bytes, find_below, find_with, found_number, history_limit, holding_at, idle_parts, in_order, is_listed, is_sorted, issues, issues_few, journal, journal_len, key_cmp, keys_total, last_close, last_date, last_dated, limited, limited_past, nat_list_cmp_total, numbers, occurs, option_map_or, payments_by, pays_before, price, price_in, prices_of, rate_limit, row, rows_for, said, same_issue, same_lists, same_sums, sheet_as_of, sheet_rows, slice_cmp, sorted_numbers, tied_itself, total, total-map, total_numbers, tied_below, sorted_with, AreSmallRates, account_cents_small, account_dividends_small, accounts_grew, due_few, payable, sound_last, zeros, HaveSmallAmounts, by_key, row_key, IsPayable, cut_row, slice_get-map, listed_above, none_in, numbers_in}
 use Rattle.std.specs.FinMap.{find}
 use Rattle.cns_terms.specs.Dividends.{is_due}
 use Rattle.cns_terms.specs.Sheets.{sheet_prices}
@@ -61,7 +61,7 @@ same_by_issue f g R rows c order rise alike =
     ∙ same_sums (numbers_in c) (none_in c) (numbers f R) (numbers g (by_key rows)) (sorted_numbers f R order) (sorted_numbers g (by_key rows) rise)
     (λ k. found_number f k (pos 0) R ∙ alike k ∙ sym (found_number g k (pos 0) (by_key rows)))
     ∙ total_numbers g (numbers_in c) (by_key rows)
-    ∙ total-map (λ (e : Key × Row). cond (same_issue e.0.issue c) (g e.1) (pos 0)) (λ r. (key_of r, r)) rows
+    ∙ total-map (λ (e : Key × Row). cond (same_issue e.0.issue c) (g e.1) (pos 0)) (λ r. (row_key r, r)) rows
 
 -- a sheet can be cut of the positions
 pub can_be_cut : (L : List Activity) (s : Contents) → Follows L s → length L + 1 < history_limit → IsReady (slice_get s.sheets 0) s.prices s.rows (paid_now s)

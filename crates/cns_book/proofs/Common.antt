@@ -23,12 +23,12 @@ pub use Rattle.cns_retransmit.proofs.Lefts.{none_called}
 pub use Rattle.cns_retransmit.specs.Calls.{CalledIn, CanBeChosen, batch_of, batches_of, called_in, shorts_in, total_in, with_short}
 pub use Rattle.cns_retransmit.specs.Days.{batch_in, batch_on, batches_on, charged_on, charged_if, charged_in}
 pub use Rattle.cns_sheets.proofs.Balance.{found_number, numbers, same_sums, sorted_numbers, total_numbers, none_in, numbers_in}
-pub use Rattle.cns_sheets.specs.Build.{HaveSmallAmounts, by_key, key_of, prices_of}
+pub use Rattle.cns_sheets.specs.Build.{HaveSmallAmounts, by_key, prices_of}
 pub use Rattle.cns_sheets.specs.Payments.{IsCut, IsPayable, Paying, closing_at, cut_row, dividend_of, member_cash, paid, said}
 pub use Rattle.cns_terms.proofs.BatchSteps.{batch_charged, batch_new, batch_same, unfilled}
 pub use Rattle.cns_terms.proofs.Facts.{filter_len, same_order}
 pub use Rattle.cns_terms.proofs.CarriedAges.{carried_on, carried_same, oldest_le}
-pub use Rattle.cns_terms.proofs.Common.{fills_before, Account, AllByRecursion, AllWithin, AreHolders, Cusip, Day, DaySheet, ForSome, IsBinarySearchResult, IsExecutable, IsInRange, IsLegal, IsLimited, IsNonDecreasingBy, IsPartitionPoint, IsPartitionPoint-from_clause, IsReached, IsSend, IsSound, IsWhole, Journal, Liables, Member, Notice, Posting, State, above_all, accepted, account_lt, accounts, after, all_fail, amount_limit, and_left, and_right, answer_to, answers_always, arc_value, as_of, at_close, batch, batch_at, batch_since, batches, batches_since, below_all, booking_limit, bought_by, bought_in, bounded, bytes_eq-Decides, bytes_refl, called, capacity, cases_lt, cash, cents_for, cents_of_fills, charged, chosen, closes, closings, cons_option, corporation, corporation_limit, count, crosses, date, day, day_number, day_sheet, dividend, dividends, each_append, each_both, each_filter, each_found, each_in_order, each_map, each_weaker, entries, eqb_refl, eqb_sym, equal, exact_bytes, exact_keys, exchanged, executes, fill_entry, fills, fills_laid, fills_of, filter-append, filter_map-append, find_below, find_filter, find_with, first_refusal, history_limit, holding, idle_parts, in_order, ints, is_account, is_close, is_exceeded, is_idle, is_listed, is_live, is_member, is_not_after, is_retired, is_rising, is_seen, is_sorted, is_too_large, is_too_large_at, issues, issues_few, journal, journal_len, journal_of, kept_if, key_cmp, keys_total, laid, last_close, last_date, left_of, length-map, length-reverse, limited, limited_past, list_any, map-append, member_limit, members, members_few, members_from_one, moved_in, moved_out, nat_list_cmp_total, nat_list_eq_equiv, nat_tests, near, neither, next, notice_at, notices, occurs, occurs_found, occurs_missing, oldest, oldest_of, opened, option_map_or, ordering_index, pays_before, pend_of, pending, position_limit, posting, price, price_limit, rate_limit, refusal, remaining, reverse-append, reverse_onto, room, room_of, row, rows_for, rows_of, same_issue, same_lists, same_test, says, sendable, shares_executed, shares_for, shares_limit, shares_of_fills, sheet_on, sheet_rows, short, short_of, shorts, slice_cmp, slice_get_within, sold_by, sold_in, sorted_filter, stage, sum_by-cons, take_more, tied_itself, total, total-append, total-map, total-neg, total-same, total-swap, total-zero, trade_entries, waits_in, zero_add}
+pub use Rattle.cns_terms.proofs.Common.{entry_key, fills_before, Account, AllByRecursion, AllWithin, AreHolders, Cusip, Day, DaySheet, ForSome, IsBinarySearchResult, IsExecutable, IsInRange, IsLegal, IsLimited, IsNonDecreasingBy, IsPartitionPoint, IsPartitionPoint-from_clause, IsReached, IsSend, IsSound, IsWhole, Journal, Liables, Member, Notice, Posting, State, above_all, accepted, account_lt, accounts, after, all_fail, amount_limit, and_left, and_right, answer_to, answers_always, arc_value, as_of, at_close, batch, batch_at, batch_since, batches, batches_since, below_all, booking_limit, bought_by, bought_in, bounded, bytes_eq-Decides, bytes_refl, called, capacity, cases_lt, cash, cents_for, cents_of_fills, charged, chosen, closes, closings, cons_option, corporation, corporation_limit, count, crosses, date, day, day_number, day_sheet, dividend, dividends, each_append, each_both, each_filter, each_found, each_in_order, each_map, each_weaker, entries, eqb_refl, eqb_sym, equal, exact_bytes, exact_keys, exchanged, executes, fill_entry, fills, fills_laid, fills_of, filter-append, filter_map-append, find_below, find_filter, find_with, first_refusal, history_limit, holding, idle_parts, in_order, ints, is_account, is_close, is_exceeded, is_idle, is_listed, is_live, is_member, is_not_after, is_retired, is_rising, is_seen, is_sorted, is_too_large, is_too_large_at, issues, issues_few, journal, journal_len, journal_of, kept_if, key_cmp, keys_total, laid, last_close, last_date, left_of, length-map, length-reverse, limited, limited_past, list_any, map-append, member_limit, members, members_few, members_from_one, moved_in, moved_out, nat_list_cmp_total, nat_list_eq_equiv, nat_tests, near, neither, next, notice_at, notices, occurs, occurs_found, occurs_missing, oldest, oldest_of, opened, option_map_or, ordering_index, pays_before, pend_of, pending, position_limit, posting, price, price_limit, rate_limit, refusal, remaining, reverse-append, reverse_onto, room, room_of, row, row_key, rows_for, rows_of, same_issue, same_lists, same_test, says, sendable, shares_executed, shares_for, shares_limit, shares_of_fills, sheet_on, sheet_rows, short, short_of, shorts, slice_cmp, slice_get_within, sold_by, sold_in, sorted_filter, stage, sum_by-cons, take_more, tied_itself, total, total-append, total-map, total-neg, total-same, total-swap, total-zero, trade_entries, waits_in, zero_add}
 pub use Rattle.cns_terms.proofs.Elsewhere.{idle_at, no_account_elsewhere, no_position}
 pub use Rattle.cns_terms.proofs.Facts.{less_less, or_false, price_branch}
 pub use Rattle.cns_terms.proofs.Finds.{not_itself, tied_below}
@@ -63,7 +63,7 @@ pub use Rattle.cns_trades.specs.Checks.{AreSmallEntries, IsSmallEntry, booking, 
 pub use Rattle.cns_trades.specs.Used.{Traded, is_used}
 pub use Rattle.cns_book.specs.Contents.{Contents}
 pub use Rattle.cns_book.specs.Dated.{IsAfter, is_dated, is_dated_by, last_dated, payments_by, sheet_as_of, AreFalling, dated_sheet}
-pub use Rattle.cns_book.specs.Effects.{AreThere, AreWithin, activity_of, exchange_rules, is_held_up, place_of, places_of, stands}
+pub use Rattle.cns_book.specs.Effects.{AreThere, AreWithin, activity_of, exchange_rules, is_held_up, places_of, stands}
 pub use Rattle.cns_book.specs.Executions.{AreApart, CanBeBought, CanBeExecuted, CanBeFilled, IsAccepted, IsWithin, capped_short, entries_by, filled_at, fills_by, notice_of, originator_at}
 pub use Rattle.cns_book.specs.Follows.{AreMoveFacts, AreTradeFacts, Follows, FollowsBatches, FollowsDividends, FollowsListings, FollowsNotices, FollowsPending, FollowsReferences, FollowsRows, HasRoom, Steps, kept_batches, member_position}
 pub use Rattle.cns_book.specs.Replies.{AreAmong, Stays, taken_in}

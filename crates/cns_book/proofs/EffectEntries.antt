@@ -1,6 +1,6 @@
 -- Entries, booked one after another.
 -- For `book` and `prepare` of effect.rt, `book_fills` of buy_in.rt, and every command, clause step.
-use Rattle.cns_book.proofs.Common.{◌≡◌, ◌∙◌, sym, subst, refl, ℕ, suc, ◌+◌, ◌*◌, ◌^◌, ◌≤◌, ◌<◌, ℤ, pos, ◌+ℤ◌, true, List, [], ◌∷◌, ◌++◌, length, take, get_or, arith, unsigned_abs, Contains, AreSmallEntries, Entry, Holding, IsSmallEntry, Key, Rows, booking_limit, books, cents_for, corporation_limit, has_row, holding_at, ints, shares_for, take_more, total, total-append, booked, AreThere, AreWithin, place_of, places_of, All-from_recursion, recursion_from_All, All-take, length-take, false, None, Journal, Posting, exchanged, holding, is_close, zero_add, carried_same, zero, ◌==◌, map, eqb-true, AreApart, CanBeExecuted, CanBeFilled, Execution, Fill, Notice, entries_by, eqb_sym, fill_entry, filled_at, map-append, originator_at, Given, CanBeBought, notice_of}
+use Rattle.cns_book.proofs.Common.{◌≡◌, ◌∙◌, sym, subst, refl, ℕ, suc, ◌+◌, ◌*◌, ◌^◌, ◌≤◌, ◌<◌, ℤ, pos, ◌+ℤ◌, true, List, [], ◌∷◌, ◌++◌, length, take, get_or, arith, unsigned_abs, Contains, AreSmallEntries, Entry, Holding, IsSmallEntry, Key, Rows, booking_limit, books, cents_for, corporation_limit, has_row, holding_at, ints, shares_for, take_more, total, total-append, booked, AreThere, AreWithin, entry_key, places_of, All-from_recursion, recursion_from_All, All-take, length-take, false, None, Journal, Posting, exchanged, holding, is_close, zero_add, carried_same, zero, ◌==◌, map, eqb-true, AreApart, CanBeExecuted, CanBeFilled, Execution, Fill, Notice, entries_by, eqb_sym, fill_entry, filled_at, map-append, originator_at, Given, CanBeBought, notice_of}
 
 -- a posting that closes no day and exchanges no issue books its entries
 pub holding-post : (p : Posting) (J : Journal) (k : Key) → is_close p.activity ≡ false → exchanged p.activity ≡ None → holding (p ∷ J) k.account k.issue ≡ books p.entries k (holding J k.account k.issue)
@@ -21,8 +21,8 @@ pub books_step : (es : List Entry) (i : ℕ) (e : Entry) (k : Key) (h : Holding)
 books_step es i e k h lt is = grind (arith, books_more, take, take_more)
 
 -- the place of an entry among them has a row
-pub place_there : (rows : Rows) (es : List Entry) (i : ℕ) (e : Entry) → AreThere rows es → i < length es → e ≡ get_or es i e → has_row rows (place_of e) ≡ true
-place_there rows es i e a lt is = rw is (All-from_recursion (λ x. has_row rows (place_of x) ≡ true) es a i e lt)
+pub place_there : (rows : Rows) (es : List Entry) (i : ℕ) (e : Entry) → AreThere rows es → i < length es → e ≡ get_or es i e → has_row rows (entry_key e) ≡ true
+place_there rows es i e a lt is = rw is (All-from_recursion (λ x. has_row rows (entry_key x) ≡ true) es a i e lt)
 
 small_few : (f : Entry → ℤ) (n : ℕ) → ((e : Entry) → IsSmallEntry e → unsigned_abs (f e) ≤ n) → (es : List Entry) → AreSmallEntries es → unsigned_abs (total f es) ≤ n * length es
 small_few f n small [] h = omega arith
@@ -39,14 +39,14 @@ pub cents_fit : (es : List Entry) (i : ℕ) (rows : Rows) (k : Key) → AreSmall
 cents_fit es i rows k small few w = omega (arith, ints, small_few (cents_for k.account k.issue) booking_limit (λ e h. grind (arith, h.cents)) (take i es) (small_first es i small), length-take i es, w.cents k)
 
 -- the keys of both are their places
-pub both_places : (es : List Entry) (a b : Entry) (p q : Key) → length es ≡ 2 → p ≡ place_of (get_or es 0 a) → q ≡ place_of (get_or es 1 b) → p ∷ q ∷ [] ≡ places_of es
+pub both_places : (es : List Entry) (a b : Entry) (p q : Key) → length es ≡ 2 → p ≡ entry_key (get_or es 0 a) → q ≡ entry_key (get_or es 1 b) → p ∷ q ∷ [] ≡ places_of es
 both_places (x ∷ y ∷ []) a b p q two own other = cc
 both_places _ a b p q two own other = cc
 
 -- where each of their places has a row, each entry's has
 pub each_there : (rows : Rows) (es : List Entry) → ((k : Key) → Contains (places_of es) k → has_row rows k ≡ true) → AreThere rows es
 each_there rows [] h = tt
-each_there rows (x ∷ es) h = (h (place_of x) (0, omega arith, refl), each_there rows es (λ k c. h k (suc c.0, omega (arith, c.1), c.2)))
+each_there rows (x ∷ es) h = (h (entry_key x) (0, omega arith, refl), each_there rows es (λ k c. h k (suc c.0, omega (arith, c.1), c.2)))
 
 -- an entry for another account passes a key by
 passed : (e : Entry) (es : List Entry) (k : Key) (h : Holding) → (e.account == k.account) ≡ false → books (e ∷ es) k h ≡ books es k h

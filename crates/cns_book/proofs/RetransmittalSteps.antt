@@ -32,18 +32,22 @@ filtered_values : (es : List (Cusip × Liables)) → map (λ e. e.1) (filter (λ
 filtered_values [] = refl
 filtered_values (e ∷ es) = grind (arith, filtered_values es)
 
+-- lists that have the same batches
+alike : (xs ys : List (Cusip × Liables)) → is_sorted (slice_cmp nat_cmp) xs ≡ true → is_sorted (slice_cmp nat_cmp) ys ≡ true → ((c : Cusip) → find (slice_cmp nat_cmp) c (filter (λ e. has_members e.1) xs) ≡ find (slice_cmp nat_cmp) c (filter (λ e. has_members e.1) ys)) → filter has_members (map (λ e. e.1) xs) ≡ filter has_members (map (λ e. e.1) ys)
+alike xs ys s t same =
+    sym (filtered_values xs)
+    ∙ ap (map (λ e. e.1)) (same_lists nat_list_cmp_total exact_bytes _ _ (sorted_filter nat_list_cmp_total has_members xs s) (sorted_filter nat_list_cmp_total has_members ys t) same)
+    ∙ filtered_values ys
+
 -- the batches of what is called are those of the issues
 pub batches_same : (g : Cusip → List Liable) (cs : List Cusip) (es : List (Cusip × CalledIn)) → is_rising (slice_cmp nat_cmp) cs ≡ true → is_sorted (slice_cmp nat_cmp) es ≡ true → ((c : Cusip) → option_map_or (λ x. chosen x.shorts x.total) (called_in es c) [] ≡ cond (list_any (λ d. bytes_eq d c) cs) (g c) []) → batches_of es ≡ filter has_members (map (λ c. record { issue = c; members = g c }) cs)
 batches_same g cs es rising sorted h =
-    let R = slice_cmp nat_cmp in let p : Cusip → Liables = λ c. record { issue = c; members = g c } in
-    let xs : List (Cusip × Liables) = with_batches es in let ys : List (Cusip × Liables) = map (λ c. (c, p c)) cs in
+    let p : Cusip → Liables = λ c. record { issue = c; members = g c } in
     let s = sorted_batches es sorted in let t = sorted_with p cs rising in
-    let alike : (c : Cusip) → find R c (filter (λ e. has_members e.1) xs) ≡ find R c (filter (λ e. has_members e.1) ys) = λ c.
-    grind (arith, find_filter nat_list_cmp_total has_members c xs s, find_batch c es, h c, find_with p c cs, find_filter nat_list_cmp_total has_members c ys t) in
-    let lists = same_lists nat_list_cmp_total exact_bytes (filter (λ e. has_members e.1) xs) (filter (λ e. has_members e.1) ys) (sorted_filter nat_list_cmp_total has_members xs s) (sorted_filter nat_list_cmp_total has_members ys t) alike in
-    ap (filter has_members) (sym (map-map (λ e. e.1) (λ e. (e.0, batch_of e)) es)) ∙ sym (filtered_values xs)
-    ∙ ap (map (λ e. e.1)) lists
-    ∙ filtered_values ys ∙ ap (filter has_members) (map-map (λ e. e.1) (λ c. (c, p c)) cs)
+    ap (filter has_members) (sym (map-map (λ e. e.1) (λ e. (e.0, batch_of e)) es))
+    ∙ alike (with_batches es) (map (λ c. (c, p c)) cs) s t (λ c.
+    grind (arith, find_filter nat_list_cmp_total has_members c (with_batches es) s, find_batch c es, h c, find_with p c cs, find_filter nat_list_cmp_total has_members c (map (λ c. (c, p c)) cs) t))
+    ∙ ap (filter has_members) (map-map (λ e. e.1) (λ c. (c, p c)) cs)
 
 -- in an issue that is not listed nothing is called
 nothing : (J : Journal) (c : Cusip) (ns : List Notice) → is_listed J c ≡ false → AllByRecursion (IsNoticed J) ns → filter (λ n. (n.given.day == day J) && same_issue n.given.issue c) ns ≡ []

@@ -1,23 +1,19 @@
 -- Where entries are booked, and what splits and exchanges are checked for.
 use Rattle.std.specs.Prelude.{◌≡◌, ◌≤◌, true, false, ◌*◌, Bool, not, ◌&&◌, ◌||◌, List, [], ◌∷◌, map, Option, None, Some, ℤ, pos, unsigned_abs}
 use Rattle.std.specs.Ordering.{int_eq}
-use Rattle.cns_book.specs.Common.{AllByRecursion, Day, Journal, Rule, booking_limit, corporation_limit, history_limit, is_listed, is_retired, pending, same_issue, Activity, Entry, Key, Rows, has_row, holding_at}
+use Rattle.cns_book.specs.Common.{AllByRecursion, Day, Journal, Rule, booking_limit, corporation_limit, entry_key, history_limit, is_listed, is_retired, pending, same_issue, Activity, Entry, Key, Rows, has_row, holding_at}
 use Rattle.cns_terms.specs.declared.action.Exchange.{Exchange}
 use Rattle.cns_terms.specs.declared.refusal.Refusal.TheVariants.{NoSuchIssue, Retired, SameIssue}
 use Rattle.cns_actions.specs.declared.action.Action.{Action}
 use Rattle.cns_actions.specs.Booked.{waits_for}
 
--- where an entry is booked
-abbrev pub place_of : Entry → Key
-place_of e = record { account = e.account; issue = e.issue }
-
 -- where entries are booked
 abbrev pub places_of : List Entry → List Key
-places_of es = map place_of es
+places_of es = map entry_key es
 
 -- each of their places has a row
 abbrev pub AreThere : Rows → List Entry → Type 0
-AreThere rows es = AllByRecursion (λ e. has_row rows (place_of e) ≡ true) es
+AreThere rows es = AllByRecursion (λ e. has_row rows (entry_key e) ≡ true) es
 
 -- whether a position has its row: one of no shares may be without
 abbrev pub stands : Option ℤ → Bool

@@ -1,12 +1,13 @@
 // What trades and movements book: two entries, at keys that have rows. Splits and exchanges book in `cns_actions`.
 ghost use Rattle.std.specs.Prelude.{◌≡◌, List, ◌≤◌, ◌*◌, ◌^◌, length, unsigned_abs, OnOk, Contains, true};
 ghost use Rattle.cns_terms.specs.declared.holding.Key.{Key};
+ghost use Rattle.cns_terms.specs.Keys.{entry_key};
 ghost use Rattle.cns_positions.specs.Rows.{booked, books, has_row, holding_at};
 ghost use Rattle.cns_trades.specs.Checks.{AreSmallEntries, IsSmallEntry};
-ghost use Rattle.cns_book.specs.Effects.{AreThere, AreWithin, place_of, places_of, stands};
+ghost use Rattle.cns_book.specs.Effects.{AreThere, AreWithin, places_of, stands};
 
 use cns_positions::Positions;
-use cns_terms::{Entry, Key, NoMemory};
+use cns_terms::{Entry, NoMemory};
 
 /// Whether a position has its row: one of no shares may be without.
 pub fn stands(position: Option<i64>) -> bool
@@ -36,7 +37,7 @@ pub fn prepare<P: Positions<A>, A>(
         return Ok(());
     }
     let [first, second] = entries;
-    let keys = [key_of(first), key_of(second)];
+    let keys = [first.key(), second.key()];
     positions.prepare(&keys)?;
     Ok(())
 }
@@ -59,23 +60,13 @@ pub fn book<P: Positions<A>, A>(positions: &mut P, entries: &[Entry])
 
 // Books an entry at a key that has a row.
 fn add<P: Positions<A>, A>(positions: &mut P, entry: &Entry)
-    requires there { has_row (P.rows positions.old) (place_of entry.now) ≡ true }
+    requires there { has_row (P.rows positions.old) (entry_key entry.now) ≡ true }
     requires entry { IsSmallEntry entry.now }
-    requires shares { unsigned_abs (holding_at (P.rows positions.old) (place_of entry.now)).now ≤ 2 ^ 62 }
-    requires cents { unsigned_abs (holding_at (P.rows positions.old) (place_of entry.now)).contract ≤ 2 ^ 126 }
+    requires shares { unsigned_abs (holding_at (P.rows positions.old) (entry_key entry.now)).now ≤ 2 ^ 62 }
+    requires cents { unsigned_abs (holding_at (P.rows positions.old) (entry_key entry.now)).contract ≤ 2 ^ 126 }
     ensures booked { (k : Key) → holding_at (P.rows positions.new) k
         ≡ booked entry.now k (holding_at (P.rows positions.old) k) }
     ensures places { (k : Key) → has_row (P.rows positions.new) k ≡ has_row (P.rows positions.old) k }
 {
-    positions.add(key_of(entry), entry.shares, entry.cents);
-}
-
-// Where an entry is booked.
-fn key_of(entry: &Entry) -> Key
-    ensures { result ≡ place_of entry.now }
-{
-    Key {
-        account: entry.account,
-        issue: entry.issue,
-    }
+    positions.add(entry.key(), entry.shares, entry.cents);
 }

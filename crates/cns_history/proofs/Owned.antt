@@ -1,5 +1,5 @@
 -- Lines that are added one after another.
--- For `add_each_since`, `add_each_opened`, `add_all_opened`, `add_opened_on` and `first_issue` of everywhere.rt; `accounts_in` of accounts.rt.
+-- For `add_each_since`, `add_each_opened`, `add_all_opened`, `add_opened_on` and `first_issue` of everywhere.rt; `accounts_in` of accounts.rt; `bookings_in` of booked.rt in cns_account, `add_entry` of past.rt in cns_account, `add_paid` of dividends.rt in cns_account.
 use Rattle.cns_history.proofs.Common.{◌≡◌, ◌∙◌, sym, ap, refl, ℕ, ◌+◌, ◌<◌, Bool, false, cond, filter, slice_get, Ok, arith, List, [], ◌∷◌, ◌++◌, Option, None, Some, append_assoc, append-nil, filter_map, map, cons_option, flat_map, Account, Cusip, Price, prices_above, place, numbers}
 use Rattle.std.specs.Option.{option_to_list}
 use Rattle.std.proofs.lemmas.List.{map-id}

@@ -8,7 +8,7 @@ pub use Rattle.std.specs.Option.{option_map_or}
 pub use Rattle.std.specs.Ordering.{int_cmp, int_eq, is_eq, nat_cmp}
 pub use Rattle.cns_account.specs.Fails.{fail, fail_text}
 pub use Rattle.cns_account.specs.Moves.{AreMoves, moves_at}
-pub use Rattle.cns_account.specs.Rows.{booked_text, causes, mark_text, moved, no_causes, place_of, position_text, with_causes}
+pub use Rattle.cns_account.specs.Rows.{booked_text, causes, mark_text, moved, no_causes, position_text, with_causes}
 pub use Rattle.cns_account.specs.declared.day_moves.DayMoves.{DayMoves}
 pub use Rattle.cns_account.specs.declared.fails.Fail.{Fail}
 pub use Rattle.cns_book.specs.Log.{Log, state_of}
@@ -25,7 +25,7 @@ pub use Rattle.cns_tables.specs.Pieces.{filled, piece_text}
 pub use Rattle.cns_tables.specs.Tables.{cells, row_of, table_text}
 pub use Rattle.cns_tables.specs.declared.style.TheConstants.{START, STYLE}
 pub use Rattle.cns_tables.specs.declared.table.TheConstants.{ROW}
-pub use Rattle.cns_terms.specs.Common.{Account, Cusip, Day, DaySheet, Journal, Liables, Price, State, answer, bought_in, date, day, is_live, is_not_after, journal_of, notices, opened, pend_of, sold_in, stage}
+pub use Rattle.cns_terms.specs.Common.{Account, Cusip, Day, DaySheet, Journal, Liables, Price, State, answer, bought_in, date, day, is_live, is_not_after, journal_of, notices, opened, pend_of, row_key, sold_in, stage}
 pub use Rattle.cns_terms.specs.Keys.{key_cmp}
 pub use Rattle.cns_terms.specs.Numbers.{refusal_number}
 pub use Rattle.cns_terms.specs.Sheets.{rows_for, sheet_on, statement}

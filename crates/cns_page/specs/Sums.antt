@@ -1,11 +1,11 @@
 -- The rows of a sheet with what their marks come from, and the sums of them.
 use Rattle.std.specs.Prelude.{ℤ, pos, ◌+ℤ◌, List, map}
-use Rattle.cns_page.specs.Common.{int_wrap, w128, fold, DaySheet, rows_for, total, Row, moves_at, causes, moved, no_causes, place_of, with_causes, DayMoves, MovedRow, Sums}
+use Rattle.cns_page.specs.Common.{int_wrap, w128, fold, DaySheet, rows_for, total, Row, moves_at, causes, moved, no_causes, row_key, with_causes, DayMoves, MovedRow, Sums}
 use Rattle.cns_terms.specs.declared.reply.Stated.{Stated}
 
 -- a row, with what its mark comes from
 abbrev pub moved_row : DayMoves → Row → MovedRow
-moved_row ms r = record { row = r; moved = moved r; causes = causes r.price (moves_at ms (place_of r)) }
+moved_row ms r = record { row = r; moved = moved r; causes = causes r.price (moves_at ms (row_key r)) }
 
 -- a row more, as much of the sums as fits
 abbrev pub with_row : Sums → MovedRow → Sums

@@ -4,7 +4,7 @@ ghost use Rattle.cns_page.specs.Sums.{moved_row, none_of, own_sums, sums_of, wit
 
 use cns_account::{Causes, DayMoves, price_move, wrapped_sum};
 use cns_sheets::Sheet;
-use cns_terms::{Key, Row, Stated};
+use cns_terms::{Row, Stated};
 use cns_units::Cents;
 use std::alloc::Global;
 
@@ -32,10 +32,7 @@ pub struct Sums {
 pub(crate) fn moved_row(moves: &DayMoves, row: &Row) -> MovedRow
     ensures { result ≡ moved_row moves.now row.now }
 {
-    let key = Key {
-        account: row.account,
-        issue: row.issue,
-    };
+    let key = row.key();
     MovedRow {
         row: *row,
         moved: price_move(row),

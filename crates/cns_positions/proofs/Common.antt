@@ -5,9 +5,9 @@ pub use Rattle.std.proofs.lemmas.Iterator.Search.{find_from_yields_List}
 pub use Rattle.std.proofs.lemmas.List.{drop_more, take_rest}
 pub use Rattle.std.proofs.lemmas.List.Elements.{Contains-push_cases, filter_more, recursion_from_All}
 pub use Rattle.std.specs.FinMap.{find, put}
-pub use Rattle.cns_terms.proofs.Common.{AllByRecursion, AllWithin, Contains-get_or, IsNonDecreasingBy, IsPartitionPoint, IsPartitionPoint-from_clause, IsTotalOrder, YieldsFirst, YieldsList-from_shown, below_all, cases_lt, equal, exact_keys, filter-append, filter_map-append, find_filter, ints, is_sorted, key_cmp, keys_total, less, nat_tests, next_above, ordering_index, same_key, sorted_filter, take_more}
+pub use Rattle.cns_terms.proofs.Common.{AllByRecursion, AllWithin, Contains-get_or, IsNonDecreasingBy, IsPartitionPoint, IsPartitionPoint-from_clause, IsTotalOrder, YieldsFirst, YieldsList-from_shown, below_all, cases_lt, equal, exact_keys, filter-append, filter_map-append, find_filter, ints, is_sorted, key_after, key_cmp, keys_total, less, nat_tests, next_above, ordering_index, same_key, sorted_filter, take_more}
 pub use Rattle.cns_terms.specs.declared.holding.Holding.{Holding}
 pub use Rattle.cns_terms.specs.declared.holding.Key.{Key}
-pub use Rattle.cns_positions.specs.Rows.{AreNext, Rows, aged, booked, closed_rows, entry_of, has_row, held_above, holding_at, is_above, is_held, last_of, present, rolled, with_age, zeros}
+pub use Rattle.cns_positions.specs.Rows.{AreNext, Rows, aged, booked, closed_rows, entry_of, has_row, held_above, holding_at, is_held, last_of, present, rolled, with_age, zeros}
 pub use Rattle.cns_positions.specs.Steps.{Map, StepFits, SumsFit, after_step, nowhere, replies, reply_to}
 pub use Rattle.cns_positions.specs.declared.steps.Step.{Step}

@@ -1,6 +1,6 @@
 -- The rows that aren't zeros, above a key.
 -- For `first_rows`, `rows_above`, `next_row` and `next_rows` of flat.rt and others.
-use Rattle.cns_positions.proofs.Common.{arith, ◌≡◌, ◌∙◌, sym, ap, refl, Bool, true, false, ◌&&◌, ℕ, ◌≤◌, List, [], ◌∷◌, ◌++◌, filter, length, get_or, drop, Option, Some, None, MatchOption, is_le, cases_lt, Holding, IsPartitionPoint, Key, Rows, filter_map-append, held_above, is_held, is_sorted, key_cmp, keys_total, less, next_above, present, sorted_filter, AreNext, is_above, last_of}
+use Rattle.cns_positions.proofs.Common.{arith, ◌≡◌, ◌∙◌, sym, ap, refl, Bool, true, false, ◌&&◌, ℕ, ◌≤◌, List, [], ◌∷◌, ◌++◌, filter, length, get_or, drop, Option, Some, None, MatchOption, is_le, cases_lt, Holding, IsPartitionPoint, Key, Rows, filter_map-append, held_above, is_held, is_sorted, key_cmp, keys_total, less, next_above, present, sorted_filter, AreNext, key_after, last_of}
 use Rattle.std.proofs.Common.{find}
 use Rattle.std.specs.List.Sorted.{IsPartitionedBy}
 use Rattle.std.proofs.Math.Bool.{and_comm}
@@ -15,8 +15,8 @@ filter_both p q (x ∷ xs) = grind (arith, filter_both p q xs)
 -- past the first row above a key
 pub held_next : (rows : Rows) (after : Option Key) (r : Key × Holding) (rest : Rows) → is_sorted key_cmp rows ≡ true → held_above rows after ≡ r ∷ rest → held_above rows (Some r.0) ≡ rest
 held_next rows after r rest s e =
-    sym (filter_both (λ q. is_above (Some r.0) q.0) (λ r. is_held r.1) rows)
-    ∙ next_above keys_total (is_above after) (filter (λ r. is_held r.1) rows) r rest (λ k q a l. grind (arith, less, keys_total)) (sorted_filter keys_total is_held rows s) (filter_both (λ r. is_above after r.0) (λ r. is_held r.1) rows ∙ e)
+    sym (filter_both (λ q. key_after (Some r.0) q.0) (λ r. is_held r.1) rows)
+    ∙ next_above keys_total (key_after after) (filter (λ r. is_held r.1) rows) r rest (λ k q a l. grind (arith, less, keys_total)) (sorted_filter keys_total is_held rows s) (filter_both (λ r. key_after after r.0) (λ r. is_held r.1) rows ∙ e)
 
 -- past the first rows above a key
 pub held_rest : (rows : Rows) (after : Option Key) (given rest : Rows) → is_sorted key_cmp rows ≡ true → held_above rows after ≡ given ++ rest → held_above rows (last_of after given) ≡ rest
@@ -33,9 +33,9 @@ parted_at rows k s i j d p q h =
 -- the rows from the first above a key on
 pub above_parted : (rows : Rows) (k : Key) (i : ℕ) → i ≤ length rows → IsPartitionPoint (λ r. is_le (key_cmp r.0 k) ≡ true) (λ r. is_le (key_cmp r.0 k) ≡ false) rows i → held_above (drop i rows) None ≡ held_above rows (Some k)
 above_parted rows k i le parted =
-    ap (filter (λ (r : Key × Holding). is_held r.1)) (sym (filter_back (λ r. is_above (Some k) r.0) rows i le (λ j d p q. grind (arith, keys_total, parted.0 j d)) (λ j d p q. grind (arith, keys_total, parted.1 j d))))
-    ∙ filter_both (λ r. is_held r.1) (λ r. is_above (Some k) r.0) rows
-    ∙ (λ j. filter (λ (r : Key × Holding). and_comm (is_held r.1) (is_above (Some k) r.0) j) rows)
+    ap (filter (λ (r : Key × Holding). is_held r.1)) (sym (filter_back (λ r. key_after (Some k) r.0) rows i le (λ j d p q. grind (arith, keys_total, parted.0 j d)) (λ j d p q. grind (arith, keys_total, parted.1 j d))))
+    ∙ filter_both (λ r. is_held r.1) (λ r. key_after (Some k) r.0) rows
+    ∙ (λ j. filter (λ (r : Key × Holding). and_comm (is_held r.1) (key_after (Some k) r.0) j) rows)
 
 -- the first rows above a key, as many as are given
 pub next_given : (rows : Rows) (after : Option Key) (given rest : Rows) → is_sorted key_cmp rows ≡ true → held_above rows after ≡ given ++ rest → (given ≡ [] → held_above rows after ≡ []) → AreNext rows after given

@@ -1,6 +1,6 @@
 -- Rows of positions: what stands at each key, in the order of keys.
 use Rattle.std.specs.Prelude.{◌≡◌, ◌+◌, ◌-◌, ◌^◌, ℕ, ℤ, pos, ◌+ℤ◌, int_lt, Bool, true, ◌&&◌, not, ◌==◌, min, max, List, [], ◌∷◌, ◌++◌, filter, filter_map, map, Option, Some, None, is_some, unwrap_or, if◌then◌else◌}
-use Rattle.cns_terms.specs.Common.{cents_for, entry, is_lt, key_cmp, oldest_of, same_issue, shares_for, total}
+use Rattle.cns_terms.specs.Common.{cents_for, entry, key_after, key_cmp, oldest_of, same_issue, shares_for, total}
 use Rattle.std.specs.Ordering.{int_eq}
 use Rattle.std.specs.FinMap.{find}
 use Rattle.cns_terms.specs.declared.holding.Key.{Key}
@@ -62,14 +62,9 @@ rolled h = record {
 abbrev pub closed_rows : Rows → Rows
 closed_rows rows = map (λ r. (r.0, rolled r.1)) rows
 
--- whether the key is above the other, if there is one
-abbrev pub is_above : Option Key → Key → Bool
-is_above None k = true
-is_above (Some low) k = is_lt (key_cmp low k)
-
 -- the rows above a key that aren't zeros
 abbrev pub held_above : Rows → Option Key → Rows
-held_above rows after = filter (λ r. is_above after r.0 && is_held r.1) rows
+held_above rows after = filter (λ r. key_after after r.0 && is_held r.1) rows
 
 -- the values that are there
 abbrev pub present : {X : Type 0} → List (Option X) → List X

@@ -1,6 +1,6 @@
 -- The marks of a sheet add up to zero.
 -- For `build` of sheet.rt.
-use Rattle.cns_sheets.proofs.Common.{◌&&◌, ◌≡◌, ◌∙◌, sym, ap, refl, ℕ, ℤ, pos, ◌+ℤ◌, ◌-ℤ◌, ◌*ℤ◌, neg_ℤ, Bool, true, false, not, cond, List, [], ◌∷◌, map, filter, Option, unwrap_or, arith, int_eq, AreBalanced, CanBeCut, CentsByKey, Cusip, DaySheet, Holding, IsCut, Key, Listed, Paying, Row, Rows, by_key, bytes_eq-Decides, cents_at, closing_in, cut_row, dividend_of, exact_keys, find, find_filter, held_in, idle_parts, ints, is_sorted, key_cmp, key_of, keys_total, marked, option_map_or, price_in, price_on, prices_of, row_at, rows_before, same_issue, same_lists, says, sorted_filter, total, total-add, total-map, total-neg, total-same, worth, zero-*ℤ, zero_add}
+use Rattle.cns_sheets.proofs.Common.{◌&&◌, ◌≡◌, ◌∙◌, sym, ap, refl, ℕ, ℤ, pos, ◌+ℤ◌, ◌-ℤ◌, ◌*ℤ◌, neg_ℤ, Bool, true, false, not, cond, List, [], ◌∷◌, map, filter, Option, unwrap_or, arith, int_eq, AreBalanced, CanBeCut, CentsByKey, Cusip, DaySheet, Holding, IsCut, Key, Listed, Paying, Row, Rows, by_key, bytes_eq-Decides, cents_at, closing_in, cut_row, dividend_of, exact_keys, find, find_filter, held_in, idle_parts, ints, is_sorted, key_cmp, row_key, keys_total, marked, option_map_or, price_in, price_on, prices_of, row_at, rows_before, same_issue, same_lists, says, sorted_filter, total, total-add, total-map, total-neg, total-same, worth, zero-*ℤ, zero_add}
 use Rattle.std.proofs.Math.IntN.{+ℤ_assoc, +ℤ_comm}
 use Rattle.cns_terms.proofs.ZeroSums.{times_sum}
 use Rattle.cns_sheets.proofs.Entries.{find_keyed, sorted_keyed}
@@ -75,9 +75,9 @@ module _ {V : Type 0} (f : V → ℤ) where
 
 -- numbers that rows and a list have alike at each key
 same_numbers : {V : Type 0} (g : Row → ℤ) (f : Key × V → ℤ) (s : Key × ℤ → ℤ) → ((k : Key) → s (k, pos 0) ≡ pos 0) → (rows : List Row) (es : List (Key × V)) → is_sorted key_cmp (by_key rows) ≡ true → is_sorted key_cmp es ≡ true
-    → ((k : Key) → option_map_or g (row_at rows k) (pos 0) ≡ option_map_or (λ v. f (k, v)) (find key_cmp k es) (pos 0)) → total (λ r. s (key_of r, g r)) rows ≡ total (λ e. s (e.0, f e)) es
+    → ((k : Key) → option_map_or g (row_at rows k) (pos 0) ≡ option_map_or (λ v. f (k, v)) (find key_cmp k es) (pos 0)) → total (λ r. s (row_key r, g r)) rows ≡ total (λ e. s (e.0, f e)) es
 same_numbers g f s nothing rows es a b h =
-    sym (total_numbers g s (by_key rows) ∙ total-map (λ (e : Key × Row). s (e.0, g e.1)) (λ r. (key_of r, r)) rows)
+    sym (total_numbers g s (by_key rows) ∙ total-map (λ (e : Key × Row). s (e.0, g e.1)) (λ r. (row_key r, r)) rows)
     ∙ same_sums s nothing (numbers g (by_key rows)) (map (λ e. (e.0, f e)) es) (sorted_numbers g (by_key rows) a) (rw (sorted_keyed key_cmp f es) b) (λ k. grind (arith, found_number g k (pos 0) (by_key rows), find_keyed f k es, h k))
     ∙ total-map s (λ e. (e.0, f e)) es
 

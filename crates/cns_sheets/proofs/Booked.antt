@@ -1,6 +1,6 @@
 -- What payments book.
 -- For `pay_members`, `add` and `pay` of payments.rt.
-use Rattle.cns_sheets.proofs.Common.{◌≡◌, refl, ◌+◌, ◌*◌, ◌^◌, ◌≤◌, ◌==◌, ℤ, pos, ◌+ℤ◌, ◌-ℤ◌, neg_ℤ, of_z, to_z, Bool, true, not, cond, ◌&&◌, List, [], ◌∷◌, ◌++◌, Option, Some, unwrap_or, arith, FitsSigned, unsigned_abs, sum_by, is_eq, CentsByKey, IsPayable, Key, Row, by_key, cash, cents_at, closing_at, corporation, equal, exact_keys, find_below, insert_entry, ints, is_sorted, key_cmp, key_of, keys_total, lookup, member_cash, paid, same_issue, same_key, sum_by-cons, sum_by-append, total, w128, Declared}
+use Rattle.cns_sheets.proofs.Common.{◌≡◌, refl, ◌+◌, ◌*◌, ◌^◌, ◌≤◌, ◌==◌, ℤ, pos, ◌+ℤ◌, ◌-ℤ◌, neg_ℤ, of_z, to_z, Bool, true, not, cond, ◌&&◌, List, [], ◌∷◌, ◌++◌, Option, Some, unwrap_or, arith, FitsSigned, unsigned_abs, sum_by, is_eq, CentsByKey, IsPayable, Key, Row, by_key, cash, cents_at, closing_at, corporation, equal, exact_keys, find_below, insert_entry, ints, is_sorted, key_cmp, row_key, keys_total, lookup, member_cash, paid, same_issue, same_key, sum_by-cons, sum_by-append, total, w128, Declared}
 use Rattle.std.specs.BTreeMap.{is_at}
 use Rattle.std.proofs.Math.IntN.{+ℤ_assoc, +ℤ_comm, +ℤ_idl, +ℤ_idr}
 use Rattle.std.proofs.lemmas.Cmp.{eq_by_cmp_equiv}
@@ -41,7 +41,7 @@ both_small e old part now new sum was is a b = grind arith
 module _ (d : Declared) where
   -- what is booked for a row at a key
   abbrev pub booked : Key → Row → ℤ
-  booked k r = cond (is_eq (key_cmp k (key_of r))) (member_cash d r) (pos 0)
+  booked k r = cond (is_eq (key_cmp k (row_key r))) (member_cash d r) (pos 0)
 
   -- what is at most the cash of each row adds up to no more than all of it, whatever the signs
   within : (f : Row → ℤ) → ((r : Row) → unsigned_abs (f r) ≤ unsigned_abs (member_cash d r)) → (rows : List Row) → unsigned_abs (total f rows) ≤ sum_by (λ r. unsigned_abs (member_cash d r)) rows
@@ -69,7 +69,7 @@ module _ (d : Declared) where
   -- the sum over the rows of a key has one term
   booked_once : (k : Key) (rows : List Row) → is_sorted key_cmp (by_key rows) ≡ true → total (booked k) rows ≡ cash_at k (closing_at rows k)
   booked_once k [] s = grind arith
-  booked_once k (r ∷ rows) s = grind (arith, +ℤ_idl, +ℤ_idr, exact_keys k (key_of r), equal, find_below keys_total k (by_key rows), booked_once k rows)
+  booked_once k (r ∷ rows) s = grind (arith, +ℤ_idl, +ℤ_idr, exact_keys k (row_key r), equal, find_below keys_total k (by_key rows), booked_once k rows)
 
   -- the corporation's key is no member's
   with_corporation : (k corp : Key) (closing part : ℤ) → corp.account ≡ corporation → corp.issue ≡ d.issue

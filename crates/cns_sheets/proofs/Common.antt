@@ -11,13 +11,13 @@ pub use Rattle.cns_positions.proofs.Puts.{below_later, comparisons_rise, find_at
 pub use Rattle.cns_positions.proofs.Unheld.{held_same}
 pub use Rattle.cns_positions.specs.Rows.{Rows, held_above, is_held, last_of, present, zeros}
 pub use Rattle.cns_prices.specs.Listed.{Listed, listed_above, price_in}
-pub use Rattle.cns_terms.proofs.Common.{Account, AllByRecursion, Cusip, DaySheet, IsPartitionPoint, IsSend, IsTotalOrder, Price, added, added-each, amount_limit, below_all, bytes_eq-Decides, cash, corporation, crosses, drop_all, each_filter, each_weaker, equal, exact_keys, filter-append, find_below, find_filter, front_total, idle_parts, insert_entry, ints, is_eq-slice_cmp, is_sorted, key_cmp, keys_total, lookup, map-append, member_limit, nat_list_cmp_total, nat_tests, next_above, option_map_or, option_or, rows_for, same_issue, same_key, same_lists, says, sendable, slice_cmp, sorted_filter, sorted_from, sum_by-append, sum_by-cons, tied_itself, total, total-add, total-append, total-map, total-neg, total-same, unsigned_abs-mul, w128, zero-*ℤ, zero_add}
+pub use Rattle.cns_terms.proofs.Common.{Account, AllByRecursion, Cusip, DaySheet, IsPartitionPoint, IsSend, IsTotalOrder, Price, added, added-each, amount_limit, below_all, bytes_eq-Decides, cash, corporation, crosses, drop_all, each_filter, each_weaker, equal, exact_keys, filter-append, find_below, find_filter, front_total, idle_parts, insert_entry, ints, is_eq-slice_cmp, is_sorted, key_cmp, keys_total, lookup, map-append, member_limit, nat_list_cmp_total, nat_tests, next_above, option_map_or, option_or, row_key, rows_for, same_issue, same_key, same_lists, says, sendable, slice_cmp, sorted_filter, sorted_from, sum_by-append, sum_by-cons, tied_itself, total, total-add, total-append, total-map, total-neg, total-same, unsigned_abs-mul, w128, zero-*ℤ, zero_add}
 pub use Rattle.cns_terms.specs.declared.action.Declared.{Declared}
 pub use Rattle.cns_terms.specs.declared.holding.Holding.{Holding}
 pub use Rattle.cns_terms.specs.declared.holding.Key.{Key}
 pub use Rattle.cns_terms.specs.declared.sheet.Row.{Row}
 pub use Rattle.cns_tree.specs.Search.{is_after, is_at_or_after}
-pub use Rattle.cns_sheets.specs.Build.{AreBalanced, Columns, HasSmallCents, IsMarked, PriceList, by_key, closing_in, full_row, full_rows, key_of, marked, price_on, prices_of, sum_limit, worth}
+pub use Rattle.cns_sheets.specs.Build.{AreBalanced, Columns, HasSmallCents, IsMarked, PriceList, by_key, closing_in, full_row, full_rows, marked, price_on, prices_of, sum_limit, worth}
 pub use Rattle.cns_sheets.specs.Condition.{CanBeCut, held_in, rows_before}
 pub use Rattle.cns_sheets.specs.InIssue.{AreAccounts, IsPlaceIn, entries_from, is_next_in, place_after, reaches, rows_from}
 pub use Rattle.cns_sheets.specs.Payments.{IsCut, IsPayable, Paying, closing_at, cut_row, dividend_of, member_cash, paid, paying}

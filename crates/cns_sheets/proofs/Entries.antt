@@ -15,10 +15,6 @@ pub first_passes : {X : Type 0} (t : X → Bool) (xs : List X) (f : X) → first
 first_passes t [] f h = cc
 first_passes t (x ∷ xs) f h = grind (arith, first_passes t xs f)
 
--- the elements from a place on begin with the one there
-pub next_is : {X : Type 0} (xs : List X) (i : ℕ) (x : X) → i < length xs → x ≡ get_or xs i x → drop i xs ≡ x ∷ drop (i + 1) xs
-next_is xs i x lt is = grind (arith, drop_more)
-
 module _ {K X : Type 0} (R : K → K → Ordering) where
   -- what a test of keys keeps is in order
   pub sorted_if : (t : K → Bool) (es : List (K × X)) → is_sorted R es ≡ true → is_sorted R (filter (λ e. t e.0) es) ≡ true

@@ -1,6 +1,6 @@
 -- What a sheet keeps of the rows that it is built from.
 -- For `build` of sheet.rt.
-use Rattle.cns_sheets.proofs.Common.{◌≡◌, ◌∙◌, Bool, false, cond, key_of, ap, refl, ℕ, ℤ, pos, true, Option, Some, option_map, unwrap_or, Holding, zeros, List, [], ◌∷◌, map, filter, None, nat_cmp, arith, CentsByKey, Cusip, IsCut, Key, Listed, Paying, PriceList, Row, Rows, Woven, by_key, cents_at, dividend_of, find, find_filter, held_above, held_same, is_held, is_sorted, key_cmp, keys_total, listed_above, price_in, says, slice_cmp, sorted_filter, weave, woven_row, woven_rows}
+use Rattle.cns_sheets.proofs.Common.{◌≡◌, ◌∙◌, Bool, false, cond, row_key, ap, refl, ℕ, ℤ, pos, true, Option, Some, option_map, unwrap_or, Holding, zeros, List, [], ◌∷◌, map, filter, None, nat_cmp, arith, CentsByKey, Cusip, IsCut, Key, Listed, Paying, PriceList, Row, Rows, Woven, by_key, cents_at, dividend_of, find, find_filter, held_above, held_same, is_held, is_sorted, key_cmp, keys_total, listed_above, price_in, says, slice_cmp, sorted_filter, weave, woven_row, woven_rows}
 use Rattle.cns_sheets.proofs.Entries.{find_keyed, sorted_if, sorted_keyed}
 use Rattle.cns_sheets.proofs.Weaving.{both_at, find_weave, sorted_weave}
 use Rattle.cns_terms.proofs.Finds.{kept_if}
@@ -19,7 +19,7 @@ listed_found c (e ∷ es) = grind (arith, listed_found c es)
 -- ---- rows
 
 -- a row with its key, if it is kept
-keyed_if : (b : Bool) (r : Row) (rows : List Row) → by_key (cond b (r ∷ rows) rows) ≡ cond b ((key_of r, r) ∷ by_key rows) (by_key rows)
+keyed_if : (b : Bool) (r : Row) (rows : List Row) → by_key (cond b (r ∷ rows) rows) ≡ cond b ((row_key r, r) ∷ by_key rows) (by_key rows)
 keyed_if true r rows = refl
 keyed_if false r rows = refl
 

@@ -2,7 +2,7 @@
 -- For `past` and `next_price` of search.rt.
 use Rattle.cns_sheets.proofs.Common.{◌≡◌, ◌∙◌, sym, refl, ℕ, ◌+◌, ◌<◌, ◌≤◌, true, [], ◌∷◌, length, get_or, drop, Option, Some, None, arith, MatchOption, option_copied, HoldsAt, nat_cmp, Less, Equal, Greater, Cusip, IsPartitionPoint, Price, PriceList, below_later, drop_all, is_sorted, nat_list_cmp_total, next_above, prices_above, slice_cmp}
 use denote.Bor.{Bor}
-use Rattle.cns_sheets.proofs.Entries.{next_is}
+use Rattle.cns_terms.proofs.Facts.{left_first}
 use Rattle.cns_positions.proofs.Parted.{filter_back, filter_whole}
 use Rattle.cns_prices.specs.Listed.{is_after}
 
@@ -23,4 +23,4 @@ pub price_at : (prices : PriceList) (after : Option Cusip) (i : ℕ) (r : Option
     → MatchOption r (length prices ≤ i) (λ x. (i < length prices) × HoldsAt (λ y. x.now ≡ y) prices i)
     → MatchOption (option_copied r) (prices_above prices after ≡ []) (λ e. prices_above prices after ≡ e ∷ prices_above prices (Some e.0))
 price_at prices after i None s whole h = sym whole ∙ drop_all i prices h
-price_at prices after i (Some x) s whole h = grind (arith, next_is prices i x.now h.0 (h.1 x.now), next_above nat_list_cmp_total (is_after after) prices x.now (drop (i + 1) prices) (λ c d p l. grind (arith, nat_list_cmp_total.trans)) s)
+price_at prices after i (Some x) s whole h = grind (arith, left_first prices i x.now h.0 (h.1 x.now), next_above nat_list_cmp_total (is_after after) prices x.now (drop (i + 1) prices) (λ c d p l. grind (arith, nat_list_cmp_total.trans)) s)

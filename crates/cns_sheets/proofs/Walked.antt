@@ -1,6 +1,6 @@
 -- The rows of an account, found from its first row on.
 -- For `of_rows`, `row`, `rows_of` and `rows_in` of sheet.rt and others.
-use Rattle.cns_sheets.proofs.Common.{◌≡◌, ◌∙◌, each_weaker, ap, refl, subst, ◌≤◌, ◌==◌, map, option_map, Bool, true, false, not, List, [], ◌∷◌, filter, Option, Some, None, arith, is_lt, Less, Account, AllByRecursion, AreFrom, Columns, IsMarked, Key, Row, ahead_of, below_all, by_key, find, first, full_row, full_rows, if_of, is_after, is_at_or_after, is_sorted, key_cmp, key_of, keys_total, lowest_of, nat_tests, passed, row_at, rows_for, sorted_filter}
+use Rattle.cns_sheets.proofs.Common.{◌≡◌, ◌∙◌, each_weaker, ap, refl, subst, ◌≤◌, ◌==◌, map, option_map, Bool, true, false, not, List, [], ◌∷◌, filter, Option, Some, None, arith, is_lt, Less, Account, AllByRecursion, AreFrom, Columns, IsMarked, Key, Row, ahead_of, below_all, by_key, find, first, full_row, full_rows, if_of, is_after, is_at_or_after, is_sorted, key_cmp, row_key, keys_total, lowest_of, nat_tests, passed, row_at, rows_for, sorted_filter}
 use Rattle.std.proofs.lemmas.List.Elements.{filter_passes, recursion_from_All}
 use Rattle.cns_terms.proofs.Everywhere.{each_map}
 use Rattle.cns_sheets.proofs.Entries.{filter-map, find_keyed, first_above, sorted_if, sorted_keyed}
@@ -22,7 +22,7 @@ row_found k es = grind (arith, rows_keyed es, find_keyed full_row k es)
 
 -- rows that a test keeps are in order, where all are
 pub sorted_kept : (p : Row → Bool) (rows : List Row) → is_sorted key_cmp (by_key rows) ≡ true → is_sorted key_cmp (by_key (filter p rows)) ≡ true
-sorted_kept p rows s = rw (← filter-map (λ (e : Key × Row). p e.1) (λ r. (key_of r, r)) rows) (sorted_filter keys_total p (by_key rows) s)
+sorted_kept p rows s = rw (← filter-map (λ (e : Key × Row). p e.1) (λ r. (row_key r, r)) rows) (sorted_filter keys_total p (by_key rows) s)
 
 -- ---- rows from an account on
 
@@ -33,7 +33,7 @@ none_above a k (r ∷ rs) le other b = grind (arith, none_above a k rs le other)
 
 -- where the first of rows from an account on is not the account's, none is
 pub none_is : (a : Account) (r : Row) (rs : List Row) → AreFrom a (r ∷ rs) → (r.account == a) ≡ false → rows_for (r ∷ rs) a ≡ []
-none_is a r rs h e = grind (arith, h.past.0, h.rise, none_above a (key_of r) rs)
+none_is a r rs h e = grind (arith, h.past.0, h.rise, none_above a (row_key r) rs)
 
 -- ---- the first row of an account
 

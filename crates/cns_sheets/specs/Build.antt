@@ -1,6 +1,6 @@
 -- A row of a sheet, and what a sheet keeps.
 use Rattle.std.specs.Prelude.{◌≡◌, ℕ, ◌*◌, ◌^◌, ◌<◌, ◌≤◌, ℤ, pos, ◌+ℤ◌, ◌-ℤ◌, ◌*ℤ◌, true, List, [], length, map, take, Option, Some, None, unsigned_abs, if◌then◌else◌}
-use Rattle.cns_sheets.specs.Common.{Account, AllByRecursion, Cusip, DaySheet, Price, amount_limit, is_sorted, key_cmp, member_limit, nat_cmp, rows_for, same_issue, slice_cmp, total, find, Holding, Key, Row}
+use Rattle.cns_sheets.specs.Common.{Account, AllByRecursion, Cusip, DaySheet, Price, amount_limit, is_sorted, key_cmp, member_limit, nat_cmp, row_key, rows_for, same_issue, slice_cmp, total, find, Holding, Key, Row}
 use Rattle.cns_sheets.specs.LowestCusip.{IsFromLowest}
 
 -- issues with their prices, in the order of the bytes of the issues
@@ -66,13 +66,9 @@ columns_of opening_price price dividend h = record {
 abbrev pub priced_row : Price → Price → ℤ → Key × Holding → Row
 priced_row opening_price price dividend e = full_row (e.0, columns_of opening_price price dividend e.1)
 
--- the key of a row
-abbrev pub key_of : Row → Key
-key_of r = record { account = r.account; issue = r.issue }
-
 -- rows with their keys
 abbrev pub by_key : List Row → List (Key × Row)
-by_key rows = map (λ r. (key_of r, r)) rows
+by_key rows = map (λ r. (row_key r, r)) rows
 
 -- a row's closing position, if it is in the issue
 abbrev pub closing_in : Cusip → Row → ℤ

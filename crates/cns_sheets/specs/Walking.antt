@@ -1,7 +1,7 @@
 -- The rows of an account, found from its first row on.
 use Rattle.std.specs.Prelude.{◌≡◌, ◌≤◌, ◌==◌, true, if◌then◌else◌, List, [], ◌∷◌, Option, Some, None}
-use Rattle.cns_sheets.specs.Common.{Account, AllByRecursion, is_sorted, key_cmp, rows_for, Key, Row}
-use Rattle.cns_sheets.specs.Build.{Columns, by_key, full_row, key_of}
+use Rattle.cns_sheets.specs.Common.{Account, AllByRecursion, is_sorted, key_cmp, row_key, rows_for, Key, Row}
+use Rattle.cns_sheets.specs.Build.{Columns, by_key, full_row}
 use Rattle.cns_sheets.specs.LowestCusip.{lowest}
 
 -- a row that was read ahead, with those of the account that follow; without one nothing is left
@@ -26,4 +26,4 @@ lowest_of a = record { account = a; issue = lowest }
 -- the key of a row that was found, or else the lowest of the account
 abbrev pub passed : Account → Option Row → Key
 passed a None = lowest_of a
-passed a (Some r) = key_of r
+passed a (Some r) = row_key r

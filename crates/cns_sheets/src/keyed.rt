@@ -2,23 +2,13 @@
 ghost use Rattle.std.specs.Prelude.{◌≡◌, ◌∷◌, ◌++◌, [], IfOk, OnOk, true};
 ghost use Rattle.std.specs.FinMap.{is_sorted};
 ghost use Rattle.cns_terms.specs.Keys.{key_cmp};
-ghost use Rattle.cns_sheets.specs.Build.{by_key, full_row, full_rows, key_of};
+ghost use Rattle.cns_sheets.specs.Build.{by_key, full_row, full_rows};
 
 use crate::columns::Columns;
 use cns_terms::{Key, NoMemory, Row};
 use cns_tree::{Builder, Tree};
 use std::alloc::Allocator;
 use std::marker::Model;
-
-/// The place of a row, in the order of rows.
-pub fn key_of(row: &Row) -> Key
-    ensures { result ≡ key_of row.now }
-{
-    Key {
-        account: row.account,
-        issue: row.issue,
-    }
-}
 
 /// Rows in the order in which they were pushed, each as its key and its columns in a box, of which a sheet's tree is made.
 /// Contracts see the rows.

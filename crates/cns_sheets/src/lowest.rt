@@ -4,7 +4,6 @@ ghost use Rattle.cns_sheets.specs.LowestCusip.{lowest};
 ghost use Rattle.cns_sheets.specs.Walking.{if_of, lowest_of, passed};
 
 use crate::columns::Columns;
-use crate::keyed::key_of;
 use cns_terms::{Key, Row};
 use cns_units::{Account, Cusip};
 
@@ -44,7 +43,7 @@ pub fn passed(first: &Option<Row>, account: Account) -> Key
     ensures { result ≡ passed account first.now }
 {
     match first {
-        Some(row) => key_of(row),
+        Some(row) => row.key(),
         None => lowest_of(account),
     }
 }

@@ -4,15 +4,14 @@ ghost use Rattle.std.specs.FinMap.{is_sorted};
 ghost use Rattle.std.specs.List.{AllByRecursion};
 ghost use Rattle.std.specs.Ordering.{is_eq};
 ghost use Rattle.cns_terms.specs.declared.holding.Key.{Key};
-ghost use Rattle.cns_terms.specs.Keys.{key_cmp};
+ghost use Rattle.cns_terms.specs.Keys.{key_cmp, row_key};
 ghost use Rattle.cns_terms.specs.Sums.{total};
-ghost use Rattle.cns_sheets.specs.Build.{by_key, key_of};
+ghost use Rattle.cns_sheets.specs.Build.{by_key};
 ghost use Rattle.cns_sheets.specs.Payments.{IsPayable, dividend_of, member_cash, paid, paying};
 ghost use Rattle.cns_sheets.specs.Woven.{cents_at};
 
 use crate::in_issue::IssueRows;
 use crate::in_order::InOrder;
-use crate::keyed::key_of;
 use crate::sheet::Sheet;
 use cns_dividends::{Declared, cash};
 use cns_terms::{Key, NoMemory, Row};
@@ -117,7 +116,7 @@ impl<A: Allocator + Drop + Clone> Paid<A> {
         ensures cents { OnOk result
             ((k : Key) → cents_at self.new k
             ≡ cents_at self.old k +ℤ total
-            (λ r. if is_eq (key_cmp k (key_of r)) then member_cash declared.now r else pos 0) rows.entry) }
+            (λ r. if is_eq (key_cmp k (row_key r)) then member_cash declared.now r else pos 0) rows.entry) }
         ensures sum { IfOk result (λ sum. sum ≡ total (member_cash declared.now) rows.entry) }
         ensures all { OnOk result
             (total (λ e. e.1) self.new ≡ total (λ e. e.1) self.old +ℤ total (member_cash declared.now) rows.entry) }
@@ -125,7 +124,7 @@ impl<A: Allocator + Drop + Clone> Paid<A> {
         let mut sum = 0;
         for row in rows {
             let cents = member_cash(declared, &row);
-            self.add(key_of(&row), cents)?;
+            self.add(row.key(), cents)?;
             sum += cents;
         }
         Ok(sum)

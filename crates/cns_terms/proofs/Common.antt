@@ -1,5 +1,5 @@
 -- The names that most proofs cite, passed on from one place: those of specs/Common.antt, and lemmas. Declares nothing.
-pub use Rattle.cns_terms.specs.Common.{Account, Activity, AllByRecursion, AllWithin, Appends, AppendsFront, AreHolders, Command, Cusip, Day, DaySheet, Declared, Entry, Execution, Fill, ForSome, Included, IsBinarySearchResult, IsInRange, IsLegal, IsNonDecreasingBy, IsPartitionPoint, IsReached, IsTotalOrder, Journal, Keeps, Key, Liable, Liables, Member, Notice, Posting, Price, PromisedHandle, Rate, Row, Rule, Short, State, Told, YieldsFirst, accepted, account_lt, accounts, activities, after, against_corporation, all_ascii_digits, amount_limit, answer, answer_to, arc_value, as_of, at_close, batch, batch_at, batch_since, batches, batches_since, below_all, binary_digits, booking_limit, bought_in, buyer_entry, called, capacity, cash, cents_for, changed_at, charged, chosen, closed_on, closes, closings, cons_option, converted, corporation, corporation_limit, count, date, day, day_number, day_sheet, digits_value, dividend, dividends, entries, entry, exchanged, executes, execution, execution_entries, fill_entry, fills, fills_before, fills_of, first_reached, first_refusal, greatest, history_limit, holders, holding, in_exchange, in_lieu, in_order, insert_entry, is_account, is_beyond, is_called, is_close, is_exceeded, is_idle, is_listed, is_live, is_member, is_not_after, is_past, is_retired, is_same_day, is_seen, is_sorted, is_too_far, is_too_large, is_too_large_at, issue_lt, issues, journal, journal_of, key_cmp, last_close, last_date, left_of, liable_of, list_any, long, lookup, mark, member_dividend, member_limit, members, money, money_limit, moved_in, moved_out, new_entry, next, notice, notice_at, notices, old_entry, oldest, oldest_of, open_day, opened, option_map_or, option_or, ordering_index, ordering_then, originator_entry, pays_before, pend_of, pending, position_from, position_limit, posting, price, price_limit, priced, range_contains, rate_limit, receipt, refusal, remaining, room, room_of, row, rows_for, rows_of, same_issue, seller_entry, shares_executed, shares_for, shares_limit, sheet_on, sheet_rows, short, short_of, shorts, slice_cmp, sold_in, stage, statement, stretch, tied_itself, total, trade_entries, trades, w128, waits_in}
+pub use Rattle.cns_terms.specs.Common.{Account, Activity, AllByRecursion, AllWithin, Appends, AppendsFront, AreHolders, Command, Cusip, Day, DaySheet, Declared, Entry, Execution, Fill, ForSome, Included, IsBinarySearchResult, IsInRange, IsLegal, IsNonDecreasingBy, IsPartitionPoint, IsReached, IsTotalOrder, Journal, Keeps, Key, Liable, Liables, Member, Notice, Posting, Price, PromisedHandle, Rate, Row, Rule, Short, State, Told, YieldsFirst, accepted, account_lt, accounts, activities, after, against_corporation, all_ascii_digits, amount_limit, answer, answer_to, arc_value, as_of, at_close, batch, batch_at, batch_since, batches, batches_since, below_all, binary_digits, booking_limit, bought_in, buyer_entry, called, capacity, cash, cents_for, changed_at, charged, chosen, closed_on, closes, closings, cons_option, converted, corporation, corporation_limit, count, date, day, day_number, day_sheet, digits_value, dividend, dividends, entries, entry, exchanged, executes, execution, execution_entries, fill_entry, fills, fills_before, fills_of, first_reached, first_refusal, greatest, history_limit, holders, holding, in_exchange, in_lieu, in_order, insert_entry, is_account, is_beyond, is_called, is_close, is_exceeded, is_idle, is_listed, is_live, is_member, is_not_after, is_past, is_retired, is_same_day, is_seen, is_sorted, is_too_far, is_too_large, is_too_large_at, issue_lt, issues, journal, journal_of, entry_key, key_after, key_cmp, last_close, last_date, left_of, liable_of, list_any, long, lookup, mark, member_dividend, member_limit, members, money, money_limit, moved_in, moved_out, new_entry, next, notice, notice_at, notices, old_entry, oldest, oldest_of, open_day, opened, option_map_or, option_or, ordering_index, ordering_then, originator_entry, pays_before, pend_of, pending, position_from, position_limit, posting, price, price_limit, priced, range_contains, rate_limit, receipt, refusal, remaining, room, room_of, row, row_key, rows_for, rows_of, same_issue, seller_entry, shares_executed, shares_for, shares_limit, sheet_on, sheet_rows, short, short_of, shorts, slice_cmp, sold_in, stage, statement, stretch, tied_itself, total, trade_entries, trades, w128, waits_in}
 pub use Rattle.std.specs.Prelude.{⊤}
 pub use denote.Param.Send.{IsSend, sendable}
 pub use lib.IntN.{zero-*ℤ}

@@ -1,5 +1,5 @@
 -- Facts that proofs of several crates use: tests, comparisons, numbers, lists. Passes on names that files below Common.antt cite.
-pub use Rattle.std.proofs.Common.{◌≡◌, ◌∙◌, sym, ap, refl, suc, ℕ, ℤ, pos, ◌+ℤ◌, Bool, true, false, not, ◌&&◌, ◌||◌, cond, eqb, List, [], ◌∷◌, length, Option, Some, arith, filter, ◌≤◌, bytes_eq, int_le, int_lt, is_eq, is_lt, nat_cmp, Ordering, Less, Equal, ◌+◌, ◌==◌, map, sum_by, ◌*◌, ◌<◌, is_none, filter_map, unsigned_abs, IfSome, None, int_eq, mul-le-mul_left, flat_map, neg_ℤ, ◌*ℤ◌, ◌⊎◌, inr, nat_lt, find, ◌-ℤ◌, zero, ◌++◌, unwrap_or, option_map, reverse, max, subst, if◌then◌else◌, codes, int_div, int_rem, slice_get, ◌^◌, T, append_assoc, length-append, le_trans, ◌/◌, min, div-mul-le_self, take}
+pub use Rattle.std.proofs.Common.{drop, get_or, ◌≡◌, ◌∙◌, sym, ap, refl, suc, ℕ, ℤ, pos, ◌+ℤ◌, Bool, true, false, not, ◌&&◌, ◌||◌, cond, eqb, List, [], ◌∷◌, length, Option, Some, arith, filter, ◌≤◌, bytes_eq, int_le, int_lt, is_eq, is_lt, nat_cmp, Ordering, Less, Equal, ◌+◌, ◌==◌, map, sum_by, ◌*◌, ◌<◌, is_none, filter_map, unsigned_abs, IfSome, None, int_eq, mul-le-mul_left, flat_map, neg_ℤ, ◌*ℤ◌, ◌⊎◌, inr, nat_lt, find, ◌-ℤ◌, zero, ◌++◌, unwrap_or, option_map, reverse, max, subst, if◌then◌else◌, codes, int_div, slice_get, ◌^◌, T, append_assoc, length-append, le_trans, ◌/◌, min, div-mul-le_self, take}
 pub use Rattle.cns_terms.specs.Common.{Activity, Cusip, Day, journal, option_map_or, in_order, slice_cmp, tied_itself, brought, filled, given_to, Account, AllByRecursion, Command, Declared, IsReached, Journal, State, account_lt, accounts, activities, after, booking_limit, closings, dividends, member_limit, members, money, next, opened, position_limit, Posting, posting, price, price_limit, rate_limit, Entry, Execution, IsInRange, Notice, Price, Ratio, against_corporation, execution_entries, holders, in_exchange, in_lieu, money_limit, new_entry, notice_at, old_entry, Pend, entries, trade_entries, ratio_limit, rules, split_entry, member_added, IsCommandInRange, IsRatio, due, value, day, bought_in, cents_for, corporation, date, is_beyond, is_exceeded, is_too_large, list_any, moved_in, moved_out, open_day, pend_of, pending, shares_for, short, sold_in, total, IsWithin, is_due, places, Fill, Liable, Member, Short, at_close, batch, batch_at, called, capacity, fill_entry, fills, fills_before, is_called, is_live, left_of, liable_of, long, originator_entry, remaining, room, same_issue, short_of, shorts, stage, last_close, mark, DaySheet, Row, closed_on, day_sheet, is_idle, is_same_day, issues, row, rows_of, sheet_rows, IsTotalOrder, commands_of, replies_of, state, replies, is_not_after, trades, age, carried, closes_short, exchanges_today, forerunners, forerunners_today, below_all, is_sorted, sheet_at, Rate, as_of, cash, dividend, member_dividend, Rule, day_number, first_refusal, is_listed, journal_of, notices, fraction, Key, key_cmp, ordering_then, fills_of, stretch, room_of, stretch_at, issue_lt, sheet_prices, position}
 pub use Rattle.cns_terms.specs.Laws.{AddsUpToZero, Amounts, Bounds, ClosedDays, HasSmallSums, IsBounded, Positions, Reaches, RefusalOrder, StaysSmall, ZeroSums}
 pub use Rattle.cns_terms.specs.Sums.{put}
@@ -9,6 +9,7 @@ pub use Rattle.std.proofs.lemmas.Int.{ints, unsigned_abs-mul}
 pub use Rattle.std.proofs.lemmas.Map.Text.{is_eq-slice_cmp}
 use Rattle.cns_terms.specs.declared.command.Listing.{Listing}
 pub use Rattle.std.proofs.lemmas.Slice.Eq.{bytes_eq-Decides}
+pub use Rattle.std.proofs.lemmas.List.{drop_more}
 pub use Rattle.std.proofs.lemmas.List.Sums.{sum_by-append, sum_by-cons}
 pub use Rattle.std.proofs.Math.Nat.{mul-le-mul, min-le_right}
 pub use lib.IntN.{zero-*ℤ, *ℤ_comm, suc_ℤ-*ℤ, *ℤ-zero}
@@ -99,6 +100,10 @@ journal_len opening (x ∷ L) = ap suc (journal_len opening L)
 pub filter_len : {X : Type 0} (p : X → Bool) (xs : List X) → length (filter p xs) ≤ length xs
 filter_len p [] = omega arith
 filter_len p (x ∷ xs) = grind (arith, filter_len p xs)
+
+-- what is left from a place on begins with what stands there
+pub left_first : {X : Type 0} (xs : List X) (i : ℕ) (x : X) → i < length xs → x ≡ get_or xs i x → drop i xs ≡ x ∷ drop (i + 1) xs
+left_first xs i x lt is = grind (arith, drop_more)
 
 -- what is made of a list one element at a time, in any order: one more put in its place, and the whole list put in order
 module _ {X Y : Type 0} (F : List X → Y) (op : X → Y → Y) (more : (x : X) (xs : List X) → F (x ∷ xs) ≡ op x (F xs)) (swap : (x y : X) (z : Y) → op x (op y z) ≡ op y (op x z)) (before : X → X → Bool) where

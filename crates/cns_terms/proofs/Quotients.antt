@@ -1,9 +1,5 @@
 -- What a division that is cut towards zero leaves.
-use Rattle.cns_terms.proofs.Facts.{◌≡◌, ℕ, ◌≤◌, ℤ, pos, ◌-ℤ◌, ◌*ℤ◌, int_div, int_rem, arith, unsigned_abs, Ratio, fraction, ints}
-
--- the rest is what the quotient times the divisor lacks
-pub rest_of : (a d : ℤ) → int_rem a d ≡ a -ℤ (int_div a d *ℤ d)
-rest_of a d = grind (arith, ints)
+use Rattle.cns_terms.proofs.Facts.{◌≡◌, ℕ, ◌≤◌, ℤ, pos, int_div, arith, unsigned_abs, Ratio, fraction, ints}
 
 -- a quotient is no further from zero than what is divided
 pub quotient_few : (z : ℤ) (n : ℕ) → unsigned_abs (int_div z (pos n)) ≤ unsigned_abs z

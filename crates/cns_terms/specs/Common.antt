@@ -35,7 +35,7 @@ pub use Rattle.cns_terms.specs.Entries.{against_corporation, buyer_entry, corpor
 pub use Rattle.cns_terms.specs.Fills.{batch, batch_since, batches, batches_since, brought, capacity, charged, executes, filled, fills, fills_of, given_to, left_of, room, room_of, stretch, stretch_at}
 pub use Rattle.cns_terms.specs.History.{IsLegal, accepted, commands_of, count, replies_of, state}
 pub use Rattle.cns_terms.specs.Holdings.{holding, oldest_of}
-pub use Rattle.cns_terms.specs.Keys.{key_cmp}
+pub use Rattle.cns_terms.specs.Keys.{entry_key, key_after, key_cmp, row_key}
 pub use Rattle.cns_terms.specs.Limits.{IsWithin, amount_limit, booking_limit, corporation_limit, history_limit, member_limit, money_limit, position_limit, price_limit, rate_limit, ratio_limit, shares_limit}
 pub use Rattle.cns_terms.specs.Listings.{account_lt, accounts, added as member_added, exchanged, is_account, is_listed, is_member, is_retired, is_seen, issue_lt, issues, members, price, priced}
 pub use Rattle.cns_terms.specs.Machine.{State, after, answer, answer_to, journal_of, next, opened, replies}

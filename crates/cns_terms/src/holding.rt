@@ -7,7 +7,7 @@ ghost use Rattle.std.specs.Cmp.Rules.{comparing};
 ghost use Rattle.std.proofs.Common.{rules};
 ghost use Rattle.cns_units.specs.Cusip.{IsCusip};
 ghost use Rattle.cns_terms.specs.Holdings.{oldest_of};
-ghost use Rattle.cns_terms.specs.Keys.{key_cmp};
+ghost use Rattle.cns_terms.specs.Keys.{entry_key, key_cmp};
 ghost use Rattle.cns_terms.specs.Sums.{long};
 
 use cns_units::{Account, Cents, Cusip};
@@ -118,4 +118,16 @@ pub struct Entry {
     pub shares: i64,
     /// Cents, to the account where positive.
     pub cents: i128,
+}
+
+impl Entry {
+    /// Where it is booked.
+    pub fn key(&self) -> Key
+        ensures { result ≡ entry_key self.now }
+    {
+        Key {
+            account: self.account,
+            issue: self.issue,
+        }
+    }
 }

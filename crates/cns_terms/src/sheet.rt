@@ -1,6 +1,8 @@
 // A row of a closed day.
 ghost use Rattle.std.specs.Prelude.{◌≡◌, ◌↔◌, true};
+ghost use Rattle.cns_terms.specs.Keys.{row_key};
 
+use crate::holding::Key;
 use cns_units::{Account, Cents, Cusip, Price};
 
 /// An account's row in an issue on a closed day's sheet.
@@ -26,6 +28,16 @@ pub struct Row {
 }
 
 impl Row {
+    /// Its place, in the order of rows.
+    pub fn key(&self) -> Key
+        ensures { result ≡ row_key self.now }
+    {
+        Key {
+            account: self.account,
+            issue: self.issue,
+        }
+    }
+
     /// Whether both are the same value.
     pub fn is_same(&self, other: &Row) -> bool
         ensures { (result ≡ true) ↔ (self.now ≡ other.now) }

@@ -5,4 +5,5 @@ pub mod DayLemmas
 pub mod CusipOrder
 pub mod CusipWeights
 pub mod Parts
+mod Quotients
 pub mod Common

@@ -1,5 +1,5 @@
 // Ratios of splits and exchanges.
-ghost use Rattle.std.specs.Prelude.{◌≡◌, ◌^◌, ◌≤◌};
+ghost use Rattle.std.specs.Prelude.{◌≡◌, ◌^◌, ◌≤◌, ◌*ℤ◌, ◌-ℤ◌, int_div, pos, unsigned_abs};
 ghost use Rattle.cns_units.specs.Ranges.{is_part, ratio_of};
 
 use crate::fault::UnitFault;
@@ -57,5 +57,33 @@ impl Ratio {
         ensures old_range { (1 ≤ self.old) × (self.old ≤ 10 ^ 4) }
     {
         (self.new, self.old)
+    }
+    // Old shares times the new ones.
+    fn multiplied(self, shares: i64) -> i64
+        requires { unsigned_abs shares ≤ 10 ^ 10 }
+        ensures exact { result ≡ shares *ℤ pos self.new }
+        ensures small { unsigned_abs result ≤ 10 ^ 14 }
+    {
+        shares * i64::from(self.new)
+    }
+
+    /// The whole new shares for up to 10^10 old ones, long or short, cut towards zero (this project's profile).
+    pub fn whole(self, shares: i64) -> i64
+        requires { unsigned_abs shares ≤ 10 ^ 10 }
+        ensures exact { result ≡ int_div (shares *ℤ pos self.new) (pos self.old) }
+        ensures small { unsigned_abs result ≤ 10 ^ 14 }
+    {
+        self.multiplied(shares) / i64::from(self.old)
+    }
+
+    /// What that cut leaves, in parts of a new share, of which one has as many as the ratio has old shares.
+    #[tactic(auto, using(std::proofs::lemmas::Int::rem_is, crate::proofs::Quotients::rest_of))]
+    pub fn rest(self, shares: i64) -> i64
+        requires { unsigned_abs shares ≤ 10 ^ 10 }
+        ensures exact { result
+            ≡ (shares *ℤ pos self.new) -ℤ (int_div (shares *ℤ pos self.new) (pos self.old) *ℤ pos self.old) }
+        ensures small { unsigned_abs result ≤ 10 ^ 4 }
+    {
+        self.multiplied(shares) % i64::from(self.old)
     }
 }

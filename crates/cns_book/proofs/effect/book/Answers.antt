@@ -1,9 +1,9 @@
-use Rattle.cns_book.proofs.Common.{◌∙◌, ◌^◌, ◌≤◌, sym, ap, subst, unsigned_abs, take_all, arith, Holding, IsSmallEntry, holding_at, booked, place_of, All-from_recursion}
+use Rattle.cns_book.proofs.Common.{◌∙◌, ◌^◌, ◌≤◌, sym, ap, subst, unsigned_abs, take_all, arith, Holding, IsSmallEntry, holding_at, booked, entry_key, All-from_recursion}
 use Rattle.cns_book.proofs.EffectEntries.{place_there, books_step, cents_fit, shares_fit}
 use Rattle.cns_book.proofs.effect.book.Goals as goal
 
 pub add-requires : goal.add-requires
-add-requires g c = let k = place_of c.entry-item.result in record {
+add-requires g c = let k = entry_key c.entry-item.result in record {
   there = grind (arith, place_there);
   entry = subst IsSmallEntry (sym c.entry-item.is) (All-from_recursion IsSmallEntry c.args.entries.now c.requires.small c.loop-entry.entry-index c.entry-item.result c.loop-entry-test.true);
   shares = subst (λ (h : Holding). unsigned_abs h.now ≤ 2 ^ 62) (sym (c.loop-entry.invariant.booked k)) (shares_fit c.args.entries.now c.loop-entry.entry-index (g.P.Positions.rows c.args.positions.now) k c.requires.small c.requires.few c.requires.rows);

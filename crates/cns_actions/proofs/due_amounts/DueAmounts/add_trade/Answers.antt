@@ -1,10 +1,10 @@
-use Rattle.cns_actions.proofs.Common.{on_ok_weaker, amount_at, key_of, arith}
+use Rattle.cns_actions.proofs.Common.{on_ok_weaker, amount_at, entry_key, arith}
 use Rattle.cns_actions.proofs.DueAmounts.{trade_bound, trade_room}
 use Rattle.cns_actions.proofs.due_amounts.DueAmounts.add_trade.Goals as goal
 
 pub add-requires-2-clause-room : goal.add-requires-2-clause-room
 add-requires-2-clause-room g c =
-    let k = key_of c.seller_entry.result in
+    let k = entry_key c.seller_entry.result in
     grind (arith, trade_room c.args.pend.now k, c.in_ok-add.ensures.amounts k, c.requires k)
 
 pub returns-clause-bound : goal.returns-clause-bound

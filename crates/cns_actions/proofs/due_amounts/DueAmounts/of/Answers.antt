@@ -1,6 +1,6 @@
 use Rattle.cns_actions.proofs.Common.{◌+◌, ◌∙◌, sym, drop}
 use Rattle.cns_actions.proofs.DueAmounts.{trade_booked, trade_passed}
-use Rattle.cns_actions.proofs.Making.{left_first}
+use Rattle.cns_terms.proofs.Facts.{left_first}
 use Rattle.cns_actions.proofs.due_amounts.DueAmounts.of.Goals.{then-is_due+in_ok-add_trade, else-is_due}
 use Rattle.cns_actions.proofs.due_amounts.DueAmounts.of.Goals as goal
 

@@ -1,5 +1,6 @@
-use Rattle.cns_sheets.proofs.Common.{◌≡◌, ◌∙◌, refl, not, List, [], ◌∷◌, filter, unsigned_abs, arith, IsPayable, Key, Row, by_key, ints, key_of, member_cash, paid, same_issue, total, sum_by-filter_both, Declared}
-use Rattle.cns_sheets.proofs.Entries.{filter-map, find_if, next_is}
+use Rattle.cns_sheets.proofs.Common.{◌≡◌, ◌∙◌, refl, not, List, [], ◌∷◌, filter, unsigned_abs, arith, IsPayable, Key, Row, by_key, ints, row_key, member_cash, paid, same_issue, total, sum_by-filter_both, Declared}
+use Rattle.cns_sheets.proofs.Entries.{filter-map, find_if}
+use Rattle.cns_terms.proofs.Facts.{left_first}
 use Rattle.cns_sheets.proofs.payments.Paid.new.Goals as goal
 
 module _ (d : Declared) where
@@ -18,14 +19,14 @@ module _ (d : Declared) where
 
   -- what a dividend pays on the rows in its issue is what it pays on all
   paid_in : (rows : List Row) (k : Key) → paid d (rows_in rows) k ≡ paid d rows k
-  paid_in rows k = grind (arith, same_total rows, filter-map (λ (e : Key × Row). same_issue e.0.issue d.issue) (λ r. (key_of r, r)) rows, find_if (λ q. same_issue q.issue d.issue) k (by_key rows))
+  paid_in rows k = grind (arith, same_total rows, filter-map (λ (e : Key × Row). same_issue e.0.issue d.issue) (λ r. (row_key r, r)) rows, find_if (λ q. same_issue q.issue d.issue) k (by_key rows))
 
 pub pay-requires-clause-payable : goal.pay-requires-clause-payable
-pay-requires-clause-payable g c = grind (arith, payable_in c.payment-item.result.declared c.payment-item.result.sheet.now.rows, next_is c.args.payments.now c.loop-payment.payment-index c.payment-item.result)
+pay-requires-clause-payable g c = grind (arith, payable_in c.payment-item.result.declared c.payment-item.result.sheet.now.rows, left_first c.args.payments.now c.loop-payment.payment-index c.payment-item.result)
 
 pub loop-payment-preserved : goal.loop-payment-preserved
 loop-payment-preserved g c =
-    let next = next_is c.args.payments.now c.loop-payment.payment-index c.payment-item.result c.loop-payment-test.true c.payment-item.is in
+    let next = left_first c.args.payments.now c.loop-payment.payment-index c.payment-item.result c.loop-payment-test.true c.payment-item.is in
     record {
       cents = λ k. omega (arith, ints, rw next at (c.loop-payment.invariant.cents k), rw c.rows_in-rows.ensures.rows at (c.in_ok-pay.ensures.cents c.rows_in-rows.ensures.order k), paid_in c.payment-item.result.declared c.payment-item.result.sheet.now.rows k);
       payable = grind (arith, next);
