@@ -2,6 +2,7 @@
 pub use Rattle.std.proofs.Common.{Bool, IfSome, List, None, OnOk, Option, Result, Some, [], add-one, ap, append-nil, append_assoc, arith, drop, false, filter, find, get_or, if◌then◌else◌, length, length-append, map, min, option_map, refl, reverse, rules, set, slice_get, subst, suc, sym, take, true, unsigned_abs, unwrap_or, zero, ℕ, ◌&&◌, ◌++◌, ◌+◌, ◌-◌, ◌<◌, ◌==◌, ◌^◌, ◌∙◌, ◌∷◌, ◌≡◌, ◌≤◌}
 pub use Rattle.std.proofs.lemmas.Bool.{eq-eqb, ne_eqb}
 pub use Rattle.std.proofs.lemmas.Fn.{always_returns_same}
+pub use Rattle.std.proofs.lemmas.Grind.{common_steps}
 pub use Rattle.std.proofs.lemmas.List.{drop_more, flat_map_more, length-map, map-append, take_all, with_items_is}
 pub use Rattle.std.proofs.lemmas.List.Elements.{filter-append, filter_map-append}
 pub use Rattle.std.proofs.lemmas.List.Sums.{fold-append, sum_by-append}

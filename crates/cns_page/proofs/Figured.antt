@@ -8,11 +8,6 @@ use Rattle.std.specs.declared.cmp.Ordering.{Ordering}
 use denote.Param.Members.{Mut}
 use denote.Ref.{Bor}
 
--- how far a loop over rows has come: the rows that it was given, and the sum of the amounts of their marks, as far as it goes
-pub record Figuring (all given left : List Row) (marks : ℕ) : Type 0 where
-  pub parts : all ≡ given ++ left
-  pub marks_are : marks ≡ min (sum_by (λ r. unsigned_abs r.mark) given) (2 ^ 128 - 1)
-
 -- the figures of a sheet, each by itself
 figures_are : (s : DaySheet) (n : ℕ) (f : Figures) → f.day ≡ n → f.date ≡ s.date → f.marks ≡ min (sum_by (λ r. unsigned_abs r.mark) s.rows) (2 ^ 128 - 1)
     → f.shorts ≡ min (count_by is_short s.rows) (2 ^ 64 - 1) → figures s n ≡ f
@@ -31,19 +26,7 @@ pub line_added : (S : State) (cs : List Close) (i : ℕ) (c : Close) (s t : DayS
 line_added S cs i c s t f items lt at told same day date marks shorts was =
     given_more (figures_at S) cs i c (Some f) items lt at (ap (option_map (λ x. figures x c.day)) (sym told ∙ ap Some (sym same)) ∙ ap Some (figures_are s c.day f day date marks shorts)) was
 
--- ---- how many they are
-
--- how far a loop over rows has come: the rows that it was given, and the count of shorts, as far as it goes
-pub record Counting (all given left : List Row) (shorts : ℕ) : Type 0 where
-  pub parts : all ≡ given ++ left
-  pub shorts_are : shorts ≡ min (count_by is_short given) (2 ^ 64 - 1)
-
 -- ---- which they are
-
--- how far a loop over rows has come: the rows that it was given, and the shorts among them with their ages
-pub record Aging (S : State) (all given left : List Row) (items : List Aged) : Type 0 where
-  pub parts : all ≡ given ++ left
-  pub items_are : items ≡ shorts_among S given
 
 -- of some rows and others
 pub shorts_append : (S : State) (rs us : List Row) → shorts_among S (rs ++ us) ≡ shorts_among S rs ++ shorts_among S us
