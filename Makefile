@@ -78,9 +78,7 @@ try:
 
 # cases: plays the case files over both forms of positions without a proof, in a minute or two
 cases:
-	@cd crates/cns_cases; data=(); for file in data/*.case; do data+=(--data "$${file##*/}=$$file"); done; \
-	    rt try "$${data[@]}" 2> /dev/null | diff - stdout; \
-	    echo "cases agree: $$(wc -l < stdout). Nothing was proved"
+	@cd crates/cns_cases; python3 ../../tests/cases.py rt try --; echo "Nothing was proved"
 
 # build: proves every crate that the program stands on, and builds the program
 build:
@@ -137,6 +135,7 @@ compare:
 test:
 	@python3 tests/lemmas.py; \
 	    python3 tests/times.py env RT_JOBS="$$(nproc)" rt ci; \
+	    python3 tests/cases.py $(DRIVER); \
 	    bash tests/pipe.sh $(PROGRAM); \
 	    bash tests/status.sh $(PROGRAM); \
 	    bash tests/refused.sh $(PROGRAM) $(DRIVER); \

@@ -15,7 +15,7 @@ Seeds rise from a random one for so many seconds, 20 where none are given. With 
 --reach these streams together must reach all that stands in tests/reached.py: how often they do is told, and the status is 1
 where one thing is never reached.
 
-With --model the program is left out: recompute.py is played over the samples in examples and the case files of cns_cases,
+With --model the program is left out: recompute.py is played over the samples in examples and the case files of tests/cases,
 whose replies were worked out by hand.
 """
 
@@ -24,20 +24,19 @@ import collections
 import datetime
 import pathlib
 import random
-import re
 import subprocess
 import sys
 import tempfile
 import time
 
 import accounts
+import cases
 import figures
 import reached
 import recompute
 import streams
 
 ROOT = pathlib.Path(__file__).resolve().parent.parent
-CASES = ROOT / "crates" / "cns_cases" / "data"
 SAMPLES = ROOT / "examples"
 SAMPLES_OPENING = datetime.date(2024, 6, 3)
 
@@ -48,56 +47,14 @@ MOST_SECONDS = 40
 # ---- the model over what was worked out by hand -------------------------------------------------------------------
 
 
-def unescaped(text):
-    """The bytes of a text with escapes, by the format of case files."""
-    named = {b"n": b"\n", b"r": b"\r", b"t": b"\t", b"\\": b"\\"}
-    escape = re.compile(rb"\\(x[0-9a-f]{2}|[nrt\\])")
-    return escape.sub(lambda it: named.get(it[1]) or bytes.fromhex(it[1][1:].decode()), text.encode())
-
-
-def read_lines(lines, text, replies):
-    """Reads the lines of a case below its head: the input and the reply lines with those of these lines."""
-    for line in lines:
-        record, _, reply = line.partition("  ")
-        if record.startswith("bytes "):
-            text += unescaped(record.removeprefix("bytes "))
-        elif line == "" or record:
-            text += record.encode() + b"\n"
-        if reply:
-            replies = replies + [reply.lstrip(" ")]
-    return text, replies
-
-
-def without_prose(text):
-    return [line for line in text.split("\n") if line != "#" and not line.startswith("# ")]
-
-
-def read_case(name):
-    """The opening date, the input and the reply lines of each book of a case file, by its format in
-    crates/cns_cases/src/main.rt."""
-    text = (CASES / f"{name}.case").read_text(encoding="utf-8").removesuffix("\n")
-    head = without_prose(text)[0]
-    if head.startswith("after "):
-        return [
-            (opening, *read_lines(without_prose(text)[1:], before, replies))
-            for opening, before, replies in read_case(head.removeprefix("after "))
-        ]
-    books = text.split("\nopen ")[1:]
-    read = []
-    for book in books:
-        date, _, lines = book.removesuffix("\n").partition("\n")
-        read.append((recompute.date(date.encode()), *read_lines(without_prose(lines) if lines else [], b"", [])))
-    return read
-
-
 def check_model():
     """Plays the model over all cases and samples; the names of those that differ."""
     differ = []
-    for path in sorted(CASES.glob("*.case")):
-        for opening, text, replies in read_case(path.stem):
+    for name in cases.names():
+        for opening, text, replies in cases.read_case(name):
             got = [line for reply in recompute.replay(text, opening) for line in reply]
             if got != replies:
-                differ.append(path.stem)
+                differ.append(name)
     for path in sorted(SAMPLES.glob("*.csv")):
         got = [line for reply in recompute.replay(path.read_bytes(), SAMPLES_OPENING) for line in reply]
         if recompute.written(got) != path.with_suffix(".replies").read_bytes():

@@ -1,10 +1,6 @@
 -- Positions that can be booked stay so.
--- For `open` of parts/opening.rt in cns_book, `close_day` of parts/closing.rt in cns_book, `make` of growth/actions.rt in cns_tests.
-use Rattle.cns_actions.proofs.Common.{◌≡◌, ap, ◌≤◌, unsigned_abs, [], arith, CanBeBooked, Holding, Key, Rows, amount_limit, corporation, holding_at, rolled}
-
--- nothing stands anywhere yet
-pub can_none : (rows : Rows) → rows ≡ [] → CanBeBooked rows
-can_none rows e = grind arith
+-- For `open` of parts/opening.rt in cns_book, `close_day` of parts/closing.rt in cns_book.
+use Rattle.cns_actions.proofs.Common.{◌≡◌, ap, ◌≤◌, unsigned_abs, arith, CanBeBooked, Holding, Key, Rows, amount_limit, corporation, holding_at, rolled}
 
 -- positions that are the same, with cents within the limit
 kept : (rows new : Rows) → CanBeBooked rows → ((k : Key) → (holding_at new k).now ≡ (holding_at rows k).now) → ((k : Key) → unsigned_abs (holding_at new k).contract ≤ amount_limit) → CanBeBooked new

@@ -1,111 +1,81 @@
-// Plays of a case on a book over a form of positions.
-use crate::case::{Case, ReplyLine};
-use crate::failure::Failure;
-use cns_book::Book;
-use cns_feed::{MOST_RECORDS, ReplayFault, Summary, load_up_to, replay_up_to};
-use cns_positions::Positions;
+// Books of records, each replayed and loaded over both forms of positions.
+use cns_feed::{MOST_RECORDS, Summary, load_up_to, replay_up_to};
+use cns_positions::{FlatPositions, Positions, TreePositions};
 use cns_terms::Worker;
+use cns_units::Day;
 use std::alloc::Global;
-use std::str;
+use std::io;
+use std::io::Read;
+use std::process::ExitCode;
+use std::rt::Runtime;
 
 // Commands, invalid records and closes.
-fn counts(summary: Summary) -> (u64, u64, u64) {
-    (summary.commands, summary.lines, summary.closes)
-}
-
-fn check_counts(alloc: Global, call: &str, expected: Summary, got: Summary) -> Result<(), Failure> {
-    let (expected, got) = (counts(expected), counts(got));
-    if got == expected {
-        return Ok(());
-    }
-    Err(Failure::Told(format!(in alloc;
-        "the {call}: expected the counts {expected:?}, got {got:?}"
-    )?))
-}
-
-// The first place at which the lines of the output differ from the reply lines.
-fn difference(alloc: Global, replies: &[ReplyLine<'_>], output: &str) -> Failure {
-    let mut lines = output.lines();
-    for reply in replies {
-        let got = lines.next().unwrap_or("");
-        if got != reply.text {
-            let parts = [
-                reply.record,
-                ": expected '",
-                reply.text,
-                "', got '",
-                got,
-                "'",
-            ];
-            return Failure::told(alloc, &parts);
-        }
-    }
-    let rest = lines.next().unwrap_or("another line end");
-    Failure::told(alloc, &["after the last reply: got '", rest, "'"])
-}
-
-// Checks that the output is the reply lines, each with its line end, and nothing else.
-fn check_output(alloc: Global, case: &Case<'_>, output: &[u8]) -> Result<(), Failure> {
-    if output == case.output.as_bytes() {
-        return Ok(());
-    }
-    let output = str::from_utf8(output).unwrap_or("no text");
-    Err(difference(alloc, case.replies.as_slice(), output))
-}
-
-fn fault_failure(alloc: Global, call: &str, fault: ReplayFault) -> Result<(), Failure> {
-    Err(Failure::Told(format!(in alloc; "the {call} ended with the fault {fault}")?))
-}
-
-fn check_replay<P: Positions<Global>>(alloc: Global, case: &Case<'_>) -> Result<(), Failure> {
-    let mut output = Vec::new(alloc);
-    let input = case.input.as_slice();
-    match replay_up_to::<P, &[u8], Vec<u8>>(alloc, input, &mut output, case.opening, MOST_RECORDS) {
-        Ok(counts) => {
-            check_output(alloc, case, output.as_slice())?;
-            check_counts(alloc, "replay", case.counts, counts)
-        }
-        Err(fault) => fault_failure(alloc, "replay", fault),
-    }
-}
-
-// The counts of a book: its history, and the days that were closed.
-fn counts_of<P: Positions<Global>>(book: &Book<P, Global>, lines: u64) -> Summary {
-    Summary {
-        commands: book.history_len() as u64,
+fn counts(alloc: Global, summary: Summary) -> Option<String> {
+    let Summary {
+        commands,
         lines,
-        closes: book.day().saturating_sub(1),
-    }
+        closes,
+    } = summary;
+    format!(in alloc; "{commands} {lines} {closes}").ok()
 }
 
-fn check_load<P: Positions<Global>>(alloc: Global, case: &Case<'_>) -> Result<(), Failure> {
-    let expected = case.counts;
-    match load_up_to::<P, &[u8]>(alloc, case.input.as_slice(), case.opening, MOST_RECORDS) {
-        Ok((book, counts)) => {
-            check_counts(alloc, "load", expected, counts)?;
-            check_counts(alloc, "book", expected, counts_of(&book, counts.lines))?;
-            let first = Summary {
-                commands: u64::from(book.count(Worker::FIRST)),
-                ..expected
-            };
-            check_counts(alloc, "first worker", expected, first)
-        }
-        Err(fault) => fault_failure(alloc, "load", fault),
-    }
+// What a replay of records writes, in hexadecimal digits, and counts. None where it ends with a fault.
+fn replayed<P: Positions<Global>>(alloc: Global, opening: Day, records: &[u8]) -> Option<String> {
+    let mut output = Vec::new(alloc);
+    let summary = replay_up_to::<P, &[u8], Vec<u8>>(
+        alloc,
+        records,
+        &mut output,
+        opening,
+        MOST_RECORDS,
+    ).ok()?;
+    let replies = hex::encode(alloc, output).ok()?;
+    let counts = counts(alloc, summary)?;
+    format!(in alloc; "{replies} {counts}").ok()
 }
 
-/// Replays and loads the case on books over a form of positions, whose name a failure begins with.
-pub(crate) fn play_on<P: Positions<Global>>(
-    alloc: Global,
-    case: &Case<'_>,
+// What a load of records counts, and of its book how many commands are in its history and in its first worker's part, and
+// its day. None where the load ends with a fault.
+fn loaded<P: Positions<Global>>(alloc: Global, opening: Day, records: &[u8]) -> Option<String> {
+    let (book, summary) = load_up_to::<P, &[u8]>(alloc, records, opening, MOST_RECORDS).ok()?;
+    let counts = counts(alloc, summary)?;
+    let (all, own, day) = (book.history_len(), book.count(Worker::FIRST), book.day());
+    format!(in alloc; "{counts} {all} {own} {day}").ok()
+}
+
+// Tells what both came to over a form of positions.
+fn tell<P: Positions<Global>, R: Runtime + AllocGlobal>(
+    rt: &R,
     form: &str,
-) -> Result<(), Failure> {
-    let played = match check_replay::<P>(alloc, case) {
-        Ok(()) => check_load::<P>(alloc, case),
-        failed => failed,
-    };
-    match played {
-        Err(Failure::Told(text)) => Err(Failure::told(alloc, &[form, ": ", text.as_str()])),
-        other => other,
+    opening: Day,
+    records: &[u8],
+) -> Option<()> {
+    let replayed = replayed::<P>(rt.alloc(), opening, records)?;
+    let loaded = loaded::<P>(rt.alloc(), opening, records)?;
+    println!(rt; "{form} {replayed} {loaded}").ok()
+}
+
+// Plays a book: its opening date, a blank, and its records in hexadecimal digits.
+fn play_book<R: Runtime + AllocGlobal>(rt: &R, book: &str) -> Option<()> {
+    let (opening, records) = book.split_once(' ')?;
+    let opening = Day::parse(opening.as_bytes()).ok()?;
+    let records = hex::decode(rt.alloc(), records).ok()?;
+    tell::<FlatPositions<Global>, R>(rt, "flat", opening, records.as_slice())?;
+    tell::<TreePositions<Global>, R>(rt, "tree", opening, records.as_slice())
+}
+
+fn play_books<R: Runtime + AllocGlobal, I: Read + Drop>(rt: &R, input: I) -> Option<()> {
+    let books = io::read_to_string(rt.alloc(), input).ok()?;
+    for book in books.as_str().lines() {
+        play_book(rt, book)?;
     }
+    Some(())
+}
+
+/// Plays each book of an input, a line with its opening date, a blank, and its records in hexadecimal digits. Tells for each
+/// form of positions, in a line: the form; what a replay writes, in hexadecimal digits; the commands, invalid records and
+/// closes that it counts, and that a load counts; and of the loaded book the length of its history, of its first worker's
+/// part, and its day. The status is 0 where all are told, else 1.
+pub(crate) fn play<R: Runtime + AllocGlobal, I: Read + Drop>(rt: &R, input: I) -> ExitCode {
+    ExitCode::from(u8::from(play_books(rt, input).is_none()))
 }

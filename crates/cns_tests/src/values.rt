@@ -33,30 +33,3 @@ pub(crate) fn day(rt: &impl Abort, text: &str) -> Day {
 pub(crate) fn first_day(rt: &impl Abort) -> Day {
     day(rt, FIRST)
 }
-
-// The CUSIP of eight characters with the check digit that is taken.
-fn checked(text: &mut [u8; 9]) -> Option<Cusip> {
-    for digit in b'0'..=b'9' {
-        text[8] = digit;
-        if let Ok(issue) = Cusip::parse(text.as_slice()) {
-            return Some(issue);
-        }
-    }
-    None
-}
-
-// The issue whose CUSIP is a number of eight digits and its check digit.
-pub(crate) fn numbered(rt: &impl Abort, number: u32) -> Cusip {
-    let mut text = [b'0'; 9];
-    let mut rest = number;
-    for place in (0..8).rev() {
-        text[place] = b'0' + (rest % 10) as u8;
-        rest /= 10;
-    }
-    checked(&mut text).expect(rt, "an issue")
-}
-
-// The issue with a number.
-pub(crate) fn issue(rt: &impl Abort, number: u16) -> Cusip {
-    numbered(rt, 3_780_000 + u32::from(number))
-}

@@ -1,6 +1,6 @@
 -- Values changed in place, around a row e with others on its left and right.
 -- For `change_counted` and `change_each` of tree.rt.
-use Rattle.cns_tree.proofs.Common.{◌≡◌, ℕ, suc, length, ◌&&◌, true, List, [], ◌∷◌, ◌++◌, Some, refl, sym, ap, ◌∙◌, subst, Less, Equal, Greater, is_lt, below_all, is_sorted, key_cmp, keys_total, find, Key, ChangesAt, IsShallow, arith, ChangesEach}
+use Rattle.cns_tree.proofs.Common.{◌≡◌, ℕ, suc, length, ◌&&◌, true, List, [], ◌∷◌, ◌++◌, Some, refl, sym, ap, ◌∙◌, subst, Less, Equal, Greater, is_lt, below_all, is_sorted, key_cmp, keys_total, find, Key, ChangesAt, arith, ChangesEach}
 use Rattle.cns_tree.proofs.Rows.{find_left, find_middle, find_right, length_put, puts_left, puts_middle, puts_right, rises_put}
 
 -- what a change makes of the rows d
@@ -39,10 +39,6 @@ module _ {V : Type 0} (P : V → V → Type 0) (k : Key) (d l : List (Key × V))
   -- and one above e on its right side
   pub changed_right : (m : List (Key × V)) → key_cmp k e.0 ≡ Greater → ChangesAt P k r m → Changed P k d (l ++ e ∷ m)
   changed_right m p h = grind (arith, (λ (w : V). puts_right key_cmp keys_total k w d l e r p is s), found_right, h)
-
-  -- and in as many levels as before they have few
-  pub shallow_changed : (new : List (Key × V)) (a b : ℕ) → Changed P k d new → IsShallow (length (l ++ e ∷ r)) a → b ≡ a → IsShallow (length new) b
-  shallow_changed new a b p shallow height = grind (arith, kept_at)
 
 -- where each value is changed, a key is below the rows where it was
 below_each : {V : Type 0} (P : V → V → Type 0) (k : Key) (old new : List (Key × V)) → ChangesEach P old new → below_all key_cmp k new ≡ below_all key_cmp k old

@@ -1,9 +1,9 @@
-// Tests of counted comparisons: some, and at most two for each binary digit of the number of rows, whatever the order in
-// which the rows came.
+// Tests of counted comparisons: some, and at most two for each binary digit of the number of rows.
 ghost use Rattle.std.specs.Prelude.{◌≡◌, true};
 ghost use Rattle.cns_positions.specs.Rows.{has_row};
 
-use crate::book::tree::{ORDERS, Order, placed_key, placed_tree};
+use crate::book::tree::filled;
+use crate::checks::check_at;
 use crate::values::{APPLE, key};
 use cns_positions::{Positions, TreePositions};
 use cns_terms::{Holding, Key, Probe};
@@ -12,84 +12,41 @@ use std::alloc::Global;
 use std::process::Abort;
 
 // Numbers of rows, with twice their binary digits.
-const SIZES: [(u32, u64); 9] = [
-    (0, 0),
-    (1, 2),
-    (2, 4),
-    (3, 4),
-    (4, 6),
-    (7, 6),
-    (8, 8),
-    (1_000, 20),
-    (4_096, 26),
-];
+const SIZES: [(u16, u64); 3] = [(0, 0), (1, 2), (1_000, 20)];
 
 // Whether so many comparisons are at most so many, and some where they may be.
 fn is_few(count: u64, most: u64) -> bool {
     count <= most && (count > 0) == (most > 0)
 }
 
-// Whether a look-up gives this value after few comparisons.
-fn is_found(tree: &Tree<u32, Global>, key: &Key, value: Option<u32>, most: u64) -> bool {
+// How many comparisons a look-up takes.
+fn comparisons(tree: &Tree<u64, Global>, key: &Key) -> u64 {
     let mut probe = Probe::new(*key);
-    tree.get_counted(&mut probe) == value && is_few(probe.count(), most)
+    let _ = tree.get_counted(&mut probe);
+    probe.count()
 }
 
-// Whether a change finds a value after few comparisons. It turns the value's lowest bit.
-fn is_changed(tree: &mut Tree<u32, Global>, key: &Key, most: u64) -> bool {
-    let mut probe = Probe::new(*key);
-    tree.change_counted(&mut probe, |value| value ^ 1) && is_few(probe.count(), most)
-}
-
-// Whether a put takes few comparisons.
-fn is_put(rt: &impl Abort, tree: &mut Tree<u32, Global>, key: &Key, value: u32, most: u64) -> bool {
-    let mut spare = tree.spare(1, 0).expect(rt, "memory");
-    let mut probe = Probe::new(*key);
-    tree.put_counted(*key, value, &mut spare, &mut probe);
-    is_few(probe.count(), most)
-}
-
-// Whether a row is looked up, changed and given its first value back after few comparisons.
-fn is_row(rt: &impl Abort, tree: &mut Tree<u32, Global>, key: &Key, value: u32, most: u64) -> bool {
-    is_found(tree, key, Some(value), most)
-        && is_changed(tree, key, most)
-        && is_found(tree, key, Some(value ^ 1), most)
-        && is_put(rt, tree, key, value, most)
-}
-
-// Whether a key is found to be absent, and then put, after few comparisons.
-fn is_added(rt: &impl Abort, tree: &mut Tree<u32, Global>, key: &Key, most: u64) -> bool {
-    is_found(tree, key, None, most)
-        && !is_changed(tree, key, most)
-        && is_put(rt, tree, key, 7, most)
-        && tree.get(*key) == Some(7)
-}
-
-// Whether few comparisons are taken at each row of a tree, and at a key that it does not have.
-fn are_few(rt: &impl Abort, tree: &mut Tree<u32, Global>, order: Order, size: &(u32, u64)) -> bool {
-    let (rows, most) = *size;
-    for place in 0..rows {
-        let key = &placed_key(rt, order, rows, place);
-        if !is_row(rt, tree, key, place, most) {
+// Whether look-ups of each row, and of a key that has none, take few comparisons.
+fn are_few(rt: &impl Abort, tree: &Tree<u64, Global>, rows: u16, most: u64) -> bool {
+    for number in 1..=rows.saturating_add(1) {
+        if !is_few(comparisons(tree, &key(rt, number, APPLE)), most) {
             return false;
         }
     }
-    is_added(rt, tree, &key(rt, 9_999, APPLE), most)
+    true
 }
 
-fn check_size(rt: &impl Abort, alloc: Global, order: Order, size: &(u32, u64)) {
-    let mut tree = placed_tree(rt, alloc, order, size.0);
-    assert!(rt; are_few(rt, &mut tree, order, size));
+fn check_size(rt: &impl Abort, alloc: Global, rows: u16, most: u64) {
+    let tree = filled(rt, alloc, rows);
+    check_at(rt, are_few(rt, &tree, rows, most), u64::from(rows));
 }
 
 #[test]
 fn a_look_up_takes_two_comparisons_for_each_binary_digit_at_most_and_none_in_an_empty_tree(
     rt: HostRuntime,
 ) {
-    for order in &ORDERS {
-        for size in &SIZES {
-            check_size(&rt, rt.alloc(), *order, size);
-        }
+    for (rows, most) in &SIZES {
+        check_size(&rt, rt.alloc(), *rows, *most);
     }
 }
 

@@ -4,8 +4,8 @@ ghost use Rattle.std.specs.Prelude.{◌≡◌, ◌<◌, true};
 ghost use Rattle.std.specs.FinMap.{is_sorted};
 ghost use Rattle.cns_terms.specs.Keys.{key_cmp};
 
-use crate::values::{APPLE, account, key, numbered};
-use cns_positions::{FlatPositions, NextRows, Positions, Step, TreePositions, run};
+use crate::values::{APPLE, key};
+use cns_positions::{FlatPositions, Positions, Step, TreePositions, run};
 use cns_terms::{Holding, Key};
 use cns_units::Cents;
 use std::alloc::Global;
@@ -135,81 +135,14 @@ fn check_booking<P: Positions<Global>>(rt: &(impl Abort + AllocGlobal)) {
     assert!(rt; is_booked_and_closed(rt, &mut positions));
 }
 
-// The key of an account in the issue with a number.
-fn key_numbered(rt: &impl Abort, number: u16, issue: u32) -> Key {
-    Key {
-        account: account(rt, number),
-        issue: numbered(rt, issue),
-    }
-}
-
-// How many of the given rows there are, and the key of the last.
-fn counted(given: &NextRows) -> (usize, Option<Key>) {
-    let mut count = 0usize;
-    let mut last = None;
-    for row in given.as_slice() {
-        if let Some(row) = row {
-            count = count.saturating_add(1);
-            last = Some(row.0);
-        }
-    }
-    (count, last)
-}
-
-// How many rows a pass by `next_rows` gives.
-fn count_of_pass<P: Positions<Global>>(positions: &P) -> usize {
-    let mut rows = 0usize;
-    let mut after = None;
-    for _ in 0..100_000 {
-        let (count, last) = counted(&positions.next_rows(after));
-        if last.is_none() {
-            break;
-        }
-        rows = rows.saturating_add(count);
-        after = last;
-    }
-    rows
-}
-
-// The number of an issue and the shares that stand there.
-const NUMBERED: [(u32, i64); 6] = [
-    (0, 1),
-    (1, 1),
-    (32_768, 1),
-    (65_535, 1),
-    (65_536, 1),
-    (65_537, 0),
-];
-
-// Whether an account has shares in more issues than sixteen bits count.
-fn has_many_issues<P: Positions<Global>>(rt: &impl Abort, positions: &mut P) -> bool {
-    for number in 0..65_537 {
-        book(rt, positions, &key_numbered(rt, 1, number), 1, 0);
-    }
-    for (number, shares) in &NUMBERED {
-        if positions.get(key_numbered(rt, 1, *number)) != holding(*shares, 0, 0, 0) {
-            return false;
-        }
-    }
-    count_of_pass(positions) == 65_537
-}
-
-fn check_many_issues<P: Positions<Global>>(rt: &(impl Abort + AllocGlobal)) {
-    let mut positions = P::new(rt.alloc());
-    assert!(rt; has_many_issues(rt, &mut positions));
-}
-
 // Joins the checks: a call at a form of positions is longer to check than one at any form.
 fn check_form<P: Positions<Global>>(rt: &(impl Abort + AllocGlobal)) {
     check_steps::<P>(rt);
     check_booking::<P>(rt);
-    check_many_issues::<P>(rt);
 }
 
 #[test]
-fn positions_reply_to_steps_book_close_are_rebuilt_and_have_more_issues_than_sixteen_bits_count(
-    rt: HostRuntime,
-) {
+fn positions_reply_to_steps_book_close_and_are_rebuilt(rt: HostRuntime) {
     check_form::<Flat>(&rt);
     check_form::<Balanced>(&rt);
 }

@@ -3,7 +3,7 @@ ghost use Rattle.cns_positions.specs.Steps.{SumsFit, nowhere};
 
 use crate::growth::refusing::Call;
 use crate::growth::trees::rows_of;
-use crate::growth::units::{holding, key};
+use crate::values::{APPLE, key};
 use cns_positions::{Positions, Step, run};
 use cns_terms::Holding;
 use cns_tree::Tree;
@@ -11,11 +11,19 @@ use std::alloc::{Allocator, Global};
 use std::marker::PhantomData;
 use std::process::Abort;
 
+// A holding of so many shares.
+fn holding(now: u16) -> Holding {
+    Holding {
+        now: i64::from(now),
+        ..Holding::ZEROS
+    }
+}
+
 // Puts rows of the accounts 1 to `count`, each with as many shares as its number.
 fn fill(rt: &impl Abort, rows: &mut Tree<Holding, Global>, count: u16) {
     for number in 1..=count {
         let mut spare = rows.spare(1, holding(0)).expect(rt, "memory");
-        rows.put(key(rt, number), holding(number), &mut spare);
+        rows.put(key(rt, number, APPLE), holding(number), &mut spare);
     }
 }
 
@@ -54,10 +62,10 @@ impl<H: Allocator + Drop + Clone, P: Positions<H>> Call<H> for Prepare<P> {
 
     fn make(&mut self, rt: &impl Abort) -> bool {
         let keys = [
-            key(rt, 3_030),
-            key(rt, 3_040),
-            key(rt, 3_050),
-            key(rt, 3_060),
+            key(rt, 3_030, APPLE),
+            key(rt, 3_040, APPLE),
+            key(rt, 3_050, APPLE),
+            key(rt, 3_060, APPLE),
         ];
         self.positions.prepare(&keys).is_ok()
     }
@@ -100,7 +108,7 @@ fn steps(rt: &impl Abort, global: Global, count: u16) -> Vec<Step>
 {
     let mut steps = Vec::new(global);
     for number in 0..count {
-        let key = &key(rt, number);
+        let key = &key(rt, number, APPLE);
         let booking = Step::Add {
             key: *key,
             shares: i64::from(number),

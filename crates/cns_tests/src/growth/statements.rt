@@ -1,8 +1,7 @@
 // A statement cut from the sheet of a closed day.
 use crate::growth::book::{RationedBook, opened, play};
 use crate::growth::refusing::Call;
-use crate::growth::units::key;
-use crate::values::first_day;
+use crate::values::{account, first_day};
 use cns_sheets::Sheet;
 use cns_statements::statement;
 use cns_units::Account;
@@ -28,7 +27,7 @@ impl<H: Allocator + Drop + Clone> Call<H> for Cut<H> {
     }
 
     fn make(&mut self, rt: &impl Abort) -> bool {
-        let account = key(rt, 1).account;
+        let account = account(rt, 1);
         let sheet = self.book.sheet(first_day(rt)).expect(rt, "a sheet");
         is_cut(&self.alloc, &**sheet, account)
     }

@@ -2,7 +2,7 @@
 ghost use Rattle.std.specs.Prelude.{◌≡◌, IfOk};
 
 use crate::growth::refusing::Call;
-use crate::growth::units::key;
+use crate::values::{APPLE, key};
 use cns_terms::Key;
 use cns_tree::Tree;
 use std::alloc::{AllocError, Allocator, Global};
@@ -12,7 +12,7 @@ use std::process::Abort;
 fn fill<A: Allocator + Clone>(rt: &impl Abort, tree: &mut Tree<u16, A>, count: u16) {
     for number in 1..=count {
         let mut spare = tree.spare(1, 0).expect(rt, "memory");
-        tree.put(key(rt, number), number, &mut spare);
+        tree.put(key(rt, number, APPLE), number, &mut spare);
     }
 }
 
