@@ -113,14 +113,15 @@ def apply(edit, crate):
     return True
 
 
-def verdict(log, file, function, path):
-    """What a check said of a function, or of all functions of a file: refused, proved, or nothing that tells."""
-    module = modules_of(file)[:1]
+def verdict(log, file, function, path, alone):
+    """What a check said of a function, of all functions of a file, or, of an edit alone, of the crate: what a constant turns
+    shows where it is used. Refused, proved, or nothing that tells."""
+    module = [] if alone else modules_of(file)[:1]
     told = [
         rest for head, rest in re.findall(r"^fn \w+?::(\S+): (.*)$", log, re.MULTILINE)
-        if (head == path if path else all(it in head for it in module))
+        if (head == path if path and not alone else all(it in head for it in module))
     ]
-    place = rf"(?:{path.replace('::', '/')}|\S*\+{function})/" if path else "/".join(module)
+    place = rf"(?:{path.replace('::', '/')}|\S*\+{function})/" if path and not alone else "/".join(module)
     errors = [it for it in re.findall(rf"^\./proofs/{place}.*: error.*$", log, re.MULTILINE) if not NAMES.search(it)]
     if errors or any(it.startswith("no proof: expected answers in") for it in told):
         return "refused"
@@ -158,7 +159,9 @@ def try_all(name, room):
         log = check(crate, () if alone else {it for edit in chosen for it in edit.functions.values()})
         shutil.rmtree(crate / "src")
         shutil.copytree(source / "src", crate / "src")
-        said = {edit.name: [verdict(log, *key, path) for key, path in edit.functions.items()] for edit in chosen}
+        said = {
+            edit.name: [verdict(log, *key, path, alone) for key, path in edit.functions.items()] for edit in chosen
+        }
         known = [it for it in chosen if alone or "refused" in said[it.name] or set(said[it.name]) == {"proved"}]
         missed += [(it.name, "is proved" if "proved" in said[it.name] else "has no verdict")
                    for it in known if "refused" not in said[it.name]]

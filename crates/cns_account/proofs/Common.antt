@@ -27,14 +27,13 @@ pub use Rattle.cns_terms.specs.Positions.{position}
 pub use Rattle.cns_terms.specs.declared.command.Trade.{Trade}
 pub use Rattle.cns_terms.specs.declared.holding.Holding.{Holding}
 pub use Rattle.cns_terms.specs.declared.reply.Reply.{Reply}
-pub use Rattle.cns_account.specs.Dividends.{due_on, last_by, less_cash, paid_in}
-pub use Rattle.cns_account.specs.Fails.{is_among, issues_behind, price_change, with_issue}
+pub use Rattle.cns_account.specs.Dividends.{due_on, paid_in}
+pub use Rattle.cns_account.specs.Fails.{issues_behind}
 unfoldable pub use Rattle.cns_account.specs.Laws.{closes}
 pub use Rattle.cns_account.specs.Laws.{AddUp, IsLineInRange, MovesAddUp, PlacesAreWhole, day_closed, is_line_at, is_moved, last_of, of_causes}
 pub use Rattle.cns_account.specs.Moves.{AreMoves, is_within, moved_at, of_cause, settled_by, unmoved, with_entry, with_line, with_more, with_taken, with_trade}
 pub use Rattle.cns_account.specs.Past.{IsGathered, accepted_of, date_told, looked_at}
 unfoldable pub use Rattle.cns_account.specs.Rows.{moved, valued}
-pub use Rattle.cns_account.specs.Rows.{account_row, booking_in, mark_row, totals_of}
 pub use Rattle.cns_account.specs.Common.{Activity, Booking, Command, Key, Row, HistoryLine, Moved, Moves, Taken}
 pub use Rattle.cns_history.specs.declared.watched.Watched.{Watched}
 pub use Rattle.cns_history.specs.declared.watched.Whose.{Whose}

@@ -32,17 +32,10 @@ fn booking_in(line: &HistoryLine) -> Option<Booked>
 }
 
 /// The bookings among lines, in order.
-#[tactic(auto, using(cns_history::proofs::Owned::both_given, std::proofs::lemmas::Grind::common_steps))]
 pub(crate) fn bookings_in(alloc: Global, lines: &[HistoryLine]) -> Result<Vec<Booked>, NoMemory>
     ensures { IfOk result (λ v. v.items ≡ filter_map booking_in lines.now) }
 {
-    let mut bookings = Vec::new(alloc);
-    for line in lines {
-        let Some(booked) = booking_in(line) else {
-            continue;
-        };
-        bookings.push(booked)?;
-    }
+    let bookings = lines.iter().filter_map(booking_in).collect(alloc)?;
     Ok(bookings)
 }
 

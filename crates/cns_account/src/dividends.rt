@@ -43,11 +43,8 @@ fn with_close(last: Option<Day>, day: Day, date: Day) -> Option<Day>
 fn last_by(days: &[Day], date: Day) -> Option<Day>
     ensures { result ≡ last_by date days.now }
 {
-    let mut last = None;
-    for day in days {
-        last = with_close(last, *day, date);
-    }
-    last
+    days.iter()
+        .fold(None, |last, day| with_close(last, *day, date))
 }
 
 // The last but one of days.
@@ -111,11 +108,9 @@ fn less_cash(cents: Cents, declared: &Declared, row: &Row) -> Cents
 fn against_members(declared: &Declared, sheet: &Sheet<Global>) -> Cents
     ensures { result ≡ fold (less_cash declared.now) (pos 0) sheet.now.rows }
 {
-    let mut cents = Cents::ZERO;
-    for row in sheet.rows() {
-        cents = less_cash(cents, declared, &row);
-    }
-    cents
+    sheet
+        .rows()
+        .fold(Cents::ZERO, |cents, row| less_cash(cents, declared, &row))
 }
 
 // What a dividend pays an account, by the sheet as of its record date.

@@ -47,22 +47,13 @@ fn first_of(days: &[Day], date: Day) -> Day
     }
 }
 
-// Whether an issue was found, or is another.
-fn is_found(found: bool, issue: &Cusip, other: &Cusip) -> bool
-    ensures { result ≡ (found || same_issue other.now issue.now) }
-{
-    found || other.is_same(issue)
-}
-
 // Whether an issue is among others.
 fn is_among(issue: &Cusip, issues: &[Cusip]) -> bool
     ensures { result ≡ is_among issue.now issues.now }
 {
-    let mut found = false;
-    for other in issues {
-        found = is_found(found, issue, other);
-    }
-    found
+    issues
+        .iter()
+        .fold(false, |found, other| found || other.is_same(issue))
 }
 
 // Adds the old issue of an exchange, where its successor is among issues.
@@ -105,11 +96,9 @@ fn short_move(sheet: &Sheet<Global>, account: Account, issue: Cusip) -> Cents
 fn with_issues(sum: Cents, account: Account, issues: &[Cusip], sheet: &Sheet<Global>) -> Cents
     ensures { result ≡ fold (with_issue account sheet.now) sum issues.now }
 {
-    let mut with = sum;
-    for issue in issues {
-        with = wrapped_sum(with, short_move(sheet, account, *issue));
-    }
-    with
+    issues.iter().fold(sum, |sum, issue| {
+        wrapped_sum(sum, short_move(sheet, account, *issue))
+    })
 }
 
 // The sheet of a closed day.
@@ -135,11 +124,9 @@ fn with_day(sum: Cents, book: &ReplayBook, account: Account, issues: &[Cusip], d
 fn price_change(book: &ReplayBook, account: Account, issues: &[Cusip], days: &[Day]) -> Cents
     ensures { result ≡ price_change (state_of book.now.log) account issues.now days.now }
 {
-    let mut sum = Cents::ZERO;
-    for day in days {
-        sum = with_day(sum, book, account, issues, *day);
-    }
-    sum
+    days.iter().fold(Cents::ZERO, |sum, day| {
+        with_day(sum, book, account, issues, *day)
+    })
 }
 
 /// A member's short at a book's last close, on the date, by its row of the day's sheet and by its age.

@@ -85,10 +85,10 @@ impl Causes {
 pub(crate) fn marks_of(alloc: Global, rows: &[AccountRow]) -> Result<Vec<MarkRow>, NoMemory>
     ensures { IfOk result (λ v. v.items ≡ map mark_row rows.now) }
 {
-    let mut marks = Vec::new(alloc);
-    for row in rows {
-        marks.push(MarkRow { line: *row })?;
-    }
+    let marks = rows
+        .iter()
+        .map(|row| MarkRow { line: *row })
+        .collect(alloc)?;
     Ok(marks)
 }
 

@@ -46,10 +46,10 @@ pub(crate) fn rows_of(
 ) -> Result<Vec<AccountRow>, NoMemory>
     ensures { IfOk result (λ v. v.items ≡ map (account_row (state_of book.now.log) moves.now) (rows_for sheet.now.rows account)) }
 {
-    let mut rows = Vec::new(alloc);
-    for row in sheet.rows_of(account) {
-        rows.push(account_row(book, moves, &row))?;
-    }
+    let rows = sheet
+        .rows_of(account)
+        .map(|row| account_row(book, moves, &row))
+        .collect(alloc)?;
     Ok(rows)
 }
 

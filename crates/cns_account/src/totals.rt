@@ -44,13 +44,10 @@ fn with_row(totals: &Totals, row: &AccountRow) -> Totals
 pub(crate) fn totals_of(rows: &[AccountRow]) -> Totals
     ensures { result ≡ totals_of rows.now }
 {
-    let mut totals = Totals {
+    let none = Totals {
         long: Cents::ZERO,
         short: Cents::ZERO,
         net: Cents::ZERO,
     };
-    for row in rows {
-        totals = with_row(&totals, row);
-    }
-    totals
+    rows.iter().fold(none, |totals, row| with_row(&totals, row))
 }

@@ -1,5 +1,5 @@
 -- The names that most proofs of this crate cite, passed on from one place: those of proofs/Common.antt of cns_terms, its types, and this crate's words. Declares nothing.
-pub use Rattle.std.proofs.Common.{Bool, Contains, Err, HoldsAt, IfErr, IfOk, IfSome, IsErr, IsSome, List, MatchOption, None, Ok, OnOk, Option, Ordering, Result, Some, [], ap, append-nil, append_assoc, arith, bytes_eq, cond, drop, eqb, eqb-true, false, filter, filter_map, find, flat_map, get_or, get_or-set_other, inl, inr, int_cmp, int_le, int_lt, is_eq, is_le, is_none, is_some, length, length-append, map, min, mul-le-mul_right, nat_cmp, nat_lt, neg_ℤ, not, of_z, option_map, pos, refl, replicate, reverse, set, slice_get, slice_index, subst, suc, sum_by, sym, take, take_all, to_z, true, unsigned_abs, unwrap_or, w64, zero, ℕ, ℤ, ◌&&◌, ◌*◌, ◌++◌, ◌+ℤ◌, ◌+◌, ◌-◌, ◌<◌, ◌==◌, ◌^◌, ◌||◌, ◌↔◌, ◌∙◌, ◌∷◌, ◌≡◌, ◌≤◌, ◌⊎◌, rules}
+pub use Rattle.std.proofs.Common.{Bool, Contains, Err, HoldsAt, IfErr, IfOk, IfSome, IsErr, IsSome, List, MatchOption, None, Ok, OnOk, Option, Ordering, Result, Some, [], ap, append-nil, append_assoc, arith, bytes_eq, cond, eqb, eqb-true, false, filter, filter_map, find, flat_map, get_or, get_or-set_other, inl, inr, int_cmp, int_le, int_lt, is_eq, is_le, is_none, is_some, length, length-append, map, min, mul-le-mul_right, nat_cmp, nat_lt, neg_ℤ, not, of_z, option_map, pos, refl, replicate, reverse, set, slice_get, slice_index, subst, suc, sum_by, sym, take, take_all, to_z, true, unsigned_abs, unwrap_or, w64, zero, ℕ, ℤ, ◌&&◌, ◌*◌, ◌++◌, ◌+ℤ◌, ◌+◌, ◌-◌, ◌<◌, ◌==◌, ◌^◌, ◌||◌, ◌↔◌, ◌∙◌, ◌∷◌, ◌≡◌, ◌≤◌, ◌⊎◌, rules}
 pub use Rattle.std.proofs.Math.Nat.{max-zero, min-le_left, min-le_right}
 pub use Rattle.std.proofs.lemmas.Simd.{map-map}
 pub use Rattle.std.proofs.lemmas.List.{map-id, get_or-map, get_or-reverse, length-take, get_or-take}

@@ -8,6 +8,6 @@ pub use Rattle.cns_terms.specs.declared.command.Activity.{Activity}
 pub use Rattle.cns_terms.specs.declared.holding.Holding.{Holding}
 pub use Rattle.cns_terms.specs.declared.holding.Key.{Key}
 unfoldable pub use Rattle.cns_history.specs.Lines.{numbers, history}
-pub use Rattle.cns_history.specs.Lines.{booked, booked_since, booking, closing, counted_from, has_position, is_line_of, lines_at, opened_since, place, standing, stood}
+pub use Rattle.cns_history.specs.Lines.{booked, booked_since, booking, closing, counted_from, has_position, lines_at, opened_since, place, standing, stood}
 pub use Rattle.cns_history.specs.Small.{IsSmall}
 pub use Rattle.cns_history.specs.declared.line.HistoryLine.{HistoryLine}

@@ -25,12 +25,10 @@ pub fn lines_for(
 ) -> Result<Vec<HistoryLine>, NoMemory>
     ensures { IfOk result (λ v. v.items ≡ filter (is_line_of account) lines.now) }
 {
-    let mut own = Vec::new(alloc);
-    for line in lines {
-        if !is_line_of(account, line) {
-            continue;
-        }
-        own.push(*line)?;
-    }
+    let own = lines
+        .iter()
+        .copied()
+        .filter(|line| is_line_of(account, line))
+        .collect(alloc)?;
     Ok(own)
 }

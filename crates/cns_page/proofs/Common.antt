@@ -27,7 +27,7 @@ unfoldable pub use Rattle.cns_feed.specs.Replay.{log_after}
 pub use Rattle.cns_feed.specs.Replay.{blank_log, log_after_line}
 pub use Rattle.cns_retransmit.proofs.Lists.{take_next}
 pub use Rattle.cns_tables.proofs.Written.{after, kept}
-pub use Rattle.cns_terms.specs.Common.{Account, Cusip, Day, DaySheet, IsReached, Journal, Notice, State, day, is_live, journal, journal_of, notice, notice_at, noticed, notices, opened, pend_of, refusal, sheet_on}
+pub use Rattle.cns_terms.specs.Common.{Account, Cusip, Day, DaySheet, IsReached, Journal, Notice, State, day, is_live, journal, journal_of, notice, notice_at, noticed, notices, opened, pend_of, refusal}
 pub use Rattle.cns_terms.specs.Keys.{key_cmp}
 pub use Rattle.cns_terms.specs.declared.command.Activity.{Activity}
 pub use Rattle.cns_terms.specs.declared.command.Trade.{Trade}
@@ -43,11 +43,10 @@ pub use Rattle.cns_page.specs.Files.{KeptPages}
 pub use Rattle.cns_page.specs.Folder.{KeepsOwn}
 pub use Rattle.cns_page.specs.Issues.{issue_line, sums_in, with_row_in}
 unfoldable pub use Rattle.cns_page.specs.Listed.{counts_below}
-pub use Rattle.cns_page.specs.Listed.{IsInOrderOf, looked_at, count_at, count_shown, counted, due, figures, figures_at, figures_shown, later_among, live_among, owing, owing_among, shorts_among}
-pub use Rattle.cns_page.specs.Sought.{IsFirst, record_at, sought_among, waiting_in, with_trade}
-pub use Rattle.cns_page.specs.Sums.{moved_row, own_sums, sums_of, with_row}
+pub use Rattle.cns_page.specs.Listed.{IsInOrderOf, looked_at, count_at, count_shown, counted, later_among, live_among, owing, owing_among, shorts_among}
+pub use Rattle.cns_page.specs.Sought.{IsFirst, sought_among, waiting_in, with_trade}
 unfoldable pub use Rattle.cns_page.specs.Survey.{noted_all}
-pub use Rattle.cns_page.specs.Survey.{Came, ComesTo, IsClosedBy, Known, Takes, known, noted, nothing, number, put_right, put_right_by, replied, righted, told, wanted}
+pub use Rattle.cns_page.specs.Survey.{Came, ComesTo, IsClosedBy, Known, Takes, known, noted, nothing, put_right, put_right_by, replied, righted, told, wanted}
 pub use Rattle.cns_page.specs.declared.pending.PendingShares.{PendingShares}
 pub use Rattle.cns_page.specs.declared.shorts.Aged.{Aged}
 pub use Rattle.cns_page.specs.declared.survey.Close.{Close}

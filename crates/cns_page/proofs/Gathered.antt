@@ -1,5 +1,5 @@
 -- Lists that are gathered item by item.
--- For `sums_of` and `own_sums` of sums.rt; `counts_of` of reasons.rt; `lines_of` of accounts.rt; `keep_each` of folder.rt; `pending_shares` of pending.rt; `note_accepted` of survey.rt; `gather` and `gather_batch` of liable.rt.
+-- For `counts_of` of reasons.rt; `lines_of` of accounts.rt; `keep_each` of folder.rt; `pending_shares` of pending.rt; `note_accepted` of survey.rt; `gather` and `gather_batch` of liable.rt.
 use Rattle.cns_page.proofs.Common.{◌≡◌, ◌∙◌, sym, ap, List, [], ◌∷◌, map, fold, ℕ, ◌+◌, ◌++◌, add-one, append-nil, ne_eqb, map-append, count_at, count_shown, counted, arith, Bool, Option, Some, append_assoc, Account, DaySheet, Row, grouped, ◌<◌, subst, drop, get_or, length, drop_more, KeptPages, KeepsOwn, None, take, get, fold-append, take_next, key_cmp, ArePending, with_due, PendingShares, refl, length-map, with_items_is, known, put_right, put_right_by, told, Survey, ◌≤◌, flat_map, flat_map_more, take_all, Outcome, counts_below, lines_after}
 use Rattle.cns_page.specs.declared.reasons.Counted.{Counted}
 use Rattle.cns_account.specs.declared.day_moves.DayMoves.{DayMoves}
@@ -11,15 +11,6 @@ use Rattle.cns_page.specs.declared.projection.Due.{Due}
 use Rattle.std.specs.Vec.{with_items}
 use Rattle.cns_page.specs.declared.finding.Finding.{Finding}
 use Rattle.std.proofs.lemmas.List.Concat.{flat_map_single}
-
--- the next of those that are left
-pub added_more : {X Y S : Type 0} (f : S → Y → S) (g : X → Y) (all sum new : S) (left rest : List X) (x : X) → left ≡ x ∷ rest → new ≡ f sum (g x)
-    → all ≡ fold f sum (map g left) → all ≡ fold f new (map g rest)
-added_more f g all sum new left rest x next is was = was ∙ ap (λ xs. fold f sum (map g xs)) next ∙ ap (λ s. fold f s (map g rest)) (sym is)
-
--- none is left
-pub all_added : {X Y S : Type 0} (f : S → Y → S) (g : X → Y) (all sum : S) (left : List X) → left ≡ [] → all ≡ fold f sum (map g left) → sum ≡ all
-all_added f g all sum left none was = sym (was ∙ ap (λ xs. fold f sum (map g xs)) none)
 
 -- a kind that there is any of
 pub one_more : (n : ℕ) (os : List Outcome) (cs : List Counted) (c : Counted) (count : ℕ) → count ≡ count_at n os → (count ≡ 0 → ⊥)

@@ -2,7 +2,7 @@
 ghost use Rattle.std.specs.Prelude.{◌≡◌, ◌-◌, ◌^◌, count_by, IfOk, min, pos, sum_by, unsigned_abs};
 ghost use Rattle.cns_book.specs.Log.{state_of};
 ghost use Rattle.cns_page.specs.Figures.{is_short};
-ghost use Rattle.cns_page.specs.Listed.{figures_shown};
+ghost use Rattle.cns_page.specs.Listed.{figures_at, figures_shown};
 
 use crate::survey::Close;
 use cns_feed::ReplayBook;
@@ -69,8 +69,17 @@ pub fn figures_of(sheet: &Sheet<Global>, day: u32) -> Figures
     }
 }
 
+// The figures of a closed day, if the book has a sheet of it.
+fn figures_at(book: &ReplayBook, close: &Close) -> Option<Figures>
+    ensures { result ≡ figures_at (state_of book.now.log) close.now }
+{
+    match book.sheet(close.date) {
+        Some(sheet) => Some(figures_of(sheet, close.day)),
+        None => None,
+    }
+}
+
 /// The figures of closed days, in order; of those that the book has a sheet of.
-#[tactic(auto, using(crate::proofs::Figured::line_added, crate::proofs::Figured::line_passed))]
 pub fn line_of_days(
     alloc: Global,
     book: &ReplayBook,
@@ -78,13 +87,10 @@ pub fn line_of_days(
 ) -> Result<Vec<Figures>, NoMemory>
     ensures { IfOk result (λ line. line.items ≡ figures_shown (state_of book.now.log) closes.now) }
 {
-    let mut line = Vec::new(alloc);
-    for close in closes {
-        let Some(sheet) = book.sheet(close.date) else {
-            continue;
-        };
-        line.push(figures_of(sheet, close.day))?;
-    }
+    let line = closes
+        .iter()
+        .filter_map(|close| figures_at(book, close))
+        .collect(alloc)?;
     Ok(line)
 }
 

@@ -95,12 +95,11 @@ fn own_rows<T: Belongs + Copy>(
 ) -> Result<Vec<T>, NoMemory>
     ensures { IfOk result (λ v. v.items ≡ filter (T.belongs account) rows.now) }
 {
-    let mut own = Vec::new(alloc);
-    for row in rows {
-        if row.belongs_to(account) {
-            own.push(*row)?;
-        }
-    }
+    let own = rows
+        .iter()
+        .copied()
+        .filter(|row| row.belongs_to(account))
+        .collect(alloc)?;
     Ok(own)
 }
 

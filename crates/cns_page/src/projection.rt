@@ -76,10 +76,10 @@ fn due_of(trade: &Trade, next: Day) -> Due
 pub fn dues(alloc: Global, trades: &[Trade], next: Day) -> Result<Vec<Due>, NoMemory>
     ensures { IfOk result (λ v. v.items ≡ map (due next) trades.now) }
 {
-    let mut rows = Vec::new(alloc);
-    for trade in trades {
-        rows.push(due_of(trade, next))?;
-    }
+    let rows = trades
+        .iter()
+        .map(|trade| due_of(trade, next))
+        .collect(alloc)?;
     Ok(rows)
 }
 

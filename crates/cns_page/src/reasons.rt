@@ -34,11 +34,10 @@ fn number_of(outcome: Outcome) -> usize
 fn count_of(reasons: &[Outcome], kind: usize) -> u64
     ensures { result ≡ count_at kind reasons.now }
 {
-    let mut count: u64 = 0;
-    for reason in reasons {
-        count = count.saturating_add(u64::from(number_of(*reason) == kind));
-    }
-    count
+    reasons
+        .iter()
+        .filter(|reason| number_of(**reason) == kind)
+        .count() as u64
 }
 
 /// How many exceptions there are of each kind that there are any of, by their numbers.

@@ -38,16 +38,13 @@ pub(crate) fn without_row(
 ) -> Result<Vec<Rowless>, NoMemory>
     ensures { IfOk result (λ v. v.items ≡ without_row sheet.now accounts.now) }
 {
-    let mut others = Vec::new(alloc);
-    for account in accounts {
-        if has_row(sheet, *account) {
-            continue;
-        }
-        others.push(Rowless {
-            date: sheet.date(),
-            account: *account,
-        })?;
-    }
+    let date = sheet.date();
+    let others = accounts
+        .iter()
+        .copied()
+        .filter(|account| !has_row(sheet, *account))
+        .map(|account| Rowless { date, account })
+        .collect(alloc)?;
     Ok(others)
 }
 

@@ -2,7 +2,7 @@
 ghost use Rattle.std.specs.Prelude.{◌≡◌, IfOk};
 ghost use Rattle.std.specs.Ordering.{nat_cmp};
 ghost use Rattle.cns_book.specs.Log.{state_of};
-ghost use Rattle.cns_page.specs.Listed.{IsInOrderOf, age_shown, shorts_among};
+ghost use Rattle.cns_page.specs.Listed.{IsInOrderOf, age_shown, aged, shorts_among};
 
 use crate::figures::is_short;
 use cns_feed::ReplayBook;
@@ -32,18 +32,22 @@ fn age_of(book: &ReplayBook, row: &Row) -> u32
     }
 }
 
+fn with_age(book: &ReplayBook, row: Row) -> Aged
+    ensures { result ≡ aged (state_of book.now.log) row }
+{
+    let age = age_of(book, &row);
+    Aged { row, age }
+}
+
 // The members' shorts on a sheet, in its order.
 fn gather(alloc: Global, book: &ReplayBook, sheet: &Sheet<Global>) -> Result<Vec<Aged>, NoMemory>
     ensures { IfOk result (λ v. v.items ≡ shorts_among (state_of book.now.log) sheet.now.rows) }
 {
-    let mut shorts = Vec::new(alloc);
-    for row in sheet.rows() {
-        if !is_short(&row) {
-            continue;
-        }
-        let age = age_of(book, &row);
-        shorts.push(Aged { row, age })?;
-    }
+    let shorts = sheet
+        .rows()
+        .filter(is_short)
+        .map(|row| with_age(book, row))
+        .collect(alloc)?;
     Ok(shorts)
 }
 

@@ -85,11 +85,10 @@ fn after_invalid(number: u64, invalid: u64) -> u64
 pub fn record_at(invalid: &[u64], place: u32) -> u64
     ensures { result ≡ record_at invalid.now place }
 {
-    let mut number = u64::from(place);
-    for other in invalid {
-        number = after_invalid(number, *other);
-    }
-    number
+    let first = u64::from(place);
+    invalid
+        .iter()
+        .fold(first, |number, other| after_invalid(number, *other))
 }
 
 // The shares of a trade, where they are those of the account in the issue.

@@ -66,25 +66,23 @@ fn none_of(mark: Cents, dividend: Cents) -> Sums
 }
 
 /// The sums over all rows of a sheet.
-#[tactic(auto, using(crate::proofs::Gathered::added_more, crate::proofs::Gathered::all_added))]
 pub(crate) fn sums_of(sheet: &Sheet<Global>, moves: &DayMoves) -> Sums
     ensures { result ≡ sums_of moves.now sheet.now.rows }
 {
-    let mut sums = none_of(sheet.total_marks(), sheet.total_dividends());
-    for row in sheet.rows() {
-        sums = with_row(&sums, &moved_row(moves, &row));
-    }
-    sums
+    let none = none_of(sheet.total_marks(), sheet.total_dividends());
+    sheet
+        .rows()
+        .map(|row| moved_row(moves, &row))
+        .fold(none, |sums, line| with_row(&sums, &line))
 }
 
 /// The sums over an account's rows of a sheet, by the first line of its statement.
-#[tactic(auto, using(crate::proofs::Gathered::added_more, crate::proofs::Gathered::all_added))]
 pub(crate) fn own_sums(sheet: &Sheet<Global>, moves: &DayMoves, stated: &Stated) -> Sums
     ensures { result ≡ own_sums sheet.now moves.now stated.now }
 {
-    let mut sums = none_of(stated.mark, stated.dividend);
-    for row in sheet.rows_of(stated.account) {
-        sums = with_row(&sums, &moved_row(moves, &row));
-    }
-    sums
+    let none = none_of(stated.mark, stated.dividend);
+    sheet
+        .rows_of(stated.account)
+        .map(|row| moved_row(moves, &row))
+        .fold(none, |sums, line| with_row(&sums, &line))
 }

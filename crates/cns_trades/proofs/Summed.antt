@@ -1,6 +1,6 @@
 -- Sums of sides by key.
 -- For `take`, `add` and `open` of sides.rt, `waits_in` of pending.rt and others.
-use Rattle.cns_trades.proofs.Common.{◌≡◌, ◌∙◌, sym, ap, ℕ, ◌+◌, ◌≤◌, Bool, true, false, cond, Option, Some, None, unwrap_or, ◌*◌, ◌<◌, List, ◌∷◌, ◌++◌, append-nil, drop, drop-cons, take, filter, get_or, length, add-one, arith, take_all, is_eq, AllByRecursion, Cusip, added-each, bytes_eq-Decides, drop_all, each_weaker, equal, exact_keys, key_cmp, lookup, same_key, shares_limit, waits_in, Key, Pend, Sides, SidesByKey, bought_key, has_sides, less, more, no_sides, sides_at, sides_by, sides_of, sold_key}
+use Rattle.cns_trades.proofs.Common.{◌≡◌, ap, ℕ, ◌+◌, ◌≤◌, Bool, true, false, cond, Option, Some, None, unwrap_or, ◌*◌, List, ◌++◌, append-nil, drop, take, filter, length, arith, take_all, is_eq, AllByRecursion, added-each, drop_all, each_weaker, equal, exact_keys, key_cmp, lookup, same_key, shares_limit, Key, Pend, Sides, SidesByKey, bought_key, has_sides, less, more, no_sides, sides_at, sides_by, sides_of, sold_key}
 use Rattle.cns_terms.proofs.Waiting.{bought_added, sold_added}
 
 -- what stands at a key, if anything
@@ -56,20 +56,6 @@ module _ (p : Pend) (before between after : Key → Sides) (one two : Key) (b s 
 -- the trades' sums are as small as their number allows
 pub few_sides : (ps : List Pend) (k : Key) → AllByRecursion (λ (p : Pend). p.shares ≤ shares_limit) ps → ((sides_of ps k).bought ≤ shares_limit * length ps) × ((sides_of ps k).sold ≤ shares_limit * length ps)
 few_sides ps k small = grind (arith, added-each, each_weaker, bought_added, sold_added)
-
--- ---- the next trade of a list
-
--- the trade at a place, and those after it
-next_of : (ps : List Pend) (i : ℕ) (p : Pend) → i < length ps → p ≡ get_or ps i p → drop i ps ≡ p ∷ drop (i + 1) ps
-next_of ps i p lt is = rw add-one (drop-cons ps i p lt) ∙ ap (λ q. q ∷ drop (i + 1) ps) (sym is)
-
--- one in the issue is found
-pub found_in : (ps : List Pend) (i : ℕ) (c : Cusip) (p : Pend) → i < length ps → p ≡ get_or ps i p → p.issue ≡ c → waits_in (drop i ps) c ≡ true
-found_in ps i c p lt is same = grind (arith, next_of, bytes_eq-Decides)
-
--- one in another is passed
-pub passed_in : (ps : List Pend) (i : ℕ) (c : Cusip) (p : Pend) (b : Bool) → i < length ps → p ≡ get_or ps i p → (p.issue ≡ c → b ≡ true) → b ≡ false → waits_in (drop i ps) c ≡ waits_in (drop (i + 1) ps) c
-passed_in ps i c p b lt is same other = grind (arith, next_of, bytes_eq-Decides)
 
 -- in the end those are kept whose date is to come
 pub all_kept : (t : Pend → Bool) (ps : List Pend) (i : ℕ) → length ps ≤ i → filter t (take i ps) ++ drop i ps ≡ filter t ps

@@ -136,16 +136,10 @@ fn keep_later<A: Allocator>(trades: &mut Vec<Pend, A>, next: Day)
 }
 
 // Whether one of the trades is in an issue.
-#[tactic(auto, using(crate::proofs::Summed::found_in, crate::proofs::Summed::passed_in))]
 fn waits_in(trades: &[Pend], issue: &Cusip) -> bool
     ensures { result ≡ waits_in trades.now issue.now }
 {
-    for pend in trades {
-        if pend.issue.is_same(issue) {
-            return true;
-        }
-    }
-    false
+    trades.iter().any(|pend| pend.issue.is_same(issue))
 }
 
 impl<A: Allocator + Drop> Pending<A> {

@@ -21,12 +21,7 @@ use std::alloc::Allocator;
 fn is_any_due(pending: &[Pend], day: Day) -> bool
     ensures { result ≡ list_any (is_due day) pending.now }
 {
-    for pend in pending {
-        if pend.is_due(day) {
-            return true;
-        }
-    }
-    false
+    pending.iter().any(|pend| pend.is_due(day))
 }
 
 /// Finds a row for each key at which something is due. What stands at each key stays.

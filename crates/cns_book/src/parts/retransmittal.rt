@@ -25,11 +25,10 @@ pub fn count_liable<A: Allocator + Drop + Clone>(batches: &[Batch<A>]) -> u64
     requires { sum_by (λ b. length b.members) batches.now < 2 ^ 64 }
     ensures { result ≡ sum_by (λ b. length b.members) batches.now }
 {
-    let mut count: u64 = 0;
-    for batch in batches {
-        count += batch.members().len() as u64;
-    }
-    count
+    batches
+        .iter()
+        .map(|batch| batch.members().len() as u64)
+        .sum()
 }
 
 impl<P: Positions<A>, A: Allocator + Drop + Clone> Parts<P, A> {
