@@ -1,7 +1,7 @@
 // Since when an account's shorts are short, and what the price did to them.
 ghost use Rattle.std.specs.Prelude.{◌≡◌, ◌||◌, IfOk, OnOk, option_map};
 ghost use Rattle.std.specs.List.{fold};
-ghost use Rattle.cns_terms.specs.Common.{journal_of, same_issue, sheet_on};
+ghost use Rattle.cns_terms.specs.Common.{journal_of, sheet_on};
 ghost use Rattle.cns_book.specs.Log.{state_of};
 ghost use Rattle.cns_account.specs.Fails.{fail, fail_cells, first_of, is_among, issues_behind, last_days, price_change, short_move, with_day, with_exchange, with_issue};
 

@@ -4,7 +4,7 @@ use crate::values::{APPLE, key};
 use cns_terms::Key;
 use cns_tree::Tree;
 use linked_list_allocator::LocalHeap;
-use std::alloc::{Allocator, Global};
+use std::alloc::Allocator;
 use std::process::Abort;
 
 // Puts a row where there is memory.
