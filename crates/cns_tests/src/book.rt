@@ -12,5 +12,5 @@ mod packs;
 mod positions;
 mod script;
 mod terms;
-mod tree;
+pub(crate) mod tree;
 mod units;

@@ -1,26 +1,12 @@
 // The calls of a tree that take memory.
 ghost use Rattle.std.specs.Prelude.{◌≡◌, IfOk};
 
+use crate::book::tree::filled;
 use crate::growth::refusing::Call;
-use crate::values::{APPLE, key};
 use cns_terms::Key;
 use cns_tree::Tree;
 use std::alloc::{AllocError, Allocator, Global};
 use std::process::Abort;
-
-// Puts the keys 1 to `count`, each with its number as value.
-fn fill<A: Allocator + Clone>(rt: &impl Abort, tree: &mut Tree<u16, A>, count: u16) {
-    for number in 1..=count {
-        let mut spare = tree.spare(1, 0).expect(rt, "memory");
-        tree.put(key(rt, number, APPLE), number, &mut spare);
-    }
-}
-
-fn filled<A: Allocator + Clone>(rt: &impl Abort, alloc: A, count: u16) -> Tree<u16, A> {
-    let mut tree = Tree::new(alloc);
-    fill(rt, &mut tree, count);
-    tree
-}
 
 pub(crate) fn rows_of<V: Copy, A: Allocator + Clone>(
     tree: &Tree<V, A>,
@@ -34,7 +20,7 @@ pub(crate) fn rows_of<V: Copy, A: Allocator + Clone>(
 // Four boxes.
 #[derive(Drop)]
 pub(crate) struct Spare<H: Allocator + Clone> {
-    tree: Tree<u16, H>,
+    tree: Tree<u64, H>,
 }
 
 impl<H: Allocator + Drop + Clone> Call<H> for Spare<H> {
@@ -52,7 +38,7 @@ impl<H: Allocator + Drop + Clone> Call<H> for Spare<H> {
 // A tree beside another, on a copy of its allocator.
 #[derive(Drop)]
 pub(crate) struct Copied<H: Allocator + Clone> {
-    tree: Tree<u16, H>,
+    tree: Tree<u64, H>,
 }
 
 impl<H: Allocator + Drop + Clone> Call<H> for Copied<H> {
@@ -72,7 +58,7 @@ impl<H: Allocator + Drop + Clone> Call<H> for Copied<H> {
 pub(crate) struct FromSorted<H> {
     alloc: H,
     global: Global,
-    rows: Tree<u16, Global>,
+    rows: Tree<u64, Global>,
 }
 
 impl<H: Allocator + Drop + Clone> Call<H> for FromSorted<H> {
