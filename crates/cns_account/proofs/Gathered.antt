@@ -1,14 +1,8 @@
 -- Lists and maps that are gathered item by item, of lines or of a history.
--- For `line_of_days` of figures.rt in cns_page; `add_entry` and `add_line` of day_moves.rt; `add_side` of pending.rt in cns_page, `add` of issues.rt in cns_page; `gather` of past.rt; `gather` of projection.rt in cns_page, `first` of sought.rt in cns_page, `live_notices` of notices.rt in cns_page.
-use Rattle.cns_account.proofs.Common.{◌≡◌, ◌∙◌, sym, ap, ℕ, ◌+◌, ◌<◌, List, [], ◌∷◌, ◌++◌, Option, filter_map, get_or, length, take, take-suc, cons_option, cond, Some, unwrap_or, is_eq, Ordering, arith, equal, suc, ◌-◌, ◌^◌, ◌≤◌, None, reverse, slice_get, take_all, Taken, entry_at, looked_at, refl, take_more}
-use Rattle.std.proofs.lemmas.List.Elements.{filter_map-append}
+-- For `add_entry` and `add_line` of day_moves.rt; `add_side` of pending.rt in cns_page, `add` of issues.rt in cns_page; `gather` of past.rt; `gather` of projection.rt in cns_page, `first` of sought.rt in cns_page, `live_notices` of notices.rt in cns_page.
+use Rattle.cns_account.proofs.Common.{◌≡◌, ◌∙◌, sym, ap, ℕ, ◌+◌, ◌<◌, List, [], ◌∷◌, ◌++◌, Option, take, take-suc, cond, Some, unwrap_or, is_eq, Ordering, arith, equal, suc, ◌-◌, ◌^◌, ◌≤◌, None, reverse, slice_get, take_all, Taken, entry_at, looked_at}
 use Rattle.std.proofs.lemmas.Map.Lookups.{CmpEqualImpliesEq}
 use Rattle.std.proofs.lemmas.Option.{get_or_from_slice_get, slice_get_within, slice_get_cases}
-
--- one more of a list
-pub given_more : {X Y : Type 0} (f : X → Option Y) (xs : List X) (i : ℕ) (x : X) (o : Option Y) (items : List Y) → i < length xs → get_or xs i x ≡ x → f x ≡ o
-    → items ≡ filter_map f (take i xs) → items ++ cons_option o [] ≡ filter_map f (take (i + 1) xs)
-given_more f xs i x o items lt at is was = rw (was, ← is, take_more xs i x lt, at, filter_map-append f (take i xs) (x ∷ [])) refl
 
 module _ {K V : Type 0} (cmp : K → K → Ordering) (exact : CmpEqualImpliesEq cmp) (none : V) (f : V → V) (old new : K → Option V) (key : K) (v : V)
     (updates : (q : K) → new q ≡ cond (is_eq (cmp key q)) (Some v) (old q)) (is : v ≡ f (unwrap_or (old key) none)) where
